@@ -1,0 +1,13 @@
+use crate::formulas::Formula;
+use crate::terms::{Atom, Param};
+use htn_base::{Boxed, List};
+
+/// What an action does, as in PDDL 2.1, level 1. A condition of `When` is tested in the state before the action.
+#[derive(Debug, PartialEq, Eq, Drop)]
+pub enum Effect {
+    Add(Atom),
+    Delete(Atom),
+    And(List<Effect>),
+    Forall(List<Param>, Boxed<Effect>),
+    When(Formula, Boxed<Effect>),
+}

@@ -1,0 +1,15 @@
+/// How the precondition of a method is checked: by a leaf of its own, which may come late, or at once where the
+/// method is applied.
+#[derive(Clone, Copy, Debug, PartialEq, Eq)]
+pub enum Checks {
+    Leaf,
+    AtOnce,
+}
+
+/// How the problem is printed: with the conditions and effects of PDDL's ADL part, or with conjunctions of literals
+/// alone.
+#[derive(Clone, Copy, Debug, PartialEq, Eq)]
+pub enum Style {
+    Adl,
+    Flat,
+}

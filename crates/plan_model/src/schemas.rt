@@ -1,0 +1,59 @@
+use crate::effects::Effect;
+use crate::formulas::Formula;
+use crate::networks::{Child, Constraint, Guard, Pair};
+use crate::terms::{Param, Term};
+use htn_base::{List, Name};
+
+#[derive(Debug, PartialEq, Eq, Drop)]
+pub struct Predicate {
+    pub name: Name,
+    pub params: List<Param>,
+}
+
+/// An abstract task.
+#[derive(Debug, PartialEq, Eq, Drop)]
+pub struct TaskSchema {
+    pub name: Name,
+    pub params: List<Param>,
+}
+
+#[derive(Debug, PartialEq, Eq, Drop)]
+pub struct ActionSchema {
+    pub name: Name,
+    pub params: List<Param>,
+    pub pre: Formula,
+    pub eff: Effect,
+}
+
+/// A method: the task that it decomposes, with arguments, and its network of subtasks.
+///
+/// `pairs` has, for an ordered network, each subtask before the next, and then every written pair in text order,
+/// repeats too.
+#[derive(Debug, PartialEq, Eq, Drop)]
+pub struct MethodSchema {
+    pub name: Name,
+    pub params: List<Param>,
+    pub task: u32,
+    pub task_args: List<Term>,
+    pub pre: Formula,
+    pub children: List<Child>,
+    pub pairs: List<Pair>,
+    pub constraints: List<Constraint>,
+}
+
+/// A method as it is encoded. Children are named by their places, the check first where there is one.
+///
+/// `checked`: the check stands among the children. `tested`: the precondition is tested where the method is applied.
+/// `line`: the children in an order that the pairs allow. `heir`: the child that takes the task's own slot.
+/// `copiers`: the children for which the order of what waits for the task is copied. `guards`: the types that the
+/// subtasks' arguments must have beyond those of the parameters.
+#[derive(Debug, PartialEq, Eq, Drop)]
+pub struct MethodPlan {
+    pub schema: MethodSchema,
+    pub checked: bool,
+    pub tested: bool,
+    pub line: List<u32>,
+    pub heir: Option<u32>,
+    pub copiers: List<u32>,
+    pub guards: List<Guard>,
+}
