@@ -1,0 +1,103 @@
+-- What is pending, as a list and as a fact of each node.
+use Rattle.std.proofs.Common.{ℕ, ◌≡◌, ◌≤◌, ◌⊎◌, ◌↔◌, inl, inr, List, [], ◌∷◌, ◌++◌, length, filter, Bool, true, false, not, cond, ◌&&◌, ◌||◌, ◌==◌, Some, refl, ap, sym, subst, ◌∙◌, Contains, arith}
+use Rattle.std.proofs.Common.{eq-eqb}
+use Rattle.task_networks.specs.Net.{Net}
+use Rattle.task_networks.specs.Tree.{Address, at, Tree}
+use Rattle.task_networks.specs.Schedule.{IsBegun}
+use Rattle.task_networks.specs.Pending.{same_address, is_among, pending, is_pending, AreDifferent, IsPending, nodes_at, IsWithin}
+use Rattle.task_networks.proofs.Different.{no_more}
+use Rattle.task_networks.proofs.Lists.{Contains-later, not-in_empty, head_or_tail}
+use Rattle.task_networks.proofs.Nodes.{nodes, lists_address, different_nodes}
+
+both : (a b : Bool) → (a && b) ≡ true → (a ≡ true) × (b ≡ true)
+both true b e = (refl, e)
+both false b e = absurd cc
+
+same_to : (p q : Address) → same_address p q ≡ true → p ≡ q
+same_to [] [] e = refl
+same_to [] (j ∷ q) e = absurd cc
+same_to (i ∷ p) [] e = absurd cc
+same_to (i ∷ p) (j ∷ q) e = let h = both (i == j) (same_address p q) e in let f : i ≡ j = grind (arith, h.0) in let g = same_to p q h.1 in cc
+
+address_same_itself : (p : Address) → same_address p p ≡ true
+address_same_itself [] = refl
+address_same_itself (i ∷ p) = let e : (i == i) ≡ true = eq-eqb i i refl in ap (λ b. b && same_address p p) e ∙ address_same_itself p
+
+either : (a b : Bool) → (a || b) ≡ true → (a ≡ true) ⊎ (b ≡ true)
+either true b e = inl refl
+either false b e = inr e
+
+pub among_to : (ps : List Address) (p : Address) → is_among ps p ≡ true → Contains ps p
+among_to [] p e = absurd cc
+among_to (q ∷ ps) p e = elim (either (same_address p q) (is_among ps p) e) [ inl x ↦ (0, omega arith, sym (same_to p q x)) | inr x ↦ Contains-later q ps p (among_to ps p x) ]
+
+pub to_among : (ps : List Address) (p : Address) → Contains ps p → is_among ps p ≡ true
+to_among [] p c = absurd (not-in_empty p c)
+to_among (q ∷ ps) p c = elim (head_or_tail q ps p c) [
+  | inl e ↦ ap (λ b. b || is_among ps p) (subst (λ z. same_address z q ≡ true) e (address_same_itself q))
+  | inr d ↦ second (same_address p q) (is_among ps p) (to_among ps p d)
+]
+  where
+    second : (a b : Bool) → b ≡ true → (a || b) ≡ true
+    second true b f = refl
+    second false b f = f
+
+not_to : (b : Bool) → not b ≡ true → b ≡ true → ⊥
+not_to true e f = cc
+not_to false e f = cc
+
+to_not : (b : Bool) → (b ≡ true → ⊥) → not b ≡ true
+to_not true n = absurd (n refl)
+to_not false n = refl
+
+pub pending_to : (taken : List Address) (p : Address) → is_pending taken p ≡ true → IsBegun taken p × (Contains taken p → ⊥)
+pending_to taken [] e = (tt, λ c. not_to (is_among taken []) e (to_among taken [] c))
+pending_to taken (i ∷ p) e = let h = both (is_among taken p) (not (is_among taken (i ∷ p))) e in (among_to taken p h.0, λ c. not_to (is_among taken (i ∷ p)) h.1 (to_among taken (i ∷ p) c))
+
+pub to_pending : (taken : List Address) (p : Address) → IsBegun taken p → (Contains taken p → ⊥) → is_pending taken p ≡ true
+to_pending taken [] b n = to_not (is_among taken []) (λ e. n (among_to taken [] e))
+to_pending taken (i ∷ p) b n = ap (λ z. z && not (is_among taken (i ∷ p))) (to_among taken p b) ∙ to_not (is_among taken (i ∷ p)) (λ e. n (among_to taken (i ∷ p) e))
+
+-- a filter keeps what passes
+filter_to : {A : Type 0} (test : A → Bool) (xs : List A) (x : A) → Contains (filter test xs) x → Contains xs x × (test x ≡ true)
+filter_to test [] x c = absurd (not-in_empty x c)
+filter_to {A = A} test (y ∷ xs) x c = go (test y) refl (λ d. filter_to test xs x d) c
+  where
+    go : (b : Bool) → test y ≡ b → (Contains (filter test xs) x → Contains xs x × (test x ≡ true)) → Contains (cond b (y ∷ filter test xs) (filter test xs)) x → Contains (y ∷ xs) x × (test x ≡ true)
+    go true e ih d = elim (head_or_tail y (filter test xs) x d) [ inl f ↦ ((0, omega arith, f), subst (λ z. test z ≡ true) f e) | inr f ↦ (Contains-later y xs x (ih f).0, (ih f).1) ]
+    go false e ih d = (Contains-later y xs x (ih d).0, (ih d).1)
+
+to_filter : {A : Type 0} (test : A → Bool) (xs : List A) (x : A) → Contains xs x → test x ≡ true → Contains (filter test xs) x
+to_filter test [] x c t = absurd (not-in_empty x c)
+to_filter {A = A} test (y ∷ xs) x c t = go (test y) refl (head_or_tail y xs x c) (λ d. to_filter test xs x d t)
+  where
+    go : (b : Bool) → test y ≡ b → (y ≡ x) ⊎ Contains xs x → (Contains xs x → Contains (filter test xs) x) → Contains (cond b (y ∷ filter test xs) (filter test xs)) x
+    go true e (inl f) ih = (0, omega arith, f)
+    go true e (inr f) ih = Contains-later y (filter test xs) x (ih f)
+    go false e (inl f) ih = let g = ap test f in absurd cc
+    go false e (inr f) ih = ih f
+
+different-filter : {A : Type 0} (test : A → Bool) (xs : List A) → AreDifferent xs → AreDifferent (filter test xs)
+different-filter test [] d = tt
+different-filter {A = A} test (y ∷ xs) d = go (test y) (different-filter test xs d.1)
+  where
+    go : (b : Bool) → AreDifferent (filter test xs) → AreDifferent (cond b (y ∷ filter test xs) (filter test xs))
+    go true h = (λ c. d.0 (filter_to test xs y c).0, h)
+    go false h = h
+
+module _ (N : Net) where
+  pub pending_iff : (tree : Tree N) (taken : List Address) (p : Address) → Contains (pending N tree taken) p ↔ IsPending N tree taken p
+  pending_iff tree taken p = (
+    λ c. (let h = filter_to (is_pending taken) (nodes_at N [] tree) p c in let k = pending_to taken p h.1 in record { address = nodes N tree tree [] p (let x : at N tree [] ≡ Some tree = refl in x) h.0; begun = k.0; left = k.1 }),
+    λ d. to_filter (is_pending taken) (nodes_at N [] tree) p (lists_address N tree p d.address) (to_pending taken p d.begun d.left),
+  )
+
+  pub pending_different : (tree : Tree N) (taken : List Address) → AreDifferent (pending N tree taken)
+  pending_different tree taken = different-filter (is_pending taken) (nodes_at N [] tree) (different_nodes N tree [])
+
+  -- the two ways to say that at most b are pending
+  pub within_iff : (b : ℕ) (tree : Tree N) (order : List Address) → IsWithin N b tree order ↔ ((taken rest : List Address) → order ≡ taken ++ rest → length (pending N tree taken) ≤ b)
+  within_iff b tree order = (
+    λ h taken rest e. h taken rest (pending N tree taken) e (record { different = pending_different tree taken; pending = λ p c. (pending_iff tree taken p).0 c }),
+    λ h taken rest nodes e f. (let x = no_more nodes (pending N tree taken) f.different (λ p c. (pending_iff tree taken p).1 (f.pending p c)) in let y = h taken rest e in omega arith),
+  )
