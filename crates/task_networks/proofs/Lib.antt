@@ -1,5 +1,7 @@
 pub mod Lists
 pub mod Different
+pub mod Filters
+pub mod Orders
 pub mod Addresses
 pub mod Nodes
 pub mod PendingNodes

@@ -4,8 +4,9 @@ use Rattle.std.proofs.Common.{eq-eqb}
 use Rattle.task_networks.specs.Net.{Net}
 use Rattle.task_networks.specs.Tree.{Address, at, Tree}
 use Rattle.task_networks.specs.Schedule.{IsBegun}
-use Rattle.task_networks.specs.Pending.{same_address, is_among, pending, is_pending, AreDifferent, IsPending, nodes_at, IsWithin}
+use Rattle.task_networks.specs.Pending.{same_address, is_among, pending, is_pending, IsPending, nodes_at, AreDifferent, IsWithin}
 use Rattle.task_networks.proofs.Different.{no_more}
+use Rattle.task_networks.proofs.Filters.{filter_to, to_filter, different-filter}
 use Rattle.task_networks.proofs.Lists.{Contains-later, not-in_empty, head_or_tail}
 use Rattle.task_networks.proofs.Nodes.{nodes, lists_address, different_nodes}
 
@@ -57,33 +58,6 @@ pending_to taken (i ∷ p) e = let h = both (is_among taken p) (not (is_among ta
 pub to_pending : (taken : List Address) (p : Address) → IsBegun taken p → (Contains taken p → ⊥) → is_pending taken p ≡ true
 to_pending taken [] b n = to_not (is_among taken []) (λ e. n (among_to taken [] e))
 to_pending taken (i ∷ p) b n = ap (λ z. z && not (is_among taken (i ∷ p))) (to_among taken p b) ∙ to_not (is_among taken (i ∷ p)) (λ e. n (among_to taken (i ∷ p) e))
-
--- a filter keeps what passes
-filter_to : {A : Type 0} (test : A → Bool) (xs : List A) (x : A) → Contains (filter test xs) x → Contains xs x × (test x ≡ true)
-filter_to test [] x c = absurd (not-in_empty x c)
-filter_to {A = A} test (y ∷ xs) x c = go (test y) refl (λ d. filter_to test xs x d) c
-  where
-    go : (b : Bool) → test y ≡ b → (Contains (filter test xs) x → Contains xs x × (test x ≡ true)) → Contains (cond b (y ∷ filter test xs) (filter test xs)) x → Contains (y ∷ xs) x × (test x ≡ true)
-    go true e ih d = elim (head_or_tail y (filter test xs) x d) [ inl f ↦ ((0, omega arith, f), subst (λ z. test z ≡ true) f e) | inr f ↦ (Contains-later y xs x (ih f).0, (ih f).1) ]
-    go false e ih d = (Contains-later y xs x (ih d).0, (ih d).1)
-
-to_filter : {A : Type 0} (test : A → Bool) (xs : List A) (x : A) → Contains xs x → test x ≡ true → Contains (filter test xs) x
-to_filter test [] x c t = absurd (not-in_empty x c)
-to_filter {A = A} test (y ∷ xs) x c t = go (test y) refl (head_or_tail y xs x c) (λ d. to_filter test xs x d t)
-  where
-    go : (b : Bool) → test y ≡ b → (y ≡ x) ⊎ Contains xs x → (Contains xs x → Contains (filter test xs) x) → Contains (cond b (y ∷ filter test xs) (filter test xs)) x
-    go true e (inl f) ih = (0, omega arith, f)
-    go true e (inr f) ih = Contains-later y (filter test xs) x (ih f)
-    go false e (inl f) ih = let g = ap test f in absurd cc
-    go false e (inr f) ih = ih f
-
-different-filter : {A : Type 0} (test : A → Bool) (xs : List A) → AreDifferent xs → AreDifferent (filter test xs)
-different-filter test [] d = tt
-different-filter {A = A} test (y ∷ xs) d = go (test y) (different-filter test xs d.1)
-  where
-    go : (b : Bool) → AreDifferent (filter test xs) → AreDifferent (cond b (y ∷ filter test xs) (filter test xs))
-    go true h = (λ c. d.0 (filter_to test xs y c).0, h)
-    go false h = h
 
 module _ (N : Net) where
   pub pending_iff : (tree : Tree N) (taken : List Address) (p : Address) → Contains (pending N tree taken) p ↔ IsPending N tree taken p

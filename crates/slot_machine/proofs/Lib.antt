@@ -1,0 +1,10 @@
+pub mod Unused
+pub mod Inserts
+pub mod Others
+pub mod Replaced
+pub mod Growth
+pub mod LabelTrees
+pub mod FrontSteps
+pub mod AtLabel
+pub mod Matching
+pub mod KeepsMatching

@@ -1,0 +1,101 @@
+-- The children other than the heir, and the slots of all children.
+use Rattle.std.proofs.Common.{ℕ, zero, suc, ◌≡◌, ◌≢◌, ◌+◌, ◌<◌, ◌≤◌, ◌⊎◌, ◌↔◌, inl, inr, List, [], ◌∷◌, length, slice_index, slice_get, map, filter, Option, Some, None, Bool, true, false, not, cond, ◌==◌, refl, ap, sym, subst, ◌∙◌, Contains, arith, eq-eqb}
+use Rattle.std.proofs.lemmas.List.{length-map}
+use Rattle.std.proofs.lemmas.Option.{slice_get_within}
+use Rattle.std.proofs.Math.Decide.{ℕ_discrete}
+use Rattle.task_networks.specs.Pending.{AreDifferent}
+use Rattle.task_networks.specs.Spelling.{numbers, is_heir}
+use Rattle.task_networks.proofs.Filters.{filter_to, to_filter, different-filter}
+use Rattle.task_networks.proofs.Lists.{not-in_empty, head_or_tail, Contains-later}
+use Rattle.slot_machine.specs.Machine.{insert_at}
+use Rattle.slot_machine.proofs.Inserts.{length-insert_at}
+
+pub length-numbers : (i n : ℕ) → length (numbers i n) ≡ n
+length-numbers i zero = refl
+length-numbers i (suc n) = ap suc (length-numbers (suc i) n)
+
+pub numbers_to : (i n x : ℕ) → Contains (numbers i n) x → (i ≤ x) × (x < i + n)
+numbers_to i zero x c = absurd (not-in_empty x c)
+numbers_to i (suc n) x c = elim (head_or_tail i (numbers (suc i) n) x c) [ inl e ↦ (omega arith, omega arith) | inr d ↦ (let h = numbers_to (suc i) n x d in let a = h.0 in let b = h.1 in (omega arith, omega arith)) ]
+
+pub to_numbers : (i n x : ℕ) → i ≤ x → x < i + n → Contains (numbers i n) x
+to_numbers i zero x a b = absurd (omega arith)
+to_numbers i (suc n) x a b = elim (ℕ_discrete i x) [ yes e ↦ (0, omega arith, e) | no d ↦ Contains-later i (numbers (suc i) n) x (to_numbers (suc i) n x (omega arith) (omega arith)) ]
+
+different-numbers : (i n : ℕ) → AreDifferent (numbers i n)
+different-numbers i zero = tt
+different-numbers i (suc n) = (λ c. (let h = (numbers_to (suc i) n i c).0 in omega arith), different-numbers (suc i) n)
+
+get-map_numbers : (f : ℕ → ℕ) (i n j : ℕ) → j < n → slice_get (map f (numbers i n)) j ≡ Some (f (i + j))
+get-map_numbers f i zero j h = absurd (omega arith)
+get-map_numbers f i (suc n) zero h = ap (λ z. Some (f z)) (let e : i ≡ i + 0 = omega arith in e)
+get-map_numbers f i (suc n) (suc j) h = get-map_numbers f (suc i) n j (omega arith) ∙ ap (λ z. Some (f z)) (let e : suc i + j ≡ i + suc j = omega arith in e)
+
+-- the element at a place of the list of f at 0, 1, ..
+pub get_number : (f : ℕ → ℕ) (n i x : ℕ) → slice_get (map f (numbers 0 n)) i ≡ Some x ↔ ((i < n) × (x ≡ f i))
+get_number f n i x = (to, λ h. get-map_numbers f 0 n i h.0 ∙ ap Some (ap f (let e : 0 + i ≡ i = omega arith in e) ∙ sym h.1))
+  where
+    to : slice_get (map f (numbers 0 n)) i ≡ Some x → (i < n) × (x ≡ f i)
+    to e =
+        let l = slice_get_within (map f (numbers 0 n)) i x e in
+        let k = length-map (numbers 0 n) f in
+        let j = length-numbers 0 n in
+        let r : i < n = omega arith in
+        let g = get-map_numbers f 0 n i r in
+        let z : 0 + i ≡ i = omega arith in
+        let y : f (0 + i) ≡ x = cc in
+        (r, sym y ∙ ap f z)
+
+-- a list is that of its elements
+pub listed : (f : ℕ → ℕ) (j : ℕ) (xs : List ℕ) → ((i : ℕ) → i < length xs → f (j + i) ≡ slice_index xs i) → xs ≡ map f (numbers j (length xs))
+listed f j [] h = refl
+listed f j (x ∷ xs) h =
+    let a : f j ≡ x = ap f (let e : j ≡ j + 0 = omega arith in e) ∙ h 0 (omega arith) in
+    let b : xs ≡ map f (numbers (suc j) (length xs)) = listed f (suc j) xs (λ i l. ap f (let e : suc j + i ≡ j + suc i = omega arith in e) ∙ h (suc i) (omega arith)) in
+    cc
+
+-- the numbers other than the heir
+abbrev pub rest_of : Option ℕ → ℕ → List ℕ
+rest_of o n = filter (λ i. not (is_heir o i)) (numbers 0 n)
+
+pub rest_cases : (o : Option ℕ) (n i : ℕ) → Contains (rest_of o n) i ↔ ((i < n) × (o ≡ Some i → ⊥))
+rest_cases o n i = (λ c. (let h = filter_to (λ j. not (is_heir o j)) (numbers 0 n) i c in let l = (numbers_to 0 n i h.0).1 in (omega arith, other o h.1)),
+    λ h. (let l = h.0 in to_filter (λ j. not (is_heir o j)) (numbers 0 n) i (to_numbers 0 n i (omega arith) (omega arith)) (is_other o h.1)))
+  where
+    other : (o : Option ℕ) → not (is_heir o i) ≡ true → o ≡ Some i → ⊥
+    other None e f = cc
+    other (Some k) e f = let g : k ≡ i = cc in let t : (k == i) ≡ true = eq-eqb k i g in let u : not true ≡ true = subst (λ b. not b ≡ true) t e in cc
+    is_other : (o : Option ℕ) → (o ≡ Some i → ⊥) → not (is_heir o i) ≡ true
+    is_other None f = refl
+    is_other (Some k) f = let t : (k == i) ≡ false = (let n : k ≢ i = (λ e. f (ap Some e)) in grind arith) in ap not t
+
+pub different_rest : (o : Option ℕ) (n : ℕ) → AreDifferent (rest_of o n)
+different_rest o n = different-filter (λ i. not (is_heir o i)) (numbers 0 n) (different-numbers 0 n)
+
+none_equal : (k j n : ℕ) → k < j → filter (λ i. not (k == i)) (numbers j n) ≡ numbers j n
+none_equal k j zero h = refl
+none_equal k j (suc n) h =
+    let e : (k == j) ≡ false = grind arith in
+    ap (λ b. cond (not b) (j ∷ filter (λ i. not (k == i)) (numbers (suc j) n)) (filter (λ i. not (k == i)) (numbers (suc j) n))) e ∙ ap (λ z. j ∷ z) (none_equal k (suc j) n (omega arith))
+
+insert-rest : (f : ℕ → ℕ) (k d j n : ℕ) → k ≡ j + d → d < n → insert_at d (f k) (map f (filter (λ i. not (k == i)) (numbers j n))) ≡ map f (numbers j n)
+insert-rest f k d j zero e h = absurd (omega arith)
+insert-rest f k zero j (suc n) e h =
+    let t : (k == j) ≡ true = grind arith in
+    let g : k ≡ j = omega arith in
+    ap (λ b. f k ∷ map f (cond (not b) (j ∷ filter (λ i. not (k == i)) (numbers (suc j) n)) (filter (λ i. not (k == i)) (numbers (suc j) n)))) t
+    ∙ ap (λ z. f k ∷ map f z) (none_equal k (suc j) n (omega arith))
+    ∙ ap (λ z. f z ∷ map f (numbers (suc j) n)) g
+insert-rest f k (suc d) j (suc n) e h =
+    let t : (k == j) ≡ false = grind arith in
+    ap (λ b. insert_at (suc d) (f k) (map f (cond (not b) (j ∷ filter (λ i. not (k == i)) (numbers (suc j) n)) (filter (λ i. not (k == i)) (numbers (suc j) n))))) t
+    ∙ ap (λ z. f j ∷ z) (insert-rest f k d (suc j) n (omega arith) (omega arith))
+
+-- the heir's slot put in gives the slots of all children
+pub insert_heir : (f : ℕ → ℕ) (k n : ℕ) → k < n → insert_at k (f k) (map f (rest_of (Some k) n)) ≡ map f (numbers 0 n)
+insert_heir f k n h = insert-rest f k k 0 n (omega arith) h
+
+pub length-rest : (k n : ℕ) → k < n → suc (length (rest_of (Some k) n)) ≡ n
+length-rest k n h =
+    let f : ℕ → ℕ = λ i. i in
+    ap suc (sym (length-map (rest_of (Some k) n) f)) ∙ sym (length-insert_at k (f k) (map f (rest_of (Some k) n))) ∙ ap length (insert_heir f k n h) ∙ length-map (numbers 0 n) f ∙ length-numbers 0 n

@@ -1,0 +1,2 @@
+//! The machine of slots.
+#![tactic(auto)]
