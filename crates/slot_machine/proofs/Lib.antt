@@ -8,3 +8,8 @@ pub mod FrontSteps
 pub mod AtLabel
 pub mod Matching
 pub mod KeepsMatching
+pub mod SpellingSteps
+pub mod SpellingRuns
+pub mod RunSpellings
+pub mod Unique
+pub mod SpellingExists
