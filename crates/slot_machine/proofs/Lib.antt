@@ -1,6 +1,6 @@
 pub mod Unused
 pub mod Inserts
-pub mod Others
+pub mod OtherChildren
 pub mod Replaced
 pub mod Growth
 pub mod LabelTrees
@@ -13,3 +13,7 @@ pub mod SpellingRuns
 pub mod RunSpellings
 pub mod Unique
 pub mod SpellingExists
+pub mod Closure
+pub mod Theorem
+pub mod OtherMachines
+pub mod Width

@@ -17,7 +17,7 @@ use Rattle.slot_machine.proofs.Inserts.{length-insert_at, different-insert_at, a
 use Rattle.slot_machine.proofs.KeepsMatching.{keeps}
 use Rattle.slot_machine.proofs.LabelTrees.{child_address, work_at, IsLegal, tree_of, growth_to, legal_grown, work-tree_of, leaf_only}
 use Rattle.slot_machine.proofs.Matching.{Matches, unblocked_due}
-use Rattle.slot_machine.proofs.Others.{map_same, rest_cases, rest_of, length-rest, others_only}
+use Rattle.slot_machine.proofs.OtherChildren.{map_same, rest_cases, rest_of, length-rest, others_only}
 use Rattle.slot_machine.proofs.Replaced.{put, grown-put}
 use Rattle.slot_machine.proofs.SpellingRuns.{is_after, runs_back, runs_from_spells}
 use Rattle.slot_machine.proofs.SpellingSteps.{acts_map, slot_of, spells_push, label_taken}

@@ -19,7 +19,7 @@ use Rattle.slot_machine.proofs.FrontSteps.{taken_apart, kid_waits, last_kids, sc
 use Rattle.slot_machine.proofs.Growth.{leaves, IsGrowth, kids_of, place}
 use Rattle.slot_machine.proofs.LabelTrees.{work_at, IsLegal, untaken, leaf_only, tree_of, tree_at, growth_from, work-tree_of, grown_legal}
 use Rattle.slot_machine.proofs.Matching.{Matches, due_unblocked}
-use Rattle.slot_machine.proofs.Others.{Contains-map, rest_of, length-rest}
+use Rattle.slot_machine.proofs.OtherChildren.{Contains-map, rest_of, length-rest}
 use Rattle.slot_machine.proofs.Replaced.{put, grown-put, put-put, put_back, grown_at}
 use Rattle.slot_machine.proofs.RunSpellings.{spells_none, step_at}
 use Rattle.slot_machine.proofs.SpellingRuns.{runs_from_spells}

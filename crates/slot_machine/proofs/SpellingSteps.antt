@@ -13,7 +13,7 @@ use Rattle.slot_machine.proofs.AtLabel.{heir_of}
 use Rattle.slot_machine.proofs.FrontSteps.{open_apart, taken_apart, address_grows, address_back, schedule_grows, kid_waits, used_back, used_grows, schedule_back}
 use Rattle.slot_machine.proofs.Growth.{IsGrowth, place, kids_of}
 use Rattle.slot_machine.proofs.Matching.{parent_used}
-use Rattle.slot_machine.proofs.Others.{map_same}
+use Rattle.slot_machine.proofs.OtherChildren.{map_same}
 
 module _ (N : Net) where
   abbrev pub slot_of : Act N → ℕ

@@ -9,7 +9,7 @@ use Rattle.task_networks.proofs.Lists.{push_same, by_push, last_cases}
 use Rattle.slot_machine.proofs.FrontSteps.{address_back, kid_waits}
 use Rattle.slot_machine.proofs.Growth.{kids_of}
 use Rattle.slot_machine.proofs.LabelTrees.{tree_of, work_at, leaf_only}
-use Rattle.slot_machine.proofs.Others.{index-map_numbers}
+use Rattle.slot_machine.proofs.OtherChildren.{index-map_numbers}
 use Rattle.slot_machine.proofs.Replaced.{put, put-put, put_back}
 use Rattle.slot_machine.proofs.RunSpellings.{slots_of, Agree}
 use Rattle.slot_machine.proofs.SpellingRuns.{LastStep, act_slots, first_tree, last_step}
