@@ -10,14 +10,6 @@ use Rattle.task_networks.proofs.Addresses.{not-below_parent}
 use Rattle.task_networks.proofs.Orders.{precedes_within, last_pair}
 use Rattle.slot_machine.proofs.Growth.{kids_of}
 
-pub is_some : (o : Option ℕ) (i : ℕ) → Dec (o ≡ Some i)
-is_some None i = no (λ e. cc)
-is_some (Some j) i = go (ℕ_discrete j i)
-  where
-    go : Dec (j ≡ i) → Dec (Some j ≡ Some i)
-    go (yes e) = yes (ap Some e)
-    go (no n) = no (λ e. n cc)
-
 module _ (N : Net) where
   abbrev pub heir_of : Label N → Option ℕ
   heir_of (waits w) = None

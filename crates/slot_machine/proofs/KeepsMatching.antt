@@ -7,8 +7,9 @@ use Rattle.task_networks.specs.Lawful.{IsLawful}
 use Rattle.task_networks.specs.Tree.{at, Tree, Address, Label, IsOpen, IsAddress, waits, label_at, label, child_at, children_of}
 use Rattle.task_networks.specs.Schedule.{Blocks}
 use Rattle.task_networks.proofs.Addresses.{is_same_address}
+use Rattle.task_networks.proofs.Orders.{is_some}
 use Rattle.slot_machine.specs.Machine.{State, IsUnblocked}
-use Rattle.slot_machine.proofs.AtLabel.{heir_of, PairOf, CopierOf, is_some, heir_exists, heir_within, from_pair, pair_within, blocks_sibling, copier_within, TakesOverOf, PrecedesOf, covered, not-blocks_itself, last_pair_of, sibling_blocks}
+use Rattle.slot_machine.proofs.AtLabel.{heir_of, PairOf, CopierOf, heir_exists, heir_within, from_pair, pair_within, blocks_sibling, copier_within, TakesOverOf, PrecedesOf, covered, not-blocks_itself, last_pair_of, sibling_blocks}
 use Rattle.slot_machine.proofs.FrontSteps.{taken_apart, kid_waits, blocks_grows}
 use Rattle.slot_machine.proofs.Growth.{IsGrowth, kids_of, place, leaf_at, none_below}
 use Rattle.slot_machine.proofs.Matching.{Matches, back, down, up, nothing_blocks}

@@ -17,3 +17,4 @@ pub mod Closure
 pub mod Theorem
 pub mod OtherMachines
 pub mod Width
+pub mod Executions

@@ -5,7 +5,7 @@ use Rattle.task_networks.specs.Tree.{Tree, Label, Address, work_of, IsGrown}
 use Rattle.task_networks.specs.Schedule.{IsSchedule}
 use Rattle.task_networks.specs.Pending.{IsWithin}
 use Rattle.task_networks.specs.Front.{IsFront}
-use Rattle.task_networks.specs.Executable.{AreLabels}
+use Rattle.task_networks.specs.Executable.{AreLabels, AreAllowed, last_state, IsExecutable, IsSolution}
 use Rattle.task_networks.specs.Spelling.{Act, label_of, Spells}
 use Rattle.task_networks.specs.Bound.{IsBound}
 use Rattle.slot_machine.specs.Machine.{State, start, IsUnblocked, May, Runs, end_of}
@@ -64,3 +64,28 @@ module _ (N : Net) where
   abbrev pub WidthIsBounded : Type 0
   WidthIsBounded = (block : N.Method → ℕ → ℕ) (number : N.Work → ℕ) → IsBound N block number
       → (tree : Tree N) (order : List Address) → IsGrown N tree → IsSchedule N tree order → IsWithin N (number (work_of N tree)) tree order
+
+-- an execution: what a label asks of the state before it, and the state after it
+module _ (N : Net) (State : Type 1) (Allows : State → Label N → Type 0) (next : State → Label N → State) (first : State) (Goal : State → Type 0) where
+  abbrev pub labels : List (Act N) → List (Label N)
+  labels acts = map (label_of N) acts
+
+  -- a run of acts each of which its state allows
+  abbrev pub IsExecutableRun : ℕ → N.Work → List (Act N) → Type 0
+  IsExecutableRun b top acts = Runs N (start N b top) acts × AreAllowed N State Allows next first (labels acts)
+
+  -- executable runs are the spelled fronts that are executable
+  abbrev pub RunsAreExecutableFronts : Type 0
+  RunsAreExecutableFronts = (b : ℕ) (top : N.Work) (acts : List (Act N)) → 1 ≤ b
+      → IsExecutableRun b top acts ↔ ((tree : Tree N) × (order : List Address) × (slot : Address → ℕ) × Spells N b top acts tree order slot × IsExecutable N State Allows next first tree order)
+
+  -- a plan: an executable run after which all slots are free, and the goal is true
+  pub record IsPlan (b : ℕ) (top : N.Work) (acts : List (Act N)) : Type 0 where
+    pub run : IsExecutableRun b top acts
+    pub free : (x : ℕ) → 1 ≤ x → x ≤ b → (end_of N (start N b top) acts).free x
+    pub goal : Goal (last_state N State Allows next first (labels acts))
+
+  -- plans are the spelled solutions
+  abbrev pub PlansAreSpelledSolutions : Type 0
+  PlansAreSpelledSolutions = (b : ℕ) (top : N.Work) (acts : List (Act N)) → 1 ≤ b
+      → IsPlan b top acts ↔ ((tree : Tree N) × (order : List Address) × (slot : Address → ℕ) × Spells N b top acts tree order slot × IsSolution N State Allows next top first Goal tree order)

@@ -5,4 +5,5 @@ pub mod Orders
 pub mod Addresses
 pub mod Nodes
 pub mod PendingNodes
+pub mod ScheduleLaws
 mod OrderExamples

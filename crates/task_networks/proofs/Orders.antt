@@ -1,5 +1,5 @@
 -- Chains of pairs.
-use Rattle.std.proofs.Common.{ℕ, zero, suc, ◌≡◌, ◌≢◌, ◌+◌, ◌<◌, ◌≤◌, ◌⊎◌, inl, inr, List, [], ◌∷◌, length, refl, ap, sym, subst, ◌∙◌, Contains, arith}
+use Rattle.std.proofs.Common.{ℕ, zero, suc, ◌≡◌, ◌≢◌, ◌+◌, ◌<◌, ◌≤◌, ◌⊎◌, inl, inr, List, [], ◌∷◌, length, Option, Some, None, refl, ap, sym, subst, ◌∙◌, Contains, arith}
 use Rattle.std.proofs.Math.Decide.{ℕ_discrete}
 use Rattle.task_networks.specs.Order.{Precedes, direct, through, ArePairsOf, Among, IsAcyclic, IsMaximal}
 use Rattle.task_networks.specs.Net.{count}
@@ -32,6 +32,14 @@ in_upto : (n i : ℕ) → i < n → Contains (upto n) i
 unfolding upto
 in_upto zero i h = absurd (omega arith)
 in_upto (suc n) i h = elim (ℕ_discrete n i) [ yes e ↦ (0, omega arith, e) | no d ↦ Contains-later n (upto n) i (in_upto n i (omega arith)) ]
+
+pub is_some : (o : Option ℕ) (i : ℕ) → Dec (o ≡ Some i)
+is_some None i = no (λ e. cc)
+is_some (Some j) i = go (ℕ_discrete j i)
+  where
+    go : Dec (j ≡ i) → Dec (Some j ≡ Some i)
+    go (yes e) = yes (ap Some e)
+    go (no n) = no (λ e. n cc)
 
 -- what comes right after i in a list of pairs, if anything does
 module _ {A : Type 0} (pair : ℕ → ℕ → A) (first second : A → ℕ) (made : (a : A) → pair (first a) (second a) ≡ a) (first_of : (i j : ℕ) → first (pair i j) ≡ i) where

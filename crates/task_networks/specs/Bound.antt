@@ -24,6 +24,7 @@ module _ (N : Net) (block : N.Method → ℕ → ℕ) (number : N.Work → ℕ) 
     pub child : ℕ
     pub work : N.Work
     pub is : slice_get (N.works m) child ≡ Some work
+    pub in_block : block m child ≡ k
     pub alone : (i : ℕ) → i < count N m → i ≢ child → block m i < k
     pub small : number work ≤ number (N.head m)
 

@@ -1,6 +1,6 @@
 -- A task network, ground: what a hierarchical problem is to trees and schedules.
 -- Source: Höller et al., "HDDL", AAAI 2020, the section on lifted HTN planning. A check stands for a method's precondition.
-use Rattle.std.specs.Prelude.{ℕ, List, length, Option}
+use Rattle.std.specs.Prelude.{ℕ, List, [], length, Option, None}
 
 pub record Net : Type 1 where
   -- what stands at a node: a ground action, the check of a ground method, a ground task
@@ -25,3 +25,17 @@ pub record Net : Type 1 where
 -- how many children a method has
 abbrev pub count : (N : Net) → N.Method → ℕ
 count N m = length (N.works m)
+
+-- the network of one action without methods, where nothing else is asked for
+abbrev pub one_action : Net
+one_action = record {
+  Work = Unit {0};
+  Method = ⊥;
+  head = λ m. tt;
+  works = λ m. [];
+  IsSimple = λ w. Unit {0};
+  IsGround = λ m. ⊥;
+  Pair = λ m i j. ⊥;
+  heir = λ m. None;
+  IsCopier = λ m i. ⊥;
+}

@@ -1,0 +1,14 @@
+//! What the laws are said of.
+
+ghost use Rattle.task_networks.specs.Net.{Net, one_action};
+
+use std::marker::Brand;
+
+/// A task network. It has no code: whoever calls a law passes `Brand` and picks the network in the proof.
+pub trait Network {
+    ghost net: { Net };
+}
+
+impl Network for Brand {
+    ghost net = { one_action };
+}
