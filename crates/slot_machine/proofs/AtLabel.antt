@@ -8,7 +8,7 @@ use Rattle.task_networks.specs.Tree.{Label, waits, ran, used, Tree, Address, lab
 use Rattle.task_networks.specs.Schedule.{Blocks}
 use Rattle.task_networks.proofs.Addresses.{not-below_parent}
 use Rattle.task_networks.proofs.Orders.{precedes_within, last_pair}
-use Rattle.slot_machine.proofs.Growth.{kids_of}
+use Rattle.slot_machine.proofs.Growth.{child_works}
 
 module _ (N : Net) where
   abbrev pub heir_of : Label N → Option ℕ
@@ -35,22 +35,22 @@ module _ (N : Net) where
   TakesOverOf l i = (heir_of l ≡ Some i) ⊎ CopierOf l i
 
   module _ (law : IsLawful N) where
-    pub heir_exists : (l : Label N) → 0 < length (kids_of N l) → (i : ℕ) × (heir_of l ≡ Some i)
+    pub heir_exists : (l : Label N) → 0 < length (child_works N l) → (i : ℕ) × (heir_of l ≡ Some i)
     heir_exists (waits w) h = absurd (omega arith)
     heir_exists (ran w) h = absurd (omega arith)
     heir_exists (used m) h = law.has_heir m h
 
-    pub heir_within : (l : Label N) (i : ℕ) → heir_of l ≡ Some i → i < length (kids_of N l)
+    pub heir_within : (l : Label N) (i : ℕ) → heir_of l ≡ Some i → i < length (child_works N l)
     heir_within (waits w) i h = absurd cc
     heir_within (ran w) i h = absurd cc
     heir_within (used m) i h = law.heir_is_child m i h
 
-    pub copier_within : (l : Label N) (i : ℕ) → CopierOf l i → i < length (kids_of N l)
+    pub copier_within : (l : Label N) (i : ℕ) → CopierOf l i → i < length (child_works N l)
     copier_within (waits w) i h = absurd h
     copier_within (ran w) i h = absurd h
     copier_within (used m) i h = law.copier_is_child m i h
 
-    pub pair_within : (l : Label N) (i j : ℕ) → PrecedesOf l i j → (i < length (kids_of N l)) × (j < length (kids_of N l))
+    pub pair_within : (l : Label N) (i j : ℕ) → PrecedesOf l i j → (i < length (child_works N l)) × (j < length (child_works N l))
     pair_within (waits w) i j h = absurd h
     pair_within (ran w) i j h = absurd h
     pair_within (used m) i j h = precedes_within (count N m) i j (law.pairs m) h
@@ -65,7 +65,7 @@ module _ (N : Net) where
     last_pair_of (ran w) i j h = absurd h
     last_pair_of (used m) i j h = last_pair i j h
 
-    pub covered : (l : Label N) (i : ℕ) → i < length (kids_of N l) → TakesOverOf l i ⊎ ((c : ℕ) × PrecedesOf l i c × TakesOverOf l c)
+    pub covered : (l : Label N) (i : ℕ) → i < length (child_works N l) → TakesOverOf l i ⊎ ((c : ℕ) × PrecedesOf l i c × TakesOverOf l c)
     covered (waits w) i h = absurd (omega arith)
     covered (ran w) i h = absurd (omega arith)
     covered (used m) i h = law.covered m i h

@@ -6,7 +6,7 @@ use Rattle.task_networks.specs.Tree.{waits, Label, IsTaken, Tree, Address, IsOpe
 use Rattle.task_networks.specs.Schedule.{Blocks, IsDue, IsSchedule}
 use Rattle.task_networks.proofs.Addresses.{not-below_parent, below-itself, is_same_address}
 use Rattle.task_networks.proofs.Lists.{cut_push, cut_at}
-use Rattle.slot_machine.proofs.Growth.{IsGrowth, kids_of, place}
+use Rattle.slot_machine.proofs.Growth.{IsGrowth, child_works, place}
 
 module _ (N : Net) where
   pub waits_only : (o : Option N.Work) (l : Label N) → option_map waits o ≡ Some l → (v : N.Work) × (l ≡ waits v) × (o ≡ Some v)
@@ -21,15 +21,15 @@ module _ (N : Net) where
 
   module _ (tree tree' : Tree N) (p : Address) (w : N.Work) (l : Label N) (g : IsGrowth N tree tree' p w l) where
     -- a node other than p and its children has the same label
-    pub kid_waits : (i : ℕ) (k : Label N) → label_at N tree' (i ∷ p) ≡ Some k → (v : N.Work) × (k ≡ waits v) × (slice_get (kids_of N l) i ≡ Some v)
-    kid_waits i k e = waits_only (slice_get (kids_of N l) i) k (sym (g.kids i) ∙ e)
+    pub child_waits : (i : ℕ) (k : Label N) → label_at N tree' (i ∷ p) ≡ Some k → (v : N.Work) × (k ≡ waits v) × (slice_get (child_works N l) i ≡ Some v)
+    child_waits i k e = waits_only (slice_get (child_works N l) i) k (sym (g.children i) ∙ e)
 
     pub address_grows : (q : Address) → IsAddress N tree q → IsAddress N tree' q
     address_grows q (k, e) = go (place N p q)
       where
         go : (q ≡ p) ⊎ (((i : ℕ) × (q ≡ i ∷ p)) ⊎ ((q ≢ p) × ((i : ℕ) → q ≢ i ∷ p))) → IsAddress N tree' q
         go (inl f) = (l, ap (label_at N tree') f ∙ g.now)
-        go (inr (inl (i, f))) = let h = g.no_kids i in let x = ap (label_at N tree) f in absurd cc
+        go (inr (inl (i, f))) = let h = g.childless i in let x = ap (label_at N tree) f in absurd cc
         go (inr (inr (a, b))) = (k, g.others q a b ∙ e)
 
     pub address_back : (q : Address) → IsAddress N tree' q → IsAddress N tree q ⊎ ((i : ℕ) × (q ≡ i ∷ p))
@@ -45,7 +45,7 @@ module _ (N : Net) where
       where
         go : (q ≡ p) ⊎ (((i : ℕ) × (q ≡ i ∷ p)) ⊎ ((q ≢ p) × ((i : ℕ) → q ≢ i ∷ p))) → (q ≢ p) × IsProcessed N tree' q
         go (inl f) = absurd (taken_apart k w (let x = ap (label_at N tree) f in let y = g.was in cc) t)
-        go (inr (inl (i, f))) = let h = g.no_kids i in let x = ap (label_at N tree) f in absurd cc
+        go (inr (inl (i, f))) = let h = g.childless i in let x = ap (label_at N tree) f in absurd cc
         go (inr (inr (a, b))) = (a, (k, g.others q a b ∙ e, t))
 
     pub processed_back : (q : Address) → q ≢ p → IsProcessed N tree' q → IsProcessed N tree q
@@ -53,7 +53,7 @@ module _ (N : Net) where
       where
         go : (q ≡ p) ⊎ (((i : ℕ) × (q ≡ i ∷ p)) ⊎ ((q ≢ p) × ((i : ℕ) → q ≢ i ∷ p))) → IsProcessed N tree q
         go (inl f) = absurd (n f)
-        go (inr (inl (i, f))) = let h = kid_waits i k (sym (ap (label_at N tree') f) ∙ e) in absurd (taken_apart k h.0 h.1 t)
+        go (inr (inl (i, f))) = let h = child_waits i k (sym (ap (label_at N tree') f) ∙ e) in absurd (taken_apart k h.0 h.1 t)
         go (inr (inr (a, b))) = (k, sym (g.others q a b) ∙ e, t)
 
     pub used_grows : (q : Address) (m : N.Method) → label_at N tree q ≡ Some (used m) → (q ≢ p) × (label_at N tree' q ≡ Some (used m))
@@ -61,7 +61,7 @@ module _ (N : Net) where
       where
         go : (q ≡ p) ⊎ (((i : ℕ) × (q ≡ i ∷ p)) ⊎ ((q ≢ p) × ((i : ℕ) → q ≢ i ∷ p))) → (q ≢ p) × (label_at N tree' q ≡ Some (used m))
         go (inl f) = let x = ap (label_at N tree) f in let y = g.was in absurd cc
-        go (inr (inl (i, f))) = let h = g.no_kids i in let x = ap (label_at N tree) f in absurd cc
+        go (inr (inl (i, f))) = let h = g.childless i in let x = ap (label_at N tree) f in absurd cc
         go (inr (inr (a, b))) = (a, g.others q a b ∙ e)
 
     pub used_back : (q : Address) (m : N.Method) → q ≢ p → label_at N tree' q ≡ Some (used m) → label_at N tree q ≡ Some (used m)
@@ -69,7 +69,7 @@ module _ (N : Net) where
       where
         go : (q ≡ p) ⊎ (((i : ℕ) × (q ≡ i ∷ p)) ⊎ ((q ≢ p) × ((i : ℕ) → q ≢ i ∷ p))) → label_at N tree q ≡ Some (used m)
         go (inl f) = absurd (n f)
-        go (inr (inl (i, f))) = let h = kid_waits i (used m) (sym (ap (label_at N tree') f) ∙ e) in absurd (taken_apart (used m) h.0 h.1 tt)
+        go (inr (inl (i, f))) = let h = child_waits i (used m) (sym (ap (label_at N tree') f) ∙ e) in absurd (taken_apart (used m) h.0 h.1 tt)
         go (inr (inr (a, b))) = sym (g.others q a b) ∙ e
 
     pub blocks_grows : (u v : Address) → Blocks N tree u v → Blocks N tree' u v
@@ -91,7 +91,7 @@ module _ (N : Net) where
         clear (j ∷ q) pv d u a b = go (address_back u a)
           where
             n : q ≢ p
-            n f = let h = g.no_kids j in let x = ap (λ y. label_at N tree (j ∷ y)) f in let z = pv.1 in absurd cc
+            n f = let h = g.childless j in let x = ap (λ y. label_at N tree (j ∷ y)) f in let z = pv.1 in absurd cc
             b' : Blocks N tree u (j ∷ q)
             b' = blocks_back u j q n b
             up : (i : ℕ) → u ≡ i ∷ p → Blocks N tree p (j ∷ q)
@@ -138,8 +138,8 @@ module _ (N : Net) where
         from q h = let x = processed_grows q h in elim (Contains-push_cases order p q ((s.covers q).1 x.1)) [ inl y ↦ y | inr y ↦ absurd (x.0 (sym y)) ]
 
   -- the last node of a schedule has open leaves for children
-  pub last_kids : (tree : Tree N) (order : List Address) (p : Address) → IsSchedule N tree (order ++ p ∷ []) → (i : ℕ) (l : Label N) → label_at N tree (i ∷ p) ≡ Some l → IsTaken N l → ⊥
-  last_kids tree order p s i l e t = go (Contains-push_cases order p (i ∷ p) ((s.covers (i ∷ p)).1 (l, e, t)))
+  pub last_children_wait : (tree : Tree N) (order : List Address) (p : Address) → IsSchedule N tree (order ++ p ∷ []) → (i : ℕ) (l : Label N) → label_at N tree (i ∷ p) ≡ Some l → IsTaken N l → ⊥
+  last_children_wait tree order p s i l e t = go (Contains-push_cases order p (i ∷ p) ((s.covers (i ∷ p)).1 (l, e, t)))
     where
       d : IsDue N tree order p
       d = s.due order [] p refl

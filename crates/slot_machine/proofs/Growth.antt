@@ -1,36 +1,36 @@
 -- One open leaf is processed: how the labels change.
 use Rattle.std.proofs.Common.{ℕ, zero, suc, ◌≡◌, ◌≢◌, ◌⊎◌, inl, inr, List, [], ◌∷◌, Option, Some, None, option_map, option_and_then, slice_get, refl, ap, sym, subst, ◌∙◌, arith}
 use Rattle.task_networks.specs.Net.{Net}
-use Rattle.task_networks.specs.Tree.{Label, waits, ran, used, Tree, Address, IsTaken, label, label_at, at, child_at, children_of, open_leaf, done, split, none, IsBelow, Trees, more, works_of, AreGrown}
+use Rattle.task_networks.specs.Tree.{Label, waits, ran, used, Tree, Address, IsTaken, label_at, label, at, child_at, children_of, open_leaf, done, split, none, IsBelow, Trees, more, works_of, AreGrown}
 use Rattle.task_networks.proofs.Addresses.{is_below, below_up, below_cases, is_same_address}
 use Rattle.slot_machine.proofs.Replaced.{put, at-put_same, label-put_other}
 
 module _ (N : Net) where
-  abbrev pub kids_of : Label N → List N.Work
-  kids_of (waits w) = []
-  kids_of (ran w) = []
-  kids_of (used m) = N.works m
+  abbrev pub child_works : Label N → List N.Work
+  child_works (waits w) = []
+  child_works (ran w) = []
+  child_works (used m) = N.works m
 
   -- tree' is tree with the open leaf w at p processed, as l, its children open leaves
   pub record IsGrowth (tree tree' : Tree N) (p : Address) (w : N.Work) (l : Label N) : Type 0 where
     pub taken : IsTaken N l
     pub was : label_at N tree p ≡ Some (waits w)
     pub now : label_at N tree' p ≡ Some l
-    pub no_kids : (i : ℕ) → label_at N tree (i ∷ p) ≡ None
-    pub kids : (i : ℕ) → label_at N tree' (i ∷ p) ≡ option_map waits (slice_get (kids_of l) i)
+    pub childless : (i : ℕ) → label_at N tree (i ∷ p) ≡ None
+    pub children : (i : ℕ) → label_at N tree' (i ∷ p) ≡ option_map waits (slice_get (child_works l) i)
     pub others : (q : Address) → q ≢ p → ((i : ℕ) → q ≢ i ∷ p) → label_at N tree' q ≡ label_at N tree q
 
   -- the children are open leaves for the works of the label
   abbrev pub IsFresh : Tree N → Type 0
-  IsFresh s = (i : ℕ) → option_map (label N) (child_at N (children_of N s) i) ≡ option_map waits (slice_get (kids_of (label N s)) i)
+  IsFresh s = (i : ℕ) → option_map (label N) (child_at N (children_of N s) i) ≡ option_map waits (slice_get (child_works (label N s)) i)
 
-  childless : (o : Option (Tree N)) (v : Option N.Work) (k : ℕ) → option_map (label N) o ≡ option_map waits v → option_and_then (λ t. child_at N (children_of N t) k) o ≡ None
-  childless None v k e = refl
-  childless (Some (open_leaf w)) v k e = refl
-  childless (Some (done w)) None k e = absurd cc
-  childless (Some (done w)) (Some v) k e = absurd cc
-  childless (Some (split m ts)) None k e = absurd cc
-  childless (Some (split m ts)) (Some v) k e = absurd cc
+  nothing_under : (o : Option (Tree N)) (v : Option N.Work) (k : ℕ) → option_map (label N) o ≡ option_map waits v → option_and_then (λ t. child_at N (children_of N t) k) o ≡ None
+  nothing_under None v k e = refl
+  nothing_under (Some (open_leaf w)) v k e = refl
+  nothing_under (Some (done w)) None k e = absurd cc
+  nothing_under (Some (done w)) (Some v) k e = absurd cc
+  nothing_under (Some (split m ts)) None k e = absurd cc
+  nothing_under (Some (split m ts)) (Some v) k e = absurd cc
 
   pub none_below : (tree : Tree N) (p q : Address) → at N tree p ≡ None → IsBelow p q → at N tree q ≡ None
   none_below tree p [] e b = subst (λ x. at N tree x ≡ None) b e
@@ -43,17 +43,17 @@ module _ (N : Net) where
       taken = t;
       was = ap (option_map (label N)) a;
       now = ap (option_map (label N)) b;
-      no_kids = λ i. ap (λ x. option_map (label N) (option_and_then (λ t. child_at N (children_of N t) i) x)) a;
-      kids = kid;
+      childless = λ i. ap (λ x. option_map (label N) (option_and_then (λ t. child_at N (children_of N t) i) x)) a;
+      children = child;
       others = λ q n k. other q n k (is_below p q);
     }
     where
-      kid : (i : ℕ) → label_at N tree' (i ∷ p) ≡ option_map waits (slice_get (kids_of (label N s)) i)
-      kid i = ap (λ x. option_map (label N) (option_and_then (λ t. child_at N (children_of N t) i) x)) b ∙ f i
+      child : (i : ℕ) → label_at N tree' (i ∷ p) ≡ option_map waits (slice_get (child_works (label N s)) i)
+      child i = ap (λ x. option_map (label N) (option_and_then (λ t. child_at N (children_of N t) i) x)) b ∙ f i
       deep : (q : Address) (i : ℕ) → ((i : ℕ) → q ≢ i ∷ p) → (q ≡ i ∷ p) ⊎ ((j : ℕ) × IsBelow (j ∷ i ∷ p) q) → at N tree' q ≡ at N tree q
       deep q i k (inl e) = absurd (k i e)
       deep q i k (inr (j, c)) =
-          let x : at N tree' (j ∷ i ∷ p) ≡ None = childless (at N tree' (i ∷ p)) (slice_get (kids_of (label N s)) i) j (kid i) in
+          let x : at N tree' (j ∷ i ∷ p) ≡ None = nothing_under (at N tree' (i ∷ p)) (slice_get (child_works (label N s)) i) j (child i) in
           let y : at N tree (i ∷ p) ≡ None = ap (option_and_then (λ t. child_at N (children_of N t) i)) a in
           none_below tree' (j ∷ i ∷ p) q x c ∙ sym (none_below tree (i ∷ p) q y (below_up j (i ∷ p) q c))
       inside : (q : Address) → q ≢ p → ((i : ℕ) → q ≢ i ∷ p) → (q ≡ p) ⊎ ((i : ℕ) × IsBelow (i ∷ p) q) → at N tree' q ≡ at N tree q

@@ -10,20 +10,20 @@ use Rattle.task_networks.proofs.Addresses.{is_same_address}
 use Rattle.task_networks.proofs.Orders.{is_some}
 use Rattle.slot_machine.specs.Machine.{State, IsUnblocked}
 use Rattle.slot_machine.proofs.AtLabel.{heir_of, PairOf, CopierOf, heir_exists, heir_within, from_pair, pair_within, blocks_sibling, copier_within, TakesOverOf, PrecedesOf, covered, not-blocks_itself, last_pair_of, sibling_blocks}
-use Rattle.slot_machine.proofs.FrontSteps.{taken_apart, kid_waits, blocks_grows}
-use Rattle.slot_machine.proofs.Growth.{IsGrowth, kids_of, place, leaf_at, none_below}
+use Rattle.slot_machine.proofs.FrontSteps.{taken_apart, child_waits, blocks_grows}
+use Rattle.slot_machine.proofs.Growth.{IsGrowth, child_works, place, leaf_at, none_below}
 use Rattle.slot_machine.proofs.Matching.{Matches, back, down, up, nothing_blocks}
 
 module _ (N : Net) (law : IsLawful N) (b : ℕ) (s s' : State N) (tree tree' : Tree N) (p : Address) (w : N.Work) (l : Label N) (g : IsGrowth N tree tree' p w l) (slot : Address → ℕ) (m : Matches N b s tree slot) (un : IsUnblocked N s (slot p)) where
   abbrev n : ℕ
-  n = length (kids_of N l)
+  n = length (child_works N l)
 
   -- what a step makes of the machine, in the slots of the tree
   pub record IsAfter : Type 0 where
     pub heirs : (i : ℕ) → heir_of N l ≡ Some i → slot (i ∷ p) ≡ slot p
     pub was_free : (i : ℕ) → i < n → (heir_of N l ≡ Some i → ⊥) → s.free (slot (i ∷ p))
     pub new_apart : (i j : ℕ) → i < n → j < n → (heir_of N l ≡ Some i → ⊥) → (heir_of N l ≡ Some j → ⊥) → slot (i ∷ p) ≡ slot (j ∷ p) → i ≡ j
-    pub holds : (x : ℕ) (v : N.Work) → s'.holds x v ↔ ((s.holds x v × ((x ≡ slot p) × (v ≡ w) → ⊥)) ⊎ ((i : ℕ) × (x ≡ slot (i ∷ p)) × (slice_get (kids_of N l) i ≡ Some v)))
+    pub holds : (x : ℕ) (v : N.Work) → s'.holds x v ↔ ((s.holds x v × ((x ≡ slot p) × (v ≡ w) → ⊥)) ⊎ ((i : ℕ) × (x ≡ slot (i ∷ p)) × (slice_get (child_works N l) i ≡ Some v)))
     pub free : (x : ℕ) → s'.free x ↔ ((s.free x × ((i : ℕ) → i < n → x ≡ slot (i ∷ p) → ⊥)) ⊎ ((n ≡ 0) × (x ≡ slot p)))
     pub before : (x y : ℕ) → s'.before x y ↔ ((s.before x y × ((n ≡ 0) × (x ≡ slot p) → ⊥)) ⊎ (((i : ℕ) × (j : ℕ) × PairOf N l i j × (x ≡ slot (i ∷ p)) × (y ≡ slot (j ∷ p))) ⊎ ((i : ℕ) × CopierOf N l i × (x ≡ slot (i ∷ p)) × s.before (slot p) y)))
 
@@ -34,12 +34,12 @@ module _ (N : Net) (law : IsLawful N) (b : ℕ) (s s' : State N) (tree tree' : T
   address_of u (v, e) = (waits v, e)
 
   -- an open leaf of the grown tree is a new child, or an old one
-  open_cases : (u : Address) (v : N.Work) → label_at N tree' u ≡ Some (waits v) → ((i : ℕ) × (u ≡ i ∷ p) × (slice_get (kids_of N l) i ≡ Some v)) ⊎ ((u ≢ p) × (label_at N tree u ≡ Some (waits v)))
+  open_cases : (u : Address) (v : N.Work) → label_at N tree' u ≡ Some (waits v) → ((i : ℕ) × (u ≡ i ∷ p) × (slice_get (child_works N l) i ≡ Some v)) ⊎ ((u ≢ p) × (label_at N tree u ≡ Some (waits v)))
   open_cases u v e = go (place N p u)
     where
-      go : (u ≡ p) ⊎ (((i : ℕ) × (u ≡ i ∷ p)) ⊎ ((u ≢ p) × ((i : ℕ) → u ≢ i ∷ p))) → ((i : ℕ) × (u ≡ i ∷ p) × (slice_get (kids_of N l) i ≡ Some v)) ⊎ ((u ≢ p) × (label_at N tree u ≡ Some (waits v)))
+      go : (u ≡ p) ⊎ (((i : ℕ) × (u ≡ i ∷ p)) ⊎ ((u ≢ p) × ((i : ℕ) → u ≢ i ∷ p))) → ((i : ℕ) × (u ≡ i ∷ p) × (slice_get (child_works N l) i ≡ Some v)) ⊎ ((u ≢ p) × (label_at N tree u ≡ Some (waits v)))
       go (inl f) = absurd (taken_apart N l v (let x = ap (label_at N tree') f in let y = g.now in cc) g.taken)
-      go (inr (inl (i, f))) = inl (i, f, (let h = kid_waits N tree tree' p w l g i (waits v) (sym (ap (label_at N tree') f) ∙ e) in let x = h.2 in let y = h.1 in cc))
+      go (inr (inl (i, f))) = inl (i, f, (let h = child_waits N tree tree' p w l g i (waits v) (sym (ap (label_at N tree') f) ∙ e) in let x = h.2 in let y = h.1 in cc))
       go (inr (inr (a, c))) = inr (a, sym (g.others u a c) ∙ e)
 
   old_open : (u : Address) (v : N.Work) → label_at N tree u ≡ Some (waits v) → u ≢ p → label_at N tree' u ≡ Some (waits v)
@@ -47,19 +47,19 @@ module _ (N : Net) (law : IsLawful N) (b : ℕ) (s s' : State N) (tree tree' : T
     where
       go : (u ≡ p) ⊎ (((i : ℕ) × (u ≡ i ∷ p)) ⊎ ((u ≢ p) × ((i : ℕ) → u ≢ i ∷ p))) → label_at N tree' u ≡ Some (waits v)
       go (inl f) = absurd (a f)
-      go (inr (inl (i, f))) = let h = g.no_kids i in let x = ap (label_at N tree) f in absurd cc
+      go (inr (inl (i, f))) = let h = g.childless i in let x = ap (label_at N tree) f in absurd cc
       go (inr (inr (a, c))) = g.others u a c ∙ e
 
   keeps_open : (u : Address) → IsOpen N tree u → u ≢ p → IsOpen N tree' u
   keeps_open u (v, e) a = (v, old_open u v e a)
 
-  new_open : (i : ℕ) (v : N.Work) → slice_get (kids_of N l) i ≡ Some v → label_at N tree' (i ∷ p) ≡ Some (waits v)
-  new_open i v e = g.kids i ∙ ap (option_map waits) e
+  new_open : (i : ℕ) (v : N.Work) → slice_get (child_works N l) i ≡ Some v → label_at N tree' (i ∷ p) ≡ Some (waits v)
+  new_open i v e = g.children i ∙ ap (option_map waits) e
 
-  kid_open : (i : ℕ) → i < n → IsOpen N tree' (i ∷ p)
-  kid_open i h = go (slice_get_cases (kids_of N l) i).1
+  child_open : (i : ℕ) → i < n → IsOpen N tree' (i ∷ p)
+  child_open i h = go (slice_get_cases (child_works N l) i).1
     where
-      go : ((v : N.Work) × (i < length (kids_of N l)) × (slice_get (kids_of N l) i ≡ Some v) × (get_or (kids_of N l) i v ≡ v)) ⊎ ((length (kids_of N l) ≤ i) × (slice_get (kids_of N l) i ≡ None)) → IsOpen N tree' (i ∷ p)
+      go : ((v : N.Work) × (i < length (child_works N l)) × (slice_get (child_works N l) i ≡ Some v) × (get_or (child_works N l) i v ≡ v)) ⊎ ((length (child_works N l) ≤ i) × (slice_get (child_works N l) i ≡ None)) → IsOpen N tree' (i ∷ p)
       go (inl (v, a, e, c)) = (v, new_open i v e)
       go (inr (a, e)) = absurd (omega arith)
 
@@ -71,7 +71,7 @@ module _ (N : Net) (law : IsLawful N) (b : ℕ) (s s' : State N) (tree tree' : T
   IsOld u = (u ≢ p) × IsOpen N tree u
 
   new_or_old : (u : Address) → IsOpen N tree' u → IsNew u ⊎ IsOld u
-  new_or_old u (v, e) = elim (open_cases u v e) [ inl x ↦ inl (x.0, x.1, slice_get_within (kids_of N l) x.0 v x.2) | inr x ↦ inr (x.0, (v, x.1)) ]
+  new_or_old u (v, e) = elim (open_cases u v e) [ inl x ↦ inl (x.0, x.1, slice_get_within (child_works N l) x.0 v x.2) | inr x ↦ inr (x.0, (v, x.1)) ]
 
   grows : (u v : Address) → Blocks N tree u v → Blocks N tree' u v
   grows u v bl = blocks_grows N tree tree' p w l g u v bl
@@ -79,11 +79,11 @@ module _ (N : Net) (law : IsLawful N) (b : ℕ) (s s' : State N) (tree tree' : T
   blocks_old : (u v : Address) → IsOpen N tree v → Blocks N tree' u v → Blocks N tree u v
   blocks_old u v o bl = back N law b s tree tree' p w l g slot m u v (address_of v o) bl
 
-  blocks_kid : (k : ℕ) (v : Address) → Blocks N tree p v → Blocks N tree' (k ∷ p) v
-  blocks_kid k v bl = grows (k ∷ p) v (down N law b s tree tree' p w l g slot m k v bl)
+  blocks_child : (k : ℕ) (v : Address) → Blocks N tree p v → Blocks N tree' (k ∷ p) v
+  blocks_child k v bl = grows (k ∷ p) v (down N law b s tree tree' p w l g slot m k v bl)
 
-  kid_blocks : (k : ℕ) (v : Address) → IsOpen N tree v → Blocks N tree' (k ∷ p) v → Blocks N tree p v
-  kid_blocks k v o bl = up N law b s tree tree' p w l g slot m k v (address_of v o) (blocks_old (k ∷ p) v o bl)
+  child_blocks : (k : ℕ) (v : Address) → IsOpen N tree v → Blocks N tree' (k ∷ p) v → Blocks N tree p v
+  child_blocks k v o bl = up N law b s tree tree' p w l g slot m k v (address_of v o) (blocks_old (k ∷ p) v o bl)
 
   -- no old leaf blocks a new child
   old_new : (u : Address) (j : ℕ) → IsOpen N tree u → Blocks N tree' u (j ∷ p) → ⊥
@@ -129,22 +129,22 @@ module _ (N : Net) (law : IsLawful N) (b : ℕ) (s s' : State N) (tree tree' : T
     range : (u : Address) → IsOpen N tree' u → (1 ≤ slot u) × (slot u ≤ b)
     range u o = go (new_or_old u o)
       where
-        kid : (i : ℕ) → i < n → Dec (heir_of N l ≡ Some i) → (1 ≤ slot (i ∷ p)) × (slot (i ∷ p) ≤ b)
-        kid i h (yes f) = subst (λ x. (1 ≤ x) × (x ≤ b)) (sym (a.heirs i f)) (m.range p open_p)
-        kid i h (no f) = let r = (m.free (slot (i ∷ p))).0 (a.was_free i h f) in (r.0, r.1)
+        child : (i : ℕ) → i < n → Dec (heir_of N l ≡ Some i) → (1 ≤ slot (i ∷ p)) × (slot (i ∷ p) ≤ b)
+        child i h (yes f) = subst (λ x. (1 ≤ x) × (x ≤ b)) (sym (a.heirs i f)) (m.range p open_p)
+        child i h (no f) = let r = (m.free (slot (i ∷ p))).0 (a.was_free i h f) in (r.0, r.1)
         go : IsNew u ⊎ IsOld u → (1 ≤ slot u) × (slot u ≤ b)
-        go (inl (i, x, h)) = subst (λ y. (1 ≤ slot y) × (slot y ≤ b)) (sym x) (kid i h (is_some (heir_of N l) i))
+        go (inl (i, x, h)) = subst (λ y. (1 ≤ slot y) × (slot y ≤ b)) (sym x) (child i h (is_some (heir_of N l) i))
         go (inr (nu, q)) = m.range u q
 
     holds : (x : ℕ) (v : N.Work) → s'.holds x v ↔ ((q : Address) × (label_at N tree' q ≡ Some (waits v)) × (slot q ≡ x))
     holds x v = (λ h. to ((a.holds x v).0 h), λ h. (a.holds x v).1 (from h.0 (open_cases h.0 v h.1) h.2))
       where
-        to : (s.holds x v × ((x ≡ slot p) × (v ≡ w) → ⊥)) ⊎ ((i : ℕ) × (x ≡ slot (i ∷ p)) × (slice_get (kids_of N l) i ≡ Some v)) → (q : Address) × (label_at N tree' q ≡ Some (waits v)) × (slot q ≡ x)
+        to : (s.holds x v × ((x ≡ slot p) × (v ≡ w) → ⊥)) ⊎ ((i : ℕ) × (x ≡ slot (i ∷ p)) × (slice_get (child_works N l) i ≡ Some v)) → (q : Address) × (label_at N tree' q ≡ Some (waits v)) × (slot q ≡ x)
         to (inl (h, f)) =
             let (q, e, k) = (m.holds x v).0 h in
             (q, old_open q v e (λ c. f (sym k ∙ ap slot c, (let y = ap (label_at N tree) c in let z = g.was in cc))), k)
         to (inr (i, e, k)) = (i ∷ p, new_open i v k, sym e)
-        from : (q : Address) → ((i : ℕ) × (q ≡ i ∷ p) × (slice_get (kids_of N l) i ≡ Some v)) ⊎ ((q ≢ p) × (label_at N tree q ≡ Some (waits v))) → slot q ≡ x → (s.holds x v × ((x ≡ slot p) × (v ≡ w) → ⊥)) ⊎ ((i : ℕ) × (x ≡ slot (i ∷ p)) × (slice_get (kids_of N l) i ≡ Some v))
+        from : (q : Address) → ((i : ℕ) × (q ≡ i ∷ p) × (slice_get (child_works N l) i ≡ Some v)) ⊎ ((q ≢ p) × (label_at N tree q ≡ Some (waits v))) → slot q ≡ x → (s.holds x v × ((x ≡ slot p) × (v ≡ w) → ⊥)) ⊎ ((i : ℕ) × (x ≡ slot (i ∷ p)) × (slice_get (child_works N l) i ≡ Some v))
         from q (inl (i, e, k)) c = inr (i, sym c ∙ ap slot e, k)
         from q (inr (nq, e)) c = inl ((m.holds x v).1 (q, e, c), λ h. nq (is_p q (v, e) (c ∙ h.0)))
 
@@ -162,10 +162,10 @@ module _ (N : Net) (law : IsLawful N) (b : ℕ) (s s' : State N) (tree tree' : T
         from c d f = go (ℕ_discrete x (slot p)) (ℕ_discrete n 0)
           where
             old : x ≢ slot p → (s.free x × ((i : ℕ) → i < n → x ≡ slot (i ∷ p) → ⊥))
-            old k = ((m.free x).1 (c, d, λ q o e. f q (keeps_open q o (λ y. k (sym e ∙ ap slot y))) e), λ i h e. f (i ∷ p) (kid_open i h) (sym e))
+            old k = ((m.free x).1 (c, d, λ q o e. f q (keeps_open q o (λ y. k (sym e ∙ ap slot y))) e), λ i h e. f (i ∷ p) (child_open i h) (sym e))
             go : Dec (x ≡ slot p) → Dec (n ≡ 0) → (s.free x × ((i : ℕ) → i < n → x ≡ slot (i ∷ p) → ⊥)) ⊎ ((n ≡ 0) × (x ≡ slot p))
             go (yes e) (yes z) = inr (z, e)
-            go (yes e) (no z) = let h = heir_exists N law l (omega arith) in absurd (f (h.0 ∷ p) (kid_open h.0 (heir_within N law l h.0 h.1)) (a.heirs h.0 h.1 ∙ sym e))
+            go (yes e) (no z) = let h = heir_exists N law l (omega arith) in absurd (f (h.0 ∷ p) (child_open h.0 (heir_within N law l h.0 h.1)) (a.heirs h.0 h.1 ∙ sym e))
             go (no k) z = inl (old k)
 
     abbrev Sound : ℕ → ℕ → Type 0
@@ -187,17 +187,17 @@ module _ (N : Net) (law : IsLawful N) (b : ℕ) (s s' : State N) (tree tree' : T
                 pick (yes e) (yes z) = absurd (f (z, sym eu ∙ ap slot e))
                 pick (yes e) (no z) =
                     let h = heir_exists N law l (omega arith) in
-                    (h.0 ∷ p, v, kid_open h.0 (heir_within N law l h.0 h.1), keeps_open v ov nv, a.heirs h.0 h.1 ∙ sym (ap slot e) ∙ eu, ev, blocks_kid h.0 v (subst (λ z. Blocks N tree z v) e bl))
+                    (h.0 ∷ p, v, child_open h.0 (heir_within N law l h.0 h.1), keeps_open v ov nv, a.heirs h.0 h.1 ∙ sym (ap slot e) ∙ eu, ev, blocks_child h.0 v (subst (λ z. Blocks N tree z v) e bl))
         to (inr (inl (i, j, pr, ex, ey))) =
             let pc = from_pair N law l i j pr in
             let r = pair_within N law l i j pc in
-            (i ∷ p, j ∷ p, kid_open i r.0, kid_open j r.1, sym ex, sym ey, blocks_sibling N law tree' p l i j g.now pc)
+            (i ∷ p, j ∷ p, child_open i r.0, child_open j r.1, sym ex, sym ey, blocks_sibling N law tree' p l i j g.now pc)
         to (inr (inr (i, c, ex, h))) = go (m.sound (slot p) y h)
           where
             go : (u : Address) × (v : Address) × IsOpen N tree u × IsOpen N tree v × (slot u ≡ slot p) × (slot v ≡ y) × Blocks N tree u v → Sound x y
             go (u, v, ou, ov, eu, ev, bl) =
                 let nv : v ≢ p = λ e. un (slot p) (subst (λ z. s.before (slot p) z) (sym ev ∙ ap slot e) h) in
-                (i ∷ p, v, kid_open i (copier_within N law l i c), keeps_open v ov nv, sym ex, ev, blocks_kid i v (subst (λ z. Blocks N tree z v) (is_p u ou eu) bl))
+                (i ∷ p, v, child_open i (copier_within N law l i c), keeps_open v ov nv, sym ex, ev, blocks_child i v (subst (λ z. Blocks N tree z v) (is_p u ou eu) bl))
 
     abbrev Complete : Address → Address → Type 0
     Complete u v = s'.before (slot u) (slot v) ⊎ ((x : Address) × IsOpen N tree' x × Blocks N tree' u x × s'.before (slot x) (slot v))
@@ -227,12 +227,12 @@ module _ (N : Net) (law : IsLawful N) (b : ℕ) (s s' : State N) (tree tree' : T
         pick bf (inl t) = inl (inherits i v h t bf)
         pick bf (inr (c, pc, k)) =
             let r = (pair_within N law l i c pc).1 in
-            inr (c ∷ p, kid_open c r, blocks_sibling N law tree' p l i c g.now pc, inherits c v r k bf)
+            inr (c ∷ p, child_open c r, blocks_sibling N law tree' p l i c g.now pc, inherits c v r k bf)
         go : s.before (slot p) (slot v) ⊎ ((x : Address) × IsOpen N tree x × Blocks N tree p x × s.before (slot x) (slot v)) → Complete (i ∷ p) v
         go (inl bf) = pick bf (covered N law l i h)
         go (inr (x, ox, bx, bf)) =
             let nx : x ≢ p = λ e. not-blocks_itself N law tree p (subst (Blocks N tree p) e bx) in
-            inr (x, keeps_open x ox nx, blocks_kid i x bx, stays x v nx ox bf)
+            inr (x, keeps_open x ox nx, blocks_child i x bx, stays x v nx ox bf)
 
     new_new : (i j : ℕ) → PrecedesOf N l i j → Complete (i ∷ p) (j ∷ p)
     new_new i j pc = go (last_pair_of N law l i j pc)
@@ -241,7 +241,7 @@ module _ (N : Net) (law : IsLawful N) (b : ℕ) (s s' : State N) (tree tree' : T
         joins k pr = (a.before (slot (k ∷ p)) (slot (j ∷ p))).1 (inr (inl (k, j, pr, refl, refl)))
         go : PairOf N l i j ⊎ ((k : ℕ) × PrecedesOf N l i k × PairOf N l k j) → Complete (i ∷ p) (j ∷ p)
         go (inl pr) = inl (joins i pr)
-        go (inr (k, pk, pr)) = inr (k ∷ p, kid_open k (pair_within N law l i k pk).1, blocks_sibling N law tree' p l i k g.now pk, joins k pr)
+        go (inr (k, pk, pr)) = inr (k ∷ p, child_open k (pair_within N law l i k pk).1, blocks_sibling N law tree' p l i k g.now pk, joins k pr)
 
     complete : (u v : Address) → IsOpen N tree' u → IsOpen N tree' v → Blocks N tree' u v → Complete u v
     complete u v ou ov bl = go (new_or_old u ou) (new_or_old v ov)
@@ -249,7 +249,7 @@ module _ (N : Net) (law : IsLawful N) (b : ℕ) (s s' : State N) (tree tree' : T
         go : IsNew u ⊎ IsOld u → IsNew v ⊎ IsOld v → Complete u v
         go (inr x) (inr y) = old_old u v x y (blocks_old u v y.1 bl)
         go (inr x) (inl (j, e, h)) = absurd (old_new u j x.1 (subst (Blocks N tree' u) e bl))
-        go (inl (i, e, h)) (inr y) = subst (λ z. Complete z v) (sym e) (new_old i v h y (kid_blocks i v y.1 (subst (λ z. Blocks N tree' z v) e bl)))
+        go (inl (i, e, h)) (inr y) = subst (λ z. Complete z v) (sym e) (new_old i v h y (child_blocks i v y.1 (subst (λ z. Blocks N tree' z v) e bl)))
         go (inl (i, e, h)) (inl (j, f, k)) =
             let c : Blocks N tree' (i ∷ p) (j ∷ p) = subst (λ z. Blocks N tree' z (j ∷ p)) e (subst (Blocks N tree' u) f bl) in
             subst (λ z. Complete z v) (sym e) (subst (Complete (i ∷ p)) (sym f) (new_new i j (sibling_blocks N law tree' p l i j g.now c)))

@@ -4,7 +4,7 @@ use Rattle.std.proofs.Math.Decide.{ℕ_discrete}
 use Rattle.std.proofs.lemmas.Option.{slice_get_within, slice_get-get_or, slice_get_cases}
 use Rattle.task_networks.specs.Net.{Net}
 use Rattle.task_networks.specs.Lawful.{IsLawful}
-use Rattle.task_networks.specs.Tree.{at, Tree, Address, label, label_at, waits, IsOpen, ran, used, Label, IsAddress, IsBelow, IsProcessed}
+use Rattle.task_networks.specs.Tree.{at, Tree, Address, label_at, label, waits, IsOpen, ran, used, Label, IsAddress, IsBelow, IsProcessed}
 use Rattle.task_networks.specs.Schedule.{Blocks, IsSchedule, IsDue, IsBegun}
 use Rattle.task_networks.proofs.Nodes.{parent}
 use Rattle.slot_machine.specs.Machine.{State, IsUnblocked}
@@ -38,7 +38,7 @@ module _ (N : Net) where
 
     -- a way to an open leaf isn't that of a child of p
     parent_apart : (j : ℕ) (q : Address) → IsAddress N tree (j ∷ q) → q ≢ p
-    parent_apart j q (k, e) f = let h = g.no_kids j in let x = ap (λ y. label_at N tree (j ∷ y)) f in absurd cc
+    parent_apart j q (k, e) f = let h = g.childless j in let x = ap (λ y. label_at N tree (j ∷ y)) f in absurd cc
 
     pub back : (u v : Address) → IsAddress N tree v → Blocks N tree' u v → Blocks N tree u v
     back u [] a bl = bl
@@ -70,7 +70,7 @@ module _ (N : Net) where
         go : (u : Address) → IsOpen N tree u → IsAddress N tree' u
         go u (k, e) = elim (place N p u) [
             inl f ↦ (l, ap (label_at N tree') f ∙ g.now)
-          | inr (inl (i, f)) ↦ (let h = g.no_kids i in let x = ap (label_at N tree) f in absurd cc)
+          | inr (inl (i, f)) ↦ (let h = g.childless i in let x = ap (label_at N tree) f in absurd cc)
           | inr (inr (a, c)) ↦ (waits k, g.others u a c ∙ e)
           ]
 

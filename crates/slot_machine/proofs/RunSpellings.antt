@@ -12,7 +12,7 @@ use Rattle.task_networks.proofs.Addresses.{is_same_address}
 use Rattle.task_networks.proofs.Lists.{by_push}
 use Rattle.slot_machine.specs.Machine.{State, with_heir, IsUnblocked, May, insert_at, after, Runs, start, end_of}
 use Rattle.slot_machine.proofs.AtLabel.{heir_of}
-use Rattle.slot_machine.proofs.Growth.{kids_of, leaf_at, IsGrowth}
+use Rattle.slot_machine.proofs.Growth.{child_works, leaf_at, IsGrowth}
 use Rattle.slot_machine.proofs.Inserts.{length-insert_at, different-insert_at, at-insert_at, insert_cases}
 use Rattle.slot_machine.proofs.KeepsMatching.{keeps}
 use Rattle.slot_machine.proofs.LabelTrees.{child_address, work_at, IsLegal, tree_of, growth_to, legal_grown, work-tree_of, leaf_only}
@@ -28,9 +28,9 @@ pick (yes a) x y = x
 pick (no n) x y = y
 
 -- the slots of the children of p are these
-abbrev pub with_kids : (Address → ℕ) → Address → List ℕ → Address → ℕ
-with_kids slot p hs [] = slot []
-with_kids slot p hs (i ∷ q) = pick (is_same_address q p) (slice_index hs i) (slot (i ∷ q))
+abbrev pub with_children : (Address → ℕ) → Address → List ℕ → Address → ℕ
+with_children slot p hs [] = slot []
+with_children slot p hs (i ∷ q) = pick (is_same_address q p) (slice_index hs i) (slot (i ∷ q))
 
 pick_yes : {A : Type 0} (d : Dec A) (x y : ℕ) → A → pick d x y ≡ x
 unfolding pick
@@ -42,12 +42,12 @@ unfolding pick
 pick_no (yes a) x y h = absurd (h a)
 pick_no (no n) x y h = refl
 
-pub with-kids_kid : (slot : Address → ℕ) (p : Address) (hs : List ℕ) (i : ℕ) → with_kids slot p hs (i ∷ p) ≡ slice_index hs i
-with-kids_kid slot p hs i = pick_yes (is_same_address p p) (slice_index hs i) (slot (i ∷ p)) refl
+pub with-children_child : (slot : Address → ℕ) (p : Address) (hs : List ℕ) (i : ℕ) → with_children slot p hs (i ∷ p) ≡ slice_index hs i
+with-children_child slot p hs i = pick_yes (is_same_address p p) (slice_index hs i) (slot (i ∷ p)) refl
 
-pub with-kids_other : (slot : Address → ℕ) (p : Address) (hs : List ℕ) (q : Address) → ((i : ℕ) → q ≢ i ∷ p) → with_kids slot p hs q ≡ slot q
-with-kids_other slot p hs [] n = refl
-with-kids_other slot p hs (i ∷ q) n = pick_no (is_same_address q p) (slice_index hs i) (slot (i ∷ q)) (λ e. n i (ap (λ x. i ∷ x) e))
+pub with-children_other : (slot : Address → ℕ) (p : Address) (hs : List ℕ) (q : Address) → ((i : ℕ) → q ≢ i ∷ p) → with_children slot p hs q ≡ slot q
+with-children_other slot p hs [] n = refl
+with-children_other slot p hs (i ∷ q) n = pick_no (is_same_address q p) (slice_index hs i) (slot (i ∷ q)) (λ e. n i (ap (λ x. i ∷ x) e))
 
 module _ (N : Net) where
   -- only the slots of the tree's nodes count
@@ -94,8 +94,8 @@ module _ (N : Net) where
       pub legal : IsLegal N (label_of N e)
       pub unblocked : IsUnblocked N s (slot_of N e)
       pub heirs : (i : ℕ) → heir_of N (label_of N e) ≡ Some i → slice_index (slots_of e) i ≡ slot_of N e
-      pub free : (i : ℕ) → i < length (kids_of N (label_of N e)) → (heir_of N (label_of N e) ≡ Some i → ⊥) → s.free (slice_index (slots_of e) i)
-      pub apart : (i j : ℕ) → i < length (kids_of N (label_of N e)) → j < length (kids_of N (label_of N e)) → (heir_of N (label_of N e) ≡ Some i → ⊥) → (heir_of N (label_of N e) ≡ Some j → ⊥) → slice_index (slots_of e) i ≡ slice_index (slots_of e) j → i ≡ j
+      pub free : (i : ℕ) → i < length (child_works N (label_of N e)) → (heir_of N (label_of N e) ≡ Some i → ⊥) → s.free (slice_index (slots_of e) i)
+      pub apart : (i j : ℕ) → i < length (child_works N (label_of N e)) → j < length (child_works N (label_of N e)) → (heir_of N (label_of N e) ≡ Some i → ⊥) → (heir_of N (label_of N e) ≡ Some j → ⊥) → slice_index (slots_of e) i ≡ slice_index (slots_of e) j → i ≡ j
 
     asks : (s : State N) (tree : Tree N) (f : Address → ℕ) → Matches N b s tree f → (e : Act N) → May N s e → Asks s e
     asks s tree f mt (run h w) m = record { holds = m.holds; legal = m.simple; unblocked = m.unblocked; heirs = λ i e. absurd cc; free = λ i r. (absurd (omega arith)); apart = λ i j r. (absurd (omega arith)) }
@@ -156,7 +156,7 @@ module _ (N : Net) where
         go p was h = (g, spells_push N tree tree' p w l gr b top acts order g e sp' grown.0 (grown.1 ∙ sp.front.root) due range heirs after'.apart act)
           where
             g : Address → ℕ
-            g = with_kids f p (slots_of e)
+            g = with_children f p (slots_of e)
             a : at N tree p ≡ Some (open_leaf w)
             a = leaf_at N tree p w was
             tree' : Tree N
@@ -166,29 +166,29 @@ module _ (N : Net) where
             grown : IsGrown N tree' × (work_of N tree' ≡ work_of N tree)
             grown = grown-put N tree p (open_leaf w) (tree_of N l) a sp.front.grown (legal_grown N l ask.legal) (work-tree_of N l)
             agree : Agree tree f g
-            agree q (k, x) = with-kids_other f p (slots_of e) q (λ i y. (let z = gr.no_kids i in let v = ap (label_at N tree) y in absurd cc))
+            agree q (k, x) = with-children_other f p (slots_of e) q (λ i y. (let z = gr.childless i in let v = ap (label_at N tree) y in absurd cc))
             sp' : Spells N b top acts tree order g
             sp' = spells_agree acts tree order f g agree sp
             m' : Matches N b s tree g
             m' = matches_agree b s tree f g agree m
             own : slot_of N e ≡ g p
             own = sym h ∙ sym (agree p (waits w, was))
-            kid : (i : ℕ) → g (i ∷ p) ≡ slice_index (slots_of e) i
-            kid i = with-kids_kid f p (slots_of e) i
+            child : (i : ℕ) → g (i ∷ p) ≡ slice_index (slots_of e) i
+            child i = with-children_child f p (slots_of e) i
             un : IsUnblocked N s (g p)
             un x bf = ask.unblocked x (subst (s.before x) (sym own) bf)
             due : IsDue N tree' order p
             due = unblocked_due N law b s tree tree' p w l gr g m' order sp'.front.schedule un
             act : IsAct N tree' g p e
-            act = act_from s e tree' g p my ask gr.now own kid
+            act = act_from s e tree' g p my ask gr.now own child
             heirs : (i : ℕ) → heir_of N l ≡ Some i → g (i ∷ p) ≡ g p
-            heirs i x = kid i ∙ ask.heirs i x ∙ own
+            heirs i x = child i ∙ ask.heirs i x ∙ own
             after' : Matches N b (after N s e) tree' g
             after' = keeps N law b s (after N s e) tree tree' p w l gr g m' un (is_after N law b s tree tree' p g e gr m' un act heirs
-                (λ i r n. subst s.free (sym (kid i)) (ask.free i r n))
-                (λ i j r q n k x. ask.apart i j r q n k (sym (kid i) ∙ x ∙ kid j)))
-            range : (i : ℕ) → i < length (kids_of N l) → (1 ≤ g (i ∷ p)) × (g (i ∷ p) ≤ b)
-            range i r = after'.range (i ∷ p) (get_or (kids_of N l) i w, gr.kids i ∙ ap (option_map waits) (slice_get-get_or (kids_of N l) i w r))
+                (λ i r n. subst s.free (sym (child i)) (ask.free i r n))
+                (λ i j r q n k x. ask.apart i j r q n k (sym (child i) ∙ x ∙ child j)))
+            range : (i : ℕ) → i < length (child_works N l) → (1 ≤ g (i ∷ p)) × (g (i ∷ p) ≤ b)
+            range i r = after'.range (i ∷ p) (get_or (child_works N l) i w, gr.children i ∙ ap (option_map waits) (slice_get-get_or (child_works N l) i w r))
 
     step_forth : (acts : List (Act N)) (e : Act N) (s : State N) (tree : Tree N) (order : List Address) (f : Address → ℕ) → Spells N b top acts tree order f → Matches N b s tree f → May N s e → Fronts (acts ++ e ∷ [])
     step_forth acts e s tree order f sp m my =

@@ -13,10 +13,9 @@ use Rattle.task_networks.specs.Pending.{AreDifferent, IsWithin, pending, IsPendi
 use Rattle.task_networks.specs.Spelling.{others, Act, label_of, run, apply, Spells}
 use Rattle.task_networks.proofs.Different.{different_append, different_without, within_whole, without_cases, length_whole}
 use Rattle.task_networks.proofs.Lists.{not-in_empty, head_or_tail, Contains-later, cut_at, by_push}
-use Rattle.task_networks.proofs.Nodes.{nodes}
 use Rattle.slot_machine.specs.Machine.{State, IsUnblocked, May, end_of, start}
-use Rattle.slot_machine.proofs.FrontSteps.{taken_apart, kid_waits, last_kids, schedule_back}
-use Rattle.slot_machine.proofs.Growth.{leaves, IsGrowth, kids_of, place}
+use Rattle.slot_machine.proofs.FrontSteps.{taken_apart, child_waits, last_children_wait, schedule_back}
+use Rattle.slot_machine.proofs.Growth.{leaves, IsGrowth, child_works, place}
 use Rattle.slot_machine.proofs.LabelTrees.{work_at, IsLegal, untaken, leaf_only, tree_of, tree_at, growth_from, work-tree_of, grown_legal}
 use Rattle.slot_machine.proofs.Matching.{Matches, due_unblocked}
 use Rattle.slot_machine.proofs.OtherChildren.{Contains-map, rest_of, length-rest}
@@ -57,40 +56,40 @@ module _ (N : Net) (law : IsLawful N) (b : ℕ) (top : N.Work) where
     lists : (p : Address) → Contains leaves p ↔ IsOpen N tree p
     different : AreDifferent leaves
 
-  listing_grows : (tree tree' : Tree N) (p : Address) (w : N.Work) (l : Label N) → IsGrowth N tree tree' p w l → (xs ys : List Address) → Listing tree (xs ++ p ∷ ys) → Listing tree' (ways (length (kids_of N l)) 0 p ++ (xs ++ ys))
+  listing_grows : (tree tree' : Tree N) (p : Address) (w : N.Work) (l : Label N) → IsGrowth N tree tree' p w l → (xs ys : List Address) → Listing tree (xs ++ p ∷ ys) → Listing tree' (ways (length (child_works N l)) 0 p ++ (xs ++ ys))
   listing_grows tree tree' p w l g xs ys s = record { lists = λ q. (to q, from q (place N p q)); different = different_append new (xs ++ ys) (different_ways n 0 p) rest.0 apart }
     where
       n : ℕ
-      n = length (kids_of N l)
+      n = length (child_works N l)
       new : List Address
       new = ways n 0 p
       rest : AreDifferent (xs ++ ys) × (Contains (xs ++ ys) p → ⊥)
       rest = different_without xs p ys s.different
       old : (q : Address) → Contains (xs ++ ys) q → IsOpen N tree q
       old q c = (s.lists q).0 (within_whole xs p ys q c)
-      no_kid : (i : ℕ) → IsOpen N tree (i ∷ p) → ⊥
-      no_kid i (v, e) = let h = g.no_kids i in absurd cc
+      no_child : (i : ℕ) → IsOpen N tree (i ∷ p) → ⊥
+      no_child i (v, e) = let h = g.childless i in absurd cc
       apart : (q : Address) → Contains new q → Contains (xs ++ ys) q → ⊥
-      apart q c d = let (i, x, y, e) = ways_from n 0 p q c in no_kid i (subst (IsOpen N tree) e (old q d))
+      apart q c d = let (i, x, y, e) = ways_from n 0 p q c in no_child i (subst (IsOpen N tree) e (old q d))
       to : (q : Address) → Contains (new ++ (xs ++ ys)) q → IsOpen N tree' q
-      to q c = elim (Contains-append_cases new (xs ++ ys) q c) [ inl d ↦ kid q (ways_from n 0 p q d) | inr d ↦ same q (old q d) (place N p q) d ]
+      to q c = elim (Contains-append_cases new (xs ++ ys) q c) [ inl d ↦ child q (ways_from n 0 p q d) | inr d ↦ same q (old q d) (place N p q) d ]
         where
-          kid : (q : Address) → (i : ℕ) × (0 ≤ i) × (i < 0 + n) × (q ≡ i ∷ p) → IsOpen N tree' q
-          kid q (i, x, y, e) = subst (IsOpen N tree') (sym e) (get_or (kids_of N l) i w, g.kids i ∙ ap (option_map waits) (slice_get-get_or (kids_of N l) i w (omega arith)))
+          child : (q : Address) → (i : ℕ) × (0 ≤ i) × (i < 0 + n) × (q ≡ i ∷ p) → IsOpen N tree' q
+          child q (i, x, y, e) = subst (IsOpen N tree') (sym e) (get_or (child_works N l) i w, g.children i ∙ ap (option_map waits) (slice_get-get_or (child_works N l) i w (omega arith)))
           same : (q : Address) → IsOpen N tree q → (q ≡ p) ⊎ (((i : ℕ) × (q ≡ i ∷ p)) ⊎ ((q ≢ p) × ((i : ℕ) → q ≢ i ∷ p))) → Contains (xs ++ ys) q → IsOpen N tree' q
           same q o (inl e) d = absurd (rest.1 (subst (Contains (xs ++ ys)) e d))
-          same q o (inr (inl (i, e))) d = absurd (no_kid i (subst (IsOpen N tree) e o))
+          same q o (inr (inl (i, e))) d = absurd (no_child i (subst (IsOpen N tree) e o))
           same q (v, e) (inr (inr (x, y))) d = (v, g.others q x y ∙ e)
       from : (q : Address) → (q ≡ p) ⊎ (((i : ℕ) × (q ≡ i ∷ p)) ⊎ ((q ≢ p) × ((i : ℕ) → q ≢ i ∷ p))) → IsOpen N tree' q → Contains (new ++ (xs ++ ys)) q
       from q (inl e) (v, f) = absurd (taken_apart N l v (let x = ap (label_at N tree') e in let y = g.now in cc) g.taken)
       from q (inr (inl (i, e))) (v, f) =
-          let h = kid_waits N tree tree' p w l g i (waits v) (sym (ap (label_at N tree') e) ∙ f) in
-          let r : i < n = slice_get_within (kids_of N l) i h.0 h.2 in
+          let h = child_waits N tree tree' p w l g i (waits v) (sym (ap (label_at N tree') e) ∙ f) in
+          let r : i < n = slice_get_within (child_works N l) i h.0 h.2 in
           Contains-append_left new (xs ++ ys) q (subst (Contains new) (sym e) (ways_to n 0 p i (omega arith) (omega arith)))
       from q (inr (inr (x, y))) (v, f) = elim (without_cases xs p ys q ((s.lists q).1 (v, sym (g.others q x y) ∙ f))) [ inl e ↦ absurd (x (sym e)) | inr c ↦ Contains-append_right new (xs ++ ys) q c ]
 
   -- an entry for a step, where enough slots are free
-  some_act : (s : State N) (tree : Tree N) (f : Address → ℕ) (p : Address) (leaves : List Address) (l : Label N) → Matches N b s tree f → Listing tree leaves → label_at N tree p ≡ Some (waits (work_at N l)) → IsUnblocked N s (f p) → IsLegal N l → IsTaken N l → length (kids_of N l) + length leaves ≤ suc b → (e : Act N) × (label_of N e ≡ l) × (slot_of N e ≡ f p) × May N s e
+  some_act : (s : State N) (tree : Tree N) (f : Address → ℕ) (p : Address) (leaves : List Address) (l : Label N) → Matches N b s tree f → Listing tree leaves → label_at N tree p ≡ Some (waits (work_at N l)) → IsUnblocked N s (f p) → IsLegal N l → IsTaken N l → length (child_works N l) + length leaves ≤ suc b → (e : Act N) × (label_of N e ≡ l) × (slot_of N e ≡ f p) × May N s e
   some_act s tree f p leaves (waits w) m ls was un lg t h = absurd t
   some_act s tree f p leaves (ran w) m ls was un lg t h = (run (f p) w, refl, refl, record { holds = (m.holds (f p) w).1 (p, was, refl); simple = lg; unblocked = un })
   some_act s tree f p leaves (used n) m ls was un lg t h = go (N.heir n) refl
@@ -144,7 +143,7 @@ module _ (N : Net) (law : IsLawful N) (b : ℕ) (top : N.Work) where
           w : N.Work
           w = work_at N l
           a : at N tree' p ≡ Some (tree_of N l)
-          a = tree_at N tree' p l gr t now (last_kids N tree' order p s)
+          a = tree_at N tree' p l gr t now (last_children_wait N tree' order p s)
           tree : Tree N
           tree = put N tree' p (open_leaf w)
           g : IsGrowth N tree tree' p w l
@@ -164,13 +163,13 @@ module _ (N : Net) (law : IsLawful N) (b : ℕ) (top : N.Work) where
               cut (xs, ys, c) = (acts ++ d.0 ∷ [], r.0, sp', (new, ls'))
                 where
                   new : List Address
-                  new = ways (length (kids_of N l)) 0 p ++ (xs ++ ys)
+                  new = ways (length (child_works N l)) 0 p ++ (xs ++ ys)
                   ls' : Listing tree' new
                   ls' = listing_grows tree tree' p w l g xs ys (subst (Listing tree) c ls)
                   few : length new ≤ b
                   few = within (order ++ p ∷ []) [] new (sym (append-nil (order ++ p ∷ []))) (record { different = ls'.different; pending = λ q k. open_pending N tree' (order ++ p ∷ []) q s ((ls'.lists q).0 k) })
-                  fits : length (kids_of N l) + length leaves ≤ suc b
-                  fits = let k = length-append (ways (length (kids_of N l)) 0 p) (xs ++ ys) in let j = length-ways (length (kids_of N l)) 0 p in let i = ap length c in let h = length_whole xs p ys in omega (arith, few)
+                  fits : length (child_works N l) + length leaves ≤ suc b
+                  fits = let k = length-append (ways (length (child_works N l)) 0 p) (xs ++ ys) in let j = length-ways (length (child_works N l)) 0 p in let i = ap length c in let h = length_whole xs p ys in omega (arith, few)
                   m : Matches N b (end_of N (start N b top) acts) tree f
                   m = (runs_from_spells N law b top order acts tree f sp).1
                   un : IsUnblocked N (end_of N (start N b top) acts) (f p)

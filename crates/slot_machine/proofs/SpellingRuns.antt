@@ -12,8 +12,8 @@ use Rattle.task_networks.specs.Spelling.{Act, label_of, Spells, IsAct, AreActs, 
 use Rattle.task_networks.proofs.Lists.{by_push}
 use Rattle.slot_machine.specs.Machine.{State, Runs, May, end_of, after, with_heir, IsUnblocked, IsSlotOf, start}
 use Rattle.slot_machine.proofs.AtLabel.{heir_of, heir_exists, heir_within}
-use Rattle.slot_machine.proofs.FrontSteps.{schedule_back, last_kids}
-use Rattle.slot_machine.proofs.Growth.{IsGrowth, kids_of, place}
+use Rattle.slot_machine.proofs.FrontSteps.{schedule_back, last_children_wait}
+use Rattle.slot_machine.proofs.Growth.{IsGrowth, child_works, place}
 use Rattle.slot_machine.proofs.KeepsMatching.{IsAfter, keeps}
 use Rattle.slot_machine.proofs.LabelTrees.{work_at, tree_of, IsLegal, grown_legal, tree_at, growth_from, work-tree_of, leaf_only, untaken}
 use Rattle.slot_machine.proofs.Matching.{Matches, due_unblocked}
@@ -25,16 +25,16 @@ module _ (N : Net) where
   -- the last step of a spelling
   pub record LastStep (b : ℕ) (top : N.Work) (acts' : List (Act N)) (tree' : Tree N) (order : List Address) (p : Address) (slot : Address → ℕ) : Type 0 where
     pub acts : List (Act N)
-    pub e : Act N
-    pub is : acts' ≡ acts ++ e ∷ []
+    pub act : Act N
+    pub is : acts' ≡ acts ++ act ∷ []
     pub tree : Tree N
-    pub is_put : tree ≡ put N tree' p (open_leaf (work_at N (label_of N e)))
-    pub is_at : at N tree' p ≡ Some (tree_of N (label_of N e))
-    pub legal : IsLegal N (label_of N e)
-    pub growth : IsGrowth N tree tree' p (work_at N (label_of N e)) (label_of N e)
+    pub is_put : tree ≡ put N tree' p (open_leaf (work_at N (label_of N act)))
+    pub is_at : at N tree' p ≡ Some (tree_of N (label_of N act))
+    pub legal : IsLegal N (label_of N act)
+    pub growth : IsGrowth N tree tree' p (work_at N (label_of N act)) (label_of N act)
     pub before : Spells N b top acts tree order slot
     pub due : IsDue N tree' order p
-    pub entry : IsAct N tree' slot p e
+    pub is_act : IsAct N tree' slot p act
 
   pub last_step : (b : ℕ) (top : N.Work) (acts' : List (Act N)) (tree' : Tree N) (order : List Address) (p : Address) (slot : Address → ℕ) → Spells N b top acts' tree' (order ++ p ∷ []) slot → LastStep b top acts' tree' order p slot
   last_step b top acts' tree' order p slot s =
@@ -44,7 +44,7 @@ module _ (N : Net) where
       go : (acts : List (Act N)) (e : Act N) → acts' ≡ acts ++ e ∷ [] → AreActs N tree' slot order acts → IsAct N tree' slot p e → Spells N b top (acts ++ e ∷ []) tree' (order ++ p ∷ []) slot → LastStep b top acts' tree' order p slot
       go acts e is en ie s' = record {
           acts = acts;
-          e = e;
+          act = e;
           is = is;
           tree = put N tree' p (open_leaf w);
           is_put = refl;
@@ -53,7 +53,7 @@ module _ (N : Net) where
           growth = g;
           before = spells_back N (put N tree' p (open_leaf w)) tree' p w l g b top acts order slot e s' r.0 (r.1 ∙ s.front.root) en;
           due = (schedule_back N (put N tree' p (open_leaf w)) tree' p w l g order s.front.schedule).1;
-          entry = ie;
+          is_act = ie;
         }
         where
           l : Label N
@@ -63,7 +63,7 @@ module _ (N : Net) where
           t : IsTaken N l
           t = label_taken N e
           a : at N tree' p ≡ Some (tree_of N l)
-          a = tree_at N tree' p l s.front.grown t (act_label N tree' slot p e ie).0 (last_kids N tree' order p s.front.schedule)
+          a = tree_at N tree' p l s.front.grown t (act_label N tree' slot p e ie).0 (last_children_wait N tree' order p s.front.schedule)
           g : IsGrowth N (put N tree' p (open_leaf w)) tree' p w l
           g = growth_from N tree' p w l t a
           r : IsGrown N (put N tree' p (open_leaf w)) × (work_of N (put N tree' p (open_leaf w)) ≡ work_of N tree')
@@ -89,8 +89,8 @@ module _ (N : Net) where
   module _ (law : IsLawful N) (b : ℕ) (s : State N) (tree tree' : Tree N) (p : Address) (slot : Address → ℕ) where
     pub is_after : (e : Act N) (g : IsGrowth N tree tree' p (work_at N (label_of N e)) (label_of N e)) (m : Matches N b s tree slot) (un : IsUnblocked N s (slot p)) → IsAct N tree' slot p e
         → ((i : ℕ) → heir_of N (label_of N e) ≡ Some i → slot (i ∷ p) ≡ slot p)
-        → ((i : ℕ) → i < length (kids_of N (label_of N e)) → (heir_of N (label_of N e) ≡ Some i → ⊥) → s.free (slot (i ∷ p)))
-        → ((i j : ℕ) → i < length (kids_of N (label_of N e)) → j < length (kids_of N (label_of N e)) → (heir_of N (label_of N e) ≡ Some i → ⊥) → (heir_of N (label_of N e) ≡ Some j → ⊥) → slot (i ∷ p) ≡ slot (j ∷ p) → i ≡ j)
+        → ((i : ℕ) → i < length (child_works N (label_of N e)) → (heir_of N (label_of N e) ≡ Some i → ⊥) → s.free (slot (i ∷ p)))
+        → ((i j : ℕ) → i < length (child_works N (label_of N e)) → j < length (child_works N (label_of N e)) → (heir_of N (label_of N e) ≡ Some i → ⊥) → (heir_of N (label_of N e) ≡ Some j → ⊥) → slot (i ∷ p) ≡ slot (j ∷ p) → i ≡ j)
         → IsAfter N law b s (after N s e) tree tree' p (work_at N (label_of N e)) (label_of N e) g slot m un
     is_after (run h w) g m un (a, c) hs fr ap' = record {
         heirs = hs;
@@ -104,61 +104,61 @@ module _ (N : Net) where
         heirs = hs;
         was_free = fr;
         new_apart = ap';
-        holds = λ x v. (λ k. elim k [ inl z ↦ inl (z.0, λ y. z.1 (y.0 ∙ sym c, y.1)) | inr z ↦ inr (z.0, ((kid z.0 x).0 z.1).1, z.2) ],
-            λ k. elim k [ inl z ↦ inl (z.0, λ y. z.1 (y.0 ∙ c, y.1)) | inr z ↦ inr (z.0, (kid z.0 x).1 (slice_get_within (N.works n) z.0 v z.2, z.1), z.2) ]);
-        free = λ x. (λ k. elim k [ inl z ↦ inl (z.0, λ i r f. z.1 i ((kid i x).1 (r, f))) | inr z ↦ inr (z.0, z.1 ∙ c) ],
-            λ k. elim k [ inl z ↦ inl (z.0, λ i f. (let r = (kid i x).0 f in z.1 i r.0 r.1)) | inr z ↦ inr (z.0, z.1 ∙ sym c) ]);
+        holds = λ x v. (λ k. elim k [ inl z ↦ inl (z.0, λ y. z.1 (y.0 ∙ sym c, y.1)) | inr z ↦ inr (z.0, ((child z.0 x).0 z.1).1, z.2) ],
+            λ k. elim k [ inl z ↦ inl (z.0, λ y. z.1 (y.0 ∙ c, y.1)) | inr z ↦ inr (z.0, (child z.0 x).1 (slice_get_within (N.works n) z.0 v z.2, z.1), z.2) ]);
+        free = λ x. (λ k. elim k [ inl z ↦ inl (z.0, λ i r f. z.1 i ((child i x).1 (r, f))) | inr z ↦ inr (z.0, z.1 ∙ c) ],
+            λ k. elim k [ inl z ↦ inl (z.0, λ i f. (let r = (child i x).0 f in z.1 i r.0 r.1)) | inr z ↦ inr (z.0, z.1 ∙ sym c) ]);
         before = λ x y. (λ k. to x y k, λ k. from x y k);
       }
       where
-        kid : (i x : ℕ) → IsSlotOf N h new n i x ↔ ((i < count N n) × (x ≡ slot (i ∷ p)))
-        kid i x = subst (λ z. (slice_get z i ≡ Some x) ↔ ((i < count N n) × (x ≡ slot (i ∷ p)))) (sym (act_slots law tree' slot p h new n hs (a, c, d))) (get_number (λ i. slot (i ∷ p)) (count N n) i x)
+        child : (i x : ℕ) → IsSlotOf N h new n i x ↔ ((i < count N n) × (x ≡ slot (i ∷ p)))
+        child i x = subst (λ z. (slice_get z i ≡ Some x) ↔ ((i < count N n) × (x ≡ slot (i ∷ p)))) (sym (act_slots law tree' slot p h new n hs (a, c, d))) (get_number (λ i. slot (i ∷ p)) (count N n) i x)
         to : (x y : ℕ) → (after N s (apply h new n)).before x y → (s.before x y × ((count N n ≡ 0) × (x ≡ slot p) → ⊥)) ⊎ (((i : ℕ) × (j : ℕ) × N.Pair n i j × (x ≡ slot (i ∷ p)) × (y ≡ slot (j ∷ p))) ⊎ ((i : ℕ) × N.IsCopier n i × (x ≡ slot (i ∷ p)) × s.before (slot p) y))
         to x y (inl z) = inl (z.0, λ f. z.1 (f.0, f.1 ∙ sym c))
-        to x y (inr (inl (i, j, pr, ex, ey))) = inr (inl (i, j, pr, ((kid i x).0 ex).1, ((kid j y).0 ey).1))
-        to x y (inr (inr (i, k, ex, bf))) = inr (inr (i, k, ((kid i x).0 ex).1, subst (λ z. s.before z y) c bf))
+        to x y (inr (inl (i, j, pr, ex, ey))) = inr (inl (i, j, pr, ((child i x).0 ex).1, ((child j y).0 ey).1))
+        to x y (inr (inr (i, k, ex, bf))) = inr (inr (i, k, ((child i x).0 ex).1, subst (λ z. s.before z y) c bf))
         from : (x y : ℕ) → (s.before x y × ((count N n ≡ 0) × (x ≡ slot p) → ⊥)) ⊎ (((i : ℕ) × (j : ℕ) × N.Pair n i j × (x ≡ slot (i ∷ p)) × (y ≡ slot (j ∷ p))) ⊎ ((i : ℕ) × N.IsCopier n i × (x ≡ slot (i ∷ p)) × s.before (slot p) y)) → (after N s (apply h new n)).before x y
         from x y (inl z) = inl (z.0, λ f. z.1 (f.0, f.1 ∙ c))
-        from x y (inr (inl (i, j, pr, ex, ey))) = let r = law.pairs n i j pr in inr (inl (i, j, pr, (kid i x).1 (r.0, ex), (kid j y).1 (r.1, ey)))
-        from x y (inr (inr (i, k, ex, bf))) = inr (inr (i, k, (kid i x).1 (law.copier_is_child n i k, ex), subst (λ z. s.before z y) (sym c) bf))
+        from x y (inr (inl (i, j, pr, ex, ey))) = let r = law.pairs n i j pr in inr (inl (i, j, pr, (child i x).1 (r.0, ex), (child j y).1 (r.1, ey)))
+        from x y (inr (inr (i, k, ex, bf))) = inr (inr (i, k, (child i x).1 (law.copier_is_child n i k, ex), subst (λ z. s.before z y) (sym c) bf))
 
     may : (e : Act N) (g : IsGrowth N tree tree' p (work_at N (label_of N e)) (label_of N e)) (m : Matches N b s tree slot) (un : IsUnblocked N s (slot p)) → IsAct N tree' slot p e → IsLegal N (label_of N e)
         → ((i : ℕ) → heir_of N (label_of N e) ≡ Some i → slot (i ∷ p) ≡ slot p)
-        → ((i : ℕ) → i < length (kids_of N (label_of N e)) → (heir_of N (label_of N e) ≡ Some i → ⊥) → s.free (slot (i ∷ p)))
-        → ((i j : ℕ) → i < length (kids_of N (label_of N e)) → j < length (kids_of N (label_of N e)) → (heir_of N (label_of N e) ≡ Some i → ⊥) → (heir_of N (label_of N e) ≡ Some j → ⊥) → slot (i ∷ p) ≡ slot (j ∷ p) → i ≡ j)
+        → ((i : ℕ) → i < length (child_works N (label_of N e)) → (heir_of N (label_of N e) ≡ Some i → ⊥) → s.free (slot (i ∷ p)))
+        → ((i j : ℕ) → i < length (child_works N (label_of N e)) → j < length (child_works N (label_of N e)) → (heir_of N (label_of N e) ≡ Some i → ⊥) → (heir_of N (label_of N e) ≡ Some j → ⊥) → slot (i ∷ p) ≡ slot (j ∷ p) → i ≡ j)
         → May N s e
     may (run h w) g m un (a, c) lg hs fr ap' = record { holds = (m.holds h w).1 (p, g.was, sym c); simple = lg; unblocked = λ x bf. un x (subst (s.before x) c bf) }
     may (apply h new n) g m un (a, c, d) lg hs fr ap' = record {
         holds = (m.holds h (N.head n)).1 (p, g.was, sym c);
         ground = lg;
         unblocked = λ x bf. un x (subst (s.before x) c bf);
-        enough = ap length d ∙ length-map (others N n) kid;
-        free = λ x k. (let (i, o, e) = map_cases kid (others N n) x (subst (λ z. Contains z x) d k) in let r = (rest_cases (N.heir n) (count N n) i).0 o in subst s.free e (fr i r.0 r.1));
-        apart = subst AreDifferent (sym d) (different-map kid (others N n) (different_rest (N.heir n) (count N n))
+        enough = ap length d ∙ length-map (others N n) child;
+        free = λ x k. (let (i, o, e) = map_cases child (others N n) x (subst (λ z. Contains z x) d k) in let r = (rest_cases (N.heir n) (count N n) i).0 o in subst s.free e (fr i r.0 r.1));
+        apart = subst AreDifferent (sym d) (different-map child (others N n) (different_rest (N.heir n) (count N n))
             (λ i j o q. (let r = (rest_cases (N.heir n) (count N n) i).0 o in let u = (rest_cases (N.heir n) (count N n) j).0 q in ap' i j r.0 u.0 r.1 u.1)));
       }
       where
-        kid : ℕ → ℕ
-        kid i = slot (i ∷ p)
+        child : ℕ → ℕ
+        child i = slot (i ∷ p)
 
   module _ (law : IsLawful N) (b : ℕ) (top : N.Work) where
     -- what a step of a spelling is for the machine
-    step_back : (acts' : List (Act N)) (tree' : Tree N) (order : List Address) (p : Address) (slot : Address → ℕ) (s : State N) → Spells N b top acts' tree' (order ++ p ∷ []) slot → (d : LastStep b top acts' tree' order p slot) → Matches N b s d.tree slot → May N s d.e × Matches N b (after N s d.e) tree' slot
+    step_back : (acts' : List (Act N)) (tree' : Tree N) (order : List Address) (p : Address) (slot : Address → ℕ) (s : State N) → Spells N b top acts' tree' (order ++ p ∷ []) slot → (d : LastStep b top acts' tree' order p slot) → Matches N b s d.tree slot → May N s d.act × Matches N b (after N s d.act) tree' slot
     step_back acts' tree' order p slot s sp d m =
-        (may law b s d.tree tree' p slot d.e d.growth m un d.entry d.legal heirs was_free new_apart,
-          keeps N law b s (after N s d.e) d.tree tree' p w l d.growth slot m un (is_after law b s d.tree tree' p slot d.e d.growth m un d.entry heirs was_free new_apart))
+        (may law b s d.tree tree' p slot d.act d.growth m un d.is_act d.legal heirs was_free new_apart,
+          keeps N law b s (after N s d.act) d.tree tree' p w l d.growth slot m un (is_after law b s d.tree tree' p slot d.act d.growth m un d.is_act heirs was_free new_apart))
       where
         l : Label N
-        l = label_of N d.e
+        l = label_of N d.act
         w : N.Work
         w = work_at N l
         un : IsUnblocked N s (slot p)
         un = due_unblocked N law b s d.tree tree' p w l d.growth slot m order d.before.front.schedule d.due
-        kid_open : (i : ℕ) → i < length (kids_of N l) → IsOpen N tree' (i ∷ p)
-        kid_open i h = (kid i h, d.growth.kids i ∙ ap (option_map waits) (slice_get-get_or (kids_of N l) i w h))
+        child_open : (i : ℕ) → i < length (child_works N l) → IsOpen N tree' (i ∷ p)
+        child_open i h = (child i h, d.growth.children i ∙ ap (option_map waits) (slice_get-get_or (child_works N l) i w h))
           where
-            kid : (i : ℕ) → i < length (kids_of N l) → N.Work
-            kid i h = get_or (kids_of N l) i w
+            child : (i : ℕ) → i < length (child_works N l) → N.Work
+            child i h = get_or (child_works N l) i w
         heirs_at : (k : Label N) → label_at N tree' p ≡ Some k → (i : ℕ) → heir_of N k ≡ Some i → slot (i ∷ p) ≡ slot p
         heirs_at (waits v) e i f = absurd cc
         heirs_at (ran v) e i f = absurd cc
@@ -167,23 +167,23 @@ module _ (N : Net) where
         heirs i f = heirs_at l d.growth.now i f
         open_apart' : (u v : Address) → IsOpen N tree' u → IsOpen N tree' v → slot u ≡ slot v → u ≡ v
         open_apart' u v = open_slots_apart N b top acts' tree' (order ++ p ∷ []) slot sp u v
-        new_apart : (i j : ℕ) → i < length (kids_of N l) → j < length (kids_of N l) → (heir_of N l ≡ Some i → ⊥) → (heir_of N l ≡ Some j → ⊥) → slot (i ∷ p) ≡ slot (j ∷ p) → i ≡ j
-        new_apart i j r q f k x = let y = open_apart' (i ∷ p) (j ∷ p) (kid_open i r) (kid_open j q) x in cc
-        was_free : (i : ℕ) → i < length (kids_of N l) → (heir_of N l ≡ Some i → ⊥) → s.free (slot (i ∷ p))
+        new_apart : (i j : ℕ) → i < length (child_works N l) → j < length (child_works N l) → (heir_of N l ≡ Some i → ⊥) → (heir_of N l ≡ Some j → ⊥) → slot (i ∷ p) ≡ slot (j ∷ p) → i ≡ j
+        new_apart i j r q f k x = let y = open_apart' (i ∷ p) (j ∷ p) (child_open i r) (child_open j q) x in cc
+        was_free : (i : ℕ) → i < length (child_works N l) → (heir_of N l ≡ Some i → ⊥) → s.free (slot (i ∷ p))
         was_free i r f = (m.free (slot (i ∷ p))).1 (rg.0, rg.1, none)
           where
             rg : (1 ≤ slot (i ∷ p)) × (slot (i ∷ p) ≤ b)
-            rg = sp.range (i ∷ p) (let o = kid_open i r in (waits o.0, o.1))
+            rg = sp.range (i ∷ p) (let o = child_open i r in (waits o.0, o.1))
             none : (q : Address) → IsOpen N d.tree q → slot q ≡ slot (i ∷ p) → ⊥
             none q o x = go (place N p q)
               where
                 go : (q ≡ p) ⊎ (((i : ℕ) × (q ≡ i ∷ p)) ⊎ ((q ≢ p) × ((i : ℕ) → q ≢ i ∷ p))) → ⊥
                 go (inl e) =
                     let h = heir_exists N law l (omega arith) in
-                    let y = open_apart' (h.0 ∷ p) (i ∷ p) (kid_open h.0 (heir_within N law l h.0 h.1)) (kid_open i r) (heirs h.0 h.1 ∙ sym (ap slot e) ∙ x) in
+                    let y = open_apart' (h.0 ∷ p) (i ∷ p) (child_open h.0 (heir_within N law l h.0 h.1)) (child_open i r) (heirs h.0 h.1 ∙ sym (ap slot e) ∙ x) in
                     f (let z : h.0 ≡ i = cc in subst (λ k. heir_of N l ≡ Some k) z h.1)
-                go (inr (inl (j, e))) = let y = d.growth.no_kids j in let z = ap (label_at N d.tree) e in let v = o.1 in absurd cc
-                go (inr (inr (a, c))) = c i (open_apart' q (i ∷ p) (o.0, d.growth.others q a c ∙ o.1) (kid_open i r) x)
+                go (inr (inl (j, e))) = let y = d.growth.childless j in let z = ap (label_at N d.tree) e in let v = o.1 in absurd cc
+                go (inr (inr (a, c))) = c i (open_apart' q (i ∷ p) (o.0, d.growth.others q a c ∙ o.1) (child_open i r) x)
 
     pub matches_start : (slot : Address → ℕ) → slot [] ≡ 1 → 1 ≤ b → Matches N b (start N b top) (open_leaf top) slot
     matches_start slot e h = record {
@@ -224,4 +224,4 @@ module _ (N : Net) where
             let d = last_step b top acts' tree' order p slot s in
             let (r, m) = ih d.acts d.tree slot d.before in
             let (k, n) = step_back acts' tree' order p slot (end_of N (start N b top) d.acts) s d m in
-            subst (λ x. Runs N (start N b top) x × Matches N b (end_of N (start N b top) x) tree' slot) (sym d.is) (runs_push (start N b top) d.acts d.e r k, subst (λ x. Matches N b x tree' slot) (sym (end-push (start N b top) d.acts d.e)) n)
+            subst (λ x. Runs N (start N b top) x × Matches N b (end_of N (start N b top) x) tree' slot) (sym d.is) (runs_push (start N b top) d.acts d.act r k, subst (λ x. Matches N b x tree' slot) (sym (end-push (start N b top) d.acts d.act)) n)

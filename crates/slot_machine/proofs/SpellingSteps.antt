@@ -10,8 +10,8 @@ use Rattle.task_networks.specs.Spelling.{Act, run, apply, label_of, IsAct, other
 use Rattle.task_networks.proofs.Addresses.{is_same_address}
 use Rattle.task_networks.proofs.Lists.{Contains-here, Contains-later, cut_push_any}
 use Rattle.slot_machine.proofs.AtLabel.{heir_of}
-use Rattle.slot_machine.proofs.FrontSteps.{open_apart, taken_apart, address_grows, address_back, schedule_grows, kid_waits, used_back, used_grows, schedule_back}
-use Rattle.slot_machine.proofs.Growth.{IsGrowth, place, kids_of}
+use Rattle.slot_machine.proofs.FrontSteps.{open_apart, taken_apart, address_grows, address_back, schedule_grows, child_waits, used_back, used_grows, schedule_back}
+use Rattle.slot_machine.proofs.Growth.{IsGrowth, place, child_works}
 use Rattle.slot_machine.proofs.Matching.{parent_used}
 use Rattle.slot_machine.proofs.OtherChildren.{map_same}
 
@@ -84,7 +84,7 @@ module _ (N : Net) where
       where
         go : (q ≡ p) ⊎ (((i : ℕ) × (q ≡ i ∷ p)) ⊎ ((q ≢ p) × ((i : ℕ) → q ≢ i ∷ p))) → label_at N tree' q ≡ label_at N tree q
         go (inl f) = absurd (taken_apart N k w (let x = ap (label_at N tree) f in let y = g.was in cc) t)
-        go (inr (inl (i, f))) = let h = g.no_kids i in let x = ap (label_at N tree) f in absurd cc
+        go (inr (inl (i, f))) = let h = g.childless i in let x = ap (label_at N tree) f in absurd cc
         go (inr (inr (a, c))) = g.others q a c
 
     pub pending_grows : (taken : List Address) (u : Address) → IsPending N tree taken u → IsPending N tree' taken u
@@ -99,7 +99,7 @@ module _ (N : Net) where
 
     module _ (b : ℕ) (top : N.Work) (acts : List (Act N)) (order : List Address) (slot : Address → ℕ) where
       pub spells_push : (e : Act N) → Spells N b top acts tree order slot → IsGrown N tree' → work_of N tree' ≡ top → IsDue N tree' order p
-          → ((i : ℕ) → i < length (kids_of N l) → (1 ≤ slot (i ∷ p)) × (slot (i ∷ p) ≤ b))
+          → ((i : ℕ) → i < length (child_works N l) → (1 ≤ slot (i ∷ p)) × (slot (i ∷ p) ≤ b))
           → ((i : ℕ) → heir_of N l ≡ Some i → slot (i ∷ p) ≡ slot p)
           → ((u v : Address) → IsOpen N tree' u → IsOpen N tree' v → slot u ≡ slot v → u ≡ v)
           → IsAct N tree' slot p e → Spells N b top (acts ++ e ∷ []) tree' (order ++ p ∷ []) slot
@@ -116,10 +116,10 @@ module _ (N : Net) where
           sch = schedule_grows N tree tree' p w l g order s.front.schedule d
           range : (q : Address) → IsAddress N tree' q → IsAddress N tree q ⊎ ((i : ℕ) × (q ≡ i ∷ p)) → (1 ≤ slot q) × (slot q ≤ b)
           range q a (inl x) = s.range q x
-          range q a (inr (i, f)) = subst (λ z. (1 ≤ slot z) × (slot z ≤ b)) (sym f) (rg i (kid_in (subst (IsAddress N tree') f a)))
+          range q a (inr (i, f)) = subst (λ z. (1 ≤ slot z) × (slot z ≤ b)) (sym f) (rg i (child_is (subst (IsAddress N tree') f a)))
             where
-              kid_in : IsAddress N tree' (i ∷ p) → i < length (kids_of N l)
-              kid_in (k, x) = let h = kid_waits N tree tree' p w l g i k x in slice_get_within (kids_of N l) i h.0 h.2
+              child_is : IsAddress N tree' (i ∷ p) → i < length (child_works N l)
+              child_is (k, x) = let h = child_waits N tree tree' p w l g i k x in slice_get_within (child_works N l) i h.0 h.2
           heirs : (q : Address) (m : N.Method) (i : ℕ) → label_at N tree' q ≡ Some (used m) → N.heir m ≡ Some i → Dec (q ≡ p) → slot (i ∷ q) ≡ slot q
           heirs q m i x h (no n) = s.heirs q m i (used_back N tree tree' p w l g q m n x) h
           heirs q m i x h (yes f) = subst (λ z. slot (i ∷ z) ≡ slot z) (sym f) (hs i (subst (λ k. heir_of N k ≡ Some i) same h))

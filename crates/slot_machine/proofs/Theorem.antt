@@ -3,7 +3,7 @@ use Rattle.std.proofs.Common.{ℕ, ◌≡◌, ◌+◌, ◌<◌, ◌≤◌, ◌�
 use Rattle.std.proofs.lemmas.List.{length-map}
 use Rattle.task_networks.specs.Net.{Net}
 use Rattle.task_networks.specs.Lawful.{IsLawful}
-use Rattle.task_networks.specs.Tree.{Tree, Address, IsOpen, Label}
+use Rattle.task_networks.specs.Tree.{Tree, Address, IsOpen, waits, Label}
 use Rattle.task_networks.specs.Pending.{IsWithin, AreDifferent, IsPending}
 use Rattle.task_networks.specs.Executable.{AreLabels}
 use Rattle.task_networks.specs.Spelling.{run, Act, Spells, apply, numbers, AreActs, label_of}
@@ -12,7 +12,7 @@ use Rattle.task_networks.proofs.Lists.{Contains-later, Contains-here}
 use Rattle.task_networks.proofs.Nodes.{leaves_of}
 use Rattle.slot_machine.specs.Machine.{State, end_of, start, IsUnblocked, May}
 use Rattle.slot_machine.specs.Causes.{IsWaiting, IsNextAt, Can}
-use Rattle.slot_machine.specs.Laws.{RunsAreSpelledFronts, FrontIsTheOnlyOne, TestsTellCauses, StateTellsFront, FewPendingHaveSpellings, CausesAreSentences, LabelsAreOfActs}
+use Rattle.slot_machine.specs.Laws.{RunsAreSpelledFronts, FrontIsTheOnlyOne, TestsTellCauses, StateTellsFront, FewPendingHaveSpellings, CausesAreSentences, labels, LabelsAreOfActs}
 use Rattle.slot_machine.specs.Reached.{Tells}
 use Rattle.slot_machine.proofs.Closure.{chain_iff, only_siblings, waiting_iff}
 use Rattle.slot_machine.proofs.Growth.{leaves}

@@ -6,8 +6,8 @@ use Rattle.task_networks.specs.Lawful.{IsLawful}
 use Rattle.task_networks.specs.Tree.{Tree, Address, open_leaf, label_at, used, IsOpen, waits, IsAddress}
 use Rattle.task_networks.specs.Spelling.{Act, label_of, IsAct, run, apply, AreActs, Spells}
 use Rattle.task_networks.proofs.Lists.{push_same, by_push, last_cases}
-use Rattle.slot_machine.proofs.FrontSteps.{address_back, kid_waits}
-use Rattle.slot_machine.proofs.Growth.{kids_of}
+use Rattle.slot_machine.proofs.FrontSteps.{address_back, child_waits}
+use Rattle.slot_machine.proofs.Growth.{child_works}
 use Rattle.slot_machine.proofs.LabelTrees.{tree_of, work_at, leaf_only}
 use Rattle.slot_machine.proofs.OtherChildren.{index-map_numbers}
 use Rattle.slot_machine.proofs.Replaced.{put, put-put, put_back}
@@ -17,15 +17,15 @@ use Rattle.slot_machine.proofs.SpellingSteps.{open_slots_apart, act_label, slot_
 
 module _ (N : Net) (law : IsLawful N) (b : ℕ) (top : N.Work) where
   -- the grown tree is made from the one before
-  rebuilt : (acts' : List (Act N)) (tree' : Tree N) (order : List Address) (p : Address) (slot : Address → ℕ) (d : LastStep N b top acts' tree' order p slot) → put N d.tree p (tree_of N (label_of N d.e)) ≡ tree'
+  rebuilt : (acts' : List (Act N)) (tree' : Tree N) (order : List Address) (p : Address) (slot : Address → ℕ) (d : LastStep N b top acts' tree' order p slot) → put N d.tree p (tree_of N (label_of N d.act)) ≡ tree'
   rebuilt acts' tree' order p slot d =
-      let l = label_of N d.e in
+      let l = label_of N d.act in
       ap (λ x. put N x p (tree_of N l)) d.is_put ∙ put-put N tree' p (tree_of N l) (open_leaf (work_at N l)) (tree_of N l) d.is_at ∙ put_back N tree' p (tree_of N l) d.is_at
 
   -- the children's slots are those that the act names
-  act_kid : (tree : Tree N) (slot : Address → ℕ) (p : Address) (e : Act N) (i : ℕ) → ((m : N.Method) (k : ℕ) → label_at N tree p ≡ Some (used m) → N.heir m ≡ Some k → slot (k ∷ p) ≡ slot p) → IsAct N tree slot p e → i < length (kids_of N (label_of N e)) → slice_index (slots_of N e) i ≡ slot (i ∷ p)
-  act_kid tree slot p (run h w) i heirs x r = absurd (omega arith)
-  act_kid tree slot p (apply h new m) i heirs x r =
+  act_child : (tree : Tree N) (slot : Address → ℕ) (p : Address) (e : Act N) (i : ℕ) → ((m : N.Method) (k : ℕ) → label_at N tree p ≡ Some (used m) → N.heir m ≡ Some k → slot (k ∷ p) ≡ slot p) → IsAct N tree slot p e → i < length (child_works N (label_of N e)) → slice_index (slots_of N e) i ≡ slot (i ∷ p)
+  act_child tree slot p (run h w) i heirs x r = absurd (omega arith)
+  act_child tree slot p (apply h new m) i heirs x r =
       ap (λ z. slice_index z i) (act_slots N law tree slot p h new m (λ k. heirs m k x.0) x)
       ∙ index-map_numbers (λ k. slot (k ∷ p)) 0 (count N m) i r
       ∙ ap (λ z. slot (z ∷ p)) (let e : 0 + i ≡ i = omega arith in e)
@@ -45,39 +45,39 @@ module _ (N : Net) (law : IsLawful N) (b : ℕ) (top : N.Work) where
   grown_same : (acts : List (Act N)) (e : Act N) → U acts → (t : Tree N) (o : List Address) (p : Address) (f : Address → ℕ) (t' : Tree N) (o' : List Address) (p' : Address) (f' : Address → ℕ) → Spells N b top (acts ++ e ∷ []) t (o ++ p ∷ []) f → Spells N b top (acts ++ e ∷ []) t' (o' ++ p' ∷ []) f' → LastStep N b top (acts ++ e ∷ []) t o p f → LastStep N b top (acts ++ e ∷ []) t' o' p' f' → Same t (o ++ p ∷ []) f t' (o' ++ p' ∷ []) f'
   grown_same acts e ih t o p f t' o' p' f' whole whole' d d' = (trees, ap (λ x. o' ++ x ∷ []) ways ∙ ap (λ x. x ++ p ∷ []) h.1, agree)
     where
-      s : (acts ≡ d.acts) × (e ≡ d.e)
-      s = push_same acts d.acts e d.e d.is
-      s' : (acts ≡ d'.acts) × (e ≡ d'.e)
-      s' = push_same acts d'.acts e d'.e d'.is
+      s : (acts ≡ d.acts) × (e ≡ d.act)
+      s = push_same acts d.acts e d.act d.is
+      s' : (acts ≡ d'.acts) × (e ≡ d'.act)
+      s' = push_same acts d'.acts e d'.act d'.is
       sp : Spells N b top acts d.tree o f
       sp = subst (λ x. Spells N b top x d.tree o f) (sym s.0) d.before
       h : Same d.tree o f d'.tree o' f'
       h = ih d.tree o f d'.tree o' f' sp (subst (λ x. Spells N b top x d'.tree o' f') (sym s'.0) d'.before)
       at_p : IsOpen N d.tree p
-      at_p = (work_at N (label_of N d.e), d.growth.was)
+      at_p = (work_at N (label_of N d.act), d.growth.was)
       at_p' : IsOpen N d.tree p'
-      at_p' = (work_at N (label_of N d'.e), subst (λ x. label_at N x p' ≡ Some (waits (work_at N (label_of N d'.e)))) h.0 d'.growth.was)
+      at_p' = (work_at N (label_of N d'.act), subst (λ x. label_at N x p' ≡ Some (waits (work_at N (label_of N d'.act)))) h.0 d'.growth.was)
       ways : p' ≡ p
       ways = open_slots_apart N b top acts d.tree o f sp p' p at_p' at_p
-          (sym (h.2 p' (waits at_p'.0, at_p'.1)) ∙ sym (act_label N t' f' p' d'.e d'.entry).1 ∙ ap (slot_of N) (sym s'.1 ∙ s.1) ∙ (act_label N t f p d.e d.entry).1)
+          (sym (h.2 p' (waits at_p'.0, at_p'.1)) ∙ sym (act_label N t' f' p' d'.act d'.is_act).1 ∙ ap (slot_of N) (sym s'.1 ∙ s.1) ∙ (act_label N t f p d.act d.is_act).1)
       trees : t' ≡ t
       trees = sym (rebuilt (acts ++ e ∷ []) t' o' p' f' d')
           ∙ ap (λ x. put N d'.tree p' (tree_of N (label_of N x))) (sym s'.1 ∙ s.1)
-          ∙ ap (λ x. put N x p' (tree_of N (label_of N d.e))) h.0
-          ∙ ap (λ x. put N d.tree x (tree_of N (label_of N d.e))) ways
+          ∙ ap (λ x. put N x p' (tree_of N (label_of N d.act))) h.0
+          ∙ ap (λ x. put N d.tree x (tree_of N (label_of N d.act))) ways
           ∙ rebuilt (acts ++ e ∷ []) t o p f d
       agree : Agree N t f f'
-      agree q a = go (address_back N d.tree t p (work_at N (label_of N d.e)) (label_of N d.e) d.growth q a)
+      agree q a = go (address_back N d.tree t p (work_at N (label_of N d.act)) (label_of N d.act) d.growth q a)
         where
-          kid : (i : ℕ) → IsAddress N t (i ∷ p) → f' (i ∷ p) ≡ f (i ∷ p)
-          kid i (k, x) =
-              let y = kid_waits N d.tree t p (work_at N (label_of N d.e)) (label_of N d.e) d.growth i k x in
-              let r : i < length (kids_of N (label_of N d.e)) = slice_get_within (kids_of N (label_of N d.e)) i y.0 y.2 in
-              let r' : i < length (kids_of N (label_of N d'.e)) = subst (λ z. i < length (kids_of N (label_of N z))) (sym s.1 ∙ s'.1) r in
-              ap (λ z. f' (i ∷ z)) (sym ways) ∙ sym (act_kid t' f' p' d'.e i (whole'.heirs p') d'.entry r') ∙ ap (λ z. slice_index (slots_of N z) i) (sym s'.1 ∙ s.1) ∙ act_kid t f p d.e i (whole.heirs p) d.entry r
+          child : (i : ℕ) → IsAddress N t (i ∷ p) → f' (i ∷ p) ≡ f (i ∷ p)
+          child i (k, x) =
+              let y = child_waits N d.tree t p (work_at N (label_of N d.act)) (label_of N d.act) d.growth i k x in
+              let r : i < length (child_works N (label_of N d.act)) = slice_get_within (child_works N (label_of N d.act)) i y.0 y.2 in
+              let r' : i < length (child_works N (label_of N d'.act)) = subst (λ z. i < length (child_works N (label_of N z))) (sym s.1 ∙ s'.1) r in
+              ap (λ z. f' (i ∷ z)) (sym ways) ∙ sym (act_child t' f' p' d'.act i (whole'.heirs p') d'.is_act r') ∙ ap (λ z. slice_index (slots_of N z) i) (sym s'.1 ∙ s.1) ∙ act_child t f p d.act i (whole.heirs p) d.is_act r
           go : IsAddress N d.tree q ⊎ ((i : ℕ) × (q ≡ i ∷ p)) → f' q ≡ f q
           go (inl x) = h.2 q x
-          go (inr (i, x)) = subst (λ z. f' z ≡ f z) (sym x) (kid i (subst (IsAddress N t) x a))
+          go (inr (i, x)) = subst (λ z. f' z ≡ f z) (sym x) (child i (subst (IsAddress N t) x a))
 
   pub one_front : (acts : List (Act N)) → U acts
   one_front = by_push U none more
