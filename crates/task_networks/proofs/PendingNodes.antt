@@ -10,21 +10,21 @@ use Rattle.task_networks.proofs.Filters.{filter_to, to_filter, different-filter}
 use Rattle.task_networks.proofs.Lists.{Contains-later, not-in_empty, head_or_tail}
 use Rattle.task_networks.proofs.Nodes.{nodes, lists_address, different_nodes}
 
-both : (a b : Bool) → (a && b) ≡ true → (a ≡ true) × (b ≡ true)
+pub both : (a b : Bool) → (a && b) ≡ true → (a ≡ true) × (b ≡ true)
 both true b e = (refl, e)
 both false b e = absurd cc
 
-same_to : (p q : Address) → same_address p q ≡ true → p ≡ q
+pub same_to : (p q : Address) → same_address p q ≡ true → p ≡ q
 same_to [] [] e = refl
 same_to [] (j ∷ q) e = absurd cc
 same_to (i ∷ p) [] e = absurd cc
 same_to (i ∷ p) (j ∷ q) e = let h = both (i == j) (same_address p q) e in let f : i ≡ j = grind (arith, h.0) in let g = same_to p q h.1 in cc
 
-address_same_itself : (p : Address) → same_address p p ≡ true
+pub address_same_itself : (p : Address) → same_address p p ≡ true
 address_same_itself [] = refl
 address_same_itself (i ∷ p) = let e : (i == i) ≡ true = eq-eqb i i refl in ap (λ b. b && same_address p p) e ∙ address_same_itself p
 
-either : (a b : Bool) → (a || b) ≡ true → (a ≡ true) ⊎ (b ≡ true)
+pub either : (a b : Bool) → (a || b) ≡ true → (a ≡ true) ⊎ (b ≡ true)
 either true b e = inl refl
 either false b e = inr e
 
@@ -43,11 +43,11 @@ to_among (q ∷ ps) p c = elim (head_or_tail q ps p c) [
     second true b f = refl
     second false b f = f
 
-not_to : (b : Bool) → not b ≡ true → b ≡ true → ⊥
+pub not_to : (b : Bool) → not b ≡ true → b ≡ true → ⊥
 not_to true e f = cc
 not_to false e f = cc
 
-to_not : (b : Bool) → (b ≡ true → ⊥) → not b ≡ true
+pub to_not : (b : Bool) → (b ≡ true → ⊥) → not b ≡ true
 to_not true n = absurd (n refl)
 to_not false n = refl
 
