@@ -1,6 +1,6 @@
 -- The compiled value of a problem: checks, pairs, lines, heirs, copiers and guards of its methods.
 -- Source: this project's; what a precondition of a method means after Höller et al., "HDDL", AAAI 2020, "Methods".
-use Rattle.std.specs.Prelude.{ℕ, zero, suc, ◌+◌, ◌≡◌, ◌≢◌, ◌==◌, ◌&&◌, ◌-◌, ◌⊎◌, ◌↔◌, Bool, true, false, not, IsTrue, List, [], ◌∷◌, ◌++◌, map, filter, length, Option, Some, None, slice_get, Contains}
+use Rattle.std.specs.Prelude.{ℕ, suc, ◌+◌, ◌≡◌, ◌≢◌, ◌==◌, ◌&&◌, ◌-◌, ◌⊎◌, ◌↔◌, Bool, true, false, not, IsTrue, List, [], ◌∷◌, ◌++◌, map, filter, length, Option, Some, None, slice_get, Contains}
 use Rattle.std.specs.List.Sorted.{IsStrictlyIncreasing}
 use Rattle.plan_model.specs.declared.terms.Term.{Term}
 use Rattle.plan_model.specs.declared.terms.Term.TheVariants.{Var, Obj}
@@ -22,14 +22,7 @@ use Rattle.plan_model.specs.declared.values.Hddl.{Hddl}
 use Rattle.plan_model.specs.declared.values.Compiled.{Compiled}
 use Rattle.plan_meaning.specs.Objects.{InType, IsPartOf}
 use Rattle.task_networks.specs.Order.{IsLine, IsMaximal}
-
--- the numbers below n, and n numbers from i on
-abbrev pub upfrom : ℕ → ℕ → List ℕ
-upfrom i zero = []
-upfrom i (suc n) = i ∷ upfrom (suc i) n
-
-abbrev pub below : ℕ → List ℕ
-below n = upfrom 0 n
+use Rattle.task_networks.specs.Spelling.{numbers}
 
 -- a missing condition is read as the empty conjunction, and that one doesn't count
 abbrev pub Counts : Formula → Type 0
@@ -57,7 +50,7 @@ once same (x ∷ xs) = x ∷ filter (λ y. not (same x y)) (once same xs)
 
 -- the check of a method: its arguments are all parameters
 abbrev pub check_child : MethodSchema → Child
-check_child s = record { id = None; head = Check; args = map Var (below (length s.params)) }
+check_child s = record { id = None; head = Check; args = map Var (numbers 0 (length s.params)) }
 
 -- the check, if there is one, and then the subtasks in written order
 abbrev pub children : Bool → MethodSchema → List Child
@@ -66,7 +59,7 @@ children false s = s.children
 
 -- the check before each subtask, and then the written pairs, each pair once
 abbrev pub pairs : Bool → MethodSchema → List Pair
-pairs true s = once same_pair (map (λ k. pair 0 (suc k)) (below (length s.children)) ++ map (λ p. pair (suc p.first) (suc p.then)) s.pairs)
+pairs true s = once same_pair (map (λ k. pair 0 (suc k)) (numbers 0 (length s.children)) ++ map (λ p. pair (suc p.first) (suc p.then)) s.pairs)
 pairs false s = once same_pair s.pairs
 
 abbrev pub Pairs : List Pair → ℕ → ℕ → Type 0

@@ -6,3 +6,4 @@ pub mod Compilation
 pub mod Solution
 pub mod Strata
 pub mod Bound
+pub mod Laws
