@@ -8,4 +8,8 @@ pub mod Nodes
 pub mod PendingNodes
 pub mod ScheduleLaws
 pub mod Tests
+pub mod SpellingTests
+pub mod ExampleNets
 mod OrderExamples
+mod ScheduleExamples
+mod SpellingExamples
