@@ -8,7 +8,8 @@ use Rattle.task_networks.specs.Lawful.{IsLawful}
 use Rattle.task_networks.specs.Pending.{AreDifferent}
 use Rattle.task_networks.specs.Spelling.{numbers, is_heir, others}
 use Rattle.task_networks.proofs.Filters.{filter_to, to_filter, different-filter}
-use Rattle.task_networks.proofs.Lists.{not-in_empty, head_or_tail, Contains-later, Contains-here}
+use Rattle.task_networks.proofs.Lists.{Contains-later, not-in_empty, head_or_tail, Contains-here}
+use Rattle.task_networks.proofs.Numbers.{length-numbers, numbers_to, to_numbers, different-numbers}
 use Rattle.slot_machine.specs.Machine.{insert_at, with_heir}
 use Rattle.slot_machine.proofs.Inserts.{length-insert_at, insert_same}
 

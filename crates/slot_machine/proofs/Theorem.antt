@@ -10,6 +10,7 @@ use Rattle.task_networks.specs.Spelling.{run, Act, Spells, apply, numbers, AreAc
 use Rattle.task_networks.proofs.Different.{no_more}
 use Rattle.task_networks.proofs.Lists.{Contains-later, Contains-here}
 use Rattle.task_networks.proofs.Nodes.{leaves_of}
+use Rattle.task_networks.proofs.Numbers.{length-numbers, to_numbers}
 use Rattle.slot_machine.specs.Machine.{State, end_of, start, IsUnblocked, May}
 use Rattle.slot_machine.specs.Causes.{IsWaiting, IsNextAt, Can}
 use Rattle.slot_machine.specs.Laws.{RunsAreSpelledFronts, FrontIsTheOnlyOne, TestsTellCauses, StateTellsFront, FewPendingHaveSpellings, CausesAreSentences, labels, LabelsAreOfActs}
@@ -17,7 +18,7 @@ use Rattle.slot_machine.specs.Reached.{Tells}
 use Rattle.slot_machine.proofs.Closure.{chain_iff, only_siblings, waiting_iff}
 use Rattle.slot_machine.proofs.Growth.{leaves}
 use Rattle.slot_machine.proofs.Matching.{Matches}
-use Rattle.slot_machine.proofs.OtherChildren.{map_cases, length-numbers, to_numbers}
+use Rattle.slot_machine.proofs.OtherChildren.{map_cases}
 use Rattle.slot_machine.proofs.RunSpellings.{runs_iff_spells}
 use Rattle.slot_machine.proofs.SpellingExists.{spelling_exists}
 use Rattle.slot_machine.proofs.SpellingRuns.{runs_from_spells}
