@@ -1,5 +1,5 @@
 -- Four machines that are wrong, each with a run that spells nothing or a spelled schedule that doesn't run.
-use Rattle.std.proofs.Common.{ℕ, zero, suc, ◌≡◌, ◌<◌, ◌≤◌, ◌⊎◌, inl, inr, List, [], ◌∷◌, length, slice_get, Option, Some, None, refl, ap, sym, subst, Contains, arith}
+use Rattle.std.proofs.Common.{ℕ, zero, suc, ◌≡◌, ◌<◌, ◌≤◌, ◌⊎◌, inl, inr, List, [], ◌∷◌, length, slice_get, Some, refl, sym, subst, Contains, arith}
 use Rattle.task_networks.specs.Net.{Net, count}
 use Rattle.task_networks.specs.Lawful.{IsLawful}
 use Rattle.task_networks.specs.Tree.{Tree, split, more, done, none, Address}
@@ -71,8 +71,9 @@ module _ where
 
   early_runs : RunsOf chain no_copied_pairs first early_acts
   early_runs = (
-      record { holds = (refl, refl); ground = tt; unblocked = λ x b. b; enough = refl; free = λ x c. (let e = only 2 x c in (omega arith, omega arith)); apart = (not-in_empty 2, tt) },
-      (record {
+    record { holds = (refl, refl); ground = tt; unblocked = λ x b. b; enough = refl; free = λ x c. (let e = only 2 x c in (omega arith, omega arith)); apart = (not-in_empty 2, tt) },
+    (
+      record {
         holds = inr (0, refl, refl);
         ground = tt;
         unblocked = λ x b. (let e = (one_pair x 2 b).1 in omega arith);
@@ -80,12 +81,19 @@ module _ where
         free = λ x c. inl (subst (λ z. (1 < z) × (z ≤ 3)) (only 3 x c) (omega arith, omega arith), λ i f. free_three i (subst (IsSlotOf chain 1 (2 ∷ []) of_t i) (sym (only 3 x c)) f));
         apart = (not-in_empty 3, tt);
       },
-        (record { holds = inr (1, refl, refl); simple = tt; unblocked = λ x b. (let e = (same_pair x 2 b).1 in omega arith) },
-          (record {
+      (
+        record { holds = inr (1, refl, refl); simple = tt; unblocked = λ x b. (let e = (same_pair x 2 b).1 in omega arith) },
+        (
+          record {
             holds = (inl (inr (1, refl, refl), λ e. (let f = e.0 in omega arith)), λ e. (let f = e.0 in omega arith));
             simple = tt;
             unblocked = λ x b. b.1 (same_pair x 1 b.0).0;
-          }, tt))))
+          },
+          tt,
+        ),
+      ),
+    ),
+  )
 
   -- the right machine refuses y, which p in slot 3 stands before
   early_spells_nothing : SpellsFront chain 3 chain_t early_acts → ⊥
@@ -153,13 +161,13 @@ module _ where
 
   three_lawful : IsLawful three
   three_lawful = record {
-      pairs = λ m i j h. absurd h;
-      acyclic = λ m i c. no_chain {Pair = λ i j. ⊥} (λ i j k h g. h) i i c;
-      has_heir = λ m l. (2, refl);
-      heir_is_child = λ m i e. (let f : 2 ≡ i = cc in omega arith);
-      copier_is_child = λ m i l. omega arith;
-      covered = λ m i l. inl (covered i l);
-    }
+    pairs = λ m i j h. absurd h;
+    acyclic = λ m i c. no_chain {Pair = λ i j. ⊥} (λ i j k h g. h) i i c;
+    has_heir = λ m l. (2, refl);
+    heir_is_child = λ m i e. (let f : 2 ≡ i = cc in omega arith);
+    copier_is_child = λ m i l. omega arith;
+    covered = λ m i l. inl (covered i l);
+  }
     where
       covered : (i : ℕ) → i < 3 → (Some 2 ≡ Some i) ⊎ (i < 2)
       covered zero l = inr (omega arith)
@@ -205,11 +213,14 @@ module _ where
   moved_acts = apply 1 (2 ∷ 3 ∷ []) again ∷ run 2 tail_a ∷ []
 
   moved_runs : RunsOf tail heir_moves (start tail 3 tail_t) moved_acts
-  moved_runs = (((refl, refl), λ x b. b, refl, free, (λ c. (let e = only 3 2 c in omega arith), (not-in_empty 3, tt))),
-      (record { holds = inr (0, refl, refl); simple = tt; unblocked = unblocked }, tt))
+  moved_runs = (
+    ((refl, refl), λ x b. b, refl, free, (λ c. (let e = only 3 2 c in omega arith), (not-in_empty 3, tt))),
+    (record { holds = inr (0, refl, refl); simple = tt; unblocked = unblocked }, tt),
+  )
     where
       free : (x : ℕ) → Contains {X = ℕ} (2 ∷ 3 ∷ []) x → (1 < x) × (x ≤ 3)
       free x c = elim (head_or_tail 2 (3 ∷ []) x c) [ inl e ↦ (omega arith, omega arith) | inr d ↦ (let e = only 3 x d in (omega arith, omega arith)) ]
+
       unblocked : (x : ℕ) → (step_moved (start tail 3 tail_t) (apply 1 (2 ∷ 3 ∷ []) again)).before x 2 → ⊥
       unblocked x (inl b) = b.0
       unblocked x (inr (zero, zero, p, e, f)) = p

@@ -1,5 +1,5 @@
 -- Runs of the machine, worked out.
-use Rattle.std.proofs.Common.{ℕ, zero, suc, ◌≡◌, ◌<◌, ◌≤◌, ◌⊎◌, ◌↔◌, inl, inr, List, [], ◌∷◌, Option, Some, None, Bool, false, true, refl, ap, sym, subst, Contains, arith}
+use Rattle.std.proofs.Common.{ℕ, zero, suc, ◌≡◌, ◌<◌, ◌⊎◌, inl, inr, List, [], ◌∷◌, Some, Bool, false, true, refl, sym, subst, arith}
 use Rattle.task_networks.specs.Order.{direct, Precedes}
 use Rattle.task_networks.specs.Net.{Net, count}
 use Rattle.task_networks.specs.Lawful.{IsLawful}
@@ -61,13 +61,13 @@ module _ where
 
   weave_lawful : IsLawful weave
   weave_lawful = record {
-      pairs = λ m i j h. absurd h;
-      acyclic = λ m i c. no_chain {Pair = Unordered} (λ i j k h g. h) i i c;
-      has_heir = λ m l. (1, refl);
-      heir_is_child = λ m i e. (let n = two_children m in let f : 1 ≡ i = cc in omega arith);
-      copier_is_child = λ m i e. (let n = two_children m in omega arith);
-      covered = λ m i l. inl (covered i (let n = two_children m in omega arith));
-    }
+    pairs = λ m i j h. absurd h;
+    acyclic = λ m i c. no_chain {Pair = Unordered} (λ i j k h g. h) i i c;
+    has_heir = λ m l. (1, refl);
+    heir_is_child = λ m i e. (let n = two_children m in let f : 1 ≡ i = cc in omega arith);
+    copier_is_child = λ m i e. (let n = two_children m in omega arith);
+    covered = λ m i l. inl (covered i (let n = two_children m in omega arith));
+  }
     where
       covered : (i : ℕ) → i < 2 → (Some 1 ≡ Some i) ⊎ (i ≡ 0)
       covered zero l = inr refl

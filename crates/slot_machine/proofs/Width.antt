@@ -1,5 +1,5 @@
 -- Never more is pending of a task than its number.
-use Rattle.std.proofs.Common.{ℕ, zero, suc, ◌≡◌, ◌≢◌, ◌+◌, ◌<◌, ◌≤◌, ◌⊎◌, ◌↔◌, inl, inr, List, [], ◌∷◌, ◌++◌, length, slice_get, filter, Bool, true, false, cond, nat_lt, ◌==◌, Option, Some, None, option_map, refl, ap, sym, subst, ◌∙◌, Contains, arith, append_assoc, length-append, add-le-add}
+use Rattle.std.proofs.Common.{ℕ, zero, suc, ◌≡◌, ◌≢◌, ◌+◌, ◌<◌, ◌≤◌, ◌⊎◌, inl, inr, List, [], ◌∷◌, ◌++◌, length, slice_get, filter, Bool, true, false, cond, Some, option_map, refl, ap, sym, subst, ◌∙◌, Contains, arith, append_assoc, length-append, add-le-add}
 use Rattle.std.proofs.lemmas.List.Elements.{Contains-append_left, filter-append}
 use Rattle.task_networks.specs.Net.{Net, count}
 use Rattle.task_networks.specs.Tree.{at, Tree, Address, IsAddress, open_leaf, done, split, Trees, none, more, IsBelow, waits, label, ran, child_at, used, work_of, works_of, IsGrown, AreGrown}
@@ -105,9 +105,9 @@ module _ (N : Net) (block : N.Method → ℕ → ℕ) (number : N.Work → ℕ) 
       some_child : (p : Address) (i : ℕ) (ts : Trees N) → ((j : ℕ) → at N tree ((i + j) ∷ p) ≡ child_at N ts j) → 0 < pending_below_all p i ts → (u : Address) × IsBelow p u × IsAddress N tree u × (Contains taken u → ⊥)
       some_child p i none a l = absurd (omega arith)
       some_child p i (more t ts) a l = elim (by_size 0 (pending_below (i ∷ p) t)) [
-          inl x ↦ (let h = some_left (i ∷ p) t (subst (λ z. at N tree (z ∷ p) ≡ Some t) (let y : i + 0 ≡ i = omega arith in y) (a 0)) x in (h.0, below_up i p h.0 h.1, h.2, h.3))
+        | inl x ↦ (let h = some_left (i ∷ p) t (subst (λ z. at N tree (z ∷ p) ≡ Some t) (let y : i + 0 ≡ i = omega arith in y) (a 0)) x in (h.0, below_up i p h.0 h.1, h.2, h.3))
         | inr x ↦ some_child p (suc i) ts (λ j. subst (λ z. at N tree (z ∷ p) ≡ child_at N ts j) (let y : i + suc j ≡ suc i + j = omega arith in y) (a (suc j))) (elim x [ inl e ↦ omega arith | inr e ↦ absurd (omega arith) ])
-        ]
+      ]
 
     -- the least_block block with something pending
     abbrev IsLeastBlock : N.Method → Address → ℕ → Trees N → Type 0
@@ -119,10 +119,13 @@ module _ (N : Net) (block : N.Method → ℕ → ℕ) (number : N.Work → ℕ) 
       where
         first : (j : ℕ) → i + suc j ≡ suc i + j
         first j = omega arith
+
         none_yet : i + 0 ≡ i
         none_yet = omega arith
+
         later : (j : ℕ) → IsLeastBlock m p (suc i) ts → IsLeastBlock m p (suc i) ts
         later j h = h
+
         go : (0 < pending_below (i ∷ p) t) ⊎ ((0 ≡ pending_below (i ∷ p) t) ⊎ (pending_below (i ∷ p) t < 0)) → (pending_below_all p (suc i) ts ≡ 0) ⊎ IsLeastBlock m p (suc i) ts → (pending_below (i ∷ p) t + pending_below_all p (suc i) ts ≡ 0) ⊎ IsLeastBlock m p i (more t ts)
         go (inr (inr x)) h = absurd (omega arith)
         go (inr (inl x)) (inl z) = inl (omega arith)
@@ -137,6 +140,7 @@ module _ (N : Net) (block : N.Method → ℕ → ℕ) (number : N.Work → ℕ) 
             sum_zero i' none e k s c = absurd cc
             sum_zero i' (more u us) e zero s c = let y : u ≡ s = cc in subst (λ z. pending_below (z ∷ p) s ≡ 0) (let q : i' ≡ i' + 0 = omega arith in q) (subst (λ z. pending_below (i' ∷ p) z ≡ 0) y (omega arith))
             sum_zero i' (more u us) e (suc k) s c = subst (λ z. pending_below (z ∷ p) s ≡ 0) (let q : suc i' + k ≡ i' + suc k = omega arith in q) (sum_zero (suc i') us (omega arith) k s c)
+
             others : (k : ℕ) (s : Tree N) → child_at N (more t ts) k ≡ Some s → 0 < pending_below ((i + k) ∷ p) s → block m (i + 0) ≤ block m (i + k)
             others zero s e q = omega arith
             others (suc k) s e q = absurd (let y = sum_zero (suc i) ts z k s e in let w = subst (λ z. 0 < pending_below (z ∷ p) s) (first k) q in omega arith)
@@ -152,6 +156,7 @@ module _ (N : Net) (block : N.Method → ℕ → ℕ) (number : N.Work → ℕ) 
               where
                 small : block m i ≤ block m (suc i + j)
                 small = elim y [ inl e ↦ omega arith | inr e ↦ omega arith ]
+
                 others : (k : ℕ) (s : Tree N) → child_at N (more t ts) k ≡ Some s → 0 < pending_below ((i + k) ∷ p) s → block m (i + 0) ≤ block m (i + k)
                 others zero s e q = omega arith
                 others (suc k) s e q = subst (λ z. block m z ≤ block m (i + suc k)) (sym none_yet) (subst (λ z. block m i ≤ block m z) (sym (first k)) (let r = f k s e (subst (λ z. 0 < pending_below (z ∷ p) s) (first k) q) in omega (arith, small)))
@@ -190,10 +195,13 @@ module _ (N : Net) (block : N.Method → ℕ → ℕ) (number : N.Work → ℕ) 
               where
                 zero-plus : (j : ℕ) → 0 + j ≡ j
                 zero-plus j = omega arith
+
                 is_child_at : (j : ℕ) (t : Tree N) → child_at N ts j ≡ Some t → at N tree (j ∷ p) ≡ Some t
                 is_child_at j t e = child_below N tree j p m ts a ∙ e
+
                 within : (j : ℕ) (t : Tree N) → child_at N ts j ≡ Some t → j < count N m
                 within j t e = subst (λ z. j < length z) g.1 (child_in ts j t e)
+
                 go : (pending_below_all p 0 ts ≡ 0) ⊎ IsLeastBlock m p 0 ts → pending_below_all p 0 ts ≤ number (N.head m)
                 go (inl z) = let b = law.positive (N.head m) in omega arith
                 go (inr (j, t, c, l, f)) =
@@ -204,11 +212,13 @@ module _ (N : Net) (block : N.Method → ℕ → ℕ) (number : N.Work → ℕ) 
                   where
                     left : (u : Address) × IsBelow (j ∷ p) u × IsAddress N tree u × (Contains taken u → ⊥)
                     left = some_left (j ∷ p) t (is_child_at j t c) (subst (λ z. 0 < pending_below (z ∷ p) t) (zero-plus j) l)
+
                     weigh : (k : ℕ) (s : Tree N) → child_at N ts k ≡ Some s → pending_below ((0 + k) ∷ p) s ≤ weight (block m j) (block m (0 + k)) (number (work_of N s))
                     weigh k s e = subst (λ z. pending_below (z ∷ p) s ≤ weight (block m j) (block m z) (number (work_of N s))) (sym (zero-plus k)) (pick (by_size (block m k) (block m j)))
                       where
                         fk : 0 < pending_below (k ∷ p) s → block m j ≤ block m k
                         fk q = subst (λ z. block m z ≤ block m k) (zero-plus j) (subst (λ z. block m (0 + j) ≤ block m z) (zero-plus k) (f k s e (subst (λ z. 0 < pending_below (z ∷ p) s) (sym (zero-plus k)) q)))
+
                         pick : (block m k < block m j) ⊎ ((block m k ≡ block m j) ⊎ (block m j < block m k)) → pending_below (k ∷ p) s ≤ weight (block m j) (block m k) (number (work_of N s))
                         pick (inl x) = elim (by_size 0 (pending_below (k ∷ p) s)) [ inl q ↦ absurd (let r = fk q in omega arith) | inr q ↦ elim q [ inl r ↦ omega arith | inr r ↦ absurd (omega arith) ] ]
                         pick (inr (inl x)) = let r = at_block (block m j) (block m k) (number (work_of N s)) x in let y = subst (λ z. pending_below (z ∷ p) s ≤ number (work_of N s)) (zero-plus k) (ih k s e) in omega arith
@@ -279,6 +289,7 @@ module _ (N : Net) (block : N.Method → ℕ → ℕ) (number : N.Work → ℕ) 
     where
       at_cut : (v : Address) → Contains taken v → (xs : List Address) × (ys : List Address) × (taken ≡ xs ++ v ∷ ys) × IsDue N tree xs v
       at_cut v c = let (xs, ys, f) = cut_at taken v c in (xs, ys, f, s.due xs (ys ++ rest) v (e ∙ ap (λ z. z ++ rest) f ∙ append_assoc xs (v ∷ ys) rest))
+
       Contains-whole : {u v : Address} → (h : (xs : List Address) × (ys : List Address) × (taken ≡ xs ++ v ∷ ys) × IsDue N tree xs v) → Contains h.0 u → Contains taken u
       Contains-whole {u} {v} h c = subst (λ z. Contains z u) (sym h.2) (Contains-append_left h.0 (v ∷ h.1) u c)
 

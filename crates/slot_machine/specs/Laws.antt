@@ -1,5 +1,5 @@
 -- What is proved of the machine of slots, for every lawful network, number of slots and top work.
-use Rattle.std.specs.Prelude.{ℕ, ◌≡◌, ◌≤◌, ◌↔◌, List, [], ◌∷◌, ◌++◌, map}
+use Rattle.std.specs.Prelude.{ℕ, ◌≡◌, ◌≤◌, ◌↔◌, List, map}
 use Rattle.task_networks.specs.Net.{Net}
 use Rattle.task_networks.specs.Tree.{Tree, Label, Address, work_of, IsGrown}
 use Rattle.task_networks.specs.Schedule.{IsSchedule}

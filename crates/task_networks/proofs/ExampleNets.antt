@@ -1,5 +1,5 @@
 -- Three small networks for the worked examples.
-use Rattle.std.proofs.Common.{ℕ, zero, suc, ◌≡◌, ◌<◌, ◌≤◌, ◌⊎◌, ◌↔◌, inl, inr, List, [], ◌∷◌, length, Option, Some, None, Bool, true, false, refl, ap, sym, subst, arith}
+use Rattle.std.proofs.Common.{ℕ, zero, suc, ◌≡◌, ◌<◌, ◌⊎◌, ◌↔◌, inl, inr, List, [], ◌∷◌, Option, Some, None, Bool, true, false, refl, arith}
 use Rattle.task_networks.specs.Order.{Precedes, direct, through, ArePairsOf, IsAcyclic}
 use Rattle.task_networks.specs.Net.{Net, count}
 use Rattle.task_networks.specs.Lawful.{IsLawful, TakesOver}
@@ -33,6 +33,7 @@ first_then_second_iff i j = (λ e. direct (to i j e), λ c. from i j (no_chain n
     to zero (suc zero) e = tt
     to zero (suc (suc j)) e = absurd cc
     to (suc i) j e = absurd cc
+
     from : (i j : ℕ) → FirstThenSecond i j → first_then_second i j ≡ true
     from zero zero h = absurd h
     from zero (suc zero) h = refl
@@ -90,13 +91,13 @@ module _ where
 
   pub fork_lawful : IsLawful fork
   fork_lawful = record {
-      pairs = λ m i j h. absurd h;
-      acyclic = λ m i c. no_chain {Pair = Nowhere} (λ i j k h g. h) i i c;
-      has_heir = λ m l. (1, refl);
-      heir_is_child = λ m i e. (let f : 1 ≡ i = cc in omega arith);
-      copier_is_child = λ m i e. omega arith;
-      covered = λ m i l. inl (covered i l);
-    }
+    pairs = λ m i j h. absurd h;
+    acyclic = λ m i c. no_chain {Pair = Nowhere} (λ i j k h g. h) i i c;
+    has_heir = λ m l. (1, refl);
+    heir_is_child = λ m i e. (let f : 1 ≡ i = cc in omega arith);
+    copier_is_child = λ m i e. omega arith;
+    covered = λ m i l. inl (covered i l);
+  }
     where
       covered : (i : ℕ) → i < 2 → (Some 1 ≡ Some i) ⊎ (i ≡ 0)
       covered zero l = inr refl
@@ -161,29 +162,33 @@ module _ where
       within : (m : ChainMethod) → ArePairsOf (ChainPair m) (count chain m)
       within of_t = of_two
       within of_x = λ i j h. absurd h
+
       order : (m : ChainMethod) (i j : ℕ) → (chain_precedes m i j ≡ true) ↔ Precedes (ChainPair m) i j
       order of_t = first_then_second_iff
       order of_x = no_order
 
   pub chain_lawful : IsLawful chain
   chain_lawful = record {
-      pairs = chain_decides.within;
-      acyclic = acyclic;
-      has_heir = λ m l. (1, refl);
-      heir_is_child = heir;
-      copier_is_child = copier;
-      covered = covered;
-    }
+    pairs = chain_decides.within;
+    acyclic = acyclic;
+    has_heir = λ m l. (1, refl);
+    heir_is_child = heir;
+    copier_is_child = copier;
+    covered = covered;
+  }
     where
       acyclic : (m : ChainMethod) → IsAcyclic (ChainPair m)
       acyclic of_t = two_acyclic
       acyclic of_x = λ i c. no_chain {Pair = Nowhere} (λ i j k h g. h) i i c
+
       heir : (m : ChainMethod) (i : ℕ) → Some 1 ≡ Some i → i < count chain m
       heir of_t i e = let f : 1 ≡ i = cc in omega arith
       heir of_x i e = let f : 1 ≡ i = cc in omega arith
+
       copier : (m : ChainMethod) (i : ℕ) → IsChainCopier m i → i < count chain m
       copier of_t i h = absurd h
       copier of_x i h = omega arith
+
       covered : (m : ChainMethod) (i : ℕ) → i < count chain m → TakesOver chain m i ⊎ ((c : ℕ) × Precedes (ChainPair m) i c × TakesOver chain m c)
       covered of_t zero l = inr (1, direct tt, inl refl)
       covered of_t (suc zero) l = inl (inl refl)
@@ -241,29 +246,33 @@ module _ where
       within : (m : TailMethod) → ArePairsOf (TailPair m) (count tail m)
       within again = of_two
       within stop = λ i j h. absurd h
+
       order : (m : TailMethod) (i j : ℕ) → (tail_precedes m i j ≡ true) ↔ Precedes (TailPair m) i j
       order again = first_then_second_iff
       order stop = no_order
 
   pub tail_lawful : IsLawful tail
   tail_lawful = record {
-      pairs = tail_decides.within;
-      acyclic = acyclic;
-      has_heir = has_heir;
-      heir_is_child = heir;
-      copier_is_child = λ m i h. absurd h;
-      covered = covered;
-    }
+    pairs = tail_decides.within;
+    acyclic = acyclic;
+    has_heir = has_heir;
+    heir_is_child = heir;
+    copier_is_child = λ m i h. absurd h;
+    covered = covered;
+  }
     where
       acyclic : (m : TailMethod) → IsAcyclic (TailPair m)
       acyclic again = two_acyclic
       acyclic stop = λ i c. no_chain {Pair = Nowhere} (λ i j k h g. h) i i c
+
       has_heir : (m : TailMethod) → 0 < count tail m → (i : ℕ) × (tail_heir m ≡ Some i)
       has_heir again l = (1, refl)
       has_heir stop l = absurd (omega arith)
+
       heir : (m : TailMethod) (i : ℕ) → tail_heir m ≡ Some i → i < count tail m
       heir again i e = let f : 1 ≡ i = cc in omega arith
       heir stop i e = absurd cc
+
       covered : (m : TailMethod) (i : ℕ) → i < count tail m → TakesOver tail m i ⊎ ((c : ℕ) × Precedes (TailPair m) i c × TakesOver tail m c)
       covered again zero l = inr (1, direct tt, inl refl)
       covered again (suc zero) l = inl (inl refl)

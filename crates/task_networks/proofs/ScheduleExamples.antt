@@ -1,5 +1,5 @@
 -- Trees, schedules and what is pending, worked out.
-use Rattle.std.proofs.Common.{ℕ, zero, suc, ◌≡◌, ◌≤◌, inl, inr, List, [], ◌∷◌, ◌++◌, length, Some, None, true, false, refl, ap, sym, subst, ◌∙◌, Contains, arith}
+use Rattle.std.proofs.Common.{◌≡◌, inl, inr, [], ◌∷◌, length, Some, None, refl, ap, arith}
 use Rattle.task_networks.specs.Order.{direct, Precedes}
 use Rattle.task_networks.specs.Tree.{Tree, split, more, done, none, IsGrown, label_at, ran, used, open_leaf}
 use Rattle.task_networks.specs.Schedule.{IsSchedule, Blocks}

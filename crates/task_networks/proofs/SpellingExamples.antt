@@ -1,6 +1,5 @@
 -- Spellings, executions and bounds, worked out.
-use Rattle.std.proofs.Common.{ℕ, zero, suc, ◌≡◌, ◌≢◌, ◌+◌, ◌<◌, ◌≤◌, ◌⊎◌, inl, inr, List, [], ◌∷◌, ◌++◌, length, Some, None, true, false, refl, ap, sym, subst, ◌∙◌, Contains, arith}
-use Rattle.std.specs.Prelude.{nat_lt, ◌==◌, cond}
+use Rattle.std.proofs.Common.{ℕ, zero, suc, ◌≡◌, ◌≢◌, ◌+◌, ◌<◌, ◌≤◌, ◌⊎◌, inl, inr, List, [], ◌∷◌, refl, sym, subst, arith}
 use Rattle.task_networks.specs.Order.{Precedes, direct}
 use Rattle.task_networks.specs.Net.{count}
 use Rattle.task_networks.specs.Tree.{Tree, split, more, done, none, Address, ran, used, Label}
@@ -39,13 +38,14 @@ module _ where
   -- one slot isn't enough, since a and t are pending together
   not_in_one : (acts : List (Act tail)) (slot : Address → ℕ) → Spells tail 1 tail_t acts tail_tree tail_order slot → ⊥
   not_in_one acts slot s = apart (0 ∷ []) refl (s.apart ([] ∷ []) ((0 ∷ []) ∷ (1 ∷ []) ∷ []) refl (0 ∷ []) (1 ∷ [])
-        ((pending_iff tail tail_tree ([] ∷ []) (0 ∷ [])).0 (0, omega arith, refl)) ((pending_iff tail tail_tree ([] ∷ []) (1 ∷ [])).0 (1, omega arith, refl)) same)
+      ((pending_iff tail tail_tree ([] ∷ []) (0 ∷ [])).0 (0, omega arith, refl)) ((pending_iff tail tail_tree ([] ∷ []) (1 ∷ [])).0 (1, omega arith, refl)) same)
     where
       same : slot (0 ∷ []) ≡ slot (1 ∷ [])
       same =
           let a = s.range (0 ∷ []) (ran tail_a, refl) in
           let t = s.range (1 ∷ []) (used stop, refl) in
           let x = a.0 in let y = a.1 in let z = t.0 in let w = t.1 in omega arith
+
       apart : (p : Address) → 0 ∷ [] ≡ p → p ≡ 1 ∷ [] → ⊥
       apart p e f = absurd cc
 
@@ -107,12 +107,14 @@ module _ where
       positive : (w : TailWork) → 1 ≤ tail_number w
       positive tail_t = omega arith
       positive tail_a = omega arith
+
       ordered : (m : TailMethod) (i j : ℕ) → i < count tail m → j < count tail m → i < j → Precedes (TailPair m) i j
       ordered again zero zero a b l = absurd (omega arith)
       ordered again zero (suc zero) a b l = direct tt
       ordered again zero (suc (suc j)) a b l = absurd (omega arith)
       ordered again (suc i) j a b l = absurd (omega arith)
       ordered stop i j a b l = absurd (omega arith)
+
       enough : (m : TailMethod) (k : ℕ) → Unit {0} → IsLeftOut tail tail_block tail_number m k ⊎ (block_number tail tail_block tail_number m k ≤ 2)
       enough again zero g = inr (omega arith)
       enough again (suc zero) g = inl (record { child = 1; work = tail_t; is = refl; in_block = refl; alone = alone; small = omega arith })
@@ -123,6 +125,7 @@ module _ where
         where
           before : (k b x : ℕ) → b < k → weight k b x ≡ 0
           before k b x l = grind arith
+
           nothing_left : weight (suc (suc k)) 0 1 + (weight (suc (suc k)) 1 2 + 0) ≡ 0
           nothing_left = let a = before (suc (suc k)) 0 1 (omega arith) in let b = before (suc (suc k)) 1 2 (omega arith) in omega arith
       enough stop k g = inr (omega arith)

@@ -1,5 +1,5 @@
 -- Spellings and widths tested by computation.
-use Rattle.std.proofs.Common.{ℕ, zero, suc, ◌≡◌, ◌≢◌, ◌<◌, ◌≤◌, ◌⊎◌, ◌↔◌, inl, inr, List, [], ◌∷◌, ◌++◌, length, Bool, true, false, not, ◌&&◌, ◌||◌, ◌==◌, Option, Some, None, refl, ap, sym, subst, ◌∙◌, Contains, arith, append_assoc, append-nil, eq-eqb}
+use Rattle.std.proofs.Common.{ℕ, ◌≡◌, ◌≤◌, ◌⊎◌, inl, inr, List, [], ◌∷◌, ◌++◌, length, Bool, true, not, ◌&&◌, ◌==◌, Option, Some, None, ap, sym, subst, ◌∙◌, Contains, arith, append_assoc, append-nil, eq-eqb}
 use Rattle.std.specs.Prelude.{nat_le}
 use Rattle.std.specs.List.{list_any, list_all}
 use Rattle.task_networks.specs.Net.{Net}
@@ -31,6 +31,7 @@ apart_to slot (x ∷ nodes) e u v c d f =
   where
     other : (w : Address) → not (list_any (λ v. slot x == slot v) nodes) ≡ true → Contains nodes w → slot x ≡ slot w → ⊥
     other w n k g = not_to (list_any (λ v. slot x == slot v) nodes) n (to_any (λ v. slot x == slot v) nodes w k (eq-eqb (slot x) (slot w) g))
+
     go : not (list_any (λ v. slot x == slot v) nodes) ≡ true → (Contains nodes u → Contains nodes v → slot u ≡ slot v → u ≡ v) → (x ≡ u) ⊎ Contains nodes u → (x ≡ v) ⊎ Contains nodes v → u ≡ v
     go n ih (inl a) (inl b) = sym a ∙ b
     go n ih (inl a) (inr k) = absurd (other v n k (ap slot a ∙ f))
@@ -84,8 +85,10 @@ module _ (N : Net) where
     where
       nodes : List Address
       nodes = nodes_at N [] tree
+
       keeps : Address → Bool
       keeps p = keeps_slot slot p (label_at N tree p)
+
       keeps_heir : (p : Address) (m : N.Method) (i : ℕ) → label_at N tree p ≡ Some (used m) → N.heir m ≡ Some i → keeps_slot slot p (label_at N tree p) ≡ true → slot (i ∷ p) ≡ slot p
       keeps_heir p m i f h k =
           let a : keeps_slot slot p (Some (used m)) ≡ true = subst (λ z. keeps_slot slot p z ≡ true) f k in
