@@ -2,29 +2,15 @@
 use Rattle.std.proofs.Common.{ℕ, zero, suc, ◌≡◌, ◌≢◌, ◌+◌, ◌<◌, ◌≤◌, ◌⊎◌, inl, inr, List, [], ◌∷◌, ◌++◌, length, slice_get, filter, Bool, true, false, cond, Some, option_map, refl, ap, sym, subst, ◌∙◌, Contains, arith, append_assoc, length-append, add-le-add}
 use Rattle.std.proofs.lemmas.List.Elements.{Contains-append_left, filter-append}
 use Rattle.task_networks.specs.Net.{Net, count}
-use Rattle.task_networks.specs.Tree.{at, Tree, Address, IsAddress, open_leaf, done, split, Trees, none, more, IsBelow, waits, label, ran, child_at, used, work_of, works_of, IsGrown, AreGrown}
+use Rattle.task_networks.specs.Tree.{Tree, Address, IsAddress, open_leaf, done, split, Trees, none, more, at, IsBelow, waits, label, ran, child_at, used, work_of, works_of, IsGrown, AreGrown}
 use Rattle.task_networks.specs.Schedule.{Blocks, IsSchedule, IsDue}
 use Rattle.task_networks.specs.Pending.{is_among, is_pending, nodes_at, nodes_from, IsWithin}
-use Rattle.task_networks.specs.Bound.{weight, weights, IsLeftOut, block_number, IsBound}
+use Rattle.task_networks.specs.Bound.{weight, weights, IsBound, block_number}
 use Rattle.task_networks.proofs.Addresses.{below-itself, below_up}
+use Rattle.task_networks.proofs.BoundLaws.{by_size, enough_for_all, at_block, after_block}
 use Rattle.task_networks.proofs.Lists.{Contains-later, cut_at}
 use Rattle.task_networks.proofs.Nodes.{child_below, below_children}
 use Rattle.task_networks.proofs.PendingNodes.{to_among, among_to, pending_to, within_iff}
-
-by_size : (a b : ℕ) → (a < b) ⊎ ((a ≡ b) ⊎ (b < a))
-by_size a b = grind arith
-
-at_block : (k b x : ℕ) → b ≡ k → weight k b x ≡ x
-at_block k b x e = grind arith
-
-before_block : (k b x : ℕ) → b < k → weight k b x ≡ 0
-before_block k b x l = grind arith
-
-small : (k b x : ℕ) → 1 ≤ x → weight k b x ≤ x
-small k b x l = grind arith
-
-after_block : (k b x : ℕ) → k < b → weight k b x ≡ 1
-after_block k b x l = grind arith
 
 -- a front's taken nodes
 pub record IsClosed (N : Net) (tree : Tree N) (taken : List Address) : Type 0 where
@@ -32,37 +18,6 @@ pub record IsClosed (N : Net) (tree : Tree N) (taken : List Address) : Type 0 wh
   pub clear : (u v : Address) → Contains taken v → IsAddress N tree u → Blocks N tree u v → Contains taken u
 
 module _ (N : Net) (block : N.Method → ℕ → ℕ) (number : N.Work → ℕ) where
-  all_before : (m : N.Method) (k i : ℕ) (ws : List N.Work) → ((j : ℕ) → j < length ws → block m (i + j) < k) → weights N block number m k i ws ≡ 0
-  all_before m k i [] f = refl
-  all_before m k i (w ∷ ws) f =
-      let z = before_block k (block m i) (number w) (subst (λ x. block m x < k) (let y : i + 0 ≡ i = omega arith in y) (f 0 (omega arith))) in
-      let r = all_before m k (suc i) ws (λ j l. subst (λ x. block m x < k) (let y : i + suc j ≡ suc i + j = omega arith in y) (f (suc j) (omega arith))) in
-      omega arith
-
-  -- a block that is left out counts its child alone
-  alone : (m : N.Method) (k i child : ℕ) (work : N.Work) (ws : List N.Work) → slice_get ws child ≡ Some work → ((j : ℕ) → j < length ws → j ≢ child → block m (i + j) < k) → weights N block number m k i ws ≤ weight k (block m (i + child)) (number work)
-  alone m k i child work [] e f = absurd cc
-  alone m k i zero work (w ∷ ws) e f =
-      let z = all_before m k (suc i) ws (λ j l. subst (λ x. block m x < k) (let y : i + suc j ≡ suc i + j = omega arith in y) (f (suc j) (omega arith) (omega arith))) in
-      let g : w ≡ work = cc in
-      let h : i ≡ i + 0 = omega arith in
-      let p = ap (λ x. weight k (block m i) (number x)) g in
-      let q = ap (λ x. weight k (block m x) (number work)) h in
-      omega arith
-  alone m k i (suc child) work (w ∷ ws) e f =
-      let r = alone m k (suc i) child work ws e (λ j l n. subst (λ x. block m x < k) (let y : i + suc j ≡ suc i + j = omega arith in y) (f (suc j) (omega arith) (omega arith))) in
-      let z = before_block k (block m i) (number w) (subst (λ x. block m x < k) (let y : i + 0 ≡ i = omega arith in y) (f 0 (omega arith) (omega arith))) in
-      let q = ap (λ x. weight k (block m x) (number work)) (let y : suc i + child ≡ i + suc child = omega arith in y) in
-      omega arith
-
-  enough : ((w : N.Work) → 1 ≤ number w) → (m : N.Method) (k : ℕ) → IsLeftOut N block number m k ⊎ (block_number N block number m k ≤ number (N.head m)) → block_number N block number m k ≤ number (N.head m)
-  enough law_positive m k (inr h) = h
-  enough law_positive m k (inl o) =
-      let a = alone m k 0 o.child o.work (N.works m) o.is (λ j l n. subst (λ x. block m x < k) (let y : j ≡ 0 + j = omega arith in y) (o.alone j l n)) in
-      let b = small k (block m (0 + o.child)) (number o.work) (law_positive o.work) in
-      let c = o.small in
-      omega arith
-
   module _ (tree : Tree N) (taken : List Address) where
     -- how many are pending at p or below
     abbrev mutual
@@ -206,7 +161,7 @@ module _ (N : Net) (block : N.Method → ℕ → ℕ) (number : N.Work → ℕ) 
                 go (inl z) = let b = law.positive (N.head m) in omega arith
                 go (inr (j, t, c, l, f)) =
                     let s = sums m (block m j) p 0 ts weigh in
-                    let e : block_number N block number m (block m j) ≤ number (N.head m) = enough law.positive m (block m j) (law.enough m (block m j) g.0) in
+                    let e : block_number N block number m (block m j) ≤ number (N.head m) = enough_for_all N block number law m j g.0 (within j t c) in
                     let q = ap (λ z. weights N block number m (block m j) 0 z) g.1 in
                     omega arith
                   where

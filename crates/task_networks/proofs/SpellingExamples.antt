@@ -1,13 +1,10 @@
--- Spellings, executions and bounds, worked out.
-use Rattle.std.proofs.Common.{ℕ, zero, suc, ◌≡◌, ◌≢◌, ◌+◌, ◌<◌, ◌≤◌, ◌⊎◌, inl, inr, List, [], ◌∷◌, refl, sym, subst, arith}
-use Rattle.task_networks.specs.Order.{Precedes, direct}
-use Rattle.task_networks.specs.Net.{count}
+-- Spellings and executions, worked out.
+use Rattle.std.proofs.Common.{ℕ, zero, suc, ◌≡◌, ◌≢◌, ◌+◌, ◌-◌, ◌<◌, ◌≤◌, ◌⊎◌, inl, inr, List, [], ◌∷◌, refl, sym, subst, arith}
 use Rattle.task_networks.specs.Tree.{Tree, split, more, done, none, Address, ran, used, Label}
 use Rattle.task_networks.specs.Front.{IsFront}
 use Rattle.task_networks.specs.Executable.{IsExecutable, AreLabels, AreAllowed}
 use Rattle.task_networks.specs.Spelling.{Act, apply, run, Spells}
-use Rattle.task_networks.specs.Bound.{block_number, IsBound, IsLeftOut, weight}
-use Rattle.task_networks.proofs.ExampleNets.{tail_t, tail, again, tail_a, stop, tail_precedes, tail_decides, fork, fork_b, fork_a, TailMethod, TailWork, TailPair}
+use Rattle.task_networks.proofs.ExampleNets.{tail, tail_t, again, tail_a, stop, tail_precedes, tail_decides, fork, fork_b, fork_a}
 use Rattle.task_networks.proofs.PendingNodes.{pending_iff}
 use Rattle.task_networks.proofs.SpellingTests.{spells_by}
 use Rattle.task_networks.proofs.Tests.{schedule_iff}
@@ -88,54 +85,3 @@ module _ where
           let f : used tt ≡ l = (let g = h.0 in cc) in
           let d : ran fork_b ≡ k = (let g = h.1.0 in cc) in
           subst (λ z. Needs nothing z) (sym d) (subst (λ z. Needs (made nothing z) k) (sym f) a.1.0)
-
--- the bound of t in t -> a < t is 2: the last block, with t alone, is left out
-module _ where
-  abbrev tail_block : TailMethod → ℕ → ℕ
-  tail_block m i = i
-
-  abbrev tail_number : TailWork → ℕ
-  tail_number tail_t = 2
-  tail_number tail_a = 1
-
-  first_block : block_number tail tail_block tail_number again 0 ≡ 2
-  first_block = refl
-
-  tail_bound : IsBound tail tail_block tail_number
-  tail_bound = record { positive = positive; ordered = ordered; enough = enough }
-    where
-      positive : (w : TailWork) → 1 ≤ tail_number w
-      positive tail_t = omega arith
-      positive tail_a = omega arith
-
-      ordered : (m : TailMethod) (i j : ℕ) → i < count tail m → j < count tail m → i < j → Precedes (TailPair m) i j
-      ordered again zero zero a b l = absurd (omega arith)
-      ordered again zero (suc zero) a b l = direct tt
-      ordered again zero (suc (suc j)) a b l = absurd (omega arith)
-      ordered again (suc i) j a b l = absurd (omega arith)
-      ordered stop i j a b l = absurd (omega arith)
-
-      enough : (m : TailMethod) (k : ℕ) → Unit {0} → IsLeftOut tail tail_block tail_number m k ⊎ (block_number tail tail_block tail_number m k ≤ 2)
-      enough again zero g = inr (omega arith)
-      enough again (suc zero) g = inl (record { child = 1; work = tail_t; is = refl; in_block = refl; alone = alone; small = omega arith })
-        where
-          alone : (i : ℕ) → i < 2 → i ≢ 1 → i < 1
-          alone i l n = omega arith
-      enough again (suc (suc k)) g = inr (subst (λ x. x ≤ 2) (sym nothing_left) (omega arith))
-        where
-          before : (k b x : ℕ) → b < k → weight k b x ≡ 0
-          before k b x l = grind arith
-
-          nothing_left : weight (suc (suc k)) 0 1 + (weight (suc (suc k)) 1 2 + 0) ≡ 0
-          nothing_left = let a = before (suc (suc k)) 0 1 (omega arith) in let b = before (suc (suc k)) 1 2 (omega arith) in omega arith
-      enough stop k g = inr (omega arith)
-
-  abbrev too_small : TailWork → ℕ
-  too_small w = 1
-
-  not_one : IsBound tail tail_block too_small → ⊥
-  not_one h = go (h.enough again 0 tt)
-    where
-      go : IsLeftOut tail tail_block too_small again 0 ⊎ (2 ≤ 1) → ⊥
-      go (inr l) = omega arith
-      go (inl o) = let c = o.in_block in let a = o.alone 1 (omega arith) (omega arith) in omega arith

@@ -8,6 +8,8 @@ use Rattle.task_networks.specs.Tree.{Tree, used, Address, IsBelow, label_at, IsA
 use Rattle.task_networks.specs.Schedule.{IsSchedule}
 use Rattle.task_networks.specs.Pending.{IsPending, IsWithin, pending}
 use Rattle.task_networks.specs.Front.{IsFinished}
+use Rattle.task_networks.specs.Bound.{AreBlocks, IsBound, IsTheBound}
+use Rattle.task_networks.specs.Strata.{IsLawfulRanking, IsTailRecursive}
 
 module _ (N : Net) where
   -- a method has one line at most
@@ -40,3 +42,13 @@ module _ (N : Net) where
   -- and its length says whether more than b are pending
   abbrev pub WidthIsComputed : Type 0
   WidthIsComputed = (b : ℕ) (tree : Tree N) (order : List Address) → IsWithin N b tree order ↔ ((taken rest : List Address) → order ≡ taken ++ rest → length (pending N tree taken) ≤ b)
+
+  -- where the blocks are the lines cut at every cut, the bound is large enough
+  abbrev pub TheBoundIsLargeEnough : Type 0
+  TheBoundIsLargeEnough = (block : N.Method → ℕ → ℕ) (number group : N.Work → ℕ)
+      → ((m : N.Method) → (line : List ℕ) × IsLine (N.Pair m) (count N m) line × AreBlocks (N.Pair m) line (block m))
+      → IsTheBound N block number group → IsBound N block number
+
+-- a problem with a lawful ranking is tail-recursive
+abbrev pub RankedIsTailRecursive : {Task Edge : Type 0} → (source target : Edge → Task) → (Edge → Type 0) → List Edge → Type 0
+RankedIsTailRecursive {Task = Task} source target IsBad edges = (rank : Task → ℕ) → IsLawfulRanking source target IsBad edges rank → IsTailRecursive source target IsBad edges

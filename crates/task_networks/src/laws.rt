@@ -2,9 +2,9 @@
 //!
 //! `of` is any value that the picked network is made of.
 
-ghost use Rattle.task_networks.specs.Laws.{LineIsTheOnlyOne, PreparedIsLawful, RootStandsFirst, NothingIsPendingAtTheEnd, EarlierSubtreesStandBefore, PendingIsComputed, WidthIsComputed};
+ghost use Rattle.task_networks.specs.Laws.{LineIsTheOnlyOne, PreparedIsLawful, RootStandsFirst, NothingIsPendingAtTheEnd, EarlierSubtreesStandBefore, PendingIsComputed, WidthIsComputed, TheBoundIsLargeEnough, RankedIsTailRecursive};
 
-use crate::network::Network;
+use crate::network::{Edges, Network};
 
 /// A method has one line at most.
 pub fn line_is_the_only_one<N: Network, T>(of: &T)
@@ -36,3 +36,15 @@ pub fn pending_is_computed<N: Network, T>(of: &T)
     ensures nodes { PendingIsComputed N.net }
     ensures width { WidthIsComputed N.net }
 {}
+
+/// The bound of each task is at least what each block counts, so it bounds the width.
+pub fn the_bound_is_large_enough<N: Network, T>(of: &T)
+    ensures { TheBoundIsLargeEnough N.net }
+{
+}
+
+/// A problem with a lawful ranking has no bad cycle.
+pub fn ranked_is_tail_recursive<E: Edges, T>(of: &T)
+    ensures { RankedIsTailRecursive E.source E.target E.bad E.edges }
+{
+}

@@ -1,0 +1,91 @@
+-- The bound is large enough, and rankings rule out bad cycles.
+use Rattle.std.proofs.Common.{ℕ, zero, suc, ◌≡◌, ◌≢◌, ◌+◌, ◌<◌, ◌≤◌, ◌⊎◌, ◌↔◌, inl, inr, List, [], ◌∷◌, ◌++◌, length, Some, slice_get, refl, ap, sym, subst, ◌∙◌, Contains, arith}
+use Rattle.task_networks.specs.Order.{Precedes}
+use Rattle.task_networks.specs.Net.{Net, count}
+use Rattle.task_networks.specs.Bound.{weight, weights, IsAloneAtTheEnd, block_number, IsBound}
+use Rattle.task_networks.specs.Laws.{TheBoundIsLargeEnough, RankedIsTailRecursive}
+use Rattle.task_networks.specs.Strata.{IsLawfulRanking, IsWalk}
+use Rattle.task_networks.proofs.Tests.{blocks}
+
+pub by_size : (a b : ℕ) → (a < b) ⊎ ((a ≡ b) ⊎ (b < a))
+by_size a b = grind arith
+
+pub before_block : (k b x : ℕ) → b < k → weight k b x ≡ 0
+before_block k b x l = grind arith
+
+pub at_block : (k b x : ℕ) → b ≡ k → weight k b x ≡ x
+at_block k b x e = grind arith
+
+pub after_block : (k b x : ℕ) → k < b → weight k b x ≡ 1
+after_block k b x l = grind arith
+
+at_most : (k b x : ℕ) → 1 ≤ x → weight k b x ≤ x
+at_most k b x l = grind arith
+
+module _ (N : Net) (block : N.Method → ℕ → ℕ) (number : N.Work → ℕ) where
+  all_before : (m : N.Method) (k i : ℕ) (ws : List N.Work) → ((j : ℕ) → j < length ws → block m (i + j) < k) → weights N block number m k i ws ≡ 0
+  all_before m k i [] f = refl
+  all_before m k i (w ∷ ws) f =
+      let z = before_block k (block m i) (number w) (subst (λ x. block m x < k) (let y : i + 0 ≡ i = omega arith in y) (f 0 (omega arith))) in
+      let r = all_before m k (suc i) ws (λ j l. subst (λ x. block m x < k) (let y : i + suc j ≡ suc i + j = omega arith in y) (f (suc j) (omega arith))) in
+      omega arith
+
+  -- where all others are in earlier blocks, one child counts
+  one_counts : (m : N.Method) (k i child : ℕ) (work : N.Work) (ws : List N.Work) → slice_get ws child ≡ Some work → ((j : ℕ) → j < length ws → j ≢ child → block m (i + j) < k) → weights N block number m k i ws ≤ weight k (block m (i + child)) (number work)
+  one_counts m k i child work [] e f = absurd cc
+  one_counts m k i zero work (w ∷ ws) e f =
+      let z = all_before m k (suc i) ws (λ j l. subst (λ x. block m x < k) (let y : i + suc j ≡ suc i + j = omega arith in y) (f (suc j) (omega arith) (omega arith))) in
+      let g : w ≡ work = cc in
+      let h : i ≡ i + 0 = omega arith in
+      let p = ap (λ x. weight k (block m i) (number x)) g in
+      let q = ap (λ x. weight k (block m x) (number work)) h in
+      omega arith
+  one_counts m k i (suc child) work (w ∷ ws) e f =
+      let r = one_counts m k (suc i) child work ws e (λ j l n. subst (λ x. block m x < k) (let y : i + suc j ≡ suc i + j = omega arith in y) (f (suc j) (omega arith) (omega arith))) in
+      let z = before_block k (block m i) (number w) (subst (λ x. block m x < k) (let y : i + 0 ≡ i = omega arith in y) (f 0 (omega arith) (omega arith))) in
+      let q = ap (λ x. weight k (block m x) (number work)) (let y : suc i + child ≡ i + suc child = omega arith in y) in
+      omega arith
+
+  alone_counts : (m : N.Method) (k : ℕ) (w : N.Work) → ((v : N.Work) → 1 ≤ number v) → IsAloneAtTheEnd N block number m k w → block_number N block number m k ≤ number w
+  alone_counts m k w positive o =
+      let a = one_counts m k 0 o.child w (N.works m) o.is (λ j l n. subst (λ x. block m x < k) (let y : j ≡ 0 + j = omega arith in y) (o.earlier j l n)) in
+      let b = at_most k (block m (0 + o.child)) (number w) (positive w) in
+      omega arith
+
+  -- so each block's number is at most the task's
+  pub enough_for_all : IsBound N block number → (m : N.Method) (i : ℕ) → N.IsGround m → i < count N m → block_number N block number m (block m i) ≤ number (N.head m)
+  enough_for_all bound m i g l = go (by_size (number (N.head m)) (block_number N block number m (block m i)))
+    where
+      go : (number (N.head m) < block_number N block number m (block m i)) ⊎ ((number (N.head m) ≡ block_number N block number m (block m i)) ⊎ (block_number N block number m (block m i) < number (N.head m))) → block_number N block number m (block m i) ≤ number (N.head m)
+      go (inl x) = bound.enough m i g l (λ w o s. (let a = alone_counts m (block m i) w bound.positive o in omega arith))
+      go (inr (inl x)) = omega arith
+      go (inr (inr x)) = omega arith
+
+pub the_bound_is_large_enough : (N : Net) → TheBoundIsLargeEnough N
+the_bound_is_large_enough N block number group blocks bound = record { positive = bound.positive; ordered = ordered; enough = enough }
+  where
+    ordered : (m : N.Method) (i j : ℕ) → i < count N m → j < count N m → block m i < block m j → Precedes (N.Pair m) i j
+    ordered m i j a b l =
+        let (line, is_line, cuts) = blocks m in
+        let (k, cut, before, after) = (cuts i j (is_line.whole i a) (is_line.whole j b)).0 l in
+        cut i j before after
+    same_group : (w v : N.Work) → group w ≡ group v → number w ≤ number v
+    same_group w v e = elim (bound.reached w) [
+        inl x ↦ (let p = bound.positive v in omega arith)
+      | inr (m, i, g, c, x) ↦ (let h = bound.above v m i (sym e ∙ g) c in omega arith)
+      ]
+    enough : (m : N.Method) (i : ℕ) → N.IsGround m → i < count N m → ((w : N.Work) → IsAloneAtTheEnd N block number m (block m i) w → number w ≤ number (N.head m) → ⊥) → block_number N block number m (block m i) ≤ number (N.head m)
+    enough m i g l f = bound.above (N.head m) m i refl (l, λ w o e. f w o (same_group w (N.head m) e))
+
+module _ {Task Edge : Type 0} (source target : Edge → Task) (IsBad : Edge → Type 0) (edges : List Edge) where
+  not_up : (rank : Task → ℕ) → IsLawfulRanking source target IsBad edges rank → (x y : Task) (walk : List Edge) → IsWalk source target IsBad edges x walk y → rank y ≤ rank x
+  not_up rank lawful x y [] e = let h = ap rank e in omega arith
+  not_up rank lawful x y (d ∷ walk) (e, c, w) =
+      let h = not_up rank lawful (target d) y walk w in
+      let f = ap rank e in
+      elim (lawful d c) [ inl l ↦ omega arith | inr l ↦ (let g = l.1 in omega arith) ]
+
+  pub ranked_is_tail_recursive : RankedIsTailRecursive source target IsBad edges
+  ranked_is_tail_recursive rank lawful e walk (c, bad, w) =
+      let h = not_up rank lawful (target e) (source e) walk w in
+      elim (lawful e c) [ inl l ↦ omega arith | inr l ↦ l.0 bad ]
