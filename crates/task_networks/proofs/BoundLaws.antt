@@ -1,9 +1,11 @@
 -- The bound is large enough, and rankings rule out bad cycles.
-use Rattle.std.proofs.Common.{ℕ, zero, suc, ◌≡◌, ◌≢◌, ◌+◌, ◌<◌, ◌≤◌, ◌⊎◌, ◌↔◌, inl, inr, List, [], ◌∷◌, ◌++◌, length, Some, slice_get, refl, ap, sym, subst, ◌∙◌, Contains, arith}
-use Rattle.task_networks.specs.Order.{Precedes}
+use Rattle.std.proofs.Common.{ℕ, zero, suc, ◌≡◌, ◌≢◌, ◌+◌, ◌<◌, ◌≤◌, ◌⊎◌, ◌↔◌, inl, inr, List, [], ◌∷◌, ◌++◌, length, Some, slice_get, map, refl, ap, sym, subst, ◌∙◌, Contains, arith}
+use Rattle.std.proofs.lemmas.List.{length-map}
+use Rattle.task_networks.specs.Order.{Precedes, direct, through}
 use Rattle.task_networks.specs.Net.{Net, count}
 use Rattle.task_networks.specs.Bound.{weight, weights, IsAloneAtTheEnd, block_number, IsBound}
-use Rattle.task_networks.specs.Laws.{TheBoundIsLargeEnough, RankedIsTailRecursive}
+use Rattle.task_networks.specs.Laws.{TheBoundIsLargeEnough, LiftedBoundIsBound, RankedIsTailRecursive}
+use Rattle.task_networks.specs.Lifted.{IsLifted}
 use Rattle.task_networks.specs.Strata.{IsLawfulRanking, IsWalk}
 use Rattle.task_networks.proofs.Tests.{blocks}
 
@@ -76,6 +78,32 @@ the_bound_is_large_enough N block number group blocks bound = record { positive 
       ]
     enough : (m : N.Method) (i : ℕ) → N.IsGround m → i < count N m → ((w : N.Work) → IsAloneAtTheEnd N block number m (block m i) w → number w ≤ number (N.head m) → ⊥) → block_number N block number m (block m i) ≤ number (N.head m)
     enough m i g l f = bound.above (N.head m) m i refl (l, λ w o e. f w o (same_group w (N.head m) e))
+
+module _ (N L : Net) (work : N.Work → L.Work) (method : N.Method → L.Method) (lifts : IsLifted N L work method) (block : L.Method → ℕ → ℕ) (number : L.Work → ℕ) where
+  same_weights : (m : N.Method) (k i : ℕ) (ws : List N.Work) → weights N (λ m. block (method m)) (λ w. number (work w)) m k i ws ≡ weights L block number (method m) k i (map work ws)
+  same_weights m k i [] = refl
+  same_weights m k i (w ∷ ws) = ap (λ x. weight k (block (method m) i) (number (work w)) + x) (same_weights m k (suc i) ws)
+
+  precedes_ground : (m : N.Method) (i j : ℕ) → Precedes (L.Pair (method m)) i j → Precedes (N.Pair m) i j
+  precedes_ground m i j (direct h) = direct (lifts.pairs m i j h)
+  precedes_ground m i k (through {j = j} c h) = through (precedes_ground m i j c) (lifts.pairs m j k h)
+
+  same_count : (m : N.Method) → count N m ≡ count L (method m)
+  same_count m = sym (length-map (N.works m) work) ∙ ap length (lifts.works m)
+
+  pub lifted_bound : IsBound L block number → IsBound N (λ m. block (method m)) (λ w. number (work w))
+  lifted_bound bound = record {
+      positive = λ w. bound.positive (work w);
+      ordered = λ m i j a b l. precedes_ground m i j (bound.ordered (method m) i j (subst (λ n. i < n) (same_count m) a) (subst (λ n. j < n) (same_count m) b) l);
+      enough = λ m i g l f. (
+          let h = enough_for_all L block number bound (method m) i (lifts.ground m g) (subst (λ n. i < n) (same_count m) l) in
+          let e = same_weights m (block (method m) i) 0 (N.works m) ∙ ap (weights L block number (method m) (block (method m) i) 0) (lifts.works m) in
+          let d = ap number (lifts.head m) in
+          omega arith);
+    }
+
+pub lifted_bound_is_bound : (N L : Net) (work : N.Work → L.Work) (method : N.Method → L.Method) → LiftedBoundIsBound N L work method
+lifted_bound_is_bound N L work method lifts block number bound = lifted_bound N L work method lifts block number bound
 
 module _ {Task Edge : Type 0} (source target : Edge → Task) (IsBad : Edge → Type 0) (edges : List Edge) where
   not_up : (rank : Task → ℕ) → IsLawfulRanking source target IsBad edges rank → (x y : Task) (walk : List Edge) → IsWalk source target IsBad edges x walk y → rank y ≤ rank x

@@ -9,6 +9,7 @@ use Rattle.task_networks.specs.Schedule.{IsSchedule}
 use Rattle.task_networks.specs.Pending.{IsPending, IsWithin, pending}
 use Rattle.task_networks.specs.Front.{IsFinished}
 use Rattle.task_networks.specs.Bound.{AreBlocks, IsBound, IsTheBound}
+use Rattle.task_networks.specs.Lifted.{IsLifted}
 use Rattle.task_networks.specs.Strata.{IsLawfulRanking, IsTailRecursive}
 
 module _ (N : Net) where
@@ -48,6 +49,10 @@ module _ (N : Net) where
   TheBoundIsLargeEnough = (block : N.Method → ℕ → ℕ) (number group : N.Work → ℕ)
       → ((m : N.Method) → (line : List ℕ) × IsLine (N.Pair m) (count N m) line × AreBlocks (N.Pair m) line (block m))
       → IsTheBound N block number group → IsBound N block number
+
+-- numbers of schemas that are large enough are so for the ground works
+abbrev pub LiftedBoundIsBound : (N L : Net) → (N.Work → L.Work) → (N.Method → L.Method) → Type 0
+LiftedBoundIsBound N L work method = IsLifted N L work method → (block : L.Method → ℕ → ℕ) (number : L.Work → ℕ) → IsBound L block number → IsBound N (λ m. block (method m)) (λ w. number (work w))
 
 -- a problem with a lawful ranking is tail-recursive
 abbrev pub RankedIsTailRecursive : {Task Edge : Type 0} → (source target : Edge → Task) → (Edge → Type 0) → List Edge → Type 0

@@ -2,9 +2,9 @@
 //!
 //! `of` is any value that the picked network is made of.
 
-ghost use Rattle.task_networks.specs.Laws.{LineIsTheOnlyOne, PreparedIsLawful, RootStandsFirst, NothingIsPendingAtTheEnd, EarlierSubtreesStandBefore, PendingIsComputed, WidthIsComputed, TheBoundIsLargeEnough, RankedIsTailRecursive};
+ghost use Rattle.task_networks.specs.Laws.{LineIsTheOnlyOne, PreparedIsLawful, RootStandsFirst, NothingIsPendingAtTheEnd, EarlierSubtreesStandBefore, PendingIsComputed, WidthIsComputed, TheBoundIsLargeEnough, LiftedBoundIsBound, RankedIsTailRecursive};
 
-use crate::network::{Edges, Network};
+use crate::network::{Edges, Lifting, Network};
 
 /// A method has one line at most.
 pub fn line_is_the_only_one<N: Network, T>(of: &T)
@@ -40,6 +40,12 @@ pub fn pending_is_computed<N: Network, T>(of: &T)
 /// The bound of each task is at least what each block counts, so it bounds the width.
 pub fn the_bound_is_large_enough<N: Network, T>(of: &T)
     ensures { TheBoundIsLargeEnough N.net }
+{
+}
+
+/// Numbers of schemas that are large enough are so for the ground works.
+pub fn lifted_bound_is_bound<L: Lifting, T>(of: &T)
+    ensures { LiftedBoundIsBound L.net L.lifted L.work L.method }
 {
 }
 

@@ -15,6 +15,27 @@ impl Network for Brand {
     ghost net = { one_action };
 }
 
+/// A ground network and the network of its schemas.
+pub trait Lifting {
+    ghost net: { Net };
+
+    ghost lifted: { Net };
+
+    ghost work: { net.Work → lifted.Work };
+
+    ghost method: { net.Method → lifted.Method };
+}
+
+impl Lifting for Brand {
+    ghost net = { one_action };
+
+    ghost lifted = { one_action };
+
+    ghost work = { λ w. w };
+
+    ghost method = { λ m. m };
+}
+
 /// The edges between tasks, in their order: where each begins and ends, and which are bad.
 pub trait Edges {
     ghost task: { Type 0 };
