@@ -1,16 +1,18 @@
 -- Never more is pending of a task than its number.
-use Rattle.std.proofs.Common.{ℕ, zero, suc, ◌≡◌, ◌≢◌, ◌+◌, ◌<◌, ◌≤◌, ◌⊎◌, inl, inr, List, [], ◌∷◌, ◌++◌, length, slice_get, filter, Bool, true, false, cond, Some, option_map, refl, ap, sym, subst, ◌∙◌, Contains, arith, append_assoc, length-append, add-le-add}
+use Rattle.std.proofs.Common.{ℕ, zero, suc, ◌≡◌, ◌+◌, ◌<◌, ◌≤◌, ◌⊎◌, inl, inr, List, [], ◌∷◌, ◌++◌, length, slice_get, filter, Bool, true, false, cond, Some, option_map, refl, ap, sym, subst, ◌∙◌, Contains, arith, append_assoc, length-append, add-le-add}
 use Rattle.std.proofs.lemmas.List.Elements.{Contains-append_left, filter-append}
 use Rattle.task_networks.specs.Net.{Net, count}
 use Rattle.task_networks.specs.Tree.{Tree, Address, IsAddress, open_leaf, done, split, Trees, none, more, at, IsBelow, waits, label, ran, child_at, used, work_of, works_of, IsGrown, AreGrown}
 use Rattle.task_networks.specs.Schedule.{Blocks, IsSchedule, IsDue}
 use Rattle.task_networks.specs.Pending.{is_among, is_pending, nodes_at, nodes_from, IsWithin}
-use Rattle.task_networks.specs.Bound.{weight, weights, IsBound, block_number}
+use Rattle.task_networks.specs.Front.{IsFront}
+use Rattle.task_networks.specs.Bound.{itself, weight, weights, IsBound, IsReached, block_number, as_child}
 use Rattle.task_networks.proofs.Addresses.{below-itself, below_up}
 use Rattle.task_networks.proofs.BoundLaws.{by_size, enough_for_all, at_block, after_block}
 use Rattle.task_networks.proofs.Lists.{Contains-later, cut_at}
-use Rattle.task_networks.proofs.Nodes.{child_below, below_children}
+use Rattle.task_networks.proofs.Nodes.{parent, child_below, below_children}
 use Rattle.task_networks.proofs.PendingNodes.{to_among, among_to, pending_to, within_iff}
+use Rattle.slot_machine.proofs.Replaced.{grown_at}
 
 -- a front's taken nodes
 pub record IsClosed (N : Net) (tree : Tree N) (taken : List Address) : Type 0 where
@@ -124,7 +126,7 @@ module _ (N : Net) (block : N.Method → ℕ → ℕ) (number : N.Work → ℕ) 
         let r = sums m k p (suc i) ts (λ j s e. subst (λ z. pending_below (z ∷ p) s ≤ weight k (block m z) (number (work_of N s))) (let q : i + suc j ≡ suc i + j = omega arith in q) (f (suc j) s e)) in
         add-le-add a r
 
-    module _ (law : IsBound N block number) (closed : IsClosed N tree taken) where
+    module _ (top : N.Work) (law : IsBound N block number top) (reached : (p : Address) (t : Tree N) → at N tree p ≡ Some t → IsReached N top (work_of N t)) (closed : IsClosed N tree taken) where
       child_in : (ts : Trees N) (j : ℕ) (t : Tree N) → child_at N ts j ≡ Some t → j < length (works_of N ts)
       child_in none j t e = absurd cc
       child_in (more u ts) zero t e = omega arith
@@ -132,12 +134,12 @@ module _ (N : Net) (block : N.Method → ℕ → ℕ) (number : N.Work → ℕ) 
 
       mutual
         pub bounded : (p : Address) (t : Tree N) → at N tree p ≡ Some t → IsGrown N t → pending_below p t ≤ number (work_of N t)
-        bounded p (open_leaf w) a g = let b = law.positive w in leaf (is_among taken p) (number w) b
+        bounded p (open_leaf w) a g = let b = law.positive w (reached p (open_leaf w) a) in leaf (is_among taken p) (number w) b
           where
             leaf : (c : Bool) (x : ℕ) → 1 ≤ x → cond c 0 1 ≤ x
             leaf true x l = omega arith
             leaf false x l = l
-        bounded p (done w) a g = let b = law.positive w in leaf (is_among taken p) (number w) b
+        bounded p (done w) a g = let b = law.positive w (reached p (done w) a) in leaf (is_among taken p) (number w) b
           where
             leaf : (c : Bool) (x : ℕ) → 1 ≤ x → cond c 0 1 ≤ x
             leaf true x l = omega arith
@@ -145,7 +147,7 @@ module _ (N : Net) (block : N.Method → ℕ → ℕ) (number : N.Work → ℕ) 
         bounded p (split m ts) a g = node (is_among taken p) (each p 0 ts (λ j. subst (λ z. at N tree (z ∷ p) ≡ child_at N ts j) (let x : j ≡ 0 + j = omega arith in x) (child_below N tree j p m ts a)) g.2)
           where
             node : (c : Bool) → ((j : ℕ) (t : Tree N) → child_at N ts j ≡ Some t → pending_below ((0 + j) ∷ p) t ≤ number (work_of N t)) → cond c (pending_below_all p 0 ts) 1 ≤ number (N.head m)
-            node false ih = law.positive (N.head m)
+            node false ih = law.positive (N.head m) (reached p (split m ts) a)
             node true ih = go (least_block m p 0 ts)
               where
                 zero-plus : (j : ℕ) → 0 + j ≡ j
@@ -158,10 +160,10 @@ module _ (N : Net) (block : N.Method → ℕ → ℕ) (number : N.Work → ℕ) 
                 within j t e = subst (λ z. j < length z) g.1 (child_in ts j t e)
 
                 go : (pending_below_all p 0 ts ≡ 0) ⊎ IsLeastBlock m p 0 ts → pending_below_all p 0 ts ≤ number (N.head m)
-                go (inl z) = let b = law.positive (N.head m) in omega arith
+                go (inl z) = let b = law.positive (N.head m) (reached p (split m ts) a) in omega arith
                 go (inr (j, t, c, l, f)) =
                     let s = sums m (block m j) p 0 ts weigh in
-                    let e : block_number N block number m (block m j) ≤ number (N.head m) = enough_for_all N block number law m j g.0 (within j t c) in
+                    let e : block_number N block number m (block m j) ≤ number (N.head m) = enough_for_all N block number top law m j g.0 (reached p (split m ts) a) (within j t c) in
                     let q = ap (λ z. weights N block number m (block m j) 0 z) g.1 in
                     omega arith
                   where
@@ -248,9 +250,23 @@ module _ (N : Net) (block : N.Method → ℕ → ℕ) (number : N.Work → ℕ) 
       Contains-whole : {u v : Address} → (h : (xs : List Address) × (ys : List Address) × (taken ≡ xs ++ v ∷ ys) × IsDue N tree xs v) → Contains h.0 u → Contains taken u
       Contains-whole {u} {v} h c = subst (λ z. Contains z u) (sym h.2) (Contains-append_left h.0 (v ∷ h.1) u c)
 
-  -- no schedule of any front has more pending than the root's number
-  pub bound_holds : IsBound N block number → (tree : Tree N) (order : List Address) → IsGrown N tree → IsSchedule N tree order → IsWithin N (number (work_of N tree)) tree order
-  bound_holds law tree order g s = (within_iff N (number (work_of N tree)) tree order).1 (λ taken rest e.
-      (let c = closed_at tree order taken rest s e in
+  child_work : (ts : Trees N) (i : ℕ) (t : Tree N) → child_at N ts i ≡ Some t → slice_get (works_of N ts) i ≡ Some (work_of N t)
+  child_work none i t e = absurd cc
+  child_work (more u ts) zero t e = let f : u ≡ t = cc in ap (λ z. Some (work_of N z)) f
+  child_work (more u ts) (suc i) t e = child_work ts i t e
+
+  -- each node's work is reached from the root's
+  reached_at : (tree : Tree N) → IsGrown N tree → (p : Address) (t : Tree N) → at N tree p ≡ Some t → IsReached N (work_of N tree) (work_of N t)
+  reached_at tree g [] t e = subst (λ z. IsReached N (work_of N tree) (work_of N z)) (let f : tree ≡ t = cc in f) itself
+  reached_at tree g (i ∷ p) t e =
+      let (m, ts, a, c) = parent N tree i p t e in
+      let h = grown_at N tree p (split m ts) g a in
+      as_child m i h.0 (reached_at tree g p (split m ts) a) (sym (ap (λ z. slice_get z i) h.1) ∙ child_work ts i t c)
+
+  -- no schedule of any front has more pending than the top work's number
+  pub bound_holds : (top : N.Work) → IsBound N block number top → (tree : Tree N) (order : List Address) → IsFront N top tree order → IsWithin N (number top) tree order
+  bound_holds top law tree order f = (within_iff N (number top) tree order).1 (λ taken rest e.
+      (let c = closed_at tree order taken rest f.schedule e in
       let a = few tree taken c.parents [] tree in
-      let b = bounded tree taken law c [] tree refl g in omega arith))
+      let b = bounded tree taken top law (λ p t h. subst (λ z. IsReached N z (work_of N t)) f.root (reached_at tree f.grown p t h)) c [] tree refl f.grown in
+      let d = ap number f.root in omega arith))

@@ -1,8 +1,7 @@
 -- What is proved of the machine of slots, for every lawful network, number of slots and top work.
 use Rattle.std.specs.Prelude.{ℕ, ◌≡◌, ◌≤◌, ◌↔◌, List, map}
 use Rattle.task_networks.specs.Net.{Net}
-use Rattle.task_networks.specs.Tree.{Tree, Label, Address, work_of, IsGrown}
-use Rattle.task_networks.specs.Schedule.{IsSchedule}
+use Rattle.task_networks.specs.Tree.{Tree, Label, Address}
 use Rattle.task_networks.specs.Pending.{IsWithin}
 use Rattle.task_networks.specs.Front.{IsFront}
 use Rattle.task_networks.specs.Executable.{AreLabels, AreAllowed, last_state, IsExecutable, IsSolution}
@@ -60,10 +59,10 @@ module _ (N : Net) where
   OtherTakesFronts read Takes = (b : ℕ) (top : N.Work) → 1 ≤ b → AgreesAtFronts N read Takes b top
       → (acts : List (Act N)) → (TakesAll N read Takes acts ↔ SpellsFront b top acts) × (SpellsFront b top acts → AreSame N (read acts) (end_of N (start N b top) acts))
 
-  -- no schedule of any front has more pending than the root's number
+  -- no schedule of any front has more pending than the top work's number
   abbrev pub WidthIsBounded : Type 0
-  WidthIsBounded = (block : N.Method → ℕ → ℕ) (number : N.Work → ℕ) → IsBound N block number
-      → (tree : Tree N) (order : List Address) → IsGrown N tree → IsSchedule N tree order → IsWithin N (number (work_of N tree)) tree order
+  WidthIsBounded = (block : N.Method → ℕ → ℕ) (number : N.Work → ℕ) (top : N.Work) → IsBound N block number top
+      → (tree : Tree N) (order : List Address) → IsFront N top tree order → IsWithin N (number top) tree order
 
 -- an execution: what a label asks of the state before it, and the state after it
 module _ (N : Net) (State : Type 1) (Allows : State → Label N → Type 0) (next : State → Label N → State) (first : State) (Goal : State → Type 0) where

@@ -1,5 +1,5 @@
 -- Spellings and executions, worked out.
-use Rattle.std.proofs.Common.{ℕ, zero, suc, ◌≡◌, ◌≢◌, ◌+◌, ◌-◌, ◌<◌, ◌≤◌, ◌⊎◌, inl, inr, List, [], ◌∷◌, refl, sym, subst, arith}
+use Rattle.std.proofs.Common.{ℕ, zero, suc, ◌≡◌, ◌⊎◌, inr, List, [], ◌∷◌, refl, sym, subst, arith}
 use Rattle.task_networks.specs.Tree.{Tree, split, more, done, none, Address, ran, used, Label}
 use Rattle.task_networks.specs.Front.{IsFront}
 use Rattle.task_networks.specs.Executable.{IsExecutable, AreLabels, AreAllowed}

@@ -46,13 +46,14 @@ module _ (N : Net) where
 
   -- where the blocks are the lines cut at every cut, the bound is large enough
   abbrev pub TheBoundIsLargeEnough : Type 0
-  TheBoundIsLargeEnough = (block : N.Method → ℕ → ℕ) (number group : N.Work → ℕ)
+  TheBoundIsLargeEnough = (top : N.Work) (block : N.Method → ℕ → ℕ) (number group : N.Work → ℕ)
       → ((m : N.Method) → (line : List ℕ) × IsLine (N.Pair m) (count N m) line × AreBlocks (N.Pair m) line (block m))
-      → IsTheBound N block number group → IsBound N block number
+      → IsTheBound N block number group top → IsBound N block number top
 
 -- numbers of schemas that are large enough are so for the ground works
 abbrev pub LiftedBoundIsBound : (N L : Net) → (N.Work → L.Work) → (N.Method → L.Method) → Type 0
-LiftedBoundIsBound N L work method = IsLifted N L work method → (block : L.Method → ℕ → ℕ) (number : L.Work → ℕ) → IsBound L block number → IsBound N (λ m. block (method m)) (λ w. number (work w))
+LiftedBoundIsBound N L work method = IsLifted N L work method → (top : N.Work) (block : L.Method → ℕ → ℕ) (number : L.Work → ℕ)
+    → IsBound L block number (work top) → IsBound N (λ m. block (method m)) (λ w. number (work w)) top
 
 -- a problem with a lawful ranking is tail-recursive
 abbrev pub RankedIsTailRecursive : {Task Edge : Type 0} → (source target : Edge → Task) → (Edge → Type 0) → List Edge → Type 0

@@ -40,17 +40,14 @@ pub fn pending_is_computed<N: Network, T>(of: &T)
 /// The bound of each task is at least what each block counts, so it bounds the width.
 pub fn the_bound_is_large_enough<N: Network, T>(of: &T)
     ensures { TheBoundIsLargeEnough N.net }
-{
-}
+{}
 
 /// Numbers of schemas that are large enough are so for the ground works.
 pub fn lifted_bound_is_bound<L: Lifting, T>(of: &T)
     ensures { LiftedBoundIsBound L.net L.lifted L.work L.method }
-{
-}
+{}
 
 /// A problem with a lawful ranking has no bad cycle.
 pub fn ranked_is_tail_recursive<E: Edges, T>(of: &T)
     ensures { RankedIsTailRecursive E.source E.target E.bad E.edges }
-{
-}
+{}
