@@ -75,7 +75,7 @@ module _ (N : Net) (law : IsLawful N) where
     )
 
     pub tests_tell_causes : TestsTellCauses N b last tree slot
-    tests_tell_causes = record { holds = matches_spelling.holds; waits = waits_iff; left = matches_spelling.free; may = may_iff }
+    tests_tell_causes = record { holds = matches_spelling.holds; unblocked = waits_iff; left = matches_spelling.free; may = may_iff }
 
     -- pending nodes have different slots, of b
     pub within_slots : IsWithin N b tree order

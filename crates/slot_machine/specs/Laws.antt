@@ -1,7 +1,7 @@
 -- What is proved of the machine of slots, for every lawful network, number of slots and top work.
 use Rattle.std.specs.Prelude.{ℕ, ◌≡◌, ◌≤◌, ◌↔◌, List, map}
 use Rattle.task_networks.specs.Net.{Net}
-use Rattle.task_networks.specs.Tree.{Tree, Label, Address}
+use Rattle.task_networks.specs.Tree.{Tree, Label, Address, IsOpen}
 use Rattle.task_networks.specs.Pending.{IsWithin}
 use Rattle.task_networks.specs.Front.{IsFront}
 use Rattle.task_networks.specs.Executable.{AreLabels, AreAllowed, last_state, IsExecutable, IsSolution}
@@ -11,7 +11,6 @@ use Rattle.slot_machine.specs.Machine.{State, start, IsUnblocked, May, Runs, end
 use Rattle.slot_machine.specs.Reached.{SameSlots, HasLeaf, IsLeft, Tells}
 use Rattle.slot_machine.specs.Causes.{IsWaiting, Can}
 use Rattle.slot_machine.specs.OtherMachine.{AreSame, TakesAll, AgreesAtFronts}
-use Rattle.task_networks.specs.Tree.{IsOpen}
 
 module _ (N : Net) where
   -- the acts spell some front
@@ -24,8 +23,10 @@ module _ (N : Net) where
 
   -- tree and order are the only ones, and so are the slots on all addresses
   abbrev pub FrontIsTheOnlyOne : Type 0
-  FrontIsTheOnlyOne = (b : ℕ) (top : N.Work) (acts : List (Act N)) (t : Tree N) (o : List Address) (f : Address → ℕ) (t' : Tree N) (o' : List Address) (f' : Address → ℕ)
-      → Spells N b top acts t o f → Spells N b top acts t' o' f' → (t' ≡ t) × (o' ≡ o) × SameSlots N t f f'
+  FrontIsTheOnlyOne = (b : ℕ) (top : N.Work) (acts : List (Act N)) (tree : Tree N) (order : List Address) (slot : Address → ℕ)
+      (other_tree : Tree N) (other_order : List Address) (other_slot : Address → ℕ)
+      → Spells N b top acts tree order slot → Spells N b top acts other_tree other_order other_slot
+      → (other_tree ≡ tree) × (other_order ≡ order) × SameSlots N tree slot other_slot
 
   -- after the run the state tells the front
   abbrev pub StateTellsFront : Type 0
@@ -37,11 +38,11 @@ module _ (N : Net) where
   FewPendingHaveSpellings = (b : ℕ) (top : N.Work) (tree : Tree N) (order : List Address) → IsFront N top tree order
       → IsWithin N b tree order ↔ ((acts : List (Act N)) × (slot : Address → ℕ) × Spells N b top acts tree order slot)
 
-  -- what the machine tests at a slot says of the front that it holds this work, and that a pending work stands before it;
-  -- what it tests of a new slot, that it is left; and an act may be taken exactly where all of these allow it
+  -- what the machine tests, said of the front: that a slot holds a work; that a pending work stands before it;
+  -- that a new slot is left; and of an act all that it asks, with the constraints and types of a method
   pub record TestsTellCauses (b : ℕ) (s : State N) (tree : Tree N) (slot : Address → ℕ) : Type 0 where
     pub holds : (x : ℕ) (w : N.Work) → s.holds x w ↔ HasLeaf N tree slot x w
-    pub waits : (p : Address) → IsOpen N tree p → IsUnblocked N s (slot p) ↔ (IsWaiting N tree p → ⊥)
+    pub unblocked : (p : Address) → IsOpen N tree p → IsUnblocked N s (slot p) ↔ (IsWaiting N tree p → ⊥)
     pub left : (x : ℕ) → s.free x ↔ IsLeft N tree slot b x
     pub may : (a : Act N) → May N s a ↔ Can N tree slot b a
 

@@ -70,7 +70,7 @@ module _ where
   IsBadEdge zero = Unit {0}
   IsBadEdge (suc e) = ⊥
 
-  around : IsNamedCycle from_task to_task IsBadEdge (0 ∷ 1 ∷ []) 0 (1 ∷ [])
+  around : IsNamedCycle from_task to_task (0 ∷ 1 ∷ []) IsBadEdge 0 (1 ∷ [])
   around = record {
     cycle = ((0, omega arith, refl), tt, (refl, (1, omega arith, refl), refl));
     before = [];
@@ -81,15 +81,15 @@ module _ where
     first = first;
   }
     where
-      shortest : (back : List ℕ) → IsWalk from_task to_task IsBadEdge (0 ∷ 1 ∷ []) 1 back 0 → 1 ≤ length back
+      shortest : (back : List ℕ) → IsWalk from_task to_task (0 ∷ 1 ∷ []) 1 back 0 → 1 ≤ length back
       shortest [] e = absurd (omega arith)
       shortest (x ∷ back) w = omega arith
 
-      first : (back : List ℕ) → IsWalk from_task to_task IsBadEdge (0 ∷ 1 ∷ []) 1 back 0 → length back ≡ 1 → (1 ∷ [] ≡ back) ⊎ ComesFirst from_task to_task IsBadEdge (0 ∷ 1 ∷ []) (1 ∷ []) back
+      first : (back : List ℕ) → IsWalk from_task to_task (0 ∷ 1 ∷ []) 1 back 0 → length back ≡ 1 → (1 ∷ [] ≡ back) ⊎ ComesFirst from_task to_task (0 ∷ 1 ∷ []) (1 ∷ []) back
       first [] w l = absurd (omega arith)
       first (x ∷ []) w l = let e : x ≡ 1 = w.0 in inl (ap (λ z. z ∷ []) (sym e))
       first (x ∷ y ∷ back) w l = absurd (omega arith)
 
   -- t -> u alone goes down
-  down : IsLawfulRanking from_task to_task IsBadEdge (0 ∷ []) (λ x. 1 - x)
+  down : IsLawfulRanking from_task to_task (0 ∷ []) IsBadEdge (λ x. 1 - x)
   down e c = elim (head_or_tail 0 [] e c) [ inl f ↦ inl (subst (λ z. 1 - to_task z < 1 - from_task z) f (omega arith)) | inr d ↦ absurd (not-in_empty e d) ]

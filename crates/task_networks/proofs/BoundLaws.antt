@@ -118,15 +118,15 @@ module _ (N L : Net) (work : N.Work → L.Work) (method : N.Method → L.Method)
 pub lifted_bound_is_bound : (N L : Net) (work : N.Work → L.Work) (method : N.Method → L.Method) → LiftedBoundIsBound N L work method
 lifted_bound_is_bound N L work method lifts top block number bound = lifted_bound N L work method lifts block number top bound
 
-module _ {Task Edge : Type 0} (source target : Edge → Task) (IsBad : Edge → Type 0) (edges : List Edge) where
-  not_up : (rank : Task → ℕ) → IsLawfulRanking source target IsBad edges rank → (x y : Task) (walk : List Edge) → IsWalk source target IsBad edges x walk y → rank y ≤ rank x
+module _ {Task Edge : Type 0} (source target : Edge → Task) (edges : List Edge) (IsBad : Edge → Type 0) where
+  not_up : (rank : Task → ℕ) → IsLawfulRanking source target edges IsBad rank → (x y : Task) (walk : List Edge) → IsWalk source target edges x walk y → rank y ≤ rank x
   not_up rank lawful x y [] e = let h = ap rank e in omega arith
   not_up rank lawful x y (d ∷ walk) (e, c, w) =
       let h = not_up rank lawful (target d) y walk w in
       let f = ap rank e in
       elim (lawful d c) [ inl l ↦ omega arith | inr l ↦ (let g = l.1 in omega arith) ]
 
-  pub ranked_is_tail_recursive : RankedIsTailRecursive source target IsBad edges
+  pub ranked_is_tail_recursive : RankedIsTailRecursive source target edges IsBad
   ranked_is_tail_recursive rank lawful e walk (c, bad, w) =
       let h = not_up rank lawful (target e) (source e) walk w in
       elim (lawful e c) [ inl l ↦ omega arith | inr l ↦ l.0 bad ]

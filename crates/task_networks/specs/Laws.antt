@@ -56,5 +56,5 @@ LiftedBoundIsBound N L work method = IsLifted N L work method → (top : N.Work)
     → IsBound L block number (work top) → IsBound N (λ m. block (method m)) (λ w. number (work w)) top
 
 -- a problem with a lawful ranking is tail-recursive
-abbrev pub RankedIsTailRecursive : {Task Edge : Type 0} → (source target : Edge → Task) → (Edge → Type 0) → List Edge → Type 0
-RankedIsTailRecursive {Task = Task} source target IsBad edges = (rank : Task → ℕ) → IsLawfulRanking source target IsBad edges rank → IsTailRecursive source target IsBad edges
+abbrev pub RankedIsTailRecursive : {Task Edge : Type 0} → (source target : Edge → Task) → List Edge → (Edge → Type 0) → Type 0
+RankedIsTailRecursive {Task = Task} source target edges IsBad = (rank : Task → ℕ) → IsLawfulRanking source target edges IsBad rank → IsTailRecursive source target edges IsBad

@@ -49,5 +49,5 @@ pub fn lifted_bound_is_bound<L: Lifting, T>(of: &T)
 
 /// A problem with a lawful ranking has no bad cycle.
 pub fn ranked_is_tail_recursive<E: Edges, T>(of: &T)
-    ensures { RankedIsTailRecursive E.source E.target E.bad E.edges }
+    ensures { RankedIsTailRecursive E.source E.target E.edges E.bad }
 {}

@@ -46,9 +46,9 @@ pub trait Edges {
 
     ghost target: { edge → task };
 
-    ghost bad: { edge → Type 0 };
-
     ghost edges: { List edge };
+
+    ghost bad: { edge → Type 0 };
 }
 
 impl Edges for Brand {
@@ -60,7 +60,7 @@ impl Edges for Brand {
 
     ghost target = { λ e. e };
 
-    ghost bad = { λ e. Unit {0} };
-
     ghost edges = { [] };
+
+    ghost bad = { λ e. Unit {0} };
 }
