@@ -1,12 +1,11 @@
--- The bound is large enough, and rankings rule out bad cycles.
+-- The bound is large enough.
 use Rattle.std.proofs.Common.{ℕ, zero, suc, ◌≡◌, ◌≢◌, ◌+◌, ◌<◌, ◌≤◌, ◌⊎◌, inl, inr, List, [], ◌∷◌, length, Some, slice_get, map, refl, ap, sym, subst, ◌∙◌, arith}
 use Rattle.std.proofs.lemmas.List.{length-map}
 use Rattle.task_networks.specs.Order.{Precedes, direct, through}
 use Rattle.task_networks.specs.Net.{Net, count}
 use Rattle.task_networks.specs.Bound.{weight, weights, IsAloneAtTheEnd, block_number, IsBound, IsReached, as_child, itself}
-use Rattle.task_networks.specs.Laws.{TheBoundIsLargeEnough, LiftedBoundIsBound, RankedIsTailRecursive}
+use Rattle.task_networks.specs.Laws.{TheBoundIsLargeEnough, LiftedBoundIsBound}
 use Rattle.task_networks.specs.Lifted.{IsLifted}
-use Rattle.task_networks.specs.Strata.{IsLawfulRanking, IsWalk}
 use Rattle.task_networks.proofs.Tests.{blocks}
 
 pub by_size : (a b : ℕ) → (a < b) ⊎ ((a ≡ b) ⊎ (b < a))
@@ -117,16 +116,3 @@ module _ (N L : Net) (work : N.Work → L.Work) (method : N.Method → L.Method)
 
 pub lifted_bound_is_bound : (N L : Net) (work : N.Work → L.Work) (method : N.Method → L.Method) → LiftedBoundIsBound N L work method
 lifted_bound_is_bound N L work method lifts top block number bound = lifted_bound N L work method lifts block number top bound
-
-module _ {Task Edge : Type 0} (source target : Edge → Task) (edges : List Edge) (IsBad : Edge → Type 0) where
-  not_up : (rank : Task → ℕ) → IsLawfulRanking source target edges IsBad rank → (x y : Task) (walk : List Edge) → IsWalk source target edges x walk y → rank y ≤ rank x
-  not_up rank lawful x y [] e = let h = ap rank e in omega arith
-  not_up rank lawful x y (d ∷ walk) (e, c, w) =
-      let h = not_up rank lawful (target d) y walk w in
-      let f = ap rank e in
-      elim (lawful d c) [ inl l ↦ omega arith | inr l ↦ (let g = l.1 in omega arith) ]
-
-  pub ranked_is_tail_recursive : RankedIsTailRecursive source target edges IsBad
-  ranked_is_tail_recursive rank lawful e walk (c, bad, w) =
-      let h = not_up rank lawful (target e) (source e) walk w in
-      elim (lawful e c) [ inl l ↦ omega arith | inr l ↦ l.0 bad ]

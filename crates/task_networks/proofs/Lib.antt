@@ -8,6 +8,7 @@ pub mod Nodes
 pub mod PendingNodes
 pub mod ScheduleLaws
 pub mod BoundLaws
+pub mod StrataLaws
 pub mod Tests
 pub mod SpellingTests
 pub mod ExampleNets

@@ -6,11 +6,11 @@ use Rattle.task_networks.specs.Lawful.{IsLawful}
 use Rattle.task_networks.specs.Prepared.{IsPrepared}
 use Rattle.task_networks.specs.Tree.{Tree, used, Address, IsBelow, label_at, IsAddress, IsProcessed}
 use Rattle.task_networks.specs.Schedule.{IsSchedule}
-use Rattle.task_networks.specs.Pending.{IsPending, IsWithin, pending}
+use Rattle.task_networks.specs.Pending.{AreDifferent, IsPending, IsWithin, pending}
 use Rattle.task_networks.specs.Front.{IsFinished}
 use Rattle.task_networks.specs.Bound.{AreBlocks, IsBound, IsTheBound}
 use Rattle.task_networks.specs.Lifted.{IsLifted}
-use Rattle.task_networks.specs.Strata.{IsLawfulRanking, IsTailRecursive}
+use Rattle.task_networks.specs.Strata.{IsLawfulRanking, IsTailRecursive, IsNamedCycle}
 
 module _ (N : Net) where
   -- a method has one line at most
@@ -58,3 +58,8 @@ LiftedBoundIsBound N L work method = IsLifted N L work method → (top : N.Work)
 -- a problem with a lawful ranking is tail-recursive
 abbrev pub RankedIsTailRecursive : {Task Edge : Type 0} → (source target : Edge → Task) → List Edge → (Edge → Type 0) → Type 0
 RankedIsTailRecursive {Task = Task} source target edges IsBad = (rank : Task → ℕ) → IsLawfulRanking source target edges IsBad rank → IsTailRecursive source target edges IsBad
+
+-- where each edge is listed once, one bad cycle at most is the named one
+abbrev pub NamedCycleIsTheOnlyOne : {Task Edge : Type 0} → (source target : Edge → Task) → List Edge → (Edge → Type 0) → Type 0
+NamedCycleIsTheOnlyOne {Edge = Edge} source target edges IsBad = AreDifferent edges → (e d : Edge) (walk back : List Edge)
+    → IsNamedCycle source target edges IsBad e walk → IsNamedCycle source target edges IsBad d back → (e ≡ d) × (walk ≡ back)

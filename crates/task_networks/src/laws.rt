@@ -2,7 +2,7 @@
 //!
 //! `of` is any value that the picked network is made of.
 
-ghost use Rattle.task_networks.specs.Laws.{LineIsTheOnlyOne, PreparedIsLawful, RootStandsFirst, NothingIsPendingAtTheEnd, EarlierSubtreesStandBefore, PendingIsComputed, WidthIsComputed, TheBoundIsLargeEnough, LiftedBoundIsBound, RankedIsTailRecursive};
+ghost use Rattle.task_networks.specs.Laws.{LineIsTheOnlyOne, PreparedIsLawful, RootStandsFirst, NothingIsPendingAtTheEnd, EarlierSubtreesStandBefore, PendingIsComputed, WidthIsComputed, TheBoundIsLargeEnough, LiftedBoundIsBound, RankedIsTailRecursive, NamedCycleIsTheOnlyOne};
 
 use crate::network::{Edges, Lifting, Network};
 
@@ -50,4 +50,9 @@ pub fn lifted_bound_is_bound<L: Lifting, T>(of: &T)
 /// A problem with a lawful ranking has no bad cycle.
 pub fn ranked_is_tail_recursive<E: Edges, T>(of: &T)
     ensures { RankedIsTailRecursive E.source E.target E.edges E.bad }
+{}
+
+/// Where each edge is listed once, one bad cycle at most is the named one.
+pub fn named_cycle_is_the_only_one<E: Edges, T>(of: &T)
+    ensures { NamedCycleIsTheOnlyOne E.source E.target E.edges E.bad }
 {}

@@ -1,4 +1,4 @@
-use Rattle.task_networks.proofs.BoundLaws.{ranked_is_tail_recursive}
+use Rattle.task_networks.proofs.StrataLaws.{ranked_is_tail_recursive}
 use Rattle.task_networks.proofs.laws.ranked_is_tail_recursive.Goals as goal
 
 pub returns : goal.returns
