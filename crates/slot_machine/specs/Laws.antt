@@ -58,7 +58,8 @@ module _ (N : Net) where
   -- another machine that agrees at fronts takes exactly the spelled fronts, and its state says the same then
   abbrev pub OtherTakesFronts : (List (Act N) → State N) → (List (Act N) → Act N → Type 0) → Type 0
   OtherTakesFronts read Takes = (b : ℕ) (top : N.Work) → 1 ≤ b → AgreesAtFronts N read Takes b top
-      → (acts : List (Act N)) → (TakesAll N read Takes acts ↔ SpellsFront b top acts) × (SpellsFront b top acts → AreSame N (read acts) (end_of N (start N b top) acts))
+      → (acts : List (Act N)) → (TakesAll N Takes acts ↔ SpellsFront b top acts)
+      × (SpellsFront b top acts → AreSame N (read acts) (end_of N (start N b top) acts))
 
   -- no schedule of any front has more pending than the top work's number
   abbrev pub WidthIsBounded : Type 0
@@ -77,7 +78,8 @@ module _ (N : Net) (State : Type 1) (Allows : State → Label N → Type 0) (nex
   -- executable runs are the spelled fronts that are executable
   abbrev pub RunsAreExecutableFronts : Type 0
   RunsAreExecutableFronts = (b : ℕ) (top : N.Work) (acts : List (Act N)) → 1 ≤ b
-      → IsExecutableRun b top acts ↔ ((tree : Tree N) × (order : List Address) × (slot : Address → ℕ) × Spells N b top acts tree order slot × IsExecutable N State Allows next first tree order)
+      → IsExecutableRun b top acts ↔ ((tree : Tree N) × (order : List Address) × (slot : Address → ℕ) × Spells N b top acts tree order slot
+      × IsExecutable N State Allows next first tree order)
 
   -- a plan: an executable run after which all slots are free, and the goal is true
   pub record IsPlan (b : ℕ) (top : N.Work) (acts : List (Act N)) : Type 0 where
@@ -88,4 +90,5 @@ module _ (N : Net) (State : Type 1) (Allows : State → Label N → Type 0) (nex
   -- plans are the spelled solutions
   abbrev pub PlansAreSpelledSolutions : Type 0
   PlansAreSpelledSolutions = (b : ℕ) (top : N.Work) (acts : List (Act N)) → 1 ≤ b
-      → IsPlan b top acts ↔ ((tree : Tree N) × (order : List Address) × (slot : Address → ℕ) × Spells N b top acts tree order slot × IsSolution N State Allows next top first Goal tree order)
+      → IsPlan b top acts ↔ ((tree : Tree N) × (order : List Address) × (slot : Address → ℕ) × Spells N b top acts tree order slot
+      × IsSolution N State Allows next top first Goal tree order)

@@ -6,7 +6,8 @@ use Rattle.task_networks.specs.Net.{Net, count}
 
 -- the blocks are the line cut at every cut: a child is in an earlier block than another exactly where a cut parts them
 abbrev pub AreBlocks : (ℕ → ℕ → Type 0) → List ℕ → (ℕ → ℕ) → Type 0
-AreBlocks Pair line block = (i j : ℕ) → Contains line i → Contains line j → (block i < block j) ↔ ((k : ℕ) × IsCut Pair line k × Contains (take k line) i × Contains (drop k line) j)
+AreBlocks Pair line block = (i j : ℕ) → Contains line i → Contains line j
+    → (block i < block j) ↔ ((k : ℕ) × IsCut Pair line k × Contains (take k line) i × Contains (drop k line) j)
 
 -- a work that can stand in a tree below the top work
 pub data IsReached (N : Net) (top : N.Work) : N.Work → Type 0 where
@@ -58,4 +59,5 @@ module _ (N : Net) (block : N.Method → ℕ → ℕ) (number : N.Work → ℕ) 
       pub above : (w : N.Work) (m : N.Method) (i : ℕ) → IsReached N top w → N.IsGround m → IsReached N top (N.head m) → group w ≡ group (N.head m)
           → Counts m i → block_number m (block m i) ≤ number w
       pub attained : (w : N.Work) → IsReached N top w → (number w ≡ 1)
-          ⊎ ((m : N.Method) × (i : ℕ) × N.IsGround m × IsReached N top (N.head m) × (group w ≡ group (N.head m)) × Counts m i × (block_number m (block m i) ≡ number w))
+          ⊎ ((m : N.Method) × (i : ℕ) × N.IsGround m × IsReached N top (N.head m) × (group w ≡ group (N.head m))
+          × Counts m i × (block_number m (block m i) ≡ number w))

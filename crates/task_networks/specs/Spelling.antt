@@ -44,7 +44,8 @@ module _ (N : Net) where
     AreActs (p ∷ ps) [] = ⊥
 
   -- the acts spell the front, with b slots, from the top work
-  pub record Spells (b : ℕ) (top : N.Work) (acts : List (Act N)) (tree : Tree N) (order : List Address) (slot : Address → ℕ) : Type 0 where
+  pub record Spells (b : ℕ) (top : N.Work)
+      (acts : List (Act N)) (tree : Tree N) (order : List Address) (slot : Address → ℕ) : Type 0 where
     pub front : IsFront N top tree order
     pub root : slot [] ≡ 1
     pub range : (p : Address) → IsAddress N tree p → (1 ≤ slot p) × (slot p ≤ b)
