@@ -103,6 +103,6 @@ module _ (N : Net) where
   -- the machine's test is the sentence on the tree
   pub waiting_iff : (b : ℕ) (s : State N) (tree : Tree N) (order : List Address) (slot : Address → ℕ) (v : Address) → Matches N b s tree slot → IsSchedule N tree order → IsOpen N tree v → IsUnblocked N s (slot v) ↔ ((u : Address) → IsOpen N tree u → MustPrecede N tree u v → ⊥)
   waiting_iff b s tree order slot v m sc ov = (
-    λ un u ou h. nothing_blocks N b s tree slot v u m un ov ou ((only_siblings tree order u v sc ou ov).0 h),
+    λ unblocked u ou h. nothing_blocks N b s tree slot v u m unblocked ov ou ((only_siblings tree order u v sc ou ov).0 h),
     λ f x bf. (let (u, v', ou, ov', eu, ev, bl) = m.sound x (slot v) bf in f u ou (v, below-itself v, subst (Blocks N tree u) (m.apart v' v ov' ov ev) bl)),
   )

@@ -14,7 +14,7 @@ use Rattle.slot_machine.proofs.FrontSteps.{taken_apart, child_waits, blocks_grow
 use Rattle.slot_machine.proofs.Growth.{IsGrowth, child_works, place, leaf_at, none_below}
 use Rattle.slot_machine.proofs.Matching.{Matches, back, down, up, nothing_blocks}
 
-module _ (N : Net) (law : IsLawful N) (b : ℕ) (s s' : State N) (tree tree' : Tree N) (p : Address) (w : N.Work) (l : Label N) (g : IsGrowth N tree tree' p w l) (slot : Address → ℕ) (m : Matches N b s tree slot) (un : IsUnblocked N s (slot p)) where
+module _ (N : Net) (law : IsLawful N) (b : ℕ) (s s' : State N) (tree tree' : Tree N) (p : Address) (w : N.Work) (l : Label N) (g : IsGrowth N tree tree' p w l) (slot : Address → ℕ) (m : Matches N b s tree slot) (unblocked : IsUnblocked N s (slot p)) where
   abbrev n : ℕ
   n = length (child_works N l)
 
@@ -96,7 +96,7 @@ module _ (N : Net) (law : IsLawful N) (b : ℕ) (s s' : State N) (tree tree' : T
     is_p u o e = m.apart u p o open_p e
 
     unblocks : (u v : Address) → IsOpen N tree u → IsOpen N tree v → s.before (slot u) (slot v) → v ≢ p
-    unblocks u v ou ov bf e = un (slot u) (subst (λ x. s.before (slot u) (slot x)) e bf)
+    unblocks u v ou ov bf e = unblocked (slot u) (subst (λ x. s.before (slot u) (slot x)) e bf)
 
     new_slot : (i : ℕ) (u : Address) → i < n → IsOpen N tree u → u ≢ p → slot (i ∷ p) ≡ slot u → ⊥
     new_slot i u h o np e = go (is_some (heir_of N l) i)
@@ -185,7 +185,7 @@ module _ (N : Net) (law : IsLawful N) (b : ℕ) (s s' : State N) (tree tree' : T
             go (u, v, ou, ov, eu, ev, bl) = pick (is_same_address u p) (ℕ_discrete n 0)
               where
                 nv : v ≢ p
-                nv e = un x (subst (λ z. s.before x z) (sym ev ∙ ap slot e) h)
+                nv e = unblocked x (subst (λ z. s.before x z) (sym ev ∙ ap slot e) h)
 
                 pick : Dec (u ≡ p) → Dec (n ≡ 0) → Sound x y
                 pick (no nu) z = (u, v, keeps_open u ou nu, keeps_open v ov nv, eu, ev, grows u v bl)
@@ -201,7 +201,7 @@ module _ (N : Net) (law : IsLawful N) (b : ℕ) (s s' : State N) (tree tree' : T
           where
             go : (u : Address) × (v : Address) × IsOpen N tree u × IsOpen N tree v × (slot u ≡ slot p) × (slot v ≡ y) × Blocks N tree u v → Sound x y
             go (u, v, ou, ov, eu, ev, bl) =
-                let nv : v ≢ p = λ e. un (slot p) (subst (λ z. s.before (slot p) z) (sym ev ∙ ap slot e) h) in
+                let nv : v ≢ p = λ e. unblocked (slot p) (subst (λ z. s.before (slot p) z) (sym ev ∙ ap slot e) h) in
                 (i ∷ p, v, child_open i (copier_within N law l i c), keeps_open v ov nv, sym ex, ev, blocks_child i v (subst (λ z. Blocks N tree z v) (is_p u ou eu) bl))
 
     abbrev Complete : Address → Address → Type 0
@@ -222,7 +222,7 @@ module _ (N : Net) (law : IsLawful N) (b : ℕ) (s s' : State N) (tree tree' : T
         go : s.before (slot u) (slot v) ⊎ ((x : Address) × IsOpen N tree x × Blocks N tree u x × s.before (slot x) (slot v)) → Complete u v
         go (inl bf) = inl (stays u v nu ou bf)
         go (inr (x, ox, bx, bf)) =
-            let nx : x ≢ p = λ e. nothing_blocks N b s tree slot p u m un open_p ou (subst (Blocks N tree u) e bx) in
+            let nx : x ≢ p = λ e. nothing_blocks N b s tree slot p u m unblocked open_p ou (subst (Blocks N tree u) e bx) in
             inr (x, keeps_open x ox nx, grows u x bx, stays x v nx ox bf)
 
     new_old : (i : ℕ) (v : Address) → i < n → IsOld v → Blocks N tree p v → Complete (i ∷ p) v

@@ -29,8 +29,8 @@ pick (no n) x y = y
 
 -- the slots of the children of p are these
 abbrev pub with_children : (Address → ℕ) → Address → List ℕ → Address → ℕ
-with_children slot p hs [] = slot []
-with_children slot p hs (i ∷ q) = pick (is_same_address q p) (slice_index hs i) (slot (i ∷ q))
+with_children slot p slots [] = slot []
+with_children slot p slots (i ∷ q) = pick (is_same_address q p) (slice_index slots i) (slot (i ∷ q))
 
 pick_yes : {A : Type 0} (d : Dec A) (x y : ℕ) → A → pick d x y ≡ x
 unfolding pick
@@ -42,12 +42,12 @@ unfolding pick
 pick_no (yes a) x y h = absurd (h a)
 pick_no (no n) x y h = refl
 
-pub with-children_child : (slot : Address → ℕ) (p : Address) (hs : List ℕ) (i : ℕ) → with_children slot p hs (i ∷ p) ≡ slice_index hs i
-with-children_child slot p hs i = pick_yes (is_same_address p p) (slice_index hs i) (slot (i ∷ p)) refl
+pub with-children_child : (slot : Address → ℕ) (p : Address) (slots : List ℕ) (i : ℕ) → with_children slot p slots (i ∷ p) ≡ slice_index slots i
+with-children_child slot p slots i = pick_yes (is_same_address p p) (slice_index slots i) (slot (i ∷ p)) refl
 
-pub with-children_other : (slot : Address → ℕ) (p : Address) (hs : List ℕ) (q : Address) → ((i : ℕ) → q ≢ i ∷ p) → with_children slot p hs q ≡ slot q
-with-children_other slot p hs [] n = refl
-with-children_other slot p hs (i ∷ q) n = pick_no (is_same_address q p) (slice_index hs i) (slot (i ∷ q)) (λ e. n i (ap (λ x. i ∷ x) e))
+pub with-children_other : (slot : Address → ℕ) (p : Address) (slots : List ℕ) (q : Address) → ((i : ℕ) → q ≢ i ∷ p) → with_children slot p slots q ≡ slot q
+with-children_other slot p slots [] n = refl
+with-children_other slot p slots (i ∷ q) n = pick_no (is_same_address q p) (slice_index slots i) (slot (i ∷ q)) (λ e. n i (ap (λ x. i ∷ x) e))
 
 module _ (N : Net) where
   -- only the slots of the tree's nodes count
@@ -196,11 +196,11 @@ module _ (N : Net) where
             child : (i : ℕ) → g (i ∷ p) ≡ slice_index (slots_of e) i
             child i = with-children_child f p (slots_of e) i
 
-            un : IsUnblocked N s (g p)
-            un x bf = ask.unblocked x (subst (s.before x) (sym own) bf)
+            unblocked : IsUnblocked N s (g p)
+            unblocked x bf = ask.unblocked x (subst (s.before x) (sym own) bf)
 
             due : IsDue N tree' order p
-            due = unblocked_due N law b s tree tree' p w l gr g m' order sp'.front.schedule un
+            due = unblocked_due N law b s tree tree' p w l gr g m' order sp'.front.schedule unblocked
 
             act : IsAct N tree' g p e
             act = act_from s e tree' g p my ask gr.now own child
@@ -209,7 +209,7 @@ module _ (N : Net) where
             heirs i x = child i ∙ ask.heirs i x ∙ own
 
             after' : Matches N b (after N s e) tree' g
-            after' = keeps N law b s (after N s e) tree tree' p w l gr g m' un (is_after N law b s tree tree' p g e gr m' un act heirs
+            after' = keeps N law b s (after N s e) tree tree' p w l gr g m' unblocked (is_after N law b s tree tree' p g e gr m' unblocked act heirs
                 (λ i r n. subst s.free (sym (child i)) (ask.free i r n))
                 (λ i j r q n k x. ask.apart i j r q n k (sym (child i) ∙ x ∙ child j)))
 

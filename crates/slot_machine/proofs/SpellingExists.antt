@@ -98,9 +98,9 @@ module _ (N : Net) (law : IsLawful N) (b : ℕ) (top : N.Work) where
 
   -- an entry for a step, where enough slots are free
   some_act : (s : State N) (tree : Tree N) (f : Address → ℕ) (p : Address) (leaves : List Address) (l : Label N) → Matches N b s tree f → Listing tree leaves → label_at N tree p ≡ Some (waits (work_at N l)) → IsUnblocked N s (f p) → IsLegal N l → IsTaken N l → length (child_works N l) + length leaves ≤ suc b → (e : Act N) × (label_of N e ≡ l) × (slot_of N e ≡ f p) × May N s e
-  some_act s tree f p leaves (waits w) m ls was un lg t h = absurd t
-  some_act s tree f p leaves (ran w) m ls was un lg t h = (run (f p) w, refl, refl, record { holds = (m.holds (f p) w).1 (p, was, refl); simple = lg; unblocked = un })
-  some_act s tree f p leaves (used n) m ls was un lg t h = go (N.heir n) refl
+  some_act s tree f p leaves (waits w) m ls was unblocked legal t h = absurd t
+  some_act s tree f p leaves (ran w) m ls was unblocked legal t h = (run (f p) w, refl, refl, record { holds = (m.holds (f p) w).1 (p, was, refl); simple = legal; unblocked = unblocked })
+  some_act s tree f p leaves (used n) m ls was unblocked legal t h = go (N.heir n) refl
     where
       -- the slots of the open leaves are not new
       one : (rest : ℕ) → rest ≡ length (others N n) → (new : List ℕ) × (length new ≡ rest) × AreDifferent new × ((x : ℕ) → Contains new x → (1 ≤ x) × (x ≤ b) × (Contains (map f leaves) x → ⊥)) → (e : Act N) × (label_of N e ≡ used n) × (slot_of N e ≡ f p) × May N s e
@@ -110,8 +110,8 @@ module _ (N : Net) (law : IsLawful N) (b : ℕ) (top : N.Work) where
         refl,
         record {
           holds = (m.holds (f p) (N.head n)).1 (p, was, refl);
-          ground = lg;
-          unblocked = un;
+          ground = legal;
+          unblocked = unblocked;
           enough = l ∙ r;
           free = λ x c. (let y = g x c in (m.free x).1 (y.0, y.1, λ q o e. y.2 (subst (Contains (map f leaves)) e (Contains-map f leaves q ((ls.lists q).1 o)))));
           apart = d;
@@ -203,11 +203,11 @@ module _ (N : Net) (law : IsLawful N) (b : ℕ) (top : N.Work) where
                   m : Matches N b (end_of N (start N b top) acts) tree f
                   m = (runs_from_spells N law b top order acts tree f sp).1
 
-                  un : IsUnblocked N (end_of N (start N b top) acts) (f p)
-                  un = due_unblocked N law b (end_of N (start N b top) acts) tree tree' p w l g f m order sc.0 sc.1
+                  unblocked : IsUnblocked N (end_of N (start N b top) acts) (f p)
+                  unblocked = due_unblocked N law b (end_of N (start N b top) acts) tree tree' p w l g f m order sc.0 sc.1
 
                   d : (e : Act N) × (label_of N e ≡ l) × (slot_of N e ≡ f p) × May N (end_of N (start N b top) acts) e
-                  d = some_act (end_of N (start N b top) acts) tree f p leaves l m ls g.was un (grown_legal N l (grown_at N tree' p (tree_of N l) gr a)) t fits
+                  d = some_act (end_of N (start N b top) acts) tree f p leaves l m ls g.was unblocked (grown_legal N l (grown_at N tree' p (tree_of N l) gr a)) t fits
 
                   r : (g : Address → ℕ) × Spells N b top (acts ++ d.0 ∷ []) (put N tree p (tree_of N (label_of N d.0))) (order ++ p ∷ []) g
                   r = step_at N law b top acts d.0 (end_of N (start N b top) acts) tree order f sp m d.3 p (subst (λ x. label_at N tree p ≡ Some (waits (work_at N x))) (sym d.1) g.was) (sym d.2)

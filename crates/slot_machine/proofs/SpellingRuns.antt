@@ -37,11 +37,11 @@ module _ (N : Net) where
 
   pub last_step : (b : ℕ) (top : N.Work) (acts' : List (Act N)) (tree' : Tree N) (order : List Address) (p : Address) (slot : Address → ℕ) → Spells N b top acts' tree' (order ++ p ∷ []) slot → LastStep b top acts' tree' order p slot
   last_step b top acts' tree' order p slot s =
-      let (acts, e, is, en, ie) = acts_last N tree' slot order p acts' s.spelled in
-      go acts e is en ie (subst (λ x. Spells N b top x tree' (order ++ p ∷ []) slot) is s)
+      let (acts, e, is, are_acts, is_act) = acts_last N tree' slot order p acts' s.spelled in
+      go acts e is are_acts is_act (subst (λ x. Spells N b top x tree' (order ++ p ∷ []) slot) is s)
     where
       go : (acts : List (Act N)) (e : Act N) → acts' ≡ acts ++ e ∷ [] → AreActs N tree' slot order acts → IsAct N tree' slot p e → Spells N b top (acts ++ e ∷ []) tree' (order ++ p ∷ []) slot → LastStep b top acts' tree' order p slot
-      go acts e is en ie s' = record {
+      go acts e is are_acts is_act s' = record {
         acts = acts;
         act = e;
         is = is;
@@ -50,9 +50,9 @@ module _ (N : Net) where
         is_at = a;
         legal = grown_legal N l (grown_at N tree' p (tree_of N l) s.front.grown a);
         growth = g;
-        before = spells_back N (put N tree' p (open_leaf w)) tree' p w l g b top acts order slot e s' r.0 (r.1 ∙ s.front.root) en;
+        before = spells_back N (put N tree' p (open_leaf w)) tree' p w l g b top acts order slot e s' r.0 (r.1 ∙ s.front.root) are_acts;
         due = (schedule_back N (put N tree' p (open_leaf w)) tree' p w l g order s.front.schedule).1;
-        is_act = ie;
+        is_act = is_act;
       }
         where
           l : Label N
@@ -65,7 +65,7 @@ module _ (N : Net) where
           t = label_taken N e
 
           a : at N tree' p ≡ Some (tree_of N l)
-          a = tree_at N tree' p l s.front.grown t (act_label N tree' slot p e ie).0 (last_children_wait N tree' order p s.front.schedule)
+          a = tree_at N tree' p l s.front.grown t (act_label N tree' slot p e is_act).0 (last_children_wait N tree' order p s.front.schedule)
 
           g : IsGrowth N (put N tree' p (open_leaf w)) tree' p w l
           g = growth_from N tree' p w l t a
@@ -91,23 +91,23 @@ module _ (N : Net) where
   act_slots law tree slot p h new m heirs (a, c, d) = ap (with_heir (N.heir m) h) d ∙ with-heir_others N law m (λ i. slot (i ∷ p)) h (λ k e. heirs k e ∙ sym c)
 
   module _ (law : IsLawful N) (b : ℕ) (s : State N) (tree tree' : Tree N) (p : Address) (slot : Address → ℕ) where
-    pub is_after : (e : Act N) (g : IsGrowth N tree tree' p (work_at N (label_of N e)) (label_of N e)) (m : Matches N b s tree slot) (un : IsUnblocked N s (slot p)) → IsAct N tree' slot p e
+    pub is_after : (e : Act N) (g : IsGrowth N tree tree' p (work_at N (label_of N e)) (label_of N e)) (m : Matches N b s tree slot) (unblocked : IsUnblocked N s (slot p)) → IsAct N tree' slot p e
         → ((i : ℕ) → heir_of N (label_of N e) ≡ Some i → slot (i ∷ p) ≡ slot p)
         → ((i : ℕ) → i < length (child_works N (label_of N e)) → (heir_of N (label_of N e) ≡ Some i → ⊥) → s.free (slot (i ∷ p)))
         → ((i j : ℕ) → i < length (child_works N (label_of N e)) → j < length (child_works N (label_of N e)) → (heir_of N (label_of N e) ≡ Some i → ⊥) → (heir_of N (label_of N e) ≡ Some j → ⊥) → slot (i ∷ p) ≡ slot (j ∷ p) → i ≡ j)
-        → IsAfter N law b s (after N s e) tree tree' p (work_at N (label_of N e)) (label_of N e) g slot m un
-    is_after (run h w) g m un (a, c) hs fr ap' = record {
-      heirs = hs;
-      was_free = fr;
-      new_apart = ap';
+        → IsAfter N law b s (after N s e) tree tree' p (work_at N (label_of N e)) (label_of N e) g slot m unblocked
+    is_after (run h w) g m unblocked (a, c) heir_slots was_free new_apart = record {
+      heirs = heir_slots;
+      was_free = was_free;
+      new_apart = new_apart;
       holds = λ x v. (λ k. inl (k.0, λ z. k.1 (z.0 ∙ sym c, z.1)), λ k. elim k [ inl z ↦ (z.0, λ y. z.1 (y.0 ∙ c, y.1)) | inr z ↦ (let y = z.2 in absurd cc) ]);
       free = λ x. (λ k. elim k [ inl z ↦ inl (z, λ i h e. (let y = h in omega arith)) | inr z ↦ inr (refl, z ∙ c) ], λ k. elim k [ inl z ↦ inl z.0 | inr z ↦ inr (z.1 ∙ sym c) ]);
       before = λ x y. (λ k. inl (k.0, λ z. k.1 (z.1 ∙ sym c)), λ k. elim k [ inl z ↦ (z.0, λ f. z.1 (refl, f ∙ c)) | inr (inl z) ↦ absurd z.2 | inr (inr z) ↦ absurd z.1 ]);
     }
-    is_after (apply h new n) g m un (a, c, d) hs fr ap' = record {
-      heirs = hs;
-      was_free = fr;
-      new_apart = ap';
+    is_after (apply h new n) g m unblocked (a, c, d) heir_slots was_free new_apart = record {
+      heirs = heir_slots;
+      was_free = was_free;
+      new_apart = new_apart;
       holds = λ x v. (
         λ k. elim k [ inl z ↦ inl (z.0, λ y. z.1 (y.0 ∙ sym c, y.1)) | inr z ↦ inr (z.0, ((child z.0 x).0 z.1).1, z.2) ],
         λ k. elim k [ inl z ↦ inl (z.0, λ y. z.1 (y.0 ∙ c, y.1)) | inr z ↦ inr (z.0, (child z.0 x).1 (slice_get_within (N.works n) z.0 v z.2, z.1), z.2) ],
@@ -120,7 +120,7 @@ module _ (N : Net) where
     }
       where
         child : (i x : ℕ) → IsSlotOf N h new n i x ↔ ((i < count N n) × (x ≡ slot (i ∷ p)))
-        child i x = subst (λ z. (slice_get z i ≡ Some x) ↔ ((i < count N n) × (x ≡ slot (i ∷ p)))) (sym (act_slots law tree' slot p h new n hs (a, c, d))) (get_number (λ i. slot (i ∷ p)) (count N n) i x)
+        child i x = subst (λ z. (slice_get z i ≡ Some x) ↔ ((i < count N n) × (x ≡ slot (i ∷ p)))) (sym (act_slots law tree' slot p h new n heir_slots (a, c, d))) (get_number (λ i. slot (i ∷ p)) (count N n) i x)
 
         to : (x y : ℕ) → (after N s (apply h new n)).before x y → (s.before x y × ((count N n ≡ 0) × (x ≡ slot p) → ⊥)) ⊎ (((i : ℕ) × (j : ℕ) × N.Pair n i j × (x ≡ slot (i ∷ p)) × (y ≡ slot (j ∷ p))) ⊎ ((i : ℕ) × N.IsCopier n i × (x ≡ slot (i ∷ p)) × s.before (slot p) y))
         to x y (inl z) = inl (z.0, λ f. z.1 (f.0, f.1 ∙ sym c))
@@ -132,20 +132,20 @@ module _ (N : Net) where
         from x y (inr (inl (i, j, pr, ex, ey))) = let r = law.pairs n i j pr in inr (inl (i, j, pr, (child i x).1 (r.0, ex), (child j y).1 (r.1, ey)))
         from x y (inr (inr (i, k, ex, bf))) = inr (inr (i, k, (child i x).1 (law.copier_is_child n i k, ex), subst (λ z. s.before z y) (sym c) bf))
 
-    may : (e : Act N) (g : IsGrowth N tree tree' p (work_at N (label_of N e)) (label_of N e)) (m : Matches N b s tree slot) (un : IsUnblocked N s (slot p)) → IsAct N tree' slot p e → IsLegal N (label_of N e)
+    may : (e : Act N) (g : IsGrowth N tree tree' p (work_at N (label_of N e)) (label_of N e)) (m : Matches N b s tree slot) (unblocked : IsUnblocked N s (slot p)) → IsAct N tree' slot p e → IsLegal N (label_of N e)
         → ((i : ℕ) → heir_of N (label_of N e) ≡ Some i → slot (i ∷ p) ≡ slot p)
         → ((i : ℕ) → i < length (child_works N (label_of N e)) → (heir_of N (label_of N e) ≡ Some i → ⊥) → s.free (slot (i ∷ p)))
         → ((i j : ℕ) → i < length (child_works N (label_of N e)) → j < length (child_works N (label_of N e)) → (heir_of N (label_of N e) ≡ Some i → ⊥) → (heir_of N (label_of N e) ≡ Some j → ⊥) → slot (i ∷ p) ≡ slot (j ∷ p) → i ≡ j)
         → May N s e
-    may (run h w) g m un (a, c) lg hs fr ap' = record { holds = (m.holds h w).1 (p, g.was, sym c); simple = lg; unblocked = λ x bf. un x (subst (s.before x) c bf) }
-    may (apply h new n) g m un (a, c, d) lg hs fr ap' = record {
+    may (run h w) g m unblocked (a, c) legal heir_slots was_free new_apart = record { holds = (m.holds h w).1 (p, g.was, sym c); simple = legal; unblocked = λ x bf. unblocked x (subst (s.before x) c bf) }
+    may (apply h new n) g m unblocked (a, c, d) legal heir_slots was_free new_apart = record {
       holds = (m.holds h (N.head n)).1 (p, g.was, sym c);
-      ground = lg;
-      unblocked = λ x bf. un x (subst (s.before x) c bf);
+      ground = legal;
+      unblocked = λ x bf. unblocked x (subst (s.before x) c bf);
       enough = ap length d ∙ length-map (others N n) child;
-      free = λ x k. (let (i, o, e) = map_cases child (others N n) x (subst (λ z. Contains z x) d k) in let r = (rest_cases (N.heir n) (count N n) i).0 o in subst s.free e (fr i r.0 r.1));
+      free = λ x k. (let (i, o, e) = map_cases child (others N n) x (subst (λ z. Contains z x) d k) in let r = (rest_cases (N.heir n) (count N n) i).0 o in subst s.free e (was_free i r.0 r.1));
       apart = subst AreDifferent (sym d) (different-map child (others N n) (different_rest (N.heir n) (count N n))
-          (λ i j o q. (let r = (rest_cases (N.heir n) (count N n) i).0 o in let u = (rest_cases (N.heir n) (count N n) j).0 q in ap' i j r.0 u.0 r.1 u.1)));
+          (λ i j o q. (let r = (rest_cases (N.heir n) (count N n) i).0 o in let u = (rest_cases (N.heir n) (count N n) j).0 q in new_apart i j r.0 u.0 r.1 u.1)));
     }
       where
         child : ℕ → ℕ
@@ -155,8 +155,8 @@ module _ (N : Net) where
     -- what a step of a spelling is for the machine
     step_back : (acts' : List (Act N)) (tree' : Tree N) (order : List Address) (p : Address) (slot : Address → ℕ) (s : State N) → Spells N b top acts' tree' (order ++ p ∷ []) slot → (d : LastStep b top acts' tree' order p slot) → Matches N b s d.tree slot → May N s d.act × Matches N b (after N s d.act) tree' slot
     step_back acts' tree' order p slot s sp d m = (
-      may law b s d.tree tree' p slot d.act d.growth m un d.is_act d.legal heirs was_free new_apart,
-      keeps N law b s (after N s d.act) d.tree tree' p w l d.growth slot m un (is_after law b s d.tree tree' p slot d.act d.growth m un d.is_act heirs was_free new_apart),
+      may law b s d.tree tree' p slot d.act d.growth m unblocked d.is_act d.legal heirs was_free new_apart,
+      keeps N law b s (after N s d.act) d.tree tree' p w l d.growth slot m unblocked (is_after law b s d.tree tree' p slot d.act d.growth m unblocked d.is_act heirs was_free new_apart),
     )
       where
         l : Label N
@@ -165,8 +165,8 @@ module _ (N : Net) where
         w : N.Work
         w = work_at N l
 
-        un : IsUnblocked N s (slot p)
-        un = due_unblocked N law b s d.tree tree' p w l d.growth slot m order d.before.front.schedule d.due
+        unblocked : IsUnblocked N s (slot p)
+        unblocked = due_unblocked N law b s d.tree tree' p w l d.growth slot m order d.before.front.schedule d.due
 
         child_open : (i : ℕ) → i < length (child_works N l) → IsOpen N tree' (i ∷ p)
         child_open i h = (child i h, d.growth.children i ∙ ap (option_map waits) (slice_get-get_or (child_works N l) i w h))
