@@ -10,6 +10,7 @@ pub mod OrderFormulas
 pub mod EncodedNames
 pub mod EncodedActions
 pub mod EncodedValue
+pub mod Schemas
 pub mod Strata
 pub mod Bound
 pub mod Laws
