@@ -1,10 +1,10 @@
 -- The actions of the printed problem: of the methods, the checks and the source actions.
 -- A slot holds what is pending in it; a method puts its children into slots, an action and a check free their slot.
 -- Source: this project's encoding, after Alford et al., "Bound to Plan", ICAPS 2016.
-use Rattle.std.specs.Prelude.{ℕ, zero, suc, ◌+◌, ◌-◌, Bool, true, false, cond, List, [], ◌∷◌, ◌++◌, map, length, slice_index, Option, Some, None, codes, decimal}
+use Rattle.std.specs.Prelude.{ℕ, zero, suc, ◌+◌, ◌-◌, Bool, true, false, cond, List, [], ◌∷◌, ◌++◌, map, length, slice_index, Option, codes, decimal}
 use Rattle.plan_model.specs.declared.options.Style.{Style}
 use Rattle.plan_model.specs.declared.terms.Term.{Term}
-use Rattle.plan_model.specs.declared.terms.Term.TheVariants.{Var, Obj}
+use Rattle.plan_model.specs.declared.terms.Term.TheVariants.{Var}
 use Rattle.plan_model.specs.declared.terms.Atom.{Atom}
 use Rattle.plan_model.specs.declared.terms.Param.{Param}
 use Rattle.plan_model.specs.declared.networks.Head.{Head}
@@ -91,11 +91,11 @@ module _ (c : Compiled) (names : List (List ℕ)) (b : ℕ) (style : Style) wher
 
   abbrev pub work_action : List ℕ → ℕ → List Param → Formula → List Effect → ActionSchema
   work_action word predicate params pre change = record {
-      name = name names word;
-      params = slot_param c names b (codes "htn_h") ∷ map (source_param names c.hddl.names) params;
-      pre = And (Holds (held_work predicate (length params)) ∷ waiting (suc (length params)) ++ source_condition 1 pre);
-      eff = E.And (freeing (held_work predicate (length params)) (suc (length params)) ++ change);
-    }
+    name = name names word;
+    params = slot_param c names b (codes "htn_h") ∷ map (source_param names c.hddl.names) params;
+    pre = And (Holds (held_work predicate (length params)) ∷ waiting (suc (length params)) ++ source_condition 1 pre);
+    eff = E.And (freeing (held_work predicate (length params)) (suc (length params)) ++ change);
+  }
 
   abbrev pub encoded_action : ℕ → ActionSchema → ActionSchema
   encoded_action a s = work_action (source_word c.hddl.names s.name) (action_predicate c a) s.params s.pre (source_change 1 s.eff)

@@ -1,7 +1,7 @@
 -- The types, objects and predicates of the printed problem.
 -- Source: this project's encoding, after Alford et al., "Bound to Plan", ICAPS 2016.
-use Rattle.std.specs.Prelude.{ℕ, zero, suc, ◌+◌, ◌-◌, ◌==◌, nat_eq, nat_lt, true, cond, List, [], ◌∷◌, ◌++◌, map, filter, take, length, slice_index_or, unwrap_or, position, codes, decimal}
-use Rattle.htn_base.specs.Escapes.{escaped, slot_word}
+use Rattle.std.specs.Prelude.{ℕ, ◌+◌, ◌-◌, ◌==◌, nat_eq, nat_lt, true, cond, List, [], ◌∷◌, ◌++◌, map, filter, take, length, slice_index_or, unwrap_or, position, codes, decimal}
+use Rattle.htn_base.specs.Escapes.{slot_word}
 use Rattle.htn_base.specs.declared.name.Name.{Name}
 use Rattle.plan_model.specs.declared.terms.Param.{Param}
 use Rattle.plan_model.specs.declared.types.Parent.{Parent}
@@ -25,6 +25,7 @@ joined (xs ∷ rest) = xs ++ joined rest
 -- the generated types: `object` is 0
 abbrev pub slot_type : ℕ
 slot_type = 1
+
 abbrev pub object_type : ℕ
 object_type = 2
 
@@ -39,26 +40,35 @@ module _ (c : Compiled) where
   -- the numbers of the predicates: the source's, three generated ones, tasks, actions, checks, guards
   abbrev pub top_predicate : ℕ
   top_predicate = length c.hddl.predicates
+
   abbrev pub free_predicate : ℕ
   free_predicate = length c.hddl.predicates + 1
+
   abbrev pub before_predicate : ℕ
   before_predicate = length c.hddl.predicates + 2
+
   abbrev pub first_task : ℕ
   first_task = length c.hddl.predicates + 3
+
   abbrev pub first_action : ℕ
   first_action = first_task + length c.hddl.tasks
+
   abbrev pub first_check : ℕ
   first_check = first_action + length c.hddl.actions
+
   abbrev pub first_guard : ℕ
   first_guard = first_check + length checked_methods
 
   -- the top task is the one after the last declared task
   abbrev pub task_predicate : ℕ → ℕ
   task_predicate t = cond (t == length c.hddl.tasks) top_predicate (first_task + t)
+
   abbrev pub action_predicate : ℕ → ℕ
   action_predicate a = first_action + a
+
   abbrev pub check_predicate : ℕ → ℕ
   check_predicate m = first_check + length (filter (λ (plan : MethodPlan). plan.checked) (take m c.methods))
+
   abbrev pub guard_predicate : ℕ → ℕ
   guard_predicate ty = first_guard + unwrap_or (position (λ u. u == ty) guard_types) 0
 

@@ -1,4 +1,3 @@
-pub mod Objects
 pub mod Truth
 pub mod ClassicalPlan
 pub mod Network

@@ -1,12 +1,12 @@
 -- The edges between the tasks of a compiled problem; bad cycles, tail-recursive problems, rankings and groups.
 -- Source: this project's, after the tail-recursive problems of Alford et al., "Bound to Plan", ICAPS 2016.
-use Rattle.std.specs.Prelude.{ℕ, ◌≡◌, ◌<◌, ◌⊎◌, ◌↔◌, List, ◌∷◌, ◌++◌, Contains, length, slice_get, Option, Some, None}
+use Rattle.std.specs.Prelude.{ℕ, ◌≡◌, ◌<◌, ◌⊎◌, ◌↔◌, List, ◌∷◌, ◌++◌, Contains, slice_get, Option, Some, None}
 use Rattle.plan_model.specs.declared.values.Compiled.{Compiled}
 use Rattle.task_networks.specs.Order.{IsLast}
 use Rattle.task_networks.specs.Net.{count}
 use Rattle.task_networks.specs.Bound.{IsReached}
 use Rattle.task_networks.specs.Strata as Edges
-use Rattle.plan_meaning.specs.Network.{top_task, IsPairBy}
+use Rattle.plan_meaning.specs.Network.{top_task}
 use Rattle.plan_meaning.specs.Schemas.{Schema, task, schemas}
 
 -- a method, by its place in the compiled list, and the number of one of its children
