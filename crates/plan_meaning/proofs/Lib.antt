@@ -1,2 +1,5 @@
 pub mod Pairs
 pub mod CompiledNetworks
+pub mod TruthEquations
+pub mod EffectEquations
+pub mod TruthExamples
