@@ -2,7 +2,7 @@
 use Rattle.std.proofs.Common.{◌≡◌, ℕ, zero, suc, List, [], ◌∷◌, None, Some, Contains, ◌⊎◌, inl, inr, refl, arith, ◌≤◌, lit<, true, false, sym, ap}
 use Rattle.plan_model.specs.declared.types.Types.{Types}
 use Rattle.plan_model.specs.declared.types.Object.{Object}
-use Rattle.plan_model.specs.Typing.{Leads, stay, climb, union_at, InType}
+use Rattle.plan_model.specs.Typing.{Leads, stay, climb, union_at, InType, IsA}
 
 -- the types are object 0, block 1, red 2 and city 3, and the union is 4
 abbrev types : Types
@@ -65,3 +65,9 @@ b_is_not_red (object, at, inl (inr leads)) =
     let low = above_block leads declared in
     omega arith
 b_is_not_red (object, at, inr (members, union, part)) = cc
+
+the_union_is_a_part_of_object : IsA types 4 0
+the_union_is_a_part_of_object = λ k member below. inl (inl refl)
+
+red_is_a_part_of_the_union : IsA types 2 4
+red_is_a_part_of_the_union = inr (2 ∷ 3 ∷ [], refl, (0, 2, lit< tt, refl, inr stay))

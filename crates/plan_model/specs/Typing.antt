@@ -5,7 +5,8 @@ use Rattle.plan_model.specs.declared.types.Types.{Types}
 use Rattle.plan_model.specs.declared.types.Parent.{Parent}
 use Rattle.plan_model.specs.declared.types.Object.{Object}
 
--- A chain of listed pairs of a type and its parent leads from one type up to another. No pair leads from a type to itself.
+-- A chain of listed pairs of a type and its parent leads from one type up to another: of no pair from a type to itself,
+-- or first from a type to a parent of it.
 pub data Leads (parents : List Parent) : ℕ → ℕ → Type 0 where
   stay : {ty : ℕ} → Leads parents ty ty
   climb : {ty parent of : ℕ} → Contains parents (record { child = ty; parent = parent }) → Leads parents parent of → Leads parents ty of
