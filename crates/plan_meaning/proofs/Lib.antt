@@ -3,3 +3,6 @@ pub mod CompiledNetworks
 pub mod TruthEquations
 pub mod EffectEquations
 pub mod TruthExamples
+pub mod FlatNetworks
+pub mod RowValues
+pub mod SolutionExamples

@@ -1,5 +1,5 @@
 -- Truth and effects, worked out: two objects o0 and o1 of type 0, and the predicate `seen` of one object.
-use Rattle.std.proofs.Common.{ℕ, zero, suc, ◌≡◌, ◌⊎◌, inl, inr, ◌++◌, List, [], ◌∷◌, refl, ap, sym, subst, ◌∙◌, ◌<◌, Contains, arith, lit<}
+use Rattle.std.proofs.Common.{ℕ, zero, suc, ◌≡◌, ◌⊎◌, inl, inr, ◌++◌, List, [], ◌∷◌, refl, ap, sym, subst, Contains, arith, lit<}
 use Rattle.plan_model.specs.declared.terms.Term.TheVariants.{Var, Obj}
 use Rattle.plan_model.specs.declared.terms.Atom.{Atom}
 use Rattle.plan_model.specs.declared.terms.GroundAtom.{GroundAtom}
@@ -8,7 +8,7 @@ use Rattle.plan_model.specs.declared.formulas.Formula.{Formula}
 use Rattle.plan_model.specs.declared.formulas.Formula.TheVariants.{Holds, Equal, Not, And, Or, Imply, Forall, Exists}
 use Rattle.plan_model.specs.declared.effects.Effect.{Effect}
 use Rattle.plan_model.specs.declared.effects.Effect.TheVariants as E
-use Rattle.plan_meaning.specs.Truth.{State, ground, AreTyped, IsTrueIn, Adds, Deletes, after}
+use Rattle.plan_meaning.specs.Truth.{State, AreTyped, IsTrueIn, Adds, Deletes, after}
 use Rattle.plan_meaning.proofs.TruthEquations.{truth-Holds, truth-Equal, truth-Not, truth-And, truth-Or, truth-Imply, truth-Forall, truth-Exists}
 use Rattle.plan_meaning.proofs.EffectEquations.{adds-Add, adds-Delete, adds-And, adds-Forall, adds-When, deletes-Add, deletes-Delete, deletes-And, deletes-Forall, deletes-When}
 
@@ -39,10 +39,10 @@ any = record { name = record { number = 0 }; ty = 0 } ∷ []
 abbrev holds : State → Formula → Type 0
 holds S f = IsTrueIn InType S f []
 
-to : {A B : Type 0} → A ≡ B → A → B
+pub to : {A B : Type 0} → A ≡ B → A → B
 to e a = subst (λ t. t) e a
 
-from : {A B : Type 0} → A ≡ B → B → A
+pub from : {A B : Type 0} → A ≡ B → B → A
 from e b = subst (λ t. t) (sym e) b
 
 zero_is_not_one : (n : ℕ) → n ≡ 0 → n ≡ 1 → ⊥
@@ -111,6 +111,7 @@ forall_true = from (λ i. truth-Forall InType whole any (Holds (seen 0)) i []) e
     one : (o : ℕ) → (o ≡ 0) ⊎ (o ≡ 1) → IsTrueIn InType whole (Holds (seen 0)) (o ∷ [])
     one o (inl e) = subst (λ z. IsTrueIn InType whole (Holds (seen 0)) (z ∷ [])) (sym e) (from (λ i. truth-Holds InType whole (seen 0) i (0 ∷ [])) (0, lit< tt, refl))
     one o (inr e) = subst (λ z. IsTrueIn InType whole (Holds (seen 0)) (z ∷ [])) (sym e) (from (λ i. truth-Holds InType whole (seen 0) i (1 ∷ [])) (1, lit< tt, refl))
+
     each : (os : List ℕ) → AreTyped InType any os → IsTrueIn InType whole (Holds (seen 0)) ([] ++ os)
     each [] a = absurd a
     each (o ∷ []) a = one o a.0
