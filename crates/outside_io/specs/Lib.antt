@@ -1,0 +1,5 @@
+pub mod Count
+pub mod Folder
+pub mod Files
+pub mod Sink
+pub mod Script

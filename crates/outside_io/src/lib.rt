@@ -1,0 +1,13 @@
+// What lies outside of the program: files that are read and written whole, and sinks that take bytes.
+// It stands on `htn_base` for `Memory`. The layer above uses the contracts of `Files` and `Sink`: a call
+// fails only where the object's count of faults rises, and what is held and written is told where the
+// implementation tells it.
+#![tactic(auto)]
+
+mod files;
+mod folder;
+mod script;
+mod sink;
+
+pub use files::{Files, GetError, PutError};
+pub use sink::{Sink, WriteError};
