@@ -1,6 +1,6 @@
 use Rattle.std.specs.Prelude.{◌≡◌, ℕ, Bool, List, Option, Some, IfSome, option_map, take}
 use Rattle.outside_io.specs.Count.{Rises}
-use Rattle.outside_io.specs.Folder.{Folder, file_of, with_bytes, KeepsOthers}
+use Rattle.outside_io.specs.Folder.{Folder, file_of, with_bytes, told_of, KeepsOthers}
 use Rattle.outside_io.specs.declared.files.GetError.{GetError}
 use Rattle.outside_io.specs.declared.files.GetError.TheVariants as get
 use Rattle.outside_io.specs.declared.files.PutError.{PutError}
@@ -34,6 +34,8 @@ GetRefused old new name get.Memory = new ≡ old
 -- a put after which the name holds these bytes
 pub record PutGives (old new : FilesState) (name bytes : List ℕ) : Type 0 where
   pub held : new.held ≡ option_map (λ folder. with_bytes folder name bytes) old.held
+  pub given : told_of new.held name ≡ option_map (λ _. Some bytes) old.held
+  pub others : KeepsOthers old.held new.held name
   pub get_faults : new.get_faults ≡ old.get_faults
   pub put_faults : new.put_faults ≡ old.put_faults
   pub failed : new.failed ≡ old.failed

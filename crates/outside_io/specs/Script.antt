@@ -52,3 +52,11 @@ pub record ScriptedSink : Type 0 where
 
 abbrev pub sink_state : ScriptedSink → SinkState
 sink_state sink = record { written = Some sink.bytes; faults = sink.writes.faults; refused = sink.refused }
+
+-- no file, and no call that is to fail
+abbrev pub no_files : ScriptedFiles
+no_files = record { folder = []; gets = fresh; puts = fresh; failed = None }
+
+-- nothing taken, and no write that is to fail
+abbrev pub empty_sink : ℕ → ScriptedSink
+empty_sink largest = record { bytes = []; largest = largest; writes = fresh; refused = 0 }

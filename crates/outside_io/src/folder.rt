@@ -1,6 +1,6 @@
-ghost use Rattle.std.specs.Prelude.{◌≡◌, [], OnOk, OnErr, IfOk, take, find, position};
+ghost use Rattle.std.specs.Prelude.{◌≡◌, [], OnOk, OnErr, IfOk, Some, take, find, position};
 ghost use Rattle.std.specs.Option.{option_copied};
-ghost use Rattle.outside_io.specs.Folder.{bytes_of, with_bytes, has_name};
+ghost use Rattle.outside_io.specs.Folder.{bytes_of, with_bytes, has_name, KeepsOthers};
 
 use htn_base::{Memory, Text};
 use std::alloc::Global;
@@ -40,15 +40,26 @@ impl MemFolder {
     }
 
     /// Makes the name hold these bytes. A new name goes last.
+    #[tactic(auto, using(crate::proofs::Folders::puts))]
     pub(crate) fn put(&mut self, name: &str, bytes: &[u8]) -> Result<(), Memory>
         ensures put { OnOk result (self.new ≡ with_bytes self.old name.now bytes.now) }
+        ensures given { OnOk result (bytes_of self.new name.now ≡ Some bytes.now) }
+        ensures others { OnOk result (KeepsOthers (Some self.old) (Some self.new) name.now) }
         ensures unchanged { OnErr result (self.new ≡ self.old) }
     {
         let file = (
             Text::from_slice(self.alloc, name.as_bytes())?,
             Text::from_slice(self.alloc, bytes)?,
         );
-        match place(self.files.as_slice(), name.as_bytes()) {
+        self.place(file)
+    }
+
+    /// Puts a file in the place of the one of its name, or last.
+    fn place(&mut self, file: (Text, Text)) -> Result<(), Memory>
+        ensures put { OnOk result (self.new ≡ with_bytes self.old file.0 file.1) }
+        ensures unchanged { OnErr result (self.new ≡ self.old) }
+    {
+        match position(self.files.as_slice(), file.0.as_slice()) {
             Some(place) => self.files[place] = file,
             None => self.files.push(file)?,
         }
@@ -62,7 +73,7 @@ fn find<'a>(files: &'a [(Text, Text)], name: &[u8]) -> Option<&'a (Text, Text)>
     files.iter().find(|file| file.0.as_slice() == name)
 }
 
-fn place(files: &[(Text, Text)], name: &[u8]) -> Option<usize>
+fn position(files: &[(Text, Text)], name: &[u8]) -> Option<usize>
     ensures { result ≡ position (has_name name.now) files.now }
 {
     files.iter().position(|file| file.0.as_slice() == name)

@@ -6,8 +6,12 @@
 
 mod files;
 mod folder;
+mod mem_files;
+mod mem_sink;
 mod script;
 mod sink;
 
 pub use files::{Files, GetError, PutError};
+pub use mem_files::MemFiles;
+pub use mem_sink::MemSink;
 pub use sink::{Sink, WriteError};

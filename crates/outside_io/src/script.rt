@@ -1,4 +1,5 @@
 ghost use Rattle.std.specs.Prelude.{◌≡◌, OnOk, OnErr};
+ghost use Rattle.outside_io.specs.Count.{Rises};
 ghost use Rattle.outside_io.specs.Script.{fresh, fails_next, after_call, after_fault, with_failing};
 
 use htn_base::{List, Memory};
@@ -58,6 +59,7 @@ impl Script {
     /// Counts a call that failed.
     pub(crate) fn count_fault(&mut self)
         ensures counted { self.new ≡ after_fault self.old }
+        ensures rises { Rises self.old.faults self.new.faults }
     {
         self.calls = self.calls.saturating_add(1);
         self.faults = self.faults.saturating_add(1);
