@@ -1,6 +1,6 @@
-use Rattle.std.proofs.Common.{◌≡◌, ◌≢◌, ◌<◌, ◌≤◌, ℕ, ◌⊎◌, Bool, true, false, cond, List, [], ◌∷◌, ◌++◌, length, get_or, set, Option, Some, None, find, inl, inr, refl, sym, ap, ◌∙◌, arith}
-use Rattle.std.specs.Option.{option_map, option_or}
-use Rattle.std.specs.List.{position_or_len, slice_get}
+use Rattle.std.proofs.Common.{◌≡◌, ◌≢◌, ◌≤◌, ℕ, true, false, List, [], ◌∷◌, length, Option, Some, None, find, inl, inr, refl, sym, ◌∙◌}
+use Rattle.std.specs.Option.{option_or}
+use Rattle.std.specs.List.{position_or_len}
 use Rattle.std.specs.Str.{bytes_eq}
 use Rattle.std.proofs.lemmas.Bool.{cases_Bool, cases_lt, lt-ltb, le-ltb}
 use Rattle.std.proofs.lemmas.List.Folds.{find_at, find-append, find-set, find_past}
@@ -28,14 +28,14 @@ option_or-none (Some x) = refl
 pub bytes_of-with_bytes : (folder : Folder) (name bytes : List ℕ) → bytes_of (with_bytes folder name bytes) name ≡ Some bytes
 bytes_of-with_bytes folder name bytes =
     elim (cases_lt (position_or_len (has_name name) folder) (length folder)) [
-      inl within ↦
-        let placed = lt-ltb _ _ within in
-        let found = find-set (has_name name) folder _ (name, bytes) refl within (same name) in
-        rw (placed, found) refl
-    | inr past ↦
-        let placed = le-ltb _ _ past in
-        let itself = same name in
-        rw (placed, find-append (has_name name) folder ((name, bytes) ∷ []), find-past folder name past, itself) refl
+      | inl within ↦
+          let placed = lt-ltb _ _ within in
+          let found = find-set (has_name name) folder _ (name, bytes) refl within (same name) in
+          rw (placed, found) refl
+      | inr past ↦
+          let placed = le-ltb _ _ past in
+          let itself = same name in
+          rw (placed, find-append (has_name name) folder ((name, bytes) ∷ []), find-past folder name past, itself) refl
     ]
 
 -- and each other name what it held
@@ -43,15 +43,15 @@ pub bytes_of-with_bytes_other : (folder : Folder) (name bytes other : List ℕ) 
 bytes_of-with_bytes_other folder name bytes other differ =
     let fails = apart name other differ in
     elim (cases_lt (position_or_len (has_name name) folder) (length folder)) [
-      inl within ↦
-        let placed = lt-ltb _ _ within in
-        let d : List ℕ × List ℕ = (name, bytes) in
-        let named = (bytes_eq-Decides _ _).0 (passes_at_first (has_name name) folder d within) in
-        let replaced = apart _ other (λ e. differ (e ∙ named)) in
-        rw (placed, find_past (has_name other) folder _ (name, bytes) d replaced fails) refl
-    | inr past ↦
-        let placed = le-ltb _ _ past in
-        rw (placed, find-append (has_name other) folder ((name, bytes) ∷ []), fails, option_or-none (find (has_name other) folder)) refl
+      | inl within ↦
+          let placed = lt-ltb _ _ within in
+          let d : List ℕ × List ℕ = (name, bytes) in
+          let named = (bytes_eq-Decides _ _).0 (passes_at_first (has_name name) folder d within) in
+          let replaced = apart _ other (λ e. differ (e ∙ named)) in
+          rw (placed, find_past (has_name other) folder _ (name, bytes) d replaced fails) refl
+      | inr past ↦
+          let placed = le-ltb _ _ past in
+          rw (placed, find-append (has_name other) folder ((name, bytes) ∷ []), fails, option_or-none (find (has_name other) folder)) refl
     ]
 
 pub ruleset puts = (bytes_of-with_bytes, bytes_of-with_bytes_other)

@@ -3,3 +3,4 @@ pub mod Folder
 pub mod Files
 pub mod Sink
 pub mod Script
+pub mod Untold

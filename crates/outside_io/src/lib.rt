@@ -4,14 +4,21 @@
 // implementation tells it.
 #![tactic(auto)]
 
+mod disk_files;
 mod files;
 mod folder;
 mod mem_files;
 mod mem_sink;
 mod script;
 mod sink;
+mod std_sink;
 
+pub use disk_files::DiskFiles;
 pub use files::{Files, GetError, PutError};
 pub use mem_files::MemFiles;
 pub use mem_sink::MemSink;
 pub use sink::{Sink, WriteError};
+pub use std_sink::StdSink;
+
+#[cfg(test)]
+mod tests;

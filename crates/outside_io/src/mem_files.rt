@@ -91,7 +91,9 @@ impl Files for MemFiles {
         ensures caused { IsErrOf result GetError.Failed → (fails_next self.old.gets ≡ true) ⊎ (bytes_of self.old.folder name.now ≡ None) }
         ensures counted { OnOk result (self.new ≡ record self.old { gets = after_call self.old.gets }) }
     {
-        if !self.gets.fails_next() && let Some(bytes) = self.folder.bytes(name) {
+        if !self.gets.fails_next()
+            && let Some(bytes) = self.folder.bytes(name)
+        {
             let first = first_bytes(alloc, bytes, limit).map_err(|_| GetError::Memory)?;
             self.gets.count_call();
             return Ok(first);
