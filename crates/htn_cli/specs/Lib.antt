@@ -1,0 +1,5 @@
+pub mod Words
+pub mod Refusal
+pub mod Sent
+pub mod Left
+pub mod Ending
