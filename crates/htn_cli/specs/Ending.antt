@@ -1,7 +1,8 @@
 use Rattle.std.specs.Prelude.{◌≡◌, ◌≢◌, ◌⊎◌, ℕ, List, map}
 use Rattle.outside_io.specs.Files.{FilesState}
 use Rattle.outside_io.specs.Sink.{SinkState}
-use Rattle.htn_cli.specs.Words.{Word, Names, Spells, AreOfAForm}
+use Rattle.htn_cli.specs.Names.{Word, Names}
+use Rattle.htn_cli.specs.Words.{Spells, AreOfAForm}
 use Rattle.htn_cli.specs.Refusal.{status_of, line_of}
 use Rattle.htn_cli.specs.Sent.{Told}
 use Rattle.htn_cli.specs.Left.{Texts, Leaves, LeavesDone}

@@ -3,9 +3,8 @@ use Rattle.outside_io.specs.Count.{Rises}
 use Rattle.outside_io.specs.Folder.{told_of, KeepsOthers}
 use Rattle.outside_io.specs.Files.{FilesState, GetFails, PutFails}
 use Rattle.outside_io.specs.Sink.{SinkState}
-use Rattle.htn_cli.specs.Words.{Word, Names}
+use Rattle.htn_cli.specs.Names.{Word, Names}
 use Rattle.htn_cli.specs.Sent.{TakesWhole, TakesThenFails, TakesThenStarves}
-use Rattle.htn_cli.specs.declared.translation.Named.{Named}
 use Rattle.htn_cli.specs.declared.building.Texts.{Texts as Built}
 use Rattle.htn_cli.specs.declared.refusal.Refusal.{Refusal}
 use Rattle.htn_cli.specs.declared.refusal.Refusal.TheVariants as refused
@@ -17,9 +16,6 @@ pub record Texts : Type 0 where
 
 abbrev pub texts_of : Built → Texts
 texts_of built = record { domain = built.domain; problem = built.problem }
-
-abbrev pub names_of : Named → Names
-names_of named = record { domain = named.d.now; problem = named.p.now; printed_domain = named.od.now; printed_problem = named.op.now }
 
 -- what standard output gets: the number of slots
 abbrev pub slots_line : List ℕ

@@ -6,6 +6,7 @@
 mod building;
 mod commands;
 mod encoder;
+mod names;
 mod printer;
 mod program;
 mod refusal;

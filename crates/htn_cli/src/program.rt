@@ -4,10 +4,11 @@ ghost use Rattle.htn_cli.specs.Words.{AreOfAForm};
 ghost use Rattle.htn_cli.specs.Ending.{Ends, IsDone, IsRefused};
 
 use crate::commands::Command;
+use crate::names::Named;
 use crate::refusal::Refusal;
 use crate::status::Status;
 use crate::telling::tell;
-use crate::translation::{Named, translate};
+use crate::translation::translate;
 use crate::words::command;
 use outside_io::{Files, Sink};
 use std::alloc::Global;

@@ -21,6 +21,7 @@ pub enum Refusal<'a> {
 }
 
 /// The line of a refusal in three parts, of which the middle one is the word of a file or empty.
+#[derive(Clone, Copy)]
 pub(crate) struct Line<'a> {
     pub(crate) before: &'static str,
     pub(crate) name: &'a str,

@@ -29,7 +29,8 @@ fn send_parts<S: Sink>(
     ensures part { IfErr result (StopsAt (first.now ++ second.now ++ third.now) (S.state sink.old) (S.state sink.new)) }
 {
     send_two(sink, first, second)?;
-    send(sink, third)
+    send(sink, third)?;
+    Ok(())
 }
 
 fn send_two<S: Sink>(sink: &mut S, first: &[u8], second: &[u8]) -> Result<(), WriteError>
@@ -37,5 +38,6 @@ fn send_two<S: Sink>(sink: &mut S, first: &[u8], second: &[u8]) -> Result<(), Wr
     ensures part { IfErr result (StopsAt (first.now ++ second.now) (S.state sink.old) (S.state sink.new)) }
 {
     send(sink, first)?;
-    send(sink, second)
+    send(sink, second)?;
+    Ok(())
 }

@@ -1,9 +1,11 @@
 ghost use Rattle.std.specs.Prelude.{◌≢◌, IfOk, IfErr, OnOk};
 ghost use Rattle.outside_io.specs.Files.{GetGives, PutGives};
-ghost use Rattle.htn_cli.specs.Left.{Leaves, LeavesDone, names_of, StopsGet, StopsPrint, StopsPut, Texts as PrintedTexts, texts_of};
+ghost use Rattle.htn_cli.specs.Names.{names_of};
+ghost use Rattle.htn_cli.specs.Left.{Leaves, LeavesDone, StopsGet, StopsPrint, StopsPut, Texts as PrintedTexts, texts_of};
 ghost use Rattle.htn_cli.specs.Sent.{TakesWhole};
 
 use crate::building::{Texts, build};
+use crate::names::Named;
 use crate::refusal::Refusal;
 use crate::sending::send;
 use outside_io::{Files, GetError, PutError, Sink, WriteError};
@@ -11,14 +13,6 @@ use std::alloc::Global;
 
 /// A get asks for one byte more than a text may have.
 const ASKED_BYTES: u64 = 65_537;
-
-/// The files of a translation, by their words.
-pub(crate) struct Named<'a> {
-    pub(crate) d: &'a str,
-    pub(crate) p: &'a str,
-    pub(crate) od: &'a str,
-    pub(crate) op: &'a str,
-}
 
 /// Translates into one slot. Both texts are complete before the first put.
 pub(crate) fn translate<'a, F: Files, O: Sink>(

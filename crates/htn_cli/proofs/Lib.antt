@@ -1,0 +1,3 @@
+pub mod WordLists
+pub mod Texts
+pub mod Outputs
