@@ -1,9 +1,12 @@
-use Rattle.std.proofs.Common.{◌≡◌, ◌≢◌, ℕ, List, Option, Some, None, refl, sym, ap, ◌∙◌, rules}
+use Rattle.std.proofs.Common.{◌≡◌, ◌≢◌, ◌⊎◌, ℕ, List, [], Option, Some, None, refl, sym, ap, ◌∙◌, inl, inr, ⊎_elim}
 use Rattle.std.specs.Option.{option_map}
 use Rattle.outside_io.specs.Folder.{Folder, told_of, with_bytes, KeepsOthers}
 use Rattle.outside_io.specs.Files.{FilesState, PutGives, PutFails}
 use Rattle.htn_cli.specs.Names.{Word, Names}
-use Rattle.htn_cli.specs.Left.{Texts, Holds, KeepsAllBut, FirstStands, BothStand, SecondFails}
+use Rattle.outside_io.specs.Sink.{SinkState}
+use Rattle.htn_cli.specs.Left.{Texts, Holds, KeepsAllBut, FirstStands, BothStand, SecondFails, Leaves, StopsGet}
+use Rattle.htn_cli.specs.declared.refusal.Refusal.{Refusal}
+use Rattle.htn_cli.specs.declared.refusal.Refusal.TheVariants as refused
 
 -- where the first put is done, its name holds the text
 pub FirstStands-put : (names : Names) (texts : Texts) (old new : FilesState) → PutGives old new names.printed_domain texts.domain → FirstStands names texts old new
@@ -40,3 +43,18 @@ SecondFails-puts names texts old mid new apart one two =
       put_faults = let e = one.put_faults in rw (← e) two.put_faults;
       failed = two.failed
     }
+
+-- the texts of a run that ends before there are any
+pub no_texts : Texts
+no_texts = record { domain = []; problem = [] }
+
+-- what a refused get leaves
+pub Leaves-get : (names : Names) (name : Word) (old mid new : FilesState) (out : SinkState) (refusal : Refusal)
+  → (name ≡ names.domain) ⊎ (name ≡ names.problem) → mid ≡ old → StopsGet name mid new refusal → Leaves names no_texts refusal old new out out
+Leaves-get names name old mid new out refused.Words input same stops = stops
+Leaves-get names name old mid new out (refused.NotBuilt domain) input same stops = absurd stops
+Leaves-get names name old mid new out (refused.CannotRead word) input same stops =
+    (⊎_elim (λ e. inl (stops.0 ∙ e)) (λ e. inr (stops.0 ∙ e)) input, rw (← same, stops.0) stops.1, refl)
+Leaves-get names name old mid new out (refused.CannotWrite word) input same stops = absurd stops
+Leaves-get names name old mid new out refused.CannotWriteOutput input same stops = absurd stops
+Leaves-get names name old mid new out refused.NoMemory input same stops = inl (stops ∙ same, refl)
