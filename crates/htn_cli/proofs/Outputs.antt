@@ -23,25 +23,25 @@ keeps_all_but old mid new first second one two other here there = two other ther
 
 -- where both puts are done, both names hold their texts
 pub BothStand-puts : (names : Names) (texts : Texts) (old mid new : FilesState) → names.printed_domain ≢ names.printed_problem
-  → PutGives old mid names.printed_domain texts.domain → PutGives mid new names.printed_problem texts.problem → BothStand names texts old new
+    → PutGives old mid names.printed_domain texts.domain → PutGives mid new names.printed_problem texts.problem → BothStand names texts old new
 BothStand-puts names texts old mid new apart one two =
     record {
       domain = two.others names.printed_domain apart ∙ one.given;
       problem = two.given ∙ ap (option_map (λ (folder : Folder). Some texts.problem)) one.held ∙ told_as_before old.held names.printed_domain texts.domain texts.problem;
       others = keeps_all_but old mid new names.printed_domain names.printed_problem one.others two.others;
-      faults = record { get_faults = two.get_faults ∙ one.get_faults; put_faults = two.put_faults ∙ one.put_faults }
+      faults = record { get_faults = two.get_faults ∙ one.get_faults; put_faults = two.put_faults ∙ one.put_faults };
     }
 
 -- where the second put fails, the first name holds its text
 pub SecondFails-puts : (names : Names) (texts : Texts) (old mid new : FilesState) → names.printed_domain ≢ names.printed_problem
-  → PutGives old mid names.printed_domain texts.domain → PutFails mid new names.printed_problem → SecondFails names texts old new
+    → PutGives old mid names.printed_domain texts.domain → PutFails mid new names.printed_problem → SecondFails names texts old new
 SecondFails-puts names texts old mid new apart one two =
     record {
       domain = two.others names.printed_domain apart ∙ one.given;
       others = keeps_all_but old mid new names.printed_domain names.printed_problem one.others two.others;
       get_faults = two.get_faults ∙ one.get_faults;
       put_faults = let e = one.put_faults in rw (← e) two.put_faults;
-      failed = two.failed
+      failed = two.failed;
     }
 
 -- the texts of a run that ends before there are any
@@ -50,7 +50,7 @@ no_texts = record { domain = []; problem = [] }
 
 -- what a refused get leaves
 pub Leaves-get : (names : Names) (name : Word) (old mid new : FilesState) (out : SinkState) (refusal : Refusal)
-  → (name ≡ names.domain) ⊎ (name ≡ names.problem) → mid ≡ old → StopsGet name mid new refusal → Leaves names no_texts refusal old new out out
+    → (name ≡ names.domain) ⊎ (name ≡ names.problem) → mid ≡ old → StopsGet name mid new refusal → Leaves names no_texts refusal old new out out
 Leaves-get names name old mid new out refused.Words input same stops = stops
 Leaves-get names name old mid new out (refused.NotBuilt domain) input same stops = absurd stops
 Leaves-get names name old mid new out (refused.CannotRead word) input same stops =

@@ -31,7 +31,7 @@ IsSentTo-next text done count old mid new sent next =
       within = next.within;
       written = next.written ∙ ap (λ w. with_more w (take count (drop done text))) sent.written ∙ with_more-with_more old.written (take done text) (take count (drop done text)) ∙ ap (with_more old.written) (sym (take-add done count text));
       faults = next.faults ∙ sent.faults;
-      refused = next.refused ∙ sent.refused
+      refused = next.refused ∙ sent.refused;
     }
 
 pub TakesWhole-sent : (text : List ℕ) (done : ℕ) (old new : SinkState) → length text ≤ done → IsSentTo text done old new → TakesWhole text old new
@@ -57,7 +57,7 @@ TakesWhole-append first second old mid new one two =
     record {
       written = two.written ∙ ap (λ w. with_more w second) one.written ∙ with_more-with_more old.written first second;
       faults = two.faults ∙ one.faults;
-      refused = two.refused ∙ one.refused
+      refused = two.refused ∙ one.refused;
     }
 
 TakesPart-first : (first second : List ℕ) (old new : SinkState) → TakesPart first old new → TakesPart (first ++ second) old new
@@ -70,7 +70,7 @@ TakesPart-second first second old mid new one p =
       taken = first ++ p.taken;
       left = p.left;
       parts = ap (λ t. first ++ t) p.parts ∙ sym (append_assoc first p.taken p.left);
-      written = p.written ∙ ap (λ w. with_more w p.taken) one.written ∙ with_more-with_more old.written first p.taken
+      written = p.written ∙ ap (λ w. with_more w p.taken) one.written ∙ with_more-with_more old.written first p.taken;
     }
 
 pub StopsAt-first : (first second : List ℕ) (old new : SinkState) (error : WriteError) → StopsAt first old new error → StopsAt (first ++ second) old new error

@@ -2,8 +2,8 @@ use Rattle.std.proofs.Common.{◌≡◌, ℕ, List, [], ◌∷◌, length, get_o
 
 -- a list of seven by its items
 pub seven_items : {X : Type 0} (xs : List X) (a b c d e f g : X) → length xs ≡ 7
-  → a ≡ get_or xs 0 a → b ≡ get_or xs 1 b → c ≡ get_or xs 2 c → d ≡ get_or xs 3 d → e ≡ get_or xs 4 e → f ≡ get_or xs 5 f → g ≡ get_or xs 6 g
-  → xs ≡ a ∷ b ∷ c ∷ d ∷ e ∷ f ∷ g ∷ []
+    → a ≡ get_or xs 0 a → b ≡ get_or xs 1 b → c ≡ get_or xs 2 c → d ≡ get_or xs 3 d → e ≡ get_or xs 4 e → f ≡ get_or xs 5 f → g ≡ get_or xs 6 g
+    → xs ≡ a ∷ b ∷ c ∷ d ∷ e ∷ f ∷ g ∷ []
 seven_items [] a b c d e f g len p0 p1 p2 p3 p4 p5 p6 = absurd (omega (arith, len))
 seven_items (x0 ∷ []) a b c d e f g len p0 p1 p2 p3 p4 p5 p6 = absurd (omega (arith, len))
 seven_items (x0 ∷ x1 ∷ []) a b c d e f g len p0 p1 p2 p3 p4 p5 p6 = absurd (omega (arith, len))

@@ -7,6 +7,7 @@ use Rattle.htn_cli.specs.Refusal.{status_of, line_of}
 use Rattle.htn_cli.specs.Sent.{Told}
 use Rattle.htn_cli.specs.Left.{Texts, Leaves, LeavesDone}
 use Rattle.htn_cli.specs.declared.status.Status.{Status}
+use Rattle.htn_cli.specs.declared.status.Status.TheVariants as status
 use Rattle.htn_cli.specs.declared.refusal.Refusal.{Refusal}
 use Rattle.htn_cli.specs.declared.refusal.Refusal.TheVariants as refused
 
@@ -40,3 +41,15 @@ pub record Ends (words : List Word) (status : Status) (files files' : FilesState
   pub status_is : status ≡ status_of refusal
   pub left : IsRefused words files files' out out' refusal
   pub told : Told (line_of refusal) err err'
+
+-- the statuses of a run that was refused before its first put
+abbrev pub IsBeforePuts : Status → Type 0
+IsBeforePuts status.TextFault = Unit {0}
+IsBeforePuts status.Words = Unit {0}
+IsBeforePuts status.ReadFault = Unit {0}
+IsBeforePuts _ = ⊥
+
+-- what the files hold and standard output are as they were
+pub record IsUntouched (files files' : FilesState) (out out' : SinkState) : Type 0 where
+  pub held : files'.held ≡ files.held
+  pub written : out' ≡ out

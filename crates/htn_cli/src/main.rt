@@ -13,6 +13,8 @@ mod refusal;
 mod sending;
 mod status;
 mod telling;
+#[cfg(test)]
+mod tests;
 mod translation;
 mod words;
 

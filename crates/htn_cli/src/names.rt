@@ -14,7 +14,9 @@ pub(crate) struct Named<'a> {
 pub(crate) fn are_apart(names: &Named<'_>) -> bool
     ensures { IsTrue result ↔ AreApart (names_of names.now) }
 {
-    differ(names.od, names.op) && differ_from_inputs(names, names.od) && differ_from_inputs(names, names.op)
+    differ(names.od, names.op)
+        && differ_from_inputs(names, names.od)
+        && differ_from_inputs(names, names.op)
 }
 
 fn differ_from_inputs(names: &Named<'_>, output: &str) -> bool

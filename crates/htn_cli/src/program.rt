@@ -1,7 +1,7 @@
 ghost use Rattle.std.specs.Prelude.{◌≡◌, ◌≢◌, ◌↔◌, ◌⊎◌, ◌<◌, IfErr, OnOk, map, string_bytes};
 ghost use Rattle.outside_io.specs.Count.{HasRisen};
 ghost use Rattle.htn_cli.specs.Words.{AreOfAForm};
-ghost use Rattle.htn_cli.specs.Ending.{Ends, IsDone, IsRefused};
+ghost use Rattle.htn_cli.specs.Ending.{Ends, IsBeforePuts, IsDone, IsRefused, IsUntouched};
 
 use crate::commands::Command;
 use crate::names::Named;
@@ -27,6 +27,8 @@ pub fn run<F: Files, O: Sink, E: Sink>(
     ensures refused { result ≢ Status.Done → Ends (map string_bytes words.now) result
         (F.state files.old) (F.state files.new) (O.state out.old) (O.state out.new) (E.state err.old) (E.state err.new) }
 
+    ensures untouched { IsBeforePuts result →
+        IsUntouched (F.state files.old) (F.state files.new) (O.state out.old) (O.state out.new) }
     ensures words { (result ≡ Status.Words) ↔ (AreOfAForm (map string_bytes words.now) → ⊥) }
     ensures read_fault { result ≡ Status.ReadFault → HasRisen (F.state files.old).get_faults (F.state files.new).get_faults }
     ensures write_fault { result ≡ Status.WriteFault →
