@@ -1,10 +1,11 @@
-use Rattle.std.proofs.Common.{◌≡◌, ◌≢◌, ◌⊎◌, ℕ, List, [], Option, Some, None, refl, sym, ap, ◌∙◌, inl, inr, ⊎_elim}
+use Rattle.std.proofs.Common.{◌≡◌, ◌≢◌, ◌⊎◌, [], Option, Some, None, refl, ap, ◌∙◌, inl, inr, ⊎_elim}
 use Rattle.std.specs.Option.{option_map}
-use Rattle.outside_io.specs.Folder.{Folder, told_of, with_bytes, KeepsOthers}
+use Rattle.outside_io.specs.Folder.{Folder, with_bytes, KeepsOthers}
 use Rattle.outside_io.specs.Files.{FilesState, PutGives, PutFails}
 use Rattle.htn_cli.specs.Names.{Word, Names}
 use Rattle.outside_io.specs.Sink.{SinkState}
-use Rattle.htn_cli.specs.Left.{Texts, Holds, KeepsAllBut, FirstStands, BothStand, SecondFails, Leaves, StopsGet}
+use Rattle.htn_cli.specs.Left.{Texts, KeepsAllBut, FirstStands, BothStand, SecondFails, Leaves}
+use Rattle.htn_cli.specs.Stops.{StopsGet}
 use Rattle.htn_cli.specs.declared.refusal.Refusal.{Refusal}
 use Rattle.htn_cli.specs.declared.refusal.Refusal.TheVariants as refused
 

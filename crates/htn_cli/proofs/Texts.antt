@@ -1,11 +1,11 @@
-use Rattle.std.proofs.Common.{◌≡◌, ℕ, ◌+◌, ◌-◌, ◌<◌, ◌≤◌, List, [], ◌∷◌, ◌++◌, length, take, drop, Option, Some, None, refl, sym, ap, ◌∙◌, append_assoc, arith, inl, inr}
+use Rattle.std.proofs.Common.{◌≡◌, ℕ, ◌+◌, ◌≤◌, List, [], ◌++◌, length, take, drop, Option, Some, None, refl, sym, ap, ◌∙◌, append_assoc, arith}
 use Rattle.std.proofs.Math.Seq.{take-add}
 use Rattle.std.proofs.lemmas.List.{append-nil, take-append-drop, take_all}
-use Rattle.outside_io.specs.Count.{HasRisen, Rises}
+use Rattle.outside_io.specs.Count.{Rises}
 use Rattle.outside_io.specs.Sink.{SinkState, WriteRefused}
 use Rattle.outside_io.specs.declared.sink.WriteError.{WriteError}
 use Rattle.outside_io.specs.declared.sink.WriteError.TheVariants.{Failed, Memory}
-use Rattle.htn_cli.specs.Sent.{with_more, TakesWhole, TakesPart, TakesThenFails, TakesThenStarves, TakesNext, StopsAt, Told}
+use Rattle.htn_cli.specs.Sent.{with_more, TakesWhole, TakesPart, TakesNext, StopsAt, Told}
 
 pub with_more-nil : (written : Option (List ℕ)) → with_more written [] ≡ written
 with_more-nil None = refl

@@ -74,21 +74,3 @@ Leaves names texts refused.NoMemory old new out out' =
     ((new ≡ old) × (out' ≡ out))
     ⊎ (FirstStands names texts old new × (out' ≡ out))
     ⊎ (BothStand names texts old new × TakesThenStarves slots_line out out')
-
--- a get that was refused
-abbrev pub StopsGet : Word → FilesState → FilesState → Refusal → Type 0
-StopsGet name old new (refused.CannotRead word) = (word.now ≡ name) × GetFails old new name
-StopsGet name old new refused.NoMemory = new ≡ old
-StopsGet name old new _ = ⊥
-
--- a put that was refused
-abbrev pub StopsPut : Word → FilesState → FilesState → Refusal → Type 0
-StopsPut name old new (refused.CannotWrite word) = (word.now ≡ name) × PutFails old new name
-StopsPut name old new refused.NoMemory = new ≡ old
-StopsPut name old new _ = ⊥
-
--- a text on standard output that was refused
-abbrev pub StopsPrint : List ℕ → SinkState → SinkState → Refusal → Type 0
-StopsPrint text old new refused.CannotWriteOutput = TakesThenFails text old new
-StopsPrint text old new refused.NoMemory = TakesThenStarves text old new
-StopsPrint text old new _ = ⊥

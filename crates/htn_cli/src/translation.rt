@@ -1,7 +1,8 @@
 ghost use Rattle.std.specs.Prelude.{◌≢◌, IfOk, IfErr, OnOk};
 ghost use Rattle.outside_io.specs.Files.{GetGives, PutGives};
 ghost use Rattle.htn_cli.specs.Names.{names_of};
-ghost use Rattle.htn_cli.specs.Left.{Leaves, LeavesDone, StopsGet, StopsPrint, StopsPut, Texts as PrintedTexts, texts_of};
+ghost use Rattle.htn_cli.specs.Left.{Leaves, LeavesDone, Texts as PrintedTexts, texts_of};
+ghost use Rattle.htn_cli.specs.Stops.{StopsGet, StopsPrint, StopsPut};
 ghost use Rattle.htn_cli.specs.Sent.{TakesWhole};
 
 use crate::building::{Texts, build};

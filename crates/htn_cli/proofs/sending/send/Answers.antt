@@ -1,4 +1,3 @@
-use Rattle.std.proofs.Common.{rules}
 use Rattle.std.proofs.lemmas.Result.{err_from_is_err_and}
 use Rattle.htn_cli.proofs.Texts.{IsSentTo-next, StopsAt-sent}
 use Rattle.htn_cli.proofs.sending.send.Goals as goal

@@ -1,4 +1,3 @@
-use Rattle.std.proofs.Common.{rules}
 use Rattle.std.proofs.lemmas.Result.{err_from_is_err_and}
 use Rattle.htn_cli.proofs.Texts.{StopsAt-first, StopsAt-second}
 use Rattle.htn_cli.proofs.telling.send_two.Goals as goal

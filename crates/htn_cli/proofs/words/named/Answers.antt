@@ -1,4 +1,4 @@
-use Rattle.std.proofs.Common.{◌≡◌, ◌∙◌, map, string_bytes, refl, sym, ap, arith, length}
+use Rattle.std.proofs.Common.{◌≡◌, ◌∙◌, map, string_bytes, refl, ap, arith, length}
 use Rattle.htn_cli.proofs.WordLists.{seven_items}
 use Rattle.htn_cli.proofs.words.named.Goals as goal
 
