@@ -1,0 +1,33 @@
+// Laws of the definitions of texts.
+ghost use Rattle.std.specs.Prelude.{◌≡◌, ℕ, true, List};
+ghost use Rattle.text_forms.specs.Bytes.{is_clean};
+ghost use Rattle.text_forms.specs.Tokens.{symbols};
+ghost use Rattle.text_forms.specs.Least.{least_fault};
+ghost use Rattle.text_forms.specs.Lists.{Part, Parts, written};
+ghost use Rattle.text_forms.specs.Words.{Word};
+ghost use Rattle.text_forms.specs.Printing.{bytes, definition, page, is_folded_word, IsPrintablePart, ArePrintableParts};
+ghost use Rattle.text_forms.specs.Laws.{MatchedAreLists, OneNesting, SaysAsPlaced, MatchedAreFaultless, IsLeastOrNone};
+
+/// Matched parentheses are those of nested lists, in one way only.
+pub fn lists_law()
+    ensures matched { MatchedAreLists }
+    ensures one { OneNesting }
+{}
+
+/// The lists of a text's tokens are the same with and without places.
+pub fn tokens_law(text: &[u8])
+    ensures { SaysAsPlaced text.now }
+{}
+
+/// The least fault of codes 1 to 4 is the computed one, and matched parentheses have no fault 2 or 3.
+pub fn faults_law(text: &[u8])
+    ensures least { IsLeastOrNone text.now (least_fault text.now) }
+    ensures matched { MatchedAreFaultless text.now }
+{}
+
+/// What is printed for a nested list, or for a page of sections, says this list.
+pub fn printed_law()
+    ensures list { (p : Part) → IsPrintablePart p → symbols (bytes p) ≡ written p }
+    ensures clean { (kind w : Word) (ps : Parts) → is_folded_word kind ≡ true → is_folded_word w ≡ true → ArePrintableParts ps → is_clean (page kind w ps) ≡ true }
+    ensures page { (kind w : Word) (ps : Parts) → is_folded_word kind ≡ true → is_folded_word w ≡ true → ArePrintableParts ps → symbols (page kind w ps) ≡ written (definition kind w ps) }
+{}
