@@ -1,0 +1,60 @@
+ghost use Rattle.std.specs.Prelude.{◌≡◌, IfOk};
+
+use crate::memory::Memory;
+use std::alloc::Global;
+use std::marker::Model;
+
+/// A value on the heap, which contracts see as the value itself. It stands where a type holds itself.
+#[derive(Debug, Drop)]
+pub struct Boxed<T> {
+    owned: Box<T>,
+}
+
+impl<T> Model for Boxed<T> {
+    ghost Value = { T };
+
+    ghost coded = { T.code };
+
+    ghost view = { λ boxed. boxed.owned.value };
+}
+
+impl<T> Boxed<T> {
+    /// The owned value.
+    pub fn get(&self) -> &T
+        ensures value { result.now ≡ self.now }
+    {
+        &self.owned
+    }
+
+    /// The owned value, taken off the heap.
+    pub fn into_inner(self) -> T
+        ensures value { result ≡ self }
+    {
+        let Boxed { owned } = self;
+        Box::into_inner(owned)
+    }
+}
+
+impl<T: Drop> Boxed<T> {
+    /// Puts a value on the heap. After `Memory` the value is dropped.
+    pub fn new(alloc: Global, value: T) -> Result<Boxed<T>, Memory>
+        ensures value { IfOk result (λ boxed. boxed ≡ value) }
+    {
+        let owned = Box::new(alloc, value)?;
+        Ok(Boxed { owned })
+    }
+}
+
+impl<T: PartialEq> PartialEq for Boxed<T> {
+    ghost eq = { T.eq };
+
+    ghost laws = { T.laws };
+
+    fn eq(&self, other: &Self) -> bool {
+        self.get() == other.get()
+    }
+}
+
+impl<T: Eq> Eq for Boxed<T> {
+    ghost laws = { T.Eq.laws };
+}

@@ -1,0 +1,19 @@
+//! What every crate of the translator stands on: the answer for want of memory, lists and texts that
+//! contracts see as lists, the places of faults, and names.
+//!
+//! Stands on `indexmap` and `itoa`. The contract used above: words and their numbers are one to one.
+#![tactic(auto)]
+
+mod boxed;
+mod fault;
+mod list;
+mod memory;
+mod name;
+mod text;
+
+pub use boxed::Boxed;
+pub use fault::{Fault, Span};
+pub use list::List;
+pub use memory::Memory;
+pub use name::Name;
+pub use text::Text;
