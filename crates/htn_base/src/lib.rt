@@ -15,5 +15,5 @@ pub use boxed::Boxed;
 pub use fault::{Fault, Span};
 pub use list::List;
 pub use memory::Memory;
-pub use name::Name;
+pub use name::{Name, NameTable};
 pub use text::Text;

@@ -1,5 +1,99 @@
+ghost use Rattle.std.specs.Prelude.{◌≡◌, ◌-◌, ◌^◌, ◌<◌, [], length, map, slice_get, IfOk, OnOk, OnErr, Some};
+ghost use Rattle.std.specs.Option.{option_copied, option_map};
+ghost use Rattle.htn_base.specs.Words.{folded};
+
+use crate::memory::Memory;
+use indexmap::IndexSet;
+use std::alloc::Global;
+use std::marker::Model;
+
 /// The number of a word in a name table: its place from 0 in the order in which the words were first seen.
 #[derive(Clone, Copy, Debug, PartialEq, Eq)]
 pub struct Name {
     pub number: u32,
+}
+
+/// Words and their numbers. Contracts see the words in the order in which they were first seen.
+#[derive(Drop)]
+pub struct NameTable {
+    words: IndexSet<Vec<u8>>,
+}
+
+impl Model for NameTable {
+    ghost use Rattle.std.specs.Prelude.{ℕ, List, All, length, ◌<◌, ◌^◌};
+    ghost use Rattle.htn_base.specs.Table.{words_of, IsTable};
+
+    ghost Value = { List (List ℕ) };
+
+    ghost view = { λ table. words_of table.words.keys };
+
+    ghost invariant = { λ table. IsTable (words_of table.words.keys) };
+}
+
+impl NameTable {
+    ghost use Rattle.htn_base.specs.Words.{folded};
+    ghost use Rattle.htn_base.specs.Table.{number_of, with_word, IsTable};
+
+    /// A table of no words. It takes no memory yet.
+    pub fn new(alloc: Global) -> NameTable
+        ensures empty { result ≡ [] }
+    {
+        NameTable {
+            words: IndexSet::new(alloc),
+        }
+    }
+
+    /// The number of words.
+    pub fn len(&self) -> usize
+        ensures length { result ≡ length self.now }
+        ensures sound { IsTable self.now }
+    {
+        self.words.len()
+    }
+
+    /// The name of the word, in lower case. A word that is there keeps its number, and a new word takes the next.
+    /// After `Memory` the table is as it was.
+    pub fn intern(&mut self, word: &[u8]) -> Result<Name, Memory>
+        requires room { length self.old < 2 ^ 32 - 1 }
+        ensures words { OnOk result (self.new ≡ with_word self.old (folded word.now)) }
+        ensures number { IfOk result (λ name. number_of self.new (folded word.now) ≡ Some name.number) }
+        ensures unchanged { OnErr result (self.new ≡ self.old) }
+        ensures sound { IsTable self.new }
+    {
+        let word = in_lower_case(*self.words.allocator(), word)?;
+        let (place, _) = self.words.insert_full(word)?;
+        Ok(Name {
+            number: place as u32,
+        })
+    }
+
+    /// The name of the word as it is given, without folding. `None` exactly where it is not there.
+    pub fn find(&self, word: &[u8]) -> Option<Name>
+        ensures number { option_map (λ name. name.number) result ≡ number_of self.now word.now }
+        ensures sound { IsTable self.now }
+    {
+        let place = self.words.get_index_of(word)?;
+        Some(Name {
+            number: place as u32,
+        })
+    }
+
+    /// The word of the name. `None` exactly for a number that is not given out.
+    pub fn text(&self, name: Name) -> Option<&[u8]>
+        ensures word { option_copied result ≡ slice_get self.now name.number }
+        ensures sound { IsTable self.now }
+    {
+        let word = self.words.get_index(name.number as usize)?;
+        Some(word.as_slice())
+    }
+}
+
+fn in_lower_case(alloc: Global, word: &[u8]) -> Result<Vec<u8>, Memory>
+    ensures { IfOk result (λ lower. lower.items ≡ folded word.now) }
+{
+    let lower = word
+        .iter()
+        .map(|byte| byte.to_ascii_lowercase())
+        .collect(alloc)?;
+    Ok(lower)
 }

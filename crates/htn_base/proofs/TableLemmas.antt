@@ -1,0 +1,109 @@
+-- A name table keeps each word in a vector of its own: what the set says of the vectors, said of the words.
+use Rattle.std.proofs.Common.{◌≡◌, ◌≢◌, ℕ, ◌+◌, ◌-◌, ◌<◌, ◌^◌, List, [], ◌∷◌, ◌++◌, length, get_or, map, Bool, true, false, cond, not, ◌||◌, Some, None, position, nat_lt, nat_eq, refl, sym, ap, ◌∙◌, arith, true≢false}
+use Rattle.std.specs.List.{list_any, position_or_len, prefix_len}
+use Rattle.std.specs.Str.{bytes_eq}
+use Rattle.std.specs.declared.vec.Vec.{Vec}
+use Rattle.std.specs.Cmp.Lexicographic.{pointwise}
+use Rattle.std.proofs.lemmas.Bool.{lt-ltb}
+use Rattle.std.proofs.lemmas.List.{length-map, length-append, map-append}
+use Rattle.std.proofs.lemmas.List.Elements.{All-push}
+use Rattle.std.proofs.lemmas.List.Folds.{list_any_at}
+use Rattle.std.proofs.lemmas.List.Sums.{prefix_len-le-length}
+use Rattle.std.proofs.lemmas.List.Quantifiers.{all_pairs_push}
+use Rattle.std.proofs.lemmas.Slice.Eq.{bytes_eq-Decides}
+use Rattle.std.proofs.lemmas.Str.Ascii.{lowercase-lowercase}
+use Rattle.indexmap.specs.IndexSet.{insert_key}
+use Rattle.htn_base.specs.Words.{folded, IsFolded}
+use Rattle.htn_base.specs.Table.{words_of, number_of, with_word, IsTable}
+
+module _ {X Y : Type 0} (view : X → Y) (test : Y → Bool) where
+  list_any-map : (xs : List X) → list_any test (map view xs) ≡ list_any (λ x. test (view x)) xs
+  list_any-map [] = refl
+  list_any-map (x ∷ xs) = ap (λ rest. test (view x) || rest) (list_any-map xs)
+
+  prefix_len-map : (xs : List X) → prefix_len test (map view xs) ≡ prefix_len (λ x. test (view x)) xs
+  prefix_len-map [] = refl
+  prefix_len-map (x ∷ xs) = ap (λ rest. cond (test (view x)) (1 + rest) 0) (prefix_len-map xs)
+
+module _ {X Y : Type 0} (view : X → Y) (test : Y → Bool) where
+  position-map : (xs : List X) → position test (map view xs) ≡ position (λ x. test (view x)) xs
+  position-map xs =
+      let first = prefix_len-map view (λ y. not (test y)) xs in
+      let long : length (map view xs) ≡ length xs = length-map xs view in
+      ap (λ n. cond (nat_lt n (length (map view xs))) (Some n) None) first
+      ∙ ap (λ n. cond (nat_lt (prefix_len (λ x. not (test (view x))) xs) n) (Some (prefix_len (λ x. not (test (view x))) xs)) None) long
+
+-- a word is looked up among the words where its vector is looked up among the vectors
+pub number_of-words_of : {A : Type 0} (word : List ℕ) (stored : List (Vec ℕ A))
+    → number_of (words_of stored) word ≡ position (λ vector. bytes_eq word vector.items) stored
+number_of-words_of word stored = position-map (λ vector. vector.items) (bytes_eq word) stored
+
+-- a vector is put among the vectors where its word is put among the words
+pub words_of-insert_key : {A : Type 0} (stored : List (Vec ℕ A)) (vector : Vec ℕ A)
+    → words_of (insert_key (λ one other. pointwise nat_eq one.items other.items) stored vector) ≡ with_word (words_of stored) vector.items
+words_of-insert_key stored vector =
+    let known = list_any (λ other. bytes_eq vector.items other.items) stored in
+    by known ∙ ap (λ there. cond there (words_of stored) (words_of stored ++ vector.items ∷ [])) (sym (list_any-map (λ other. other.items) (bytes_eq vector.items) stored))
+  where
+    by : (there : Bool) → words_of (cond there stored (stored ++ vector ∷ [])) ≡ cond there (words_of stored) (words_of stored ++ vector.items ∷ [])
+    by true = refl
+    by false = map-append (λ other. other.items) stored (vector ∷ [])
+
+module _ {X : Type 0} (test : X → Bool) (new : X) (passes : test new ≡ true) where
+  -- a new item stands at the first place that passes the test, whether it was put there now or one like it stood there
+  within : (xs : List X) → list_any test xs ≡ true → position_or_len test xs < length xs
+  within [] there = absurd (true≢false (sym there))
+  within (x ∷ xs) there = by (test x) there (within xs)
+    where
+      by : (now : Bool) → (now || list_any test xs) ≡ true → (list_any test xs ≡ true → position_or_len test xs < length xs)
+          → cond (not now) (1 + position_or_len test xs) 0 < length (x ∷ xs)
+      by true later rest = omega arith
+      by false later rest = let below = rest later in omega arith
+
+  place-push : (xs : List X) → position_or_len test (xs ++ new ∷ []) ≡ position_or_len test xs
+  place-push [] = ap (λ now. cond (not now) (1 + 0) 0) passes
+  place-push (x ∷ xs) = ap (λ rest. cond (not (test x)) (1 + rest) 0) (place-push xs)
+
+  position-at : (xs : List X) → position_or_len test xs < length xs → position test xs ≡ Some (position_or_len test xs)
+  position-at xs below = ap (λ found. cond found (Some (position_or_len test xs)) None) (lt-ltb _ _ below)
+
+  position-insert : (xs : List X) → position test (cond (list_any test xs) xs (xs ++ new ∷ [])) ≡ Some (position_or_len test xs)
+  position-insert xs = by (list_any test xs) refl
+    where
+      by : (there : Bool) → list_any test xs ≡ there → position test (cond there xs (xs ++ new ∷ [])) ≡ Some (position_or_len test xs)
+      by true e = position-at xs (within xs e)
+      by false e =
+          let place = place-push xs in
+          let short = prefix_len-le-length (λ x. not (test x)) xs in
+          let long = length-append xs (new ∷ []) in
+          let below : position_or_len test (xs ++ new ∷ []) < length (xs ++ new ∷ []) = omega arith in
+          position-at (xs ++ new ∷ []) below ∙ ap Some place
+
+-- the number of a word in the table that has it
+pub number_of-with_word : (words : List (List ℕ)) (word : List ℕ) → number_of (with_word words word) word ≡ Some (position_or_len (bytes_eq word) words)
+number_of-with_word words word = position-insert (bytes_eq word) word ((bytes_eq-Decides word word).1 refl) words
+
+-- the place of a vector is that of its word
+pub place-words_of : {A : Type 0} (word : List ℕ) (stored : List (Vec ℕ A))
+    → position_or_len (bytes_eq word) (words_of stored) ≡ position_or_len (λ vector. bytes_eq word vector.items) stored
+place-words_of word stored = prefix_len-map (λ vector. vector.items) (λ other. not (bytes_eq word other)) stored
+
+pub IsFolded-folded : (word : List ℕ) → IsFolded (folded word)
+IsFolded-folded [] = refl
+IsFolded-folded (byte ∷ word) = λ i. lowercase-lowercase byte i ∷ IsFolded-folded word i
+
+-- a table with one more word is a table
+pub IsTable-with_word : (words : List (List ℕ)) (word : List ℕ) → IsTable words → length words < 2 ^ 32 - 1 → IsFolded word → IsTable (with_word words word)
+IsTable-with_word words word table room low = by (list_any (bytes_eq word) words) refl
+  where
+    apart : list_any (bytes_eq word) words ≡ false → (k : ℕ) (d : List ℕ) → k < length words → get_or words k d ≢ word
+    apart none k d below same =
+        true≢false (sym (list_any_at (bytes_eq word) words k d below ((bytes_eq-Decides word _).1 (sym same))) ∙ none)
+
+    by : (there : Bool) → list_any (bytes_eq word) words ≡ there → IsTable (cond there words (words ++ word ∷ []))
+    by true e = table
+    by false e = record {
+      differ = all_pairs_push (λ one other. one ≢ other) words word table.differ (apart e);
+      folded = All-push IsFolded words word table.folded low;
+      short = omega (arith, length-append words (word ∷ []), table.short);
+    }
