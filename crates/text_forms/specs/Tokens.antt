@@ -1,6 +1,6 @@
 -- The tokens of a text: parentheses and words, with their places.
 use Rattle.std.specs.Prelude.{ℕ, ◌+◌, Option, Some, None, List, [], ◌∷◌, ◌++◌, map, length, slice_range}
-use Rattle.std.specs.Str.{str_to_ascii_lowercase}
+use Rattle.htn_base.specs.Words.{folded}
 use Rattle.text_forms.specs.Bytes.{Class, blank, opening, closing, letter, bad, classes}
 
 pub data Kind : Type 0 where
@@ -66,7 +66,7 @@ lexeme_by word at letters = spells at letters
 
 -- the bytes of a token, folded to lower case
 abbrev pub letters_of : List ℕ → Token → List ℕ
-letters_of text t = str_to_ascii_lowercase (slice_range text t.first t.behind)
+letters_of text t = folded (slice_range text t.first t.behind)
 
 abbrev pub lexeme : List ℕ → Token → Lexeme
 lexeme text t = lexeme_by t.kind t.first (letters_of text t)
