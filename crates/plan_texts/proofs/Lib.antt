@@ -1,1 +1,13 @@
-
+pub mod Basics
+pub mod Members
+pub mod Places
+pub mod UnionTypes
+pub mod Readings
+pub mod Effects
+pub mod Spelled
+pub mod SpelledEffects
+pub mod PrintedSpells
+pub mod Unique
+pub mod UniqueNetworks
+pub mod UniqueHddl
+pub mod Equations
