@@ -1,0 +1,66 @@
+ghost use Rattle.std.specs.Prelude.{◌≡◌, IfOk};
+
+use crate::terms::{Atom, Param, Term};
+use htn_base::{Boxed, List, Memory};
+use std::alloc::Global;
+
+/// A condition, as in PDDL 2.1, level 1: an atom, an equality of objects, the connectives and the quantifiers.
+#[derive(Debug, PartialEq, Eq, Drop)]
+pub enum Formula {
+    Holds(Atom),
+    Equal(Term, Term),
+    Not(Boxed<Formula>),
+    And(List<Formula>),
+    Or(List<Formula>),
+    Imply(Boxed<Formula>, Boxed<Formula>),
+    Forall(List<Param>, Boxed<Formula>),
+    Exists(List<Param>, Boxed<Formula>),
+}
+
+impl Formula {
+    /// An equal formula.
+    #[cycle(copy_formula)]
+    pub fn copy(&self, alloc: Global) -> Result<Formula, Memory>
+        ensures equal { IfOk result (λ copy. copy ≡ self.now) }
+    {
+        match self {
+            Formula::Holds(atom) => Ok(Formula::Holds(atom.copy(alloc)?)),
+            Formula::Equal(left, right) => Ok(Formula::Equal(*left, *right)),
+            Formula::Not(part) => Ok(Formula::Not(copy_boxed(alloc, part)?)),
+            Formula::And(parts) => Ok(Formula::And(copy_list(alloc, parts)?)),
+            Formula::Or(parts) => Ok(Formula::Or(copy_list(alloc, parts)?)),
+            Formula::Imply(premise, conclusion) => {
+                let premise = copy_boxed(alloc, premise)?;
+                Ok(Formula::Imply(premise, copy_boxed(alloc, conclusion)?))
+            }
+            Formula::Forall(params, body) => {
+                let params = params.copy(alloc)?;
+                Ok(Formula::Forall(params, copy_boxed(alloc, body)?))
+            }
+            Formula::Exists(params, body) => {
+                let params = params.copy(alloc)?;
+                Ok(Formula::Exists(params, copy_boxed(alloc, body)?))
+            }
+        }
+    }
+}
+
+#[cycle(copy_formula)]
+fn copy_boxed(alloc: Global, formula: &Boxed<Formula>) -> Result<Boxed<Formula>, Memory>
+    ensures equal { IfOk result (λ copy. copy ≡ formula.now) }
+{
+    let copy = formula.get().copy(alloc)?;
+    Boxed::new(alloc, copy)
+}
+
+#[cycle(copy_formula)]
+fn copy_list(alloc: Global, formulas: &List<Formula>) -> Result<List<Formula>, Memory>
+    ensures equal { IfOk result (λ copies. copies ≡ formulas.now) }
+{
+    let parts = formulas.as_slice();
+    let mut copies = List::new(alloc);
+    for part in parts {
+        copies.push(part.copy(alloc)?)?;
+    }
+    Ok(copies)
+}

@@ -1,0 +1,28 @@
+//! The values that are shared by readers, encoder, printers and deciders: terms, formulas, effects, networks,
+//! schemas, types and objects, and the whole values of a problem in HDDL and in PDDL.
+//!
+//! Numbers in a value are places from 0: of a predicate, task, action, method, type or object in the list of the
+//! whole value, of a subtask in its network, and of a variable among those in force.
+//!
+//! Stands on `htn_base`. The contract used above: a copy is equal.
+#![tactic(auto)]
+
+mod effects;
+mod formulas;
+mod networks;
+mod options;
+mod schemas;
+mod steps;
+mod terms;
+mod types;
+mod values;
+
+pub use effects::Effect;
+pub use formulas::Formula;
+pub use networks::{Child, Constraint, Guard, Head, Pair};
+pub use options::{Checks, Style};
+pub use schemas::{ActionSchema, MethodPlan, MethodSchema, Predicate, TaskSchema};
+pub use steps::GroundAction;
+pub use terms::{Atom, GroundAtom, Param, Term};
+pub use types::{Object, Parent, Types};
+pub use values::{Compiled, Hddl, Pddl};

@@ -1,0 +1,75 @@
+ghost use Rattle.std.specs.Prelude.{◌≡◌, IfOk};
+
+use htn_base::{List, Memory, Name};
+use std::alloc::Global;
+
+/// What stands for an object: `Var(k)` is the k-th variable in force, the schema's parameters first and then
+/// those of the quantifiers from outside in; `Obj(x)` is the object of number x.
+#[derive(Clone, Copy, Debug, PartialEq, Eq)]
+pub enum Term {
+    Var(u32),
+    Obj(u32),
+}
+
+impl Term {
+    /// An equal term. It takes no memory.
+    pub fn copy(&self, _alloc: Global) -> Result<Term, Memory>
+        ensures equal { IfOk result (λ copy. copy ≡ self.now) }
+    {
+        Ok(*self)
+    }
+}
+
+/// A variable with its type.
+#[derive(Clone, Copy, Debug, PartialEq, Eq)]
+pub struct Param {
+    pub name: Name,
+    pub ty: u32,
+}
+
+impl Param {
+    /// An equal variable. It takes no memory.
+    pub fn copy(&self, _alloc: Global) -> Result<Param, Memory>
+        ensures equal { IfOk result (λ copy. copy ≡ self.now) }
+    {
+        Ok(*self)
+    }
+}
+
+/// A predicate with terms, as many as it has parameters.
+#[derive(Debug, PartialEq, Eq, Drop)]
+pub struct Atom {
+    pub predicate: u32,
+    pub args: List<Term>,
+}
+
+impl Atom {
+    /// An equal atom.
+    pub fn copy(&self, alloc: Global) -> Result<Atom, Memory>
+        ensures equal { IfOk result (λ copy. copy ≡ self.now) }
+    {
+        Ok(Atom {
+            predicate: self.predicate,
+            args: self.args.copy(alloc)?,
+        })
+    }
+}
+
+/// A predicate with objects, as many as it has parameters.
+#[derive(Debug, PartialEq, Eq, Drop)]
+pub struct GroundAtom {
+    pub predicate: u32,
+    pub args: List<u32>,
+}
+
+impl GroundAtom {
+    /// An equal ground atom.
+    pub fn copy(&self, alloc: Global) -> Result<GroundAtom, Memory>
+        ensures equal { IfOk result (λ copy. copy ≡ self.now) }
+    {
+        Ok(GroundAtom {
+            predicate: self.predicate,
+            args: self.args.copy(alloc)?,
+        })
+    }
+}

@@ -1,0 +1,73 @@
+ghost use Rattle.std.specs.Prelude.{◌≡◌, IfOk};
+
+use htn_base::{List, Memory, Name};
+use std::alloc::Global;
+
+/// One written pair of a type and its parent.
+#[derive(Clone, Copy, Debug, PartialEq, Eq)]
+pub struct Parent {
+    pub child: u32,
+    pub parent: u32,
+}
+
+impl Parent {
+    /// An equal pair. It takes no memory.
+    pub fn copy(&self, _alloc: Global) -> Result<Parent, Memory>
+        ensures equal { IfOk result (λ copy. copy ≡ self.now) }
+    {
+        Ok(*self)
+    }
+}
+
+/// The types. Type 0 is `object`, of which every type is a part; the others follow in the order in which they are
+/// first named. `parents` has each written pair once, by the child's number and then in text order, and a type
+/// without a written parent has the one pair with type 0.
+///
+/// Union k of `unions` is the type of number `names.len() + k`: an object is in it that is in one of its types.
+#[derive(Debug, PartialEq, Eq, Drop)]
+pub struct Types {
+    pub names: List<Name>,
+    pub parents: List<Parent>,
+    pub unions: List<List<u32>>,
+}
+
+impl Types {
+    /// An equal list of types.
+    pub fn copy(&self, alloc: Global) -> Result<Types, Memory>
+        ensures equal { IfOk result (λ copy. copy ≡ self.now) }
+    {
+        Ok(Types {
+            names: self.names.copy(alloc)?,
+            parents: self.parents.copy(alloc)?,
+            unions: copy_unions(alloc, &self.unions)?,
+        })
+    }
+}
+
+fn copy_unions(alloc: Global, unions: &List<List<u32>>) -> Result<List<List<u32>>, Memory>
+    ensures equal { IfOk result (λ copies. copies ≡ unions.now) }
+{
+    let parts = unions.as_slice();
+    let mut copies = List::new(alloc);
+    for part in parts {
+        copies.push(part.copy(alloc)?)?;
+    }
+    Ok(copies)
+}
+
+/// An object with its declared type; a constant is declared in the domain.
+#[derive(Clone, Copy, Debug, PartialEq, Eq)]
+pub struct Object {
+    pub name: Name,
+    pub ty: u32,
+    pub constant: bool,
+}
+
+impl Object {
+    /// An equal object. It takes no memory.
+    pub fn copy(&self, _alloc: Global) -> Result<Object, Memory>
+        ensures equal { IfOk result (λ copy. copy ≡ self.now) }
+    {
+        Ok(*self)
+    }
+}
