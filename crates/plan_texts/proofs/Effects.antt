@@ -9,10 +9,10 @@ use Rattle.plan_texts.specs.TypedLists.{Each}
 use Rattle.text_forms.specs.Printing.{headed}
 use Rattle.plan_texts.specs.Formulas.{IsApplied, effect_step, IsEffect}
 use Rattle.plan_texts.specs.Said.{Typed, Saids, Done, adds, deletes, both, for_every, when, Dones, no_more, and_more, dones, done_step, done}
-use Rattle.plan_model.specs.declared.Term.{Term}
-use Rattle.plan_model.specs.declared.Effect.{Effect, roll-Effect}
-use Rattle.plan_model.specs.declared.Effect.TheFolds.{rec-roll-Effect, fold-roll-Effect, map-Effect, ind-Effect}
-use Rattle.plan_model.specs.declared.Effect.TheOpen.{Effect-F}
+use Rattle.plan_model.specs.declared.terms.Term.{Term}
+use Rattle.plan_model.specs.declared.effects.Effect.{Effect, roll-Effect}
+use Rattle.plan_model.specs.declared.effects.Effect.TheFolds.{rec-roll-Effect, fold-roll-Effect, map-Effect, ind-Effect}
+use Rattle.plan_model.specs.declared.effects.Effect.TheOpen.{Effect-F}
 use Rattle.plan_texts.proofs.Basics.{items}
 use Rattle.plan_texts.proofs.Readings.{or_zero, param_said, first_said, declared, terms_said, readings, each-map, empty-map, terms-said, params-said, scope-said, formula-said}
 

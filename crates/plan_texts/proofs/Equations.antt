@@ -5,15 +5,15 @@ use Rattle.text_forms.specs.Words.{Word}
 use Rattle.plan_texts.specs.Declared.{Declared, variable}
 use Rattle.text_forms.specs.Printing.{headed}
 use Rattle.plan_texts.specs.Printed.{all_parts, term_part, applied_part, params_parts, formula_part, effect_part}
-use Rattle.plan_model.specs.declared.Atom.{Atom}
-use Rattle.plan_model.specs.declared.Param.{Param}
-use Rattle.plan_model.specs.declared.Term.{Term}
-use Rattle.plan_model.specs.declared.Formula.{Formula}
-use Rattle.plan_model.specs.declared.Formula.TheOpen.{Formula-F}
-use Rattle.plan_model.specs.declared.Formula.TheVariants.{Holds, Equal, Not, And, Or, Imply, Forall, Exists, rolls-Holds, rolls-Equal, rolls-Not, rolls-And, rolls-Or, rolls-Imply, rolls-Forall, rolls-Exists}
-use Rattle.plan_model.specs.declared.Effect.{Effect}
-use Rattle.plan_model.specs.declared.Effect.TheOpen.{Effect-F}
-use Rattle.plan_model.specs.declared.Effect.TheVariants.{Delete, And as Both, rolls-Delete, rolls-And as rolls-Both}
+use Rattle.plan_model.specs.declared.terms.Atom.{Atom}
+use Rattle.plan_model.specs.declared.terms.Param.{Param}
+use Rattle.plan_model.specs.declared.terms.Term.{Term}
+use Rattle.plan_model.specs.declared.formulas.Formula.{Formula}
+use Rattle.plan_model.specs.declared.formulas.Formula.TheOpen.{Formula-F}
+use Rattle.plan_model.specs.declared.formulas.Formula.TheVariants.{Holds, Equal, Not, And, Or, Imply, Forall, Exists, rolls-Holds, rolls-Equal, rolls-Not, rolls-And, rolls-Or, rolls-Imply, rolls-Forall, rolls-Exists}
+use Rattle.plan_model.specs.declared.effects.Effect.{Effect}
+use Rattle.plan_model.specs.declared.effects.Effect.TheOpen.{Effect-F}
+use Rattle.plan_model.specs.declared.effects.Effect.TheVariants.{Delete, And as Both, rolls-Delete, rolls-And as rolls-Both}
 use Rattle.plan_texts.proofs.Spelled.{part_roll}
 use Rattle.plan_texts.proofs.SpelledEffects.{effect-part_roll}
 

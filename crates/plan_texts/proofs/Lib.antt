@@ -11,3 +11,4 @@ pub mod Unique
 pub mod UniqueNetworks
 pub mod UniqueHddl
 pub mod Equations
+pub mod AlikeLaws

@@ -14,13 +14,13 @@ use Rattle.plan_texts.specs.SpellsPddl.{pddl_types, pddl_words, ArePddlSections,
 use Rattle.plan_texts.specs.Schemas.{IsObject, IsPredicate, IsAction, IsFact}
 use Rattle.plan_texts.specs.PrintedTexts.{object_words, parent_words, predicate_part, action_part, fact_part, domain_parts, problem_parts, domain_text, problem_text}
 use Rattle.plan_texts.specs.PrintableValue.{arities_of, IsPrintable}
-use Rattle.plan_model.specs.declared.Term.TheVariants.{Obj}
-use Rattle.plan_model.specs.declared.Parent.{Parent}
-use Rattle.plan_model.specs.declared.Object.{Object}
-use Rattle.plan_model.specs.declared.Predicate.{Predicate}
-use Rattle.plan_model.specs.declared.ActionSchema.{ActionSchema}
-use Rattle.plan_model.specs.declared.GroundAtom.{GroundAtom}
-use Rattle.plan_model.specs.declared.Pddl.{Pddl}
+use Rattle.plan_model.specs.declared.terms.Term.TheVariants.{Obj}
+use Rattle.plan_model.specs.declared.types.Parent.{Parent}
+use Rattle.plan_model.specs.declared.types.Object.{Object}
+use Rattle.plan_model.specs.declared.schemas.Predicate.{Predicate}
+use Rattle.plan_model.specs.declared.schemas.ActionSchema.{ActionSchema}
+use Rattle.plan_model.specs.declared.terms.GroundAtom.{GroundAtom}
+use Rattle.plan_model.specs.declared.values.Pddl.{Pddl}
 use Rattle.plan_texts.proofs.Basics.{no_keyword'}
 use Rattle.text_forms.specs.Printing.{ArePrintableParts}
 use Rattle.plan_texts.proofs.Places.{each-at, plain-token}

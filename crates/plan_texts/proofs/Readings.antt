@@ -9,12 +9,12 @@ use Rattle.plan_texts.specs.TypedLists.{Each, EachTyped, IsEmpty, is_dash, kind_
 use Rattle.text_forms.specs.Printing.{headed}
 use Rattle.plan_texts.specs.Formulas.{IsTerm, IsParam, formula_step, IsFormula}
 use Rattle.plan_texts.specs.Said.{Typed, Said, holds, equal, no, all, any, imply, every, some, Saids, none, more, saids, typed, said_step, said}
-use Rattle.plan_model.specs.declared.Term.{Term}
-use Rattle.plan_model.specs.declared.Term.TheVariants.{Var, Obj}
-use Rattle.plan_model.specs.declared.Param.{Param}
-use Rattle.plan_model.specs.declared.Formula.{Formula, roll-Formula}
-use Rattle.plan_model.specs.declared.Formula.TheFolds.{rec-roll-Formula, fold-roll-Formula, map-Formula, ind-Formula}
-use Rattle.plan_model.specs.declared.Formula.TheOpen.{Formula-F}
+use Rattle.plan_model.specs.declared.terms.Term.{Term}
+use Rattle.plan_model.specs.declared.terms.Term.TheVariants.{Var, Obj}
+use Rattle.plan_model.specs.declared.terms.Param.{Param}
+use Rattle.plan_model.specs.declared.formulas.Formula.{Formula, roll-Formula}
+use Rattle.plan_model.specs.declared.formulas.Formula.TheFolds.{rec-roll-Formula, fold-roll-Formula, map-Formula, ind-Formula}
+use Rattle.plan_model.specs.declared.formulas.Formula.TheOpen.{Formula-F}
 use Rattle.plan_texts.proofs.Basics.{items, typed-items}
 
 abbrev pub or_zero : Option ℕ → ℕ

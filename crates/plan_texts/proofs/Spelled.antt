@@ -8,12 +8,12 @@ use Rattle.plan_texts.specs.Formulas.{IsTerm, IsApplied, IsParam, formula_step, 
 use Rattle.plan_texts.specs.Printed.{all_parts, term_part, applied_part, params_parts, formula_part_step, formula_part}
 use Rattle.plan_texts.specs.Printable.{IsPlain, IsInForce, IsSoundAtom, IsSoundParam, sound_step, IsSound, HasWords}
 use Rattle.plan_texts.specs.Types.{EachIs}
-use Rattle.plan_model.specs.declared.Term.{Term}
-use Rattle.plan_model.specs.declared.Term.TheVariants.{Var, Obj}
-use Rattle.plan_model.specs.declared.Param.{Param}
-use Rattle.plan_model.specs.declared.Formula.{Formula, roll-Formula}
-use Rattle.plan_model.specs.declared.Formula.TheFolds.{rec-roll-Formula, fold-roll-Formula, map-Formula, ind-Formula}
-use Rattle.plan_model.specs.declared.Formula.TheOpen.{Formula-F}
+use Rattle.plan_model.specs.declared.terms.Term.{Term}
+use Rattle.plan_model.specs.declared.terms.Term.TheVariants.{Var, Obj}
+use Rattle.plan_model.specs.declared.terms.Param.{Param}
+use Rattle.plan_model.specs.declared.formulas.Formula.{Formula, roll-Formula}
+use Rattle.plan_model.specs.declared.formulas.Formula.TheFolds.{rec-roll-Formula, fold-roll-Formula, map-Formula, ind-Formula}
+use Rattle.plan_model.specs.declared.formulas.Formula.TheOpen.{Formula-F}
 use Rattle.text_forms.specs.Printing.{IsPrintablePart, ArePrintableParts}
 use Rattle.plan_texts.proofs.Places.{each-at, first-different, last-is, each-append, plain-token, name-variable}
 use Rattle.plan_texts.proofs.Readings.{formula_roll}

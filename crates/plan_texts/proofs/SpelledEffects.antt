@@ -8,9 +8,9 @@ use Rattle.plan_texts.specs.Formulas.{effect_step, IsEffect}
 use Rattle.plan_texts.specs.Printed.{all_parts, applied_part, params_parts, formula_part, effect_part_step, effect_part}
 use Rattle.plan_texts.specs.Printable.{IsPlain, sound_effect_step, IsSoundEffect, HasWords}
 use Rattle.plan_texts.specs.Types.{EachIs}
-use Rattle.plan_model.specs.declared.Effect.{Effect, roll-Effect}
-use Rattle.plan_model.specs.declared.Effect.TheFolds.{rec-roll-Effect, fold-roll-Effect, map-Effect, ind-Effect}
-use Rattle.plan_model.specs.declared.Effect.TheOpen.{Effect-F}
+use Rattle.plan_model.specs.declared.effects.Effect.{Effect, roll-Effect}
+use Rattle.plan_model.specs.declared.effects.Effect.TheFolds.{rec-roll-Effect, fold-roll-Effect, map-Effect, ind-Effect}
+use Rattle.plan_model.specs.declared.effects.Effect.TheOpen.{Effect-F}
 use Rattle.text_forms.specs.Printing.{IsPrintablePart, ArePrintableParts}
 use Rattle.plan_texts.proofs.Places.{each-append}
 use Rattle.plan_texts.proofs.Spelled.{each_is-map, spelled-atom, spelled-params, plain-scope, formula-spelled}

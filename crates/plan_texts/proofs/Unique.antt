@@ -12,14 +12,14 @@ use Rattle.plan_texts.specs.SpellsPddl.{pddl_types, pddl_words, pddl_domain_word
 use Rattle.plan_texts.specs.Types.{Has, TypeItem, IsTypeItem, Mentions, IsPairSaid, IsPairOf, AreTypes}
 use Rattle.plan_texts.specs.Schemas.{IsObject, IsPredicate, IsAction, IsFact}
 use Rattle.plan_texts.specs.Alike.{object_said, predicate_said, action_said, AreAlikePddl}
-use Rattle.plan_model.specs.declared.Term.TheVariants.{Obj}
-use Rattle.plan_model.specs.declared.Param.{Param}
-use Rattle.plan_model.specs.declared.Parent.{Parent}
-use Rattle.plan_model.specs.declared.Object.{Object}
-use Rattle.plan_model.specs.declared.Predicate.{Predicate}
-use Rattle.plan_model.specs.declared.ActionSchema.{ActionSchema}
-use Rattle.plan_model.specs.declared.GroundAtom.{GroundAtom}
-use Rattle.plan_model.specs.declared.Pddl.{Pddl}
+use Rattle.plan_model.specs.declared.terms.Term.TheVariants.{Obj}
+use Rattle.plan_model.specs.declared.terms.Param.{Param}
+use Rattle.plan_model.specs.declared.types.Parent.{Parent}
+use Rattle.plan_model.specs.declared.types.Object.{Object}
+use Rattle.plan_model.specs.declared.schemas.Predicate.{Predicate}
+use Rattle.plan_model.specs.declared.schemas.ActionSchema.{ActionSchema}
+use Rattle.plan_model.specs.declared.terms.GroundAtom.{GroundAtom}
+use Rattle.plan_model.specs.declared.values.Pddl.{Pddl}
 use Rattle.plan_texts.proofs.Basics.{items}
 use Rattle.text_forms.proofs.OneNesting.{one_part}
 use Rattle.plan_texts.proofs.Readings.{param_said, terms_said, reading, terms-said, params-said, scope-said, formula-said}

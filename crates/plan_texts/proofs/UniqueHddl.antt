@@ -7,7 +7,7 @@ use Rattle.plan_texts.specs.Schemas.{IsObject, IsPredicate, IsAction, IsFact}
 use Rattle.plan_texts.specs.Alike.{object_said, predicate_said, action_said, task_said, method_said, AreAlikeHddl}
 use Rattle.plan_texts.specs.Networks.{IsTask, IsMethod, IsTop}
 use Rattle.plan_texts.specs.SpellsHddl.{hddl_types, hddl_domain_words, task_words, action_words, AreHddlSections, SpellsHddl}
-use Rattle.plan_model.specs.declared.Hddl.{Hddl}
+use Rattle.plan_model.specs.declared.values.Hddl.{Hddl}
 use Rattle.text_forms.proofs.OneNesting.{one_part}
 use Rattle.plan_texts.proofs.Readings.{reading, formula-said}
 use Rattle.plan_texts.proofs.Unique.{same-each, same-typed, map-is, map-map, map-append, same-object, same-predicate, same-action, same-fact, same-words, same-pairs, same_definition}

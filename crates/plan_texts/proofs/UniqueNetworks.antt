@@ -11,14 +11,14 @@ use Rattle.plan_texts.specs.Sections.{parameters, precondition, found, stands, b
 use Rattle.plan_texts.specs.Networks.{ordered_subtasks, ordering, task, head_of, chain_if, IsCall, IsSubtaskBy, IsSubtask, id_word, ids, IsOrdered, IsEquation, IsConstraintBy, IsConstraint, IsNetwork, IsTask, IsMethod, IsTop}
 use Rattle.plan_texts.specs.Alike.{child_said, task_said, network_said, method_said}
 use Rattle.htn_base.specs.declared.name.Name.{Name}
-use Rattle.plan_model.specs.declared.Term.{Term}
-use Rattle.plan_model.specs.declared.Term.TheVariants.{Var, Obj}
-use Rattle.plan_model.specs.declared.Head.{Head}
-use Rattle.plan_model.specs.declared.Child.{Child}
-use Rattle.plan_model.specs.declared.Pair.{Pair}
-use Rattle.plan_model.specs.declared.Constraint.{Constraint}
-use Rattle.plan_model.specs.declared.TaskSchema.{TaskSchema}
-use Rattle.plan_model.specs.declared.MethodSchema.{MethodSchema}
+use Rattle.plan_model.specs.declared.terms.Term.{Term}
+use Rattle.plan_model.specs.declared.terms.Term.TheVariants.{Var, Obj}
+use Rattle.plan_model.specs.declared.networks.Head.{Head}
+use Rattle.plan_model.specs.declared.networks.Child.{Child}
+use Rattle.plan_model.specs.declared.networks.Pair.{Pair}
+use Rattle.plan_model.specs.declared.networks.Constraint.{Constraint}
+use Rattle.plan_model.specs.declared.schemas.TaskSchema.{TaskSchema}
+use Rattle.plan_model.specs.declared.schemas.MethodSchema.{MethodSchema}
 use Rattle.plan_texts.proofs.Basics.{items}
 use Rattle.plan_texts.proofs.Readings.{param_said, term_said, terms_said, reading, term-said, terms-said, scope-said, formula-said}
 use Rattle.plan_texts.proofs.Members.{length-map}

@@ -6,18 +6,18 @@ use Rattle.plan_texts.specs.Types.{Has, IsPairOf}
 use Rattle.plan_texts.specs.SpellsPddl.{pddl_types, pddl_words}
 use Rattle.plan_texts.specs.SpellsHddl.{hddl_types, hddl_words}
 use Rattle.plan_texts.specs.Said.{Typed, typed, Said, said, Done, done}
-use Rattle.plan_model.specs.declared.Term.{Term}
-use Rattle.plan_model.specs.declared.Head.{Head}
-use Rattle.plan_model.specs.declared.Child.{Child}
-use Rattle.plan_model.specs.declared.Pair.{Pair}
-use Rattle.plan_model.specs.declared.Constraint.{Constraint}
-use Rattle.plan_model.specs.declared.Object.{Object}
-use Rattle.plan_model.specs.declared.Predicate.{Predicate}
-use Rattle.plan_model.specs.declared.TaskSchema.{TaskSchema}
-use Rattle.plan_model.specs.declared.ActionSchema.{ActionSchema}
-use Rattle.plan_model.specs.declared.MethodSchema.{MethodSchema}
-use Rattle.plan_model.specs.declared.Pddl.{Pddl}
-use Rattle.plan_model.specs.declared.Hddl.{Hddl}
+use Rattle.plan_model.specs.declared.terms.Term.{Term}
+use Rattle.plan_model.specs.declared.networks.Head.{Head}
+use Rattle.plan_model.specs.declared.networks.Child.{Child}
+use Rattle.plan_model.specs.declared.networks.Pair.{Pair}
+use Rattle.plan_model.specs.declared.networks.Constraint.{Constraint}
+use Rattle.plan_model.specs.declared.types.Object.{Object}
+use Rattle.plan_model.specs.declared.schemas.Predicate.{Predicate}
+use Rattle.plan_model.specs.declared.schemas.TaskSchema.{TaskSchema}
+use Rattle.plan_model.specs.declared.schemas.ActionSchema.{ActionSchema}
+use Rattle.plan_model.specs.declared.schemas.MethodSchema.{MethodSchema}
+use Rattle.plan_model.specs.declared.values.Pddl.{Pddl}
+use Rattle.plan_model.specs.declared.values.Hddl.{Hddl}
 
 module _ (v : Declared) where
   -- word, word of the type, whether it is a constant

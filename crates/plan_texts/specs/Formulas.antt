@@ -5,15 +5,15 @@ use Rattle.text_forms.specs.Words.{Word, is_name, is_variable, word_at, first_pl
 use Rattle.text_forms.specs.Printing.{headed}
 use Rattle.plan_texts.specs.Declared.{Declared, kind_at, variable}
 use Rattle.plan_texts.specs.TypedLists.{Each, IsEmpty, EachTyped, type_said, kind_said, are_names}
-use Rattle.plan_model.specs.declared.Term.{Term}
-use Rattle.plan_model.specs.declared.Term.TheVariants.{Var, Obj}
-use Rattle.plan_model.specs.declared.Param.{Param}
-use Rattle.plan_model.specs.declared.Formula.{Formula}
-use Rattle.plan_model.specs.declared.Formula.TheFolds.{rec-Formula}
-use Rattle.plan_model.specs.declared.Formula.TheOpen.{Formula-F}
-use Rattle.plan_model.specs.declared.Effect.{Effect}
-use Rattle.plan_model.specs.declared.Effect.TheFolds.{rec-Effect}
-use Rattle.plan_model.specs.declared.Effect.TheOpen.{Effect-F}
+use Rattle.plan_model.specs.declared.terms.Term.{Term}
+use Rattle.plan_model.specs.declared.terms.Term.TheVariants.{Var, Obj}
+use Rattle.plan_model.specs.declared.terms.Param.{Param}
+use Rattle.plan_model.specs.declared.formulas.Formula.{Formula}
+use Rattle.plan_model.specs.declared.formulas.Formula.TheFolds.{rec-Formula}
+use Rattle.plan_model.specs.declared.formulas.Formula.TheOpen.{Formula-F}
+use Rattle.plan_model.specs.declared.effects.Effect.{Effect}
+use Rattle.plan_model.specs.declared.effects.Effect.TheFolds.{rec-Effect}
+use Rattle.plan_model.specs.declared.effects.Effect.TheOpen.{Effect-F}
 
 module _ (v : Declared) where
   -- the word of a variable is that of the innermost one in force; that of an object is its first declaration's

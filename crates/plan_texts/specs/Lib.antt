@@ -13,3 +13,4 @@ pub mod Printed
 pub mod PrintedTexts
 pub mod Printable
 pub mod PrintableValue
+pub mod FirstSeen

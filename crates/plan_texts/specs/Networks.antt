@@ -9,14 +9,14 @@ use Rattle.plan_texts.specs.Formulas.{IsTerm, IsFormula}
 use Rattle.plan_texts.specs.Sections.{parameters, precondition, effect, are_entries, found, stands, bundle}
 use Rattle.plan_texts.specs.Schemas.{AreParams}
 use Rattle.htn_base.specs.declared.name.Name.{Name}
-use Rattle.plan_model.specs.declared.Term.{Term}
-use Rattle.plan_model.specs.declared.Head.{Head}
-use Rattle.plan_model.specs.declared.Head.TheVariants.{Task, Action}
-use Rattle.plan_model.specs.declared.Child.{Child}
-use Rattle.plan_model.specs.declared.Pair.{Pair}
-use Rattle.plan_model.specs.declared.Constraint.{Constraint}
-use Rattle.plan_model.specs.declared.TaskSchema.{TaskSchema}
-use Rattle.plan_model.specs.declared.MethodSchema.{MethodSchema}
+use Rattle.plan_model.specs.declared.terms.Term.{Term}
+use Rattle.plan_model.specs.declared.networks.Head.{Head}
+use Rattle.plan_model.specs.declared.networks.Head.TheVariants.{Task, Action}
+use Rattle.plan_model.specs.declared.networks.Child.{Child}
+use Rattle.plan_model.specs.declared.networks.Pair.{Pair}
+use Rattle.plan_model.specs.declared.networks.Constraint.{Constraint}
+use Rattle.plan_model.specs.declared.schemas.TaskSchema.{TaskSchema}
+use Rattle.plan_model.specs.declared.schemas.MethodSchema.{MethodSchema}
 
 -- the four keywords of subtasks count as one part, and so do the two of pairs
 abbrev pub subtasks : List Word

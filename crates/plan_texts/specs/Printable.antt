@@ -4,15 +4,15 @@ use Rattle.text_forms.specs.Words.{Word, is_name, word_at, last_place}
 use Rattle.text_forms.specs.Printing.{are_folded}
 use Rattle.plan_texts.specs.Declared.{Declared, kinds, variable}
 use Rattle.plan_texts.specs.Types.{Has, EachIs, AreDifferent}
-use Rattle.plan_model.specs.declared.Term.{Term}
-use Rattle.plan_model.specs.declared.Term.TheVariants.{Var, Obj}
-use Rattle.plan_model.specs.declared.Param.{Param}
-use Rattle.plan_model.specs.declared.Formula.{Formula}
-use Rattle.plan_model.specs.declared.Formula.TheFolds.{rec-Formula}
-use Rattle.plan_model.specs.declared.Formula.TheOpen.{Formula-F}
-use Rattle.plan_model.specs.declared.Effect.{Effect}
-use Rattle.plan_model.specs.declared.Effect.TheFolds.{rec-Effect}
-use Rattle.plan_model.specs.declared.Effect.TheOpen.{Effect-F}
+use Rattle.plan_model.specs.declared.terms.Term.{Term}
+use Rattle.plan_model.specs.declared.terms.Term.TheVariants.{Var, Obj}
+use Rattle.plan_model.specs.declared.terms.Param.{Param}
+use Rattle.plan_model.specs.declared.formulas.Formula.{Formula}
+use Rattle.plan_model.specs.declared.formulas.Formula.TheFolds.{rec-Formula}
+use Rattle.plan_model.specs.declared.formulas.Formula.TheOpen.{Formula-F}
+use Rattle.plan_model.specs.declared.effects.Effect.{Effect}
+use Rattle.plan_model.specs.declared.effects.Effect.TheFolds.{rec-Effect}
+use Rattle.plan_model.specs.declared.effects.Effect.TheOpen.{Effect-F}
 
 -- a folded NAME that isn't reserved
 abbrev pub IsPlain : Word → Type 0

@@ -5,13 +5,13 @@ use Rattle.plan_texts.specs.Declared.{named, variable}
 use Rattle.plan_texts.specs.Types.{Has, EachIs, AreDifferent}
 use Rattle.plan_texts.specs.SpellsPddl.{pddl_types, pddl_words}
 use Rattle.plan_texts.specs.Printable.{IsPlain, IsSoundAtom, IsSoundParam, AreSoundParams, IsSound, IsSoundEffect, HasWords}
-use Rattle.plan_model.specs.declared.Term.TheVariants.{Obj}
-use Rattle.plan_model.specs.declared.Parent.{Parent}
-use Rattle.plan_model.specs.declared.Object.{Object}
-use Rattle.plan_model.specs.declared.Predicate.{Predicate}
-use Rattle.plan_model.specs.declared.ActionSchema.{ActionSchema}
-use Rattle.plan_model.specs.declared.GroundAtom.{GroundAtom}
-use Rattle.plan_model.specs.declared.Pddl.{Pddl}
+use Rattle.plan_model.specs.declared.terms.Term.TheVariants.{Obj}
+use Rattle.plan_model.specs.declared.types.Parent.{Parent}
+use Rattle.plan_model.specs.declared.types.Object.{Object}
+use Rattle.plan_model.specs.declared.schemas.Predicate.{Predicate}
+use Rattle.plan_model.specs.declared.schemas.ActionSchema.{ActionSchema}
+use Rattle.plan_model.specs.declared.terms.GroundAtom.{GroundAtom}
+use Rattle.plan_model.specs.declared.values.Pddl.{Pddl}
 
 abbrev pub arities_of : Pddl → List ℕ
 arities_of c = map (λ (d : Predicate). length d.params) c.predicates

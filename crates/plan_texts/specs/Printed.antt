@@ -4,15 +4,15 @@ use Rattle.text_forms.specs.Lists.{Part, Parts, name, group, nothing, part}
 use Rattle.text_forms.specs.Words.{Word, word_at}
 use Rattle.text_forms.specs.Printing.{headed}
 use Rattle.plan_texts.specs.Declared.{Declared, kind_at, variable}
-use Rattle.plan_model.specs.declared.Term.{Term}
-use Rattle.plan_model.specs.declared.Term.TheVariants.{Var, Obj}
-use Rattle.plan_model.specs.declared.Param.{Param}
-use Rattle.plan_model.specs.declared.Formula.{Formula}
-use Rattle.plan_model.specs.declared.Formula.TheFolds.{fold-Formula}
-use Rattle.plan_model.specs.declared.Formula.TheOpen.{Formula-F}
-use Rattle.plan_model.specs.declared.Effect.{Effect}
-use Rattle.plan_model.specs.declared.Effect.TheFolds.{fold-Effect}
-use Rattle.plan_model.specs.declared.Effect.TheOpen.{Effect-F}
+use Rattle.plan_model.specs.declared.terms.Term.{Term}
+use Rattle.plan_model.specs.declared.terms.Term.TheVariants.{Var, Obj}
+use Rattle.plan_model.specs.declared.terms.Param.{Param}
+use Rattle.plan_model.specs.declared.formulas.Formula.{Formula}
+use Rattle.plan_model.specs.declared.formulas.Formula.TheFolds.{fold-Formula}
+use Rattle.plan_model.specs.declared.formulas.Formula.TheOpen.{Formula-F}
+use Rattle.plan_model.specs.declared.effects.Effect.{Effect}
+use Rattle.plan_model.specs.declared.effects.Effect.TheFolds.{fold-Effect}
+use Rattle.plan_model.specs.declared.effects.Effect.TheOpen.{Effect-F}
 
 abbrev pub all_parts : List Part → Parts
 all_parts [] = nothing

@@ -6,13 +6,13 @@ use Rattle.text_forms.specs.Printing.{headed, page}
 use Rattle.plan_texts.specs.Declared.{Declared, named, variable}
 use Rattle.plan_texts.specs.SpellsPddl.{pddl_words}
 use Rattle.plan_texts.specs.Printed.{all_parts, typed_parts, applied_part, params_parts, formula_part, effect_part}
-use Rattle.plan_model.specs.declared.Term.TheVariants.{Obj}
-use Rattle.plan_model.specs.declared.Parent.{Parent}
-use Rattle.plan_model.specs.declared.Object.{Object}
-use Rattle.plan_model.specs.declared.Predicate.{Predicate}
-use Rattle.plan_model.specs.declared.ActionSchema.{ActionSchema}
-use Rattle.plan_model.specs.declared.GroundAtom.{GroundAtom}
-use Rattle.plan_model.specs.declared.Pddl.{Pddl}
+use Rattle.plan_model.specs.declared.terms.Term.TheVariants.{Obj}
+use Rattle.plan_model.specs.declared.types.Parent.{Parent}
+use Rattle.plan_model.specs.declared.types.Object.{Object}
+use Rattle.plan_model.specs.declared.schemas.Predicate.{Predicate}
+use Rattle.plan_model.specs.declared.schemas.ActionSchema.{ActionSchema}
+use Rattle.plan_model.specs.declared.terms.GroundAtom.{GroundAtom}
+use Rattle.plan_model.specs.declared.values.Pddl.{Pddl}
 
 module _ (v : Declared) where
   abbrev pub object_words : Object → Word × List Word

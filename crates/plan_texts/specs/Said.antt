@@ -2,14 +2,14 @@
 use Rattle.std.specs.Prelude.{ℕ, List, [], ◌∷◌, map}
 use Rattle.text_forms.specs.Words.{Word}
 use Rattle.plan_texts.specs.Declared.{Declared, kind_at, variable}
-use Rattle.plan_model.specs.declared.Term.{Term}
-use Rattle.plan_model.specs.declared.Param.{Param}
-use Rattle.plan_model.specs.declared.Formula.{Formula}
-use Rattle.plan_model.specs.declared.Formula.TheFolds.{fold-Formula}
-use Rattle.plan_model.specs.declared.Formula.TheOpen.{Formula-F}
-use Rattle.plan_model.specs.declared.Effect.{Effect}
-use Rattle.plan_model.specs.declared.Effect.TheFolds.{fold-Effect}
-use Rattle.plan_model.specs.declared.Effect.TheOpen.{Effect-F}
+use Rattle.plan_model.specs.declared.terms.Term.{Term}
+use Rattle.plan_model.specs.declared.terms.Param.{Param}
+use Rattle.plan_model.specs.declared.formulas.Formula.{Formula}
+use Rattle.plan_model.specs.declared.formulas.Formula.TheFolds.{fold-Formula}
+use Rattle.plan_model.specs.declared.formulas.Formula.TheOpen.{Formula-F}
+use Rattle.plan_model.specs.declared.effects.Effect.{Effect}
+use Rattle.plan_model.specs.declared.effects.Effect.TheFolds.{fold-Effect}
+use Rattle.plan_model.specs.declared.effects.Effect.TheOpen.{Effect-F}
 
 -- a word with the words of its type
 abbrev pub Typed : Type 0

@@ -7,12 +7,12 @@ use Rattle.plan_texts.specs.Declared.{Declared, named, variable}
 use Rattle.plan_texts.specs.TypedLists.{EachTyped}
 use Rattle.plan_texts.specs.Formulas.{IsApplied, IsType, IsParam, IsFormula, IsEffect}
 use Rattle.plan_texts.specs.Sections.{are_entries, found, parameters, precondition, effect, action_entries}
-use Rattle.plan_model.specs.declared.Term.TheVariants.{Obj}
-use Rattle.plan_model.specs.declared.Param.{Param}
-use Rattle.plan_model.specs.declared.Object.{Object}
-use Rattle.plan_model.specs.declared.Predicate.{Predicate}
-use Rattle.plan_model.specs.declared.ActionSchema.{ActionSchema}
-use Rattle.plan_model.specs.declared.GroundAtom.{GroundAtom}
+use Rattle.plan_model.specs.declared.terms.Term.TheVariants.{Obj}
+use Rattle.plan_model.specs.declared.terms.Param.{Param}
+use Rattle.plan_model.specs.declared.types.Object.{Object}
+use Rattle.plan_model.specs.declared.schemas.Predicate.{Predicate}
+use Rattle.plan_model.specs.declared.schemas.ActionSchema.{ActionSchema}
+use Rattle.plan_model.specs.declared.terms.GroundAtom.{GroundAtom}
 
 module _ (v : Declared) where
   abbrev pub IsObject : Bool → Object → Part → Option Part → Type 0

@@ -13,10 +13,10 @@ use Rattle.plan_texts.specs.Sections.{are_sections, section, parts_in, only, all
 use Rattle.plan_texts.specs.Schemas.{IsObject, IsPredicate, IsAction, IsFact}
 use Rattle.plan_texts.specs.SpellsPddl.{IsNameIfThere}
 use Rattle.plan_texts.specs.Networks.{IsTask, IsMethod, IsTop}
-use Rattle.plan_model.specs.declared.Object.{Object}
-use Rattle.plan_model.specs.declared.TaskSchema.{TaskSchema}
-use Rattle.plan_model.specs.declared.ActionSchema.{ActionSchema}
-use Rattle.plan_model.specs.declared.Hddl.{Hddl}
+use Rattle.plan_model.specs.declared.types.Object.{Object}
+use Rattle.plan_model.specs.declared.schemas.TaskSchema.{TaskSchema}
+use Rattle.plan_model.specs.declared.schemas.ActionSchema.{ActionSchema}
+use Rattle.plan_model.specs.declared.values.Hddl.{Hddl}
 
 abbrev pub hddl_many : List Word
 hddl_many = codes ":action" ∷ codes ":task" ∷ codes ":method" ∷ []

@@ -11,8 +11,8 @@ use Rattle.plan_texts.specs.Types.{AreTypes}
 use Rattle.plan_texts.specs.Formulas.{IsFormula}
 use Rattle.plan_texts.specs.Sections.{are_sections, section, parts_in, only, all_but, one_in, are_words, are_values, domain_once, domain_many, problem_once}
 use Rattle.plan_texts.specs.Schemas.{IsObject, IsPredicate, IsAction, IsFact}
-use Rattle.plan_model.specs.declared.Object.{Object}
-use Rattle.plan_model.specs.declared.Pddl.{Pddl}
+use Rattle.plan_model.specs.declared.types.Object.{Object}
+use Rattle.plan_model.specs.declared.values.Pddl.{Pddl}
 
 abbrev pub pddl_types : Pddl → List Word
 pddl_types c = type_words c.names c.types

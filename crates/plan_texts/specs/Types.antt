@@ -3,7 +3,7 @@ use Rattle.std.specs.Prelude.{ℕ, ◌≡◌, ◌⊎◌, ◌↔◌, true, List, 
 use Rattle.text_forms.specs.Lists.{Part, Parts, name, group}
 use Rattle.text_forms.specs.Words.{Word, is_name, word_at}
 use Rattle.plan_texts.specs.TypedLists.{EachTyped}
-use Rattle.plan_model.specs.declared.Parent.{Parent}
+use Rattle.plan_model.specs.declared.types.Parent.{Parent}
 
 abbrev pub Has : {X : Type 0} → List X → X → Type 0
 Has [] x = ⊥
