@@ -12,3 +12,4 @@ pub mod UniqueNetworks
 pub mod UniqueHddl
 pub mod Equations
 pub mod AlikeLaws
+pub mod InOrder
