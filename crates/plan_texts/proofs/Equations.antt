@@ -13,7 +13,7 @@ use Rattle.plan_model.specs.declared.formulas.Formula.TheOpen.{Formula-F}
 use Rattle.plan_model.specs.declared.formulas.Formula.TheVariants.{Holds, Equal, Not, And, Or, Imply, Forall, Exists, rolls-Holds, rolls-Equal, rolls-Not, rolls-And, rolls-Or, rolls-Imply, rolls-Forall, rolls-Exists}
 use Rattle.plan_model.specs.declared.effects.Effect.{Effect}
 use Rattle.plan_model.specs.declared.effects.Effect.TheOpen.{Effect-F}
-use Rattle.plan_model.specs.declared.effects.Effect.TheVariants.{Delete, And as Both, rolls-Delete, rolls-And as rolls-Both}
+use Rattle.plan_model.specs.declared.effects.Effect.TheVariants.{Add, Delete, When, And as Both, Forall as Each_one, rolls-Add, rolls-Delete, rolls-When, rolls-And as rolls-Both, rolls-Forall as rolls-Each_one}
 use Rattle.plan_texts.proofs.Spelled.{part_roll}
 use Rattle.plan_texts.proofs.SpelledEffects.{effect-part_roll}
 
@@ -51,3 +51,12 @@ module _ (v : Declared) where
 
   pub effect-And : (es : List Effect) (scope : List Word) → effect_part v (Both es) scope ≡ headed (codes "and") (all_parts (map (λ e. effect_part v e scope) es))
   effect-And es scope = ap (λ e. effect_part v e scope) (sym (rolls-Both es)) ∙ ap (λ (p : List Word → Part). p scope) (effect-part_roll v [] (Effect-F.And es)) ∙ ap (λ ps. headed (codes "and") (all_parts ps)) (at-map (effect_part v) es scope)
+
+  pub effect-Add : (a : Atom) (scope : List Word) → effect_part v (Add a) scope ≡ applied_part v scope a.predicate a.args
+  effect-Add a scope = ap (λ e. effect_part v e scope) (sym (rolls-Add a)) ∙ ap (λ (p : List Word → Part). p scope) (effect-part_roll v [] (Effect-F.Add a))
+
+  pub effect-Forall : (xs : List Param) (e : Effect) (scope : List Word) → effect_part v (Each_one xs e) scope ≡ headed (codes "forall") (part (group (params_parts v xs)) (part (effect_part v e (scope ++ map (variable v) xs)) nothing))
+  effect-Forall xs e scope = ap (λ e. effect_part v e scope) (sym (rolls-Each_one xs e)) ∙ ap (λ (p : List Word → Part). p scope) (effect-part_roll v [] (Effect-F.Forall xs e))
+
+  pub effect-When : (f : Formula) (e : Effect) (scope : List Word) → effect_part v (When f e) scope ≡ headed (codes "when") (part (formula_part v f scope) (part (effect_part v e scope) nothing))
+  effect-When f e scope = ap (λ e. effect_part v e scope) (sym (rolls-When f e)) ∙ ap (λ (p : List Word → Part). p scope) (effect-part_roll v [] (Effect-F.When f e))

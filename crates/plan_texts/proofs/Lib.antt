@@ -13,3 +13,6 @@ pub mod UniqueHddl
 pub mod Equations
 pub mod AlikeLaws
 pub mod InOrder
+pub mod Layers
+pub mod OneOrder
+pub mod SmallestRow
