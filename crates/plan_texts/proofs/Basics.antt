@@ -62,3 +62,7 @@ typed-items Is view read h (x ∷ xs) (part p ps) e =
 -- a name is no other word that isn't one, asked the other way round
 pub no_keyword' : (w k : Word) → is_name w ≡ true → is_name k ≡ false → bytes_eq k w ≡ false
 no_keyword' w k e f = bytes_eq-other k w (λ g. let h = ap is_name g in cc)
+
+-- two words differ where their comparison says so
+pub apart : (u w : Word) → bytes_eq u w ≡ false → u ≡ w → ⊥
+apart u w e f = let g = bytes_eq-refl w in let h = ap (λ t. bytes_eq t w) f in cc

@@ -16,3 +16,4 @@ pub mod InOrder
 pub mod Layers
 pub mod OneOrder
 pub mod SmallestRow
+pub mod SmallestPrintable
