@@ -17,3 +17,6 @@ pub mod Layers
 pub mod OneOrder
 pub mod SmallestRow
 pub mod SmallestPrintable
+pub mod RowWords
+pub mod FormulaRows
+pub mod EffectRows
