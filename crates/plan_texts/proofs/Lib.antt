@@ -20,3 +20,6 @@ pub mod SmallestPrintable
 pub mod RowWords
 pub mod FormulaRows
 pub mod EffectRows
+pub mod TypedRows
+pub mod SectionRows
+pub mod NetworkRows

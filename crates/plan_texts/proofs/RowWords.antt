@@ -32,6 +32,13 @@ next_part (group nothing) = name []
 next_part (group (part p nothing)) = name []
 next_part (group (part p (part q ps))) = q
 
+-- what stands behind the first two parts
+abbrev pub behind_two : Part → Parts
+behind_two (name w) = nothing
+behind_two (group nothing) = nothing
+behind_two (group (part p nothing)) = nothing
+behind_two (group (part p (part q ps))) = ps
+
 abbrev pub word_of : Part → Word
 word_of (name w) = w
 word_of (group ps) = []
