@@ -1,7 +1,7 @@
 -- For each line of the grammar of effects one text that spells and one that is refused.
-use Rattle.std.proofs.Common.{ℕ, ◌≡◌, inl, inr, true, false, List, [], ◌∷◌, codes, Some, refl, ap, sym, subst, ◌∙◌}
+use Rattle.std.proofs.Common.{ℕ, ◌≡◌, inl, inr, true, false, List, [], ◌∷◌, codes, refl, ap, sym, subst, ◌∙◌}
 use Rattle.text_forms.specs.Lists.{nothing}
-use Rattle.text_forms.specs.Words.{Word, is_name, first_place}
+use Rattle.text_forms.specs.Words.{Word, is_name}
 use Rattle.plan_texts.specs.Formulas.{IsEffect}
 use Rattle.plan_model.specs.declared.terms.Term.{Term}
 use Rattle.plan_model.specs.declared.terms.Term.TheVariants.{Var}

@@ -1,6 +1,6 @@
 -- For each line of the grammar of terms and formulas one text that spells and one that is refused.
-use Rattle.std.proofs.Common.{ℕ, ◌≡◌, inl, inr, true, false, List, [], ◌∷◌, ◌++◌, codes, Option, Some, refl, ap, sym, subst, ◌∙◌}
-use Rattle.text_forms.specs.Lists.{name, group, nothing, part}
+use Rattle.std.proofs.Common.{ℕ, ◌≡◌, inl, inr, List, [], ◌∷◌, codes, refl, ap, sym, subst, ◌∙◌}
+use Rattle.text_forms.specs.Lists.{nothing}
 use Rattle.text_forms.specs.Words.{Word, is_name, last_place, first_place}
 use Rattle.plan_texts.specs.Formulas.{IsTerm, IsFormula}
 use Rattle.plan_model.specs.declared.terms.Term.{Term}
@@ -89,12 +89,12 @@ implication_of_one f g e = let h = subst (λ (T : Type 0). T) (formula-Imply v x
 -- a quantifier's variables come behind those in force, and one may be of a union
 pub for_all : IsFormula v (Forall (x_a ∷ y_union ∷ []) (p_at 2)) x (said (codes "(forall (?x - a ?y - (either a b a)) (p ?y))"))
 for_all = subst (λ (T : Type 0). T) (sym (formula-Forall v x _ (x_a ∷ y_union ∷ []) (p_at 2))) (
-    _,
-    _,
-    refl,
-    ((refl, refl, (refl, refl)), ((refl, refl, (refl, refl)), tt)),
-    subst (λ (T : Type 0). T) (sym (formula-Holds v (codes "x" ∷ codes "x" ∷ codes "y" ∷ []) _ _)) (codes "p", _, refl, refl, refl, ((codes "y", refl, refl), tt)),
-  )
+  _,
+  _,
+  refl,
+  ((refl, refl, (refl, refl)), ((refl, refl, (refl, refl)), tt)),
+  subst (λ (T : Type 0). T) (sym (formula-Holds v (codes "x" ∷ codes "x" ∷ codes "y" ∷ []) _ _)) (codes "p", _, refl, refl, refl, ((codes "y", refl, refl), tt)),
+)
 
 pub for_all_of_a_word : (xs : List Param) (f : Formula) → IsFormula v (Forall xs f) [] (said (codes "(forall ?x (q))")) → ⊥
 for_all_of_a_word xs f e = let g = subst (λ (T : Type 0). T) (formula-Forall v [] _ xs f) e in let h = g.2 in cc

@@ -1,5 +1,5 @@
 -- Types and pairs in first-seen order are spelled by their list.
-use Rattle.std.proofs.Common.{ℕ, zero, suc, ◌+◌, ◌<◌, ◌≡◌, ◌⊎◌, ◌↔◌, ◌||◌, inl, inr, Bool, true, false, cond, List, [], ◌∷◌, ◌++◌, map, length, codes, Option, Some, None, option_map, refl, ap, ap₂, sym, subst, ◌∙◌, arith}
+use Rattle.std.proofs.Common.{ℕ, suc, ◌+◌, ◌≡◌, ◌⊎◌, ◌↔◌, ◌||◌, inl, inr, Bool, true, false, cond, List, [], ◌∷◌, ◌++◌, codes, Option, Some, None, option_map, refl, ap, sym, subst, ◌∙◌, arith}
 use Rattle.std.proofs.lemmas.Bool.{cond-true, cond-false}
 use Rattle.std.specs.Str.{bytes_eq}
 use Rattle.text_forms.specs.Lists.{Part, Parts, name, group, nothing, part}
@@ -234,8 +234,8 @@ module _ (types : List Word) (xs : List TypeItem) (zeroth : word_at types 0 ≡ 
   all-to k [] x s h = absurd h
   all-to k (w ∷ ws) x s h = elim (has-split (pairs_for k types (parents_for w xs)) (pairs_from (suc k) types ws xs) x h) [
     | inl g ↦ let m = one-to k w (parents_for w xs) x refl g in
-    let c : w ≡ word_at types x.child = sym (stand-here k w ws s) ∙ ap (word_at types) (sym m.0) in
-    (inl c, subst (λ z. IsParentOf z (word_at types x.parent)) c m.1)
+        let c : w ≡ word_at types x.child = sym (stand-here k w ws s) ∙ ap (word_at types) (sym m.0) in
+        (inl c, subst (λ z. IsParentOf z (word_at types x.parent)) c m.1)
     | inr g ↦ let m = all-to (suc k) ws x (stand-next k w ws s) g in (inr m.0, m.1)
   ]
 

@@ -23,3 +23,4 @@ pub mod EffectRows
 pub mod TypedRows
 pub mod SectionRows
 pub mod NetworkRows
+pub mod WholeRow

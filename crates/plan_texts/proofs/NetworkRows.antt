@@ -1,14 +1,12 @@
 -- Subtasks, pairs, constraints, tasks: what spells, and what is refused.
-use Rattle.std.proofs.Common.{ℕ, ◌≡◌, inl, inr, true, false, List, [], ◌∷◌, codes, Option, Some, None, refl, ap, sym, ◌∙◌}
-use Rattle.text_forms.specs.Lists.{Part, Parts, name, group, nothing, part}
+use Rattle.std.proofs.Common.{ℕ, ◌≡◌, inl, inr, true, false, List, [], ◌∷◌, codes, Some, None, refl, ap, ◌∙◌}
+use Rattle.text_forms.specs.Lists.{group, nothing}
 use Rattle.text_forms.specs.Words.{Word, is_name, first_place}
 use Rattle.plan_texts.specs.Networks.{head_of, chain, IsSubtask, IsOrdered, IsConstraint, IsTask}
 use Rattle.plan_texts.specs.Sections.{found, precondition}
 use Rattle.plan_model.specs.declared.networks.Head.{Head}
 use Rattle.plan_model.specs.declared.networks.Head.TheVariants.{Task, Action}
-use Rattle.plan_model.specs.declared.networks.Child.{Child}
 use Rattle.plan_model.specs.declared.networks.Pair.{Pair}
-use Rattle.plan_model.specs.declared.networks.Constraint.{Constraint}
 use Rattle.plan_model.specs.declared.schemas.TaskSchema.{TaskSchema}
 use Rattle.plan_model.specs.declared.terms.Term.{Term}
 use Rattle.plan_model.specs.declared.terms.Term.TheVariants.{Var, Obj}
@@ -61,9 +59,9 @@ pair_without_sign p e = elim e.2 [ inl f ↦ let g : codes "j" ≡ codes "<" = a
 -- an id that no subtask has
 pub pair_of_unknown : (p : Pair) → IsOrdered v tasks actions (codes "i" ∷ codes "j" ∷ []) p (said (codes "(< m i)")) → ⊥
 pair_of_unknown p e = elim e.2 [
-    | inl f ↦ let w : codes "m" ≡ e.0 = ap word_of (ap next_part f) in let g : None ≡ Some p.first = ap (λ u. first_place u (codes "i" ∷ codes "j" ∷ [])) w ∙ e.5 in cc
-    | inr f ↦ let w : codes "<" ≡ e.0 = ap head_word f in let g : false ≡ true = ap is_name w ∙ e.3 in cc
-  ]
+  | inl f ↦ let w : codes "m" ≡ e.0 = ap word_of (ap next_part f) in let g : None ≡ Some p.first = ap (λ u. first_place u (codes "i" ∷ codes "j" ∷ [])) w ∙ e.5 in cc
+  | inr f ↦ let w : codes "<" ≡ e.0 = ap head_word f in let g : false ≡ true = ap is_name w ∙ e.3 in cc
+]
 
 pub equation : IsConstraint v tasks actions x (record { equal = true; left = Var 0; right = Obj 0 }) (said (codes "(= ?x k)"))
 equation = (_, _, refl, (codes "x", refl, refl), (codes "k", refl, refl, refl))

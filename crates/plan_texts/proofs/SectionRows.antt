@@ -1,8 +1,8 @@
 -- Sections and parts under their keywords: what is taken, and what is refused.
-use Rattle.std.proofs.Common.{◌≡◌, true, false, [], ◌∷◌, codes, Some, None, refl}
-use Rattle.text_forms.specs.Lists.{name, group, nothing, part}
-use Rattle.plan_texts.specs.Sections.{are_entries, found, stands, bundle, are_sections, section, only, one_in, are_values, are_words, domain_once, domain_many, problem_once, parameters, precondition, effect, action_entries}
-use Rattle.plan_texts.specs.Networks.{subtasks, ordered_subtasks, method_entries, network_entries, task_entries}
+use Rattle.std.proofs.Common.{◌≡◌, true, false, [], codes, Some, None, refl}
+use Rattle.text_forms.specs.Lists.{name, group, nothing}
+use Rattle.plan_texts.specs.Sections.{are_entries, found, stands, bundle, are_sections, section, only, one_in, are_values, are_words, domain_once, domain_many, problem_once, precondition, effect, action_entries}
+use Rattle.plan_texts.specs.Networks.{ordered_subtasks, method_entries, network_entries, task_entries}
 use Rattle.plan_texts.specs.SpellsHddl.{hddl_many, hddl_problem_once}
 use Rattle.plan_texts.proofs.RowWords.{parts, said}
 

@@ -47,9 +47,9 @@ sound-params = ((one 1 refl, tt), (tt, tt))
 
 sound-wait : IsSound (pddl_words smallest) (arities_of smallest) wait scope
 sound-wait = sound _ (Formula-F.Forall (x ∷ []) (Not (Holds (record { predicate = 2; args = Var 1 ∷ Var 0 ∷ [] })))) scope (rolls-Forall _ _) (
-    ((other, tt), (tt, tt)),
-    sound _ (Formula-F.Not (Holds (record { predicate = 2; args = Var 1 ∷ Var 0 ∷ [] }))) both (rolls-Not _) (sound _ (Formula-F.Holds (record { predicate = 2; args = Var 1 ∷ Var 0 ∷ [] })) both (rolls-Holds _) (omega arith, refl, (refl, (refl, tt)))),
-  )
+  ((other, tt), (tt, tt)),
+  sound _ (Formula-F.Not (Holds (record { predicate = 2; args = Var 1 ∷ Var 0 ∷ [] }))) both (rolls-Not _) (sound _ (Formula-F.Holds (record { predicate = 2; args = Var 1 ∷ Var 0 ∷ [] })) both (rolls-Holds _) (omega arith, refl, (refl, (refl, tt)))),
+)
 
 sound-held : (k : ℕ) → IsSoundAtom (pddl_words smallest) (arities_of smallest) scope k (Var 0 ∷ []) → IsSound (pddl_words smallest) (arities_of smallest) (held k) scope
 sound-held k a = sound (held k) (Formula-F.And _) scope (rolls-And _) (sound _ (Formula-F.Holds (record { predicate = k; args = Var 0 ∷ [] })) scope (rolls-Holds (record { predicate = k; args = Var 0 ∷ [] })) a, (sound-wait, tt))
@@ -65,27 +65,27 @@ sound-turned k l a b = sound-effect (turned k l) (Effect-F.And _) scope (rolls-B
 
 sound-freed : IsSoundEffect (pddl_words smallest) (arities_of smallest) freed scope
 sound-freed = sound-effect freed (Effect-F.And _) scope (rolls-Both _) (
-    sound-delete 4 (omega arith, refl, (refl, tt)),
+  sound-delete 4 (omega arith, refl, (refl, tt)),
+  (
+    sound-add 1 (omega arith, refl, (refl, tt)),
     (
-      sound-add 1 (omega arith, refl, (refl, tt)),
-      (
-        sound-effect clear (Effect-F.Forall (x ∷ []) (Delete (record { predicate = 2; args = Var 0 ∷ Var 1 ∷ [] }))) scope (rolls-Each_one _ _) (
-          ((other, tt), (tt, tt)),
-          sound-effect _ (Effect-F.Delete (record { predicate = 2; args = Var 0 ∷ Var 1 ∷ [] })) both (rolls-Delete _) (omega arith, refl, (refl, (refl, tt))),
-        ),
-        tt,
+      sound-effect clear (Effect-F.Forall (x ∷ []) (Delete (record { predicate = 2; args = Var 0 ∷ Var 1 ∷ [] }))) scope (rolls-Each_one _ _) (
+        ((other, tt), (tt, tt)),
+        sound-effect _ (Effect-F.Delete (record { predicate = 2; args = Var 0 ∷ Var 1 ∷ [] })) both (rolls-Delete _) (omega arith, refl, (refl, (refl, tt))),
       ),
+      tt,
     ),
-  )
+  ),
+)
 
 sound-goal : IsSound (pddl_words smallest) (arities_of smallest) all_free []
 sound-goal = sound all_free (Formula-F.And _) [] (rolls-And _) (
-    sound _ (Formula-F.Forall (x ∷ []) (Holds (record { predicate = 1; args = Var 0 ∷ [] }))) [] (rolls-Forall _ _) (
-      ((other, tt), (tt, tt)),
-      sound _ (Formula-F.Holds (record { predicate = 1; args = Var 0 ∷ [] })) (codes "htn_x" ∷ []) (rolls-Holds _) (omega arith, refl, (refl, tt)),
-    ),
-    tt,
-  )
+  sound _ (Formula-F.Forall (x ∷ []) (Holds (record { predicate = 1; args = Var 0 ∷ [] }))) [] (rolls-Forall _ _) (
+    ((other, tt), (tt, tt)),
+    sound _ (Formula-F.Holds (record { predicate = 1; args = Var 0 ∷ [] })) (codes "htn_x" ∷ []) (rolls-Holds _) (omega arith, refl, (refl, tt)),
+  ),
+  tt,
+)
 
 irreflexive : (k : ℕ) → k < k → ⊥
 irreflexive k e = omega arith

@@ -1,5 +1,5 @@
 -- The value that is printed for the smallest problem at one slot, and its two texts byte for byte.
-use Rattle.std.proofs.Common.{ℕ, ◌≡◌, ◌<◌, inl, inr, List, [], ◌∷◌, codes, true, refl, sym, subst, arith}
+use Rattle.std.proofs.Common.{ℕ, ◌≡◌, List, [], ◌∷◌, codes, true}
 use Rattle.text_forms.specs.Words.{Word}
 use Rattle.text_forms.specs.Printing.{bytes}
 use Rattle.plan_texts.specs.Declared.{Declared}
@@ -7,13 +7,10 @@ use Rattle.plan_texts.specs.SpellsPddl.{pddl_words}
 use Rattle.plan_texts.specs.Printed.{formula_part, effect_part}
 use Rattle.plan_texts.specs.PrintedTexts.{domain_text, problem_text}
 use Rattle.htn_base.specs.declared.name.Name.{Name}
-use Rattle.plan_model.specs.declared.terms.Term.TheVariants.{Var, Obj}
+use Rattle.plan_model.specs.declared.terms.Term.TheVariants.{Var}
 use Rattle.plan_model.specs.declared.terms.Atom.{Atom}
 use Rattle.plan_model.specs.declared.terms.Param.{Param}
-use Rattle.plan_model.specs.declared.types.Types.{Types}
 use Rattle.plan_model.specs.declared.values.Pddl.{Pddl}
-use Rattle.plan_model.specs.declared.schemas.ActionSchema.{ActionSchema}
-use Rattle.plan_model.specs.declared.schemas.Predicate.{Predicate}
 use Rattle.plan_model.specs.declared.formulas.Formula.{Formula}
 use Rattle.plan_model.specs.declared.formulas.Formula.TheVariants.{Holds, Not, And, Forall}
 use Rattle.plan_model.specs.declared.effects.Effect.{Effect}
@@ -60,9 +57,9 @@ smallest = record {
   types = record { names = n 2 ∷ n 3 ∷ n 4 ∷ []; parents = record { child = 1; parent = 0 } ∷ record { child = 2; parent = 0 } ∷ []; unions = [] };
   objects = record { name = n 5; ty = 1; constant = true } ∷ [];
   predicates =
-  record { name = n 6; params = h ∷ [] } ∷ record { name = n 7; params = h ∷ [] } ∷ record { name = n 8; params = x ∷ h ∷ [] } ∷ record { name = n 9; params = h ∷ [] } ∷ record { name = n 10; params = h ∷ [] } ∷ [];
+      record { name = n 6; params = h ∷ [] } ∷ record { name = n 7; params = h ∷ [] } ∷ record { name = n 8; params = x ∷ h ∷ [] } ∷ record { name = n 9; params = h ∷ [] } ∷ record { name = n 10; params = h ∷ [] } ∷ [];
   actions =
-  record { name = n 13; params = h ∷ []; pre = held 0; eff = turned 0 3 } ∷ record { name = n 14; params = h ∷ []; pre = held 3; eff = turned 3 4 } ∷ record { name = n 15; params = h ∷ []; pre = held 4; eff = freed } ∷ [];
+      record { name = n 13; params = h ∷ []; pre = held 0; eff = turned 0 3 } ∷ record { name = n 14; params = h ∷ []; pre = held 3; eff = turned 3 4 } ∷ record { name = n 15; params = h ∷ []; pre = held 4; eff = freed } ∷ [];
   init = record { predicate = 0; args = 0 ∷ [] } ∷ [];
   goal = all_free;
 }

@@ -1,15 +1,14 @@
 -- Typed lists of variables, objects and types: what spells, and what is refused.
-use Rattle.std.proofs.Common.{ℕ, ◌≡◌, inl, inr, true, false, List, [], ◌∷◌, codes, Option, Some, None, refl, ap, subst}
-use Rattle.text_forms.specs.Lists.{name, nothing, part}
+use Rattle.std.proofs.Common.{ℕ, ◌≡◌, true, false, [], ◌∷◌, codes, Some, None, refl, ap, subst}
 use Rattle.text_forms.specs.Words.{word_at}
-use Rattle.plan_texts.specs.TypedLists.{EachTyped, kind_said, are_names}
+use Rattle.plan_texts.specs.TypedLists.{EachTyped}
 use Rattle.plan_texts.specs.Types.{TypeItem, IsSomeName, IsTypeItem}
 use Rattle.plan_texts.specs.Formulas.{IsParam, IsKind}
 use Rattle.plan_texts.specs.Schemas.{IsObject}
-use Rattle.plan_texts.specs.FirstSeen.{type_items, types_in_order, pairs_in_order, unions_in_order}
+use Rattle.plan_texts.specs.FirstSeen.{types_in_order, pairs_in_order, unions_in_order}
 use Rattle.plan_model.specs.declared.types.Object.{Object}
 use Rattle.plan_texts.proofs.Basics.{apart}
-use Rattle.plan_texts.proofs.RowWords.{word_of, parts, said, n, v, x_a, y_union, y_object}
+use Rattle.plan_texts.proofs.RowWords.{word_of, parts, said, n, v, x_a, y_object}
 
 -- words share the type behind them; the last have none
 pub grouped : EachTyped (IsParam v) (x_a ∷ record { name = n 1; ty = 1 } ∷ y_object ∷ []) (parts (codes "?x ?y - a ?y"))

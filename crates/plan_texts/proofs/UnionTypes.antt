@@ -1,9 +1,8 @@
 -- What is printed for the type of a variable spells it.
-use Rattle.std.proofs.Common.{ℕ, ◌≡◌, ◌<◌, ◌||◌, Bool, true, false, cond, List, [], ◌∷◌, ◌++◌, map, length, Some, refl, ap, ap₂, sym, ◌∙◌, arith}
-use Rattle.std.proofs.lemmas.Bool.{cond-true, cond-false, and_from}
-use Rattle.std.specs.Str.{bytes_eq}
-use Rattle.text_forms.specs.Lists.{Part, Parts, name, group, nothing, part}
-use Rattle.text_forms.specs.Words.{Word, is_among, is_name}
+use Rattle.std.proofs.Common.{ℕ, ◌≡◌, ◌<◌, ◌||◌, true, false, List, [], ◌∷◌, map, length, Some, refl, ap, sym, ◌∙◌, arith}
+use Rattle.std.proofs.lemmas.Bool.{cond-true, cond-false}
+use Rattle.text_forms.specs.Lists.{name}
+use Rattle.text_forms.specs.Words.{Word, is_among}
 use Rattle.text_forms.specs.Printing.{IsPrintablePart, ArePrintableParts}
 use Rattle.plan_texts.specs.Declared.{Declared, one_word, kinds, kind_at}
 use Rattle.plan_texts.specs.TypedLists.{first_seen, words_in, kind_said, are_names}

@@ -4,7 +4,7 @@ use Rattle.std.specs.List.{list_any}
 use Rattle.std.specs.Str.{bytes_eq}
 use Rattle.std.specs.Cmp.Lexicographic.{pointwise}
 use Rattle.text_forms.specs.Faults.{IsFaultless}
-use Rattle.text_forms.specs.Lists.{Part, Parts, name, group, nothing, part, joined}
+use Rattle.text_forms.specs.Lists.{Part, Parts, name, group, nothing, part}
 use Rattle.text_forms.specs.Words.{Word, is_among, first_place}
 use Rattle.plan_texts.specs.Declared.{named, union_words}
 use Rattle.plan_texts.specs.TypedLists.{is_dash, ahead, words_in, first_seen}

@@ -1,5 +1,5 @@
 -- What spells terms, formulas and effects, over nested lists of words. The relations go down the value.
-use Rattle.std.specs.Prelude.{ℕ, ◌≡◌, ◌⊎◌, ◌++◌, true, List, [], ◌∷◌, map, codes, Option, Some}
+use Rattle.std.specs.Prelude.{ℕ, ◌≡◌, ◌⊎◌, ◌++◌, true, List, ◌∷◌, map, codes, Option, Some}
 use Rattle.text_forms.specs.Lists.{Part, Parts, name, group, nothing, part}
 use Rattle.text_forms.specs.Words.{Word, is_name, is_variable, word_at, first_place, last_place}
 use Rattle.text_forms.specs.Printing.{headed}

@@ -1,7 +1,7 @@
 -- What spells objects, predicates, actions and facts.
-use Rattle.std.specs.Prelude.{◌≡◌, Bool, true, List, [], ◌∷◌, map, codes, Option}
+use Rattle.std.specs.Prelude.{◌≡◌, Bool, true, List, [], map, codes, Option}
 use Rattle.text_forms.specs.Lists.{Part, Parts, name, group, part}
-use Rattle.text_forms.specs.Words.{Word, is_name}
+use Rattle.text_forms.specs.Words.{is_name}
 use Rattle.text_forms.specs.Printing.{headed}
 use Rattle.plan_texts.specs.Declared.{Declared, named, variable}
 use Rattle.plan_texts.specs.TypedLists.{EachTyped}

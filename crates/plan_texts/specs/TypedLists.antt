@@ -1,5 +1,5 @@
 -- Lists of parts, each of which stands for one thing, and typed lists: words, then perhaps a dash and a type, and so on.
-use Rattle.std.specs.Prelude.{ℕ, ◌≡◌, Bool, true, false, List, [], ◌∷◌, cond, codes, Option, Some, None}
+use Rattle.std.specs.Prelude.{Bool, true, false, List, [], ◌∷◌, cond, codes, Option, Some, None}
 use Rattle.std.specs.Str.{bytes_eq}
 use Rattle.text_forms.specs.Lists.{Part, Parts, name, group, nothing, part}
 use Rattle.text_forms.specs.Words.{Word, is_among, is_name}

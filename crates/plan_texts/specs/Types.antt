@@ -1,5 +1,5 @@
 -- What spells the types of a value: their words and the pairs of child and parent, in any order.
-use Rattle.std.specs.Prelude.{ℕ, ◌≡◌, ◌⊎◌, ◌↔◌, true, List, [], ◌∷◌, codes, Option, Some, None}
+use Rattle.std.specs.Prelude.{◌≡◌, ◌⊎◌, ◌↔◌, true, List, [], ◌∷◌, codes, Option, Some, None}
 use Rattle.text_forms.specs.Lists.{Part, Parts, name, group}
 use Rattle.text_forms.specs.Words.{Word, is_name, word_at}
 use Rattle.plan_texts.specs.TypedLists.{EachTyped}

@@ -8,8 +8,9 @@ mod alike;
 mod ordered;
 mod printed;
 
-pub use alike::{alike_hddl_reflexive, alike_hddl_symmetric, alike_hddl_transitive};
-pub use alike::{alike_pddl_reflexive, alike_pddl_symmetric, alike_pddl_transitive};
-pub use alike::{spelled_hddl_alike, spelled_pddl_alike};
+pub use alike::{
+    alike_hddl_reflexive, alike_hddl_symmetric, alike_hddl_transitive, alike_pddl_reflexive,
+    alike_pddl_symmetric, alike_pddl_transitive, spelled_hddl_alike, spelled_pddl_alike,
+};
 pub use ordered::{one_order, ordered_types_spelled};
 pub use printed::printed_spells;
