@@ -6,3 +6,5 @@ pub mod Levels
 pub mod ReadOn
 pub mod Printed
 pub mod Rows
+pub mod Lists
+pub mod Shown

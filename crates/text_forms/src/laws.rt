@@ -1,12 +1,12 @@
 // Laws of the definitions of texts.
-ghost use Rattle.std.specs.Prelude.{◌≡◌, ℕ, true, List};
+ghost use Rattle.std.specs.Prelude.{◌≡◌, ◌≤◌, ℕ, true, List, length, slice_get};
 ghost use Rattle.text_forms.specs.Bytes.{is_clean};
-ghost use Rattle.text_forms.specs.Tokens.{symbols};
+ghost use Rattle.text_forms.specs.Tokens.{tokens, token_count, symbols};
 ghost use Rattle.text_forms.specs.Least.{least_fault};
 ghost use Rattle.text_forms.specs.Lists.{Part, Parts, written};
 ghost use Rattle.text_forms.specs.Words.{Word};
 ghost use Rattle.text_forms.specs.Printing.{bytes, definition, page, is_folded_word, IsPrintablePart, ArePrintableParts};
-ghost use Rattle.text_forms.specs.Laws.{MatchedAreLists, OneNesting, SaysAsPlaced, MatchedAreFaultless, IsLeastOrNone};
+ghost use Rattle.text_forms.specs.Laws.{StandInOrder, ClosesItsLists, ShowsBy, MatchedAreLists, OneNesting, SaysAsPlaced, MatchedAreFaultless, IsLeastOrNone};
 
 /// Matched parentheses are those of nested lists, in one way only.
 pub fn lists_law()
@@ -14,9 +14,14 @@ pub fn lists_law()
     ensures one { OneNesting }
 {}
 
-/// The lists of a text's tokens are the same with and without places.
+/// Tokens stand in order within the text, each list that is opened is closed in a text without faults, and
+/// the lists of tokens are the same with and without places.
 pub fn tokens_law(text: &[u8])
-    ensures { SaysAsPlaced text.now }
+    ensures order { StandInOrder 0 (tokens text.now) (length text.now) }
+    ensures few { token_count text.now ≤ length text.now }
+    ensures closed { ClosesItsLists text.now }
+    ensures shown { (i : ℕ) → ShowsBy text.now i (slice_get (tokens text.now) i) }
+    ensures lists { SaysAsPlaced text.now }
 {}
 
 /// The least fault of codes 1 to 4 is the computed one, and matched parentheses have no fault 2 or 3.
