@@ -8,3 +8,4 @@ pub mod Printed
 pub mod Rows
 pub mod Lists
 pub mod Shown
+pub mod Fronts

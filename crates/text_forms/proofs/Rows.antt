@@ -1,12 +1,13 @@
 -- Small texts, tried by computation.
 use Rattle.std.proofs.Common.{◌≡◌, inl, inr, Some, None, [], ◌∷◌, codes, refl, true, false}
 use Rattle.text_forms.specs.Bytes.{blank, opening, closing, letter, bad, classes, is_clean}
-use Rattle.text_forms.specs.Tokens.{start, stop, word, token, tokens, left, right, said, symbols}
+use Rattle.text_forms.specs.Tokens.{start, stop, word, token, tokens, left, right, said, lexemes, symbols}
 use Rattle.text_forms.specs.Closing.{closings, close_at}
 use Rattle.text_forms.specs.Faults.{fault, IsFault}
 use Rattle.text_forms.specs.Least.{least_fault}
 use Rattle.text_forms.specs.Lists.{name, group, nothing, part, AreMatched}
-use Rattle.text_forms.specs.Placed.{cut, close, word as word_at, list, parts_at}
+use Rattle.text_forms.specs.Placed.{cut, close, word as word_at, list, level, parts_at}
+use Rattle.text_forms.specs.Fronts.{before}
 use Rattle.text_forms.specs.Words.{is_name, is_variable, first_place, last_place}
 use Rattle.text_forms.specs.Printing.{bytes, page, headed}
 
@@ -101,3 +102,7 @@ last_of_two = refl
 
 pub first_of_two : first_place (codes "x") (codes "y" ∷ codes "x" ∷ codes "x" ∷ []) ≡ Some 1
 first_of_two = refl
+
+-- the tokens in front of byte 4 make the same lists, cut there
+pub front : level 0 (before 4 (lexemes (codes "(a (b)) c"))) ≡ list 0 (word_at 1 (codes "a") (list 3 cut cut)) cut
+front = refl

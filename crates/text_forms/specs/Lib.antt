@@ -5,6 +5,8 @@ pub mod Faults
 pub mod Least
 pub mod Lists
 pub mod Placed
+pub mod Fronts
+pub mod Forms
 pub mod Words
 pub mod Printing
 pub mod Laws

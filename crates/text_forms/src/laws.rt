@@ -1,9 +1,11 @@
 // Laws of the definitions of texts.
-ghost use Rattle.std.specs.Prelude.{◌≡◌, ◌≤◌, ℕ, true, List, length, slice_get};
+ghost use Rattle.std.specs.Prelude.{◌≡◌, ◌≤◌, ℕ, true, List, length, drop, slice_get};
 ghost use Rattle.text_forms.specs.Bytes.{is_clean};
-ghost use Rattle.text_forms.specs.Tokens.{tokens, token_count, symbols};
+ghost use Rattle.text_forms.specs.Tokens.{tokens, token_count, lexemes, symbols};
 ghost use Rattle.text_forms.specs.Least.{least_fault};
 ghost use Rattle.text_forms.specs.Lists.{Part, Parts, written};
+ghost use Rattle.text_forms.specs.Placed.{level, parts_at};
+ghost use Rattle.text_forms.specs.Fronts.{before, cut_before};
 ghost use Rattle.text_forms.specs.Words.{Word};
 ghost use Rattle.text_forms.specs.Printing.{bytes, definition, page, is_folded_word, IsPrintablePart, ArePrintableParts};
 ghost use Rattle.text_forms.specs.Laws.{StandInOrder, ClosesItsLists, ShowsBy, MatchedAreLists, OneNesting, SaysAsPlaced, MatchedAreFaultless, IsLeastOrNone};
@@ -15,12 +17,14 @@ pub fn lists_law()
 {}
 
 /// Tokens stand in order within the text, each list that is opened is closed in a text without faults, and
-/// the lists of tokens are the same with and without places.
+/// the lists of the tokens in front of a place are those of the text, cut there; with and without places the
+/// lists are the same.
 pub fn tokens_law(text: &[u8])
     ensures order { StandInOrder 0 (tokens text.now) (length text.now) }
     ensures few { token_count text.now ≤ length text.now }
     ensures closed { ClosesItsLists text.now }
     ensures shown { (i : ℕ) → ShowsBy text.now i (slice_get (tokens text.now) i) }
+    ensures fronts { (i m : ℕ) → level 0 (before m (drop i (lexemes text.now))) ≡ cut_before m (parts_at text.now i) }
     ensures lists { SaysAsPlaced text.now }
 {}
 
