@@ -1,14 +1,17 @@
 -- Typed lists of variables, objects and types: what spells, and what is refused.
 use Rattle.std.proofs.Common.{ℕ, ◌≡◌, true, false, [], ◌∷◌, codes, Some, None, refl, ap, subst}
+use Rattle.text_forms.specs.Lists.{group}
 use Rattle.text_forms.specs.Words.{word_at}
 use Rattle.plan_texts.specs.TypedLists.{EachTyped}
 use Rattle.plan_texts.specs.Types.{TypeItem, IsSomeName, IsTypeItem}
 use Rattle.plan_texts.specs.Formulas.{IsParam, IsKind}
 use Rattle.plan_texts.specs.Schemas.{IsObject}
+use Rattle.text_forms.specs.Printing.{bytes}
+use Rattle.plan_texts.specs.Printed.{params_parts}
 use Rattle.plan_texts.specs.FirstSeen.{types_in_order, pairs_in_order, unions_in_order}
 use Rattle.plan_model.specs.declared.types.Object.{Object}
 use Rattle.plan_texts.proofs.Basics.{apart}
-use Rattle.plan_texts.proofs.RowWords.{word_of, parts, said, n, v, x_a, y_object}
+use Rattle.plan_texts.proofs.RowWords.{word_of, parts, said, n, v, x_a, y_union, y_object}
 
 -- words share the type behind them; the last have none
 pub grouped : EachTyped (IsParam v) (x_a ∷ record { name = n 1; ty = 1 } ∷ y_object ∷ []) (parts (codes "?x ?y - a ?y"))
@@ -69,3 +72,7 @@ more_parents = refl
 pub unions : unions_in_order (parts (codes "(:functions (f ?x - (either c a))) (:task t :parameters (?x - (either b a) ?y - (either a a) ?z - (either b a)))")) (parts (codes "(:htn :parameters (?x - (either a b)) :subtasks (t))"))
     ≡ (codes "b" ∷ codes "a" ∷ []) ∷ (codes "a" ∷ codes "b" ∷ []) ∷ []
 unions = refl
+
+-- a union is printed with either
+pub printed_union : bytes (group (params_parts v (x_a ∷ y_union ∷ []))) ≡ codes "(?x - a ?y - (either a b))"
+printed_union = refl

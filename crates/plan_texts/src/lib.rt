@@ -13,4 +13,4 @@ pub use alike::{
     alike_pddl_symmetric, alike_pddl_transitive, spelled_hddl_alike, spelled_pddl_alike,
 };
 pub use ordered::{one_order, ordered_types_spelled};
-pub use printed::printed_spells;
+pub use printed::{printed_spells, read_back_alike};
