@@ -1,5 +1,5 @@
 -- A name table keeps each word in a vector of its own: what the set says of the vectors, said of the words.
-use Rattle.std.proofs.Common.{◌≡◌, ◌≢◌, ℕ, ◌+◌, ◌-◌, ◌<◌, ◌^◌, List, [], ◌∷◌, ◌++◌, length, get_or, map, Bool, true, false, cond, not, ◌||◌, Some, None, position, nat_lt, nat_eq, refl, sym, ap, ◌∙◌, arith, true≢false}
+use Rattle.std.proofs.Common.{◌≡◌, ◌≢◌, ℕ, ◌+◌, ◌-◌, ◌<◌, ◌^◌, List, [], ◌∷◌, ◌++◌, length, get_or, map, Bool, true, false, cond, not, ◌||◌, Some, None, position, nat_lt, nat_eq, refl, sym, ap, subst, ◌∙◌, arith, true≢false}
 use Rattle.std.specs.List.{list_any, position_or_len, prefix_len}
 use Rattle.std.specs.Str.{bytes_eq}
 use Rattle.std.specs.declared.vec.Vec.{Vec}
@@ -39,7 +39,7 @@ pub number_of-words_of : {A : Type 0} (word : List ℕ) (stored : List (Vec ℕ 
 number_of-words_of word stored = position-map (λ vector. vector.items) (bytes_eq word) stored
 
 -- a vector is put among the vectors where its word is put among the words
-pub words_of-insert_key : {A : Type 0} (stored : List (Vec ℕ A)) (vector : Vec ℕ A)
+words_of-insert_key : {A : Type 0} (stored : List (Vec ℕ A)) (vector : Vec ℕ A)
     → words_of (insert_key (λ one other. pointwise nat_eq one.items other.items) stored vector) ≡ with_word (words_of stored) vector.items
 words_of-insert_key stored vector =
     let known = list_any (λ other. bytes_eq vector.items other.items) stored in
@@ -80,11 +80,11 @@ module _ {X : Type 0} (test : X → Bool) (new : X) (passes : test new ≡ true)
           position-at (xs ++ new ∷ []) below ∙ ap Some place
 
 -- the number of a word in the table that has it
-pub number_of-with_word : (words : List (List ℕ)) (word : List ℕ) → number_of (with_word words word) word ≡ Some (position_or_len (bytes_eq word) words)
+number_of-with_word : (words : List (List ℕ)) (word : List ℕ) → number_of (with_word words word) word ≡ Some (position_or_len (bytes_eq word) words)
 number_of-with_word words word = position-insert (bytes_eq word) word ((bytes_eq-Decides word word).1 refl) words
 
 -- the place of a vector is that of its word
-pub place-words_of : {A : Type 0} (word : List ℕ) (stored : List (Vec ℕ A))
+place-words_of : {A : Type 0} (word : List ℕ) (stored : List (Vec ℕ A))
     → position_or_len (bytes_eq word) (words_of stored) ≡ position_or_len (λ vector. bytes_eq word vector.items) stored
 place-words_of word stored = prefix_len-map (λ vector. vector.items) (λ other. not (bytes_eq word other)) stored
 
@@ -93,7 +93,7 @@ IsFolded-folded [] = refl
 IsFolded-folded (byte ∷ word) = λ i. lowercase-lowercase byte i ∷ IsFolded-folded word i
 
 -- a table with one more word is a table
-pub IsTable-with_word : (words : List (List ℕ)) (word : List ℕ) → IsTable words → length words < 2 ^ 32 - 1 → IsFolded word → IsTable (with_word words word)
+IsTable-with_word : (words : List (List ℕ)) (word : List ℕ) → IsTable words → length words < 2 ^ 32 - 1 → IsFolded word → IsTable (with_word words word)
 IsTable-with_word words word table room low = by (list_any (bytes_eq word) words) refl
   where
     apart : list_any (bytes_eq word) words ≡ false → (k : ℕ) (d : List ℕ) → k < length words → get_or words k d ≢ word
@@ -107,3 +107,19 @@ IsTable-with_word words word table room low = by (list_any (bytes_eq word) words
       folded = All-push IsFolded words word table.folded low;
       short = omega (arith, length-append words (word ∷ []), table.short);
     }
+
+-- What is known after `vector` was put among the vectors `stored`, which spell `words`, and `vector` spells `word`.
+module _ {A : Type 0} (stored now : List (Vec ℕ A)) (vector : Vec ℕ A) (words : List (List ℕ)) (word : List ℕ)
+    (inserted : now ≡ insert_key (λ one other. pointwise nat_eq one.items other.items) stored vector)
+    (spells : words_of stored ≡ words) (lower : vector.items ≡ word) where
+  pub words_after : words_of now ≡ with_word words word
+  words_after = ap words_of inserted ∙ words_of-insert_key stored vector ∙ (λ i. with_word (spells i) (lower i))
+
+  pub number_after : (place : ℕ) → place ≡ position_or_len (λ other. bytes_eq vector.items other.items) stored → number_of (words_of now) word ≡ Some place
+  number_after place at =
+      let first : position_or_len (bytes_eq word) words ≡ place =
+      (λ i. position_or_len (bytes_eq (sym lower i)) (sym spells i)) ∙ place-words_of vector.items stored ∙ sym at in
+      ap (λ after. number_of after word) words_after ∙ number_of-with_word words word ∙ ap Some first
+
+  pub table_after : IsTable (words_of stored) → length words < 2 ^ 32 - 1 → IsFolded word → IsTable (words_of now)
+  table_after old room low = subst IsTable (sym words_after) (IsTable-with_word words word (subst IsTable spells old) room low)

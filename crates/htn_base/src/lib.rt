@@ -9,7 +9,10 @@ mod fault;
 mod list;
 mod memory;
 mod name;
+#[cfg(test)]
+mod tests;
 mod text;
+mod words;
 
 pub use boxed::Boxed;
 pub use fault::{Fault, Span};
@@ -17,3 +20,4 @@ pub use list::List;
 pub use memory::Memory;
 pub use name::{Name, NameTable};
 pub use text::Text;
+pub use words::{esc, is_plain, names_stay_apart, slot_name};

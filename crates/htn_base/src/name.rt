@@ -72,9 +72,9 @@ impl NameTable {
         ensures number { option_map (λ name. name.number) result ≡ number_of self.now word.now }
         ensures sound { IsTable self.now }
     {
-        let place = self.words.get_index_of(word)?;
+        let found = self.words.get_index_of(word)?;
         Some(Name {
-            number: place as u32,
+            number: found as u32,
         })
     }
 

@@ -1,0 +1,91 @@
+ghost use Rattle.std.specs.Prelude.{◌≡◌, ◌<◌, codes, nat_eq, IfOk};
+ghost use Rattle.std.specs.List.{list_all, starts_with};
+ghost use Rattle.htn_base.specs.Escapes as spec;
+
+use crate::memory::Memory;
+use crate::text::Text;
+use itoa::Buffer;
+use std::alloc::Global;
+
+/// Whether the word is plain: a lower-case letter, then lower-case letters, digits, `-` and `_`, and it does not
+/// begin with `htn_`.
+pub fn is_plain(word: &[u8]) -> bool
+    ensures plain { result ≡ spec.is_plain_word word.now }
+{
+    begins_with_letter(word) && has_plain_bytes(word) && !is_generated(word)
+}
+
+/// The printed word of a source name: a plain word itself, and any other as `htn_u_` and each byte in two lower-case
+/// hexadecimal digits.
+pub fn esc(alloc: Global, word: &[u8]) -> Result<Text, Memory>
+    ensures escaped { IfOk result (λ text. text ≡ spec.escaped word.now) }
+{
+    if is_plain(word) {
+        return Text::from_slice(alloc, word);
+    }
+    let mut text = Text::from_slice(alloc, b"htn_u_")?;
+    for byte in word {
+        text.push_all(&hex(*byte))?;
+    }
+    Ok(text)
+}
+
+/// The word of slot k. The printed texts count slots from 1.
+pub fn slot_name(alloc: Global, k: u32) -> Result<Text, Memory>
+    ensures slot { IfOk result (λ text. text ≡ spec.slot_word k) }
+{
+    let mut digits = Buffer::new();
+    let mut text = Text::from_slice(alloc, b"htn_s")?;
+    text.push_all(digits.format(k).as_bytes())?;
+    Ok(text)
+}
+
+fn begins_with_letter(word: &[u8]) -> bool
+    ensures { result ≡ spec.begins_with_letter word.now }
+{
+    match word.first() {
+        None => false,
+        Some(first) => first.is_ascii_lowercase(),
+    }
+}
+
+fn has_plain_bytes(word: &[u8]) -> bool
+    ensures { result ≡ list_all spec.is_plain_byte word.now }
+{
+    word.iter().all(|byte| is_plain_byte(*byte))
+}
+
+fn is_plain_byte(byte: u8) -> bool
+    ensures { result ≡ spec.is_plain_byte byte }
+{
+    byte.is_ascii_lowercase() || byte.is_ascii_digit() || byte == b'-' || byte == b'_'
+}
+
+fn is_generated(word: &[u8]) -> bool
+    ensures { result ≡ starts_with nat_eq word.now (codes "htn_") }
+{
+    word.starts_with(b"htn_")
+}
+
+fn hex(byte: u8) -> [u8; 2]
+    ensures { result ≡ spec.hex byte }
+{
+    [hex_digit(byte / 16), hex_digit(byte % 16)]
+}
+
+fn hex_digit(digit: u8) -> u8
+    requires { digit < 16 }
+    ensures { result ≡ spec.hex_digit digit }
+{
+    if digit < 10 {
+        b'0' + digit
+    } else {
+        b'a' - 10 + digit
+    }
+}
+
+/// Why printed names never clash: escapes differ where their words do, no escape is a generated word, and each is a
+/// name that the texts may have.
+pub fn names_stay_apart()
+    ensures apart { spec.KeepsNamesApart }
+{}
