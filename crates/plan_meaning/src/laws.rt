@@ -1,0 +1,16 @@
+//! The laws of compiled problems, each the contract of a function that does nothing.
+
+ghost use Rattle.task_networks.specs.Lawful.{IsLawful};
+ghost use Rattle.plan_meaning.specs.Network.{network};
+ghost use Rattle.plan_meaning.specs.Compilation.{IsCompiled};
+ghost use Rattle.plan_meaning.specs.Laws.{AreOrdered};
+
+use plan_model::{Checks, Compiled, Hddl};
+
+/// The network of a compiled problem has the laws that the machine of slots asks for.
+pub fn compiled_network_is_lawful(problem: &Hddl, checks: &Checks, compiled: &Compiled)
+    requires ordered { AreOrdered problem.now }
+    requires compiled { IsCompiled problem.now checks.now compiled.now }
+    ensures { IsLawful (network compiled.now) }
+{
+}

@@ -1,0 +1,50 @@
+-- Slots: a number that isn't used, and one put into a list.
+use Rattle.std.proofs.Common.{ℕ, zero, suc, ◌≡◌, ◌≢◌, ◌+◌, ◌<◌, ◌≤◌, ◌⊎◌, inl, inr, List, [], ◌∷◌, ◌++◌, length, slice_index, slice_get, map, filter, Option, Some, None, Bool, true, false, not, cond, ◌==◌, refl, ap, sym, subst, ◌∙◌, Contains, arith}
+use Rattle.std.proofs.Math.Decide.{ℕ_discrete}
+use Rattle.task_networks.specs.Pending.{AreDifferent}
+use Rattle.task_networks.proofs.Different.{length_whole, without_cases}
+use Rattle.task_networks.proofs.Lists.{not-in_empty, Contains-later, head_or_tail, cut_at, Contains-here}
+
+pub is_in : (xs : List ℕ) (x : ℕ) → Dec (Contains xs x)
+is_in [] x = no (not-in_empty x)
+is_in (y ∷ xs) x = go (ℕ_discrete y x) (is_in xs x)
+  where
+    go : Dec (y ≡ x) → Dec (Contains xs x) → Dec (Contains (y ∷ xs) x)
+    go (yes e) d = yes (0, omega arith, e)
+    go (no n) (yes c) = yes (Contains-later y xs x c)
+    go (no n) (no m) = no (λ c. elim (head_or_tail y xs x c) [ inl e ↦ n e | inr e ↦ m e ])
+
+-- fewer than b are used, so one isn't
+pub one_unused : (b : ℕ) (xs : List ℕ) → length xs < b → (x : ℕ) × (1 ≤ x) × (x ≤ b) × (Contains xs x → ⊥)
+one_unused zero xs h = absurd (omega arith)
+one_unused (suc b) xs h = go (is_in xs (suc b)) (λ ys. one_unused b ys)
+  where
+    go : Dec (Contains xs (suc b)) → ((ys : List ℕ) → length ys < b → (x : ℕ) × (1 ≤ x) × (x ≤ b) × (Contains ys x → ⊥)) → (x : ℕ) × (1 ≤ x) × (x ≤ suc b) × (Contains xs x → ⊥)
+    go (no n) ih = (suc b, omega arith, omega arith, n)
+    go (yes c) ih =
+        let (ls, bs, e) = cut_at xs (suc b) c in
+        let k = length_whole ls (suc b) bs in
+        let f = ap length e in
+        let (x, p, q, n) = ih (ls ++ bs) (omega arith) in
+        (x, p, omega arith, λ d. elim (without_cases ls (suc b) bs x (subst (λ z. Contains z x) e d)) [ inl y ↦ omega arith | inr y ↦ n y ])
+
+pub unused : (k b : ℕ) (xs : List ℕ) → k + length xs ≤ b → (hs : List ℕ) × (length hs ≡ k) × AreDifferent hs × ((x : ℕ) → Contains hs x → (1 ≤ x) × (x ≤ b) × (Contains xs x → ⊥))
+unused zero b xs h = ([], refl, tt, λ x c. absurd (not-in_empty x c))
+unused (suc k) b xs h =
+    let (x, p, q, n) = one_unused b xs (omega arith) in
+    let (hs, l, d, f) = unused k b (x ∷ xs) (omega arith) in
+    (x ∷ hs, ap suc l, (λ c. (f x c).2 (Contains-here x xs), d),
+      λ y c. elim (head_or_tail x hs y c) [ inl e ↦ subst (λ z. (1 ≤ z) × (z ≤ b) × (Contains xs z → ⊥)) e (p, q, n) | inr e ↦ ((f y e).0, (f y e).1, λ z. (f y e).2 (Contains-later x xs y z)) ])
+
+pub at_place : (xs : List ℕ) (j : ℕ) → j < length xs → Contains xs (slice_index xs j)
+at_place [] j h = absurd (omega arith)
+at_place (y ∷ ys) zero h = Contains-here y ys
+at_place (y ∷ ys) (suc j) h = Contains-later y ys (slice_index ys j) (at_place ys j (omega arith))
+
+-- different elements stand at different places
+pub different_places : (xs : List ℕ) (i j : ℕ) → AreDifferent xs → i < length xs → j < length xs → slice_index xs i ≡ slice_index xs j → i ≡ j
+different_places [] i j d p q e = absurd (omega arith)
+different_places (x ∷ xs) zero zero d p q e = refl
+different_places (x ∷ xs) zero (suc j) d p q e = absurd (d.0 (subst (Contains xs) (sym e) (at_place xs j (omega arith))))
+different_places (x ∷ xs) (suc i) zero d p q e = absurd (d.0 (subst (Contains xs) e (at_place xs i (omega arith))))
+different_places (x ∷ xs) (suc i) (suc j) d p q e = ap suc (different_places xs i j d.1 (omega arith) (omega arith) e)

@@ -1,0 +1,5 @@
+pub mod Machine
+pub mod Reached
+pub mod Causes
+pub mod OtherMachine
+pub mod Laws

@@ -1,0 +1,28 @@
+-- Another machine that takes acts, as that of a classical plan does.
+use Rattle.std.specs.Prelude.{ℕ, ◌≡◌, ◌↔◌, List, [], ◌∷◌, ◌++◌}
+use Rattle.task_networks.specs.Net.{Net}
+use Rattle.task_networks.specs.Tree.{Tree, Address}
+use Rattle.task_networks.specs.Spelling.{Act, Spells}
+use Rattle.slot_machine.specs.Machine.{State, start, May, after, end_of}
+
+-- two states say the same
+pub record AreSame (N : Net) (s t : State N) : Type 0 where
+  pub holds : (x : ℕ) (w : N.Work) → s.holds x w ↔ t.holds x w
+  pub free : (x : ℕ) → s.free x ↔ t.free x
+  pub before : (x y : ℕ) → s.before x y ↔ t.before x y
+
+module _ (N : Net) (read : List (Act N) → State N) (Takes : List (Act N) → Act N → Type 0) where
+  -- `read acts` is what its state after these acts says of the slots, and it takes each act after those before it
+  abbrev pub TakesAll : List (Act N) → Type 0
+  TakesAll acts = (taken rest : List (Act N)) (a : Act N) → acts ≡ taken ++ a ∷ rest → Takes taken a
+
+  -- after acts that spell a front, where its state says what the slot machine's does,
+  -- it takes the same acts, and its state says what the slot machine's does after one
+  pub record AgreesAtFronts (b : ℕ) (top : N.Work) : Type 0 where
+    pub first : AreSame N (read []) (start N b top)
+    pub may : (acts : List (Act N)) (tree : Tree N) (order : List Address) (slot : Address → ℕ) (a : Act N)
+        → Spells N b top acts tree order slot → AreSame N (read acts) (end_of N (start N b top) acts)
+        → Takes acts a ↔ May N (end_of N (start N b top) acts) a
+    pub step : (acts : List (Act N)) (tree : Tree N) (order : List Address) (slot : Address → ℕ) (a : Act N)
+        → Spells N b top acts tree order slot → AreSame N (read acts) (end_of N (start N b top) acts) → May N (end_of N (start N b top) acts) a
+        → AreSame N (read (acts ++ a ∷ [])) (after N (end_of N (start N b top) acts) a)

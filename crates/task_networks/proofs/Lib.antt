@@ -1,0 +1,11 @@
+pub mod Lists
+pub mod Different
+pub mod Filters
+pub mod Numbers
+pub mod Orders
+pub mod Addresses
+pub mod Nodes
+pub mod PendingNodes
+pub mod ScheduleLaws
+pub mod Tests
+mod OrderExamples

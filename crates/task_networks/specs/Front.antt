@@ -1,0 +1,17 @@
+-- Fronts and solution trees.
+use Rattle.std.specs.Prelude.{◌≡◌, List}
+use Rattle.task_networks.specs.Net.{Net}
+use Rattle.task_networks.specs.Tree.{Tree, Address, work_of, IsGrown, IsOpen}
+use Rattle.task_networks.specs.Schedule.{IsSchedule}
+
+module _ (N : Net) where
+  -- a tree with open leaves, grown from the top work, with a schedule
+  pub record IsFront (top : N.Work) (tree : Tree N) (order : List Address) : Type 0 where
+    pub grown : IsGrown N tree
+    pub root : work_of N tree ≡ top
+    pub schedule : IsSchedule N tree order
+
+  -- a front without open leaves
+  pub record IsFinished (top : N.Work) (tree : Tree N) (order : List Address) : Type 0 where
+    pub front : IsFront top tree order
+    pub no_leaves : (p : Address) → IsOpen N tree p → ⊥

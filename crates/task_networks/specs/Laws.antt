@@ -1,0 +1,42 @@
+-- What is proved of every network, so that the definitions are seen to fit together.
+use Rattle.std.specs.Prelude.{ℕ, ◌≡◌, ◌≤◌, ◌↔◌, List, [], ◌∷◌, ◌++◌, length, Contains, Some}
+use Rattle.task_networks.specs.Order.{Precedes, IsLine}
+use Rattle.task_networks.specs.Net.{Net, count}
+use Rattle.task_networks.specs.Lawful.{IsLawful}
+use Rattle.task_networks.specs.Prepared.{IsPrepared}
+use Rattle.task_networks.specs.Tree.{Tree, used, Address, IsBelow, label_at, IsAddress, IsProcessed}
+use Rattle.task_networks.specs.Schedule.{IsSchedule}
+use Rattle.task_networks.specs.Pending.{IsPending, IsWithin, pending}
+use Rattle.task_networks.specs.Front.{IsFinished}
+
+module _ (N : Net) where
+  -- a method has one line at most
+  abbrev pub LineIsTheOnlyOne : Type 0
+  LineIsTheOnlyOne = (m : N.Method) (line other : List ℕ) → IsLine (N.Pair m) (count N m) line → IsLine (N.Pair m) (count N m) other → line ≡ other
+
+  -- where heirs and copiers are those of the orders, the network is lawful
+  abbrev pub PreparedIsLawful : Type 0
+  PreparedIsLawful = IsPrepared N → IsLawful N
+
+  -- in a schedule the root stands first
+  abbrev pub RootStandsFirst : Type 0
+  RootStandsFirst = (tree : Tree N) (order : List Address) (p : Address) (rest : List Address) → IsSchedule N tree order → order ≡ p ∷ rest → p ≡ []
+
+  -- nothing is pending after the last step of a front without open leaves
+  abbrev pub NothingIsPendingAtTheEnd : Type 0
+  NothingIsPendingAtTheEnd = (top : N.Work) (tree : Tree N) (order : List Address) (p : Address) → IsFinished N top tree order → IsPending N tree order p → ⊥
+
+  -- where child i must precede child j, the whole subtree of i is processed and stands before each scheduled node of the subtree of j
+  abbrev pub EarlierSubtreesStandBefore : Type 0
+  EarlierSubtreesStandBefore = (tree : Tree N) (order taken rest : List Address) (q : Address) (m : N.Method) (i j : ℕ) (u v : Address)
+      → IsSchedule N tree order → order ≡ taken ++ v ∷ rest
+      → label_at N tree q ≡ Some (used m) → Precedes (N.Pair m) i j → IsBelow (i ∷ q) u → IsAddress N tree u → IsBelow (j ∷ q) v
+      → IsProcessed N tree u × Contains taken u
+
+  -- the computed list of what is pending has the pending nodes
+  abbrev pub PendingIsComputed : Type 0
+  PendingIsComputed = (tree : Tree N) (taken : List Address) (p : Address) → Contains (pending N tree taken) p ↔ IsPending N tree taken p
+
+  -- and its length says whether more than b are pending
+  abbrev pub WidthIsComputed : Type 0
+  WidthIsComputed = (b : ℕ) (tree : Tree N) (order : List Address) → IsWithin N b tree order ↔ ((taken rest : List Address) → order ≡ taken ++ rest → length (pending N tree taken) ≤ b)

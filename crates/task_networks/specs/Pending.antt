@@ -1,0 +1,69 @@
+-- What is pending: the nodes that are begun and not taken yet, and how many they are.
+-- Source: the progression bound of Alford et al., "Bound to Plan", ICAPS 2016. Checks count as tasks.
+use Rattle.std.specs.Prelude.{ℕ, suc, ◌≡◌, ◌≤◌, List, [], ◌∷◌, ◌++◌, length, filter, Bool, true, false, not, ◌&&◌, ◌==◌, Contains}
+use Rattle.std.specs.List.{list_any}
+use Rattle.task_networks.specs.Net.{Net}
+use Rattle.task_networks.specs.Tree.{Tree, Trees, open_leaf, done, split, none, more, Address, IsAddress}
+use Rattle.task_networks.specs.Schedule.{IsBegun}
+
+-- no element stands twice
+abbrev pub AreDifferent : {A : Type 0} → List A → Type 0
+AreDifferent [] = Unit {0}
+AreDifferent (x ∷ xs) = (Contains xs x → ⊥) × AreDifferent xs
+
+module _ (N : Net) where
+  -- the parent of p is taken, or there is none, and p isn't
+  pub record IsPending (tree : Tree N) (taken : List Address) (p : Address) : Type 0 where
+    pub address : IsAddress N tree p
+    pub begun : IsBegun taken p
+    pub left : Contains taken p → ⊥
+
+  -- different nodes that are all pending
+  pub record ArePending (tree : Tree N) (taken : List Address) (nodes : List Address) : Type 0 where
+    pub different : AreDifferent nodes
+    pub pending : (p : Address) → Contains nodes p → IsPending tree taken p
+
+  -- after each part of the order no more than b nodes are pending
+  abbrev pub IsWithin : ℕ → Tree N → List Address → Type 0
+  IsWithin b tree order = (taken rest nodes : List Address) → order ≡ taken ++ rest → ArePending tree taken nodes → length nodes ≤ b
+
+  -- the greatest number of nodes pending at a time
+  pub record IsWidth (b : ℕ) (tree : Tree N) (order : List Address) : Type 0 where
+    pub within : IsWithin b tree order
+    pub taken : List Address
+    pub rest : List Address
+    pub nodes : List Address
+    pub parts : order ≡ taken ++ rest
+    pub pending : ArePending tree taken nodes
+    pub many : length nodes ≡ b
+
+-- the same, computed
+
+abbrev pub same_address : Address → Address → Bool
+same_address [] [] = true
+same_address (i ∷ p) (j ∷ q) = (i == j) && same_address p q
+same_address [] (j ∷ q) = false
+same_address (i ∷ p) [] = false
+
+abbrev pub is_among : List Address → Address → Bool
+is_among nodes p = list_any (same_address p) nodes
+
+abbrev pub is_pending : List Address → Address → Bool
+is_pending taken [] = not (is_among taken [])
+is_pending taken (i ∷ p) = is_among taken p && not (is_among taken (i ∷ p))
+
+module _ (N : Net) where
+  abbrev mutual
+    -- the nodes of a tree that stands at p, and of trees that are its children from number i on
+    pub nodes_at : Address → Tree N → List Address
+    nodes_at p (open_leaf w) = p ∷ []
+    nodes_at p (done w) = p ∷ []
+    nodes_at p (split m ts) = p ∷ nodes_from p 0 ts
+
+    pub nodes_from : Address → ℕ → Trees N → List Address
+    nodes_from p i none = []
+    nodes_from p i (more t ts) = nodes_at (i ∷ p) t ++ nodes_from p (suc i) ts
+
+  -- all pending nodes
+  abbrev pub pending : Tree N → List Address → List Address
+  pending tree taken = filter (is_pending taken) (nodes_at [] tree)

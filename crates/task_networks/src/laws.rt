@@ -1,0 +1,44 @@
+//! The laws of every network, each the contract of a function that does nothing.
+//!
+//! `of` is any value that the picked network is made of.
+
+ghost use Rattle.task_networks.specs.Laws.{LineIsTheOnlyOne, PreparedIsLawful, RootStandsFirst, NothingIsPendingAtTheEnd, EarlierSubtreesStandBefore, PendingIsComputed, WidthIsComputed};
+
+use crate::network::Network;
+
+/// A method has one line at most.
+pub fn line_is_the_only_one<N: Network, T>(of: &T)
+    ensures { LineIsTheOnlyOne N.net }
+{
+}
+
+/// A network whose heirs and copiers are those of its orders is lawful.
+pub fn prepared_is_lawful<N: Network, T>(of: &T)
+    ensures { PreparedIsLawful N.net }
+{
+}
+
+/// In a schedule the root stands first.
+pub fn root_stands_first<N: Network, T>(of: &T)
+    ensures { RootStandsFirst N.net }
+{
+}
+
+/// Nothing is pending after the last step of a front without open leaves.
+pub fn nothing_is_pending_at_the_end<N: Network, T>(of: &T)
+    ensures { NothingIsPendingAtTheEnd N.net }
+{
+}
+
+/// Where an earlier sibling must precede, its whole subtree is processed and stands before.
+pub fn earlier_subtrees_stand_before<N: Network, T>(of: &T)
+    ensures { EarlierSubtreesStandBefore N.net }
+{
+}
+
+/// The computed list of what is pending has the pending nodes, and its length gives the width.
+pub fn pending_is_computed<N: Network, T>(of: &T)
+    ensures nodes { PendingIsComputed N.net }
+    ensures width { WidthIsComputed N.net }
+{
+}
