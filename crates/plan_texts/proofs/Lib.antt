@@ -24,3 +24,5 @@ pub mod TypedRows
 pub mod SectionRows
 pub mod NetworkRows
 pub mod WholeRow
+pub mod PlanSteps
+pub mod PlanRows

@@ -14,3 +14,4 @@ pub mod PrintedTexts
 pub mod Printable
 pub mod PrintableValue
 pub mod FirstSeen
+pub mod PlanText

@@ -6,6 +6,7 @@
 
 mod alike;
 mod ordered;
+mod plans;
 mod printed;
 
 pub use alike::{
@@ -13,4 +14,5 @@ pub use alike::{
     alike_pddl_symmetric, alike_pddl_transitive, spelled_hddl_alike, spelled_pddl_alike,
 };
 pub use ordered::{one_order, ordered_types_spelled};
+pub use plans::plan_law;
 pub use printed::{printed_spells, read_back_alike};

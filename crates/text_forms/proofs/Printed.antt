@@ -6,7 +6,7 @@ use Rattle.text_forms.specs.Bytes.{Class, blank, opening, closing, letter, bad, 
 use Rattle.text_forms.specs.Tokens.{left, right, said, symbols}
 use Rattle.text_forms.specs.Lists.{Part, Parts, name, group, nothing, part, written, written_all}
 use Rattle.text_forms.specs.Words.{Word}
-use Rattle.text_forms.specs.Printing.{bytes, bytes_behind, lines, headed, definition, page, are_folded, is_folded_word, IsPrintablePart, ArePrintableParts}
+use Rattle.text_forms.specs.Printing.{bytes, bytes_behind, lines, rows, headed, definition, page, are_folded, is_folded_word, IsPrintablePart, ArePrintableParts}
 use Rattle.text_forms.proofs.ReadOn.{made_said, one_more, letters_after, read_on, symbols-read}
 
 -- a letter opens no comment
@@ -149,3 +149,17 @@ clean-page kind w ps k e f =
     let head : Part = headed kind (part (name w) nothing) in
     good-quiet (page kind w ps)
     (quiet-append (codes "(define ") (bytes head ++ (10 ∷ (lines ps ++ codes ")\n"))) refl (quiet-append (bytes head) (10 ∷ (lines ps ++ codes ")\n")) (quiet-part head (k, (e, tt))) (quiet-append (lines ps) (codes ")\n") (quiet-lines ps f) refl)))
+
+read-rows : (ps : Parts) → ArePrintableParts ps → read_on None false (rows ps) ≡ written_all ps
+read-rows nothing e = refl
+read-rows (part p ps) e = read-part p (10 ∷ rows ps) e.0 (λ w. refl) ∙ ap (λ t. written p ++ t) (read-rows ps e.1)
+
+pub symbols-rows : (ps : Parts) → ArePrintableParts ps → symbols (rows ps) ≡ written_all ps
+symbols-rows ps e = symbols-read (rows ps) ∙ read-rows ps e
+
+quiet-rows : (ps : Parts) → ArePrintableParts ps → are_quiet (rows ps) ≡ true
+quiet-rows nothing e = refl
+quiet-rows (part p ps) e = quiet-append (bytes p) (10 ∷ rows ps) (quiet-part p e.0) (quiet-rows ps e.1)
+
+pub clean-rows : (ps : Parts) → ArePrintableParts ps → is_clean (rows ps) ≡ true
+clean-rows ps e = good-quiet (rows ps) (quiet-rows ps e)

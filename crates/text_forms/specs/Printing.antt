@@ -21,6 +21,11 @@ abbrev pub lines : Parts → List ℕ
 lines nothing = []
 lines (part p ps) = 32 ∷ (bytes p ++ (10 ∷ lines ps))
 
+-- each part on a line of its own
+abbrev pub rows : Parts → List ℕ
+rows nothing = []
+rows (part p ps) = bytes p ++ 10 ∷ rows ps
+
 -- a list that begins with a word
 abbrev pub headed : Word → Parts → Part
 headed w ps = group (part (name w) ps)

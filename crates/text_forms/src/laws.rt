@@ -3,11 +3,11 @@ ghost use Rattle.std.specs.Prelude.{◌≡◌, ◌≤◌, ℕ, true, List, lengt
 ghost use Rattle.text_forms.specs.Bytes.{is_clean};
 ghost use Rattle.text_forms.specs.Tokens.{tokens, token_count, lexemes, symbols};
 ghost use Rattle.text_forms.specs.Least.{least_fault};
-ghost use Rattle.text_forms.specs.Lists.{Part, Parts, written};
+ghost use Rattle.text_forms.specs.Lists.{Part, Parts, written, written_all};
 ghost use Rattle.text_forms.specs.Placed.{level, parts_at};
 ghost use Rattle.text_forms.specs.Fronts.{before, cut_before};
 ghost use Rattle.text_forms.specs.Words.{Word};
-ghost use Rattle.text_forms.specs.Printing.{bytes, definition, page, is_folded_word, IsPrintablePart, ArePrintableParts};
+ghost use Rattle.text_forms.specs.Printing.{bytes, rows, definition, page, is_folded_word, IsPrintablePart, ArePrintableParts};
 ghost use Rattle.text_forms.specs.Laws.{StandInOrder, ClosesItsLists, ShowsBy, MatchedAreLists, OneNesting, SaysAsPlaced, MatchedAreFaultless, IsLeastOrNone};
 
 /// Matched parentheses are those of nested lists, in one way only.
@@ -34,9 +34,11 @@ pub fn faults_law(text: &[u8])
     ensures matched { MatchedAreFaultless text.now }
 {}
 
-/// What is printed for a nested list, or for a page of sections, says this list.
+/// What is printed for a nested list, for lists on rows, or for a page of sections, says these lists, and has no bad byte.
 pub fn printed_law()
     ensures list { (p : Part) → IsPrintablePart p → symbols (bytes p) ≡ written p }
+    ensures rows { (ps : Parts) → ArePrintableParts ps → symbols (rows ps) ≡ written_all ps }
+    ensures clean_rows { (ps : Parts) → ArePrintableParts ps → is_clean (rows ps) ≡ true }
     ensures clean { (kind w : Word) (ps : Parts) → is_folded_word kind ≡ true → is_folded_word w ≡ true → ArePrintableParts ps → is_clean (page kind w ps) ≡ true }
     ensures page { (kind w : Word) (ps : Parts) → is_folded_word kind ≡ true → is_folded_word w ≡ true → ArePrintableParts ps → symbols (page kind w ps) ≡ written (definition kind w ps) }
 {}
