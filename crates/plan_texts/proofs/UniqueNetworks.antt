@@ -6,11 +6,13 @@ use Rattle.text_forms.specs.Words.{Word, is_name, first_place}
 use Rattle.plan_texts.specs.Declared.{Declared, variable, named}
 use Rattle.plan_texts.specs.TypedLists.{Each, EachTyped}
 use Rattle.plan_texts.specs.Formulas.{IsTerm, IsParam}
-use Rattle.plan_texts.specs.Said.{Typed, said}
+use Rattle.plan_texts.specs.Said.{Typed, all, none, said}
 use Rattle.plan_texts.specs.Sections.{parameters, precondition, found, stands, bundle}
 use Rattle.plan_texts.specs.Networks.{ordered_subtasks, ordering, task, head_of, chain_if, IsCall, IsSubtaskBy, IsSubtask, id_word, ids, IsOrdered, IsEquation, IsConstraintBy, IsConstraint, IsNetwork, IsTask, IsMethod, IsTop}
-use Rattle.plan_texts.specs.Alike.{child_said, task_said, network_said, method_said}
+use Rattle.plan_texts.specs.Alike.{child_said, task_said, method_said}
 use Rattle.htn_base.specs.declared.name.Name.{Name}
+use Rattle.plan_model.specs.declared.formulas.Formula.TheOpen.{Formula-F}
+use Rattle.plan_model.specs.declared.formulas.Formula.TheVariants.{And, rolls-And}
 use Rattle.plan_model.specs.declared.terms.Term.{Term}
 use Rattle.plan_model.specs.declared.terms.Term.TheVariants.{Var, Obj}
 use Rattle.plan_model.specs.declared.networks.Head.{Head}
@@ -20,7 +22,7 @@ use Rattle.plan_model.specs.declared.networks.Constraint.{Constraint}
 use Rattle.plan_model.specs.declared.schemas.TaskSchema.{TaskSchema}
 use Rattle.plan_model.specs.declared.schemas.MethodSchema.{MethodSchema}
 use Rattle.plan_texts.proofs.Basics.{items}
-use Rattle.plan_texts.proofs.Readings.{param_said, term_said, terms_said, reading, term-said, terms-said, scope-said, formula-said}
+use Rattle.plan_texts.proofs.Readings.{said_roll, param_said, term_said, terms_said, reading, term-said, terms-said, scope-said, formula-said}
 use Rattle.plan_texts.proofs.Members.{length-map}
 use Rattle.plan_texts.proofs.Unique.{same-each, same-params, map-is}
 
@@ -126,6 +128,9 @@ module _ (v w : Declared) (tasks tasks' actions actions' : List Word) (same_obje
         ]
       ]
 
+said-empty : (v : Declared) → said v (And []) ≡ all none
+said-empty v = ap (said v) (sym (rolls-And [])) ∙ said_roll v (Formula-F.And [])
+
 abbrev word_or : Option Word → Word
 word_or None = []
 word_or (Some w) = w
@@ -171,11 +176,15 @@ module _ (v w : Declared) (tasks tasks' actions actions' : List Word) (same_obje
       let g = same-network (map (variable v) x.params) (map (variable w) y.params) s x.children y.children x.pairs y.pairs x.constraints y.constraints f.entries (subst (IsNetwork v tasks actions (map (variable v) x.params) x.children x.pairs x.constraints) j e.network) f.network in
       λ n. (i n, t n, u n, m n, (l n, g.0 n, g.1 n, g.2 n))
 
-  pub same-top : (x y : MethodSchema) (es : Parts) → IsTop v tasks actions x es → IsTop w tasks' actions' y es → network_said v x ≡ network_said w y
+  pub same-top : (x y : MethodSchema) (es : Parts) → IsTop v tasks actions x es → IsTop w tasks' actions' y es → method_said v x ≡ method_said w y
   same-top x y es e f =
+      let i : named v.names x.name ≡ named w.names y.name = e.named ∙ sym f.named in
+      let t : x.task ≡ y.task = e.task ∙ ap length same_tasks ∙ sym f.task in
+      let u : x.task_args ≡ y.task_args = e.task_args ∙ sym f.task_args in
+      let m : said v x.pre ≡ said w y.pre = ap (said v) e.pre ∙ said-empty v ∙ sym (said-empty w) ∙ sym (ap (said w) f.pre) in
       let a' = e.params.1 in let b' = f.params.1 in
       let k : e.params.0 ≡ f.params.0 = cc in
       let l = same-params v w x.params y.params f.params.0 (subst (EachTyped (IsParam v) x.params) k e.params.2) f.params.2 in
       let s : map (variable v) x.params ≡ map (variable w) y.params = scope-said v x.params e.params.0 e.params.2 ∙ ap (λ t. map (λ (z : Typed). z.0) (map param_said (items t))) k ∙ sym (scope-said w y.params f.params.0 f.params.2) in
       let g = same-network (map (variable v) x.params) (map (variable w) y.params) s x.children y.children x.pairs y.pairs x.constraints y.constraints es e.network f.network in
-      λ n. (l n, g.0 n, g.1 n, g.2 n)
+      λ n. (i n, t n, u n, m n, (l n, g.0 n, g.1 n, g.2 n))

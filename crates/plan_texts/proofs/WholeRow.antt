@@ -186,6 +186,10 @@ sections = record {
   htn = _;
   htn_there = refl;
   top = record {
+    named = refl;
+    task = refl;
+    task_args = refl;
+    pre = refl;
     form = refl;
     params = (_, refl, ((refl, refl, (refl, refl)), tt));
     network = record {
@@ -224,8 +228,4 @@ whole_in_order = record {
   problem_faultless = no_fault problem refl;
   spelled = whole_spelled;
   ordered = record { types = refl; pairs = refl; unions = refl };
-  top_name = refl;
-  top_task = refl;
-  top_args = refl;
-  top_pre = refl;
 }

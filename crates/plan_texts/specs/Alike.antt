@@ -1,4 +1,5 @@
 -- Values that are equal once each number of a name or a type is replaced by its words.
+-- Source: this project's.
 use Rattle.std.specs.Prelude.{ℕ, ◌≡◌, ◌↔◌, Bool, List, map, Option, option_map}
 use Rattle.text_forms.specs.Words.{Word, word_at}
 use Rattle.plan_texts.specs.Declared.{Declared, named}
@@ -62,7 +63,6 @@ pub record AreAlikePddl (c d : Pddl) : Type 0 where
   pub init : c.init ≡ d.init
   pub goal : said (pddl_words c) c.goal ≡ said (pddl_words d) d.goal
 
--- The name, the task and the precondition of the top method are no part of a text, and aren't compared.
 pub record AreAlikeHddl (c d : Hddl) : Type 0 where
   pub domains : named c.names c.domain ≡ named d.names d.domain
   pub problems : named c.names c.problem ≡ named d.names d.problem
@@ -73,6 +73,6 @@ pub record AreAlikeHddl (c d : Hddl) : Type 0 where
   pub tasks : map (task_said (hddl_words c)) c.tasks ≡ map (task_said (hddl_words d)) d.tasks
   pub actions : map (action_said (hddl_words c)) c.actions ≡ map (action_said (hddl_words d)) d.actions
   pub methods : map (method_said (hddl_words c)) c.methods ≡ map (method_said (hddl_words d)) d.methods
-  pub top : network_said (hddl_words c) c.top ≡ network_said (hddl_words d) d.top
+  pub top : method_said (hddl_words c) c.top ≡ method_said (hddl_words d) d.top
   pub init : c.init ≡ d.init
   pub goal : said (hddl_words c) c.goal ≡ said (hddl_words d) d.goal

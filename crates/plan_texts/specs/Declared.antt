@@ -1,4 +1,5 @@
 -- The words that the numbers of a value stand for.
+-- Source: appendix A (grammar) of Fox and Long, "PDDL2.1", JAIR 20, 2003, level 1, types with ( either A B ).
 use Rattle.std.specs.Prelude.{ℕ, List, [], ◌∷◌, ◌++◌, map, get_or}
 use Rattle.text_forms.specs.Words.{Word, word_at}
 use Rattle.htn_base.specs.declared.name.Name.{Name}

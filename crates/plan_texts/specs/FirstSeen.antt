@@ -1,18 +1,18 @@
 -- The value of two HDDL texts: types, pairs and unions in the order in which the texts first name them.
-use Rattle.std.specs.Prelude.{ℕ, suc, ◌≡◌, ◌++◌, cond, List, [], ◌∷◌, map, length, codes, Option, Some, None}
+-- Source: this project's.
+use Rattle.std.specs.Prelude.{ℕ, suc, ◌≡◌, ◌++◌, cond, List, [], ◌∷◌, map, codes, Option, Some, None}
 use Rattle.std.specs.List.{list_any}
 use Rattle.std.specs.Str.{bytes_eq}
 use Rattle.std.specs.Cmp.Lexicographic.{pointwise}
 use Rattle.text_forms.specs.Faults.{IsFaultless}
 use Rattle.text_forms.specs.Lists.{Part, Parts, name, group, nothing, part}
 use Rattle.text_forms.specs.Words.{Word, is_among, first_place}
-use Rattle.plan_texts.specs.Declared.{named, union_words}
+use Rattle.plan_texts.specs.Declared.{union_words}
 use Rattle.plan_texts.specs.TypedLists.{is_dash, ahead, words_in, first_seen}
 use Rattle.plan_texts.specs.Types.{TypeItem, parent_said}
 use Rattle.plan_texts.specs.Sections.{section, parts_in}
 use Rattle.plan_texts.specs.SpellsHddl.{hddl_types, SpellsHddl}
 use Rattle.plan_model.specs.declared.types.Parent.{Parent}
-use Rattle.plan_model.specs.declared.formulas.Formula.TheVariants.{And}
 use Rattle.plan_model.specs.declared.values.Hddl.{Hddl}
 
 -- each word of a list of types: a type's own and those of parents alike
@@ -101,13 +101,9 @@ pub record IsInOrder (c : Hddl) (domain problem : Parts) : Type 0 where
   pub pairs : c.types.parents ≡ pairs_in_order (parts_in (section (codes ":types") domain))
   pub unions : union_words c.names c.types ≡ unions_in_order domain problem
 
--- The texts spell the value, whose numbers of types are in order. The top method's task is one behind all others.
+-- The texts spell the value, whose types are in order. That no fault of forms and names stands in them is said by their readers.
 pub record IsHddlOf (domain problem : List ℕ) (c : Hddl) : Type 0 where
   pub domain_faultless : IsFaultless domain
   pub problem_faultless : IsFaultless problem
   pub spelled : SpellsHddl domain problem c
   pub ordered : IsInOrder c spelled.domain_sections spelled.problem_sections
-  pub top_name : named c.names c.top.name ≡ codes "htn_start"
-  pub top_task : c.top.task ≡ length c.tasks
-  pub top_args : c.top.task_args ≡ []
-  pub top_pre : c.top.pre ≡ And []

@@ -1,4 +1,5 @@
 -- What spells terms, formulas and effects, over nested lists of words. The relations go down the value.
+-- Source: appendix A (grammar) of Fox and Long, "PDDL2.1", JAIR 20, 2003, level 1: terms, goal descriptions, effects.
 use Rattle.std.specs.Prelude.{ℕ, ◌≡◌, ◌⊎◌, ◌++◌, true, List, ◌∷◌, map, codes, Option, Some}
 use Rattle.text_forms.specs.Lists.{Part, Parts, name, group, nothing, part}
 use Rattle.text_forms.specs.Words.{Word, is_name, is_variable, word_at, first_place, last_place}

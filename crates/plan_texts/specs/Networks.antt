@@ -1,4 +1,5 @@
 -- What spells tasks, methods and task networks.
+-- Source: the full syntax definition of HDDL, Höller et al., "HDDL: An Extension to PDDL for Expressing Hierarchical Planning Problems", AAAI 2020: compound tasks, methods, task networks.
 use Rattle.std.specs.Prelude.{ℕ, zero, suc, ◌≡◌, ◌⊎◌, ◌++◌, Bool, true, false, List, [], ◌∷◌, map, length, codes, Option, Some, None, option_map}
 use Rattle.text_forms.specs.Lists.{Part, Parts, name, group, nothing, part}
 use Rattle.text_forms.specs.Words.{Word, is_name, first_place}
@@ -10,6 +11,7 @@ use Rattle.plan_texts.specs.Sections.{parameters, precondition, effect, are_entr
 use Rattle.plan_texts.specs.Schemas.{AreParams}
 use Rattle.htn_base.specs.declared.name.Name.{Name}
 use Rattle.plan_model.specs.declared.terms.Term.{Term}
+use Rattle.plan_model.specs.declared.formulas.Formula.TheVariants.{And}
 use Rattle.plan_model.specs.declared.networks.Head.{Head}
 use Rattle.plan_model.specs.declared.networks.Head.TheVariants.{Task, Action}
 use Rattle.plan_model.specs.declared.networks.Child.{Child}
@@ -124,8 +126,12 @@ module _ (v : Declared) (tasks : List Word) (actions : List Word) where
     pub pre : IsFormula v m.pre (map (variable v) m.params) (found precondition entries)
     pub network : IsNetwork (map (variable v) m.params) m.children m.pairs m.constraints entries
 
-  -- the method of :htn; its name, task and condition are no part of the text
+  -- the method of :htn: its name is htn_start, and its task is one behind all others, without arguments or precondition
   pub record IsTop (m : MethodSchema) (entries : Parts) : Type 0 where
+    pub named : named v.names m.name ≡ codes "htn_start"
+    pub task : m.task ≡ length tasks
+    pub task_args : m.task_args ≡ []
+    pub pre : m.pre ≡ And []
     pub form : are_entries network_entries entries ≡ true
     pub params : AreParams v m.params (found parameters entries)
     pub network : IsNetwork (map (variable v) m.params) m.children m.pairs m.constraints entries

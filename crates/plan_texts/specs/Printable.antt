@@ -1,4 +1,5 @@
 -- What is asked of the parts of a value that is printed, as facts on its words.
+-- Source: this project's.
 use Rattle.std.specs.Prelude.{ℕ, ◌≡◌, ◌<◌, ◌++◌, true, List, map, length, slice_index, Some}
 use Rattle.text_forms.specs.Words.{Word, is_name, word_at, last_place}
 use Rattle.text_forms.specs.Printing.{are_folded}

@@ -1,4 +1,5 @@
 -- When a PDDL value can be printed and read again.
+-- Source: this project's.
 use Rattle.std.specs.Prelude.{ℕ, ◌≡◌, ◌<◌, true, List, [], map, length, codes}
 use Rattle.text_forms.specs.Words.{word_at}
 use Rattle.plan_texts.specs.Declared.{named, variable}

@@ -1,4 +1,5 @@
 -- A formula and an effect with words in the place of the numbers of names and types.
+-- Source: this project's.
 use Rattle.std.specs.Prelude.{ℕ, List, [], ◌∷◌, map}
 use Rattle.text_forms.specs.Words.{Word}
 use Rattle.plan_texts.specs.Declared.{Declared, kind_at, variable}

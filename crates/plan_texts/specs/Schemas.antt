@@ -1,4 +1,5 @@
 -- What spells objects, predicates, actions and facts.
+-- Source: appendix A (grammar) of Fox and Long, "PDDL2.1", JAIR 20, 2003, level 1: constants and objects, predicates, actions, initial state.
 use Rattle.std.specs.Prelude.{◌≡◌, Bool, true, List, [], map, codes, Option}
 use Rattle.text_forms.specs.Lists.{Part, Parts, name, group, part}
 use Rattle.text_forms.specs.Words.{is_name}

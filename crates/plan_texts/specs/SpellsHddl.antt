@@ -1,4 +1,5 @@
 -- What spells an HDDL value: two texts, sections in any order.
+-- Source: the full syntax definition of HDDL, Höller et al., "HDDL: An Extension to PDDL for Expressing Hierarchical Planning Problems", AAAI 2020: domains and problems with an initial task network.
 use Rattle.std.specs.Prelude.{ℕ, ◌≡◌, ◌++◌, true, false, List, [], ◌∷◌, map, codes, Some}
 use Rattle.text_forms.specs.Bytes.{is_clean}
 use Rattle.text_forms.specs.Tokens.{symbols}

@@ -1,4 +1,5 @@
 -- What spells a PDDL value: two texts, sections in any order.
+-- Source: appendix A (grammar) of Fox and Long, "PDDL2.1", JAIR 20, 2003, level 1: domains and problems.
 use Rattle.std.specs.Prelude.{ℕ, ◌≡◌, ◌++◌, true, false, List, [], codes, Option, Some, None}
 use Rattle.text_forms.specs.Bytes.{is_clean}
 use Rattle.text_forms.specs.Tokens.{symbols}

@@ -1,4 +1,5 @@
 -- Lists of parts, each of which stands for one thing, and typed lists: words, then perhaps a dash and a type, and so on.
+-- Source: appendix A (grammar) of Fox and Long, "PDDL2.1", JAIR 20, 2003, level 1, typed lists.
 use Rattle.std.specs.Prelude.{Bool, true, false, List, [], ◌∷◌, cond, codes, Option, Some, None}
 use Rattle.std.specs.Str.{bytes_eq}
 use Rattle.text_forms.specs.Lists.{Part, Parts, name, group, nothing, part}

@@ -1,4 +1,5 @@
 -- The faults of tokens: a bad byte (1), a list without an end (2), a stray closing parenthesis (3), a list too deep (4).
+-- Source: this project's.
 use Rattle.std.specs.Prelude.{◌≡◌, ℕ, ◌+◌, ◌<◌, ◌≤◌, ◌⊎◌, nat_le, if◌then◌else◌, Option, Some, None, List, [], ◌∷◌, length}
 use Rattle.text_forms.specs.Bytes.{Class, blank, opening, closing, letter, bad, classes}
 

@@ -1,4 +1,5 @@
 -- The nested lists that parentheses make of what a text says.
+-- Source: appendix A (grammar) of Fox and Long, "PDDL2.1", JAIR 20, 2003, level 1.
 use Rattle.std.specs.Prelude.{ℕ, zero, suc, List, [], ◌∷◌, ◌++◌}
 use Rattle.text_forms.specs.Tokens.{Symbol, left, right, said}
 

@@ -1,4 +1,5 @@
 -- The bytes that are printed for nested lists.
+-- Source: this project's layout of lists.
 use Rattle.std.specs.Prelude.{ℕ, ◌≡◌, ◌==◌, ◌&&◌, Bool, true, false, List, [], ◌∷◌, ◌++◌, codes}
 use Rattle.std.specs.Char.{to_ascii_lowercase}
 use Rattle.text_forms.specs.Bytes.{is_letter}

@@ -1,4 +1,5 @@
 -- The tokens of a text: parentheses and words, with their places.
+-- Source: appendix A (grammar) of Fox and Long, "PDDL2.1", JAIR 20, 2003, level 1, whose texts are nested lists of words.
 use Rattle.std.specs.Prelude.{ℕ, ◌+◌, Option, Some, None, List, [], ◌∷◌, ◌++◌, map, length, slice_range}
 use Rattle.htn_base.specs.Words.{folded}
 use Rattle.text_forms.specs.Bytes.{Class, blank, opening, closing, letter, bad, classes}

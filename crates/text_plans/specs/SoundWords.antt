@@ -1,4 +1,5 @@
 -- What is asked of the words of a value, so that its plans go by them.
+-- Source: this project's.
 use Rattle.std.specs.Prelude.{◌≡◌, ◌<◌, true, length, codes}
 use Rattle.text_forms.specs.Words.{is_name, word_at}
 use Rattle.plan_texts.specs.Declared.{named}

@@ -1,4 +1,5 @@
 -- The plans of two PDDL texts.
+-- Source: Fox and Long, "PDDL2.1", JAIR 20, 2003, level 1, over the texts' own words.
 use Rattle.std.specs.Prelude.{ℕ, List}
 use Rattle.plan_texts.specs.SpellsPddl.{SpellsPddl}
 use Rattle.plan_meaning.specs.ClassicalPlan.{IsPlan}
