@@ -26,3 +26,4 @@ pub mod NetworkRows
 pub mod WholeRow
 pub mod PlanSteps
 pub mod PlanRows
+pub mod SchemaRows

@@ -10,7 +10,7 @@ use Rattle.plan_model.specs.declared.terms.Param.{Param}
 abbrev pub parts : List ℕ → Parts
 parts text = parts_of (parts_at text 0)
 
-abbrev first_of : Parts → Part
+abbrev pub first_of : Parts → Part
 first_of nothing = group nothing
 first_of (part p ps) = p
 
