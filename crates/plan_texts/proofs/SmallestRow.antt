@@ -94,8 +94,14 @@ action-effect-bytes = simp (effect-And, effect-Delete, effect-Add, effect-Forall
 goal-bytes : bytes (formula_part v all_free []) ≡ codes "(and (forall (?htn_x - htn_slot) (htn_free ?htn_x)))"
 goal-bytes = simp (part-And, part-Holds, part-Forall)
 
-pub problem_row : problem_text smallest ≡ codes "(define (problem p)\n (:domain d)\n (:objects)\n (:init (htn_top htn_s1))\n (:goal (and (forall (?htn_x - htn_slot) (htn_free ?htn_x))))\n)\n"
+abbrev pub problem_bytes : List ℕ
+problem_bytes = codes "(define (problem p)\n (:domain d)\n (:objects)\n (:init (htn_top htn_s1))\n (:goal (and (forall (?htn_x - htn_slot) (htn_free ?htn_x))))\n)\n"
+
+abbrev pub domain_bytes : List ℕ
+domain_bytes = codes "(define (domain d)\n (:requirements :adl)\n (:types htn_slot - object htn_object - object)\n (:constants htn_s1 - htn_slot)\n (:predicates (htn_top ?htn_h - htn_slot) (htn_free ?htn_h - htn_slot) (htn_before ?htn_x - htn_slot ?htn_h - htn_slot) (htn_t_t ?htn_h - htn_slot) (htn_a_a ?htn_h - htn_slot))\n (:action htn_start :parameters (?htn_h - htn_slot) :precondition (and (htn_top ?htn_h) (forall (?htn_x - htn_slot) (not (htn_before ?htn_x ?htn_h)))) :effect (and (not (htn_top ?htn_h)) (htn_t_t ?htn_h)))\n (:action htn_m_m :parameters (?htn_h - htn_slot) :precondition (and (htn_t_t ?htn_h) (forall (?htn_x - htn_slot) (not (htn_before ?htn_x ?htn_h)))) :effect (and (not (htn_t_t ?htn_h)) (htn_a_a ?htn_h)))\n (:action a :parameters (?htn_h - htn_slot) :precondition (and (htn_a_a ?htn_h) (forall (?htn_x - htn_slot) (not (htn_before ?htn_x ?htn_h)))) :effect (and (not (htn_a_a ?htn_h)) (htn_free ?htn_h) (forall (?htn_x - htn_slot) (not (htn_before ?htn_h ?htn_x)))))\n)\n"
+
+pub problem_row : problem_text smallest ≡ problem_bytes
 problem_row = simp goal-bytes
 
-pub domain_row : domain_text smallest ≡ codes "(define (domain d)\n (:requirements :adl)\n (:types htn_slot - object htn_object - object)\n (:constants htn_s1 - htn_slot)\n (:predicates (htn_top ?htn_h - htn_slot) (htn_free ?htn_h - htn_slot) (htn_before ?htn_x - htn_slot ?htn_h - htn_slot) (htn_t_t ?htn_h - htn_slot) (htn_a_a ?htn_h - htn_slot))\n (:action htn_start :parameters (?htn_h - htn_slot) :precondition (and (htn_top ?htn_h) (forall (?htn_x - htn_slot) (not (htn_before ?htn_x ?htn_h)))) :effect (and (not (htn_top ?htn_h)) (htn_t_t ?htn_h)))\n (:action htn_m_m :parameters (?htn_h - htn_slot) :precondition (and (htn_t_t ?htn_h) (forall (?htn_x - htn_slot) (not (htn_before ?htn_x ?htn_h)))) :effect (and (not (htn_t_t ?htn_h)) (htn_a_a ?htn_h)))\n (:action a :parameters (?htn_h - htn_slot) :precondition (and (htn_a_a ?htn_h) (forall (?htn_x - htn_slot) (not (htn_before ?htn_x ?htn_h)))) :effect (and (not (htn_a_a ?htn_h)) (htn_free ?htn_h) (forall (?htn_x - htn_slot) (not (htn_before ?htn_h ?htn_x)))))\n)\n"
+pub domain_row : domain_text smallest ≡ domain_bytes
 domain_row = simp (start-bytes, method-bytes, action-bytes, start-effect-bytes, method-effect-bytes, action-effect-bytes)

@@ -4,3 +4,4 @@ pub mod Places
 pub mod SpelledSound
 pub mod TypeWords
 pub mod SamePlans
+pub mod SmallestPlan
