@@ -86,9 +86,11 @@ module _ (v : Declared) (tasks : List Word) (actions : List Word) where
       (a : Word) × (b : Word) × ((p ≡ headed (codes "<") (part (name a) (part (name b) nothing))) ⊎ (p ≡ headed a (part (name (codes "<")) (part (name b) nothing))))
       × (is_name a ≡ true) × (is_name b ≡ true) × (first_place a is ≡ Some x.first) × (first_place b is ≡ Some x.then)
 
+  -- ( = term term )
   abbrev pub IsEquation : List Word → Term → Term → Part → Type 0
   IsEquation scope s t p = (q : Part) × (r : Part) × (p ≡ headed (codes "=") (part q (part r nothing))) × IsTerm v scope s q × IsTerm v scope t r
 
+  -- an equation, or ( not ( = term term ) )
   abbrev pub IsConstraintBy : List Word → Bool → Term → Term → Part → Type 0
   IsConstraintBy scope true s t p = IsEquation scope s t p
   IsConstraintBy scope false s t p = (q : Part) × (p ≡ headed (codes "not") (part q nothing)) × IsEquation scope s t q
@@ -104,6 +106,7 @@ module _ (v : Declared) (tasks : List Word) (actions : List Word) where
     pub pairs_spelled : Each (IsOrdered (ids children)) written (bundle (found ordering entries))
     pub constraints_spelled : Each (IsConstraint scope) cons (bundle (found constraints entries))
 
+  -- ( :task NAME tpart* ), whose precondition and effect are empty
   pub record IsTask (t : TaskSchema) (p : Part) : Type 0 where
     pub entries : Parts
     pub is : p ≡ headed (codes ":task") (part (name (named v.names t.name)) entries)
@@ -113,9 +116,11 @@ module _ (v : Declared) (tasks : List Word) (actions : List Word) where
     pub no_pre : found precondition entries ≡ group nothing
     pub no_eff : found effect entries ≡ group nothing
 
+  -- ( NAME term* ), the task of a method
   abbrev pub IsHeadOf : List Word → ℕ → List Term → Part → Type 0
   IsHeadOf scope n ts p = (w : Word) × (ps : Parts) × (p ≡ headed w ps) × (is_name w ≡ true) × (first_place w tasks ≡ Some n) × Each (IsTerm v scope) ts ps
 
+  -- ( :method NAME mpart* )
   pub record IsMethod (m : MethodSchema) (p : Part) : Type 0 where
     pub entries : Parts
     pub is : p ≡ headed (codes ":method") (part (name (named v.names m.name)) entries)

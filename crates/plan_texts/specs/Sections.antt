@@ -11,10 +11,12 @@ abbrev pub without : Word → List Word → List Word
 without w [] = []
 without w (k ∷ ks) = cond (bytes_eq k w) ks (k ∷ without w ks)
 
+-- these groups of keywords without the one that has this keyword
 abbrev pub without_group : Word → List (List Word) → List (List Word)
 without_group w [] = []
 without_group w (ks ∷ kss) = cond (is_among w ks) kss (ks ∷ without_group w kss)
 
+-- one of these groups has the keyword
 abbrev pub is_in_one : Word → List (List Word) → Bool
 is_in_one w [] = false
 is_in_one w (ks ∷ kss) = is_among w ks || is_in_one w kss
@@ -26,6 +28,7 @@ are_entries kss (part p nothing) = false
 are_entries kss (part (group qs) (part q ps)) = false
 are_entries kss (part (name k) (part q ps)) = is_in_one k kss && are_entries (without_group k kss) ps
 
+-- the part is one of these words
 abbrev pub is_one_of : List Word → Part → Bool
 is_one_of ks (name w) = is_among w ks
 is_one_of ks (group ps) = false
