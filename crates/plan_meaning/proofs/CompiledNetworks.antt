@@ -1,10 +1,9 @@
 -- The network of a compiled problem is prepared: its heirs and copiers are those of its orders.
-use Rattle.std.proofs.Common.{ℕ, zero, suc, ◌≡◌, ◌≢◌, ◌+◌, ◌-◌, ◌<◌, ◌≤◌, ◌⊎◌, ◌↔◌, inl, inr, Bool, List, [], ◌∷◌, ◌++◌, map, length, Option, Some, None, slice_get, refl, ap, sym, subst, ◌∙◌, Contains, arith}
+use Rattle.std.proofs.Common.{ℕ, zero, suc, ◌≡◌, ◌≢◌, ◌-◌, ◌<◌, ◌⊎◌, ◌↔◌, inl, inr, List, [], ◌∷◌, ◌++◌, length, Option, Some, None, slice_get, refl, sym, subst, ◌∙◌, Contains, arith}
 use Rattle.std.proofs.lemmas.List.{length-map, length-append}
 use Rattle.task_networks.specs.Order.{Precedes, direct, through, ArePairsOf, IsAcyclic, IsLine, IsHeir, IsMaximal}
-use Rattle.task_networks.specs.Net.{Net, count}
 use Rattle.task_networks.specs.Prepared.{IsPrepared}
-use Rattle.task_networks.proofs.Lists.{not-in_empty, head_or_tail, Contains-here, Contains-later, last_cases}
+use Rattle.task_networks.proofs.Lists.{not-in_empty, Contains-here, Contains-later, last_cases}
 use Rattle.task_networks.proofs.Orders.{next_among}
 use Rattle.plan_model.specs.declared.networks.Pair.{Pair}
 use Rattle.plan_model.specs.declared.options.Checks.{Checks}
@@ -13,7 +12,7 @@ use Rattle.plan_model.specs.declared.schemas.MethodPlan.{MethodPlan}
 use Rattle.plan_model.specs.declared.values.Hddl.{Hddl}
 use Rattle.plan_model.specs.declared.values.Compiled.{Compiled}
 use Rattle.plan_meaning.specs.Network.{GroundMethod, network, works_by, heir_by, IsPairBy, IsCopierBy, child_of}
-use Rattle.plan_meaning.specs.Compilation.{pair, pairs, children, Pairs, last_of, IsMethodPlan, AreMethodPlans, IsCompiled}
+use Rattle.plan_meaning.specs.Compilation.{pair, Pairs, last_of, IsMethodPlan, AreMethodPlans, IsCompiled}
 use Rattle.plan_meaning.specs.Laws.{AreOrdered}
 use Rattle.plan_meaning.proofs.Pairs.{pairs_within, pairs_acyclic}
 
@@ -33,6 +32,7 @@ last_is line i e = go (last_cases line)
     at_end : (ys : List ℕ) (y : ℕ) → slice_get (ys ++ y ∷ []) (length ys) ≡ Some y
     at_end [] y = refl
     at_end (x ∷ ys) y = at_end ys y
+
     go : (line ≡ []) ⊎ ((ys : List ℕ) × (y : ℕ) × (line ≡ ys ++ y ∷ [])) → (others : List ℕ) × (line ≡ others ++ i ∷ [])
     go (inl f) = let g : last_of [] ≡ Some i = subst (λ z. last_of z ≡ Some i) f e in absurd cc
     go (inr (ys, y, f)) =
@@ -61,12 +61,12 @@ record Knows (p : MethodPlan) : Type 0 where
 
 of_written : (h : Hddl) (mode : Checks) (s : MethodSchema) (p : MethodPlan) → ArePairsOf (Pairs s.pairs) (length s.children) → IsAcyclic (Pairs s.pairs) → IsMethodPlan h mode s p → Knows p
 of_written h mode s p w a is = record {
-    within = subst (λ (z : MethodSchema). ArePairsOf (Pairs z.pairs) (length z.children)) (sym is.schema) (pairs_within p.checked s w);
-    acyclic = subst (λ (z : MethodSchema). IsAcyclic (Pairs z.pairs)) (sym is.schema) (pairs_acyclic p.checked s a);
-    line = is.line;
-    heir = is.heir;
-    copiers = is.copiers;
-  }
+  within = subst (λ (z : MethodSchema). ArePairsOf (Pairs z.pairs) (length z.children)) (sym is.schema) (pairs_within p.checked s w);
+  acyclic = subst (λ (z : MethodSchema). IsAcyclic (Pairs z.pairs)) (sym is.schema) (pairs_acyclic p.checked s a);
+  line = is.line;
+  heir = is.heir;
+  copiers = is.copiers;
+}
 
 -- what a network asks of a method, by its plan
 record Owes (g : GroundMethod) (o : Option MethodPlan) : Type 0 where
@@ -83,29 +83,30 @@ no_chain i j (through x y) = y
 
 owes_none : (g : GroundMethod) → Owes g None
 owes_none g = record {
-    pairs = λ i j x. absurd x;
-    acyclic = λ i x. no_chain i i x;
-    next = λ i. inr (λ j x. x);
-    has_heir = λ l. absurd (omega arith);
-    heir_is = λ i e. absurd (none i e);
-    copiers = λ i. (λ x. absurd x, λ x. absurd (let l = x.0.0 in omega arith));
-  }
+  pairs = λ i j x. absurd x;
+  acyclic = λ i x. no_chain i i x;
+  next = λ i. inr (λ j x. x);
+  has_heir = λ l. absurd (omega arith);
+  heir_is = λ i e. absurd (none i e);
+  copiers = λ i. (λ x. absurd x, λ x. absurd (let l = x.0.0 in omega arith));
+}
   where
     none : (i : ℕ) → heir_by None ≡ Some i → ⊥
     none i e = cc
 
 owes_some : (g : GroundMethod) (p : MethodPlan) → Knows p → Owes g (Some p)
 owes_some g p k = record {
-    pairs = subst (λ n. ArePairsOf (IsPairBy (Some p)) n) (sym many) k.within;
-    acyclic = k.acyclic;
-    next = λ i. next_among pair (λ (q : Pair). q.first) (λ (q : Pair). q.then) (λ q. refl) (λ i j. refl) p.schema.pairs i;
-    has_heir = λ l. (let x = last_there p.line 0 (k.line.whole 0 (omega (arith, many))) in (x.0, k.heir ∙ x.1));
-    heir_is = λ i e. subst (λ n. IsHeir (IsPairBy (Some p)) n i) (sym many) (heir i (sym k.heir ∙ e));
-    copiers = λ i. subst (λ n. Contains p.copiers i ↔ (IsMaximal (IsPairBy (Some p)) n i × (p.heir ≡ Some i → ⊥))) (sym many) (k.copiers i);
-  }
+  pairs = subst (λ n. ArePairsOf (IsPairBy (Some p)) n) (sym many) k.within;
+  acyclic = k.acyclic;
+  next = λ i. next_among pair (λ (q : Pair). q.first) (λ (q : Pair). q.then) (λ q. refl) (λ i j. refl) p.schema.pairs i;
+  has_heir = λ l. (let x = last_there p.line 0 (k.line.whole 0 (omega (arith, many))) in (x.0, k.heir ∙ x.1));
+  heir_is = λ i e. subst (λ n. IsHeir (IsPairBy (Some p)) n i) (sym many) (heir i (sym k.heir ∙ e));
+  copiers = λ i. subst (λ n. Contains p.copiers i ↔ (IsMaximal (IsPairBy (Some p)) n i × (p.heir ≡ Some i → ⊥))) (sym many) (k.copiers i);
+}
   where
     many : length (works_by g (Some p)) ≡ length p.schema.children
     many = length-map p.schema.children (child_of g)
+
     heir : (i : ℕ) → last_of p.line ≡ Some i → IsHeir (IsPairBy (Some p)) (length p.schema.children) i
     heir i e = let (others, f) = last_is p.line i e in (others, subst (λ z. IsLine (Pairs p.schema.pairs) (length p.schema.children) z) f k.line)
 
@@ -122,10 +123,10 @@ module _ (h : Hddl) (mode : Checks) (c : Compiled) (ordered : AreOrdered h) (com
 
   pub prepared : IsPrepared (network c)
   prepared = record {
-      pairs = λ g. (owes g).pairs;
-      acyclic = λ g. (owes g).acyclic;
-      next = λ g. (owes g).next;
-      has_heir = λ g. (owes g).has_heir;
-      heir_is = λ g. (owes g).heir_is;
-      copiers = λ g. (owes g).copiers;
-    }
+    pairs = λ g. (owes g).pairs;
+    acyclic = λ g. (owes g).acyclic;
+    next = λ g. (owes g).next;
+    has_heir = λ g. (owes g).has_heir;
+    heir_is = λ g. (owes g).heir_is;
+    copiers = λ g. (owes g).copiers;
+  }

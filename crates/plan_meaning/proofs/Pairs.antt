@@ -1,12 +1,11 @@
 -- The pairs of a compiled method: each once, and those of its check.
-use Rattle.std.proofs.Common.{ℕ, zero, suc, ◌≡◌, ◌≢◌, ◌+◌, ◌-◌, ◌==◌, ◌&&◌, ◌<◌, ◌≤◌, ◌⊎◌, inl, inr, Bool, true, false, not, List, [], ◌∷◌, ◌++◌, map, filter, length, refl, ap, sym, subst, ◌∙◌, Contains, arith}
-use Rattle.std.proofs.Math.Decide.{ℕ_discrete}
+use Rattle.std.proofs.Common.{ℕ, suc, ◌≡◌, ◌≢◌, ◌==◌, ◌&&◌, ◌<◌, ◌⊎◌, inl, inr, Bool, true, false, not, List, [], ◌∷◌, ◌++◌, map, filter, length, refl, ap, sym, subst, ◌∙◌, Contains, arith}
 use Rattle.std.proofs.lemmas.Bool.Decides.{eqb_tells}
 use Rattle.task_networks.specs.Order.{Precedes, direct, through, ArePairsOf, IsAcyclic}
 use Rattle.task_networks.specs.Spelling.{numbers}
 use Rattle.task_networks.proofs.Lists.{not-in_empty, head_or_tail, Contains-later}
 use Rattle.task_networks.proofs.Filters.{filter_to, to_filter}
-use Rattle.task_networks.proofs.Numbers.{numbers_to, to_numbers}
+use Rattle.task_networks.proofs.Numbers.{numbers_to}
 use Rattle.plan_model.specs.declared.networks.Pair.{Pair}
 use Rattle.plan_model.specs.declared.schemas.MethodSchema.{MethodSchema}
 use Rattle.plan_meaning.specs.Compilation.{pair, same_pair, once, pairs, children, Pairs}
@@ -15,9 +14,9 @@ use Rattle.plan_meaning.specs.Compilation.{pair, same_pair, once, pairs, childre
 pub once_to : {A : Type 0} (same : A → A → Bool) (xs : List A) (x : A) → Contains (once same xs) x → Contains xs x
 once_to same [] x c = c
 once_to same (y ∷ xs) x c = elim (head_or_tail y (filter (λ z. not (same y z)) (once same xs)) x c) [
-    inl e ↦ (0, omega arith, e)
+  | inl e ↦ (0, omega arith, e)
   | inr d ↦ Contains-later y xs x (once_to same xs x (filter_to (λ z. not (same y z)) (once same xs) x d).0)
-  ]
+]
 
 -- and the other way, where the test tells equal items
 pub to_once : {A : Type 0} (same : A → A → Bool) → ((x y : A) → (same x y ≡ false) ⊎ (x ≡ y)) → (xs : List A) (x : A) → Contains xs x → Contains (once same xs) x
@@ -45,37 +44,40 @@ map_to f (x ∷ xs) y c = elim (head_or_tail (f x) (map f xs) y c) [ inl e ↦ (
 pub append_to : {A : Type 0} (xs ys : List A) (x : A) → Contains (xs ++ ys) x → Contains xs x ⊎ Contains ys x
 append_to [] ys x c = inr c
 append_to (z ∷ xs) ys x c = elim (head_or_tail z (xs ++ ys) x c) [
-    inl e ↦ inl (0, omega arith, e)
+  | inl e ↦ inl (0, omega arith, e)
   | inr d ↦ elim (append_to xs ys x d) [ inl k ↦ inl (Contains-later z xs x k) | inr k ↦ inr k ]
-  ]
+]
 
 -- a pair of a method with a check: of the check, or of two subtasks
 checked_pair : (s : MethodSchema) (i j : ℕ) → Pairs (pairs true s) i j
     → ((i ≡ 0) × (0 < j) × (j < suc (length s.children))) ⊎ ((a b : ℕ) × (i ≡ suc a) × (j ≡ suc b) × Pairs s.pairs a b)
 checked_pair s i j c = elim (append_to front back (pair i j) (once_to same_pair (front ++ back) (pair i j) c)) [
-    inl k ↦ inl (of_check (map_to (λ k. pair 0 (suc k)) (numbers 0 (length s.children)) (pair i j) k))
+  | inl k ↦ inl (of_check (map_to (λ k. pair 0 (suc k)) (numbers 0 (length s.children)) (pair i j) k))
   | inr k ↦ inr (of_subtasks (map_to (λ (p : Pair). pair (suc p.first) (suc p.then)) s.pairs (pair i j) k))
-  ]
+]
   where
     front : List Pair
     front = map (λ k. pair 0 (suc k)) (numbers 0 (length s.children))
+
     back : List Pair
     back = map (λ (p : Pair). pair (suc p.first) (suc p.then)) s.pairs
+
     of_check : (k : ℕ) × Contains (numbers 0 (length s.children)) k × (pair 0 (suc k) ≡ pair i j) → (i ≡ 0) × (0 < j) × (j < suc (length s.children))
     of_check (k, d, e) =
         let a : 0 ≡ i = ap (λ (p : Pair). p.first) e in
         let b : suc k ≡ j = ap (λ (p : Pair). p.then) e in
         let h = (numbers_to 0 (length s.children) k d).1 in
         (sym a, omega arith, omega arith)
+
     of_subtasks : (p : Pair) × Contains s.pairs p × (pair (suc p.first) (suc p.then) ≡ pair i j) → (a b : ℕ) × (i ≡ suc a) × (j ≡ suc b) × Pairs s.pairs a b
     of_subtasks (p, d, e) = (p.first, p.then, sym (ap (λ (q : Pair). q.first) e), sym (ap (λ (q : Pair). q.then) e), d)
 
 -- the pairs of a compiled method are of its children
 pub pairs_within : (b : Bool) (s : MethodSchema) → ArePairsOf (Pairs s.pairs) (length s.children) → ArePairsOf (Pairs (pairs b s)) (length (children b s))
 pairs_within true s w i j c = elim (checked_pair s i j c) [
-    inl h ↦ (let a = h.0 in let b = h.2 in (omega arith, omega arith))
+  | inl h ↦ (let a = h.0 in let b = h.2 in (omega arith, omega arith))
   | inr (a, b, e, f, p) ↦ (let k = w a b p in let l = k.0 in let m = k.1 in (omega arith, omega arith))
-  ]
+]
 pairs_within false s w i j c = w i j (once_to same_pair s.pairs (pair i j) c)
 
 chain_of_once : (s : MethodSchema) (i j : ℕ) → Precedes (Pairs (pairs false s)) i j → Precedes (Pairs s.pairs) i j
@@ -103,7 +105,7 @@ climbs s i j (through {j = k} c h) = go (climbs s i k c) (checked_pair s k j h)
 pub pairs_acyclic : (b : Bool) (s : MethodSchema) → IsAcyclic (Pairs s.pairs) → IsAcyclic (Pairs (pairs b s))
 unfolding Climbs
 pairs_acyclic true s a i c = elim (climbs s i i c) [
-    inl h ↦ (let x = h.0 in let y = h.1 in omega arith)
+  | inl h ↦ (let x = h.0 in let y = h.1 in omega arith)
   | inr (k, l, e, f, p) ↦ (let same : l ≡ k = omega arith in a k (subst (λ z. Precedes (Pairs s.pairs) k z) same p))
-  ]
+]
 pairs_acyclic false s a i c = a i (chain_of_once s i i c)

@@ -1,11 +1,11 @@
 -- Executable lists of ground actions and plans of a PDDL value. Nothing here knows of slots.
 -- Source: Fox and Long, "PDDL2.1", JAIR 2003, level 1: a plan is a list of ground actions, each applicable in the state before it, after which the goal is true.
-use Rattle.std.specs.Prelude.{ℕ, ◌≡◌, List, [], ◌∷◌, map, slice_index_or, Contains, length, slice_get, Some}
+use Rattle.std.specs.Prelude.{ℕ, ◌≡◌, List, [], ◌∷◌, Contains, slice_get, Some}
 use Rattle.plan_model.specs.declared.types.Object.{Object}
 use Rattle.plan_model.specs.declared.schemas.ActionSchema.{ActionSchema}
 use Rattle.plan_model.specs.declared.steps.GroundAction.{GroundAction}
 use Rattle.plan_model.specs.declared.values.Pddl.{Pddl}
-use Rattle.plan_meaning.specs.Objects.{InType}
+use Rattle.plan_model.specs.Typing.{InType}
 use Rattle.plan_meaning.specs.Truth.{State, AreTyped, IsTrueIn, after}
 
 module _ (c : Pddl) where

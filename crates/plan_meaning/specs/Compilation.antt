@@ -1,6 +1,6 @@
 -- The compiled value of a problem: checks, pairs, lines, heirs, copiers and guards of its methods.
 -- Source: this project's; what a precondition of a method means after Höller et al., "HDDL", AAAI 2020, "Methods".
-use Rattle.std.specs.Prelude.{ℕ, suc, ◌+◌, ◌≡◌, ◌≢◌, ◌==◌, ◌&&◌, ◌-◌, ◌⊎◌, ◌↔◌, Bool, true, false, not, IsTrue, List, [], ◌∷◌, ◌++◌, map, filter, length, Option, Some, None, slice_get, Contains}
+use Rattle.std.specs.Prelude.{ℕ, suc, ◌≡◌, ◌≢◌, ◌==◌, ◌&&◌, ◌-◌, ◌⊎◌, ◌↔◌, Bool, true, false, not, IsTrue, List, [], ◌∷◌, ◌++◌, map, filter, length, Option, Some, None, slice_get, Contains}
 use Rattle.std.specs.List.Sorted.{IsStrictlyIncreasing}
 use Rattle.plan_model.specs.declared.terms.Term.{Term}
 use Rattle.plan_model.specs.declared.terms.Term.TheVariants.{Var, Obj}
@@ -20,7 +20,7 @@ use Rattle.plan_model.specs.declared.options.Checks.{Checks}
 use Rattle.plan_model.specs.declared.options.Checks.TheVariants.{Leaf, AtOnce}
 use Rattle.plan_model.specs.declared.values.Hddl.{Hddl}
 use Rattle.plan_model.specs.declared.values.Compiled.{Compiled}
-use Rattle.plan_meaning.specs.Objects.{InType, IsPartOf}
+use Rattle.plan_model.specs.Typing.{InType, IsA}
 use Rattle.task_networks.specs.Order.{IsLine, IsMaximal}
 use Rattle.task_networks.specs.Spelling.{numbers}
 
@@ -102,7 +102,7 @@ module _ (h : Hddl) where
   module _ (s : MethodSchema) where
     abbrev pub IsPartBy : Option Param → ℕ → Type 0
     IsPartBy None ty = ⊥
-    IsPartBy (Some p) ty = IsPartOf h.types p.ty ty
+    IsPartBy (Some p) ty = IsA h.types p.ty ty
 
     -- the term's declaration puts it into the type
     abbrev pub IsWithin : ℕ → Term → Type 0

@@ -1,6 +1,6 @@
 -- The ground task network of a compiled problem.
 -- Source: Höller et al., "HDDL", AAAI 2020: tasks, methods and their instances; here a check may stand among the subtasks for a method's precondition.
-use Rattle.std.specs.Prelude.{ℕ, ◌≡◌, MatchBool, List, [], ◌∷◌, map, slice_get, length, Option, Some, None, Contains}
+use Rattle.std.specs.Prelude.{ℕ, ◌≡◌, MatchBool, List, [], map, slice_get, length, Option, Some, None, Contains}
 use Rattle.plan_model.specs.declared.networks.Head.{Head}
 use Rattle.plan_model.specs.declared.networks.Head.TheVariants.{Task, Action, Check}
 use Rattle.plan_model.specs.declared.networks.Child.{Child}
@@ -10,7 +10,7 @@ use Rattle.plan_model.specs.declared.schemas.TaskSchema.{TaskSchema}
 use Rattle.plan_model.specs.declared.schemas.ActionSchema.{ActionSchema}
 use Rattle.plan_model.specs.declared.schemas.MethodPlan.{MethodPlan}
 use Rattle.plan_model.specs.declared.values.Compiled.{Compiled}
-use Rattle.plan_meaning.specs.Objects.{InType}
+use Rattle.plan_model.specs.Typing.{InType}
 use Rattle.task_networks.specs.Net.{Net}
 use Rattle.plan_meaning.specs.Truth.{value_of, values_of, AreTyped}
 

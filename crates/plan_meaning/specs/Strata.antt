@@ -1,14 +1,15 @@
--- Edges between tasks, bad cycles, tail-recursive problems, ranks and groups.
+-- The edges between the tasks of a compiled problem; bad cycles, tail-recursive problems, rankings and groups.
 -- Source: this project's, after the tail-recursive problems of Alford et al., "Bound to Plan", ICAPS 2016.
-use Rattle.std.specs.Prelude.{ℕ, ◌≡◌, ◌<◌, ◌≤◌, ◌⊎◌, List, [], ◌∷◌, Contains, length, slice_get, Some}
-use Rattle.plan_model.specs.declared.networks.Head.TheVariants.{Task}
-use Rattle.plan_model.specs.declared.networks.Child.{Child}
-use Rattle.plan_model.specs.declared.schemas.MethodPlan.{MethodPlan}
+use Rattle.std.specs.Prelude.{ℕ, ◌≡◌, ◌<◌, ◌⊎◌, ◌↔◌, List, ◌∷◌, ◌++◌, Contains, slice_get, Option, Some, None}
 use Rattle.plan_model.specs.declared.values.Compiled.{Compiled}
 use Rattle.task_networks.specs.Order.{IsLast}
-use Rattle.plan_meaning.specs.Network.{top_task, IsPairBy}
+use Rattle.task_networks.specs.Net.{count}
+use Rattle.task_networks.specs.Bound.{IsReached}
+use Rattle.task_networks.specs.Strata as Edges
+use Rattle.plan_meaning.specs.Network.{top_task}
+use Rattle.plan_meaning.specs.Schemas.{Schema, task, schemas}
 
--- a method, by its place in the compiled list, and one of its children
+-- a method, by its place in the compiled list, and the number of one of its children
 pub record Edge : Type 0 where
   pub method : ℕ
   pub child : ℕ
@@ -17,78 +18,48 @@ pub record Edge : Type 0 where
 abbrev pub IsEarlier : Edge → Edge → Type 0
 IsEarlier e f = (e.method < f.method) ⊎ ((e.method ≡ f.method) × (e.child < f.child))
 
--- compared edge by edge
-abbrev pub AreEarlier : List Edge → List Edge → Type 0
-AreEarlier [] fs = ⊥
-AreEarlier (e ∷ es) [] = ⊥
-AreEarlier (e ∷ es) (f ∷ fs) = IsEarlier e f ⊎ ((e ≡ f) × AreEarlier es fs)
-
 module _ (c : Compiled) where
-  -- the method is one of task t, and task u stands at the child
-  pub record Joins (e : Edge) (t u : ℕ) : Type 0 where
-    pub plan : MethodPlan
-    pub is : slice_get c.methods e.method ≡ Some plan
-    pub task : plan.schema.task ≡ t
-    pub subtask : Child
-    pub stands : slice_get plan.schema.children e.child ≡ Some subtask
-    pub head : subtask.head ≡ Task u
+  -- the task is reached from the top task
+  abbrev pub IsReachedTask : ℕ → Type 0
+  IsReachedTask t = IsReached (schemas c) (task (top_task c)) (task t)
 
-  -- the top task is reached, and so is each task among the children of a method of a reached task
-  pub data IsReached : ℕ → Type 0 where
-    top : IsReached (top_task c)
-    below : (e : Edge) (t u : ℕ) → IsReached t → Joins e t u → IsReached u
+  -- what the edge goes from, and what it goes to
+  abbrev pub source : Edge → Schema
+  source e = (schemas c).head e.method
 
-  -- an edge goes from a reached task to a task among the children of one of its methods
-  abbrev pub IsEdge : Edge → ℕ → ℕ → Type 0
-  IsEdge e t u = IsReached t × Joins e t u
+  abbrev pub target_by : Option Schema → Schema
+  target_by None = task 0
+  target_by (Some s) = s
 
-  -- the child comes after all its siblings
-  abbrev pub IsAtLast : Edge → Type 0
-  IsAtLast e = (plan : MethodPlan) × (slice_get c.methods e.method ≡ Some plan) × IsLast (IsPairBy (Some plan)) (length plan.schema.children) e.child
+  abbrev pub target : Edge → Schema
+  target e = target_by (slice_get ((schemas c).works e.method) e.child)
 
+  -- an edge: a method of a reached task, and a child that is a task
+  pub record IsEdge (e : Edge) : Type 0 where
+    pub ground : (schemas c).IsGround e.method
+    pub reached : IsReached (schemas c) (task (top_task c)) (source e)
+    pub subtask : ℕ
+    pub is : slice_get ((schemas c).works e.method) e.child ≡ Some (task subtask)
+
+  -- all edges, in their order
+  pub record AreEdges (edges : List Edge) : Type 0 where
+    pub all : (e : Edge) → Contains edges e ↔ IsEdge e
+    pub in_order : (before rest : List Edge) (e f : Edge) → edges ≡ before ++ e ∷ f ∷ rest → IsEarlier e f
+
+  -- the child doesn't come after all its siblings
   abbrev pub IsBad : Edge → Type 0
-  IsBad e = IsAtLast e → ⊥
-
-  -- the edges lead from t to u, each from where the one before it ends
-  abbrev pub IsWalk : List Edge → ℕ → ℕ → Type 0
-  IsWalk [] t u = t ≡ u
-  IsWalk (e ∷ es) t u = (v : ℕ) × IsEdge e t v × IsWalk es v u
-
-  abbrev pub Leads : ℕ → ℕ → Type 0
-  Leads t u = (es : List Edge) × IsWalk es t u
-
-  -- a closed walk with a bad edge
-  abbrev pub IsBadCycle : List Edge → Type 0
-  IsBadCycle es = (t : ℕ) × IsWalk es t t × ((e : Edge) × Contains es e × IsBad e)
+  IsBad e = IsLast ((schemas c).Pair e.method) (count (schemas c) e.method) e.child → ⊥
 
   abbrev pub IsTailRecursive : Type 0
-  IsTailRecursive = (es : List Edge) → IsBadCycle es → ⊥
+  IsTailRecursive = (edges : List Edge) × AreEdges edges × Edges.IsTailRecursive source target edges IsBad
 
-  -- a bad edge whose end leads back to its start
-  abbrev pub IsBadBack : Edge → ℕ → ℕ → Type 0
-  IsBadBack e t u = IsEdge e t u × IsBad e × Leads u t
+  -- the bad cycle that is named: a bad edge, and the walk back
+  abbrev pub IsNamedCycle : Edge → List Edge → Type 0
+  IsNamedCycle e walk = (edges : List Edge) × AreEdges edges × Edges.IsNamedCycle source target edges IsBad e walk
 
-  -- no walk from u to t is shorter, and of those that are as short none comes earlier
-  pub record IsShortest (es : List Edge) (u t : ℕ) : Type 0 where
-    pub walk : IsWalk es u t
-    pub short : (fs : List Edge) → IsWalk fs u t → length es ≤ length fs
-    pub first : (fs : List Edge) → IsWalk fs u t → length fs ≡ length es → AreEarlier fs es → ⊥
+  -- rank gives each task a number
+  abbrev pub IsRanking : (Schema → ℕ) → Type 0
+  IsRanking rank = (edges : List Edge) × AreEdges edges × Edges.IsLawfulRanking source target edges IsBad rank
 
-  -- the bad cycle that is named: the first bad edge that lies on one, and the shortest walk back
-  pub record IsNamed (cycle : List Edge) : Type 0 where
-    pub bad : Edge
-    pub back : List Edge
-    pub parts : cycle ≡ bad ∷ back
-    pub start : ℕ
-    pub end' : ℕ
-    pub is_bad : IsBadBack bad start end'
-    pub first : (e : Edge) (t u : ℕ) → IsBadBack e t u → IsEarlier e bad → ⊥
-    pub shortest : IsShortest back end' start
-
-  -- an edge goes strictly down, or to a child that is last and not up
-  abbrev pub IsRanking : (ℕ → ℕ) → Type 0
-  IsRanking rank = (e : Edge) (t u : ℕ) → IsEdge e t u → (rank u < rank t) ⊎ (IsAtLast e × (rank u ≤ rank t))
-
-  -- the same task, or each leads to the other
-  abbrev pub IsOneGroup : ℕ → ℕ → Type 0
-  IsOneGroup t u = Leads t u × Leads u t
+  abbrev pub IsOneGroup : Schema → Schema → Type 0
+  IsOneGroup s t = (edges : List Edge) × AreEdges edges × Edges.IsOneGroup source target edges s t

@@ -12,5 +12,4 @@ pub fn compiled_network_is_lawful(problem: &Hddl, checks: &Checks, compiled: &Co
     requires ordered { AreOrdered problem.now }
     requires compiled { IsCompiled problem.now checks.now compiled.now }
     ensures { IsLawful (network compiled.now) }
-{
-}
+{}

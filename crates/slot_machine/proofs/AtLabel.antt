@@ -1,6 +1,5 @@
 -- The network at a label: nothing at an action or a check.
-use Rattle.std.proofs.Common.{ℕ, zero, suc, ◌≡◌, ◌≢◌, ◌<◌, ◌⊎◌, inl, inr, List, [], ◌∷◌, length, Option, Some, None, refl, ap, sym, subst, ◌∙◌, arith}
-use Rattle.std.proofs.Math.Decide.{ℕ_discrete}
+use Rattle.std.proofs.Common.{ℕ, ◌≡◌, ◌<◌, ◌⊎◌, inl, inr, [], ◌∷◌, length, Option, Some, None, refl, subst, arith}
 use Rattle.task_networks.specs.Order.{Precedes, direct}
 use Rattle.task_networks.specs.Net.{Net, count}
 use Rattle.task_networks.specs.Lawful.{IsLawful}
@@ -82,6 +81,7 @@ module _ (N : Net) where
       where
         same : m ≡ n
         same = cc
+
         go : (k ∷ p ≡ i ∷ p) ⊎ IsBelow (k ∷ p) p → Precedes (N.Pair n) i j
         go (inl x) = let y : k ≡ i = cc in subst (λ z. Precedes (N.Pair n) z j) y (subst (λ z. Precedes (N.Pair z) k j) same h)
         go (inr x) = absurd (not-below_parent k p x)

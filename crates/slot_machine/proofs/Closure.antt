@@ -1,6 +1,6 @@
 -- The closure of the pairs is the order between open leaves.
-use Rattle.std.proofs.Common.{ℕ, zero, suc, ◌≡◌, ◌≢◌, ◌+◌, ◌<◌, ◌≤◌, ◌⊎◌, ◌↔◌, inl, inr, List, [], ◌∷◌, ◌++◌, length, Option, Some, None, refl, ap, sym, subst, ◌∙◌, Contains, arith, append_assoc}
-use Rattle.std.proofs.lemmas.List.Elements.{Contains-append_left, Contains-push}
+use Rattle.std.proofs.Common.{ℕ, zero, suc, ◌≡◌, ◌+◌, ◌<◌, ◌⊎◌, ◌↔◌, inl, inr, List, [], ◌∷◌, length, ap, sym, subst, ◌∙◌, Contains, arith}
+use Rattle.std.proofs.lemmas.List.Elements.{Contains-append_left}
 use Rattle.task_networks.specs.Order.{Precedes, direct, through}
 use Rattle.task_networks.specs.Net.{Net}
 use Rattle.task_networks.specs.Lawful.{IsLawful}
@@ -51,20 +51,24 @@ module _ (N : Net) where
           → IsOpen N tree u → Blocks N tree u v → Precedes s.before (slot u) (slot v)
       walk leaves all zero u v seen h d o bs ou bl = absurd (let x = no_more (v ∷ seen) leaves d (λ p c. all p (o p c)) in omega arith)
       walk leaves all (suc k) u v seen h d o bs ou bl = elim (m.complete u v ou ov bl) [
-          inl bf ↦ direct bf
+        | inl bf ↦ direct bf
         | inr y ↦ (let (x, ox, bx, bf) = y in through (walk leaves all k u x (v ∷ seen) (omega arith) (new x ox bf, d) (opens x ox) (λ p c. before x p ox (blocks x ox bf) c) ou bx) bf)
-        ]
+      ]
         where
           ov : IsOpen N tree v
           ov = o v (Contains-here v seen)
+
           blocks : (x : Address) → IsOpen N tree x → s.before (slot x) (slot v) → Blocks N tree x v
           blocks x ox bf =
               let (x', v', ox', ov', ex, ev, bl') = m.sound (slot x) (slot v) bf in
               subst (λ z. Blocks N tree z v) (m.apart x' x ox' ox ex) (subst (Blocks N tree x') (m.apart v' v ov' ov ev) bl')
+
           before : (x p : Address) → IsOpen N tree x → Blocks N tree x v → Contains (v ∷ seen) p → Blocks N tree x p
           before x p ox bl' c = elim (head_or_tail v seen p c) [ inl e ↦ subst (Blocks N tree x) e bl' | inr e ↦ blocks_then tree x v p (address v ov) bl' (bs p e) ]
+
           new : (x : Address) → IsOpen N tree x → s.before (slot x) (slot v) → Contains (v ∷ seen) x → ⊥
           new x ox bf c = not-blocks_itself N law tree x (before x x ox (blocks x ox bf) c)
+
           opens : (x : Address) → IsOpen N tree x → (p : Address) → Contains (x ∷ v ∷ seen) p → IsOpen N tree p
           opens x ox p c = elim (head_or_tail x (v ∷ seen) p c) [ inl e ↦ subst (IsOpen N tree) e ox | inr e ↦ o p e ]
 
@@ -87,15 +91,18 @@ module _ (N : Net) where
       used_above c (k ∷ v) (inr h) (l, e) =
           let (m, f) = parent_used N tree k v l e in
           elim (used_above c v h (used m, f)) [ inl x ↦ inr (used m, ap (label_at N tree) x ∙ f, tt) | inr x ↦ inr x ]
+
       to : (v : Address) → IsOpen N tree v → (c : Address) → IsBelow c v → Blocks N tree u c → Blocks N tree u v
       to v (w, e) c h bl = elim (used_above c v h (waits w, e)) [
-          inl x ↦ subst (Blocks N tree u) x bl
+        | inl x ↦ subst (Blocks N tree u) x bl
         | inr x ↦ (let (taken, rest, f) = cut_at order c ((s.covers c).1 x) in
             let y : Contains taken u = (s.due taken rest c f).clear u (waits ou.0, ou.1) bl in
             absurd (open_apart N tree u ou ((s.covers u).0 (subst (λ z. Contains z u) (sym f) (Contains-append_left taken (c ∷ rest) u y)))))
-        ]
+      ]
 
   -- the machine's test is the sentence on the tree
   pub waiting_iff : (b : ℕ) (s : State N) (tree : Tree N) (order : List Address) (slot : Address → ℕ) (v : Address) → Matches N b s tree slot → IsSchedule N tree order → IsOpen N tree v → IsUnblocked N s (slot v) ↔ ((u : Address) → IsOpen N tree u → MustPrecede N tree u v → ⊥)
-  waiting_iff b s tree order slot v m sc ov = (λ un u ou h. nothing_blocks N b s tree slot v u m un ov ou ((only_siblings tree order u v sc ou ov).0 h),
-      λ f x bf. (let (u, v', ou, ov', eu, ev, bl) = m.sound x (slot v) bf in f u ou (v, below-itself v, subst (Blocks N tree u) (m.apart v' v ov' ov ev) bl)))
+  waiting_iff b s tree order slot v m sc ov = (
+    λ unblocked u ou h. nothing_blocks N b s tree slot v u m unblocked ov ou ((only_siblings tree order u v sc ou ov).0 h),
+    λ f x bf. (let (u, v', ou, ov', eu, ev, bl) = m.sound x (slot v) bf in f u ou (v, below-itself v, subst (Blocks N tree u) (m.apart v' v ov' ov ev) bl)),
+  )

@@ -1,12 +1,12 @@
 -- Executions laid over runs and fronts.
-use Rattle.std.proofs.Common.{ℕ, ◌≡◌, ◌≤◌, ◌↔◌, List, map, refl, ap, sym, subst, ◌∙◌, Some}
+use Rattle.std.proofs.Common.{ℕ, ◌≡◌, ◌≤◌, List, map, refl, subst}
 use Rattle.task_networks.specs.Net.{Net}
 use Rattle.task_networks.specs.Lawful.{IsLawful}
 use Rattle.task_networks.specs.Tree.{Label, Tree, Address, IsOpen, waits}
 use Rattle.task_networks.specs.Executable.{AreLabels, AreAllowed, IsExecutable, IsSolution, last_state}
-use Rattle.task_networks.specs.Spelling.{Act, Spells, label_of, run}
-use Rattle.slot_machine.specs.Machine.{State, end_of, start}
-use Rattle.slot_machine.specs.Laws.{labels, RunsAreExecutableFronts, PlansAreSpelledSolutions, IsPlan}
+use Rattle.task_networks.specs.Spelling.{Act, Spells, label_of}
+use Rattle.slot_machine.specs.Machine.{end_of, start}
+use Rattle.slot_machine.specs.Laws.{RunsAreExecutableFronts, PlansAreSpelledSolutions, IsPlan}
 use Rattle.slot_machine.proofs.RunSpellings.{runs_iff_spells}
 use Rattle.slot_machine.proofs.Theorem.{labels_are_of_acts, tells_front}
 
@@ -33,9 +33,10 @@ module _ (N : Net) (law : IsLawful N) (State : Type 1) (Allows : State → Label
     all_free n x l h = ((tells_front N law b top acts tree order slot s).free x).1 (l, h, λ p o e. n p o)
 
   pub runs_are_executable_fronts : RunsAreExecutableFronts N State Allows next first Goal
-  runs_are_executable_fronts b top acts h =
-      (λ r. (let (tree, order, slot, s) = (runs_iff_spells N law b top h acts).0 r.0 in (tree, order, slot, s, executable b top acts tree order slot s r.1)),
-        λ f. (let (tree, order, slot, s, e) = f in ((runs_iff_spells N law b top h acts).1 (tree, order, slot, s), allowed b top acts tree order slot s e)))
+  runs_are_executable_fronts b top acts h = (
+    λ r. (let (tree, order, slot, s) = (runs_iff_spells N law b top h acts).0 r.0 in (tree, order, slot, s, executable b top acts tree order slot s r.1)),
+    λ f. (let (tree, order, slot, s, e) = f in ((runs_iff_spells N law b top h acts).1 (tree, order, slot, s), allowed b top acts tree order slot s e)),
+  )
 
   pub plans_are_spelled_solutions : PlansAreSpelledSolutions N State Allows next first Goal
   plans_are_spelled_solutions b top acts h = (to, from)
@@ -44,9 +45,10 @@ module _ (N : Net) (law : IsLawful N) (State : Type 1) (Allows : State → Label
       to p =
           let (tree, order, slot, s) = (runs_iff_spells N law b top h acts).0 p.run.0 in
           (tree, order, slot, s, record { finished = record { front = s.front; no_leaves = no_leaves b top acts tree order slot s p.free }; executable = executable b top acts tree order slot s p.run.1; goal = p.goal })
+
       from : (tree : Tree N) × (order : List Address) × (slot : Address → ℕ) × Spells N b top acts tree order slot × IsSolution N State Allows next top first Goal tree order → IsPlan N State Allows next first Goal b top acts
       from (tree, order, slot, s, g) = record {
-          run = ((runs_iff_spells N law b top h acts).1 (tree, order, slot, s), allowed b top acts tree order slot s g.executable);
-          free = all_free b top acts tree order slot s g.finished.no_leaves;
-          goal = subst (λ z. Goal (last_state N State Allows next first z)) (same_labels b top acts tree order slot s g.executable) g.goal;
-        }
+        run = ((runs_iff_spells N law b top h acts).1 (tree, order, slot, s), allowed b top acts tree order slot s g.executable);
+        free = all_free b top acts tree order slot s g.finished.no_leaves;
+        goal = subst (λ z. Goal (last_state N State Allows next first z)) (same_labels b top acts tree order slot s g.executable) g.goal;
+      }

@@ -1,5 +1,5 @@
 -- A front grows by one step, and shrinks by one.
-use Rattle.std.proofs.Common.{ℕ, zero, suc, ◌≡◌, ◌≢◌, ◌⊎◌, ◌↔◌, inl, inr, List, [], ◌∷◌, ◌++◌, Option, Some, None, option_map, slice_get, refl, ap, sym, subst, ◌∙◌, Contains, append_assoc}
+use Rattle.std.proofs.Common.{ℕ, ◌≡◌, ◌≢◌, ◌⊎◌, inl, inr, List, [], ◌∷◌, ◌++◌, Option, Some, None, option_map, slice_get, refl, ap, sym, subst, ◌∙◌, Contains, append_assoc}
 use Rattle.std.proofs.lemmas.List.Elements.{Contains-append_left, Contains-push, Contains-push_cases}
 use Rattle.task_networks.specs.Net.{Net}
 use Rattle.task_networks.specs.Tree.{waits, Label, IsTaken, Tree, Address, IsOpen, IsProcessed, label_at, IsAddress, used, IsBelow}
@@ -92,14 +92,17 @@ module _ (N : Net) where
           where
             n : q ≢ p
             n f = let h = g.childless j in let x = ap (λ y. label_at N tree (j ∷ y)) f in let z = pv.1 in absurd cc
+
             b' : Blocks N tree u (j ∷ q)
             b' = blocks_back u j q n b
+
             up : (i : ℕ) → u ≡ i ∷ p → Blocks N tree p (j ∷ q)
             up i f = (b'.0, b'.1, b'.2, b'.3, inside (subst (λ x. IsBelow (b'.1 ∷ q) x) f b'.4))
               where
                 inside : (b'.1 ∷ q ≡ i ∷ p) ⊎ IsBelow (b'.1 ∷ q) p → IsBelow (b'.1 ∷ q) p
                 inside (inl h) = absurd (n cc)
                 inside (inr h) = h
+
             go : IsAddress N tree u ⊎ ((i : ℕ) × (u ≡ i ∷ p)) → Contains taken u
             go (inl x) = d.clear u x b'
             go (inr (i, f)) = absurd (np (d.clear p (waits w, g.was) (up i f)))
@@ -115,11 +118,14 @@ module _ (N : Net) where
       where
         not_p : Contains order p → ⊥
         not_p c = open_apart tree p open_p ((s.covers p).0 c)
+
         to : (q : Address) → Contains (order ++ p ∷ []) q → IsProcessed N tree' q
         to q c = elim (Contains-push_cases order p q c) [ inl x ↦ (processed_grows q ((s.covers q).0 x)).1 | inr x ↦ subst (IsProcessed N tree') x (l, g.now, g.taken) ]
+
         from : (q : Address) → Dec (q ≡ p) → IsProcessed N tree' q → Contains (order ++ p ∷ []) q
         from q (yes e) h = subst (Contains (order ++ p ∷ [])) (sym e) (Contains-push order p)
         from q (no n) h = Contains-append_left order (p ∷ []) q ((s.covers q).1 (processed_back q n h))
+
         dues : (taken rest : List Address) (q : Address) → ((order ≡ taken) × (p ≡ q)) ⊎ ((rest' : List Address) × (order ≡ taken ++ q ∷ rest')) → IsDue N tree' taken q
         dues taken rest q (inl (e, f)) = subst (λ x. IsDue N tree' x q) e (subst (λ x. IsDue N tree' order x) f d)
         dues taken rest q (inr (r, e)) =
@@ -132,8 +138,10 @@ module _ (N : Net) where
       where
         d : IsDue N tree' order p
         d = s.due order [] p refl
+
         to : (q : Address) → Contains order q → IsProcessed N tree q
         to q c = processed_back q (λ e. d.fresh (subst (Contains order) e c)) ((s.covers q).0 (Contains-append_left order (p ∷ []) q c))
+
         from : (q : Address) → IsProcessed N tree q → Contains order q
         from q h = let x = processed_grows q h in elim (Contains-push_cases order p q ((s.covers q).1 x.1)) [ inl y ↦ y | inr y ↦ absurd (x.0 (sym y)) ]
 
@@ -143,6 +151,7 @@ module _ (N : Net) where
     where
       d : IsDue N tree order p
       d = s.due order [] p refl
+
       go : Contains order (i ∷ p) ⊎ (p ≡ i ∷ p) → ⊥
       go (inr f) = not-below_parent i p (subst (λ x. IsBelow x p) f (below-itself p))
       go (inl c) =

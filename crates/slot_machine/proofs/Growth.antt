@@ -1,5 +1,5 @@
 -- One open leaf is processed: how the labels change.
-use Rattle.std.proofs.Common.{ℕ, zero, suc, ◌≡◌, ◌≢◌, ◌⊎◌, inl, inr, List, [], ◌∷◌, Option, Some, None, option_map, option_and_then, slice_get, refl, ap, sym, subst, ◌∙◌, arith}
+use Rattle.std.proofs.Common.{ℕ, zero, suc, ◌≡◌, ◌≢◌, ◌⊎◌, inl, inr, List, [], ◌∷◌, Option, Some, None, option_map, option_and_then, slice_get, refl, ap, sym, subst, ◌∙◌}
 use Rattle.task_networks.specs.Net.{Net}
 use Rattle.task_networks.specs.Tree.{Label, waits, ran, used, Tree, Address, IsTaken, label_at, label, at, child_at, children_of, open_leaf, done, split, none, IsBelow, Trees, more, works_of, AreGrown}
 use Rattle.task_networks.proofs.Addresses.{is_below, below_up, below_cases, is_same_address}
@@ -40,25 +40,28 @@ module _ (N : Net) where
   -- two trees that differ at p alone
   growth : (tree tree' : Tree N) (p : Address) (w : N.Work) (s : Tree N) → IsTaken N (label N s) → IsFresh s → at N tree p ≡ Some (open_leaf w) → at N tree' p ≡ Some s → ((q : Address) → (IsBelow p q → ⊥) → label_at N tree' q ≡ label_at N tree q) → IsGrowth tree tree' p w (label N s)
   growth tree tree' p w s t f a b o = record {
-      taken = t;
-      was = ap (option_map (label N)) a;
-      now = ap (option_map (label N)) b;
-      childless = λ i. ap (λ x. option_map (label N) (option_and_then (λ t. child_at N (children_of N t) i) x)) a;
-      children = child;
-      others = λ q n k. other q n k (is_below p q);
-    }
+    taken = t;
+    was = ap (option_map (label N)) a;
+    now = ap (option_map (label N)) b;
+    childless = λ i. ap (λ x. option_map (label N) (option_and_then (λ t. child_at N (children_of N t) i) x)) a;
+    children = child;
+    others = λ q n k. other q n k (is_below p q);
+  }
     where
       child : (i : ℕ) → label_at N tree' (i ∷ p) ≡ option_map waits (slice_get (child_works (label N s)) i)
       child i = ap (λ x. option_map (label N) (option_and_then (λ t. child_at N (children_of N t) i) x)) b ∙ f i
+
       deep : (q : Address) (i : ℕ) → ((i : ℕ) → q ≢ i ∷ p) → (q ≡ i ∷ p) ⊎ ((j : ℕ) × IsBelow (j ∷ i ∷ p) q) → at N tree' q ≡ at N tree q
       deep q i k (inl e) = absurd (k i e)
       deep q i k (inr (j, c)) =
           let x : at N tree' (j ∷ i ∷ p) ≡ None = nothing_under (at N tree' (i ∷ p)) (slice_get (child_works (label N s)) i) j (child i) in
           let y : at N tree (i ∷ p) ≡ None = ap (option_and_then (λ t. child_at N (children_of N t) i)) a in
           none_below tree' (j ∷ i ∷ p) q x c ∙ sym (none_below tree (i ∷ p) q y (below_up j (i ∷ p) q c))
+
       inside : (q : Address) → q ≢ p → ((i : ℕ) → q ≢ i ∷ p) → (q ≡ p) ⊎ ((i : ℕ) × IsBelow (i ∷ p) q) → at N tree' q ≡ at N tree q
       inside q n k (inl e) = absurd (n e)
       inside q n k (inr (i, c)) = deep q i k (below_cases (i ∷ p) q c)
+
       other : (q : Address) → q ≢ p → ((i : ℕ) → q ≢ i ∷ p) → Dec (IsBelow p q) → label_at N tree' q ≡ label_at N tree q
       other q n k (no d) = o q d
       other q n k (yes c) = ap (option_map (label N)) (inside q n k (below_cases p q c))

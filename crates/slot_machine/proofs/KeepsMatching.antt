@@ -1,5 +1,5 @@
 -- A step keeps what holds between the machine and a front.
-use Rattle.std.proofs.Common.{ℕ, zero, suc, ◌≡◌, ◌≢◌, ◌<◌, ◌≤◌, ◌⊎◌, ◌↔◌, inl, inr, List, [], ◌∷◌, ◌++◌, length, Option, Some, None, option_map, option_and_then, slice_get, get_or, refl, ap, sym, subst, ◌∙◌, Contains, arith}
+use Rattle.std.proofs.Common.{ℕ, ◌≡◌, ◌≢◌, ◌<◌, ◌≤◌, ◌⊎◌, ◌↔◌, inl, inr, ◌∷◌, length, Some, None, option_map, option_and_then, slice_get, get_or, refl, ap, sym, subst, ◌∙◌, arith}
 use Rattle.std.proofs.Math.Decide.{ℕ_discrete}
 use Rattle.std.proofs.lemmas.Option.{slice_get_within, slice_get_cases}
 use Rattle.task_networks.specs.Net.{Net}
@@ -14,7 +14,7 @@ use Rattle.slot_machine.proofs.FrontSteps.{taken_apart, child_waits, blocks_grow
 use Rattle.slot_machine.proofs.Growth.{IsGrowth, child_works, place, leaf_at, none_below}
 use Rattle.slot_machine.proofs.Matching.{Matches, back, down, up, nothing_blocks}
 
-module _ (N : Net) (law : IsLawful N) (b : ℕ) (s s' : State N) (tree tree' : Tree N) (p : Address) (w : N.Work) (l : Label N) (g : IsGrowth N tree tree' p w l) (slot : Address → ℕ) (m : Matches N b s tree slot) (un : IsUnblocked N s (slot p)) where
+module _ (N : Net) (law : IsLawful N) (b : ℕ) (s s' : State N) (tree tree' : Tree N) (p : Address) (w : N.Work) (l : Label N) (g : IsGrowth N tree tree' p w l) (slot : Address → ℕ) (m : Matches N b s tree slot) (unblocked : IsUnblocked N s (slot p)) where
   abbrev n : ℕ
   n = length (child_works N l)
 
@@ -96,7 +96,7 @@ module _ (N : Net) (law : IsLawful N) (b : ℕ) (s s' : State N) (tree tree' : T
     is_p u o e = m.apart u p o open_p e
 
     unblocks : (u v : Address) → IsOpen N tree u → IsOpen N tree v → s.before (slot u) (slot v) → v ≢ p
-    unblocks u v ou ov bf e = un (slot u) (subst (λ x. s.before (slot u) (slot x)) e bf)
+    unblocks u v ou ov bf e = unblocked (slot u) (subst (λ x. s.before (slot u) (slot x)) e bf)
 
     new_slot : (i : ℕ) (u : Address) → i < n → IsOpen N tree u → u ≢ p → slot (i ∷ p) ≡ slot u → ⊥
     new_slot i u h o np e = go (is_some (heir_of N l) i)
@@ -132,6 +132,7 @@ module _ (N : Net) (law : IsLawful N) (b : ℕ) (s s' : State N) (tree tree' : T
         child : (i : ℕ) → i < n → Dec (heir_of N l ≡ Some i) → (1 ≤ slot (i ∷ p)) × (slot (i ∷ p) ≤ b)
         child i h (yes f) = subst (λ x. (1 ≤ x) × (x ≤ b)) (sym (a.heirs i f)) (m.range p open_p)
         child i h (no f) = let r = (m.free (slot (i ∷ p))).0 (a.was_free i h f) in (r.0, r.1)
+
         go : IsNew u ⊎ IsOld u → (1 ≤ slot u) × (slot u ≤ b)
         go (inl (i, x, h)) = subst (λ y. (1 ≤ slot y) × (slot y ≤ b)) (sym x) (child i h (is_some (heir_of N l) i))
         go (inr (nu, q)) = m.range u q
@@ -144,6 +145,7 @@ module _ (N : Net) (law : IsLawful N) (b : ℕ) (s s' : State N) (tree tree' : T
             let (q, e, k) = (m.holds x v).0 h in
             (q, old_open q v e (λ c. f (sym k ∙ ap slot c, (let y = ap (label_at N tree) c in let z = g.was in cc))), k)
         to (inr (i, e, k)) = (i ∷ p, new_open i v k, sym e)
+
         from : (q : Address) → ((i : ℕ) × (q ≡ i ∷ p) × (slice_get (child_works N l) i ≡ Some v)) ⊎ ((q ≢ p) × (label_at N tree q ≡ Some (waits v))) → slot q ≡ x → (s.holds x v × ((x ≡ slot p) × (v ≡ w) → ⊥)) ⊎ ((i : ℕ) × (x ≡ slot (i ∷ p)) × (slice_get (child_works N l) i ≡ Some v))
         from q (inl (i, e, k)) c = inr (i, sym c ∙ ap slot e, k)
         from q (inr (nq, e)) c = inl ((m.holds x v).1 (q, e, c), λ h. nq (is_p q (v, e) (c ∙ h.0)))
@@ -158,11 +160,13 @@ module _ (N : Net) (law : IsLawful N) (b : ℕ) (s s' : State N) (tree tree' : T
         to (inr (z, h)) =
             let r = m.range p open_p in
             (subst (λ y. 1 ≤ y) (sym h) r.0, subst (λ y. y ≤ b) (sym h) r.1, λ q o e. elim (new_or_old q o) [ inl y ↦ (let k = y.2 in omega arith) | inr y ↦ y.0 (is_p q y.1 (e ∙ h)) ])
+
         from : 1 ≤ x → x ≤ b → ((q : Address) → IsOpen N tree' q → slot q ≡ x → ⊥) → (s.free x × ((i : ℕ) → i < n → x ≡ slot (i ∷ p) → ⊥)) ⊎ ((n ≡ 0) × (x ≡ slot p))
         from c d f = go (ℕ_discrete x (slot p)) (ℕ_discrete n 0)
           where
             old : x ≢ slot p → (s.free x × ((i : ℕ) → i < n → x ≡ slot (i ∷ p) → ⊥))
             old k = ((m.free x).1 (c, d, λ q o e. f q (keeps_open q o (λ y. k (sym e ∙ ap slot y))) e), λ i h e. f (i ∷ p) (child_open i h) (sym e))
+
             go : Dec (x ≡ slot p) → Dec (n ≡ 0) → (s.free x × ((i : ℕ) → i < n → x ≡ slot (i ∷ p) → ⊥)) ⊎ ((n ≡ 0) × (x ≡ slot p))
             go (yes e) (yes z) = inr (z, e)
             go (yes e) (no z) = let h = heir_exists N law l (omega arith) in absurd (f (h.0 ∷ p) (child_open h.0 (heir_within N law l h.0 h.1)) (a.heirs h.0 h.1 ∙ sym e))
@@ -181,7 +185,8 @@ module _ (N : Net) (law : IsLawful N) (b : ℕ) (s s' : State N) (tree tree' : T
             go (u, v, ou, ov, eu, ev, bl) = pick (is_same_address u p) (ℕ_discrete n 0)
               where
                 nv : v ≢ p
-                nv e = un x (subst (λ z. s.before x z) (sym ev ∙ ap slot e) h)
+                nv e = unblocked x (subst (λ z. s.before x z) (sym ev ∙ ap slot e) h)
+
                 pick : Dec (u ≡ p) → Dec (n ≡ 0) → Sound x y
                 pick (no nu) z = (u, v, keeps_open u ou nu, keeps_open v ov nv, eu, ev, grows u v bl)
                 pick (yes e) (yes z) = absurd (f (z, sym eu ∙ ap slot e))
@@ -196,7 +201,7 @@ module _ (N : Net) (law : IsLawful N) (b : ℕ) (s s' : State N) (tree tree' : T
           where
             go : (u : Address) × (v : Address) × IsOpen N tree u × IsOpen N tree v × (slot u ≡ slot p) × (slot v ≡ y) × Blocks N tree u v → Sound x y
             go (u, v, ou, ov, eu, ev, bl) =
-                let nv : v ≢ p = λ e. un (slot p) (subst (λ z. s.before (slot p) z) (sym ev ∙ ap slot e) h) in
+                let nv : v ≢ p = λ e. unblocked (slot p) (subst (λ z. s.before (slot p) z) (sym ev ∙ ap slot e) h) in
                 (i ∷ p, v, child_open i (copier_within N law l i c), keeps_open v ov nv, sym ex, ev, blocks_child i v (subst (λ z. Blocks N tree z v) (is_p u ou eu) bl))
 
     abbrev Complete : Address → Address → Type 0
@@ -217,7 +222,7 @@ module _ (N : Net) (law : IsLawful N) (b : ℕ) (s s' : State N) (tree tree' : T
         go : s.before (slot u) (slot v) ⊎ ((x : Address) × IsOpen N tree x × Blocks N tree u x × s.before (slot x) (slot v)) → Complete u v
         go (inl bf) = inl (stays u v nu ou bf)
         go (inr (x, ox, bx, bf)) =
-            let nx : x ≢ p = λ e. nothing_blocks N b s tree slot p u m un open_p ou (subst (Blocks N tree u) e bx) in
+            let nx : x ≢ p = λ e. nothing_blocks N b s tree slot p u m unblocked open_p ou (subst (Blocks N tree u) e bx) in
             inr (x, keeps_open x ox nx, grows u x bx, stays x v nx ox bf)
 
     new_old : (i : ℕ) (v : Address) → i < n → IsOld v → Blocks N tree p v → Complete (i ∷ p) v
@@ -228,6 +233,7 @@ module _ (N : Net) (law : IsLawful N) (b : ℕ) (s s' : State N) (tree tree' : T
         pick bf (inr (c, pc, k)) =
             let r = (pair_within N law l i c pc).1 in
             inr (c ∷ p, child_open c r, blocks_sibling N law tree' p l i c g.now pc, inherits c v r k bf)
+
         go : s.before (slot p) (slot v) ⊎ ((x : Address) × IsOpen N tree x × Blocks N tree p x × s.before (slot x) (slot v)) → Complete (i ∷ p) v
         go (inl bf) = pick bf (covered N law l i h)
         go (inr (x, ox, bx, bf)) =
@@ -239,6 +245,7 @@ module _ (N : Net) (law : IsLawful N) (b : ℕ) (s s' : State N) (tree tree' : T
       where
         joins : (k : ℕ) → PairOf N l k j → s'.before (slot (k ∷ p)) (slot (j ∷ p))
         joins k pr = (a.before (slot (k ∷ p)) (slot (j ∷ p))).1 (inr (inl (k, j, pr, refl, refl)))
+
         go : PairOf N l i j ⊎ ((k : ℕ) × PrecedesOf N l i k × PairOf N l k j) → Complete (i ∷ p) (j ∷ p)
         go (inl pr) = inl (joins i pr)
         go (inr (k, pk, pr)) = inr (k ∷ p, child_open k (pair_within N law l i k pk).1, blocks_sibling N law tree' p l i k g.now pk, joins k pr)

@@ -1,6 +1,5 @@
 -- The tree of a label, whose children are open leaves.
-use Rattle.std.proofs.Common.{ℕ, zero, suc, ◌≡◌, ◌≢◌, ◌<◌, ◌⊎◌, inl, inr, List, [], ◌∷◌, ◌++◌, length, Option, Some, None, option_map, option_and_then, slice_get, get_or, refl, ap, sym, subst, ◌∙◌, arith}
-use Rattle.std.proofs.lemmas.Option.{slice_get_within, slice_get_cases}
+use Rattle.std.proofs.Common.{ℕ, zero, suc, ◌≡◌, ◌<◌, [], ◌∷◌, length, Some, None, option_map, option_and_then, refl, ap, sym, subst, ◌∙◌, arith}
 use Rattle.task_networks.specs.Net.{Net, count}
 use Rattle.task_networks.specs.Tree.{Label, Tree, waits, open_leaf, ran, done, used, split, at, label, work_of, IsGrown, IsTaken, Address, label_at, child_at, Trees, works_of, none, more, IsAddress, children_of}
 use Rattle.task_networks.proofs.Nodes.{child_below}

@@ -18,3 +18,5 @@ pub mod Theorem
 pub mod OtherMachines
 pub mod Width
 pub mod Executions
+mod Examples
+mod BrokenMachines

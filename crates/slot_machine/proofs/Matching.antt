@@ -1,7 +1,5 @@
 -- What holds between the machine and a front, and that a step keeps it.
-use Rattle.std.proofs.Common.{ℕ, zero, suc, ◌≡◌, ◌≢◌, ◌<◌, ◌≤◌, ◌⊎◌, ◌↔◌, inl, inr, List, [], ◌∷◌, ◌++◌, length, Option, Some, None, option_map, slice_get, refl, ap, sym, subst, ◌∙◌, Contains, arith}
-use Rattle.std.proofs.Math.Decide.{ℕ_discrete}
-use Rattle.std.proofs.lemmas.Option.{slice_get_within, slice_get-get_or, slice_get_cases}
+use Rattle.std.proofs.Common.{ℕ, ◌≡◌, ◌≢◌, ◌≤◌, ◌⊎◌, ◌↔◌, inl, inr, List, [], ◌∷◌, Option, Some, None, option_map, refl, ap, subst, ◌∙◌, Contains}
 use Rattle.task_networks.specs.Net.{Net}
 use Rattle.task_networks.specs.Lawful.{IsLawful}
 use Rattle.task_networks.specs.Tree.{at, Tree, Address, label_at, label, waits, IsOpen, ran, used, Label, IsAddress, IsBelow, IsProcessed}
@@ -22,7 +20,7 @@ module _ (N : Net) where
     pub complete : (u v : Address) → IsOpen N tree u → IsOpen N tree v → Blocks N tree u v → s.before (slot u) (slot v) ⊎ ((x : Address) × IsOpen N tree x × Blocks N tree u x × s.before (slot x) (slot v))
 
   pub nothing_blocks : (b : ℕ) (s : State N) (tree : Tree N) (slot : Address → ℕ) (p u : Address) → Matches b s tree slot → IsUnblocked N s (slot p) → IsOpen N tree p → IsOpen N tree u → Blocks N tree u p → ⊥
-  nothing_blocks b s tree slot p u m un op ou bl = elim (m.complete u p ou op bl) [ inl x ↦ un (slot u) x | inr x ↦ un (slot x.0) x.3 ]
+  nothing_blocks b s tree slot p u m unblocked op ou bl = elim (m.complete u p ou op bl) [ inl x ↦ unblocked (slot u) x | inr x ↦ unblocked (slot x.0) x.3 ]
 
   -- the parent of an address is a split
   pub parent_used : (tree : Tree N) (i : ℕ) (q : Address) (l : Label N) → label_at N tree (i ∷ q) ≡ Some l → (m : N.Method) × (label_at N tree q ≡ Some (used m))
@@ -69,10 +67,10 @@ module _ (N : Net) where
       where
         go : (u : Address) → IsOpen N tree u → IsAddress N tree' u
         go u (k, e) = elim (place N p u) [
-            inl f ↦ (l, ap (label_at N tree') f ∙ g.now)
+          | inl f ↦ (l, ap (label_at N tree') f ∙ g.now)
           | inr (inl (i, f)) ↦ (let h = g.childless i in let x = ap (label_at N tree) f in absurd cc)
           | inr (inr (a, c)) ↦ (waits k, g.others u a c ∙ e)
-          ]
+        ]
 
     is_open : (k : Label N) (u : Address) → label_at N tree u ≡ Some k → IsOpen N tree u ⊎ IsProcessed N tree u
     is_open (waits v) u e = inl (v, e)
@@ -80,11 +78,12 @@ module _ (N : Net) where
     is_open (used n) u e = inr (used n, e, tt)
 
     pub unblocked_due : (order : List Address) → IsSchedule N tree order → IsUnblocked N s (slot p) → IsDue N tree' order p
-    unblocked_due order sc un = record { fresh = λ c. open_apart N tree p open_p ((sc.covers p).0 c); begun = begun p g.was; clear = λ u a bl. clear u (address_back N tree tree' p w l g u a) bl }
+    unblocked_due order sc unblocked = record { fresh = λ c. open_apart N tree p open_p ((sc.covers p).0 c); begun = begun p g.was; clear = λ u a bl. clear u (address_back N tree tree' p w l g u a) bl }
       where
         begun : (q : Address) → label_at N tree q ≡ Some (waits w) → IsBegun order q
         begun [] e = tt
         begun (i ∷ q) e = let h = parent_used tree i q (waits w) e in (sc.covers q).1 (used h.0, h.1, tt)
+
         clear : (u : Address) → IsAddress N tree u ⊎ ((i : ℕ) × (u ≡ i ∷ p)) → Blocks N tree' u p → Contains order u
-        clear u (inl (k, e)) bl = elim (is_open k u e) [ inl o ↦ absurd (nothing_blocks b s tree slot p u m un open_p o (back u p (waits w, g.was) bl)) | inr o ↦ (sc.covers u).1 o ]
+        clear u (inl (k, e)) bl = elim (is_open k u e) [ inl o ↦ absurd (nothing_blocks b s tree slot p u m unblocked open_p o (back u p (waits w, g.was) bl)) | inr o ↦ (sc.covers u).1 o ]
         clear u (inr (i, e)) bl = absurd (not-blocks_itself N law tree p (up i p (waits w, g.was) (subst (λ x. Blocks N tree x p) e (back u p (waits w, g.was) bl))))

@@ -1,5 +1,5 @@
 -- The children other than the heir, and the slots of all children.
-use Rattle.std.proofs.Common.{ℕ, zero, suc, ◌≡◌, ◌≢◌, ◌+◌, ◌<◌, ◌≤◌, ◌⊎◌, ◌↔◌, inl, inr, List, [], ◌∷◌, length, slice_index, slice_get, map, filter, Option, Some, None, Bool, true, false, not, cond, ◌==◌, refl, ap, sym, subst, ◌∙◌, Contains, arith, eq-eqb}
+use Rattle.std.proofs.Common.{ℕ, zero, suc, ◌≡◌, ◌≢◌, ◌+◌, ◌<◌, ◌↔◌, inl, inr, List, [], ◌∷◌, length, slice_index, slice_get, map, filter, Option, Some, None, true, false, not, cond, ◌==◌, refl, ap, sym, subst, ◌∙◌, Contains, arith, eq-eqb}
 use Rattle.std.proofs.lemmas.List.{length-map}
 use Rattle.std.proofs.lemmas.Option.{slice_get_within}
 use Rattle.std.proofs.Math.Decide.{ℕ_discrete}
@@ -8,7 +8,8 @@ use Rattle.task_networks.specs.Lawful.{IsLawful}
 use Rattle.task_networks.specs.Pending.{AreDifferent}
 use Rattle.task_networks.specs.Spelling.{numbers, is_heir, others}
 use Rattle.task_networks.proofs.Filters.{filter_to, to_filter, different-filter}
-use Rattle.task_networks.proofs.Lists.{not-in_empty, head_or_tail, Contains-later, Contains-here}
+use Rattle.task_networks.proofs.Lists.{Contains-later, not-in_empty, head_or_tail, Contains-here}
+use Rattle.task_networks.proofs.Numbers.{length-numbers, numbers_to, to_numbers, different-numbers}
 use Rattle.slot_machine.specs.Machine.{insert_at, with_heir}
 use Rattle.slot_machine.proofs.Inserts.{length-insert_at, insert_same}
 
@@ -50,12 +51,15 @@ abbrev pub rest_of : Option ℕ → ℕ → List ℕ
 rest_of o n = filter (λ i. not (is_heir o i)) (numbers 0 n)
 
 pub rest_cases : (o : Option ℕ) (n i : ℕ) → Contains (rest_of o n) i ↔ ((i < n) × (o ≡ Some i → ⊥))
-rest_cases o n i = (λ c. (let h = filter_to (λ j. not (is_heir o j)) (numbers 0 n) i c in let l = (numbers_to 0 n i h.0).1 in (omega arith, other o h.1)),
-    λ h. (let l = h.0 in to_filter (λ j. not (is_heir o j)) (numbers 0 n) i (to_numbers 0 n i (omega arith) (omega arith)) (is_other o h.1)))
+rest_cases o n i = (
+  λ c. (let h = filter_to (λ j. not (is_heir o j)) (numbers 0 n) i c in let l = (numbers_to 0 n i h.0).1 in (omega arith, other o h.1)),
+  λ h. (let l = h.0 in to_filter (λ j. not (is_heir o j)) (numbers 0 n) i (to_numbers 0 n i (omega arith) (omega arith)) (is_other o h.1)),
+)
   where
     other : (o : Option ℕ) → not (is_heir o i) ≡ true → o ≡ Some i → ⊥
     other None e f = cc
     other (Some k) e f = let g : k ≡ i = cc in let t : (k == i) ≡ true = eq-eqb k i g in let u : not true ≡ true = subst (λ b. not b ≡ true) t e in cc
+
     is_other : (o : Option ℕ) → (o ≡ Some i → ⊥) → not (is_heir o i) ≡ true
     is_other None f = refl
     is_other (Some k) f = let t : (k == i) ≡ false = (let n : k ≢ i = (λ e. f (ap Some e)) in grind arith) in ap not t
@@ -108,9 +112,10 @@ Contains-map f (y ∷ xs) x c = elim (head_or_tail y xs x c) [ inl e ↦ subst (
 
 pub different-map : (f : ℕ → ℕ) (xs : List ℕ) → AreDifferent xs → ((x y : ℕ) → Contains xs x → Contains xs y → f x ≡ f y → x ≡ y) → AreDifferent (map f xs)
 different-map f [] d h = tt
-different-map f (x ∷ xs) d h =
-    (λ c. (let (y, k, e) = map_cases f xs (f x) c in d.0 (subst (Contains xs) (h y x (Contains-later x xs y k) (Contains-here x xs) e) k)),
-      different-map f xs d.1 (λ y z c k. h y z (Contains-later x xs y c) (Contains-later x xs z k)))
+different-map f (x ∷ xs) d h = (
+  λ c. (let (y, k, e) = map_cases f xs (f x) c in d.0 (subst (Contains xs) (h y x (Contains-later x xs y k) (Contains-here x xs) e) k)),
+  different-map f xs d.1 (λ y z c k. h y z (Contains-later x xs y c) (Contains-later x xs z k)),
+)
 
 -- the slots of all children, where the new ones are those of the others
 module _ (N : Net) (law : IsLawful N) (m : N.Method) (f : ℕ → ℕ) (h : ℕ) (heir : (k : ℕ) → N.heir m ≡ Some k → f k ≡ h) where
@@ -138,13 +143,18 @@ module _ (N : Net) (law : IsLawful N) (m : N.Method) (f : ℕ → ℕ) (h : ℕ)
         where
           r : k < count N m
           r = law.heir_is_child m k e
+
           rest : List ℕ
           rest = rest_of (Some k) (count N m)
+
           many : length (map f rest) ≡ length rest
           many = length-map rest f
+
           few : suc (length new) ≡ count N m
           few = ap suc l ∙ length-rest k (count N m) r
+
           full : length (insert_at k h new) ≡ count N m
           full = length-insert_at k h new ∙ few
+
           all : insert_at k h new ≡ map f (numbers 0 (count N m))
           all = listed f 0 (insert_at k h new) (λ i b. ap f (let z : 0 + i ≡ i = omega arith in z) ∙ each i (omega (arith, full))) ∙ ap (λ n. map f (numbers 0 n)) full

@@ -1,6 +1,5 @@
 -- A subtree is put in the place of another.
-use Rattle.std.proofs.Common.{ℕ, zero, suc, ◌≡◌, ◌≢◌, ◌⊎◌, inl, inr, List, [], ◌∷◌, Option, Some, None, option_map, option_and_then, refl, ap, ap₂, sym, subst, ◌∙◌, arith}
-use Rattle.std.proofs.Math.Decide.{ℕ_discrete}
+use Rattle.std.proofs.Common.{ℕ, zero, suc, ◌≡◌, ◌≢◌, ◌⊎◌, inl, inr, [], ◌∷◌, Option, Some, None, option_map, option_and_then, refl, ap, sym, subst, ◌∙◌}
 use Rattle.task_networks.specs.Net.{Net}
 use Rattle.task_networks.specs.Tree.{Trees, Tree, none, more, open_leaf, done, split, Address, at, child_at, work_of, works_of, AreGrown, IsGrown, IsBelow, children_of, label, label_at}
 use Rattle.task_networks.proofs.Addresses.{is_below, below_cases}
@@ -116,16 +115,20 @@ module _ (N : Net) where
     where
       u : (m : N.Method) × (ts : Trees N) × (at N tree p ≡ Some (split m ts)) × (child_at N ts i ≡ Some t)
       u = parent N tree i p t e
+
       s' : Tree N
       s' = split u.0 (set_child u.1 i s)
+
       h : at N (put tree p s') p ≡ Some s'
       h = at-put_same tree p (split u.0 u.1) s' u.2
+
       side : (q ≡ p) ⊎ ((k : ℕ) × IsBelow (k ∷ p) q) → label_at N (put tree p s') q ≡ label_at N tree q
       side (inl f) = subst (λ x. label_at N (put tree p s') x ≡ label_at N tree x) (sym f) (ap (option_map (label N)) h ∙ sym (ap (option_map (label N)) u.2))
       side (inr (k, b)) =
           let d : k ≢ i = λ f. n (subst (λ x. IsBelow (x ∷ p) q) f b) in
           let c : at N (put tree p s') (k ∷ p) ≡ at N tree (k ∷ p) = child_below N (put tree p s') k p u.0 (set_child u.1 i s) h ∙ child-set_other u.1 i k s d ∙ sym (child_below N tree k p u.0 u.1 u.2) in
           ap (option_map (label N)) (below_same tree (put tree p s') (k ∷ p) q c b)
+
       go : Dec (IsBelow p q) → ((IsBelow p q → ⊥) → label_at N (put tree p s') q ≡ label_at N tree q) → label_at N (put tree p s') q ≡ label_at N tree q
       go (no d) ih = ih d
       go (yes b) ih = side (below_cases p q b)

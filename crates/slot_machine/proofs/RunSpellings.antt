@@ -1,7 +1,7 @@
 -- A run spells a front.
-use Rattle.std.proofs.Common.{ℕ, zero, suc, ◌≡◌, ◌≢◌, ◌<◌, ◌≤◌, ◌⊎◌, ◌↔◌, inl, inr, List, [], ◌∷◌, ◌++◌, length, Option, Some, None, option_map, slice_get, slice_index, get_or, refl, ap, sym, subst, ◌∙◌, Contains, arith, append_assoc}
+use Rattle.std.proofs.Common.{ℕ, suc, ◌≡◌, ◌≢◌, ◌<◌, ◌≤◌, ◌↔◌, inl, inr, List, [], ◌∷◌, ◌++◌, length, Option, Some, None, option_map, slice_index, get_or, refl, ap, sym, subst, ◌∙◌, Contains, arith}
 use Rattle.std.proofs.Math.Decide.{ℕ_discrete}
-use Rattle.std.proofs.lemmas.Option.{slice_get_within, slice_get-get_or}
+use Rattle.std.proofs.lemmas.Option.{slice_get-get_or}
 use Rattle.task_networks.specs.Net.{Net, count}
 use Rattle.task_networks.specs.Lawful.{IsLawful}
 use Rattle.task_networks.specs.Tree.{Address, Tree, IsAddress, at, waits, ran, IsOpen, label, used, label_at, Label, open_leaf, IsGrown, work_of, IsProcessed, IsTaken}
@@ -29,8 +29,8 @@ pick (no n) x y = y
 
 -- the slots of the children of p are these
 abbrev pub with_children : (Address → ℕ) → Address → List ℕ → Address → ℕ
-with_children slot p hs [] = slot []
-with_children slot p hs (i ∷ q) = pick (is_same_address q p) (slice_index hs i) (slot (i ∷ q))
+with_children slot p slots [] = slot []
+with_children slot p slots (i ∷ q) = pick (is_same_address q p) (slice_index slots i) (slot (i ∷ q))
 
 pick_yes : {A : Type 0} (d : Dec A) (x y : ℕ) → A → pick d x y ≡ x
 unfolding pick
@@ -42,12 +42,12 @@ unfolding pick
 pick_no (yes a) x y h = absurd (h a)
 pick_no (no n) x y h = refl
 
-pub with-children_child : (slot : Address → ℕ) (p : Address) (hs : List ℕ) (i : ℕ) → with_children slot p hs (i ∷ p) ≡ slice_index hs i
-with-children_child slot p hs i = pick_yes (is_same_address p p) (slice_index hs i) (slot (i ∷ p)) refl
+pub with-children_child : (slot : Address → ℕ) (p : Address) (slots : List ℕ) (i : ℕ) → with_children slot p slots (i ∷ p) ≡ slice_index slots i
+with-children_child slot p slots i = pick_yes (is_same_address p p) (slice_index slots i) (slot (i ∷ p)) refl
 
-pub with-children_other : (slot : Address → ℕ) (p : Address) (hs : List ℕ) (q : Address) → ((i : ℕ) → q ≢ i ∷ p) → with_children slot p hs q ≡ slot q
-with-children_other slot p hs [] n = refl
-with-children_other slot p hs (i ∷ q) n = pick_no (is_same_address q p) (slice_index hs i) (slot (i ∷ q)) (λ e. n i (ap (λ x. i ∷ x) e))
+pub with-children_other : (slot : Address → ℕ) (p : Address) (slots : List ℕ) (q : Address) → ((i : ℕ) → q ≢ i ∷ p) → with_children slot p slots q ≡ slot q
+with-children_other slot p slots [] n = refl
+with-children_other slot p slots (i ∷ q) n = pick_no (is_same_address q p) (slice_index slots i) (slot (i ∷ q)) (λ e. n i (ap (λ x. i ∷ x) e))
 
 module _ (N : Net) where
   -- only the slots of the tree's nodes count
@@ -56,16 +56,17 @@ module _ (N : Net) where
 
   pub matches_agree : (b : ℕ) (s : State N) (tree : Tree N) (f g : Address → ℕ) → Agree tree f g → Matches N b s tree f → Matches N b s tree g
   matches_agree b s tree f g a m = record {
-      holds = λ x w. (λ h. (let (q, e, k) = (m.holds x w).0 h in (q, e, a q (waits w, e) ∙ k)), λ h. (m.holds x w).1 (h.0, h.1, sym (a h.0 (waits w, h.1)) ∙ h.2));
-      free = λ x. (λ h. (let r = (m.free x).0 h in (r.0, r.1, λ q o e. r.2 q o (sym (agree q o) ∙ e))), λ h. (m.free x).1 (h.0, h.1, λ q o e. h.2 q o (agree q o ∙ e)));
-      range = λ q o. subst (λ y. (1 ≤ y) × (y ≤ b)) (sym (agree q o)) (m.range q o);
-      apart = λ u v ou ov e. m.apart u v ou ov (sym (agree u ou) ∙ e ∙ agree v ov);
-      sound = λ x y h. (let (u, v, ou, ov, eu, ev, bl) = m.sound x y h in (u, v, ou, ov, agree u ou ∙ eu, agree v ov ∙ ev, bl));
-      complete = λ u v ou ov bl. elim (m.complete u v ou ov bl) [ inl h ↦ inl (both u v ou ov h) | inr h ↦ inr (h.0, h.1, h.2, both h.0 v h.1 ov h.3) ];
-    }
+    holds = λ x w. (λ h. (let (q, e, k) = (m.holds x w).0 h in (q, e, a q (waits w, e) ∙ k)), λ h. (m.holds x w).1 (h.0, h.1, sym (a h.0 (waits w, h.1)) ∙ h.2));
+    free = λ x. (λ h. (let r = (m.free x).0 h in (r.0, r.1, λ q o e. r.2 q o (sym (agree q o) ∙ e))), λ h. (m.free x).1 (h.0, h.1, λ q o e. h.2 q o (agree q o ∙ e)));
+    range = λ q o. subst (λ y. (1 ≤ y) × (y ≤ b)) (sym (agree q o)) (m.range q o);
+    apart = λ u v ou ov e. m.apart u v ou ov (sym (agree u ou) ∙ e ∙ agree v ov);
+    sound = λ x y h. (let (u, v, ou, ov, eu, ev, bl) = m.sound x y h in (u, v, ou, ov, agree u ou ∙ eu, agree v ov ∙ ev, bl));
+    complete = λ u v ou ov bl. elim (m.complete u v ou ov bl) [ inl h ↦ inl (both u v ou ov h) | inr h ↦ inr (h.0, h.1, h.2, both h.0 v h.1 ov h.3) ];
+  }
     where
       agree : (q : Address) → IsOpen N tree q → g q ≡ f q
       agree q o = a q (waits o.0, o.1)
+
       both : (u v : Address) → IsOpen N tree u → IsOpen N tree v → s.before (f u) (f v) → s.before (g u) (g v)
       both u v ou ov h = subst (λ x. s.before x (g v)) (sym (agree u ou)) (subst (λ x. s.before (f u) x) (sym (agree v ov)) h)
 
@@ -76,13 +77,13 @@ module _ (N : Net) where
   module _ (law : IsLawful N) (b : ℕ) (top : N.Work) where
     pub spells_agree : (acts : List (Act N)) (tree : Tree N) (order : List Address) (f g : Address → ℕ) → Agree tree f g → Spells N b top acts tree order f → Spells N b top acts tree order g
     spells_agree acts tree order f g a s = record {
-        front = s.front;
-        root = a [] (label N tree, refl) ∙ s.root;
-        range = λ q x. subst (λ y. (1 ≤ y) × (y ≤ b)) (sym (a q x)) (s.range q x);
-        heirs = λ p m i e h. a (i ∷ p) (child_address N tree p m i s.front.grown e (law.heir_is_child m i h)) ∙ s.heirs p m i e h ∙ sym (a p (used m, e));
-        apart = λ taken rest c u v pu pv e. s.apart taken rest c u v pu pv (sym (a u pu.address) ∙ e ∙ a v pv.address);
-        spelled = acts_map N tree tree f g order acts (λ q e c. act q e) s.spelled;
-      }
+      front = s.front;
+      root = a [] (label N tree, refl) ∙ s.root;
+      range = λ q x. subst (λ y. (1 ≤ y) × (y ≤ b)) (sym (a q x)) (s.range q x);
+      heirs = λ p m i e h. a (i ∷ p) (child_address N tree p m i s.front.grown e (law.heir_is_child m i h)) ∙ s.heirs p m i e h ∙ sym (a p (used m, e));
+      apart = λ taken rest c u v pu pv e. s.apart taken rest c u v pu pv (sym (a u pu.address) ∙ e ∙ a v pv.address);
+      spelled = acts_map N tree tree f g order acts (λ q e c. act q e) s.spelled;
+    }
       where
         act : (q : Address) (e : Act N) → IsAct N tree f q e → IsAct N tree g q e
         act q (run h w) (x, y) = (x, y ∙ sym (a q (ran w, x)))
@@ -104,37 +105,44 @@ module _ (N : Net) where
         -- a new slot isn't the method's own, which isn't free
         not_own : Contains new h → ⊥
         not_own c = let (q, e, k) = (mt.holds h (N.head n)).0 m.holds in ((mt.free h).0 (m.free h c)).2 q (N.head n, e) k
+
         go : (o : Option ℕ) → N.heir n ≡ o → length new ≡ length (rest_of o (count N n)) → Asks s (apply h new n)
         go None e l = record { holds = m.holds; legal = m.ground; unblocked = m.unblocked; heirs = λ i f. absurd cc; free = λ i r. (absurd (omega (arith, none))); apart = λ i j r. (absurd (omega (arith, none))) }
           where
             none : count N n ≡ 0
             none = elim (ℕ_discrete (count N n) 0) [ yes z ↦ z | no z ↦ absurd (let x = (law.has_heir n (omega arith)).1 in cc) ]
         go (Some k) e l = record {
-            holds = m.holds;
-            legal = m.ground;
-            unblocked = m.unblocked;
-            heirs = λ i x. (let y : i ≡ k = cc in ap (λ z. slice_index (with_heir z h new) i) e ∙ subst (λ z. slice_index all z ≡ h) (sym y) own);
-            free = λ i r x. subst (λ z. s.free (slice_index (with_heir z h new) i)) (sym e) (free i r x);
-            apart = λ i j r q x y z. different_places all i j different (omega (arith, full, r)) (omega (arith, full, q)) (sym (ap (λ z. slice_index (with_heir z h new) i) e) ∙ z ∙ ap (λ z. slice_index (with_heir z h new) j) e);
-          }
+          holds = m.holds;
+          legal = m.ground;
+          unblocked = m.unblocked;
+          heirs = λ i x. (let y : i ≡ k = cc in ap (λ z. slice_index (with_heir z h new) i) e ∙ subst (λ z. slice_index all z ≡ h) (sym y) own);
+          free = λ i r x. subst (λ z. s.free (slice_index (with_heir z h new) i)) (sym e) (free i r x);
+          apart = λ i j r q x y z. different_places all i j different (omega (arith, full, r)) (omega (arith, full, q)) (sym (ap (λ z. slice_index (with_heir z h new) i) e) ∙ z ∙ ap (λ z. slice_index (with_heir z h new) j) e);
+        }
           where
             all : List ℕ
             all = insert_at k h new
+
             within : k < count N n
             within = law.heir_is_child n k e
+
             few : suc (length new) ≡ count N n
             few = ap suc l ∙ length-rest k (count N n) within
+
             full : length all ≡ count N n
             full = length-insert_at k h new ∙ few
+
             different : AreDifferent all
             different = different-insert_at k h new m.apart not_own
+
             own : slice_index all k ≡ h
             own = at-insert_at k h new (omega (arith, few, within))
+
             free : (i : ℕ) → i < count N n → (N.heir n ≡ Some i → ⊥) → s.free (slice_index all i)
             free i r x = elim (insert_cases k h new (slice_index all i) (at_place all i (omega (arith, full, r)))) [
-                inl y ↦ absurd (let z : k ≡ i = different_places all k i different (omega (arith, full, within)) (omega (arith, full, r)) (own ∙ y) in x (e ∙ ap Some z))
+              | inl y ↦ absurd (let z : k ≡ i = different_places all k i different (omega (arith, full, within)) (omega (arith, full, r)) (own ∙ y) in x (e ∙ ap Some z))
               | inr c ↦ m.free (slice_index all i) c
-              ]
+            ]
 
     act_from : (s : State N) (e : Act N) (tree : Tree N) (slot : Address → ℕ) (p : Address) → May N s e → Asks s e → label_at N tree p ≡ Some (label_of N e) → slot_of N e ≡ slot p → ((i : ℕ) → slot (i ∷ p) ≡ slice_index (slots_of e) i) → IsAct N tree slot p e
     act_from s (run h w) tree slot p m ask a c k = (a, c)
@@ -148,45 +156,63 @@ module _ (N : Net) where
       where
         l : Label N
         l = label_of N e
+
         w : N.Work
         w = work_at N l
+
         ask : Asks s e
         ask = asks s tree f m e my
+
         go : (p : Address) → label_at N tree p ≡ Some (waits w) → f p ≡ slot_of N e → (g : Address → ℕ) × Spells N b top (acts ++ e ∷ []) (put N tree p (tree_of N l)) (order ++ p ∷ []) g
         go p was h = (g, spells_push N tree tree' p w l gr b top acts order g e sp' grown.0 (grown.1 ∙ sp.front.root) due range heirs after'.apart act)
           where
             g : Address → ℕ
             g = with_children f p (slots_of e)
+
             a : at N tree p ≡ Some (open_leaf w)
             a = leaf_at N tree p w was
+
             tree' : Tree N
             tree' = put N tree p (tree_of N l)
+
             gr : IsGrowth N tree tree' p w l
             gr = growth_to N tree p w l (label_taken N e) a
+
             grown : IsGrown N tree' × (work_of N tree' ≡ work_of N tree)
             grown = grown-put N tree p (open_leaf w) (tree_of N l) a sp.front.grown (legal_grown N l ask.legal) (work-tree_of N l)
+
             agree : Agree tree f g
             agree q (k, x) = with-children_other f p (slots_of e) q (λ i y. (let z = gr.childless i in let v = ap (label_at N tree) y in absurd cc))
+
             sp' : Spells N b top acts tree order g
             sp' = spells_agree acts tree order f g agree sp
+
             m' : Matches N b s tree g
             m' = matches_agree b s tree f g agree m
+
             own : slot_of N e ≡ g p
             own = sym h ∙ sym (agree p (waits w, was))
+
             child : (i : ℕ) → g (i ∷ p) ≡ slice_index (slots_of e) i
             child i = with-children_child f p (slots_of e) i
-            un : IsUnblocked N s (g p)
-            un x bf = ask.unblocked x (subst (s.before x) (sym own) bf)
+
+            unblocked : IsUnblocked N s (g p)
+            unblocked x bf = ask.unblocked x (subst (s.before x) (sym own) bf)
+
             due : IsDue N tree' order p
-            due = unblocked_due N law b s tree tree' p w l gr g m' order sp'.front.schedule un
+            due = unblocked_due N law b s tree tree' p w l gr g m' order sp'.front.schedule unblocked
+
             act : IsAct N tree' g p e
             act = act_from s e tree' g p my ask gr.now own child
+
             heirs : (i : ℕ) → heir_of N l ≡ Some i → g (i ∷ p) ≡ g p
             heirs i x = child i ∙ ask.heirs i x ∙ own
+
             after' : Matches N b (after N s e) tree' g
-            after' = keeps N law b s (after N s e) tree tree' p w l gr g m' un (is_after N law b s tree tree' p g e gr m' un act heirs
+            after' = keeps N law b s (after N s e) tree tree' p w l gr g m' unblocked (is_after N law b s tree tree' p g e gr m' unblocked act heirs
                 (λ i r n. subst s.free (sym (child i)) (ask.free i r n))
                 (λ i j r q n k x. ask.apart i j r q n k (sym (child i) ∙ x ∙ child j)))
+
             range : (i : ℕ) → i < length (child_works N l) → (1 ≤ g (i ∷ p)) × (g (i ∷ p) ≤ b)
             range i r = after'.range (i ∷ p) (get_or (child_works N l) i w, gr.children i ∙ ap (option_map waits) (slice_get-get_or (child_works N l) i w r))
 
@@ -199,18 +225,20 @@ module _ (N : Net) where
     -- before the first step
     pub spells_none : 1 ≤ b → Spells N b top [] (open_leaf top) [] (λ p. 1)
     spells_none h = record {
-        front = record { grown = tt; root = refl; schedule = record { covers = λ p. (λ c. absurd (nothing p c), λ k. absurd (leaf p k)); due = λ taken rest p e. absurd (empty taken rest p e) } };
-        root = refl;
-        range = λ p a. (omega arith, h);
-        heirs = λ p m i e k. refl;
-        apart = λ taken rest c u v pu pv e. (leaf_only N top pu.address.0 u pu.address.1).0 ∙ sym (leaf_only N top pv.address.0 v pv.address.1).0;
-        spelled = tt;
-      }
+      front = record { grown = tt; root = refl; schedule = record { covers = λ p. (λ c. absurd (nothing p c), λ k. absurd (leaf p k)); due = λ taken rest p e. absurd (empty taken rest p e) } };
+      root = refl;
+      range = λ p a. (omega arith, h);
+      heirs = λ p m i e k. refl;
+      apart = λ taken rest c u v pu pv e. (leaf_only N top pu.address.0 u pu.address.1).0 ∙ sym (leaf_only N top pv.address.0 v pv.address.1).0;
+      spelled = tt;
+    }
       where
         nothing : (p : Address) → Contains [] p → ⊥
         nothing p c = let h = c.1 in omega arith
+
         leaf : (p : Address) → IsProcessed N (open_leaf top) p → ⊥
         leaf p (l, e, t) = let h = leaf_only N top l p e in subst (IsTaken N) h.1 t
+
         empty : (taken rest : List Address) (p : Address) → [] ≡ taken ++ p ∷ rest → ⊥
         empty [] rest p e = cc
         empty (q ∷ taken) rest p e = cc
@@ -224,6 +252,7 @@ module _ (N : Net) where
       where
         none : P []
         none r = (open_leaf top, [], λ p. 1, spells_none h)
+
         more : (acts : List (Act N)) (e : Act N) → P acts → P (acts ++ e ∷ [])
         more acts e ih r =
             let (r', my) = runs_back N (start N b top) acts e r in

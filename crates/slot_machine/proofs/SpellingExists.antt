@@ -1,5 +1,5 @@
 -- A schedule with few pending has slots.
-use Rattle.std.proofs.Common.{ℕ, zero, suc, ◌≡◌, ◌≢◌, ◌+◌, ◌<◌, ◌≤◌, ◌⊎◌, ◌↔◌, inl, inr, List, [], ◌∷◌, ◌++◌, map, length, Option, Some, None, option_map, slice_get, slice_index, get_or, refl, ap, sym, subst, ◌∙◌, Contains, arith, append_assoc, append-nil, length-append}
+use Rattle.std.proofs.Common.{ℕ, zero, suc, ◌≡◌, ◌≢◌, ◌+◌, ◌<◌, ◌≤◌, ◌⊎◌, ◌↔◌, inl, inr, List, [], ◌∷◌, ◌++◌, map, length, Option, Some, None, option_map, get_or, refl, ap, sym, subst, ◌∙◌, Contains, arith, append_assoc, append-nil, length-append}
 use Rattle.std.proofs.Math.Decide.{ℕ_discrete}
 use Rattle.std.proofs.lemmas.Option.{slice_get_within, slice_get-get_or}
 use Rattle.std.proofs.lemmas.List.Elements.{Contains-append_left, Contains-append_right, Contains-append_cases, Contains-push}
@@ -9,7 +9,7 @@ use Rattle.task_networks.specs.Net.{Net, count}
 use Rattle.task_networks.specs.Lawful.{IsLawful}
 use Rattle.task_networks.specs.Tree.{Address, at, Tree, IsOpen, Label, waits, label, label_at, IsTaken, ran, used, IsGrown, work_of, open_leaf, IsProcessed}
 use Rattle.task_networks.specs.Schedule.{IsSchedule, IsDue}
-use Rattle.task_networks.specs.Pending.{AreDifferent, IsWithin, pending, IsPending}
+use Rattle.task_networks.specs.Pending.{AreDifferent, IsWithin, IsPending}
 use Rattle.task_networks.specs.Spelling.{others, Act, label_of, run, apply, Spells}
 use Rattle.task_networks.proofs.Different.{different_append, different_without, within_whole, without_cases, length_whole}
 use Rattle.task_networks.proofs.Lists.{not-in_empty, head_or_tail, Contains-later, cut_at, by_push}
@@ -61,25 +61,33 @@ module _ (N : Net) (law : IsLawful N) (b : ℕ) (top : N.Work) where
     where
       n : ℕ
       n = length (child_works N l)
+
       new : List Address
       new = ways n 0 p
+
       rest : AreDifferent (xs ++ ys) × (Contains (xs ++ ys) p → ⊥)
       rest = different_without xs p ys s.different
+
       old : (q : Address) → Contains (xs ++ ys) q → IsOpen N tree q
       old q c = (s.lists q).0 (within_whole xs p ys q c)
+
       no_child : (i : ℕ) → IsOpen N tree (i ∷ p) → ⊥
       no_child i (v, e) = let h = g.childless i in absurd cc
+
       apart : (q : Address) → Contains new q → Contains (xs ++ ys) q → ⊥
       apart q c d = let (i, x, y, e) = ways_from n 0 p q c in no_child i (subst (IsOpen N tree) e (old q d))
+
       to : (q : Address) → Contains (new ++ (xs ++ ys)) q → IsOpen N tree' q
       to q c = elim (Contains-append_cases new (xs ++ ys) q c) [ inl d ↦ child q (ways_from n 0 p q d) | inr d ↦ same q (old q d) (place N p q) d ]
         where
           child : (q : Address) → (i : ℕ) × (0 ≤ i) × (i < 0 + n) × (q ≡ i ∷ p) → IsOpen N tree' q
           child q (i, x, y, e) = subst (IsOpen N tree') (sym e) (get_or (child_works N l) i w, g.children i ∙ ap (option_map waits) (slice_get-get_or (child_works N l) i w (omega arith)))
+
           same : (q : Address) → IsOpen N tree q → (q ≡ p) ⊎ (((i : ℕ) × (q ≡ i ∷ p)) ⊎ ((q ≢ p) × ((i : ℕ) → q ≢ i ∷ p))) → Contains (xs ++ ys) q → IsOpen N tree' q
           same q o (inl e) d = absurd (rest.1 (subst (Contains (xs ++ ys)) e d))
           same q o (inr (inl (i, e))) d = absurd (no_child i (subst (IsOpen N tree) e o))
           same q (v, e) (inr (inr (x, y))) d = (v, g.others q x y ∙ e)
+
       from : (q : Address) → (q ≡ p) ⊎ (((i : ℕ) × (q ≡ i ∷ p)) ⊎ ((q ≢ p) × ((i : ℕ) → q ≢ i ∷ p))) → IsOpen N tree' q → Contains (new ++ (xs ++ ys)) q
       from q (inl e) (v, f) = absurd (taken_apart N l v (let x = ap (label_at N tree') e in let y = g.now in cc) g.taken)
       from q (inr (inl (i, e))) (v, f) =
@@ -90,20 +98,26 @@ module _ (N : Net) (law : IsLawful N) (b : ℕ) (top : N.Work) where
 
   -- an entry for a step, where enough slots are free
   some_act : (s : State N) (tree : Tree N) (f : Address → ℕ) (p : Address) (leaves : List Address) (l : Label N) → Matches N b s tree f → Listing tree leaves → label_at N tree p ≡ Some (waits (work_at N l)) → IsUnblocked N s (f p) → IsLegal N l → IsTaken N l → length (child_works N l) + length leaves ≤ suc b → (e : Act N) × (label_of N e ≡ l) × (slot_of N e ≡ f p) × May N s e
-  some_act s tree f p leaves (waits w) m ls was un lg t h = absurd t
-  some_act s tree f p leaves (ran w) m ls was un lg t h = (run (f p) w, refl, refl, record { holds = (m.holds (f p) w).1 (p, was, refl); simple = lg; unblocked = un })
-  some_act s tree f p leaves (used n) m ls was un lg t h = go (N.heir n) refl
+  some_act s tree f p leaves (waits w) m ls was unblocked legal t h = absurd t
+  some_act s tree f p leaves (ran w) m ls was unblocked legal t h = (run (f p) w, refl, refl, record { holds = (m.holds (f p) w).1 (p, was, refl); simple = legal; unblocked = unblocked })
+  some_act s tree f p leaves (used n) m ls was unblocked legal t h = go (N.heir n) refl
     where
       -- the slots of the open leaves are not new
       one : (rest : ℕ) → rest ≡ length (others N n) → (new : List ℕ) × (length new ≡ rest) × AreDifferent new × ((x : ℕ) → Contains new x → (1 ≤ x) × (x ≤ b) × (Contains (map f leaves) x → ⊥)) → (e : Act N) × (label_of N e ≡ used n) × (slot_of N e ≡ f p) × May N s e
-      one rest r (new, l, d, g) = (apply (f p) new n, refl, refl, record {
+      one rest r (new, l, d, g) = (
+        apply (f p) new n,
+        refl,
+        refl,
+        record {
           holds = (m.holds (f p) (N.head n)).1 (p, was, refl);
-          ground = lg;
-          unblocked = un;
+          ground = legal;
+          unblocked = unblocked;
           enough = l ∙ r;
           free = λ x c. (let y = g x c in (m.free x).1 (y.0, y.1, λ q o e. y.2 (subst (Contains (map f leaves)) e (Contains-map f leaves q ((ls.lists q).1 o)))));
           apart = d;
-        })
+        },
+      )
+
       go : (o : Option ℕ) → N.heir n ≡ o → (e : Act N) × (label_of N e ≡ used n) × (slot_of N e ≡ f p) × May N s e
       go None e = one 0 (sym (ap (λ z. length (rest_of z (count N n))) e ∙ ap (λ z. length (rest_of None z)) none)) ([], refl, tt, λ x c. absurd (not-in_empty x c))
         where
@@ -113,6 +127,7 @@ module _ (N : Net) (law : IsLawful N) (b : ℕ) (top : N.Work) where
         where
           few : suc (length (rest_of (Some k) (count N n))) ≡ count N n
           few = length-rest k (count N n) (law.heir_is_child n k e)
+
           many : length (map f leaves) ≡ length leaves
           many = length-map leaves f
 
@@ -127,10 +142,13 @@ module _ (N : Net) (law : IsLawful N) (b : ℕ) (top : N.Work) where
     where
       v : tree ≡ open_leaf top
       v = untaken N tree (λ l x t. not-in_empty {A = Address} [] ((s.covers []).1 (l, ap Some x, t))) ∙ ap open_leaf e
+
       one : 1 ≤ b
       one = within [] [] ([] ∷ []) refl (record { different = (not-in_empty {A = Address} [], tt); pending = λ p c. elim (head_or_tail [] [] p c) [ inl x ↦ subst (IsPending N tree []) x (record { address = (label N tree, refl); begun = tt; left = not-in_empty {A = Address} [] }) | inr x ↦ absurd (not-in_empty p x) ] })
+
       to : (p : Address) → Contains ([] ∷ []) p → IsOpen N (open_leaf top) p
       to p c = elim (head_or_tail [] [] p c) [ inl x ↦ subst (IsOpen N (open_leaf top)) x (top, refl) | inr x ↦ absurd (not-in_empty p x) ]
+
       from : (p : Address) → IsOpen N (open_leaf top) p → Contains ([] ∷ []) p
       from p (w, x) = (0, omega arith, sym (leaf_only N top (waits w) p x).0)
 
@@ -142,20 +160,28 @@ module _ (N : Net) (law : IsLawful N) (b : ℕ) (top : N.Work) where
         where
           w : N.Work
           w = work_at N l
+
           a : at N tree' p ≡ Some (tree_of N l)
           a = tree_at N tree' p l gr t now (last_children_wait N tree' order p s)
+
           tree : Tree N
           tree = put N tree' p (open_leaf w)
+
           g : IsGrowth N tree tree' p w l
           g = growth_from N tree' p w l t a
+
           grown : IsGrown N tree × (work_of N tree ≡ work_of N tree')
           grown = grown-put N tree' p (tree_of N l) (open_leaf w) a gr tt (sym (work-tree_of N l))
+
           sc : IsSchedule N tree order × IsDue N tree' order p
           sc = schedule_back N tree tree' p w l g order s
+
           within' : IsWithin N b tree order
           within' taken rest nodes c d = within taken (rest ++ p ∷ []) nodes (ap (λ x. x ++ p ∷ []) c ∙ append_assoc taken rest (p ∷ [])) (record { different = d.different; pending = λ q k. pending_grows N tree tree' p w l g taken q (d.pending q k) })
+
           back : put N tree p (tree_of N l) ≡ tree'
           back = put-put N tree' p (tree_of N l) (open_leaf w) (tree_of N l) a ∙ put_back N tree' p (tree_of N l) a
+
           last : Spelled tree order → Spelled tree' (order ++ p ∷ [])
           last (acts, f, sp, (leaves, ls)) = cut (cut_at leaves p ((ls.lists p).1 (w, g.was)))
             where
@@ -164,20 +190,28 @@ module _ (N : Net) (law : IsLawful N) (b : ℕ) (top : N.Work) where
                 where
                   new : List Address
                   new = ways (length (child_works N l)) 0 p ++ (xs ++ ys)
+
                   ls' : Listing tree' new
                   ls' = listing_grows tree tree' p w l g xs ys (subst (Listing tree) c ls)
+
                   few : length new ≤ b
                   few = within (order ++ p ∷ []) [] new (sym (append-nil (order ++ p ∷ []))) (record { different = ls'.different; pending = λ q k. open_pending N tree' (order ++ p ∷ []) q s ((ls'.lists q).0 k) })
+
                   fits : length (child_works N l) + length leaves ≤ suc b
                   fits = let k = length-append (ways (length (child_works N l)) 0 p) (xs ++ ys) in let j = length-ways (length (child_works N l)) 0 p in let i = ap length c in let h = length_whole xs p ys in omega (arith, few)
+
                   m : Matches N b (end_of N (start N b top) acts) tree f
                   m = (runs_from_spells N law b top order acts tree f sp).1
-                  un : IsUnblocked N (end_of N (start N b top) acts) (f p)
-                  un = due_unblocked N law b (end_of N (start N b top) acts) tree tree' p w l g f m order sc.0 sc.1
+
+                  unblocked : IsUnblocked N (end_of N (start N b top) acts) (f p)
+                  unblocked = due_unblocked N law b (end_of N (start N b top) acts) tree tree' p w l g f m order sc.0 sc.1
+
                   d : (e : Act N) × (label_of N e ≡ l) × (slot_of N e ≡ f p) × May N (end_of N (start N b top) acts) e
-                  d = some_act (end_of N (start N b top) acts) tree f p leaves l m ls g.was un (grown_legal N l (grown_at N tree' p (tree_of N l) gr a)) t fits
+                  d = some_act (end_of N (start N b top) acts) tree f p leaves l m ls g.was unblocked (grown_legal N l (grown_at N tree' p (tree_of N l) gr a)) t fits
+
                   r : (g : Address → ℕ) × Spells N b top (acts ++ d.0 ∷ []) (put N tree p (tree_of N (label_of N d.0))) (order ++ p ∷ []) g
                   r = step_at N law b top acts d.0 (end_of N (start N b top) acts) tree order f sp m d.3 p (subst (λ x. label_at N tree p ≡ Some (waits (work_at N x))) (sym d.1) g.was) (sym d.2)
+
                   sp' : Spells N b top (acts ++ d.0 ∷ []) tree' (order ++ p ∷ []) r.0
                   sp' = subst (λ x. Spells N b top (acts ++ d.0 ∷ []) x (order ++ p ∷ []) r.0) (ap (λ x. put N tree p (tree_of N x)) d.1 ∙ back) r.1
 

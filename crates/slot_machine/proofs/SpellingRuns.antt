@@ -1,8 +1,7 @@
 -- A spelling is a run.
-use Rattle.std.proofs.Common.{ℕ, zero, suc, ◌≡◌, ◌≢◌, ◌<◌, ◌≤◌, ◌⊎◌, ◌↔◌, inl, inr, List, [], ◌∷◌, ◌++◌, length, Option, Some, None, option_map, slice_get, slice_index, get_or, map, refl, ap, sym, subst, ◌∙◌, Contains, arith, append_assoc}
+use Rattle.std.proofs.Common.{ℕ, ◌≡◌, ◌≢◌, ◌<◌, ◌≤◌, ◌⊎◌, ◌↔◌, inl, inr, List, [], ◌∷◌, ◌++◌, length, Some, option_map, slice_get, get_or, map, refl, ap, sym, subst, ◌∙◌, Contains, arith}
 use Rattle.std.proofs.lemmas.List.{length-map}
 use Rattle.std.proofs.lemmas.Option.{slice_get_within, slice_get-get_or}
-use Rattle.std.proofs.lemmas.List.Elements.{Contains-push}
 use Rattle.task_networks.specs.Net.{Net, count}
 use Rattle.task_networks.specs.Lawful.{IsLawful}
 use Rattle.task_networks.specs.Tree.{Tree, Address, open_leaf, at, label, Label, IsTaken, IsGrown, work_of, IsOpen, waits, label_at, ran, used}
@@ -38,34 +37,39 @@ module _ (N : Net) where
 
   pub last_step : (b : ℕ) (top : N.Work) (acts' : List (Act N)) (tree' : Tree N) (order : List Address) (p : Address) (slot : Address → ℕ) → Spells N b top acts' tree' (order ++ p ∷ []) slot → LastStep b top acts' tree' order p slot
   last_step b top acts' tree' order p slot s =
-      let (acts, e, is, en, ie) = acts_last N tree' slot order p acts' s.spelled in
-      go acts e is en ie (subst (λ x. Spells N b top x tree' (order ++ p ∷ []) slot) is s)
+      let (acts, e, is, are_acts, is_act) = acts_last N tree' slot order p acts' s.spelled in
+      go acts e is are_acts is_act (subst (λ x. Spells N b top x tree' (order ++ p ∷ []) slot) is s)
     where
       go : (acts : List (Act N)) (e : Act N) → acts' ≡ acts ++ e ∷ [] → AreActs N tree' slot order acts → IsAct N tree' slot p e → Spells N b top (acts ++ e ∷ []) tree' (order ++ p ∷ []) slot → LastStep b top acts' tree' order p slot
-      go acts e is en ie s' = record {
-          acts = acts;
-          act = e;
-          is = is;
-          tree = put N tree' p (open_leaf w);
-          is_put = refl;
-          is_at = a;
-          legal = grown_legal N l (grown_at N tree' p (tree_of N l) s.front.grown a);
-          growth = g;
-          before = spells_back N (put N tree' p (open_leaf w)) tree' p w l g b top acts order slot e s' r.0 (r.1 ∙ s.front.root) en;
-          due = (schedule_back N (put N tree' p (open_leaf w)) tree' p w l g order s.front.schedule).1;
-          is_act = ie;
-        }
+      go acts e is are_acts is_act s' = record {
+        acts = acts;
+        act = e;
+        is = is;
+        tree = put N tree' p (open_leaf w);
+        is_put = refl;
+        is_at = a;
+        legal = grown_legal N l (grown_at N tree' p (tree_of N l) s.front.grown a);
+        growth = g;
+        before = spells_back N (put N tree' p (open_leaf w)) tree' p w l g b top acts order slot e s' r.0 (r.1 ∙ s.front.root) are_acts;
+        due = (schedule_back N (put N tree' p (open_leaf w)) tree' p w l g order s.front.schedule).1;
+        is_act = is_act;
+      }
         where
           l : Label N
           l = label_of N e
+
           w : N.Work
           w = work_at N l
+
           t : IsTaken N l
           t = label_taken N e
+
           a : at N tree' p ≡ Some (tree_of N l)
-          a = tree_at N tree' p l s.front.grown t (act_label N tree' slot p e ie).0 (last_children_wait N tree' order p s.front.schedule)
+          a = tree_at N tree' p l s.front.grown t (act_label N tree' slot p e is_act).0 (last_children_wait N tree' order p s.front.schedule)
+
           g : IsGrowth N (put N tree' p (open_leaf w)) tree' p w l
           g = growth_from N tree' p w l t a
+
           r : IsGrown N (put N tree' p (open_leaf w)) × (work_of N (put N tree' p (open_leaf w)) ≡ work_of N tree')
           r = grown-put N tree' p (tree_of N l) (open_leaf w) a s.front.grown tt (sym (work-tree_of N l))
 
@@ -87,56 +91,62 @@ module _ (N : Net) where
   act_slots law tree slot p h new m heirs (a, c, d) = ap (with_heir (N.heir m) h) d ∙ with-heir_others N law m (λ i. slot (i ∷ p)) h (λ k e. heirs k e ∙ sym c)
 
   module _ (law : IsLawful N) (b : ℕ) (s : State N) (tree tree' : Tree N) (p : Address) (slot : Address → ℕ) where
-    pub is_after : (e : Act N) (g : IsGrowth N tree tree' p (work_at N (label_of N e)) (label_of N e)) (m : Matches N b s tree slot) (un : IsUnblocked N s (slot p)) → IsAct N tree' slot p e
+    pub is_after : (e : Act N) (g : IsGrowth N tree tree' p (work_at N (label_of N e)) (label_of N e)) (m : Matches N b s tree slot) (unblocked : IsUnblocked N s (slot p)) → IsAct N tree' slot p e
         → ((i : ℕ) → heir_of N (label_of N e) ≡ Some i → slot (i ∷ p) ≡ slot p)
         → ((i : ℕ) → i < length (child_works N (label_of N e)) → (heir_of N (label_of N e) ≡ Some i → ⊥) → s.free (slot (i ∷ p)))
         → ((i j : ℕ) → i < length (child_works N (label_of N e)) → j < length (child_works N (label_of N e)) → (heir_of N (label_of N e) ≡ Some i → ⊥) → (heir_of N (label_of N e) ≡ Some j → ⊥) → slot (i ∷ p) ≡ slot (j ∷ p) → i ≡ j)
-        → IsAfter N law b s (after N s e) tree tree' p (work_at N (label_of N e)) (label_of N e) g slot m un
-    is_after (run h w) g m un (a, c) hs fr ap' = record {
-        heirs = hs;
-        was_free = fr;
-        new_apart = ap';
-        holds = λ x v. (λ k. inl (k.0, λ z. k.1 (z.0 ∙ sym c, z.1)), λ k. elim k [ inl z ↦ (z.0, λ y. z.1 (y.0 ∙ c, y.1)) | inr z ↦ (let y = z.2 in absurd cc) ]);
-        free = λ x. (λ k. elim k [ inl z ↦ inl (z, λ i h e. (let y = h in omega arith)) | inr z ↦ inr (refl, z ∙ c) ], λ k. elim k [ inl z ↦ inl z.0 | inr z ↦ inr (z.1 ∙ sym c) ]);
-        before = λ x y. (λ k. inl (k.0, λ z. k.1 (z.1 ∙ sym c)), λ k. elim k [ inl z ↦ (z.0, λ f. z.1 (refl, f ∙ c)) | inr (inl z) ↦ absurd z.2 | inr (inr z) ↦ absurd z.1 ]);
-      }
-    is_after (apply h new n) g m un (a, c, d) hs fr ap' = record {
-        heirs = hs;
-        was_free = fr;
-        new_apart = ap';
-        holds = λ x v. (λ k. elim k [ inl z ↦ inl (z.0, λ y. z.1 (y.0 ∙ sym c, y.1)) | inr z ↦ inr (z.0, ((child z.0 x).0 z.1).1, z.2) ],
-            λ k. elim k [ inl z ↦ inl (z.0, λ y. z.1 (y.0 ∙ c, y.1)) | inr z ↦ inr (z.0, (child z.0 x).1 (slice_get_within (N.works n) z.0 v z.2, z.1), z.2) ]);
-        free = λ x. (λ k. elim k [ inl z ↦ inl (z.0, λ i r f. z.1 i ((child i x).1 (r, f))) | inr z ↦ inr (z.0, z.1 ∙ c) ],
-            λ k. elim k [ inl z ↦ inl (z.0, λ i f. (let r = (child i x).0 f in z.1 i r.0 r.1)) | inr z ↦ inr (z.0, z.1 ∙ sym c) ]);
-        before = λ x y. (λ k. to x y k, λ k. from x y k);
-      }
+        → IsAfter N law b s (after N s e) tree tree' p (work_at N (label_of N e)) (label_of N e) g slot m unblocked
+    is_after (run h w) g m unblocked (a, c) heir_slots was_free new_apart = record {
+      heirs = heir_slots;
+      was_free = was_free;
+      new_apart = new_apart;
+      holds = λ x v. (λ k. inl (k.0, λ z. k.1 (z.0 ∙ sym c, z.1)), λ k. elim k [ inl z ↦ (z.0, λ y. z.1 (y.0 ∙ c, y.1)) | inr z ↦ (let y = z.2 in absurd cc) ]);
+      free = λ x. (λ k. elim k [ inl z ↦ inl (z, λ i h e. (let y = h in omega arith)) | inr z ↦ inr (refl, z ∙ c) ], λ k. elim k [ inl z ↦ inl z.0 | inr z ↦ inr (z.1 ∙ sym c) ]);
+      before = λ x y. (λ k. inl (k.0, λ z. k.1 (z.1 ∙ sym c)), λ k. elim k [ inl z ↦ (z.0, λ f. z.1 (refl, f ∙ c)) | inr (inl z) ↦ absurd z.2 | inr (inr z) ↦ absurd z.1 ]);
+    }
+    is_after (apply h new n) g m unblocked (a, c, d) heir_slots was_free new_apart = record {
+      heirs = heir_slots;
+      was_free = was_free;
+      new_apart = new_apart;
+      holds = λ x v. (
+        λ k. elim k [ inl z ↦ inl (z.0, λ y. z.1 (y.0 ∙ sym c, y.1)) | inr z ↦ inr (z.0, ((child z.0 x).0 z.1).1, z.2) ],
+        λ k. elim k [ inl z ↦ inl (z.0, λ y. z.1 (y.0 ∙ c, y.1)) | inr z ↦ inr (z.0, (child z.0 x).1 (slice_get_within (N.works n) z.0 v z.2, z.1), z.2) ],
+      );
+      free = λ x. (
+        λ k. elim k [ inl z ↦ inl (z.0, λ i r f. z.1 i ((child i x).1 (r, f))) | inr z ↦ inr (z.0, z.1 ∙ c) ],
+        λ k. elim k [ inl z ↦ inl (z.0, λ i f. (let r = (child i x).0 f in z.1 i r.0 r.1)) | inr z ↦ inr (z.0, z.1 ∙ sym c) ],
+      );
+      before = λ x y. (λ k. to x y k, λ k. from x y k);
+    }
       where
         child : (i x : ℕ) → IsSlotOf N h new n i x ↔ ((i < count N n) × (x ≡ slot (i ∷ p)))
-        child i x = subst (λ z. (slice_get z i ≡ Some x) ↔ ((i < count N n) × (x ≡ slot (i ∷ p)))) (sym (act_slots law tree' slot p h new n hs (a, c, d))) (get_number (λ i. slot (i ∷ p)) (count N n) i x)
+        child i x = subst (λ z. (slice_get z i ≡ Some x) ↔ ((i < count N n) × (x ≡ slot (i ∷ p)))) (sym (act_slots law tree' slot p h new n heir_slots (a, c, d))) (get_number (λ i. slot (i ∷ p)) (count N n) i x)
+
         to : (x y : ℕ) → (after N s (apply h new n)).before x y → (s.before x y × ((count N n ≡ 0) × (x ≡ slot p) → ⊥)) ⊎ (((i : ℕ) × (j : ℕ) × N.Pair n i j × (x ≡ slot (i ∷ p)) × (y ≡ slot (j ∷ p))) ⊎ ((i : ℕ) × N.IsCopier n i × (x ≡ slot (i ∷ p)) × s.before (slot p) y))
         to x y (inl z) = inl (z.0, λ f. z.1 (f.0, f.1 ∙ sym c))
         to x y (inr (inl (i, j, pr, ex, ey))) = inr (inl (i, j, pr, ((child i x).0 ex).1, ((child j y).0 ey).1))
         to x y (inr (inr (i, k, ex, bf))) = inr (inr (i, k, ((child i x).0 ex).1, subst (λ z. s.before z y) c bf))
+
         from : (x y : ℕ) → (s.before x y × ((count N n ≡ 0) × (x ≡ slot p) → ⊥)) ⊎ (((i : ℕ) × (j : ℕ) × N.Pair n i j × (x ≡ slot (i ∷ p)) × (y ≡ slot (j ∷ p))) ⊎ ((i : ℕ) × N.IsCopier n i × (x ≡ slot (i ∷ p)) × s.before (slot p) y)) → (after N s (apply h new n)).before x y
         from x y (inl z) = inl (z.0, λ f. z.1 (f.0, f.1 ∙ c))
         from x y (inr (inl (i, j, pr, ex, ey))) = let r = law.pairs n i j pr in inr (inl (i, j, pr, (child i x).1 (r.0, ex), (child j y).1 (r.1, ey)))
         from x y (inr (inr (i, k, ex, bf))) = inr (inr (i, k, (child i x).1 (law.copier_is_child n i k, ex), subst (λ z. s.before z y) (sym c) bf))
 
-    may : (e : Act N) (g : IsGrowth N tree tree' p (work_at N (label_of N e)) (label_of N e)) (m : Matches N b s tree slot) (un : IsUnblocked N s (slot p)) → IsAct N tree' slot p e → IsLegal N (label_of N e)
+    may : (e : Act N) (g : IsGrowth N tree tree' p (work_at N (label_of N e)) (label_of N e)) (m : Matches N b s tree slot) (unblocked : IsUnblocked N s (slot p)) → IsAct N tree' slot p e → IsLegal N (label_of N e)
         → ((i : ℕ) → heir_of N (label_of N e) ≡ Some i → slot (i ∷ p) ≡ slot p)
         → ((i : ℕ) → i < length (child_works N (label_of N e)) → (heir_of N (label_of N e) ≡ Some i → ⊥) → s.free (slot (i ∷ p)))
         → ((i j : ℕ) → i < length (child_works N (label_of N e)) → j < length (child_works N (label_of N e)) → (heir_of N (label_of N e) ≡ Some i → ⊥) → (heir_of N (label_of N e) ≡ Some j → ⊥) → slot (i ∷ p) ≡ slot (j ∷ p) → i ≡ j)
         → May N s e
-    may (run h w) g m un (a, c) lg hs fr ap' = record { holds = (m.holds h w).1 (p, g.was, sym c); simple = lg; unblocked = λ x bf. un x (subst (s.before x) c bf) }
-    may (apply h new n) g m un (a, c, d) lg hs fr ap' = record {
-        holds = (m.holds h (N.head n)).1 (p, g.was, sym c);
-        ground = lg;
-        unblocked = λ x bf. un x (subst (s.before x) c bf);
-        enough = ap length d ∙ length-map (others N n) child;
-        free = λ x k. (let (i, o, e) = map_cases child (others N n) x (subst (λ z. Contains z x) d k) in let r = (rest_cases (N.heir n) (count N n) i).0 o in subst s.free e (fr i r.0 r.1));
-        apart = subst AreDifferent (sym d) (different-map child (others N n) (different_rest (N.heir n) (count N n))
-            (λ i j o q. (let r = (rest_cases (N.heir n) (count N n) i).0 o in let u = (rest_cases (N.heir n) (count N n) j).0 q in ap' i j r.0 u.0 r.1 u.1)));
-      }
+    may (run h w) g m unblocked (a, c) legal heir_slots was_free new_apart = record { holds = (m.holds h w).1 (p, g.was, sym c); simple = legal; unblocked = λ x bf. unblocked x (subst (s.before x) c bf) }
+    may (apply h new n) g m unblocked (a, c, d) legal heir_slots was_free new_apart = record {
+      holds = (m.holds h (N.head n)).1 (p, g.was, sym c);
+      ground = legal;
+      unblocked = λ x bf. unblocked x (subst (s.before x) c bf);
+      enough = ap length d ∙ length-map (others N n) child;
+      free = λ x k. (let (i, o, e) = map_cases child (others N n) x (subst (λ z. Contains z x) d k) in let r = (rest_cases (N.heir n) (count N n) i).0 o in subst s.free e (was_free i r.0 r.1));
+      apart = subst AreDifferent (sym d) (different-map child (others N n) (different_rest (N.heir n) (count N n))
+          (λ i j o q. (let r = (rest_cases (N.heir n) (count N n) i).0 o in let u = (rest_cases (N.heir n) (count N n) j).0 q in new_apart i j r.0 u.0 r.1 u.1)));
+    }
       where
         child : ℕ → ℕ
         child i = slot (i ∷ p)
@@ -144,36 +154,46 @@ module _ (N : Net) where
   module _ (law : IsLawful N) (b : ℕ) (top : N.Work) where
     -- what a step of a spelling is for the machine
     step_back : (acts' : List (Act N)) (tree' : Tree N) (order : List Address) (p : Address) (slot : Address → ℕ) (s : State N) → Spells N b top acts' tree' (order ++ p ∷ []) slot → (d : LastStep b top acts' tree' order p slot) → Matches N b s d.tree slot → May N s d.act × Matches N b (after N s d.act) tree' slot
-    step_back acts' tree' order p slot s sp d m =
-        (may law b s d.tree tree' p slot d.act d.growth m un d.is_act d.legal heirs was_free new_apart,
-          keeps N law b s (after N s d.act) d.tree tree' p w l d.growth slot m un (is_after law b s d.tree tree' p slot d.act d.growth m un d.is_act heirs was_free new_apart))
+    step_back acts' tree' order p slot s sp d m = (
+      may law b s d.tree tree' p slot d.act d.growth m unblocked d.is_act d.legal heirs was_free new_apart,
+      keeps N law b s (after N s d.act) d.tree tree' p w l d.growth slot m unblocked (is_after law b s d.tree tree' p slot d.act d.growth m unblocked d.is_act heirs was_free new_apart),
+    )
       where
         l : Label N
         l = label_of N d.act
+
         w : N.Work
         w = work_at N l
-        un : IsUnblocked N s (slot p)
-        un = due_unblocked N law b s d.tree tree' p w l d.growth slot m order d.before.front.schedule d.due
+
+        unblocked : IsUnblocked N s (slot p)
+        unblocked = due_unblocked N law b s d.tree tree' p w l d.growth slot m order d.before.front.schedule d.due
+
         child_open : (i : ℕ) → i < length (child_works N l) → IsOpen N tree' (i ∷ p)
         child_open i h = (child i h, d.growth.children i ∙ ap (option_map waits) (slice_get-get_or (child_works N l) i w h))
           where
             child : (i : ℕ) → i < length (child_works N l) → N.Work
             child i h = get_or (child_works N l) i w
+
         heirs_at : (k : Label N) → label_at N tree' p ≡ Some k → (i : ℕ) → heir_of N k ≡ Some i → slot (i ∷ p) ≡ slot p
         heirs_at (waits v) e i f = absurd cc
         heirs_at (ran v) e i f = absurd cc
         heirs_at (used n) e i f = sp.heirs p n i e f
+
         heirs : (i : ℕ) → heir_of N l ≡ Some i → slot (i ∷ p) ≡ slot p
         heirs i f = heirs_at l d.growth.now i f
+
         open_apart' : (u v : Address) → IsOpen N tree' u → IsOpen N tree' v → slot u ≡ slot v → u ≡ v
         open_apart' u v = open_slots_apart N b top acts' tree' (order ++ p ∷ []) slot sp u v
+
         new_apart : (i j : ℕ) → i < length (child_works N l) → j < length (child_works N l) → (heir_of N l ≡ Some i → ⊥) → (heir_of N l ≡ Some j → ⊥) → slot (i ∷ p) ≡ slot (j ∷ p) → i ≡ j
         new_apart i j r q f k x = let y = open_apart' (i ∷ p) (j ∷ p) (child_open i r) (child_open j q) x in cc
+
         was_free : (i : ℕ) → i < length (child_works N l) → (heir_of N l ≡ Some i → ⊥) → s.free (slot (i ∷ p))
         was_free i r f = (m.free (slot (i ∷ p))).1 (rg.0, rg.1, none)
           where
             rg : (1 ≤ slot (i ∷ p)) × (slot (i ∷ p) ≤ b)
             rg = sp.range (i ∷ p) (let o = child_open i r in (waits o.0, o.1))
+
             none : (q : Address) → IsOpen N d.tree q → slot q ≡ slot (i ∷ p) → ⊥
             none q o x = go (place N p q)
               where
@@ -187,13 +207,13 @@ module _ (N : Net) where
 
     pub matches_start : (slot : Address → ℕ) → slot [] ≡ 1 → 1 ≤ b → Matches N b (start N b top) (open_leaf top) slot
     matches_start slot e h = record {
-        holds = λ x w. (λ k. ([], ap (λ z. Some (waits z)) (sym k.1), e ∙ sym k.0), λ k. (let z = leaf_only N top (waits w) k.0 k.1 in (sym k.2 ∙ ap slot z.0 ∙ e, (let y = z.1 in cc))));
-        free = λ x. (λ k. (omega arith, k.1, λ q o f. (let z = leaf_only N top (waits o.0) q o.1 in let y = ap slot z.0 in omega arith)), λ k. (free x k.0 (k.2 [] (top, refl)), k.1));
-        range = λ q o. (let z = leaf_only N top (waits o.0) q o.1 in subst (λ y. (1 ≤ slot y) × (slot y ≤ b)) (sym z.0) (subst (λ y. (1 ≤ y) × (y ≤ b)) (sym e) (omega arith, h)));
-        apart = λ u v ou ov x. (leaf_only N top (waits ou.0) u ou.1).0 ∙ sym (leaf_only N top (waits ov.0) v ov.1).0;
-        sound = λ x y k. absurd k;
-        complete = λ u v ou ov bl. absurd (subst (Blocks N (open_leaf top) u) (leaf_only N top (waits ov.0) v ov.1).0 bl);
-      }
+      holds = λ x w. (λ k. ([], ap (λ z. Some (waits z)) (sym k.1), e ∙ sym k.0), λ k. (let z = leaf_only N top (waits w) k.0 k.1 in (sym k.2 ∙ ap slot z.0 ∙ e, (let y = z.1 in cc))));
+      free = λ x. (λ k. (omega arith, k.1, λ q o f. (let z = leaf_only N top (waits o.0) q o.1 in let y = ap slot z.0 in omega arith)), λ k. (free x k.0 (k.2 [] (top, refl)), k.1));
+      range = λ q o. (let z = leaf_only N top (waits o.0) q o.1 in subst (λ y. (1 ≤ slot y) × (slot y ≤ b)) (sym z.0) (subst (λ y. (1 ≤ y) × (y ≤ b)) (sym e) (omega arith, h)));
+      apart = λ u v ou ov x. (leaf_only N top (waits ou.0) u ou.1).0 ∙ sym (leaf_only N top (waits ov.0) v ov.1).0;
+      sound = λ x y k. absurd k;
+      complete = λ u v ou ov bl. absurd (subst (Blocks N (open_leaf top) u) (leaf_only N top (waits ov.0) v ov.1).0 bl);
+    }
       where
         free : (x : ℕ) → 1 ≤ x → (slot [] ≡ x → ⊥) → 1 < x
         free x k n = let z : x ≢ 1 = (λ y. n (e ∙ sym y)) in omega arith
@@ -219,6 +239,7 @@ module _ (N : Net) where
             let r = s.range [] (label N tree, refl) in
             let o : 1 ≤ b = (let k = s.root in omega arith) in
             subst (λ x. Runs N (start N b top) x × Matches N b (end_of N (start N b top) x) tree slot) (sym e) (tt, subst (λ x. Matches N b (start N b top) x slot) (sym v) (matches_start slot s.root o))
+
         more : (order : List Address) (p : Address) → P order → P (order ++ p ∷ [])
         more order p ih acts' tree' slot s =
             let d = last_step b top acts' tree' order p slot s in

@@ -1,6 +1,6 @@
 -- Spellings grow by one act, and shrink by one.
-use Rattle.std.proofs.Common.{ℕ, zero, suc, ◌≡◌, ◌≢◌, ◌<◌, ◌≤◌, ◌⊎◌, ◌↔◌, inl, inr, List, [], ◌∷◌, ◌++◌, length, Option, Some, None, option_map, slice_get, slice_index, get_or, refl, ap, sym, subst, ◌∙◌, Contains, arith, append_assoc, append-nil}
-use Rattle.std.proofs.lemmas.List.Elements.{Contains-append_left, Contains-push, Contains-push_cases}
+use Rattle.std.proofs.Common.{ℕ, ◌≡◌, ◌≢◌, ◌<◌, ◌≤◌, ◌⊎◌, inl, inr, List, [], ◌∷◌, ◌++◌, length, Some, refl, ap, sym, subst, ◌∙◌, Contains, append_assoc, append-nil}
+use Rattle.std.proofs.lemmas.List.Elements.{Contains-append_left}
 use Rattle.std.proofs.lemmas.Option.{slice_get_within}
 use Rattle.task_networks.specs.Net.{Net}
 use Rattle.task_networks.specs.Tree.{IsTaken, Tree, Address, label_at, IsOpen, waits, used, Label, ran, IsProcessed, IsAddress, IsGrown, work_of}
@@ -103,44 +103,47 @@ module _ (N : Net) where
           → ((i : ℕ) → heir_of N l ≡ Some i → slot (i ∷ p) ≡ slot p)
           → ((u v : Address) → IsOpen N tree' u → IsOpen N tree' v → slot u ≡ slot v → u ≡ v)
           → IsAct N tree' slot p e → Spells N b top (acts ++ e ∷ []) tree' (order ++ p ∷ []) slot
-      spells_push e s gr tp d rg hs ap' ie = record {
-          front = record { grown = gr; root = tp; schedule = sch };
-          root = s.root;
-          range = λ q a. range q a (address_back N tree tree' p w l g q a);
-          heirs = λ q m i x h. heirs q m i x h (is_same_address q p);
-          apart = λ taken rest c u v pu pv f. apart taken rest u v pu pv f (cut_push_any order p taken rest c);
-          spelled = acts_push tree' slot order acts p e (acts_map tree tree' slot slot order acts (λ q d c k. act_same tree tree' slot slot q d (same_label q ((s.front.schedule.covers q).0 c)) refl (λ i. refl) k) s.spelled) ie;
-        }
+      spells_push e s grown top_is d in_range heir_slots all_apart is_act = record {
+        front = record { grown = grown; root = top_is; schedule = scheduled };
+        root = s.root;
+        range = λ q a. range q a (address_back N tree tree' p w l g q a);
+        heirs = λ q m i x h. heirs q m i x h (is_same_address q p);
+        apart = λ taken rest c u v pu pv f. apart taken rest u v pu pv f (cut_push_any order p taken rest c);
+        spelled = acts_push tree' slot order acts p e (acts_map tree tree' slot slot order acts (λ q d c k. act_same tree tree' slot slot q d (same_label q ((s.front.schedule.covers q).0 c)) refl (λ i. refl) k) s.spelled) is_act;
+      }
         where
-          sch : IsSchedule N tree' (order ++ p ∷ [])
-          sch = schedule_grows N tree tree' p w l g order s.front.schedule d
+          scheduled : IsSchedule N tree' (order ++ p ∷ [])
+          scheduled = schedule_grows N tree tree' p w l g order s.front.schedule d
+
           range : (q : Address) → IsAddress N tree' q → IsAddress N tree q ⊎ ((i : ℕ) × (q ≡ i ∷ p)) → (1 ≤ slot q) × (slot q ≤ b)
           range q a (inl x) = s.range q x
-          range q a (inr (i, f)) = subst (λ z. (1 ≤ slot z) × (slot z ≤ b)) (sym f) (rg i (child_is (subst (IsAddress N tree') f a)))
+          range q a (inr (i, f)) = subst (λ z. (1 ≤ slot z) × (slot z ≤ b)) (sym f) (in_range i (child_is (subst (IsAddress N tree') f a)))
             where
               child_is : IsAddress N tree' (i ∷ p) → i < length (child_works N l)
               child_is (k, x) = let h = child_waits N tree tree' p w l g i k x in slice_get_within (child_works N l) i h.0 h.2
+
           heirs : (q : Address) (m : N.Method) (i : ℕ) → label_at N tree' q ≡ Some (used m) → N.heir m ≡ Some i → Dec (q ≡ p) → slot (i ∷ q) ≡ slot q
           heirs q m i x h (no n) = s.heirs q m i (used_back N tree tree' p w l g q m n x) h
-          heirs q m i x h (yes f) = subst (λ z. slot (i ∷ z) ≡ slot z) (sym f) (hs i (subst (λ k. heir_of N k ≡ Some i) same h))
+          heirs q m i x h (yes f) = subst (λ z. slot (i ∷ z) ≡ slot z) (sym f) (heir_slots i (subst (λ k. heir_of N k ≡ Some i) same h))
             where
               same : used m ≡ l
               same = let y = ap (label_at N tree') f in let z = g.now in cc
+
           apart : (taken rest : List Address) (u v : Address) → IsPending N tree' taken u → IsPending N tree' taken v → slot u ≡ slot v → ((rest' : List Address) × (order ≡ taken ++ rest')) ⊎ (taken ≡ order ++ p ∷ []) → u ≡ v
           apart taken rest u v pu pv f (inl (r, c)) =
               let n : Contains taken p → ⊥ = λ x. d.fresh (subst (λ y. Contains y p) (sym c) (Contains-append_left taken r p x)) in
               s.apart taken r c u v (pending_back taken u n pu) (pending_back taken v n pv) f
-          apart taken rest u v pu pv f (inr c) = ap' u v (pending_open tree' (order ++ p ∷ []) u sch (subst (λ y. IsPending N tree' y u) c pu)) (pending_open tree' (order ++ p ∷ []) v sch (subst (λ y. IsPending N tree' y v) c pv)) f
+          apart taken rest u v pu pv f (inr c) = all_apart u v (pending_open tree' (order ++ p ∷ []) u scheduled (subst (λ y. IsPending N tree' y u) c pu)) (pending_open tree' (order ++ p ∷ []) v scheduled (subst (λ y. IsPending N tree' y v) c pv)) f
 
       pub spells_back : (e : Act N) → Spells N b top (acts ++ e ∷ []) tree' (order ++ p ∷ []) slot → IsGrown N tree → work_of N tree ≡ top → AreActs N tree' slot order acts → Spells N b top acts tree order slot
-      spells_back e s gr tp en = record {
-          front = record { grown = gr; root = tp; schedule = sch };
-          root = s.root;
-          range = λ q a. s.range q (address_grows N tree tree' p w l g q a);
-          heirs = λ q m i x h. s.heirs q m i (used_grows N tree tree' p w l g q m x).1 h;
-          apart = λ taken rest c u v pu pv f. s.apart taken (rest ++ p ∷ []) (ap (λ x. x ++ p ∷ []) c ∙ append_assoc taken rest (p ∷ [])) u v (pending_grows taken u pu) (pending_grows taken v pv) f;
-          spelled = acts_map tree' tree slot slot order acts (λ q d c k. act_same tree' tree slot slot q d (sym (same_label q ((sch.covers q).0 c))) refl (λ i. refl) k) en;
-        }
+      spells_back e s grown top_is are_acts = record {
+        front = record { grown = grown; root = top_is; schedule = scheduled };
+        root = s.root;
+        range = λ q a. s.range q (address_grows N tree tree' p w l g q a);
+        heirs = λ q m i x h. s.heirs q m i (used_grows N tree tree' p w l g q m x).1 h;
+        apart = λ taken rest c u v pu pv f. s.apart taken (rest ++ p ∷ []) (ap (λ x. x ++ p ∷ []) c ∙ append_assoc taken rest (p ∷ [])) u v (pending_grows taken u pu) (pending_grows taken v pv) f;
+        spelled = acts_map tree' tree slot slot order acts (λ q d c k. act_same tree' tree slot slot q d (sym (same_label q ((scheduled.covers q).0 c))) refl (λ i. refl) k) are_acts;
+      }
         where
-          sch : IsSchedule N tree order
-          sch = (schedule_back N tree tree' p w l g order s.front.schedule).0
+          scheduled : IsSchedule N tree order
+          scheduled = (schedule_back N tree tree' p w l g order s.front.schedule).0

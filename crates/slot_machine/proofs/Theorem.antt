@@ -1,23 +1,23 @@
 -- The laws of the machine, from the lemmas.
-use Rattle.std.proofs.Common.{ℕ, ◌≡◌, ◌+◌, ◌<◌, ◌≤◌, ◌⊎◌, ◌↔◌, inl, inr, List, [], ◌∷◌, ◌++◌, map, length, refl, ap, sym, subst, ◌∙◌, Contains, Some, arith, append-nil}
+use Rattle.std.proofs.Common.{ℕ, ◌≡◌, ◌↔◌, List, [], ◌∷◌, map, refl, ap, sym, subst, ◌∙◌, Contains, Some, arith}
 use Rattle.std.proofs.lemmas.List.{length-map}
 use Rattle.task_networks.specs.Net.{Net}
 use Rattle.task_networks.specs.Lawful.{IsLawful}
-use Rattle.task_networks.specs.Tree.{Tree, Address, IsOpen, waits, Label}
+use Rattle.task_networks.specs.Tree.{Tree, Address, IsOpen, Label}
 use Rattle.task_networks.specs.Pending.{IsWithin, AreDifferent, IsPending}
 use Rattle.task_networks.specs.Executable.{AreLabels}
 use Rattle.task_networks.specs.Spelling.{run, Act, Spells, apply, numbers, AreActs, label_of}
 use Rattle.task_networks.proofs.Different.{no_more}
 use Rattle.task_networks.proofs.Lists.{Contains-later, Contains-here}
 use Rattle.task_networks.proofs.Nodes.{leaves_of}
+use Rattle.task_networks.proofs.Numbers.{length-numbers, to_numbers}
 use Rattle.slot_machine.specs.Machine.{State, end_of, start, IsUnblocked, May}
 use Rattle.slot_machine.specs.Causes.{IsWaiting, IsNextAt, Can}
 use Rattle.slot_machine.specs.Laws.{RunsAreSpelledFronts, FrontIsTheOnlyOne, TestsTellCauses, StateTellsFront, FewPendingHaveSpellings, CausesAreSentences, labels, LabelsAreOfActs}
 use Rattle.slot_machine.specs.Reached.{Tells}
 use Rattle.slot_machine.proofs.Closure.{chain_iff, only_siblings, waiting_iff}
-use Rattle.slot_machine.proofs.Growth.{leaves}
 use Rattle.slot_machine.proofs.Matching.{Matches}
-use Rattle.slot_machine.proofs.OtherChildren.{map_cases, length-numbers, to_numbers}
+use Rattle.slot_machine.proofs.OtherChildren.{map_cases}
 use Rattle.slot_machine.proofs.RunSpellings.{runs_iff_spells}
 use Rattle.slot_machine.proofs.SpellingExists.{spelling_exists}
 use Rattle.slot_machine.proofs.SpellingRuns.{runs_from_spells}
@@ -40,14 +40,15 @@ module _ (N : Net) (law : IsLawful N) where
 
     pub tells_front : Tells N tree slot b last
     tells_front = record {
-        holds = m.holds;
-        free = m.free;
-        untouched = λ x y h. (let (u, v, ou, ov, eu, ev, bl) = m.sound x y h in (λ f. ((m.free x).0 f).2 u ou eu, λ f. ((m.free y).0 f).2 v ov ev));
-        order = λ u v ou ov. (let c = chain_iff N law b last tree slot m all.0 all.1 u v ou ov in let o = only_siblings N tree order u v s.front.schedule ou ov in (λ h. o.1 (c.0 h), λ h. c.1 (o.0 h)));
-      }
+      holds = m.holds;
+      free = m.free;
+      untouched = λ x y h. (let (u, v, ou, ov, eu, ev, bl) = m.sound x y h in (λ f. ((m.free x).0 f).2 u ou eu, λ f. ((m.free y).0 f).2 v ov ev));
+      order = λ u v ou ov. (let c = chain_iff N law b last tree slot m all.0 all.1 u v ou ov in let o = only_siblings N tree order u v s.front.schedule ou ov in (λ h. o.1 (c.0 h), λ h. c.1 (o.0 h)));
+    }
       where
         m : Matches N b last tree slot
         m = matches_spelling
+
         all : (leaves : List Address) × ((p : Address) → IsOpen N tree p → Contains leaves p)
         all = leaves_of N tree
 
@@ -59,17 +60,22 @@ module _ (N : Net) (law : IsLawful N) where
       where
         to : last.holds h w × IsUnblocked N last h → IsNextAt N tree slot h w
         to (a, un) = let (p, e, f) = (matches_spelling.holds h w).0 a in record { leaf = p; is = e; at_slot = f; unblocked = (waits_iff p (w, e)).0 (λ x bf. un x (subst (last.before x) f bf)) }
+
         from : IsNextAt N tree slot h w → last.holds h w × IsUnblocked N last h
         from n = ((matches_spelling.holds h w).1 (n.leaf, n.is, n.at_slot), λ x bf. (waits_iff n.leaf (w, n.is)).1 n.unblocked x (subst (last.before x) (sym n.at_slot) bf))
 
     may_iff : (a : Act N) → May N last a ↔ Can N tree slot b a
-    may_iff (run h w) = (λ a. record { next = (next_iff h w).0 (a.holds, a.unblocked); simple = a.simple },
-        λ c. (let n = (next_iff h w).1 c.next in record { holds = n.0; simple = c.simple; unblocked = n.1 }))
-    may_iff (apply h new m) = (λ a. record { next = (next_iff h (N.head m)).0 (a.holds, a.unblocked); enough = a.enough; left = λ x k. (matches_spelling.free x).0 (a.free x k); different = a.apart; ground = a.ground },
-        λ c. (let n = (next_iff h (N.head m)).1 c.next in record { holds = n.0; ground = c.ground; unblocked = n.1; enough = c.enough; free = λ x k. (matches_spelling.free x).1 (c.left x k); apart = c.different }))
+    may_iff (run h w) = (
+      λ a. record { next = (next_iff h w).0 (a.holds, a.unblocked); simple = a.simple },
+      λ c. (let n = (next_iff h w).1 c.next in record { holds = n.0; simple = c.simple; unblocked = n.1 }),
+    )
+    may_iff (apply h new m) = (
+      λ a. record { next = (next_iff h (N.head m)).0 (a.holds, a.unblocked); enough = a.enough; left = λ x k. (matches_spelling.free x).0 (a.free x k); different = a.apart; ground = a.ground },
+      λ c. (let n = (next_iff h (N.head m)).1 c.next in record { holds = n.0; ground = c.ground; unblocked = n.1; enough = c.enough; free = λ x k. (matches_spelling.free x).1 (c.left x k); apart = c.different }),
+    )
 
     pub tests_tell_causes : TestsTellCauses N b last tree slot
-    tests_tell_causes = record { holds = matches_spelling.holds; waits = waits_iff; left = matches_spelling.free; may = may_iff }
+    tests_tell_causes = record { holds = matches_spelling.holds; unblocked = waits_iff; left = matches_spelling.free; may = may_iff }
 
     -- pending nodes have different slots, of b
     pub within_slots : IsWithin N b tree order
@@ -81,11 +87,13 @@ module _ (N : Net) (law : IsLawful N) where
       where
         in_range : (x : ℕ) → (q : Address) × Contains nodes q × (slot q ≡ x) → Contains (numbers 1 b) x
         in_range x (q, c, f) = let r = s.range q (p.pending q c).address in let l = r.1 in subst (Contains (numbers 1 b)) f (to_numbers 1 b (slot q) r.0 (omega arith))
+
         different_slots : (qs : List Address) → AreDifferent qs → ((q : Address) → Contains qs q → IsPending N tree taken q) → AreDifferent (map slot qs)
         different_slots [] d h = tt
-        different_slots (q ∷ qs) d h =
-            (λ c. (let (v, k, f) = map_cases slot qs (slot q) c in d.0 (subst (Contains qs) (s.apart taken rest e v q (h v (Contains-later q qs v k)) (h q (Contains-here q qs)) f) k)),
-              different_slots qs d.1 (λ v k. h v (Contains-later q qs v k)))
+        different_slots (q ∷ qs) d h = (
+          λ c. (let (v, k, f) = map_cases slot qs (slot q) c in d.0 (subst (Contains qs) (s.apart taken rest e v q (h v (Contains-later q qs v k)) (h q (Contains-here q qs)) f) k)),
+          different_slots qs d.1 (λ v k. h v (Contains-later q qs v k)),
+        )
 
   pub state_tells_front : StateTellsFront N
   state_tells_front b top acts tree order slot s = tells_front b top acts tree order slot s

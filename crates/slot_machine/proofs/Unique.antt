@@ -1,5 +1,5 @@
 -- A list of acts spells one front only.
-use Rattle.std.proofs.Common.{ℕ, zero, suc, ◌≡◌, ◌≢◌, ◌+◌, ◌<◌, ◌≤◌, ◌⊎◌, ◌↔◌, inl, inr, List, [], ◌∷◌, ◌++◌, length, Option, Some, None, option_map, slice_get, slice_index, get_or, refl, ap, sym, subst, ◌∙◌, Contains, arith}
+use Rattle.std.proofs.Common.{ℕ, ◌≡◌, ◌+◌, ◌<◌, ◌⊎◌, inl, inr, List, [], ◌∷◌, ◌++◌, length, Some, slice_index, ap, sym, subst, ◌∙◌, arith}
 use Rattle.std.proofs.lemmas.Option.{slice_get_within}
 use Rattle.task_networks.specs.Net.{Net, count}
 use Rattle.task_networks.specs.Lawful.{IsLawful}
@@ -47,25 +47,33 @@ module _ (N : Net) (law : IsLawful N) (b : ℕ) (top : N.Work) where
     where
       s : (acts ≡ d.acts) × (e ≡ d.act)
       s = push_same acts d.acts e d.act d.is
+
       s' : (acts ≡ d'.acts) × (e ≡ d'.act)
       s' = push_same acts d'.acts e d'.act d'.is
+
       sp : Spells N b top acts d.tree o f
       sp = subst (λ x. Spells N b top x d.tree o f) (sym s.0) d.before
+
       h : Same d.tree o f d'.tree o' f'
       h = ih d.tree o f d'.tree o' f' sp (subst (λ x. Spells N b top x d'.tree o' f') (sym s'.0) d'.before)
+
       at_p : IsOpen N d.tree p
       at_p = (work_at N (label_of N d.act), d.growth.was)
+
       at_p' : IsOpen N d.tree p'
       at_p' = (work_at N (label_of N d'.act), subst (λ x. label_at N x p' ≡ Some (waits (work_at N (label_of N d'.act)))) h.0 d'.growth.was)
+
       ways : p' ≡ p
       ways = open_slots_apart N b top acts d.tree o f sp p' p at_p' at_p
           (sym (h.2 p' (waits at_p'.0, at_p'.1)) ∙ sym (act_label N t' f' p' d'.act d'.is_act).1 ∙ ap (slot_of N) (sym s'.1 ∙ s.1) ∙ (act_label N t f p d.act d.is_act).1)
+
       trees : t' ≡ t
       trees = sym (rebuilt (acts ++ e ∷ []) t' o' p' f' d')
           ∙ ap (λ x. put N d'.tree p' (tree_of N (label_of N x))) (sym s'.1 ∙ s.1)
           ∙ ap (λ x. put N x p' (tree_of N (label_of N d.act))) h.0
           ∙ ap (λ x. put N d.tree x (tree_of N (label_of N d.act))) ways
           ∙ rebuilt (acts ++ e ∷ []) t o p f d
+
       agree : Agree N t f f'
       agree q a = go (address_back N d.tree t p (work_at N (label_of N d.act)) (label_of N d.act) d.growth q a)
         where
@@ -75,6 +83,7 @@ module _ (N : Net) (law : IsLawful N) (b : ℕ) (top : N.Work) where
               let r : i < length (child_works N (label_of N d.act)) = slice_get_within (child_works N (label_of N d.act)) i y.0 y.2 in
               let r' : i < length (child_works N (label_of N d'.act)) = subst (λ z. i < length (child_works N (label_of N z))) (sym s.1 ∙ s'.1) r in
               ap (λ z. f' (i ∷ z)) (sym ways) ∙ sym (act_child t' f' p' d'.act i (whole'.heirs p') d'.is_act r') ∙ ap (λ z. slice_index (slots_of N z) i) (sym s'.1 ∙ s.1) ∙ act_child t f p d.act i (whole.heirs p) d.is_act r
+
           go : IsAddress N d.tree q ⊎ ((i : ℕ) × (q ≡ i ∷ p)) → f' q ≡ f q
           go (inl x) = h.2 q x
           go (inr (i, x)) = subst (λ z. f' z ≡ f z) (sym x) (child i (subst (IsAddress N t) x a))
@@ -92,6 +101,7 @@ module _ (N : Net) (law : IsLawful N) (b : ℕ) (top : N.Work) where
         where
           root : (q : Address) → IsAddress N (open_leaf top) q → f' q ≡ f q
           root q (l, e) = subst (λ z. f' z ≡ f z) (sym (leaf_only N top l q e).0) (s'.root ∙ sym s.root)
+
       more : (acts : List (Act N)) (e : Act N) → U acts → U (acts ++ e ∷ [])
       more acts e ih t o f t' o' f' s s' =
           let (ys, y, c) = some_order acts e t o f s.spelled (last_cases o) in

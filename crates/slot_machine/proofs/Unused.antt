@@ -1,5 +1,5 @@
 -- Slots: a number that isn't used, and one put into a list.
-use Rattle.std.proofs.Common.{ℕ, zero, suc, ◌≡◌, ◌≢◌, ◌+◌, ◌<◌, ◌≤◌, ◌⊎◌, inl, inr, List, [], ◌∷◌, ◌++◌, length, slice_index, slice_get, map, filter, Option, Some, None, Bool, true, false, not, cond, ◌==◌, refl, ap, sym, subst, ◌∙◌, Contains, arith}
+use Rattle.std.proofs.Common.{ℕ, zero, suc, ◌≡◌, ◌+◌, ◌<◌, ◌≤◌, inl, inr, List, [], ◌∷◌, ◌++◌, length, slice_index, refl, ap, sym, subst, Contains, arith}
 use Rattle.std.proofs.Math.Decide.{ℕ_discrete}
 use Rattle.task_networks.specs.Pending.{AreDifferent}
 use Rattle.task_networks.proofs.Different.{length_whole, without_cases}
@@ -32,9 +32,12 @@ pub unused : (k b : ℕ) (xs : List ℕ) → k + length xs ≤ b → (hs : List 
 unused zero b xs h = ([], refl, tt, λ x c. absurd (not-in_empty x c))
 unused (suc k) b xs h =
     let (x, p, q, n) = one_unused b xs (omega arith) in
-    let (hs, l, d, f) = unused k b (x ∷ xs) (omega arith) in
-    (x ∷ hs, ap suc l, (λ c. (f x c).2 (Contains-here x xs), d),
-      λ y c. elim (head_or_tail x hs y c) [ inl e ↦ subst (λ z. (1 ≤ z) × (z ≤ b) × (Contains xs z → ⊥)) e (p, q, n) | inr e ↦ ((f y e).0, (f y e).1, λ z. (f y e).2 (Contains-later x xs y z)) ])
+    let (hs, l, d, f) = unused k b (x ∷ xs) (omega arith) in (
+      x ∷ hs,
+      ap suc l,
+      (λ c. (f x c).2 (Contains-here x xs), d),
+      λ y c. elim (head_or_tail x hs y c) [ inl e ↦ subst (λ z. (1 ≤ z) × (z ≤ b) × (Contains xs z → ⊥)) e (p, q, n) | inr e ↦ ((f y e).0, (f y e).1, λ z. (f y e).2 (Contains-later x xs y z)) ],
+    )
 
 pub at_place : (xs : List ℕ) (j : ℕ) → j < length xs → Contains xs (slice_index xs j)
 at_place [] j h = absurd (omega arith)

@@ -1,30 +1,18 @@
 -- Never more is pending of a task than its number.
-use Rattle.std.proofs.Common.{ℕ, zero, suc, ◌≡◌, ◌≢◌, ◌+◌, ◌<◌, ◌≤◌, ◌⊎◌, ◌↔◌, inl, inr, List, [], ◌∷◌, ◌++◌, length, slice_get, filter, Bool, true, false, cond, nat_lt, ◌==◌, Option, Some, None, option_map, refl, ap, sym, subst, ◌∙◌, Contains, arith, append_assoc, length-append, add-le-add}
+use Rattle.std.proofs.Common.{ℕ, zero, suc, ◌≡◌, ◌+◌, ◌<◌, ◌≤◌, ◌⊎◌, inl, inr, List, [], ◌∷◌, ◌++◌, length, slice_get, filter, Bool, true, false, cond, Some, option_map, refl, ap, sym, subst, ◌∙◌, Contains, arith, append_assoc, length-append, add-le-add}
 use Rattle.std.proofs.lemmas.List.Elements.{Contains-append_left, filter-append}
 use Rattle.task_networks.specs.Net.{Net, count}
-use Rattle.task_networks.specs.Tree.{at, Tree, Address, IsAddress, open_leaf, done, split, Trees, none, more, IsBelow, waits, label, ran, child_at, used, work_of, works_of, IsGrown, AreGrown}
+use Rattle.task_networks.specs.Tree.{Tree, Address, IsAddress, open_leaf, done, split, Trees, none, more, at, IsBelow, waits, label, ran, child_at, used, work_of, works_of, IsGrown, AreGrown}
 use Rattle.task_networks.specs.Schedule.{Blocks, IsSchedule, IsDue}
 use Rattle.task_networks.specs.Pending.{is_among, is_pending, nodes_at, nodes_from, IsWithin}
-use Rattle.task_networks.specs.Bound.{weight, weights, IsLeftOut, block_number, IsBound}
+use Rattle.task_networks.specs.Front.{IsFront}
+use Rattle.task_networks.specs.Bound.{itself, weight, weights, IsBound, IsReached, block_number, as_child}
 use Rattle.task_networks.proofs.Addresses.{below-itself, below_up}
+use Rattle.task_networks.proofs.BoundLaws.{by_size, enough_for_all, at_block, after_block}
 use Rattle.task_networks.proofs.Lists.{Contains-later, cut_at}
-use Rattle.task_networks.proofs.Nodes.{child_below, below_children}
+use Rattle.task_networks.proofs.Nodes.{parent, child_below, below_children}
 use Rattle.task_networks.proofs.PendingNodes.{to_among, among_to, pending_to, within_iff}
-
-by_size : (a b : ℕ) → (a < b) ⊎ ((a ≡ b) ⊎ (b < a))
-by_size a b = grind arith
-
-at_block : (k b x : ℕ) → b ≡ k → weight k b x ≡ x
-at_block k b x e = grind arith
-
-before_block : (k b x : ℕ) → b < k → weight k b x ≡ 0
-before_block k b x l = grind arith
-
-small : (k b x : ℕ) → 1 ≤ x → weight k b x ≤ x
-small k b x l = grind arith
-
-after_block : (k b x : ℕ) → k < b → weight k b x ≡ 1
-after_block k b x l = grind arith
+use Rattle.slot_machine.proofs.Replaced.{grown_at}
 
 -- a front's taken nodes
 pub record IsClosed (N : Net) (tree : Tree N) (taken : List Address) : Type 0 where
@@ -32,37 +20,6 @@ pub record IsClosed (N : Net) (tree : Tree N) (taken : List Address) : Type 0 wh
   pub clear : (u v : Address) → Contains taken v → IsAddress N tree u → Blocks N tree u v → Contains taken u
 
 module _ (N : Net) (block : N.Method → ℕ → ℕ) (number : N.Work → ℕ) where
-  all_before : (m : N.Method) (k i : ℕ) (ws : List N.Work) → ((j : ℕ) → j < length ws → block m (i + j) < k) → weights N block number m k i ws ≡ 0
-  all_before m k i [] f = refl
-  all_before m k i (w ∷ ws) f =
-      let z = before_block k (block m i) (number w) (subst (λ x. block m x < k) (let y : i + 0 ≡ i = omega arith in y) (f 0 (omega arith))) in
-      let r = all_before m k (suc i) ws (λ j l. subst (λ x. block m x < k) (let y : i + suc j ≡ suc i + j = omega arith in y) (f (suc j) (omega arith))) in
-      omega arith
-
-  -- a block that is left out counts its child alone
-  alone : (m : N.Method) (k i child : ℕ) (work : N.Work) (ws : List N.Work) → slice_get ws child ≡ Some work → ((j : ℕ) → j < length ws → j ≢ child → block m (i + j) < k) → weights N block number m k i ws ≤ weight k (block m (i + child)) (number work)
-  alone m k i child work [] e f = absurd cc
-  alone m k i zero work (w ∷ ws) e f =
-      let z = all_before m k (suc i) ws (λ j l. subst (λ x. block m x < k) (let y : i + suc j ≡ suc i + j = omega arith in y) (f (suc j) (omega arith) (omega arith))) in
-      let g : w ≡ work = cc in
-      let h : i ≡ i + 0 = omega arith in
-      let p = ap (λ x. weight k (block m i) (number x)) g in
-      let q = ap (λ x. weight k (block m x) (number work)) h in
-      omega arith
-  alone m k i (suc child) work (w ∷ ws) e f =
-      let r = alone m k (suc i) child work ws e (λ j l n. subst (λ x. block m x < k) (let y : i + suc j ≡ suc i + j = omega arith in y) (f (suc j) (omega arith) (omega arith))) in
-      let z = before_block k (block m i) (number w) (subst (λ x. block m x < k) (let y : i + 0 ≡ i = omega arith in y) (f 0 (omega arith) (omega arith))) in
-      let q = ap (λ x. weight k (block m x) (number work)) (let y : suc i + child ≡ i + suc child = omega arith in y) in
-      omega arith
-
-  enough : ((w : N.Work) → 1 ≤ number w) → (m : N.Method) (k : ℕ) → IsLeftOut N block number m k ⊎ (block_number N block number m k ≤ number (N.head m)) → block_number N block number m k ≤ number (N.head m)
-  enough law_positive m k (inr h) = h
-  enough law_positive m k (inl o) =
-      let a = alone m k 0 o.child o.work (N.works m) o.is (λ j l n. subst (λ x. block m x < k) (let y : j ≡ 0 + j = omega arith in y) (o.alone j l n)) in
-      let b = small k (block m (0 + o.child)) (number o.work) (law_positive o.work) in
-      let c = o.small in
-      omega arith
-
   module _ (tree : Tree N) (taken : List Address) where
     -- how many are pending at p or below
     abbrev mutual
@@ -105,9 +62,9 @@ module _ (N : Net) (block : N.Method → ℕ → ℕ) (number : N.Work → ℕ) 
       some_child : (p : Address) (i : ℕ) (ts : Trees N) → ((j : ℕ) → at N tree ((i + j) ∷ p) ≡ child_at N ts j) → 0 < pending_below_all p i ts → (u : Address) × IsBelow p u × IsAddress N tree u × (Contains taken u → ⊥)
       some_child p i none a l = absurd (omega arith)
       some_child p i (more t ts) a l = elim (by_size 0 (pending_below (i ∷ p) t)) [
-          inl x ↦ (let h = some_left (i ∷ p) t (subst (λ z. at N tree (z ∷ p) ≡ Some t) (let y : i + 0 ≡ i = omega arith in y) (a 0)) x in (h.0, below_up i p h.0 h.1, h.2, h.3))
+        | inl x ↦ (let h = some_left (i ∷ p) t (subst (λ z. at N tree (z ∷ p) ≡ Some t) (let y : i + 0 ≡ i = omega arith in y) (a 0)) x in (h.0, below_up i p h.0 h.1, h.2, h.3))
         | inr x ↦ some_child p (suc i) ts (λ j. subst (λ z. at N tree (z ∷ p) ≡ child_at N ts j) (let y : i + suc j ≡ suc i + j = omega arith in y) (a (suc j))) (elim x [ inl e ↦ omega arith | inr e ↦ absurd (omega arith) ])
-        ]
+      ]
 
     -- the least_block block with something pending
     abbrev IsLeastBlock : N.Method → Address → ℕ → Trees N → Type 0
@@ -119,10 +76,13 @@ module _ (N : Net) (block : N.Method → ℕ → ℕ) (number : N.Work → ℕ) 
       where
         first : (j : ℕ) → i + suc j ≡ suc i + j
         first j = omega arith
+
         none_yet : i + 0 ≡ i
         none_yet = omega arith
+
         later : (j : ℕ) → IsLeastBlock m p (suc i) ts → IsLeastBlock m p (suc i) ts
         later j h = h
+
         go : (0 < pending_below (i ∷ p) t) ⊎ ((0 ≡ pending_below (i ∷ p) t) ⊎ (pending_below (i ∷ p) t < 0)) → (pending_below_all p (suc i) ts ≡ 0) ⊎ IsLeastBlock m p (suc i) ts → (pending_below (i ∷ p) t + pending_below_all p (suc i) ts ≡ 0) ⊎ IsLeastBlock m p i (more t ts)
         go (inr (inr x)) h = absurd (omega arith)
         go (inr (inl x)) (inl z) = inl (omega arith)
@@ -137,6 +97,7 @@ module _ (N : Net) (block : N.Method → ℕ → ℕ) (number : N.Work → ℕ) 
             sum_zero i' none e k s c = absurd cc
             sum_zero i' (more u us) e zero s c = let y : u ≡ s = cc in subst (λ z. pending_below (z ∷ p) s ≡ 0) (let q : i' ≡ i' + 0 = omega arith in q) (subst (λ z. pending_below (i' ∷ p) z ≡ 0) y (omega arith))
             sum_zero i' (more u us) e (suc k) s c = subst (λ z. pending_below (z ∷ p) s ≡ 0) (let q : suc i' + k ≡ i' + suc k = omega arith in q) (sum_zero (suc i') us (omega arith) k s c)
+
             others : (k : ℕ) (s : Tree N) → child_at N (more t ts) k ≡ Some s → 0 < pending_below ((i + k) ∷ p) s → block m (i + 0) ≤ block m (i + k)
             others zero s e q = omega arith
             others (suc k) s e q = absurd (let y = sum_zero (suc i) ts z k s e in let w = subst (λ z. 0 < pending_below (z ∷ p) s) (first k) q in omega arith)
@@ -152,6 +113,7 @@ module _ (N : Net) (block : N.Method → ℕ → ℕ) (number : N.Work → ℕ) 
               where
                 small : block m i ≤ block m (suc i + j)
                 small = elim y [ inl e ↦ omega arith | inr e ↦ omega arith ]
+
                 others : (k : ℕ) (s : Tree N) → child_at N (more t ts) k ≡ Some s → 0 < pending_below ((i + k) ∷ p) s → block m (i + 0) ≤ block m (i + k)
                 others zero s e q = omega arith
                 others (suc k) s e q = subst (λ z. block m z ≤ block m (i + suc k)) (sym none_yet) (subst (λ z. block m i ≤ block m z) (sym (first k)) (let r = f k s e (subst (λ z. 0 < pending_below (z ∷ p) s) (first k) q) in omega (arith, small)))
@@ -164,7 +126,7 @@ module _ (N : Net) (block : N.Method → ℕ → ℕ) (number : N.Work → ℕ) 
         let r = sums m k p (suc i) ts (λ j s e. subst (λ z. pending_below (z ∷ p) s ≤ weight k (block m z) (number (work_of N s))) (let q : i + suc j ≡ suc i + j = omega arith in q) (f (suc j) s e)) in
         add-le-add a r
 
-    module _ (law : IsBound N block number) (closed : IsClosed N tree taken) where
+    module _ (top : N.Work) (law : IsBound N block number top) (reached : (p : Address) (t : Tree N) → at N tree p ≡ Some t → IsReached N top (work_of N t)) (closed : IsClosed N tree taken) where
       child_in : (ts : Trees N) (j : ℕ) (t : Tree N) → child_at N ts j ≡ Some t → j < length (works_of N ts)
       child_in none j t e = absurd cc
       child_in (more u ts) zero t e = omega arith
@@ -172,12 +134,12 @@ module _ (N : Net) (block : N.Method → ℕ → ℕ) (number : N.Work → ℕ) 
 
       mutual
         pub bounded : (p : Address) (t : Tree N) → at N tree p ≡ Some t → IsGrown N t → pending_below p t ≤ number (work_of N t)
-        bounded p (open_leaf w) a g = let b = law.positive w in leaf (is_among taken p) (number w) b
+        bounded p (open_leaf w) a g = let b = law.positive w (reached p (open_leaf w) a) in leaf (is_among taken p) (number w) b
           where
             leaf : (c : Bool) (x : ℕ) → 1 ≤ x → cond c 0 1 ≤ x
             leaf true x l = omega arith
             leaf false x l = l
-        bounded p (done w) a g = let b = law.positive w in leaf (is_among taken p) (number w) b
+        bounded p (done w) a g = let b = law.positive w (reached p (done w) a) in leaf (is_among taken p) (number w) b
           where
             leaf : (c : Bool) (x : ℕ) → 1 ≤ x → cond c 0 1 ≤ x
             leaf true x l = omega arith
@@ -185,30 +147,35 @@ module _ (N : Net) (block : N.Method → ℕ → ℕ) (number : N.Work → ℕ) 
         bounded p (split m ts) a g = node (is_among taken p) (each p 0 ts (λ j. subst (λ z. at N tree (z ∷ p) ≡ child_at N ts j) (let x : j ≡ 0 + j = omega arith in x) (child_below N tree j p m ts a)) g.2)
           where
             node : (c : Bool) → ((j : ℕ) (t : Tree N) → child_at N ts j ≡ Some t → pending_below ((0 + j) ∷ p) t ≤ number (work_of N t)) → cond c (pending_below_all p 0 ts) 1 ≤ number (N.head m)
-            node false ih = law.positive (N.head m)
+            node false ih = law.positive (N.head m) (reached p (split m ts) a)
             node true ih = go (least_block m p 0 ts)
               where
                 zero-plus : (j : ℕ) → 0 + j ≡ j
                 zero-plus j = omega arith
+
                 is_child_at : (j : ℕ) (t : Tree N) → child_at N ts j ≡ Some t → at N tree (j ∷ p) ≡ Some t
                 is_child_at j t e = child_below N tree j p m ts a ∙ e
+
                 within : (j : ℕ) (t : Tree N) → child_at N ts j ≡ Some t → j < count N m
                 within j t e = subst (λ z. j < length z) g.1 (child_in ts j t e)
+
                 go : (pending_below_all p 0 ts ≡ 0) ⊎ IsLeastBlock m p 0 ts → pending_below_all p 0 ts ≤ number (N.head m)
-                go (inl z) = let b = law.positive (N.head m) in omega arith
+                go (inl z) = let b = law.positive (N.head m) (reached p (split m ts) a) in omega arith
                 go (inr (j, t, c, l, f)) =
                     let s = sums m (block m j) p 0 ts weigh in
-                    let e : block_number N block number m (block m j) ≤ number (N.head m) = enough law.positive m (block m j) (law.enough m (block m j) g.0) in
+                    let e : block_number N block number m (block m j) ≤ number (N.head m) = enough_for_all N block number top law m j g.0 (reached p (split m ts) a) (within j t c) in
                     let q = ap (λ z. weights N block number m (block m j) 0 z) g.1 in
                     omega arith
                   where
                     left : (u : Address) × IsBelow (j ∷ p) u × IsAddress N tree u × (Contains taken u → ⊥)
                     left = some_left (j ∷ p) t (is_child_at j t c) (subst (λ z. 0 < pending_below (z ∷ p) t) (zero-plus j) l)
+
                     weigh : (k : ℕ) (s : Tree N) → child_at N ts k ≡ Some s → pending_below ((0 + k) ∷ p) s ≤ weight (block m j) (block m (0 + k)) (number (work_of N s))
                     weigh k s e = subst (λ z. pending_below (z ∷ p) s ≤ weight (block m j) (block m z) (number (work_of N s))) (sym (zero-plus k)) (pick (by_size (block m k) (block m j)))
                       where
                         fk : 0 < pending_below (k ∷ p) s → block m j ≤ block m k
                         fk q = subst (λ z. block m z ≤ block m k) (zero-plus j) (subst (λ z. block m (0 + j) ≤ block m z) (zero-plus k) (f k s e (subst (λ z. 0 < pending_below (z ∷ p) s) (sym (zero-plus k)) q)))
+
                         pick : (block m k < block m j) ⊎ ((block m k ≡ block m j) ⊎ (block m j < block m k)) → pending_below (k ∷ p) s ≤ weight (block m j) (block m k) (number (work_of N s))
                         pick (inl x) = elim (by_size 0 (pending_below (k ∷ p) s)) [ inl q ↦ absurd (let r = fk q in omega arith) | inr q ↦ elim q [ inl r ↦ omega arith | inr r ↦ absurd (omega arith) ] ]
                         pick (inr (inl x)) = let r = at_block (block m j) (block m k) (number (work_of N s)) x in let y = subst (λ z. pending_below (z ∷ p) s ≤ number (work_of N s)) (zero-plus k) (ih k s e) in omega arith
@@ -279,12 +246,27 @@ module _ (N : Net) (block : N.Method → ℕ → ℕ) (number : N.Work → ℕ) 
     where
       at_cut : (v : Address) → Contains taken v → (xs : List Address) × (ys : List Address) × (taken ≡ xs ++ v ∷ ys) × IsDue N tree xs v
       at_cut v c = let (xs, ys, f) = cut_at taken v c in (xs, ys, f, s.due xs (ys ++ rest) v (e ∙ ap (λ z. z ++ rest) f ∙ append_assoc xs (v ∷ ys) rest))
+
       Contains-whole : {u v : Address} → (h : (xs : List Address) × (ys : List Address) × (taken ≡ xs ++ v ∷ ys) × IsDue N tree xs v) → Contains h.0 u → Contains taken u
       Contains-whole {u} {v} h c = subst (λ z. Contains z u) (sym h.2) (Contains-append_left h.0 (v ∷ h.1) u c)
 
-  -- no schedule of any front has more pending than the root's number
-  pub bound_holds : IsBound N block number → (tree : Tree N) (order : List Address) → IsGrown N tree → IsSchedule N tree order → IsWithin N (number (work_of N tree)) tree order
-  bound_holds law tree order g s = (within_iff N (number (work_of N tree)) tree order).1 (λ taken rest e.
-      (let c = closed_at tree order taken rest s e in
+  child_work : (ts : Trees N) (i : ℕ) (t : Tree N) → child_at N ts i ≡ Some t → slice_get (works_of N ts) i ≡ Some (work_of N t)
+  child_work none i t e = absurd cc
+  child_work (more u ts) zero t e = let f : u ≡ t = cc in ap (λ z. Some (work_of N z)) f
+  child_work (more u ts) (suc i) t e = child_work ts i t e
+
+  -- each node's work is reached from the root's
+  reached_at : (tree : Tree N) → IsGrown N tree → (p : Address) (t : Tree N) → at N tree p ≡ Some t → IsReached N (work_of N tree) (work_of N t)
+  reached_at tree g [] t e = subst (λ z. IsReached N (work_of N tree) (work_of N z)) (let f : tree ≡ t = cc in f) itself
+  reached_at tree g (i ∷ p) t e =
+      let (m, ts, a, c) = parent N tree i p t e in
+      let h = grown_at N tree p (split m ts) g a in
+      as_child m i h.0 (reached_at tree g p (split m ts) a) (sym (ap (λ z. slice_get z i) h.1) ∙ child_work ts i t c)
+
+  -- no schedule of any front has more pending than the top work's number
+  pub bound_holds : (top : N.Work) → IsBound N block number top → (tree : Tree N) (order : List Address) → IsFront N top tree order → IsWithin N (number top) tree order
+  bound_holds top law tree order f = (within_iff N (number top) tree order).1 (λ taken rest e.
+      (let c = closed_at tree order taken rest f.schedule e in
       let a = few tree taken c.parents [] tree in
-      let b = bounded tree taken law c [] tree refl g in omega arith))
+      let b = bounded tree taken top law (λ p t h. subst (λ z. IsReached N z (work_of N t)) f.root (reached_at tree f.grown p t h)) c [] tree refl f.grown in
+      let d = ap number f.root in omega arith))

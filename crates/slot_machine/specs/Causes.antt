@@ -1,11 +1,11 @@
 -- What an act asks, said of the front.
-use Rattle.std.specs.Prelude.{ℕ, ◌≡◌, ◌≤◌, List, length, Contains, Some}
+use Rattle.std.specs.Prelude.{ℕ, ◌≡◌, List, length, Contains, Some}
 use Rattle.task_networks.specs.Net.{Net}
 use Rattle.task_networks.specs.Tree.{Tree, waits, Address, label_at, IsOpen}
 use Rattle.task_networks.specs.Schedule.{MustPrecede}
 use Rattle.task_networks.specs.Pending.{AreDifferent}
 use Rattle.task_networks.specs.Spelling.{Act, run, apply, others}
-use Rattle.slot_machine.specs.Reached.{HasLeaf, IsLeft}
+use Rattle.slot_machine.specs.Reached.{IsLeft}
 
 -- another open leaf must come before the one at p
 abbrev pub IsWaiting : (N : Net) → Tree N → Address → Type 0

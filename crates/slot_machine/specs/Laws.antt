@@ -1,8 +1,7 @@
 -- What is proved of the machine of slots, for every lawful network, number of slots and top work.
-use Rattle.std.specs.Prelude.{ℕ, ◌≡◌, ◌≤◌, ◌↔◌, List, [], ◌∷◌, ◌++◌, map}
+use Rattle.std.specs.Prelude.{ℕ, ◌≡◌, ◌≤◌, ◌↔◌, List, map}
 use Rattle.task_networks.specs.Net.{Net}
-use Rattle.task_networks.specs.Tree.{Tree, Label, Address, work_of, IsGrown}
-use Rattle.task_networks.specs.Schedule.{IsSchedule}
+use Rattle.task_networks.specs.Tree.{Tree, Label, Address, IsOpen}
 use Rattle.task_networks.specs.Pending.{IsWithin}
 use Rattle.task_networks.specs.Front.{IsFront}
 use Rattle.task_networks.specs.Executable.{AreLabels, AreAllowed, last_state, IsExecutable, IsSolution}
@@ -12,7 +11,6 @@ use Rattle.slot_machine.specs.Machine.{State, start, IsUnblocked, May, Runs, end
 use Rattle.slot_machine.specs.Reached.{SameSlots, HasLeaf, IsLeft, Tells}
 use Rattle.slot_machine.specs.Causes.{IsWaiting, Can}
 use Rattle.slot_machine.specs.OtherMachine.{AreSame, TakesAll, AgreesAtFronts}
-use Rattle.task_networks.specs.Tree.{IsOpen}
 
 module _ (N : Net) where
   -- the acts spell some front
@@ -25,8 +23,10 @@ module _ (N : Net) where
 
   -- tree and order are the only ones, and so are the slots on all addresses
   abbrev pub FrontIsTheOnlyOne : Type 0
-  FrontIsTheOnlyOne = (b : ℕ) (top : N.Work) (acts : List (Act N)) (t : Tree N) (o : List Address) (f : Address → ℕ) (t' : Tree N) (o' : List Address) (f' : Address → ℕ)
-      → Spells N b top acts t o f → Spells N b top acts t' o' f' → (t' ≡ t) × (o' ≡ o) × SameSlots N t f f'
+  FrontIsTheOnlyOne = (b : ℕ) (top : N.Work) (acts : List (Act N)) (tree : Tree N) (order : List Address) (slot : Address → ℕ)
+      (other_tree : Tree N) (other_order : List Address) (other_slot : Address → ℕ)
+      → Spells N b top acts tree order slot → Spells N b top acts other_tree other_order other_slot
+      → (other_tree ≡ tree) × (other_order ≡ order) × SameSlots N tree slot other_slot
 
   -- after the run the state tells the front
   abbrev pub StateTellsFront : Type 0
@@ -38,11 +38,11 @@ module _ (N : Net) where
   FewPendingHaveSpellings = (b : ℕ) (top : N.Work) (tree : Tree N) (order : List Address) → IsFront N top tree order
       → IsWithin N b tree order ↔ ((acts : List (Act N)) × (slot : Address → ℕ) × Spells N b top acts tree order slot)
 
-  -- what the machine tests at a slot says of the front that it holds this work, and that a pending work stands before it;
-  -- what it tests of a new slot, that it is left; and an act may be taken exactly where all of these allow it
+  -- what the machine tests, said of the front: that a slot holds a work; that a pending work stands before it;
+  -- that a new slot is left; and of an act all that it asks, with the constraints and types of a method
   pub record TestsTellCauses (b : ℕ) (s : State N) (tree : Tree N) (slot : Address → ℕ) : Type 0 where
     pub holds : (x : ℕ) (w : N.Work) → s.holds x w ↔ HasLeaf N tree slot x w
-    pub waits : (p : Address) → IsOpen N tree p → IsUnblocked N s (slot p) ↔ (IsWaiting N tree p → ⊥)
+    pub unblocked : (p : Address) → IsOpen N tree p → IsUnblocked N s (slot p) ↔ (IsWaiting N tree p → ⊥)
     pub left : (x : ℕ) → s.free x ↔ IsLeft N tree slot b x
     pub may : (a : Act N) → May N s a ↔ Can N tree slot b a
 
@@ -58,12 +58,13 @@ module _ (N : Net) where
   -- another machine that agrees at fronts takes exactly the spelled fronts, and its state says the same then
   abbrev pub OtherTakesFronts : (List (Act N) → State N) → (List (Act N) → Act N → Type 0) → Type 0
   OtherTakesFronts read Takes = (b : ℕ) (top : N.Work) → 1 ≤ b → AgreesAtFronts N read Takes b top
-      → (acts : List (Act N)) → (TakesAll N read Takes acts ↔ SpellsFront b top acts) × (SpellsFront b top acts → AreSame N (read acts) (end_of N (start N b top) acts))
+      → (acts : List (Act N)) → (TakesAll N Takes acts ↔ SpellsFront b top acts)
+      × (SpellsFront b top acts → AreSame N (read acts) (end_of N (start N b top) acts))
 
-  -- no schedule of any front has more pending than the root's number
+  -- no schedule of any front has more pending than the top work's number
   abbrev pub WidthIsBounded : Type 0
-  WidthIsBounded = (block : N.Method → ℕ → ℕ) (number : N.Work → ℕ) → IsBound N block number
-      → (tree : Tree N) (order : List Address) → IsGrown N tree → IsSchedule N tree order → IsWithin N (number (work_of N tree)) tree order
+  WidthIsBounded = (block : N.Method → ℕ → ℕ) (number : N.Work → ℕ) (top : N.Work) → IsBound N block number top
+      → (tree : Tree N) (order : List Address) → IsFront N top tree order → IsWithin N (number top) tree order
 
 -- an execution: what a label asks of the state before it, and the state after it
 module _ (N : Net) (State : Type 1) (Allows : State → Label N → Type 0) (next : State → Label N → State) (first : State) (Goal : State → Type 0) where
@@ -77,7 +78,8 @@ module _ (N : Net) (State : Type 1) (Allows : State → Label N → Type 0) (nex
   -- executable runs are the spelled fronts that are executable
   abbrev pub RunsAreExecutableFronts : Type 0
   RunsAreExecutableFronts = (b : ℕ) (top : N.Work) (acts : List (Act N)) → 1 ≤ b
-      → IsExecutableRun b top acts ↔ ((tree : Tree N) × (order : List Address) × (slot : Address → ℕ) × Spells N b top acts tree order slot × IsExecutable N State Allows next first tree order)
+      → IsExecutableRun b top acts ↔ ((tree : Tree N) × (order : List Address) × (slot : Address → ℕ) × Spells N b top acts tree order slot
+      × IsExecutable N State Allows next first tree order)
 
   -- a plan: an executable run after which all slots are free, and the goal is true
   pub record IsPlan (b : ℕ) (top : N.Work) (acts : List (Act N)) : Type 0 where
@@ -88,4 +90,5 @@ module _ (N : Net) (State : Type 1) (Allows : State → Label N → Type 0) (nex
   -- plans are the spelled solutions
   abbrev pub PlansAreSpelledSolutions : Type 0
   PlansAreSpelledSolutions = (b : ℕ) (top : N.Work) (acts : List (Act N)) → 1 ≤ b
-      → IsPlan b top acts ↔ ((tree : Tree N) × (order : List Address) × (slot : Address → ℕ) × Spells N b top acts tree order slot × IsSolution N State Allows next top first Goal tree order)
+      → IsPlan b top acts ↔ ((tree : Tree N) × (order : List Address) × (slot : Address → ℕ) × Spells N b top acts tree order slot
+      × IsSolution N State Allows next top first Goal tree order)

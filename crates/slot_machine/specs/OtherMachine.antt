@@ -11,11 +11,12 @@ pub record AreSame (N : Net) (s t : State N) : Type 0 where
   pub free : (x : ℕ) → s.free x ↔ t.free x
   pub before : (x y : ℕ) → s.before x y ↔ t.before x y
 
-module _ (N : Net) (read : List (Act N) → State N) (Takes : List (Act N) → Act N → Type 0) where
-  -- `read acts` is what its state after these acts says of the slots, and it takes each act after those before it
-  abbrev pub TakesAll : List (Act N) → Type 0
-  TakesAll acts = (taken rest : List (Act N)) (a : Act N) → acts ≡ taken ++ a ∷ rest → Takes taken a
+-- it takes each act after those before it
+abbrev pub TakesAll : (N : Net) → (List (Act N) → Act N → Type 0) → List (Act N) → Type 0
+TakesAll N Takes acts = (taken rest : List (Act N)) (a : Act N) → acts ≡ taken ++ a ∷ rest → Takes taken a
 
+-- `read acts` is what its state after these acts says of the slots
+module _ (N : Net) (read : List (Act N) → State N) (Takes : List (Act N) → Act N → Type 0) where
   -- after acts that spell a front, where its state says what the slot machine's does,
   -- it takes the same acts, and its state says what the slot machine's does after one
   pub record AgreesAtFronts (b : ℕ) (top : N.Work) : Type 0 where

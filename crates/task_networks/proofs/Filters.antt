@@ -1,5 +1,5 @@
 -- What a filter keeps.
-use Rattle.std.proofs.Common.{ℕ, zero, suc, ◌≡◌, ◌⊎◌, inl, inr, List, [], ◌∷◌, filter, Bool, true, false, cond, refl, ap, sym, subst, ◌∙◌, Contains, arith}
+use Rattle.std.proofs.Common.{◌≡◌, ◌⊎◌, inl, inr, List, [], ◌∷◌, filter, Bool, true, false, cond, refl, ap, subst, Contains, arith}
 use Rattle.task_networks.specs.Pending.{AreDifferent}
 use Rattle.task_networks.proofs.Lists.{not-in_empty, head_or_tail, Contains-later}
 

@@ -7,5 +7,12 @@ pub mod Addresses
 pub mod Nodes
 pub mod PendingNodes
 pub mod ScheduleLaws
+pub mod BoundLaws
+pub mod StrataLaws
 pub mod Tests
+pub mod SpellingTests
+pub mod ExampleNets
 mod OrderExamples
+mod ScheduleExamples
+mod SpellingExamples
+mod BoundExamples

@@ -1,5 +1,5 @@
 -- The numbers from one on.
-use Rattle.std.proofs.Common.{ℕ, zero, suc, ◌≡◌, ◌≢◌, ◌+◌, ◌<◌, ◌≤◌, ◌⊎◌, inl, inr, List, [], ◌∷◌, length, refl, ap, sym, subst, ◌∙◌, Contains, arith}
+use Rattle.std.proofs.Common.{ℕ, zero, suc, ◌≡◌, ◌+◌, ◌<◌, ◌≤◌, inl, inr, length, refl, ap, Contains, arith}
 use Rattle.std.proofs.Math.Decide.{ℕ_discrete}
 use Rattle.task_networks.specs.Pending.{AreDifferent}
 use Rattle.task_networks.specs.Spelling.{numbers}

@@ -1,5 +1,5 @@
 -- Chains of pairs.
-use Rattle.std.proofs.Common.{ℕ, zero, suc, ◌≡◌, ◌≢◌, ◌+◌, ◌<◌, ◌≤◌, ◌⊎◌, inl, inr, List, [], ◌∷◌, length, Option, Some, None, refl, ap, sym, subst, ◌∙◌, Contains, arith}
+use Rattle.std.proofs.Common.{ℕ, zero, suc, ◌≡◌, ◌+◌, ◌<◌, ◌⊎◌, inl, inr, List, [], ◌∷◌, length, Option, Some, None, refl, ap, sym, subst, ◌∙◌, Contains, arith}
 use Rattle.std.proofs.Math.Decide.{ℕ_discrete}
 use Rattle.task_networks.specs.Order.{Precedes, direct, through, ArePairsOf, Among, IsAcyclic, IsMaximal}
 use Rattle.task_networks.specs.Net.{count}
@@ -66,8 +66,10 @@ module _ (count : ℕ) (Pair : ℕ → ℕ → Type 0) (within : ArePairsOf Pair
     where
       earlier : (j : ℕ) → Pair i j → (p : ℕ) → Contains (i ∷ seen) p → (p < count) × Precedes Pair p j
       earlier j e p c = elim (head_or_tail i seen p c) [ inl x ↦ subst (λ z. (z < count) × Precedes Pair z j) x (l, direct e) | inr x ↦ ((f p x).0, through (f p x).1 e) ]
+
       new : (j : ℕ) → Pair i j → Contains (i ∷ seen) j → ⊥
       new j e c = acyclic j (earlier j e j c).1
+
       step : (j : ℕ) → Pair i j → Ends j ⊎ ((c : ℕ) × Precedes Pair j c × Ends c) → (c : ℕ) × Precedes Pair i c × Ends c
       step j e (inl m) = (j, direct e, m)
       step j e (inr (c, g, m)) = (c, precedes_then i j c (direct e) g, m)
@@ -82,6 +84,6 @@ module _ (count : ℕ) (Pair : ℕ → ℕ → Type 0) (within : ArePairsOf Pair
 
   pub maximal_above : (i : ℕ) → i < count → IsMaximal Pair count i ⊎ ((c : ℕ) × Precedes Pair i c × IsMaximal Pair count c)
   maximal_above i l = elim (walk count i [] (omega arith) l (not-in_empty i, tt) (λ p c. absurd (not-in_empty p c))) [
-      inl e ↦ inl (maximal i l e)
+    | inl e ↦ inl (maximal i l e)
     | inr x ↦ inr (x.0, x.1, maximal x.0 (precedes_within count i x.0 within x.1).1 x.2)
-    ]
+  ]

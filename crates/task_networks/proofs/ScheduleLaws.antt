@@ -1,7 +1,6 @@
 -- Laws of orders and schedules.
-use Rattle.std.proofs.Common.{ℕ, zero, suc, ◌≡◌, ◌≢◌, ◌<◌, ◌≤◌, ◌⊎◌, ◌↔◌, inl, inr, List, [], ◌∷◌, ◌++◌, length, Some, refl, ap, sym, subst, ◌∙◌, Contains, arith, append_assoc, append-nil}
-use Rattle.std.proofs.lemmas.List.Elements.{Contains-append_left, Contains-push}
-use Rattle.std.proofs.Math.Decide.{ℕ_discrete}
+use Rattle.std.proofs.Common.{ℕ, ◌≡◌, ◌⊎◌, inl, inr, List, [], ◌∷◌, ◌++◌, Some, refl, ap, sym, subst, ◌∙◌, Contains, arith, append_assoc, append-nil}
+use Rattle.std.proofs.lemmas.List.Elements.{Contains-append_left}
 use Rattle.task_networks.specs.Order.{IsNext, IsLine, IsMaximal}
 use Rattle.task_networks.specs.Net.{count, Net}
 use Rattle.task_networks.specs.Lawful.{TakesOver}
@@ -35,13 +34,13 @@ module _ (N : Net) where
 
   pub prepared_is_lawful : PreparedIsLawful N
   prepared_is_lawful h = record {
-      pairs = h.pairs;
-      acyclic = h.acyclic;
-      has_heir = h.has_heir;
-      heir_is_child = λ m i e. (let (others, line) = h.heir_is m i e in (line.each others [] i refl).ready.child);
-      copier_is_child = λ m i c. ((h.copiers m i).0 c).0.0;
-      covered = λ m i l. elim (maximal_above (count N m) (N.Pair m) (h.pairs m) (h.next m) (h.acyclic m) i l) [ inl x ↦ inl (takes m i x) | inr x ↦ inr (x.0, x.1, takes m x.0 x.2) ];
-    }
+    pairs = h.pairs;
+    acyclic = h.acyclic;
+    has_heir = h.has_heir;
+    heir_is_child = λ m i e. (let (others, line) = h.heir_is m i e in (line.each others [] i refl).ready.child);
+    copier_is_child = λ m i c. ((h.copiers m i).0 c).0.0;
+    covered = λ m i l. elim (maximal_above (count N m) (N.Pair m) (h.pairs m) (h.next m) (h.acyclic m) i l) [ inl x ↦ inl (takes m i x) | inr x ↦ inr (x.0, x.1, takes m x.0 x.2) ];
+  }
     where
       takes : (m : N.Method) (i : ℕ) → IsMaximal (N.Pair m) (count N m) i → TakesOver N m i
       takes m i x = elim (is_some (N.heir m) i) [ yes e ↦ inl e | no n ↦ inr ((h.copiers m i).1 (x, n)) ]
@@ -66,18 +65,19 @@ module _ (N : Net) where
       let (before, after, f) = cut_at taken v (s.due taken rest (k ∷ v) e).begun in
       let g : order ≡ before ++ v ∷ (after ++ (k ∷ v) ∷ rest) = e ∙ ap (λ x. x ++ (k ∷ v) ∷ rest) f ∙ append_assoc before (v ∷ after) ((k ∷ v) ∷ rest) in
       inr (elim (ancestors_before tree order s c v b before (after ++ (k ∷ v) ∷ rest) g) [
-          inl x ↦ subst (Contains taken) (sym x) (s.due taken rest (k ∷ v) e).begun
+        | inl x ↦ subst (Contains taken) (sym x) (s.due taken rest (k ∷ v) e).begun
         | inr x ↦ subst (λ z. Contains z c) (sym f) (Contains-append_left before (v ∷ after) c x)
-        ])
+      ])
 
   pub earlier_subtrees_stand_before : EarlierSubtreesStandBefore N
   earlier_subtrees_stand_before tree order taken rest q m i j u v s e used_q pr below a d = ((s.covers u).0 (subst (λ z. Contains z u) (sym e) (Contains-append_left taken (v ∷ rest) u before)), before)
     where
       clear : (seen left : List Address) → order ≡ seen ++ (j ∷ q) ∷ left → Contains seen u
       clear seen left f = (s.due seen left (j ∷ q) f).clear u a (m, i, used_q, pr, below)
+
       before : Contains taken u
       before = elim (ancestors_before tree order s (j ∷ q) v d taken rest e) [
-          inl f ↦ clear taken rest (subst (λ z. order ≡ taken ++ z ∷ rest) (sym f) e)
+        | inl f ↦ clear taken rest (subst (λ z. order ≡ taken ++ z ∷ rest) (sym f) e)
         | inr c ↦ (let (seen, left, f) = cut_at taken (j ∷ q) c in
             subst (λ z. Contains z u) (sym f) (Contains-append_left seen ((j ∷ q) ∷ left) u (clear seen (left ++ v ∷ rest) (e ∙ ap (λ x. x ++ v ∷ rest) f ∙ append_assoc seen ((j ∷ q) ∷ left) (v ∷ rest)))))
-        ]
+      ]

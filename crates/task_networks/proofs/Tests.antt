@@ -1,5 +1,5 @@
 -- Schedules tested by computation, where the order of the children is decided.
-use Rattle.std.proofs.Common.{ℕ, zero, suc, ◌≡◌, ◌≢◌, ◌+◌, ◌<◌, ◌≤◌, ◌⊎◌, ◌↔◌, inl, inr, List, [], ◌∷◌, ◌++◌, Bool, true, false, not, ◌&&◌, ◌||◌, Option, Some, None, refl, ap, sym, subst, ◌∙◌, Contains, arith, append_assoc, append-nil}
+use Rattle.std.proofs.Common.{ℕ, ◌≡◌, ◌↔◌, inl, inr, List, [], ◌∷◌, ◌++◌, Bool, true, false, not, ◌&&◌, ◌||◌, Option, Some, None, refl, ap, sym, subst, ◌∙◌, Contains, arith, append_assoc, append-nil}
 use Rattle.std.specs.List.{list_any, list_all}
 use Rattle.task_networks.specs.Order.{ArePairsOf, Precedes}
 use Rattle.task_networks.specs.Net.{Net, count}
@@ -42,9 +42,9 @@ any_to test (y ∷ xs) e = elim (either (test y) (list_any test xs) e) [ inl h �
 pub to_any : {A : Type 0} (test : A → Bool) (xs : List A) (x : A) → Contains xs x → test x ≡ true → list_any test xs ≡ true
 to_any test [] x c e = absurd (not-in_empty x c)
 to_any test (y ∷ xs) x c e = elim (head_or_tail y xs x c) [
-    inl f ↦ ap (λ b. b || list_any test xs) (subst (λ z. test z ≡ true) (sym f) e)
+  | inl f ↦ ap (λ b. b || list_any test xs) (subst (λ z. test z ≡ true) (sym f) e)
   | inr d ↦ second (test y) (list_any test xs) (to_any test xs x d e)
-  ]
+]
   where
     second : (a b : Bool) → b ≡ true → (a || b) ≡ true
     second true b f = refl
@@ -135,6 +135,7 @@ module _ (N : Net) (precedes : N.Method → ℕ → ℕ → Bool) where
       where
         clear : Address → Bool
         clear u = not (blocks tree u v) || is_among taken u
+
         to : is_due tree taken v ≡ true → IsDue N tree taken v
         to e =
             let (fresh, rest) = both (not (is_among taken v)) (is_begun taken v && list_all clear (nodes_at N [] tree)) e in
@@ -144,10 +145,11 @@ module _ (N : Net) (precedes : N.Method → ℕ → ℕ → Bool) where
               begun = (begun_iff taken v).0 begun;
               clear = λ u a b. among_to taken u (implied (blocks tree u v) (is_among taken u) (all_to clear (nodes_at N [] tree) each u (lists_address N tree u a)) (to_blocks u v b));
             }
+
         from : IsDue N tree taken v → is_due tree taken v ≡ true
         from d = both_true (not (is_among taken v)) (is_begun taken v && list_all clear (nodes_at N [] tree)) (to_not (is_among taken v) (λ e. d.fresh (among_to taken v e)))
             (both_true (is_begun taken v) (list_all clear (nodes_at N [] tree)) ((begun_iff taken v).1 d.begun)
-              (to_all clear (nodes_at N [] tree) (λ u c. implies (blocks tree u v) (is_among taken u) (λ b. to_among taken u (d.clear u (nodes N tree tree [] u refl c) (blocks_to u v b))))))
+            (to_all clear (nodes_at N [] tree) (λ u c. implies (blocks tree u v) (is_among taken u) (λ b. to_among taken u (d.clear u (nodes N tree tree [] u refl c) (blocks_to u v b))))))
 
     dues_to : (taken order : List Address) → are_due tree taken order ≡ true → (more rest : List Address) (v : Address) → order ≡ more ++ v ∷ rest → IsDue N tree (taken ++ more) v
     dues_to taken [] e [] rest v f = absurd cc
@@ -173,6 +175,7 @@ module _ (N : Net) (precedes : N.Method → ℕ → ℕ → Bool) where
         to (Some (waits w)) f e = absurd cc
         to (Some (ran w)) f e = (ran w, f, tt)
         to (Some (used m)) f e = (used m, f, tt)
+
         from : (l : Label N) → label_at N tree p ≡ Some l → IsTaken N l → is_taken (label_at N tree p) ≡ true
         from (waits w) f t = absurd t
         from (ran w) f t = ap is_taken f
@@ -184,19 +187,24 @@ module _ (N : Net) (precedes : N.Method → ℕ → ℕ → Bool) where
       where
         done : Address → Bool
         done p = is_taken (label_at N tree p)
+
         listed : Address → Bool
         listed p = not (is_taken (label_at N tree p)) || is_among order p
+
         to : is_schedule tree order ≡ true → IsSchedule N tree order
         to e =
             let (cover, dues) = both (covers tree order) (are_due tree [] order) e in
             let (there, all) = both (list_all done order) (list_all listed (nodes_at N [] tree)) cover in
             record {
-              covers = λ p. (λ c. (taken_iff p).0 (all_to done order there p c),
-                  λ h. among_to order p (implied (done p) (is_among order p) (all_to listed (nodes_at N [] tree) all p (lists_address N tree p (h.0, h.1))) ((taken_iff p).1 h)));
+              covers = λ p. (
+                λ c. (taken_iff p).0 (all_to done order there p c),
+                λ h. among_to order p (implied (done p) (is_among order p) (all_to listed (nodes_at N [] tree) all p (lists_address N tree p (h.0, h.1))) ((taken_iff p).1 h)),
+              );
               due = λ taken rest p f. dues_to [] order dues taken rest p f;
             }
+
         from : IsSchedule N tree order → is_schedule tree order ≡ true
         from s = both_true (covers tree order) (are_due tree [] order)
             (both_true (list_all done order) (list_all listed (nodes_at N [] tree)) (to_all done order (λ p c. (taken_iff p).1 ((s.covers p).0 c)))
-              (to_all listed (nodes_at N [] tree) (λ p c. implies (done p) (is_among order p) (λ h. to_among order p ((s.covers p).1 ((taken_iff p).0 h))))))
+            (to_all listed (nodes_at N [] tree) (λ p c. implies (done p) (is_among order p) (λ h. to_among order p ((s.covers p).1 ((taken_iff p).0 h))))))
             (to_dues [] order (λ more rest v e. s.due more rest v e))

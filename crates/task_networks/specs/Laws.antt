@@ -6,13 +6,17 @@ use Rattle.task_networks.specs.Lawful.{IsLawful}
 use Rattle.task_networks.specs.Prepared.{IsPrepared}
 use Rattle.task_networks.specs.Tree.{Tree, used, Address, IsBelow, label_at, IsAddress, IsProcessed}
 use Rattle.task_networks.specs.Schedule.{IsSchedule}
-use Rattle.task_networks.specs.Pending.{IsPending, IsWithin, pending}
+use Rattle.task_networks.specs.Pending.{AreDifferent, IsPending, IsWithin, pending}
 use Rattle.task_networks.specs.Front.{IsFinished}
+use Rattle.task_networks.specs.Bound.{AreBlocks, IsBound, IsTheBound}
+use Rattle.task_networks.specs.Lifted.{IsLifted}
+use Rattle.task_networks.specs.Strata.{IsLawfulRanking, IsTailRecursive, IsNamedCycle}
 
 module _ (N : Net) where
   -- a method has one line at most
   abbrev pub LineIsTheOnlyOne : Type 0
-  LineIsTheOnlyOne = (m : N.Method) (line other : List ℕ) → IsLine (N.Pair m) (count N m) line → IsLine (N.Pair m) (count N m) other → line ≡ other
+  LineIsTheOnlyOne = (m : N.Method) (line other : List ℕ)
+      → IsLine (N.Pair m) (count N m) line → IsLine (N.Pair m) (count N m) other → line ≡ other
 
   -- where heirs and copiers are those of the orders, the network is lawful
   abbrev pub PreparedIsLawful : Type 0
@@ -20,11 +24,13 @@ module _ (N : Net) where
 
   -- in a schedule the root stands first
   abbrev pub RootStandsFirst : Type 0
-  RootStandsFirst = (tree : Tree N) (order : List Address) (p : Address) (rest : List Address) → IsSchedule N tree order → order ≡ p ∷ rest → p ≡ []
+  RootStandsFirst = (tree : Tree N) (order : List Address) (p : Address) (rest : List Address)
+      → IsSchedule N tree order → order ≡ p ∷ rest → p ≡ []
 
   -- nothing is pending after the last step of a front without open leaves
   abbrev pub NothingIsPendingAtTheEnd : Type 0
-  NothingIsPendingAtTheEnd = (top : N.Work) (tree : Tree N) (order : List Address) (p : Address) → IsFinished N top tree order → IsPending N tree order p → ⊥
+  NothingIsPendingAtTheEnd = (top : N.Work) (tree : Tree N) (order : List Address) (p : Address)
+      → IsFinished N top tree order → IsPending N tree order p → ⊥
 
   -- where child i must precede child j, the whole subtree of i is processed and stands before each scheduled node of the subtree of j
   abbrev pub EarlierSubtreesStandBefore : Type 0
@@ -39,4 +45,26 @@ module _ (N : Net) where
 
   -- and its length says whether more than b are pending
   abbrev pub WidthIsComputed : Type 0
-  WidthIsComputed = (b : ℕ) (tree : Tree N) (order : List Address) → IsWithin N b tree order ↔ ((taken rest : List Address) → order ≡ taken ++ rest → length (pending N tree taken) ≤ b)
+  WidthIsComputed = (b : ℕ) (tree : Tree N) (order : List Address)
+      → IsWithin N b tree order ↔ ((taken rest : List Address) → order ≡ taken ++ rest → length (pending N tree taken) ≤ b)
+
+  -- where the blocks are the lines cut at every cut, the bound is large enough
+  abbrev pub TheBoundIsLargeEnough : Type 0
+  TheBoundIsLargeEnough = (top : N.Work) (block : N.Method → ℕ → ℕ) (number group : N.Work → ℕ)
+      → ((m : N.Method) → (line : List ℕ) × IsLine (N.Pair m) (count N m) line × AreBlocks (N.Pair m) line (block m))
+      → IsTheBound N block number group top → IsBound N block number top
+
+-- numbers of schemas that are large enough are so for the ground works
+abbrev pub LiftedBoundIsBound : (N L : Net) → (N.Work → L.Work) → (N.Method → L.Method) → Type 0
+LiftedBoundIsBound N L work method = IsLifted N L work method → (top : N.Work) (block : L.Method → ℕ → ℕ) (number : L.Work → ℕ)
+    → IsBound L block number (work top) → IsBound N (λ m. block (method m)) (λ w. number (work w)) top
+
+-- a problem with a lawful ranking is tail-recursive
+abbrev pub RankedIsTailRecursive : {Task Edge : Type 0} → (source target : Edge → Task) → List Edge → (Edge → Type 0) → Type 0
+RankedIsTailRecursive {Task = Task} source target edges IsBad = (rank : Task → ℕ)
+    → IsLawfulRanking source target edges IsBad rank → IsTailRecursive source target edges IsBad
+
+-- where each edge is listed once, one bad cycle at most is the named one
+abbrev pub NamedCycleIsTheOnlyOne : {Task Edge : Type 0} → (source target : Edge → Task) → List Edge → (Edge → Type 0) → Type 0
+NamedCycleIsTheOnlyOne {Edge = Edge} source target edges IsBad = AreDifferent edges → (e d : Edge) (walk back : List Edge)
+    → IsNamedCycle source target edges IsBad e walk → IsNamedCycle source target edges IsBad d back → (e ≡ d) × (walk ≡ back)

@@ -6,10 +6,10 @@ use Rattle.task_networks.specs.Tree.{Tree, Label, ran, used, Address, label_at, 
 use Rattle.task_networks.specs.Pending.{IsPending}
 use Rattle.task_networks.specs.Front.{IsFront}
 
--- an action or a check at a slot, or a method at a slot with new slots for the children other than the heir
+-- an action or a check at slot h, or a method at slot h with new slots for the children other than the heir
 pub data Act (N : Net) : Type 0 where
-  run : (slot : ℕ) → N.Work → Act N
-  apply : (slot : ℕ) (new : List ℕ) → N.Method → Act N
+  run : (h : ℕ) → N.Work → Act N
+  apply : (h : ℕ) (new : List ℕ) → N.Method → Act N
 
 -- the numbers from i on, n of them
 abbrev pub numbers : ℕ → ℕ → List ℕ
@@ -44,7 +44,8 @@ module _ (N : Net) where
     AreActs (p ∷ ps) [] = ⊥
 
   -- the acts spell the front, with b slots, from the top work
-  pub record Spells (b : ℕ) (top : N.Work) (acts : List (Act N)) (tree : Tree N) (order : List Address) (slot : Address → ℕ) : Type 0 where
+  pub record Spells (b : ℕ) (top : N.Work)
+      (acts : List (Act N)) (tree : Tree N) (order : List Address) (slot : Address → ℕ) : Type 0 where
     pub front : IsFront N top tree order
     pub root : slot [] ≡ 1
     pub range : (p : Address) → IsAddress N tree p → (1 ≤ slot p) × (slot p ≤ b)

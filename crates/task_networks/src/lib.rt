@@ -8,7 +8,8 @@ mod laws;
 mod network;
 
 pub use laws::{
-    earlier_subtrees_stand_before, line_is_the_only_one, nothing_is_pending_at_the_end,
-    pending_is_computed, prepared_is_lawful, root_stands_first,
+    earlier_subtrees_stand_before, lifted_bound_is_bound, line_is_the_only_one,
+    named_cycle_is_the_only_one, nothing_is_pending_at_the_end, pending_is_computed,
+    prepared_is_lawful, ranked_is_tail_recursive, root_stands_first, the_bound_is_large_enough,
 };
-pub use network::Network;
+pub use network::{Edges, Lifting, Network};

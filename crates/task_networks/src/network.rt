@@ -1,5 +1,6 @@
 //! What the laws are said of.
 
+ghost use Rattle.std.specs.Prelude.{ℕ, List, []};
 ghost use Rattle.task_networks.specs.Net.{Net, one_action};
 
 use std::marker::Brand;
@@ -12,4 +13,54 @@ pub trait Network {
 
 impl Network for Brand {
     ghost net = { one_action };
+}
+
+/// A ground network and the network of its schemas.
+pub trait Lifting {
+    ghost net: { Net };
+
+    ghost lifted: { Net };
+
+    ghost work: { net.Work → lifted.Work };
+
+    ghost method: { net.Method → lifted.Method };
+}
+
+impl Lifting for Brand {
+    ghost net = { one_action };
+
+    ghost lifted = { one_action };
+
+    ghost work = { λ w. w };
+
+    ghost method = { λ m. m };
+}
+
+/// The edges between tasks, in their order: where each begins and ends, and which are bad.
+pub trait Edges {
+    ghost task: { Type 0 };
+
+    ghost edge: { Type 0 };
+
+    ghost source: { edge → task };
+
+    ghost target: { edge → task };
+
+    ghost edges: { List edge };
+
+    ghost bad: { edge → Type 0 };
+}
+
+impl Edges for Brand {
+    ghost task = { ℕ };
+
+    ghost edge = { ℕ };
+
+    ghost source = { λ e. e };
+
+    ghost target = { λ e. e };
+
+    ghost edges = { [] };
+
+    ghost bad = { λ e. Unit {0} };
 }
