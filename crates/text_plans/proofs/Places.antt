@@ -1,6 +1,6 @@
 -- Members and places of lists, in both ways of saying them.
 use Rattle.std.proofs.Common.{ℕ, zero, suc, ◌≡◌, inl, inr, ◌<◌, true, List, [], ◌∷◌, map, length, slice_get, get_or, Option, Some, None, refl, ap, subst, arith}
-use Rattle.std.specs.Prelude.{Contains}
+use Rattle.std.specs.Prelude.{Contains, Any}
 use Rattle.text_forms.specs.Lists.{Part, Parts, nothing, part}
 use Rattle.text_forms.specs.Words.{Word, is_name, word_at}
 use Rattle.plan_texts.specs.TypedLists.{Each, EachTyped, ahead, skipped}
@@ -72,3 +72,9 @@ pub each-spelled : {X : Type 0} (Is : X → Part → Type 0) (P : X → Type 0) 
 each-spelled Is P h [] ps e = tt
 each-spelled Is P h (x ∷ xs) nothing e = absurd e
 each-spelled Is P h (x ∷ xs) (part p ps) e = (h x p e.0, each-spelled Is P h xs ps e.1)
+
+pub any-has : {X : Type 0} (P : X → Type 0) (xs : List X) → Any P xs → (x : X) × Has xs x × P x
+any-has P xs a = (a.1, contains-has xs a.1 (a.0, a.2, a.3), a.4)
+
+pub has-any : {X : Type 0} (P : X → Type 0) (xs : List X) (x : X) → Has xs x → P x → Any P xs
+has-any P xs x h p = let c = has-contains xs x h in (c.0, x, c.1, c.2, p)

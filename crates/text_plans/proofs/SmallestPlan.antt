@@ -14,6 +14,7 @@ use Rattle.plan_model.specs.declared.effects.Effect.TheOpen.{Effect-F}
 use Rattle.plan_model.specs.declared.effects.Effect.TheVariants.{Add, Delete, rolls-Add, rolls-Delete, rolls-And as rolls-Both}
 use Rattle.plan_model.specs.declared.schemas.ActionSchema.{ActionSchema}
 use Rattle.plan_model.specs.declared.steps.GroundAction.{GroundAction}
+use Rattle.plan_model.specs.Typing.{stay}
 use Rattle.plan_meaning.specs.Truth.{State, ground, AreTyped, truth_step, IsTrueIn, adds_step, Adds, after}
 use Rattle.plan_meaning.specs.ClassicalPlan.{InTypeOf, IsPlan}
 use Rattle.plan_texts.specs.PrintedTexts.{domain_text}
@@ -128,7 +129,7 @@ abbrev act : ℕ → Formula → Effect → ActionSchema
 act k f e = record { name = record { number = k }; params = h ∷ []; pre = f; eff = e }
 
 typed : T 0 1
-typed = (slot, refl, inl (inr (inl refl)))
+typed = (slot, refl, inl (inr stay))
 
 abbrev steps : List GroundAction
 steps = step (codes "htn_start") ∷ step (codes "htn_m_m") ∷ step (codes "a") ∷ []
