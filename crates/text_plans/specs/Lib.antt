@@ -1,0 +1,2 @@
+pub mod SoundWords
+pub mod TextPlans
