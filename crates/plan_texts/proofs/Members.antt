@@ -1,5 +1,6 @@
 -- Members of lists.
 use Rattle.std.proofs.Common.{ℕ, zero, suc, ◌≡◌, inl, inr, ◌<◌, List, [], ◌∷◌, map, length, refl, ap, subst, arith}
+use Rattle.std.specs.Prelude.{Contains}
 use Rattle.text_forms.specs.Words.{Word, word_at}
 use Rattle.plan_texts.specs.Types.{EachIs, Has}
 
@@ -7,6 +8,17 @@ pub each-has : {X : Type 0} (P : X → Type 0) (xs : List X) (x : X) → EachIs 
 each-has P [] x e h = absurd h
 each-has P (y ∷ ys) x e (inl h) = subst P h e.0
 each-has P (y ∷ ys) x e (inr h) = each-has P ys x e.1 h
+
+-- the two ways of saying that a list has something
+pub contains-has : {X : Type 0} (xs : List X) (x : X) → Contains xs x → Has xs x
+contains-has [] x c = absurd (let l = c.1 in omega arith)
+contains-has (y ∷ xs) x (zero, l, e) = inl e
+contains-has (y ∷ xs) x (suc k, l, e) = inr (contains-has xs x (k, omega arith, e))
+
+pub has-contains : {X : Type 0} (xs : List X) (x : X) → Has xs x → Contains xs x
+has-contains [] x h = absurd h
+has-contains (y ∷ xs) x (inl e) = (0, omega arith, e)
+has-contains (y ∷ xs) x (inr h) = let c = has-contains xs x h in let l = c.1 in (suc c.0, omega arith, c.2)
 
 pub has-to_map : {X Y : Type 0} (f : X → Y) (xs : List X) (x : X) → Has xs x → Has (map f xs) (f x)
 has-to_map f [] x h = absurd h

@@ -1,10 +1,11 @@
 -- The value of the smallest problem is printable, so nothing that is asked contradicts itself.
-use Rattle.std.proofs.Common.{ℕ, zero, suc, ◌≡◌, ◌<◌, ◌⊎◌, inl, inr, List, [], ◌∷◌, codes, refl, sym, subst, arith}
+use Rattle.std.proofs.Common.{ℕ, zero, suc, ◌≡◌, ◌<◌, ◌≤◌, ◌⊎◌, inl, inr, List, [], ◌∷◌, codes, refl, sym, subst, arith}
+use Rattle.std.specs.Prelude.{Contains}
 use Rattle.text_forms.specs.Words.{Word}
-use Rattle.plan_texts.specs.Types.{EachIs}
 use Rattle.plan_texts.specs.SpellsPddl.{pddl_words}
 use Rattle.plan_texts.specs.Printable.{IsSoundParam, AreSoundParams, sound_step, IsSound, sound_effect_step, IsSoundEffect, IsSoundAtom}
-use Rattle.plan_texts.specs.PrintableValue.{arities_of, Chain, single, longer, IsPrintable}
+use Rattle.plan_texts.specs.PrintableValue.{arities_of, IsPrintable}
+use Rattle.plan_model.specs.Typing.{Leads, stay, climb}
 use Rattle.plan_model.specs.declared.types.Parent.{Parent}
 use Rattle.plan_model.specs.declared.terms.Term.TheVariants.{Var}
 use Rattle.plan_model.specs.declared.formulas.Formula.{Formula, roll-Formula}
@@ -14,15 +15,15 @@ use Rattle.plan_model.specs.declared.effects.Effect.{Effect, roll-Effect}
 use Rattle.plan_model.specs.declared.effects.Effect.TheOpen.{Effect-F}
 use Rattle.plan_model.specs.declared.effects.Effect.TheVariants.{Add, Delete, rolls-Add, rolls-Delete, rolls-And as rolls-Both, rolls-Forall as rolls-Each_one}
 use Rattle.plan_texts.proofs.Basics.{apart}
-use Rattle.plan_texts.proofs.Members.{each-has}
+use Rattle.plan_texts.proofs.Members.{each-has, contains-has, has-contains}
 use Rattle.plan_texts.proofs.Spelled.{sound_roll}
 use Rattle.plan_texts.proofs.SpelledEffects.{sound_roll as effect-sound_roll}
 use Rattle.plan_texts.proofs.SmallestRow.{h, x, held, wait, turned, freed, clear, all_free, smallest}
 
--- where each parent stands before its child there is no cycle
-chain-down : (parents : List Parent) → EachIs (λ (p : Parent). p.parent < p.child) parents → (s t : ℕ) → Chain parents s t → t < s
-chain-down parents e s t (single p m) = each-has (λ (p : Parent). p.parent < p.child) parents p e m
-chain-down parents e s t (longer p u m c) = let a : p.parent < p.child = each-has (λ (p : Parent). p.parent < p.child) parents p e m in let b = chain-down parents e p.parent u c in omega arith
+-- where each parent stands before its child, chains lead down
+leads_down : (parents : List Parent) → ((p : Parent) → Contains parents p → p.parent < p.child) → (s t : ℕ) → Leads parents s t → t ≤ s
+leads_down parents e s t stay = omega arith
+leads_down parents e s t (climb {parent = u} c l) = let a = e (record { child = s; parent = u }) c in let b = leads_down parents e u t l in omega arith
 
 sound : (f : Formula) (l : Formula-F Formula) (scope : List Word) → roll-Formula l ≡ f → sound_step (pddl_words smallest) (arities_of smallest) (IsSound (pddl_words smallest) (arities_of smallest)) l scope → IsSound (pddl_words smallest) (arities_of smallest) f scope
 sound f l scope e s = subst (λ g. IsSound (pddl_words smallest) (arities_of smallest) g scope) e (subst (λ (z : List Word → Type 0). z scope) (sym (sound_roll (pddl_words smallest) (arities_of smallest) l)) s)
@@ -87,8 +88,9 @@ sound-goal = sound all_free (Formula-F.And _) [] (rolls-And _) (
   tt,
 )
 
-irreflexive : (k : ℕ) → k < k → ⊥
-irreflexive k e = omega arith
+-- each parent of the smallest value stands before its child
+below : (p : Parent) → Contains smallest.types.parents p → p.parent < p.child
+below p c = each-has (λ (q : Parent). q.parent < q.child) smallest.types.parents p (omega arith, (omega arith, tt)) (contains-has smallest.types.parents p c)
 
 has-parent : (k : ℕ) → 0 < k → k < 3 → (x : Parent) × ((record { child = 1; parent = 0 } ≡ x) ⊎ ((record { child = 2; parent = 0 } ≡ x) ⊎ ⊥)) × (x.child ≡ k)
 has-parent zero z l = absurd (omega arith)
@@ -112,7 +114,7 @@ smallest_printable = record {
   first = refl;
   parents = ((omega arith, omega arith, omega arith), ((omega arith, omega arith, omega arith), tt));
   has_parent = has-parent;
-  no_cycle = λ k c. irreflexive k (chain-down smallest.types.parents (omega arith, (omega arith, tt)) k k c);
+  no_cycle = λ p m l. (let a = below p (has-contains smallest.types.parents p m) in let b = leads_down smallest.types.parents below p.parent p.child l in omega arith);
   objects = ((omega arith, refl), tt);
   predicates = ((one 1 refl, tt), ((one 1 refl, tt), ((other, (one 1 refl, tt)), ((one 1 refl, tt), ((one 1 refl, tt), tt)))));
   actions_named = ((refl, refl), ((refl, refl), ((refl, refl), tt)));

@@ -7,6 +7,7 @@ use Rattle.plan_texts.specs.Types.{Has, EachIs, AreDifferent}
 use Rattle.plan_texts.specs.SpellsPddl.{pddl_types, pddl_words}
 use Rattle.plan_texts.specs.Printable.{IsPlain, IsSoundAtom, IsSoundParam, AreSoundParams, IsSound, IsSoundEffect, HasWords}
 use Rattle.plan_model.specs.declared.terms.Term.TheVariants.{Obj}
+use Rattle.plan_model.specs.Typing.{Leads}
 use Rattle.plan_model.specs.declared.types.Parent.{Parent}
 use Rattle.plan_model.specs.declared.types.Object.{Object}
 use Rattle.plan_model.specs.declared.schemas.Predicate.{Predicate}
@@ -17,11 +18,6 @@ use Rattle.plan_model.specs.declared.values.Pddl.{Pddl}
 abbrev pub arities_of : Pddl → List ℕ
 arities_of c = map (λ (d : Predicate). length d.params) c.predicates
 
--- a chain of parent pairs goes from one type to another
-pub data Chain (parents : List Parent) : ℕ → ℕ → Type 0 where
-  single : (x : Parent) → Has parents x → Chain parents x.child x.parent
-  longer : (x : Parent) (t : ℕ) → Has parents x → Chain parents x.parent t → Chain parents x.child t
-
 pub record IsPrintable (c : Pddl) : Type 0 where
   pub domain : IsPlain (named c.names c.domain)
   pub problem : IsPlain (named c.names c.problem)
@@ -29,7 +25,7 @@ pub record IsPrintable (c : Pddl) : Type 0 where
   pub first : word_at (pddl_types c) 0 ≡ codes "object"
   pub parents : EachIs (λ (x : Parent). (x.child < length c.types.names) × (x.parent < length c.types.names) × (0 < x.child)) c.types.parents
   pub has_parent : (k : ℕ) → 0 < k → k < length c.types.names → (x : Parent) × Has c.types.parents x × (x.child ≡ k)
-  pub no_cycle : (k : ℕ) → Chain c.types.parents k k → ⊥
+  pub no_cycle : (x : Parent) → Has c.types.parents x → Leads c.types.parents x.parent x.child → ⊥
   pub objects : EachIs (λ (x : Object). (x.ty < length c.types.names) × (x.constant ≡ true)) c.objects
   pub predicates : EachIs (λ (d : Predicate). EachIs (IsSoundParam (pddl_words c) (arities_of c)) d.params) c.predicates
   pub actions_named : EachIs IsPlain (map (λ (a : ActionSchema). named c.names a.name) c.actions)

@@ -1,21 +1,12 @@
 -- Members and places of lists, in both ways of saying them.
 use Rattle.std.proofs.Common.{ℕ, zero, suc, ◌≡◌, inl, inr, ◌<◌, true, List, [], ◌∷◌, map, length, slice_get, get_or, Option, Some, None, refl, ap, subst, arith}
-use Rattle.std.specs.Prelude.{Contains, Any}
+use Rattle.std.specs.Prelude.{Any}
 use Rattle.text_forms.specs.Lists.{Part, Parts, nothing, part}
 use Rattle.text_forms.specs.Words.{Word, is_name, word_at}
 use Rattle.plan_texts.specs.TypedLists.{Each, EachTyped, ahead, skipped}
 use Rattle.plan_texts.specs.Types.{Has, EachIs, AreDifferent}
+use Rattle.plan_texts.proofs.Members.{contains-has, has-contains}
 use Rattle.plan_texts.proofs.Places.{first-different}
-
-pub contains-has : {X : Type 0} (xs : List X) (x : X) → Contains xs x → Has xs x
-contains-has [] x c = absurd (let l = c.1 in omega arith)
-contains-has (y ∷ xs) x (zero, l, e) = inl e
-contains-has (y ∷ xs) x (suc k, l, e) = inr (contains-has xs x (k, omega arith, e))
-
-pub has-contains : {X : Type 0} (xs : List X) (x : X) → Has xs x → Contains xs x
-has-contains [] x h = absurd h
-has-contains (y ∷ xs) x (inl e) = (0, omega arith, e)
-has-contains (y ∷ xs) x (inr h) = let c = has-contains xs x h in let l = c.1 in (suc c.0, omega arith, c.2)
 
 pub in_range : (ws : List Word) (k : ℕ) → is_name (word_at ws k) ≡ true → k < length ws
 in_range [] k e = cc

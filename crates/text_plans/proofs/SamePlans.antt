@@ -20,7 +20,8 @@ use Rattle.plan_texts.proofs.AlikeLaws.{pddl_symmetric}
 use Rattle.plan_texts.proofs.Members.{each-has, has-to_map, has-of_map}
 use Rattle.plan_texts.proofs.Unique.{spelled_alike}
 use Rattle.text_plans.specs.SoundWords.{HasSoundWords}
-use Rattle.text_plans.proofs.Places.{contains-has, has-contains, in_range, get-word, word-get, each-at-some, same-at}
+use Rattle.plan_texts.proofs.Members.{contains-has, has-contains}
+use Rattle.text_plans.proofs.Places.{in_range, get-word, word-get, each-at-some, same-at}
 use Rattle.text_plans.proofs.Truths.{AreTypedSaid, TrueSaid, typed-said, truth-said}
 use Rattle.text_plans.proofs.Changes.{AddsSaid, DeletesSaid, adds-said, deletes-said}
 use Rattle.text_plans.proofs.TypeWords.{InWords, by_words, words-alike}

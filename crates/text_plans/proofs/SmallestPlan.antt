@@ -22,7 +22,7 @@ use Rattle.plan_texts.proofs.PrintedSpells.{printed_spells}
 use Rattle.plan_texts.proofs.SmallestRow.{h, x, wait, held, turned, freed, all_free, smallest, domain_bytes, problem_bytes, domain_row, problem_row}
 use Rattle.plan_texts.proofs.SmallestPrintable.{smallest_printable}
 use Rattle.text_plans.specs.TextPlans.{IsPlanOf}
-use Rattle.text_plans.proofs.Places.{contains-has}
+use Rattle.plan_texts.proofs.Members.{contains-has}
 use Rattle.text_plans.proofs.Truths.{truth_roll}
 use Rattle.text_plans.proofs.Changes.{adds_roll}
 

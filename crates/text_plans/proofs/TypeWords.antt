@@ -16,7 +16,8 @@ use borrow.Author.Tests.{ltb-true, ltb-false}
 use Rattle.plan_texts.proofs.Members.{each-has, has-to_map, has-of_map, length-map}
 use Rattle.plan_texts.proofs.Places.{each-at}
 use Rattle.text_plans.specs.SoundWords.{HasSoundWords}
-use Rattle.text_plans.proofs.Places.{contains-has, has-contains, any-has, has-any, in_range, same_place, get-map, get-map-none, each-at-some, same-at}
+use Rattle.plan_texts.proofs.Members.{contains-has, has-contains}
+use Rattle.text_plans.proofs.Places.{any-has, has-any, in_range, same_place, get-map, get-map-none, each-at-some, same-at}
 
 data WordChain (P : Word → Word → Type 0) : Word → Word → Type 0 where
   here : (w : Word) → WordChain P w w
