@@ -5,4 +5,10 @@ pub mod EffectEquations
 pub mod TruthExamples
 pub mod FlatNetworks
 pub mod RowValues
-pub mod SolutionExamples
+pub mod ListedItems
+pub mod RowWords
+pub mod RowChecks
+pub mod SmallestRow
+pub mod EmptyRow
+pub mod WaitingRow
+pub mod LateCheckRow
