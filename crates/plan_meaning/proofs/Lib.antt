@@ -10,5 +10,9 @@ pub mod RowWords
 pub mod RowChecks
 pub mod SmallestRow
 pub mod EmptyRow
+pub mod TailRecursionRow
+pub mod FreeVariableRow
+pub mod GuardRow
 pub mod WaitingRow
 pub mod LateCheckRow
+pub mod TestedMethodRow

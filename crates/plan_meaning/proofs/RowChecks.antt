@@ -1,11 +1,13 @@
 -- Ground methods, fronts, spellings and solutions of a worked row, each from parts that compute.
-use Rattle.std.proofs.Common.{ℕ, ◌≡◌, Bool, false, true, List, [], ◌∷◌, map, slice_get, Some, refl, sym, subst, ◌∙◌}
+use Rattle.std.proofs.Common.{Contains, ℕ, ◌≡◌, Bool, false, true, List, [], ◌∷◌, map, slice_get, Some, refl, sym, subst, ◌∙◌, ◌++◌, arith}
 use Rattle.std.specs.List.{list_all}
 use Rattle.plan_model.specs.declared.schemas.MethodPlan.{MethodPlan}
+use Rattle.plan_model.specs.declared.steps.GroundAction.{GroundAction}
 use Rattle.plan_model.specs.declared.values.Compiled.{Compiled}
 use Rattle.task_networks.specs.Net.{Net}
 use Rattle.task_networks.specs.Tree.{Tree, Address, Label, waits, label_at, work_of, IsGrown, IsOpen}
-use Rattle.task_networks.specs.Pending.{nodes_at}
+use Rattle.task_networks.specs.Pending.{nodes_at, pending, IsPending}
+use Rattle.task_networks.proofs.PendingNodes.{pending_iff}
 use Rattle.task_networks.specs.Schedule.{IsSchedule}
 use Rattle.task_networks.specs.Front.{IsFront}
 use Rattle.task_networks.specs.Executable.{AreLabels, AreAllowed, last_state}
@@ -95,3 +97,13 @@ module _ (c : Compiled) where
   pub allowed_of : (tree : Tree (network c)) (order : List Address) (labels : List (Label (network c))) → AreLabels (network c) tree order labels → IsExecutableFront c tree order
       → AreAllowed (network c) State (Allows c) (next c) (initial c) labels
   allowed_of tree order labels are f = subst (AreAllowed (network c) State (Allows c) (next c) (initial c)) (same_labels (network c) tree order f.executable.labels labels f.executable.are_labels are) f.executable.allowed
+
+  -- with one slot no two nodes are pending at a time
+  pub one_slot : (steps : List GroundAction) (tree : Tree (network c)) (order : List Address) (slot : Address → ℕ) → IsSpelling c 1 steps tree order slot
+      → (taken rest : List Address) → order ≡ taken ++ rest → (u v : Address) → Contains (pending (network c) tree taken) u → Contains (pending (network c) tree taken) v → u ≡ v
+  one_slot steps tree order slot s taken rest e u v a b =
+      let p : IsPending (network c) tree taken u = (pending_iff (network c) tree taken u).0 a in
+      let q : IsPending (network c) tree taken v = (pending_iff (network c) tree taken v).0 b in
+      let x = s.1.range u p.address in
+      let y = s.1.range v q.address in
+      s.1.apart taken rest e u v p q (omega arith)
