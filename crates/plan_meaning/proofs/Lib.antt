@@ -8,6 +8,7 @@ pub mod RowValues
 pub mod ListedItems
 pub mod RowWords
 pub mod RowChecks
+pub mod PlanChecks
 pub mod SmallestRow
 pub mod EmptyRow
 pub mod TailRecursionRow
@@ -16,3 +17,5 @@ pub mod GuardRow
 pub mod WaitingRow
 pub mod LateCheckRow
 pub mod TestedMethodRow
+pub mod CompiledRows
+pub mod EdgeChecks
