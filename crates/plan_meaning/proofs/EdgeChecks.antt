@@ -41,6 +41,11 @@ own_group (action a) = 0
 own_group (check m) = 0
 own_group (task t) = suc t
 
+pub of_own_group : (s : Schema) (t : ℕ) → own_group s ≡ own_group (task t) → s ≡ task t
+of_own_group (action a) t e = absurd (omega arith)
+of_own_group (check m) t e = absurd (omega arith)
+of_own_group (task u) t e = ap task (let f : u ≡ t = omega arith in f)
+
 -- where each edge stays at its task or goes down, each task is a group of its own
 module _ (c : Compiled) (edges : List Edge) (are : AreEdges c edges) (rank : Schema → ℕ) where
   abbrev pub StaysOrFalls : Edge → Type 0

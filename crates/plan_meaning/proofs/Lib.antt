@@ -19,3 +19,4 @@ pub mod LateCheckRow
 pub mod TestedMethodRow
 pub mod CompiledRows
 pub mod EdgeChecks
+pub mod TailRecursionBound

@@ -20,13 +20,13 @@ use Rattle.plan_meaning.proofs.RowChecks.{always_true, untested, ground_by, fron
 abbrev names : List (List ℕ)
 names = codes "object" ∷ codes "d" ∷ codes "p" ∷ codes "htn_start" ∷ codes "t" ∷ codes "a" ∷ codes "m1" ∷ codes "m0" ∷ []
 
-abbrev top : MethodPlan
+abbrev pub top : MethodPlan
 top = method_plan (method_schema 3 1 always (child (Task 0) ∷ []) []) false (0 ∷ []) (Some 0) []
 
-abbrev again : MethodPlan
+abbrev pub again : MethodPlan
 again = method_plan (method_schema 6 0 always (child (Action 0) ∷ child (Task 0) ∷ []) (record { first = 0; then = 1 } ∷ [])) false (0 ∷ 1 ∷ []) (Some 1) []
 
-abbrev stop : MethodPlan
+abbrev pub stop : MethodPlan
 stop = method_plan (method_schema 7 0 always [] []) false [] None []
 
 abbrev pub tail_recursion : Compiled
