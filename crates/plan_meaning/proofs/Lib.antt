@@ -19,4 +19,7 @@ pub mod LateCheckRow
 pub mod TestedMethodRow
 pub mod CompiledRows
 pub mod EdgeChecks
+pub mod BoundChecks
 pub mod TailRecursionBound
+pub mod BlocksRow
+pub mod NamedCyclesRow

@@ -10,6 +10,7 @@ use Rattle.plan_meaning.specs.Strata.{Edge, IsEdge, AreEdges, IsBad, IsTailRecur
 use Rattle.plan_meaning.specs.Bound.{IsBound}
 use Rattle.plan_meaning.proofs.ListedItems.{of_each}
 use Rattle.plan_meaning.proofs.EdgeChecks.{edge, are_edges_by, own_group, of_own_group, own_groups, one_block, two_blocks}
+use Rattle.plan_meaning.proofs.BoundChecks.{number_by, DoesCount, number_of_block, IsAttained, bound_by}
 use Rattle.plan_meaning.proofs.TailRecursionRow.{tail_recursion, top, again, stop}
 
 -- task 1 is the top task, task 0 is t
@@ -56,23 +57,13 @@ block zero i = 0
 block (suc zero) i = i
 block (suc (suc m)) i = 0
 
-abbrev number : Schema → ℕ
-number (action a) = 1
-number (check m) = 1
-number (task zero) = 2
-number (task (suc zero)) = 2
-number (task (suc (suc t))) = 1
+abbrev number : ℕ → ℕ
+number zero = 2
+number (suc zero) = 2
+number (suc (suc t)) = 1
 
 bound_is_two : IsBound tail_recursion 2
-bound_is_two = record {
-  block = block;
-  blocks = blocks;
-  group = own_group;
-  groups = own_groups tail_recursion edges are_edges own_group (inr (omega arith), (inl refl, tt));
-  number = number;
-  numbers = record { simple = λ w r. simple w; positive = λ w r. positive w; above = λ w m i r g q e k. above w m i g e k; attained = λ w r. attained w };
-  is = refl;
-}
+bound_is_two = bound_by tail_recursion block number edges are_edges own_group (inr (omega arith), (inl refl, tt)) blocks positive above attained
   where
     blocks : (m : ℕ) (plan : MethodPlan) → slice_get tail_recursion.methods m ≡ Some plan → AreBlocks (IsPairBy (Some plan)) plan.line (block m)
     blocks zero plan e = subst (λ (p : MethodPlan). AreBlocks (IsPairBy (Some p)) p.line (block 0)) (let f : top ≡ plan = cc in f) (one_block (0 ∷ []) (λ i j c. not-in_empty _ c))
@@ -80,46 +71,35 @@ bound_is_two = record {
     blocks (suc (suc zero)) plan e = subst (λ (p : MethodPlan). AreBlocks (IsPairBy (Some p)) p.line (block 2)) (let f : stop ≡ plan = cc in f) (one_block [] (λ i j c. not-in_empty _ c))
     blocks (suc (suc (suc m))) plan e = absurd cc
 
-    simple : (w : Schema) → IsPrimitive w → number w ≡ 1
-    simple (action a) h = refl
-    simple (check m) h = refl
-    simple (task t) h = absurd h
-
-    positive : (w : Schema) → 1 ≤ number w
-    positive (action a) = omega arith
-    positive (check m) = omega arith
-    positive (task zero) = omega arith
-    positive (task (suc zero)) = omega arith
-    positive (task (suc (suc t))) = omega arith
+    positive : (t : ℕ) → 1 ≤ number t
+    positive zero = omega arith
+    positive (suc zero) = omega arith
+    positive (suc (suc t)) = omega arith
 
     -- t is alone in the last block of m1, and of the same group
-    t_at_the_end : IsAloneAtTheEnd (schemas tail_recursion) block number 1 1 (task 0)
+    t_at_the_end : IsAloneAtTheEnd (schemas tail_recursion) block (number_by number) 1 1 (task 0)
     t_at_the_end = record { child = 1; is = refl; in_block = refl; earlier = λ i l n. omega arith }
 
-    above : (w : Schema) (m i : ℕ) → (schemas tail_recursion).IsGround m → own_group w ≡ own_group ((schemas tail_recursion).head m) → Counts (schemas tail_recursion) block number own_group m i → block_number (schemas tail_recursion) block number m (block m i) ≤ number w
-    above w zero i g e k = subst (λ z. 2 ≤ number z) (sym (of_own_group w 1 e)) (omega arith)
-    above w (suc zero) zero g e k = subst (λ z. 2 ≤ number z) (sym (of_own_group w 0 e)) (omega arith)
-    above w (suc zero) (suc zero) g e k = absurd (k.1 (task 0) t_at_the_end refl)
-    above w (suc zero) (suc (suc i)) g e k = absurd (let l = k.0 in omega arith)
-    above w (suc (suc zero)) i g e k = absurd (let l = k.0 in omega arith)
-    above w (suc (suc (suc m))) i g e k = absurd (let f = g.1 in cc)
+    above : (m i : ℕ) → (schemas tail_recursion).IsGround m → DoesCount tail_recursion block number m i → number_of_block tail_recursion block number m i ≤ number_by number ((schemas tail_recursion).head m)
+    above zero i g k = omega arith
+    above (suc zero) zero g k = omega arith
+    above (suc zero) (suc zero) g k = absurd (k.1 (task 0) t_at_the_end refl)
+    above (suc zero) (suc (suc i)) g k = absurd (let l = k.0 in omega arith)
+    above (suc (suc zero)) i g k = absurd (let l = k.0 in omega arith)
+    above (suc (suc (suc m))) i g k = absurd (let f = g.1 in cc)
 
     -- the top method's block has t alone, which is of another group
-    top_counts : Counts (schemas tail_recursion) block number own_group 0 0
+    top_counts : DoesCount tail_recursion block number 0 0
     top_counts = (omega arith, λ w o e. at o.child o.is e)
       where
         at : (j : ℕ) {w : Schema} → slice_get ((schemas tail_recursion).works 0) j ≡ Some w → own_group w ≡ own_group (task 1) → ⊥
         at zero {w = w} f e = let g : task 0 ≡ w = cc in (let h : own_group (task 0) ≡ own_group (task 1) = subst (λ z. own_group z ≡ own_group (task 1)) (sym g) e in omega arith)
         at (suc j) f e = absurd cc
 
-    first_counts : Counts (schemas tail_recursion) block number own_group 1 0
+    first_counts : DoesCount tail_recursion block number 1 0
     first_counts = (omega arith, λ w o e. (let b = o.in_block in let c = o.earlier 1 (omega arith) (omega arith) in omega arith))
 
-    attained : (w : Schema) → (number w ≡ 1)
-        ⊎ ((m : ℕ) × (i : ℕ) × (schemas tail_recursion).IsGround m × IsReached (schemas tail_recursion) (task 1) ((schemas tail_recursion).head m) × (own_group w ≡ own_group ((schemas tail_recursion).head m))
-        × Counts (schemas tail_recursion) block number own_group m i × (block_number (schemas tail_recursion) block number m (block m i) ≡ number w))
-    attained (action a) = inl refl
-    attained (check m) = inl refl
-    attained (task zero) = inr (1, 0, (again, refl), t_is_reached, refl, first_counts, refl)
-    attained (task (suc zero)) = inr (0, 0, (top, refl), itself, refl, top_counts, refl)
-    attained (task (suc (suc t))) = inl refl
+    attained : (t : ℕ) → IsAttained tail_recursion block number t
+    attained zero = inr (1, 0, (again, refl), t_is_reached, refl, first_counts, refl)
+    attained (suc zero) = inr (0, 0, (top, refl), itself, refl, top_counts, refl)
+    attained (suc (suc t)) = inl refl
