@@ -23,3 +23,5 @@ pub mod BoundChecks
 pub mod TailRecursionBound
 pub mod BlocksRow
 pub mod NamedCyclesRow
+pub mod ClassicalLaws
+pub mod ClassicalExamples

@@ -48,7 +48,7 @@ from e b = subst (λ t. t) (sym e) b
 zero_is_not_one : (n : ℕ) → n ≡ 0 → n ≡ 1 → ⊥
 zero_is_not_one n a b = omega arith
 
-abbrev first_of : List ℕ → ℕ
+abbrev pub first_of : List ℕ → ℕ
 first_of [] = 0
 first_of (x ∷ xs) = x
 
