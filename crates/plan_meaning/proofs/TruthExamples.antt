@@ -48,15 +48,15 @@ from e b = subst (λ t. t) (sym e) b
 zero_is_not_one : (n : ℕ) → n ≡ 0 → n ≡ 1 → ⊥
 zero_is_not_one n a b = omega arith
 
-object_of : GroundAtom → ℕ
-object_of g = first g.args
-  where
-    first : List ℕ → ℕ
-    first [] = 0
-    first (x ∷ xs) = x
+abbrev pub first_of : List ℕ → ℕ
+first_of [] = 0
+first_of (x ∷ xs) = x
+
+-- the first object of an atom
+abbrev pub object_of : GroundAtom → ℕ
+object_of g = first_of g.args
 
 apart : was_seen 0 ≡ was_seen 1 → ⊥
-unfolding object_of
 apart e = zero_is_not_one 0 refl (ap object_of e)
 
 not_seen : half (was_seen 1) → ⊥
