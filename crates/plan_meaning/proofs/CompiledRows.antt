@@ -1,20 +1,19 @@
 -- Compiled values, worked out: the late check in both modes and the guard; and values that aren't compiled ones.
-use Rattle.std.proofs.Common.{ℕ, zero, suc, ◌≡◌, ◌≢◌, ◌+◌, ◌<◌, true, false, inl, inr, List, [], ◌∷◌, length, Some, refl, ap, sym, subst, Contains, arith}
+use Rattle.std.proofs.Common.{ℕ, suc, ◌≡◌, ◌<◌, true, inl, inr, List, [], ◌∷◌, length, Some, refl, ap, sym, subst, arith}
 use Rattle.std.specs.List.Sorted.{IsStrictlyIncreasing}
-use Rattle.plan_model.specs.declared.formulas.Formula.TheVariants.{Holds, And}
+use Rattle.plan_model.specs.declared.formulas.Formula.TheVariants.{Holds}
 use Rattle.plan_model.specs.declared.networks.Head.TheVariants.{Action, Check}
 use Rattle.plan_model.specs.declared.options.Checks.{Checks}
 use Rattle.plan_model.specs.declared.options.Checks.TheVariants.{Leaf, AtOnce}
 use Rattle.plan_model.specs.declared.networks.Pair.{Pair}
 use Rattle.plan_model.specs.declared.schemas.MethodSchema.{MethodSchema}
-use Rattle.plan_model.specs.declared.schemas.MethodPlan.{MethodPlan}
 use Rattle.plan_model.specs.declared.values.Compiled.{Compiled}
 use Rattle.task_networks.proofs.Lists.{not-in_empty, head_or_tail}
 use Rattle.plan_meaning.specs.Truth.{IsTrueIn}
 use Rattle.plan_meaning.specs.Compilation.{Counts, Pairs, IsMethodPlan, IsCompiled}
 use Rattle.plan_meaning.proofs.TruthEquations.{truth-Holds}
 use Rattle.plan_meaning.proofs.TruthExamples.{to}
-use Rattle.plan_meaning.proofs.RowValues.{child, always, method_schema, method_plan}
+use Rattle.plan_meaning.proofs.RowValues.{child, method_schema, method_plan}
 use Rattle.plan_meaning.proofs.RowChecks.{always_true, untested}
 use Rattle.plan_meaning.proofs.PlanChecks.{line_up, copiers_by}
 use Rattle.plan_meaning.proofs.LateCheckRow.{ready, late_hddl, late_top, late_top_plan, late_method, late_method_plan, late_check}

@@ -12,6 +12,8 @@ pub mod PlanChecks
 pub mod SmallestRow
 pub mod EmptyRow
 pub mod TailRecursionRow
+pub mod SlotTakenRow
+pub mod SlotTakenTwice
 pub mod FreeVariableRow
 pub mod GuardRow
 pub mod WaitingRow
