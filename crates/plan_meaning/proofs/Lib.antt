@@ -26,4 +26,7 @@ pub mod TailRecursionBound
 pub mod BlocksRow
 pub mod NamedCyclesRow
 pub mod ClassicalLaws
+pub mod AllObjectsRow
+pub mod AllObjectsSolution
+pub mod EncodedSmallest
 pub mod ClassicalExamples
