@@ -1,6 +1,6 @@
 -- All objects: of a printed problem with the objects o1 and o2 and a slot, a `forall` over `htn_object` ranges over o1 and o2 alone.
-use Rattle.std.proofs.Common.{true, ℕ, zero, suc, ◌≡◌, ◌<◌, ◌⊎◌, inl, inr, List, [], ◌∷◌, ◌++◌, Some, refl, ap, sym, subst, Contains, arith}
-use Rattle.plan_model.specs.declared.terms.Term.TheVariants.{Var, Obj}
+use Rattle.std.proofs.Common.{true, ℕ, zero, suc, ◌≡◌, ◌<◌, ◌⊎◌, inl, inr, List, [], ◌∷◌, ◌++◌, refl, ap, subst, Contains, arith}
+use Rattle.plan_model.specs.declared.terms.Term.TheVariants.{Var}
 use Rattle.plan_model.specs.declared.terms.Atom.{Atom}
 use Rattle.plan_model.specs.declared.terms.GroundAtom.{GroundAtom}
 use Rattle.plan_model.specs.declared.terms.Param.{Param}

@@ -1,6 +1,6 @@
 -- All objects: m: t -> a with t on top, where a asks that all objects are seen, and o1 and o2 are. It is a solution in one slot.
 -- Without (seen o2) the same front can't be executed.
-use Rattle.std.proofs.Common.{ℕ, zero, suc, ◌≡◌, ◌⊎◌, false, inl, inr, List, [], ◌∷◌, ◌++◌, map, Some, refl, ap, subst, Contains, arith}
+use Rattle.std.proofs.Common.{ℕ, zero, suc, ◌≡◌, ◌⊎◌, false, inl, inr, List, [], ◌∷◌, ◌++◌, map, Some, refl, ap, subst, arith}
 use Rattle.std.specs.Prelude.{codes}
 use Rattle.plan_model.specs.declared.terms.Term.TheVariants.{Var}
 use Rattle.plan_model.specs.declared.terms.Atom.{Atom}

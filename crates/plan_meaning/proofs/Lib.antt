@@ -19,6 +19,8 @@ pub mod GuardRow
 pub mod WaitingRow
 pub mod LateCheckRow
 pub mod TestedMethodRow
+pub mod TransportValue
+pub mod TransportRow
 pub mod CompiledRows
 pub mod EdgeChecks
 pub mod BoundChecks
