@@ -63,7 +63,7 @@ module _ (pairs : List Pair) (copiers : List ℕ) where
 
 -- beside one another: one block, with 2 and 2
 module _ where
-  abbrev beside : Compiled
+  abbrev pub beside : Compiled
   beside = two [] (0 ∷ [])
 
   abbrev block : ℕ → ℕ → ℕ
@@ -105,7 +105,7 @@ module _ where
 
 -- in order: 2 and 1 for the other, and then 2
 module _ where
-  abbrev in_order : Compiled
+  abbrev pub in_order : Compiled
   in_order = two (record { first = 0; then = 1 } ∷ []) []
 
   abbrev block_of : ℕ → ℕ → ℕ

@@ -27,6 +27,7 @@ pub mod BoundChecks
 pub mod TailRecursionBound
 pub mod BlocksRow
 pub mod NamedCyclesRow
+pub mod CompiledValues
 pub mod ClassicalLaws
 pub mod AllObjectsRow
 pub mod AllObjectsSolution
