@@ -21,6 +21,7 @@ pub mod LateCheckRow
 pub mod TestedMethodRow
 pub mod TransportValue
 pub mod TransportRow
+pub mod PlanKinds
 pub mod CompiledRows
 pub mod EdgeChecks
 pub mod BoundChecks
