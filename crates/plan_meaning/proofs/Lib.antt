@@ -19,9 +19,11 @@ pub mod GuardRow
 pub mod WaitingRow
 pub mod LateCheckRow
 pub mod TestedMethodRow
-pub mod TransportValue
-pub mod TransportRow
 pub mod PlanKinds
+pub mod TransportValue
+pub mod TransportOrder
+pub mod TransportRow
+pub mod TransportCompiled
 pub mod CompiledRows
 pub mod EdgeChecks
 pub mod BoundChecks

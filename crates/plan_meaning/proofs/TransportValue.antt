@@ -95,7 +95,7 @@ then i j = record { first = i; then = j }
 abbrev pub top : MethodPlan
 top = method_plan (method_schema 3 2 always (part (Task 0) (Obj 5 ∷ Obj 1 ∷ []) ∷ part (Task 0) (Obj 6 ∷ Obj 1 ∷ []) ∷ part (Task 0) (Obj 7 ∷ Obj 1 ∷ []) ∷ []) []) false (0 ∷ 1 ∷ 2 ∷ []) (Some 2) (0 ∷ 1 ∷ [])
 
-abbrev m_deliver : MethodSchema
+abbrev pub m_deliver : MethodSchema
 m_deliver = record (method_schema 13 0 always (part (Task 1) (two 0 2) ∷ part (Action 1) (three 0 2 1) ∷ part (Task 1) (two 0 3) ∷ part (Action 2) (three 0 3 1) ∷ []) (then 0 1 ∷ then 1 2 ∷ then 2 3 ∷ [])) {
   params = param 29 3 ∷ param 27 4 ∷ param 20 1 ∷ param 21 1 ∷ [];
   task_args = two 1 3;
@@ -104,7 +104,7 @@ m_deliver = record (method_schema 13 0 always (part (Task 1) (two 0 2) ∷ part 
 abbrev pub deliver : MethodPlan
 deliver = method_plan m_deliver false (0 ∷ 1 ∷ 2 ∷ 3 ∷ []) (Some 3) []
 
-abbrev m_via : MethodSchema
+abbrev pub m_via : MethodSchema
 m_via = record (method_schema 14 1 always (part (Action 0) (three 0 1 2) ∷ part (Task 1) (two 0 3) ∷ []) (then 0 1 ∷ [])) {
   params = param 29 3 ∷ param 20 1 ∷ param 21 1 ∷ param 30 1 ∷ [];
   task_args = two 0 3;
@@ -113,7 +113,7 @@ m_via = record (method_schema 14 1 always (part (Action 0) (three 0 1 2) ∷ par
 abbrev pub via : MethodPlan
 via = method_plan m_via false (0 ∷ 1 ∷ []) (Some 1) []
 
-abbrev m_there : MethodSchema
+abbrev pub m_there : MethodSchema
 m_there = record (method_schema 15 1 (Holds (at 0 1)) [] []) { params = param 29 3 ∷ param 28 1 ∷ []; task_args = two 0 1 }
 
 -- the check is its one child
