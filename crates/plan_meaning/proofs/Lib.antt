@@ -31,6 +31,8 @@ pub mod TailRecursionBound
 pub mod BlocksRow
 pub mod NamedCyclesRow
 pub mod CompiledValues
+pub mod BlockNumbers
+pub mod BoundIsOne
 pub mod ClassicalLaws
 pub mod AllObjectsRow
 pub mod AllObjectsSolution
