@@ -1,5 +1,5 @@
 -- Blocks: m: x -> a, b. Two x beside one another need four slots, and three where the first comes before the second.
-use Rattle.std.proofs.Common.{ℕ, zero, suc, ◌≡◌, ◌<◌, ◌≤◌, ◌⊎◌, inl, inr, List, [], ◌∷◌, Some, None, false, refl, sym, subst, Contains, arith, slice_get}
+use Rattle.std.proofs.Common.{ℕ, zero, suc, ◌≡◌, ◌<◌, ◌≤◌, ◌⊎◌, inl, inr, List, [], ◌∷◌, Some, false, refl, subst, Contains, arith, slice_get}
 use Rattle.std.specs.Prelude.{codes}
 use Rattle.plan_model.specs.declared.networks.Head.TheVariants.{Task, Action}
 use Rattle.plan_model.specs.declared.networks.Pair.{Pair}
@@ -8,7 +8,7 @@ use Rattle.plan_model.specs.declared.values.Compiled.{Compiled}
 use Rattle.task_networks.specs.Bound.{AreBlocks, IsReached, itself, as_child}
 use Rattle.task_networks.proofs.Lists.{not-in_empty}
 use Rattle.plan_meaning.specs.Network.{IsPairBy}
-use Rattle.plan_meaning.specs.Schemas.{Schema, task, schemas}
+use Rattle.plan_meaning.specs.Schemas.{task, schemas}
 use Rattle.plan_meaning.specs.Strata.{Edge, IsEdge, AreEdges}
 use Rattle.plan_meaning.specs.Bound.{IsBound}
 use Rattle.plan_meaning.proofs.RowValues.{child, always, nothing, problem, method_schema, method_plan, task_schema, action_schema}
@@ -63,7 +63,7 @@ module _ (pairs : List Pair) (copiers : List ℕ) where
 
 -- beside one another: one block, with 2 and 2
 module _ where
-  abbrev beside : Compiled
+  abbrev pub beside : Compiled
   beside = two [] (0 ∷ [])
 
   abbrev block : ℕ → ℕ → ℕ
@@ -105,7 +105,7 @@ module _ where
 
 -- in order: 2 and 1 for the other, and then 2
 module _ where
-  abbrev in_order : Compiled
+  abbrev pub in_order : Compiled
   in_order = two (record { first = 0; then = 1 } ∷ []) []
 
   abbrev block_of : ℕ → ℕ → ℕ

@@ -1,8 +1,8 @@
 -- The bound of a worked row, from parts that compute, where each task is a group of its own.
-use Rattle.std.proofs.Common.{ℕ, zero, suc, ◌≡◌, ◌≤◌, ◌⊎◌, inl, inr, List, Option, Some, None, refl, ap, sym, subst, ◌∙◌, slice_get, arith}
+use Rattle.std.proofs.Common.{ℕ, suc, ◌≡◌, ◌≤◌, ◌⊎◌, inl, inr, List, Option, Some, None, refl, ap, sym, subst, ◌∙◌, slice_get, arith}
 use Rattle.plan_model.specs.declared.schemas.MethodPlan.{MethodPlan}
 use Rattle.plan_model.specs.declared.values.Compiled.{Compiled}
-use Rattle.task_networks.specs.Bound.{AreBlocks, IsTheBound, IsReached, Counts, block_number}
+use Rattle.task_networks.specs.Bound.{AreBlocks, IsReached, Counts, block_number}
 use Rattle.plan_meaning.specs.Network.{IsPairBy, top_task}
 use Rattle.plan_meaning.specs.Schemas.{Schema, task, action, check, IsPrimitive, schemas, head_by}
 use Rattle.plan_meaning.specs.Strata.{Edge, AreEdges}

@@ -1,6 +1,6 @@
 -- Classical plans, worked out: one action `go` for a thing that is here, after which it is seen and here no more.
 -- The objects are the thing o, the thing q, which isn't here, and b, which is no thing. The goal is that o is seen.
-use Rattle.std.proofs.Common.{ℕ, zero, suc, ◌≡◌, ◌⊎◌, inl, inr, false, List, [], ◌∷◌, Some, None, true, ◌==◌, refl, ap, sym, subst, ◌∙◌, Contains, arith, slice_get, eq-eqb}
+use Rattle.std.proofs.Common.{ℕ, zero, suc, ◌≡◌, inl, inr, false, List, [], ◌∷◌, Some, true, ◌==◌, refl, ap, sym, subst, Contains, arith, slice_get, eq-eqb}
 use Rattle.std.specs.Prelude.{codes}
 use Rattle.plan_model.specs.declared.terms.Term.TheVariants.{Var, Obj}
 use Rattle.plan_model.specs.declared.terms.Atom.{Atom}
@@ -13,15 +13,14 @@ use Rattle.plan_model.specs.declared.formulas.Formula.TheVariants.{Holds}
 use Rattle.plan_model.specs.declared.effects.Effect.{Effect}
 use Rattle.plan_model.specs.declared.effects.Effect.TheVariants as E
 use Rattle.plan_model.specs.declared.schemas.ActionSchema.{ActionSchema}
-use Rattle.plan_model.specs.declared.schemas.Predicate.{Predicate}
 use Rattle.plan_model.specs.declared.steps.GroundAction.{GroundAction}
 use Rattle.plan_model.specs.declared.values.Pddl.{Pddl}
 use Rattle.plan_model.specs.Typing.{Leads, stay, climb, IsPart}
 use Rattle.task_networks.proofs.Lists.{not-in_empty, head_or_tail}
-use Rattle.plan_meaning.specs.Truth.{State, ground, AreTyped, IsTrueIn, Adds, Deletes, after}
-use Rattle.plan_meaning.specs.ClassicalPlan.{IsObject, AreObjects, InTypeOf, IsApplicable, Leads as LeadsTo, IsExecutable, IsPlan}
+use Rattle.plan_meaning.specs.Truth.{State, ground, AreTyped, IsTrueIn, after}
+use Rattle.plan_meaning.specs.ClassicalPlan.{IsObject, AreObjects, InTypeOf, IsApplicable, IsExecutable, IsPlan}
 use Rattle.plan_meaning.proofs.TruthEquations.{truth-Holds}
-use Rattle.plan_meaning.proofs.EffectEquations.{adds-Add, adds-Delete, adds-And, deletes-And, deletes-Delete}
+use Rattle.plan_meaning.proofs.EffectEquations.{adds-Add, adds-And}
 use Rattle.plan_meaning.proofs.TruthExamples.{to, from, first_of, object_of}
 use Rattle.plan_meaning.proofs.ListedItems.{of_each}
 use Rattle.plan_meaning.proofs.RowWords.{step}

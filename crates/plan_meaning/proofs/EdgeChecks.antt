@@ -1,9 +1,8 @@
 -- Edges, groups and blocks of a worked row, each from parts that compute.
-use Rattle.std.proofs.Common.{ℕ, zero, suc, ◌≡◌, ◌<◌, ◌⊎◌, ◌↔◌, inl, inr, List, [], ◌∷◌, ◌++◌, Option, Some, None, refl, ap, sym, subst, ◌∙◌, Contains, arith}
+use Rattle.std.proofs.Common.{ℕ, zero, suc, ◌≡◌, ◌<◌, ◌⊎◌, ◌↔◌, inl, inr, List, [], ◌∷◌, ◌++◌, refl, ap, sym, subst, ◌∙◌, Contains, arith}
 use Rattle.std.specs.Prelude.{take, drop}
-use Rattle.plan_model.specs.declared.networks.Pair.{Pair}
 use Rattle.plan_model.specs.declared.values.Compiled.{Compiled}
-use Rattle.task_networks.specs.Order.{Precedes, direct, through, IsCut, IsLast}
+use Rattle.task_networks.specs.Order.{Precedes, direct, through, IsCut}
 use Rattle.task_networks.specs.Bound.{AreBlocks}
 use Rattle.task_networks.specs.Strata as Walks
 use Rattle.task_networks.proofs.Lists.{not-in_empty, head_or_tail}

@@ -41,18 +41,18 @@ got [] n x e = absurd cc
 got (y ∷ xs) zero x e = let f : y ≡ x = cc in (0, omega arith, f)
 got (y ∷ xs) (suc n) x e = Contains-later y xs x (got xs n x e)
 
-record Flat (g : GroundMethod) (o : Option MethodPlan) : Type 0 where
-  within : ArePairsOf (IsPairBy o) (length (works_by g o))
-  order : (i j : ℕ) → (is_pair_by o i j ≡ true) ↔ Precedes (IsPairBy o) i j
+pub record Flat (g : GroundMethod) (o : Option MethodPlan) : Type 0 where
+  pub within : ArePairsOf (IsPairBy o) (length (works_by g o))
+  pub order : (i j : ℕ) → (is_pair_by o i j ≡ true) ↔ Precedes (IsPairBy o) i j
 
-flat_none : (g : GroundMethod) → Flat g None
+pub flat_none : (g : GroundMethod) → Flat g None
 flat_none g = record { within = λ i j x. absurd x; order = λ i j. (λ e. absurd cc, λ x. absurd (none i j x)) }
   where
     none : (i j : ℕ) → Precedes (IsPairBy None) i j → ⊥
     none i j (direct x) = x
     none i j (through x y) = y
 
-flat_some : (g : GroundMethod) (plan : MethodPlan) → is_flat plan ≡ true → Flat g (Some plan)
+pub flat_some : (g : GroundMethod) (plan : MethodPlan) → is_flat plan ≡ true → Flat g (Some plan)
 flat_some g plan e = record {
   within = λ i j c. (let h = tests (pair i j) c in let a = h.0 in let b = h.1.0 in (omega (arith, many), omega (arith, many)));
   order = λ i j. (λ t. direct (to i j t), λ c. to_any (same_pair (pair i j)) plan.schema.pairs (pair i j) (no_chain never_meet i j c) (same_itself (pair i j)));

@@ -1,14 +1,12 @@
 -- A guard: blocks, some of them red; b1 is a block, r1 is red. The method m of t takes a block and paints it, and paint takes red ones.
-use Rattle.std.proofs.Common.{ℕ, zero, suc, ◌≡◌, false, inl, inr, List, [], ◌∷◌, map, Some, None, refl, ap, sym, subst, ◌∙◌, Contains, arith}
+use Rattle.std.proofs.Common.{ℕ, ◌≡◌, false, inl, inr, List, [], ◌∷◌, map, Some, None, refl, ap, sym, subst, ◌∙◌, Contains, arith}
 use Rattle.std.specs.Prelude.{codes}
 use Rattle.plan_model.specs.declared.terms.Term.TheVariants.{Var}
-use Rattle.plan_model.specs.declared.terms.Param.{Param}
 use Rattle.plan_model.specs.declared.types.Parent.{Parent}
 use Rattle.plan_model.specs.declared.types.Types.{Types}
 use Rattle.plan_model.specs.declared.types.Object.{Object}
 use Rattle.plan_model.specs.declared.networks.Head.TheVariants.{Task, Action}
 use Rattle.plan_model.specs.declared.networks.Child.{Child}
-use Rattle.plan_model.specs.declared.networks.Guard.{Guard}
 use Rattle.plan_model.specs.declared.schemas.ActionSchema.{ActionSchema}
 use Rattle.plan_model.specs.declared.schemas.MethodSchema.{MethodSchema}
 use Rattle.plan_model.specs.declared.schemas.MethodPlan.{MethodPlan}

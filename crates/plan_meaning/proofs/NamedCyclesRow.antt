@@ -1,8 +1,7 @@
 -- The bad cycles that are named: of m: t -> t < a it is t m t; of m1: t -> u < a and m2: u -> b < t it is t m1 u m2 t.
-use Rattle.std.proofs.Common.{ℕ, zero, suc, ◌≡◌, ◌≢◌, ◌<◌, ◌≤◌, ◌⊎◌, inl, inr, List, [], ◌∷◌, length, Some, None, false, refl, ap, sym, subst, Contains, arith}
+use Rattle.std.proofs.Common.{ℕ, zero, suc, ◌≡◌, ◌≢◌, ◌≤◌, ◌⊎◌, inl, inr, List, [], ◌∷◌, length, Some, false, refl, ap, sym, Contains, arith}
 use Rattle.std.specs.Prelude.{codes}
 use Rattle.plan_model.specs.declared.networks.Head.TheVariants.{Task, Action}
-use Rattle.plan_model.specs.declared.networks.Child.{Child}
 use Rattle.plan_model.specs.declared.networks.Pair.{Pair}
 use Rattle.plan_model.specs.declared.schemas.MethodPlan.{MethodPlan}
 use Rattle.plan_model.specs.declared.values.Compiled.{Compiled}
@@ -12,7 +11,7 @@ use Rattle.task_networks.specs.Strata as Walks
 use Rattle.task_networks.specs.Strata.{ComesFirst}
 use Rattle.task_networks.proofs.Lists.{not-in_empty, head_or_tail}
 use Rattle.plan_meaning.specs.Network.{IsPairBy}
-use Rattle.plan_meaning.specs.Schemas.{Schema, task, schemas}
+use Rattle.plan_meaning.specs.Schemas.{task, schemas}
 use Rattle.plan_meaning.specs.Strata.{Edge, IsEdge, AreEdges, IsBad, IsTailRecursive, IsNamedCycle, source, target}
 use Rattle.plan_meaning.proofs.ListedItems.{of_each}
 use Rattle.plan_meaning.proofs.RowValues.{child, always, nothing, problem, method_schema, method_plan, task_schema, action_schema}
@@ -75,15 +74,19 @@ module _ where
 
   -- t m t: the edge goes from t to t, and no walk back is needed
   t_m_t : IsNamedCycle not_tail (edge 1 0) []
-  t_m_t = (edges, are_edges, record {
-    cycle = ((1, omega arith, refl), first_is_not_last, refl);
-    before = edge 0 0 ∷ [];
-    after = [];
-    parts = refl;
-    none_before = λ d back c b. of_each (λ e. IsBad not_tail e → ⊥) (edge 0 0 ∷ []) ((λ bad. bad (omega arith, λ j l n. absurd (omega arith))), tt) d c b.1;
-    shortest = λ back w. omega arith;
-    first = λ back w l. inl (none back l);
-  })
+  t_m_t = (
+    edges,
+    are_edges,
+    record {
+      cycle = ((1, omega arith, refl), first_is_not_last, refl);
+      before = edge 0 0 ∷ [];
+      after = [];
+      parts = refl;
+      none_before = λ d back c b. of_each (λ e. IsBad not_tail e → ⊥) (edge 0 0 ∷ []) ((λ bad. bad (omega arith, λ j l n. absurd (omega arith))), tt) d c b.1;
+      shortest = λ back w. omega arith;
+      first = λ back w l. inl (none back l);
+    },
+  )
     where
       none : (back : List Edge) → length back ≡ 0 → [] ≡ back
       none [] e = refl
@@ -147,15 +150,19 @@ module _ where
 
   -- t m1 u m2 t: from t to u, where a comes after u, and back from u to t
   t_m1_u_m2_t : IsNamedCycle around (edge 1 0) (edge 2 1 ∷ [])
-  t_m1_u_m2_t = (all_edges, are_all, record {
-    cycle = ((1, omega arith, refl), first_is_not_last, (refl, (2, omega arith, refl), refl));
-    before = edge 0 0 ∷ [];
-    after = edge 2 1 ∷ [];
-    parts = refl;
-    none_before = λ d back c b. of_each (λ e. IsBad around e → ⊥) (edge 0 0 ∷ []) ((λ bad. bad only_child), tt) d c b.1;
-    shortest = shortest;
-    first = first;
-  })
+  t_m1_u_m2_t = (
+    all_edges,
+    are_all,
+    record {
+      cycle = ((1, omega arith, refl), first_is_not_last, (refl, (2, omega arith, refl), refl));
+      before = edge 0 0 ∷ [];
+      after = edge 2 1 ∷ [];
+      parts = refl;
+      none_before = λ d back c b. of_each (λ e. IsBad around e → ⊥) (edge 0 0 ∷ []) ((λ bad. bad only_child), tt) d c b.1;
+      shortest = shortest;
+      first = first;
+    },
+  )
     where
       shortest : (back : List Edge) → Walks.IsWalk (source around) (target around) all_edges (task 1) back (task 0) → 1 ≤ length back
       shortest [] w = absurd (apart (sym w))

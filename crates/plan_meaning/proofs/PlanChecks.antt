@@ -1,7 +1,7 @@
 -- Lines, copiers and guards of a compiled method, each from parts that compute.
-use Rattle.std.proofs.Common.{ℕ, zero, suc, ◌≡◌, ◌≢◌, ◌+◌, ◌<◌, ◌≤◌, ◌↔◌, ◌⊎◌, ◌==◌, ◌&&◌, inl, inr, Bool, true, false, not, List, [], ◌∷◌, ◌++◌, filter, length, Option, Some, None, refl, ap, sym, subst, ◌∙◌, Contains, arith, eq-eqb}
+use Rattle.std.proofs.Common.{ℕ, zero, suc, ◌≡◌, ◌≢◌, ◌+◌, ◌<◌, ◌≤◌, ◌↔◌, ◌⊎◌, ◌==◌, ◌&&◌, inl, inr, Bool, true, false, not, List, [], ◌∷◌, ◌++◌, filter, Option, Some, None, refl, ap, sym, subst, Contains, arith, eq-eqb}
 use Rattle.std.specs.List.{list_any}
-use Rattle.task_networks.specs.Order.{Precedes, direct, through, ArePairsOf, IsLine, IsNext, IsMaximal}
+use Rattle.task_networks.specs.Order.{Precedes, direct, through, IsLine, IsNext, IsMaximal}
 use Rattle.task_networks.specs.Spelling.{numbers, is_heir}
 use Rattle.task_networks.proofs.Lists.{not-in_empty, head_or_tail, Contains-later}
 use Rattle.task_networks.proofs.Numbers.{to_numbers, numbers_to}
@@ -23,8 +23,7 @@ cut_numbers k zero (d ∷ listed) rest i e = absurd cc
 cut_numbers k (suc n) [] rest i e = let f : k ≡ i = cc in (omega arith, omega arith, λ j c. absurd (not-in_empty j c), λ j a b. absurd (omega arith))
 cut_numbers k (suc n) (d ∷ listed) rest i e =
     let f : k ≡ d = cc in
-    let (low, high, less, there) = cut_numbers (suc k) n listed rest i cc in
-    (
+    let (low, high, less, there) = cut_numbers (suc k) n listed rest i cc in (
       omega arith,
       omega arith,
       λ j c. elim (head_or_tail d listed j c) [ inl g ↦ omega arith | inr t ↦ less j t ],

@@ -19,3 +19,12 @@ slot_3 = ap (λ d. codes "htn_s" ++ d) (decimal-digits_of 3 (lit< tt) (lit< tt))
 
 pub slot_4 : slot_word 4 ≡ codes "htn_s4"
 slot_4 = ap (λ d. codes "htn_s" ++ d) (decimal-digits_of 4 (lit< tt) (lit< tt))
+
+pub slot_5 : slot_word 5 ≡ codes "htn_s5"
+slot_5 = ap (λ d. codes "htn_s" ++ d) (decimal-digits_of 5 (lit< tt) (lit< tt))
+
+pub slot_6 : slot_word 6 ≡ codes "htn_s6"
+slot_6 = ap (λ d. codes "htn_s" ++ d) (decimal-digits_of 6 (lit< tt) (lit< tt))
+
+pub slot_7 : slot_word 7 ≡ codes "htn_s7"
+slot_7 = ap (λ d. codes "htn_s" ++ d) (decimal-digits_of 7 (lit< tt) (lit< tt))

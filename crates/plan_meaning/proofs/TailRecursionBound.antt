@@ -1,15 +1,15 @@
 -- The bound of tail recursion, m1: t -> a < t and m0: t -> nothing, is 2; it is tail-recursive.
-use Rattle.std.proofs.Common.{ℕ, zero, suc, ◌≡◌, ◌≢◌, ◌<◌, ◌≤◌, ◌⊎◌, inl, inr, List, [], ◌∷◌, Some, refl, ap, sym, subst, Contains, arith, slice_get}
+use Rattle.std.proofs.Common.{ℕ, zero, suc, ◌≡◌, ◌≢◌, ◌<◌, ◌≤◌, inl, inr, List, [], ◌∷◌, Some, refl, sym, subst, Contains, arith, slice_get}
 use Rattle.plan_model.specs.declared.schemas.MethodPlan.{MethodPlan}
 use Rattle.task_networks.specs.Order.{Precedes, direct, IsLast}
-use Rattle.task_networks.specs.Bound.{AreBlocks, IsTheBound, IsReached, itself, as_child, IsAloneAtTheEnd, Counts, block_number}
+use Rattle.task_networks.specs.Bound.{AreBlocks, IsReached, itself, as_child, IsAloneAtTheEnd}
 use Rattle.task_networks.proofs.Lists.{not-in_empty}
 use Rattle.plan_meaning.specs.Network.{IsPairBy}
-use Rattle.plan_meaning.specs.Schemas.{Schema, task, action, check, IsPrimitive, schemas}
+use Rattle.plan_meaning.specs.Schemas.{Schema, task, schemas}
 use Rattle.plan_meaning.specs.Strata.{Edge, IsEdge, AreEdges, IsBad, IsTailRecursive}
 use Rattle.plan_meaning.specs.Bound.{IsBound}
 use Rattle.plan_meaning.proofs.ListedItems.{of_each}
-use Rattle.plan_meaning.proofs.EdgeChecks.{edge, are_edges_by, own_group, of_own_group, own_groups, one_block, two_blocks}
+use Rattle.plan_meaning.proofs.EdgeChecks.{edge, are_edges_by, own_group, one_block, two_blocks}
 use Rattle.plan_meaning.proofs.BoundChecks.{number_by, DoesCount, number_of_block, IsAttained, bound_by}
 use Rattle.plan_meaning.proofs.TailRecursionRow.{tail_recursion, top, again, stop}
 

@@ -2,7 +2,6 @@
 use Rattle.std.proofs.Common.{ℕ, zero, suc, ◌≡◌, false, List, [], ◌∷◌, map, Some, None, refl, subst, arith}
 use Rattle.std.specs.Prelude.{codes}
 use Rattle.plan_model.specs.declared.networks.Head.TheVariants.{Task, Action}
-use Rattle.plan_model.specs.declared.schemas.MethodSchema.{MethodSchema}
 use Rattle.plan_model.specs.declared.schemas.MethodPlan.{MethodPlan}
 use Rattle.plan_model.specs.declared.steps.GroundAction.{GroundAction}
 use Rattle.plan_model.specs.declared.values.Compiled.{Compiled}
