@@ -55,10 +55,11 @@ pub fn read<'a>(alloc: Global, source: &'a [u8], file: u8) -> Result<Sexprs<'a>,
 }
 
 impl<'a> Sexprs<'a> {
-    /// The number of tokens.
+    /// The number of tokens, at most that of the bytes. The text has no fault of tokens.
     pub fn len(&self) -> u32
         ensures count { result ≡ token_count self.now }
         ensures few { result ≤ length self.now }
+        ensures faultless { IsFaultless self.now }
     {
         self.pieces.len() as u32
     }
