@@ -1,8 +1,7 @@
 -- Numbers of blocks: what children count in them, and blocks that stand in the same order.
-use Rattle.std.proofs.Common.{ℕ, zero, suc, ◌≡◌, ◌≢◌, ◌+◌, ◌<◌, ◌≤◌, ◌⊎◌, ◌↔◌, inl, inr, List, [], ◌∷◌, length, Some, slice_get, refl, ap, sym, subst, Contains, arith}
-use Rattle.task_networks.specs.Net.{Net, count}
-use Rattle.task_networks.specs.Bound.{AreBlocks, weight, weights, block_number, IsAloneAtTheEnd, Counts, IsTheBound, IsReached, as_child}
-use Rattle.task_networks.proofs.BoundLaws.{by_size, before_block, at_block, after_block}
+use Rattle.std.proofs.Common.{ℕ, zero, suc, ◌≡◌, ◌≢◌, ◌+◌, ◌<◌, ◌≤◌, List, [], ◌∷◌, Some, slice_get, refl, ap, Contains, arith}
+use Rattle.task_networks.specs.Net.{Net}
+use Rattle.task_networks.specs.Bound.{AreBlocks, weight, weights}
 
 module _ (N : Net) (block : N.Method → ℕ → ℕ) (number : N.Work → ℕ) (m : N.Method) (k : ℕ) where
   -- child j of those from number i on
@@ -55,10 +54,10 @@ module _ (N : Net) (block other : N.Method → ℕ → ℕ) (number number' : N.
       let b = ap (λ z. weight_of N block number m k z w) (let y : i ≡ i + 0 = omega arith in y) in
       let c = ap (λ z. weight_of N other number' m k' z w) (let y : i ≡ i + 0 = omega arith in y) in
       let d = each_weight (suc i) ws (λ j u e. (
-        let x = f (suc j) u e in
-        let y = ap (λ z. weight_of N block number m k z u) (let q : suc i + j ≡ i + suc j = omega arith in q) in
-        let z = ap (λ z. weight_of N other number' m k' z u) (let q : suc i + j ≡ i + suc j = omega arith in q) in
-        omega arith
+      let x = f (suc j) u e in
+      let y = ap (λ z. weight_of N block number m k z u) (let q : suc i + j ≡ i + suc j = omega arith in q) in
+      let z = ap (λ z. weight_of N other number' m k' z u) (let q : suc i + j ≡ i + suc j = omega arith in q) in
+      omega arith
       )) in
       omega arith
 

@@ -17,7 +17,7 @@ use Rattle.plan_meaning.specs.Laws.{AreOrdered}
 use Rattle.plan_meaning.proofs.Pairs.{pairs_within, pairs_acyclic}
 
 -- a compiled method is that of a written one
-plan_of : (h : Hddl) (mode : Checks) (ss : List MethodSchema) (ps : List MethodPlan) (n : ℕ) (p : MethodPlan) → AreMethodPlans h mode ss ps → slice_get ps n ≡ Some p
+pub plan_of : (h : Hddl) (mode : Checks) (ss : List MethodSchema) (ps : List MethodPlan) (n : ℕ) (p : MethodPlan) → AreMethodPlans h mode ss ps → slice_get ps n ≡ Some p
     → (s : MethodSchema) × Contains ss s × IsMethodPlan h mode s p
 plan_of h mode [] [] n p a e = absurd cc
 plan_of h mode [] (q ∷ ps) n p a e = absurd a

@@ -32,7 +32,9 @@ pub mod BlocksRow
 pub mod NamedCyclesRow
 pub mod CompiledValues
 pub mod BlockNumbers
+pub mod BoundParts
 pub mod BoundIsOne
+pub mod BoundLaws
 pub mod ClassicalLaws
 pub mod AllObjectsRow
 pub mod AllObjectsSolution

@@ -1,10 +1,10 @@
 -- The value of Transport is the compiled one: the arguments of subtasks are all declared of the right types, so that there is no guard.
-use Rattle.std.proofs.Common.{ℕ, zero, suc, ◌+◌, ◌<◌, inl, inr, List, [], ◌∷◌, refl, arith}
+use Rattle.std.proofs.Common.{ℕ, zero, suc, inl, inr, [], ◌∷◌, refl, arith}
 use Rattle.std.specs.List.Sorted.{IsStrictlyIncreasing}
 use Rattle.plan_model.specs.declared.options.Checks.TheVariants.{Leaf}
 use Rattle.plan_model.specs.Typing.{IsPart, InType, stay}
 use Rattle.plan_meaning.specs.Compilation.{AreGuards, IsCompiled}
-use Rattle.plan_meaning.proofs.PlanKinds.{plain, with_check, Fits, holds_counts, none_rise}
+use Rattle.plan_meaning.proofs.PlanKinds.{plain, with_check, holds_counts, none_rise}
 use Rattle.plan_meaning.proofs.TransportValue.{transport, types, objects, top, m_deliver, deliver, m_via, via, m_there, there, at}
 
 -- a type is a part of itself
@@ -32,12 +32,32 @@ no_guards_on_top = ([], inr (within p1, inr (within l1, inr (within p2, inr (wit
 
 -- get-to, pick-up, get-to and drop
 no_guards_of_deliver : AreGuards transport.hddl m_deliver []
-no_guards_of_deliver = ([],
-    inr (within (same_type 3), inr (within (same_type 1),
-    inr (within (same_type 3), inr (within (same_type 1), inr (within (same_type 4),
-    inr (within (same_type 3), inr (within (same_type 1),
-    inr (within (same_type 3), inr (within (same_type 1), inr (within (same_type 4), refl)))))))))),
-    refl)
+no_guards_of_deliver = (
+  [],
+  inr (
+    within (same_type 3),
+    inr (
+      within (same_type 1),
+      inr (
+        within (same_type 3),
+        inr (
+          within (same_type 1),
+          inr (
+            within (same_type 4),
+            inr (
+              within (same_type 3),
+              inr (
+                within (same_type 1),
+                inr (within (same_type 3), inr (within (same_type 1), inr (within (same_type 4), refl))),
+              ),
+            ),
+          ),
+        ),
+      ),
+    ),
+  ),
+  refl,
+)
 
 -- drive and get-to
 no_guards_of_via : AreGuards transport.hddl m_via []
@@ -48,9 +68,13 @@ transport_is_compiled = record {
   hddl = refl;
   methods = (
     plain transport.hddl Leaf top.schema top refl refl refl (record { schema = refl; up = tt; line = refl; heir = refl; copiers = refl; rising = λ k l. zero_one k l; guards = no_guards_on_top }),
-    (plain transport.hddl Leaf m_deliver deliver refl refl refl (record { schema = refl; up = (omega arith, (omega arith, (omega arith, tt))); line = refl; heir = refl; copiers = refl; rising = none_rise; guards = no_guards_of_deliver }),
-    (plain transport.hddl Leaf m_via via refl refl refl (record { schema = refl; up = (omega arith, tt); line = refl; heir = refl; copiers = refl; rising = none_rise; guards = no_guards_of_via }),
-    (with_check transport.hddl m_there there (holds_counts (at 0 1)) refl refl (record { schema = refl; up = tt; line = refl; heir = refl; copiers = refl; rising = none_rise; guards = ([], refl, refl) }), tt))),
+    (
+      plain transport.hddl Leaf m_deliver deliver refl refl refl (record { schema = refl; up = (omega arith, (omega arith, (omega arith, tt))); line = refl; heir = refl; copiers = refl; rising = none_rise; guards = no_guards_of_deliver }),
+      (
+        plain transport.hddl Leaf m_via via refl refl refl (record { schema = refl; up = (omega arith, tt); line = refl; heir = refl; copiers = refl; rising = none_rise; guards = no_guards_of_via }),
+        (with_check transport.hddl m_there there (holds_counts (at 0 1)) refl refl (record { schema = refl; up = tt; line = refl; heir = refl; copiers = refl; rising = none_rise; guards = ([], refl, refl) }), tt),
+      ),
+    ),
   );
 }
   where

@@ -1,27 +1,13 @@
 -- The order of the children in Transport, decided.
-use Rattle.std.proofs.Common.{ℕ, zero, suc, ◌≡◌, ◌<◌, ◌⊎◌, ◌↔◌, ◌&&◌, inl, inr, Bool, true, false, List, [], ◌∷◌, map, length, Some, None, slice_get, refl, sym, subst, arith, nat_lt}
-use Rattle.std.specs.Prelude.{codes}
-use Rattle.plan_model.specs.declared.formulas.Formula.TheVariants.{Holds}
+use Rattle.std.proofs.Common.{ℕ, zero, suc, ◌≡◌, ◌<◌, ◌⊎◌, ◌↔◌, ◌&&◌, inl, inr, Bool, true, false, List, length, Some, None, slice_get, refl, sym, subst, arith, nat_lt}
 use Rattle.plan_model.specs.declared.networks.Pair.{Pair}
-use Rattle.plan_model.specs.declared.steps.GroundAction.{GroundAction}
-use Rattle.plan_model.specs.Typing.{stay}
 use Rattle.task_networks.specs.Order.{Precedes, direct, through, ArePairsOf}
-use Rattle.task_networks.specs.Tree.{Tree, split, more, done, none, open_leaf, Address, ran, used}
-use Rattle.task_networks.specs.Front.{IsFront}
-use Rattle.task_networks.specs.Spelling.{Act, apply, run}
 use Rattle.task_networks.proofs.PendingNodes.{both}
-use Rattle.task_networks.proofs.Tests.{Decides, schedule_iff}
-use Rattle.plan_meaning.specs.Truth.{IsTrueIn}
-use Rattle.plan_meaning.specs.Network.{action, check, task, GroundMethod, InTypeOf, IsPairBy, works_by, network, IsGroundMethod}
-use Rattle.plan_meaning.specs.Solution.{top_work, initial, IsExecutableFront}
-use Rattle.plan_meaning.specs.SpelledPlan.{step_of, IsSpelling}
-use Rattle.plan_meaning.proofs.TruthEquations.{truth-Holds, truth-And}
-use Rattle.plan_meaning.proofs.TruthExamples.{from}
+use Rattle.task_networks.proofs.Tests.{Decides}
+use Rattle.plan_meaning.specs.Network.{GroundMethod, IsPairBy, works_by, network}
 use Rattle.plan_meaning.proofs.ListedItems.{of_each}
 use Rattle.plan_meaning.proofs.FlatNetworks.{is_pair_by, Flat, flat_none, flat_some}
-use Rattle.plan_meaning.proofs.RowWords.{step, slot_1, slot_2, slot_3, slot_4, slot_5, slot_6, slot_7}
-use Rattle.plan_meaning.proofs.RowChecks.{untested, ground_by, spelling_by}
-use Rattle.plan_meaning.proofs.TransportValue.{transport, top, deliver, via, there, pick_up, at}
+use Rattle.plan_meaning.proofs.TransportValue.{transport, top, deliver, via, there}
 
 -- the four children of m-deliver stand in their order; in no other method do two pairs meet
 abbrev pub chain_of_four : ℕ → ℕ → Bool

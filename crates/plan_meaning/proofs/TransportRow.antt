@@ -1,28 +1,23 @@
 -- The first six steps of Transport with two trucks and three packages: a front that can be executed, and its spelling.
-use Rattle.std.proofs.Common.{ℕ, zero, suc, ◌≡◌, ◌<◌, ◌⊎◌, ◌↔◌, ◌&&◌, inl, inr, Bool, true, false, List, [], ◌∷◌, map, length, Some, None, slice_get, refl, sym, subst, arith, nat_lt}
+use Rattle.std.proofs.Common.{ℕ, zero, suc, ◌≡◌, inl, inr, List, [], ◌∷◌, map, refl, subst, arith}
 use Rattle.std.specs.Prelude.{codes}
 use Rattle.plan_model.specs.declared.formulas.Formula.TheVariants.{Holds}
-use Rattle.plan_model.specs.declared.networks.Pair.{Pair}
 use Rattle.plan_model.specs.declared.steps.GroundAction.{GroundAction}
 use Rattle.plan_model.specs.Typing.{stay}
-use Rattle.task_networks.specs.Order.{Precedes, direct, through, ArePairsOf}
 use Rattle.task_networks.specs.Tree.{Tree, split, more, done, none, open_leaf, Address, ran, used}
 use Rattle.task_networks.specs.Front.{IsFront}
 use Rattle.task_networks.specs.Spelling.{Act, apply, run}
-use Rattle.task_networks.proofs.PendingNodes.{both}
-use Rattle.task_networks.proofs.Tests.{Decides, schedule_iff}
+use Rattle.task_networks.proofs.Tests.{schedule_iff}
 use Rattle.plan_meaning.specs.Truth.{IsTrueIn}
-use Rattle.plan_meaning.specs.Network.{action, check, task, GroundMethod, InTypeOf, IsPairBy, works_by, network, IsGroundMethod}
+use Rattle.plan_meaning.specs.Network.{action, check, task, GroundMethod, InTypeOf, network, IsGroundMethod}
 use Rattle.plan_meaning.specs.Solution.{top_work, initial, IsExecutableFront}
 use Rattle.plan_meaning.specs.SpelledPlan.{step_of, IsSpelling}
 use Rattle.plan_meaning.proofs.TruthEquations.{truth-Holds, truth-And}
 use Rattle.plan_meaning.proofs.TruthExamples.{from}
-use Rattle.plan_meaning.proofs.ListedItems.{of_each}
-use Rattle.plan_meaning.proofs.FlatNetworks.{is_pair_by, Flat, flat_none, flat_some}
 use Rattle.plan_meaning.proofs.RowWords.{step, slot_1, slot_2, slot_3, slot_4, slot_5, slot_6, slot_7}
 use Rattle.plan_meaning.proofs.RowChecks.{untested, ground_by, spelling_by}
 use Rattle.plan_meaning.proofs.TransportOrder.{before, decides}
-use Rattle.plan_meaning.proofs.TransportValue.{transport, top, deliver, via, there, pick_up, at}
+use Rattle.plan_meaning.proofs.TransportValue.{transport, top, deliver, there, pick_up, at}
 
 -- m-deliver with v1, this package, l0 and l1; m-there with v1 and l0. Objects 0 to 2 are l0 to l2, 3 and 4 v1 and v2, 5 to 7 p1 to p3
 abbrev delivers : ℕ → GroundMethod

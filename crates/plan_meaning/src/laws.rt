@@ -3,7 +3,7 @@
 ghost use Rattle.task_networks.specs.Lawful.{IsLawful};
 ghost use Rattle.plan_meaning.specs.Network.{network};
 ghost use Rattle.plan_meaning.specs.Compilation.{IsCompiled};
-ghost use Rattle.plan_meaning.specs.Laws.{AreOrdered, PrefixIsExecutable};
+ghost use Rattle.plan_meaning.specs.Laws.{AreOrdered, PrefixIsExecutable, BoundIsTheOnlyOne};
 
 use plan_model::{Checks, Compiled, Hddl, Pddl};
 
@@ -17,4 +17,10 @@ pub fn compiled_network_is_lawful(problem: &Hddl, checks: &Checks, compiled: &Co
 /// A prefix of an executable list of ground actions is executable.
 pub fn prefix_is_executable(problem: &Pddl)
     ensures { PrefixIsExecutable problem.now }
+{}
+
+/// A compiled problem has one bound at most.
+pub fn bound_is_the_only_one(problem: &Hddl, checks: &Checks, compiled: &Compiled)
+    requires compiled { IsCompiled problem.now checks.now compiled.now }
+    ensures { BoundIsTheOnlyOne compiled.now }
 {}

@@ -7,4 +7,4 @@
 
 mod laws;
 
-pub use laws::{compiled_network_is_lawful, prefix_is_executable};
+pub use laws::{bound_is_the_only_one, compiled_network_is_lawful, prefix_is_executable};
