@@ -1,5 +1,5 @@
 -- A token stands within the text.
-use Rattle.std.proofs.Common.{◌≡◌, ◌∙◌, ℕ, zero, suc, ◌<◌, ◌≤◌, length, map, Option, Some, List, [], ◌∷◌, ap, sym, subst, arith}
+use Rattle.std.proofs.Common.{◌≡◌, ◌∙◌, ℕ, zero, suc, ◌<◌, ◌≤◌, length, map, Some, List, [], ◌∷◌, ap, sym, subst, arith}
 use Rattle.std.specs.Prelude.{slice_get}
 use Rattle.text_forms.specs.Tokens.{Token, tokens}
 use Rattle.text_forms.specs.Laws.{StandInOrder}

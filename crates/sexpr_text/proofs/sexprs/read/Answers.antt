@@ -1,5 +1,4 @@
-use Rattle.std.proofs.Common.{◌≡◌, ap, subst, arith, length}
-use Rattle.text_forms.specs.Faults.{IsFaultless}
+use Rattle.std.proofs.Common.{ap, subst, arith, length}
 use Rattle.sexpr_text.proofs.Found.{Tells, tells, is_none}
 use Rattle.sexpr_text.proofs.Pieces.{few_pieces}
 use Rattle.sexpr_text.proofs.sexprs.read.Goals as goal

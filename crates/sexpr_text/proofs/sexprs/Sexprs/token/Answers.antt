@@ -1,4 +1,4 @@
-use Rattle.std.proofs.Common.{◌<◌, ◌≤◌, arith}
+use Rattle.std.proofs.Common.{arith}
 use Rattle.sexpr_text.proofs.Spans.{within_piece}
 use Rattle.sexpr_text.proofs.sexprs.Sexprs.token.Goals as goal
 
