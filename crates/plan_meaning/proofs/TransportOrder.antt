@@ -1,10 +1,11 @@
 -- The order of the children in Transport, decided.
-use Rattle.std.proofs.Common.{ℕ, zero, suc, ◌≡◌, ◌<◌, ◌⊎◌, ◌↔◌, ◌&&◌, inl, inr, Bool, true, false, List, length, Some, None, slice_get, refl, sym, subst, arith, nat_lt}
+use Rattle.std.proofs.Common.{ℕ, zero, suc, ◌≡◌, ◌<◌, ◌⊎◌, ◌↔◌, ◌&&◌, inl, inr, Bool, true, List, length, Some, None, slice_get, refl, sym, subst, arith, nat_lt}
 use Rattle.plan_model.specs.declared.networks.Pair.{Pair}
 use Rattle.task_networks.specs.Order.{Precedes, direct, through, ArePairsOf}
 use Rattle.task_networks.proofs.PendingNodes.{both}
 use Rattle.task_networks.proofs.Tests.{Decides}
 use Rattle.plan_meaning.specs.Network.{GroundMethod, IsPairBy, works_by, network}
+use Rattle.plan_meaning.proofs.Unequal.{lt_to, to_lt, both_true}
 use Rattle.plan_meaning.proofs.ListedItems.{of_each}
 use Rattle.plan_meaning.proofs.FlatNetworks.{is_pair_by, Flat, flat_none, flat_some}
 use Rattle.plan_meaning.proofs.TransportValue.{transport, top, deliver, via, there}
@@ -35,16 +36,6 @@ to_chain i (suc j) l m = elim (cases i j (omega arith)) [
   | inl e ↦ subst (λ z. Precedes (IsPairBy (Some deliver)) z (suc j)) (sym e) (direct (pair_up j m))
   | inr k ↦ through (to_chain i j k (omega arith)) (pair_up j m)
 ]
-
-lt_to : (a b : ℕ) → nat_lt a b ≡ true → a < b
-lt_to a b e = grind (arith, e)
-
-to_lt : (a b : ℕ) → a < b → nat_lt a b ≡ true
-to_lt a b l = grind (arith, l)
-
-both_true : (a b : Bool) → a ≡ true → b ≡ true → (a && b) ≡ true
-both_true true b e f = f
-both_true false b e f = absurd cc
 
 chain_iff : (i j : ℕ) → (chain_of_four i j ≡ true) ↔ Precedes (IsPairBy (Some deliver)) i j
 chain_iff i j = (
