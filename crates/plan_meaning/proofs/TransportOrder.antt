@@ -17,7 +17,7 @@ chain_of_four i j = nat_lt i j && nat_lt j 4
 one_up : (i j : ℕ) → IsPairBy (Some deliver) i j → (j ≡ suc i) × (j < 4)
 one_up i j c = of_each (λ (p : Pair). (p.then ≡ suc p.first) × (p.then < 4)) deliver.schema.pairs ((refl, omega arith), ((refl, omega arith), ((refl, omega arith), tt))) (record { first = i; then = j }) c
 
-upward : (i j : ℕ) → Precedes (IsPairBy (Some deliver)) i j → (i < j) × (j < 4)
+pub upward : (i j : ℕ) → Precedes (IsPairBy (Some deliver)) i j → (i < j) × (j < 4)
 upward i j (direct p) = let h = one_up i j p in let a = h.0 in let b = h.1 in (omega arith, omega arith)
 upward i k (through {j = j} c p) = let h = upward i j c in let a = h.0 in let g = one_up j k p in let b = g.0 in let d = g.1 in (omega arith, omega arith)
 
@@ -30,7 +30,7 @@ pair_up (suc (suc (suc i))) l = absurd (omega arith)
 cases : (i j : ℕ) → i < suc j → (i ≡ j) ⊎ (i < j)
 cases i j l = grind arith
 
-to_chain : (i j : ℕ) → i < j → j < 4 → Precedes (IsPairBy (Some deliver)) i j
+pub to_chain : (i j : ℕ) → i < j → j < 4 → Precedes (IsPairBy (Some deliver)) i j
 to_chain i zero l m = absurd (omega arith)
 to_chain i (suc j) l m = elim (cases i j (omega arith)) [
   | inl e ↦ subst (λ z. Precedes (IsPairBy (Some deliver)) z (suc j)) (sym e) (direct (pair_up j m))
