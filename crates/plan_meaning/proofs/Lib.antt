@@ -39,6 +39,7 @@ pub mod BoundChecks
 pub mod TailRecursionBound
 pub mod BlocksRow
 pub mod NamedCyclesRow
+pub mod TwoBoundsOfThree
 pub mod TransportBound
 -- Rows: compiled values.
 pub mod PlanChecks

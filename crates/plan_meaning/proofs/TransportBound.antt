@@ -1,5 +1,5 @@
 -- The bound of Transport with three packages is 15: get-to has 2, deliver 2 + 3, and three stand unordered. It is tail-recursive.
-use Rattle.std.proofs.Common.{ℕ, zero, suc, ◌≡◌, ◌≢◌, ◌<◌, ◌≤◌, ◌⊎◌, ◌↔◌, inl, inr, List, [], ◌∷◌, Some, refl, ap, sym, subst, Contains, arith, slice_get}
+use Rattle.std.proofs.Common.{ℕ, zero, suc, ◌≡◌, ◌≢◌, ◌<◌, ◌≤◌, ◌⊎◌, inl, inr, List, [], ◌∷◌, Some, refl, subst, Contains, arith, slice_get}
 use Rattle.std.specs.Prelude.{take, drop}
 use Rattle.plan_model.specs.declared.schemas.MethodPlan.{MethodPlan}
 use Rattle.task_networks.specs.Order.{Precedes, direct, IsCut, IsLast}
