@@ -1,5 +1,5 @@
 -- All objects: of a printed problem with the objects o1 and o2 and a slot, a `forall` over `htn_object` ranges over o1 and o2 alone.
-use Rattle.std.proofs.Common.{true, ℕ, zero, suc, ◌≡◌, ◌<◌, ◌⊎◌, inl, inr, List, [], ◌∷◌, ◌++◌, refl, ap, subst, Contains, arith}
+use Rattle.std.proofs.Common.{true, ℕ, zero, suc, ◌≡◌, ◌⊎◌, inl, inr, List, [], ◌∷◌, ◌++◌, refl, sym, ap, subst, Contains, arith}
 use Rattle.plan_model.specs.declared.terms.Term.TheVariants.{Var}
 use Rattle.plan_model.specs.declared.terms.Atom.{Atom}
 use Rattle.plan_model.specs.declared.terms.GroundAtom.{GroundAtom}
@@ -12,6 +12,7 @@ use Rattle.plan_model.specs.Typing.{Leads, stay, climb, IsPart, InType}
 use Rattle.plan_meaning.specs.Truth.{State, AreTyped, IsTrueIn}
 use Rattle.plan_meaning.proofs.TruthEquations.{truth-Holds, truth-Forall}
 use Rattle.plan_meaning.proofs.TruthExamples.{to, from, object_of}
+use Rattle.plan_meaning.proofs.Unequal.{less}
 use Rattle.plan_meaning.proofs.ListedItems.{of_each}
 
 -- type 0 is object, type 1 is htn_slot, type 2 is htn_object
@@ -91,7 +92,4 @@ all_are_seen = from (λ i. truth-Forall InThis both_seen (any 2) (Holds seen) i 
 slot_is_not_seen : IsTrueIn InThis both_seen (Forall (any 0) (Holds seen)) [] → ⊥
 slot_is_not_seen h =
     let s : both_seen (was_seen 2) = to (λ i. truth-Holds InThis both_seen seen i (2 ∷ [])) (to (λ i. truth-Forall InThis both_seen (any 0) (Holds seen) i []) h (2 ∷ []) ((object 5 1, refl, inl (inl refl)), tt)) in
-    of_each (λ g. g ≡ was_seen 2 → ⊥) (was_seen 0 ∷ was_seen 1 ∷ []) ((λ e. less 0 2 (omega arith) (ap object_of e)), ((λ e. less 1 2 (omega arith) (ap object_of e)), tt)) (was_seen 2) s refl
-  where
-    less : (i j : ℕ) → i < j → i ≡ j → ⊥
-    less i j l e = omega arith
+    of_each (λ g. g ≡ was_seen 2 → ⊥) (was_seen 0 ∷ was_seen 1 ∷ []) ((λ e. less 0 2 (omega arith) (sym (ap object_of e))), ((λ e. less 1 2 (omega arith) (sym (ap object_of e))), tt)) (was_seen 2) s refl

@@ -1,6 +1,6 @@
 -- All objects: m: t -> a with t on top, where a asks that all objects are seen, and o1 and o2 are. It is a solution in one slot.
 -- Without (seen o2) the same front can't be executed.
-use Rattle.std.proofs.Common.{ℕ, zero, suc, ◌≡◌, ◌⊎◌, false, inl, inr, List, [], ◌∷◌, ◌++◌, map, Some, refl, ap, subst, arith}
+use Rattle.std.proofs.Common.{ℕ, zero, suc, ◌≡◌, ◌⊎◌, false, inl, inr, List, [], ◌∷◌, ◌++◌, map, Some, refl, ap, sym, subst, arith}
 use Rattle.std.specs.Prelude.{codes}
 use Rattle.plan_model.specs.declared.terms.Term.TheVariants.{Var}
 use Rattle.plan_model.specs.declared.terms.Atom.{Atom}
@@ -22,6 +22,7 @@ use Rattle.plan_meaning.specs.Solution.{top_work, initial, IsSolution, IsExecuta
 use Rattle.plan_meaning.specs.SpelledPlan.{step_of, IsSpelling}
 use Rattle.plan_meaning.proofs.TruthEquations.{truth-Holds, truth-Forall}
 use Rattle.plan_meaning.proofs.TruthExamples.{to, from, object_of}
+use Rattle.plan_meaning.proofs.Unequal.{less}
 use Rattle.plan_meaning.proofs.ListedItems.{of_each}
 use Rattle.plan_meaning.proofs.RowValues.{child, always, nothing, problem, method_schema, method_plan, task_schema, action_schema, uses}
 use Rattle.plan_meaning.proofs.RowWords.{step, slot_1}
@@ -123,10 +124,7 @@ half_seen = seeing (was_seen 0 ∷ [])
 o2_is_not_seen : IsTrueIn (InTypeOf half_seen) (initial half_seen) all_seen [] → ⊥
 o2_is_not_seen h =
     let s : initial half_seen (was_seen 1) = to (λ i. truth-Holds (InTypeOf half_seen) (initial half_seen) seen i (1 ∷ [])) (to (λ i. truth-Forall (InTypeOf half_seen) (initial half_seen) any (Holds seen) i []) h (1 ∷ []) ((object 10, refl, inl (inl refl)), tt)) in
-    of_each (λ g. g ≡ was_seen 1 → ⊥) (was_seen 0 ∷ []) ((λ e. zero_is_not_one 0 refl (ap object_of e)), tt) (was_seen 1) s refl
-  where
-    zero_is_not_one : (n : ℕ) → n ≡ 0 → n ≡ 1 → ⊥
-    zero_is_not_one n a b = omega arith
+    of_each (λ g. g ≡ was_seen 1 → ⊥) (was_seen 0 ∷ []) ((λ e. less 0 1 (omega arith) (sym (ap object_of e))), tt) (was_seen 1) s refl
 
 half_seen_fails : IsExecutableFront half_seen (tree (was_seen 0 ∷ [])) order → ⊥
 half_seen_fails f = o2_is_not_seen (allowed_of half_seen (tree (was_seen 0 ∷ [])) order (labels (was_seen 0 ∷ [])) (refl, (refl, (refl, tt))) f).1.1.0

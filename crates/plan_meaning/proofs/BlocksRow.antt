@@ -34,7 +34,7 @@ two pairs copiers = record {
 abbrev edges : List Edge
 edges = edge 0 0 ∷ edge 0 1 ∷ []
 
-is_zero : (n : ℕ) → (n ≡ 0) ⊎ (0 < n)
+pub is_zero : (n : ℕ) → (n ≡ 0) ⊎ (0 < n)
 is_zero zero = inl refl
 is_zero (suc n) = inr (omega arith)
 

@@ -1,13 +1,14 @@
 -- The bound of a worked row, from parts that compute, where each task is a group of its own.
-use Rattle.std.proofs.Common.{ℕ, suc, ◌≡◌, ◌≤◌, ◌⊎◌, inl, inr, List, Option, Some, None, refl, ap, sym, subst, ◌∙◌, slice_get, arith}
+use Rattle.std.proofs.Common.{ℕ, suc, ◌≡◌, ◌≤◌, ◌⊎◌, inl, inr, List, Some, refl, ap, sym, subst, ◌∙◌, slice_get, arith}
 use Rattle.plan_model.specs.declared.schemas.MethodPlan.{MethodPlan}
 use Rattle.plan_model.specs.declared.values.Compiled.{Compiled}
 use Rattle.task_networks.specs.Bound.{AreBlocks, IsReached, Counts, block_number}
 use Rattle.plan_meaning.specs.Network.{IsPairBy, top_task}
-use Rattle.plan_meaning.specs.Schemas.{Schema, task, action, check, IsPrimitive, schemas, head_by}
+use Rattle.plan_meaning.specs.Schemas.{Schema, task, action, check, IsPrimitive, schemas}
 use Rattle.plan_meaning.specs.Strata.{Edge, AreEdges}
 use Rattle.plan_meaning.specs.Bound.{IsBound}
 use Rattle.plan_meaning.proofs.ListedItems.{Every}
+use Rattle.plan_meaning.proofs.BoundParts.{head_is_task}
 use Rattle.plan_meaning.proofs.EdgeChecks.{own_group, of_own_group, own_groups, StaysOrFalls}
 
 -- a number for each task, and 1 for the others
@@ -53,10 +54,6 @@ module _ (c : Compiled) (block : ℕ → ℕ → ℕ) (f : ℕ → ℕ) where
       all_positive (action a) = omega arith
       all_positive (check m) = omega arith
       all_positive (task t) = positive t
-
-      head_is_task : (o : Option MethodPlan) → (t : ℕ) × (head_by o ≡ task t)
-      head_is_task None = (0, refl)
-      head_is_task (Some plan) = (plan.schema.task, refl)
 
       below : (w : Schema) (m i : ℕ) → (schemas c).IsGround m → own_group w ≡ own_group ((schemas c).head m) → DoesCount m i → number_of_block m i ≤ number_by f w
       below w m i g e k =

@@ -1,6 +1,6 @@
 -- Classical plans, worked out: one action `go` for a thing that is here, after which it is seen and here no more.
 -- The objects are the thing o, the thing q, which isn't here, and b, which is no thing. The goal is that o is seen.
-use Rattle.std.proofs.Common.{ℕ, zero, suc, ◌≡◌, inl, inr, false, List, [], ◌∷◌, Some, true, ◌==◌, refl, ap, sym, subst, Contains, arith, slice_get, eq-eqb}
+use Rattle.std.proofs.Common.{ℕ, zero, suc, ◌≡◌, inl, inr, false, List, [], ◌∷◌, Some, refl, ap, sym, subst, Contains, arith, slice_get}
 use Rattle.std.specs.Prelude.{codes}
 use Rattle.plan_model.specs.declared.terms.Term.TheVariants.{Var, Obj}
 use Rattle.plan_model.specs.declared.terms.Atom.{Atom}
@@ -21,8 +21,9 @@ use Rattle.plan_meaning.specs.Truth.{State, ground, AreTyped, IsTrueIn, after}
 use Rattle.plan_meaning.specs.ClassicalPlan.{IsObject, AreObjects, InTypeOf, IsApplicable, IsExecutable, IsPlan}
 use Rattle.plan_meaning.proofs.TruthEquations.{truth-Holds}
 use Rattle.plan_meaning.proofs.EffectEquations.{adds-Add, adds-And}
-use Rattle.plan_meaning.proofs.TruthExamples.{to, from, first_of, object_of}
+use Rattle.plan_meaning.proofs.TruthExamples.{to, from, object_of}
 use Rattle.plan_meaning.proofs.ListedItems.{of_each}
+use Rattle.plan_meaning.proofs.Unequal.{other_byte}
 use Rattle.plan_meaning.proofs.RowWords.{step}
 
 abbrev names : List (List ℕ)
@@ -150,12 +151,6 @@ b_is_no_thing (object, is, part) =
     no (inl (inl e)) = omega arith
     no (inl (inr l)) = object_is_no_thing l
     no (inr (members, e, a)) = cc
-
-other_byte : (v w : List ℕ) → Some v ≡ Some w → (first_of v == first_of w) ≡ false → ⊥
-other_byte v w e f =
-    let g : v ≡ w = cc in
-    let h : (first_of v == first_of w) ≡ true = eq-eqb (first_of v) (first_of w) (ap first_of g) in
-    absurd cc
 
 -- the word b is that of object 2 alone
 word_b : (k : ℕ) → IsObject one k (codes "b") → 2 ≡ k

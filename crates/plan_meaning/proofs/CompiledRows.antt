@@ -1,5 +1,5 @@
 -- Compiled values, worked out: the late check in both modes and the guard; and values that aren't compiled ones.
-use Rattle.std.proofs.Common.{ℕ, suc, ◌≡◌, true, inl, inr, List, [], ◌∷◌, length, Some, refl, ap, sym, arith}
+use Rattle.std.proofs.Common.{◌≡◌, true, inl, inr, List, [], ◌∷◌, length, Some, refl, ap, sym, arith}
 use Rattle.plan_model.specs.declared.formulas.Formula.TheVariants.{Holds}
 use Rattle.plan_model.specs.declared.networks.Head.TheVariants.{Action, Check}
 use Rattle.plan_model.specs.declared.options.Checks.{Checks}
@@ -8,6 +8,7 @@ use Rattle.plan_model.specs.declared.networks.Pair.{Pair}
 use Rattle.plan_model.specs.declared.schemas.MethodSchema.{MethodSchema}
 use Rattle.plan_model.specs.declared.values.Compiled.{Compiled}
 use Rattle.plan_meaning.specs.Compilation.{IsMethodPlan, IsCompiled}
+use Rattle.plan_meaning.proofs.Unequal.{less}
 use Rattle.plan_meaning.proofs.RowValues.{child, method_schema, method_plan}
 use Rattle.plan_meaning.proofs.PlanKinds.{plain, with_check, when_applied, holds_counts, leaf_is_not_at_once, none_rise, one_rises}
 use Rattle.plan_meaning.proofs.FreeVariableRow.{free_variable}
@@ -78,16 +79,13 @@ free_variable_is_compiled = record {
 abbrev with_pairs : List Pair → Compiled
 with_pairs pairs = record { hddl = late_hddl; methods = late_top_plan ∷ method_plan (method_schema 7 0 (Holds ready) (child Check ∷ child (Action 0) ∷ []) pairs) true (0 ∷ 1 ∷ []) (Some 1) [] ∷ [] }
 
-not_itself : (n : ℕ) → n ≡ suc n → ⊥
-not_itself n e = omega arith
-
 -- the check must stand before its sibling
 check_beside_its_sibling : IsCompiled late_hddl Leaf (with_pairs []) → ⊥
-check_beside_its_sibling c = not_itself 0 (ap (λ (s : MethodSchema). length s.pairs) c.methods.1.0.schema)
+check_beside_its_sibling c = less 0 1 (omega arith) (sym (ap (λ (s : MethodSchema). length s.pairs) c.methods.1.0.schema))
 
 -- and the pair stands once
 pair_twice : IsCompiled late_hddl Leaf (with_pairs (record { first = 0; then = 1 } ∷ record { first = 0; then = 1 } ∷ [])) → ⊥
-pair_twice c = not_itself 1 (sym (ap (λ (s : MethodSchema). length s.pairs) c.methods.1.0.schema))
+pair_twice c = less 1 2 (omega arith) (ap (λ (s : MethodSchema). length s.pairs) c.methods.1.0.schema)
 
 -- a method whose precondition counts has a check in this mode
 check_left_out : IsCompiled late_hddl Leaf tested_method → ⊥

@@ -1,8 +1,10 @@
--- The printed problem of the smallest one, m: t -> a with t on top, in one slot, written out by hand.
+-- The printed problem of the smallest one, m: t -> a with t on top, in one slot and in both styles, written out by hand.
 use Rattle.std.proofs.Common.{ℕ, ◌≡◌, Bool, true, cond, List, [], ◌∷◌, ◌++◌, refl, ap, sym, ◌∙◌}
 use Rattle.std.specs.Prelude.{codes}
-use Rattle.plan_model.specs.declared.options.Style.TheVariants.{Adl}
-use Rattle.plan_model.specs.declared.terms.Term.TheVariants.{Var}
+use Rattle.plan_model.specs.declared.options.Style.TheVariants.{Adl, Flat}
+use Rattle.plan_model.specs.declared.options.Style.{Style}
+use Rattle.plan_model.specs.declared.terms.Term.{Term}
+use Rattle.plan_model.specs.declared.terms.Term.TheVariants.{Var, Obj}
 use Rattle.plan_model.specs.declared.terms.Atom.{Atom}
 use Rattle.plan_model.specs.declared.terms.Param.{Param}
 use Rattle.plan_model.specs.declared.types.Types.{Types}
@@ -19,7 +21,8 @@ use Rattle.plan_model.specs.declared.schemas.Predicate.{Predicate}
 use Rattle.plan_model.specs.declared.schemas.ActionSchema.{ActionSchema}
 use Rattle.plan_model.specs.declared.values.Pddl.{Pddl}
 use Rattle.plan_meaning.specs.SourceParts.{name, source_formula, source_effect}
-use Rattle.plan_meaning.specs.EncodedNames.{encoded_objects}
+use Rattle.plan_meaning.specs.EncodedNames.{encoded_objects, order_numbers, free_predicate}
+use Rattle.plan_meaning.specs.OrderFormulas.{free_parts}
 use Rattle.plan_meaning.specs.EncodedActions.{no_part, is_empty, no_effect, is_empty_effect, source_condition, source_change}
 use Rattle.plan_meaning.specs.EncodedValue.{encoded_actions, IsEncoded}
 use Rattle.plan_meaning.proofs.RowValues.{always, nothing}
@@ -40,13 +43,13 @@ types = record {
 }
 
 -- ?htn_h - htn_slot, and ?htn_x - htn_slot
-abbrev h : Param
+abbrev pub h : Param
 h = record { name = record { number = 9 }; ty = 1 }
 
-abbrev x : Param
+abbrev pub x : Param
 x = record { name = record { number = 10 }; ty = 1 }
 
-abbrev slot_object : Object
+abbrev pub slot_object : Object
 slot_object = record { name = record { number = 5 }; ty = 1; constant = true }
 
 abbrev predicate : ℕ → List Param → Predicate
@@ -57,68 +60,83 @@ abbrev predicates : List Predicate
 predicates = predicate 6 (h ∷ []) ∷ predicate 7 (h ∷ []) ∷ predicate 8 (x ∷ h ∷ []) ∷ predicate 11 (h ∷ []) ∷ predicate 12 (h ∷ []) ∷ []
 
 -- a predicate of ?htn_h
-abbrev of_h : ℕ → Atom
+abbrev pub of_h : ℕ → Atom
 of_h number = record { predicate = number; args = Var 0 ∷ [] }
 
--- (forall (?htn_x - htn_slot) (not (htn_before ?htn_x ?htn_h)))
-abbrev waits : Formula
-waits = Forall (x ∷ []) (Not (Holds (record { predicate = 2; args = Var 1 ∷ Var 0 ∷ [] })))
+abbrev pub before : Term → Term → Atom
+before s t = record { predicate = 2; args = s ∷ t ∷ [] }
 
+-- what stands in either style for: no slot comes before ?htn_h; the pairs that leave ?htn_h go; each slot is free
+abbrev pub waits : Style → Formula
+-- (forall (?htn_x - htn_slot) (not (htn_before ?htn_x ?htn_h)))
+waits Adl = Forall (x ∷ []) (Not (Holds (before (Var 1) (Var 0))))
+-- (not (htn_before htn_s1 ?htn_h))
+waits Flat = Not (Holds (before (Obj 0) (Var 0)))
+
+abbrev pub clears : Style → Effect
 -- (forall (?htn_x - htn_slot) (not (htn_before ?htn_h ?htn_x)))
-abbrev clears : Effect
-clears = E.Forall (x ∷ []) (E.Delete (record { predicate = 2; args = Var 0 ∷ Var 1 ∷ [] }))
+clears Adl = E.Forall (x ∷ []) (E.Delete (before (Var 0) (Var 1)))
+-- (not (htn_before ?htn_h htn_s1))
+clears Flat = E.Delete (before (Var 0) (Obj 0))
+
+abbrev pub all_free : Style → Formula
+-- (forall (?htn_x - htn_slot) (htn_free ?htn_x))
+all_free Adl = Forall (x ∷ []) (Holds (of_h 1))
+-- (htn_free htn_s1)
+all_free Flat = Holds (record { predicate = 1; args = Obj 0 ∷ [] })
 
 abbrev action : ℕ → List Formula → List Effect → ActionSchema
 action word pre eff = record { name = record { number = word }; params = h ∷ []; pre = And pre; eff = E.And eff }
 
 -- htn_start, htn_m_m and a; what a asks and does itself comes last, and is nothing
-abbrev start : ActionSchema
-start = action 13 (Holds (of_h 0) ∷ waits ∷ []) (E.Delete (of_h 0) ∷ E.Add (of_h 3) ∷ [])
+abbrev pub start : Style → ActionSchema
+start style = action 13 (Holds (of_h 0) ∷ waits style ∷ []) (E.Delete (of_h 0) ∷ E.Add (of_h 3) ∷ [])
 
-abbrev of_t : ActionSchema
-of_t = action 14 (Holds (of_h 3) ∷ waits ∷ []) (E.Delete (of_h 3) ∷ E.Add (of_h 4) ∷ [])
+abbrev pub of_t : Style → ActionSchema
+of_t style = action 14 (Holds (of_h 3) ∷ waits style ∷ []) (E.Delete (of_h 3) ∷ E.Add (of_h 4) ∷ [])
 
-abbrev a : List Formula → List Effect → ActionSchema
-a pre eff = action 15 (Holds (of_h 4) ∷ waits ∷ pre) (E.Delete (of_h 4) ∷ E.Add (of_h 1) ∷ clears ∷ eff)
+abbrev pub a : Style → List Formula → List Effect → ActionSchema
+a style pre eff = action 15 (Holds (of_h 4) ∷ waits style ∷ pre) (E.Delete (of_h 4) ∷ E.Add (of_h 1) ∷ clears style ∷ eff)
 
--- (forall (?htn_x - htn_slot) (htn_free ?htn_x))
-abbrev all_free : Formula
-all_free = Forall (x ∷ []) (Holds (of_h 1))
-
-abbrev pub printed : Pddl
-printed = record {
+abbrev pub printed : Style → Pddl
+printed style = record {
   names = words;
   domain = record { number = 3 };
   problem = record { number = 4 };
   types = types;
   objects = slot_object ∷ [];
   predicates = predicates;
-  actions = start ∷ of_t ∷ a [] [] ∷ [];
+  actions = start style ∷ of_t style ∷ a style [] [] ∷ [];
   init = record { predicate = 0; args = 0 ∷ [] } ∷ [];
-  goal = And (all_free ∷ []);
+  goal = And (all_free style ∷ []);
 }
 
 -- an empty conjunction is no part of a condition
-no_condition : (front : ℕ) → source_condition smallest words 1 Adl front always ≡ []
-no_condition front = ap (λ b. cond b [] (source_formula words smallest_names front always ∷ [])) (ap is_empty (sym (rolls-And [])) ∙ fold-roll-Formula Bool no_part (Formula-F.And []))
+no_condition : (style : Style) (front : ℕ) → source_condition smallest words 1 style front always ≡ []
+no_condition style front = ap (λ b. cond b [] (source_formula words smallest_names front always ∷ [])) (ap is_empty (sym (rolls-And [])) ∙ fold-roll-Formula Bool no_part (Formula-F.And []))
 
-no_change : source_change smallest words 1 Adl 1 nothing ≡ []
-no_change = ap (λ b. cond b [] (source_effect words smallest_names 1 nothing ∷ [])) (ap is_empty_effect (sym (E.rolls-And [])) ∙ fold-roll-Effect Bool no_effect (Effect-F.And []))
+no_change : (style : Style) → source_change smallest words 1 style 1 nothing ≡ []
+no_change style = ap (λ b. cond b [] (source_effect words smallest_names 1 nothing ∷ [])) (ap is_empty_effect (sym (E.rolls-And [])) ∙ fold-roll-Effect Bool no_effect (Effect-F.And []))
 
 objects_are : slot_object ∷ [] ≡ encoded_objects smallest words 1
 objects_are = λ i. record { name = name words (sym slot_1 i); ty = 1; constant = true } ∷ []
 
-actions_are : printed.actions ≡ encoded_actions smallest words 1 Adl
-actions_are = λ i. start ∷ of_t ∷ a (sym (no_condition 1) i) (sym no_change i) ∷ []
+actions_are : (style : Style) → (printed style).actions ≡ encoded_actions smallest words 1 style
+actions_are Adl = λ i. start Adl ∷ of_t Adl ∷ a Adl (sym (no_condition Adl 1) i) (sym (no_change Adl) i) ∷ []
+actions_are Flat = λ i. start Flat ∷ of_t Flat ∷ a Flat (sym (no_condition Flat 1) i) (sym (no_change Flat) i) ∷ []
 
-encoded : IsEncoded smallest 1 Adl printed
-encoded = record {
+goal_is : (style : Style) → (printed style).goal ≡ And (source_condition smallest words 1 style 0 always ++ free_parts (order_numbers smallest words 1) 1 0 style (free_predicate smallest))
+goal_is Adl = λ i. And (sym (no_condition Adl 0) i ++ all_free Adl ∷ [])
+goal_is Flat = λ i. And (sym (no_condition Flat 0) i ++ all_free Flat ∷ [])
+
+encoded : (style : Style) → IsEncoded smallest 1 style (printed style)
+encoded style = record {
   domain = refl;
   problem = refl;
   types = refl;
   objects = objects_are;
   predicates = refl;
-  actions = actions_are;
+  actions = actions_are style;
   init = ([], refl, refl);
-  goal = λ i. And (sym (no_condition 0) i ++ all_free ∷ []);
+  goal = goal_is style;
 }

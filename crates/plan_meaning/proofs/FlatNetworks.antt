@@ -12,6 +12,7 @@ use Rattle.plan_model.specs.declared.schemas.MethodPlan.{MethodPlan}
 use Rattle.plan_model.specs.declared.values.Compiled.{Compiled}
 use Rattle.plan_meaning.specs.Network.{GroundMethod, network, works_by, IsPairBy, child_of}
 use Rattle.plan_meaning.specs.Compilation.{pair, same_pair}
+use Rattle.plan_meaning.proofs.Unequal.{lt_to}
 
 abbrev pub is_pair_by : Option MethodPlan → ℕ → ℕ → Bool
 is_pair_by None i j = false
@@ -32,9 +33,6 @@ same_to p q e =
 
 same_itself : (p : Pair) → same_pair p p ≡ true
 same_itself p = let a : (p.first == p.first) ≡ true = eq-eqb p.first p.first refl in ap (λ b. b && (p.then == p.then)) a ∙ eq-eqb p.then p.then refl
-
-lt_to : (a b : ℕ) → nat_lt a b ≡ true → a < b
-lt_to a b e = grind (arith, e)
 
 got : {A : Type 0} (xs : List A) (n : ℕ) (x : A) → slice_get xs n ≡ Some x → Contains xs x
 got [] n x e = absurd cc

@@ -80,7 +80,7 @@ block_is_not_red (inl (inr l)) = go l refl refl
         object_is_not_red (subst (λ z. Leads guard_types.parents z 2) p (subst (λ z. Leads guard_types.parents parent z) f l))
 block_is_not_red (inr (members, e, a)) = cc
 
-b1_is_not_red : InTypeOf guarded 0 2 → ⊥
+pub b1_is_not_red : InTypeOf guarded 0 2 → ⊥
 b1_is_not_red (object, is, part) =
     let e : Some (record { name = record { number = 11 }; ty = 1; constant = false }) ≡ Some object = is in
     let f : record { name = record { number = 11 }; ty = 1; constant = false } ≡ object = cc in

@@ -1,5 +1,5 @@
 -- Lines, copiers and guards of a compiled method, each from parts that compute.
-use Rattle.std.proofs.Common.{ℕ, zero, suc, ◌≡◌, ◌≢◌, ◌+◌, ◌<◌, ◌≤◌, ◌↔◌, ◌⊎◌, ◌==◌, ◌&&◌, inl, inr, Bool, true, false, not, List, [], ◌∷◌, ◌++◌, filter, Option, Some, None, refl, ap, sym, subst, Contains, arith, eq-eqb}
+use Rattle.std.proofs.Common.{ℕ, zero, suc, ◌≡◌, ◌≢◌, ◌+◌, ◌<◌, ◌≤◌, ◌↔◌, ◌⊎◌, ◌==◌, ◌&&◌, inl, inr, Bool, true, not, List, [], ◌∷◌, ◌++◌, filter, Option, Some, None, refl, ap, sym, subst, Contains, arith, eq-eqb}
 use Rattle.std.specs.List.{list_any}
 use Rattle.task_networks.specs.Order.{Precedes, direct, through, IsLine, IsNext, IsMaximal}
 use Rattle.task_networks.specs.Spelling.{numbers, is_heir}
@@ -9,11 +9,8 @@ use Rattle.task_networks.proofs.Filters.{filter_to, to_filter}
 use Rattle.task_networks.proofs.PendingNodes.{both, not_to, to_not}
 use Rattle.task_networks.proofs.Tests.{any_to, to_any}
 use Rattle.plan_model.specs.declared.networks.Pair.{Pair}
+use Rattle.plan_meaning.proofs.Unequal.{both_true}
 use Rattle.plan_meaning.specs.Compilation.{pair, Pairs}
-
-both_true : (a b : Bool) → a ≡ true → b ≡ true → (a && b) ≡ true
-both_true true b e f = f
-both_true false b e f = absurd cc
 
 -- where a list of numbers is cut, those before are the lesser ones
 cut_numbers : (k n : ℕ) (listed rest : List ℕ) (i : ℕ) → numbers k n ≡ listed ++ i ∷ rest

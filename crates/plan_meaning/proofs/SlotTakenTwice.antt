@@ -15,6 +15,7 @@ use Rattle.plan_meaning.specs.Network.{Work, action, check, task, GroundMethod, 
 use Rattle.plan_meaning.specs.Solution.{top_work}
 use Rattle.plan_meaning.specs.SpelledPlan.{step_of, work_name, method_name, object_word, IsSpelling}
 use Rattle.plan_meaning.proofs.TruthExamples.{first_of}
+use Rattle.plan_meaning.proofs.Unequal.{less}
 use Rattle.plan_meaning.proofs.RowWords.{step}
 use Rattle.plan_meaning.proofs.SlotTakenRow.{two_children}
 
@@ -24,9 +25,6 @@ N = network two_children
 -- (htn_start htn_s1) (htn_m_m htn_s1 htn_s1)
 abbrev taken_steps : List GroundAction
 taken_steps = step (codes "htn_start") (codes "htn_s1" ∷ []) ∷ step (codes "htn_m_m") (codes "htn_s1" ∷ codes "htn_s1" ∷ []) ∷ []
-
-less : (i j : ℕ) → i < j → j ≡ i → ⊥
-less i j l e = omega arith
 
 -- parts of what is spelled
 module _ where

@@ -45,7 +45,7 @@ slot p = 1
 abbrev acts : List (Act (network smallest))
 acts = apply 1 [] (uses 0) ∷ apply 1 [] (uses 1) ∷ run 1 (action 0 []) ∷ []
 
-abbrev steps : List GroundAction
+abbrev pub steps : List GroundAction
 steps = step (codes "htn_start") (codes "htn_s1" ∷ []) ∷ step (codes "htn_m_m") (codes "htn_s1" ∷ []) ∷ step (codes "a") (codes "htn_s1" ∷ []) ∷ []
 
 in_words : map (step_of smallest) acts ≡ steps

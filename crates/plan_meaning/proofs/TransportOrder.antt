@@ -1,10 +1,11 @@
 -- The order of the children in Transport, decided.
-use Rattle.std.proofs.Common.{ℕ, zero, suc, ◌≡◌, ◌<◌, ◌⊎◌, ◌↔◌, ◌&&◌, inl, inr, Bool, true, false, List, length, Some, None, slice_get, refl, sym, subst, arith, nat_lt}
+use Rattle.std.proofs.Common.{ℕ, zero, suc, ◌≡◌, ◌<◌, ◌⊎◌, ◌↔◌, ◌&&◌, inl, inr, Bool, true, List, length, Some, None, slice_get, refl, sym, subst, arith, nat_lt}
 use Rattle.plan_model.specs.declared.networks.Pair.{Pair}
 use Rattle.task_networks.specs.Order.{Precedes, direct, through, ArePairsOf}
 use Rattle.task_networks.proofs.PendingNodes.{both}
 use Rattle.task_networks.proofs.Tests.{Decides}
 use Rattle.plan_meaning.specs.Network.{GroundMethod, IsPairBy, works_by, network}
+use Rattle.plan_meaning.proofs.Unequal.{lt_to, to_lt, both_true}
 use Rattle.plan_meaning.proofs.ListedItems.{of_each}
 use Rattle.plan_meaning.proofs.FlatNetworks.{is_pair_by, Flat, flat_none, flat_some}
 use Rattle.plan_meaning.proofs.TransportValue.{transport, top, deliver, via, there}
@@ -16,7 +17,7 @@ chain_of_four i j = nat_lt i j && nat_lt j 4
 one_up : (i j : ℕ) → IsPairBy (Some deliver) i j → (j ≡ suc i) × (j < 4)
 one_up i j c = of_each (λ (p : Pair). (p.then ≡ suc p.first) × (p.then < 4)) deliver.schema.pairs ((refl, omega arith), ((refl, omega arith), ((refl, omega arith), tt))) (record { first = i; then = j }) c
 
-upward : (i j : ℕ) → Precedes (IsPairBy (Some deliver)) i j → (i < j) × (j < 4)
+pub upward : (i j : ℕ) → Precedes (IsPairBy (Some deliver)) i j → (i < j) × (j < 4)
 upward i j (direct p) = let h = one_up i j p in let a = h.0 in let b = h.1 in (omega arith, omega arith)
 upward i k (through {j = j} c p) = let h = upward i j c in let a = h.0 in let g = one_up j k p in let b = g.0 in let d = g.1 in (omega arith, omega arith)
 
@@ -29,22 +30,12 @@ pair_up (suc (suc (suc i))) l = absurd (omega arith)
 cases : (i j : ℕ) → i < suc j → (i ≡ j) ⊎ (i < j)
 cases i j l = grind arith
 
-to_chain : (i j : ℕ) → i < j → j < 4 → Precedes (IsPairBy (Some deliver)) i j
+pub to_chain : (i j : ℕ) → i < j → j < 4 → Precedes (IsPairBy (Some deliver)) i j
 to_chain i zero l m = absurd (omega arith)
 to_chain i (suc j) l m = elim (cases i j (omega arith)) [
   | inl e ↦ subst (λ z. Precedes (IsPairBy (Some deliver)) z (suc j)) (sym e) (direct (pair_up j m))
   | inr k ↦ through (to_chain i j k (omega arith)) (pair_up j m)
 ]
-
-lt_to : (a b : ℕ) → nat_lt a b ≡ true → a < b
-lt_to a b e = grind (arith, e)
-
-to_lt : (a b : ℕ) → a < b → nat_lt a b ≡ true
-to_lt a b l = grind (arith, l)
-
-both_true : (a b : Bool) → a ≡ true → b ≡ true → (a && b) ≡ true
-both_true true b e f = f
-both_true false b e f = absurd cc
 
 chain_iff : (i j : ℕ) → (chain_of_four i j ≡ true) ↔ Precedes (IsPairBy (Some deliver)) i j
 chain_iff i j = (

@@ -20,10 +20,10 @@ use Rattle.plan_meaning.proofs.RowChecks.{always_true, untested, ground_by, no_s
 abbrev names : List (List ℕ)
 names = codes "object" ∷ codes "d" ∷ codes "p" ∷ codes "htn_start" ∷ codes "x" ∷ codes "p" ∷ codes "q" ∷ codes "y" ∷ codes "mx" ∷ []
 
-abbrev top : MethodPlan
+abbrev pub top : MethodPlan
 top = method_plan (method_schema 3 1 always (child (Task 0) ∷ child (Action 2) ∷ []) (record { first = 0; then = 1 } ∷ [])) false (0 ∷ 1 ∷ []) (Some 1) []
 
-abbrev of_x : MethodPlan
+abbrev pub of_x : MethodPlan
 of_x = method_plan (method_schema 8 0 always (child (Action 0) ∷ child (Action 1) ∷ []) []) false (0 ∷ 1 ∷ []) (Some 1) (0 ∷ [])
 
 abbrev pub waiting : Compiled
