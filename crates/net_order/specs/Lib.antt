@@ -1,0 +1,5 @@
+pub mod Marks
+pub mod Line
+pub mod Answers
+pub mod Meaning
+pub mod Closure
