@@ -12,5 +12,7 @@ mod firsts;
 mod last;
 mod line;
 mod order;
+#[cfg(test)]
+mod tests;
 
 pub use order::{Order, OrderError};
