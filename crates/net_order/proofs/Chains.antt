@@ -1,5 +1,5 @@
 -- Chains of a list of pairs, and of the list with one more pair.
-use Rattle.std.proofs.Common.{ℕ, ◌≡◌, ◌<◌, ◌⊎◌, inl, inr, List, [], ◌∷◌, ◌++◌, sym, subst, ap, ◌∙◌}
+use Rattle.std.proofs.Common.{ℕ, ◌≡◌, ◌<◌, ◌⊎◌, inl, inr, List, [], ◌∷◌, ◌++◌, sym, subst, ap, ◌∙◌, Contains}
 use Rattle.std.proofs.lemmas.List.Elements.{Contains-append_left, Contains-push, Contains-push_cases}
 use Rattle.plan_model.specs.declared.networks.Pair.{Pair}
 use Rattle.task_networks.specs.Order.{Precedes, direct, through, IsAcyclic, ArePairsOf, Closes}
@@ -22,8 +22,11 @@ module _ (ps : List Pair) (p : Pair) where
   pub last_added : Precedes (Pairs (ps ++ p ∷ [])) p.first p.then
   last_added = direct (Contains-push ps p)
 
-  among_cases : (i j : ℕ) → Pairs (ps ++ p ∷ []) i j → Pairs ps i j ⊎ ((i ≡ p.first) × (j ≡ p.then))
+  pub among_cases : (i j : ℕ) → Pairs (ps ++ p ∷ []) i j → Pairs ps i j ⊎ ((i ≡ p.first) × (j ≡ p.then))
   among_cases i j h = elim (Contains-push_cases ps p (pair i j) h) [ inl c ↦ inl c | inr e ↦ inr (sym (ap (λ (q : Pair). q.first) e), sym (ap (λ (q : Pair). q.then) e)) ]
+
+  pub among_push : (i j : ℕ) → i ≡ p.first → j ≡ p.then → Pairs (ps ++ p ∷ []) i j
+  among_push i j e f = subst (Contains (ps ++ p ∷ [])) (sym (ap (λ x. pair x j) e ∙ ap (pair p.first) f)) (Contains-push ps p)
 
   abbrev pub ByLast : ℕ → ℕ → Type 0
   ByLast a b = ((b ≡ p.then) ⊎ Precedes (Pairs ps) p.then b) × ((a ≡ p.first) ⊎ Precedes (Pairs ps) a p.first)

@@ -5,3 +5,6 @@ pub mod Lines
 pub mod Ends
 pub mod Whole
 pub mod Meanings
+pub mod Adding
+pub mod Closing
+pub mod Sorting

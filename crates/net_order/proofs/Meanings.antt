@@ -8,7 +8,6 @@ use Rattle.task_networks.specs.Order.{Precedes, direct, through, IsAcyclic, AreP
 use Rattle.task_networks.proofs.Orders.{precedes_within}
 use Rattle.task_networks.proofs.Lists.{last_cases}
 use Rattle.net_order.specs.Marks.{has, marked, Marked, IsSquare, IsMarkedLast, IsMarkedCut}
-use Rattle.net_order.specs.Line.{IsGreedy}
 use Rattle.net_order.specs.Meaning.{pair, Pairs, AreBelow, IsOrderOf}
 use Rattle.net_order.specs.Closure.{IsClosure, AreFirsts}
 use Rattle.net_order.proofs.Chains.{chain_map, pairs_of}
@@ -68,28 +67,7 @@ module _ (count : ℕ) (pairs : List Pair) (before : List (List Bool)) (below : 
   sets : length before ≡ count
   sets = closure.square.sets
 
-  module _ (line : List ℕ) (greedy : IsGreedy (Marked before) (length before) line) where
-    decide : (i j : ℕ) → Marked before i j ⊎ (Marked before i j → ⊥)
-    decide i j = elim (cases_Bool (marked before i j)) [ inl e ↦ inl e | inr e ↦ inr (both_ways (marked before i j) e) ]
-
-    inside : ArePairsOf (Marked before) (length before)
-    inside = subst (ArePairsOf (Marked before)) (sym sets) (marked_within count before closure.square)
-
-    acyclic : IsAcyclic (Marked before)
-    acyclic i c = closure.acyclic i (to i i c)
-
-    pub places : length line ≡ length before
-    places = whole.length_whole (Marked before) (length before) decide inside line greedy acyclic
-
-    pub children : (i : ℕ) → Contains line i → i < length before
-    children = whole.child_of (Marked before) (length before) decide inside line greedy
-
-    pub is_line : IsLine (Pairs pairs) count line
-    is_line = record {
-      whole = λ i l. whole.whole (Marked before) (length before) decide inside line greedy acyclic i (omega (arith, sets));
-      each = λ taken rest i e. next_like (length before) count sets to from taken i (greedy.each taken rest i e);
-    }
-
+  module _ (line : List ℕ) (is : IsLine (Pairs pairs) count line) where
     pub is_cut : (k : ℕ) → k < length line → IsMarkedCut before line k ↔ IsCut (Pairs pairs) line k
     is_cut k l = (cut, marked_cut)
       where
@@ -125,20 +103,23 @@ module _ (count : ℕ) (pairs : List Pair) (before : List (List Bool)) (below : 
       ends : IsMaximal (Pairs pairs) count i → IsTrue (not (has begins i))
       ends m = not_from_false (has begins i) (false_from_ne_true (has begins i) (λ t. (let x = (firsts i).0 t in m.1 x.0.then (direct (subst (λ k. Contains pairs (pair k x.0.then)) x.2 x.1)))))
 
-  pub is_order : (line : List ℕ) (last : Option ℕ) (begins cuts : List Bool) → IsGreedy (Marked before) (length before) line
+  pub is_order : (line : List ℕ) (last : Option ℕ) (begins cuts : List Bool) → IsLine (Pairs pairs) count line
       → MatchOption last ((i : ℕ) → IsMarkedLast before i → ⊥) (IsMarkedLast before) → AreFirsts pairs begins
       → ((k : ℕ) → k < length line → IsTrue (has cuts k) ↔ IsMarkedCut before line k)
       → IsOrderOf count pairs (record { count = length before; before = before; line = line; last = last; begins = begins; cuts = cuts })
-  is_order line last begins cuts greedy lasts firsts cut_at = record {
+  is_order line last begins cuts is lasts firsts cut_at = record {
     children = sets;
     acyclic = closure.acyclic;
     precedes = closure.precedes;
-    line = is_line line greedy;
-    heir = heir_is_last (Pairs pairs) count line (is_line line greedy) (places line greedy ∙ sets);
+    line = is;
+    heir = heir_is_last (Pairs pairs) count line is places;
     last = is_last last lasts;
     maximal = is_maximal begins firsts;
-    cut = λ k a l. cuts_are k (let e = places line greedy in omega (arith, sets));
+    cut = λ k a l. cuts_are k (omega (arith, places));
   }
     where
+      places : length line ≡ count
+      places = whole.length_line (Pairs pairs) count line is.each is.whole
+
       cuts_are : (k : ℕ) → k < length line → IsTrue (has cuts k) ↔ IsCut (Pairs pairs) line k
-      cuts_are k l = let f = cut_at k l in let g = is_cut line greedy k l in (λ t. g.0 (f.0 t), λ c. f.1 (g.1 c))
+      cuts_are k l = let f = cut_at k l in let g = is_cut line is k l in (λ t. g.0 (f.0 t), λ c. f.1 (g.1 c))

@@ -1,5 +1,5 @@
--- Where no child precedes itself, a line that goes as far as it can has each child once.
-use Rattle.std.proofs.Common.{ℕ, zero, suc, ◌≡◌, ◌<◌, ◌⊎◌, inl, inr, List, [], ◌∷◌, ◌++◌, length, Contains, refl, sym, subst, ap, ◌∙◌, arith, append_assoc}
+-- A line that goes as far as it can has each child once exactly where no child precedes itself.
+use Rattle.std.proofs.Common.{ℕ, zero, suc, ◌≡◌, ◌<◌, ◌⊎◌, inl, inr, List, [], ◌∷◌, ◌++◌, length, Contains, refl, sym, subst, ap, ◌∙◌, arith, append_assoc, ◌≤◌}
 use Rattle.std.proofs.lemmas.Bool.{cases_eq}
 use Rattle.task_networks.specs.Order.{Precedes, direct, through, IsAcyclic, ArePairsOf, IsReady, IsNext, IsMaximal}
 use Rattle.task_networks.specs.Pending.{AreDifferent}
@@ -7,7 +7,7 @@ use Rattle.task_networks.specs.Spelling.{numbers}
 use Rattle.task_networks.proofs.Lists.{by_push, cut_at, head_or_tail, not-in_empty, Contains-later, Contains-here}
 use Rattle.task_networks.proofs.Different.{different_append, no_more}
 use Rattle.task_networks.proofs.Numbers.{length-numbers, numbers_to, to_numbers, different-numbers}
-use Rattle.task_networks.proofs.Orders.{precedes_then, last_pair, maximal_above}
+use Rattle.task_networks.proofs.Orders.{precedes_then, precedes_within, last_pair, maximal_above}
 use Rattle.net_order.specs.Line.{IsGreedy}
 use Rattle.net_order.proofs.Lines.{all_before}
 
@@ -25,26 +25,61 @@ pub search_below : (P : ℕ → Type 0) → ((j : ℕ) → P j ⊎ (P j → ⊥)
 search_below P decide zero = inr (λ j l p. absurd (omega arith))
 search_below P decide (suc n) = go (decide n) (search_below P decide n)
   where
-    at_most : (P n → ⊥) → ((j : ℕ) → j < n → P j → ⊥) → (j : ℕ) → j < suc n → P j → ⊥
-    at_most f g j l p = elim (cases_eq j n) [ inl e ↦ f (subst P e p) | inr d ↦ g j (omega arith) p ]
+    up_to : (P n → ⊥) → ((j : ℕ) → j < n → P j → ⊥) → (j : ℕ) → j < suc n → P j → ⊥
+    up_to f g j l p = elim (cases_eq j n) [ inl e ↦ f (subst P e p) | inr d ↦ g j (omega arith) p ]
 
     go : (P n ⊎ (P n → ⊥)) → (((j : ℕ) × (j < n) × P j) ⊎ ((j : ℕ) → j < n → P j → ⊥)) → ((j : ℕ) × (j < suc n) × P j) ⊎ ((j : ℕ) → j < suc n → P j → ⊥)
     go (inl p) r = inl (n, omega arith, p)
     go (inr f) (inl x) = inl (x.0, (let h = x.1 in omega arith), x.2)
-    go (inr f) (inr g) = inr (at_most f g)
+    go (inr f) (inr g) = inr (up_to f g)
 
-module _ (Pair : ℕ → ℕ → Type 0) (count : ℕ) (decide : (i j : ℕ) → Pair i j ⊎ (Pair i j → ⊥)) (within : ArePairsOf Pair count) (line : List ℕ) (greedy : IsGreedy Pair count line) where
+module _ (Pair : ℕ → ℕ → Type 0) (count : ℕ) (line : List ℕ) (each : (taken rest : List ℕ) (i : ℕ) → line ≡ taken ++ i ∷ rest → IsNext Pair count taken i) where
   pub child_of : (i : ℕ) → Contains line i → i < count
-  child_of i c = let (taken, rest, e) = cut_at line i c in (greedy.each taken rest i e).ready.child
+  child_of i c = let (taken, rest, e) = cut_at line i c in (each taken rest i e).ready.child
 
   pub different : AreDifferent line
-  different = by_push (λ xs. ((taken rest : List ℕ) (i : ℕ) → xs ≡ taken ++ i ∷ rest → IsNext Pair count taken i) → AreDifferent xs) (λ f. tt) step line greedy.each
+  different = by_push (λ xs. ((taken rest : List ℕ) (i : ℕ) → xs ≡ taken ++ i ∷ rest → IsNext Pair count taken i) → AreDifferent xs) (λ f. tt) step line each
     where
       step : (xs : List ℕ) (x : ℕ) → (((taken rest : List ℕ) (i : ℕ) → xs ≡ taken ++ i ∷ rest → IsNext Pair count taken i) → AreDifferent xs)
           → ((taken rest : List ℕ) (i : ℕ) → xs ++ x ∷ [] ≡ taken ++ i ∷ rest → IsNext Pair count taken i) → AreDifferent (xs ++ x ∷ [])
-      step xs x f each = different_append xs (x ∷ []) (f (λ taken rest i e. each taken (rest ++ x ∷ []) i (ap (λ ys. ys ++ x ∷ []) e ∙ append_assoc taken (i ∷ rest) (x ∷ [])))) (not-in_empty x, tt)
-          (λ y c d. elim (head_or_tail x [] y d) [ inl e ↦ (each xs [] x refl).ready.unlisted (subst (Contains xs) (sym e) c) | inr e ↦ not-in_empty y e ])
+      step xs x f next = different_append xs (x ∷ []) (f (λ taken rest i e. next taken (rest ++ x ∷ []) i (ap (λ ys. ys ++ x ∷ []) e ∙ append_assoc taken (i ∷ rest) (x ∷ [])))) (not-in_empty x, tt)
+          (λ y c d. elim (head_or_tail x [] y d) [ inl e ↦ (next xs [] x refl).ready.unlisted (subst (Contains xs) (sym e) c) | inr e ↦ not-in_empty y e ])
 
+  pub at_most : length line ≤ count
+  at_most =
+      let a = no_more line (numbers 0 count) different (λ j c. to_numbers 0 count j (omega arith) (let b = child_of j c in omega arith)) in
+      let m = length-numbers 0 count in
+      omega arith
+
+  -- a line with as many children as there are has each
+  pub full : count ≤ length line → (i : ℕ) → i < count → Contains line i
+  full e i l = elim (in_line line i) [ inl c ↦ c | inr f ↦ absurd (none f) ]
+    where
+      below : (j : ℕ) → Contains (i ∷ line) j → j < count
+      below j c = elim (head_or_tail i line j c) [ inl g ↦ subst (λ x. x < count) g l | inr g ↦ child_of j g ]
+
+      none : (Contains line i → ⊥) → ⊥
+      none f =
+          let n = no_more (i ∷ line) (numbers 0 count) (f, different) (λ j c. to_numbers 0 count j (omega arith) (let b = below j c in omega arith)) in
+          let m = length-numbers 0 count in
+          omega arith
+
+  module _ (whole : (i : ℕ) → i < count → Contains line i) where
+    pub length_line : length line ≡ count
+    length_line =
+        let a = at_most in
+        let b = no_more (numbers 0 count) line (different-numbers 0 count) (λ j c. whole j (let b = (numbers_to 0 count j c).1 in omega arith)) in
+        let m = length-numbers 0 count in
+        omega arith
+
+    -- where each child is listed, none precedes itself
+    pub line_acyclic : ArePairsOf Pair count → IsAcyclic Pair
+    line_acyclic within i c =
+        let (taken, rest, e) = cut_at line i (whole i (precedes_within count i i within c).0) in
+        let r = (each taken rest i e).ready in
+        r.unlisted (r.preceded i c)
+
+module _ (Pair : ℕ → ℕ → Type 0) (count : ℕ) (decide : (i j : ℕ) → Pair i j ⊎ (Pair i j → ⊥)) (within : ArePairsOf Pair count) (line : List ℕ) (greedy : IsGreedy Pair count line) where
   -- the walk down from an unlisted child goes by unlisted ones
   abbrev Down : ℕ → ℕ → Type 0
   Down i j = Pair j i × (Contains line i → ⊥) × (Contains line j → ⊥)
@@ -86,20 +121,7 @@ module _ (Pair : ℕ → ℕ → Type 0) (count : ℕ) (decide : (i j : ℕ) →
         unlisted j c = elim (last_pair i j c) [ inl h ↦ h.2 | inr x ↦ x.2.2 ]
 
     pub whole : (i : ℕ) → i < count → Contains line i
-    whole i l = elim (in_line line i) [ inl c ↦ c | inr f ↦ absurd (elim greedy.ended [ inl e ↦ full f e | inr g ↦ (let r = some_ready i l f in g r.0 r.1) ]) ]
-      where
-        below : (j : ℕ) → Contains (i ∷ line) j → j < count
-        below j c = elim (head_or_tail i line j c) [ inl g ↦ subst (λ x. x < count) g l | inr g ↦ child_of j g ]
-
-        full : (Contains line i → ⊥) → length line ≡ count → ⊥
-        full f e =
-            let n = no_more (i ∷ line) (numbers 0 count) (f, different) (λ j c. to_numbers 0 count j (omega arith) (let b = below j c in omega arith)) in
-            let m = length-numbers 0 count in
-            omega arith
-
-    pub length_whole : length line ≡ count
-    length_whole =
-        let a = no_more line (numbers 0 count) different (λ j c. to_numbers 0 count j (omega arith) (let b = child_of j c in omega arith)) in
-        let b = no_more (numbers 0 count) line (different-numbers 0 count) (λ j c. whole j (let b = (numbers_to 0 count j c).1 in omega arith)) in
-        let m = length-numbers 0 count in
-        omega arith
+    whole i l = elim (in_line line i) [
+      | inl c ↦ c
+      | inr f ↦ elim greedy.ended [ inl e ↦ full Pair count line greedy.each (omega arith) i l | inr g ↦ absurd (let r = some_ready i l f in g r.0 r.1) ]
+    ]

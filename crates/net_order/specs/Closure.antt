@@ -19,3 +19,13 @@ pub record IsLinked (count j : ℕ) (added : List Bool) (old new : List (List Bo
 -- the children with which a pair begins
 abbrev pub AreFirsts : List Pair → List Bool → Type 0
 AreFirsts pairs set = (i : ℕ) → IsTrue (has set i) ↔ ((p : Pair) × Contains pairs p × (p.first ≡ i))
+
+-- the marked ones are the old ones and the firsts of the pairs
+pub record IsAdded (count : ℕ) (pairs : List Pair) (old new : List (List Bool)) : Type 0 where
+  pub square : IsSquare count new
+  pub marks : (i j : ℕ) → Marked new i j ↔ (Marked old i j ⊎ Pairs pairs i j)
+
+-- the set of each child has those from which a pair leads to it
+pub record IsDirect (count : ℕ) (pairs : List Pair) (before : List (List Bool)) : Type 0 where
+  pub square : IsSquare count before
+  pub marks : (i j : ℕ) → Marked before i j ↔ Pairs pairs i j

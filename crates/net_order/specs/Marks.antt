@@ -1,5 +1,5 @@
 -- Sets of children as lists of marks: the mark at place i says whether child i is in the set.
-use Rattle.std.specs.Prelude.{ℕ, ◌<◌, ◌≡◌, ◌≢◌, ◌≤◌, Bool, false, IsTrue, List, [], length, slice_index}
+use Rattle.std.specs.Prelude.{ℕ, ◌<◌, ◌≡◌, ◌≢◌, ◌≤◌, Bool, false, IsTrue, List, [], length, slice_index, Contains, ◌⊎◌, ◌↔◌}
 use Rattle.std.specs.List.{slice_index_or}
 
 abbrev pub has : List Bool → ℕ → Bool
@@ -41,3 +41,11 @@ pub record IsCovered (line : List ℕ) (set : List Bool) (n : ℕ) : Type 0 wher
   pub within : n ≤ length line
   pub inside : (p : ℕ) → p < n → IsTrue (has set (slice_index line p))
   pub outside : n < length line → has set (slice_index line n) ≡ false
+
+-- what precedes a member of one of these children's sets is in that set too
+abbrev pub IsClosedOn : List (List Bool) → List ℕ → Type 0
+IsClosedOn before children = (a i k : ℕ) → Contains children k → Marked before i k → Marked before a i → Marked before a k
+
+-- those of the earlier ones that are in the set of this child, and what precedes them
+abbrev pub IsGathered : List (List Bool) → List ℕ → ℕ → List Bool → Type 0
+IsGathered before earlier child set = (a : ℕ) → IsTrue (has set a) ↔ ((i : ℕ) × Contains earlier i × Marked before i child × ((a ≡ i) ⊎ Marked before a i))

@@ -1,56 +1,43 @@
-ghost use Rattle.std.specs.Prelude.{◌≡◌, ℕ, ◌<◌, ◌≤◌, ◌^◌, length, false, IfOk, MatchResult};
-ghost use Rattle.net_order.specs.Marks.{has, marked, IsSquare};
-ghost use Rattle.net_order.specs.Meaning.{AreBelow, IsRefusedBy};
-ghost use Rattle.net_order.specs.Closure.{IsClosure, IsLinked};
+ghost use Rattle.std.specs.Prelude.{◌≡◌, ℕ, ◌<◌, All, length, IfOk, OnOk};
+ghost use Rattle.task_networks.specs.Order.{IsLine};
+ghost use Rattle.net_order.specs.Marks.{Marked, IsSquare, IsClosedOn, IsGathered};
+ghost use Rattle.net_order.specs.Line.{IsClosed};
 
 use crate::child_set::ChildSet;
-use crate::order::OrderError;
 use htn_base::Memory;
-use plan_model::Pair;
 use std::alloc::Global;
 
-/// For each child the set of those that precede it, pair by pair.
-pub fn closure(alloc: Global, count: usize, pairs: &[Pair]) -> Result<Vec<ChildSet>, OrderError>
-    requires below { AreBelow count pairs.now }
-    requires few { length pairs.now < 2 ^ 32 }
-    ensures closure { MatchResult result (λ before. IsClosure count pairs.now before.items) (IsRefusedBy pairs.now) }
-{
-    let mut before = empty_sets(alloc, count)?;
-    for (k, pair) in pairs.iter().enumerate() {
-        let first = pair.first as usize;
-        let then = pair.then as usize;
-        if first == then || before[first].contains(then) {
-            return Err(OrderError::Cycle { pair: k as u32 });
-        }
-        let mut added = before[first].copy(alloc)?;
-        added.insert(first);
-        link(&mut before, then, &added);
-    }
-    Ok(before)
-}
-
-/// An empty set for each child.
-pub fn empty_sets(alloc: Global, count: usize) -> Result<Vec<ChildSet>, Memory>
-    ensures square { IfOk result (λ before. IsSquare count before.items) }
-    ensures empty { IfOk result (λ before. (i j : ℕ) → j < count → marked before.items i j ≡ false) }
-{
-    let mut before = Vec::new(alloc);
-    for _ in 0..count {
-        before.push(ChildSet::new(alloc, count)?)?;
-    }
-    Ok(before)
-}
-
-/// The added ones now precede the child and all that it precedes.
-fn link(before: &mut [ChildSet], child: usize, added: &ChildSet)
+/// Puts into each set those that precede its members, child by child along the line.
+pub fn close(alloc: Global, before: &mut [ChildSet], line: &[u32]) -> Result<(), Memory>
     requires square { IsSquare (length before.old) before.old }
-    requires room { length added.now ≡ length before.old }
-    requires within { child < length before.old }
-    ensures linked { IsLinked (length before.old) child added.now before.old before.new }
+    requires line { IsLine (Marked before.old) (length before.old) line.now }
+    ensures closed { OnOk result (IsClosed before.old before.new) }
 {
-    for (j, set) in before.iter_mut().enumerate() {
-        if j == child || set.contains(child) {
-            set.insert_all(added);
+    for q in 0..line.len() {
+        let child = line[q] as usize;
+        let set = gather(alloc, before, &line[..q], child)?;
+        before[child] = set;
+    }
+    Ok(())
+}
+
+/// The direct predecessors of the child among the earlier ones, and those that precede them. One that is in the set
+/// already, since it precedes a later one, adds nothing.
+fn gather(alloc: Global, before: &[ChildSet], earlier: &[u32], child: usize) -> Result<ChildSet, Memory>
+    requires square { IsSquare (length before.now) before.now }
+    requires within { child < length before.now }
+    requires earlier { All (λ i. i < length before.now) earlier.now }
+    requires closed { IsClosedOn before.now earlier.now }
+    ensures room { IfOk result (λ set. length set ≡ length before.now) }
+    ensures gathered { IfOk result (IsGathered before.now earlier.now child) }
+{
+    let mut set = ChildSet::new(alloc, before.len())?;
+    for p in (0..earlier.len()).rev() {
+        let other = earlier[p] as usize;
+        if before[child].contains(other) && !set.contains(other) {
+            set.insert_all(&before[other]);
+            set.insert(other);
         }
     }
+    Ok(set)
 }

@@ -8,10 +8,13 @@
 mod child_set;
 mod closure;
 mod cuts;
+mod direct;
 mod firsts;
 mod last;
 mod line;
 mod order;
+mod plain;
+mod sorted;
 #[cfg(test)]
 mod tests;
 

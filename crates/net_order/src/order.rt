@@ -1,11 +1,10 @@
 ghost use Rattle.std.specs.Prelude.{◌≡◌, ◌<◌, ◌≤◌, ◌^◌, length, IfOk, IfErr};
 
 use crate::child_set::ChildSet;
-use crate::closure::closure;
 use crate::cuts::cuts_of;
 use crate::firsts::firsts_of;
 use crate::last::last_of;
-use crate::line::line_of;
+use crate::sorted::sorted;
 use htn_base::{List, Memory};
 use plan_model::Pair;
 use std::alloc::Global;
@@ -73,8 +72,7 @@ impl Order {
         ensures order { IfOk result (IsOrderOf n pairs.now) }
         ensures refused { IfErr result (IsRefusedBy pairs.now) }
     {
-        let before = closure(alloc, n as usize, pairs)?;
-        let line = line_of(alloc, before.as_slice())?;
+        let (before, line) = sorted(alloc, n as usize, pairs)?;
         let begins = firsts_of(alloc, n as usize, pairs)?;
         let cuts = cuts_of(alloc, before.as_slice(), line.as_slice())?;
         let last = last_of(before.as_slice());

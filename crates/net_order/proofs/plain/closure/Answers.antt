@@ -4,8 +4,8 @@ use Rattle.plan_model.specs.declared.networks.Pair.{Pair}
 use Rattle.net_order.specs.Marks.{has, marked}
 use Rattle.net_order.specs.Closure.{IsClosure, IsLinked}
 use Rattle.net_order.proofs.Closures.{closure_more, refused_at}
-use Rattle.net_order.proofs.closure.closure.Goals as goal
-use Rattle.net_order.proofs.closure.closure.Goals.{then-first-then-via-then-first-then, then-first-then-via-else-first-then+then-contains}
+use Rattle.net_order.proofs.plain.closure.Goals as goal
+use Rattle.net_order.proofs.plain.closure.Goals.{then-first-then-via-then-first-then, then-first-then-via-else-first-then+then-contains}
 
 abbrev none : Pair
 none = record { first = 0; then = 0 }

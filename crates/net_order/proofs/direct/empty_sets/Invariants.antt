@@ -1,6 +1,6 @@
 use Rattle.std.proofs.Common.{ℕ, ◌≡◌, ◌<◌, false, [], length, get_or}
 use Rattle.net_order.specs.Marks.{marked}
-use Rattle.net_order.proofs.closure.empty_sets.Given as goal
+use Rattle.net_order.proofs.direct.empty_sets.Given as goal
 
 abbrev pub invariant-loop : goal.invariant-loop
 invariant-loop l = record {
