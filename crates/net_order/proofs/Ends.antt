@@ -1,5 +1,5 @@
 -- The last child, the children with which pairs begin, and the places of the line at which it is cut.
-use Rattle.std.proofs.Common.{ℕ, ◌≡◌, ◌≢◌, ◌+◌, ◌<◌, ◌≤◌, ◌↔◌, min, inl, inr, List, [], ◌∷◌, ◌++◌, length, Bool, true, false, IsTrue, Contains, take, get_or, set, sym, subst, ap, ◌∙◌, arith}
+use Rattle.std.proofs.Common.{ℕ, ◌≡◌, ◌≢◌, ◌+◌, ◌<◌, ◌≤◌, ◌↔◌, min, inl, inr, List, [], ◌∷◌, ◌++◌, length, Bool, true, false, IsTrue, Contains, take, get_or, set, sym, subst, ap, ◌∙◌, arith, length-set, get_or-set_same, get_or-set_other, refl}
 use Rattle.std.proofs.lemmas.List.{take_more, get_or_read}
 use Rattle.std.proofs.lemmas.List.Elements.{Contains-append_left, Contains-push, Contains-push_cases}
 use Rattle.std.proofs.lemmas.Bool.{cases_lt, cases_eq, both_ways}
@@ -76,3 +76,39 @@ module _ (before : List (List Bool)) (line : List ℕ) where
         | inl a ↦ (let x = h.ends (omega arith) in absurd (both_ways (marked before (get_or line reach 0) (get_or line x.0 0)) x.3 (f reach x.0 a x.1 x.2)))
         | inr a ↦ a
       ]
+
+-- the cuts from place k on
+pub record AreCutsFrom (before : List (List Bool)) (line : List ℕ) (k far : ℕ) (cuts : List Bool) : Type 0 where
+  pub room : length cuts ≡ length line
+  pub reach : IsReach before line k far
+  pub done : (i : ℕ) → k ≤ i → i < length line → IsTrue (has cuts i) ↔ IsMarkedCut before line i
+  pub later : (i : ℕ) → i < k → has cuts i ≡ false
+
+module _ (before : List (List Bool)) (line : List ℕ) (k old reach : ℕ) (cuts : List Bool) (l : k < length line) (h : AreCutsFrom before line (k + 1) old cuts) (is : IsReach before line k reach) where
+  abbrev Cut : List Bool → ℕ → Type 0
+  Cut s i = IsTrue (has s i) ↔ IsMarkedCut before line i
+
+  pub cuts_left : reach < k → AreCutsFrom before line k reach cuts
+  cuts_left a = record {
+    room = h.room;
+    reach = is;
+    done = λ i b c. elim (cases_eq i k) [ inl e ↦ subst (Cut cuts) (sym e) here | inr d ↦ h.done i (omega arith) c ];
+    later = λ i b. h.later i (omega arith);
+  }
+    where
+      here : Cut cuts k
+      here = ((λ t. absurd (both_ways (has cuts k) (h.later k (omega arith)) t)), λ m. absurd (let b = (cut_at_reach before line k reach l is).1 m in omega arith))
+
+  pub cuts_taken : k ≤ reach → AreCutsFrom before line k reach (set cuts k true)
+  cuts_taken a = record {
+    room = length-set cuts k true ∙ h.room;
+    reach = is;
+    done = λ i b c. elim (cases_eq i k) [ inl e ↦ subst (Cut (set cuts k true)) (sym e) here | inr d ↦ apart i d (h.done i (omega arith) c) ];
+    later = λ i b. (get_or-set_other cuts k i true false (omega arith) ∙ h.later i (omega arith));
+  }
+    where
+      here : Cut (set cuts k true) k
+      here = ((λ t. (cut_at_reach before line k reach l is).0 a), λ m. get_or-set_same cuts k true false (let e = h.room in omega arith))
+
+      apart : (i : ℕ) → (i ≡ k → ⊥) → Cut cuts i → Cut (set cuts k true) i
+      apart i d f = let e = get_or-set_other cuts k i true false d in ((λ t. f.0 (sym e ∙ t)), λ m. e ∙ f.1 m)

@@ -8,3 +8,4 @@ pub mod Meanings
 pub mod Adding
 pub mod Closing
 pub mod Sorting
+pub mod Bits

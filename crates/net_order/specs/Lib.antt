@@ -1,4 +1,5 @@
 pub mod Marks
+pub mod Words
 pub mod Line
 pub mod Answers
 pub mod Meaning

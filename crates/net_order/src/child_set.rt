@@ -5,18 +5,22 @@ use htn_base::Memory;
 use std::alloc::Global;
 use std::marker::Model;
 
-/// A set of children of one network. Contracts see a mark for each child.
+/// A set of children of one network, with a bit for each. Contracts see a mark for each child.
 #[derive(Drop)]
 pub struct ChildSet {
-    marks: Vec<bool>,
+    count: usize,
+    words: Vec<u64>,
 }
 
 impl Model for ChildSet {
     ghost use Rattle.std.specs.Prelude.{Bool, List};
+    ghost use Rattle.net_order.specs.Words.{marks_of, AreWords};
 
     ghost Value = { List Bool };
 
-    ghost view = { λ set. set.marks.items };
+    ghost view = { λ set. marks_of set.count set.words.items };
+
+    ghost invariant = { λ set. AreWords set.count set.words.items };
 }
 
 impl ChildSet {
@@ -25,23 +29,26 @@ impl ChildSet {
         ensures room { IfOk result (λ set. length set ≡ count) }
         ensures empty { IfOk result (λ set. (i : ℕ) → has set i ≡ false) }
     {
-        let marks = vec![in alloc; false; count]?;
-        Ok(ChildSet { marks })
+        let words = vec![in alloc; 0; count / 64 + 1]?;
+        Ok(ChildSet { count, words })
     }
 
     /// An equal set.
     pub fn copy(&self, alloc: Global) -> Result<ChildSet, Memory>
         ensures equal { IfOk result (λ set. set ≡ self.now) }
     {
-        let marks = Vec::from_slice(alloc, self.marks.as_slice())?;
-        Ok(ChildSet { marks })
+        let words = Vec::from_slice(alloc, self.words.as_slice())?;
+        Ok(ChildSet {
+            count: self.count,
+            words,
+        })
     }
 
     /// The number of children of the network, in the set or not.
     pub fn len(&self) -> usize
         ensures { result ≡ length self.now }
     {
-        self.marks.len()
+        self.count
     }
 
     /// Whether the child is in the set.
@@ -49,7 +56,7 @@ impl ChildSet {
         requires { child < length self.now }
         ensures { result ≡ has self.now child }
     {
-        self.marks[child]
+        (self.words[child / 64] >> (child % 64)) & 1 == 1
     }
 
     /// Puts the child into the set.
@@ -57,7 +64,7 @@ impl ChildSet {
         requires { child < length self.old }
         ensures { self.new ≡ slice_set self.old child true }
     {
-        self.marks[child] = true;
+        self.words[child / 64] |= 1 << (child % 64);
     }
 
     /// Puts all children of the other set into this one.
@@ -66,10 +73,8 @@ impl ChildSet {
         ensures room { length self.new ≡ length self.old }
         ensures union { (i : ℕ) → has self.new i ≡ (has self.old i || has other.now i) }
     {
-        for i in 0..self.marks.len() {
-            if other.marks[i] {
-                self.marks[i] = true;
-            }
+        for k in 0..self.words.len() {
+            self.words[k] |= other.words[k];
         }
     }
 
@@ -78,8 +83,8 @@ impl ChildSet {
         requires { length other.now ≡ length self.now }
         ensures { IsTrue result ↔ ((i : ℕ) → IsTrue (has self.now i) → IsTrue (has other.now i)) }
     {
-        for i in 0..self.marks.len() {
-            if self.marks[i] && !other.marks[i] {
+        for k in 0..self.words.len() {
+            if self.words[k] & !other.words[k] != 0 {
                 return false;
             }
         }
