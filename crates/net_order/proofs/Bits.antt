@@ -39,7 +39,7 @@ module _ (words : List ℕ) (c : ℕ) where
       go (inl e) =
           let apart : i % 64 ≢ c % 64 = (λ f. d (omega arith)) in
           let at : get_or with_bit (i / 64) 0 ≡ bit_or (get_or words (c / 64) 0) (1 * 2 ^ (c % 64) % 2 ^ 64) =
-            ap (λ k. get_or with_bit k 0) e ∙ get_or-set_same words (c / 64) (bit_or (get_or words (c / 64) 0) (1 * 2 ^ (c % 64) % 2 ^ 64)) 0 l in
+          ap (λ k. get_or with_bit k 0) e ∙ get_or-set_same words (c / 64) (bit_or (get_or words (c / 64) 0) (1 * 2 ^ (c % 64) % 2 ^ 64)) 0 l in
           ap (λ w. eqb (bit_at w (i % 64)) 1) at
           ∙ (ap (λ b. eqb b 1) (bit_at_set_other w64 (get_or words (c / 64) 0) (c % 64) (omega arith) (i % 64) apart)
           ∙ ap (λ k. eqb (bit_at (get_or words k 0) (i % 64)) 1) (sym e))
@@ -83,7 +83,6 @@ is_set_or xs ys zs h i =
     let y = get_or ys (i / 64) 0 in
     ap (λ w. eqb (bit_at w (i % 64)) 1) (h (i / 64))
     ∙ (ap (λ b. eqb b 1) (bit_at_or (get_or xs (i / 64) 0) (get_or ys (i / 64) 0) (i % 64)) ∙ either_bit (bit_at (get_or xs (i / 64) 0) (i % 64)) (bit_at (get_or ys (i / 64) 0) (i % 64)) (bit_at-lt (get_or xs (i / 64) 0) (i % 64)) (bit_at-lt (get_or ys (i / 64) 0) (i % 64)))
-
 
 pub count_of : (count : ℕ) (words : List ℕ) (marks : List Bool) → marks_of count words ≡ marks → length marks ≡ count
 count_of count words marks e = ap length (sym e) ∙ length-marks_of count words

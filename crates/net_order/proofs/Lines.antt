@@ -1,11 +1,11 @@
 -- The line as far as it goes.
-use Rattle.std.proofs.Common.{ℕ, ◌≡◌, ◌+◌, ◌<◌, ◌↔◌, inl, inr, List, [], ◌∷◌, ◌++◌, length, Bool, true, IsTrue, Contains, set, sym, subst, arith, length-set, ◌∙◌}
-use Rattle.std.proofs.lemmas.List.{length_push}
+use Rattle.std.proofs.Common.{ℕ, ◌≡◌, ◌+◌, ◌<◌, ◌↔◌, inl, inr, List, [], ◌∷◌, ◌++◌, length, Bool, true, IsTrue, Contains, set, sym, subst, arith, length-set, ◌∙◌, false, get_or-set_same, get_or-set_other}
+use Rattle.std.proofs.lemmas.List.{length_push, get_or_past}
 use Rattle.std.proofs.lemmas.List.Elements.{Contains-append_left, Contains-push, Contains-push_cases}
-use Rattle.std.proofs.lemmas.Bool.{cases_lt}
+use Rattle.std.proofs.lemmas.Bool.{cases_lt, cases_eq, false≢true}
 use Rattle.task_networks.specs.Order.{Precedes, direct, through, IsReady, IsNext}
 use Rattle.task_networks.proofs.Lists.{cut_at, cut_push}
-use Rattle.net_order.specs.Marks.{has, Marked, IsFree, IsLeastFree}
+use Rattle.net_order.specs.Marks.{has, Marked, IsFree, IsLeastFree, AreAllBelow}
 use Rattle.net_order.specs.Line.{IsGreedy}
 use Rattle.net_order.proofs.Closures.{has_added}
 
@@ -66,3 +66,19 @@ module _ (before : List (List Bool)) (listed : List Bool) (line : List ℕ) (n :
 
       from : (k : ℕ) → Contains (line ++ i ∷ []) k → IsTrue (has (set listed i true) k)
       from k c = (has_added listed i k within).1 (elim (Contains-push_cases line i k c) [ inl d ↦ inr ((h.same k).1 d) | inr e ↦ inl (sym e) ])
+
+-- what is listed below a number, after one more
+pub below_kept : (listed : List Bool) (low i : ℕ) → AreAllBelow low listed → AreAllBelow low (set listed i true)
+below_kept listed low i h k l = elim (cases_eq k i) [
+  | inl e ↦ subst (λ x. IsTrue (has (set listed i true) x)) (sym e) (get_or-set_same listed i true false (subst (λ x. x < length listed) e (has_within listed k (h k l))))
+  | inr d ↦ get_or-set_other listed i k true false d ∙ h k l
+]
+  where
+    has_within : (s : List Bool) (k : ℕ) → IsTrue (has s k) → k < length s
+    has_within s k t = elim (cases_lt k (length s)) [ inl l ↦ l | inr l ↦ absurd (false≢true (sym (get_or_past s k false l) ∙ t)) ]
+
+pub below_more_by : (listed : List Bool) (low i : ℕ) → i < length listed → i ≡ low → AreAllBelow low listed → AreAllBelow (low + 1) (set listed i true)
+below_more_by listed low i w e h k l = elim (cases_eq k i) [
+  | inl f ↦ subst (λ x. IsTrue (has (set listed i true) x)) (sym f) (get_or-set_same listed i true false w)
+  | inr d ↦ get_or-set_other listed i k true false d ∙ h k (omega arith)
+]

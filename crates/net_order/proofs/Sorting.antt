@@ -42,6 +42,10 @@ module _ (count : ℕ) (pairs : List Pair) (before : List (List Bool)) (h : IsDi
       let e = whole.length_line (Marked before) (length before) line greedy.each (whole.whole (Marked before) (length before) decide inside line greedy (λ i c. acyclic i (to i i c))) in
       omega (arith, sets)
 
+  -- a line that is long enough shows that there is none
+  pub acyclic : count ≤ length line → IsAcyclic (Pairs pairs)
+  acyclic l i c = whole.line_acyclic (Marked before) (length before) line greedy.each (whole.full (Marked before) (length before) line greedy.each (omega (arith, sets))) inside i (from i i c)
+
   module _ (l : count ≤ length line) where
     pub marked_line : IsLine (Marked before) (length before) line
     marked_line = record { whole = whole.full (Marked before) (length before) line greedy.each (omega (arith, sets)); each = greedy.each }

@@ -49,3 +49,7 @@ IsClosedOn before children = (a i k : ℕ) → Contains children k → Marked be
 -- those of the earlier ones that are in the set of this child, and what precedes them
 abbrev pub IsGathered : List (List Bool) → List ℕ → ℕ → List Bool → Type 0
 IsGathered before earlier child set = (a : ℕ) → IsTrue (has set a) ↔ ((i : ℕ) × Contains earlier i × Marked before i child × ((a ≡ i) ⊎ Marked before a i))
+
+-- all children below this one are in the set
+abbrev pub AreAllBelow : ℕ → List Bool → Type 0
+AreAllBelow low set = (i : ℕ) → i < low → IsTrue (has set i)

@@ -23,7 +23,12 @@ pub fn close(alloc: Global, before: &mut [ChildSet], line: &[u32]) -> Result<(),
 
 /// The direct predecessors of the child among the earlier ones, and those that precede them. One that is in the set
 /// already, since it precedes a later one, adds nothing.
-fn gather(alloc: Global, before: &[ChildSet], earlier: &[u32], child: usize) -> Result<ChildSet, Memory>
+fn gather(
+    alloc: Global,
+    before: &[ChildSet],
+    earlier: &[u32],
+    child: usize,
+) -> Result<ChildSet, Memory>
     requires square { IsSquare (length before.now) before.now }
     requires within { child < length before.now }
     requires earlier { All (λ i. i < length before.now) earlier.now }

@@ -8,11 +8,13 @@
 mod child_set;
 mod closure;
 mod cuts;
+mod cycle;
 mod direct;
 mod firsts;
 mod last;
 mod line;
 mod order;
+#[cfg(test)]
 mod plain;
 mod sorted;
 #[cfg(test)]

@@ -1,20 +1,24 @@
 ghost use Rattle.std.specs.Prelude.{◌≡◌, ◌<◌, ◌^◌, length, IfOk, IfErr};
-ghost use Rattle.task_networks.specs.Order.{IsAcyclic, IsLine};
+ghost use Rattle.task_networks.specs.Order.{IsLine};
 ghost use Rattle.net_order.specs.Meaning.{Pairs, AreBelow, IsRefusedBy};
 ghost use Rattle.net_order.specs.Closure.{IsClosure};
 
 use crate::child_set::ChildSet;
 use crate::closure::close;
+use crate::cycle::first_closing;
 use crate::direct::direct_sets;
 use crate::line::line_of;
 use crate::order::OrderError;
-use crate::plain::closure;
 use htn_base::List;
 use plan_model::Pair;
 use std::alloc::Global;
 
 /// For each child the set of those that precede it, and the line.
-pub fn sorted(alloc: Global, count: usize, pairs: &[Pair]) -> Result<(Vec<ChildSet>, List<u32>), OrderError>
+pub fn sorted(
+    alloc: Global,
+    count: usize,
+    pairs: &[Pair],
+) -> Result<(Vec<ChildSet>, List<u32>), OrderError>
     requires small { count < 2 ^ 32 }
     requires below { AreBelow count pairs.now }
     requires few { length pairs.now < 2 ^ 32 }
@@ -25,21 +29,9 @@ pub fn sorted(alloc: Global, count: usize, pairs: &[Pair]) -> Result<(Vec<ChildS
     let mut before = direct_sets(alloc, count, pairs)?;
     let line = line_of(alloc, before.as_slice())?;
     if line.len() < count {
-        return Err(refusal(alloc, count, pairs));
+        let pair = first_closing(alloc, count, pairs)?;
+        return Err(OrderError::Cycle { pair });
     }
     close(alloc, &mut before, line.as_slice())?;
     Ok((before, line))
-}
-
-/// Why pairs with a cycle are refused.
-fn refusal(alloc: Global, count: usize, pairs: &[Pair]) -> OrderError
-    requires below { AreBelow count pairs.now }
-    requires few { length pairs.now < 2 ^ 32 }
-    requires cyclic { IsAcyclic (Pairs pairs.now) → ⊥ }
-    ensures refused { IsRefusedBy pairs.now result }
-{
-    match closure(alloc, count, pairs) {
-        Ok(_) => unreachable!(),
-        Err(error) => error,
-    }
 }

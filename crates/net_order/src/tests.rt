@@ -1,9 +1,15 @@
-//! Orders of few children, worked out by hand. Each call that may want memory is made with ample memory.
+//! Orders of few children, worked out by hand, and a comparison with the plain way on many orders. Each call that may
+//! want memory is made with ample memory.
 
-ghost use Rattle.std.specs.Prelude.{◌≡◌};
+ghost use Rattle.std.specs.Prelude.{◌≡◌, ◌<◌, ◌^◌, length, IfOk};
+ghost use Rattle.net_order.specs.Marks.{IsSquare};
+ghost use Rattle.net_order.specs.Meaning.{AreBelow};
 
+use crate::child_set::ChildSet;
+use crate::plain::closure;
 use crate::{Order, OrderError};
 use plan_model::Pair;
+use std::alloc::{AllocError, Global};
 use std::process::Abort;
 use std::test::Fail;
 
@@ -90,4 +96,63 @@ fn cycles(rt: HostRuntime) -> Result<(), Fail> {
     let itself = Order::new(rt.alloc(), 2, &[Pair { first: 1, then: 1 }]);
     assert_eq!(rt; itself.err(), Some(OrderError::Cycle { pair: 0 }));
     Ok(())
+}
+
+// All lists of three pairs of four children, and each tenth list of five: what precedes what, or the pair that closes
+// a cycle, is what the plain way finds.
+#[test]
+fn plain_agrees(rt: HostRuntime) -> Result<(), Fail> {
+    for number in 0..4096 {
+        let pairs = list(rt.alloc(), number, 3)?;
+        agrees(&rt, rt.alloc(), pairs.as_slice())?;
+    }
+    for number in 0..104_857 {
+        let pairs = list(rt.alloc(), number * 10, 5)?;
+        agrees(&rt, rt.alloc(), pairs.as_slice())?;
+    }
+    Ok(())
+}
+
+/// The list of so many pairs of four children that has this number.
+fn list(alloc: Global, number: u32, len: usize) -> Result<Vec<Pair>, AllocError>
+    requires { len < 6 }
+    ensures below { IfOk result (λ pairs. AreBelow 4 pairs.items) }
+    ensures length { IfOk result (λ pairs. length pairs.items ≡ len) }
+{
+    let mut pairs = Vec::new(alloc);
+    let mut rest = number;
+    for _ in 0..len {
+        pairs.push(Pair {
+            first: rest % 4,
+            then: rest / 4 % 4,
+        })?;
+        rest /= 16;
+    }
+    Ok(pairs)
+}
+
+fn agrees(rt: &impl Abort, alloc: Global, pairs: &[Pair]) -> Result<(), OrderError>
+    requires below { AreBelow 4 pairs.now }
+    requires few { length pairs.now < 2 ^ 32 }
+{
+    let made = Order::new(alloc, 4, pairs);
+    match closure(alloc, 4, pairs) {
+        Ok(before) => same(rt, &made?, before.as_slice()),
+        Err(error) => assert_eq!(rt; made.err(), Some(error)),
+    }
+    Ok(())
+}
+
+fn same(rt: &impl Abort, order: &Order, before: &[ChildSet])
+    requires order { order.now.count ≡ 4 }
+    requires before { IsSquare 4 before.now }
+{
+    for a in 0..4 {
+        for b in 0..4 {
+            assert_eq!(rt;
+                order.precedes(a, b),
+                before[b as usize].contains(a as usize)
+            );
+        }
+    }
 }

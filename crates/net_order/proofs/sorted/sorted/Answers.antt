@@ -7,8 +7,8 @@ use Rattle.net_order.specs.Closure.{IsClosure}
 use Rattle.net_order.proofs.Sorting as sorting
 use Rattle.net_order.proofs.sorted.sorted.Goals as goal
 
-pub refusal-requires-clause-cyclic : goal.refusal-requires-clause-cyclic
-refusal-requires-clause-cyclic c =
+pub first_closing-requires-clause-cyclic : goal.first_closing-requires-clause-cyclic
+first_closing-requires-clause-cyclic c =
     let line = c.in_ok-line.line in
     let greedy = subst (λ xs. IsGreedy (Marked xs) (length xs) line) c.as_slice.ensures.value c.in_ok-line.ensures.greedy in
     let short : length c.in_ok-line.line < c.args.count = let e = c.len.ensures in let l = c.if-len-count.true in omega arith in
@@ -41,3 +41,10 @@ returns-clause-line c =
     let greedy = subst (λ xs. IsGreedy (Marked xs) (length xs) line) c.as_slice.ensures.value c.in_ok-line.ensures.greedy in
     let enough : c.args.count ≤ length c.in_ok-line.line = let e = c.len.ensures in let l = c.if-len-count.false in omega arith in
     sorting.is_line c.args.count c.args.pairs.now c.in_ok-before.before.items c.in_ok-before.ensures.direct line greedy enough
+
+pub returns-then-len-count-clause-refused : goal.returns-then-len-count-clause-refused
+returns-then-len-count-clause-refused c =
+    let line = c.in_ok-line.line in
+    let greedy = subst (λ xs. IsGreedy (Marked xs) (length xs) line) c.as_slice.ensures.value c.in_ok-line.ensures.greedy in
+    let short : length c.in_ok-line.line < c.args.count = let e = c.len.ensures in let l = c.if-len-count.true in omega arith in
+    (c.in_ok-pair.ensures.first, sorting.cyclic c.args.count c.args.pairs.now c.in_ok-before.before.items c.in_ok-before.ensures.direct line greedy short)

@@ -41,7 +41,7 @@ loop-k-preserved c =
       count = c.loop-k.invariant.count;
       room = length-set now k word ∙ c.loop-k.invariant.room;
       done = below_more _ _ (λ i b. (get_or-set_other now k i word 0 (omega arith) ∙ c.loop-k.invariant.done i b))
-        (get_or-set_same now k word 0 (let r = c.loop-k.invariant.room in omega arith) ∙ (ap (λ x. bit_or x c.index.result.now) mine ∙ ap (λ y. bit_or (get_or old k 0) y) theirs));
+          (get_or-set_same now k word 0 (let r = c.loop-k.invariant.room in omega arith) ∙ (ap (λ x. bit_or x c.index.result.now) mine ∙ ap (λ y. bit_or (get_or old k 0) y) theirs));
       later = λ i b. (get_or-set_other now k i word 0 (omega arith) ∙ c.loop-k.invariant.later i (omega arith));
     }
 

@@ -26,11 +26,10 @@ returns-then-index-ne0 c =
     let x = get_or_read xs k c.index.result.now (omega (arith, c.len-k-end.ensures, c.loop-k-test.true)) c.index.ensures 0 in
     let y = get_or_read ys k c.index-in-loop-k.result.now (omega (arith, room, c.len-k-end.ensures, c.loop-k-test.true)) c.index-in-loop-k.ensures 0 in
     let mine_reads = reads c.self.inside.count c.self.inside.words.items c.args.self.now c.self.view_is c.self.invariant in
-    let their_reads = reads c.other.inside.count c.other.inside.words.items c.args.other.now c.other.view_is c.other.invariant in
-    (
+    let their_reads = reads c.other.inside.count c.other.inside.words.items c.args.other.now c.other.view_is c.other.invariant in (
       λ f. absurd (false≢true f),
       λ h. absurd (c.if-index-ne0.true (ap (λ z. bit_and z (18446744073709551615 - c.index-in-loop-k.result.now)) x ∙ (ap (λ z. bit_and (get_or xs k 0) (18446744073709551615 - z)) y
-      ∙ words_within xs ys k (subst (λ z. z < 2 ^ 64) x mine) (subst (λ z. z < 2 ^ 64) y theirs) (λ i t. (sym (their_reads i) ∙ h i (mine_reads i ∙ t))))))
+          ∙ words_within xs ys k (subst (λ z. z < 2 ^ 64) x mine) (subst (λ z. z < 2 ^ 64) y theirs) (λ i t. (sym (their_reads i) ∙ h i (mine_reads i ∙ t)))))),
     )
 
 pub loop-k-preserved : goal.loop-k-preserved
@@ -56,8 +55,7 @@ returns c =
     let ys = c.other.inside.words.items in
     let b = c.self.inside.words.ok.0 in
     let mine_reads = reads c.self.inside.count c.self.inside.words.items c.args.self.now c.self.view_is c.self.invariant in
-    let their_reads = reads c.other.inside.count c.other.inside.words.items c.args.other.now c.other.view_is c.other.invariant in
-    (
+    let their_reads = reads c.other.inside.count c.other.inside.words.items c.args.other.now c.other.view_is c.other.invariant in (
       (λ t i u. elim (cases_lt (i / 64) c.loop-k.k) [
         | inl l ↦ their_reads i ∙ set_within xs ys i (c.loop-k.invariant.fits (i / 64) l) (c.loop-k.invariant.none (i / 64) l) (sym (mine_reads i) ∙ u)
         | inr l ↦ absurd (false≢true (sym (past_words xs i (let e = c.len-k-end.ensures in let f = c.loop-k-test.false in omega arith)) ∙ (sym (mine_reads i) ∙ u)))
