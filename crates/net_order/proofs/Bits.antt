@@ -1,10 +1,10 @@
 -- Bits of the words of a set, and its marks.
-use Rattle.std.proofs.Common.{ℕ, zero, suc, ◌≡◌, ◌≢◌, ◌+◌, ◌-◌, ◌*◌, ◌/◌, ◌%◌, ◌^◌, ◌<◌, ◌≤◌, ◌↔◌, ◌⊎◌, ◌||◌, min, max, inl, inr, List, [], length, Bool, true, false, IsTrue, get_or, set, eqb, refl, sym, subst, ap, ◌∙◌, arith, length-set, replicate, get_or-set_same, get_or-set_other, w64, bit_and, bit_or}
+use Rattle.std.proofs.Common.{ℕ, zero, suc, ◌≡◌, ◌≢◌, ◌+◌, ◌-◌, ◌*◌, ◌/◌, ◌%◌, ◌^◌, ◌<◌, ◌≤◌, ◌⊎◌, ◌||◌, min, max, inl, inr, List, length, Bool, true, false, IsTrue, get_or, set, eqb, refl, sym, subst, ap, ◌∙◌, arith, length-set, replicate, get_or-set_same, get_or-set_other, w64, bit_and, bit_or}
 use Rattle.std.specs.Int.{bit_at, bit_not}
 use Rattle.std.proofs.lemmas.List.{get_or_past, ext_get_or, length-replicate, get_or-replicate}
 use Rattle.std.proofs.lemmas.List.FromFn.{length-map-range_with_len, get_or-map-range_with_len}
 use Rattle.std.proofs.lemmas.Nat.Bits.{bit_at_set_same, bit_at_set_other, bit_at_or, bit_at_and, bit_at_not, bit_at-lt, bit_at_above, bit_at-zero, same_from_bits}
-use Rattle.std.proofs.lemmas.Bool.{cases_lt, cases_eq, eqb-true, eq-eqb, eqb-false, ne_eqb}
+use Rattle.std.proofs.lemmas.Bool.{cases_lt, cases_eq, eqb-true, eq-eqb}
 use Rattle.net_order.specs.Marks.{has}
 use Rattle.net_order.specs.Words.{is_set, marks_of, AreWords}
 

@@ -2,9 +2,9 @@
 use Rattle.std.proofs.Common.{ℕ, ◌≡◌, ◌+◌, ◌-◌, ◌<◌, ◌≤◌, ◌↔◌, ◌⊎◌, inl, inr, List, [], ◌∷◌, ◌++◌, length, Bool, false, not, IsTrue, Contains, Option, Some, None, MatchOption, slice_get, take, drop, get_or, refl, sym, subst, ap, ◌∙◌, arith, get_or-take, get_or-drop, length-take, length-drop}
 use Rattle.std.proofs.lemmas.List.{get_or_past, length_push, get_or_default, get_or_at}
 use Rattle.std.proofs.lemmas.Option.{slice_get-get_or}
-use Rattle.std.proofs.lemmas.Bool.{cases_lt, cases_Bool, both_ways, not-true, not_from_false, false_from_ne_true}
+use Rattle.std.proofs.lemmas.Bool.{cases_lt, both_ways, not-true, not_from_false, false_from_ne_true}
 use Rattle.plan_model.specs.declared.networks.Pair.{Pair}
-use Rattle.task_networks.specs.Order.{Precedes, direct, through, IsAcyclic, ArePairsOf, IsNext, IsLine, IsHeir, IsLast, IsMaximal, IsCut}
+use Rattle.task_networks.specs.Order.{Precedes, direct, through, ArePairsOf, IsNext, IsLine, IsHeir, IsLast, IsMaximal, IsCut}
 use Rattle.task_networks.proofs.Orders.{precedes_within}
 use Rattle.task_networks.proofs.Lists.{last_cases}
 use Rattle.net_order.specs.Marks.{has, marked, Marked, IsSquare, IsMarkedLast, IsMarkedCut}

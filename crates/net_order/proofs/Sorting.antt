@@ -1,11 +1,11 @@
 -- From the sets of the pairs to the closure and the line.
-use Rattle.std.proofs.Common.{ℕ, ◌≡◌, ◌<◌, ◌≤◌, ◌↔◌, ◌⊎◌, inl, inr, List, length, Bool, false, IsTrue, sym, subst, arith}
+use Rattle.std.proofs.Common.{ℕ, ◌≡◌, ◌<◌, ◌≤◌, ◌⊎◌, inl, inr, List, length, Bool, false, sym, subst, arith}
 use Rattle.std.proofs.lemmas.Bool.{cases_Bool, both_ways}
 use Rattle.plan_model.specs.declared.networks.Pair.{Pair}
 use Rattle.task_networks.specs.Order.{Precedes, direct, IsAcyclic, ArePairsOf, IsLine}
 use Rattle.net_order.specs.Marks.{marked, Marked, IsSquare}
 use Rattle.net_order.specs.Line.{IsGreedy, IsClosed}
-use Rattle.net_order.specs.Meaning.{Pairs, AreBelow}
+use Rattle.net_order.specs.Meaning.{Pairs}
 use Rattle.net_order.specs.Closure.{IsClosure, IsAdded, IsDirect}
 use Rattle.net_order.proofs.Chains.{chain_map}
 use Rattle.net_order.proofs.Meanings.{marked_within, next_like}

@@ -1,4 +1,4 @@
-use Rattle.std.proofs.Common.{◌≡◌, ◌+◌, ◌<◌, ℕ, length, List, [], Bool, get_or, set, take, get_or-take, length-take, sym, subst, ap, ◌∙◌, arith}
+use Rattle.std.proofs.Common.{◌<◌, length, get_or, get_or-take, length-take, sym, subst, ◌∙◌, arith}
 use Rattle.std.proofs.lemmas.List.Elements.{Contains-get_or}
 use Rattle.net_order.specs.Marks.{Marked}
 use Rattle.net_order.proofs.Whole.{child_of}

@@ -1,6 +1,6 @@
-use Rattle.std.proofs.Common.{◌≡◌, ◌+◌, ◌-◌, ◌<◌, ◌⊎◌, ◌↔◌, ℕ, length, List, [], Bool, true, false, IsTrue, get_or, set, length-set, sym, subst, ap, ◌∙◌, arith}
+use Rattle.std.proofs.Common.{◌≡◌, ◌+◌, ◌-◌, ◌<◌, length, [], true, get_or, length-set, sym, subst, ap, ◌∙◌, arith}
 use Rattle.std.proofs.lemmas.List.{get_or_read}
-use Rattle.net_order.specs.Marks.{has, Marked, IsGathered}
+use Rattle.net_order.specs.Marks.{has, Marked}
 use Rattle.net_order.proofs.Closing.{IsGatheredFrom, gathered_all, gathered_more, gathered_is}
 use Rattle.net_order.proofs.closure.gather.Goals as goal
 

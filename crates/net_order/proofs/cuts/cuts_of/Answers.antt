@@ -1,7 +1,7 @@
-use Rattle.std.proofs.Common.{◌≡◌, ◌-◌, ◌+◌, ℕ, ◌<◌, ◌≤◌, length, get_or, List, [], Bool, true, set, sym, subst, arith}
+use Rattle.std.proofs.Common.{◌≡◌, ◌-◌, ◌+◌, ◌<◌, length, get_or, [], sym, subst, arith}
 use Rattle.std.proofs.lemmas.List.{get_or_read}
-use Rattle.net_order.specs.Marks.{has, IsCovered, IsMarkedCut}
-use Rattle.net_order.proofs.Ends.{IsReach, AreCutsFrom, reach_none, reach_more, cuts_left, cuts_taken}
+use Rattle.net_order.specs.Marks.{IsCovered}
+use Rattle.net_order.proofs.Ends.{IsReach, AreCutsFrom, reach_more, cuts_left, cuts_taken}
 use Rattle.net_order.proofs.cuts.cuts_of.Goals as goal
 
 pub loop-k-preserved : goal.loop-k-preserved

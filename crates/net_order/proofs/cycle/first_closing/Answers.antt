@@ -1,4 +1,4 @@
-use Rattle.std.proofs.Common.{◌≡◌, ◌+◌, ◌<◌, ◌≤◌, ℕ, zero, suc, List, [], ◌∷◌, length, take, inl, inr, sym, subst, arith}
+use Rattle.std.proofs.Common.{◌≡◌, ◌+◌, ◌<◌, List, [], ◌∷◌, length, take, subst, arith}
 use Rattle.std.proofs.lemmas.List.{take_all}
 use Rattle.plan_model.specs.declared.networks.Pair.{Pair}
 use Rattle.task_networks.specs.Order.{IsAcyclic}

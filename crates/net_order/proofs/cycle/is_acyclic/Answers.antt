@@ -1,4 +1,4 @@
-use Rattle.std.proofs.Common.{◌≡◌, ◌<◌, ◌≤◌, ℕ, length, List, Bool, inl, inr, subst, arith}
+use Rattle.std.proofs.Common.{length, inl, inr, subst, arith}
 use Rattle.std.proofs.lemmas.Bool.{leb-true, le-leb, cases_lt}
 use Rattle.net_order.specs.Marks.{Marked}
 use Rattle.net_order.specs.Line.{IsGreedy}

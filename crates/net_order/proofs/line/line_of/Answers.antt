@@ -1,4 +1,4 @@
-use Rattle.std.proofs.Common.{◌≡◌, ◌+◌, ◌<◌, ◌≤◌, ℕ, length, List, Bool, true, set, sym, subst, arith}
+use Rattle.std.proofs.Common.{◌≡◌, ◌<◌, ◌≤◌, ℕ, length, sym, subst, arith}
 use Rattle.net_order.specs.Marks.{AreAllBelow}
 use Rattle.net_order.proofs.Lines.{none_ready, line_more, below_kept, below_more_by}
 use Rattle.net_order.proofs.line.line_of.Goals as goal

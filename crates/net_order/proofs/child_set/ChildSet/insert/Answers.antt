@@ -1,4 +1,4 @@
-use Rattle.std.proofs.Common.{◌≡◌, ℕ, ◌+◌, ◌*◌, ◌/◌, ◌%◌, ◌^◌, ◌<◌, Bool, true, length, List, get_or, set, bit_or, ◌∙◌, sym, subst, ap, arith}
+use Rattle.std.proofs.Common.{◌*◌, ◌/◌, ◌%◌, ◌^◌, ◌<◌, true, set, bit_or, ◌∙◌, sym, subst, ap, arith}
 use Rattle.std.proofs.lemmas.List.{get_or_read}
 use Rattle.net_order.specs.Words.{marks_of, AreWords}
 use Rattle.net_order.proofs.Bits.{count_of, word_within, insert_words, insert_marks}

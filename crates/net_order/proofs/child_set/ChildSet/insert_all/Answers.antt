@@ -1,4 +1,4 @@
-use Rattle.std.proofs.Common.{◌≡◌, ℕ, ◌+◌, ◌<◌, ◌≤◌, ◌||◌, Bool, length, List, get_or, bit_or, set, ◌∙◌, sym, subst, ap, arith, below_more, length-set, get_or-set_same, get_or-set_other}
+use Rattle.std.proofs.Common.{◌<◌, ◌≤◌, ◌||◌, length, get_or, bit_or, ◌∙◌, sym, subst, ap, arith, below_more, length-set, get_or-set_same, get_or-set_other}
 use Rattle.std.proofs.lemmas.List.{get_or_read}
 use Rattle.net_order.specs.Marks.{has}
 use Rattle.net_order.specs.Words.{marks_of, AreWords}

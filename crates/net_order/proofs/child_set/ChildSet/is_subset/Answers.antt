@@ -1,8 +1,6 @@
-use Rattle.std.proofs.Common.{◌≡◌, ℕ, ◌<◌, ◌↔◌, ◌⊎◌, inl, inr, Bool, true, false, length, IsTrue, ◌+◌, ◌/◌, ◌^◌, List, get_or, bit_and, w64, sym, subst, ap, ◌∙◌, arith, below_more, refl, ◌-◌, bit_or}
-use Rattle.std.proofs.lemmas.List.{get_or_read, get_or_past}
-use Rattle.std.proofs.lemmas.Bool.{cases_lt, cases_eq, false≢true}
-use Rattle.net_order.specs.Marks.{has}
-use Rattle.net_order.specs.Words.{is_set, marks_of}
+use Rattle.std.proofs.Common.{◌≡◌, ◌<◌, inl, inr, ◌/◌, ◌^◌, get_or, bit_and, sym, subst, ap, ◌∙◌, arith, below_more, refl, ◌-◌}
+use Rattle.std.proofs.lemmas.List.{get_or_read}
+use Rattle.std.proofs.lemmas.Bool.{cases_lt, false≢true}
 use Rattle.net_order.proofs.Bits.{same_room, reads, past_words, rest, set_within, words_within}
 use Rattle.net_order.proofs.child_set.ChildSet.is_subset.Goals as goal
 
