@@ -1,0 +1,11 @@
+pub mod Linking
+pub mod Chains
+pub mod Closures
+pub mod Lines
+pub mod Ends
+pub mod Whole
+pub mod Meanings
+pub mod Adding
+pub mod Closing
+pub mod Sorting
+pub mod Bits

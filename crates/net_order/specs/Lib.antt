@@ -1,0 +1,6 @@
+pub mod Marks
+pub mod Words
+pub mod Line
+pub mod Answers
+pub mod Meaning
+pub mod Closure

@@ -1,0 +1,55 @@
+-- Sets of children as lists of marks: the mark at place i says whether child i is in the set.
+use Rattle.std.specs.Prelude.{ℕ, ◌<◌, ◌≡◌, ◌≢◌, ◌≤◌, Bool, false, IsTrue, List, [], length, slice_index, Contains, ◌⊎◌, ◌↔◌}
+use Rattle.std.specs.List.{slice_index_or}
+
+abbrev pub has : List Bool → ℕ → Bool
+has set i = slice_index_or set i false
+
+-- a set for each child, of those that precede it: whether i is in the set of j
+abbrev pub marked : List (List Bool) → ℕ → ℕ → Bool
+marked before i j = has (slice_index_or before j []) i
+
+abbrev pub Marked : List (List Bool) → ℕ → ℕ → Type 0
+Marked before i j = IsTrue (marked before i j)
+
+-- as many sets as children, each with a mark for each child
+pub record IsSquare (count : ℕ) (before : List (List Bool)) : Type 0 where
+  pub sets : length before ≡ count
+  pub marks : (j : ℕ) → j < count → length (slice_index_or before j []) ≡ count
+
+-- a child outside the set, whose marked predecessors are all in it
+pub record IsFree (before : List (List Bool)) (set : List Bool) (i : ℕ) : Type 0 where
+  pub outside : IsTrue (has set i) → ⊥
+  pub preceded : (j : ℕ) → Marked before j i → IsTrue (has set j)
+
+-- the least free child
+pub record IsLeastFree (before : List (List Bool)) (set : List Bool) (i : ℕ) : Type 0 where
+  pub child : i < length before
+  pub free : IsFree before set i
+  pub least : (j : ℕ) → j < i → IsFree before set j → ⊥
+
+-- all other children are marked as those that precede it
+abbrev pub IsMarkedLast : List (List Bool) → ℕ → Type 0
+IsMarkedLast before i = (i < length before) × ((j : ℕ) → j < length before → j ≢ i → Marked before j i)
+
+-- each of the first k of the line is marked as one that precedes each of the rest
+abbrev pub IsMarkedCut : List (List Bool) → List ℕ → ℕ → Type 0
+IsMarkedCut before line k = (p q : ℕ) → p < k → k ≤ q → q < length line → Marked before (slice_index line p) (slice_index line q)
+
+-- so many of the line, from the first on, are in the set, and the next is not
+pub record IsCovered (line : List ℕ) (set : List Bool) (n : ℕ) : Type 0 where
+  pub within : n ≤ length line
+  pub inside : (p : ℕ) → p < n → IsTrue (has set (slice_index line p))
+  pub outside : n < length line → has set (slice_index line n) ≡ false
+
+-- what precedes a member of one of these children's sets is in that set too
+abbrev pub IsClosedOn : List (List Bool) → List ℕ → Type 0
+IsClosedOn before children = (a i k : ℕ) → Contains children k → Marked before i k → Marked before a i → Marked before a k
+
+-- those of the earlier ones that are in the set of this child, and what precedes them
+abbrev pub IsGathered : List (List Bool) → List ℕ → ℕ → List Bool → Type 0
+IsGathered before earlier child set = (a : ℕ) → IsTrue (has set a) ↔ ((i : ℕ) × Contains earlier i × Marked before i child × ((a ≡ i) ⊎ Marked before a i))
+
+-- all children below this one are in the set
+abbrev pub AreAllBelow : ℕ → List Bool → Type 0
+AreAllBelow low set = (i : ℕ) → i < low → IsTrue (has set i)

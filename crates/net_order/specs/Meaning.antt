@@ -1,0 +1,36 @@
+-- What an order means, by the definitions of orders of children.
+-- Source: Höller et al., "HDDL", AAAI 2020, "Ordering of tasks": the written pairs generate the order.
+use Rattle.std.specs.Prelude.{ℕ, ◌≡◌, ◌<◌, ◌≤◌, ◌↔◌, IsTrue, List, MatchOption, All}
+use Rattle.plan_model.specs.declared.networks.Pair.{Pair}
+use Rattle.task_networks.specs.Order.{Precedes, IsAcyclic, IsLine, IsHeir, IsLast, IsMaximal, IsCut, Among, IsFirstClosing}
+use Rattle.net_order.specs.declared.order.OrderError.{OrderError}
+use Rattle.net_order.specs.declared.order.OrderError.TheVariants.{Cycle, Memory}
+use Rattle.net_order.specs.Answers.{Answers, precedes, heir, maximal, cut}
+
+abbrev pub pair : ℕ → ℕ → Pair
+pair i j = record { first = i; then = j }
+
+-- the pairs of a list
+abbrev pub Pairs : List Pair → ℕ → ℕ → Type 0
+Pairs pairs = Among pair pairs
+
+-- the answers are those of the order that the pairs generate on so many children
+pub record IsOrderOf (count : ℕ) (pairs : List Pair) (order : Answers) : Type 0 where
+  pub children : order.count ≡ count
+  pub acyclic : IsAcyclic (Pairs pairs)
+  pub precedes : (i j : ℕ) → i < count → j < count → IsTrue (precedes order i j) ↔ Precedes (Pairs pairs) i j
+  pub line : IsLine (Pairs pairs) count order.line
+  -- the heir is missing exactly where there are no children
+  pub heir : MatchOption (heir order) (count ≡ 0) (IsHeir (Pairs pairs) count)
+  pub last : MatchOption order.last ((i : ℕ) → IsLast (Pairs pairs) count i → ⊥) (IsLast (Pairs pairs) count)
+  pub maximal : (i : ℕ) → i < count → IsTrue (maximal order i) ↔ IsMaximal (Pairs pairs) count i
+  pub cut : (k : ℕ) → 1 ≤ k → k < count → IsTrue (cut order k) ↔ IsCut (Pairs pairs) order.line k
+
+-- the named pair is the first that closes a cycle with those before it; so the pairs have a cycle
+abbrev pub IsRefusedBy : List Pair → OrderError → Type 0
+IsRefusedBy pairs (Cycle k) = IsFirstClosing pair pairs k × (IsAcyclic (Pairs pairs) → ⊥)
+IsRefusedBy pairs Memory = Unit {0}
+
+-- all pairs are of so many children
+abbrev pub AreBelow : ℕ → List Pair → Type 0
+AreBelow count pairs = All (λ p. (p.first < count) × (p.then < count)) pairs

@@ -1,0 +1,48 @@
+ghost use Rattle.std.specs.Prelude.{◌≡◌, ℕ, ◌<◌, All, length, IfOk, OnOk};
+ghost use Rattle.task_networks.specs.Order.{IsLine};
+ghost use Rattle.net_order.specs.Marks.{Marked, IsSquare, IsClosedOn, IsGathered};
+ghost use Rattle.net_order.specs.Line.{IsClosed};
+
+use crate::child_set::ChildSet;
+use htn_base::Memory;
+use std::alloc::Global;
+
+/// Puts into each set those that precede its members, child by child along the line.
+pub fn close(alloc: Global, before: &mut [ChildSet], line: &[u32]) -> Result<(), Memory>
+    requires square { IsSquare (length before.old) before.old }
+    requires line { IsLine (Marked before.old) (length before.old) line.now }
+    ensures closed { OnOk result (IsClosed before.old before.new) }
+{
+    for q in 0..line.len() {
+        let child = line[q] as usize;
+        let set = gather(alloc, before, &line[..q], child)?;
+        before[child] = set;
+    }
+    Ok(())
+}
+
+/// The direct predecessors of the child among the earlier ones, and those that precede them. One that is in the set
+/// already, since it precedes a later one, adds nothing.
+fn gather(
+    alloc: Global,
+    before: &[ChildSet],
+    earlier: &[u32],
+    child: usize,
+) -> Result<ChildSet, Memory>
+    requires square { IsSquare (length before.now) before.now }
+    requires within { child < length before.now }
+    requires earlier { All (λ i. i < length before.now) earlier.now }
+    requires closed { IsClosedOn before.now earlier.now }
+    ensures room { IfOk result (λ set. length set ≡ length before.now) }
+    ensures gathered { IfOk result (IsGathered before.now earlier.now child) }
+{
+    let mut set = ChildSet::new(alloc, before.len())?;
+    for p in (0..earlier.len()).rev() {
+        let other = earlier[p] as usize;
+        if before[child].contains(other) && !set.contains(other) {
+            set.insert_all(&before[other]);
+            set.insert(other);
+        }
+    }
+    Ok(set)
+}

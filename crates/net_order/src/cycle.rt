@@ -1,0 +1,41 @@
+ghost use Rattle.std.specs.Prelude.{◌≡◌, ◌<◌, ◌^◌, ◌↔◌, length, IsTrue, IfOk};
+ghost use Rattle.task_networks.specs.Order.{IsAcyclic, IsFirstClosing};
+ghost use Rattle.net_order.specs.Meaning.{pair, Pairs, AreBelow};
+
+use crate::direct::direct_sets;
+use crate::line::line_of;
+use htn_base::Memory;
+use plan_model::Pair;
+use std::alloc::Global;
+
+/// The place of the first pair that closes a cycle with those before it, by halving: the first pairs up to some
+/// place have no cycle, and all longer beginnings have one.
+pub fn first_closing(alloc: Global, count: usize, pairs: &[Pair]) -> Result<u32, Memory>
+    requires small { count < 2 ^ 32 }
+    requires below { AreBelow count pairs.now }
+    requires few { length pairs.now < 2 ^ 32 }
+    requires cyclic { IsAcyclic (Pairs pairs.now) → ⊥ }
+    ensures first { IfOk result (IsFirstClosing pair pairs.now) }
+{
+    let mut acyclic = 0;
+    let mut cyclic = pairs.len();
+    while cyclic - acyclic > 1 {
+        let middle = acyclic + (cyclic - acyclic) / 2;
+        if is_acyclic(alloc, count, &pairs[..middle])? {
+            acyclic = middle;
+        } else {
+            cyclic = middle;
+        }
+    }
+    Ok(acyclic as u32)
+}
+
+fn is_acyclic(alloc: Global, count: usize, pairs: &[Pair]) -> Result<bool, Memory>
+    requires small { count < 2 ^ 32 }
+    requires below { AreBelow count pairs.now }
+    ensures acyclic { IfOk result (λ told. IsTrue told ↔ IsAcyclic (Pairs pairs.now)) }
+{
+    let before = direct_sets(alloc, count, pairs)?;
+    let line = line_of(alloc, before.as_slice())?;
+    Ok(line.len() >= count)
+}

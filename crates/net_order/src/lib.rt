@@ -1,0 +1,23 @@
+//! The order of one network's children: what precedes what, the line, the heir, the last child, the maximal
+//! children and the cuts.
+//!
+//! Stands on `htn_base`, `plan_model` and the definitions of `task_networks`. The contract used above: an order
+//! answers what the pairs generate, and a list of pairs with a cycle is refused by the first pair that closes one.
+#![tactic(auto)]
+
+mod child_set;
+mod closure;
+mod cuts;
+mod cycle;
+mod direct;
+mod firsts;
+mod last;
+mod line;
+mod order;
+#[cfg(test)]
+mod plain;
+mod sorted;
+#[cfg(test)]
+mod tests;
+
+pub use order::{Order, OrderError};

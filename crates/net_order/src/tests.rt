@@ -1,0 +1,158 @@
+//! Orders of few children, worked out by hand, and a comparison with the plain way on many orders. Each call that may
+//! want memory is made with ample memory.
+
+ghost use Rattle.std.specs.Prelude.{◌≡◌, ◌<◌, ◌^◌, length, IfOk};
+ghost use Rattle.net_order.specs.Marks.{IsSquare};
+ghost use Rattle.net_order.specs.Meaning.{AreBelow};
+
+use crate::child_set::ChildSet;
+use crate::plain::closure;
+use crate::{Order, OrderError};
+use plan_model::Pair;
+use std::alloc::{AllocError, Global};
+use std::process::Abort;
+use std::test::Fail;
+
+// The last child must come before the first one, and child 1 is free: the line isn't the order of the numbers.
+#[test]
+fn last_before_first(rt: HostRuntime) -> Result<(), Fail> {
+    let order = Order::new(rt.alloc(), 3, &[Pair { first: 2, then: 0 }])?;
+    assert_eq!(rt; order.line().as_slice(), [1, 2, 0].as_slice());
+    assert_eq!(rt; (order.heir(), order.last()), (Some(0), None));
+    free_in_the_middle(&rt, &order);
+    Ok(())
+}
+
+fn free_in_the_middle(rt: &impl Abort, order: &Order)
+    requires { order.now.count ≡ 3 }
+{
+    let before = (
+        order.precedes(2, 0),
+        order.precedes(0, 2),
+        order.precedes(1, 0),
+    );
+    assert_eq!(rt; before, (true, false, false));
+    assert_eq!(rt;
+        (order.maximal(0), order.maximal(1), order.maximal(2)),
+        (true, true, false)
+    );
+    assert_eq!(rt; (order.cut(1), order.cut(2)), (false, false));
+}
+
+// 1 < 0, 0 < 3 and 0 < 2: child 1 also precedes 2 and 3, and the line is cut after 1 and after 0.
+#[test]
+fn fork(rt: HostRuntime) -> Result<(), Fail> {
+    let pairs = [
+        Pair { first: 0, then: 3 },
+        Pair { first: 1, then: 0 },
+        Pair { first: 0, then: 2 },
+    ];
+    let order = Order::new(rt.alloc(), 4, &pairs)?;
+    assert_eq!(rt; order.line().as_slice(), [1, 0, 2, 3].as_slice());
+    assert_eq!(rt; (order.heir(), order.last()), (Some(3), None));
+    forks(&rt, &order);
+    Ok(())
+}
+
+fn forks(rt: &impl Abort, order: &Order)
+    requires { order.now.count ≡ 4 }
+{
+    let before = (
+        order.precedes(1, 2),
+        order.precedes(1, 3),
+        order.precedes(2, 3),
+    );
+    assert_eq!(rt; before, (true, true, false));
+    assert_eq!(rt;
+        (order.cut(1), order.cut(2), order.cut(3)),
+        (true, true, false)
+    );
+}
+
+// 0 < 1 < 2: the third child is last. Without children there is neither heir nor last; a lone child is both.
+#[test]
+fn last_children(rt: HostRuntime) -> Result<(), Fail> {
+    let pairs = [Pair { first: 0, then: 1 }, Pair { first: 1, then: 2 }];
+    let order = Order::new(rt.alloc(), 3, &pairs)?;
+    assert_eq!(rt; order.last(), Some(2));
+    let none = Order::new(rt.alloc(), 0, &[])?;
+    assert_eq!(rt; (none.heir(), none.last()), (None, None));
+    let one = Order::new(rt.alloc(), 1, &[])?;
+    assert_eq!(rt; (one.heir(), one.last()), (Some(0), Some(0)));
+    Ok(())
+}
+
+// The third pair closes the cycle 0 < 1 < 2 < 0, and the fourth closes another one.
+#[test]
+fn cycles(rt: HostRuntime) -> Result<(), Fail> {
+    let pairs = [
+        Pair { first: 0, then: 1 },
+        Pair { first: 1, then: 2 },
+        Pair { first: 2, then: 0 },
+        Pair { first: 1, then: 0 },
+    ];
+    let made = Order::new(rt.alloc(), 3, &pairs);
+    assert_eq!(rt; made.err(), Some(OrderError::Cycle { pair: 2 }));
+    let itself = Order::new(rt.alloc(), 2, &[Pair { first: 1, then: 1 }]);
+    assert_eq!(rt; itself.err(), Some(OrderError::Cycle { pair: 0 }));
+    Ok(())
+}
+
+// All lists of three pairs of four children, and each tenth list of five: what precedes what, or the pair that closes
+// a cycle, is what the plain way finds.
+#[test]
+fn plain_agrees(rt: HostRuntime) -> Result<(), Fail> {
+    for number in 0..4096 {
+        let pairs = list(rt.alloc(), number, 3)?;
+        agrees(&rt, rt.alloc(), pairs.as_slice())?;
+    }
+    for number in 0..104_857 {
+        let pairs = list(rt.alloc(), number * 10, 5)?;
+        agrees(&rt, rt.alloc(), pairs.as_slice())?;
+    }
+    Ok(())
+}
+
+/// The list of so many pairs of four children that has this number.
+fn list(alloc: Global, number: u32, len: usize) -> Result<Vec<Pair>, AllocError>
+    requires { len < 6 }
+    ensures below { IfOk result (λ pairs. AreBelow 4 pairs.items) }
+    ensures length { IfOk result (λ pairs. length pairs.items ≡ len) }
+{
+    let mut pairs = Vec::new(alloc);
+    let mut rest = number;
+    for _ in 0..len {
+        pairs.push(Pair {
+            first: rest % 4,
+            then: rest / 4 % 4,
+        })?;
+        rest /= 16;
+    }
+    Ok(pairs)
+}
+
+fn agrees(rt: &impl Abort, alloc: Global, pairs: &[Pair]) -> Result<(), OrderError>
+    requires below { AreBelow 4 pairs.now }
+    requires few { length pairs.now < 2 ^ 32 }
+{
+    let made = Order::new(alloc, 4, pairs);
+    match closure(alloc, 4, pairs) {
+        Ok(before) => same(rt, &made?, before.as_slice()),
+        Err(error) => assert_eq!(rt; made.err(), Some(error)),
+    }
+    Ok(())
+}
+
+fn same(rt: &impl Abort, order: &Order, before: &[ChildSet])
+    requires order { order.now.count ≡ 4 }
+    requires before { IsSquare 4 before.now }
+{
+    for a in 0..4 {
+        for b in 0..4 {
+            assert_eq!(rt;
+                order.precedes(a, b),
+                before[b as usize].contains(a as usize)
+            );
+        }
+    }
+}
