@@ -1,7 +1,6 @@
 -- The words of HDDL and PDDL texts. A word is the list of its bytes.
 -- Source: the grammars of HDDL (Höller et al., AAAI 2020) and of PDDL 2.1, level 1 (Fox and Long, JAIR 2003).
-use Rattle.std.specs.Prelude.{◌≡◌, ℕ, List, []}
-use Rattle.std.specs.Prelude.{◌∷◌, Bool, map, codes}
+use Rattle.std.specs.Prelude.{◌≡◌, ℕ, List, [], ◌∷◌, Bool, map, codes}
 use Rattle.std.specs.Char.{to_ascii_lowercase}
 use Rattle.std.specs.List.{list_any}
 use Rattle.std.specs.Str.{bytes_eq}

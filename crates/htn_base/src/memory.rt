@@ -1,3 +1,5 @@
+ghost use Rattle.std.specs.Prelude.{Some, codes};
+
 use std::alloc::{AllocError, AllocFailed};
 use std::fmt;
 
@@ -6,6 +8,8 @@ use std::fmt;
 pub struct Memory;
 
 impl fmt::Display for Memory {
+    ghost output = { λ _. Some (codes "out of memory") };
+
     fn fmt<W: fmt::Write>(&self, f: &mut fmt::Formatter<W>) -> fmt::Result {
         write!(f, "out of memory")
     }

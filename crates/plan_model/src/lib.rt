@@ -14,6 +14,8 @@ mod options;
 mod schemas;
 mod steps;
 mod terms;
+#[cfg(test)]
+mod tests;
 mod types;
 mod values;
 

@@ -1,0 +1,4 @@
+pub mod WordLists
+pub mod Texts
+pub mod Outputs
+mod Examples

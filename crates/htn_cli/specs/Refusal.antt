@@ -1,0 +1,34 @@
+use Rattle.std.specs.Prelude.{ℕ, List, ◌++◌, codes}
+use Rattle.htn_cli.specs.declared.status.Status.{Status}
+use Rattle.htn_cli.specs.declared.status.Status.TheVariants as status
+use Rattle.htn_cli.specs.declared.refusal.Refusal.{Refusal}
+use Rattle.htn_cli.specs.declared.refusal.Refusal.TheVariants.{Words, NotBuilt, CannotRead, CannotWrite, CannotWriteOutput, NoMemory}
+
+-- the number with which the program ends
+abbrev pub code_of : Status → ℕ
+code_of status.Done = 0
+code_of status.TextFault = 1
+code_of status.Words = 2
+code_of status.ReadFault = 3
+code_of status.WriteFault = 4
+code_of status.NoMemory = 5
+code_of status.Finding = 6
+code_of status.Limit = 7
+
+-- the status of a run that ends with this refusal
+abbrev pub status_of : Refusal → Status
+status_of Words = status.Words
+status_of (NotBuilt domain) = status.TextFault
+status_of (CannotRead name) = status.ReadFault
+status_of (CannotWrite name) = status.WriteFault
+status_of CannotWriteOutput = status.WriteFault
+status_of NoMemory = status.NoMemory
+
+-- its one line on standard error
+abbrev pub line_of : Refusal → List ℕ
+line_of Words = codes "words refused\n"
+line_of (NotBuilt domain) = domain.now ++ codes ":0: fault 40 NotBuilt\n"
+line_of (CannotRead name) = codes "cannot read " ++ name.now ++ codes "\n"
+line_of (CannotWrite name) = codes "cannot write " ++ name.now ++ codes "\n"
+line_of CannotWriteOutput = codes "cannot write standard output\n"
+line_of NoMemory = codes "out of memory\n"

@@ -1,0 +1,26 @@
+ghost use Rattle.std.specs.Prelude.{◌≡◌, ◌+◌, ◌<◌, ◌≤◌, IfOk, IfErr, OnOk, drop, length, take};
+ghost use Rattle.outside_io.specs.Sink.{WriteRefused};
+ghost use Rattle.htn_cli.specs.Sent.{StopsAt, TakesNext, TakesWhole};
+
+use outside_io::{Sink, WriteError};
+
+/// Writes a text whole, or as far as the sink takes it. Each turn takes at least one byte.
+pub(crate) fn send<S: Sink>(sink: &mut S, text: &[u8]) -> Result<(), WriteError>
+    ensures whole { OnOk result (TakesWhole text.now (S.state sink.old) (S.state sink.new)) }
+    ensures part { IfErr result (StopsAt text.now (S.state sink.old) (S.state sink.new)) }
+{
+    let mut done = 0;
+    while done < text.len() {
+        done += send_from(sink, text, done)?;
+    }
+    Ok(())
+}
+
+/// Writes some of the bytes of a text from `done` on, and answers how many.
+fn send_from<S: Sink>(sink: &mut S, text: &[u8], done: usize) -> Result<usize, WriteError>
+    requires { done < length text.now }
+    ensures next { IfOk result (TakesNext text.now done (S.state sink.old) (S.state sink.new)) }
+    ensures refused { IfErr result (WriteRefused (S.state sink.old) (S.state sink.new)) }
+{
+    sink.write(&text[done..])
+}

@@ -1,0 +1,2 @@
+pub mod Folders
+mod Examples

@@ -1,0 +1,42 @@
+ghost use Rattle.std.specs.Prelude.{◌≡◌, IfOk, IfErr, OnOk};
+ghost use Rattle.outside_io.specs.Files.{FilesState, GetGives, GetRefused, PutGives, PutRefused};
+
+use std::alloc::Global;
+use thiserror::Error;
+
+/// Why a get gave no bytes.
+#[derive(Clone, Copy, Debug, PartialEq, Eq, Drop, Error)]
+pub enum GetError {
+    /// The file was not read, and the count of failed gets rose.
+    #[error("the file was not read")]
+    Failed,
+    /// Memory was refused, and nothing changed.
+    #[error("out of memory")]
+    Memory,
+}
+
+/// Why a put was not done.
+#[derive(Clone, Copy, Debug, PartialEq, Eq, Drop, Error)]
+pub enum PutError {
+    /// The file was not written whole, and the count of failed puts rose.
+    #[error("the file was not written")]
+    Failed,
+    /// Memory was refused, and nothing changed.
+    #[error("out of memory")]
+    Memory,
+}
+
+/// Files that are named by texts, and are read and written whole.
+pub trait Files {
+    ghost state: { Self → FilesState };
+
+    /// Gives the first `limit` bytes of the named file, all of them if there are fewer.
+    fn get(&mut self, alloc: Global, name: &str, limit: u64) -> Result<Vec<u8>, GetError>
+        ensures ok { IfOk result (λ v. GetGives (state self.old) (state self.new) name.now limit v.items) }
+        ensures err { IfErr result (GetRefused (state self.old) (state self.new) name.now) };
+
+    /// Makes the named file hold exactly these bytes.
+    fn put(&mut self, name: &str, bytes: &[u8]) -> Result<(), PutError>
+        ensures ok { OnOk result (PutGives (state self.old) (state self.new) name.now bytes.now) }
+        ensures err { IfErr result (PutRefused (state self.old) (state self.new) name.now) };
+}

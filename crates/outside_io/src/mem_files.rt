@@ -1,0 +1,124 @@
+ghost use Rattle.std.specs.Prelude.{◌≡◌, ◌⊎◌, IfOk, IfErr, OnOk, OnErr, IsErrOf, None, true, false};
+ghost use Rattle.std.specs.Option.{option_copied};
+ghost use Rattle.outside_io.specs.Files.{GetGives, GetRefused, PutGives, PutRefused};
+ghost use Rattle.outside_io.specs.Folder.{bytes_of, with_bytes};
+ghost use Rattle.outside_io.specs.Script.{after_call, fails_next, files_state, no_files, with_failing};
+
+use crate::files::{Files, GetError, PutError};
+use crate::folder::{MemFolder, first_bytes};
+use crate::script::Script;
+use htn_base::{Memory, Text};
+use std::alloc::Global;
+use std::marker::Model;
+
+/// Files in memory, of which chosen gets and puts fail.
+#[derive(Drop)]
+pub struct MemFiles {
+    alloc: Global,
+    folder: MemFolder,
+    gets: Script,
+    puts: Script,
+    failed: Option<Text>,
+}
+
+impl Model for MemFiles {
+    ghost use Rattle.outside_io.specs.Script.{ScriptedFiles};
+
+    ghost Value = { ScriptedFiles };
+
+    ghost view = { λ f. record { folder = f.folder; gets = f.gets; puts = f.puts; failed = f.failed } };
+}
+
+impl MemFiles {
+    /// No file, and no call that is to fail.
+    pub fn new(alloc: Global) -> MemFiles
+        ensures empty { result ≡ no_files }
+    {
+        MemFiles {
+            alloc,
+            folder: MemFolder::new(alloc),
+            gets: Script::new(alloc),
+            puts: Script::new(alloc),
+            failed: None,
+        }
+    }
+
+    /// Makes the name hold these bytes, in place of what it held.
+    pub fn add(&mut self, name: &str, bytes: &[u8]) -> Result<(), Memory>
+        ensures added { OnOk result (self.new ≡ record self.old { folder = with_bytes self.old.folder name.now bytes.now }) }
+        ensures unchanged { OnErr result (self.new ≡ self.old) }
+    {
+        self.folder.put(name, bytes)
+    }
+
+    /// Lets get number `k` fail, counted from 0.
+    pub fn fail_get(&mut self, k: u32) -> Result<(), Memory>
+        ensures added { OnOk result (self.new ≡ record self.old { gets = with_failing self.old.gets k }) }
+        ensures unchanged { OnErr result (self.new ≡ self.old) }
+    {
+        self.gets.fail(k)
+    }
+
+    /// Lets put number `k` fail, counted from 0.
+    pub fn fail_put(&mut self, k: u32) -> Result<(), Memory>
+        ensures added { OnOk result (self.new ≡ record self.old { puts = with_failing self.old.puts k }) }
+        ensures unchanged { OnErr result (self.new ≡ self.old) }
+    {
+        self.puts.fail(k)
+    }
+
+    /// The bytes of a name, or `None` where the name is not held.
+    pub fn bytes(&self, name: &str) -> Option<&[u8]>
+        ensures held { option_copied result ≡ bytes_of self.now.folder name.now }
+    {
+        self.folder.bytes(name)
+    }
+
+    fn copy_name(&self, name: &str) -> Result<Text, Memory>
+        ensures equal { IfOk result (λ copy. copy ≡ name.now) }
+    {
+        Text::from_slice(self.alloc, name.as_bytes())
+    }
+}
+
+impl Files for MemFiles {
+    ghost state = { files_state };
+
+    fn get(&mut self, alloc: Global, name: &str, limit: u64) -> Result<Vec<u8>, GetError>
+        ensures ok { IfOk result (λ v. GetGives (files_state self.old) (files_state self.new) name.now limit v.items) }
+        ensures err { IfErr result (GetRefused (files_state self.old) (files_state self.new) name.now) }
+        ensures unscripted { OnOk result (fails_next self.old.gets ≡ false) }
+        ensures caused { IsErrOf result GetError.Failed → (fails_next self.old.gets ≡ true) ⊎ (bytes_of self.old.folder name.now ≡ None) }
+        ensures counted { OnOk result (self.new ≡ record self.old { gets = after_call self.old.gets }) }
+    {
+        if !self.gets.fails_next()
+            && let Some(bytes) = self.folder.bytes(name)
+        {
+            let first = first_bytes(alloc, bytes, limit).map_err(|_| GetError::Memory)?;
+            self.gets.count_call();
+            return Ok(first);
+        }
+        let name = self.copy_name(name).map_err(|_| GetError::Memory)?;
+        self.failed = Some(name);
+        self.gets.count_fault();
+        Err(GetError::Failed)
+    }
+
+    fn put(&mut self, name: &str, bytes: &[u8]) -> Result<(), PutError>
+        ensures ok { OnOk result (PutGives (files_state self.old) (files_state self.new) name.now bytes.now) }
+        ensures err { IfErr result (PutRefused (files_state self.old) (files_state self.new) name.now) }
+        ensures unscripted { OnOk result (fails_next self.old.puts ≡ false) }
+        ensures caused { IsErrOf result PutError.Failed → fails_next self.old.puts ≡ true }
+        ensures counted { OnOk result (self.new.puts ≡ after_call self.old.puts) }
+    {
+        if self.puts.fails_next() {
+            let name = self.copy_name(name).map_err(|_| PutError::Memory)?;
+            self.failed = Some(name);
+            self.puts.count_fault();
+            return Err(PutError::Failed);
+        }
+        self.folder.put(name, bytes).map_err(|_| PutError::Memory)?;
+        self.puts.count_call();
+        Ok(())
+    }
+}

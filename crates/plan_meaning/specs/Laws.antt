@@ -1,0 +1,23 @@
+-- What is proved of every problem, so that the definitions are seen to fit together.
+use Rattle.std.specs.Prelude.{ℕ, ◌≡◌, List, ◌∷◌, ◌++◌, length, Contains}
+use Rattle.plan_model.specs.declared.schemas.MethodSchema.{MethodSchema}
+use Rattle.plan_model.specs.declared.steps.GroundAction.{GroundAction}
+use Rattle.plan_model.specs.declared.values.Compiled.{Compiled}
+use Rattle.plan_model.specs.declared.values.Hddl.{Hddl}
+use Rattle.plan_model.specs.declared.values.Pddl.{Pddl}
+use Rattle.task_networks.specs.Order.{ArePairsOf, IsAcyclic}
+use Rattle.plan_meaning.specs.Bound.{IsBound}
+use Rattle.plan_meaning.specs.ClassicalPlan.{IsExecutable}
+use Rattle.plan_meaning.specs.Compilation.{Pairs}
+
+-- the pairs of each network are of its subtasks, and have no cycle
+abbrev pub AreOrdered : Hddl → Type 0
+AreOrdered h = (s : MethodSchema) → Contains (h.top ∷ h.methods) s → ArePairsOf (Pairs s.pairs) (length s.children) × IsAcyclic (Pairs s.pairs)
+
+-- a list that can be executed can be left off at any step
+abbrev pub PrefixIsExecutable : Pddl → Type 0
+PrefixIsExecutable p = (steps more : List GroundAction) → IsExecutable p (steps ++ more) → IsExecutable p steps
+
+-- one number at most is the bound
+abbrev pub BoundIsTheOnlyOne : Compiled → Type 0
+BoundIsTheOnlyOne c = (n m : ℕ) → IsBound c n → IsBound c m → n ≡ m

@@ -1,0 +1,15 @@
+pub mod Truth
+pub mod ClassicalPlan
+pub mod Network
+pub mod Compilation
+pub mod Solution
+pub mod SpelledPlan
+pub mod SourceParts
+pub mod OrderFormulas
+pub mod EncodedNames
+pub mod EncodedActions
+pub mod EncodedValue
+pub mod Schemas
+pub mod Strata
+pub mod Bound
+pub mod Laws

@@ -1,0 +1,26 @@
+//! The laws of problems, each the contract of a function that does nothing.
+
+ghost use Rattle.task_networks.specs.Lawful.{IsLawful};
+ghost use Rattle.plan_meaning.specs.Network.{network};
+ghost use Rattle.plan_meaning.specs.Compilation.{IsCompiled};
+ghost use Rattle.plan_meaning.specs.Laws.{AreOrdered, PrefixIsExecutable, BoundIsTheOnlyOne};
+
+use plan_model::{Checks, Compiled, Hddl, Pddl};
+
+/// The network of a compiled problem has the laws that the machine of slots asks for.
+pub fn compiled_network_is_lawful(problem: &Hddl, checks: &Checks, compiled: &Compiled)
+    requires ordered { AreOrdered problem.now }
+    requires compiled { IsCompiled problem.now checks.now compiled.now }
+    ensures { IsLawful (network compiled.now) }
+{}
+
+/// A prefix of an executable list of ground actions is executable.
+pub fn prefix_is_executable(problem: &Pddl)
+    ensures { PrefixIsExecutable problem.now }
+{}
+
+/// A compiled problem has one bound at most.
+pub fn bound_is_the_only_one(problem: &Hddl, checks: &Checks, compiled: &Compiled)
+    requires compiled { IsCompiled problem.now checks.now compiled.now }
+    ensures { BoundIsTheOnlyOne compiled.now }
+{}

@@ -1,0 +1,17 @@
+pub mod Declared
+pub mod TypedLists
+pub mod Formulas
+pub mod Sections
+pub mod Types
+pub mod Schemas
+pub mod SpellsPddl
+pub mod Networks
+pub mod SpellsHddl
+pub mod Said
+pub mod Alike
+pub mod Printed
+pub mod PrintedTexts
+pub mod Printable
+pub mod PrintableValue
+pub mod FirstSeen
+pub mod PlanText

@@ -1,0 +1,3 @@
+pub mod Seen
+pub mod Refused
+pub mod Kept

@@ -1,0 +1,35 @@
+-- What the values of this crate are among the defined ones: a class, a kind, a token, and a fault of a file.
+use Rattle.std.specs.Prelude.{ℕ}
+use Rattle.htn_base.specs.declared.fault.Fault.{Fault}
+use Rattle.text_forms.specs.Bytes as defined_bytes
+use Rattle.text_forms.specs.Tokens as defined
+use Rattle.text_forms.specs.Faults as defined_faults
+use Rattle.sexpr_text.specs.declared.classes.Class.{Class}
+use Rattle.sexpr_text.specs.declared.classes.Class.TheVariants.{Blank, Opening, Closing, Letter, Bad}
+use Rattle.sexpr_text.specs.declared.tokens.Kind.{Kind}
+use Rattle.sexpr_text.specs.declared.tokens.Kind.TheVariants.{Start, Stop, Word}
+use Rattle.sexpr_text.specs.declared.tokens.Piece.{Piece}
+use Rattle.sexpr_text.specs.declared.tokens.Token.{Token}
+
+abbrev pub class_seen : Class → defined_bytes.Class
+class_seen Blank = defined_bytes.blank
+class_seen Opening = defined_bytes.opening
+class_seen Closing = defined_bytes.closing
+class_seen Letter = defined_bytes.letter
+class_seen Bad = defined_bytes.bad
+
+abbrev pub kind_seen : Kind → defined.Kind
+kind_seen Start = defined.start
+kind_seen Stop = defined.stop
+kind_seen Word = defined.word
+
+-- a kind and a span
+abbrev pub piece_seen : Piece → defined.Token
+piece_seen p = defined.token (kind_seen p.kind) p.span.start p.span.end
+
+abbrev pub token_seen : Token → defined.Token
+token_seen t = defined.token (kind_seen t.kind) t.span.start t.span.end
+
+-- a fault with the place of its file among the inputs
+abbrev pub fault_in : ℕ → defined_faults.Fault → Fault
+fault_in file f = record { code = f.code; file = file; at = f.at }

@@ -1,0 +1,136 @@
+ghost use Rattle.std.specs.Prelude.{◌≡◌, ◌≤◌, ◌<◌, ◌-◌, ◌^◌, reverse, length, IfOk, OnOk};
+ghost use Rattle.std.specs.Option.{option_map};
+ghost use Rattle.text_forms.specs.Bytes.{classes_from};
+ghost use Rattle.text_forms.specs.Faults.{fault, innermost, but_innermost, open_after, code_at};
+ghost use Rattle.text_forms.specs.Least.{newer, older, left_open, settled, least_fault};
+ghost use Rattle.sexpr_text.specs.Seen.{class_seen, fault_in};
+
+use crate::classes::{Class, class_in, comment_after};
+use htn_base::{Fault, Memory};
+use std::alloc::Global;
+
+// Codes of faults.
+const BAD_BYTE: u16 = 1;
+
+const UNCLOSED_LIST: u16 = 2;
+
+const STRAY_CLOSE: u16 = 3;
+
+const TOO_DEEP: u16 = 4;
+
+// At most so many lists are open at a time.
+const DEEPEST: usize = 200;
+
+/// The fault of a text that comes first, by place and then code. A byte's fault does not end the pass: a
+/// list in front of it that is left open at the end comes before it.
+pub fn first_fault(alloc: Global, source: &[u8], file: u8) -> Result<Option<Fault>, Memory>
+    requires short { length source.now ≤ 16777216 }
+    ensures least { IfOk result (λ found. found ≡ option_map (fault_in file) (least_fault source.now)) }
+{
+    let mut open_lists: Vec<u32> = Vec::new(alloc);
+    let mut comment = false;
+    for (i, byte) in source.iter().enumerate() {
+        let at = i as u32;
+        let class = class_in(comment, *byte);
+        comment = comment_after(comment, *byte);
+        if let Some(code) = enter(&mut open_lists, at, class)? {
+            let unclosed = left_open(&source[i + 1..], comment, open_lists);
+            return Ok(Some(settled(file, code, at, unclosed)));
+        }
+    }
+    Ok(unclosed_list(file, leave(&mut open_lists)))
+}
+
+// One byte: the lists that are open behind it, and the code of the fault that it is.
+fn enter(open_lists: &mut Vec<u32>, at: u32, class: Class) -> Result<Option<u16>, Memory>
+    ensures open_lists { OnOk result (reverse open_lists.new.items ≡ open_after (reverse open_lists.old.items) at (class_seen class)) }
+    ensures code { IfOk result (λ code. code ≡ code_at (reverse open_lists.old.items) (class_seen class)) }
+{
+    match class {
+        Class::Blank | Class::Letter => Ok(None),
+        Class::Bad => Ok(Some(BAD_BYTE)),
+        Class::Opening => {
+            let deep = open_lists.len() >= DEEPEST;
+            open_lists.push(at)?;
+            if deep { Ok(Some(TOO_DEEP)) } else { Ok(None) }
+        }
+        Class::Closing => match leave(open_lists) {
+            Some(_) => Ok(None),
+            None => Ok(Some(STRAY_CLOSE)),
+        },
+    }
+}
+
+// The innermost of these lists, where it is the innermost that is open at the end of the text.
+fn left_open(source: &[u8], comment: bool, mut open_lists: Vec<u32>) -> Option<u32>
+    requires short { length source.now < 2 ^ 32 }
+    ensures left { result ≡ left_open 0 (reverse open_lists.items) (classes_from comment source.now) }
+{
+    let mut count: u32 = 0;
+    let mut inside = comment;
+    for byte in source {
+        let class = class_in(inside, *byte);
+        inside = comment_after(inside, *byte);
+        count = pass(&mut open_lists, count, class);
+    }
+    if count > 0 {
+        None
+    } else {
+        leave(&mut open_lists)
+    }
+}
+
+// One byte, where so many lists are newer than those that are kept.
+fn pass(open_lists: &mut Vec<u32>, count: u32, class: Class) -> u32
+    requires few { count < 2 ^ 32 - 1 }
+    ensures newer { result ≡ newer count (class_seen class) }
+    ensures older { reverse open_lists.new.items ≡ older count (reverse open_lists.old.items) (class_seen class) }
+{
+    match class {
+        Class::Opening => count + 1,
+        Class::Closing => {
+            if count > 0 {
+                count - 1
+            } else {
+                let _ = leave(open_lists);
+                0
+            }
+        }
+        _ => count,
+    }
+}
+
+// Takes the innermost list.
+fn leave(open_lists: &mut Vec<u32>) -> Option<u32>
+    ensures innermost { result ≡ innermost (reverse open_lists.old.items) }
+    ensures others { reverse open_lists.new.items ≡ but_innermost (reverse open_lists.old.items) }
+{
+    open_lists.pop()
+}
+
+// The fault of a byte, or the list that is left open, which stands in front of it or is its own.
+fn settled(file: u8, code: u16, at: u32, unclosed: Option<u32>) -> Fault
+    ensures fault { result ≡ fault_in file (settled code at unclosed) }
+{
+    match unclosed {
+        Some(start) => Fault {
+            code: UNCLOSED_LIST,
+            file,
+            at: start,
+        },
+        None => Fault { code, file, at },
+    }
+}
+
+fn unclosed_list(file: u8, unclosed: Option<u32>) -> Option<Fault>
+    ensures fault { result ≡ option_map (fault_in file) (option_map (fault 2) unclosed) }
+{
+    match unclosed {
+        Some(start) => Some(Fault {
+            code: UNCLOSED_LIST,
+            file,
+            at: start,
+        }),
+        None => None,
+    }
+}

@@ -1,0 +1,19 @@
+//! The tokens of a text: parentheses and words with their places, and the list that each parenthesis closes.
+//!
+//! Stands on `htn_base` and on the definitions of `text_forms`. The contract used above: `read` answers a
+//! text exactly where it has none of the faults 1 to 4, else the least of them; its tokens are the defined
+//! ones, and each word is the source at its span.
+#![tactic(auto)]
+
+mod classes;
+mod closings;
+mod faults;
+mod read_error;
+mod sexprs;
+#[cfg(test)]
+mod tests;
+mod tokens;
+
+pub use read_error::ReadError;
+pub use sexprs::{Sexprs, read};
+pub use tokens::{Kind, Token};

@@ -1,0 +1,104 @@
+ghost use Rattle.std.specs.Prelude.{◌≡◌, ◌≤◌, ◌↔◌, length, slice_get, slice_range, IfOk, IfErr, IfSome, IsSome};
+ghost use Rattle.std.specs.Option.{option_map};
+ghost use Rattle.text_forms.specs.Closing.{close_at, OpensList};
+ghost use Rattle.text_forms.specs.Faults.{IsFaultless};
+ghost use Rattle.text_forms.specs.Tokens.{tokens, token_count};
+ghost use Rattle.sexpr_text.specs.Refused.{IsRefusal};
+ghost use Rattle.sexpr_text.specs.Seen.{token_seen};
+
+use crate::closings::{closing_at, closings_of};
+use crate::faults::first_fault;
+use crate::read_error::ReadError;
+use crate::tokens::{Piece, Token, piece_at, pieces_of};
+use htn_base::Span;
+use std::alloc::Global;
+use std::marker::Model;
+
+/// A text without faults of tokens, which contracts see as its bytes.
+#[derive(Drop)]
+pub struct Sexprs<'a> {
+    source: &'a [u8],
+    pieces: Vec<Piece>,
+    closings: Vec<Option<u32>>,
+}
+
+impl<'a> Model for Sexprs<'a> {
+    ghost use Rattle.std.specs.Prelude.{List, ℕ};
+    ghost use Rattle.sexpr_text.specs.Kept.{IsReadFrom};
+
+    ghost Value = { List ℕ };
+
+    ghost view = { λ s. s.source.now };
+
+    ghost invariant = { λ s. IsReadFrom s.source.now s.pieces.items s.closings.items };
+}
+
+/// Cuts a text of at most 16,777,216 bytes into its tokens. `file` is its place among the command's inputs.
+/// `Bad` has the least fault by offset, then code: a bad byte (1), a list without an end (2), a `)` while no
+/// list is open (3), a `(` while 200 lists are open (4).
+pub fn read<'a>(alloc: Global, source: &'a [u8], file: u8) -> Result<Sexprs<'a>, ReadError>
+    requires short { length source.now ≤ 16777216 }
+    ensures text { IfOk result (λ s. s ≡ source.now) }
+    ensures faultless { IfOk result (λ _. IsFaultless source.now) }
+    ensures refused { IfErr result (IsRefusal source.now file) }
+{
+    if let Some(fault) = first_fault(alloc, source, file)? {
+        return Err(ReadError::Bad(fault));
+    }
+    let pieces = pieces_of(alloc, source)?;
+    let closings = closings_of(alloc, &pieces)?;
+    Ok(Sexprs {
+        source,
+        pieces,
+        closings,
+    })
+}
+
+impl<'a> Sexprs<'a> {
+    /// The number of tokens, at most that of the bytes. The text has no fault of tokens.
+    pub fn len(&self) -> u32
+        ensures count { result ≡ token_count self.now }
+        ensures few { result ≤ length self.now }
+        ensures faultless { IsFaultless self.now }
+    {
+        self.pieces.len() as u32
+    }
+
+    /// The token with number `i` from 0, or `None` past the last.
+    pub fn token(&self, i: u32) -> Option<Token<'a>>
+        ensures token { option_map token_seen result ≡ slice_get (tokens self.now) i }
+        ensures word { IfSome result (λ t. t.word.now ≡ slice_range self.now t.span.start t.span.end) }
+    {
+        let piece = piece_at(&self.pieces, i)?;
+        Some(Token {
+            kind: piece.kind,
+            word: part(self.source, piece.span),
+            span: piece.span,
+        })
+    }
+
+    /// The number of the token that closes the list that token `i` opens, or `None` where it opens none.
+    pub fn close_of(&self, i: u32) -> Option<u32>
+        ensures close { result ≡ close_at self.now i }
+        ensures opens { IsSome result ↔ OpensList self.now i }
+    {
+        closing_at(&self.closings, i)
+    }
+
+    /// The number of bytes of the source, at most 16,777,216.
+    pub fn text_len(&self) -> u32
+        ensures bytes { result ≡ length self.now }
+        ensures short { result ≤ 16777216 }
+    {
+        self.source.len() as u32
+    }
+}
+
+// The bytes of a span.
+fn part(source: &[u8], span: Span) -> &[u8]
+    requires order { span.start ≤ span.end }
+    requires within { span.end ≤ length source.now }
+    ensures bytes { result.now ≡ slice_range source.now span.start span.end }
+{
+    &source[span.start as usize..span.end as usize]
+}

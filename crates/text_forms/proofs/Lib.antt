@@ -1,0 +1,11 @@
+pub mod LeastFault
+pub mod OneNesting
+pub mod Matched
+pub mod MatchedFaults
+pub mod Levels
+pub mod ReadOn
+pub mod Printed
+pub mod Rows
+pub mod Lists
+pub mod Shown
+pub mod Fronts

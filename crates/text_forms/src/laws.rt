@@ -1,0 +1,44 @@
+// Laws of the definitions of texts.
+ghost use Rattle.std.specs.Prelude.{◌≡◌, ◌≤◌, ℕ, true, List, length, drop, slice_get};
+ghost use Rattle.text_forms.specs.Bytes.{is_clean};
+ghost use Rattle.text_forms.specs.Tokens.{tokens, token_count, lexemes, symbols};
+ghost use Rattle.text_forms.specs.Least.{least_fault};
+ghost use Rattle.text_forms.specs.Lists.{Part, Parts, written, written_all};
+ghost use Rattle.text_forms.specs.Placed.{level, parts_at};
+ghost use Rattle.text_forms.specs.Fronts.{before, cut_before};
+ghost use Rattle.text_forms.specs.Words.{Word};
+ghost use Rattle.text_forms.specs.Printing.{bytes, rows, definition, page, is_folded_word, IsPrintablePart, ArePrintableParts};
+ghost use Rattle.text_forms.specs.Laws.{StandInOrder, ClosesItsLists, ShowsBy, MatchedAreLists, OneNesting, SaysAsPlaced, MatchedAreFaultless, IsLeastOrNone};
+
+/// Matched parentheses are those of nested lists, in one way only.
+pub fn lists_law()
+    ensures matched { MatchedAreLists }
+    ensures one { OneNesting }
+{}
+
+/// Tokens stand in order within the text, each list that is opened is closed in a text without faults, and
+/// the lists of the tokens in front of a place are those of the text, cut there; with and without places the
+/// lists are the same.
+pub fn tokens_law(text: &[u8])
+    ensures order { StandInOrder 0 (tokens text.now) (length text.now) }
+    ensures few { token_count text.now ≤ length text.now }
+    ensures closed { ClosesItsLists text.now }
+    ensures shown { (i : ℕ) → ShowsBy text.now i (slice_get (tokens text.now) i) }
+    ensures fronts { (i m : ℕ) → level 0 (before m (drop i (lexemes text.now))) ≡ cut_before m (parts_at text.now i) }
+    ensures lists { SaysAsPlaced text.now }
+{}
+
+/// The least fault of codes 1 to 4 is the computed one, and matched parentheses have no fault 2 or 3.
+pub fn faults_law(text: &[u8])
+    ensures least { IsLeastOrNone text.now (least_fault text.now) }
+    ensures matched { MatchedAreFaultless text.now }
+{}
+
+/// What is printed for a nested list, for lists on rows, or for a page of sections, says these lists, and has no bad byte.
+pub fn printed_law()
+    ensures list { (p : Part) → IsPrintablePart p → symbols (bytes p) ≡ written p }
+    ensures rows { (ps : Parts) → ArePrintableParts ps → symbols (rows ps) ≡ written_all ps }
+    ensures clean_rows { (ps : Parts) → ArePrintableParts ps → is_clean (rows ps) ≡ true }
+    ensures clean { (kind w : Word) (ps : Parts) → is_folded_word kind ≡ true → is_folded_word w ≡ true → ArePrintableParts ps → is_clean (page kind w ps) ≡ true }
+    ensures page { (kind w : Word) (ps : Parts) → is_folded_word kind ≡ true → is_folded_word w ≡ true → ArePrintableParts ps → symbols (page kind w ps) ≡ written (definition kind w ps) }
+{}

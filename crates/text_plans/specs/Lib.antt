@@ -1,0 +1,3 @@
+pub mod SoundWords
+pub mod TextPlans
+pub mod Headline
