@@ -1,5 +1,5 @@
 -- The definitions on worked rows, by computation.
-use Rattle.std.proofs.Common.{ℕ, ◌≡◌, List, [], ◌∷◌, Bool, true, false, None, Some, refl}
+use Rattle.std.proofs.Common.{◌≡◌, [], ◌∷◌, true, false, None, Some, refl}
 use Rattle.net_order.specs.Words.{is_set, marks_of}
 use Rattle.net_order.specs.Answers.{Answers, precedes, heir, maximal, cut}
 
