@@ -9,3 +9,4 @@ pub mod Adding
 pub mod Closing
 pub mod Sorting
 pub mod Bits
+pub mod Examples
