@@ -100,17 +100,17 @@ module _ (h : Hddl) where
   all_placed (child ∷ rest) = placed (params_of child.head) child.args ++ all_placed rest
 
   module _ (s : MethodSchema) where
-    abbrev pub IsPartBy : Option Param → ℕ → Type 0
-    IsPartBy None ty = ⊥
-    IsPartBy (Some p) ty = IsA h.types p.ty ty
+    abbrev pub IsParamIn : Option Param → ℕ → Type 0
+    IsParamIn None ty = ⊥
+    IsParamIn (Some p) ty = IsA h.types p.ty ty
 
     -- the term's declaration puts it into the type
-    abbrev pub IsWithin : ℕ → Term → Type 0
-    IsWithin ty (Var k) = IsPartBy (slice_get s.params k) ty
-    IsWithin ty (Obj o) = InType h.types h.objects o ty
+    abbrev pub IsDeclaredIn : ℕ → Term → Type 0
+    IsDeclaredIn ty (Var k) = IsParamIn (slice_get s.params k) ty
+    IsDeclaredIn ty (Obj o) = InType h.types h.objects o ty
 
     abbrev pub IsGuard : Guard → Type 0
-    IsGuard g = IsWithin g.ty g.term → ⊥
+    IsGuard g = IsDeclaredIn g.ty g.term → ⊥
 
     -- the arguments that their declaration doesn't put into the parameter's type, in written order, each once
     abbrev pub AreGuards : List Guard → Type 0
