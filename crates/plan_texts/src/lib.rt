@@ -1,7 +1,7 @@
 //! What texts of HDDL and PDDL spell, when values are alike, and what is printed for a PDDL value.
 //! It stands on the values of `plan_model` and on the nested lists of `text_forms`, and has no code but laws.
-//! The readers, the binding of names and the printers are proved against these definitions: two texts spell
-//! a value, all values that they spell are alike, and the printed texts of a printable value spell it.
+//! Readers, the binding of names and printers are to be proved against these definitions. The laws: all
+//! values that two texts spell are alike, and the printed texts of a printable value spell it.
 #![tactic(auto)]
 
 mod alike;
