@@ -20,4 +20,4 @@ pub use list::List;
 pub use memory::Memory;
 pub use name::{Name, NameTable};
 pub use text::Text;
-pub use words::{esc, is_plain, names_stay_apart, slot_name};
+pub use words::{esc, is_plain, is_reserved, names_stay_apart, slot_name};

@@ -17,6 +17,7 @@ fn lists(rt: HostRuntime) -> Result<(), Fail> {
 #[test]
 fn texts(rt: HostRuntime) -> Result<(), Fail> {
     let mut text = Text::from_slice(rt.alloc(), b"ab")?;
+    text.reserve(100)?;
     text.push(b'c')?;
     text.push_all(b"de")?;
     assert_eq!(rt; text.as_slice(), b"abcde".as_slice());

@@ -78,6 +78,15 @@ impl Text {
         Ok(())
     }
 
+    /// Makes room for this many further bytes at once, so that putting them at the end moves nothing. The text stays as
+    /// it is, after `Memory` too.
+    pub fn reserve(&mut self, additional: usize) -> Result<(), Memory>
+        ensures same { self.new ≡ self.old }
+    {
+        self.bytes.reserve(additional)?;
+        Ok(())
+    }
+
     /// An equal text.
     pub fn copy(&self, alloc: Global) -> Result<Text, Memory>
         ensures equal { IfOk result (λ copy. copy ≡ self.now) }

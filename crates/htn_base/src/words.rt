@@ -1,6 +1,8 @@
-ghost use Rattle.std.specs.Prelude.{◌≡◌, ◌<◌, codes, nat_eq, IfOk};
-ghost use Rattle.std.specs.List.{list_all, starts_with};
+ghost use Rattle.std.specs.Prelude.{◌≡◌, ◌<◌, [], ◌∷◌, codes, nat_eq, IfOk};
+ghost use Rattle.std.specs.Str.{bytes_eq};
+ghost use Rattle.std.specs.List.{list_all, list_any, starts_with};
 ghost use Rattle.htn_base.specs.Escapes as spec;
+ghost use Rattle.htn_base.specs.Words as words;
 
 use crate::memory::Memory;
 use crate::text::Text;
@@ -13,6 +15,35 @@ pub fn is_plain(word: &[u8]) -> bool
     ensures plain { result ≡ spec.is_plain_word word.now }
 {
     begins_with_letter(word) && has_plain_bytes(word) && !is_generated(word)
+}
+
+/// Whether the word has a meaning of its own in a domain or a problem, so that nothing may be named by it. Folded words
+/// are asked for: an upper-case letter makes a word that isn't reserved.
+pub fn is_reserved(word: &[u8]) -> bool
+    ensures reserved { result ≡ words.is_reserved word.now }
+{
+    let reserved: [&[u8]; 13] = [
+        b"-",
+        b"->",
+        b"=",
+        b"<",
+        b"and",
+        b"or",
+        b"not",
+        b"imply",
+        b"forall",
+        b"exists",
+        b"when",
+        b"increase",
+        b"either",
+    ];
+    is_among(word, &reserved)
+}
+
+fn is_among(word: &[u8], listed: &[&[u8]]) -> bool
+    ensures { result ≡ list_any (λ one. bytes_eq word.now one.now) listed.now }
+{
+    listed.iter().any(|one| word == *one)
 }
 
 /// The printed word of a source name: a plain word itself, and any other as `htn_u_` and each byte in two lower-case

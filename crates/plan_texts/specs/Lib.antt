@@ -15,3 +15,4 @@ pub mod Printable
 pub mod PrintableValue
 pub mod FirstSeen
 pub mod PlanText
+pub mod SoundValue
