@@ -1,5 +1,5 @@
 -- Truth of a formula in a state, and what an effect adds and deletes.
--- Source: Fox and Long, "PDDL2.1", JAIR 2003, section 2 (level 1) and the semantics of section 8: closed world, typed quantifiers, conditional effects.
+-- Source: Fox and Long, "PDDL2.1", JAIR 20, 2003, level 1, the semantics of states, goals and ground actions: closed world, typed quantifiers, conditional effects.
 use Rattle.std.specs.Prelude.{ℕ, ◌≡◌, ◌⊎◌, ◌++◌, List, [], ◌∷◌, map, slice_index}
 use Rattle.plan_model.specs.declared.terms.Term.{Term}
 use Rattle.plan_model.specs.declared.terms.Term.TheVariants.{Var, Obj}

@@ -1,5 +1,5 @@
 -- The order of the children of a network, from pairs of them: the first of a pair comes before the second.
--- Source: Höller et al., "HDDL", AAAI 2020, "Ordering of tasks": the written pairs generate the order.
+-- Source: Höller et al., "HDDL", AAAI 2020, ordering constraints of a task network: the written pairs generate the order.
 -- Line, heir and cut are this project's. The children are numbered from 0.
 use Rattle.std.specs.Prelude.{ℕ, ◌≡◌, ◌≢◌, ◌<◌, ◌≤◌, ◌⊎◌, List, [], ◌∷◌, ◌++◌, Contains, length, take, drop}
 

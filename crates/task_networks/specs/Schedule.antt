@@ -1,5 +1,5 @@
 -- Schedules: the processed nodes of a tree in an order in which they can be taken.
--- Source: HTN progression (Alford et al., "Bound to Plan", ICAPS 2016, the section on progression), said of whole trees.
+-- Source: HTN progression, as in Alford et al., "Bound to Plan", ICAPS 2016, said of whole trees.
 use Rattle.std.specs.Prelude.{ℕ, ◌≡◌, ◌↔◌, List, [], ◌∷◌, ◌++◌, Some, Contains}
 use Rattle.task_networks.specs.Order.{Precedes}
 use Rattle.task_networks.specs.Net.{Net}
