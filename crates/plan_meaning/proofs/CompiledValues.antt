@@ -48,7 +48,7 @@ two_children_is_compiled mode = record {
   );
 }
 
-waiting_is_compiled : (mode : Checks) → IsCompiled waiting.hddl mode waiting
+pub waiting_is_compiled : (mode : Checks) → IsCompiled waiting.hddl mode waiting
 waiting_is_compiled mode = record {
   hddl = refl;
   methods = (
