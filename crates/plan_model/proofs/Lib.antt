@@ -1,1 +1,4 @@
 pub mod Examples
+pub mod Marks
+pub mod PartsOf
+pub mod Numbers

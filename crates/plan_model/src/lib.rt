@@ -9,8 +9,10 @@
 
 mod effects;
 mod formulas;
+mod membership;
 mod networks;
 mod options;
+mod parts;
 mod schemas;
 mod steps;
 mod terms;
@@ -21,6 +23,7 @@ mod values;
 
 pub use effects::Effect;
 pub use formulas::Formula;
+pub use membership::{in_type, members};
 pub use networks::{Child, Constraint, Guard, Head, Pair};
 pub use options::{Checks, Style};
 pub use schemas::{ActionSchema, MethodPlan, MethodSchema, Predicate, TaskSchema};

@@ -1,5 +1,8 @@
-ghost use Rattle.std.specs.Prelude.{◌≡◌, IfOk};
+ghost use Rattle.std.specs.Prelude.{◌≡◌, ◌↔◌, IsTrue, IfOk};
+ghost use Rattle.std.specs.Option.{option_copied};
+ghost use Rattle.plan_model.specs.Parts.{AreListed};
 
+use crate::parts::Parts;
 use htn_base::{List, Memory, Name};
 use std::alloc::Global;
 
@@ -32,6 +35,29 @@ pub struct Types {
 }
 
 impl Types {
+    ghost use Rattle.plan_model.specs.Typing as typing;
+
+    /// Whether the type is a part of the other one. Both may be unions, and a number past all types is a part of itself
+    /// and of `object` alone.
+    pub fn is_a(&self, ty: u32, of: u32) -> bool
+        requires { AreListed self.now }
+        ensures { IsTrue result ↔ typing.IsA self.now ty of }
+    {
+        let parts = Parts::new(self, of);
+        match self.union_at(ty) {
+            Some(members) => parts.have_all(members.as_slice()),
+            None => parts.have(ty),
+        }
+    }
+
+    /// The types of the union of this number, or `None` where it is no union.
+    pub fn union_at(&self, ty: u32) -> Option<&List<u32>>
+        ensures { option_copied result ≡ typing.union_at self.now ty }
+    {
+        let place = (ty as usize).checked_sub(self.names.len())?;
+        self.unions.get(place)
+    }
+
     /// An equal list of types.
     pub fn copy(&self, alloc: Global) -> Result<Types, Memory>
         ensures equal { IfOk result (λ copy. copy ≡ self.now) }

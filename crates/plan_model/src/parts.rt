@@ -1,0 +1,105 @@
+ghost use Rattle.std.specs.Prelude.{◌≡◌, ℕ, ◌<◌, ◌↔◌, ◌⊎◌, false, All, Contains, IsTrue, IsFalse, slice_index_or, length};
+ghost use Rattle.plan_model.specs.Typing as typing;
+ghost use Rattle.plan_model.specs.Parts.{has, unmarked, AreListed, AreListedParents, IsStart, AreBelow, IsMarkedFurther, IsClosedUnder};
+
+use crate::types::{Parent, Types};
+
+/// More than the numbers of all types.
+const ROOM: usize = 1024;
+
+/// The types that are a part of one type, which may be a union.
+///
+/// `whole`: each type is one of them. `marks`: those to which a chain of parents leads down.
+#[derive(Drop)]
+pub struct Parts {
+    of: u32,
+    whole: bool,
+    marks: [bool; ROOM],
+}
+
+impl Parts {
+    /// The parts of the type of this number. It takes no memory.
+    pub fn new(types: &Types, of: u32) -> Parts
+        requires { AreListed types.now }
+        ensures { (ty : ℕ) → IsTrue (has result ty) ↔ typing.IsPart types.now ty of }
+    {
+        let mut marks = start(types, of);
+        let whole = marks[0];
+        mark_below(types.parents.as_slice(), &mut marks);
+        Parts { of, whole, marks }
+    }
+
+    /// Whether the type, which is no union, is one of the parts.
+    pub fn have(&self, ty: u32) -> bool
+        ensures { result ≡ has self.now ty }
+    {
+        self.whole || ty == self.of || marked(&self.marks, ty)
+    }
+
+    /// Whether each of the types is one of the parts.
+    pub fn have_all(&self, types: &[u32]) -> bool
+        ensures { IsTrue result ↔ All (λ ty. IsTrue (has self.now ty)) types.now }
+    {
+        types.iter().all(|ty| self.have(*ty))
+    }
+}
+
+fn marked(marks: &[bool], ty: u32) -> bool
+    ensures { result ≡ slice_index_or marks.now ty false }
+{
+    match marks.get(ty as usize) {
+        Some(mark) => *mark,
+        None => false,
+    }
+}
+
+/// Marks of the type itself and, where it is a union, of its types.
+fn start(types: &Types, of: u32) -> [bool; ROOM]
+    ensures room { length result ≡ 1024 }
+    ensures start { IsStart types.now of result }
+{
+    let mut marks = [false; ROOM];
+    mark_all(&mut marks, &[of]);
+    if let Some(members) = types.union_at(of) {
+        mark_all(&mut marks, members.as_slice());
+    }
+    marks
+}
+
+/// Marks each of the types for which there is a mark.
+fn mark_all(marks: &mut [bool], types: &[u32])
+    ensures { (ty : ℕ) → ty < length marks.old →
+        IsTrue (slice_index_or marks.new ty false) ↔ (IsTrue (slice_index_or marks.old ty false) ⊎ Contains types.now ty) }
+{
+    for ty in types {
+        let place = *ty as usize;
+        if place < marks.len() {
+            marks[place] = true;
+        }
+    }
+}
+
+/// Marks each type from which a chain of parents leads to a marked one.
+fn mark_below(parents: &[Parent], marks: &mut [bool])
+    requires { AreListedParents (length marks.old) parents.now }
+    ensures { AreBelow parents.now marks.old marks.new }
+{
+    while mark_children(parents, marks) {}
+}
+
+/// Marks the types with a marked parent, in one pass over the pairs. It tells whether one was not marked before.
+fn mark_children(parents: &[Parent], marks: &mut [bool]) -> bool
+    requires { AreListedParents (length marks.old) parents.now }
+    ensures further { IsMarkedFurther parents.now marks.old marks.new }
+    ensures fewer { IsTrue result → unmarked marks.new < unmarked marks.old }
+    ensures closed { IsFalse result → IsClosedUnder parents.now marks.new }
+{
+    let mut found = false;
+    for pair in parents {
+        if marks[pair.parent as usize] && !marks[pair.child as usize] {
+            marks[pair.child as usize] = true;
+            found = true;
+        }
+    }
+    found
+}
