@@ -1,0 +1,4 @@
+pub mod Sums
+pub mod Atoms
+pub mod Freed
+pub mod Split
