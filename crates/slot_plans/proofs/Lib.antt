@@ -5,3 +5,7 @@ pub mod Split
 pub mod Facts
 pub mod Freeing
 pub mod Running
+pub mod SlotVariables
+pub mod Splitting
+pub mod GuardTypes
+pub mod MethodConditions
