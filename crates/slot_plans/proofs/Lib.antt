@@ -9,3 +9,5 @@ pub mod SlotVariables
 pub mod Splitting
 pub mod GuardTypes
 pub mod MethodConditions
+pub mod MethodEffects
+pub mod Methods
