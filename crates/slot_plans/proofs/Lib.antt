@@ -1,0 +1,7 @@
+-- Types: chains of parents, and the objects of a type.
+pub mod TypeChains
+pub mod ListPlaces
+pub mod ObjectPlaces
+pub mod PrintedTypes
+pub mod SoundTypes
+pub mod ObjectTypes
