@@ -5,6 +5,7 @@ pub mod ObjectPlaces
 pub mod PrintedTypes
 pub mod SoundTypes
 pub mod ObjectTypes
+pub mod OrderParts
 pub mod Sums
 pub mod Atoms
 pub mod Freed
