@@ -6,6 +6,7 @@ pub mod PrintedTypes
 pub mod SoundTypes
 pub mod ObjectTypes
 pub mod OrderParts
+pub mod SourceFormulas
 pub mod Sums
 pub mod Atoms
 pub mod Freed
