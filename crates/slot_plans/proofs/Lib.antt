@@ -7,6 +7,8 @@ pub mod SoundTypes
 pub mod ObjectTypes
 pub mod OrderParts
 pub mod SourceFormulas
+pub mod SourceEffects
+pub mod SourceMeanings
 pub mod Sums
 pub mod Atoms
 pub mod Freed
