@@ -15,6 +15,7 @@ use Rattle.plan_meaning.specs.Truth.{State}
 use Rattle.plan_meaning.specs.ClassicalPlan as Printed
 use Rattle.plan_meaning.specs.Network.{network}
 use Rattle.plan_meaning.specs.EncodedNames.{order_numbers}
+use Rattle.plan_meaning.specs.EncodedValue.{IsEncoded}
 use Rattle.slot_plans.specs.Pieces.{PredicatesDiffer, OrderMeaning, SourceAgrees, GuardsDeclare, GuardAtomsAgree, IsSoundCondition, IsSoundChange}
 
 -- the numbers and parts of a compiled problem fit together
@@ -31,6 +32,7 @@ pub record FitsTogether (c : Compiled) : Type 0 where
 -- and the pieces of the printed one mean what they should
 pub record PiecesMean (c : Compiled) (b : ℕ) (style : Style) (p : Pddl) : Type 1 where
   pub lawful : IsLawful (network c)
+  pub encoded : IsEncoded c b style p
   pub fits : FitsTogether c
   pub differ : PredicatesDiffer c
   pub order : (S : State) (values : List ℕ) → OrderMeaning (order_numbers c p.names b) b (Printed.InTypeOf p) S values style

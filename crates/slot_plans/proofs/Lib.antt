@@ -22,3 +22,5 @@ pub mod GuardTypes
 pub mod MethodConditions
 pub mod MethodEffects
 pub mod Methods
+pub mod Starts
+pub mod Runs
