@@ -24,3 +24,7 @@ pub mod MethodEffects
 pub mod Methods
 pub mod Starts
 pub mod Runs
+pub mod Plans
+pub mod KnownActs
+pub mod Words
+pub mod Fits

@@ -45,21 +45,22 @@ each_contains P (y ∷ xs) =
       λ f. (f y (Rattle.task_networks.proofs.Lists.Contains-here y xs), r.1 (λ x k. f x (Rattle.task_networks.proofs.Lists.Contains-later y xs x k))),
     )
 
+module _ (c : Compiled) (b : ℕ) (style : Style) (p : Pddl) (means : PiecesMean c b style p) (g : GroundMethod) where
+  -- a method has one child more than others than the heir, or none
+  pub others_long : length (others (network c) g) ≡ count (network c) g - 1
+  others_long = go ((network c).heir g) refl
+    where
+      none : (o : Option ℕ) → count (network c) g ≡ 0 → length (rest_of o (count (network c) g)) ≡ count (network c) g - 1
+      none o e = ap (λ n. length (rest_of o n)) e ∙ (let z : 0 ≡ count (network c) g - 1 = omega arith in z)
+
+      go : (o : Option ℕ) → (network c).heir g ≡ o → length (rest_of o (count (network c) g)) ≡ count (network c) g - 1
+      go None e = elim (Rattle.std.proofs.Math.Decide.ℕ_discrete (count (network c) g) 0) [ yes z ↦ none None z | no z ↦ absurd (let x = (means.lawful.has_heir g (omega arith)).1 in cc) ]
+      go (Some k) e = let l = length-rest k (count (network c) g) (means.lawful.heir_is_child g k e) in omega arith
+
 module _ (c : Compiled) (b : ℕ) (style : Style) (p : Pddl) (means : PiecesMean c b style p) (S : State) (t : Machine.State (network c)) (T : State) (r : Reads c b style p S t T)
     (h : ℕ) (new : List ℕ) (g : GroundMethod) where
   abbrev N : Net
   N = network c
-
-  -- a method has one child more than others than the heir, or none
-  others_long : length (others N g) ≡ count N g - 1
-  others_long = go (N.heir g) refl
-    where
-      none : (o : Option ℕ) → count N g ≡ 0 → length (rest_of o (count N g)) ≡ count N g - 1
-      none o e = ap (λ n. length (rest_of o n)) e ∙ (let z : 0 ≡ count N g - 1 = omega arith in z)
-
-      go : (o : Option ℕ) → N.heir g ≡ o → length (rest_of o (count N g)) ≡ count N g - 1
-      go None e = elim (Rattle.std.proofs.Math.Decide.ℕ_discrete (count N g) 0) [ yes z ↦ none None z | no z ↦ absurd (let x = (means.lawful.has_heir g (omega arith)).1 in cc) ]
-      go (Some k) e = let l = length-rest k (count N g) (means.lawful.heir_is_child g k e) in omega arith
 
   module _ (plan : MethodPlan) (is : slice_get c.methods g.number ≡ Some plan) (long : length new ≡ spare c p.names b style g.number plan) (typed : AreTyped (InTypeOf c) plan.schema.params g.values) where
     abbrev xs : List ℕ
@@ -251,7 +252,7 @@ module _ (c : Compiled) (b : ℕ) (style : Style) (p : Pddl) (means : PiecesMean
                 holds = holds;
                 ground = record { plan = k.plan; is = k.is; typed = k.typed; constraints = asks.constraints; declared = declared };
                 unblocked = (unblocked_iff c b style p S t T h r k.slot).1 waits;
-                enough = k.count ∙ (let e = others_long in let f = e_count c b style p h new g k.plan k.count k.typed means k.is in let z : length k.plan.schema.children - 1 ≡ length (others N g) = omega arith in z);
+                enough = k.count ∙ (let e = others_long c b style p means g in let f = e_count c b style p h new g k.plan k.count k.typed means k.is in let z : length k.plan.schema.children - 1 ≡ length (others N g) = omega arith in z);
                 free = free;
                 apart = asks.different;
               };
@@ -276,7 +277,7 @@ module _ (c : Compiled) (b : ℕ) (style : Style) (p : Pddl) (means : PiecesMean
         works = ap (λ o. length (Rattle.plan_meaning.specs.Network.works_by g o)) ground.is ∙ Rattle.std.proofs.lemmas.List.length-map ground.plan.schema.children (child_of g)
 
         long : length new ≡ spare c p.names b style g.number ground.plan
-        long = may.enough ∙ others_long ∙ ap (λ n. n - 1) works
+        long = may.enough ∙ others_long c b style p means g ∙ ap (λ n. n - 1) works
 
         xs' : List ℕ
         xs' = objects c b style p h new g ground.plan long ground.typed

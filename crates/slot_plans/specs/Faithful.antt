@@ -1,0 +1,31 @@
+-- What the printed problem, as a value, is to the compiled one.
+-- Source: this project's, after the translation of Alford et al., "Bound to Plan", ICAPS 2016.
+use Rattle.std.specs.Prelude.{ℕ, ◌↔◌, List}
+use Rattle.plan_model.specs.declared.steps.GroundAction.{GroundAction}
+use Rattle.plan_model.specs.declared.values.Compiled.{Compiled}
+use Rattle.plan_model.specs.declared.values.Pddl.{Pddl}
+use Rattle.task_networks.specs.Tree.{Tree, Address}
+use Rattle.task_networks.specs.Pending.{IsWithin}
+use Rattle.task_networks.specs.Front.{IsFront}
+use Rattle.plan_meaning.specs.ClassicalPlan.{IsExecutable, IsPlan}
+use Rattle.plan_meaning.specs.Network.{network}
+use Rattle.plan_meaning.specs.Solution.{top_work}
+use Rattle.plan_meaning.specs.SpelledPlan.{IsSpelling}
+use Rattle.text_plans.specs.Headline.{SpellsExecutableFront, SpellsSolution, SpellsOne}
+
+module _ (c : Compiled) (b : ℕ) where
+  -- never more than b tasks are pending in what is spelled
+  abbrev pub SpellingsAreWithin : Type 0
+  SpellingsAreWithin = (steps : List GroundAction) (tree : Tree (network c)) (order : List Address) (slot : Address → ℕ) → IsSpelling c b steps tree order slot → IsWithin (network c) b tree order
+
+  -- and each front of which that is true is spelled
+  abbrev pub FrontsWithinAreSpelled : Type 0
+  FrontsWithinAreSpelled = (tree : Tree (network c)) (order : List Address) → IsFront (network c) (top_work c) tree order → IsWithin (network c) b tree order
+      → (steps : List GroundAction) × (slot : Address → ℕ) × IsSpelling c b steps tree order slot
+
+  pub record IsFaithfulValue (p : Pddl) : Type 0 where
+    pub executable : (steps : List GroundAction) → IsExecutable p steps ↔ SpellsExecutableFront c b steps
+    pub plans : (steps : List GroundAction) → IsPlan p steps ↔ SpellsSolution c b steps
+    pub only_one : (steps : List GroundAction) → SpellsOne c b steps
+    pub within : SpellingsAreWithin
+    pub spelled : FrontsWithinAreSpelled
