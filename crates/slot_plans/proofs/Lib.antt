@@ -9,6 +9,7 @@ pub mod OrderParts
 pub mod SourceFormulas
 pub mod SourceEffects
 pub mod SourceMeanings
+pub mod Predicates
 pub mod Sums
 pub mod Atoms
 pub mod Freed
