@@ -9,6 +9,9 @@ pub mod OrderParts
 pub mod SourceFormulas
 pub mod SourceEffects
 pub mod SourceMeanings
+pub mod Predicates
+pub mod KeptItems
+pub mod GuardAtoms
 pub mod Sums
 pub mod Atoms
 pub mod Freed
