@@ -12,6 +12,9 @@ pub mod SourceMeanings
 pub mod Predicates
 pub mod KeptItems
 pub mod GuardAtoms
+pub mod Guards
+pub mod ObjectWords
+pub mod ActionPlaces
 pub mod Sums
 pub mod Atoms
 pub mod Freed
