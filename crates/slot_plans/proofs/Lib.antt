@@ -24,7 +24,6 @@ pub mod Freeing
 pub mod Running
 pub mod SlotVariables
 pub mod Splitting
-pub mod GuardTypes
 pub mod MethodConditions
 pub mod MethodEffects
 pub mod Methods
@@ -34,3 +33,4 @@ pub mod Plans
 pub mod KnownActs
 pub mod Words
 pub mod Fits
+pub mod PrintedMeans

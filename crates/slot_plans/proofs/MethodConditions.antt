@@ -32,7 +32,7 @@ use Rattle.slot_plans.proofs.Sums.{each-append, each_map, mapped, map-numbers, v
 use Rattle.slot_plans.proofs.Atoms.{one_slot}
 use Rattle.slot_plans.proofs.Facts.{PiecesMean}
 use Rattle.slot_plans.proofs.Freeing.{InT, WaitsForNone, front_true}
-use Rattle.slot_plans.proofs.GuardTypes.{guard_listed}
+use Rattle.slot_plans.proofs.Guards.{guard_type}
 use Rattle.slot_plans.proofs.Running.{typed_long}
 
 module _ (c : Compiled) (b : ℕ) (style : Style) (p : Pddl) where
@@ -158,7 +158,7 @@ module _ (c : Compiled) (b : ℕ) (style : Style) (p : Pddl) (h : ℕ) (new : Li
         one : (k : Guard) → Contains plan.guards k → True (Holds (is_guard k)) objects ↔ InTypeOf c (value_of g.values k.term) k.ty
         one k d =
             let e : True (Holds (is_guard k)) objects ≡ S (atom (guard_predicate c k.ty) (value_of g.values k.term)) = ap (λ z. z objects) (truth-Holds (InT c b style p) S (is_guard k)) ∙ ap S (value k) in
-            let q = r.guards k.ty (value_of g.values k.term) (guard_listed c g.number plan k is d) in
+            let q = r.guards k.ty (value_of g.values k.term) (guard_type c g.number plan k is d) in
             (λ x. q.0 (subst (λ z. z) e x), λ x. subst (λ z. z) (sym e) (q.1 x))
 
     tested_true : EachTrue True (tested c p.names b style g.number plan) objects ↔ (IsTrue plan.tested → IsTrueIn (InTypeOf c) T plan.schema.pre g.values)
