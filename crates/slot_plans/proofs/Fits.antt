@@ -1,11 +1,9 @@
 -- The numbers and parts of a sound problem fit together after it is compiled.
-use Rattle.std.proofs.Common.{ℕ, zero, suc, ◌≡◌, ◌⊎◌, ◌<◌, ◌≤◌, inl, inr, Bool, true, false, List, [], ◌∷◌, map, length, slice_get, Some, refl, ap, sym, subst, ◌∙◌, Contains, arith}
+use Rattle.std.proofs.Common.{ℕ, ◌≡◌, ◌≤◌, inl, inr, Bool, true, false, List, [], ◌∷◌, map, length, slice_get, Some, refl, ap, sym, subst, ◌∙◌, Contains, arith}
 use Rattle.std.specs.Prelude.{IsTrue}
 use Rattle.std.proofs.lemmas.Option.{slice_get_within}
 use Rattle.std.proofs.lemmas.List.{length-map}
 use Rattle.plan_model.specs.declared.terms.Term.TheVariants.{Var}
-use Rattle.plan_model.specs.declared.terms.GroundAtom.{GroundAtom}
-use Rattle.plan_model.specs.declared.networks.Head.{Head}
 use Rattle.plan_model.specs.declared.networks.Head.TheVariants.{Task, Check}
 use Rattle.plan_model.specs.declared.networks.Child.{Child}
 use Rattle.plan_model.specs.declared.options.Checks.{Checks}
@@ -16,7 +14,7 @@ use Rattle.plan_model.specs.declared.schemas.Predicate.{Predicate}
 use Rattle.plan_model.specs.declared.values.Hddl.{Hddl}
 use Rattle.plan_model.specs.declared.values.Compiled.{Compiled}
 use Rattle.task_networks.specs.Spelling.{numbers}
-use Rattle.task_networks.proofs.Lists.{head_or_tail, not-in_empty}
+use Rattle.task_networks.proofs.Lists.{head_or_tail}
 use Rattle.plan_texts.specs.Types.{EachIs}
 use Rattle.plan_texts.specs.SpellsHddl.{hddl_words}
 use Rattle.plan_texts.specs.Printable.{IsSound}
@@ -24,16 +22,11 @@ use Rattle.plan_texts.specs.SoundValue.{IsSoundHddl, IsSoundMethod, IsSoundHead,
 use Rattle.plan_texts.proofs.Members.{each-has, contains-has}
 use Rattle.plan_meaning.specs.Compilation.{IsCompiled, IsMethodPlan, children, check_child}
 use Rattle.plan_meaning.proofs.CompiledNetworks.{plan_of}
-use Rattle.slot_plans.specs.Pieces.{IsSoundCondition, IsSoundChange}
+use Rattle.slot_plans.proofs.ListPlaces.{get_contains}
 use Rattle.slot_plans.proofs.Facts.{FitsTogether}
 
 each_of : {A : Type 0} (P : A → Type 0) (xs : List A) (x : A) → EachIs P xs → Contains xs x → P x
 each_of P xs x e k = each-has P xs x e (contains-has xs x k)
-
-listed : {A : Type 0} (xs : List A) (i : ℕ) (x : A) → slice_get xs i ≡ Some x → Contains xs x
-listed [] i x e = absurd cc
-listed (y ∷ xs) zero x e = let q : y ≡ x = cc in (0, omega arith, q)
-listed (y ∷ xs) (suc i) x e = Rattle.task_networks.proofs.Lists.Contains-later y xs x (listed xs i x e)
 
 module _ (h : Hddl) (mode : Checks) (c : Compiled) (sound : IsSoundHddl h) (compiled : IsCompiled h mode c) where
   -- a written method's parts are sound, and its task is one of the declared ones or the top task
@@ -80,12 +73,12 @@ module _ (h : Hddl) (mode : Checks) (c : Compiled) (sound : IsSoundHddl h) (comp
     action_pre = λ n s e. (
       scope_of h s.params,
       subst (λ (z : Hddl). IsSound (hddl_words z) (arities z) s.pre (scope_of h s.params)) same
-          (each_of (λ (a : ActionSchema). IsSound (hddl_words h) (arities h) a.pre (scope_of h a.params)) h.actions s sound.pre (listed h.actions n s (ap (λ (z : Hddl). slice_get z.actions n) same ∙ e))),
+          (each_of (λ (a : ActionSchema). IsSound (hddl_words h) (arities h) a.pre (scope_of h a.params)) h.actions s sound.pre (get_contains h.actions n s (ap (λ (z : Hddl). slice_get z.actions n) same ∙ e))),
     );
     action_eff = λ n s e. (
       scope_of h s.params,
       subst (λ (z : Hddl). Rattle.plan_texts.specs.Printable.IsSoundEffect (hddl_words z) (arities z) s.eff (scope_of h s.params)) same
-          (each_of (λ (a : ActionSchema). Rattle.plan_texts.specs.Printable.IsSoundEffect (hddl_words h) (arities h) a.eff (scope_of h a.params)) h.actions s sound.eff (listed h.actions n s (ap (λ (z : Hddl). slice_get z.actions n) same ∙ e))),
+          (each_of (λ (a : ActionSchema). Rattle.plan_texts.specs.Printable.IsSoundEffect (hddl_words h) (arities h) a.eff (scope_of h a.params)) h.actions s sound.eff (get_contains h.actions n s (ap (λ (z : Hddl). slice_get z.actions n) same ∙ e))),
     );
     goal = ([], subst (λ (z : Hddl). IsSound (hddl_words z) (arities z) z.goal []) same sound.goal);
     init = λ g k. (let x = (each_of _ h.init g sound.init (subst (λ (z : Hddl). Contains z.init g) (sym same) k)).0 in let l = length-map h.predicates (λ (d : Predicate). Rattle.plan_texts.specs.Declared.named h.names d.name) in let f = ap (λ (z : Hddl). length z.predicates) same in omega arith);

@@ -1,5 +1,5 @@
 -- What the parts say that actions of all kinds have: a slot holds something that waits for nothing; it is freed.
-use Rattle.std.proofs.Common.{ℕ, ◌≡◌, ◌↔◌, ◌⊎◌, ◌<◌, ◌≤◌, inl, inr, List, [], ◌∷◌, ◌++◌, length, refl, ap, sym, subst, ◌∙◌, arith}
+use Rattle.std.proofs.Common.{ℕ, ◌≡◌, ◌↔◌, ◌⊎◌, ◌<◌, inl, inr, List, [], ◌∷◌, ◌++◌, length, refl, ap, sym, subst, ◌∙◌, arith}
 use Rattle.plan_model.specs.declared.options.Style.{Style}
 use Rattle.plan_model.specs.declared.terms.Term.TheVariants.{Var}
 use Rattle.plan_model.specs.declared.terms.Atom.{Atom}
@@ -19,7 +19,7 @@ use Rattle.plan_meaning.specs.EncodedActions.{is_free, waiting, freeing}
 use Rattle.plan_meaning.proofs.TruthEquations.{truth-And, truth-Holds}
 use Rattle.plan_meaning.proofs.EffectEquations.{adds-And, adds-Add, adds-Delete, deletes-And, deletes-Add, deletes-Delete}
 use Rattle.slot_plans.specs.Pieces.{PredicatesDiffer, OrderMeaning, slot_object, IsSlot, IsSlotObject}
-use Rattle.slot_plans.specs.Reading.{IsKnown, held, free_atom, before_atom, pair, Reads}
+use Rattle.slot_plans.specs.Reading.{IsKnown, held, free_atom, before_atom, Reads}
 use Rattle.slot_plans.proofs.Sums.{each-append, one-append}
 use Rattle.slot_plans.proofs.Atoms.{slot_of}
 use Rattle.slot_plans.proofs.Freed.{Changed, freed, freed_reads, reads_alike}

@@ -1,30 +1,24 @@
 -- The acts of a run name slots and what the problem declares, so each is that of a printed action.
 use Rattle.std.proofs.Common.{ℕ, suc, ◌≡◌, ◌⊎◌, ◌-◌, ◌<◌, ◌≤◌, inl, inr, List, [], ◌∷◌, length, slice_get, Option, Some, None, refl, ap, sym, subst, ◌∙◌, Contains, arith}
-use Rattle.std.specs.Prelude.{IsTrue}
-use Rattle.std.proofs.lemmas.List.{length-map}
-use Rattle.std.proofs.lemmas.Option.{slice_get_within}
 use Rattle.plan_model.specs.declared.options.Style.{Style}
-use Rattle.plan_model.specs.declared.networks.Head.{Head}
-use Rattle.plan_model.specs.declared.networks.Head.TheVariants.{Task, Action, Check}
 use Rattle.plan_model.specs.declared.schemas.ActionSchema.{ActionSchema}
 use Rattle.plan_model.specs.declared.values.Compiled.{Compiled}
 use Rattle.plan_model.specs.declared.values.Pddl.{Pddl}
-use Rattle.task_networks.specs.Net.{Net, count}
+use Rattle.task_networks.specs.Net.{Net}
 use Rattle.task_networks.specs.Spelling.{Act, run, apply, others}
 use Rattle.slot_machine.specs.Machine as Machine
 use Rattle.slot_machine.specs.Machine.{May, MayApply, Runs, start, with_heir}
 use Rattle.slot_machine.proofs.Inserts.{insert_cases}
-use Rattle.plan_texts.specs.Types.{EachIs}
-use Rattle.plan_meaning.specs.Truth.{values_of, AreTyped}
-use Rattle.plan_meaning.specs.Network.{Work, action, check, task, GroundMethod, IsGroundMethod, network, InTypeOf, IsDeclared, work_of, child_of, works_by}
+use Rattle.plan_meaning.specs.Truth.{AreTyped}
+use Rattle.plan_meaning.specs.Network.{Work, action, check, task, IsGroundMethod, network, InTypeOf}
 use Rattle.plan_meaning.specs.Solution.{top_work}
 use Rattle.plan_meaning.specs.EncodedActions.{encoded_method, encoded_check, encoded_action}
 use Rattle.slot_plans.specs.Pieces.{slot_object, IsSlot, IsActBy}
 use Rattle.slot_plans.specs.Reading.{IsKnown}
 use Rattle.slot_plans.proofs.Facts.{PiecesMean}
-use Rattle.slot_plans.proofs.MethodEffects.{map_get, child_listed}
-use Rattle.slot_plans.proofs.Methods.{each_contains, others_long}
-use Rattle.slot_plans.proofs.Split.{at_contains}
+use Rattle.slot_plans.proofs.ListPlaces.{get_contains}
+use Rattle.slot_plans.proofs.Methods.{each_contains}
+use Rattle.slot_plans.proofs.MethodChildren.{others_long, count_is, known_children}
 
 module _ (c : Compiled) (b : ℕ) (style : Style) (p : Pddl) where
   -- each act of the list is that of some printed action
@@ -41,17 +35,6 @@ module _ (c : Compiled) (b : ℕ) (style : Style) (p : Pddl) (means : PiecesMean
     pub holds : (x : ℕ) (w : Work) → t.holds x w → IsKnown c w × IsSlot c b style p x
     pub free : (x : ℕ) → t.free x → IsSlot c b style p x
 
-  child_known : (g : GroundMethod) → IsGroundMethod c g → (i : ℕ) (w : Work) → slice_get (N.works g) i ≡ Some w → IsKnown c w
-  child_known g ground i w e =
-      let (child, f, q) = map_get (child_of g) ground.plan.schema.children i w (sym (ap (λ o. slice_get (works_by g o) i) ground.is) ∙ e) in
-      let k = child_listed ground.plan.schema.children i child f in
-      subst (IsKnown c) (sym q) (go child.head (values_of g.values child.args) (means.fits.checks g.number ground.plan child ground.is k) (ground.declared child k))
-    where
-      go : (hd : Head) (args : List ℕ) → (hd ≡ Check → IsTrue ground.plan.checked) → IsDeclared c (work_of g hd args) → IsKnown c (work_of g hd args)
-      go (Task n) args checked d = let (ps, (s, e, f), ty) = d in let l = slice_get_within c.hddl.tasks n s e in omega arith
-      go (Action n) args checked d = d
-      go Check args checked d = (ground.plan, ground.is, checked refl, ground.typed)
-
   sane_start : 1 ≤ b → IsSane (start N b (top_work c))
   sane_start positive = record {
     holds = λ x w k. (subst (IsKnown c) (sym k.1) known, subst (IsSlot c b style p) (sym k.0) (let l : 1 ≤ 1 = omega arith in (l, positive)));
@@ -67,7 +50,7 @@ module _ (c : Compiled) (b : ℕ) (style : Style) (p : Pddl) (means : PiecesMean
     free = λ x k. elim k [ inl y ↦ s.free x y | inr e ↦ subst (IsSlot c b style p) (sym e) (s.holds h w may.holds).1 ];
   }
   sane_after t (apply h new g) s may = record {
-    holds = λ x v k. elim k [ inl y ↦ s.holds x v y.0 | inr y ↦ (child_known g may.ground y.0 v y.2, child_slot y.0 x y.1) ];
+    holds = λ x v k. elim k [ inl y ↦ s.holds x v y.0 | inr y ↦ (known_children c means.fits g may.ground.plan may.ground.is may.ground.typed may.ground.declared y.0 v y.2, child_slot y.0 x y.1) ];
     free = λ x k. elim k [ inl y ↦ s.free x y.0 | inr y ↦ subst (IsSlot c b style p) (sym y.1) slot ];
   }
     where
@@ -78,8 +61,8 @@ module _ (c : Compiled) (b : ℕ) (style : Style) (p : Pddl) (means : PiecesMean
       child_slot i x = go (N.heir g)
         where
           go : (o : Option ℕ) → slice_get (with_heir o h new) i ≡ Some x → IsSlot c b style p x
-          go None e = s.free x (may.free x (at_contains new i x e))
-          go (Some k) e = elim (insert_cases k h new x (at_contains (Machine.insert_at k h new) i x e)) [ inl f ↦ subst (IsSlot c b style p) f slot | inr d ↦ s.free x (may.free x d) ]
+          go None e = s.free x (may.free x (get_contains new i x e))
+          go (Some k) e = elim (insert_cases k h new x (get_contains (Machine.insert_at k h new) i x e)) [ inl f ↦ subst (IsSlot c b style p) f slot | inr d ↦ s.free x (may.free x d) ]
 
   act_is : (t : Machine.State N) (act : Act N) → IsSane t → May N t act → (a : ActionSchema) × (os : List ℕ) × IsActBy c b style p act a os
   act_is t (run h (action n args)) s may =
@@ -116,7 +99,7 @@ module _ (c : Compiled) (b : ℕ) (style : Style) (p : Pddl) (means : PiecesMean
       ground = may.ground
 
       long : length (others N g) ≡ length ground.plan.schema.children - 1
-      long = others_long c b style p means g ∙ ap (λ n. n - 1) (ap (λ o. length (works_by g o)) ground.is ∙ length-map ground.plan.schema.children (child_of g))
+      long = others_long N means.lawful g ∙ ap (λ n. n - 1) (count_is c means.fits g ground.plan ground.is)
 
   acts_from : (t : Machine.State N) (acts : List (Act N)) → IsSane t → Runs N t acts → AreActs c b style p acts
   acts_from t [] s r = tt

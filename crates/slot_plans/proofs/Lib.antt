@@ -26,6 +26,7 @@ pub mod SlotVariables
 pub mod Splitting
 pub mod MethodConditions
 pub mod MethodEffects
+pub mod MethodChildren
 pub mod Methods
 pub mod Starts
 pub mod Runs

@@ -1,12 +1,11 @@
 -- What the condition of a method's printed action says.
-use Rattle.std.proofs.Common.{ℕ, suc, ◌≡◌, ◌↔◌, ◌⊎◌, ◌+◌, ◌-◌, ◌<◌, ◌≤◌, inl, inr, Bool, true, false, MatchBool, cond, List, [], ◌∷◌, ◌++◌, map, length, slice_index, slice_get, Option, Some, None, refl, ap, sym, subst, ◌∙◌, Contains, length-append, arith}
-use Rattle.std.specs.Prelude.{IsTrue, nat_eq}
+use Rattle.std.proofs.Common.{ℕ, suc, ◌≡◌, ◌↔◌, ◌+◌, ◌-◌, Bool, true, false, MatchBool, cond, List, [], ◌∷◌, ◌++◌, map, length, slice_index, slice_get, Some, refl, ap, sym, subst, ◌∙◌, Contains, length-append, arith}
+use Rattle.std.specs.Prelude.{IsTrue}
 use Rattle.std.proofs.lemmas.List.{length-map}
 use Rattle.plan_model.specs.declared.options.Style.{Style}
 use Rattle.plan_model.specs.declared.terms.Term.{Term}
 use Rattle.plan_model.specs.declared.terms.Term.TheVariants.{Var}
 use Rattle.plan_model.specs.declared.terms.Atom.{Atom}
-use Rattle.plan_model.specs.declared.terms.GroundAtom.{GroundAtom}
 use Rattle.plan_model.specs.declared.formulas.Formula.{Formula}
 use Rattle.plan_model.specs.declared.formulas.Formula.TheVariants.{Holds, Equal, Not, And}
 use Rattle.plan_model.specs.declared.networks.Constraint.{Constraint}
@@ -16,11 +15,10 @@ use Rattle.plan_model.specs.declared.values.Compiled.{Compiled}
 use Rattle.plan_model.specs.declared.values.Pddl.{Pddl}
 use Rattle.task_networks.specs.Pending.{AreDifferent}
 use Rattle.task_networks.specs.Spelling.{numbers}
-use Rattle.task_networks.proofs.Lists.{Contains-here, Contains-later, not-in_empty, head_or_tail}
+use Rattle.task_networks.proofs.Lists.{Contains-here, Contains-later}
 use Rattle.slot_machine.specs.Machine as Machine
 use Rattle.plan_meaning.specs.Truth.{State, ground, value_of, values_of, AreTyped, EachTrue, IsTrueIn}
-use Rattle.plan_meaning.specs.Network.{Work, task, GroundMethod, network, InTypeOf, Meets}
-use Rattle.plan_meaning.specs.Compilation.{once}
+use Rattle.plan_meaning.specs.Network.{task, GroundMethod, network, InTypeOf, Meets}
 use Rattle.plan_meaning.specs.SourceParts.{moved}
 use Rattle.plan_meaning.specs.EncodedNames.{guard_types, free_predicate, guard_predicate}
 use Rattle.plan_meaning.specs.EncodedValue.{atom}

@@ -1,7 +1,6 @@
 -- What the effect of a method's printed action does, where the method has children.
-use Rattle.std.proofs.Common.{ℕ, zero, suc, ◌≡◌, ◌↔◌, ◌⊎◌, ◌+◌, ◌-◌, ◌<◌, ◌≤◌, inl, inr, List, [], ◌∷◌, ◌++◌, map, length, slice_index, slice_get, Option, Some, None, refl, ap, sym, subst, ◌∙◌, Contains, length-append, arith}
+use Rattle.std.proofs.Common.{ℕ, zero, suc, ◌≡◌, ◌↔◌, ◌⊎◌, ◌+◌, ◌-◌, ◌<◌, ◌≤◌, inl, inr, List, [], ◌∷◌, map, length, slice_index, slice_get, Some, refl, ap, sym, subst, ◌∙◌, Contains, length-append, arith}
 use Rattle.std.proofs.lemmas.List.{length-map}
-use Rattle.std.proofs.lemmas.Option.{slice_get_within}
 use Rattle.plan_model.specs.declared.options.Style.{Style}
 use Rattle.plan_model.specs.declared.terms.Term.TheVariants.{Var}
 use Rattle.plan_model.specs.declared.terms.Atom.{Atom}
@@ -19,41 +18,25 @@ use Rattle.task_networks.specs.Net.{Net, count}
 use Rattle.task_networks.specs.Spelling.{numbers}
 use Rattle.task_networks.proofs.Lists.{head_or_tail, not-in_empty, Contains-here, Contains-later}
 use Rattle.task_networks.proofs.Numbers.{length-numbers}
-use Rattle.slot_machine.specs.Machine as Machine
 use Rattle.slot_machine.specs.Machine.{insert_at, with_heir, IsSlotOf}
 use Rattle.slot_machine.proofs.Inserts.{length-insert_at}
-use Rattle.plan_meaning.specs.Truth.{State, ground, value_of, values_of, AreTyped, OneTrue, Adds, Deletes, after}
+use Rattle.plan_meaning.specs.Truth.{State, ground, value_of, values_of, AreTyped, OneTrue, Adds, Deletes}
 use Rattle.plan_meaning.specs.Network.{Work, GroundMethod, network, InTypeOf, child_of, work_of, head_by, works_by, heir_by, IsPairBy, IsCopierBy}
 use Rattle.plan_meaning.specs.EncodedNames.{free_predicate, before_predicate, task_predicate, action_predicate, check_predicate, order_numbers}
 use Rattle.plan_meaning.specs.EncodedValue.{atom}
 use Rattle.plan_meaning.specs.OrderFormulas.{pair_of, copy_parts}
-use Rattle.plan_meaning.specs.EncodedActions.{is_free, spare, front, depth, slot_vars, children_slots, held_task, child_atom, child_atoms, splitting}
-use Rattle.plan_meaning.proofs.EffectEquations.{adds-And, adds-Add, adds-Delete, deletes-And, deletes-Add, deletes-Delete}
+use Rattle.plan_meaning.specs.EncodedActions.{is_free, spare, front, depth, slot_vars, children_slots, held_task, child_atom, child_atoms}
+use Rattle.plan_meaning.proofs.EffectEquations.{adds-Add, adds-Delete, deletes-Add, deletes-Delete}
 use Rattle.slot_plans.specs.Pieces.{slot_object, IsSlot, IsSlotObject}
 use Rattle.slot_plans.specs.Reading.{held, free_atom, before_atom, pair}
 use Rattle.slot_plans.proofs.Sums.{one-append, one_map, some_mapped, map-numbers, values-moved, index-map, get_index}
+use Rattle.slot_plans.proofs.ListPlaces.{get_map_cases, get_to_map, get_contains}
 use Rattle.slot_plans.proofs.Atoms.{slot_of}
 use Rattle.slot_plans.proofs.SlotVariables.{vars_insert, map-insert_at}
-use Rattle.slot_plans.proofs.Splitting.{frees, kids, links, copies_of, splitting_parts}
+use Rattle.slot_plans.proofs.Splitting.{frees, kids, links, copies_of}
 use Rattle.slot_plans.proofs.Facts.{PiecesMean}
 use Rattle.slot_plans.proofs.Freeing.{InT}
 use Rattle.slot_plans.proofs.MethodConditions.{objects, depth_long, term_values, new_values, held_ground}
-use Rattle.slot_plans.proofs.Split.{IsChild, IsLink, IsCopy, Comes, Goes}
-
-pub map_get : {A B : Type 0} (f : A → B) (cs : List A) (i : ℕ) (w : B) → slice_get (map f cs) i ≡ Some w → (ch : A) × (slice_get cs i ≡ Some ch) × (w ≡ f ch)
-map_get f [] i w e = absurd cc
-map_get f (x ∷ cs) zero w e = (x, refl, cc)
-map_get f (x ∷ cs) (suc i) w e = map_get f cs i w e
-
-get_map : {A B : Type 0} (f : A → B) (cs : List A) (i : ℕ) (ch : A) → slice_get cs i ≡ Some ch → slice_get (map f cs) i ≡ Some (f ch)
-get_map f [] i ch e = absurd cc
-get_map f (x ∷ cs) zero ch e = let q : x ≡ ch = cc in ap (λ z. Some (f z)) q
-get_map f (x ∷ cs) (suc i) ch e = get_map f cs i ch e
-
-pub child_listed : (cs : List Child) (i : ℕ) (ch : Child) → slice_get cs i ≡ Some ch → Contains cs ch
-child_listed [] i ch e = absurd cc
-child_listed (x ∷ cs) zero ch e = let q : x ≡ ch = cc in (0, omega arith, q)
-child_listed (x ∷ cs) (suc i) ch e = Contains-later x cs ch (child_listed cs i ch e)
 
 insert_small : (k w : ℕ) (hs : List ℕ) → 0 < w → ((j : ℕ) → slice_index hs j < w) → (j : ℕ) → slice_index (insert_at k 0 hs) j < w
 insert_small zero w hs l f zero = l
@@ -221,15 +204,15 @@ module _ (c : Compiled) (b : ℕ) (style : Style) (p : Pddl) (h : ℕ) (new : Li
                 x,
                 child_of g child,
                 s,
-                ap (λ z. slice_get z i) e_works ∙ get_map (child_of g) plan.schema.children i child e,
-                q ∙ child_ground child (slice_index vars i) x (child_listed plan.schema.children i child e) (slot_value i x s),
+                ap (λ z. slice_get z i) e_works ∙ get_to_map (child_of g) plan.schema.children i child e,
+                q ∙ child_ground child (slice_index vars i) x (get_contains plan.schema.children i child e) (slot_value i x s),
               )
 
           from : (i : ℕ) × (x : ℕ) × (w : Work) × IsSlotOf N h new g i x × (slice_get (N.works g) i ≡ Some w) × (a ≡ held c b style p x w) → OneTrue (A a) (kids c p.names b style g.number plan) xs
           from (i, x, w, s, e, q) =
-              let (child, f, y) = map_get (child_of g) plan.schema.children i w (sym (ap (λ z. slice_get z i) e_works) ∙ e) in
+              let (child, f, y) = get_map_cases (child_of g) plan.schema.children i w (sym (ap (λ z. slice_get z i) e_works) ∙ e) in
               let l = ((slot_iff i x).0 s).0 in
-              k.1 (i, child, omega (arith, vars_long), f, q ∙ ap (held c b style p x) y ∙ sym (child_ground child (slice_index vars i) x (child_listed plan.schema.children i child f) (slot_value i x s)))
+              k.1 (i, child, omega (arith, vars_long), f, q ∙ ap (held c b style p x) (sym y) ∙ sym (child_ground child (slice_index vars i) x (get_contains plan.schema.children i child f) (slot_value i x s)))
 
       pub atoms_delete : (a : GroundAtom) (vs : List ℕ) (cs : List Child) → OneTrue (D a) (map E.Add (child_atoms c p.names b style g.number plan vs cs)) xs → ⊥
       atoms_delete a vs cs k =
@@ -255,15 +238,16 @@ module _ (c : Compiled) (b : ℕ) (style : Style) (p : Pddl) (h : ℕ) (new : Li
           k : OneTrue (A a) (links c p.names b style g.number plan) xs ↔ ((q : Pair) × Contains plan.schema.pairs q × A a (E.Add (link q)) xs)
           k = one_map (A a) (λ (q : Pair). E.Add (link q)) plan.schema.pairs xs
 
-          to : OneTrue (A a) (links c p.names b style g.number plan) xs → (i : ℕ) × (j : ℕ) × (x : ℕ) × (y : ℕ) × N.Pair g i j × IsSlotOf N h new g i x × IsSlotOf N h new g j y × (a ≡ pair c b style p x y)
-          to o =
-              let (q, d, e) = k.0 o in
+          of_pair : (q : Pair) × Contains plan.schema.pairs q × A a (E.Add (link q)) xs → (i : ℕ) × (j : ℕ) × (x : ℕ) × (y : ℕ) × N.Pair g i j × IsSlotOf N h new g i x × IsSlotOf N h new g j y × (a ≡ pair c b style p x y)
+          of_pair (q, d, e) =
               let w : N.Pair g q.first q.then = subst (λ z. z) (sym (e_pair q.first q.then)) d in
               let l = means.lawful.pairs g q.first q.then w in
               let (x, s) = slot_there q.first l.0 in
               let (y, u) = slot_there q.then l.1 in
-              let f : a ≡ ground xs (link q) = subst (λ z. z xs a) (adds-Add (InT c b style p) S (link q)) e in
-              (q.first, q.then, x, y, w, s, u, f ∙ link_ground q.first q.then x y s u)
+              (q.first, q.then, x, y, w, s, u, subst (λ z. z xs a) (adds-Add (InT c b style p) S (link q)) e ∙ link_ground q.first q.then x y s u)
+
+          to : OneTrue (A a) (links c p.names b style g.number plan) xs → (i : ℕ) × (j : ℕ) × (x : ℕ) × (y : ℕ) × N.Pair g i j × IsSlotOf N h new g i x × IsSlotOf N h new g j y × (a ≡ pair c b style p x y)
+          to o = of_pair (k.0 o)
 
           from : (i : ℕ) × (j : ℕ) × (x : ℕ) × (y : ℕ) × N.Pair g i j × IsSlotOf N h new g i x × IsSlotOf N h new g j y × (a ≡ pair c b style p x y) → OneTrue (A a) (links c p.names b style g.number plan) xs
           from (i, j, x, y, w, s, u, e) =

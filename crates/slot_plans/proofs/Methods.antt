@@ -1,13 +1,10 @@
 -- The printed action of a method is a step of the machine.
-use Rattle.std.proofs.Common.{ℕ, zero, suc, ◌≡◌, ◌↔◌, ◌⊎◌, ◌+◌, ◌-◌, ◌<◌, ◌≤◌, inl, inr, List, [], ◌∷◌, ◌++◌, map, length, slice_get, Option, Some, None, refl, ap, sym, subst, ◌∙◌, Contains, append-nil, arith}
-use Rattle.std.specs.Prelude.{IsTrue}
+use Rattle.std.proofs.Common.{ℕ, ◌≡◌, ◌↔◌, ◌⊎◌, ◌-◌, ◌<◌, inl, inr, List, [], ◌∷◌, ◌++◌, length, slice_get, Option, Some, None, refl, ap, sym, subst, ◌∙◌, Contains, append-nil, arith}
 use Rattle.std.proofs.lemmas.Option.{slice_get_within}
 use Rattle.plan_model.specs.declared.options.Style.{Style}
 use Rattle.plan_model.specs.declared.terms.GroundAtom.{GroundAtom}
 use Rattle.plan_model.specs.declared.effects.Effect.{Effect}
 use Rattle.plan_model.specs.declared.effects.Effect.TheVariants as E
-use Rattle.plan_model.specs.declared.networks.Head.{Head}
-use Rattle.plan_model.specs.declared.networks.Head.TheVariants.{Task, Action, Check}
 use Rattle.plan_model.specs.declared.networks.Child.{Child}
 use Rattle.plan_model.specs.declared.schemas.ActionSchema.{ActionSchema}
 use Rattle.plan_model.specs.declared.schemas.MethodPlan.{MethodPlan}
@@ -18,23 +15,23 @@ use Rattle.task_networks.specs.Spelling.{apply, others}
 use Rattle.slot_machine.specs.Machine as Machine
 use Rattle.slot_machine.specs.Machine.{MayApply}
 use Rattle.slot_machine.specs.OtherMachine.{AreSame}
-use Rattle.slot_machine.proofs.OtherChildren.{rest_of, length-rest}
 use Rattle.plan_texts.specs.Types.{EachIs}
-use Rattle.plan_meaning.specs.Truth.{State, values_of, AreTyped, OneTrue, IsTrueIn, Adds, Deletes, after}
-use Rattle.plan_meaning.specs.Network.{Work, task, GroundMethod, IsGroundMethod, network, InTypeOf, IsDeclared, work_of, child_of}
+use Rattle.plan_meaning.specs.Truth.{State, AreTyped, OneTrue, IsTrueIn, Adds, Deletes, after}
+use Rattle.plan_meaning.specs.Network.{Work, GroundMethod, IsGroundMethod, network, InTypeOf, IsDeclared, child_of}
 use Rattle.plan_meaning.specs.Solution.{AllowsMethod}
 use Rattle.plan_meaning.specs.EncodedActions.{spare, depth, held_task, freeing, splitting, method_eff, encoded_method}
 use Rattle.plan_meaning.proofs.EffectEquations.{adds-And, adds-Delete, deletes-And, deletes-Delete}
-use Rattle.slot_plans.specs.Pieces.{slot_object, IsSlot, IsMethodAct}
-use Rattle.slot_plans.specs.Reading.{IsKnown, held, free_atom, pair, Reads, Applies}
+use Rattle.slot_plans.specs.Pieces.{IsSlot, IsMethodAct}
+use Rattle.slot_plans.specs.Reading.{held, Reads, Applies}
 use Rattle.slot_plans.proofs.Sums.{one-append}
 use Rattle.slot_plans.proofs.Facts.{PiecesMean}
-use Rattle.slot_plans.proofs.Freed.{Changed, freed, reads_alike}
+use Rattle.slot_plans.proofs.Freed.{Changed, reads_alike}
 use Rattle.slot_plans.proofs.Freeing.{InT, unblocked_iff, freeing_reads}
 use Rattle.slot_plans.proofs.Split as Split
 use Rattle.slot_plans.proofs.Splitting.{frees, kids, links, copies_of, splitting_parts}
-use Rattle.slot_plans.proofs.MethodConditions.{objects, depth_long, Asks, method_true}
-use Rattle.slot_plans.proofs.MethodEffects.{e_works, e_count, e_head, head_ground, map_get, child_listed, frees_add, frees_delete, kids_add, atoms_delete, links_add, links_delete, copies_add, copies_delete}
+use Rattle.slot_plans.proofs.MethodConditions.{objects, depth_long, method_true}
+use Rattle.slot_plans.proofs.MethodEffects.{e_count, e_head, head_ground, frees_add, frees_delete, kids_add, atoms_delete, links_add, links_delete, copies_add, copies_delete}
+use Rattle.slot_plans.proofs.MethodChildren.{others_long, count_is, known_head, known_children}
 use Rattle.slot_plans.proofs.Running.{IsTaken}
 
 pub each_contains : {A : Type 0} (P : A → Type 0) (xs : List A) → EachIs P xs ↔ ((x : A) → Contains xs x → P x)
@@ -45,18 +42,6 @@ each_contains P (y ∷ xs) =
       λ f. (f y (Rattle.task_networks.proofs.Lists.Contains-here y xs), r.1 (λ x k. f x (Rattle.task_networks.proofs.Lists.Contains-later y xs x k))),
     )
 
-module _ (c : Compiled) (b : ℕ) (style : Style) (p : Pddl) (means : PiecesMean c b style p) (g : GroundMethod) where
-  -- a method has one child more than others than the heir, or none
-  pub others_long : length (others (network c) g) ≡ count (network c) g - 1
-  others_long = go ((network c).heir g) refl
-    where
-      none : (o : Option ℕ) → count (network c) g ≡ 0 → length (rest_of o (count (network c) g)) ≡ count (network c) g - 1
-      none o e = ap (λ n. length (rest_of o n)) e ∙ (let z : 0 ≡ count (network c) g - 1 = omega arith in z)
-
-      go : (o : Option ℕ) → (network c).heir g ≡ o → length (rest_of o (count (network c) g)) ≡ count (network c) g - 1
-      go None e = elim (Rattle.std.proofs.Math.Decide.ℕ_discrete (count (network c) g) 0) [ yes z ↦ none None z | no z ↦ absurd (let x = (means.lawful.has_heir g (omega arith)).1 in cc) ]
-      go (Some k) e = let l = length-rest k (count (network c) g) (means.lawful.heir_is_child g k e) in omega arith
-
 module _ (c : Compiled) (b : ℕ) (style : Style) (p : Pddl) (means : PiecesMean c b style p) (S : State) (t : Machine.State (network c)) (T : State) (r : Reads c b style p S t T)
     (h : ℕ) (new : List ℕ) (g : GroundMethod) where
   abbrev N : Net
@@ -65,20 +50,6 @@ module _ (c : Compiled) (b : ℕ) (style : Style) (p : Pddl) (means : PiecesMean
   module _ (plan : MethodPlan) (is : slice_get c.methods g.number ≡ Some plan) (long : length new ≡ spare c p.names b style g.number plan) (typed : AreTyped (InTypeOf c) plan.schema.params g.values) where
     abbrev xs : List ℕ
     xs = objects c b style p h new g plan long typed
-
-    known_head : IsKnown c (N.head g)
-    known_head = subst (IsKnown c) (sym (e_head c b style p h new g plan long typed means is)) (means.fits.tasks g.number plan is)
-
-    known_work : (hd : Head) (args : List ℕ) → (hd ≡ Check → IsTrue plan.checked) → IsDeclared c (work_of g hd args) → IsKnown c (work_of g hd args)
-    known_work (Task n) args checked d = let (ps, (s, e, f), ty) = d in let l = slice_get_within c.hddl.tasks n s e in omega arith
-    known_work (Action n) args checked d = d
-    known_work Check args checked d = (plan, is, checked refl, typed)
-
-    known_children : ((child : Child) → Contains plan.schema.children child → IsDeclared c (child_of g child)) → (i : ℕ) (w : Work) → slice_get (N.works g) i ≡ Some w → IsKnown c w
-    known_children declared i w e =
-        let (child, f, q) = map_get (child_of g) plan.schema.children i w (sym (ap (λ z. slice_get z i) (e_works c b style p h new g plan long typed means is)) ∙ e) in
-        let k = child_listed plan.schema.children i child f in
-        subst (IsKnown c) (sym q) (known_work child.head (values_of g.values child.args) (means.fits.checks g.number plan child is k) (declared child k))
 
     -- what the two kinds of methods leave
     module _ (declared : (child : Child) → Contains plan.schema.children child → IsDeclared c (child_of g child)) (slot : IsSlot c b style p h) (holds : t.holds h (N.head g)) (alone : t.free h → ⊥) (free : (x : ℕ) → Contains new x → t.free x) where
@@ -103,7 +74,7 @@ module _ (c : Compiled) (b : ℕ) (style : Style) (p : Pddl) (means : PiecesMean
           }
 
           reads : Reads c b style p left state (Changed T (λ a. ⊥) (λ a. ⊥))
-          reads = freeing_reads c b style p S h _ (means.order S xs) t T means.differ r (N.head g) known_head slot (held_task c p.names b style g.number plan) (head_ground c b style p h new g plan long typed means is) []
+          reads = freeing_reads c b style p S h _ (means.order S xs) t T means.differ r (N.head g) (known_head c means.fits g plan is) slot (held_task c p.names b style g.number plan) (head_ground c b style p h new g plan long typed means is) []
               (λ a. ⊥) (λ a. ⊥) (λ a k. absurd k) (λ a k. absurd k) (λ a. (λ k. k, λ k. k)) (λ a. (λ k. k, λ k. k))
 
           no_work : (i : ℕ) (w : Work) → slice_get (N.works g) i ≡ Some w → ⊥
@@ -134,7 +105,7 @@ module _ (c : Compiled) (b : ℕ) (style : Style) (p : Pddl) (means : PiecesMean
       some_children hd heir some =
           reads_alike c b style p (Changed S Goes Comes) (after (InT c b style p) S (E.And (splitting c p.names b style g.number plan)) xs) (Machine.after N t (apply h new g)) (Machine.after N t (apply h new g)) T T
           same (record { holds = λ x v. (λ k. k, λ k. k); free = λ x. (λ k. k, λ k. k); before = λ x y. (λ k. k, λ k. k) }) (λ a. (λ k. k, λ k. k))
-          (Split.split_reads c b style p means.differ S t T r h new g holds alone hd heir some (known_children declared) free)
+          (Split.split_reads c b style p means.differ S t T r h new g holds alone hd heir some (known_children c means.fits g plan is typed declared) free)
         where
           Goes : GroundAtom → Type 0
           Goes = Split.Goes c b style p means.differ S t T r h new g
@@ -244,7 +215,7 @@ module _ (c : Compiled) (b : ℕ) (style : Style) (p : Pddl) (means : PiecesMean
         taken y =
             let (q, waits, asks) = (method_true c b style p h new g k.plan k.count k.typed means S t T r k.is slots).0 y in
             let at_head = subst (λ w. S (held c b style p h w)) (sym (e_head c b style p h new g k.plan k.count k.typed means k.is)) q in
-            let holds = (r.holds h (N.head g)).1 (known_head k.plan k.is k.count k.typed, k.slot, at_head) in
+            let holds = (r.holds h (N.head g)).1 (known_head c means.fits g k.plan k.is, k.slot, at_head) in
             let declared = (means.guards_declare g k.plan k.is k.typed).0 asks.guards in
             let free : (x : ℕ) → Contains new x → t.free x = λ x d. (r.free x).1 (slots x d, asks.free x d) in
             record {
@@ -252,7 +223,7 @@ module _ (c : Compiled) (b : ℕ) (style : Style) (p : Pddl) (means : PiecesMean
                 holds = holds;
                 ground = record { plan = k.plan; is = k.is; typed = k.typed; constraints = asks.constraints; declared = declared };
                 unblocked = (unblocked_iff c b style p S t T h r k.slot).1 waits;
-                enough = k.count ∙ (let e = others_long c b style p means g in let f = e_count c b style p h new g k.plan k.count k.typed means k.is in let z : length k.plan.schema.children - 1 ≡ length (others N g) = omega arith in z);
+                enough = k.count ∙ (let e = others_long N means.lawful g in let f = count_is c means.fits g k.plan k.is in let z : length k.plan.schema.children - 1 ≡ length (others N g) = omega arith in z);
                 free = free;
                 apart = asks.different;
               };
@@ -273,11 +244,8 @@ module _ (c : Compiled) (b : ℕ) (style : Style) (p : Pddl) (means : PiecesMean
         slot : IsSlot c b style p h
         slot = ((r.holds h (N.head g)).0 may.holds).1
 
-        works : count N g ≡ length ground.plan.schema.children
-        works = ap (λ o. length (Rattle.plan_meaning.specs.Network.works_by g o)) ground.is ∙ Rattle.std.proofs.lemmas.List.length-map ground.plan.schema.children (child_of g)
-
         long : length new ≡ spare c p.names b style g.number ground.plan
-        long = may.enough ∙ others_long c b style p means g ∙ ap (λ n. n - 1) works
+        long = may.enough ∙ others_long N means.lawful g ∙ ap (λ n. n - 1) (count_is c means.fits g ground.plan ground.is)
 
         xs' : List ℕ
         xs' = objects c b style p h new g ground.plan long ground.typed

@@ -1,5 +1,5 @@
 -- The pieces of a printed problem mean what they should, and its texts are faithful where its value is.
-use Rattle.std.proofs.Common.{ℕ, ◌≡◌, ◌↔◌, ◌≤◌, ◌∙◌, List, refl, sym, subst}
+use Rattle.std.proofs.Common.{ℕ}
 use Rattle.plan_model.specs.declared.options.Style.{Style}
 use Rattle.plan_model.specs.declared.options.Checks.{Checks}
 use Rattle.plan_model.specs.declared.values.Hddl.{Hddl}

@@ -1,5 +1,5 @@
 -- The printed action of an action or a check is a step of the machine.
-use Rattle.std.proofs.Common.{ℕ, suc, ◌≡◌, ◌↔◌, ◌⊎◌, ◌<◌, ◌≤◌, inl, inr, List, [], ◌∷◌, ◌++◌, length, Some, None, slice_get, refl, ap, sym, subst, ◌∙◌, arith}
+use Rattle.std.proofs.Common.{ℕ, suc, ◌≡◌, ◌↔◌, ◌<◌, inl, inr, List, [], ◌∷◌, ◌++◌, length, Some, slice_get, refl, ap, sym, subst, ◌∙◌}
 use Rattle.plan_model.specs.declared.options.Style.{Style}
 use Rattle.plan_model.specs.declared.terms.Param.{Param}
 use Rattle.plan_model.specs.declared.terms.Atom.{Atom}
@@ -13,15 +13,15 @@ use Rattle.plan_model.specs.declared.schemas.MethodPlan.{MethodPlan}
 use Rattle.plan_model.specs.declared.values.Compiled.{Compiled}
 use Rattle.plan_model.specs.declared.values.Pddl.{Pddl}
 use Rattle.task_networks.specs.Net.{Net}
-use Rattle.task_networks.specs.Spelling.{Act, run, apply, label_of}
+use Rattle.task_networks.specs.Spelling.{Act, run, label_of}
 use Rattle.slot_machine.specs.Machine as Machine
 use Rattle.slot_machine.specs.Machine.{May, MayRun}
 use Rattle.plan_meaning.specs.Truth.{State, ground, AreTyped, EachTrue, OneTrue, IsTrueIn, Adds, Deletes, after}
-use Rattle.plan_meaning.specs.Network.{Work, action, check, task, network, InTypeOf}
+use Rattle.plan_meaning.specs.Network.{Work, action, check, network, InTypeOf}
 use Rattle.plan_meaning.specs.Solution.{Allows, AllowsAction, AllowsCheck, after_action, next}
 use Rattle.plan_meaning.specs.EncodedNames.{action_predicate, check_predicate}
 use Rattle.plan_meaning.specs.EncodedActions.{held_work, waiting, freeing, source_condition, source_change, encoded_action, encoded_check}
-use Rattle.slot_plans.specs.Pieces.{SourceMeaning, slot_object, IsSlot, IsActBy, IsActionAct, IsCheckAct}
+use Rattle.slot_plans.specs.Pieces.{SourceMeaning, slot_object, IsSlot, IsActionAct, IsCheckAct}
 use Rattle.slot_plans.specs.Reading.{IsKnown, held, Reads, Applies}
 use Rattle.slot_plans.proofs.Sums.{own_vars}
 use Rattle.slot_plans.proofs.Facts.{PiecesMean}

@@ -1,16 +1,14 @@
 -- Lists of acts that the printed problem takes are executable runs of the machine.
-use Rattle.std.proofs.Common.{ℕ, ◌≡◌, ◌↔◌, ◌≤◌, List, [], ◌∷◌, ◌++◌, map, Some, refl, ap, sym, subst, ◌∙◌}
+use Rattle.std.proofs.Common.{ℕ, ◌≡◌, ◌↔◌, ◌≤◌, List, [], ◌∷◌, ◌++◌, map, refl, ap, sym, subst, ◌∙◌}
 use Rattle.plan_model.specs.declared.options.Style.{Style}
 use Rattle.plan_model.specs.declared.schemas.ActionSchema.{ActionSchema}
 use Rattle.plan_model.specs.declared.values.Compiled.{Compiled}
 use Rattle.plan_model.specs.declared.values.Pddl.{Pddl}
 use Rattle.task_networks.specs.Net.{Net}
-use Rattle.task_networks.specs.Tree.{waits}
 use Rattle.task_networks.specs.Spelling.{Act, run, apply, label_of}
 use Rattle.task_networks.specs.Executable.{AreAllowed, last_state}
 use Rattle.slot_machine.specs.Machine as Machine
 use Rattle.slot_machine.specs.Machine.{May, Runs, end_of, start}
-use Rattle.slot_machine.proofs.Matching.{Matches}
 use Rattle.slot_machine.proofs.RunSpellings.{runs_iff_spells}
 use Rattle.slot_machine.proofs.SpellingRuns.{runs_push, end-push}
 use Rattle.slot_machine.proofs.Theorem.{matches_spelling}

@@ -1,5 +1,5 @@
 -- The slot variables of the children, and their values.
-use Rattle.std.proofs.Common.{ℕ, zero, suc, ◌≡◌, ◌+◌, ◌<◌, ◌≤◌, List, [], ◌∷◌, map, length, slice_index, slice_get, Some, ◌==◌, cond, true, false, refl, ap, sym, ◌∙◌, arith}
+use Rattle.std.proofs.Common.{ℕ, zero, suc, ◌≡◌, ◌+◌, ◌<◌, ◌≤◌, List, [], ◌∷◌, map, Some, ◌==◌, cond, true, false, refl, ap, ◌∙◌, arith}
 use Rattle.task_networks.specs.Spelling.{numbers}
 use Rattle.slot_machine.specs.Machine.{insert_at}
 use Rattle.plan_meaning.specs.EncodedActions.{slot_vars}

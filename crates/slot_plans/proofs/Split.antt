@@ -16,6 +16,7 @@ use Rattle.plan_meaning.specs.EncodedNames.{free_predicate, before_predicate, gu
 use Rattle.plan_meaning.specs.EncodedValue.{atom}
 use Rattle.slot_plans.specs.Pieces.{PredicatesDiffer, slot_object, IsSlot}
 use Rattle.slot_plans.specs.Reading.{IsKnown, held, free_atom, pair, Reads}
+use Rattle.slot_plans.proofs.ListPlaces.{get_contains, contains_get}
 use Rattle.slot_plans.proofs.Atoms.{one_slot, held_free, held_before, free_before, same_held, same_free, same_pair, source_held, source_free, source_before, guard_held, guard_free, guard_before}
 use Rattle.slot_plans.proofs.Freed.{Changed}
 
@@ -23,16 +24,6 @@ insert_keeps : (k h : ℕ) (hs : List ℕ) (x : ℕ) → Contains hs x → Conta
 insert_keeps zero h hs x d = Contains-later h hs x d
 insert_keeps (suc k) h [] x d = absurd (not-in_empty x d)
 insert_keeps (suc k) h (y ∷ hs) x d = elim (head_or_tail y hs x d) [ inl e ↦ (0, omega arith, e) | inr e ↦ Contains-later y (insert_at k h hs) x (insert_keeps k h hs x e) ]
-
--- an element by its place, and its place
-pub at_contains : (xs : List ℕ) (i x : ℕ) → slice_get xs i ≡ Some x → Contains xs x
-at_contains [] i x e = absurd cc
-at_contains (y ∷ xs) zero x e = let f : y ≡ x = cc in (0, omega arith, f)
-at_contains (y ∷ xs) (suc i) x e = Contains-later y xs x (at_contains xs i x e)
-
-pub contains_at : (xs : List ℕ) (x : ℕ) → Contains xs x → (i : ℕ) × (slice_get xs i ≡ Some x)
-contains_at [] x k = absurd (not-in_empty x k)
-contains_at (y ∷ xs) x k = elim (head_or_tail y xs x k) [ inl e ↦ (0, ap Some e) | inr e ↦ (let (i, f) = contains_at xs x e in (suc i, f)) ]
 
 module _ (c : Compiled) (b : ℕ) (style : Style) (p : Pddl) (d : PredicatesDiffer c) (S : State) (t : Machine.State (network c)) (T : State) (r : Reads c b style p S t T) (h : ℕ) (new : List ℕ) (g : GroundMethod) where
   abbrev N : Net
@@ -71,13 +62,13 @@ module _ (c : Compiled) (b : ℕ) (style : Style) (p : Pddl) (d : PredicatesDiff
     new_slot x k = ((r.free x).0 (free x k)).0
 
     of_children : (i x : ℕ) → IsSlotOf N h new g i x → (h ≡ x) ⊎ Contains new x
-    of_children i x s = insert_cases hd h new x (at_contains (insert_at hd h new) i x (subst (λ o. slice_get (with_heir o h new) i ≡ Some x) heir s))
+    of_children i x s = insert_cases hd h new x (get_contains (insert_at hd h new) i x (subst (λ o. slice_get (with_heir o h new) i ≡ Some x) heir s))
 
     child_slot : (i x : ℕ) → IsSlotOf N h new g i x → IsSlot c b style p x
     child_slot i x s = elim (of_children i x s) [ inl e ↦ subst (IsSlot c b style p) e slot | inr k ↦ new_slot x k ]
 
     in_children : (x : ℕ) → Contains new x → (i : ℕ) × IsSlotOf N h new g i x
-    in_children x k = let (i, e) = contains_at (insert_at hd h new) x (insert_keeps hd h new x k) in (i, subst (λ o. slice_get (with_heir o h new) i ≡ Some x) (sym heir) e)
+    in_children x k = let (i, e) = contains_get (insert_at hd h new) x (insert_keeps hd h new x k) in (i, subst (λ o. slice_get (with_heir o h new) i ≡ Some x) (sym heir) e)
 
     child_at : (i x y : ℕ) → IsSlotOf N h new g i x → x ≡ y → IsSlotOf N h new g i y
     child_at i x y s e = subst (IsSlotOf N h new g i) e s

@@ -11,11 +11,11 @@ use Rattle.task_networks.specs.Spelling.{numbers}
 use Rattle.task_networks.proofs.Lists.{Contains-here, Contains-later, head_or_tail, not-in_empty}
 use Rattle.task_networks.proofs.Numbers.{numbers_to, to_numbers}
 use Rattle.slot_machine.specs.Machine as Machine
-use Rattle.plan_texts.proofs.Basics.{bytes_eq-refl, bytes_eq-true}
-use Rattle.plan_meaning.specs.Network.{Work, task, network, InTypeOf, top_task}
+use Rattle.plan_texts.proofs.Basics.{bytes_eq-true}
+use Rattle.plan_meaning.specs.Network.{Work, network, top_task}
 use Rattle.plan_meaning.specs.Solution.{top_work, initial}
-use Rattle.plan_meaning.specs.Compilation.{once, Keeps}
-use Rattle.plan_meaning.specs.EncodedNames.{guard_types, top_predicate, free_predicate, before_predicate, task_predicate, guard_predicate, first_slot, first_task}
+use Rattle.plan_meaning.specs.Compilation.{once}
+use Rattle.plan_meaning.specs.EncodedNames.{guard_types, top_predicate, free_predicate, task_predicate, guard_predicate, first_slot, first_task}
 use Rattle.plan_meaning.specs.EncodedValue.{same_atom, atom, first_atoms, AreGuardAtoms, IsInitial}
 use Rattle.plan_meaning.proofs.Pairs.{once_to, to_once, map_to}
 use Rattle.slot_plans.specs.Pieces.{slot_object, IsSlot}

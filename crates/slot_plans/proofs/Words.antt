@@ -1,13 +1,11 @@
 -- From acts to the words of steps: what the printed problem is to the compiled one.
-use Rattle.std.proofs.Common.{ℕ, ◌≡◌, ◌↔◌, ◌≤◌, List, [], ◌∷◌, map, refl, ap, sym, subst, ◌∙◌, Contains}
+use Rattle.std.proofs.Common.{ℕ, ◌≡◌, ◌↔◌, ◌≤◌, List, [], ◌∷◌, map, refl, sym, subst, ◌∙◌, Contains}
 use Rattle.plan_model.specs.declared.options.Style.{Style}
 use Rattle.plan_model.specs.declared.steps.GroundAction.{GroundAction}
 use Rattle.plan_model.specs.declared.values.Compiled.{Compiled}
 use Rattle.plan_model.specs.declared.values.Pddl.{Pddl}
 use Rattle.task_networks.specs.Net.{Net}
-use Rattle.task_networks.specs.Tree.{Tree, Address, IsAddress}
 use Rattle.task_networks.specs.Spelling.{Act, Spells}
-use Rattle.slot_machine.specs.Machine.{Runs, start}
 use Rattle.slot_machine.proofs.RunSpellings.{runs_iff_spells}
 use Rattle.slot_machine.proofs.Theorem.{few_pending_have_spellings, front_is_the_only_one}
 use Rattle.plan_meaning.specs.Truth.{State, IsTrueIn, after}
@@ -15,7 +13,7 @@ use Rattle.plan_meaning.specs.ClassicalPlan as Printed
 use Rattle.plan_meaning.specs.ClassicalPlan.{Leads, IsExecutable, IsPlan}
 use Rattle.plan_meaning.specs.Network.{network}
 use Rattle.plan_meaning.specs.Solution.{top_work}
-use Rattle.plan_meaning.specs.SpelledPlan.{step_of, IsSpelling}
+use Rattle.plan_meaning.specs.SpelledPlan.{step_of}
 use Rattle.text_plans.specs.Headline.{SpellsExecutableFront, SpellsSolution, SpellsOne}
 use Rattle.slot_plans.specs.Pieces.{StepsAreActs}
 use Rattle.slot_plans.specs.Reading.{LeadsBy}
