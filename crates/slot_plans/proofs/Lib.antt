@@ -15,6 +15,8 @@ pub mod GuardAtoms
 pub mod Guards
 pub mod ObjectWords
 pub mod ActionPlaces
+pub mod ActionWords
+pub mod StepWords
 pub mod Sums
 pub mod Atoms
 pub mod Freed
