@@ -23,9 +23,20 @@ module _ (c : Compiled) (b : ℕ) where
   FrontsWithinAreSpelled = (tree : Tree (network c)) (order : List Address) → IsFront (network c) (top_work c) tree order → IsWithin (network c) b tree order
       → (steps : List GroundAction) × (slot : Address → ℕ) × IsSpelling c b steps tree order slot
 
+  -- a list spells one front, with one slot for each node
+  abbrev pub EachSpellsOne : Type 0
+  EachSpellsOne = (steps : List GroundAction) → SpellsOne c b steps
+
+  module _ (p : Pddl) where
+    abbrev pub ExecutablesSpellFronts : Type 0
+    ExecutablesSpellFronts = (steps : List GroundAction) → IsExecutable p steps ↔ SpellsExecutableFront c b steps
+
+    abbrev pub PlansSpellSolutions : Type 0
+    PlansSpellSolutions = (steps : List GroundAction) → IsPlan p steps ↔ SpellsSolution c b steps
+
   pub record IsFaithfulValue (p : Pddl) : Type 0 where
-    pub executable : (steps : List GroundAction) → IsExecutable p steps ↔ SpellsExecutableFront c b steps
-    pub plans : (steps : List GroundAction) → IsPlan p steps ↔ SpellsSolution c b steps
-    pub only_one : (steps : List GroundAction) → SpellsOne c b steps
+    pub executable : ExecutablesSpellFronts p
+    pub plans : PlansSpellSolutions p
+    pub only_one : EachSpellsOne
     pub within : SpellingsAreWithin
     pub spelled : FrontsWithinAreSpelled
