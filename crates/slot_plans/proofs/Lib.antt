@@ -37,3 +37,4 @@ pub mod KnownActs
 pub mod Words
 pub mod Fits
 pub mod PrintedMeans
+pub mod Bounds

@@ -1,6 +1,6 @@
 -- What the printed problem, as a value, is to the compiled one.
 -- Source: this project's, after the translation of Alford et al., "Bound to Plan", ICAPS 2016.
-use Rattle.std.specs.Prelude.{ℕ, ◌↔◌, List}
+use Rattle.std.specs.Prelude.{ℕ, ◌≤◌, ◌↔◌, List}
 use Rattle.plan_model.specs.declared.steps.GroundAction.{GroundAction}
 use Rattle.plan_model.specs.declared.values.Compiled.{Compiled}
 use Rattle.plan_model.specs.declared.values.Pddl.{Pddl}
@@ -11,7 +11,8 @@ use Rattle.plan_meaning.specs.ClassicalPlan.{IsExecutable, IsPlan}
 use Rattle.plan_meaning.specs.Network.{network}
 use Rattle.plan_meaning.specs.Solution.{top_work}
 use Rattle.plan_meaning.specs.SpelledPlan.{IsSpelling}
-use Rattle.text_plans.specs.Headline.{SpellsExecutableFront, SpellsSolution, SpellsOne}
+use Rattle.plan_meaning.specs.Bound.{IsBound}
+use Rattle.text_plans.specs.Headline.{SpellsExecutableFront, SpellsSolution, SpellsOne, LosesNothing}
 
 module _ (c : Compiled) (b : ℕ) where
   -- never more than b tasks are pending in what is spelled
@@ -40,3 +41,7 @@ module _ (c : Compiled) (b : ℕ) where
     pub only_one : EachSpellsOne
     pub within : SpellingsAreWithin
     pub spelled : FrontsWithinAreSpelled
+
+-- where there are as many slots as the bound, or more, no schedule of any solution is lost
+abbrev pub LosesNothingFromTheBoundOn : Compiled → ℕ → (domain problem : List ℕ) → Type 0
+LosesNothingFromTheBoundOn c b domain problem = (n : ℕ) → IsBound c n → n ≤ b → LosesNothing c b domain problem

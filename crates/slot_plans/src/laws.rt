@@ -8,7 +8,7 @@ ghost use Rattle.plan_texts.specs.PrintedTexts.{domain_text, problem_text};
 ghost use Rattle.plan_meaning.specs.Laws.{AreOrdered};
 ghost use Rattle.text_plans.specs.Headline.{IsFaithful};
 ghost use Rattle.slot_plans.specs.Pieces.{IsPrinted};
-ghost use Rattle.slot_plans.specs.Faithful.{ExecutablesSpellFronts, PlansSpellSolutions, EachSpellsOne, SpellingsAreWithin, FrontsWithinAreSpelled, IsFaithfulValue};
+ghost use Rattle.slot_plans.specs.Faithful.{ExecutablesSpellFronts, PlansSpellSolutions, EachSpellsOne, SpellingsAreWithin, FrontsWithinAreSpelled, IsFaithfulValue, LosesNothingFromTheBoundOn};
 
 use plan_model::{Checks, Compiled, Hddl, Pddl, Style};
 
@@ -87,4 +87,18 @@ pub fn texts_are_faithful(
     requires printed { IsPrinted problem.now checks.now compiled.now slots style.now value.now }
     requires positive { 1 ≤ slots }
     ensures { IsFaithful compiled.now slots (domain_text value.now) (problem_text value.now) }
+{}
+
+/// Where there are as many slots as the bound, or more, the two printed texts lose no schedule of any solution.
+pub fn texts_lose_nothing(
+    problem: &Hddl,
+    checks: &Checks,
+    compiled: &Compiled,
+    slots: u32,
+    style: &Style,
+    value: &Pddl,
+)
+    requires ordered { AreOrdered problem.now }
+    requires printed { IsPrinted problem.now checks.now compiled.now slots style.now value.now }
+    ensures { LosesNothingFromTheBoundOn compiled.now slots (domain_text value.now) (problem_text value.now) }
 {}

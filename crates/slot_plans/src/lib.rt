@@ -8,5 +8,5 @@ mod laws;
 
 pub use laws::{
     executables_spell_fronts, plans_spell_solutions, spellings_fit_slots, texts_are_faithful,
-    value_is_faithful,
+    texts_lose_nothing, value_is_faithful,
 };
