@@ -38,3 +38,4 @@ pub mod Words
 pub mod Fits
 pub mod PrintedMeans
 pub mod Bounds
+pub mod SmallestFaithful
