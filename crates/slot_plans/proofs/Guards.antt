@@ -60,13 +60,13 @@ module _ (mode : Checks) (c : Compiled) (compiled : IsCompiled c.hddl mode c) (s
       go (Some x) = is_a_decided c.hddl sound x.ty ty
   declared_decided s ty (Obj o) = in_type_decided c.hddl sound o ty
 
-  module _ (values : List ℕ) where
-    typed_at : (params : List Param) (values : List ℕ) (k : ℕ) (x : Param) → AreTyped (InTypeOf c) params values → slice_get params k ≡ Some x → InTypeOf c (slice_index values k) x.ty
-    typed_at [] values k x t e = absurd cc
-    typed_at (y ∷ params) [] k x t e = absurd t
-    typed_at (y ∷ params) (o ∷ values) zero x t e = subst (λ (z : Param). InTypeOf c o z.ty) (let f : y ≡ x = cc in f) t.0
-    typed_at (y ∷ params) (o ∷ values) (suc k) x t e = typed_at params values k x t.1 e
+  typed_at : (params : List Param) (values : List ℕ) (k : ℕ) (x : Param) → AreTyped (InTypeOf c) params values → slice_get params k ≡ Some x → InTypeOf c (slice_index values k) x.ty
+  typed_at [] values k x t e = absurd cc
+  typed_at (y ∷ params) [] k x t e = absurd t
+  typed_at (y ∷ params) (o ∷ values) zero x t e = subst (λ (z : Param). InTypeOf c o z.ty) (let f : y ≡ x = cc in f) t.0
+  typed_at (y ∷ params) (o ∷ values) (suc k) x t e = typed_at params values k x t.1 e
 
+  module _ (values : List ℕ) where
     -- a term whose declaration puts it into a type is of it
     declared_value : (s : MethodSchema) (ty : ℕ) (t : Term) → AreTyped (InTypeOf c) s.params values → IsDeclaredIn c.hddl s ty t → InTypeOf c (value_of values t) ty
     declared_value s ty (Var k) typed d = go (slice_get s.params k) refl d

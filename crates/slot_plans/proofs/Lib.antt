@@ -17,6 +17,7 @@ pub mod ObjectWords
 pub mod ActionPlaces
 pub mod ActionWords
 pub mod StepWords
+pub mod FirstSlot
 pub mod Sums
 pub mod Atoms
 pub mod Freed

@@ -19,6 +19,7 @@ use Rattle.plan_meaning.specs.ClassicalPlan as Printed
 use Rattle.slot_plans.specs.Pieces.{IsPrinted, TypesAgree, IsSlotObject, ListsAgree}
 use Rattle.slot_plans.proofs.ObjectPlaces.{printed_object, printed_slot, object_cases, object_at, slot_at}
 use Rattle.slot_plans.proofs.PrintedTypes.{part_to, part_from, slot_apart, apart_from_slots}
+use Rattle.slot_plans.proofs.SourceFormulas.{typed-source}
 use Rattle.slot_plans.proofs.SoundTypes.{some_type, leads_up, object_typed}
 
 module _ (c : Compiled) (names : List (List ℕ)) (b : ℕ) (sound : IsSoundHddl c.hddl) where
@@ -48,7 +49,6 @@ module _ (c : Compiled) (names : List (List ℕ)) (b : ℕ) (sound : IsSoundHddl
 
   slots_from : (o : ℕ) → (first_slot c ≤ o) × (o < first_slot c + b) → InPrinted o slot_type
   slots_from o (l, m) =
-      let k : ℕ = o - first_slot c in
       let e : first_slot c + (o - first_slot c) ≡ o = omega arith in
       (printed_slot c names b (suc (o - first_slot c)), subst (λ z. slice_get (encoded_objects c names b) z ≡ Some (printed_slot c names b (suc (o - first_slot c)))) e (slot_at c names b (o - first_slot c) (omega arith)), inl (inr stay))
 
@@ -69,10 +69,7 @@ module _ (h : Hddl) (mode : Checks) (c : Compiled) (b : ℕ) (style : Style) (p 
   Goal front params os = (hs values : List ℕ) × (os ≡ hs ++ values) × (length hs ≡ length front) × EachIs (IsSlotObject c b style p) hs × AreTyped (Source.InTypeOf c) params values
 
   typed_source : (params : List Param) (os : List ℕ) → AreTyped (Printed.InTypeOf p) (map (source_param p.names c.hddl.names) params) os ↔ AreTyped (Source.InTypeOf c) params os
-  typed_source [] [] = (λ x. x, λ x. x)
-  typed_source [] (o ∷ os) = (λ x. x, λ x. x)
-  typed_source (x ∷ xs) [] = (λ x. x, λ x. x)
-  typed_source (x ∷ xs) (o ∷ os) = let r = typed_source xs os in let g = types_agree.source o x.ty in (λ t. (g.0 t.0, r.0 t.1), λ t. (g.1 t.0, r.1 t.1))
+  typed_source = typed-source p.names c.hddl.names (Source.InTypeOf c) (Printed.InTypeOf p) types_agree.source
 
   lists_to : (front params : List Param) (os : List ℕ) → EachIs (λ (x : Param). x.ty ≡ slot_type) front → AreTyped (Printed.InTypeOf p) (front ++ map (source_param p.names c.hddl.names) params) os → Goal front params os
   lists_to [] params os e t = ([], os, refl, refl, tt, (typed_source params os).0 t)

@@ -141,22 +141,19 @@ module _ (n : OrderNumbers) (slots : ℕ) (InType : ℕ → ℕ → Type 0) (S :
   clear_deletes Adl i g l = single_one (Del g) _ (deletes_slots (E.Delete (parts (Var i) last)) g (λ o. g ≡ pair (at i) o) (λ o. ap (λ z. z (values ++ o ∷ []) g) (deletes-Delete InType S (parts (Var i) last)) ∙ ap (λ z. g ≡ z) (ground-var_last i o l)))
   clear_deletes Flat i g l = one_slot (Del g) (λ o. E.Delete (parts (Var i) (Obj o))) (λ o. g ≡ pair (at i) o) (λ o. ap (λ z. z values g) (deletes-Delete InType S (parts (Var i) (Obj o))))
 
+  regroup : (i j : ℕ) (g : GroundAtom) {A : Type 0} → A ↔ ((o : ℕ) × IsSlot o × (S (pair (at i) o) × (g ≡ pair (at j) o))) → A ↔ ((o : ℕ) × IsSlot o × S (pair (at i) o) × (g ≡ pair (at j) o))
+  regroup i j g r = (λ a. (let s = r.0 a in (s.0, s.1, s.2.0, s.2.1)), λ s. r.1 (s.0, s.1, (s.2, s.3)))
+
   copy_adds : (style : Style) (i j : ℕ) (g : GroundAtom) → i < length values → j < length values
       → OneTrue (Add g) (copy_parts n slots (length values) style (Var i) (Var j)) values ↔ ((o : ℕ) × IsSlot o × S (pair (at i) o) × (g ≡ pair (at j) o))
-  copy_adds Adl i j g l m = single_one (Add g) _ (regroup (adds_slots body g (λ o. S (pair (at i) o) × (g ≡ pair (at j) o)) inside))
+  copy_adds Adl i j g l m = single_one (Add g) _ (regroup i j g (adds_slots body g (λ o. S (pair (at i) o) × (g ≡ pair (at j) o)) inside))
     where
       body : Effect
       body = E.When (Holds (parts (Var i) last)) (E.Add (parts (Var j) last))
 
       inside : (o : ℕ) → Adds InType S body (values ++ o ∷ []) g ≡ (S (pair (at i) o) × (g ≡ pair (at j) o))
       inside o = adds-when (parts (Var i) last) (parts (Var j) last) (values ++ o ∷ []) g ∙ (λ k. S (ground-var_last i o l k) × (g ≡ ground-var_last j o m k))
-
-      regroup : {A : Type 0} → A ↔ ((o : ℕ) × IsSlot o × (S (pair (at i) o) × (g ≡ pair (at j) o))) → A ↔ ((o : ℕ) × IsSlot o × S (pair (at i) o) × (g ≡ pair (at j) o))
-      regroup r = (λ a. (let s = r.0 a in (s.0, s.1, s.2.0, s.2.1)), λ s. r.1 (s.0, s.1, (s.2, s.3)))
-  copy_adds Flat i j g l m = regroup (one_slot (Add g) (λ o. E.When (Holds (parts (Var i) (Obj o))) (E.Add (parts (Var j) (Obj o)))) (λ o. S (pair (at i) o) × (g ≡ pair (at j) o)) (λ o. adds-when (parts (Var i) (Obj o)) (parts (Var j) (Obj o)) values g))
-    where
-      regroup : {A : Type 0} → A ↔ ((o : ℕ) × IsSlot o × (S (pair (at i) o) × (g ≡ pair (at j) o))) → A ↔ ((o : ℕ) × IsSlot o × S (pair (at i) o) × (g ≡ pair (at j) o))
-      regroup r = (λ a. (let s = r.0 a in (s.0, s.1, s.2.0, s.2.1)), λ s. r.1 (s.0, s.1, (s.2, s.3)))
+  copy_adds Flat i j g l m = regroup i j g (one_slot (Add g) (λ o. E.When (Holds (parts (Var i) (Obj o))) (E.Add (parts (Var j) (Obj o)))) (λ o. S (pair (at i) o) × (g ≡ pair (at j) o)) (λ o. adds-when (parts (Var i) (Obj o)) (parts (Var j) (Obj o)) values g))
 
   copy_deletes : (style : Style) (i j : ℕ) (g : GroundAtom) → OneTrue (Del g) (copy_parts n slots (length values) style (Var i) (Var j)) values → ⊥
   copy_deletes Adl i j g (inl h) =

@@ -1,5 +1,5 @@
 -- The types of the printed problem: which type is a part of which.
-use Rattle.std.proofs.Common.{ℕ, zero, suc, ◌≡◌, ◌+◌, ◌-◌, ◌<◌, ◌≤◌, ◌⊎◌, ◌↔◌, inl, inr, nat_lt, if◌then◌else◌, List, [], ◌∷◌, map, length, slice_get, Option, Some, None, refl, ap, sym, subst, ◌∙◌, Contains, arith}
+use Rattle.std.proofs.Common.{ℕ, zero, suc, ◌≡◌, ◌+◌, ◌-◌, ◌<◌, ◌≤◌, ◌⊎◌, ◌↔◌, inl, inr, nat_lt, false, if◌then◌else◌, List, [], ◌∷◌, map, length, slice_get, Option, Some, None, refl, ap, sym, subst, ◌∙◌, Contains, arith}
 use Rattle.std.specs.Option.{option_map}
 use Rattle.std.proofs.lemmas.List.{length-map}
 use Rattle.std.proofs.lemmas.Option.{slice_get-map}
@@ -20,7 +20,7 @@ use Rattle.plan_meaning.proofs.Pairs.{map_to}
 use Rattle.plan_meaning.proofs.Unequal.{to_lt}
 use Rattle.slot_plans.proofs.TypeChains.{first_pair, climb_by}
 
-pub to_not_lt : (a b : ℕ) → b ≤ a → nat_lt a b ≡ nat_lt 0 0
+pub to_not_lt : (a b : ℕ) → b ≤ a → nat_lt a b ≡ false
 to_not_lt a b l = grind (arith, l)
 
 pub union_none : (types : Types) (ty : ℕ) → ty < length types.names → union_at types ty ≡ None

@@ -74,10 +74,10 @@ module _ (names source : List (List ℕ)) (InType InType' : ℕ → ℕ → Type
         )
       where
         typed : (ps : List Param) (os : List ℕ) → AreTyped InType' (map (source_param names source) ps) os ↔ AreTyped InType ps os
-        typed = typed-source names source InType InType' same_type v arities S S' agreed front
+        typed = typed-source names source InType InType' same_type
 
     same_ground : (values : List ℕ) (a : Atom) (g : GroundAtom) → (g ≡ ground (front ++ values) (source_atom names source (length front) a)) ↔ (g ≡ ground values a)
-    same_ground values a g = let e = ground-source names source InType InType' same_type v arities S S' agreed front values a in (λ x. x ∙ e, λ x. x ∙ sym e)
+    same_ground values a g = let e = ground-source names source front values a in (λ x. x ∙ e, λ x. x ∙ sym e)
 
     same_condition : (f : Formula) (scope : List Word) (values : List ℕ) → IsSound v arities f scope → IsTrueIn InType' S' (source_formula names source (length front) f) (front ++ values) ↔ IsTrueIn InType S f values
     same_condition = truth-source names source InType InType' same_type v arities S S' agreed front

@@ -16,18 +16,19 @@ use Rattle.plan_meaning.specs.SourceParts.{retyped, source_param, source_atom, f
 use Rattle.plan_meaning.proofs.TruthEquations.{truth_roll}
 use Rattle.slot_plans.proofs.Sums.{value-moved, values-moved}
 
--- n: the number of source predicates, which those of sound formulas are below
+module _ (names source : List (List ℕ)) where
+  pub ground-source : (front values : List ℕ) (a : Atom) → ground (front ++ values) (source_atom names source (length front) a) ≡ ground values a
+  ground-source front values a = λ i. record { predicate = a.predicate; args = values-moved names source front values a.args i }
+
+  pub typed-source : (InType InType' : ℕ → ℕ → Type 0) → ((o t : ℕ) → InType' o (retyped t) ↔ InType o t) → (ps : List Param) (os : List ℕ) → AreTyped InType' (map (source_param names source) ps) os ↔ AreTyped InType ps os
+  typed-source InType InType' same [] [] = (λ x. x, λ x. x)
+  typed-source InType InType' same [] (o ∷ os) = (λ x. x, λ x. x)
+  typed-source InType InType' same (p ∷ ps) [] = (λ x. x, λ x. x)
+  typed-source InType InType' same (p ∷ ps) (o ∷ os) = let h = typed-source InType InType' same ps os in let g = same o p.ty in (λ x. (g.0 x.0, h.0 x.1), λ x. (g.1 x.0, h.1 x.1))
+
+-- the two states agree on the source predicates, which those of sound formulas are
 module _ (names source : List (List ℕ)) (InType InType' : ℕ → ℕ → Type 0) (same_type : (o t : ℕ) → InType' o (retyped t) ↔ InType o t)
     (v : Declared) (arities : List ℕ) (S S' : State) (agreed : (g : GroundAtom) → g.predicate < length v.predicates → S' g ↔ S g) (front : List ℕ) where
-  pub ground-source : (values : List ℕ) (a : Atom) → ground (front ++ values) (source_atom names source (length front) a) ≡ ground values a
-  ground-source values a = λ i. record { predicate = a.predicate; args = values-moved names source front values a.args i }
-
-  pub typed-source : (ps : List Param) (os : List ℕ) → AreTyped InType' (map (source_param names source) ps) os ↔ AreTyped InType ps os
-  typed-source [] [] = (λ x. x, λ x. x)
-  typed-source [] (o ∷ os) = (λ x. x, λ x. x)
-  typed-source (p ∷ ps) [] = (λ x. x, λ x. x)
-  typed-source (p ∷ ps) (o ∷ os) = let h = typed-source ps os in let g = same_type o p.ty in (λ x. (g.0 x.0, h.0 x.1), λ x. (g.1 x.0, h.1 x.1))
-
   abbrev True : Formula → List ℕ → Type 0
   True = IsTrueIn InType S
 
@@ -43,8 +44,8 @@ module _ (names source : List (List ℕ)) (InType InType' : ℕ → ℕ → Type
   abbrev pub Claim : Formula → Type 0
   Claim f = (scope : List Word) (values : List ℕ) → Sound f scope → True' (put f) (front ++ values) ↔ True f values
 
-  abbrev Claimed : Type 0
-  Claimed = (f : Formula) × Claim f
+  typed : (ps : List Param) (os : List ℕ) → AreTyped InType' (map (source_param names source) ps) os ↔ AreTyped InType ps os
+  typed = typed-source names source InType InType' same_type
 
   each : (fs : List ((f : Formula) × Claim f)) (scope : List Word) (values : List ℕ) → EachIs (λ f. Sound f scope) (map (λ e. e.0) fs) → EachTrue True' (map put (map (λ e. e.0) fs)) (front ++ values) ↔ EachTrue True (map (λ e. e.0) fs) values
   each [] scope values s = (λ x. x, λ x. x)
@@ -63,7 +64,7 @@ module _ (names source : List (List ℕ)) (InType InType' : ℕ → ℕ → Type
   -- a level, where the claim holds of the parts
   level : (y : Formula-F ((f : Formula) × Claim f)) → Layer (map-Formula ((f : Formula) × Claim f) Formula (λ e. e.0) y)
   level (Formula-F.Holds a) scope values s =
-      let e = ground-source values a in let g = agreed (ground values a) s.0 in
+      let e = ground-source names source front values a in let g = agreed (ground values a) s.0 in
       (λ x. g.0 (subst S' e x), λ x. subst S' (sym e) (g.1 x))
   level (Formula-F.Equal s t) scope values d = let e = value-moved names source front values s in let f = value-moved names source front values t in (λ x. sym e ∙ x ∙ f, λ x. e ∙ x ∙ sym f)
   level (Formula-F.Not f) scope values s = let g = f.1 scope values s in (λ x y. x (g.1 y), λ x y. x (g.0 y))
@@ -72,13 +73,13 @@ module _ (names source : List (List ℕ)) (InType InType' : ℕ → ℕ → Type
   level (Formula-F.Imply f h) scope values s = let g = f.1 scope values s.0 in let k = h.1 scope values s.1 in (λ x y. k.0 (x (g.1 y)), λ x y. k.1 (x (g.0 y)))
   level (Formula-F.Forall ps f) scope values s =
       let within = scope ++ map (variable v) ps in (
-        λ x os t. (f.1 within (values ++ os) s.1).0 (subst (True' (put f.0)) (append_assoc front values os) (x os ((typed-source ps os).1 t))),
-        λ x os t. subst (True' (put f.0)) (sym (append_assoc front values os)) ((f.1 within (values ++ os) s.1).1 (x os ((typed-source ps os).0 t))),
+        λ x os t. (f.1 within (values ++ os) s.1).0 (subst (True' (put f.0)) (append_assoc front values os) (x os ((typed ps os).1 t))),
+        λ x os t. subst (True' (put f.0)) (sym (append_assoc front values os)) ((f.1 within (values ++ os) s.1).1 (x os ((typed ps os).0 t))),
       )
   level (Formula-F.Exists ps f) scope values s =
       let within = scope ++ map (variable v) ps in (
-        λ x. (x.0, (typed-source ps x.0).0 x.1, (f.1 within (values ++ x.0) s.1).0 (subst (True' (put f.0)) (append_assoc front values x.0) x.2)),
-        λ x. (x.0, (typed-source ps x.0).1 x.1, subst (True' (put f.0)) (sym (append_assoc front values x.0)) ((f.1 within (values ++ x.0) s.1).1 x.2)),
+        λ x. (x.0, (typed ps x.0).0 x.1, (f.1 within (values ++ x.0) s.1).0 (subst (True' (put f.0)) (append_assoc front values x.0) x.2)),
+        λ x. (x.0, (typed ps x.0).1 x.1, subst (True' (put f.0)) (sym (append_assoc front values x.0)) ((f.1 within (values ++ x.0) s.1).1 x.2)),
       )
 
   pub truth-source : (f : Formula) → Claim f
