@@ -6,7 +6,7 @@ use Rattle.plan_model.specs.declared.terms.GroundAtom.{GroundAtom}
 use Rattle.plan_model.specs.declared.values.Compiled.{Compiled}
 use Rattle.plan_model.specs.declared.values.Pddl.{Pddl}
 use Rattle.plan_meaning.specs.Network.{Work, action, check, task}
-use Rattle.plan_meaning.specs.EncodedNames.{guard_types, free_predicate, before_predicate, guard_predicate}
+use Rattle.plan_meaning.specs.EncodedNames.{free_predicate, before_predicate, guard_predicate, first_slot}
 use Rattle.plan_meaning.specs.EncodedValue.{atom}
 use Rattle.slot_plans.specs.Pieces.{PredicatesDiffer, IsNumbered, slot_object, IsSlot, IsSlotObject}
 use Rattle.slot_plans.specs.Reading.{IsKnown, held, free_atom, before_atom}
@@ -22,7 +22,7 @@ module _ (c : Compiled) (b : ℕ) (style : Style) (p : Pddl) where
 
   pub slot_of : (o : ℕ) → IsSlotObject c b style p o ↔ ((x : ℕ) × IsSlot c b style p x × (o ≡ slot_object c b style p x))
   slot_of o = (
-    λ s. (let l = s.0 in let r = s.1 in (suc (o - Rattle.plan_meaning.specs.EncodedNames.first_slot c), (omega arith, omega arith), omega arith)),
+    λ s. (let l = s.0 in let r = s.1 in (suc (o - first_slot c), (omega arith, omega arith), omega arith)),
     λ h. (let l = h.1.0 in let r = h.1.1 in let e = h.2 in (omega arith, omega arith)),
   )
 

@@ -26,6 +26,8 @@ use Rattle.plan_meaning.specs.Solution.{top_work}
 use Rattle.plan_meaning.specs.Bound.{IsBound}
 use Rattle.plan_meaning.proofs.CompiledNetworks.{plan_of}
 use Rattle.text_plans.specs.Headline.{IsFaithful, LosesNothing}
+use Rattle.plan_meaning.specs.Truth.{values_of}
+use Rattle.task_networks.proofs.Lists.{not-in_empty}
 
 -- what a ground work is an instance of
 abbrev schema : Work → Schema
@@ -46,7 +48,7 @@ module _ (c : Compiled) where
   schema-children : (g : GroundMethod) (cs : List Child) → map schema (map (child_of g) cs) ≡ map (λ (child : Child). schema_of g.number child.head) cs
   schema-children g [] = refl
   schema-children g (child ∷ cs) =
-      let e = schema-work g child.head (Rattle.plan_meaning.specs.Truth.values_of g.values child.args) in
+      let e = schema-work g child.head (values_of g.values child.args) in
       let f = schema-children g cs in
       cc
 
@@ -74,7 +76,7 @@ module _ (h : Hddl) (mode : Checks) (c : Compiled) (compiled : IsCompiled h mode
   blocks m = go (slice_get c.methods m) refl
     where
       go : (o : Option MethodPlan) → slice_get c.methods m ≡ o → (line : List ℕ) × IsLine (IsPairBy o) (length (Schemas.works_by m o)) line × AreBlocks (IsPairBy o) line (bound.block m)
-      go None e = ([], record { whole = λ i l. absurd (let x : i < 0 = l in omega arith); each = λ before rest i f. absurd (no_cut before rest i f) }, λ i j x y. absurd (Rattle.task_networks.proofs.Lists.not-in_empty i x))
+      go None e = ([], record { whole = λ i l. absurd (let x : i < 0 = l in omega arith); each = λ before rest i f. absurd (no_cut before rest i f) }, λ i j x y. absurd (not-in_empty i x))
       go (Some plan) e =
           let (s, k, is) = plan_of h mode (h.top ∷ h.methods) c.methods m plan compiled.methods e in
           let many = length-map plan.schema.children (λ (child : Child). schema_of m child.head) in

@@ -17,13 +17,14 @@ use Rattle.task_networks.specs.Spelling.{numbers}
 use Rattle.task_networks.proofs.Lists.{head_or_tail}
 use Rattle.plan_texts.specs.Types.{EachIs}
 use Rattle.plan_texts.specs.SpellsHddl.{hddl_words}
-use Rattle.plan_texts.specs.Printable.{IsSound}
+use Rattle.plan_texts.specs.Printable.{IsSound, IsSoundEffect}
 use Rattle.plan_texts.specs.SoundValue.{IsSoundHddl, IsSoundMethod, IsSoundHead, IsSoundChild, scope_of, arities}
 use Rattle.plan_texts.proofs.Members.{each-has, contains-has}
 use Rattle.plan_meaning.specs.Compilation.{IsCompiled, IsMethodPlan, children, check_child}
 use Rattle.plan_meaning.proofs.CompiledNetworks.{plan_of}
 use Rattle.slot_plans.proofs.ListPlaces.{get_contains}
 use Rattle.slot_plans.proofs.Facts.{FitsTogether}
+use Rattle.plan_texts.specs.Declared.{named}
 
 each_of : {A : Type 0} (P : A → Type 0) (xs : List A) (x : A) → EachIs P xs → Contains xs x → P x
 each_of P xs x e k = each-has P xs x e (contains-has xs x k)
@@ -77,9 +78,9 @@ module _ (h : Hddl) (mode : Checks) (c : Compiled) (sound : IsSoundHddl h) (comp
     );
     action_eff = λ n s e. (
       scope_of h s.params,
-      subst (λ (z : Hddl). Rattle.plan_texts.specs.Printable.IsSoundEffect (hddl_words z) (arities z) s.eff (scope_of h s.params)) same
-          (each_of (λ (a : ActionSchema). Rattle.plan_texts.specs.Printable.IsSoundEffect (hddl_words h) (arities h) a.eff (scope_of h a.params)) h.actions s sound.eff (get_contains h.actions n s (ap (λ (z : Hddl). slice_get z.actions n) same ∙ e))),
+      subst (λ (z : Hddl). IsSoundEffect (hddl_words z) (arities z) s.eff (scope_of h s.params)) same
+          (each_of (λ (a : ActionSchema). IsSoundEffect (hddl_words h) (arities h) a.eff (scope_of h a.params)) h.actions s sound.eff (get_contains h.actions n s (ap (λ (z : Hddl). slice_get z.actions n) same ∙ e))),
     );
     goal = ([], subst (λ (z : Hddl). IsSound (hddl_words z) (arities z) z.goal []) same sound.goal);
-    init = λ g k. (let x = (each_of _ h.init g sound.init (subst (λ (z : Hddl). Contains z.init g) (sym same) k)).0 in let l = length-map h.predicates (λ (d : Predicate). Rattle.plan_texts.specs.Declared.named h.names d.name) in let f = ap (λ (z : Hddl). length z.predicates) same in omega arith);
+    init = λ g k. (let x = (each_of _ h.init g sound.init (subst (λ (z : Hddl). Contains z.init g) (sym same) k)).0 in let l = length-map h.predicates (λ (d : Predicate). named h.names d.name) in let f = ap (λ (z : Hddl). length z.predicates) same in omega arith);
   }

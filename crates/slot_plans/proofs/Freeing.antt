@@ -23,6 +23,7 @@ use Rattle.slot_plans.specs.Reading.{IsKnown, held, free_atom, before_atom, Read
 use Rattle.slot_plans.proofs.Sums.{each-append, one-append}
 use Rattle.slot_plans.proofs.Atoms.{slot_of}
 use Rattle.slot_plans.proofs.Freed.{Changed, freed, freed_reads, reads_alike}
+use Rattle.plan_meaning.specs.OrderFormulas.{clear_parts}
 
 module _ (c : Compiled) (b : ℕ) (style : Style) (p : Pddl) where
   abbrev pub InT : ℕ → ℕ → Type 0
@@ -75,7 +76,7 @@ module _ (c : Compiled) (b : ℕ) (style : Style) (p : Pddl) where
     freeing_adds a change g = (λ k. to (subst (λ z. z vs g) e k), λ k. subst (λ z. z vs g) (sym e) (from k))
       where
         clear : List Effect
-        clear = Rattle.plan_meaning.specs.OrderFormulas.clear_parts (order_numbers c p.names b) b (length vs) style (Var 0)
+        clear = clear_parts (order_numbers c p.names b) b (length vs) style (Var 0)
 
         e : Adds InT S (E.And (freeing c p.names b style a (length vs) ++ change)) ≡ (λ v g. OneTrue (A g) (freeing c p.names b style a (length vs) ++ change) v)
         e = adds-And InT S (freeing c p.names b style a (length vs) ++ change)
@@ -94,7 +95,7 @@ module _ (c : Compiled) (b : ℕ) (style : Style) (p : Pddl) where
     freeing_deletes a change g = (λ k. to (subst (λ z. z vs g) e k), λ k. subst (λ z. z vs g) (sym e) (from k))
       where
         clear : List Effect
-        clear = Rattle.plan_meaning.specs.OrderFormulas.clear_parts (order_numbers c p.names b) b (length vs) style (Var 0)
+        clear = clear_parts (order_numbers c p.names b) b (length vs) style (Var 0)
 
         e : Deletes InT S (E.And (freeing c p.names b style a (length vs) ++ change)) ≡ (λ v g. OneTrue (D g) (freeing c p.names b style a (length vs) ++ change) v)
         e = deletes-And InT S (freeing c p.names b style a (length vs) ++ change)

@@ -1,5 +1,5 @@
 -- The acts of a run name slots and what the problem declares, so each is that of a printed action.
-use Rattle.std.proofs.Common.{ℕ, suc, ◌≡◌, ◌⊎◌, ◌-◌, ◌<◌, ◌≤◌, inl, inr, List, [], ◌∷◌, length, slice_get, Option, Some, None, refl, ap, sym, subst, ◌∙◌, Contains, arith}
+use Rattle.std.proofs.Common.{ℕ, ◌≡◌, ◌-◌, ◌≤◌, inl, inr, List, [], ◌∷◌, length, slice_get, Option, Some, None, refl, ap, sym, subst, ◌∙◌, arith, map, ◌++◌}
 use Rattle.plan_model.specs.declared.options.Style.{Style}
 use Rattle.plan_model.specs.declared.schemas.ActionSchema.{ActionSchema}
 use Rattle.plan_model.specs.declared.values.Compiled.{Compiled}
@@ -82,7 +82,7 @@ module _ (c : Compiled) (b : ℕ) (style : Style) (p : Pddl) (means : PiecesMean
   act_is t (run h (task n args)) s may = absurd may.simple
   act_is t (apply h new g) s may = (
     encoded_method c p.names b style g.number ground.plan,
-    slot_object c b style p h ∷ Rattle.std.proofs.Common.◌++◌ (Rattle.std.proofs.Common.map (slot_object c b style p) new) g.values,
+    slot_object c b style p h ∷ (map (slot_object c b style p) new ++ g.values),
     record {
       plan = ground.plan;
       is = ground.is;

@@ -23,11 +23,11 @@ use Rattle.slot_plans.proofs.ListPlaces.{get_map_cases, get_contains}
 pub others_long : (N : Net) → IsLawful N → (m : N.Method) → length (others N m) ≡ count N m - 1
 others_long N law m = go (N.heir m) refl
   where
-    none : (o : Option ℕ) → count N m ≡ 0 → length (rest_of o (count N m)) ≡ count N m - 1
-    none o e = ap (λ n. length (rest_of o n)) e ∙ (let z : 0 ≡ count N m - 1 = omega arith in z)
+    without : count N m ≡ 0 → length (rest_of None (count N m)) ≡ count N m - 1
+    without e = ap (λ n. length (rest_of None n)) e ∙ (let z : 0 ≡ count N m - 1 = omega arith in z)
 
     go : (o : Option ℕ) → N.heir m ≡ o → length (rest_of o (count N m)) ≡ count N m - 1
-    go None e = elim (ℕ_discrete (count N m) 0) [ yes z ↦ none None z | no z ↦ absurd (let x = (law.has_heir m (omega arith)).1 in cc) ]
+    go None e = elim (ℕ_discrete (count N m) 0) [ yes z ↦ without z | no z ↦ absurd (let x = (law.has_heir m (omega arith)).1 in cc) ]
     go (Some k) e = let l = length-rest k (count N m) (law.heir_is_child m k e) in omega arith
 
 module _ (c : Compiled) (fits : FitsTogether c) (g : GroundMethod) (plan : MethodPlan) (is : slice_get c.methods g.number ≡ Some plan) where

@@ -20,7 +20,7 @@ use Rattle.slot_machine.specs.Machine as Machine
 use Rattle.plan_meaning.specs.Truth.{State, ground, value_of, values_of, AreTyped, EachTrue, IsTrueIn}
 use Rattle.plan_meaning.specs.Network.{task, GroundMethod, network, InTypeOf, Meets}
 use Rattle.plan_meaning.specs.SourceParts.{moved}
-use Rattle.plan_meaning.specs.EncodedNames.{guard_types, free_predicate, guard_predicate}
+use Rattle.plan_meaning.specs.EncodedNames.{free_predicate, guard_predicate, task_predicate}
 use Rattle.plan_meaning.specs.EncodedValue.{atom}
 use Rattle.plan_meaning.specs.EncodedActions.{is_free, waiting, spare, front, depth, differ, test, held_task, constraints, guards, tested, source_condition, encoded_method}
 use Rattle.plan_meaning.proofs.TruthEquations.{truth-Holds, truth-Not, truth-Equal}
@@ -80,7 +80,7 @@ module _ (c : Compiled) (b : ℕ) (style : Style) (p : Pddl) (h : ℕ) (new : Li
   new_values = ap (λ z. map (slice_index objects) (numbers 1 z)) (sym (length-map new (slot_object c b style p) ∙ long)) ∙ map-numbers (slot_object c b style p h ∷ []) (map (slot_object c b style p) new) g.values
 
   pub held_ground : ground objects (held_task c p.names b style g.number plan) ≡ held c b style p h (task plan.schema.task (values_of g.values plan.schema.task_args))
-  held_ground = λ i. record { predicate = Rattle.plan_meaning.specs.EncodedNames.task_predicate c plan.schema.task; args = slot_object c b style p h ∷ term_values plan.schema.task_args i }
+  held_ground = λ i. record { predicate = task_predicate c plan.schema.task; args = slot_object c b style p h ∷ term_values plan.schema.task_args i }
 
   module _ (means : PiecesMean c b style p) (S : State) (t : Machine.State (network c)) (T : State) (r : Reads c b style p S t T) (is : slice_get c.methods g.number ≡ Some plan) (slots : (x : ℕ) → Contains new x → IsSlot c b style p x) where
     abbrev True : Formula → List ℕ → Type 0

@@ -21,7 +21,7 @@ use Rattle.task_networks.proofs.Numbers.{length-numbers}
 use Rattle.slot_machine.specs.Machine.{insert_at, with_heir, IsSlotOf}
 use Rattle.slot_machine.proofs.Inserts.{length-insert_at}
 use Rattle.plan_meaning.specs.Truth.{State, ground, value_of, values_of, AreTyped, OneTrue, Adds, Deletes}
-use Rattle.plan_meaning.specs.Network.{Work, GroundMethod, network, InTypeOf, child_of, work_of, head_by, works_by, heir_by, IsPairBy, IsCopierBy}
+use Rattle.plan_meaning.specs.Network.{Work, GroundMethod, network, InTypeOf, child_of, work_of, head_by, works_by, heir_by, IsPairBy, IsCopierBy, task}
 use Rattle.plan_meaning.specs.EncodedNames.{free_predicate, before_predicate, task_predicate, action_predicate, check_predicate, order_numbers}
 use Rattle.plan_meaning.specs.EncodedValue.{atom}
 use Rattle.plan_meaning.specs.OrderFormulas.{pair_of, copy_parts}
@@ -29,7 +29,7 @@ use Rattle.plan_meaning.specs.EncodedActions.{is_free, spare, front, depth, slot
 use Rattle.plan_meaning.proofs.EffectEquations.{adds-Add, adds-Delete, deletes-Add, deletes-Delete}
 use Rattle.slot_plans.specs.Pieces.{slot_object, IsSlot, IsSlotObject}
 use Rattle.slot_plans.specs.Reading.{held, free_atom, before_atom, pair}
-use Rattle.slot_plans.proofs.Sums.{one-append, one_map, some_mapped, map-numbers, values-moved, index-map, get_index}
+use Rattle.slot_plans.proofs.Sums.{one-append, one_map, some_mapped, index-map, get_index, own_vars}
 use Rattle.slot_plans.proofs.ListPlaces.{get_map_cases, get_to_map, get_contains}
 use Rattle.slot_plans.proofs.Atoms.{slot_of}
 use Rattle.slot_plans.proofs.SlotVariables.{vars_insert, map-insert_at}
@@ -37,6 +37,8 @@ use Rattle.slot_plans.proofs.Splitting.{frees, kids, links, copies_of}
 use Rattle.slot_plans.proofs.Facts.{PiecesMean}
 use Rattle.slot_plans.proofs.Freeing.{InT}
 use Rattle.slot_plans.proofs.MethodConditions.{objects, depth_long, term_values, new_values, held_ground}
+use Rattle.plan_meaning.specs.SourceParts.{moved}
+use Rattle.slot_plans.proofs.Running.{typed_long}
 
 insert_small : (k w : ℕ) (hs : List ℕ) → 0 < w → ((j : ℕ) → slice_index hs j < w) → (j : ℕ) → slice_index (insert_at k 0 hs) j < w
 insert_small zero w hs l f zero = l
@@ -72,7 +74,7 @@ module _ (c : Compiled) (b : ℕ) (style : Style) (p : Pddl) (h : ℕ) (new : Li
   pub e_count : count N g ≡ length plan.schema.children
   e_count = ap length e_works ∙ length-map plan.schema.children (child_of g)
 
-  pub e_head : N.head g ≡ Rattle.plan_meaning.specs.Network.task plan.schema.task (values_of g.values plan.schema.task_args)
+  pub e_head : N.head g ≡ task plan.schema.task (values_of g.values plan.schema.task_args)
   e_head = ap (head_by g) is
 
   pub head_ground : ground xs (held_task c p.names b style g.number plan) ≡ held c b style p h (N.head g)
@@ -82,18 +84,18 @@ module _ (c : Compiled) (b : ℕ) (style : Style) (p : Pddl) (h : ℕ) (new : Li
   child_ground : (child : Child) (v x : ℕ) → Contains plan.schema.children child → slice_index xs v ≡ slot_object c b style p x → ground xs (child_atom c p.names b style g.number plan v child) ≡ held c b style p x (child_of g child)
   child_ground child v x k e = by_head child.head refl
     where
-      ts : map (value_of xs) (map (Rattle.plan_meaning.specs.SourceParts.moved p.names c.hddl.names (front c p.names b style g.number plan)) child.args) ≡ values_of g.values child.args
+      ts : map (value_of xs) (map (moved p.names c.hddl.names (front c p.names b style g.number plan)) child.args) ≡ values_of g.values child.args
       ts = term_values c b style p h new g plan long typed child.args
 
       own : child.head ≡ Check → values_of g.values child.args ≡ g.values
       own f = ap (values_of g.values) (means.fits.check_args g.number plan child is k f)
-          ∙ ap (λ n. values_of g.values (map Var (numbers 0 n))) (sym (Rattle.slot_plans.proofs.Running.typed_long (InTypeOf c) plan.schema.params g.values typed))
-          ∙ Rattle.slot_plans.proofs.Sums.own_vars g.values
+          ∙ ap (λ n. values_of g.values (map Var (numbers 0 n))) (sym (typed_long (InTypeOf c) plan.schema.params g.values typed))
+          ∙ own_vars g.values
 
       by_head : (hd : Head) → child.head ≡ hd → ground xs (child_atom c p.names b style g.number plan v (record child { head = hd })) ≡ held c b style p x (work_of g hd (values_of g.values child.args))
       by_head (Task t) f = λ i. record { predicate = task_predicate c t; args = e i ∷ ts i }
       by_head (Action a) f = λ i. record { predicate = action_predicate c a; args = e i ∷ ts i }
-      by_head Check f = let q : map (value_of xs) (map (Rattle.plan_meaning.specs.SourceParts.moved p.names c.hddl.names (front c p.names b style g.number plan)) child.args) ≡ g.values = ts ∙ own f in
+      by_head Check f = let q : map (value_of xs) (map (moved p.names c.hddl.names (front c p.names b style g.number plan)) child.args) ≡ g.values = ts ∙ own f in
           λ i. record { predicate = check_predicate c g.number; args = e i ∷ q i }
 
   module _ (hd : ℕ) (heir : N.heir g ≡ Some hd) where

@@ -33,13 +33,14 @@ use Rattle.slot_plans.proofs.MethodConditions.{objects, depth_long, method_true}
 use Rattle.slot_plans.proofs.MethodEffects.{e_count, e_head, head_ground, frees_add, frees_delete, kids_add, atoms_delete, links_add, links_delete, copies_add, copies_delete}
 use Rattle.slot_plans.proofs.MethodChildren.{others_long, count_is, known_head, known_children}
 use Rattle.slot_plans.proofs.Running.{IsTaken}
+use Rattle.task_networks.proofs.Lists.{Contains-here, Contains-later, head_or_tail, not-in_empty}
 
 pub each_contains : {A : Type 0} (P : A → Type 0) (xs : List A) → EachIs P xs ↔ ((x : A) → Contains xs x → P x)
-each_contains P [] = (λ e x k. absurd (Rattle.task_networks.proofs.Lists.not-in_empty x k), λ f. tt)
+each_contains P [] = (λ e x k. absurd (not-in_empty x k), λ f. tt)
 each_contains P (y ∷ xs) =
     let r = each_contains P xs in (
-      λ e x k. elim (Rattle.task_networks.proofs.Lists.head_or_tail y xs x k) [ inl f ↦ subst P f e.0 | inr d ↦ r.0 e.1 x d ],
-      λ f. (f y (Rattle.task_networks.proofs.Lists.Contains-here y xs), r.1 (λ x k. f x (Rattle.task_networks.proofs.Lists.Contains-later y xs x k))),
+      λ e x k. elim (head_or_tail y xs x k) [ inl f ↦ subst P f e.0 | inr d ↦ r.0 e.1 x d ],
+      λ f. (f y (Contains-here y xs), r.1 (λ x k. f x (Contains-later y xs x k))),
     )
 
 module _ (c : Compiled) (b : ℕ) (style : Style) (p : Pddl) (means : PiecesMean c b style p) (S : State) (t : Machine.State (network c)) (T : State) (r : Reads c b style p S t T)

@@ -6,11 +6,11 @@ use Rattle.plan_model.specs.declared.values.Compiled.{Compiled}
 use Rattle.plan_model.specs.declared.values.Pddl.{Pddl}
 use Rattle.task_networks.specs.Net.{Net}
 use Rattle.task_networks.specs.Tree.{Tree, Address}
-use Rattle.task_networks.specs.Spelling.{Act, Spells}
+use Rattle.task_networks.specs.Spelling.{Act, Spells, label_of}
 use Rattle.task_networks.specs.Executable as Executions
 use Rattle.slot_machine.specs.Machine as Machine
 use Rattle.slot_machine.specs.Machine.{start}
-use Rattle.slot_machine.specs.Laws.{IsPlan}
+use Rattle.slot_machine.specs.Laws.{IsPlan, IsExecutableRun}
 use Rattle.slot_machine.proofs.Executions.{runs_are_executable_fronts, plans_are_spelled_solutions}
 use Rattle.plan_meaning.specs.Truth.{State, EachTrue, IsTrueIn}
 use Rattle.plan_meaning.specs.ClassicalPlan as Printed
@@ -28,6 +28,7 @@ use Rattle.slot_plans.proofs.Facts.{PiecesMean}
 use Rattle.slot_plans.proofs.Freeing.{InT}
 use Rattle.slot_plans.proofs.Runs.{leads_iff, reached_first}
 use Rattle.slot_plans.proofs.Starts.{start_reads}
+use Rattle.plan_meaning.specs.EncodedValue.{atom}
 
 module _ (c : Compiled) (b : ℕ) (style : Style) (p : Pddl) (means : PiecesMean c b style p) (positive : 1 ≤ b) where
   abbrev N : Net
@@ -60,7 +61,7 @@ module _ (c : Compiled) (b : ℕ) (style : Style) (p : Pddl) (means : PiecesMean
       free =
           let q = (means.order S []).free (free_predicate c) in (
             λ k x l u. (r.free x).1 ((l, u), q.0 k (slot_object c b style p x) ((slot_of c b style p (slot_object c b style p x)).1 (x, (l, u), refl))),
-            λ k. q.1 (λ o s. (let (x, (l, u), f) = (slot_of c b style p o).0 s in subst (λ z. S (Rattle.plan_meaning.specs.EncodedValue.atom (free_predicate c) z)) (sym f) ((r.free x).0 (k x l u)).1)),
+            λ k. q.1 (λ o s. (let (x, (l, u), f) = (slot_of c b style p o).0 s in subst (λ z. S (atom (free_predicate c) z)) (sym f) ((r.free x).0 (k x l u)).1)),
           )
 
       to : IsTrueIn (InT c b style p) S p.goal [] → AllFree t × IsGoal c T
@@ -82,10 +83,10 @@ module _ (c : Compiled) (b : ℕ) (style : Style) (p : Pddl) (means : PiecesMean
     λ k. (let (tree, order, slot, s, e) = k in let x = fronts.1 (tree, order, slot, s, e.executable) in leads.1 (x.0, x.1, tt)),
   )
     where
-      leads : LeadsBy c b style p (λ S. Unit {0}) (Contains p.init) acts ↔ (Machine.Runs N (start N b (top_work c)) acts × Executions.AreAllowed N State (Allows c) (next c) (initial c) (map (Rattle.task_networks.specs.Spelling.label_of N) acts) × Unit {0})
+      leads : LeadsBy c b style p (λ S. Unit {0}) (Contains p.init) acts ↔ (Machine.Runs N (start N b (top_work c)) acts × Executions.AreAllowed N State (Allows c) (next c) (initial c) (map (label_of N) acts) × Unit {0})
       leads = leads_iff c b style p means positive (λ S. Unit {0}) (λ t T. Unit {0}) (λ S t T r. (λ k. k, λ k. k)) acts (Contains p.init) (start N b (top_work c)) (initial c) (start_reads c b style p means positive) (reached_first c b style p means positive)
 
-      fronts : Rattle.slot_machine.specs.Laws.IsExecutableRun N State (Allows c) (next c) (initial c) (IsGoal c) b (top_work c) acts ↔ ((tree : Tree N) × (order : List Address) × (slot : Address → ℕ) × Spells N b (top_work c) acts tree order slot × Executions.IsExecutable N State (Allows c) (next c) (initial c) tree order)
+      fronts : IsExecutableRun N State (Allows c) (next c) (initial c) (IsGoal c) b (top_work c) acts ↔ ((tree : Tree N) × (order : List Address) × (slot : Address → ℕ) × Spells N b (top_work c) acts tree order slot × Executions.IsExecutable N State (Allows c) (next c) (initial c) tree order)
       fronts = runs_are_executable_fronts N means.lawful State (Allows c) (next c) (initial c) (IsGoal c) b (top_work c) acts positive
 
   pub acts_plans : (acts : List (Act N)) → LeadsBy c b style p (λ S. IsTrueIn (Printed.InTypeOf p) S p.goal []) (Contains p.init) acts ↔ SpellSolution acts
@@ -95,8 +96,8 @@ module _ (c : Compiled) (b : ℕ) (style : Style) (p : Pddl) (means : PiecesMean
   )
     where
       leads : LeadsBy c b style p (λ S. IsTrueIn (Printed.InTypeOf p) S p.goal []) (Contains p.init) acts
-          ↔ (Machine.Runs N (start N b (top_work c)) acts × Executions.AreAllowed N State (Allows c) (next c) (initial c) (map (Rattle.task_networks.specs.Spelling.label_of N) acts)
-          × (AllFree (Machine.end_of N (start N b (top_work c)) acts) × IsGoal c (Executions.last_state N State (Allows c) (next c) (initial c) (map (Rattle.task_networks.specs.Spelling.label_of N) acts))))
+          ↔ (Machine.Runs N (start N b (top_work c)) acts × Executions.AreAllowed N State (Allows c) (next c) (initial c) (map (label_of N) acts)
+          × (AllFree (Machine.end_of N (start N b (top_work c)) acts) × IsGoal c (Executions.last_state N State (Allows c) (next c) (initial c) (map (label_of N) acts))))
       leads = leads_iff c b style p means positive (λ S. IsTrueIn (Printed.InTypeOf p) S p.goal []) (λ t T. AllFree t × IsGoal c T) goal_true acts (Contains p.init) (start N b (top_work c)) (initial c) (start_reads c b style p means positive) (reached_first c b style p means positive)
 
       plans : IsPlan N State (Allows c) (next c) (initial c) (IsGoal c) b (top_work c) acts ↔ SpellSolution acts

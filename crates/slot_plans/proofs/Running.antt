@@ -25,8 +25,9 @@ use Rattle.slot_plans.specs.Pieces.{SourceMeaning, slot_object, IsSlot, IsAction
 use Rattle.slot_plans.specs.Reading.{IsKnown, held, Reads, Applies}
 use Rattle.slot_plans.proofs.Sums.{own_vars}
 use Rattle.slot_plans.proofs.Facts.{PiecesMean}
-use Rattle.slot_plans.proofs.Freed.{Changed}
+use Rattle.slot_plans.proofs.Freed.{Changed, reads_alike}
 use Rattle.slot_plans.proofs.Freeing.{InT, WaitsForNone, unblocked_iff, front_true, freeing_reads}
+use Rattle.std.specs.Prelude.{IsTrue}
 
 pub typed_long : (InType : ℕ → ℕ → Type 0) (ps : List Param) (os : List ℕ) → AreTyped InType ps os → length os ≡ length ps
 typed_long InType [] [] t = refl
@@ -133,7 +134,7 @@ module _ (c : Compiled) (b : ℕ) (style : Style) (p : Pddl) (m : PiecesMean c b
     abbrev says : SourceMeaning c b style p T S (slot_object c b style p h ∷ [])
     says = m.source T S (slot_object c b style p h ∷ []) r.source
 
-    module _ (plan : MethodPlan) (is : slice_get c.methods n ≡ Some plan) (checked : Rattle.std.specs.Prelude.IsTrue plan.checked) (slot : IsSlot c b style p h) (typed : AreTyped (InTypeOf c) plan.schema.params args) where
+    module _ (plan : MethodPlan) (is : slice_get c.methods n ≡ Some plan) (checked : IsTrue plan.checked) (slot : IsSlot c b style p h) (typed : AreTyped (InTypeOf c) plan.schema.params args) where
       known_check : IsKnown c v
       known_check = (plan, is, checked, typed)
 
@@ -148,7 +149,7 @@ module _ (c : Compiled) (b : ℕ) (style : Style) (p : Pddl) (m : PiecesMean c b
           let x = check_true.0 tr in record {
             may = record { holds = (r.holds h v).1 (known_check, slot, x.0); simple = tt; unblocked = (unblocked_iff c b style p S t T h r slot).1 x.1 };
             allows = subst (λ o. AllowsCheck c T o args) (sym is) ((says.condition plan.schema.pre args (m.fits.method_pre n plan is)).0 x.2);
-            reads = Rattle.slot_plans.proofs.Freed.reads_alike c b style p (after (InT c b style p) S (encoded_check c p.names b style n plan).eff ys) (after (InT c b style p) S (encoded_check c p.names b style n plan).eff ys)
+            reads = reads_alike c b style p (after (InT c b style p) S (encoded_check c p.names b style n plan).eff ys) (after (InT c b style p) S (encoded_check c p.names b style n plan).eff ys)
                 (Machine.after N t (run h v)) (Machine.after N t (run h v)) (Changed T (λ g. ⊥) (λ g. ⊥)) T
                 (λ g. (λ z. z, λ z. z))
                 (record { holds = λ x u. (λ z. z, λ z. z); free = λ x. (λ z. z, λ z. z); before = λ x y. (λ z. z, λ z. z) })

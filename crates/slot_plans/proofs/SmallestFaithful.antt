@@ -1,5 +1,5 @@
 -- The smallest problem, m: t -> a with t on top, in one slot: what the laws ask is true of it, and its two texts, byte for byte, are faithful to it.
-use Rattle.std.proofs.Common.{ℕ, ◌≡◌, ◌<◌, ◌⊎◌, inl, inr, Bool, true, cond, List, [], ◌∷◌, ◌++◌, codes, refl, ap, sym, subst, ◌∙◌, Contains, arith}
+use Rattle.std.proofs.Common.{ℕ, ◌≡◌, ◌<◌, inl, inr, Bool, true, cond, List, [], ◌∷◌, ◌++◌, refl, ap, sym, subst, ◌∙◌, Contains, arith, length}
 use Rattle.plan_model.specs.declared.options.Checks.{Checks}
 use Rattle.plan_model.specs.declared.options.Checks.TheVariants.{Leaf}
 use Rattle.plan_model.specs.declared.options.Style.TheVariants.{Adl}
@@ -127,7 +127,7 @@ sound = record {
   goal = sound_always [];
 }
 
-no_pairs : (s : MethodSchema) → s.pairs ≡ [] → ArePairsOf (Pairs s.pairs) (Rattle.std.proofs.Common.length s.children) × IsAcyclic (Pairs s.pairs)
+no_pairs : (s : MethodSchema) → s.pairs ≡ [] → ArePairsOf (Pairs s.pairs) (length s.children) × IsAcyclic (Pairs s.pairs)
 no_pairs s e = (λ i j k. absurd (none i j k), λ i k. last i k)
   where
     none : (i j : ℕ) → Pairs s.pairs i j → ⊥

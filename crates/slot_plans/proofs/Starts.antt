@@ -1,5 +1,5 @@
 -- How the first state of the printed problem reads.
-use Rattle.std.proofs.Common.{ℕ, suc, ◌≡◌, ◌≢◌, ◌↔◌, ◌⊎◌, ◌+◌, ◌-◌, ◌<◌, ◌≤◌, ◌==◌, ◌&&◌, inl, inr, true, false, cond, List, [], ◌∷◌, ◌++◌, map, length, slice_get, Some, refl, ap, sym, subst, ◌∙◌, Contains, arith, eq-eqb}
+use Rattle.std.proofs.Common.{ℕ, ◌≡◌, ◌≢◌, ◌↔◌, ◌⊎◌, ◌+◌, ◌-◌, ◌<◌, ◌≤◌, ◌==◌, ◌&&◌, inl, inr, true, false, cond, List, [], ◌∷◌, ◌++◌, map, length, refl, ap, sym, subst, ◌∙◌, Contains, arith, eq-eqb, Bool}
 use Rattle.std.specs.Str.{bytes_eq}
 use Rattle.std.proofs.lemmas.Bool.Decides.{eqb_tells}
 use Rattle.std.proofs.lemmas.List.Elements.{Contains-append_left, Contains-append_right, Contains-append_cases}
@@ -26,7 +26,7 @@ use Rattle.slot_plans.proofs.Atoms.{held_free, same_held, source_held, source_fr
 tells_atom : (g k : GroundAtom) → (same_atom g k ≡ false) ⊎ (g ≡ k)
 tells_atom g k = go (eqb_tells g.predicate k.predicate) (bytes_eq g.args k.args) refl
   where
-    go : (((g.predicate == k.predicate) ≡ true) × (g.predicate ≡ k.predicate)) ⊎ (((g.predicate == k.predicate) ≡ false) × (g.predicate ≢ k.predicate)) → (q : Rattle.std.proofs.Common.Bool) → bytes_eq g.args k.args ≡ q → (same_atom g k ≡ false) ⊎ (g ≡ k)
+    go : (((g.predicate == k.predicate) ≡ true) × (g.predicate ≡ k.predicate)) ⊎ (((g.predicate == k.predicate) ≡ false) × (g.predicate ≢ k.predicate)) → (q : Bool) → bytes_eq g.args k.args ≡ q → (same_atom g k ≡ false) ⊎ (g ≡ k)
     go (inr a) q e = inl (ap (λ x. x && bytes_eq g.args k.args) a.0)
     go (inl a) true e = let f = bytes_eq-true g.args k.args e in inr (λ i. record { predicate = a.1 i; args = f i })
     go (inl a) false e = inl (ap (λ x. x && bytes_eq g.args k.args) a.0 ∙ e)
