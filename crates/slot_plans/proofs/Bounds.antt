@@ -90,10 +90,6 @@ module _ (h : Hddl) (mode : Checks) (c : Compiled) (compiled : IsCompiled h mode
       (bound_holds (network c) (λ (g : GroundMethod). bound.block g.number) (λ w. bound.number (schema w)) (top_work c)
       (lifted_bound_is_bound (network c) (schemas c) schema (λ (g : GroundMethod). g.number) (lifted c) (top_work c) bound.block bound.number schema_bound) tree order front)
 
-  -- the bound is at least 1
-  pub bound_positive : 1 ≤ n
-  bound_positive = subst (λ z. 1 ≤ z) bound.is (bound.numbers.positive (Schemas.task (top_task c)) itself)
-
   pub loses_nothing : (b : ℕ) (domain problem : List ℕ) → n ≤ b → IsFaithful c b domain problem → LosesNothing c b domain problem
   loses_nothing b domain problem l f tree order solution =
       let front = solution.finished.front in

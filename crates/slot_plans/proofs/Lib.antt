@@ -18,10 +18,12 @@ pub mod ActionPlaces
 pub mod ActionWords
 pub mod StepWords
 pub mod FirstSlot
+-- How a printed state reads, and the two changes of it: a slot is freed, a task is split.
 pub mod Sums
 pub mod Atoms
 pub mod Freed
 pub mod Split
+-- Each printed action is a step of the machine and of the source.
 pub mod Facts
 pub mod Freeing
 pub mod Running
@@ -31,11 +33,13 @@ pub mod MethodConditions
 pub mod MethodEffects
 pub mod MethodChildren
 pub mod Methods
+-- Runs, plans and the words of their steps.
 pub mod Starts
 pub mod Runs
 pub mod Plans
 pub mod KnownActs
 pub mod Words
+-- All put together for a sound problem; the bound; a worked row.
 pub mod Fits
 pub mod PrintedMeans
 pub mod Bounds

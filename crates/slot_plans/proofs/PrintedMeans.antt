@@ -1,5 +1,5 @@
 -- The pieces of a printed problem mean what they should, and its texts are faithful where its value is.
-use Rattle.std.proofs.Common.{ℕ, ◌≤◌}
+use Rattle.std.proofs.Common.{ℕ}
 use Rattle.plan_model.specs.declared.options.Style.{Style}
 use Rattle.plan_model.specs.declared.options.Checks.{Checks}
 use Rattle.plan_model.specs.declared.values.Hddl.{Hddl}
@@ -25,6 +25,7 @@ use Rattle.slot_plans.proofs.SourceMeanings.{source_agrees}
 use Rattle.slot_plans.proofs.Predicates.{predicates_differ}
 use Rattle.slot_plans.proofs.Guards.{guards_agree}
 use Rattle.slot_plans.proofs.GuardAtoms.{guard_atoms_agree}
+use Rattle.slot_plans.proofs.FirstSlot.{some_slot}
 use Rattle.slot_plans.proofs.StepWords.{steps_are_acts}
 use Rattle.slot_plans.proofs.Words.{faithful_value}
 
@@ -41,8 +42,8 @@ module _ (h : Hddl) (mode : Checks) (c : Compiled) (b : ℕ) (style : Style) (p 
     guard_atoms = guard_atoms_agree h mode c b style p is;
   }
 
-  pub printed_faithful : 1 ≤ b → IsFaithfulValue c b p
-  printed_faithful positive = faithful_value c b style p pieces_mean (steps_are_acts h mode c b style p is) positive
+  pub printed_faithful : IsFaithfulValue c b p
+  printed_faithful = faithful_value c b style p pieces_mean (steps_are_acts h mode c b style p is) (some_slot h mode c b style p is)
 
 pub faithful_texts : (c : Compiled) (b : ℕ) (p : Pddl) → IsPrintable p → IsFaithfulValue c b p → IsFaithful c b (domain_text p) (problem_text p)
 faithful_texts c b p printable f = record {

@@ -149,7 +149,7 @@ smallest_is_printed mode = record { sound = sound; compiled = compiled mode; pri
 pub smallest_is_faithful : (mode : Checks) → IsFaithful smallest 1 domain_bytes problem_bytes
 smallest_is_faithful mode =
     subst (λ z. IsFaithful smallest 1 z problem_bytes) domain_row (subst (IsFaithful smallest 1 _) problem_row
-    (faithful_texts smallest 1 printed smallest_printable (printed_faithful smallest_hddl mode smallest 1 Adl printed ordered (smallest_is_printed mode) (omega arith))))
+    (faithful_texts smallest 1 printed smallest_printable (printed_faithful smallest_hddl mode smallest 1 Adl printed ordered (smallest_is_printed mode))))
 
 -- its plan of three steps, of the two texts, is a schedule of a solution tree
 pub smallest_plan_spells : SpellsSolution smallest 1 steps

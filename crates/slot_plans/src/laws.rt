@@ -1,9 +1,8 @@
 //! The laws of printed plans, each the contract of a function that does nothing.
 //!
 //! `value` is the printed problem of `compiled`, which is compiled of the sound problem `problem`; the networks have no cycle.
-//! `slots` is the number of slots, from 1.
+//! `slots` is the number of slots; a printable problem has one at least.
 
-ghost use Rattle.std.specs.Prelude.{◌≤◌};
 ghost use Rattle.plan_texts.specs.PrintedTexts.{domain_text, problem_text};
 ghost use Rattle.plan_meaning.specs.Laws.{AreOrdered};
 ghost use Rattle.text_plans.specs.Headline.{IsFaithful};
@@ -23,7 +22,6 @@ pub fn executables_spell_fronts(
 )
     requires ordered { AreOrdered problem.now }
     requires printed { IsPrinted problem.now checks.now compiled.now slots style.now value.now }
-    requires positive { 1 ≤ slots }
     ensures { ExecutablesSpellFronts compiled.now slots value.now }
 {}
 
@@ -38,7 +36,6 @@ pub fn plans_spell_solutions(
 )
     requires ordered { AreOrdered problem.now }
     requires printed { IsPrinted problem.now checks.now compiled.now slots style.now value.now }
-    requires positive { 1 ≤ slots }
     ensures { PlansSpellSolutions compiled.now slots value.now }
 {}
 
@@ -53,7 +50,6 @@ pub fn spellings_fit_slots(
 )
     requires ordered { AreOrdered problem.now }
     requires printed { IsPrinted problem.now checks.now compiled.now slots style.now value.now }
-    requires positive { 1 ≤ slots }
     ensures only_one { EachSpellsOne compiled.now slots }
     ensures within { SpellingsAreWithin compiled.now slots }
     ensures spelled { FrontsWithinAreSpelled compiled.now slots }
@@ -70,7 +66,6 @@ pub fn value_is_faithful(
 )
     requires ordered { AreOrdered problem.now }
     requires printed { IsPrinted problem.now checks.now compiled.now slots style.now value.now }
-    requires positive { 1 ≤ slots }
     ensures { IsFaithfulValue compiled.now slots value.now }
 {}
 
@@ -85,7 +80,6 @@ pub fn texts_are_faithful(
 )
     requires ordered { AreOrdered problem.now }
     requires printed { IsPrinted problem.now checks.now compiled.now slots style.now value.now }
-    requires positive { 1 ≤ slots }
     ensures { IsFaithful compiled.now slots (domain_text value.now) (problem_text value.now) }
 {}
 
