@@ -1,1 +1,47 @@
+-- Types: chains of parents, and the objects of a type.
+pub mod TypeChains
+pub mod ListPlaces
+pub mod ObjectPlaces
+pub mod PrintedTypes
+pub mod SoundTypes
+pub mod ObjectTypes
+pub mod OrderParts
+pub mod SourceFormulas
+pub mod SourceEffects
+pub mod SourceMeanings
+pub mod Predicates
+pub mod KeptItems
+pub mod GuardAtoms
+pub mod Guards
+pub mod ObjectWords
+pub mod ActionPlaces
+pub mod ActionWords
+pub mod StepWords
+pub mod FirstSlot
+-- How a printed state reads, and the two changes of it: a slot is freed, a task is split.
+pub mod Sums
+pub mod Atoms
+pub mod Freed
+pub mod Split
+-- Each printed action is a step of the machine and of the source.
+pub mod Facts
+pub mod Freeing
+pub mod Running
+pub mod SlotVariables
+pub mod Splitting
+pub mod MethodConditions
+pub mod MethodEffects
+pub mod MethodChildren
+pub mod Methods
+-- Runs, plans and the words of their steps.
+pub mod Starts
+pub mod Runs
+pub mod Plans
+pub mod KnownActs
+pub mod Words
+-- All put together for a sound problem; the bound; a worked row.
+pub mod Fits
+pub mod PrintedMeans
+pub mod Bounds
+pub mod SmallestFaithful
 mod WaitingRefuted

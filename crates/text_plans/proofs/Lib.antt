@@ -5,3 +5,4 @@ pub mod SpelledSound
 pub mod TypeWords
 pub mod SamePlans
 pub mod SmallestPlan
+pub mod PrintedPlans

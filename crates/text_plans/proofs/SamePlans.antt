@@ -15,7 +15,7 @@ use Rattle.plan_model.specs.declared.steps.GroundAction.{GroundAction}
 use Rattle.plan_model.specs.declared.values.Pddl.{Pddl}
 use Rattle.htn_base.specs.declared.name.Name.{Name}
 use Rattle.plan_meaning.specs.Truth.{State, AreTyped, IsTrueIn, Adds, Deletes, after}
-use Rattle.plan_meaning.specs.ClassicalPlan.{IsObject, AreObjects, InTypeOf, Leads, IsPlan}
+use Rattle.plan_meaning.specs.ClassicalPlan.{IsObject, AreObjects, InTypeOf, Leads, IsExecutable, IsPlan}
 use Rattle.plan_texts.proofs.AlikeLaws.{pddl_symmetric}
 use Rattle.plan_texts.proofs.Members.{each-has, has-to_map, has-of_map}
 use Rattle.plan_texts.proofs.Unique.{spelled_alike}
@@ -104,8 +104,16 @@ module _ (c d : Pddl) (hc : HasSoundWords c) (hd : HasSoundWords d) (alike : Are
       same-leads (λ S. IsTrueIn (InTypeOf c) S c.goal []) (λ S. IsTrueIn (InTypeOf d) S d.goal []) (λ S S' same x. same-truth S S' same c.goal d.goal alike.goal [] x) ss (Contains c.init) (Contains d.init)
       (λ g. (subst (λ l. Contains l g) alike.init, subst (λ l. Contains l g) (sym alike.init))) e
 
+  pub same-executable : (ss : List GroundAction) → IsExecutable c ss → IsExecutable d ss
+  same-executable ss e =
+      same-leads (λ S. Unit {0}) (λ S. Unit {0}) (λ S S' same x. x) ss (Contains c.init) (Contains d.init)
+      (λ g. (subst (λ l. Contains l g) alike.init, subst (λ l. Contains l g) (sym alike.init))) e
+
 pub alike-plans : (c d : Pddl) → HasSoundWords c → HasSoundWords d → AreAlikePddl c d → (ss : List GroundAction) → IsPlan c ss ↔ IsPlan d ss
 alike-plans c d hc hd a ss = (same-plan c d hc hd a ss, same-plan d c hd hc (pddl_symmetric c d a) ss)
 
 pub spelled-plans : (c d : Pddl) (domain problem : List ℕ) → SpellsPddl domain problem c → SpellsPddl domain problem d → (ss : List GroundAction) → IsPlan c ss ↔ IsPlan d ss
 spelled-plans c d domain problem e f = alike-plans c d (spelled-sound c domain problem e) (spelled-sound d domain problem f) (spelled_alike c d domain problem e f)
+
+pub spelled-executables : (c d : Pddl) (domain problem : List ℕ) → SpellsPddl domain problem c → SpellsPddl domain problem d → (ss : List GroundAction) → IsExecutable c ss → IsExecutable d ss
+spelled-executables c d domain problem e f ss = same-executable c d (spelled-sound c domain problem e) (spelled-sound d domain problem f) (spelled_alike c d domain problem e f) ss

@@ -4,10 +4,11 @@ ghost use Rattle.plan_texts.specs.SpellsPddl.{SpellsPddl};
 ghost use Rattle.plan_texts.specs.Alike.{AreAlikePddl};
 ghost use Rattle.plan_texts.specs.PrintedTexts.{domain_text, problem_text};
 ghost use Rattle.plan_texts.specs.PrintableValue.{IsPrintable};
-ghost use Rattle.plan_meaning.specs.ClassicalPlan.{IsPlan};
+ghost use Rattle.plan_meaning.specs.ClassicalPlan.{IsExecutable, IsPlan};
 ghost use Rattle.plan_model.specs.declared.steps.GroundAction.{GroundAction};
 ghost use Rattle.text_plans.specs.SoundWords.{HasSoundWords};
 ghost use Rattle.text_plans.specs.TextPlans.{IsPlanOf};
+ghost use Rattle.text_plans.specs.Headline.{IsExecutableOf};
 
 use plan_model::Pddl;
 
@@ -35,4 +36,10 @@ pub fn plans_of_texts(domain: &[u8], problem: &[u8], value: &Pddl)
 pub fn printed_plans(value: &Pddl)
     requires { IsPrintable value.now }
     ensures { (steps : List GroundAction) → IsPlanOf (domain_text value.now) (problem_text value.now) steps ↔ IsPlan value.now steps }
+{}
+
+/// The executable lists of the two printed texts of a printable value are its own.
+pub fn printed_executables(value: &Pddl)
+    requires { IsPrintable value.now }
+    ensures { (steps : List GroundAction) → IsExecutableOf (domain_text value.now) (problem_text value.now) steps ↔ IsExecutable value.now steps }
 {}
