@@ -141,7 +141,8 @@ fn cycles<R: Print + Clock>(rt: &R, alloc: Global) -> io::Result<()> {
     time(rt, alloc, "random, closed", closed(random(alloc, 100_000, true)?, COUNT - 1, 0)?)?;
     time(rt, alloc, "random, downwards, closed", closed(random(alloc, 100_000, false)?, 0, COUNT - 1)?)?;
     time(rt, alloc, "total, closed", closed(total(alloc, true, true)?, COUNT - 1, 0)?)?;
-    time(rt, alloc, "total, downwards, closed", closed(total(alloc, false, true)?, 0, COUNT - 1)?)
+    time(rt, alloc, "total, downwards, closed", closed(total(alloc, false, true)?, 0, COUNT - 1)?)?;
+    time(rt, alloc, "chain, downwards, closed", closed(chain(alloc, false)?, 0, COUNT - 1)?)
 }
 
 fn main(rt: HostRuntime) -> io::Result<()> {

@@ -1,11 +1,12 @@
 -- Bits of the words of a set, and its marks.
 use Rattle.std.proofs.Common.{ℕ, zero, suc, ◌≡◌, ◌≢◌, ◌+◌, ◌-◌, ◌*◌, ◌/◌, ◌%◌, ◌^◌, ◌<◌, ◌≤◌, ◌⊎◌, ◌||◌, min, max, inl, inr, List, length, Bool, true, false, IsTrue, get_or, set, eqb, refl, sym, subst, ap, ◌∙◌, arith, length-set, replicate, get_or-set_same, get_or-set_other, w64, bit_and, bit_or}
-use Rattle.std.specs.Int.{bit_at, bit_not}
+use Rattle.std.specs.Int.{bit_at, bit_not, trailing_zeros}
 use Rattle.std.proofs.lemmas.List.{get_or_past, ext_get_or, length-replicate, get_or-replicate}
 use Rattle.std.proofs.lemmas.List.FromFn.{length-map-range_with_len, get_or-map-range_with_len}
-use Rattle.std.proofs.lemmas.Nat.Bits.{bit_at_set_same, bit_at_set_other, bit_at_or, bit_at_and, bit_at_not, bit_at-lt, bit_at_above, bit_at-zero, same_from_bits}
-use Rattle.std.proofs.lemmas.Bool.{cases_lt, cases_eq, eqb-true, eq-eqb}
-use Rattle.net_order.specs.Marks.{has}
+use Rattle.std.proofs.lemmas.Nat.Bits.{bit_at_set_same, bit_at_set_other, bit_at_or, bit_at_and, bit_at_not, bit_at-lt, bit_at-zero, bit_at-trailing_zeros}
+use Rattle.std.proofs.lemmas.Nat.{and_le_l}
+use Rattle.std.proofs.lemmas.Bool.{cases_lt, cases_eq, eqb-true, eq-eqb, false≢true}
+use Rattle.net_order.specs.Marks.{has, IsLeastOutside}
 use Rattle.net_order.specs.Words.{is_set, marks_of, AreWords}
 
 pub length-marks_of : (count : ℕ) (words : List ℕ) → length (marks_of count words) ≡ count
@@ -127,35 +128,85 @@ module _ (xs ys : List ℕ) where
       let m = bit_at-lt (get_or ys (i / 64) 0) (i % 64) in
       eq-eqb (bit_at (get_or ys (i / 64) 0) (i % 64)) 1 (omega arith)
 
-  -- and the other way round
-  pub words_within : (k : ℕ) → get_or xs k 0 < 2 ^ 64 → get_or ys k 0 < 2 ^ 64 → ((i : ℕ) → IsTrue (is_set xs i) → IsTrue (is_set ys i)) → rest k ≡ 0
-  words_within k f g within = same_from_bits (rest k) 0 (λ b. bit b (cases_lt b 64) ∙ sym (bit_at-zero b))
+  -- where a word has a bit that the other lacks, the lowest such bit is the first of its children that the first set has alone
+  module _ (k : ℕ) (f : get_or xs k 0 < 2 ^ 64) (g : get_or ys k 0 < 2 ^ 64) (some : 0 < rest k) where
+    abbrev lowest : ℕ
+    lowest = trailing_zeros w64 (rest k)
+
+    fits : rest k < 2 ^ 64
+    fits = let l = and_le_l (get_or xs k 0) (bit_not w64 (get_or ys k 0)) in omega arith
+
+    places : (lowest < 64) × (bit_at (rest k) lowest ≡ 1) × ((b : ℕ) → b < lowest → bit_at (rest k) b ≡ 0)
+    places = bit_at-trailing_zeros w64 (rest k) some fits
+
+    is_at : (ws : List ℕ) (b : ℕ) → b < 64 → is_set ws (64 * k + b) ≡ eqb (bit_at (get_or ws k 0) b) 1
+    is_at ws b l = ap (λ q. eqb (bit_at (get_or ws q 0) ((64 * k + b) % 64)) 1) (let e : (64 * k + b) / 64 ≡ k = omega arith in e)
+        ∙ ap (λ r. eqb (bit_at (get_or ws k 0) r) 1) (let e : (64 * k + b) % 64 ≡ b = omega arith in e)
+
+    pub lowest_fits : trailing_zeros w64 (rest k) < 64
+    lowest_fits = places.0
+
+    pub lowest_inside : IsTrue (is_set xs (64 * k + trailing_zeros w64 (rest k)))
+    lowest_inside =
+        let e = bit_of_rest k lowest g places.0 in
+        let o = places.1 in
+        let l = bit_at-lt (get_or xs k 0) lowest in
+        is_at xs lowest places.0 ∙ eq-eqb (bit_at (get_or xs k 0) lowest) 1 (omega arith)
+
+    pub lowest_outside : IsTrue (is_set ys (64 * k + trailing_zeros w64 (rest k))) → ⊥
+    lowest_outside t =
+        let e = bit_of_rest k lowest g places.0 in
+        let o = places.1 in
+        let b = eqb-true (bit_at (get_or ys k 0) lowest) 1 (sym (is_at ys lowest places.0) ∙ t) in
+        omega arith
+
+    pub lowest_least : (b : ℕ) → b < trailing_zeros w64 (rest k) → IsTrue (is_set xs (64 * k + b)) → IsTrue (is_set ys (64 * k + b))
+    lowest_least b l t =
+        let m = places.0 in
+        let e = bit_of_rest k b g (omega arith) in
+        let o = places.2 b l in
+        let a = eqb-true (bit_at (get_or xs k 0) b) 1 (sym (is_at xs b (omega arith)) ∙ t) in
+        let n = bit_at-lt (get_or ys k 0) b in
+        is_at ys b (omega arith) ∙ eq-eqb (bit_at (get_or ys k 0) b) 1 (omega arith)
+
+pub positive : (n : ℕ) → (n ≡ 0 → ⊥) → 0 < n
+positive zero f = absurd (f refl)
+positive (suc n) f = omega arith
+
+-- a child of the set is one of the network
+pub has_within : (s : List Bool) (i : ℕ) → IsTrue (has s i) → i < length s
+has_within s i t = elim (cases_lt i (length s)) [ inl l ↦ l | inr l ↦ absurd (false≢true (sym (get_or_past s i false l) ∙ t)) ]
+
+-- the child of the lowest such bit of the first such word
+module _ (xs ys : List ℕ) (a b : List Bool) (mine : (i : ℕ) → has a i ≡ is_set xs i) (theirs : (i : ℕ) → has b i ≡ is_set ys i) (k : ℕ)
+    (before : (i : ℕ) → i / 64 < k → IsTrue (is_set xs i) → IsTrue (is_set ys i)) where
+  pub least_outside : get_or xs k 0 < 2 ^ 64 → get_or ys k 0 < 2 ^ 64 → 0 < rest xs ys k → IsLeastOutside a b (64 * k + trailing_zeros w64 (rest xs ys k))
+  least_outside f g some = record {
+    child = has_within a place inside;
+    inside = inside;
+    outside = λ t. lowest_outside xs ys k f g some (sym (theirs place) ∙ t);
+    least = λ i l t. theirs i ∙ under i l (sym (mine i) ∙ t);
+  }
     where
-      place : (b : ℕ) → b < 64 → (64 * k + b) / 64 ≡ k
-      place b l = omega arith
+      lowest : ℕ
+      lowest = trailing_zeros w64 (rest xs ys k)
 
-      offset : (b : ℕ) → b < 64 → (64 * k + b) % 64 ≡ b
-      offset b l = omega arith
+      place : ℕ
+      place = 64 * k + trailing_zeros w64 (rest xs ys k)
 
-      is_at : (ws : List ℕ) (b : ℕ) → b < 64 → is_set ws (64 * k + b) ≡ eqb (bit_at (get_or ws k 0) b) 1
-      is_at ws b l = ap (λ q. eqb (bit_at (get_or ws q 0) ((64 * k + b) % 64)) 1) (place b l) ∙ ap (λ r. eqb (bit_at (get_or ws k 0) r) 1) (offset b l)
+      inside : IsTrue (has a place)
+      inside = mine place ∙ lowest_inside xs ys k f g some
 
-      one : (b : ℕ) → b < 64 → bit_at (get_or xs k 0) b ≡ 1 → bit_at (get_or ys k 0) b ≡ 1
-      one b l e = eqb-true (bit_at (get_or ys k 0) b) 1 (sym (is_at ys b l) ∙ within (64 * k + b) (is_at xs b l ∙ eq-eqb (bit_at (get_or xs k 0) b) 1 e))
-
-      low : (b : ℕ) → b < 64 → bit_at (rest k) b ≡ 0
-      low b l = bit_of_rest k b g l ∙ go (cases_eq (bit_at (get_or xs k 0) b) 1)
-        where
-          go : ((bit_at (get_or xs k 0) b ≡ 1) ⊎ (bit_at (get_or xs k 0) b ≡ 1 → ⊥)) → min (bit_at (get_or xs k 0) b) (1 - bit_at (get_or ys k 0) b) ≡ 0
-          go (inl e) = let h = one b l e in omega arith
-          go (inr d) = let h = bit_at-lt (get_or xs k 0) b in omega arith
-
-      bit : (b : ℕ) → ((b < 64) ⊎ (64 ≤ b)) → bit_at (rest k) b ≡ 0
-      bit b (inl l) = low b l
-      bit b (inr l) =
-          let e = bit_at_and (get_or xs k 0) (bit_not w64 (get_or ys k 0)) b in
-          let h = bit_at_above (get_or xs k 0) 64 b f l in
-          omega arith
+      under : (i : ℕ) → i < 64 * k + trailing_zeros w64 (rest xs ys k) → IsTrue (is_set xs i) → IsTrue (is_set ys i)
+      under i l t = elim (cases_lt (i / 64) k) [
+        | inl m ↦ before i m t
+        | inr m ↦ (
+            let h = lowest_fits xs ys k f g some in
+            let e : 64 * k + i % 64 ≡ i = omega arith in
+            let n : i % 64 < trailing_zeros w64 (rest xs ys k) = omega arith in
+            subst (λ x. IsTrue (is_set ys x)) e (lowest_least xs ys k f g some (i % 64) n (subst (λ x. IsTrue (is_set xs x)) (sym e) t))
+            )
+      ]
 
 pub none_words : (count : ℕ) → AreWords count (replicate (count / 64 + 1) 0)
 none_words count = record { room = length-replicate {A = ℕ} (count / 64 + 1) 0; none_past = λ i l. none_set (count / 64 + 1) i }

@@ -10,3 +10,5 @@ pub mod Closing
 pub mod Sorting
 pub mod Bits
 pub mod Examples
+pub mod Fronts
+pub mod Walks

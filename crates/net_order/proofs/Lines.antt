@@ -1,11 +1,11 @@
 -- The line as far as it goes.
-use Rattle.std.proofs.Common.{ℕ, ◌≡◌, ◌+◌, ◌<◌, ◌↔◌, inl, inr, List, [], ◌∷◌, ◌++◌, length, Bool, true, IsTrue, Contains, set, sym, subst, arith, length-set, ◌∙◌, false, get_or-set_same, get_or-set_other}
-use Rattle.std.proofs.lemmas.List.{length_push, get_or_past}
-use Rattle.std.proofs.lemmas.List.Elements.{Contains-append_left, Contains-push, Contains-push_cases}
-use Rattle.std.proofs.lemmas.Bool.{cases_lt, cases_eq, false≢true}
+use Rattle.std.proofs.Common.{ℕ, ◌≡◌, ◌+◌, ◌<◌, ◌↔◌, inl, inr, List, [], ◌∷◌, ◌++◌, length, Bool, true, false, IsTrue, Contains, set, sym, subst, ap, arith, length-set, ◌∙◌}
+use Rattle.std.proofs.lemmas.List.{length_push}
+use Rattle.std.proofs.lemmas.List.Elements.{Contains-append_left, Contains-append_right, Contains-push, Contains-push_cases}
+use Rattle.std.proofs.lemmas.Bool.{cases_lt, both_ways}
 use Rattle.task_networks.specs.Order.{Precedes, direct, through, IsReady, IsNext}
-use Rattle.task_networks.proofs.Lists.{cut_at, cut_push}
-use Rattle.net_order.specs.Marks.{has, Marked, IsFree, IsLeastFree, AreAllBelow}
+use Rattle.task_networks.proofs.Lists.{cut_at, cut_push, not-in_empty, Contains-here}
+use Rattle.net_order.specs.Marks.{has, Marked, IsFree, IsLeastFree}
 use Rattle.net_order.specs.Line.{IsGreedy}
 use Rattle.net_order.proofs.Closures.{has_added}
 
@@ -26,6 +26,14 @@ pub record IsLineSoFar (before : List (List Bool)) (listed : List Bool) (line : 
   pub places : length line ≡ n
   pub same : (i : ℕ) → IsTrue (has listed i) ↔ Contains line i
   pub each : (taken rest : List ℕ) (i : ℕ) → line ≡ taken ++ i ∷ rest → IsNext (Marked before) (length before) taken i
+
+pub line_none : (before : List (List Bool)) (listed : List Bool) (line : List ℕ) → length listed ≡ length before → ((i : ℕ) → has listed i ≡ false) → line ≡ [] → IsLineSoFar before listed line 0
+line_none before listed line room none e = record {
+  room = room;
+  places = ap length e;
+  same = λ i. ((λ t. absurd (both_ways (has listed i) (none i) t)), λ c. absurd (not-in_empty i (subst (λ xs. Contains xs i) e c)));
+  each = λ taken rest i f. absurd (not-in_empty i (subst (λ xs. Contains xs i) (sym f ∙ e) (Contains-append_right taken (i ∷ rest) i (Contains-here i rest))));
+}
 
 module _ (before : List (List Bool)) (listed : List Bool) (line : List ℕ) (n : ℕ) (h : IsLineSoFar before listed line n) where
   ready : (i : ℕ) → i < length before → IsFree before listed i → IsReady (Marked before) (length before) line i
@@ -66,19 +74,3 @@ module _ (before : List (List Bool)) (listed : List Bool) (line : List ℕ) (n :
 
       from : (k : ℕ) → Contains (line ++ i ∷ []) k → IsTrue (has (set listed i true) k)
       from k c = (has_added listed i k within).1 (elim (Contains-push_cases line i k c) [ inl d ↦ inr ((h.same k).1 d) | inr e ↦ inl (sym e) ])
-
--- what is listed below a number, after one more
-pub below_kept : (listed : List Bool) (low i : ℕ) → AreAllBelow low listed → AreAllBelow low (set listed i true)
-below_kept listed low i h k l = elim (cases_eq k i) [
-  | inl e ↦ subst (λ x. IsTrue (has (set listed i true) x)) (sym e) (get_or-set_same listed i true false (subst (λ x. x < length listed) e (has_within listed k (h k l))))
-  | inr d ↦ get_or-set_other listed i k true false d ∙ h k l
-]
-  where
-    has_within : (s : List Bool) (k : ℕ) → IsTrue (has s k) → k < length s
-    has_within s k t = elim (cases_lt k (length s)) [ inl l ↦ l | inr l ↦ absurd (false≢true (sym (get_or_past s k false l) ∙ t)) ]
-
-pub below_more_by : (listed : List Bool) (low i : ℕ) → i < length listed → i ≡ low → AreAllBelow low listed → AreAllBelow (low + 1) (set listed i true)
-below_more_by listed low i w e h k l = elim (cases_eq k i) [
-  | inl f ↦ subst (λ x. IsTrue (has (set listed i true) x)) (sym f) (get_or-set_same listed i true false w)
-  | inr d ↦ get_or-set_other listed i k true false d ∙ h k (omega arith)
-]

@@ -1,11 +1,14 @@
 -- From the sets of the pairs to the closure and the line.
-use Rattle.std.proofs.Common.{ℕ, ◌≡◌, ◌<◌, ◌≤◌, ◌⊎◌, inl, inr, List, length, Bool, false, sym, subst, arith}
+use Rattle.std.proofs.Common.{ℕ, ◌≡◌, ◌+◌, ◌-◌, ◌<◌, ◌≤◌, ◌⊎◌, ◌↔◌, inl, inr, List, [], ◌++◌, length, Bool, false, take, drop, sym, subst, ap, ◌∙◌, arith}
+use Rattle.std.proofs.Math.Seq.{take-add}
 use Rattle.std.proofs.lemmas.Bool.{cases_Bool, both_ways}
+use Rattle.std.proofs.lemmas.List.Elements.{Contains-append_left, Contains-append_right, Contains-append_cases}
 use Rattle.plan_model.specs.declared.networks.Pair.{Pair}
 use Rattle.task_networks.specs.Order.{Precedes, direct, IsAcyclic, ArePairsOf, IsLine}
 use Rattle.net_order.specs.Marks.{marked, Marked, IsSquare}
 use Rattle.net_order.specs.Line.{IsGreedy, IsClosed}
-use Rattle.net_order.specs.Meaning.{Pairs}
+use Rattle.net_order.specs.Meaning.{pair, Pairs}
+use Rattle.net_order.proofs.Adding.{added_none}
 use Rattle.net_order.specs.Closure.{IsClosure, IsAdded, IsDirect}
 use Rattle.net_order.proofs.Chains.{chain_map}
 use Rattle.net_order.proofs.Meanings.{marked_within, next_like}
@@ -20,6 +23,45 @@ direct_added count pairs old new square empty h = record { square = h.square; ma
     to : (i j : ℕ) → Marked new i j → Pairs pairs i j
     to i j m = elim ((h.marks i j).0 m) [ inl o ↦ absurd (none i j o) | inr c ↦ c ]
 
+-- the sets of some pairs with those of more pairs
+pub direct_more : (count : ℕ) (ps qs : List Pair) (old new : List (List Bool)) → IsDirect count ps old → IsAdded count qs old new → IsDirect count (ps ++ qs) new
+direct_more count ps qs old new h more = record { square = more.square; marks = λ i j. (to i j, from i j) }
+  where
+    to : (i j : ℕ) → Marked new i j → Pairs (ps ++ qs) i j
+    to i j m = elim ((more.marks i j).0 m) [ inl o ↦ Contains-append_left ps qs (pair i j) ((h.marks i j).0 o) | inr c ↦ Contains-append_right ps qs (pair i j) c ]
+
+    from : (i j : ℕ) → Pairs (ps ++ qs) i j → Marked new i j
+    from i j c = (more.marks i j).1 (elim (Contains-append_cases ps qs (pair i j) c) [ inl d ↦ inl ((h.marks i j).1 d) | inr d ↦ inr d ])
+
+pub between : (a m : ℕ) (pairs : List Pair) → a ≤ m → take a pairs ++ take (m - a) (drop a pairs) ≡ take m pairs
+between a m pairs l = sym (take-add a (m - a) pairs) ∙ ap (λ n. take n pairs) (let e : a + (m - a) ≡ m = omega arith in e)
+
+-- the sets of the first a pairs with those from place a to place m
+pub direct_longer : (count a m : ℕ) (pairs : List Pair) (old seen new : List (List Bool)) → a ≤ m → IsDirect count (take a pairs) old → seen ≡ old → IsAdded (length seen) (take (m - a) (drop a pairs)) seen new → IsDirect count (take m pairs) new
+direct_longer count a m pairs old seen new l h e more =
+    let added = subst (λ n. IsAdded n (take (m - a) (drop a pairs)) old new) h.square.sets (subst (λ xs. IsAdded (length xs) (take (m - a) (drop a pairs)) xs new) e more) in
+    subst (λ ps. IsDirect count ps new) (between a m pairs l) (direct_more count (take a pairs) (take (m - a) (drop a pairs)) old new h added)
+
+pub direct_none : (count : ℕ) (before : List (List Bool)) → IsSquare count before → ((i j : ℕ) → j < count → marked before i j ≡ false) → IsDirect count [] before
+direct_none count before square empty = direct_added count [] before before square empty (added_none count before square)
+
+-- a cycle of the sets is one of the pairs
+pub acyclic_sets : (count : ℕ) (pairs : List Pair) (before : List (List Bool)) → IsDirect count pairs before → IsAcyclic (Marked before) ↔ IsAcyclic (Pairs pairs)
+acyclic_sets count pairs before h = (
+  (λ f i c. f i (chain_map {P = Pairs pairs} {Q = Marked before} (λ a b d. direct ((h.marks a b).1 d)) i i c)),
+  λ f i c. f i (chain_map {P = Marked before} {Q = Pairs pairs} (λ a b m. direct ((h.marks a b).0 m)) i i c),
+)
+
+decide_marked : (before : List (List Bool)) (i j : ℕ) → Marked before i j ⊎ (Marked before i j → ⊥)
+decide_marked before i j = elim (cases_Bool (marked before i j)) [ inl e ↦ inl e | inr e ↦ inr (both_ways (marked before i j) e) ]
+
+-- where no child precedes itself, a line that goes as far as it can is whole
+pub acyclic_line : (before : List (List Bool)) (line : List ℕ) → IsSquare (length before) before → IsAcyclic (Marked before) → IsGreedy (Marked before) (length before) line → IsLine (Marked before) (length before) line
+acyclic_line before line square acyclic greedy = record {
+  whole = whole.whole (Marked before) (length before) (decide_marked before) (marked_within (length before) before square) line greedy acyclic;
+  each = greedy.each;
+}
+
 module _ (count : ℕ) (pairs : List Pair) (before : List (List Bool)) (h : IsDirect count pairs before) (line : List ℕ) (greedy : IsGreedy (Marked before) (length before) line) where
   to : (i j : ℕ) → Precedes (Marked before) i j → Precedes (Pairs pairs) i j
   to = chain_map (λ i j m. direct ((h.marks i j).0 m))
@@ -33,13 +75,10 @@ module _ (count : ℕ) (pairs : List Pair) (before : List (List Bool)) (h : IsDi
   inside : ArePairsOf (Marked before) (length before)
   inside = subst (ArePairsOf (Marked before)) (sym sets) (marked_within count before h.square)
 
-  decide : (i j : ℕ) → Marked before i j ⊎ (Marked before i j → ⊥)
-  decide i j = elim (cases_Bool (marked before i j)) [ inl e ↦ inl e | inr e ↦ inr (both_ways (marked before i j) e) ]
-
   -- a line that is too short shows a cycle
   pub cyclic : length line < count → IsAcyclic (Pairs pairs) → ⊥
   cyclic l acyclic =
-      let e = whole.length_line (Marked before) (length before) line greedy.each (whole.whole (Marked before) (length before) decide inside line greedy (λ i c. acyclic i (to i i c))) in
+      let e = whole.length_line (Marked before) (length before) line greedy.each (whole.whole (Marked before) (length before) (decide_marked before) inside line greedy (λ i c. acyclic i (to i i c))) in
       omega (arith, sets)
 
   -- a line that is long enough shows that there is none

@@ -4,3 +4,5 @@ pub mod Line
 pub mod Answers
 pub mod Meaning
 pub mod Closure
+pub mod Front
+pub mod Walk

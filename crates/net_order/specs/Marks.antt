@@ -17,10 +17,14 @@ pub record IsSquare (count : ℕ) (before : List (List Bool)) : Type 0 where
   pub sets : length before ≡ count
   pub marks : (j : ℕ) → j < count → length (slice_index_or before j []) ≡ count
 
+-- the marked predecessors of the child are all in the set
+abbrev pub IsPreceded : List (List Bool) → List Bool → ℕ → Type 0
+IsPreceded before set i = (j : ℕ) → Marked before j i → IsTrue (has set j)
+
 -- a child outside the set, whose marked predecessors are all in it
 pub record IsFree (before : List (List Bool)) (set : List Bool) (i : ℕ) : Type 0 where
   pub outside : IsTrue (has set i) → ⊥
-  pub preceded : (j : ℕ) → Marked before j i → IsTrue (has set j)
+  pub preceded : IsPreceded before set i
 
 -- the least free child
 pub record IsLeastFree (before : List (List Bool)) (set : List Bool) (i : ℕ) : Type 0 where
@@ -50,6 +54,17 @@ IsClosedOn before children = (a i k : ℕ) → Contains children k → Marked be
 abbrev pub IsGathered : List (List Bool) → List ℕ → ℕ → List Bool → Type 0
 IsGathered before earlier child set = (a : ℕ) → IsTrue (has set a) ↔ ((i : ℕ) × Contains earlier i × Marked before i child × ((a ≡ i) ⊎ Marked before a i))
 
--- all children below this one are in the set
-abbrev pub AreAllBelow : ℕ → List Bool → Type 0
-AreAllBelow low set = (i : ℕ) → i < low → IsTrue (has set i)
+-- each child of the set is in the other one
+abbrev pub IsWithin : List Bool → List Bool → Type 0
+IsWithin set other = (i : ℕ) → IsTrue (has set i) → IsTrue (has other i)
+
+-- each child of the set below this number is in the other one
+abbrev pub IsWithinBelow : ℕ → List Bool → List Bool → Type 0
+IsWithinBelow low set other = (i : ℕ) → i < low → IsTrue (has set i) → IsTrue (has other i)
+
+-- the least child of the set that isn't in the other one
+pub record IsLeastOutside (set other : List Bool) (i : ℕ) : Type 0 where
+  pub child : i < length set
+  pub inside : IsTrue (has set i)
+  pub outside : IsTrue (has other i) → ⊥
+  pub least : IsWithinBelow i set other

@@ -1,5 +1,5 @@
-ghost use Rattle.std.specs.Prelude.{◌≡◌, ℕ, ◌<◌, ◌↔◌, ◌||◌, Bool, true, false, length, slice_set, IsTrue, IfOk};
-ghost use Rattle.net_order.specs.Marks.{has};
+ghost use Rattle.std.specs.Prelude.{◌≡◌, ℕ, ◌<◌, ◌||◌, Bool, true, false, length, slice_set, IfOk, MatchOption};
+ghost use Rattle.net_order.specs.Marks.{has, IsWithin, IsWithinBelow, IsLeastOutside};
 
 use htn_base::Memory;
 use std::alloc::Global;
@@ -78,16 +78,19 @@ impl ChildSet {
         }
     }
 
-    /// Whether each child of this set is in the other one.
-    pub fn is_subset(&self, other: &ChildSet) -> bool
-        requires { length other.now ≡ length self.now }
-        ensures { IsTrue result ↔ ((i : ℕ) → IsTrue (has self.now i) → IsTrue (has other.now i)) }
+    /// The least child of this set that isn't in the other one, where none below `low` is such.
+    pub fn first_outside(&self, other: &ChildSet, low: usize) -> Option<usize>
+        requires room { length other.now ≡ length self.now }
+        requires low { IsWithinBelow low self.now other.now }
+        ensures least { MatchOption result (IsWithin self.now other.now) (IsLeastOutside self.now other.now) }
     {
-        for k in 0..self.words.len() {
-            if self.words[k] & !other.words[k] != 0 {
-                return false;
+        let last = self.count / 64;
+        for k in low / 64..last + 1 {
+            let rest = self.words[k] & !other.words[k];
+            if rest != 0 {
+                return Some(64 * k + rest.trailing_zeros() as usize);
             }
         }
-        true
+        None
     }
 }

@@ -1,4 +1,4 @@
-ghost use Rattle.std.specs.Prelude.{◌≡◌, ℕ, ◌<◌, ◌≤◌, ◌↔◌, All, length, IsTrue, IfOk};
+ghost use Rattle.std.specs.Prelude.{◌≡◌, ℕ, ◌<◌, ◌≤◌, ◌↔◌, All, min, length, IsTrue, IfOk};
 ghost use Rattle.net_order.specs.Marks.{has, IsSquare, IsMarkedCut, IsCovered};
 
 use crate::child_set::ChildSet;
@@ -15,7 +15,7 @@ pub fn cuts_of(alloc: Global, before: &[ChildSet], line: &[u32]) -> Result<Child
     let mut cuts = ChildSet::new(alloc, line.len())?;
     let mut reach = line.len();
     for k in (0..line.len()).rev() {
-        reach = reach.min(covered(line, &before[line[k] as usize]));
+        reach = shorter(reach, covered(line, &before[line[k] as usize]));
         if k <= reach {
             cuts.insert(k);
         }
@@ -34,4 +34,10 @@ fn covered(line: &[u32], set: &ChildSet) -> usize
         }
     }
     line.len()
+}
+
+fn shorter(a: usize, b: usize) -> usize
+    ensures { result ≡ min a b }
+{
+    a.min(b)
 }

@@ -1,9 +1,9 @@
-ghost use Rattle.std.specs.Prelude.{◌≡◌, ◌<◌, ◌^◌, ◌↔◌, length, IsTrue, IfOk};
+ghost use Rattle.std.specs.Prelude.{◌<◌, ◌^◌, length, IfOk};
 ghost use Rattle.task_networks.specs.Order.{IsAcyclic, IsFirstClosing};
 ghost use Rattle.net_order.specs.Meaning.{pair, Pairs, AreBelow};
 
-use crate::direct::direct_sets;
-use crate::line::line_of;
+use crate::direct::{empty_sets, with_pairs};
+use crate::walk::is_acyclic;
 use htn_base::Memory;
 use plan_model::Pair;
 use std::alloc::Global;
@@ -17,25 +17,18 @@ pub fn first_closing(alloc: Global, count: usize, pairs: &[Pair]) -> Result<u32,
     requires cyclic { IsAcyclic (Pairs pairs.now) → ⊥ }
     ensures first { IfOk result (IsFirstClosing pair pairs.now) }
 {
+    let mut before = empty_sets(alloc, count)?;
     let mut acyclic = 0;
     let mut cyclic = pairs.len();
     while cyclic - acyclic > 1 {
         let middle = acyclic + (cyclic - acyclic) / 2;
-        if is_acyclic(alloc, count, &pairs[..middle])? {
+        let longer = with_pairs(alloc, before.as_slice(), &pairs[acyclic..middle])?;
+        if is_acyclic(alloc, longer.as_slice())? {
             acyclic = middle;
+            before = longer;
         } else {
             cyclic = middle;
         }
     }
     Ok(acyclic as u32)
-}
-
-fn is_acyclic(alloc: Global, count: usize, pairs: &[Pair]) -> Result<bool, Memory>
-    requires small { count < 2 ^ 32 }
-    requires below { AreBelow count pairs.now }
-    ensures acyclic { IfOk result (λ told. IsTrue told ↔ IsAcyclic (Pairs pairs.now)) }
-{
-    let before = direct_sets(alloc, count, pairs)?;
-    let line = line_of(alloc, before.as_slice())?;
-    Ok(line.len() >= count)
 }

@@ -11,6 +11,7 @@ mod cuts;
 mod cycle;
 mod direct;
 mod firsts;
+mod front;
 mod last;
 mod line;
 mod order;
@@ -19,5 +20,6 @@ mod plain;
 mod sorted;
 #[cfg(test)]
 mod tests;
+mod walk;
 
 pub use order::{Order, OrderError};

@@ -1,11 +1,13 @@
-ghost use Rattle.std.specs.Prelude.{◌≡◌, ℕ, ◌<◌, ◌≤◌, ◌^◌, length, false, IfOk, MatchResult};
-ghost use Rattle.net_order.specs.Marks.{has, marked, IsSquare};
+ghost use Rattle.std.specs.Prelude.{◌≡◌, ℕ, ◌<◌, ◌^◌, ◌↔◌, length, IsTrue, IfOk, MatchOption, MatchResult};
+ghost use Rattle.task_networks.specs.Order.{IsAcyclic, IsLine};
+ghost use Rattle.net_order.specs.Marks.{Marked, IsSquare, IsFree, IsLeastFree, IsWithin};
 ghost use Rattle.net_order.specs.Meaning.{AreBelow, IsRefusedBy};
 ghost use Rattle.net_order.specs.Closure.{IsClosure, IsLinked};
 
 use crate::child_set::ChildSet;
 use crate::direct::empty_sets;
 use crate::order::OrderError;
+use htn_base::{List, Memory};
 use plan_model::Pair;
 use std::alloc::Global;
 
@@ -42,4 +44,54 @@ fn link(before: &mut [ChildSet], child: usize, added: &ChildSet)
             set.insert_all(added);
         }
     }
+}
+
+/// The line, searched from the first child on at each place.
+pub fn line(alloc: Global, before: &[ChildSet]) -> Result<List<u32>, Memory>
+    requires square { IsSquare (length before.now) before.now }
+    requires small { length before.now < 2 ^ 32 }
+    requires acyclic { IsAcyclic (Marked before.now) }
+    ensures line { IfOk result (IsLine (Marked before.now) (length before.now)) }
+{
+    let mut listed = ChildSet::new(alloc, before.len())?;
+    let mut line = List::new(alloc);
+    for _ in 0..before.len() {
+        match next_free(before, &listed) {
+            Some(child) => {
+                line.push(child)?;
+                listed.insert(child as usize);
+            }
+            None => return Ok(line),
+        }
+    }
+    Ok(line)
+}
+
+/// The least child that isn't listed yet and whose predecessors are all listed.
+fn next_free(before: &[ChildSet], listed: &ChildSet) -> Option<u32>
+    requires square { IsSquare (length listed.now) before.now }
+    requires small { length before.now < 2 ^ 32 }
+    ensures least { MatchOption result
+        ((i : ℕ) → i < length before.now → IsFree before.now listed.now i → ⊥)
+        (IsLeastFree before.now listed.now) }
+{
+    for i in 0..before.len() {
+        if !listed.contains(i) && are_all_in(&before[i], listed) {
+            return Some(i as u32);
+        }
+    }
+    None
+}
+
+/// Whether each child of the set is in the other one.
+fn are_all_in(set: &ChildSet, other: &ChildSet) -> bool
+    requires room { length other.now ≡ length set.now }
+    ensures within { IsTrue result ↔ IsWithin set.now other.now }
+{
+    for i in 0..set.len() {
+        if set.contains(i) && !other.contains(i) {
+            return false;
+        }
+    }
+    true
 }

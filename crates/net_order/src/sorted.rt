@@ -29,6 +29,7 @@ pub fn sorted(
     let mut before = direct_sets(alloc, count, pairs)?;
     let line = line_of(alloc, before.as_slice())?;
     if line.len() < count {
+        drop(before);
         let pair = first_closing(alloc, count, pairs)?;
         return Err(OrderError::Cycle { pair });
     }

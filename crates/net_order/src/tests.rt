@@ -1,12 +1,12 @@
 //! Orders of few children, worked out by hand, and a comparison with the plain way on many orders. Each call that may
 //! want memory is made with ample memory.
 
-ghost use Rattle.std.specs.Prelude.{◌≡◌, ◌<◌, ◌^◌, length, IfOk};
+ghost use Rattle.std.specs.Prelude.{◌≡◌, ◌<◌, ◌^◌, ℕ, length, IfOk};
 ghost use Rattle.net_order.specs.Marks.{IsSquare};
 ghost use Rattle.net_order.specs.Meaning.{AreBelow};
 
 use crate::child_set::ChildSet;
-use crate::plain::closure;
+use crate::plain::{closure, line};
 use crate::{Order, OrderError};
 use plan_model::Pair;
 use std::alloc::{AllocError, Global};
@@ -98,57 +98,90 @@ fn cycles(rt: HostRuntime) -> Result<(), Fail> {
     Ok(())
 }
 
-// All lists of three pairs of four children, and each tenth list of five: what precedes what, or the pair that closes
-// a cycle, is what the plain way finds.
+// Random lists of pairs, of six children and of seventy, which fill more than one word. What precedes what and the
+// line, or the pair that closes a cycle, are what the plain way finds.
 #[test]
 fn plain_agrees(rt: HostRuntime) -> Result<(), Fail> {
-    for number in 0..4096 {
-        let pairs = list(rt.alloc(), number, 3)?;
-        agrees(&rt, rt.alloc(), pairs.as_slice())?;
-    }
-    for number in 0..104_857 {
-        let pairs = list(rt.alloc(), number * 10, 5)?;
-        agrees(&rt, rt.alloc(), pairs.as_slice())?;
+    for seed in 0..20_000 {
+        let pairs = list(rt.alloc(), seed, 6, seed % 10)?;
+        agrees(&rt, rt.alloc(), 6, pairs.as_slice())?;
     }
     Ok(())
 }
 
-/// The list of so many pairs of four children that has this number.
-fn list(alloc: Global, number: u32, len: usize) -> Result<Vec<Pair>, AllocError>
-    requires { len < 6 }
-    ensures below { IfOk result (λ pairs. AreBelow 4 pairs.items) }
-    ensures length { IfOk result (λ pairs. length pairs.items ≡ len) }
+#[test]
+fn plain_agrees_on_many_children(rt: HostRuntime) -> Result<(), Fail> {
+    for seed in 0..200 {
+        let pairs = list(rt.alloc(), seed, 70, seed % 100)?;
+        agrees(&rt, rt.alloc(), 70, pairs.as_slice())?;
+    }
+    Ok(())
+}
+
+/// So many random pairs of two of these children: by the seed any pairs, upward ones only, or downward ones only.
+fn list(alloc: Global, seed: u64, count: u32, len: u64) -> Result<Vec<Pair>, AllocError>
+    requires some { 1 < count }
+    requires count { count < 100 }
+    requires len { len < 100 }
+    ensures below { IfOk result (λ pairs. AreBelow count pairs.items) }
+    ensures few { IfOk result (λ pairs. length pairs.items < 100) }
 {
     let mut pairs = Vec::new(alloc);
-    let mut rest = number;
+    let mut state = seed;
     for _ in 0..len {
-        pairs.push(Pair {
-            first: rest % 4,
-            then: rest / 4 % 4,
-        })?;
-        rest /= 16;
+        state = step(state);
+        let first = (state >> 33) as u32 % count;
+        let then = (first + 1 + (state >> 40) as u32 % (count - 1)) % count;
+        pairs.push(turned(seed % 3, first, then))?;
     }
     Ok(pairs)
 }
 
-fn agrees(rt: &impl Abort, alloc: Global, pairs: &[Pair]) -> Result<(), OrderError>
-    requires below { AreBelow 4 pairs.now }
+/// The next of a linear congruential sequence (Knuth, "The Art of Computer Programming", volume 2, section 3.3.4).
+fn step(state: u64) -> u64 {
+    state
+        .wrapping_mul(6_364_136_223_846_793_005)
+        .wrapping_add(1_442_695_040_888_963_407)
+}
+
+/// The pair, turned round where it isn't upward (kind 1) or downward (kind 2).
+fn turned(kind: u64, first: u32, then: u32) -> Pair
+    ensures { (count : ℕ) → first < count → then < count → (result.first < count) × (result.then < count) }
+{
+    if kind == 0 || (first < then) == (kind == 1) {
+        Pair { first, then }
+    } else {
+        Pair {
+            first: then,
+            then: first,
+        }
+    }
+}
+
+fn agrees(rt: &impl Abort, alloc: Global, count: u32, pairs: &[Pair]) -> Result<(), OrderError>
+    requires count { count < 100 }
+    requires below { AreBelow count pairs.now }
     requires few { length pairs.now < 2 ^ 32 }
 {
-    let made = Order::new(alloc, 4, pairs);
-    match closure(alloc, 4, pairs) {
-        Ok(before) => same(rt, &made?, before.as_slice()),
+    let made = Order::new(alloc, count, pairs);
+    match closure(alloc, count as usize, pairs) {
+        Ok(before) => {
+            let order = made?;
+            same(rt, &order, count, before.as_slice());
+            let searched = line(alloc, before.as_slice())?;
+            assert_eq!(rt; order.line().as_slice(), searched.as_slice());
+        }
         Err(error) => assert_eq!(rt; made.err(), Some(error)),
     }
     Ok(())
 }
 
-fn same(rt: &impl Abort, order: &Order, before: &[ChildSet])
-    requires order { order.now.count ≡ 4 }
-    requires before { IsSquare 4 before.now }
+fn same(rt: &impl Abort, order: &Order, count: u32, before: &[ChildSet])
+    requires order { order.now.count ≡ count }
+    requires before { IsSquare count before.now }
 {
-    for a in 0..4 {
-        for b in 0..4 {
+    for a in 0..count {
+        for b in 0..count {
             assert_eq!(rt;
                 order.precedes(a, b),
                 before[b as usize].contains(a as usize)

@@ -13,8 +13,8 @@ loop-k-preserved c =
     let covered = subst (λ s. IsCovered line s c.covered.result) (get_or_read before (get_or line (c.loop-k.k - 1) 0) c.index-before-line.result child c.index-before-line.is []) c.covered.ensures.covered in
     let next : c.loop-k.k ≡ c.loop-k.k - 1 + 1 = let t = c.loop-k-test.true in omega arith in
     let old = subst (λ i. AreCutsFrom before line i c.loop-k.reach c.loop-k.cuts) next c.loop-k.invariant in
-    let reach = subst (IsReach before line (c.loop-k.k - 1)) (sym c.min-reach.ensures) (reach_more before line (c.loop-k.k - 1) c.loop-k.reach c.covered.result l old.reach covered) in
-    cuts_left before line (c.loop-k.k - 1) c.loop-k.reach c.min-reach.result c.loop-k.cuts l old reach c.if-k-reach.false
+    let reach = subst (IsReach before line (c.loop-k.k - 1)) (sym c.shorter-reach.ensures) (reach_more before line (c.loop-k.k - 1) c.loop-k.reach c.covered.result l old.reach covered) in
+    cuts_left before line (c.loop-k.k - 1) c.loop-k.reach c.shorter-reach.result c.loop-k.cuts l old reach c.if-k-reach.false
 
 pub loop-k-preserved-then-k-reach : goal.loop-k-preserved-then-k-reach
 loop-k-preserved-then-k-reach c =
@@ -25,6 +25,6 @@ loop-k-preserved-then-k-reach c =
     let covered = subst (λ s. IsCovered line s c.covered.result) (get_or_read before (get_or line (c.loop-k.k - 1) 0) c.index-before-line.result child c.index-before-line.is []) c.covered.ensures.covered in
     let next : c.loop-k.k ≡ c.loop-k.k - 1 + 1 = let t = c.loop-k-test.true in omega arith in
     let old = subst (λ i. AreCutsFrom before line i c.loop-k.reach c.loop-k.cuts) next c.loop-k.invariant in
-    let reach = subst (IsReach before line (c.loop-k.k - 1)) (sym c.min-reach.ensures) (reach_more before line (c.loop-k.k - 1) c.loop-k.reach c.covered.result l old.reach covered) in
-    subst (AreCutsFrom before line (c.loop-k.k - 1) c.min-reach.result) (sym c.insert.ensures)
-    (cuts_taken before line (c.loop-k.k - 1) c.loop-k.reach c.min-reach.result c.loop-k.cuts l old reach c.if-k-reach.true)
+    let reach = subst (IsReach before line (c.loop-k.k - 1)) (sym c.shorter-reach.ensures) (reach_more before line (c.loop-k.k - 1) c.loop-k.reach c.covered.result l old.reach covered) in
+    subst (AreCutsFrom before line (c.loop-k.k - 1) c.shorter-reach.result) (sym c.insert.ensures)
+    (cuts_taken before line (c.loop-k.k - 1) c.loop-k.reach c.shorter-reach.result c.loop-k.cuts l old reach c.if-k-reach.true)
