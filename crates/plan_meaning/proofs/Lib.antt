@@ -52,3 +52,5 @@ pub mod ClassicalExamples
 pub mod EncodedSmallest
 pub mod SmallestPlan
 pub mod EncodedGuard
+pub mod EachPart
+pub mod OrderParts

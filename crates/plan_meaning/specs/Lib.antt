@@ -6,6 +6,7 @@ pub mod Solution
 pub mod SpelledPlan
 pub mod SourceParts
 pub mod OrderFormulas
+pub mod OrderMeaning
 pub mod EncodedNames
 pub mod EncodedActions
 pub mod EncodedValue

@@ -16,7 +16,8 @@ use Rattle.plan_meaning.specs.ClassicalPlan as Printed
 use Rattle.plan_meaning.specs.Network.{network}
 use Rattle.plan_meaning.specs.EncodedNames.{order_numbers}
 use Rattle.plan_meaning.specs.EncodedValue.{IsEncoded}
-use Rattle.slot_plans.specs.Pieces.{PredicatesDiffer, OrderMeaning, SourceAgrees, GuardsDeclare, GuardAtomsAgree, IsSoundCondition, IsSoundChange}
+use Rattle.plan_meaning.specs.OrderMeaning.{OrderMeaning}
+use Rattle.slot_plans.specs.Pieces.{PredicatesDiffer, SourceAgrees, GuardsDeclare, GuardAtomsAgree, IsSoundCondition, IsSoundChange}
 
 -- the numbers and parts of a compiled problem fit together
 pub record FitsTogether (c : Compiled) : Type 0 where

@@ -18,7 +18,8 @@ use Rattle.plan_meaning.specs.EncodedNames.{before_predicate, order_numbers}
 use Rattle.plan_meaning.specs.EncodedActions.{is_free, waiting, freeing}
 use Rattle.plan_meaning.proofs.TruthEquations.{truth-And, truth-Holds}
 use Rattle.plan_meaning.proofs.EffectEquations.{adds-And, adds-Add, adds-Delete, deletes-And, deletes-Add, deletes-Delete}
-use Rattle.slot_plans.specs.Pieces.{PredicatesDiffer, OrderMeaning, slot_object, IsSlot, IsSlotObject}
+use Rattle.plan_meaning.specs.OrderMeaning.{OrderMeaning}
+use Rattle.slot_plans.specs.Pieces.{PredicatesDiffer, slot_object, IsSlot, IsSlotObject}
 use Rattle.slot_plans.specs.Reading.{IsKnown, held, free_atom, before_atom, Reads}
 use Rattle.slot_plans.proofs.Sums.{each-append, one-append}
 use Rattle.slot_plans.proofs.Atoms.{slot_of}

@@ -6,7 +6,6 @@ pub mod PrintedTypes
 pub mod SoundTypes
 pub mod ObjectTypes
 -- The formulas on order pairs, and source formulas and effects.
-pub mod OrderParts
 pub mod SourceFormulas
 pub mod SourceEffects
 pub mod SourceMeanings

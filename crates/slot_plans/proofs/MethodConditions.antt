@@ -26,7 +26,8 @@ use Rattle.plan_meaning.specs.EncodedActions.{is_free, waiting, spare, front, de
 use Rattle.plan_meaning.proofs.TruthEquations.{truth-Holds, truth-Not, truth-Equal}
 use Rattle.slot_plans.specs.Pieces.{SourceMeaning, slot_object, IsSlot}
 use Rattle.slot_plans.specs.Reading.{held, free_atom, Reads}
-use Rattle.slot_plans.proofs.Sums.{each-append, each_map, mapped, map-numbers, value-moved, values-moved}
+use Rattle.plan_meaning.proofs.EachPart.{each_map}
+use Rattle.slot_plans.proofs.Sums.{each-append, mapped, map-numbers, value-moved, values-moved}
 use Rattle.slot_plans.proofs.Atoms.{one_slot}
 use Rattle.slot_plans.proofs.Facts.{PiecesMean}
 use Rattle.slot_plans.proofs.Freeing.{InT, WaitsForNone, front_true}

@@ -29,7 +29,8 @@ use Rattle.plan_meaning.specs.EncodedActions.{is_free, spare, front, depth, slot
 use Rattle.plan_meaning.proofs.EffectEquations.{adds-Add, adds-Delete, deletes-Add, deletes-Delete}
 use Rattle.slot_plans.specs.Pieces.{slot_object, IsSlot, IsSlotObject}
 use Rattle.slot_plans.specs.Reading.{held, free_atom, before_atom, pair}
-use Rattle.slot_plans.proofs.Sums.{one-append, one_map, some_mapped, index-map, get_index, own_vars}
+use Rattle.plan_meaning.proofs.EachPart.{one_map}
+use Rattle.slot_plans.proofs.Sums.{one-append, some_mapped, index-map, get_index, own_vars}
 use Rattle.slot_plans.proofs.ListPlaces.{get_map_cases, get_to_map, get_contains}
 use Rattle.slot_plans.proofs.Atoms.{slot_of}
 use Rattle.slot_plans.proofs.SlotVariables.{vars_insert, map-insert_at}

@@ -20,7 +20,7 @@ use Rattle.slot_plans.specs.Faithful.{IsFaithfulValue}
 use Rattle.slot_plans.proofs.Facts.{PiecesMean}
 use Rattle.slot_plans.proofs.Fits.{fits}
 use Rattle.slot_plans.proofs.ObjectTypes.{types_agree}
-use Rattle.slot_plans.proofs.OrderParts.{order_meaning}
+use Rattle.plan_meaning.proofs.OrderParts.{order_meaning}
 use Rattle.slot_plans.proofs.SourceMeanings.{source_agrees}
 use Rattle.slot_plans.proofs.Predicates.{predicates_differ}
 use Rattle.slot_plans.proofs.Guards.{guards_agree}

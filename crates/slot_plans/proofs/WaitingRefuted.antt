@@ -15,7 +15,7 @@ use Rattle.task_networks.proofs.ScheduleLaws.{prepared_is_lawful}
 use Rattle.task_networks.specs.Net.{Net, count}
 use Rattle.task_networks.specs.Tree.{Tree, Address, Label, label_at, used, ran}
 use Rattle.task_networks.specs.Spelling.{Act, apply, run, others, AreActs, Spells}
-use Rattle.slot_machine.specs.Machine.{State, start, after, Runs, May, IsSlotOf}
+use Rattle.slot_machine.specs.Machine.{State, start, after, Runs, IsSlotOf}
 use Rattle.slot_machine.proofs.SpellingRuns.{runs_from_spells}
 use Rattle.plan_meaning.specs.Network.{Work, action, check, task, GroundMethod, network}
 use Rattle.plan_meaning.specs.Solution.{top_work}

@@ -16,8 +16,8 @@ use Rattle.plan_meaning.specs.OrderFormulas.{OrderNumbers, pair_of, any_slot, sl
 use Rattle.plan_meaning.specs.EncodedValue.{atom}
 use Rattle.plan_meaning.proofs.TruthEquations.{truth-Not, truth-Holds, truth-Forall}
 use Rattle.plan_meaning.proofs.EffectEquations.{adds-Add, adds-Delete, adds-Forall, adds-When, deletes-Add, deletes-Delete, deletes-Forall, deletes-When}
-use Rattle.slot_plans.specs.Pieces.{IsSlotOf, pair_atom, AreTheSlots, OrderMeaning}
-use Rattle.slot_plans.proofs.Sums.{each_map, one_map}
+use Rattle.plan_meaning.specs.OrderMeaning.{IsSlotOf, pair_atom, AreTheSlots, OrderMeaning}
+use Rattle.plan_meaning.proofs.EachPart.{each_map, one_map}
 
 at_front : (xs ys : List ℕ) (i : ℕ) → i < length xs → slice_index (xs ++ ys) i ≡ slice_index xs i
 at_front [] ys i h = absurd (omega arith)
