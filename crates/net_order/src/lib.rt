@@ -20,4 +20,5 @@ mod sorted;
 #[cfg(test)]
 mod tests;
 
+pub use child_set::ChildSet;
 pub use order::{Order, OrderError};
