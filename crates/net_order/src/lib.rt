@@ -22,4 +22,5 @@ mod sorted;
 mod tests;
 mod walk;
 
+pub use child_set::ChildSet;
 pub use order::{Order, OrderError};

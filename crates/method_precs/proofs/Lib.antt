@@ -1,0 +1,6 @@
+pub mod Growing
+pub mod Once
+pub mod SameKeys
+pub mod Fits
+pub mod SinglePairs
+pub mod OrderParts

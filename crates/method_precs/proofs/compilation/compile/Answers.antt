@@ -1,0 +1,18 @@
+use Rattle.std.proofs.Common.{refl}
+use Rattle.task_networks.proofs.ScheduleLaws.{prepared_is_lawful}
+use Rattle.plan_model.specs.declared.values.Compiled.{Compiled}
+use Rattle.plan_meaning.specs.Network.{network}
+use Rattle.plan_meaning.proofs.CompiledNetworks.{prepared}
+use Rattle.method_precs.proofs.Fits.{fit_top, fit_methods}
+use Rattle.method_precs.proofs.compilation.compile.Goals as goal
+
+pub plans_of-requires-clause-top : goal.plans_of-requires-clause-top
+plans_of-requires-clause-top c = fit_top c.args.problem c.requires.ordered c.requires.small c.requires.few
+
+pub plans_of-requires-clause-methods : goal.plans_of-requires-clause-methods
+plans_of-requires-clause-methods c = fit_methods c.args.problem c.requires.ordered c.requires.small c.requires.few
+
+pub returns-clause-lawful : goal.returns-clause-lawful
+returns-clause-lawful c =
+    let compiled : Compiled = record { hddl = c.args.problem; methods = c.in_ok-methods.methods } in
+    prepared_is_lawful (network compiled) (prepared c.args.problem c.args.checks.now compiled c.requires.ordered (record { hddl = refl; methods = c.in_ok-methods.ensures }))

@@ -1,0 +1,4 @@
+pub mod Pairs
+pub mod Ordered
+pub mod Keys
+pub mod Small
