@@ -1,1 +1,2 @@
 pub mod NextSlot
+pub mod Meanings

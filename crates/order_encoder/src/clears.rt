@@ -1,9 +1,10 @@
-ghost use Rattle.std.specs.Prelude.{◌≡◌, ◌<◌, ◌+◌, ◌^◌, ◌++◌, IfOk, OnOk};
+ghost use Rattle.std.specs.Prelude.{ℕ, ◌≡◌, ◌<◌, ◌+◌, ◌^◌, ◌++◌, IfOk, OnOk};
 ghost use Rattle.plan_model.specs.declared.options.Style.TheVariants.{Flat};
 ghost use Rattle.plan_model.specs.declared.terms.Term.TheVariants.{Var};
 ghost use Rattle.plan_model.specs.declared.effects.Effect.TheVariants.{Delete, Forall};
 ghost use Rattle.plan_meaning.specs.OrderFormulas.{pair_of, any_slot, clear_parts};
 ghost use Rattle.order_encoder.specs.Orders.{numbers, clears};
+ghost use Rattle.order_encoder.specs.Meaning.{Clears};
 
 use crate::names::OrderNames;
 use crate::pairs::{any_slot_params, before};
@@ -22,6 +23,21 @@ pub fn clearing(
 ) -> Result<Effect, Memory>
     requires slots { n.now.first_slot + slots < 2 ^ 32 }
     ensures effect { IfOk result (λ e. e ≡ clears (numbers n.now) slots depth style.now h) }
+    ensures means { (i : ℕ) → h ≡ Var i → i < depth → IfOk result (Clears (numbers n.now) slots depth i) }
+{
+    clearing_effect(alloc, n, slots, style, h, depth)
+}
+
+fn clearing_effect(
+    alloc: Global,
+    n: &OrderNames,
+    slots: u32,
+    style: &Style,
+    h: Term,
+    depth: u32,
+) -> Result<Effect, Memory>
+    requires slots { n.now.first_slot + slots < 2 ^ 32 }
+    ensures { IfOk result (λ e. e ≡ clears (numbers n.now) slots depth style.now h) }
 {
     match style {
         Style::Adl => clear_all(alloc, n, h, depth),

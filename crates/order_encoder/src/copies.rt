@@ -1,10 +1,11 @@
-ghost use Rattle.std.specs.Prelude.{◌≡◌, ◌<◌, ◌+◌, ◌^◌, ◌++◌, IfOk, OnOk};
+ghost use Rattle.std.specs.Prelude.{ℕ, ◌≡◌, ◌<◌, ◌+◌, ◌^◌, ◌++◌, IfOk, OnOk};
 ghost use Rattle.plan_model.specs.declared.options.Style.TheVariants.{Flat};
 ghost use Rattle.plan_model.specs.declared.terms.Term.TheVariants.{Var};
 ghost use Rattle.plan_model.specs.declared.formulas.Formula.TheVariants.{Holds};
 ghost use Rattle.plan_model.specs.declared.effects.Effect.TheVariants.{Add, Forall, When};
 ghost use Rattle.plan_meaning.specs.OrderFormulas.{pair_of, any_slot, copy_parts};
 ghost use Rattle.order_encoder.specs.Orders.{numbers, copies};
+ghost use Rattle.order_encoder.specs.Meaning.{Copies};
 
 use crate::names::OrderNames;
 use crate::pairs::{any_slot_params, before};
@@ -25,6 +26,22 @@ pub fn copying(
 ) -> Result<Effect, Memory>
     requires slots { n.now.first_slot + slots < 2 ^ 32 }
     ensures effect { IfOk result (λ e. e ≡ copies (numbers n.now) slots depth style.now h child) }
+    ensures means { (i j : ℕ) → h ≡ Var i → child ≡ Var j → i < depth → j < depth → IfOk result (Copies (numbers n.now) slots depth i j) }
+{
+    copying_effect(alloc, n, slots, style, h, child, depth)
+}
+
+fn copying_effect(
+    alloc: Global,
+    n: &OrderNames,
+    slots: u32,
+    style: &Style,
+    h: Term,
+    child: Term,
+    depth: u32,
+) -> Result<Effect, Memory>
+    requires slots { n.now.first_slot + slots < 2 ^ 32 }
+    ensures { IfOk result (λ e. e ≡ copies (numbers n.now) slots depth style.now h child) }
 {
     match style {
         Style::Adl => copy_all(alloc, n, h, child, depth),

@@ -1,9 +1,10 @@
-ghost use Rattle.std.specs.Prelude.{◌≡◌, ◌<◌, ◌+◌, ◌^◌, ◌++◌, IfOk, OnOk};
+ghost use Rattle.std.specs.Prelude.{ℕ, ◌≡◌, ◌<◌, ◌+◌, ◌^◌, ◌++◌, IfOk, OnOk};
 ghost use Rattle.plan_model.specs.declared.options.Style.TheVariants.{Flat};
 ghost use Rattle.plan_model.specs.declared.terms.Term.TheVariants.{Var};
 ghost use Rattle.plan_model.specs.declared.formulas.Formula.TheVariants.{Holds, Not, Forall};
 ghost use Rattle.plan_meaning.specs.OrderFormulas.{pair_of, any_slot, wait_parts};
 ghost use Rattle.order_encoder.specs.Orders.{numbers, waits};
+ghost use Rattle.order_encoder.specs.Meaning.{Waits};
 
 use crate::names::OrderNames;
 use crate::pairs::{any_slot_params, before};
@@ -23,6 +24,21 @@ pub fn waiting(
 ) -> Result<Formula, Memory>
     requires slots { n.now.first_slot + slots < 2 ^ 32 }
     ensures formula { IfOk result (λ f. f ≡ waits (numbers n.now) slots depth style.now h) }
+    ensures means { (i : ℕ) → h ≡ Var i → i < depth → IfOk result (Waits (numbers n.now) slots depth i) }
+{
+    waiting_formula(alloc, n, slots, style, h, depth)
+}
+
+fn waiting_formula(
+    alloc: Global,
+    n: &OrderNames,
+    slots: u32,
+    style: &Style,
+    h: Term,
+    depth: u32,
+) -> Result<Formula, Memory>
+    requires slots { n.now.first_slot + slots < 2 ^ 32 }
+    ensures { IfOk result (λ f. f ≡ waits (numbers n.now) slots depth style.now h) }
 {
     match style {
         Style::Adl => wait_for_all(alloc, n, h, depth),
