@@ -36,7 +36,7 @@ module _ {A : Type 0} (test : A → Bool) where
   counted x e = ap one_if e
 
   -- one that passes is counted behind itself
-  pub passed_less : (xs : List A) (m n : ℕ) (x : A) → slice_get xs m ≡ Some x → test x ≡ true → m < n → passed m xs < passed n xs
+  passed_less : (xs : List A) (m n : ℕ) (x : A) → slice_get xs m ≡ Some x → test x ≡ true → m < n → passed m xs < passed n xs
   passed_less [] m n x e t l = absurd cc
   passed_less (y ∷ xs) m zero x e t l = absurd (omega arith)
   passed_less (y ∷ xs) zero (suc n) x e t l =
