@@ -31,16 +31,16 @@ use Rattle.plan_meaning.proofs.RowChecks.{always_true, untested, ground_by, fron
 abbrev names : List (List ℕ)
 names = codes "object" ∷ codes "d" ∷ codes "p" ∷ codes "htn_start" ∷ codes "t" ∷ codes "a" ∷ codes "m" ∷ codes "seen" ∷ codes "x" ∷ codes "o1" ∷ codes "o2" ∷ []
 
-abbrev any : List Param
+abbrev pub any : List Param
 any = record { name = record { number = 8 }; ty = 0 } ∷ []
 
-abbrev seen : Atom
+abbrev pub seen : Atom
 seen = record { predicate = 0; args = Var 0 ∷ [] }
 
-abbrev was_seen : ℕ → GroundAtom
+abbrev pub was_seen : ℕ → GroundAtom
 was_seen o = record { predicate = 0; args = o ∷ [] }
 
-abbrev all_seen : Formula
+abbrev pub all_seen : Formula
 all_seen = Forall any (Holds seen)
 
 abbrev object : ℕ → Object
@@ -60,14 +60,14 @@ seeing init = record {
 }
 
 -- the start, t by m, a
-abbrev order : List Address
+abbrev pub order : List Address
 order = [] ∷ (0 ∷ []) ∷ (0 ∷ 0 ∷ []) ∷ []
 
-abbrev steps : List GroundAction
+abbrev pub steps : List GroundAction
 steps = step (codes "htn_start") (codes "htn_s1" ∷ []) ∷ step (codes "htn_m_m") (codes "htn_s1" ∷ []) ∷ step (codes "a") (codes "htn_s1" ∷ []) ∷ []
 
 module _ (init : List GroundAtom) where
-  abbrev tree : Tree (network (seeing init))
+  abbrev pub tree : Tree (network (seeing init))
   tree = split (uses 0) (more (split (uses 1) (more (done (action 0 [])) none)) none)
 
   abbrev acts : List (Act (network (seeing init)))
@@ -88,7 +88,7 @@ module _ (init : List GroundAtom) where
   front : IsFront (network (seeing init)) (top_work (seeing init)) tree order
   front = front_by (seeing init) refl tree order (ground_0, refl, ((ground_1, refl, (tt, tt)), tt)) refl refl
 
-  spelled : IsSpelling (seeing init) 1 steps tree order (λ p. 1)
+  pub spelled : IsSpelling (seeing init) 1 steps tree order (λ p. 1)
   spelled = subst (λ z. IsSpelling (seeing init) 1 z tree order (λ p. 1)) in_words (spelling_by (seeing init) 1 acts tree order (λ p. 1) front refl refl ((refl, refl, refl), ((refl, refl, refl), ((refl, refl), tt))))
 
 abbrev pub all_objects : Compiled
@@ -112,7 +112,7 @@ all_are_seen = from (λ i. truth-Forall (InTypeOf all_objects) (initial all_obje
     each (o ∷ []) a = one o (two_objects o a.0)
     each (o ∷ p ∷ os) a = absurd a.1
 
-solution : IsSolution all_objects (tree (was_seen 0 ∷ was_seen 1 ∷ [])) order
+pub solution : IsSolution all_objects (tree (was_seen 0 ∷ was_seen 1 ∷ [])) order
 solution = solution_by all_objects (tree (was_seen 0 ∷ was_seen 1 ∷ [])) order (labels (was_seen 0 ∷ was_seen 1 ∷ [])) (front (was_seen 0 ∷ was_seen 1 ∷ [])) refl (refl, (refl, (refl, tt)))
     (λ t. untested t, (λ t. untested t, (all_are_seen, tt)))
     (always_true (InTypeOf all_objects) (after (InTypeOf all_objects) (initial all_objects) nothing []) [])

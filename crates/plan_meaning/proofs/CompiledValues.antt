@@ -21,7 +21,7 @@ smallest_is_compiled mode = record {
   );
 }
 
-empty_is_compiled : (mode : Checks) → IsCompiled empty.hddl mode empty
+pub empty_is_compiled : (mode : Checks) → IsCompiled empty.hddl mode empty
 empty_is_compiled mode = record {
   hddl = refl;
   methods = (
@@ -30,7 +30,7 @@ empty_is_compiled mode = record {
   );
 }
 
-tail_recursion_is_compiled : (mode : Checks) → IsCompiled tail_recursion.hddl mode tail_recursion
+pub tail_recursion_is_compiled : (mode : Checks) → IsCompiled tail_recursion.hddl mode tail_recursion
 tail_recursion_is_compiled mode = record {
   hddl = refl;
   methods = (
@@ -39,7 +39,7 @@ tail_recursion_is_compiled mode = record {
   );
 }
 
-two_children_is_compiled : (mode : Checks) → IsCompiled two_children.hddl mode two_children
+pub two_children_is_compiled : (mode : Checks) → IsCompiled two_children.hddl mode two_children
 two_children_is_compiled mode = record {
   hddl = refl;
   methods = (
@@ -93,7 +93,7 @@ around_is_compiled mode = record {
   );
 }
 
-all_objects_is_compiled : (mode : Checks) → IsCompiled all_objects.hddl mode all_objects
+pub all_objects_is_compiled : (mode : Checks) → IsCompiled all_objects.hddl mode all_objects
 all_objects_is_compiled mode = record {
   hddl = refl;
   methods = (
