@@ -12,7 +12,7 @@ use Rattle.plan_meaning.proofs.BlocksRow.{beside, in_order}
 use Rattle.plan_meaning.proofs.NamedCyclesRow.{not_tail, around}
 use Rattle.plan_meaning.proofs.AllObjectsSolution.{all_objects}
 
-smallest_is_compiled : (mode : Checks) → IsCompiled smallest.hddl mode smallest
+pub smallest_is_compiled : (mode : Checks) → IsCompiled smallest.hddl mode smallest
 smallest_is_compiled mode = record {
   hddl = refl;
   methods = (

@@ -15,7 +15,7 @@ use Rattle.task_networks.proofs.ScheduleLaws.{prepared_is_lawful}
 use Rattle.task_networks.specs.Net.{Net, count}
 use Rattle.task_networks.specs.Tree.{Tree, Address, Label, label_at, used, ran}
 use Rattle.task_networks.specs.Spelling.{Act, apply, run, others, AreActs, Spells}
-use Rattle.slot_machine.specs.Machine.{State, start, after, Runs, May, IsSlotOf}
+use Rattle.slot_machine.specs.Machine.{State, start, after, Runs, IsSlotOf}
 use Rattle.slot_machine.proofs.SpellingRuns.{runs_from_spells}
 use Rattle.plan_meaning.specs.Network.{Work, action, check, task, GroundMethod, network}
 use Rattle.plan_meaning.specs.Solution.{top_work}
@@ -31,20 +31,20 @@ use Rattle.plan_meaning.proofs.WaitingRow.{waiting, of_x}
 abbrev N : Net
 N = network waiting
 
-abbrev begins : GroundAction
+abbrev pub begins : GroundAction
 begins = step (codes "htn_start") (codes "htn_s1" ∷ codes "htn_s2" ∷ [])
 
-abbrev splits : GroundAction
+abbrev pub splits : GroundAction
 splits = step (codes "htn_m_mx") (codes "htn_s2" ∷ codes "htn_s3" ∷ [])
 
-abbrev ends : GroundAction
+abbrev pub ends : GroundAction
 ends = step (codes "y") (codes "htn_s1" ∷ [])
 
 -- p alone has run, or q alone
-abbrev ran_p : GroundAction
+abbrev pub ran_p : GroundAction
 ran_p = step (codes "p") (codes "htn_s3" ∷ [])
 
-abbrev ran_q : GroundAction
+abbrev pub ran_q : GroundAction
 ran_q = step (codes "q") (codes "htn_s2" ∷ [])
 
 abbrev name_of : GroundAction → List ℕ
@@ -167,7 +167,7 @@ module _ where
   x_ordered : ArePairsOf (Pairs []) 2 × IsAcyclic (Pairs [])
   x_ordered = (λ i j c. absurd (no_pair i j c), λ i c. no_pair i i (no_chain (λ i j k c d. no_pair i j c) i i c))
 
-  ordered : AreOrdered waiting.hddl
+  pub ordered : AreOrdered waiting.hddl
   ordered s c = elim (head_or_tail waiting.hddl.top waiting.hddl.methods s c) [
     | inl e ↦ subst (λ (s : MethodSchema). ArePairsOf (Pairs s.pairs) (length s.children) × IsAcyclic (Pairs s.pairs)) e top_ordered
     | inr d ↦ elim (head_or_tail of_x.schema [] s d) [
@@ -298,8 +298,8 @@ module _ (b : ℕ) (small : b < 2 ^ 32) (tree : Tree N) (slot : Address → ℕ)
       go order (v ∷ w ∷ x ∷ y ∷ []) e s a = at order v w x y s a (ap (nth 0) e) (ap (nth 1) e) (ap (nth 2) e) (ap (nth 3) e)
       go order (v ∷ w ∷ x ∷ y ∷ z ∷ acts) e s a = let f : 4 ≡ suc (suc (suc (suc (suc (length (map (step_of waiting) acts)))))) = ap many e in omega arith
 
-y_waits_for_q : (b : ℕ) → b < 2 ^ 32 → (tree : Tree N) (order : List Address) (slot : Address → ℕ) → IsSpelling waiting b (begins ∷ splits ∷ ran_p ∷ ends ∷ []) tree order slot → ⊥
+pub y_waits_for_q : (b : ℕ) → b < 2 ^ 32 → (tree : Tree N) (order : List Address) (slot : Address → ℕ) → IsSpelling waiting b (begins ∷ splits ∷ ran_p ∷ ends ∷ []) tree order slot → ⊥
 y_waits_for_q b small tree order slot = no_front b small tree slot ran_p only_p order
 
-y_waits_for_p : (b : ℕ) → b < 2 ^ 32 → (tree : Tree N) (order : List Address) (slot : Address → ℕ) → IsSpelling waiting b (begins ∷ splits ∷ ran_q ∷ ends ∷ []) tree order slot → ⊥
+pub y_waits_for_p : (b : ℕ) → b < 2 ^ 32 → (tree : Tree N) (order : List Address) (slot : Address → ℕ) → IsSpelling waiting b (begins ∷ splits ∷ ran_q ∷ ends ∷ []) tree order slot → ⊥
 y_waits_for_p b small tree order slot = no_front b small tree slot ran_q only_q order
