@@ -49,4 +49,7 @@ pub mod Bounds
 pub mod SoundChecks
 pub mod SmallestFaithful
 pub mod WaitingRefuted
+pub mod GuardRefuted
 pub mod RowPlans
+pub mod RowPlansTransport
+pub mod RowPlansRefused

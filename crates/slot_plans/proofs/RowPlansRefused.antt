@@ -1,0 +1,77 @@
+-- Lists of the worked rows that can't be executed in any problem that is printed for them; and the empty list, which is no plan.
+use Rattle.std.proofs.Common.{ℕ, ◌≡◌, List, [], ◌∷◌, map, refl, arith}
+use Rattle.plan_model.specs.declared.options.Checks.{Checks}
+use Rattle.plan_model.specs.declared.options.Checks.TheVariants.{Leaf}
+use Rattle.plan_model.specs.declared.steps.GroundAction.{GroundAction}
+use Rattle.plan_model.specs.declared.values.Compiled.{Compiled}
+use Rattle.task_networks.specs.Tree.{Tree, Address, open_leaf, done, split, ran, used}
+use Rattle.task_networks.specs.Front.{IsFinished}
+use Rattle.task_networks.specs.Spelling.{Act, AreActs}
+use Rattle.task_networks.proofs.Lists.{not-in_empty}
+use Rattle.plan_meaning.specs.ClassicalPlan.{IsExecutable, IsPlan}
+use Rattle.plan_meaning.specs.Network.{network}
+use Rattle.plan_meaning.specs.Solution.{top_work}
+use Rattle.plan_meaning.specs.SpelledPlan.{step_of, IsSpelling}
+use Rattle.plan_meaning.proofs.CompiledValues.{two_children_is_compiled}
+use Rattle.plan_meaning.proofs.SmallestRow.{smallest}
+use Rattle.plan_meaning.proofs.SlotTakenRow.{two_children}
+use Rattle.plan_meaning.proofs.SlotTakenTwice.{taken_steps, no_spelling}
+use Rattle.plan_meaning.proofs.WaitingRow.{waiting}
+use Rattle.plan_meaning.proofs.GuardRow.{guarded}
+use Rattle.text_plans.specs.Headline.{SpellsSolution}
+use Rattle.slot_plans.proofs.SoundChecks.{HasSoundFormulas, sound_by, ordered_by}
+use Rattle.slot_plans.proofs.WaitingRefuted.{begins, splits, ran_p, ran_q, ends, y_waits_for_q, y_waits_for_p}
+use Rattle.slot_plans.proofs.GuardRefuted.{b1_steps, b1_is_refused}
+use Rattle.slot_plans.proofs.RowPlans.{OfEachPrinted, IsLawfulRow, row_faithful, sound_always, sound_nothing, smallest_row, waiting_row, guard_row}
+
+abbrev pub IsRefused : Compiled → ℕ → List GroundAction → Type 0
+IsRefused c b steps = OfEachPrinted c b (λ p. IsExecutable p steps → ⊥)
+
+-- what spells no front is executable in none
+refused_by : (mode : Checks) (c : Compiled) (b : ℕ) → IsLawfulRow mode c → (steps : List GroundAction)
+    → ((tree : Tree (network c)) (order : List Address) (slot : Address → ℕ) → IsSpelling c b steps tree order slot → ⊥) → IsRefused c b steps
+refused_by mode c b row steps never style p printable encoded x =
+    let (tree, order, slot, spelled, f) = ((row_faithful mode c b row style p printable encoded).executable steps).0 x in
+    never tree order slot spelled
+
+-- m: t -> a, b, with one slot for both children
+pub two_children_row : (mode : Checks) → IsLawfulRow mode two_children
+two_children_row mode = record { sound = sound_by two_children.hddl refl formulas; compiled = two_children_is_compiled mode; ordered = ordered_by two_children.hddl refl }
+  where
+    formulas : HasSoundFormulas two_children.hddl
+    formulas =
+        let a = sound_always two_children.hddl [] in
+        let e = sound_nothing two_children.hddl [] in
+        record { pre = (a, (a, tt)); eff = (e, (e, tt)); top = a; methods = (a, tt); goal = a }
+
+slot_taken_refused : IsRefused two_children 1 taken_steps
+slot_taken_refused = refused_by Leaf two_children 1 (two_children_row Leaf) taken_steps (no_spelling 1 (omega arith))
+
+-- y while q is left, and while p is left
+waits_for_q_refused : IsRefused waiting 3 (begins ∷ splits ∷ ran_p ∷ ends ∷ [])
+waits_for_q_refused = refused_by Leaf waiting 3 (waiting_row Leaf) (begins ∷ splits ∷ ran_p ∷ ends ∷ []) (y_waits_for_q 3 (omega arith))
+
+waits_for_p_refused : IsRefused waiting 3 (begins ∷ splits ∷ ran_q ∷ ends ∷ [])
+waits_for_p_refused = refused_by Leaf waiting 3 (waiting_row Leaf) (begins ∷ splits ∷ ran_q ∷ ends ∷ []) (y_waits_for_p 3 (omega arith))
+
+-- b1 isn't red
+guard_refused : IsRefused guarded 1 b1_steps
+guard_refused = refused_by Leaf guarded 1 (guard_row Leaf) b1_steps (b1_is_refused 1)
+
+-- the empty list spells no solution of any problem: the top task waits
+no_steps : (c : Compiled) (b : ℕ) → SpellsSolution c b [] → ⊥
+no_steps c b (tree, order, slot, (acts, s, e), solution) = go tree order acts solution.finished s.spelled e
+  where
+    waits : (tree : Tree (network c)) → IsFinished (network c) (top_work c) tree [] → ⊥
+    waits (open_leaf w) f = f.no_leaves [] (w, refl)
+    waits (done w) f = not-in_empty [] ((f.front.schedule.covers []).1 (ran w, refl, tt))
+    waits (split m ts) f = not-in_empty [] ((f.front.schedule.covers []).1 (used m, refl, tt))
+
+    go : (tree : Tree (network c)) (order : List Address) (acts : List (Act (network c))) → IsFinished (network c) (top_work c) tree order → AreActs (network c) tree slot order acts → [] ≡ map (step_of c) acts → ⊥
+    go tree [] [] f a e = waits tree f
+    go tree (p ∷ order) [] f a e = a
+    go tree [] (x ∷ acts) f a e = a
+    go tree (p ∷ order) (x ∷ acts) f a e = cc
+
+no_plan_without_steps : OfEachPrinted smallest 1 (λ p. IsPlan p [] → ⊥)
+no_plan_without_steps style p printable encoded plan = no_steps smallest 1 (((row_faithful Leaf smallest 1 (smallest_row Leaf) style p printable encoded).plans []).0 plan)
