@@ -9,7 +9,7 @@ use Rattle.task_networks.specs.Tree.{Tree, Address}
 use Rattle.task_networks.specs.Spelling.{Act, apply, run, others}
 use Rattle.task_networks.specs.Lawful.{IsLawful}
 use Rattle.task_networks.proofs.ScheduleLaws.{prepared_is_lawful}
-use Rattle.slot_machine.specs.Machine.{start, after, Runs}
+use Rattle.slot_machine.specs.Machine.{start, Runs}
 use Rattle.slot_machine.proofs.SpellingRuns.{runs_from_spells}
 use Rattle.plan_meaning.specs.Network.{Work, action, check, task, GroundMethod, network, IsGroundMethod}
 use Rattle.plan_meaning.specs.Solution.{top_work}

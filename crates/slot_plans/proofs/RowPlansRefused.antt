@@ -44,22 +44,22 @@ two_children_row mode = record { sound = sound_by two_children.hddl refl formula
         let e = sound_nothing two_children.hddl [] in
         record { pre = (a, (a, tt)); eff = (e, (e, tt)); top = a; methods = (a, tt); goal = a }
 
-slot_taken_refused : IsRefused two_children 1 taken_steps
+pub slot_taken_refused : IsRefused two_children 1 taken_steps
 slot_taken_refused = refused_by Leaf two_children 1 (two_children_row Leaf) taken_steps (no_spelling 1 (omega arith))
 
 -- y while q is left, and while p is left
-waits_for_q_refused : IsRefused waiting 3 (begins ∷ splits ∷ ran_p ∷ ends ∷ [])
+pub waits_for_q_refused : IsRefused waiting 3 (begins ∷ splits ∷ ran_p ∷ ends ∷ [])
 waits_for_q_refused = refused_by Leaf waiting 3 (waiting_row Leaf) (begins ∷ splits ∷ ran_p ∷ ends ∷ []) (y_waits_for_q 3 (omega arith))
 
-waits_for_p_refused : IsRefused waiting 3 (begins ∷ splits ∷ ran_q ∷ ends ∷ [])
+pub waits_for_p_refused : IsRefused waiting 3 (begins ∷ splits ∷ ran_q ∷ ends ∷ [])
 waits_for_p_refused = refused_by Leaf waiting 3 (waiting_row Leaf) (begins ∷ splits ∷ ran_q ∷ ends ∷ []) (y_waits_for_p 3 (omega arith))
 
 -- b1 isn't red
-guard_refused : IsRefused guarded 1 b1_steps
+pub guard_refused : IsRefused guarded 1 b1_steps
 guard_refused = refused_by Leaf guarded 1 (guard_row Leaf) b1_steps (b1_is_refused 1)
 
 -- the empty list spells no solution of any problem: the top task waits
-no_steps : (c : Compiled) (b : ℕ) → SpellsSolution c b [] → ⊥
+pub no_steps : (c : Compiled) (b : ℕ) → SpellsSolution c b [] → ⊥
 no_steps c b (tree, order, slot, (acts, s, e), solution) = go tree order acts solution.finished s.spelled e
   where
     waits : (tree : Tree (network c)) → IsFinished (network c) (top_work c) tree [] → ⊥
@@ -73,5 +73,5 @@ no_steps c b (tree, order, slot, (acts, s, e), solution) = go tree order acts so
     go tree [] (x ∷ acts) f a e = a
     go tree (p ∷ order) (x ∷ acts) f a e = cc
 
-no_plan_without_steps : OfEachPrinted smallest 1 (λ p. IsPlan p [] → ⊥)
+pub no_plan_without_steps : OfEachPrinted smallest 1 (λ p. IsPlan p [] → ⊥)
 no_plan_without_steps style p printable encoded plan = no_steps smallest 1 (((row_faithful Leaf smallest 1 (smallest_row Leaf) style p printable encoded).plans []).0 plan)
