@@ -53,7 +53,7 @@ abbrev of_t : MethodPlan
 of_t = method_plan (method_schema 6 0 always (child (Action 0) ∷ []) []) false (0 ∷ []) (Some 0) []
 
 -- where these atoms are true at the beginning
-abbrev seeing : List GroundAtom → Compiled
+abbrev pub seeing : List GroundAtom → Compiled
 seeing init = record {
   hddl = record (problem names (record { name = record { number = 7 }; params = any } ∷ []) (task_schema 4 ∷ []) (action_schema 5 all_seen nothing ∷ []) (of_t.schema ∷ []) top.schema) { objects = object 9 ∷ object 10 ∷ []; init = init };
   methods = top ∷ of_t ∷ [];
@@ -118,7 +118,7 @@ solution = solution_by all_objects (tree (was_seen 0 ∷ was_seen 1 ∷ [])) ord
     (always_true (InTypeOf all_objects) (after (InTypeOf all_objects) (initial all_objects) nothing []) [])
 
 -- where o1 alone is seen
-abbrev half_seen : Compiled
+abbrev pub half_seen : Compiled
 half_seen = seeing (was_seen 0 ∷ [])
 
 o2_is_not_seen : IsTrueIn (InTypeOf half_seen) (initial half_seen) all_seen [] → ⊥
@@ -126,5 +126,5 @@ o2_is_not_seen h =
     let s : initial half_seen (was_seen 1) = to (λ i. truth-Holds (InTypeOf half_seen) (initial half_seen) seen i (1 ∷ [])) (to (λ i. truth-Forall (InTypeOf half_seen) (initial half_seen) any (Holds seen) i []) h (1 ∷ []) ((object 10, refl, inl (inl refl)), tt)) in
     of_each (λ g. g ≡ was_seen 1 → ⊥) (was_seen 0 ∷ []) ((λ e. less 0 1 (omega arith) (sym (ap object_of e))), tt) (was_seen 1) s refl
 
-half_seen_fails : IsExecutableFront half_seen (tree (was_seen 0 ∷ [])) order → ⊥
+pub half_seen_fails : IsExecutableFront half_seen (tree (was_seen 0 ∷ [])) order → ⊥
 half_seen_fails f = o2_is_not_seen (allowed_of half_seen (tree (was_seen 0 ∷ [])) order (labels (was_seen 0 ∷ [])) (refl, (refl, (refl, tt))) f).1.1.0

@@ -126,11 +126,11 @@ solution = solution_by free_variable (tree 1) order (labels 1) front refl (refl,
     (always_true (InTypeOf free_variable) (after (InTypeOf free_variable) (initial free_variable) nothing []) [])
 
 -- with o1 it is a front too, which can't be executed: o1 isn't good
-front_o1 : IsFront (network free_variable) (top_work free_variable) (tree 0) order
+pub front_o1 : IsFront (network free_variable) (top_work free_variable) (tree 0) order
 front_o1 = front_by free_variable refl (tree 0) order (ground_0, refl, ((ground_o1, refl, (tt, (tt, tt))), tt)) refl refl
 
 o1_is_not_good : IsTrueIn (InTypeOf free_variable) (initial free_variable) (Holds good_o) (0 ∷ []) → ⊥
 o1_is_not_good h = of_each (λ g. g ≡ good 0 → ⊥) (good 1 ∷ good 2 ∷ []) ((λ e. (let f : 1 ≡ 0 = ap object_of e in omega arith)), ((λ e. (let f : 2 ≡ 0 = ap object_of e in omega arith)), tt)) (good 0) (to (λ i. truth-Holds (InTypeOf free_variable) (initial free_variable) good_o i (0 ∷ [])) h) refl
 
-o1_fails : IsExecutableFront free_variable (tree 0) order → ⊥
+pub o1_fails : IsExecutableFront free_variable (tree 0) order → ⊥
 o1_fails f = o1_is_not_good (allowed_of free_variable (tree 0) order (labels 0) (refl, (refl, (refl, (refl, tt)))) f).1.1.0

@@ -115,14 +115,14 @@ pub solution : IsSolution late_check tree order
 solution = solution_by late_check tree order labels front refl (refl, (refl, (refl, (refl, (refl, tt))))) (λ t. untested t, (λ t. untested t, (always_here (initial late_check), (ready_then, (always_here made_ready, tt))))) (always_here (after (InTypeOf late_check) made_ready nothing []))
 
 -- with the check before u the front can't be executed: nothing is ready then
-abbrev hasty_order : List Address
+abbrev pub hasty_order : List Address
 hasty_order = [] ∷ (0 ∷ []) ∷ (0 ∷ 0 ∷ []) ∷ (1 ∷ []) ∷ (1 ∷ 0 ∷ []) ∷ []
 
-hasty_front : IsFront (network late_check) (top_work late_check) tree hasty_order
+pub hasty_front : IsFront (network late_check) (top_work late_check) tree hasty_order
 hasty_front = front_by late_check refl tree hasty_order (ground_0, refl, ((ground_1, refl, (tt, (tt, tt))), (tt, tt))) refl refl
 
 not_ready : IsTrueIn (InTypeOf late_check) (initial late_check) (Holds ready) [] → ⊥
 not_ready h = not-in_empty (ground [] ready) (to (λ i. truth-Holds (InTypeOf late_check) (initial late_check) ready i []) h)
 
-hasty_fails : IsExecutableFront late_check tree hasty_order → ⊥
+pub hasty_fails : IsExecutableFront late_check tree hasty_order → ⊥
 hasty_fails f = not_ready (allowed_of late_check tree hasty_order (used (uses 0) ∷ used (uses 1) ∷ ran (check 1 []) ∷ ran (action 1 []) ∷ ran (action 0 []) ∷ []) (refl, (refl, (refl, (refl, (refl, tt))))) f).1.1.0

@@ -51,7 +51,7 @@ steps = step (codes "htn_start") (codes "htn_s1" ∷ []) ∷ step (codes "htn_m_
 in_words : map (step_of smallest) acts ≡ steps
 in_words = λ i. step (codes "htn_start") (slot_1 i ∷ []) ∷ step (codes "htn_m_m") (slot_1 i ∷ []) ∷ step (codes "a") (slot_1 i ∷ []) ∷ []
 
-ground_0 : IsGroundMethod smallest (uses 0)
+pub ground_0 : IsGroundMethod smallest (uses 0)
 ground_0 = ground_by smallest (uses 0) (method_plan smallest_top false (0 ∷ []) (Some 0) []) refl tt tt (([], (_, refl, refl), tt), tt)
 
 ground_1 : IsGroundMethod smallest (uses 1)

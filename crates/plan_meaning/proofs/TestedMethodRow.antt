@@ -88,14 +88,14 @@ solution = solution_by tested_method tree order (used (uses 0) ∷ ran (action 1
     (always_here (after (InTypeOf tested_method) made_ready nothing []))
 
 -- applied before u, the method's precondition is false
-abbrev hasty_order : List Address
+abbrev pub hasty_order : List Address
 hasty_order = [] ∷ (0 ∷ []) ∷ (1 ∷ []) ∷ (0 ∷ 0 ∷ []) ∷ []
 
-hasty_front : IsFront (network tested_method) (top_work tested_method) tree hasty_order
+pub hasty_front : IsFront (network tested_method) (top_work tested_method) tree hasty_order
 hasty_front = front_by tested_method refl tree hasty_order (ground_0, refl, ((ground_1, refl, (tt, tt)), (tt, tt))) refl refl
 
 not_ready : IsTrueIn (InTypeOf tested_method) (initial tested_method) (Holds ready) [] → ⊥
 not_ready h = not-in_empty (ground [] ready) (to (λ i. truth-Holds (InTypeOf tested_method) (initial tested_method) ready i []) h)
 
-hasty_fails : IsExecutableFront tested_method tree hasty_order → ⊥
+pub hasty_fails : IsExecutableFront tested_method tree hasty_order → ⊥
 hasty_fails f = not_ready ((allowed_of tested_method tree hasty_order (used (uses 0) ∷ used (uses 1) ∷ ran (action 1 []) ∷ ran (action 0 []) ∷ []) (refl, (refl, (refl, (refl, tt)))) f).1.0 refl)
