@@ -53,3 +53,4 @@ pub mod GuardRefuted
 pub mod RowPlans
 pub mod RowPlansTransport
 pub mod RowPlansRefused
+pub mod RowPlansOnly

@@ -25,7 +25,7 @@ use Rattle.plan_meaning.proofs.RowChecks.{front_by, spelling_by}
 use Rattle.plan_meaning.proofs.AllObjectsSolution as All
 use Rattle.plan_meaning.proofs.AllObjectsSolution.{half_seen, half_seen_fails}
 use Rattle.text_plans.specs.Headline.{SpellsSolution}
-use Rattle.slot_plans.proofs.SoundChecks.{HasSoundFormulas, sound_by, ordered_by}
+use Rattle.slot_plans.proofs.SoundChecks.{sound_by, ordered_by}
 use Rattle.slot_plans.proofs.WaitingRefuted.{begins, splits, ran_p, ran_q, ends, y_waits_for_q, y_waits_for_p}
 use Rattle.slot_plans.proofs.GuardRefuted.{b1_steps, b1_is_refused}
 use Rattle.slot_plans.proofs.RowPlans.{OfEachPrinted, IsLawfulRow, row_faithful, plain_formulas, seeing_formulas, smallest_row, waiting_row, guard_row}
