@@ -54,3 +54,4 @@ pub mod RowPlans
 pub mod RowPlansTransport
 pub mod RowPlansRefused
 pub mod RowPlansOnly
+pub mod RowPlansGoal

@@ -42,7 +42,7 @@ refused_by mode c b row steps never style p printable encoded x =
 
 module _ (mode : Checks) (c : Compiled) (b : ℕ) (row : IsLawfulRow mode c) (steps : List GroundAction) (tree : Tree (network c)) (order : List Address) (slot : Address → ℕ) (spelled : IsSpelling c b steps tree order slot) where
   -- a list spells one front: if that one can't be executed, nor can the list
-  front_refused : (IsExecutableFront c tree order → ⊥) → IsRefused c b steps
+  pub front_refused : (IsExecutableFront c tree order → ⊥) → IsRefused c b steps
   front_refused never style p printable encoded x =
       let f = row_faithful mode c b row style p printable encoded in
       let (other, schedule, by, s, e) = (f.executable steps).0 x in
@@ -50,7 +50,7 @@ module _ (mode : Checks) (c : Compiled) (b : ℕ) (row : IsLawfulRow mode c) (st
       never (subst (λ z. IsExecutableFront c z order) one.0 (subst (IsExecutableFront c other) one.1 e))
 
   -- and if that one is no solution, the list is no plan
-  no_solution_no_plan : (IsSolution c tree order → ⊥) → OfEachPrinted c b (λ p. IsPlan p steps → ⊥)
+  pub no_solution_no_plan : (IsSolution c tree order → ⊥) → OfEachPrinted c b (λ p. IsPlan p steps → ⊥)
   no_solution_no_plan never style p printable encoded x =
       let f = row_faithful mode c b row style p printable encoded in
       let (other, schedule, by, s, e) = (f.plans steps).0 x in
