@@ -97,7 +97,7 @@ no_steps c b (tree, order, slot, (acts, s, e), solution) = go tree order acts so
 pub no_plan_without_steps : OfEachPrinted smallest 1 (λ p. IsPlan p [] → ⊥)
 no_plan_without_steps style p printable encoded plan = no_steps smallest 1 (((row_faithful Leaf smallest 1 (smallest_row Leaf) style p printable encoded).plans []).0 plan)
 
--- the start alone is executable, but t waits then
+-- after the start alone t waits
 pub begun_is_no_plan : OfEachPrinted smallest 1 (λ p. IsPlan p begun → ⊥)
 begun_is_no_plan = no_solution_no_plan Leaf smallest 1 (smallest_row Leaf) begun tree ([] ∷ []) (λ q. 1) spelled (λ s. s.finished.no_leaves (0 ∷ []) (task 0 [], refl))
   where
