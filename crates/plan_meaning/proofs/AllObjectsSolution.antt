@@ -31,16 +31,16 @@ use Rattle.plan_meaning.proofs.RowChecks.{always_true, untested, ground_by, fron
 abbrev names : List (List ℕ)
 names = codes "object" ∷ codes "d" ∷ codes "p" ∷ codes "htn_start" ∷ codes "t" ∷ codes "a" ∷ codes "m" ∷ codes "seen" ∷ codes "x" ∷ codes "o1" ∷ codes "o2" ∷ []
 
-abbrev any : List Param
+abbrev pub any : List Param
 any = record { name = record { number = 8 }; ty = 0 } ∷ []
 
-abbrev seen : Atom
+abbrev pub seen : Atom
 seen = record { predicate = 0; args = Var 0 ∷ [] }
 
-abbrev was_seen : ℕ → GroundAtom
+abbrev pub was_seen : ℕ → GroundAtom
 was_seen o = record { predicate = 0; args = o ∷ [] }
 
-abbrev all_seen : Formula
+abbrev pub all_seen : Formula
 all_seen = Forall any (Holds seen)
 
 abbrev object : ℕ → Object
@@ -53,21 +53,21 @@ abbrev of_t : MethodPlan
 of_t = method_plan (method_schema 6 0 always (child (Action 0) ∷ []) []) false (0 ∷ []) (Some 0) []
 
 -- where these atoms are true at the beginning
-abbrev seeing : List GroundAtom → Compiled
+abbrev pub seeing : List GroundAtom → Compiled
 seeing init = record {
   hddl = record (problem names (record { name = record { number = 7 }; params = any } ∷ []) (task_schema 4 ∷ []) (action_schema 5 all_seen nothing ∷ []) (of_t.schema ∷ []) top.schema) { objects = object 9 ∷ object 10 ∷ []; init = init };
   methods = top ∷ of_t ∷ [];
 }
 
 -- the start, t by m, a
-abbrev order : List Address
+abbrev pub order : List Address
 order = [] ∷ (0 ∷ []) ∷ (0 ∷ 0 ∷ []) ∷ []
 
-abbrev steps : List GroundAction
+abbrev pub steps : List GroundAction
 steps = step (codes "htn_start") (codes "htn_s1" ∷ []) ∷ step (codes "htn_m_m") (codes "htn_s1" ∷ []) ∷ step (codes "a") (codes "htn_s1" ∷ []) ∷ []
 
 module _ (init : List GroundAtom) where
-  abbrev tree : Tree (network (seeing init))
+  abbrev pub tree : Tree (network (seeing init))
   tree = split (uses 0) (more (split (uses 1) (more (done (action 0 [])) none)) none)
 
   abbrev acts : List (Act (network (seeing init)))
@@ -88,7 +88,7 @@ module _ (init : List GroundAtom) where
   front : IsFront (network (seeing init)) (top_work (seeing init)) tree order
   front = front_by (seeing init) refl tree order (ground_0, refl, ((ground_1, refl, (tt, tt)), tt)) refl refl
 
-  spelled : IsSpelling (seeing init) 1 steps tree order (λ p. 1)
+  pub spelled : IsSpelling (seeing init) 1 steps tree order (λ p. 1)
   spelled = subst (λ z. IsSpelling (seeing init) 1 z tree order (λ p. 1)) in_words (spelling_by (seeing init) 1 acts tree order (λ p. 1) front refl refl ((refl, refl, refl), ((refl, refl, refl), ((refl, refl), tt))))
 
 abbrev pub all_objects : Compiled
@@ -112,13 +112,13 @@ all_are_seen = from (λ i. truth-Forall (InTypeOf all_objects) (initial all_obje
     each (o ∷ []) a = one o (two_objects o a.0)
     each (o ∷ p ∷ os) a = absurd a.1
 
-solution : IsSolution all_objects (tree (was_seen 0 ∷ was_seen 1 ∷ [])) order
+pub solution : IsSolution all_objects (tree (was_seen 0 ∷ was_seen 1 ∷ [])) order
 solution = solution_by all_objects (tree (was_seen 0 ∷ was_seen 1 ∷ [])) order (labels (was_seen 0 ∷ was_seen 1 ∷ [])) (front (was_seen 0 ∷ was_seen 1 ∷ [])) refl (refl, (refl, (refl, tt)))
     (λ t. untested t, (λ t. untested t, (all_are_seen, tt)))
     (always_true (InTypeOf all_objects) (after (InTypeOf all_objects) (initial all_objects) nothing []) [])
 
 -- where o1 alone is seen
-abbrev half_seen : Compiled
+abbrev pub half_seen : Compiled
 half_seen = seeing (was_seen 0 ∷ [])
 
 o2_is_not_seen : IsTrueIn (InTypeOf half_seen) (initial half_seen) all_seen [] → ⊥
@@ -126,5 +126,5 @@ o2_is_not_seen h =
     let s : initial half_seen (was_seen 1) = to (λ i. truth-Holds (InTypeOf half_seen) (initial half_seen) seen i (1 ∷ [])) (to (λ i. truth-Forall (InTypeOf half_seen) (initial half_seen) any (Holds seen) i []) h (1 ∷ []) ((object 10, refl, inl (inl refl)), tt)) in
     of_each (λ g. g ≡ was_seen 1 → ⊥) (was_seen 0 ∷ []) ((λ e. less 0 1 (omega arith) (sym (ap object_of e))), tt) (was_seen 1) s refl
 
-half_seen_fails : IsExecutableFront half_seen (tree (was_seen 0 ∷ [])) order → ⊥
+pub half_seen_fails : IsExecutableFront half_seen (tree (was_seen 0 ∷ [])) order → ⊥
 half_seen_fails f = o2_is_not_seen (allowed_of half_seen (tree (was_seen 0 ∷ [])) order (labels (was_seen 0 ∷ [])) (refl, (refl, (refl, tt))) f).1.1.0

@@ -24,7 +24,7 @@ top_is : (mode : Checks) → IsMethodPlan late_hddl mode late_top late_top_plan
 top_is mode = plain late_hddl mode late_top late_top_plan refl refl refl (record { schema = refl; up = tt; line = refl; heir = refl; copiers = refl; rising = one_rises 0; guards = ([], refl, refl) })
 
 -- the method has a check of its own, before its subtask
-late_check_is_compiled : IsCompiled late_hddl Leaf late_check
+pub late_check_is_compiled : IsCompiled late_hddl Leaf late_check
 late_check_is_compiled = record {
   hddl = refl;
   methods = (
@@ -34,7 +34,7 @@ late_check_is_compiled = record {
 }
 
 -- in the other mode it is tested where it is applied, and has no check
-tested_method_is_compiled : IsCompiled late_hddl AtOnce tested_method
+pub tested_method_is_compiled : IsCompiled late_hddl AtOnce tested_method
 tested_method_is_compiled = record {
   hddl = refl;
   methods = (
@@ -44,7 +44,7 @@ tested_method_is_compiled = record {
 }
 
 -- the argument of paint is declared as a block, which isn't always red: a guard
-guarded_is_compiled : (mode : Checks) → IsCompiled guard_hddl mode guarded
+pub guarded_is_compiled : (mode : Checks) → IsCompiled guard_hddl mode guarded
 guarded_is_compiled mode = record {
   hddl = refl;
   methods = (
@@ -66,7 +66,7 @@ guard_left_out mode c = go c.methods.1.0.guards
     go (all, inr (other, k), o) = other block_is_not_red
 
 -- a method with a parameter and a check
-free_variable_is_compiled : IsCompiled free_variable.hddl Leaf free_variable
+pub free_variable_is_compiled : IsCompiled free_variable.hddl Leaf free_variable
 free_variable_is_compiled = record {
   hddl = refl;
   methods = (

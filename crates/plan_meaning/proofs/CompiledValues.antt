@@ -1,6 +1,7 @@
 -- The values of the worked rows are the compiled ones of their problems.
-use Rattle.std.proofs.Common.{[], refl, arith}
+use Rattle.std.proofs.Common.{List, [], refl, arith}
 use Rattle.plan_model.specs.declared.options.Checks.{Checks}
+use Rattle.plan_model.specs.declared.terms.GroundAtom.{GroundAtom}
 use Rattle.plan_meaning.specs.Compilation.{IsCompiled}
 use Rattle.plan_meaning.proofs.PlanKinds.{plain, none_rise, one_rises}
 use Rattle.plan_meaning.proofs.SmallestRow.{smallest}
@@ -10,9 +11,9 @@ use Rattle.plan_meaning.proofs.SlotTakenRow.{two_children}
 use Rattle.plan_meaning.proofs.WaitingRow.{waiting}
 use Rattle.plan_meaning.proofs.BlocksRow.{beside, in_order}
 use Rattle.plan_meaning.proofs.NamedCyclesRow.{not_tail, around}
-use Rattle.plan_meaning.proofs.AllObjectsSolution.{all_objects}
+use Rattle.plan_meaning.proofs.AllObjectsSolution.{seeing}
 
-smallest_is_compiled : (mode : Checks) → IsCompiled smallest.hddl mode smallest
+pub smallest_is_compiled : (mode : Checks) → IsCompiled smallest.hddl mode smallest
 smallest_is_compiled mode = record {
   hddl = refl;
   methods = (
@@ -21,7 +22,7 @@ smallest_is_compiled mode = record {
   );
 }
 
-empty_is_compiled : (mode : Checks) → IsCompiled empty.hddl mode empty
+pub empty_is_compiled : (mode : Checks) → IsCompiled empty.hddl mode empty
 empty_is_compiled mode = record {
   hddl = refl;
   methods = (
@@ -30,7 +31,7 @@ empty_is_compiled mode = record {
   );
 }
 
-tail_recursion_is_compiled : (mode : Checks) → IsCompiled tail_recursion.hddl mode tail_recursion
+pub tail_recursion_is_compiled : (mode : Checks) → IsCompiled tail_recursion.hddl mode tail_recursion
 tail_recursion_is_compiled mode = record {
   hddl = refl;
   methods = (
@@ -39,7 +40,7 @@ tail_recursion_is_compiled mode = record {
   );
 }
 
-two_children_is_compiled : (mode : Checks) → IsCompiled two_children.hddl mode two_children
+pub two_children_is_compiled : (mode : Checks) → IsCompiled two_children.hddl mode two_children
 two_children_is_compiled mode = record {
   hddl = refl;
   methods = (
@@ -93,11 +94,12 @@ around_is_compiled mode = record {
   );
 }
 
-all_objects_is_compiled : (mode : Checks) → IsCompiled all_objects.hddl mode all_objects
-all_objects_is_compiled mode = record {
+-- whichever objects are seen at the beginning
+pub seeing_is_compiled : (init : List GroundAtom) (mode : Checks) → IsCompiled (seeing init).hddl mode (seeing init)
+seeing_is_compiled init mode = record {
   hddl = refl;
   methods = (
-    plain all_objects.hddl mode _ _ refl refl refl (record { schema = refl; up = tt; line = refl; heir = refl; copiers = refl; rising = none_rise; guards = ([], refl, refl) }),
-    (plain all_objects.hddl mode _ _ refl refl refl (record { schema = refl; up = tt; line = refl; heir = refl; copiers = refl; rising = none_rise; guards = ([], refl, refl) }), tt),
+    plain (seeing init).hddl mode _ _ refl refl refl (record { schema = refl; up = tt; line = refl; heir = refl; copiers = refl; rising = none_rise; guards = ([], refl, refl) }),
+    (plain (seeing init).hddl mode _ _ refl refl refl (record { schema = refl; up = tt; line = refl; heir = refl; copiers = refl; rising = none_rise; guards = ([], refl, refl) }), tt),
   );
 }

@@ -24,13 +24,13 @@ empty = record {
   methods = method_plan top false [] None [] ∷ method_plan smallest_method false (0 ∷ []) (Some 0) [] ∷ [];
 }
 
-abbrev tree : Tree (network empty)
+abbrev pub tree : Tree (network empty)
 tree = split (uses 0) none
 
 abbrev acts : List (Act (network empty))
 acts = apply 1 [] (uses 0) ∷ []
 
-abbrev steps : List GroundAction
+abbrev pub steps : List GroundAction
 steps = step (codes "htn_start") (codes "htn_s1" ∷ []) ∷ []
 
 in_words : map (step_of empty) acts ≡ steps
@@ -42,8 +42,8 @@ ground_0 = ground_by empty (uses 0) (method_plan top false [] None []) refl tt t
 front : IsFront (network empty) (top_work empty) tree ([] ∷ [])
 front = front_by empty refl tree ([] ∷ []) (ground_0, refl, tt) refl refl
 
-spelled : IsSpelling empty 1 steps tree ([] ∷ []) (λ p. 1)
+pub spelled : IsSpelling empty 1 steps tree ([] ∷ []) (λ p. 1)
 spelled = subst (λ z. IsSpelling empty 1 z tree ([] ∷ []) (λ p. 1)) in_words (spelling_by empty 1 acts tree ([] ∷ []) (λ p. 1) front refl refl ((refl, refl, refl), tt))
 
-solution : IsSolution empty tree ([] ∷ [])
+pub solution : IsSolution empty tree ([] ∷ [])
 solution = solution_by empty tree ([] ∷ []) (used (uses 0) ∷ []) front refl (refl, tt) (λ t. untested t, tt) (always_true (InTypeOf empty) (initial empty) [])

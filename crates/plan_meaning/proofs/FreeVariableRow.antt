@@ -38,7 +38,7 @@ object n = record { name = record { number = n }; ty = 0; constant = false }
 abbrev param_o : Param
 param_o = record { name = record { number = 7 }; ty = 0 }
 
-abbrev good_o : Atom
+abbrev pub good_o : Atom
 good_o = record { predicate = 0; args = Var 0 ∷ [] }
 
 abbrev good : ℕ → GroundAtom
@@ -63,17 +63,17 @@ abbrev pub free_variable : Compiled
 free_variable = record { hddl = hddl; methods = top ∷ plan ∷ [] }
 
 -- the method with object number k
-abbrev with : ℕ → GroundMethod
+abbrev pub with : ℕ → GroundMethod
 with k = record { number = 1; values = k ∷ [] }
 
-abbrev tree : ℕ → Tree (network free_variable)
+abbrev pub tree : ℕ → Tree (network free_variable)
 tree k = split (uses 0) (more (split (with k) (more (done (check 1 (k ∷ []))) (more (done (action 0 [])) none))) none)
 
 -- the start, t by m, its check, a
-abbrev order : List Address
+abbrev pub order : List Address
 order = [] ∷ (0 ∷ []) ∷ (0 ∷ 0 ∷ []) ∷ (1 ∷ 0 ∷ []) ∷ []
 
-abbrev slot : Address → ℕ
+abbrev pub slot : Address → ℕ
 slot [] = 1
 slot (i ∷ []) = 1
 slot (zero ∷ j ∷ p) = 2
@@ -92,7 +92,7 @@ ground_o2 = ground_by free_variable (with 1) plan refl ((_, refl, inl (inl refl)
 abbrev acts : List (Act (network free_variable))
 acts = apply 1 [] (uses 0) ∷ apply 1 (2 ∷ []) (with 1) ∷ run 2 (check 1 (1 ∷ [])) ∷ run 1 (action 0 []) ∷ []
 
-abbrev steps : List GroundAction
+abbrev pub steps : List GroundAction
 steps =
     step (codes "htn_start") (codes "htn_s1" ∷ [])
     ∷ step (codes "htn_m_m") (codes "htn_s1" ∷ codes "htn_s2" ∷ codes "o2" ∷ [])
@@ -111,7 +111,7 @@ in_words = λ i.
 front : IsFront (network free_variable) (top_work free_variable) (tree 1) order
 front = front_by free_variable refl (tree 1) order (ground_0, refl, ((ground_o2, refl, (tt, (tt, tt))), tt)) refl refl
 
-spelled : IsSpelling free_variable 2 steps (tree 1) order slot
+pub spelled : IsSpelling free_variable 2 steps (tree 1) order slot
 spelled = subst (λ z. IsSpelling free_variable 2 z (tree 1) order slot) in_words (spelling_by free_variable 2 acts (tree 1) order slot front refl refl ((refl, refl, refl), ((refl, refl, refl), ((refl, refl), ((refl, refl), tt)))))
 
 abbrev labels : ℕ → List (Label (network free_variable))
@@ -120,17 +120,17 @@ labels k = used (uses 0) ∷ used (with k) ∷ ran (check 1 (k ∷ [])) ∷ ran 
 o2_is_good : IsTrueIn (InTypeOf free_variable) (initial free_variable) (Holds good_o) (1 ∷ [])
 o2_is_good = from (λ i. truth-Holds (InTypeOf free_variable) (initial free_variable) good_o i (1 ∷ [])) (0, omega arith, refl)
 
-solution : IsSolution free_variable (tree 1) order
+pub solution : IsSolution free_variable (tree 1) order
 solution = solution_by free_variable (tree 1) order (labels 1) front refl (refl, (refl, (refl, (refl, tt))))
     (λ t. untested t, (λ t. untested t, (o2_is_good, (always_true (InTypeOf free_variable) (initial free_variable) [], tt))))
     (always_true (InTypeOf free_variable) (after (InTypeOf free_variable) (initial free_variable) nothing []) [])
 
 -- with o1 it is a front too, which can't be executed: o1 isn't good
-front_o1 : IsFront (network free_variable) (top_work free_variable) (tree 0) order
+pub front_o1 : IsFront (network free_variable) (top_work free_variable) (tree 0) order
 front_o1 = front_by free_variable refl (tree 0) order (ground_0, refl, ((ground_o1, refl, (tt, (tt, tt))), tt)) refl refl
 
 o1_is_not_good : IsTrueIn (InTypeOf free_variable) (initial free_variable) (Holds good_o) (0 ∷ []) → ⊥
 o1_is_not_good h = of_each (λ g. g ≡ good 0 → ⊥) (good 1 ∷ good 2 ∷ []) ((λ e. (let f : 1 ≡ 0 = ap object_of e in omega arith)), ((λ e. (let f : 2 ≡ 0 = ap object_of e in omega arith)), tt)) (good 0) (to (λ i. truth-Holds (InTypeOf free_variable) (initial free_variable) good_o i (0 ∷ [])) h) refl
 
-o1_fails : IsExecutableFront free_variable (tree 0) order → ⊥
+pub o1_fails : IsExecutableFront free_variable (tree 0) order → ⊥
 o1_fails f = o1_is_not_good (allowed_of free_variable (tree 0) order (labels 0) (refl, (refl, (refl, (refl, tt)))) f).1.1.0

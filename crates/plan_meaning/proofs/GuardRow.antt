@@ -87,11 +87,11 @@ b1_is_not_red (object, is, part) =
     block_is_not_red (subst (λ (z : Object). IsPart guard_types z.ty 2) (sym f) part)
 
 -- the method with object number k: b1 is object 0, r1 is object 1
-abbrev with : ℕ → GroundMethod
+abbrev pub with : ℕ → GroundMethod
 with k = record { number = 1; values = k ∷ [] }
 
 -- b1 isn't red, so m with b1 is no ground method
-not_b1 : IsGroundMethod guarded (with 0) → ⊥
+pub not_b1 : IsGroundMethod guarded (with 0) → ⊥
 not_b1 g = go (g.declared painted there)
   where
     there : Contains g.plan.schema.children painted
@@ -110,16 +110,16 @@ ground_0 = ground_by guarded (uses 0) guard_top refl tt tt (([], (_, refl, refl)
 ground_r1 : IsGroundMethod guarded (with 1)
 ground_r1 = ground_by guarded (with 1) guard_method_plan refl ((_, refl, inl (inr (climb (1, omega arith, refl) stay))), tt) tt ((paint.params, (_, refl, refl), ((_, refl, inl (inr stay)), tt)), tt)
 
-abbrev tree : Tree (network guarded)
+abbrev pub tree : Tree (network guarded)
 tree = split (uses 0) (more (split (with 1) (more (done (action 0 (1 ∷ []))) none)) none)
 
-abbrev order : List Address
+abbrev pub order : List Address
 order = [] ∷ (0 ∷ []) ∷ (0 ∷ 0 ∷ []) ∷ []
 
 abbrev acts : List (Act (network guarded))
 acts = apply 1 [] (uses 0) ∷ apply 1 [] (with 1) ∷ run 1 (action 0 (1 ∷ [])) ∷ []
 
-abbrev steps : List GroundAction
+abbrev pub steps : List GroundAction
 steps = step (codes "htn_start") (codes "htn_s1" ∷ []) ∷ step (codes "htn_m_m") (codes "htn_s1" ∷ codes "r1" ∷ []) ∷ step (codes "paint") (codes "htn_s1" ∷ codes "r1" ∷ []) ∷ []
 
 in_words : map (step_of guarded) acts ≡ steps
@@ -128,10 +128,10 @@ in_words = λ i. step (codes "htn_start") (slot_1 i ∷ []) ∷ step (codes "htn
 front : IsFront (network guarded) (top_work guarded) tree order
 front = front_by guarded refl tree order (ground_0, refl, ((ground_r1, refl, (tt, tt)), tt)) refl refl
 
-spelled : IsSpelling guarded 1 steps tree order (λ p. 1)
+pub spelled : IsSpelling guarded 1 steps tree order (λ p. 1)
 spelled = subst (λ z. IsSpelling guarded 1 z tree order (λ p. 1)) in_words (spelling_by guarded 1 acts tree order (λ p. 1) front refl refl ((refl, refl, refl), ((refl, refl, refl), ((refl, refl), tt))))
 
-solution : IsSolution guarded tree order
+pub solution : IsSolution guarded tree order
 solution = solution_by guarded tree order (used (uses 0) ∷ used (with 1) ∷ ran (action 0 (1 ∷ [])) ∷ []) front refl (refl, (refl, (refl, tt)))
     (λ t. untested t, (λ t. untested t, (always_true (InTypeOf guarded) (initial guarded) (1 ∷ []), tt)))
     (always_true (InTypeOf guarded) (after (InTypeOf guarded) (initial guarded) nothing (1 ∷ [])) [])

@@ -50,14 +50,14 @@ late_method_plan = method_plan (method_schema 7 0 (Holds ready) (child Check ∷
 abbrev pub late_check : Compiled
 late_check = record { hddl = late_hddl; methods = late_top_plan ∷ late_method_plan ∷ [] }
 
-abbrev tree : Tree (network late_check)
+abbrev pub tree : Tree (network late_check)
 tree = split (uses 0) (more (split (uses 1) (more (done (check 1 [])) (more (done (action 0 [])) none))) (more (done (action 1 [])) none))
 
 -- the start, t by m, u, the check of m, a
-abbrev order : List Address
+abbrev pub order : List Address
 order = [] ∷ (0 ∷ []) ∷ (1 ∷ []) ∷ (0 ∷ 0 ∷ []) ∷ (1 ∷ 0 ∷ []) ∷ []
 
-abbrev slot : Address → ℕ
+abbrev pub slot : Address → ℕ
 slot [] = 1
 slot (zero ∷ []) = 2
 slot (suc i ∷ []) = 1
@@ -67,7 +67,7 @@ slot (suc i ∷ j ∷ p) = 2
 abbrev acts : List (Act (network late_check))
 acts = apply 1 (2 ∷ []) (uses 0) ∷ apply 2 (3 ∷ []) (uses 1) ∷ run 1 (action 1 []) ∷ run 3 (check 1 []) ∷ run 2 (action 0 []) ∷ []
 
-abbrev steps : List GroundAction
+abbrev pub steps : List GroundAction
 steps =
     step (codes "htn_start") (codes "htn_s1" ∷ codes "htn_s2" ∷ [])
     ∷ step (codes "htn_m_m") (codes "htn_s2" ∷ codes "htn_s3" ∷ [])
@@ -95,7 +95,7 @@ front : IsFront (network late_check) (top_work late_check) tree order
 front = front_by late_check refl tree order (ground_0, refl, ((ground_1, refl, (tt, (tt, tt))), (tt, tt))) refl refl
 
 -- the list spells the front with three slots
-spelled : IsSpelling late_check 3 steps tree order slot
+pub spelled : IsSpelling late_check 3 steps tree order slot
 spelled = subst (λ z. IsSpelling late_check 3 z tree order slot) in_words (spelling_by late_check 3 acts tree order slot front refl refl ((refl, refl, refl), ((refl, refl, refl), ((refl, refl), ((refl, refl), ((refl, refl), tt))))))
 
 -- each condition is true in the state before it: u makes what the check of m asks
@@ -111,18 +111,18 @@ made_ready = after (InTypeOf late_check) (initial late_check) (E.Add ready) []
 ready_then : IsTrueIn (InTypeOf late_check) made_ready (Holds ready) []
 ready_then = from (λ i. truth-Holds (InTypeOf late_check) made_ready ready i []) (inr (from (λ i. adds-Add (InTypeOf late_check) (initial late_check) ready i [] (ground [] ready)) refl))
 
-solution : IsSolution late_check tree order
+pub solution : IsSolution late_check tree order
 solution = solution_by late_check tree order labels front refl (refl, (refl, (refl, (refl, (refl, tt))))) (λ t. untested t, (λ t. untested t, (always_here (initial late_check), (ready_then, (always_here made_ready, tt))))) (always_here (after (InTypeOf late_check) made_ready nothing []))
 
 -- with the check before u the front can't be executed: nothing is ready then
-abbrev hasty_order : List Address
+abbrev pub hasty_order : List Address
 hasty_order = [] ∷ (0 ∷ []) ∷ (0 ∷ 0 ∷ []) ∷ (1 ∷ []) ∷ (1 ∷ 0 ∷ []) ∷ []
 
-hasty_front : IsFront (network late_check) (top_work late_check) tree hasty_order
+pub hasty_front : IsFront (network late_check) (top_work late_check) tree hasty_order
 hasty_front = front_by late_check refl tree hasty_order (ground_0, refl, ((ground_1, refl, (tt, (tt, tt))), (tt, tt))) refl refl
 
 not_ready : IsTrueIn (InTypeOf late_check) (initial late_check) (Holds ready) [] → ⊥
 not_ready h = not-in_empty (ground [] ready) (to (λ i. truth-Holds (InTypeOf late_check) (initial late_check) ready i []) h)
 
-hasty_fails : IsExecutableFront late_check tree hasty_order → ⊥
+pub hasty_fails : IsExecutableFront late_check tree hasty_order → ⊥
 hasty_fails f = not_ready (allowed_of late_check tree hasty_order (used (uses 0) ∷ used (uses 1) ∷ ran (check 1 []) ∷ ran (action 1 []) ∷ ran (action 0 []) ∷ []) (refl, (refl, (refl, (refl, (refl, tt))))) f).1.1.0

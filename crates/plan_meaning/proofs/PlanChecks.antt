@@ -33,7 +33,7 @@ cut_numbers k (suc n) (d ∷ listed) rest i e =
     split (suc k) zero a = absurd (omega arith)
     split (suc k) (suc j) a = elim (split k j (omega arith)) [ inl e ↦ inl (ap suc e) | inr g ↦ inr (omega arith) ]
 
-climbs : {Pair : ℕ → ℕ → Type 0} → ((i j : ℕ) → Pair i j → i < j) → (i j : ℕ) → Precedes Pair i j → i < j
+pub climbs : {Pair : ℕ → ℕ → Type 0} → ((i j : ℕ) → Pair i j → i < j) → (i j : ℕ) → Precedes Pair i j → i < j
 climbs up i j (direct p) = up i j p
 climbs up i k (through {j = j} c p) = let a = climbs up i j c in let b = up j k p in omega arith
 

@@ -23,7 +23,7 @@ abbrev N : Net
 N = network two_children
 
 -- (htn_start htn_s1) (htn_m_m htn_s1 htn_s1)
-abbrev taken_steps : List GroundAction
+abbrev pub taken_steps : List GroundAction
 taken_steps = step (codes "htn_start") (codes "htn_s1" ∷ []) ∷ step (codes "htn_m_m") (codes "htn_s1" ∷ codes "htn_s1" ∷ []) ∷ []
 
 -- parts of what is spelled
@@ -151,7 +151,7 @@ module _ (b : ℕ) (small : b < 2 ^ 32) (tree : Tree N) (p q : Address) (slot : 
       apart : 0 ∷ q ≡ 1 ∷ q → ⊥
       apart f = less 0 1 (omega arith) (sym (ap first_of f))
 
-no_spelling : (b : ℕ) → b < 2 ^ 32 → (tree : Tree N) (order : List Address) (slot : Address → ℕ) → IsSpelling two_children b taken_steps tree order slot → ⊥
+pub no_spelling : (b : ℕ) → b < 2 ^ 32 → (tree : Tree N) (order : List Address) (slot : Address → ℕ) → IsSpelling two_children b taken_steps tree order slot → ⊥
 no_spelling b small tree order slot (acts, s, e) = go order acts e s s.spelled
   where
     at : (order : List Address) (x y : Act N) → Spells N b (top_work two_children) (x ∷ y ∷ []) tree order slot → AreActs N tree slot order (x ∷ y ∷ []) → step (codes "htn_m_m") (codes "htn_s1" ∷ codes "htn_s1" ∷ []) ≡ step_of two_children y → ⊥

@@ -32,14 +32,14 @@ smallest_hddl = problem smallest_names [] (task_schema 4 ∷ []) (action_schema 
 abbrev pub smallest : Compiled
 smallest = record { hddl = smallest_hddl; methods = method_plan smallest_top false (0 ∷ []) (Some 0) [] ∷ method_plan smallest_method false (0 ∷ []) (Some 0) [] ∷ [] }
 
-abbrev tree : Tree (network smallest)
+abbrev pub tree : Tree (network smallest)
 tree = split (uses 0) (more (split (uses 1) (more (done (action 0 [])) none)) none)
 
 -- the start, t by m, a
-abbrev order : List Address
+abbrev pub order : List Address
 order = [] ∷ (0 ∷ []) ∷ (0 ∷ 0 ∷ []) ∷ []
 
-abbrev slot : Address → ℕ
+abbrev pub slot : Address → ℕ
 slot p = 1
 
 abbrev acts : List (Act (network smallest))
@@ -51,7 +51,7 @@ steps = step (codes "htn_start") (codes "htn_s1" ∷ []) ∷ step (codes "htn_m_
 in_words : map (step_of smallest) acts ≡ steps
 in_words = λ i. step (codes "htn_start") (slot_1 i ∷ []) ∷ step (codes "htn_m_m") (slot_1 i ∷ []) ∷ step (codes "a") (slot_1 i ∷ []) ∷ []
 
-ground_0 : IsGroundMethod smallest (uses 0)
+pub ground_0 : IsGroundMethod smallest (uses 0)
 ground_0 = ground_by smallest (uses 0) (method_plan smallest_top false (0 ∷ []) (Some 0) []) refl tt tt (([], (_, refl, refl), tt), tt)
 
 ground_1 : IsGroundMethod smallest (uses 1)
@@ -60,8 +60,8 @@ ground_1 = ground_by smallest (uses 1) (method_plan smallest_method false (0 ∷
 front : IsFront (network smallest) (top_work smallest) tree order
 front = front_by smallest refl tree order (ground_0, refl, ((ground_1, refl, (tt, tt)), tt)) refl refl
 
-spelled : IsSpelling smallest 1 steps tree order slot
+pub spelled : IsSpelling smallest 1 steps tree order slot
 spelled = subst (λ z. IsSpelling smallest 1 z tree order slot) in_words (spelling_by smallest 1 acts tree order slot front refl refl ((refl, refl, refl), ((refl, refl, refl), ((refl, refl), tt))))
 
-solution : IsSolution smallest tree order
+pub solution : IsSolution smallest tree order
 solution = solution_by smallest tree order (used (uses 0) ∷ used (uses 1) ∷ ran (action 0 []) ∷ []) front refl (refl, (refl, (refl, tt))) (λ t. untested t, (λ t. untested t, (always_true (InTypeOf smallest) (initial smallest) [], tt))) (always_true (InTypeOf smallest) (after (InTypeOf smallest) (initial smallest) nothing []) [])

@@ -43,14 +43,14 @@ ground_1 = ground_by tail_recursion (uses 1) again refl tt tt (([], (_, refl, re
 ground_2 : IsGroundMethod tail_recursion (uses 2)
 ground_2 = ground_by tail_recursion (uses 2) stop refl tt tt tt
 
-abbrev tree : Tree (network tail_recursion)
+abbrev pub tree : Tree (network tail_recursion)
 tree = split (uses 0) (more (split (uses 1) (more (done (action 0 [])) (more (split (uses 2) none) none))) none)
 
 -- the start, t by m1, a, t by m0
-abbrev order : List Address
+abbrev pub order : List Address
 order = [] ∷ (0 ∷ []) ∷ (0 ∷ 0 ∷ []) ∷ (1 ∷ 0 ∷ []) ∷ []
 
-abbrev slot : Address → ℕ
+abbrev pub slot : Address → ℕ
 slot [] = 1
 slot (i ∷ []) = 1
 slot (zero ∷ j ∷ p) = 2
@@ -59,7 +59,7 @@ slot (suc i ∷ j ∷ p) = 1
 abbrev acts : List (Act (network tail_recursion))
 acts = apply 1 [] (uses 0) ∷ apply 1 (2 ∷ []) (uses 1) ∷ run 2 (action 0 []) ∷ apply 1 [] (uses 2) ∷ []
 
-abbrev steps : List GroundAction
+abbrev pub steps : List GroundAction
 steps =
     step (codes "htn_start") (codes "htn_s1" ∷ [])
     ∷ step (codes "htn_m_m1") (codes "htn_s1" ∷ codes "htn_s2" ∷ [])
@@ -78,10 +78,10 @@ in_words = λ i.
 front : IsFront (network tail_recursion) (top_work tail_recursion) tree order
 front = front_by tail_recursion refl tree order (ground_0, refl, ((ground_1, refl, (tt, ((ground_2, refl, tt), tt))), tt)) refl refl
 
-spelled : IsSpelling tail_recursion 2 steps tree order slot
+pub spelled : IsSpelling tail_recursion 2 steps tree order slot
 spelled = subst (λ z. IsSpelling tail_recursion 2 z tree order slot) in_words (spelling_by tail_recursion 2 acts tree order slot front refl refl ((refl, refl, refl), ((refl, refl, refl), ((refl, refl), ((refl, refl, refl), tt)))))
 
-solution : IsSolution tail_recursion tree order
+pub solution : IsSolution tail_recursion tree order
 solution = solution_by tail_recursion tree order (used (uses 0) ∷ used (uses 1) ∷ ran (action 0 []) ∷ used (uses 2) ∷ []) front refl (refl, (refl, (refl, (refl, tt))))
     (λ t. untested t, (λ t. untested t, (always_true (InTypeOf tail_recursion) (initial tail_recursion) [], (λ t. untested t, tt))))
     (always_true (InTypeOf tail_recursion) (after (InTypeOf tail_recursion) (initial tail_recursion) nothing []) [])

@@ -29,14 +29,14 @@ tested_method_plan = record (method_plan late_method false (0 ∷ []) (Some 0) [
 abbrev pub tested_method : Compiled
 tested_method = record { hddl = late_hddl; methods = late_top_plan ∷ tested_method_plan ∷ [] }
 
-abbrev tree : Tree (network tested_method)
+abbrev pub tree : Tree (network tested_method)
 tree = split (uses 0) (more (split (uses 1) (more (done (action 0 [])) none)) (more (done (action 1 [])) none))
 
 -- the start, u, t by m, a
-abbrev order : List Address
+abbrev pub order : List Address
 order = [] ∷ (1 ∷ []) ∷ (0 ∷ []) ∷ (0 ∷ 0 ∷ []) ∷ []
 
-abbrev slot : Address → ℕ
+abbrev pub slot : Address → ℕ
 slot [] = 1
 slot (zero ∷ []) = 2
 slot (suc i ∷ []) = 1
@@ -45,7 +45,7 @@ slot (i ∷ j ∷ p) = 2
 abbrev acts : List (Act (network tested_method))
 acts = apply 1 (2 ∷ []) (uses 0) ∷ run 1 (action 1 []) ∷ apply 2 [] (uses 1) ∷ run 2 (action 0 []) ∷ []
 
-abbrev steps : List GroundAction
+abbrev pub steps : List GroundAction
 steps =
     step (codes "htn_start") (codes "htn_s1" ∷ codes "htn_s2" ∷ [])
     ∷ step (codes "u") (codes "htn_s1" ∷ [])
@@ -70,7 +70,7 @@ ground_1 = ground_by tested_method (uses 1) tested_method_plan refl tt tt (([], 
 front : IsFront (network tested_method) (top_work tested_method) tree order
 front = front_by tested_method refl tree order (ground_0, refl, ((ground_1, refl, (tt, tt)), (tt, tt))) refl refl
 
-spelled : IsSpelling tested_method 2 steps tree order slot
+pub spelled : IsSpelling tested_method 2 steps tree order slot
 spelled = subst (λ z. IsSpelling tested_method 2 z tree order slot) in_words (spelling_by tested_method 2 acts tree order slot front refl refl ((refl, refl, refl), ((refl, refl), ((refl, refl, refl), ((refl, refl), tt)))))
 
 always_here : (S : State) → IsTrueIn (InTypeOf tested_method) S always []
@@ -82,20 +82,20 @@ made_ready = after (InTypeOf tested_method) (initial tested_method) (E.Add ready
 ready_then : IsTrueIn (InTypeOf tested_method) made_ready (Holds ready) []
 ready_then = from (λ i. truth-Holds (InTypeOf tested_method) made_ready ready i []) (inr (from (λ i. adds-Add (InTypeOf tested_method) (initial tested_method) ready i [] (ground [] ready)) refl))
 
-solution : IsSolution tested_method tree order
+pub solution : IsSolution tested_method tree order
 solution = solution_by tested_method tree order (used (uses 0) ∷ ran (action 1 []) ∷ used (uses 1) ∷ ran (action 0 []) ∷ []) front refl (refl, (refl, (refl, (refl, tt))))
     (λ t. untested t, (always_here (initial tested_method), (λ t. ready_then, (always_here made_ready, tt))))
     (always_here (after (InTypeOf tested_method) made_ready nothing []))
 
 -- applied before u, the method's precondition is false
-abbrev hasty_order : List Address
+abbrev pub hasty_order : List Address
 hasty_order = [] ∷ (0 ∷ []) ∷ (1 ∷ []) ∷ (0 ∷ 0 ∷ []) ∷ []
 
-hasty_front : IsFront (network tested_method) (top_work tested_method) tree hasty_order
+pub hasty_front : IsFront (network tested_method) (top_work tested_method) tree hasty_order
 hasty_front = front_by tested_method refl tree hasty_order (ground_0, refl, ((ground_1, refl, (tt, tt)), (tt, tt))) refl refl
 
 not_ready : IsTrueIn (InTypeOf tested_method) (initial tested_method) (Holds ready) [] → ⊥
 not_ready h = not-in_empty (ground [] ready) (to (λ i. truth-Holds (InTypeOf tested_method) (initial tested_method) ready i []) h)
 
-hasty_fails : IsExecutableFront tested_method tree hasty_order → ⊥
+pub hasty_fails : IsExecutableFront tested_method tree hasty_order → ⊥
 hasty_fails f = not_ready ((allowed_of tested_method tree hasty_order (used (uses 0) ∷ used (uses 1) ∷ ran (action 1 []) ∷ ran (action 0 []) ∷ []) (refl, (refl, (refl, (refl, tt)))) f).1.0 refl)

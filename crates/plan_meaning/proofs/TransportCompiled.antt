@@ -63,7 +63,7 @@ no_guards_of_deliver = (
 no_guards_of_via : AreGuards transport.hddl m_via []
 no_guards_of_via = ([], inr (within (same_type 3), inr (within (same_type 1), inr (within (same_type 1), inr (within (same_type 3), inr (within (same_type 1), refl))))), refl)
 
-transport_is_compiled : IsCompiled transport.hddl Leaf transport
+pub transport_is_compiled : IsCompiled transport.hddl Leaf transport
 transport_is_compiled = record {
   hddl = refl;
   methods = (

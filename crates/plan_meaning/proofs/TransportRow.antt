@@ -29,7 +29,7 @@ is_there = record { number = 3; values = 3 ∷ 0 ∷ [] }
 abbrev start : GroundMethod
 start = record { number = 0; values = [] }
 
-abbrev tree : Tree (network transport)
+abbrev pub tree : Tree (network transport)
 tree = split start (more first (more second (more (open_leaf (task 0 (7 ∷ 1 ∷ []))) none)))
   where
     first : Tree (network transport)
@@ -39,7 +39,7 @@ tree = split start (more first (more second (more (open_leaf (task 0 (7 ∷ 1 �
     second = split (delivers 6) (more (open_leaf (task 1 (3 ∷ 0 ∷ []))) (more (open_leaf (action 1 (3 ∷ 0 ∷ 6 ∷ []))) (more (open_leaf (task 1 (3 ∷ 1 ∷ []))) (more (open_leaf (action 2 (3 ∷ 1 ∷ 6 ∷ []))) none))))
 
 -- the start, deliver p1, get-to, its check, pick-up, deliver p2
-abbrev order : List Address
+abbrev pub order : List Address
 order = [] ∷ (0 ∷ []) ∷ (0 ∷ 0 ∷ []) ∷ (0 ∷ 0 ∷ 0 ∷ []) ∷ (1 ∷ 0 ∷ []) ∷ (1 ∷ []) ∷ []
 
 abbrev first_slot : ℕ → ℕ
@@ -54,7 +54,7 @@ second_slot (suc zero) = 5
 second_slot (suc (suc zero)) = 7
 second_slot (suc (suc (suc i))) = 3
 
-abbrev slot : Address → ℕ
+abbrev pub slot : Address → ℕ
 slot [] = 1
 slot (zero ∷ []) = 2
 slot (suc zero ∷ []) = 3
@@ -63,12 +63,12 @@ slot (i ∷ zero ∷ []) = first_slot i
 slot (i ∷ suc j ∷ []) = second_slot i
 slot (i ∷ j ∷ k ∷ p) = 4
 
-abbrev acts : List (Act (network transport))
+abbrev pub acts : List (Act (network transport))
 acts =
     apply 1 (2 ∷ 3 ∷ []) start ∷ apply 2 (4 ∷ 5 ∷ 6 ∷ []) (delivers 5) ∷ apply 4 [] is_there
     ∷ run 4 (check 3 (3 ∷ 0 ∷ [])) ∷ run 5 (action 1 (3 ∷ 0 ∷ 5 ∷ [])) ∷ apply 3 (4 ∷ 5 ∷ 7 ∷ []) (delivers 6) ∷ []
 
-abbrev steps : List GroundAction
+abbrev pub steps : List GroundAction
 steps =
     step (codes "htn_start") (codes "htn_s1" ∷ codes "htn_s2" ∷ codes "htn_s3" ∷ [])
     ∷ step (codes "htn_m_m-deliver") (codes "htn_s2" ∷ codes "htn_s4" ∷ codes "htn_s5" ∷ codes "htn_s6" ∷ codes "v1" ∷ codes "p1" ∷ codes "l0" ∷ codes "l1" ∷ [])
@@ -78,7 +78,7 @@ steps =
     ∷ step (codes "htn_m_m-deliver") (codes "htn_s3" ∷ codes "htn_s4" ∷ codes "htn_s5" ∷ codes "htn_s7" ∷ codes "v1" ∷ codes "p2" ∷ codes "l0" ∷ codes "l1" ∷ [])
     ∷ []
 
-in_words : map (step_of transport) acts ≡ steps
+pub in_words : map (step_of transport) acts ≡ steps
 in_words = λ i.
     step (codes "htn_start") (slot_1 i ∷ slot_2 i ∷ slot_3 i ∷ [])
     ∷ step (codes "htn_m_m-deliver") (slot_2 i ∷ slot_4 i ∷ slot_5 i ∷ slot_6 i ∷ codes "v1" ∷ codes "p1" ∷ codes "l0" ∷ codes "l1" ∷ [])
@@ -120,7 +120,7 @@ ground_delivers p is = ground_by transport (delivers p) deliver refl (v1, (is, (
 ground_there : IsGroundMethod transport is_there
 ground_there = ground_by transport is_there there refl (v1, (l0, tt)) tt ((_, (_, refl, refl), (v1, (l0, tt))), tt)
 
-front : IsFront (network transport) (top_work transport) tree order
+pub front : IsFront (network transport) (top_work transport) tree order
 front = record {
   grown = (ground_start, refl, ((ground_delivers 5 p1, refl, ((ground_there, refl, (tt, tt)), (tt, (tt, (tt, tt))))), ((ground_delivers 6 p2, refl, (tt, (tt, (tt, (tt, tt))))), (tt, tt))));
   root = refl;
@@ -139,7 +139,7 @@ may_pick_up : IsTrueIn Of (initial transport) pick_up.pre (3 ∷ 0 ∷ 5 ∷ [])
 may_pick_up = from (λ i. truth-And Of (initial transport) (Holds (at 0 1) ∷ Holds (at 2 1) ∷ []) i (3 ∷ 0 ∷ 5 ∷ []))
     (from (λ i. truth-Holds Of (initial transport) (at 0 1) i (3 ∷ 0 ∷ 5 ∷ [])) (4, omega arith, refl), (from (λ i. truth-Holds Of (initial transport) (at 2 1) i (3 ∷ 0 ∷ 5 ∷ [])) (6, omega arith, refl), tt))
 
-executable : IsExecutableFront transport tree order
+pub executable : IsExecutableFront transport tree order
 executable = record {
   front = front;
   executable = record {

@@ -76,13 +76,13 @@ predicates =
 abbrev tasks : List TaskSchema
 tasks = record { name = record { number = 11 }; params = param 27 4 ∷ param 28 1 ∷ [] } ∷ record { name = record { number = 12 }; params = param 29 3 ∷ param 28 1 ∷ [] } ∷ []
 
-abbrev drive : ActionSchema
+abbrev pub drive : ActionSchema
 drive = record { name = record { number = 16 }; params = param 29 3 ∷ param 20 1 ∷ param 21 1 ∷ []; pre = And (Holds (at 0 1) ∷ Holds (road 1 2) ∷ []); eff = E.And (E.Delete (at 0 1) ∷ E.Add (at 0 2) ∷ []) }
 
 abbrev pub pick_up : ActionSchema
 pick_up = record { name = record { number = 17 }; params = param 29 3 ∷ param 28 1 ∷ param 27 4 ∷ []; pre = And (Holds (at 0 1) ∷ Holds (at 2 1) ∷ []); eff = E.And (E.Delete (at 2 1) ∷ E.Add (is_in 2 0) ∷ []) }
 
-abbrev unload : ActionSchema
+abbrev pub unload : ActionSchema
 unload = record { name = record { number = 18 }; params = param 29 3 ∷ param 28 1 ∷ param 27 4 ∷ []; pre = And (Holds (at 0 1) ∷ Holds (is_in 2 0) ∷ []); eff = E.And (E.Delete (is_in 2 0) ∷ E.Add (at 2 1) ∷ []) }
 
 abbrev part : Head → List Term → Child

@@ -38,14 +38,14 @@ ground_0 = ground_by waiting (uses 0) top refl tt tt (([], (_, refl, refl), tt),
 ground_1 : IsGroundMethod waiting (uses 1)
 ground_1 = ground_by waiting (uses 1) of_x refl tt tt (([], (_, refl, refl), tt), (([], (_, refl, refl), tt), tt))
 
-abbrev tree : Tree (network waiting)
+abbrev pub tree : Tree (network waiting)
 tree = split (uses 0) (more (split (uses 1) (more (done (action 0 [])) (more (done (action 1 [])) none))) (more (done (action 2 [])) none))
 
 -- the start, x by mx, p, q, y
-abbrev order : List Address
+abbrev pub order : List Address
 order = [] ∷ (0 ∷ []) ∷ (0 ∷ 0 ∷ []) ∷ (1 ∷ 0 ∷ []) ∷ (1 ∷ []) ∷ []
 
-abbrev slot : Address → ℕ
+abbrev pub slot : Address → ℕ
 slot [] = 1
 slot (zero ∷ []) = 2
 slot (suc i ∷ []) = 1
@@ -55,7 +55,7 @@ slot (suc i ∷ j ∷ p) = 2
 abbrev acts : List (Act (network waiting))
 acts = apply 1 (2 ∷ []) (uses 0) ∷ apply 2 (3 ∷ []) (uses 1) ∷ run 3 (action 0 []) ∷ run 2 (action 1 []) ∷ run 1 (action 2 []) ∷ []
 
-abbrev steps : List GroundAction
+abbrev pub steps : List GroundAction
 steps =
     step (codes "htn_start") (codes "htn_s1" ∷ codes "htn_s2" ∷ [])
     ∷ step (codes "htn_m_mx") (codes "htn_s2" ∷ codes "htn_s3" ∷ [])
@@ -76,7 +76,7 @@ in_words = λ i.
 front : IsFront (network waiting) (top_work waiting) tree order
 front = front_by waiting refl tree order (ground_0, refl, ((ground_1, refl, (tt, (tt, tt))), (tt, tt))) refl refl
 
-spelled : IsSpelling waiting 3 steps tree order slot
+pub spelled : IsSpelling waiting 3 steps tree order slot
 spelled = subst (λ z. IsSpelling waiting 3 z tree order slot) in_words (spelling_by waiting 3 acts tree order slot front refl refl ((refl, refl, refl), ((refl, refl, refl), ((refl, refl), ((refl, refl), ((refl, refl), tt))))))
 
 always_here : (S : State) → IsTrueIn (InTypeOf waiting) S always []
@@ -85,7 +85,7 @@ always_here S = always_true (InTypeOf waiting) S []
 abbrev then : State → State
 then S = after (InTypeOf waiting) S nothing []
 
-solution : IsSolution waiting tree order
+pub solution : IsSolution waiting tree order
 solution = solution_by waiting tree order (used (uses 0) ∷ used (uses 1) ∷ ran (action 0 []) ∷ ran (action 1 []) ∷ ran (action 2 []) ∷ []) front refl (refl, (refl, (refl, (refl, (refl, tt)))))
     (λ t. untested t, (λ t. untested t, (always_here (initial waiting), (always_here (then (initial waiting)), (always_here (then (then (initial waiting))), tt)))))
     (always_here (then (then (then (initial waiting)))))

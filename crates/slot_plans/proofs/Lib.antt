@@ -41,9 +41,16 @@ pub mod Runs
 pub mod Plans
 pub mod KnownActs
 pub mod Words
--- All put together for a sound problem; the bound; a worked row.
+-- All put together for a sound problem; the bound; worked rows.
 pub mod Fits
 pub mod PrintedMeans
 pub mod Bounds
+pub mod SoundChecks
 pub mod SmallestFaithful
-mod WaitingRefuted
+pub mod WaitingRefuted
+pub mod GuardRefuted
+pub mod RowPlans
+pub mod RowPlansTransport
+pub mod RowPlansRefused
+pub mod RowPlansOnly
+pub mod RowPlansGoal

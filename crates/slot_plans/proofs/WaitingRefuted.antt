@@ -3,14 +3,9 @@ use Rattle.std.proofs.Common.{ℕ, zero, suc, ◌≡◌, ◌<◌, ◌≤◌, ◌
 use Rattle.std.specs.Prelude.{codes, drop}
 use Rattle.std.proofs.lemmas.Fmt.{decimal_injective}
 use Rattle.htn_base.specs.Escapes.{slot_word}
-use Rattle.plan_model.specs.declared.networks.Pair.{Pair}
 use Rattle.plan_model.specs.declared.options.Checks.TheVariants.{Leaf}
-use Rattle.plan_model.specs.declared.schemas.MethodSchema.{MethodSchema}
 use Rattle.plan_model.specs.declared.steps.GroundAction.{GroundAction}
-use Rattle.task_networks.specs.Order.{ArePairsOf, IsAcyclic}
 use Rattle.task_networks.specs.Lawful.{IsLawful}
-use Rattle.task_networks.proofs.ExampleNets.{no_chain}
-use Rattle.task_networks.proofs.Lists.{not-in_empty, head_or_tail}
 use Rattle.task_networks.proofs.ScheduleLaws.{prepared_is_lawful}
 use Rattle.task_networks.specs.Net.{Net, count}
 use Rattle.task_networks.specs.Tree.{Tree, Address, Label, label_at, used, ran}
@@ -20,31 +15,30 @@ use Rattle.slot_machine.proofs.SpellingRuns.{runs_from_spells}
 use Rattle.plan_meaning.specs.Network.{Work, action, check, task, GroundMethod, network}
 use Rattle.plan_meaning.specs.Solution.{top_work}
 use Rattle.plan_meaning.specs.SpelledPlan.{step_of, work_name, method_name, object_word, IsSpelling}
-use Rattle.plan_meaning.specs.Compilation.{pair, Pairs}
-use Rattle.plan_meaning.specs.Laws.{AreOrdered}
 use Rattle.plan_meaning.proofs.CompiledNetworks.{prepared}
 use Rattle.plan_meaning.proofs.CompiledValues.{waiting_is_compiled}
 use Rattle.plan_meaning.proofs.Unequal.{less}
 use Rattle.plan_meaning.proofs.RowWords.{step}
-use Rattle.plan_meaning.proofs.WaitingRow.{waiting, of_x}
+use Rattle.plan_meaning.proofs.WaitingRow.{waiting}
+use Rattle.slot_plans.proofs.SoundChecks.{ordered_by}
 
 abbrev N : Net
 N = network waiting
 
-abbrev begins : GroundAction
+abbrev pub begins : GroundAction
 begins = step (codes "htn_start") (codes "htn_s1" ∷ codes "htn_s2" ∷ [])
 
-abbrev splits : GroundAction
+abbrev pub splits : GroundAction
 splits = step (codes "htn_m_mx") (codes "htn_s2" ∷ codes "htn_s3" ∷ [])
 
-abbrev ends : GroundAction
+abbrev pub ends : GroundAction
 ends = step (codes "y") (codes "htn_s1" ∷ [])
 
 -- p alone has run, or q alone
-abbrev ran_p : GroundAction
+abbrev pub ran_p : GroundAction
 ran_p = step (codes "p") (codes "htn_s3" ∷ [])
 
-abbrev ran_q : GroundAction
+abbrev pub ran_q : GroundAction
 ran_q = step (codes "q") (codes "htn_s2" ∷ [])
 
 abbrev name_of : GroundAction → List ℕ
@@ -147,37 +141,8 @@ alone [] e = absurd (less 0 1 (omega arith) (sym e))
 alone (n ∷ []) e = (n, refl)
 alone (n ∷ k ∷ rest) e = absurd (let f : suc (suc (length rest)) ≡ 1 = e in omega arith)
 
--- the pairs of the row have no cycle
-module _ where
-  no_pair : (i j : ℕ) → Contains {X = Pair} [] (pair i j) → ⊥
-  no_pair i j c = not-in_empty (pair i j) c
-
-  the_pair : (i j : ℕ) → Contains (pair 0 1 ∷ []) (pair i j) → (i ≡ 0) × (j ≡ 1)
-  the_pair i j c = elim (head_or_tail (pair 0 1) [] (pair i j) c) [
-    | inl e ↦ (sym (ap (λ (p : Pair). p.first) e), sym (ap (λ (p : Pair). p.then) e))
-    | inr d ↦ absurd (no_pair i j d)
-  ]
-
-  top_ordered : ArePairsOf (Pairs (pair 0 1 ∷ [])) 2 × IsAcyclic (Pairs (pair 0 1 ∷ []))
-  top_ordered = (λ i j c. (let e = the_pair i j c in (omega (arith, e.0), omega (arith, e.1))), λ i c. (let e = the_pair i i (no_chain meet i i c) in absurd (omega (arith, e.0, e.1))))
-    where
-      meet : (i j k : ℕ) → Pairs (pair 0 1 ∷ []) i j → Pairs (pair 0 1 ∷ []) j k → ⊥
-      meet i j k c d = let e = the_pair i j c in let f = the_pair j k d in omega (arith, e.1, f.0)
-
-  x_ordered : ArePairsOf (Pairs []) 2 × IsAcyclic (Pairs [])
-  x_ordered = (λ i j c. absurd (no_pair i j c), λ i c. no_pair i i (no_chain (λ i j k c d. no_pair i j c) i i c))
-
-  ordered : AreOrdered waiting.hddl
-  ordered s c = elim (head_or_tail waiting.hddl.top waiting.hddl.methods s c) [
-    | inl e ↦ subst (λ (s : MethodSchema). ArePairsOf (Pairs s.pairs) (length s.children) × IsAcyclic (Pairs s.pairs)) e top_ordered
-    | inr d ↦ elim (head_or_tail of_x.schema [] s d) [
-      | inl e ↦ subst (λ (s : MethodSchema). ArePairsOf (Pairs s.pairs) (length s.children) × IsAcyclic (Pairs s.pairs)) e x_ordered
-      | inr n ↦ absurd (not-in_empty s n)
-    ]
-  ]
-
 law : IsLawful N
-law = prepared_is_lawful N (prepared waiting.hddl Leaf waiting ordered (waiting_is_compiled Leaf))
+law = prepared_is_lawful N (prepared waiting.hddl Leaf waiting (ordered_by waiting.hddl refl) (waiting_is_compiled Leaf))
 
 -- the four acts in words, and their slots among the b
 module _ (b : ℕ) (small : b < 2 ^ 32) (h1 h2 h3 h4 : ℕ) (in_1 : h1 ≤ b) (in_2 : h2 ≤ b) (in_4 : h4 ≤ b)
@@ -298,8 +263,8 @@ module _ (b : ℕ) (small : b < 2 ^ 32) (tree : Tree N) (slot : Address → ℕ)
       go order (v ∷ w ∷ x ∷ y ∷ []) e s a = at order v w x y s a (ap (nth 0) e) (ap (nth 1) e) (ap (nth 2) e) (ap (nth 3) e)
       go order (v ∷ w ∷ x ∷ y ∷ z ∷ acts) e s a = let f : 4 ≡ suc (suc (suc (suc (suc (length (map (step_of waiting) acts)))))) = ap many e in omega arith
 
-y_waits_for_q : (b : ℕ) → b < 2 ^ 32 → (tree : Tree N) (order : List Address) (slot : Address → ℕ) → IsSpelling waiting b (begins ∷ splits ∷ ran_p ∷ ends ∷ []) tree order slot → ⊥
+pub y_waits_for_q : (b : ℕ) → b < 2 ^ 32 → (tree : Tree N) (order : List Address) (slot : Address → ℕ) → IsSpelling waiting b (begins ∷ splits ∷ ran_p ∷ ends ∷ []) tree order slot → ⊥
 y_waits_for_q b small tree order slot = no_front b small tree slot ran_p only_p order
 
-y_waits_for_p : (b : ℕ) → b < 2 ^ 32 → (tree : Tree N) (order : List Address) (slot : Address → ℕ) → IsSpelling waiting b (begins ∷ splits ∷ ran_q ∷ ends ∷ []) tree order slot → ⊥
+pub y_waits_for_p : (b : ℕ) → b < 2 ^ 32 → (tree : Tree N) (order : List Address) (slot : Address → ℕ) → IsSpelling waiting b (begins ∷ splits ∷ ran_q ∷ ends ∷ []) tree order slot → ⊥
 y_waits_for_p b small tree order slot = no_front b small tree slot ran_q only_q order
