@@ -1,7 +1,7 @@
 -- Where the pairs lead upwards, each chain does, and so no child precedes itself.
-use Rattle.std.proofs.Common.{ℕ, ◌≡◌, ◌<◌, ◌≤◌, List, ◌∷◌, inl, inr, length, get_or, All, Contains, sym, subst, arith}
-use Rattle.std.proofs.lemmas.List.Elements.{All-contains, Contains-get_or}
-use Rattle.task_networks.specs.Order.{Precedes, direct, through, ArePairsOf, IsAcyclic}
+use Rattle.std.proofs.Common.{ℕ, ◌<◌, List, ◌∷◌, inl, inr, length, All, Contains, subst, arith}
+use Rattle.std.proofs.lemmas.List.Elements.{All-contains}
+use Rattle.task_networks.specs.Order.{Precedes, direct, through}
 use Rattle.task_networks.proofs.Lists.{head_or_tail}
 use Rattle.plan_model.specs.declared.networks.Pair.{Pair}
 use Rattle.plan_model.specs.declared.schemas.MethodSchema.{MethodSchema}
