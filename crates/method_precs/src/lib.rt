@@ -12,7 +12,11 @@ mod orders;
 mod pairs;
 mod placed;
 mod plans;
+#[cfg(test)]
+mod samples;
 mod single_guards;
 mod single_pairs;
+#[cfg(test)]
+mod tests;
 
 pub use compilation::compile;
