@@ -4,3 +4,8 @@ pub mod TableWords
 pub mod Scopes
 pub mod SourceFormulas
 pub mod SourceEffects
+pub mod KnownWords
+pub mod PrintedWords
+pub mod TypeWords
+pub mod ObjectNames
+pub mod PlanParts

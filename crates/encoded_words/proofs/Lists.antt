@@ -1,8 +1,11 @@
 -- What holds of each item of joined, mapped and filtered lists, and words that differ.
-use Rattle.std.proofs.Common.{ℕ, zero, suc, ◌≡◌, ◌<◌, inl, inr, Bool, true, false, cond, List, [], ◌∷◌, ◌++◌, map, filter, slice_get, Some, refl, ap, subst, arith}
+use Rattle.std.proofs.Common.{ℕ, zero, suc, ◌≡◌, ◌+◌, ◌<◌, ◌≤◌, inl, inr, Bool, true, false, cond, List, [], ◌∷◌, ◌++◌, map, filter, slice_get, Some, refl, ap, subst, arith}
 use Rattle.text_forms.specs.Words.{Word}
 use Rattle.plan_texts.specs.Types.{Has, EachIs, AreDifferent}
+use Rattle.plan_texts.proofs.Members.{has-contains}
 use Rattle.plan_meaning.specs.EncodedNames.{joined}
+use Rattle.task_networks.specs.Spelling.{numbers}
+use Rattle.task_networks.proofs.Numbers.{numbers_to}
 
 pub each-left : {X : Type 0} (P : X → Type 0) (xs ys : List X) → EachIs P (xs ++ ys) → EachIs P xs
 each-left P [] ys e = tt
@@ -100,3 +103,11 @@ module _ (rank : Word → ℕ) where
 
   pub above-last : (j k : ℕ) (xs : List Word) → j < k → AreDifferent xs → EachIs (λ w. rank w ≡ k) xs → AreAbove j xs
   above-last j k xs l d r = record { different = d; above = each-weaker (λ w. rank w ≡ k) (λ w. j < rank w) xs (λ w e. omega arith) r }
+
+-- numbered words
+pub different-numbers : (f : ℕ → Word) (m : ℕ) → ((j k : ℕ) → j < m → k < m → f j ≡ f k → j ≡ k) → (i n : ℕ) → i + n ≤ m → AreDifferent (map f (numbers i n))
+different-numbers f m once i zero l = tt
+different-numbers f m once i (suc n) l = (
+  each-map (λ u. f i ≡ u → ⊥) f (numbers (suc i) n) (λ k h e. (let r = numbers_to (suc i) n k (has-contains (numbers (suc i) n) k h) in let g = r.0 in let j = r.1 in let s = once i k (omega arith) (omega arith) e in omega arith)),
+  different-numbers f m once (suc i) n (omega arith),
+)

@@ -35,3 +35,8 @@ module _ (w : Word) where
 pub words-named : {X : Type 0} (names : List Word) (word : X → Word) (xs : List X) → ((x : X) → Has xs x → Has names (word x)) → map (λ x. named names (name names (word x))) xs ≡ map word xs
 words-named names word [] h = refl
 words-named names word (x ∷ xs) h = let e = named-name (word x) names (h x (inl refl)) in let r = words-named names word xs (λ y k. h y (inr k)) in λ i. e i ∷ r i
+
+-- words of what is made of a list
+pub words-made : {X Y : Type 0} (made : X → Y) (read : Y → Word) (word : X → Word) (xs : List X) → ((x : X) → Has xs x → read (made x) ≡ word x) → map read (map made xs) ≡ map word xs
+words-made made read word [] h = refl
+words-made made read word (x ∷ xs) h = let e = h x (inl refl) in let r = words-made made read word xs (λ y k. h y (inr k)) in λ i. e i ∷ r i
