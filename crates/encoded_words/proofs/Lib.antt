@@ -9,3 +9,5 @@ pub mod PrintedWords
 pub mod TypeWords
 pub mod ObjectNames
 pub mod PlanParts
+pub mod PredicatePlaces
+pub mod CheckNames

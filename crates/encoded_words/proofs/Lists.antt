@@ -1,8 +1,13 @@
 -- What holds of each item of joined, mapped and filtered lists, and words that differ.
-use Rattle.std.proofs.Common.{ℕ, zero, suc, ◌≡◌, ◌+◌, ◌<◌, ◌≤◌, inl, inr, Bool, true, false, cond, List, [], ◌∷◌, ◌++◌, map, filter, slice_get, Some, refl, ap, subst, arith}
+use Rattle.std.proofs.Common.{ℕ, zero, suc, ◌≡◌, ◌+◌, ◌<◌, ◌≤◌, ◌⊎◌, inl, inr, nat_eq, not, Bool, true, false, cond, List, [], ◌∷◌, ◌++◌, map, filter, slice_get, Some, refl, ap, sym, subst, ◌∙◌, arith, true≢false}
 use Rattle.text_forms.specs.Words.{Word}
 use Rattle.plan_texts.specs.Types.{Has, EachIs, AreDifferent}
-use Rattle.plan_texts.proofs.Members.{has-contains}
+use Rattle.std.proofs.lemmas.Bool.Decides.{eqb_tells}
+use Rattle.plan_texts.proofs.Members.{has-contains, contains-has}
+use Rattle.plan_meaning.specs.Compilation.{once}
+use Rattle.plan_meaning.proofs.Pairs.{once_to}
+use Rattle.task_networks.proofs.Filters.{filter_to}
+use Rattle.plan_texts.proofs.Places.{each-join}
 use Rattle.plan_meaning.specs.EncodedNames.{joined}
 use Rattle.task_networks.specs.Spelling.{numbers}
 use Rattle.task_networks.proofs.Numbers.{numbers_to}
@@ -77,32 +82,31 @@ different-filter {X = X} f test (x ∷ xs) d = go (test x) (different-filter f t
     go true r = (apart xs d.0, r)
     go false r = r
 
--- groups of words, each of its own rank
+-- groups of words, each of higher ranks than those before it
 module _ (rank : Word → ℕ) where
-  pub record AreAbove (j : ℕ) (ws : List Word) : Type 0 where
+  pub record AreBelow (j : ℕ) (ws : List Word) : Type 0 where
     pub different : AreDifferent ws
-    pub above : EachIs (λ w. j < rank w) ws
+    pub below : EachIs (λ w. rank w < j) ws
 
-  apart_ranks : (u : Word) (k : ℕ) (ws : List Word) → rank u ≡ k → EachIs (λ w. k < rank w) ws → EachIs (λ w. u ≡ w → ⊥) ws
-  apart_ranks u k [] r e = tt
-  apart_ranks u k (w ∷ ws) r e = ((λ s. let h = ap rank s in let l = e.0 in omega arith), apart_ranks u k ws r e.1)
+  abbrev pub IsBetween : ℕ → ℕ → Word → Type 0
+  IsBetween j m w = (j ≤ rank w) × (rank w < m)
 
-  both : (P : Word → Type 0) (xs ys : List Word) → EachIs P xs → EachIs P ys → EachIs P (xs ++ ys)
-  both P [] ys e f = f
-  both P (x ∷ xs) ys e f = (e.0, both P xs ys e.1 f)
+  apart_ranks : (u : Word) (j m : ℕ) (ws : List Word) → rank u < j → EachIs (IsBetween j m) ws → EachIs (λ w. u ≡ w → ⊥) ws
+  apart_ranks u j m [] r e = tt
+  apart_ranks u j m (w ∷ ws) r e = ((λ s. let h = ap rank s in let l = e.0.0 in omega arith), apart_ranks u j m ws r e.1)
 
-  pub different-ranks : (k : ℕ) (xs ys : List Word) → AreDifferent xs → EachIs (λ w. rank w ≡ k) xs → AreAbove k ys → AreDifferent (xs ++ ys)
-  different-ranks k [] ys d r a = a.different
-  different-ranks k (x ∷ xs) ys d r a = (both (λ w. x ≡ w → ⊥) xs ys d.0 (apart_ranks x k ys r.0 a.above), different-ranks k xs ys d.1 r.1 a)
+  pub different-ranks : (j m : ℕ) (xs ys : List Word) → AreBelow j xs → AreDifferent ys → EachIs (IsBetween j m) ys → AreDifferent (xs ++ ys)
+  different-ranks j m [] ys a d e = d
+  different-ranks j m (x ∷ xs) ys a d e = (
+    each-join (λ w. x ≡ w → ⊥) xs ys a.different.0 (apart_ranks x j m ys a.below.0 e),
+    different-ranks j m xs ys (record { different = a.different.1; below = a.below.1 }) d e,
+  )
 
-  pub above-join : (j k : ℕ) (xs ys : List Word) → j < k → AreDifferent xs → EachIs (λ w. rank w ≡ k) xs → AreAbove k ys → AreAbove j (xs ++ ys)
-  above-join j k xs ys l d r a = record {
-    different = different-ranks k xs ys d r a;
-    above = both (λ w. j < rank w) xs ys (each-weaker (λ w. rank w ≡ k) (λ w. j < rank w) xs (λ w e. omega arith) r) (each-weaker (λ w. k < rank w) (λ w. j < rank w) ys (λ w m. omega arith) a.above);
+  pub below-join : (j m : ℕ) (xs ys : List Word) → j ≤ m → AreBelow j xs → AreDifferent ys → EachIs (IsBetween j m) ys → AreBelow m (xs ++ ys)
+  below-join j m xs ys l a d e = record {
+    different = different-ranks j m xs ys a d e;
+    below = each-join (λ w. rank w < m) xs ys (each-weaker (λ w. rank w < j) (λ w. rank w < m) xs (λ w k. omega arith) a.below) (each-weaker (IsBetween j m) (λ w. rank w < m) ys (λ w k. k.1) e);
   }
-
-  pub above-last : (j k : ℕ) (xs : List Word) → j < k → AreDifferent xs → EachIs (λ w. rank w ≡ k) xs → AreAbove j xs
-  above-last j k xs l d r = record { different = d; above = each-weaker (λ w. rank w ≡ k) (λ w. j < rank w) xs (λ w e. omega arith) r }
 
 -- numbered words
 pub different-numbers : (f : ℕ → Word) (m : ℕ) → ((j k : ℕ) → j < m → k < m → f j ≡ f k → j ≡ k) → (i n : ℕ) → i + n ≤ m → AreDifferent (map f (numbers i n))
@@ -111,3 +115,27 @@ different-numbers f m once i (suc n) l = (
   each-map (λ u. f i ≡ u → ⊥) f (numbers (suc i) n) (λ k h e. (let r = numbers_to (suc i) n k (has-contains (numbers (suc i) n) k h) in let g = r.0 in let j = r.1 in let s = once i k (omega arith) (omega arith) e in omega arith)),
   different-numbers f m once (suc i) n (omega arith),
 )
+
+pub joined-has : {X : Type 0} (xss : List (List X)) (x : X) → Has (joined xss) x → (xs : List X) × Has xss xs × Has xs x
+joined-has [] x h = absurd h
+joined-has {X = X} (ys ∷ xss) x h = elim (parts ys h) [ inl k ↦ (ys, inl refl, k) | inr k ↦ (let (xs, m, n) = joined-has xss x k in (xs, inr m, n)) ]
+  where
+    parts : (ys : List X) → Has (ys ++ joined xss) x → Has ys x ⊎ Has (joined xss) x
+    parts [] h = inr h
+    parts (y ∷ ys) (inl e) = inl (inl e)
+    parts (y ∷ ys) (inr h) = elim (parts ys h) [ inl k ↦ inl (inr k) | inr k ↦ inr k ]
+
+-- words of numbers that are listed once
+pub different-once : (f : ℕ → Word) (xs : List ℕ) → ((s t : ℕ) → Has xs s → Has xs t → f s ≡ f t → s ≡ t) → AreDifferent (map f (once nat_eq xs))
+different-once f [] same = tt
+different-once f (x ∷ xs) same = (
+  each-map (λ u. f x ≡ u → ⊥) f (filter (λ y. not (nat_eq x y)) (once nat_eq xs)) (λ y h e. (
+    let (k, t) = filter_to (λ y. not (nat_eq x y)) (once nat_eq xs) y (has-contains (filter (λ y. not (nat_eq x y)) (once nat_eq xs)) y h) in
+    let s = same x y (inl refl) (inr (contains-has xs y (once_to nat_eq xs y k))) e in
+    elim (eqb_tells x y) [ inl d ↦ true≢false (sym t ∙ ap not d.0) | inr d ↦ d.1 s ]
+    )),
+  different-filter f (λ y. not (nat_eq x y)) (once nat_eq xs) (different-once f xs (λ s t h k e. same s t (inr h) (inr k) e)),
+)
+
+pub between-map : {X : Type 0} (rank : Word → ℕ) (j m r : ℕ) (f : X → Word) (xs : List X) → ((x : X) → Has xs x → rank (f x) ≡ r) → j ≤ r → r < m → EachIs (IsBetween rank j m) (map f xs)
+between-map rank j m r f xs h l k = each-map (IsBetween rank j m) f xs (λ x n. let e = h x n in (omega arith, omega arith))

@@ -17,7 +17,7 @@ use Rattle.plan_meaning.specs.SourceParts.{retyped}
 use Rattle.plan_meaning.specs.EncodedNames.{slot_type, encoded_types, encoded_objects}
 use Rattle.slot_plans.proofs.ObjectPlaces.{printed_object, printed_slot}
 use Rattle.encoded_words.specs.EncodedWords.{own_word, type_words, object_words}
-use Rattle.encoded_words.proofs.Lists.{each-left, each-right, each-map, each-of_map, different-by, different-numbers, different-ranks, above-last}
+use Rattle.encoded_words.proofs.Lists.{each-left, each-right, each-map, each-of_map, different-by, different-numbers, IsBetween, different-ranks}
 use Rattle.encoded_words.proofs.PlainWords.{is_generated, escape_is_none, plain-escaped, escaped-once, folded-join, folded-decimal}
 use Rattle.encoded_words.proofs.TableWords.{named-name, words-made}
 use Rattle.encoded_words.proofs.TypeWords.{retyped_within, count-types}
@@ -60,10 +60,12 @@ module _ (c : Compiled) (names : List Word) (b : ℕ) (sound : IsSoundHddl c.hdd
     kind w = cond (is_generated w) 1 0
 
     pub objects_differ : b < 2 ^ 64 → AreDifferent (map (λ (x : Object). named names x.name) (encoded_objects c names b))
-    objects_differ l = subst AreDifferent (sym objects-named) (different-ranks kind 0 (map own c.hddl.objects) slots
-        (different-by word own c.hddl.objects (λ x y m n e. escaped-once (word x) (word y) e) sound.words.objects_differ)
-        (each-map (λ w. kind w ≡ 0) own c.hddl.objects (λ x m. ap (λ t. cond t 1 0) (escape_is_none (word x))))
-        (above-last kind 0 1 slots (omega arith) (slots_differ b l) (each-map (λ w. kind w ≡ 1) slot_word (numbers 1 b) (λ k m. refl))))
+    objects_differ l = subst AreDifferent (sym objects-named) (different-ranks kind 1 2 (map own c.hddl.objects) slots
+        (record {
+          different = different-by word own c.hddl.objects (λ x y m n e. escaped-once (word x) (word y) e) sound.words.objects_differ;
+          below = each-map (λ w. kind w < 1) own c.hddl.objects (λ x m. let e : kind (own x) ≡ 0 = ap (λ t. cond t 1 0) (escape_is_none (word x)) in omega arith);
+        })
+        (slots_differ b l) (each-map (IsBetween kind 1 2) slot_word (numbers 1 b) (λ k m. (omega arith, omega arith))))
 
   -- all are constants of declared types
   pub objects_typed : EachIs (Has names) (type_words c) → EachIs (λ (x : Object). (x.ty < length (encoded_types c names b).names) × (x.constant ≡ true)) (encoded_objects c names b)

@@ -134,11 +134,6 @@ rank w = cond (is_generated w) (kind_rank (get_or w 4 0) (get_or w 5 0)) 0
 pub rank-escaped : (w : Word) → rank (escaped w) ≡ 0
 rank-escaped w = ap (λ t. cond t (kind_rank (get_or (escaped w) 4 0) (get_or (escaped w) 5 0)) 0) (escape_is_none w)
 
-rank_t : (w : Word) → rank (codes "htn_t_" ++ w) ≡ 2
-rank_t w = refl
-
-rank_i : (w : Word) → rank (codes "htn_in_" ++ w) ≡ 5
-rank_i w = refl
-
-plain_t : (w : Word) → are_folded w ≡ true → IsPlain (codes "htn_t_" ++ w)
-plain_t w e = (folded-join (codes "htn_t_") w refl e, refl)
+-- a generated word with a source word or a numeral behind it
+pub plain-behind : (prefix w : Word) → are_folded prefix ≡ true → is_name (prefix ++ w) ≡ true → are_folded w ≡ true → IsPlain (prefix ++ w)
+plain-behind prefix w e n f = (folded-join prefix w e f, n)
