@@ -11,3 +11,5 @@ pub mod ObjectNames
 pub mod PlanParts
 pub mod PredicatePlaces
 pub mod CheckNames
+pub mod GuardWords
+pub mod PredicateNames
