@@ -13,3 +13,5 @@ pub mod PredicatePlaces
 pub mod CheckNames
 pub mod GuardWords
 pub mod PredicateNames
+pub mod SoundEquations
+pub mod SlotScopes
