@@ -15,3 +15,6 @@ pub mod GuardWords
 pub mod PredicateNames
 pub mod SoundEquations
 pub mod SlotScopes
+pub mod SlotParts
+pub mod ActionParts
+pub mod Works
