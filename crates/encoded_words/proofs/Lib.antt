@@ -18,3 +18,5 @@ pub mod SlotScopes
 pub mod SlotParts
 pub mod ActionParts
 pub mod Works
+pub mod KnownMethods
+pub mod Methods
