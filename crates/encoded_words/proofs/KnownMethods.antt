@@ -14,7 +14,7 @@ module _ (c : Compiled) (names : List Word) where
     pub params : EachIs (Has names) (param_words c.hddl.names plan.schema.params)
     pub pre : EachIs (Has names) (formula_words c.hddl.names plan.schema.pre)
 
-  of_first : (k : ℕ) (plan : MethodPlan) (rest : List Word)
+  pub of_first : (k : ℕ) (plan : MethodPlan) (rest : List Word)
       → EachIs (Has names) (method_word c k plan.schema.name ∷ numbered (codes "htn_h") (length plan.schema.children - 1) ++ param_words c.hddl.names plan.schema.params ++ formula_words c.hddl.names plan.schema.pre ++ rest) → IsKnownMethod k plan
   of_first k plan rest e =
       let front = method_word c k plan.schema.name ∷ numbered (codes "htn_h") (length plan.schema.children - 1) in

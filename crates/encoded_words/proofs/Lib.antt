@@ -20,3 +20,7 @@ pub mod ActionParts
 pub mod Works
 pub mod KnownMethods
 pub mod Methods
+pub mod ActionNames
+pub mod ActionsSound
+pub mod Beginning
+pub mod EncodedIsPrintable
