@@ -24,3 +24,4 @@ pub mod ActionNames
 pub mod ActionsSound
 pub mod Beginning
 pub mod EncodedIsPrintable
+pub mod PrintedDiffer

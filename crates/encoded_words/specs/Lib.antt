@@ -1,1 +1,2 @@
 pub mod EncodedWords
+pub mod WordsDiffer
