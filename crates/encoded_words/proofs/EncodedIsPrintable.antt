@@ -47,7 +47,7 @@ pub record IsNumberable (c : Compiled) (b : ℕ) : Type 0 where
 module _ (mode : Checks) (c : Compiled) (b : ℕ) (style : Style) (names : List Word) (init : List GroundAtom)
     (sound : IsSoundHddl c.hddl) (compiled : IsCompiled c.hddl mode c) (initial : IsInitial c names b style init) (has : HasEncodedWords c b names) (few : IsNumberable c b) where
   -- the encoded value over this table
-  abbrev value : Pddl
+  abbrev pub value : Pddl
   value = record {
     names = names;
     domain = renamed names c.hddl.names c.hddl.domain;
@@ -63,7 +63,7 @@ module _ (mode : Checks) (c : Compiled) (b : ℕ) (style : Style) (names : List 
   actions : EachIs (IsSoundAction (printed_words c names b) (printed_arities c names b)) (encoded_actions c names b style)
   actions = actions_sound c names b style sound has mode compiled few.children
 
-  value_printable : IsPrintable value
+  pub value_printable : IsPrintable value
   value_printable = record {
     domain = subst IsPlain (sym (named-name (own_word c c.hddl.domain) names (known_domain c b names has))) (plain-escaped (named c.hddl.names c.hddl.domain) sound.domain);
     problem = subst IsPlain (sym (named-name (own_word c c.hddl.problem) names (known_problem c b names has))) (plain-escaped (named c.hddl.names c.hddl.problem) sound.problem);

@@ -25,3 +25,5 @@ pub mod ActionsSound
 pub mod Beginning
 pub mod EncodedIsPrintable
 pub mod PrintedDiffer
+pub mod SmallestWords
+mod CheckOfTop
