@@ -22,6 +22,7 @@ use Rattle.plan_meaning.specs.EncodedNames.{free_predicate, encoded_types, encod
 use Rattle.plan_meaning.specs.EncodedActions.{source_condition}
 use Rattle.plan_meaning.specs.EncodedValue.{encoded_actions, IsInitial, IsEncoded}
 use Rattle.encoded_words.specs.EncodedWords.{own_word, type_words, object_words, HasEncodedWords}
+use Rattle.encoded_words.specs.Numberable.{IsNumberable}
 use Rattle.encoded_words.proofs.Lists.{each-weaker}
 use Rattle.encoded_words.proofs.PlainWords.{plain-escaped}
 use Rattle.encoded_words.proofs.TableWords.{named-name}
@@ -34,15 +35,6 @@ use Rattle.encoded_words.proofs.ActionNames.{actions_plain, actions_differ}
 use Rattle.encoded_words.proofs.Works.{IsSoundAction}
 use Rattle.encoded_words.proofs.ActionsSound.{actions_sound}
 use Rattle.encoded_words.proofs.Beginning.{init_sound, goal_sound}
-
--- What is asked besides: the top method has no precondition, as that of a text has none, so that no check is named after it;
--- what is numbered in a word has a number of 64 bits, below which numerals differ; there is a slot.
-pub record IsNumberable (c : Compiled) (b : ℕ) : Type 0 where
-  pub top : c.hddl.top.pre ≡ And []
-  pub some_slot : 1 ≤ b
-  pub slots : b < 2 ^ 64
-  pub children : EachIs (λ (plan : MethodPlan). length plan.schema.children < 2 ^ 64) c.methods
-  pub unions : length c.hddl.types.unions < 2 ^ 64
 
 module _ (mode : Checks) (c : Compiled) (b : ℕ) (style : Style) (names : List Word) (init : List GroundAtom)
     (sound : IsSoundHddl c.hddl) (compiled : IsCompiled c.hddl mode c) (initial : IsInitial c names b style init) (has : HasEncodedWords c b names) (few : IsNumberable c b) where

@@ -27,3 +27,4 @@ pub mod EncodedIsPrintable
 pub mod PrintedDiffer
 pub mod SmallestWords
 mod CheckOfTop
+mod WideNumbers

@@ -19,7 +19,8 @@ use Rattle.plan_meaning.proofs.RowWords.{slot_1}
 use Rattle.plan_meaning.proofs.SmallestRow.{smallest, smallest_names, smallest_hddl}
 use Rattle.slot_plans.proofs.SmallestFaithful.{smallest_is_printed}
 use Rattle.encoded_words.specs.EncodedWords.{formula_words_step, formula_words, effect_words_step, effect_words, encoded_words, HasEncodedWords}
-use Rattle.encoded_words.proofs.EncodedIsPrintable.{IsNumberable, value, value_printable}
+use Rattle.encoded_words.specs.Numberable.{IsNumberable}
+use Rattle.encoded_words.proofs.EncodedIsPrintable.{value, value_printable}
 
 -- no variable is quantified
 no_words : formula_words smallest_names (And []) ≡ []
