@@ -34,10 +34,11 @@ use Rattle.encoded_words.proofs.PredicateNames.{predicates_plain, predicates_dif
 use Rattle.encoded_words.proofs.ActionNames.{actions_plain, actions_differ}
 use Rattle.encoded_words.proofs.Works.{IsSoundAction}
 use Rattle.encoded_words.proofs.ActionsSound.{actions_sound}
+use Rattle.encoded_words.proofs.TableBounds.{few_slots, few_children}
 use Rattle.encoded_words.proofs.Beginning.{init_sound, goal_sound}
 
 module _ (mode : Checks) (c : Compiled) (b : ℕ) (style : Style) (names : List Word) (init : List GroundAtom)
-    (sound : IsSoundHddl c.hddl) (compiled : IsCompiled c.hddl mode c) (initial : IsInitial c names b style init) (has : HasEncodedWords c b names) (few : IsNumberable c b) where
+    (sound : IsSoundHddl c.hddl) (compiled : IsCompiled c.hddl mode c) (initial : IsInitial c names b style init) (has : HasEncodedWords c b names) (few : IsNumberable c b names) where
   -- the encoded value over this table
   abbrev pub value : Pddl
   value = record {
@@ -53,7 +54,7 @@ module _ (mode : Checks) (c : Compiled) (b : ℕ) (style : Style) (names : List 
   }
 
   actions : EachIs (IsSoundAction (printed_words c names b) (printed_arities c names b)) (encoded_actions c names b style)
-  actions = actions_sound c names b style sound has mode compiled few.children
+  actions = actions_sound c names b style sound has mode compiled (few_children c b names has few.short)
 
   pub value_printable : IsPrintable value
   value_printable = record {
@@ -65,7 +66,7 @@ module _ (mode : Checks) (c : Compiled) (b : ℕ) (style : Style) (names : List 
       unions = unions_printed c names b sound types_known;
       objects = objects_plain c names b sound objects_known;
       predicates = predicates_plain c names b sound has mode compiled few.top;
-      objects_differ = objects_differ c names b sound objects_known few.slots;
+      objects_differ = objects_differ c names b sound objects_known (few_slots c b names has few.short);
       predicates_differ = predicates_differ c names b sound has mode compiled few.top few.unions;
     };
     first = first_type c names b sound types_known;
@@ -93,7 +94,7 @@ module _ (mode : Checks) (c : Compiled) (b : ℕ) (style : Style) (names : List 
       Sound = IsSoundAction (printed_words c names b) (printed_arities c names b)
 
 pub encoded_printable : (h : Hddl) (mode : Checks) (c : Compiled) (b : ℕ) (style : Style) (p : Pddl)
-    → IsSoundHddl h → IsCompiled h mode c → IsEncoded c b style p → HasEncodedWords c b p.names → IsNumberable c b → IsPrintable p
+    → IsSoundHddl h → IsCompiled h mode c → IsEncoded c b style p → HasEncodedWords c b p.names → IsNumberable c b p.names → IsPrintable p
 encoded_printable h mode c b style p sound compiled encoded has few =
     subst IsPrintable (sym same) (value_printable mode c b style p.names p.init (subst IsSoundHddl (sym compiled.hddl) sound) (subst (λ z. IsCompiled z mode c) (sym compiled.hddl) compiled) encoded.init has few)
   where

@@ -23,6 +23,7 @@ pub mod Methods
 pub mod ActionNames
 pub mod ActionsSound
 pub mod Beginning
+pub mod TableBounds
 pub mod EncodedIsPrintable
 pub mod PrintedDiffer
 pub mod SmallestWords

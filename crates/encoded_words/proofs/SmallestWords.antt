@@ -48,8 +48,8 @@ smallest_has_words w m = has-contains table w (each-has (Has table) all_words w 
     each : EachIs (Has table) all_words
     each = (has-at table 0 (omega arith), (has-at table 1 (omega arith), (has-at table 2 (omega arith), (has-at table 3 (omega arith), (has-at table 4 (omega arith), (has-at table 5 (omega arith), (has-at table 11 (omega arith), (has-at table 12 (omega arith), (has-at table 16 (omega arith), (has-at table 6 (omega arith), (has-at table 7 (omega arith), (has-at table 8 (omega arith), (has-at table 9 (omega arith), (has-at table 10 (omega arith), (has-at table 13 (omega arith), (has-at table 14 (omega arith), (has-at table 15 (omega arith), tt)))))))))))))))))
 
-pub smallest_numberable : IsNumberable smallest 1
-smallest_numberable = record { top = refl; some_slot = omega arith; slots = omega arith; children = (omega arith, (omega arith, tt)); unions = omega arith }
+pub smallest_numberable : IsNumberable smallest 1 (printed.names ++ codes "htn_a1" ∷ [])
+smallest_numberable = record { top = refl; some_slot = omega arith; short = omega arith; unions = omega arith }
 
 -- so the encoded value over this table is printable, in both styles
 pub smallest_encoded_printable : (mode : Checks) (style : Style) → IsPrintable (value mode smallest 1 style table (first_atoms smallest table 1 style) (smallest_is_printed mode).sound (smallest_is_printed mode).compiled ([], refl, refl) smallest_has_words smallest_numberable)
