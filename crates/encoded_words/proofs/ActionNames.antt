@@ -1,13 +1,11 @@
 -- The words of the printed actions: plain, and no two the same.
-use Rattle.std.proofs.Common.{ℕ, zero, suc, ◌≡◌, ◌+◌, ◌-◌, ◌<◌, inl, inr, Bool, true, false, cond, List, [], ◌∷◌, ◌++◌, map, filter, length, drop, codes, refl, ap, sym, subst, ◌∙◌, arith}
+use Rattle.std.proofs.Common.{ℕ, zero, suc, ◌≡◌, ◌-◌, ◌<◌, Bool, true, false, cond, List, [], ◌∷◌, ◌++◌, map, filter, length, drop, codes, refl, ap, sym, subst, ◌∙◌, arith}
 use Rattle.std.proofs.lemmas.List.{map-append}
-use Rattle.htn_base.specs.Escapes.{escaped}
 use Rattle.text_forms.specs.Words.{Word}
 use Rattle.plan_model.specs.declared.options.Style.{Style}
 use Rattle.plan_model.specs.declared.options.Checks.{Checks}
 use Rattle.plan_model.specs.declared.formulas.Formula.TheVariants.{And}
 use Rattle.plan_model.specs.declared.schemas.ActionSchema.{ActionSchema}
-use Rattle.plan_model.specs.declared.schemas.MethodSchema.{MethodSchema}
 use Rattle.plan_model.specs.declared.schemas.MethodPlan.{MethodPlan}
 use Rattle.plan_model.specs.declared.values.Compiled.{Compiled}
 use Rattle.plan_texts.specs.Declared.{named}
@@ -22,7 +20,7 @@ use Rattle.plan_meaning.specs.EncodedActions.{encoded_check, method_word as name
 use Rattle.plan_meaning.specs.EncodedValue.{encoded_methods, encoded_checks, encoded_source, encoded_actions}
 use Rattle.slot_plans.proofs.Predicates.{is_checked}
 use Rattle.encoded_words.specs.EncodedWords.{own_word, param_words, formula_words, effect_words, numbered, method_word, method_words, HasEncodedWords}
-use Rattle.encoded_words.proofs.Lists.{each-left, each-right, each-map, each-of_map, different-by, AreBelow, IsBetween, different-ranks, below-join, between-map}
+use Rattle.encoded_words.proofs.Lists.{each-left, each-right, each-map, each-of_map, different-by, AreBelow, different-ranks, below-join, between-map}
 use Rattle.encoded_words.proofs.PlainWords.{rank, rank-escaped, plain-escaped, escaped-once, plain-behind}
 use Rattle.encoded_words.proofs.TableWords.{named-name}
 use Rattle.encoded_words.proofs.KnownWords.{known_methods, known_checks, known_source_actions}
@@ -136,9 +134,9 @@ module _ (c : Compiled) (names : List Word) (b : ℕ) (style : Style) (sound : I
     plain : EachIs IsPlain action_names
     plain =
         each-join IsPlain (names_from 0 c.methods ++ check_names) source_names
-            (each-join IsPlain (names_from 0 c.methods) check_names methods_plain
-            (each-map IsPlain check_word (checked_methods c) (λ p m. plain-behind (codes "htn_c_") (own_word c p.schema.name) refl refl (plain-escaped (old_word p) (each-has (λ (p : MethodPlan). IsPlain (old_word p)) (checked_methods c) p (checks_plain c mode compiled sound top_free) m)).0)))
-            (each-map IsPlain (λ (s : ActionSchema). own_word c s.name) c.hddl.actions (λ s m. action_plain c names b sound has s m))
+        (each-join IsPlain (names_from 0 c.methods) check_names methods_plain
+        (each-map IsPlain check_word (checked_methods c) (λ p m. plain-behind (codes "htn_c_") (own_word c p.schema.name) refl refl (plain-escaped (old_word p) (each-has (λ (p : MethodPlan). IsPlain (old_word p)) (checked_methods c) p (checks_plain c mode compiled sound top_free) m)).0)))
+        (each-map IsPlain (λ (s : ActionSchema). own_word c s.name) c.hddl.actions (λ s m. action_plain c names b sound has s m))
 
     pub actions_plain : EachIs IsPlain (map (λ (a : ActionSchema). named names a.name) (encoded_actions c names b style))
     actions_plain = subst (EachIs IsPlain) (sym actions-named) plain

@@ -1,5 +1,5 @@
 -- Each printed action is sound.
-use Rattle.std.proofs.Common.{ℕ, suc, ◌≡◌, ◌+◌, ◌<◌, ◌^◌, ◌⊎◌, inl, inr, List, [], ◌∷◌, ◌++◌, map, length, slice_get, Some, codes, refl, sym, subst, arith}
+use Rattle.std.proofs.Common.{ℕ, ◌≡◌, ◌+◌, ◌<◌, ◌^◌, inl, inr, List, [], ◌∷◌, ◌++◌, length, slice_get, Some, codes, sym, subst, arith}
 use Rattle.text_forms.specs.Words.{Word}
 use Rattle.plan_model.specs.declared.options.Style.{Style}
 use Rattle.plan_model.specs.declared.options.Checks.{Checks}
@@ -63,7 +63,7 @@ module _ (c : Compiled) (names : List Word) (b : ℕ) (style : Style) (sound : I
       let sf = each-at-some (λ (a : ActionSchema). IsSound (hddl_words c.hddl) (arities c.hddl) a.pre (scope_of c.hddl a.params)) c.hddl.actions n s sound.pre e in
       let se = each-at-some (λ (a : ActionSchema). IsSoundEffect (hddl_words c.hddl) (arities c.hddl) a.eff (scope_of c.hddl a.params)) c.hddl.actions n s sound.eff e in
       subst Sound (sym f) (work_sound c names b style sound has (source_word c.hddl.names s.name) (action_predicate c n) s.params s.pre (source_change c names b style 1 s.eff) (action_arity c names b n s e) kp are sf kf
-          (change_sound c names b style sound has 0 s.params (omega arith) tt kp are s.eff se ke))
+      (change_sound c names b style sound has 0 s.params (omega arith) tt kp are s.eff se ke))
 
   pub actions_sound : EachIs (IsSoundAction (printed_words c names b) (printed_arities c names b)) (encoded_actions c names b style)
   actions_sound = each-from_get Sound (encoded_actions c names b style) (λ k a e. elim (action_cases c names b style k a e) [

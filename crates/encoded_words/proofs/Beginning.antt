@@ -1,5 +1,5 @@
 -- The initial atoms and the goal of the printed problem are sound.
-use Rattle.std.proofs.Common.{ℕ, ◌≡◌, ◌+◌, ◌-◌, ◌<◌, ◌≤◌, inl, inr, Bool, true, false, cond, List, [], ◌∷◌, ◌++◌, map, length, codes, refl, sym, subst, ◌∙◌, Contains, arith}
+use Rattle.std.proofs.Common.{ℕ, ◌+◌, ◌-◌, ◌<◌, ◌≤◌, inl, inr, Bool, true, false, cond, List, [], ◌∷◌, ◌++◌, map, length, refl, sym, subst, ◌∙◌, arith}
 use Rattle.text_forms.specs.Words.{Word}
 use Rattle.plan_model.specs.declared.options.Style.{Style}
 use Rattle.plan_model.specs.declared.terms.GroundAtom.{GroundAtom}
@@ -12,7 +12,7 @@ use Rattle.plan_texts.specs.Types.{Has, EachIs}
 use Rattle.plan_texts.specs.SpellsHddl.{hddl_words}
 use Rattle.plan_texts.specs.Printable.{IsInForce, IsSoundAtom, IsSound}
 use Rattle.plan_texts.specs.SoundValue.{IsSoundHddl, arities}
-use Rattle.plan_texts.proofs.Members.{each-has, contains-has, has-contains, length-map}
+use Rattle.plan_texts.proofs.Members.{each-has, contains-has, has-contains}
 use Rattle.plan_texts.proofs.Places.{each-join}
 use Rattle.text_plans.proofs.Places.{each-from_has}
 use Rattle.task_networks.specs.Spelling.{numbers}
@@ -68,18 +68,17 @@ module _ (c : Compiled) (names : List Word) (b : ℕ) (style : Style) (sound : I
       args (o ∷ os) e = ((let l = e.0 in let more = (extended c names b sound has).objects in omega arith), args os e.1)
 
   first_sound : 1 ≤ b → EachIs Sound (first_atoms c names b style)
-  first_sound some = each-join Sound (atom (top_predicate c) (first_slot c) ∷ map (λ k. atom (free_predicate c) (first_slot c + k)) (numbers 1 (b - 1))) (once same_atom c.hddl.init)
-      (
-        one_sound (top_predicate c) (first_slot c) (top_arity c names b) (omega arith),
-        each-map Sound (λ k. atom (free_predicate c) (first_slot c + k)) (numbers 1 (b - 1)) (λ k m. one_sound (free_predicate c) (first_slot c + k) (free_arity c names b) (let r = (numbers_to 1 (b - 1) k (has-contains (numbers 1 (b - 1)) k m)).1 in omega arith)),
-      )
+  first_sound some = each-join Sound (atom (top_predicate c) (first_slot c) ∷ map (λ k. atom (free_predicate c) (first_slot c + k)) (numbers 1 (b - 1))) (once same_atom c.hddl.init) (
+    one_sound (top_predicate c) (first_slot c) (top_arity c names b) (omega arith),
+    each-map Sound (λ k. atom (free_predicate c) (first_slot c + k)) (numbers 1 (b - 1)) (λ k m. one_sound (free_predicate c) (first_slot c + k) (free_arity c names b) (let r = (numbers_to 1 (b - 1) k (has-contains (numbers 1 (b - 1)) k m)).1 in omega arith)),
+  )
       (each-from_has Sound (once same_atom c.hddl.init) (λ g m. source_sound g (contains-has c.hddl.init g (once_to same_atom c.hddl.init g (has-contains (once same_atom c.hddl.init) g m)))))
 
   guards_sound : (tys : List ℕ) → ((ty : ℕ) → Has tys ty → Has (guard_types c) ty) → (atoms : List GroundAtom) → AreGuardAtoms c names b style tys atoms → EachIs Sound atoms
   guards_sound [] within atoms a = subst (EachIs Sound) (sym a) tt
   guards_sound (ty ∷ tys) within atoms (members, rest, keeps, e, a) = subst (EachIs Sound) (sym e) (each-join Sound (map (atom (guard_predicate c ty)) members) rest
       (each-map Sound (atom (guard_predicate c ty)) members (λ o m. one_sound (guard_predicate c ty) o (guard_arity c names b ty (has-contains (guard_types c) ty (within ty (inl refl))))
-          (let r = (numbers_to 0 (length c.hddl.objects) o (keeps_to (λ o. InTypeOf c o ty) (numbers 0 (length c.hddl.objects)) members keeps o (has-contains members o m)).0).1 in omega arith)))
+      (let r = (numbers_to 0 (length c.hddl.objects) o (keeps_to (λ o. InTypeOf c o ty) (numbers 0 (length c.hddl.objects)) members keeps o (has-contains members o m)).0).1 in omega arith)))
       (guards_sound tys (λ t m. within t (inr m)) rest a))
 
   pub init_sound : 1 ≤ b → (init : List GroundAtom) → IsInitial c names b style init → EachIs (λ (g : GroundAtom). IsSoundAtom (printed_words c names b) (printed_arities c names b) [] g.predicate (map Obj g.args)) init

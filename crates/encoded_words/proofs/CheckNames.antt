@@ -12,7 +12,7 @@ use Rattle.plan_texts.specs.Types.{Has, EachIs, AreDifferent}
 use Rattle.plan_texts.specs.SpellsHddl.{hddl_words}
 use Rattle.plan_texts.specs.Printable.{IsPlain}
 use Rattle.plan_texts.specs.SoundValue.{IsSoundHddl, method_words}
-use Rattle.plan_texts.proofs.Members.{each-has, has-contains, contains-has, has-of_map}
+use Rattle.plan_texts.proofs.Members.{each-has, contains-has, has-of_map}
 use Rattle.plan_meaning.specs.Compilation.{IsMethodPlan, AreMethodPlans, IsCompiled}
 use Rattle.plan_meaning.specs.EncodedNames.{joined, guard_types, checked_methods}
 use Rattle.plan_meaning.proofs.Pairs.{once_to}

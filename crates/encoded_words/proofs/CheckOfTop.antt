@@ -1,6 +1,6 @@
 -- A sound problem whose encoded value is not printable: the top method has a precondition and the name of another method,
 -- so that in mode leaf two checks have one name. The value of a text has no such top method.
-use Rattle.std.proofs.Common.{ℕ, ◌≡◌, ◌<◌, ◌≤◌, ◌^◌, inl, inr, Bool, true, false, List, [], ◌∷◌, ◌++◌, map, length, Some, refl, ap, sym, subst, ◌∙◌, Contains, arith, true≢false}
+use Rattle.std.proofs.Common.{ℕ, ◌≡◌, ◌<◌, ◌≤◌, ◌^◌, inl, inr, Bool, true, false, List, [], ◌∷◌, ◌++◌, length, Some, refl, ap, sym, subst, ◌∙◌, Contains, arith, true≢false, codes}
 use Rattle.text_forms.specs.Words.{Word}
 use Rattle.plan_model.specs.declared.options.Checks.{Checks}
 use Rattle.plan_model.specs.declared.options.Checks.TheVariants.{Leaf}
@@ -10,6 +10,10 @@ use Rattle.plan_model.specs.declared.formulas.Formula.{Formula}
 use Rattle.plan_model.specs.declared.formulas.Formula.TheFolds.{fold-roll-Formula}
 use Rattle.plan_model.specs.declared.formulas.Formula.TheOpen.{Formula-F}
 use Rattle.plan_model.specs.declared.formulas.Formula.TheVariants.{And, Or, rolls-And, rolls-Or}
+use Rattle.plan_model.specs.declared.effects.Effect.TheFolds.{fold-roll-Effect}
+use Rattle.plan_model.specs.declared.effects.Effect.TheOpen.{Effect-F}
+use Rattle.plan_model.specs.declared.effects.Effect.TheVariants as E
+use Rattle.htn_base.specs.Escapes.{slot_word}
 use Rattle.plan_model.specs.declared.networks.Head.TheVariants.{Task, Action, Check}
 use Rattle.plan_model.specs.declared.schemas.MethodSchema.{MethodSchema}
 use Rattle.plan_model.specs.declared.schemas.MethodPlan.{MethodPlan}
@@ -32,9 +36,9 @@ use Rattle.plan_meaning.specs.EncodedActions.{no_part, is_empty, source_conditio
 use Rattle.plan_meaning.specs.EncodedValue.{first_atoms, encoded_actions, IsEncoded}
 use Rattle.plan_meaning.proofs.PlanKinds.{with_check, none_rise}
 use Rattle.plan_meaning.proofs.RowValues.{child, always, nothing, problem, method_schema, method_plan, task_schema, action_schema}
-use Rattle.plan_meaning.proofs.SmallestRow.{smallest_names, smallest_hddl}
+use Rattle.plan_meaning.proofs.SmallestRow.{smallest_names}
 use Rattle.slot_plans.proofs.SmallestFaithful.{smallest_is_printed}
-use Rattle.encoded_words.specs.EncodedWords.{encoded_words, HasEncodedWords}
+use Rattle.encoded_words.specs.EncodedWords.{numbered, formula_words_step, formula_words, effect_words_step, effect_words, encoded_words, HasEncodedWords}
 
 -- (or), which is no empty conjunction
 abbrev never : Formula
@@ -147,9 +151,33 @@ printed = record {
 encoded : IsEncoded twins 1 Adl printed
 encoded = record { domain = refl; problem = refl; types = refl; objects = refl; predicates = refl; actions = refl; init = ([], refl, refl); goal = refl }
 
--- that every encoded value is printable
+-- no variable is quantified, so the words are known
+no_words : formula_words smallest_names (And []) ≡ []
+no_words = ap (formula_words smallest_names) (sym (rolls-And [])) ∙ fold-roll-Formula (List Word) (formula_words_step smallest_names) (Formula-F.And [])
+
+never_words : formula_words smallest_names never ≡ []
+never_words = ap (formula_words smallest_names) (sym (rolls-Or [])) ∙ fold-roll-Formula (List Word) (formula_words_step smallest_names) (Formula-F.Or [])
+
+no_effect_words : effect_words smallest_names nothing ≡ []
+no_effect_words = ap (effect_words smallest_names) (sym (E.rolls-And [])) ∙ fold-roll-Effect (List Word) (effect_words_step smallest_names) (Effect-F.And [])
+
+words_by : List Word → List Word → List Word → List Word
+words_by f n e =
+    codes "d" ∷ codes "p" ∷ codes "object" ∷ codes "htn_slot" ∷ codes "htn_object" ∷ slot_word 1 ∷ codes "htn_h" ∷ codes "htn_x" ∷ codes "htn_a1" ∷ codes "htn_top" ∷ codes "htn_free" ∷ codes "htn_before"
+    ∷ codes "htn_t_t" ∷ codes "htn_a_a" ∷ codes "htn_c_m" ∷ codes "htn_c_m"
+    ∷ (((codes "htn_start" ∷ (numbered (codes "htn_h") 1 ++ n ++ (codes "htn_m_m" ∷ (numbered (codes "htn_h") 1 ++ n ++ [])))) ++ (codes "htn_c_m" ∷ codes "htn_c_m" ∷ [])) ++ ((codes "a" ∷ (f ++ e)) ++ []) ++ f)
+
+short : length table < 2 ^ 32
+unfolding words_by
+short =
+    let e : table ≡ words_by [] [] [] = λ i. words_by (no_words i) (never_words i) (no_effect_words i) in
+    let f : length table ≡ 23 = ap length e in
+    omega arith
+
+-- that every encoded value is printable, where all else that is asked holds
 abbrev pub EncodedIsPrintable : Type 0
-EncodedIsPrintable = (h : Hddl) (mode : Checks) (c : Compiled) (b : ℕ) (style : Style) (p : Pddl) → IsSoundHddl h → AreOrdered h → IsCompiled h mode c → 1 ≤ b → b < 2 ^ 32 → IsEncoded c b style p → HasEncodedWords c b p.names → IsPrintable p
+EncodedIsPrintable = (h : Hddl) (mode : Checks) (c : Compiled) (b : ℕ) (style : Style) (p : Pddl) → IsSoundHddl h → AreOrdered h → IsCompiled h mode c → 1 ≤ b → b < 2 ^ 32 → length h.types.unions < 2 ^ 64
+    → IsEncoded c b style p → length p.names < 2 ^ 32 → HasEncodedWords c b p.names → IsPrintable p
 
 pub refuted : EncodedIsPrintable → ⊥
-refuted all = (all twins_hddl Leaf twins 1 Adl printed sound ordered compiled (omega arith) (omega arith) encoded (λ w m. m)).actions_differ.1.1.0.0 refl
+refuted all = (all twins_hddl Leaf twins 1 Adl printed sound ordered compiled (omega arith) (omega arith) (omega arith) encoded short (λ w m. m)).actions_differ.1.1.0.0 refl

@@ -1,5 +1,5 @@
 -- The words of the predicates of guards.
-use Rattle.std.proofs.Common.{ℕ, zero, suc, ◌≡◌, ◌+◌, ◌-◌, ◌<◌, ◌≤◌, ◌^◌, ◌⊎◌, inl, inr, true, false, cond, nat_eq, List, [], ◌∷◌, ◌++◌, map, length, get_or, drop, slice_index_or, codes, decimal, refl, ap, sym, subst, ◌∙◌, arith}
+use Rattle.std.proofs.Common.{ℕ, zero, suc, ◌≡◌, ◌+◌, ◌-◌, ◌<◌, ◌≤◌, ◌^◌, ◌⊎◌, inl, inr, cond, List, [], ◌∷◌, ◌++◌, map, length, get_or, drop, slice_index_or, codes, decimal, refl, ap, sym, subst, ◌∙◌, arith}
 use Rattle.std.proofs.lemmas.Fmt.{decimal_injective}
 use Rattle.std.proofs.str.Laws.{order}
 use Rattle.htn_base.specs.Escapes.{escaped}
@@ -10,11 +10,11 @@ use Rattle.plan_model.specs.declared.networks.Guard.{Guard}
 use Rattle.plan_model.specs.declared.schemas.MethodPlan.{MethodPlan}
 use Rattle.plan_model.specs.declared.values.Compiled.{Compiled}
 use Rattle.plan_texts.specs.Declared.{named, kinds, one_word}
-use Rattle.plan_texts.specs.Types.{Has, EachIs, AreDifferent}
+use Rattle.plan_texts.specs.Types.{AreDifferent}
 use Rattle.plan_texts.specs.SpellsHddl.{hddl_words, hddl_types}
 use Rattle.plan_texts.specs.Printable.{IsPlain}
 use Rattle.plan_texts.specs.SoundValue.{IsSoundHddl}
-use Rattle.plan_texts.proofs.Members.{has-contains, length-map}
+use Rattle.plan_texts.proofs.Members.{length-map}
 use Rattle.plan_texts.proofs.Places.{each-at}
 use Rattle.text_plans.proofs.Places.{same_place}
 use Rattle.plan_meaning.specs.Compilation.{IsCompiled}
@@ -23,9 +23,9 @@ use Rattle.plan_meaning.specs.EncodedNames.{joined, guard_types, guard_word}
 use Rattle.plan_meaning.proofs.Unequal.{to_lt}
 use Rattle.slot_plans.proofs.PrintedTypes.{to_not_lt}
 use Rattle.slot_plans.proofs.ListPlaces.{length-joined}
-use Rattle.encoded_words.proofs.Lists.{each-map, different-once}
+use Rattle.encoded_words.proofs.Lists.{different-once}
 use Rattle.encoded_words.proofs.PlainWords.{rank, plain-escaped, escaped-once, plain-behind, folded-decimal}
-use Rattle.encoded_words.proofs.CheckNames.{guard_type_within, guard_types_within}
+use Rattle.encoded_words.proofs.CheckNames.{guard_type_within}
 
 get-name : (names : List Word) (ns : List Name) (k : ℕ) (d : Name) → k < length ns → named names (get_or ns k d) ≡ word_at (map (named names) ns) k
 get-name names [] k d l = absurd (omega arith)

@@ -1,8 +1,6 @@
 -- A table with all words of the printed problem has each part of them.
-use Rattle.std.proofs.Common.{ℕ, ◌-◌, ◌++◌, List, [], ◌∷◌, map, length, codes}
-use Rattle.htn_base.specs.Escapes.{slot_word}
+use Rattle.std.proofs.Common.{ℕ, ◌++◌, List, [], ◌∷◌, map, codes}
 use Rattle.text_forms.specs.Words.{Word}
-use Rattle.plan_model.specs.declared.types.Object.{Object}
 use Rattle.plan_model.specs.declared.schemas.Predicate.{Predicate}
 use Rattle.plan_model.specs.declared.schemas.TaskSchema.{TaskSchema}
 use Rattle.plan_model.specs.declared.schemas.ActionSchema.{ActionSchema}
@@ -11,7 +9,6 @@ use Rattle.plan_model.specs.declared.values.Compiled.{Compiled}
 use Rattle.plan_texts.specs.Types.{Has, EachIs}
 use Rattle.plan_texts.proofs.Members.{contains-has, has-contains}
 use Rattle.text_plans.proofs.Places.{each-from_has}
-use Rattle.task_networks.specs.Spelling.{numbers}
 use Rattle.plan_meaning.specs.EncodedNames.{joined, guard_types, checked_methods, guard_word}
 use Rattle.encoded_words.specs.EncodedWords.{param_words, formula_words, effect_words, own_word, type_words, object_words, slot_variables, held_words, predicate_words, method_words, action_words, encoded_words, HasEncodedWords}
 use Rattle.encoded_words.proofs.Lists.{each-left, each-right}

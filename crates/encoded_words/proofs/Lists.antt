@@ -130,10 +130,10 @@ pub different-once : (f : ℕ → Word) (xs : List ℕ) → ((s t : ℕ) → Has
 different-once f [] same = tt
 different-once f (x ∷ xs) same = (
   each-map (λ u. f x ≡ u → ⊥) f (filter (λ y. not (nat_eq x y)) (once nat_eq xs)) (λ y h e. (
-    let (k, t) = filter_to (λ y. not (nat_eq x y)) (once nat_eq xs) y (has-contains (filter (λ y. not (nat_eq x y)) (once nat_eq xs)) y h) in
-    let s = same x y (inl refl) (inr (contains-has xs y (once_to nat_eq xs y k))) e in
-    elim (eqb_tells x y) [ inl d ↦ true≢false (sym t ∙ ap not d.0) | inr d ↦ d.1 s ]
-    )),
+      let (k, t) = filter_to (λ y. not (nat_eq x y)) (once nat_eq xs) y (has-contains (filter (λ y. not (nat_eq x y)) (once nat_eq xs)) y h) in
+      let s = same x y (inl refl) (inr (contains-has xs y (once_to nat_eq xs y k))) e in
+      elim (eqb_tells x y) [ inl d ↦ true≢false (sym t ∙ ap not d.0) | inr d ↦ d.1 s ]
+      )),
   different-filter f (λ y. not (nat_eq x y)) (once nat_eq xs) (different-once f xs (λ s t h k e. same s t (inr h) (inr k) e)),
 )
 

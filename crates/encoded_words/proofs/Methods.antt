@@ -1,5 +1,5 @@
 -- The printed action of a method is sound.
-use Rattle.std.proofs.Common.{ℕ, zero, suc, ◌≡◌, ◌+◌, ◌-◌, ◌<◌, ◌^◌, ◌==◌, inl, inr, Bool, true, false, cond, List, [], ◌∷◌, ◌++◌, map, length, get_or, slice_get, slice_index, Some, codes, refl, ap, sym, subst, ◌∙◌, Contains, arith}
+use Rattle.std.proofs.Common.{ℕ, zero, suc, ◌≡◌, ◌+◌, ◌-◌, ◌<◌, ◌^◌, ◌==◌, inl, inr, Bool, true, false, cond, List, [], ◌∷◌, ◌++◌, map, length, slice_get, slice_index, Some, codes, refl, ap, sym, subst, ◌∙◌, arith}
 use Rattle.std.proofs.lemmas.Bool.Decides.{eqb_tells}
 use Rattle.std.proofs.lemmas.Option.{slice_get_within}
 use Rattle.text_forms.specs.Words.{Word}
@@ -30,8 +30,8 @@ use Rattle.task_networks.specs.Spelling.{numbers}
 use Rattle.task_networks.proofs.Numbers.{numbers_to}
 use Rattle.plan_meaning.specs.SourceParts.{moved}
 use Rattle.plan_meaning.specs.OrderFormulas.{pair_of, copy_parts}
-use Rattle.plan_meaning.specs.EncodedNames.{guard_types, first_task, top_predicate, task_predicate, action_predicate, check_predicate, guard_predicate, order_numbers}
-use Rattle.plan_meaning.specs.EncodedActions.{is_free, waiting, spare, front, depth, children_slots, held_task, child_atom, child_atoms, differ, test, constraints, guards, tested, source_condition, method_pre, splitting, method_eff, encoded_method}
+use Rattle.plan_meaning.specs.EncodedNames.{first_task, top_predicate, task_predicate, action_predicate, check_predicate, guard_predicate, order_numbers}
+use Rattle.plan_meaning.specs.EncodedActions.{is_free, waiting, depth, children_slots, held_task, child_atom, child_atoms, differ, test, constraints, guards, tested, source_condition, method_pre, splitting, method_eff, encoded_method}
 use Rattle.slot_plans.proofs.Guards.{guard_type}
 use Rattle.slot_plans.proofs.Splitting.{frees, kids, links, copies_of, splitting_parts}
 use Rattle.encoded_words.specs.EncodedWords.{HasEncodedWords}
@@ -176,8 +176,8 @@ module _ (c : Compiled) (names : List Word) (b : ℕ) (style : Style) (sound : I
       let gs = guards c names b style m plan in
       let ts = tested c names b style m plan in
       each-join Sound (Holds task_atom ∷ waiting c names b style (depth c names b style m plan)) (fs ++ (ds ++ (cs ++ (gs ++ ts))))
-          (sound-Holds v' ar' scope task_atom task_sound, waits c names b sound has scope apart (depth c names b style m plan) depth_is style 0 some)
-          (each-join Sound fs (ds ++ (cs ++ (gs ++ ts))) are_free (each-join Sound ds (cs ++ (gs ++ ts)) (differ_sound (numbers 1 n) new_slot) (each-join Sound cs (gs ++ ts) constraints_sound (each-join Sound gs ts guards_sound tested_sound))))
+      (sound-Holds v' ar' scope task_atom task_sound, waits c names b sound has scope apart (depth c names b style m plan) depth_is style 0 some)
+      (each-join Sound fs (ds ++ (cs ++ (gs ++ ts))) are_free (each-join Sound ds (cs ++ (gs ++ ts)) (differ_sound (numbers 1 n) new_slot) (each-join Sound cs (gs ++ ts) constraints_sound (each-join Sound gs ts guards_sound tested_sound))))
 
   -- the effect
   abbrev IsAtom : Atom → Type 0
@@ -220,9 +220,9 @@ module _ (c : Compiled) (names : List Word) (b : ℕ) (style : Style) (sound : I
       let ls = links c names b style m plan in
       let cs = copies_of c names b style m plan plan.copiers in
       subst (EachIs SoundEffect) (sym (splitting_parts c names b style m plan))
-          (each-join SoundEffect (E.Delete task_atom ∷ fs) (ks ++ (ls ++ cs))
-          (sound-Delete v' ar' scope task_atom task_sound, each-map SoundEffect (λ v. E.Delete (is_free c names b style v)) (numbers 1 n) (λ k h. sound-Delete v' ar' scope (is_free c names b style k) (free_sound c names b sound has scope (Var k) (slot k (new_slot k h)))))
-          (each-join SoundEffect ks (ls ++ cs) (kids_sound slots plan.schema.children sp.slots sp.parts.children) (each-join SoundEffect ls cs links_sound (copies_sound plan.copiers))))
+      (each-join SoundEffect (E.Delete task_atom ∷ fs) (ks ++ (ls ++ cs))
+      (sound-Delete v' ar' scope task_atom task_sound, each-map SoundEffect (λ v. E.Delete (is_free c names b style v)) (numbers 1 n) (λ k h. sound-Delete v' ar' scope (is_free c names b style k) (free_sound c names b sound has scope (Var k) (slot k (new_slot k h)))))
+      (each-join SoundEffect ks (ls ++ cs) (kids_sound slots plan.schema.children sp.slots sp.parts.children) (each-join SoundEffect ls cs links_sound (copies_sound plan.copiers))))
 
   eff_sound : (children : List Child) → EachIs SoundEffect (method_eff c names b style m plan children)
   eff_sound [] = freeing_sound c names b style sound has scope apart some task_atom task_sound (depth c names b style m plan) depth_is

@@ -1,8 +1,8 @@
 -- The objects of the printed problem: their words and their types.
-use Rattle.std.proofs.Common.{ℕ, suc, ◌≡◌, ◌+◌, ◌<◌, ◌≤◌, ◌^◌, inl, inr, true, false, cond, List, [], ◌∷◌, ◌++◌, map, length, drop, codes, decimal, refl, ap, sym, subst, ◌∙◌, arith}
+use Rattle.std.proofs.Common.{ℕ, ◌≡◌, ◌+◌, ◌<◌, ◌^◌, true, cond, List, ◌++◌, map, length, drop, codes, decimal, refl, ap, sym, subst, ◌∙◌, arith}
 use Rattle.std.proofs.lemmas.Fmt.{decimal_injective}
 use Rattle.std.proofs.lemmas.List.{map-append}
-use Rattle.htn_base.specs.Escapes.{escaped, slot_word}
+use Rattle.htn_base.specs.Escapes.{slot_word}
 use Rattle.text_forms.specs.Words.{Word}
 use Rattle.plan_model.specs.declared.types.Object.{Object}
 use Rattle.plan_model.specs.declared.values.Compiled.{Compiled}
@@ -13,8 +13,7 @@ use Rattle.plan_texts.specs.SoundValue.{IsSoundHddl}
 use Rattle.plan_texts.proofs.Members.{each-has, has-to_map}
 use Rattle.plan_texts.proofs.Places.{each-join}
 use Rattle.task_networks.specs.Spelling.{numbers}
-use Rattle.plan_meaning.specs.SourceParts.{retyped}
-use Rattle.plan_meaning.specs.EncodedNames.{slot_type, encoded_types, encoded_objects}
+use Rattle.plan_meaning.specs.EncodedNames.{encoded_types, encoded_objects}
 use Rattle.slot_plans.proofs.ObjectPlaces.{printed_object, printed_slot}
 use Rattle.encoded_words.specs.EncodedWords.{own_word, type_words, object_words}
 use Rattle.encoded_words.proofs.Lists.{each-left, each-right, each-map, each-of_map, different-by, different-numbers, IsBetween, different-ranks}

@@ -1,11 +1,10 @@
 -- Escapes of plain words, generated words and numerals can be printed, and the kinds of generated words are apart.
-use Rattle.std.proofs.Common.{ℕ, zero, suc, ◌≡◌, ◌<◌, ◌≤◌, ◌+◌, ◌/◌, ◌%◌, ◌^◌, ◌==◌, ◌&&◌, nat_eq, Bool, true, false, not, cond, List, [], ◌∷◌, ◌++◌, length, get_or, drop, codes, decimal, refl, ap, sym, subst, ◌∙◌, arith, true≢false, All}
+use Rattle.std.proofs.Common.{ℕ, zero, suc, ◌≡◌, ◌<◌, ◌≤◌, ◌/◌, ◌%◌, ◌^◌, ◌==◌, ◌&&◌, nat_eq, Bool, true, false, not, cond, [], ◌∷◌, ◌++◌, length, get_or, drop, codes, decimal, refl, ap, sym, ◌∙◌, arith, true≢false, All}
 use Rattle.std.specs.Char.{to_ascii_lowercase}
 use Rattle.std.specs.Fmt.{digits, digits_onto, digit_glyph}
 use Rattle.std.specs.List.{list_all, starts_with}
 use Rattle.std.proofs.lemmas.Bool.{and_parts, and_from}
 use Rattle.std.proofs.lemmas.Bool.Decides.{nat_tests}
-use Rattle.std.proofs.lemmas.Fmt.{decimal_injective}
 use Rattle.htn_base.specs.Words.{is_reserved}
 use Rattle.htn_base.specs.Escapes.{is_plain_byte, begins_with_letter, is_plain_word, hex, escaped}
 use Rattle.std.specs.List.{flat_map}

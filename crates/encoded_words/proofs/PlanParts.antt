@@ -1,9 +1,8 @@
 -- The parts of a compiled method of a sound problem: sound, with slots for its children, and guards of declared types.
-use Rattle.std.proofs.Common.{ℕ, zero, suc, ◌≡◌, ◌≢◌, ◌+◌, ◌-◌, ◌<◌, ◌≤◌, ◌⊎◌, ◌==◌, inl, inr, Bool, true, false, cond, List, [], ◌∷◌, ◌++◌, map, length, slice_get, Option, Some, None, refl, ap, sym, subst, ◌∙◌, Contains, arith}
+use Rattle.std.proofs.Common.{ℕ, zero, suc, ◌≡◌, ◌≢◌, ◌+◌, ◌-◌, ◌<◌, ◌≤◌, ◌⊎◌, inl, inr, Bool, true, false, cond, List, [], ◌∷◌, ◌++◌, map, length, slice_get, Option, Some, refl, ap, sym, subst, ◌∙◌, Contains, arith}
 use Rattle.std.proofs.lemmas.Bool.Decides.{eqb_tells}
 use Rattle.std.proofs.lemmas.List.{length-append}
 use Rattle.std.proofs.Math.Decide.{ℕ_discrete}
-use Rattle.text_forms.specs.Words.{Word}
 use Rattle.plan_model.specs.declared.options.Checks.{Checks}
 use Rattle.plan_model.specs.declared.terms.Term.{Term}
 use Rattle.plan_model.specs.declared.terms.Term.TheVariants.{Var}
@@ -11,16 +10,14 @@ use Rattle.plan_model.specs.declared.terms.Param.{Param}
 use Rattle.plan_model.specs.declared.networks.Head.{Head}
 use Rattle.plan_model.specs.declared.networks.Head.TheVariants.{Task, Action, Check}
 use Rattle.plan_model.specs.declared.networks.Child.{Child}
-use Rattle.plan_model.specs.declared.networks.Constraint.{Constraint}
 use Rattle.plan_model.specs.declared.networks.Guard.{Guard}
 use Rattle.plan_model.specs.declared.schemas.TaskSchema.{TaskSchema}
 use Rattle.plan_model.specs.declared.schemas.ActionSchema.{ActionSchema}
 use Rattle.plan_model.specs.declared.schemas.MethodSchema.{MethodSchema}
 use Rattle.plan_model.specs.declared.schemas.MethodPlan.{MethodPlan}
-use Rattle.plan_model.specs.declared.values.Hddl.{Hddl}
 use Rattle.plan_model.specs.declared.values.Compiled.{Compiled}
 use Rattle.task_networks.specs.Order.{IsLine}
-use Rattle.task_networks.specs.Spelling.{numbers, is_heir}
+use Rattle.task_networks.specs.Spelling.{numbers}
 use Rattle.task_networks.proofs.Lists.{not-in_empty, last_cases}
 use Rattle.task_networks.proofs.Numbers.{length-numbers, numbers_to}
 use Rattle.plan_texts.specs.Declared.{Declared, kinds, variable}
@@ -31,10 +28,9 @@ use Rattle.plan_texts.specs.SoundValue.{IsSoundHddl, IsSoundMethod, IsSoundHead,
 use Rattle.plan_texts.proofs.Members.{each-has, contains-has, has-contains, length-map}
 use Rattle.plan_texts.proofs.Places.{each-join}
 use Rattle.text_plans.proofs.Places.{each-at-some, each-from_has}
-use Rattle.plan_meaning.specs.Compilation.{check_child, children, pairs, Pairs, last_of, params_of_task, params_of_action, params_of, placed, all_placed, IsGuard, same_guard, IsMethodPlan, AreMethodPlans, IsCompiled}
+use Rattle.plan_meaning.specs.Compilation.{children, pairs, Pairs, last_of, params_of_task, params_of_action, params_of, placed, all_placed, IsGuard, same_guard, IsMethodPlan, AreMethodPlans, IsCompiled}
 use Rattle.plan_meaning.specs.EncodedActions.{slot_vars}
 use Rattle.plan_meaning.proofs.Pairs.{once_to}
-use Rattle.plan_meaning.proofs.CompiledNetworks.{plan_of}
 use Rattle.slot_plans.proofs.KeptItems.{keeps_to}
 use Rattle.encoded_words.proofs.Lists.{each-map}
 use Rattle.encoded_words.proofs.Scopes.{last-different}
@@ -167,7 +163,7 @@ module _ (c : Compiled) where
     sound_plan s plan is task k =
         let (all, keeps, e) = k.guards in
         let one : (g : Guard) → Has plan.guards g → IsPlanGuard s.params g = λ g m. each-has (IsPlanGuard s.params) (all_placed c.hddl s.children) g (all_guards sound plan.checked s is s.children is.children)
-            (contains-has (all_placed c.hddl s.children) g (keeps_to (IsGuard c.hddl s) (all_placed c.hddl s.children) all keeps g (once_to same_guard all g (subst (λ z. Contains z g) e (has-contains plan.guards g m)))).0) in
+        (contains-has (all_placed c.hddl s.children) g (keeps_to (IsGuard c.hddl s) (all_placed c.hddl s.children) all keeps g (once_to same_guard all g (subst (λ z. Contains z g) e (has-contains plan.guards g m)))).0) in
         let same : s.params ≡ plan.schema.params = ap (λ (z : MethodSchema). z.params) (sym k.schema) in
         record {
           parts = subst (ArePlanParts plan.checked) (sym k.schema) (plan_parts sound plan.checked s is task);

@@ -1,5 +1,5 @@
 -- The predicates of the printed problem: their words and their variables.
-use Rattle.std.proofs.Common.{ℕ, zero, suc, ◌≡◌, ◌+◌, ◌<◌, ◌≤◌, ◌^◌, inl, inr, List, [], ◌∷◌, ◌++◌, map, filter, length, drop, codes, decimal, refl, ap, sym, subst, ◌∙◌, arith}
+use Rattle.std.proofs.Common.{ℕ, ◌≡◌, ◌<◌, ◌^◌, List, [], ◌∷◌, ◌++◌, map, length, drop, codes, decimal, refl, ap, sym, subst, ◌∙◌, arith}
 use Rattle.std.proofs.lemmas.List.{map-append}
 use Rattle.htn_base.specs.Escapes.{escaped}
 use Rattle.text_forms.specs.Words.{Word}
@@ -12,7 +12,7 @@ use Rattle.plan_model.specs.declared.schemas.TaskSchema.{TaskSchema}
 use Rattle.plan_model.specs.declared.schemas.ActionSchema.{ActionSchema}
 use Rattle.plan_model.specs.declared.schemas.MethodPlan.{MethodPlan}
 use Rattle.plan_model.specs.declared.values.Compiled.{Compiled}
-use Rattle.plan_texts.specs.Declared.{named, kinds}
+use Rattle.plan_texts.specs.Declared.{named}
 use Rattle.plan_texts.specs.Types.{Has, EachIs, AreDifferent}
 use Rattle.plan_texts.specs.SpellsHddl.{hddl_words, task_words, action_words}
 use Rattle.plan_texts.specs.Printable.{IsPlain, IsSoundParam}
@@ -23,17 +23,17 @@ use Rattle.plan_texts.proofs.Places.{each-join}
 use Rattle.task_networks.specs.Spelling.{numbers}
 use Rattle.plan_meaning.specs.Compilation.{IsCompiled}
 use Rattle.plan_meaning.specs.SourceParts.{name}
-use Rattle.plan_meaning.specs.EncodedNames.{joined, guard_types, guard_word, checked_methods, encoded_objects, encoded_predicates, held_params}
+use Rattle.plan_meaning.specs.EncodedNames.{guard_types, guard_word, checked_methods, encoded_objects, encoded_predicates, held_params}
 use Rattle.slot_plans.proofs.ObjectPlaces.{length-objects}
 use Rattle.encoded_words.specs.EncodedWords.{own_word, param_words, held_words, numbered, HasEncodedWords}
-use Rattle.encoded_words.proofs.Lists.{each-left, each-right, each-part, each-map, each-of_map, different-left, different-right, different-by, AreBelow, IsBetween, different-ranks, below-join, between-map}
+use Rattle.encoded_words.proofs.Lists.{each-left, each-right, each-part, each-map, each-of_map, different-left, different-right, different-by, different-ranks, below-join, between-map}
 use Rattle.encoded_words.proofs.PlainWords.{rank, rank-escaped, plain-escaped, escaped-once, plain-behind, folded-decimal}
 use Rattle.encoded_words.proofs.TableWords.{named-name, words-made}
-use Rattle.encoded_words.proofs.KnownWords.{known_objects, known_variables, known_types, known_source_group, known_three, known_task_group, known_action_group, known_check_group, known_guard_group}
+use Rattle.encoded_words.proofs.KnownWords.{known_variables, known_types, known_source_group, known_three, known_task_group, known_action_group, known_check_group, known_guard_group}
 use Rattle.encoded_words.proofs.PrintedWords.{printed_words, printed_arities}
 use Rattle.encoded_words.proofs.TypeWords.{kinds_on, generated_kinds}
 use Rattle.encoded_words.proofs.SourceFormulas.{AreExtended, each_param}
-use Rattle.encoded_words.proofs.PredicatePlaces.{printed_predicate, held_task, held_action, held_check, guarding, of_slot, of_pair, first_group, task_group, action_group, check_group, guard_group, source_arity}
+use Rattle.encoded_words.proofs.PredicatePlaces.{printed_predicate, held_task, held_action, held_check, guarding, first_group, task_group, action_group, check_group, guard_group, source_arity}
 use Rattle.encoded_words.proofs.CheckNames.{checks_differ, checks_plain}
 use Rattle.encoded_words.proofs.GuardWords.{guard_rank, guard_plain, guards_differ}
 
@@ -165,27 +165,27 @@ module _ (c : Compiled) (names : List Word) (b : ℕ) (sound : IsSoundHddl c.hdd
   pub predicate_params : EachIs (λ (d : Predicate). EachIs (IsSoundParam (printed_words c names b) (printed_arities c names b)) d.params) (encoded_predicates c names b)
   predicate_params =
       each-join SoundParams (first_group c names b ++ task_group c names b ++ action_group c names b ++ check_group c names b) (guard_group c names b)
-          (each-join SoundParams (first_group c names b ++ task_group c names b ++ action_group c names b) (check_group c names b)
-          (each-join SoundParams (first_group c names b ++ task_group c names b) (action_group c names b)
-          (each-join SoundParams (first_group c names b) (task_group c names b)
-          (each-map SoundParams (printed_predicate c names b) c.hddl.predicates (λ d m. each_param (hddl_words c.hddl) (printed_words c names b) (arities c.hddl) (printed_arities c names b) extended d.params (known_source d m).1 (each-has (λ (d : Predicate). EachIs (IsSoundParam (hddl_words c.hddl) (arities c.hddl)) d.params) c.hddl.predicates d sound.predicates m)))
-          ((sound_h, tt), ((sound_h, tt), ((sound_x, (sound_h, tt)), each-map SoundParams (held_task c names b) c.hddl.tasks (λ s m. sound_held (length s.params) (known_task s m).1)))))
-          (each-map SoundParams (held_action c names b) c.hddl.actions (λ s m. sound_held (length s.params) (known_action s m).1)))
-          (each-map SoundParams (held_check c names b) (checked_methods c) (λ p m. sound_held (length p.schema.params) (known_check p m).1)))
-          (each-map SoundParams (guarding c names b) (guard_types c) (λ ty m. (generated_param (codes "htn_a1") 2 known_a1 (refl, refl) (omega arith), tt)))
+      (each-join SoundParams (first_group c names b ++ task_group c names b ++ action_group c names b) (check_group c names b)
+      (each-join SoundParams (first_group c names b ++ task_group c names b) (action_group c names b)
+      (each-join SoundParams (first_group c names b) (task_group c names b)
+      (each-map SoundParams (printed_predicate c names b) c.hddl.predicates (λ d m. each_param (hddl_words c.hddl) (printed_words c names b) (arities c.hddl) (printed_arities c names b) extended d.params (known_source d m).1 (each-has (λ (d : Predicate). EachIs (IsSoundParam (hddl_words c.hddl) (arities c.hddl)) d.params) c.hddl.predicates d sound.predicates m)))
+      ((sound_h, tt), ((sound_h, tt), ((sound_x, (sound_h, tt)), each-map SoundParams (held_task c names b) c.hddl.tasks (λ s m. sound_held (length s.params) (known_task s m).1)))))
+      (each-map SoundParams (held_action c names b) c.hddl.actions (λ s m. sound_held (length s.params) (known_action s m).1)))
+      (each-map SoundParams (held_check c names b) (checked_methods c) (λ p m. sound_held (length p.schema.params) (known_check p m).1)))
+      (each-map SoundParams (guarding c names b) (guard_types c) (λ ty m. (generated_param (codes "htn_a1") 2 known_a1 (refl, refl) (omega arith), tt)))
 
   module _ (mode : Checks) (compiled : IsCompiled c.hddl mode c) (top_free : c.hddl.top.pre ≡ And []) where
     plain : EachIs IsPlain predicate_names
     plain =
         each-join IsPlain (source_names ++ middle_names ++ action_names ++ check_names) guard_names
-            (each-join IsPlain (source_names ++ middle_names ++ action_names) check_names
-            (each-join IsPlain (source_names ++ middle_names) action_names
-            (each-join IsPlain source_names middle_names
-            (each-map IsPlain (λ (p : Predicate). own_word c p.name) c.hddl.predicates (λ p m. plain-escaped (named c.hddl.names p.name) (each-has (λ (p : Predicate). IsPlain (named c.hddl.names p.name)) c.hddl.predicates p (each-of_map IsPlain (λ (p : Predicate). named c.hddl.names p.name) c.hddl.predicates sound.words.predicates) m)))
-            ((refl, refl), ((refl, refl), ((refl, refl), each-map IsPlain (λ (s : TaskSchema). codes "htn_t_" ++ own_word c s.name) c.hddl.tasks (λ s m. plain-behind (codes "htn_t_") (own_word c s.name) refl refl (task_plain s m).0)))))
-            (each-map IsPlain (λ (s : ActionSchema). codes "htn_a_" ++ own_word c s.name) c.hddl.actions (λ s m. plain-behind (codes "htn_a_") (own_word c s.name) refl refl (action_plain s m).0)))
-            (each-map IsPlain (λ (p : MethodPlan). codes "htn_c_" ++ own_word c p.schema.name) (checked_methods c) (λ p m. plain-behind (codes "htn_c_") (own_word c p.schema.name) refl refl (plain-escaped (named c.hddl.names p.schema.name) (each-has (λ (p : MethodPlan). IsPlain (named c.hddl.names p.schema.name)) (checked_methods c) p (checks_plain c mode compiled sound top_free) m)).0)))
-            (each-map IsPlain (guard_word c [] 0) (guard_types c) (λ ty m. guard_plain c sound ty))
+        (each-join IsPlain (source_names ++ middle_names ++ action_names) check_names
+        (each-join IsPlain (source_names ++ middle_names) action_names
+        (each-join IsPlain source_names middle_names
+        (each-map IsPlain (λ (p : Predicate). own_word c p.name) c.hddl.predicates (λ p m. plain-escaped (named c.hddl.names p.name) (each-has (λ (p : Predicate). IsPlain (named c.hddl.names p.name)) c.hddl.predicates p (each-of_map IsPlain (λ (p : Predicate). named c.hddl.names p.name) c.hddl.predicates sound.words.predicates) m)))
+        ((refl, refl), ((refl, refl), ((refl, refl), each-map IsPlain (λ (s : TaskSchema). codes "htn_t_" ++ own_word c s.name) c.hddl.tasks (λ s m. plain-behind (codes "htn_t_") (own_word c s.name) refl refl (task_plain s m).0)))))
+        (each-map IsPlain (λ (s : ActionSchema). codes "htn_a_" ++ own_word c s.name) c.hddl.actions (λ s m. plain-behind (codes "htn_a_") (own_word c s.name) refl refl (action_plain s m).0)))
+        (each-map IsPlain (λ (p : MethodPlan). codes "htn_c_" ++ own_word c p.schema.name) (checked_methods c) (λ p m. plain-behind (codes "htn_c_") (own_word c p.schema.name) refl refl (plain-escaped (named c.hddl.names p.schema.name) (each-has (λ (p : MethodPlan). IsPlain (named c.hddl.names p.schema.name)) (checked_methods c) p (checks_plain c mode compiled sound top_free) m)).0)))
+        (each-map IsPlain (guard_word c [] 0) (guard_types c) (λ ty m. guard_plain c sound ty))
 
     pub predicates_plain : EachIs IsPlain (map (λ (d : Predicate). named names d.name) (encoded_predicates c names b))
     predicates_plain = subst (EachIs IsPlain) (sym predicates-named) plain
@@ -213,18 +213,18 @@ module _ (c : Compiled) (names : List Word) (b : ℕ) (sound : IsSoundHddl c.hdd
     differ : (length c.hddl.types.unions < 2 ^ 64) → AreDifferent predicate_names
     differ short =
         different-ranks rank 5 6 (source_names ++ middle_names ++ action_names ++ check_names) guard_names
-            (below-join rank 4 5 (source_names ++ middle_names ++ action_names) check_names (omega arith)
-            (below-join rank 3 4 (source_names ++ middle_names) action_names (omega arith)
-            (below-join rank 1 3 source_names middle_names (omega arith)
-            (record {
-              different = different-by (λ (p : Predicate). named c.hddl.names p.name) (λ (p : Predicate). own_word c p.name) c.hddl.predicates (λ p q h k e. escaped-once (named c.hddl.names p.name) (named c.hddl.names q.name) e) sound.words.predicates_differ;
-              below = each-map (λ w. rank w < 1) (λ (p : Predicate). own_word c p.name) c.hddl.predicates (λ p m. (let e : rank (own_word c p.name) ≡ 0 = rank-escaped (named c.hddl.names p.name) in omega arith));
-            })
-            ((apart _ _ refl, (apart _ _ refl, not_task (codes "htn_top") refl)), ((apart _ _ refl, not_task (codes "htn_free") refl), (not_task (codes "htn_before") refl, tasks_differ)))
-            ((omega arith, omega arith), ((omega arith, omega arith), ((omega arith, omega arith), between-map rank 1 3 2 (λ (s : TaskSchema). codes "htn_t_" ++ own_word c s.name) c.hddl.tasks (λ s m. refl) (omega arith) (omega arith)))))
-            held_actions_differ (between-map rank 3 4 3 (λ (s : ActionSchema). codes "htn_a_" ++ own_word c s.name) c.hddl.actions (λ s m. refl) (omega arith) (omega arith)))
-            check_names_differ (between-map rank 4 5 4 (λ (p : MethodPlan). codes "htn_c_" ++ own_word c p.schema.name) (checked_methods c) (λ p m. refl) (omega arith) (omega arith)))
-            (guards_differ c sound short mode compiled) (between-map rank 5 6 5 (guard_word c [] 0) (guard_types c) (λ ty m. guard_rank c ty) (omega arith) (omega arith))
+        (below-join rank 4 5 (source_names ++ middle_names ++ action_names) check_names (omega arith)
+        (below-join rank 3 4 (source_names ++ middle_names) action_names (omega arith)
+        (below-join rank 1 3 source_names middle_names (omega arith)
+        (record {
+          different = different-by (λ (p : Predicate). named c.hddl.names p.name) (λ (p : Predicate). own_word c p.name) c.hddl.predicates (λ p q h k e. escaped-once (named c.hddl.names p.name) (named c.hddl.names q.name) e) sound.words.predicates_differ;
+          below = each-map (λ w. rank w < 1) (λ (p : Predicate). own_word c p.name) c.hddl.predicates (λ p m. (let e : rank (own_word c p.name) ≡ 0 = rank-escaped (named c.hddl.names p.name) in omega arith));
+        })
+        ((apart _ _ refl, (apart _ _ refl, not_task (codes "htn_top") refl)), ((apart _ _ refl, not_task (codes "htn_free") refl), (not_task (codes "htn_before") refl, tasks_differ)))
+        ((omega arith, omega arith), ((omega arith, omega arith), ((omega arith, omega arith), between-map rank 1 3 2 (λ (s : TaskSchema). codes "htn_t_" ++ own_word c s.name) c.hddl.tasks (λ s m. refl) (omega arith) (omega arith)))))
+        held_actions_differ (between-map rank 3 4 3 (λ (s : ActionSchema). codes "htn_a_" ++ own_word c s.name) c.hddl.actions (λ s m. refl) (omega arith) (omega arith)))
+        check_names_differ (between-map rank 4 5 4 (λ (p : MethodPlan). codes "htn_c_" ++ own_word c p.schema.name) (checked_methods c) (λ p m. refl) (omega arith) (omega arith)))
+        (guards_differ c sound short mode compiled) (between-map rank 5 6 5 (guard_word c [] 0) (guard_types c) (λ ty m. guard_rank c ty) (omega arith) (omega arith))
 
     pub predicates_differ : (length c.hddl.types.unions < 2 ^ 64) → AreDifferent (map (λ (d : Predicate). named names d.name) (encoded_predicates c names b))
     predicates_differ short = subst AreDifferent (sym predicates-named) (differ short)

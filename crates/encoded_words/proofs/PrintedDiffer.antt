@@ -1,5 +1,5 @@
 -- The words of a printable value differ within each space.
-use Rattle.std.proofs.Common.{ℕ, ◌≡◌, ◌<◌, List, length, Some, ap, sym, ◌∙◌}
+use Rattle.std.proofs.Common.{ℕ, ◌≡◌, List, Some, ap, sym, ◌∙◌}
 use Rattle.text_forms.specs.Words.{Word, word_at, last_place}
 use Rattle.plan_model.specs.declared.values.Pddl.{Pddl}
 use Rattle.plan_texts.specs.Types.{AreDifferent}

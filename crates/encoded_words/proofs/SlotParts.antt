@@ -1,5 +1,5 @@
 -- The order formulas of an action are sound among its variables.
-use Rattle.std.proofs.Common.{ℕ, suc, ◌≡◌, ◌+◌, ◌<◌, List, [], ◌∷◌, ◌++◌, map, length, codes, refl, ap, sym, subst, arith}
+use Rattle.std.proofs.Common.{ℕ, suc, ◌≡◌, ◌+◌, ◌<◌, List, [], ◌∷◌, ◌++◌, map, length, codes, ap, sym, subst, arith}
 use Rattle.text_forms.specs.Words.{Word}
 use Rattle.plan_model.specs.declared.options.Style.{Style}
 use Rattle.plan_model.specs.declared.options.Style.TheVariants.{Adl, Flat}
@@ -16,7 +16,6 @@ use Rattle.plan_texts.specs.Types.{Has, EachIs, AreDifferent}
 use Rattle.plan_texts.specs.Printable.{IsInForce, IsSoundAtom, AreSoundParams, IsSound, IsSoundEffect}
 use Rattle.plan_texts.specs.SoundValue.{IsSoundHddl}
 use Rattle.plan_texts.proofs.Members.{has-contains, length-map}
-use Rattle.task_networks.specs.Spelling.{numbers}
 use Rattle.task_networks.proofs.Numbers.{numbers_to}
 use Rattle.plan_meaning.specs.OrderFormulas.{OrderNumbers, pair_of, any_slot, slot_objects, wait_parts, clear_parts, copy_parts, free_parts}
 use Rattle.plan_meaning.specs.EncodedNames.{first_slot, free_predicate, before_predicate, encoded_objects, order_numbers}
@@ -102,8 +101,8 @@ module _ (c : Compiled) (names : List Word) (b : ℕ) (sound : IsSoundHddl c.hdd
       )
       copies Flat i j l k = each-map SoundEffect (λ o. E.When (Holds (pair_of n b (Var i) (Obj o))) (E.Add (pair_of n b (Var j) (Obj o)))) (slot_objects n b) (λ o m.
           sound-When v' ar' scope (Holds (pair_of n b (Var i) (Obj o))) (E.Add (pair_of n b (Var j) (Obj o)))
-              (sound-Holds v' ar' scope (pair_of n b (Var i) (Obj o)) (pair_sound scope (Var i) (Obj o) (here i l) (slot_within o m)))
-              (sound-Add v' ar' scope (pair_of n b (Var j) (Obj o)) (pair_sound scope (Var j) (Obj o) (here j k) (slot_within o m))))
+          (sound-Holds v' ar' scope (pair_of n b (Var i) (Obj o)) (pair_sound scope (Var i) (Obj o) (here i l) (slot_within o m)))
+          (sound-Add v' ar' scope (pair_of n b (Var j) (Obj o)) (pair_sound scope (Var j) (Obj o) (here j k) (slot_within o m))))
 
       pub frees : (style : Style) → EachIs (λ f. IsSound (printed_words c names b) (printed_arities c names b) f scope) (free_parts (order_numbers c names b) b depth style (free_predicate c))
       frees Adl = (all_slots (Holds (record { predicate = free_predicate c; args = Var depth ∷ [] })) (sound-Holds v' ar' behind (record { predicate = free_predicate c; args = Var depth ∷ [] }) (free_sound behind (Var depth) (there depth (omega arith)))), tt)

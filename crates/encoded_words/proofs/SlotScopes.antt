@@ -1,25 +1,25 @@
 -- The variables of a printed action: slots, and behind them those of the source, with a slot that is quantified behind all.
-use Rattle.std.proofs.Common.{ℕ, zero, suc, ◌≡◌, ◌+◌, ◌-◌, ◌<◌, ◌≤◌, ◌^◌, ◌==◌, inl, inr, cond, List, [], ◌∷◌, ◌++◌, map, length, get_or, drop, codes, decimal, refl, ap, sym, subst, ◌∙◌, arith}
+use Rattle.std.proofs.Common.{ℕ, suc, ◌≡◌, ◌+◌, ◌<◌, ◌^◌, ◌==◌, cond, List, [], ◌∷◌, ◌++◌, map, length, get_or, drop, codes, decimal, refl, ap, sym, subst, ◌∙◌, arith}
 use Rattle.std.proofs.lemmas.Fmt.{decimal_injective}
 use Rattle.std.proofs.lemmas.List.{map-append}
 use Rattle.htn_base.specs.Escapes.{escaped}
-use Rattle.text_forms.specs.Words.{Word, word_at}
+use Rattle.text_forms.specs.Words.{Word}
 use Rattle.plan_model.specs.declared.terms.Term.TheVariants.{Var}
 use Rattle.plan_model.specs.declared.terms.Param.{Param}
 use Rattle.plan_model.specs.declared.values.Compiled.{Compiled}
-use Rattle.plan_texts.specs.Declared.{Declared, named, variable}
+use Rattle.plan_texts.specs.Declared.{Declared, variable}
 use Rattle.plan_texts.specs.Types.{Has, EachIs, AreDifferent}
 use Rattle.plan_texts.specs.SpellsHddl.{hddl_words}
 use Rattle.plan_texts.specs.Printable.{IsInForce, IsSoundParam, AreSoundParams}
 use Rattle.plan_texts.specs.SoundValue.{IsSoundHddl, arities, scope_of}
-use Rattle.plan_texts.proofs.Members.{each-has, has-to_map, length-map}
+use Rattle.plan_texts.proofs.Members.{length-map}
 use Rattle.plan_texts.proofs.Places.{each-join}
 use Rattle.task_networks.specs.Spelling.{numbers}
 use Rattle.task_networks.proofs.Numbers.{length-numbers}
 use Rattle.plan_meaning.specs.SourceParts.{name, source_param}
 use Rattle.slot_plans.proofs.ListPlaces.{length-joined}
 use Rattle.encoded_words.specs.EncodedWords.{param_words, numbered, HasEncodedWords}
-use Rattle.encoded_words.proofs.Lists.{each-map, different-left, different-numbers, AreBelow, IsBetween, different-ranks, below-join}
+use Rattle.encoded_words.proofs.Lists.{each-map, different-left, different-numbers, IsBetween, different-ranks, below-join}
 use Rattle.encoded_words.proofs.PlainWords.{is_generated, escape_is_none, plain-behind, folded-decimal, some-decimal}
 use Rattle.encoded_words.proofs.TableWords.{named-name}
 use Rattle.encoded_words.proofs.Scopes.{last-different}

@@ -1,9 +1,8 @@
 -- The smallest problem, m: t -> a with t on top, at one slot: a table with all its words, and what is asked of it holds.
-use Rattle.std.proofs.Common.{ℕ, ◌≡◌, inl, inr, List, [], ◌∷◌, ◌++◌, codes, refl, sym, ap, subst, ◌∙◌, Contains, arith, lit<}
+use Rattle.std.proofs.Common.{◌≡◌, List, [], ◌∷◌, ◌++◌, codes, refl, sym, ap, subst, ◌∙◌, Contains, arith}
 use Rattle.text_forms.specs.Words.{Word}
 use Rattle.plan_model.specs.declared.options.Checks.{Checks}
 use Rattle.plan_model.specs.declared.options.Style.{Style}
-use Rattle.plan_model.specs.declared.formulas.Formula.{roll-Formula}
 use Rattle.plan_model.specs.declared.formulas.Formula.TheFolds.{fold-roll-Formula}
 use Rattle.plan_model.specs.declared.formulas.Formula.TheOpen.{Formula-F}
 use Rattle.plan_model.specs.declared.formulas.Formula.TheVariants.{And, rolls-And}
@@ -16,7 +15,7 @@ use Rattle.plan_texts.proofs.Members.{each-has, has-at, contains-has, has-contai
 use Rattle.plan_texts.proofs.SmallestRow.{smallest as printed}
 use Rattle.plan_meaning.specs.EncodedValue.{first_atoms}
 use Rattle.plan_meaning.proofs.RowWords.{slot_1}
-use Rattle.plan_meaning.proofs.SmallestRow.{smallest, smallest_names, smallest_hddl}
+use Rattle.plan_meaning.proofs.SmallestRow.{smallest, smallest_names}
 use Rattle.slot_plans.proofs.SmallestFaithful.{smallest_is_printed}
 use Rattle.encoded_words.specs.EncodedWords.{formula_words_step, formula_words, effect_words_step, effect_words, encoded_words, HasEncodedWords}
 use Rattle.encoded_words.specs.Numberable.{IsNumberable}

@@ -1,5 +1,5 @@
 -- A sound source effect is sound behind other variables, in the words of the printed problem.
-use Rattle.std.proofs.Common.{ℕ, ◌≡◌, ◌++◌, List, [], ◌∷◌, map, length, ap, sym, subst}
+use Rattle.std.proofs.Common.{ℕ, ◌≡◌, ◌++◌, List, [], ◌∷◌, map, length, sym, subst}
 use Rattle.text_forms.specs.Words.{Word}
 use Rattle.plan_texts.specs.Declared.{Declared, variable}
 use Rattle.plan_texts.specs.Types.{Has, EachIs}

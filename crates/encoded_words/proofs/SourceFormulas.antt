@@ -1,9 +1,9 @@
 -- A sound source formula is sound behind other variables, in the words of the printed problem.
-use Rattle.std.proofs.Common.{ℕ, ◌≡◌, ◌<◌, ◌≤◌, ◌+◌, inl, inr, ◌++◌, List, [], ◌∷◌, map, length, slice_index, Some, refl, ap, sym, subst, ◌∙◌, append_assoc, arith}
+use Rattle.std.proofs.Common.{ℕ, ◌≡◌, ◌<◌, ◌≤◌, ◌++◌, List, [], ◌∷◌, map, length, slice_index, refl, ap, sym, subst, ◌∙◌, append_assoc, arith}
 use Rattle.std.proofs.lemmas.List.{length-map, map-append}
 use Rattle.htn_base.specs.Escapes.{escaped}
 use Rattle.text_forms.specs.Words.{Word, last_place, word_at}
-use Rattle.plan_texts.specs.Declared.{Declared, kinds, variable, named}
+use Rattle.plan_texts.specs.Declared.{Declared, kinds, variable}
 use Rattle.plan_texts.specs.Types.{Has, EachIs, AreDifferent}
 use Rattle.plan_texts.specs.Printable.{IsPlain, IsInForce, IsSoundAtom, IsSoundParam, AreSoundParams, sound_step, IsSound}
 use Rattle.plan_texts.proofs.Spelled.{sound_roll}
@@ -14,7 +14,7 @@ use Rattle.plan_model.specs.declared.formulas.Formula.{Formula, roll-Formula}
 use Rattle.plan_model.specs.declared.formulas.Formula.TheFolds.{fold-roll-Formula, map-Formula, ind-Formula}
 use Rattle.plan_model.specs.declared.formulas.Formula.TheOpen.{Formula-F}
 use Rattle.plan_meaning.specs.EncodedNames.{joined}
-use Rattle.plan_meaning.specs.SourceParts.{retyped, moved, source_param, source_atom, formula_layer, source_formula}
+use Rattle.plan_meaning.specs.SourceParts.{retyped, moved, source_param, formula_layer, source_formula}
 use Rattle.encoded_words.specs.EncodedWords.{param_words, formula_words_step, formula_words}
 use Rattle.encoded_words.proofs.Lists.{each-left, each-right, different-by}
 use Rattle.encoded_words.proofs.PlainWords.{plain-escaped, escaped-once}

@@ -1,5 +1,5 @@
 -- A word that a name table has is the word of its name.
-use Rattle.std.proofs.Common.{ℕ, suc, ◌≡◌, ◌+◌, inl, inr, Bool, true, false, not, cond, List, [], ◌∷◌, map, length, slice_get, unwrap_or, position, Some, None, refl, ap, sym, ◌∙◌, arith, true≢false}
+use Rattle.std.proofs.Common.{suc, ◌≡◌, ◌+◌, inl, inr, Bool, true, false, not, cond, List, [], ◌∷◌, map, length, slice_get, unwrap_or, Some, None, refl, ap, sym, ◌∙◌, arith, true≢false}
 use Rattle.std.specs.List.{position_or_len}
 use Rattle.std.specs.Str.{bytes_eq}
 use Rattle.text_forms.specs.Words.{Word, word_at}

@@ -83,11 +83,15 @@ module _ (c : Compiled) (names : List Word) (b : ℕ) (sound : IsSoundHddl c.hdd
       go : (ns : List Name) → word_at (map (named c.hddl.names) ns) 0 ≡ codes "object" → AreDifferent (map (named c.hddl.names) ns) → AreDifferent (codes "object" ∷ codes "htn_slot" ∷ codes "htn_object" ∷ own_types c ns)
       go [] f d = ((apart _ _ refl, (apart _ _ refl, tt)), ((apart _ _ refl, tt), (tt, tt)))
       go (n ∷ others) f d = (
-        (apart _ _ refl, (apart _ _ refl, each-map (λ u. codes "object" ≡ u → ⊥) (own_word c) others (λ x h e. each-has (λ (x : Name). named c.hddl.names n ≡ named c.hddl.names x → ⊥) others x (each-of_map (λ u. named c.hddl.names n ≡ u → ⊥) (named c.hddl.names) others d.0) h (f ∙ escaped-once (codes "object") (named c.hddl.names x) e)))), (
-        (apart _ _ refl, each-map (λ u. codes "htn_slot" ≡ u → ⊥) (own_word c) others (λ x h e. no_escape (codes "htn_slot") (named c.hddl.names x) refl e)), (
-        each-map (λ u. codes "htn_object" ≡ u → ⊥) (own_word c) others (λ x h e. no_escape (codes "htn_object") (named c.hddl.names x) refl e),
-        different-by (named c.hddl.names) (own_word c) others (λ x y h k e. escaped-once (named c.hddl.names x) (named c.hddl.names y) e) d.1,
-      )))
+        (apart _ _ refl, (apart _ _ refl, each-map (λ u. codes "object" ≡ u → ⊥) (own_word c) others (λ x h e. each-has (λ (x : Name). named c.hddl.names n ≡ named c.hddl.names x → ⊥) others x (each-of_map (λ u. named c.hddl.names n ≡ u → ⊥) (named c.hddl.names) others d.0) h (f ∙ escaped-once (codes "object") (named c.hddl.names x) e)))),
+        (
+          (apart _ _ refl, each-map (λ u. codes "htn_slot" ≡ u → ⊥) (own_word c) others (λ x h e. no_escape (codes "htn_slot") (named c.hddl.names x) refl e)),
+          (
+            each-map (λ u. codes "htn_object" ≡ u → ⊥) (own_word c) others (λ x h e. no_escape (codes "htn_object") (named c.hddl.names x) refl e),
+            different-by (named c.hddl.names) (own_word c) others (λ x y h k e. escaped-once (named c.hddl.names x) (named c.hddl.names y) e) d.1,
+          ),
+        ),
+      )
 
   pub types_differ : AreDifferent (Declared.type_words names (encoded_types c names b))
   types_differ = subst AreDifferent (sym types-named) differ

@@ -1,12 +1,9 @@
 -- Two slots have one word where there are many enough: the numerals of numbers past 64 digits are cut.
-use Rattle.std.proofs.Common.{ℕ, suc, ◌≡◌, ◌+◌, ◌-◌, ◌*◌, ◌≤◌, ◌^◌, List, map, decimal, codes, ◌++◌, slice_get, Some, refl, ap, sym, ◌∙◌, arith, subst}
+use Rattle.std.proofs.Common.{ℕ, ◌≡◌, ◌+◌, ◌-◌, ◌*◌, ◌≤◌, ◌^◌, List, map, decimal, codes, ◌++◌, slice_get, Some, refl, ap, ◌∙◌, arith, subst}
 use Rattle.std.specs.Fmt.{digits}
 use Rattle.htn_base.specs.Escapes.{slot_word}
-use Rattle.text_forms.specs.Words.{Word}
-use Rattle.plan_model.specs.declared.options.Checks.{Checks}
 use Rattle.plan_model.specs.declared.options.Style.{Style}
 use Rattle.plan_model.specs.declared.types.Object.{Object}
-use Rattle.plan_model.specs.declared.values.Hddl.{Hddl}
 use Rattle.plan_model.specs.declared.values.Compiled.{Compiled}
 use Rattle.plan_model.specs.declared.values.Pddl.{Pddl}
 use Rattle.plan_texts.specs.Declared.{named}

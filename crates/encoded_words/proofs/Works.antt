@@ -1,5 +1,5 @@
 -- The printed actions of the source's actions and of checks are sound.
-use Rattle.std.proofs.Common.{ℕ, zero, suc, ◌≡◌, ◌+◌, ◌<◌, ◌^◌, List, [], ◌∷◌, ◌++◌, map, length, codes, refl, ap, sym, subst, ◌∙◌, arith}
+use Rattle.std.proofs.Common.{ℕ, suc, ◌≡◌, ◌<◌, List, [], ◌∷◌, ◌++◌, map, length, codes, sym, subst, ◌∙◌, arith}
 use Rattle.text_forms.specs.Words.{Word}
 use Rattle.plan_model.specs.declared.options.Style.{Style}
 use Rattle.plan_model.specs.declared.terms.Term.TheVariants.{Var}
@@ -8,7 +8,6 @@ use Rattle.plan_model.specs.declared.terms.Param.{Param}
 use Rattle.plan_model.specs.declared.formulas.Formula.{Formula}
 use Rattle.plan_model.specs.declared.formulas.Formula.TheVariants.{Holds}
 use Rattle.plan_model.specs.declared.effects.Effect.{Effect}
-use Rattle.plan_model.specs.declared.effects.Effect.TheVariants as E
 use Rattle.plan_model.specs.declared.schemas.ActionSchema.{ActionSchema}
 use Rattle.plan_model.specs.declared.values.Compiled.{Compiled}
 use Rattle.plan_texts.specs.Declared.{Declared, variable}
@@ -20,15 +19,13 @@ use Rattle.plan_texts.proofs.Members.{has-contains, length-map}
 use Rattle.plan_texts.proofs.Places.{each-join}
 use Rattle.task_networks.specs.Spelling.{numbers}
 use Rattle.task_networks.proofs.Numbers.{length-numbers, numbers_to}
-use Rattle.plan_meaning.specs.EncodedNames.{order_numbers}
-use Rattle.plan_meaning.specs.OrderFormulas.{clear_parts}
 use Rattle.plan_meaning.specs.EncodedActions.{is_free, freeing, waiting, held_work, source_condition, work_action}
 use Rattle.encoded_words.specs.EncodedWords.{param_words, formula_words, HasEncodedWords}
 use Rattle.encoded_words.proofs.Lists.{each-map}
 use Rattle.encoded_words.proofs.PrintedWords.{printed_words, printed_arities}
 use Rattle.encoded_words.proofs.PredicatePlaces.{HasArity}
 use Rattle.encoded_words.proofs.SoundEquations.{sound-Holds, sound-And, sound-Add, sound-Delete, sound-Both}
-use Rattle.encoded_words.proofs.SlotScopes.{slot_names, action_scope, scope-named, scope_x_apart, length-scope, params_sound}
+use Rattle.encoded_words.proofs.SlotScopes.{action_scope, scope-named, scope_x_apart, length-scope, params_sound}
 use Rattle.encoded_words.proofs.SlotParts.{free_sound, here, waits, clears}
 use Rattle.encoded_words.proofs.ActionParts.{condition_sound}
 
@@ -91,8 +88,8 @@ module _ (c : Compiled) (names : List Word) (b : ℕ) (style : Style) (sound : I
     work_sound changes =
         let named = scope-named c names b sound has 0 params (omega arith) tt params_known are in
         let parts = each-join (λ f. IsSound v' ar' f work_scope) (Holds held ∷ waiting c names b style (suc (length params))) (source_condition c names b style 1 pre)
-            (sound-Holds v' ar' work_scope held held_sound, waits c names b sound has work_scope apart (suc (length params)) depth_is style 0 some)
-            (condition_sound c names b style sound has 0 params (omega arith) tt params_known are pre pre_sound pre_known) in
+        (sound-Holds v' ar' work_scope held held_sound, waits c names b sound has work_scope apart (suc (length params)) depth_is style 0 some)
+        (condition_sound c names b style sound has 0 params (omega arith) tt params_known are pre pre_sound pre_known) in
         let effects = each-join (λ e. IsSoundEffect v' ar' e work_scope) (freeing c names b style held (suc (length params))) change (freeing_sound work_scope apart some held held_sound (suc (length params)) depth_is) changes in
         record {
           params = params_sound c names b sound has 0 params (omega arith) tt params_known are;
