@@ -71,9 +71,6 @@ module _ (c : Compiled) (names : List Word) (b : ℕ) where
   abbrev pub guard_group : List Predicate
   guard_group = map guarding (guard_types c)
 
-  pub groups : encoded_predicates c names b ≡ first_group ++ task_group ++ action_group ++ check_group ++ guard_group
-  groups = refl
-
   -- predicate n has m arguments
   abbrev pub HasArity : ℕ → ℕ → Type 0
   HasArity n m = (n < length (printed_words c names b).predicates) × (slice_index (printed_arities c names b) n ≡ m)
