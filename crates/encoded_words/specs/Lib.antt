@@ -1,1 +1,3 @@
 pub mod EncodedWords
+pub mod Numberable
+pub mod WordsDiffer
