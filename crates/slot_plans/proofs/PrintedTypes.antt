@@ -20,7 +20,7 @@ use Rattle.plan_meaning.proofs.Pairs.{map_to}
 use Rattle.plan_meaning.proofs.Unequal.{to_lt}
 use Rattle.slot_plans.proofs.TypeChains.{first_pair, climb_by}
 
-to_not_lt : (a b : ℕ) → b ≤ a → nat_lt a b ≡ false
+pub to_not_lt : (a b : ℕ) → b ≤ a → nat_lt a b ≡ false
 to_not_lt a b l = grind (arith, l)
 
 pub union_none : (types : Types) (ty : ℕ) → ty < length types.names → union_at types ty ≡ None
@@ -33,22 +33,22 @@ retyped_least : (t : ℕ) → 2 ≤ retyped t
 retyped_least zero = omega arith
 retyped_least (suc t) = omega arith
 
-retyped_once : (s t : ℕ) → retyped s ≡ retyped t → s ≡ t
+pub retyped_once : (s t : ℕ) → retyped s ≡ retyped t → s ≡ t
 retyped_once zero zero e = refl
 retyped_once zero (suc t) e = absurd (omega arith)
 retyped_once (suc s) zero e = absurd (omega arith)
 retyped_once (suc s) (suc t) e = omega arith
 
-abbrev retyped_pair : Parent → Parent
+abbrev pub retyped_pair : Parent → Parent
 retyped_pair x = record { child = retyped x.child; parent = retyped x.parent }
 
-abbrev slot_pair : Parent
+abbrev pub slot_pair : Parent
 slot_pair = record { child = 1; parent = 0 }
 
-abbrev object_pair : Parent
+abbrev pub object_pair : Parent
 object_pair = record { child = 2; parent = 0 }
 
-abbrev printed_parents : List Parent → List Parent
+abbrev pub printed_parents : List Parent → List Parent
 printed_parents parents = slot_pair ∷ object_pair ∷ map retyped_pair parents
 
 module _ (parents : List Parent) where
@@ -66,7 +66,7 @@ module _ (parents : List Parent) where
       of_first y e i j f = subst (λ (z : Parent). (z.child ≤ 2) × (1 ≤ z.child) × (z.parent ≡ 0)) e (i, j, f)
 
   -- no chain leads on from object
-  from_printed_object : (t : ℕ) → Leads (printed_parents parents) 0 t → t ≡ 0
+  pub from_printed_object : (t : ℕ) → Leads (printed_parents parents) 0 t → t ≡ 0
   from_printed_object t l = elim (first_pair (printed_parents parents) 0 t l) [
     | inl e ↦ sym e
     | inr (x, c, e, m) ↦ absurd (elim (pair_cases x c) [ inl (a, z, f) ↦ omega arith | inr (y, d, f, g) ↦ (let h = retyped_least y.child in omega arith) ])
@@ -83,7 +83,7 @@ module _ (parents : List Parent) where
   ]
 
   -- from a source type a chain leads to object or is one of the source
-  from_retyped : (s t a : ℕ) → Leads (printed_parents parents) s t → s ≡ retyped a → (t ≡ 0) ⊎ ((u : ℕ) × (t ≡ retyped u) × Leads parents a u)
+  pub from_retyped : (s t a : ℕ) → Leads (printed_parents parents) s t → s ≡ retyped a → (t ≡ 0) ⊎ ((u : ℕ) × (t ≡ retyped u) × Leads parents a u)
   from_retyped s t a stay e = inr (a, e, stay)
   from_retyped s t a (climb {ty} {parent} {of} c l) e = elim (pair_cases (record { child = ty; parent = parent }) c) [
     | inl (i, j, f) ↦ inl (from_printed_object of (subst (λ z. Leads (printed_parents parents) z of) f l))
@@ -115,7 +115,7 @@ module _ (c : Compiled) (names : List (List ℕ)) (b : ℕ) (some_type : 0 < len
   abbrev with_names : List Name → Compiled
   with_names ns = record c { hddl = record c.hddl { types = record c.hddl.types { names = ns } } }
 
-  length-names : length printed.names ≡ length source.names + 2
+  pub length-names : length printed.names ≡ length source.names + 2
   length-names = go source.names some_type
     where
       go : (ns : List Name) → 0 < length ns → length (encoded_types (with_names ns) names b).names ≡ length ns + 2
