@@ -90,7 +90,7 @@ module _ (c d : Hddl) (same : AreSameButNames c d) where
 
 -- what is printed for the one is printed for the other
 module _ (domain problem : List ℕ) (h h' : Hddl) (mode : Checks) (c c' : Compiled) (b : ℕ) (style : Style) (p : Pddl) (spelled : IsHddlOf domain problem h) (spelled' : IsHddlOf domain problem h') (printed : IsPrinted h mode c b style p) (compiled' : IsCompiled h' mode c') where
-  printed_too : IsPrinted h' mode c' b style p
+  pub printed_too : IsPrinted h' mode c' b style p
   printed_too =
       let e = printed.compiled.hddl in let e' = compiled'.hddl in
       let sc = subst IsSoundHddl (sym e) printed.sound in
@@ -109,7 +109,7 @@ module _ (domain problem : List ℕ) (h h' : Hddl) (mode : Checks) (c c' : Compi
         encoded = encoded_too c' c same sc' sc apart plans b style p printed.encoded;
       }
 
-  ordered_here : AreOrdered h → AreOrdered h'
+  pub ordered_here : AreOrdered h → AreOrdered h'
   ordered_here = ordered_too h' h (same_but_names domain problem h' h spelled' spelled printed.sound)
 
 module _ (domain problem : List ℕ) (h : Hddl) (mode : Checks) (c : Compiled) (b : ℕ) (style : Style) (p : Pddl) (spelled : IsHddlOf domain problem h) (printed : IsPrinted h mode c b style p) (ordered : AreOrdered h) where

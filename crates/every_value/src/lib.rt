@@ -8,4 +8,4 @@
 
 mod laws;
 
-pub use laws::{headline, headline_at_bound};
+pub use laws::{headline, headline_at_bound, printed_for_each, values_are_same_but_names};
