@@ -1,0 +1,124 @@
+-- Two lists, item by item.
+use Rattle.std.proofs.Common.{ℕ, zero, suc, ◌≡◌, ◌<◌, ◌⊎◌, inl, inr, Bool, true, false, List, [], ◌∷◌, map, filter, take, length, cond, slice_get, Some, Contains, refl, ap, sym, subst, ◌∙◌, arith}
+use Rattle.std.specs.List.{AllPairs}
+use Rattle.std.specs.List.Sorted.{IsStrictlyIncreasing}
+use Rattle.std.proofs.lemmas.List.Kept.{AllPairs-from_increasing}
+use Rattle.task_networks.proofs.Lists.{Contains-here, Contains-later, head_or_tail, not-in_empty}
+use Rattle.plan_texts.specs.Types.{EachIs}
+use Rattle.plan_texts.proofs.Members.{length-map}
+
+-- R holds at each place
+abbrev pub Both : {X Y : Type 0} → (X → Y → Type 0) → List X → List Y → Type 0
+Both R [] [] = Unit {0}
+Both R (x ∷ xs) (y ∷ ys) = R x y × Both R xs ys
+Both R [] (y ∷ ys) = ⊥
+Both R (x ∷ xs) [] = ⊥
+
+pub both-more : {X Y : Type 0} (R S : X → Y → Type 0) → ((x : X) (y : Y) → R x y → S x y) → (xs : List X) (ys : List Y) → Both R xs ys → Both S xs ys
+both-more R S h [] [] e = tt
+both-more R S h (x ∷ xs) (y ∷ ys) e = (h x y e.0, both-more R S h xs ys e.1)
+both-more R S h [] (y ∷ ys) e = absurd e
+both-more R S h (x ∷ xs) [] e = absurd e
+
+pub maps-length : {X Y Z : Type 0} (u : X → Z) (w : Y → Z) (xs : List X) (ys : List Y) → map u xs ≡ map w ys → length xs ≡ length ys
+maps-length u w xs ys e = sym (length-map u xs) ∙ ap length e ∙ length-map w ys
+
+pub both-of_maps : {X Y Z : Type 0} (u : X → Z) (w : Y → Z) (xs : List X) (ys : List Y) → map u xs ≡ map w ys → Both (λ x y. u x ≡ w y) xs ys
+both-of_maps u w [] [] e = tt
+both-of_maps u w (x ∷ xs) (y ∷ ys) e = (cc, both-of_maps u w xs ys cc)
+both-of_maps u w [] (y ∷ ys) e = cc
+both-of_maps u w (x ∷ xs) [] e = cc
+
+pub both-maps : {X Y Z : Type 0} (u : X → Z) (w : Y → Z) (R : X → Y → Type 0) → ((x : X) (y : Y) → R x y → u x ≡ w y) → (xs : List X) (ys : List Y) → Both R xs ys → map u xs ≡ map w ys
+both-maps u w R h [] [] e = refl
+both-maps u w R h (x ∷ xs) (y ∷ ys) e = let f = h x y e.0 in let g = both-maps u w R h xs ys e.1 in λ i. f i ∷ g i
+both-maps u w R h [] (y ∷ ys) e = absurd e
+both-maps u w R h (x ∷ xs) [] e = absurd e
+
+pub both-and : {X Y : Type 0} (R : X → Y → Type 0) (P : X → Type 0) (Q : Y → Type 0) (xs : List X) (ys : List Y) → Both R xs ys → EachIs P xs → EachIs Q ys → Both (λ x y. R x y × P x × Q y) xs ys
+both-and R P Q [] [] e p q = tt
+both-and R P Q (x ∷ xs) (y ∷ ys) e p q = ((e.0, p.0, q.0), both-and R P Q xs ys e.1 p.1 q.1)
+both-and R P Q [] (y ∷ ys) e p q = absurd e
+both-and R P Q (x ∷ xs) [] e p q = absurd e
+
+pub both-each : {X Y : Type 0} (R : X → Y → Type 0) (P : X → Type 0) (Q : Y → Type 0) → ((x : X) (y : Y) → R x y → Q y → P x) → (xs : List X) (ys : List Y) → Both R xs ys → EachIs Q ys → EachIs P xs
+both-each R P Q h [] [] e q = tt
+both-each R P Q h (x ∷ xs) (y ∷ ys) e q = (h x y e.0 q.0, both-each R P Q h xs ys e.1 q.1)
+both-each R P Q h [] (y ∷ ys) e q = absurd e
+both-each R P Q h (x ∷ xs) [] e q = absurd e
+
+pub both-length : {X Y : Type 0} (R : X → Y → Type 0) (xs : List X) (ys : List Y) → Both R xs ys → length xs ≡ length ys
+both-length R [] [] e = refl
+both-length R (x ∷ xs) (y ∷ ys) e = ap suc (both-length R xs ys e.1)
+both-length R [] (y ∷ ys) e = absurd e
+both-length R (x ∷ xs) [] e = absurd e
+
+pub both-take : {X Y : Type 0} (R : X → Y → Type 0) (n : ℕ) (xs : List X) (ys : List Y) → Both R xs ys → Both R (take n xs) (take n ys)
+both-take R zero xs ys e = tt
+both-take R (suc n) [] [] e = tt
+both-take R (suc n) (x ∷ xs) (y ∷ ys) e = (e.0, both-take R n xs ys e.1)
+both-take R (suc n) [] (y ∷ ys) e = absurd e
+both-take R (suc n) (x ∷ xs) [] e = absurd e
+
+pub both-filter : {X Y : Type 0} (R : X → Y → Type 0) (p : X → Bool) (q : Y → Bool) → ((x : X) (y : Y) → R x y → p x ≡ q y) → (xs : List X) (ys : List Y) → Both R xs ys → Both R (filter p xs) (filter q ys)
+both-filter R p q h [] [] e = tt
+both-filter R p q h [] (y ∷ ys) e = absurd e
+both-filter R p q h (x ∷ xs) [] e = absurd e
+both-filter R p q h (x ∷ xs) (y ∷ ys) e = go (p x) (q y) (h x y e.0) (both-filter R p q h xs ys e.1)
+  where
+    go : (a b : Bool) → a ≡ b → Both R (filter p xs) (filter q ys) → Both R (cond a (x ∷ filter p xs) (filter p xs)) (cond b (y ∷ filter q ys) (filter q ys))
+    go true true f g = (e.0, g)
+    go false false f g = g
+    go true false f g = cc
+    go false true f g = cc
+
+-- at one place
+pub got : {X Y Z : Type 0} (u : X → Z) (w : Y → Z) (xs : List X) (ys : List Y) → map u xs ≡ map w ys → (k : ℕ) (y : Y) → slice_get ys k ≡ Some y → (x : X) × (slice_get xs k ≡ Some x) × (u x ≡ w y)
+got u w [] [] e k y f = cc
+got u w [] (z ∷ ys) e k y f = cc
+got u w (x ∷ xs) [] e k y f = cc
+got u w (x ∷ xs) (z ∷ ys) e zero y f = let g : z ≡ y = cc in let h : u x ≡ w z = cc in (x, refl, h ∙ ap w g)
+got u w (x ∷ xs) (z ∷ ys) e (suc k) y f = got u w xs ys (cc) k y f
+
+pub contains-each : {X : Type 0} (P : X → Type 0) (xs : List X) → ((x : X) → Contains xs x → P x) → EachIs P xs
+contains-each P [] h = tt
+contains-each P (x ∷ xs) h = (h x (Contains-here x xs), contains-each P xs (λ y c. h y (Contains-later x xs y c)))
+
+pub each-map : {X Y : Type 0} (u : X → Y) (P : Y → Type 0) (Q : X → Type 0) → ((x : X) → Q x → P (u x)) → (xs : List X) → EachIs Q xs → EachIs P (map u xs)
+each-map u P Q h [] e = tt
+each-map u P Q h (x ∷ xs) e = (h x e.0, each-map u P Q h xs e.1)
+
+pub each-got : {X : Type 0} (P : X → Type 0) (xs : List X) (k : ℕ) (x : X) → EachIs P xs → slice_get xs k ≡ Some x → P x
+each-got P [] k x e f = cc
+each-got P (y ∷ xs) zero x e f = let g : y ≡ x = cc in subst P g e.0
+each-got P (y ∷ xs) (suc k) x e f = each-got P xs k x e.1 f
+
+-- strictly increasing lists with the same members are the same
+above : (x : ℕ) (xs : List ℕ) → AllPairs (λ a b. a < b) (x ∷ xs) → (y : ℕ) → Contains xs y → x < y
+above x xs r y (k, l, e) = let h = r 0 (suc k) y (omega arith) (omega arith) in omega arith
+
+tail_rises : (x : ℕ) (xs : List ℕ) → AllPairs (λ a b. a < b) (x ∷ xs) → AllPairs (λ a b. a < b) xs
+tail_rises x xs r i j d l m = r (suc i) (suc j) d (omega arith) (omega arith)
+
+rising-same : (xs ys : List ℕ) → AllPairs (λ a b. a < b) xs → AllPairs (λ a b. a < b) ys → ((i : ℕ) → Contains xs i → Contains ys i) → ((i : ℕ) → Contains ys i → Contains xs i) → xs ≡ ys
+rising-same [] [] r s f g = refl
+rising-same [] (y ∷ ys) r s f g = absurd (not-in_empty y (g y (Contains-here y ys)))
+rising-same (x ∷ xs) [] r s f g = absurd (not-in_empty x (f x (Contains-here x xs)))
+rising-same (x ∷ xs) (y ∷ ys) r s f g =
+    let e : x ≡ y = first (head_or_tail y ys x (f x (Contains-here x xs))) (head_or_tail x xs y (g y (Contains-here y ys))) in
+    let t : xs ≡ ys = rising-same xs ys (tail_rises x xs r) (tail_rises y ys s)
+    (λ i c. later y ys i (above x xs r i c) e (head_or_tail y ys i (f i (Contains-later x xs i c))))
+    (λ i c. later x xs i (above y ys s i c) (sym e) (head_or_tail x xs i (g i (Contains-later y ys i c)))) in
+    cc
+  where
+    first : (y ≡ x) ⊎ Contains ys x → (x ≡ y) ⊎ Contains xs y → x ≡ y
+    first (inl e) k = sym e
+    first (inr c) (inl e) = e
+    first (inr c) (inr d) = absurd (let a = above y ys s x c in let b = above x xs r y d in omega arith)
+
+    later : (z : ℕ) (zs : List ℕ) (i : ℕ) {u : ℕ} → u < i → u ≡ z → (z ≡ i) ⊎ Contains zs i → Contains zs i
+    later z zs i l e (inl f) = absurd (omega arith)
+    later z zs i l e (inr c) = c
+
+pub increasing-same : (xs ys : List ℕ) → IsStrictlyIncreasing xs → IsStrictlyIncreasing ys → ((i : ℕ) → Contains xs i → Contains ys i) → ((i : ℕ) → Contains ys i → Contains xs i) → xs ≡ ys
+increasing-same xs ys r s = rising-same xs ys (AllPairs-from_increasing xs r) (AllPairs-from_increasing ys s)
