@@ -1,0 +1,6 @@
+pub mod Appended
+pub mod Places
+pub mod Each
+pub mod Groups
+pub mod Typed
+pub mod Lines

@@ -1,0 +1,4 @@
+pub mod AppendsPrefix
+pub mod Wrote
+pub mod Scopes
+pub mod Behind

@@ -1,0 +1,87 @@
+ghost use Rattle.std.specs.Prelude.{map};
+ghost use Rattle.text_forms.specs.Printing.{bytes_behind};
+ghost use Rattle.plan_texts.specs.SpellsPddl.{pddl_words};
+ghost use Rattle.plan_texts.specs.Printed.{all_parts, formula_part};
+ghost use Rattle.pddl_printer.specs.Behind.{behind};
+ghost use Rattle.pddl_printer.specs.Scopes.{words_in_force, words_within};
+ghost use Rattle.pddl_printer.specs.Wrote.{Wrote};
+
+use crate::scope::Scope;
+use crate::sheet::Sheet;
+use crate::terms::{put_atom, put_term};
+use crate::typed_lists::put_variables;
+use plan_model::{Formula, Param, Pddl};
+
+/// Puts a formula behind a space.
+#[cycle(formulas)]
+pub(crate) fn put_formula(p: &Pddl, scope: &Scope<'_>, formula: &Formula, sheet: &mut Sheet<'_>)
+    ensures { Wrote (behind (formula_part (pddl_words p.now) formula.now (words_in_force p.now scope.now))) sheet.old sheet.new }
+{
+    match formula {
+        Formula::Holds(atom) => put_atom(p, scope, atom, sheet),
+        Formula::Equal(left, right) => {
+            sheet.put(b" (=");
+            put_term(p, scope, *left, sheet);
+            put_term(p, scope, *right, sheet);
+            sheet.put(b")");
+        }
+        Formula::Not(part) => {
+            sheet.put(b" (not");
+            put_formula(p, scope, part.get(), sheet);
+            sheet.put(b")");
+        }
+        Formula::And(parts) => {
+            sheet.put(b" (and");
+            put_formulas(p, scope, parts.as_slice(), sheet);
+            sheet.put(b")");
+        }
+        Formula::Or(parts) => {
+            sheet.put(b" (or");
+            put_formulas(p, scope, parts.as_slice(), sheet);
+            sheet.put(b")");
+        }
+        Formula::Imply(premise, conclusion) => {
+            sheet.put(b" (imply");
+            put_formula(p, scope, premise.get(), sheet);
+            put_formula(p, scope, conclusion.get(), sheet);
+            sheet.put(b")");
+        }
+        Formula::Forall(params, body) => {
+            sheet.put(b" (forall");
+            put_variables(p, params.as_slice(), sheet);
+            put_within(p, scope, params.as_slice(), body.get(), sheet);
+            sheet.put(b")");
+        }
+        Formula::Exists(params, body) => {
+            sheet.put(b" (exists");
+            put_variables(p, params.as_slice(), sheet);
+            put_within(p, scope, params.as_slice(), body.get(), sheet);
+            sheet.put(b")");
+        }
+    }
+}
+
+/// Puts formulas, each behind a space.
+#[cycle(formulas)]
+fn put_formulas(p: &Pddl, scope: &Scope<'_>, formulas: &[Formula], sheet: &mut Sheet<'_>)
+    ensures { Wrote (bytes_behind (all_parts (map (λ f. formula_part (pddl_words p.now) f (words_in_force p.now scope.now)) formulas.now))) sheet.old sheet.new }
+{
+    for formula in formulas {
+        put_formula(p, scope, formula, sheet);
+    }
+}
+
+/// Puts a formula behind a space, with these variables in force too.
+#[cycle(formulas)]
+fn put_within(
+    p: &Pddl,
+    scope: &Scope<'_>,
+    params: &[Param],
+    formula: &Formula,
+    sheet: &mut Sheet<'_>,
+)
+    ensures { Wrote (behind (formula_part (pddl_words p.now) formula.now (words_within p.now scope.now params.now))) sheet.old sheet.new }
+{
+    let within = Scope::Within(&*scope, &*params);
+    put_formula(p, &within, formula, sheet);
+}

@@ -1,0 +1,58 @@
+ghost use Rattle.std.specs.Prelude.{map, ◌∷◌};
+ghost use Rattle.text_forms.specs.Words.{word_at};
+ghost use Rattle.text_forms.specs.Printing.{bytes_behind};
+ghost use Rattle.plan_texts.specs.Declared.{variable};
+ghost use Rattle.plan_texts.specs.SpellsPddl.{pddl_words};
+ghost use Rattle.plan_texts.specs.Printed.{all_parts, term_part, applied_part};
+ghost use Rattle.pddl_printer.specs.Behind.{behind};
+ghost use Rattle.pddl_printer.specs.Scopes.{in_force, words_in_force};
+ghost use Rattle.pddl_printer.specs.Wrote.{Wrote};
+
+use crate::scope::Scope;
+use crate::sheet::Sheet;
+use crate::words::{put_name, put_object, put_predicate};
+use plan_model::{Atom, Pddl, Term};
+
+/// Puts the word of the k-th variable in force.
+fn put_variable(p: &Pddl, scope: &Scope<'_>, k: u32, sheet: &mut Sheet<'_>)
+    ensures { Wrote (word_at (words_in_force p.now scope.now) k) sheet.old sheet.new }
+{
+    if let Ok(param) = scope.find(k as usize) {
+        put_name(p, param.name, sheet);
+    }
+}
+
+/// Puts a term behind a space.
+pub(crate) fn put_term(p: &Pddl, scope: &Scope<'_>, term: Term, sheet: &mut Sheet<'_>)
+    ensures { Wrote (behind (term_part (pddl_words p.now) (words_in_force p.now scope.now) term)) sheet.old sheet.new }
+{
+    match term {
+        Term::Var(k) => {
+            sheet.put(b" ?");
+            put_variable(p, scope, k, sheet);
+        }
+        Term::Obj(object) => {
+            sheet.put(b" ");
+            put_object(p, object, sheet);
+        }
+    }
+}
+
+/// Puts terms, each behind a space.
+fn put_terms(p: &Pddl, scope: &Scope<'_>, terms: &[Term], sheet: &mut Sheet<'_>)
+    ensures { Wrote (bytes_behind (all_parts (map (term_part (pddl_words p.now) (words_in_force p.now scope.now)) terms.now))) sheet.old sheet.new }
+{
+    for term in terms {
+        put_term(p, scope, *term, sheet);
+    }
+}
+
+/// Puts a predicate with its terms behind a space.
+pub(crate) fn put_atom(p: &Pddl, scope: &Scope<'_>, atom: &Atom, sheet: &mut Sheet<'_>)
+    ensures { Wrote (behind (applied_part (pddl_words p.now) (words_in_force p.now scope.now) atom.now.predicate atom.now.args)) sheet.old sheet.new }
+{
+    sheet.put(b" (");
+    put_predicate(p, atom.predicate, sheet);
+    put_terms(p, scope, atom.args.as_slice(), sheet);
+    sheet.put(b")");
+}
