@@ -1,0 +1,14 @@
+pub mod Keeping
+pub mod Sorts
+pub mod Passing
+pub mod Items
+pub mod Steps
+pub mod EffectSteps
+pub mod ListSteps
+pub mod UnionSteps
+pub mod Exact
+pub mod TermExact
+pub mod ListExact
+pub mod FormulaExact
+pub mod EffectExact
+pub mod FirstToken

@@ -1,0 +1,12 @@
+pub mod Words
+pub mod Answers
+pub mod Ends
+pub mod Shown
+pub mod Terms
+pub mod TypedLists
+pub mod Formulas
+pub mod Effects
+pub mod TermGrammar
+pub mod ListGrammar
+pub mod Grammar
+pub mod Reading

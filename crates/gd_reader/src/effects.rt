@@ -1,0 +1,180 @@
+ghost use Rattle.std.specs.Prelude.{◌≡◌};
+ghost use Rattle.htn_base.specs.Words.{folded};
+ghost use Rattle.text_forms.specs.Placed.{parts_at};
+ghost use Rattle.gd_reader.specs.Answers.{Gives};
+ghost use Rattle.gd_reader.specs.Effects.{effect_inside, effects, one_effect, guarded, bound_effect, deleted, effect_headed};
+ghost use Rattle.gd_reader.specs.Terms.{Keeps};
+ghost use Rattle.gd_reader.specs.Words.{effect_head_of};
+
+use crate::cursor::{end_due, list_due, list_or_end, pass, word_or_end};
+use crate::formulas::{RawFormula, inside_of};
+use crate::stop::{Failure, Stop};
+use crate::term::{RawAtom, applied_of, atom_of};
+use crate::typed_lists::{ListKind, RawParam, params_of};
+use crate::words::{EffectHead, effect_head_of};
+use htn_base::{Boxed, List, NameTable};
+use sexpr_text::Sexprs;
+use std::alloc::Global;
+
+/// An effect as it is written. An increase is the empty effect.
+#[derive(Debug, Drop)]
+pub enum RawEffect {
+    Add(RawAtom),
+    Delete(RawAtom),
+    And(List<RawEffect>),
+    Forall(List<RawParam>, Boxed<RawEffect>),
+    When(RawFormula, Boxed<RawEffect>),
+}
+
+/// What stands in the parentheses of an effect, from token `i` on.
+#[cycle(effect)]
+#[tactic(auto, using(crate::proofs::Keeping::keeps_same, crate::proofs::Keeping::keeps_then, crate::proofs::EffectSteps::effect_inside_is))]
+pub fn effect_inside_of(
+    alloc: Global,
+    s: &Sexprs<'_>,
+    i: u32,
+    names: &mut NameTable,
+) -> Result<RawEffect, Failure>
+    ensures keeps { Keeps names.old names.new }
+    ensures gives { Gives (λ x. (x, names.new)) result (effect_inside names.old (parts_at s.now i)) }
+{
+    match word_or_end(s, i)? {
+        None => Ok(RawEffect::And(List::new(alloc))),
+        Some((at, word, i)) => effect_headed_of(alloc, s, at, word, i, names),
+    }
+}
+
+// Behind the word at the front of the list.
+#[cycle(effect)]
+#[tactic(auto, unfolding(crate::specs::Effects::effect_headed), using(crate::proofs::Keeping::keeps_same, crate::proofs::Keeping::keeps_then))]
+fn effect_headed_of(
+    alloc: Global,
+    s: &Sexprs<'_>,
+    at: u32,
+    word: &[u8],
+    i: u32,
+    names: &mut NameTable,
+) -> Result<RawEffect, Failure>
+    ensures keeps { Keeps names.old names.new }
+    ensures gives { Gives (λ x. (x, names.new)) result (effect_headed (effect_head_of (folded word.now)) names.old at (folded word.now) (parts_at s.now i)) }
+{
+    match effect_head_of(word) {
+        EffectHead::And => {
+            let parts = effects_of(alloc, s, i, names)?;
+            Ok(RawEffect::And(parts))
+        }
+        EffectHead::Forall => {
+            let (vars, part) = bound_effect_of(alloc, s, i, names)?;
+            Ok(RawEffect::Forall(vars, Boxed::new(alloc, part)?))
+        }
+        EffectHead::When => {
+            let (condition, part) = guarded_of(alloc, s, i, names)?;
+            Ok(RawEffect::When(condition, Boxed::new(alloc, part)?))
+        }
+        EffectHead::Not => {
+            let atom = deleted_of(alloc, s, i, names)?;
+            Ok(RawEffect::Delete(atom))
+        }
+        EffectHead::Increase => {
+            pass(s, i)?;
+            Ok(RawEffect::And(List::new(alloc)))
+        }
+        EffectHead::Plain => {
+            let atom = atom_of(alloc, s, at, word, i, names)?;
+            Ok(RawEffect::Add(atom))
+        }
+        EffectHead::Wrong => Err(Failure::At(Stop::Departs(8, at))),
+    }
+}
+
+// Effects up to the end of their list.
+#[cycle(effect)]
+#[tactic(auto, using(crate::proofs::Keeping::keeps_same, crate::proofs::Keeping::keeps_then))]
+fn effects_of(
+    alloc: Global,
+    s: &Sexprs<'_>,
+    mut i: u32,
+    names: &mut NameTable,
+) -> Result<List<RawEffect>, Failure>
+    ensures keeps { Keeps names.old names.new }
+    ensures gives { Gives (λ x. (x, names.new)) result (effects names.old (parts_at s.now i)) }
+{
+    let mut parts = List::new(alloc);
+    while let Some((inside, behind)) = list_or_end(s, i)? {
+        let part = effect_inside_of(alloc, s, inside, names)?;
+        parts.push(part)?;
+        i = behind;
+    }
+    Ok(parts)
+}
+
+// An effect, and the end of its list.
+#[cycle(effect)]
+#[tactic(auto, using(crate::proofs::Keeping::keeps_same, crate::proofs::Keeping::keeps_then, crate::proofs::EffectSteps::one_effect_is))]
+fn one_effect_of(
+    alloc: Global,
+    s: &Sexprs<'_>,
+    i: u32,
+    names: &mut NameTable,
+) -> Result<RawEffect, Failure>
+    ensures keeps { Keeps names.old names.new }
+    ensures gives { Gives (λ x. (x, names.new)) result (one_effect names.old (parts_at s.now i)) }
+{
+    let (inside, behind) = list_due(s, i)?;
+    let part = effect_inside_of(alloc, s, inside, names)?;
+    end_due(s, behind)?;
+    Ok(part)
+}
+
+// A formula, an effect, and the end of their list.
+#[cycle(effect)]
+#[tactic(auto, using(crate::proofs::Keeping::keeps_same, crate::proofs::Keeping::keeps_then, crate::proofs::EffectSteps::guarded_is))]
+fn guarded_of(
+    alloc: Global,
+    s: &Sexprs<'_>,
+    i: u32,
+    names: &mut NameTable,
+) -> Result<(RawFormula, RawEffect), Failure>
+    ensures keeps { Keeps names.old names.new }
+    ensures gives { Gives (λ x. (x, names.new)) result (guarded names.old (parts_at s.now i)) }
+{
+    let (inside, behind) = list_due(s, i)?;
+    let condition = inside_of(alloc, s, inside, names)?;
+    let part = one_effect_of(alloc, s, behind, names)?;
+    Ok((condition, part))
+}
+
+// A list of variables, an effect, and the end of their list.
+#[cycle(effect)]
+#[tactic(auto, using(crate::proofs::Keeping::keeps_same, crate::proofs::Keeping::keeps_then, crate::proofs::EffectSteps::bound_effect_is))]
+fn bound_effect_of(
+    alloc: Global,
+    s: &Sexprs<'_>,
+    i: u32,
+    names: &mut NameTable,
+) -> Result<(List<RawParam>, RawEffect), Failure>
+    ensures keeps { Keeps names.old names.new }
+    ensures gives { Gives (λ x. (x, names.new)) result (bound_effect names.old (parts_at s.now i)) }
+{
+    let (inside, behind) = list_due(s, i)?;
+    let (vars, _) = params_of(alloc, s, inside, ListKind::Parameters, names)?;
+    let part = one_effect_of(alloc, s, behind, names)?;
+    Ok((vars, part))
+}
+
+// An atom in its parentheses, and the end of the list in which it stands.
+#[tactic(auto, using(crate::proofs::Keeping::keeps_same, crate::proofs::Keeping::keeps_then, crate::proofs::EffectSteps::deleted_is))]
+fn deleted_of(
+    alloc: Global,
+    s: &Sexprs<'_>,
+    i: u32,
+    names: &mut NameTable,
+) -> Result<RawAtom, Failure>
+    ensures keeps { Keeps names.old names.new }
+    ensures gives { Gives (λ x. (x, names.new)) result (deleted names.old (parts_at s.now i)) }
+{
+    let (inside, behind) = list_due(s, i)?;
+    let atom = applied_of(alloc, s, inside, names)?;
+    end_due(s, behind)?;
+    Ok(atom)
+}

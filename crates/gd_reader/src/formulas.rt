@@ -1,0 +1,173 @@
+ghost use Rattle.std.specs.Prelude.{◌≡◌};
+ghost use Rattle.htn_base.specs.Words.{folded};
+ghost use Rattle.text_forms.specs.Placed.{parts_at};
+ghost use Rattle.gd_reader.specs.Answers.{Gives};
+ghost use Rattle.gd_reader.specs.Formulas.{inside, formulas, one, two, bound, headed};
+ghost use Rattle.gd_reader.specs.Terms.{Keeps};
+ghost use Rattle.gd_reader.specs.Words.{head_of};
+
+use crate::cursor::{end_due, list_due, list_or_end, word_or_end};
+use crate::stop::{Failure, Stop};
+use crate::term::{RawAtom, RawTerm, atom_of, two_terms_of};
+use crate::typed_lists::{ListKind, RawParam, params_of};
+use crate::words::{Head, head_of};
+use htn_base::{Boxed, List, NameTable};
+use sexpr_text::Sexprs;
+use std::alloc::Global;
+
+/// A formula as it is written.
+#[derive(Debug, Drop)]
+pub enum RawFormula {
+    Holds(RawAtom),
+    Equal(RawTerm, RawTerm),
+    Not(Boxed<RawFormula>),
+    And(List<RawFormula>),
+    Or(List<RawFormula>),
+    Imply(Boxed<RawFormula>, Boxed<RawFormula>),
+    Forall(List<RawParam>, Boxed<RawFormula>),
+    Exists(List<RawParam>, Boxed<RawFormula>),
+}
+
+/// What stands in the parentheses of a formula, from token `i` on.
+#[cycle(formula)]
+#[tactic(auto, using(crate::proofs::Keeping::keeps_same, crate::proofs::Keeping::keeps_then, crate::proofs::Steps::inside_is))]
+pub fn inside_of(
+    alloc: Global,
+    s: &Sexprs<'_>,
+    i: u32,
+    names: &mut NameTable,
+) -> Result<RawFormula, Failure>
+    ensures keeps { Keeps names.old names.new }
+    ensures gives { Gives (λ x. (x, names.new)) result (inside names.old (parts_at s.now i)) }
+{
+    match word_or_end(s, i)? {
+        None => Ok(RawFormula::And(List::new(alloc))),
+        Some((at, word, i)) => headed_of(alloc, s, at, word, i, names),
+    }
+}
+
+// Behind the word at the front of the list.
+#[cycle(formula)]
+#[tactic(auto, unfolding(crate::specs::Formulas::headed), using(crate::proofs::Keeping::keeps_same, crate::proofs::Keeping::keeps_then))]
+fn headed_of(
+    alloc: Global,
+    s: &Sexprs<'_>,
+    at: u32,
+    word: &[u8],
+    i: u32,
+    names: &mut NameTable,
+) -> Result<RawFormula, Failure>
+    ensures keeps { Keeps names.old names.new }
+    ensures gives { Gives (λ x. (x, names.new)) result (headed (head_of (folded word.now)) names.old at (folded word.now) (parts_at s.now i)) }
+{
+    match head_of(word) {
+        Head::And => {
+            let parts = formulas_of(alloc, s, i, names)?;
+            Ok(RawFormula::And(parts))
+        }
+        Head::Or => {
+            let parts = formulas_of(alloc, s, i, names)?;
+            Ok(RawFormula::Or(parts))
+        }
+        Head::Not => {
+            let part = one_of(alloc, s, i, names)?;
+            Ok(RawFormula::Not(Boxed::new(alloc, part)?))
+        }
+        Head::Imply => {
+            let (first, second) = two_of(alloc, s, i, names)?;
+            Ok(RawFormula::Imply(Boxed::new(alloc, first)?, Boxed::new(alloc, second)?))
+        }
+        Head::Equal => {
+            let (left, right) = two_terms_of(s, i, names)?;
+            Ok(RawFormula::Equal(left, right))
+        }
+        Head::Plain => {
+            let atom = atom_of(alloc, s, at, word, i, names)?;
+            Ok(RawFormula::Holds(atom))
+        }
+        Head::Forall => {
+            let (vars, part) = bound_of(alloc, s, i, names)?;
+            Ok(RawFormula::Forall(vars, Boxed::new(alloc, part)?))
+        }
+        Head::Exists => {
+            let (vars, part) = bound_of(alloc, s, i, names)?;
+            Ok(RawFormula::Exists(vars, Boxed::new(alloc, part)?))
+        }
+        Head::Wrong => Err(Failure::At(Stop::Departs(8, at))),
+    }
+}
+
+// Formulas up to the end of their list.
+#[cycle(formula)]
+#[tactic(auto, using(crate::proofs::Keeping::keeps_same, crate::proofs::Keeping::keeps_then))]
+fn formulas_of(
+    alloc: Global,
+    s: &Sexprs<'_>,
+    mut i: u32,
+    names: &mut NameTable,
+) -> Result<List<RawFormula>, Failure>
+    ensures keeps { Keeps names.old names.new }
+    ensures gives { Gives (λ x. (x, names.new)) result (formulas names.old (parts_at s.now i)) }
+{
+    let mut parts = List::new(alloc);
+    while let Some((inside, behind)) = list_or_end(s, i)? {
+        let part = inside_of(alloc, s, inside, names)?;
+        parts.push(part)?;
+        i = behind;
+    }
+    Ok(parts)
+}
+
+// A formula, and the end of its list.
+#[cycle(formula)]
+#[tactic(auto, using(crate::proofs::Keeping::keeps_same, crate::proofs::Keeping::keeps_then, crate::proofs::Steps::one_is))]
+fn one_of(
+    alloc: Global,
+    s: &Sexprs<'_>,
+    i: u32,
+    names: &mut NameTable,
+) -> Result<RawFormula, Failure>
+    ensures keeps { Keeps names.old names.new }
+    ensures gives { Gives (λ x. (x, names.new)) result (one names.old (parts_at s.now i)) }
+{
+    let (inside, behind) = list_due(s, i)?;
+    let part = inside_of(alloc, s, inside, names)?;
+    end_due(s, behind)?;
+    Ok(part)
+}
+
+// Two formulas, and the end of their list.
+#[cycle(formula)]
+#[tactic(auto, using(crate::proofs::Keeping::keeps_same, crate::proofs::Keeping::keeps_then, crate::proofs::Steps::two_is))]
+fn two_of(
+    alloc: Global,
+    s: &Sexprs<'_>,
+    i: u32,
+    names: &mut NameTable,
+) -> Result<(RawFormula, RawFormula), Failure>
+    ensures keeps { Keeps names.old names.new }
+    ensures gives { Gives (λ x. (x, names.new)) result (two names.old (parts_at s.now i)) }
+{
+    let (inside, behind) = list_due(s, i)?;
+    let first = inside_of(alloc, s, inside, names)?;
+    let second = one_of(alloc, s, behind, names)?;
+    Ok((first, second))
+}
+
+// A list of variables, a formula, and the end of their list.
+#[cycle(formula)]
+#[tactic(auto, using(crate::proofs::Keeping::keeps_same, crate::proofs::Keeping::keeps_then, crate::proofs::Steps::bound_is))]
+fn bound_of(
+    alloc: Global,
+    s: &Sexprs<'_>,
+    i: u32,
+    names: &mut NameTable,
+) -> Result<(List<RawParam>, RawFormula), Failure>
+    ensures keeps { Keeps names.old names.new }
+    ensures gives { Gives (λ x. (x, names.new)) result (bound names.old (parts_at s.now i)) }
+{
+    let (inside, behind) = list_due(s, i)?;
+    let (vars, _) = params_of(alloc, s, inside, ListKind::Parameters, names)?;
+    let part = one_of(alloc, s, behind, names)?;
+    Ok((vars, part))
+}

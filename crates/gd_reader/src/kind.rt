@@ -1,0 +1,184 @@
+ghost use Rattle.std.specs.Prelude.{◌≡◌, ◌<◌, ◌≤◌, ◌++◌, [], ◌∷◌, IfOk, OnOk};
+ghost use Rattle.htn_base.specs.Words.{folded};
+ghost use Rattle.text_forms.specs.Placed.{parts_at};
+ghost use Rattle.text_forms.specs.Tokens.{token_count};
+ghost use Rattle.gd_reader.specs.Answers.{Gives, with_front};
+ghost use Rattle.gd_reader.specs.Ends.{end_of};
+ghost use Rattle.gd_reader.specs.Terms.{Keeps};
+ghost use Rattle.gd_reader.specs.TypedLists.{type_due, more_names, some_names, union, union_due, kind_due, are_variables, are_types, unless};
+
+use crate::cursor::{Item, item_at, word_due, word_or_end};
+use crate::stop::{Failure, Stop};
+use crate::term::{RawTerm, name_of, see, used_of};
+use crate::typed_lists::{ListKind, are_variables};
+use crate::words::{Sort, is_either, is_reserved, sort_of};
+use htn_base::{List, Memory, NameTable};
+use sexpr_text::Sexprs;
+use std::alloc::Global;
+
+fn are_types(kind: ListKind) -> bool
+    ensures { result ≡ are_types kind }
+{
+    match kind {
+        ListKind::Types => true,
+        ListKind::Parameters | ListKind::Predicate | ListKind::Objects => false,
+    }
+}
+
+fn alone(alloc: Global, term: RawTerm) -> Result<List<RawTerm>, Memory>
+    ensures { IfOk result (λ l. l ≡ term ∷ []) }
+{
+    let mut terms = List::new(alloc);
+    terms.push(term)?;
+    Ok(terms)
+}
+
+// A type of one word.
+#[tactic(auto, unfolding(crate::specs::TypedLists::type_by), using(crate::proofs::Keeping::keeps_same, crate::proofs::Keeping::keeps_then))]
+fn type_of(
+    alloc: Global,
+    kind: ListKind,
+    names: &mut NameTable,
+    at: u32,
+    word: &[u8],
+) -> Result<List<RawTerm>, Failure>
+    ensures keeps { Keeps names.old names.new }
+    ensures gives { Gives (λ x. (x, names.new)) result (type_due kind names.old at (folded word.now)) }
+{
+    match sort_of(word) {
+        Sort::Name => {
+            let name = name_of(names, word)?;
+            let term = RawTerm {
+                name,
+                variable: false,
+                at,
+            };
+            Ok(alone(alloc, term)?)
+        }
+        Sort::Variable => Err(Failure::At(Stop::Departs(8, at))),
+        Sort::Other => {
+            if are_types(kind) && is_reserved(word) {
+                Err(Failure::At(Stop::Departs(9, at)))
+            } else {
+                Err(Failure::At(Stop::Departs(8, at)))
+            }
+        }
+    }
+}
+
+// Puts a type to the others, unless it is known.
+fn add(types: &mut List<RawTerm>, known: bool, ty: RawTerm) -> Result<(), Memory>
+    ensures added { OnOk result (types.new ≡ types.old ++ unless known ty []) }
+{
+    if !known {
+        types.push(ty)?;
+    }
+    Ok(())
+}
+
+// The names of a union behind its first one, up to its end. Repeats are dropped.
+#[tactic(auto, using(crate::proofs::Keeping::keeps_same, crate::proofs::Keeping::keeps_then))]
+fn more_names_of(
+    mut types: List<RawTerm>,
+    mut seen: NameTable,
+    s: &Sexprs<'_>,
+    mut i: u32,
+    names: &mut NameTable,
+) -> Result<List<RawTerm>, Failure>
+    ensures keeps { Keeps names.old names.new }
+    ensures gives { Gives (λ x. (x, names.new)) result (with_front types (more_names (names.old, seen) (parts_at s.now i))) }
+{
+    while let Some((at, word, behind)) = word_or_end(s, i)? {
+        let ty = used_of(names, at, word)?;
+        let known = see(&mut seen, word)?;
+        add(&mut types, known, ty)?;
+        i = behind;
+    }
+    Ok(types)
+}
+
+// The names of a union, one or more.
+#[tactic(auto, using(crate::proofs::Keeping::keeps_same, crate::proofs::Keeping::keeps_then, crate::proofs::Steps::some_names_is))]
+fn some_names_of(
+    alloc: Global,
+    s: &Sexprs<'_>,
+    i: u32,
+    names: &mut NameTable,
+) -> Result<List<RawTerm>, Failure>
+    ensures keeps { Keeps names.old names.new }
+    ensures gives { Gives (λ x. (x, names.new)) result (some_names names.old (parts_at s.now i)) }
+{
+    let (at, word, i) = word_due(s, i)?;
+    let first = used_of(names, at, word)?;
+    let mut seen = NameTable::new(alloc);
+    see(&mut seen, word)?;
+    let types = alone(alloc, first)?;
+    more_names_of(types, seen, s, i, names)
+}
+
+// What stands in the parentheses of a union.
+#[tactic(auto, using(crate::proofs::Keeping::keeps_same, crate::proofs::Keeping::keeps_then, crate::proofs::Steps::union_is))]
+fn union_of(
+    alloc: Global,
+    s: &Sexprs<'_>,
+    i: u32,
+    names: &mut NameTable,
+) -> Result<List<RawTerm>, Failure>
+    ensures keeps { Keeps names.old names.new }
+    ensures gives { Gives (λ x. (x, names.new)) result (union names.old (parts_at s.now i)) }
+{
+    let (at, word, i) = word_due(s, i)?;
+    if is_either(word) {
+        some_names_of(alloc, s, i, names)
+    } else {
+        Err(Failure::At(Stop::Departs(8, at)))
+    }
+}
+
+// A union, where it may stand.
+#[tactic(auto, using(crate::proofs::Keeping::keeps_same))]
+fn union_due_of(
+    alloc: Global,
+    s: &Sexprs<'_>,
+    at: u32,
+    i: u32,
+    kind: ListKind,
+    names: &mut NameTable,
+) -> Result<List<RawTerm>, Failure>
+    ensures keeps { Keeps names.old names.new }
+    ensures gives { Gives (λ x. (x, names.new)) result (union_due kind names.old at (parts_at s.now i)) }
+{
+    if are_variables(kind) {
+        union_of(alloc, s, i, names)
+    } else {
+        Err(Failure::At(Stop::Departs(8, at)))
+    }
+}
+
+/// The type at token `i`, and the number of the token behind it.
+#[tactic(auto, unfolding(crate::specs::TypedLists::kind_due), using(crate::proofs::Keeping::keeps_same))]
+pub fn kind_of(
+    alloc: Global,
+    s: &Sexprs<'_>,
+    i: u32,
+    kind: ListKind,
+    names: &mut NameTable,
+) -> Result<(List<RawTerm>, u32), Failure>
+    ensures keeps { Keeps names.old names.new }
+    ensures gives { Gives (λ x. ((x.0, parts_at s.now x.1), names.new)) result (kind_due kind names.old (parts_at s.now i)) }
+    ensures later { IfOk result (λ x. (i < x.1) × (x.1 ≤ token_count s.now)) }
+    ensures closed { IfOk result (λ x. end_of (parts_at s.now x.1) ≡ end_of (parts_at s.now i)) }
+{
+    match item_at(s, i) {
+        Item::End => Err(Failure::At(Stop::Ends)),
+        Item::Close(at) => Err(Failure::At(Stop::Departs(8, at))),
+        Item::Word(at, word) => {
+            let ty = type_of(alloc, kind, names, at, word)?;
+            Ok((ty, i + 1))
+        }
+        Item::List(at, inside, behind) => {
+            let ty = union_due_of(alloc, s, at, inside, kind, names)?;
+            Ok((ty, behind))
+        }
+    }
+}

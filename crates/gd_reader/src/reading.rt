@@ -1,0 +1,147 @@
+ghost use Rattle.std.specs.Prelude.{◌≡◌, ◌<◌, [], IfOk, IfErr};
+ghost use Rattle.text_forms.specs.Placed.{parts_at};
+ghost use Rattle.text_forms.specs.Tokens.{token_count};
+ghost use Rattle.gd_reader.specs.Answers.{Gives};
+ghost use Rattle.gd_reader.specs.Effects.{effect_read};
+ghost use Rattle.gd_reader.specs.Ends.{end_of};
+ghost use Rattle.gd_reader.specs.Formulas.{formula_read};
+ghost use Rattle.gd_reader.specs.Grammar.{formula_form, effect_form};
+ghost use Rattle.gd_reader.specs.ListGrammar.{params_form};
+ghost use Rattle.gd_reader.specs.Reading.{IsRead, Refuses, refusal, StandsInList};
+ghost use Rattle.gd_reader.specs.Shown.{EndsAt};
+ghost use Rattle.gd_reader.specs.Terms.{Keeps};
+ghost use Rattle.gd_reader.specs.TypedLists.{listed};
+
+use crate::cursor::list_due;
+use crate::effects::{RawEffect, effect_inside_of};
+use crate::formulas::{RawFormula, inside_of};
+use crate::stop::{Failure, Stop};
+use crate::typed_lists::{ListKind, RawParam, params_of};
+use htn_base::{Fault, List, NameTable};
+use sexpr_text::{ReadError, Sexprs};
+use std::alloc::Global;
+
+/// What was read, and the number of the token where reading goes on.
+#[derive(Debug, Drop)]
+pub struct Got<T> {
+    pub value: T,
+    pub next: u32,
+}
+
+// A formula in its parentheses.
+#[tactic(auto, unfolding(crate::specs::Formulas::formula_read), using(crate::proofs::Keeping::keeps_same, crate::proofs::Keeping::keeps_then))]
+fn formula_of(
+    alloc: Global,
+    s: &Sexprs<'_>,
+    at: u32,
+    names: &mut NameTable,
+) -> Result<Got<RawFormula>, Failure>
+    requires token { at < token_count s.now }
+    ensures keeps { Keeps names.old names.new }
+    ensures gives { Gives (λ got. (got.value, names.new)) result (formula_read names.old (parts_at s.now at)) }
+    ensures next { IfOk result (λ got. EndsAt s.now at got.next) }
+    ensures goes_on { IfErr result (λ e. e ≡ Failure.At Stop.Ends → ⊥) }
+{
+    let (inside, next) = list_due(s, at)?;
+    let value = inside_of(alloc, s, inside, names)?;
+    Ok(Got { value, next })
+}
+
+// An effect in its parentheses.
+#[tactic(auto, unfolding(crate::specs::Effects::effect_read), using(crate::proofs::Keeping::keeps_same, crate::proofs::Keeping::keeps_then))]
+fn effect_of(
+    alloc: Global,
+    s: &Sexprs<'_>,
+    at: u32,
+    names: &mut NameTable,
+) -> Result<Got<RawEffect>, Failure>
+    requires token { at < token_count s.now }
+    ensures keeps { Keeps names.old names.new }
+    ensures gives { Gives (λ got. (got.value, names.new)) result (effect_read names.old (parts_at s.now at)) }
+    ensures next { IfOk result (λ got. EndsAt s.now at got.next) }
+    ensures goes_on { IfErr result (λ e. e ≡ Failure.At Stop.Ends → ⊥) }
+{
+    let (inside, next) = list_due(s, at)?;
+    let value = effect_inside_of(alloc, s, inside, names)?;
+    Ok(Got { value, next })
+}
+
+// The fault of a failure, in the text with so many bytes. Up to the end of a list the tokens never end too early.
+fn refusal(failure: Failure, file: u8, end: u32) -> ReadError
+    ensures refusal { result ≡ refusal file end failure }
+{
+    match failure {
+        Failure::Memory => ReadError::Memory,
+        Failure::At(Stop::Ends) => ReadError::Bad(Fault {
+            code: 8,
+            file,
+            at: end,
+        }),
+        Failure::At(Stop::Departs(code, at)) => ReadError::Bad(Fault { code, file, at }),
+    }
+}
+
+/// The formula at token `at`, and the number of the token behind it. `file` is the place of the text among the
+/// command's inputs. `Bad` has the first token with which the tokens from `at` on no longer begin a formula:
+/// code 9 where a reserved word would name a variable, 18 where a quantifier's variable is repeated, else 8.
+pub fn formula(
+    alloc: Global,
+    s: &Sexprs<'_>,
+    at: u32,
+    file: u8,
+    names: &mut NameTable,
+) -> Result<Got<RawFormula>, ReadError>
+    requires token { at < token_count s.now }
+    ensures read { IfOk result (λ got. IsRead formula_form (formula_read names.old) s.now at (got.value, names.new)) }
+    ensures next { IfOk result (λ got. EndsAt s.now at got.next) }
+    ensures refused { IfErr result (Refuses formula_form (formula_read names.old) s.now at file) }
+    ensures keeps { Keeps names.old names.new }
+{
+    match formula_of(alloc, s, at, names) {
+        Ok(got) => Ok(got),
+        Err(failure) => Err(refusal(failure, file, s.text_len())),
+    }
+}
+
+/// The effect at token `at`, and the number of the token behind it. An increase is the empty effect. The rest
+/// is as for a formula.
+pub fn effect(
+    alloc: Global,
+    s: &Sexprs<'_>,
+    at: u32,
+    file: u8,
+    names: &mut NameTable,
+) -> Result<Got<RawEffect>, ReadError>
+    requires token { at < token_count s.now }
+    ensures read { IfOk result (λ got. IsRead effect_form (effect_read names.old) s.now at (got.value, names.new)) }
+    ensures next { IfOk result (λ got. EndsAt s.now at got.next) }
+    ensures refused { IfErr result (Refuses effect_form (effect_read names.old) s.now at file) }
+    ensures keeps { Keeps names.old names.new }
+{
+    match effect_of(alloc, s, at, names) {
+        Ok(got) => Ok(got),
+        Err(failure) => Err(refusal(failure, file, s.text_len())),
+    }
+}
+
+/// The typed list from token `at` up to the parenthesis that closes the list in which the token stands, whose
+/// number is given too. Code 9 is for a reserved word where a name is declared, 18 for a repeated parameter.
+pub fn typed_list(
+    alloc: Global,
+    s: &Sexprs<'_>,
+    at: u32,
+    file: u8,
+    kind: ListKind,
+    names: &mut NameTable,
+) -> Result<Got<List<RawParam>>, ReadError>
+    requires stands { StandsInList s.now at }
+    ensures read { IfOk result (λ got. IsRead (params_form kind []) (listed kind names.old) s.now at (got.value, names.new)) }
+    ensures next { IfOk result (λ got. parts_at s.now got.next ≡ end_of (parts_at s.now at)) }
+    ensures refused { IfErr result (Refuses (params_form kind []) (listed kind names.old) s.now at file) }
+    ensures keeps { Keeps names.old names.new }
+{
+    match params_of(alloc, s, at, kind, names) {
+        Ok((value, next)) => Ok(Got { value, next }),
+        Err(failure) => Err(refusal(failure, file, s.text_len())),
+    }
+}

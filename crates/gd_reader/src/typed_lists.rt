@@ -1,0 +1,204 @@
+ghost use Rattle.std.specs.Prelude.{◌≡◌, ◌++◌, map, IfOk, OnOk};
+ghost use Rattle.htn_base.specs.Words.{folded};
+ghost use Rattle.text_forms.specs.Placed.{parts_at};
+ghost use Rattle.gd_reader.specs.Answers.{Gives};
+ghost use Rattle.gd_reader.specs.Ends.{end_of};
+ghost use Rattle.gd_reader.specs.Terms.{Keeps};
+ghost use Rattle.gd_reader.specs.TypedLists.{declares, variable_by, param_due, with_type, listed, hyphen_due, is_parameters, are_variables};
+
+use crate::cursor::word_or_end;
+use crate::kind::kind_of;
+use crate::stop::{Failure, Stop};
+use crate::term::{RawTerm, name_of, see};
+use crate::words::{Sort, is_hyphen, is_reserved, rest, sort_of};
+use htn_base::{List, Memory, Name, NameTable};
+use sexpr_text::Sexprs;
+use std::alloc::Global;
+
+/// A declared word with its offset, and its types: none where none is written, more than one where they make
+/// a union. The name of a variable is without its question mark.
+#[derive(Debug, Drop)]
+pub struct RawParam {
+    pub name: Name,
+    pub ty: List<RawTerm>,
+    pub at: u32,
+}
+
+/// What a typed list declares: parameters, each a new one; variables of a predicate; objects; or types, whose
+/// types are their parents.
+#[derive(Clone, Copy, Debug, PartialEq, Eq)]
+pub enum ListKind {
+    Parameters,
+    Predicate,
+    Objects,
+    Types,
+}
+
+fn is_parameters(kind: ListKind) -> bool
+    ensures { result ≡ is_parameters kind }
+{
+    match kind {
+        ListKind::Parameters => true,
+        ListKind::Predicate | ListKind::Objects | ListKind::Types => false,
+    }
+}
+
+/// Whether the words of the list are variables.
+pub fn are_variables(kind: ListKind) -> bool
+    ensures variables { result ≡ are_variables kind }
+{
+    match kind {
+        ListKind::Parameters | ListKind::Predicate => true,
+        ListKind::Objects | ListKind::Types => false,
+    }
+}
+
+#[tactic(auto, using(crate::proofs::Keeping::keeps_same, crate::proofs::Keeping::keeps_then))]
+fn declare(
+    alloc: Global,
+    names: &mut NameTable,
+    seen: &mut NameTable,
+    at: u32,
+    word: &[u8],
+) -> Result<RawParam, Failure>
+    ensures keeps { Keeps names.old names.new }
+    ensures gives { Gives (λ x. (x, (names.new, seen.new))) result (declares (names.old, seen.old) at (folded word.now)) }
+{
+    let name = name_of(names, word)?;
+    see(seen, word)?;
+    Ok(RawParam {
+        name,
+        ty: List::new(alloc),
+        at,
+    })
+}
+
+// A variable by its name. Where each is to be a new one, a repeat departs.
+#[tactic(auto, unfolding(crate::specs::TypedLists::variable_by), using(crate::proofs::Keeping::keeps_same, crate::proofs::Keeping::keeps_then))]
+fn variable_of(
+    alloc: Global,
+    once: bool,
+    names: &mut NameTable,
+    seen: &mut NameTable,
+    at: u32,
+    word: &[u8],
+) -> Result<RawParam, Failure>
+    ensures keeps { Keeps names.old names.new }
+    ensures gives { Gives (λ x. (x, (names.new, seen.new))) result (variable_by once (names.old, seen.old) at (folded word.now)) }
+{
+    if is_reserved(word) {
+        return Err(Failure::At(Stop::Departs(9, at)));
+    }
+    let known = see(seen, word)?;
+    if once && known {
+        return Err(Failure::At(Stop::Departs(18, at)));
+    }
+    let name = name_of(names, word)?;
+    Ok(RawParam {
+        name,
+        ty: List::new(alloc),
+        at,
+    })
+}
+
+// The word that declares.
+#[tactic(auto, unfolding(crate::specs::TypedLists::param_by), using(crate::proofs::Keeping::keeps_same, crate::proofs::Keeping::keeps_then, crate::proofs::Sorts::folded_rest))]
+fn param_of(
+    alloc: Global,
+    kind: ListKind,
+    names: &mut NameTable,
+    seen: &mut NameTable,
+    at: u32,
+    word: &[u8],
+) -> Result<RawParam, Failure>
+    ensures keeps { Keeps names.old names.new }
+    ensures gives { Gives (λ x. (x, (names.new, seen.new))) result (param_due kind (names.old, seen.old) at (folded word.now)) }
+{
+    let variables = are_variables(kind);
+    match sort_of(word) {
+        Sort::Variable => {
+            if variables {
+                variable_of(alloc, is_parameters(kind), names, seen, at, rest(word))
+            } else {
+                Err(Failure::At(Stop::Departs(8, at)))
+            }
+        }
+        Sort::Name => {
+            if variables {
+                Err(Failure::At(Stop::Departs(8, at)))
+            } else {
+                declare(alloc, names, seen, at, word)
+            }
+        }
+        Sort::Other => {
+            if variables {
+                Err(Failure::At(Stop::Departs(8, at)))
+            } else if is_reserved(word) {
+                Err(Failure::At(Stop::Departs(9, at)))
+            } else {
+                Err(Failure::At(Stop::Departs(8, at)))
+            }
+        }
+    }
+}
+
+// The words that wait for their type.
+fn settle(
+    alloc: Global,
+    done: &mut List<RawParam>,
+    pending: &List<RawParam>,
+    ty: &List<RawTerm>,
+) -> Result<(), Memory>
+    ensures settled { OnOk result (done.new ≡ done.old ++ map (with_type ty.now) pending.now) }
+{
+    for p in pending.as_slice() {
+        done.push(RawParam {
+            name: p.name,
+            ty: ty.copy(alloc)?,
+            at: p.at,
+        })?;
+    }
+    Ok(())
+}
+
+fn is_hyphen_due(pending: &List<RawParam>, word: &[u8]) -> bool
+    ensures due { result ≡ hyphen_due pending.now (folded word.now) }
+{
+    match pending.as_slice() {
+        [] => false,
+        [_, ..] => is_hyphen(word),
+    }
+}
+
+/// A typed list from token `i` up to its end, and the number of the token that closes it.
+#[tactic(auto, using(crate::proofs::Keeping::keeps_same, crate::proofs::Keeping::keeps_then))]
+pub fn params_of(
+    alloc: Global,
+    s: &Sexprs<'_>,
+    mut i: u32,
+    kind: ListKind,
+    names: &mut NameTable,
+) -> Result<(List<RawParam>, u32), Failure>
+    ensures keeps { Keeps names.old names.new }
+    ensures gives { Gives (λ x. (x.0, names.new)) result (listed kind names.old (parts_at s.now i)) }
+    ensures closed { IfOk result (λ x. parts_at s.now x.1 ≡ end_of (parts_at s.now i)) }
+{
+    let mut seen = NameTable::new(alloc);
+    let mut done = List::new(alloc);
+    let mut pending = List::new(alloc);
+    while let Some((at, word, behind)) = word_or_end(s, i)? {
+        if is_hyphen_due(&pending, word) {
+            let (ty, next) = kind_of(alloc, s, behind, kind, names)?;
+            settle(alloc, &mut done, &pending, &ty)?;
+            pending = List::new(alloc);
+            i = next;
+        } else {
+            let param = param_of(alloc, kind, names, &mut seen, at, word)?;
+            pending.push(param)?;
+            i = behind;
+        }
+    }
+    let none = List::new(alloc);
+    settle(alloc, &mut done, &pending, &none)?;
+    Ok((done, i))
+}

@@ -1,0 +1,180 @@
+ghost use Rattle.std.specs.Prelude.{◌≡◌, ◌||◌, drop, codes};
+ghost use Rattle.std.specs.Str.{bytes_eq};
+ghost use Rattle.htn_base.specs.Words as base;
+ghost use Rattle.htn_base.specs.Words.{folded};
+ghost use Rattle.gd_reader.specs.Words.{head_of, effect_head_of, sort_of, sort_of_one, sort_of_more, is_hyphen, is_either};
+
+/// What a word begins at the front of a formula.
+#[derive(Clone, Copy, Debug, PartialEq, Eq)]
+pub enum Head {
+    And,
+    Or,
+    Not,
+    Imply,
+    Forall,
+    Exists,
+    Equal,
+    Plain,
+    Wrong,
+}
+
+/// What a word begins at the front of an effect.
+#[derive(Clone, Copy, Debug, PartialEq, Eq)]
+pub enum EffectHead {
+    And,
+    Forall,
+    When,
+    Not,
+    Increase,
+    Plain,
+    Wrong,
+}
+
+/// What a word is by its letters.
+#[derive(Clone, Copy, Debug, PartialEq, Eq)]
+pub enum Sort {
+    Variable,
+    Name,
+    Other,
+}
+
+/// Whether a word is this one, in any case of its letters.
+pub fn is_word(word: &[u8], key: &[u8]) -> bool
+    ensures same { result ≡ bytes_eq (folded word.now) (folded key.now) }
+{
+    word.eq_ignore_ascii_case(key)
+}
+
+/// Whether a word is reserved, in any case of its letters.
+pub fn is_reserved(word: &[u8]) -> bool
+    ensures reserved { result ≡ base.is_reserved (folded word.now) }
+{
+    is_sign(word) || is_connective(word) || is_clause(word)
+}
+
+fn is_sign(w: &[u8]) -> bool
+    ensures { result ≡ (let v = folded w.now in bytes_eq v (codes "-") || bytes_eq v (codes "->") || bytes_eq v (codes "=") || bytes_eq v (codes "<")) }
+{
+    is_word(w, b"-") || is_word(w, b"->") || is_word(w, b"=") || is_word(w, b"<")
+}
+
+fn is_connective(w: &[u8]) -> bool
+    ensures { result ≡ (let v = folded w.now in bytes_eq v (codes "and") || bytes_eq v (codes "or") || bytes_eq v (codes "not") || bytes_eq v (codes "imply")) }
+{
+    is_word(w, b"and") || is_word(w, b"or") || is_word(w, b"not") || is_word(w, b"imply")
+}
+
+fn is_clause(w: &[u8]) -> bool
+    ensures { result ≡ (let v = folded w.now in bytes_eq v (codes "forall") || bytes_eq v (codes "exists") || bytes_eq v (codes "when") || bytes_eq v (codes "increase") || bytes_eq v (codes "either")) }
+{
+    is_word(w, b"forall")
+        || is_word(w, b"exists")
+        || is_word(w, b"when")
+        || is_word(w, b"increase")
+        || is_word(w, b"either")
+}
+
+/// The sort of a word, in any case of its letters.
+#[tactic(auto, using(crate::proofs::Sorts::sort_len0, crate::proofs::Sorts::sort_len1, crate::proofs::Sorts::sort_len2))]
+pub fn sort_of(w: &[u8]) -> Sort
+    ensures sort { result ≡ sort_of (folded w.now) }
+{
+    let reserved = is_reserved(w);
+    match w {
+        [] => Sort::Other,
+        [b] => sort_of_one(b.to_ascii_lowercase(), reserved),
+        [b, _, ..] => sort_of_more(b.to_ascii_lowercase(), reserved),
+    }
+}
+
+fn sort_of_one(b: u8, reserved: bool) -> Sort
+    ensures { result ≡ sort_of_one b reserved }
+{
+    if b != b'?' && b != b':' && !reserved {
+        Sort::Name
+    } else {
+        Sort::Other
+    }
+}
+
+fn sort_of_more(b: u8, reserved: bool) -> Sort
+    ensures { result ≡ sort_of_more b reserved }
+{
+    if b == b'?' {
+        Sort::Variable
+    } else {
+        sort_of_one(b, reserved)
+    }
+}
+
+/// A word without its first letter.
+pub fn rest(w: &[u8]) -> &[u8]
+    ensures rest { result.now ≡ drop 1 w.now }
+{
+    match w {
+        [] => w,
+        [_, tail @ ..] => tail,
+    }
+}
+
+/// Whether a word is the sign in front of a type.
+pub fn is_hyphen(word: &[u8]) -> bool
+    ensures hyphen { result ≡ is_hyphen (folded word.now) }
+{
+    is_word(word, b"-")
+}
+
+/// Whether a word begins a union.
+pub fn is_either(word: &[u8]) -> bool
+    ensures either { result ≡ is_either (folded word.now) }
+{
+    is_word(word, b"either")
+}
+
+/// The head of a formula, in any case of its letters.
+#[tactic(auto, unfolding(crate::specs::Words::head_of))]
+pub fn head_of(w: &[u8]) -> Head
+    ensures head { result ≡ head_of (folded w.now) }
+{
+    if is_word(w, b"and") {
+        Head::And
+    } else if is_word(w, b"or") {
+        Head::Or
+    } else if is_word(w, b"not") {
+        Head::Not
+    } else if is_word(w, b"imply") {
+        Head::Imply
+    } else if is_word(w, b"forall") {
+        Head::Forall
+    } else if is_word(w, b"exists") {
+        Head::Exists
+    } else if is_word(w, b"=") {
+        Head::Equal
+    } else if sort_of(w) == Sort::Name {
+        Head::Plain
+    } else {
+        Head::Wrong
+    }
+}
+
+/// The head of an effect, in any case of its letters.
+#[tactic(auto, unfolding(crate::specs::Words::effect_head_of))]
+pub fn effect_head_of(w: &[u8]) -> EffectHead
+    ensures head { result ≡ effect_head_of (folded w.now) }
+{
+    if is_word(w, b"and") {
+        EffectHead::And
+    } else if is_word(w, b"forall") {
+        EffectHead::Forall
+    } else if is_word(w, b"when") {
+        EffectHead::When
+    } else if is_word(w, b"not") {
+        EffectHead::Not
+    } else if is_word(w, b"increase") {
+        EffectHead::Increase
+    } else if sort_of(w) == Sort::Name {
+        EffectHead::Plain
+    } else {
+        EffectHead::Wrong
+    }
+}
