@@ -88,26 +88,30 @@ module _ (c d : Hddl) (same : AreSameButNames c d) where
           let n = maps-length (child_said (hddl_words c)) (child_said (hddl_words d)) s.children t.children (ap (λ z. z.4.1) e) in
           subst (λ (z : Type 0). z) (sym (λ i. ArePairsOf (Pairs (e i).4.2) (n i) × IsAcyclic (Pairs (e i).4.2))) k
 
--- what is printed for the one is printed for the other
+-- what is printed for the one is printed for the other, where no two unions have the same words
+module _ (h h' : Hddl) (mode : Checks) (c c' : Compiled) (b : ℕ) (style : Style) (p : Pddl) (same : AreSameButNames h' h) (apart : AreApart (hddl_words h).unions) (printed : IsPrinted h mode c b style p) (compiled' : IsCompiled h' mode c') where
+  pub printed_by : IsPrinted h' mode c' b style p
+  printed_by =
+      let e = sym printed.compiled.hddl in let e' = sym compiled'.hddl in
+      let s = subst (λ z. AreSameButNames z c.hddl) e' (subst (AreSameButNames h') e same) in
+      let a = subst (λ z. AreApart (hddl_words z).unions) e apart in
+      let sc = subst IsSoundHddl e printed.sound in
+      let sc' = sound_too c'.hddl c.hddl s sc in
+      let ps = subst (λ (z : Hddl). AreMethodPlans z mode (z.top ∷ z.methods) c.methods) e printed.compiled.methods in
+      let ps' = subst (λ (z : Hddl). AreMethodPlans z mode (z.top ∷ z.methods) c'.methods) e' compiled'.methods in
+      let plans = plans-both c'.hddl c.hddl s sc' sc a mode (c'.hddl.top ∷ c'.hddl.methods) (c.hddl.top ∷ c.hddl.methods) (all_same c'.hddl c.hddl s) (sc'.top, sc'.methods) (sc.top, sc.methods) c'.methods c.methods ps' ps in
+      record {
+        sound = sound_too h' h same printed.sound;
+        compiled = compiled';
+        printable = printed.printable;
+        encoded = encoded_too c' c s sc' sc a plans b style p printed.encoded;
+      }
+
+-- for two values of the same texts
 module _ (domain problem : List ℕ) (h h' : Hddl) (mode : Checks) (c c' : Compiled) (b : ℕ) (style : Style) (p : Pddl) (spelled : IsHddlOf domain problem h) (spelled' : IsHddlOf domain problem h') (printed : IsPrinted h mode c b style p) (compiled' : IsCompiled h' mode c') where
   pub printed_too : IsPrinted h' mode c' b style p
   printed_too =
-      let e = printed.compiled.hddl in let e' = compiled'.hddl in
-      let sc = subst IsSoundHddl (sym e) printed.sound in
-      let hc = subst (IsHddlOf domain problem) (sym e) spelled in
-      let hc' = subst (IsHddlOf domain problem) (sym e') spelled' in
-      let same = same_but_names domain problem c'.hddl c.hddl hc' hc sc in
-      let apart = unions_apart domain problem c'.hddl c.hddl hc' hc sc in
-      let sc' = sound_too c'.hddl c.hddl same sc in
-      let ps = subst (λ (z : Hddl). AreMethodPlans z mode (z.top ∷ z.methods) c.methods) (sym e) printed.compiled.methods in
-      let ps' = subst (λ (z : Hddl). AreMethodPlans z mode (z.top ∷ z.methods) c'.methods) (sym e') compiled'.methods in
-      let plans = plans-both c'.hddl c.hddl same sc' sc apart mode (c'.hddl.top ∷ c'.hddl.methods) (c.hddl.top ∷ c.hddl.methods) (all_same c'.hddl c.hddl same) (sc'.top, sc'.methods) (sc.top, sc.methods) c'.methods c.methods ps' ps in
-      record {
-        sound = subst IsSoundHddl e' sc';
-        compiled = compiled';
-        printable = printed.printable;
-        encoded = encoded_too c' c same sc' sc apart plans b style p printed.encoded;
-      }
+      printed_by h h' mode c c' b style p (same_but_names domain problem h' h spelled' spelled printed.sound) (unions_apart domain problem h' h spelled' spelled printed.sound) printed compiled'
 
   pub ordered_here : AreOrdered h → AreOrdered h'
   ordered_here = ordered_too h' h (same_but_names domain problem h' h spelled' spelled printed.sound)

@@ -8,3 +8,4 @@ pub mod SamePlans
 pub mod SameActions
 pub mod SameValue
 pub mod Headlines
+pub mod RenamedRow

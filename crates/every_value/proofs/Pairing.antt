@@ -14,12 +14,6 @@ Both R (x ∷ xs) (y ∷ ys) = R x y × Both R xs ys
 Both R [] (y ∷ ys) = ⊥
 Both R (x ∷ xs) [] = ⊥
 
-pub both-more : {X Y : Type 0} (R S : X → Y → Type 0) → ((x : X) (y : Y) → R x y → S x y) → (xs : List X) (ys : List Y) → Both R xs ys → Both S xs ys
-both-more R S h [] [] e = tt
-both-more R S h (x ∷ xs) (y ∷ ys) e = (h x y e.0, both-more R S h xs ys e.1)
-both-more R S h [] (y ∷ ys) e = absurd e
-both-more R S h (x ∷ xs) [] e = absurd e
-
 pub maps-length : {X Y Z : Type 0} (u : X → Z) (w : Y → Z) (xs : List X) (ys : List Y) → map u xs ≡ map w ys → length xs ≡ length ys
 maps-length u w xs ys e = sym (length-map u xs) ∙ ap length e ∙ length-map w ys
 
@@ -83,10 +77,6 @@ got u w (x ∷ xs) (z ∷ ys) e (suc k) y f = got u w xs ys (cc) k y f
 pub contains-each : {X : Type 0} (P : X → Type 0) (xs : List X) → ((x : X) → Contains xs x → P x) → EachIs P xs
 contains-each P [] h = tt
 contains-each P (x ∷ xs) h = (h x (Contains-here x xs), contains-each P xs (λ y c. h y (Contains-later x xs y c)))
-
-pub each-map : {X Y : Type 0} (u : X → Y) (P : Y → Type 0) (Q : X → Type 0) → ((x : X) → Q x → P (u x)) → (xs : List X) → EachIs Q xs → EachIs P (map u xs)
-each-map u P Q h [] e = tt
-each-map u P Q h (x ∷ xs) e = (h x e.0, each-map u P Q h xs e.1)
 
 pub each-got : {X : Type 0} (P : X → Type 0) (xs : List X) (k : ℕ) (x : X) → EachIs P xs → slice_get xs k ≡ Some x → P x
 each-got P [] k x e f = cc

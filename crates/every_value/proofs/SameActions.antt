@@ -29,7 +29,7 @@ use Rattle.task_networks.specs.Spelling.{numbers}
 use Rattle.plan_meaning.specs.Compilation.{once}
 use Rattle.plan_meaning.specs.SourceParts.{name, moved}
 use Rattle.plan_meaning.specs.OrderFormulas.{pair_of, wait_parts, clear_parts, copy_parts}
-use Rattle.plan_meaning.specs.EncodedNames.{joined, guard_types, checked_methods, top_predicate, free_predicate, first_check, task_predicate, action_predicate, check_predicate, guard_predicate, slot_param, order_numbers}
+use Rattle.plan_meaning.specs.EncodedNames.{joined, guard_types, checked_methods, free_predicate, first_check, task_predicate, action_predicate, check_predicate, guard_predicate, slot_param, order_numbers}
 use Rattle.plan_meaning.specs.EncodedActions.{slot_vars, differ, test, source_condition, source_change, held_work, work_action, encoded_action, encoded_check, spare, front, depth, children_slots, held_task, child_atom, child_atoms, constraints, guards, tested, method_pre, splitting, method_eff, method_word, encoded_method}
 use Rattle.plan_meaning.specs.EncodedValue.{encoded_methods, encoded_checks, encoded_source, encoded_actions}
 use Rattle.slot_plans.proofs.Splitting.{frees, kids, links, copies_of, splitting_parts}
@@ -76,9 +76,6 @@ module _ (c d : Compiled) (same : AreSameButNames c.hddl d.hddl) (sc : IsSoundHd
 
     pub free-same : free_predicate c ≡ free_predicate d
     free-same = λ i. predicates-count i + 1
-
-    pub top-same : top_predicate c ≡ top_predicate d
-    top-same = predicates-count
 
     task-same : (t : ℕ) → task_predicate c t ≡ task_predicate d t
     task-same t = λ i. cond (t == tasks-count i) (predicates-count i) (predicates-count i + 3 + t)

@@ -51,7 +51,7 @@ module _ (c d : Hddl) (same : AreSameButNames c d) where
   task-words-same : task_words c ≡ task_words d
   task-words-same = map-map (task_said v) (λ t. t.0) c.tasks ∙ ap (map (λ t. t.0)) same.alike.tasks ∙ sym (map-map (task_said w) (λ t. t.0) d.tasks)
 
-  action-words-same : action_words c ≡ action_words d
+  pub action-words-same : action_words c ≡ action_words d
   action-words-same = map-map (action_said v) (λ t. t.0) c.actions ∙ ap (map (λ t. t.0)) same.alike.actions ∙ sym (map-map (action_said w) (λ t. t.0) d.actions)
 
   method-words-same : method_words c ≡ method_words d

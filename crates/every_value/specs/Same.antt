@@ -5,7 +5,7 @@ use Rattle.plan_texts.specs.SpellsHddl.{hddl_types}
 use Rattle.plan_texts.specs.Alike.{AreAlikeHddl}
 use Rattle.plan_model.specs.declared.values.Hddl.{Hddl}
 
--- They are alike, and their types, pairs and unions have the same numbers.
+-- They are alike, and their types, pairs and unions have the same numbers. Names alone may have other numbers, in other tables.
 pub record AreSameButNames (c d : Hddl) : Type 0 where
   pub alike : AreAlikeHddl c d
   pub types : hddl_types c ≡ hddl_types d
