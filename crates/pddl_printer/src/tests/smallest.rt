@@ -79,10 +79,7 @@ fn of_first(alloc: Global, predicate: u32) -> Result<Atom, Memory> {
 fn waits(alloc: Global) -> Result<Formula, Memory> {
     let before = atom(alloc, 2, &[Term::Var(1), Term::Var(0)])?;
     let not = Formula::Not(Boxed::new(alloc, Formula::Holds(before))?);
-    Ok(Formula::Forall(
-        params(alloc, &[(12, 1)])?,
-        Boxed::new(alloc, not)?,
-    ))
+    Ok(Formula::Forall(params(alloc, &[(12, 1)])?, Boxed::new(alloc, not)?))
 }
 
 /// The slot stands before nothing.
