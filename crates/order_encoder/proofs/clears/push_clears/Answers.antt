@@ -1,0 +1,10 @@
+use Rattle.std.proofs.Common.{ap}
+use Rattle.plan_model.specs.declared.terms.Term.TheVariants.{Obj}
+use Rattle.plan_model.specs.declared.effects.Effect.TheVariants.{Delete}
+use Rattle.plan_meaning.specs.OrderFormulas.{pair_of}
+use Rattle.order_encoder.specs.Orders.{numbers}
+use Rattle.order_encoder.proofs.NextSlot.{push_next}
+use Rattle.order_encoder.proofs.clears.push_clears.Goals as goal
+
+pub loop-k-preserved : goal.loop-k-preserved
+loop-k-preserved c = push_next (λ o. Delete (pair_of (numbers c.args.n.now) 0 c.args.h (Obj o))) c.args.n.now.first_slot c.loop-k.k c.args.into.now c.loop-k.into c.push.new.self (Delete c.in_ok-before.field-0) c.loop-k.invariant (ap Delete c.in_ok-before.ensures) c.in_ok-push.ensures.pushed

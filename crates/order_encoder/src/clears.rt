@@ -1,0 +1,77 @@
+ghost use Rattle.std.specs.Prelude.{◌≡◌, ◌<◌, ◌+◌, ◌^◌, ◌++◌, IfOk, OnOk};
+ghost use Rattle.plan_model.specs.declared.options.Style.TheVariants.{Flat};
+ghost use Rattle.plan_model.specs.declared.terms.Term.TheVariants.{Var};
+ghost use Rattle.plan_model.specs.declared.effects.Effect.TheVariants.{Delete, Forall};
+ghost use Rattle.plan_meaning.specs.OrderFormulas.{pair_of, any_slot, clear_parts};
+ghost use Rattle.order_encoder.specs.Orders.{numbers, clears};
+
+use crate::names::OrderNames;
+use crate::pairs::{any_slot_params, before};
+use htn_base::{Boxed, List, Memory};
+use plan_model::{Effect, Style, Term};
+use std::alloc::Global;
+
+/// The effect that deletes all pairs that leave the slot of `h`. Variables and styles are those of `waiting`.
+pub fn clearing(
+    alloc: Global,
+    n: &OrderNames,
+    slots: u32,
+    style: &Style,
+    h: Term,
+    depth: u32,
+) -> Result<Effect, Memory>
+    requires slots { n.now.first_slot + slots < 2 ^ 32 }
+    ensures effect { IfOk result (λ e. e ≡ clears (numbers n.now) slots depth style.now h) }
+{
+    match style {
+        Style::Adl => clear_all(alloc, n, h, depth),
+        Style::Flat => {
+            let mut parts = List::new(alloc);
+            push_clears(alloc, n, slots, h, &mut parts)?;
+            Ok(Effect::And(parts))
+        }
+    }
+}
+
+/// Puts the parts of this effect at the end: one in style adl, one a slot in style flat.
+pub fn push_clearing(
+    alloc: Global,
+    n: &OrderNames,
+    slots: u32,
+    style: &Style,
+    h: Term,
+    depth: u32,
+    into: &mut List<Effect>,
+) -> Result<(), Memory>
+    requires slots { n.now.first_slot + slots < 2 ^ 32 }
+    ensures parts { OnOk result (into.new ≡ into.old ++ clear_parts (numbers n.now) slots depth style.now h) }
+{
+    match style {
+        Style::Adl => into.push(clear_all(alloc, n, h, depth)?),
+        Style::Flat => push_clears(alloc, n, slots, h, into),
+    }
+}
+
+fn clear_all(alloc: Global, n: &OrderNames, h: Term, depth: u32) -> Result<Effect, Memory>
+    ensures { IfOk result (λ e. e ≡ Forall (any_slot (numbers n.now) 0) (Delete (pair_of (numbers n.now) 0 h (Var depth)))) }
+{
+    let params = any_slot_params(alloc, n)?;
+    let part = Effect::Delete(before(alloc, n, h, Term::Var(depth))?);
+    Ok(Effect::Forall(params, Boxed::new(alloc, part)?))
+}
+
+fn push_clears(
+    alloc: Global,
+    n: &OrderNames,
+    slots: u32,
+    h: Term,
+    into: &mut List<Effect>,
+) -> Result<(), Memory>
+    requires slots { n.now.first_slot + slots < 2 ^ 32 }
+    ensures { OnOk result (into.new ≡ into.old ++ clear_parts (numbers n.now) slots 0 Flat h) }
+{
+    for k in 0..slots {
+        into.push(Effect::Delete(before(alloc, n, h, Term::Obj(n.first_slot + k))?))?;
+    }
+    Ok(())
+}

@@ -1,0 +1,103 @@
+ghost use Rattle.std.specs.Prelude.{◌≡◌, ◌<◌, ◌+◌, ◌^◌, ◌++◌, IfOk, OnOk};
+ghost use Rattle.plan_model.specs.declared.options.Style.TheVariants.{Flat};
+ghost use Rattle.plan_model.specs.declared.terms.Term.TheVariants.{Var};
+ghost use Rattle.plan_model.specs.declared.formulas.Formula.TheVariants.{Holds};
+ghost use Rattle.plan_model.specs.declared.effects.Effect.TheVariants.{Add, Forall, When};
+ghost use Rattle.plan_meaning.specs.OrderFormulas.{pair_of, any_slot, copy_parts};
+ghost use Rattle.order_encoder.specs.Orders.{numbers, copies};
+
+use crate::names::OrderNames;
+use crate::pairs::{any_slot_params, before};
+use htn_base::{Boxed, List, Memory};
+use plan_model::{Effect, Formula, Style, Term};
+use std::alloc::Global;
+
+/// The effect that adds, for each pair that leaves the slot of `h`, the same pair for the slot of `child`, a variable below
+/// `depth` too. Variables and styles are those of `waiting`.
+pub fn copying(
+    alloc: Global,
+    n: &OrderNames,
+    slots: u32,
+    style: &Style,
+    h: Term,
+    child: Term,
+    depth: u32,
+) -> Result<Effect, Memory>
+    requires slots { n.now.first_slot + slots < 2 ^ 32 }
+    ensures effect { IfOk result (λ e. e ≡ copies (numbers n.now) slots depth style.now h child) }
+{
+    match style {
+        Style::Adl => copy_all(alloc, n, h, child, depth),
+        Style::Flat => {
+            let mut parts = List::new(alloc);
+            push_copies(alloc, n, slots, h, child, &mut parts)?;
+            Ok(Effect::And(parts))
+        }
+    }
+}
+
+/// Puts the parts of this effect at the end: one in style adl, one a slot in style flat.
+pub fn push_copying(
+    alloc: Global,
+    n: &OrderNames,
+    slots: u32,
+    style: &Style,
+    h: Term,
+    child: Term,
+    depth: u32,
+    into: &mut List<Effect>,
+) -> Result<(), Memory>
+    requires slots { n.now.first_slot + slots < 2 ^ 32 }
+    ensures parts { OnOk result (into.new ≡ into.old ++ copy_parts (numbers n.now) slots depth style.now h child) }
+{
+    match style {
+        Style::Adl => into.push(copy_all(alloc, n, h, child, depth)?),
+        Style::Flat => push_copies(alloc, n, slots, h, child, into),
+    }
+}
+
+fn copy_all(
+    alloc: Global,
+    n: &OrderNames,
+    h: Term,
+    child: Term,
+    depth: u32,
+) -> Result<Effect, Memory>
+    ensures { IfOk result (λ e. e ≡ Forall (any_slot (numbers n.now) 0) (When (Holds (pair_of (numbers n.now) 0 h (Var depth))) (Add (pair_of (numbers n.now) 0 child (Var depth))))) }
+{
+    let params = any_slot_params(alloc, n)?;
+    let part = copy_one(alloc, n, h, child, Term::Var(depth))?;
+    Ok(Effect::Forall(params, Boxed::new(alloc, part)?))
+}
+
+fn push_copies(
+    alloc: Global,
+    n: &OrderNames,
+    slots: u32,
+    h: Term,
+    child: Term,
+    into: &mut List<Effect>,
+) -> Result<(), Memory>
+    requires slots { n.now.first_slot + slots < 2 ^ 32 }
+    ensures { OnOk result (into.new ≡ into.old ++ copy_parts (numbers n.now) slots 0 Flat h child) }
+{
+    for k in 0..slots {
+        into.push(copy_one(alloc, n, h, child, Term::Obj(n.first_slot + k))?)?;
+    }
+    Ok(())
+}
+
+/// Where the slot of `h` comes before that of `then`, so does the child's.
+fn copy_one(
+    alloc: Global,
+    n: &OrderNames,
+    h: Term,
+    child: Term,
+    then: Term,
+) -> Result<Effect, Memory>
+    ensures { IfOk result (λ e. e ≡ When (Holds (pair_of (numbers n.now) 0 h then)) (Add (pair_of (numbers n.now) 0 child then))) }
+{
+    let pair = Formula::Holds(before(alloc, n, h, then)?);
+    let adds = Effect::Add(before(alloc, n, child, then)?);
+    Ok(Effect::When(pair, Boxed::new(alloc, adds)?))
+}

@@ -1,0 +1,85 @@
+ghost use Rattle.std.specs.Prelude.{◌≡◌, ◌<◌, ◌+◌, ◌^◌, ◌++◌, IfOk, OnOk};
+ghost use Rattle.plan_model.specs.declared.options.Style.TheVariants.{Flat};
+ghost use Rattle.plan_model.specs.declared.terms.Term.TheVariants.{Var};
+ghost use Rattle.plan_model.specs.declared.formulas.Formula.TheVariants.{Holds, Not, Forall};
+ghost use Rattle.plan_meaning.specs.OrderFormulas.{pair_of, any_slot, wait_parts};
+ghost use Rattle.order_encoder.specs.Orders.{numbers, waits};
+
+use crate::names::OrderNames;
+use crate::pairs::{any_slot_params, before};
+use htn_base::{Boxed, List, Memory};
+use plan_model::{Formula, Style, Term};
+use std::alloc::Global;
+
+/// The condition that no slot comes before that of `h`, a variable below `depth`, the number of variables in force. In
+/// style adl a slot is quantified, as variable `depth`; in style flat it is a conjunction of one part a slot.
+pub fn waiting(
+    alloc: Global,
+    n: &OrderNames,
+    slots: u32,
+    style: &Style,
+    h: Term,
+    depth: u32,
+) -> Result<Formula, Memory>
+    requires slots { n.now.first_slot + slots < 2 ^ 32 }
+    ensures formula { IfOk result (λ f. f ≡ waits (numbers n.now) slots depth style.now h) }
+{
+    match style {
+        Style::Adl => wait_for_all(alloc, n, h, depth),
+        Style::Flat => {
+            let mut parts = List::new(alloc);
+            push_waits(alloc, n, slots, h, &mut parts)?;
+            Ok(Formula::And(parts))
+        }
+    }
+}
+
+/// Puts the parts of this condition at the end: one in style adl, one a slot in style flat.
+pub fn push_waiting(
+    alloc: Global,
+    n: &OrderNames,
+    slots: u32,
+    style: &Style,
+    h: Term,
+    depth: u32,
+    into: &mut List<Formula>,
+) -> Result<(), Memory>
+    requires slots { n.now.first_slot + slots < 2 ^ 32 }
+    ensures parts { OnOk result (into.new ≡ into.old ++ wait_parts (numbers n.now) slots depth style.now h) }
+{
+    match style {
+        Style::Adl => into.push(wait_for_all(alloc, n, h, depth)?),
+        Style::Flat => push_waits(alloc, n, slots, h, into),
+    }
+}
+
+fn wait_for_all(alloc: Global, n: &OrderNames, h: Term, depth: u32) -> Result<Formula, Memory>
+    ensures { IfOk result (λ f. f ≡ Forall (any_slot (numbers n.now) 0) (Not (Holds (pair_of (numbers n.now) 0 (Var depth) h)))) }
+{
+    let params = any_slot_params(alloc, n)?;
+    let part = comes_not_before(alloc, n, Term::Var(depth), h)?;
+    Ok(Formula::Forall(params, Boxed::new(alloc, part)?))
+}
+
+fn push_waits(
+    alloc: Global,
+    n: &OrderNames,
+    slots: u32,
+    h: Term,
+    into: &mut List<Formula>,
+) -> Result<(), Memory>
+    requires slots { n.now.first_slot + slots < 2 ^ 32 }
+    ensures { OnOk result (into.new ≡ into.old ++ wait_parts (numbers n.now) slots 0 Flat h) }
+{
+    for k in 0..slots {
+        into.push(comes_not_before(alloc, n, Term::Obj(n.first_slot + k), h)?)?;
+    }
+    Ok(())
+}
+
+fn comes_not_before(alloc: Global, n: &OrderNames, first: Term, h: Term) -> Result<Formula, Memory>
+    ensures { IfOk result (λ f. f ≡ Not (Holds (pair_of (numbers n.now) 0 first h))) }
+{
+    let pair = Formula::Holds(before(alloc, n, first, h)?);
+    Ok(Formula::Not(Boxed::new(alloc, pair)?))
+}
