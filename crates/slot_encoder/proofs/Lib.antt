@@ -1,1 +1,8 @@
-pub mod EachItem
+pub mod Appended
+pub mod Numbered
+pub mod Once
+pub mod GuardTypes
+pub mod Members
+pub mod Splits
+pub mod SingleAtoms
+pub mod PredicateParts

@@ -1,7 +1,8 @@
 ghost use Rattle.std.specs.Prelude.{◌≡◌, ◌++◌, map, IfOk, OnOk};
 ghost use Rattle.plan_meaning.specs.SourceParts as spec;
 
-use crate::words::{Words, renamed};
+use crate::frame::Frame;
+use crate::words::renamed;
 use htn_base::{List, Memory};
 use plan_model::{Atom, Param, Term};
 use std::alloc::Global;
@@ -17,37 +18,45 @@ pub(crate) fn retyped(ty: u32) -> Result<u32, Memory>
     }
 }
 
-pub(crate) fn source_param(
-    alloc: Global,
-    words: &Words<'_>,
-    param: &Param,
-) -> Result<Param, Memory>
-    ensures { IfOk result (λ p. p ≡ spec.source_param words.now.printed.now words.now.source.now param.now) }
+pub(crate) fn source_param(alloc: Global, frame: &Frame<'_>, param: &Param) -> Result<Param, Memory>
+    ensures { IfOk result (λ p. p ≡ spec.source_param frame.now.printed.now frame.now.compiled.now.hddl.names param.now) }
 {
     Ok(Param {
-        name: renamed(alloc, words, param.name)?,
+        name: renamed(alloc, frame, param.name)?,
         ty: retyped(param.ty)?,
     })
 }
 
-#[tactic(auto, using(crate::proofs::EachItem::map_push))]
 pub(crate) fn source_params(
     alloc: Global,
-    words: &Words<'_>,
+    frame: &Frame<'_>,
     params: &[Param],
 ) -> Result<List<Param>, Memory>
-    ensures { IfOk result (λ ps. ps ≡ map (spec.source_param words.now.printed.now words.now.source.now) params.now) }
+    ensures { IfOk result (λ ps. ps ≡ map (spec.source_param frame.now.printed.now frame.now.compiled.now.hddl.names) params.now) }
 {
-    let mut moved = List::new(alloc);
+    let mut into = List::new(alloc);
+    push_params(alloc, frame, params, &mut into)?;
+    Ok(into)
+}
+
+/// Puts these variables of the source at the end.
+pub(crate) fn push_params(
+    alloc: Global,
+    frame: &Frame<'_>,
+    params: &[Param],
+    into: &mut List<Param>,
+) -> Result<(), Memory>
+    ensures { OnOk result (into.new ≡ into.old ++ map (spec.source_param frame.now.printed.now frame.now.compiled.now.hddl.names) params.now) }
+{
     for param in params {
-        moved.push(source_param(alloc, words, param)?)?;
+        into.push(source_param(alloc, frame, param)?)?;
     }
-    Ok(moved)
+    Ok(())
 }
 
 /// A term of the source behind `front` further variables. A number past 2^32 - 1 is answered as want of memory.
-pub(crate) fn moved(words: &Words<'_>, front: u32, term: Term) -> Result<Term, Memory>
-    ensures { IfOk result (λ t. t ≡ spec.moved words.now.printed.now words.now.source.now front term) }
+pub(crate) fn moved(frame: &Frame<'_>, front: u32, term: Term) -> Result<Term, Memory>
+    ensures { IfOk result (λ t. t ≡ spec.moved frame.now.printed.now frame.now.compiled.now.hddl.names front term) }
 {
     match term {
         Term::Var(k) => Ok(Term::Var(front.checked_add(k).ok_or(Memory)?)),
@@ -57,29 +66,29 @@ pub(crate) fn moved(words: &Words<'_>, front: u32, term: Term) -> Result<Term, M
 
 /// Puts these terms, moved, at the end.
 pub(crate) fn push_moved(
-    words: &Words<'_>,
+    frame: &Frame<'_>,
     front: u32,
     terms: &[Term],
     into: &mut List<Term>,
 ) -> Result<(), Memory>
-    ensures { OnOk result (into.new ≡ into.old ++ map (spec.moved words.now.printed.now words.now.source.now front) terms.now) }
+    ensures { OnOk result (into.new ≡ into.old ++ map (spec.moved frame.now.printed.now frame.now.compiled.now.hddl.names front) terms.now) }
 {
     for term in terms {
-        into.push(moved(words, front, *term)?)?;
+        into.push(moved(frame, front, *term)?)?;
     }
     Ok(())
 }
 
 pub(crate) fn source_atom(
     alloc: Global,
-    words: &Words<'_>,
+    frame: &Frame<'_>,
     front: u32,
     atom: &Atom,
 ) -> Result<Atom, Memory>
-    ensures { IfOk result (λ a. a ≡ spec.source_atom words.now.printed.now words.now.source.now front atom.now) }
+    ensures { IfOk result (λ a. a ≡ spec.source_atom frame.now.printed.now frame.now.compiled.now.hddl.names front atom.now) }
 {
     let mut args = List::new(alloc);
-    push_moved(words, front, atom.args.as_slice(), &mut args)?;
+    push_moved(frame, front, atom.args.as_slice(), &mut args)?;
     Ok(Atom {
         predicate: atom.predicate,
         args,

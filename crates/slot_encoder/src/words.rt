@@ -1,24 +1,24 @@
 ghost use Rattle.std.specs.Prelude.{◌≡◌, ◌++◌, decimal, length, IfOk};
 ghost use Rattle.plan_meaning.specs.SourceParts as spec;
 
+use crate::frame::Frame;
 use htn_base::{Memory, Name, NameTable, Text, esc};
 use itoa::Buffer;
 use std::alloc::Global;
 
-/// The words of the printed problem, and those of its source.
-#[derive(Clone, Copy)]
-pub struct Words<'a> {
-    pub printed: &'a NameTable,
-    pub source: &'a NameTable,
+/// The name of a printed word; a number past the end where the table lacks it.
+pub(crate) fn named(frame: &Frame<'_>, word: &[u8]) -> Name
+    ensures { result ≡ spec.name frame.now.printed.now word.now }
+{
+    name_of(frame.printed, word)
 }
 
-/// The name of a printed word; a number past the end where the table lacks it.
-pub(crate) fn named(words: &Words<'_>, word: &[u8]) -> Name
-    ensures { result ≡ spec.name words.now.printed.now word.now }
+pub(crate) fn name_of(printed: &NameTable, word: &[u8]) -> Name
+    ensures { result ≡ spec.name printed.now word.now }
 {
-    match words.printed.find(word) {
+    match printed.find(word) {
         Some(name) => name,
-        None => past_the_end(words.printed),
+        None => past_the_end(printed),
     }
 }
 
@@ -31,55 +31,68 @@ fn past_the_end(names: &NameTable) -> Name
 }
 
 /// The printed word of a source name.
-pub(crate) fn source_word(alloc: Global, words: &Words<'_>, name: Name) -> Result<Text, Memory>
-    ensures { IfOk result (λ text. text ≡ spec.source_word words.now.source.now name) }
+pub(crate) fn own_word(alloc: Global, source: &NameTable, name: Name) -> Result<Text, Memory>
+    ensures { IfOk result (λ text. text ≡ spec.source_word source.now name) }
 {
-    match words.source.text(name) {
+    match source.text(name) {
         Some(word) => esc(alloc, word),
         None => esc(alloc, b""),
     }
 }
 
 /// The name of a source name's printed word.
-pub(crate) fn renamed(alloc: Global, words: &Words<'_>, name: Name) -> Result<Name, Memory>
-    ensures { IfOk result (λ n. n ≡ spec.renamed words.now.printed.now words.now.source.now name) }
+pub(crate) fn renamed(alloc: Global, frame: &Frame<'_>, name: Name) -> Result<Name, Memory>
+    ensures { IfOk result (λ n. n ≡ spec.renamed frame.now.printed.now frame.now.compiled.now.hddl.names name) }
 {
-    let word = source_word(alloc, words, name)?;
-    Ok(named(words, word.as_slice()))
+    let word = own_word(alloc, &frame.compiled.hddl.names, name)?;
+    Ok(named(frame, word.as_slice()))
 }
 
 /// The name of a source name's printed word behind a generated one.
 pub(crate) fn prefixed(
     alloc: Global,
-    words: &Words<'_>,
+    frame: &Frame<'_>,
     prefix: &[u8],
     name: Name,
 ) -> Result<Name, Memory>
-    ensures { IfOk result (λ n. n ≡ spec.name words.now.printed.now (prefix.now ++ spec.source_word words.now.source.now name)) }
+    ensures { IfOk result (λ n. n ≡ spec.name frame.now.printed.now (prefix.now ++ spec.source_word frame.now.compiled.now.hddl.names name)) }
 {
-    let own = source_word(alloc, words, name)?;
-    let word = joined(alloc, prefix, own.as_slice())?;
-    Ok(named(words, word.as_slice()))
+    let word = prefixed_word(alloc, &frame.compiled.hddl.names, prefix, name)?;
+    Ok(named(frame, word.as_slice()))
+}
+
+pub(crate) fn prefixed_word(
+    alloc: Global,
+    source: &NameTable,
+    prefix: &[u8],
+    name: Name,
+) -> Result<Text, Memory>
+    ensures { IfOk result (λ text. text ≡ prefix.now ++ spec.source_word source.now name) }
+{
+    let own = own_word(alloc, source, name)?;
+    let mut text = Text::from_slice(alloc, prefix)?;
+    text.push_all(own.as_slice())?;
+    Ok(text)
 }
 
 /// The name of a generated word with a number behind it.
 pub(crate) fn numbered(
     alloc: Global,
-    words: &Words<'_>,
+    frame: &Frame<'_>,
     prefix: &[u8],
     k: u32,
 ) -> Result<Name, Memory>
-    ensures { IfOk result (λ n. n ≡ spec.name words.now.printed.now (prefix.now ++ decimal k)) }
+    ensures { IfOk result (λ n. n ≡ spec.name frame.now.printed.now (prefix.now ++ decimal k)) }
 {
-    let mut digits = Buffer::new();
-    let word = joined(alloc, prefix, digits.format(k).as_bytes())?;
-    Ok(named(words, word.as_slice()))
+    let word = numbered_word(alloc, prefix, k)?;
+    Ok(named(frame, word.as_slice()))
 }
 
-fn joined(alloc: Global, first: &[u8], second: &[u8]) -> Result<Text, Memory>
-    ensures { IfOk result (λ text. text ≡ first.now ++ second.now) }
+pub(crate) fn numbered_word(alloc: Global, prefix: &[u8], k: u32) -> Result<Text, Memory>
+    ensures { IfOk result (λ text. text ≡ prefix.now ++ decimal k) }
 {
-    let mut text = Text::from_slice(alloc, first)?;
-    text.push_all(second)?;
+    let mut digits = Buffer::new();
+    let mut text = Text::from_slice(alloc, prefix)?;
+    text.push_all(digits.format(k).as_bytes())?;
     Ok(text)
 }
