@@ -1,0 +1,83 @@
+-- Lists that are made along numbers, or along a list and numbers at once.
+use Rattle.std.proofs.Common.{ℕ, zero, suc, ◌≡◌, ◌+◌, ◌-◌, ◌<◌, ◌≤◌, Bool, true, false, cond, List, [], ◌∷◌, ◌++◌, map, filter, take, drop, length, get_or, refl, ap, sym, subst, ◌∙◌, arith, append_assoc, Option}
+use Rattle.std.proofs.lemmas.List.{append-nil, length_push}
+use Rattle.std.proofs.lemmas.List.Elements.{filter_more}
+use Rattle.plan_model.specs.declared.schemas.MethodPlan.{MethodPlan}
+use Rattle.slot_encoder.specs.Pieces.{with_check}
+use Rattle.task_networks.specs.Spelling.{numbers, is_heir}
+use Rattle.plan_model.specs.declared.terms.Term.TheVariants.{Var}
+use Rattle.plan_model.specs.declared.formulas.Formula.{Formula}
+use Rattle.plan_model.specs.declared.formulas.Formula.TheVariants.{Not, Equal}
+use Rattle.plan_meaning.specs.EncodedActions.{slot_vars, differ}
+
+drop_next : {X : Type 0} (xs : List X) (i : ℕ) (d : X) → i < length xs → drop i xs ≡ get_or xs i d ∷ drop (i + 1) xs
+drop_next [] i d l = absurd (omega arith)
+drop_next (x ∷ xs) zero d l = refl
+drop_next (x ∷ xs) (suc i) d l = drop_next xs i d (omega arith) ∙ ap (λ k. get_or xs i d ∷ drop k (x ∷ xs)) (let e : suc (i + 1) ≡ suc i + 1 = omega arith in e)
+
+pub drop_past : {X : Type 0} (xs : List X) (i : ℕ) → length xs ≤ i → drop i xs ≡ []
+drop_past [] zero l = refl
+drop_past [] (suc i) l = refl
+drop_past (x ∷ xs) zero l = absurd (omega arith)
+drop_past (x ∷ xs) (suc i) l = drop_past xs i (omega arith)
+
+-- F makes a list from the number of the first item and the items; h gives the part of one item
+module _ {X Y : Type 0} (F : ℕ → List X → List Y) (h : ℕ → X → List Y) (first : (m : ℕ) (x : X) (xs : List X) → F m (x ∷ xs) ≡ h m x ++ F (suc m) xs) (none : (m : ℕ) → F m [] ≡ []) where
+  pub along_next : (xs : List X) (i : ℕ) (d : X) (old now new : List Y) → i < length xs → now ++ F i (drop i xs) ≡ old → new ≡ now ++ h i (get_or xs i d) → new ++ F (i + 1) (drop (i + 1) xs) ≡ old
+  along_next xs i d old now new l e g =
+      ap (λ z. z ++ F (i + 1) (drop (i + 1) xs)) g ∙ append_assoc now (h i (get_or xs i d)) (F (i + 1) (drop (i + 1) xs))
+      ∙ ap (λ k. now ++ (h i (get_or xs i d) ++ F k (drop (i + 1) xs))) (let k : i + 1 ≡ suc i = omega arith in k)
+      ∙ ap (λ z. now ++ z) (sym (first i (get_or xs i d) (drop (i + 1) xs))) ∙ ap (λ z. now ++ F i z) (sym (drop_next xs i d l)) ∙ e
+
+  pub along_all : (xs : List X) (i : ℕ) (old now : List Y) → length xs ≤ i → now ++ F i (drop i xs) ≡ old → now ≡ old
+  along_all xs i old now l e = sym (append-nil now) ∙ ap (λ z. now ++ z) (sym (ap (F i) (drop_past xs i l) ∙ none i)) ∙ e
+
+-- the slots of the children from number i on, k of them
+slots_step : (heir : Option ℕ) (i new k : ℕ) → slot_vars heir i new (suc k) ≡ cond (is_heir heir i) 0 new ∷ slot_vars heir (i + 1) (cond (is_heir heir i) new (new + 1)) k
+slots_step heir i new k = go (is_heir heir i)
+  where
+    go : (b : Bool) → cond b (0 ∷ slot_vars heir (suc i) new k) (new ∷ slot_vars heir (suc i) (suc new) k) ≡ cond b 0 new ∷ slot_vars heir (i + 1) (cond b new (new + 1)) k
+    go true = ap (λ j. 0 ∷ slot_vars heir j new k) (let e : suc i ≡ i + 1 = omega arith in e)
+    go false = ap (λ j. new ∷ slot_vars heir j (suc new) k) (let e : suc i ≡ i + 1 = omega arith in e) ∙ ap (λ j. new ∷ slot_vars heir (i + 1) j k) (let e : suc new ≡ new + 1 = omega arith in e)
+
+pub slots_next : (heir : Option ℕ) (i new n : ℕ) (old now next : List ℕ) (then : ℕ) → i < n → now ++ slot_vars heir i new (n - i) ≡ old
+    → next ≡ now ++ cond (is_heir heir i) 0 new ∷ [] → then ≡ cond (is_heir heir i) new (new + 1) → next ++ slot_vars heir (i + 1) then (n - (i + 1)) ≡ old
+slots_next heir i new n old now next then l e g h =
+    ap (λ z. z ++ slot_vars heir (i + 1) then (n - (i + 1))) g
+    ∙ append_assoc now (cond (is_heir heir i) 0 new ∷ []) (slot_vars heir (i + 1) then (n - (i + 1)))
+    ∙ ap (λ t. now ++ (cond (is_heir heir i) 0 new ∷ slot_vars heir (i + 1) t (n - (i + 1)))) h
+    ∙ ap (λ z. now ++ z) (sym (slots_step heir i new (n - (i + 1))))
+    ∙ ap (λ k. now ++ slot_vars heir i new k) (let k : suc (n - (i + 1)) ≡ n - i = omega arith in k)
+    ∙ e
+
+-- a slot differs from those after it
+abbrev pub unequal_to : ℕ → ℕ → Formula
+unequal_to v u = Not (Equal (Var v) (Var u))
+
+pub differ_next : (i n : ℕ) (old now next : List Formula) → i < n → now ++ differ (numbers (1 + i) (n - i)) ≡ old
+    → next ≡ now ++ map (unequal_to (1 + i)) (numbers (i + 2) (n - 1 - i)) → next ++ differ (numbers (1 + (i + 1)) (n - (i + 1))) ≡ old
+differ_next i n old now next l e g =
+    let m = n - 1 - i in
+    ap (λ z. z ++ differ (numbers (1 + (i + 1)) (n - (i + 1)))) g
+    ∙ append_assoc now (map (unequal_to (1 + i)) (numbers (i + 2) m)) (differ (numbers (1 + (i + 1)) (n - (i + 1))))
+    ∙ ap (λ k. now ++ (map (unequal_to (1 + i)) (numbers k m) ++ differ (numbers (1 + (i + 1)) (n - (i + 1))))) (let k : i + 2 ≡ suc (1 + i) = omega arith in k)
+    ∙ ap (λ k. now ++ (map (unequal_to (1 + i)) (numbers (suc (1 + i)) m) ++ differ (numbers k (n - (i + 1))))) (let k : 1 + (i + 1) ≡ suc (1 + i) = omega arith in k)
+    ∙ ap (λ k. now ++ (map (unequal_to (1 + i)) (numbers (suc (1 + i)) m) ++ differ (numbers (suc (1 + i)) k))) (let k : n - (i + 1) ≡ n - 1 - i = omega arith in k)
+    ∙ ap (λ k. now ++ differ (numbers (1 + i) k)) (let k : suc (n - 1 - i) ≡ n - i = omega arith in k)
+    ∙ e
+
+-- the number of the next check
+pub check_next : (first : ℕ) (xs : List MethodPlan) (i : ℕ) (x : MethodPlan) (now next : ℕ) → i < length xs → x ≡ get_or xs i x → now ≡ first + length (filter (λ (plan : MethodPlan). plan.checked) (take i xs))
+    → next ≡ with_check x now → next ≡ first + length (filter (λ (plan : MethodPlan). plan.checked) (take (i + 1) xs))
+check_next first xs i x now next l e g h =
+    h ∙ go x.checked ∙ ap (λ (y : MethodPlan). first + length (before ++ cond y.checked (y ∷ []) [])) e ∙ ap (λ ys. first + length ys) (sym (filter_more (λ (plan : MethodPlan). plan.checked) xs i x l))
+  where
+    before : List MethodPlan
+    before = filter (λ (plan : MethodPlan). plan.checked) (take i xs)
+
+    more : length (before ++ x ∷ []) ≡ length before + 1
+    more = length_push before x
+
+    go : (b : Bool) → cond b (now + 1) now ≡ first + length (before ++ cond b (x ∷ []) [])
+    go true = let k = more in omega (arith, g, k)
+    go false = g ∙ ap (λ ys. first + length ys) (sym (append-nil before))

@@ -1,0 +1,18 @@
+use Rattle.std.proofs.Common.{◌≡◌, ◌+◌, ◌-◌, ◌++◌, ℕ, List, [], ◌∷◌, map, take, drop, filter, length, codes, refl, ap, sym, subst, ◌∙◌, arith}
+use Rattle.plan_meaning.specs.EncodedValue as spec
+use Rattle.plan_meaning.specs.EncodedNames.{first_check}
+use Rattle.plan_meaning.specs.EncodedActions.{encoded_method}
+use Rattle.slot_encoder.proofs.Numbered.{along_next, check_next}
+use Rattle.slot_encoder.proofs.actions.push_methods.Goals as goal
+
+pub loop-plan-preserved : goal.loop-plan-preserved
+loop-plan-preserved c =
+    let xs = c.args.methods.now in
+    let i = c.loop-plan.plan-index in
+    let x = c.plan-item.result in
+    record {
+      m = omega arith;
+      check = check_next (first_check c.args.frame.now.compiled.now) xs i x c.loop-plan.check c.in_ok-check.check c.loop-plan-test.true c.plan-item.is c.loop-plan.invariant.check c.in_ok-check.ensures;
+      into = along_next (spec.encoded_methods c.args.frame.now.compiled.now c.args.frame.now.printed.now c.args.frame.now.slots c.args.frame.now.style) (λ m plan. encoded_method c.args.frame.now.compiled.now c.args.frame.now.printed.now c.args.frame.now.slots c.args.frame.now.style m plan ∷ []) (λ m y ys. refl) (λ m. refl) xs i x (c.args.into.now ++ spec.encoded_methods c.args.frame.now.compiled.now c.args.frame.now.printed.now c.args.frame.now.slots c.args.frame.now.style 0 c.args.methods.now) c.loop-plan.into c.push.new.self c.loop-plan-test.true c.loop-plan.invariant.into
+          (c.in_ok-push.ensures.pushed ∙ ap (λ y. c.loop-plan.into ++ y ∷ []) (c.in_ok-encoded_method.ensures ∙ (ap (λ k. encoded_method c.args.frame.now.compiled.now c.args.frame.now.printed.now c.args.frame.now.slots c.args.frame.now.style k x) c.loop-plan.invariant.m ∙ ap (λ p. encoded_method c.args.frame.now.compiled.now c.args.frame.now.printed.now c.args.frame.now.slots c.args.frame.now.style i p) c.plan-item.is)));
+    }

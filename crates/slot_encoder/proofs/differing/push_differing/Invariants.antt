@@ -1,0 +1,7 @@
+use Rattle.std.proofs.Common.{◌≡◌, ◌+◌, ◌-◌, ◌++◌, ℕ, [], ◌∷◌, map, take, drop, filter, length, codes}
+use Rattle.task_networks.specs.Spelling.{numbers}
+use Rattle.plan_meaning.specs.EncodedActions.{differ}
+use Rattle.slot_encoder.proofs.differing.push_differing.Given as goal
+
+abbrev pub invariant-loop-i : goal.invariant-loop-i
+invariant-loop-i l = l.into ++ differ (numbers (1 + l.i) (l.spare - l.i)) ≡ l.initial.into ++ differ (numbers 1 l.spare)

@@ -1,0 +1,7 @@
+use Rattle.std.proofs.Common.{◌≡◌, ◌+◌, ◌-◌, ◌++◌, ℕ, [], ◌∷◌, map, take, drop, filter, length, codes}
+use Rattle.task_networks.specs.Spelling.{numbers}
+use Rattle.slot_encoder.proofs.Numbered.{unequal_to}
+use Rattle.slot_encoder.proofs.differing.push_unequal.Given as goal
+
+abbrev pub invariant-loop-k : goal.invariant-loop-k
+invariant-loop-k l = l.into ≡ l.initial.into ++ map (unequal_to l.slot) (numbers l.first l.k)

@@ -1,0 +1,7 @@
+use Rattle.std.proofs.Common.{◌≡◌, ◌+◌, ◌-◌, ◌++◌, ℕ, [], ◌∷◌, map, take, drop, filter, length, codes}
+use Rattle.task_networks.specs.Spelling.{numbers}
+use Rattle.slot_encoder.specs.Pieces.{slot_atom}
+use Rattle.slot_encoder.proofs.initial.push_free.Given as goal
+
+abbrev pub invariant-loop-k : goal.invariant-loop-k
+invariant-loop-k l = l.into ≡ l.initial.into ++ map (slot_atom l.frame.compiled.now) (numbers 1 l.k)

@@ -1,0 +1,16 @@
+use Rattle.std.proofs.Common.{◌≡◌, ◌+◌, ◌-◌, ◌++◌, ℕ, List, [], ◌∷◌, map, take, drop, filter, length, codes, refl, ap, sym, subst, ◌∙◌, arith}
+use Rattle.task_networks.specs.Spelling.{numbers}
+use Rattle.plan_meaning.specs.SourceParts as parts
+use Rattle.plan_model.specs.declared.formulas.Formula.TheVariants as F
+use Rattle.plan_model.specs.declared.effects.Effect.TheVariants as E
+use Rattle.slot_encoder.specs.Pieces.{new_slot}
+use Rattle.plan_meaning.specs.EncodedNames.{slot_param}
+use Rattle.slot_encoder.proofs.Splits.{same_action, method_change-at}
+use Rattle.slot_encoder.proofs.methods.encoded_method.Goals as goal
+
+pub returns : goal.returns
+returns c =
+    same_action c.in_ok-name.name _ c.in_ok-params.params _ _ _ _ _ c.in_ok-name.ensures
+    c.in_ok-params.ensures
+    (ap F.And c.in_ok-conditions.ensures)
+    (ap E.And (c.in_ok-effects.ensures ∙ method_change-at c.args.frame.now.compiled.now c.args.frame.now.printed.now c.args.frame.now.slots c.args.frame.now.style c.args.m c.args.plan.now c.args.check c.args.plan.now.schema.children c.requires.check))

@@ -1,0 +1,6 @@
+use Rattle.std.proofs.Common.{◌≡◌, ◌+◌, ◌-◌, ◌++◌, ℕ, [], ◌∷◌, map, take, drop, filter, length, codes}
+use Rattle.slot_encoder.specs.Pieces.{action_held}
+use Rattle.slot_encoder.proofs.predicates.push_actions.Given as goal
+
+abbrev pub invariant-loop-action : goal.invariant-loop-action
+invariant-loop-action l = l.into ≡ l.initial.into ++ map (action_held l.frame.compiled.now l.frame.printed.now) (take l.action-index l.actions)

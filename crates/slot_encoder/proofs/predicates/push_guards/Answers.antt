@@ -1,0 +1,7 @@
+use Rattle.std.proofs.Common.{◌≡◌, ◌+◌, ◌-◌, ◌++◌, ℕ, List, [], ◌∷◌, map, take, drop, filter, length, codes, refl, ap, sym, subst, ◌∙◌, arith}
+use Rattle.slot_encoder.specs.Pieces.{guard_tested}
+use Rattle.slot_encoder.proofs.Appended.{map_next}
+use Rattle.slot_encoder.proofs.predicates.push_guards.Goals as goal
+
+pub loop-ty-preserved : goal.loop-ty-preserved
+loop-ty-preserved c = map_next (guard_tested c.args.frame.now.compiled.now c.args.frame.now.printed.now) c.args.types.now c.loop-ty.ty-index _ c.args.into.now c.loop-ty.into c.push.new.self _ c.loop-ty-test.true c.loop-ty.invariant c.in_ok-guard.ensures c.in_ok-push.ensures.pushed

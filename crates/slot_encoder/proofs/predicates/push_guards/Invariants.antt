@@ -1,0 +1,6 @@
+use Rattle.std.proofs.Common.{◌≡◌, ◌+◌, ◌-◌, ◌++◌, ℕ, [], ◌∷◌, map, take, drop, filter, length, codes}
+use Rattle.slot_encoder.specs.Pieces.{guard_tested}
+use Rattle.slot_encoder.proofs.predicates.push_guards.Given as goal
+
+abbrev pub invariant-loop-ty : goal.invariant-loop-ty
+invariant-loop-ty l = l.into ≡ l.initial.into ++ map (guard_tested l.frame.compiled.now l.frame.printed.now) (take l.ty-index l.types)

@@ -1,0 +1,15 @@
+use Rattle.std.proofs.Common.{◌≡◌, ◌+◌, ◌-◌, ◌++◌, ℕ, [], ◌∷◌, map, take, drop, filter, length, codes}
+use Rattle.std.specs.HashSet.{contains}
+use Rattle.std.specs.declared.vec.Vec.{Vec}
+use Rattle.plan_model.specs.declared.terms.GroundAtom.{GroundAtom}
+use Rattle.plan_meaning.specs.Compilation.{once}
+use Rattle.plan_meaning.specs.EncodedValue.{same_atom}
+use Rattle.slot_encoder.proofs.Once.{has}
+use Rattle.slot_encoder.proofs.SingleAtoms.{same_key}
+use Rattle.slot_encoder.proofs.single.push_single.Given as goal
+
+abbrev pub invariant-loop-atom : goal.invariant-loop-atom
+invariant-loop-atom l = record {
+  seen : (g : GroundAtom) (v : Vec ℕ _) → v.items ≡ g.predicate ∷ g.args → contains same_key l.seen v ≡ has same_atom g (take l.atom-index l.atoms);
+  into : l.into ≡ l.initial.into ++ once same_atom (take l.atom-index l.atoms);
+}

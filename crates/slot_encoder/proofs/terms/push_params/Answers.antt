@@ -1,0 +1,7 @@
+use Rattle.std.proofs.Common.{◌≡◌, ◌+◌, ◌-◌, ◌++◌, ℕ, List, [], ◌∷◌, map, take, drop, filter, length, codes, refl, ap, sym, subst, ◌∙◌, arith}
+use Rattle.plan_meaning.specs.SourceParts as parts
+use Rattle.slot_encoder.proofs.Appended.{map_next}
+use Rattle.slot_encoder.proofs.terms.push_params.Goals as goal
+
+pub loop-param-preserved : goal.loop-param-preserved
+loop-param-preserved c = map_next (parts.source_param c.args.frame.now.printed.now c.args.frame.now.compiled.now.hddl.names) c.args.params.now c.loop-param.param-index _ c.args.into.now c.loop-param.into c.push.new.self _ c.loop-param-test.true c.loop-param.invariant c.in_ok-source_param.ensures c.in_ok-push.ensures.pushed

@@ -1,0 +1,6 @@
+use Rattle.std.proofs.Common.{◌≡◌, ◌+◌, ◌-◌, ◌++◌, ℕ, [], ◌∷◌, map, take, drop, filter, length, codes}
+use Rattle.plan_meaning.specs.SourceParts as parts
+use Rattle.slot_encoder.proofs.types.unions.Given as goal
+
+abbrev pub invariant-loop-types : goal.invariant-loop-types
+invariant-loop-types l = l.into ≡ map (map parts.retyped) (take l.types-index l.unions)

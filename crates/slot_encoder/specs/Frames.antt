@@ -1,0 +1,50 @@
+-- What all parts of the printed problem are made from.
+-- Source: this project's encoding, after Alford et al., "Bound to Plan", ICAPS 2016.
+use Rattle.std.specs.Prelude.{ℕ, suc, ◌+◌, ◌-◌, ◌<◌, ◌^◌, ◌≡◌, List, length}
+use Rattle.plan_model.specs.declared.values.Compiled.{Compiled}
+use Rattle.plan_model.specs.declared.schemas.MethodPlan.{MethodPlan}
+use Rattle.plan_meaning.specs.EncodedNames as spec
+use Rattle.plan_meaning.specs.EncodedActions.{slot_vars}
+use Rattle.order_encoder.specs.Orders as orders
+use Rattle.plan_model.specs.declared.options.Style.{Style}
+use Rattle.plan_meaning.specs.SourceParts.{renamed}
+use Rattle.plan_meaning.specs.EncodedValue.{encoded_actions, IsInitial}
+use Rattle.slot_encoder.specs.Pieces.{encoded_goal}
+use Rattle.slot_encoder.specs.declared.encoding.Encoded.{Encoded}
+use Rattle.slot_encoder.specs.declared.frame.Frame.{Frame}
+use Rattle.slot_encoder.specs.declared.numbers.Numbers.{Numbers}
+use Rattle.slot_encoder.specs.declared.variables.Variables.{Variables}
+
+-- the numbers of the generated predicates
+pub record AreNumbers (c : Compiled) (n : Numbers) : Type 0 where
+  pub top : n.top ≡ spec.top_predicate c
+  pub free : n.free ≡ spec.free_predicate c
+  pub before : n.before ≡ spec.before_predicate c
+  pub first_task : n.first_task ≡ spec.first_task c
+  pub first_action : n.first_action ≡ spec.first_action c
+  pub first_check : n.first_check ≡ spec.first_check c
+  pub first_guard : n.first_guard ≡ spec.first_guard c
+
+pub record IsFrame (f : Frame) : Type 0 where
+  pub numbers : AreNumbers f.compiled.now f.numbers
+  pub guard_types : f.guard_types.now ≡ spec.guard_types f.compiled.now
+  pub order : orders.numbers f.order ≡ spec.order_numbers f.compiled.now f.printed.now f.slots
+  pub room : f.order.first_slot + f.slots < 2 ^ 32
+
+-- the new slots of a method's action, the variables before its parameters, all its variables, and the slots of its children
+pub record AreVariables (plan : MethodPlan) (v : Variables) : Type 0 where
+  pub spare : v.spare ≡ length plan.schema.children - 1
+  pub front : v.front ≡ suc (length plan.schema.children - 1)
+  pub depth : v.depth ≡ suc (length plan.schema.children - 1) + length plan.schema.params
+  pub slots : v.slots ≡ slot_vars plan.heir 0 1 (length plan.schema.children)
+
+-- the parts of the printed problem, at these words
+pub record AreEncoded (c : Compiled) (names : List (List ℕ)) (b : ℕ) (style : Style) (v : Encoded) : Type 0 where
+  pub domain : v.domain ≡ renamed names c.hddl.names c.hddl.domain
+  pub problem : v.problem ≡ renamed names c.hddl.names c.hddl.problem
+  pub types : v.types ≡ spec.encoded_types c names b
+  pub objects : v.objects ≡ spec.encoded_objects c names b
+  pub predicates : v.predicates ≡ spec.encoded_predicates c names b
+  pub actions : v.actions ≡ encoded_actions c names b style
+  pub init : IsInitial c names b style v.init
+  pub goal : v.goal ≡ encoded_goal c names b style

@@ -1,0 +1,105 @@
+ghost use Rattle.std.specs.Prelude.{◌≡◌, ◌++◌, ◌∷◌, [], ℕ, IfOk, OnOk};
+ghost use Rattle.plan_meaning.specs.EncodedNames as names;
+ghost use Rattle.plan_meaning.specs.EncodedValue as spec;
+ghost use Rattle.slot_encoder.specs.Frames.{IsFrame};
+ghost use Rattle.slot_encoder.specs.Pieces.{check_action, if_checked};
+
+use crate::frame::Frame;
+use crate::methods::encoded_method;
+use crate::numbers::{after, plus};
+use crate::works::{encoded_action, encoded_check};
+use htn_base::{List, Memory};
+use plan_model::{ActionSchema, MethodPlan};
+use std::alloc::Global;
+
+/// The actions: of the methods, the top method first, of the checks, of the source actions.
+pub(crate) fn encoded_actions(
+    alloc: Global,
+    frame: &Frame<'_>,
+) -> Result<List<ActionSchema>, Memory>
+    requires { IsFrame frame.now }
+    ensures { IfOk result (λ actions. actions ≡ spec.encoded_actions frame.now.compiled.now frame.now.printed.now frame.now.slots frame.now.style) }
+{
+    let methods = frame.compiled.methods.as_slice();
+    let mut into = List::new(alloc);
+    push_methods(alloc, frame, methods, &mut into)?;
+    push_checks(alloc, frame, methods, &mut into)?;
+    push_source(
+        alloc,
+        frame,
+        frame.compiled.hddl.actions.as_slice(),
+        &mut into,
+    )?;
+    Ok(into)
+}
+
+fn push_methods(
+    alloc: Global,
+    frame: &Frame<'_>,
+    methods: &[MethodPlan],
+    into: &mut List<ActionSchema>,
+) -> Result<(), Memory>
+    requires frame { IsFrame frame.now }
+    requires methods { methods.now ≡ frame.now.compiled.now.methods }
+    ensures { OnOk result (into.new ≡ into.old ++ spec.encoded_methods frame.now.compiled.now frame.now.printed.now frame.now.slots frame.now.style 0 methods.now) }
+{
+    let mut m: u32 = 0;
+    let mut check = frame.numbers.first_check;
+    for plan in methods {
+        into.push(encoded_method(alloc, frame, m, check, plan)?)?;
+        m = plus(m, 1)?;
+        check = after(plan, check)?;
+    }
+    Ok(())
+}
+
+fn push_checks(
+    alloc: Global,
+    frame: &Frame<'_>,
+    methods: &[MethodPlan],
+    into: &mut List<ActionSchema>,
+) -> Result<(), Memory>
+    requires frame { IsFrame frame.now }
+    requires methods { methods.now ≡ frame.now.compiled.now.methods }
+    ensures { OnOk result (into.new ≡ into.old ++ spec.encoded_checks frame.now.compiled.now frame.now.printed.now frame.now.slots frame.now.style 0 methods.now) }
+{
+    let mut check = frame.numbers.first_check;
+    for plan in methods {
+        push_check(alloc, frame, check, plan, into)?;
+        check = after(plan, check)?;
+    }
+    Ok(())
+}
+
+fn push_check(
+    alloc: Global,
+    frame: &Frame<'_>,
+    check: u32,
+    plan: &MethodPlan,
+    into: &mut List<ActionSchema>,
+) -> Result<(), Memory>
+    requires { IsFrame frame.now }
+    ensures { OnOk result (into.new ≡ into.old ++ if_checked plan.now (check_action frame.now.compiled.now frame.now.printed.now frame.now.slots frame.now.style check plan.now)) }
+{
+    if plan.checked {
+        into.push(encoded_check(alloc, frame, check, plan)?)?;
+    }
+    Ok(())
+}
+
+fn push_source(
+    alloc: Global,
+    frame: &Frame<'_>,
+    actions: &[ActionSchema],
+    into: &mut List<ActionSchema>,
+) -> Result<(), Memory>
+    requires { IsFrame frame.now }
+    ensures { OnOk result (into.new ≡ into.old ++ spec.encoded_source frame.now.compiled.now frame.now.printed.now frame.now.slots frame.now.style 0 actions.now) }
+{
+    let mut a: u32 = 0;
+    for action in actions {
+        into.push(encoded_action(alloc, frame, a, action)?)?;
+        a = plus(a, 1)?;
+    }
+    Ok(())
+}

@@ -1,0 +1,115 @@
+ghost use Rattle.std.specs.Prelude.{◌≡◌, ◌++◌, cond, [], OnOk};
+ghost use Rattle.plan_meaning.specs.EncodedActions as spec;
+ghost use Rattle.slot_encoder.specs.Frames.{IsFrame};
+ghost use Rattle.slot_encoder.specs.Pieces.{cleared};
+
+use crate::effects::source_effect;
+use crate::formulas::source_formula;
+use crate::frame::Frame;
+use htn_base::{List, Memory};
+use order_encoder::{push_clearing, push_waiting};
+use plan_model::{Effect, Formula, Term};
+use std::alloc::Global;
+
+/// Puts a source condition at the end, but no empty conjunction.
+pub(crate) fn push_condition(
+    alloc: Global,
+    frame: &Frame<'_>,
+    front: u32,
+    condition: &Formula,
+    into: &mut List<Formula>,
+) -> Result<(), Memory>
+    ensures { OnOk result (into.new ≡ into.old ++ spec.source_condition frame.now.compiled.now frame.now.printed.now frame.now.slots frame.now.style front condition.now) }
+{
+    if !is_empty(condition) {
+        into.push(source_formula(alloc, frame, front, condition)?)?;
+    }
+    Ok(())
+}
+
+fn is_empty(condition: &Formula) -> bool
+    ensures { result ≡ spec.is_empty condition.now }
+{
+    match condition {
+        Formula::Holds(_) => false,
+        Formula::Equal(_, _) => false,
+        Formula::Not(_) => false,
+        Formula::And(parts) => parts.len() == 0,
+        Formula::Or(_) => false,
+        Formula::Imply(_, _) => false,
+        Formula::Forall(_, _) => false,
+        Formula::Exists(_, _) => false,
+    }
+}
+
+/// Puts a source effect at the end, but no empty conjunction.
+pub(crate) fn push_change(
+    alloc: Global,
+    frame: &Frame<'_>,
+    front: u32,
+    effect: &Effect,
+    into: &mut List<Effect>,
+) -> Result<(), Memory>
+    ensures { OnOk result (into.new ≡ into.old ++ spec.source_change frame.now.compiled.now frame.now.printed.now frame.now.slots frame.now.style front effect.now) }
+{
+    if !is_empty_effect(effect) {
+        into.push(source_effect(alloc, frame, front, effect)?)?;
+    }
+    Ok(())
+}
+
+fn is_empty_effect(effect: &Effect) -> bool
+    ensures { result ≡ spec.is_empty_effect effect.now }
+{
+    match effect {
+        Effect::Add(_) => false,
+        Effect::Delete(_) => false,
+        Effect::And(parts) => parts.len() == 0,
+        Effect::Forall(_, _) => false,
+        Effect::When(_, _) => false,
+    }
+}
+
+/// Puts at the end that no slot comes before the first variable's.
+pub(crate) fn push_waits(
+    alloc: Global,
+    frame: &Frame<'_>,
+    depth: u32,
+    into: &mut List<Formula>,
+) -> Result<(), Memory>
+    requires { IsFrame frame.now }
+    ensures { OnOk result (into.new ≡ into.old ++ spec.waiting frame.now.compiled.now frame.now.printed.now frame.now.slots frame.now.style depth) }
+{
+    push_waiting(
+        alloc,
+        &frame.order,
+        frame.slots,
+        &frame.style,
+        Term::Var(0),
+        depth,
+        into,
+    )?;
+    Ok(())
+}
+
+/// Puts at the end that the pairs which leave the first variable's slot go.
+pub(crate) fn push_clears(
+    alloc: Global,
+    frame: &Frame<'_>,
+    depth: u32,
+    into: &mut List<Effect>,
+) -> Result<(), Memory>
+    requires { IsFrame frame.now }
+    ensures { OnOk result (into.new ≡ into.old ++ cleared frame.now.compiled.now frame.now.printed.now frame.now.slots frame.now.style depth) }
+{
+    push_clearing(
+        alloc,
+        &frame.order,
+        frame.slots,
+        &frame.style,
+        Term::Var(0),
+        depth,
+        into,
+    )?;
+    Ok(())
+}

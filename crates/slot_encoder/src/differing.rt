@@ -1,0 +1,48 @@
+ghost use Rattle.std.specs.Prelude.{◌≡◌, ◌+◌, ◌≤◌, ◌^◌, ◌++◌, map, IfOk, OnOk};
+ghost use Rattle.plan_model.specs.declared.terms.Term.TheVariants as T;
+ghost use Rattle.plan_model.specs.declared.formulas.Formula.TheVariants as F;
+ghost use Rattle.task_networks.specs.Spelling.{numbers};
+ghost use Rattle.plan_meaning.specs.EncodedActions.{differ};
+
+use crate::numbers::plus;
+use htn_base::{Boxed, List, Memory};
+use plan_model::{Formula, Term};
+use std::alloc::Global;
+
+/// Puts at the end that each two of the new slots differ.
+pub(crate) fn push_differing(
+    alloc: Global,
+    spare: u32,
+    into: &mut List<Formula>,
+) -> Result<(), Memory>
+    ensures { OnOk result (into.new ≡ into.old ++ differ (numbers 1 spare)) }
+{
+    for i in 0..spare {
+        push_unequal(alloc, 1 + i, plus(i, 2)?, spare - 1 - i, into)?;
+    }
+    Ok(())
+}
+
+/// Puts at the end that the slot differs from so many others.
+fn push_unequal(
+    alloc: Global,
+    slot: u32,
+    first: u32,
+    count: u32,
+    into: &mut List<Formula>,
+) -> Result<(), Memory>
+    requires { first + count ≤ 2 ^ 32 }
+    ensures { OnOk result (into.new ≡ into.old ++ map (λ u. F.Not (F.Equal (T.Var slot) (T.Var u))) (numbers first count)) }
+{
+    for k in 0..count {
+        into.push(unequal(alloc, slot, first + k)?)?;
+    }
+    Ok(())
+}
+
+fn unequal(alloc: Global, slot: u32, other: u32) -> Result<Formula, Memory>
+    ensures { IfOk result (λ f. f ≡ F.Not (F.Equal (T.Var slot) (T.Var other))) }
+{
+    let equal = Formula::Equal(Term::Var(slot), Term::Var(other));
+    Ok(Formula::Not(Boxed::new(alloc, equal)?))
+}

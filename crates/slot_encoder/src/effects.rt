@@ -1,0 +1,64 @@
+ghost use Rattle.std.specs.Prelude.{◌≡◌, map, IfOk};
+ghost use Rattle.plan_meaning.specs.SourceParts as spec;
+
+use crate::formulas::source_formula;
+use crate::frame::Frame;
+use crate::terms::{source_atom, source_params};
+use htn_base::{Boxed, List, Memory};
+use plan_model::Effect;
+use std::alloc::Global;
+
+/// An effect of the source as it stands in the printed problem, behind `front` further variables.
+#[cycle(effects)]
+pub(crate) fn source_effect(
+    alloc: Global,
+    frame: &Frame<'_>,
+    front: u32,
+    effect: &Effect,
+) -> Result<Effect, Memory>
+    ensures { IfOk result (λ e. e ≡ spec.source_effect frame.now.printed.now frame.now.compiled.now.hddl.names front effect.now) }
+{
+    match effect {
+        Effect::Add(atom) => Ok(Effect::Add(source_atom(alloc, frame, front, atom)?)),
+        Effect::Delete(atom) => Ok(Effect::Delete(source_atom(alloc, frame, front, atom)?)),
+        Effect::And(parts) => Ok(Effect::And(listed(alloc, frame, front, parts)?)),
+        Effect::Forall(params, body) => {
+            let params = source_params(alloc, frame, params.as_slice())?;
+            Ok(Effect::Forall(params, boxed(alloc, frame, front, body)?))
+        }
+        Effect::When(condition, body) => {
+            let condition = source_formula(alloc, frame, front, condition)?;
+            Ok(Effect::When(condition, boxed(alloc, frame, front, body)?))
+        }
+    }
+}
+
+#[cycle(effects)]
+fn boxed(
+    alloc: Global,
+    frame: &Frame<'_>,
+    front: u32,
+    effect: &Boxed<Effect>,
+) -> Result<Boxed<Effect>, Memory>
+    ensures { IfOk result (λ e. e ≡ spec.source_effect frame.now.printed.now frame.now.compiled.now.hddl.names front effect.now) }
+{
+    let part = source_effect(alloc, frame, front, effect.get())?;
+    Boxed::new(alloc, part)
+}
+
+#[cycle(effects)]
+fn listed(
+    alloc: Global,
+    frame: &Frame<'_>,
+    front: u32,
+    effects: &List<Effect>,
+) -> Result<List<Effect>, Memory>
+    ensures { IfOk result (λ es. es ≡ map (spec.source_effect frame.now.printed.now frame.now.compiled.now.hddl.names front) effects.now) }
+{
+    let parts = effects.as_slice();
+    let mut moved = List::new(alloc);
+    for part in parts {
+        moved.push(source_effect(alloc, frame, front, part)?)?;
+    }
+    Ok(moved)
+}

@@ -1,0 +1,113 @@
+ghost use Rattle.std.specs.Prelude.{◌≡◌, ◌+◌, ◌<◌, ◌^◌, IfOk};
+ghost use Rattle.plan_model.specs.Parts.{AreListed};
+ghost use Rattle.plan_meaning.specs.EncodedNames as names;
+ghost use Rattle.plan_meaning.specs.EncodedValue.{IsEncoded};
+ghost use Rattle.order_encoder.specs.Orders as orders;
+ghost use Rattle.slot_encoder.specs.Frames.{IsFrame, AreEncoded};
+
+use crate::actions::encoded_actions;
+use crate::frame::Frame;
+use crate::goals::goal_of;
+use crate::guards::guard_types;
+use crate::initial::encoded_initial;
+use crate::numbers::{number, numbers_of, plus};
+use crate::objects::encoded_objects;
+use crate::predicates::encoded_predicates;
+use crate::types::encoded_types;
+use crate::vocabulary::vocabulary;
+use crate::words::{name_of, renamed};
+use htn_base::{List, Memory, Name, NameTable};
+use order_encoder::OrderNames;
+use plan_model::{
+    ActionSchema, Compiled, Formula, GroundAtom, Object, Pddl, Predicate, Style, Types,
+};
+use std::alloc::Global;
+
+/// The printed problem with so many slots. The source's types are few and their parents and unions are listed.
+pub fn encode(alloc: Global, c: &Compiled, slots: u32, style: &Style) -> Result<Pddl, Memory>
+    requires listed { AreListed c.now.hddl.types }
+    ensures encoded { IfOk result (λ p. IsEncoded c.now slots style.now p) }
+{
+    let names = vocabulary(alloc, c, slots)?;
+    let value = value_of(alloc, c, &names, slots, style)?;
+    Ok(Pddl {
+        names,
+        domain: value.domain,
+        problem: value.problem,
+        types: value.types,
+        objects: value.objects,
+        predicates: value.predicates,
+        actions: value.actions,
+        init: value.init,
+        goal: value.goal,
+    })
+}
+
+/// The printed problem without its words.
+#[derive(Drop)]
+pub(crate) struct Encoded {
+    pub domain: Name,
+    pub problem: Name,
+    pub types: Types,
+    pub objects: List<Object>,
+    pub predicates: List<Predicate>,
+    pub actions: List<ActionSchema>,
+    pub init: List<GroundAtom>,
+    pub goal: Formula,
+}
+
+fn value_of(
+    alloc: Global,
+    c: &Compiled,
+    printed: &NameTable,
+    slots: u32,
+    style: &Style,
+) -> Result<Encoded, Memory>
+    requires listed { AreListed c.now.hddl.types }
+    ensures { IfOk result (AreEncoded c.now printed.now slots style.now) }
+{
+    let guard_types = guard_types(alloc, c)?;
+    let numbers = numbers_of(c)?;
+    let order = order_of(c, printed, numbers.before)?;
+    plus(order.first_slot, slots)?;
+    let frame = Frame {
+        compiled: c,
+        printed,
+        slots,
+        style: *style,
+        numbers,
+        order,
+        guard_types: &guard_types,
+    };
+    parts_of(alloc, &frame)
+}
+
+fn order_of(c: &Compiled, printed: &NameTable, before: u32) -> Result<OrderNames, Memory>
+    requires { before ≡ names.before_predicate c.now }
+    ensures { IfOk result (λ order. orders.numbers order ≡ names.order_numbers c.now printed.now 0) }
+{
+    Ok(OrderNames {
+        before,
+        slot_type: 1,
+        x: name_of(printed, b"htn_x"),
+        first_slot: number(c.hddl.objects.len())?,
+    })
+}
+
+fn parts_of(alloc: Global, frame: &Frame<'_>) -> Result<Encoded, Memory>
+    requires frame { IsFrame frame.now }
+    requires listed { AreListed frame.now.compiled.now.hddl.types }
+    ensures { IfOk result (AreEncoded frame.now.compiled.now frame.now.printed.now frame.now.slots frame.now.style) }
+{
+    let hddl = &frame.compiled.hddl;
+    Ok(Encoded {
+        domain: renamed(alloc, frame, hddl.domain)?,
+        problem: renamed(alloc, frame, hddl.problem)?,
+        types: encoded_types(alloc, frame)?,
+        objects: encoded_objects(alloc, frame)?,
+        predicates: encoded_predicates(alloc, frame)?,
+        actions: encoded_actions(alloc, frame)?,
+        init: encoded_initial(alloc, frame)?,
+        goal: goal_of(alloc, frame)?,
+    })
+}

@@ -1,0 +1,118 @@
+ghost use Rattle.std.specs.Prelude.{◌≡◌, ◌+◌, ◌-◌, ◌++◌, ℕ, map, IfOk, OnOk};
+ghost use Rattle.task_networks.specs.Spelling.{numbers};
+ghost use Rattle.plan_model.specs.Parts.{AreListed};
+ghost use Rattle.plan_meaning.specs.Compilation.{once};
+ghost use Rattle.plan_meaning.specs.EncodedNames as names;
+ghost use Rattle.plan_meaning.specs.EncodedValue as spec;
+ghost use Rattle.slot_encoder.specs.Frames.{IsFrame};
+ghost use Rattle.slot_encoder.specs.Pieces.{slot_atom, AddsGuardAtoms, AddsMembers};
+
+use crate::frame::Frame;
+use crate::guards::guard_predicate;
+use crate::numbers::plus;
+use crate::single::push_single;
+use htn_base::{List, Memory};
+use plan_model::{GroundAtom, members};
+use std::alloc::Global;
+
+/// What is true at the start: the first slot holds the top task, the others are free, the source's atoms, each once, and
+/// for each type of a guard its objects.
+pub(crate) fn encoded_initial(alloc: Global, frame: &Frame<'_>) -> Result<List<GroundAtom>, Memory>
+    requires frame { IsFrame frame.now }
+    requires listed { AreListed frame.now.compiled.now.hddl.types }
+    ensures { IfOk result (spec.IsInitial frame.now.compiled.now frame.now.printed.now frame.now.slots frame.now.style) }
+{
+    let mut into = first_atoms(alloc, frame)?;
+    push_guards(alloc, frame, frame.guard_types.as_slice(), &mut into)?;
+    Ok(into)
+}
+
+fn first_atoms(alloc: Global, frame: &Frame<'_>) -> Result<List<GroundAtom>, Memory>
+    requires { IsFrame frame.now }
+    ensures { IfOk result (λ atoms. atoms ≡ spec.first_atoms frame.now.compiled.now frame.now.printed.now frame.now.slots frame.now.style) }
+{
+    let mut into = List::new(alloc);
+    into.push(atom(alloc, frame.numbers.top, frame.order.first_slot)?)?;
+    push_free(alloc, frame, frame.slots.saturating_sub(1), &mut into)?;
+    push_single(alloc, frame.compiled.hddl.init.as_slice(), &mut into)?;
+    Ok(into)
+}
+
+fn atom(alloc: Global, predicate: u32, object: u32) -> Result<GroundAtom, Memory>
+    ensures { IfOk result (λ a. a ≡ spec.atom predicate object) }
+{
+    let mut args = List::new(alloc);
+    args.push(object)?;
+    Ok(GroundAtom { predicate, args })
+}
+
+fn push_free(
+    alloc: Global,
+    frame: &Frame<'_>,
+    count: u32,
+    into: &mut List<GroundAtom>,
+) -> Result<(), Memory>
+    requires { IsFrame frame.now }
+    ensures { OnOk result (into.new ≡ into.old ++ map (slot_atom frame.now.compiled.now) (numbers 1 count)) }
+{
+    for k in 0..count {
+        into.push(free(alloc, frame, 1 + k)?)?;
+    }
+    Ok(())
+}
+
+fn free(alloc: Global, frame: &Frame<'_>, k: u32) -> Result<GroundAtom, Memory>
+    requires { IsFrame frame.now }
+    ensures { IfOk result (λ a. a ≡ slot_atom frame.now.compiled.now k) }
+{
+    let slot = plus(frame.order.first_slot, k)?;
+    atom(alloc, frame.numbers.free, slot)
+}
+
+fn push_guards(
+    alloc: Global,
+    frame: &Frame<'_>,
+    types: &[u32],
+    into: &mut List<GroundAtom>,
+) -> Result<(), Memory>
+    requires frame { IsFrame frame.now }
+    requires listed { AreListed frame.now.compiled.now.hddl.types }
+    ensures { OnOk result (AddsGuardAtoms frame.now.compiled.now frame.now.printed.now frame.now.slots frame.now.style types.now into.old into.new) }
+{
+    for ty in types {
+        push_members(alloc, frame, *ty, into)?;
+    }
+    Ok(())
+}
+
+/// Puts at the end the guard's atoms of the objects in the type.
+fn push_members(
+    alloc: Global,
+    frame: &Frame<'_>,
+    ty: u32,
+    into: &mut List<GroundAtom>,
+) -> Result<(), Memory>
+    requires frame { IsFrame frame.now }
+    requires listed { AreListed frame.now.compiled.now.hddl.types }
+    ensures { OnOk result (AddsMembers frame.now.compiled.now ty into.old into.new) }
+{
+    let hddl = &frame.compiled.hddl;
+    let predicate = guard_predicate(frame, ty)?;
+    let listed = members(alloc, &hddl.types, &hddl.objects, ty)?;
+    push_atoms(alloc, predicate, listed.as_slice(), into)?;
+    Ok(())
+}
+
+fn push_atoms(
+    alloc: Global,
+    predicate: u32,
+    objects: &[u32],
+    into: &mut List<GroundAtom>,
+) -> Result<(), Memory>
+    ensures { OnOk result (into.new ≡ into.old ++ map (spec.atom predicate) objects.now) }
+{
+    for object in objects {
+        into.push(atom(alloc, predicate, *object)?)?;
+    }
+    Ok(())
+}

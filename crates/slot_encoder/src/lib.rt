@@ -1,0 +1,32 @@
+//! The printed problem as a PDDL value: slots that hold what is pending, and actions that process it.
+//!
+//! It stands on the values of `plan_model`, on the order formulas of `order_encoder` and on the definitions of `plan_meaning`.
+//! The contract used above: `encode` gives exactly the defined value, in a name table that has all its words.
+#![tactic(auto)]
+
+mod actions;
+mod atoms;
+mod conditions;
+mod differing;
+mod effects;
+mod encoding;
+mod formulas;
+mod frame;
+mod goals;
+mod guards;
+mod initial;
+mod methods;
+mod numbers;
+mod objects;
+mod predicates;
+mod quantified;
+mod single;
+mod splitting;
+mod terms;
+mod types;
+mod variables;
+mod vocabulary;
+mod words;
+mod works;
+
+pub use encoding::encode;

@@ -1,0 +1,227 @@
+ghost use Rattle.std.specs.Prelude.{◌≡◌, ◌++◌, ◌∷◌, [], ℕ, map, codes, decimal, IfOk, OnOk};
+ghost use Rattle.plan_model.specs.declared.formulas.Formula.TheVariants as F;
+ghost use Rattle.task_networks.specs.Spelling.{numbers};
+ghost use Rattle.plan_meaning.specs.SourceParts as parts;
+ghost use Rattle.plan_meaning.specs.EncodedNames as names;
+ghost use Rattle.plan_meaning.specs.EncodedActions as spec;
+ghost use Rattle.slot_encoder.specs.Frames.{IsFrame, AreVariables};
+ghost use Rattle.slot_encoder.specs.Pieces.{printed_constraint, printed_guard, new_slot, method_parameters, task_at_first, tested_parts};
+
+use crate::atoms::{held, is_free};
+use crate::conditions::{push_condition, push_waits};
+use crate::differing::push_differing;
+use crate::frame::Frame;
+use crate::guards::guard_predicate;
+use crate::numbers::task_predicate;
+use crate::predicates::slot_param;
+use crate::splitting::method_effects;
+use crate::terms::{moved, push_params};
+use crate::variables::{Variables, variables_of};
+use crate::words::{named, numbered, prefixed};
+use htn_base::{Boxed, List, Memory, Name};
+use plan_model::{ActionSchema, Atom, Constraint, Effect, Formula, Guard, MethodPlan, Param};
+use std::alloc::Global;
+
+/// The action of method `m`, the top method being number 0. `check` is the predicate of its check.
+pub(crate) fn encoded_method(
+    alloc: Global,
+    frame: &Frame<'_>,
+    m: u32,
+    check: u32,
+    plan: &MethodPlan,
+) -> Result<ActionSchema, Memory>
+    requires frame { IsFrame frame.now }
+    requires check { check ≡ names.check_predicate frame.now.compiled.now m }
+    ensures { IfOk result (λ a. a ≡ spec.encoded_method frame.now.compiled.now frame.now.printed.now frame.now.slots frame.now.style m plan.now) }
+{
+    let variables = variables_of(alloc, plan)?;
+    let name = method_name(alloc, frame, m, plan)?;
+    let params = method_params(alloc, frame, plan, &variables)?;
+    let conditions = method_conditions(alloc, frame, plan, &variables)?;
+    let effects = method_effects(alloc, frame, check, plan, &variables)?;
+    Ok(ActionSchema {
+        name,
+        params,
+        pre: Formula::And(conditions),
+        eff: Effect::And(effects),
+    })
+}
+
+fn method_name(alloc: Global, frame: &Frame<'_>, m: u32, plan: &MethodPlan) -> Result<Name, Memory>
+    ensures { IfOk result (λ n. n ≡ parts.name frame.now.printed.now (spec.method_word frame.now.compiled.now frame.now.printed.now frame.now.slots frame.now.style m plan.now m)) }
+{
+    match m {
+        0 => Ok(named(frame, b"htn_start")),
+        _ => prefixed(alloc, frame, b"htn_m_", plan.schema.name),
+    }
+}
+
+/// The task's slot, the new slots, and the method's own parameters.
+fn method_params(
+    alloc: Global,
+    frame: &Frame<'_>,
+    plan: &MethodPlan,
+    variables: &Variables,
+) -> Result<List<Param>, Memory>
+    requires { AreVariables plan.now variables.now }
+    ensures { IfOk result (λ ps. ps ≡ method_parameters frame.now.compiled.now frame.now.printed.now plan.now) }
+{
+    let mut into = List::new(alloc);
+    into.push(slot_param(named(frame, b"htn_h")))?;
+    push_new_slots(alloc, frame, variables.spare, &mut into)?;
+    push_params(alloc, frame, plan.schema.params.as_slice(), &mut into)?;
+    Ok(into)
+}
+
+fn push_new_slots(
+    alloc: Global,
+    frame: &Frame<'_>,
+    spare: u32,
+    into: &mut List<Param>,
+) -> Result<(), Memory>
+    ensures { OnOk result (into.new ≡ into.old ++ map (new_slot frame.now.printed.now) (numbers 1 spare)) }
+{
+    for k in 0..spare {
+        into.push(slot_param(numbered(alloc, frame, b"htn_h", 1 + k)?))?;
+    }
+    Ok(())
+}
+
+/// What a method asks for: its task in the first slot with nothing before it, free slots that differ, the constraints, the
+/// guards, and the precondition where it is tested at once.
+fn method_conditions(
+    alloc: Global,
+    frame: &Frame<'_>,
+    plan: &MethodPlan,
+    variables: &Variables,
+) -> Result<List<Formula>, Memory>
+    requires frame { IsFrame frame.now }
+    requires variables { AreVariables plan.now variables.now }
+    ensures { IfOk result (λ fs. fs ≡ spec.method_pre frame.now.compiled.now frame.now.printed.now frame.now.slots frame.now.style 0 plan.now) }
+{
+    let front = variables.front;
+    let mut into = List::new(alloc);
+    into.push(Formula::Holds(held_task(alloc, frame, plan, front)?))?;
+    push_waits(alloc, frame, variables.depth, &mut into)?;
+    push_free(alloc, frame, variables.spare, &mut into)?;
+    push_differing(alloc, variables.spare, &mut into)?;
+    push_constraints(
+        alloc,
+        frame,
+        front,
+        plan.schema.constraints.as_slice(),
+        &mut into,
+    )?;
+    push_guards(alloc, frame, front, plan.guards.as_slice(), &mut into)?;
+    push_tested(alloc, frame, front, plan, &mut into)?;
+    Ok(into)
+}
+
+/// The method's task, in the first slot.
+pub(crate) fn held_task(
+    alloc: Global,
+    frame: &Frame<'_>,
+    plan: &MethodPlan,
+    front: u32,
+) -> Result<Atom, Memory>
+    requires { IsFrame frame.now }
+    ensures { IfOk result (λ a. a ≡ task_at_first frame.now.compiled.now frame.now.printed.now front plan.now) }
+{
+    let predicate = task_predicate(frame.compiled, &frame.numbers, plan.schema.task)?;
+    held(
+        alloc,
+        frame,
+        predicate,
+        0,
+        front,
+        plan.schema.task_args.as_slice(),
+    )
+}
+
+fn push_free(
+    alloc: Global,
+    frame: &Frame<'_>,
+    spare: u32,
+    into: &mut List<Formula>,
+) -> Result<(), Memory>
+    requires { IsFrame frame.now }
+    ensures { OnOk result (into.new ≡ into.old ++ map (λ v. F.Holds (spec.is_free frame.now.compiled.now frame.now.printed.now frame.now.slots frame.now.style v)) (numbers 1 spare)) }
+{
+    for k in 0..spare {
+        into.push(Formula::Holds(is_free(alloc, frame, 1 + k)?))?;
+    }
+    Ok(())
+}
+
+fn push_constraints(
+    alloc: Global,
+    frame: &Frame<'_>,
+    front: u32,
+    constraints: &[Constraint],
+    into: &mut List<Formula>,
+) -> Result<(), Memory>
+    ensures { OnOk result (into.new ≡ into.old ++ map (printed_constraint frame.now.compiled.now frame.now.printed.now front) constraints.now) }
+{
+    for one in constraints {
+        into.push(constraint(alloc, frame, front, one)?)?;
+    }
+    Ok(())
+}
+
+fn constraint(
+    alloc: Global,
+    frame: &Frame<'_>,
+    front: u32,
+    one: &Constraint,
+) -> Result<Formula, Memory>
+    ensures { IfOk result (λ f. f ≡ printed_constraint frame.now.compiled.now frame.now.printed.now front one.now) }
+{
+    let left = moved(frame, front, one.left)?;
+    let equal = Formula::Equal(left, moved(frame, front, one.right)?);
+    if one.equal {
+        Ok(equal)
+    } else {
+        Ok(Formula::Not(Boxed::new(alloc, equal)?))
+    }
+}
+
+fn push_guards(
+    alloc: Global,
+    frame: &Frame<'_>,
+    front: u32,
+    guards: &[Guard],
+    into: &mut List<Formula>,
+) -> Result<(), Memory>
+    requires { IsFrame frame.now }
+    ensures { OnOk result (into.new ≡ into.old ++ map (printed_guard frame.now.compiled.now frame.now.printed.now front) guards.now) }
+{
+    for one in guards {
+        into.push(guard(alloc, frame, front, one)?)?;
+    }
+    Ok(())
+}
+
+fn guard(alloc: Global, frame: &Frame<'_>, front: u32, one: &Guard) -> Result<Formula, Memory>
+    requires { IsFrame frame.now }
+    ensures { IfOk result (λ f. f ≡ printed_guard frame.now.compiled.now frame.now.printed.now front one.now) }
+{
+    let mut args = List::new(alloc);
+    args.push(moved(frame, front, one.term)?)?;
+    let predicate = guard_predicate(frame, one.ty)?;
+    Ok(Formula::Holds(Atom { predicate, args }))
+}
+
+fn push_tested(
+    alloc: Global,
+    frame: &Frame<'_>,
+    front: u32,
+    plan: &MethodPlan,
+    into: &mut List<Formula>,
+) -> Result<(), Memory>
+    ensures { OnOk result (into.new ≡ into.old ++ tested_parts frame.now.compiled.now frame.now.printed.now frame.now.slots frame.now.style front plan.now) }
+{
+    if plan.tested {
+        push_condition(alloc, frame, front, &plan.schema.pre, into)?;
+    }
+    Ok(())
+}

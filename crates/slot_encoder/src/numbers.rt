@@ -1,0 +1,94 @@
+ghost use Rattle.std.specs.Prelude.{◌≡◌, ◌+◌, ◌==◌, ◌<◌, cond, filter, length, IfOk};
+ghost use Rattle.plan_model.specs.declared.schemas.MethodPlan.{MethodPlan};
+ghost use Rattle.plan_meaning.specs.EncodedNames as spec;
+ghost use Rattle.slot_encoder.specs.Frames.{AreNumbers};
+ghost use Rattle.slot_encoder.specs.Pieces.{with_check};
+
+use htn_base::Memory;
+use plan_model::{Compiled, MethodPlan};
+
+/// The numbers of the generated predicates, after those of the source: three of the slots, and the first ones of the tasks,
+/// the actions, the checks and the guards.
+#[derive(Clone, Copy)]
+pub(crate) struct Numbers {
+    pub top: u32,
+    pub free: u32,
+    pub before: u32,
+    pub first_task: u32,
+    pub first_action: u32,
+    pub first_check: u32,
+    pub first_guard: u32,
+}
+
+/// A length as a number. One past 2^32 - 1 is answered as want of memory.
+pub(crate) fn number(len: usize) -> Result<u32, Memory>
+    ensures { IfOk result (λ n. n ≡ len) }
+{
+    if len > 0xffff_ffff {
+        return Err(Memory);
+    }
+    Ok(len as u32)
+}
+
+/// The sum. One past 2^32 - 1 is answered as want of memory.
+pub(crate) fn plus(a: u32, b: u32) -> Result<u32, Memory>
+    ensures { IfOk result (λ sum. sum ≡ a + b) }
+{
+    match a.checked_add(b) {
+        Some(sum) => Ok(sum),
+        None => Err(Memory),
+    }
+}
+
+pub(crate) fn numbers_of(c: &Compiled) -> Result<Numbers, Memory>
+    ensures { IfOk result (AreNumbers c.now) }
+{
+    let top = number(c.hddl.predicates.len())?;
+    let first_task = plus(top, 3)?;
+    let first_action = plus(first_task, number(c.hddl.tasks.len())?)?;
+    let first_check = plus(first_action, number(c.hddl.actions.len())?)?;
+    let first_guard = plus(first_check, checks(c.methods.as_slice())?)?;
+    Ok(Numbers {
+        top,
+        free: plus(top, 1)?,
+        before: plus(top, 2)?,
+        first_task,
+        first_action,
+        first_check,
+        first_guard,
+    })
+}
+
+/// How many of the methods have a check.
+fn checks(methods: &[MethodPlan]) -> Result<u32, Memory>
+    ensures { IfOk result (λ n. n ≡ length (filter (λ (plan : MethodPlan). plan.checked) methods.now)) }
+{
+    let mut count: u32 = 0;
+    for plan in methods {
+        count = after(plan, count)?;
+    }
+    Ok(count)
+}
+
+/// One more where the method has a check.
+pub(crate) fn after(plan: &MethodPlan, count: u32) -> Result<u32, Memory>
+    ensures { IfOk result (λ n. n ≡ with_check plan.now count) }
+{
+    if plan.checked {
+        plus(count, 1)
+    } else {
+        Ok(count)
+    }
+}
+
+/// The predicate of a task. The top task is the one after the last.
+pub(crate) fn task_predicate(c: &Compiled, n: &Numbers, task: u32) -> Result<u32, Memory>
+    requires { AreNumbers c.now n.now }
+    ensures { IfOk result (λ p. p ≡ spec.task_predicate c.now task) }
+{
+    if task as usize == c.hddl.tasks.len() {
+        Ok(n.top)
+    } else {
+        plus(n.first_task, task)
+    }
+}

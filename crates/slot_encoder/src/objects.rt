@@ -1,0 +1,78 @@
+ghost use Rattle.std.specs.Prelude.{◌≡◌, ◌++◌, map, true, IfOk, OnOk};
+ghost use Rattle.plan_model.specs.declared.types.Object.{Object};
+ghost use Rattle.htn_base.specs.Escapes.{slot_word};
+ghost use Rattle.task_networks.specs.Spelling.{numbers};
+ghost use Rattle.plan_meaning.specs.SourceParts as parts;
+ghost use Rattle.plan_meaning.specs.EncodedNames as spec;
+ghost use Rattle.slot_encoder.specs.Pieces.{printed_object, printed_slot};
+
+use crate::frame::Frame;
+use crate::terms::retyped;
+use crate::words::{named, renamed};
+use htn_base::{List, Memory, slot_name};
+use plan_model::Object;
+use std::alloc::Global;
+
+/// The source objects, and then the slots.
+pub(crate) fn encoded_objects(alloc: Global, frame: &Frame<'_>) -> Result<List<Object>, Memory>
+    ensures { IfOk result (λ os. os ≡ spec.encoded_objects frame.now.compiled.now frame.now.printed.now frame.now.slots) }
+{
+    let mut into = List::new(alloc);
+    push_objects(
+        alloc,
+        frame,
+        frame.compiled.hddl.objects.as_slice(),
+        &mut into,
+    )?;
+    push_slots(alloc, frame, frame.slots, &mut into)?;
+    Ok(into)
+}
+
+fn push_objects(
+    alloc: Global,
+    frame: &Frame<'_>,
+    objects: &[Object],
+    into: &mut List<Object>,
+) -> Result<(), Memory>
+    ensures { OnOk result (into.new ≡ into.old ++ map (printed_object frame.now.compiled.now frame.now.printed.now) objects.now) }
+{
+    for object in objects {
+        into.push(printed(alloc, frame, object)?)?;
+    }
+    Ok(())
+}
+
+fn printed(alloc: Global, frame: &Frame<'_>, object: &Object) -> Result<Object, Memory>
+    ensures { IfOk result (λ o. o ≡ printed_object frame.now.compiled.now frame.now.printed.now object.now) }
+{
+    Ok(Object {
+        name: renamed(alloc, frame, object.name)?,
+        ty: retyped(object.ty)?,
+        constant: true,
+    })
+}
+
+fn push_slots(
+    alloc: Global,
+    frame: &Frame<'_>,
+    slots: u32,
+    into: &mut List<Object>,
+) -> Result<(), Memory>
+    ensures { OnOk result (into.new ≡ into.old ++ map (printed_slot frame.now.printed.now) (numbers 1 slots)) }
+{
+    for k in 0..slots {
+        into.push(slot(alloc, frame, 1 + k)?)?;
+    }
+    Ok(())
+}
+
+fn slot(alloc: Global, frame: &Frame<'_>, k: u32) -> Result<Object, Memory>
+    ensures { IfOk result (λ o. o ≡ printed_slot frame.now.printed.now k) }
+{
+    let word = slot_name(alloc, k)?;
+    Ok(Object {
+        name: named(frame, word.as_slice()),
+        ty: 1,
+        constant: true,
+    })
+}

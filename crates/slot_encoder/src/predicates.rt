@@ -1,0 +1,240 @@
+ghost use Rattle.std.specs.Prelude.{◌≡◌, ◌++◌, ℕ, [], ◌∷◌, map, filter, length, codes, IfOk, OnOk};
+ghost use Rattle.plan_model.specs.declared.schemas.MethodPlan.{MethodPlan};
+ghost use Rattle.task_networks.specs.Spelling.{numbers};
+ghost use Rattle.plan_meaning.specs.SourceParts as parts;
+ghost use Rattle.plan_meaning.specs.EncodedNames as spec;
+ghost use Rattle.slot_encoder.specs.Frames.{IsFrame};
+ghost use Rattle.slot_encoder.specs.Pieces.{printed_predicate, generated_predicates, task_held, action_held, check_held, guard_tested, argument, if_checked};
+
+use crate::frame::Frame;
+use crate::guards::guard_name;
+use crate::numbers::number;
+use crate::terms::source_params;
+use crate::words::{named, numbered, prefixed, renamed};
+use htn_base::{List, Memory, Name};
+use plan_model::{ActionSchema, MethodPlan, Param, Predicate, TaskSchema};
+use std::alloc::Global;
+
+/// The predicates: the source's, three of the slots, and those of tasks, actions, checks and guards.
+pub(crate) fn encoded_predicates(
+    alloc: Global,
+    frame: &Frame<'_>,
+) -> Result<List<Predicate>, Memory>
+    requires { IsFrame frame.now }
+    ensures { IfOk result (λ ps. ps ≡ spec.encoded_predicates frame.now.compiled.now frame.now.printed.now frame.now.slots) }
+{
+    let mut into = List::new(alloc);
+    push_predicates(alloc, frame, &mut into)?;
+    Ok(into)
+}
+
+fn push_predicates(
+    alloc: Global,
+    frame: &Frame<'_>,
+    into: &mut List<Predicate>,
+) -> Result<(), Memory>
+    requires { IsFrame frame.now }
+    ensures { OnOk result (into.new ≡ into.old ++ spec.encoded_predicates frame.now.compiled.now frame.now.printed.now frame.now.slots) }
+{
+    let c = frame.compiled;
+    push_source(alloc, frame, c.hddl.predicates.as_slice(), into)?;
+    push_generated(alloc, frame, into)?;
+    push_tasks(alloc, frame, c.hddl.tasks.as_slice(), into)?;
+    push_actions(alloc, frame, c.hddl.actions.as_slice(), into)?;
+    push_checks(alloc, frame, c.methods.as_slice(), into)?;
+    push_guards(alloc, frame, frame.guard_types.as_slice(), into)?;
+    Ok(())
+}
+
+fn push_source(
+    alloc: Global,
+    frame: &Frame<'_>,
+    predicates: &[Predicate],
+    into: &mut List<Predicate>,
+) -> Result<(), Memory>
+    ensures { OnOk result (into.new ≡ into.old ++ map (printed_predicate frame.now.compiled.now frame.now.printed.now) predicates.now) }
+{
+    for predicate in predicates {
+        into.push(source(alloc, frame, predicate)?)?;
+    }
+    Ok(())
+}
+
+fn source(alloc: Global, frame: &Frame<'_>, predicate: &Predicate) -> Result<Predicate, Memory>
+    ensures { IfOk result (λ p. p ≡ printed_predicate frame.now.compiled.now frame.now.printed.now predicate.now) }
+{
+    Ok(Predicate {
+        name: renamed(alloc, frame, predicate.name)?,
+        params: source_params(alloc, frame, predicate.params.as_slice())?,
+    })
+}
+
+fn push_generated(
+    alloc: Global,
+    frame: &Frame<'_>,
+    into: &mut List<Predicate>,
+) -> Result<(), Memory>
+    ensures { OnOk result (into.new ≡ into.old ++ generated_predicates frame.now.compiled.now frame.now.printed.now) }
+{
+    into.push(of_slot(alloc, frame, b"htn_top")?)?;
+    into.push(of_slot(alloc, frame, b"htn_free")?)?;
+    into.push(of_pair(alloc, frame)?)?;
+    Ok(())
+}
+
+fn of_slot(alloc: Global, frame: &Frame<'_>, word: &[u8]) -> Result<Predicate, Memory>
+    ensures { IfOk result (λ p. p ≡ record { name = parts.name frame.now.printed.now word.now; params = spec.slot_param frame.now.compiled.now frame.now.printed.now 0 (codes "htn_h") ∷ [] }) }
+{
+    let mut params = List::new(alloc);
+    params.push(slot_param(named(frame, b"htn_h")))?;
+    Ok(Predicate {
+        name: named(frame, word),
+        params,
+    })
+}
+
+fn of_pair(alloc: Global, frame: &Frame<'_>) -> Result<Predicate, Memory>
+    ensures { IfOk result (λ p. p ≡ record { name = parts.name frame.now.printed.now (codes "htn_before"); params = spec.slot_param frame.now.compiled.now frame.now.printed.now 0 (codes "htn_x") ∷ spec.slot_param frame.now.compiled.now frame.now.printed.now 0 (codes "htn_h") ∷ [] }) }
+{
+    let mut params = List::new(alloc);
+    params.push(slot_param(named(frame, b"htn_x")))?;
+    params.push(slot_param(named(frame, b"htn_h")))?;
+    Ok(Predicate {
+        name: named(frame, b"htn_before"),
+        params,
+    })
+}
+
+/// A variable for a slot.
+pub(crate) fn slot_param(name: Name) -> Param
+    ensures { result ≡ record { name = name; ty = spec.slot_type } }
+{
+    Param { name, ty: 1 }
+}
+
+fn push_tasks(
+    alloc: Global,
+    frame: &Frame<'_>,
+    tasks: &[TaskSchema],
+    into: &mut List<Predicate>,
+) -> Result<(), Memory>
+    ensures { OnOk result (into.new ≡ into.old ++ map (task_held frame.now.compiled.now frame.now.printed.now) tasks.now) }
+{
+    for task in tasks {
+        into.push(held(alloc, frame, b"htn_t_", task.name, task.params.len())?)?;
+    }
+    Ok(())
+}
+
+fn push_actions(
+    alloc: Global,
+    frame: &Frame<'_>,
+    actions: &[ActionSchema],
+    into: &mut List<Predicate>,
+) -> Result<(), Memory>
+    ensures { OnOk result (into.new ≡ into.old ++ map (action_held frame.now.compiled.now frame.now.printed.now) actions.now) }
+{
+    for action in actions {
+        into.push(held(alloc, frame, b"htn_a_", action.name, action.params.len())?)?;
+    }
+    Ok(())
+}
+
+fn push_checks(
+    alloc: Global,
+    frame: &Frame<'_>,
+    methods: &[MethodPlan],
+    into: &mut List<Predicate>,
+) -> Result<(), Memory>
+    ensures { OnOk result (into.new ≡ into.old ++ map (check_held frame.now.compiled.now frame.now.printed.now) (filter (λ (plan : MethodPlan). plan.checked) methods.now)) }
+{
+    for plan in methods {
+        push_check(alloc, frame, plan, into)?;
+    }
+    Ok(())
+}
+
+fn push_check(
+    alloc: Global,
+    frame: &Frame<'_>,
+    plan: &MethodPlan,
+    into: &mut List<Predicate>,
+) -> Result<(), Memory>
+    ensures { OnOk result (into.new ≡ into.old ++ if_checked plan.now (check_held frame.now.compiled.now frame.now.printed.now plan.now)) }
+{
+    if plan.checked {
+        let schema = &plan.schema;
+        into.push(held(alloc, frame, b"htn_c_", schema.name, schema.params.len())?)?;
+    }
+    Ok(())
+}
+
+/// A predicate for a slot that holds what has so many parameters.
+fn held(
+    alloc: Global,
+    frame: &Frame<'_>,
+    prefix: &[u8],
+    name: Name,
+    count: usize,
+) -> Result<Predicate, Memory>
+    ensures { IfOk result (λ p. p ≡ record { name = parts.name frame.now.printed.now (prefix.now ++ parts.source_word frame.now.compiled.now.hddl.names name); params = spec.held_params frame.now.compiled.now frame.now.printed.now 0 count }) }
+{
+    let mut params = List::new(alloc);
+    params.push(slot_param(named(frame, b"htn_h")))?;
+    push_arguments(alloc, frame, number(count)?, &mut params)?;
+    Ok(Predicate {
+        name: prefixed(alloc, frame, prefix, name)?,
+        params,
+    })
+}
+
+fn push_arguments(
+    alloc: Global,
+    frame: &Frame<'_>,
+    count: u32,
+    into: &mut List<Param>,
+) -> Result<(), Memory>
+    ensures { OnOk result (into.new ≡ into.old ++ map (argument frame.now.printed.now) (numbers 1 count)) }
+{
+    for k in 0..count {
+        into.push(one_argument(alloc, frame, 1 + k)?)?;
+    }
+    Ok(())
+}
+
+fn one_argument(alloc: Global, frame: &Frame<'_>, k: u32) -> Result<Param, Memory>
+    ensures { IfOk result (λ p. p ≡ argument frame.now.printed.now k) }
+{
+    Ok(Param {
+        name: numbered(alloc, frame, b"htn_a", k)?,
+        ty: 2,
+    })
+}
+
+fn push_guards(
+    alloc: Global,
+    frame: &Frame<'_>,
+    types: &[u32],
+    into: &mut List<Predicate>,
+) -> Result<(), Memory>
+    ensures { OnOk result (into.new ≡ into.old ++ map (guard_tested frame.now.compiled.now frame.now.printed.now) types.now) }
+{
+    for ty in types {
+        into.push(guard(alloc, frame, *ty)?)?;
+    }
+    Ok(())
+}
+
+fn guard(alloc: Global, frame: &Frame<'_>, ty: u32) -> Result<Predicate, Memory>
+    ensures { IfOk result (λ p. p ≡ guard_tested frame.now.compiled.now frame.now.printed.now ty) }
+{
+    let mut params = List::new(alloc);
+    params.push(Param {
+        name: named(frame, b"htn_a1"),
+        ty: 2,
+    })?;
+    Ok(Predicate {
+        name: guard_name(alloc, frame, ty)?,
+        params,
+    })
+}

@@ -1,0 +1,230 @@
+ghost use Rattle.std.specs.Prelude.{◌≡◌, ◌++◌, ◌∷◌, [], ℕ, map, IfOk, OnOk};
+ghost use Rattle.std.specs.List.{flat_map};
+ghost use Rattle.plan_model.specs.declared.terms.Term.TheVariants as T;
+ghost use Rattle.plan_model.specs.declared.effects.Effect.TheVariants as E;
+ghost use Rattle.task_networks.specs.Spelling.{numbers};
+ghost use Rattle.plan_meaning.specs.OrderFormulas as order;
+ghost use Rattle.plan_meaning.specs.EncodedNames as names;
+ghost use Rattle.plan_meaning.specs.EncodedActions as spec;
+ghost use Rattle.slot_encoder.specs.Frames.{IsFrame, AreVariables};
+ghost use Rattle.slot_encoder.specs.Pieces.{added_pair, child_atom, child_atoms, copied, split, method_change};
+
+use crate::atoms::{comes_before, held, is_free};
+use crate::conditions::push_clears;
+use crate::frame::Frame;
+use crate::methods::held_task;
+use crate::numbers::{plus, task_predicate};
+use crate::variables::{Variables, slot_of};
+use htn_base::{List, Memory};
+use order_encoder::push_copying;
+use plan_model::{Atom, Child, Effect, Head, MethodPlan, Pair, Term};
+use std::alloc::Global;
+
+/// What a method does: a childless one frees the task's slot, another one puts its children into slots.
+pub(crate) fn method_effects(
+    alloc: Global,
+    frame: &Frame<'_>,
+    check: u32,
+    plan: &MethodPlan,
+    variables: &Variables,
+) -> Result<List<Effect>, Memory>
+    requires frame { IsFrame frame.now }
+    requires variables { AreVariables plan.now variables.now }
+    ensures { IfOk result (λ es. es ≡ method_change frame.now.compiled.now frame.now.printed.now frame.now.slots frame.now.style check plan.now plan.now.schema.children) }
+{
+    if plan.schema.children.len() == 0 {
+        let task = held_task(alloc, frame, plan, variables.front)?;
+        freeing(alloc, frame, task, variables.depth)
+    } else {
+        splitting(alloc, frame, check, plan, variables)
+    }
+}
+
+/// What is held in the first slot goes, the slot is free, and what waited for it waits no more.
+pub(crate) fn freeing(
+    alloc: Global,
+    frame: &Frame<'_>,
+    held: Atom,
+    depth: u32,
+) -> Result<List<Effect>, Memory>
+    requires { IsFrame frame.now }
+    ensures { IfOk result (λ es. es ≡ spec.freeing frame.now.compiled.now frame.now.printed.now frame.now.slots frame.now.style held depth) }
+{
+    let mut into = List::new(alloc);
+    into.push(Effect::Delete(held))?;
+    into.push(Effect::Add(is_free(alloc, frame, 0)?))?;
+    push_clears(alloc, frame, depth, &mut into)?;
+    Ok(into)
+}
+
+fn splitting(
+    alloc: Global,
+    frame: &Frame<'_>,
+    check: u32,
+    plan: &MethodPlan,
+    variables: &Variables,
+) -> Result<List<Effect>, Memory>
+    requires frame { IsFrame frame.now }
+    requires variables { AreVariables plan.now variables.now }
+    ensures { IfOk result (λ es. es ≡ split frame.now.compiled.now frame.now.printed.now frame.now.slots frame.now.style check plan.now) }
+{
+    let schema = &plan.schema;
+    let front = variables.front;
+    let slots = variables.slots.as_slice();
+    let mut into = List::new(alloc);
+    into.push(Effect::Delete(held_task(alloc, frame, plan, front)?))?;
+    push_taken(alloc, frame, variables.spare, &mut into)?;
+    push_children(
+        alloc,
+        frame,
+        check,
+        front,
+        slots,
+        schema.children.as_slice(),
+        &mut into,
+    )?;
+    push_pairs(alloc, frame, slots, schema.pairs.as_slice(), &mut into)?;
+    push_copies(
+        alloc,
+        frame,
+        variables.depth,
+        slots,
+        plan.copiers.as_slice(),
+        &mut into,
+    )?;
+    Ok(into)
+}
+
+fn push_taken(
+    alloc: Global,
+    frame: &Frame<'_>,
+    spare: u32,
+    into: &mut List<Effect>,
+) -> Result<(), Memory>
+    requires { IsFrame frame.now }
+    ensures { OnOk result (into.new ≡ into.old ++ map (λ v. E.Delete (spec.is_free frame.now.compiled.now frame.now.printed.now frame.now.slots frame.now.style v)) (numbers 1 spare)) }
+{
+    for k in 0..spare {
+        into.push(Effect::Delete(is_free(alloc, frame, 1 + k)?))?;
+    }
+    Ok(())
+}
+
+/// Puts at the end that each child is in its slot.
+fn push_children(
+    alloc: Global,
+    frame: &Frame<'_>,
+    check: u32,
+    front: u32,
+    slots: &[u32],
+    children: &[Child],
+    into: &mut List<Effect>,
+) -> Result<(), Memory>
+    requires { IsFrame frame.now }
+    ensures { OnOk result (into.new ≡ into.old ++ map E.Add (child_atoms frame.now.compiled.now frame.now.printed.now front check slots.now children.now)) }
+{
+    let mut i: u32 = 0;
+    for child in children {
+        if i as usize >= slots.len() {
+            return Ok(());
+        }
+        let slot = slot_of(slots, i);
+        into.push(Effect::Add(placed(alloc, frame, check, front, slot, child)?))?;
+        i = plus(i, 1)?;
+    }
+    Ok(())
+}
+
+/// The atom that the slot holds the child.
+fn placed(
+    alloc: Global,
+    frame: &Frame<'_>,
+    check: u32,
+    front: u32,
+    slot: u32,
+    child: &Child,
+) -> Result<Atom, Memory>
+    requires { IsFrame frame.now }
+    ensures { IfOk result (λ a. a ≡ child_atom frame.now.compiled.now frame.now.printed.now front check slot child.now) }
+{
+    let args = child.args.as_slice();
+    match child.head {
+        Head::Task(task) => {
+            let predicate = task_predicate(frame.compiled, &frame.numbers, task)?;
+            held(alloc, frame, predicate, slot, front, args)
+        }
+        Head::Action(action) => {
+            let predicate = plus(frame.numbers.first_action, action)?;
+            held(alloc, frame, predicate, slot, front, args)
+        }
+        Head::Check => held(alloc, frame, check, slot, front, args),
+    }
+}
+
+fn push_pairs(
+    alloc: Global,
+    frame: &Frame<'_>,
+    slots: &[u32],
+    pairs: &[Pair],
+    into: &mut List<Effect>,
+) -> Result<(), Memory>
+    requires { IsFrame frame.now }
+    ensures { OnOk result (into.new ≡ into.old ++ map (added_pair frame.now.compiled.now frame.now.printed.now frame.now.slots slots.now) pairs.now) }
+{
+    for pair in pairs {
+        into.push(added(alloc, frame, slots, pair)?)?;
+    }
+    Ok(())
+}
+
+fn added(alloc: Global, frame: &Frame<'_>, slots: &[u32], pair: &Pair) -> Result<Effect, Memory>
+    requires { IsFrame frame.now }
+    ensures { IfOk result (λ e. e ≡ added_pair frame.now.compiled.now frame.now.printed.now frame.now.slots slots.now pair.now) }
+{
+    let first = slot_of(slots, pair.first);
+    let then = slot_of(slots, pair.then);
+    Ok(Effect::Add(comes_before(alloc, frame, first, then)?))
+}
+
+/// Puts at the end that what waits for the task waits for each of these children.
+fn push_copies(
+    alloc: Global,
+    frame: &Frame<'_>,
+    depth: u32,
+    slots: &[u32],
+    copiers: &[u32],
+    into: &mut List<Effect>,
+) -> Result<(), Memory>
+    requires { IsFrame frame.now }
+    ensures { OnOk result (into.new ≡ into.old ++ flat_map (copied frame.now.compiled.now frame.now.printed.now frame.now.slots frame.now.style depth slots.now) copiers.now) }
+{
+    for child in copiers {
+        push_copied(alloc, frame, depth, slots, *child, into)?;
+    }
+    Ok(())
+}
+
+fn push_copied(
+    alloc: Global,
+    frame: &Frame<'_>,
+    depth: u32,
+    slots: &[u32],
+    child: u32,
+    into: &mut List<Effect>,
+) -> Result<(), Memory>
+    requires { IsFrame frame.now }
+    ensures { OnOk result (into.new ≡ into.old ++ copied frame.now.compiled.now frame.now.printed.now frame.now.slots frame.now.style depth slots.now child) }
+{
+    let slot = Term::Var(slot_of(slots, child));
+    push_copying(
+        alloc,
+        &frame.order,
+        frame.slots,
+        &frame.style,
+        Term::Var(0),
+        slot,
+        depth,
+        into,
+    )?;
+    Ok(())
+}

@@ -1,0 +1,96 @@
+ghost use Rattle.std.specs.Prelude.{◌≡◌, ◌++◌, map, IfOk, OnOk};
+ghost use Rattle.plan_meaning.specs.SourceParts as spec;
+
+use crate::frame::Frame;
+use crate::words::renamed;
+use htn_base::{List, Memory};
+use plan_model::{Atom, Param, Term};
+use std::alloc::Global;
+
+/// A type of the source as it is numbered in the printed problem, where two generated types come first. A number past
+/// 2^32 - 1, which no value in memory has, is answered as want of memory.
+pub(crate) fn retyped(ty: u32) -> Result<u32, Memory>
+    ensures { IfOk result (λ t. t ≡ spec.retyped ty) }
+{
+    match ty {
+        0 => Ok(2),
+        _ => ty.checked_add(2).ok_or(Memory),
+    }
+}
+
+pub(crate) fn source_param(alloc: Global, frame: &Frame<'_>, param: &Param) -> Result<Param, Memory>
+    ensures { IfOk result (λ p. p ≡ spec.source_param frame.now.printed.now frame.now.compiled.now.hddl.names param.now) }
+{
+    Ok(Param {
+        name: renamed(alloc, frame, param.name)?,
+        ty: retyped(param.ty)?,
+    })
+}
+
+pub(crate) fn source_params(
+    alloc: Global,
+    frame: &Frame<'_>,
+    params: &[Param],
+) -> Result<List<Param>, Memory>
+    ensures { IfOk result (λ ps. ps ≡ map (spec.source_param frame.now.printed.now frame.now.compiled.now.hddl.names) params.now) }
+{
+    let mut into = List::new(alloc);
+    push_params(alloc, frame, params, &mut into)?;
+    Ok(into)
+}
+
+/// Puts these variables of the source at the end.
+pub(crate) fn push_params(
+    alloc: Global,
+    frame: &Frame<'_>,
+    params: &[Param],
+    into: &mut List<Param>,
+) -> Result<(), Memory>
+    ensures { OnOk result (into.new ≡ into.old ++ map (spec.source_param frame.now.printed.now frame.now.compiled.now.hddl.names) params.now) }
+{
+    for param in params {
+        into.push(source_param(alloc, frame, param)?)?;
+    }
+    Ok(())
+}
+
+/// A term of the source behind `front` further variables. A number past 2^32 - 1 is answered as want of memory.
+pub(crate) fn moved(frame: &Frame<'_>, front: u32, term: Term) -> Result<Term, Memory>
+    ensures { IfOk result (λ t. t ≡ spec.moved frame.now.printed.now frame.now.compiled.now.hddl.names front term) }
+{
+    match term {
+        Term::Var(k) => Ok(Term::Var(front.checked_add(k).ok_or(Memory)?)),
+        Term::Obj(object) => Ok(Term::Obj(object)),
+    }
+}
+
+/// Puts these terms, moved, at the end.
+pub(crate) fn push_moved(
+    frame: &Frame<'_>,
+    front: u32,
+    terms: &[Term],
+    into: &mut List<Term>,
+) -> Result<(), Memory>
+    ensures { OnOk result (into.new ≡ into.old ++ map (spec.moved frame.now.printed.now frame.now.compiled.now.hddl.names front) terms.now) }
+{
+    for term in terms {
+        into.push(moved(frame, front, *term)?)?;
+    }
+    Ok(())
+}
+
+pub(crate) fn source_atom(
+    alloc: Global,
+    frame: &Frame<'_>,
+    front: u32,
+    atom: &Atom,
+) -> Result<Atom, Memory>
+    ensures { IfOk result (λ a. a ≡ spec.source_atom frame.now.printed.now frame.now.compiled.now.hddl.names front atom.now) }
+{
+    let mut args = List::new(alloc);
+    push_moved(frame, front, atom.args.as_slice(), &mut args)?;
+    Ok(Atom {
+        predicate: atom.predicate,
+        args,
+    })
+}

@@ -1,0 +1,98 @@
+ghost use Rattle.std.specs.Prelude.{◌≡◌, ◌++◌, decimal, length, IfOk};
+ghost use Rattle.plan_meaning.specs.SourceParts as spec;
+
+use crate::frame::Frame;
+use htn_base::{Memory, Name, NameTable, Text, esc};
+use itoa::Buffer;
+use std::alloc::Global;
+
+/// The name of a printed word; a number past the end where the table lacks it.
+pub(crate) fn named(frame: &Frame<'_>, word: &[u8]) -> Name
+    ensures { result ≡ spec.name frame.now.printed.now word.now }
+{
+    name_of(frame.printed, word)
+}
+
+pub(crate) fn name_of(printed: &NameTable, word: &[u8]) -> Name
+    ensures { result ≡ spec.name printed.now word.now }
+{
+    match printed.find(word) {
+        Some(name) => name,
+        None => past_the_end(printed),
+    }
+}
+
+fn past_the_end(names: &NameTable) -> Name
+    ensures { result.number ≡ length names.now }
+{
+    Name {
+        number: names.len() as u32,
+    }
+}
+
+/// The printed word of a source name.
+pub(crate) fn own_word(alloc: Global, source: &NameTable, name: Name) -> Result<Text, Memory>
+    ensures { IfOk result (λ text. text ≡ spec.source_word source.now name) }
+{
+    match source.text(name) {
+        Some(word) => esc(alloc, word),
+        None => esc(alloc, b""),
+    }
+}
+
+/// The name of a source name's printed word.
+pub(crate) fn renamed(alloc: Global, frame: &Frame<'_>, name: Name) -> Result<Name, Memory>
+    ensures { IfOk result (λ n. n ≡ spec.renamed frame.now.printed.now frame.now.compiled.now.hddl.names name) }
+{
+    let word = own_word(alloc, &frame.compiled.hddl.names, name)?;
+    Ok(named(frame, word.as_slice()))
+}
+
+/// The name of a source name's printed word behind a generated one.
+pub(crate) fn prefixed(
+    alloc: Global,
+    frame: &Frame<'_>,
+    prefix: &[u8],
+    name: Name,
+) -> Result<Name, Memory>
+    ensures { IfOk result (λ n. n ≡ spec.name frame.now.printed.now (prefix.now ++ spec.source_word frame.now.compiled.now.hddl.names name)) }
+{
+    let word = prefixed_word(alloc, &frame.compiled.hddl.names, prefix, name)?;
+    Ok(named(frame, word.as_slice()))
+}
+
+pub(crate) fn prefixed_word(
+    alloc: Global,
+    source: &NameTable,
+    prefix: &[u8],
+    name: Name,
+) -> Result<Text, Memory>
+    ensures { IfOk result (λ text. text ≡ prefix.now ++ spec.source_word source.now name) }
+{
+    let own = own_word(alloc, source, name)?;
+    let mut text = Text::from_slice(alloc, prefix)?;
+    text.push_all(own.as_slice())?;
+    Ok(text)
+}
+
+/// The name of a generated word with a number behind it.
+pub(crate) fn numbered(
+    alloc: Global,
+    frame: &Frame<'_>,
+    prefix: &[u8],
+    k: u32,
+) -> Result<Name, Memory>
+    ensures { IfOk result (λ n. n ≡ spec.name frame.now.printed.now (prefix.now ++ decimal k)) }
+{
+    let word = numbered_word(alloc, prefix, k)?;
+    Ok(named(frame, word.as_slice()))
+}
+
+pub(crate) fn numbered_word(alloc: Global, prefix: &[u8], k: u32) -> Result<Text, Memory>
+    ensures { IfOk result (λ text. text ≡ prefix.now ++ decimal k) }
+{
+    let mut digits = Buffer::new();
+    let mut text = Text::from_slice(alloc, prefix)?;
+    text.push_all(digits.format(k).as_bytes())?;
+    Ok(text)
+}
