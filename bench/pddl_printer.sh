@@ -1,14 +1,14 @@
 #!/usr/bin/env bash
 # Times `print_domain` on one action that deletes 1,000,000 atoms of two arguments, compiled, against a copy of the
 # printed bytes: writes a program into a temporary copy of the crates that it stands on, and proves, builds and runs it
-# there. Prints three lines: bytes, milliseconds and megabytes per second of printing into a text with room, of
-# printing into an empty text, and of the copy.
+# there. Prints, three times, a line each: bytes, microseconds and megabytes per second of printing into an empty text,
+# of printing into a text with room, and of the copy.
 set -e
 top=$(cd "$(dirname "$0")/.." && pwd)
 copy=$(mktemp -d)
 trap 'rm -rf "$copy"' EXIT
 mkdir -p "$copy/crates/printer_bench/src"
-for crate in htn_base task_networks text_forms plan_model plan_texts pddl_printer; do
+for crate in htn_base text_forms plan_model plan_texts pddl_printer; do
     cp -r "$top/crates/$crate" "$copy/crates/"
     grep "^$crate:" "$top/crates.txt" >>"$copy/crates.txt"
 done
