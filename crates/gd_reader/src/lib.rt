@@ -12,6 +12,8 @@ mod kind;
 mod reading;
 mod stop;
 mod term;
+#[cfg(test)]
+mod tests;
 mod typed_lists;
 mod words;
 
