@@ -1,7 +1,7 @@
 //! The printed problem as a PDDL value: slots that hold what is pending, and actions that process it.
 //!
 //! It stands on the values of `plan_model`, on the order formulas of `order_encoder` and on the definitions of `plan_meaning`.
-//! The contract used above: `encode` gives exactly the defined value, in a name table that has all its words.
+//! The contract used above: `encode` gives exactly the defined value at its name table.
 #![tactic(auto)]
 
 mod actions;
