@@ -1,13 +1,11 @@
 -- From the sets of the pairs to the closure and the line.
-use Rattle.std.proofs.Common.{ℕ, ◌≡◌, ◌+◌, ◌-◌, ◌<◌, ◌≤◌, ◌⊎◌, ◌↔◌, inl, inr, List, [], ◌++◌, length, Bool, false, take, drop, sym, subst, ap, ◌∙◌, arith}
-use Rattle.std.proofs.Math.Seq.{take-add}
+use Rattle.std.proofs.Common.{ℕ, ◌≡◌, ◌<◌, ◌≤◌, ◌⊎◌, ◌↔◌, inl, inr, List, [], length, Bool, false, sym, subst, arith}
 use Rattle.std.proofs.lemmas.Bool.{cases_Bool, both_ways}
-use Rattle.std.proofs.lemmas.List.Elements.{Contains-append_left, Contains-append_right, Contains-append_cases}
 use Rattle.plan_model.specs.declared.networks.Pair.{Pair}
 use Rattle.task_networks.specs.Order.{Precedes, direct, IsAcyclic, ArePairsOf, IsLine}
 use Rattle.net_order.specs.Marks.{marked, Marked, IsSquare}
 use Rattle.net_order.specs.Line.{IsGreedy, IsClosed}
-use Rattle.net_order.specs.Meaning.{pair, Pairs}
+use Rattle.net_order.specs.Meaning.{Pairs}
 use Rattle.net_order.proofs.Adding.{added_none}
 use Rattle.net_order.specs.Closure.{IsClosure, IsAdded, IsDirect}
 use Rattle.net_order.proofs.Chains.{chain_map}
@@ -22,25 +20,6 @@ direct_added count pairs old new square empty h = record { square = h.square; ma
 
     to : (i j : ℕ) → Marked new i j → Pairs pairs i j
     to i j m = elim ((h.marks i j).0 m) [ inl o ↦ absurd (none i j o) | inr c ↦ c ]
-
--- the sets of some pairs with those of more pairs
-pub direct_more : (count : ℕ) (ps qs : List Pair) (old new : List (List Bool)) → IsDirect count ps old → IsAdded count qs old new → IsDirect count (ps ++ qs) new
-direct_more count ps qs old new h more = record { square = more.square; marks = λ i j. (to i j, from i j) }
-  where
-    to : (i j : ℕ) → Marked new i j → Pairs (ps ++ qs) i j
-    to i j m = elim ((more.marks i j).0 m) [ inl o ↦ Contains-append_left ps qs (pair i j) ((h.marks i j).0 o) | inr c ↦ Contains-append_right ps qs (pair i j) c ]
-
-    from : (i j : ℕ) → Pairs (ps ++ qs) i j → Marked new i j
-    from i j c = (more.marks i j).1 (elim (Contains-append_cases ps qs (pair i j) c) [ inl d ↦ inl ((h.marks i j).1 d) | inr d ↦ inr d ])
-
-pub between : (a m : ℕ) (pairs : List Pair) → a ≤ m → take a pairs ++ take (m - a) (drop a pairs) ≡ take m pairs
-between a m pairs l = sym (take-add a (m - a) pairs) ∙ ap (λ n. take n pairs) (let e : a + (m - a) ≡ m = omega arith in e)
-
--- the sets of the first a pairs with those from place a to place m
-pub direct_longer : (count a m : ℕ) (pairs : List Pair) (old seen new : List (List Bool)) → a ≤ m → IsDirect count (take a pairs) old → seen ≡ old → IsAdded (length seen) (take (m - a) (drop a pairs)) seen new → IsDirect count (take m pairs) new
-direct_longer count a m pairs old seen new l h e more =
-    let added = subst (λ n. IsAdded n (take (m - a) (drop a pairs)) old new) h.square.sets (subst (λ xs. IsAdded (length xs) (take (m - a) (drop a pairs)) xs new) e more) in
-    subst (λ ps. IsDirect count ps new) (between a m pairs l) (direct_more count (take a pairs) (take (m - a) (drop a pairs)) old new h added)
 
 pub direct_none : (count : ℕ) (before : List (List Bool)) → IsSquare count before → ((i j : ℕ) → j < count → marked before i j ≡ false) → IsDirect count [] before
 direct_none count before square empty = direct_added count [] before before square empty (added_none count before square)

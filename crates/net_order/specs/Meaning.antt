@@ -1,5 +1,5 @@
 -- What an order means, by the definitions of orders of children.
--- Source: Höller et al., "HDDL", AAAI 2020, "Ordering of tasks": the written pairs generate the order.
+-- Source: Höller et al., "HDDL", AAAI 2020, ordering constraints of a task network: the written pairs generate the order.
 use Rattle.std.specs.Prelude.{ℕ, ◌≡◌, ◌<◌, ◌≤◌, ◌↔◌, IsTrue, List, MatchOption, All}
 use Rattle.plan_model.specs.declared.networks.Pair.{Pair}
 use Rattle.task_networks.specs.Order.{Precedes, IsAcyclic, IsLine, IsHeir, IsLast, IsMaximal, IsCut, Among, IsFirstClosing}

@@ -1,8 +1,8 @@
-ghost use Rattle.std.specs.Prelude.{◌<◌, ◌^◌, length, IfOk};
+ghost use Rattle.std.specs.Prelude.{◌<◌, ◌^◌, ◌↔◌, length, IsTrue, IfOk};
 ghost use Rattle.task_networks.specs.Order.{IsAcyclic, IsFirstClosing};
 ghost use Rattle.net_order.specs.Meaning.{pair, Pairs, AreBelow};
 
-use crate::direct::{empty_sets, with_pairs};
+use crate::direct::direct_sets;
 use crate::walk::is_acyclic;
 use htn_base::Memory;
 use plan_model::Pair;
@@ -17,18 +17,25 @@ pub fn first_closing(alloc: Global, count: usize, pairs: &[Pair]) -> Result<u32,
     requires cyclic { IsAcyclic (Pairs pairs.now) → ⊥ }
     ensures first { IfOk result (IsFirstClosing pair pairs.now) }
 {
-    let mut before = empty_sets(alloc, count)?;
     let mut acyclic = 0;
     let mut cyclic = pairs.len();
     while cyclic - acyclic > 1 {
         let middle = acyclic + (cyclic - acyclic) / 2;
-        let longer = with_pairs(alloc, before.as_slice(), &pairs[acyclic..middle])?;
-        if is_acyclic(alloc, longer.as_slice())? {
+        if have_no_cycle(alloc, count, &pairs[..middle])? {
             acyclic = middle;
-            before = longer;
         } else {
             cyclic = middle;
         }
     }
     Ok(acyclic as u32)
+}
+
+/// Whether the pairs have no cycle. Their sets are dropped again.
+fn have_no_cycle(alloc: Global, count: usize, pairs: &[Pair]) -> Result<bool, Memory>
+    requires small { count < 2 ^ 32 }
+    requires below { AreBelow count pairs.now }
+    ensures told { IfOk result (λ told. IsTrue told ↔ IsAcyclic (Pairs pairs.now)) }
+{
+    let before = direct_sets(alloc, count, pairs)?;
+    is_acyclic(alloc, before.as_slice())
 }

@@ -18,33 +18,8 @@ pub fn direct_sets(alloc: Global, count: usize, pairs: &[Pair]) -> Result<Vec<Ch
     Ok(before)
 }
 
-/// Those sets with the first child of each pair put into the set of the second one.
-pub fn with_pairs(
-    alloc: Global,
-    before: &[ChildSet],
-    pairs: &[Pair],
-) -> Result<Vec<ChildSet>, Memory>
-    requires square { IsSquare (length before.now) before.now }
-    requires below { AreBelow (length before.now) pairs.now }
-    ensures added { IfOk result (λ more. IsAdded (length before.now) pairs.now before.now more.items) }
-{
-    let mut more = copies(alloc, before)?;
-    add_pairs(&mut more, pairs);
-    Ok(more)
-}
-
-fn copies(alloc: Global, before: &[ChildSet]) -> Result<Vec<ChildSet>, Memory>
-    ensures equal { IfOk result (λ sets. sets.items ≡ before.now) }
-{
-    let mut sets = Vec::new(alloc);
-    for set in before {
-        sets.push(set.copy(alloc)?)?;
-    }
-    Ok(sets)
-}
-
 /// An empty set for each child.
-pub fn empty_sets(alloc: Global, count: usize) -> Result<Vec<ChildSet>, Memory>
+fn empty_sets(alloc: Global, count: usize) -> Result<Vec<ChildSet>, Memory>
     ensures square { IfOk result (λ before. IsSquare count before.items) }
     ensures empty { IfOk result (λ before. (i j : ℕ) → j < count → marked before.items i j ≡ false) }
 {

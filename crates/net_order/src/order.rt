@@ -64,8 +64,7 @@ impl Order {
     ghost use Rattle.net_order.specs.Answers as spec;
     ghost use Rattle.net_order.specs.Meaning.{AreBelow, IsOrderOf, IsRefusedBy};
 
-    /// The order that the pairs generate on `n` children. It takes memory for n² bits, twice that where the pairs have
-    /// a cycle, and some lists.
+    /// The order that the pairs generate on `n` children. It takes memory for n² bits and some lists.
     pub fn new(alloc: Global, n: u32, pairs: &[Pair]) -> Result<Order, OrderError>
         requires small { n ≤ 4097 }
         requires below { AreBelow n pairs.now }

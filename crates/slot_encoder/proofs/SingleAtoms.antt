@@ -1,7 +1,6 @@
 -- Atoms, each at its first place alone, as the list and the set of their keys grow.
 use Rattle.std.proofs.Common.{ℕ, ◌≡◌, ◌+◌, ◌<◌, ◌||◌, Bool, true, false, not, cond, List, [], ◌∷◌, ◌++◌, take, length, get_or, nat_eq, refl, ap, sym, ◌∙◌, append_assoc}
 use Rattle.std.specs.Cmp.Lexicographic.{pointwise}
-use Rattle.std.specs.List.{list_any}
 use Rattle.std.specs.declared.vec.Vec.{Vec}
 use Rattle.std.proofs.lemmas.List.{take_more}
 use Rattle.plan_model.specs.declared.terms.GroundAtom.{GroundAtom}

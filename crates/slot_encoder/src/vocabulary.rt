@@ -6,7 +6,7 @@ use htn_base::{Memory, Name, NameTable, slot_name};
 use plan_model::{ActionSchema, Compiled, MethodPlan, Object, Param, Predicate, TaskSchema};
 use std::alloc::Global;
 
-/// The words of the printed problem with so many slots, in a table that has nothing else.
+/// The words of the printed problem with so many slots, in a table of their own.
 pub(crate) fn vocabulary(alloc: Global, c: &Compiled, slots: u32) -> Result<NameTable, Memory> {
     let source = &c.hddl.names;
     let mut names = NameTable::new(alloc);

@@ -1,12 +1,10 @@
 use Rattle.std.proofs.Common.{◌-◌, ◌<◌, ◌≤◌, length, take}
 use Rattle.task_networks.specs.Order.{IsAcyclic}
-use Rattle.net_order.specs.Closure.{IsDirect}
 use Rattle.net_order.specs.Meaning.{Pairs}
 use Rattle.net_order.proofs.cycle.first_closing.Given as goal
 
 abbrev pub invariant-loop-cyclic : goal.invariant-loop-cyclic
 invariant-loop-cyclic l = record {
-  direct : IsDirect l.count (take l.acyclic l.pairs) l.before.items;
   order : l.acyclic < l.cyclic;
   end : l.cyclic ≤ length l.pairs;
   none : IsAcyclic (Pairs (take l.acyclic l.pairs));

@@ -1,4 +1,4 @@
-use Rattle.std.proofs.Common.{◌≡◌, ◌+◌, ◌-◌, ◌++◌, ℕ, List, [], ◌∷◌, map, take, drop, filter, length, codes, refl, ap, sym, subst, ◌∙◌, arith}
+use Rattle.std.proofs.Common.{◌++◌, [], ◌∷◌, refl, ap, ◌∙◌, arith}
 use Rattle.plan_meaning.specs.EncodedValue as spec
 use Rattle.plan_meaning.specs.EncodedNames.{first_check}
 use Rattle.plan_meaning.specs.EncodedActions.{encoded_method}

@@ -1,4 +1,4 @@
-use Rattle.std.proofs.Common.{◌≡◌, ◌+◌, ◌-◌, ◌++◌, ℕ, List, [], ◌∷◌, map, take, drop, filter, length, codes, refl, ap, sym, subst, ◌∙◌, arith}
+use Rattle.std.proofs.Common.{◌+◌, refl}
 use Rattle.order_encoder.proofs.NextSlot.{push_next}
 use Rattle.plan_model.specs.declared.terms.Term.TheVariants as T
 use Rattle.slot_encoder.proofs.atoms.push_variables.Goals as goal

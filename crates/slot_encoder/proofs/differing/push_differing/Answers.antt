@@ -1,4 +1,4 @@
-use Rattle.std.proofs.Common.{◌≡◌, ◌+◌, ◌-◌, ◌++◌, ℕ, List, [], ◌∷◌, map, take, drop, filter, length, codes, refl, ap, sym, subst, ◌∙◌, arith}
+use Rattle.std.proofs.Common.{◌+◌, ◌-◌, ◌++◌, map, ap, ◌∙◌}
 use Rattle.task_networks.specs.Spelling.{numbers}
 use Rattle.slot_encoder.proofs.Numbered.{differ_next, unequal_to}
 use Rattle.plan_meaning.specs.EncodedActions.{differ}

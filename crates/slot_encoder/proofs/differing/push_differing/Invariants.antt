@@ -1,4 +1,4 @@
-use Rattle.std.proofs.Common.{◌≡◌, ◌+◌, ◌-◌, ◌++◌, ℕ, [], ◌∷◌, map, take, drop, filter, length, codes}
+use Rattle.std.proofs.Common.{◌≡◌, ◌+◌, ◌-◌, ◌++◌}
 use Rattle.task_networks.specs.Spelling.{numbers}
 use Rattle.plan_meaning.specs.EncodedActions.{differ}
 use Rattle.slot_encoder.proofs.differing.push_differing.Given as goal

@@ -1,4 +1,3 @@
-use Rattle.std.proofs.Common.{◌≡◌, ◌+◌, ◌-◌, ◌++◌, ℕ, List, [], ◌∷◌, map, take, drop, filter, length, codes, refl, ap, sym, subst, ◌∙◌, arith}
 use Rattle.order_encoder.proofs.NextSlot.{push_next}
 use Rattle.slot_encoder.specs.Pieces.{slot_free}
 use Rattle.slot_encoder.proofs.goals.push_each_free.Goals as goal

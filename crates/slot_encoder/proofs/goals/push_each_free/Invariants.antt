@@ -1,4 +1,4 @@
-use Rattle.std.proofs.Common.{◌≡◌, ◌+◌, ◌-◌, ◌++◌, ℕ, [], ◌∷◌, map, take, drop, filter, length, codes}
+use Rattle.std.proofs.Common.{◌≡◌, ◌++◌, map}
 use Rattle.task_networks.specs.Spelling.{numbers}
 use Rattle.slot_encoder.specs.Pieces.{slot_free}
 use Rattle.slot_encoder.proofs.goals.push_each_free.Given as goal

@@ -1,4 +1,4 @@
-use Rattle.std.proofs.Common.{◌≡◌, ◌+◌, ◌-◌, ◌++◌, ℕ, List, [], ◌∷◌, map, take, drop, filter, length, codes, refl, ap, sym, subst, ◌∙◌, arith}
+use Rattle.std.proofs.Common.{◌≡◌, ℕ, List, [], ap, subst, ◌∙◌}
 use Rattle.std.proofs.Common.{IfOk}
 use Rattle.slot_encoder.specs.Pieces.{with_all_types}
 use Rattle.slot_encoder.proofs.GuardTypes.{with_all_types-empty}

@@ -1,4 +1,4 @@
-use Rattle.std.proofs.Common.{◌≡◌, ◌+◌, ◌-◌, ◌++◌, ℕ, [], ◌∷◌, map, take, drop, filter, length, codes}
+use Rattle.std.proofs.Common.{◌≡◌, drop}
 use Rattle.slot_encoder.specs.Pieces.{with_all_types}
 use Rattle.slot_encoder.proofs.guards.push_all.Given as goal
 

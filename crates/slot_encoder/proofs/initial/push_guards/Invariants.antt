@@ -1,4 +1,4 @@
-use Rattle.std.proofs.Common.{◌≡◌, ◌+◌, ◌-◌, ◌++◌, ℕ, [], ◌∷◌, map, take, drop, filter, length, codes}
+use Rattle.std.proofs.Common.{take}
 use Rattle.slot_encoder.specs.Pieces.{AddsGuardAtoms}
 use Rattle.slot_encoder.proofs.initial.push_guards.Given as goal
 

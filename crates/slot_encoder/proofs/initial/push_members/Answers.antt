@@ -1,4 +1,4 @@
-use Rattle.std.proofs.Common.{◌≡◌, ◌+◌, ◌-◌, ◌++◌, ℕ, List, [], ◌∷◌, map, take, drop, filter, length, codes, refl, ap, sym, subst, ◌∙◌, arith}
+use Rattle.std.proofs.Common.{◌++◌, map, length, ap, ◌∙◌}
 use Rattle.plan_model.proofs.PartsOf.{in_type_within}
 use Rattle.plan_meaning.specs.Network.{InTypeOf}
 use Rattle.plan_meaning.specs.EncodedValue.{atom}

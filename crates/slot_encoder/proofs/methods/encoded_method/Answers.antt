@@ -1,10 +1,6 @@
-use Rattle.std.proofs.Common.{◌≡◌, ◌+◌, ◌-◌, ◌++◌, ℕ, List, [], ◌∷◌, map, take, drop, filter, length, codes, refl, ap, sym, subst, ◌∙◌, arith}
-use Rattle.task_networks.specs.Spelling.{numbers}
-use Rattle.plan_meaning.specs.SourceParts as parts
+use Rattle.std.proofs.Common.{ap, ◌∙◌}
 use Rattle.plan_model.specs.declared.formulas.Formula.TheVariants as F
 use Rattle.plan_model.specs.declared.effects.Effect.TheVariants as E
-use Rattle.slot_encoder.specs.Pieces.{new_slot}
-use Rattle.plan_meaning.specs.EncodedNames.{slot_param}
 use Rattle.slot_encoder.proofs.Splits.{same_action, method_change-at}
 use Rattle.slot_encoder.proofs.methods.encoded_method.Goals as goal
 

@@ -1,4 +1,4 @@
-use Rattle.std.proofs.Common.{◌≡◌, ◌+◌, ◌-◌, ◌++◌, ℕ, List, [], ◌∷◌, map, take, drop, filter, length, codes, refl, ap, sym, subst, ◌∙◌, arith}
+use Rattle.std.proofs.Common.{◌≡◌, ℕ, List, ap, sym, subst, ◌∙◌, arith}
 use Rattle.std.proofs.Common.{IfOk}
 use Rattle.plan_meaning.specs.SourceParts as parts
 use Rattle.slot_encoder.proofs.Splits.{method_word_first, method_word_later}

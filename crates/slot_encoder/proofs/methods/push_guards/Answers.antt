@@ -1,4 +1,3 @@
-use Rattle.std.proofs.Common.{◌≡◌, ◌+◌, ◌-◌, ◌++◌, ℕ, List, [], ◌∷◌, map, take, drop, filter, length, codes, refl, ap, sym, subst, ◌∙◌, arith}
 use Rattle.slot_encoder.specs.Pieces.{printed_guard}
 use Rattle.slot_encoder.proofs.Appended.{map_next}
 use Rattle.slot_encoder.proofs.methods.push_guards.Goals as goal

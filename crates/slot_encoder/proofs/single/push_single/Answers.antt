@@ -1,4 +1,3 @@
-use Rattle.std.proofs.Common.{◌≡◌, ◌+◌, ◌-◌, ◌++◌, ℕ, List, [], ◌∷◌, map, take, drop, filter, length, codes, refl, ap, sym, subst, ◌∙◌, arith}
 use Rattle.std.specs.HashSet.{contains}
 use Rattle.slot_encoder.proofs.SingleAtoms.{same_key, seen_more, single_next}
 use Rattle.slot_encoder.proofs.single.push_single.Goals as goal

@@ -1,4 +1,4 @@
-use Rattle.std.proofs.Common.{◌≡◌, ◌+◌, ◌-◌, ◌++◌, ℕ, [], ◌∷◌, map, take, drop, filter, length, codes}
+use Rattle.std.proofs.Common.{◌≡◌, ◌++◌, ℕ, ◌∷◌, take}
 use Rattle.std.specs.HashSet.{contains}
 use Rattle.std.specs.declared.vec.Vec.{Vec}
 use Rattle.plan_model.specs.declared.terms.GroundAtom.{GroundAtom}

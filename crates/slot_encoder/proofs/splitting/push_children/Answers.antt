@@ -1,4 +1,3 @@
-use Rattle.std.proofs.Common.{◌≡◌, ◌+◌, ◌-◌, ◌++◌, ℕ, List, [], ◌∷◌, map, take, drop, filter, length, codes, refl, ap, sym, subst, ◌∙◌, arith}
 use Rattle.slot_encoder.proofs.Splits.{children_done}
 use Rattle.slot_encoder.proofs.splitting.push_children.Goals as goal
 

@@ -1,4 +1,4 @@
-use Rattle.std.proofs.Common.{◌≡◌, ◌+◌, ◌-◌, ◌++◌, ℕ, [], ◌∷◌, map, take, drop, filter, length, codes}
+use Rattle.std.proofs.Common.{◌≡◌, ◌++◌, map, drop}
 use Rattle.plan_model.specs.declared.effects.Effect.TheVariants as E
 use Rattle.slot_encoder.specs.Pieces.{child_atoms}
 use Rattle.slot_encoder.proofs.splitting.push_children.Given as goal

@@ -1,4 +1,4 @@
-use Rattle.std.proofs.Common.{◌≡◌, ◌+◌, ◌-◌, ◌++◌, ℕ, [], ◌∷◌, map, take, drop, filter, length, codes}
+use Rattle.std.proofs.Common.{◌≡◌, ◌++◌, take}
 use Rattle.std.specs.List.{flat_map}
 use Rattle.slot_encoder.specs.Pieces.{copied}
 use Rattle.slot_encoder.proofs.splitting.push_copies.Given as goal

@@ -1,4 +1,3 @@
-use Rattle.std.proofs.Common.{◌≡◌, ◌+◌, ◌-◌, ◌++◌, ℕ, List, [], ◌∷◌, map, take, drop, filter, length, codes, refl, ap, sym, subst, ◌∙◌, arith}
 use Rattle.plan_meaning.specs.SourceParts as parts
 use Rattle.slot_encoder.proofs.Appended.{map_next}
 use Rattle.slot_encoder.proofs.terms.push_params.Goals as goal

@@ -1,4 +1,3 @@
-use Rattle.std.proofs.Common.{◌≡◌, ◌+◌, ◌-◌, ◌++◌, ℕ, List, [], ◌∷◌, map, take, drop, filter, length, codes, refl, ap, sym, subst, ◌∙◌, arith}
 use Rattle.slot_encoder.proofs.Numbered.{slots_next}
 use Rattle.plan_meaning.specs.EncodedActions.{slot_vars}
 use Rattle.slot_encoder.proofs.variables.slots_of.Goals as goal
