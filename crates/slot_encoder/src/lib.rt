@@ -1,11 +1,7 @@
 //! The printed problem as a PDDL value: slots that hold what is pending, and actions that process it.
 //!
 //! It stands on the values of `plan_model`, on the order formulas of `order_encoder` and on the definitions of `plan_meaning`.
-<<<<<<< HEAD
 //! The contract used above: `encode` gives exactly the defined value.
-=======
-//! The contract used above: `encode` gives exactly the defined value at its name table.
->>>>>>> 39d1444dfea326e0874e68854c2c975ea54deeae
 #![tactic(auto)]
 
 mod actions;
