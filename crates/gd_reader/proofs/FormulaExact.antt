@@ -37,7 +37,7 @@ headed_form h p = elim h [
   | head.Wrong ↦ wrong
 ]
 
-pub inside_word : (names : Names) (at : ℕ) (w : Word) (p : Placed) → inside names (word at w p) ≡ headed (head_of w) names at w p
+inside_word : (names : Names) (at : ℕ) (w : Word) (p : Placed) → inside names (word at w p) ≡ headed (head_of w) names at w p
 inside_word names at w p = inside_is names (word at w p) ∙ (unfold word_or_end in refl)
 
 -- by what the word begins, where what stands behind it is read exactly
