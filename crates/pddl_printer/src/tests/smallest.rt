@@ -115,11 +115,29 @@ fn action(
     })
 }
 
+fn start(alloc: Global) -> Result<ActionSchema, Memory> {
+    action(alloc, 13, 0, turned(alloc, 0, 3)?)
+}
+
+fn method(alloc: Global) -> Result<ActionSchema, Memory> {
+    action(alloc, 14, 3, turned(alloc, 3, 4)?)
+}
+
+fn freeing(alloc: Global) -> Result<List<Effect>, Memory> {
+    with(turned(alloc, 4, 1)?, clear(alloc)?)
+}
+
+fn run(alloc: Global) -> Result<ActionSchema, Memory> {
+    action(alloc, 15, 4, freeing(alloc)?)
+}
+
+fn methods(alloc: Global) -> Result<List<ActionSchema>, Memory> {
+    let start = start(alloc)?;
+    two(alloc, start, method(alloc)?)
+}
+
 fn actions(alloc: Global) -> Result<List<ActionSchema>, Memory> {
-    let start = action(alloc, 13, 0, turned(alloc, 0, 3)?)?;
-    let method = action(alloc, 14, 3, turned(alloc, 3, 4)?)?;
-    let freed = with(turned(alloc, 4, 1)?, clear(alloc)?)?;
-    with(two(alloc, start, method)?, action(alloc, 15, 4, freed)?)
+    with(methods(alloc)?, run(alloc)?)
 }
 
 fn goal(alloc: Global) -> Result<Formula, Memory> {
