@@ -19,7 +19,7 @@ pub fn direct_sets(alloc: Global, count: usize, pairs: &[Pair]) -> Result<Vec<Ch
 }
 
 /// An empty set for each child.
-fn empty_sets(alloc: Global, count: usize) -> Result<Vec<ChildSet>, Memory>
+pub fn empty_sets(alloc: Global, count: usize) -> Result<Vec<ChildSet>, Memory>
     ensures square { IfOk result (λ before. IsSquare count before.items) }
     ensures empty { IfOk result (λ before. (i j : ℕ) → j < count → marked before.items i j ≡ false) }
 {
