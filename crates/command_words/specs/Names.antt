@@ -1,0 +1,22 @@
+use Rattle.std.specs.Prelude.{◌≢◌, ℕ, List}
+use Rattle.command_words.specs.declared.names.Named.{Named}
+
+-- a word of the command line, as its bytes
+abbrev pub Word : Type 0
+Word = List ℕ
+
+-- the files of a translation: two that are read, and two that are written
+pub record Names : Type 0 where
+  pub domain : Word
+  pub problem : Word
+  pub printed_domain : Word
+  pub printed_problem : Word
+
+abbrev pub names_of : Named → Names
+names_of named = record { domain = named.d.now; problem = named.p.now; printed_domain = named.od.now; printed_problem = named.op.now }
+
+-- the two outputs differ from each other and from both inputs
+pub record AreApart (names : Names) : Type 0 where
+  pub outputs : names.printed_domain ≢ names.printed_problem
+  pub domain : (names.printed_domain ≢ names.domain) × (names.printed_domain ≢ names.problem)
+  pub problem : (names.printed_problem ≢ names.domain) × (names.printed_problem ≢ names.problem)

@@ -1,0 +1,16 @@
+use plan_model::{Checks, Style};
+
+/// What the words of the command line ask for. Files are named by their words.
+#[derive(Clone, Copy, Debug)]
+pub enum Command<'a> {
+    /// Read the HDDL domain `d` and problem `p`, and write the PDDL domain `od` and problem `op`.
+    Translate {
+        d: &'a str,
+        p: &'a str,
+        od: &'a str,
+        op: &'a str,
+        bound: Option<&'a str>,
+        style: Style,
+        checks: Checks,
+    },
+}

@@ -1,0 +1,168 @@
+ghost use Rattle.std.specs.Prelude.{◌≡◌, ◌↔◌, ◌<◌, ◌≤◌, ◌∷◌, length, IsTrue, IfSome, IfNone, map, option_copied, string_bytes};
+ghost use Rattle.command_words.specs.Names.{Word};
+ghost use Rattle.command_words.specs.Bounds.{IsNumeral};
+ghost use Rattle.command_words.specs.Options.{Chosen, Choose, Sets, SetsBound, SetsStyle, SetsChecks, chosen_of, style_word, checks_word, nothing_chosen};
+
+use crate::bounds::is_numeral;
+use plan_model::{Checks, Style};
+
+/// What the options of a command have set so far.
+#[derive(Clone, Copy)]
+pub(crate) struct Settings<'a> {
+    pub(crate) bound: Option<&'a str>,
+    pub(crate) style: Option<Style>,
+    pub(crate) checks: Option<Checks>,
+}
+
+/// The settings of words that are options with their values; `None` where they are not.
+pub(crate) fn settings_of(words: &[String]) -> Option<Settings<'_>>
+    ensures chosen { IfSome result (λ s. Choose (map string_bytes words.now) nothing_chosen (chosen_of s)) }
+    ensures other { IfNone result ((after : Chosen) → Choose (map string_bytes words.now) nothing_chosen after → ⊥) }
+{
+    let nothing = Settings {
+        bound: None,
+        style: None,
+        checks: None,
+    };
+    nothing.with_all(words)
+}
+
+impl<'a> Settings<'a> {
+    fn with_all(self, words: &'a [String]) -> Option<Settings<'a>>
+        ensures chosen { IfSome result (λ s. Choose (map string_bytes words.now) (chosen_of self.entry) (chosen_of s)) }
+        ensures other { IfNone result ((after : Chosen) → Choose (map string_bytes words.now) (chosen_of self.entry) after → ⊥) }
+    {
+        match words {
+            [] => Some(self),
+            [_] => None,
+            _ => {
+                let pair = pair_of(words);
+                self.with(pair.option, pair.value)?.with_all(pair.more)
+            }
+        }
+    }
+
+    /// With the value of one more option, which was not set before.
+    fn with(self, option: &str, value: &'a str) -> Option<Settings<'a>>
+        ensures set { IfSome result (λ s. Sets option.now value.now (chosen_of self.entry) (chosen_of s)) }
+        ensures other { IfNone result ((after : Chosen) → Sets option.now value.now (chosen_of self.entry) after → ⊥) }
+    {
+        if is_option(option, "--bound") {
+            self.with_bound(value)
+        } else if is_option(option, "--style") {
+            self.with_style(value)
+        } else if is_option(option, "--checks") {
+            self.with_checks(value)
+        } else {
+            None
+        }
+    }
+
+    /// The value of `--bound` that was set, where it is a numeral.
+    pub(crate) fn numeral(&self) -> Option<&'a str>
+        ensures set { IfSome result (λ word. (option_copied self.now.bound ≡ Some word.now) × IsNumeral word.now) }
+        ensures other { IfNone result ((word : Word) → option_copied self.now.bound ≡ Some word → IsNumeral word → ⊥) }
+    {
+        let word = self.bound?;
+        if is_numeral(word) { Some(word) } else { None }
+    }
+
+    fn with_bound(self, value: &'a str) -> Option<Settings<'a>>
+        ensures set { IfSome result (λ s. SetsBound value.now (chosen_of self.entry) (chosen_of s)) }
+        ensures other { IfNone result ((after : Chosen) → SetsBound value.now (chosen_of self.entry) after → ⊥) }
+    {
+        if self.bound.is_some() {
+            return None;
+        }
+        Some(Settings {
+            bound: Some(value),
+            style: self.style,
+            checks: self.checks,
+        })
+    }
+
+    fn with_style(self, value: &str) -> Option<Settings<'a>>
+        ensures set { IfSome result (λ s. SetsStyle value.now (chosen_of self.entry) (chosen_of s)) }
+        ensures other { IfNone result ((after : Chosen) → SetsStyle value.now (chosen_of self.entry) after → ⊥) }
+    {
+        if self.style.is_some() {
+            return None;
+        }
+        let style = style_of(value)?;
+        Some(Settings {
+            bound: self.bound,
+            style: Some(style),
+            checks: self.checks,
+        })
+    }
+
+    fn with_checks(self, value: &str) -> Option<Settings<'a>>
+        ensures set { IfSome result (λ s. SetsChecks value.now (chosen_of self.entry) (chosen_of s)) }
+        ensures other { IfNone result ((after : Chosen) → SetsChecks value.now (chosen_of self.entry) after → ⊥) }
+    {
+        if self.checks.is_some() {
+            return None;
+        }
+        let checks = checks_of(value)?;
+        Some(Settings {
+            bound: self.bound,
+            style: self.style,
+            checks: Some(checks),
+        })
+    }
+}
+
+/// An option, its value and the words behind them.
+#[derive(Clone, Copy)]
+struct Pair<'a> {
+    option: &'a str,
+    value: &'a str,
+    more: &'a [String],
+}
+
+fn pair_of(words: &[String]) -> Pair<'_>
+    requires { 2 ≤ length words.now }
+    ensures spelled { map string_bytes words.now ≡ result.option.now ∷ result.value.now ∷ map string_bytes result.more.now }
+    ensures shorter { length result.more.now < length words.now }
+{
+    match words {
+        [option, value, more @ ..] => Pair {
+            option: option.as_str(),
+            value: value.as_str(),
+            more,
+        },
+        _ => unreachable!(),
+    }
+}
+
+fn is_option(word: &str, option: &str) -> bool
+    ensures { IsTrue result ↔ (word.now ≡ option.now) }
+{
+    word == option
+}
+
+fn style_of(word: &str) -> Option<Style>
+    ensures spelled { IfSome result (λ style. word.now ≡ style_word style) }
+    ensures other { IfNone result ((style : Style) → word.now ≡ style_word style → ⊥) }
+{
+    if word == "adl" {
+        Some(Style::Adl)
+    } else if word == "flat" {
+        Some(Style::Flat)
+    } else {
+        None
+    }
+}
+
+fn checks_of(word: &str) -> Option<Checks>
+    ensures spelled { IfSome result (λ checks. word.now ≡ checks_word checks) }
+    ensures other { IfNone result ((checks : Checks) → word.now ≡ checks_word checks → ⊥) }
+{
+    if word == "leaf" {
+        Some(Checks::Leaf)
+    } else if word == "atonce" {
+        Some(Checks::AtOnce)
+    } else {
+        None
+    }
+}
