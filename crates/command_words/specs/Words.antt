@@ -5,9 +5,10 @@ use Rattle.plan_model.specs.declared.options.Style.{Style}
 use Rattle.plan_model.specs.declared.options.Style.TheVariants.{Adl}
 use Rattle.plan_model.specs.declared.options.Checks.{Checks}
 use Rattle.plan_model.specs.declared.options.Checks.TheVariants.{Leaf}
+use Rattle.command_words.specs.declared.words.Translation.{Translation}
 use Rattle.command_words.specs.declared.commands.Command.{Command}
 use Rattle.command_words.specs.declared.commands.Command.TheVariants.{Translate}
-use Rattle.command_words.specs.Names.{Word, Names, AreApart}
+use Rattle.command_words.specs.Names.{Word, Names, names_of, AreApart}
 use Rattle.command_words.specs.Bounds.{IsNumeral}
 use Rattle.command_words.specs.Options.{Chosen, nothing_chosen, Choose}
 
@@ -17,6 +18,9 @@ pub record Request : Type 0 where
   pub numeral : Word
   pub style : Style
   pub checks : Checks
+
+abbrev pub request_of : Translation → Request
+request_of asked = record { names = names_of asked.names; numeral = asked.numeral.now; style = asked.style; checks = asked.checks }
 
 -- the number of slots that is asked for
 abbrev pub slots_of : Request → ℕ

@@ -13,4 +13,4 @@ mod words;
 pub use bounds::{Bound, bound_of};
 pub use commands::Command;
 pub use names::Named;
-pub use words::command;
+pub use words::{Translation, asked, command};

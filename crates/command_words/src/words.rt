@@ -1,6 +1,6 @@
 ghost use Rattle.std.specs.Prelude.{◌≡◌, ◌↔◌, List, map, string_bytes, IfSome, IfNone, IsTrue};
 ghost use Rattle.command_words.specs.Names.{Word, Names, names_of};
-ghost use Rattle.command_words.specs.Words.{AreOfAForm, AskFor, translation_words};
+ghost use Rattle.command_words.specs.Words.{AreOfAForm, AskFor, Asks, request_of, translation_words};
 
 use crate::commands::Command;
 use crate::names::{Named, are_apart};
@@ -15,18 +15,41 @@ pub fn command(words: &[String]) -> Option<Command<'_>>
     ensures asked { IfSome result (AskFor (map string_bytes words.now)) }
     ensures formless { IfNone result (AreOfAForm (map string_bytes words.now) → ⊥) }
 {
+    let asked = asked(words)?;
+    Some(Command::Translate {
+        d: asked.names.d,
+        p: asked.names.p,
+        od: asked.names.od,
+        op: asked.names.op,
+        bound: Some(asked.numeral),
+        style: asked.style,
+        checks: asked.checks,
+    })
+}
+
+/// A translation that is asked for: its files, the numeral of its slots, its style and its checks of preconditions.
+#[derive(Clone, Copy)]
+pub struct Translation<'a> {
+    pub names: Named<'a>,
+    pub numeral: &'a str,
+    pub style: Style,
+    pub checks: Checks,
+}
+
+/// The translation that the words ask for; `None` exactly where the words are of no command's form. It takes no memory.
+pub fn asked(words: &[String]) -> Option<Translation<'_>>
+    ensures asked { IfSome result (λ asked. Asks (map string_bytes words.now) (request_of asked)) }
+    ensures formless { IfNone result (AreOfAForm (map string_bytes words.now) → ⊥) }
+{
     let parts = parts_of(words)?;
     if !are_apart(&parts.names) {
         return None;
     }
     let settings = settings_of(parts.options)?;
-    let bound = settings.numeral()?;
-    Some(Command::Translate {
-        d: parts.names.d,
-        p: parts.names.p,
-        od: parts.names.od,
-        op: parts.names.op,
-        bound: Some(bound),
+    let numeral = settings.numeral()?;
+    Some(Translation {
+        names: parts.names,
+        numeral,
         style: settings.style.unwrap_or(Style::Adl),
         checks: settings.checks.unwrap_or(Checks::Leaf),
     })

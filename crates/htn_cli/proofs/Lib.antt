@@ -1,4 +1,7 @@
-pub mod WordLists
+pub mod Results
 pub mod Texts
 pub mod Outputs
+pub mod Leavings
+pub mod Headlines
+pub mod Endings
 mod Examples

@@ -2,12 +2,10 @@ use Rattle.std.proofs.Common.{◌≡◌, ◌≢◌, ◌⊎◌, [], Option, Some,
 use Rattle.std.specs.Option.{option_map}
 use Rattle.outside_io.specs.Folder.{Folder, with_bytes, KeepsOthers}
 use Rattle.outside_io.specs.Files.{FilesState, PutGives, PutFails}
-use Rattle.htn_cli.specs.Names.{Word, Names}
+use Rattle.command_words.specs.Names.{Word, Names}
 use Rattle.outside_io.specs.Sink.{SinkState}
-use Rattle.htn_cli.specs.Left.{Texts, KeepsAllBut, FirstStands, BothStand, SecondFails, Leaves}
-use Rattle.htn_cli.specs.Stops.{StopsGet}
-use Rattle.htn_cli.specs.declared.refusal.Refusal.{Refusal}
-use Rattle.htn_cli.specs.declared.refusal.Refusal.TheVariants as refused
+use Rattle.htn_cli.specs.Texts.{Texts}
+use Rattle.htn_cli.specs.Left.{KeepsAllBut, FirstStands, BothStand, SecondFails}
 
 -- where the first put is done, its name holds the text
 pub FirstStands-put : (names : Names) (texts : Texts) (old new : FilesState) → PutGives old new names.printed_domain texts.domain → FirstStands names texts old new
@@ -44,18 +42,3 @@ SecondFails-puts names texts old mid new apart one two =
       put_faults = let e = one.put_faults in rw (← e) two.put_faults;
       failed = two.failed;
     }
-
--- the texts of a run that ends before there are any
-pub no_texts : Texts
-no_texts = record { domain = []; problem = [] }
-
--- what a refused get leaves
-pub Leaves-get : (names : Names) (name : Word) (old mid new : FilesState) (out : SinkState) (refusal : Refusal)
-    → (name ≡ names.domain) ⊎ (name ≡ names.problem) → mid ≡ old → StopsGet name mid new refusal → Leaves names no_texts refusal old new out out
-Leaves-get names name old mid new out refused.Words input same stops = stops
-Leaves-get names name old mid new out (refused.NotBuilt domain) input same stops = absurd stops
-Leaves-get names name old mid new out (refused.CannotRead word) input same stops =
-    (⊎_elim (λ e. inl (stops.0 ∙ e)) (λ e. inr (stops.0 ∙ e)) input, rw (← same, stops.0) stops.1, refl)
-Leaves-get names name old mid new out (refused.CannotWrite word) input same stops = absurd stops
-Leaves-get names name old mid new out refused.CannotWriteOutput input same stops = absurd stops
-Leaves-get names name old mid new out refused.NoMemory input same stops = inl (stops ∙ same, refl)

@@ -1,25 +1,20 @@
-use Rattle.std.specs.Prelude.{◌≡◌, ◌≢◌, ◌⊎◌, ℕ, List, Some, IfSome, codes, option_map}
+-- What a translation leaves of its files and of standard output.
+use Rattle.std.specs.Prelude.{◌≡◌, ◌≢◌, ◌⊎◌, ℕ, ◌++◌, List, Some, IfSome, codes, decimal, option_map}
 use Rattle.outside_io.specs.Count.{Rises}
 use Rattle.outside_io.specs.Folder.{told_of, KeepsOthers}
 use Rattle.outside_io.specs.Files.{FilesState, GetFails, PutFails}
 use Rattle.outside_io.specs.Sink.{SinkState}
-use Rattle.htn_cli.specs.Names.{Word, Names}
+use Rattle.command_words.specs.Names.{Word, Names}
+use Rattle.htn_cli.specs.Texts.{Texts}
+use Rattle.htn_cli.specs.Inputs.{AreDefined, IsPastOutput}
 use Rattle.htn_cli.specs.Sent.{TakesWhole, TakesThenFails, TakesThenStarves}
-use Rattle.htn_cli.specs.declared.building.Texts.{Texts as Built}
+use Rattle.htn_cli.specs.declared.manner.Manner.{Manner}
 use Rattle.htn_cli.specs.declared.refusal.Refusal.{Refusal}
 use Rattle.htn_cli.specs.declared.refusal.Refusal.TheVariants as refused
 
--- the two printed texts
-pub record Texts : Type 0 where
-  pub domain : List ℕ
-  pub problem : List ℕ
-
-abbrev pub texts_of : Built → Texts
-texts_of built = record { domain = built.domain; problem = built.problem }
-
 -- what standard output gets: the number of slots
-abbrev pub slots_line : List ℕ
-slots_line = codes "slots 1\n"
+abbrev pub slots_line : ℕ → List ℕ
+slots_line slots = codes "slots " ++ decimal slots ++ codes "\n"
 
 -- the name holds this text, where that is told
 abbrev pub Holds : FilesState → FilesState → Word → List ℕ → Type 0
@@ -55,22 +50,35 @@ pub record SecondFails (names : Names) (texts : Texts) (old new : FilesState) : 
   pub put_faults : Rises old.put_faults new.put_faults
   pub failed : IfSome new.failed (λ told. told ≡ names.printed_problem)
 
--- what a translation leaves that was done
-abbrev pub LeavesDone : Names → Texts → FilesState → FilesState → SinkState → SinkState → Type 0
-LeavesDone names texts old new out out' = BothStand names texts old new × TakesWhole slots_line out out'
+-- the put of this name failed
+abbrev pub LeavesUnwritten : Names → Texts → Word → FilesState → FilesState → Type 0
+LeavesUnwritten names texts name old new =
+    ((name ≡ names.printed_domain) × PutFails old new names.printed_domain)
+    ⊎ ((name ≡ names.printed_problem) × SecondFails names texts old new)
 
--- what a translation leaves that ended with a refusal
-abbrev pub Leaves : Names → Texts → Refusal → FilesState → FilesState → SinkState → SinkState → Type 0
-Leaves names texts refused.Words old new out out' = ⊥
-Leaves names texts (refused.NotBuilt domain) old new out out' = (domain.now ≡ names.domain) × (new ≡ old) × (out' ≡ out)
-Leaves names texts (refused.CannotRead name) old new out out' =
-    ((name.now ≡ names.domain) ⊎ (name.now ≡ names.problem)) × GetFails old new name.now × (out' ≡ out)
-Leaves names texts (refused.CannotWrite name) old new out out' =
-    (((name.now ≡ names.printed_domain) × PutFails old new names.printed_domain)
-    ⊎ ((name.now ≡ names.printed_problem) × SecondFails names texts old new))
-    × (out' ≡ out)
-Leaves names texts refused.CannotWriteOutput old new out out' = BothStand names texts old new × TakesThenFails slots_line out out'
-Leaves names texts refused.NoMemory old new out out' =
-    ((new ≡ old) × (out' ≡ out))
-    ⊎ (FirstStands names texts old new × (out' ≡ out))
-    ⊎ (BothStand names texts old new × TakesThenStarves slots_line out out')
+module _ (names : Names) (manner : Manner) where
+  -- what a translation leaves that was done
+  abbrev pub LeavesDone : Texts → FilesState → FilesState → SinkState → SinkState → Type 0
+  LeavesDone texts old new out out' = BothStand names texts old new × TakesWhole (slots_line manner.slots) out out'
+
+  -- memory was refused before the first put, before the second, or when the number of slots was told
+  abbrev pub LeavesStarved : FilesState → FilesState → SinkState → SinkState → Type 0
+  LeavesStarved old new out out' =
+      ((new ≡ old) × (out' ≡ out))
+      ⊎ ((texts : Texts) × AreDefined names manner old texts × FirstStands names texts old new × (out' ≡ out))
+      ⊎ ((texts : Texts) × AreDefined names manner old texts × BothStand names texts old new × TakesThenStarves (slots_line manner.slots) out out')
+
+  -- what a translation leaves that ended with a refusal
+  abbrev pub Leaves : Refusal → FilesState → FilesState → SinkState → SinkState → Type 0
+  Leaves refused.Words old new out out' = ⊥
+  Leaves refused.BoundLimit old new out out' = ⊥
+  Leaves (refused.SlotsLimit n) old new out out' = ⊥
+  Leaves (refused.NotBuilt domain) old new out out' = (domain.now ≡ names.domain) × (new ≡ old) × (out' ≡ out)
+  Leaves (refused.OutputLimit n) old new out out' = IsPastOutput names manner old n × (new ≡ old) × (out' ≡ out)
+  Leaves (refused.CannotRead name) old new out out' =
+      ((name.now ≡ names.domain) ⊎ (name.now ≡ names.problem)) × GetFails old new name.now × (out' ≡ out)
+  Leaves (refused.CannotWrite name) old new out out' =
+      (texts : Texts) × AreDefined names manner old texts × LeavesUnwritten names texts name.now old new × (out' ≡ out)
+  Leaves refused.CannotWriteOutput old new out out' =
+      (texts : Texts) × AreDefined names manner old texts × BothStand names texts old new × TakesThenFails (slots_line manner.slots) out out'
+  Leaves refused.NoMemory old new out out' = LeavesStarved old new out out'

@@ -1,6 +1,8 @@
-pub mod Names
-pub mod Words
+pub mod Texts
+pub mod Inputs
+pub mod Built
 pub mod Refusal
+pub mod Line
 pub mod Sent
 pub mod Stops
 pub mod Left

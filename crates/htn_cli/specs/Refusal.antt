@@ -1,8 +1,8 @@
-use Rattle.std.specs.Prelude.{ℕ, List, ◌++◌, codes}
+use Rattle.std.specs.Prelude.{ℕ, List, ◌++◌, codes, decimal}
 use Rattle.htn_cli.specs.declared.status.Status.{Status}
 use Rattle.htn_cli.specs.declared.status.Status.TheVariants as status
 use Rattle.htn_cli.specs.declared.refusal.Refusal.{Refusal}
-use Rattle.htn_cli.specs.declared.refusal.Refusal.TheVariants.{Words, NotBuilt, CannotRead, CannotWrite, CannotWriteOutput, NoMemory}
+use Rattle.htn_cli.specs.declared.refusal.Refusal.TheVariants.{Words, BoundLimit, SlotsLimit, NotBuilt, OutputLimit, CannotRead, CannotWrite, CannotWriteOutput, NoMemory}
 
 -- the number with which the program ends
 abbrev pub code_of : Status → ℕ
@@ -18,7 +18,10 @@ code_of status.Limit = 7
 -- the status of a run that ends with this refusal
 abbrev pub status_of : Refusal → Status
 status_of Words = status.Words
+status_of BoundLimit = status.Limit
+status_of (SlotsLimit n) = status.Limit
 status_of (NotBuilt domain) = status.TextFault
+status_of (OutputLimit n) = status.Limit
 status_of (CannotRead name) = status.ReadFault
 status_of (CannotWrite name) = status.WriteFault
 status_of CannotWriteOutput = status.WriteFault
@@ -27,7 +30,10 @@ status_of NoMemory = status.NoMemory
 -- its one line on standard error
 abbrev pub line_of : Refusal → List ℕ
 line_of Words = codes "words refused\n"
+line_of BoundLimit = codes "limit bound\n"
+line_of (SlotsLimit n) = codes "limit slots " ++ decimal n ++ codes "\n"
 line_of (NotBuilt domain) = domain.now ++ codes ":0: fault 40 NotBuilt\n"
+line_of (OutputLimit n) = codes "limit output " ++ decimal n ++ codes "\n"
 line_of (CannotRead name) = codes "cannot read " ++ name.now ++ codes "\n"
 line_of (CannotWrite name) = codes "cannot write " ++ name.now ++ codes "\n"
 line_of CannotWriteOutput = codes "cannot write standard output\n"

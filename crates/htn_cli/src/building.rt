@@ -1,5 +1,7 @@
-use crate::{encoder, printer};
-use hddl_reader::small;
+ghost use Rattle.std.specs.Prelude.{◌≤◌, IfOk};
+ghost use Rattle.htn_cli.specs.Built.{ComesTo};
+
+use crate::manner::Manner;
 use htn_base::{Memory, Text};
 use std::alloc::Global;
 
@@ -10,14 +12,26 @@ pub(crate) struct Texts {
     pub(crate) problem: Text,
 }
 
-/// The printed texts of a domain and a problem for one slot; `None` where the pair is not of the form that is
-/// translated today.
-pub(crate) fn build(alloc: Global, domain: &[u8], problem: &[u8]) -> Result<Option<Texts>, Memory> {
-    let Some(hddl) = small(alloc, domain, problem)? else {
-        return Ok(None);
-    };
-    let encoded = encoder::encode(alloc, &hddl)?;
-    let domain = printer::print_domain(alloc, &encoded)?;
-    let problem = printer::print_problem(alloc, &encoded)?;
-    Ok(Some(Texts { domain, problem }))
+/// What two input texts come to.
+#[derive(Drop)]
+pub(crate) enum Built {
+    /// The two printed texts.
+    Whole(Texts),
+    /// The pair is not of the form that is translated today.
+    NotOfForm,
+    /// A printed text is too long: so many bytes.
+    TooLong(u64),
+}
+
+/// The printed texts of a domain and a problem.
+pub(crate) fn build(
+    alloc: Global,
+    domain: &[u8],
+    problem: &[u8],
+    manner: &Manner,
+) -> Result<Built, Memory>
+    requires { 1 ≤ manner.now.slots }
+    ensures { IfOk result (ComesTo domain.now problem.now manner.now) }
+{
+    Err(Memory)
 }

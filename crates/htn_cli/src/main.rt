@@ -4,10 +4,7 @@
 #![tactic(auto)]
 
 mod building;
-mod commands;
-mod encoder;
-mod names;
-mod printer;
+mod manner;
 mod program;
 mod refusal;
 mod sending;
@@ -16,16 +13,14 @@ mod telling;
 #[cfg(test)]
 mod tests;
 mod translation;
-mod words;
 
-pub use commands::Command;
+pub use command_words::{Command, command};
 use outside_io::{DiskFiles, StdSink};
 pub use program::run;
 pub use status::Status;
 use std::env;
 use std::io::{self, ErrorKind};
 use std::process::ExitCode;
-pub use words::command;
 
 /// The status where the system does not give the arguments. `run` never gives it.
 const NO_ARGUMENTS: u8 = 8;

@@ -1,15 +1,16 @@
-ghost use Rattle.std.specs.Prelude.{◌≡◌, ◌≢◌, ◌↔◌, ◌⊎◌, ◌<◌, IfErr, OnOk, map, string_bytes};
+ghost use Rattle.std.specs.Prelude.{ℕ, ◌≡◌, ◌≢◌, ◌↔◌, ◌⊎◌, ◌<◌, ◌≤◌, ◌^◌, IfErr, OnOk, map, string_bytes};
 ghost use Rattle.outside_io.specs.Count.{HasRisen};
-ghost use Rattle.htn_cli.specs.Words.{AreOfAForm};
-ghost use Rattle.htn_cli.specs.Ending.{Ends, IsBeforePuts, IsDone, IsRefused, IsUntouched};
+ghost use Rattle.command_words.specs.Names.{AreApart};
+ghost use Rattle.command_words.specs.Bounds.{IsNumeral, most_slots};
+ghost use Rattle.command_words.specs.Words.{AreOfAForm, request_of};
+ghost use Rattle.htn_cli.specs.Ending.{Achieves, AskForSlots, Ends, HasHeadline, HasHeadlineAtBound, IsBeforePuts, IsDone, IsPastLimit, IsRefused, IsRefusedFor, IsUntouched, RefusesRequest};
 
-use crate::commands::Command;
-use crate::names::Named;
+use crate::manner::Manner;
 use crate::refusal::Refusal;
 use crate::status::Status;
 use crate::telling::tell;
 use crate::translation::translate;
-use crate::words::command;
+use command_words::{Bound, Translation, asked, bound_of};
 use outside_io::{Files, Sink};
 use std::alloc::Global;
 
@@ -23,13 +24,28 @@ pub fn run<F: Files, O: Sink, E: Sink>(
 ) -> Status
     ensures done { result ≡ Status.Done → IsDone (map string_bytes words.now)
         (F.state files.old) (F.state files.new) (O.state out.old) (O.state out.new) }
+    ensures headline { result ≡ Status.Done → HasHeadline (map string_bytes words.now) (F.state files.old) (F.state files.new) }
+    ensures at_bound { result ≡ Status.Done → HasHeadlineAtBound (map string_bytes words.now) (F.state files.old) (F.state files.new) }
     ensures quiet { result ≡ Status.Done → E.state err.new ≡ E.state err.old }
-    ensures refused { result ≢ Status.Done → Ends (map string_bytes words.now) result
-        (F.state files.old) (F.state files.new) (O.state out.old) (O.state out.new) (E.state err.old) (E.state err.new) }
+    ensures refused { result ≢ Status.Done → Ends (map string_bytes words.now)
+        (F.state files.old) (F.state files.new) (O.state out.old) (O.state out.new) result (E.state err.old) (E.state err.new) }
 
     ensures untouched { IsBeforePuts result →
         IsUntouched (F.state files.old) (F.state files.new) (O.state out.old) (O.state out.new) }
     ensures words { (result ≡ Status.Words) ↔ (AreOfAForm (map string_bytes words.now) → ⊥) }
+
+    // A number of slots that is past a limit is refused before any file is read, and takes no memory.
+    ensures past_all { (n : ℕ) → AskForSlots (map string_bytes words.now) n → 2 ^ 128 ≤ n →
+        IsRefusedFor (F.state files.old) (F.state files.new) (O.state out.old) (O.state out.new)
+        Refusal.BoundLimit result (E.state err.old) (E.state err.new) }
+    ensures past_slots { (n : ℕ) → AskForSlots (map string_bytes words.now) n → most_slots < n → n < 2 ^ 128 →
+        IsRefusedFor (F.state files.old) (F.state files.new) (O.state out.old) (O.state out.new)
+        (Refusal.SlotsLimit n) result (E.state err.old) (E.state err.new) }
+    ensures past_output { (n : ℕ) → AskForSlots (map string_bytes words.now) n → n ≤ most_slots → result ≡ Status.Limit →
+        (size : ℕ) × IsPastLimit (map string_bytes words.now) (F.state files.old) size
+        × IsRefusedFor (F.state files.old) (F.state files.new) (O.state out.old) (O.state out.new)
+        (Refusal.OutputLimit size) result (E.state err.old) (E.state err.new) }
+
     ensures read_fault { result ≡ Status.ReadFault → HasRisen (F.state files.old).get_faults (F.state files.new).get_faults }
     ensures write_fault { result ≡ Status.WriteFault →
         HasRisen (F.state files.old).put_faults (F.state files.new).put_faults
@@ -60,10 +76,35 @@ fn act<'a, F: Files, O: Sink>(
     ensures refused { IfErr result (IsRefused (map string_bytes words.now)
         (F.state files.old) (F.state files.new) (O.state out.old) (O.state out.new)) }
 {
-    match command(words) {
+    match asked(words) {
         None => Err(Refusal::Words),
-        Some(Command::Translate { d, p, od, op, .. }) => {
-            translate(alloc, &Named { d, p, od, op }, files, out)
+        Some(asked) => obey(alloc, &asked, files, out),
+    }
+}
+
+fn obey<'a, F: Files, O: Sink>(
+    alloc: Global,
+    asked: &Translation<'a>,
+    files: &mut F,
+    out: &mut O,
+) -> Result<(), Refusal<'a>>
+    requires number { IsNumeral (request_of asked.now).numeral }
+    requires apart { AreApart (request_of asked.now).names }
+    ensures done { OnOk result (Achieves
+        (F.state files.old) (F.state files.new) (O.state out.old) (O.state out.new) (request_of asked.now)) }
+    ensures refused { IfErr result (RefusesRequest
+        (F.state files.old) (F.state files.new) (O.state out.old) (O.state out.new) (request_of asked.now)) }
+{
+    match bound_of(asked.numeral) {
+        Bound::Slots(slots) => {
+            let manner = Manner {
+                slots,
+                style: asked.style,
+                checks: asked.checks,
+            };
+            translate(alloc, &asked.names, &manner, files, out)
         }
+        Bound::TooMany(slots) => Err(Refusal::SlotsLimit(slots)),
+        Bound::PastAll => Err(Refusal::BoundLimit),
     }
 }

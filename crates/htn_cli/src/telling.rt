@@ -1,9 +1,12 @@
 ghost use Rattle.std.specs.Prelude.{◌++◌, IfErr, OnOk};
 ghost use Rattle.htn_cli.specs.Refusal.{line_of};
+ghost use Rattle.htn_cli.specs.Line.{line_text};
+ghost use Rattle.htn_cli.specs.Left.{slots_line};
 ghost use Rattle.htn_cli.specs.Sent.{StopsAt, TakesWhole, Told};
 
-use crate::refusal::Refusal;
+use crate::refusal::{Line, Middle, Refusal};
 use crate::sending::send;
+use itoa::Buffer;
 use outside_io::{Sink, WriteError};
 
 /// Writes the line of a refusal, as far as the sink takes it.
@@ -11,12 +14,30 @@ pub(crate) fn tell<E: Sink>(err: &mut E, refusal: &Refusal<'_>)
     ensures told { Told (line_of refusal.now) (E.state err.old) (E.state err.new) }
 {
     let line = refusal.line();
-    let _ = send_parts(
-        err,
-        line.before.as_bytes(),
-        line.name.as_bytes(),
-        line.after.as_bytes(),
-    );
+    let _ = send_line(err, &line);
+}
+
+/// Writes the text of a number of slots.
+pub(crate) fn tell_slots<O: Sink>(out: &mut O, slots: u32) -> Result<(), WriteError>
+    ensures whole { OnOk result (TakesWhole (slots_line slots) (O.state out.old) (O.state out.new)) }
+    ensures part { IfErr result (StopsAt (slots_line slots) (O.state out.old) (O.state out.new)) }
+{
+    let mut buffer = Buffer::new();
+    send_parts(out, b"slots ", buffer.format(slots).as_bytes(), b"\n")
+}
+
+fn send_line<E: Sink>(err: &mut E, line: &Line<'_>) -> Result<(), WriteError>
+    ensures whole { OnOk result (TakesWhole (line_text line.now) (E.state err.old) (E.state err.new)) }
+    ensures part { IfErr result (StopsAt (line_text line.now) (E.state err.old) (E.state err.new)) }
+{
+    let (before, after) = (line.before.as_bytes(), line.after.as_bytes());
+    match line.middle {
+        Middle::Word(word) => send_parts(err, before, word.as_bytes(), after),
+        Middle::Number(number) => {
+            let mut buffer = Buffer::new();
+            send_parts(err, before, buffer.format(number).as_bytes(), after)
+        }
+    }
 }
 
 fn send_parts<S: Sink>(

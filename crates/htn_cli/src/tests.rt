@@ -7,9 +7,7 @@ use std::test::Fail;
 
 mod texts;
 
-use texts::{
-    domain, domain_actions, domain_head, empty_top_action, problem, problem_text, top_action,
-};
+use texts::{Row, domain, one_slot_adl, one_slot_flat, problem, two_slots_adl, two_slots_flat};
 
 /// All that a run can reach, in memory. Standard output takes three bytes at a time, and standard error one.
 #[derive(Drop)]
@@ -48,7 +46,19 @@ impl Outside {
         ))
     }
 
-    /// A translation into `od.pddl` and `op.pddl` ends with this status, and these texts on the two streams.
+    /// A translation into `od.pddl` and `op.pddl` with these options.
+    fn translate(&mut self, options: &[&str]) -> Result<Status, AllocError> {
+        let mut words = Vec::new(self.alloc);
+        for word in ["translate", "d.hddl", "p.hddl", "od.pddl", "op.pddl"] {
+            words.push(word)?;
+        }
+        for option in options {
+            words.push(*option)?;
+        }
+        self.run(words.as_slice())
+    }
+
+    /// A translation with one slot ends with this status, and these texts on the two streams.
     fn ends(
         &mut self,
         rt: &impl Abort,
@@ -56,16 +66,18 @@ impl Outside {
         out: &str,
         err: &str,
     ) -> Result<(), AllocError> {
-        let words = [
-            "translate",
-            "d.hddl",
-            "p.hddl",
-            "od.pddl",
-            "op.pddl",
-            "--bound",
-            "1",
-        ];
-        let ended = self.run(&words)?;
+        self.ends_with(rt, &["--bound", "1"], status, out, err)
+    }
+
+    fn ends_with(
+        &mut self,
+        rt: &impl Abort,
+        options: &[&str],
+        status: Status,
+        out: &str,
+        err: &str,
+    ) -> Result<(), AllocError> {
+        let ended = self.translate(options)?;
         assert_eq!(rt; ended, status);
         self.told(rt, out, err);
         Ok(())
@@ -76,21 +88,9 @@ impl Outside {
         assert_eq!(rt; self.err.bytes(), err.as_bytes());
     }
 
-    /// The pieces, and nothing else, are what the name holds.
-    fn holds(&self, rt: &impl Abort, name: &str, pieces: &[&str]) {
-        let mut rest = self.files.bytes(name).expect(rt, "a file");
-        for piece in pieces {
-            rest = rest.strip_prefix(piece.as_bytes()).expect(rt, "a piece");
-        }
-        assert!(rt; rest.is_empty());
-    }
-
-    fn holds_domain(&self, rt: &impl Abort, top: &'static str) {
-        self.holds(rt, "od.pddl", &[domain_head(), top, domain_actions()]);
-    }
-
-    fn holds_problem(&self, rt: &impl Abort) {
-        self.holds(rt, "op.pddl", &[problem_text()]);
+    fn holds(&self, rt: &impl Abort, name: &str, text: &str) {
+        let bytes = self.files.bytes(name).expect(rt, "a file");
+        assert!(rt; bytes == text.as_bytes());
     }
 
     fn lacks(&self, rt: &impl Abort, name: &str) {
@@ -98,23 +98,59 @@ impl Outside {
     }
 }
 
-#[test]
-fn the_smallest_problem(rt: HostRuntime) -> Result<(), Fail> {
-    let mut outside = Outside::new(rt.alloc(), domain(), problem())?;
-    outside.ends(&rt, Status::Done, "slots 1\n", "")?;
-    outside.holds_domain(&rt, top_action());
-    outside.holds_problem(&rt);
+fn prints(rt: &impl Abort, alloc: Global, row: Row) -> Result<(), Fail> {
+    let mut outside = Outside::new(alloc, domain(), problem())?;
+    outside.ends_with(rt, row.options, Status::Done, row.told, "")?;
+    outside.holds(rt, "od.pddl", row.domain);
+    outside.holds(rt, "op.pddl", row.problem);
     Ok(())
 }
 
 #[test]
-fn an_empty_network(rt: HostRuntime) -> Result<(), Fail> {
-    let problem = "(define (problem p) (:domain d) (:htn :subtasks ()))";
-    let mut outside = Outside::new(rt.alloc(), domain(), problem)?;
-    outside.out = MemSink::new(rt.alloc(), 1);
-    outside.ends(&rt, Status::Done, "slots 1\n", "")?;
-    outside.holds_domain(&rt, empty_top_action());
-    outside.holds_problem(&rt);
+fn the_smallest_problem(rt: HostRuntime) -> Result<(), Fail> {
+    prints(&rt, rt.alloc(), one_slot_adl())?;
+    prints(&rt, rt.alloc(), one_slot_flat())?;
+    prints(&rt, rt.alloc(), two_slots_adl())?;
+    prints(&rt, rt.alloc(), two_slots_flat())?;
+    Ok(())
+}
+
+#[test]
+fn many_slots(rt: HostRuntime) -> Result<(), Fail> {
+    let mut outside = Outside::new(rt.alloc(), domain(), problem())?;
+    outside.ends_with(&rt, &["--bound", "4096"], Status::Done, "slots 4096\n", "")?;
+    Ok(())
+}
+
+fn is_past(rt: &impl Abort, alloc: Global, bound: &str, line: &str) -> Result<(), Fail> {
+    let mut outside = Outside::new(alloc, domain(), problem())?;
+    outside.files = MemFiles::new(alloc);
+    outside.ends_with(rt, &["--bound", bound], Status::Limit, "", line)?;
+    Ok(())
+}
+
+#[test]
+fn bounds_past_a_limit(rt: HostRuntime) -> Result<(), Fail> {
+    let alloc = rt.alloc();
+    is_past(&rt, alloc, "65537", "limit slots 65537\n")?;
+    is_past(
+        &rt,
+        alloc,
+        "340282366920938463463374607431768211455",
+        "limit slots 340282366920938463463374607431768211455\n",
+    )?;
+    is_past(
+        &rt,
+        alloc,
+        "340282366920938463463374607431768211456",
+        "limit bound\n",
+    )?;
+    is_past(
+        &rt,
+        alloc,
+        "999999999999999999999999999999999999999",
+        "limit bound\n",
+    )?;
     Ok(())
 }
 
@@ -125,8 +161,12 @@ fn refuses_words(rt: &impl Abort, alloc: Global, words: &[&str]) -> Result<(), F
     outside.told(rt, "", "words refused\n");
     outside.lacks(rt, "od.pddl");
     outside.lacks(rt, "op.pddl");
-    outside.holds(rt, "d.hddl", &[domain()]);
-    outside.holds(rt, "p.hddl", &[problem()]);
+    Ok(())
+}
+
+fn refuses_options(rt: &impl Abort, alloc: Global, options: &[&str]) -> Result<(), Fail> {
+    let mut outside = Outside::new(alloc, domain(), problem())?;
+    outside.ends_with(rt, options, Status::Words, "", "words refused\n")?;
     Ok(())
 }
 
@@ -135,15 +175,29 @@ fn words_of_no_form(rt: HostRuntime) -> Result<(), Fail> {
     let alloc = rt.alloc();
     let (d, p, od, op) = ("d.hddl", "p.hddl", "od.pddl", "op.pddl");
     refuses_words(&rt, alloc, &[])?;
-    refuses_words(&rt, alloc, &["translate", d, p, od, op])?;
-    refuses_words(&rt, alloc, &["translate", d, p, od, op, "--bound", "0"])?;
-    refuses_words(
-        &rt,
-        alloc,
-        &["translate", d, p, od, op, "--bound", "1", "1"],
-    )?;
+    refuses_words(&rt, alloc, &["decode", d, p, od, op, "--bound", "1"])?;
     refuses_words(&rt, alloc, &["translate", d, p, d, op, "--bound", "1"])?;
     refuses_words(&rt, alloc, &["translate", d, p, od, od, "--bound", "1"])?;
+    Ok(())
+}
+
+#[test]
+fn options_of_no_form(rt: HostRuntime) -> Result<(), Fail> {
+    let alloc = rt.alloc();
+    refuses_options(&rt, alloc, &[])?;
+    refuses_options(&rt, alloc, &["--bound"])?;
+    refuses_options(&rt, alloc, &["--bound", "0"])?;
+    refuses_options(&rt, alloc, &["--bound", "+1"])?;
+    refuses_options(&rt, alloc, &["--bound", ""])?;
+    refuses_options(
+        &rt,
+        alloc,
+        &["--bound", "0000000000000000000000000000000000000001"],
+    )?;
+    refuses_options(&rt, alloc, &["--bound", "1", "--bound", "1"])?;
+    refuses_options(&rt, alloc, &["--style", "flat"])?;
+    refuses_options(&rt, alloc, &["--bound", "1", "--style", "strips"])?;
+    refuses_options(&rt, alloc, &["--bound", "1", "--slots", "1"])?;
     Ok(())
 }
 
@@ -207,7 +261,7 @@ fn an_output_that_is_not_written(rt: HostRuntime) -> Result<(), Fail> {
     let mut second = Outside::new(rt.alloc(), domain(), problem())?;
     second.files.fail_put(1)?;
     second.ends(&rt, Status::WriteFault, "", "cannot write op.pddl\n")?;
-    second.holds_domain(&rt, top_action());
+    second.holds(&rt, "od.pddl", one_slot_adl().domain);
     second.lacks(&rt, "op.pddl");
     Ok(())
 }
@@ -221,8 +275,8 @@ fn cuts_output(rt: &impl Abort, alloc: Global, write: u32, taken: &str) -> Resul
         taken,
         "cannot write standard output\n",
     )?;
-    outside.holds_domain(rt, top_action());
-    outside.holds_problem(rt);
+    outside.holds(rt, "od.pddl", one_slot_adl().domain);
+    outside.holds(rt, "op.pddl", one_slot_adl().problem);
     Ok(())
 }
 

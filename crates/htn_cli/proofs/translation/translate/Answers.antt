@@ -1,22 +1,26 @@
-use Rattle.std.proofs.Common.{refl, ◌∙◌, inl, inr}
+use Rattle.std.proofs.Common.{refl, inl, inr}
 use Rattle.std.proofs.lemmas.Result.{err_from_is_err_and}
-use Rattle.htn_cli.proofs.Outputs.{no_texts, Leaves-get}
+use Rattle.command_words.specs.Names.{names_of}
+use Rattle.htn_cli.specs.Built.{texts_of}
+use Rattle.htn_cli.proofs.Results.{on_ok_both, if_err_too}
+use Rattle.htn_cli.proofs.Leavings.{Leaves-get, Leaves-build, Leaves-done, Leaves-delivery}
 use Rattle.htn_cli.proofs.translation.translate.Goals as goal
 
-pub returns-in_err-domain-clause-refused : goal.returns-in_err-domain-clause-refused
-returns-in_err-domain-clause-refused g c =
-    let p = err_from_is_err_and c.from_residual.result c.from_residual.ensures.1 in
-    rw (p.1, p.2) (no_texts, Leaves-get _ _ _ _ _ _ _ (inl refl) refl c.in_err-domain.ensures.refused)
+pub returns-in_err-texts-clause-refused : goal.returns-in_err-texts-clause-refused
+returns-in_err-texts-clause-refused g c =
+    let p = err_from_is_err_and c.from_residual-in_err-texts.result c.from_residual-in_err-texts.ensures.1 in
+    rw (p.1, p.2) (Leaves-build (names_of c.args.names.now) c.args.manner.now c.as_slice.result.now c.as_slice-2.result.now _ _ _ (rw (← c.as_slice.ensures.value) at c.in_ok-domain.ensures.read) (rw (← c.as_slice-2.ensures.value) at c.in_ok-problem.ensures.read) _ _ c.in_err-texts.ensures.refused)
 
-pub returns-in_err-problem-clause-refused : goal.returns-in_err-problem-clause-refused
-returns-in_err-problem-clause-refused g c =
-    let p = err_from_is_err_and c.from_residual-in_err-problem.result c.from_residual-in_err-problem.ensures.1 in
-    rw (p.1, p.2) (no_texts, Leaves-get _ _ _ _ _ _ _ (inr refl) c.in_ok-domain.ensures.read.unchanged c.in_err-problem.ensures.refused)
+pub returns-clause-done : goal.returns-clause-done
+returns-clause-done g c =
+    let whole = c.in_ok-texts.ensures.whole in
+    on_ok_both c.deliver.result
+    (Leaves-done (names_of c.args.names.now) c.args.manner.now c.as_slice.result.now c.as_slice-2.result.now _ _ _ (rw (← c.as_slice.ensures.value) at c.in_ok-domain.ensures.read) (rw (← c.as_slice-2.ensures.value) at c.in_ok-problem.ensures.read) (texts_of c.in_ok-texts.texts) _ _ _ whole.0 whole.1)
+    c.deliver.ensures.stand c.deliver.ensures.told
 
-pub returns-in-Ok-None-clause-refused : goal.returns-in-Ok-None-clause-refused
-returns-in-Ok-None-clause-refused g c =
-    (no_texts, (refl, c.in_ok-problem.ensures.read.unchanged ∙ c.in_ok-domain.ensures.read.unchanged, refl))
-
-pub returns-in-Err-clause-refused : goal.returns-in-Err-clause-refused
-returns-in-Err-clause-refused g c =
-    (no_texts, inl (c.in_ok-problem.ensures.read.unchanged ∙ c.in_ok-domain.ensures.read.unchanged, refl))
+pub returns-clause-refused : goal.returns-clause-refused
+returns-clause-refused g c =
+    let whole = c.in_ok-texts.ensures.whole in
+    if_err_too c.deliver.result
+    (Leaves-delivery (names_of c.args.names.now) c.args.manner.now c.as_slice.result.now c.as_slice-2.result.now _ _ _ (rw (← c.as_slice.ensures.value) at c.in_ok-domain.ensures.read) (rw (← c.as_slice-2.ensures.value) at c.in_ok-problem.ensures.read) (texts_of c.in_ok-texts.texts) _ _ _ whole.0 whole.1)
+    c.deliver.ensures.refused

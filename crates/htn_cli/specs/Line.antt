@@ -1,0 +1,12 @@
+-- The line of a refusal in three parts.
+use Rattle.std.specs.Prelude.{ℕ, List, ◌++◌, decimal}
+use Rattle.htn_cli.specs.declared.refusal.Line.{Line}
+use Rattle.htn_cli.specs.declared.refusal.Middle.{Middle}
+use Rattle.htn_cli.specs.declared.refusal.Middle.TheVariants.{Word, Number}
+
+abbrev pub middle_text : Middle → List ℕ
+middle_text (Word word) = word.now
+middle_text (Number number) = decimal number
+
+abbrev pub line_text : Line → List ℕ
+line_text line = line.before.now ++ middle_text line.middle ++ line.after.now

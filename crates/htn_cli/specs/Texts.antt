@@ -1,0 +1,53 @@
+-- The two printed texts of a translation: what they are, and when they are too long.
+-- Source: this project's.
+use Rattle.std.specs.Prelude.{ℕ, ◌≡◌, ◌<◌, ◌≤◌, ◌-◌, ◌^◌, ◌⊎◌, List, length, min}
+use Rattle.plan_model.specs.declared.values.Hddl.{Hddl}
+use Rattle.plan_model.specs.declared.values.Compiled.{Compiled}
+use Rattle.plan_model.specs.declared.values.Pddl.{Pddl}
+use Rattle.plan_texts.specs.FirstSeen.{IsHddlOf}
+use Rattle.plan_texts.specs.PrintedTexts.{domain_text, problem_text}
+use Rattle.plan_meaning.specs.Compilation.{IsCompiled}
+use Rattle.plan_meaning.specs.EncodedValue.{IsEncoded}
+use Rattle.plan_meaning.specs.Laws.{AreOrdered}
+use Rattle.slot_plans.specs.Pieces.{IsPrinted}
+use Rattle.htn_cli.specs.declared.manner.Manner.{Manner}
+
+pub record Texts : Type 0 where
+  pub domain : List ℕ
+  pub problem : List ℕ
+
+-- the greatest length of a printed text, in bytes
+abbrev pub longest : ℕ
+longest = 268435456
+
+-- a length past 2^64 - 1 counts as 2^64 - 1
+abbrev pub counted : ℕ → ℕ
+counted n = min n (2 ^ 64 - 1)
+
+-- the first of two texts that is too long; n is its length
+abbrev pub IsFirstTooLong : (domain problem : List ℕ) (n : ℕ) → Type 0
+IsFirstTooLong domain problem n =
+    ((longest < length domain) × (n ≡ counted (length domain)))
+    ⊎ ((length domain ≤ longest) × (longest < length problem) × (n ≡ counted (length problem)))
+
+module _ (domain problem : List ℕ) (manner : Manner) where
+  -- The texts are those of a value that is printed for a problem which the two input texts spell.
+  pub record AreTranslated (texts : Texts) : Type 0 where
+    pub read : Hddl
+    pub compiled : Compiled
+    pub value : Pddl
+    pub spelled : IsHddlOf domain problem read
+    pub ordered : AreOrdered read
+    pub printed : IsPrinted read manner.checks compiled manner.slots manner.style value
+    pub domain_is : texts.domain ≡ domain_text value
+    pub problem_is : texts.problem ≡ problem_text value
+    pub domain_fits : length texts.domain ≤ longest
+    pub problem_fits : length texts.problem ≤ longest
+
+  -- The input texts spell a problem of which each encoded value has a text that is too long.
+  pub record AreTooLong (n : ℕ) : Type 0 where
+    pub read : Hddl
+    pub compiled : Compiled
+    pub spelled : IsHddlOf domain problem read
+    pub compiled_is : IsCompiled read manner.checks compiled
+    pub too_long : (value : Pddl) → IsEncoded compiled manner.slots manner.style value → IsFirstTooLong (domain_text value) (problem_text value) n
