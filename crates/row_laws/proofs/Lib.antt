@@ -1,0 +1,6 @@
+pub mod OneChild
+pub mod PlanRuns
+pub mod Methods
+pub mod SmallestPlan
+pub mod CallsItself
+pub mod Texts
