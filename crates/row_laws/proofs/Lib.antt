@@ -4,3 +4,4 @@ pub mod Methods
 pub mod SmallestPlan
 pub mod CallsItself
 pub mod Texts
+pub mod Printed

@@ -8,14 +8,14 @@ use Rattle.plan_model.specs.declared.values.Compiled.{Compiled}
 use Rattle.task_networks.specs.Net.{Net}
 use Rattle.plan_meaning.specs.Truth.{AreTyped}
 use Rattle.plan_meaning.specs.Network.{Work, action, check, task, GroundMethod, network, work_of, IsPrimitive, InTypeOf, IsGroundMethod}
-use Rattle.plan_meaning.proofs.RowValues.{uses}
+use Rattle.plan_meaning.proofs.RowValues.{method_plan, uses}
 use Rattle.plan_meaning.proofs.Unequal.{less}
 use Rattle.row_laws.specs.Problems.{method, with_subtask}
 use Rattle.row_laws.proofs.OneChild.{HasOneChild}
 
 -- the only subtask is the heir
 abbrev pub plan_of : MethodSchema → MethodPlan
-plan_of schema = record { schema = schema; checked = false; tested = false; line = 0 ∷ []; heir = Some 0; copiers = []; guards = [] }
+plan_of schema = method_plan schema false (0 ∷ []) (Some 0) []
 
 module _ (head : Head) where
   abbrev pub compiled : Compiled
