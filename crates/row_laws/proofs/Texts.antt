@@ -21,13 +21,14 @@ use Rattle.plan_model.specs.declared.networks.Head.TheVariants.{Task, Action}
 use Rattle.plan_model.specs.declared.values.Hddl.{Hddl}
 use Rattle.row_laws.specs.Problems.{with_subtask, method, smallest, calls_itself}
 
+-- a file of examples/first
 abbrev pub smallest_domain : List ℕ
 smallest_domain = codes "(define (domain d)\n (:task t :parameters ())\n (:method m :parameters () :task (t) :subtasks (a))\n (:action a :parameters ()))\n"
 
 abbrev pub calls_itself_domain : List ℕ
 calls_itself_domain = codes "(define (domain d)\n (:task t :parameters ())\n (:method m :parameters () :task (t) :subtasks (t))\n (:action a :parameters ()))\n"
 
--- t is on top
+-- of both, with t on top; it is a file of examples/first too
 abbrev pub problem : List ℕ
 problem = codes "(define (problem p) (:domain d) (:htn :subtasks (t)))\n"
 

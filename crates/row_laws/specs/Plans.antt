@@ -22,6 +22,7 @@ module _ (steps : List GroundAction) where
   abbrev pub IsOnlyPlanOfTexts : (domain problem : List ℕ) → Type 0
   IsOnlyPlanOfTexts domain problem = (list : List GroundAction) → IsPlanOf domain problem list ↔ (list ≡ steps)
 
+-- no list is a plan
 abbrev pub HasNoPlan : Pddl → Type 0
 HasNoPlan p = (list : List GroundAction) → IsPlan p list → ⊥
 
