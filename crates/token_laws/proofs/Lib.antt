@@ -1,0 +1,2 @@
+pub mod EachToken
+pub mod OneToken
