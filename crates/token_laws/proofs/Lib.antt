@@ -1,2 +1,3 @@
 pub mod EachToken
 pub mod OneToken
+pub mod InComments
