@@ -17,7 +17,7 @@ use Rattle.plan_texts.specs.Printable.{IsPlain}
 use Rattle.plan_texts.specs.Types.{EachIs, AreDifferent}
 use Rattle.plan_texts.proofs.Basics.{bytes_eq-true}
 use Rattle.hddl_reader.specs.Bound.{IsNamed}
-use Rattle.hddl_reader.specs.Plain.{begins_plain}
+use Rattle.hddl_reader.specs.Plain.{begins_plain, is_plain}
 use Rattle.hddl_reader.specs.Tables.{Says}
 
 pub says_found : (ws : List Word) (w : Word) (n : ℕ) → number_of ws w ≡ Some n → slice_get ws n ≡ Some w
@@ -43,10 +43,6 @@ new_word old new w e n = go (list_any (bytes_eq w) old) e
     go : (b : Bool) → new ≡ (if b then old else old ++ w ∷ []) → new ≡ old ++ w ∷ []
     go true f = absurd (n (ap length f))
     go false f = f
-
--- what is asked of a word in lower case
-abbrev pub is_plain : Word → Bool
-is_plain w = list_all (λ b. is_letter b && (to_ascii_lowercase b == b)) w && begins_plain w && not (is_reserved w)
 
 folded-all : (w : Word) → list_all (λ b. is_letter b && (to_ascii_lowercase b == b)) w ≡ true → are_folded w ≡ true
 folded-all [] e = refl

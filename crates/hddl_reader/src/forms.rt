@@ -14,7 +14,7 @@ use sexpr_text::{Kind, Sexprs};
 use std::alloc::Global;
 
 /// Reads `( define ( domain NAME ) section* )` up to the end of the text.
-#[tactic(auto, using(crate::proofs::Tokens::first, crate::proofs::Steps::domain_read))]
+#[tactic(auto, using(crate::proofs::Tokens::first))]
 pub fn domain(alloc: Global, s: &Sexprs<'_>) -> Result<WrittenDomain, Stop>
     ensures read { IfOk result (λ d. symbols s.now ≡ written (domain_part (word_of s.now) d)) }
 {
@@ -26,7 +26,7 @@ pub fn domain(alloc: Global, s: &Sexprs<'_>) -> Result<WrittenDomain, Stop>
 }
 
 /// Reads `( define ( problem NAME ) ( :domain NAME ) ( :htn :subtasks S ) )` up to the end of the text.
-#[tactic(auto, using(crate::proofs::Tokens::first, crate::proofs::Steps::problem_read))]
+#[tactic(auto, using(crate::proofs::Tokens::first))]
 pub fn problem(s: &Sexprs<'_>) -> Result<WrittenProblem, Stop>
     ensures read { IfOk result (λ p. symbols s.now ≡ written (problem_part (word_of s.now) p)) }
 {

@@ -1,4 +1,4 @@
-ghost use Rattle.std.specs.Prelude.{List, ℕ, ◌≡◌, [], ◌∷◌, ◌++◌, ◌&&◌, ◌==◌, IfOk, OnOk, IsTrue};
+ghost use Rattle.std.specs.Prelude.{◌≡◌, [], ◌∷◌, ◌++◌, ◌&&◌, ◌==◌, IfOk, OnOk, IsTrue};
 ghost use Rattle.std.specs.Char.{to_ascii_lowercase};
 ghost use Rattle.std.specs.List.{list_all};
 ghost use Rattle.htn_base.specs.Table.{with_word};
@@ -7,7 +7,8 @@ ghost use Rattle.text_forms.specs.Bytes.{is_letter};
 ghost use Rattle.plan_texts.specs.Printable.{IsPlain};
 ghost use Rattle.plan_texts.specs.Types.{AreDifferent};
 ghost use Rattle.hddl_reader.specs.Bound.{IsNamed};
-ghost use Rattle.hddl_reader.specs.Plain.{begins_plain};
+ghost use Rattle.hddl_reader.specs.Plain.{begins_plain, is_plain};
+ghost use Rattle.text_forms.specs.Words.{word_at};
 ghost use Rattle.hddl_reader.specs.Rest.{word_of};
 ghost use Rattle.hddl_reader.specs.Tables.{Says};
 
@@ -34,6 +35,7 @@ pub fn intern(names: &mut NameTable, word: &[u8]) -> Result<Name, Stop>
 }
 
 /// The name of the word at token `i`, which is to be a NAME.
+#[tactic(auto, using(crate::proofs::NameLemmas::named_by))]
 pub fn name_of(s: &Sexprs<'_>, i: u32, names: &mut NameTable) -> Result<Name, Stop>
     ensures words { OnOk result (names.new ≡ with_word names.old (word_of s.now i)) }
     ensures named { IfOk result (λ n. IsNamed (word_of s.now) names.new n i) }
@@ -63,9 +65,9 @@ pub fn new_name(s: &Sexprs<'_>, i: u32, names: &mut NameTable) -> Result<Name, S
 }
 
 /// Whether the word of the name is a NAME.
-#[tactic(auto, using(crate::proofs::NameLemmas::plain_said))]
+#[tactic(auto, using(crate::proofs::NameLemmas::plain_at))]
 fn may_name(names: &NameTable, name: Name) -> bool
-    ensures { IsTrue result → (w : List ℕ) → Says names.now name w → IsPlain w }
+    ensures { IsTrue result → IsPlain (word_at names.now name.number) }
 {
     match names.text(name) {
         Some(word) => is_plain_name(word),
@@ -74,9 +76,8 @@ fn may_name(names: &NameTable, name: Name) -> bool
 }
 
 /// Whether the word, which is in lower case, is a NAME.
-#[tactic(auto, using(crate::proofs::NameLemmas::plain_word))]
 fn is_plain_name(word: &[u8]) -> bool
-    ensures { IsTrue result → IsPlain word.now }
+    ensures { result ≡ is_plain word.now }
 {
     is_folded(word) && begins_name(word) && !is_reserved(word)
 }

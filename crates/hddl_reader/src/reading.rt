@@ -19,6 +19,7 @@ const LARGEST_TEXT: usize = 65_536;
 
 /// Reads a domain and a problem of the smallest form: each text has at most 65,536
 /// bytes, and letters fold to lower case. `None` says that the pair isn't of the form.
+#[tactic(auto, using(crate::proofs::Spelled::spelled, crate::proofs::Sound::sound, crate::proofs::SmallNetworks::ordered, crate::proofs::SmallNetworks::few_subtasks, crate::proofs::SmallNetworks::few_parameters, crate::proofs::SmallNetworks::listed, crate::proofs::SmallNetworks::no_condition, crate::proofs::SmallNetworks::no_unions))]
 pub fn small(alloc: Global, domain: &[u8], problem: &[u8]) -> Result<Option<Hddl>, Memory>
     ensures spelled { IfOk result (λ o. IfSome o (λ h. IsHddlOf domain.now problem.now h)) }
     ensures sound { IfOk result (λ o. IfSome o (λ h. IsSoundHddl h)) }
