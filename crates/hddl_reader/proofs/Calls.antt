@@ -1,9 +1,11 @@
 -- What a NAME calls, where the tasks and then the actions stand at the front of the table.
 use Rattle.std.proofs.Common.{◌≡◌, ℕ, suc, ◌+◌, ◌<◌, length, map, codes, Bool, true, false, Option, Some, None, List, [], ◌∷◌, ◌++◌, refl, ap, sym, subst, ◌∙◌, inl, inr, arith, append_assoc, length-append}
 use Rattle.std.specs.Prelude.{slice_get}
+use Rattle.std.specs.List.{filter_map}
 use Rattle.std.specs.Option.{option_map}
 use Rattle.std.specs.Str.{bytes_eq}
 use Rattle.std.proofs.lemmas.Bool.{cond-false}
+use Rattle.std.proofs.lemmas.List.{length-map}
 use Rattle.std.proofs.lemmas.Option.{get_or_from_slice_get, slice_get_within}
 use Rattle.htn_base.specs.declared.name.Name.{Name}
 use Rattle.text_forms.specs.Lists.{Part, Parts, name, group, nothing, part}
@@ -23,11 +25,13 @@ use Rattle.plan_model.specs.declared.networks.Child.{Child}
 use Rattle.plan_model.specs.declared.schemas.MethodSchema.{MethodSchema}
 use Rattle.hddl_reader.specs.declared.written.WrittenMethod.{WrittenMethod}
 use Rattle.hddl_reader.specs.declared.written.WrittenProblem.{WrittenProblem}
-use Rattle.hddl_reader.specs.Bound.{children_of, method_schema, place_of, IsHead, IsNamed, IsCalled, IsSubtaskOf, IsMethodOf, IsTopOf}
-use Rattle.hddl_reader.specs.Tables.{Extends}
-use Rattle.hddl_reader.specs.Written.{subtask_part, subtask_parts, method_entries, method_part}
-use Rattle.hddl_reader.proofs.SchemaLemmas.{word-said, named-name, named-later, no-condition}
-use Rattle.hddl_reader.proofs.Tables.{says_later, get-within, get-behind}
+use Rattle.hddl_reader.specs.declared.schemas.Declarations.{Declarations}
+use Rattle.hddl_reader.specs.declared.written.Section.{Section}
+use Rattle.hddl_reader.specs.Bound.{children_of, method_schema, place_of, IsHead, IsNamed, IsTaskOf, IsActionOf, IsCalled, IsSubtaskOf, IsMethodOf, IsTopOf, AreSchemas}
+use Rattle.hddl_reader.specs.Tables.{Extends, Together}
+use Rattle.hddl_reader.specs.Written.{task_of, action_of, method_of, subtask_part, subtask_parts, method_entries, method_part}
+use Rattle.hddl_reader.proofs.SchemaLemmas.{word-said, named-name, named-later, task-later, action-later, no-condition}
+use Rattle.hddl_reader.proofs.Tables.{says_later, extends_then, get-within, get-behind, together-map}
 
 different-front : (us ws : List Word) → AreDifferent (us ++ ws) → AreDifferent us
 different-front [] ws h = tt
@@ -175,3 +179,39 @@ module _ (say : ℕ → Word) (names later : List Word) (grows : Extends names l
     says = says_later names later c.name.number (codes "htn_start") grows c.says;
     called = subtask-later p.subtask c.subtask c.called;
   }
+
+-- what was declared stays declared
+pub schemas-later : (say : ℕ → Word) (names later : List Word) → Extends names later → (sections : List Section) (x : Declarations) → AreSchemas say names sections x → AreSchemas say later sections x
+schemas-later say names later grows sections x s = record {
+  front = extends_then (map say (filter_map task_of sections) ++ map say (filter_map action_of sections)) names later s.front grows;
+  differ = s.differ;
+  task_count = s.task_count;
+  call_count = s.call_count;
+  tasks = together-map (IsTaskOf say names) (IsTaskOf say later) (task-later say names later grows) (filter_map task_of sections) x.tasks s.tasks;
+  actions = together-map (IsActionOf say names) (IsActionOf say later) (action-later say names later grows) (filter_map action_of sections) x.actions s.actions;
+  methods = together-map (IsMethodOf say names x.heads.tasks x.heads.calls) (IsMethodOf say later x.heads.tasks x.heads.calls) (method-later say names later grows x.heads.tasks x.heads.calls) (filter_map method_of sections) x.methods s.methods;
+  methods_differ = s.methods_differ;
+}
+
+-- the declarations, from the three steps in which they were made
+pub schemas-made : (say : ℕ → Word) (empty one two names : List Word) (sections : List Section) (x : Declarations) → empty ≡ [] → one ≡ empty ++ map say (filter_map task_of sections) → two ≡ one ++ map say (filter_map action_of sections) → Extends two names
+    → AreDifferent two → x.heads.tasks ≡ length one → x.heads.calls ≡ length two → Together (IsTaskOf say one) (filter_map task_of sections) x.tasks → Together (IsActionOf say two) (filter_map action_of sections) x.actions
+    → Together (IsMethodOf say names x.heads.tasks x.heads.calls) (filter_map method_of sections) x.methods → AreDifferent (map (λ (m : WrittenMethod). say m.name) (filter_map method_of sections)) → AreSchemas say names sections x
+schemas-made say empty one two names sections x e f g grows differ tasks calls ts us ms ds =
+    let tw = map say (filter_map task_of sections) in
+    let aw = map say (filter_map action_of sections) in
+    let first : one ≡ tw = f ∙ ap (λ t. t ++ tw) e in
+    let both : two ≡ tw ++ aw = g ∙ ap (λ t. t ++ aw) first in
+    let tl : length tw ≡ length (filter_map task_of sections) = length-map (filter_map task_of sections) say in
+    let al : length aw ≡ length (filter_map action_of sections) = length-map (filter_map action_of sections) say in
+    let two-all : Extends one names = extends_then one two names (record { more = aw; is = g }) grows in
+    record {
+      front = subst (λ t. Extends t names) both grows;
+      differ = subst AreDifferent both differ;
+      task_count = tasks ∙ ap length first ∙ tl;
+      call_count = calls ∙ ap length both ∙ length-append tw aw ∙ (λ j. tl j + al j);
+      tasks = together-map (IsTaskOf say one) (IsTaskOf say names) (task-later say one names two-all) (filter_map task_of sections) x.tasks ts;
+      actions = together-map (IsActionOf say two) (IsActionOf say names) (action-later say two names grows) (filter_map action_of sections) x.actions us;
+      methods = ms;
+      methods_differ = ds;
+    }

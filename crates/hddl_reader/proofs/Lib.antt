@@ -3,6 +3,7 @@ pub mod Tokens
 pub mod Steps
 pub mod NameLemmas
 pub mod Tables
+pub mod Loops
 pub mod Sections
 pub mod SchemaLemmas
 pub mod Calls

@@ -1,5 +1,6 @@
 ghost use Rattle.std.specs.Prelude.{◌≡◌, [], ◌∷◌, IfOk, OnOk, IsTrue};
 ghost use Rattle.htn_base.specs.Words.{folded};
+ghost use Rattle.text_forms.specs.Faults.{IsFaultless};
 ghost use Rattle.text_forms.specs.Tokens.{left, right, said};
 ghost use Rattle.hddl_reader.specs.Rest.{rest, word_of, symbol_of};
 
@@ -59,10 +60,11 @@ pub fn keyword(s: &Sexprs<'_>, at: &mut u32, due: &[u8]) -> Result<(), Stop>
     }
 }
 
-/// Nothing is left at the token `at`.
+/// Nothing is left at the token `at`. No text that was cut into tokens has a fault.
 #[tactic(auto, using(crate::proofs::Tokens::ended))]
 pub fn end(s: &Sexprs<'_>, at: u32) -> Result<(), Stop>
     ensures ended { OnOk result (rest s.now at ≡ []) }
+    ensures faultless { OnOk result (IsFaultless s.now) }
 {
     if at >= s.len() {
         Ok(())

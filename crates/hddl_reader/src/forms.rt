@@ -1,5 +1,6 @@
 ghost use Rattle.std.specs.Prelude.{◌≡◌, ◌∷◌, ◌++◌, map, codes, IfOk, OnOk};
 ghost use Rattle.htn_base.specs.Words.{folded};
+ghost use Rattle.text_forms.specs.Faults.{IsFaultless};
 ghost use Rattle.text_forms.specs.Lists.{written, written_all};
 ghost use Rattle.text_forms.specs.Tokens.{left, right, said, symbols};
 ghost use Rattle.plan_texts.specs.Printed.{all_parts};
@@ -17,6 +18,7 @@ use std::alloc::Global;
 #[tactic(auto, using(crate::proofs::Tokens::first))]
 pub fn domain(alloc: Global, s: &Sexprs<'_>) -> Result<WrittenDomain, Stop>
     ensures read { IfOk result (λ d. symbols s.now ≡ written (domain_part (word_of s.now) d)) }
+    ensures faultless { OnOk result (IsFaultless s.now) }
 {
     let mut at = 0;
     let name = opening(s, &mut at, b"domain")?;
@@ -29,6 +31,7 @@ pub fn domain(alloc: Global, s: &Sexprs<'_>) -> Result<WrittenDomain, Stop>
 #[tactic(auto, using(crate::proofs::Tokens::first))]
 pub fn problem(s: &Sexprs<'_>) -> Result<WrittenProblem, Stop>
     ensures read { IfOk result (λ p. symbols s.now ≡ written (problem_part (word_of s.now) p)) }
+    ensures faultless { OnOk result (IsFaultless s.now) }
 {
     let mut at = 0;
     let name = opening(s, &mut at, b"problem")?;

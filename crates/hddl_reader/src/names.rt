@@ -65,7 +65,6 @@ pub fn new_name(s: &Sexprs<'_>, i: u32, names: &mut NameTable) -> Result<Name, S
 }
 
 /// Whether the word of the name is a NAME.
-#[tactic(auto, using(crate::proofs::NameLemmas::plain_at))]
 fn may_name(names: &NameTable, name: Name) -> bool
     ensures { IsTrue result → IsPlain (word_at names.now name.number) }
 {
@@ -86,8 +85,7 @@ fn is_plain_name(word: &[u8]) -> bool
 fn is_folded(word: &[u8]) -> bool
     ensures { result ≡ list_all (λ b. is_letter b && (to_ascii_lowercase b == b)) word.now }
 {
-    word.iter()
-        .all(|byte| is_letter(*byte) && byte.to_ascii_lowercase() == *byte)
+    word.iter().all(|byte| is_letter(*byte) && byte.to_ascii_lowercase() == *byte)
 }
 
 /// Whether the byte is one of a word.

@@ -66,7 +66,8 @@ fn read_both(alloc: Global, domain: &Sexprs<'_>, problem: &Sexprs<'_>) -> Result
 {
     let written = forms::domain(alloc, domain)?;
     let asked = forms::problem(problem)?;
-    bind(alloc, domain, problem, &written, &asked)
+    let value = bind(alloc, domain, problem, &written, &asked)?;
+    Ok(value)
 }
 
 #[cfg(test)]

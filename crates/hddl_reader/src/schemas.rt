@@ -35,23 +35,69 @@ pub fn declare(
     requires empty { names.old ≡ [] }
     ensures schemas { IfOk result (λ x. AreSchemas (word_of s.now) names.new sections.now x) }
 {
-    let written = task_names(alloc, sections)?;
-    let tasks = task_schemas(alloc, s, &written, names)?;
+    let tasks = declare_tasks(alloc, s, sections, names)?;
     let task_count = names.len() as u32;
-    let written = action_names(alloc, sections)?;
-    let actions = action_schemas(alloc, s, &written, names)?;
+    let actions = declare_actions(alloc, s, sections, names)?;
+    let call_count = names.len() as u32;
     let heads = Heads {
         tasks: task_count,
-        calls: names.len() as u32,
+        calls: call_count,
     };
-    let written = written_methods(alloc, sections)?;
-    let methods = method_schemas(alloc, s, &heads, &written, names)?;
+    let methods = declare_methods(alloc, s, &heads, sections, names)?;
     Ok(Declarations {
         heads,
         tasks,
         actions,
         methods,
     })
+}
+
+fn declare_tasks(
+    alloc: Global,
+    s: &Sexprs<'_>,
+    sections: &[Section],
+    names: &mut NameTable,
+) -> Result<List<TaskSchema>, Stop>
+    requires differ { AreDifferent names.old }
+    ensures words { OnOk result (names.new ≡ names.old ++ map (word_of s.now) (filter_map task_of sections.now)) }
+    ensures schemas { IfOk result (λ tasks. Together (IsTaskOf (word_of s.now) names.new) (filter_map task_of sections.now) tasks) }
+    ensures differ { OnOk result (AreDifferent names.new) }
+{
+    let written = task_names(alloc, sections)?;
+    let tasks = task_schemas(alloc, s, written.as_slice(), names)?;
+    Ok(tasks)
+}
+
+fn declare_actions(
+    alloc: Global,
+    s: &Sexprs<'_>,
+    sections: &[Section],
+    names: &mut NameTable,
+) -> Result<List<ActionSchema>, Stop>
+    requires differ { AreDifferent names.old }
+    ensures words { OnOk result (names.new ≡ names.old ++ map (word_of s.now) (filter_map action_of sections.now)) }
+    ensures schemas { IfOk result (λ actions. Together (IsActionOf (word_of s.now) names.new) (filter_map action_of sections.now) actions) }
+    ensures differ { OnOk result (AreDifferent names.new) }
+{
+    let written = action_names(alloc, sections)?;
+    let actions = action_schemas(alloc, s, written.as_slice(), names)?;
+    Ok(actions)
+}
+
+fn declare_methods(
+    alloc: Global,
+    s: &Sexprs<'_>,
+    heads: &Heads,
+    sections: &[Section],
+    names: &mut NameTable,
+) -> Result<List<MethodSchema>, Stop>
+    ensures grows { OnOk result (Extends names.old names.new) }
+    ensures schemas { IfOk result (λ methods. Together (IsMethodOf (word_of s.now) names.new heads.now.tasks heads.now.calls) (filter_map method_of sections.now) methods) }
+    ensures differ { OnOk result (AreDifferent (map (λ m. word_of s.now m.name) (filter_map method_of sections.now))) }
+{
+    let written = written_methods(alloc, sections)?;
+    let methods = method_schemas(alloc, s, heads, written.as_slice(), names)?;
+    Ok(methods)
 }
 
 /// The names of the tasks that are declared.
@@ -90,13 +136,20 @@ fn task_schemas(
     let mut tasks = List::new(alloc);
     for task in written {
         let name = new_name(s, *task, names)?;
-        let schema = TaskSchema {
-            name,
-            params: List::new(alloc),
-        };
+        let schema = bare_task(alloc, name);
         tasks.push(schema)?;
     }
     Ok(tasks)
+}
+
+/// A task without parameters.
+fn bare_task(alloc: Global, name: Name) -> TaskSchema
+    ensures { result ≡ task_schema name }
+{
+    TaskSchema {
+        name,
+        params: List::new(alloc),
+    }
 }
 
 /// Actions of these names, none of which the table may have yet.
