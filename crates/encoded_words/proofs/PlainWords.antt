@@ -10,9 +10,10 @@ use Rattle.htn_base.specs.Escapes.{is_plain_byte, begins_with_letter, is_plain_w
 use Rattle.std.specs.List.{flat_map}
 use Rattle.htn_base.proofs.EscapeLemmas.{names_apart}
 use Rattle.text_forms.specs.Bytes.{is_letter}
-use Rattle.text_forms.specs.Words.{Word, is_name}
+use Rattle.text_forms.specs.Words.{Word, is_name, is_variable}
 use Rattle.text_forms.specs.Printing.{are_folded}
-use Rattle.plan_texts.specs.Printable.{IsPlain}
+use Rattle.plan_texts.specs.Printable.{IsPlain, IsPlainVariable}
+use Rattle.plan_texts.proofs.Places.{plain-variable}
 
 pub folded-join : (u w : Word) → are_folded u ≡ true → are_folded w ≡ true → are_folded (u ++ w) ≡ true
 folded-join [] w e f = f
@@ -36,27 +37,31 @@ bytes-folded (b ∷ w) e (suc k) d l = bytes-folded w (and_parts _ _ e).1 k d (o
 first_letter : (b : ℕ) → begins_with_letter (b ∷ []) ≡ true → (not (b == 63) ≡ true) × (not (b == 58) ≡ true)
 first_letter b e = (grind (arith, nat_tests), grind (arith, nat_tests))
 
-unreserved : (w : Word) → is_name w ≡ true → is_reserved w ≡ false
+unreserved : (w : Word) → is_variable w ≡ true → is_reserved w ≡ false
 unreserved [] e = refl
 unreserved (b ∷ w) e = go (is_reserved (b ∷ w)) refl
   where
     go : (t : Bool) → is_reserved (b ∷ w) ≡ t → t ≡ false
     go false f = refl
-    go true f = absurd (let h = (and_parts _ _ (and_parts _ _ e).1).1 in true≢false (sym h ∙ ap not f))
+    go true f = absurd (true≢false (sym e ∙ ap not f))
 
 name-letter : (w : Word) → begins_with_letter w ≡ true → is_reserved w ≡ false → is_name w ≡ true
 name-letter [] e f = e
 name-letter (b ∷ w) e f = let p = first_letter b e in and_from _ _ p.0 (and_from _ _ p.1 (ap not f))
 
--- the escape of a plain word
-pub plain-escaped : (w : Word) → IsPlain w → IsPlain (escaped w)
-plain-escaped w p =
+-- the escape of a plain variable is a NAME
+pub name-escaped : (w : Word) → IsPlainVariable w → IsPlain (escaped w)
+name-escaped w p =
     let n = names_apart.printed w (bytes-folded w p.0) in
     (folded-plain (escaped w) n.others, name-letter (escaped w) n.letter (go (is_reserved (escaped w)) refl))
   where
     go : (t : Bool) → is_reserved (escaped w) ≡ t → t ≡ false
     go false f = refl
     go true f = absurd (true≢false (sym (names_apart.unreserved w f) ∙ unreserved w p.1))
+
+-- so is that of a plain word
+pub plain-escaped : (w : Word) → IsPlain w → IsPlain (escaped w)
+plain-escaped w p = name-escaped w (plain-variable w p)
 
 pub escaped-once : (u w : Word) → escaped u ≡ escaped w → u ≡ w
 escaped-once = names_apart.one_to_one

@@ -15,11 +15,11 @@ use Rattle.plan_model.specs.declared.values.Compiled.{Compiled}
 use Rattle.plan_texts.specs.Declared.{named}
 use Rattle.plan_texts.specs.Types.{Has, EachIs, AreDifferent}
 use Rattle.plan_texts.specs.SpellsHddl.{hddl_words, task_words, action_words}
-use Rattle.plan_texts.specs.Printable.{IsPlain, IsSoundParam}
+use Rattle.plan_texts.specs.Printable.{IsPlain, IsPlainVariable, IsSoundParam}
 use Rattle.plan_texts.specs.SoundValue.{IsSoundHddl, arities}
 use Rattle.plan_texts.proofs.Basics.{apart}
 use Rattle.plan_texts.proofs.Members.{each-has, has-to_map, length-map}
-use Rattle.plan_texts.proofs.Places.{each-join}
+use Rattle.plan_texts.proofs.Places.{plain-variable, each-join}
 use Rattle.task_networks.specs.Spelling.{numbers}
 use Rattle.plan_meaning.specs.Compilation.{IsCompiled}
 use Rattle.plan_meaning.specs.SourceParts.{name}
@@ -54,7 +54,7 @@ module _ (c : Compiled) (names : List Word) (b : ℕ) (sound : IsSoundHddl c.hdd
 
   -- a generated variable
   pub generated_param : (w : Word) (ty : ℕ) → Has names w → IsPlain w → ty < 3 → IsSoundParam (printed_words c names b) (printed_arities c names b) (record { name = name names w; ty = ty })
-  generated_param w ty h p l = (subst IsPlain (sym (named-name w names h)) p, generated_kinds c names b sound (known_types c b names has) ty l)
+  generated_param w ty h p l = (subst IsPlainVariable (sym (named-name w names h)) (plain-variable w p), generated_kinds c names b sound (known_types c b names has) ty l)
 
   pub known_h : Has names (codes "htn_h")
   known_h = (known_variables c b names has).0

@@ -5,7 +5,8 @@ use Rattle.htn_base.specs.Escapes.{escaped}
 use Rattle.text_forms.specs.Words.{Word, last_place, word_at}
 use Rattle.plan_texts.specs.Declared.{Declared, kinds, variable}
 use Rattle.plan_texts.specs.Types.{Has, EachIs, AreDifferent}
-use Rattle.plan_texts.specs.Printable.{IsPlain, IsInForce, IsSoundAtom, IsSoundParam, AreSoundParams, sound_step, IsSound}
+use Rattle.plan_texts.specs.Printable.{IsPlainVariable, IsInForce, IsSoundAtom, IsSoundParam, AreSoundParams, sound_step, IsSound}
+use Rattle.plan_texts.proofs.Places.{plain-variable}
 use Rattle.plan_texts.proofs.Spelled.{sound_roll}
 use Rattle.plan_model.specs.declared.terms.Term.{Term}
 use Rattle.plan_model.specs.declared.terms.Term.TheVariants.{Var, Obj}
@@ -17,7 +18,7 @@ use Rattle.plan_meaning.specs.EncodedNames.{joined}
 use Rattle.plan_meaning.specs.SourceParts.{retyped, moved, source_param, formula_layer, source_formula}
 use Rattle.encoded_words.specs.EncodedWords.{param_words, formula_words_step, formula_words}
 use Rattle.encoded_words.proofs.Lists.{each-left, each-right, different-by}
-use Rattle.encoded_words.proofs.PlainWords.{plain-escaped, escaped-once}
+use Rattle.encoded_words.proofs.PlainWords.{name-escaped, escaped-once}
 use Rattle.encoded_words.proofs.TableWords.{named-name}
 use Rattle.encoded_words.proofs.Scopes.{last-behind, last-within, word-behind, word-map, last-map}
 
@@ -43,7 +44,7 @@ module _ (v v' : Declared) (ar ar' : List ℕ) (more : AreExtended v v' ar ar') 
 
   pub each_param : (xs : List Param) → EachIs HasIt (param_words v.names xs) → EachIs (IsSoundParam v ar) xs → EachIs (IsSoundParam v' ar') (map printed_param xs)
   each_param [] h s = tt
-  each_param (x ∷ xs) h s = ((subst IsPlain (sym (variable-printed x h.0)) (plain-escaped (variable v x) s.0.0), more.types x.ty s.0.1), each_param xs h.1 s.1)
+  each_param (x ∷ xs) h s = ((subst IsPlainVariable (sym (variable-printed x h.0)) (plain-variable (escaped (variable v x)) (name-escaped (variable v x) s.0.0)), more.types x.ty s.0.1), each_param xs h.1 s.1)
 
   pub escapes_differ : (ws : List Word) → AreDifferent ws → AreDifferent (map escaped ws)
   escapes_differ ws d = different-by (λ w. w) escaped ws (λ x y h k e. escaped-once x y e) (subst AreDifferent (sym (same ws)) d)

@@ -10,7 +10,8 @@ ghost use Rattle.encoded_words.specs.Numberable.{IsNumberable};
 
 use plan_model::{Checks, Compiled, Hddl, Pddl, Style};
 
-/// No two types, objects, predicates, actions or variables in force of a printable value have the same word.
+/// No two types, objects, predicates or actions of a printable value have the same word, and no two parameters of one
+/// action or variables of one quantifier; no variable that is used is hidden by a later one.
 pub fn printed_words_differ(value: &Pddl)
     requires printable { IsPrintable value.now }
     ensures { PrintedWordsDiffer value.now }

@@ -4,7 +4,7 @@ use Rattle.htn_base.specs.Escapes.{escaped}
 use Rattle.text_forms.specs.Words.{Word}
 use Rattle.plan_texts.specs.Declared.{Declared, kinds, kind_at, variable}
 use Rattle.plan_texts.specs.Types.{EachIs, AreDifferent}
-use Rattle.plan_texts.specs.Printable.{IsPlain, IsInForce, IsSoundAtom, IsSoundParam, AreSoundParams, sound_step, IsSound}
+use Rattle.plan_texts.specs.Printable.{IsPlainVariable, IsInForce, IsSoundAtom, IsSoundParam, AreSoundParams, sound_step, IsSound}
 use Rattle.plan_texts.specs.Said.{Typed, typed, Said, holds, equal, no, all, any, imply, every, some, Saids, none, more, saids, said_step, said}
 use Rattle.plan_texts.proofs.Spelled.{sound_roll}
 use Rattle.plan_texts.proofs.Readings.{said_roll}
@@ -82,7 +82,7 @@ abbrev pub bare : List Word → List Word → Declared
 bare objects predicates = record { names = []; types = []; unions = []; objects = objects; predicates = predicates }
 
 abbrev pub SoundTyped : Typed → Type 0
-SoundTyped x = IsPlain x.0 × (x.1 ≡ [] → ⊥)
+SoundTyped x = IsPlainVariable x.0 × (x.1 ≡ [] → ⊥)
 
 abbrev pub words_of : List Typed → List Word
 words_of xs = map (λ (x : Typed). x.0) xs

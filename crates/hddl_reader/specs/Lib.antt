@@ -1,1 +1,6 @@
-pub mod Room
+pub mod Small
+pub mod Rest
+pub mod Written
+pub mod Plain
+pub mod Tables
+pub mod Bound

@@ -1,164 +1,123 @@
-ghost use Rattle.std.specs.Prelude.{◌-◌, ◌^◌, ◌<◌, length, vec_len};
+ghost use Rattle.std.specs.Prelude.{◌≡◌, [], ◌∷◌, IfOk, OnOk};
+ghost use Rattle.hddl_reader.specs.Bound.{hddl_of, AreTitles, IsBound, IsTopOf};
+ghost use Rattle.hddl_reader.specs.Rest.{word_of};
+ghost use Rattle.hddl_reader.specs.Tables.{Extends};
 
-use crate::forms::{WrittenDomain, WrittenMethod, WrittenProblem};
+use crate::heads::Heads;
+use crate::names::{intern, name_of};
+use crate::schemas::{Declarations, bare_method, declare};
 use crate::stop::Stop;
-use htn_base::{List, Name, NameTable};
-use plan_model::{
-    ActionSchema, Child, Effect, Formula, Hddl, Head, MethodSchema, TaskSchema, Types,
-};
+use crate::written::{WrittenDomain, WrittenProblem};
+use htn_base::{List, Memory, Name, NameTable};
+use plan_model::{Formula, Hddl, MethodSchema, Types};
+use sexpr_text::Sexprs;
 use std::alloc::Global;
-use std::collections::{BTreeMap, BTreeSet};
 
-/// The declared names of tasks and actions, which share one space, and what each stands for.
-#[derive(Drop)]
-struct Heads {
-    by_name: BTreeMap<u32, Head>,
+/// The names of the domain, of the problem, and of the one type.
+#[derive(Clone, Copy, Debug)]
+pub struct Titles {
+    pub domain: Name,
+    pub problem: Name,
+    pub object: Name,
 }
 
-impl Heads {
-    /// The tasks and then the actions, numbered from 0 each. No name may stand twice.
-    fn new(alloc: Global, tasks: &[Name], actions: &[Name]) -> Result<Heads, Stop> {
-        let mut heads = Heads {
-            by_name: BTreeMap::new(alloc),
-        };
-        for (task, name) in (0u32..).zip(tasks) {
-            heads.declare(*name, Head::Task(task))?;
-        }
-        for (action, name) in (0u32..).zip(actions) {
-            heads.declare(*name, Head::Action(action))?;
-        }
-        Ok(heads)
-    }
-
-    fn declare(&mut self, name: Name, head: Head) -> Result<(), Stop> {
-        match self.by_name.insert(name.number, head)? {
-            None => Ok(()),
-            Some(_) => Err(Stop::NotOfForm),
-        }
-    }
-
-    fn head(&self, name: Name) -> Result<Head, Stop> {
-        self.by_name
-            .get(&name.number)
-            .copied()
-            .ok_or(Stop::NotOfForm)
-    }
-
-    fn task(&self, name: Name) -> Result<u32, Stop> {
-        match self.head(name)? {
-            Head::Task(task) => Ok(task),
-            _ => Err(Stop::NotOfForm),
-        }
-    }
-}
-
-/// The value for which the two texts stand, over the table of their names.
+/// The value for which the two texts stand.
 pub fn bind(
     alloc: Global,
-    mut names: NameTable,
-    domain: &WrittenDomain,
-    problem: WrittenProblem,
+    domain: &Sexprs<'_>,
+    problem: &Sexprs<'_>,
+    written: &WrittenDomain,
+    asked: &WrittenProblem,
 ) -> Result<Hddl, Stop>
-    requires room { length names < 2 ^ 32 - 2 }
-    requires few { vec_len domain.now.tasks < 2 ^ 32 }
+    ensures bound { IfOk result (λ h. IsBound (word_of domain.now) (word_of problem.now) written.now asked.now h) }
 {
-    let heads = Heads::new(alloc, &domain.tasks, &domain.actions)?;
-    let object = names.intern(b"object")?;
-    let start = names.intern(b"htn_start")?;
-    let top_task = domain.tasks.len() as u32;
+    let mut names = NameTable::new(alloc);
+    let schemas = declare(alloc, domain, written.sections.as_slice(), &mut names)?;
+    let top = top(alloc, problem, &schemas.heads, asked, &mut names)?;
+    let titles = title_names(domain, problem, written, asked, &mut names)?;
+    let value = value(alloc, names, titles, schemas, top)?;
+    Ok(value)
+}
+
+/// The method of the network of the problem.
+fn top(
+    alloc: Global,
+    s: &Sexprs<'_>,
+    heads: &Heads,
+    asked: &WrittenProblem,
+    names: &mut NameTable,
+) -> Result<MethodSchema, Stop>
+    ensures grows { OnOk result (Extends names.old names.new) }
+    ensures top { IfOk result (λ m. IsTopOf (word_of s.now) names.new heads.now.tasks heads.now.calls asked.now m) }
+{
+    let name = intern(names, b"htn_start")?;
+    let subtask = heads.subtask(s, asked.subtask, names)?;
+    let schema = bare_method(alloc, name, heads.tasks, subtask)?;
+    Ok(schema)
+}
+
+fn title_names(
+    domain: &Sexprs<'_>,
+    problem: &Sexprs<'_>,
+    written: &WrittenDomain,
+    asked: &WrittenProblem,
+    names: &mut NameTable,
+) -> Result<Titles, Stop>
+    ensures grows { OnOk result (Extends names.old names.new) }
+    ensures titles { IfOk result (λ t. AreTitles (word_of domain.now) (word_of problem.now) names.new written.now asked.now t) }
+{
+    let domain_name = name_of(domain, written.name, names)?;
+    let problem_name = name_of(problem, asked.name, names)?;
+    name_of(problem, asked.domain, names)?;
+    let object = intern(names, b"object")?;
+    Ok(Titles {
+        domain: domain_name,
+        problem: problem_name,
+        object,
+    })
+}
+
+fn value(
+    alloc: Global,
+    names: NameTable,
+    titles: Titles,
+    schemas: Declarations,
+    top: MethodSchema,
+) -> Result<Hddl, Memory>
+    ensures { IfOk result (λ h. h ≡ hddl_of names titles schemas top) }
+{
+    let types = only_object(alloc, titles.object)?;
+    let Declarations {
+        heads: _,
+        tasks,
+        actions,
+        methods,
+    } = schemas;
     Ok(Hddl {
-        domain: domain.name,
-        problem: problem.name,
-        types: only_object(alloc, object)?,
+        names,
+        domain: titles.domain,
+        problem: titles.problem,
+        types,
         objects: List::new(alloc),
         predicates: List::new(alloc),
-        tasks: task_schemas(alloc, &domain.tasks)?,
-        actions: action_schemas(alloc, &domain.actions)?,
-        methods: method_schemas(alloc, &heads, &domain.methods)?,
-        top: method_schema(alloc, &heads, start, top_task, problem.subtask)?,
+        tasks,
+        actions,
+        methods,
+        top,
         init: List::new(alloc),
         goal: Formula::And(List::new(alloc)),
-        names,
     })
 }
 
 /// The one type of a problem without types.
-fn only_object(alloc: Global, object: Name) -> Result<Types, Stop> {
+fn only_object(alloc: Global, object: Name) -> Result<Types, Memory>
+    ensures { IfOk result (λ types. types ≡ record { names = object ∷ []; parents = []; unions = [] }) }
+{
     let mut names = List::new(alloc);
     names.push(object)?;
     Ok(Types {
         names,
         parents: List::new(alloc),
         unions: List::new(alloc),
-    })
-}
-
-fn task_schemas(alloc: Global, names: &[Name]) -> Result<List<TaskSchema>, Stop> {
-    let mut tasks = List::new(alloc);
-    for name in names {
-        tasks.push(TaskSchema {
-            name: *name,
-            params: List::new(alloc),
-        })?;
-    }
-    Ok(tasks)
-}
-
-fn action_schemas(alloc: Global, names: &[Name]) -> Result<List<ActionSchema>, Stop> {
-    let mut actions = List::new(alloc);
-    for name in names {
-        actions.push(ActionSchema {
-            name: *name,
-            params: List::new(alloc),
-            pre: Formula::And(List::new(alloc)),
-            eff: Effect::And(List::new(alloc)),
-        })?;
-    }
-    Ok(actions)
-}
-
-/// The methods in the order of the text. No name may stand twice.
-fn method_schemas(
-    alloc: Global,
-    heads: &Heads,
-    written: &[WrittenMethod],
-) -> Result<List<MethodSchema>, Stop> {
-    let mut seen = BTreeSet::new(alloc);
-    let mut methods = List::new(alloc);
-    for method in written {
-        if !seen.insert(method.name.number)? {
-            return Err(Stop::NotOfForm);
-        }
-        let task = heads.task(method.task)?;
-        methods.push(method_schema(alloc, heads, method.name, task, method.subtask)?)?;
-    }
-    Ok(methods)
-}
-
-/// A method of a task with at most one subtask.
-fn method_schema(
-    alloc: Global,
-    heads: &Heads,
-    name: Name,
-    task: u32,
-    subtask: Option<Name>,
-) -> Result<MethodSchema, Stop> {
-    let mut children = List::new(alloc);
-    if let Some(subtask) = subtask {
-        children.push(Child {
-            id: None,
-            head: heads.head(subtask)?,
-            args: List::new(alloc),
-        })?;
-    }
-    Ok(MethodSchema {
-        name,
-        params: List::new(alloc),
-        task,
-        task_args: List::new(alloc),
-        pre: Formula::And(List::new(alloc)),
-        children,
-        pairs: List::new(alloc),
-        constraints: List::new(alloc),
     })
 }

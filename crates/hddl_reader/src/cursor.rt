@@ -1,194 +1,104 @@
-ghost use Rattle.std.specs.Prelude.{◌≡◌, ◌+◌, ◌-◌, ◌^◌, ◌<◌, ◌≤◌, length, OnOk};
-ghost use Rattle.hddl_reader.specs.Room.{held};
+ghost use Rattle.std.specs.Prelude.{◌≡◌, [], ◌∷◌, IfOk, OnOk, IsTrue};
+ghost use Rattle.htn_base.specs.Words.{folded};
+ghost use Rattle.text_forms.specs.Faults.{IsFaultless};
+ghost use Rattle.text_forms.specs.Tokens.{left, right, said};
+ghost use Rattle.hddl_reader.specs.Rest.{rest, word_of, symbol_of};
 
 use crate::stop::Stop;
-use htn_base::{Name, NameTable};
+use sexpr_text::{Kind, Sexprs};
 
-/// The words that the grammar keeps for itself: no declared name is one of them.
-const RESERVED: [&[u8]; 13] = [
-    b"-",
-    b"->",
-    b"=",
-    b"<",
-    b"and",
-    b"or",
-    b"not",
-    b"imply",
-    b"forall",
-    b"exists",
-    b"when",
-    b"increase",
-    b"either",
-];
-
-/// One token of a text: a parenthesis, or a longest run of the bytes of a word.
-#[derive(Clone, Copy)]
-pub enum Token<'a> {
-    Open,
-    Close,
-    Word(&'a [u8]),
-}
-
-/// The part of a text that is still to be read.
-#[derive(Drop)]
-pub struct Cursor<'a> {
-    pub rest: &'a [u8],
-}
-
-/// How many bytes of white space and comments stand in front.
-fn blank_length(text: &[u8]) -> usize
-    ensures { result ≤ length text.now }
+/// Takes the token at `at`, which is to be of this kind.
+#[tactic(auto, using(crate::proofs::Tokens::taken))]
+fn take(s: &Sexprs<'_>, at: &mut u32, kind: Kind) -> Result<(), Stop>
+    ensures taken { OnOk result (rest s.now at.old ≡ symbol_of kind (word_of s.now at.old) ∷ rest s.now at.new) }
 {
-    let mut in_comment = false;
-    for (at, byte) in text.iter().enumerate() {
-        match *byte {
-            b'\n' => in_comment = false,
-            _ if in_comment => {}
-            b';' => in_comment = true,
-            9..=13 | b' ' => {}
-            _ => return at,
-        }
-    }
-    text.len()
-}
-
-fn is_word_byte(byte: u8) -> bool {
-    matches!(byte, 33..=126) && !matches!(byte, b'(' | b')' | b';' | b'"')
-}
-
-/// How many bytes of one word stand in front.
-fn word_length(text: &[u8]) -> usize
-    ensures { result ≤ length text.now }
-{
-    text.iter()
-        .position(|byte| !is_word_byte(*byte))
-        .unwrap_or(text.len())
-}
-
-fn is_reserved(word: &[u8]) -> bool {
-    RESERVED
-        .iter()
-        .any(|reserved| word.eq_ignore_ascii_case(reserved))
-}
-
-/// True for a word that may be declared as a name.
-fn is_name(word: &[u8]) -> bool {
-    !matches!(word.first(), None | Some(b'?' | b':')) && !is_reserved(word)
-}
-
-impl<'a> Cursor<'a> {
-    /// At the beginning of the text.
-    pub fn new(text: &'a [u8]) -> Self
-        ensures { result.rest.now ≡ text.now }
-    {
-        Cursor { rest: text }
-    }
-
-    /// Takes the next token.
-    pub fn token(&mut self) -> Result<Token<'a>, Stop>
-        ensures { OnOk result (length self.new.rest.now < length self.old.rest.now) }
-    {
-        let text = &self.rest[blank_length(self.rest)..];
-        match text.first() {
-            None => Err(Stop::NotOfForm),
-            Some(b'(') => {
-                self.rest = &text[1..];
-                Ok(Token::Open)
-            }
-            Some(b')') => {
-                self.rest = &text[1..];
-                Ok(Token::Close)
-            }
-            Some(_) => {
-                let (word, rest) = text.split_at(word_length(text));
-                if word.is_empty() {
-                    return Err(Stop::NotOfForm);
-                }
-                self.rest = rest;
-                Ok(Token::Word(word))
-            }
-        }
-    }
-
-    /// Takes the parenthesis that opens a list.
-    pub fn open(&mut self) -> Result<(), Stop>
-        ensures { OnOk result (length self.new.rest.now < length self.old.rest.now) }
-    {
-        match self.token()? {
-            Token::Open => Ok(()),
-            _ => Err(Stop::NotOfForm),
-        }
-    }
-
-    /// Takes the parenthesis that closes a list.
-    pub fn close(&mut self) -> Result<(), Stop>
-        ensures { OnOk result (length self.new.rest.now < length self.old.rest.now) }
-    {
-        match self.token()? {
-            Token::Close => Ok(()),
-            _ => Err(Stop::NotOfForm),
-        }
-    }
-
-    /// Takes a parenthesis and says whether it opens a list.
-    pub fn opens(&mut self) -> Result<bool, Stop>
-        ensures { OnOk result (length self.new.rest.now < length self.old.rest.now) }
-    {
-        match self.token()? {
-            Token::Open => Ok(true),
-            Token::Close => Ok(false),
-            Token::Word(_) => Err(Stop::NotOfForm),
-        }
-    }
-
-    /// Takes a word.
-    pub fn word(&mut self) -> Result<&'a [u8], Stop>
-        ensures { OnOk result (length self.new.rest.now < length self.old.rest.now) }
-    {
-        match self.token()? {
-            Token::Word(word) => Ok(word),
-            _ => Err(Stop::NotOfForm),
-        }
-    }
-
-    /// Takes one fixed word, in any case of its letters.
-    pub fn keyword(&mut self, due: &[u8]) -> Result<(), Stop>
-        ensures { OnOk result (length self.new.rest.now < length self.old.rest.now) }
-    {
-        if self.word()?.eq_ignore_ascii_case(due) {
-            Ok(())
-        } else {
-            Err(Stop::NotOfForm)
-        }
-    }
-
-    /// Takes a name and gives its number.
-    pub fn name(&mut self, names: &mut NameTable) -> Result<Name, Stop>
-        requires { held names.old self.old.rest.now < 2 ^ 32 - 1 }
-        ensures shorter { OnOk result (length self.new.rest.now < length self.old.rest.now) }
-        ensures room { OnOk result (held names.new self.new.rest.now ≤ held names.old self.old.rest.now) }
-    {
-        let word = self.word()?;
-        named(word, names)
-    }
-
-    /// Nothing but white space and comments is left.
-    pub fn end(&self) -> Result<(), Stop> {
-        if blank_length(self.rest) == self.rest.len() {
-            Ok(())
-        } else {
-            Err(Stop::NotOfForm)
-        }
-    }
-}
-
-/// The number of a word that is taken already, if it may be a name.
-pub fn named(word: &[u8], names: &mut NameTable) -> Result<Name, Stop>
-    requires { length names.old < 2 ^ 32 - 1 }
-    ensures { OnOk result (length names.new ≤ length names.old + 1) }
-{
-    if !is_name(word) {
+    if *at >= s.len() {
         return Err(Stop::NotOfForm);
     }
-    Ok(names.intern(word)?)
+    let Some(token) = s.token(*at) else {
+        return Err(Stop::NotOfForm);
+    };
+    if token.kind != kind {
+        return Err(Stop::NotOfForm);
+    }
+    *at += 1;
+    Ok(())
+}
+
+/// Takes the parenthesis that opens a list.
+pub fn open(s: &Sexprs<'_>, at: &mut u32) -> Result<(), Stop>
+    ensures taken { OnOk result (rest s.now at.old ≡ left ∷ rest s.now at.new) }
+{
+    take(s, at, Kind::Start)
+}
+
+/// Takes the parenthesis that closes a list.
+pub fn close(s: &Sexprs<'_>, at: &mut u32) -> Result<(), Stop>
+    ensures taken { OnOk result (rest s.now at.old ≡ right ∷ rest s.now at.new) }
+{
+    take(s, at, Kind::Stop)
+}
+
+/// Takes a word and gives the number of its token.
+pub fn word(s: &Sexprs<'_>, at: &mut u32) -> Result<u32, Stop>
+    ensures taken { IfOk result (λ i. rest s.now at.old ≡ said (word_of s.now i) ∷ rest s.now at.new) }
+{
+    let here = *at;
+    take(s, at, Kind::Word)?;
+    Ok(here)
+}
+
+/// Takes one fixed word, in any case of its letters.
+pub fn keyword(s: &Sexprs<'_>, at: &mut u32, due: &[u8]) -> Result<(), Stop>
+    ensures taken { OnOk result (rest s.now at.old ≡ said (folded due.now) ∷ rest s.now at.new) }
+{
+    let here = word(s, at)?;
+    if is_word(s, here, due) {
+        Ok(())
+    } else {
+        Err(Stop::NotOfForm)
+    }
+}
+
+/// Nothing is left at the token `at`. No text that was cut into tokens has a fault.
+#[tactic(auto, using(crate::proofs::Tokens::ended))]
+pub fn end(s: &Sexprs<'_>, at: u32) -> Result<(), Stop>
+    ensures ended { OnOk result (rest s.now at ≡ []) }
+    ensures faultless { OnOk result (IsFaultless s.now) }
+{
+    if at >= s.len() {
+        Ok(())
+    } else {
+        Err(Stop::NotOfForm)
+    }
+}
+
+/// Whether a token of this kind stands at `at`.
+pub fn is_of(s: &Sexprs<'_>, at: u32, kind: Kind) -> bool {
+    match s.token(at) {
+        Some(token) => token.kind == kind,
+        None => false,
+    }
+}
+
+/// Whether token `i` says this word, in any case of its letters.
+#[tactic(auto, using(crate::proofs::Tokens::same_word))]
+pub fn is_word(s: &Sexprs<'_>, i: u32, due: &[u8]) -> bool
+    ensures same { IsTrue result → word_of s.now i ≡ folded due.now }
+{
+    letters(s, i).eq_ignore_ascii_case(due)
+}
+
+/// The letters of the word at token `i`, in either case; none where no word stands there.
+#[tactic(auto, using(crate::proofs::Tokens::letters_word, crate::proofs::Tokens::letters_start, crate::proofs::Tokens::letters_stop, crate::proofs::Tokens::letters_none))]
+pub fn letters<'a>(s: &Sexprs<'a>, i: u32) -> &'a [u8]
+    ensures letters { folded result.now ≡ word_of s.now i }
+{
+    match s.token(i) {
+        None => b"",
+        Some(token) => match token.kind {
+            Kind::Word => token.word,
+            Kind::Start | Kind::Stop => b"",
+        },
+    }
 }

@@ -1,148 +1,139 @@
-ghost use Rattle.std.specs.Prelude.{◌+◌, ◌-◌, ◌^◌, ◌<◌, ◌≤◌, length, vec_len, IfOk, OnOk};
-ghost use Rattle.hddl_reader.specs.Room.{held};
+ghost use Rattle.std.specs.Prelude.{◌≡◌, ◌∷◌, ◌++◌, map, codes, IfOk, OnOk};
+ghost use Rattle.htn_base.specs.Words.{folded};
+ghost use Rattle.text_forms.specs.Faults.{IsFaultless};
+ghost use Rattle.text_forms.specs.Lists.{written, written_all};
+ghost use Rattle.text_forms.specs.Tokens.{left, right, said, symbols};
+ghost use Rattle.plan_texts.specs.Printed.{all_parts};
+ghost use Rattle.hddl_reader.specs.Rest.{rest, word_of};
+ghost use Rattle.hddl_reader.specs.Written.{subtask_part, subtask_parts, method_entries, section_part, domain_part, problem_part};
 
-use crate::cursor::{Cursor, Token, named};
+use crate::cursor::{close, end, is_of, is_word, keyword, open, word};
 use crate::stop::Stop;
-use htn_base::{Name, NameTable};
+use crate::written::{Section, WrittenDomain, WrittenMethod, WrittenProblem};
+use htn_base::List;
+use sexpr_text::{Kind, Sexprs};
 use std::alloc::Global;
 
-/// A method as it is written: its own name, its task, and its one subtask if it has one.
-#[derive(Clone, Copy)]
-pub struct WrittenMethod {
-    pub name: Name,
-    pub task: Name,
-    pub subtask: Option<Name>,
-}
-
-/// What a domain declares, each kind in the order of the text.
-#[derive(Drop)]
-pub struct WrittenDomain {
-    pub name: Name,
-    pub tasks: Vec<Name>,
-    pub actions: Vec<Name>,
-    pub methods: Vec<WrittenMethod>,
-}
-
-/// A problem: its name, and the one task of its network if it has one.
-#[derive(Clone, Copy)]
-pub struct WrittenProblem {
-    pub name: Name,
-    pub subtask: Option<Name>,
-}
-
 /// Reads `( define ( domain NAME ) section* )` up to the end of the text.
-pub fn domain(alloc: Global, text: &[u8], names: &mut NameTable) -> Result<WrittenDomain, Stop>
-    requires { held names.old text.now < 2 ^ 32 - 1 }
-    ensures room { OnOk result (length names.new ≤ held names.old text.now) }
-    ensures few { IfOk result (λ domain. vec_len domain.tasks ≤ length text.now) }
+#[tactic(auto, using(crate::proofs::Tokens::first))]
+pub fn domain(alloc: Global, s: &Sexprs<'_>) -> Result<WrittenDomain, Stop>
+    ensures read { IfOk result (λ d. symbols s.now ≡ written (domain_part (word_of s.now) d)) }
+    ensures faultless { OnOk result (IsFaultless s.now) }
 {
-    let mut cursor = Cursor::new(text);
-    let name = opening(&mut cursor, b"domain", names)?;
-    let mut domain = WrittenDomain {
-        name,
-        tasks: Vec::new(alloc),
-        actions: Vec::new(alloc),
-        methods: Vec::new(alloc),
-    };
-    while cursor.opens()? {
-        section(&mut cursor, names, &mut domain)?;
-    }
-    cursor.end()?;
-    Ok(domain)
+    let mut at = 0;
+    let name = opening(s, &mut at, b"domain")?;
+    let sections = sections(alloc, s, &mut at)?;
+    end(s, at)?;
+    Ok(WrittenDomain { name, sections })
 }
 
-/// Reads `( define ( problem NAME ) ( :domain NAME ) ( :htn :subtasks S ) )`
-/// up to the end of the text. Which domain is named doesn't matter.
-pub fn problem(text: &[u8], names: &mut NameTable) -> Result<WrittenProblem, Stop>
-    requires { held names.old text.now < 2 ^ 32 - 1 }
-    ensures { OnOk result (length names.new ≤ held names.old text.now) }
+/// Reads `( define ( problem NAME ) ( :domain NAME ) ( :htn :subtasks S ) )` up to the end of the text.
+#[tactic(auto, using(crate::proofs::Tokens::first))]
+pub fn problem(s: &Sexprs<'_>) -> Result<WrittenProblem, Stop>
+    ensures read { IfOk result (λ p. symbols s.now ≡ written (problem_part (word_of s.now) p)) }
+    ensures faultless { OnOk result (IsFaultless s.now) }
 {
-    let mut cursor = Cursor::new(text);
-    let name = opening(&mut cursor, b"problem", names)?;
-    cursor.open()?;
-    cursor.keyword(b":domain")?;
-    let _domain = cursor.name(names)?;
-    cursor.close()?;
-    cursor.open()?;
-    cursor.keyword(b":htn")?;
-    let subtask = subtasks(&mut cursor, names)?;
-    cursor.close()?;
-    cursor.close()?;
-    cursor.end()?;
-    Ok(WrittenProblem { name, subtask })
+    let mut at = 0;
+    let name = opening(s, &mut at, b"problem")?;
+    let domain = domain_name(s, &mut at)?;
+    let subtask = network(s, &mut at)?;
+    close(s, &mut at)?;
+    end(s, at)?;
+    Ok(WrittenProblem {
+        name,
+        domain,
+        subtask,
+    })
 }
 
 /// Reads `( define ( KIND NAME )`.
-fn opening(cursor: &mut Cursor, kind: &[u8], names: &mut NameTable) -> Result<Name, Stop>
-    requires { held names.old cursor.old.rest.now < 2 ^ 32 - 1 }
-    ensures shorter { OnOk result (length cursor.new.rest.now < length cursor.old.rest.now) }
-    ensures room { OnOk result (held names.new cursor.new.rest.now ≤ held names.old cursor.old.rest.now) }
+fn opening(s: &Sexprs<'_>, at: &mut u32, kind: &[u8]) -> Result<u32, Stop>
+    ensures read { IfOk result (λ i. rest s.now at.old ≡ left ∷ said (codes "define") ∷ left ∷ said (folded kind.now) ∷ said (word_of s.now i) ∷ right ∷ rest s.now at.new) }
 {
-    cursor.open()?;
-    cursor.keyword(b"define")?;
-    cursor.open()?;
-    cursor.keyword(kind)?;
-    let name = cursor.name(names)?;
-    cursor.close()?;
+    open(s, at)?;
+    keyword(s, at, b"define")?;
+    open(s, at)?;
+    keyword(s, at, kind)?;
+    let name = word(s, at)?;
+    close(s, at)?;
     Ok(name)
 }
 
-/// Reads the rest of a section whose parenthesis is taken.
-fn section(
-    cursor: &mut Cursor,
-    names: &mut NameTable,
-    domain: &mut WrittenDomain,
-) -> Result<(), Stop>
-    requires { held names.old cursor.old.rest.now < 2 ^ 32 - 1 }
-    ensures shorter { OnOk result (length cursor.new.rest.now < length cursor.old.rest.now) }
-    ensures room { OnOk result (held names.new cursor.new.rest.now ≤ held names.old cursor.old.rest.now) }
-    ensures few { OnOk result (vec_len domain.new.tasks + length cursor.new.rest.now ≤ vec_len domain.old.tasks + length cursor.old.rest.now) }
+/// Reads `( :domain NAME )`.
+fn domain_name(s: &Sexprs<'_>, at: &mut u32) -> Result<u32, Stop>
+    ensures read { IfOk result (λ i. rest s.now at.old ≡ left ∷ said (codes ":domain") ∷ said (word_of s.now i) ∷ right ∷ rest s.now at.new) }
 {
-    let kind = cursor.word()?;
-    let name = cursor.name(names)?;
-    no_parameters(cursor)?;
-    declaration(cursor, kind, name, names, domain)?;
-    cursor.close()
+    open(s, at)?;
+    keyword(s, at, b":domain")?;
+    let name = word(s, at)?;
+    close(s, at)?;
+    Ok(name)
 }
 
-/// Reads what follows the parameters, and puts the declaration to its kind.
-fn declaration(
-    cursor: &mut Cursor,
-    kind: &[u8],
-    name: Name,
-    names: &mut NameTable,
-    domain: &mut WrittenDomain,
-) -> Result<(), Stop>
-    requires { held names.old cursor.old.rest.now < 2 ^ 32 - 1 }
-    ensures shorter { OnOk result (length cursor.new.rest.now ≤ length cursor.old.rest.now) }
-    ensures room { OnOk result (held names.new cursor.new.rest.now ≤ held names.old cursor.old.rest.now) }
-    ensures few { OnOk result (vec_len domain.new.tasks ≤ vec_len domain.old.tasks + 1) }
+/// Reads `( :htn :subtasks S )`.
+fn network(s: &Sexprs<'_>, at: &mut u32) -> Result<Option<u32>, Stop>
+    ensures read { IfOk result (λ o. rest s.now at.old ≡ left ∷ said (codes ":htn") ∷ (written_all (subtask_parts (word_of s.now) o) ++ right ∷ rest s.now at.new)) }
 {
-    if kind.eq_ignore_ascii_case(b":task") {
-        domain.tasks.push(name)?;
-        Ok(())
-    } else if kind.eq_ignore_ascii_case(b":action") {
-        domain.actions.push(name)?;
-        Ok(())
-    } else if kind.eq_ignore_ascii_case(b":method") {
-        domain.methods.push(method(cursor, name, names)?)?;
-        Ok(())
+    open(s, at)?;
+    keyword(s, at, b":htn")?;
+    let subtask = subtasks(s, at)?;
+    close(s, at)?;
+    Ok(subtask)
+}
+
+/// Reads sections up to the end of their list.
+#[tactic(auto, using(crate::proofs::Steps::push_section, crate::proofs::Steps::shorter))]
+fn sections(alloc: Global, s: &Sexprs<'_>, at: &mut u32) -> Result<List<Section>, Stop>
+    ensures read { IfOk result (λ xs. rest s.now at.old ≡ written_all (all_parts (map (section_part (word_of s.now)) xs)) ++ right ∷ rest s.now at.new) }
+{
+    let mut sections = List::new(alloc);
+    while is_of(s, *at, Kind::Start) {
+        let section = section(s, at)?;
+        sections.push(section)?;
+    }
+    close(s, at)?;
+    Ok(sections)
+}
+
+/// Reads one section.
+fn section(s: &Sexprs<'_>, at: &mut u32) -> Result<Section, Stop>
+    ensures read { IfOk result (λ x. rest s.now at.old ≡ written (section_part (word_of s.now) x) ++ rest s.now at.new) }
+{
+    open(s, at)?;
+    let kind = word(s, at)?;
+    if is_word(s, kind, b":task") {
+        let name = declaration(s, at)?;
+        Ok(Section::Task(name))
+    } else if is_word(s, kind, b":action") {
+        let name = declaration(s, at)?;
+        Ok(Section::Action(name))
+    } else if is_word(s, kind, b":method") {
+        let method = method(s, at)?;
+        Ok(Section::Method(method))
     } else {
         Err(Stop::NotOfForm)
     }
 }
 
-/// Reads `:task ( NAME ) :subtasks S`.
-fn method(cursor: &mut Cursor, name: Name, names: &mut NameTable) -> Result<WrittenMethod, Stop>
-    requires { held names.old cursor.old.rest.now < 2 ^ 32 - 1 }
-    ensures shorter { OnOk result (length cursor.new.rest.now < length cursor.old.rest.now) }
-    ensures room { OnOk result (held names.new cursor.new.rest.now ≤ held names.old cursor.old.rest.now) }
+/// Reads `NAME :parameters ( )` and the end of the section.
+fn declaration(s: &Sexprs<'_>, at: &mut u32) -> Result<u32, Stop>
+    ensures read { IfOk result (λ i. rest s.now at.old ≡ said (word_of s.now i) ∷ said (codes ":parameters") ∷ left ∷ right ∷ right ∷ rest s.now at.new) }
 {
-    cursor.keyword(b":task")?;
-    cursor.open()?;
-    let task = cursor.name(names)?;
-    cursor.close()?;
-    let subtask = subtasks(cursor, names)?;
+    let name = word(s, at)?;
+    no_parameters(s, at)?;
+    close(s, at)?;
+    Ok(name)
+}
+
+/// Reads `NAME :parameters ( ) :task ( NAME ) :subtasks S` and the end of the section.
+fn method(s: &Sexprs<'_>, at: &mut u32) -> Result<WrittenMethod, Stop>
+    ensures read { IfOk result (λ m. rest s.now at.old ≡ said (word_of s.now m.name) ∷ (written_all (method_entries (word_of s.now) m) ++ right ∷ rest s.now at.new)) }
+{
+    let name = word(s, at)?;
+    no_parameters(s, at)?;
+    let task = method_task(s, at)?;
+    let subtask = subtasks(s, at)?;
+    close(s, at)?;
     Ok(WrittenMethod {
         name,
         task,
@@ -151,29 +142,44 @@ fn method(cursor: &mut Cursor, name: Name, names: &mut NameTable) -> Result<Writ
 }
 
 /// Reads `:parameters ( )`.
-fn no_parameters(cursor: &mut Cursor) -> Result<(), Stop>
-    ensures { OnOk result (length cursor.new.rest.now < length cursor.old.rest.now) }
+fn no_parameters(s: &Sexprs<'_>, at: &mut u32) -> Result<(), Stop>
+    ensures read { OnOk result (rest s.now at.old ≡ said (codes ":parameters") ∷ left ∷ right ∷ rest s.now at.new) }
 {
-    cursor.keyword(b":parameters")?;
-    cursor.open()?;
-    cursor.close()
+    keyword(s, at, b":parameters")?;
+    open(s, at)?;
+    close(s, at)
+}
+
+/// Reads `:task ( NAME )`.
+fn method_task(s: &Sexprs<'_>, at: &mut u32) -> Result<u32, Stop>
+    ensures read { IfOk result (λ i. rest s.now at.old ≡ said (codes ":task") ∷ left ∷ said (word_of s.now i) ∷ right ∷ rest s.now at.new) }
+{
+    keyword(s, at, b":task")?;
+    open(s, at)?;
+    let task = word(s, at)?;
+    close(s, at)?;
+    Ok(task)
 }
 
 /// Reads `:subtasks ( )` or `:subtasks ( NAME )`.
-fn subtasks(cursor: &mut Cursor, names: &mut NameTable) -> Result<Option<Name>, Stop>
-    requires { held names.old cursor.old.rest.now < 2 ^ 32 - 1 }
-    ensures shorter { OnOk result (length cursor.new.rest.now < length cursor.old.rest.now) }
-    ensures room { OnOk result (held names.new cursor.new.rest.now ≤ held names.old cursor.old.rest.now) }
+fn subtasks(s: &Sexprs<'_>, at: &mut u32) -> Result<Option<u32>, Stop>
+    ensures read { IfOk result (λ o. rest s.now at.old ≡ written_all (subtask_parts (word_of s.now) o) ++ rest s.now at.new) }
 {
-    cursor.keyword(b":subtasks")?;
-    cursor.open()?;
-    match cursor.token()? {
-        Token::Close => Ok(None),
-        Token::Open => Err(Stop::NotOfForm),
-        Token::Word(word) => {
-            let name = named(word, names)?;
-            cursor.close()?;
-            Ok(Some(name))
-        }
+    keyword(s, at, b":subtasks")?;
+    open(s, at)?;
+    subtask(s, at)
+}
+
+/// Reads the name of a subtask, if one is written, and the end of its list.
+fn subtask(s: &Sexprs<'_>, at: &mut u32) -> Result<Option<u32>, Stop>
+    ensures read { IfOk result (λ o. left ∷ rest s.now at.old ≡ written (subtask_part (word_of s.now) o) ++ rest s.now at.new) }
+{
+    if is_of(s, *at, Kind::Word) {
+        let name = word(s, at)?;
+        close(s, at)?;
+        Ok(Some(name))
+    } else {
+        close(s, at)?;
+        Ok(None)
     }
 }

@@ -1,4 +1,5 @@
 use htn_base::Memory;
+use sexpr_text::ReadError;
 use std::alloc::{AllocError, AllocFailed};
 
 /// Why reading stopped before the end of the form.
@@ -25,5 +26,14 @@ impl From<AllocError> for Stop {
 impl<T: Drop> From<AllocFailed<T>> for Stop {
     fn from(_error: AllocFailed<T>) -> Self {
         Stop::Memory
+    }
+}
+
+impl From<ReadError> for Stop {
+    fn from(error: ReadError) -> Self {
+        match error {
+            ReadError::Bad(_) => Stop::NotOfForm,
+            ReadError::Memory => Stop::Memory,
+        }
     }
 }

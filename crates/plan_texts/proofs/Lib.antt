@@ -17,6 +17,7 @@ pub mod Layers
 pub mod OneOrder
 pub mod SmallestRow
 pub mod SmallestPrintable
+pub mod MarkedVariable
 pub mod RowWords
 pub mod FormulaRows
 pub mod EffectRows

@@ -5,7 +5,7 @@ use Rattle.std.proofs.lemmas.Bool.{cond-true, cond-false, and_parts}
 use Rattle.text_forms.specs.Words.{Word, is_name, is_variable, first_place, last_place, word_at}
 use Rattle.std.specs.Str.{bytes_eq}
 use Rattle.plan_texts.specs.Types.{EachIs, AreDifferent}
-use Rattle.plan_texts.specs.Printable.{IsPlain}
+use Rattle.plan_texts.specs.Printable.{IsPlain, IsPlainVariable}
 use Rattle.plan_texts.proofs.Basics.{bytes_eq-true, bytes_eq-refl, bytes_eq-other}
 use Rattle.text_forms.specs.Printing.{is_folded_word}
 
@@ -43,6 +43,9 @@ plain-token (b ∷ w) e = e.0
 pub name-variable : (w : Word) → is_name w ≡ true → is_variable w ≡ true
 name-variable [] e = cc
 name-variable (b ∷ w) e = (and_parts _ _ (and_parts _ _ e).1).1
+
+pub plain-variable : (w : Word) → IsPlain w → IsPlainVariable w
+plain-variable w p = (p.0, name-variable w p.1)
 
 pub each-get : {X : Type 0} (P : X → Type 0) (xs : List X) (k : ℕ) (d : X) → EachIs P xs → k < length xs → P (get_or xs k d)
 each-get P [] k d e l = absurd (omega arith)

@@ -6,7 +6,7 @@ use Rattle.plan_texts.specs.Declared.{Declared, variable}
 use Rattle.plan_texts.specs.TypedLists.{Each, EachTyped, are_names}
 use Rattle.plan_texts.specs.Formulas.{IsTerm, IsApplied, IsParam, formula_step, IsFormula}
 use Rattle.plan_texts.specs.Printed.{all_parts, term_part, applied_part, params_parts, formula_part_step, formula_part}
-use Rattle.plan_texts.specs.Printable.{IsPlain, IsInForce, IsSoundAtom, IsSoundParam, sound_step, IsSound, HasWords}
+use Rattle.plan_texts.specs.Printable.{IsPlain, IsPlainVariable, IsInForce, IsSoundAtom, IsSoundParam, sound_step, IsSound, HasWords}
 use Rattle.plan_texts.specs.Types.{EachIs}
 use Rattle.plan_model.specs.declared.terms.Term.{Term}
 use Rattle.plan_model.specs.declared.terms.Term.TheVariants.{Var, Obj}
@@ -15,7 +15,7 @@ use Rattle.plan_model.specs.declared.formulas.Formula.{Formula, roll-Formula}
 use Rattle.plan_model.specs.declared.formulas.Formula.TheFolds.{rec-roll-Formula, fold-roll-Formula, map-Formula, ind-Formula}
 use Rattle.plan_model.specs.declared.formulas.Formula.TheOpen.{Formula-F}
 use Rattle.text_forms.specs.Printing.{IsPrintablePart, ArePrintableParts}
-use Rattle.plan_texts.proofs.Places.{each-at, first-different, last-is, each-append, plain-token, name-variable}
+use Rattle.plan_texts.proofs.Places.{each-at, first-different, last-is, each-append, plain-token}
 use Rattle.plan_texts.proofs.Readings.{formula_roll}
 use Rattle.plan_texts.proofs.UnionTypes.{good-kind}
 
@@ -41,17 +41,17 @@ module _ (v : Declared) (arities : List ℕ) where
   part_roll x = fold-roll-Formula (List Word → Part) (formula_part_step v) x
 
   module _ (has : HasWords v arities) where
-    pub spelled-term : (scope : List Word) (t : Term) → EachIs IsPlain scope → IsInForce v arities scope t → IsTerm v scope t (term_part v scope t) × IsPrintablePart (term_part v scope t)
-    spelled-term scope (Var k) s e = let p = last-is IsPlain (word_at scope k) scope k s e in ((word_at scope k, refl, e), p.0)
+    pub spelled-term : (scope : List Word) (t : Term) → EachIs IsPlainVariable scope → IsInForce v arities scope t → IsTerm v scope t (term_part v scope t) × IsPrintablePart (term_part v scope t)
+    spelled-term scope (Var k) s e = let p = last-is IsPlainVariable (word_at scope k) scope k s e in ((word_at scope k, refl, e), p.0)
     spelled-term scope (Obj o) s e =
         let p = each-at IsPlain v.objects o has.objects e in
         ((word_at v.objects o, refl, p.1, first-different v.objects o has.objects_differ e), plain-token (word_at v.objects o) p)
 
-    pub spelled-terms : (scope : List Word) (ts : List Term) → EachIs IsPlain scope → EachIs (IsInForce v arities scope) ts → Each (IsTerm v scope) ts (all_parts (map (term_part v scope) ts)) × ArePrintableParts (all_parts (map (term_part v scope) ts))
+    pub spelled-terms : (scope : List Word) (ts : List Term) → EachIs IsPlainVariable scope → EachIs (IsInForce v arities scope) ts → Each (IsTerm v scope) ts (all_parts (map (term_part v scope) ts)) × ArePrintableParts (all_parts (map (term_part v scope) ts))
     spelled-terms scope [] s e = (tt, tt)
     spelled-terms scope (t ∷ ts) s e = let g = spelled-term scope t s e.0 in let h = spelled-terms scope ts s e.1 in ((g.0, h.0), (g.1, h.1))
 
-    pub spelled-atom : (scope : List Word) (n : ℕ) (ts : List Term) → EachIs IsPlain scope → IsSoundAtom v arities scope n ts → IsApplied v scope n ts (applied_part v scope n ts) × IsPrintablePart (applied_part v scope n ts)
+    pub spelled-atom : (scope : List Word) (n : ℕ) (ts : List Term) → EachIs IsPlainVariable scope → IsSoundAtom v arities scope n ts → IsApplied v scope n ts (applied_part v scope n ts) × IsPrintablePart (applied_part v scope n ts)
     spelled-atom scope n ts s e =
         let g = spelled-terms scope ts s e.2 in
         let p = each-at IsPlain v.predicates n has.predicates e.0 in
@@ -62,20 +62,20 @@ module _ (v : Declared) (arities : List ℕ) where
     spelled-params (x ∷ xs) e =
         let h = spelled-params xs e.1 in
         let k = good-kind v arities has x.ty e.0.1 in
-        (((refl, name-variable (variable v x) e.0.0.1, (sym k.0, ap are_names k.0 ∙ k.1)), h.0), (e.0.0.0, (refl, (k.2, h.1))))
+        (((refl, e.0.0.1, (sym k.0, ap are_names k.0 ∙ k.1)), h.0), (e.0.0.0, (refl, (k.2, h.1))))
 
-    pub plain-scope : (xs : List Param) → EachIs (IsSoundParam v arities) xs → EachIs IsPlain (map (variable v) xs)
+    pub plain-scope : (xs : List Param) → EachIs (IsSoundParam v arities) xs → EachIs IsPlainVariable (map (variable v) xs)
     plain-scope [] e = tt
     plain-scope (x ∷ xs) e = (e.0.0, plain-scope xs e.1)
 
     abbrev pub Claim : Formula → Type 0
-    Claim f = (scope : List Word) → EachIs IsPlain scope → IsSound v arities f scope → IsFormula v f scope (formula_part v f scope) × IsPrintablePart (formula_part v f scope)
+    Claim f = (scope : List Word) → EachIs IsPlainVariable scope → IsSound v arities f scope → IsFormula v f scope (formula_part v f scope) × IsPrintablePart (formula_part v f scope)
 
     abbrev pub Layer : Formula-F Formula → Type 0
-    Layer x = (scope : List Word) → EachIs IsPlain scope → sound_step v arities (IsSound v arities) x scope
+    Layer x = (scope : List Word) → EachIs IsPlainVariable scope → sound_step v arities (IsSound v arities) x scope
         → formula_step v (IsFormula v) x scope (formula_part_step v (map-Formula Formula (List Word → Part) (formula_part v) x) scope) × IsPrintablePart (formula_part_step v (map-Formula Formula (List Word → Part) (formula_part v) x) scope)
 
-    each : (fs : List ((f : Formula) × Claim f)) (scope : List Word) → EachIs IsPlain scope → EachIs (λ f. IsSound v arities f scope) (map (λ e. e.0) fs)
+    each : (fs : List ((f : Formula) × Claim f)) (scope : List Word) → EachIs IsPlainVariable scope → EachIs (λ f. IsSound v arities f scope) (map (λ e. e.0) fs)
         → Each (λ f. IsFormula v f scope) (map (λ e. e.0) fs) (all_parts (map (λ f. f scope) (map (formula_part v) (map (λ e. e.0) fs)))) × ArePrintableParts (all_parts (map (λ f. f scope) (map (formula_part v) (map (λ e. e.0) fs))))
     each [] scope s e = (tt, tt)
     each (f ∷ fs) scope s e = let g = f.1 scope s e.0 in let h = each fs scope s e.1 in ((g.0, h.0), (g.1, h.1))
@@ -92,10 +92,10 @@ module _ (v : Declared) (arities : List ℕ) where
         let h = f.1 scope s e.0 in let i = g.1 scope s e.1 in
         ((formula_part v f.0 scope, formula_part v g.0 scope, refl, h.0, i.0), (refl, (h.1, (i.1, tt))))
     level (Formula-F.Forall xs f) scope s e =
-        let g = spelled-params xs e.0.0 in let h = f.1 (scope ++ map (variable v) xs) (each-append IsPlain scope (map (variable v) xs) s (plain-scope xs e.0.0)) e.1 in
+        let g = spelled-params xs e.0.0 in let h = f.1 (scope ++ map (variable v) xs) (each-append IsPlainVariable scope (map (variable v) xs) s (plain-scope xs e.0.0)) e.1 in
         ((params_parts v xs, formula_part v f.0 (scope ++ map (variable v) xs), refl, g.0, h.0), (refl, (g.1, (h.1, tt))))
     level (Formula-F.Exists xs f) scope s e =
-        let g = spelled-params xs e.0.0 in let h = f.1 (scope ++ map (variable v) xs) (each-append IsPlain scope (map (variable v) xs) s (plain-scope xs e.0.0)) e.1 in
+        let g = spelled-params xs e.0.0 in let h = f.1 (scope ++ map (variable v) xs) (each-append IsPlainVariable scope (map (variable v) xs) s (plain-scope xs e.0.0)) e.1 in
         ((params_parts v xs, formula_part v f.0 (scope ++ map (variable v) xs), refl, g.0, h.0), (refl, (g.1, (h.1, tt))))
 
     pub formula-spelled : (f : Formula) → Claim f

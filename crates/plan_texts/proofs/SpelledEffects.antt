@@ -6,7 +6,7 @@ use Rattle.plan_texts.specs.Declared.{Declared, variable}
 use Rattle.plan_texts.specs.TypedLists.{Each}
 use Rattle.plan_texts.specs.Formulas.{effect_step, IsEffect}
 use Rattle.plan_texts.specs.Printed.{all_parts, applied_part, params_parts, formula_part, effect_part_step, effect_part}
-use Rattle.plan_texts.specs.Printable.{IsPlain, sound_effect_step, IsSoundEffect, HasWords}
+use Rattle.plan_texts.specs.Printable.{IsPlainVariable, sound_effect_step, IsSoundEffect, HasWords}
 use Rattle.plan_texts.specs.Types.{EachIs}
 use Rattle.plan_model.specs.declared.effects.Effect.{Effect, roll-Effect}
 use Rattle.plan_model.specs.declared.effects.Effect.TheFolds.{rec-roll-Effect, fold-roll-Effect, map-Effect, ind-Effect}
@@ -32,13 +32,13 @@ module _ (v : Declared) (arities : List ℕ) where
 
   module _ (has : HasWords v arities) where
     abbrev pub Claim : Effect → Type 0
-    Claim f = (scope : List Word) → EachIs IsPlain scope → IsSoundEffect v arities f scope → IsEffect v f scope (effect_part v f scope) × IsPrintablePart (effect_part v f scope)
+    Claim f = (scope : List Word) → EachIs IsPlainVariable scope → IsSoundEffect v arities f scope → IsEffect v f scope (effect_part v f scope) × IsPrintablePart (effect_part v f scope)
 
     abbrev pub Layer : Effect-F Effect → Type 0
-    Layer x = (scope : List Word) → EachIs IsPlain scope → sound_effect_step v arities (IsSoundEffect v arities) x scope
+    Layer x = (scope : List Word) → EachIs IsPlainVariable scope → sound_effect_step v arities (IsSoundEffect v arities) x scope
         → effect_step v (IsEffect v) x scope (effect_part_step v (map-Effect Effect (List Word → Part) (effect_part v) x) scope) × IsPrintablePart (effect_part_step v (map-Effect Effect (List Word → Part) (effect_part v) x) scope)
 
-    each : (fs : List ((f : Effect) × Claim f)) (scope : List Word) → EachIs IsPlain scope → EachIs (λ f. IsSoundEffect v arities f scope) (map (λ e. e.0) fs)
+    each : (fs : List ((f : Effect) × Claim f)) (scope : List Word) → EachIs IsPlainVariable scope → EachIs (λ f. IsSoundEffect v arities f scope) (map (λ e. e.0) fs)
         → Each (λ f. IsEffect v f scope) (map (λ e. e.0) fs) (all_parts (map (λ f. f scope) (map (effect_part v) (map (λ e. e.0) fs)))) × ArePrintableParts (all_parts (map (λ f. f scope) (map (effect_part v) (map (λ e. e.0) fs))))
     each [] scope s e = (tt, tt)
     each (f ∷ fs) scope s e = let g = f.1 scope s e.0 in let h = each fs scope s e.1 in ((g.0, h.0), (g.1, h.1))
@@ -48,7 +48,7 @@ module _ (v : Declared) (arities : List ℕ) where
     level (Effect-F.Delete a) scope s e = let g = spelled-atom v arities has scope a.predicate a.args s e in ((applied_part v scope a.predicate a.args, refl, g.0), (refl, (g.1, tt)))
     level (Effect-F.And fs) scope s e = let g = each fs scope s e in (inl (all_parts (map (λ f. f scope) (map (effect_part v) (map (λ e. e.0) fs))), refl, g.0), (refl, g.1))
     level (Effect-F.Forall xs f) scope s e =
-        let g = spelled-params v arities has xs e.0.0 in let h = f.1 (scope ++ map (variable v) xs) (each-append IsPlain scope (map (variable v) xs) s (plain-scope v arities has xs e.0.0)) e.1 in
+        let g = spelled-params v arities has xs e.0.0 in let h = f.1 (scope ++ map (variable v) xs) (each-append IsPlainVariable scope (map (variable v) xs) s (plain-scope v arities has xs e.0.0)) e.1 in
         ((params_parts v xs, effect_part v f.0 (scope ++ map (variable v) xs), refl, g.0, h.0), (refl, (g.1, (h.1, tt))))
     level (Effect-F.When f g) scope s e =
         let h = formula-spelled v arities has f scope s e.0 in let i = g.1 scope s e.1 in

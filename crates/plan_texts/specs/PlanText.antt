@@ -1,5 +1,5 @@
 -- What spells a classical plan, and what is printed for one.
--- Source: Fox and Long, "PDDL2.1", JAIR 20, 2003: a plan of level 1 is a list of ground actions; planners may number the steps.
+-- Source: this project's; a plan of PDDL 2.1, level 1 (Fox and Long, JAIR 20, 2003), without times. Some planners put a number and a colon before a step.
 use Rattle.std.specs.Prelude.{ℕ, ◌≡◌, ◌==◌, ◌&&◌, Bool, true, false, not, nat_le, List, [], ◌∷◌, map}
 use Rattle.text_forms.specs.Bytes.{is_clean}
 use Rattle.text_forms.specs.Tokens.{symbols}

@@ -1,7 +1,7 @@
 -- What is asked of the parts of a value that is printed, as facts on its words.
 -- Source: this project's.
 use Rattle.std.specs.Prelude.{ℕ, ◌≡◌, ◌<◌, ◌++◌, true, List, map, length, slice_index, Some}
-use Rattle.text_forms.specs.Words.{Word, is_name, word_at, last_place}
+use Rattle.text_forms.specs.Words.{Word, is_name, is_variable, word_at, last_place}
 use Rattle.text_forms.specs.Printing.{are_folded}
 use Rattle.plan_texts.specs.Declared.{Declared, kinds, variable}
 use Rattle.plan_texts.specs.Types.{Has, EachIs, AreDifferent}
@@ -19,6 +19,10 @@ use Rattle.plan_model.specs.declared.effects.Effect.TheOpen.{Effect-F}
 abbrev pub IsPlain : Word → Type 0
 IsPlain w = (are_folded w ≡ true) × (is_name w ≡ true)
 
+-- folded, and what stands behind the ? of a variable: it need not be a NAME, so ??x is one
+abbrev pub IsPlainVariable : Word → Type 0
+IsPlainVariable w = (are_folded w ≡ true) × (is_variable w ≡ true)
+
 module _ (v : Declared) (arities : List ℕ) where
   -- an object, or a variable in force that no later one hides
   abbrev pub IsInForce : List Word → Term → Type 0
@@ -29,7 +33,7 @@ module _ (v : Declared) (arities : List ℕ) where
   IsSoundAtom scope n ts = (n < length v.predicates) × (length ts ≡ slice_index arities n) × EachIs (IsInForce scope) ts
 
   abbrev pub IsSoundParam : Param → Type 0
-  IsSoundParam x = IsPlain (variable v x) × (x.ty < length (kinds v))
+  IsSoundParam x = IsPlainVariable (variable v x) × (x.ty < length (kinds v))
 
   -- the variables of one list differ
   abbrev pub AreSoundParams : List Param → Type 0

@@ -1,5 +1,6 @@
 -- Parts and sections under their keywords, in any order. A missing one is empty.
--- Source: appendix A (grammar) of Fox and Long, "PDDL2.1", JAIR 20, 2003, level 1, and the full syntax definition of HDDL, Höller et al., "HDDL: An Extension to PDDL for Expressing Hierarchical Planning Problems", AAAI 2020.
+-- Source: appendix A (grammar) of Fox and Long, "PDDL2.1", JAIR 20, 2003, level 1, and the full syntax definition of HDDL, Höller et al., "HDDL: An Extension to PDDL for Expressing Hierarchical Planning Problems", AAAI 2020;
+-- that their order is free and that parts may be missing is this project's.
 use Rattle.std.specs.Prelude.{Bool, true, false, not, cond, ◌&&◌, ◌||◌, List, [], ◌∷◌, codes, Option, Some, None}
 use Rattle.std.specs.Str.{bytes_eq}
 use Rattle.text_forms.specs.Lists.{Part, Parts, name, group, nothing, part}

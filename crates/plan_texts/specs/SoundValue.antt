@@ -1,12 +1,11 @@
 -- When the numbers and words of an HDDL value fit together.
 -- Source: this project's; each part is what a text without faults gives.
-use Rattle.std.specs.Prelude.{ℕ, ◌≡◌, ◌<◌, ◌++◌, List, [], ◌∷◌, map, length, codes, slice_get, Option, Some, None}
+use Rattle.std.specs.Prelude.{ℕ, ◌≡◌, ◌<◌, ◌++◌, List, [], map, length, codes, slice_get, Some}
 use Rattle.text_forms.specs.Words.{Word, word_at}
 use Rattle.plan_texts.specs.Declared.{named, variable}
 use Rattle.plan_texts.specs.Types.{Has, EachIs, AreDifferent}
 use Rattle.plan_texts.specs.SpellsHddl.{hddl_types, hddl_words, task_words, action_words}
 use Rattle.plan_texts.specs.Printable.{IsPlain, IsInForce, IsSoundAtom, IsSoundParam, AreSoundParams, IsSound, IsSoundEffect, HasWords}
-use Rattle.plan_model.specs.declared.terms.Term.{Term}
 use Rattle.plan_model.specs.declared.terms.Term.TheVariants.{Obj}
 use Rattle.plan_model.specs.declared.terms.Param.{Param}
 use Rattle.plan_model.specs.Typing.{Leads}

@@ -1,5 +1,5 @@
 -- What spells the types of a value: their words and the pairs of child and parent, in any order.
--- Source: appendix A (grammar) of Fox and Long, "PDDL2.1", JAIR 20, 2003, level 1, types.
+-- Source: appendix A (grammar) of Fox and Long, "PDDL2.1", JAIR 20, 2003, level 1, types; several parents of a type, and types named only as parents, are this project's.
 use Rattle.std.specs.Prelude.{◌≡◌, ◌⊎◌, ◌↔◌, true, List, [], ◌∷◌, codes, Option, Some, None}
 use Rattle.text_forms.specs.Lists.{Part, Parts, name, group}
 use Rattle.text_forms.specs.Words.{Word, is_name, word_at}

@@ -28,12 +28,12 @@ use Rattle.plan_model.specs.declared.schemas.ActionSchema.{ActionSchema}
 use Rattle.plan_model.specs.declared.schemas.MethodSchema.{MethodSchema}
 use Rattle.plan_model.specs.declared.values.Hddl.{Hddl}
 use Rattle.plan_model.specs.Typing.{Leads, stay, climb}
-use Rattle.text_forms.specs.Words.{Word, is_name, is_among, word_at, last_place}
+use Rattle.text_forms.specs.Words.{Word, is_name, is_variable, is_among, word_at, last_place}
 use Rattle.text_forms.specs.Printing.{are_folded}
 use Rattle.plan_texts.specs.Declared.{Declared, named, kinds, variable}
 use Rattle.plan_texts.specs.Types.{Has, EachIs, AreDifferent}
 use Rattle.plan_texts.specs.SpellsHddl.{hddl_types, hddl_words, task_words, action_words}
-use Rattle.plan_texts.specs.Printable.{IsPlain, IsInForce, IsSoundAtom, IsSoundParam, AreSoundParams, sound_step, IsSound, sound_effect_step, IsSoundEffect, IsUnion, HasWords}
+use Rattle.plan_texts.specs.Printable.{IsPlain, IsPlainVariable, IsInForce, IsSoundAtom, IsSoundParam, AreSoundParams, sound_step, IsSound, sound_effect_step, IsSoundEffect, IsUnion, HasWords}
 use Rattle.plan_texts.specs.SoundValue.{IsSoundHddl, IsSoundMethod, IsSoundHead, IsSoundChild, IsSoundConstraint, scope_of, arities, method_words}
 use Rattle.plan_texts.proofs.Basics.{bytes_eq-true, bytes_eq-refl}
 use Rattle.plan_texts.proofs.Members.{contains-has, has-contains}
@@ -65,6 +65,9 @@ module _ where
   abbrev pub is_plain : Word → Bool
   is_plain w = are_folded w && is_name w
 
+  abbrev pub is_plain_variable : Word → Bool
+  is_plain_variable w = are_folded w && is_variable w
+
   abbrev pub are_different : List Word → Bool
   are_different [] = true
   are_different (w ∷ ws) = list_all (λ u. not (bytes_eq w u)) ws && are_different ws
@@ -77,6 +80,9 @@ module _ where
 
   plain_by : (w : Word) → is_plain w ≡ true → IsPlain w
   plain_by w e = both (are_folded w) (is_name w) e
+
+  plain_variable_by : (w : Word) → is_plain_variable w ≡ true → IsPlainVariable w
+  plain_variable_by w e = both (are_folded w) (is_variable w) e
 
   pub different_by : (ws : List Word) → are_different ws ≡ true → AreDifferent ws
   different_by [] e = tt
@@ -103,7 +109,7 @@ module _ (v : Declared) (arities : List ℕ) where
   is_atom scope n ts = nat_lt n (length v.predicates) && ((length ts == slice_index arities n) && list_all (is_in_force scope) ts)
 
   abbrev pub is_param : Param → Bool
-  is_param x = is_plain (variable v x) && nat_lt x.ty (length (kinds v))
+  is_param x = is_plain_variable (variable v x) && nat_lt x.ty (length (kinds v))
 
   abbrev pub are_params : List Param → Bool
   are_params xs = list_all is_param xs && are_different (map (variable v) xs)
@@ -129,7 +135,7 @@ module _ (v : Declared) (arities : List ℕ) where
       (lt_to n (length v.predicates) h.0, equal_by (length ts) (slice_index arities n) k.0, terms_by scope ts k.1)
 
   param_by : (x : Param) → is_param x ≡ true → IsSoundParam v arities x
-  param_by x e = let h = both (is_plain (variable v x)) (nat_lt x.ty (length (kinds v))) e in (plain_by (variable v x) h.0, lt_to x.ty (length (kinds v)) h.1)
+  param_by x e = let h = both (is_plain_variable (variable v x)) (nat_lt x.ty (length (kinds v))) e in (plain_variable_by (variable v x) h.0, lt_to x.ty (length (kinds v)) h.1)
 
   params_by : (xs : List Param) → are_params xs ≡ true → AreSoundParams v arities xs
   params_by xs e = let h = both (list_all is_param xs) (are_different (map (variable v) xs)) e in (each_by is_param (IsSoundParam v arities) param_by xs h.0, different_by (map (variable v) xs) h.1)

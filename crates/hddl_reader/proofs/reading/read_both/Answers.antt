@@ -1,0 +1,14 @@
+use Rattle.hddl_reader.proofs.reading.read_both.Goals as goal
+
+pub returns : goal.returns
+returns c = record {
+  read = record {
+    domain_faultless = c.in_ok-written.ensures.faultless;
+    problem_faultless = c.in_ok-asked.ensures.faultless;
+    written = c.in_ok-written.written;
+    asked = c.in_ok-asked.asked;
+    domain_is = c.in_ok-written.ensures.read;
+    problem_is = c.in_ok-asked.ensures.read;
+    bound = c.in_ok-value.ensures.bound;
+  };
+}

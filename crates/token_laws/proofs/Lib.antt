@@ -1,0 +1,3 @@
+pub mod EachToken
+pub mod OneToken
+pub mod InComments

@@ -1,0 +1,2 @@
+pub mod LongestRuns
+pub mod Comments
