@@ -9,6 +9,7 @@ use Rattle.plan_texts.specs.PrintedTexts.{domain_text, problem_text}
 use Rattle.plan_meaning.specs.Compilation.{IsCompiled}
 use Rattle.plan_meaning.specs.EncodedValue.{IsEncoded}
 use Rattle.plan_meaning.specs.Laws.{AreOrdered}
+use Rattle.encoded_words.specs.EncodedWords.{HasEncodedWords}
 use Rattle.slot_plans.specs.Pieces.{IsPrinted}
 use Rattle.htn_cli.specs.declared.manner.Manner.{Manner}
 
@@ -39,15 +40,17 @@ module _ (domain problem : List ℕ) (manner : Manner) where
     pub spelled : IsHddlOf domain problem read
     pub ordered : AreOrdered read
     pub printed : IsPrinted read manner.checks compiled manner.slots manner.style value
+    pub words : HasEncodedWords compiled manner.slots value.names
     pub domain_is : texts.domain ≡ domain_text value
     pub problem_is : texts.problem ≡ problem_text value
     pub domain_fits : length texts.domain ≤ longest
     pub problem_fits : length texts.problem ≤ longest
 
-  -- The input texts spell a problem of which each encoded value has a text that is too long.
+  -- The input texts spell a problem of which each encoded value, with all its words, has a text that is too long.
   pub record AreTooLong (n : ℕ) : Type 0 where
     pub read : Hddl
     pub compiled : Compiled
     pub spelled : IsHddlOf domain problem read
     pub compiled_is : IsCompiled read manner.checks compiled
-    pub too_long : (value : Pddl) → IsEncoded compiled manner.slots manner.style value → IsFirstTooLong (domain_text value) (problem_text value) n
+    pub too_long : (value : Pddl) → IsEncoded compiled manner.slots manner.style value → HasEncodedWords compiled manner.slots value.names
+        → IsFirstTooLong (domain_text value) (problem_text value) n
