@@ -13,7 +13,7 @@ use Rattle.htn_cli.specs.Inputs.{AreDefined}
 use Rattle.htn_cli.specs.Refusal.{status_of, line_of}
 use Rattle.htn_cli.specs.Sent.{Told}
 use Rattle.htn_cli.specs.Left.{Leaves, LeavesDone, LeavesUnwritten}
-use Rattle.htn_cli.specs.Ending.{manner_of, Achieves, RefusesRequest, RefusesWords, RefusesTranslation, IsRefused, IsRefusedFor, IsDone, AskForSlots, IsPastLimit, IsBeforePuts, IsUntouched}
+use Rattle.htn_cli.specs.Ending.{manner_of, Achieves, RefusesRequest, RefusesWords, RefusesTranslation, IsRefused, IsRefusedFor, IsDone, AskForSlots, IsPastLimit, Answers}
 use Rattle.htn_cli.specs.declared.manner.Manner.{Manner}
 use Rattle.htn_cli.specs.declared.status.Status.{Status}
 use Rattle.htn_cli.specs.declared.status.Status.TheVariants as status
@@ -162,3 +162,20 @@ module _ (old new : FilesState) (out out' : SinkState) where
 pub write_fault : (words : List Word) (old new : FilesState) (out out' : SinkState) (refusal : Refusal) → IsRefused words old new out out' refusal → status_of refusal ≡ status.WriteFault
     → HasRisen old.put_faults new.put_faults ⊎ HasRisen out.faults out'.faults
 write_fault words old new out out' = write_fault_here old new out out' words
+
+-- where nothing outside failed, the status is that of the answer
+module _ (words : List Word) (old new : FilesState) (out out' : SinkState) (read : HasRisen old.get_faults new.get_faults → ⊥) (written : HasRisen old.put_faults new.put_faults ⊎ HasRisen out.faults out'.faults → ⊥) where
+  answers_by : (request : Request) (refusal : Refusal) → Asks words request → RefusesRequest old new out out' request refusal → Answers words old (status_of refusal)
+  answers_by request refused.Words asked left = absurd left.1
+  answers_by request refused.BoundLimit asked left = (request, asked, inl (omega (arith, left.0)))
+  answers_by request (refused.SlotsLimit n) asked left = (request, asked, inl (omega (arith, left.0, left.1)))
+  answers_by request (refused.NotBuilt word) asked left = (request, asked, left.0)
+  answers_by request (refused.OutputLimit n) asked left = (request, asked, inr (n, left.1.0))
+  answers_by request (refused.CannotRead word) asked left = absurd (read left.1.1.get_faults.has_risen)
+  answers_by request (refused.CannotWrite word) asked left = absurd (written (write_fault_by old new out out' request (refused.CannotWrite word) left refl))
+  answers_by request refused.CannotWriteOutput asked left = absurd (written (write_fault_by old new out out' request refused.CannotWriteOutput left refl))
+  answers_by request refused.NoMemory asked left = tt
+
+  pub answers : (refusal : Refusal) → IsRefused words old new out out' refusal → Answers words old (status_of refusal)
+  answers refusal (inl w) = subst (λ r. Answers words old (status_of r)) (sym w.refusal_is) w.formless
+  answers refusal (inr t) = answers_by t.request refusal t.asked t.left

@@ -80,6 +80,19 @@ AskForSlots words n = (request : Request) × Asks words request × (n ≡ slots_
 abbrev pub IsPastLimit : List Word → FilesState → ℕ → Type 0
 IsPastLimit words files n = (request : Request) × Asks words request × IsPastOutput request.names (manner_of request) files n
 
+-- What the words and the files come to, where nothing outside fails: the translation, or its refusal, or want of memory.
+abbrev pub Answers : List Word → FilesState → Status → Type 0
+Answers words files status.Done =
+    (request : Request) × Asks words request × (slots_of request ≤ most_slots) × (texts : Texts) × AreDefined request.names (manner_of request) files texts
+Answers words files status.Words = AreOfAForm words → ⊥
+Answers words files status.Limit =
+    (request : Request) × Asks words request × ((most_slots < slots_of request) ⊎ ((size : ℕ) × IsPastOutput request.names (manner_of request) files size))
+Answers words files status.TextFault = (request : Request) × Asks words request × (slots_of request ≤ most_slots)
+Answers words files status.NoMemory = Unit {0}
+Answers words files status.ReadFault = ⊥
+Answers words files status.WriteFault = ⊥
+Answers words files status.Finding = ⊥
+
 -- the statuses of a run that was refused before its first put
 abbrev pub IsBeforePuts : Status → Type 0
 IsBeforePuts status.TextFault = Unit {0}

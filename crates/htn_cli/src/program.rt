@@ -3,7 +3,7 @@ ghost use Rattle.outside_io.specs.Count.{HasRisen};
 ghost use Rattle.command_words.specs.Names.{AreApart};
 ghost use Rattle.command_words.specs.Bounds.{IsNumeral, most_slots};
 ghost use Rattle.command_words.specs.Words.{AreOfAForm, request_of};
-ghost use Rattle.htn_cli.specs.Ending.{Achieves, AskForSlots, Ends, HasHeadline, HasHeadlineAtBound, IsBeforePuts, IsDone, IsPastLimit, IsRefused, IsRefusedFor, IsUntouched, RefusesRequest};
+ghost use Rattle.htn_cli.specs.Ending.{Achieves, Answers, AskForSlots, Ends, HasHeadline, HasHeadlineAtBound, IsBeforePuts, IsDone, IsPastLimit, IsRefused, IsRefusedFor, IsUntouched, RefusesRequest};
 
 use crate::manner::Manner;
 use crate::refusal::Refusal;
@@ -45,6 +45,11 @@ pub fn run<F: Files, O: Sink, E: Sink>(
         (size : ℕ) × IsPastLimit (map string_bytes words.now) (F.state files.old) size
         × IsRefusedFor (F.state files.old) (F.state files.new) (O.state out.old) (O.state out.new)
         (Refusal.OutputLimit size) result (E.state err.old) (E.state err.new) }
+
+    ensures answer { (HasRisen (F.state files.old).get_faults (F.state files.new).get_faults → ⊥) →
+        (HasRisen (F.state files.old).put_faults (F.state files.new).put_faults → ⊥) →
+        (HasRisen (O.state out.old).faults (O.state out.new).faults → ⊥) →
+        Answers (map string_bytes words.now) (F.state files.old) result }
 
     ensures read_fault { result ≡ Status.ReadFault → HasRisen (F.state files.old).get_faults (F.state files.new).get_faults }
     ensures write_fault { result ≡ Status.WriteFault →

@@ -1,6 +1,7 @@
-use Rattle.std.proofs.Common.{sym, ◌∙◌, arith, map, string_bytes}
+use Rattle.std.proofs.Common.{sym, ◌∙◌, subst, ⊎_elim, arith, map, string_bytes}
+use Rattle.htn_cli.specs.Ending.{Answers}
 use Rattle.htn_cli.proofs.Headlines.{headline_done, at_bound_done}
-use Rattle.htn_cli.proofs.Endings.{never_done, past_all, past_slots, past_not_done, past_output, refused_for, write_fault}
+use Rattle.htn_cli.proofs.Endings.{never_done, past_all, past_slots, past_not_done, past_output, refused_for, write_fault, answers}
 use Rattle.htn_cli.proofs.program.run.Goals as goal
 
 pub returns-in-Ok-clause-headline : goal.returns-in-Ok-clause-headline
@@ -42,3 +43,13 @@ returns-in-Err-clause-past_output g c =
 pub returns-in-Err-clause-write_fault : goal.returns-in-Err-clause-write_fault
 returns-in-Err-clause-write_fault g c =
     λ e. write_fault (map string_bytes c.args.words.now) (g.F.Files.state c.args.files.now) (g.F.Files.state c.act.new.files) (g.O.Sink.state c.args.out.now) (g.O.Sink.state c.act.new.out) c.in-Err.refusal c.in-Err.ensures.refused (sym c.status.ensures ∙ e)
+
+pub returns-in-Ok-clause-answer : goal.returns-in-Ok-clause-answer
+returns-in-Ok-clause-answer g c =
+    λ _ _ _. (c.in-Ok.ensures.done.request, c.in-Ok.ensures.done.asked, c.in-Ok.ensures.done.achieved.few, c.in-Ok.ensures.done.achieved.texts, c.in-Ok.ensures.done.achieved.defined)
+
+pub returns-in-Err-clause-answer : goal.returns-in-Err-clause-answer
+returns-in-Err-clause-answer g c =
+    λ gets puts writes.
+    subst (Answers (map string_bytes c.args.words.now) (g.F.Files.state c.args.files.now)) (sym c.status.ensures)
+      (answers (map string_bytes c.args.words.now) (g.F.Files.state c.args.files.now) (g.F.Files.state c.act.new.files) (g.O.Sink.state c.args.out.now) (g.O.Sink.state c.act.new.out) gets (λ x. ⊎_elim puts writes x) c.in-Err.refusal c.in-Err.ensures.refused)
