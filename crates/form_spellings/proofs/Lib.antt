@@ -1,0 +1,13 @@
+mod WordTests
+mod Unions
+mod Freshness
+mod Known
+mod ListsWhole
+mod ListsSpelled
+mod ListValues
+mod PartsWhole
+mod FormulaWhole
+mod EffectWhole
+mod FormulaSpelled
+mod EffectSpelled
+mod WholeForms

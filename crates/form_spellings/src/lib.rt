@@ -1,0 +1,9 @@
+//! The grammar of what `gd_reader` reads and the definition of what a text spells are one grammar.
+//!
+//! It stands on the definitions of `gd_reader` and of `plan_texts`, and has no code but laws. The contract used above: a form is whole
+//! exactly where it spells some formula, effect or typed list, once its words are declared suitably.
+#![tactic(auto)]
+
+mod laws;
+
+pub use laws::{whole_effects, whole_formulas, whole_lists};
