@@ -45,7 +45,7 @@ was_out u w seen h = go (list_any (bytes_eq w) seen) h
     go true h = h
     go false h = (or_parts (is_among u seen) (is_among u (w ∷ [])) (sym (list_any-append (bytes_eq u) seen (w ∷ [])) ∙ h)).0
 
-is_in : (w : Word) (seen : List Word) → is_among w (with_word seen w) ≡ true
+pub is_in : (w : Word) (seen : List Word) → is_among w (with_word seen w) ≡ true
 is_in w seen = go (list_any (bytes_eq w) seen) refl
   where
     go : (b : Bool) → list_any (bytes_eq w) seen ≡ b → is_among w (if b then seen else seen ++ w ∷ []) ≡ true

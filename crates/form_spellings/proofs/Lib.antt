@@ -11,3 +11,15 @@ mod EffectWhole
 mod FormulaSpelled
 mod EffectSpelled
 mod WholeForms
+mod KeptWords
+mod TermsIn
+mod ListsIn
+mod FormulasIn
+mod EffectsIn
+mod NamesIn
+mod TermsBound
+mod UnionsBound
+mod ListsBound
+mod FormulasBound
+mod EffectsBound
+mod BoundForms

@@ -23,13 +23,13 @@ use Rattle.form_spellings.proofs.ListsSpelled.{Makes}
 use Rattle.form_spellings.proofs.ListsWhole.{OkSaid}
 use Rattle.form_spellings.proofs.WordTests.{IsMarked, false_true, name_of_sort, variable_of_sort}
 
-abbrev MarkedVariable : Word → Type 0
+abbrev pub MarkedVariable : Word → Type 0
 MarkedVariable w = (u : Word) × (w ≡ 63 ∷ u) × (is_variable u ≡ true)
 
 marked : (w : Word) → IsMarked w → not (is_reserved (drop 1 w)) ≡ true → MarkedVariable w
 marked w m h = (m.0 ∷ m.1, m.2, ap (λ w. not (is_reserved (drop 1 w))) (sym m.2) ∙ h)
 
-parameter_marked : (w : Word) → declares Parameters w ≡ true → MarkedVariable w
+pub parameter_marked : (w : Word) → declares Parameters w ≡ true → MarkedVariable w
 parameter_marked w = go (sort_of w) refl
   where
     go : (s : Sort) → sort_of w ≡ s → may_declare s Parameters [] w ≡ true → MarkedVariable w
@@ -37,7 +37,7 @@ parameter_marked w = go (sort_of w) refl
     go Name e h = false_true h
     go Other e h = false_true h
 
-predicate_marked : (w : Word) → declares Predicate w ≡ true → MarkedVariable w
+pub predicate_marked : (w : Word) → declares Predicate w ≡ true → MarkedVariable w
 predicate_marked w = go (sort_of w) refl
   where
     go : (s : Sort) → sort_of w ≡ s → may_declare s Predicate [] w ≡ true → MarkedVariable w
@@ -45,7 +45,7 @@ predicate_marked w = go (sort_of w) refl
     go Name e h = false_true h
     go Other e h = false_true h
 
-object_named : (w : Word) → declares Objects w ≡ true → is_name w ≡ true
+pub object_named : (w : Word) → declares Objects w ≡ true → is_name w ≡ true
 object_named w = go (sort_of w) refl
   where
     go : (s : Sort) → sort_of w ≡ s → may_declare s Objects [] w ≡ true → is_name w ≡ true
@@ -53,7 +53,7 @@ object_named w = go (sort_of w) refl
     go Name e h = name_of_sort w e
     go Other e h = false_true h
 
-type_named : (w : Word) → declares Types w ≡ true → is_name w ≡ true
+pub type_named : (w : Word) → declares Types w ≡ true → is_name w ≡ true
 type_named w = go (sort_of w) refl
   where
     go : (s : Sort) → sort_of w ≡ s → may_declare s Types [] w ≡ true → is_name w ≡ true
@@ -61,7 +61,7 @@ type_named w = go (sort_of w) refl
     go Name e h = name_of_sort w e
     go Other e h = false_true h
 
-some_parent : (said : Option Part) → is_name (type_said said) ≡ true → IsSomeName (parent_said said)
+pub some_parent : (said : Option Part) → is_name (type_said said) ≡ true → IsSomeName (parent_said said)
 some_parent None h = tt
 some_parent (Some (name w)) h = h
 some_parent (Some (group ps)) h = h

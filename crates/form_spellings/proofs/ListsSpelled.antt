@@ -19,7 +19,7 @@ use Rattle.form_spellings.proofs.ListsWhole.{OkSaid, ahead_same, skipped_same, d
 use Rattle.form_spellings.proofs.Unions.{whole_union}
 use Rattle.form_spellings.proofs.WordTests.{is_allowed, name_whole}
 
-none_said : (b : Bool) → OkSaid b None
+pub none_said : (b : Bool) → OkSaid b None
 none_said true = refl
 none_said false = refl
 

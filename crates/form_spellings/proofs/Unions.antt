@@ -23,7 +23,7 @@ flip u w = go (bytes_eq u w) refl
     go true e = sym (ap (bytes_eq w) (bytes_eq-true u w e) ∙ bytes_eq-refl w)
     go false e = sym (bytes_eq-other w u (λ g. apart u w e (sym g)))
 
-each_named : (w : Word) (ws : List Word) → EachIs Named ws → is_among w ws ≡ true → Named w
+pub each_named : (w : Word) (ws : List Word) → EachIs Named ws → is_among w ws ≡ true → Named w
 each_named w [] n e = false_true e
 each_named w (u ∷ ws) n e = go (bytes_eq w u) refl e (each_named w ws n.1)
   where
@@ -31,7 +31,7 @@ each_named w (u ∷ ws) n e = go (bytes_eq w u) refl e (each_named w ws n.1)
     go true h e later = subst Named (sym (bytes_eq-true w u h)) n.0
     go false h e later = later e
 
-seen_named : (seen ws : List Word) → EachIs Named ws → EachIs Named (first_seen seen ws)
+pub seen_named : (seen ws : List Word) → EachIs Named ws → EachIs Named (first_seen seen ws)
 seen_named seen [] n = tt
 seen_named seen (w ∷ ws) n = go (is_among w seen) (seen_named seen ws n.1) (seen_named (w ∷ seen) ws n.1)
   where
@@ -56,7 +56,7 @@ names_each (w ∷ u ∷ ws) e = go (is_name w) refl e (names_each (u ∷ ws))
     go true h e later = (h, later e)
     go false h e later = false_true e
 
-each_names : (w : Word) (ws : List Word) → EachIs Named (w ∷ ws) → are_names (w ∷ ws) ≡ true
+pub each_names : (w : Word) (ws : List Word) → EachIs Named (w ∷ ws) → are_names (w ∷ ws) ≡ true
 each_names w [] n = n.0
 each_names w (u ∷ ws) n = cond-true _ _ _ n.0 ∙ each_names u ws n.1
 

@@ -5,5 +5,9 @@
 #![tactic(auto)]
 
 mod laws;
+mod names;
+mod read;
 
 pub use laws::{whole_effects, whole_formulas, whole_lists};
+pub use names::names_stand_in_the_table;
+pub use read::what_is_read_is_spelled;

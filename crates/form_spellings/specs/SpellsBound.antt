@@ -1,0 +1,33 @@
+-- What was read, once bound, is spelled by the parts from which it was read: for all declared words and every scope.
+use Rattle.std.specs.Prelude.{Bool, List}
+use Rattle.text_forms.specs.Placed.{Placed}
+use Rattle.text_forms.specs.Words.{Word}
+use Rattle.plan_texts.specs.Declared.{Declared}
+use Rattle.plan_texts.specs.Formulas.{IsParam, IsFormula, IsEffect}
+use Rattle.plan_texts.specs.Schemas.{IsObject}
+use Rattle.plan_texts.specs.TypedLists.{EachTyped}
+use Rattle.plan_texts.specs.Types.{TypeItem, IsTypeItem}
+use Rattle.plan_model.specs.declared.terms.Param.{Param}
+use Rattle.plan_model.specs.declared.types.Object.{Object}
+use Rattle.plan_model.specs.declared.formulas.Formula.{Formula}
+use Rattle.plan_model.specs.declared.effects.Effect.{Effect}
+use Rattle.gd_reader.specs.declared.formulas.RawFormula.{RawFormula}
+use Rattle.gd_reader.specs.declared.effects.RawEffect.{RawEffect}
+use Rattle.gd_reader.specs.declared.typed_lists.RawParam.{RawParam}
+use Rattle.gd_reader.specs.declared.typed_lists.ListKind.{ListKind}
+use Rattle.gd_reader.specs.declared.typed_lists.ListKind.TheVariants.{Parameters, Predicate, Objects, Types}
+use Rattle.gd_reader.specs.Terms.{Names}
+use Rattle.form_spellings.specs.Bound.{InPairs, IsBoundFormula, IsBoundEffect, IsBoundParam, IsBoundObject, IsBoundType}
+use Rattle.form_spellings.specs.SpellsSome.{StandsInFront, StandUpToEnd}
+
+abbrev pub SpellsFormula : Names → RawFormula → Placed → Type 0
+SpellsFormula table r p = (v : Declared) (scope : List Word) (f : Formula) → IsBoundFormula v table r scope f → StandsInFront (IsFormula v f scope) p
+
+abbrev pub SpellsEffect : Names → RawEffect → Placed → Type 0
+SpellsEffect table r p = (v : Declared) (scope : List Word) (e : Effect) → IsBoundEffect v table r scope e → StandsInFront (IsEffect v e scope) p
+
+abbrev pub SpellsList : ListKind → Names → List RawParam → Placed → Type 0
+SpellsList Parameters table rs p = (v : Declared) (xs : List Param) → InPairs (IsBoundParam v table) rs xs → StandUpToEnd (EachTyped (IsParam v) xs) p
+SpellsList Predicate table rs p = (v : Declared) (xs : List Param) → InPairs (IsBoundParam v table) rs xs → StandUpToEnd (EachTyped (IsParam v) xs) p
+SpellsList Objects table rs p = (v : Declared) (constant : Bool) (xs : List Object) → InPairs (IsBoundObject v table constant) rs xs → StandUpToEnd (EachTyped (IsObject v constant) xs) p
+SpellsList Types table rs p = (v : Declared) (xs : List TypeItem) → InPairs (IsBoundType v table) rs xs → StandUpToEnd (EachTyped IsTypeItem xs) p
