@@ -1,7 +1,7 @@
 -- What was read, once bound, is spelled by the parts from which it was read.
 use Rattle.std.proofs.Common.{◌≡◌, Ok, Result, List, [], sym, subst}
 use Rattle.text_forms.specs.Forms.{Form}
-use Rattle.text_forms.specs.Placed.{Placed, cut, close, word, list, parts_of, IsWhole}
+use Rattle.text_forms.specs.Placed.{Placed, cut, close, word, list, parts_of}
 use Rattle.plan_texts.specs.Formulas.{IsParam, IsFormula, IsEffect}
 use Rattle.plan_texts.specs.Schemas.{IsObject}
 use Rattle.plan_texts.specs.Types.{IsTypeItem}
@@ -19,7 +19,7 @@ use Rattle.gd_reader.specs.ListGrammar.{params_form}
 use Rattle.gd_reader.specs.Terms.{Names, Keeps}
 use Rattle.gd_reader.specs.TypedLists.{listed}
 use Rattle.gd_reader.proofs.EffectExact.{effect_exact}
-use Rattle.gd_reader.proofs.Exact.{Tells, IsExact}
+use Rattle.gd_reader.proofs.Exact.{Tells}
 use Rattle.gd_reader.proofs.FormulaExact.{formula_exact}
 use Rattle.gd_reader.proofs.ListExact.{listed_exact}
 use Rattle.form_spellings.specs.Bound.{IsBoundParam, IsBoundObject, IsBoundType}

@@ -1,10 +1,10 @@
 -- A whole form spells an effect, where all its words are declared.
-use Rattle.std.proofs.Common.{ℕ, ◌≡◌, inl, inr, List, [], ◌∷◌, ◌++◌, map, codes, refl, sym, ap, subst, ◌∙◌}
+use Rattle.std.proofs.Common.{ℕ, ◌≡◌, inl, inr, List, [], ◌∷◌, ◌++◌, map, refl, sym, ap, subst}
 use Rattle.text_forms.specs.Lists.{Part, Parts, name, group, nothing, part}
 use Rattle.text_forms.specs.Placed.{Placed, cut, close, word, list, parts_of, IsWhole}
 use Rattle.text_forms.specs.Words.{Word}
 use Rattle.plan_texts.specs.Declared.{Declared, variable}
-use Rattle.plan_texts.specs.Formulas.{IsTerm, IsApplied, IsParam, effect_step, IsEffect}
+use Rattle.plan_texts.specs.Formulas.{IsApplied, IsParam, effect_step, IsEffect}
 use Rattle.plan_texts.specs.TypedLists.{Each, EachTyped}
 use Rattle.plan_texts.specs.Types.{EachIs, AreDifferent}
 use Rattle.plan_texts.proofs.Effects.{effect_roll}

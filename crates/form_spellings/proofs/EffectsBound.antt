@@ -1,5 +1,5 @@
 -- The parts from which an effect is read spell it, once bound.
-use Rattle.std.proofs.Common.{◌≡◌, ℕ, inl, inr, Ok, Err, Result, List, [], ◌∷◌, ◌++◌, map, refl, ap, sym, subst, ◌∙◌}
+use Rattle.std.proofs.Common.{◌≡◌, ℕ, inl, inr, Ok, Err, Result, List, [], ◌∷◌, ◌++◌, map, refl, ap, sym, subst}
 use Rattle.text_forms.specs.Lists.{Part, Parts, name, group, nothing, part}
 use Rattle.text_forms.specs.Placed.{Placed, cut, close, word, list, parts_of}
 use Rattle.text_forms.specs.Words.{Word}

@@ -1,9 +1,8 @@
 -- A whole form spells a formula, where all its words are declared.
-use Rattle.std.proofs.Common.{ℕ, ◌≡◌, ◌⊎◌, inl, inr, Bool, true, false, List, [], ◌∷◌, ◌++◌, map, drop, codes, refl, sym, ap, subst, ◌∙◌}
-use Rattle.text_forms.specs.Forms.{Form, wrong, ◌followed_by◌}
+use Rattle.std.proofs.Common.{ℕ, ◌≡◌, inl, inr, List, [], ◌∷◌, ◌++◌, map, refl, sym, ap, subst}
 use Rattle.text_forms.specs.Lists.{Part, Parts, name, group, nothing, part}
 use Rattle.text_forms.specs.Placed.{Placed, cut, close, word, list, parts_of, IsWhole}
-use Rattle.text_forms.specs.Words.{Word, is_name}
+use Rattle.text_forms.specs.Words.{Word}
 use Rattle.plan_texts.specs.Declared.{Declared, variable}
 use Rattle.plan_texts.specs.Formulas.{IsTerm, IsParam, formula_step, IsFormula}
 use Rattle.plan_texts.specs.TypedLists.{Each, EachTyped}
@@ -18,7 +17,6 @@ use Rattle.gd_reader.specs.declared.typed_lists.ListKind.TheVariants.{Parameters
 use Rattle.gd_reader.specs.declared.words.Head.{Head}
 use Rattle.gd_reader.specs.declared.words.Head.TheVariants as head
 use Rattle.gd_reader.specs.Grammar.{inside_form, formulas_form, one_form, two_form, bound_form}
-use Rattle.gd_reader.specs.ListGrammar.{params_form}
 use Rattle.gd_reader.specs.TermGrammar.{term_form, terms_form, end_form, last_term_form, two_terms_form}
 use Rattle.gd_reader.specs.Words.{head_of}
 use Rattle.form_spellings.specs.Fresh.{fresh_step, AreFresh}

@@ -1,12 +1,12 @@
 -- A form that spells a formula is whole.
-use Rattle.std.proofs.Common.{ℕ, ◌≡◌, inl, inr, Bool, List, [], ◌∷◌, ◌++◌, map, codes, refl, sym, ap, subst, ◌∙◌}
-use Rattle.text_forms.specs.Forms.{Form, wrong, ◌followed_by◌}
+use Rattle.std.proofs.Common.{ℕ, ◌≡◌, inl, inr, List, [], ◌∷◌, ◌++◌, map, codes, refl, sym, ap, subst, ◌∙◌}
+use Rattle.text_forms.specs.Forms.{Form, wrong}
 use Rattle.text_forms.specs.Lists.{Part, Parts, name, group, nothing, part}
 use Rattle.text_forms.specs.Placed.{Placed, cut, close, word, list, parts_of, IsWhole}
 use Rattle.text_forms.specs.Words.{Word, is_variable}
 use Rattle.plan_texts.specs.Declared.{Declared, variable}
 use Rattle.plan_texts.specs.Formulas.{IsParam, formula_step, IsFormula}
-use Rattle.plan_texts.specs.TypedLists.{Each, EachTyped, ahead, skipped}
+use Rattle.plan_texts.specs.TypedLists.{Each, EachTyped, skipped}
 use Rattle.plan_texts.specs.Types.{EachIs, AreDifferent}
 use Rattle.plan_texts.proofs.Places.{each-append}
 use Rattle.plan_texts.proofs.Readings.{formula_roll}
@@ -25,8 +25,8 @@ use Rattle.gd_reader.specs.Words.{head_of}
 use Rattle.form_spellings.specs.Fresh.{fresh_step, AreFresh}
 use Rattle.form_spellings.specs.SpellsSome.{HaveLetters}
 use Rattle.form_spellings.proofs.Freshness.{all_new}
-use Rattle.form_spellings.proofs.ListsWhole.{params_whole, parameter_declares, name_is}
-use Rattle.form_spellings.proofs.PartsWhole.{front_is, back_is, within_is, no_part, no_nothing, end_whole, Good, part_whole, headed_whole, terms_whole, two_whole}
+use Rattle.form_spellings.proofs.ListsWhole.{params_whole, parameter_declares}
+use Rattle.form_spellings.proofs.PartsWhole.{no_nothing, end_whole, Good, part_whole, headed_whole, terms_whole, two_whole}
 use Rattle.form_spellings.proofs.WordTests.{false_true, name_head, key_heads}
 
 -- the form behind a word at the front

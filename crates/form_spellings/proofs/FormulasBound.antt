@@ -1,5 +1,5 @@
 -- The parts from which a formula is read spell it, once bound.
-use Rattle.std.proofs.Common.{◌≡◌, ℕ, inl, inr, Ok, Err, Result, List, [], ◌∷◌, ◌++◌, map, refl, ap, sym, subst, ◌∙◌}
+use Rattle.std.proofs.Common.{◌≡◌, ℕ, inl, inr, Ok, List, [], ◌∷◌, ◌++◌, map, refl, ap, sym, subst}
 use Rattle.text_forms.specs.Lists.{Part, Parts, name, group, nothing, part}
 use Rattle.text_forms.specs.Placed.{Placed, cut, close, word, list, parts_of}
 use Rattle.text_forms.specs.Words.{Word}
@@ -15,12 +15,11 @@ use Rattle.gd_reader.specs.declared.formulas.RawFormula.TheFolds.{rec-roll-RawFo
 use Rattle.gd_reader.specs.declared.formulas.RawFormula.TheOpen.{RawFormula-F}
 use Rattle.gd_reader.specs.declared.formulas.RawFormula.TheVariants as raw
 use Rattle.gd_reader.specs.declared.formulas.RawFormula.TheVariants.{rolls-Holds, rolls-Equal, rolls-Not, rolls-And, rolls-Or, rolls-Imply, rolls-Forall, rolls-Exists}
-use Rattle.gd_reader.specs.declared.stop.Stop.{Stop}
 use Rattle.gd_reader.specs.declared.typed_lists.ListKind.TheVariants.{Parameters}
 use Rattle.gd_reader.specs.declared.typed_lists.RawParam.{RawParam}
 use Rattle.gd_reader.specs.declared.words.Head.{Head}
 use Rattle.gd_reader.specs.declared.words.Head.TheVariants as head
-use Rattle.gd_reader.specs.Answers.{◌>>=◌, list_due, end_due}
+use Rattle.gd_reader.specs.Answers.{◌>>=◌, end_due}
 use Rattle.gd_reader.specs.Formulas.{inside, formulas, one, two, bound, headed}
 use Rattle.gd_reader.specs.Terms.{Names, two_terms, atom}
 use Rattle.gd_reader.specs.TypedLists.{listed}

@@ -1,5 +1,5 @@
 -- The names of formulas stand in the table.
-use Rattle.std.proofs.Common.{◌≡◌, ℕ, Ok, Err, Result, List, [], ◌∷◌, refl, ap, sym, subst, ◌∙◌}
+use Rattle.std.proofs.Common.{◌≡◌, ℕ, Ok, List, [], ◌∷◌, refl, sym, subst, ◌∙◌}
 use Rattle.text_forms.specs.Placed.{Placed, cut, close, word, list}
 use Rattle.text_forms.specs.Words.{Word}
 use Rattle.plan_texts.specs.Types.{EachIs}
@@ -9,10 +9,6 @@ use Rattle.gd_reader.specs.declared.formulas.RawFormula.TheFolds.{rec-roll-RawFo
 use Rattle.gd_reader.specs.declared.formulas.RawFormula.TheOpen.{RawFormula-F}
 use Rattle.gd_reader.specs.declared.formulas.RawFormula.TheVariants as raw
 use Rattle.gd_reader.specs.declared.formulas.RawFormula.TheVariants.{rolls-Holds, rolls-Equal, rolls-Not, rolls-And, rolls-Or, rolls-Imply, rolls-Forall, rolls-Exists}
-use Rattle.gd_reader.specs.declared.stop.Stop.{Stop}
-use Rattle.gd_reader.specs.declared.stop.Stop.TheVariants.{Departs}
-use Rattle.gd_reader.specs.declared.term.RawTerm.{RawTerm}
-use Rattle.gd_reader.specs.declared.term.RawAtom.{RawAtom}
 use Rattle.gd_reader.specs.declared.typed_lists.ListKind.TheVariants.{Parameters}
 use Rattle.gd_reader.specs.declared.typed_lists.RawParam.{RawParam}
 use Rattle.gd_reader.specs.declared.words.Head.{Head}

@@ -1,5 +1,5 @@
 -- What reading keeps: the words of the name table, and the names that stand in it.
-use Rattle.std.proofs.Common.{◌≡◌, ℕ, ◌≤◌, ◌<◌, ◌+◌, Bool, true, false, if◌then◌else◌, Ok, Err, Result, List, [], ◌∷◌, ◌++◌, Option, Some, None, take, length, position, refl, sym, ◌∙◌, ap, subst, arith, length-take}
+use Rattle.std.proofs.Common.{◌≡◌, ℕ, ◌≤◌, ◌<◌, Bool, true, false, if◌then◌else◌, Ok, Err, Result, List, [], ◌∷◌, ◌++◌, Option, Some, None, length, position, refl, ap, arith, length-take}
 use Rattle.std.proofs.lemmas.List.{length-append}
 use Rattle.std.proofs.lemmas.List.Quantifiers.{position-Some}
 use Rattle.std.specs.List.{list_any}
@@ -11,7 +11,7 @@ use Rattle.text_forms.specs.Words.{Word}
 use Rattle.gd_reader.specs.declared.stop.Stop.{Stop}
 use Rattle.gd_reader.specs.Answers.{◌>>=◌, end_due}
 use Rattle.gd_reader.specs.Terms.{Names, Keeps, found, name_in}
-use Rattle.gd_reader.proofs.Keeping.{keeps_same, keeps_then, keeps_word}
+use Rattle.gd_reader.proofs.Keeping.{keeps_same, keeps_then}
 use Rattle.form_spellings.specs.InTable.{IsIn}
 use Rattle.form_spellings.proofs.WordTests.{false_true}
 

@@ -1,15 +1,14 @@
 -- Words that are declared as everything, for the parts in which they stand.
-use Rattle.std.proofs.Common.{ℕ, suc, ◌≡◌, ◌⊎◌, inl, inr, Bool, true, false, cond, List, [], ◌∷◌, ◌++◌, map, drop, codes, get_or, Option, Some, None, refl, sym, ap, subst, ◌∙◌}
+use Rattle.std.proofs.Common.{ℕ, suc, ◌≡◌, inl, inr, Bool, true, false, cond, List, [], ◌∷◌, ◌++◌, map, drop, codes, get_or, Option, Some, None, refl, ap}
 use Rattle.std.specs.Option.{option_map}
 use Rattle.std.specs.Str.{bytes_eq}
-use Rattle.std.proofs.lemmas.Bool.{cond-true, cond-false}
-use Rattle.text_forms.specs.Lists.{Part, Parts, name, group}
+use Rattle.text_forms.specs.Lists.{Part, name, group}
 use Rattle.text_forms.specs.Placed.{Placed, cut, close, word, list, parts_of}
 use Rattle.text_forms.specs.Words.{Word, first_place, last_place, later}
 use Rattle.plan_texts.specs.Declared.{Declared, kinds, one_word}
 use Rattle.plan_texts.specs.TypedLists.{types_in}
-use Rattle.plan_texts.specs.Types.{Has, EachIs}
-use Rattle.plan_texts.proofs.Basics.{bytes_eq-refl, bytes_eq-true}
+use Rattle.plan_texts.specs.Types.{Has}
+use Rattle.plan_texts.proofs.Basics.{bytes_eq-refl}
 use Rattle.plan_texts.proofs.Members.{has-to_map}
 use Rattle.plan_texts.proofs.Places.{each-append}
 use Rattle.form_spellings.specs.SpellsSome.{HaveLetters}

@@ -1,11 +1,11 @@
 -- A value for each word that a typed list declares.
-use Rattle.std.proofs.Common.{ℕ, ◌≡◌, Bool, true, false, not, List, [], ◌∷◌, drop, codes, Option, Some, None, refl, sym, ap, subst, ◌∙◌}
+use Rattle.std.proofs.Common.{◌≡◌, Bool, true, not, List, [], ◌∷◌, drop, Option, Some, None, refl, sym, ap, ◌∙◌}
 use Rattle.std.proofs.lemmas.Bool.{and_parts}
 use Rattle.htn_base.specs.Words.{is_reserved}
 use Rattle.text_forms.specs.Lists.{Part, name, group}
 use Rattle.text_forms.specs.Words.{Word, is_name, is_variable, word_at}
 use Rattle.plan_texts.specs.Declared.{Declared, kinds, named, variable}
-use Rattle.plan_texts.specs.Formulas.{IsParam, IsType, IsKind}
+use Rattle.plan_texts.specs.Formulas.{IsParam}
 use Rattle.plan_texts.specs.Schemas.{IsObject}
 use Rattle.plan_texts.specs.TypedLists.{type_said, kind_said}
 use Rattle.plan_texts.specs.Types.{Has, TypeItem, IsTypeItem, IsSomeName, parent_said}
@@ -18,7 +18,7 @@ use Rattle.gd_reader.specs.declared.words.Sort.TheVariants.{Variable, Name, Othe
 use Rattle.gd_reader.specs.ListGrammar.{may_declare}
 use Rattle.gd_reader.specs.Words.{sort_of}
 use Rattle.form_spellings.proofs.Freshness.{declares}
-use Rattle.form_spellings.proofs.Known.{KnowsWord, KnowsSaid, KnowsObject, place_of}
+use Rattle.form_spellings.proofs.Known.{KnowsWord, KnowsSaid, place_of}
 use Rattle.form_spellings.proofs.ListsSpelled.{Makes}
 use Rattle.form_spellings.proofs.ListsWhole.{OkSaid}
 use Rattle.form_spellings.proofs.WordTests.{IsMarked, false_true, name_of_sort, variable_of_sort}

@@ -1,19 +1,16 @@
 -- The parts from which a typed list is read spell it, once bound.
-use Rattle.std.proofs.Common.{◌≡◌, ℕ, Bool, true, false, ◌&&◌, not, if◌then◌else◌, Ok, Err, Result, List, [], ◌∷◌, map, drop, codes, Option, Some, None, refl, ap, sym, subst, ◌∙◌}
-use Rattle.std.specs.Str.{bytes_eq}
-use Rattle.htn_base.specs.Table.{with_word}
+use Rattle.std.proofs.Common.{◌≡◌, ℕ, Bool, true, false, ◌&&◌, not, if◌then◌else◌, Ok, Err, Result, List, [], ◌∷◌, drop, codes, Option, Some, None, refl, ap, sym, subst, ◌∙◌}
 use Rattle.htn_base.specs.Words.{is_reserved}
 use Rattle.text_forms.specs.Lists.{Part, Parts, name, group, nothing, part}
 use Rattle.text_forms.specs.Placed.{Placed, cut, close, word, list, parts_of}
 use Rattle.text_forms.specs.Words.{Word, is_name, is_variable, is_among}
-use Rattle.plan_texts.specs.Declared.{Declared, named, variable}
+use Rattle.plan_texts.specs.Declared.{Declared, named}
 use Rattle.plan_texts.specs.Formulas.{IsParam}
 use Rattle.plan_texts.specs.Schemas.{IsObject}
 use Rattle.plan_texts.specs.TypedLists.{EachTyped, first_part, ahead, skipped, type_said, kind_said}
-use Rattle.plan_texts.specs.Types.{TypeItem, IsTypeItem, IsSomeName, parent_said}
+use Rattle.plan_texts.specs.Types.{IsTypeItem, IsSomeName, parent_said}
 use Rattle.plan_texts.proofs.Basics.{bytes_eq-true}
 use Rattle.plan_model.specs.declared.terms.Param.{Param}
-use Rattle.plan_model.specs.declared.types.Object.{Object}
 use Rattle.gd_reader.specs.declared.stop.Stop.{Stop}
 use Rattle.gd_reader.specs.declared.stop.Stop.TheVariants.{Departs}
 use Rattle.gd_reader.specs.declared.term.RawTerm.{RawTerm}
@@ -24,8 +21,8 @@ use Rattle.gd_reader.specs.declared.words.Sort.{Sort}
 use Rattle.gd_reader.specs.declared.words.Sort.TheVariants.{Variable, Name, Other}
 use Rattle.gd_reader.specs.Answers.{◌>>=◌}
 use Rattle.gd_reader.specs.ListGrammar.{may_declare, declared_name}
-use Rattle.gd_reader.specs.Terms.{Names, Keeps}
-use Rattle.gd_reader.specs.TypedLists.{State, declares as declares_word, variable_by, is_parameters, are_variables, undeclared, param_by, param_due, type_due, union_due, with_type, Rest, one_more, alone, typed_with, params, behind, typed, listed}
+use Rattle.gd_reader.specs.Terms.{Names}
+use Rattle.gd_reader.specs.TypedLists.{State, declares as declares_word, variable_by, are_variables, param_by, param_due, type_due, union_due, with_type, Rest, one_more, typed_with, params, behind, typed, listed}
 use Rattle.gd_reader.specs.Words.{sort_of, is_hyphen}
 use Rattle.gd_reader.proofs.Keeping.{keeps_same, keeps_word}
 use Rattle.form_spellings.specs.Bound.{InPairs, types_of, parent_of, IsBoundParam, IsBoundObject, IsBoundType}
@@ -37,7 +34,7 @@ use Rattle.form_spellings.proofs.ListsWhole.{OkSaid, ahead_same, skipped_same, d
 use Rattle.form_spellings.proofs.ListValues.{parameter_marked, predicate_marked, object_named, type_named, some_parent, MarkedVariable}
 use Rattle.form_spellings.proofs.TermsBound.{word_stands}
 use Rattle.form_spellings.proofs.TermsIn.{same}
-use Rattle.form_spellings.proofs.UnionsBound.{said_words, TypesSay, TypesBound, union_due_bound, type_bound}
+use Rattle.form_spellings.proofs.UnionsBound.{TypesSay, TypesBound, union_due_bound, type_bound}
 use Rattle.form_spellings.proofs.WordTests.{false_true}
 
 -- a word that declares, read as its name

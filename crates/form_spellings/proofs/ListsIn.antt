@@ -1,5 +1,5 @@
 -- The names of typed lists stand in the table.
-use Rattle.std.proofs.Common.{◌≡◌, ℕ, Bool, true, false, ◌&&◌, if◌then◌else◌, Ok, Err, Result, List, [], ◌∷◌, drop, refl, ap, subst, sym}
+use Rattle.std.proofs.Common.{ℕ, Bool, true, false, ◌&&◌, if◌then◌else◌, Ok, Err, Result, List, [], ◌∷◌, drop}
 use Rattle.htn_base.specs.Table.{with_word}
 use Rattle.htn_base.specs.Words.{is_reserved}
 use Rattle.text_forms.specs.Placed.{Placed, cut, close, word, list}
@@ -13,11 +13,11 @@ use Rattle.gd_reader.specs.declared.typed_lists.RawParam.{RawParam}
 use Rattle.gd_reader.specs.declared.words.Sort.{Sort}
 use Rattle.gd_reader.specs.declared.words.Sort.TheVariants.{Variable, Name, Other}
 use Rattle.gd_reader.specs.Answers.{◌>>=◌}
-use Rattle.gd_reader.specs.Terms.{Names, raw_term, used}
-use Rattle.gd_reader.specs.TypedLists.{State, declares, variable_by, is_parameters, are_variables, are_types, undeclared, param_by, param_due, type_by, type_due, unless, more_names, some_names, union, union_due, with_type, Rest, one_more, alone, typed_with, params, behind, typed, listed}
+use Rattle.gd_reader.specs.Terms.{Names, used}
+use Rattle.gd_reader.specs.TypedLists.{State, declares, variable_by, is_parameters, are_variables, are_types, undeclared, param_by, param_due, type_by, type_due, unless, more_names, some_names, union, union_due, with_type, Rest, one_more, typed_with, params, behind, typed, listed}
 use Rattle.gd_reader.specs.Words.{sort_of, is_hyphen, is_either}
 use Rattle.gd_reader.proofs.Keeping.{keeps_same, keeps_word}
-use Rattle.form_spellings.specs.InTable.{IsIn, IsTermIn, IsParamIn}
+use Rattle.form_spellings.specs.InTable.{IsIn, IsParamIn}
 use Rattle.form_spellings.proofs.KeptWords.{ReadsBy, Reads, reads_then, reads_map, name_stands}
 use Rattle.form_spellings.proofs.TermsIn.{TermIn, TermsIn, same, raw_in, used_in}
 

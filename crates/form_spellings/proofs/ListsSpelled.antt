@@ -1,12 +1,12 @@
 -- A whole typed list spells values, where all its words are declared.
-use Rattle.std.proofs.Common.{◌≡◌, ◌⊎◌, inl, inr, Bool, true, false, not, List, [], ◌∷◌, map, codes, Option, Some, None, refl, sym, ap, subst, ◌∙◌}
+use Rattle.std.proofs.Common.{◌≡◌, ◌⊎◌, inl, inr, Bool, true, false, List, [], ◌∷◌, map, codes, Option, Some, None, refl, sym, subst, ◌∙◌}
 use Rattle.htn_base.specs.Table.{with_word}
 use Rattle.text_forms.specs.Forms.{Form, ◌followed_by◌}
-use Rattle.text_forms.specs.Lists.{Part, Parts, name, group, nothing, part}
+use Rattle.text_forms.specs.Lists.{Part, Parts, name, group, part}
 use Rattle.text_forms.specs.Placed.{Placed, cut, close, word, list, parts_of, IsWhole}
 use Rattle.text_forms.specs.Words.{Word, is_name}
 use Rattle.plan_texts.specs.Declared.{Declared}
-use Rattle.plan_texts.specs.TypedLists.{EachTyped, first_part, ahead, skipped, types_in, are_names}
+use Rattle.plan_texts.specs.TypedLists.{EachTyped, first_part, ahead, skipped}
 use Rattle.plan_texts.proofs.Basics.{bytes_eq-true}
 use Rattle.gd_reader.specs.declared.typed_lists.ListKind.{ListKind}
 use Rattle.gd_reader.specs.ListGrammar.{may_declare, declared_name, union_form, only_where, params_form, behind_form, typed_form}

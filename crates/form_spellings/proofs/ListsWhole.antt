@@ -1,7 +1,6 @@
 -- A typed list that spells values is whole.
-use Rattle.std.proofs.Common.{◌≡◌, Bool, true, false, not, List, [], ◌∷◌, map, codes, Option, Some, None, refl, sym, ap, subst, ◌∙◌}
+use Rattle.std.proofs.Common.{◌≡◌, Bool, true, false, List, [], ◌∷◌, map, codes, Option, Some, None, refl, sym, ap, subst, ◌∙◌}
 use Rattle.std.proofs.lemmas.Bool.{and_from}
-use Rattle.std.specs.Str.{bytes_eq}
 use Rattle.htn_base.specs.Table.{with_word}
 use Rattle.text_forms.specs.Forms.{Form, ◌followed_by◌}
 use Rattle.text_forms.specs.Lists.{Part, Parts, name, group, nothing, part}
@@ -10,14 +9,12 @@ use Rattle.text_forms.specs.Words.{Word, is_name, is_variable}
 use Rattle.plan_texts.specs.Declared.{Declared, named, variable}
 use Rattle.plan_texts.specs.Formulas.{IsParam}
 use Rattle.plan_texts.specs.Schemas.{IsObject}
-use Rattle.plan_texts.specs.TypedLists.{EachTyped, is_dash, first_part, ahead, ahead_by, skipped, skipped_by, type_said, kind_said, types_in, are_names}
+use Rattle.plan_texts.specs.TypedLists.{EachTyped, is_dash, first_part, ahead, ahead_by, skipped, skipped_by, type_said, kind_said, are_names}
 use Rattle.plan_texts.specs.Types.{TypeItem, IsTypeItem, IsSomeName, parent_said}
 use Rattle.plan_texts.proofs.Basics.{bytes_eq-true}
-use Rattle.plan_model.specs.declared.terms.Param.{Param}
 use Rattle.plan_model.specs.declared.types.Object.{Object}
 use Rattle.gd_reader.specs.declared.typed_lists.ListKind.{ListKind}
 use Rattle.gd_reader.specs.declared.typed_lists.ListKind.TheVariants.{Parameters, Predicate, Objects, Types}
-use Rattle.gd_reader.specs.declared.words.Sort.TheVariants.{Variable, Name, Other}
 use Rattle.gd_reader.specs.ListGrammar.{may_declare, declared_name, union_form, only_where, params_form, behind_form, typed_form}
 use Rattle.gd_reader.specs.TermGrammar.{allowed}
 use Rattle.gd_reader.specs.TypedLists.{is_parameters, are_variables}

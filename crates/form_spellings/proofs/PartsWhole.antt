@@ -1,9 +1,9 @@
 -- Parts that are whole forms wherever they stand, and what terms spell.
-use Rattle.std.proofs.Common.{ℕ, ◌≡◌, ◌⊎◌, inl, inr, Bool, true, false, List, [], ◌∷◌, map, codes, Option, Some, refl, sym, ap, subst, ◌∙◌}
+use Rattle.std.proofs.Common.{ℕ, ◌≡◌, List, [], ◌∷◌, refl, sym, ap, subst}
 use Rattle.text_forms.specs.Lists.{Part, Parts, name, group, nothing, part}
 use Rattle.text_forms.specs.Placed.{Placed, cut, close, word, list, parts_of, IsWhole}
 use Rattle.text_forms.specs.Printing.{headed}
-use Rattle.text_forms.specs.Words.{Word, is_name, last_place}
+use Rattle.text_forms.specs.Words.{Word}
 use Rattle.text_forms.specs.Forms.{Form}
 use Rattle.plan_texts.specs.Declared.{Declared}
 use Rattle.plan_texts.specs.Formulas.{IsTerm, IsApplied}

@@ -1,6 +1,5 @@
 -- The names of terms and atoms stand in the table.
-use Rattle.std.proofs.Common.{◌≡◌, ℕ, Bool, true, false, Ok, Err, Result, List, [], ◌∷◌, drop, refl}
-use Rattle.htn_base.specs.Table.{with_word}
+use Rattle.std.proofs.Common.{ℕ, Bool, true, false, Ok, Result, List, ◌∷◌, drop}
 use Rattle.text_forms.specs.Placed.{Placed, cut, close, word, list}
 use Rattle.text_forms.specs.Words.{Word}
 use Rattle.plan_texts.specs.Types.{EachIs}

@@ -1,8 +1,8 @@
 -- A union is whole exactly where it says one or more names.
 use Rattle.std.proofs.Common.{◌≡◌, Bool, true, false, cond, ◌||◌, List, [], ◌∷◌, codes, refl, sym, ap, subst, ◌∙◌}
-use Rattle.std.proofs.lemmas.Bool.{cond-true, cond-false}
+use Rattle.std.proofs.lemmas.Bool.{cond-true}
 use Rattle.std.specs.Str.{bytes_eq}
-use Rattle.text_forms.specs.Lists.{Parts, name, group, nothing, part}
+use Rattle.text_forms.specs.Lists.{name}
 use Rattle.text_forms.specs.Placed.{Placed, cut, close, word, list, parts_of, IsWhole}
 use Rattle.text_forms.specs.Words.{Word, is_name, is_among}
 use Rattle.plan_texts.specs.TypedLists.{first_seen, words_in, types_in, are_names, is_word}

@@ -1,11 +1,10 @@
 -- The parts from which types are read say them.
-use Rattle.std.proofs.Common.{◌≡◌, ℕ, Bool, true, false, cond, ◌||◌, if◌then◌else◌, Ok, Err, Result, List, [], ◌∷◌, ◌++◌, map, codes, Option, Some, None, refl, ap, sym, subst, ◌∙◌}
+use Rattle.std.proofs.Common.{◌≡◌, ℕ, Bool, true, false, ◌||◌, if◌then◌else◌, Ok, Err, Result, List, [], ◌∷◌, ◌++◌, map, codes, Option, Some, None, refl, ap, sym, ◌∙◌}
 use Rattle.std.proofs.lemmas.Bool.{cond-true, cond-false}
 use Rattle.std.proofs.lemmas.List.Folds.{list_any-append}
-use Rattle.std.specs.List.{list_any}
 use Rattle.std.specs.Str.{bytes_eq}
 use Rattle.htn_base.specs.Table.{with_word}
-use Rattle.text_forms.specs.Lists.{Part, Parts, name, group, nothing, part}
+use Rattle.text_forms.specs.Lists.{Part, name, group}
 use Rattle.text_forms.specs.Placed.{Placed, cut, close, word, list, parts_of}
 use Rattle.text_forms.specs.Words.{Word, is_name, is_among}
 use Rattle.plan_texts.specs.Declared.{named}
@@ -18,7 +17,7 @@ use Rattle.gd_reader.specs.declared.typed_lists.ListKind.{ListKind}
 use Rattle.gd_reader.specs.declared.words.Sort.{Sort}
 use Rattle.gd_reader.specs.declared.words.Sort.TheVariants.{Variable, Name, Other}
 use Rattle.gd_reader.specs.Answers.{◌>>=◌}
-use Rattle.gd_reader.specs.Terms.{Names, raw_term, used}
+use Rattle.gd_reader.specs.Terms.{Names, used}
 use Rattle.gd_reader.specs.TypedLists.{State, are_variables, are_types, undeclared, type_by, type_due, unless, more_names, some_names, union, union_due}
 use Rattle.gd_reader.specs.Words.{sort_of, is_either}
 use Rattle.gd_reader.proofs.Keeping.{keeps_same, keeps_word}

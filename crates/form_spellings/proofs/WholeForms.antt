@@ -1,10 +1,10 @@
 -- The two grammars are one.
-use Rattle.std.proofs.Common.{◌≡◌, true, List, [], refl}
+use Rattle.std.proofs.Common.{true, [], refl}
 use Rattle.std.specs.Prelude.{◌↔◌}
-use Rattle.text_forms.specs.Lists.{Parts, group}
+use Rattle.text_forms.specs.Lists.{group}
 use Rattle.text_forms.specs.Placed.{Placed, cut, close, word, list, parts_of}
 use Rattle.plan_texts.specs.Declared.{named, variable}
-use Rattle.plan_texts.specs.Formulas.{IsParam, IsFormula, IsEffect}
+use Rattle.plan_texts.specs.Formulas.{IsParam}
 use Rattle.plan_texts.specs.Schemas.{IsObject}
 use Rattle.plan_texts.specs.Types.{TypeItem, IsTypeItem}
 use Rattle.plan_model.specs.declared.types.Object.{Object}

@@ -1,6 +1,6 @@
 -- Quantifiers that declare no variable twice. What spells a formula leaves this open; the grammar of what is read asks for it.
 -- Source: this project's; a repeated variable of one quantifier is a fault.
-use Rattle.std.specs.Prelude.{List, map}
+use Rattle.std.specs.Prelude.{map}
 use Rattle.plan_texts.specs.Declared.{Declared, variable}
 use Rattle.plan_texts.specs.Types.{EachIs, AreDifferent}
 use Rattle.plan_model.specs.declared.formulas.Formula.{Formula}

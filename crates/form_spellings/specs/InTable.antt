@@ -1,6 +1,6 @@
 -- Each name of what was read has its word in a name table.
 -- Source: this project's.
-use Rattle.std.specs.Prelude.{◌<◌, List, length}
+use Rattle.std.specs.Prelude.{◌<◌, length}
 use Rattle.htn_base.specs.declared.name.Name.{Name as Numbered}
 use Rattle.plan_texts.specs.Types.{EachIs}
 use Rattle.gd_reader.specs.declared.term.RawTerm.{RawTerm}

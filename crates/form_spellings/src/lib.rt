@@ -1,7 +1,9 @@
 //! The grammar of what `gd_reader` reads and the definition of what a text spells are one grammar.
 //!
-//! It stands on the definitions of `gd_reader` and of `plan_texts`, and has no code but laws. The contract used above: a form is whole
-//! exactly where it spells some formula, effect or typed list, once its words are declared suitably.
+//! It stands on the definitions of `gd_reader` and of `plan_texts`, and has no code but laws. The contracts used above: a form is whole
+//! exactly where it spells some formula, effect or typed list, once its words are declared suitably (`whole_formulas`, `whole_effects`,
+//! `whole_lists`); what is read, once its names are bound, is spelled by the parts from which it was read (`what_is_read_is_spelled`);
+//! its names stand in the name table (`names_stand_in_the_table`).
 #![tactic(auto)]
 
 mod laws;
