@@ -62,6 +62,11 @@ module _ (v : Declared) (table : Names) where
   unroll x r e scope f b =
       subst (λ (z : List Word → Formula → Type 0). z scope f) (rec-roll-RawFormula (List Word → Formula → Type 0) (λ X u k layer. bound_step v table k layer) natural x) (subst (λ r. IsBoundFormula v table r scope f) (sym e) b)
 
+  pub bound_roll : (x : RawFormula-F RawFormula) (r : RawFormula) → roll-RawFormula x ≡ r → (scope : List Word) (f : Formula) → bound_step v table (IsBoundFormula v table) x scope f → IsBoundFormula v table r scope f
+  bound_roll x r e scope f b =
+      subst (λ r. IsBoundFormula v table r scope f) e
+      (subst (λ (z : List Word → Formula → Type 0). z scope f) (sym (rec-roll-RawFormula (List Word → Formula → Type 0) (λ X u k layer. bound_step v table k layer) natural x)) b)
+
 -- once bound, it is spelled by what stands in the parentheses
 abbrev pub FormulaBound : Parts → RawFormula → Names → Type 0
 FormulaBound ps r table = (v : Declared) (scope : List Word) (f : Formula) → IsBoundFormula v table r scope f → IsFormula v f scope (group ps)

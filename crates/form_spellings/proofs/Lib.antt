@@ -23,3 +23,4 @@ mod ListsBound
 mod FormulasBound
 mod EffectsBound
 mod BoundForms
+pub mod Rows
