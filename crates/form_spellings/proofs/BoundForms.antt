@@ -35,11 +35,11 @@ use Rattle.form_spellings.proofs.WholeForms.{whole_formulas, whole_effects, whol
 whole_read : {X : Type 0} (form : Form) (r : Result X Stop) (x : X) → r ≡ Ok x → Tells form r → form.Whole
 whole_read form r x e t = (subst (Tells form) e t).0
 
-formula_inside : (names : Names) (at : _) (p q : Placed) → formula_read names (list at p q) ≡ inside names p
+pub formula_inside : (names : Names) (at : _) (p q : Placed) → formula_read names (list at p q) ≡ inside names p
 unfolding formula_read list_due
 formula_inside names at p q = λ i. inside names p
 
-effect_within : (names : Names) (at : _) (p q : Placed) → effect_read names (list at p q) ≡ effect_inside names p
+pub effect_within : (names : Names) (at : _) (p q : Placed) → effect_read names (list at p q) ≡ effect_inside names p
 unfolding effect_read list_due
 effect_within names at p q = λ i. effect_inside names p
 

@@ -53,6 +53,11 @@ module _ (v : Declared) (table : Names) where
   unroll x r is scope e b =
       subst (λ (z : List Word → Effect → Type 0). z scope e) (rec-roll-RawEffect (List Word → Effect → Type 0) (λ X u k layer. bound_effect_step v table k layer) natural x) (subst (λ r. IsBoundEffect v table r scope e) (sym is) b)
 
+  pub bound_roll : (x : RawEffect-F RawEffect) (r : RawEffect) → roll-RawEffect x ≡ r → (scope : List Word) (e : Effect) → bound_effect_step v table (IsBoundEffect v table) x scope e → IsBoundEffect v table r scope e
+  bound_roll x r is scope e b =
+      subst (λ r. IsBoundEffect v table r scope e) is
+      (subst (λ (z : List Word → Effect → Type 0). z scope e) (sym (rec-roll-RawEffect (List Word → Effect → Type 0) (λ X u k layer. bound_effect_step v table k layer) natural x)) b)
+
 -- once bound, it is spelled by what stands in the parentheses
 abbrev pub EffectBound : Parts → RawEffect → Names → Type 0
 EffectBound ps r table = (v : Declared) (scope : List Word) (e : Effect) → IsBoundEffect v table r scope e → IsEffect v e scope (group ps)

@@ -24,3 +24,9 @@ mod FormulasBound
 mod EffectsBound
 mod BoundForms
 pub mod Rows
+mod TermsSaid
+mod ListsSaid
+mod Opened
+mod FormulasSaid
+mod EffectsSaid
+mod SaidForms

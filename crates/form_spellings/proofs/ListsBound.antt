@@ -38,11 +38,11 @@ use Rattle.form_spellings.proofs.UnionsBound.{TypesSay, TypesBound, union_due_bo
 use Rattle.form_spellings.proofs.WordTests.{false_true}
 
 -- a word that declares, read as its name
-abbrev WordBound : ListKind → Word → RawParam → Names → Type 0
+abbrev pub WordBound : ListKind → Word → RawParam → Names → Type 0
 WordBound kind w x table = (named table x.name ≡ declared_name kind w) × (declares kind w ≡ true)
 
 -- by the kind of list
-param_bound : (kind : ListKind) (st : State) (at : ℕ) (w : Word) → ReadsBy words_of st.0 (param_due kind st at w) (WordBound kind w)
+pub param_bound : (kind : ListKind) (st : State) (at : ℕ) (w : Word) → ReadsBy words_of st.0 (param_due kind st at w) (WordBound kind w)
 unfolding param_by variable_by
 param_bound kind st at w = go (sort_of w) refl kind
   where
@@ -151,13 +151,13 @@ module _ {X : Type 0} (Is : Declared → X → Part → Option Part → Type 0) 
     pub listed_bound : (p : Placed) (names : Names) → Reads names (listed kind names p) (ListBound p)
     listed_bound p names = reads_map (Front (parts_of p)) (ListBound p) names (params kind (names, []) p) (λ r. r.1) (params_bound p (names, [])) (λ r table is. is)
 
-said_types : (v : Declared) (table : Names) (said : Option Part) (ty : List RawTerm) → TypesSay said ty table → types_of v table ty ≡ kind_said said
+pub said_types : (v : Declared) (table : Names) (said : Option Part) (ty : List RawTerm) → TypesSay said ty table → types_of v table ty ≡ kind_said said
 said_types v table None [] s = refl
 said_types v table None (t ∷ ts) s = absurd s
 said_types v table (Some p) [] s = absurd s
 said_types v table (Some p) (t ∷ ts) s = s
 
-one_type : (said : Option Part) → OkSaid false said → kind_said said ≡ type_said said ∷ []
+pub one_type : (said : Option Part) → OkSaid false said → kind_said said ≡ type_said said ∷ []
 one_type None o = refl
 one_type (Some (name w)) o = refl
 one_type (Some (group ps)) o = false_true o
@@ -170,7 +170,7 @@ first_is : {u w : Word} → u ∷ [] ≡ w ∷ [] → u ≡ w
 unfolding first_or
 first_is e = ap first_or e
 
-said_parent : (v : Declared) (table : Names) (said : Option Part) (ty : List RawTerm) → OkSaid false said → TypesSay said ty table → parent_of v table ty ≡ parent_said said
+pub said_parent : (v : Declared) (table : Names) (said : Option Part) (ty : List RawTerm) → OkSaid false said → TypesSay said ty table → parent_of v table ty ≡ parent_said said
 unfolding first_or
 said_parent v table None [] o s = refl
 said_parent v table None (t ∷ ts) o s = absurd s

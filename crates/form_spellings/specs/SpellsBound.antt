@@ -31,3 +31,16 @@ SpellsList Parameters table rs p = (v : Declared) (xs : List Param) → InPairs 
 SpellsList Predicate table rs p = (v : Declared) (xs : List Param) → InPairs (IsBoundParam v table) rs xs → StandUpToEnd (EachTyped (IsParam v) xs) p
 SpellsList Objects table rs p = (v : Declared) (constant : Bool) (xs : List Object) → InPairs (IsBoundObject v table constant) rs xs → StandUpToEnd (EachTyped (IsObject v constant) xs) p
 SpellsList Types table rs p = (v : Declared) (xs : List TypeItem) → InPairs (IsBoundType v table) rs xs → StandUpToEnd (EachTyped IsTypeItem xs) p
+
+-- And conversely: what the parts spell is a value to which what was read is bound.
+abbrev pub BindsFormula : Names → RawFormula → Placed → Type 0
+BindsFormula table r p = (v : Declared) (scope : List Word) (f : Formula) → StandsInFront (IsFormula v f scope) p → IsBoundFormula v table r scope f
+
+abbrev pub BindsEffect : Names → RawEffect → Placed → Type 0
+BindsEffect table r p = (v : Declared) (scope : List Word) (e : Effect) → StandsInFront (IsEffect v e scope) p → IsBoundEffect v table r scope e
+
+abbrev pub BindsList : ListKind → Names → List RawParam → Placed → Type 0
+BindsList Parameters table rs p = (v : Declared) (xs : List Param) → StandUpToEnd (EachTyped (IsParam v) xs) p → InPairs (IsBoundParam v table) rs xs
+BindsList Predicate table rs p = (v : Declared) (xs : List Param) → StandUpToEnd (EachTyped (IsParam v) xs) p → InPairs (IsBoundParam v table) rs xs
+BindsList Objects table rs p = (v : Declared) (constant : Bool) (xs : List Object) → StandUpToEnd (EachTyped (IsObject v constant) xs) p → InPairs (IsBoundObject v table constant) rs xs
+BindsList Types table rs p = (v : Declared) (xs : List TypeItem) → StandUpToEnd (EachTyped IsTypeItem xs) p → InPairs (IsBoundType v table) rs xs
