@@ -1,5 +1,5 @@
 -- An effect that the parts spell is one to which what is read of them is bound.
-use Rattle.std.proofs.Common.{◌≡◌, ℕ, Ok, Err, Result, List, [], ◌∷◌, ◌++◌, map, refl, ap, sym, subst, ◌∙◌}
+use Rattle.std.proofs.Common.{◌≡◌, ℕ, Ok, Err, Result, List, [], ◌∷◌, ◌++◌, map, sym, subst}
 use Rattle.text_forms.specs.Lists.{Part, Parts, name, group, nothing, part}
 use Rattle.text_forms.specs.Placed.{Placed, cut, close, word, list, parts_of}
 use Rattle.text_forms.specs.Words.{Word}

@@ -1,16 +1,14 @@
 -- Typed lists that parts spell are those to which what is read of them is bound.
-use Rattle.std.proofs.Common.{◌≡◌, ℕ, Bool, true, false, Ok, Err, Result, List, [], ◌∷◌, drop, codes, Option, Some, None, refl, ap, sym, subst, ◌∙◌}
+use Rattle.std.proofs.Common.{◌≡◌, ℕ, Bool, true, false, Ok, Result, List, [], ◌∷◌, drop, codes, Option, Some, refl, ap, sym, subst, ◌∙◌}
 use Rattle.text_forms.specs.Lists.{Part, Parts, name, group, nothing, part}
 use Rattle.text_forms.specs.Placed.{Placed, cut, close, word, list, parts_of}
 use Rattle.text_forms.specs.Words.{Word}
-use Rattle.plan_texts.specs.Declared.{Declared, named, variable}
+use Rattle.plan_texts.specs.Declared.{Declared, named}
 use Rattle.plan_texts.specs.Formulas.{IsParam}
 use Rattle.plan_texts.specs.Schemas.{IsObject}
 use Rattle.plan_texts.specs.TypedLists.{EachTyped, first_part, ahead, skipped}
-use Rattle.plan_texts.specs.Types.{TypeItem, IsTypeItem}
+use Rattle.plan_texts.specs.Types.{IsTypeItem}
 use Rattle.plan_texts.proofs.Basics.{bytes_eq-true}
-use Rattle.plan_model.specs.declared.terms.Param.{Param}
-use Rattle.plan_model.specs.declared.types.Object.{Object}
 use Rattle.gd_reader.specs.declared.stop.Stop.{Stop}
 use Rattle.gd_reader.specs.declared.term.RawTerm.{RawTerm}
 use Rattle.gd_reader.specs.declared.typed_lists.ListKind.{ListKind}
@@ -23,7 +21,6 @@ use Rattle.gd_reader.specs.TypedLists.{State, are_variables, param_due, type_due
 use Rattle.gd_reader.specs.Words.{is_hyphen}
 use Rattle.gd_reader.proofs.Keeping.{keeps_same}
 use Rattle.form_spellings.specs.Bound.{InPairs, IsBoundParam, IsBoundObject, IsBoundType}
-use Rattle.form_spellings.proofs.Freshness.{declares}
 use Rattle.form_spellings.proofs.KeptWords.{Reads, reads_then, reads_map}
 use Rattle.form_spellings.proofs.ListsBound.{WordBound, param_bound, said_types, one_type, said_parent}
 use Rattle.form_spellings.proofs.ListsIn.{words_of}

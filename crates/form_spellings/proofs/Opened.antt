@@ -1,11 +1,11 @@
 -- A formula that a list spells, by the word at its front.
-use Rattle.std.proofs.Common.{◌≡◌, ℕ, inl, inr, List, [], ◌∷◌, ◌++◌, map, codes, refl, ap, sym, subst, ◌∙◌}
+use Rattle.std.proofs.Common.{◌≡◌, ℕ, inl, inr, List, [], ◌∷◌, ◌++◌, map, codes, ap, sym, subst, ◌∙◌}
 use Rattle.text_forms.specs.Lists.{Part, Parts, name, group, nothing, part}
 use Rattle.text_forms.specs.Words.{Word}
 use Rattle.text_forms.specs.Printing.{headed}
 use Rattle.plan_texts.specs.Declared.{Declared, variable}
 use Rattle.plan_texts.specs.Formulas.{IsTerm, IsApplied, IsParam, formula_step, IsFormula, effect_step, IsEffect}
-use Rattle.plan_texts.specs.TypedLists.{Each, EachTyped, IsEmpty}
+use Rattle.plan_texts.specs.TypedLists.{Each, EachTyped}
 use Rattle.plan_texts.proofs.Readings.{formula_roll}
 use Rattle.plan_texts.proofs.Effects.{effect_roll}
 use Rattle.plan_model.specs.declared.terms.Term.{Term}

@@ -1,5 +1,5 @@
 -- A form, what is read of it, a value to which it is bound, and that the form spells this value.
-use Rattle.std.proofs.Common.{◌≡◌, true, false, List, [], ◌∷◌, codes, Ok, refl, sym, subst}
+use Rattle.std.proofs.Common.{◌≡◌, true, false, List, [], ◌∷◌, codes, Ok, refl}
 use Rattle.text_forms.specs.Placed.{Placed, cut, close, word, list}
 use Rattle.text_forms.specs.Words.{Word}
 use Rattle.plan_texts.specs.Declared.{Declared}
@@ -7,7 +7,7 @@ use Rattle.plan_texts.specs.Formulas.{IsFormula}
 use Rattle.plan_model.specs.declared.terms.Term.TheVariants.{Var, Obj}
 use Rattle.plan_model.specs.declared.formulas.Formula.{Formula}
 use Rattle.plan_model.specs.declared.formulas.Formula.TheVariants as formula
-use Rattle.gd_reader.specs.declared.formulas.RawFormula.{RawFormula, roll-RawFormula}
+use Rattle.gd_reader.specs.declared.formulas.RawFormula.{RawFormula}
 use Rattle.gd_reader.specs.declared.formulas.RawFormula.TheOpen.{RawFormula-F}
 use Rattle.gd_reader.specs.declared.formulas.RawFormula.TheVariants as raw
 use Rattle.gd_reader.specs.declared.formulas.RawFormula.TheVariants.{rolls-Not, rolls-Holds}
@@ -16,7 +16,7 @@ use Rattle.gd_reader.specs.Formulas.{inside, one, formula_read}
 use Rattle.gd_reader.specs.Terms.{Names, atom, terms, term}
 use Rattle.gd_reader.specs.Words.{sort_of, head_of}
 use Rattle.gd_reader.proofs.Keeping.{keeps_same}
-use Rattle.form_spellings.specs.Bound.{bound_step, IsBoundFormula}
+use Rattle.form_spellings.specs.Bound.{IsBoundFormula}
 use Rattle.form_spellings.specs.SpellsSome.{StandsInFront}
 use Rattle.form_spellings.proofs.BoundForms.{formulas_spell}
 use Rattle.form_spellings.proofs.FormulasBound.{bound_roll}

@@ -1,13 +1,9 @@
 -- What the parts spell is what is read of them, once bound, and conversely.
-use Rattle.std.proofs.Common.{◌≡◌, Ok, Result, List, [], sym, subst}
+use Rattle.std.proofs.Common.{◌≡◌, Ok, List, sym, subst}
 use Rattle.text_forms.specs.Placed.{Placed, cut, close, word, list, parts_of}
-use Rattle.text_forms.specs.Words.{Word}
-use Rattle.plan_texts.specs.Declared.{Declared}
-use Rattle.plan_texts.specs.Formulas.{IsParam, IsFormula, IsEffect}
+use Rattle.plan_texts.specs.Formulas.{IsParam}
 use Rattle.plan_texts.specs.Schemas.{IsObject}
 use Rattle.plan_texts.specs.Types.{IsTypeItem}
-use Rattle.plan_model.specs.declared.formulas.Formula.{Formula}
-use Rattle.plan_model.specs.declared.effects.Effect.{Effect}
 use Rattle.gd_reader.specs.declared.effects.RawEffect.{RawEffect}
 use Rattle.gd_reader.specs.declared.formulas.RawFormula.{RawFormula}
 use Rattle.gd_reader.specs.declared.typed_lists.ListKind.{ListKind}
@@ -17,9 +13,8 @@ use Rattle.gd_reader.specs.Effects.{effect_read}
 use Rattle.gd_reader.specs.Formulas.{formula_read}
 use Rattle.gd_reader.specs.Terms.{Names, Keeps}
 use Rattle.gd_reader.specs.TypedLists.{listed}
-use Rattle.form_spellings.specs.Bound.{IsBoundParam, IsBoundObject, IsBoundType, IsBoundFormula, IsBoundEffect}
+use Rattle.form_spellings.specs.Bound.{IsBoundParam, IsBoundObject, IsBoundType}
 use Rattle.form_spellings.specs.SpellsBound.{BindsFormula, BindsEffect, BindsList}
-use Rattle.form_spellings.specs.SpellsSome.{StandsInFront}
 use Rattle.form_spellings.proofs.BoundForms.{formula_inside, effect_within}
 use Rattle.form_spellings.proofs.EffectsSaid.{EffectSaid, effect_inside_said}
 use Rattle.form_spellings.proofs.FormulasSaid.{FormulaSaid, inside_said}

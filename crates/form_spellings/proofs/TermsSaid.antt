@@ -1,5 +1,5 @@
 -- Terms and atoms that parts spell are those to which what is read of them is bound.
-use Rattle.std.proofs.Common.{◌≡◌, ℕ, true, false, Ok, Err, Result, List, [], ◌∷◌, drop, refl, ap, sym, subst, ◌∙◌}
+use Rattle.std.proofs.Common.{◌≡◌, ℕ, true, false, Ok, Result, List, [], ◌∷◌, drop, refl, ap, sym, subst, ◌∙◌}
 use Rattle.text_forms.specs.Lists.{Part, Parts, name, group, nothing, part}
 use Rattle.text_forms.specs.Placed.{Placed, cut, close, word, list, parts_of}
 use Rattle.text_forms.specs.Words.{Word, is_name, first_place, last_place}
