@@ -72,28 +72,17 @@ param_bound kind st at w = go (sort_of w) refl kind
     go Other e Objects = tt
     go Other e Types = tt
 
-module _ {X : Type 0} (Is : Declared → X → Part → Option Part → Type 0) (IsBound : Declared → Names → RawParam → X → Type 0) (kind : ListKind) where
-  -- what is bound to a word and its type is spelled by them
-  abbrev pub Fits : Type 0
-  Fits = (v : Declared) (table : Names) (r : RawParam) (x : X) (w : Word) (said : Option Part) → declares kind w ≡ true → named table r.name ≡ declared_name kind w → TypesBound (are_variables kind) said r.ty table → IsBound v table r x → Is v x (name w) said
+-- A typed list is read part by part: what is asked of the parts and of what is read of them, where it holds of the end of the list and
+-- of one more word.
+module _ (kind : ListKind) (Front : Parts → List RawParam → Names → Type 0) where
+  abbrev FrontOf : Parts → List RawTerm × List RawParam → Names → Type 0
+  FrontOf ps r table = Front ps r.1 table
 
-  module _ (fits : Fits) where
-    abbrev Front : Parts → List RawTerm × List RawParam → Names → Type 0
-    Front ps r table = (v : Declared) (xs : List X) → InPairs (IsBound v table) r.1 xs → EachTyped (Is v) xs ps
+  -- the type of the words in front, and the words behind
+  abbrev pub Rests : Option Part → Parts → List RawTerm × List RawParam → Names → Type 0
+  Rests said ps r table = TypesBound (are_variables kind) said r.0 table × Front ps r.1 table
 
-    -- the type of the words in front, and the words behind
-    abbrev Rests : Option Part → Parts → List RawTerm × List RawParam → Names → Type 0
-    Rests said ps r table = TypesBound (are_variables kind) said r.0 table × Front ps r table
-
-    one_fits : (p : Placed) (w : Word) (x : RawParam) (r : List RawTerm × List RawParam) (ty : List RawTerm) (table : Names) → Rests (ahead (parts_of p)) (skipped (parts_of p)) r table → WordBound kind w x table
-        → Front (part (name w) (parts_of p)) (ty, with_type r.0 x ∷ r.1) table
-    one_fits p w x r ty table is one v [] b = absurd b
-    one_fits p w x r ty table is one v (y ∷ ys) b = (fits v table (with_type r.0 x) y w (ahead (parts_of p)) one.1 one.0 is.0 b.0, is.1 v ys b.1)
-
-    nothing_fits : (ty : List RawTerm) (table : Names) → Front nothing (ty, []) table
-    nothing_fits ty table v [] b = tt
-    nothing_fits ty table v (x ∷ xs) b = absurd b
-
+  module _ (none : (table : Names) → Front nothing [] table) (more : (p : Placed) (w : Word) (x : RawParam) (r : List RawTerm × List RawParam) (table : Names) → Rests (ahead (parts_of p)) (skipped (parts_of p)) r table → WordBound kind w x table → Front (part (name w) (parts_of p)) (with_type r.0 x ∷ r.1) table) where
     -- a word that declares, with the rest of the list
     word_bound : (st : State) (at : ℕ) (w : Word) (p : Placed) (Q : List RawTerm × List RawParam → Names → Type 0) (h : RawParam → List RawTerm × List RawParam → List RawTerm × List RawParam)
         → ((x : RawParam) (r : List RawTerm × List RawParam) (table : Names) → Rests (ahead (parts_of p)) (skipped (parts_of p)) r table → WordBound kind w x table → Q (h x r) table)
@@ -119,37 +108,57 @@ module _ {X : Type 0} (Is : Declared → X → Part → Option Part → Type 0) 
     mutual
       unfolding params behind typed
 
-      params_bound : (p : Placed) (st : State) → Reads st.0 (params kind st p) (Front (parts_of p))
+      params_bound : (p : Placed) (st : State) → Reads st.0 (params kind st p) (FrontOf (parts_of p))
       params_bound cut st = tt
-      params_bound (close at) st = (keeps_same st.0, λ table k. nothing_fits [] table)
+      params_bound (close at) st = (keeps_same st.0, λ table k. none table)
       params_bound (list at p q) st = tt
       params_bound (word at w p) st =
-          word_bound st at w p (Front (part (name w) (parts_of p))) (λ x r. ([], with_type r.0 x ∷ r.1)) (λ x r table is one. one_fits p w x r [] table is one) (λ st. behind_bound p st)
+          word_bound st at w p (FrontOf (part (name w) (parts_of p))) (λ x r. ([], with_type r.0 x ∷ r.1)) (λ x r table is one. more p w x r table is one) (λ st. behind_bound p st)
 
       behind_bound : (p : Placed) (st : State) → Reads st.0 (behind kind st p) (Rests (ahead (parts_of p)) (skipped (parts_of p)))
       behind_bound cut st = tt
-      behind_bound (close at) st = (keeps_same st.0, λ table k. ((none_said (are_variables kind), tt), nothing_fits [] table))
+      behind_bound (close at) st = (keeps_same st.0, λ table k. ((none_said (are_variables kind), tt), none table))
       behind_bound (list at p q) st = tt
       behind_bound (word at w p) st =
           by_hyphen st at w p (typed_bound p st)
-          (word_bound st at w p (Rests (ahead (parts_of p)) (part (name w) (parts_of p))) (λ x r. (r.0, with_type r.0 x ∷ r.1)) (λ x r table is one. (is.0, one_fits p w x r r.0 table is one)) (λ st. behind_bound p st))
+          (word_bound st at w p (Rests (ahead (parts_of p)) (part (name w) (parts_of p))) (λ x r. (r.0, with_type r.0 x ∷ r.1)) (λ x r table is one. (is.0, more p w x r table is one)) (λ st. behind_bound p st))
 
       typed_bound : (p : Placed) (st : State) → Reads st.0 (typed kind st p) (Rests (first_part (parts_of p)) (skipped (part (name (codes "-")) (parts_of p))))
       typed_bound cut st = tt
       typed_bound (close at) st = tt
       typed_bound (word at w p) st =
           reads_then same (TypesBound (are_variables kind) (Some (name w))) (Rests (Some (name w)) (parts_of p)) st.0 (type_due kind st.0 at w) (λ t. params kind (t.1, st.1) p >>= (λ r. Ok (typed_with t.0 r))) (type_bound kind st.0 at w)
-          (λ t. reads_map (Front (parts_of p)) (λ r table. TypesBound (are_variables kind) (Some (name w)) t.0 table → Rests (Some (name w)) (parts_of p) r table) t.1 (params kind (t.1, st.1) p) (λ r. (t.0, r.1)) (params_bound p (t.1, st.1)) (λ r table is one. (one, is)))
+          (λ t. reads_map (FrontOf (parts_of p)) (λ r table. TypesBound (are_variables kind) (Some (name w)) t.0 table → Rests (Some (name w)) (parts_of p) r table) t.1 (params kind (t.1, st.1) p) (λ r. (t.0, r.1)) (params_bound p (t.1, st.1)) (λ r table is one. (one, is)))
       typed_bound (list at p q) st =
           reads_then same (TypesBound (are_variables kind) (Some (group (parts_of p)))) (Rests (Some (group (parts_of p))) (parts_of q)) st.0 (union_due kind st.0 at p) (λ t. params kind (t.1, st.1) q >>= (λ r. Ok (typed_with t.0 r))) (union_due_bound kind p st.0 at)
-          (λ t. reads_map (Front (parts_of q)) (λ r table. TypesBound (are_variables kind) (Some (group (parts_of p))) t.0 table → Rests (Some (group (parts_of p))) (parts_of q) r table) t.1 (params kind (t.1, st.1) q) (λ r. (t.0, r.1)) (params_bound q (t.1, st.1)) (λ r table is one. (one, is)))
+          (λ t. reads_map (FrontOf (parts_of q)) (λ r table. TypesBound (are_variables kind) (Some (group (parts_of p))) t.0 table → Rests (Some (group (parts_of p))) (parts_of q) r table) t.1 (params kind (t.1, st.1) q) (λ r. (t.0, r.1)) (params_bound q (t.1, st.1)) (λ r table is one. (one, is)))
 
-    -- a typed list, once bound, is spelled by the parts from which it was read
+    pub listed_with : (p : Placed) (names : Names) → Reads names (listed kind names p) (Front (parts_of p))
+    listed_with p names = reads_map (FrontOf (parts_of p)) (Front (parts_of p)) names (params kind (names, []) p) (λ r. r.1) (params_bound p (names, [])) (λ r table is. is)
+
+module _ {X : Type 0} (Is : Declared → X → Part → Option Part → Type 0) (IsBound : Declared → Names → RawParam → X → Type 0) (kind : ListKind) where
+  -- what is bound to a word and its type is spelled by them
+  abbrev pub Fits : Type 0
+  Fits = (v : Declared) (table : Names) (r : RawParam) (x : X) (w : Word) (said : Option Part) → declares kind w ≡ true → named table r.name ≡ declared_name kind w → TypesBound (are_variables kind) said r.ty table → IsBound v table r x → Is v x (name w) said
+
+  module _ (fits : Fits) where
+    -- a typed list, once bound, is spelled by the parts
+    abbrev Front : Parts → List RawParam → Names → Type 0
+    Front ps rs table = (v : Declared) (xs : List X) → InPairs (IsBound v table) rs xs → EachTyped (Is v) xs ps
+
+    one_fits : (p : Placed) (w : Word) (x : RawParam) (r : List RawTerm × List RawParam) (table : Names) → Rests kind Front (ahead (parts_of p)) (skipped (parts_of p)) r table → WordBound kind w x table → Front (part (name w) (parts_of p)) (with_type r.0 x ∷ r.1) table
+    one_fits p w x r table is one v [] b = absurd b
+    one_fits p w x r table is one v (y ∷ ys) b = (fits v table (with_type r.0 x) y w (ahead (parts_of p)) one.1 one.0 is.0 b.0, is.1 v ys b.1)
+
+    none_fits : (table : Names) → Front nothing [] table
+    none_fits table v [] b = tt
+    none_fits table v (x ∷ xs) b = absurd b
+
     abbrev pub ListBound : Placed → List RawParam → Names → Type 0
-    ListBound p rs table = (v : Declared) (xs : List X) → InPairs (IsBound v table) rs xs → EachTyped (Is v) xs (parts_of p)
+    ListBound p = Front (parts_of p)
 
     pub listed_bound : (p : Placed) (names : Names) → Reads names (listed kind names p) (ListBound p)
-    listed_bound p names = reads_map (Front (parts_of p)) (ListBound p) names (params kind (names, []) p) (λ r. r.1) (params_bound p (names, [])) (λ r table is. is)
+    listed_bound p names = listed_with kind Front none_fits one_fits p names
 
 pub said_types : (v : Declared) (table : Names) (said : Option Part) (ty : List RawTerm) → TypesSay said ty table → types_of v table ty ≡ kind_said said
 said_types v table None [] s = refl
