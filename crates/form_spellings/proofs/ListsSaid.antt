@@ -1,33 +1,25 @@
 -- Typed lists that parts spell are those to which what is read of them is bound.
-use Rattle.std.proofs.Common.{◌≡◌, ℕ, Bool, true, false, Ok, Result, List, [], ◌∷◌, drop, codes, Option, Some, refl, ap, sym, subst, ◌∙◌}
-use Rattle.text_forms.specs.Lists.{Part, Parts, name, group, nothing, part}
-use Rattle.text_forms.specs.Placed.{Placed, cut, close, word, list, parts_of}
+use Rattle.std.proofs.Common.{◌≡◌, Bool, List, [], ◌∷◌, drop, Option, ap, sym, ◌∙◌}
+use Rattle.text_forms.specs.Lists.{Part, Parts, name, nothing, part}
+use Rattle.text_forms.specs.Placed.{Placed, parts_of}
 use Rattle.text_forms.specs.Words.{Word}
 use Rattle.plan_texts.specs.Declared.{Declared, named}
 use Rattle.plan_texts.specs.Formulas.{IsParam}
 use Rattle.plan_texts.specs.Schemas.{IsObject}
-use Rattle.plan_texts.specs.TypedLists.{EachTyped, first_part, ahead, skipped}
+use Rattle.plan_texts.specs.TypedLists.{EachTyped, ahead, skipped}
 use Rattle.plan_texts.specs.Types.{IsTypeItem}
-use Rattle.plan_texts.proofs.Basics.{bytes_eq-true}
-use Rattle.gd_reader.specs.declared.stop.Stop.{Stop}
 use Rattle.gd_reader.specs.declared.term.RawTerm.{RawTerm}
 use Rattle.gd_reader.specs.declared.typed_lists.ListKind.{ListKind}
 use Rattle.gd_reader.specs.declared.typed_lists.ListKind.TheVariants.{Parameters, Predicate, Objects, Types}
 use Rattle.gd_reader.specs.declared.typed_lists.RawParam.{RawParam}
-use Rattle.gd_reader.specs.Answers.{◌>>=◌}
 use Rattle.gd_reader.specs.ListGrammar.{declared_name}
 use Rattle.gd_reader.specs.Terms.{Names}
-use Rattle.gd_reader.specs.TypedLists.{State, are_variables, param_due, type_due, union_due, with_type, Rest, one_more, typed_with, params, behind, typed, listed}
-use Rattle.gd_reader.specs.Words.{is_hyphen}
-use Rattle.gd_reader.proofs.Keeping.{keeps_same}
+use Rattle.gd_reader.specs.TypedLists.{are_variables, with_type, listed}
 use Rattle.form_spellings.specs.Bound.{InPairs, IsBoundParam, IsBoundObject, IsBoundType}
-use Rattle.form_spellings.proofs.KeptWords.{Reads, reads_then, reads_map}
-use Rattle.form_spellings.proofs.ListsBound.{WordBound, Rests, listed_with, param_bound, said_types, one_type, said_parent}
-use Rattle.form_spellings.proofs.ListsIn.{words_of}
-use Rattle.form_spellings.proofs.ListsSpelled.{none_said}
-use Rattle.form_spellings.proofs.ListsWhole.{name_is, ahead_same, skipped_same, dash_test}
-use Rattle.form_spellings.proofs.TermsIn.{same}
-use Rattle.form_spellings.proofs.UnionsBound.{TypesBound, union_due_bound, type_bound}
+use Rattle.form_spellings.proofs.KeptWords.{Reads}
+use Rattle.form_spellings.proofs.ListsBound.{WordBound, Rests, listed_with, said_types, one_type, said_parent}
+use Rattle.form_spellings.proofs.ListsWhole.{name_is}
+use Rattle.form_spellings.proofs.UnionsBound.{TypesBound}
 
 module _ {X : Type 0} (Is : Declared → X → Part → Option Part → Type 0) (IsBound : Declared → Names → RawParam → X → Type 0) (kind : ListKind) where
   -- what a word and its type spell is bound to them
