@@ -1,0 +1,12 @@
+-- Lengths of printed lists and words.
+pub mod ListSizes
+pub mod Sums
+pub mod WordSizes
+pub mod SizeEquations
+-- The source's formulas and effects behind other variables.
+pub mod SourceSizes
+pub mod EffectSizes
+-- What is said of slots.
+pub mod SlotSizes
+-- The words of a printed problem.
+pub mod PrintedWords

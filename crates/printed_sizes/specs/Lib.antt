@@ -1,0 +1,5 @@
+pub mod Capped
+pub mod Words
+pub mod Formulas
+pub mod Slots
+pub mod Frames
