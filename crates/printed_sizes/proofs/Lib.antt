@@ -10,3 +10,6 @@ pub mod EffectSizes
 pub mod SlotSizes
 -- The words of a printed problem.
 pub mod PrintedWords
+pub mod Heads
+-- The goal, and the actions of the source's actions and of checks.
+pub mod Works

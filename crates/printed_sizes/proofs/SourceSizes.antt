@@ -56,7 +56,7 @@ module _ (c : Compiled) (b : ℕ) (v : Declared) (are : HasPrintedWords c b v) w
   variables-printed [] h = refl
   variables-printed (x ∷ xs) h = let e = variable-printed x h.0 in let r = variables-printed xs h.1 in λ i. e i ∷ r i
 
-  sizes-of : (xs : List Param) → map length (param_words source xs) ≡ map (variable_size c) xs
+  pub sizes-of : (xs : List Param) → map length (param_words source xs) ≡ map (variable_size c) xs
   unfolding own_size
   sizes-of [] = refl
   sizes-of (x ∷ xs) = ap (λ ns. variable_size c x ∷ ns) (sizes-of xs)
@@ -65,7 +65,7 @@ module _ (c : Compiled) (b : ℕ) (v : Declared) (are : HasPrintedWords c b v) w
   unfolding kind_size
   bytes-kind t = ap (λ ws. length (bytes (kind_part ws))) (kind-printed (retyped t))
 
-  own-is : (n : Name) → length (own_word c n) ≡ own_size c n
+  pub own-is : (n : Name) → length (own_word c n) ≡ own_size c n
   unfolding own_size
   own-is n = refl
 

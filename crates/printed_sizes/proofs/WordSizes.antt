@@ -68,6 +68,13 @@ slot-at i zero k l = absurd (omega arith)
 slot-at i (suc b) zero l = ap slot_word (omega arith)
 slot-at i (suc b) (suc k) l = slot-at (suc i) b k (omega arith) ∙ ap slot_word (omega arith)
 
+-- the word of a slot among those of the objects
+pub object-word-slot : (c : Compiled) (b k : ℕ) → k < b → word_at (object_words c b) (length c.hddl.objects + k) ≡ slot_word (k + 1)
+object-word-slot c b k l =
+    at-right (λ (x : Object). own_word c x.name) c.hddl.objects (map slot_word (numbers 1 b)) (length c.hddl.objects + k) (omega arith)
+    ∙ ap (word_at (map slot_word (numbers 1 b))) (let e : length c.hddl.objects + k - length c.hddl.objects ≡ k = omega arith in e)
+    ∙ slot-at 1 b k l ∙ ap slot_word (let e : 1 + k ≡ k + 1 = omega arith in e)
+
 slot-beyond : (i b k : ℕ) → b ≤ k → word_at (map slot_word (numbers i b)) k ≡ []
 slot-beyond i zero k l = refl
 slot-beyond i (suc b) zero l = absurd (omega arith)
