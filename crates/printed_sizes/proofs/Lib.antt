@@ -12,4 +12,4 @@ pub mod SlotSizes
 pub mod PrintedWords
 pub mod Heads
 -- The goal, and the actions of the source's actions and of checks.
-pub mod Works
+pub mod ActionSizes

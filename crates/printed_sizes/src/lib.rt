@@ -3,6 +3,7 @@
 //! It stands on the values of `plan_model` and on the definitions of `plan_texts`, `plan_meaning` and `encoded_words`.
 #![tactic(auto)]
 
+mod conditions;
 mod counts;
 mod effects;
 mod formulas;
@@ -12,3 +13,4 @@ mod slots;
 mod terms;
 mod typed_lists;
 mod words;
+mod works;
