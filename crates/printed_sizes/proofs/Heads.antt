@@ -1,5 +1,5 @@
 -- The places of the predicates' words.
-use Rattle.std.proofs.Common.{ℕ, zero, suc, ◌≡◌, ◌+◌, ◌<◌, true, List, [], ◌∷◌, ◌++◌, map, length, slice_get, Some, codes, refl, ap, sym, ◌∙◌, arith}
+use Rattle.std.proofs.Common.{ℕ, zero, suc, ◌≡◌, ◌+◌, ◌<◌, true, List, [], ◌∷◌, ◌++◌, map, length, slice_get, Some, unwrap_or, Contains, codes, refl, ap, sym, ◌∙◌, arith}
 use Rattle.text_forms.specs.Words.{Word, word_at}
 use Rattle.htn_base.specs.Escapes.{slot_word}
 use Rattle.task_networks.specs.Spelling.{numbers}
@@ -10,8 +10,9 @@ use Rattle.plan_model.specs.declared.schemas.ActionSchema.{ActionSchema}
 use Rattle.plan_model.specs.declared.schemas.MethodPlan.{MethodPlan}
 use Rattle.plan_model.specs.declared.values.Compiled.{Compiled}
 use Rattle.plan_texts.proofs.Members.{length-map}
-use Rattle.plan_meaning.specs.EncodedNames.{guard_types, guard_word, checked_methods, top_predicate, free_predicate, before_predicate, first_task, first_action, first_check, action_predicate, check_predicate}
+use Rattle.plan_meaning.specs.EncodedNames.{guard_types, guard_word, checked_methods, top_predicate, free_predicate, before_predicate, first_task, first_action, first_check, first_guard, action_predicate, check_predicate, guard_predicate}
 use Rattle.slot_plans.proofs.ListPlaces.{get_within, get_left, get_right, get_to_map, length-joined}
+use Rattle.slot_plans.proofs.KeptItems.{position_at}
 use Rattle.slot_plans.proofs.Predicates.{is_checked, passed}
 use Rattle.text_plans.proofs.Places.{get-word}
 use Rattle.encoded_words.specs.EncodedWords.{own_word}
@@ -79,3 +80,14 @@ module _ (c : Compiled) where
       let i = passed is_checked m c.methods in
       let f = ap (λ n. slice_get (source_heads ++ middle_heads ++ action_heads ++ check_heads) (n + i)) (sym length-actions) ∙ get_right (source_heads ++ middle_heads ++ action_heads) check_heads i (check_head plan) (get_to_map check_head (checked_methods c) i plan (filter_at is_checked c.methods m plan e t)) in
       get-word (head_words c) k (check_head plan) (get_left (source_heads ++ middle_heads ++ action_heads ++ check_heads) guard_heads k (check_head plan) f)
+
+  length-checks : length (source_heads ++ middle_heads ++ action_heads ++ check_heads) ≡ first_guard c
+  length-checks = let a = length-actions in let d = length-joined (source_heads ++ middle_heads ++ action_heads) check_heads in let e = length-map check_head (checked_methods c) in omega arith
+
+  pub at-guard : (ty : ℕ) → Contains (guard_types c) ty → word_at (head_words c) (guard_predicate c ty) ≡ guard_word c [] 0 ty
+  at-guard ty m =
+      let (i, f, e) = position_at ty (guard_types c) m in
+      let w = guard_word c [] 0 ty in
+      let l : guard_predicate c ty ≡ length (source_heads ++ middle_heads ++ action_heads ++ check_heads) + i = (let h = ap (λ z. unwrap_or z 0) f in let n = length-checks in omega arith) in
+      ap (word_at (head_words c)) l
+      ∙ get-word (head_words c) (length (source_heads ++ middle_heads ++ action_heads ++ check_heads) + i) w (get_right (source_heads ++ middle_heads ++ action_heads ++ check_heads) guard_heads i w (get_to_map (guard_word c [] 0) (guard_types c) i ty e))

@@ -13,3 +13,9 @@ pub mod PrintedWords
 pub mod Heads
 -- The goal, and the actions of the source's actions and of checks.
 pub mod ActionSizes
+-- Types, objects and predicates.
+pub mod SectionSizes
+pub mod GuardSizes
+-- The actions of methods.
+pub mod MethodSizes
+pub mod MethodEffects

@@ -22,7 +22,7 @@ use Rattle.plan_model.specs.declared.effects.Effect.{Effect}
 use Rattle.plan_model.specs.declared.effects.Effect.TheVariants as E
 use Rattle.plan_meaning.specs.OrderFormulas.{OrderNumbers, pair_of, any_slot, wait_parts, clear_parts, copy_parts, free_parts}
 use Rattle.encoded_words.proofs.Scopes.{word-behind}
-use Rattle.printed_sizes.specs.Slots.{digits, all_digits, waiting_size, clearing_size, copying_size, free_size}
+use Rattle.printed_sizes.specs.Slots.{digits, all_digits, waiting_size, clearing_size, child_size, copying_size, free_size}
 use Rattle.printed_sizes.proofs.ListSizes.{size, size-part, size-one, headed-one, headed-two}
 use Rattle.printed_sizes.proofs.WordSizes.{size-slot}
 
@@ -74,11 +74,6 @@ sum-digits_twice a i (suc n) =
     let t = sum_by-cons digits i (numbers (suc i) n) in
     let m = suc-mul n a in
     omega arith
-
-word-before : (us ws : List Word) (k : ℕ) → k < length us → word_at (us ++ ws) k ≡ word_at us k
-word-before [] ws k l = absurd (omega arith)
-word-before (u ∷ us) ws zero l = refl
-word-before (u ∷ us) ws (suc k) l = word-before us ws k (omega arith)
 
 -- the words that formulas on slots have
 pub record HasSlotWords (v : Declared) (n : OrderNumbers) (b : ℕ) : Type 0 where
@@ -175,18 +170,18 @@ module _ (v : Declared) (n : OrderNumbers) (b : ℕ) (are : HasSlotWords v n b) 
           let j : size (term_part v scope (Var 0)) ≡ 7 = refl in
           omega arith
 
-  -- they are added for the child in variable u, whose word has m bytes
-  module _ (u m : ℕ) (in_force : u < depth) (is : length (word_at scope u) ≡ m) where
+  -- they are added for the child in variable u, whose word has m bytes, and k under a quantifier
+  module _ (u m k : ℕ) (is : length (word_at scope u) ≡ m) (is-within : length (word_at within u) ≡ k) where
     child-here : size (term_part v scope (Var u)) ≡ 2 + m
     child-here = let e = is in omega arith
 
-    child-within : size (term_part v within (Var u)) ≡ 2 + m
-    child-within = let e = is in let f = ap length (word-before scope (variable v one ∷ []) u in_force) in omega arith
+    child-within : size (term_part v within (Var u)) ≡ 2 + k
+    child-within = let e = is-within in omega arith
 
     abbrev made : ℕ → Effect
     made o = E.When (Holds (pair_of n b (Var 0) (Obj o))) (E.Add (pair_of n b (Var u) (Obj o)))
 
-    pub size-copies : (style : Style) → length (bytes_behind (all_parts (map (λ e. effect_part v e scope) (copy_parts n b depth style (Var 0) (Var u))))) ≡ copying_size b style m
+    pub size-copies : (style : Style) → length (bytes_behind (all_parts (map (λ e. effect_part v e scope) (copy_parts n b depth style (Var 0) (Var u))))) ≡ copying_size b style (child_size style k m)
     size-copies Adl =
         let p = pair_of n b (Var 0) (Var depth) in
         let q = pair_of n b (Var u) (Var depth) in
@@ -198,7 +193,7 @@ module _ (v : Declared) (n : OrderNumbers) (b : ℕ) (are : HasSlotWords v n b) 
         let h = ap size (effect-Add v q within) in
         let i = size-pair within (Var 0) (Var depth) in
         let j = size-pair within (Var u) (Var depth) in
-        let k = size-any in
+        let y = size-any in
         let l = size-x in
         let o : size (term_part v within (Var 0)) ≡ 7 = refl in
         let r = child-within in

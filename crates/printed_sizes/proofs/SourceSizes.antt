@@ -103,7 +103,7 @@ module _ (c : Compiled) (b : ℕ) (v : Declared) (are : HasPrintedWords c b v) w
     size-term ws (Var k) = let e = ap length (word-behind front ws k) in let f = size-at ws k in omega arith
     size-term ws (Obj o) = let e = ap (λ us. length (word_at us o)) are.objects in omega arith
 
-    size-terms : (ws : List Word) (ts : List Term) → length (bytes_behind (all_parts (map (term_part v (front ++ ws)) (map (moved v.names source (length front)) ts)))) ≡ sum_by (term_size c b (map length ws)) ts
+    pub size-terms : (ws : List Word) (ts : List Term) → length (bytes_behind (all_parts (map (term_part v (front ++ ws)) (map (moved v.names source (length front)) ts)))) ≡ sum_by (term_size c b (map length ws)) ts
     size-terms ws [] = refl
     size-terms ws (t ∷ ts) =
         let e = size-term ws t in

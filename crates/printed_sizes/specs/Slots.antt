@@ -13,6 +13,11 @@ digits k = length (decimal k)
 abbrev pub all_digits : ℕ → ℕ
 all_digits b = sum_by digits (numbers 1 b)
 
+-- the length of the child's variable: under a quantifier, and where no slot is quantified
+abbrev pub child_size : Style → ℕ → ℕ → ℕ
+child_size Adl within here = within
+child_size Flat within here = here
+
 -- b slots
 module _ (b : ℕ) where
   -- no slot comes before ?htn_h
