@@ -19,3 +19,5 @@ pub mod GuardSizes
 -- The actions of methods.
 pub mod MethodSizes
 pub mod MethodEffects
+-- The whole domain text.
+pub mod DomainSizes

@@ -124,31 +124,31 @@ module _ (c : Compiled) (names : List Word) (b : ℕ) (style : Style) (has : Has
   taken-are =
       size-of_numbers P (λ k. E.Delete (is_free c names b style k)) (λ k. 24 + digits k) 1 n
       (λ k l u. (
-      let e = ap size (effect-Delete v (is_free c names b style k) ws) in
-      let f = headed-one (codes "not") 3 (applied_part v ws (free_predicate c) (Var k ∷ [])) refl in
-      let g = free-is c names b style has m plan at k in
-      let h = new-place c names b style has m plan at k (omega arith) u in
-      omega arith
+          let e = ap size (effect-Delete v (is_free c names b style k) ws) in
+          let f = headed-one (codes "not") 3 (applied_part v ws (free_predicate c) (Var k ∷ [])) refl in
+          let g = free-is c names b style has m plan at k in
+          let h = new-place c names b style has m plan at k (omega arith) u in
+          omega arith
       ))
       ∙ sum-digits 24 1 n
 
-  child-is : (u : ℕ) (child : Child) → size (P (E.Add (child_atom c names b style m plan u child))) ≡ placed_size c b style plan (child_head c b style plan m child.head) (place_size c b style plan 0 u) child.args
+  child-is : (u : ℕ) (child : Child) → size (P (E.Add (child_atom c names b style m plan u child))) ≡ placed_size c b style plan (child_head c b style plan (check_predicate c m) child.head) (place_size c b style plan 0 u) child.args
   child-is u child = go child.head
     where
-      go : (h : Head) → size (P (E.Add (child_atom c names b style m plan u (record child { head = h })))) ≡ placed_size c b style plan (child_head c b style plan m h) (place_size c b style plan 0 u) child.args
+      go : (h : Head) → size (P (E.Add (child_atom c names b style m plan u (record child { head = h })))) ≡ placed_size c b style plan (child_head c b style plan (check_predicate c m) h) (place_size c b style plan 0 u) child.args
       go (Task t) = ap size (effect-Add v (child_atom c names b style m plan u (record child { head = Task t })) ws) ∙ size-placed c names b style has m plan at (task_predicate c t) u child.args
       go (Action a) = ap size (effect-Add v (child_atom c names b style m plan u (record child { head = Action a })) ws) ∙ size-placed c names b style has m plan at (action_predicate c a) u child.args
       go Check = ap size (effect-Add v (child_atom c names b style m plan u (record child { head = Check })) ws) ∙ size-placed c names b style has m plan at (check_predicate c m) u child.args
 
   children-are : (us vs : List ℕ) (children : List Child) (i : ℕ) → i ≡ length us → us ++ vs ≡ children_slots c names b style m plan → length vs ≡ length children
-      → length (bytes_behind (all_parts (map P (map E.Add (child_atoms c names b style m plan vs children))))) ≡ children_size c b style plan m i children
+      → length (bytes_behind (all_parts (map P (map E.Add (child_atoms c names b style m plan vs children))))) ≡ children_size c b style plan (check_predicate c m) i children
   children-are us [] [] i e f l = refl
   children-are us [] (child ∷ children) i e f l = absurd (omega arith)
   children-are us (x ∷ vs) [] i e f l = absurd (omega arith)
   children-are us (x ∷ vs) (child ∷ children) i e f l =
       let a = size-part (P (E.Add (child_atom c names b style m plan x child))) (all_parts (map P (map E.Add (child_atoms c names b style m plan vs children)))) in
       let s : slot_at c b style plan i ≡ x = ap (λ xs. slice_index xs i) (sym f) ∙ ap (slice_index (us ++ x ∷ vs)) e ∙ index-behind us vs x in
-      let d = child-is x child ∙ ap (λ k. placed_size c b style plan (child_head c b style plan m child.head) (place_size c b style plan 0 k) child.args) (sym s) in
+      let d = child-is x child ∙ ap (λ k. placed_size c b style plan (child_head c b style plan (check_predicate c m) child.head) (place_size c b style plan 0 k) child.args) (sym s) in
       let g = length-append us (x ∷ []) in
       let r = children-are (us ++ x ∷ []) vs children (suc i) (omega arith) (append_assoc us (x ∷ []) vs ∙ f) (omega arith) in
       omega arith
@@ -156,31 +156,31 @@ module _ (c : Compiled) (names : List Word) (b : ℕ) (style : Style) (has : Has
   abbrev pair_at : Pair → Effect
   pair_at p = E.Add (pair_of (order_numbers c names b) b (Var (slot_at c b style plan p.first)) (Var (slot_at c b style plan p.then)))
 
-  pairs-are : length (bytes_behind (all_parts (map P (map pair_at plan.schema.pairs)))) ≡ sum_by (pair_size c b style plan m) plan.schema.pairs
-  pairs-are = size-of_each P pair_at (pair_size c b style plan m) plan.schema.pairs
+  pairs-are : length (bytes_behind (all_parts (map P (map pair_at plan.schema.pairs)))) ≡ sum_by (pair_size c b style plan (check_predicate c m)) plan.schema.pairs
+  pairs-are = size-of_each P pair_at (pair_size c b style plan (check_predicate c m)) plan.schema.pairs
       (λ p k. (
-      let x = slot_at c b style plan p.first in
-      let y = slot_at c b style plan p.then in
-      let e = ap size (effect-Add v (pair_of (order_numbers c names b) b (Var x) (Var y)) ws) in
-      let f = headed-two (word_at v.predicates (before_predicate c)) 10 (term_part v ws (Var x)) (term_part v ws (Var y)) (ap length slots-are.before) in
-      let g = place-here c names b style has m plan at x in
-      let h = place-here c names b style has m plan at y in
-      omega arith
+          let x = slot_at c b style plan p.first in
+          let y = slot_at c b style plan p.then in
+          let e = ap size (effect-Add v (pair_of (order_numbers c names b) b (Var x) (Var y)) ws) in
+          let f = headed-two (word_at v.predicates (before_predicate c)) 10 (term_part v ws (Var x)) (term_part v ws (Var y)) (ap length slots-are.before) in
+          let g = place-here c names b style has m plan at x in
+          let h = place-here c names b style has m plan at y in
+          omega arith
       ))
 
   abbrev copied_at : ℕ → List Effect
   copied_at i = copy_parts (order_numbers c names b) b (suc n + length plan.schema.params) style (Var 0) (Var (slot_at c b style plan i))
 
-  copies-are : length (bytes_behind (all_parts (map P (flat_map copied_at plan.copiers)))) ≡ sum_by (copied_size c b style plan m) plan.copiers
-  copies-are = size-flat P copied_at (copied_size c b style plan m) plan.copiers
+  copies-are : length (bytes_behind (all_parts (map P (flat_map copied_at plan.copiers)))) ≡ sum_by (copied_size c b style plan (check_predicate c m)) plan.copiers
+  copies-are = size-flat P copied_at (copied_size c b style plan (check_predicate c m)) plan.copiers
       (λ i. (
-      let u = slot_at c b style plan i in
-      ap (λ k. length (bytes_behind (all_parts (map P (copy_parts (order_numbers c names b) b k style (Var 0) (Var u)))))) (depth-is c names b style has m plan at)
-      ∙ size-copies v (order_numbers c names b) b slots-are rest u (place_size c b style plan 0 u) (place_size c b style plan 5 u) (place-here c names b style has m plan at u)
-      (ap (λ w. length (word_at (ws ++ w ∷ []) u)) slots-are.x ∙ place-within c names b style has m plan at u) style
+          let u = slot_at c b style plan i in
+          ap (λ k. length (bytes_behind (all_parts (map P (copy_parts (order_numbers c names b) b k style (Var 0) (Var u)))))) (depth-is c names b style has m plan at)
+          ∙ size-copies v (order_numbers c names b) b slots-are rest u (place_size c b style plan 0 u) (place_size c b style plan 5 u) (place-here c names b style has m plan at u)
+          (ap (λ w. length (word_at (ws ++ w ∷ []) u)) slots-are.x ∙ place-within c names b style has m plan at u) style
       ))
 
-  size-split : size (effect_part v (E.And (splitting c names b style m plan)) (map (variable v) params)) ≡ split_size c b style plan m
+  size-split : size (effect_part v (E.And (splitting c names b style m plan)) (map (variable v) params)) ≡ split_size c b style plan (check_predicate c m)
   size-split =
       let held = held_task c names b style m plan in
       let one = map (λ k. E.Delete (is_free c names b style k)) (numbers 1 n) in
@@ -199,25 +199,25 @@ module _ (c : Compiled) (names : List Word) (b : ℕ) (style : Style) (has : Has
       let s4 = copies-are in
       ap size (both-is all)
       ∙ headed-all (codes "and") 3 (all_parts (map P all))
-      (6 + task_size c b style plan + (n * 24 + all_digits n) + children_size c b style plan m 0 plan.schema.children + sum_by (pair_size c b style plan m) plan.schema.pairs + sum_by (copied_size c b style plan m) plan.copiers)
-      refl (omega arith)
+          (6 + task_size c b style plan + (n * 24 + all_digits n) + children_size c b style plan (check_predicate c m) 0 plan.schema.children + sum_by (pair_size c b style plan (check_predicate c m)) plan.schema.pairs + sum_by (copied_size c b style plan (check_predicate c m)) plan.copiers)
+          refl (omega arith)
 
-  size-method_eff : (children : List Child) → size (effect_part v (E.And (method_eff c names b style m plan children)) (map (variable v) params)) ≡ eff_size c b style plan m children
+  size-method_eff : (children : List Child) → size (effect_part v (E.And (method_eff c names b style m plan children)) (map (variable v) params)) ≡ eff_size c b style plan (check_predicate c m) children
   size-method_eff [] = size-free
   size-method_eff (child ∷ children) = size-split
 
-  size-name : length (named names (name names (spec.method_word c names b style m plan m))) ≡ name_size c b style plan m m
+  size-name : length (named names (name names (spec.method_word c names b style m plan m))) ≡ name_size c b style plan m
   size-name = go m (subst (λ z. Has names (W.method_word c z plan.schema.name)) (let e : 0 + m ≡ m = omega arith in e) (known c names b style has m plan at).word)
     where
-      go : (k : ℕ) → Has names (W.method_word c k plan.schema.name) → length (named names (name names (spec.method_word c names b style m plan k))) ≡ name_size c b style plan m k
+      go : (k : ℕ) → Has names (W.method_word c k plan.schema.name) → length (named names (name names (spec.method_word c names b style m plan k))) ≡ name_size c b style plan k
       go zero h = ap length (named-name (codes "htn_start") names h)
       go (suc k) h = ap length (named-name (codes "htn_m_" ++ own_word c plan.schema.name) names h) ∙ length-append (codes "htn_m_") (own_word c plan.schema.name) ∙ ap (λ z. 6 + z) (own-is c b v are plan.schema.name)
 
-  pub size-method : size (action_part v (encoded_method c names b style m plan)) + 1 ≡ method_size c b style plan m
+  pub size-method : size (action_part v (encoded_method c names b style m plan)) + 1 ≡ method_size c b style plan (check_predicate c m) m
   size-method =
-      size-action c names b style has (encoded_method c names b style m plan) (name_size c b style plan m m) (20 + (n * 18 + all_digits n) + sum_by (param_size c) plan.schema.params)
-      (pre_size c b style plan) (eff_size c b style plan m plan.schema.children)
-      size-name (size-method_params c names b style has m plan at) (size-method_pre c names b style has m plan at) (size-method_eff plan.schema.children)
+      size-action c names b style has (encoded_method c names b style m plan) (name_size c b style plan m) (20 + (n * 18 + all_digits n) + sum_by (param_size c) plan.schema.params)
+          (pre_size c b style plan) (eff_size c b style plan (check_predicate c m) plan.schema.children)
+          size-name (size-method_params c names b style has m plan at) (size-method_pre c names b style has m plan at) (size-method_eff plan.schema.children)
 
 -- the actions of the methods, from number m on
 pub size-methods : (c : Compiled) (names : List Word) (b : ℕ) (style : Style) → HasEncodedWords c b names → (taken plans : List MethodPlan) (m : ℕ) → m ≡ length taken → taken ++ plans ≡ c.methods

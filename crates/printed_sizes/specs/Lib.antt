@@ -5,4 +5,5 @@ pub mod Slots
 pub mod Sections
 pub mod Works
 pub mod Methods
+pub mod Domains
 pub mod Frames

@@ -65,12 +65,16 @@ module _ (c : Compiled) (b : ℕ) (style : Style) (plan : MethodPlan) where
       6 + (task_size + waiting_size b style + (spare * 18 + all_digits spare) + differ_size (numbers 1 spare)
       + sum_by test_size plan.schema.constraints + sum_by guard_size plan.guards + tested_size)
 
-  -- m: the number of the method
-  module _ (m : ℕ) where
+  abbrev pub name_size : ℕ → ℕ
+  name_size zero = 9
+  name_size (suc k) = 6 + own_size c plan.schema.name
+
+  -- check: the predicate of the method's check
+  module _ (check : ℕ) where
     abbrev pub child_head : Head → ℕ
     child_head (Task t) = head_size c (task_predicate c t)
     child_head (Action a) = head_size c (action_predicate c a)
-    child_head Check = head_size c (check_predicate c m)
+    child_head Check = head_size c check
 
     -- the children from number i on
     abbrev pub children_size : ℕ → List Child → ℕ
@@ -92,14 +96,11 @@ module _ (c : Compiled) (b : ℕ) (style : Style) (plan : MethodPlan) where
     eff_size [] = 6 + freeing_size c b style task_size
     eff_size (child ∷ children) = split_size
 
-    abbrev pub name_size : ℕ → ℕ
-    name_size zero = 9
-    name_size (suc k) = 6 + own_size c plan.schema.name
-
-    abbrev pub method_size : ℕ
-    method_size = line_size c b style (name_size m) (20 + (spare * 18 + all_digits spare) + sum_by (param_size c) plan.schema.params) pre_size (eff_size plan.schema.children)
+    -- m: the number of the method
+    abbrev pub method_size : ℕ → ℕ
+    method_size m = line_size c b style (name_size m) (20 + (spare * 18 + all_digits spare) + sum_by (param_size c) plan.schema.params) pre_size (eff_size plan.schema.children)
 
 -- the lines of the methods from number m on
 abbrev pub methods_size : Compiled → ℕ → Style → ℕ → List MethodPlan → ℕ
 methods_size c b style m [] = 0
-methods_size c b style m (plan ∷ plans) = method_size c b style plan m + methods_size c b style (suc m) plans
+methods_size c b style m (plan ∷ plans) = method_size c b style plan (check_predicate c m) m + methods_size c b style (suc m) plans
