@@ -19,5 +19,6 @@ pub mod GuardSizes
 -- The actions of methods.
 pub mod MethodSizes
 pub mod MethodEffects
--- The whole domain text.
+-- The whole texts.
 pub mod DomainSizes
+pub mod ProblemSizes

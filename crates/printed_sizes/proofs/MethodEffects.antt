@@ -124,11 +124,11 @@ module _ (c : Compiled) (names : List Word) (b : ℕ) (style : Style) (has : Has
   taken-are =
       size-of_numbers P (λ k. E.Delete (is_free c names b style k)) (λ k. 24 + digits k) 1 n
       (λ k l u. (
-          let e = ap size (effect-Delete v (is_free c names b style k) ws) in
-          let f = headed-one (codes "not") 3 (applied_part v ws (free_predicate c) (Var k ∷ [])) refl in
-          let g = free-is c names b style has m plan at k in
-          let h = new-place c names b style has m plan at k (omega arith) u in
-          omega arith
+      let e = ap size (effect-Delete v (is_free c names b style k) ws) in
+      let f = headed-one (codes "not") 3 (applied_part v ws (free_predicate c) (Var k ∷ [])) refl in
+      let g = free-is c names b style has m plan at k in
+      let h = new-place c names b style has m plan at k (omega arith) u in
+      omega arith
       ))
       ∙ sum-digits 24 1 n
 
@@ -159,13 +159,13 @@ module _ (c : Compiled) (names : List Word) (b : ℕ) (style : Style) (has : Has
   pairs-are : length (bytes_behind (all_parts (map P (map pair_at plan.schema.pairs)))) ≡ sum_by (pair_size c b style plan (check_predicate c m)) plan.schema.pairs
   pairs-are = size-of_each P pair_at (pair_size c b style plan (check_predicate c m)) plan.schema.pairs
       (λ p k. (
-          let x = slot_at c b style plan p.first in
-          let y = slot_at c b style plan p.then in
-          let e = ap size (effect-Add v (pair_of (order_numbers c names b) b (Var x) (Var y)) ws) in
-          let f = headed-two (word_at v.predicates (before_predicate c)) 10 (term_part v ws (Var x)) (term_part v ws (Var y)) (ap length slots-are.before) in
-          let g = place-here c names b style has m plan at x in
-          let h = place-here c names b style has m plan at y in
-          omega arith
+      let x = slot_at c b style plan p.first in
+      let y = slot_at c b style plan p.then in
+      let e = ap size (effect-Add v (pair_of (order_numbers c names b) b (Var x) (Var y)) ws) in
+      let f = headed-two (word_at v.predicates (before_predicate c)) 10 (term_part v ws (Var x)) (term_part v ws (Var y)) (ap length slots-are.before) in
+      let g = place-here c names b style has m plan at x in
+      let h = place-here c names b style has m plan at y in
+      omega arith
       ))
 
   abbrev copied_at : ℕ → List Effect
@@ -174,10 +174,10 @@ module _ (c : Compiled) (names : List Word) (b : ℕ) (style : Style) (has : Has
   copies-are : length (bytes_behind (all_parts (map P (flat_map copied_at plan.copiers)))) ≡ sum_by (copied_size c b style plan (check_predicate c m)) plan.copiers
   copies-are = size-flat P copied_at (copied_size c b style plan (check_predicate c m)) plan.copiers
       (λ i. (
-          let u = slot_at c b style plan i in
-          ap (λ k. length (bytes_behind (all_parts (map P (copy_parts (order_numbers c names b) b k style (Var 0) (Var u)))))) (depth-is c names b style has m plan at)
-          ∙ size-copies v (order_numbers c names b) b slots-are rest u (place_size c b style plan 0 u) (place_size c b style plan 5 u) (place-here c names b style has m plan at u)
-          (ap (λ w. length (word_at (ws ++ w ∷ []) u)) slots-are.x ∙ place-within c names b style has m plan at u) style
+      let u = slot_at c b style plan i in
+      ap (λ k. length (bytes_behind (all_parts (map P (copy_parts (order_numbers c names b) b k style (Var 0) (Var u)))))) (depth-is c names b style has m plan at)
+      ∙ size-copies v (order_numbers c names b) b slots-are rest u (place_size c b style plan 0 u) (place_size c b style plan 5 u) (place-here c names b style has m plan at u)
+      (ap (λ w. length (word_at (ws ++ w ∷ []) u)) slots-are.x ∙ place-within c names b style has m plan at u) style
       ))
 
   size-split : size (effect_part v (E.And (splitting c names b style m plan)) (map (variable v) params)) ≡ split_size c b style plan (check_predicate c m)
@@ -199,8 +199,8 @@ module _ (c : Compiled) (names : List Word) (b : ℕ) (style : Style) (has : Has
       let s4 = copies-are in
       ap size (both-is all)
       ∙ headed-all (codes "and") 3 (all_parts (map P all))
-          (6 + task_size c b style plan + (n * 24 + all_digits n) + children_size c b style plan (check_predicate c m) 0 plan.schema.children + sum_by (pair_size c b style plan (check_predicate c m)) plan.schema.pairs + sum_by (copied_size c b style plan (check_predicate c m)) plan.copiers)
-          refl (omega arith)
+      (6 + task_size c b style plan + (n * 24 + all_digits n) + children_size c b style plan (check_predicate c m) 0 plan.schema.children + sum_by (pair_size c b style plan (check_predicate c m)) plan.schema.pairs + sum_by (copied_size c b style plan (check_predicate c m)) plan.copiers)
+      refl (omega arith)
 
   size-method_eff : (children : List Child) → size (effect_part v (E.And (method_eff c names b style m plan children)) (map (variable v) params)) ≡ eff_size c b style plan (check_predicate c m) children
   size-method_eff [] = size-free
@@ -216,8 +216,8 @@ module _ (c : Compiled) (names : List Word) (b : ℕ) (style : Style) (has : Has
   pub size-method : size (action_part v (encoded_method c names b style m plan)) + 1 ≡ method_size c b style plan (check_predicate c m) m
   size-method =
       size-action c names b style has (encoded_method c names b style m plan) (name_size c b style plan m) (20 + (n * 18 + all_digits n) + sum_by (param_size c) plan.schema.params)
-          (pre_size c b style plan) (eff_size c b style plan (check_predicate c m) plan.schema.children)
-          size-name (size-method_params c names b style has m plan at) (size-method_pre c names b style has m plan at) (size-method_eff plan.schema.children)
+      (pre_size c b style plan) (eff_size c b style plan (check_predicate c m) plan.schema.children)
+      size-name (size-method_params c names b style has m plan at) (size-method_pre c names b style has m plan at) (size-method_eff plan.schema.children)
 
 -- the actions of the methods, from number m on
 pub size-methods : (c : Compiled) (names : List Word) (b : ℕ) (style : Style) → HasEncodedWords c b names → (taken plans : List MethodPlan) (m : ℕ) → m ≡ length taken → taken ++ plans ≡ c.methods

@@ -239,17 +239,17 @@ module _ (c : Compiled) (names : List Word) (b : ℕ) (style : Style) (has : Has
       let j = size-joined P (map (λ k. Not (Equal (Var i) (Var k))) (numbers (suc i) n)) (differ (numbers (suc i) n)) in
       let r = differs-are (suc i) n (omega arith) (omega arith) in
       let e = size-of_numbers P (λ k. Not (Equal (Var i) (Var k))) (λ k. 24 + digits i + digits k) (suc i) n
-          (λ k a d. (
-              let f = ap size (part-Not v (Equal (Var i) (Var k)) method_words) in
-              let g = headed-one (codes "not") 3 (formula_part v (Equal (Var i) (Var k)) method_words) refl in
-              let h = ap size (part-Equal v (Var i) (Var k) method_words) in
-              let o = headed-two (codes "=") 1 (term_part v method_words (Var i)) (term_part v method_words (Var k)) refl in
-              let p = place-here i in
-              let q = place-here k in
-              let s = new-place i l (omega arith) in
-              let t = new-place k (omega arith) (omega arith) in
-              omega arith
-          )) in
+      (λ k a d. (
+      let f = ap size (part-Not v (Equal (Var i) (Var k)) method_words) in
+      let g = headed-one (codes "not") 3 (formula_part v (Equal (Var i) (Var k)) method_words) refl in
+      let h = ap size (part-Equal v (Var i) (Var k) method_words) in
+      let o = headed-two (codes "=") 1 (term_part v method_words (Var i)) (term_part v method_words (Var k)) refl in
+      let p = place-here i in
+      let q = place-here k in
+      let s = new-place i l (omega arith) in
+      let t = new-place k (omega arith) (omega arith) in
+      omega arith
+      )) in
       omega arith
 
   tests-are : length (bytes_behind (all_parts (map P (constraints c names b style m plan)))) ≡ sum_by (test_size c b style plan) plan.schema.constraints
@@ -275,12 +275,12 @@ module _ (c : Compiled) (names : List Word) (b : ℕ) (style : Style) (has : Has
   guards-are =
       size-of_each P (λ (g : Guard). Holds (record { predicate = guard_predicate c g.ty; args = put g.term ∷ [] })) (guard_size c b style plan) plan.guards
       (λ g k. (
-          let a : Atom = record { predicate = guard_predicate c g.ty; args = put g.term ∷ [] } in
-          let e = ap size (part-Holds v a method_words) in
-          let w = ap length (ap (λ ws. word_at ws (guard_predicate c g.ty)) are.predicates ∙ at-guard c g.ty (guard_type c m plan g at k)) in
-          let f = headed-one (word_at v.predicates (guard_predicate c g.ty)) (length (guard_word c [] 0 g.ty)) (term_part v method_words (put g.term)) w in
-          let h = term-is g.term in
-          omega arith
+      let a : Atom = record { predicate = guard_predicate c g.ty; args = put g.term ∷ [] } in
+      let e = ap size (part-Holds v a method_words) in
+      let w = ap length (ap (λ ws. word_at ws (guard_predicate c g.ty)) are.predicates ∙ at-guard c g.ty (guard_type c m plan g at k)) in
+      let f = headed-one (word_at v.predicates (guard_predicate c g.ty)) (length (guard_word c [] 0 g.ty)) (term_part v method_words (put g.term)) w in
+      let h = term-is g.term in
+      omega arith
       ))
 
   tested-is : length (bytes_behind (all_parts (map P (tested c names b style m plan)))) ≡ tested_size c b style plan
@@ -326,5 +326,5 @@ module _ (c : Compiled) (names : List Word) (b : ℕ) (style : Style) (has : Has
       let s6 = tested-is in
       ap size (part-And v all (map (variable v) method_params) ∙ ap (λ s. headed (codes "and") (all_parts (map (λ f. formula_part v f s) all))) scope-is)
       ∙ headed-all (codes "and") 3 (all_parts (map P all))
-          (task_size c b style plan + waiting_size b style + (new * 18 + all_digits new) + differ_size (numbers 1 new) + sum_by (test_size c b style plan) plan.schema.constraints + sum_by (guard_size c b style plan) plan.guards + tested_size c b style plan)
-          refl (omega arith)
+      (task_size c b style plan + waiting_size b style + (new * 18 + all_digits new) + differ_size (numbers 1 new) + sum_by (test_size c b style plan) plan.schema.constraints + sum_by (guard_size c b style plan) plan.guards + tested_size c b style plan)
+      refl (omega arith)

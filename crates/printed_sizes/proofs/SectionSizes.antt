@@ -127,17 +127,17 @@ module _ (c : Compiled) (names : List Word) (b : ℕ) (has : HasEncodedWords c b
       let l = each-right HasIt (map own c.hddl.objects) slots (known_objects c b names has) in
       let j = size-typed_joined (object_words v) (map (printed_object c names b) c.hddl.objects) (map (printed_slot c names b) (numbers 1 b)) in
       let e = size-typed_each (object_words v) (printed_object c names b) (source_object_size c) c.hddl.objects
-          (λ x m. (
-              let n = ap length (named-name (own x) names (each-has HasIt (map own c.hddl.objects) (own x) k (has-to_map own c.hddl.objects x m))) ∙ own-is c b v are x.name in
-              let t = type-is x.ty in
-              omega arith
-          )) in
+      (λ x m. (
+      let n = ap length (named-name (own x) names (each-has HasIt (map own c.hddl.objects) (own x) k (has-to_map own c.hddl.objects x m))) ∙ own-is c b v are x.name in
+      let t = type-is x.ty in
+      omega arith
+      )) in
       let f = size-typed_each (object_words v) (printed_slot c names b) (λ k. 17 + digits k) (numbers 1 b)
-          (λ x m. (
-              let n = ap length (named-name (slot_word x) names (each-has HasIt slots (slot_word x) l (has-to_map slot_word (numbers 1 b) x m))) ∙ size-slot x in
-              let t : length (word_at v.types 1) ≡ 8 = ap (λ ws. length (word_at ws 1)) are.types in
-              omega arith
-          )) in
+      (λ x m. (
+      let n = ap length (named-name (slot_word x) names (each-has HasIt slots (slot_word x) l (has-to_map slot_word (numbers 1 b) x m))) ∙ size-slot x in
+      let t : length (word_at v.types 1) ≡ 8 = ap (λ ws. length (word_at ws 1)) are.types in
+      omega arith
+      )) in
       let d = sum-digits 17 1 b in
       omega arith
 
@@ -195,8 +195,8 @@ module _ (c : Compiled) (names : List Word) (b : ℕ) (has : HasEncodedWords c b
   first-is : length (bytes_behind (all_parts (map P (first_group c names b)))) ≡ sum_by (predicate_size c) c.hddl.predicates
   first-is = size-made P (printed_predicate c names b) (predicate_size c) c.hddl.predicates
       (λ p m. (
-          let k = each-part HasIt (λ (p : Predicate). own_word c p.name ∷ W.param_words c.hddl.names p.params) c.hddl.predicates p (known_source_group c b names has) m in
-          predicate-is (printed_predicate c names b p) (own_size c p.name) (sum_by (param_size c) p.params) (ap length (named-name (own_word c p.name) names k.0) ∙ own-is c b v are p.name) (size-params c b v are p.params k.1)
+      let k = each-part HasIt (λ (p : Predicate). own_word c p.name ∷ W.param_words c.hddl.names p.params) c.hddl.predicates p (known_source_group c b names has) m in
+      predicate-is (printed_predicate c names b p) (own_size c p.name) (sum_by (param_size c) p.params) (ap length (named-name (own_word c p.name) names k.0) ∙ own-is c b v are p.name) (size-params c b v are p.params k.1)
       ))
 
   tasks-are : length (bytes_behind (all_parts (map P (map (held_task c names b) c.hddl.tasks)))) ≡ sum_by (task_predicate_size c) c.hddl.tasks
@@ -233,11 +233,11 @@ module _ (c : Compiled) (names : List Word) (b : ℕ) (has : HasEncodedWords c b
   guards-are : length (bytes_behind (all_parts (map P (guard_group c names b)))) ≡ sum_by (guard_predicate_size c) (guard_types c)
   guards-are = size-made P (guarding c names b) (guard_predicate_size c) (guard_types c)
       (λ ty m. (
-          let w = guard_word c [] 0 ty in
-          let k = each-has HasIt (map (guard_word c [] 0) (guard_types c)) w (known_guard_group c b names has) (has-to_map (guard_word c [] 0) (guard_types c) ty m) in
-          let e = generated-is (codes "htn_a1") 2 6 10 (known_variables c b names has).1.1.0 refl object-kind [] in
-          let d = predicate-is (guarding c names b ty) (length w) 21 (ap length (named-name w names k)) e in
-          omega arith
+      let w = guard_word c [] 0 ty in
+      let k = each-has HasIt (map (guard_word c [] 0) (guard_types c)) w (known_guard_group c b names has) (has-to_map (guard_word c [] 0) (guard_types c) ty m) in
+      let e = generated-is (codes "htn_a1") 2 6 10 (known_variables c b names has).1.1.0 refl object-kind [] in
+      let d = predicate-is (guarding c names b ty) (length w) 21 (ap length (named-name w names k)) e in
+      omega arith
       ))
 
   pub size-predicates : length (bytes_behind (all_parts (map P (encoded_predicates c names b)))) ≡ predicates_size c

@@ -6,4 +6,5 @@ pub mod Sections
 pub mod Works
 pub mod Methods
 pub mod Domains
+pub mod Problems
 pub mod Frames

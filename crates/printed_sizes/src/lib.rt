@@ -8,6 +8,7 @@ mod counts;
 mod effects;
 mod formulas;
 mod frame;
+mod laws;
 mod predicates;
 mod scope;
 mod sections;
@@ -16,3 +17,5 @@ mod terms;
 mod typed_lists;
 mod words;
 mod works;
+
+pub use laws::lengths_of_texts;

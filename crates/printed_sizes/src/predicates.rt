@@ -41,7 +41,10 @@ fn actions_size(c: &Compiled, actions: &[ActionSchema]) -> Result<u64, Memory>
 {
     let mut total: u64 = 0;
     for action in actions {
-        total = plus(total, held_predicate_size(c, action.name, action.params.len())?);
+        total = plus(
+            total,
+            held_predicate_size(c, action.name, action.params.len())?,
+        );
     }
     Ok(total)
 }
