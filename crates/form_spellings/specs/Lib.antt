@@ -1,0 +1,5 @@
+pub mod Fresh
+pub mod SpellsSome
+pub mod InTable
+pub mod Bound
+pub mod SpellsBound

@@ -1,0 +1,10 @@
+pub mod Capped
+pub mod Words
+pub mod Formulas
+pub mod Slots
+pub mod Sections
+pub mod Works
+pub mod Methods
+pub mod Domains
+pub mod Problems
+pub mod Frames

@@ -1,0 +1,59 @@
+ghost use Rattle.std.specs.Prelude.{◌≡◌, sum_by};
+ghost use Rattle.printed_sizes.specs.Capped.{capped};
+ghost use Rattle.printed_sizes.specs.Formulas as spec;
+ghost use Rattle.printed_sizes.specs.Frames.{IsFrame, sizes_in_force, sizes_within};
+
+use crate::counts::plus;
+use crate::formulas::formula_size;
+use crate::frame::Frame;
+use crate::scope::Scope;
+use crate::terms::atom_size;
+use crate::typed_lists::variables_size;
+use plan_model::{Effect, Param};
+
+/// The length of a printed effect of the source behind a space.
+#[cycle(effects)]
+pub(crate) fn effect_size(frame: &Frame<'_>, scope: &Scope<'_>, effect: &Effect) -> u64
+    requires { IsFrame frame.now }
+    ensures { result ≡ capped (spec.effect_size frame.now.compiled.now frame.now.slots effect.now (sizes_in_force frame.now.compiled.now scope.now)) }
+{
+    match effect {
+        Effect::Add(atom) => atom_size(frame, scope, atom),
+        Effect::Delete(atom) => plus(6, atom_size(frame, scope, atom)),
+        Effect::And(parts) => plus(6, effects_size(frame, scope, parts.as_slice())),
+        Effect::Forall(params, body) => {
+            let start = plus(9, variables_size(frame.compiled, params.as_slice()));
+            plus(
+                start,
+                size_within(frame, scope, params.as_slice(), body.get()),
+            )
+        }
+        Effect::When(condition, body) => {
+            let start = plus(7, formula_size(frame, scope, condition));
+            plus(start, effect_size(frame, scope, body.get()))
+        }
+    }
+}
+
+/// The length of printed effects, each behind a space.
+#[cycle(effects)]
+fn effects_size(frame: &Frame<'_>, scope: &Scope<'_>, effects: &[Effect]) -> u64
+    requires { IsFrame frame.now }
+    ensures { result ≡ capped (sum_by (λ e. spec.effect_size frame.now.compiled.now frame.now.slots e (sizes_in_force frame.now.compiled.now scope.now)) effects.now) }
+{
+    let mut total: u64 = 0;
+    for effect in effects {
+        total = plus(total, effect_size(frame, scope, effect));
+    }
+    total
+}
+
+/// The length of a printed effect behind a space, with these variables in force too.
+#[cycle(effects)]
+fn size_within(frame: &Frame<'_>, scope: &Scope<'_>, params: &[Param], effect: &Effect) -> u64
+    requires { IsFrame frame.now }
+    ensures { result ≡ capped (spec.effect_size frame.now.compiled.now frame.now.slots effect.now (sizes_within frame.now.compiled.now scope.now params.now)) }
+{
+    let within = Scope::Within(&*scope, &*params);
+    effect_size(frame, &within, effect)
+}

@@ -1,0 +1,18 @@
+//! The laws of the lengths of printed texts, each the contract of a function that does nothing.
+
+ghost use Rattle.std.specs.Prelude.{◌≡◌, ℕ, length};
+ghost use Rattle.plan_texts.specs.PrintedTexts.{domain_text, problem_text};
+ghost use Rattle.plan_meaning.specs.EncodedValue.{IsEncoded};
+ghost use Rattle.encoded_words.specs.EncodedWords.{HasEncodedWords};
+ghost use Rattle.printed_sizes.specs.Domains.{domain_size};
+ghost use Rattle.printed_sizes.specs.Problems.{IsProblemSize};
+
+use plan_model::{Compiled, Pddl, Style};
+
+/// How long the two texts of an encoded value are, over a table that has all its words.
+pub fn lengths_of_texts(compiled: &Compiled, slots: u32, style: &Style, value: &Pddl)
+    requires encoded { IsEncoded compiled.now slots style.now value.now }
+    requires words { HasEncodedWords compiled.now slots value.now.names }
+    ensures domain { length (domain_text value.now) ≡ domain_size compiled.now slots style.now }
+    ensures problem { (n : ℕ) → IsProblemSize compiled.now slots style.now n → length (problem_text value.now) ≡ n }
+{}

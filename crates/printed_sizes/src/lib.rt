@@ -1,0 +1,21 @@
+//! The lengths of the parts of the two printed texts of a compiled problem, with so many slots, without the texts.
+//!
+//! It stands on the values of `plan_model` and on the definitions of `plan_texts`, `plan_meaning` and `encoded_words`.
+#![tactic(auto)]
+
+mod conditions;
+mod counts;
+mod effects;
+mod formulas;
+mod frame;
+mod laws;
+mod predicates;
+mod scope;
+mod sections;
+mod slots;
+mod terms;
+mod typed_lists;
+mod words;
+mod works;
+
+pub use laws::lengths_of_texts;

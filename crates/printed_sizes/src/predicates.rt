@@ -1,0 +1,102 @@
+ghost use Rattle.std.specs.Prelude.{◌≡◌, ◌+◌, [], length, slice_index_or, sum_by, IfOk};
+ghost use Rattle.plan_meaning.specs.EncodedNames.{guard_word};
+ghost use Rattle.printed_sizes.specs.Capped.{capped};
+ghost use Rattle.printed_sizes.specs.Sections as spec;
+ghost use Rattle.printed_sizes.specs.Slots as slots;
+
+use crate::counts::{all_digits, digits, number, plus, times};
+use crate::sections::source_predicates_size;
+use crate::words::own_size;
+use htn_base::{Memory, Name};
+use plan_model::{ActionSchema, Compiled, MethodPlan, TaskSchema};
+
+/// The length of the predicate of a slot that holds something with so many parameters, behind a space.
+fn held_predicate_size(c: &Compiled, name: Name, len: usize) -> Result<u64, Memory>
+    ensures { IfOk result (λ size. size ≡ capped (spec.held_predicate_size c.now name len)) }
+{
+    let count = number(len)?;
+    Ok(counted_size(c, name, count))
+}
+
+fn counted_size(c: &Compiled, name: Name, count: u32) -> u64
+    ensures { result ≡ capped (spec.held_predicate_size c.now name count) }
+{
+    let start = plus(27, own_size(c, name));
+    let numbered = plus(times(count, 20), all_digits(count));
+    plus(start, numbered)
+}
+
+fn tasks_size(c: &Compiled, tasks: &[TaskSchema]) -> Result<u64, Memory>
+    ensures { IfOk result (λ size. size ≡ capped (sum_by (spec.task_predicate_size c.now) tasks.now)) }
+{
+    let mut total: u64 = 0;
+    for task in tasks {
+        total = plus(total, held_predicate_size(c, task.name, task.params.len())?);
+    }
+    Ok(total)
+}
+
+fn actions_size(c: &Compiled, actions: &[ActionSchema]) -> Result<u64, Memory>
+    ensures { IfOk result (λ size. size ≡ capped (sum_by (spec.action_predicate_size c.now) actions.now)) }
+{
+    let mut total: u64 = 0;
+    for action in actions {
+        total = plus(
+            total,
+            held_predicate_size(c, action.name, action.params.len())?,
+        );
+    }
+    Ok(total)
+}
+
+fn check_size(c: &Compiled, plan: &MethodPlan) -> Result<u64, Memory>
+    ensures { IfOk result (λ size. size ≡ capped (spec.check_predicate_size c.now plan.now)) }
+{
+    if plan.checked {
+        held_predicate_size(c, plan.schema.name, plan.schema.params.len())
+    } else {
+        Ok(0)
+    }
+}
+
+fn checks_size(c: &Compiled, methods: &[MethodPlan]) -> Result<u64, Memory>
+    ensures { IfOk result (λ size. size ≡ capped (sum_by (spec.check_predicate_size c.now) methods.now)) }
+{
+    let mut total: u64 = 0;
+    for plan in methods {
+        total = plus(total, check_size(c, plan)?);
+    }
+    Ok(total)
+}
+
+fn type_name(c: &Compiled, ty: u32) -> Name
+    ensures { result ≡ slice_index_or c.now.hddl.types.names ty (record { number = 0 }) }
+{
+    match c.hddl.types.names.get(ty as usize) {
+        Some(name) => *name,
+        None => Name { number: 0 },
+    }
+}
+
+/// The length of the word of a guard's predicate.
+pub(crate) fn guard_word_size(c: &Compiled, ty: u32) -> Result<u64, Memory>
+    ensures { IfOk result (λ size. size ≡ capped (length (guard_word c.now [] 0 ty))) }
+{
+    let count = c.hddl.types.names.len();
+    if (ty as usize) < count {
+        Ok(plus(7, own_size(c, type_name(c, ty))))
+    } else {
+        let place = number(ty as usize - count + 1)?;
+        Ok(plus(7, digits(place)))
+    }
+}
+
+fn guards_size(c: &Compiled, types: &[u32]) -> Result<u64, Memory>
+    ensures { IfOk result (λ size. size ≡ capped (sum_by (spec.guard_predicate_size c.now) types.now)) }
+{
+    let mut total: u64 = 0;
+    for ty in types {
+        total = plus(total, plus(24, guard_word_size(c, *ty)?));
+    }
+    Ok(total)
+}
