@@ -1,6 +1,7 @@
 pub mod Texts
 pub mod Inputs
 pub mod Built
+pub mod Printing
 pub mod Refusal
 pub mod Line
 pub mod Sent

@@ -6,8 +6,6 @@ use Rattle.plan_model.specs.declared.values.Compiled.{Compiled}
 use Rattle.plan_model.specs.declared.values.Pddl.{Pddl}
 use Rattle.plan_texts.specs.FirstSeen.{IsHddlOf}
 use Rattle.plan_texts.specs.PrintedTexts.{domain_text, problem_text}
-use Rattle.plan_meaning.specs.Compilation.{IsCompiled}
-use Rattle.plan_meaning.specs.EncodedValue.{IsEncoded}
 use Rattle.plan_meaning.specs.Laws.{AreOrdered}
 use Rattle.encoded_words.specs.EncodedWords.{HasEncodedWords}
 use Rattle.slot_plans.specs.Pieces.{IsPrinted}
@@ -46,11 +44,12 @@ module _ (domain problem : List ℕ) (manner : Manner) where
     pub domain_fits : length texts.domain ≤ longest
     pub problem_fits : length texts.problem ≤ longest
 
-  -- The input texts spell a problem of which each encoded value, with all its words, has a text that is too long.
+  -- One of the two texts of a value is too long that is printed for a problem which the two input texts spell.
   pub record AreTooLong (n : ℕ) : Type 0 where
     pub read : Hddl
     pub compiled : Compiled
+    pub value : Pddl
     pub spelled : IsHddlOf domain problem read
-    pub compiled_is : IsCompiled read manner.checks compiled
-    pub too_long : (value : Pddl) → IsEncoded compiled manner.slots manner.style value → HasEncodedWords compiled manner.slots value.names
-        → IsFirstTooLong (domain_text value) (problem_text value) n
+    pub printed : IsPrinted read manner.checks compiled manner.slots manner.style value
+    pub words : HasEncodedWords compiled manner.slots value.names
+    pub first : IsFirstTooLong (domain_text value) (problem_text value) n
