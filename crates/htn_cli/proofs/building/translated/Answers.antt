@@ -1,0 +1,5 @@
+use Rattle.htn_cli.proofs.Results.{if_ok_too}
+use Rattle.htn_cli.proofs.building.translated.Goals as goal
+
+pub returns : goal.returns
+returns c = if_ok_too c.printed.result (λ built prints. (c.in_ok-compiled.compiled, c.in_ok-compiled.ensures.compiled, prints)) c.printed.ensures
