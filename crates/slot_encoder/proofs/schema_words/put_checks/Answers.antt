@@ -1,4 +1,4 @@
-use Rattle.std.proofs.Common.{codes, ap, ◌∙◌}
+use Rattle.std.proofs.Common.{ap}
 use Rattle.slot_encoder.specs.Vocabulary.{words_if_checked}
 use Rattle.slot_encoder.proofs.Gained.{gains-none, gains-of, gains-next, gains-all}
 use Rattle.slot_encoder.proofs.schema_words.put_checks.Goals as goal

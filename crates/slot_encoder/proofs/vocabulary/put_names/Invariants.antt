@@ -1,4 +1,4 @@
-use Rattle.std.proofs.Common.{[], map, take}
+use Rattle.std.proofs.Common.{map, take}
 use Rattle.encoded_words.specs.EncodedWords.{own_word}
 use Rattle.slot_encoder.specs.Vocabulary.{Gains}
 use Rattle.slot_encoder.proofs.vocabulary.put_names.Given as goal

@@ -1,4 +1,3 @@
-use Rattle.std.proofs.Common.{[]}
 use Rattle.plan_model.specs.declared.terms.Param.{Param}
 use Rattle.plan_meaning.specs.SourceParts.{source_word}
 use Rattle.slot_encoder.proofs.Gained.{gains-none, gains-next_word, gains-all_words}

@@ -1,4 +1,4 @@
-use Rattle.std.proofs.Common.{[], map, take}
+use Rattle.std.proofs.Common.{map, take}
 use Rattle.plan_model.specs.declared.terms.Param.{Param}
 use Rattle.plan_meaning.specs.SourceParts.{source_word}
 use Rattle.slot_encoder.specs.Vocabulary.{Gains}

@@ -1,4 +1,4 @@
-use Rattle.std.proofs.Common.{ℕ, ◌++◌, decimal, arith}
+use Rattle.std.proofs.Common.{arith}
 use Rattle.htn_base.specs.Escapes.{slot_word}
 use Rattle.slot_encoder.proofs.Gained.{gains-none, gains-next_number, gains-all_numbers}
 use Rattle.slot_encoder.proofs.vocabulary.put_slots.Goals as goal

@@ -1,4 +1,4 @@
-use Rattle.std.proofs.Common.{◌++◌, map, decimal}
+use Rattle.std.proofs.Common.{map}
 use Rattle.task_networks.specs.Spelling.{numbers}
 use Rattle.htn_base.specs.Escapes.{slot_word}
 use Rattle.slot_encoder.specs.Vocabulary.{Gains}

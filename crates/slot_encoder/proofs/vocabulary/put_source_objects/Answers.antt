@@ -1,4 +1,3 @@
-use Rattle.std.proofs.Common.{[]}
 use Rattle.plan_model.specs.declared.types.Object.{Object}
 use Rattle.encoded_words.specs.EncodedWords.{own_word}
 use Rattle.slot_encoder.proofs.Gained.{gains-none, gains-next_word, gains-all_words}

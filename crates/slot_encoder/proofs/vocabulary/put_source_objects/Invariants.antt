@@ -1,4 +1,4 @@
-use Rattle.std.proofs.Common.{[], map, take}
+use Rattle.std.proofs.Common.{map, take}
 use Rattle.plan_model.specs.declared.types.Object.{Object}
 use Rattle.encoded_words.specs.EncodedWords.{own_word}
 use Rattle.slot_encoder.specs.Vocabulary.{Gains}
