@@ -8,6 +8,8 @@ mod counts;
 mod effects;
 mod formulas;
 mod frame;
+mod guards;
+mod head_list;
 mod laws;
 mod predicates;
 mod scope;
