@@ -22,7 +22,7 @@ folded-join (b ∷ u) w e f = let p = and_parts _ _ e in and_from _ _ p.0 (folde
 plain_letter : (b : ℕ) → is_plain_byte b ≡ true → (is_letter b && (to_ascii_lowercase b == b)) ≡ true
 plain_letter b e = grind (arith, nat_tests)
 
-folded-plain : (w : Word) → list_all is_plain_byte w ≡ true → are_folded w ≡ true
+pub folded-plain : (w : Word) → list_all is_plain_byte w ≡ true → are_folded w ≡ true
 folded-plain [] e = refl
 folded-plain (b ∷ w) e = let p = and_parts _ _ e in and_from _ _ (plain_letter b p.0) (folded-plain w p.1)
 

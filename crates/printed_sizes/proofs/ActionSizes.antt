@@ -1,10 +1,8 @@
 -- The lengths of the printed goal, and of the actions of the source's actions and of checks.
-use Rattle.std.proofs.Common.{ℕ, zero, suc, ◌≡◌, ◌+◌, ◌-◌, ◌<◌, ◌≤◌, Bool, true, false, cond, List, [], ◌∷◌, ◌++◌, map, length, take, filter, slice_get, Some, codes, decimal, refl, ap, sym, subst, ◌∙◌, arith, append_assoc, length-append}
+use Rattle.std.proofs.Common.{ℕ, suc, ◌≡◌, ◌+◌, Bool, true, false, cond, List, [], ◌∷◌, ◌++◌, map, length, take, filter, slice_get, Some, codes, refl, ap, sym, ◌∙◌, arith, append_assoc, length-append}
 use Rattle.std.specs.Prelude.{sum_by}
-use Rattle.std.proofs.lemmas.List.{map-append}
 use Rattle.std.proofs.lemmas.List.Sums.{sum_by-cons}
-use Rattle.htn_base.specs.Escapes.{slot_word}
-use Rattle.text_forms.specs.Lists.{Part, Parts, name as said, group, nothing, part}
+use Rattle.text_forms.specs.Lists.{Part, name as said, group, nothing, part}
 use Rattle.text_forms.specs.Words.{Word, word_at}
 use Rattle.text_forms.specs.Printing.{bytes, bytes_behind, lines, headed}
 use Rattle.task_networks.specs.Spelling.{numbers}
@@ -14,9 +12,7 @@ use Rattle.plan_texts.specs.Printed.{all_parts, kind_part, term_part, applied_pa
 use Rattle.plan_texts.specs.PrintedTexts.{action_part}
 use Rattle.plan_texts.proofs.Equations.{part-Holds, part-And, effect-Delete, effect-Add, effect-And}
 use Rattle.plan_model.specs.declared.options.Style.{Style}
-use Rattle.plan_model.specs.declared.types.Object.{Object}
-use Rattle.plan_model.specs.declared.terms.Term.{Term}
-use Rattle.plan_model.specs.declared.terms.Term.TheVariants.{Var, Obj}
+use Rattle.plan_model.specs.declared.terms.Term.TheVariants.{Var}
 use Rattle.plan_model.specs.declared.terms.Param.{Param}
 use Rattle.plan_model.specs.declared.terms.Atom.{Atom}
 use Rattle.plan_model.specs.declared.formulas.Formula.{Formula}
@@ -26,7 +22,7 @@ use Rattle.plan_model.specs.declared.effects.Effect.TheVariants as E
 use Rattle.plan_model.specs.declared.schemas.ActionSchema.{ActionSchema}
 use Rattle.plan_model.specs.declared.schemas.MethodPlan.{MethodPlan}
 use Rattle.plan_model.specs.declared.values.Compiled.{Compiled}
-use Rattle.plan_meaning.specs.SourceParts.{name, source_word, source_param, source_formula, source_effect}
+use Rattle.plan_meaning.specs.SourceParts.{source_param, source_formula, source_effect}
 use Rattle.plan_meaning.specs.OrderFormulas.{wait_parts, clear_parts, free_parts}
 use Rattle.plan_meaning.specs.EncodedValue.{encoded_source, encoded_checks}
 use Rattle.plan_meaning.specs.EncodedNames.{slot_param, slot_type, checked_methods, first_slot, free_predicate, before_predicate, action_predicate, check_predicate, order_numbers}
@@ -42,9 +38,9 @@ use Rattle.encoded_words.proofs.KnownMethods.{known_method}
 use Rattle.encoded_words.proofs.KnownWords.{known_variables, known_source_actions, known_checks, known_methods}
 use Rattle.encoded_words.proofs.TableWords.{named-name}
 use Rattle.encoded_words.proofs.PrintedWords.{printed_words}
-use Rattle.printed_sizes.specs.Words.{words, head_words, own_size, head_size, slot_size}
+use Rattle.printed_sizes.specs.Words.{head_words, own_size}
 use Rattle.printed_sizes.specs.Formulas.{variable_size, param_size, formula_size, effect_size}
-use Rattle.printed_sizes.specs.Slots.{waiting_size, clearing_size, free_size}
+use Rattle.printed_sizes.specs.Slots.{waiting_size, free_size}
 use Rattle.printed_sizes.specs.Works.{condition_size, change_size, goal_size, line_size, argument_size, held_size, freeing_size, work_size, source_action_size, check_size, if_checked_size}
 use Rattle.printed_sizes.proofs.ListSizes.{size, size-part, size-one, size-headed, headed-all, headed-one, size-group, size-line}
 use Rattle.printed_sizes.proofs.SourceSizes.{HasPrintedWords, kind-printed, variables-printed, own-is, sizes-of, size-params, size-formula}

@@ -1,6 +1,5 @@
 -- The length of the domain text of a printed problem.
 use Rattle.std.proofs.Common.{ℕ, ◌≡◌, ◌+◌, List, [], ◌∷◌, ◌++◌, map, length, codes, refl, ap, ◌∙◌, arith, length-append}
-use Rattle.std.specs.Prelude.{sum_by}
 use Rattle.text_forms.specs.Lists.{Part, Parts, name as said, nothing, part}
 use Rattle.text_forms.specs.Words.{Word}
 use Rattle.text_forms.specs.Printing.{bytes, bytes_behind, lines, headed, page}
@@ -18,10 +17,8 @@ use Rattle.encoded_words.proofs.KnownWords.{known_domain}
 use Rattle.encoded_words.proofs.PrintedWords.{printed_words}
 use Rattle.printed_sizes.specs.Words.{own_size}
 use Rattle.printed_sizes.specs.Sections.{parents_size, objects_size, predicates_size}
-use Rattle.printed_sizes.specs.Works.{source_action_size, if_checked_size}
-use Rattle.printed_sizes.specs.Methods.{methods_size}
 use Rattle.printed_sizes.specs.Domains.{actions_size, domain_size}
-use Rattle.printed_sizes.proofs.ListSizes.{size, size-line, size-one, headed-all}
+use Rattle.printed_sizes.proofs.ListSizes.{size-line, size-one, headed-all}
 use Rattle.printed_sizes.proofs.SourceSizes.{own-is}
 use Rattle.printed_sizes.proofs.PrintedWords.{has-words, words-encoded}
 use Rattle.printed_sizes.proofs.ActionSizes.{size-source, size-checks}

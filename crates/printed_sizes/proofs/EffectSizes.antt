@@ -19,7 +19,7 @@ use Rattle.plan_meaning.specs.EncodedNames.{joined}
 use Rattle.plan_meaning.specs.SourceParts.{moved, source_param, source_formula, effect_layer, source_effect}
 use Rattle.encoded_words.specs.EncodedWords.{param_words, formula_words, effect_words_step, effect_words}
 use Rattle.encoded_words.proofs.Lists.{each-left, each-right}
-use Rattle.printed_sizes.specs.Formulas.{variable_size, params_size, effect_size_step, effect_size}
+use Rattle.printed_sizes.specs.Formulas.{variable_size, effect_size_step, effect_size}
 use Rattle.printed_sizes.proofs.SizeEquations.{effect-size-roll}
 use Rattle.printed_sizes.proofs.ListSizes.{size, size-part, headed-all, headed-one, headed-two}
 use Rattle.printed_sizes.proofs.SourceSizes.{HasPrintedWords, size-variables, size-atom, scope-on, sizes-on, size-formula}

@@ -1,17 +1,14 @@
 -- The places of the predicates' words.
-use Rattle.std.proofs.Common.{ℕ, zero, suc, ◌≡◌, ◌+◌, ◌<◌, true, List, [], ◌∷◌, ◌++◌, map, length, slice_get, Some, unwrap_or, Contains, codes, refl, ap, sym, ◌∙◌, arith}
+use Rattle.std.proofs.Common.{ℕ, ◌≡◌, ◌+◌, true, List, [], ◌∷◌, ◌++◌, map, length, slice_get, Some, unwrap_or, Contains, codes, refl, ap, sym, ◌∙◌, arith}
 use Rattle.text_forms.specs.Words.{Word, word_at}
-use Rattle.htn_base.specs.Escapes.{slot_word}
-use Rattle.task_networks.specs.Spelling.{numbers}
-use Rattle.plan_model.specs.declared.types.Object.{Object}
 use Rattle.plan_model.specs.declared.schemas.Predicate.{Predicate}
 use Rattle.plan_model.specs.declared.schemas.TaskSchema.{TaskSchema}
 use Rattle.plan_model.specs.declared.schemas.ActionSchema.{ActionSchema}
 use Rattle.plan_model.specs.declared.schemas.MethodPlan.{MethodPlan}
 use Rattle.plan_model.specs.declared.values.Compiled.{Compiled}
 use Rattle.plan_texts.proofs.Members.{length-map}
-use Rattle.plan_meaning.specs.EncodedNames.{guard_types, guard_word, checked_methods, top_predicate, free_predicate, before_predicate, first_task, first_action, first_check, first_guard, action_predicate, check_predicate, guard_predicate}
-use Rattle.slot_plans.proofs.ListPlaces.{get_within, get_left, get_right, get_to_map, length-joined}
+use Rattle.plan_meaning.specs.EncodedNames.{guard_types, guard_word, checked_methods, top_predicate, free_predicate, before_predicate, first_action, first_check, first_guard, action_predicate, check_predicate, guard_predicate}
+use Rattle.slot_plans.proofs.ListPlaces.{get_left, get_right, get_to_map, length-joined}
 use Rattle.slot_plans.proofs.KeptItems.{position_at}
 use Rattle.slot_plans.proofs.Predicates.{is_checked, passed}
 use Rattle.text_plans.proofs.Places.{get-word}

@@ -22,3 +22,7 @@ pub mod MethodEffects
 -- The whole texts.
 pub mod DomainSizes
 pub mod ProblemSizes
+-- The types of guards, and the lengths of predicates' words.
+pub mod Once
+pub mod GuardTypes
+pub mod HeadSizes

@@ -1,9 +1,9 @@
 -- The lengths of what methods do, and of their actions.
-use Rattle.std.proofs.Common.{ℕ, zero, suc, ◌≡◌, ◌+◌, ◌-◌, ◌*◌, ◌<◌, Bool, true, false, cond, List, [], ◌∷◌, ◌++◌, map, length, get_or, slice_get, slice_index, Some, codes, refl, ap, sym, subst, ◌∙◌, arith, append_assoc, length-append}
+use Rattle.std.proofs.Common.{ℕ, zero, suc, ◌≡◌, ◌+◌, ◌*◌, Bool, true, false, cond, List, [], ◌∷◌, ◌++◌, map, length, slice_get, slice_index, Some, codes, refl, ap, sym, subst, ◌∙◌, arith, append_assoc, length-append}
 use Rattle.std.specs.Prelude.{sum_by, Option}
 use Rattle.std.specs.List.{flat_map}
 use Rattle.std.proofs.lemmas.List.Sums.{sum_by-cons}
-use Rattle.text_forms.specs.Lists.{Part, Parts}
+use Rattle.text_forms.specs.Lists.{Part}
 use Rattle.text_forms.specs.Words.{Word, word_at}
 use Rattle.text_forms.specs.Printing.{bytes_behind, lines, headed}
 use Rattle.task_networks.specs.Spelling.{numbers, is_heir}
@@ -34,9 +34,8 @@ use Rattle.encoded_words.specs.EncodedWords as W
 use Rattle.encoded_words.specs.EncodedWords.{own_word, HasEncodedWords}
 use Rattle.encoded_words.proofs.TableWords.{named-name}
 use Rattle.encoded_words.proofs.PrintedWords.{printed_words}
-use Rattle.printed_sizes.specs.Words.{own_size, head_size}
 use Rattle.printed_sizes.specs.Formulas.{param_size}
-use Rattle.printed_sizes.specs.Slots.{digits, all_digits, clearing_size}
+use Rattle.printed_sizes.specs.Slots.{digits, all_digits}
 use Rattle.printed_sizes.specs.Works.{freeing_size}
 use Rattle.printed_sizes.specs.Methods.{place_size, slot_at, placed_size, task_size, pre_size, child_head, children_size, pair_size, copied_size, split_size, eff_size, name_size, method_size, methods_size}
 use Rattle.printed_sizes.proofs.ListSizes.{size, size-part, size-line, headed-all, headed-one, headed-two}
@@ -44,7 +43,7 @@ use Rattle.printed_sizes.proofs.SourceSizes.{HasPrintedWords, own-is}
 use Rattle.printed_sizes.proofs.SlotSizes.{HasSlotWords, size-clears, size-copies, sum-digits}
 use Rattle.printed_sizes.proofs.PrintedWords.{has-words}
 use Rattle.printed_sizes.proofs.ActionSizes.{size-joined, slot-words, size-action}
-use Rattle.printed_sizes.proofs.MethodSizes.{size-of_numbers, size-of_each, known, new, put, behind_first, method_words, method_params, scope-is, size-method_params, place-here, place-within, size-placed, size-task, new-place, free-is, depth-is, size-method_pre}
+use Rattle.printed_sizes.proofs.MethodSizes.{size-of_numbers, size-of_each, known, new, behind_first, method_words, method_params, scope-is, size-method_params, place-here, place-within, size-placed, size-task, new-place, free-is, depth-is, size-method_pre}
 
 -- parts of lists put behind one another
 size-flat : {X Y : Type 0} (P : Y → Part) (f : X → List Y) (g : X → ℕ) (xs : List X) → ((x : X) → length (bytes_behind (all_parts (map P (f x)))) ≡ g x) → length (bytes_behind (all_parts (map P (flat_map f xs)))) ≡ sum_by g xs

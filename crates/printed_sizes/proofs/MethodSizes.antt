@@ -1,50 +1,46 @@
 -- The lengths of the actions of methods.
-use Rattle.std.proofs.Common.{ℕ, zero, suc, ◌≡◌, ◌+◌, ◌-◌, ◌*◌, ◌<◌, Bool, true, false, cond, List, [], ◌∷◌, ◌++◌, map, length, get_or, slice_get, slice_index, Some, Contains, codes, decimal, refl, ap, sym, subst, ◌∙◌, arith, append_assoc, length-append}
+use Rattle.std.proofs.Common.{ℕ, zero, suc, ◌≡◌, ◌+◌, ◌-◌, ◌*◌, ◌<◌, Bool, true, false, cond, List, [], ◌∷◌, ◌++◌, map, length, get_or, slice_get, Some, Contains, codes, decimal, refl, ap, sym, ◌∙◌, arith, length-append}
 use Rattle.std.specs.Prelude.{sum_by}
 use Rattle.std.proofs.lemmas.List.{map-append}
 use Rattle.std.proofs.lemmas.List.Sums.{sum_by-cons}
-use Rattle.text_forms.specs.Lists.{Part, Parts, name as said, group, nothing, part}
+use Rattle.text_forms.specs.Lists.{Part, name as said, group, part}
 use Rattle.text_forms.specs.Words.{Word, word_at}
-use Rattle.text_forms.specs.Printing.{bytes, bytes_behind, lines, headed}
+use Rattle.text_forms.specs.Printing.{bytes_behind, headed}
 use Rattle.task_networks.specs.Spelling.{numbers}
 use Rattle.task_networks.proofs.Numbers.{length-numbers}
-use Rattle.plan_texts.specs.Declared.{Declared, named, variable, kind_at}
+use Rattle.plan_texts.specs.Declared.{Declared, variable, kind_at}
 use Rattle.plan_texts.specs.Types.{Has, EachIs}
-use Rattle.plan_texts.specs.Printed.{all_parts, kind_part, typed_parts, param_words, term_part, applied_part, params_parts, formula_part, effect_part}
-use Rattle.plan_texts.specs.PrintedTexts.{action_part}
-use Rattle.plan_texts.proofs.Equations.{part-Holds, part-Not, part-Equal, part-And, effect-Delete, effect-Add, effect-And}
+use Rattle.plan_texts.specs.Printed.{all_parts, kind_part, param_words, term_part, applied_part, params_parts, formula_part}
+use Rattle.plan_texts.proofs.Equations.{part-Holds, part-Not, part-Equal, part-And}
 use Rattle.plan_texts.proofs.Members.{length-map}
 use Rattle.plan_model.specs.declared.options.Style.{Style}
 use Rattle.plan_model.specs.declared.terms.Term.{Term}
-use Rattle.plan_model.specs.declared.terms.Term.TheVariants.{Var, Obj}
+use Rattle.plan_model.specs.declared.terms.Term.TheVariants.{Var}
 use Rattle.plan_model.specs.declared.terms.Param.{Param}
 use Rattle.plan_model.specs.declared.terms.Atom.{Atom}
 use Rattle.plan_model.specs.declared.networks.Constraint.{Constraint}
 use Rattle.plan_model.specs.declared.networks.Guard.{Guard}
 use Rattle.plan_model.specs.declared.formulas.Formula.{Formula}
 use Rattle.plan_model.specs.declared.formulas.Formula.TheVariants.{Holds, Not, Equal, And}
-use Rattle.plan_model.specs.declared.effects.Effect.{Effect}
-use Rattle.plan_model.specs.declared.effects.Effect.TheVariants as E
 use Rattle.plan_model.specs.declared.schemas.MethodPlan.{MethodPlan}
 use Rattle.plan_model.specs.declared.values.Compiled.{Compiled}
-use Rattle.plan_meaning.specs.SourceParts.{name, moved, source_param}
-use Rattle.plan_meaning.specs.OrderFormulas.{wait_parts, clear_parts}
-use Rattle.plan_meaning.specs.EncodedNames.{slot_param, guard_types, guard_word, guard_predicate, task_predicate, free_predicate, order_numbers}
-use Rattle.plan_meaning.specs.EncodedActions.{slot_vars, differ, test, is_free, source_condition, waiting, held_task, constraints, guards, tested, method_pre, children_slots}
+use Rattle.plan_meaning.specs.SourceParts.{moved, source_param}
+use Rattle.plan_meaning.specs.OrderFormulas.{wait_parts}
+use Rattle.plan_meaning.specs.EncodedNames.{slot_param, guard_word, guard_predicate, task_predicate, free_predicate, order_numbers}
+use Rattle.plan_meaning.specs.EncodedActions.{differ, test, is_free, source_condition, waiting, held_task, constraints, guards, tested, method_pre}
 use Rattle.slot_plans.proofs.Guards.{guard_type}
-use Rattle.slot_plans.proofs.KeptItems.{position_at}
 use Rattle.encoded_words.specs.EncodedWords as W
 use Rattle.encoded_words.specs.EncodedWords.{own_word, HasEncodedWords}
 use Rattle.encoded_words.proofs.TableWords.{named-name}
 use Rattle.encoded_words.proofs.KnownWords.{known_variables, known_methods}
 use Rattle.encoded_words.proofs.KnownMethods.{IsKnownMethod, known_method}
 use Rattle.encoded_words.proofs.PrintedWords.{printed_words}
-use Rattle.printed_sizes.specs.Words.{own_size, head_size}
-use Rattle.printed_sizes.specs.Formulas.{variable_size, param_size, term_size}
+use Rattle.printed_sizes.specs.Words.{head_size}
+use Rattle.printed_sizes.specs.Formulas.{param_size, term_size}
 use Rattle.printed_sizes.specs.Slots.{digits, all_digits, waiting_size}
 use Rattle.printed_sizes.specs.Works.{condition_size}
 use Rattle.printed_sizes.specs.Methods.{differ_size, spare, own_sizes, scope_sizes, place_size, placed_size, task_size, test_size, guard_size, tested_size, pre_size}
-use Rattle.printed_sizes.proofs.ListSizes.{size, size-part, size-one, size-group, headed-all, headed-one, headed-two, size-at}
+use Rattle.printed_sizes.proofs.ListSizes.{size, size-part, size-group, headed-all, headed-one, headed-two, size-at}
 use Rattle.printed_sizes.proofs.SourceSizes.{HasPrintedWords, variables-printed, sizes-of, size-params, size-term, size-terms}
 use Rattle.printed_sizes.proofs.SlotSizes.{size-waits, sum-digits}
 use Rattle.printed_sizes.proofs.PrintedWords.{has-words}

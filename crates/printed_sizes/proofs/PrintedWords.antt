@@ -1,5 +1,5 @@
 -- The printed problem has the words that a table with all of them gives by number.
-use Rattle.std.proofs.Common.{ℕ, ◌≡◌, List, [], ◌∷◌, ◌++◌, map, codes, refl, ap, sym, ◌∙◌}
+use Rattle.std.proofs.Common.{ℕ, ◌≡◌, List, [], ◌∷◌, ◌++◌, map, codes, ◌∙◌}
 use Rattle.std.proofs.lemmas.List.{map-append}
 use Rattle.htn_base.specs.Escapes.{slot_word}
 use Rattle.htn_base.specs.declared.name.Name.{Name}
@@ -28,7 +28,7 @@ use Rattle.encoded_words.proofs.TableWords.{named-name, words-named, words-made}
 use Rattle.encoded_words.proofs.KnownWords.{known_types, known_objects, known_source_group, known_three, known_task_group, known_action_group, known_check_group, known_guard_group}
 use Rattle.encoded_words.proofs.PrintedWords.{printed_words}
 use Rattle.encoded_words.proofs.PredicatePlaces.{printed_predicate, held_task, held_action, held_check, guarding, first_group, task_group, action_group, check_group, guard_group}
-use Rattle.printed_sizes.specs.Words.{words, head_words}
+use Rattle.printed_sizes.specs.Words.{head_words}
 use Rattle.printed_sizes.proofs.SourceSizes.{HasPrintedWords}
 
 module _ (c : Compiled) (names : List Word) (b : ℕ) (has : HasEncodedWords c b names) where

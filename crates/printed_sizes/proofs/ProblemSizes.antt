@@ -1,10 +1,10 @@
 -- The length of the problem text of a printed problem.
-use Rattle.std.proofs.Common.{ℕ, zero, suc, ◌≡◌, ◌+◌, ◌-◌, ◌<◌, inl, inr, List, [], ◌∷◌, ◌++◌, map, length, Contains, codes, refl, ap, sym, ◌∙◌, arith, length-append}
+use Rattle.std.proofs.Common.{ℕ, zero, suc, ◌≡◌, ◌+◌, ◌-◌, ◌<◌, inl, inr, List, [], ◌∷◌, ◌++◌, map, length, Contains, codes, refl, ap, sym, ◌∙◌, arith}
 use Rattle.std.specs.Prelude.{sum_by}
 use Rattle.std.proofs.lemmas.List.Sums.{sum_by-cons, sum_by-append}
-use Rattle.text_forms.specs.Lists.{Part, Parts, name as said, nothing, part}
+use Rattle.text_forms.specs.Lists.{name as said, nothing, part}
 use Rattle.text_forms.specs.Words.{Word, word_at}
-use Rattle.text_forms.specs.Printing.{bytes, bytes_behind, lines, headed, page}
+use Rattle.text_forms.specs.Printing.{bytes_behind, lines, headed}
 use Rattle.task_networks.specs.Spelling.{numbers}
 use Rattle.task_networks.proofs.Lists.{Contains-later, Contains-here}
 use Rattle.plan_texts.specs.Declared.{Declared, named}
@@ -25,7 +25,6 @@ use Rattle.encoded_words.proofs.TableWords.{named-name}
 use Rattle.encoded_words.proofs.KnownWords.{known_domain, known_problem, known_goal}
 use Rattle.encoded_words.proofs.PrintedWords.{printed_words}
 use Rattle.printed_sizes.specs.Words.{head_words, own_size, object_size, head_size, slot_size}
-use Rattle.printed_sizes.specs.Slots.{digits}
 use Rattle.printed_sizes.specs.Works.{goal_size}
 use Rattle.printed_sizes.specs.Problems.{fact_size, member_fact_size, free_fact_size, first_facts_size, IsMembersSize, IsProblemSize}
 use Rattle.printed_sizes.proofs.ListSizes.{size, size-part, size-one, size-each, headed-all}

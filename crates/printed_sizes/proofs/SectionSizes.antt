@@ -1,14 +1,14 @@
 -- The lengths of the printed types, objects and predicates.
-use Rattle.std.proofs.Common.{ℕ, zero, suc, ◌≡◌, ◌+◌, ◌*◌, ◌<◌, inl, inr, Bool, true, false, cond, List, [], ◌∷◌, ◌++◌, map, filter, length, codes, decimal, refl, ap, sym, ◌∙◌, arith, length-append}
+use Rattle.std.proofs.Common.{ℕ, zero, suc, ◌≡◌, ◌+◌, inl, inr, Bool, true, false, cond, List, [], ◌∷◌, ◌++◌, map, filter, length, codes, decimal, refl, ap, sym, ◌∙◌, arith, length-append}
 use Rattle.std.specs.Prelude.{sum_by}
 use Rattle.std.proofs.lemmas.List.Sums.{sum_by-cons}
 use Rattle.htn_base.specs.Escapes.{slot_word}
 use Rattle.htn_base.specs.declared.name.Name.{Name}
-use Rattle.text_forms.specs.Lists.{Part, Parts, name as said, nothing, part}
+use Rattle.text_forms.specs.Lists.{Part, name as said, part}
 use Rattle.text_forms.specs.Words.{Word, word_at}
 use Rattle.text_forms.specs.Printing.{bytes, bytes_behind}
 use Rattle.task_networks.specs.Spelling.{numbers}
-use Rattle.plan_texts.specs.Declared.{Declared, named, variable, kind_at}
+use Rattle.plan_texts.specs.Declared.{Declared, named, kind_at}
 use Rattle.plan_texts.specs.Types.{Has, EachIs}
 use Rattle.plan_texts.specs.Printed.{all_parts, kind_part, typed_parts, param_words, params_parts}
 use Rattle.plan_texts.specs.PrintedTexts.{object_words, parent_words, predicate_part}
@@ -22,7 +22,7 @@ use Rattle.plan_model.specs.declared.schemas.ActionSchema.{ActionSchema}
 use Rattle.plan_model.specs.declared.schemas.MethodPlan.{MethodPlan}
 use Rattle.plan_model.specs.declared.values.Compiled.{Compiled}
 use Rattle.plan_meaning.specs.SourceParts.{name, retyped}
-use Rattle.plan_meaning.specs.EncodedNames.{slot_type, object_type, slot_param, held, held_params, guard_types, guard_word, checked_methods, encoded_types, encoded_objects, encoded_predicates}
+use Rattle.plan_meaning.specs.EncodedNames.{object_type, slot_param, held, held_params, guard_types, guard_word, checked_methods, encoded_types, encoded_objects, encoded_predicates}
 use Rattle.slot_plans.proofs.ObjectPlaces.{printed_object, printed_slot}
 use Rattle.encoded_words.specs.EncodedWords.{own_word, object_words as words_of_objects, numbered, held_words, HasEncodedWords}
 use Rattle.encoded_words.specs.EncodedWords as W
@@ -33,7 +33,7 @@ use Rattle.encoded_words.proofs.PredicatePlaces.{printed_predicate, held_task, h
 use Rattle.encoded_words.proofs.PrintedWords.{printed_words}
 use Rattle.printed_sizes.specs.Words.{own_size, type_size}
 use Rattle.printed_sizes.specs.Formulas.{param_size}
-use Rattle.printed_sizes.specs.Slots.{digits, all_digits}
+use Rattle.printed_sizes.specs.Slots.{digits}
 use Rattle.printed_sizes.specs.Sections.{parent_size, parents_size, source_object_size, objects_size, predicate_size, held_predicate_size, task_predicate_size, action_predicate_size, check_predicate_size, guard_predicate_size, predicates_size}
 use Rattle.printed_sizes.proofs.ListSizes.{size, size-part, headed-all}
 use Rattle.printed_sizes.proofs.SourceSizes.{HasPrintedWords, kind-printed, own-is, size-params}

@@ -5,7 +5,7 @@ use Rattle.std.proofs.Math.Nat.{suc-mul}
 use Rattle.std.proofs.lemmas.List.Sums.{sum_by-cons}
 use Rattle.text_forms.specs.Lists.{Part, name as said, group, nothing, part}
 use Rattle.text_forms.specs.Words.{Word, word_at}
-use Rattle.text_forms.specs.Printing.{bytes_behind, headed}
+use Rattle.text_forms.specs.Printing.{bytes_behind}
 use Rattle.htn_base.specs.Escapes.{slot_word}
 use Rattle.task_networks.specs.Spelling.{numbers}
 use Rattle.plan_texts.specs.Declared.{Declared, kind_at, variable}
@@ -16,13 +16,12 @@ use Rattle.plan_model.specs.declared.options.Style.TheVariants.{Adl, Flat}
 use Rattle.plan_model.specs.declared.terms.Term.{Term}
 use Rattle.plan_model.specs.declared.terms.Term.TheVariants.{Var, Obj}
 use Rattle.plan_model.specs.declared.terms.Param.{Param}
-use Rattle.plan_model.specs.declared.formulas.Formula.{Formula}
 use Rattle.plan_model.specs.declared.formulas.Formula.TheVariants.{Holds, Not, Forall}
 use Rattle.plan_model.specs.declared.effects.Effect.{Effect}
 use Rattle.plan_model.specs.declared.effects.Effect.TheVariants as E
 use Rattle.plan_meaning.specs.OrderFormulas.{OrderNumbers, pair_of, any_slot, wait_parts, clear_parts, copy_parts, free_parts}
 use Rattle.encoded_words.proofs.Scopes.{word-behind}
-use Rattle.printed_sizes.specs.Slots.{digits, all_digits, waiting_size, clearing_size, child_size, copying_size, free_size}
+use Rattle.printed_sizes.specs.Slots.{digits, waiting_size, clearing_size, child_size, copying_size, free_size}
 use Rattle.printed_sizes.proofs.ListSizes.{size, size-part, size-one, headed-one, headed-two}
 use Rattle.printed_sizes.proofs.WordSizes.{size-slot}
 

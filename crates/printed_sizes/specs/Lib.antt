@@ -7,4 +7,6 @@ pub mod Works
 pub mod Methods
 pub mod Domains
 pub mod Problems
+pub mod Guards
+pub mod Heads
 pub mod Frames

@@ -1,6 +1,6 @@
 -- The lengths of the printed goal, and of the actions of the source's actions and of checks.
 -- Source: this project's encoding, after Alford et al., "Bound to Plan", ICAPS 2016.
-use Rattle.std.specs.Prelude.{ℕ, ◌+◌, cond, List, [], map, length, sum_by}
+use Rattle.std.specs.Prelude.{ℕ, ◌+◌, cond, List, [], map, sum_by}
 use Rattle.plan_model.specs.declared.options.Style.{Style}
 use Rattle.plan_model.specs.declared.terms.Param.{Param}
 use Rattle.plan_model.specs.declared.formulas.Formula.{Formula}

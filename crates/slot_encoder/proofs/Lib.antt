@@ -6,3 +6,7 @@ pub mod Members
 pub mod Splits
 pub mod SingleAtoms
 pub mod PredicateParts
+pub mod FoldedWords
+pub mod Gained
+pub mod WordEquations
+pub mod AllWords

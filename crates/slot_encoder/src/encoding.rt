@@ -1,9 +1,11 @@
-ghost use Rattle.std.specs.Prelude.{◌≡◌, ◌+◌, ◌<◌, ◌^◌, IfOk};
+ghost use Rattle.std.specs.Prelude.{◌≡◌, ◌+◌, ◌<◌, ◌^◌, length, IfOk};
 ghost use Rattle.plan_model.specs.Parts.{AreListed};
 ghost use Rattle.plan_meaning.specs.EncodedNames as names;
 ghost use Rattle.plan_meaning.specs.EncodedValue.{IsEncoded};
 ghost use Rattle.order_encoder.specs.Orders as orders;
+ghost use Rattle.encoded_words.specs.EncodedWords.{HasEncodedWords};
 ghost use Rattle.slot_encoder.specs.Frames.{IsFrame, AreEncoded};
+ghost use Rattle.slot_encoder.specs.Vocabulary.{IsPrintableWhereSound};
 
 use crate::actions::encoded_actions;
 use crate::frame::Frame;
@@ -23,10 +25,14 @@ use plan_model::{
 };
 use std::alloc::Global;
 
-/// The printed problem with so many slots. The source's types are few and their parents and unions are listed.
+/// The printed problem with so many slots, with all its words in its table. The source's types are few and their parents
+/// and unions are listed.
 pub fn encode(alloc: Global, c: &Compiled, slots: u32, style: &Style) -> Result<Pddl, Memory>
     requires listed { AreListed c.now.hddl.types }
     ensures encoded { IfOk result (λ p. IsEncoded c.now slots style.now p) }
+    ensures words { IfOk result (λ p. HasEncodedWords c.now slots p.names) }
+    ensures short { IfOk result (λ p. length p.names < 2 ^ 32) }
+    ensures printable { IfOk result (IsPrintableWhereSound c.now slots) }
 {
     let names = vocabulary(alloc, c, slots)?;
     let value = value_of(alloc, c, &names, slots, style)?;

@@ -1,7 +1,8 @@
 //! The printed problem as a PDDL value: slots that hold what is pending, and actions that process it.
 //!
 //! It stands on the values of `plan_model`, on the order formulas of `order_encoder` and on the definitions of `plan_meaning`.
-//! The contract used above: `encode` gives exactly the defined value.
+//! The contract used above: `encode` gives exactly the defined value, over a table that has all its words, so that it can be printed
+//! wherever the problem is sound.
 #![tactic(auto)]
 
 mod actions;
@@ -20,6 +21,7 @@ mod numbers;
 mod objects;
 mod predicates;
 mod quantified;
+mod schema_words;
 mod single;
 mod splitting;
 mod terms;

@@ -1,5 +1,10 @@
+ghost use Rattle.std.specs.Prelude.{map, OnOk};
+ghost use Rattle.plan_meaning.specs.EncodedNames.{joined};
+ghost use Rattle.encoded_words.specs.EncodedWords as spec;
+ghost use Rattle.slot_encoder.specs.Vocabulary.{Gains};
+
 use crate::vocabulary::put_params;
-use htn_base::{List, Memory, NameTable};
+use htn_base::{Memory, NameTable};
 use plan_model::{Effect, Formula};
 use std::alloc::Global;
 
@@ -10,13 +15,15 @@ pub(crate) fn put_formula(
     source: &NameTable,
     formula: &Formula,
     names: &mut NameTable,
-) -> Result<(), Memory> {
+) -> Result<(), Memory>
+    ensures { OnOk result (Gains (spec.formula_words source.now formula.now) names.old names.new) }
+{
     match formula {
         Formula::Holds(_) => Ok(()),
         Formula::Equal(_, _) => Ok(()),
         Formula::Not(part) => put_formula(alloc, source, part.get(), names),
-        Formula::And(parts) => put_formulas(alloc, source, parts, names),
-        Formula::Or(parts) => put_formulas(alloc, source, parts, names),
+        Formula::And(parts) => put_formulas(alloc, source, parts.as_slice(), names),
+        Formula::Or(parts) => put_formulas(alloc, source, parts.as_slice(), names),
         Formula::Imply(premise, conclusion) => {
             put_formula(alloc, source, premise.get(), names)?;
             put_formula(alloc, source, conclusion.get(), names)
@@ -36,12 +43,13 @@ pub(crate) fn put_formula(
 fn put_formulas(
     alloc: Global,
     source: &NameTable,
-    formulas: &List<Formula>,
+    formulas: &[Formula],
     names: &mut NameTable,
-) -> Result<(), Memory> {
-    let parts = formulas.as_slice();
-    for part in parts {
-        put_formula(alloc, source, part, names)?;
+) -> Result<(), Memory>
+    ensures { OnOk result (Gains (joined (map (spec.formula_words source.now) formulas.now)) names.old names.new) }
+{
+    for formula in formulas {
+        put_formula(alloc, source, formula, names)?;
     }
     Ok(())
 }
@@ -53,11 +61,13 @@ pub(crate) fn put_effect(
     source: &NameTable,
     effect: &Effect,
     names: &mut NameTable,
-) -> Result<(), Memory> {
+) -> Result<(), Memory>
+    ensures { OnOk result (Gains (spec.effect_words source.now effect.now) names.old names.new) }
+{
     match effect {
         Effect::Add(_) => Ok(()),
         Effect::Delete(_) => Ok(()),
-        Effect::And(parts) => put_effects(alloc, source, parts, names),
+        Effect::And(parts) => put_effects(alloc, source, parts.as_slice(), names),
         Effect::Forall(params, body) => {
             put_params(alloc, source, params.as_slice(), names)?;
             put_effect(alloc, source, body.get(), names)
@@ -73,12 +83,13 @@ pub(crate) fn put_effect(
 fn put_effects(
     alloc: Global,
     source: &NameTable,
-    effects: &List<Effect>,
+    effects: &[Effect],
     names: &mut NameTable,
-) -> Result<(), Memory> {
-    let parts = effects.as_slice();
-    for part in parts {
-        put_effect(alloc, source, part, names)?;
+) -> Result<(), Memory>
+    ensures { OnOk result (Gains (joined (map (spec.effect_words source.now) effects.now)) names.old names.new) }
+{
+    for effect in effects {
+        put_effect(alloc, source, effect, names)?;
     }
     Ok(())
 }

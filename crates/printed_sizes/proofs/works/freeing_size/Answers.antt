@@ -1,6 +1,4 @@
-use Rattle.std.proofs.Common.{◌+◌, map, refl, ap, sym, ◌∙◌}
-use Rattle.std.specs.Prelude.{sum_by}
-use Rattle.printed_sizes.specs.Capped.{capped}
+use Rattle.std.proofs.Common.{◌+◌, refl}
 use Rattle.printed_sizes.specs.Slots.{clearing_size}
 use Rattle.printed_sizes.proofs.works.freeing_size.Goals as goal
 

@@ -1,6 +1,5 @@
-use Rattle.std.proofs.Common.{◌+◌, map, refl, ap, sym, ◌∙◌}
+use Rattle.std.proofs.Common.{◌+◌, map, refl}
 use Rattle.std.specs.Prelude.{sum_by}
-use Rattle.printed_sizes.specs.Capped.{capped}
 use Rattle.printed_sizes.specs.Formulas.{variable_size, param_size}
 use Rattle.printed_sizes.specs.Slots.{waiting_size}
 use Rattle.printed_sizes.specs.Works as spec

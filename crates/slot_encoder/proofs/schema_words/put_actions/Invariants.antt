@@ -1,0 +1,7 @@
+use Rattle.std.proofs.Common.{map, take}
+use Rattle.plan_meaning.specs.EncodedNames.{joined}
+use Rattle.slot_encoder.specs.Vocabulary.{Gains, words_of_action}
+use Rattle.slot_encoder.proofs.schema_words.put_actions.Given as goal
+
+abbrev pub invariant-loop-action : goal.invariant-loop-action
+invariant-loop-action l = Gains (joined (map (words_of_action l.c) (take l.action-index l.actions))) l.initial.names l.names

@@ -1,0 +1,55 @@
+-- The words that are put into the table of the printed problem, and what the finished problem may count on.
+-- Source: this project's encoding, after Alford et al., "Bound to Plan", ICAPS 2016.
+use Rattle.std.specs.Prelude.{ℕ, ◌≡◌, ◌<◌, ◌≤◌, ◌^◌, cond, List, [], ◌∷◌, ◌++◌, length, codes}
+use Rattle.text_forms.specs.Words.{Word}
+use Rattle.plan_texts.specs.Types.{Has, EachIs}
+use Rattle.plan_texts.specs.SoundValue.{IsSoundHddl}
+use Rattle.plan_texts.specs.PrintableValue.{IsPrintable}
+use Rattle.plan_model.specs.declared.options.Checks.{Checks}
+use Rattle.plan_model.specs.declared.formulas.Formula.TheVariants.{And}
+use Rattle.plan_model.specs.declared.schemas.Predicate.{Predicate}
+use Rattle.plan_model.specs.declared.schemas.TaskSchema.{TaskSchema}
+use Rattle.plan_model.specs.declared.schemas.ActionSchema.{ActionSchema}
+use Rattle.plan_model.specs.declared.schemas.MethodPlan.{MethodPlan}
+use Rattle.plan_model.specs.declared.values.Hddl.{Hddl}
+use Rattle.plan_model.specs.declared.values.Compiled.{Compiled}
+use Rattle.plan_model.specs.declared.values.Pddl.{Pddl}
+use Rattle.plan_meaning.specs.Compilation.{IsCompiled}
+use Rattle.encoded_words.specs.EncodedWords.{own_word, param_words, formula_words, effect_words, held_words, method_words}
+
+-- each of the words is in the table now, and so is all that was; a table of fewer than 2^32 words stays one
+pub record Gains (words : List Word) (old new : List Word) : Type 0 where
+  pub gained : EachIs (Has new) words
+  pub kept : (w : Word) → Has old w → Has new w
+  pub short : length old < 2 ^ 32 → length new < 2 ^ 32
+
+-- the words of one item of each kind
+module _ (c : Compiled) where
+  abbrev pub words_of_predicate : Predicate → List Word
+  words_of_predicate p = own_word c p.name ∷ param_words c.hddl.names p.params
+
+  abbrev pub words_of_task : TaskSchema → List Word
+  words_of_task s = held_words c (codes "htn_t_") s.name s.params
+
+  abbrev pub words_of_held_action : ActionSchema → List Word
+  words_of_held_action s = held_words c (codes "htn_a_") s.name s.params
+
+  abbrev pub words_of_held_check : MethodPlan → List Word
+  words_of_held_check plan = held_words c (codes "htn_c_") plan.schema.name plan.schema.params
+
+  -- of a method, if it has a check
+  abbrev pub words_if_checked : MethodPlan → List Word
+  words_if_checked plan = cond plan.checked (words_of_held_check plan) []
+
+  -- of a method other than the top method
+  abbrev pub words_of_method : MethodPlan → List Word
+  words_of_method plan = method_words c 1 (plan ∷ [])
+
+  abbrev pub words_of_action : ActionSchema → List Word
+  words_of_action s = own_word c s.name ∷ param_words c.hddl.names s.params ++ formula_words c.hddl.names s.pre ++ effect_words c.hddl.names s.eff
+
+-- the printed problem can be printed and read again, wherever the compiled problem with b slots is that of a sound problem
+abbrev pub IsPrintableWhereSound : Compiled → ℕ → Pddl → Type 0
+IsPrintableWhereSound c b p =
+    (h : Hddl) (mode : Checks) → IsSoundHddl h → IsCompiled h mode c
+    → c.hddl.top.pre ≡ And [] → 1 ≤ b → length c.hddl.types.unions < 2 ^ 64 → IsPrintable p
