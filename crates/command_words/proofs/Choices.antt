@@ -1,11 +1,11 @@
 -- Options set what they set in one way.
-use Rattle.std.proofs.Common.{ℕ, ◌≡◌, ◌⊎◌, List, [], ◌∷◌, Option, Some, None, IfNone, IfSome, codes, refl, sym, ap, ◌∙◌, subst, inl, inr, arith}
+use Rattle.std.proofs.Common.{◌≡◌, List, [], ◌∷◌, Option, Some, None, IfNone, IfSome, codes, refl, sym, ap, ◌∙◌, subst, inl, inr, arith}
 use Rattle.plan_model.specs.declared.options.Style.{Style}
 use Rattle.plan_model.specs.declared.options.Style.TheVariants.{Adl, Flat}
 use Rattle.plan_model.specs.declared.options.Checks.{Checks}
 use Rattle.plan_model.specs.declared.options.Checks.TheVariants.{Leaf, AtOnce}
 use Rattle.command_words.specs.Names.{Word}
-use Rattle.command_words.specs.Options.{Chosen, style_word, checks_word, SetsBound, SetsStyle, SetsChecks, Sets, Choose}
+use Rattle.command_words.specs.Options.{Chosen, style_word, checks_word, SetsStyle, SetsChecks, Sets, Choose}
 
 -- the words of options differ
 bound_style : (option : Word) → option ≡ codes "--bound" → option ≡ codes "--style" → ⊥

@@ -1,7 +1,5 @@
 -- Worked words of the command line.
-use Rattle.std.proofs.Common.{◌≡◌, List, [], ◌∷◌, Some, codes, refl, arith, inl}
-use Rattle.plan_model.specs.declared.options.Style.TheVariants.{Adl}
-use Rattle.plan_model.specs.declared.options.Checks.TheVariants.{Leaf}
+use Rattle.std.proofs.Common.{List, [], ◌∷◌, Some, codes, refl, arith, inl}
 use Rattle.command_words.specs.Names.{Word, Names, AreApart}
 use Rattle.command_words.specs.Options.{nothing_chosen, Choose}
 use Rattle.command_words.specs.Words.{AreOfAForm}

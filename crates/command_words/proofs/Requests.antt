@@ -1,5 +1,5 @@
 -- Words ask for one request at most.
-use Rattle.std.proofs.Common.{ℕ, ◌≡◌, List, [], ◌∷◌, get_or, drop, Option, Some, None, unwrap_or, refl, sym, ap, ◌∙◌, subst}
+use Rattle.std.proofs.Common.{◌≡◌, List, [], get_or, drop, Some, unwrap_or, sym, ap, ◌∙◌, subst}
 use Rattle.plan_model.specs.declared.options.Style.TheVariants.{Adl}
 use Rattle.plan_model.specs.declared.options.Checks.TheVariants.{Leaf}
 use Rattle.command_words.specs.Names.{Word, Names, AreApart}

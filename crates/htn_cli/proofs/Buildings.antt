@@ -46,29 +46,31 @@ module _ (domain problem : List ℕ) (manner : Manner) (read : Hddl) (spelled : 
 
   pub comes_to : (built : Built) → Becomes read manner built → ComesTo domain problem manner built
   comes_to built.NotOfForm becomes = tt
-  comes_to (built.TooLong n) (compiled, is, past) =
-      (short,
-      record {
-        read = read;
-        compiled = compiled;
-        value = past.value;
-        spelled = spelled;
-        printed = printed_there compiled past.value is past.whole;
-        words = past.whole.words;
-        first = past.first;
-      })
-  comes_to (built.Whole texts) (compiled, is, p) =
-      (short,
-      record {
-        read = read;
-        compiled = compiled;
-        value = p.value;
-        spelled = spelled;
-        ordered = ordered;
-        printed = printed_there compiled p.value is p.whole;
-        words = p.whole.words;
-        domain_is = p.domain_is;
-        problem_is = p.problem_is;
-        domain_fits = p.domain_fits;
-        problem_fits = p.problem_fits;
-      })
+  comes_to (built.TooLong n) (compiled, is, past) = (
+    short,
+    record {
+      read = read;
+      compiled = compiled;
+      value = past.value;
+      spelled = spelled;
+      printed = printed_there compiled past.value is past.whole;
+      words = past.whole.words;
+      first = past.first;
+    },
+  )
+  comes_to (built.Whole texts) (compiled, is, p) = (
+    short,
+    record {
+      read = read;
+      compiled = compiled;
+      value = p.value;
+      spelled = spelled;
+      ordered = ordered;
+      printed = printed_there compiled p.value is p.whole;
+      words = p.whole.words;
+      domain_is = p.domain_is;
+      problem_is = p.problem_is;
+      domain_fits = p.domain_fits;
+      problem_fits = p.problem_fits;
+    },
+  )

@@ -1,4 +1,4 @@
-use Rattle.std.proofs.Common.{◌≡◌, ◌≤◌, ◌^◌, arith}
+use Rattle.std.proofs.Common.{◌≤◌, ◌^◌, arith}
 use Rattle.std.specs.Str.Parse.{digits_value}
 use Rattle.command_words.proofs.Numerals.{past_all}
 use Rattle.command_words.proofs.bounds.is_zero.Goals as goal

@@ -52,4 +52,4 @@ pub returns-in-Err-clause-answer : goal.returns-in-Err-clause-answer
 returns-in-Err-clause-answer g c =
     λ gets puts writes.
     subst (Answers (map string_bytes c.args.words.now) (g.F.Files.state c.args.files.now)) (sym c.status.ensures)
-      (answers (map string_bytes c.args.words.now) (g.F.Files.state c.args.files.now) (g.F.Files.state c.act.new.files) (g.O.Sink.state c.args.out.now) (g.O.Sink.state c.act.new.out) gets (λ x. ⊎_elim puts writes x) c.in-Err.refusal c.in-Err.ensures.refused)
+    (answers (map string_bytes c.args.words.now) (g.F.Files.state c.args.files.now) (g.F.Files.state c.act.new.files) (g.O.Sink.state c.args.out.now) (g.O.Sink.state c.act.new.out) gets (λ x. ⊎_elim puts writes x) c.in-Err.refusal c.in-Err.ensures.refused)
