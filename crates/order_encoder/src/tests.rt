@@ -52,7 +52,15 @@ fn copies_the_pair(rt: HostRuntime) -> Result<(), Fail> {
     let adds = Effect::Add(pair(rt.alloc(), Term::Var(1), Term::Obj(5))?);
     let mut parts = List::new(rt.alloc());
     parts.push(Effect::When(before, Boxed::new(rt.alloc(), adds)?))?;
-    let given = copying(rt.alloc(), &names(), 1, &Style::Flat, Term::Var(0), Term::Var(1), 2)?;
+    let given = copying(
+        rt.alloc(),
+        &names(),
+        1,
+        &Style::Flat,
+        Term::Var(0),
+        Term::Var(1),
+        2,
+    )?;
     assert!(rt; given == Effect::And(parts));
     Ok(())
 }
