@@ -13,6 +13,7 @@ mod frame;
 mod guards;
 mod head_list;
 mod laws;
+mod lengths;
 mod predicates;
 mod scope;
 mod sections;
@@ -23,3 +24,4 @@ mod words;
 mod works;
 
 pub use laws::lengths_of_texts;
+pub use lengths::Sizes;
