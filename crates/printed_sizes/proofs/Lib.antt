@@ -26,3 +26,7 @@ pub mod ProblemSizes
 pub mod Once
 pub mod GuardTypes
 pub mod HeadSizes
+-- What the code counts of methods and of the initial facts.
+pub mod MethodCounts
+pub mod FactCounts
+pub mod KeptNumbers

@@ -36,7 +36,7 @@ use Rattle.printed_sizes.proofs.ActionSizes.{size-goal}
 use Rattle.printed_sizes.proofs.DomainSizes.{size-page, section-line}
 
 -- the items that are kept are the same ones
-keeps-once : {A : Type 0} (P : A → Type 0) (xs ks ms : List A) → Keeps P xs ks → Keeps P xs ms → ks ≡ ms
+pub keeps-once : {A : Type 0} (P : A → Type 0) (xs ks ms : List A) → Keeps P xs ks → Keeps P xs ms → ks ≡ ms
 keeps-once P [] ks ms e f = e ∙ sym f
 keeps-once P (x ∷ xs) ks ms (inl (p, rest, e, k)) (inl (q, others, f, l)) = e ∙ ap (λ ys. x ∷ ys) (keeps-once P xs rest others k l) ∙ sym f
 keeps-once P (x ∷ xs) ks ms (inl (p, rest, e, k)) (inr (q, l)) = absurd (q p)

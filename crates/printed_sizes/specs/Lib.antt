@@ -10,3 +10,4 @@ pub mod Problems
 pub mod Guards
 pub mod Heads
 pub mod Frames
+pub mod AreSizes

@@ -24,6 +24,12 @@ abbrev pub differ_size : List ℕ → ℕ
 differ_size [] = 0
 differ_size (v ∷ vs) = sum_by (λ u. 24 + digits v + digits u) vs + differ_size vs
 
+-- the word of what holds a child; check: the predicate of the method's check
+abbrev pub holder_size : Compiled → ℕ → Head → ℕ
+holder_size c check (Task t) = head_size c (task_predicate c t)
+holder_size c check (Action a) = head_size c (action_predicate c a)
+holder_size c check Check = head_size c check
+
 module _ (c : Compiled) (b : ℕ) (style : Style) (plan : MethodPlan) where
   -- how many new slots the method takes
   abbrev pub spare : ℕ
@@ -72,14 +78,16 @@ module _ (c : Compiled) (b : ℕ) (style : Style) (plan : MethodPlan) where
   -- check: the predicate of the method's check
   module _ (check : ℕ) where
     abbrev pub child_head : Head → ℕ
-    child_head (Task t) = head_size c (task_predicate c t)
-    child_head (Action a) = head_size c (action_predicate c a)
-    child_head Check = head_size c check
+    child_head = holder_size c check
+
+    -- that a child is in the slot of the child at this place
+    abbrev pub placed_child_size : ℕ → Child → ℕ
+    placed_child_size i child = placed_size (child_head child.head) (place_size 0 (slot_at i)) child.args
 
     -- the children from number i on
     abbrev pub children_size : ℕ → List Child → ℕ
     children_size i [] = 0
-    children_size i (child ∷ children) = placed_size (child_head child.head) (place_size 0 (slot_at i)) child.args + children_size (suc i) children
+    children_size i (child ∷ children) = placed_child_size i child + children_size (suc i) children
 
     abbrev pub pair_size : Pair → ℕ
     pair_size p = 17 + place_size 0 (slot_at p.first) + place_size 0 (slot_at p.then)

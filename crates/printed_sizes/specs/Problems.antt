@@ -9,6 +9,7 @@ use Rattle.plan_meaning.specs.Compilation.{once, Keeps}
 use Rattle.plan_meaning.specs.Network.{InTypeOf}
 use Rattle.plan_meaning.specs.EncodedNames.{guard_types, guard_word}
 use Rattle.plan_meaning.specs.EncodedValue.{same_atom}
+use Rattle.printed_sizes.specs.Capped.{capped}
 use Rattle.printed_sizes.specs.Words.{own_size, object_size, head_size, slot_size}
 use Rattle.printed_sizes.specs.Slots.{digits}
 use Rattle.printed_sizes.specs.Works.{goal_size}
@@ -37,6 +38,18 @@ module _ (c : Compiled) (b : ℕ) where
       × Keeps (λ o. InTypeOf c o ty) (numbers 0 (length c.hddl.objects)) members
       × (n ≡ sum_by (member_fact_size ty) members + rest) × IsMembersSize tys rest
 
+  -- the facts on the objects of one of them, as far as 64 bits go
+  abbrev pub IsMemberFactsSize : ℕ → ℕ → Type 0
+  IsMemberFactsSize ty size = (members : List ℕ) × Keeps (λ o. InTypeOf c o ty) (numbers 0 (length c.hddl.objects)) members
+      × (size ≡ capped (sum_by (member_fact_size ty) members))
+
+  -- of all of them
+  abbrev pub IsCappedMembersSize : List ℕ → ℕ → Type 0
+  IsCappedMembersSize tys size = (n : ℕ) × IsMembersSize tys n × (size ≡ capped n)
+
   abbrev pub IsProblemSize : Style → ℕ → Type 0
   IsProblemSize style n = (members : ℕ) × IsMembersSize (guard_types c) members
       × (n ≡ 63 + own_size c c.hddl.problem + own_size c c.hddl.domain + (first_facts_size + members) + goal_size c b style)
+
+  abbrev pub IsCappedProblemSize : Style → ℕ → Type 0
+  IsCappedProblemSize style size = (n : ℕ) × IsProblemSize style n × (size ≡ capped n)

@@ -1,25 +1,35 @@
-//! The lengths of the parts of the two printed texts of a compiled problem, with so many slots, without the texts. The code
-//! counts all parts but the actions of methods and the initial atoms, and doesn't add them up yet.
+//! The lengths of the two printed texts of a compiled problem, with so many slots, without the texts.
 //!
 //! It stands on the values of `plan_model` and on the definitions of `plan_texts`, `plan_meaning` and `encoded_words`. The
-//! contract used above: how long the two texts of an encoded value are (`lengths_of_texts`).
+//! contracts used above: `sizes` gives these lengths, as far as 64 bits go, and how long the two texts of an encoded value are
+//! (`lengths_of_texts`).
 #![tactic(auto)]
 
 mod conditions;
 mod counts;
 mod effects;
+mod facts;
 mod formulas;
 mod frame;
 mod guards;
 mod head_list;
 mod laws;
+mod lengths;
+mod members;
+mod methods;
+mod predicate_numbers;
 mod predicates;
+mod problems;
 mod scope;
 mod sections;
 mod slots;
+mod splits;
 mod terms;
 mod typed_lists;
+mod whole;
 mod words;
 mod works;
 
 pub use laws::lengths_of_texts;
+pub use lengths::Sizes;
+pub use whole::sizes;

@@ -1,5 +1,5 @@
-ghost use Rattle.std.specs.Prelude.{◌≡◌, ◌+◌, [], length, slice_index_or, sum_by, IfOk};
-ghost use Rattle.plan_meaning.specs.EncodedNames.{guard_word};
+ghost use Rattle.std.specs.Prelude.{◌≡◌, ◌+◌, [], length, slice_index_or, sum_by, IfOk, ℕ};
+ghost use Rattle.plan_meaning.specs.EncodedNames.{guard_word, guard_types};
 ghost use Rattle.printed_sizes.specs.Capped.{capped};
 ghost use Rattle.printed_sizes.specs.Sections as spec;
 ghost use Rattle.printed_sizes.specs.Slots as slots;
@@ -99,4 +99,25 @@ fn guards_size(c: &Compiled, types: &[u32]) -> Result<u64, Memory>
         total = plus(total, plus(24, guard_word_size(c, *ty)?));
     }
     Ok(total)
+}
+
+/// The length of all predicates, each behind a space; `types`: those of guards.
+pub(crate) fn predicates_size(c: &Compiled, types: &[u32]) -> Result<u64, Memory>
+    requires { types.now ≡ guard_types c.now }
+    ensures { IfOk result (λ size. size ≡ capped (spec.predicates_size c.now)) }
+{
+    let tasks = tasks_size(c, c.hddl.tasks.as_slice())?;
+    let actions = actions_size(c, c.hddl.actions.as_slice())?;
+    let checks = checks_size(c, c.methods.as_slice())?;
+    let guards = guards_size(c, types)?;
+    let own = source_predicates_size(c, c.hddl.predicates.as_slice());
+    Ok(sum_of_five(own, tasks, actions, checks, guards))
+}
+
+fn sum_of_five(own: u64, tasks: u64, actions: u64, checks: u64, guards: u64) -> u64
+    ensures { (n m p q r : ℕ) → own ≡ capped n → tasks ≡ capped m → actions ≡ capped p → checks ≡ capped q → guards ≡ capped r → result ≡ capped (n + (106 + m) + p + q + r) }
+{
+    let declared = plus(own, plus(106, tasks));
+    let acting = plus(declared, actions);
+    plus(plus(acting, checks), guards)
 }
