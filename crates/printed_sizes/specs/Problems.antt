@@ -43,13 +43,15 @@ module _ (c : Compiled) (b : ℕ) where
   IsMemberFactsSize ty size = (members : List ℕ) × Keeps (λ o. InTypeOf c o ty) (numbers 0 (length c.hddl.objects)) members
       × (size ≡ capped (sum_by (member_fact_size ty) members))
 
-  -- of all of them
+  -- those on the objects of all of them, as far as 64 bits go
   abbrev pub IsCappedMembersSize : List ℕ → ℕ → Type 0
   IsCappedMembersSize tys size = (n : ℕ) × IsMembersSize tys n × (size ≡ capped n)
 
+  -- the whole text
   abbrev pub IsProblemSize : Style → ℕ → Type 0
   IsProblemSize style n = (members : ℕ) × IsMembersSize (guard_types c) members
       × (n ≡ 63 + own_size c c.hddl.problem + own_size c c.hddl.domain + (first_facts_size + members) + goal_size c b style)
 
+  -- the whole text, as far as 64 bits go
   abbrev pub IsCappedProblemSize : Style → ℕ → Type 0
   IsCappedProblemSize style size = (n : ℕ) × IsProblemSize style n × (size ≡ capped n)
