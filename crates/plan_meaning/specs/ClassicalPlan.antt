@@ -1,5 +1,6 @@
 -- Executable lists of ground actions and plans of a PDDL value. Nothing here knows of slots.
--- Source: Fox and Long, "PDDL2.1", JAIR 2003, level 1: a plan is a list of ground actions, each applicable in the state before it, after which the goal is true.
+-- Source: this project's reading of Fox and Long, "PDDL2.1", JAIR 20, 2003, level 1, without times: a plan is a list of ground actions, each applicable in the state
+-- before it, after which the goal is true.
 use Rattle.std.specs.Prelude.{ℕ, ◌≡◌, List, [], ◌∷◌, Contains, slice_get, Some}
 use Rattle.plan_model.specs.declared.types.Object.{Object}
 use Rattle.plan_model.specs.declared.schemas.ActionSchema.{ActionSchema}

@@ -1,5 +1,5 @@
 -- The compiled value of a problem: checks, pairs, lines, heirs, copiers and guards of its methods.
--- Source: this project's; what a precondition of a method means after Höller et al., "HDDL", AAAI 2020, "Methods".
+-- Source: this project's; what a precondition of a method means, after Höller et al., "HDDL", AAAI 2020.
 use Rattle.std.specs.Prelude.{ℕ, suc, ◌≡◌, ◌≢◌, ◌==◌, ◌&&◌, ◌-◌, ◌⊎◌, ◌↔◌, Bool, true, false, not, IsTrue, List, [], ◌∷◌, ◌++◌, map, filter, length, Option, Some, None, slice_get, Contains}
 use Rattle.std.specs.List.Sorted.{IsStrictlyIncreasing}
 use Rattle.plan_model.specs.declared.terms.Term.{Term}

@@ -1,5 +1,5 @@
 -- Which objects are in which type.
--- Source: the typing of PDDL 2.1, level 1 (Fox and Long, JAIR 2003, appendix A): typed lists, a parent of a type, `either`.
+-- Source: the types of PDDL 2.1, level 1 (Fox and Long, JAIR 20, 2003): a parent of a type, `either`. That a type may have several parents is this project's.
 use Rattle.std.specs.Prelude.{◌≡◌, ℕ, ◌-◌, List, Option, None, Some, All, Any, Contains, MatchOption, ◌⊎◌, nat_lt, length, slice_get, if◌then◌else◌}
 use Rattle.plan_model.specs.declared.types.Types.{Types}
 use Rattle.plan_model.specs.declared.types.Parent.{Parent}

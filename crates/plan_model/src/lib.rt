@@ -4,7 +4,7 @@
 //! Numbers in a value are places from 0: of a predicate, task, action, method, type or object in the list of the
 //! whole value, of a subtask in its network, and of a variable among those in force.
 //!
-//! Stands on `htn_base`. The contract used above: a copy is equal.
+//! Stands on `htn_base`. The contracts used above: a copy is equal (`copy`); which types are parts of a type, and its objects (`Types::is_a`, `in_type`, `members`).
 #![tactic(auto)]
 
 mod effects;

@@ -1,5 +1,5 @@
 -- Executable schedules and solutions, over any states: what a label asks of the state before it, and the state after it.
--- Source: Höller et al., "HDDL", AAAI 2020, the section on lifted HTN planning: a solution has an executable order.
+-- Source: Höller et al., "HDDL", AAAI 2020, lifted HTN planning: a solution has an executable order.
 -- A check asks for its method's precondition; where it is tested as the method is applied, the decomposed task does.
 use Rattle.std.specs.Prelude.{◌≡◌, List, [], ◌∷◌, Some}
 use Rattle.task_networks.specs.Net.{Net}

@@ -1,4 +1,5 @@
--- Fronts and solution trees.
+-- Fronts: trees with a schedule of what is processed in them.
+-- Source: this project's, after HTN progression as in Alford et al., "Bound to Plan", ICAPS 2016.
 use Rattle.std.specs.Prelude.{◌≡◌, List}
 use Rattle.task_networks.specs.Net.{Net}
 use Rattle.task_networks.specs.Tree.{Tree, Address, work_of, IsGrown, IsOpen}

@@ -1,5 +1,5 @@
 -- A ground network and the network of its schemas, whose works and methods have no arguments.
--- Source: Höller et al., "HDDL", AAAI 2020, the section on lifted HTN planning: grounding.
+-- Source: Höller et al., "HDDL", AAAI 2020, lifted HTN planning: grounding.
 use Rattle.std.specs.Prelude.{ℕ, ◌≡◌, map}
 use Rattle.task_networks.specs.Net.{Net}
 

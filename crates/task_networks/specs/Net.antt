@@ -1,5 +1,5 @@
 -- A task network, ground: what a hierarchical problem is to trees and schedules.
--- Source: Höller et al., "HDDL", AAAI 2020, the section on lifted HTN planning. A check stands for a method's precondition.
+-- Source: Höller et al., "HDDL", AAAI 2020, lifted HTN planning. A check stands for a method's precondition.
 use Rattle.std.specs.Prelude.{ℕ, List, [], length, Option, None}
 
 pub record Net : Type 1 where

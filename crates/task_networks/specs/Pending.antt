@@ -23,7 +23,7 @@ module _ (N : Net) where
     pub different : AreDifferent nodes
     pub pending : (p : Address) → Contains nodes p → IsPending tree taken p
 
-  -- after each part of the order no more than b nodes are pending
+  -- after each beginning of the order no more than b nodes are pending
   abbrev pub IsWithin : ℕ → Tree N → List Address → Type 0
   IsWithin b tree order = (taken rest nodes : List Address) → order ≡ taken ++ rest → ArePending tree taken nodes → length nodes ≤ b
 

@@ -1,5 +1,5 @@
 -- What each byte of a text is. A comment is blank, byte for byte, so that places stay.
--- Source: appendix A (grammar) of Fox and Long, "PDDL2.1", JAIR 20, 2003, level 1: letters in either case, comments from a semicolon to the line's end.
+-- Source: this project's, as texts of PDDL are read: letters in either case, comments from a semicolon to the line's end.
 use Rattle.std.specs.Prelude.{ℕ, Bool, true, false, not, ◌&&◌, ◌||◌, ◌==◌, if◌then◌else◌, nat_le, List, [], ◌∷◌}
 
 pub data Class : Type 0 where
