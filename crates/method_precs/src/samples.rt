@@ -62,7 +62,8 @@ pub fn ready() -> Formula {
 /// So many types, of which type k has the parent k / 2, so that types 3 and 4 are parts of 1 and 2.
 pub fn types(alloc: Global, count: u32) -> Result<Types, Memory>
     requires { count ≤ 1003 }
-    ensures { IfOk result AreListed }
+    ensures listed { IfOk result AreListed }
+    ensures count { IfOk result (λ types. length types.names ≡ count) }
 {
     let mut names = List::new(alloc);
     let mut parents = List::new(alloc);
@@ -78,6 +79,38 @@ pub fn types(alloc: Global, count: u32) -> Result<Types, Memory>
         parents,
         unions: List::new(alloc),
     })
+}
+
+/// Object and four types: the first two are parts of object, the others of the second.
+pub fn four_types(alloc: Global) -> Result<Types, Memory>
+    ensures { IfOk result AreListed }
+{
+    let mut types = types(alloc, 5)?;
+    types.parents = four_parents(alloc)?;
+    Ok(types)
+}
+
+fn four_parents(alloc: Global) -> Result<List<Parent>, Memory>
+    ensures { IfOk result (AreListedParents 5) }
+{
+    let mut parents = List::new(alloc);
+    parents.push(Parent {
+        child: 1,
+        parent: 0,
+    })?;
+    parents.push(Parent {
+        child: 2,
+        parent: 0,
+    })?;
+    parents.push(Parent {
+        child: 3,
+        parent: 2,
+    })?;
+    parents.push(Parent {
+        child: 4,
+        parent: 2,
+    })?;
+    Ok(parents)
 }
 
 pub fn params(alloc: Global, types: &[u32]) -> Result<List<Param>, Memory>
@@ -129,6 +162,17 @@ pub fn children(alloc: Global, count: usize) -> Result<List<Child>, Memory>
     let mut children = List::new(alloc);
     for _ in 0..count {
         children.push(child(alloc, Head::Action(0), &[])?)?;
+    }
+    Ok(children)
+}
+
+/// Subtasks, each of a task or an action and of these variables.
+pub fn calls(alloc: Global, written: &[(Head, &[u32])]) -> Result<List<Child>, Memory>
+    ensures { IfOk result (λ children. length children ≡ length written.now) }
+{
+    let mut children = List::new(alloc);
+    for (head, variables) in written {
+        children.push(child(alloc, *head, variables)?)?;
     }
     Ok(children)
 }

@@ -5,12 +5,13 @@ ghost use Rattle.plan_model.specs.Parts.{AreListed};
 ghost use Rattle.method_precs.specs.Rising.{IsRising};
 
 use crate::samples::{
-    action, always, child, children, compiled, method, one, problem, ready, task, types,
+    action, always, calls, child, children, compiled, four_types, method, one, problem, ready,
+    task, types,
 };
 use htn_base::{List, Memory};
 use plan_model::{
-    Checks, Child, Compiled, Formula, Guard, Hddl, Head, MethodPlan, MethodSchema, Pair,
-    TaskSchema, Term,
+    ActionSchema, Checks, Child, Compiled, Formula, Guard, Hddl, Head, MethodPlan, MethodSchema,
+    Pair, TaskSchema, Term,
 };
 use std::alloc::Global;
 use std::process::Abort;
@@ -135,4 +136,109 @@ fn is_wide(rt: &impl Abort, plan: &MethodPlan) {
     assert_eq!(rt; (plan.copiers.len(), plan.schema.pairs.len()), (4095, 4096));
     assert_eq!(rt; plan.copiers.get(0).copied(), Some(1));
     assert_eq!(rt; plan.copiers.get(4094).copied(), Some(4095));
+}
+
+const VEHICLE: u32 = 3;
+
+const PACKAGE: u32 = 4;
+
+const LOCATION: u32 = 1;
+
+const GET_TO: Head = Head::Task(1);
+
+const DRIVE: Head = Head::Action(0);
+
+const PICK_UP: Head = Head::Action(1);
+
+const DROP: Head = Head::Action(2);
+
+/// Transport with one of its methods: tasks deliver and get-to, actions drive, pick-up and drop.
+fn transport(alloc: Global, method: MethodSchema) -> Result<Hddl, Memory>
+    requires { IsRising method }
+    ensures listed { IfOk result (λ h. AreListed h.types) }
+    ensures top { IfOk result (λ h. IsRising h.top) }
+    ensures methods { IfOk result (λ h. All IsRising h.methods) }
+{
+    let top = crate::samples::method(alloc, always(alloc), &[], List::new(alloc), false)?;
+    let (tasks, actions) = (transport_tasks(alloc)?, transport_actions(alloc)?);
+    let types = four_types(alloc)?;
+    Ok(problem(alloc, types, tasks, actions, top, one(alloc, method)?))
+}
+
+fn transport_tasks(alloc: Global) -> Result<List<TaskSchema>, Memory> {
+    let mut tasks = List::new(alloc);
+    for types in [[PACKAGE, LOCATION], [VEHICLE, LOCATION]] {
+        tasks.push(task(alloc, &types)?)?;
+    }
+    Ok(tasks)
+}
+
+fn transport_actions(alloc: Global) -> Result<List<ActionSchema>, Memory> {
+    let mut actions = List::new(alloc);
+    for last in [LOCATION, PACKAGE, PACKAGE] {
+        actions.push(action(alloc, &[VEHICLE, LOCATION, last])?)?;
+    }
+    Ok(actions)
+}
+
+// A vehicle, a package, and two locations: get-to, pick-up, get-to, drop, each before the next.
+#[test]
+fn deliver(rt: HostRuntime) -> Result<(), Fail> {
+    let steps: [(Head, &[u32]); 4] = [
+        (GET_TO, &[0, 2]),
+        (PICK_UP, &[0, 2, 1]),
+        (GET_TO, &[0, 3]),
+        (DROP, &[0, 3, 1]),
+    ];
+    let steps = calls(rt.alloc(), &steps)?;
+    let types = [VEHICLE, PACKAGE, LOCATION, LOCATION];
+    let method = method(rt.alloc(), always(rt.alloc()), &types, steps, true)?;
+    let made = compiled(rt.alloc(), transport(rt.alloc(), method)?, &Checks::Leaf)?;
+    is_chain_of_four(&rt, plan(&rt, &made, 1));
+    Ok(())
+}
+
+fn is_chain_of_four(rt: &impl Abort, plan: &MethodPlan) {
+    has_order(rt, plan, &[0, 1, 2, 3], Some(3), &[]);
+    let pairs = [pair(0, 1), pair(1, 2), pair(2, 3)];
+    assert_eq!(rt; plan.schema.pairs.as_slice(), pairs.as_slice());
+    assert_eq!(rt; (plan.checked, plan.guards.len()), (false, 0));
+}
+
+fn pair(first: u32, then: u32) -> Pair {
+    Pair { first, then }
+}
+
+// A vehicle and three locations: drive before get-to.
+#[test]
+fn via(rt: HostRuntime) -> Result<(), Fail> {
+    let steps: [(Head, &[u32]); 2] = [(DRIVE, &[0, 1, 2]), (GET_TO, &[0, 3])];
+    let steps = calls(rt.alloc(), &steps)?;
+    let types = [VEHICLE, LOCATION, LOCATION, LOCATION];
+    let method = method(rt.alloc(), always(rt.alloc()), &types, steps, true)?;
+    let made = compiled(rt.alloc(), transport(rt.alloc(), method)?, &Checks::Leaf)?;
+    has_order(&rt, plan(&rt, &made, 1), &[0, 1], Some(1), &[]);
+    assert_eq!(rt; plan(&rt, &made, 1).guards.len(), 0);
+    Ok(())
+}
+
+// A vehicle that is there already: the check alone.
+#[test]
+fn there(rt: HostRuntime) -> Result<(), Fail> {
+    let steps = List::new(rt.alloc());
+    let method = method(rt.alloc(), ready(), &[VEHICLE, LOCATION], steps, false)?;
+    let made = compiled(rt.alloc(), transport(rt.alloc(), method)?, &Checks::Leaf)?;
+    is_check_alone(&rt, plan(&rt, &made, 1));
+    Ok(())
+}
+
+fn is_check_alone(rt: &impl Abort, plan: &MethodPlan) {
+    has_order(rt, plan, &[0], Some(0), &[]);
+    assert_eq!(rt; (plan.checked, plan.schema.pairs.len()), (true, 0));
+    let check = plan.schema.children.get(0).expect(rt, "a check");
+    assert_eq!(rt; check.head, Head::Check);
+    assert_eq!(rt;
+        check.args.as_slice(),
+        [Term::Var(0), Term::Var(1)].as_slice()
+    );
 }
