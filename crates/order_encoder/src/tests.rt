@@ -1,4 +1,5 @@
-//! Each call is made once with ample memory, at one slot, and what it gives is compared with what was written by hand.
+//! Each of the calls that give a whole formula or effect is made once with ample memory, at one slot in style flat, and what it
+//! gives is compared with what was written by hand.
 
 ghost use Rattle.std.specs.Prelude.{◌≡◌};
 
