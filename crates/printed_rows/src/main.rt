@@ -1,0 +1,24 @@
+//! Prints whole rows: for each small problem of `data/` the two PDDL texts, at some numbers of slots, in both styles and
+//! in both modes of preconditions.
+//!
+//! Stands on the reader, the compiler, the encoder and the printer. `stdout` has the texts that are due, byte for byte.
+//! They were made by two programs that share nothing with this one, nor with each other, and agree on every byte.
+#![tactic(auto)]
+
+mod checks;
+mod rows;
+mod running;
+
+use outside_io::DiskFiles;
+use std::process::ExitCode;
+
+fn main(rt: HostRuntime) -> ExitCode {
+    let mut files = DiskFiles::new(rt);
+    match running::print_all(&rt, rt.alloc(), &mut files) {
+        Ok(()) => ExitCode::SUCCESS,
+        Err(failure) => {
+            let _ = eprintln!(rt; "{failure:?}");
+            ExitCode::FAILURE
+        }
+    }
+}
