@@ -1,7 +1,7 @@
 -- What the run-time checks give of a whole problem.
-use Rattle.std.proofs.Common.{ℕ, ◌<◌, List, ◌∷◌, inl, inr, length, All, Contains, subst}
+use Rattle.std.proofs.Common.{ℕ, ◌<◌, ◌≤◌, ◌^◌, List, ◌∷◌, inl, inr, length, All, Contains, Bool, IsTrue, subst}
 use Rattle.std.proofs.lemmas.List.Elements.{All-contains}
-use Rattle.task_networks.specs.Order.{ArePairsOf}
+use Rattle.task_networks.specs.Order.{ArePairsOf, IsAcyclic}
 use Rattle.task_networks.proofs.Lists.{head_or_tail}
 use Rattle.plan_model.specs.declared.networks.Pair.{Pair}
 use Rattle.plan_model.specs.declared.schemas.MethodSchema.{MethodSchema}
@@ -27,3 +27,6 @@ module _ (h : Hddl) (fit : AreFit h) where
 
   pub few : HaveFewParams h
   few s c = (each s c).few
+
+pub fit_by : (s : MethodSchema) (b : Bool) → length s.children ≤ 4096 → length s.params < 2 ^ 32 → (IsTrue b → AreBelow (length s.children) s.pairs) → (IsTrue b → IsAcyclic (Pairs s.pairs)) → IsTrue b → IsFit s
+fit_by s b small few below acyclic t = record { within = within (length s.children) s.pairs (below t); acyclic = acyclic t; small = small; few = few }

@@ -17,18 +17,25 @@ use std::alloc::Global;
 pub fn compiled(alloc: Global, problem: Hddl, checks: Checks) -> Result<Option<Compiled>, Memory>
     ensures listed { IfOk result (λ o. IfSome o (λ c. AreListed c.hddl.types)) }
 {
-    if are_listed(&problem.types) && are_fit(alloc, &problem)? {
-        Ok(Some(compile(alloc, problem, &checks)?))
-    } else {
-        Ok(None)
+    if !are_listed(&problem.types) {
+        return Ok(None);
     }
+    if !are_fit(alloc, &problem)? {
+        return Ok(None);
+    }
+    let compiled = compile(alloc, problem, &checks)?;
+    Ok(Some(compiled))
 }
 
 /// True only where each network can be compiled.
 fn are_fit(alloc: Global, problem: &Hddl) -> Result<bool, Memory>
     ensures fit { IfOk result (λ fit. IsTrue fit → AreFit problem.now) }
 {
-    Ok(is_fit(alloc, &problem.top)? && are_methods_fit(alloc, problem.methods.as_slice())?)
+    if is_fit(alloc, &problem.top)? {
+        are_methods_fit(alloc, problem.methods.as_slice())
+    } else {
+        Ok(false)
+    }
 }
 
 fn are_methods_fit(alloc: Global, methods: &[MethodSchema]) -> Result<bool, Memory>

@@ -50,9 +50,8 @@ fn method_of(
     names: &mut NameTable,
 ) -> Result<MethodSchema, Stop> {
     absent(parts.effect)?;
-    let params = schema_params(alloc, s, parts.parameters, known, names)?;
-    let scope = scope_of(alloc, &params)?;
-    let front = front_of(alloc, s, name, params, &scope, parts, known, names)?;
+    let front = front_of(alloc, s, name, parts, known, names)?;
+    let scope = scope_of(alloc, &front.params)?;
     let network = network_of(alloc, s, parts, known, &scope, names)?;
     Ok(joined(front, network))
 }
@@ -61,14 +60,14 @@ fn front_of(
     alloc: Global,
     s: &Sexprs<'_>,
     name: Name,
-    params: List<Param>,
-    scope: &List<Name>,
     parts: &Entries,
     known: &Declared,
     names: &mut NameTable,
 ) -> Result<Front, Stop> {
-    let (task, task_args) = task_of(alloc, s, parts.task, known, scope, names)?;
-    let pre = schema_condition(alloc, s, parts.precondition, known, scope, names)?;
+    let params = schema_params(alloc, s, parts.parameters, known, names)?;
+    let scope = scope_of(alloc, &params)?;
+    let (task, task_args) = task_of(alloc, s, parts.task, known, &scope, names)?;
+    let pre = schema_condition(alloc, s, parts.precondition, known, &scope, names)?;
     Ok(Front {
         name,
         params,

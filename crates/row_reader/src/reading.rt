@@ -164,11 +164,23 @@ fn bound(
         &mut names,
     )?;
     let start = start_of(alloc, problem, &mut known, &mut names)?;
-    Ok(Hddl {
+    Ok(joined(names, (domain.name, problem.name), known, methods, start))
+}
+
+/// The value of a domain and a problem of these names.
+fn joined(
+    names: NameTable,
+    of: (Name, Name),
+    known: Declared,
+    methods: List<MethodSchema>,
+    start: Start,
+) -> Hddl {
+    let table = known.types;
+    Hddl {
         names,
-        domain: domain.name,
-        problem: problem.name,
-        types: known.types.types,
+        domain: of.0,
+        problem: of.1,
+        types: table.types,
         objects: known.objects,
         predicates: known.predicates,
         tasks: known.tasks,
@@ -177,5 +189,5 @@ fn bound(
         top: start.top,
         init: start.init,
         goal: start.goal,
-    })
+    }
 }

@@ -73,7 +73,10 @@ fn each_part(rt: HostRuntime) -> Result<(), Fail> {
     let value = hddl(rt.alloc(), DOMAIN, PROBLEM)?.expect(&rt, "a value");
     has_types(&rt, &value);
     has_network(&rt, &value);
-    assert_eq!(rt; (value.top.task, value.init.len(), value.objects.len()), (1, 1, 2));
+    assert_eq!(rt;
+        (value.top.task, value.init.len(), value.objects.len()),
+        (1, 1, 2)
+    );
     let action = value.actions.get(0).expect(&rt, "an action");
     let param = action.params.get(0).expect(&rt, "a parameter");
     assert_eq!(rt; param.ty, 6);

@@ -29,3 +29,12 @@ returns-in-Some-close_of c =
     let order = l.order in
     let within = l.within in
     record { shown = (record { later = omega arith; within = omega arith }, record { later = omega arith; within = omega arith }, l.whole) }
+
+pub overflow_add-result-in-Some-close_of-2 : goal.overflow_add-result-in-Some-close_of-2
+overflow_add-result-in-Some-close_of-2 c =
+    let h = c.in-Some.ensures.token in
+    let e = c.in-Some-close_of.ensures.close in
+    let n = c.len.ensures.count in
+    let l = shows_list c.args.s.now c.args.i c.in-Some.read (cc) c.in-Start.is c.in-Some-close_of.closing (cc) in
+    let within = l.within in
+    omega arith
