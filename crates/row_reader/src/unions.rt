@@ -1,5 +1,4 @@
-ghost use Rattle.std.specs.Prelude.{◌<◌, IfOk};
-ghost use Rattle.text_forms.specs.Tokens.{token_count};
+ghost use Rattle.std.specs.Prelude.{◌≡◌, ◌<◌, ◌⊎◌, IfOk};
 
 use crate::cursor::{Item, item_at, next_word};
 use crate::named::Named;
@@ -33,43 +32,57 @@ fn add_union_at(
     unions: &mut List<List<u32>>,
     names: &mut NameTable,
 ) -> Result<u32, Stop>
-    requires { i < token_count s.now }
+    requires { i < 4294967295 }
     ensures { IfOk result (λ next. i < next) }
 {
-    match shape_at(s, i) {
-        Shape::Union(inside, behind) => {
-            let members = members_of(alloc, s, inside, by_name, names)?;
-            add_union(unions, members)?;
-            Ok(behind)
-        }
-        Shape::Other(next) => Ok(next),
+    let found = found_at(s, i);
+    if let Some(inside) = found.union {
+        let members = members_of(alloc, s, inside, by_name, names)?;
+        add_union(unions, members)?;
     }
+    Ok(found.next)
 }
 
-/// A union with the number of the token behind its keyword, or anything else; and where looking goes on.
+/// The number of the token behind the keyword of a union, where one stands, and of the one where looking goes on.
 #[derive(Clone, Copy)]
-enum Shape {
-    Union(u32, u32),
-    Other(u32),
+struct Found {
+    union: Option<u32>,
+    next: u32,
 }
 
-fn shape_at(s: &Sexprs<'_>, i: u32) -> Shape {
+fn found_at(s: &Sexprs<'_>, i: u32) -> Found
+    requires { i < 4294967295 }
+    ensures { i < result.next }
+{
     match item_at(s, i) {
-        Item::End => Shape::Other(i + 1),
-        Item::Word(_, behind) => Shape::Other(behind),
-        Item::List(inside, behind) => shape_of(s, inside, behind),
+        Item::End => nothing(i + 1),
+        Item::Word(_, behind) => nothing(behind),
+        Item::List(inside, behind) => found_in(s, inside, behind),
     }
+}
+
+fn nothing(next: u32) -> Found
+    ensures { result.next ≡ next }
+{
+    Found { union: None, next }
 }
 
 /// What stands behind some words is dropped, or has no types in it.
-fn shape_of(s: &Sexprs<'_>, inside: u32, behind: u32) -> Shape {
+fn found_in(s: &Sexprs<'_>, inside: u32, behind: u32) -> Found
+    ensures { (result.next ≡ inside) ⊎ (result.next ≡ behind) }
+{
     match item_at(s, inside) {
-        Item::Word(word, next) if is_word(word, b"either") => Shape::Union(next, behind),
-        Item::Word(word, _) if is_among(word, &[b":functions", b":metric", b"increase", b"="]) => {
-            Shape::Other(behind)
-        }
-        _ => Shape::Other(inside),
+        Item::Word(word, next) if is_word(word, b"either") => Found {
+            union: Some(next),
+            next: behind,
+        },
+        Item::Word(word, _) if is_without_types(word) => nothing(behind),
+        _ => nothing(inside),
     }
+}
+
+fn is_without_types(word: &[u8]) -> bool {
+    is_among(word, &[b":functions", b":metric", b"increase", b"="])
 }
 
 /// The types of a union from token `i` on, each once.
