@@ -14,6 +14,7 @@ use row_reader::are_listed;
 use std::alloc::Global;
 
 /// The compiled problem, or `None` where a network has a cycle or is too large, or the types aren't listed.
+#[tactic(auto, using(crate::proofs::Fits::ordered, crate::proofs::Fits::small, crate::proofs::Fits::few))]
 pub fn compiled(alloc: Global, problem: Hddl, checks: Checks) -> Result<Option<Compiled>, Memory>
     ensures listed { IfOk result (λ o. IfSome o (λ c. AreListed c.hddl.types)) }
 {
@@ -50,6 +51,7 @@ fn are_methods_fit(alloc: Global, methods: &[MethodSchema]) -> Result<bool, Memo
 }
 
 /// True only where the network of a method can be compiled.
+#[tactic(auto, using(crate::proofs::Fits::fit_by))]
 fn is_fit(alloc: Global, method: &MethodSchema) -> Result<bool, Memory>
     ensures fit { IfOk result (λ fit. IsTrue fit → IsFit method.now) }
 {

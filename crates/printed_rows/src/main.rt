@@ -1,8 +1,10 @@
 //! Prints whole rows: for each small problem of `data/` the two PDDL texts, at some numbers of slots, in both styles and
 //! in both modes of preconditions.
 //!
-//! Stands on the reader, the compiler, the encoder and the printer. `stdout` has the texts that are due, byte for byte.
-//! They were made by two programs that share nothing with this one, nor with each other, and agree on every byte.
+//! Stands on the reader, the compiler, the encoder and the printer. `data/` has the problems, and `stdout` the texts that
+//! are due, byte for byte. Two programs that share nothing with this one, nor with each other, made each text from the same
+//! problems, into a file of its own, and agree on every byte. A script then put these files one after the other, by name,
+//! each behind a line with its name. Nothing that this program prints was put in.
 #![tactic(auto)]
 
 mod checks;
