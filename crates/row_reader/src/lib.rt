@@ -22,8 +22,6 @@ mod reading;
 mod schemas;
 mod sections;
 mod stop;
-#[cfg(test)]
-mod tests;
 mod types;
 mod unions;
 mod words;
