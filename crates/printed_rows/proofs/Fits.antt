@@ -1,0 +1,32 @@
+-- What the run-time checks give of a whole problem.
+use Rattle.std.proofs.Common.{ℕ, ◌<◌, ◌≤◌, ◌^◌, List, ◌∷◌, inl, inr, length, Contains, Bool, IsTrue, subst}
+use Rattle.std.proofs.lemmas.List.Elements.{All-contains}
+use Rattle.task_networks.specs.Order.{ArePairsOf, IsAcyclic}
+use Rattle.task_networks.proofs.Lists.{head_or_tail}
+use Rattle.plan_model.specs.declared.networks.Pair.{Pair}
+use Rattle.plan_model.specs.declared.schemas.MethodSchema.{MethodSchema}
+use Rattle.plan_model.specs.declared.values.Hddl.{Hddl}
+use Rattle.plan_meaning.specs.Compilation.{pair, Pairs}
+use Rattle.plan_meaning.specs.Laws.{AreOrdered}
+use Rattle.net_order.specs.Meaning.{AreBelow}
+use Rattle.method_precs.specs.Small.{AreSmall, HaveFewParams, IsFit}
+use Rattle.printed_rows.specs.Fit.{AreFit}
+
+pub within : (count : ℕ) (pairs : List Pair) → AreBelow count pairs → ArePairsOf (Pairs pairs) count
+within count pairs below i j c = All-contains (λ (p : Pair). (p.first < count) × (p.then < count)) pairs (pair i j) below c
+
+module _ (h : Hddl) (fit : AreFit h) where
+  each : (s : MethodSchema) → Contains (h.top ∷ h.methods) s → IsFit s
+  each s c = elim (head_or_tail h.top h.methods s c) [ inl e ↦ subst IsFit e fit.top | inr d ↦ All-contains IsFit h.methods s fit.methods d ]
+
+  pub ordered : AreOrdered h
+  ordered s c = let f = each s c in (f.within, f.acyclic)
+
+  pub small : AreSmall h
+  small s c = (each s c).small
+
+  pub few : HaveFewParams h
+  few s c = (each s c).few
+
+pub fit_by : (s : MethodSchema) (b : Bool) → length s.children ≤ 4096 → length s.params < 2 ^ 32 → (IsTrue b → AreBelow (length s.children) s.pairs) → (IsTrue b → IsAcyclic (Pairs s.pairs)) → IsTrue b → IsFit s
+fit_by s b small few below acyclic t = record { within = within (length s.children) s.pairs (below t); acyclic = acyclic t; small = small; few = few }

@@ -1,0 +1,157 @@
+use crate::checks::compiled;
+use crate::rows::{ROWS, Row};
+use htn_base::{Memory, Text};
+use outside_io::{DiskFiles, Files, GetError};
+use pddl_printer::{print_domain, print_problem};
+use plan_model::{Checks, Compiled, Pddl, Style};
+use row_reader::hddl;
+use slot_encoder::encode;
+use std::alloc::{AllocError, Global};
+use std::io::{self, Write};
+
+/// More bytes than a text of `data/` has.
+const LIMIT: u64 = 65536;
+
+/// Why a row isn't printed.
+#[derive(Debug, Drop)]
+pub enum Failure {
+    /// A file was not read.
+    File,
+    /// The texts are no domain and problem, or have a network without an order.
+    Form,
+    Memory,
+    /// Standard output took no more.
+    Output,
+}
+
+impl From<Memory> for Failure {
+    fn from(_memory: Memory) -> Failure {
+        Failure::Memory
+    }
+}
+
+impl From<AllocError> for Failure {
+    fn from(_error: AllocError) -> Failure {
+        Failure::Memory
+    }
+}
+
+impl From<GetError> for Failure {
+    fn from(error: GetError) -> Failure {
+        match error {
+            GetError::Failed => Failure::File,
+            GetError::Memory => Failure::Memory,
+        }
+    }
+}
+
+impl From<io::Error> for Failure {
+    fn from(_error: io::Error) -> Failure {
+        Failure::Output
+    }
+}
+
+/// The two HDDL texts of a row.
+#[derive(Drop)]
+struct Source {
+    domain: Vec<u8>,
+    problem: Vec<u8>,
+}
+
+/// Prints each row, in both styles and in its modes.
+pub fn print_all(rt: &HostRuntime, alloc: Global, files: &mut DiskFiles) -> Result<(), Failure> {
+    for row in ROWS {
+        let source = source_of(alloc, files, row.name)?;
+        print_styles(rt, alloc, &row, &source)?;
+    }
+    Ok(())
+}
+
+fn source_of(alloc: Global, files: &mut DiskFiles, name: &str) -> Result<Source, Failure> {
+    let domain = format!(in alloc; "{name}.d.hddl")?;
+    let problem = format!(in alloc; "{name}.p.hddl")?;
+    Ok(Source {
+        domain: files.get(alloc, domain.as_str(), LIMIT)?,
+        problem: files.get(alloc, problem.as_str(), LIMIT)?,
+    })
+}
+
+fn print_styles(
+    rt: &HostRuntime,
+    alloc: Global,
+    row: &Row,
+    source: &Source,
+) -> Result<(), Failure> {
+    for style in [Style::Adl, Style::Flat] {
+        for checks in row.modes {
+            let printed = printed(alloc, source, row.slots, style, *checks)?;
+            print_texts(rt, alloc, row, style, *checks, &printed)?;
+        }
+    }
+    Ok(())
+}
+
+/// The printed problem.
+fn printed(
+    alloc: Global,
+    source: &Source,
+    slots: u32,
+    style: Style,
+    checks: Checks,
+) -> Result<Pddl, Failure> {
+    match hddl(alloc, source.domain.as_slice(), source.problem.as_slice())? {
+        None => Err(Failure::Form),
+        Some(problem) => match compiled(alloc, problem, checks)? {
+            None => Err(Failure::Form),
+            Some(compiled) => Ok(encode(alloc, &compiled, slots, &style)?),
+        },
+    }
+}
+
+fn print_texts(
+    rt: &HostRuntime,
+    alloc: Global,
+    row: &Row,
+    style: Style,
+    checks: Checks,
+    printed: &Pddl,
+) -> Result<(), Failure> {
+    let mut domain = Text::new(alloc);
+    print_domain(printed, &mut domain)?;
+    print_text(rt, row, style, checks, "od", &domain)?;
+    let mut problem = Text::new(alloc);
+    print_problem(printed, &mut problem)?;
+    print_text(rt, row, style, checks, "op", &problem)
+}
+
+/// A line with the row, and the text.
+fn print_text(
+    rt: &HostRuntime,
+    row: &Row,
+    style: Style,
+    checks: Checks,
+    kind: &str,
+    text: &Text,
+) -> Result<(), Failure> {
+    let name = row.name;
+    let slots = row.slots;
+    let style = style_word(style);
+    let checks = checks_word(checks);
+    println!(rt; "== {name} {slots}-{style}-{checks}.{kind}.pddl")?;
+    rt.stdout().write_all(text.as_slice())?;
+    Ok(())
+}
+
+fn style_word(style: Style) -> &'static str {
+    match style {
+        Style::Adl => "adl",
+        Style::Flat => "flat",
+    }
+}
+
+fn checks_word(checks: Checks) -> &'static str {
+    match checks {
+        Checks::Leaf => "leaf",
+        Checks::AtOnce => "atonce",
+    }
+}
