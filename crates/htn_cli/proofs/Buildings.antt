@@ -1,5 +1,5 @@
 -- What two input texts come to, from what is printed of their problem.
-use Rattle.std.proofs.Common.{ℕ, ◌≡◌, ◌<◌, ◌≤◌, ◌^◌, List, [], length, refl, sym, ap, ◌∙◌, subst, arith}
+use Rattle.std.proofs.Common.{ℕ, ◌≡◌, ◌<◌, ◌≤◌, ◌^◌, List, [], length, ap, ◌∙◌, arith}
 use Rattle.plan_model.specs.declared.formulas.Formula.TheVariants.{And}
 use Rattle.plan_model.specs.declared.values.Hddl.{Hddl}
 use Rattle.plan_model.specs.declared.values.Compiled.{Compiled}
@@ -8,69 +8,72 @@ use Rattle.plan_texts.specs.FirstSeen.{IsHddlOf}
 use Rattle.plan_texts.specs.PrintedTexts.{domain_text, problem_text}
 use Rattle.plan_texts.specs.SoundValue.{IsSoundHddl}
 use Rattle.plan_meaning.specs.Compilation.{IsCompiled}
+use Rattle.plan_meaning.specs.EncodedValue.{IsEncoded}
 use Rattle.plan_meaning.specs.Laws.{AreOrdered}
-use Rattle.slot_plans.specs.Pieces.{IsPrinted}
-use Rattle.htn_cli.specs.Texts.{Texts, IsFirstTooLong, AreTranslated, AreTooLong}
+use Rattle.encoded_words.specs.EncodedWords.{HasEncodedWords}
+use Rattle.slot_encoder.specs.Vocabulary.{IsPrintableWhereSound}
+use Rattle.printed_sizes.specs.declared.lengths.Sizes.{Sizes}
+use Rattle.printed_sizes.specs.AreSizes.{AreSizesOf}
+use Rattle.printed_sizes.specs.Capped.{capped}
+use Rattle.htn_cli.specs.Texts.{Texts, longest, AreTranslated}
 use Rattle.htn_cli.specs.Built.{AreShort, ComesTo, texts_of}
-use Rattle.htn_cli.specs.Printing.{IsWithinLimit, IsEncodedWhole, ArePrinted, ArePastLimit, Prints, Becomes}
+use Rattle.htn_cli.specs.Printing.{ArePrinted, Prints, Becomes}
 use Rattle.htn_cli.specs.declared.manner.Manner.{Manner}
 use Rattle.htn_cli.specs.declared.building.Texts.{Texts as Printed}
 use Rattle.htn_cli.specs.declared.building.Built.{Built}
 use Rattle.htn_cli.specs.declared.building.Built.TheVariants as built
 
--- what is made of the two texts of a value
-pub prints_of : (compiled : Compiled) (manner : Manner) (value : Pddl) (texts : Printed) (built : Built) → IsEncodedWhole compiled manner value
-    → texts.domain ≡ domain_text value → texts.problem ≡ problem_text value → IsWithinLimit texts built → Prints compiled manner built
-prints_of compiled manner value texts built.NotOfForm whole d p within = within
-prints_of compiled manner value texts (built.TooLong n) whole d p within =
-    record { value = value; whole = whole; first = subst (λ (z : Type 0). z) (λ i. IsFirstTooLong (d i) (p i) n) within }
-prints_of compiled manner value texts (built.Whole same) whole d p within =
-    let one = ap (λ (t : Printed). t.domain) within.0 in
-    let two = ap (λ (t : Printed). t.problem) within.0 in
-    record {
-      value = value;
-      whole = whole;
-      domain_is = one ∙ d;
-      problem_is = two ∙ p;
-      domain_fits = let e = ap length one in omega (arith, e, within.1);
-      problem_fits = let e = ap length two in omega (arith, e, within.2);
-    }
+-- the texts of a value whose sizes are within the limit
+module _ (compiled : Compiled) (manner : Manner) (sizes : Sizes) (sized : AreSizesOf compiled manner.slots manner.style sizes) where
+  module _ (value : Pddl) (encoded : IsEncoded compiled manner.slots manner.style value) (words : HasEncodedWords compiled manner.slots value.names) where
+    domain_size : sizes.domain ≡ capped (length (domain_text value))
+    domain_size = (sized value encoded words).0
+
+    problem_size : sizes.problem ≡ capped (length (problem_text value))
+    problem_size = (sized value encoded words).1
+
+    domain_fits : sizes.domain ≤ longest → length (domain_text value) ≤ longest
+    domain_fits few = let e = domain_size in omega (arith, e, few)
+
+    problem_fits : sizes.problem ≤ longest → length (problem_text value) ≤ longest
+    problem_fits few = let e = problem_size in omega (arith, e, few)
+
+  pub whole_prints : (value : Pddl) (texts : Printed) → IsEncoded compiled manner.slots manner.style value → HasEncodedWords compiled manner.slots value.names
+      → IsPrintableWhereSound compiled manner.slots value → texts.domain ≡ domain_text value → texts.problem ≡ problem_text value
+      → sizes.domain ≤ longest → sizes.problem ≤ longest → Prints compiled manner (built.Whole texts)
+  whole_prints value texts encoded words printable d p few_d few_p =
+      record {
+        value = value;
+        encoded = encoded;
+        words = words;
+        printable = printable;
+        domain_is = d;
+        problem_is = p;
+        domain_fits = let e = ap length d in omega (arith, e, domain_fits value encoded words few_d);
+        problem_fits = let e = ap length p in omega (arith, e, problem_fits value encoded words few_p);
+      }
 
 module _ (domain problem : List ℕ) (manner : Manner) (read : Hddl) (spelled : IsHddlOf domain problem read) (sound : IsSoundHddl read) (ordered : AreOrdered read) (top : read.top.pre ≡ And []) (unions : read.types.unions ≡ []) (some : 1 ≤ manner.slots) (short : AreShort domain problem) where
-  printed_there : (compiled : Compiled) (value : Pddl) → IsCompiled read manner.checks compiled → IsEncodedWhole compiled manner value → IsPrinted read manner.checks compiled manner.slots manner.style value
-  printed_there compiled value is whole =
+  translated : (compiled : Compiled) (texts : Texts) → IsCompiled read manner.checks compiled → ArePrinted compiled manner texts → AreTranslated domain problem manner texts
+  translated compiled texts is p =
       let plain = ap (λ (h : Hddl). h.top.pre) is.hddl ∙ top in
       let none = ap (λ (h : Hddl). length h.types.unions) is.hddl ∙ ap length unions in
       let few : length compiled.hddl.types.unions < 2 ^ 64 = omega (arith, none) in
-      record { sound = sound; compiled = is; printable = whole.printable read manner.checks sound is plain some few; encoded = whole.encoded }
+      record {
+        read = read;
+        compiled = compiled;
+        value = p.value;
+        spelled = spelled;
+        ordered = ordered;
+        printed = record { sound = sound; compiled = is; printable = p.printable read manner.checks sound is plain some few; encoded = p.encoded };
+        words = p.words;
+        domain_is = p.domain_is;
+        problem_is = p.problem_is;
+        domain_fits = p.domain_fits;
+        problem_fits = p.problem_fits;
+      }
 
   pub comes_to : (built : Built) → Becomes read manner built → ComesTo domain problem manner built
   comes_to built.NotOfForm becomes = tt
-  comes_to (built.TooLong n) (compiled, is, past) = (
-    short,
-    record {
-      read = read;
-      compiled = compiled;
-      value = past.value;
-      spelled = spelled;
-      printed = printed_there compiled past.value is past.whole;
-      words = past.whole.words;
-      first = past.first;
-    },
-  )
-  comes_to (built.Whole texts) (compiled, is, p) = (
-    short,
-    record {
-      read = read;
-      compiled = compiled;
-      value = p.value;
-      spelled = spelled;
-      ordered = ordered;
-      printed = printed_there compiled p.value is p.whole;
-      words = p.whole.words;
-      domain_is = p.domain_is;
-      problem_is = p.problem_is;
-      domain_fits = p.domain_fits;
-      problem_fits = p.problem_fits;
-    },
-  )
+  comes_to (built.TooLong n) (compiled, is, long) = (short, record { read = read; compiled = compiled; spelled = spelled; sound = sound; compiled_is = is; too_long = long })
+  comes_to (built.Whole texts) (compiled, is, prints) = (short, translated compiled (texts_of texts) is prints)

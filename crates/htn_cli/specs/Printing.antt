@@ -1,5 +1,5 @@
 -- What the printing of a compiled problem comes to.
-use Rattle.std.specs.Prelude.{ℕ, ◌≡◌, ◌≤◌, length}
+use Rattle.std.specs.Prelude.{ℕ, ◌≡◌, ◌<◌, ◌≤◌, ◌⊎◌, length}
 use Rattle.plan_model.specs.declared.values.Hddl.{Hddl}
 use Rattle.plan_model.specs.declared.values.Compiled.{Compiled}
 use Rattle.plan_model.specs.declared.values.Pddl.{Pddl}
@@ -8,43 +8,33 @@ use Rattle.plan_meaning.specs.Compilation.{IsCompiled}
 use Rattle.plan_meaning.specs.EncodedValue.{IsEncoded}
 use Rattle.encoded_words.specs.EncodedWords.{HasEncodedWords}
 use Rattle.slot_encoder.specs.Vocabulary.{IsPrintableWhereSound}
+use Rattle.printed_sizes.specs.declared.lengths.Sizes.{Sizes}
 use Rattle.htn_cli.specs.Texts.{Texts, longest, IsFirstTooLong}
 use Rattle.htn_cli.specs.Built.{texts_of}
 use Rattle.htn_cli.specs.declared.manner.Manner.{Manner}
-use Rattle.htn_cli.specs.declared.building.Texts.{Texts as Printed}
 use Rattle.htn_cli.specs.declared.building.Built.{Built}
 use Rattle.htn_cli.specs.declared.building.Built.TheVariants as built
 
--- what is made of two texts by their lengths
-abbrev pub IsWithinLimit : Printed → Built → Type 0
-IsWithinLimit texts built.NotOfForm = ⊥
-IsWithinLimit texts (built.TooLong n) = IsFirstTooLong texts.domain texts.problem n
-IsWithinLimit texts (built.Whole same) = (same ≡ texts) × (length texts.domain ≤ longest) × (length texts.problem ≤ longest)
+-- the first of two lengths that is too great
+abbrev pub IsFirstPast : Sizes → ℕ → Type 0
+IsFirstPast sizes n =
+    ((longest < sizes.domain) × (n ≡ sizes.domain))
+    ⊎ ((sizes.domain ≤ longest) × (longest < sizes.problem) × (n ≡ sizes.problem))
 
--- a value that is encoded with all its words, and can be printed where the problem is sound
-pub record IsEncodedWhole (compiled : Compiled) (manner : Manner) (value : Pddl) : Type 0 where
+-- the texts are those of an encoded value, and neither is too long
+pub record ArePrinted (compiled : Compiled) (manner : Manner) (texts : Texts) : Type 0 where
+  pub value : Pddl
   pub encoded : IsEncoded compiled manner.slots manner.style value
   pub words : HasEncodedWords compiled manner.slots value.names
   pub printable : IsPrintableWhereSound compiled manner.slots value
-
--- the texts are those of such a value, and neither is too long
-pub record ArePrinted (compiled : Compiled) (manner : Manner) (texts : Texts) : Type 0 where
-  pub value : Pddl
-  pub whole : IsEncodedWhole compiled manner value
   pub domain_is : texts.domain ≡ domain_text value
   pub problem_is : texts.problem ≡ problem_text value
   pub domain_fits : length texts.domain ≤ longest
   pub problem_fits : length texts.problem ≤ longest
 
--- one of the texts of such a value is too long
-pub record ArePastLimit (compiled : Compiled) (manner : Manner) (n : ℕ) : Type 0 where
-  pub value : Pddl
-  pub whole : IsEncodedWhole compiled manner value
-  pub first : IsFirstTooLong (domain_text value) (problem_text value) n
-
 abbrev pub Prints : Compiled → Manner → Built → Type 0
 Prints compiled manner built.NotOfForm = ⊥
-Prints compiled manner (built.TooLong n) = ArePastLimit compiled manner n
+Prints compiled manner (built.TooLong n) = (value : Pddl) → IsEncoded compiled manner.slots manner.style value → HasEncodedWords compiled manner.slots value.names → IsFirstTooLong (domain_text value) (problem_text value) n
 Prints compiled manner (built.Whole texts) = ArePrinted compiled manner (texts_of texts)
 
 -- and what that of a problem which is compiled first comes to

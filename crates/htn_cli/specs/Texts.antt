@@ -1,14 +1,18 @@
 -- The two printed texts of a translation: what they are, and when they are too long.
 -- Source: this project's.
-use Rattle.std.specs.Prelude.{ℕ, ◌≡◌, ◌<◌, ◌≤◌, ◌-◌, ◌^◌, ◌⊎◌, List, length, min}
+use Rattle.std.specs.Prelude.{ℕ, ◌≡◌, ◌<◌, ◌≤◌, ◌⊎◌, List, length}
 use Rattle.plan_model.specs.declared.values.Hddl.{Hddl}
 use Rattle.plan_model.specs.declared.values.Compiled.{Compiled}
 use Rattle.plan_model.specs.declared.values.Pddl.{Pddl}
 use Rattle.plan_texts.specs.FirstSeen.{IsHddlOf}
 use Rattle.plan_texts.specs.PrintedTexts.{domain_text, problem_text}
+use Rattle.plan_texts.specs.SoundValue.{IsSoundHddl}
+use Rattle.plan_meaning.specs.Compilation.{IsCompiled}
+use Rattle.plan_meaning.specs.EncodedValue.{IsEncoded}
 use Rattle.plan_meaning.specs.Laws.{AreOrdered}
 use Rattle.encoded_words.specs.EncodedWords.{HasEncodedWords}
 use Rattle.slot_plans.specs.Pieces.{IsPrinted}
+use Rattle.printed_sizes.specs.Capped.{capped}
 use Rattle.htn_cli.specs.declared.manner.Manner.{Manner}
 
 pub record Texts : Type 0 where
@@ -19,15 +23,11 @@ pub record Texts : Type 0 where
 abbrev pub longest : ℕ
 longest = 268435456
 
--- a length past 2^64 - 1 counts as 2^64 - 1
-abbrev pub counted : ℕ → ℕ
-counted n = min n (2 ^ 64 - 1)
-
 -- the first of two texts that is too long; n is its length
 abbrev pub IsFirstTooLong : (domain problem : List ℕ) (n : ℕ) → Type 0
 IsFirstTooLong domain problem n =
-    ((longest < length domain) × (n ≡ counted (length domain)))
-    ⊎ ((length domain ≤ longest) × (longest < length problem) × (n ≡ counted (length problem)))
+    ((longest < length domain) × (n ≡ capped (length domain)))
+    ⊎ ((length domain ≤ longest) × (longest < length problem) × (n ≡ capped (length problem)))
 
 module _ (domain problem : List ℕ) (manner : Manner) where
   -- The texts are those of a value that is printed for a problem which the two input texts spell.
@@ -44,12 +44,14 @@ module _ (domain problem : List ℕ) (manner : Manner) where
     pub domain_fits : length texts.domain ≤ longest
     pub problem_fits : length texts.problem ≤ longest
 
-  -- One of the two texts of a value is too long that is printed for a problem which the two input texts spell.
+  -- The input texts spell a sound problem that compiles, and of each encoded value of it that has all its words the first
+  -- text that is too long has this length. So there are such a problem and its compiled problem; that there is an encoded
+  -- value of it is not said, since a run is refused before one is made.
   pub record AreTooLong (n : ℕ) : Type 0 where
     pub read : Hddl
     pub compiled : Compiled
-    pub value : Pddl
     pub spelled : IsHddlOf domain problem read
-    pub printed : IsPrinted read manner.checks compiled manner.slots manner.style value
-    pub words : HasEncodedWords compiled manner.slots value.names
-    pub first : IsFirstTooLong (domain_text value) (problem_text value) n
+    pub sound : IsSoundHddl read
+    pub compiled_is : IsCompiled read manner.checks compiled
+    pub too_long : (value : Pddl) → IsEncoded compiled manner.slots manner.style value → HasEncodedWords compiled manner.slots value.names
+        → IsFirstTooLong (domain_text value) (problem_text value) n

@@ -1,10 +1,12 @@
-ghost use Rattle.std.specs.Prelude.{◌≡◌, ◌≤◌, IfOk};
+ghost use Rattle.std.specs.Prelude.{◌≡◌, ◌≤◌, IfOk, IfSome, IfNone};
 ghost use Rattle.plan_model.specs.Parts.{AreListed};
 ghost use Rattle.plan_texts.specs.PrintedTexts.{domain_text, problem_text};
 ghost use Rattle.plan_meaning.specs.Laws.{AreOrdered};
 ghost use Rattle.method_precs.specs.Small.{AreSmall, HaveFewParams};
+ghost use Rattle.printed_sizes.specs.AreSizes.{AreSizesOf};
+ghost use Rattle.htn_cli.specs.Texts.{longest};
 ghost use Rattle.htn_cli.specs.Built.{ComesTo};
-ghost use Rattle.htn_cli.specs.Printing.{Prints, Becomes, IsWithinLimit};
+ghost use Rattle.htn_cli.specs.Printing.{Prints, Becomes, IsFirstPast};
 
 use crate::manner::Manner;
 use hddl_reader::small;
@@ -12,6 +14,7 @@ use htn_base::{Memory, Text};
 use method_precs::compile;
 use pddl_printer::{print_domain, print_problem};
 use plan_model::{Compiled, Hddl, Pddl};
+use printed_sizes::Sizes;
 use slot_encoder::encode;
 use std::alloc::Global;
 
@@ -19,7 +22,7 @@ use std::alloc::Global;
 const LONGEST_INPUT: usize = 65_536;
 
 /// The greatest length of a printed text, in bytes.
-const LONGEST: usize = 268_435_456;
+const LONGEST: u64 = 268_435_456;
 
 /// The two printed texts, complete in memory.
 #[derive(Drop)]
@@ -39,7 +42,7 @@ pub(crate) enum Built {
     TooLong(u64),
 }
 
-/// The printed texts of a domain and a problem.
+/// The printed texts of a domain and a problem. Their lengths are known before they are printed.
 pub(crate) fn build(
     alloc: Global,
     domain: &[u8],
@@ -74,31 +77,60 @@ fn printed(alloc: Global, compiled: &Compiled, manner: &Manner) -> Result<Built,
     requires listed { AreListed compiled.now.hddl.types }
     ensures { IfOk result (Prints compiled.now manner.now) }
 {
-    let value = encode(alloc, compiled, manner.slots, &manner.style)?;
-    let texts = texts_of_value(alloc, &value)?;
-    Ok(within_limit(texts))
-}
-
-fn texts_of_value(alloc: Global, value: &Pddl) -> Result<Texts, Memory>
-    ensures domain { IfOk result (λ texts. texts.domain ≡ domain_text value.now) }
-    ensures problem { IfOk result (λ texts. texts.problem ≡ problem_text value.now) }
-{
-    let mut domain = Text::new(alloc);
-    print_domain(value, &mut domain)?;
-    let mut problem = Text::new(alloc);
-    print_problem(value, &mut problem)?;
-    Ok(Texts { domain, problem })
-}
-
-/// The texts, where neither is too long, and else the length of the first that is.
-fn within_limit(texts: Texts) -> Built
-    ensures { IsWithinLimit texts result }
-{
-    if texts.domain.len() > LONGEST {
-        Built::TooLong(texts.domain.len() as u64)
-    } else if texts.problem.len() > LONGEST {
-        Built::TooLong(texts.problem.len() as u64)
-    } else {
-        Built::Whole(texts)
+    let sizes = printed_sizes::sizes(alloc, compiled, manner.slots, &manner.style)?;
+    match first_past(&sizes) {
+        Some(size) => Ok(Built::TooLong(size)),
+        None => whole(alloc, compiled, manner, &sizes),
     }
+}
+
+/// The first of the two lengths that is too great.
+fn first_past(sizes: &Sizes) -> Option<u64>
+    ensures past { IfSome result (IsFirstPast sizes.now) }
+    ensures domain_fits { IfNone result (sizes.now.domain ≤ longest) }
+    ensures problem_fits { IfNone result (sizes.now.problem ≤ longest) }
+{
+    if sizes.domain > LONGEST {
+        Some(sizes.domain)
+    } else if sizes.problem > LONGEST {
+        Some(sizes.problem)
+    } else {
+        None
+    }
+}
+
+fn whole(
+    alloc: Global,
+    compiled: &Compiled,
+    manner: &Manner,
+    sizes: &Sizes,
+) -> Result<Built, Memory>
+    requires listed { AreListed compiled.now.hddl.types }
+    requires sized { AreSizesOf compiled.now manner.now.slots manner.now.style sizes.now }
+    requires domain_fits { sizes.now.domain ≤ longest }
+    requires problem_fits { sizes.now.problem ≤ longest }
+    ensures { IfOk result (Prints compiled.now manner.now) }
+{
+    let value = encode(alloc, compiled, manner.slots, &manner.style)?;
+    let domain = domain_of(alloc, &value, sizes.domain)?;
+    let problem = problem_of(alloc, &value, sizes.problem)?;
+    Ok(Built::Whole(Texts { domain, problem }))
+}
+
+fn domain_of(alloc: Global, value: &Pddl, size: u64) -> Result<Text, Memory>
+    ensures { IfOk result (λ text. text ≡ domain_text value.now) }
+{
+    let mut text = Text::new(alloc);
+    text.reserve(size as usize)?;
+    print_domain(value, &mut text)?;
+    Ok(text)
+}
+
+fn problem_of(alloc: Global, value: &Pddl, size: u64) -> Result<Text, Memory>
+    ensures { IfOk result (λ text. text ≡ problem_text value.now) }
+{
+    let mut text = Text::new(alloc);
+    text.reserve(size as usize)?;
+    print_problem(value, &mut text)?;
+    Ok(text)
 }
