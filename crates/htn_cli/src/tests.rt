@@ -7,7 +7,9 @@ use std::test::Fail;
 
 mod texts;
 
-use texts::{Row, domain, one_slot_adl, one_slot_flat, problem, two_slots_adl, two_slots_flat};
+use texts::{
+    Row, domain, empty_network, one_slot_adl, one_slot_flat, problem, two_slots_adl, two_slots_flat,
+};
 
 /// All that a run can reach, in memory. Standard output takes three bytes at a time, and standard error one.
 #[derive(Drop)]
@@ -99,8 +101,29 @@ impl Outside {
 }
 
 fn prints(rt: &impl Abort, alloc: Global, row: Row) -> Result<(), Fail> {
-    let mut outside = Outside::new(alloc, domain(), problem())?;
-    outside.ends_with(rt, row.options, Status::Done, row.told, "")?;
+    prints_as(rt, alloc, problem(), row, &[])?;
+    prints_as(rt, alloc, problem(), row, &["--checks", "leaf"])?;
+    prints_as(rt, alloc, problem(), row, &["--checks", "atonce"])?;
+    Ok(())
+}
+
+/// The two texts of the row, with these options besides.
+fn prints_as(
+    rt: &impl Abort,
+    alloc: Global,
+    problem: &str,
+    row: Row,
+    more: &[&str],
+) -> Result<(), Fail> {
+    let mut options = Vec::new(alloc);
+    for option in row.options {
+        options.push(*option)?;
+    }
+    for option in more {
+        options.push(*option)?;
+    }
+    let mut outside = Outside::new(alloc, domain(), problem)?;
+    outside.ends_with(rt, options.as_slice(), Status::Done, row.told, "")?;
     outside.holds(rt, "od.pddl", row.domain);
     outside.holds(rt, "op.pddl", row.problem);
     Ok(())
@@ -116,9 +139,44 @@ fn the_smallest_problem(rt: HostRuntime) -> Result<(), Fail> {
 }
 
 #[test]
+fn an_empty_network(rt: HostRuntime) -> Result<(), Fail> {
+    let problem = "(define (problem p) (:domain d) (:htn :subtasks ()))";
+    prints_as(&rt, rt.alloc(), problem, empty_network(), &[])?;
+    Ok(())
+}
+
+fn is_done(
+    rt: &impl Abort,
+    alloc: Global,
+    bound: &str,
+    more: &[&str],
+    told: &str,
+) -> Result<(), Fail> {
+    let mut options = Vec::new(alloc);
+    options.push("--bound")?;
+    options.push(bound)?;
+    for option in more {
+        options.push(*option)?;
+    }
+    let mut outside = Outside::new(alloc, domain(), problem())?;
+    outside.ends_with(rt, options.as_slice(), Status::Done, told, "")?;
+    Ok(())
+}
+
+#[test]
 fn many_slots(rt: HostRuntime) -> Result<(), Fail> {
-    let mut outside = Outside::new(rt.alloc(), domain(), problem())?;
-    outside.ends_with(&rt, &["--bound", "4096"], Status::Done, "slots 4096\n", "")?;
+    let alloc = rt.alloc();
+    let told = "slots 4096\n";
+    is_done(&rt, alloc, "4096", &[], told)?;
+    is_done(&rt, alloc, "4096", &["--checks", "atonce"], told)?;
+    is_done(&rt, alloc, "4096", &["--style", "flat"], told)?;
+    is_done(
+        &rt,
+        alloc,
+        "4096",
+        &["--checks", "atonce", "--style", "flat"],
+        told,
+    )?;
     Ok(())
 }
 
