@@ -2,7 +2,7 @@
 //!
 //! It stands on the values of `plan_model`, on the order formulas of `order_encoder` and on the definitions of `plan_meaning`.
 //! The contract used above: `encode` gives exactly the defined value, over a table that has all its words, so that it can be printed
-//! wherever the problem is sound.
+//! wherever the problem is sound. `sizes`, of `printed_sizes`, says how long its two texts are without the value.
 #![tactic(auto)]
 
 mod actions;
@@ -32,3 +32,4 @@ mod words;
 mod works;
 
 pub use encoding::encode;
+pub use printed_sizes::{Sizes, sizes};
