@@ -1,0 +1,3 @@
+pub mod InTypes
+pub mod Kept
+pub mod Encoded
