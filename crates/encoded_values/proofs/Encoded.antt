@@ -1,4 +1,4 @@
--- The encoded value over the table of all its words.
+-- The encoded value over all its words, each listed once.
 use Rattle.std.proofs.Common.{ℕ, List, ◌++◌, refl}
 use Rattle.text_forms.specs.Words.{Word}
 use Rattle.plan_model.specs.declared.options.Style.{Style}
@@ -14,6 +14,7 @@ use Rattle.plan_meaning.specs.EncodedValue.{encoded_actions, first_atoms, AreGua
 use Rattle.encoded_words.specs.EncodedWords.{encoded_words}
 use Rattle.encoded_values.specs.Existence.{HasEncodedValue}
 use Rattle.encoded_values.proofs.Kept.{some_guard_atoms}
+use Rattle.encoded_values.proofs.SingleWords.{single_words, to_single, single_differ}
 
 module _ (c : Compiled) (b : ℕ) (style : Style) where
   module _ (names : List Word) (guards : List GroundAtom) where
@@ -44,6 +45,6 @@ module _ (c : Compiled) (b : ℕ) (style : Style) where
 
   pub has_encoded_value : HasEncodedValue c b style
   has_encoded_value =
-      let names = encoded_words c b in
+      let names = single_words (encoded_words c b) in
       let (guards, a) = some_guard_atoms c names b style (guard_types c) in
-      record { value = encoded names guards; encoded = is_encoded names guards a; words = λ w k. k }
+      record { value = encoded names guards; encoded = is_encoded names guards a; words = to_single (encoded_words c b); differ = single_differ (encoded_words c b) }
