@@ -1,0 +1,4 @@
+pub mod InTypes
+pub mod Kept
+pub mod SingleWords
+pub mod Encoded

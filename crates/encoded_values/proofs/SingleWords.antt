@@ -1,0 +1,33 @@
+-- Words that are each listed once differ, and no word is lost.
+use Rattle.std.proofs.Common.{zero, suc, ◌≡◌, ◌≢◌, ◌⊎◌, inl, inr, Bool, true, false, not, List, [], ◌∷◌, refl, ap, sym, subst, ◌∙◌, Contains, arith, true≢false}
+use Rattle.std.specs.Str.{bytes_eq}
+use Rattle.std.proofs.lemmas.List.Kept.{AllPairs-filter}
+use Rattle.std.proofs.lemmas.List.Elements.{filter_passes}
+use Rattle.htn_base.specs.Table.{AllDiffer}
+use Rattle.text_forms.specs.Words.{Word}
+use Rattle.plan_texts.proofs.Basics.{bytes_eq-true, bytes_eq-refl}
+use Rattle.plan_meaning.specs.Compilation.{once}
+use Rattle.plan_meaning.proofs.Pairs.{to_once}
+
+abbrev pub single_words : List Word → List Word
+single_words = once bytes_eq
+
+tells : (u w : Word) → (bytes_eq u w ≡ false) ⊎ (u ≡ w)
+tells u w = go (bytes_eq u w) refl
+  where
+    go : (b : Bool) → bytes_eq u w ≡ b → (bytes_eq u w ≡ false) ⊎ (u ≡ w)
+    go true e = inr (bytes_eq-true u w e)
+    go false e = inl e
+
+pub to_single : (ws : List Word) (w : Word) → Contains ws w → Contains (single_words ws) w
+to_single = to_once bytes_eq tells
+
+not_same : (w u : Word) → not (bytes_eq w u) ≡ true → w ≢ u
+not_same w u t e = true≢false (sym t ∙ ap not (subst (λ z. bytes_eq w z ≡ true) e (bytes_eq-refl w)))
+
+pub single_differ : (ws : List Word) → AllDiffer (single_words ws)
+single_differ [] i j d l m = absurd (omega arith)
+single_differ (w ∷ ws) zero zero d l m = absurd (omega arith)
+single_differ (w ∷ ws) zero (suc j) d l m = not_same w _ (filter_passes (λ u. not (bytes_eq w u)) (single_words ws) j d (omega arith))
+single_differ (w ∷ ws) (suc i) zero d l m = absurd (omega arith)
+single_differ (w ∷ ws) (suc i) (suc j) d l m = AllPairs-filter (λ (one other : Word). one ≢ other) (λ u. not (bytes_eq w u)) (single_words ws) (single_differ ws) i j d (omega arith) (omega arith)
