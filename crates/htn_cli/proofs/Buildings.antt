@@ -11,15 +11,16 @@ use Rattle.plan_meaning.specs.Compilation.{IsCompiled}
 use Rattle.plan_meaning.specs.EncodedValue.{IsEncoded}
 use Rattle.plan_meaning.specs.Laws.{AreOrdered}
 use Rattle.encoded_words.specs.EncodedWords.{HasEncodedWords}
-use Rattle.slot_encoder.specs.Vocabulary.{IsPrintableWhereSound}
+use Rattle.encoded_values.proofs.Encoded.{has_encoded_value}
 use Rattle.printed_sizes.specs.declared.lengths.Sizes.{Sizes}
 use Rattle.printed_sizes.specs.AreSizes.{AreSizesOf}
 use Rattle.printed_sizes.specs.Capped.{capped}
 use Rattle.htn_cli.specs.Texts.{Texts, longest, AreTranslated}
 use Rattle.htn_cli.specs.Built.{AreShort, ComesTo, texts_of}
-use Rattle.htn_cli.specs.Printing.{ArePrinted, Prints, Becomes}
+use Rattle.problem_texts.specs.ArePrinted.{ArePrinted}
+use Rattle.htn_cli.specs.Printing.{AreWhole, Prints, Becomes}
 use Rattle.htn_cli.specs.declared.manner.Manner.{Manner}
-use Rattle.htn_cli.specs.declared.building.Texts.{Texts as Printed}
+use Rattle.problem_texts.specs.declared.printing.Texts.{Texts as Printed}
 use Rattle.htn_cli.specs.declared.building.Built.{Built}
 use Rattle.htn_cli.specs.declared.building.Built.TheVariants as built
 
@@ -38,23 +39,17 @@ module _ (compiled : Compiled) (manner : Manner) (sizes : Sizes) (sized : AreSiz
     problem_fits : sizes.problem ≤ longest → length (problem_text value) ≤ longest
     problem_fits few = let e = problem_size in omega (arith, e, few)
 
-  pub whole_prints : (value : Pddl) (texts : Printed) → IsEncoded compiled manner.slots manner.style value → HasEncodedWords compiled manner.slots value.names
-      → IsPrintableWhereSound compiled manner.slots value → texts.domain ≡ domain_text value → texts.problem ≡ problem_text value
+  pub whole_prints : (texts : Printed) → ArePrinted compiled manner.slots manner.style texts.domain texts.problem
       → sizes.domain ≤ longest → sizes.problem ≤ longest → Prints compiled manner (built.Whole texts)
-  whole_prints value texts encoded words printable d p few_d few_p =
+  whole_prints texts printed few_d few_p =
       record {
-        value = value;
-        encoded = encoded;
-        words = words;
-        printable = printable;
-        domain_is = d;
-        problem_is = p;
-        domain_fits = let e = ap length d in omega (arith, e, domain_fits value encoded words few_d);
-        problem_fits = let e = ap length p in omega (arith, e, problem_fits value encoded words few_p);
+        printed = printed;
+        domain_fits = let e = ap length printed.domain_is in omega (arith, e, domain_fits printed.value printed.encoded printed.words few_d);
+        problem_fits = let e = ap length printed.problem_is in omega (arith, e, problem_fits printed.value printed.encoded printed.words few_p);
       }
 
 module _ (domain problem : List ℕ) (manner : Manner) (read : Hddl) (spelled : IsHddlOf domain problem read) (sound : IsSoundHddl read) (ordered : AreOrdered read) (top : read.top.pre ≡ And []) (unions : read.types.unions ≡ []) (some : 1 ≤ manner.slots) (short : AreShort domain problem) where
-  translated : (compiled : Compiled) (texts : Texts) → IsCompiled read manner.checks compiled → ArePrinted compiled manner texts → AreTranslated domain problem manner texts
+  translated : (compiled : Compiled) (texts : Texts) → IsCompiled read manner.checks compiled → AreWhole compiled manner texts → AreTranslated domain problem manner texts
   translated compiled texts is p =
       let plain = ap (λ (h : Hddl). h.top.pre) is.hddl ∙ top in
       let none = ap (λ (h : Hddl). length h.types.unions) is.hddl ∙ ap length unions in
@@ -62,18 +57,18 @@ module _ (domain problem : List ℕ) (manner : Manner) (read : Hddl) (spelled : 
       record {
         read = read;
         compiled = compiled;
-        value = p.value;
+        value = p.printed.value;
         spelled = spelled;
         ordered = ordered;
-        printed = record { sound = sound; compiled = is; printable = p.printable read manner.checks sound is plain some few; encoded = p.encoded };
-        words = p.words;
-        domain_is = p.domain_is;
-        problem_is = p.problem_is;
+        printed = record { sound = sound; compiled = is; printable = p.printed.printable read manner.checks sound is plain some few; encoded = p.printed.encoded };
+        words = p.printed.words;
+        domain_is = p.printed.domain_is;
+        problem_is = p.printed.problem_is;
         domain_fits = p.domain_fits;
         problem_fits = p.problem_fits;
       }
 
   pub comes_to : (built : Built) → Becomes read manner built → ComesTo domain problem manner built
   comes_to built.NotOfForm becomes = tt
-  comes_to (built.TooLong n) (compiled, is, long) = (short, record { read = read; compiled = compiled; spelled = spelled; sound = sound; compiled_is = is; too_long = long })
+  comes_to (built.TooLong n) (compiled, is, long) = (short, record { read = read; compiled = compiled; spelled = spelled; sound = sound; compiled_is = is; encoded = has_encoded_value compiled manner.slots manner.style; too_long = long })
   comes_to (built.Whole texts) (compiled, is, prints) = (short, translated compiled (texts_of texts) is prints)

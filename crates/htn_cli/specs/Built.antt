@@ -3,7 +3,7 @@ use Rattle.std.specs.Prelude.{ℕ, ◌≤◌, List, length}
 use Rattle.htn_cli.specs.Texts.{Texts, AreTranslated, AreTooLong}
 use Rattle.htn_cli.specs.Inputs.{longest_input}
 use Rattle.htn_cli.specs.declared.manner.Manner.{Manner}
-use Rattle.htn_cli.specs.declared.building.Texts.{Texts as Printed}
+use Rattle.problem_texts.specs.declared.printing.Texts.{Texts as Printed}
 use Rattle.htn_cli.specs.declared.building.Built.{Built}
 use Rattle.htn_cli.specs.declared.building.Built.TheVariants as built
 

@@ -7,7 +7,7 @@ use Rattle.plan_texts.specs.PrintedTexts.{domain_text, problem_text}
 use Rattle.plan_meaning.specs.Compilation.{IsCompiled}
 use Rattle.plan_meaning.specs.EncodedValue.{IsEncoded}
 use Rattle.encoded_words.specs.EncodedWords.{HasEncodedWords}
-use Rattle.slot_encoder.specs.Vocabulary.{IsPrintableWhereSound}
+use Rattle.problem_texts.specs.ArePrinted.{ArePrinted}
 use Rattle.printed_sizes.specs.declared.lengths.Sizes.{Sizes}
 use Rattle.htn_cli.specs.Texts.{Texts, longest, IsFirstTooLong}
 use Rattle.htn_cli.specs.Built.{texts_of}
@@ -22,20 +22,15 @@ IsFirstPast sizes n =
     ⊎ ((sizes.domain ≤ longest) × (longest < sizes.problem) × (n ≡ sizes.problem))
 
 -- the texts are those of an encoded value, and neither is too long
-pub record ArePrinted (compiled : Compiled) (manner : Manner) (texts : Texts) : Type 0 where
-  pub value : Pddl
-  pub encoded : IsEncoded compiled manner.slots manner.style value
-  pub words : HasEncodedWords compiled manner.slots value.names
-  pub printable : IsPrintableWhereSound compiled manner.slots value
-  pub domain_is : texts.domain ≡ domain_text value
-  pub problem_is : texts.problem ≡ problem_text value
+pub record AreWhole (compiled : Compiled) (manner : Manner) (texts : Texts) : Type 0 where
+  pub printed : ArePrinted compiled manner.slots manner.style texts.domain texts.problem
   pub domain_fits : length texts.domain ≤ longest
   pub problem_fits : length texts.problem ≤ longest
 
 abbrev pub Prints : Compiled → Manner → Built → Type 0
 Prints compiled manner built.NotOfForm = ⊥
 Prints compiled manner (built.TooLong n) = (value : Pddl) → IsEncoded compiled manner.slots manner.style value → HasEncodedWords compiled manner.slots value.names → IsFirstTooLong (domain_text value) (problem_text value) n
-Prints compiled manner (built.Whole texts) = ArePrinted compiled manner (texts_of texts)
+Prints compiled manner (built.Whole texts) = AreWhole compiled manner (texts_of texts)
 
 -- and what that of a problem which is compiled first comes to
 abbrev pub Becomes : Hddl → Manner → Built → Type 0

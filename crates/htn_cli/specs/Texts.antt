@@ -11,6 +11,7 @@ use Rattle.plan_meaning.specs.Compilation.{IsCompiled}
 use Rattle.plan_meaning.specs.EncodedValue.{IsEncoded}
 use Rattle.plan_meaning.specs.Laws.{AreOrdered}
 use Rattle.encoded_words.specs.EncodedWords.{HasEncodedWords}
+use Rattle.encoded_values.specs.Existence.{HasEncodedValue}
 use Rattle.slot_plans.specs.Pieces.{IsPrinted}
 use Rattle.printed_sizes.specs.Capped.{capped}
 use Rattle.htn_cli.specs.declared.manner.Manner.{Manner}
@@ -44,14 +45,14 @@ module _ (domain problem : List ℕ) (manner : Manner) where
     pub domain_fits : length texts.domain ≤ longest
     pub problem_fits : length texts.problem ≤ longest
 
-  -- The input texts spell a sound problem that compiles, and of each encoded value of it that has all its words the first
-  -- text that is too long has this length. So there are such a problem and its compiled problem; that there is an encoded
-  -- value of it is not said, since a run is refused before one is made.
+  -- The input texts spell a sound problem that compiles, there is an encoded value of it that has all its words, and of each such value
+  -- the first text that is too long has this length.
   pub record AreTooLong (n : ℕ) : Type 0 where
     pub read : Hddl
     pub compiled : Compiled
     pub spelled : IsHddlOf domain problem read
     pub sound : IsSoundHddl read
     pub compiled_is : IsCompiled read manner.checks compiled
+    pub encoded : HasEncodedValue compiled manner.slots manner.style
     pub too_long : (value : Pddl) → IsEncoded compiled manner.slots manner.style value → HasEncodedWords compiled manner.slots value.names
         → IsFirstTooLong (domain_text value) (problem_text value) n

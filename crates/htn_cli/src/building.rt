@@ -1,6 +1,5 @@
-ghost use Rattle.std.specs.Prelude.{◌≡◌, ◌≤◌, IfOk, IfSome, IfNone};
+ghost use Rattle.std.specs.Prelude.{◌≤◌, IfOk, IfSome, IfNone};
 ghost use Rattle.plan_model.specs.Parts.{AreListed};
-ghost use Rattle.plan_texts.specs.PrintedTexts.{domain_text, problem_text};
 ghost use Rattle.plan_meaning.specs.Laws.{AreOrdered};
 ghost use Rattle.method_precs.specs.Small.{AreSmall, HaveFewParams};
 ghost use Rattle.printed_sizes.specs.AreSizes.{AreSizesOf};
@@ -10,12 +9,11 @@ ghost use Rattle.htn_cli.specs.Printing.{Prints, Becomes, IsFirstPast};
 
 use crate::manner::Manner;
 use hddl_reader::small;
-use htn_base::{Memory, Text};
+use htn_base::Memory;
 use method_precs::compile;
-use pddl_printer::{print_domain, print_problem};
-use plan_model::{Compiled, Hddl, Pddl};
-use printed_sizes::Sizes;
-use slot_encoder::encode;
+use plan_model::{Compiled, Hddl};
+use problem_texts::{Texts, texts_of};
+use slot_encoder::Sizes;
 use std::alloc::Global;
 
 /// The greatest length of an input text, in bytes.
@@ -24,17 +22,10 @@ const LONGEST_INPUT: usize = 65_536;
 /// The greatest length of a printed text, in bytes.
 const LONGEST: u64 = 268_435_456;
 
-/// The two printed texts, complete in memory.
-#[derive(Drop)]
-pub(crate) struct Texts {
-    pub(crate) domain: Text,
-    pub(crate) problem: Text,
-}
-
 /// What two input texts come to.
 #[derive(Drop)]
 pub(crate) enum Built {
-    /// The two printed texts.
+    /// The two printed texts, complete in memory.
     Whole(Texts),
     /// The pair is not of the form that is translated today.
     NotOfForm,
@@ -77,7 +68,7 @@ fn printed(alloc: Global, compiled: &Compiled, manner: &Manner) -> Result<Built,
     requires listed { AreListed compiled.now.hddl.types }
     ensures { IfOk result (Prints compiled.now manner.now) }
 {
-    let sizes = printed_sizes::sizes(alloc, compiled, manner.slots, &manner.style)?;
+    let sizes = slot_encoder::sizes(alloc, compiled, manner.slots, &manner.style)?;
     match first_past(&sizes) {
         Some(size) => Ok(Built::TooLong(size)),
         None => whole(alloc, compiled, manner, &sizes),
@@ -111,26 +102,6 @@ fn whole(
     requires problem_fits { sizes.now.problem ≤ longest }
     ensures { IfOk result (Prints compiled.now manner.now) }
 {
-    let value = encode(alloc, compiled, manner.slots, &manner.style)?;
-    let domain = domain_of(alloc, &value, sizes.domain)?;
-    let problem = problem_of(alloc, &value, sizes.problem)?;
-    Ok(Built::Whole(Texts { domain, problem }))
-}
-
-fn domain_of(alloc: Global, value: &Pddl, size: u64) -> Result<Text, Memory>
-    ensures { IfOk result (λ text. text ≡ domain_text value.now) }
-{
-    let mut text = Text::new(alloc);
-    text.reserve(size as usize)?;
-    print_domain(value, &mut text)?;
-    Ok(text)
-}
-
-fn problem_of(alloc: Global, value: &Pddl, size: u64) -> Result<Text, Memory>
-    ensures { IfOk result (λ text. text ≡ problem_text value.now) }
-{
-    let mut text = Text::new(alloc);
-    text.reserve(size as usize)?;
-    print_problem(value, &mut text)?;
-    Ok(text)
+    let texts = texts_of(alloc, compiled, manner.slots, &manner.style, sizes)?;
+    Ok(Built::Whole(texts))
 }

@@ -163,21 +163,28 @@ fn is_done(
     Ok(())
 }
 
-#[test]
-fn many_slots(rt: HostRuntime) -> Result<(), Fail> {
-    let alloc = rt.alloc();
-    let told = "slots 4096\n";
-    is_done(&rt, alloc, "4096", &[], told)?;
-    is_done(&rt, alloc, "4096", &["--checks", "atonce"], told)?;
-    is_done(&rt, alloc, "4096", &["--style", "flat"], told)?;
+fn is_done_in_each_manner(rt: &impl Abort, alloc: Global, bound: &str, told: &str) -> Result<(), Fail> {
+    is_done(rt, alloc, bound, &[], told)?;
+    is_done(rt, alloc, bound, &["--checks", "atonce"], told)?;
+    is_done(rt, alloc, bound, &["--style", "flat"], told)?;
     is_done(
-        &rt,
+        rt,
         alloc,
-        "4096",
+        bound,
         &["--checks", "atonce", "--style", "flat"],
         told,
     )?;
     Ok(())
+}
+
+#[test]
+fn many_slots(rt: HostRuntime) -> Result<(), Fail> {
+    is_done_in_each_manner(&rt, rt.alloc(), "4096", "slots 4096\n")
+}
+
+#[test]
+fn as_many_slots_as_there_may_be(rt: HostRuntime) -> Result<(), Fail> {
+    is_done_in_each_manner(&rt, rt.alloc(), "65536", "slots 65536\n")
 }
 
 fn is_past(rt: &impl Abort, alloc: Global, bound: &str, line: &str) -> Result<(), Fail> {

@@ -8,12 +8,13 @@ ghost use Rattle.htn_cli.specs.Left.{BothStand, Leaves, LeavesDone, slots_line};
 ghost use Rattle.htn_cli.specs.Stops.{StopsBuild, StopsDelivery, StopsGet, StopsPrint, StopsPut};
 ghost use Rattle.htn_cli.specs.Sent.{TakesWhole};
 
-use crate::building::{Built, Texts, build};
+use crate::building::{Built, build};
 use crate::manner::Manner;
 use crate::refusal::Refusal;
 use crate::telling::tell_slots;
 use command_words::Named;
 use outside_io::{Files, GetError, PutError, Sink, WriteError};
+use problem_texts::Texts;
 use std::alloc::Global;
 
 /// A get asks for one byte more than a text may have.

@@ -1,11 +1,15 @@
+ghost use Rattle.std.specs.Prelude.{IfOk};
+ghost use Rattle.plan_model.specs.Parts.{AreListed};
+
 use crate::checks::compiled;
 use crate::rows::{ROWS, Row};
 use htn_base::{Memory, Text};
 use outside_io::{DiskFiles, Files, GetError};
 use pddl_printer::{print_domain, print_problem};
 use plan_model::{Checks, Compiled, Pddl, Style};
+use problem_texts::{Texts, texts_of};
 use row_reader::hddl;
-use slot_encoder::encode;
+use slot_encoder::{encode, sizes};
 use std::alloc::{AllocError, Global};
 use std::io::{self, Write};
 
@@ -19,6 +23,8 @@ pub enum Failure {
     File,
     /// The texts are no domain and problem, or have a network without an order.
     Form,
+    /// The two ways to print don't give the same texts.
+    Difference,
     Memory,
     /// Standard output took no more.
     Output,
@@ -85,43 +91,67 @@ fn print_styles(
     for style in [Style::Adl, Style::Flat] {
         for checks in row.modes {
             let printed = printed(alloc, source, row.slots, style, *checks)?;
-            print_texts(rt, alloc, row, style, *checks, &printed)?;
+            print_texts(rt, row, style, *checks, &printed)?;
         }
     }
     Ok(())
 }
 
-/// The printed problem.
+/// The two texts, as the program prints them. What their sizes are said to be, and what is printed of the printed problem's value, are
+/// the same.
 fn printed(
     alloc: Global,
     source: &Source,
     slots: u32,
     style: Style,
     checks: Checks,
-) -> Result<Pddl, Failure> {
+) -> Result<Texts, Failure> {
+    let compiled = compiled_source(alloc, source, checks)?;
+    let sizes = sizes(alloc, &compiled, slots, &style)?;
+    let texts = texts_of(alloc, &compiled, slots, &style, &sizes)?;
+    let value = encode(alloc, &compiled, slots, &style)?;
+    let whole = texts_of_value(alloc, &value)?;
+    let as_long = sizes.domain == texts.domain.len() as u64 && sizes.problem == texts.problem.len() as u64;
+    if as_long && are_same(&texts, &whole) {
+        Ok(texts)
+    } else {
+        Err(Failure::Difference)
+    }
+}
+
+fn compiled_source(alloc: Global, source: &Source, checks: Checks) -> Result<Compiled, Failure>
+    ensures listed { IfOk result (λ c. AreListed c.hddl.types) }
+{
     match hddl(alloc, source.domain.as_slice(), source.problem.as_slice())? {
         None => Err(Failure::Form),
         Some(problem) => match compiled(alloc, problem, checks)? {
             None => Err(Failure::Form),
-            Some(compiled) => Ok(encode(alloc, &compiled, slots, &style)?),
+            Some(compiled) => Ok(compiled),
         },
     }
 }
 
+fn texts_of_value(alloc: Global, value: &Pddl) -> Result<Texts, Memory> {
+    let mut domain = Text::new(alloc);
+    print_domain(value, &mut domain)?;
+    let mut problem = Text::new(alloc);
+    print_problem(value, &mut problem)?;
+    Ok(Texts { domain, problem })
+}
+
+fn are_same(one: &Texts, other: &Texts) -> bool {
+    one.domain.as_slice() == other.domain.as_slice() && one.problem.as_slice() == other.problem.as_slice()
+}
+
 fn print_texts(
     rt: &HostRuntime,
-    alloc: Global,
     row: &Row,
     style: Style,
     checks: Checks,
-    printed: &Pddl,
+    printed: &Texts,
 ) -> Result<(), Failure> {
-    let mut domain = Text::new(alloc);
-    print_domain(printed, &mut domain)?;
-    print_text(rt, row, style, checks, "od", &domain)?;
-    let mut problem = Text::new(alloc);
-    print_problem(printed, &mut problem)?;
-    print_text(rt, row, style, checks, "op", &problem)
+    print_text(rt, row, style, checks, "od", &printed.domain)?;
+    print_text(rt, row, style, checks, "op", &printed.problem)
 }
 
 /// A line with the row, and the text.
