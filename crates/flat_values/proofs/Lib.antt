@@ -4,3 +4,5 @@ pub mod OrderParts
 pub mod Works
 pub mod Methods
 pub mod Values
+-- Why the condition is there.
+mod WithoutHeir

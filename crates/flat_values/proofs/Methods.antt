@@ -2,6 +2,7 @@
 use Rattle.std.proofs.Common.{ℕ, zero, suc, ◌≡◌, ◌-◌, ◌<◌, ◌==◌, Bool, true, false, cond, List, [], ◌∷◌, ◌++◌, map, length, slice_index, codes, decimal, refl, sym, subst₂, arith}
 use Rattle.std.proofs.lemmas.List.{length-map, length-append}
 use Rattle.plan_model.specs.declared.options.Style.TheVariants.{Adl, Flat}
+use Rattle.plan_model.specs.declared.terms.Term.{Term}
 use Rattle.plan_model.specs.declared.terms.Term.TheVariants.{Var}
 use Rattle.plan_model.specs.declared.terms.Atom.{Atom}
 use Rattle.plan_model.specs.declared.terms.Param.{Param}
@@ -39,15 +40,41 @@ at_below (x ∷ xs) m zero some h = h.0
 at_below (x ∷ xs) m (suc i) some h = at_below xs m i some h.1
 
 module _ (c : Compiled) (names : List (List ℕ)) (b m : ℕ) (plan : MethodPlan) (low : AreLow plan) where
+  -- the number of variables in force, and how many of them are of slots
   abbrev d : ℕ
   d = depth c names b Adl m plan
+
+  abbrev of_slots : ℕ
+  of_slots = front c names b Adl m plan
+
+  -- the variables of the new slots, and those of all children
+  abbrev fresh : List ℕ
+  fresh = numbers 1 (spare c names b Adl m plan)
+
+  abbrev all_vars : List ℕ
+  all_vars = children_slots c names b Adl m plan
+
+  abbrev held : Atom
+  held = held_task c names b Adl m plan
+
+  abbrev put : Term → Term
+  put = moved names c.hddl.names of_slots
+
+  abbrev free : ℕ → Atom
+  free v = is_free c names b Adl v
+
+  abbrev guarded : Guard → Atom
+  guarded g = record { predicate = guard_predicate c g.ty; args = put g.term ∷ [] }
+
+  abbrev linked : Pair → Atom
+  linked p = pair_of (order_numbers c names b) b (Var (slice_index all_vars p.first)) (Var (slice_index all_vars p.then))
 
   differ_kept : (vs : List ℕ) → Become (parts c b d) (differ vs) (differ vs)
   differ_kept [] = record { are = refl }
   differ_kept (v ∷ vs) = both (all_kept (λ u. Not (Equal (Var v) (Var u))) vs (λ u. parts-Not c b d (Equal (Var v) (Var u)))) (differ_kept vs)
 
-  tested_kept : (t : Bool) → Become (parts c b d) (cond t (source_condition c names b Adl (front c names b Adl m plan) plan.schema.pre) []) (cond t (source_condition c names b Flat (front c names b Flat m plan) plan.schema.pre) [])
-  tested_kept true = source_parts c names b d (front c names b Adl m plan) plan.schema.pre
+  tested_kept : (t : Bool) → Become (parts c b d) (cond t (source_condition c names b Adl of_slots plan.schema.pre) []) (cond t (source_condition c names b Flat of_slots plan.schema.pre) [])
+  tested_kept true = source_parts c names b d of_slots plan.schema.pre
   tested_kept false = record { are = refl }
 
   some : 0 < d
@@ -55,51 +82,46 @@ module _ (c : Compiled) (names : List (List ℕ)) (b m : ℕ) (plan : MethodPlan
 
   conditions : Become (parts c b d) (method_pre c names b Adl m plan) (method_pre c names b Flat m plan)
   conditions =
-      kept (Holds (held_task c names b Adl m plan)) (parts-Holds c b d (held_task c names b Adl m plan))
+      kept (Holds held) (parts-Holds c b d held)
       (both (waits_first c names b d some)
-      (both (all_kept (λ v. Holds (is_free c names b Adl v)) (numbers 1 (spare c names b Adl m plan)) (λ v. parts-Holds c b d (is_free c names b Adl v)))
-      (both (differ_kept (numbers 1 (spare c names b Adl m plan)))
-      (both (all_kept (λ (con : Constraint). test con.equal (moved names c.hddl.names (front c names b Adl m plan) con.left) (moved names c.hddl.names (front c names b Adl m plan) con.right)) plan.schema.constraints
-      (λ con. parts-test c b d con.equal (moved names c.hddl.names (front c names b Adl m plan) con.left) (moved names c.hddl.names (front c names b Adl m plan) con.right)))
-      (both (all_kept (λ (g : Guard). Holds (record { predicate = guard_predicate c g.ty; args = moved names c.hddl.names (front c names b Adl m plan) g.term ∷ [] })) plan.guards
-      (λ g. parts-Holds c b d (record { predicate = guard_predicate c g.ty; args = moved names c.hddl.names (front c names b Adl m plan) g.term ∷ [] })))
+      (both (all_kept (λ v. Holds (free v)) fresh (λ v. parts-Holds c b d (free v)))
+      (both (differ_kept fresh)
+      (both (all_kept (λ (con : Constraint). test con.equal (put con.left) (put con.right)) plan.schema.constraints (λ con. parts-test c b d con.equal (put con.left) (put con.right)))
+      (both (all_kept (λ (g : Guard). Holds (guarded g)) plan.guards (λ g. parts-Holds c b d (guarded g)))
       (tested_kept plan.tested))))))
 
   other : (k : ℕ) → k < d → (k == d) ≡ false
   other k l = grind (arith, l)
 
-  slot_low : (i : ℕ) → slice_index (children_slots c names b Adl m plan) i < d
-  slot_low i = let l = at_below (children_slots c names b Adl m plan) (front c names b Adl m plan) i (omega arith) low in omega arith
+  slot_low : (i : ℕ) → slice_index all_vars i < d
+  slot_low i = let l = at_below all_vars of_slots i (omega arith) low in omega arith
 
   all_copies : (is : List ℕ) → Become (changes c b d) (copies_of c names b Adl m plan is) (copies_of c names b Flat m plan is)
   all_copies [] = record { are = refl }
   all_copies (i ∷ is) =
-      let v : ℕ = slice_index (children_slots c names b Adl m plan) i in
+      let v : ℕ = slice_index all_vars i in
       both (copies c names b d 0 v (other 0 some) (other v (slot_low i))) (all_copies is)
 
   split : Become (changes c b d) (splitting c names b Adl m plan) (splitting c names b Flat m plan)
   split = subst₂ (λ xs ys. Become (changes c b d) xs ys) (sym (splitting_parts c names b Adl m plan)) (sym (splitting_parts c names b Flat m plan))
-      (kept (E.Delete (held_task c names b Adl m plan)) (changes-Delete c b d (held_task c names b Adl m plan))
-      (both (all_kept (λ v. E.Delete (is_free c names b Adl v)) (numbers 1 (spare c names b Adl m plan)) (λ v. changes-Delete c b d (is_free c names b Adl v)))
-      (both (all_kept E.Add (child_atoms c names b Adl m plan (children_slots c names b Adl m plan) plan.schema.children) (changes-Add c b d))
-      (both (all_kept (λ (p : Pair). E.Add (added p)) plan.schema.pairs (λ p. changes-Add c b d (added p)))
+      (kept (E.Delete held) (changes-Delete c b d held)
+      (both (all_kept (λ v. E.Delete (free v)) fresh (λ v. changes-Delete c b d (free v)))
+      (both (all_kept E.Add (child_atoms c names b Adl m plan all_vars plan.schema.children) (changes-Add c b d))
+      (both (all_kept (λ (p : Pair). E.Add (linked p)) plan.schema.pairs (λ p. changes-Add c b d (linked p)))
       (all_copies plan.copiers)))))
-    where
-      added : Pair → Atom
-      added p = pair_of (order_numbers c names b) b (Var (slice_index (children_slots c names b Adl m plan) p.first)) (Var (slice_index (children_slots c names b Adl m plan) p.then))
 
   change : (children : List Child) → Become (changes c b d) (method_eff c names b Adl m plan children) (method_eff c names b Flat m plan children)
-  change [] = frees_first c names b d some (held_task c names b Adl m plan)
+  change [] = frees_first c names b d some held
   change (child ∷ children) = split
 
   abbrev slots : List Param
-  slots = map (λ k. slot_param c names b (codes "htn_h" ++ decimal k)) (numbers 1 (spare c names b Adl m plan))
+  slots = map (λ k. slot_param c names b (codes "htn_h" ++ decimal k)) fresh
 
   abbrev own : List Param
   own = map (source_param names c.hddl.names) plan.schema.params
 
   in_force : length (slot_param c names b (codes "htn_h") ∷ slots ++ own) ≡ d
-  in_force = omega (arith, length-append slots own, length-map (numbers 1 (spare c names b Adl m plan)) (λ k. slot_param c names b (codes "htn_h" ++ decimal k)), length-numbers 1 (spare c names b Adl m plan), length-map plan.schema.params (source_param names c.hddl.names))
+  in_force = omega (arith, length-append slots own, length-map fresh (λ k. slot_param c names b (codes "htn_h" ++ decimal k)), length-numbers 1 (spare c names b Adl m plan), length-map plan.schema.params (source_param names c.hddl.names))
 
   pub method_written : action (slots_of c b) (encoded_method c names b Adl m plan) ≡ encoded_method c names b Flat m plan
   method_written = schema_written c names b _ _ d _ _ _ _ in_force conditions (change plan.schema.children)
