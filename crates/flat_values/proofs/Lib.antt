@@ -1,0 +1,8 @@
+pub mod PartLists
+pub mod OtherParts
+pub mod OrderParts
+pub mod Works
+pub mod Methods
+pub mod Values
+-- Why the condition is there.
+mod WithoutHeir
