@@ -14,6 +14,7 @@ cat >src/main.rt <<'E2'
 #![tactic(auto)]
 
 ghost use Rattle.plan_model.specs.Parts.{AreListed};
+ghost use Rattle.problem_texts.specs.ArePrinted.{IsCompiledProblem};
 
 mod checks;
 
@@ -47,6 +48,7 @@ fn millis<R: Clock>(rt: &R, start: Instant) -> io::Result<u128> {
 
 fn print_told<R: Print + Clock>(rt: &R, alloc: Global, made: &Compiled, slots: u32) -> io::Result<()>
     requires listed { AreListed made.now.hddl.types }
+    requires compiled { IsCompiledProblem made.now }
 {
     let start = Instant::now(rt)?;
     let Ok(sizes) = sizes(alloc, made, slots, &Style::Flat) else {

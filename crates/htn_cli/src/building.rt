@@ -3,6 +3,7 @@ ghost use Rattle.plan_model.specs.Parts.{AreListed};
 ghost use Rattle.plan_meaning.specs.Laws.{AreOrdered};
 ghost use Rattle.method_precs.specs.Small.{AreSmall, HaveFewParams};
 ghost use Rattle.printed_sizes.specs.AreSizes.{AreSizesOf};
+ghost use Rattle.problem_texts.specs.ArePrinted.{IsCompiledProblem};
 ghost use Rattle.htn_cli.specs.Texts.{longest};
 ghost use Rattle.htn_cli.specs.Built.{ComesTo};
 ghost use Rattle.htn_cli.specs.Printing.{Prints, Becomes, IsFirstPast};
@@ -65,6 +66,7 @@ fn translated(alloc: Global, read: Hddl, manner: &Manner) -> Result<Built, Memor
 
 /// The printed texts of a compiled problem, where neither is too long.
 fn printed(alloc: Global, compiled: &Compiled, manner: &Manner) -> Result<Built, Memory>
+    requires compiled { IsCompiledProblem compiled.now }
     requires listed { AreListed compiled.now.hddl.types }
     ensures { IfOk result (Prints compiled.now manner.now) }
 {
@@ -96,6 +98,7 @@ fn whole(
     manner: &Manner,
     sizes: &Sizes,
 ) -> Result<Built, Memory>
+    requires compiled { IsCompiledProblem compiled.now }
     requires listed { AreListed compiled.now.hddl.types }
     requires sized { AreSizesOf compiled.now manner.now.slots manner.now.style sizes.now }
     requires domain_fits { sizes.now.domain ≤ longest }

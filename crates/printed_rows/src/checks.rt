@@ -4,6 +4,7 @@ ghost use Rattle.plan_model.specs.Parts.{AreListed};
 ghost use Rattle.plan_meaning.specs.Compilation.{Pairs};
 ghost use Rattle.net_order.specs.Meaning.{AreBelow};
 ghost use Rattle.method_precs.specs.Small.{IsFit};
+ghost use Rattle.problem_texts.specs.ArePrinted.{IsCompiledProblem};
 ghost use Rattle.printed_rows.specs.Fit.{AreFit};
 
 use htn_base::Memory;
@@ -17,6 +18,7 @@ use std::alloc::Global;
 #[tactic(auto, using(crate::proofs::Fits::small, crate::proofs::Fits::few))]
 pub fn compiled(alloc: Global, problem: Hddl, checks: Checks) -> Result<Option<Compiled>, Memory>
     ensures listed { IfOk result (λ o. IfSome o (λ c. AreListed c.hddl.types)) }
+    ensures compiled { IfOk result (λ o. IfSome o IsCompiledProblem) }
 {
     if !are_listed(&problem.types) {
         return Ok(None);

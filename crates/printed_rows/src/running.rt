@@ -1,5 +1,6 @@
 ghost use Rattle.std.specs.Prelude.{IfOk};
 ghost use Rattle.plan_model.specs.Parts.{AreListed};
+ghost use Rattle.problem_texts.specs.ArePrinted.{IsCompiledProblem};
 
 use crate::checks::compiled;
 use crate::rows::{ROWS, Row};
@@ -121,6 +122,7 @@ fn printed(
 
 fn compiled_source(alloc: Global, source: &Source, checks: Checks) -> Result<Compiled, Failure>
     ensures listed { IfOk result (λ c. AreListed c.hddl.types) }
+    ensures compiled { IfOk result IsCompiledProblem }
 {
     match hddl(alloc, source.domain.as_slice(), source.problem.as_slice())? {
         None => Err(Failure::Form),

@@ -7,11 +7,11 @@ use Rattle.plan_model.specs.declared.values.Pddl.{Pddl}
 use Rattle.plan_meaning.specs.EncodedValue.{IsEncoded}
 use Rattle.encoded_words.specs.EncodedWords.{HasEncodedWords}
 use Rattle.encoded_words.proofs.EncodedIsPrintable.{encoded_printable}
-use Rattle.flat_values.proofs.FlatValue.{flat_is_written_out}
+use Rattle.flat_values.proofs.Values.{flat_is_written_out}
 use Rattle.problem_texts.specs.declared.printing.Texts.{Texts}
-use Rattle.problem_texts.specs.ArePrinted.{ArePrinted, AreTextsOf, in_style}
+use Rattle.problem_texts.specs.ArePrinted.{ArePrinted, AreTextsOf, IsCompiledProblem, in_style}
 
-module _ (c : Compiled) (slots : ℕ) where
+module _ (c : Compiled) (is : IsCompiledProblem c) (slots : ℕ) where
   of_value : (style : Style) (value : Pddl) → IsEncoded c slots style value → HasEncodedWords c slots value.names → length value.names < 2 ^ 32
       → (texts : Texts) → AreTextsOf value texts → ArePrinted c slots style texts.domain texts.problem
   of_value style value encoded words short texts are =
@@ -28,7 +28,7 @@ module _ (c : Compiled) (slots : ℕ) where
   in_each_style : (style : Style) (value : Pddl) → IsEncoded c slots Adl value → HasEncodedWords c slots value.names → length value.names < 2 ^ 32
       → (texts : Texts) → AreTextsOf (in_style c slots style value) texts → ArePrinted c slots style texts.domain texts.problem
   in_each_style Adl value encoded words short texts are = of_value Adl value encoded words short texts are
-  in_each_style Flat value encoded words short texts are = of_value Flat (in_style c slots Flat value) (flat_is_written_out c slots value encoded) words short texts are
+  in_each_style Flat value encoded words short texts are = of_value Flat (in_style c slots Flat value) (flat_is_written_out is.0 is.1 c slots value is.2 encoded) words short texts are
 
   pub printed_in_style : {E : Type 0} (style : Style) (value : Pddl) → IsEncoded c slots Adl value → HasEncodedWords c slots value.names → length value.names < 2 ^ 32
       → (r : Result Texts E) → IfOk r (AreTextsOf (in_style c slots style value)) → IfOk r (λ texts. ArePrinted c slots style texts.domain texts.problem)

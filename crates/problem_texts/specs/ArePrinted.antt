@@ -1,17 +1,24 @@
 -- What two printed texts of a compiled problem are.
 -- Source: this project's encoding, after Alford et al., "Bound to Plan", ICAPS 2016.
 use Rattle.std.specs.Prelude.{ℕ, ◌≡◌, List}
+use Rattle.plan_model.specs.declared.options.Checks.{Checks}
 use Rattle.plan_model.specs.declared.options.Style.{Style}
 use Rattle.plan_model.specs.declared.options.Style.TheVariants.{Adl, Flat}
+use Rattle.plan_model.specs.declared.values.Hddl.{Hddl}
 use Rattle.plan_model.specs.declared.values.Compiled.{Compiled}
 use Rattle.plan_model.specs.declared.values.Pddl.{Pddl}
 use Rattle.plan_texts.specs.PrintedTexts.{domain_text, problem_text}
+use Rattle.plan_meaning.specs.Compilation.{IsCompiled}
 use Rattle.plan_meaning.specs.EncodedValue.{IsEncoded}
 use Rattle.written_out.specs.WrittenOut.{written_out}
 use Rattle.encoded_words.specs.EncodedWords.{HasEncodedWords}
 use Rattle.slot_encoder.specs.Vocabulary.{IsPrintableWhereSound}
 use Rattle.flat_values.specs.Slots.{slots_of}
 use Rattle.problem_texts.specs.declared.printing.Texts.{Texts}
+
+-- it is compiled of some problem, in either mode of preconditions
+abbrev pub IsCompiledProblem : Compiled → Type 0
+IsCompiledProblem c = (h : Hddl) × (mode : Checks) × IsCompiled h mode c
 
 abbrev pub AreTextsOf : Pddl → Texts → Type 0
 AreTextsOf value texts = (texts.domain ≡ domain_text value) × (texts.problem ≡ problem_text value)

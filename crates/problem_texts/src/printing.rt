@@ -2,7 +2,7 @@ ghost use Rattle.std.specs.Prelude.{◌≡◌, ◌+◌, ◌<◌, ◌^◌, [], If
 ghost use Rattle.plan_model.specs.Parts.{AreListed};
 ghost use Rattle.plan_texts.specs.PrintedTexts.{domain_text, problem_text};
 ghost use Rattle.written_out.specs.WrittenOut.{written_out};
-ghost use Rattle.problem_texts.specs.ArePrinted.{ArePrinted, AreTextsOf, in_style};
+ghost use Rattle.problem_texts.specs.ArePrinted.{ArePrinted, AreTextsOf, IsCompiledProblem, in_style};
 
 use crate::ranges::slots_of;
 use htn_base::{Memory, Text};
@@ -21,8 +21,8 @@ pub struct Texts {
     pub problem: Text,
 }
 
-/// The two texts with so many slots, in buffers of `sizes`, which are those that `sizes` tells of them. The source's types are few and
-/// their parents and unions are listed.
+/// The two texts with so many slots, in buffers as long as `sizes` says, which are those of the two texts. The problem is one that was
+/// compiled; its types are few, and their parents and unions are listed.
 pub fn texts_of(
     alloc: Global,
     c: &Compiled,
@@ -30,6 +30,7 @@ pub fn texts_of(
     style: &Style,
     sizes: &Sizes,
 ) -> Result<Texts, Memory>
+    requires compiled { IsCompiledProblem c.now }
     requires listed { AreListed c.now.hddl.types }
     ensures printed { IfOk result (λ texts. ArePrinted c.now slots style.now texts.domain texts.problem) }
 {
