@@ -16,7 +16,7 @@ abbrev pub of_each : {X : Type 0} → (X → List ℕ) → List X → List ℕ
 of_each f [] = []
 of_each f (x ∷ xs) = f x ++ of_each f xs
 
-of_each-append : {X : Type 0} (f : X → List ℕ) (xs ys : List X) → of_each f (xs ++ ys) ≡ of_each f xs ++ of_each f ys
+pub of_each-append : {X : Type 0} (f : X → List ℕ) (xs ys : List X) → of_each f (xs ++ ys) ≡ of_each f xs ++ of_each f ys
 of_each-append f [] ys = refl
 of_each-append f (x ∷ xs) ys = ap (λ z. f x ++ z) (of_each-append f xs ys) ∙ sym (append_assoc (f x) (of_each f xs) (of_each f ys))
 
@@ -62,3 +62,7 @@ typed-each f (x ∷ xs) = ap (λ z. (32 ∷ typed (f x)) ++ z) (typed-each f xs)
 pub behind-each-made : {X Y : Type 0} (f : Y → Part) (g : X → Y) (xs : List X) → of_each (λ x. behind (f (g x))) xs ≡ bytes_behind (all_parts (map f (map g xs)))
 behind-each-made f g [] = refl
 behind-each-made f g (x ∷ xs) = ap (λ z. behind (f (g x)) ++ z) (behind-each-made f g xs)
+
+pub lines-each-made : {X Y : Type 0} (f : Y → Part) (g : X → Y) (xs : List X) → of_each (λ x. line (f (g x))) xs ≡ lines (all_parts (map f (map g xs)))
+lines-each-made f g [] = refl
+lines-each-made f g (x ∷ xs) = append_assoc (behind (f (g x))) (10 ∷ []) (of_each (λ x. line (f (g x))) xs) ∙ ap (λ z. behind (f (g x)) ++ (10 ∷ z)) (lines-each-made f g xs)

@@ -4,3 +4,9 @@ pub mod Each
 pub mod Groups
 pub mod Typed
 pub mod Lines
+pub mod Ranges
+pub mod LiteralBytes
+pub mod Heads
+pub mod WrittenLiterals
+pub mod OtherConditions
+pub mod OtherEffects

@@ -2,3 +2,5 @@ pub mod AppendsPrefix
 pub mod Wrote
 pub mod Scopes
 pub mod Behind
+pub mod Literals
+pub mod Heads

@@ -17,7 +17,7 @@ fn put_objects(p: &Pddl, objects: &[u32], sheet: &mut Sheet<'_>)
 {
     for object in objects {
         sheet.put(b" ");
-        put_object(p, *object, sheet);
+        put_object(p, *object as usize, sheet);
     }
 }
 

@@ -33,7 +33,7 @@ pub(crate) fn put_term(p: &Pddl, scope: &Scope<'_>, term: Term, sheet: &mut Shee
         }
         Term::Obj(object) => {
             sheet.put(b" ");
-            put_object(p, object, sheet);
+            put_object(p, object as usize, sheet);
         }
     }
 }

@@ -26,10 +26,10 @@ pub(crate) fn put_type(p: &Pddl, ty: u32, sheet: &mut Sheet<'_>)
 }
 
 /// Puts the word of an object.
-pub(crate) fn put_object(p: &Pddl, object: u32, sheet: &mut Sheet<'_>)
+pub(crate) fn put_object(p: &Pddl, object: usize, sheet: &mut Sheet<'_>)
     ensures { Wrote (word_at (pddl_words p.now).objects object) sheet.old sheet.new }
 {
-    if let Some(declared) = p.objects.get(object as usize) {
+    if let Some(declared) = p.objects.get(object) {
         put_name(p, declared.name, sheet);
     }
 }

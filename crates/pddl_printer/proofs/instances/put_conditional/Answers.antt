@@ -1,0 +1,11 @@
+use Rattle.plan_texts.specs.SpellsPddl.{pddl_words}
+use Rattle.written_out.specs.WrittenOut.{placed_atom}
+use Rattle.pddl_printer.specs.Scopes.{words_in_force}
+use Rattle.pddl_printer.proofs.Appended.{wrote-as, wrote-then}
+use Rattle.pddl_printer.proofs.LiteralBytes.{conditional-bytes}
+use Rattle.pddl_printer.proofs.instances.put_conditional.Goals as goal
+
+pub returns : goal.returns
+returns c =
+    wrote-as (conditional-bytes (pddl_words c.args.p.now) (words_in_force c.args.p.now c.args.scope.now) (placed_atom c.args.at.depth c.args.at.object c.args.condition.now) (placed_atom c.args.at.depth c.args.at.object c.args.added.now))
+    (wrote-then c.put.ensures (wrote-then c.put_inside.ensures (wrote-then c.put-2.ensures (wrote-then c.put_inside-2.ensures c.put-3.ensures))))

@@ -1,0 +1,11 @@
+use Rattle.std.proofs.Common.{take}
+use Rattle.plan_texts.specs.SpellsPddl.{pddl_words}
+use Rattle.written_out.specs.WrittenOut.{condition_parts}
+use Rattle.pddl_printer.specs.Literals.{conditions_behind}
+use Rattle.pddl_printer.specs.Scopes.{words_in_force}
+use Rattle.pddl_printer.specs.Wrote.{Wrote}
+use Rattle.pddl_printer.proofs.Each.{of_each}
+use Rattle.pddl_printer.proofs.written_conditions.put_condition_parts.Given as goal
+
+abbrev pub invariant-loop-part : goal.invariant-loop-part
+invariant-loop-part l = Wrote (of_each (λ f. conditions_behind (pddl_words l.p) (words_in_force l.p l.scope) (condition_parts l.of.range l.of.depth f)) (take l.part-index l.parts)) l.fn.sheet l.sheet

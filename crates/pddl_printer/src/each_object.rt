@@ -1,0 +1,90 @@
+ghost use Rattle.std.specs.Prelude.{◌≡◌};
+ghost use Rattle.text_forms.specs.Printing.{bytes_behind};
+ghost use Rattle.plan_texts.specs.SpellsPddl.{pddl_words};
+ghost use Rattle.plan_texts.specs.Printed.{all_parts};
+ghost use Rattle.written_out.specs.WrittenOut.{each, placed_atom};
+ghost use Rattle.pddl_printer.specs.Literals.{atom_part, denied_part, conditional_part, is_over as over};
+ghost use Rattle.pddl_printer.specs.Scopes.{words_in_force};
+ghost use Rattle.pddl_printer.specs.Wrote.{Wrote};
+
+use crate::instances::{Instance, put_conditional, put_denied, put_held};
+use crate::scope::Scope;
+use crate::sheet::Sheet;
+use plan_model::{Atom, Param, Pddl};
+use written_out::Range;
+
+/// The objects of a range, each in place of the variable of this number.
+#[derive(Clone, Copy)]
+pub(crate) struct Instances {
+    pub(crate) range: Range,
+    pub(crate) depth: usize,
+}
+
+/// Whether this is one variable of the type whose objects are written out.
+pub(crate) fn is_over(range: Range, params: &[Param]) -> bool
+    ensures { result ≡ over range params.now }
+{
+    match params {
+        [param] => param.ty == range.ty,
+        _ => false,
+    }
+}
+
+/// Puts the atom for each object, each behind a space.
+pub(crate) fn put_each_held(
+    p: &Pddl,
+    scope: &Scope<'_>,
+    of: Instances,
+    atom: &Atom,
+    sheet: &mut Sheet<'_>,
+)
+    ensures { Wrote (bytes_behind (all_parts (each of.range of.depth (λ o. atom_part (pddl_words p.now) (words_in_force p.now scope.now) (placed_atom of.depth o atom.now))))) sheet.old sheet.new }
+{
+    for k in 0..of.range.count {
+        let object = of.range.first as usize + k as usize;
+        let depth = of.depth;
+        put_held(p, scope, Instance { depth, object }, atom, sheet);
+    }
+}
+
+/// Puts that the atom does not hold, for each object and each behind a space.
+pub(crate) fn put_each_denied(
+    p: &Pddl,
+    scope: &Scope<'_>,
+    of: Instances,
+    atom: &Atom,
+    sheet: &mut Sheet<'_>,
+)
+    ensures { Wrote (bytes_behind (all_parts (each of.range of.depth (λ o. denied_part (pddl_words p.now) (words_in_force p.now scope.now) (placed_atom of.depth o atom.now))))) sheet.old sheet.new }
+{
+    for k in 0..of.range.count {
+        let object = of.range.first as usize + k as usize;
+        let depth = of.depth;
+        put_denied(p, scope, Instance { depth, object }, atom, sheet);
+    }
+}
+
+/// Puts that the condition makes the other atom true, for each object and each behind a space.
+pub(crate) fn put_each_conditional(
+    p: &Pddl,
+    scope: &Scope<'_>,
+    of: Instances,
+    condition: &Atom,
+    added: &Atom,
+    sheet: &mut Sheet<'_>,
+)
+    ensures { Wrote (bytes_behind (all_parts (each of.range of.depth (λ o. conditional_part (pddl_words p.now) (words_in_force p.now scope.now) (placed_atom of.depth o condition.now) (placed_atom of.depth o added.now))))) sheet.old sheet.new }
+{
+    for k in 0..of.range.count {
+        let object = of.range.first as usize + k as usize;
+        let depth = of.depth;
+        put_conditional(
+            p,
+            scope,
+            Instance { depth, object },
+            condition,
+            added,
+            sheet,
+        );
+    }
+}

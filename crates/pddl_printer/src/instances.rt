@@ -1,0 +1,114 @@
+ghost use Rattle.std.specs.Prelude.{map};
+ghost use Rattle.text_forms.specs.Printing.{bytes_behind};
+ghost use Rattle.plan_texts.specs.SpellsPddl.{pddl_words};
+ghost use Rattle.plan_texts.specs.Printed.{all_parts, term_part};
+ghost use Rattle.plan_model.specs.declared.terms.Term.TheVariants.{Var};
+ghost use Rattle.written_out.specs.WrittenOut.{placed, placed_atom};
+ghost use Rattle.pddl_printer.specs.Behind.{behind};
+ghost use Rattle.pddl_printer.specs.Literals.{atom_part, inside, denied_part, conditional_part};
+ghost use Rattle.pddl_printer.specs.Scopes.{words_in_force};
+ghost use Rattle.pddl_printer.specs.Wrote.{Wrote};
+
+use crate::scope::Scope;
+use crate::sheet::Sheet;
+use crate::terms::put_term;
+use crate::words::{put_object, put_predicate};
+use plan_model::{Atom, Pddl, Term};
+
+/// An object that stands in place of the variable of this number.
+#[derive(Clone, Copy)]
+pub(crate) struct Instance {
+    pub(crate) depth: usize,
+    pub(crate) object: usize,
+}
+
+/// Puts a variable behind a space, or the object in its place.
+fn put_variable(p: &Pddl, scope: &Scope<'_>, at: Instance, k: u32, sheet: &mut Sheet<'_>)
+    ensures { Wrote (behind (term_part (pddl_words p.now) (words_in_force p.now scope.now) (placed at.depth at.object (Var k)))) sheet.old sheet.new }
+{
+    if k as usize == at.depth {
+        sheet.put(b" ");
+        put_object(p, at.object, sheet);
+    } else {
+        put_term(p, scope, Term::Var(k), sheet);
+    }
+}
+
+fn put_placed_term(p: &Pddl, scope: &Scope<'_>, at: Instance, term: Term, sheet: &mut Sheet<'_>)
+    ensures { Wrote (behind (term_part (pddl_words p.now) (words_in_force p.now scope.now) (placed at.depth at.object term))) sheet.old sheet.new }
+{
+    match term {
+        Term::Var(k) => put_variable(p, scope, at, k, sheet),
+        Term::Obj(_) => put_term(p, scope, term, sheet),
+    }
+}
+
+fn put_placed_terms(
+    p: &Pddl,
+    scope: &Scope<'_>,
+    at: Instance,
+    terms: &[Term],
+    sheet: &mut Sheet<'_>,
+)
+    ensures { Wrote (bytes_behind (all_parts (map (term_part (pddl_words p.now) (words_in_force p.now scope.now)) (map (placed at.depth at.object) terms.now)))) sheet.old sheet.new }
+{
+    for term in terms {
+        put_placed_term(p, scope, at, *term, sheet);
+    }
+}
+
+/// Puts an instance of an atom without the parentheses around it.
+fn put_inside(p: &Pddl, scope: &Scope<'_>, at: Instance, atom: &Atom, sheet: &mut Sheet<'_>)
+    ensures { Wrote (inside (pddl_words p.now) (words_in_force p.now scope.now) (placed_atom at.depth at.object atom.now)) sheet.old sheet.new }
+{
+    put_predicate(p, atom.predicate, sheet);
+    put_placed_terms(p, scope, at, atom.args.as_slice(), sheet);
+}
+
+/// Puts an instance of an atom behind a space.
+pub(crate) fn put_held(
+    p: &Pddl,
+    scope: &Scope<'_>,
+    at: Instance,
+    atom: &Atom,
+    sheet: &mut Sheet<'_>,
+)
+    ensures { Wrote (behind (atom_part (pddl_words p.now) (words_in_force p.now scope.now) (placed_atom at.depth at.object atom.now))) sheet.old sheet.new }
+{
+    sheet.put(b" (");
+    put_inside(p, scope, at, atom, sheet);
+    sheet.put(b")");
+}
+
+/// Puts that an instance of an atom does not hold, behind a space.
+pub(crate) fn put_denied(
+    p: &Pddl,
+    scope: &Scope<'_>,
+    at: Instance,
+    atom: &Atom,
+    sheet: &mut Sheet<'_>,
+)
+    ensures { Wrote (behind (denied_part (pddl_words p.now) (words_in_force p.now scope.now) (placed_atom at.depth at.object atom.now))) sheet.old sheet.new }
+{
+    sheet.put(b" (not (");
+    put_inside(p, scope, at, atom, sheet);
+    sheet.put(b"))");
+}
+
+/// Puts that an instance of an atom makes that of another true, behind a space.
+pub(crate) fn put_conditional(
+    p: &Pddl,
+    scope: &Scope<'_>,
+    at: Instance,
+    condition: &Atom,
+    added: &Atom,
+    sheet: &mut Sheet<'_>,
+)
+    ensures { Wrote (behind (conditional_part (pddl_words p.now) (words_in_force p.now scope.now) (placed_atom at.depth at.object condition.now) (placed_atom at.depth at.object added.now))) sheet.old sheet.new }
+{
+    sheet.put(b" (when (");
+    put_inside(p, scope, at, condition, sheet);
+    sheet.put(b") (");
+    put_inside(p, scope, at, added, sheet);
+    sheet.put(b"))");
+}
