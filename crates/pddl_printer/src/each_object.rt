@@ -1,4 +1,4 @@
-ghost use Rattle.std.specs.Prelude.{◌≡◌};
+ghost use Rattle.std.specs.Prelude.{◌≡◌, ◌+◌};
 ghost use Rattle.text_forms.specs.Printing.{bytes_behind};
 ghost use Rattle.plan_texts.specs.SpellsPddl.{pddl_words};
 ghost use Rattle.plan_texts.specs.Printed.{all_parts};
@@ -18,6 +18,19 @@ use written_out::Range;
 pub(crate) struct Instances {
     pub(crate) range: Range,
     pub(crate) depth: usize,
+}
+
+impl Instances {
+    /// That of the k-th object.
+    fn at(self, k: u32) -> Instance
+        ensures depth { result.depth ≡ self.depth }
+        ensures object { result.object ≡ self.range.first + k }
+    {
+        Instance {
+            depth: self.depth,
+            object: self.range.first as usize + k as usize,
+        }
+    }
 }
 
 /// Whether this is one variable of the type whose objects are written out.
@@ -41,9 +54,7 @@ pub(crate) fn put_each_held(
     ensures { Wrote (bytes_behind (all_parts (each of.range of.depth (λ o. atom_part (pddl_words p.now) (words_in_force p.now scope.now) (placed_atom of.depth o atom.now))))) sheet.old sheet.new }
 {
     for k in 0..of.range.count {
-        let object = of.range.first as usize + k as usize;
-        let depth = of.depth;
-        put_held(p, scope, Instance { depth, object }, atom, sheet);
+        put_held(p, scope, of.at(k), atom, sheet);
     }
 }
 
@@ -58,9 +69,7 @@ pub(crate) fn put_each_denied(
     ensures { Wrote (bytes_behind (all_parts (each of.range of.depth (λ o. denied_part (pddl_words p.now) (words_in_force p.now scope.now) (placed_atom of.depth o atom.now))))) sheet.old sheet.new }
 {
     for k in 0..of.range.count {
-        let object = of.range.first as usize + k as usize;
-        let depth = of.depth;
-        put_denied(p, scope, Instance { depth, object }, atom, sheet);
+        put_denied(p, scope, of.at(k), atom, sheet);
     }
 }
 
@@ -76,15 +85,6 @@ pub(crate) fn put_each_conditional(
     ensures { Wrote (bytes_behind (all_parts (each of.range of.depth (λ o. conditional_part (pddl_words p.now) (words_in_force p.now scope.now) (placed_atom of.depth o condition.now) (placed_atom of.depth o added.now))))) sheet.old sheet.new }
 {
     for k in 0..of.range.count {
-        let object = of.range.first as usize + k as usize;
-        let depth = of.depth;
-        put_conditional(
-            p,
-            scope,
-            Instance { depth, object },
-            condition,
-            added,
-            sheet,
-        );
+        put_conditional(p, scope, of.at(k), condition, added, sheet);
     }
 }
