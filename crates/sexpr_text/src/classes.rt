@@ -1,5 +1,5 @@
 ghost use Rattle.std.specs.Prelude.{◌≡◌};
-ghost use Rattle.text_forms.specs.Bytes.{is_letter, is_white, class_of, class_in, comment_after};
+ghost use Rattle.text_forms.specs.Bytes.{class_of, class_in, comment_after};
 ghost use Rattle.sexpr_text.specs.Seen.{class_seen};
 
 /// What a byte is where it stands. A comment is blank.
@@ -33,27 +33,12 @@ pub fn comment_after(comment: bool, byte: u8) -> bool
 fn class_of(byte: u8) -> Class
     ensures class { class_seen result ≡ class_of byte }
 {
-    if is_letter(byte) {
-        Class::Letter
-    } else if byte == b'(' {
-        Class::Opening
-    } else if byte == b')' {
-        Class::Closing
-    } else if is_white(byte) || byte == b';' {
-        Class::Blank
-    } else {
-        Class::Bad
+    match byte {
+        b'(' => Class::Opening,
+        b')' => Class::Closing,
+        b'"' => Class::Bad,
+        b';' | b' ' | 9..=13 => Class::Blank,
+        b'!'..=b'~' => Class::Letter,
+        _ => Class::Bad,
     }
-}
-
-fn is_letter(byte: u8) -> bool
-    ensures letter { result ≡ is_letter byte }
-{
-    byte >= b'!' && byte <= b'~' && !(byte == b'(' || byte == b')' || byte == b';' || byte == b'"')
-}
-
-fn is_white(byte: u8) -> bool
-    ensures white { result ≡ is_white byte }
-{
-    (byte >= 9 && byte <= 13) || byte == b' '
 }
