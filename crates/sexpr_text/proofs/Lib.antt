@@ -1,3 +1,5 @@
+mod Depth
 mod Found
 mod Pieces
 mod Spans
+mod Taken

@@ -1,40 +1,69 @@
-ghost use Rattle.std.specs.Prelude.{◌≡◌, ◌<◌, ◌^◌, length, map, slice_get, IfOk};
-ghost use Rattle.text_forms.specs.Closing.{closings, flattened};
-ghost use Rattle.sexpr_text.specs.Seen.{piece_seen};
+ghost use Rattle.std.specs.Prelude.{◌≡◌, ◌≤◌, ◌+◌, [], ◌∷◌, length, map, slice_get, reverse, OnOk};
+ghost use Rattle.text_forms.specs.Closing.{flattened};
+ghost use Rattle.text_forms.specs.Faults.{but_innermost};
+ghost use Rattle.text_forms.specs.Tokens.{token, start, stop};
+ghost use Rattle.sexpr_text.specs.Seen.{piece_seen, closing_seen};
+ghost use Rattle.sexpr_text.specs.ReadUpTo.{IsTaken, IsClosed};
 
-use crate::tokens::{Kind, Piece};
+use crate::tokens::{Piece, add, piece_at};
 use htn_base::Memory;
-use std::alloc::Global;
 
-/// For each token the number of the token that closes the list that it opens, in one pass from the end.
-pub fn closings_of(alloc: Global, pieces: &[Piece]) -> Result<Vec<Option<u32>>, Memory>
-    requires few { length pieces.now < 2 ^ 32 }
-    ensures closings { IfOk result (λ closings'. closings'.items ≡ closings 0 (map piece_seen pieces.now)) }
+/// A parenthesis that opens a list, whose closing token is not known yet.
+pub fn open_list(pieces: &mut Vec<Piece>, open_lists: &mut Vec<u32>, at: u32) -> Result<(), Memory>
+    requires few { length pieces.old.items ≤ 16777217 }
+    ensures taken { OnOk result (IsTaken (token start at (at + 1) ∷ []) pieces.old.items (reverse open_lists.old.items) pieces.new.items (reverse open_lists.new.items)) }
+    ensures depth { OnOk result (length (reverse open_lists.new.items) ≡ length (reverse open_lists.old.items) + 1) }
 {
-    let mut closings = Vec::new(alloc);
-    let mut ends: Vec<u32> = Vec::new(alloc);
-    let mut i = pieces.len();
-    while i > 0 {
-        i -= 1;
-        match pieces[i].kind {
-            Kind::Start => closings.push(ends.pop())?,
-            Kind::Stop => {
-                ends.push(i as u32)?;
-                closings.push(None)?;
-            }
-            Kind::Word => closings.push(None)?,
+    open_lists.push(pieces.len() as u32)?;
+    add(pieces, Piece::Start { at, close: 0 })?;
+    Ok(())
+}
+
+/// A parenthesis that closes the innermost list.
+pub fn close_list(pieces: &mut Vec<Piece>, open_lists: &mut Vec<u32>, at: u32) -> Result<(), Memory>
+    requires few { length pieces.old.items ≤ 16777217 }
+    ensures taken { OnOk result (IsTaken (token stop at (at + 1) ∷ []) pieces.old.items (reverse open_lists.old.items) pieces.new.items (reverse open_lists.new.items)) }
+    ensures depth { OnOk result (length (reverse open_lists.new.items) ≡ length (but_innermost (reverse open_lists.old.items))) }
+{
+    match open_lists.pop() {
+        Some(start) => {
+            let close = pieces.len() as u32;
+            set_close(pieces, start, close);
+            add(pieces, Piece::Stop { at })?;
+            Ok(())
+        }
+        None => {
+            add(pieces, Piece::Stop { at })?;
+            Ok(())
         }
     }
-    closings.reverse();
-    Ok(closings)
+}
+
+// The list that the piece with a number opens is closed by the token with another.
+fn set_close(pieces: &mut Vec<Piece>, i: u32, close: u32)
+    ensures closed { IsClosed pieces.old.items i close pieces.new.items }
+{
+    if let Some(piece) = piece_at(pieces, i) {
+        pieces[i as usize] = closed_by(piece, close);
+    }
+}
+
+fn closed_by(piece: Piece, close: u32) -> Piece
+    ensures place { piece_seen result ≡ piece_seen piece }
+    ensures closing { (piece_seen piece).kind ≡ start → closing_seen result ≡ Some close }
+{
+    match piece {
+        Piece::Start { at, .. } => Piece::Start { at, close },
+        _ => piece,
+    }
 }
 
 /// The closing token of the token with a number, if there are both.
-pub fn closing_at(closings: &[Option<u32>], i: u32) -> Option<u32>
-    ensures closing { result ≡ flattened (slice_get closings.now i) }
+pub fn closing_at(pieces: &[Piece], i: u32) -> Option<u32>
+    ensures closing { result ≡ flattened (slice_get (map closing_seen pieces.now) i) }
 {
-    match closings.get(i as usize) {
-        Some(closing) => *closing,
-        None => None,
+    match pieces.get(i as usize) {
+        Some(Piece::Start { close, .. }) => Some(*close),
+        _ => None,
     }
 }

@@ -1,4 +1,4 @@
-ghost use Rattle.std.specs.Prelude.{◌≡◌, ◌≤◌, ◌<◌, ◌-◌, ◌^◌, reverse, length, IfOk, OnOk};
+ghost use Rattle.std.specs.Prelude.{◌≡◌, ℕ, ◌≤◌, ◌<◌, ◌-◌, ◌^◌, ◌↔◌, List, IsTrue, IsSome, reverse, length, IfOk, OnOk};
 ghost use Rattle.std.specs.Option.{option_map};
 ghost use Rattle.text_forms.specs.Bytes.{classes_from};
 ghost use Rattle.text_forms.specs.Faults.{fault, innermost, but_innermost, open_after, code_at};
@@ -19,7 +19,7 @@ const STRAY_CLOSE: u16 = 3;
 const TOO_DEEP: u16 = 4;
 
 // At most so many lists are open at a time.
-const DEEPEST: usize = 200;
+pub const DEEPEST: usize = 200;
 
 /// The fault of a text that comes first, by place and then code. A byte's fault does not end the pass: a
 /// list in front of it that is left open at the end comes before it.
@@ -39,6 +39,18 @@ pub fn first_fault(alloc: Global, source: &[u8], file: u8) -> Result<Option<Faul
         }
     }
     Ok(unclosed_list(file, leave(&mut open_lists)))
+}
+
+/// Whether a byte is a fault where so many lists are open in front of it.
+pub fn is_fault(class: Class, depth: usize) -> bool
+    ensures fault { (open_lists : List ℕ) → length open_lists ≡ depth → (IsTrue result ↔ IsSome (code_at open_lists (class_seen class))) }
+{
+    match class {
+        Class::Blank | Class::Letter => false,
+        Class::Bad => true,
+        Class::Opening => depth >= DEEPEST,
+        Class::Closing => depth == 0,
+    }
 }
 
 // One byte: the lists that are open behind it, and the code of the fault that it is.

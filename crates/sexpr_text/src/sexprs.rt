@@ -6,10 +6,10 @@ ghost use Rattle.text_forms.specs.Tokens.{tokens, token_count};
 ghost use Rattle.sexpr_text.specs.Refused.{IsRefusal};
 ghost use Rattle.sexpr_text.specs.Seen.{token_seen};
 
-use crate::closings::{closing_at, closings_of};
+use crate::closings::closing_at;
 use crate::faults::first_fault;
 use crate::read_error::ReadError;
-use crate::tokens::{Piece, Token, piece_at, pieces_of};
+use crate::tokens::{Piece, Token, piece_at, pieces_of, place_of};
 use htn_base::Span;
 use std::alloc::Global;
 use std::marker::Model;
@@ -19,7 +19,6 @@ use std::marker::Model;
 pub struct Sexprs<'a> {
     source: &'a [u8],
     pieces: Vec<Piece>,
-    closings: Vec<Option<u32>>,
 }
 
 impl<'a> Model for Sexprs<'a> {
@@ -30,7 +29,7 @@ impl<'a> Model for Sexprs<'a> {
 
     ghost view = { λ s. s.source.now };
 
-    ghost invariant = { λ s. IsReadFrom s.source.now s.pieces.items s.closings.items };
+    ghost invariant = { λ s. IsReadFrom s.source.now s.pieces.items };
 }
 
 /// Cuts a text of at most 16,777,216 bytes into its tokens. `file` is its place among the command's inputs.
@@ -42,16 +41,13 @@ pub fn read<'a>(alloc: Global, source: &'a [u8], file: u8) -> Result<Sexprs<'a>,
     ensures faultless { IfOk result (λ _. IsFaultless source.now) }
     ensures refused { IfErr result (IsRefusal source.now file) }
 {
-    if let Some(fault) = first_fault(alloc, source, file)? {
-        return Err(ReadError::Bad(fault));
+    if let Some(pieces) = pieces_of(alloc, source)? {
+        return Ok(Sexprs { source, pieces });
     }
-    let pieces = pieces_of(alloc, source)?;
-    let closings = closings_of(alloc, &pieces)?;
-    Ok(Sexprs {
-        source,
-        pieces,
-        closings,
-    })
+    match first_fault(alloc, source, file)? {
+        Some(fault) => Err(ReadError::Bad(fault)),
+        None => unreachable!(),
+    }
 }
 
 impl<'a> Sexprs<'a> {
@@ -70,10 +66,11 @@ impl<'a> Sexprs<'a> {
         ensures word { IfSome result (λ t. t.word.now ≡ slice_range self.now t.span.start t.span.end) }
     {
         let piece = piece_at(&self.pieces, i)?;
+        let (kind, span) = place_of(piece);
         Some(Token {
-            kind: piece.kind,
-            word: part(self.source, piece.span),
-            span: piece.span,
+            kind,
+            word: part(self.source, span),
+            span,
         })
     }
 
@@ -82,7 +79,7 @@ impl<'a> Sexprs<'a> {
         ensures close { result ≡ close_at self.now i }
         ensures opens { IsSome result ↔ OpensList self.now i }
     {
-        closing_at(&self.closings, i)
+        closing_at(&self.pieces, i)
     }
 
     /// The number of bytes of the source, at most 16,777,216.
