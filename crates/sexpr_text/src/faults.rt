@@ -5,7 +5,7 @@ ghost use Rattle.text_forms.specs.Faults.{fault, innermost, but_innermost, open_
 ghost use Rattle.text_forms.specs.Least.{newer, older, left_open, settled, least_fault};
 ghost use Rattle.sexpr_text.specs.Seen.{class_seen, fault_in};
 
-use crate::classes::{Class, class_in, comment_after};
+use crate::classes::{Class, class_in};
 use htn_base::{Fault, Memory};
 use std::alloc::Global;
 
@@ -31,8 +31,8 @@ pub fn first_fault(alloc: Global, source: &[u8], file: u8) -> Result<Option<Faul
     let mut comment = false;
     for (i, byte) in source.iter().enumerate() {
         let at = i as u32;
-        let class = class_in(comment, *byte);
-        comment = comment_after(comment, *byte);
+        let (class, goes_on) = class_in(comment, *byte);
+        comment = goes_on;
         if let Some(code) = enter(&mut open_lists, at, class)? {
             let unclosed = left_open(&source[i + 1..], comment, open_lists);
             return Ok(Some(settled(file, code, at, unclosed)));
@@ -81,8 +81,8 @@ fn left_open(source: &[u8], comment: bool, mut open_lists: Vec<u32>) -> Option<u
     let mut count: u32 = 0;
     let mut inside = comment;
     for byte in source {
-        let class = class_in(inside, *byte);
-        inside = comment_after(inside, *byte);
+        let (class, goes_on) = class_in(inside, *byte);
+        inside = goes_on;
         count = pass(&mut open_lists, count, class);
     }
     if count > 0 {

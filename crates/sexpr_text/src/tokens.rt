@@ -6,7 +6,7 @@ ghost use Rattle.text_forms.specs.Tokens.{token, ended, made, under_way_after, t
 ghost use Rattle.sexpr_text.specs.Seen.{class_seen, kind_seen, piece_seen, closing_seen};
 ghost use Rattle.sexpr_text.specs.ReadUpTo.{IsTaken};
 
-use crate::classes::{Class, class_in, comment_after};
+use crate::classes::{Class, class_in};
 use crate::closings::{close_list, open_list};
 use crate::faults::{DEEPEST, is_fault};
 use htn_base::{Memory, Span};
@@ -49,8 +49,8 @@ pub fn pieces_of(alloc: Global, source: &[u8]) -> Result<Option<Vec<Piece>>, Mem
     let mut comment = false;
     let mut under_way: Option<u32> = None;
     for (i, byte) in source.iter().enumerate() {
-        let class = class_in(comment, *byte);
-        comment = comment_after(comment, *byte);
+        let (class, goes_on) = class_in(comment, *byte);
+        comment = goes_on;
         if is_fault(class, open_lists.len()) {
             return Ok(None);
         }

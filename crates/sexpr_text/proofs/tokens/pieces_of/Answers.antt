@@ -14,12 +14,12 @@ use Rattle.sexpr_text.proofs.tokens.pieces_of.Goals as goal
 pub returns-then-is_fault-clause-faultless : goal.returns-then-is_fault-clause-faultless
 returns-then-is_fault-clause-faultless c =
     let text = c.args.source.now in let i = c.loop-i.i in let opens = c.loop-i.open_lists.items in
-    let k = class_seen c.class_in-class.result in
+    let k = class_seen c.class_in-class.result.0 in
     let lt : i < length text = omega arith in
-    let next = classes_next text c.loop-i.comment c.comment_after-comment.result i k lt c.class_in-class.ensures.class c.comment_after-comment.ensures.goes_on in (
+    let next = classes_next text c.loop-i.comment c.class_in-class.result.1 i k lt c.class_in-class.ensures.class c.class_in-class.ensures.goes_on in (
       λ e. absurd (false≢true e),
       λ clean. absurd (
-          has_fault text (length (reverse opens)) i k (classes_from c.comment_after-comment.result (drop (i + 1) text)) (classes_from c.loop-i.comment (drop i text)) c.loop-i.invariant.deep next
+          has_fault text (length (reverse opens)) i k (classes_from c.class_in-class.result.1 (drop (i + 1) text)) (classes_from c.loop-i.comment (drop i text)) c.loop-i.invariant.deep next
           (λ ps e. (c.is_fault.ensures.fault ps (omega (arith, length-reverse opens, c.len.ensures, c.loop-i.open_lists.ok.0))).0 c.if-is_fault.true) clean),
     )
 
@@ -31,10 +31,10 @@ take-requires c =
 pub loop-i-preserved : goal.loop-i-preserved
 loop-i-preserved c =
     let text = c.args.source.now in let i = c.loop-i.i in let opens = c.loop-i.open_lists.items in
-    let k = class_seen c.class_in-class.result in
+    let k = class_seen c.class_in-class.result.0 in
     let lt : i < length text = omega arith in
-    let rest = classes_from c.comment_after-comment.result (drop (i + 1) text) in
-    let next = classes_next text c.loop-i.comment c.comment_after-comment.result i k lt c.class_in-class.ensures.class c.comment_after-comment.ensures.goes_on in
+    let rest = classes_from c.class_in-class.result.1 (drop (i + 1) text) in
+    let next = classes_next text c.loop-i.comment c.class_in-class.result.1 i k lt c.class_in-class.ensures.class c.class_in-class.ensures.goes_on in
     record {
       read = read_byte (tokens text) c.loop-i.under_way c.in_ok-under_way.under_way i k (classes_from c.loop-i.comment (drop i text)) rest c.loop-i.pieces.items c.take.new.pieces.items (reverse opens) (reverse c.take.new.open_lists.items)
           c.loop-i.invariant.read next c.in_ok-under_way.ensures.under_way c.in_ok-under_way.ensures.taken;
