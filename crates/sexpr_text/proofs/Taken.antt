@@ -134,10 +134,13 @@ taken_start ps qs os ns n at close l o p all ts r =
     taken_by all ts (ps ++ Start at close ∷ []) qs (length ps ∷ reverse os) (reverse ns) p (last_first os ns n o ∙ ap (λ m. m ∷ reverse os) l)
     (read_start all ts ps (reverse os) at close r)
 
-pub taken_stop : (ps qs rs : List Piece) (os ns : List ℕ) (i n at : ℕ) → n ≡ length ps → os ≡ ns ++ i ∷ [] → IsClosed ps i n qs → rs ≡ qs ++ Stop at ∷ [] → IsTaken (token stop at (at + 1) ∷ []) ps (reverse os) rs (reverse ns)
+pub taken_stop : (ps qs rs : List Piece) (os ns : List ℕ) (i n at : ℕ) → n ≡ length ps → os ≡ ns ++ i ∷ [] → (OpensBy (slice_get (map piece_seen ps) i) → IsClosed ps i n qs) → rs ≡ qs ++ Stop at ∷ [] → IsTaken (token stop at (at + 1) ∷ []) ps (reverse os) rs (reverse ns)
 taken_stop ps qs rs os ns i n at l o c p all ts r =
     taken_by all ts (qs ++ Stop at ∷ []) rs (reverse ns) (reverse ns) p refl
-    (read_stop all ts ps qs i (reverse ns) at (subst (IsReadUpTo all (token stop at (at + 1) ∷ ts) ps) (last_first ns os i o) r) (subst (λ m. IsClosed ps i m qs) l c))
+    (read_stop all ts ps qs i (reverse ns) at (before all ts r) (subst (λ m. IsClosed ps i m qs) l (c ((before all ts r).opens 0 i refl))))
+  where
+    before : (all ts : List Token) → IsReadUpTo all (token stop at (at + 1) ∷ ts) ps (reverse os) → IsReadUpTo all (token stop at (at + 1) ∷ ts) ps (i ∷ reverse ns)
+    before all ts r = subst (IsReadUpTo all (token stop at (at + 1) ∷ ts) ps) (last_first ns os i o) r
 
 -- a class that makes no parenthesis
 pub taken_none : (k : Class) (at : ℕ) (ps : List Piece) (os : List ℕ) → (k ≡ Opening → ⊥) → (k ≡ Closing → ⊥) → IsTaken (made None at (class_seen k)) ps os ps os

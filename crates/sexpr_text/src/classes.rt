@@ -21,6 +21,9 @@ pub fn class_in(comment: bool, byte: u8) -> (Class, bool)
     if comment {
         return (Class::Blank, byte != b'\n');
     }
+    if byte > b';' && byte <= b'~' {
+        return (Class::Letter, false);
+    }
     match byte {
         b'(' => (Class::Opening, false),
         b')' => (Class::Closing, false),
