@@ -1,3 +1,5 @@
+mod Cells
+mod Depth
 mod Found
-mod Pieces
 mod Spans
+mod Taken

@@ -1,11 +1,14 @@
 -- A token stands within the text.
 use Rattle.std.proofs.Common.{◌≡◌, ◌∙◌, ℕ, zero, suc, ◌<◌, ◌≤◌, length, map, Some, List, [], ◌∷◌, ap, sym, subst, arith}
+use Rattle.std.proofs.lemmas.Option.{slice_get-map}
+use Rattle.std.specs.Option.{option_map}
 use Rattle.std.specs.Prelude.{slice_get}
 use Rattle.text_forms.specs.Tokens.{Token, tokens}
 use Rattle.text_forms.specs.Laws.{StandInOrder}
 use Rattle.text_forms.proofs.Lists.{in_order}
+use Rattle.sexpr_text.specs.declared.tokens.Cell.{Cell}
 use Rattle.sexpr_text.specs.declared.tokens.Piece.{Piece}
-use Rattle.sexpr_text.specs.Seen.{piece_seen}
+use Rattle.sexpr_text.specs.Seen.{piece_of, piece_seen}
 
 pub record IsWithin (n : ℕ) (t : Token) : Type 0 where
   pub order : t.first < t.behind
@@ -24,6 +27,8 @@ within from (u ∷ ts) n (suc i) t o e = within u.behind ts n i t o.2 e
 pub within_text : (text : List ℕ) (i : ℕ) (t : Token) → slice_get (tokens text) i ≡ Some t → IsWithin (length text) t
 within_text text i t e = within 0 (tokens text) (length text) i t (in_order text) e
 
--- ps are the pieces of the text, lent as qs
-pub within_piece : (text : List ℕ) (ps qs : List Piece) (i : ℕ) (p : Piece) → map piece_seen ps ≡ tokens text → qs ≡ ps → Some (piece_seen p) ≡ slice_get (map piece_seen qs) i → IsWithin (length text) (piece_seen p)
-within_piece text ps qs i p e same h = within_text text i (piece_seen p) (sym (h ∙ ap (λ rs. slice_get (map piece_seen rs) i) same ∙ ap (λ ts. slice_get ts i) e))
+-- cs are the cells of the text, lent as ds
+pub within_piece : (text : List ℕ) (cs ds : List Cell) (i : ℕ) (p : Piece) → map piece_seen (map (piece_of text) cs) ≡ tokens text → ds ≡ cs → Some p ≡ slice_get (map (piece_of text) ds) i → IsWithin (length text) (piece_seen p)
+within_piece text cs ds i p e same h =
+    within_text text i (piece_seen p) (sym (ap (option_map piece_seen) h ∙ sym (slice_get-map piece_seen (map (piece_of text) ds) i)
+    ∙ ap (λ rs. slice_get (map piece_seen (map (piece_of text) rs)) i) same ∙ ap (λ ts. slice_get ts i) e))

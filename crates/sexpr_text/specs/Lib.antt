@@ -1,3 +1,4 @@
 pub mod Seen
 pub mod Refused
 pub mod Kept
+pub mod ReadUpTo

@@ -1,11 +1,11 @@
-ghost use Rattle.std.specs.Prelude.{◌≡◌, ◌≤◌, ◌<◌, ◌-◌, ◌^◌, reverse, length, IfOk, OnOk};
+ghost use Rattle.std.specs.Prelude.{◌≡◌, ℕ, ◌≤◌, ◌<◌, ◌-◌, ◌^◌, ◌↔◌, List, IsTrue, IsSome, reverse, length, IfOk, OnOk};
 ghost use Rattle.std.specs.Option.{option_map};
 ghost use Rattle.text_forms.specs.Bytes.{classes_from};
 ghost use Rattle.text_forms.specs.Faults.{fault, innermost, but_innermost, open_after, code_at};
 ghost use Rattle.text_forms.specs.Least.{newer, older, left_open, settled, least_fault};
 ghost use Rattle.sexpr_text.specs.Seen.{class_seen, fault_in};
 
-use crate::classes::{Class, class_in, comment_after};
+use crate::classes::{Class, class_in};
 use htn_base::{Fault, Memory};
 use std::alloc::Global;
 
@@ -19,7 +19,7 @@ const STRAY_CLOSE: u16 = 3;
 const TOO_DEEP: u16 = 4;
 
 // At most so many lists are open at a time.
-const DEEPEST: usize = 200;
+pub const DEEPEST: usize = 200;
 
 /// The fault of a text that comes first, by place and then code. A byte's fault does not end the pass: a
 /// list in front of it that is left open at the end comes before it.
@@ -31,14 +31,26 @@ pub fn first_fault(alloc: Global, source: &[u8], file: u8) -> Result<Option<Faul
     let mut comment = false;
     for (i, byte) in source.iter().enumerate() {
         let at = i as u32;
-        let class = class_in(comment, *byte);
-        comment = comment_after(comment, *byte);
+        let (class, goes_on) = class_in(comment, *byte);
+        comment = goes_on;
         if let Some(code) = enter(&mut open_lists, at, class)? {
             let unclosed = left_open(&source[i + 1..], comment, open_lists);
             return Ok(Some(settled(file, code, at, unclosed)));
         }
     }
     Ok(unclosed_list(file, leave(&mut open_lists)))
+}
+
+/// Whether a byte is a fault where so many lists are open in front of it.
+pub fn is_fault(class: Class, depth: usize) -> bool
+    ensures fault { (open_lists : List ℕ) → length open_lists ≡ depth → (IsTrue result ↔ IsSome (code_at open_lists (class_seen class))) }
+{
+    match class {
+        Class::Blank | Class::Letter => false,
+        Class::Bad => true,
+        Class::Opening => depth >= DEEPEST,
+        Class::Closing => depth == 0,
+    }
 }
 
 // One byte: the lists that are open behind it, and the code of the fault that it is.
@@ -69,8 +81,8 @@ fn left_open(source: &[u8], comment: bool, mut open_lists: Vec<u32>) -> Option<u
     let mut count: u32 = 0;
     let mut inside = comment;
     for byte in source {
-        let class = class_in(inside, *byte);
-        inside = comment_after(inside, *byte);
+        let (class, goes_on) = class_in(inside, *byte);
+        inside = goes_on;
         count = pass(&mut open_lists, count, class);
     }
     if count > 0 {

@@ -6,10 +6,10 @@ ghost use Rattle.text_forms.specs.Tokens.{tokens, token_count};
 ghost use Rattle.sexpr_text.specs.Refused.{IsRefusal};
 ghost use Rattle.sexpr_text.specs.Seen.{token_seen};
 
-use crate::closings::{closing_at, closings_of};
+use crate::closings::closing_at;
 use crate::faults::first_fault;
 use crate::read_error::ReadError;
-use crate::tokens::{Piece, Token, piece_at, pieces_of};
+use crate::tokens::{Cell, Token, cells_of, piece_at, place_of};
 use htn_base::Span;
 use std::alloc::Global;
 use std::marker::Model;
@@ -18,8 +18,7 @@ use std::marker::Model;
 #[derive(Drop)]
 pub struct Sexprs<'a> {
     source: &'a [u8],
-    pieces: Vec<Piece>,
-    closings: Vec<Option<u32>>,
+    cells: Vec<Cell>,
 }
 
 impl<'a> Model for Sexprs<'a> {
@@ -30,7 +29,7 @@ impl<'a> Model for Sexprs<'a> {
 
     ghost view = { λ s. s.source.now };
 
-    ghost invariant = { λ s. IsReadFrom s.source.now s.pieces.items s.closings.items };
+    ghost invariant = { λ s. IsReadFrom s.source.now s.cells.items };
 }
 
 /// Cuts a text of at most 16,777,216 bytes into its tokens. `file` is its place among the command's inputs.
@@ -42,16 +41,13 @@ pub fn read<'a>(alloc: Global, source: &'a [u8], file: u8) -> Result<Sexprs<'a>,
     ensures faultless { IfOk result (λ _. IsFaultless source.now) }
     ensures refused { IfErr result (IsRefusal source.now file) }
 {
-    if let Some(fault) = first_fault(alloc, source, file)? {
-        return Err(ReadError::Bad(fault));
+    if let Some(cells) = cells_of(alloc, source)? {
+        return Ok(Sexprs { source, cells });
     }
-    let pieces = pieces_of(alloc, source)?;
-    let closings = closings_of(alloc, &pieces)?;
-    Ok(Sexprs {
-        source,
-        pieces,
-        closings,
-    })
+    match first_fault(alloc, source, file)? {
+        Some(fault) => Err(ReadError::Bad(fault)),
+        None => unreachable!(),
+    }
 }
 
 impl<'a> Sexprs<'a> {
@@ -61,7 +57,7 @@ impl<'a> Sexprs<'a> {
         ensures few { result ≤ length self.now }
         ensures faultless { IsFaultless self.now }
     {
-        self.pieces.len() as u32
+        self.cells.len() as u32
     }
 
     /// The token with number `i` from 0, or `None` past the last.
@@ -69,11 +65,12 @@ impl<'a> Sexprs<'a> {
         ensures token { option_map token_seen result ≡ slice_get (tokens self.now) i }
         ensures word { IfSome result (λ t. t.word.now ≡ slice_range self.now t.span.start t.span.end) }
     {
-        let piece = piece_at(&self.pieces, i)?;
+        let piece = piece_at(self.source, &self.cells, i)?;
+        let (kind, span) = place_of(piece);
         Some(Token {
-            kind: piece.kind,
-            word: part(self.source, piece.span),
-            span: piece.span,
+            kind,
+            word: part(self.source, span),
+            span,
         })
     }
 
@@ -82,7 +79,7 @@ impl<'a> Sexprs<'a> {
         ensures close { result ≡ close_at self.now i }
         ensures opens { IsSome result ↔ OpensList self.now i }
     {
-        closing_at(&self.closings, i)
+        closing_at(self.source, &self.cells, i)
     }
 
     /// The number of bytes of the source, at most 16,777,216.
