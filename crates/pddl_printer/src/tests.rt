@@ -3,8 +3,9 @@
 mod every_form;
 mod parts;
 mod smallest;
+mod two_slots;
 
-use crate::{print_domain, print_problem};
+use crate::{print_domain, print_problem, print_written_out_domain, print_written_out_problem};
 use htn_base::{Memory, Text};
 use std::alloc::Global;
 use std::test::Fail;
@@ -48,5 +49,21 @@ fn problem_behind_a_text(rt: HostRuntime) -> Result<(), Fail> {
     let mut text = Text::from_slice(rt.alloc(), b"; one\n")?;
     print_problem(&every_form::value(rt.alloc())?, &mut text)?;
     assert!(rt; text == page(rt.alloc(), &every_form::PROBLEM)?);
+    Ok(())
+}
+
+#[test]
+fn domain_written_out(rt: HostRuntime) -> Result<(), Fail> {
+    let mut text = Text::new(rt.alloc());
+    print_written_out_domain(&two_slots::value(rt.alloc())?, &two_slots::SLOTS, &mut text)?;
+    assert!(rt; text == page(rt.alloc(), &two_slots::DOMAIN)?);
+    Ok(())
+}
+
+#[test]
+fn problem_written_out(rt: HostRuntime) -> Result<(), Fail> {
+    let mut text = Text::new(rt.alloc());
+    print_written_out_problem(&two_slots::value(rt.alloc())?, &two_slots::SLOTS, &mut text)?;
+    assert!(rt; text == page(rt.alloc(), &two_slots::PROBLEM)?);
     Ok(())
 }
