@@ -21,6 +21,7 @@ pub fn class_in(comment: bool, byte: u8) -> (Class, bool)
     if comment {
         return (Class::Blank, byte != b'\n');
     }
+    // The commonest bytes come first: this is the whole cost of most texts.
     if byte <= b' ' {
         return (class_of_space(byte), false);
     }
