@@ -44,6 +44,7 @@ pub fn read<'a>(alloc: Global, source: &'a [u8], file: u8) -> Result<Sexprs<'a>,
     if let Some(cells) = cells_of(alloc, source)? {
         return Ok(Sexprs { source, cells });
     }
+    // Only a text that has a fault is read again, for its least one.
     match first_fault(alloc, source, file)? {
         Some(fault) => Err(ReadError::Bad(fault)),
         None => unreachable!(),
