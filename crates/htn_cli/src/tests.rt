@@ -163,7 +163,12 @@ fn is_done(
     Ok(())
 }
 
-fn is_done_in_each_manner(rt: &impl Abort, alloc: Global, bound: &str, told: &str) -> Result<(), Fail> {
+fn is_done_in_each_manner(
+    rt: &impl Abort,
+    alloc: Global,
+    bound: &str,
+    told: &str,
+) -> Result<(), Fail> {
     is_done(rt, alloc, bound, &[], told)?;
     is_done(rt, alloc, bound, &["--checks", "atonce"], told)?;
     is_done(rt, alloc, bound, &["--style", "flat"], told)?;

@@ -112,7 +112,8 @@ fn printed(
     let texts = texts_of(alloc, &compiled, slots, &style, &sizes)?;
     let value = encode(alloc, &compiled, slots, &style)?;
     let whole = texts_of_value(alloc, &value)?;
-    let as_long = sizes.domain == texts.domain.len() as u64 && sizes.problem == texts.problem.len() as u64;
+    let as_long = sizes.domain == texts.domain.len() as u64
+        && sizes.problem == texts.problem.len() as u64;
     if as_long && are_same(&texts, &whole) {
         Ok(texts)
     } else {
@@ -142,7 +143,8 @@ fn texts_of_value(alloc: Global, value: &Pddl) -> Result<Texts, Memory> {
 }
 
 fn are_same(one: &Texts, other: &Texts) -> bool {
-    one.domain.as_slice() == other.domain.as_slice() && one.problem.as_slice() == other.problem.as_slice()
+    one.domain.as_slice() == other.domain.as_slice()
+        && one.problem.as_slice() == other.problem.as_slice()
 }
 
 fn print_texts(

@@ -1,4 +1,4 @@
-ghost use Rattle.std.specs.Prelude.{◌≡◌, ◌+◌, ◌<◌, ◌^◌, [], IfOk};
+ghost use Rattle.std.specs.Prelude.{◌≡◌, [], IfOk};
 ghost use Rattle.plan_model.specs.Parts.{AreListed};
 ghost use Rattle.plan_texts.specs.PrintedTexts.{domain_text, problem_text};
 ghost use Rattle.written_out.specs.WrittenOut.{written_out};
@@ -70,7 +70,6 @@ fn quantified(alloc: Global, value: &Pddl, sizes: &Sizes) -> Result<Texts, Memor
 
 /// The texts of the value with the slots written out.
 fn slot_by_slot(alloc: Global, range: &Range, value: &Pddl, sizes: &Sizes) -> Result<Texts, Memory>
-    requires fits { range.now.first + range.now.count < 2 ^ 32 }
     ensures { IfOk result (AreTextsOf (written_out range.now value.now)) }
 {
     let mut domain = room(alloc, sizes.domain)?;
