@@ -13,7 +13,7 @@ use Rattle.htn_cli.specs.Inputs.{AreDefined}
 use Rattle.htn_cli.specs.Refusal.{status_of, line_of}
 use Rattle.htn_cli.specs.Sent.{Told}
 use Rattle.htn_cli.specs.Left.{Leaves, LeavesDone, LeavesUnwritten}
-use Rattle.htn_cli.specs.Ending.{manner_of, Achieves, RefusesRequest, RefusesWords, RefusesTranslation, IsRefused, IsRefusedFor, IsDone, AskForSlots, IsPastLimit, Answers}
+use Rattle.htn_cli.specs.Ending.{manner_of, Achieves, RefusesRequest, RefusesTranslation, IsRefused, IsRefusedFor, IsDone, AskForSlots, IsPastLimit, Answers}
 use Rattle.htn_cli.specs.declared.manner.Manner.{Manner}
 use Rattle.htn_cli.specs.declared.status.Status.{Status}
 use Rattle.htn_cli.specs.declared.status.Status.TheVariants as status

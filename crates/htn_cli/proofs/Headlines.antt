@@ -1,5 +1,5 @@
 -- The headline of a translation that was done.
-use Rattle.std.proofs.Common.{ℕ, ◌≡◌, Bool, List, Option, Some, None, IfSome, option_map, refl, sym, ap, ◌∙◌, subst}
+use Rattle.std.proofs.Common.{ℕ, ◌≡◌, Bool, List, Option, Some, None, IfSome, option_map, sym, ap, ◌∙◌, subst}
 use Rattle.outside_io.specs.Folder.{Folder, file_of}
 use Rattle.outside_io.specs.Files.{FilesState}
 use Rattle.outside_io.specs.Sink.{SinkState}

@@ -1,12 +1,12 @@
 -- What a translation leaves, from what its steps leave.
-use Rattle.std.proofs.Common.{ℕ, ◌≡◌, ◌<◌, ◌≤◌, ◌⊎◌, Bool, List, length, take, take_all, Option, Some, None, IfSome, option_map, refl, sym, ap, ◌∙◌, subst, inl, inr, ⊎_elim, arith}
+use Rattle.std.proofs.Common.{ℕ, ◌≡◌, ◌≤◌, ◌⊎◌, Bool, List, length, take, take_all, Option, Some, None, IfSome, option_map, refl, sym, ap, ◌∙◌, subst, inl, inr, ⊎_elim, arith}
 use Rattle.std.proofs.lemmas.List.{length-take}
 use Rattle.outside_io.specs.Folder.{Folder, file_of}
 use Rattle.outside_io.specs.Files.{FilesState, GetGives}
 use Rattle.outside_io.specs.Sink.{SinkState}
 use Rattle.command_words.specs.Names.{Word, Names}
 use Rattle.htn_cli.specs.Texts.{Texts, AreTranslated}
-use Rattle.htn_cli.specs.Inputs.{Reads, AreDefined, IsPastOutput}
+use Rattle.htn_cli.specs.Inputs.{Reads, AreDefined}
 use Rattle.htn_cli.specs.Built.{AreShort}
 use Rattle.htn_cli.specs.Sent.{TakesWhole}
 use Rattle.htn_cli.specs.Left.{BothStand, Leaves, LeavesDone, slots_line}

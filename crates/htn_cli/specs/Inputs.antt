@@ -1,5 +1,5 @@
 -- What the files of a translation hold, and the texts that are defined for it.
-use Rattle.std.specs.Prelude.{ℕ, ◌≡◌, ◌≤◌, List, Some, IfSome, length, option_map}
+use Rattle.std.specs.Prelude.{ℕ, ◌≡◌, List, Some, IfSome, length, option_map}
 use Rattle.outside_io.specs.Folder.{file_of, told_of}
 use Rattle.outside_io.specs.Files.{FilesState}
 use Rattle.command_words.specs.Names.{Word, Names}

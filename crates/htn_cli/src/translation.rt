@@ -1,4 +1,4 @@
-ghost use Rattle.std.specs.Prelude.{◌≡◌, ◌≢◌, ◌≤◌, IfOk, IfErr, OnOk};
+ghost use Rattle.std.specs.Prelude.{◌≢◌, ◌≤◌, IfOk, IfErr, OnOk};
 ghost use Rattle.outside_io.specs.Files.{GetGives, PutGives};
 ghost use Rattle.command_words.specs.Names.{names_of};
 ghost use Rattle.htn_cli.specs.Texts.{Texts as PrintedTexts};

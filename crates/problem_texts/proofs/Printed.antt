@@ -1,5 +1,5 @@
 -- What is encoded in style adl has the texts of each style: as it is, or with the slots written out.
-use Rattle.std.proofs.Common.{ℕ, ◌≡◌, ◌<◌, ◌^◌, length, Result, Ok, Err, IfOk}
+use Rattle.std.proofs.Common.{ℕ, ◌<◌, ◌^◌, length, Result, Ok, Err, IfOk}
 use Rattle.plan_model.specs.declared.options.Style.{Style}
 use Rattle.plan_model.specs.declared.options.Style.TheVariants.{Adl, Flat}
 use Rattle.plan_model.specs.declared.values.Compiled.{Compiled}

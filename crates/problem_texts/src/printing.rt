@@ -1,6 +1,5 @@
 ghost use Rattle.std.specs.Prelude.{◌≡◌, [], IfOk};
 ghost use Rattle.plan_model.specs.Parts.{AreListed};
-ghost use Rattle.plan_texts.specs.PrintedTexts.{domain_text, problem_text};
 ghost use Rattle.written_out.specs.WrittenOut.{written_out};
 ghost use Rattle.problem_texts.specs.ArePrinted.{ArePrinted, AreTextsOf, IsCompiledProblem, in_style};
 

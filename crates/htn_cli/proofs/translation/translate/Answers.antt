@@ -1,9 +1,8 @@
-use Rattle.std.proofs.Common.{refl, inl, inr}
 use Rattle.std.proofs.lemmas.Result.{err_from_is_err_and}
 use Rattle.command_words.specs.Names.{names_of}
 use Rattle.htn_cli.specs.Built.{texts_of}
 use Rattle.htn_cli.proofs.Results.{on_ok_both, if_err_too}
-use Rattle.htn_cli.proofs.Leavings.{Leaves-get, Leaves-build, Leaves-done, Leaves-delivery}
+use Rattle.htn_cli.proofs.Leavings.{Leaves-build, Leaves-done, Leaves-delivery}
 use Rattle.htn_cli.proofs.translation.translate.Goals as goal
 
 pub returns-in_err-texts-clause-refused : goal.returns-in_err-texts-clause-refused
