@@ -7,10 +7,10 @@ use crate::rows::{ROWS, Row};
 use htn_base::{Memory, Text};
 use outside_io::{DiskFiles, Files, GetError};
 use pddl_printer::{print_domain, print_problem};
-use plan_model::{Checks, Compiled, Pddl, Style};
+use plan_model::{Checks, Compiled, Style};
 use problem_texts::{Texts, texts_of};
 use row_reader::hddl;
-use slot_encoder::{encode, sizes};
+use slot_encoder::{Sizes, encode, sizes};
 use std::alloc::{AllocError, Global};
 use std::io::{self, Write};
 
@@ -98,8 +98,7 @@ fn print_styles(
     Ok(())
 }
 
-/// The two texts, as the program prints them. What their sizes are said to be, and what is printed of the printed problem's value, are
-/// the same.
+/// The two texts, as the program prints them, and the same as those that are printed of the printed problem's value.
 fn printed(
     alloc: Global,
     source: &Source,
@@ -108,17 +107,36 @@ fn printed(
     checks: Checks,
 ) -> Result<Texts, Failure> {
     let compiled = compiled_source(alloc, source, checks)?;
-    let sizes = sizes(alloc, &compiled, slots, &style)?;
-    let texts = texts_of(alloc, &compiled, slots, &style, &sizes)?;
-    let value = encode(alloc, &compiled, slots, &style)?;
-    let whole = texts_of_value(alloc, &value)?;
-    let as_long = sizes.domain == texts.domain.len() as u64
-        && sizes.problem == texts.problem.len() as u64;
-    if as_long && are_same(&texts, &whole) {
+    let texts = texts_in_room(alloc, &compiled, slots, style)?;
+    let whole = texts_of_value(alloc, &compiled, slots, style)?;
+    if are_same(&texts, &whole) {
         Ok(texts)
     } else {
         Err(Failure::Difference)
     }
+}
+
+/// The two texts, which are as long as is said before.
+fn texts_in_room(
+    alloc: Global,
+    compiled: &Compiled,
+    slots: u32,
+    style: Style,
+) -> Result<Texts, Failure>
+    requires listed { AreListed compiled.now.hddl.types }
+    requires compiled { IsCompiledProblem compiled.now }
+{
+    let sizes = sizes(alloc, compiled, slots, &style)?;
+    let texts = texts_of(alloc, compiled, slots, &style, &sizes)?;
+    if are_as_long(&texts, &sizes) {
+        Ok(texts)
+    } else {
+        Err(Failure::Difference)
+    }
+}
+
+fn are_as_long(texts: &Texts, sizes: &Sizes) -> bool {
+    sizes.domain == texts.domain.len() as u64 && sizes.problem == texts.problem.len() as u64
 }
 
 fn compiled_source(alloc: Global, source: &Source, checks: Checks) -> Result<Compiled, Failure>
@@ -134,11 +152,20 @@ fn compiled_source(alloc: Global, source: &Source, checks: Checks) -> Result<Com
     }
 }
 
-fn texts_of_value(alloc: Global, value: &Pddl) -> Result<Texts, Memory> {
+/// The two texts of the printed problem's value.
+fn texts_of_value(
+    alloc: Global,
+    compiled: &Compiled,
+    slots: u32,
+    style: Style,
+) -> Result<Texts, Memory>
+    requires listed { AreListed compiled.now.hddl.types }
+{
+    let value = encode(alloc, compiled, slots, &style)?;
     let mut domain = Text::new(alloc);
-    print_domain(value, &mut domain)?;
+    print_domain(&value, &mut domain)?;
     let mut problem = Text::new(alloc);
-    print_problem(value, &mut problem)?;
+    print_problem(&value, &mut problem)?;
     Ok(Texts { domain, problem })
 }
 
