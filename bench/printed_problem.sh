@@ -1,7 +1,7 @@
 #!/usr/bin/env bash
-# Times what the program does between reading and writing, compiled, on transport problems in style flat: compiling, the sizes of the two
-# texts, and the texts. Writes a program over that of `printed_rows` into a temporary copy of the crates, and proves, builds and runs it
-# there. Prints a line for each number of packages and of slots: milliseconds, bytes of the two texts, and kilobytes of memory at most.
+# Times all from two HDDL texts to two printed texts in memory, compiled, on transport problems in style flat. Writes a program over that of
+# `printed_rows` into a temporary copy of the crates, and proves, builds and runs it there. Prints a line for each number of packages and
+# of slots: the bytes of the two texts, seconds, and kilobytes of memory at most.
 set -euo pipefail
 top=$(cd "$(dirname "$0")/.." && pwd)
 copy=$(mktemp -d)
@@ -10,7 +10,8 @@ tar -C "$top" --exclude=out -c crates crates.txt HANDLES | tar -C "$copy" -x
 cd "$copy/crates/printed_rows"
 rm -rf src/rows.rt src/running.rt proofs/rows proofs/running stdout must-fail
 cat >src/main.rt <<'E2'
-//! Prints, of the problem in `d.hddl` and `p.hddl` and for the number of slots that its argument names, how long it took.
+//! Makes the two texts of the problem in `d.hddl` and `p.hddl` in style flat, with so many slots as its argument says, and prints how
+//! many bytes they have.
 #![tactic(auto)]
 
 ghost use Rattle.plan_model.specs.Parts.{AreListed};
@@ -19,77 +20,58 @@ ghost use Rattle.problem_texts.specs.ArePrinted.{IsCompiledProblem};
 mod checks;
 
 use crate::checks::compiled;
+use htn_base::Memory;
 use outside_io::{DiskFiles, Files};
-use plan_model::{Checks, Compiled, Hddl, Style};
+use plan_model::{Checks, Compiled, Style};
 use problem_texts::texts_of;
 use row_reader::hddl;
 use slot_encoder::sizes;
 use std::alloc::Global;
-use std::rt::Clock;
-use std::time::Instant;
 use std::{env, io};
 
 /// More bytes than a text has.
-const LIMIT: u64 = 1_000_000;
+const LIMIT: u64 = 65536;
 
-fn source(alloc: Global, files: &mut DiskFiles) -> Option<Hddl> {
+/// The bytes of the two texts of a compiled problem.
+fn bytes_of(alloc: Global, compiled: &Compiled, slots: u32) -> Result<usize, Memory>
+    requires listed { AreListed compiled.now.hddl.types }
+    requires compiled { IsCompiledProblem compiled.now }
+{
+    let sizes = sizes(alloc, compiled, slots, &Style::Flat)?;
+    let texts = texts_of(alloc, compiled, slots, &Style::Flat, &sizes)?;
+    Ok(texts.domain.len().saturating_add(texts.problem.len()))
+}
+
+/// Those of two HDDL texts, if they are a problem.
+fn printed(alloc: Global, domain: &[u8], problem: &[u8], slots: u32) -> Option<usize> {
+    let read = hddl(alloc, domain, problem).ok()??;
+    match compiled(alloc, read, Checks::Leaf) {
+        Ok(Some(compiled)) => bytes_of(alloc, &compiled, slots).ok(),
+        _ => None,
+    }
+}
+
+fn read(alloc: Global, files: &mut DiskFiles, slots: u32) -> Option<usize> {
     let domain = files.get(alloc, "d.hddl", LIMIT).ok()?;
     let problem = files.get(alloc, "p.hddl", LIMIT).ok()?;
-    if domain.len() > 65536 || problem.len() > 65536 {
-        return None;
-    }
-    hddl(alloc, domain.as_slice(), problem.as_slice()).ok()?
+    printed(alloc, domain.as_slice(), problem.as_slice(), slots)
 }
 
-fn millis<R: Clock>(rt: &R, start: Instant) -> io::Result<u128> {
-    let spent = start.elapsed(rt)?;
-    Ok(spent.as_millis())
-}
-
-fn print_told<R: Print + Clock>(rt: &R, alloc: Global, made: &Compiled, slots: u32) -> io::Result<()>
-    requires listed { AreListed made.now.hddl.types }
-    requires compiled { IsCompiledProblem made.now }
-{
-    let start = Instant::now(rt)?;
-    let Ok(sizes) = sizes(alloc, made, slots, &Style::Flat) else {
-        return println!(rt; ": out of memory");
-    };
-    let counted = millis(rt, start)?;
-    let start = Instant::now(rt)?;
-    let texts = texts_of(alloc, made, slots, &Style::Flat, &sizes);
-    let spent = millis(rt, start)?;
-    match &texts {
-        Ok(texts) => {
-            let domain = texts.domain.len();
-            let problem = texts.problem.len();
-            println!(rt; ", sizes {counted} ms, texts {spent} ms, {domain} and {problem} bytes")
-        }
-        Err(_) => println!(rt; ": out of memory"),
-    }
-}
-
-fn told<R: Print + Clock>(rt: &R, alloc: Global, problem: Hddl, slots: u32) -> io::Result<()> {
-    let start = Instant::now(rt)?;
-    let made = compiled(alloc, problem, Checks::Leaf);
-    let spent = millis(rt, start)?;
-    print!(rt; "{slots} slots: compile {spent} ms")?;
-    match made {
-        Ok(Some(made)) => print_told(rt, alloc, &made, slots),
-        _ => println!(rt; ": not compiled"),
+fn slots(rt: HostRuntime) -> io::Result<u32> {
+    let words = env::args(&rt)?.skip(1).collect::<Vec<String>>(rt.alloc())?;
+    match words.get(0) {
+        Some(word) => Ok(word.parse::<u32>().unwrap_or(1)),
+        None => Ok(1),
     }
 }
 
 fn main(rt: HostRuntime) -> io::Result<()> {
+    let slots = slots(rt)?;
     let mut files = DiskFiles::new(rt);
-    let words = env::args(&rt)?.skip(1).collect::<Vec<String>>(rt.alloc())?;
-    for word in words.iter() {
-        let slots = word.parse::<u32>().unwrap_or(1);
-        match source(rt.alloc(), &mut files) {
-            Some(problem) => told(&rt, rt.alloc(), problem, slots)?,
-            None => println!(rt; "not read")?,
-        }
+    match read(rt.alloc(), &mut files, slots) {
+        Some(bytes) => println!(rt; "{bytes} bytes"),
+        None => println!(rt; "not printed"),
     }
-    Ok(())
 }
 E2
 rt run >"$copy/log" 2>&1 || { cat "$copy/log"; exit 1; }
@@ -109,7 +91,7 @@ E3
 for packages in 3 85; do
     problem "$packages" >p.hddl
     for slots in 100 4096 32768; do
-        /usr/bin/time -f '%M' -o "$copy/memory" ./out/printed_rows "$slots" >"$copy/told"
-        echo "$packages packages, $(cat "$copy/told"), $(cat "$copy/memory") KB"
+        /usr/bin/time -f '%e s, %M KB' -o "$copy/spent" ./out/printed_rows "$slots" >"$copy/told"
+        echo "$packages packages, $slots slots: $(cat "$copy/told"), $(cat "$copy/spent")"
     done
 done
