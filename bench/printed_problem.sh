@@ -88,7 +88,7 @@ print(" (:init (road l0 l1) (road l1 l0) (road l1 l2) (road l2 l1) (at v1 l0) (a
 print(f"  {' '.join(f'(at {p} l0)' for p in packages)}))")
 E3
 }
-for packages in 3 85; do
+for packages in 3 103; do
     problem "$packages" >p.hddl
     for slots in 100 4096 32768; do
         /usr/bin/time -f '%e s, %M KB' -o "$copy/spent" ./out/printed_rows "$slots" >"$copy/told"
