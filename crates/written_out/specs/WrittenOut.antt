@@ -1,5 +1,6 @@
--- A PDDL value with the quantifiers over the objects of a range written out: where a part of a conjunction says a literal, or that a
--- literal makes another true, of all objects of the range, the literals of each of these objects stand in its place.
+-- A PDDL value with the quantifiers over the objects of a range written out: where a part of a condition's conjunction quantifies over
+-- them an atom or a negated atom, or a part of an effect's a delete, or an add with one atom as its condition, the instances for each
+-- object stand in its place. Any other part stands as it is, a quantified add without a condition too.
 -- Source: Fox and Long, "PDDL2.1", JAIR 20, 2003, level 1, where a quantifier over finitely many objects is short for its instances.
 use Rattle.std.specs.Prelude.{ℕ, ◌==◌, cond, List, [], ◌∷◌, ◌++◌, map, length}
 use Rattle.task_networks.specs.Spelling.{numbers}
