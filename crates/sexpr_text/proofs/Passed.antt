@@ -1,5 +1,5 @@
 -- What is passed over in a text, and what is known behind it.
-use Rattle.std.proofs.Common.{◌≡◌, ℕ, zero, suc, ◌+◌, ◌-◌, ◌≤◌, ◌<◌, Bool, true, false, length, get_or, Some, None, List, [], ◌∷◌, refl, sym, ap, ◌∙◌, arith}
+use Rattle.std.proofs.Common.{◌≡◌, ℕ, zero, suc, ◌+◌, ◌-◌, ◌≤◌, ◌<◌, Bool, true, false, length, get_or, Some, None, List, [], ◌∷◌, ◌++◌, refl, sym, ap, ◌∙◌, arith}
 use Rattle.std.proofs.lemmas.Bool.{eqb-true}
 use Rattle.std.specs.Prelude.{◌==◌}
 use Rattle.text_forms.specs.Bytes.{Class, blank, opening, closing, letter, class_of}
@@ -7,7 +7,7 @@ use Rattle.text_forms.specs.Faults.{open_after, code_at}
 use Rattle.text_forms.specs.Least.{least, least_by, left_open}
 use Rattle.text_forms.specs.Tokens.{start, stop, word, token, tokens_from}
 use Rattle.sexpr_text.specs.declared.marks.Place.{Place}
-use Rattle.sexpr_text.specs.Places.{classes_at, tokens_at, deeper, IsPassed, AreMarks, IsAsDeep, IsReadTo}
+use Rattle.sexpr_text.specs.Places.{classes_at, tokens_at, begun, deeper, IsPassed, AreMarks, IsAsDeep, IsReadTo}
 use Rattle.sexpr_text.proofs.Depth.{classes_next}
 use Rattle.sexpr_text.proofs.Numbered.{place_next}
 
@@ -19,25 +19,22 @@ no_comment b true e h = let same : b ≡ 59 = eqb-true b 59 e in absurd (h (ap c
 classes_one : (text : List ℕ) (at : ℕ) (k : Class) → at < length text → k ≡ class_of (get_or text at 0) → (k ≡ blank → ⊥) → classes_at text at ≡ k ∷ classes_at text (at + 1)
 classes_one text at k l e h = classes_next text false false at k l e (no_comment (get_or text at 0) _ refl (λ b. h (e ∙ b)))
 
-pub passed_opening : (text : List ℕ) (at : ℕ) → at < length text → opening ≡ class_of (get_or text at 0) → IsPassed text at (at + 1) opening
-passed_opening text at l e =
-    let one = classes_one text at opening l e (λ b. cc) in
+-- a parenthesis
+passed_one : (text : List ℕ) (at : ℕ) (k : Class) → at < length text → k ≡ class_of (get_or text at 0) → (k ≡ blank → ⊥) → tokens_from None at (k ∷ classes_at text (at + 1)) ≡ begun k at (at + 1) ++ tokens_at text (at + 1) → IsPassed text at (at + 1) k
+passed_one text at k l e h made =
+    let one = classes_one text at k l e h in
     record {
       later = omega arith;
       within = omega arith;
-      tokens = ap (tokens_from None at) one;
-      faults = λ opens good. ap (least opens at) one ∙ ap (λ o. least_by o at (left_open 0 (open_after opens at opening) (classes_at text (at + 1))) (least (open_after opens at opening) (at + 1) (classes_at text (at + 1)))) good;
+      tokens = ap (tokens_from None at) one ∙ made;
+      faults = λ opens good. ap (least opens at) one ∙ ap (λ o. least_by o at (left_open 0 (open_after opens at k) (classes_at text (at + 1))) (least (open_after opens at k) (at + 1) (classes_at text (at + 1)))) good;
     }
 
+pub passed_opening : (text : List ℕ) (at : ℕ) → at < length text → opening ≡ class_of (get_or text at 0) → IsPassed text at (at + 1) opening
+passed_opening text at l e = passed_one text at opening l e (λ b. cc) refl
+
 pub passed_closing : (text : List ℕ) (at : ℕ) → at < length text → closing ≡ class_of (get_or text at 0) → IsPassed text at (at + 1) closing
-passed_closing text at l e =
-    let one = classes_one text at closing l e (λ b. cc) in
-    record {
-      later = omega arith;
-      within = omega arith;
-      tokens = ap (tokens_from None at) one;
-      faults = λ opens good. ap (least opens at) one ∙ ap (λ o. least_by o at (left_open 0 (open_after opens at closing) (classes_at text (at + 1))) (least (open_after opens at closing) (at + 1) (classes_at text (at + 1)))) good;
-    }
+passed_closing text at l e = passed_one text at closing l e (λ b. cc) refl
 
 pub passed_word : (text : List ℕ) (at end : ℕ) → at < length text → letter ≡ class_of (get_or text at 0) → at + 1 ≤ end → end ≤ length text → ((first : ℕ) → tokens_from (Some first) (at + 1) (classes_at text (at + 1)) ≡ token word first end ∷ tokens_at text end) → ((opens : List ℕ) → least opens (at + 1) (classes_at text (at + 1)) ≡ least opens end (classes_at text end)) → IsPassed text at end letter
 passed_word text at end l e later within tokens faults =

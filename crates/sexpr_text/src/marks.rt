@@ -46,7 +46,7 @@ pub fn marks_of(alloc: Global, source: &[u8]) -> Result<Option<Marks>, Memory>
         if is_fault(class, place.depth) {
             return Ok(None);
         }
-        place = marks.pass(source, place, class)?;
+        place = marks.pass_over(source, place, class)?;
     }
     if place.depth > 0 {
         return Ok(None);
@@ -56,7 +56,7 @@ pub fn marks_of(alloc: Global, source: &[u8]) -> Result<Option<Marks>, Memory>
 
 impl Marks {
     // Passes over what begins at a place, and marks it where it is a token.
-    fn pass(&mut self, source: &[u8], place: Place, class: Class) -> Result<Place, Memory>
+    fn pass_over(&mut self, source: &[u8], place: Place, class: Class) -> Result<Place, Memory>
         requires short { length source.now ≤ 16777216 }
         requires within { place.at < length source.now }
         requires class { class_seen class ≡ class_of (get_or source.now place.at 0) }

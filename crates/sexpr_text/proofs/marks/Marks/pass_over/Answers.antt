@@ -5,7 +5,7 @@ use Rattle.sexpr_text.specs.Places.{AreMarks, IsReadTo}
 use Rattle.sexpr_text.specs.Seen.{class_seen}
 use Rattle.sexpr_text.proofs.Numbered.{place_number}
 use Rattle.sexpr_text.proofs.Passed.{passed_opening, passed_closing, passed_word, read_opening, read_closing, read_word, one_less}
-use Rattle.sexpr_text.proofs.marks.Marks.pass.Goals as goal
+use Rattle.sexpr_text.proofs.marks.Marks.pass_over.Goals as goal
 
 pub mark-requires : goal.mark-requires
 mark-requires c = record { few = omega (arith, c.requires.short, place_number c.args.source.now c.args.self.now.count c.args.place c.requires.read.place) }
