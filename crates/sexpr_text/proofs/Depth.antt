@@ -1,39 +1,13 @@
 -- Whether a text has a fault depends on how many lists are open, and not on where they begin.
-use Rattle.std.proofs.Common.{◌≡◌, ℕ, zero, suc, ◌+◌, length, List, [], ◌∷◌, Option, Some, None, refl, sym, ap, ◌∙◌, subst, arith, ap₂, ◌<◌, ◌≤◌, Bool, true, false, eqb-true, drop, get_or}
+use Rattle.std.proofs.Common.{◌≡◌, ℕ, ◌+◌, length, List, [], ◌∷◌, Option, Some, None, refl, sym, ap, ◌∙◌, subst, arith, ap₂, ◌<◌, ◌≤◌, Bool, drop, get_or}
 use Rattle.std.proofs.lemmas.List.{at_drop_more, at_drop_all}
-use Rattle.std.specs.Prelude.{IsSome, IsTrue, ◌↔◌, ◌==◌}
-use Rattle.text_forms.specs.Bytes.{Class, blank, opening, closing, letter, bad, classes, classes_from, class_in, comment_after}
+use Rattle.std.specs.Prelude.{IsSome}
+use Rattle.text_forms.specs.Bytes.{Class, classes_from, class_in, comment_after}
 use Rattle.text_forms.specs.Faults.{Fault, IsFaultless, open_after, code_at}
 use Rattle.text_forms.specs.Least.{least, least_by, least_fault, left_open}
 use Rattle.text_forms.specs.Laws.{IsLeastOrNone}
 use Rattle.text_forms.proofs.LeastFault.{least_or_none}
-
--- from a place on, where so many lists are open, the least fault is that of the text
-pub record IsAsDeep (text : List ℕ) (depth at : ℕ) (cs : List Class) : Type 0 where
-  pub open_lists : List ℕ
-  pub deep : length open_lists ≡ depth
-  pub same : least open_lists at cs ≡ least_fault text
-
-pub deep_at_first : (text : List ℕ) → IsAsDeep text 0 0 (classes text)
-deep_at_first text = record { open_lists = []; deep = refl; same = refl }
-
-depth_after : (ps qs : List ℕ) (at to : ℕ) (c : Class) → length ps ≡ length qs → length (open_after ps at c) ≡ length (open_after qs to c)
-depth_after ps qs at to opening e = ap suc e
-depth_after [] [] at to closing e = refl
-depth_after [] (q ∷ qs) at to closing e = absurd (omega arith)
-depth_after (p ∷ ps) [] at to closing e = absurd (omega arith)
-depth_after (p ∷ ps) (q ∷ qs) at to closing e = omega arith
-depth_after ps qs at to blank e = e
-depth_after ps qs at to letter e = e
-depth_after ps qs at to bad e = e
-
--- a byte that is no fault
-pub deep_after : (text : List ℕ) (qs : List ℕ) (at : ℕ) (c : Class) (cs ds : List Class) → IsAsDeep text (length qs) at ds → ds ≡ c ∷ cs → ((ps : List ℕ) → length ps ≡ length qs → code_at ps c ≡ None) → IsAsDeep text (length (open_after qs at c)) (at + 1) cs
-deep_after text qs at c cs ds d e good = record {
-  open_lists = open_after d.open_lists at c;
-  deep = depth_after d.open_lists qs at at c d.deep;
-  same = ap (λ o. least_by o at (left_open 0 (open_after d.open_lists at c) cs) (least (open_after d.open_lists at c) (at + 1) cs)) (sym (good d.open_lists d.deep)) ∙ ap (least d.open_lists at) (sym e) ∙ d.same;
-}
+use Rattle.sexpr_text.specs.Places.{IsAsDeep}
 
 -- a text with a fault, and one with none
 faulty : (text : List ℕ) (o : Option Fault) → IsLeastOrNone text o → IsSome o → IsFaultless text → ⊥
@@ -62,22 +36,9 @@ has_none text depth at cs d e l = subst (IsLeastOrNone text) (sym (none d.open_l
     none [] e = refl
     none (p ∷ ps) e = absurd (omega arith)
 
--- what a test says of all open lists
-pub is_no_fault : (b : Bool) (o : Option ℕ) → b ≡ false → (IsTrue b ↔ IsSome o) → o ≡ None
-is_no_fault b None e h = refl
-is_no_fault b (Some code) e h = cc (h.1 refl)
-
 -- the class of the next byte, and those behind it
 pub classes_next : (text : List ℕ) (comment next : Bool) (i : ℕ) (k : Class) → i < length text → k ≡ class_in comment (get_or text i 0) → next ≡ comment_after comment (get_or text i 0) → classes_from comment (drop i text) ≡ k ∷ classes_from next (drop (i + 1) text)
 classes_next text comment next i k lt a b = at_drop_more (classes_from comment) text i 0 lt ∙ ap₂ (λ x y. x ∷ classes_from y (drop (i + 1) text)) (sym a) (sym b)
 
 pub classes_end : (text : List ℕ) (comment : Bool) (i : ℕ) → length text ≤ i → classes_from comment (drop i text) ≡ []
 classes_end text comment i le = at_drop_all (classes_from comment) text i le
-
--- what a test of a length says
-pub none_open : (n m : ℕ) (b : Bool) → b ≡ (n == 0) → b ≡ true → n ≡ m → m ≡ 0
-none_open n m b e t same = let zero_is : (n == 0) ≡ true = sym e ∙ t in omega (arith, eqb-true)
-
-pub some_open : (n m : ℕ) (b : Bool) → b ≡ (n == 0) → b ≡ false → n ≡ m → 0 < m
-some_open zero m b e t same = cc
-some_open (suc n) m b e t same = omega arith

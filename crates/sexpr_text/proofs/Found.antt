@@ -18,7 +18,3 @@ tells text file found e = subst (Tells text file) (sym e) (go (least_fault text)
     go : (o : Option Defined) → IsLeastOrNone text o → Tells text file (option_map (fault_in file) o)
     go None h = h
     go (Some f) h = (refl, h)
-
-pub is_none : (o : Option Fault) → ((f : Fault) → o ≡ Some f → ⊥) → o ≡ None
-is_none None h = refl
-is_none (Some f) h = absurd (h f refl)

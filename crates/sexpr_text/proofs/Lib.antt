@@ -1,5 +1,4 @@
-mod Cells
 mod Depth
 mod Found
-mod Spans
-mod Taken
+mod Numbered
+mod Passed

@@ -1,4 +1,4 @@
 pub mod Seen
 pub mod Refused
+pub mod Places
 pub mod Kept
-pub mod ReadUpTo

@@ -1,4 +1,4 @@
-ghost use Rattle.std.specs.Prelude.{◌≡◌, ◌≤◌};
+ghost use Rattle.std.specs.Prelude.{◌≡◌};
 ghost use Rattle.text_forms.specs.Bytes.{class_of, class_in, comment_after};
 ghost use Rattle.sexpr_text.specs.Seen.{class_seen};
 
@@ -12,6 +12,22 @@ pub enum Class {
     Bad,
 }
 
+/// A byte outside comments. The semicolon that opens a comment is blank.
+pub fn class_of(byte: u8) -> Class
+    ensures class { class_seen result ≡ class_of byte }
+{
+    // The commonest bytes come first: this is the whole cost of most texts.
+    match byte {
+        b'(' => Class::Opening,
+        b')' => Class::Closing,
+        b'<'..=b'~' => Class::Letter,
+        b' ' | b';' | 9..=13 => Class::Blank,
+        b'"' => Class::Bad,
+        b'!'..=b':' => Class::Letter,
+        _ => Class::Bad,
+    }
+}
+
 /// A byte behind a part of the text in which a comment may have begun, and whether a comment goes on behind
 /// the byte: it ends with its line.
 pub fn class_in(comment: bool, byte: u8) -> (Class, bool)
@@ -19,32 +35,8 @@ pub fn class_in(comment: bool, byte: u8) -> (Class, bool)
     ensures goes_on { result.1 ≡ comment_after comment byte }
 {
     if comment {
-        return (Class::Blank, byte != b'\n');
-    }
-    // The commonest bytes come first: this is the whole cost of most texts.
-    if byte <= b' ' {
-        return (class_of_space(byte), false);
-    }
-    if byte > b';' && byte <= b'~' {
-        return (Class::Letter, false);
-    }
-    match byte {
-        b'(' => (Class::Opening, false),
-        b')' => (Class::Closing, false),
-        b';' => (Class::Blank, true),
-        b'"' => (Class::Bad, false),
-        b'!'..=b'~' => (Class::Letter, false),
-        _ => (Class::Bad, false),
-    }
-}
-
-// White space, or a bad byte in front of it.
-fn class_of_space(byte: u8) -> Class
-    requires low { byte ≤ 32 }
-    ensures class { class_seen result ≡ class_of byte }
-{
-    match byte {
-        b' ' | 9..=13 => Class::Blank,
-        _ => Class::Bad,
+        (Class::Blank, byte != b'\n')
+    } else {
+        (class_of(byte), byte == b';')
     }
 }

@@ -1,64 +1,92 @@
-ghost use Rattle.std.specs.Prelude.{◌≡◌, ◌≤◌, ◌+◌, ℕ, List, [], ◌∷◌, length, map, slice_get, reverse, OnOk};
-ghost use Rattle.text_forms.specs.Bytes.{opening, closing};
-ghost use Rattle.text_forms.specs.Closing.{flattened, OpensBy};
-ghost use Rattle.text_forms.specs.Faults.{but_innermost};
-ghost use Rattle.text_forms.specs.Tokens.{token, start, stop};
-ghost use Rattle.sexpr_text.specs.Seen.{piece_of, piece_seen, closing_seen};
-ghost use Rattle.sexpr_text.specs.ReadUpTo.{IsTaken, IsClosed, TellsPiece};
+ghost use Rattle.std.specs.Prelude.{◌≡◌, ◌≤◌, ◌<◌, slice_get, IfSome, MatchOption};
+ghost use Rattle.text_forms.specs.Closing.{close_at, close_after};
+ghost use Rattle.text_forms.specs.Tokens.{token_count, tokens};
+ghost use Rattle.sexpr_text.specs.Kept.{IsReadFrom};
+ghost use Rattle.sexpr_text.specs.Places.{tokens_at, IsPlace, IsFarther};
 
-use crate::tokens::{Cell, Piece, add, cell_at, piece_at};
-use htn_base::Memory;
+use crate::marks::{EACH, Marks, Place};
+use crate::tokens::{Kind, deeper, next_piece};
 
-/// A parenthesis that opens a list, whose closing token is not known yet.
-pub fn open_list(cells: &mut Vec<Cell>, open_lists: &mut Vec<u32>, at: u32) -> Result<(), Memory>
-    requires few { length cells.old.items ≤ 16777217 }
-    ensures taken { OnOk result ((text : List ℕ) → TellsPiece text at opening → IsTaken (token start at (at + 1) ∷ []) (map (piece_of text) cells.old.items) (reverse open_lists.old.items) (map (piece_of text) cells.new.items) (reverse open_lists.new.items)) }
-    ensures depth { OnOk result (length (reverse open_lists.new.items) ≡ length (reverse open_lists.old.items) + 1) }
-{
-    open_lists.push(cells.len() as u32)?;
-    add(cells, at, 0)?;
-    Ok(())
-}
-
-/// A parenthesis that closes the innermost list.
-pub fn close_list(cells: &mut Vec<Cell>, open_lists: &mut Vec<u32>, at: u32) -> Result<(), Memory>
-    requires few { length cells.old.items ≤ 16777217 }
-    ensures taken { OnOk result ((text : List ℕ) → TellsPiece text at closing → IsTaken (token stop at (at + 1) ∷ []) (map (piece_of text) cells.old.items) (reverse open_lists.old.items) (map (piece_of text) cells.new.items) (reverse open_lists.new.items)) }
-    ensures depth { OnOk result (length (reverse open_lists.new.items) ≡ length (but_innermost (reverse open_lists.old.items))) }
-{
-    match open_lists.pop() {
-        Some(start) => {
-            let close = cells.len() as u32;
-            set_close(cells, start, close);
-            add(cells, at, 0)?;
-            Ok(())
+impl Marks {
+    /// Where the token with a number stands, or `None` past the last.
+    pub fn place_of(&self, source: &[u8], i: u32) -> Option<Place>
+        requires read { IsReadFrom source.now self.now }
+        ensures place { MatchOption result (token_count source.now ≤ i) (IsPlace source.now i) }
+    {
+        if i >= self.count {
+            return None;
         }
-        None => {
-            add(cells, at, 0)?;
-            Ok(())
+        let mut place = self.mark_at(i / EACH)?;
+        for _ in 0..i % EACH {
+            let piece = next_piece(source, place.at)?;
+            place = Place {
+                at: piece.span.end,
+                depth: deeper(piece.kind, place.depth),
+            };
+        }
+        Some(place)
+    }
+
+    /// The number of the token that closes the list that the token with a number opens.
+    pub fn closing_of(&self, source: &[u8], i: u32) -> Option<u32>
+        requires read { IsReadFrom source.now self.now }
+        ensures close { result ≡ close_at source.now i }
+    {
+        let place = self.place_of(source, i)?;
+        let piece = next_piece(source, place.at)?;
+        match piece.kind {
+            Kind::Start => {
+                let inside = Place {
+                    at: piece.span.end,
+                    depth: place.depth + 1,
+                };
+                self.closing_from(source, inside, i + 1)
+            }
+            _ => None,
         }
     }
-}
 
-// The list that the piece with a number opens is closed by the token with another.
-fn set_close(cells: &mut Vec<Cell>, i: u32, close: u32)
-    ensures closed { (text : List ℕ) → OpensBy (slice_get (map piece_seen (map (piece_of text) cells.old.items)) i) → IsClosed (map (piece_of text) cells.old.items) i close (map (piece_of text) cells.new.items) }
-{
-    if let Some(cell) = cell_at(cells, i) {
-        cells[i as usize] = Cell {
-            at: cell.at,
-            link: close,
-        };
+    // The number of the token that closes the list in which the token with a number stands, at a place.
+    fn closing_from(&self, source: &[u8], mut place: Place, mut i: u32) -> Option<u32>
+        requires read { IsReadFrom source.now self.now }
+        requires place { IsPlace source.now i place }
+        requires inside { 0 < place.depth }
+        ensures close { result ≡ close_after 0 i (tokens_at source.now place.at) }
+    {
+        let depth = place.depth;
+        while i < self.count {
+            if let Some(farther) = self.farther(i, place.depth - depth) {
+                place = farther;
+                i += EACH;
+                continue;
+            }
+            let piece = next_piece(source, place.at)?;
+            let behind = deeper(piece.kind, place.depth);
+            if behind < depth {
+                return Some(i);
+            }
+            place = Place {
+                at: piece.span.end,
+                depth: behind,
+            };
+            i += 1;
+        }
+        None
     }
-}
 
-/// The closing token of the token with a number, if there are both.
-#[tactic(auto, using(crate::proofs::Cells::closing_at_place))]
-pub fn closing_at(source: &[u8], cells: &[Cell], i: u32) -> Option<u32>
-    ensures closing { result ≡ flattened (slice_get (map closing_seen (map (piece_of source.now) cells.now)) i) }
-{
-    match piece_at(source, cells, i) {
-        Some(Piece::Start { close, .. }) => Some(close),
-        _ => None,
+    // The next place that is marked, where token `i` is marked too and the tokens between can't close so many lists.
+    fn farther(&self, i: u32, lists: u32) -> Option<Place>
+        ensures farther { IfSome result (λ p. (8 ≤ lists) × IsFarther i self.now.places.items p) }
+    {
+        if lists < EACH || i % EACH != 0 {
+            return None;
+        }
+        self.mark_at(i / EACH + 1)
+    }
+
+    fn mark_at(&self, k: u32) -> Option<Place>
+        ensures mark { result ≡ slice_get self.now.places.items k }
+    {
+        self.places.get(k as usize).copied()
     }
 }

@@ -7,7 +7,9 @@
 
 mod classes;
 mod closings;
+mod ends;
 mod faults;
+mod marks;
 mod read_error;
 mod sexprs;
 #[cfg(test)]

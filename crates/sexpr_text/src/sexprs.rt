@@ -6,10 +6,10 @@ ghost use Rattle.text_forms.specs.Tokens.{tokens, token_count};
 ghost use Rattle.sexpr_text.specs.Refused.{IsRefusal};
 ghost use Rattle.sexpr_text.specs.Seen.{token_seen};
 
-use crate::closings::closing_at;
 use crate::faults::first_fault;
+use crate::marks::{Marks, marks_of};
 use crate::read_error::ReadError;
-use crate::tokens::{Cell, Token, cells_of, piece_at, place_of};
+use crate::tokens::{Token, next_piece};
 use htn_base::Span;
 use std::alloc::Global;
 use std::marker::Model;
@@ -18,7 +18,7 @@ use std::marker::Model;
 #[derive(Drop)]
 pub struct Sexprs<'a> {
     source: &'a [u8],
-    cells: Vec<Cell>,
+    marks: Marks,
 }
 
 impl<'a> Model for Sexprs<'a> {
@@ -29,7 +29,7 @@ impl<'a> Model for Sexprs<'a> {
 
     ghost view = { λ s. s.source.now };
 
-    ghost invariant = { λ s. IsReadFrom s.source.now s.cells.items };
+    ghost invariant = { λ s. IsReadFrom s.source.now s.marks };
 }
 
 /// Cuts a text of at most 16,777,216 bytes into its tokens. `file` is its place among the command's inputs.
@@ -41,8 +41,8 @@ pub fn read<'a>(alloc: Global, source: &'a [u8], file: u8) -> Result<Sexprs<'a>,
     ensures faultless { IfOk result (λ _. IsFaultless source.now) }
     ensures refused { IfErr result (IsRefusal source.now file) }
 {
-    if let Some(cells) = cells_of(alloc, source)? {
-        return Ok(Sexprs { source, cells });
+    if let Some(marks) = marks_of(alloc, source)? {
+        return Ok(Sexprs { source, marks });
     }
     // Only a text that has a fault is read again, for its least one.
     match first_fault(alloc, source, file)? {
@@ -58,7 +58,7 @@ impl<'a> Sexprs<'a> {
         ensures few { result ≤ length self.now }
         ensures faultless { IsFaultless self.now }
     {
-        self.cells.len() as u32
+        self.marks.count
     }
 
     /// The token with number `i` from 0, or `None` past the last.
@@ -66,12 +66,12 @@ impl<'a> Sexprs<'a> {
         ensures token { option_map token_seen result ≡ slice_get (tokens self.now) i }
         ensures word { IfSome result (λ t. t.word.now ≡ slice_range self.now t.span.start t.span.end) }
     {
-        let piece = piece_at(self.source, &self.cells, i)?;
-        let (kind, span) = place_of(piece);
+        let place = self.marks.place_of(self.source, i)?;
+        let piece = next_piece(self.source, place.at)?;
         Some(Token {
-            kind,
-            word: part(self.source, span),
-            span,
+            kind: piece.kind,
+            word: part(self.source, piece.span),
+            span: piece.span,
         })
     }
 
@@ -80,7 +80,7 @@ impl<'a> Sexprs<'a> {
         ensures close { result ≡ close_at self.now i }
         ensures opens { IsSome result ↔ OpensList self.now i }
     {
-        closing_at(self.source, &self.cells, i)
+        self.marks.closing_of(self.source, i)
     }
 
     /// The number of bytes of the source, at most 16,777,216.

@@ -6,10 +6,8 @@ use Rattle.sexpr_text.proofs.sexprs.Sexprs.close_of.Goals as goal
 
 pub returns-clause-opens : goal.returns-clause-opens
 returns-clause-opens c =
-    let ends = c.self.invariant.ends in
-    let value = c.deref.ensures.value in
-    let closing = c.closing_at.ensures.closing in
-    let same : close_at c.self.inside.source.now c.args.i ≡ c.closing_at.result = cc in
+    let close = c.closing_of.ensures.close in
+    let same : close_at c.self.inside.source.now c.args.i ≡ c.closing_of.result = cc in
     subst (λ o. IsSome o ↔ OpensList c.args.self.now c.args.i) same
     (subst (λ text. IsSome (close_at c.self.inside.source.now c.args.i) ↔ OpensList text c.args.i) c.self.view_is
     (closes_its_lists c.self.inside.source.now c.self.invariant.faultless c.args.i))

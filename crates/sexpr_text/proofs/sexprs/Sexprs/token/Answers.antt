@@ -1,26 +1,19 @@
-use Rattle.std.proofs.Common.{◌≡◌, ap, arith}
-use Rattle.sexpr_text.proofs.Spans.{within_piece}
-use Rattle.sexpr_text.specs.Seen.{piece_seen}
+use Rattle.std.proofs.Common.{ap, sym, ◌∙◌, arith}
+use Rattle.std.proofs.lemmas.Option.{slice_get_past}
+use Rattle.std.specs.Option.{option_map}
+use Rattle.std.specs.Prelude.{slice_get}
+use Rattle.text_forms.specs.Tokens.{tokens}
+use Rattle.sexpr_text.specs.Seen.{piece_seen, token_seen}
+use Rattle.sexpr_text.proofs.Numbered.{place_end, token_here}
 use Rattle.sexpr_text.proofs.sexprs.Sexprs.token.Goals as goal
 
-pub place_of-kind-requires : goal.place_of-kind-requires
-place_of-kind-requires c =
-    let within = within_piece c.self.inside.source.now c.self.inside.cells.items c.deref.result.now c.args.i c.in_ok-piece.piece c.self.invariant.pieces c.deref.ensures.value c.in_ok-piece.ensures.piece in
-    let end' = within.end' in
-    let short = c.self.invariant.short in
-    record { within = omega arith }
+pub returns-in_err-piece-clause-token : goal.returns-in_err-piece-clause-token
+returns-in_err-piece-clause-token c =
+    let text = c.self.inside.source.now in
+    let all = place_end text c.args.i c.in_ok-place.place c.in_ok-place.ensures.place c.in_err-piece.ensures.tokens in
+    ap (option_map token_seen) c.from_residual-in_err-piece.ensures ∙ sym (slice_get_past (tokens text) c.args.i (omega arith)) ∙ ap (λ s. slice_get (tokens s) c.args.i) c.self.view_is
 
-pub part-requires-clause-order : goal.part-requires-clause-order
-part-requires-clause-order c =
-    let within = within_piece c.self.inside.source.now c.self.inside.cells.items c.deref.result.now c.args.i c.in_ok-piece.piece c.self.invariant.pieces c.deref.ensures.value c.in_ok-piece.ensures.piece in
-    let order = within.order in
-    let first : c.place_of-kind.result.1.start ≡ (piece_seen c.in_ok-piece.piece).first = ap (λ t. t.first) c.place_of-kind.ensures.place in
-    let behind : c.place_of-kind.result.1.end ≡ (piece_seen c.in_ok-piece.piece).behind = ap (λ t. t.behind) c.place_of-kind.ensures.place in
-    omega arith
-
-pub part-requires-clause-within : goal.part-requires-clause-within
-part-requires-clause-within c =
-    let within = within_piece c.self.inside.source.now c.self.inside.cells.items c.deref.result.now c.args.i c.in_ok-piece.piece c.self.invariant.pieces c.deref.ensures.value c.in_ok-piece.ensures.piece in
-    let end' = within.end' in
-    let behind : c.place_of-kind.result.1.end ≡ (piece_seen c.in_ok-piece.piece).behind = ap (λ t. t.behind) c.place_of-kind.ensures.place in
-    omega arith
+pub returns-clause-token : goal.returns-clause-token
+returns-clause-token c =
+    let text = c.self.inside.source.now in let p = c.in_ok-piece.piece in
+    sym (token_here text c.args.i p.span.end c.in_ok-place.place (piece_seen p) c.in_ok-place.ensures.place c.in_ok-piece.ensures.tokens) ∙ ap (λ s. slice_get (tokens s) c.args.i) c.self.view_is

@@ -1,0 +1,39 @@
+use Rattle.std.proofs.Common.{◌+◌, false, None, ap, drop, get_or, refl, arith}
+use Rattle.std.proofs.lemmas.Bool.{false≢true}
+use Rattle.std.specs.Prelude.{◌==◌}
+use Rattle.text_forms.specs.Bytes.{classes_from}
+use Rattle.text_forms.specs.Tokens.{tokens_from}
+use Rattle.sexpr_text.specs.Places.{classes_at}
+use Rattle.sexpr_text.specs.Seen.{class_seen}
+use Rattle.sexpr_text.proofs.Depth.{has_fault, has_open_list, has_none, classes_next, classes_end}
+use Rattle.sexpr_text.proofs.Numbered.{place_end}
+use Rattle.sexpr_text.proofs.marks.marks_of.Goals as goal
+
+pub returns-then-is_fault-clause-faultless : goal.returns-then-is_fault-clause-faultless
+returns-then-is_fault-clause-faultless c =
+    let text = c.args.source.now in let p = c.loop-place.place in
+    let k = class_seen c.class_of-class.result in
+    let goes_on = get_or text p.at 0 == 59 in (
+      λ e. absurd (false≢true e),
+      λ clean. absurd (
+          has_fault text p.depth p.at k (classes_from goes_on (drop (p.at + 1) text)) (classes_at text p.at) c.loop-place.invariant.deep
+          (classes_next text false goes_on p.at k c.loop-place-test.true c.class_of-class.ensures.class refl)
+          (λ opens l. (c.is_fault.ensures.fault opens l).0 c.if-is_fault.true) clean),
+    )
+
+pub returns-then-place-gt0-clause-faultless : goal.returns-then-place-gt0-clause-faultless
+returns-then-place-gt0-clause-faultless c =
+    let text = c.args.source.now in let p = c.loop-place.place in (
+      λ e. absurd (false≢true e),
+      λ clean. absurd (has_open_list text p.depth p.at (classes_at text p.at) c.loop-place.invariant.deep (classes_end text false p.at (omega arith)) (omega arith) clean),
+    )
+
+pub returns-clause-count : goal.returns-clause-count
+returns-clause-count c =
+    let text = c.args.source.now in let p = c.loop-place.place in
+    place_end text c.loop-place.marks.count p c.loop-place.invariant.place (ap (tokens_from None p.at) (classes_end text false p.at (omega arith)))
+
+pub returns-clause-faultless : goal.returns-clause-faultless
+returns-clause-faultless c =
+    let text = c.args.source.now in let p = c.loop-place.place in
+    (λ _. has_none text p.depth p.at (classes_at text p.at) c.loop-place.invariant.deep (classes_end text false p.at (omega arith)) (omega arith), λ _. refl)

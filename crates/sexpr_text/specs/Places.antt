@@ -1,0 +1,88 @@
+-- Where tokens begin in a text, and how many lists are open there.
+use Rattle.std.specs.Prelude.{◌≡◌, ℕ, zero, suc, ◌+◌, ◌*◌, ◌<◌, ◌≤◌, false, Option, Some, None, List, [], ◌∷◌, ◌++◌, drop, length, slice_get}
+use Rattle.text_forms.specs.Bytes.{Class, blank, opening, closing, letter, bad, classes_from}
+use Rattle.text_forms.specs.Faults.{open_after, code_at}
+use Rattle.text_forms.specs.Least.{least, least_fault}
+use Rattle.text_forms.specs.Tokens.{Kind, start, stop, word, Token, token, tokens_from, tokens}
+use Rattle.sexpr_text.specs.declared.marks.Place.{Place}
+use Rattle.sexpr_text.specs.declared.tokens.Piece.{Piece}
+use Rattle.sexpr_text.specs.Seen.{piece_seen}
+
+-- from a place on, in front of which no comment is open
+abbrev pub classes_at : List ℕ → ℕ → List Class
+classes_at text at = classes_from false (drop at text)
+
+-- the same, where no word is under way
+abbrev pub tokens_at : List ℕ → ℕ → List Token
+tokens_at text at = tokens_from None at (classes_at text at)
+
+-- the tokens from a piece on
+abbrev pub tokens_by : List ℕ → Option Piece → List Token
+tokens_by text None = []
+tokens_by text (Some p) = piece_seen p ∷ tokens_at text p.span.end
+
+-- which token begins with a byte of a class, and ends at a place
+abbrev pub begun : Class → ℕ → ℕ → List Token
+begun opening at end = token start at end ∷ []
+begun closing at end = token stop at end ∷ []
+begun letter at end = token word at end ∷ []
+begun blank at end = []
+begun bad at end = []
+
+abbrev pub BeginsNoToken : Class → Type 0
+BeginsNoToken opening = ⊥
+BeginsNoToken closing = ⊥
+BeginsNoToken letter = ⊥
+BeginsNoToken blank = Unit {0}
+BeginsNoToken bad = Unit {0}
+
+-- A word, a parenthesis, a comment or one more byte stands between two places, and begins with a byte of the class.
+pub record IsPassed (text : List ℕ) (at end : ℕ) (class : Class) : Type 0 where
+  pub later : at < end
+  pub within : end ≤ length text
+  pub tokens : tokens_at text at ≡ begun class at end ++ tokens_at text end
+  pub faults : (opens : List ℕ) → code_at opens class ≡ None → least opens at (classes_at text at) ≡ least (open_after opens at class) end (classes_at text end)
+
+-- how many lists are open behind a token, where so many are in front of it
+abbrev pub deeper : Kind → ℕ → ℕ
+deeper start d = suc d
+deeper stop zero = zero
+deeper stop (suc d) = d
+deeper word d = d
+
+-- the same behind n tokens
+abbrev pub depth_at : ℕ → ℕ → List Token → ℕ
+depth_at zero d ts = d
+depth_at (suc n) d [] = d
+depth_at (suc n) d (t ∷ ts) = depth_at n (deeper t.kind d) ts
+
+-- The tokens from number n on begin at the place, and so many lists are open there.
+pub record IsPlace (text : List ℕ) (n : ℕ) (p : Place) : Type 0 where
+  pub number : n ≤ length (tokens text)
+  pub within : p.at ≤ length text
+  pub here : drop n (tokens text) ≡ tokens_at text p.at
+  pub depth : p.depth ≡ depth_at n 0 (tokens text)
+
+-- the places of every eighth one of so many tokens
+pub record AreMarks (text : List ℕ) (count : ℕ) (ps : List Place) : Type 0 where
+  pub places : (k : ℕ) (p : Place) → slice_get ps k ≡ Some p → IsPlace text (k * 8) p
+  pub enough : count ≤ length ps * 8
+  pub few : length ps * 8 < count + 8
+
+-- From a place on, where so many lists are open, the least fault is that of the text.
+pub record IsAsDeep (text : List ℕ) (depth at : ℕ) (cs : List Class) : Type 0 where
+  pub open_lists : List ℕ
+  pub deep : length open_lists ≡ depth
+  pub same : least open_lists at cs ≡ least_fault text
+
+-- A text has been read up to a place, in front of which it has no fault and so many tokens begin.
+pub record IsReadTo (text : List ℕ) (count : ℕ) (ps : List Place) (p : Place) : Type 0 where
+  pub place : IsPlace text count p
+  pub marks : AreMarks text count ps
+  pub deep : IsAsDeep text p.depth p.at (classes_at text p.at)
+
+-- token i is an eighth one, and so is the one whose place this is, which comes next
+pub record IsFarther (i : ℕ) (ps : List Place) (p : Place) : Type 0 where
+  pub mark : ℕ
+  pub here : i ≡ mark * 8
+  pub next : slice_get ps (mark + 1) ≡ Some p

@@ -1,0 +1,110 @@
+ghost use Rattle.std.specs.Prelude.{◌≡◌, ◌≤◌, ◌<◌, ◌+◌, ◌↔◌, ℕ, List, None, length, get_or, IfOk, OnOk, IfSome, IsSome};
+ghost use Rattle.text_forms.specs.Bytes.{class_of};
+ghost use Rattle.text_forms.specs.Faults.{code_at, IsFaultless};
+ghost use Rattle.text_forms.specs.Tokens.{token_count};
+ghost use Rattle.sexpr_text.specs.Places.{IsPlace, AreMarks, IsReadTo};
+ghost use Rattle.sexpr_text.specs.Seen.{class_seen};
+
+use crate::classes::{Class, class_of};
+use crate::ends::{blank_end, word_end};
+use crate::faults::is_fault;
+use htn_base::Memory;
+use std::alloc::Global;
+
+/// The place of each token whose number is a multiple of this is kept. Those between are read again when they are asked
+/// for, so that what is kept takes no more memory than the text.
+pub const EACH: u32 = 8;
+
+/// A place from which on the tokens from some number on stand, and how many lists are open there.
+#[derive(Clone, Copy, Debug)]
+pub struct Place {
+    pub at: u32,
+    pub depth: u32,
+}
+
+/// The number of tokens, and the place of every eighth.
+#[derive(Drop)]
+pub struct Marks {
+    pub count: u32,
+    pub places: Vec<Place>,
+}
+
+/// The marks of a text without faults, in one pass, or `None` where the text has a fault.
+pub fn marks_of(alloc: Global, source: &[u8]) -> Result<Option<Marks>, Memory>
+    requires short { length source.now ≤ 16777216 }
+    ensures count { IfOk result (λ found. IfSome found (λ marks. marks.count ≡ token_count source.now)) }
+    ensures marks { IfOk result (λ found. IfSome found (λ marks. AreMarks source.now marks.count marks.places.items)) }
+    ensures faultless { IfOk result (λ found. IsSome found ↔ IsFaultless source.now) }
+{
+    let mut marks = Marks {
+        count: 0,
+        places: Vec::new(alloc),
+    };
+    let mut place = Place { at: 0, depth: 0 };
+    while (place.at as usize) < source.len() {
+        let class = class_of(source[place.at as usize]);
+        if is_fault(class, place.depth) {
+            return Ok(None);
+        }
+        place = marks.pass_over(source, place, class)?;
+    }
+    if place.depth > 0 {
+        return Ok(None);
+    }
+    Ok(Some(marks))
+}
+
+impl Marks {
+    // Passes over what begins at a place, and marks it where it is a token.
+    fn pass_over(&mut self, source: &[u8], place: Place, class: Class) -> Result<Place, Memory>
+        requires short { length source.now ≤ 16777216 }
+        requires within { place.at < length source.now }
+        requires class { class_seen class ≡ class_of (get_or source.now place.at 0) }
+        requires good { (opens : List ℕ) → length opens ≡ place.depth → code_at opens (class_seen class) ≡ None }
+        requires read { IsReadTo source.now self.old.count self.old.places.items place }
+        ensures later { IfOk result (λ next. place.at < next.at) }
+        ensures read { IfOk result (λ next. IsReadTo source.now self.new.count self.new.places.items next) }
+    {
+        let Place { at, depth } = place;
+        match class {
+            Class::Opening => {
+                self.mark(place)?;
+                Ok(Place {
+                    at: at + 1,
+                    depth: depth + 1,
+                })
+            }
+            Class::Closing => {
+                self.mark(place)?;
+                Ok(Place {
+                    at: at + 1,
+                    depth: depth.saturating_sub(1),
+                })
+            }
+            Class::Letter => {
+                self.mark(place)?;
+                Ok(Place {
+                    at: word_end(source, at as usize + 1) as u32,
+                    depth,
+                })
+            }
+            Class::Blank | Class::Bad => Ok(Place {
+                at: blank_end(source, at as usize) as u32,
+                depth,
+            }),
+        }
+    }
+
+    // One more token.
+    fn mark(&mut self, place: Place) -> Result<(), Memory>
+        requires few { self.old.count ≤ 16777216 }
+        ensures count { OnOk result (self.new.count ≡ self.old.count + 1) }
+        ensures marks { OnOk result ((text : List ℕ) → IsPlace text self.old.count place → AreMarks text self.old.count self.old.places.items → AreMarks text self.new.count self.new.places.items) }
+    {
+        if self.count % EACH == 0 {
+            self.places.push(place)?;
+        }
+        self.count += 1;
+        Ok(())
+    }
+}
