@@ -1,5 +1,4 @@
-ghost use Rattle.std.specs.Prelude.{◌≡◌, ◌+◌, ◌<◌, IfOk, OnOk};
-ghost use Rattle.htn_base.specs.Table.{with_word};
+ghost use Rattle.std.specs.Prelude.{◌≡◌, ◌<◌, IfOk, OnOk};
 ghost use Rattle.hddl_reader.specs.Bound.{IsCalled, IsHead, place_of, IsSubtaskOf};
 ghost use Rattle.hddl_reader.specs.Rest.{word_of};
 ghost use Rattle.hddl_reader.specs.Tables.{Extends};

@@ -1,11 +1,11 @@
-ghost use Rattle.std.specs.Prelude.{map, ◌∷◌};
+ghost use Rattle.std.specs.Prelude.{map};
 ghost use Rattle.text_forms.specs.Words.{word_at};
 ghost use Rattle.text_forms.specs.Printing.{bytes_behind};
 ghost use Rattle.plan_texts.specs.Declared.{variable};
 ghost use Rattle.plan_texts.specs.SpellsPddl.{pddl_words};
 ghost use Rattle.plan_texts.specs.Printed.{all_parts, term_part, applied_part};
 ghost use Rattle.pddl_printer.specs.Behind.{behind};
-ghost use Rattle.pddl_printer.specs.Scopes.{in_force, words_in_force};
+ghost use Rattle.pddl_printer.specs.Scopes.{words_in_force};
 ghost use Rattle.pddl_printer.specs.Wrote.{Wrote};
 
 use crate::scope::Scope;

@@ -1,4 +1,4 @@
-ghost use Rattle.std.specs.Prelude.{map, [], ◌∷◌};
+ghost use Rattle.std.specs.Prelude.{map, []};
 ghost use Rattle.text_forms.specs.Lists.{group, name};
 ghost use Rattle.text_forms.specs.Words.{word_at};
 ghost use Rattle.text_forms.specs.Printing.{bytes, bytes_behind};

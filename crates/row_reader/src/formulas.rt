@@ -1,6 +1,6 @@
 use crate::known::{Declared, scope_with};
 use crate::stop::Stop;
-use gd_reader::{RawFormula, RawParam, RawTerm};
+use gd_reader::{RawFormula, RawTerm};
 use htn_base::{Boxed, List, Name};
 use plan_model::{Formula, Param};
 use std::alloc::Global;

@@ -1,4 +1,3 @@
-ghost use Rattle.std.specs.Prelude.{◌≤◌, length};
 
 use crate::entries::section_list;
 use crate::known::Declared;

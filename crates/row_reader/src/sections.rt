@@ -1,5 +1,3 @@
-ghost use Rattle.std.specs.Prelude.{◌≤◌, IfOk};
-ghost use Rattle.text_forms.specs.Tokens.{token_count};
 
 use crate::cursor::{end_at, headed, list_at, next_list, word_at};
 use crate::stop::Stop;
