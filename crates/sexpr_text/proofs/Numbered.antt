@@ -1,5 +1,5 @@
 -- Tokens by their numbers: places, marks, and closing tokens.
-use Rattle.std.proofs.Common.{◌≡◌, ℕ, zero, suc, ◌+◌, ◌-◌, ◌*◌, ◌%◌, ◌/◌, ◌<◌, ◌≤◌, length, drop, Option, Some, None, List, [], ◌∷◌, ◌++◌, refl, sym, ap, ◌∙◌, subst, arith}
+use Rattle.std.proofs.Common.{◌≡◌, ℕ, zero, suc, ◌+◌, ◌-◌, ◌*◌, ◌%◌, ◌<◌, ◌≤◌, length, drop, Option, Some, None, List, [], ◌∷◌, ◌++◌, refl, sym, ap, ◌∙◌, subst, arith}
 use Rattle.std.proofs.lemmas.List.{length-append, drop-drop}
 use Rattle.std.proofs.lemmas.Nat.{div-add-mod'}
 use Rattle.std.specs.Prelude.{slice_get}
@@ -87,15 +87,11 @@ pub marks_as_before : (text : List ℕ) (n : ℕ) (ps : List Place) → (n % 8 �
 marks_as_before text n ps e m =
     let enough = m.enough in
     let few = m.few in
-    let whole = div-add-mod' n 8 in
     record { places = m.places; enough = enough_by (n % 8) refl; few = omega arith }
   where
     enough_by : (r : ℕ) → n % 8 ≡ r → n + 1 ≤ length ps * 8
     enough_by zero z = absurd (e z)
     enough_by (suc r) z = let enough = m.enough in omega (arith, div-add-mod' n 8)
-
-pub marked : (text : List ℕ) (n i : ℕ) (ps : List Place) → i < n → AreMarks text n ps → i / 8 < length ps
-marked text n i ps l m = let enough = m.enough in omega (arith, div-add-mod' i 8)
 
 -- which token closes the list that a token opens
 pub close_here : (ts us : List Token) (j i : ℕ) (t : Token) → drop i ts ≡ t ∷ us → flattened (slice_get (closings j ts) i) ≡ close_of t.kind (j + i) us
@@ -154,7 +150,7 @@ over_marks text i base p q h b l more =
     let r = over 8 (p.depth - base) base i (tokens_at text p.at) more in
     let whole : p.depth - base + base ≡ depth_at i 0 all = let same = h.depth in omega arith in
     let deep : q.depth ≡ r.0 + base =
-    b.depth ∙ depth_sum i 8 0 all ∙ ap (λ d. depth_at 8 d (drop i all)) (sym whole) ∙ ap (depth_at 8 (p.depth - base + base)) h.here ∙ r.1 in
+        b.depth ∙ depth_sum i 8 0 all ∙ ap (λ d. depth_at 8 d (drop i all)) (sym whole) ∙ ap (depth_at 8 (p.depth - base + base)) h.here ∙ r.1 in
     let left : r.0 ≡ q.depth - base = omega arith in
     let rest : drop 8 (tokens_at text p.at) ≡ tokens_at text q.at = ap (drop 8) (sym h.here) ∙ drop-drop 8 i all ∙ b.here in
     (omega arith, r.2 ∙ ap (λ d. close_after d (i + 8) (drop 8 (tokens_at text p.at))) left ∙ ap (close_after (q.depth - base) (i + 8)) rest)
