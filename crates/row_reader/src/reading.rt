@@ -1,4 +1,3 @@
-
 use crate::entries::section_list;
 use crate::known::Declared;
 use crate::methods::{methods_of, top_of};

@@ -1,4 +1,3 @@
-
 use crate::cursor::{end_at, headed, list_at, next_list, word_at};
 use crate::stop::Stop;
 use crate::words::{due, is_among, is_word};

@@ -150,7 +150,7 @@ over_marks text i base p q h b l more =
     let r = over 8 (p.depth - base) base i (tokens_at text p.at) more in
     let whole : p.depth - base + base ≡ depth_at i 0 all = let same = h.depth in omega arith in
     let deep : q.depth ≡ r.0 + base =
-        b.depth ∙ depth_sum i 8 0 all ∙ ap (λ d. depth_at 8 d (drop i all)) (sym whole) ∙ ap (depth_at 8 (p.depth - base + base)) h.here ∙ r.1 in
+    b.depth ∙ depth_sum i 8 0 all ∙ ap (λ d. depth_at 8 d (drop i all)) (sym whole) ∙ ap (depth_at 8 (p.depth - base + base)) h.here ∙ r.1 in
     let left : r.0 ≡ q.depth - base = omega arith in
     let rest : drop 8 (tokens_at text p.at) ≡ tokens_at text q.at = ap (drop 8) (sym h.here) ∙ drop-drop 8 i all ∙ b.here in
     (omega arith, r.2 ∙ ap (λ d. close_after d (i + 8) (drop 8 (tokens_at text p.at))) left ∙ ap (close_after (q.depth - base) (i + 8)) rest)

@@ -1,6 +1,6 @@
 ghost use Rattle.std.specs.Prelude.{◌≡◌, ◌≤◌, ◌<◌, slice_get, IfSome, MatchOption};
 ghost use Rattle.text_forms.specs.Closing.{close_at, close_after};
-ghost use Rattle.text_forms.specs.Tokens.{token_count, tokens};
+ghost use Rattle.text_forms.specs.Tokens.{token_count};
 ghost use Rattle.sexpr_text.specs.Kept.{IsReadFrom};
 ghost use Rattle.sexpr_text.specs.Places.{tokens_at, IsPlace, IsFarther};
 
