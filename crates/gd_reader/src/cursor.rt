@@ -45,6 +45,7 @@ pub fn item_at<'a>(s: &Sexprs<'a>, i: u32) -> Item<'a>
 pub fn word_due<'a>(s: &Sexprs<'a>, i: u32) -> Result<(u32, &'a [u8], u32), Failure>
     ensures gives { Gives (λ x. (x.0, folded x.1.now, parts_at s.now x.2)) result (word_due (parts_at s.now i)) }
     ensures later { IfOk result (λ x. (i < x.2) × (x.2 ≤ token_count s.now)) }
+    ensures memory { IfErr result (λ e. e ≡ Failure.Memory → ⊥) }
 {
     match item_at(s, i) {
         Item::End => Err(Failure::At(Stop::Ends)),
@@ -58,6 +59,7 @@ pub fn word_due<'a>(s: &Sexprs<'a>, i: u32) -> Result<(u32, &'a [u8], u32), Fail
 pub fn word_or_end<'a>(s: &Sexprs<'a>, i: u32) -> Result<Option<(u32, &'a [u8], u32)>, Failure>
     ensures gives { Gives (option_map (λ x. (x.0, folded x.1.now, parts_at s.now x.2))) result (word_or_end (parts_at s.now i)) }
     ensures later { IfOk result (λ o. IfSome o (λ x. (i < x.2) × (x.2 ≤ token_count s.now))) }
+    ensures memory { IfErr result (λ e. e ≡ Failure.Memory → ⊥) }
 {
     match item_at(s, i) {
         Item::End => Err(Failure::At(Stop::Ends)),
@@ -74,6 +76,7 @@ pub fn list_due(s: &Sexprs<'_>, i: u32) -> Result<(u32, u32), Failure>
     ensures later { IfOk result (λ x. (i < x.0) × (x.0 ≤ token_count s.now) × (i < x.1) × (x.1 ≤ token_count s.now)) }
     ensures closed { IfOk result (λ x. IsListTo s.now i x.0 x.1) }
     ensures goes_on { IfErr result (λ e. i < token_count s.now → e ≡ Failure.At Stop.Ends → ⊥) }
+    ensures memory { IfErr result (λ e. e ≡ Failure.Memory → ⊥) }
 {
     match item_at(s, i) {
         Item::End => Err(Failure::At(Stop::Ends)),
@@ -87,6 +90,7 @@ pub fn list_due(s: &Sexprs<'_>, i: u32) -> Result<(u32, u32), Failure>
 pub fn list_or_end(s: &Sexprs<'_>, i: u32) -> Result<Option<(u32, u32)>, Failure>
     ensures gives { Gives (option_map (λ x. (parts_at s.now x.0, parts_at s.now x.1))) result (list_or_end (parts_at s.now i)) }
     ensures later { IfOk result (λ o. IfSome o (λ x. (i < x.0) × (x.0 ≤ token_count s.now) × (i < x.1) × (x.1 ≤ token_count s.now))) }
+    ensures memory { IfErr result (λ e. e ≡ Failure.Memory → ⊥) }
 {
     match item_at(s, i) {
         Item::End => Err(Failure::At(Stop::Ends)),
@@ -100,6 +104,7 @@ pub fn list_or_end(s: &Sexprs<'_>, i: u32) -> Result<Option<(u32, u32)>, Failure
 #[tactic(auto, unfolding(crate::specs::Answers::end_due))]
 pub fn end_due(s: &Sexprs<'_>, i: u32) -> Result<(), Failure>
     ensures gives { Gives (λ _. tt) result (end_due (parts_at s.now i)) }
+    ensures memory { IfErr result (λ e. e ≡ Failure.Memory → ⊥) }
 {
     match item_at(s, i) {
         Item::End => Err(Failure::At(Stop::Ends)),
@@ -112,6 +117,7 @@ pub fn end_due(s: &Sexprs<'_>, i: u32) -> Result<(), Failure>
 #[tactic(auto, unfolding(crate::specs::Answers::passed), using(crate::proofs::Passing::passed_list, crate::proofs::Passing::passed_word))]
 pub fn pass(s: &Sexprs<'_>, mut i: u32) -> Result<(), Failure>
     ensures gives { Gives (λ _. tt) result (passed (parts_at s.now i)) }
+    ensures memory { IfErr result (λ e. e ≡ Failure.Memory → ⊥) }
 {
     loop {
         match item_at(s, i) {
