@@ -61,7 +61,8 @@ impl<'a> Sexprs<'a> {
         self.marks.count
     }
 
-    /// The token with number `i` from 0, or `None` past the last.
+    /// The token with number `i` from 0, or `None` past the last. It is cut out anew each time, with at most seven tokens
+    /// in front of it.
     pub fn token(&self, i: u32) -> Option<Token<'a>>
         ensures token { option_map token_seen result ≡ slice_get (tokens self.now) i }
         ensures word { IfSome result (λ t. t.word.now ≡ slice_range self.now t.span.start t.span.end) }
@@ -75,7 +76,8 @@ impl<'a> Sexprs<'a> {
         })
     }
 
-    /// The number of the token that closes the list that token `i` opens, or `None` where it opens none.
+    /// The number of the token that closes the list that token `i` opens, or `None` where it opens none. It is looked for
+    /// from the list's first token on.
     pub fn close_of(&self, i: u32) -> Option<u32>
         ensures close { result ≡ close_at self.now i }
         ensures opens { IsSome result ↔ OpensList self.now i }
