@@ -6,8 +6,8 @@ use htn_base::{List, Memory};
 use plan_model::{Compiled, Guard, MethodPlan};
 use std::alloc::Global;
 
-/// The types of guards, in order of first use.
-pub(crate) fn guard_types(alloc: Global, c: &Compiled) -> Result<List<u32>, Memory>
+/// The types of the guards of all methods, each once, in order of first use; or want of memory.
+pub fn guard_types(alloc: Global, c: &Compiled) -> Result<List<u32>, Memory>
     ensures { IfOk result (λ types. types ≡ names.guard_types c.now) }
 {
     all_types(alloc, c.methods.as_slice())

@@ -2,7 +2,7 @@
 //!
 //! It stands on the values of `plan_model` and on the definitions of `plan_texts`, `plan_meaning` and `encoded_words`. The
 //! contracts used above: `sizes` gives these lengths, as far as 64 bits go, and how long the two texts of an encoded value are
-//! (`lengths_of_texts`).
+//! (`lengths_of_texts`); `guard_types` gives the types of guards.
 #![tactic(auto)]
 
 mod conditions;
@@ -30,6 +30,7 @@ mod whole;
 mod words;
 mod works;
 
+pub use guards::guard_types;
 pub use laws::lengths_of_texts;
 pub use lengths::Sizes;
 pub use whole::sizes;

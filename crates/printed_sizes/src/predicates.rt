@@ -2,7 +2,6 @@ ghost use Rattle.std.specs.Prelude.{◌≡◌, ◌+◌, [], length, slice_index_
 ghost use Rattle.plan_meaning.specs.EncodedNames.{guard_word, guard_types};
 ghost use Rattle.printed_sizes.specs.Capped.{capped};
 ghost use Rattle.printed_sizes.specs.Sections as spec;
-ghost use Rattle.printed_sizes.specs.Slots as slots;
 
 use crate::counts::{all_digits, digits, number, plus, times};
 use crate::sections::source_predicates_size;

@@ -1,15 +1,14 @@
-ghost use Rattle.std.specs.Prelude.{◌≡◌, ◌+◌, ◌*◌, ◌-◌, length, sum_by, [], ℕ};
-ghost use Rattle.plan_meaning.specs.EncodedNames.{guard_word};
+ghost use Rattle.std.specs.Prelude.{◌≡◌, ◌-◌, length, sum_by};
 ghost use Rattle.printed_sizes.specs.Capped.{capped};
 ghost use Rattle.printed_sizes.specs.Sections as spec;
 ghost use Rattle.printed_sizes.specs.Slots as slots;
 ghost use Rattle.printed_sizes.specs.Frames.{IsFrame};
 
-use crate::counts::{all_digits, plus, times};
+use crate::counts::{plus, times};
 use crate::frame::Frame;
 use crate::typed_lists::{params_size, type_size};
 use crate::words::own_size;
-use plan_model::{ActionSchema, Compiled, MethodPlan, Object, Parent, Predicate, TaskSchema};
+use plan_model::{Compiled, Object, Parent, Predicate};
 
 /// The length of a type with its parent behind a space.
 fn parent_size(c: &Compiled, pair: &Parent) -> u64

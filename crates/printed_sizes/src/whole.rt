@@ -1,4 +1,4 @@
-ghost use Rattle.std.specs.Prelude.{◌≡◌, ◌+◌, length, sum_by, IfOk};
+ghost use Rattle.std.specs.Prelude.{◌≡◌, length, sum_by, IfOk};
 ghost use Rattle.plan_model.specs.Parts.{AreListed};
 ghost use Rattle.plan_meaning.specs.EncodedNames as names;
 ghost use Rattle.printed_sizes.specs.AreSizes.{AreSizesOf};

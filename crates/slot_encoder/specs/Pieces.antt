@@ -78,18 +78,6 @@ with_check plan count = cond plan.checked (count + 1) count
 abbrev pub if_checked : {A : Type 0} → MethodPlan → A → List A
 if_checked plan x = cond plan.checked (x ∷ []) []
 
--- the types of guards so far, and one more where it is new
-abbrev pub with_type : List ℕ → ℕ → List ℕ
-with_type types ty = cond (not (list_any (λ u. nat_eq u ty) types)) (types ++ ty ∷ []) types
-
-abbrev pub with_types : List ℕ → List Guard → List ℕ
-with_types types [] = types
-with_types types (g ∷ gs) = with_types (with_type types g.ty) gs
-
-abbrev pub with_all_types : List ℕ → List MethodPlan → List ℕ
-with_all_types types [] = types
-with_all_types types (plan ∷ plans) = with_all_types (with_types types plan.guards) plans
-
 abbrev pub new_slot : List (List ℕ) → ℕ → Param
 new_slot names k = record { name = name names (codes "htn_h" ++ decimal k); ty = slot_type }
 

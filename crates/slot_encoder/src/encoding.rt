@@ -1,4 +1,4 @@
-ghost use Rattle.std.specs.Prelude.{◌≡◌, ◌+◌, ◌<◌, ◌^◌, length, IfOk};
+ghost use Rattle.std.specs.Prelude.{◌≡◌, ◌<◌, ◌^◌, length, IfOk};
 ghost use Rattle.plan_model.specs.Parts.{AreListed};
 ghost use Rattle.plan_meaning.specs.EncodedNames as names;
 ghost use Rattle.plan_meaning.specs.EncodedValue.{IsEncoded};
@@ -10,7 +10,6 @@ ghost use Rattle.slot_encoder.specs.Vocabulary.{IsPrintableWhereSound};
 use crate::actions::encoded_actions;
 use crate::frame::Frame;
 use crate::goals::goal_of;
-use crate::guards::guard_types;
 use crate::initial::encoded_initial;
 use crate::numbers::{number, numbers_of, plus};
 use crate::objects::encoded_objects;
@@ -23,6 +22,7 @@ use order_encoder::OrderNames;
 use plan_model::{
     ActionSchema, Compiled, Formula, GroundAtom, Object, Pddl, Predicate, Style, Types,
 };
+use printed_sizes::guard_types;
 use std::alloc::Global;
 
 /// The printed problem with so many slots, with all its words in its table. The source's types are few and their parents

@@ -1,8 +1,7 @@
-ghost use Rattle.std.specs.Prelude.{◌≡◌, ◌+◌, ◌-◌, ◌++◌, ℕ, map, IfOk, OnOk};
+ghost use Rattle.std.specs.Prelude.{◌≡◌, ◌+◌, ◌-◌, ◌++◌, map, IfOk, OnOk};
 ghost use Rattle.task_networks.specs.Spelling.{numbers};
 ghost use Rattle.plan_model.specs.Parts.{AreListed};
 ghost use Rattle.plan_meaning.specs.Compilation.{once};
-ghost use Rattle.plan_meaning.specs.EncodedNames as names;
 ghost use Rattle.plan_meaning.specs.EncodedValue as spec;
 ghost use Rattle.slot_encoder.specs.Frames.{IsFrame};
 ghost use Rattle.slot_encoder.specs.Pieces.{slot_atom, AddsGuardAtoms, AddsMembers};

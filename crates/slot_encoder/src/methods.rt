@@ -1,4 +1,4 @@
-ghost use Rattle.std.specs.Prelude.{◌≡◌, ◌++◌, ◌∷◌, [], ℕ, map, codes, decimal, IfOk, OnOk};
+ghost use Rattle.std.specs.Prelude.{◌≡◌, ◌++◌, map, IfOk, OnOk};
 ghost use Rattle.plan_model.specs.declared.formulas.Formula.TheVariants as F;
 ghost use Rattle.task_networks.specs.Spelling.{numbers};
 ghost use Rattle.plan_meaning.specs.SourceParts as parts;

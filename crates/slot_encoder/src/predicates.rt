@@ -1,4 +1,4 @@
-ghost use Rattle.std.specs.Prelude.{◌≡◌, ◌++◌, ℕ, [], ◌∷◌, map, filter, length, codes, IfOk, OnOk};
+ghost use Rattle.std.specs.Prelude.{◌≡◌, ◌++◌, [], ◌∷◌, map, filter, codes, IfOk, OnOk};
 ghost use Rattle.plan_model.specs.declared.schemas.MethodPlan.{MethodPlan};
 ghost use Rattle.task_networks.specs.Spelling.{numbers};
 ghost use Rattle.plan_meaning.specs.SourceParts as parts;

@@ -5,12 +5,13 @@ ghost use Rattle.encoded_words.specs.EncodedWords as spec;
 ghost use Rattle.slot_encoder.specs.Vocabulary as words;
 ghost use Rattle.slot_encoder.specs.Vocabulary.{Gains};
 
-use crate::guards::{guard_types, guard_word};
+use crate::guards::guard_word;
 use crate::numbers::number;
 use crate::quantified::{put_effect, put_formula};
 use crate::vocabulary::{put, put_numbered, put_own, put_params, put_prefixed};
 use htn_base::{Memory, Name, NameTable};
 use plan_model::{ActionSchema, Compiled, MethodPlan, Param, Predicate, TaskSchema};
+use printed_sizes::guard_types;
 use std::alloc::Global;
 
 /// Puts the words of all predicates into the table.

@@ -1,4 +1,4 @@
-ghost use Rattle.std.specs.Prelude.{◌≡◌, [], ◌∷◌, ◌++◌, map, drop, codes, IfOk, OnOk};
+ghost use Rattle.std.specs.Prelude.{◌≡◌, ◌∷◌, ◌++◌, map, drop, codes, IfOk, OnOk};
 ghost use Rattle.plan_model.specs.declared.types.Parent.{Parent};
 ghost use Rattle.htn_base.specs.declared.name.Name.{Name};
 ghost use Rattle.plan_meaning.specs.SourceParts as parts;
