@@ -1,0 +1,8 @@
+pub mod SoundWords
+pub mod TextPlans
+pub mod Headline
+pub mod Reading
+pub mod Faithful
+pub mod Same
+pub mod Problems
+pub mod Plans

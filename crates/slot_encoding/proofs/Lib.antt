@@ -1,0 +1,5 @@
+pub mod OrderParts
+pub mod examples
+pub mod places
+pub mod words
+pub mod existence
