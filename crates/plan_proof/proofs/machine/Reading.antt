@@ -14,7 +14,7 @@ use Rattle.plan_meaning.specs.ClassicalPlan as Printed
 use Rattle.plan_meaning.specs.Network.{Work, action, check, task, network, InTypeOf, IsDeclared}
 use Rattle.slot_encoding.specs.EncodedNames.{guard_types, free_predicate, before_predicate, guard_predicate}
 use Rattle.slot_encoding.specs.EncodedValue.{atom}
-use Rattle.slot_encoding.specs.Pieces.{AreAgreed, held_atom, slot_object, IsSlot, IsActBy}
+use Rattle.slot_encoding.proofs.Pieces.{AreAgreed, held_atom, slot_object, IsSlot, IsActBy}
 
 -- what can stand in a front: an action or a check of a checked method with typed objects, or a task
 abbrev pub IsKnown : Compiled → Work → Type 0

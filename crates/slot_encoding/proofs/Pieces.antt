@@ -3,7 +3,6 @@
 use Rattle.std.specs.Prelude.{ℕ, suc, ◌≡◌, ◌≢◌, ◌+◌, ◌-◌, ◌<◌, ◌≤◌, ◌↔◌, IsTrue, List, ◌∷◌, ◌++◌, map, length, slice_get, Some, Contains}
 use Rattle.htn_base.specs.Escapes.{slot_word}
 use Rattle.plan_model.specs.declared.options.Style.{Style}
-use Rattle.plan_model.specs.declared.options.Checks.{Checks}
 use Rattle.plan_model.specs.declared.terms.GroundAtom.{GroundAtom}
 use Rattle.plan_model.specs.declared.terms.Param.{Param}
 use Rattle.plan_model.specs.declared.formulas.Formula.{Formula}
@@ -13,7 +12,6 @@ use Rattle.plan_model.specs.declared.networks.Guard.{Guard}
 use Rattle.plan_model.specs.declared.schemas.ActionSchema.{ActionSchema}
 use Rattle.plan_model.specs.declared.schemas.MethodPlan.{MethodPlan}
 use Rattle.plan_model.specs.declared.steps.GroundAction.{GroundAction}
-use Rattle.plan_model.specs.declared.values.Hddl.{Hddl}
 use Rattle.plan_model.specs.declared.values.Compiled.{Compiled}
 use Rattle.plan_model.specs.declared.values.Pddl.{Pddl}
 use Rattle.task_networks.specs.Spelling.{Act, run, apply}
@@ -21,26 +19,17 @@ use Rattle.text_forms.specs.Words.{Word}
 use Rattle.plan_texts.specs.Types.{EachIs}
 use Rattle.plan_texts.specs.SpellsHddl.{hddl_words}
 use Rattle.plan_texts.specs.Printable.{IsSound, IsSoundEffect}
-use Rattle.plan_texts.specs.PrintableValue.{IsPrintable}
-use Rattle.plan_texts.specs.SoundValue.{IsSoundHddl, arities}
+use Rattle.plan_texts.specs.SoundValue.{arities}
 use Rattle.plan_meaning.specs.Truth.{State, value_of, EachTrue, OneTrue, AreTyped, IsTrueIn, Adds, Deletes}
 use Rattle.plan_meaning.specs.Network.{Work, action, check, task, GroundMethod, network, child_of, IsDeclared}
 use Rattle.plan_meaning.specs.Network as Source
 use Rattle.plan_meaning.specs.ClassicalPlan as Printed
 use Rattle.plan_meaning.specs.ClassicalPlan.{IsObject, AreObjects, IsApplicable}
-use Rattle.plan_meaning.specs.Compilation.{IsCompiled}
 use Rattle.plan_meaning.specs.SpelledPlan.{object_word, step_of}
 use Rattle.slot_encoding.specs.SourceParts.{retyped, source_param, source_formula}
 use Rattle.slot_encoding.specs.EncodedNames.{slot_type, first_slot, guard_types, top_predicate, free_predicate, before_predicate, task_predicate, action_predicate, check_predicate, guard_predicate}
 use Rattle.slot_encoding.specs.EncodedActions.{encoded_method, encoded_check, encoded_action, spare, source_condition, source_change}
-use Rattle.slot_encoding.specs.EncodedValue.{IsEncoded, atom}
-
--- p is printed for the compiled value c of the problem h, and can be printed
-pub record IsPrinted (h : Hddl) (mode : Checks) (c : Compiled) (b : ℕ) (style : Style) (p : Pddl) : Type 0 where
-  pub sound : IsSoundHddl h
-  pub compiled : IsCompiled h mode c
-  pub printable : IsPrintable p
-  pub encoded : IsEncoded c b style p
+use Rattle.slot_encoding.specs.EncodedValue.{atom}
 
 module _ (c : Compiled) where
   -- the source's part of two states is the same
