@@ -6,6 +6,7 @@
 
 mod boxed;
 mod fault;
+mod lengths;
 mod list;
 mod memory;
 mod name;
@@ -16,8 +17,12 @@ mod words;
 
 pub use boxed::Boxed;
 pub use fault::{Fault, Span};
+pub use lengths::number;
 pub use list::List;
 pub use memory::Memory;
 pub use name::{Name, NameTable};
 pub use text::Text;
-pub use words::{esc, is_plain, is_reserved, names_stay_apart, slot_name};
+pub use words::{
+    esc, is_name, is_plain, is_reserved, is_reserved_in_any_case, names_stay_apart, slot_name,
+    slot_number,
+};
