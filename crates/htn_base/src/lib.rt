@@ -10,9 +10,8 @@ mod lengths;
 mod list;
 mod memory;
 mod name;
-#[cfg(test)]
-mod tests;
 mod text;
+mod try_clone;
 mod words;
 
 pub use boxed::Boxed;
@@ -22,6 +21,7 @@ pub use list::List;
 pub use memory::Memory;
 pub use name::{Name, NameTable};
 pub use text::Text;
+pub use try_clone::TryClone;
 pub use words::{
     esc, is_name, is_plain, is_reserved, is_reserved_in_any_case, names_stay_apart, slot_name,
     slot_number,
