@@ -52,7 +52,7 @@ fn copy_list(alloc: Global, effects: &List<Effect>) -> Result<List<Effect>, Memo
     let parts = effects.as_slice();
     let mut copies = List::new(alloc);
     for part in parts {
-        copies.push(part.copy(alloc)?)?;
+        copies.put(part.copy(alloc))?;
     }
     Ok(copies)
 }

@@ -60,7 +60,7 @@ fn copy_list(alloc: Global, formulas: &List<Formula>) -> Result<List<Formula>, M
     let parts = formulas.as_slice();
     let mut copies = List::new(alloc);
     for part in parts {
-        copies.push(part.copy(alloc)?)?;
+        copies.put(part.copy(alloc))?;
     }
     Ok(copies)
 }
