@@ -6,12 +6,13 @@
 
 mod disk_files;
 mod files;
-mod folder;
 mod mem_files;
 mod mem_sink;
 mod script;
 mod sink;
 mod std_sink;
+mod steady_files;
+mod steady_sink;
 
 pub use disk_files::DiskFiles;
 pub use files::{Files, GetError, PutError};
@@ -19,6 +20,8 @@ pub use mem_files::MemFiles;
 pub use mem_sink::MemSink;
 pub use sink::{Sink, WriteError};
 pub use std_sink::StdSink;
+pub use steady_files::SteadyFiles;
+pub use steady_sink::SteadySink;
 
 #[cfg(test)]
 mod tests;
