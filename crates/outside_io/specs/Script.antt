@@ -1,8 +1,8 @@
 -- Files and a sink in memory, of which chosen calls fail.
-use Rattle.std.specs.Prelude.{ℕ, ◌==◌, Bool, List, [], ◌∷◌, ◌++◌, Option, Some, None, false}
+use Rattle.std.specs.Prelude.{◌≡◌, ◌⊎◌, ℕ, ◌==◌, Bool, List, [], ◌∷◌, ◌++◌, Option, Some, None, true, false}
 use Rattle.std.specs.List.{list_any}
 use Rattle.outside_io.specs.Count.{one_more}
-use Rattle.outside_io.specs.Folder.{Folder, with_bytes}
+use Rattle.outside_io.specs.Folder.{Folder, bytes_of, with_bytes}
 use Rattle.outside_io.specs.Files.{FilesState}
 use Rattle.outside_io.specs.Sink.{SinkState}
 use Rattle.outside_io.specs.Steady.{BoundedSink, steady_sink, empty_bounded, after_taking, after_want}
@@ -63,6 +63,10 @@ no_files = record { folder = []; gets = fresh; puts = fresh; failed = None }
 -- nothing taken, and no write that is to fail
 abbrev pub empty_sink : ℕ → ScriptedSink
 empty_sink largest = record { sink = empty_bounded largest; writes = fresh }
+
+-- the script lets the next get fail, or the name is not held
+abbrev pub GetIsToFail : ScriptedFiles → List ℕ → Type 0
+GetIsToFail files name = (fails_next files.gets ≡ true) ⊎ (bytes_of files.folder name ≡ None)
 
 -- the files after a get that gave its bytes
 abbrev pub after_get : ScriptedFiles → ScriptedFiles

@@ -22,6 +22,3 @@ pub use sink::{Sink, WriteError};
 pub use std_sink::StdSink;
 pub use steady_files::SteadyFiles;
 pub use steady_sink::SteadySink;
-
-#[cfg(test)]
-mod tests;

@@ -1,8 +1,8 @@
-ghost use Rattle.std.specs.Prelude.{◌≡◌, ◌⊎◌, IfOk, IfErr, OnOk, OnErr, IsErrOf, None, true, false};
+ghost use Rattle.std.specs.Prelude.{◌≡◌, IfOk, IfErr, OnOk, OnErr, IsErrOf, true, false};
 ghost use Rattle.std.specs.Option.{option_copied};
 ghost use Rattle.outside_io.specs.Files.{GetGives, GetRefused, PutGives, PutRefused};
 ghost use Rattle.outside_io.specs.Folder.{bytes_of, with_bytes};
-ghost use Rattle.outside_io.specs.Script.{after_get, after_put, after_refused_get, after_refused_put, fails_next, files_state, no_files, with_failing};
+ghost use Rattle.outside_io.specs.Script.{GetIsToFail, after_get, after_put, after_refused_get, after_refused_put, fails_next, files_state, no_files, with_failing};
 
 use crate::files::{Files, GetError, PutError};
 use crate::script::Script;
@@ -88,7 +88,7 @@ impl Files for MemFiles {
         ensures ok { IfOk result (λ v. GetGives (files_state self.old) (files_state self.new) name.now limit v.items) }
         ensures err { IfErr result (GetRefused (files_state self.old) (files_state self.new) name.now) }
         ensures unscripted { OnOk result (fails_next self.old.gets ≡ false) }
-        ensures caused { IsErrOf result GetError.Failed → (fails_next self.old.gets ≡ true) ⊎ (bytes_of self.old.folder name.now ≡ None) }
+        ensures caused { IsErrOf result GetError.Failed → GetIsToFail self.old name.now }
         ensures given { OnOk result (self.new ≡ after_get self.old) }
         ensures refused { IfErr result (λ error. self.new ≡ after_refused_get self.old name.now error) }
     {
