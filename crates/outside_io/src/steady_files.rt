@@ -1,19 +1,23 @@
-ghost use Rattle.std.specs.Prelude.{◌≡◌, [], OnOk, OnErr, IfOk, Some, take, find, position};
+ghost use Rattle.std.specs.Prelude.{◌≡◌, [], IfOk, IfErr, OnOk, OnErr, Some, take, find, position};
 ghost use Rattle.std.specs.Option.{option_copied};
+ghost use Rattle.std.specs.Result.{IsOkUnless};
+ghost use Rattle.outside_io.specs.Files.{GetGives, GetRefused, PutGives, PutRefused};
 ghost use Rattle.outside_io.specs.Folder.{bytes_of, with_bytes, has_name, KeepsOthers};
+ghost use Rattle.outside_io.specs.Steady.{steady_files};
 
+use crate::files::{Files, GetError, PutError};
 use htn_base::{Memory, Text};
 use std::alloc::Global;
 use std::marker::Model;
 
-/// Names with their bytes, in memory.
+/// Files in memory that never fail: a name that is not held reads as an empty file.
 #[derive(Drop)]
-pub(crate) struct MemFolder {
+pub struct SteadyFiles {
     alloc: Global,
     files: Vec<(Text, Text)>,
 }
 
-impl Model for MemFolder {
+impl Model for SteadyFiles {
     ghost use Rattle.outside_io.specs.Folder.{Folder};
 
     ghost Value = { Folder };
@@ -21,28 +25,29 @@ impl Model for MemFolder {
     ghost view = { λ f. f.files.items };
 }
 
-impl MemFolder {
-    pub(crate) fn new(alloc: Global) -> MemFolder
+impl SteadyFiles {
+    /// No file.
+    pub fn new(alloc: Global) -> SteadyFiles
         ensures empty { result ≡ [] }
     {
-        MemFolder {
+        SteadyFiles {
             alloc,
             files: Vec::new(alloc),
         }
     }
 
-    /// What the name holds.
-    pub(crate) fn bytes(&self, name: &str) -> Option<&[u8]>
+    /// The bytes of a name, or `None` where the name is not held.
+    pub fn bytes(&self, name: &str) -> Option<&[u8]>
         ensures held { option_copied result ≡ bytes_of self.now name.now }
     {
         let file = find(self.files.as_slice(), name.as_bytes())?;
         Some(file.1.as_slice())
     }
 
-    /// Makes the name hold these bytes. A new name goes last.
+    /// Makes the name hold these bytes, in place of what it held. A new name goes last.
     #[tactic(auto, using(crate::proofs::Folders::puts))]
-    pub(crate) fn put(&mut self, name: &str, bytes: &[u8]) -> Result<(), Memory>
-        ensures put { OnOk result (self.new ≡ with_bytes self.old name.now bytes.now) }
+    pub fn add(&mut self, name: &str, bytes: &[u8]) -> Result<(), Memory>
+        ensures added { OnOk result (self.new ≡ with_bytes self.old name.now bytes.now) }
         ensures given { OnOk result (bytes_of self.new name.now ≡ Some bytes.now) }
         ensures others { OnOk result (KeepsOthers (Some self.old) (Some self.new) name.now) }
         ensures unchanged { OnErr result (self.new ≡ self.old) }
@@ -85,4 +90,28 @@ pub(crate) fn first_bytes(alloc: Global, bytes: &[u8], limit: u64) -> Result<Vec
 {
     let count = bytes.len().min(limit as usize);
     Ok(Vec::from_slice(alloc, &bytes[..count])?)
+}
+
+impl Files for SteadyFiles {
+    ghost state = { steady_files };
+
+    fn get(&mut self, alloc: Global, name: &str, limit: u64) -> Result<Vec<u8>, GetError>
+        ensures ok { IfOk result (λ v. GetGives (steady_files self.old) (steady_files self.new) name.now limit v.items) }
+        ensures err { IfErr result (GetRefused (steady_files self.old) (steady_files self.new) name.now) }
+        ensures never_fails { IsOkUnless result GetError.Memory }
+        ensures unchanged { self.new ≡ self.old }
+    {
+        let bytes = self.bytes(name).unwrap_or(&[]);
+        Ok(first_bytes(alloc, bytes, limit)?)
+    }
+
+    fn put(&mut self, name: &str, bytes: &[u8]) -> Result<(), PutError>
+        ensures ok { OnOk result (PutGives (steady_files self.old) (steady_files self.new) name.now bytes.now) }
+        ensures err { IfErr result (PutRefused (steady_files self.old) (steady_files self.new) name.now) }
+        ensures never_fails { IsOkUnless result PutError.Memory }
+        ensures put { OnOk result (self.new ≡ with_bytes self.old name.now bytes.now) }
+        ensures unchanged { OnErr result (self.new ≡ self.old) }
+    {
+        Ok(self.add(name, bytes)?)
+    }
 }
