@@ -6,7 +6,7 @@ use std::alloc::Global;
 use thiserror::Error;
 
 /// Why a get gave no bytes.
-#[derive(Debug, PartialEq, Eq, Drop, Error)]
+#[derive(Clone, Copy, Debug, PartialEq, Eq, Drop, Error)]
 pub enum GetError {
     /// The file was not read, and the count of failed gets rose.
     #[error("the file was not read")]
@@ -28,7 +28,7 @@ impl From<Memory> for GetError {
 }
 
 /// Why a put was not done.
-#[derive(Debug, PartialEq, Eq, Drop, Error)]
+#[derive(Clone, Copy, Debug, PartialEq, Eq, Drop, Error)]
 pub enum PutError {
     /// The file was not written whole, and the count of failed puts rose.
     #[error("the file was not written")]
