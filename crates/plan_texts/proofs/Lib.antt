@@ -8,6 +8,7 @@ pub mod Spelled
 pub mod SpelledEffects
 pub mod PrintedSpells
 pub mod Unique
+pub mod UniquePddl
 pub mod UniqueNetworks
 pub mod UniqueHddl
 pub mod Equations

@@ -6,7 +6,7 @@ use Rattle.plan_texts.specs.Declared.{Declared}
 use Rattle.plan_texts.specs.Formulas.{IsTerm}
 use Rattle.plan_texts.specs.Sections.{found, section, parameters}
 use Rattle.plan_texts.specs.Schemas.{IsPredicate, IsAction, IsFact}
-use Rattle.plan_texts.specs.SpellsPddl.{IsNameIfThere}
+use Rattle.plan_texts.specs.Domains.{IsNameIfThere}
 use Rattle.plan_texts.specs.Networks.{task, IsMethod}
 use Rattle.plan_model.specs.declared.terms.Term.TheVariants.{Obj}
 use Rattle.plan_model.specs.declared.schemas.ActionSchema.{ActionSchema}
