@@ -8,7 +8,7 @@ use Rattle.plan_texts.specs.Said.{said, all, none, done, both, no_more}
 use Rattle.plan_texts.proofs.Basics.{apart}
 use Rattle.plan_texts.proofs.Readings.{said_roll}
 use Rattle.plan_texts.proofs.Effects.{done_roll}
-use Rattle.plan_texts.proofs.SmallestRow.{smallest as printed}
+use Rattle.plan_texts.proofs.examples.SmallestRow.{smallest as printed}
 use Rattle.plan_model.specs.declared.formulas.Formula.TheOpen.{Formula-F}
 use Rattle.plan_model.specs.declared.formulas.Formula.TheVariants.{rolls-And}
 use Rattle.plan_model.specs.declared.effects.Effect.TheOpen.{Effect-F}

@@ -18,7 +18,7 @@ use Rattle.plan_model.specs.declared.effects.Effect.TheVariants.{And as Both, ro
 use Rattle.plan_model.specs.declared.values.Hddl.{Hddl}
 use Rattle.plan_texts.proofs.InOrder.{types-in-order}
 use Rattle.plan_texts.proofs.Layers.{formula-And, effect-Both}
-use Rattle.plan_texts.proofs.RowWords.{parts, said, n}
+use Rattle.plan_texts.proofs.examples.RowWords.{parts, said, n}
 use Rattle.plan_texts.proofs.Spelled.{sound_roll}
 use Rattle.plan_texts.proofs.SpelledEffects.{sound_roll as effect-sound_roll}
 

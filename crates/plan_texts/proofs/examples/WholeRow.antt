@@ -22,7 +22,7 @@ use Rattle.plan_model.specs.declared.values.Hddl.{Hddl}
 use Rattle.plan_texts.proofs.Basics.{apart}
 use Rattle.plan_texts.proofs.InOrder.{types-in-order}
 use Rattle.plan_texts.proofs.Layers.{formula-Holds, formula-And, effect-Add, effect-Both}
-use Rattle.plan_texts.proofs.RowWords.{said, n}
+use Rattle.plan_texts.proofs.examples.RowWords.{said, n}
 
 abbrev pub domain : List ℕ
 domain = codes "(define (domain D) (:requirements :typing :hierarchy) ; a comment (\n (:types a b - object c - a) (:constants k - c) (:predicates (p ?x - a) (q))\n (:functions (cost ?x - (either c b)) - number)\n (:task t :parameters (?x - (either a b)))\n (:method m :parameters (?x - a) :task (t ?x) :precondition (p ?x)\n  :subtasks (and (i (act ?x)) (j (t k))) :ordering (< i j) :constraints (not (= ?x k)))\n (:action ACT :parameters (?x - a) :effect (and (p ?x) (increase (total) 1))))\n"

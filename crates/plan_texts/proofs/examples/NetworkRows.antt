@@ -10,7 +10,7 @@ use Rattle.plan_model.specs.declared.networks.Pair.{Pair}
 use Rattle.plan_model.specs.declared.schemas.TaskSchema.{TaskSchema}
 use Rattle.plan_model.specs.declared.terms.Term.{Term}
 use Rattle.plan_model.specs.declared.terms.Term.TheVariants.{Var, Obj}
-use Rattle.plan_texts.proofs.RowWords.{said, head_word, next_part, word_of, behind_two, n, v, x_a}
+use Rattle.plan_texts.proofs.examples.RowWords.{said, head_word, next_part, word_of, behind_two, n, v, x_a}
 
 abbrev tasks : List Word
 tasks = codes "t" ∷ []
