@@ -132,17 +132,19 @@ module _ (sd sp : ℕ → Word) (d : WrittenDomain) (p : WrittenProblem) (names 
   module _ (domain problem : List ℕ) (domain_faultless : IsFaultless domain) (problem_faultless : IsFaultless problem) (domain_is : symbols domain ≡ written (domain_part sd d)) (problem_is : symbols problem ≡ written (problem_part sp p)) where
     spells : SpellsHddl domain problem h
     spells = record {
-      domain_sections = ds;
-      problem_sections = ps;
-      domain_text = record {
-        clean = clean domain domain_faultless;
-        is = domain_is ∙ ap (λ w. written (definition (codes "domain") w ds)) (sym (word-said names t.domain (sd d.name) are_titles.domain.says));
-        named = named-name sd names t.domain d.name are_titles.domain;
-      };
-      problem_text = record {
-        clean = clean problem problem_faultless;
-        is = problem_is ∙ ap (λ w. written (definition (codes "problem") w ps)) (sym (word-said names t.problem (sp p.name) are_titles.problem.says));
-        named = named-name sp names t.problem p.name are_titles.problem;
+      texts = record {
+        domain_sections = ds;
+        problem_sections = ps;
+        domain_text = record {
+          clean = clean domain domain_faultless;
+          is = domain_is ∙ ap (λ w. written (definition (codes "domain") w ds)) (sym (word-said names t.domain (sd d.name) are_titles.domain.says));
+          named = named-name sd names t.domain d.name are_titles.domain;
+        };
+        problem_text = record {
+          clean = clean problem problem_faultless;
+          is = problem_is ∙ ap (λ w. written (definition (codes "problem") w ps)) (sym (word-said names t.problem (sp p.name) are_titles.problem.says));
+          named = named-name sp names t.problem p.name are_titles.problem;
+        };
       };
       sections = sections;
     }

@@ -193,17 +193,19 @@ module _ (c : Pddl) (printable : IsPrintable c) where
 
   pub printed_spells : SpellsPddl (domain_text c) (problem_text c) c
   printed_spells = record {
-    domain_sections = domain_parts c;
-    problem_sections = problem_parts c;
-    domain_text = record {
-      clean = clean-page (codes "domain") (named c.names c.domain) (domain_parts c) refl (plain-token (named c.names c.domain) printable.domain) spelled.1;
-      is = symbols-page (codes "domain") (named c.names c.domain) (domain_parts c) refl (plain-token (named c.names c.domain) printable.domain) spelled.1;
-      named = printable.domain.1;
-    };
-    problem_text = record {
-      clean = clean-page (codes "problem") (named c.names c.problem) (problem_parts c) refl (plain-token (named c.names c.problem) printable.problem) spelled.2;
-      is = symbols-page (codes "problem") (named c.names c.problem) (problem_parts c) refl (plain-token (named c.names c.problem) printable.problem) spelled.2;
-      named = printable.problem.1;
+    texts = record {
+      domain_sections = domain_parts c;
+      problem_sections = problem_parts c;
+      domain_text = record {
+        clean = clean-page (codes "domain") (named c.names c.domain) (domain_parts c) refl (plain-token (named c.names c.domain) printable.domain) spelled.1;
+        is = symbols-page (codes "domain") (named c.names c.domain) (domain_parts c) refl (plain-token (named c.names c.domain) printable.domain) spelled.1;
+        named = printable.domain.1;
+      };
+      problem_text = record {
+        clean = clean-page (codes "problem") (named c.names c.problem) (problem_parts c) refl (plain-token (named c.names c.problem) printable.problem) spelled.2;
+        is = symbols-page (codes "problem") (named c.names c.problem) (problem_parts c) refl (plain-token (named c.names c.problem) printable.problem) spelled.2;
+        named = printable.problem.1;
+      };
     };
     sections = spelled.0;
   }

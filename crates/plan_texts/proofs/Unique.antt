@@ -8,9 +8,9 @@ use Rattle.plan_texts.specs.Formulas.{IsParam}
 use Rattle.plan_texts.specs.Said.{Typed, typed, said, done}
 use Rattle.plan_texts.specs.Sections.{found, section, one_in, parameters, precondition, effect}
 use Rattle.text_forms.specs.Printing.{definition}
-use Rattle.plan_texts.specs.Domains.{Domain, domain_words, Problem, AreDomainSections, AreProblemSections}
+use Rattle.plan_texts.specs.Domains.{Domain, domain_words, Problem, AreDomainSections, AreProblemSections, AreDefinitions}
 use Rattle.plan_texts.specs.Types.{Has, TypeItem, IsTypeItem, Mentions, IsPairSaid, IsPairOf, AreTypes}
-use Rattle.plan_texts.specs.Schemas.{IsObject, IsPredicate, IsAction, IsFact}
+use Rattle.plan_texts.specs.Schemas.{AreParams, IsObject, IsPredicate, IsAction, IsFact}
 use Rattle.plan_texts.specs.Alike.{object_said, predicate_said, action_said}
 use Rattle.plan_model.specs.declared.terms.Term.TheVariants.{Obj}
 use Rattle.plan_model.specs.declared.terms.Param.{Param}
@@ -19,6 +19,7 @@ use Rattle.plan_model.specs.declared.types.Object.{Object}
 use Rattle.plan_model.specs.declared.schemas.Predicate.{Predicate}
 use Rattle.plan_model.specs.declared.schemas.ActionSchema.{ActionSchema}
 use Rattle.plan_model.specs.declared.terms.GroundAtom.{GroundAtom}
+use Rattle.text_forms.proofs.OneNesting.{one_part}
 use Rattle.plan_texts.proofs.Basics.{items}
 use Rattle.plan_texts.proofs.Readings.{param_said, terms_said, reading, terms-said, params-said, scope-said, formula-said}
 use Rattle.plan_texts.proofs.Effects.{effect-said, reading as effect_reading}
@@ -70,6 +71,13 @@ module _ (v w : Declared) where
   pub same-params : (xs ys : List Param) (ps : Parts) → EachTyped (IsParam v) xs ps → EachTyped (IsParam w) ys ps → map (typed v) xs ≡ map (typed w) ys
   same-params xs ys ps e f = params-said v xs ps e ∙ sym (params-said w ys ps f)
 
+  -- the typed variables of a schema, and their words
+  pub same-parameters : (xs ys : List Param) (p q : Part) → p ≡ q → AreParams v xs p → AreParams w ys q → (map (typed v) xs ≡ map (typed w) ys) × (map (variable v) xs ≡ map (variable w) ys)
+  same-parameters xs ys p q g e f =
+      let a = e.1 in let b = f.1 in
+      let k : e.0 ≡ f.0 = cc in
+      (same-params xs ys f.0 (subst (EachTyped (IsParam v) xs) k e.2) f.2, scope-said v xs e.0 e.2 ∙ ap (λ t. map (λ (z : Typed). z.0) (map param_said (items t))) k ∙ sym (scope-said w ys f.0 f.2))
+
   pub same-predicate : (x y : Predicate) (p : Part) → IsPredicate v x p → IsPredicate w y p → predicate_said v x ≡ predicate_said w y
   same-predicate x y p e f =
       let a = e.1 in let b = f.1 in
@@ -84,11 +92,7 @@ module _ (v w : Declared) where
         let a = e.is in let b = f.is in
         let i : named v.names x.name ≡ named w.names y.name = cc in
         let j : e.entries ≡ f.entries = cc in
-        let a' = e.params.1 in let b' = f.params.1 in
-        let c = ap (found parameters) j in
-        let k : e.params.0 ≡ f.params.0 = cc in
-        let l : map (typed v) x.params ≡ map (typed w) y.params = same-params x.params y.params f.params.0 (subst (EachTyped (IsParam v) x.params) k e.params.2) f.params.2 in
-        let s : map (variable v) x.params ≡ map (variable w) y.params = scope-said v x.params e.params.0 e.params.2 ∙ ap (λ t. map (λ (z : Typed). z.0) (map param_said (items t))) k ∙ sym (scope-said w y.params f.params.0 f.params.2) in
+        let (l, s) = same-parameters x.params y.params _ _ (ap (found parameters) j) e.params f.params in
         let m : said v x.pre ≡ said w y.pre =
         sym (formula-said v x.pre _ _ e.pre) ∙ (λ n. reading (same_objects n) (same_predicates n) (s n) (found precondition (j n))) ∙ formula-said w y.pre _ _ f.pre in
         let o : done v x.eff ≡ done w y.eff =
@@ -164,5 +168,13 @@ module _ (once : List Word) (v w : Declared) (c d : Problem) (sections : Parts) 
     pub goal-said : said v c.goal ≡ said w d.goal
     goal-said = sym (formula-said v c.goal _ _ e.goal) ∙ (λ n. reading (same_objects n) (same_predicates n) [] (one_in (section (codes ":goal") sections))) ∙ formula-said w d.goal _ _ f.goal
 
-pub same_definition : (k u w : Word) (ps qs : Parts) → definition k u ps ≡ definition k w qs → (u ≡ w) × (ps ≡ qs)
+same_definition : (k u w : Word) (ps qs : Parts) → definition k u ps ≡ definition k w qs → (u ≡ w) × (ps ≡ qs)
 same_definition k u w ps qs e = (cc, cc)
+
+-- two texts decide the names and the sections of a domain and of a problem
+pub same_definitions : (domain problem : List ℕ) (c d c' d' : Word) (e : AreDefinitions domain problem c d) (f : AreDefinitions domain problem c' d')
+    → (c ≡ c') × (d ≡ d') × (e.domain_sections ≡ f.domain_sections) × (e.problem_sections ≡ f.problem_sections)
+same_definitions domain problem c d c' d' e f =
+    let a = same_definition _ _ _ _ _ (one_part _ _ (sym e.domain_is ∙ f.domain_is)) in
+    let b = same_definition _ _ _ _ _ (one_part _ _ (sym e.problem_is ∙ f.problem_is)) in
+    (a.0, b.0, a.1, b.1)

@@ -7,8 +7,7 @@ use Rattle.plan_texts.specs.Networks.{IsTask, IsMethod, IsTop}
 use Rattle.plan_texts.specs.Domains.{Domain, domain_words}
 use Rattle.plan_texts.specs.SpellsHddl.{hddl_many, hddl_problem_once, hddl_types, hddl_words, hddl_domain, hddl_problem, task_words, action_words, AreHddlSections, SpellsHddl}
 use Rattle.plan_model.specs.declared.values.Hddl.{Hddl}
-use Rattle.text_forms.proofs.OneNesting.{one_part}
-use Rattle.plan_texts.proofs.Unique.{same-each, map-map, same-words, same-pairs, constants-said, same_constants, predicates-said, same_predicates, actions-said, objects-said, init-said, goal-said, same_definition}
+use Rattle.plan_texts.proofs.Unique.{same-each, map-map, same-words, same-pairs, constants-said, same_constants, predicates-said, same_predicates, actions-said, objects-said, init-said, goal-said, same_definitions}
 use Rattle.plan_texts.proofs.UniqueNetworks.{same-Some, same-task, same-method, same-top}
 
 module _ (c d : Hddl) (domain problem : Parts) (e : AreHddlSections c domain problem) (f : AreHddlSections d domain problem) where
@@ -61,12 +60,14 @@ module _ (c d : Hddl) (domain problem : Parts) (e : AreHddlSections c domain pro
   same-sections g h = record {
     domains = g;
     problems = h;
-    types = same-words (hddl_types c) (hddl_types d) c.types.parents d.types.parents _ e.types f.types;
-    pairs = same-pairs (hddl_types c) (hddl_types d) c.types.parents d.types.parents _ e.types f.types;
-    objects = objects-alike;
-    predicates = predicates-said hddl_many a b domain e.in_domain.common f.in_domain.common;
+    declared = record {
+      types = same-words (hddl_types c) (hddl_types d) c.types.parents d.types.parents _ e.types f.types;
+      pairs = same-pairs (hddl_types c) (hddl_types d) c.types.parents d.types.parents _ e.types f.types;
+      objects = objects-alike;
+      predicates = predicates-said hddl_many a b domain e.in_domain.common f.in_domain.common;
+      actions = actions-alike;
+    };
     tasks = tasks-said;
-    actions = actions-alike;
     methods = same-each (IsMethod v' (task_words c) (action_words c)) (IsMethod w' (task_words d) (action_words d)) (method_said v) (method_said w) (same-method v' w' (task_words c) (task_words d) (action_words c) (action_words d) same_constants' same_predicates' same_tasks same_actions) c.methods d.methods _ e.methods f.methods;
     top = same-top v w (task_words c) (task_words d) (action_words c) (action_words d) same_objects same_predicates' same_tasks same_actions c.top d.top f.htn (subst (IsTop v (task_words c) (action_words c) c.top) same_htn e.top) f.top;
     init = init-said hddl_problem_once v w (hddl_problem c e.others) (hddl_problem d f.others) problem e.in_problem.common f.in_problem.common same_objects same_predicates';
@@ -76,6 +77,6 @@ module _ (c d : Hddl) (domain problem : Parts) (e : AreHddlSections c domain pro
 -- all HDDL values that two texts spell are alike
 pub hddl_alike : (c d : Hddl) (domain problem : List ℕ) → SpellsHddl domain problem c → SpellsHddl domain problem d → AreAlikeHddl c d
 hddl_alike c d domain problem e f =
-    let a = same_definition _ _ _ _ _ (one_part _ _ (sym e.domain_is ∙ f.domain_is)) in
-    let b = same_definition _ _ _ _ _ (one_part _ _ (sym e.problem_is ∙ f.problem_is)) in
-    same-sections c d f.domain_sections f.problem_sections (subst (λ s. AreHddlSections c s f.problem_sections) a.1 (subst (λ s. AreHddlSections c e.domain_sections s) b.1 e.sections)) f.sections a.0 b.0
+    let same = same_definitions domain problem _ _ _ _ e.texts f.texts in
+    let own = subst (λ s. AreHddlSections c s f.problem_sections) same.2 (subst (λ s. AreHddlSections c e.domain_sections s) same.3 e.sections) in
+    same-sections c d f.domain_sections f.problem_sections own f.sections same.0 same.1

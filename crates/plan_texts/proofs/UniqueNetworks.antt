@@ -4,9 +4,9 @@ use Rattle.std.specs.Option.{option_map}
 use Rattle.text_forms.specs.Lists.{Part, Parts, group, nothing, part}
 use Rattle.text_forms.specs.Words.{Word, is_name, first_place}
 use Rattle.plan_texts.specs.Declared.{Declared, variable, named}
-use Rattle.plan_texts.specs.TypedLists.{Each, EachTyped}
-use Rattle.plan_texts.specs.Formulas.{IsTerm, IsParam}
-use Rattle.plan_texts.specs.Said.{Typed, all, none, said}
+use Rattle.plan_texts.specs.TypedLists.{Each}
+use Rattle.plan_texts.specs.Formulas.{IsTerm}
+use Rattle.plan_texts.specs.Said.{all, none, said}
 use Rattle.plan_texts.specs.Sections.{parameters, precondition, found, stands, bundle}
 use Rattle.plan_texts.specs.Networks.{ordered_subtasks, ordering, task, head_of, chain_if, IsOrdered, ArePairs, id_word, id_words, IsEquation, IsConstraintBy, IsConstraint, IsTask, IsCall, IsSubtaskBy, IsSubtask, IsNetwork, IsMethod, IsTop}
 use Rattle.plan_texts.specs.Alike.{child_said, task_said, method_said}
@@ -21,9 +21,8 @@ use Rattle.plan_model.specs.declared.networks.Pair.{Pair}
 use Rattle.plan_model.specs.declared.networks.Constraint.{Constraint}
 use Rattle.plan_model.specs.declared.schemas.TaskSchema.{TaskSchema}
 use Rattle.plan_model.specs.declared.schemas.MethodSchema.{MethodSchema}
-use Rattle.plan_texts.proofs.Basics.{items}
-use Rattle.plan_texts.proofs.Readings.{said_roll, param_said, term_said, terms_said, reading, term-said, terms-said, scope-said, formula-said}
-use Rattle.plan_texts.proofs.Unique.{same-each, same-params, map-is}
+use Rattle.plan_texts.proofs.Readings.{said_roll, term_said, terms_said, reading, term-said, terms-said, formula-said}
+use Rattle.plan_texts.proofs.Unique.{same-each, same-parameters, map-is}
 
 no-group : (v : Declared) (scope : List Word) (ts : List Term) (qs rs : Parts) → Each (IsTerm v scope) ts (part (group qs) rs) → ⊥
 no-group v scope [] qs rs e = e
@@ -68,9 +67,7 @@ module _ (v w : Declared) where
       let a = e.is in let b = f.is in
       let i : named v.names x.name ≡ named w.names y.name = cc in
       let j : e.entries ≡ f.entries = cc in
-      let a' = e.params.1 in let b' = f.params.1 in let c = ap (found parameters) j in
-      let k : e.params.0 ≡ f.params.0 = cc in
-      let l = same-params v w x.params y.params f.params.0 (subst (EachTyped (IsParam v) x.params) k e.params.2) f.params.2 in
+      let l = (same-parameters v w x.params y.params _ _ (ap (found parameters) j) e.params f.params).0 in
       λ n. (i n, l n)
 
 module _ (v w : Declared) (tasks tasks' actions actions' : List Word) (same_objects : v.objects ≡ w.objects) (same_predicates : v.predicates ≡ w.predicates) (same_tasks : tasks ≡ tasks') (same_actions : actions ≡ actions') where
@@ -165,10 +162,7 @@ module _ (v w : Declared) (tasks tasks' actions actions' : List Word) (same_obje
       let a = e.is in let b = f.is in
       let i : named v.names x.name ≡ named w.names y.name = cc in
       let j : e.entries ≡ f.entries = cc in
-      let a' = e.params.1 in let b' = f.params.1 in let c = ap (found parameters) j in
-      let k : e.params.0 ≡ f.params.0 = cc in
-      let l = same-params v w x.params y.params f.params.0 (subst (EachTyped (IsParam v) x.params) k e.params.2) f.params.2 in
-      let s : map (variable v) x.params ≡ map (variable w) y.params = scope-said v x.params e.params.0 e.params.2 ∙ ap (λ t. map (λ (z : Typed). z.0) (map param_said (items t))) k ∙ sym (scope-said w y.params f.params.0 f.params.2) in
+      let (l, s) = same-parameters v w x.params y.params _ _ (ap (found parameters) j) e.params f.params in
       let m : said v x.pre ≡ said w y.pre =
       sym (formula-said v x.pre _ _ e.pre) ∙ (λ n. reading (same_objects n) (same_predicates n) (s n) (found precondition (j n))) ∙ formula-said w y.pre _ _ f.pre in
       let h1 = e.head.2 in let h2 = f.head.2 in let h3 = ap (found task) j in
@@ -185,9 +179,6 @@ module _ (v w : Declared) (tasks tasks' actions actions' : List Word) (same_obje
       let t : x.task ≡ y.task = e.task ∙ ap length same_tasks ∙ sym f.task in
       let u : x.task_args ≡ y.task_args = e.task_args ∙ sym f.task_args in
       let m : said v x.pre ≡ said w y.pre = ap (said v) e.pre ∙ said-empty v ∙ sym (said-empty w) ∙ sym (ap (said w) f.pre) in
-      let a' = e.params.1 in let b' = f.params.1 in
-      let k : e.params.0 ≡ f.params.0 = cc in
-      let l = same-params v w x.params y.params f.params.0 (subst (EachTyped (IsParam v) x.params) k e.params.2) f.params.2 in
-      let s : map (variable v) x.params ≡ map (variable w) y.params = scope-said v x.params e.params.0 e.params.2 ∙ ap (λ t. map (λ (z : Typed). z.0) (map param_said (items t))) k ∙ sym (scope-said w y.params f.params.0 f.params.2) in
+      let (l, s) = same-parameters v w x.params y.params _ _ refl e.params f.params in
       let g = same-network (map (variable v) x.params) (map (variable w) y.params) s x.children y.children x.pairs y.pairs x.constraints y.constraints es e.network f.network in
       λ n. (i n, t n, u n, m n, (l n, g.0 n, g.1 n, g.2 n))

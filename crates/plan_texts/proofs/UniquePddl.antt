@@ -7,8 +7,7 @@ use Rattle.plan_texts.specs.Alike.{object_said, AreAlikePddl}
 use Rattle.plan_texts.specs.Domains.{Domain}
 use Rattle.plan_texts.specs.SpellsPddl.{pddl_types, pddl_words, pddl_domain, pddl_problem, ArePddlSections, SpellsPddl}
 use Rattle.plan_model.specs.declared.values.Pddl.{Pddl}
-use Rattle.text_forms.proofs.OneNesting.{one_part}
-use Rattle.plan_texts.proofs.Unique.{map-map, same-words, same-pairs, constants-said, predicates-said, same_predicates, actions-said, objects-said, init-said, goal-said, same_definition}
+use Rattle.plan_texts.proofs.Unique.{map-map, same-words, same-pairs, constants-said, predicates-said, same_predicates, actions-said, objects-said, init-said, goal-said, same_definitions}
 
 -- the sections decide the value
 module _ (c d : Pddl) (domain problem : Parts) (e : ArePddlSections c domain problem) (f : ArePddlSections d domain problem) where
@@ -34,11 +33,13 @@ module _ (c d : Pddl) (domain problem : Parts) (e : ArePddlSections c domain pro
   same-sections g h = record {
     domains = g;
     problems = h;
-    types = same-words (pddl_types c) (pddl_types d) c.types.parents d.types.parents _ e.types f.types;
-    pairs = same-pairs (pddl_types c) (pddl_types d) c.types.parents d.types.parents _ e.types f.types;
-    objects = objects-alike;
-    predicates = predicates-said domain_many a b domain e.in_domain f.in_domain;
-    actions = actions-said domain_many a b domain e.in_domain f.in_domain;
+    declared = record {
+      types = same-words (pddl_types c) (pddl_types d) c.types.parents d.types.parents _ e.types f.types;
+      pairs = same-pairs (pddl_types c) (pddl_types d) c.types.parents d.types.parents _ e.types f.types;
+      objects = objects-alike;
+      predicates = predicates-said domain_many a b domain e.in_domain f.in_domain;
+      actions = actions-said domain_many a b domain e.in_domain f.in_domain;
+    };
     init = init-said problem_once v w (pddl_problem c e.others) (pddl_problem d f.others) problem e.in_problem f.in_problem same_objects (same_predicates domain_many a b domain e.in_domain f.in_domain);
     goal = goal-said problem_once v w (pddl_problem c e.others) (pddl_problem d f.others) problem e.in_problem f.in_problem same_objects (same_predicates domain_many a b domain e.in_domain f.in_domain);
   }
@@ -46,6 +47,6 @@ module _ (c d : Pddl) (domain problem : Parts) (e : ArePddlSections c domain pro
 -- all values that two texts spell are alike
 pub spelled_alike : (c d : Pddl) (domain problem : List ℕ) → SpellsPddl domain problem c → SpellsPddl domain problem d → AreAlikePddl c d
 spelled_alike c d domain problem e f =
-    let a = same_definition _ _ _ _ _ (one_part _ _ (sym e.domain_is ∙ f.domain_is)) in
-    let b = same_definition _ _ _ _ _ (one_part _ _ (sym e.problem_is ∙ f.problem_is)) in
-    same-sections c d f.domain_sections f.problem_sections (subst (λ s. ArePddlSections c s f.problem_sections) a.1 (subst (λ s. ArePddlSections c e.domain_sections s) b.1 e.sections)) f.sections a.0 b.0
+    let same = same_definitions domain problem _ _ _ _ e.texts f.texts in
+    let own = subst (λ s. ArePddlSections c s f.problem_sections) same.2 (subst (λ s. ArePddlSections c e.domain_sections s) same.3 e.sections) in
+    same-sections c d f.domain_sections f.problem_sections own f.sections same.0 same.1

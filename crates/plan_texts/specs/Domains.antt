@@ -70,3 +70,12 @@ pub record IsDefinition (kind : Word) (text : List ℕ) (w : Word) (sections : P
   pub clean : is_clean text ≡ true
   pub is : symbols text ≡ written (definition kind w sections)
   pub named : is_name w ≡ true
+
+-- two texts are those of a domain and of a problem with these names
+pub record AreDefinitions (domain problem : List ℕ) (domain_word problem_word : Word) : Type 0 where
+  pub domain_sections : Parts
+  pub problem_sections : Parts
+  pub domain_text : IsDefinition (codes "domain") domain domain_word domain_sections
+  pub open domain_text use {clean as domain_clean, is as domain_is, named as domain_named}
+  pub problem_text : IsDefinition (codes "problem") problem problem_word problem_sections
+  pub open problem_text use {clean as problem_clean, is as problem_is, named as problem_named}

@@ -7,7 +7,7 @@ use Rattle.plan_texts.specs.Declared.{Declared, named, type_words, words_with}
 use Rattle.plan_texts.specs.TypedLists.{Each}
 use Rattle.plan_texts.specs.Sections.{section, only, problem_once}
 use Rattle.plan_texts.specs.Networks.{IsTask, IsMethod, IsTop}
-use Rattle.plan_texts.specs.Domains.{Domain, domain_words, Problem, AreDomainSections, AreProblemSections, IsDefinition}
+use Rattle.plan_texts.specs.Domains.{Domain, domain_words, Problem, AreDomainSections, AreProblemSections, AreDefinitions}
 use Rattle.plan_model.specs.declared.types.Object.{Object}
 use Rattle.plan_model.specs.declared.schemas.TaskSchema.{TaskSchema}
 use Rattle.plan_model.specs.declared.schemas.ActionSchema.{ActionSchema}
@@ -78,10 +78,6 @@ pub record AreHddlSections (c : Hddl) (domain problem : Parts) : Type 0 where
 
 -- two texts spell the value
 pub record SpellsHddl (domain problem : List ℕ) (c : Hddl) : Type 0 where
-  pub domain_sections : Parts
-  pub problem_sections : Parts
-  pub domain_text : IsDefinition (codes "domain") domain (named c.names c.domain) domain_sections
-  pub open domain_text use {clean as domain_clean, is as domain_is, named as domain_named}
-  pub problem_text : IsDefinition (codes "problem") problem (named c.names c.problem) problem_sections
-  pub open problem_text use {clean as problem_clean, is as problem_is, named as problem_named}
-  pub sections : AreHddlSections c domain_sections problem_sections
+  pub texts : AreDefinitions domain problem (named c.names c.domain) (named c.names c.problem)
+  pub open texts use *
+  pub sections : AreHddlSections c texts.domain_sections texts.problem_sections

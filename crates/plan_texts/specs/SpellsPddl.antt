@@ -1,11 +1,11 @@
 -- What spells a PDDL value: two texts, sections in any order.
 -- Source: appendix A (grammar) of Fox and Long, "PDDL2.1", JAIR 20, 2003, level 1: domains and problems.
-use Rattle.std.specs.Prelude.{ℕ, ◌≡◌, ◌++◌, List, [], codes}
+use Rattle.std.specs.Prelude.{ℕ, ◌≡◌, ◌++◌, List, []}
 use Rattle.text_forms.specs.Lists.{Parts}
 use Rattle.text_forms.specs.Words.{Word}
 use Rattle.plan_texts.specs.Declared.{Declared, named, type_words, words_with}
 use Rattle.plan_texts.specs.Sections.{domain_many, problem_once}
-use Rattle.plan_texts.specs.Domains.{Domain, Problem, AreDomainSections, AreProblemSections, IsDefinition}
+use Rattle.plan_texts.specs.Domains.{Domain, Problem, AreDomainSections, AreProblemSections, AreDefinitions}
 use Rattle.plan_model.specs.declared.types.Object.{Object}
 use Rattle.plan_model.specs.declared.values.Pddl.{Pddl}
 
@@ -40,10 +40,6 @@ pub record ArePddlSections (c : Pddl) (domain problem : Parts) : Type 0 where
 
 -- two texts spell the value
 pub record SpellsPddl (domain problem : List ℕ) (c : Pddl) : Type 0 where
-  pub domain_sections : Parts
-  pub problem_sections : Parts
-  pub domain_text : IsDefinition (codes "domain") domain (named c.names c.domain) domain_sections
-  pub open domain_text use {clean as domain_clean, is as domain_is, named as domain_named}
-  pub problem_text : IsDefinition (codes "problem") problem (named c.names c.problem) problem_sections
-  pub open problem_text use {clean as problem_clean, is as problem_is, named as problem_named}
-  pub sections : ArePddlSections c domain_sections problem_sections
+  pub texts : AreDefinitions domain problem (named c.names c.domain) (named c.names c.problem)
+  pub open texts use *
+  pub sections : ArePddlSections c texts.domain_sections texts.problem_sections

@@ -126,17 +126,19 @@ module _ (w : Word) (head : Head) where
 
 smallest_spelled : SpellsHddl smallest_domain problem smallest
 smallest_spelled = record {
-  domain_sections = domain_sections (codes "a");
-  problem_sections = problem_sections;
-  domain_text = record {
-    clean = refl;
-    is = symbols-read smallest_domain ∙ refl;
-    named = refl;
-  };
-  problem_text = record {
-    clean = refl;
-    is = symbols-read problem ∙ refl;
-    named = refl;
+  texts = record {
+    domain_sections = domain_sections (codes "a");
+    problem_sections = problem_sections;
+    domain_text = record {
+      clean = refl;
+      is = symbols-read smallest_domain ∙ refl;
+      named = refl;
+    };
+    problem_text = record {
+      clean = refl;
+      is = symbols-read problem ∙ refl;
+      named = refl;
+    };
   };
   sections = sections (codes "a") (Action 0) ((codes "a", _, refl, refl, refl, tt), tt);
 }
@@ -147,17 +149,19 @@ smallest_texts = record { domain_faultless = no_fault smallest_domain refl; prob
 
 calls_itself_spelled : SpellsHddl calls_itself_domain problem calls_itself
 calls_itself_spelled = record {
-  domain_sections = domain_sections (codes "t");
-  problem_sections = problem_sections;
-  domain_text = record {
-    clean = refl;
-    is = symbols-read calls_itself_domain ∙ refl;
-    named = refl;
-  };
-  problem_text = record {
-    clean = refl;
-    is = symbols-read problem ∙ refl;
-    named = refl;
+  texts = record {
+    domain_sections = domain_sections (codes "t");
+    problem_sections = problem_sections;
+    domain_text = record {
+      clean = refl;
+      is = symbols-read calls_itself_domain ∙ refl;
+      named = refl;
+    };
+    problem_text = record {
+      clean = refl;
+      is = symbols-read problem ∙ refl;
+      named = refl;
+    };
   };
   sections = sections (codes "t") (Task 0) ((codes "t", _, refl, refl, refl, tt), tt);
 }

@@ -146,17 +146,19 @@ sections = record {
 
 pub marked_spelled : SpellsHddl domain problem marked
 marked_spelled = record {
-  domain_sections = domain_sections;
-  problem_sections = problem_sections;
-  domain_text = record {
-    clean = refl;
-    is = symbols-read domain ∙ refl;
-    named = refl;
-  };
-  problem_text = record {
-    clean = refl;
-    is = symbols-read problem ∙ refl;
-    named = refl;
+  texts = record {
+    domain_sections = domain_sections;
+    problem_sections = problem_sections;
+    domain_text = record {
+      clean = refl;
+      is = symbols-read domain ∙ refl;
+      named = refl;
+    };
+    problem_text = record {
+      clean = refl;
+      is = symbols-read problem ∙ refl;
+      named = refl;
+    };
   };
   sections = sections;
 }

@@ -218,17 +218,19 @@ sections = record {
 
 pub whole_spelled : SpellsHddl domain problem whole
 whole_spelled = record {
-  domain_sections = domain_sections;
-  problem_sections = problem_sections;
-  domain_text = record {
-    clean = refl;
-    is = symbols-read domain ∙ refl;
-    named = refl;
-  };
-  problem_text = record {
-    clean = refl;
-    is = symbols-read problem ∙ refl;
-    named = refl;
+  texts = record {
+    domain_sections = domain_sections;
+    problem_sections = problem_sections;
+    domain_text = record {
+      clean = refl;
+      is = symbols-read domain ∙ refl;
+      named = refl;
+    };
+    problem_text = record {
+      clean = refl;
+      is = symbols-read problem ∙ refl;
+      named = refl;
+    };
   };
   sections = sections;
 }
