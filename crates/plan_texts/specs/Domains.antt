@@ -46,7 +46,7 @@ abbrev pub IsNameIfThere : Option Parts → Type 0
 IsNameIfThere None = Unit {0}
 IsNameIfThere (Some ps) = (w : Word) × (ps ≡ part (name w) nothing) × (is_name w ≡ true)
 
--- the sections of a domain, where those of the keywords many may come many times
+-- the sections of a domain, where those of the keywords many may come any number of times
 pub record AreDomainSections (many : List Word) (d : Domain) (domain : Parts) : Type 0 where
   pub domain_form : are_sections domain_once many domain ≡ true
   pub domain_requires : are_words (parts_in (section (codes ":requirements") domain)) ≡ true
@@ -55,7 +55,7 @@ pub record AreDomainSections (many : List Word) (d : Domain) (domain : Parts) : 
   pub predicates : Each (IsPredicate (domain_words d)) d.predicates (parts_in (section (codes ":predicates") domain))
   pub actions : Each (IsAction (domain_words d)) d.actions (only (codes ":action") domain)
 
--- the sections of a problem, where those of the keywords once come at most once, and these are the words that it may use
+-- the sections of a problem, where those of the keywords once may come one time each, and v has the words that it may use
 pub record AreProblemSections (once : List Word) (v : Declared) (p : Problem) (problem : Parts) : Type 0 where
   pub problem_form : are_sections once [] problem ≡ true
   pub problem_requires : are_words (parts_in (section (codes ":requirements") problem)) ≡ true
