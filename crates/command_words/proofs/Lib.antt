@@ -1,4 +1,4 @@
 pub mod Numerals
 pub mod Choices
 pub mod Requests
-mod Examples
+pub mod examples

@@ -23,10 +23,10 @@ mod ListsBound
 mod FormulasBound
 mod EffectsBound
 mod BoundForms
-pub mod Rows
 mod TermsSaid
 mod ListsSaid
 mod Opened
 mod FormulasSaid
 mod EffectsSaid
 mod SaidForms
+pub mod examples

@@ -8,10 +8,10 @@ use Rattle.plan_texts.specs.FirstSeen.{IsHddlOf}
 use Rattle.plan_texts.specs.PrintedTexts.{domain_text, problem_text}
 use Rattle.plan_texts.specs.SoundValue.{IsSoundHddl}
 use Rattle.plan_meaning.specs.Compilation.{IsCompiled}
-use Rattle.plan_meaning.specs.EncodedValue.{IsEncoded}
+use Rattle.slot_encoding.specs.EncodedValue.{IsEncoded}
 use Rattle.plan_meaning.specs.Laws.{AreOrdered}
-use Rattle.encoded_words.specs.EncodedWords.{HasEncodedWords}
-use Rattle.encoded_values.proofs.Encoded.{has_encoded_value}
+use Rattle.slot_encoding.specs.EncodedWords.{HasEncodedWords}
+use Rattle.slot_encoding.proofs.existence.Encoded.{has_encoded_value}
 use Rattle.printed_sizes.specs.declared.lengths.Sizes.{Sizes}
 use Rattle.printed_sizes.specs.AreSizes.{AreSizesOf}
 use Rattle.printed_sizes.specs.Capped.{capped}

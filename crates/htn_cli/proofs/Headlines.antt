@@ -7,8 +7,8 @@ use Rattle.command_words.specs.Names.{Word}
 use Rattle.command_words.specs.Words.{Request, slots_of}
 use Rattle.command_words.proofs.Requests.{one_request}
 use Rattle.plan_texts.specs.PrintedTexts.{domain_text, problem_text}
-use Rattle.text_plans.specs.Headline.{Headline, HeadlineAtBound}
-use Rattle.every_value.proofs.Headlines.{headline_of, headline_at_bound_of}
+use Rattle.plan_proof.specs.Headline.{Headline, HeadlineAtBound}
+use Rattle.plan_proof.proofs.values.Headlines.{headline_of, headline_at_bound_of}
 use Rattle.htn_cli.specs.Ending.{IsDone, IsTold, HasHeadline, HasHeadlineAtBound}
 
 -- what is told of a name is what it reads as, and what it holds

@@ -5,7 +5,7 @@ use Rattle.outside_io.specs.Sink.{SinkState}
 use Rattle.command_words.specs.Names.{Word}
 use Rattle.command_words.specs.Bounds.{most_slots}
 use Rattle.command_words.specs.Words.{Request, slots_of, Asks, AreOfAForm}
-use Rattle.text_plans.specs.Headline.{Headline, HeadlineAtBound}
+use Rattle.plan_proof.specs.Headline.{Headline, HeadlineAtBound}
 use Rattle.htn_cli.specs.Texts.{Texts}
 use Rattle.htn_cli.specs.Inputs.{AreDefined, IsPastOutput, IsToldToRead, IsToldToHold}
 use Rattle.htn_cli.specs.Refusal.{status_of, line_of}

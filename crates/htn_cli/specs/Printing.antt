@@ -5,8 +5,8 @@ use Rattle.plan_model.specs.declared.values.Compiled.{Compiled}
 use Rattle.plan_model.specs.declared.values.Pddl.{Pddl}
 use Rattle.plan_texts.specs.PrintedTexts.{domain_text, problem_text}
 use Rattle.plan_meaning.specs.Compilation.{IsCompiled}
-use Rattle.plan_meaning.specs.EncodedValue.{IsEncoded}
-use Rattle.encoded_words.specs.EncodedWords.{HasEncodedWords}
+use Rattle.slot_encoding.specs.EncodedValue.{IsEncoded}
+use Rattle.slot_encoding.specs.EncodedWords.{HasEncodedWords}
 use Rattle.problem_texts.specs.ArePrinted.{ArePrinted}
 use Rattle.printed_sizes.specs.declared.lengths.Sizes.{Sizes}
 use Rattle.htn_cli.specs.Texts.{Texts, longest, IsFirstTooLong}

@@ -8,11 +8,11 @@ use Rattle.plan_texts.specs.FirstSeen.{IsHddlOf}
 use Rattle.plan_texts.specs.PrintedTexts.{domain_text, problem_text}
 use Rattle.plan_texts.specs.SoundValue.{IsSoundHddl}
 use Rattle.plan_meaning.specs.Compilation.{IsCompiled}
-use Rattle.plan_meaning.specs.EncodedValue.{IsEncoded}
+use Rattle.slot_encoding.specs.EncodedValue.{IsEncoded}
 use Rattle.plan_meaning.specs.Laws.{AreOrdered}
-use Rattle.encoded_words.specs.EncodedWords.{HasEncodedWords}
-use Rattle.encoded_values.specs.Existence.{HasEncodedValue}
-use Rattle.slot_plans.specs.Pieces.{IsPrinted}
+use Rattle.slot_encoding.specs.EncodedWords.{HasEncodedWords}
+use Rattle.slot_encoding.specs.Existence.{HasEncodedValue}
+use Rattle.slot_encoding.specs.Printed.{IsPrinted}
 use Rattle.printed_sizes.specs.Capped.{capped}
 use Rattle.htn_cli.specs.declared.manner.Manner.{Manner}
 

@@ -9,6 +9,6 @@ pub mod Adding
 pub mod Closing
 pub mod Sorting
 pub mod Bits
-pub mod Examples
 pub mod Fronts
 pub mod Walks
+pub mod examples

@@ -6,11 +6,11 @@ use Rattle.plan_model.specs.declared.terms.GroundAtom.{GroundAtom}
 use Rattle.plan_model.specs.declared.terms.Term.TheVariants.{Var}
 use Rattle.plan_model.specs.Typing.{InType}
 use Rattle.plan_meaning.specs.Truth.{EachTrue, OneTrue, IsTrueIn, Adds, Deletes}
-use Rattle.plan_meaning.specs.OrderFormulas.{OrderNumbers, wait_parts, clear_parts, copy_parts}
-use Rattle.plan_meaning.specs.OrderMeaning.{IsSlotOf, pair_atom, OrderMeaning}
+use Rattle.slot_encoding.specs.OrderFormulas.{OrderNumbers, wait_parts, clear_parts, copy_parts}
+use Rattle.slot_encoding.specs.OrderMeaning.{IsSlotOf, pair_atom, OrderMeaning}
 use Rattle.plan_meaning.proofs.TruthEquations.{truth-And}
 use Rattle.plan_meaning.proofs.EffectEquations.{adds-And, deletes-And}
-use Rattle.plan_meaning.proofs.OrderParts.{order_meaning}
+use Rattle.slot_encoding.proofs.OrderParts.{order_meaning}
 use Rattle.order_encoder.specs.Orders.{waits, clears, copies}
 use Rattle.order_encoder.specs.Meaning.{Waits, Clears, IsClearing, Copies, IsCopying}
 

@@ -2,7 +2,7 @@ ghost use Rattle.std.specs.Prelude.{ℕ, ◌≡◌, ◌<◌, ◌+◌, ◌^◌, �
 ghost use Rattle.plan_model.specs.declared.options.Style.TheVariants.{Flat};
 ghost use Rattle.plan_model.specs.declared.terms.Term.TheVariants.{Var};
 ghost use Rattle.plan_model.specs.declared.effects.Effect.TheVariants.{Delete, Forall};
-ghost use Rattle.plan_meaning.specs.OrderFormulas.{pair_of, any_slot, clear_parts};
+ghost use Rattle.slot_encoding.specs.OrderFormulas.{pair_of, any_slot, clear_parts};
 ghost use Rattle.order_encoder.specs.Orders.{numbers, clears};
 ghost use Rattle.order_encoder.specs.Meaning.{Clears};
 

@@ -3,7 +3,7 @@ ghost use Rattle.plan_model.specs.declared.options.Style.TheVariants.{Flat};
 ghost use Rattle.plan_model.specs.declared.terms.Term.TheVariants.{Var};
 ghost use Rattle.plan_model.specs.declared.formulas.Formula.TheVariants.{Holds};
 ghost use Rattle.plan_model.specs.declared.effects.Effect.TheVariants.{Add, Forall, When};
-ghost use Rattle.plan_meaning.specs.OrderFormulas.{pair_of, any_slot, copy_parts};
+ghost use Rattle.slot_encoding.specs.OrderFormulas.{pair_of, any_slot, copy_parts};
 ghost use Rattle.order_encoder.specs.Orders.{numbers, copies};
 ghost use Rattle.order_encoder.specs.Meaning.{Copies};
 

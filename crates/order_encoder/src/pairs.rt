@@ -1,6 +1,6 @@
 ghost use Rattle.std.specs.Prelude.{◌≡◌, [], ◌∷◌, IfOk};
-ghost use Rattle.plan_meaning.specs.OrderFormulas.{pair_of};
-ghost use Rattle.plan_meaning.specs.OrderFormulas as spec;
+ghost use Rattle.slot_encoding.specs.OrderFormulas.{pair_of};
+ghost use Rattle.slot_encoding.specs.OrderFormulas as spec;
 ghost use Rattle.order_encoder.specs.Orders.{numbers};
 
 use crate::names::OrderNames;

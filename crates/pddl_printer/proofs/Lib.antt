@@ -10,3 +10,5 @@ pub mod Heads
 pub mod WrittenLiterals
 pub mod OtherConditions
 pub mod OtherEffects
+pub mod written_out
+pub mod examples

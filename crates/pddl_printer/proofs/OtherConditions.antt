@@ -6,8 +6,8 @@ use Rattle.plan_model.specs.declared.formulas.Formula.{Formula, roll-Formula, ou
 use Rattle.plan_model.specs.declared.formulas.Formula.TheFolds.{ind-Formula}
 use Rattle.plan_model.specs.declared.formulas.Formula.TheOpen.{Formula-F}
 use Rattle.plan_model.specs.declared.formulas.Formula.TheVariants.{Holds, Not, And, Forall, rolls-Holds, rolls-Not, rolls-And, rolls-Forall}
-use Rattle.written_out.specs.declared.ranges.Range.{Range}
-use Rattle.written_out.specs.WrittenOut.{negated_literal, literal, quantified, condition_of}
+use Rattle.pddl_printer.specs.declared.object_range.Range.{Range}
+use Rattle.pddl_printer.specs.WrittenOut.{negated_literal, literal, quantified, condition_of}
 use Rattle.pddl_printer.specs.Literals.{is_over}
 
 module _ (r : Range) (depth : ℕ) (whole : Formula) where

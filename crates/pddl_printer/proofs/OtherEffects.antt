@@ -10,8 +10,8 @@ use Rattle.plan_model.specs.declared.effects.Effect.{Effect, roll-Effect, out-Ef
 use Rattle.plan_model.specs.declared.effects.Effect.TheFolds.{ind-Effect}
 use Rattle.plan_model.specs.declared.effects.Effect.TheOpen.{Effect-F}
 use Rattle.plan_model.specs.declared.effects.Effect.TheVariants as E
-use Rattle.written_out.specs.declared.ranges.Range.{Range}
-use Rattle.written_out.specs.WrittenOut.{conditional_add, change, quantified_change, effect_of}
+use Rattle.pddl_printer.specs.declared.object_range.Range.{Range}
+use Rattle.pddl_printer.specs.WrittenOut.{conditional_add, change, quantified_change, effect_of}
 use Rattle.pddl_printer.specs.Literals.{is_over}
 
 module _ (r : Range) (depth : ℕ) (whole : Effect) where

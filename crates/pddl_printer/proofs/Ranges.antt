@@ -5,7 +5,7 @@ use Rattle.text_forms.specs.Lists.{Part}
 use Rattle.text_forms.specs.Printing.{bytes_behind}
 use Rattle.task_networks.specs.Spelling.{numbers}
 use Rattle.plan_texts.specs.Printed.{all_parts}
-use Rattle.written_out.specs.WrittenOut.{joined}
+use Rattle.pddl_printer.specs.WrittenOut.{joined}
 use Rattle.pddl_printer.specs.Behind.{behind}
 use Rattle.pddl_printer.specs.Wrote.{Wrote}
 use Rattle.pddl_printer.specs.declared.sheet.Sheet.{Sheet}

@@ -10,8 +10,8 @@ use Rattle.plan_texts.proofs.Equations.{part-Holds, part-Not, effect-Add, effect
 use Rattle.plan_model.specs.declared.terms.Atom.{Atom}
 use Rattle.plan_model.specs.declared.formulas.Formula.TheVariants.{Holds, Not}
 use Rattle.plan_model.specs.declared.effects.Effect.TheVariants.{Add, Delete, When}
-use Rattle.written_out.specs.declared.ranges.Range.{Range}
-use Rattle.written_out.specs.WrittenOut.{each, placed_atom}
+use Rattle.pddl_printer.specs.declared.object_range.Range.{Range}
+use Rattle.pddl_printer.specs.WrittenOut.{each, placed_atom}
 use Rattle.pddl_printer.specs.Literals.{atom_part, denied_part, conditional_part, conditions_behind, effects_behind}
 use Rattle.pddl_printer.proofs.Ranges.{behind-made}
 

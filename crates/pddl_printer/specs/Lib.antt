@@ -1,3 +1,4 @@
+pub mod WrittenOut
 pub mod AppendsPrefix
 pub mod Wrote
 pub mod Scopes

@@ -9,7 +9,7 @@ use Rattle.plan_model.specs.declared.terms.Atom.{Atom}
 use Rattle.plan_model.specs.declared.terms.Param.{Param}
 use Rattle.plan_model.specs.declared.formulas.Formula.{Formula}
 use Rattle.plan_model.specs.declared.effects.Effect.{Effect}
-use Rattle.written_out.specs.declared.ranges.Range.{Range}
+use Rattle.pddl_printer.specs.declared.object_range.Range.{Range}
 
 module _ (v : Declared) (scope : List Word) where
   abbrev pub atom_part : Atom → Part

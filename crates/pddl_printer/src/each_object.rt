@@ -2,16 +2,16 @@ ghost use Rattle.std.specs.Prelude.{◌≡◌, ◌+◌};
 ghost use Rattle.text_forms.specs.Printing.{bytes_behind};
 ghost use Rattle.plan_texts.specs.SpellsPddl.{pddl_words};
 ghost use Rattle.plan_texts.specs.Printed.{all_parts};
-ghost use Rattle.written_out.specs.WrittenOut.{each, placed_atom};
+ghost use Rattle.pddl_printer.specs.WrittenOut.{each, placed_atom};
 ghost use Rattle.pddl_printer.specs.Literals.{atom_part, denied_part, conditional_part, is_over as over};
 ghost use Rattle.pddl_printer.specs.Scopes.{words_in_force};
 ghost use Rattle.pddl_printer.specs.Wrote.{Wrote};
 
 use crate::instances::{Instance, put_conditional, put_denied, put_held};
+use crate::object_range::Range;
 use crate::scope::Scope;
 use crate::sheet::Sheet;
 use plan_model::{Atom, Param, Pddl};
-use written_out::Range;
 
 /// The objects of a range, each in place of the variable of this number.
 #[derive(Clone, Copy)]

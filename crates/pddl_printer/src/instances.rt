@@ -3,7 +3,7 @@ ghost use Rattle.text_forms.specs.Printing.{bytes_behind};
 ghost use Rattle.plan_texts.specs.SpellsPddl.{pddl_words};
 ghost use Rattle.plan_texts.specs.Printed.{all_parts, term_part};
 ghost use Rattle.plan_model.specs.declared.terms.Term.TheVariants.{Var};
-ghost use Rattle.written_out.specs.WrittenOut.{placed, placed_atom};
+ghost use Rattle.pddl_printer.specs.WrittenOut.{placed, placed_atom};
 ghost use Rattle.pddl_printer.specs.Behind.{behind};
 ghost use Rattle.pddl_printer.specs.Literals.{atom_part, inside, denied_part, conditional_part};
 ghost use Rattle.pddl_printer.specs.Scopes.{words_in_force};

@@ -1,6 +1,6 @@
 //! Prints the two PDDL texts of a value, a line for each section, with one space between the parts of a list.
 //!
-//! Stands on `htn_base`, `plan_model` and `written_out`, and on the definitions of `text_forms` and `plan_texts`. The
+//! Stands on `htn_base` and `plan_model`, and on the definitions of `text_forms` and `plan_texts`. The
 //! contract used above: two calls append exactly the defined texts of the value, which spell it where it is printable,
 //! and two those of the value in which the quantifiers over a range of objects are written out; after want of memory a
 //! prefix of the text stands.
@@ -11,6 +11,7 @@ mod effects;
 mod facts;
 mod formulas;
 mod instances;
+mod object_range;
 mod schemas;
 mod scope;
 mod sections;
@@ -26,5 +27,6 @@ mod written_effects;
 mod written_sections;
 mod written_texts;
 
+pub use object_range::Range;
 pub use texts::{print_domain, print_problem};
 pub use written_texts::{print_written_out_domain, print_written_out_problem};

@@ -3,7 +3,7 @@ ghost use Rattle.plan_texts.specs.SpellsPddl.{pddl_words};
 ghost use Rattle.plan_texts.specs.Printed.{formula_part};
 ghost use Rattle.plan_model.specs.declared.formulas.Formula.{out-Formula};
 ghost use Rattle.plan_model.specs.declared.formulas.Formula.TheOpen.{Formula-F};
-ghost use Rattle.written_out.specs.WrittenOut.{joined, negated_literal, literal, quantified, condition_parts, condition};
+ghost use Rattle.pddl_printer.specs.WrittenOut.{joined, negated_literal, literal, quantified, condition_parts, condition};
 ghost use Rattle.pddl_printer.specs.Behind.{behind};
 ghost use Rattle.pddl_printer.specs.Literals.{conditions_behind};
 ghost use Rattle.pddl_printer.specs.Scopes.{words_in_force};

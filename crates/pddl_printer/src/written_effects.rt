@@ -5,7 +5,7 @@ ghost use Rattle.plan_model.specs.declared.formulas.Formula.{out-Formula};
 ghost use Rattle.plan_model.specs.declared.formulas.Formula.TheOpen.{Formula-F};
 ghost use Rattle.plan_model.specs.declared.effects.Effect.{out-Effect};
 ghost use Rattle.plan_model.specs.declared.effects.Effect.TheOpen.{Effect-F};
-ghost use Rattle.written_out.specs.WrittenOut.{joined, conditional_add, change, quantified_change, effect_parts, effect};
+ghost use Rattle.pddl_printer.specs.WrittenOut.{joined, conditional_add, change, quantified_change, effect_parts, effect};
 ghost use Rattle.pddl_printer.specs.Behind.{behind};
 ghost use Rattle.pddl_printer.specs.Literals.{effects_behind};
 ghost use Rattle.pddl_printer.specs.Scopes.{words_in_force};

@@ -3,11 +3,12 @@ ghost use Rattle.text_forms.specs.Printing.{lines};
 ghost use Rattle.plan_texts.specs.SpellsPddl.{pddl_words};
 ghost use Rattle.plan_texts.specs.Printed.{all_parts};
 ghost use Rattle.plan_texts.specs.PrintedTexts.{action_part, domain_parts, problem_parts};
-ghost use Rattle.written_out.specs.WrittenOut.{action as action_of, written_out as out};
+ghost use Rattle.pddl_printer.specs.WrittenOut.{action as action_of, written_out as out};
 ghost use Rattle.pddl_printer.specs.Behind.{line};
 ghost use Rattle.pddl_printer.specs.Wrote.{Wrote};
 
 use crate::each_object::Instances;
+use crate::object_range::Range;
 use crate::scope::Scope;
 use crate::sections::{put_domain_head, put_problem_head};
 use crate::sheet::Sheet;
@@ -16,7 +17,6 @@ use crate::words::put_name;
 use crate::written_conditions::put_written_condition;
 use crate::written_effects::put_written_effect;
 use plan_model::{ActionSchema, Pddl};
-use written_out::Range;
 
 /// Puts an action, written out, on a line of its own.
 fn put_written_action(p: &Pddl, range: Range, action: &ActionSchema, sheet: &mut Sheet<'_>)

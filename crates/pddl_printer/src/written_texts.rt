@@ -1,15 +1,15 @@
 ghost use Rattle.std.specs.Prelude.{◌≡◌, ◌++◌, OnOk, OnErr};
 ghost use Rattle.plan_texts.specs.PrintedTexts.{domain_text, problem_text};
-ghost use Rattle.written_out.specs.WrittenOut.{written_out as out};
+ghost use Rattle.pddl_printer.specs.WrittenOut.{written_out as out};
 ghost use Rattle.pddl_printer.specs.AppendsPrefix.{AppendsPrefix};
 ghost use Rattle.pddl_printer.specs.Wrote.{Wrote};
 
+use crate::object_range::Range;
 use crate::sheet::Sheet;
 use crate::words::put_name;
 use crate::written_sections::{put_written_domain, put_written_problem};
 use htn_base::{Memory, Text};
 use plan_model::Pddl;
-use written_out::Range;
 
 /// Appends the domain text of the value in which the quantifiers over the range are written out, without making it.
 pub fn print_written_out_domain(p: &Pddl, r: &Range, into: &mut Text) -> Result<(), Memory>

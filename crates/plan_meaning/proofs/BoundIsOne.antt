@@ -12,7 +12,7 @@ use Rattle.plan_meaning.specs.Schemas.{Schema, task, action, check, schemas}
 use Rattle.plan_meaning.specs.Strata.{Edge, IsEdge, AreEdges, source, target_by}
 use Rattle.plan_meaning.specs.Bound.{IsBound}
 use Rattle.plan_meaning.proofs.BlockNumbers.{weight_of, each_weight, same_order}
-use Rattle.plan_meaning.proofs.EdgeChecks.{edge}
+use Rattle.plan_meaning.proofs.examples.EdgeChecks.{edge}
 use Rattle.plan_meaning.proofs.BoundParts.{AreWhole, head_is_task, within_length, Reached, Leads, leads_on, listed, not_of_the_group, same_group, of_walks}
 
 module _ (c : Compiled) (whole : AreWhole c) (edges : List Edge) (are : AreEdges c edges) where

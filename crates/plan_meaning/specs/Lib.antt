@@ -4,12 +4,6 @@ pub mod Network
 pub mod Compilation
 pub mod Solution
 pub mod SpelledPlan
-pub mod SourceParts
-pub mod OrderFormulas
-pub mod OrderMeaning
-pub mod EncodedNames
-pub mod EncodedActions
-pub mod EncodedValue
 pub mod Schemas
 pub mod Strata
 pub mod Bound

@@ -22,22 +22,22 @@ use Rattle.plan_model.specs.declared.effects.Effect.TheVariants as E
 use Rattle.plan_model.specs.declared.schemas.ActionSchema.{ActionSchema}
 use Rattle.plan_model.specs.declared.schemas.MethodPlan.{MethodPlan}
 use Rattle.plan_model.specs.declared.values.Compiled.{Compiled}
-use Rattle.plan_meaning.specs.SourceParts.{source_param, source_formula, source_effect}
-use Rattle.plan_meaning.specs.OrderFormulas.{wait_parts, clear_parts, free_parts}
-use Rattle.plan_meaning.specs.EncodedValue.{encoded_source, encoded_checks}
-use Rattle.plan_meaning.specs.EncodedNames.{slot_param, slot_type, checked_methods, first_slot, free_predicate, before_predicate, action_predicate, check_predicate, order_numbers}
-use Rattle.plan_meaning.specs.EncodedActions.{is_empty, is_empty_effect, is_free, source_condition, source_change, freeing, waiting, held_work, work_action, encoded_action, encoded_check}
-use Rattle.encoded_words.specs.EncodedWords.{own_word, param_words, formula_words, effect_words, HasEncodedWords}
+use Rattle.slot_encoding.specs.SourceParts.{source_param, source_formula, source_effect}
+use Rattle.slot_encoding.specs.OrderFormulas.{wait_parts, clear_parts, free_parts}
+use Rattle.slot_encoding.specs.EncodedValue.{encoded_source, encoded_checks}
+use Rattle.slot_encoding.specs.EncodedNames.{slot_param, slot_type, checked_methods, first_slot, free_predicate, before_predicate, action_predicate, check_predicate, order_numbers}
+use Rattle.slot_encoding.specs.EncodedActions.{is_empty, is_empty_effect, is_free, source_condition, source_change, freeing, waiting, held_work, work_action, encoded_action, encoded_check}
+use Rattle.slot_encoding.specs.EncodedWords.{own_word, param_words, formula_words, effect_words, HasEncodedWords}
 use Rattle.plan_texts.proofs.Members.{each-has, has-to_map, contains-has, length-map}
-use Rattle.slot_plans.proofs.ListPlaces.{get_right, get_contains}
-use Rattle.slot_plans.proofs.Predicates.{is_checked}
-use Rattle.encoded_words.proofs.Lists.{each-left, each-right, each-part}
-use Rattle.encoded_words.proofs.Scopes.{word-behind}
-use Rattle.encoded_words.proofs.PredicatePlaces.{filter_at}
-use Rattle.encoded_words.proofs.KnownMethods.{known_method}
-use Rattle.encoded_words.proofs.KnownWords.{known_variables, known_source_actions, known_checks, known_methods}
-use Rattle.encoded_words.proofs.TableWords.{named-name}
-use Rattle.encoded_words.proofs.PrintedWords.{printed_words}
+use Rattle.slot_encoding.proofs.places.ListPlaces.{get_right, get_contains}
+use Rattle.slot_encoding.proofs.places.Predicates.{is_checked}
+use Rattle.slot_encoding.proofs.words.Lists.{each-left, each-right, each-part}
+use Rattle.slot_encoding.proofs.words.Scopes.{word-behind}
+use Rattle.slot_encoding.proofs.words.PredicatePlaces.{filter_at}
+use Rattle.slot_encoding.proofs.words.KnownMethods.{known_method}
+use Rattle.slot_encoding.proofs.words.KnownWords.{known_variables, known_source_actions, known_checks, known_methods}
+use Rattle.slot_encoding.proofs.words.TableWords.{named-name}
+use Rattle.slot_encoding.proofs.words.PrintedWords.{printed_words}
 use Rattle.printed_sizes.specs.Words.{head_words, own_size}
 use Rattle.printed_sizes.specs.Formulas.{variable_size, param_size, formula_size, effect_size}
 use Rattle.printed_sizes.specs.Slots.{waiting_size, free_size}

@@ -10,11 +10,11 @@ use Rattle.plan_texts.specs.PrintedTexts.{parent_words, object_words, predicate_
 use Rattle.plan_model.specs.declared.options.Style.{Style}
 use Rattle.plan_model.specs.declared.values.Compiled.{Compiled}
 use Rattle.plan_model.specs.declared.values.Pddl.{Pddl}
-use Rattle.plan_meaning.specs.EncodedValue.{IsEncoded, encoded_methods, encoded_checks, encoded_source, encoded_actions}
-use Rattle.encoded_words.specs.EncodedWords.{own_word, HasEncodedWords}
-use Rattle.encoded_words.proofs.TableWords.{named-name}
-use Rattle.encoded_words.proofs.KnownWords.{known_domain}
-use Rattle.encoded_words.proofs.PrintedWords.{printed_words}
+use Rattle.slot_encoding.specs.EncodedValue.{IsEncoded, encoded_methods, encoded_checks, encoded_source, encoded_actions}
+use Rattle.slot_encoding.specs.EncodedWords.{own_word, HasEncodedWords}
+use Rattle.slot_encoding.proofs.words.TableWords.{named-name}
+use Rattle.slot_encoding.proofs.words.KnownWords.{known_domain}
+use Rattle.slot_encoding.proofs.words.PrintedWords.{printed_words}
 use Rattle.printed_sizes.specs.Words.{own_size}
 use Rattle.printed_sizes.specs.Sections.{parents_size, objects_size, predicates_size}
 use Rattle.printed_sizes.specs.Domains.{actions_size, domain_size}

@@ -15,10 +15,10 @@ use Rattle.plan_model.specs.declared.effects.Effect.{Effect, roll-Effect}
 use Rattle.plan_model.specs.declared.effects.Effect.TheFolds.{fold-roll-Effect, map-Effect, ind-Effect}
 use Rattle.plan_model.specs.declared.effects.Effect.TheOpen.{Effect-F}
 use Rattle.plan_model.specs.declared.values.Compiled.{Compiled}
-use Rattle.plan_meaning.specs.EncodedNames.{joined}
-use Rattle.plan_meaning.specs.SourceParts.{moved, source_param, source_formula, effect_layer, source_effect}
-use Rattle.encoded_words.specs.EncodedWords.{param_words, formula_words, effect_words_step, effect_words}
-use Rattle.encoded_words.proofs.Lists.{each-left, each-right}
+use Rattle.slot_encoding.specs.EncodedNames.{joined}
+use Rattle.slot_encoding.specs.SourceParts.{moved, source_param, source_formula, effect_layer, source_effect}
+use Rattle.slot_encoding.specs.EncodedWords.{param_words, formula_words, effect_words_step, effect_words}
+use Rattle.slot_encoding.proofs.words.Lists.{each-left, each-right}
 use Rattle.printed_sizes.specs.Formulas.{variable_size, effect_size_step, effect_size}
 use Rattle.printed_sizes.proofs.SizeEquations.{effect-size-roll}
 use Rattle.printed_sizes.proofs.ListSizes.{size, size-part, headed-all, headed-one, headed-two}

@@ -11,7 +11,7 @@ use Rattle.plan_model.specs.declared.terms.GroundAtom.{GroundAtom}
 use Rattle.plan_model.specs.declared.values.Compiled.{Compiled}
 use Rattle.plan_meaning.specs.Compilation.{once, Keeps}
 use Rattle.plan_meaning.specs.Network.{InTypeOf}
-use Rattle.plan_meaning.specs.EncodedValue.{same_atom}
+use Rattle.slot_encoding.specs.EncodedValue.{same_atom}
 use Rattle.printed_sizes.specs.Capped.{capped}
 use Rattle.printed_sizes.specs.Slots.{digits, all_digits}
 use Rattle.printed_sizes.specs.Words.{object_size, slot_size}

@@ -2,8 +2,8 @@
 use Rattle.std.proofs.Common.{ℕ, ◌≡◌, ◌+◌, ◌-◌, ◌<◌, ◌≤◌, cond, List, [], ◌++◌, length, slice_index_or, codes, decimal, ap, ◌∙◌, length-append}
 use Rattle.std.proofs.lemmas.Bool.{lt-ltb, le-ltb}
 use Rattle.plan_model.specs.declared.values.Compiled.{Compiled}
-use Rattle.plan_meaning.specs.SourceParts.{source_word}
-use Rattle.plan_meaning.specs.EncodedNames.{guard_word}
+use Rattle.slot_encoding.specs.SourceParts.{source_word}
+use Rattle.slot_encoding.specs.EncodedNames.{guard_word}
 use Rattle.printed_sizes.specs.Words.{own_size}
 
 module _ (c : Compiled) (ty : ℕ) where

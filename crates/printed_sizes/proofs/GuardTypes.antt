@@ -5,7 +5,7 @@ use Rattle.std.proofs.lemmas.List.{append-nil}
 use Rattle.plan_model.specs.declared.networks.Guard.{Guard}
 use Rattle.plan_model.specs.declared.schemas.MethodPlan.{MethodPlan}
 use Rattle.plan_meaning.specs.Compilation.{once}
-use Rattle.plan_meaning.specs.EncodedNames.{joined}
+use Rattle.slot_encoding.specs.EncodedNames.{joined}
 use Rattle.printed_sizes.specs.Guards.{with_type, with_types, with_all_types}
 use Rattle.printed_sizes.proofs.Once.{has, once_push}
 

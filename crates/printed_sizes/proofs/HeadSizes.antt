@@ -7,8 +7,8 @@ use Rattle.plan_model.specs.declared.schemas.TaskSchema.{TaskSchema}
 use Rattle.plan_model.specs.declared.schemas.ActionSchema.{ActionSchema}
 use Rattle.plan_model.specs.declared.schemas.MethodPlan.{MethodPlan}
 use Rattle.plan_model.specs.declared.values.Compiled.{Compiled}
-use Rattle.plan_meaning.specs.EncodedNames.{guard_types, guard_word, checked_methods}
-use Rattle.encoded_words.specs.EncodedWords.{own_word}
+use Rattle.slot_encoding.specs.EncodedNames.{guard_types, guard_word, checked_methods}
+use Rattle.slot_encoding.specs.EncodedWords.{own_word}
 use Rattle.printed_sizes.specs.Capped.{capped}
 use Rattle.printed_sizes.specs.Words.{head_words, own_size}
 use Rattle.printed_sizes.specs.Frames.{capped_length}

@@ -7,13 +7,13 @@ use Rattle.plan_model.specs.declared.schemas.ActionSchema.{ActionSchema}
 use Rattle.plan_model.specs.declared.schemas.MethodPlan.{MethodPlan}
 use Rattle.plan_model.specs.declared.values.Compiled.{Compiled}
 use Rattle.plan_texts.proofs.Members.{length-map}
-use Rattle.plan_meaning.specs.EncodedNames.{guard_types, guard_word, checked_methods, top_predicate, free_predicate, before_predicate, first_action, first_check, first_guard, action_predicate, check_predicate, guard_predicate}
-use Rattle.slot_plans.proofs.ListPlaces.{get_left, get_right, get_to_map, length-joined}
-use Rattle.slot_plans.proofs.KeptItems.{position_at}
-use Rattle.slot_plans.proofs.Predicates.{is_checked, passed}
-use Rattle.text_plans.proofs.Places.{get-word}
-use Rattle.encoded_words.specs.EncodedWords.{own_word}
-use Rattle.encoded_words.proofs.PredicatePlaces.{filter_at}
+use Rattle.slot_encoding.specs.EncodedNames.{guard_types, guard_word, checked_methods, top_predicate, free_predicate, before_predicate, first_action, first_check, first_guard, action_predicate, check_predicate, guard_predicate}
+use Rattle.slot_encoding.proofs.places.ListPlaces.{get_left, get_right, get_to_map, length-joined}
+use Rattle.slot_encoding.proofs.places.KeptItems.{position_at}
+use Rattle.slot_encoding.proofs.places.Predicates.{is_checked, passed}
+use Rattle.slot_encoding.proofs.places.Places.{get-word}
+use Rattle.slot_encoding.specs.EncodedWords.{own_word}
+use Rattle.slot_encoding.proofs.words.PredicatePlaces.{filter_at}
 use Rattle.printed_sizes.specs.Words.{head_words}
 
 module _ (c : Compiled) where

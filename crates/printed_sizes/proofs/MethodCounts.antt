@@ -12,7 +12,7 @@ use Rattle.plan_model.specs.declared.schemas.MethodPlan.{MethodPlan}
 use Rattle.plan_model.specs.declared.options.Style.{Style}
 use Rattle.plan_model.specs.declared.options.Style.TheVariants.{Adl, Flat}
 use Rattle.plan_model.specs.declared.values.Compiled.{Compiled}
-use Rattle.plan_meaning.specs.EncodedActions.{slot_vars}
+use Rattle.slot_encoding.specs.EncodedActions.{slot_vars}
 use Rattle.printed_sizes.specs.Capped.{capped}
 use Rattle.printed_sizes.specs.Slots.{digits, all_digits, child_size}
 use Rattle.printed_sizes.specs.Methods.{differ_size, place_size, own_sizes}

@@ -23,17 +23,17 @@ use Rattle.plan_model.specs.declared.effects.Effect.{Effect}
 use Rattle.plan_model.specs.declared.effects.Effect.TheVariants as E
 use Rattle.plan_model.specs.declared.schemas.MethodPlan.{MethodPlan}
 use Rattle.plan_model.specs.declared.values.Compiled.{Compiled}
-use Rattle.plan_meaning.specs.SourceParts.{name}
-use Rattle.plan_meaning.specs.OrderFormulas.{pair_of, clear_parts, copy_parts}
-use Rattle.plan_meaning.specs.EncodedNames.{free_predicate, before_predicate, task_predicate, action_predicate, check_predicate, order_numbers}
-use Rattle.plan_meaning.specs.EncodedActions as spec
-use Rattle.plan_meaning.specs.EncodedActions.{slot_vars, is_free, held_task, children_slots, child_atom, child_atoms, freeing, splitting, method_eff, encoded_method}
-use Rattle.plan_meaning.specs.EncodedValue.{encoded_methods}
-use Rattle.slot_plans.proofs.ListPlaces.{get_right}
-use Rattle.encoded_words.specs.EncodedWords as W
-use Rattle.encoded_words.specs.EncodedWords.{own_word, HasEncodedWords}
-use Rattle.encoded_words.proofs.TableWords.{named-name}
-use Rattle.encoded_words.proofs.PrintedWords.{printed_words}
+use Rattle.slot_encoding.specs.SourceParts.{name}
+use Rattle.slot_encoding.specs.OrderFormulas.{pair_of, clear_parts, copy_parts}
+use Rattle.slot_encoding.specs.EncodedNames.{free_predicate, before_predicate, task_predicate, action_predicate, check_predicate, order_numbers}
+use Rattle.slot_encoding.specs.EncodedActions as spec
+use Rattle.slot_encoding.specs.EncodedActions.{slot_vars, is_free, held_task, children_slots, child_atom, child_atoms, freeing, splitting, method_eff, encoded_method}
+use Rattle.slot_encoding.specs.EncodedValue.{encoded_methods}
+use Rattle.slot_encoding.proofs.places.ListPlaces.{get_right}
+use Rattle.slot_encoding.specs.EncodedWords as W
+use Rattle.slot_encoding.specs.EncodedWords.{own_word, HasEncodedWords}
+use Rattle.slot_encoding.proofs.words.TableWords.{named-name}
+use Rattle.slot_encoding.proofs.words.PrintedWords.{printed_words}
 use Rattle.printed_sizes.specs.Formulas.{param_size}
 use Rattle.printed_sizes.specs.Slots.{digits, all_digits}
 use Rattle.printed_sizes.specs.Works.{freeing_size}

@@ -24,17 +24,17 @@ use Rattle.plan_model.specs.declared.formulas.Formula.{Formula}
 use Rattle.plan_model.specs.declared.formulas.Formula.TheVariants.{Holds, Not, Equal, And}
 use Rattle.plan_model.specs.declared.schemas.MethodPlan.{MethodPlan}
 use Rattle.plan_model.specs.declared.values.Compiled.{Compiled}
-use Rattle.plan_meaning.specs.SourceParts.{moved, source_param}
-use Rattle.plan_meaning.specs.OrderFormulas.{wait_parts}
-use Rattle.plan_meaning.specs.EncodedNames.{slot_param, guard_word, guard_predicate, task_predicate, free_predicate, order_numbers}
-use Rattle.plan_meaning.specs.EncodedActions.{differ, test, is_free, source_condition, waiting, held_task, constraints, guards, tested, method_pre}
-use Rattle.slot_plans.proofs.Guards.{guard_type}
-use Rattle.encoded_words.specs.EncodedWords as W
-use Rattle.encoded_words.specs.EncodedWords.{own_word, HasEncodedWords}
-use Rattle.encoded_words.proofs.TableWords.{named-name}
-use Rattle.encoded_words.proofs.KnownWords.{known_variables, known_methods}
-use Rattle.encoded_words.proofs.KnownMethods.{IsKnownMethod, known_method}
-use Rattle.encoded_words.proofs.PrintedWords.{printed_words}
+use Rattle.slot_encoding.specs.SourceParts.{moved, source_param}
+use Rattle.slot_encoding.specs.OrderFormulas.{wait_parts}
+use Rattle.slot_encoding.specs.EncodedNames.{slot_param, guard_word, guard_predicate, task_predicate, free_predicate, order_numbers}
+use Rattle.slot_encoding.specs.EncodedActions.{differ, test, is_free, source_condition, waiting, held_task, constraints, guards, tested, method_pre}
+use Rattle.slot_encoding.proofs.places.Guards.{guard_type}
+use Rattle.slot_encoding.specs.EncodedWords as W
+use Rattle.slot_encoding.specs.EncodedWords.{own_word, HasEncodedWords}
+use Rattle.slot_encoding.proofs.words.TableWords.{named-name}
+use Rattle.slot_encoding.proofs.words.KnownWords.{known_variables, known_methods}
+use Rattle.slot_encoding.proofs.words.KnownMethods.{IsKnownMethod, known_method}
+use Rattle.slot_encoding.proofs.words.PrintedWords.{printed_words}
 use Rattle.printed_sizes.specs.Words.{head_size}
 use Rattle.printed_sizes.specs.Formulas.{param_size, term_size}
 use Rattle.printed_sizes.specs.Slots.{digits, all_digits, waiting_size}

@@ -18,16 +18,16 @@ use Rattle.plan_texts.specs.SpellsPddl.{pddl_words}
 use Rattle.plan_texts.specs.Types.{Has, EachIs}
 use Rattle.plan_texts.proofs.Members.{each-has, has-to_map}
 use Rattle.task_networks.specs.Spelling.{numbers}
-use Rattle.plan_meaning.specs.SourceParts.{name, retyped}
-use Rattle.plan_meaning.specs.EncodedNames.{guard_types, guard_word, checked_methods, encoded_types, encoded_objects, encoded_predicates}
-use Rattle.plan_meaning.specs.EncodedValue.{IsEncoded}
-use Rattle.slot_plans.proofs.ObjectPlaces.{printed_object, printed_slot}
-use Rattle.encoded_words.specs.EncodedWords.{own_word, own_types, type_words, object_words, param_words, held_words, HasEncodedWords}
-use Rattle.encoded_words.proofs.Lists.{each-left, each-right, each-part}
-use Rattle.encoded_words.proofs.TableWords.{named-name, words-named, words-made}
-use Rattle.encoded_words.proofs.KnownWords.{known_types, known_objects, known_source_group, known_three, known_task_group, known_action_group, known_check_group, known_guard_group}
-use Rattle.encoded_words.proofs.PrintedWords.{printed_words}
-use Rattle.encoded_words.proofs.PredicatePlaces.{printed_predicate, held_task, held_action, held_check, guarding, first_group, task_group, action_group, check_group, guard_group}
+use Rattle.slot_encoding.specs.SourceParts.{name, retyped}
+use Rattle.slot_encoding.specs.EncodedNames.{guard_types, guard_word, checked_methods, encoded_types, encoded_objects, encoded_predicates}
+use Rattle.slot_encoding.specs.EncodedValue.{IsEncoded}
+use Rattle.slot_encoding.proofs.places.ObjectPlaces.{printed_object, printed_slot}
+use Rattle.slot_encoding.specs.EncodedWords.{own_word, own_types, type_words, object_words, param_words, held_words, HasEncodedWords}
+use Rattle.slot_encoding.proofs.words.Lists.{each-left, each-right, each-part}
+use Rattle.slot_encoding.proofs.words.TableWords.{named-name, words-named, words-made}
+use Rattle.slot_encoding.proofs.words.KnownWords.{known_types, known_objects, known_source_group, known_three, known_task_group, known_action_group, known_check_group, known_guard_group}
+use Rattle.slot_encoding.proofs.words.PrintedWords.{printed_words}
+use Rattle.slot_encoding.proofs.words.PredicatePlaces.{printed_predicate, held_task, held_action, held_check, guarding, first_group, task_group, action_group, check_group, guard_group}
 use Rattle.printed_sizes.specs.Words.{head_words}
 use Rattle.printed_sizes.proofs.SourceSizes.{HasPrintedWords}
 

@@ -18,12 +18,12 @@ use Rattle.plan_model.specs.declared.values.Compiled.{Compiled}
 use Rattle.plan_model.specs.declared.values.Pddl.{Pddl}
 use Rattle.plan_meaning.specs.Compilation.{once, Keeps}
 use Rattle.plan_meaning.specs.Network.{InTypeOf}
-use Rattle.plan_meaning.specs.EncodedNames.{guard_types, guard_word, guard_predicate, top_predicate, free_predicate, first_slot}
-use Rattle.plan_meaning.specs.EncodedValue.{IsEncoded, AreGuardAtoms, atom, first_atoms, same_atom}
-use Rattle.encoded_words.specs.EncodedWords.{own_word, HasEncodedWords}
-use Rattle.encoded_words.proofs.TableWords.{named-name}
-use Rattle.encoded_words.proofs.KnownWords.{known_domain, known_problem, known_goal}
-use Rattle.encoded_words.proofs.PrintedWords.{printed_words}
+use Rattle.slot_encoding.specs.EncodedNames.{guard_types, guard_word, guard_predicate, top_predicate, free_predicate, first_slot}
+use Rattle.slot_encoding.specs.EncodedValue.{IsEncoded, AreGuardAtoms, atom, first_atoms, same_atom}
+use Rattle.slot_encoding.specs.EncodedWords.{own_word, HasEncodedWords}
+use Rattle.slot_encoding.proofs.words.TableWords.{named-name}
+use Rattle.slot_encoding.proofs.words.KnownWords.{known_domain, known_problem, known_goal}
+use Rattle.slot_encoding.proofs.words.PrintedWords.{printed_words}
 use Rattle.printed_sizes.specs.Words.{head_words, own_size, object_size, head_size, slot_size}
 use Rattle.printed_sizes.specs.Works.{goal_size}
 use Rattle.printed_sizes.specs.Problems.{fact_size, member_fact_size, free_fact_size, first_facts_size, IsMembersSize, IsProblemSize}

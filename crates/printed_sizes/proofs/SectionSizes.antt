@@ -21,16 +21,16 @@ use Rattle.plan_model.specs.declared.schemas.TaskSchema.{TaskSchema}
 use Rattle.plan_model.specs.declared.schemas.ActionSchema.{ActionSchema}
 use Rattle.plan_model.specs.declared.schemas.MethodPlan.{MethodPlan}
 use Rattle.plan_model.specs.declared.values.Compiled.{Compiled}
-use Rattle.plan_meaning.specs.SourceParts.{name, retyped}
-use Rattle.plan_meaning.specs.EncodedNames.{object_type, slot_param, held, held_params, guard_types, guard_word, checked_methods, encoded_types, encoded_objects, encoded_predicates}
-use Rattle.slot_plans.proofs.ObjectPlaces.{printed_object, printed_slot}
-use Rattle.encoded_words.specs.EncodedWords.{own_word, object_words as words_of_objects, numbered, held_words, HasEncodedWords}
-use Rattle.encoded_words.specs.EncodedWords as W
-use Rattle.encoded_words.proofs.Lists.{each-left, each-right, each-part}
-use Rattle.encoded_words.proofs.TableWords.{named-name}
-use Rattle.encoded_words.proofs.KnownWords.{known_objects, known_variables, known_source_group, known_three, known_task_group, known_action_group, known_check_group, known_guard_group}
-use Rattle.encoded_words.proofs.PredicatePlaces.{printed_predicate, held_task, held_action, held_check, guarding, of_slot, of_pair, first_group, task_group, action_group, check_group, guard_group}
-use Rattle.encoded_words.proofs.PrintedWords.{printed_words}
+use Rattle.slot_encoding.specs.SourceParts.{name, retyped}
+use Rattle.slot_encoding.specs.EncodedNames.{object_type, slot_param, held, held_params, guard_types, guard_word, checked_methods, encoded_types, encoded_objects, encoded_predicates}
+use Rattle.slot_encoding.proofs.places.ObjectPlaces.{printed_object, printed_slot}
+use Rattle.slot_encoding.specs.EncodedWords.{own_word, object_words as words_of_objects, numbered, held_words, HasEncodedWords}
+use Rattle.slot_encoding.specs.EncodedWords as W
+use Rattle.slot_encoding.proofs.words.Lists.{each-left, each-right, each-part}
+use Rattle.slot_encoding.proofs.words.TableWords.{named-name}
+use Rattle.slot_encoding.proofs.words.KnownWords.{known_objects, known_variables, known_source_group, known_three, known_task_group, known_action_group, known_check_group, known_guard_group}
+use Rattle.slot_encoding.proofs.words.PredicatePlaces.{printed_predicate, held_task, held_action, held_check, guarding, of_slot, of_pair, first_group, task_group, action_group, check_group, guard_group}
+use Rattle.slot_encoding.proofs.words.PrintedWords.{printed_words}
 use Rattle.printed_sizes.specs.Words.{own_size, type_size}
 use Rattle.printed_sizes.specs.Formulas.{param_size}
 use Rattle.printed_sizes.specs.Slots.{digits}

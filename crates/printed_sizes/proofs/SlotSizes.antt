@@ -19,8 +19,8 @@ use Rattle.plan_model.specs.declared.terms.Param.{Param}
 use Rattle.plan_model.specs.declared.formulas.Formula.TheVariants.{Holds, Not, Forall}
 use Rattle.plan_model.specs.declared.effects.Effect.{Effect}
 use Rattle.plan_model.specs.declared.effects.Effect.TheVariants as E
-use Rattle.plan_meaning.specs.OrderFormulas.{OrderNumbers, pair_of, any_slot, wait_parts, clear_parts, copy_parts, free_parts}
-use Rattle.encoded_words.proofs.Scopes.{word-behind}
+use Rattle.slot_encoding.specs.OrderFormulas.{OrderNumbers, pair_of, any_slot, wait_parts, clear_parts, copy_parts, free_parts}
+use Rattle.slot_encoding.proofs.words.Scopes.{word-behind}
 use Rattle.printed_sizes.specs.Slots.{digits, waiting_size, clearing_size, child_size, copying_size, free_size}
 use Rattle.printed_sizes.proofs.ListSizes.{size, size-part, size-one, headed-one, headed-two}
 use Rattle.printed_sizes.proofs.WordSizes.{size-slot}

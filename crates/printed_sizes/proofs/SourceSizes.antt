@@ -17,12 +17,12 @@ use Rattle.plan_model.specs.declared.formulas.Formula.{Formula, roll-Formula}
 use Rattle.plan_model.specs.declared.formulas.Formula.TheFolds.{fold-roll-Formula, map-Formula, ind-Formula}
 use Rattle.plan_model.specs.declared.formulas.Formula.TheOpen.{Formula-F}
 use Rattle.plan_model.specs.declared.values.Compiled.{Compiled}
-use Rattle.plan_meaning.specs.EncodedNames.{joined}
-use Rattle.plan_meaning.specs.SourceParts.{retyped, moved, source_param, formula_layer, source_formula}
-use Rattle.encoded_words.specs.EncodedWords.{own_word, param_words, formula_words_step, formula_words}
-use Rattle.encoded_words.proofs.Lists.{each-left, each-right}
-use Rattle.encoded_words.proofs.Scopes.{word-behind}
-use Rattle.encoded_words.proofs.TableWords.{named-name}
+use Rattle.slot_encoding.specs.EncodedNames.{joined}
+use Rattle.slot_encoding.specs.SourceParts.{retyped, moved, source_param, formula_layer, source_formula}
+use Rattle.slot_encoding.specs.EncodedWords.{own_word, param_words, formula_words_step, formula_words}
+use Rattle.slot_encoding.proofs.words.Lists.{each-left, each-right}
+use Rattle.slot_encoding.proofs.words.Scopes.{word-behind}
+use Rattle.slot_encoding.proofs.words.TableWords.{named-name}
 use Rattle.htn_base.specs.declared.name.Name.{Name}
 use Rattle.printed_sizes.specs.Words.{words, own_size, kind_size, object_size, head_size}
 use Rattle.printed_sizes.specs.Formulas.{variable_size, param_size, params_size, term_size, atom_size, formula_size_step, formula_size}

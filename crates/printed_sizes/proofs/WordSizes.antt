@@ -14,8 +14,8 @@ use Rattle.plan_model.specs.declared.types.Object.{Object}
 use Rattle.plan_model.specs.declared.values.Compiled.{Compiled}
 use Rattle.plan_texts.specs.Declared.{one_word}
 use Rattle.plan_texts.specs.Printed.{all_parts, kind_part}
-use Rattle.plan_meaning.specs.SourceParts.{retyped}
-use Rattle.encoded_words.specs.EncodedWords.{own_word, own_types, type_words, object_words}
+use Rattle.slot_encoding.specs.SourceParts.{retyped}
+use Rattle.slot_encoding.specs.EncodedWords.{own_word, own_types, type_words, object_words}
 use Rattle.printed_sizes.specs.Capped.{capped}
 use Rattle.printed_sizes.specs.Words.{words, head_words, own_size, type_size, kind_size, union_size, either_size, member_size, object_size, head_size, slot_size}
 use Rattle.printed_sizes.specs.Frames.{capped_length}

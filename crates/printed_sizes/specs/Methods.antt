@@ -12,8 +12,8 @@ use Rattle.plan_model.specs.declared.networks.Constraint.{Constraint}
 use Rattle.plan_model.specs.declared.networks.Guard.{Guard}
 use Rattle.plan_model.specs.declared.schemas.MethodPlan.{MethodPlan}
 use Rattle.plan_model.specs.declared.values.Compiled.{Compiled}
-use Rattle.plan_meaning.specs.EncodedNames.{guard_word, task_predicate, action_predicate, check_predicate}
-use Rattle.plan_meaning.specs.EncodedActions.{slot_vars}
+use Rattle.slot_encoding.specs.EncodedNames.{guard_word, task_predicate, action_predicate, check_predicate}
+use Rattle.slot_encoding.specs.EncodedActions.{slot_vars}
 use Rattle.printed_sizes.specs.Words.{own_size, head_size}
 use Rattle.printed_sizes.specs.Formulas.{variable_size, param_size, term_size}
 use Rattle.printed_sizes.specs.Slots.{digits, all_digits, child_size, waiting_size, copying_size}

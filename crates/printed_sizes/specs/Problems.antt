@@ -7,8 +7,8 @@ use Rattle.plan_model.specs.declared.terms.GroundAtom.{GroundAtom}
 use Rattle.plan_model.specs.declared.values.Compiled.{Compiled}
 use Rattle.plan_meaning.specs.Compilation.{once, Keeps}
 use Rattle.plan_meaning.specs.Network.{InTypeOf}
-use Rattle.plan_meaning.specs.EncodedNames.{guard_types, guard_word}
-use Rattle.plan_meaning.specs.EncodedValue.{same_atom}
+use Rattle.slot_encoding.specs.EncodedNames.{guard_types, guard_word}
+use Rattle.slot_encoding.specs.EncodedValue.{same_atom}
 use Rattle.printed_sizes.specs.Capped.{capped}
 use Rattle.printed_sizes.specs.Words.{own_size, object_size, head_size, slot_size}
 use Rattle.printed_sizes.specs.Slots.{digits}

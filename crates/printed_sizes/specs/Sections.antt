@@ -9,7 +9,7 @@ use Rattle.plan_model.specs.declared.schemas.TaskSchema.{TaskSchema}
 use Rattle.plan_model.specs.declared.schemas.ActionSchema.{ActionSchema}
 use Rattle.plan_model.specs.declared.schemas.MethodPlan.{MethodPlan}
 use Rattle.plan_model.specs.declared.values.Compiled.{Compiled}
-use Rattle.plan_meaning.specs.EncodedNames.{guard_types, guard_word}
+use Rattle.slot_encoding.specs.EncodedNames.{guard_types, guard_word}
 use Rattle.printed_sizes.specs.Words.{own_size, type_size}
 use Rattle.printed_sizes.specs.Formulas.{param_size}
 use Rattle.printed_sizes.specs.Slots.{all_digits}

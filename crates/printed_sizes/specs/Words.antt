@@ -13,9 +13,9 @@ use Rattle.plan_model.specs.declared.values.Compiled.{Compiled}
 use Rattle.plan_texts.specs.Declared.{Declared, kind_at}
 use Rattle.plan_texts.specs.Printed.{kind_part}
 use Rattle.task_networks.specs.Spelling.{numbers}
-use Rattle.plan_meaning.specs.SourceParts.{retyped}
-use Rattle.plan_meaning.specs.EncodedNames.{guard_types, checked_methods, guard_word}
-use Rattle.encoded_words.specs.EncodedWords.{own_word, type_words, object_words}
+use Rattle.slot_encoding.specs.SourceParts.{retyped}
+use Rattle.slot_encoding.specs.EncodedNames.{guard_types, checked_methods, guard_word}
+use Rattle.slot_encoding.specs.EncodedWords.{own_word, type_words, object_words}
 
 module _ (c : Compiled) where
   -- the words of the predicates, in number order

@@ -8,7 +8,7 @@ use Rattle.plan_model.specs.declared.effects.Effect.{Effect}
 use Rattle.plan_model.specs.declared.schemas.ActionSchema.{ActionSchema}
 use Rattle.plan_model.specs.declared.schemas.MethodPlan.{MethodPlan}
 use Rattle.plan_model.specs.declared.values.Compiled.{Compiled}
-use Rattle.plan_meaning.specs.EncodedActions.{is_empty, is_empty_effect}
+use Rattle.slot_encoding.specs.EncodedActions.{is_empty, is_empty_effect}
 use Rattle.printed_sizes.specs.Words.{own_size}
 use Rattle.printed_sizes.specs.Formulas.{variable_size, param_size, formula_size, effect_size}
 use Rattle.printed_sizes.specs.Slots.{waiting_size, clearing_size, free_size}

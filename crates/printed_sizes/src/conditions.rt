@@ -1,5 +1,5 @@
 ghost use Rattle.std.specs.Prelude.{◌≡◌};
-ghost use Rattle.plan_meaning.specs.EncodedActions as encoded;
+ghost use Rattle.slot_encoding.specs.EncodedActions as encoded;
 ghost use Rattle.printed_sizes.specs.Capped.{capped};
 ghost use Rattle.printed_sizes.specs.Works as spec;
 ghost use Rattle.printed_sizes.specs.Frames.{IsFrame, sizes_in_force};

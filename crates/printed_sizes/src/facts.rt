@@ -1,7 +1,7 @@
 ghost use Rattle.std.specs.Prelude.{◌≡◌, ◌+◌, ◌-◌, ◌∷◌, ◌<◌, cond, sum_by, IfOk};
 ghost use Rattle.task_networks.specs.Spelling.{numbers};
 ghost use Rattle.plan_meaning.specs.Compilation.{once};
-ghost use Rattle.plan_meaning.specs.EncodedValue.{same_atom};
+ghost use Rattle.slot_encoding.specs.EncodedValue.{same_atom};
 ghost use Rattle.printed_sizes.specs.Capped.{capped};
 ghost use Rattle.printed_sizes.specs.Problems as spec;
 ghost use Rattle.printed_sizes.specs.Words as words;

@@ -1,5 +1,5 @@
 ghost use Rattle.std.specs.Prelude.{◌≡◌, [], IfOk, OnOk};
-ghost use Rattle.plan_meaning.specs.EncodedNames as names;
+ghost use Rattle.slot_encoding.specs.EncodedNames as names;
 ghost use Rattle.printed_sizes.specs.Guards.{with_type, with_types, with_all_types};
 
 use htn_base::{List, Memory};

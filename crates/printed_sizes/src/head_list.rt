@@ -1,6 +1,6 @@
 ghost use Rattle.std.specs.Prelude.{◌≡◌, ◌++◌, map, filter, IfOk, OnOk};
 ghost use Rattle.plan_model.specs.declared.schemas.MethodPlan.{MethodPlan};
-ghost use Rattle.plan_meaning.specs.EncodedNames as names;
+ghost use Rattle.slot_encoding.specs.EncodedNames as names;
 ghost use Rattle.printed_sizes.specs.Heads as spec;
 ghost use Rattle.printed_sizes.specs.Frames.{AreHeads};
 

@@ -2,8 +2,8 @@
 
 ghost use Rattle.std.specs.Prelude.{◌≡◌, ℕ, length};
 ghost use Rattle.plan_texts.specs.PrintedTexts.{domain_text, problem_text};
-ghost use Rattle.plan_meaning.specs.EncodedValue.{IsEncoded};
-ghost use Rattle.encoded_words.specs.EncodedWords.{HasEncodedWords};
+ghost use Rattle.slot_encoding.specs.EncodedValue.{IsEncoded};
+ghost use Rattle.slot_encoding.specs.EncodedWords.{HasEncodedWords};
 ghost use Rattle.printed_sizes.specs.Domains.{domain_size};
 ghost use Rattle.printed_sizes.specs.Problems.{IsProblemSize};
 

@@ -1,5 +1,5 @@
 ghost use Rattle.std.specs.Prelude.{◌≡◌, ◌+◌, cond, IfOk};
-ghost use Rattle.plan_meaning.specs.EncodedNames as names;
+ghost use Rattle.slot_encoding.specs.EncodedNames as names;
 
 use crate::counts::number;
 use htn_base::Memory;

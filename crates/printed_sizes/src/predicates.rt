@@ -1,5 +1,5 @@
 ghost use Rattle.std.specs.Prelude.{◌≡◌, ◌+◌, [], length, slice_index_or, sum_by, IfOk, ℕ};
-ghost use Rattle.plan_meaning.specs.EncodedNames.{guard_word, guard_types};
+ghost use Rattle.slot_encoding.specs.EncodedNames.{guard_word, guard_types};
 ghost use Rattle.printed_sizes.specs.Capped.{capped};
 ghost use Rattle.printed_sizes.specs.Sections as spec;
 

@@ -1,6 +1,6 @@
 ghost use Rattle.std.specs.Prelude.{◌≡◌, ◌+◌, ℕ, IfOk};
 ghost use Rattle.plan_model.specs.Parts.{AreListed};
-ghost use Rattle.plan_meaning.specs.EncodedNames as names;
+ghost use Rattle.slot_encoding.specs.EncodedNames as names;
 ghost use Rattle.printed_sizes.specs.Capped.{capped};
 ghost use Rattle.printed_sizes.specs.Problems as spec;
 ghost use Rattle.printed_sizes.specs.Words as words;

@@ -1,5 +1,5 @@
 ghost use Rattle.std.specs.Prelude.{◌≡◌, ◌+◌, ◌-◌, ◌*◌, ◌<◌, ◌++◌, ◌∷◌, [], ℕ, ◌^◌, get_or, length, slice_index, sum_by, IfOk};
-ghost use Rattle.plan_meaning.specs.EncodedActions.{slot_vars};
+ghost use Rattle.slot_encoding.specs.EncodedActions.{slot_vars};
 ghost use Rattle.printed_sizes.specs.Capped.{capped};
 ghost use Rattle.printed_sizes.specs.Methods as spec;
 ghost use Rattle.printed_sizes.specs.Slots as slots;

@@ -1,5 +1,5 @@
 ghost use Rattle.std.specs.Prelude.{◌≡◌, ◌+◌, ◌≤◌, length, sum_by};
-ghost use Rattle.encoded_words.specs.EncodedWords.{type_words};
+ghost use Rattle.slot_encoding.specs.EncodedWords.{type_words};
 ghost use Rattle.printed_sizes.specs.Capped.{capped};
 ghost use Rattle.printed_sizes.specs.Words as words;
 ghost use Rattle.printed_sizes.specs.Formulas as spec;

@@ -1,1 +1,3 @@
 mod Printed
+pub mod flat
+pub mod examples

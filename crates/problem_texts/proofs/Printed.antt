@@ -4,10 +4,10 @@ use Rattle.plan_model.specs.declared.options.Style.{Style}
 use Rattle.plan_model.specs.declared.options.Style.TheVariants.{Adl, Flat}
 use Rattle.plan_model.specs.declared.values.Compiled.{Compiled}
 use Rattle.plan_model.specs.declared.values.Pddl.{Pddl}
-use Rattle.plan_meaning.specs.EncodedValue.{IsEncoded}
-use Rattle.encoded_words.specs.EncodedWords.{HasEncodedWords}
-use Rattle.encoded_words.proofs.EncodedIsPrintable.{encoded_printable}
-use Rattle.flat_values.proofs.Values.{flat_is_written_out}
+use Rattle.slot_encoding.specs.EncodedValue.{IsEncoded}
+use Rattle.slot_encoding.specs.EncodedWords.{HasEncodedWords}
+use Rattle.slot_encoding.proofs.words.EncodedIsPrintable.{encoded_printable}
+use Rattle.problem_texts.proofs.flat.Values.{flat_is_written_out}
 use Rattle.problem_texts.specs.declared.printing.Texts.{Texts}
 use Rattle.problem_texts.specs.ArePrinted.{ArePrinted, AreTextsOf, IsCompiledProblem, in_style}
 

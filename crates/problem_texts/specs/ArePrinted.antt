@@ -9,11 +9,11 @@ use Rattle.plan_model.specs.declared.values.Compiled.{Compiled}
 use Rattle.plan_model.specs.declared.values.Pddl.{Pddl}
 use Rattle.plan_texts.specs.PrintedTexts.{domain_text, problem_text}
 use Rattle.plan_meaning.specs.Compilation.{IsCompiled}
-use Rattle.plan_meaning.specs.EncodedValue.{IsEncoded}
-use Rattle.written_out.specs.WrittenOut.{written_out}
-use Rattle.encoded_words.specs.EncodedWords.{HasEncodedWords}
+use Rattle.slot_encoding.specs.EncodedValue.{IsEncoded}
+use Rattle.pddl_printer.specs.WrittenOut.{written_out}
+use Rattle.slot_encoding.specs.EncodedWords.{HasEncodedWords}
 use Rattle.slot_encoder.specs.Vocabulary.{IsPrintableWhereSound}
-use Rattle.flat_values.specs.Slots.{slots_of}
+use Rattle.problem_texts.specs.Slots.{slots_of}
 use Rattle.problem_texts.specs.declared.printing.Texts.{Texts}
 
 -- it is compiled of some problem, in either mode of preconditions

@@ -1,17 +1,16 @@
 ghost use Rattle.std.specs.Prelude.{◌≡◌, [], IfOk};
 ghost use Rattle.plan_model.specs.Parts.{AreListed};
-ghost use Rattle.written_out.specs.WrittenOut.{written_out};
+ghost use Rattle.pddl_printer.specs.WrittenOut.{written_out};
 ghost use Rattle.problem_texts.specs.ArePrinted.{ArePrinted, AreTextsOf, IsCompiledProblem, in_style};
 
 use crate::ranges::slots_of;
 use htn_base::{Memory, Text};
 use pddl_printer::{
-    print_domain, print_problem, print_written_out_domain, print_written_out_problem,
+    Range, print_domain, print_problem, print_written_out_domain, print_written_out_problem,
 };
 use plan_model::{Compiled, Pddl, Style};
 use slot_encoder::{Sizes, encode};
 use std::alloc::Global;
-use written_out::Range;
 
 /// The texts of the printed domain and the printed problem.
 #[derive(Drop)]

@@ -1,9 +1,9 @@
 ghost use Rattle.std.specs.Prelude.{◌≡◌, IfOk};
-ghost use Rattle.flat_values.specs.Slots as flat;
+ghost use Rattle.problem_texts.specs.Slots as flat;
 
 use htn_base::Memory;
+use pddl_printer::Range;
 use plan_model::Compiled;
-use written_out::Range;
 
 /// The slots, as objects of the printed problem. Where there are more than 2^32 - 1 objects before them, it is answered as want of memory.
 pub(crate) fn slots_of(c: &Compiled, slots: u32) -> Result<Range, Memory>

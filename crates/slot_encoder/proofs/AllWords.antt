@@ -9,11 +9,11 @@ use Rattle.plan_model.specs.declared.values.Pddl.{Pddl}
 use Rattle.plan_texts.specs.Types.{Has, EachIs}
 use Rattle.plan_texts.proofs.Members.{each-has, has-contains, contains-has}
 use Rattle.plan_texts.proofs.Places.{each-join}
-use Rattle.plan_meaning.specs.EncodedNames.{joined, checked_methods, guard_types, guard_word}
-use Rattle.plan_meaning.specs.EncodedValue.{IsEncoded}
-use Rattle.encoded_words.specs.EncodedWords.{own_word, own_types, param_words, formula_words, numbered, type_words, object_words, slot_variables, predicate_words, method_word, method_words, encoded_words, HasEncodedWords}
-use Rattle.encoded_words.proofs.Lists.{each-left, each-right}
-use Rattle.encoded_words.proofs.EncodedIsPrintable.{encoded_printable}
+use Rattle.slot_encoding.specs.EncodedNames.{joined, checked_methods, guard_types, guard_word}
+use Rattle.slot_encoding.specs.EncodedValue.{IsEncoded}
+use Rattle.slot_encoding.specs.EncodedWords.{own_word, own_types, param_words, formula_words, numbered, type_words, object_words, slot_variables, predicate_words, method_word, method_words, encoded_words, HasEncodedWords}
+use Rattle.slot_encoding.proofs.words.Lists.{each-left, each-right}
+use Rattle.slot_encoding.proofs.words.EncodedIsPrintable.{encoded_printable}
 use Rattle.slot_encoder.specs.Frames.{AreEncoded}
 use Rattle.slot_encoder.specs.Vocabulary.{words_of_predicate, words_of_task, words_of_held_action, words_of_held_check, words_if_checked, words_of_method, words_of_action, IsPrintableWhereSound}
 use Rattle.slot_encoder.specs.declared.encoding.Encoded.{Encoded}

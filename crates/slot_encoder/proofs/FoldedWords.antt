@@ -11,9 +11,9 @@ use Rattle.htn_base.specs.declared.name.Name.{Name}
 use Rattle.text_forms.specs.Words.{Word}
 use Rattle.text_forms.specs.Printing.{are_folded}
 use Rattle.plan_model.specs.declared.values.Compiled.{Compiled}
-use Rattle.plan_meaning.specs.SourceParts.{source_word}
-use Rattle.plan_meaning.specs.EncodedNames.{guard_word}
-use Rattle.encoded_words.proofs.PlainWords.{folded-plain, folded-decimal}
+use Rattle.slot_encoding.specs.SourceParts.{source_word}
+use Rattle.slot_encoding.specs.EncodedNames.{guard_word}
+use Rattle.slot_encoding.proofs.words.PlainWords.{folded-plain, folded-decimal}
 
 pub join-folded : (u w : Word) → IsFolded u → IsFolded w → IsFolded (u ++ w)
 join-folded u w e f = map-append to_ascii_lowercase u w ∙ (λ i. e i ++ f i)

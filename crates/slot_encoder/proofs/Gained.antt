@@ -10,9 +10,9 @@ use Rattle.plan_texts.specs.Types.{Has, EachIs}
 use Rattle.plan_texts.proofs.Basics.{bytes_eq-true}
 use Rattle.plan_texts.proofs.Places.{each-join}
 use Rattle.task_networks.specs.Spelling.{numbers}
-use Rattle.plan_meaning.specs.EncodedNames.{joined}
+use Rattle.slot_encoding.specs.EncodedNames.{joined}
 use Rattle.order_encoder.proofs.NextSlot.{push_next}
-use Rattle.encoded_words.proofs.Lists.{each-weaker}
+use Rattle.slot_encoding.proofs.words.Lists.{each-weaker}
 use Rattle.slot_encoder.specs.Vocabulary.{Gains}
 
 any-has : (w : Word) (ws : List Word) → list_any (bytes_eq w) ws ≡ true → Has ws w

@@ -10,8 +10,8 @@ use Rattle.plan_model.specs.declared.terms.GroundAtom.{GroundAtom}
 use Rattle.plan_model.specs.declared.values.Compiled.{Compiled}
 use Rattle.plan_meaning.specs.Compilation.{Keeps}
 use Rattle.plan_meaning.specs.Network.{InTypeOf}
-use Rattle.plan_meaning.specs.EncodedNames.{guard_predicate}
-use Rattle.plan_meaning.specs.EncodedValue.{atom, AreGuardAtoms}
+use Rattle.slot_encoding.specs.EncodedNames.{guard_predicate}
+use Rattle.slot_encoding.specs.EncodedValue.{atom, AreGuardAtoms}
 use Rattle.slot_encoder.specs.Pieces.{AddsGuardAtoms, AddsMembers}
 
 increasing_rest : (m : ℕ) (ms : List ℕ) → IsStrictlyIncreasing (m ∷ ms) → IsStrictlyIncreasing ms

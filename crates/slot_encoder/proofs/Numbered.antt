@@ -8,7 +8,7 @@ use Rattle.task_networks.specs.Spelling.{numbers, is_heir}
 use Rattle.plan_model.specs.declared.terms.Term.TheVariants.{Var}
 use Rattle.plan_model.specs.declared.formulas.Formula.{Formula}
 use Rattle.plan_model.specs.declared.formulas.Formula.TheVariants.{Not, Equal}
-use Rattle.plan_meaning.specs.EncodedActions.{slot_vars, differ}
+use Rattle.slot_encoding.specs.EncodedActions.{slot_vars, differ}
 
 drop_next : {X : Type 0} (xs : List X) (i : ℕ) (d : X) → i < length xs → drop i xs ≡ get_or xs i d ∷ drop (i + 1) xs
 drop_next [] i d l = absurd (omega arith)

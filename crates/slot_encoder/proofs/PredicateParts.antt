@@ -3,8 +3,8 @@ use Rattle.std.proofs.Common.{ℕ, ◌≡◌, List, [], ◌∷◌, ◌++◌, map
 use Rattle.plan_model.specs.declared.schemas.MethodPlan.{MethodPlan}
 use Rattle.plan_model.specs.declared.schemas.Predicate.{Predicate}
 use Rattle.plan_model.specs.declared.values.Compiled.{Compiled}
-use Rattle.plan_meaning.specs.EncodedNames.{object_type, held, guard_word, checked_methods, guard_types, encoded_predicates}
-use Rattle.plan_meaning.specs.SourceParts.{name}
+use Rattle.slot_encoding.specs.EncodedNames.{object_type, held, guard_word, checked_methods, guard_types, encoded_predicates}
+use Rattle.slot_encoding.specs.SourceParts.{name}
 use Rattle.plan_model.specs.declared.schemas.TaskSchema.{TaskSchema}
 use Rattle.plan_model.specs.declared.schemas.ActionSchema.{ActionSchema}
 use Rattle.slot_encoder.specs.Pieces.{printed_predicate, generated_predicates, task_held, action_held, check_held, guard_tested}

@@ -5,7 +5,7 @@ use Rattle.std.specs.declared.vec.Vec.{Vec}
 use Rattle.std.proofs.lemmas.List.{take_more}
 use Rattle.plan_model.specs.declared.terms.GroundAtom.{GroundAtom}
 use Rattle.plan_meaning.specs.Compilation.{once}
-use Rattle.plan_meaning.specs.EncodedValue.{same_atom}
+use Rattle.slot_encoding.specs.EncodedValue.{same_atom}
 use Rattle.slot_encoder.proofs.Once.{has, if_new, once-behind}
 
 -- the equality of keys that a set uses

@@ -6,15 +6,15 @@ use Rattle.plan_model.specs.declared.terms.Param.{Param}
 use Rattle.plan_model.specs.declared.formulas.Formula.{Formula}
 use Rattle.plan_model.specs.declared.schemas.ActionSchema.{ActionSchema}
 use Rattle.plan_model.specs.declared.effects.Effect.TheVariants as E
-use Rattle.plan_meaning.specs.SourceParts.{source_word}
+use Rattle.slot_encoding.specs.SourceParts.{source_word}
 use Rattle.slot_encoder.proofs.Numbered.{drop_past}
 use Rattle.plan_model.specs.declared.options.Style.{Style}
 use Rattle.plan_model.specs.declared.networks.Child.{Child}
 use Rattle.plan_model.specs.declared.effects.Effect.{Effect}
 use Rattle.plan_model.specs.declared.schemas.MethodPlan.{MethodPlan}
 use Rattle.plan_model.specs.declared.values.Compiled.{Compiled}
-use Rattle.plan_meaning.specs.EncodedNames.{check_predicate}
-use Rattle.plan_meaning.specs.EncodedActions as spec
+use Rattle.slot_encoding.specs.EncodedNames.{check_predicate}
+use Rattle.slot_encoding.specs.EncodedActions as spec
 use Rattle.slot_encoder.specs.Pieces.{child_atom, child_atoms, split, method_change}
 
 module _ (c : Compiled) (names : List (List ℕ)) (b : ℕ) (style : Style) (m : ℕ) (plan : MethodPlan) where

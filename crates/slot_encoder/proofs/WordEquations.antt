@@ -12,8 +12,8 @@ use Rattle.plan_model.specs.declared.effects.Effect.{Effect, roll-Effect}
 use Rattle.plan_model.specs.declared.effects.Effect.TheFolds.{fold-roll-Effect, map-Effect}
 use Rattle.plan_model.specs.declared.effects.Effect.TheOpen.{Effect-F}
 use Rattle.plan_model.specs.declared.effects.Effect.TheVariants as E
-use Rattle.plan_meaning.specs.EncodedNames.{joined}
-use Rattle.encoded_words.specs.EncodedWords.{param_words, formula_words_step, formula_words, effect_words_step, effect_words}
+use Rattle.slot_encoding.specs.EncodedNames.{joined}
+use Rattle.slot_encoding.specs.EncodedWords.{param_words, formula_words_step, formula_words, effect_words_step, effect_words}
 
 module _ (source : List Word) where
   formula-roll : (x : Formula-F Formula) → formula_words source (roll-Formula x) ≡ formula_words_step source (map-Formula Formula (List Word) (formula_words source) x)

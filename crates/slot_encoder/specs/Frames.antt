@@ -3,12 +3,12 @@
 use Rattle.std.specs.Prelude.{ℕ, suc, ◌+◌, ◌-◌, ◌<◌, ◌^◌, ◌≡◌, List, length}
 use Rattle.plan_model.specs.declared.values.Compiled.{Compiled}
 use Rattle.plan_model.specs.declared.schemas.MethodPlan.{MethodPlan}
-use Rattle.plan_meaning.specs.EncodedNames as spec
-use Rattle.plan_meaning.specs.EncodedActions.{slot_vars}
+use Rattle.slot_encoding.specs.EncodedNames as spec
+use Rattle.slot_encoding.specs.EncodedActions.{slot_vars}
 use Rattle.order_encoder.specs.Orders as orders
 use Rattle.plan_model.specs.declared.options.Style.{Style}
-use Rattle.plan_meaning.specs.SourceParts.{renamed}
-use Rattle.plan_meaning.specs.EncodedValue.{encoded_actions, IsInitial}
+use Rattle.slot_encoding.specs.SourceParts.{renamed}
+use Rattle.slot_encoding.specs.EncodedValue.{encoded_actions, IsInitial}
 use Rattle.slot_encoder.specs.Pieces.{encoded_goal}
 use Rattle.slot_encoder.specs.declared.encoding.Encoded.{Encoded}
 use Rattle.slot_encoder.specs.declared.frame.Frame.{Frame}

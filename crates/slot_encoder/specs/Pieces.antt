@@ -19,20 +19,20 @@ use Rattle.plan_model.specs.declared.networks.Constraint.{Constraint}
 use Rattle.plan_model.specs.declared.formulas.Formula.{Formula}
 use Rattle.plan_model.specs.declared.formulas.Formula.TheVariants.{Holds, And, Forall}
 use Rattle.plan_model.specs.declared.networks.Guard.{Guard}
-use Rattle.plan_meaning.specs.OrderFormulas.{pair_of, any_slot, clear_parts, copy_parts, free_parts}
+use Rattle.slot_encoding.specs.OrderFormulas.{pair_of, any_slot, clear_parts, copy_parts, free_parts}
 use Rattle.plan_meaning.specs.Network.{InTypeOf}
 use Rattle.plan_meaning.specs.Compilation.{Keeps}
-use Rattle.plan_meaning.specs.EncodedValue.{atom, AreGuardAtoms}
+use Rattle.slot_encoding.specs.EncodedValue.{atom, AreGuardAtoms}
 use Rattle.plan_model.specs.declared.terms.GroundAtom.{GroundAtom}
-use Rattle.plan_meaning.specs.EncodedNames.{order_numbers, first_slot, free_predicate, task_predicate, action_predicate, guard_predicate, slot_type, object_type, slot_param, held, guard_word}
-use Rattle.plan_meaning.specs.SourceParts.{name, source_word, moved, renamed, retyped, source_param}
+use Rattle.slot_encoding.specs.EncodedNames.{order_numbers, first_slot, free_predicate, task_predicate, action_predicate, guard_predicate, slot_type, object_type, slot_param, held, guard_word}
+use Rattle.slot_encoding.specs.SourceParts.{name, source_word, moved, renamed, retyped, source_param}
 use Rattle.htn_base.specs.Escapes.{slot_word}
 use Rattle.plan_model.specs.declared.types.Object.{Object}
 use Rattle.plan_model.specs.declared.types.Parent.{Parent}
 use Rattle.plan_model.specs.declared.terms.Param.{Param}
 use Rattle.plan_model.specs.declared.schemas.Predicate.{Predicate}
 use Rattle.plan_model.specs.declared.schemas.TaskSchema.{TaskSchema}
-use Rattle.plan_meaning.specs.EncodedActions.{test, is_free, freeing, held_task, spare, front, depth, children_slots, source_condition, work_action}
+use Rattle.slot_encoding.specs.EncodedActions.{test, is_free, freeing, held_task, spare, front, depth, children_slots, source_condition, work_action}
 
 module _ (c : Compiled) (names : List (List ℕ)) where
   abbrev pub printed_object : Object → Object

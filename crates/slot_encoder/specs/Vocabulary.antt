@@ -15,7 +15,7 @@ use Rattle.plan_model.specs.declared.values.Hddl.{Hddl}
 use Rattle.plan_model.specs.declared.values.Compiled.{Compiled}
 use Rattle.plan_model.specs.declared.values.Pddl.{Pddl}
 use Rattle.plan_meaning.specs.Compilation.{IsCompiled}
-use Rattle.encoded_words.specs.EncodedWords.{own_word, param_words, formula_words, effect_words, held_words, method_words}
+use Rattle.slot_encoding.specs.EncodedWords.{own_word, param_words, formula_words, effect_words, held_words, method_words}
 
 -- each of the words is in the table now, and so is all that was; a table of fewer than 2^32 words stays one
 pub record Gains (words : List Word) (old new : List Word) : Type 0 where

@@ -1,5 +1,5 @@
 ghost use Rattle.std.specs.Prelude.{◌≡◌, ◌++◌, IfOk, OnOk};
-ghost use Rattle.plan_meaning.specs.EncodedValue as spec;
+ghost use Rattle.slot_encoding.specs.EncodedValue as spec;
 ghost use Rattle.slot_encoder.specs.Frames.{IsFrame};
 ghost use Rattle.slot_encoder.specs.Pieces.{check_action, if_checked};
 

@@ -2,10 +2,10 @@ ghost use Rattle.std.specs.Prelude.{◌≡◌, ◌∷◌, ◌++◌, map, suc, If
 ghost use Rattle.plan_model.specs.declared.terms.Term.{Term};
 ghost use Rattle.plan_model.specs.declared.terms.Term.TheVariants as T;
 ghost use Rattle.task_networks.specs.Spelling.{numbers};
-ghost use Rattle.plan_meaning.specs.SourceParts as parts;
-ghost use Rattle.plan_meaning.specs.OrderFormulas as order;
-ghost use Rattle.plan_meaning.specs.EncodedNames as names;
-ghost use Rattle.plan_meaning.specs.EncodedActions as spec;
+ghost use Rattle.slot_encoding.specs.SourceParts as parts;
+ghost use Rattle.slot_encoding.specs.OrderFormulas as order;
+ghost use Rattle.slot_encoding.specs.EncodedNames as names;
+ghost use Rattle.slot_encoding.specs.EncodedActions as spec;
 ghost use Rattle.slot_encoder.specs.Frames.{IsFrame};
 
 use crate::frame::Frame;

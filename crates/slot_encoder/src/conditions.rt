@@ -1,5 +1,5 @@
 ghost use Rattle.std.specs.Prelude.{◌≡◌, ◌++◌, OnOk};
-ghost use Rattle.plan_meaning.specs.EncodedActions as spec;
+ghost use Rattle.slot_encoding.specs.EncodedActions as spec;
 ghost use Rattle.slot_encoder.specs.Frames.{IsFrame};
 ghost use Rattle.slot_encoder.specs.Pieces.{cleared};
 

@@ -2,7 +2,7 @@ ghost use Rattle.std.specs.Prelude.{◌≡◌, ◌+◌, ◌≤◌, ◌^◌, ◌+
 ghost use Rattle.plan_model.specs.declared.terms.Term.TheVariants as T;
 ghost use Rattle.plan_model.specs.declared.formulas.Formula.TheVariants as F;
 ghost use Rattle.task_networks.specs.Spelling.{numbers};
-ghost use Rattle.plan_meaning.specs.EncodedActions.{differ};
+ghost use Rattle.slot_encoding.specs.EncodedActions.{differ};
 
 use crate::numbers::plus;
 use htn_base::{Boxed, List, Memory};

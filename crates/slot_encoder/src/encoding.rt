@@ -1,9 +1,9 @@
 ghost use Rattle.std.specs.Prelude.{◌≡◌, ◌<◌, ◌^◌, length, IfOk};
 ghost use Rattle.plan_model.specs.Parts.{AreListed};
-ghost use Rattle.plan_meaning.specs.EncodedNames as names;
-ghost use Rattle.plan_meaning.specs.EncodedValue.{IsEncoded};
+ghost use Rattle.slot_encoding.specs.EncodedNames as names;
+ghost use Rattle.slot_encoding.specs.EncodedValue.{IsEncoded};
 ghost use Rattle.order_encoder.specs.Orders as orders;
-ghost use Rattle.encoded_words.specs.EncodedWords.{HasEncodedWords};
+ghost use Rattle.slot_encoding.specs.EncodedWords.{HasEncodedWords};
 ghost use Rattle.slot_encoder.specs.Frames.{IsFrame, AreEncoded};
 ghost use Rattle.slot_encoder.specs.Vocabulary.{IsPrintableWhereSound};
 

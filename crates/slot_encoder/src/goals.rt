@@ -1,8 +1,8 @@
 ghost use Rattle.std.specs.Prelude.{◌≡◌, ◌+◌, ◌++◌, ◌<◌, ◌≤◌, ◌^◌, ◌∷◌, [], map, IfOk, OnOk};
 ghost use Rattle.task_networks.specs.Spelling.{numbers};
 ghost use Rattle.plan_model.specs.declared.formulas.Formula.TheVariants as F;
-ghost use Rattle.plan_meaning.specs.OrderFormulas.{free_parts};
-ghost use Rattle.plan_meaning.specs.EncodedNames as names;
+ghost use Rattle.slot_encoding.specs.OrderFormulas.{free_parts};
+ghost use Rattle.slot_encoding.specs.EncodedNames as names;
 ghost use Rattle.slot_encoder.specs.Frames.{IsFrame};
 ghost use Rattle.slot_encoder.specs.Pieces.{all_slots_free, slot_free, encoded_goal};
 

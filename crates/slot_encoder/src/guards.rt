@@ -1,6 +1,6 @@
 ghost use Rattle.std.specs.Prelude.{◌≡◌, ◌==◌, [], unwrap_or, position, slice_index_or, IfOk};
-ghost use Rattle.plan_meaning.specs.SourceParts as parts;
-ghost use Rattle.plan_meaning.specs.EncodedNames as spec;
+ghost use Rattle.slot_encoding.specs.SourceParts as parts;
+ghost use Rattle.slot_encoding.specs.EncodedNames as spec;
 ghost use Rattle.slot_encoder.specs.Frames.{IsFrame};
 
 use crate::frame::Frame;

@@ -2,7 +2,7 @@ ghost use Rattle.std.specs.Prelude.{◌≡◌, ◌+◌, ◌-◌, ◌++◌, map, 
 ghost use Rattle.task_networks.specs.Spelling.{numbers};
 ghost use Rattle.plan_model.specs.Parts.{AreListed};
 ghost use Rattle.plan_meaning.specs.Compilation.{once};
-ghost use Rattle.plan_meaning.specs.EncodedValue as spec;
+ghost use Rattle.slot_encoding.specs.EncodedValue as spec;
 ghost use Rattle.slot_encoder.specs.Frames.{IsFrame};
 ghost use Rattle.slot_encoder.specs.Pieces.{slot_atom, AddsGuardAtoms, AddsMembers};
 

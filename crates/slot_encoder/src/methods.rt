@@ -1,9 +1,9 @@
 ghost use Rattle.std.specs.Prelude.{◌≡◌, ◌++◌, map, IfOk, OnOk};
 ghost use Rattle.plan_model.specs.declared.formulas.Formula.TheVariants as F;
 ghost use Rattle.task_networks.specs.Spelling.{numbers};
-ghost use Rattle.plan_meaning.specs.SourceParts as parts;
-ghost use Rattle.plan_meaning.specs.EncodedNames as names;
-ghost use Rattle.plan_meaning.specs.EncodedActions as spec;
+ghost use Rattle.slot_encoding.specs.SourceParts as parts;
+ghost use Rattle.slot_encoding.specs.EncodedNames as names;
+ghost use Rattle.slot_encoding.specs.EncodedActions as spec;
 ghost use Rattle.slot_encoder.specs.Frames.{IsFrame, AreVariables};
 ghost use Rattle.slot_encoder.specs.Pieces.{printed_constraint, printed_guard, new_slot, method_parameters, task_at_first, tested_parts};
 

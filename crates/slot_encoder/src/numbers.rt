@@ -1,6 +1,6 @@
 ghost use Rattle.std.specs.Prelude.{◌≡◌, ◌+◌, ◌==◌, ◌<◌, filter, length, IfOk};
 ghost use Rattle.plan_model.specs.declared.schemas.MethodPlan.{MethodPlan};
-ghost use Rattle.plan_meaning.specs.EncodedNames as spec;
+ghost use Rattle.slot_encoding.specs.EncodedNames as spec;
 ghost use Rattle.slot_encoder.specs.Frames.{AreNumbers};
 ghost use Rattle.slot_encoder.specs.Pieces.{with_check};
 

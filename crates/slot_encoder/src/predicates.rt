@@ -1,8 +1,8 @@
 ghost use Rattle.std.specs.Prelude.{◌≡◌, ◌++◌, [], ◌∷◌, map, filter, codes, IfOk, OnOk};
 ghost use Rattle.plan_model.specs.declared.schemas.MethodPlan.{MethodPlan};
 ghost use Rattle.task_networks.specs.Spelling.{numbers};
-ghost use Rattle.plan_meaning.specs.SourceParts as parts;
-ghost use Rattle.plan_meaning.specs.EncodedNames as spec;
+ghost use Rattle.slot_encoding.specs.SourceParts as parts;
+ghost use Rattle.slot_encoding.specs.EncodedNames as spec;
 ghost use Rattle.slot_encoder.specs.Frames.{IsFrame};
 ghost use Rattle.slot_encoder.specs.Pieces.{printed_predicate, generated_predicates, task_held, action_held, check_held, guard_tested, argument, if_checked};
 

@@ -1,6 +1,6 @@
 ghost use Rattle.std.specs.Prelude.{map, OnOk};
-ghost use Rattle.plan_meaning.specs.EncodedNames.{joined};
-ghost use Rattle.encoded_words.specs.EncodedWords as spec;
+ghost use Rattle.slot_encoding.specs.EncodedNames.{joined};
+ghost use Rattle.slot_encoding.specs.EncodedWords as spec;
 ghost use Rattle.slot_encoder.specs.Vocabulary.{Gains};
 
 use crate::vocabulary::put_params;

@@ -1,7 +1,7 @@
 ghost use Rattle.std.specs.Prelude.{◌≡◌, ◌-◌, [], ◌∷◌, map, codes, length, IfOk, OnOk};
 ghost use Rattle.htn_base.specs.Words.{IsFolded};
-ghost use Rattle.plan_meaning.specs.EncodedNames as encoded;
-ghost use Rattle.encoded_words.specs.EncodedWords as spec;
+ghost use Rattle.slot_encoding.specs.EncodedNames as encoded;
+ghost use Rattle.slot_encoding.specs.EncodedWords as spec;
 ghost use Rattle.slot_encoder.specs.Vocabulary as words;
 ghost use Rattle.slot_encoder.specs.Vocabulary.{Gains};
 

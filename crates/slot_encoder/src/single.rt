@@ -1,6 +1,6 @@
 ghost use Rattle.std.specs.Prelude.{◌≡◌, [], ◌∷◌, ◌++◌, cond, IfOk, OnOk};
 ghost use Rattle.plan_meaning.specs.Compilation.{once};
-ghost use Rattle.plan_meaning.specs.EncodedValue.{same_atom};
+ghost use Rattle.slot_encoding.specs.EncodedValue.{same_atom};
 
 use htn_base::{List, Memory};
 use plan_model::GroundAtom;

@@ -2,8 +2,8 @@ ghost use Rattle.std.specs.Prelude.{◌≡◌, ◌++◌, map, IfOk, OnOk};
 ghost use Rattle.std.specs.List.{flat_map};
 ghost use Rattle.plan_model.specs.declared.effects.Effect.TheVariants as E;
 ghost use Rattle.task_networks.specs.Spelling.{numbers};
-ghost use Rattle.plan_meaning.specs.OrderFormulas as order;
-ghost use Rattle.plan_meaning.specs.EncodedActions as spec;
+ghost use Rattle.slot_encoding.specs.OrderFormulas as order;
+ghost use Rattle.slot_encoding.specs.EncodedActions as spec;
 ghost use Rattle.slot_encoder.specs.Frames.{IsFrame, AreVariables};
 ghost use Rattle.slot_encoder.specs.Pieces.{added_pair, child_atom, child_atoms, copied, split, method_change};
 

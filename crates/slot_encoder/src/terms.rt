@@ -1,5 +1,5 @@
 ghost use Rattle.std.specs.Prelude.{◌≡◌, ◌++◌, map, IfOk, OnOk};
-ghost use Rattle.plan_meaning.specs.SourceParts as spec;
+ghost use Rattle.slot_encoding.specs.SourceParts as spec;
 
 use crate::frame::Frame;
 use crate::words::renamed;

@@ -1,8 +1,8 @@
 ghost use Rattle.std.specs.Prelude.{◌≡◌, ◌∷◌, ◌++◌, map, drop, codes, IfOk, OnOk};
 ghost use Rattle.plan_model.specs.declared.types.Parent.{Parent};
 ghost use Rattle.htn_base.specs.declared.name.Name.{Name};
-ghost use Rattle.plan_meaning.specs.SourceParts as parts;
-ghost use Rattle.plan_meaning.specs.EncodedNames as spec;
+ghost use Rattle.slot_encoding.specs.SourceParts as parts;
+ghost use Rattle.slot_encoding.specs.EncodedNames as spec;
 ghost use Rattle.slot_encoder.specs.Pieces.{printed_parent};
 
 use crate::frame::Frame;

@@ -1,6 +1,6 @@
 ghost use Rattle.std.specs.Prelude.{◌≡◌, ◌+◌, [], ◌∷◌, ◌++◌, cond, slice_index, IfOk, OnOk};
 ghost use Rattle.task_networks.specs.Spelling as spelling;
-ghost use Rattle.plan_meaning.specs.EncodedActions.{slot_vars};
+ghost use Rattle.slot_encoding.specs.EncodedActions.{slot_vars};
 ghost use Rattle.slot_encoder.specs.Frames.{AreVariables};
 
 use crate::numbers::{number, plus};

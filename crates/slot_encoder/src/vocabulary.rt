@@ -3,8 +3,8 @@ ghost use Rattle.htn_base.specs.Words.{folded, IsFolded};
 ghost use Rattle.htn_base.specs.Escapes as escapes;
 ghost use Rattle.plan_model.specs.declared.types.Object.{Object};
 ghost use Rattle.task_networks.specs.Spelling.{numbers};
-ghost use Rattle.plan_meaning.specs.SourceParts as parts;
-ghost use Rattle.encoded_words.specs.EncodedWords as spec;
+ghost use Rattle.slot_encoding.specs.SourceParts as parts;
+ghost use Rattle.slot_encoding.specs.EncodedWords as spec;
 ghost use Rattle.slot_encoder.specs.Vocabulary.{Gains};
 
 use crate::quantified::put_formula;

@@ -1,8 +1,8 @@
 ghost use Rattle.std.specs.Prelude.{◌≡◌, ◌++◌, ◌∷◌, suc, map, codes, IfOk};
 ghost use Rattle.plan_model.specs.declared.formulas.Formula.TheVariants as F;
-ghost use Rattle.plan_meaning.specs.SourceParts as parts;
-ghost use Rattle.plan_meaning.specs.EncodedNames as names;
-ghost use Rattle.plan_meaning.specs.EncodedActions as spec;
+ghost use Rattle.slot_encoding.specs.SourceParts as parts;
+ghost use Rattle.slot_encoding.specs.EncodedNames as names;
+ghost use Rattle.slot_encoding.specs.EncodedActions as spec;
 ghost use Rattle.slot_encoder.specs.Frames.{IsFrame};
 ghost use Rattle.slot_encoder.specs.Pieces.{check_action};
 

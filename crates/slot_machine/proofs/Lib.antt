@@ -18,5 +18,4 @@ pub mod Theorem
 pub mod OtherMachines
 pub mod Width
 pub mod Executions
-mod Examples
-mod BrokenMachines
+pub mod examples

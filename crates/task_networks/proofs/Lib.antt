@@ -11,8 +11,4 @@ pub mod BoundLaws
 pub mod StrataLaws
 pub mod Tests
 pub mod SpellingTests
-pub mod ExampleNets
-mod OrderExamples
-mod ScheduleExamples
-mod SpellingExamples
-mod BoundExamples
+pub mod examples

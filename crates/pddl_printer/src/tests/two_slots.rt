@@ -1,10 +1,10 @@
 //! A value with quantifiers over the two objects of a type, and one over another type.
 
 use super::parts::{atom, fact, names, params, parents, predicate, table, two, with};
+use crate::object_range::Range;
 use htn_base::{Boxed, List, Memory, Name, NameTable};
 use plan_model::{ActionSchema, Atom, Effect, Formula, Object, Pddl, Predicate, Term, Types};
 use std::alloc::Global;
-use written_out::Range;
 
 /// The objects `b` and `c`.
 pub(crate) const SLOTS: Range = Range {

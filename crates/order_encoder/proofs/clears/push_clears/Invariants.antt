@@ -1,6 +1,6 @@
 use Rattle.std.proofs.Common.{◌≡◌, ◌++◌}
 use Rattle.plan_model.specs.declared.options.Style.TheVariants.{Flat}
-use Rattle.plan_meaning.specs.OrderFormulas.{clear_parts}
+use Rattle.slot_encoding.specs.OrderFormulas.{clear_parts}
 use Rattle.order_encoder.specs.Orders.{numbers}
 use Rattle.order_encoder.proofs.clears.push_clears.Given as goal
 

@@ -1,7 +1,7 @@
 use Rattle.plan_model.specs.declared.terms.Term.TheVariants.{Obj}
 use Rattle.plan_model.specs.declared.formulas.Formula.TheVariants.{Holds}
 use Rattle.plan_model.specs.declared.effects.Effect.TheVariants.{Add, When}
-use Rattle.plan_meaning.specs.OrderFormulas.{pair_of}
+use Rattle.slot_encoding.specs.OrderFormulas.{pair_of}
 use Rattle.order_encoder.specs.Orders.{numbers}
 use Rattle.order_encoder.proofs.NextSlot.{push_next}
 use Rattle.order_encoder.proofs.copies.push_copies.Goals as goal

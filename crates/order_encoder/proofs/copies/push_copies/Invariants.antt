@@ -1,6 +1,6 @@
 use Rattle.std.proofs.Common.{◌≡◌, ◌++◌}
 use Rattle.plan_model.specs.declared.options.Style.TheVariants.{Flat}
-use Rattle.plan_meaning.specs.OrderFormulas.{copy_parts}
+use Rattle.slot_encoding.specs.OrderFormulas.{copy_parts}
 use Rattle.order_encoder.specs.Orders.{numbers}
 use Rattle.order_encoder.proofs.copies.push_copies.Given as goal
 

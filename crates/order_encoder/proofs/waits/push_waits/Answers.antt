@@ -1,6 +1,6 @@
 use Rattle.plan_model.specs.declared.terms.Term.TheVariants.{Obj}
 use Rattle.plan_model.specs.declared.formulas.Formula.TheVariants.{Holds, Not}
-use Rattle.plan_meaning.specs.OrderFormulas.{pair_of}
+use Rattle.slot_encoding.specs.OrderFormulas.{pair_of}
 use Rattle.order_encoder.specs.Orders.{numbers}
 use Rattle.order_encoder.proofs.NextSlot.{push_next}
 use Rattle.order_encoder.proofs.waits.push_waits.Goals as goal

@@ -1,6 +1,6 @@
 use Rattle.std.proofs.Common.{◌≡◌, ◌++◌}
 use Rattle.plan_model.specs.declared.options.Style.TheVariants.{Flat}
-use Rattle.plan_meaning.specs.OrderFormulas.{wait_parts}
+use Rattle.slot_encoding.specs.OrderFormulas.{wait_parts}
 use Rattle.order_encoder.specs.Orders.{numbers}
 use Rattle.order_encoder.proofs.waits.push_waits.Given as goal
 

@@ -1,6 +1,6 @@
 use Rattle.std.proofs.Common.{arith}
 use Rattle.plan_texts.specs.SpellsPddl.{pddl_words}
-use Rattle.written_out.specs.WrittenOut.{placed_atom}
+use Rattle.pddl_printer.specs.WrittenOut.{placed_atom}
 use Rattle.pddl_printer.specs.Behind.{behind}
 use Rattle.pddl_printer.specs.Literals.{denied_part}
 use Rattle.pddl_printer.specs.Scopes.{words_in_force}

@@ -1,5 +1,5 @@
 use Rattle.plan_texts.specs.SpellsPddl.{pddl_words}
-use Rattle.written_out.specs.WrittenOut.{placed_atom}
+use Rattle.pddl_printer.specs.WrittenOut.{placed_atom}
 use Rattle.pddl_printer.specs.Scopes.{words_in_force}
 use Rattle.pddl_printer.proofs.Appended.{wrote-as, wrote-then}
 use Rattle.pddl_printer.proofs.LiteralBytes.{conditional-bytes}

@@ -2,7 +2,7 @@ use Rattle.std.proofs.Common.{map}
 use Rattle.text_forms.specs.Printing.{bytes_behind}
 use Rattle.plan_texts.specs.SpellsPddl.{pddl_words}
 use Rattle.plan_texts.specs.Printed.{all_parts, term_part}
-use Rattle.written_out.specs.WrittenOut.{placed}
+use Rattle.pddl_printer.specs.WrittenOut.{placed}
 use Rattle.pddl_printer.specs.Scopes.{words_in_force}
 use Rattle.pddl_printer.proofs.Appended.{wrote-then}
 use Rattle.pddl_printer.proofs.Groups.{wrote-at}

@@ -1,7 +1,7 @@
 use Rattle.std.proofs.Common.{take}
 use Rattle.plan_texts.specs.SpellsPddl.{pddl_words}
 use Rattle.plan_texts.specs.Printed.{term_part}
-use Rattle.written_out.specs.WrittenOut.{placed}
+use Rattle.pddl_printer.specs.WrittenOut.{placed}
 use Rattle.pddl_printer.specs.Behind.{behind}
 use Rattle.pddl_printer.specs.Scopes.{words_in_force}
 use Rattle.pddl_printer.specs.Wrote.{Wrote}

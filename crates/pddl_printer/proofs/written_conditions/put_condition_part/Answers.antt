@@ -3,8 +3,8 @@ use Rattle.plan_texts.specs.SpellsPddl.{pddl_words}
 use Rattle.plan_texts.specs.Printed.{formula_part}
 use Rattle.plan_model.specs.declared.formulas.Formula.{out-Formula}
 use Rattle.plan_model.specs.declared.formulas.Formula.TheOpen.{Formula-F}
-use Rattle.written_out.specs.WrittenOut.{quantified}
-use Rattle.written_out.proofs.Equations.{out-Forall}
+use Rattle.pddl_printer.specs.WrittenOut.{quantified}
+use Rattle.pddl_printer.proofs.written_out.Equations.{out-Forall}
 use Rattle.pddl_printer.specs.Literals.{conditions_behind}
 use Rattle.pddl_printer.specs.Scopes.{words_in_force}
 use Rattle.pddl_printer.proofs.Appended.{wrote-as}

@@ -1,6 +1,6 @@
 use Rattle.plan_texts.specs.SpellsPddl.{pddl_words}
 use Rattle.plan_texts.specs.Printed.{formula_part}
-use Rattle.written_out.specs.WrittenOut.{condition_parts}
+use Rattle.pddl_printer.specs.WrittenOut.{condition_parts}
 use Rattle.pddl_printer.specs.Literals.{conditions_behind}
 use Rattle.pddl_printer.specs.Scopes.{words_in_force}
 use Rattle.pddl_printer.proofs.Appended.{wrote-as}

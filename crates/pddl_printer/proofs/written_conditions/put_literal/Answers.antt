@@ -2,8 +2,8 @@ use Rattle.std.proofs.Common.{ap, sym, ◌∙◌}
 use Rattle.plan_texts.specs.SpellsPddl.{pddl_words}
 use Rattle.plan_texts.specs.Printed.{formula_part}
 use Rattle.plan_model.specs.declared.formulas.Formula.{out-Formula}
-use Rattle.written_out.specs.WrittenOut.{literal, negated_literal}
-use Rattle.written_out.proofs.Equations.{out-Holds, out-Not}
+use Rattle.pddl_printer.specs.WrittenOut.{literal, negated_literal}
+use Rattle.pddl_printer.proofs.written_out.Equations.{out-Holds, out-Not}
 use Rattle.pddl_printer.specs.Literals.{conditions_behind}
 use Rattle.pddl_printer.specs.Scopes.{words_in_force}
 use Rattle.pddl_printer.proofs.Appended.{wrote-as}

@@ -2,8 +2,8 @@ use Rattle.std.proofs.Common.{map, codes, ap, sym, ◌∙◌}
 use Rattle.plan_texts.specs.SpellsPddl.{pddl_words}
 use Rattle.plan_texts.specs.Printed.{all_parts, formula_part}
 use Rattle.plan_texts.proofs.Equations.{part-And}
-use Rattle.written_out.specs.WrittenOut.{joined, condition_parts, condition}
-use Rattle.written_out.proofs.Equations.{condition-And}
+use Rattle.pddl_printer.specs.WrittenOut.{joined, condition_parts, condition}
+use Rattle.pddl_printer.proofs.written_out.Equations.{condition-And}
 use Rattle.pddl_printer.specs.Behind.{behind}
 use Rattle.pddl_printer.specs.Literals.{conditions_behind}
 use Rattle.pddl_printer.specs.Scopes.{words_in_force}

@@ -3,8 +3,8 @@ use Rattle.plan_texts.specs.SpellsPddl.{pddl_words}
 use Rattle.plan_texts.specs.Printed.{effect_part}
 use Rattle.plan_model.specs.declared.formulas.Formula.TheOpen.{Formula-F}
 use Rattle.plan_model.specs.declared.effects.Effect.{out-Effect}
-use Rattle.written_out.specs.WrittenOut.{conditional_add}
-use Rattle.written_out.proofs.Equations.{out-Add}
+use Rattle.pddl_printer.specs.WrittenOut.{conditional_add}
+use Rattle.pddl_printer.proofs.written_out.Equations.{out-Add}
 use Rattle.pddl_printer.specs.Literals.{effects_behind}
 use Rattle.pddl_printer.specs.Scopes.{words_in_force}
 use Rattle.pddl_printer.proofs.Appended.{wrote-as}

@@ -3,8 +3,8 @@ use Rattle.plan_texts.specs.SpellsPddl.{pddl_words}
 use Rattle.plan_texts.specs.Printed.{effect_part}
 use Rattle.plan_model.specs.declared.formulas.Formula.{out-Formula}
 use Rattle.plan_model.specs.declared.effects.Effect.{out-Effect}
-use Rattle.written_out.specs.WrittenOut.{conditional_add}
-use Rattle.written_out.proofs.Equations.{out-Holds}
+use Rattle.pddl_printer.specs.WrittenOut.{conditional_add}
+use Rattle.pddl_printer.proofs.written_out.Equations.{out-Holds}
 use Rattle.pddl_printer.specs.Literals.{effects_behind}
 use Rattle.pddl_printer.specs.Scopes.{words_in_force}
 use Rattle.pddl_printer.proofs.Groups.{wrote-at, wrote-one}

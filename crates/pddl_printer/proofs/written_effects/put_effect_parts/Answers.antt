@@ -1,6 +1,6 @@
 use Rattle.plan_texts.specs.SpellsPddl.{pddl_words}
 use Rattle.plan_texts.specs.Printed.{effect_part}
-use Rattle.written_out.specs.WrittenOut.{effect_parts}
+use Rattle.pddl_printer.specs.WrittenOut.{effect_parts}
 use Rattle.pddl_printer.specs.Literals.{effects_behind}
 use Rattle.pddl_printer.specs.Scopes.{words_in_force}
 use Rattle.pddl_printer.proofs.Appended.{wrote-as}

@@ -2,8 +2,8 @@ use Rattle.std.proofs.Common.{map, codes, ap, sym, ◌∙◌}
 use Rattle.plan_texts.specs.SpellsPddl.{pddl_words}
 use Rattle.plan_texts.specs.Printed.{all_parts, effect_part}
 use Rattle.plan_texts.proofs.Equations as printed
-use Rattle.written_out.specs.WrittenOut.{joined, effect_parts, effect}
-use Rattle.written_out.proofs.Equations as written
+use Rattle.pddl_printer.specs.WrittenOut.{joined, effect_parts, effect}
+use Rattle.pddl_printer.proofs.written_out.Equations as written
 use Rattle.pddl_printer.specs.Behind.{behind}
 use Rattle.pddl_printer.specs.Literals.{effects_behind}
 use Rattle.pddl_printer.specs.Scopes.{words_in_force}

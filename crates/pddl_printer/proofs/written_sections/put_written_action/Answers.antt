@@ -4,7 +4,7 @@ use Rattle.text_forms.specs.Words.{Word}
 use Rattle.plan_texts.specs.Declared.{named, variable}
 use Rattle.plan_texts.specs.SpellsPddl.{pddl_words}
 use Rattle.plan_texts.specs.Printed.{params_parts, formula_part, effect_part}
-use Rattle.written_out.specs.WrittenOut.{condition, effect}
+use Rattle.pddl_printer.specs.WrittenOut.{condition, effect}
 use Rattle.pddl_printer.specs.Behind.{behind}
 use Rattle.pddl_printer.proofs.Appended.{wrote-as, wrote-then}
 use Rattle.pddl_printer.proofs.Groups.{wrote-at, wrote-one}

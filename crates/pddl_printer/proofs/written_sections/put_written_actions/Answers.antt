@@ -1,6 +1,6 @@
 use Rattle.plan_texts.specs.SpellsPddl.{pddl_words}
 use Rattle.plan_texts.specs.PrintedTexts.{action_part}
-use Rattle.written_out.specs.WrittenOut.{action}
+use Rattle.pddl_printer.specs.WrittenOut.{action}
 use Rattle.pddl_printer.specs.Behind.{line}
 use Rattle.pddl_printer.proofs.Appended.{wrote-as}
 use Rattle.pddl_printer.proofs.Each.{each-next, each-done, lines-each-made}

@@ -1,7 +1,7 @@
 use Rattle.std.proofs.Common.{take}
 use Rattle.plan_texts.specs.SpellsPddl.{pddl_words}
 use Rattle.plan_texts.specs.PrintedTexts.{action_part}
-use Rattle.written_out.specs.WrittenOut.{action}
+use Rattle.pddl_printer.specs.WrittenOut.{action}
 use Rattle.pddl_printer.specs.Behind.{line}
 use Rattle.pddl_printer.specs.Wrote.{Wrote}
 use Rattle.pddl_printer.proofs.Each.{of_each}

@@ -5,7 +5,7 @@ use Rattle.plan_texts.specs.SpellsPddl.{pddl_words}
 use Rattle.plan_texts.specs.Printed.{all_parts}
 use Rattle.plan_texts.specs.PrintedTexts.{action_part}
 use Rattle.plan_model.specs.declared.schemas.ActionSchema.{ActionSchema}
-use Rattle.written_out.specs.WrittenOut.{action}
+use Rattle.pddl_printer.specs.WrittenOut.{action}
 use Rattle.pddl_printer.specs.Heads.{domain_head}
 use Rattle.pddl_printer.proofs.Groups.{wrote-at}
 use Rattle.pddl_printer.proofs.Heads.{wrote-head}

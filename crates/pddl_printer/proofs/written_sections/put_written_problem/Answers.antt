@@ -3,7 +3,7 @@ use Rattle.text_forms.specs.Lists.{nothing, part}
 use Rattle.text_forms.specs.Printing.{headed}
 use Rattle.plan_texts.specs.SpellsPddl.{pddl_words}
 use Rattle.plan_texts.specs.Printed.{formula_part}
-use Rattle.written_out.specs.WrittenOut.{condition}
+use Rattle.pddl_printer.specs.WrittenOut.{condition}
 use Rattle.pddl_printer.specs.Heads.{problem_head}
 use Rattle.pddl_printer.proofs.Appended.{wrote-nothing}
 use Rattle.pddl_printer.proofs.Groups.{wrote-one}

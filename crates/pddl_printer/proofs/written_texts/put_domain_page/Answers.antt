@@ -1,7 +1,7 @@
 use Rattle.std.proofs.Common.{codes}
 use Rattle.plan_texts.specs.Declared.{named}
 use Rattle.plan_texts.specs.PrintedTexts.{domain_parts}
-use Rattle.written_out.specs.WrittenOut.{written_out}
+use Rattle.pddl_printer.specs.WrittenOut.{written_out}
 use Rattle.pddl_printer.proofs.written_texts.put_domain_page.Goals as goal
 use Rattle.pddl_printer.proofs.Lines.{wrote-page}
 

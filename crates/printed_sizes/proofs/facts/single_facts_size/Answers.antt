@@ -3,7 +3,7 @@ use Rattle.std.specs.Prelude.{sum_by}
 use Rattle.std.specs.HashSet.{contains}
 use Rattle.std.proofs.lemmas.List.{take_all}
 use Rattle.plan_meaning.specs.Compilation.{once}
-use Rattle.plan_meaning.specs.EncodedValue.{same_atom}
+use Rattle.slot_encoding.specs.EncodedValue.{same_atom}
 use Rattle.printed_sizes.specs.Capped.{capped}
 use Rattle.printed_sizes.specs.Problems.{fact_size}
 use Rattle.printed_sizes.proofs.FactCounts.{same_key, seen_more, single_sum}

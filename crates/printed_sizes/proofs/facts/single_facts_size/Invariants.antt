@@ -4,7 +4,7 @@ use Rattle.std.specs.HashSet.{contains}
 use Rattle.std.specs.declared.vec.Vec.{Vec}
 use Rattle.plan_model.specs.declared.terms.GroundAtom.{GroundAtom}
 use Rattle.plan_meaning.specs.Compilation.{once}
-use Rattle.plan_meaning.specs.EncodedValue.{same_atom}
+use Rattle.slot_encoding.specs.EncodedValue.{same_atom}
 use Rattle.printed_sizes.specs.Capped.{capped}
 use Rattle.printed_sizes.specs.Problems.{fact_size}
 use Rattle.printed_sizes.proofs.Once.{has}

@@ -1,6 +1,6 @@
 use Rattle.std.proofs.Common.{◌++◌, map, filter, ap, sym, ◌∙◌}
 use Rattle.plan_model.specs.declared.schemas.MethodPlan.{MethodPlan}
-use Rattle.plan_meaning.specs.EncodedNames.{guard_types, checked_methods}
+use Rattle.slot_encoding.specs.EncodedNames.{guard_types, checked_methods}
 use Rattle.printed_sizes.specs.Heads as spec
 use Rattle.printed_sizes.proofs.HeadSizes.{heads-are, heads_put}
 use Rattle.printed_sizes.proofs.head_list.head_sizes.Goals as goal

@@ -1,6 +1,6 @@
 use Rattle.std.proofs.Common.{[], length, ap, ◌∙◌}
 use Rattle.std.specs.Prelude.{sum_by}
-use Rattle.plan_meaning.specs.EncodedNames.{guard_word}
+use Rattle.slot_encoding.specs.EncodedNames.{guard_word}
 use Rattle.printed_sizes.specs.Capped.{capped}
 use Rattle.printed_sizes.specs.Problems.{member_fact_size}
 use Rattle.printed_sizes.proofs.members.type_members_size.Goals as goal

@@ -1,7 +1,7 @@
 use Rattle.std.proofs.Common.{◌+◌, take, filter, length, refl, ap, ◌∙◌, arith}
 use Rattle.std.proofs.lemmas.List.{take_all}
 use Rattle.plan_model.specs.declared.schemas.MethodPlan.{MethodPlan}
-use Rattle.plan_meaning.specs.EncodedNames.{first_check, check_predicate}
+use Rattle.slot_encoding.specs.EncodedNames.{first_check, check_predicate}
 use Rattle.printed_sizes.specs.Capped.{capped}
 use Rattle.printed_sizes.specs.Methods as spec
 use Rattle.printed_sizes.proofs.MethodCounts.{counted_next, check_next}

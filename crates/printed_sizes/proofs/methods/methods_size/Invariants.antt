@@ -1,6 +1,6 @@
 use Rattle.std.proofs.Common.{◌≡◌, ◌+◌, take, filter, length}
 use Rattle.plan_model.specs.declared.schemas.MethodPlan.{MethodPlan}
-use Rattle.plan_meaning.specs.EncodedNames.{first_check}
+use Rattle.slot_encoding.specs.EncodedNames.{first_check}
 use Rattle.printed_sizes.specs.Capped.{capped}
 use Rattle.printed_sizes.specs.Methods as spec
 use Rattle.printed_sizes.proofs.methods.methods_size.Given as goal

@@ -1,5 +1,5 @@
 use Rattle.std.proofs.Common.{refl, ap, ◌∙◌}
-use Rattle.plan_meaning.specs.EncodedNames.{task_predicate}
+use Rattle.slot_encoding.specs.EncodedNames.{task_predicate}
 use Rattle.printed_sizes.specs.Capped.{capped}
 use Rattle.printed_sizes.specs.Words.{head_size}
 use Rattle.printed_sizes.specs.Methods as spec

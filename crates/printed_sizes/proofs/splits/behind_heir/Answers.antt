@@ -1,5 +1,5 @@
 use Rattle.std.proofs.Common.{slice_index, ap, sym, ◌∙◌}
-use Rattle.plan_meaning.specs.EncodedActions.{slot_vars}
+use Rattle.slot_encoding.specs.EncodedActions.{slot_vars}
 use Rattle.printed_sizes.proofs.MethodCounts.{slot-no_heir, slot-heir}
 use Rattle.printed_sizes.proofs.splits.behind_heir.Goals as goal
 

@@ -1,7 +1,7 @@
 use Rattle.std.proofs.Common.{◌≡◌, ◌+◌, ◌++◌, take, drop, filter, length}
 use Rattle.plan_model.specs.declared.schemas.MethodPlan.{MethodPlan}
-use Rattle.plan_meaning.specs.EncodedValue as spec
-use Rattle.plan_meaning.specs.EncodedNames.{first_check}
+use Rattle.slot_encoding.specs.EncodedValue as spec
+use Rattle.slot_encoding.specs.EncodedNames.{first_check}
 use Rattle.slot_encoder.proofs.actions.push_checks.Given as goal
 
 abbrev pub invariant-loop-plan : goal.invariant-loop-plan

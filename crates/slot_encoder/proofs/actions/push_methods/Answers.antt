@@ -1,7 +1,7 @@
 use Rattle.std.proofs.Common.{◌++◌, [], ◌∷◌, refl, ap, ◌∙◌, arith}
-use Rattle.plan_meaning.specs.EncodedValue as spec
-use Rattle.plan_meaning.specs.EncodedNames.{first_check}
-use Rattle.plan_meaning.specs.EncodedActions.{encoded_method}
+use Rattle.slot_encoding.specs.EncodedValue as spec
+use Rattle.slot_encoding.specs.EncodedNames.{first_check}
+use Rattle.slot_encoding.specs.EncodedActions.{encoded_method}
 use Rattle.slot_encoder.proofs.Numbered.{along_next, check_next}
 use Rattle.slot_encoder.proofs.actions.push_methods.Goals as goal
 

@@ -1,5 +1,5 @@
 use Rattle.std.proofs.Common.{◌≡◌, ◌++◌, drop}
-use Rattle.plan_meaning.specs.EncodedValue as spec
+use Rattle.slot_encoding.specs.EncodedValue as spec
 use Rattle.slot_encoder.proofs.actions.push_source.Given as goal
 
 abbrev pub invariant-loop-action : goal.invariant-loop-action

@@ -1,6 +1,6 @@
 use Rattle.std.proofs.Common.{◌≡◌, ◌+◌, ◌-◌, ◌++◌}
 use Rattle.task_networks.specs.Spelling.{numbers}
-use Rattle.plan_meaning.specs.EncodedActions.{differ}
+use Rattle.slot_encoding.specs.EncodedActions.{differ}
 use Rattle.slot_encoder.proofs.differing.push_differing.Given as goal
 
 abbrev pub invariant-loop-i : goal.invariant-loop-i

@@ -1,5 +1,5 @@
 use Rattle.std.proofs.Common.{◌≡◌, map, take}
-use Rattle.plan_meaning.specs.SourceParts as parts
+use Rattle.slot_encoding.specs.SourceParts as parts
 use Rattle.slot_encoder.proofs.effects.+effects.Given as goal
 
 abbrev pub invariant-listed-loop-part : goal.invariant-listed-loop-part

@@ -2,7 +2,7 @@ use Rattle.std.proofs.Common.{◌≡◌, ◌+◌, ◌-◌, ◌++◌, ℕ, List, 
 use Rattle.std.proofs.Common.{IfOk, nat_lt, true, false, cond, decimal, slice_index_or}
 use Rattle.std.proofs.lemmas.Bool.{lt-ltb, le-ltb}
 use Rattle.htn_base.specs.declared.name.Name.{Name}
-use Rattle.plan_meaning.specs.SourceParts.{source_word}
+use Rattle.slot_encoding.specs.SourceParts.{source_word}
 use Rattle.slot_encoder.proofs.guards.guard_word.Goals as goal
 
 pub returns-then-ty-count : goal.returns-then-ty-count

@@ -1,5 +1,5 @@
 use Rattle.std.proofs.Common.{◌++◌, ap, subst, ◌∙◌}
-use Rattle.plan_meaning.specs.EncodedValue.{AreGuardAtoms}
+use Rattle.slot_encoding.specs.EncodedValue.{AreGuardAtoms}
 use Rattle.slot_encoder.proofs.initial.encoded_initial.Goals as goal
 
 pub returns : goal.returns

@@ -1,5 +1,5 @@
 use Rattle.std.proofs.Common.{◌≡◌, ◌++◌, map, take}
-use Rattle.plan_meaning.specs.EncodedValue as spec
+use Rattle.slot_encoding.specs.EncodedValue as spec
 use Rattle.slot_encoder.proofs.initial.push_atoms.Given as goal
 
 abbrev pub invariant-loop-object : goal.invariant-loop-object

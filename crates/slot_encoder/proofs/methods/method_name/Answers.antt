@@ -1,6 +1,6 @@
 use Rattle.std.proofs.Common.{◌≡◌, ℕ, List, ap, sym, subst, ◌∙◌, arith}
 use Rattle.std.proofs.Common.{IfOk}
-use Rattle.plan_meaning.specs.SourceParts as parts
+use Rattle.slot_encoding.specs.SourceParts as parts
 use Rattle.slot_encoder.proofs.Splits.{method_word_first, method_word_later}
 use Rattle.slot_encoder.proofs.methods.method_name.Goals as goal
 

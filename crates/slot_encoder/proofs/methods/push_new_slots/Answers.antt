@@ -2,7 +2,7 @@ use Rattle.std.proofs.Common.{ap, ◌∙◌}
 use Rattle.order_encoder.proofs.NextSlot.{push_next}
 use Rattle.slot_encoder.specs.Pieces.{new_slot}
 use Rattle.htn_base.specs.declared.name.Name.{Name}
-use Rattle.plan_meaning.specs.EncodedNames.{slot_type}
+use Rattle.slot_encoding.specs.EncodedNames.{slot_type}
 use Rattle.slot_encoder.proofs.methods.push_new_slots.Goals as goal
 
 pub loop-k-preserved : goal.loop-k-preserved

@@ -1,7 +1,7 @@
 use Rattle.std.proofs.Common.{List, ◌++◌, map, ap, sym, ◌∙◌}
 use Rattle.plan_model.specs.declared.effects.Effect.{Effect}
-use Rattle.plan_meaning.specs.EncodedNames.{joined}
-use Rattle.encoded_words.specs.EncodedWords.{param_words, formula_words, effect_words}
+use Rattle.slot_encoding.specs.EncodedNames.{joined}
+use Rattle.slot_encoding.specs.EncodedWords.{param_words, formula_words, effect_words}
 use Rattle.slot_encoder.proofs.Gained.{gains-none, gains-of, gains-next, gains-all, ok-of, ok-join}
 use Rattle.slot_encoder.proofs.WordEquations.{words-Add, words-Delete, words-Both, words-Each, words-When}
 use Rattle.slot_encoder.proofs.quantified.+effect_words.Goals as goal

@@ -1,6 +1,6 @@
 use Rattle.std.proofs.Common.{map, take}
-use Rattle.plan_meaning.specs.EncodedNames.{joined}
-use Rattle.encoded_words.specs.EncodedWords.{effect_words}
+use Rattle.slot_encoding.specs.EncodedNames.{joined}
+use Rattle.slot_encoding.specs.EncodedWords.{effect_words}
 use Rattle.slot_encoder.specs.Vocabulary.{Gains}
 use Rattle.slot_encoder.proofs.quantified.+effect_words.Given as goal
 

@@ -1,7 +1,7 @@
 use Rattle.std.proofs.Common.{List, ◌++◌, map, ap, sym, ◌∙◌}
 use Rattle.plan_model.specs.declared.formulas.Formula.{Formula}
-use Rattle.plan_meaning.specs.EncodedNames.{joined}
-use Rattle.encoded_words.specs.EncodedWords.{param_words, formula_words}
+use Rattle.slot_encoding.specs.EncodedNames.{joined}
+use Rattle.slot_encoding.specs.EncodedWords.{param_words, formula_words}
 use Rattle.slot_encoder.proofs.Gained.{gains-none, gains-of, gains-next, gains-all, ok-of, ok-join}
 use Rattle.slot_encoder.proofs.WordEquations.{words-Holds, words-Equal, words-Not, words-And, words-Or, words-Imply, words-Forall, words-Exists}
 use Rattle.slot_encoder.proofs.quantified.+formula_words.Goals as goal

@@ -1,5 +1,5 @@
 use Rattle.std.proofs.Common.{ℕ, List, ◌∷◌, ◌++◌, ap}
-use Rattle.encoded_words.specs.EncodedWords.{own_word, param_words, formula_words, effect_words}
+use Rattle.slot_encoding.specs.EncodedWords.{own_word, param_words, formula_words, effect_words}
 use Rattle.slot_encoder.proofs.Gained.{gains-of, gains-join, ok-join}
 use Rattle.slot_encoder.proofs.schema_words.put_action.Goals as goal
 

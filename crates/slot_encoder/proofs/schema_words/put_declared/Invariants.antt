@@ -1,5 +1,5 @@
 use Rattle.std.proofs.Common.{map, take}
-use Rattle.plan_meaning.specs.EncodedNames.{joined}
+use Rattle.slot_encoding.specs.EncodedNames.{joined}
 use Rattle.slot_encoder.specs.Vocabulary.{Gains, words_of_predicate}
 use Rattle.slot_encoder.proofs.schema_words.put_declared.Given as goal
 

@@ -1,5 +1,5 @@
 use Rattle.std.proofs.Common.{[]}
-use Rattle.plan_meaning.specs.EncodedNames.{guard_word}
+use Rattle.slot_encoding.specs.EncodedNames.{guard_word}
 use Rattle.slot_encoder.proofs.Gained.{gains-none, gains-next_word, gains-all_words}
 use Rattle.slot_encoder.proofs.schema_words.put_guard_words.Goals as goal
 

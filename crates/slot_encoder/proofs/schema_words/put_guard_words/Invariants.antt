@@ -1,5 +1,5 @@
 use Rattle.std.proofs.Common.{[], map, take}
-use Rattle.plan_meaning.specs.EncodedNames.{guard_word}
+use Rattle.slot_encoding.specs.EncodedNames.{guard_word}
 use Rattle.slot_encoder.specs.Vocabulary.{Gains}
 use Rattle.slot_encoder.proofs.schema_words.put_guard_words.Given as goal
 

@@ -1,5 +1,5 @@
 use Rattle.std.proofs.Common.{map, [], ap, ◌∙◌}
-use Rattle.plan_meaning.specs.EncodedNames.{guard_word}
+use Rattle.slot_encoding.specs.EncodedNames.{guard_word}
 use Rattle.slot_encoder.proofs.Gained.{ok-of}
 use Rattle.slot_encoder.proofs.schema_words.put_guards.Goals as goal
 

@@ -1,6 +1,6 @@
 use Rattle.std.proofs.Common.{ℕ, List, ◌-◌, [], ◌∷◌, ◌++◌, length, codes, ap, sym}
 use Rattle.std.proofs.lemmas.List.{append-nil}
-use Rattle.encoded_words.specs.EncodedWords.{own_word, param_words, formula_words, numbered}
+use Rattle.slot_encoding.specs.EncodedWords.{own_word, param_words, formula_words, numbered}
 use Rattle.slot_encoder.proofs.Gained.{gains-of, gains-join, ok-of, ok-join}
 use Rattle.slot_encoder.proofs.schema_words.put_method.Goals as goal
 

@@ -1,6 +1,6 @@
 use Rattle.std.proofs.Common.{ℕ, List, [], ◌∷◌, map, codes}
-use Rattle.plan_meaning.specs.EncodedNames.{joined}
-use Rattle.encoded_words.specs.EncodedWords.{method_words}
+use Rattle.slot_encoding.specs.EncodedNames.{joined}
+use Rattle.slot_encoding.specs.EncodedWords.{method_words}
 use Rattle.slot_encoder.specs.Vocabulary.{words_of_method}
 use Rattle.slot_encoder.proofs.AllWords.{known-methods}
 use Rattle.slot_encoder.proofs.Gained.{ok-join, ok-other}

@@ -1,5 +1,5 @@
 use Rattle.std.proofs.Common.{[], ◌∷◌, ap}
-use Rattle.encoded_words.specs.EncodedWords.{own_word, param_words}
+use Rattle.slot_encoding.specs.EncodedWords.{own_word, param_words}
 use Rattle.slot_encoder.proofs.Gained.{ok-of, ok-join}
 use Rattle.slot_encoder.proofs.schema_words.put_predicate.Goals as goal
 

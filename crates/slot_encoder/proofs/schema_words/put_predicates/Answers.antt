@@ -3,7 +3,7 @@ use Rattle.plan_model.specs.declared.schemas.Predicate.{Predicate}
 use Rattle.plan_model.specs.declared.schemas.TaskSchema.{TaskSchema}
 use Rattle.plan_model.specs.declared.schemas.ActionSchema.{ActionSchema}
 use Rattle.plan_model.specs.declared.schemas.MethodPlan.{MethodPlan}
-use Rattle.plan_meaning.specs.EncodedNames.{joined, guard_types, guard_word}
+use Rattle.slot_encoding.specs.EncodedNames.{joined, guard_types, guard_word}
 use Rattle.slot_encoder.specs.Vocabulary.{words_of_predicate, words_of_task, words_of_held_action, words_if_checked}
 use Rattle.slot_encoder.proofs.AllWords.{checked-words, up_to_actions, held_checks}
 use Rattle.slot_encoder.proofs.Gained.{gains-of, gains-join, ok-join}

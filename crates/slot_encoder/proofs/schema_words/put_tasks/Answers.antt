@@ -1,5 +1,5 @@
 use Rattle.std.proofs.Common.{codes, ap, ◌∙◌}
-use Rattle.encoded_words.specs.EncodedWords.{held_words}
+use Rattle.slot_encoding.specs.EncodedWords.{held_words}
 use Rattle.slot_encoder.specs.Vocabulary.{words_of_task}
 use Rattle.slot_encoder.proofs.Gained.{gains-none, gains-of, gains-next, gains-all}
 use Rattle.slot_encoder.proofs.schema_words.put_tasks.Goals as goal

@@ -1,7 +1,7 @@
 use Rattle.std.proofs.Common.{ap}
 use Rattle.order_encoder.proofs.NextSlot.{push_next}
 use Rattle.plan_model.specs.declared.effects.Effect.TheVariants as E
-use Rattle.plan_meaning.specs.EncodedActions as spec
+use Rattle.slot_encoding.specs.EncodedActions as spec
 use Rattle.slot_encoder.proofs.splitting.push_taken.Goals as goal
 
 pub loop-k-preserved : goal.loop-k-preserved

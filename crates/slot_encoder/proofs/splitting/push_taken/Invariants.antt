@@ -1,7 +1,7 @@
 use Rattle.std.proofs.Common.{◌≡◌, ◌++◌, map}
 use Rattle.task_networks.specs.Spelling.{numbers}
 use Rattle.plan_model.specs.declared.effects.Effect.TheVariants as E
-use Rattle.plan_meaning.specs.EncodedActions as spec
+use Rattle.slot_encoding.specs.EncodedActions as spec
 use Rattle.slot_encoder.proofs.splitting.push_taken.Given as goal
 
 abbrev pub invariant-loop-k : goal.invariant-loop-k

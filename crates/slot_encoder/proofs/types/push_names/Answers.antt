@@ -1,4 +1,4 @@
-use Rattle.plan_meaning.specs.SourceParts as parts
+use Rattle.slot_encoding.specs.SourceParts as parts
 use Rattle.slot_encoder.proofs.Appended.{map_next}
 use Rattle.slot_encoder.proofs.types.push_names.Goals as goal
 

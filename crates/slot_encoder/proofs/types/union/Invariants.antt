@@ -1,5 +1,5 @@
 use Rattle.std.proofs.Common.{◌≡◌, map, take}
-use Rattle.plan_meaning.specs.SourceParts as parts
+use Rattle.slot_encoding.specs.SourceParts as parts
 use Rattle.slot_encoder.proofs.types.union.Given as goal
 
 abbrev pub invariant-loop-ty : goal.invariant-loop-ty

@@ -1,5 +1,5 @@
 use Rattle.slot_encoder.proofs.Numbered.{slots_next}
-use Rattle.plan_meaning.specs.EncodedActions.{slot_vars}
+use Rattle.slot_encoding.specs.EncodedActions.{slot_vars}
 use Rattle.slot_encoder.proofs.variables.slots_of.Goals as goal
 
 pub loop-i-preserved : goal.loop-i-preserved

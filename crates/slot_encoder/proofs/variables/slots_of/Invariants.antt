@@ -1,5 +1,5 @@
 use Rattle.std.proofs.Common.{◌≡◌, ◌-◌, ◌++◌}
-use Rattle.plan_meaning.specs.EncodedActions.{slot_vars}
+use Rattle.slot_encoding.specs.EncodedActions.{slot_vars}
 use Rattle.slot_encoder.proofs.variables.slots_of.Given as goal
 
 abbrev pub invariant-loop-i : goal.invariant-loop-i

@@ -1,4 +1,4 @@
-use Rattle.encoded_words.specs.EncodedWords.{own_word}
+use Rattle.slot_encoding.specs.EncodedWords.{own_word}
 use Rattle.slot_encoder.proofs.Gained.{gains-none, gains-next_word, gains-all_words}
 use Rattle.slot_encoder.proofs.vocabulary.put_names.Goals as goal
 

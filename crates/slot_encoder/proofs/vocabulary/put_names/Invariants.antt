@@ -1,5 +1,5 @@
 use Rattle.std.proofs.Common.{map, take}
-use Rattle.encoded_words.specs.EncodedWords.{own_word}
+use Rattle.slot_encoding.specs.EncodedWords.{own_word}
 use Rattle.slot_encoder.specs.Vocabulary.{Gains}
 use Rattle.slot_encoder.proofs.vocabulary.put_names.Given as goal
 

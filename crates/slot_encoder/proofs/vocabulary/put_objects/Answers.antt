@@ -2,7 +2,7 @@ use Rattle.std.proofs.Common.{ℕ, List, map, ap}
 use Rattle.htn_base.specs.Escapes.{slot_word}
 use Rattle.plan_model.specs.declared.types.Object.{Object}
 use Rattle.task_networks.specs.Spelling.{numbers}
-use Rattle.encoded_words.specs.EncodedWords.{own_word}
+use Rattle.slot_encoding.specs.EncodedWords.{own_word}
 use Rattle.slot_encoder.proofs.Gained.{gains-of, ok-join}
 use Rattle.slot_encoder.proofs.vocabulary.put_objects.Goals as goal
 

@@ -1,5 +1,5 @@
 use Rattle.plan_model.specs.declared.terms.Param.{Param}
-use Rattle.plan_meaning.specs.SourceParts.{source_word}
+use Rattle.slot_encoding.specs.SourceParts.{source_word}
 use Rattle.slot_encoder.proofs.Gained.{gains-none, gains-next_word, gains-all_words}
 use Rattle.slot_encoder.proofs.vocabulary.put_params.Goals as goal
 

@@ -1,6 +1,6 @@
 use Rattle.std.proofs.Common.{map, take}
 use Rattle.plan_model.specs.declared.terms.Param.{Param}
-use Rattle.plan_meaning.specs.SourceParts.{source_word}
+use Rattle.slot_encoding.specs.SourceParts.{source_word}
 use Rattle.slot_encoder.specs.Vocabulary.{Gains}
 use Rattle.slot_encoder.proofs.vocabulary.put_params.Given as goal
 

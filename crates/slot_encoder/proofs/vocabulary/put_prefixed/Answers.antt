@@ -1,6 +1,6 @@
 use Rattle.std.proofs.Common.{ℕ, List, [], ◌∷◌, ap, ◌∙◌}
 use Rattle.htn_base.specs.Words.{folded}
-use Rattle.plan_meaning.specs.SourceParts.{source_word}
+use Rattle.slot_encoding.specs.SourceParts.{source_word}
 use Rattle.slot_encoder.proofs.FoldedWords.{join-folded, own-folded}
 use Rattle.slot_encoder.proofs.Gained.{ok-of}
 use Rattle.slot_encoder.proofs.vocabulary.put_prefixed.Goals as goal

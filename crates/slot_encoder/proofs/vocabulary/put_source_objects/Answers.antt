@@ -1,5 +1,5 @@
 use Rattle.plan_model.specs.declared.types.Object.{Object}
-use Rattle.encoded_words.specs.EncodedWords.{own_word}
+use Rattle.slot_encoding.specs.EncodedWords.{own_word}
 use Rattle.slot_encoder.proofs.Gained.{gains-none, gains-next_word, gains-all_words}
 use Rattle.slot_encoder.proofs.vocabulary.put_source_objects.Goals as goal
 

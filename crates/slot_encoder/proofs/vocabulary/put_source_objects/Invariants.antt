@@ -1,6 +1,6 @@
 use Rattle.std.proofs.Common.{map, take}
 use Rattle.plan_model.specs.declared.types.Object.{Object}
-use Rattle.encoded_words.specs.EncodedWords.{own_word}
+use Rattle.slot_encoding.specs.EncodedWords.{own_word}
 use Rattle.slot_encoder.specs.Vocabulary.{Gains}
 use Rattle.slot_encoder.proofs.vocabulary.put_source_objects.Given as goal
 

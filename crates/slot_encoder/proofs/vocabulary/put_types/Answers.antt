@@ -1,5 +1,5 @@
 use Rattle.std.proofs.Common.{ℕ, List, [], ◌∷◌, ◌++◌, map, codes, ap}
-use Rattle.encoded_words.specs.EncodedWords.{own_word, type_words}
+use Rattle.slot_encoding.specs.EncodedWords.{own_word, type_words}
 use Rattle.slot_encoder.proofs.AllWords.{known-types}
 use Rattle.slot_encoder.proofs.Gained.{gains-join, ok-of, ok-join, ok-other}
 use Rattle.slot_encoder.proofs.vocabulary.put_types.Goals as goal

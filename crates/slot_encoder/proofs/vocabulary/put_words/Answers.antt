@@ -1,8 +1,8 @@
 use Rattle.std.proofs.Common.{◌++◌, map, ap}
-use Rattle.plan_meaning.specs.EncodedNames.{joined}
+use Rattle.slot_encoding.specs.EncodedNames.{joined}
 use Rattle.plan_model.specs.declared.schemas.ActionSchema.{ActionSchema}
 use Rattle.std.proofs.Common.{List}
-use Rattle.encoded_words.specs.EncodedWords.{method_words, encoded_words}
+use Rattle.slot_encoding.specs.EncodedWords.{method_words, encoded_words}
 use Rattle.slot_encoder.specs.Vocabulary.{words_of_action}
 use Rattle.slot_encoder.proofs.AllWords.{up_to_predicates, action_group, goal_words, known-all}
 use Rattle.slot_encoder.proofs.Gained.{gains-of, gains-join, ok-join, ok-other}

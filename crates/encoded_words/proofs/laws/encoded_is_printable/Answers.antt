@@ -1,5 +1,0 @@
-use Rattle.encoded_words.proofs.EncodedIsPrintable.{encoded_printable}
-use Rattle.encoded_words.proofs.laws.encoded_is_printable.Goals as goal
-
-pub returns : goal.returns
-returns c = encoded_printable c.args.problem.now c.args.checks.now c.args.compiled.now c.args.slots c.args.style.now c.args.value.now c.requires.sound c.requires.compiled c.requires.encoded c.requires.words c.requires.numberable

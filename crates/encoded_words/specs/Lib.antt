@@ -1,3 +1,0 @@
-pub mod EncodedWords
-pub mod Numberable
-pub mod WordsDiffer

@@ -1,5 +1,0 @@
-use Rattle.every_value.proofs.Headlines.{headline_of}
-use Rattle.every_value.proofs.laws.headline.Goals as goal
-
-pub returns : goal.returns
-returns c = headline_of c.args.domain.now c.args.problem.now c.args.read.now c.args.checks.now c.args.compiled.now c.args.slots c.args.style.now c.args.value.now c.requires.spelled c.requires.printed c.requires.ordered

@@ -1,5 +1,0 @@
-use Rattle.every_value.proofs.Headlines.{same_but_names}
-use Rattle.every_value.proofs.laws.values_are_same_but_names.Goals as goal
-
-pub returns : goal.returns
-returns c = same_but_names c.args.domain.now c.args.problem.now c.args.one.now c.args.other.now c.requires.first c.requires.second c.requires.sound

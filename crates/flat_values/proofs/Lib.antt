@@ -1,8 +1,0 @@
-pub mod PartLists
-pub mod OtherParts
-pub mod OrderParts
-pub mod Works
-pub mod Methods
-pub mod Values
--- Why the condition is there.
-mod WithoutHeir

@@ -1,0 +1,5 @@
+pub mod texts
+pub mod examples
+pub mod machine
+pub mod values
+pub mod rows

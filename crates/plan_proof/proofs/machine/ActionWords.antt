@@ -1,0 +1,88 @@
+-- The words of the printed actions, and the parameters of each: slots, and then those of the source.
+use Rattle.std.proofs.Common.{ℕ, zero, suc, ◌≡◌, true, List, [], ◌∷◌, ◌++◌, map, length, slice_get, Some, refl, ap, sym, subst, ◌∙◌, arith}
+use Rattle.std.specs.Prelude.{codes, decimal}
+use Rattle.std.proofs.lemmas.List.{length-map}
+use Rattle.plan_model.specs.declared.options.Style.{Style}
+use Rattle.plan_model.specs.declared.options.Checks.{Checks}
+use Rattle.plan_model.specs.declared.terms.Param.{Param}
+use Rattle.plan_model.specs.declared.schemas.ActionSchema.{ActionSchema}
+use Rattle.plan_model.specs.declared.schemas.MethodPlan.{MethodPlan}
+use Rattle.plan_model.specs.declared.values.Hddl.{Hddl}
+use Rattle.plan_model.specs.declared.values.Compiled.{Compiled}
+use Rattle.plan_model.specs.declared.values.Pddl.{Pddl}
+use Rattle.task_networks.specs.Spelling.{numbers}
+use Rattle.task_networks.proofs.Numbers.{length-numbers}
+use Rattle.text_forms.specs.Words.{Word, is_name}
+use Rattle.plan_texts.specs.Declared.{named}
+use Rattle.plan_texts.specs.Types.{EachIs}
+use Rattle.plan_texts.specs.Printable.{IsPlain}
+use Rattle.slot_encoding.proofs.places.Places.{get-word, each-at-some}
+use Rattle.plan_meaning.specs.SpelledPlan.{action_by, method_by, method_name, work_name}
+use Rattle.plan_meaning.specs.Network.{action, check}
+use Rattle.slot_encoding.specs.SourceParts.{name}
+use Rattle.slot_encoding.specs.EncodedNames.{slot_type, slot_param}
+use Rattle.slot_encoding.specs.EncodedActions.{spare, encoded_method, encoded_check, encoded_action, method_word}
+use Rattle.slot_encoding.specs.EncodedValue.{encoded_actions}
+use Rattle.slot_encoding.specs.Printed.{IsPrinted}
+use Rattle.slot_encoding.proofs.places.ListPlaces.{get_to_map}
+use Rattle.plan_proof.proofs.machine.ObjectWords.{name_word, same_get}
+
+module _ (h : Hddl) (mode : Checks) (c : Compiled) (b : ℕ) (style : Style) (p : Pddl) (is : IsPrinted h mode c b style p) where
+  abbrev words : List Word
+  words = map (λ (a : ActionSchema). named p.names a.name) p.actions
+
+  -- an action at a place, with its word
+  pub record IsNamed (k : ℕ) (a : ActionSchema) (w : Word) : Type 0 where
+    pub at : slice_get p.actions k ≡ Some a
+    pub word : slice_get p.names a.name.number ≡ Some w
+
+  there : (k : ℕ) (a : ActionSchema) (w : Word) → IsNamed k a w → slice_get words k ≡ Some w
+  there k a w n = get_to_map (λ (a : ActionSchema). named p.names a.name) p.actions k a n.at ∙ ap Some (get-word p.names a.name.number w n.word)
+
+  -- actions of one word are one
+  pub same_action : (j k : ℕ) (a d : ActionSchema) (w : Word) → IsNamed j a w → IsNamed k d w → (j ≡ k) × (a ≡ d)
+  same_action j k a d w m n =
+      let e = same_get words j k w is.printable.actions_differ (there j a w m) (there k d w n) in
+      let f : slice_get p.actions k ≡ Some a = subst (λ z. slice_get p.actions z ≡ Some a) e m.at in
+      let g = n.at in
+      (e, cc)
+
+  named_at : (k : ℕ) (a : ActionSchema) (w : Word) → slice_get (encoded_actions c p.names b style) k ≡ Some a → a.name ≡ name p.names w → IsNamed k a w
+  named_at k a w e f =
+      let g : slice_get p.actions k ≡ Some a = ap (λ z. slice_get z k) is.encoded.actions ∙ e in
+      let plain : IsPlain (named p.names a.name) = each-at-some IsPlain words k (named p.names a.name) is.printable.actions_named (get_to_map (λ (a : ActionSchema). named p.names a.name) p.actions k a g) in
+      record { at = g; word = subst (λ z. slice_get p.names z.number ≡ Some w) (sym f) (name_word p.names w (subst (λ z. is_name (named p.names z) ≡ true) f plain.1)) }
+
+  -- the words of the three kinds
+  method_words : (m : ℕ) (plan : MethodPlan) → slice_get c.methods m ≡ Some plan → method_word c p.names b style m plan m ≡ method_name c m
+  method_words zero plan e = refl
+  method_words (suc m) plan e = ap (λ z. codes "htn_m_" ++ method_by c z) (sym e)
+
+  pub method_named : (m k : ℕ) (plan : MethodPlan) → slice_get c.methods m ≡ Some plan → slice_get (encoded_actions c p.names b style) k ≡ Some (encoded_method c p.names b style m plan)
+      → IsNamed k (encoded_method c p.names b style m plan) (method_name c m)
+  method_named m k plan e f = named_at k (encoded_method c p.names b style m plan) (method_name c m) f (ap (name p.names) (method_words m plan e))
+
+  pub check_named : (m k : ℕ) (plan : MethodPlan) (values : List ℕ) → slice_get c.methods m ≡ Some plan → slice_get (encoded_actions c p.names b style) k ≡ Some (encoded_check c p.names b style m plan)
+      → IsNamed k (encoded_check c p.names b style m plan) (work_name c (check m values))
+  check_named m k plan values e f = named_at k (encoded_check c p.names b style m plan) (work_name c (check m values)) f (ap (λ z. name p.names (codes "htn_c_" ++ method_by c z)) (sym e))
+
+  pub action_named : (n k : ℕ) (s : ActionSchema) (args : List ℕ) → slice_get c.hddl.actions n ≡ Some s → slice_get (encoded_actions c p.names b style) k ≡ Some (encoded_action c p.names b style n s)
+      → IsNamed k (encoded_action c p.names b style n s) (work_name c (action n args))
+  action_named n k s args e f = named_at k (encoded_action c p.names b style n s) (work_name c (action n args)) f (ap (λ z. name p.names (action_by c z)) (sym e))
+
+  -- the slots of a method's parameters
+  abbrev pub method_slots : ℕ → MethodPlan → List Param
+  method_slots m plan = slot_param c p.names b (codes "htn_h") ∷ map (λ k. slot_param c p.names b (codes "htn_h" ++ decimal k)) (numbers 1 (spare c p.names b style m plan))
+
+  pub length-slots : (m : ℕ) (plan : MethodPlan) → length (method_slots m plan) ≡ suc (spare c p.names b style m plan)
+  length-slots m plan = omega (arith, length-map (numbers 1 (spare c p.names b style m plan)) (λ k. slot_param c p.names b (codes "htn_h" ++ decimal k)), length-numbers 1 (spare c p.names b style m plan))
+
+  pub are_slots : (m : ℕ) (plan : MethodPlan) → EachIs (λ (x : Param). x.ty ≡ slot_type) (method_slots m plan)
+  are_slots m plan = (refl, each (numbers 1 (spare c p.names b style m plan)))
+    where
+      each : (ks : List ℕ) → EachIs (λ (x : Param). x.ty ≡ slot_type) (map (λ k. slot_param c p.names b (codes "htn_h" ++ decimal k)) ks)
+      each [] = tt
+      each (k ∷ ks) = (refl, each ks)
+
+  pub work_slots : EachIs (λ (x : Param). x.ty ≡ slot_type) (slot_param c p.names b (codes "htn_h") ∷ [])
+  work_slots = (refl, tt)

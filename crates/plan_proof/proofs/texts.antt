@@ -1,0 +1,6 @@
+pub mod Truths
+pub mod Changes
+pub mod SpelledSound
+pub mod TypeWords
+pub mod SamePlans
+pub mod PrintedPlans

@@ -1,0 +1,10 @@
+pub mod Pairing
+pub mod TypeNumbers
+pub mod SaidFormulas
+pub mod SaidEffects
+pub mod SameSound
+pub mod SameTypes
+pub mod SamePlans
+pub mod SameActions
+pub mod SameValue
+pub mod Headlines

@@ -1,0 +1,128 @@
+-- All values of two source texts are the same but for names, so that what is printed for one is printed for each.
+use Rattle.std.proofs.Common.{ℕ, ◌≡◌, ◌<◌, List, [], ◌∷◌, map, length, ap, sym, subst, ◌∙◌}
+use Rattle.text_forms.specs.Words.{Word, word_at}
+use Rattle.plan_texts.specs.Declared.{named}
+use Rattle.plan_texts.specs.Types.{EachIs, AreDifferent}
+use Rattle.plan_texts.specs.SpellsHddl.{hddl_types, hddl_words}
+use Rattle.plan_texts.specs.Printable.{IsPlain}
+use Rattle.plan_texts.specs.SoundValue.{IsSoundHddl}
+use Rattle.plan_texts.specs.FirstSeen.{IsHddlOf}
+use Rattle.plan_texts.specs.PrintedTexts.{domain_text, problem_text}
+use Rattle.plan_texts.specs.Alike.{child_said, method_said}
+use Rattle.plan_texts.proofs.Members.{length-map, each-has, contains-has}
+use Rattle.plan_texts.proofs.Places.{each-at}
+use Rattle.plan_texts.proofs.OneOrder.{one-order}
+use Rattle.plan_texts.proofs.UniqueHddl.{hddl_alike}
+use Rattle.plan_model.specs.declared.options.Checks.{Checks}
+use Rattle.plan_model.specs.declared.options.Style.{Style}
+use Rattle.plan_model.specs.declared.schemas.MethodSchema.{MethodSchema}
+use Rattle.plan_model.specs.declared.values.Compiled.{Compiled}
+use Rattle.plan_model.specs.declared.values.Hddl.{Hddl}
+use Rattle.plan_model.specs.declared.values.Pddl.{Pddl}
+use Rattle.task_networks.specs.Order.{ArePairsOf, IsAcyclic}
+use Rattle.plan_meaning.specs.Compilation.{Pairs, AreMethodPlans, IsCompiled}
+use Rattle.plan_meaning.specs.Laws.{AreOrdered}
+use Rattle.plan_proof.specs.Headline.{Headline, HeadlineAtBound}
+use Rattle.slot_encoding.specs.Printed.{IsPrinted}
+use Rattle.plan_proof.proofs.machine.Bounds.{loses_nothing}
+use Rattle.plan_proof.proofs.machine.PrintedMeans.{printed_faithful, faithful_texts}
+use Rattle.plan_proof.specs.Same.{AreSameButNames}
+use Rattle.plan_proof.proofs.values.Pairing.{Both, maps-length, both-of_maps, both-each, contains-each}
+use Rattle.plan_proof.proofs.values.TypeNumbers.{AreApart, word-within, word-once, unions-apart, plain-some}
+use Rattle.plan_proof.proofs.values.SameSound.{sound_too}
+use Rattle.plan_proof.proofs.values.SamePlans.{plans-both}
+use Rattle.plan_proof.proofs.values.SameValue.{encoded_too}
+
+-- numbers of words that differ, by the words
+module _ (types : List Word) (plain : EachIs IsPlain types) (differ : AreDifferent types) where
+  numbers-same : (ss ts : List ℕ) → map (word_at types) ss ≡ map (word_at types) ts → EachIs (λ t. t < length types) ts → ss ≡ ts
+  numbers-same [] [] e l = cc
+  numbers-same [] (t ∷ ts) e l = absurd (cc)
+  numbers-same (s ∷ ss) [] e l = absurd (cc)
+  numbers-same (s ∷ ss) (t ∷ ts) e l =
+      let f : word_at types s ≡ word_at types t = cc in
+      let p = each-at IsPlain types t plain l.0 in
+      let m : s < length types = word-within types s (λ g. plain-some _ p (sym f ∙ g)) in
+      let h = word-once types s t differ m l.0 f in
+      let r = numbers-same ss ts (cc) l.1 in
+      λ i. h i ∷ r i
+
+  lists-same : (ss ts : List (List ℕ)) → map (map (word_at types)) ss ≡ map (map (word_at types)) ts → EachIs (EachIs (λ t. t < length types)) ts → ss ≡ ts
+  lists-same [] [] e l = cc
+  lists-same [] (t ∷ ts) e l = absurd (cc)
+  lists-same (s ∷ ss) [] e l = absurd (cc)
+  lists-same (s ∷ ss) (t ∷ ts) e l = let h = numbers-same s t (cc) l.0 in let r = lists-same ss ts (cc) l.1 in λ i. h i ∷ r i
+
+-- the values of two texts, of which one is sound
+module _ (domain problem : List ℕ) (c d : Hddl) (hc : IsHddlOf domain problem c) (hd : IsHddlOf domain problem d) (sound : IsSoundHddl d) where
+  pub same_but_names : AreSameButNames c d
+  same_but_names =
+      let (types, parents, unions) = one-order c d domain problem hc hd in
+      let count = sym (length-map (named d.names) d.types.names) in
+      record {
+        alike = hddl_alike c d domain problem hc.spelled hd.spelled;
+        types = types;
+        parents = parents;
+        unions = lists-same (hddl_types d) sound.words.types sound.words.types_differ c.types.unions d.types.unions (ap (λ z. map (map (word_at z)) c.types.unions) (sym types) ∙ unions) (subst (λ n. EachIs (EachIs (λ t. t < n)) d.types.unions) count sound.unions);
+      }
+
+  unions_apart : AreApart (hddl_words d).unions
+  unions_apart = subst AreApart (sym hd.ordered.unions) (unions-apart [] _).1
+
+-- its networks are ordered where those of the other are
+abbrev IsOrdered : MethodSchema → Type 0
+IsOrdered s = ArePairsOf (Pairs s.pairs) (length s.children) × IsAcyclic (Pairs s.pairs)
+
+module _ (c d : Hddl) (same : AreSameButNames c d) where
+  abbrev IsSame : MethodSchema → MethodSchema → Type 0
+  IsSame s t = method_said (hddl_words c) s ≡ method_said (hddl_words d) t
+
+  all_same : Both IsSame (c.top ∷ c.methods) (d.top ∷ d.methods)
+  all_same = (same.alike.top, both-of_maps (method_said (hddl_words c)) (method_said (hddl_words d)) c.methods d.methods same.alike.methods)
+
+  ordered_too : AreOrdered d → AreOrdered c
+  ordered_too o = λ s h. each-has IsOrdered (c.top ∷ c.methods) s (both-each IsSame IsOrdered IsOrdered one (c.top ∷ c.methods) (d.top ∷ d.methods) all_same (contains-each IsOrdered (d.top ∷ d.methods) o)) (contains-has (c.top ∷ c.methods) s h)
+    where
+      one : (s t : MethodSchema) → IsSame s t → IsOrdered t → IsOrdered s
+      one s t e k =
+          let n = maps-length (child_said (hddl_words c)) (child_said (hddl_words d)) s.children t.children (ap (λ z. z.4.1) e) in
+          subst (λ (z : Type 0). z) (sym (λ i. ArePairsOf (Pairs (e i).4.2) (n i) × IsAcyclic (Pairs (e i).4.2))) k
+
+-- what is printed for the one is printed for the other, where no two unions have the same words
+module _ (h h' : Hddl) (mode : Checks) (c c' : Compiled) (b : ℕ) (style : Style) (p : Pddl) (same : AreSameButNames h' h) (apart : AreApart (hddl_words h).unions) (printed : IsPrinted h mode c b style p) (compiled' : IsCompiled h' mode c') where
+  pub printed_by : IsPrinted h' mode c' b style p
+  printed_by =
+      let e = sym printed.compiled.hddl in let e' = sym compiled'.hddl in
+      let s = subst (λ z. AreSameButNames z c.hddl) e' (subst (AreSameButNames h') e same) in
+      let a = subst (λ z. AreApart (hddl_words z).unions) e apart in
+      let sc = subst IsSoundHddl e printed.sound in
+      let sc' = sound_too c'.hddl c.hddl s sc in
+      let ps = subst (λ (z : Hddl). AreMethodPlans z mode (z.top ∷ z.methods) c.methods) e printed.compiled.methods in
+      let ps' = subst (λ (z : Hddl). AreMethodPlans z mode (z.top ∷ z.methods) c'.methods) e' compiled'.methods in
+      let plans = plans-both c'.hddl c.hddl s sc' sc a mode (c'.hddl.top ∷ c'.hddl.methods) (c.hddl.top ∷ c.hddl.methods) (all_same c'.hddl c.hddl s) (sc'.top, sc'.methods) (sc.top, sc.methods) c'.methods c.methods ps' ps in
+      record {
+        sound = sound_too h' h same printed.sound;
+        compiled = compiled';
+        printable = printed.printable;
+        encoded = encoded_too c' c s sc' sc a plans b style p printed.encoded;
+      }
+
+-- for two values of the same texts
+module _ (domain problem : List ℕ) (h h' : Hddl) (mode : Checks) (c c' : Compiled) (b : ℕ) (style : Style) (p : Pddl) (spelled : IsHddlOf domain problem h) (spelled' : IsHddlOf domain problem h') (printed : IsPrinted h mode c b style p) (compiled' : IsCompiled h' mode c') where
+  pub printed_too : IsPrinted h' mode c' b style p
+  printed_too =
+      printed_by h h' mode c c' b style p (same_but_names domain problem h' h spelled' spelled printed.sound) (unions_apart domain problem h' h spelled' spelled printed.sound) printed compiled'
+
+  pub ordered_here : AreOrdered h → AreOrdered h'
+  ordered_here = ordered_too h' h (same_but_names domain problem h' h spelled' spelled printed.sound)
+
+module _ (domain problem : List ℕ) (h : Hddl) (mode : Checks) (c : Compiled) (b : ℕ) (style : Style) (p : Pddl) (spelled : IsHddlOf domain problem h) (printed : IsPrinted h mode c b style p) (ordered : AreOrdered h) where
+  pub headline_of : Headline domain problem mode b (domain_text p) (problem_text p)
+  headline_of h' c' spelled' compiled' =
+      let q = printed_too domain problem h h' mode c c' b style p spelled spelled' printed compiled' in
+      let o = ordered_here domain problem h h' mode c c' b style p spelled spelled' printed compiled' ordered in
+      faithful_texts c' b p q.printable (printed_faithful h' mode c' b style p o q)
+
+  pub headline_at_bound_of : HeadlineAtBound domain problem mode b (domain_text p) (problem_text p)
+  headline_at_bound_of h' c' n spelled' compiled' tail bound enough =
+      loses_nothing h' mode c' compiled' n bound b (domain_text p) (problem_text p) enough (headline_of h' c' spelled' compiled')

@@ -1,0 +1,66 @@
+-- The headline: what a list of ground actions is to the printed texts, and what it is to the hierarchical problem.
+-- Source: this project's, after the translation of Alford et al., "Bound to Plan", ICAPS 2016.
+use Rattle.std.specs.Prelude.{ℕ, ◌≡◌, ◌≤◌, ◌↔◌, List}
+use Rattle.plan_model.specs.declared.options.Checks.{Checks}
+use Rattle.plan_model.specs.declared.steps.GroundAction.{GroundAction}
+use Rattle.plan_model.specs.declared.values.Hddl.{Hddl}
+use Rattle.plan_model.specs.declared.values.Compiled.{Compiled}
+use Rattle.plan_model.specs.declared.values.Pddl.{Pddl}
+use Rattle.task_networks.specs.Tree.{Tree, Address, IsAddress}
+use Rattle.task_networks.specs.Pending.{IsWithin}
+use Rattle.task_networks.specs.Front.{IsFront}
+use Rattle.plan_texts.specs.SpellsPddl.{SpellsPddl}
+use Rattle.plan_texts.specs.FirstSeen.{IsHddlOf}
+use Rattle.plan_meaning.specs.ClassicalPlan.{IsExecutable}
+use Rattle.plan_meaning.specs.Network.{network}
+use Rattle.plan_meaning.specs.Compilation.{IsCompiled}
+use Rattle.plan_meaning.specs.Solution.{top_work, IsExecutableFront, IsSolution}
+use Rattle.plan_meaning.specs.SpelledPlan.{IsSpelling}
+use Rattle.plan_meaning.specs.Strata.{IsTailRecursive}
+use Rattle.plan_meaning.specs.Bound.{IsBound}
+use Rattle.plan_proof.specs.TextPlans.{IsPlanOf}
+
+-- executable in a value that the two texts spell
+abbrev pub IsExecutableOf : List ℕ → List ℕ → List GroundAction → Type 0
+IsExecutableOf domain problem steps = (p : Pddl) × SpellsPddl domain problem p × IsExecutable p steps
+
+module _ (c : Compiled) (b : ℕ) where
+  -- the list spells, with b slots, an executable front
+  abbrev pub SpellsExecutableFront : List GroundAction → Type 0
+  SpellsExecutableFront steps = (tree : Tree (network c)) × (order : List Address) × (slot : Address → ℕ) × IsSpelling c b steps tree order slot × IsExecutableFront c tree order
+
+  -- the list spells, with b slots, a schedule of a solution tree
+  abbrev pub SpellsSolution : List GroundAction → Type 0
+  SpellsSolution steps = (tree : Tree (network c)) × (order : List Address) × (slot : Address → ℕ) × IsSpelling c b steps tree order slot × IsSolution c tree order
+
+  -- two spellings of one list: the same tree, the same schedule, and the same slot for each node
+  abbrev pub SpellsOne : List GroundAction → Type 0
+  SpellsOne steps = (tree tree' : Tree (network c)) (order order' : List Address) (slot slot' : Address → ℕ)
+      → IsSpelling c b steps tree order slot → IsSpelling c b steps tree' order' slot'
+      → (tree' ≡ tree) × (order' ≡ order) × ((p : Address) → IsAddress (network c) tree p → slot' p ≡ slot p)
+
+  -- what two printed texts are to the compiled problem
+  pub record IsFaithful (domain problem : List ℕ) : Type 0 where
+    pub executable : (steps : List GroundAction) → IsExecutableOf domain problem steps ↔ SpellsExecutableFront steps
+    pub plans : (steps : List GroundAction) → IsPlanOf domain problem steps ↔ SpellsSolution steps
+    pub only_one : (steps : List GroundAction) → SpellsOne steps
+    -- never more than b tasks are pending in what is spelled, and each schedule of which that is true is spelled
+    pub within : (steps : List GroundAction) (tree : Tree (network c)) (order : List Address) (slot : Address → ℕ) → IsSpelling c b steps tree order slot → IsWithin (network c) b tree order
+    pub spelled : (tree : Tree (network c)) (order : List Address) → IsFront (network c) (top_work c) tree order → IsWithin (network c) b tree order
+        → (steps : List GroundAction) × (slot : Address → ℕ) × IsSpelling c b steps tree order slot
+
+  -- no schedule of any solution is lost
+  abbrev pub LosesNothing : List ℕ → List ℕ → Type 0
+  LosesNothing domain problem = (tree : Tree (network c)) (order : List Address) → IsSolution c tree order
+      → (steps : List GroundAction) × (slot : Address → ℕ) × IsSpelling c b steps tree order slot × IsPlanOf domain problem steps
+
+-- for each problem that the two HDDL texts spell: a list is a plan of the two printed PDDL texts exactly where it spells a schedule of a
+-- solution tree with never more than b tasks pending
+abbrev pub Headline : (source_domain source_problem : List ℕ) (checks : Checks) (b : ℕ) (domain problem : List ℕ) → Type 0
+Headline source_domain source_problem checks b domain problem = (h : Hddl) (c : Compiled)
+    → IsHddlOf source_domain source_problem h → IsCompiled h checks c → IsFaithful c b domain problem
+
+-- and at or above the bound of a tail-recursive problem no schedule of any solution is lost
+abbrev pub HeadlineAtBound : (source_domain source_problem : List ℕ) (checks : Checks) (b : ℕ) (domain problem : List ℕ) → Type 0
+HeadlineAtBound source_domain source_problem checks b domain problem = (h : Hddl) (c : Compiled) (n : ℕ)
+    → IsHddlOf source_domain source_problem h → IsCompiled h checks c → IsTailRecursive c → IsBound c n → n ≤ b → LosesNothing c b domain problem

@@ -1,0 +1,2 @@
+-- Why the condition is there.
+mod WithoutHeir

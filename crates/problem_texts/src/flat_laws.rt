@@ -1,0 +1,25 @@
+//! How the two styles belong together, as the contract of a function that does nothing.
+//!
+//! `compiled` is compiled of `read`, in either mode of preconditions, so a method with children has its heir among them, and no child's slot
+//! has the number of the variable that ranges over all slots. `slots` is the number of slots, whatever it is.
+
+ghost use Rattle.plan_model.specs.declared.options.Style.TheVariants.{Adl, Flat};
+ghost use Rattle.plan_meaning.specs.Compilation.{IsCompiled};
+ghost use Rattle.slot_encoding.specs.EncodedValue.{IsEncoded};
+ghost use Rattle.pddl_printer.specs.WrittenOut.{written_out};
+ghost use Rattle.problem_texts.specs.Slots.{slots_of};
+
+use plan_model::{Checks, Compiled, Hddl, Pddl};
+
+/// The printed problem in style flat is the one in style adl with the quantifiers over slots written out.
+pub fn flat_is_written_out(
+    read: &Hddl,
+    checks: &Checks,
+    compiled: &Compiled,
+    slots: u32,
+    value: &Pddl,
+)
+    requires compiled { IsCompiled read.now checks.now compiled.now }
+    requires encoded { IsEncoded compiled.now slots Adl value.now }
+    ensures { IsEncoded compiled.now slots Flat (written_out (slots_of compiled.now slots) value.now) }
+{}

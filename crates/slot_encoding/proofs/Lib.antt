@@ -1,0 +1,6 @@
+pub mod Pieces
+pub mod OrderParts
+pub mod examples
+pub mod places
+pub mod words
+pub mod existence

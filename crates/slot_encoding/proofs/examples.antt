@@ -1,0 +1,3 @@
+pub mod EncodedSmallest
+pub mod SmallestPlan
+pub mod EncodedGuard

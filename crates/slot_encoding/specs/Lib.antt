@@ -1,0 +1,11 @@
+pub mod SourceParts
+pub mod OrderFormulas
+pub mod OrderMeaning
+pub mod EncodedNames
+pub mod EncodedActions
+pub mod EncodedValue
+pub mod Printed
+pub mod EncodedWords
+pub mod Numberable
+pub mod WordsDiffer
+pub mod Existence

@@ -1,0 +1,2 @@
+mod TwoBranches
+mod BrokenMachines

@@ -1,5 +1,0 @@
-use Rattle.slot_plans.proofs.PrintedMeans.{printed_faithful}
-use Rattle.slot_plans.proofs.laws.value_is_faithful.Goals as goal
-
-pub returns : goal.returns
-returns c = printed_faithful c.args.problem.now c.args.checks.now c.args.compiled.now c.args.slots c.args.style.now c.args.value.now c.requires.ordered c.requires.printed

@@ -1,0 +1,5 @@
+pub mod Nets
+mod Orders
+mod Schedules
+mod Spellings
+mod Bounds

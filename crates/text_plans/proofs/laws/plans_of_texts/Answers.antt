@@ -1,8 +1,0 @@
-use Rattle.text_plans.proofs.SamePlans.{spelled-plans}
-use Rattle.text_plans.proofs.laws.plans_of_texts.Goals as goal
-
-pub returns : goal.returns
-returns c = λ steps. (
-  λ e. (spelled-plans e.0 c.args.value.now c.args.domain.now c.args.problem.now e.1 c.requires steps).0 e.2,
-  λ e. (c.args.value.now, c.requires, e),
-)

@@ -1,3 +1,0 @@
-pub mod SoundWords
-pub mod TextPlans
-pub mod Headline
