@@ -1,6 +1,6 @@
 -- What was read, once bound, is spelled by the parts from which it was read.
 use Rattle.std.proofs.Common.{◌≡◌, Ok, Result, List, [], sym, subst}
-use Rattle.text_forms.specs.Forms.{Form}
+use Rattle.gd_reader.specs.Forms.{Form}
 use Rattle.text_forms.specs.Placed.{Placed, cut, close, word, list, parts_of}
 use Rattle.plan_texts.specs.Formulas.{IsParam, IsFormula, IsEffect}
 use Rattle.plan_texts.specs.Schemas.{IsObject}

@@ -1,6 +1,6 @@
 -- A form that spells an effect is whole.
 use Rattle.std.proofs.Common.{ℕ, ◌≡◌, inl, inr, List, [], ◌∷◌, ◌++◌, map, codes, refl, sym, subst}
-use Rattle.text_forms.specs.Forms.{Form, wrong}
+use Rattle.gd_reader.specs.Forms.{Form, wrong}
 use Rattle.text_forms.specs.Lists.{Part, Parts, name, group, nothing, part}
 use Rattle.text_forms.specs.Placed.{Placed, cut, close, word, list, parts_of, IsWhole}
 use Rattle.text_forms.specs.Words.{Word}

@@ -1,7 +1,7 @@
 -- A whole typed list spells values, where all its words are declared.
 use Rattle.std.proofs.Common.{◌≡◌, ◌⊎◌, inl, inr, Bool, true, false, List, [], ◌∷◌, map, codes, Option, Some, None, refl, sym, subst, ◌∙◌}
 use Rattle.htn_base.specs.Table.{with_word}
-use Rattle.text_forms.specs.Forms.{Form, ◌followed_by◌}
+use Rattle.gd_reader.specs.Forms.{Form, ◌followed_by◌}
 use Rattle.text_forms.specs.Lists.{Part, Parts, name, group, part}
 use Rattle.text_forms.specs.Placed.{Placed, cut, close, word, list, parts_of, IsWhole}
 use Rattle.text_forms.specs.Words.{Word, is_name}

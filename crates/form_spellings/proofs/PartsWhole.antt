@@ -4,7 +4,7 @@ use Rattle.text_forms.specs.Lists.{Part, Parts, name, group, nothing, part}
 use Rattle.text_forms.specs.Placed.{Placed, cut, close, word, list, parts_of, IsWhole}
 use Rattle.text_forms.specs.Printing.{headed}
 use Rattle.text_forms.specs.Words.{Word}
-use Rattle.text_forms.specs.Forms.{Form}
+use Rattle.gd_reader.specs.Forms.{Form}
 use Rattle.plan_texts.specs.Declared.{Declared}
 use Rattle.plan_texts.specs.Formulas.{IsTerm, IsApplied}
 use Rattle.plan_texts.specs.TypedLists.{Each}

@@ -2,7 +2,7 @@
 use Rattle.std.proofs.Common.{◌≡◌, ℕ, suc, ◌<◌, ◌≤◌, ◌⊎◌, inl, inr, ⊎_elim, Bool, true, false, nat_lt, if◌then◌else◌, Ok, Err, Result, refl, sym, ◌∙◌, ap, subst, arith, rules}
 use Rattle.std.proofs.str.Laws.{order}
 use borrow.Author.Tests.{ltb-true, ltb-false}
-use Rattle.text_forms.specs.Forms.{Form, ◌followed_by◌}
+use Rattle.gd_reader.specs.Forms.{Form, ◌followed_by◌}
 use Rattle.text_forms.specs.Fronts.{cut_before}
 use Rattle.text_forms.specs.Placed.{Placed, cut, close, word, list, IsWhole}
 use Rattle.text_forms.specs.Words.{Word}

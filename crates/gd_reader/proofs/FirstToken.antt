@@ -1,6 +1,6 @@
 -- What is answered of the form at a token, by exact reading.
 use Rattle.std.proofs.Common.{◌≡◌, ℕ, suc, ⊎_elim, Ok, Err, Result, List, refl, sym, ◌∙◌, ap, subst, arith}
-use Rattle.text_forms.specs.Forms.{Form}
+use Rattle.gd_reader.specs.Forms.{Form}
 use Rattle.text_forms.specs.Fronts.{cut_before}
 use Rattle.text_forms.specs.Placed.{Placed, parts_at}
 use Rattle.text_forms.proofs.Fronts.{parts_before, rises_at}

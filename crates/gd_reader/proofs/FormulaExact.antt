@@ -1,6 +1,6 @@
 -- Formulas are read exactly.
 use Rattle.std.proofs.Common.{◌≡◌, ℕ, Ok, Err, Result, [], ◌∷◌, refl, sym, ◌∙◌, ap, subst}
-use Rattle.text_forms.specs.Forms.{Form, wrong}
+use Rattle.gd_reader.specs.Forms.{Form, wrong}
 use Rattle.text_forms.specs.Placed.{Placed, cut, close, word, list}
 use Rattle.text_forms.specs.Words.{Word}
 use Rattle.gd_reader.specs.declared.formulas.RawFormula.{RawFormula}

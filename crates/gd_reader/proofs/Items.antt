@@ -11,20 +11,10 @@ use Rattle.text_forms.specs.Laws.{ShowsToken, ShowsBy}
 use Rattle.text_forms.specs.Placed.{cut, close, word as placed_word, level, IsWhole, parts_at}
 use Rattle.text_forms.specs.Tokens.{Kind, Token, tokens, token_count, lexeme, lexemes}
 use Rattle.text_forms.specs.Tokens as kinds
-use Rattle.text_forms.proofs.Shown.{shown, drop_get}
+use Rattle.text_forms.proofs.Shown.{shown, drop_get, closes_get}
 use Rattle.gd_reader.specs.declared.cursor.Item.TheVariants as items
 use Rattle.gd_reader.specs.Shown.{IsList, Shows}
 use Rattle.gd_reader.proofs.Passing.{whole_levels}
-
-closes_get : (ps : List Token) (j i : ℕ) (p : Token) → slice_get ps i ≡ Some p → flattened (slice_get (closings j ps) i) ≡ close_of p.kind (j + i) (drop (suc i) ps)
-closes_get [] j i p e = cc
-closes_get (q ∷ ps) j zero p e =
-    let same : q ≡ p = cc in
-    let at : j ≡ j + 0 = omega arith in
-    (λ k. close_of (same k).kind (at k) ps)
-closes_get (q ∷ ps) j (suc i) p e =
-    let at : j + 1 + i ≡ j + suc i = omega arith in
-    closes_get ps (j + 1) i p e ∙ ap (λ n. close_of p.kind n (drop (suc i) ps)) at
 
 closes_none : (ps : List Token) (j i : ℕ) → slice_get ps i ≡ None → flattened (slice_get (closings j ps) i) ≡ None
 closes_none [] j i e = refl

@@ -2,7 +2,7 @@
 use Rattle.std.proofs.Common.{◌≡◌, ℕ, Bool, true, false, not, ◌&&◌, if◌then◌else◌, Ok, Err, Result, List, [], ◌∷◌, drop, refl, sym, ap, subst}
 use Rattle.htn_base.specs.Table.{with_word}
 use Rattle.htn_base.specs.Words.{is_reserved}
-use Rattle.text_forms.specs.Forms.{◌followed_by◌}
+use Rattle.gd_reader.specs.Forms.{◌followed_by◌}
 use Rattle.text_forms.specs.Placed.{Placed, cut, close, word, list}
 use Rattle.text_forms.specs.Words.{Word, is_among}
 use Rattle.gd_reader.specs.declared.stop.Stop.{Stop}

@@ -1,7 +1,7 @@
 -- Formulas and effects, line by line: what is a whole one, and what begins one.
 -- Source: appendix A (grammar) of Fox and Long, "PDDL2.1", JAIR 20, 2003, level 1.
 use Rattle.std.specs.Prelude.{[]}
-use Rattle.text_forms.specs.Forms.{Form, complete, unfinished, wrong, ◌followed_by◌}
+use Rattle.gd_reader.specs.Forms.{Form, complete, unfinished, wrong, ◌followed_by◌}
 use Rattle.text_forms.specs.Placed.{Placed, cut, close, word, list}
 use Rattle.gd_reader.specs.declared.typed_lists.ListKind.TheVariants.{Parameters}
 use Rattle.gd_reader.specs.declared.words.Head.TheVariants as head

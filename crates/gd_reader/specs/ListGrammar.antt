@@ -3,7 +3,7 @@
 use Rattle.std.specs.Prelude.{Bool, true, false, not, ◌&&◌, if◌then◌else◌, List, drop}
 use Rattle.htn_base.specs.Table.{with_word}
 use Rattle.htn_base.specs.Words.{is_reserved}
-use Rattle.text_forms.specs.Forms.{Form, complete, unfinished, wrong, ◌followed_by◌}
+use Rattle.gd_reader.specs.Forms.{Form, complete, unfinished, wrong, ◌followed_by◌}
 use Rattle.text_forms.specs.Placed.{Placed, cut, close, word, list}
 use Rattle.text_forms.specs.Words.{Word, is_among}
 use Rattle.gd_reader.specs.declared.typed_lists.ListKind.{ListKind}

@@ -3,7 +3,7 @@ use Rattle.std.specs.Prelude.{◌≡◌, ℕ, suc, List, drop, Result, Ok, Err}
 use Rattle.htn_base.specs.declared.fault.Fault.{Fault}
 use Rattle.sexpr_text.specs.declared.read_error.ReadError.{ReadError}
 use Rattle.sexpr_text.specs.declared.read_error.ReadError.TheVariants as errors
-use Rattle.text_forms.specs.Forms.{Form}
+use Rattle.gd_reader.specs.Forms.{Form}
 use Rattle.text_forms.specs.Fronts.{before}
 use Rattle.text_forms.specs.Placed.{Placed, level, parts_at, IsWhole}
 use Rattle.text_forms.specs.Tokens.{lexemes}

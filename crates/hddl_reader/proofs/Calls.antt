@@ -15,7 +15,7 @@ use Rattle.plan_texts.specs.Declared.{Declared}
 use Rattle.plan_texts.specs.TypedLists.{Each}
 use Rattle.plan_texts.specs.Types.{EachIs, Has, AreDifferent}
 use Rattle.plan_texts.specs.Sections.{bundle, bundle_by}
-use Rattle.plan_texts.specs.Networks.{head_of, IsCall, IsSubtask, IsNetwork, IsHeadOf, IsMethod, IsTop}
+use Rattle.plan_texts.specs.Networks.{head_of, id_words, IsCall, IsSubtask, IsNetwork, IsHeadOf, IsMethod, IsTop}
 use Rattle.plan_texts.proofs.Basics.{bytes_eq-other, no_keyword'}
 use Rattle.plan_texts.proofs.Members.{each-has, has-at}
 use Rattle.plan_texts.proofs.Places.{first-different}
@@ -102,21 +102,17 @@ module _ (tasks actions names : List Word) (front : Extends (tasks ++ actions) n
             tt,
           )
 
-      pub network-spelled : (o : Option ℕ) (h : Option Head) → IsSubtaskOf say names count calls o h → IsNetwork v tasks actions [] (children_of h) [] [] (subtask_parts say o)
+      pub network-spelled : (o : Option ℕ) (h : Option Head) → IsSubtaskOf say names count calls o h → IsNetwork v tasks actions [] (id_words v (children_of h)) (children_of h) [] [] (subtask_parts say o)
       network-spelled o h c = record {
         children_spelled = subtask-spelled [] o h c;
-        written = [];
-        pairs_are = refl;
-        pairs_spelled = tt;
+        ordered = record { written = []; pairs_are = refl; pairs_spelled = tt };
         constraints_spelled = tt;
       }
 
-      pub method-network : (w : WrittenMethod) (h : Option Head) → IsSubtaskOf say names count calls w.subtask h → IsNetwork v tasks actions [] (children_of h) [] [] (method_entries say w)
+      pub method-network : (w : WrittenMethod) (h : Option Head) → IsSubtaskOf say names count calls w.subtask h → IsNetwork v tasks actions [] (id_words v (children_of h)) (children_of h) [] [] (method_entries say w)
       method-network w h c = record {
         children_spelled = subtask-spelled [] w.subtask h c;
-        written = [];
-        pairs_are = refl;
-        pairs_spelled = tt;
+        ordered = record { written = []; pairs_are = refl; pairs_spelled = tt };
         constraints_spelled = tt;
       }
 

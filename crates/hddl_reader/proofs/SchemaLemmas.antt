@@ -91,10 +91,10 @@ module _ (say : ℕ → Word) (ws : List Word) where
     action-later i a h = (h.0, h.1, named-later h.0 i h.2)
 
 module _ (say : ℕ → Word) (v : Declared) (tasks actions : List Word) where
-  pub task-spelled : (i : ℕ) (t : TaskSchema) → IsTaskOf say v.names i t → IsTask v tasks actions t (task_part say i)
+  pub task-spelled : (i : ℕ) (t : TaskSchema) → IsTaskOf say v.names i t → IsTask v t (task_part say i)
   task-spelled i t h =
       let e = word-said v.names h.0 (say i) h.2.says in
-      subst (λ u. IsTask v tasks actions u (task_part say i)) (sym h.1) (record {
+      subst (λ u. IsTask v u (task_part say i)) (sym h.1) (record {
         entries = without_parameters say nothing;
         is = ap (λ w. headed (codes ":task") (part (name w) (without_parameters say nothing))) (sym e);
         named = named-name say v.names h.0 i h.2;

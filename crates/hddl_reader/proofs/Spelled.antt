@@ -77,38 +77,46 @@ module _ (sd sp : ℕ → Word) (d : WrittenDomain) (p : WrittenProblem) (names 
 
   sections : AreHddlSections h ds ps
   sections = record {
-    domain_form = domain-form sd d.sections;
-    problem_form = refl;
-    domain_requires = ap (λ o. are_words (parts_in o)) (no-section sd (codes ":requirements") refl refl refl d.sections);
-    problem_requires = refl;
-    of_domain = (sp p.domain, refl, are_titles.of_domain.1);
-    types = subst (λ ws. AreTypes ws [] (parts_in (section (codes ":types") ds))) (sym one-type) (subst (λ o. AreTypes (codes "object" ∷ []) [] (parts_in o)) (sym (no-section sd (codes ":types") refl refl refl d.sections)) no-types);
     constants = [];
     others = [];
     objects = refl;
-    constants_spelled = subst (λ o. EachTyped (IsObject (hddl_words h) true) [] (parts_in o)) (sym (no-section sd (codes ":constants") refl refl refl d.sections)) tt;
-    others_spelled = tt;
-    predicates = subst (λ o. Each (IsPredicate (hddl_words h)) [] (parts_in o)) (sym (no-section sd (codes ":predicates") refl refl refl d.sections)) tt;
-    tasks =
-        subst (Each (IsTask v (task_words h) (action_words h)) x.tasks) (sym (only-tasks sd d.sections))
-        (each-part (IsTaskOf sd names) (IsTask v (task_words h) (action_words h)) (task_part sd) (task-spelled sd v (task_words h) (action_words h)) (filter_map task_of d.sections) x.tasks are_schemas.tasks);
-    actions =
-        subst (Each (IsAction v) x.actions) (sym (only-actions sd d.sections))
-        (each-part (IsActionOf sd names) (IsAction v) (action_part sd) (action-spelled sd v (task_words h) (action_words h)) (filter_map action_of d.sections) x.actions are_schemas.actions);
-    methods =
-        subst (Each (IsMethod v (task_words h) (action_words h)) x.methods) (sym (only-methods sd d.sections))
-        (subst (λ us. Each (IsMethod v us (action_words h)) x.methods methods) (sym task-words)
-        (subst (λ us. Each (IsMethod v tw us) x.methods methods) (sym action-words)
-        (each-part (IsMethodOf sd names x.heads.tasks x.heads.calls) (IsMethod v tw aw) (method_part sd) (method-spelled tw aw names are_schemas.front are_schemas.differ sd x.heads.tasks x.heads.calls task-count call-count v refl) (filter_map method_of d.sections) x.methods are_schemas.methods)));
-    htn = subtask_parts sp p.subtask;
-    htn_there = refl;
-    top =
-        subst (λ us. IsTop (hddl_words h) us (action_words h) top (subtask_parts sp p.subtask)) (sym task-words)
-        (subst (λ us. IsTop (hddl_words h) tw us top (subtask_parts sp p.subtask)) (sym action-words)
-        (top-spelled tw aw names are_schemas.front are_schemas.differ sp x.heads.tasks x.heads.calls task-count call-count (hddl_words h) refl p top is_top));
-    init_form = refl;
-    init = tt;
-    goal = no-condition (hddl_words h) [];
+    in_domain = record {
+      common = record {
+        domain_form = domain-form sd d.sections;
+        domain_requires = ap (λ o. are_words (parts_in o)) (no-section sd (codes ":requirements") refl refl refl d.sections);
+        types = subst (λ ws. AreTypes ws [] (parts_in (section (codes ":types") ds))) (sym one-type) (subst (λ o. AreTypes (codes "object" ∷ []) [] (parts_in o)) (sym (no-section sd (codes ":types") refl refl refl d.sections)) no-types);
+        constants_spelled = subst (λ o. EachTyped (IsObject (hddl_words h) true) [] (parts_in o)) (sym (no-section sd (codes ":constants") refl refl refl d.sections)) tt;
+        predicates = subst (λ o. Each (IsPredicate (hddl_words h)) [] (parts_in o)) (sym (no-section sd (codes ":predicates") refl refl refl d.sections)) tt;
+        actions =
+            subst (Each (IsAction v) x.actions) (sym (only-actions sd d.sections))
+            (each-part (IsActionOf sd names) (IsAction v) (action_part sd) (action-spelled sd v (task_words h) (action_words h)) (filter_map action_of d.sections) x.actions are_schemas.actions);
+      };
+      tasks =
+          subst (Each (IsTask v) x.tasks) (sym (only-tasks sd d.sections))
+          (each-part (IsTaskOf sd names) (IsTask v) (task_part sd) (task-spelled sd v (task_words h) (action_words h)) (filter_map task_of d.sections) x.tasks are_schemas.tasks);
+      methods =
+          subst (Each (IsMethod v (task_words h) (action_words h)) x.methods) (sym (only-methods sd d.sections))
+          (subst (λ us. Each (IsMethod v us (action_words h)) x.methods methods) (sym task-words)
+          (subst (λ us. Each (IsMethod v tw us) x.methods methods) (sym action-words)
+          (each-part (IsMethodOf sd names x.heads.tasks x.heads.calls) (IsMethod v tw aw) (method_part sd) (method-spelled tw aw names are_schemas.front are_schemas.differ sd x.heads.tasks x.heads.calls task-count call-count v refl) (filter_map method_of d.sections) x.methods are_schemas.methods)));
+    };
+    in_problem = record {
+      common = record {
+        problem_form = refl;
+        problem_requires = refl;
+        of_domain = (sp p.domain, refl, are_titles.of_domain.1);
+        others_spelled = tt;
+        init_form = refl;
+        init = tt;
+        goal = no-condition (hddl_words h) [];
+      };
+      htn = subtask_parts sp p.subtask;
+      htn_there = refl;
+      top =
+          subst (λ us. IsTop (hddl_words h) us (action_words h) top (subtask_parts sp p.subtask)) (sym task-words)
+          (subst (λ us. IsTop (hddl_words h) tw us top (subtask_parts sp p.subtask)) (sym action-words)
+          (top-spelled tw aw names are_schemas.front are_schemas.differ sp x.heads.tasks x.heads.calls task-count call-count (hddl_words h) refl p top is_top));
+    };
   }
 
   problem-unions : unions_in_all ps ≡ []
@@ -124,14 +132,20 @@ module _ (sd sp : ℕ → Word) (d : WrittenDomain) (p : WrittenProblem) (names 
   module _ (domain problem : List ℕ) (domain_faultless : IsFaultless domain) (problem_faultless : IsFaultless problem) (domain_is : symbols domain ≡ written (domain_part sd d)) (problem_is : symbols problem ≡ written (problem_part sp p)) where
     spells : SpellsHddl domain problem h
     spells = record {
-      domain_sections = ds;
-      problem_sections = ps;
-      domain_clean = clean domain domain_faultless;
-      problem_clean = clean problem problem_faultless;
-      domain_is = domain_is ∙ ap (λ w. written (definition (codes "domain") w ds)) (sym (word-said names t.domain (sd d.name) are_titles.domain.says));
-      problem_is = problem_is ∙ ap (λ w. written (definition (codes "problem") w ps)) (sym (word-said names t.problem (sp p.name) are_titles.problem.says));
-      domain_named = named-name sd names t.domain d.name are_titles.domain;
-      problem_named = named-name sp names t.problem p.name are_titles.problem;
+      texts = record {
+        domain_sections = ds;
+        problem_sections = ps;
+        domain_text = record {
+          clean = clean domain domain_faultless;
+          is = domain_is ∙ ap (λ w. written (definition (codes "domain") w ds)) (sym (word-said names t.domain (sd d.name) are_titles.domain.says));
+          named = named-name sd names t.domain d.name are_titles.domain;
+        };
+        problem_text = record {
+          clean = clean problem problem_faultless;
+          is = problem_is ∙ ap (λ w. written (definition (codes "problem") w ps)) (sym (word-said names t.problem (sp p.name) are_titles.problem.says));
+          named = named-name sp names t.problem p.name are_titles.problem;
+        };
+      };
       sections = sections;
     }
 

@@ -8,6 +8,7 @@ pub mod Spelled
 pub mod SpelledEffects
 pub mod PrintedSpells
 pub mod Unique
+pub mod UniquePddl
 pub mod UniqueNetworks
 pub mod UniqueHddl
 pub mod Equations
@@ -15,16 +16,5 @@ pub mod AlikeLaws
 pub mod InOrder
 pub mod Layers
 pub mod OneOrder
-pub mod SmallestRow
-pub mod SmallestPrintable
-pub mod MarkedVariable
-pub mod RowWords
-pub mod FormulaRows
-pub mod EffectRows
-pub mod TypedRows
-pub mod SectionRows
-pub mod NetworkRows
-pub mod WholeRow
 pub mod PlanSteps
-pub mod PlanRows
-pub mod SchemaRows
+pub mod examples

@@ -166,22 +166,26 @@ module _ (c : Pddl) (printable : IsPrintable c) where
       let i = init-spelled c.init printable.init in
       let g = formula-spelled v arities printable.words c.goal [] tt printable.goal in (
         record {
-          domain_form = sections-actions v c.actions;
-          problem_form = refl;
-          domain_requires = refl;
-          problem_requires = refl;
-          of_domain = (named c.names c.domain, refl, printable.domain.1);
-          types = record { items = items; spelled = t.0; first = printable.first; different = printable.words.types_differ; same_words = same-words; same_pairs = same-pairs };
           constants = c.objects;
           others = [];
           objects = sym (append-nil c.objects);
-          constants_spelled = o.0;
-          others_spelled = tt;
-          predicates = d.0;
-          actions = subst (Each (IsAction v) c.actions) (sym (only-actions v c.actions)) a.0;
-          init_form = init-values c.init printable.init;
-          init = i.0;
-          goal = g.0;
+          in_domain = record {
+            domain_form = sections-actions v c.actions;
+            domain_requires = refl;
+            types = record { items = items; spelled = t.0; first = printable.first; different = printable.words.types_differ; same_words = same-words; same_pairs = same-pairs };
+            constants_spelled = o.0;
+            predicates = d.0;
+            actions = subst (Each (IsAction v) c.actions) (sym (only-actions v c.actions)) a.0;
+          };
+          in_problem = record {
+            problem_form = refl;
+            problem_requires = refl;
+            of_domain = (named c.names c.domain, refl, printable.domain.1);
+            others_spelled = tt;
+            init_form = init-values c.init printable.init;
+            init = i.0;
+            goal = g.0;
+          };
         },
         ((refl, (refl, tt)), ((refl, t.1), ((refl, o.1), ((refl, d.1), a.1)))),
         ((refl, (plain-token (named c.names c.domain) printable.domain, tt)), ((refl, tt), ((refl, i.1), ((refl, (g.1, tt)), tt)))),
@@ -189,13 +193,19 @@ module _ (c : Pddl) (printable : IsPrintable c) where
 
   pub printed_spells : SpellsPddl (domain_text c) (problem_text c) c
   printed_spells = record {
-    domain_sections = domain_parts c;
-    problem_sections = problem_parts c;
-    domain_clean = clean-page (codes "domain") (named c.names c.domain) (domain_parts c) refl (plain-token (named c.names c.domain) printable.domain) spelled.1;
-    problem_clean = clean-page (codes "problem") (named c.names c.problem) (problem_parts c) refl (plain-token (named c.names c.problem) printable.problem) spelled.2;
-    domain_is = symbols-page (codes "domain") (named c.names c.domain) (domain_parts c) refl (plain-token (named c.names c.domain) printable.domain) spelled.1;
-    problem_is = symbols-page (codes "problem") (named c.names c.problem) (problem_parts c) refl (plain-token (named c.names c.problem) printable.problem) spelled.2;
-    domain_named = printable.domain.1;
-    problem_named = printable.problem.1;
+    texts = record {
+      domain_sections = domain_parts c;
+      problem_sections = problem_parts c;
+      domain_text = record {
+        clean = clean-page (codes "domain") (named c.names c.domain) (domain_parts c) refl (plain-token (named c.names c.domain) printable.domain) spelled.1;
+        is = symbols-page (codes "domain") (named c.names c.domain) (domain_parts c) refl (plain-token (named c.names c.domain) printable.domain) spelled.1;
+        named = printable.domain.1;
+      };
+      problem_text = record {
+        clean = clean-page (codes "problem") (named c.names c.problem) (problem_parts c) refl (plain-token (named c.names c.problem) printable.problem) spelled.2;
+        is = symbols-page (codes "problem") (named c.names c.problem) (problem_parts c) refl (plain-token (named c.names c.problem) printable.problem) spelled.2;
+        named = printable.problem.1;
+      };
+    };
     sections = spelled.0;
   }

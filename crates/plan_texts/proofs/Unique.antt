@@ -1,4 +1,4 @@
--- What two values are spelled by one pair of texts is alike.
+-- What the sections of a domain and of a problem decide.
 use Rattle.std.proofs.Common.{ℕ, ◌≡◌, ◌⊎◌, ◌↔◌, Bool, true, false, List, [], ◌∷◌, ◌++◌, map, codes, Option, refl, ap, ap₂, sym, subst, ◌∙◌}
 use Rattle.text_forms.specs.Lists.{Part, Parts, nothing, part}
 use Rattle.text_forms.specs.Words.{Word, word_at}
@@ -8,10 +8,10 @@ use Rattle.plan_texts.specs.Formulas.{IsParam}
 use Rattle.plan_texts.specs.Said.{Typed, typed, said, done}
 use Rattle.plan_texts.specs.Sections.{found, section, one_in, parameters, precondition, effect}
 use Rattle.text_forms.specs.Printing.{definition}
-use Rattle.plan_texts.specs.SpellsPddl.{pddl_types, pddl_words, pddl_domain_words, ArePddlSections, SpellsPddl}
+use Rattle.plan_texts.specs.Domains.{Domain, domain_words, Problem, AreDomainSections, AreProblemSections, AreDefinitions}
 use Rattle.plan_texts.specs.Types.{Has, TypeItem, IsTypeItem, Mentions, IsPairSaid, IsPairOf, AreTypes}
-use Rattle.plan_texts.specs.Schemas.{IsObject, IsPredicate, IsAction, IsFact}
-use Rattle.plan_texts.specs.Alike.{object_said, predicate_said, action_said, AreAlikePddl}
+use Rattle.plan_texts.specs.Schemas.{AreParams, IsObject, IsPredicate, IsAction, IsFact}
+use Rattle.plan_texts.specs.Alike.{object_said, predicate_said, action_said}
 use Rattle.plan_model.specs.declared.terms.Term.TheVariants.{Obj}
 use Rattle.plan_model.specs.declared.terms.Param.{Param}
 use Rattle.plan_model.specs.declared.types.Parent.{Parent}
@@ -19,9 +19,8 @@ use Rattle.plan_model.specs.declared.types.Object.{Object}
 use Rattle.plan_model.specs.declared.schemas.Predicate.{Predicate}
 use Rattle.plan_model.specs.declared.schemas.ActionSchema.{ActionSchema}
 use Rattle.plan_model.specs.declared.terms.GroundAtom.{GroundAtom}
-use Rattle.plan_model.specs.declared.values.Pddl.{Pddl}
-use Rattle.plan_texts.proofs.Basics.{items}
 use Rattle.text_forms.proofs.OneNesting.{one_part}
+use Rattle.plan_texts.proofs.Basics.{items}
 use Rattle.plan_texts.proofs.Readings.{param_said, terms_said, reading, terms-said, params-said, scope-said, formula-said}
 use Rattle.plan_texts.proofs.Effects.{effect-said, reading as effect_reading}
 
@@ -72,6 +71,13 @@ module _ (v w : Declared) where
   pub same-params : (xs ys : List Param) (ps : Parts) → EachTyped (IsParam v) xs ps → EachTyped (IsParam w) ys ps → map (typed v) xs ≡ map (typed w) ys
   same-params xs ys ps e f = params-said v xs ps e ∙ sym (params-said w ys ps f)
 
+  -- the typed variables of a schema, and their words
+  pub same-parameters : (xs ys : List Param) (p q : Part) → p ≡ q → AreParams v xs p → AreParams w ys q → (map (typed v) xs ≡ map (typed w) ys) × (map (variable v) xs ≡ map (variable w) ys)
+  same-parameters xs ys p q g e f =
+      let a = e.1 in let b = f.1 in
+      let k : e.0 ≡ f.0 = cc in
+      (same-params xs ys f.0 (subst (EachTyped (IsParam v) xs) k e.2) f.2, scope-said v xs e.0 e.2 ∙ ap (λ t. map (λ (z : Typed). z.0) (map param_said (items t))) k ∙ sym (scope-said w ys f.0 f.2))
+
   pub same-predicate : (x y : Predicate) (p : Part) → IsPredicate v x p → IsPredicate w y p → predicate_said v x ≡ predicate_said w y
   same-predicate x y p e f =
       let a = e.1 in let b = f.1 in
@@ -86,11 +92,7 @@ module _ (v w : Declared) where
         let a = e.is in let b = f.is in
         let i : named v.names x.name ≡ named w.names y.name = cc in
         let j : e.entries ≡ f.entries = cc in
-        let a' = e.params.1 in let b' = f.params.1 in
-        let c = ap (found parameters) j in
-        let k : e.params.0 ≡ f.params.0 = cc in
-        let l : map (typed v) x.params ≡ map (typed w) y.params = same-params x.params y.params f.params.0 (subst (EachTyped (IsParam v) x.params) k e.params.2) f.params.2 in
-        let s : map (variable v) x.params ≡ map (variable w) y.params = scope-said v x.params e.params.0 e.params.2 ∙ ap (λ t. map (λ (z : Typed). z.0) (map param_said (items t))) k ∙ sym (scope-said w y.params f.params.0 f.params.2) in
+        let (l, s) = same-parameters x.params y.params _ _ (ap (found parameters) j) e.params f.params in
         let m : said v x.pre ≡ said w y.pre =
         sym (formula-said v x.pre _ _ e.pre) ∙ (λ n. reading (same_objects n) (same_predicates n) (s n) (found precondition (j n))) ∙ formula-said w y.pre _ _ f.pre in
         let o : done v x.eff ≡ done w y.eff =
@@ -127,54 +129,52 @@ module _ (types types' : List Word) (parents parents' : List Parent) (ps : Parts
       let a = e.same_pairs u t in let b = subst (λ xs. IsPairOf types' parents' u t ↔ IsPairSaid xs u t) (sym same_items) (f.same_pairs u t) in
       (λ x. b.1 (a.0 x), λ x. a.1 (b.0 x))
 
--- the sections decide the value
-module _ (c d : Pddl) (domain problem : Parts) (e : ArePddlSections c domain problem) (f : ArePddlSections d domain problem) where
+-- the sections of a domain decide what it declares
+module _ (many : List Word) (c d : Domain) (sections : Parts) (e : AreDomainSections many c sections) (f : AreDomainSections many d sections) where
   abbrev v : Declared
-  v = pddl_words c
+  v = domain_words c
 
   abbrev w : Declared
-  w = pddl_words d
+  w = domain_words d
 
-  constants-said : map (object_said v) e.constants ≡ map (object_said w) f.constants
-  constants-said = same-typed (IsObject v true) (IsObject w true) (object_said v) (object_said w) (same-object v w true) e.constants f.constants _ e.constants_spelled f.constants_spelled
+  pub constants-said : map (object_said v) c.constants ≡ map (object_said w) d.constants
+  constants-said = same-typed (IsObject v true) (IsObject w true) (object_said v) (object_said w) (same-object v w true) c.constants d.constants _ e.constants_spelled f.constants_spelled
 
-  objects-said : map (object_said v) c.objects ≡ map (object_said w) d.objects
-  objects-said =
-      let a = constants-said in
-      let b = same-typed (IsObject v false) (IsObject w false) (object_said v) (object_said w) (same-object v w false) e.others f.others _ e.others_spelled f.others_spelled in
-      ap (map (object_said v)) e.objects ∙ map-append (object_said v) e.constants e.others ∙ (λ n. a n ++ b n) ∙ sym (map-append (object_said w) f.constants f.others) ∙ sym (ap (map (object_said w)) f.objects)
+  pub same_constants : v.objects ≡ w.objects
+  same_constants = map-map (object_said v) (λ t. t.0) c.constants ∙ ap (map (λ t. t.0)) constants-said ∙ sym (map-map (object_said w) (λ t. t.0) d.constants)
 
-  predicates-said : map (predicate_said v) c.predicates ≡ map (predicate_said w) d.predicates
+  pub predicates-said : map (predicate_said v) c.predicates ≡ map (predicate_said w) d.predicates
   predicates-said = same-each (IsPredicate v) (IsPredicate w) (predicate_said v) (predicate_said w) (same-predicate v w) c.predicates d.predicates _ e.predicates f.predicates
 
-  same_objects : v.objects ≡ w.objects
-  same_objects = map-map (object_said v) (λ t. t.0) c.objects ∙ ap (map (λ t. t.0)) objects-said ∙ sym (map-map (object_said w) (λ t. t.0) d.objects)
-
-  same_constants : map (λ (x : Object). named c.names x.name) e.constants ≡ map (λ (x : Object). named d.names x.name) f.constants
-  same_constants = map-map (object_said v) (λ t. t.0) e.constants ∙ ap (map (λ t. t.0)) constants-said ∙ sym (map-map (object_said w) (λ t. t.0) f.constants)
-
-  same_predicates : v.predicates ≡ w.predicates
+  pub same_predicates : v.predicates ≡ w.predicates
   same_predicates = map-map (predicate_said v) (λ t. t.0) c.predicates ∙ ap (map (λ t. t.0)) predicates-said ∙ sym (map-map (predicate_said w) (λ t. t.0) d.predicates)
 
-  pub same-sections : named c.names c.domain ≡ named d.names d.domain → named c.names c.problem ≡ named d.names d.problem → AreAlikePddl c d
-  same-sections g h = record {
-    domains = g;
-    problems = h;
-    types = same-words (pddl_types c) (pddl_types d) c.types.parents d.types.parents _ e.types f.types;
-    pairs = same-pairs (pddl_types c) (pddl_types d) c.types.parents d.types.parents _ e.types f.types;
-    objects = objects-said;
-    predicates = predicates-said;
-    actions = same-each (IsAction (pddl_domain_words c e.constants)) (IsAction (pddl_domain_words d f.constants)) (action_said v) (action_said w) (same-action (pddl_domain_words c e.constants) (pddl_domain_words d f.constants) same_constants same_predicates) c.actions d.actions _ e.actions f.actions;
-    init = sym (map-is (λ x. x) (λ x. refl) c.init) ∙ same-each (IsFact v) (IsFact w) (λ x. x) (λ x. x) (same-fact v w same_objects same_predicates) c.init d.init _ e.init f.init ∙ map-is (λ x. x) (λ x. refl) d.init;
-    goal = sym (formula-said v c.goal _ _ e.goal) ∙ (λ n. reading (same_objects n) (same_predicates n) [] (one_in (section (codes ":goal") problem))) ∙ formula-said w d.goal _ _ f.goal;
-  }
+  pub actions-said : map (action_said v) c.actions ≡ map (action_said w) d.actions
+  actions-said = same-each (IsAction v) (IsAction w) (action_said v) (action_said w) (same-action v w same_constants same_predicates) c.actions d.actions _ e.actions f.actions
 
-pub same_definition : (k u w : Word) (ps qs : Parts) → definition k u ps ≡ definition k w qs → (u ≡ w) × (ps ≡ qs)
+-- and those of a problem what it declares, where the domain's part is said alike
+module _ (once : List Word) (v w : Declared) (c d : Problem) (sections : Parts) (e : AreProblemSections once v c sections) (f : AreProblemSections once w d sections) where
+  pub others-said : map (object_said v) c.objects ≡ map (object_said w) d.objects
+  others-said = same-typed (IsObject v false) (IsObject w false) (object_said v) (object_said w) (same-object v w false) c.objects d.objects _ e.others_spelled f.others_spelled
+
+  -- all objects are the constants and the problem's own
+  pub objects-said : (xs ys xs' ys' : List Object) → xs ≡ xs' ++ c.objects → ys ≡ ys' ++ d.objects → map (object_said v) xs' ≡ map (object_said w) ys' → map (object_said v) xs ≡ map (object_said w) ys
+  objects-said xs ys xs' ys' g h a = ap (map (object_said v)) g ∙ map-append (object_said v) xs' c.objects ∙ (λ n. a n ++ others-said n) ∙ sym (map-append (object_said w) ys' d.objects) ∙ sym (ap (map (object_said w)) h)
+
+  module _ (same_objects : v.objects ≡ w.objects) (same_predicates : v.predicates ≡ w.predicates) where
+    pub init-said : c.init ≡ d.init
+    init-said = sym (map-is (λ x. x) (λ x. refl) c.init) ∙ same-each (IsFact v) (IsFact w) (λ x. x) (λ x. x) (same-fact v w same_objects same_predicates) c.init d.init _ e.init f.init ∙ map-is (λ x. x) (λ x. refl) d.init
+
+    pub goal-said : said v c.goal ≡ said w d.goal
+    goal-said = sym (formula-said v c.goal _ _ e.goal) ∙ (λ n. reading (same_objects n) (same_predicates n) [] (one_in (section (codes ":goal") sections))) ∙ formula-said w d.goal _ _ f.goal
+
+same_definition : (k u w : Word) (ps qs : Parts) → definition k u ps ≡ definition k w qs → (u ≡ w) × (ps ≡ qs)
 same_definition k u w ps qs e = (cc, cc)
 
--- all values that two texts spell are alike
-pub spelled_alike : (c d : Pddl) (domain problem : List ℕ) → SpellsPddl domain problem c → SpellsPddl domain problem d → AreAlikePddl c d
-spelled_alike c d domain problem e f =
+-- two texts decide the names and the sections of a domain and of a problem
+pub same_definitions : (domain problem : List ℕ) (c d c' d' : Word) (e : AreDefinitions domain problem c d) (f : AreDefinitions domain problem c' d')
+    → (c ≡ c') × (d ≡ d') × (e.domain_sections ≡ f.domain_sections) × (e.problem_sections ≡ f.problem_sections)
+same_definitions domain problem c d c' d' e f =
     let a = same_definition _ _ _ _ _ (one_part _ _ (sym e.domain_is ∙ f.domain_is)) in
     let b = same_definition _ _ _ _ _ (one_part _ _ (sym e.problem_is ∙ f.problem_is)) in
-    same-sections c d f.domain_sections f.problem_sections (subst (λ s. ArePddlSections c s f.problem_sections) a.1 (subst (λ s. ArePddlSections c e.domain_sections s) b.1 e.sections)) f.sections a.0 b.0
+    (a.0, b.0, a.1, b.1)

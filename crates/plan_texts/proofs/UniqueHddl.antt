@@ -1,60 +1,54 @@
 -- What two HDDL values are spelled by one pair of texts is alike.
-use Rattle.std.proofs.Common.{ℕ, ◌≡◌, true, false, List, [], ◌++◌, map, codes, refl, ap, sym, subst, ◌∙◌}
+use Rattle.std.proofs.Common.{ℕ, ◌≡◌, List, map, ap, sym, subst, ◌∙◌}
 use Rattle.text_forms.specs.Lists.{Parts}
 use Rattle.plan_texts.specs.Declared.{Declared, named}
-use Rattle.plan_texts.specs.Sections.{section, one_in}
-use Rattle.plan_texts.specs.Schemas.{IsObject, IsPredicate, IsAction, IsFact}
-use Rattle.plan_texts.specs.Alike.{object_said, predicate_said, action_said, task_said, method_said, AreAlikeHddl}
+use Rattle.plan_texts.specs.Alike.{object_said, action_said, task_said, method_said, AreAlikeHddl}
 use Rattle.plan_texts.specs.Networks.{IsTask, IsMethod, IsTop}
-use Rattle.plan_texts.specs.SpellsHddl.{hddl_types, hddl_domain_words, task_words, action_words, AreHddlSections, SpellsHddl}
+use Rattle.plan_texts.specs.Domains.{Domain, domain_words}
+use Rattle.plan_texts.specs.SpellsHddl.{hddl_many, hddl_problem_once, hddl_types, hddl_words, hddl_domain, hddl_problem, task_words, action_words, AreHddlSections, SpellsHddl}
 use Rattle.plan_model.specs.declared.values.Hddl.{Hddl}
-use Rattle.text_forms.proofs.OneNesting.{one_part}
-use Rattle.plan_texts.proofs.Readings.{reading, formula-said}
-use Rattle.plan_texts.proofs.Unique.{same-each, same-typed, map-is, map-map, map-append, same-object, same-predicate, same-action, same-fact, same-words, same-pairs, same_definition}
+use Rattle.plan_texts.proofs.Unique.{same-each, map-map, same-words, same-pairs, constants-said, same_constants, predicates-said, same_predicates, actions-said, objects-said, init-said, goal-said, same_definitions}
 use Rattle.plan_texts.proofs.UniqueNetworks.{same-Some, same-task, same-method, same-top}
 
 module _ (c d : Hddl) (domain problem : Parts) (e : AreHddlSections c domain problem) (f : AreHddlSections d domain problem) where
   abbrev v : Declared
-  v = hddl_domain_words c c.objects
+  v = hddl_words c
 
   abbrev w : Declared
-  w = hddl_domain_words d d.objects
+  w = hddl_words d
+
+  abbrev a : Domain
+  a = hddl_domain c e.constants
+
+  abbrev b : Domain
+  b = hddl_domain d f.constants
 
   abbrev v' : Declared
-  v' = hddl_domain_words c e.constants
+  v' = domain_words a
 
   abbrev w' : Declared
-  w' = hddl_domain_words d f.constants
+  w' = domain_words b
 
-  constants-said : map (object_said v) e.constants ≡ map (object_said w) f.constants
-  constants-said = same-typed (IsObject v true) (IsObject w true) (object_said v) (object_said w) (same-object v w true) e.constants f.constants _ e.constants_spelled f.constants_spelled
+  same_constants' : v'.objects ≡ w'.objects
+  same_constants' = same_constants hddl_many a b domain e.in_domain.common f.in_domain.common
 
-  objects-said : map (object_said v) c.objects ≡ map (object_said w) d.objects
-  objects-said =
-      let a = constants-said in
-      let b = same-typed (IsObject v false) (IsObject w false) (object_said v) (object_said w) (same-object v w false) e.others f.others _ e.others_spelled f.others_spelled in
-      ap (map (object_said v)) e.objects ∙ map-append (object_said v) e.constants e.others ∙ (λ n. a n ++ b n) ∙ sym (map-append (object_said w) f.constants f.others) ∙ sym (ap (map (object_said w)) f.objects)
+  same_predicates' : v.predicates ≡ w.predicates
+  same_predicates' = same_predicates hddl_many a b domain e.in_domain.common f.in_domain.common
 
-  predicates-said : map (predicate_said v) c.predicates ≡ map (predicate_said w) d.predicates
-  predicates-said = same-each (IsPredicate v) (IsPredicate w) (predicate_said v) (predicate_said w) (same-predicate v w) c.predicates d.predicates _ e.predicates f.predicates
+  objects-alike : map (object_said v) c.objects ≡ map (object_said w) d.objects
+  objects-alike = objects-said hddl_problem_once v w (hddl_problem c e.others) (hddl_problem d f.others) problem e.in_problem.common f.in_problem.common c.objects d.objects e.constants f.constants e.objects f.objects (constants-said hddl_many a b domain e.in_domain.common f.in_domain.common)
 
   same_objects : v.objects ≡ w.objects
-  same_objects = map-map (object_said v) (λ t. t.0) c.objects ∙ ap (map (λ t. t.0)) objects-said ∙ sym (map-map (object_said w) (λ t. t.0) d.objects)
+  same_objects = map-map (object_said v) (λ t. t.0) c.objects ∙ ap (map (λ t. t.0)) objects-alike ∙ sym (map-map (object_said w) (λ t. t.0) d.objects)
 
-  same_constants : v'.objects ≡ w'.objects
-  same_constants = map-map (object_said v) (λ t. t.0) e.constants ∙ ap (map (λ t. t.0)) constants-said ∙ sym (map-map (object_said w) (λ t. t.0) f.constants)
-
-  same_predicates : v.predicates ≡ w.predicates
-  same_predicates = map-map (predicate_said v) (λ t. t.0) c.predicates ∙ ap (map (λ t. t.0)) predicates-said ∙ sym (map-map (predicate_said w) (λ t. t.0) d.predicates)
-
-  actions-said : map (action_said v) c.actions ≡ map (action_said w) d.actions
-  actions-said = same-each (IsAction v') (IsAction w') (action_said v) (action_said w) (same-action v' w' same_constants same_predicates) c.actions d.actions _ e.actions f.actions
+  actions-alike : map (action_said v) c.actions ≡ map (action_said w) d.actions
+  actions-alike = actions-said hddl_many a b domain e.in_domain.common f.in_domain.common
 
   same_actions : action_words c ≡ action_words d
-  same_actions = map-map (action_said v) (λ t. t.0) c.actions ∙ ap (map (λ t. t.0)) actions-said ∙ sym (map-map (action_said w) (λ t. t.0) d.actions)
+  same_actions = map-map (action_said v) (λ t. t.0) c.actions ∙ ap (map (λ t. t.0)) actions-alike ∙ sym (map-map (action_said w) (λ t. t.0) d.actions)
 
   tasks-said : map (task_said v) c.tasks ≡ map (task_said w) d.tasks
-  tasks-said = same-each (IsTask v' (task_words c) (action_words c)) (IsTask w' (task_words d) (action_words d)) (task_said v) (task_said w) (same-task v' w' (task_words c) (task_words d) (action_words c) (action_words d)) c.tasks d.tasks _ e.tasks f.tasks
+  tasks-said = same-each (IsTask v') (IsTask w') (task_said v) (task_said w) (same-task v' w') c.tasks d.tasks _ e.tasks f.tasks
 
   same_tasks : task_words c ≡ task_words d
   same_tasks = map-map (task_said v) (λ t. t.0) c.tasks ∙ ap (map (λ t. t.0)) tasks-said ∙ sym (map-map (task_said w) (λ t. t.0) d.tasks)
@@ -66,21 +60,23 @@ module _ (c d : Hddl) (domain problem : Parts) (e : AreHddlSections c domain pro
   same-sections g h = record {
     domains = g;
     problems = h;
-    types = same-words (hddl_types c) (hddl_types d) c.types.parents d.types.parents _ e.types f.types;
-    pairs = same-pairs (hddl_types c) (hddl_types d) c.types.parents d.types.parents _ e.types f.types;
-    objects = objects-said;
-    predicates = predicates-said;
+    declared = record {
+      types = same-words (hddl_types c) (hddl_types d) c.types.parents d.types.parents _ e.types f.types;
+      pairs = same-pairs (hddl_types c) (hddl_types d) c.types.parents d.types.parents _ e.types f.types;
+      objects = objects-alike;
+      predicates = predicates-said hddl_many a b domain e.in_domain.common f.in_domain.common;
+      actions = actions-alike;
+    };
     tasks = tasks-said;
-    actions = actions-said;
-    methods = same-each (IsMethod v' (task_words c) (action_words c)) (IsMethod w' (task_words d) (action_words d)) (method_said v) (method_said w) (same-method v' w' (task_words c) (task_words d) (action_words c) (action_words d) same_constants same_predicates same_tasks same_actions) c.methods d.methods _ e.methods f.methods;
-    top = same-top v w (task_words c) (task_words d) (action_words c) (action_words d) same_objects same_predicates same_tasks same_actions c.top d.top f.htn (subst (IsTop v (task_words c) (action_words c) c.top) same_htn e.top) f.top;
-    init = sym (map-is (λ x. x) (λ x. refl) c.init) ∙ same-each (IsFact v) (IsFact w) (λ x. x) (λ x. x) (same-fact v w same_objects same_predicates) c.init d.init _ e.init f.init ∙ map-is (λ x. x) (λ x. refl) d.init;
-    goal = sym (formula-said v c.goal _ _ e.goal) ∙ (λ n. reading (same_objects n) (same_predicates n) [] (one_in (section (codes ":goal") problem))) ∙ formula-said w d.goal _ _ f.goal;
+    methods = same-each (IsMethod v' (task_words c) (action_words c)) (IsMethod w' (task_words d) (action_words d)) (method_said v) (method_said w) (same-method v' w' (task_words c) (task_words d) (action_words c) (action_words d) same_constants' same_predicates' same_tasks same_actions) c.methods d.methods _ e.methods f.methods;
+    top = same-top v w (task_words c) (task_words d) (action_words c) (action_words d) same_objects same_predicates' same_tasks same_actions c.top d.top f.htn (subst (IsTop v (task_words c) (action_words c) c.top) same_htn e.top) f.top;
+    init = init-said hddl_problem_once v w (hddl_problem c e.others) (hddl_problem d f.others) problem e.in_problem.common f.in_problem.common same_objects same_predicates';
+    goal = goal-said hddl_problem_once v w (hddl_problem c e.others) (hddl_problem d f.others) problem e.in_problem.common f.in_problem.common same_objects same_predicates';
   }
 
 -- all HDDL values that two texts spell are alike
 pub hddl_alike : (c d : Hddl) (domain problem : List ℕ) → SpellsHddl domain problem c → SpellsHddl domain problem d → AreAlikeHddl c d
 hddl_alike c d domain problem e f =
-    let a = same_definition _ _ _ _ _ (one_part _ _ (sym e.domain_is ∙ f.domain_is)) in
-    let b = same_definition _ _ _ _ _ (one_part _ _ (sym e.problem_is ∙ f.problem_is)) in
-    same-sections c d f.domain_sections f.problem_sections (subst (λ s. AreHddlSections c s f.problem_sections) a.1 (subst (λ s. AreHddlSections c e.domain_sections s) b.1 e.sections)) f.sections a.0 b.0
+    let same = same_definitions domain problem _ _ _ _ e.texts f.texts in
+    let own = subst (λ s. AreHddlSections c s f.problem_sections) same.2 (subst (λ s. AreHddlSections c e.domain_sections s) same.3 e.sections) in
+    same-sections c d f.domain_sections f.problem_sections own f.sections same.0 same.1

@@ -4,11 +4,11 @@ use Rattle.std.specs.Option.{option_map}
 use Rattle.text_forms.specs.Lists.{Part, Parts, group, nothing, part}
 use Rattle.text_forms.specs.Words.{Word, is_name, first_place}
 use Rattle.plan_texts.specs.Declared.{Declared, variable, named}
-use Rattle.plan_texts.specs.TypedLists.{Each, EachTyped}
-use Rattle.plan_texts.specs.Formulas.{IsTerm, IsParam}
-use Rattle.plan_texts.specs.Said.{Typed, all, none, said}
+use Rattle.plan_texts.specs.TypedLists.{Each}
+use Rattle.plan_texts.specs.Formulas.{IsTerm}
+use Rattle.plan_texts.specs.Said.{all, none, said}
 use Rattle.plan_texts.specs.Sections.{parameters, precondition, found, stands, bundle}
-use Rattle.plan_texts.specs.Networks.{ordered_subtasks, ordering, task, head_of, chain_if, IsCall, IsSubtaskBy, IsSubtask, id_word, ids, IsOrdered, IsEquation, IsConstraintBy, IsConstraint, IsNetwork, IsTask, IsMethod, IsTop}
+use Rattle.plan_texts.specs.Networks.{ordered_subtasks, ordering, task, head_of, chain_if, IsOrdered, ArePairs, id_word, id_words, IsEquation, IsConstraintBy, IsConstraint, IsTask, IsCall, IsSubtaskBy, IsSubtask, IsNetwork, IsMethod, IsTop}
 use Rattle.plan_texts.specs.Alike.{child_said, task_said, method_said}
 use Rattle.htn_base.specs.declared.name.Name.{Name}
 use Rattle.plan_model.specs.declared.formulas.Formula.TheOpen.{Formula-F}
@@ -21,10 +21,8 @@ use Rattle.plan_model.specs.declared.networks.Pair.{Pair}
 use Rattle.plan_model.specs.declared.networks.Constraint.{Constraint}
 use Rattle.plan_model.specs.declared.schemas.TaskSchema.{TaskSchema}
 use Rattle.plan_model.specs.declared.schemas.MethodSchema.{MethodSchema}
-use Rattle.plan_texts.proofs.Basics.{items}
-use Rattle.plan_texts.proofs.Readings.{said_roll, param_said, term_said, terms_said, reading, term-said, terms-said, scope-said, formula-said}
-use Rattle.plan_texts.proofs.Members.{length-map}
-use Rattle.plan_texts.proofs.Unique.{same-each, same-params, map-is}
+use Rattle.plan_texts.proofs.Readings.{said_roll, term_said, terms_said, reading, term-said, terms-said, formula-said}
+use Rattle.plan_texts.proofs.Unique.{same-each, same-parameters, map-is}
 
 no-group : (v : Declared) (scope : List Word) (ts : List Term) (qs rs : Parts) → Each (IsTerm v scope) ts (part (group qs) rs) → ⊥
 no-group v scope [] qs rs e = e
@@ -34,15 +32,42 @@ no-group v scope (Obj o ∷ ts) qs rs e = let f = e.0.1 in cc
 pub same-Some : {X : Type 0} (x y : X) → Some x ≡ Some y → x ≡ y
 same-Some x y e = cc
 
-module _ (v w : Declared) (tasks tasks' actions actions' : List Word) where
-  pub same-task : (x y : TaskSchema) (p : Part) → IsTask v tasks actions x p → IsTask w tasks' actions' y p → task_said v x ≡ task_said w y
+pair-words : (is : List Word) (x y : Pair) (a b a' b' : Word) → a ≡ a' → b ≡ b' → first_place a is ≡ Some x.first → first_place b is ≡ Some x.then → first_place a' is ≡ Some y.first → first_place b' is ≡ Some y.then → x ≡ y
+pair-words is x y a b a' b' p q e f g h =
+    let i : x.first ≡ y.first = cc in
+    let j : x.then ≡ y.then = cc in
+    λ n. record { first = i n; then = j n }
+
+less : (a : Word) → is_name a ≡ true → a ≡ codes "<" → ⊥
+less a e f = let g = ap is_name f in cc
+
+same-pair : (is : List Word) (x y : Pair) (p : Part) → IsOrdered is x p → IsOrdered is y p → x ≡ y
+same-pair is x y p e f =
+    elim e.2 [
+      | inl g ↦ elim f.2 [
+        | inl h ↦ pair-words is x y e.0 e.1 f.0 f.1 (cc) (cc) e.5 e.6 f.5 f.6
+        | inr h ↦ absurd (less f.0 f.3 (cc))
+      ]
+      | inr g ↦ elim f.2 [
+        | inl h ↦ absurd (less e.0 e.3 (cc))
+        | inr h ↦ pair-words is x y e.0 e.1 f.0 f.1 (cc) (cc) e.5 e.6 f.5 f.6
+      ]
+    ]
+
+-- the ids and the parts decide the pairs
+same-ordered : (is is' : List Word) → is ≡ is' → (xs ys : List Pair) (es : Parts) → ArePairs is xs es → ArePairs is' ys es → xs ≡ ys
+same-ordered is is' i xs ys es e f =
+    let r : e.written ≡ f.written =
+    sym (map-is (λ x. x) (λ x. refl) e.written) ∙ same-each (IsOrdered is') (IsOrdered is') (λ x. x) (λ x. x) (same-pair is') e.written f.written _ (subst (λ z. Each (IsOrdered z) e.written (bundle (found ordering es))) i e.pairs_spelled) f.pairs_spelled ∙ map-is (λ x. x) (λ x. refl) f.written in
+    e.pairs_are ∙ (λ n. chain_if (stands ordered_subtasks es) (length (i n)) ++ r n) ∙ sym f.pairs_are
+
+module _ (v w : Declared) where
+  pub same-task : (x y : TaskSchema) (p : Part) → IsTask v x p → IsTask w y p → task_said v x ≡ task_said w y
   same-task x y p e f =
       let a = e.is in let b = f.is in
       let i : named v.names x.name ≡ named w.names y.name = cc in
       let j : e.entries ≡ f.entries = cc in
-      let a' = e.params.1 in let b' = f.params.1 in let c = ap (found parameters) j in
-      let k : e.params.0 ≡ f.params.0 = cc in
-      let l = same-params v w x.params y.params f.params.0 (subst (EachTyped (IsParam v) x.params) k e.params.2) f.params.2 in
+      let l = (same-parameters v w x.params y.params _ _ (ap (found parameters) j) e.params f.params).0 in
       λ n. (i n, l n)
 
 module _ (v w : Declared) (tasks tasks' actions actions' : List Word) (same_objects : v.objects ≡ w.objects) (same_predicates : v.predicates ≡ w.predicates) (same_tasks : tasks ≡ tasks') (same_actions : actions ≡ actions') where
@@ -87,14 +112,14 @@ module _ (v w : Declared) (tasks tasks' actions actions' : List Word) (same_obje
     same-subtask : (x y : Child) (p : Part) → IsSubtask v tasks actions scope x p → IsSubtask w tasks' actions' scope' y p → child_said v x ≡ child_said w y
     same-subtask x y p e f = let g = same-by x.id y.id x.head y.head x.args y.args p e f in λ n. (g.0 n, g.1 n, g.2 n)
 
-    same-equation : (s t s' t' : Term) (p p' : Part) → p ≡ p' → IsEquation v tasks actions scope s t p → IsEquation w tasks' actions' scope' s' t' p' → (s ≡ s') × (t ≡ t')
+    same-equation : (s t s' t' : Term) (p p' : Part) → p ≡ p' → IsEquation v scope s t p → IsEquation w scope' s' t' p' → (s ≡ s') × (t ≡ t')
     same-equation s t s' t' p p' q e f =
         let a = e.2 in let b = f.2 in
         let i : e.0 ≡ f.0 = cc in
         let j : e.1 ≡ f.1 = cc in
         (same-term s s' e.0 f.0 i e.3 f.3, same-term t t' e.1 f.1 j e.4 f.4)
 
-    same-constraint_by : (b b' : Bool) (s t s' t' : Term) (p : Part) → IsConstraintBy v tasks actions scope b s t p → IsConstraintBy w tasks' actions' scope' b' s' t' p → (b ≡ b') × (s ≡ s') × (t ≡ t')
+    same-constraint_by : (b b' : Bool) (s t s' t' : Term) (p : Part) → IsConstraintBy v scope b s t p → IsConstraintBy w scope' b' s' t' p → (b ≡ b') × (s ≡ s') × (t ≡ t')
     same-constraint_by true true s t s' t' p e f = let g = same-equation s t s' t' p p refl e f in (refl, g.0, g.1)
     same-constraint_by true false s t s' t' p e f = absurd (let a = e.2 in let b = f.1 in cc)
     same-constraint_by false true s t s' t' p e f = absurd (let a = e.1 in let b = f.2 in cc)
@@ -103,30 +128,8 @@ module _ (v w : Declared) (tasks tasks' actions actions' : List Word) (same_obje
         let i : e.0 ≡ f.0 = cc in
         let g = same-equation s t s' t' e.0 f.0 i e.2 f.2 in (refl, g.0, g.1)
 
-    same-constraint : (x y : Constraint) (p : Part) → IsConstraint v tasks actions scope x p → IsConstraint w tasks' actions' scope' y p → x ≡ y
+    same-constraint : (x y : Constraint) (p : Part) → IsConstraint v scope x p → IsConstraint w scope' y p → x ≡ y
     same-constraint x y p e f = let g = same-constraint_by x.equal y.equal x.left x.right y.left y.right p e f in λ n. record { equal = g.0 n; left = g.1 n; right = g.2 n }
-
-  pair-words : (is : List Word) (x y : Pair) (a b a' b' : Word) → a ≡ a' → b ≡ b' → first_place a is ≡ Some x.first → first_place b is ≡ Some x.then → first_place a' is ≡ Some y.first → first_place b' is ≡ Some y.then → x ≡ y
-  pair-words is x y a b a' b' p q e f g h =
-      let i : x.first ≡ y.first = cc in
-      let j : x.then ≡ y.then = cc in
-      λ n. record { first = i n; then = j n }
-
-  less : (a : Word) → is_name a ≡ true → a ≡ codes "<" → ⊥
-  less a e f = let g = ap is_name f in cc
-
-  same-pair : (is : List Word) (x y : Pair) (p : Part) → IsOrdered v tasks actions is x p → IsOrdered w tasks' actions' is y p → x ≡ y
-  same-pair is x y p e f =
-      elim e.2 [
-        | inl g ↦ elim f.2 [
-          | inl h ↦ pair-words is x y e.0 e.1 f.0 f.1 (cc) (cc) e.5 e.6 f.5 f.6
-          | inr h ↦ absurd (less f.0 f.3 (cc))
-        ]
-        | inr g ↦ elim f.2 [
-          | inl h ↦ absurd (less e.0 e.3 (cc))
-          | inr h ↦ pair-words is x y e.0 e.1 f.0 f.1 (cc) (cc) e.5 e.6 f.5 f.6
-        ]
-      ]
 
 said-empty : (v : Declared) → said v (And []) ≡ all none
 said-empty v = ap (said v) (sym (rolls-And [])) ∙ said_roll v (Formula-F.And [])
@@ -135,37 +138,31 @@ abbrev word_or : Option Word → Word
 word_or None = []
 word_or (Some w) = w
 
-ids-said : (v : Declared) (tasks actions : List Word) (cs : List Child) → ids v tasks actions cs ≡ map (λ (t : Option Word × Head × List Term). word_or t.0) (map (child_said v) cs)
-ids-said v tasks actions [] = refl
-ids-said v tasks actions (c ∷ cs) = ap₂ (λ x xs. x ∷ xs) (go c.id) (ids-said v tasks actions cs)
+ids-said : (v : Declared) (cs : List Child) → id_words v cs ≡ map (λ (t : Option Word × Head × List Term). word_or t.0) (map (child_said v) cs)
+ids-said v [] = refl
+ids-said v (c ∷ cs) = ap₂ (λ x xs. x ∷ xs) (go c.id) (ids-said v cs)
   where
-    go : (i : Option Name) → id_word v tasks actions i ≡ word_or (option_map (named v.names) i)
+    go : (i : Option Name) → id_word v i ≡ word_or (option_map (named v.names) i)
     go None = refl
     go (Some i) = refl
 
 module _ (v w : Declared) (tasks tasks' actions actions' : List Word) (same_objects : v.objects ≡ w.objects) (same_predicates : v.predicates ≡ w.predicates) (same_tasks : tasks ≡ tasks') (same_actions : actions ≡ actions') where
-  same-network : (scope scope' : List Word) → scope ≡ scope' → (cs cs' : List Child) (xs xs' : List Pair) (ks ks' : List Constraint) (es : Parts) → IsNetwork v tasks actions scope cs xs ks es → IsNetwork w tasks' actions' scope' cs' xs' ks' es
-      → (map (child_said v) cs ≡ map (child_said w) cs') × (xs ≡ xs') × (ks ≡ ks')
+  same-network : (scope scope' : List Word) → scope ≡ scope' → (cs cs' : List Child) (xs xs' : List Pair) (ks ks' : List Constraint) (es : Parts)
+      → IsNetwork v tasks actions scope (id_words v cs) cs xs ks es → IsNetwork w tasks' actions' scope' (id_words w cs') cs' xs' ks' es → (map (child_said v) cs ≡ map (child_said w) cs') × (xs ≡ xs') × (ks ≡ ks')
   same-network scope scope' s cs cs' xs xs' ks ks' es e f =
       let a : map (child_said v) cs ≡ map (child_said w) cs' =
       same-each (IsSubtask v tasks actions scope) (IsSubtask w tasks' actions' scope') (child_said v) (child_said w) (same-subtask v w tasks tasks' actions actions' same_objects same_predicates same_tasks same_actions scope scope' s) cs cs' _ e.children_spelled f.children_spelled in
-      let i : ids v tasks actions cs ≡ ids w tasks' actions' cs' = ids-said v tasks actions cs ∙ ap (map (λ (t : Option Word × Head × List Term). word_or t.0)) a ∙ sym (ids-said w tasks' actions' cs') in
-      let l : length cs ≡ length cs' = sym (length-map (child_said v) cs) ∙ ap length a ∙ length-map (child_said w) cs' in
-      let r : e.written ≡ f.written =
-      sym (map-is (λ x. x) (λ x. refl) e.written) ∙ same-each (IsOrdered v tasks actions (ids w tasks' actions' cs')) (IsOrdered w tasks' actions' (ids w tasks' actions' cs')) (λ x. x) (λ x. x) (same-pair v w tasks tasks' actions actions' same_objects same_predicates same_tasks same_actions (ids w tasks' actions' cs')) e.written f.written _ (subst (λ z. Each (IsOrdered v tasks actions z) e.written (bundle (found ordering es))) i e.pairs_spelled) f.pairs_spelled ∙ map-is (λ x. x) (λ x. refl) f.written in
+      let i : id_words v cs ≡ id_words w cs' = ids-said v cs ∙ ap (map (λ (t : Option Word × Head × List Term). word_or t.0)) a ∙ sym (ids-said w cs') in
       let k : ks ≡ ks' =
-      sym (map-is (λ x. x) (λ x. refl) ks) ∙ same-each (IsConstraint v tasks actions scope) (IsConstraint w tasks' actions' scope') (λ x. x) (λ x. x) (same-constraint v w tasks tasks' actions actions' same_objects same_predicates same_tasks same_actions scope scope' s) ks ks' _ e.constraints_spelled f.constraints_spelled ∙ map-is (λ x. x) (λ x. refl) ks' in
-      (a, e.pairs_are ∙ (λ n. chain_if (stands ordered_subtasks es) (l n) ++ r n) ∙ sym f.pairs_are, k)
+      sym (map-is (λ x. x) (λ x. refl) ks) ∙ same-each (IsConstraint v scope) (IsConstraint w scope') (λ x. x) (λ x. x) (same-constraint v w tasks tasks' actions actions' same_objects same_predicates same_tasks same_actions scope scope' s) ks ks' _ e.constraints_spelled f.constraints_spelled ∙ map-is (λ x. x) (λ x. refl) ks' in
+      (a, same-ordered (id_words v cs) (id_words w cs') i xs xs' es e.ordered f.ordered, k)
 
   pub same-method : (x y : MethodSchema) (p : Part) → IsMethod v tasks actions x p → IsMethod w tasks' actions' y p → method_said v x ≡ method_said w y
   same-method x y p e f =
       let a = e.is in let b = f.is in
       let i : named v.names x.name ≡ named w.names y.name = cc in
       let j : e.entries ≡ f.entries = cc in
-      let a' = e.params.1 in let b' = f.params.1 in let c = ap (found parameters) j in
-      let k : e.params.0 ≡ f.params.0 = cc in
-      let l = same-params v w x.params y.params f.params.0 (subst (EachTyped (IsParam v) x.params) k e.params.2) f.params.2 in
-      let s : map (variable v) x.params ≡ map (variable w) y.params = scope-said v x.params e.params.0 e.params.2 ∙ ap (λ t. map (λ (z : Typed). z.0) (map param_said (items t))) k ∙ sym (scope-said w y.params f.params.0 f.params.2) in
+      let (l, s) = same-parameters v w x.params y.params _ _ (ap (found parameters) j) e.params f.params in
       let m : said v x.pre ≡ said w y.pre =
       sym (formula-said v x.pre _ _ e.pre) ∙ (λ n. reading (same_objects n) (same_predicates n) (s n) (found precondition (j n))) ∙ formula-said w y.pre _ _ f.pre in
       let h1 = e.head.2 in let h2 = f.head.2 in let h3 = ap (found task) j in
@@ -173,7 +170,7 @@ module _ (v w : Declared) (tasks tasks' actions actions' : List Word) (same_obje
       let h' : e.head.1 ≡ f.head.1 = cc in
       let t : x.task ≡ y.task = same-Some x.task y.task (sym e.head.4 ∙ (λ n. first_place (h n) (same_tasks n)) ∙ f.head.4) in
       let u = same-terms v w tasks tasks' actions actions' same_objects same_predicates same_tasks same_actions (map (variable v) x.params) (map (variable w) y.params) s x.task_args y.task_args e.head.1 f.head.1 h' e.head.5 f.head.5 in
-      let g = same-network (map (variable v) x.params) (map (variable w) y.params) s x.children y.children x.pairs y.pairs x.constraints y.constraints f.entries (subst (IsNetwork v tasks actions (map (variable v) x.params) x.children x.pairs x.constraints) j e.network) f.network in
+      let g = same-network (map (variable v) x.params) (map (variable w) y.params) s x.children y.children x.pairs y.pairs x.constraints y.constraints f.entries (subst (IsNetwork v tasks actions (map (variable v) x.params) (id_words v x.children) x.children x.pairs x.constraints) j e.network) f.network in
       λ n. (i n, t n, u n, m n, (l n, g.0 n, g.1 n, g.2 n))
 
   pub same-top : (x y : MethodSchema) (es : Parts) → IsTop v tasks actions x es → IsTop w tasks' actions' y es → method_said v x ≡ method_said w y
@@ -182,9 +179,6 @@ module _ (v w : Declared) (tasks tasks' actions actions' : List Word) (same_obje
       let t : x.task ≡ y.task = e.task ∙ ap length same_tasks ∙ sym f.task in
       let u : x.task_args ≡ y.task_args = e.task_args ∙ sym f.task_args in
       let m : said v x.pre ≡ said w y.pre = ap (said v) e.pre ∙ said-empty v ∙ sym (said-empty w) ∙ sym (ap (said w) f.pre) in
-      let a' = e.params.1 in let b' = f.params.1 in
-      let k : e.params.0 ≡ f.params.0 = cc in
-      let l = same-params v w x.params y.params f.params.0 (subst (EachTyped (IsParam v) x.params) k e.params.2) f.params.2 in
-      let s : map (variable v) x.params ≡ map (variable w) y.params = scope-said v x.params e.params.0 e.params.2 ∙ ap (λ t. map (λ (z : Typed). z.0) (map param_said (items t))) k ∙ sym (scope-said w y.params f.params.0 f.params.2) in
+      let (l, s) = same-parameters v w x.params y.params _ _ refl e.params f.params in
       let g = same-network (map (variable v) x.params) (map (variable w) y.params) s x.children y.children x.pairs y.pairs x.constraints y.constraints es e.network f.network in
       λ n. (i n, t n, u n, m n, (l n, g.0 n, g.1 n, g.2 n))

@@ -2,10 +2,11 @@
 -- Source: this project's.
 use Rattle.std.specs.Prelude.{ℕ, ◌≡◌, ◌↔◌, Bool, List, map, Option, option_map}
 use Rattle.text_forms.specs.Words.{Word, word_at}
-use Rattle.plan_texts.specs.Declared.{Declared, named}
+use Rattle.plan_texts.specs.Declared.{Declared, named, type_words}
 use Rattle.plan_texts.specs.Types.{Has, IsPairOf}
-use Rattle.plan_texts.specs.SpellsPddl.{pddl_types, pddl_words}
-use Rattle.plan_texts.specs.SpellsHddl.{hddl_types, hddl_words}
+use Rattle.plan_texts.specs.Domains.{Domain, domain_words}
+use Rattle.plan_texts.specs.SpellsPddl.{pddl_words, pddl_domain}
+use Rattle.plan_texts.specs.SpellsHddl.{hddl_words, hddl_domain}
 use Rattle.plan_texts.specs.Said.{Typed, typed, Said, said, Done, done}
 use Rattle.plan_model.specs.declared.terms.Term.{Term}
 use Rattle.plan_model.specs.declared.networks.Head.{Head}
@@ -52,26 +53,28 @@ module _ (v : Declared) where
   method_said m = (named v.names m.name, m.task, m.task_args, said v m.pre, network_said m)
 
 -- The types are compared as a set of words and a set of pairs; unions where a variable is of one.
+pub record AreAlikeDomains (c d : Domain) : Type 0 where
+  pub types : (w : Word) → Has (type_words c.names c.types) w ↔ Has (type_words d.names d.types) w
+  pub pairs : (w u : Word) → IsPairOf (type_words c.names c.types) c.types.parents w u ↔ IsPairOf (type_words d.names d.types) d.types.parents w u
+  pub objects : map (object_said (domain_words c)) c.constants ≡ map (object_said (domain_words d)) d.constants
+  pub predicates : map (predicate_said (domain_words c)) c.predicates ≡ map (predicate_said (domain_words d)) d.predicates
+  pub actions : map (action_said (domain_words c)) c.actions ≡ map (action_said (domain_words d)) d.actions
+
+-- all objects are compared, those of the problem too
 pub record AreAlikePddl (c d : Pddl) : Type 0 where
   pub domains : named c.names c.domain ≡ named d.names d.domain
   pub problems : named c.names c.problem ≡ named d.names d.problem
-  pub types : (w : Word) → Has (pddl_types c) w ↔ Has (pddl_types d) w
-  pub pairs : (w u : Word) → IsPairOf (pddl_types c) c.types.parents w u ↔ IsPairOf (pddl_types d) d.types.parents w u
-  pub objects : map (object_said (pddl_words c)) c.objects ≡ map (object_said (pddl_words d)) d.objects
-  pub predicates : map (predicate_said (pddl_words c)) c.predicates ≡ map (predicate_said (pddl_words d)) d.predicates
-  pub actions : map (action_said (pddl_words c)) c.actions ≡ map (action_said (pddl_words d)) d.actions
+  pub declared : AreAlikeDomains (pddl_domain c c.objects) (pddl_domain d d.objects)
+  pub open declared use *
   pub init : c.init ≡ d.init
   pub goal : said (pddl_words c) c.goal ≡ said (pddl_words d) d.goal
 
 pub record AreAlikeHddl (c d : Hddl) : Type 0 where
   pub domains : named c.names c.domain ≡ named d.names d.domain
   pub problems : named c.names c.problem ≡ named d.names d.problem
-  pub types : (w : Word) → Has (hddl_types c) w ↔ Has (hddl_types d) w
-  pub pairs : (w u : Word) → IsPairOf (hddl_types c) c.types.parents w u ↔ IsPairOf (hddl_types d) d.types.parents w u
-  pub objects : map (object_said (hddl_words c)) c.objects ≡ map (object_said (hddl_words d)) d.objects
-  pub predicates : map (predicate_said (hddl_words c)) c.predicates ≡ map (predicate_said (hddl_words d)) d.predicates
+  pub declared : AreAlikeDomains (hddl_domain c c.objects) (hddl_domain d d.objects)
+  pub open declared use *
   pub tasks : map (task_said (hddl_words c)) c.tasks ≡ map (task_said (hddl_words d)) d.tasks
-  pub actions : map (action_said (hddl_words c)) c.actions ≡ map (action_said (hddl_words d)) d.actions
   pub methods : map (method_said (hddl_words c)) c.methods ≡ map (method_said (hddl_words d)) d.methods
   pub top : method_said (hddl_words c) c.top ≡ method_said (hddl_words d) d.top
   pub init : c.init ≡ d.init

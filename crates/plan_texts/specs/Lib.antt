@@ -4,6 +4,7 @@ pub mod Formulas
 pub mod Sections
 pub mod Types
 pub mod Schemas
+pub mod Domains
 pub mod SpellsPddl
 pub mod Networks
 pub mod SpellsHddl

@@ -60,31 +60,25 @@ abbrev pub chain_if : Bool → ℕ → List Pair
 chain_if true n = chain 0 n
 chain_if false n = []
 
-module _ (v : Declared) (tasks : List Word) (actions : List Word) where
-  -- a task or an action with terms
-  abbrev pub IsCall : List Word → Head → List Term → Part → Type 0
-  IsCall scope h ts p = (w : Word) × (ps : Parts) × (p ≡ headed w ps) × (is_name w ≡ true) × (head_of (first_place w tasks) (first_place w actions) ≡ Some h) × Each (IsTerm v scope) ts ps
+-- (< a b) or (a < b), where these are the ids of the subtasks; a subtask without one has the empty word
+abbrev pub IsOrdered : List Word → Pair → Part → Type 0
+IsOrdered ids x p =
+    (a : Word) × (b : Word) × ((p ≡ headed (codes "<") (part (name a) (part (name b) nothing))) ⊎ (p ≡ headed a (part (name (codes "<")) (part (name b) nothing))))
+    × (is_name a ≡ true) × (is_name b ≡ true) × (first_place a ids ≡ Some x.first) × (first_place b ids ≡ Some x.then)
 
-  -- ( NAME term* ) or ( id ( NAME term* ) )
-  abbrev pub IsSubtaskBy : List Word → Option Name → Head → List Term → Part → Type 0
-  IsSubtaskBy scope None h ts p = IsCall scope h ts p
-  IsSubtaskBy scope (Some i) h ts p = (qs : Parts) × (p ≡ headed (named v.names i) (part (group qs) nothing)) × (is_name (named v.names i) ≡ true) × IsCall scope h ts (group qs)
+-- the pairs of a network: those of subtasks that are written in order, and those that are written out
+pub record ArePairs (ids : List Word) (pairs : List Pair) (entries : Parts) : Type 0 where
+  pub written : List Pair
+  pub pairs_are : pairs ≡ chain_if (stands ordered_subtasks entries) (length ids) ++ written
+  pub pairs_spelled : Each (IsOrdered ids) written (bundle (found ordering entries))
 
-  abbrev pub IsSubtask : List Word → Child → Part → Type 0
-  IsSubtask scope c p = IsSubtaskBy scope c.id c.head c.args p
-
+module _ (v : Declared) where
   abbrev pub id_word : Option Name → Word
   id_word None = []
   id_word (Some i) = named v.names i
 
-  abbrev pub ids : List Child → List Word
-  ids cs = map (λ (c : Child). id_word c.id) cs
-
-  -- (< a b) or (a < b)
-  abbrev pub IsOrdered : List Word → Pair → Part → Type 0
-  IsOrdered is x p =
-      (a : Word) × (b : Word) × ((p ≡ headed (codes "<") (part (name a) (part (name b) nothing))) ⊎ (p ≡ headed a (part (name (codes "<")) (part (name b) nothing))))
-      × (is_name a ≡ true) × (is_name b ≡ true) × (first_place a is ≡ Some x.first) × (first_place b is ≡ Some x.then)
+  abbrev pub id_words : List Child → List Word
+  id_words cs = map (λ (c : Child). id_word c.id) cs
 
   -- ( = term term )
   abbrev pub IsEquation : List Word → Term → Term → Part → Type 0
@@ -98,14 +92,6 @@ module _ (v : Declared) (tasks : List Word) (actions : List Word) where
   abbrev pub IsConstraint : List Word → Constraint → Part → Type 0
   IsConstraint scope x p = IsConstraintBy scope x.equal x.left x.right p
 
-  -- the subtasks, pairs and constraints of a method or of the problem
-  pub record IsNetwork (scope : List Word) (children : List Child) (pairs : List Pair) (cons : List Constraint) (entries : Parts) : Type 0 where
-    pub children_spelled : Each (IsSubtask scope) children (bundle (found subtasks entries))
-    pub written : List Pair
-    pub pairs_are : pairs ≡ chain_if (stands ordered_subtasks entries) (length children) ++ written
-    pub pairs_spelled : Each (IsOrdered (ids children)) written (bundle (found ordering entries))
-    pub constraints_spelled : Each (IsConstraint scope) cons (bundle (found constraints entries))
-
   -- ( :task NAME tpart* ), whose precondition and effect are empty
   pub record IsTask (t : TaskSchema) (p : Part) : Type 0 where
     pub entries : Parts
@@ -115,6 +101,25 @@ module _ (v : Declared) (tasks : List Word) (actions : List Word) where
     pub params : AreParams v t.params (found parameters entries)
     pub no_pre : found precondition entries ≡ group nothing
     pub no_eff : found effect entries ≡ group nothing
+
+module _ (v : Declared) (tasks : List Word) (actions : List Word) where
+  -- a task or an action with terms
+  abbrev pub IsCall : List Word → Head → List Term → Part → Type 0
+  IsCall scope h ts p = (w : Word) × (ps : Parts) × (p ≡ headed w ps) × (is_name w ≡ true) × (head_of (first_place w tasks) (first_place w actions) ≡ Some h) × Each (IsTerm v scope) ts ps
+
+  -- ( NAME term* ) or ( id ( NAME term* ) )
+  abbrev pub IsSubtaskBy : List Word → Option Name → Head → List Term → Part → Type 0
+  IsSubtaskBy scope None h ts p = IsCall scope h ts p
+  IsSubtaskBy scope (Some i) h ts p = (qs : Parts) × (p ≡ headed (named v.names i) (part (group qs) nothing)) × (is_name (named v.names i) ≡ true) × IsCall scope h ts (group qs)
+
+  abbrev pub IsSubtask : List Word → Child → Part → Type 0
+  IsSubtask scope c p = IsSubtaskBy scope c.id c.head c.args p
+
+  -- the subtasks, pairs and constraints of a method or of the problem
+  pub record IsNetwork (scope ids : List Word) (children : List Child) (pairs : List Pair) (cons : List Constraint) (entries : Parts) : Type 0 where
+    pub children_spelled : Each (IsSubtask scope) children (bundle (found subtasks entries))
+    pub ordered : ArePairs ids pairs entries
+    pub constraints_spelled : Each (IsConstraint v scope) cons (bundle (found constraints entries))
 
   -- ( NAME term* ), the task of a method
   abbrev pub IsHeadOf : List Word → ℕ → List Term → Part → Type 0
@@ -129,7 +134,7 @@ module _ (v : Declared) (tasks : List Word) (actions : List Word) where
     pub params : AreParams v m.params (found parameters entries)
     pub head : IsHeadOf (map (variable v) m.params) m.task m.task_args (found task entries)
     pub pre : IsFormula v m.pre (map (variable v) m.params) (found precondition entries)
-    pub network : IsNetwork (map (variable v) m.params) m.children m.pairs m.constraints entries
+    pub network : IsNetwork (map (variable v) m.params) (id_words v m.children) m.children m.pairs m.constraints entries
 
   -- the method of :htn: its name is htn_start, and its task is one behind all others, without arguments or precondition
   pub record IsTop (m : MethodSchema) (entries : Parts) : Type 0 where
@@ -139,4 +144,4 @@ module _ (v : Declared) (tasks : List Word) (actions : List Word) where
     pub pre : m.pre ≡ And []
     pub form : are_entries network_entries entries ≡ true
     pub params : AreParams v m.params (found parameters entries)
-    pub network : IsNetwork (map (variable v) m.params) m.children m.pairs m.constraints entries
+    pub network : IsNetwork (map (variable v) m.params) (id_words v m.children) m.children m.pairs m.constraints entries

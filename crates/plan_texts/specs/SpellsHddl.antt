@@ -1,22 +1,17 @@
 -- What spells an HDDL value: two texts, sections in any order.
 -- Source: the full syntax definition of HDDL, Höller et al., "HDDL: An Extension to PDDL for Expressing Hierarchical Planning Problems", AAAI 2020: domains and problems with an initial task network.
-use Rattle.std.specs.Prelude.{ℕ, ◌≡◌, ◌++◌, true, false, List, [], ◌∷◌, map, codes, Some}
-use Rattle.text_forms.specs.Bytes.{is_clean}
-use Rattle.text_forms.specs.Tokens.{symbols}
-use Rattle.text_forms.specs.Lists.{Parts, written}
-use Rattle.text_forms.specs.Words.{Word, is_name}
-use Rattle.text_forms.specs.Printing.{definition}
+use Rattle.std.specs.Prelude.{ℕ, ◌≡◌, ◌++◌, List, [], ◌∷◌, map, codes, Some}
+use Rattle.text_forms.specs.Lists.{Parts}
+use Rattle.text_forms.specs.Words.{Word}
 use Rattle.plan_texts.specs.Declared.{Declared, named, type_words, words_with}
-use Rattle.plan_texts.specs.TypedLists.{Each, EachTyped}
-use Rattle.plan_texts.specs.Types.{AreTypes}
-use Rattle.plan_texts.specs.Formulas.{IsFormula}
-use Rattle.plan_texts.specs.Sections.{are_sections, section, parts_in, only, all_but, one_in, are_words, are_values, domain_once, problem_once}
-use Rattle.plan_texts.specs.Schemas.{IsObject, IsPredicate, IsAction, IsFact}
-use Rattle.plan_texts.specs.SpellsPddl.{IsNameIfThere}
+use Rattle.plan_texts.specs.TypedLists.{Each}
+use Rattle.plan_texts.specs.Sections.{section, only, problem_once}
 use Rattle.plan_texts.specs.Networks.{IsTask, IsMethod, IsTop}
+use Rattle.plan_texts.specs.Domains.{Domain, domain_words, Problem, AreDomainSections, AreProblemSections, AreDefinitions}
 use Rattle.plan_model.specs.declared.types.Object.{Object}
 use Rattle.plan_model.specs.declared.schemas.TaskSchema.{TaskSchema}
 use Rattle.plan_model.specs.declared.schemas.ActionSchema.{ActionSchema}
+use Rattle.plan_model.specs.declared.schemas.MethodSchema.{MethodSchema}
 use Rattle.plan_model.specs.declared.values.Hddl.{Hddl}
 
 abbrev pub hddl_many : List Word
@@ -24,6 +19,27 @@ hddl_many = codes ":action" ∷ codes ":task" ∷ codes ":method" ∷ []
 
 abbrev pub hddl_problem_once : List Word
 hddl_problem_once = codes ":htn" ∷ problem_once
+
+abbrev pub words_of_tasks : List Word → List TaskSchema → List Word
+words_of_tasks names tasks = map (λ (t : TaskSchema). named names t.name) tasks
+
+abbrev pub words_of_actions : List Word → List ActionSchema → List Word
+words_of_actions names actions = map (λ (a : ActionSchema). named names a.name) actions
+
+-- the sections of a domain with tasks and methods
+pub record AreHddlDomainSections (d : Domain) (domain : Parts) : Type 0 where
+  pub common : AreDomainSections hddl_many d domain
+  pub open common use *
+  pub tasks : Each (IsTask (domain_words d)) d.tasks (only (codes ":task") domain)
+  pub methods : Each (IsMethod (domain_words d) (words_of_tasks d.names d.tasks) (words_of_actions d.names d.actions)) d.methods (only (codes ":method") domain)
+
+-- the sections of a problem with a network, where tasks and actions have these words
+pub record AreHddlProblemSections (v : Declared) (tasks actions : List Word) (p : Problem) (network : MethodSchema) (problem : Parts) : Type 0 where
+  pub common : AreProblemSections hddl_problem_once v p problem
+  pub open common use *
+  pub htn : Parts
+  pub htn_there : section (codes ":htn") problem ≡ Some htn
+  pub top : IsTop v tasks actions network htn
 
 abbrev pub hddl_types : Hddl → List Word
 hddl_types c = type_words c.names c.types
@@ -37,43 +53,31 @@ abbrev pub hddl_domain_words : Hddl → List Object → Declared
 hddl_domain_words c constants = words_with c.names c.types c.predicates constants
 
 abbrev pub task_words : Hddl → List Word
-task_words c = map (λ (t : TaskSchema). named c.names t.name) c.tasks
+task_words c = words_of_tasks c.names c.tasks
 
 abbrev pub action_words : Hddl → List Word
-action_words c = map (λ (a : ActionSchema). named c.names a.name) c.actions
+action_words c = words_of_actions c.names c.actions
+
+-- the part of the domain, whose constants these are
+abbrev pub hddl_domain : Hddl → List Object → Domain
+hddl_domain c constants = record { names = c.names; types = c.types; constants = constants; predicates = c.predicates; tasks = c.tasks; actions = c.actions; methods = c.methods }
+
+-- the part of the problem, whose own objects these are
+abbrev pub hddl_problem : Hddl → List Object → Problem
+hddl_problem c others = record { objects = others; init = c.init; goal = c.goal }
 
 -- the sections of a domain and of a problem spell the value
 pub record AreHddlSections (c : Hddl) (domain problem : Parts) : Type 0 where
-  pub domain_form : are_sections domain_once hddl_many domain ≡ true
-  pub problem_form : are_sections hddl_problem_once [] problem ≡ true
-  pub domain_requires : are_words (parts_in (section (codes ":requirements") domain)) ≡ true
-  pub problem_requires : are_words (parts_in (section (codes ":requirements") problem)) ≡ true
-  pub of_domain : IsNameIfThere (section (codes ":domain") problem)
-  pub types : AreTypes (hddl_types c) c.types.parents (parts_in (section (codes ":types") domain))
   pub constants : List Object
   pub others : List Object
   pub objects : c.objects ≡ constants ++ others
-  pub constants_spelled : EachTyped (IsObject (hddl_words c) true) constants (parts_in (section (codes ":constants") domain))
-  pub others_spelled : EachTyped (IsObject (hddl_words c) false) others (parts_in (section (codes ":objects") problem))
-  pub predicates : Each (IsPredicate (hddl_words c)) c.predicates (parts_in (section (codes ":predicates") domain))
-  pub tasks : Each (IsTask (hddl_domain_words c constants) (task_words c) (action_words c)) c.tasks (only (codes ":task") domain)
-  pub actions : Each (IsAction (hddl_domain_words c constants)) c.actions (only (codes ":action") domain)
-  pub methods : Each (IsMethod (hddl_domain_words c constants) (task_words c) (action_words c)) c.methods (only (codes ":method") domain)
-  pub htn : Parts
-  pub htn_there : section (codes ":htn") problem ≡ Some htn
-  pub top : IsTop (hddl_words c) (task_words c) (action_words c) c.top htn
-  pub init_form : are_values (parts_in (section (codes ":init") problem)) ≡ true
-  pub init : Each (IsFact (hddl_words c)) c.init (all_but (codes "=") (parts_in (section (codes ":init") problem)))
-  pub goal : IsFormula (hddl_words c) c.goal [] (one_in (section (codes ":goal") problem))
+  pub in_domain : AreHddlDomainSections (hddl_domain c constants) domain
+  pub open in_domain use {domain_form, domain_requires, types, constants_spelled, predicates, tasks, actions, methods}
+  pub in_problem : AreHddlProblemSections (hddl_words c) (task_words c) (action_words c) (hddl_problem c others) c.top problem
+  pub open in_problem use {problem_form, problem_requires, of_domain, others_spelled, init_form, init, goal, htn, htn_there, top}
 
 -- two texts spell the value
 pub record SpellsHddl (domain problem : List ℕ) (c : Hddl) : Type 0 where
-  pub domain_sections : Parts
-  pub problem_sections : Parts
-  pub domain_clean : is_clean domain ≡ true
-  pub problem_clean : is_clean problem ≡ true
-  pub domain_is : symbols domain ≡ written (definition (codes "domain") (named c.names c.domain) domain_sections)
-  pub problem_is : symbols problem ≡ written (definition (codes "problem") (named c.names c.problem) problem_sections)
-  pub domain_named : is_name (named c.names c.domain) ≡ true
-  pub problem_named : is_name (named c.names c.problem) ≡ true
-  pub sections : AreHddlSections c domain_sections problem_sections
+  pub texts : AreDefinitions domain problem (named c.names c.domain) (named c.names c.problem)
+  pub open texts use *
+  pub sections : AreHddlSections c texts.domain_sections texts.problem_sections

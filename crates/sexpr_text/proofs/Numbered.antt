@@ -6,6 +6,7 @@ use Rattle.std.specs.Prelude.{slice_get}
 use Rattle.text_forms.specs.Closing.{close_by, close_after, close_of, closings, flattened, close_at}
 use Rattle.text_forms.specs.Tokens.{Kind, start, stop, word, Token, tokens, token_count}
 use Rattle.text_forms.proofs.Lists.{few_tokens}
+use Rattle.text_forms.proofs.Shown.{closes_get}
 use Rattle.sexpr_text.specs.declared.marks.Place.{Place}
 use Rattle.sexpr_text.specs.declared.tokens.Kind.{Kind as Kinds}
 use Rattle.sexpr_text.specs.declared.tokens.Kind.TheVariants.{Start, Stop, Word}
@@ -93,15 +94,7 @@ marks_as_before text n ps e m =
     enough_by zero z = absurd (e z)
     enough_by (suc r) z = let enough = m.enough in omega (arith, div-add-mod' n 8)
 
--- which token closes the list that a token opens
-pub close_here : (ts us : List Token) (j i : ℕ) (t : Token) → drop i ts ≡ t ∷ us → flattened (slice_get (closings j ts) i) ≡ close_of t.kind (j + i) us
-close_here [] us j zero t e = cc
-close_here [] us j (suc i) t e = cc
-close_here (a ∷ ts) us j zero t e =
-    let same : a ≡ t = cc in let rest : ts ≡ us = cc in let at : j ≡ j + 0 = omega arith in
-    (λ k. close_of (same k).kind (at k) (rest k))
-close_here (a ∷ ts) us j (suc i) t e = let at : j + 1 + i ≡ j + suc i = omega arith in close_here ts us (j + 1) i t e ∙ ap (λ n. close_of t.kind n us) at
-
+-- no token past the end closes one
 pub close_past : (ts : List Token) (j i : ℕ) → length ts ≤ i → flattened (slice_get (closings j ts) i) ≡ None
 close_past [] j i le = refl
 close_past (a ∷ ts) j zero le = absurd (omega arith)
@@ -161,8 +154,9 @@ token_here text i at p t h e = (drop_next i (tokens text) (tokens_at text at) t 
 -- what a token closes, by its kind
 pub close_of_place : (text : List ℕ) (i at : ℕ) (p : Place) (t : Token) → IsPlace text i p → tokens_at text p.at ≡ t ∷ tokens_at text at → close_at text i ≡ close_of t.kind i (tokens_at text at)
 close_of_place text i at p t h e =
+    let next = drop_next i (tokens text) (tokens_at text at) t (h.here ∙ e) in
     let none : 0 + i ≡ i = omega arith in
-    close_here (tokens text) (tokens_at text at) 0 i t (h.here ∙ e) ∙ ap (λ n. close_of t.kind n (tokens_at text at)) none
+    closes_get (tokens text) 0 i t next.2 ∙ (λ k. close_of t.kind (none k) (next.1 k))
 
 pub closes_none : (k : Kinds) (i : ℕ) (behind : List Token) → (k ≡ Start → ⊥) → close_of (kind_seen k) i behind ≡ None
 closes_none Start i behind h = absurd (h refl)

@@ -5,7 +5,10 @@ pub mod MatchedFaults
 pub mod Levels
 pub mod ReadOn
 pub mod Printed
-pub mod Rows
 pub mod Lists
 pub mod Shown
 pub mod Fronts
+pub mod InComments
+pub mod EachToken
+pub mod OneToken
+pub mod examples

@@ -64,34 +64,26 @@ said-made before rest u at bad e b = said-ended before rest u at e b
 said-made before rest u at opening e b = said-append (before ++ rest) (ended u at) (token start at (at + 1) ∷ []) ∙ ap (λ t. t ++ left ∷ []) (said-ended before rest u at e b)
 said-made before rest u at closing e b = said-append (before ++ rest) (ended u at) (token stop at (at + 1) ∷ []) ∙ ap (λ t. t ++ right ∷ []) (said-ended before rest u at e b)
 
+length-more : (xs : List ℕ) (x : ℕ) → length (xs ++ x ∷ []) ≡ length xs + 1
+length-more [] x = refl
+length-more (y ∷ ys) x = let h = length-more ys x in omega arith
+
 far-after : (before : List ℕ) (under_way : Option ℕ) (at b : ℕ) (c : Class) → at ≡ length before → Begins under_way before
     → (so_far (before ++ b ∷ []) (under_way_after under_way at c) ≡ letters_after (so_far before under_way) b c) × Begins (under_way_after under_way at c) (before ++ b ∷ [])
 far-after before None at b letter e l =
-    let n : length (before ++ b ∷ []) ≡ length before + 1 = length-one before b in (
+    let n : length (before ++ b ∷ []) ≡ length before + 1 = length-more before b in (
       ap (λ k. Some (map to_ascii_lowercase (drop k (before ++ b ∷ [])))) e ∙ ap (λ t. Some (map to_ascii_lowercase t)) (drop-append_seam before (b ∷ [])),
       omega arith,
     )
-  where
-    length-one : (xs : List ℕ) (x : ℕ) → length (xs ++ x ∷ []) ≡ length xs + 1
-    length-one [] x = refl
-    length-one (y ∷ ys) x = let h = length-one ys x in omega arith
 far-after before (Some first) at b letter e l =
-    let n : length (before ++ b ∷ []) ≡ length before + 1 = length-one before b in (
+    let n : length (before ++ b ∷ []) ≡ length before + 1 = length-more before b in (
       ap (λ t. Some (map to_ascii_lowercase t)) (drop-append-le first before (b ∷ []) l) ∙ ap Some (map-append to_ascii_lowercase (drop first before) (b ∷ [])),
       omega arith,
     )
-  where
-    length-one : (xs : List ℕ) (x : ℕ) → length (xs ++ x ∷ []) ≡ length xs + 1
-    length-one [] x = refl
-    length-one (y ∷ ys) x = let h = length-one ys x in omega arith
 far-after before u at b blank e l = (refl, tt)
 far-after before u at b bad e l = (refl, tt)
 far-after before u at b opening e l = (refl, tt)
 far-after before u at b closing e l = (refl, tt)
-
-length-more : (xs : List ℕ) (x : ℕ) → length (xs ++ x ∷ []) ≡ length xs + 1
-length-more [] x = refl
-length-more (y ∷ ys) x = let h = length-more ys x in omega arith
 
 said-from : (before rest : List ℕ) (under_way : Option ℕ) (at : ℕ) (comment : Bool) → at ≡ length before → Begins under_way before
     → map symbol (map (lexeme (before ++ rest)) (tokens_from under_way at (classes_from comment rest))) ≡ read_on (so_far before under_way) comment rest

@@ -44,7 +44,8 @@ drop_none f [] (suc i) e = refl
 drop_none f (y ∷ xs) zero e = cc
 drop_none f (y ∷ xs) (suc i) e = drop_none f xs i e
 
-closes_get : (ps : List Token) (j i : ℕ) (p : Token) → slice_get ps i ≡ Some p → flattened (slice_get (closings j ps) i) ≡ close_of p.kind (j + i) (drop (suc i) ps)
+-- which token closes the list that token i opens
+pub closes_get : (ps : List Token) (j i : ℕ) (p : Token) → slice_get ps i ≡ Some p → flattened (slice_get (closings j ps) i) ≡ close_of p.kind (j + i) (drop (suc i) ps)
 closes_get [] j i p e = cc
 closes_get (q ∷ ps) j zero p e =
     let same : q ≡ p = cc in

@@ -1,12 +1,13 @@
 pub mod Bytes
 pub mod Tokens
+pub mod Comments
+pub mod LongestRuns
 pub mod Closing
 pub mod Faults
 pub mod Least
 pub mod Lists
 pub mod Placed
 pub mod Fronts
-pub mod Forms
 pub mod Words
 pub mod Printing
 pub mod Laws

@@ -1,7 +1,9 @@
 // Laws of the definitions of texts.
-ghost use Rattle.std.specs.Prelude.{◌≡◌, ◌≤◌, ℕ, true, List, length, drop, slice_get};
-ghost use Rattle.text_forms.specs.Bytes.{is_clean};
-ghost use Rattle.text_forms.specs.Tokens.{tokens, token_count, lexemes, symbols};
+ghost use Rattle.std.specs.Prelude.{◌≡◌, ◌≤◌, ℕ, true, All, List, Some, length, drop, slice_get};
+ghost use Rattle.text_forms.specs.Bytes.{opening, closing, letter, is_clean};
+ghost use Rattle.text_forms.specs.Tokens.{start, stop, word, tokens, token_count, lexemes, symbols};
+ghost use Rattle.text_forms.specs.Comments.{IsClassed};
+ghost use Rattle.text_forms.specs.LongestRuns.{IsAt, IsMade, LiesInOne};
 ghost use Rattle.text_forms.specs.Least.{least_fault};
 ghost use Rattle.text_forms.specs.Lists.{Part, Parts, written, written_all};
 ghost use Rattle.text_forms.specs.Placed.{level, parts_at};
@@ -14,6 +16,16 @@ ghost use Rattle.text_forms.specs.Laws.{StandInOrder, ClosesItsLists, ShowsBy, M
 pub fn lists_law()
     ensures matched { MatchedAreLists }
     ensures one { OneNesting }
+{}
+
+/// Each token is a longest run of letters or one parenthesis. Each letter and each parenthesis outside comments lies in
+/// exactly one token, which is a word or of that parenthesis. Each byte in a comment is blank, and each other is of its own class.
+pub fn words_are_longest_runs(text: &[u8])
+    ensures tokens { All (IsMade text.now) (tokens text.now) }
+    ensures letters { (k : ℕ) → IsAt text.now k letter → LiesInOne text.now k word }
+    ensures opens { (k : ℕ) → IsAt text.now k opening → LiesInOne text.now k start }
+    ensures closes { (k : ℕ) → IsAt text.now k closing → LiesInOne text.now k stop }
+    ensures comments { (k b : ℕ) → slice_get text.now k ≡ Some b → IsClassed text.now k b }
 {}
 
 /// Tokens stand in order within the text, each list that is opened is closed in a text without faults, and

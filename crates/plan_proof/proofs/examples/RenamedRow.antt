@@ -8,7 +8,7 @@ use Rattle.plan_texts.specs.Said.{said, all, none, done, both, no_more}
 use Rattle.plan_texts.proofs.Basics.{apart}
 use Rattle.plan_texts.proofs.Readings.{said_roll}
 use Rattle.plan_texts.proofs.Effects.{done_roll}
-use Rattle.plan_texts.proofs.SmallestRow.{smallest as printed}
+use Rattle.plan_texts.proofs.examples.SmallestRow.{smallest as printed}
 use Rattle.plan_model.specs.declared.formulas.Formula.TheOpen.{Formula-F}
 use Rattle.plan_model.specs.declared.formulas.Formula.TheVariants.{rolls-And}
 use Rattle.plan_model.specs.declared.effects.Effect.TheOpen.{Effect-F}
@@ -58,12 +58,14 @@ renamed_same =
       alike = record {
         domains = refl;
         problems = refl;
-        types = λ w. (λ h. h, λ h. h);
-        pairs = λ w u. (λ h. h, λ h. h);
-        objects = refl;
-        predicates = refl;
+        declared = record {
+          types = λ w. (λ h. h, λ h. h);
+          pairs = λ w u. (λ h. h, λ h. h);
+          objects = refl;
+          predicates = refl;
+          actions = λ i. (codes "a", [], f i, g i) ∷ [];
+        };
         tasks = refl;
-        actions = λ i. (codes "a", [], f i, g i) ∷ [];
         methods = λ i. (codes "m", 0, [], f i, ([], (None, Action 0, []) ∷ [], [], [])) ∷ [];
         top = λ i. (codes "htn_start", 1, [], f i, ([], (None, Task 0, []) ∷ [], [], []));
         init = refl;

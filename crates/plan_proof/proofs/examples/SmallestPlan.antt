@@ -19,8 +19,8 @@ use Rattle.plan_meaning.specs.Truth.{State, ground, AreTyped, truth_step, IsTrue
 use Rattle.plan_meaning.specs.ClassicalPlan.{InTypeOf, IsPlan}
 use Rattle.plan_texts.specs.PrintedTexts.{domain_text}
 use Rattle.plan_texts.proofs.PrintedSpells.{printed_spells}
-use Rattle.plan_texts.proofs.SmallestRow.{h, x, wait, held, turned, freed, all_free, smallest, domain_bytes, problem_bytes, domain_row, problem_row}
-use Rattle.plan_texts.proofs.SmallestPrintable.{smallest_printable}
+use Rattle.plan_texts.proofs.examples.SmallestRow.{h, x, wait, held, turned, freed, all_free, smallest, domain_bytes, problem_bytes, domain_row, problem_row}
+use Rattle.plan_texts.proofs.examples.SmallestPrintable.{smallest_printable}
 use Rattle.plan_proof.specs.TextPlans.{IsPlanOf}
 use Rattle.plan_texts.proofs.Members.{contains-has}
 use Rattle.plan_proof.proofs.texts.Truths.{truth_roll}

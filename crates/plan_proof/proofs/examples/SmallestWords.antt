@@ -12,7 +12,7 @@ use Rattle.plan_model.specs.declared.effects.Effect.TheVariants as E
 use Rattle.plan_texts.specs.Types.{Has, EachIs}
 use Rattle.plan_texts.specs.PrintableValue.{IsPrintable}
 use Rattle.plan_texts.proofs.Members.{each-has, has-at, contains-has, has-contains}
-use Rattle.plan_texts.proofs.SmallestRow.{smallest as printed}
+use Rattle.plan_texts.proofs.examples.SmallestRow.{smallest as printed}
 use Rattle.slot_encoding.specs.EncodedValue.{first_atoms}
 use Rattle.plan_meaning.proofs.examples.RowWords.{slot_1}
 use Rattle.plan_meaning.proofs.examples.SmallestRow.{smallest, smallest_names}

@@ -17,9 +17,9 @@ use Rattle.plan_model.specs.declared.schemas.ActionSchema.{ActionSchema}
 use Rattle.plan_model.specs.declared.values.Pddl.{Pddl}
 use Rattle.plan_texts.specs.SpellsPddl.{pddl_words}
 use Rattle.plan_texts.specs.PrintableValue.{arities_of, IsPrintable}
-use Rattle.plan_texts.proofs.SmallestRow.{h, x, wait, clear, held, turned}
-use Rattle.plan_texts.proofs.SmallestRow.{smallest as printed_smallest}
-use Rattle.plan_texts.proofs.SmallestPrintable.{smallest_printable}
+use Rattle.plan_texts.proofs.examples.SmallestRow.{h, x, wait, clear, held, turned}
+use Rattle.plan_texts.proofs.examples.SmallestRow.{smallest as printed_smallest}
+use Rattle.plan_texts.proofs.examples.SmallestPrintable.{smallest_printable}
 use Rattle.slot_encoding.specs.SourceParts.{name, source_formula, source_effect}
 use Rattle.slot_encoding.specs.EncodedNames.{encoded_objects}
 use Rattle.slot_encoding.specs.EncodedActions.{no_part, is_empty, no_effect, is_empty_effect, source_condition, source_change}

@@ -73,59 +73,73 @@ module _ (w : Word) (head : Head) where
 
   sections : IsCalled → AreHddlSections c (domain_sections w) problem_sections
   sections called = record {
-    domain_form = refl;
-    problem_form = refl;
-    domain_requires = refl;
-    problem_requires = refl;
-    of_domain = (codes "d", refl, refl);
-    types = types-in-order nothing tt (λ r h. h);
     constants = [];
     others = [];
     objects = refl;
-    constants_spelled = tt;
-    others_spelled = tt;
-    predicates = tt;
-    tasks = (record { entries = _; is = refl; named = refl; form = refl; params = (_, refl, tt); no_pre = refl; no_eff = refl }, tt);
-    actions = (record { entries = _; is = refl; named = refl; form = refl; params = (_, refl, tt); pre = no_condition (hddl_domain_words c []) []; eff = no_change (hddl_domain_words c []) [] }, tt);
-    methods = (
-      record {
-        entries = entries_of w;
-        is = refl;
+    in_domain = record {
+      common = record {
+        domain_form = refl;
+        domain_requires = refl;
+        types = types-in-order nothing tt (λ r h. h);
+        constants_spelled = tt;
+        predicates = tt;
+        actions = (record { entries = _; is = refl; named = refl; form = refl; params = (_, refl, tt); pre = no_condition (hddl_domain_words c []) []; eff = no_change (hddl_domain_words c []) [] }, tt);
+      };
+      tasks = (record { entries = _; is = refl; named = refl; form = refl; params = (_, refl, tt); no_pre = refl; no_eff = refl }, tt);
+      methods = (
+        record {
+          entries = entries_of w;
+          is = refl;
+          named = refl;
+          form = refl;
+          params = (_, refl, tt);
+          head = (codes "t", _, refl, refl, refl, tt);
+          pre = no_condition (hddl_domain_words c []) [];
+          network = record { children_spelled = called; ordered = record { written = []; pairs_are = refl; pairs_spelled = tt }; constraints_spelled = tt };
+        },
+        tt,
+      );
+    };
+    in_problem = record {
+      common = record {
+        problem_form = refl;
+        problem_requires = refl;
+        of_domain = (codes "d", refl, refl);
+        others_spelled = tt;
+        init_form = refl;
+        init = tt;
+        goal = no_condition (hddl_words c) [];
+      };
+      htn = _;
+      htn_there = refl;
+      top = record {
         named = refl;
+        task = refl;
+        task_args = refl;
+        pre = refl;
         form = refl;
         params = (_, refl, tt);
-        head = (codes "t", _, refl, refl, refl, tt);
-        pre = no_condition (hddl_domain_words c []) [];
-        network = record { children_spelled = called; written = []; pairs_are = refl; pairs_spelled = tt; constraints_spelled = tt };
-      },
-      tt,
-    );
-    htn = _;
-    htn_there = refl;
-    top = record {
-      named = refl;
-      task = refl;
-      task_args = refl;
-      pre = refl;
-      form = refl;
-      params = (_, refl, tt);
-      network = record { children_spelled = ((codes "t", _, refl, refl, refl, tt), tt); written = []; pairs_are = refl; pairs_spelled = tt; constraints_spelled = tt };
+        network = record { children_spelled = ((codes "t", _, refl, refl, refl, tt), tt); ordered = record { written = []; pairs_are = refl; pairs_spelled = tt }; constraints_spelled = tt };
+      };
     };
-    init_form = refl;
-    init = tt;
-    goal = no_condition (hddl_words c) [];
   }
 
 smallest_spelled : SpellsHddl smallest_domain problem smallest
 smallest_spelled = record {
-  domain_sections = domain_sections (codes "a");
-  problem_sections = problem_sections;
-  domain_clean = refl;
-  problem_clean = refl;
-  domain_is = symbols-read smallest_domain ∙ refl;
-  problem_is = symbols-read problem ∙ refl;
-  domain_named = refl;
-  problem_named = refl;
+  texts = record {
+    domain_sections = domain_sections (codes "a");
+    problem_sections = problem_sections;
+    domain_text = record {
+      clean = refl;
+      is = symbols-read smallest_domain ∙ refl;
+      named = refl;
+    };
+    problem_text = record {
+      clean = refl;
+      is = symbols-read problem ∙ refl;
+      named = refl;
+    };
+  };
   sections = sections (codes "a") (Action 0) ((codes "a", _, refl, refl, refl, tt), tt);
 }
 
@@ -135,14 +149,20 @@ smallest_texts = record { domain_faultless = no_fault smallest_domain refl; prob
 
 calls_itself_spelled : SpellsHddl calls_itself_domain problem calls_itself
 calls_itself_spelled = record {
-  domain_sections = domain_sections (codes "t");
-  problem_sections = problem_sections;
-  domain_clean = refl;
-  problem_clean = refl;
-  domain_is = symbols-read calls_itself_domain ∙ refl;
-  problem_is = symbols-read problem ∙ refl;
-  domain_named = refl;
-  problem_named = refl;
+  texts = record {
+    domain_sections = domain_sections (codes "t");
+    problem_sections = problem_sections;
+    domain_text = record {
+      clean = refl;
+      is = symbols-read calls_itself_domain ∙ refl;
+      named = refl;
+    };
+    problem_text = record {
+      clean = refl;
+      is = symbols-read problem ∙ refl;
+      named = refl;
+    };
+  };
   sections = sections (codes "t") (Task 0) ((codes "t", _, refl, refl, refl, tt), tt);
 }
 

@@ -18,7 +18,7 @@ use Rattle.plan_meaning.specs.Truth.{State, AreTyped, IsTrueIn, Adds, Deletes, a
 use Rattle.plan_meaning.specs.ClassicalPlan.{IsObject, AreObjects, InTypeOf, Leads, IsExecutable, IsPlan}
 use Rattle.plan_texts.proofs.AlikeLaws.{pddl_symmetric}
 use Rattle.plan_texts.proofs.Members.{each-has, has-to_map, has-of_map}
-use Rattle.plan_texts.proofs.Unique.{spelled_alike}
+use Rattle.plan_texts.proofs.UniquePddl.{spelled_alike}
 use Rattle.plan_proof.specs.SoundWords.{HasSoundWords}
 use Rattle.plan_texts.proofs.Members.{contains-has, has-contains}
 use Rattle.slot_encoding.proofs.places.Places.{in_range, get-word, word-get, each-at-some, same-at}

@@ -1,4 +1,4 @@
-use Rattle.plan_texts.proofs.Unique.{spelled_alike}
+use Rattle.plan_texts.proofs.UniquePddl.{spelled_alike}
 use Rattle.plan_texts.proofs.alike.spelled_pddl_alike.Goals as goal
 
 pub returns : goal.returns

@@ -1,6 +1,6 @@
 use Rattle.plan_texts.specs.PrintedTexts.{domain_text, problem_text}
 use Rattle.plan_texts.proofs.PrintedSpells.{printed_spells}
-use Rattle.plan_texts.proofs.Unique.{spelled_alike}
+use Rattle.plan_texts.proofs.UniquePddl.{spelled_alike}
 use Rattle.plan_texts.proofs.printed.read_back_alike.Goals as goal
 
 pub returns : goal.returns

@@ -5,7 +5,7 @@ use Rattle.std.proofs.lemmas.Bool.{cases_lt}
 use Rattle.std.proofs.lemmas.List.Elements.{All-append, All-push}
 use Rattle.text_forms.specs.Bytes.{Class, blank, opening, closing, letter, bad, classes}
 use Rattle.text_forms.specs.Tokens.{start, stop, word, token, ended, begun, tokens_from, tokens}
-use Rattle.token_laws.specs.LongestRuns.{IsAt, IsFreeBefore, IsMade}
+use Rattle.text_forms.specs.LongestRuns.{IsAt, IsFreeBefore, IsMade}
 
 module _ (text : List ℕ) where
   -- these are the classes from a place on

@@ -6,12 +6,12 @@ use Rattle.plan_texts.specs.Declared.{Declared}
 use Rattle.plan_texts.specs.Formulas.{IsTerm}
 use Rattle.plan_texts.specs.Sections.{found, section, parameters}
 use Rattle.plan_texts.specs.Schemas.{IsPredicate, IsAction, IsFact}
-use Rattle.plan_texts.specs.SpellsPddl.{IsNameIfThere}
+use Rattle.plan_texts.specs.Domains.{IsNameIfThere}
 use Rattle.plan_texts.specs.Networks.{task, IsMethod}
 use Rattle.plan_model.specs.declared.terms.Term.TheVariants.{Obj}
 use Rattle.plan_model.specs.declared.schemas.ActionSchema.{ActionSchema}
 use Rattle.plan_model.specs.declared.schemas.MethodSchema.{MethodSchema}
-use Rattle.plan_texts.proofs.RowWords.{parts, first_of, said, next_part, behind_two, word_of, n, v, x_a}
+use Rattle.plan_texts.proofs.examples.RowWords.{parts, first_of, said, next_part, behind_two, word_of, n, v, x_a}
 
 -- in a predicate a variable may come twice
 pub predicate : IsPredicate v (record { name = n 2; params = x_a ∷ x_a ∷ [] }) (said (codes "(p ?x ?x - a)"))

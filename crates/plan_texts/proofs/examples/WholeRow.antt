@@ -22,7 +22,7 @@ use Rattle.plan_model.specs.declared.values.Hddl.{Hddl}
 use Rattle.plan_texts.proofs.Basics.{apart}
 use Rattle.plan_texts.proofs.InOrder.{types-in-order}
 use Rattle.plan_texts.proofs.Layers.{formula-Holds, formula-And, effect-Add, effect-Both}
-use Rattle.plan_texts.proofs.RowWords.{said, n}
+use Rattle.plan_texts.proofs.examples.RowWords.{said, n}
 
 abbrev pub domain : List ℕ
 domain = codes "(define (domain D) (:requirements :typing :hierarchy) ; a comment (\n (:types a b - object c - a) (:constants k - c) (:predicates (p ?x - a) (q))\n (:functions (cost ?x - (either c b)) - number)\n (:task t :parameters (?x - (either a b)))\n (:method m :parameters (?x - a) :task (t ?x) :precondition (p ?x)\n  :subtasks (and (i (act ?x)) (j (t k))) :ordering (< i j) :constraints (not (= ?x k)))\n (:action ACT :parameters (?x - a) :effect (and (p ?x) (increase (total) 1))))\n"
@@ -147,77 +147,91 @@ free r (inr (inr (inr e))) = e
 
 sections : AreHddlSections whole domain_sections problem_sections
 sections = record {
-  domain_form = refl;
-  problem_form = refl;
-  domain_requires = refl;
-  problem_requires = refl;
-  of_domain = (codes "d", refl, refl);
-  types = types-in-order type_list ((refl, refl, refl, refl), ((refl, refl, refl, refl), ((refl, refl, refl, refl), tt))) free;
   constants = k ∷ [];
   others = o ∷ [];
   objects = refl;
-  constants_spelled = ((refl, refl, (refl, refl), refl), tt);
-  others_spelled = ((refl, refl, (refl, refl), refl), tt);
-  predicates = ((_, refl, refl, ((refl, refl, (refl, refl)), tt)), ((_, refl, refl, tt), tt));
-  tasks = (record { entries = _; is = refl; named = refl; form = refl; params = (_, refl, ((refl, refl, (refl, refl)), tt)); no_pre = refl; no_eff = refl }, tt);
-  actions = (record { entries = _; is = refl; named = refl; form = refl; params = (_, refl, ((refl, refl, (refl, refl)), tt)); pre = no_condition w scope; eff = effect }, tt);
-  methods = (
-    record {
-      entries = _;
-      is = refl;
+  in_domain = record {
+    common = record {
+      domain_form = refl;
+      domain_requires = refl;
+      types = types-in-order type_list ((refl, refl, refl, refl), ((refl, refl, refl, refl), ((refl, refl, refl, refl), tt))) free;
+      constants_spelled = ((refl, refl, (refl, refl), refl), tt);
+      predicates = ((_, refl, refl, ((refl, refl, (refl, refl)), tt)), ((_, refl, refl, tt), tt));
+      actions = (record { entries = _; is = refl; named = refl; form = refl; params = (_, refl, ((refl, refl, (refl, refl)), tt)); pre = no_condition w scope; eff = effect }, tt);
+    };
+    tasks = (record { entries = _; is = refl; named = refl; form = refl; params = (_, refl, ((refl, refl, (refl, refl)), tt)); no_pre = refl; no_eff = refl }, tt);
+    methods = (
+      record {
+        entries = _;
+        is = refl;
+        named = refl;
+        form = refl;
+        params = (_, refl, ((refl, refl, (refl, refl)), tt));
+        head = (codes "t", _, refl, refl, refl, ((codes "x", refl, refl), tt));
+        pre = precondition;
+        network = record {
+          children_spelled = (
+            (_, refl, refl, (codes "act", _, refl, refl, refl, ((codes "x", refl, refl), tt))),
+            ((_, refl, refl, (codes "t", _, refl, refl, refl, ((codes "k", refl, refl, refl), tt))), tt),
+          );
+          ordered = record {
+            written = record { first = 0; then = 1 } ∷ [];
+            pairs_are = refl;
+            pairs_spelled = ((codes "i", codes "j", inl refl, refl, refl, refl, refl), tt);
+          };
+          constraints_spelled = ((_, refl, (_, _, refl, (codes "x", refl, refl), (codes "k", refl, refl, refl))), tt);
+        };
+      },
+      tt,
+    );
+  };
+  in_problem = record {
+    common = record {
+      problem_form = refl;
+      problem_requires = refl;
+      of_domain = (codes "d", refl, refl);
+      others_spelled = ((refl, refl, (refl, refl), refl), tt);
+      init_form = refl;
+      init = ((codes "q", nothing, refl, refl, refl, tt), ((codes "p", _, refl, refl, refl, ((codes "k", refl, refl, refl), tt)), tt));
+      goal = no_condition v [];
+    };
+    htn = _;
+    htn_there = refl;
+    top = record {
       named = refl;
+      task = refl;
+      task_args = refl;
+      pre = refl;
       form = refl;
       params = (_, refl, ((refl, refl, (refl, refl)), tt));
-      head = (codes "t", _, refl, refl, refl, ((codes "x", refl, refl), tt));
-      pre = precondition;
       network = record {
         children_spelled = (
-          (_, refl, refl, (codes "act", _, refl, refl, refl, ((codes "x", refl, refl), tt))),
-          ((_, refl, refl, (codes "t", _, refl, refl, refl, ((codes "k", refl, refl, refl), tt))), tt),
+          (codes "t", _, refl, refl, refl, ((codes "y", refl, refl), tt)),
+          ((codes "t", _, refl, refl, refl, ((codes "k", refl, refl, refl), tt)), tt),
         );
-        written = record { first = 0; then = 1 } ∷ [];
-        pairs_are = refl;
-        pairs_spelled = ((codes "i", codes "j", inl refl, refl, refl, refl, refl), tt);
-        constraints_spelled = ((_, refl, (_, _, refl, (codes "x", refl, refl), (codes "k", refl, refl, refl))), tt);
+        ordered = record { written = []; pairs_are = refl; pairs_spelled = tt };
+        constraints_spelled = tt;
       };
-    },
-    tt,
-  );
-  htn = _;
-  htn_there = refl;
-  top = record {
-    named = refl;
-    task = refl;
-    task_args = refl;
-    pre = refl;
-    form = refl;
-    params = (_, refl, ((refl, refl, (refl, refl)), tt));
-    network = record {
-      children_spelled = (
-        (codes "t", _, refl, refl, refl, ((codes "y", refl, refl), tt)),
-        ((codes "t", _, refl, refl, refl, ((codes "k", refl, refl, refl), tt)), tt),
-      );
-      written = [];
-      pairs_are = refl;
-      pairs_spelled = tt;
-      constraints_spelled = tt;
     };
   };
-  init_form = refl;
-  init = ((codes "q", nothing, refl, refl, refl, tt), ((codes "p", _, refl, refl, refl, ((codes "k", refl, refl, refl), tt)), tt));
-  goal = no_condition v [];
 }
 
 pub whole_spelled : SpellsHddl domain problem whole
 whole_spelled = record {
-  domain_sections = domain_sections;
-  problem_sections = problem_sections;
-  domain_clean = refl;
-  problem_clean = refl;
-  domain_is = symbols-read domain ∙ refl;
-  problem_is = symbols-read problem ∙ refl;
-  domain_named = refl;
-  problem_named = refl;
+  texts = record {
+    domain_sections = domain_sections;
+    problem_sections = problem_sections;
+    domain_text = record {
+      clean = refl;
+      is = symbols-read domain ∙ refl;
+      named = refl;
+    };
+    problem_text = record {
+      clean = refl;
+      is = symbols-read problem ∙ refl;
+      named = refl;
+    };
+  };
   sections = sections;
 }
 

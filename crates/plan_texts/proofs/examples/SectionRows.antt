@@ -4,7 +4,7 @@ use Rattle.text_forms.specs.Lists.{name, group, nothing}
 use Rattle.plan_texts.specs.Sections.{are_entries, found, stands, bundle, are_sections, section, only, one_in, are_values, are_words, domain_once, domain_many, problem_once, precondition, effect, action_entries}
 use Rattle.plan_texts.specs.Networks.{ordered_subtasks, method_entries, network_entries, task_entries}
 use Rattle.plan_texts.specs.SpellsHddl.{hddl_many, hddl_problem_once}
-use Rattle.plan_texts.proofs.RowWords.{parts, said}
+use Rattle.plan_texts.proofs.examples.RowWords.{parts, said}
 
 pub any_order : are_sections domain_once hddl_many (parts (codes "(:task t) (:types a) (:action a) (:task u) (:requirements)")) ≡ true
 any_order = refl

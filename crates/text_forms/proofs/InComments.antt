@@ -3,7 +3,7 @@ use Rattle.std.proofs.Common.{ℕ, zero, suc, ◌+◌, ◌<◌, ◌≤◌, ◌�
 use Rattle.std.specs.Prelude.{slice_get}
 use Rattle.std.proofs.lemmas.Bool.{cases_lt}
 use Rattle.text_forms.specs.Bytes.{blank, class_of, comment_after, classes_from}
-use Rattle.token_laws.specs.Comments.{IsInComment, IsClassed}
+use Rattle.text_forms.specs.Comments.{IsInComment, IsClassed}
 
 equal_by : (a b : ℕ) → (a == b) ≡ true → a ≡ b
 equal_by a b e = grind (arith, e)

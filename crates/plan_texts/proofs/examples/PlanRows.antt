@@ -2,7 +2,7 @@
 use Rattle.std.proofs.Common.{ℕ, ◌≡◌, true, false, List, [], ◌∷◌, codes, refl, ap, ◌∙◌}
 use Rattle.plan_texts.specs.PlanText.{is_step_name, is_mark, AreSteps, plan_text}
 use Rattle.plan_model.specs.declared.steps.GroundAction.{GroundAction}
-use Rattle.plan_texts.proofs.RowWords.{head_word, parts}
+use Rattle.plan_texts.proofs.examples.RowWords.{head_word, parts}
 
 abbrev step : List (List ℕ) → GroundAction
 step [] = record { name = []; args = [] }

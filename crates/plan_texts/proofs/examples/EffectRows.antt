@@ -11,8 +11,8 @@ use Rattle.plan_model.specs.declared.formulas.Formula.TheVariants.{And}
 use Rattle.plan_model.specs.declared.effects.Effect.{Effect}
 use Rattle.plan_model.specs.declared.effects.Effect.TheVariants.{Add, Delete, When, And as Both, Forall as Each_one}
 use Rattle.plan_texts.proofs.Layers.{effect-Add, effect-Delete, effect-Both, effect-Each_one, effect-When}
-use Rattle.plan_texts.proofs.RowWords.{said, head_word, next_part, v, x_a}
-use Rattle.plan_texts.proofs.FormulaRows.{empty}
+use Rattle.plan_texts.proofs.examples.RowWords.{said, head_word, next_part, v, x_a}
+use Rattle.plan_texts.proofs.examples.FormulaRows.{empty}
 
 abbrev x : List Word
 x = codes "x" ∷ []

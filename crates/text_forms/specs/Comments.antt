@@ -2,7 +2,7 @@
 -- Source: appendix A (grammar) of Fox and Long, "PDDL2.1", JAIR 20, 2003, level 1: comments from a semicolon to the line's end.
 use Rattle.std.specs.Prelude.{ℕ, ◌<◌, ◌≤◌, ◌≡◌, List, Some, slice_get}
 use Rattle.text_forms.specs.Bytes.{blank, class_of}
-use Rattle.token_laws.specs.LongestRuns.{IsAt}
+use Rattle.text_forms.specs.LongestRuns.{IsAt}
 
 -- a semicolon stands before the place, and no line ends between
 abbrev pub IsInComment : List ℕ → ℕ → Type 0

@@ -8,8 +8,8 @@ use Rattle.text_forms.specs.Bytes.{Class, blank, opening, closing, letter, bad, 
 use Rattle.text_forms.specs.Tokens.{Kind, start, stop, word, Token, token, ended, begun, made, under_way_after, tokens_from, tokens}
 use Rattle.text_forms.specs.Laws.{StandInOrder}
 use Rattle.text_forms.proofs.Lists.{in_order}
-use Rattle.token_laws.specs.LongestRuns.{IsAt, HasByte, LiesInOne}
-use Rattle.token_laws.proofs.EachToken.{Rest, whole, here, next, past}
+use Rattle.text_forms.specs.LongestRuns.{IsAt, HasByte, LiesInOne}
+use Rattle.text_forms.proofs.EachToken.{Rest, whole, here, next, past}
 
 -- tokens in order begin behind the first place
 begins : (from : ℕ) (ts : List Token) (to : ℕ) → StandInOrder from ts to → (i : ℕ) (t : Token) → slice_get ts i ≡ Some t → from ≤ t.first

@@ -11,7 +11,7 @@ use Rattle.plan_texts.specs.Printed.{params_parts}
 use Rattle.plan_texts.specs.FirstSeen.{types_in_order, pairs_in_order, unions_in_order}
 use Rattle.plan_model.specs.declared.types.Object.{Object}
 use Rattle.plan_texts.proofs.Basics.{apart}
-use Rattle.plan_texts.proofs.RowWords.{word_of, parts, said, n, v, x_a, y_union, y_object}
+use Rattle.plan_texts.proofs.examples.RowWords.{word_of, parts, said, n, v, x_a, y_union, y_object}
 
 -- words share the type behind them; the last have none
 pub grouped : EachTyped (IsParam v) (x_a ∷ record { name = n 1; ty = 1 } ∷ y_object ∷ []) (parts (codes "?x ?y - a ?y"))

@@ -18,7 +18,7 @@ use Rattle.plan_texts.proofs.Basics.{apart}
 use Rattle.plan_texts.proofs.Members.{each-has, contains-has, has-contains}
 use Rattle.plan_texts.proofs.Spelled.{sound_roll}
 use Rattle.plan_texts.proofs.SpelledEffects.{sound_roll as effect-sound_roll}
-use Rattle.plan_texts.proofs.SmallestRow.{h, x, held, wait, turned, freed, clear, all_free, smallest}
+use Rattle.plan_texts.proofs.examples.SmallestRow.{h, x, held, wait, turned, freed, clear, all_free, smallest}
 
 -- where each parent stands before its child, chains lead down
 leads_down : (parents : List Parent) → ((p : Parent) → Contains parents p → p.parent < p.child) → (s t : ℕ) → Leads parents s t → t ≤ s

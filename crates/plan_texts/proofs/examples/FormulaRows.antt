@@ -9,7 +9,7 @@ use Rattle.plan_model.specs.declared.terms.Param.{Param}
 use Rattle.plan_model.specs.declared.formulas.Formula.{Formula}
 use Rattle.plan_model.specs.declared.formulas.Formula.TheVariants.{Holds, Equal, Not, And, Or, Imply, Forall, Exists}
 use Rattle.plan_texts.proofs.Layers.{formula-Holds, formula-Equal, formula-Not, formula-And, formula-Or, formula-Imply, formula-Forall, formula-Exists}
-use Rattle.plan_texts.proofs.RowWords.{said, head_word, word_of, behind_mark, v, x_a, y_union, y_object}
+use Rattle.plan_texts.proofs.examples.RowWords.{said, head_word, word_of, behind_mark, v, x_a, y_union, y_object}
 
 abbrev x : List Word
 x = codes "x" ∷ []

@@ -18,7 +18,7 @@ use Rattle.plan_model.specs.declared.effects.Effect.TheVariants.{And as Both, ro
 use Rattle.plan_model.specs.declared.values.Hddl.{Hddl}
 use Rattle.plan_texts.proofs.InOrder.{types-in-order}
 use Rattle.plan_texts.proofs.Layers.{formula-And, effect-Both}
-use Rattle.plan_texts.proofs.RowWords.{parts, said, n}
+use Rattle.plan_texts.proofs.examples.RowWords.{parts, said, n}
 use Rattle.plan_texts.proofs.Spelled.{sound_roll}
 use Rattle.plan_texts.proofs.SpelledEffects.{sound_roll as effect-sound_roll}
 
@@ -105,47 +105,61 @@ problem_sections = parts (codes "(:htn)")
 
 sections : AreHddlSections marked domain_sections problem_sections
 sections = record {
-  domain_form = refl;
-  problem_form = refl;
-  domain_requires = refl;
-  problem_requires = refl;
-  of_domain = tt;
-  types = types-in-order nothing tt (λ r e. e);
   constants = [];
   others = [];
   objects = refl;
-  constants_spelled = tt;
-  others_spelled = tt;
-  predicates = tt;
-  tasks = tt;
-  actions = (record { entries = _; is = refl; named = refl; form = refl; params = (_, refl, ((refl, refl, (refl, refl)), tt)); pre = no_condition (codes "?x" ∷ []); eff = no_effect (codes "?x" ∷ []) }, tt);
-  methods = tt;
-  htn = nothing;
-  htn_there = refl;
-  top = record {
-    named = refl;
-    task = refl;
-    task_args = refl;
-    pre = refl;
-    form = refl;
-    params = (_, refl, tt);
-    network = record { children_spelled = tt; written = []; pairs_are = refl; pairs_spelled = tt; constraints_spelled = tt };
+  in_domain = record {
+    common = record {
+      domain_form = refl;
+      domain_requires = refl;
+      types = types-in-order nothing tt (λ r e. e);
+      constants_spelled = tt;
+      predicates = tt;
+      actions = (record { entries = _; is = refl; named = refl; form = refl; params = (_, refl, ((refl, refl, (refl, refl)), tt)); pre = no_condition (codes "?x" ∷ []); eff = no_effect (codes "?x" ∷ []) }, tt);
+    };
+    tasks = tt;
+    methods = tt;
   };
-  init_form = refl;
-  init = tt;
-  goal = no_condition [];
+  in_problem = record {
+    common = record {
+      problem_form = refl;
+      problem_requires = refl;
+      of_domain = tt;
+      others_spelled = tt;
+      init_form = refl;
+      init = tt;
+      goal = no_condition [];
+    };
+    htn = nothing;
+    htn_there = refl;
+    top = record {
+      named = refl;
+      task = refl;
+      task_args = refl;
+      pre = refl;
+      form = refl;
+      params = (_, refl, tt);
+      network = record { children_spelled = tt; ordered = record { written = []; pairs_are = refl; pairs_spelled = tt }; constraints_spelled = tt };
+    };
+  };
 }
 
 pub marked_spelled : SpellsHddl domain problem marked
 marked_spelled = record {
-  domain_sections = domain_sections;
-  problem_sections = problem_sections;
-  domain_clean = refl;
-  problem_clean = refl;
-  domain_is = symbols-read domain ∙ refl;
-  problem_is = symbols-read problem ∙ refl;
-  domain_named = refl;
-  problem_named = refl;
+  texts = record {
+    domain_sections = domain_sections;
+    problem_sections = problem_sections;
+    domain_text = record {
+      clean = refl;
+      is = symbols-read domain ∙ refl;
+      named = refl;
+    };
+    problem_text = record {
+      clean = refl;
+      is = symbols-read problem ∙ refl;
+      named = refl;
+    };
+  };
   sections = sections;
 }
 

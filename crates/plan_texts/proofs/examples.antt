@@ -1,0 +1,12 @@
+pub mod RowWords
+pub mod TypedRows
+pub mod FormulaRows
+pub mod EffectRows
+pub mod SchemaRows
+pub mod NetworkRows
+pub mod SectionRows
+pub mod PlanRows
+pub mod WholeRow
+pub mod MarkedVariable
+pub mod SmallestRow
+pub mod SmallestPrintable

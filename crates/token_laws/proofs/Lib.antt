@@ -1,3 +1,0 @@
-pub mod EachToken
-pub mod OneToken
-pub mod InComments

@@ -1,2 +1,0 @@
-pub mod LongestRuns
-pub mod Comments
