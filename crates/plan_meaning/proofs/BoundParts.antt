@@ -9,9 +9,9 @@ use Rattle.task_networks.specs.Bound.{weight, block_number, Counts, IsReached, a
 use Rattle.task_networks.specs.Strata as Walks
 use Rattle.task_networks.proofs.BoundLaws.{by_size, at_block, after_block}
 use Rattle.plan_meaning.specs.Network.{top_task}
-use Rattle.plan_meaning.specs.Schemas.{Schema, task, schemas, head_by, works_by, schema_of}
+use Rattle.plan_meaning.specs.Schemas.{Schema, action, check, task, schemas, head_by, works_by, schema_of}
 use Rattle.plan_meaning.specs.Strata.{Edge, AreEdges, source, target, IsOneGroup}
-use Rattle.plan_meaning.specs.Bound.{IsBound}
+use Rattle.plan_meaning.specs.Bound.{group_of, IsBound}
 use Rattle.plan_meaning.proofs.BlockNumbers.{two_weights}
 
 -- the lines of the methods have all children
@@ -59,16 +59,16 @@ module _ (c : Compiled) (whole : AreWhole c) (edges : List Edge) (are : AreEdges
 
   module _ {n : ℕ} (A : IsBound c n) where
     -- two of one group have one number
-    pub at_most : (x y : Schema) → Reached x → Reached y → A.group x ≡ A.group y → A.number x ≤ A.number y
+    pub at_most : (x y : Schema) → Reached x → Reached y → group_of A.group x ≡ group_of A.group y → A.number x ≤ A.number y
     at_most x y r q e = go (A.numbers.attained x r)
       where
-        go : (A.number x ≡ 1) ⊎ ((m : ℕ) × (i : ℕ) × (schemas c).IsGround m × Reached ((schemas c).head m) × (A.group x ≡ A.group ((schemas c).head m)) × Counts (schemas c) A.block A.number A.group m i × (block_number (schemas c) A.block A.number m (A.block m i) ≡ A.number x)) → A.number x ≤ A.number y
+        go : (A.number x ≡ 1) ⊎ ((m : ℕ) × (i : ℕ) × (schemas c).IsGround m × Reached ((schemas c).head m) × (group_of A.group x ≡ group_of A.group ((schemas c).head m)) × Counts (schemas c) A.block A.number (group_of A.group) m i × (block_number (schemas c) A.block A.number m (A.block m i) ≡ A.number x)) → A.number x ≤ A.number y
         go (inl f) = let p = A.numbers.positive y q in omega arith
         go (inr (m, i, g, h, f, k, o)) = let p = A.numbers.above y m i q g h (sym e ∙ f) k in omega arith
 
     -- no child in a block that counts is of the task's group
-    pub not_of_the_group : (m i j : ℕ) (u : Schema) → (schemas c).IsGround m → Reached ((schemas c).head m) → Counts (schemas c) A.block A.number A.group m i
-        → slice_get ((schemas c).works m) j ≡ Some u → A.block m j ≡ A.block m i → A.group u ≡ A.group ((schemas c).head m) → ⊥
+    pub not_of_the_group : (m i j : ℕ) (u : Schema) → (schemas c).IsGround m → Reached ((schemas c).head m) → Counts (schemas c) A.block A.number (group_of A.group) m i
+        → slice_get ((schemas c).works m) j ≡ Some u → A.block m j ≡ A.block m i → group_of A.group u ≡ group_of A.group ((schemas c).head m) → ⊥
     not_of_the_group m i j u g r k e b same = k.1 u (record { child = j; is = e; in_block = b; earlier = earlier }) same
       where
         u_is_reached : Reached u
@@ -96,8 +96,10 @@ module _ (c : Compiled) (whole : AreWhole c) (edges : List Edge) (are : AreEdges
             go (inr (inr l)) = absurd (full (let a = after_block (A.block m i) (A.block m i') (A.number u'.0) l in omega arith))
 
     -- one group, by the group numbers
-    pub same_group : (x : Schema) (t : ℕ) → A.group x ≡ A.group (task t) → Leads x (task t) × Leads (task t) x
-    same_group x t e = let (u, f, g) = (A.groups x t).0 e in there_and_back x (task t) g
+    pub same_group : (x : Schema) (t : ℕ) → Reached x → Reached (task t) → group_of A.group x ≡ group_of A.group (task t) → Leads x (task t) × Leads (task t) x
+    same_group (action a) t r q e = absurd (omega arith)
+    same_group (check m) t r q e = absurd (omega arith)
+    same_group (task u) t r q e = there_and_back (task u) (task t) ((A.groups u t r q).0 (omega arith))
 
-    pub of_walks : (u t : ℕ) → Leads (task u) (task t) → Leads (task t) (task u) → A.group (task u) ≡ A.group (task t)
-    of_walks u t a b = (A.groups (task u) t).1 (u, refl, (edges, are, (a, b)))
+    pub of_walks : (u t : ℕ) → Reached (task u) → Reached (task t) → Leads (task u) (task t) → Leads (task t) (task u) → group_of A.group (task u) ≡ group_of A.group (task t)
+    of_walks u t r q a b = ap suc ((A.groups u t r q).1 (edges, are, (a, b)))

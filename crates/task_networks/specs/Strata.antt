@@ -18,10 +18,6 @@ module _ {Task Edge : Type 0} (source target : Edge → Task) (edges : List Edge
   abbrev pub IsOneGroup : Task → Task → Type 0
   IsOneGroup x y = Reaches x y × Reaches y x
 
-  -- numbers for the groups
-  abbrev pub AreGroups : (Task → ℕ) → Type 0
-  AreGroups group = (x y : Task) → (group x ≡ group y) ↔ IsOneGroup x y
-
   -- at the first edge in which two walks differ, this one's is listed earlier
   pub record ComesFirst (walk other : List Edge) : Type 0 where
     pub common : List Edge

@@ -38,8 +38,8 @@ module _ (c : Compiled) (block : ℕ → ℕ → ℕ) (f : ℕ → ℕ) where
   bound_by edges are rank falls blocks positive above attained = record {
     block = block;
     blocks = blocks;
-    group = own_group;
-    groups = own_groups c edges are rank falls;
+    group = λ t. t;
+    groups = λ t u r q. own_groups c edges are rank falls t u;
     number = number_by f;
     numbers = record { simple = λ w r. simple w; positive = λ w r. all_positive w; above = λ w m i r g q e k. below w m i g e k; attained = λ w r. all_attained w };
     is = refl;

@@ -23,7 +23,7 @@ use Rattle.plan_meaning.specs.Schemas as Schemas
 use Rattle.plan_meaning.specs.Schemas.{Schema, schemas, schema_of}
 use Rattle.plan_meaning.specs.Compilation.{IsCompiled}
 use Rattle.plan_meaning.specs.Solution.{top_work}
-use Rattle.plan_meaning.specs.Bound.{IsBound}
+use Rattle.plan_meaning.specs.Bound.{group_of, IsBound}
 use Rattle.plan_meaning.proofs.CompiledNetworks.{plan_of}
 use Rattle.plan_proof.specs.Headline.{IsFaithful, LosesNothing}
 use Rattle.plan_meaning.specs.Truth.{values_of}
@@ -83,7 +83,7 @@ module _ (h : Hddl) (mode : Checks) (c : Compiled) (compiled : IsCompiled h mode
           (plan.line, subst (λ z. IsLine (IsPairBy (Some plan)) z plan.line) (sym many) is.line, bound.blocks m plan e)
 
   schema_bound : Bounds.IsBound (schemas c) bound.block bound.number (Schemas.task (top_task c))
-  schema_bound = the_bound_is_large_enough (schemas c) (Schemas.task (top_task c)) bound.block bound.number bound.group blocks bound.numbers
+  schema_bound = the_bound_is_large_enough (schemas c) (Schemas.task (top_task c)) bound.block bound.number (group_of bound.group) blocks bound.numbers
 
   pub within_bound : (tree : Tree (network c)) (order : List Address) → IsFront (network c) (top_work c) tree order → IsWithin (network c) n tree order
   within_bound tree order front = subst (λ z. IsWithin (network c) z tree order) bound.is
