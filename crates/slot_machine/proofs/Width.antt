@@ -6,7 +6,7 @@ use Rattle.task_networks.specs.Tree.{Tree, Address, IsAddress, open_leaf, done, 
 use Rattle.task_networks.specs.Schedule.{Blocks, IsSchedule, IsDue}
 use Rattle.task_networks.specs.Pending.{is_among, is_pending, nodes_at, nodes_from, IsWithin}
 use Rattle.task_networks.specs.Front.{IsFront}
-use Rattle.task_networks.specs.Bound.{itself, weight, weights, IsBound, IsReached, block_number, as_child}
+use Rattle.task_networks.specs.Bound.{itself, weight, weights, AreLargeEnough, IsReached, block_number, as_child}
 use Rattle.task_networks.proofs.Addresses.{below-itself, below_up}
 use Rattle.task_networks.proofs.BoundLaws.{by_size, enough_for_all, at_block, after_block}
 use Rattle.task_networks.proofs.Lists.{Contains-later, cut_at}
@@ -126,7 +126,7 @@ module _ (N : Net) (block : N.Method → ℕ → ℕ) (number : N.Work → ℕ) 
         let r = sums m k p (suc i) ts (λ j s e. subst (λ z. pending_below (z ∷ p) s ≤ weight k (block m z) (number (work_of N s))) (let q : i + suc j ≡ suc i + j = omega arith in q) (f (suc j) s e)) in
         add-le-add a r
 
-    module _ (top : N.Work) (law : IsBound N block number top) (reached : (p : Address) (t : Tree N) → at N tree p ≡ Some t → IsReached N top (work_of N t)) (closed : IsClosed N tree taken) where
+    module _ (top : N.Work) (law : AreLargeEnough N block number top) (reached : (p : Address) (t : Tree N) → at N tree p ≡ Some t → IsReached N top (work_of N t)) (closed : IsClosed N tree taken) where
       child_in : (ts : Trees N) (j : ℕ) (t : Tree N) → child_at N ts j ≡ Some t → j < length (works_of N ts)
       child_in none j t e = absurd cc
       child_in (more u ts) zero t e = omega arith
@@ -264,7 +264,7 @@ module _ (N : Net) (block : N.Method → ℕ → ℕ) (number : N.Work → ℕ) 
       as_child m i h.0 (reached_at tree g p (split m ts) a) (sym (ap (λ z. slice_get z i) h.1) ∙ child_work ts i t c)
 
   -- no schedule of any front has more pending than the top work's number
-  pub bound_holds : (top : N.Work) → IsBound N block number top → (tree : Tree N) (order : List Address) → IsFront N top tree order → IsWithin N (number top) tree order
+  pub bound_holds : (top : N.Work) → AreLargeEnough N block number top → (tree : Tree N) (order : List Address) → IsFront N top tree order → IsWithin N (number top) tree order
   bound_holds top law tree order f = (within_iff N (number top) tree order).1 (λ taken rest e.
       (let c = closed_at tree order taken rest f.schedule e in
       let a = few tree taken c.parents [] tree in

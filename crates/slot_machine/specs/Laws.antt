@@ -6,7 +6,7 @@ use Rattle.task_networks.specs.Pending.{IsWithin}
 use Rattle.task_networks.specs.Front.{IsFront}
 use Rattle.task_networks.specs.Executable.{AreLabels, AreAllowed, last_state, IsExecutable, IsSolution}
 use Rattle.task_networks.specs.Spelling.{Act, label_of, Spells}
-use Rattle.task_networks.specs.Bound.{IsBound}
+use Rattle.task_networks.specs.Bound.{AreLargeEnough}
 use Rattle.slot_machine.specs.Machine.{State, start, IsUnblocked, May, Runs, end_of}
 use Rattle.slot_machine.specs.Reached.{SameSlots, HasLeaf, IsLeft, Tells}
 use Rattle.slot_machine.specs.Causes.{IsWaiting, Can}
@@ -63,7 +63,7 @@ module _ (N : Net) where
 
   -- no schedule of any front has more pending than the top work's number
   abbrev pub WidthIsBounded : Type 0
-  WidthIsBounded = (block : N.Method → ℕ → ℕ) (number : N.Work → ℕ) (top : N.Work) → IsBound N block number top
+  WidthIsBounded = (block : N.Method → ℕ → ℕ) (number : N.Work → ℕ) (top : N.Work) → AreLargeEnough N block number top
       → (tree : Tree N) (order : List Address) → IsFront N top tree order → IsWithin N (number top) tree order
 
 -- an execution: what a label asks of the state before it, and the state after it

@@ -82,7 +82,7 @@ module _ (h : Hddl) (mode : Checks) (c : Compiled) (compiled : IsCompiled h mode
           let many = length-map plan.schema.children (λ (child : Child). schema_of m child.head) in
           (plan.line, subst (λ z. IsLine (IsPairBy (Some plan)) z plan.line) (sym many) is.line, bound.blocks m plan e)
 
-  schema_bound : Bounds.IsBound (schemas c) bound.block bound.number (Schemas.task (top_task c))
+  schema_bound : Bounds.AreLargeEnough (schemas c) bound.block bound.number (Schemas.task (top_task c))
   schema_bound = the_bound_is_large_enough (schemas c) (Schemas.task (top_task c)) bound.block bound.number (group_of bound.group) blocks bound.numbers
 
   pub within_bound : (tree : Tree (network c)) (order : List Address) → IsFront (network c) (top_work c) tree order → IsWithin (network c) n tree order
