@@ -6,7 +6,7 @@ use Rattle.task_networks.specs.Tree.{Label, Tree, Address, IsOpen, waits}
 use Rattle.task_networks.specs.Executable.{AreLabels, AreAllowed, IsExecutable, IsSolution, last_state}
 use Rattle.task_networks.specs.Spelling.{Act, Spells, label_of}
 use Rattle.slot_machine.specs.Machine.{end_of, start}
-use Rattle.slot_machine.specs.Laws.{RunsAreExecutableFronts, PlansAreSpelledSolutions, IsPlan}
+use Rattle.slot_machine.specs.Laws.{RunsAreExecutableFronts, PlansAreSpelledSolutions, IsSolutionRun}
 use Rattle.slot_machine.proofs.RunSpellings.{runs_iff_spells}
 use Rattle.slot_machine.proofs.Theorem.{labels_are_of_acts, tells_front}
 
@@ -41,12 +41,12 @@ module _ (N : Net) (law : IsLawful N) (State : Type 1) (Allows : State → Label
   pub plans_are_spelled_solutions : PlansAreSpelledSolutions N State Allows next first Goal
   plans_are_spelled_solutions b top acts h = (to, from)
     where
-      to : IsPlan N State Allows next first Goal b top acts → (tree : Tree N) × (order : List Address) × (slot : Address → ℕ) × Spells N b top acts tree order slot × IsSolution N State Allows next top first Goal tree order
+      to : IsSolutionRun N State Allows next first Goal b top acts → (tree : Tree N) × (order : List Address) × (slot : Address → ℕ) × Spells N b top acts tree order slot × IsSolution N State Allows next top first Goal tree order
       to p =
           let (tree, order, slot, s) = (runs_iff_spells N law b top h acts).0 p.run.0 in
           (tree, order, slot, s, record { finished = record { front = s.front; no_leaves = no_leaves b top acts tree order slot s p.free }; executable = executable b top acts tree order slot s p.run.1; goal = p.goal })
 
-      from : (tree : Tree N) × (order : List Address) × (slot : Address → ℕ) × Spells N b top acts tree order slot × IsSolution N State Allows next top first Goal tree order → IsPlan N State Allows next first Goal b top acts
+      from : (tree : Tree N) × (order : List Address) × (slot : Address → ℕ) × Spells N b top acts tree order slot × IsSolution N State Allows next top first Goal tree order → IsSolutionRun N State Allows next first Goal b top acts
       from (tree, order, slot, s, g) = record {
         run = ((runs_iff_spells N law b top h acts).1 (tree, order, slot, s), allowed b top acts tree order slot s g.executable);
         free = all_free b top acts tree order slot s g.finished.no_leaves;

@@ -82,7 +82,7 @@ module _ (N : Net) (State : Type 1) (Allows : State → Label N → Type 0) (nex
       × IsExecutable N State Allows next first tree order)
 
   -- a plan: an executable run after which all slots are free, and the goal is true
-  pub record IsPlan (b : ℕ) (top : N.Work) (acts : List (Act N)) : Type 0 where
+  pub record IsSolutionRun (b : ℕ) (top : N.Work) (acts : List (Act N)) : Type 0 where
     pub run : IsExecutableRun b top acts
     pub free : (x : ℕ) → 1 ≤ x → x ≤ b → (end_of N (start N b top) acts).free x
     pub goal : Goal (last_state N State Allows next first (labels acts))
@@ -90,5 +90,5 @@ module _ (N : Net) (State : Type 1) (Allows : State → Label N → Type 0) (nex
   -- plans are the spelled solutions
   abbrev pub PlansAreSpelledSolutions : Type 0
   PlansAreSpelledSolutions = (b : ℕ) (top : N.Work) (acts : List (Act N)) → 1 ≤ b
-      → IsPlan b top acts ↔ ((tree : Tree N) × (order : List Address) × (slot : Address → ℕ) × Spells N b top acts tree order slot
+      → IsSolutionRun b top acts ↔ ((tree : Tree N) × (order : List Address) × (slot : Address → ℕ) × Spells N b top acts tree order slot
       × IsSolution N State Allows next top first Goal tree order)

@@ -10,7 +10,7 @@ use Rattle.task_networks.specs.Spelling.{Act, Spells, label_of}
 use Rattle.task_networks.specs.Executable as Executions
 use Rattle.slot_machine.specs.Machine as Machine
 use Rattle.slot_machine.specs.Machine.{start}
-use Rattle.slot_machine.specs.Laws.{IsPlan, IsExecutableRun}
+use Rattle.slot_machine.specs.Laws.{IsSolutionRun, IsExecutableRun}
 use Rattle.slot_machine.proofs.Executions.{runs_are_executable_fronts, plans_are_spelled_solutions}
 use Rattle.plan_meaning.specs.Truth.{State, EachTrue, IsTrueIn}
 use Rattle.plan_meaning.specs.ClassicalPlan as Printed
@@ -100,5 +100,5 @@ module _ (c : Compiled) (b : ℕ) (style : Style) (p : Pddl) (means : PiecesMean
           × (AllFree (Machine.end_of N (start N b (top_work c)) acts) × IsGoal c (Executions.last_state N State (Allows c) (next c) (initial c) (map (label_of N) acts))))
       leads = leads_iff c b style p means positive (λ S. IsTrueIn (Printed.InTypeOf p) S p.goal []) (λ t T. AllFree t × IsGoal c T) goal_true acts (Contains p.init) (start N b (top_work c)) (initial c) (start_reads c b style p means positive) (reached_first c b style p means positive)
 
-      plans : IsPlan N State (Allows c) (next c) (initial c) (IsGoal c) b (top_work c) acts ↔ SpellSolution acts
+      plans : IsSolutionRun N State (Allows c) (next c) (initial c) (IsGoal c) b (top_work c) acts ↔ SpellSolution acts
       plans = plans_are_spelled_solutions N means.lawful State (Allows c) (next c) (initial c) (IsGoal c) b (top_work c) acts positive
