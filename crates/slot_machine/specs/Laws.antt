@@ -4,7 +4,7 @@ use Rattle.task_networks.specs.Net.{Net}
 use Rattle.task_networks.specs.Tree.{Tree, Label, Address, IsOpen}
 use Rattle.task_networks.specs.Pending.{IsWithin}
 use Rattle.task_networks.specs.Front.{IsFront}
-use Rattle.task_networks.specs.Executable.{AreLabels, AreAllowed, last_state, IsExecutable, IsSolution}
+use Rattle.task_networks.specs.Executable.{AreLabels, AreAllowed, last_state, IsExecutableOrder, IsSolution}
 use Rattle.task_networks.specs.Spelling.{Act, label_of, Spells}
 use Rattle.task_networks.specs.Bound.{AreLargeEnough}
 use Rattle.slot_machine.specs.Machine.{State, start, IsUnblocked, May, Runs, end_of}
@@ -79,7 +79,7 @@ module _ (N : Net) (State : Type 1) (Allows : State → Label N → Type 0) (nex
   abbrev pub RunsAreExecutableFronts : Type 0
   RunsAreExecutableFronts = (b : ℕ) (top : N.Work) (acts : List (Act N)) → 1 ≤ b
       → IsExecutableRun b top acts ↔ ((tree : Tree N) × (order : List Address) × (slot : Address → ℕ) × Spells N b top acts tree order slot
-      × IsExecutable N State Allows next first tree order)
+      × IsExecutableOrder N State Allows next first tree order)
 
   -- a plan: an executable run after which all slots are free, and the goal is true
   pub record IsSolutionRun (b : ℕ) (top : N.Work) (acts : List (Act N)) : Type 0 where

@@ -86,7 +86,7 @@ module _ (c : Compiled) (b : ℕ) (style : Style) (p : Pddl) (means : PiecesMean
       leads : LeadsBy c b style p (λ S. Unit {0}) (Contains p.init) acts ↔ (Machine.Runs N (start N b (top_work c)) acts × Executions.AreAllowed N State (Allows c) (next c) (initial c) (map (label_of N) acts) × Unit {0})
       leads = leads_iff c b style p means positive (λ S. Unit {0}) (λ t T. Unit {0}) (λ S t T r. (λ k. k, λ k. k)) acts (Contains p.init) (start N b (top_work c)) (initial c) (start_reads c b style p means positive) (reached_first c b style p means positive)
 
-      fronts : IsExecutableRun N State (Allows c) (next c) (initial c) (IsGoal c) b (top_work c) acts ↔ ((tree : Tree N) × (order : List Address) × (slot : Address → ℕ) × Spells N b (top_work c) acts tree order slot × Executions.IsExecutable N State (Allows c) (next c) (initial c) tree order)
+      fronts : IsExecutableRun N State (Allows c) (next c) (initial c) (IsGoal c) b (top_work c) acts ↔ ((tree : Tree N) × (order : List Address) × (slot : Address → ℕ) × Spells N b (top_work c) acts tree order slot × Executions.IsExecutableOrder N State (Allows c) (next c) (initial c) tree order)
       fronts = runs_are_executable_fronts N means.lawful State (Allows c) (next c) (initial c) (IsGoal c) b (top_work c) acts positive
 
   pub acts_plans : (acts : List (Act N)) → LeadsBy c b style p (λ S. IsTrueIn (Printed.InTypeOf p) S p.goal []) (Contains p.init) acts ↔ SpellSolution acts
