@@ -11,7 +11,7 @@ use Rattle.task_networks.proofs.Addresses.{below_below, below_up, below-itself}
 use Rattle.task_networks.proofs.Different.{no_more}
 use Rattle.task_networks.proofs.Lists.{Contains-here, head_or_tail, not-in_empty, cut_at}
 use Rattle.task_networks.proofs.Orders.{precedes_then}
-use Rattle.slot_machine.specs.Machine.{State, IsUnblocked}
+use Rattle.slot_machine.specs.Machine.{SlotState, IsUnblocked}
 use Rattle.slot_machine.proofs.AtLabel.{not-blocks_itself}
 use Rattle.slot_machine.proofs.FrontSteps.{open_apart}
 use Rattle.slot_machine.proofs.Growth.{leaves}
@@ -32,7 +32,7 @@ module _ (N : Net) where
             (m', i, e', precedes_then i j k (subst (λ z. Precedes (N.Pair z) i j) (sym s) c) (subst (λ z. Precedes (N.Pair m') z k) g c'), subst (λ z. IsBelow (i ∷ z) u) (sym h) d)
         go (inr f) = (m', i', e', c', below_below (i' ∷ r) q u f (below_up i q u d))
 
-    module _ (b : ℕ) (s : State N) (tree : Tree N) (slot : Address → ℕ) (m : Matches N b s tree slot) where
+    module _ (b : ℕ) (s : SlotState N) (tree : Tree N) (slot : Address → ℕ) (m : Matches N b s tree slot) where
       address : (u : Address) → IsOpen N tree u → IsAddress N tree u
       address u (w, e) = (waits w, e)
 
@@ -101,7 +101,7 @@ module _ (N : Net) where
       ]
 
   -- the machine's test is the sentence on the tree
-  pub waiting_iff : (b : ℕ) (s : State N) (tree : Tree N) (order : List Address) (slot : Address → ℕ) (v : Address) → Matches N b s tree slot → IsSchedule N tree order → IsOpen N tree v → IsUnblocked N s (slot v) ↔ ((u : Address) → IsOpen N tree u → MustPrecede N tree u v → ⊥)
+  pub waiting_iff : (b : ℕ) (s : SlotState N) (tree : Tree N) (order : List Address) (slot : Address → ℕ) (v : Address) → Matches N b s tree slot → IsSchedule N tree order → IsOpen N tree v → IsUnblocked N s (slot v) ↔ ((u : Address) → IsOpen N tree u → MustPrecede N tree u v → ⊥)
   waiting_iff b s tree order slot v m sc ov = (
     λ unblocked u ou h. nothing_blocks N b s tree slot v u m unblocked ov ou ((only_siblings tree order u v sc ou ov).0 h),
     λ f x bf. (let (u, v', ou, ov', eu, ev, bl) = m.sound x (slot v) bf in f u ou (v, below-itself v, subst (Blocks N tree u) (m.apart v' v ov' ov ev) bl)),

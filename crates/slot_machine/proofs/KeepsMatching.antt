@@ -8,13 +8,13 @@ use Rattle.task_networks.specs.Tree.{at, Tree, Address, Label, IsOpen, IsAddress
 use Rattle.task_networks.specs.Schedule.{Blocks}
 use Rattle.task_networks.proofs.Addresses.{is_same_address}
 use Rattle.task_networks.proofs.Orders.{is_some}
-use Rattle.slot_machine.specs.Machine.{State, IsUnblocked}
+use Rattle.slot_machine.specs.Machine.{SlotState, IsUnblocked}
 use Rattle.slot_machine.proofs.AtLabel.{heir_of, PairOf, CopierOf, heir_exists, heir_within, from_pair, pair_within, blocks_sibling, copier_within, TakesOverOf, PrecedesOf, covered, not-blocks_itself, last_pair_of, sibling_blocks}
 use Rattle.slot_machine.proofs.FrontSteps.{taken_apart, child_waits, blocks_grows}
 use Rattle.slot_machine.proofs.Growth.{IsGrowth, child_works, place, leaf_at, none_below}
 use Rattle.slot_machine.proofs.Matching.{Matches, back, down, up, nothing_blocks}
 
-module _ (N : Net) (law : IsLawful N) (b : ℕ) (s s' : State N) (tree tree' : Tree N) (p : Address) (w : N.Work) (l : Label N) (g : IsGrowth N tree tree' p w l) (slot : Address → ℕ) (m : Matches N b s tree slot) (unblocked : IsUnblocked N s (slot p)) where
+module _ (N : Net) (law : IsLawful N) (b : ℕ) (s s' : SlotState N) (tree tree' : Tree N) (p : Address) (w : N.Work) (l : Label N) (g : IsGrowth N tree tree' p w l) (slot : Address → ℕ) (m : Matches N b s tree slot) (unblocked : IsUnblocked N s (slot p)) where
   abbrev n : ℕ
   n = length (child_works N l)
 

@@ -5,13 +5,13 @@ use Rattle.task_networks.specs.Lawful.{IsLawful}
 use Rattle.task_networks.specs.Tree.{at, Tree, Address, label_at, label, waits, IsOpen, ran, used, Label, IsAddress, IsBelow, IsProcessed}
 use Rattle.task_networks.specs.Schedule.{Blocks, IsSchedule, IsDue, IsBegun}
 use Rattle.task_networks.proofs.Nodes.{parent}
-use Rattle.slot_machine.specs.Machine.{State, IsUnblocked}
+use Rattle.slot_machine.specs.Machine.{SlotState, IsUnblocked}
 use Rattle.slot_machine.proofs.AtLabel.{not-blocks_itself}
 use Rattle.slot_machine.proofs.FrontSteps.{blocks_back, blocks_grows, open_apart, address_back}
 use Rattle.slot_machine.proofs.Growth.{IsGrowth, place}
 
 module _ (N : Net) where
-  pub record Matches (b : ℕ) (s : State N) (tree : Tree N) (slot : Address → ℕ) : Type 0 where
+  pub record Matches (b : ℕ) (s : SlotState N) (tree : Tree N) (slot : Address → ℕ) : Type 0 where
     pub holds : (x : ℕ) (w : N.Work) → s.holds x w ↔ ((q : Address) × (label_at N tree q ≡ Some (waits w)) × (slot q ≡ x))
     pub free : (x : ℕ) → s.free x ↔ ((1 ≤ x) × (x ≤ b) × ((q : Address) → IsOpen N tree q → slot q ≡ x → ⊥))
     pub range : (q : Address) → IsOpen N tree q → (1 ≤ slot q) × (slot q ≤ b)
@@ -19,7 +19,7 @@ module _ (N : Net) where
     pub sound : (x y : ℕ) → s.before x y → (u : Address) × (v : Address) × IsOpen N tree u × IsOpen N tree v × (slot u ≡ x) × (slot v ≡ y) × Blocks N tree u v
     pub complete : (u v : Address) → IsOpen N tree u → IsOpen N tree v → Blocks N tree u v → s.before (slot u) (slot v) ⊎ ((x : Address) × IsOpen N tree x × Blocks N tree u x × s.before (slot x) (slot v))
 
-  pub nothing_blocks : (b : ℕ) (s : State N) (tree : Tree N) (slot : Address → ℕ) (p u : Address) → Matches b s tree slot → IsUnblocked N s (slot p) → IsOpen N tree p → IsOpen N tree u → Blocks N tree u p → ⊥
+  pub nothing_blocks : (b : ℕ) (s : SlotState N) (tree : Tree N) (slot : Address → ℕ) (p u : Address) → Matches b s tree slot → IsUnblocked N s (slot p) → IsOpen N tree p → IsOpen N tree u → Blocks N tree u p → ⊥
   nothing_blocks b s tree slot p u m unblocked op ou bl = elim (m.complete u p ou op bl) [ inl x ↦ unblocked (slot u) x | inr x ↦ unblocked (slot x.0) x.3 ]
 
   -- the parent of an address is a split
@@ -30,7 +30,7 @@ module _ (N : Net) where
       go None f c = absurd cc
       go (Some t) f c = let h = parent N tree i q t f in (h.0, ap (option_map (label N)) h.2)
 
-  module _ (law : IsLawful N) (b : ℕ) (s : State N) (tree tree' : Tree N) (p : Address) (w : N.Work) (l : Label N) (g : IsGrowth N tree tree' p w l) (slot : Address → ℕ) (m : Matches b s tree slot) where
+  module _ (law : IsLawful N) (b : ℕ) (s : SlotState N) (tree tree' : Tree N) (p : Address) (w : N.Work) (l : Label N) (g : IsGrowth N tree tree' p w l) (slot : Address → ℕ) (m : Matches b s tree slot) where
     open_p : IsOpen N tree p
     open_p = (w, g.was)
 

@@ -8,7 +8,7 @@ use Rattle.task_networks.specs.Net.{Net}
 use Rattle.task_networks.specs.Spelling.{Act, apply, run, others, Spells}
 use Rattle.task_networks.specs.Lawful.{IsLawful}
 use Rattle.task_networks.proofs.ScheduleLaws.{prepared_is_lawful}
-use Rattle.slot_machine.specs.Machine.{State, start, after, Runs}
+use Rattle.slot_machine.specs.Machine.{SlotState, start, after, Runs}
 use Rattle.slot_machine.proofs.SpellingRuns.{runs_from_spells}
 use Rattle.plan_meaning.specs.ClassicalPlan.{IsPlan}
 use Rattle.plan_meaning.specs.Truth.{AreTyped}
@@ -70,7 +70,7 @@ abbrev applied : ℕ → List ℕ → GroundMethod → Act N
 applied h new g = apply h new g
 
 module _ (b : ℕ) where
-  abbrev begun : State N
+  abbrev begun : SlotState N
   begun = after N (start N b top) (apply 1 [] (uses 0))
 
   -- after the start no slot holds anything

@@ -43,7 +43,7 @@ each_contains P (y ∷ xs) =
       λ f. (f y (Contains-here y xs), r.1 (λ x k. f x (Contains-later y xs x k))),
     )
 
-module _ (c : Compiled) (b : ℕ) (style : Style) (p : Pddl) (means : PiecesMean c b style p) (S : State) (t : Machine.State (network c)) (T : State) (r : Reads c b style p S t T)
+module _ (c : Compiled) (b : ℕ) (style : Style) (p : Pddl) (means : PiecesMean c b style p) (S : State) (t : Machine.SlotState (network c)) (T : State) (r : Reads c b style p S t T)
     (h : ℕ) (new : List ℕ) (g : GroundMethod) where
   abbrev N : Net
   N = network c
@@ -67,7 +67,7 @@ module _ (c : Compiled) (b : ℕ) (style : Style) (p : Pddl) (means : PiecesMean
           left : State
           left = after (InT c b style p) S (E.And (freeing c p.names b style (held_task c p.names b style g.number plan) (length xs) ++ [])) xs
 
-          state : Machine.State N
+          state : Machine.SlotState N
           state = record {
             holds = λ x v. t.holds x v × ((x ≡ h) × (v ≡ N.head g) → ⊥);
             free = λ x. t.free x ⊎ (x ≡ h);

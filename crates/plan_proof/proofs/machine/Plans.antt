@@ -35,11 +35,11 @@ module _ (c : Compiled) (b : ℕ) (style : Style) (p : Pddl) (means : PiecesMean
   N = network c
 
   -- all slots are free
-  abbrev AllFree : Machine.State N → Type 0
+  abbrev AllFree : Machine.SlotState N → Type 0
   AllFree t = (x : ℕ) → 1 ≤ x → x ≤ b → t.free x
 
   -- the goal: every slot is free, and the source goal is true
-  goal_true : (S : State) (t : Machine.State N) (T : State) → Reads c b style p S t T → IsTrueIn (InT c b style p) S p.goal [] ↔ (AllFree t × IsGoal c T)
+  goal_true : (S : State) (t : Machine.SlotState N) (T : State) → Reads c b style p S t T → IsTrueIn (InT c b style p) S p.goal [] ↔ (AllFree t × IsGoal c T)
   goal_true S t T r = (to, from)
     where
       f1 : List Formula

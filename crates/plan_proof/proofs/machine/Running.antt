@@ -35,7 +35,7 @@ typed_long InType [] (o ∷ os) t = absurd t
 typed_long InType (p ∷ ps) [] t = absurd t
 typed_long InType (p ∷ ps) (o ∷ os) t = ap suc (typed_long InType ps os t.1)
 
-module _ (c : Compiled) (b : ℕ) (style : Style) (p : Pddl) (m : PiecesMean c b style p) (S : State) (t : Machine.State (network c)) (T : State) (r : Reads c b style p S t T) where
+module _ (c : Compiled) (b : ℕ) (style : Style) (p : Pddl) (m : PiecesMean c b style p) (S : State) (t : Machine.SlotState (network c)) (T : State) (r : Reads c b style p S t T) where
   abbrev N : Net
   N = network c
 

@@ -2,11 +2,11 @@
 use Rattle.std.proofs.Common.{ℕ, zero, suc, ◌≡◌, inl, inr, List, [], ◌∷◌, filter, length, not, Some, slice_get, ap, sym, subst, ◌∙◌, arith}
 use Rattle.task_networks.specs.Net.{Net}
 use Rattle.task_networks.specs.Spelling.{Act, run, apply, others, numbers, is_heir}
-use Rattle.slot_machine.specs.Machine.{State, start, after, May, Runs, end_of, with_heir}
+use Rattle.slot_machine.specs.Machine.{SlotState, start, after, May, Runs, end_of, with_heir}
 
 module _ (N : Net) where
   -- slot 1 holds this work, no slot holds another, and slot 1 is not free
-  pub record HoldsAlone (s : State N) (w : N.Work) : Type 0 where
+  pub record HoldsAlone (s : SlotState N) (w : N.Work) : Type 0 where
     pub held : (x : ℕ) (v : N.Work) → s.holds x v → (x ≡ 1) × (v ≡ w)
     pub taken : s.free 1 → ⊥
 
@@ -28,7 +28,7 @@ module _ (N : Net) where
     none_new (x ∷ new) e = absurd (omega arith)
 
     -- nothing else may be done
-    is_applied : (s : State N) → HoldsAlone s (N.head m) → (a : Act N) → May N s a → a ≡ apply 1 [] m
+    is_applied : (s : SlotState N) → HoldsAlone s (N.head m) → (a : Act N) → May N s a → a ≡ apply 1 [] m
     is_applied s h (run x v) may = absurd (compound (subst N.IsSimple (h.held x v may.holds).1 may.simple))
     is_applied s h (apply x new g) may =
         let k = h.held x (N.head g) may.holds in
@@ -37,7 +37,7 @@ module _ (N : Net) where
         λ i. apply (k.0 i) (f i) (e i)
 
     -- and then slot 1 alone holds the child
-    pub moves : (s : State N) → HoldsAlone s (N.head m) → HoldsAlone (after N s (apply 1 [] m)) w
+    pub moves : (s : SlotState N) → HoldsAlone s (N.head m) → HoldsAlone (after N s (apply 1 [] m)) w
     moves s h = record { held = held; taken = taken }
       where
         child : (x : ℕ) (v : N.Work) (i : ℕ) → slice_get (1 ∷ []) i ≡ Some x → slice_get (w ∷ []) i ≡ Some v → (x ≡ 1) × (v ≡ w)
@@ -53,7 +53,7 @@ module _ (N : Net) where
         taken (inr e) = let k = ap length one.works in let l = e.0 in absurd (omega arith)
 
     -- so it is the first act of each run after which slot 1 is free
-    pub first_is : (s : State N) → HoldsAlone s (N.head m) → (acts : List (Act N)) → Runs N s acts → (end_of N s acts).free 1
+    pub first_is : (s : SlotState N) → HoldsAlone s (N.head m) → (acts : List (Act N)) → Runs N s acts → (end_of N s acts).free 1
         → (rest : List (Act N)) × (acts ≡ apply 1 [] m ∷ rest) × Runs N (after N s (apply 1 [] m)) rest × (end_of N (after N s (apply 1 [] m)) rest).free 1
     first_is s h [] r f = absurd (h.taken f)
     first_is s h (a ∷ acts) r f =
@@ -62,7 +62,7 @@ module _ (N : Net) where
 
   -- where the child is the task itself, slot 1 never is free
   module _ (m : N.Method) (one : HasOneChild m (N.head m)) (only : (g : N.Method) → N.IsGround g → N.head g ≡ N.head m → g ≡ m) (compound : N.IsSimple (N.head m) → ⊥) where
-    pub never_free : (s : State N) → HoldsAlone s (N.head m) → (acts : List (Act N)) → Runs N s acts → (end_of N s acts).free 1 → ⊥
+    pub never_free : (s : SlotState N) → HoldsAlone s (N.head m) → (acts : List (Act N)) → Runs N s acts → (end_of N s acts).free 1 → ⊥
     never_free s h [] r f = h.taken f
     never_free s h (a ∷ acts) r f =
         let e = is_applied m (N.head m) one only compound s h a r.0 in
@@ -73,12 +73,12 @@ module _ (N : Net) where
 
   -- a work that no method decomposes is run, and that is the last act
   module _ (w : N.Work) (whole : (g : N.Method) → N.IsGround g → N.head g ≡ w → ⊥) where
-    nothing_left : (s : State N) → HoldsAlone s w → (acts : List (Act N)) → Runs N (after N s (run 1 w)) acts → acts ≡ []
+    nothing_left : (s : SlotState N) → HoldsAlone s w → (acts : List (Act N)) → Runs N (after N s (run 1 w)) acts → acts ≡ []
     nothing_left s h [] r = λ i. []
     nothing_left s h (run x v ∷ acts) r = absurd (let k = r.0.holds in k.1 (h.held x v k.0))
     nothing_left s h (apply x new g ∷ acts) r = absurd (let k = r.0.holds in k.1 (h.held x (N.head g) k.0))
 
-    pub last_is : (s : State N) → HoldsAlone s w → (acts : List (Act N)) → Runs N s acts → (end_of N s acts).free 1 → acts ≡ run 1 w ∷ []
+    pub last_is : (s : SlotState N) → HoldsAlone s w → (acts : List (Act N)) → Runs N s acts → (end_of N s acts).free 1 → acts ≡ run 1 w ∷ []
     last_is s h [] r f = absurd (h.taken f)
     last_is s h (apply x new g ∷ acts) r f = absurd (whole g r.0.ground (h.held x (N.head g) r.0.holds).1)
     last_is s h (run x v ∷ acts) r f =
