@@ -10,7 +10,7 @@ use Rattle.task_networks.specs.Pending.{AreDifferent}
 use Rattle.task_networks.specs.Spelling.{Act, run, apply, Spells, IsAct, others, label_of}
 use Rattle.task_networks.proofs.Addresses.{is_same_address}
 use Rattle.task_networks.proofs.Lists.{by_push}
-use Rattle.slot_machine.specs.Machine.{SlotState, with_heir, IsUnblocked, May, insert_at, after, Runs, start, end_of}
+use Rattle.slot_machine.specs.Machine.{SlotState, with_heir, IsUnblocked, May, insert_at, after_act, Runs, start, end_of}
 use Rattle.slot_machine.proofs.AtLabel.{heir_of}
 use Rattle.slot_machine.proofs.Growth.{child_works, leaf_at, IsGrowth}
 use Rattle.slot_machine.proofs.Inserts.{length-insert_at, different-insert_at, at-insert_at, insert_cases}
@@ -208,8 +208,8 @@ module _ (N : Net) where
             heirs : (i : ℕ) → heir_of N l ≡ Some i → g (i ∷ p) ≡ g p
             heirs i x = child i ∙ ask.heirs i x ∙ own
 
-            after' : Matches N b (after N s e) tree' g
-            after' = keeps N law b s (after N s e) tree tree' p w l gr g m' unblocked (is_after N law b s tree tree' p g e gr m' unblocked act heirs
+            after' : Matches N b (after_act N s e) tree' g
+            after' = keeps N law b s (after_act N s e) tree tree' p w l gr g m' unblocked (is_after N law b s tree tree' p g e gr m' unblocked act heirs
                 (λ i r n. subst s.free (sym (child i)) (ask.free i r n))
                 (λ i j r q n k x. ask.apart i j r q n k (sym (child i) ∙ x ∙ child j)))
 

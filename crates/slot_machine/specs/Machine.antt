@@ -58,13 +58,13 @@ module _ (N : Net) where
   IsSlotOf h new m i x = slice_get (with_heir (N.heir m) h new) i ≡ Some x
 
   -- what was at h is gone, and the children are in their slots
-  abbrev pub after : SlotState → Act N → SlotState
-  after s (run h w) = record {
+  abbrev pub after_act : SlotState → Act N → SlotState
+  after_act s (run h w) = record {
     holds = λ x v. s.holds x v × ((x ≡ h) × (v ≡ w) → ⊥);
     free = λ x. s.free x ⊎ (x ≡ h);
     before = λ x y. s.before x y × (x ≡ h → ⊥);
   }
-  after s (apply h new m) = record {
+  after_act s (apply h new m) = record {
     holds = λ x v. (s.holds x v × ((x ≡ h) × (v ≡ N.head m) → ⊥)) ⊎ ((i : ℕ) × IsSlotOf h new m i x × (slice_get (N.works m) i ≡ Some v));
     free = λ x. (s.free x × ((i : ℕ) → IsSlotOf h new m i x → ⊥)) ⊎ ((count N m ≡ 0) × (x ≡ h));
     before = λ x y. (s.before x y × ((count N m ≡ 0) × (x ≡ h) → ⊥))
@@ -74,8 +74,8 @@ module _ (N : Net) where
 
   abbrev pub Runs : SlotState → List (Act N) → Type 0
   Runs s [] = Unit {0}
-  Runs s (a ∷ acts) = May s a × Runs (after s a) acts
+  Runs s (a ∷ acts) = May s a × Runs (after_act s a) acts
 
   abbrev pub end_of : SlotState → List (Act N) → SlotState
   end_of s [] = s
-  end_of s (a ∷ acts) = end_of (after s a) acts
+  end_of s (a ∷ acts) = end_of (after_act s a) acts

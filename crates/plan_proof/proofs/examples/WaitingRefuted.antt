@@ -10,7 +10,7 @@ use Rattle.task_networks.proofs.ScheduleLaws.{prepared_is_lawful}
 use Rattle.task_networks.specs.Net.{Net, count}
 use Rattle.task_networks.specs.Tree.{Tree, Address, Label, label_at, used, ran}
 use Rattle.task_networks.specs.Spelling.{Act, apply, run, others, AreActs, Spells}
-use Rattle.slot_machine.specs.Machine.{SlotState, start, after, Runs, IsSlotOf}
+use Rattle.slot_machine.specs.Machine.{SlotState, start, after_act, Runs, IsSlotOf}
 use Rattle.slot_machine.proofs.SpellingRuns.{runs_from_spells}
 use Rattle.plan_meaning.specs.Network.{Work, action, check, task, GroundMethod, network}
 use Rattle.plan_meaning.specs.Solution.{top_work}
@@ -150,13 +150,13 @@ module _ (b : ℕ) (small : b < 2 ^ 32) (h1 h2 h3 h4 : ℕ) (in_1 : h1 ≤ b) (i
     (e1 : begins ≡ step_of waiting (apply h1 new1 g1)) (e2 : splits ≡ step_of waiting (apply h2 new2 g2)) (e4 : ends ≡ step_of waiting (run h4 w4))
     (r : Runs N (start N b (top_work waiting)) (apply h1 new1 g1 ∷ apply h2 new2 g2 ∷ run h3 w3 ∷ run h4 w4 ∷ [])) where
   abbrev s1 : SlotState N
-  s1 = after N (start N b (top_work waiting)) (apply h1 new1 g1)
+  s1 = after_act N (start N b (top_work waiting)) (apply h1 new1 g1)
 
   abbrev s2 : SlotState N
-  s2 = after N s1 (apply h2 new2 g2)
+  s2 = after_act N s1 (apply h2 new2 g2)
 
   abbrev s3 : SlotState N
-  s3 = after N s2 (run h3 w3)
+  s3 = after_act N s2 (run h3 w3)
 
   top_method : g1.number ≡ 0
   top_method = is_zero g1.number (ap name_of e1)
@@ -205,11 +205,11 @@ module _ (b : ℕ) (small : b < 2 ^ 32) (h1 h2 h3 h4 : ℕ) (in_1 : h1 ≤ b) (i
   unblocked : (x : ℕ) → s3.before x h4 → ⊥
   unblocked = r.1.1.1.0.unblocked
 
-  -- after p q is left
+  -- after_act p q is left
   q_is_left : codes "htn_s3" ≡ slot_word h3 → ⊥
   q_is_left e = unblocked new_1.0 (subst (s3.before new_1.0) y_slot (q_before_y, λ f. less 50 51 (omega arith) (ap sixth (e ∙ ap slot_word (sym f) ∙ sym (ap word_1 words_1)))))
 
-  -- after q p is left
+  -- after_act q p is left
   p_is_left : codes "htn_s2" ≡ slot_word h3 → ⊥
   p_is_left e = unblocked new_2.0 (subst (s3.before new_2.0) y_slot (p_before_y, λ f. less 50 51 (omega arith) (ap sixth (ap word_1 words_2 ∙ ap slot_word f ∙ sym e))))
 

@@ -44,7 +44,7 @@ module _ (c : Compiled) (b : ℕ) (style : Style) (p : Pddl) (means : PiecesMean
       known : IsKnown c (top_work c)
       known = let e : length c.hddl.tasks ≤ length c.hddl.tasks = omega arith in e
 
-  sane_after : (t : Machine.SlotState N) (act : Act N) → IsSane t → May N t act → IsSane (Machine.after N t act)
+  sane_after : (t : Machine.SlotState N) (act : Act N) → IsSane t → May N t act → IsSane (Machine.after_act N t act)
   sane_after t (run h w) s may = record {
     holds = λ x v k. s.holds x v k.0;
     free = λ x k. elim k [ inl y ↦ s.free x y | inr e ↦ subst (IsSlot c b style p) (sym e) (s.holds h w may.holds).1 ];
@@ -103,7 +103,7 @@ module _ (c : Compiled) (b : ℕ) (style : Style) (p : Pddl) (means : PiecesMean
 
   acts_from : (t : Machine.SlotState N) (acts : List (Act N)) → IsSane t → Runs N t acts → AreActs c b style p acts
   acts_from t [] s r = tt
-  acts_from t (act ∷ acts) s r = (act_is t act s r.0, acts_from (Machine.after N t act) acts (sane_after t act s r.0) r.1)
+  acts_from t (act ∷ acts) s r = (act_is t act s r.0, acts_from (Machine.after_act N t act) acts (sane_after t act s r.0) r.1)
 
   pub acts_are : 1 ≤ b → (acts : List (Act N)) → Runs N (start N b (top_work c)) acts → AreActs c b style p acts
   acts_are positive acts r = acts_from (start N b (top_work c)) acts (sane_start positive) r

@@ -32,8 +32,8 @@ module _ (c : Compiled) (b : ℕ) (style : Style) (p : Pddl) (means : PiecesMean
   abbrev IsReached : Machine.SlotState N → Type 1
   IsReached t = (taken : List (Act N)) × Runs N first taken × (end_of N first taken ≡ t)
 
-  reached_next : (t : Machine.SlotState N) (act : Act N) → IsReached t → May N t act → IsReached (Machine.after N t act)
-  reached_next t act (taken, r, e) may = (taken ++ act ∷ [], runs_push N first taken act r (subst (λ z. May N z act) (sym e) may), end-push N first taken act ∙ ap (λ z. Machine.after N z act) e)
+  reached_next : (t : Machine.SlotState N) (act : Act N) → IsReached t → May N t act → IsReached (Machine.after_act N t act)
+  reached_next t act (taken, r, e) may = (taken ++ act ∷ [], runs_push N first taken act r (subst (λ z. May N z act) (sym e) may), end-push N first taken act ∙ ap (λ z. Machine.after_act N z act) e)
 
   -- no slot is held and free
   apart : (t : Machine.SlotState N) → IsReached t → (x : ℕ) (w : Work) → t.holds x w → t.free x → ⊥
@@ -69,13 +69,13 @@ module _ (c : Compiled) (b : ℕ) (style : Style) (p : Pddl) (means : PiecesMean
     leads_iff (act ∷ acts) S t T r reached = (
       λ k. (let (a, os, app, more) = k in
           let taken = act_to S t T r reached act a os app in
-          let ih = leads_iff acts (after (InT c b style p) S a.eff os) (Machine.after N t act) (next c T (label_of N act)) taken.reads (reached_next t act reached taken.may) in
+          let ih = leads_iff acts (after (InT c b style p) S a.eff os) (Machine.after_act N t act) (next c T (label_of N act)) taken.reads (reached_next t act reached taken.may) in
           let rest = ih.0 more in
           ((taken.may, rest.0), (taken.allows, rest.1), rest.2)),
       λ k. (let (runs, allowed, q) = k in
           let (a, os, app) = act_from S t T r reached act runs.0 allowed.0 in
           let taken = act_to S t T r reached act a os app in
-          let ih = leads_iff acts (after (InT c b style p) S a.eff os) (Machine.after N t act) (next c T (label_of N act)) taken.reads (reached_next t act reached taken.may) in
+          let ih = leads_iff acts (after (InT c b style p) S a.eff os) (Machine.after_act N t act) (next c T (label_of N act)) taken.reads (reached_next t act reached taken.may) in
           (a, os, app, ih.1 (runs.1, allowed.1, q))),
     )
 

@@ -45,7 +45,7 @@ module _ (c : Compiled) (b : ℕ) (style : Style) (p : Pddl) (d : PredicatesDiff
   Comes a = IsChild a ⊎ (IsLink a ⊎ IsCopy a)
 
   abbrev split : Machine.SlotState N
-  split = Machine.after N t (apply h new g)
+  split = Machine.after_act N t (apply h new g)
 
   abbrev S' : State
   S' = Changed S Goes Comes

@@ -9,7 +9,7 @@ use Rattle.task_networks.proofs.examples.Nets.{tail, chain, ChainPair, of_t, of_
 use Rattle.task_networks.proofs.Lists.{head_or_tail, not-in_empty}
 use Rattle.task_networks.proofs.SpellingTests.{spells_by}
 use Rattle.task_networks.proofs.Tests.{schedule_iff}
-use Rattle.slot_machine.specs.Machine.{SlotState, after, IsSlotOf, May, start, MayRun, IsUnblocked}
+use Rattle.slot_machine.specs.Machine.{SlotState, after_act, IsSlotOf, May, start, MayRun, IsUnblocked}
 use Rattle.slot_machine.specs.Laws.{SpellsFront}
 use Rattle.slot_machine.proofs.RunSpellings.{runs_iff_spells}
 
@@ -32,8 +32,8 @@ only x y c = elim (head_or_tail x [] y c) [ inl e ↦ e | inr d ↦ absurd (not-
 -- no pairs are copied: p isn't before y once x is split, and y runs too early
 module _ where
   abbrev step_without_copies : SlotState chain → Act chain → SlotState chain
-  step_without_copies s (run h w) = after chain s (run h w)
-  step_without_copies s (apply h new m) = record (after chain s (apply h new m)) {
+  step_without_copies s (run h w) = after_act chain s (run h w)
+  step_without_copies s (apply h new m) = record (after_act chain s (apply h new m)) {
     before = λ x y. (s.before x y × ((count chain m ≡ 0) × (x ≡ h) → ⊥)) ⊎ ((i : ℕ) × (j : ℕ) × ChainPair m i j × IsSlotOf chain h new m i x × IsSlotOf chain h new m j y);
   }
 
@@ -104,8 +104,8 @@ module _ where
 -- pairs stay when a slot is freed: y waits for ever
 module _ where
   abbrev step_without_clearing : SlotState chain → Act chain → SlotState chain
-  step_without_clearing s (run h w) = record (after chain s (run h w)) { before = s.before }
-  step_without_clearing s (apply h new m) = after chain s (apply h new m)
+  step_without_clearing s (run h w) = record (after_act chain s (run h w)) { before = s.before }
+  step_without_clearing s (apply h new m) = after_act chain s (apply h new m)
 
   abbrev pairs_stay : Machine chain
   pairs_stay = record { may = May chain; step = step_without_clearing }
@@ -181,7 +181,7 @@ module _ where
   MayTwice s (apply h new m) = s.holds h three_t × IsUnblocked three s h × (length new ≡ 2) × ((x : ℕ) → Contains new x → s.free x)
 
   abbrev slots_may_coincide : Machine three
-  slots_may_coincide = record { may = MayTwice; step = after three }
+  slots_may_coincide = record { may = MayTwice; step = after_act three }
 
   abbrev twice_acts : List (Act three)
   twice_acts = apply 1 (2 ∷ 2 ∷ []) tt ∷ []
@@ -199,7 +199,7 @@ module _ where
   MayMove s (apply h new m) = s.holds h tail_t × IsUnblocked tail s h × (length new ≡ count tail m) × ((x : ℕ) → Contains new x → s.free x) × AreDifferent new
 
   abbrev step_moved : SlotState tail → Act tail → SlotState tail
-  step_moved s (run h w) = after tail s (run h w)
+  step_moved s (run h w) = after_act tail s (run h w)
   step_moved s (apply h new m) = record {
     holds = λ x v. (s.holds x v × ((x ≡ h) × (v ≡ tail_t) → ⊥)) ⊎ ((i : ℕ) × (slice_get new i ≡ Some x) × (slice_get (tail_works m) i ≡ Some v));
     free = λ x. (s.free x × (Contains new x → ⊥)) ⊎ (x ≡ h);
