@@ -13,7 +13,7 @@ use Rattle.plan_meaning.specs.Strata.{Edge, IsEdge, AreEdges, source, target_by}
 use Rattle.plan_meaning.specs.Bound.{group_of, IsBound}
 use Rattle.plan_meaning.proofs.BlockNumbers.{weight_of, each_weight, same_order}
 use Rattle.plan_meaning.proofs.examples.EdgeChecks.{edge}
-use Rattle.plan_meaning.proofs.BoundParts.{AreWhole, head_is_task, within_length, Reached, Leads, leads_on, listed, not_of_the_group, same_group, of_walks}
+use Rattle.plan_meaning.proofs.BoundParts.{AreWhole, head_is_task, within_length, Reached, HasWalk, leads_on, listed, not_of_the_group, same_group, of_walks}
 
 module _ (c : Compiled) (whole : AreWhole c) (edges : List Edge) (are : AreEdges c edges) where
   module _ {n n' : ℕ} (A : IsBound c n) (B : IsBound c n') where
@@ -61,7 +61,7 @@ module _ (c : Compiled) (whole : AreWhole c) (edges : List Edge) (are : AreEdges
 
     -- all edges that a work leads to are among these
     Claim : ℕ → Type 0
-    Claim k = (left : List Edge) → length left ≤ k → (w : Schema) → Reached c whole edges are w → ((e : Edge) → IsEdge c e → Leads c whole edges are w (source c e) → Contains left e) → A.number w ≤ B.number w
+    Claim k = (left : List Edge) → length left ≤ k → (w : Schema) → Reached c whole edges are w → ((e : Edge) → IsEdge c e → HasWalk c whole edges are w (source c e) → Contains left e) → A.number w ≤ B.number w
 
     step : (k : ℕ) → ((l : ℕ) → l < k → Claim l) → Claim k
     unfolding Claim
@@ -85,10 +85,10 @@ module _ (c : Compiled) (whole : AreWhole c) (edges : List Edge) (are : AreEdges
                 is_edge : IsEdge c (edge m j)
                 is_edge = record { ground = g; reached = q; subtask = t; is = e }
 
-                from_head : (h : (s : ℕ) × ((schemas c).head m ≡ task s)) → Leads c whole edges are w ((schemas c).head m)
-                from_head (s, h) = subst (Leads c whole edges are w) (sym h) (same_group c whole edges are A w s r (subst (Reached c whole edges are) h q) (subst (λ z. group_of A.group w ≡ group_of A.group z) h f)).0
+                from_head : (h : (s : ℕ) × ((schemas c).head m ≡ task s)) → HasWalk c whole edges are w ((schemas c).head m)
+                from_head (s, h) = subst (HasWalk c whole edges are w) (sym h) (same_group c whole edges are A w s r (subst (Reached c whole edges are) h q) (subst (λ z. group_of A.group w ≡ group_of A.group z) h f)).0
 
-                to_child : Leads c whole edges are ((schemas c).head m) (task t)
+                to_child : HasWalk c whole edges are ((schemas c).head m) (task t)
                 to_child = (edge m j ∷ [], (refl, (are.all (edge m j)).1 is_edge, ap (target_by c) e))
 
                 lower : (h : (s : ℕ) × ((schemas c).head m ≡ task s)) → (before : List Edge) × (after : List Edge) × (left ≡ before ++ edge m j ∷ after) → A.number (task t) ≤ B.number (task t)
@@ -97,17 +97,17 @@ module _ (c : Compiled) (whole : AreWhole c) (edges : List Edge) (are : AreEdges
                     shorter : suc (length (before ++ after)) ≡ length left
                     shorter = omega (arith, length-append before after, length-append before (edge m j ∷ after), ap length p)
 
-                    still : (e' : Edge) → IsEdge c e' → Leads c whole edges are (task t) (source c e') → Contains (before ++ after) e'
+                    still : (e' : Edge) → IsEdge c e' → HasWalk c whole edges are (task t) (source c e') → Contains (before ++ after) e'
                     still e' i' l = elim (Contains-append_cases before (edge m j ∷ after) e' (subst (λ z. Contains z e') p (all e' i' on))) [
                       | inl x ↦ Contains-append_left before after e' x
                       | inr x ↦ elim (head_or_tail (edge m j) after e' x) [ inl y ↦ absurd (not_of_the_group c whole edges are A m i j (task t) g q counts e b (same y)) | inr y ↦ Contains-append_right before after e' y ]
                     ]
                       where
-                        on : Leads c whole edges are w (source c e')
+                        on : HasWalk c whole edges are w (source c e')
                         on = let a = from_head (s, h) in let b = leads_on c whole edges are ((schemas c).head m) (task t) (source c e') to_child.0 to_child.1 l in leads_on c whole edges are w ((schemas c).head m) (source c e') a.0 a.1 b
 
                         same : edge m j ≡ e' → group_of A.group (task t) ≡ group_of A.group ((schemas c).head m)
-                        same y = subst (λ z. group_of A.group (task t) ≡ group_of A.group z) (sym h) (of_walks c whole edges are A t s (as_child m j g q e) (subst (Reached c whole edges are) h q) (subst (Leads c whole edges are (task t)) h (subst (λ z. Leads c whole edges are (task t) (source c z)) (sym y) l)) (subst (λ z. Leads c whole edges are z (task t)) h to_child))
+                        same y = subst (λ z. group_of A.group (task t) ≡ group_of A.group z) (sym h) (of_walks c whole edges are A t s (as_child m j g q e) (subst (Reached c whole edges are) h q) (subst (HasWalk c whole edges are (task t)) h (subst (λ z. HasWalk c whole edges are (task t) (source c z)) (sym y) l)) (subst (λ z. HasWalk c whole edges are z (task t)) h to_child))
 
             each : (j : ℕ) (u : Schema) → slice_get ((schemas c).works m) j ≡ Some u → weight_of (schemas c) A.block A.number m (A.block m i) (0 + j) u ≤ weight_of (schemas c) B.block B.number m (B.block m i) (0 + j) u
             each j u e = subst (λ z. weight_of (schemas c) A.block A.number m (A.block m i) z u ≤ weight_of (schemas c) B.block B.number m (B.block m i) z u) (let y : j ≡ 0 + j = omega arith in y) (here (by_size (A.block m j) (A.block m i)))

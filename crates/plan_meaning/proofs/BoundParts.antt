@@ -36,18 +36,18 @@ module _ (c : Compiled) (whole : AreWhole c) (edges : List Edge) (are : AreEdges
   abbrev pub Reached : Schema → Type 0
   Reached = IsReached (schemas c) (task (top_task c))
 
-  abbrev pub Leads : Schema → Schema → Type 0
-  Leads x y = (walk : List Edge) × Walks.IsWalk (source c) (target c) edges x walk y
+  abbrev pub HasWalk : Schema → Schema → Type 0
+  HasWalk x y = (walk : List Edge) × Walks.IsWalk (source c) (target c) edges x walk y
 
-  pub leads_on : (x y z : Schema) (walk : List Edge) → Walks.IsWalk (source c) (target c) edges x walk y → Leads y z → Leads x z
-  leads_on x y z [] e h = subst (λ s. Leads s z) (sym e) h
+  pub leads_on : (x y z : Schema) (walk : List Edge) → Walks.IsWalk (source c) (target c) edges x walk y → HasWalk y z → HasWalk x z
+  leads_on x y z [] e h = subst (λ s. HasWalk s z) (sym e) h
   leads_on x y z (e ∷ walk) w h = let (on, k) = leads_on (target c e) y z walk w.2 h in (e ∷ on, (w.0, w.1, k))
 
   here : (list : List Edge) → AreEdges c list → (x y : Schema) (walk : List Edge) → Walks.IsWalk (source c) (target c) list x walk y → Walks.IsWalk (source c) (target c) edges x walk y
   here list l x y [] e = e
   here list l x y (e ∷ walk) w = (w.0, (are.all e).1 ((l.all e).0 w.1), here list l (target c e) y walk w.2)
 
-  there_and_back : (x y : Schema) → IsOneGroup c x y → Leads x y × Leads y x
+  there_and_back : (x y : Schema) → IsOneGroup c x y → HasWalk x y × HasWalk y x
   there_and_back x y (list, l, (a, b)) = ((a.0, here list l x y a.0 a.1), (b.0, here list l y x b.0 b.1))
 
   -- a child of a method is in its line
@@ -96,10 +96,10 @@ module _ (c : Compiled) (whole : AreWhole c) (edges : List Edge) (are : AreEdges
             go (inr (inr l)) = absurd (full (let a = after_block (A.block m i) (A.block m i') (A.number u'.0) l in omega arith))
 
     -- one group, by the group numbers
-    pub same_group : (x : Schema) (t : ℕ) → Reached x → Reached (task t) → group_of A.group x ≡ group_of A.group (task t) → Leads x (task t) × Leads (task t) x
+    pub same_group : (x : Schema) (t : ℕ) → Reached x → Reached (task t) → group_of A.group x ≡ group_of A.group (task t) → HasWalk x (task t) × HasWalk (task t) x
     same_group (action a) t r q e = absurd (omega arith)
     same_group (check m) t r q e = absurd (omega arith)
     same_group (task u) t r q e = there_and_back (task u) (task t) ((A.groups u t r q).0 (omega arith))
 
-    pub of_walks : (u t : ℕ) → Reached (task u) → Reached (task t) → Leads (task u) (task t) → Leads (task t) (task u) → group_of A.group (task u) ≡ group_of A.group (task t)
+    pub of_walks : (u t : ℕ) → Reached (task u) → Reached (task t) → HasWalk (task u) (task t) → HasWalk (task t) (task u) → group_of A.group (task u) ≡ group_of A.group (task t)
     of_walks u t r q a b = ap suc ((A.groups u t r q).1 (edges, are, (a, b)))

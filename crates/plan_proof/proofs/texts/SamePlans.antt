@@ -15,7 +15,7 @@ use Rattle.plan_model.specs.declared.steps.GroundAction.{GroundAction}
 use Rattle.plan_model.specs.declared.values.Pddl.{Pddl}
 use Rattle.htn_base.specs.declared.name.Name.{Name}
 use Rattle.plan_meaning.specs.Truth.{State, AreTyped, IsTrueIn, Adds, Deletes, after}
-use Rattle.plan_meaning.specs.ClassicalPlan.{IsObject, AreObjects, InTypeOf, Leads, IsExecutable, IsPlan}
+use Rattle.plan_meaning.specs.ClassicalPlan.{IsObject, AreObjects, InTypeOf, EndsIn, IsExecutable, IsPlan}
 use Rattle.plan_texts.proofs.AlikeLaws.{pddl_symmetric}
 use Rattle.plan_texts.proofs.Members.{each-has, has-to_map, has-of_map}
 use Rattle.plan_texts.proofs.Unique.{spelled_alike}
@@ -82,7 +82,7 @@ module _ (c d : Pddl) (hc : HasSoundWords c) (hd : HasSoundWords d) (alike : Are
   same-objects (o ∷ os) [] e = absurd e
   same-objects (o ∷ os) (u ∷ us) e = (same-object o u e.0, same-objects os us e.1)
 
-  same-leads : (P P' : State → Type 0) → ((S S' : State) → ((g : GroundAtom) → S g ↔ S' g) → P S → P' S') → (ss : List GroundAction) (S S' : State) → ((g : GroundAtom) → S g ↔ S' g) → Leads c P S ss → Leads d P' S' ss
+  same-leads : (P P' : State → Type 0) → ((S S' : State) → ((g : GroundAtom) → S g ↔ S' g) → P S → P' S') → (ss : List GroundAction) (S S' : State) → ((g : GroundAtom) → S g ↔ S' g) → EndsIn c P S ss → EndsIn d P' S' ss
   same-leads P P' goal [] S S' same e = goal S S' same e
   same-leads P P' goal (s ∷ ss) S S' same e =
       let a = e.2 in
