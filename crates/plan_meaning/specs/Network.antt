@@ -30,14 +30,14 @@ IsPrimitive (action a args) = Unit {0}
 IsPrimitive (check m values) = Unit {0}
 IsPrimitive (task t args) = ⊥
 
-abbrev pub work_of : GroundMethod → Head → List ℕ → Work
-work_of g (Task t) args = task t args
-work_of g (Action a) args = action a args
-work_of g Check args = check g.number g.values
+abbrev pub ground_work : GroundMethod → Head → List ℕ → Work
+ground_work g (Task t) args = task t args
+ground_work g (Action a) args = action a args
+ground_work g Check args = check g.number g.values
 
 -- a child of a method, with the objects that its terms stand for
 abbrev pub child_of : GroundMethod → Child → Work
-child_of g child = work_of g child.head (values_of g.values child.args)
+child_of g child = ground_work g child.head (values_of g.values child.args)
 
 -- the constraint, an equality or an inequality of two terms, is true
 abbrev pub Meets : List ℕ → Constraint → Type 0

@@ -18,7 +18,7 @@ use Rattle.task_networks.specs.Bound as Bounds
 use Rattle.task_networks.proofs.BoundLaws.{the_bound_is_large_enough, lifted_bound_is_bound}
 use Rattle.slot_machine.proofs.Width.{bound_holds}
 use Rattle.plan_meaning.specs.Network as Network
-use Rattle.plan_meaning.specs.Network.{Work, GroundMethod, network, child_of, work_of, IsPairBy, top_task}
+use Rattle.plan_meaning.specs.Network.{Work, GroundMethod, network, child_of, ground_work, IsPairBy, top_task}
 use Rattle.plan_meaning.specs.Schemas as Schemas
 use Rattle.plan_meaning.specs.Schemas.{Schema, schemas, schema_of}
 use Rattle.plan_meaning.specs.Compilation.{IsCompiled}
@@ -40,7 +40,7 @@ module _ (c : Compiled) where
   schema-head g None = refl
   schema-head g (Some plan) = refl
 
-  schema-work : (g : GroundMethod) (hd : Head) (args : List ℕ) → schema (work_of g hd args) ≡ schema_of g.number hd
+  schema-work : (g : GroundMethod) (hd : Head) (args : List ℕ) → schema (ground_work g hd args) ≡ schema_of g.number hd
   schema-work g (Task t) args = refl
   schema-work g (Action a) args = refl
   schema-work g Check args = refl
