@@ -4,7 +4,7 @@ use Rattle.std.proofs.lemmas.List.Elements.{Contains-append_left}
 use Rattle.task_networks.specs.Order.{Precedes, direct, through}
 use Rattle.task_networks.specs.Net.{Net}
 use Rattle.task_networks.specs.Lawful.{IsLawful}
-use Rattle.task_networks.specs.Tree.{Tree, Address, IsAddress, IsBelow, label_at, IsOpen, waits, used, IsProcessed}
+use Rattle.task_networks.specs.Tree.{Tree, Address, IsAddress, IsAbove, label_at, IsOpen, waits, used, IsProcessed}
 use Rattle.task_networks.specs.Schedule.{Blocks, IsSchedule, MustPrecede}
 use Rattle.task_networks.specs.Pending.{AreDifferent}
 use Rattle.task_networks.proofs.Addresses.{below_below, below_up, below-itself}
@@ -24,12 +24,12 @@ module _ (N : Net) where
     blocks_then tree u [] (k ∷ r) a x y = absurd x
     blocks_then tree u (j ∷ q) (k ∷ r) a (m, i, e, c, d) (m', i', e', c', d') = go d'
       where
-        go : (i' ∷ r ≡ j ∷ q) ⊎ IsBelow (i' ∷ r) q → Blocks N tree u (k ∷ r)
+        go : (i' ∷ r ≡ j ∷ q) ⊎ IsAbove (i' ∷ r) q → Blocks N tree u (k ∷ r)
         go (inl f) =
             let g : i' ≡ j = cc in
             let h : r ≡ q = cc in
             let s : m' ≡ m = (let x = ap (label_at N tree) h in cc) in
-            (m', i, e', precedes_then i j k (subst (λ z. Precedes (N.Pair z) i j) (sym s) c) (subst (λ z. Precedes (N.Pair m') z k) g c'), subst (λ z. IsBelow (i ∷ z) u) (sym h) d)
+            (m', i, e', precedes_then i j k (subst (λ z. Precedes (N.Pair z) i j) (sym s) c) (subst (λ z. Precedes (N.Pair m') z k) g c'), subst (λ z. IsAbove (i ∷ z) u) (sym h) d)
         go (inr f) = (m', i', e', c', below_below (i' ∷ r) q u f (below_up i q u d))
 
     module _ (b : ℕ) (s : SlotState N) (tree : Tree N) (slot : Address → ℕ) (m : Matches N b s tree slot) where
@@ -85,14 +85,14 @@ module _ (N : Net) where
   pub only_siblings : (tree : Tree N) (order : List Address) (u v : Address) → IsSchedule N tree order → IsOpen N tree u → IsOpen N tree v → MustPrecede N tree u v ↔ Blocks N tree u v
   only_siblings tree order u v s ou ov = (λ h. to v ov h.0 h.1 h.2, λ h. (v, below-itself v, h))
     where
-      used_above : (c v : Address) → IsBelow c v → IsAddress N tree v → (c ≡ v) ⊎ IsProcessed N tree c
+      used_above : (c v : Address) → IsAbove c v → IsAddress N tree v → (c ≡ v) ⊎ IsProcessed N tree c
       used_above c [] e a = inl e
       used_above c (k ∷ v) (inl e) a = inl e
       used_above c (k ∷ v) (inr h) (l, e) =
           let (m, f) = parent_used N tree k v l e in
           elim (used_above c v h (used m, f)) [ inl x ↦ inr (used m, ap (label_at N tree) x ∙ f, tt) | inr x ↦ inr x ]
 
-      to : (v : Address) → IsOpen N tree v → (c : Address) → IsBelow c v → Blocks N tree u c → Blocks N tree u v
+      to : (v : Address) → IsOpen N tree v → (c : Address) → IsAbove c v → Blocks N tree u c → Blocks N tree u v
       to v (w, e) c h bl = elim (used_above c v h (waits w, e)) [
         | inl x ↦ subst (Blocks N tree u) x bl
         | inr x ↦ (let (taken, rest, f) = cut_at order c ((s.covers c).1 x) in

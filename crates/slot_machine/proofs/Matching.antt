@@ -2,7 +2,7 @@
 use Rattle.std.proofs.Common.{ℕ, ◌≡◌, ◌≢◌, ◌≤◌, ◌⊎◌, ◌↔◌, inl, inr, List, [], ◌∷◌, Option, Some, None, option_map, refl, ap, subst, ◌∙◌, Contains}
 use Rattle.task_networks.specs.Net.{Net}
 use Rattle.task_networks.specs.Lawful.{IsLawful}
-use Rattle.task_networks.specs.Tree.{at, Tree, Address, label_at, label, waits, IsOpen, ran, used, Label, IsAddress, IsBelow, IsProcessed}
+use Rattle.task_networks.specs.Tree.{at, Tree, Address, label_at, label, waits, IsOpen, ran, used, Label, IsAddress, IsAbove, IsProcessed}
 use Rattle.task_networks.specs.Schedule.{Blocks, IsSchedule, IsDue, IsBegun}
 use Rattle.task_networks.proofs.Nodes.{parent}
 use Rattle.slot_machine.specs.Machine.{SlotState, IsUnblocked}
@@ -47,7 +47,7 @@ module _ (N : Net) where
     up k [] a bl = bl
     up k (j ∷ q) a (n, i, e, h, c) = (n, i, e, h, go c)
       where
-        go : (i ∷ q ≡ k ∷ p) ⊎ IsBelow (i ∷ q) p → IsBelow (i ∷ q) p
+        go : (i ∷ q ≡ k ∷ p) ⊎ IsAbove (i ∷ q) p → IsAbove (i ∷ q) p
         go (inl x) = absurd (parent_apart j q a (let y : q ≡ p = cc in y))
         go (inr x) = x
 

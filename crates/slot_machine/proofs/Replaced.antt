@@ -1,7 +1,7 @@
 -- A subtree is put in the place of another.
 use Rattle.std.proofs.Common.{ℕ, zero, suc, ◌≡◌, ◌≢◌, ◌⊎◌, inl, inr, [], ◌∷◌, Option, Some, None, option_map, option_and_then, refl, ap, sym, subst, ◌∙◌}
 use Rattle.task_networks.specs.Net.{Net}
-use Rattle.task_networks.specs.Tree.{Trees, Tree, none, more, open_leaf, done, split, Address, at, child_at, work_of, works_of, AreGrown, IsGrown, IsBelow, children_of, label, label_at}
+use Rattle.task_networks.specs.Tree.{Trees, Tree, none, more, open_leaf, done, split, Address, at, child_at, work_of, works_of, AreGrown, IsGrown, IsAbove, children_of, label, label_at}
 use Rattle.task_networks.proofs.Addresses.{is_below, below_cases}
 use Rattle.task_networks.proofs.Nodes.{parent, child_below}
 
@@ -100,15 +100,15 @@ module _ (N : Net) where
       subst (λ x. IsGrown N x × (work_of N x ≡ work_of N tree)) (sym (put_step tree i p u.0 u.1 s u.2)) r
 
   -- what is at a node decides what is below it
-  below_same : (tree tree' : Tree N) (p q : Address) → at N tree' p ≡ at N tree p → IsBelow p q → at N tree' q ≡ at N tree q
+  below_same : (tree tree' : Tree N) (p q : Address) → at N tree' p ≡ at N tree p → IsAbove p q → at N tree' q ≡ at N tree q
   below_same tree tree' p [] e b = subst (λ x. at N tree' x ≡ at N tree x) b e
   below_same tree tree' p (k ∷ q) e (inl b) = subst (λ x. at N tree' x ≡ at N tree x) b e
   below_same tree tree' p (k ∷ q) e (inr b) = ap (option_and_then (λ u. child_at N (children_of N u) k)) (below_same tree tree' p q e b)
 
-  pub label-put_other : (tree : Tree N) (p : Address) (t s : Tree N) → at N tree p ≡ Some t → (q : Address) → (IsBelow p q → ⊥) → label_at N (put tree p s) q ≡ label_at N tree q
+  pub label-put_other : (tree : Tree N) (p : Address) (t s : Tree N) → at N tree p ≡ Some t → (q : Address) → (IsAbove p q → ⊥) → label_at N (put tree p s) q ≡ label_at N tree q
   label-put_other tree [] t s e q n = absurd (n (all_below q))
     where
-      all_below : (q : Address) → IsBelow [] q
+      all_below : (q : Address) → IsAbove [] q
       all_below [] = refl
       all_below (k ∷ q) = inr (all_below q)
   label-put_other tree (i ∷ p) t s e q n = subst (λ x. label_at N x q ≡ label_at N tree q) (sym (put_step tree i p u.0 u.1 s u.2)) (go (is_below p q) (label-put_other tree p (split u.0 u.1) s' u.2 q))
@@ -122,13 +122,13 @@ module _ (N : Net) where
       h : at N (put tree p s') p ≡ Some s'
       h = at-put_same tree p (split u.0 u.1) s' u.2
 
-      side : (q ≡ p) ⊎ ((k : ℕ) × IsBelow (k ∷ p) q) → label_at N (put tree p s') q ≡ label_at N tree q
+      side : (q ≡ p) ⊎ ((k : ℕ) × IsAbove (k ∷ p) q) → label_at N (put tree p s') q ≡ label_at N tree q
       side (inl f) = subst (λ x. label_at N (put tree p s') x ≡ label_at N tree x) (sym f) (ap (option_map (label N)) h ∙ sym (ap (option_map (label N)) u.2))
       side (inr (k, b)) =
-          let d : k ≢ i = λ f. n (subst (λ x. IsBelow (x ∷ p) q) f b) in
+          let d : k ≢ i = λ f. n (subst (λ x. IsAbove (x ∷ p) q) f b) in
           let c : at N (put tree p s') (k ∷ p) ≡ at N tree (k ∷ p) = child_below N (put tree p s') k p u.0 (set_child u.1 i s) h ∙ child-set_other u.1 i k s d ∙ sym (child_below N tree k p u.0 u.1 u.2) in
           ap (option_map (label N)) (below_same tree (put tree p s') (k ∷ p) q c b)
 
-      go : Dec (IsBelow p q) → ((IsBelow p q → ⊥) → label_at N (put tree p s') q ≡ label_at N tree q) → label_at N (put tree p s') q ≡ label_at N tree q
+      go : Dec (IsAbove p q) → ((IsAbove p q → ⊥) → label_at N (put tree p s') q ≡ label_at N tree q) → label_at N (put tree p s') q ≡ label_at N tree q
       go (no d) ih = ih d
       go (yes b) ih = side (below_cases p q b)

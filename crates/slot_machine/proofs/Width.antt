@@ -2,7 +2,7 @@
 use Rattle.std.proofs.Common.{ℕ, zero, suc, ◌≡◌, ◌+◌, ◌<◌, ◌≤◌, ◌⊎◌, inl, inr, List, [], ◌∷◌, ◌++◌, length, slice_get, filter, Bool, true, false, cond, Some, option_map, refl, ap, sym, subst, ◌∙◌, Contains, arith, append_assoc, length-append, add-le-add}
 use Rattle.std.proofs.lemmas.List.Elements.{Contains-append_left, filter-append}
 use Rattle.task_networks.specs.Net.{Net, count}
-use Rattle.task_networks.specs.Tree.{Tree, Address, IsAddress, open_leaf, done, split, Trees, none, more, at, IsBelow, waits, label, ran, child_at, used, work_of, works_of, IsGrown, AreGrown}
+use Rattle.task_networks.specs.Tree.{Tree, Address, IsAddress, open_leaf, done, split, Trees, none, more, at, IsAbove, waits, label, ran, child_at, used, work_of, works_of, IsGrown, AreGrown}
 use Rattle.task_networks.specs.Schedule.{Blocks, IsSchedule, IsDue}
 use Rattle.task_networks.specs.Pending.{is_among, is_pending, nodes_at, nodes_from, IsWithin}
 use Rattle.task_networks.specs.Front.{IsFront}
@@ -42,24 +42,24 @@ module _ (N : Net) (block : N.Method → ℕ → ℕ) (number : N.Work → ℕ) 
 
     -- where one is pending, a node isn't taken
     mutual
-      some_left : (p : Address) (t : Tree N) → at N tree p ≡ Some t → 0 < pending_below p t → (u : Address) × IsBelow p u × IsAddress N tree u × (Contains taken u → ⊥)
+      some_left : (p : Address) (t : Tree N) → at N tree p ≡ Some t → 0 < pending_below p t → (u : Address) × IsAbove p u × IsAddress N tree u × (Contains taken u → ⊥)
       some_left p (open_leaf w) a l = leaf (is_among taken p) refl l
         where
-          leaf : (b : Bool) → is_among taken p ≡ b → 0 < cond b 0 1 → (u : Address) × IsBelow p u × IsAddress N tree u × (Contains taken u → ⊥)
+          leaf : (b : Bool) → is_among taken p ≡ b → 0 < cond b 0 1 → (u : Address) × IsAbove p u × IsAddress N tree u × (Contains taken u → ⊥)
           leaf true e l = absurd (omega arith)
           leaf false e l = (p, below-itself p, (waits w, ap (option_map (label N)) a), untaken p e)
       some_left p (done w) a l = leaf (is_among taken p) refl l
         where
-          leaf : (b : Bool) → is_among taken p ≡ b → 0 < cond b 0 1 → (u : Address) × IsBelow p u × IsAddress N tree u × (Contains taken u → ⊥)
+          leaf : (b : Bool) → is_among taken p ≡ b → 0 < cond b 0 1 → (u : Address) × IsAbove p u × IsAddress N tree u × (Contains taken u → ⊥)
           leaf true e l = absurd (omega arith)
           leaf false e l = (p, below-itself p, (ran w, ap (option_map (label N)) a), untaken p e)
       some_left p (split m ts) a l = node (is_among taken p) refl (λ k. some_child p 0 ts (λ j. subst (λ z. at N tree (z ∷ p) ≡ child_at N ts j) (let x : j ≡ 0 + j = omega arith in x) (child_below N tree j p m ts a)) k) l
         where
-          node : (b : Bool) → is_among taken p ≡ b → (0 < pending_below_all p 0 ts → (u : Address) × IsBelow p u × IsAddress N tree u × (Contains taken u → ⊥)) → 0 < cond b (pending_below_all p 0 ts) 1 → (u : Address) × IsBelow p u × IsAddress N tree u × (Contains taken u → ⊥)
+          node : (b : Bool) → is_among taken p ≡ b → (0 < pending_below_all p 0 ts → (u : Address) × IsAbove p u × IsAddress N tree u × (Contains taken u → ⊥)) → 0 < cond b (pending_below_all p 0 ts) 1 → (u : Address) × IsAbove p u × IsAddress N tree u × (Contains taken u → ⊥)
           node true e ih l = ih l
           node false e ih l = (p, below-itself p, (used m, ap (option_map (label N)) a), untaken p e)
 
-      some_child : (p : Address) (i : ℕ) (ts : Trees N) → ((j : ℕ) → at N tree ((i + j) ∷ p) ≡ child_at N ts j) → 0 < pending_below_all p i ts → (u : Address) × IsBelow p u × IsAddress N tree u × (Contains taken u → ⊥)
+      some_child : (p : Address) (i : ℕ) (ts : Trees N) → ((j : ℕ) → at N tree ((i + j) ∷ p) ≡ child_at N ts j) → 0 < pending_below_all p i ts → (u : Address) × IsAbove p u × IsAddress N tree u × (Contains taken u → ⊥)
       some_child p i none a l = absurd (omega arith)
       some_child p i (more t ts) a l = elim (by_size 0 (pending_below (i ∷ p) t)) [
         | inl x ↦ (let h = some_left (i ∷ p) t (subst (λ z. at N tree (z ∷ p) ≡ Some t) (let y : i + 0 ≡ i = omega arith in y) (a 0)) x in (h.0, below_up i p h.0 h.1, h.2, h.3))
@@ -167,7 +167,7 @@ module _ (N : Net) (block : N.Method → ℕ → ℕ) (number : N.Work → ℕ) 
                     let q = ap (λ z. weights N block number m (block m j) 0 z) g.1 in
                     omega arith
                   where
-                    left : (u : Address) × IsBelow (j ∷ p) u × IsAddress N tree u × (Contains taken u → ⊥)
+                    left : (u : Address) × IsAbove (j ∷ p) u × IsAddress N tree u × (Contains taken u → ⊥)
                     left = some_left (j ∷ p) t (is_child_at j t c) (subst (λ z. 0 < pending_below (z ∷ p) t) (zero-plus j) l)
 
                     weigh : (k : ℕ) (s : Tree N) → child_at N ts k ≡ Some s → pending_below ((0 + k) ∷ p) s ≤ weight (block m j) (block m (0 + k)) (number (work_of N s))
@@ -198,16 +198,16 @@ module _ (N : Net) (block : N.Method → ℕ → ℕ) (number : N.Work → ℕ) 
 
     -- the list of what is pending is no longer
     module _ (parents : (i : ℕ) (q : Address) → Contains taken (i ∷ q) → Contains taken q) where
-      taken_up : (p q : Address) → IsBelow p q → Contains taken q → Contains taken p
+      taken_up : (p q : Address) → IsAbove p q → Contains taken q → Contains taken p
       taken_up p [] b c = subst (Contains taken) (sym b) c
       taken_up p (k ∷ q) (inl e) c = subst (Contains taken) (sym e) c
       taken_up p (k ∷ q) (inr b) c = taken_up p q b (parents k q c)
 
-      none_below : (p q : Address) (j : ℕ) → (Contains taken p → ⊥) → IsBelow (j ∷ p) q → is_pending taken q ≡ true → ⊥
+      none_below : (p q : Address) (j : ℕ) → (Contains taken p → ⊥) → IsAbove (j ∷ p) q → is_pending taken q ≡ true → ⊥
       none_below p [] j n b e = cc
       none_below p (k ∷ q) j n b e = let h = (pending_to taken (k ∷ q) e).0 in go b h
         where
-          go : (j ∷ p ≡ k ∷ q) ⊎ IsBelow (j ∷ p) q → Contains taken q → ⊥
+          go : (j ∷ p ≡ k ∷ q) ⊎ IsAbove (j ∷ p) q → Contains taken q → ⊥
           go (inl x) h = n (let y : q ≡ p = cc in subst (Contains taken) y h)
           go (inr x) h = n (taken_up p q (below_up j p q x) h)
 

@@ -3,7 +3,7 @@ use Rattle.std.proofs.Common.{ℕ, zero, suc, ◌≡◌, ◌+◌, ◌≤◌, inl
 use Rattle.std.specs.Option.{option_and_then}
 use Rattle.std.proofs.lemmas.List.Elements.{Contains-append_left, Contains-append_right, Contains-append_cases}
 use Rattle.task_networks.specs.Net.{Net}
-use Rattle.task_networks.specs.Tree.{Tree, Address, at, Trees, split, child_at, children_of, open_leaf, done, none, more, IsAddress, label, IsOpen, waits, IsBelow}
+use Rattle.task_networks.specs.Tree.{Tree, Address, at, Trees, split, child_at, children_of, open_leaf, done, none, more, IsAddress, label, IsOpen, waits, IsAbove}
 use Rattle.task_networks.specs.Pending.{nodes_at, nodes_from, AreDifferent}
 use Rattle.task_networks.proofs.Addresses.{below-itself, below_up, not-below_parent, same_sibling}
 use Rattle.task_networks.proofs.Different.{different_append}
@@ -52,12 +52,12 @@ module _ (N : Net) where
 
   -- each node once
   mutual
-    pub below_nodes : (t : Tree N) (p q : Address) → Contains (nodes_at N p t) q → IsBelow p q
-    below_nodes (open_leaf w) p q c = elim (head_or_tail p [] q c) [ inl e ↦ subst (IsBelow p) e (below-itself p) | inr d ↦ absurd (not-in_empty q d) ]
-    below_nodes (done w) p q c = elim (head_or_tail p [] q c) [ inl e ↦ subst (IsBelow p) e (below-itself p) | inr d ↦ absurd (not-in_empty q d) ]
-    below_nodes (split m ts) p q c = elim (head_or_tail p (nodes_from N p 0 ts) q c) [ inl e ↦ subst (IsBelow p) e (below-itself p) | inr d ↦ (let h = below_children ts p 0 q d in below_up h.0 p q h.2) ]
+    pub below_nodes : (t : Tree N) (p q : Address) → Contains (nodes_at N p t) q → IsAbove p q
+    below_nodes (open_leaf w) p q c = elim (head_or_tail p [] q c) [ inl e ↦ subst (IsAbove p) e (below-itself p) | inr d ↦ absurd (not-in_empty q d) ]
+    below_nodes (done w) p q c = elim (head_or_tail p [] q c) [ inl e ↦ subst (IsAbove p) e (below-itself p) | inr d ↦ absurd (not-in_empty q d) ]
+    below_nodes (split m ts) p q c = elim (head_or_tail p (nodes_from N p 0 ts) q c) [ inl e ↦ subst (IsAbove p) e (below-itself p) | inr d ↦ (let h = below_children ts p 0 q d in below_up h.0 p q h.2) ]
 
-    pub below_children : (ts : Trees N) (p : Address) (i : ℕ) (q : Address) → Contains (nodes_from N p i ts) q → (j : ℕ) × (i ≤ j) × IsBelow (j ∷ p) q
+    pub below_children : (ts : Trees N) (p : Address) (i : ℕ) (q : Address) → Contains (nodes_from N p i ts) q → (j : ℕ) × (i ≤ j) × IsAbove (j ∷ p) q
     below_children none p i q c = absurd (not-in_empty q c)
     below_children (more t ts) p i q c = elim (Contains-append_cases (nodes_at N (i ∷ p) t) (nodes_from N p (suc i) ts) q c) [ inl d ↦ (i, omega arith, below_nodes t (i ∷ p) q d) | inr d ↦ (let h = below_children ts p (suc i) q d in (h.0, (let l = h.1 in omega arith), h.2)) ]
 

@@ -3,7 +3,7 @@ use Rattle.std.proofs.Common.{ℕ, ◌≡◌, ◌↔◌, inl, inr, List, [], ◌
 use Rattle.std.specs.List.{list_any, list_all}
 use Rattle.task_networks.specs.Order.{ArePairsOf, Precedes}
 use Rattle.task_networks.specs.Net.{Net, count}
-use Rattle.task_networks.specs.Tree.{Address, IsBelow, Label, waits, ran, used, Tree, label_at, IsProcessed, IsTaken}
+use Rattle.task_networks.specs.Tree.{Address, IsAbove, Label, waits, ran, used, Tree, label_at, IsProcessed, IsTaken}
 use Rattle.task_networks.specs.Schedule.{IsBegun, Blocks, IsDue, IsSchedule}
 use Rattle.task_networks.specs.Pending.{same_address, is_among, nodes_at}
 use Rattle.task_networks.specs.Spelling.{numbers}
@@ -54,11 +54,11 @@ abbrev pub is_below : Address → Address → Bool
 is_below p [] = same_address p []
 is_below p (k ∷ u) = same_address p (k ∷ u) || is_below p u
 
-below_to : (p u : Address) → is_below p u ≡ true → IsBelow p u
+below_to : (p u : Address) → is_below p u ≡ true → IsAbove p u
 below_to p [] e = same_to p [] e
 below_to p (k ∷ u) e = elim (either (same_address p (k ∷ u)) (is_below p u) e) [ inl h ↦ inl (same_to p (k ∷ u) h) | inr h ↦ inr (below_to p u h) ]
 
-to_below : (p u : Address) → IsBelow p u → is_below p u ≡ true
+to_below : (p u : Address) → IsAbove p u → is_below p u ≡ true
 to_below p [] b = subst (λ z. same_address z [] ≡ true) (sym b) refl
 to_below p (k ∷ u) (inl e) = subst (λ z. (same_address z (k ∷ u) || is_below z u) ≡ true) (sym e) (ap (λ b. b || is_below (k ∷ u) u) (address_same_itself (k ∷ u)))
 to_below p (k ∷ u) (inr b) = second (same_address p (k ∷ u)) (is_below p u) (to_below p u b)

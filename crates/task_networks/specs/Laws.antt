@@ -4,7 +4,7 @@ use Rattle.task_networks.specs.Order.{Precedes, IsLine}
 use Rattle.task_networks.specs.Net.{Net, count}
 use Rattle.task_networks.specs.Lawful.{IsLawful}
 use Rattle.task_networks.specs.Prepared.{IsPrepared}
-use Rattle.task_networks.specs.Tree.{Tree, used, Address, IsBelow, label_at, IsAddress, IsProcessed}
+use Rattle.task_networks.specs.Tree.{Tree, used, Address, IsAbove, label_at, IsAddress, IsProcessed}
 use Rattle.task_networks.specs.Schedule.{IsSchedule}
 use Rattle.task_networks.specs.Pending.{AreDifferent, IsPending, IsWithin, pending}
 use Rattle.task_networks.specs.Front.{IsFinished}
@@ -36,7 +36,7 @@ module _ (N : Net) where
   abbrev pub EarlierSubtreesStandBefore : Type 0
   EarlierSubtreesStandBefore = (tree : Tree N) (order taken rest : List Address) (q : Address) (m : N.Method) (i j : ℕ) (u v : Address)
       → IsSchedule N tree order → order ≡ taken ++ v ∷ rest
-      → label_at N tree q ≡ Some (used m) → Precedes (N.Pair m) i j → IsBelow (i ∷ q) u → IsAddress N tree u → IsBelow (j ∷ q) v
+      → label_at N tree q ≡ Some (used m) → Precedes (N.Pair m) i j → IsAbove (i ∷ q) u → IsAddress N tree u → IsAbove (j ∷ q) v
       → IsProcessed N tree u × Contains taken u
 
   -- the computed list of what is pending has the pending nodes

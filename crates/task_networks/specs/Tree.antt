@@ -25,9 +25,9 @@ abbrev pub Address : Type 0
 Address = List ℕ
 
 -- u is p or below it
-abbrev pub IsBelow : Address → Address → Type 0
-IsBelow p [] = p ≡ []
-IsBelow p (k ∷ u) = (p ≡ k ∷ u) ⊎ IsBelow p u
+abbrev pub IsAbove : Address → Address → Type 0
+IsAbove p [] = p ≡ []
+IsAbove p (k ∷ u) = (p ≡ k ∷ u) ⊎ IsAbove p u
 
 module _ (N : Net) where
   abbrev pub work_of : Tree N → N.Work
