@@ -11,12 +11,12 @@ use Rattle.plan_meaning.specs.Truth.{State, AreTyped, IsTrueIn, after}
 
 module _ (c : Pddl) where
   -- object o has this word
-  abbrev pub IsObject : ℕ → List ℕ → Type 0
-  IsObject o word = (x : Object) × (slice_get c.objects o ≡ Some x) × (slice_get c.names x.name.number ≡ Some word)
+  abbrev pub HasWord : ℕ → List ℕ → Type 0
+  HasWord o word = (x : Object) × (slice_get c.objects o ≡ Some x) × (slice_get c.names x.name.number ≡ Some word)
 
   abbrev pub AreObjects : List ℕ → List (List ℕ) → Type 0
   AreObjects [] [] = Unit {0}
-  AreObjects (o ∷ os) (w ∷ ws) = IsObject o w × AreObjects os ws
+  AreObjects (o ∷ os) (w ∷ ws) = HasWord o w × AreObjects os ws
   AreObjects [] (w ∷ ws) = ⊥
   AreObjects (o ∷ os) [] = ⊥
 

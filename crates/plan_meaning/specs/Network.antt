@@ -72,10 +72,10 @@ module _ (c : Compiled) where
   top_task = length c.hddl.tasks
 
   -- the parameters that are declared for what stands here
-  abbrev pub AreParams : Work → List Param → Type 0
-  AreParams (action a args) params = (s : ActionSchema) × (slice_get c.hddl.actions a ≡ Some s) × (s.params ≡ params)
-  AreParams (check m values) params = (p : MethodPlan) × (slice_get c.methods m ≡ Some p) × (p.schema.params ≡ params)
-  AreParams (task t args) params = (s : TaskSchema) × (slice_get c.hddl.tasks t ≡ Some s) × (s.params ≡ params)
+  abbrev pub AreParamsOf : Work → List Param → Type 0
+  AreParamsOf (action a args) params = (s : ActionSchema) × (slice_get c.hddl.actions a ≡ Some s) × (s.params ≡ params)
+  AreParamsOf (check m values) params = (p : MethodPlan) × (slice_get c.methods m ≡ Some p) × (p.schema.params ≡ params)
+  AreParamsOf (task t args) params = (s : TaskSchema) × (slice_get c.hddl.tasks t ≡ Some s) × (s.params ≡ params)
 
   abbrev pub objects_of : Work → List ℕ
   objects_of (action a args) = args
@@ -84,7 +84,7 @@ module _ (c : Compiled) where
 
   -- its objects are of the declared types
   abbrev pub IsDeclared : Work → Type 0
-  IsDeclared w = (params : List Param) × AreParams w params × AreTyped InTypeOf params (objects_of w)
+  IsDeclared w = (params : List Param) × AreParamsOf w params × AreTyped InTypeOf params (objects_of w)
 
   -- a ground method: its values are of their types, its constraints hold, and the arguments of its children are of the declared types
   pub record IsGroundMethod (g : GroundMethod) : Type 0 where
