@@ -11,14 +11,14 @@ pub record AreSame (N : Net) (s t : SlotState N) : Type 0 where
   pub free : (x : ℕ) → s.free x ↔ t.free x
   pub before : (x y : ℕ) → s.before x y ↔ t.before x y
 
--- it takes each act after_act those before it
+-- it takes each act after those before it
 abbrev pub TakesAll : (N : Net) → (List (Act N) → Act N → Type 0) → List (Act N) → Type 0
 TakesAll N Takes acts = (taken rest : List (Act N)) (a : Act N) → acts ≡ taken ++ a ∷ rest → Takes taken a
 
--- `read acts` is what its state after_act these acts says of the slots
+-- `read acts` is what its state after these acts says of the slots
 module _ (N : Net) (read : List (Act N) → SlotState N) (Takes : List (Act N) → Act N → Type 0) where
-  -- after_act acts that spell a front, where its state says what the slot machine's does,
-  -- it takes the same acts, and its state says what the slot machine's does after_act one
+  -- after acts that spell a front, where its state says what the slot machine's does,
+  -- it takes the same acts, and its state says what the slot machine's does after one
   pub record AgreesAtFronts (b : ℕ) (top : N.Work) : Type 0 where
     pub first : AreSame N (read []) (start N b top)
     pub may : (acts : List (Act N)) (tree : Tree N) (order : List Address) (slot : Address → ℕ) (a : Act N)

@@ -73,7 +73,7 @@ module _ (b : ℕ) where
   abbrev begun : SlotState N
   begun = after_act N (start N b top) (apply 1 [] (uses 0))
 
-  -- after_act the start no slot holds anything
+  -- after the start no slot holds anything
   nothing_held : (x : ℕ) (w : Work) → begun.holds x w → ⊥
   nothing_held x w (inl (held, left)) = left held
   nothing_held x w (inr (i, s, e)) = absurd cc

@@ -205,11 +205,11 @@ module _ (b : ℕ) (small : b < 2 ^ 32) (h1 h2 h3 h4 : ℕ) (in_1 : h1 ≤ b) (i
   unblocked : (x : ℕ) → s3.before x h4 → ⊥
   unblocked = r.1.1.1.0.unblocked
 
-  -- after_act p q is left
+  -- after p q is left
   q_is_left : codes "htn_s3" ≡ slot_word h3 → ⊥
   q_is_left e = unblocked new_1.0 (subst (s3.before new_1.0) y_slot (q_before_y, λ f. less 50 51 (omega arith) (ap sixth (e ∙ ap slot_word (sym f) ∙ sym (ap word_1 words_1)))))
 
-  -- after_act q p is left
+  -- after q p is left
   p_is_left : codes "htn_s2" ≡ slot_word h3 → ⊥
   p_is_left e = unblocked new_2.0 (subst (s3.before new_2.0) y_slot (p_before_y, λ f. less 50 51 (omega arith) (ap sixth (ap word_1 words_2 ∙ ap slot_word f ∙ sym e))))
 

@@ -52,7 +52,7 @@ module _ (N : Net) where
         taken (inl f) = h.taken f.0
         taken (inr e) = let k = ap length one.works in let l = e.0 in absurd (omega arith)
 
-    -- so it is the first act of each run after_act which slot 1 is free
+    -- so it is the first act of each run after which slot 1 is free
     pub first_is : (s : SlotState N) → HoldsAlone s (N.head m) → (acts : List (Act N)) → Runs N s acts → (end_of N s acts).free 1
         → (rest : List (Act N)) × (acts ≡ apply 1 [] m ∷ rest) × Runs N (after_act N s (apply 1 [] m)) rest × (end_of N (after_act N s (apply 1 [] m)) rest).free 1
     first_is s h [] r f = absurd (h.taken f)
