@@ -4,7 +4,8 @@ use Rattle.std.proofs.lemmas.List.Elements.{Contains-append_left, filter-append}
 use Rattle.task_networks.specs.Net.{Net, count}
 use Rattle.task_networks.specs.Tree.{Tree, Address, IsAddress, open_leaf, done, split, Trees, none, more, at, IsAbove, waits, label, ran, child_at, used, work_of, works_of, IsGrown, AreGrown}
 use Rattle.task_networks.specs.Schedule.{Blocks, IsSchedule, IsDue}
-use Rattle.task_networks.specs.Pending.{is_among, is_pending, nodes_at, nodes_from, IsWithin}
+use Rattle.task_networks.specs.Pending.{IsWithin}
+use Rattle.task_networks.specs.PendingComputed.{is_listed, is_pending, nodes_at, nodes_from}
 use Rattle.task_networks.specs.Front.{IsFront}
 use Rattle.task_networks.specs.Bound.{itself, weight, weights, AreLargeEnough, IsReached, block_number, as_child}
 use Rattle.task_networks.proofs.Addresses.{below-itself, below_up}
@@ -24,18 +25,18 @@ module _ (N : Net) (block : N.Method → ℕ → ℕ) (number : N.Work → ℕ) 
     -- how many are pending at p or below
     abbrev mutual
       pub pending_below : Address → Tree N → ℕ
-      pending_below p (open_leaf w) = cond (is_among taken p) 0 1
-      pending_below p (done w) = cond (is_among taken p) 0 1
-      pending_below p (split m ts) = cond (is_among taken p) (pending_below_all p 0 ts) 1
+      pending_below p (open_leaf w) = cond (is_listed taken p) 0 1
+      pending_below p (done w) = cond (is_listed taken p) 0 1
+      pending_below p (split m ts) = cond (is_listed taken p) (pending_below_all p 0 ts) 1
 
       pub pending_below_all : Address → ℕ → Trees N → ℕ
       pending_below_all p i none = 0
       pending_below_all p i (more t ts) = pending_below (i ∷ p) t + pending_below_all p (suc i) ts
 
-    untaken : (p : Address) → is_among taken p ≡ false → Contains taken p → ⊥
+    untaken : (p : Address) → is_listed taken p ≡ false → Contains taken p → ⊥
     untaken p e c = let f = to_among taken p c in cc
 
-    one_pending : (p : Address) (t : Tree N) → is_among taken p ≡ false → pending_below p t ≡ 1
+    one_pending : (p : Address) (t : Tree N) → is_listed taken p ≡ false → pending_below p t ≡ 1
     one_pending p (open_leaf w) e = ap (λ b. cond b 0 1) e
     one_pending p (done w) e = ap (λ b. cond b 0 1) e
     one_pending p (split m ts) e = ap (λ b. cond b (pending_below_all p 0 ts) 1) e
@@ -43,19 +44,19 @@ module _ (N : Net) (block : N.Method → ℕ → ℕ) (number : N.Work → ℕ) 
     -- where one is pending, a node isn't taken
     mutual
       some_left : (p : Address) (t : Tree N) → at N tree p ≡ Some t → 0 < pending_below p t → (u : Address) × IsAbove p u × IsAddress N tree u × (Contains taken u → ⊥)
-      some_left p (open_leaf w) a l = leaf (is_among taken p) refl l
+      some_left p (open_leaf w) a l = leaf (is_listed taken p) refl l
         where
-          leaf : (b : Bool) → is_among taken p ≡ b → 0 < cond b 0 1 → (u : Address) × IsAbove p u × IsAddress N tree u × (Contains taken u → ⊥)
+          leaf : (b : Bool) → is_listed taken p ≡ b → 0 < cond b 0 1 → (u : Address) × IsAbove p u × IsAddress N tree u × (Contains taken u → ⊥)
           leaf true e l = absurd (omega arith)
           leaf false e l = (p, below-itself p, (waits w, ap (option_map (label N)) a), untaken p e)
-      some_left p (done w) a l = leaf (is_among taken p) refl l
+      some_left p (done w) a l = leaf (is_listed taken p) refl l
         where
-          leaf : (b : Bool) → is_among taken p ≡ b → 0 < cond b 0 1 → (u : Address) × IsAbove p u × IsAddress N tree u × (Contains taken u → ⊥)
+          leaf : (b : Bool) → is_listed taken p ≡ b → 0 < cond b 0 1 → (u : Address) × IsAbove p u × IsAddress N tree u × (Contains taken u → ⊥)
           leaf true e l = absurd (omega arith)
           leaf false e l = (p, below-itself p, (ran w, ap (option_map (label N)) a), untaken p e)
-      some_left p (split m ts) a l = node (is_among taken p) refl (λ k. some_child p 0 ts (λ j. subst (λ z. at N tree (z ∷ p) ≡ child_at N ts j) (let x : j ≡ 0 + j = omega arith in x) (child_below N tree j p m ts a)) k) l
+      some_left p (split m ts) a l = node (is_listed taken p) refl (λ k. some_child p 0 ts (λ j. subst (λ z. at N tree (z ∷ p) ≡ child_at N ts j) (let x : j ≡ 0 + j = omega arith in x) (child_below N tree j p m ts a)) k) l
         where
-          node : (b : Bool) → is_among taken p ≡ b → (0 < pending_below_all p 0 ts → (u : Address) × IsAbove p u × IsAddress N tree u × (Contains taken u → ⊥)) → 0 < cond b (pending_below_all p 0 ts) 1 → (u : Address) × IsAbove p u × IsAddress N tree u × (Contains taken u → ⊥)
+          node : (b : Bool) → is_listed taken p ≡ b → (0 < pending_below_all p 0 ts → (u : Address) × IsAbove p u × IsAddress N tree u × (Contains taken u → ⊥)) → 0 < cond b (pending_below_all p 0 ts) 1 → (u : Address) × IsAbove p u × IsAddress N tree u × (Contains taken u → ⊥)
           node true e ih l = ih l
           node false e ih l = (p, below-itself p, (used m, ap (option_map (label N)) a), untaken p e)
 
@@ -134,17 +135,17 @@ module _ (N : Net) (block : N.Method → ℕ → ℕ) (number : N.Work → ℕ) 
 
       mutual
         pub bounded : (p : Address) (t : Tree N) → at N tree p ≡ Some t → IsGrown N t → pending_below p t ≤ number (work_of N t)
-        bounded p (open_leaf w) a g = let b = law.positive w (reached p (open_leaf w) a) in leaf (is_among taken p) (number w) b
+        bounded p (open_leaf w) a g = let b = law.positive w (reached p (open_leaf w) a) in leaf (is_listed taken p) (number w) b
           where
             leaf : (c : Bool) (x : ℕ) → 1 ≤ x → cond c 0 1 ≤ x
             leaf true x l = omega arith
             leaf false x l = l
-        bounded p (done w) a g = let b = law.positive w (reached p (done w) a) in leaf (is_among taken p) (number w) b
+        bounded p (done w) a g = let b = law.positive w (reached p (done w) a) in leaf (is_listed taken p) (number w) b
           where
             leaf : (c : Bool) (x : ℕ) → 1 ≤ x → cond c 0 1 ≤ x
             leaf true x l = omega arith
             leaf false x l = l
-        bounded p (split m ts) a g = node (is_among taken p) (each p 0 ts (λ j. subst (λ z. at N tree (z ∷ p) ≡ child_at N ts j) (let x : j ≡ 0 + j = omega arith in x) (child_below N tree j p m ts a)) g.2)
+        bounded p (split m ts) a g = node (is_listed taken p) (each p 0 ts (λ j. subst (λ z. at N tree (z ∷ p) ≡ child_at N ts j) (let x : j ≡ 0 + j = omega arith in x) (child_below N tree j p m ts a)) g.2)
           where
             node : (c : Bool) → ((j : ℕ) (t : Tree N) → child_at N ts j ≡ Some t → pending_below ((0 + j) ∷ p) t ≤ number (work_of N t)) → cond c (pending_below_all p 0 ts) 1 ≤ number (N.head m)
             node false ih = law.positive (N.head m) (reached p (split m ts) a)
@@ -181,9 +182,9 @@ module _ (N : Net) (block : N.Method → ℕ → ℕ) (number : N.Work → ℕ) 
                         pick (inr (inl x)) = let r = at_block (block m j) (block m k) (number (work_of N s)) x in let y = subst (λ z. pending_below (z ∷ p) s ≤ number (work_of N s)) (zero-plus k) (ih k s e) in omega arith
                         pick (inr (inr x)) =
                             let r = after_block (block m j) (block m k) (number (work_of N s)) x in
-                            let y = one_pending (k ∷ p) s (fresh (is_among taken (k ∷ p)) refl) in omega arith
+                            let y = one_pending (k ∷ p) s (fresh (is_listed taken (k ∷ p)) refl) in omega arith
                           where
-                            fresh : (b : Bool) → is_among taken (k ∷ p) ≡ b → b ≡ false
+                            fresh : (b : Bool) → is_listed taken (k ∷ p) ≡ b → b ≡ false
                             fresh false q = refl
                             fresh true q = absurd (left.3 (closed.clear left.0 (k ∷ p) (among_to taken (k ∷ p) q) left.2
                                 (m, j, ap (option_map (label N)) a, law.ordered m j k (within j t c) (within k s e) x, left.1)))
@@ -219,10 +220,10 @@ module _ (N : Net) (block : N.Method → ℕ → ℕ) (number : N.Work → ℕ) 
           go true e ih = absurd (f x (0, omega arith, refl) e)
           go false e ih = ih
 
-      own : (p : Address) (xs : List Address) (x : ℕ) → (is_among taken p ≡ true → length (filter (is_pending taken) xs) ≤ x) → (is_among taken p ≡ false → filter (is_pending taken) xs ≡ []) → length (filter (is_pending taken) (p ∷ xs)) ≤ cond (is_among taken p) x 1
-      own p xs x f g = go (is_among taken p) (is_pending taken p) refl refl
+      own : (p : Address) (xs : List Address) (x : ℕ) → (is_listed taken p ≡ true → length (filter (is_pending taken) xs) ≤ x) → (is_listed taken p ≡ false → filter (is_pending taken) xs ≡ []) → length (filter (is_pending taken) (p ∷ xs)) ≤ cond (is_listed taken p) x 1
+      own p xs x f g = go (is_listed taken p) (is_pending taken p) refl refl
         where
-          go : (b c : Bool) → is_among taken p ≡ b → is_pending taken p ≡ c → length (cond c (p ∷ filter (is_pending taken) xs) (filter (is_pending taken) xs)) ≤ cond b x 1
+          go : (b c : Bool) → is_listed taken p ≡ b → is_pending taken p ≡ c → length (cond c (p ∷ filter (is_pending taken) xs) (filter (is_pending taken) xs)) ≤ cond b x 1
           go true true e d = absurd ((pending_to taken p d).1 (among_to taken p e))
           go true false e d = f e
           go false true e d = let h = ap length (g e) in omega arith

@@ -1,6 +1,6 @@
 -- Edges between tasks: reaching, groups, bad cycles and the one that is named, tail recursion, rankings.
 -- Source: this project's, after the tail-recursive problems of Alford et al., "Bound to Plan", ICAPS 2016, and the stratifications of the same authors' earlier work.
-use Rattle.std.specs.Prelude.{ℕ, ◌≡◌, ◌<◌, ◌≤◌, ◌⊎◌, ◌↔◌, List, [], ◌∷◌, ◌++◌, length, Contains}
+use Rattle.std.specs.Prelude.{ℕ, ◌≡◌, ◌<◌, ◌≤◌, ◌⊎◌, List, [], ◌∷◌, ◌++◌, length, Contains}
 
 -- an edge goes from the task of a method to a child that is a task.
 -- They are listed by the method's place, then the child's number, each once

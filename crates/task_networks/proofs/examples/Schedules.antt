@@ -3,7 +3,8 @@ use Rattle.std.proofs.Common.{◌≡◌, inl, inr, [], ◌∷◌, length, Some, 
 use Rattle.task_networks.specs.Order.{direct, Precedes}
 use Rattle.task_networks.specs.Tree.{Tree, split, more, done, none, IsGrown, label_at, ran, used, open_leaf}
 use Rattle.task_networks.specs.Schedule.{IsSchedule, Blocks}
-use Rattle.task_networks.specs.Pending.{pending, IsWidth, IsWithin}
+use Rattle.task_networks.specs.Pending.{IsWidth, IsWithin}
+use Rattle.task_networks.specs.PendingComputed.{pending}
 use Rattle.task_networks.proofs.examples.Nets.{fork_t, fork, fork_a, fork_b, fork_precedes, fork_decides, chain, of_t, of_x, chain_p, chain_q, chain_y, chain_precedes, chain_decides, ChainMethod, ChainPair, no_chain}
 use Rattle.task_networks.proofs.PendingNodes.{pending_different, pending_iff, within_iff}
 use Rattle.task_networks.proofs.SpellingTests.{within_by}
