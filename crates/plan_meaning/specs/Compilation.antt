@@ -24,7 +24,7 @@ use Rattle.plan_model.specs.Typing.{InType, IsA}
 use Rattle.task_networks.specs.Order.{IsLine, IsMaximal}
 use Rattle.task_networks.specs.Spelling.{numbers}
 
--- a missing condition is read as the empty conjunction, and that one doesn't count
+-- a missing condition is read as the empty conjunction, which asks nothing
 abbrev pub AsksSomething : Formula → Type 0
 AsksSomething pre = pre ≢ And []
 

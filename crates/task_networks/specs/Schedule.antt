@@ -22,7 +22,14 @@ module _ (N : Net) where
     pub begun : IsBegun taken v
     pub clear : (u : Address) → IsAddress N tree u → Blocks tree u v → Contains taken u
 
-  -- all processed nodes, each where it can be taken
+  -- All processed nodes, each where it can be taken.
+  -- A schedule of the tree that stands in Tree is t x q p y. The addresses that are pending after each step:
+  --   at first   []
+  --   t          [0]  [1]
+  --   x          [0,0]  [1,0]  [1]      y waits for p and q, since x comes before y
+  --   q          [0,0]  [1]
+  --   p          [1]
+  --   y          none
   pub record IsSchedule (tree : Tree N) (order : List Address) : Type 0 where
     pub covers : (p : Address) → Contains order p ↔ IsProcessed N tree p
     pub due : (taken rest : List Address) (p : Address) → order ≡ taken ++ p ∷ rest → IsDue tree taken p

@@ -20,11 +20,17 @@ pub data Label (N : Net) : Type 0 where
   ran : N.Work → Label N
   used : N.Method → Label N
 
--- the way from the root to a node, the innermost step first: i ∷ p is child i of p
+-- The way from the root to a node, the innermost step first: i ∷ p is child i of p.
+-- A tree of t, whose children are x and y, with x before y; those of x are p and q, in any order. Beside each node stands its address:
+--             t []
+--            /    \
+--       x [0]      y [1]
+--       /   \
+--  p [0,0]   q [1,0]
 abbrev pub Address : Type 0
 Address = List ℕ
 
--- u is p or below it
+-- p is u or above it
 abbrev pub IsAbove : Address → Address → Type 0
 IsAbove p [] = p ≡ []
 IsAbove p (k ∷ u) = (p ≡ k ∷ u) ⊎ IsAbove p u

@@ -49,7 +49,7 @@ module _ where
   not_one_child : IsGrown fork (split tt (more (done fork_a) none)) → ⊥
   not_one_child g = let e = ap length g.1 in omega arith
 
--- t -> x < y, and x -> p, q
+-- t -> x < y, and x -> p, q: the example that is drawn with the definitions of trees and schedules
 module _ where
   abbrev chain_tree : Tree chain
   chain_tree = split of_t (more (split of_x (more (done chain_p) (more (done chain_q) none))) (more (done chain_y) none))
@@ -90,6 +90,9 @@ module _ where
 
   after_q : pending chain chain_tree ([] ∷ (0 ∷ []) ∷ (1 ∷ 0 ∷ []) ∷ []) ≡ (0 ∷ 0 ∷ []) ∷ (1 ∷ []) ∷ []
   after_q = refl
+
+  after_p : pending chain chain_tree ([] ∷ (0 ∷ []) ∷ (1 ∷ 0 ∷ []) ∷ (0 ∷ 0 ∷ []) ∷ []) ≡ (1 ∷ []) ∷ []
+  after_p = refl
 
   at_the_end : pending chain chain_tree ([] ∷ (0 ∷ []) ∷ (1 ∷ 0 ∷ []) ∷ (0 ∷ 0 ∷ []) ∷ (1 ∷ []) ∷ []) ≡ []
   at_the_end = refl
