@@ -9,7 +9,8 @@ use Rattle.task_networks.specs.Bound.{weight, block_number, Counts, IsReached, a
 use Rattle.task_networks.specs.Strata as Walks
 use Rattle.task_networks.proofs.BoundLaws.{by_size, at_block, after_block}
 use Rattle.plan_meaning.specs.Network.{top_task}
-use Rattle.plan_meaning.specs.Schemas.{Schema, action, check, task, schemas, head_by, works_by, schema_of}
+use Rattle.plan_meaning.specs.Schemas.{Schema, action, check, task, schemas, schema_of}
+use Rattle.plan_meaning.proofs.MethodParts.{head_schema_by, schemas_by}
 use Rattle.plan_meaning.specs.Strata.{Edge, AreEdges, source, target, IsOneGroup}
 use Rattle.plan_meaning.specs.Bound.{group_of, IsBound}
 use Rattle.plan_meaning.proofs.BlockNumbers.{two_weights}
@@ -18,7 +19,7 @@ use Rattle.plan_meaning.proofs.BlockNumbers.{two_weights}
 abbrev pub AreWhole : Compiled → Type 0
 AreWhole c = (m : ℕ) (plan : MethodPlan) → slice_get c.methods m ≡ Some plan → (i : ℕ) → i < length plan.schema.children → Contains plan.line i
 
-pub head_is_task : (o : Option MethodPlan) → (t : ℕ) × (head_by o ≡ task t)
+pub head_is_task : (o : Option MethodPlan) → (t : ℕ) × (head_schema_by o ≡ task t)
 head_is_task None = (0, refl)
 head_is_task (Some plan) = (plan.schema.task, refl)
 
@@ -54,8 +55,8 @@ module _ (c : Compiled) (whole : AreWhole c) (edges : List Edge) (are : AreEdges
   pub listed : (m : ℕ) (plan : MethodPlan) → slice_get c.methods m ≡ Some plan → (i : ℕ) → i < count (schemas c) m → Contains plan.line i
   listed m plan e i l = whole m plan e i (omega (arith, many))
     where
-      many : length (works_by m (slice_get c.methods m)) ≡ length plan.schema.children
-      many = ap (λ o. length (works_by m o)) e ∙ length-map plan.schema.children (λ (child : Child). schema_of m child.head)
+      many : length (schemas_by m (slice_get c.methods m)) ≡ length plan.schema.children
+      many = ap (λ o. length (schemas_by m o)) e ∙ length-map plan.schema.children (λ (child : Child). schema_of m child.head)
 
   module _ {n : ℕ} (A : IsBound c n) where
     -- two of one group have one number

@@ -14,7 +14,8 @@ use Rattle.task_networks.specs.Lawful.{IsLawful}
 use Rattle.task_networks.specs.Spelling.{others}
 use Rattle.slot_machine.proofs.OtherChildren.{rest_of, length-rest}
 use Rattle.plan_meaning.specs.Truth.{values_of, AreTyped}
-use Rattle.plan_meaning.specs.Network.{Work, GroundMethod, network, InTypeOf, IsDeclared, ground_work, child_of, head_by, works_by}
+use Rattle.plan_meaning.specs.Network.{Work, GroundMethod, network, InTypeOf, IsDeclared, ground_work, child_of}
+use Rattle.plan_meaning.proofs.MethodParts.{head_by, works_by}
 use Rattle.plan_proof.specs.Reading.{IsKnown}
 use Rattle.plan_proof.proofs.machine.Facts.{FitsTogether}
 use Rattle.slot_encoding.proofs.places.ListPlaces.{get_map_cases, get_contains}

@@ -21,7 +21,8 @@ use Rattle.task_networks.proofs.Numbers.{length-numbers}
 use Rattle.slot_machine.specs.Machine.{insert_at, with_heir, IsSlotOf}
 use Rattle.slot_machine.proofs.Inserts.{length-insert_at}
 use Rattle.plan_meaning.specs.Truth.{State, ground, value_of, values_of, AreTyped, OneTrue, Adds, Deletes}
-use Rattle.plan_meaning.specs.Network.{Work, GroundMethod, network, InTypeOf, child_of, ground_work, head_by, works_by, heir_by, IsPairBy, IsCopierBy, task}
+use Rattle.plan_meaning.specs.Network.{Work, GroundMethod, network, InTypeOf, child_of, ground_work, task}
+use Rattle.plan_meaning.proofs.MethodParts.{head_by, works_by, heir_by, IsPairBy, IsCopierBy}
 use Rattle.slot_encoding.specs.EncodedNames.{free_predicate, before_predicate, task_predicate, action_predicate, check_predicate, order_numbers}
 use Rattle.slot_encoding.specs.EncodedValue.{atom}
 use Rattle.slot_encoding.specs.OrderFormulas.{pair_of, copy_parts}
