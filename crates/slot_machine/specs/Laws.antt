@@ -2,7 +2,8 @@
 use Rattle.std.specs.Prelude.{ℕ, ◌≡◌, ◌≤◌, ◌↔◌, List, map}
 use Rattle.task_networks.specs.Net.{Net}
 use Rattle.task_networks.specs.Tree.{Tree, Label, Address, IsOpen}
-use Rattle.task_networks.specs.Pending.{IsWithin}
+use Rattle.task_networks.specs.Schedule.{IsSchedule}
+use Rattle.task_networks.specs.Pending.{IsPending, IsWithin}
 use Rattle.task_networks.specs.Front.{IsFront}
 use Rattle.task_networks.specs.Executable.{AreLabels, AreAllowed, last_state, IsExecutableOrder, IsSolution}
 use Rattle.task_networks.specs.Spelling.{Act, label_of, Spells}
@@ -32,6 +33,10 @@ module _ (N : Net) where
   abbrev pub StateTellsFront : Type 0
   StateTellsFront = (b : ℕ) (top : N.Work) (acts : List (Act N)) (tree : Tree N) (order : List Address) (slot : Address → ℕ)
       → Spells N b top acts tree order slot → Tells N tree slot b (end_of N (start N b top) acts)
+
+  -- after a whole schedule what is pending are the open leaves
+  abbrev pub PendingAreOpenLeaves : Type 0
+  PendingAreOpenLeaves = (tree : Tree N) (order : List Address) (p : Address) → IsSchedule N tree order → IsPending N tree order p ↔ IsOpen N tree p
 
   -- a front has a spelling exactly where never more than b nodes are pending
   abbrev pub FewPendingHaveSpellings : Type 0
