@@ -1,6 +1,7 @@
 -- A compiled problem has one bound at most.
 use Rattle.std.proofs.Common.{ℕ, zero, suc, ◌≡◌, ◌+◌, ◌<◌, ◌≤◌, ◌⊎◌, inl, inr, List, [], ◌∷◌, ◌++◌, length, Some, slice_get, refl, ap, sym, subst, Contains, arith}
 use Rattle.std.proofs.lemmas.List.{length-append}
+use Rattle.std.proofs.lemmas.Option.{slice_get_within}
 use Rattle.std.proofs.lemmas.List.Elements.{Contains-append_left, Contains-append_right, Contains-append_cases}
 use Rattle.plan_model.specs.declared.values.Compiled.{Compiled}
 use Rattle.task_networks.specs.Net.{count}
@@ -13,7 +14,7 @@ use Rattle.plan_meaning.specs.Strata.{Edge, IsEdge, AreEdges, source, target_by}
 use Rattle.plan_meaning.specs.Bound.{group_of, IsBound}
 use Rattle.plan_meaning.proofs.BlockNumbers.{weight_of, each_weight, same_order}
 use Rattle.plan_meaning.proofs.examples.EdgeChecks.{edge}
-use Rattle.plan_meaning.proofs.BoundParts.{AreWhole, head_is_task, within_length, Reached, HasWalk, leads_on, listed, not_of_the_group, same_group, of_walks}
+use Rattle.plan_meaning.proofs.BoundParts.{AreWhole, head_is_task, Reached, HasWalk, leads_on, listed, not_of_the_group, same_group, of_walks}
 
 module _ (c : Compiled) (whole : AreWhole c) (edges : List Edge) (are : AreEdges c edges) where
   module _ {n n' : ℕ} (A : IsBound c n) (B : IsBound c n') where
@@ -41,7 +42,7 @@ module _ (c : Compiled) (whole : AreWhole c) (edges : List Edge) (are : AreEdges
       λ w o e. k.1 w (record {
         child = o.child;
         is = o.is;
-        in_block = one_block_back o.child (within_length ((schemas c).works m) o.child w o.is) o.in_block;
+        in_block = one_block_back o.child (slice_get_within ((schemas c).works m) o.child w o.is) o.in_block;
         earlier = λ i' l d. blocks_agree B A m g i' i l k.0 (o.earlier i' l d);
       }) (back w (as_child m o.child g q o.is) e),
     )
@@ -113,7 +114,7 @@ module _ (c : Compiled) (whole : AreWhole c) (edges : List Edge) (are : AreEdges
             each j u e = subst (λ z. weight_of (schemas c) A.block A.number m (A.block m i) z u ≤ weight_of (schemas c) B.block B.number m (B.block m i) z u) (let y : j ≡ 0 + j = omega arith in y) (here (by_size (A.block m j) (A.block m i)))
               where
                 l : j < count (schemas c) m
-                l = within_length ((schemas c).works m) j u e
+                l = slice_get_within ((schemas c).works m) j u e
 
                 here : (A.block m j < A.block m i) ⊎ ((A.block m j ≡ A.block m i) ⊎ (A.block m i < A.block m j)) → weight_of (schemas c) A.block A.number m (A.block m i) j u ≤ weight_of (schemas c) B.block B.number m (B.block m i) j u
                 here (inl x) = let a = before_block (A.block m i) (A.block m j) (A.number u) x in omega arith

@@ -23,11 +23,6 @@ pub head_is_task : (o : Option MethodPlan) → (t : ℕ) × (head_schema_by o �
 head_is_task None = (0, refl)
 head_is_task (Some plan) = (plan.schema.task, refl)
 
-pub within_length : {A : Type 0} (xs : List A) (j : ℕ) (x : A) → slice_get xs j ≡ Some x → j < length xs
-within_length [] j x e = absurd cc
-within_length (y ∷ xs) zero x e = omega arith
-within_length (y ∷ xs) (suc j) x e = let h = within_length xs j x e in omega arith
-
 pub there_at : {A : Type 0} (xs : List A) (j : ℕ) → j < length xs → (x : A) × (slice_get xs j ≡ Some x)
 there_at [] j l = absurd (omega arith)
 there_at (y ∷ xs) zero l = (y, refl)

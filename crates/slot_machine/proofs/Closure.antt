@@ -13,7 +13,7 @@ use Rattle.task_networks.proofs.Lists.{Contains-here, head_or_tail, not-in_empty
 use Rattle.task_networks.proofs.Orders.{precedes_then}
 use Rattle.slot_machine.specs.Machine.{SlotState, IsUnblocked}
 use Rattle.slot_machine.proofs.AtLabel.{not-blocks_itself}
-use Rattle.slot_machine.proofs.FrontSteps.{open_apart}
+use Rattle.slot_machine.proofs.FrontSteps.{open_address, open_apart}
 use Rattle.slot_machine.proofs.Growth.{leaves}
 use Rattle.slot_machine.proofs.Matching.{Matches, parent_used, nothing_blocks}
 
@@ -33,9 +33,6 @@ module _ (N : Net) where
         go (inr f) = (m', i', e', c', below_below (i' ∷ r) q u f (below_up i q u d))
 
     module _ (b : ℕ) (s : SlotState N) (tree : Tree N) (slot : Address → ℕ) (m : Matches N b s tree slot) where
-      address : (u : Address) → IsOpen N tree u → IsAddress N tree u
-      address u (w, e) = (waits w, e)
-
       -- the pairs say no more than the tree
       pub chain_sound : (x y : ℕ) → Precedes s.before x y → (u : Address) × (v : Address) × IsOpen N tree u × IsOpen N tree v × (slot u ≡ x) × (slot v ≡ y) × Blocks N tree u v
       chain_sound x y (direct h) = m.sound x y h
@@ -43,7 +40,7 @@ module _ (N : Net) where
           let (u, v, ou, ov, eu, ev, bl) = chain_sound x z c in
           let (v', w, ov', ow, ev', ew, bl') = m.sound z y h in
           let f : v' ≡ v = m.apart v' v ov' ov (ev' ∙ sym ev) in
-          (u, w, ou, ow, eu, ew, blocks_then tree u v w (address v ov) bl (subst (λ z. Blocks N tree z w) f bl'))
+          (u, w, ou, ow, eu, ew, blocks_then tree u v w (open_address N tree v ov) bl (subst (λ z. Blocks N tree z w) f bl'))
 
       -- the walk back from v meets different leaves, so it ends
       walk : (leaves : List Address) → ((p : Address) → IsOpen N tree p → Contains leaves p) → (k : ℕ) (u v : Address) (seen : List Address) → length leaves < k + length seen
@@ -64,7 +61,7 @@ module _ (N : Net) where
               subst (λ z. Blocks N tree z v) (m.apart x' x ox' ox ex) (subst (Blocks N tree x') (m.apart v' v ov' ov ev) bl')
 
           before : (x p : Address) → IsOpen N tree x → Blocks N tree x v → Contains (v ∷ seen) p → Blocks N tree x p
-          before x p ox bl' c = elim (head_or_tail v seen p c) [ inl e ↦ subst (Blocks N tree x) e bl' | inr e ↦ blocks_then tree x v p (address v ov) bl' (bs p e) ]
+          before x p ox bl' c = elim (head_or_tail v seen p c) [ inl e ↦ subst (Blocks N tree x) e bl' | inr e ↦ blocks_then tree x v p (open_address N tree v ov) bl' (bs p e) ]
 
           new : (x : Address) → IsOpen N tree x → s.before (slot x) (slot v) → Contains (v ∷ seen) x → ⊥
           new x ox bf c = not-blocks_itself N law tree x (before x x ox (blocks x ox bf) c)

@@ -16,6 +16,9 @@ module _ (N : Net) where
   pub taken_apart : (l : Label N) (w : N.Work) → l ≡ waits w → IsTaken N l → ⊥
   taken_apart l w e t = let h : IsTaken N (waits w) = subst (IsTaken N) e t in h
 
+  pub open_address : (tree : Tree N) (u : Address) → IsOpen N tree u → IsAddress N tree u
+  open_address tree u (w, e) = (waits w, e)
+
   pub open_apart : (tree : Tree N) (p : Address) → IsOpen N tree p → IsProcessed N tree p → ⊥
   open_apart tree p (w, e) (l, f, t) = taken_apart l w (cc) t
 

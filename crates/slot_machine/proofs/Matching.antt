@@ -30,6 +30,11 @@ module _ (N : Net) where
       go None f c = absurd cc
       go (Some t) f c = let h = parent N tree i q t f in (h.0, ap (option_map (label N)) h.2)
 
+  -- the parent of an open leaf is taken, or there is none
+  pub open_begun : (tree : Tree N) (order : List Address) (u : Address) (w : N.Work) → IsSchedule N tree order → label_at N tree u ≡ Some (waits w) → IsBegun order u
+  open_begun tree order [] w s e = tt
+  open_begun tree order (i ∷ q) w s e = let h = parent_used tree i q (waits w) e in (s.covers q).1 (used h.0, h.1, tt)
+
   module _ (law : IsLawful N) (b : ℕ) (s : SlotState N) (tree tree' : Tree N) (p : Address) (w : N.Work) (l : Label N) (g : IsGrowth N tree tree' p w l) (slot : Address → ℕ) (m : Matches b s tree slot) where
     open_p : IsOpen N tree p
     open_p = (w, g.was)
@@ -55,14 +60,11 @@ module _ (N : Net) where
     down k [] bl = bl
     down k (j ∷ q) (n, i, e, h, c) = (n, i, e, h, inr c)
 
-    grows : (u v : Address) → Blocks N tree u v → Blocks N tree' u v
-    grows u v bl = blocks_grows N tree tree' p w l g u v bl
-
     pub due_unblocked : (order : List Address) → IsSchedule N tree order → IsDue N tree' order p → IsUnblocked N s (slot p)
     due_unblocked order sc d x bf =
         let (u, v, ou, ov, eu, ev, bl) = m.sound x (slot p) bf in
         let e : v ≡ p = m.apart v p ov open_p ev in
-        let c : Contains order u = d.clear u (go u ou) (grows u p (subst (Blocks N tree u) e bl)) in
+        let c : Contains order u = d.clear u (go u ou) (blocks_grows N tree tree' p w l g u p (subst (Blocks N tree u) e bl)) in
         open_apart N tree u ou ((sc.covers u).0 c)
       where
         go : (u : Address) → IsOpen N tree u → IsAddress N tree' u
@@ -78,12 +80,8 @@ module _ (N : Net) where
     is_open (used n) u e = inr (used n, e, tt)
 
     pub unblocked_due : (order : List Address) → IsSchedule N tree order → IsUnblocked N s (slot p) → IsDue N tree' order p
-    unblocked_due order sc unblocked = record { fresh = λ c. open_apart N tree p open_p ((sc.covers p).0 c); begun = begun p g.was; clear = λ u a bl. clear u (address_back N tree tree' p w l g u a) bl }
+    unblocked_due order sc unblocked = record { fresh = λ c. open_apart N tree p open_p ((sc.covers p).0 c); begun = open_begun tree order p w sc g.was; clear = λ u a bl. clear u (address_back N tree tree' p w l g u a) bl }
       where
-        begun : (q : Address) → label_at N tree q ≡ Some (waits w) → IsBegun order q
-        begun [] e = tt
-        begun (i ∷ q) e = let h = parent_used tree i q (waits w) e in (sc.covers q).1 (used h.0, h.1, tt)
-
         clear : (u : Address) → IsAddress N tree u ⊎ ((i : ℕ) × (u ≡ i ∷ p)) → Blocks N tree' u p → Contains order u
         clear u (inl (k, e)) bl = elim (is_open k u e) [ inl o ↦ absurd (nothing_blocks b s tree slot p u m unblocked open_p o (back u p (waits w, g.was) bl)) | inr o ↦ (sc.covers u).1 o ]
         clear u (inr (i, e)) bl = absurd (not-blocks_itself N law tree p (up i p (waits w, g.was) (subst (λ x. Blocks N tree x p) e (back u p (waits w, g.was) bl))))

@@ -3,7 +3,7 @@ use Rattle.std.proofs.Common.{ℕ, zero, suc, ◌≡◌, ◌≢◌, ◌⊎◌, i
 use Rattle.task_networks.specs.Net.{Net}
 use Rattle.task_networks.specs.Tree.{Trees, Tree, none, more, open_leaf, done, split, Address, at, child_at, work_of, works_of, AreGrown, IsGrown, IsAbove, children_of, label, label_at}
 use Rattle.task_networks.proofs.Addresses.{is_below, below_cases}
-use Rattle.task_networks.proofs.Nodes.{parent, child_below}
+use Rattle.task_networks.proofs.Nodes.{parent, child_below, grown_at}
 
 module _ (N : Net) where
   abbrev pub set_child : Trees N → ℕ → Tree N → Trees N
@@ -54,15 +54,6 @@ module _ (N : Net) where
   set-set (more u ts) zero r s = refl
   set-set (more u ts) (suc i) r s = ap (more u) (set-set ts i r s)
 
-  child_grown : (ts : Trees N) (i : ℕ) (t : Tree N) → AreGrown N ts → child_at N ts i ≡ Some t → IsGrown N t
-  child_grown none i t g e = absurd cc
-  child_grown (more u ts) zero t g e = let f : u ≡ t = cc in subst (IsGrown N) f g.0
-  child_grown (more u ts) (suc i) t g e = child_grown ts i t g.1 e
-
-  pub grown_at : (tree : Tree N) (p : Address) (t : Tree N) → IsGrown N tree → at N tree p ≡ Some t → IsGrown N t
-  grown_at tree [] t g e = let f : tree ≡ t = cc in subst (IsGrown N) f g
-  grown_at tree (i ∷ p) t g e = let u = parent N tree i p t e in child_grown u.1 i t (grown_at tree p (split u.0 u.1) g u.2).2 u.3
-
   put_step : (tree : Tree N) (i : ℕ) (p : Address) (m : N.Method) (ts : Trees N) (s : Tree N) → at N tree p ≡ Some (split m ts) → put tree (i ∷ p) s ≡ put tree p (split m (set_child ts i s))
   put_step tree i p m ts s e = ap (λ o. put tree p (replaced o i s)) e
 
@@ -95,7 +86,7 @@ module _ (N : Net) where
   grown-put tree [] t s e g h w = let f : tree ≡ t = cc in (h, w ∙ ap (work_of N) (sym f))
   grown-put tree (i ∷ p) t s e g h w =
       let u = parent N tree i p t e in
-      let k = grown_at tree p (split u.0 u.1) g u.2 in
+      let k = grown_at N tree p (split u.0 u.1) g u.2 in
       let r = grown-put tree p (split u.0 u.1) (split u.0 (set_child u.1 i s)) u.2 g (k.0, works-set u.1 i t s u.3 w ∙ k.1, grown-set u.1 i s k.2 h) refl in
       subst (λ x. IsGrown N x × (work_of N x ≡ work_of N tree)) (sym (put_step tree i p u.0 u.1 s u.2)) r
 

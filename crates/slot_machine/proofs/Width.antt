@@ -11,9 +11,8 @@ use Rattle.task_networks.specs.Bound.{itself, weight, weights, AreLargeEnough, I
 use Rattle.task_networks.proofs.Addresses.{below-itself, below_up}
 use Rattle.task_networks.proofs.BoundLaws.{by_size, enough_for_all, at_block, after_block}
 use Rattle.task_networks.proofs.Lists.{Contains-later, cut_at}
-use Rattle.task_networks.proofs.Nodes.{parent, child_below, below_children}
+use Rattle.task_networks.proofs.Nodes.{parent, child_below, below_children, grown_at}
 use Rattle.task_networks.proofs.PendingNodes.{to_among, among_to, pending_to, within_iff}
-use Rattle.slot_machine.proofs.Replaced.{grown_at}
 
 -- a front's taken nodes
 pub record IsClosed (N : Net) (tree : Tree N) (taken : List Address) : Type 0 where

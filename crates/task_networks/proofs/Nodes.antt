@@ -1,9 +1,9 @@
 -- The nodes of a tree, listed.
-use Rattle.std.proofs.Common.{ℕ, zero, suc, ◌≡◌, ◌+◌, ◌≤◌, inl, inr, List, [], ◌∷◌, Option, Some, None, option_map, refl, ap, subst, Contains, arith}
+use Rattle.std.proofs.Common.{ℕ, zero, suc, ◌≡◌, ◌+◌, ◌<◌, ◌≤◌, inl, inr, List, [], ◌∷◌, length, Option, Some, None, option_map, refl, ap, subst, Contains, arith}
 use Rattle.std.specs.Option.{option_and_then}
 use Rattle.std.proofs.lemmas.List.Elements.{Contains-append_left, Contains-append_right, Contains-append_cases}
 use Rattle.task_networks.specs.Net.{Net}
-use Rattle.task_networks.specs.Tree.{Tree, Address, at, Trees, split, child_at, children_of, open_leaf, done, none, more, IsAddress, label, IsOpen, waits, IsAbove}
+use Rattle.task_networks.specs.Tree.{Tree, Address, at, Trees, split, child_at, children_of, open_leaf, done, none, more, IsAddress, label, IsOpen, waits, IsAbove, IsGrown, AreGrown, works_of}
 use Rattle.task_networks.specs.Pending.{AreDifferent}
 use Rattle.task_networks.specs.PendingComputed.{nodes_at, nodes_from}
 use Rattle.task_networks.proofs.Addresses.{below-itself, below_up, not-below_parent, same_sibling}
@@ -23,6 +23,21 @@ module _ (N : Net) where
 
   pub child_below : (tree : Tree N) (i : ℕ) (p : Address) (m : N.Method) (ts : Trees N) → at N tree p ≡ Some (split m ts) → at N tree (i ∷ p) ≡ child_at N ts i
   child_below tree i p m ts e = ap (option_and_then (λ u. child_at N (children_of N u) i)) e
+
+  -- a subtree of a grown tree is grown
+  child_grown : (ts : Trees N) (i : ℕ) (t : Tree N) → AreGrown N ts → child_at N ts i ≡ Some t → IsGrown N t
+  child_grown none i t g e = absurd cc
+  child_grown (more u ts) zero t g e = let f : u ≡ t = cc in subst (IsGrown N) f g.0
+  child_grown (more u ts) (suc i) t g e = child_grown ts i t g.1 e
+
+  pub grown_at : (tree : Tree N) (p : Address) (t : Tree N) → IsGrown N tree → at N tree p ≡ Some t → IsGrown N t
+  grown_at tree [] t g e = let f : tree ≡ t = cc in subst (IsGrown N) f g
+  grown_at tree (i ∷ p) t g e = let u = parent tree i p t e in child_grown u.1 i t (grown_at tree p (split u.0 u.1) g u.2).2 u.3
+
+  pub child_in : (ts : Trees N) (i : ℕ) → i < length (works_of N ts) → (t : Tree N) × (child_at N ts i ≡ Some t)
+  child_in none i h = absurd (omega arith)
+  child_in (more t ts) zero h = (t, refl)
+  child_in (more t ts) (suc i) h = child_in ts i (omega arith)
 
   itself : (p : Address) (t : Tree N) → Contains (nodes_at N p t) p
   itself p (open_leaf w) = Contains-here p []

@@ -25,6 +25,14 @@ pub address_same_itself : (p : Address) → same_address p p ≡ true
 address_same_itself [] = refl
 address_same_itself (i ∷ p) = let e : (i == i) ≡ true = eq-eqb i i refl in ap (λ b. b && same_address p p) e ∙ address_same_itself p
 
+pub both_true : (a b : Bool) → a ≡ true → b ≡ true → (a && b) ≡ true
+both_true true b e f = f
+both_true false b e f = absurd cc
+
+pub second_true : (a b : Bool) → b ≡ true → (a || b) ≡ true
+second_true true b f = refl
+second_true false b f = f
+
 pub either : (a b : Bool) → (a || b) ≡ true → (a ≡ true) ⊎ (b ≡ true)
 either true b e = inl refl
 either false b e = inr e
@@ -37,12 +45,8 @@ pub to_among : (ps : List Address) (p : Address) → Contains ps p → is_listed
 to_among [] p c = absurd (not-in_empty p c)
 to_among (q ∷ ps) p c = elim (head_or_tail q ps p c) [
   | inl e ↦ ap (λ b. b || is_listed ps p) (subst (λ z. same_address z q ≡ true) e (address_same_itself q))
-  | inr d ↦ second (same_address p q) (is_listed ps p) (to_among ps p d)
+  | inr d ↦ second_true (same_address p q) (is_listed ps p) (to_among ps p d)
 ]
-  where
-    second : (a b : Bool) → b ≡ true → (a || b) ≡ true
-    second true b f = refl
-    second false b f = f
 
 pub not_to : (b : Bool) → not b ≡ true → b ≡ true → ⊥
 not_to true e f = cc

@@ -11,11 +11,7 @@ use Rattle.task_networks.proofs.Lists.{not-in_empty, head_or_tail, Contains-late
 use Rattle.task_networks.proofs.Nodes.{nodes, lists_address}
 use Rattle.task_networks.proofs.Numbers.{to_numbers}
 use Rattle.task_networks.proofs.Orders.{precedes_within}
-use Rattle.task_networks.proofs.PendingNodes.{both, either, same_to, address_same_itself, among_to, to_among, not_to, to_not}
-
-both_true : (a b : Bool) → a ≡ true → b ≡ true → (a && b) ≡ true
-both_true true b e f = f
-both_true false b e f = absurd cc
+use Rattle.task_networks.proofs.PendingNodes.{both, both_true, second_true, either, same_to, address_same_itself, among_to, to_among, not_to, to_not}
 
 implies : (a b : Bool) → (a ≡ true → b ≡ true) → (not a || b) ≡ true
 implies true b f = f refl
@@ -43,12 +39,8 @@ pub to_any : {A : Type 0} (test : A → Bool) (xs : List A) (x : A) → Contains
 to_any test [] x c e = absurd (not-in_empty x c)
 to_any test (y ∷ xs) x c e = elim (head_or_tail y xs x c) [
   | inl f ↦ ap (λ b. b || list_any test xs) (subst (λ z. test z ≡ true) (sym f) e)
-  | inr d ↦ second (test y) (list_any test xs) (to_any test xs x d e)
+  | inr d ↦ second_true (test y) (list_any test xs) (to_any test xs x d e)
 ]
-  where
-    second : (a b : Bool) → b ≡ true → (a || b) ≡ true
-    second true b f = refl
-    second false b f = f
 
 abbrev pub is_below : Address → Address → Bool
 is_below p [] = same_address p []
@@ -61,11 +53,7 @@ below_to p (k ∷ u) e = elim (either (same_address p (k ∷ u)) (is_below p u) 
 to_below : (p u : Address) → IsAbove p u → is_below p u ≡ true
 to_below p [] b = subst (λ z. same_address z [] ≡ true) (sym b) refl
 to_below p (k ∷ u) (inl e) = subst (λ z. (same_address z (k ∷ u) || is_below z u) ≡ true) (sym e) (ap (λ b. b || is_below (k ∷ u) u) (address_same_itself (k ∷ u)))
-to_below p (k ∷ u) (inr b) = second (same_address p (k ∷ u)) (is_below p u) (to_below p u b)
-  where
-    second : (a b : Bool) → b ≡ true → (a || b) ≡ true
-    second true b f = refl
-    second false b f = f
+to_below p (k ∷ u) (inr b) = second_true (same_address p (k ∷ u)) (is_below p u) (to_below p u b)
 
 abbrev pub is_begun : List Address → Address → Bool
 is_begun taken [] = true

@@ -6,7 +6,8 @@ use Rattle.task_networks.proofs.PendingNodes.{both}
 use Rattle.task_networks.proofs.Tests.{Decides}
 use Rattle.plan_meaning.specs.Network.{GroundMethod, network, IsPairIn}
 use Rattle.plan_meaning.proofs.MethodParts.{IsPairBy, works_by}
-use Rattle.plan_meaning.proofs.examples.Unequal.{lt_to, to_lt, both_true}
+use Rattle.plan_meaning.proofs.examples.Unequal.{lt_to, to_lt}
+use Rattle.task_networks.proofs.PendingNodes.{both_true}
 use Rattle.plan_meaning.proofs.ListedItems.{of_each}
 use Rattle.plan_meaning.proofs.examples.FlatNetworks.{is_pair_by, Flat, flat_none, flat_some}
 use Rattle.plan_meaning.proofs.examples.TransportValue.{transport, top, deliver, via, there}
