@@ -18,7 +18,7 @@ pub record IsNumeral (word : List ℕ) : Type 0 where
   pub above_zero : 1 ≤ digits_value 10 word
 
 -- what a number of slots comes to
-abbrev pub Holds : ℕ → Bound → Type 0
-Holds n (Slots slots) = (slots ≡ n) × (1 ≤ n) × (n ≤ most_slots)
-Holds n (TooMany number) = (number ≡ n) × (most_slots < n) × (n < 2 ^ 128)
-Holds n PastAll = 2 ^ 128 ≤ n
+abbrev pub ComesTo : ℕ → Bound → Type 0
+ComesTo n (Slots slots) = (slots ≡ n) × (1 ≤ n) × (n ≤ most_slots)
+ComesTo n (TooMany number) = (number ≡ n) × (most_slots < n) × (n < 2 ^ 128)
+ComesTo n PastAll = 2 ^ 128 ≤ n

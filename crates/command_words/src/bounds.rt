@@ -2,7 +2,7 @@ ghost use Rattle.std.specs.Prelude.{◌≡◌, ◌↔◌, ◌<◌, ◌≤◌, �
 ghost use Rattle.std.specs.List.{list_all};
 ghost use Rattle.std.specs.Char.{is_ascii_digit};
 ghost use Rattle.std.specs.Str.Parse.{digits_value};
-ghost use Rattle.command_words.specs.Bounds.{IsNumeral, Holds};
+ghost use Rattle.command_words.specs.Bounds.{IsNumeral, ComesTo};
 
 /// The greatest number of digits of a numeral.
 const LONGEST_NUMERAL: usize = 39;
@@ -48,7 +48,7 @@ fn is_zero(word: &str) -> bool
 /// What the number of a numeral comes to.
 pub fn bound_of(word: &str) -> Bound
     requires { IsNumeral word.now }
-    ensures { Holds (digits_value 10 word.now) result }
+    ensures { ComesTo (digits_value 10 word.now) result }
 {
     match word.parse::<u128>() {
         Ok(number) => within(number),
@@ -58,7 +58,7 @@ pub fn bound_of(word: &str) -> Bound
 
 fn within(number: u128) -> Bound
     requires { 1 ≤ number }
-    ensures { Holds number result }
+    ensures { ComesTo number result }
 {
     if number <= MOST_SLOTS {
         Bound::Slots(number as u32)

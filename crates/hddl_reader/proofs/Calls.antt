@@ -27,7 +27,7 @@ use Rattle.hddl_reader.specs.declared.written.WrittenMethod.{WrittenMethod}
 use Rattle.hddl_reader.specs.declared.written.WrittenProblem.{WrittenProblem}
 use Rattle.hddl_reader.specs.declared.schemas.Declarations.{Declarations}
 use Rattle.hddl_reader.specs.declared.written.Section.{Section}
-use Rattle.hddl_reader.specs.Bound.{children_of, method_schema, place_of, IsHead, IsNamed, IsTaskOf, IsActionOf, IsCalled, IsSubtaskOf, IsMethodOf, IsTopOf, AreSchemas}
+use Rattle.hddl_reader.specs.Binding.{children_of, method_schema, place_of, IsHead, IsNamed, IsTaskOf, IsActionOf, IsCalled, IsSubtaskOf, IsMethodOf, IsTopOf, AreSchemas}
 use Rattle.hddl_reader.specs.Tables.{Extends, Together}
 use Rattle.hddl_reader.specs.Written.{task_of, action_of, method_of, subtask_part, subtask_parts, method_entries, method_part}
 use Rattle.hddl_reader.proofs.SchemaLemmas.{word-said, named-name, named-later, task-later, action-later, no-condition}

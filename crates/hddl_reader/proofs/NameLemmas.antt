@@ -16,7 +16,7 @@ use Rattle.text_forms.specs.Words.{Word, is_name, word_at}
 use Rattle.plan_texts.specs.Printable.{IsPlain}
 use Rattle.plan_texts.specs.Types.{EachIs, AreDifferent}
 use Rattle.plan_texts.proofs.Basics.{bytes_eq-true}
-use Rattle.hddl_reader.specs.Bound.{IsNamed}
+use Rattle.hddl_reader.specs.Binding.{IsNamed}
 use Rattle.hddl_reader.specs.Plain.{begins_plain, is_plain}
 use Rattle.hddl_reader.specs.Tables.{Says}
 

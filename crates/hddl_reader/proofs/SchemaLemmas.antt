@@ -19,7 +19,7 @@ use Rattle.plan_model.specs.declared.effects.Effect.TheVariants.{And as Both}
 use Rattle.plan_model.specs.declared.schemas.TaskSchema.{TaskSchema}
 use Rattle.plan_model.specs.declared.schemas.ActionSchema.{ActionSchema}
 use Rattle.plan_texts.proofs.Layers.{formula-And, effect-Both}
-use Rattle.hddl_reader.specs.Bound.{task_schema, action_schema, IsNamed, IsTaskOf, IsActionOf}
+use Rattle.hddl_reader.specs.Binding.{task_schema, action_schema, IsNamed, IsTaskOf, IsActionOf}
 use Rattle.hddl_reader.specs.Tables.{Says, Extends, Together}
 use Rattle.hddl_reader.specs.Written.{without_parameters, task_part, action_part}
 use Rattle.hddl_reader.proofs.Tables.{says_later}

@@ -16,7 +16,7 @@ use Rattle.plan_model.specs.declared.networks.Pair.{Pair}
 use Rattle.plan_model.specs.declared.schemas.MethodSchema.{MethodSchema}
 use Rattle.plan_model.specs.declared.values.Hddl.{Hddl}
 use Rattle.hddl_reader.specs.declared.written.WrittenMethod.{WrittenMethod}
-use Rattle.hddl_reader.specs.Bound.{children_of, method_schema, IsMethodOf, IsBound, IsRead}
+use Rattle.hddl_reader.specs.Binding.{children_of, method_schema, IsMethodOf, IsValueOf, IsRead}
 use Rattle.hddl_reader.specs.Rest.{word_of}
 use Rattle.hddl_reader.specs.Small.{HaveFewSubtasks, HaveFewParameters}
 use Rattle.hddl_reader.specs.Written.{method_of}

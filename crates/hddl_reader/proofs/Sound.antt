@@ -29,7 +29,7 @@ use Rattle.hddl_reader.specs.declared.written.WrittenDomain.{WrittenDomain}
 use Rattle.hddl_reader.specs.declared.written.WrittenProblem.{WrittenProblem}
 use Rattle.hddl_reader.specs.Rest.{word_of}
 use Rattle.hddl_reader.specs.Written.{task_of, action_of, method_of}
-use Rattle.hddl_reader.specs.Bound.{children_of, method_schema, IsHead, IsNamed, IsTaskOf, IsActionOf, IsCalled, IsSubtaskOf, IsMethodOf, IsTopOf, AreSchemas, AreTitles, hddl_of, IsRead}
+use Rattle.hddl_reader.specs.Binding.{children_of, method_schema, IsHead, IsNamed, IsTaskOf, IsActionOf, IsCalled, IsSubtaskOf, IsMethodOf, IsTopOf, AreSchemas, AreTitles, hddl_of, IsRead}
 use Rattle.hddl_reader.specs.Tables.{Together}
 use Rattle.hddl_reader.proofs.SchemaLemmas.{word-said, named-plain, each-from, each-word, same-words, partner}
 use Rattle.hddl_reader.proofs.Tables.{together-length}

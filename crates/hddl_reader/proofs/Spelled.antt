@@ -27,7 +27,7 @@ use Rattle.hddl_reader.specs.declared.written.WrittenDomain.{WrittenDomain}
 use Rattle.hddl_reader.specs.declared.written.WrittenProblem.{WrittenProblem}
 use Rattle.hddl_reader.specs.Rest.{word_of}
 use Rattle.hddl_reader.specs.Written.{task_of, action_of, method_of, task_part, action_part, method_part, subtask_parts, domain_sections, problem_sections, domain_part, problem_part}
-use Rattle.hddl_reader.specs.Bound.{IsTaskOf, IsActionOf, IsMethodOf, IsTopOf, AreSchemas, AreTitles, hddl_of, IsBound, IsRead}
+use Rattle.hddl_reader.specs.Binding.{IsTaskOf, IsActionOf, IsMethodOf, IsTopOf, AreSchemas, AreTitles, hddl_of, IsValueOf, IsRead}
 use Rattle.hddl_reader.proofs.Clean.{clean}
 use Rattle.hddl_reader.proofs.Sections.{only-tasks, only-actions, only-methods, domain-form, no-section, subtask-unions, domain-unions}
 use Rattle.hddl_reader.proofs.SchemaLemmas.{word-said, named-name, no-condition, each-part, same-words, task-word, action-word, task-spelled, action-spelled}

@@ -3,4 +3,4 @@ pub mod Rest
 pub mod Written
 pub mod Plain
 pub mod Tables
-pub mod Bound
+pub mod Binding

@@ -1,5 +1,5 @@
 ghost use Rattle.std.specs.Prelude.{◌≡◌, [], ◌∷◌, IfOk, OnOk};
-ghost use Rattle.hddl_reader.specs.Bound.{hddl_of, AreTitles, IsBound, IsTopOf};
+ghost use Rattle.hddl_reader.specs.Binding.{hddl_of, AreTitles, IsValueOf, IsTopOf};
 ghost use Rattle.hddl_reader.specs.Rest.{word_of};
 ghost use Rattle.hddl_reader.specs.Tables.{Extends};
 
@@ -29,7 +29,7 @@ pub fn bind(
     written: &WrittenDomain,
     asked: &WrittenProblem,
 ) -> Result<Hddl, Stop>
-    ensures bound { IfOk result (λ h. IsBound (word_of domain.now) (word_of problem.now) written.now asked.now h) }
+    ensures bound { IfOk result (λ h. IsValueOf (word_of domain.now) (word_of problem.now) written.now asked.now h) }
 {
     let mut names = NameTable::new(alloc);
     let schemas = declare(alloc, domain, written.sections.as_slice(), &mut names)?;

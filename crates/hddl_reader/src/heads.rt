@@ -1,5 +1,5 @@
 ghost use Rattle.std.specs.Prelude.{◌≡◌, ◌<◌, IfOk, OnOk};
-ghost use Rattle.hddl_reader.specs.Bound.{IsCalled, IsHead, place_of, IsSubtaskOf};
+ghost use Rattle.hddl_reader.specs.Binding.{IsCalled, IsHead, place_of, IsSubtaskOf};
 ghost use Rattle.hddl_reader.specs.Rest.{word_of};
 ghost use Rattle.hddl_reader.specs.Tables.{Extends};
 

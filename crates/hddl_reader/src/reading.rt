@@ -3,7 +3,7 @@ ghost use Rattle.plan_model.specs.Parts.{AreListed};
 ghost use Rattle.plan_texts.specs.FirstSeen.{IsHddlOf};
 ghost use Rattle.plan_texts.specs.SoundValue.{IsSoundHddl};
 ghost use Rattle.plan_meaning.specs.Laws.{AreOrdered};
-ghost use Rattle.hddl_reader.specs.Bound.{IsRead};
+ghost use Rattle.hddl_reader.specs.Binding.{IsRead};
 ghost use Rattle.hddl_reader.specs.Small.{HaveFewSubtasks, HaveFewParameters};
 
 use crate::binding::bind;

@@ -1,7 +1,7 @@
 ghost use Rattle.std.specs.Prelude.{◌≡◌, [], ◌++◌, map, IfOk, OnOk};
 ghost use Rattle.std.specs.List.{filter_map};
 ghost use Rattle.plan_texts.specs.Types.{AreDifferent};
-ghost use Rattle.hddl_reader.specs.Bound.{action_schema, children_of, method_schema, task_schema, AreSchemas, IsActionOf, IsMethodOf, IsTaskOf};
+ghost use Rattle.hddl_reader.specs.Binding.{action_schema, children_of, method_schema, task_schema, AreSchemas, IsActionOf, IsMethodOf, IsTaskOf};
 ghost use Rattle.hddl_reader.specs.Rest.{word_of};
 ghost use Rattle.hddl_reader.specs.Tables.{Extends, Together};
 ghost use Rattle.hddl_reader.specs.Written.{task_of, action_of, method_of};

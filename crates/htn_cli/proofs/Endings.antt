@@ -4,7 +4,7 @@ use Rattle.outside_io.specs.Count.{HasRisen}
 use Rattle.outside_io.specs.Files.{FilesState}
 use Rattle.outside_io.specs.Sink.{SinkState}
 use Rattle.command_words.specs.Names.{Word, Names}
-use Rattle.command_words.specs.Bounds.{most_slots, Holds}
+use Rattle.command_words.specs.Bounds.{most_slots, ComesTo}
 use Rattle.command_words.specs.Words.{Request, slots_of, Asks}
 use Rattle.command_words.specs.declared.bounds.Bound.TheVariants.{Slots}
 use Rattle.command_words.proofs.Requests.{one_request}
@@ -24,7 +24,7 @@ use Rattle.htn_cli.specs.declared.refusal.Refusal.TheVariants as refused
 abbrev manner_at : Request → ℕ → Manner
 manner_at request n = record { slots = n; style = request.style; checks = request.checks }
 
-module _ (request : Request) (slots : ℕ) (old new : FilesState) (out out' : SinkState) (holds : Holds (slots_of request) (Slots slots)) where
+module _ (request : Request) (slots : ℕ) (old new : FilesState) (out out' : SinkState) (holds : ComesTo (slots_of request) (Slots slots)) where
   pub achieves : (texts : Texts) × AreDefined request.names (manner_at request slots) old texts × LeavesDone request.names (manner_at request slots) texts old new out out' → Achieves old new out out' request
   achieves (texts, defined, left) =
       record {

@@ -17,8 +17,8 @@ abbrev pub slots_line : ℕ → List ℕ
 slots_line slots = codes "slots " ++ decimal slots ++ codes "\n"
 
 -- the name holds this text, where that is told
-abbrev pub Holds : FilesState → FilesState → Word → List ℕ → Type 0
-Holds old new name text = told_of new.held name ≡ option_map (λ folder. Some text) old.held
+abbrev pub HoldsText : FilesState → FilesState → Word → List ℕ → Type 0
+HoldsText old new name text = told_of new.held name ≡ option_map (λ folder. Some text) old.held
 
 -- each name but two holds what it held
 abbrev pub KeepsAllBut : FilesState → FilesState → Word → Word → Type 0
@@ -31,20 +31,20 @@ pub record NoFault (old new : FilesState) : Type 0 where
 
 -- the first output stands whole, and no other name changed
 pub record FirstStands (names : Names) (texts : Texts) (old new : FilesState) : Type 0 where
-  pub domain : Holds old new names.printed_domain texts.domain
+  pub domain : HoldsText old new names.printed_domain texts.domain
   pub others : KeepsOthers old.held new.held names.printed_domain
   pub faults : NoFault old new
 
 -- both outputs stand whole, and no other name changed
 pub record BothStand (names : Names) (texts : Texts) (old new : FilesState) : Type 0 where
-  pub domain : Holds old new names.printed_domain texts.domain
-  pub problem : Holds old new names.printed_problem texts.problem
+  pub domain : HoldsText old new names.printed_domain texts.domain
+  pub problem : HoldsText old new names.printed_problem texts.problem
   pub others : KeepsAllBut old new names.printed_domain names.printed_problem
   pub faults : NoFault old new
 
 -- the second put failed: the first output stands whole, and no name but the two outputs changed
 pub record SecondFails (names : Names) (texts : Texts) (old new : FilesState) : Type 0 where
-  pub domain : Holds old new names.printed_domain texts.domain
+  pub domain : HoldsText old new names.printed_domain texts.domain
   pub others : KeepsAllBut old new names.printed_domain names.printed_problem
   pub get_faults : new.get_faults ≡ old.get_faults
   pub put_faults : Rises old.put_faults new.put_faults

@@ -1,12 +1,12 @@
 ghost use Rattle.std.specs.Prelude.{◌≡◌, ◌↔◌, IsTrue};
-ghost use Rattle.plan_meaning.specs.Compilation.{Counts};
+ghost use Rattle.plan_meaning.specs.Compilation.{AsksSomething};
 ghost use Rattle.plan_model.specs.declared.options.Checks.TheVariants.{Leaf, AtOnce};
 
 use plan_model::{Checks, Formula};
 
 /// Whether a check of the condition stands among the children.
 pub fn is_checked(checks: &Checks, pre: &Formula) -> bool
-    ensures { IsTrue result ↔ ((checks.now ≡ Leaf) × Counts pre.now) }
+    ensures { IsTrue result ↔ ((checks.now ≡ Leaf) × AsksSomething pre.now) }
 {
     match checks {
         Checks::Leaf => counts(pre),
@@ -16,7 +16,7 @@ pub fn is_checked(checks: &Checks, pre: &Formula) -> bool
 
 /// Whether the condition is tested where the method is applied.
 pub fn is_tested(checks: &Checks, pre: &Formula) -> bool
-    ensures { IsTrue result ↔ ((checks.now ≡ AtOnce) × Counts pre.now) }
+    ensures { IsTrue result ↔ ((checks.now ≡ AtOnce) × AsksSomething pre.now) }
 {
     match checks {
         Checks::Leaf => false,
@@ -26,7 +26,7 @@ pub fn is_tested(checks: &Checks, pre: &Formula) -> bool
 
 /// Whether the condition is another than the empty conjunction.
 fn counts(pre: &Formula) -> bool
-    ensures { IsTrue result ↔ Counts pre.now }
+    ensures { IsTrue result ↔ AsksSomething pre.now }
 {
     match pre {
         Formula::And(parts) => parts.len() != 0,

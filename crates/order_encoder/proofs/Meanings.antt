@@ -7,7 +7,7 @@ use Rattle.plan_model.specs.declared.terms.Term.TheVariants.{Var}
 use Rattle.plan_model.specs.Typing.{InType}
 use Rattle.plan_meaning.specs.Truth.{EachTrue, OneTrue, IsTrueIn, Adds, Deletes}
 use Rattle.slot_encoding.specs.OrderFormulas.{OrderNumbers, wait_parts, clear_parts, copy_parts}
-use Rattle.slot_encoding.specs.OrderMeaning.{IsSlotOf, pair_atom, OrderMeaning}
+use Rattle.slot_encoding.specs.OrderMeaning.{IsSlotObject, pair_atom, OrderMeaning}
 use Rattle.plan_meaning.proofs.TruthEquations.{truth-And}
 use Rattle.plan_meaning.proofs.EffectEquations.{adds-And, deletes-And}
 use Rattle.slot_encoding.proofs.OrderParts.{order_meaning}
@@ -29,7 +29,7 @@ equal e = (λ a. subst (λ T. T) e a, λ b. subst (λ T. T) (sym e) b)
 
 module _ (n : OrderNumbers) (slots depth : ℕ) where
   pub waits-means : (style : Style) (i : ℕ) → i < depth → Waits n slots depth i (waits n slots depth style (Var i))
-  waits-means style i l types objects atoms values h = subst (λ d. IsTrueIn (InType types objects) (Contains atoms) (waits n slots d style (Var i)) values ↔ ((o : ℕ) → IsSlotOf n slots o → Contains atoms (pair_atom n slots o (slice_index values i)) → ⊥)) h.in_force (through (parts style) (m.waits i (omega (arith, h.in_force))))
+  waits-means style i l types objects atoms values h = subst (λ d. IsTrueIn (InType types objects) (Contains atoms) (waits n slots d style (Var i)) values ↔ ((o : ℕ) → IsSlotObject n slots o → Contains atoms (pair_atom n slots o (slice_index values i)) → ⊥)) h.in_force (through (parts style) (m.waits i (omega (arith, h.in_force))))
     where
       m : OrderMeaning n slots (InType types objects) (Contains atoms) values style
       m = order_meaning n slots (InType types objects) (Contains atoms) values h.are_slots style

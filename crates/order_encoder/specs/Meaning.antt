@@ -10,7 +10,7 @@ use Rattle.plan_model.specs.declared.effects.Effect.{Effect}
 use Rattle.plan_model.specs.Typing.{InType}
 use Rattle.plan_meaning.specs.Truth.{IsTrueIn, Adds, Deletes}
 use Rattle.slot_encoding.specs.OrderFormulas.{OrderNumbers}
-use Rattle.slot_encoding.specs.OrderMeaning.{IsSlotOf, pair_atom, AreTheSlots}
+use Rattle.slot_encoding.specs.OrderMeaning.{IsSlotObject, pair_atom, AreTheSlots}
 
 module _ (n : OrderNumbers) (slots depth : ℕ) where
   -- the types and objects have these slots, the atoms are true, and these are the objects of the variables in force
@@ -21,11 +21,11 @@ module _ (n : OrderNumbers) (slots depth : ℕ) where
   -- true exactly where no slot has the pair that comes to h's
   abbrev pub Waits : ℕ → Formula → Type 0
   Waits h f = (types : Types) (objects : List Object) (atoms : List GroundAtom) (values : List ℕ) → Holding types objects values
-      → IsTrueIn (InType types objects) (Contains atoms) f values ↔ ((o : ℕ) → IsSlotOf n slots o → Contains atoms (pair_atom n slots o (slice_index values h)) → ⊥)
+      → IsTrueIn (InType types objects) (Contains atoms) f values ↔ ((o : ℕ) → IsSlotObject n slots o → Contains atoms (pair_atom n slots o (slice_index values h)) → ⊥)
 
   pub record IsClearing (h : ℕ) (e : Effect) (types : Types) (objects : List Object) (atoms : List GroundAtom) (values : List ℕ) : Type 0 where
     pub adds : (g : GroundAtom) → Adds (InType types objects) (Contains atoms) e values g → ⊥
-    pub deletes : (g : GroundAtom) → Deletes (InType types objects) (Contains atoms) e values g ↔ ((o : ℕ) × IsSlotOf n slots o × (g ≡ pair_atom n slots (slice_index values h) o))
+    pub deletes : (g : GroundAtom) → Deletes (InType types objects) (Contains atoms) e values g ↔ ((o : ℕ) × IsSlotObject n slots o × (g ≡ pair_atom n slots (slice_index values h) o))
 
   -- it deletes exactly the pairs that leave h's slot, and adds nothing
   abbrev pub Clears : ℕ → Effect → Type 0
@@ -33,7 +33,7 @@ module _ (n : OrderNumbers) (slots depth : ℕ) where
 
   pub record IsCopying (h child : ℕ) (e : Effect) (types : Types) (objects : List Object) (atoms : List GroundAtom) (values : List ℕ) : Type 0 where
     pub adds : (g : GroundAtom) → Adds (InType types objects) (Contains atoms) e values g
-        ↔ ((o : ℕ) × IsSlotOf n slots o × Contains atoms (pair_atom n slots (slice_index values h) o) × (g ≡ pair_atom n slots (slice_index values child) o))
+        ↔ ((o : ℕ) × IsSlotObject n slots o × Contains atoms (pair_atom n slots (slice_index values h) o) × (g ≡ pair_atom n slots (slice_index values child) o))
     pub deletes : (g : GroundAtom) → Deletes (InType types objects) (Contains atoms) e values g → ⊥
 
   -- it adds exactly the child's pair for each true pair that leaves h's slot, and deletes nothing

@@ -1,6 +1,7 @@
 -- A compiled problem has one bound at most.
 use Rattle.std.proofs.Common.{ℕ, zero, suc, ◌≡◌, ◌+◌, ◌<◌, ◌≤◌, ◌⊎◌, inl, inr, List, [], ◌∷◌, ◌++◌, length, Some, slice_get, refl, ap, sym, subst, Contains, arith}
 use Rattle.std.proofs.lemmas.List.{length-append}
+use Rattle.std.proofs.lemmas.Option.{slice_get_within}
 use Rattle.std.proofs.lemmas.List.Elements.{Contains-append_left, Contains-append_right, Contains-append_cases}
 use Rattle.plan_model.specs.declared.values.Compiled.{Compiled}
 use Rattle.task_networks.specs.Net.{count}
@@ -10,15 +11,17 @@ use Rattle.task_networks.proofs.Lists.{head_or_tail, cut_at}
 use Rattle.plan_meaning.specs.Network.{top_task}
 use Rattle.plan_meaning.specs.Schemas.{Schema, task, action, check, schemas}
 use Rattle.plan_meaning.specs.Strata.{Edge, IsEdge, AreEdges, source, target_by}
-use Rattle.plan_meaning.specs.Bound.{IsBound}
+use Rattle.plan_meaning.specs.Bound.{group_of, IsBound}
 use Rattle.plan_meaning.proofs.BlockNumbers.{weight_of, each_weight, same_order}
 use Rattle.plan_meaning.proofs.examples.EdgeChecks.{edge}
-use Rattle.plan_meaning.proofs.BoundParts.{AreWhole, head_is_task, within_length, Reached, Leads, leads_on, listed, not_of_the_group, same_group, of_walks}
+use Rattle.plan_meaning.proofs.BoundParts.{AreWhole, head_is_task, Reached, HasWalk, leads_on, listed, not_of_the_group, same_group, of_walks}
 
 module _ (c : Compiled) (whole : AreWhole c) (edges : List Edge) (are : AreEdges c edges) where
   module _ {n n' : ℕ} (A : IsBound c n) (B : IsBound c n') where
-    groups_agree : (x : Schema) (t : ℕ) → A.group x ≡ A.group (task t) → B.group x ≡ B.group (task t)
-    groups_agree x t e = (B.groups x t).1 ((A.groups x t).0 e)
+    groups_agree : (x : Schema) (t : ℕ) → Reached c whole edges are x → Reached c whole edges are (task t) → group_of A.group x ≡ group_of A.group (task t) → group_of B.group x ≡ group_of B.group (task t)
+    groups_agree (action a) t r q e = absurd (omega arith)
+    groups_agree (check m) t r q e = absurd (omega arith)
+    groups_agree (task u) t r q e = ap suc ((B.groups u t r q).1 ((A.groups u t r q).0 (omega arith)))
 
     blocks_agree : (m : ℕ) → (schemas c).IsGround m → (i j : ℕ) → i < count (schemas c) m → j < count (schemas c) m → A.block m i < A.block m j → B.block m i < B.block m j
     blocks_agree m (plan, e) i j l k f = same_order plan.line (A.block m) (B.block m) (A.blocks m plan e) (B.blocks m plan e) i j (listed c whole edges are m plan e i l) (listed c whole edges are m plan e j k) f
@@ -33,15 +36,15 @@ module _ (c : Compiled) (whole : AreWhole c) (edges : List Edge) (are : AreEdges
         go (inr (inr f)) = absurd (let h = blocks_agree B A m g j i k l f in omega arith)
 
     -- a block that counts in one counts in the other
-    counts_agree : (m i : ℕ) → (schemas c).IsGround m → Counts (schemas c) A.block A.number A.group m i → Counts (schemas c) B.block B.number B.group m i
-    counts_agree m i g k = (
+    counts_agree : (m i : ℕ) → (schemas c).IsGround m → Reached c whole edges are ((schemas c).head m) → Counts (schemas c) A.block A.number (group_of A.group) m i → Counts (schemas c) B.block B.number (group_of B.group) m i
+    counts_agree m i g q k = (
       k.0,
       λ w o e. k.1 w (record {
         child = o.child;
         is = o.is;
-        in_block = one_block_back o.child (within_length ((schemas c).works m) o.child w o.is) o.in_block;
+        in_block = one_block_back o.child (slice_get_within ((schemas c).works m) o.child w o.is) o.in_block;
         earlier = λ i' l d. blocks_agree B A m g i' i l k.0 (o.earlier i' l d);
-      }) (back w e),
+      }) (back w (as_child m o.child g q o.is) e),
     )
       where
         one_block_back : (j : ℕ) → j < count (schemas c) m → B.block m j ≡ B.block m i → A.block m j ≡ A.block m i
@@ -52,28 +55,28 @@ module _ (c : Compiled) (whole : AreWhole c) (edges : List Edge) (are : AreEdges
             go (inr (inl f)) = f
             go (inr (inr f)) = absurd (let h = blocks_agree A B m g i j k.0 l f in omega arith)
 
-        back : (w : Schema) → B.group w ≡ B.group ((schemas c).head m) → A.group w ≡ A.group ((schemas c).head m)
-        back w e =
+        back : (w : Schema) → Reached c whole edges are w → group_of B.group w ≡ group_of B.group ((schemas c).head m) → group_of A.group w ≡ group_of A.group ((schemas c).head m)
+        back w r e =
             let (t, h) = head_is_task (slice_get c.methods m) in
-            subst (λ z. A.group w ≡ A.group z) (sym h) (groups_agree B A w t (subst (λ z. B.group w ≡ B.group z) h e))
+            subst (λ z. group_of A.group w ≡ group_of A.group z) (sym h) (groups_agree B A w t r (subst (Reached c whole edges are) h q) (subst (λ z. group_of B.group w ≡ group_of B.group z) h e))
 
     -- all edges that a work leads to are among these
     Claim : ℕ → Type 0
-    Claim k = (left : List Edge) → length left ≤ k → (w : Schema) → Reached c whole edges are w → ((e : Edge) → IsEdge c e → Leads c whole edges are w (source c e) → Contains left e) → A.number w ≤ B.number w
+    Claim k = (left : List Edge) → length left ≤ k → (w : Schema) → Reached c whole edges are w → ((e : Edge) → IsEdge c e → HasWalk c whole edges are w (source c e) → Contains left e) → A.number w ≤ B.number w
 
     step : (k : ℕ) → ((l : ℕ) → l < k → Claim l) → Claim k
     unfolding Claim
     step k ih left short w r all = go (A.numbers.attained w r)
       where
-        go : (A.number w ≡ 1) ⊎ ((m : ℕ) × (i : ℕ) × (schemas c).IsGround m × Reached c whole edges are ((schemas c).head m) × (A.group w ≡ A.group ((schemas c).head m)) × Counts (schemas c) A.block A.number A.group m i × (block_number (schemas c) A.block A.number m (A.block m i) ≡ A.number w)) → A.number w ≤ B.number w
+        go : (A.number w ≡ 1) ⊎ ((m : ℕ) × (i : ℕ) × (schemas c).IsGround m × Reached c whole edges are ((schemas c).head m) × (group_of A.group w ≡ group_of A.group ((schemas c).head m)) × Counts (schemas c) A.block A.number (group_of A.group) m i × (block_number (schemas c) A.block A.number m (A.block m i) ≡ A.number w)) → A.number w ≤ B.number w
         go (inl f) = let p = B.numbers.positive w r in omega arith
         go (inr (m, i, g, q, f, counts, o)) =
             let below = each_weight (schemas c) A.block B.block A.number B.number m (A.block m i) (B.block m i) 0 ((schemas c).works m) each in
-            let b = B.numbers.above w m i r g q (group_of (head_is_task (slice_get c.methods m))) (counts_agree m i g counts) in
+            let b = B.numbers.above w m i r g q (grouped (head_is_task (slice_get c.methods m))) (counts_agree m i g q counts) in
             omega arith
           where
-            group_of : (t : ℕ) × ((schemas c).head m ≡ task t) → B.group w ≡ B.group ((schemas c).head m)
-            group_of (t, h) = subst (λ z. B.group w ≡ B.group z) (sym h) (groups_agree A B w t (subst (λ z. A.group w ≡ A.group z) h f))
+            grouped : (t : ℕ) × ((schemas c).head m ≡ task t) → group_of B.group w ≡ group_of B.group ((schemas c).head m)
+            grouped (t, h) = subst (λ z. group_of B.group w ≡ group_of B.group z) (sym h) (groups_agree A B w t r (subst (Reached c whole edges are) h q) (subst (λ z. group_of A.group w ≡ group_of A.group z) h f))
 
             child_less : (j : ℕ) (u : Schema) → slice_get ((schemas c).works m) j ≡ Some u → A.block m j ≡ A.block m i → A.number u ≤ B.number u
             child_less j (action a) e b = let x = A.numbers.simple (action a) (as_child m j g q e) tt in let y = B.numbers.positive (action a) (as_child m j g q e) in omega arith
@@ -83,10 +86,10 @@ module _ (c : Compiled) (whole : AreWhole c) (edges : List Edge) (are : AreEdges
                 is_edge : IsEdge c (edge m j)
                 is_edge = record { ground = g; reached = q; subtask = t; is = e }
 
-                from_head : (h : (s : ℕ) × ((schemas c).head m ≡ task s)) → Leads c whole edges are w ((schemas c).head m)
-                from_head (s, h) = subst (Leads c whole edges are w) (sym h) (same_group c whole edges are A w s (subst (λ z. A.group w ≡ A.group z) h f)).0
+                from_head : (h : (s : ℕ) × ((schemas c).head m ≡ task s)) → HasWalk c whole edges are w ((schemas c).head m)
+                from_head (s, h) = subst (HasWalk c whole edges are w) (sym h) (same_group c whole edges are A w s r (subst (Reached c whole edges are) h q) (subst (λ z. group_of A.group w ≡ group_of A.group z) h f)).0
 
-                to_child : Leads c whole edges are ((schemas c).head m) (task t)
+                to_child : HasWalk c whole edges are ((schemas c).head m) (task t)
                 to_child = (edge m j ∷ [], (refl, (are.all (edge m j)).1 is_edge, ap (target_by c) e))
 
                 lower : (h : (s : ℕ) × ((schemas c).head m ≡ task s)) → (before : List Edge) × (after : List Edge) × (left ≡ before ++ edge m j ∷ after) → A.number (task t) ≤ B.number (task t)
@@ -95,23 +98,23 @@ module _ (c : Compiled) (whole : AreWhole c) (edges : List Edge) (are : AreEdges
                     shorter : suc (length (before ++ after)) ≡ length left
                     shorter = omega (arith, length-append before after, length-append before (edge m j ∷ after), ap length p)
 
-                    still : (e' : Edge) → IsEdge c e' → Leads c whole edges are (task t) (source c e') → Contains (before ++ after) e'
+                    still : (e' : Edge) → IsEdge c e' → HasWalk c whole edges are (task t) (source c e') → Contains (before ++ after) e'
                     still e' i' l = elim (Contains-append_cases before (edge m j ∷ after) e' (subst (λ z. Contains z e') p (all e' i' on))) [
                       | inl x ↦ Contains-append_left before after e' x
                       | inr x ↦ elim (head_or_tail (edge m j) after e' x) [ inl y ↦ absurd (not_of_the_group c whole edges are A m i j (task t) g q counts e b (same y)) | inr y ↦ Contains-append_right before after e' y ]
                     ]
                       where
-                        on : Leads c whole edges are w (source c e')
+                        on : HasWalk c whole edges are w (source c e')
                         on = let a = from_head (s, h) in let b = leads_on c whole edges are ((schemas c).head m) (task t) (source c e') to_child.0 to_child.1 l in leads_on c whole edges are w ((schemas c).head m) (source c e') a.0 a.1 b
 
-                        same : edge m j ≡ e' → A.group (task t) ≡ A.group ((schemas c).head m)
-                        same y = subst (λ z. A.group (task t) ≡ A.group z) (sym h) (of_walks c whole edges are A t s (subst (Leads c whole edges are (task t)) h (subst (λ z. Leads c whole edges are (task t) (source c z)) (sym y) l)) (subst (λ z. Leads c whole edges are z (task t)) h to_child))
+                        same : edge m j ≡ e' → group_of A.group (task t) ≡ group_of A.group ((schemas c).head m)
+                        same y = subst (λ z. group_of A.group (task t) ≡ group_of A.group z) (sym h) (of_walks c whole edges are A t s (as_child m j g q e) (subst (Reached c whole edges are) h q) (subst (HasWalk c whole edges are (task t)) h (subst (λ z. HasWalk c whole edges are (task t) (source c z)) (sym y) l)) (subst (λ z. HasWalk c whole edges are z (task t)) h to_child))
 
             each : (j : ℕ) (u : Schema) → slice_get ((schemas c).works m) j ≡ Some u → weight_of (schemas c) A.block A.number m (A.block m i) (0 + j) u ≤ weight_of (schemas c) B.block B.number m (B.block m i) (0 + j) u
             each j u e = subst (λ z. weight_of (schemas c) A.block A.number m (A.block m i) z u ≤ weight_of (schemas c) B.block B.number m (B.block m i) z u) (let y : j ≡ 0 + j = omega arith in y) (here (by_size (A.block m j) (A.block m i)))
               where
                 l : j < count (schemas c) m
-                l = within_length ((schemas c).works m) j u e
+                l = slice_get_within ((schemas c).works m) j u e
 
                 here : (A.block m j < A.block m i) ⊎ ((A.block m j ≡ A.block m i) ⊎ (A.block m i < A.block m j)) → weight_of (schemas c) A.block A.number m (A.block m i) j u ≤ weight_of (schemas c) B.block B.number m (B.block m i) j u
                 here (inl x) = let a = before_block (A.block m i) (A.block m j) (A.number u) x in omega arith
@@ -139,7 +142,7 @@ module _ (c : Compiled) (whole : AreWhole c) (edges : List Edge) (are : AreEdges
 
 -- its edges are those of its groups
 edges_of : (c : Compiled) (n : ℕ) → IsBound c n → (edges : List Edge) × AreEdges c edges
-edges_of c n b = let (u, e, g) = (b.groups (task (top_task c)) (top_task c)).0 refl in (g.0, g.1)
+edges_of c n b = let g = (b.groups (top_task c) (top_task c) itself itself).0 refl in (g.0, g.1)
 
 pub bound_is_one : (c : Compiled) → AreWhole c → (n m : ℕ) → IsBound c n → IsBound c m → n ≡ m
 bound_is_one c whole n m a b =

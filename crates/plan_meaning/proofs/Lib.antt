@@ -1,5 +1,6 @@
 -- Laws: networks of compiled problems, executable lists, the bound.
 pub mod Pairs
+pub mod MethodParts
 pub mod CompiledNetworks
 pub mod ClassicalLaws
 pub mod BlockNumbers

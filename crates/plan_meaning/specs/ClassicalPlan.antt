@@ -11,12 +11,12 @@ use Rattle.plan_meaning.specs.Truth.{State, AreTyped, IsTrueIn, after}
 
 module _ (c : Pddl) where
   -- object o has this word
-  abbrev pub IsObject : ℕ → List ℕ → Type 0
-  IsObject o word = (x : Object) × (slice_get c.objects o ≡ Some x) × (slice_get c.names x.name.number ≡ Some word)
+  abbrev pub HasWord : ℕ → List ℕ → Type 0
+  HasWord o word = (x : Object) × (slice_get c.objects o ≡ Some x) × (slice_get c.names x.name.number ≡ Some word)
 
   abbrev pub AreObjects : List ℕ → List (List ℕ) → Type 0
   AreObjects [] [] = Unit {0}
-  AreObjects (o ∷ os) (w ∷ ws) = IsObject o w × AreObjects os ws
+  AreObjects (o ∷ os) (w ∷ ws) = HasWord o w × AreObjects os ws
   AreObjects [] (w ∷ ws) = ⊥
   AreObjects (o ∷ os) [] = ⊥
 
@@ -32,12 +32,12 @@ module _ (c : Pddl) where
     pub condition : IsTrueIn InTypeOf S a.pre objects
 
   -- from S on each step is applicable in the state before it, and the state at the end is one of P
-  abbrev pub Leads : (State → Type 0) → State → List GroundAction → Type 0
-  Leads P S [] = P S
-  Leads P S (step ∷ steps) = (a : ActionSchema) × (objects : List ℕ) × IsApplicable S step a objects × Leads P (after InTypeOf S a.eff objects) steps
+  abbrev pub EndsIn : (State → Type 0) → State → List GroundAction → Type 0
+  EndsIn P S [] = P S
+  EndsIn P S (step ∷ steps) = (a : ActionSchema) × (objects : List ℕ) × IsApplicable S step a objects × EndsIn P (after InTypeOf S a.eff objects) steps
 
   abbrev pub IsExecutable : List GroundAction → Type 0
-  IsExecutable steps = Leads (λ S. Unit {0}) (Contains c.init) steps
+  IsExecutable steps = EndsIn (λ S. Unit {0}) (Contains c.init) steps
 
   abbrev pub IsPlan : List GroundAction → Type 0
-  IsPlan steps = Leads (λ S. IsTrueIn InTypeOf S c.goal []) (Contains c.init) steps
+  IsPlan steps = EndsIn (λ S. IsTrueIn InTypeOf S c.goal []) (Contains c.init) steps

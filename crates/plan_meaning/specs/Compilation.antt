@@ -24,9 +24,9 @@ use Rattle.plan_model.specs.Typing.{InType, IsA}
 use Rattle.task_networks.specs.Order.{IsLine, IsMaximal}
 use Rattle.task_networks.specs.Spelling.{numbers}
 
--- a missing condition is read as the empty conjunction, and that one doesn't count
-abbrev pub Counts : Formula → Type 0
-Counts pre = pre ≢ And []
+-- a missing condition is read as the empty conjunction, which asks nothing
+abbrev pub AsksSomething : Formula → Type 0
+AsksSomething pre = pre ≢ And []
 
 abbrev pub pair : ℕ → ℕ → Pair
 pair i j = record { first = i; then = j }
@@ -118,8 +118,8 @@ module _ (h : Hddl) where
 
   -- the compiled form of the method s
   pub record IsMethodPlan (mode : Checks) (s : MethodSchema) (plan : MethodPlan) : Type 0 where
-    pub checked : IsTrue plan.checked ↔ ((mode ≡ Leaf) × Counts s.pre)
-    pub tested : IsTrue plan.tested ↔ ((mode ≡ AtOnce) × Counts s.pre)
+    pub checked : IsTrue plan.checked ↔ ((mode ≡ Leaf) × AsksSomething s.pre)
+    pub tested : IsTrue plan.tested ↔ ((mode ≡ AtOnce) × AsksSomething s.pre)
     pub schema : plan.schema ≡ record s { children = children plan.checked s; pairs = pairs plan.checked s }
     pub line : IsLine (Pairs plan.schema.pairs) (length plan.schema.children) plan.line
     pub heir : plan.heir ≡ last_of plan.line

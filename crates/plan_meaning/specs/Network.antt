@@ -1,6 +1,7 @@
 -- The ground task network of a compiled problem.
 -- Source: Höller et al., "HDDL", AAAI 2020: tasks, methods and their instances; here a check may stand among the subtasks for a method's precondition.
-use Rattle.std.specs.Prelude.{ℕ, ◌≡◌, MatchBool, List, [], map, slice_get, length, Option, Some, None, Contains}
+use Rattle.std.specs.Prelude.{ℕ, ◌≡◌, MatchBool, MatchOption, List, [], map, slice_get, length, Some, Contains}
+use Rattle.std.specs.Option.{option_map_or, option_and_then}
 use Rattle.plan_model.specs.declared.networks.Head.{Head}
 use Rattle.plan_model.specs.declared.networks.Head.TheVariants.{Task, Action, Check}
 use Rattle.plan_model.specs.declared.networks.Child.{Child}
@@ -30,39 +31,28 @@ IsPrimitive (action a args) = Unit {0}
 IsPrimitive (check m values) = Unit {0}
 IsPrimitive (task t args) = ⊥
 
-abbrev pub work_of : GroundMethod → Head → List ℕ → Work
-work_of g (Task t) args = task t args
-work_of g (Action a) args = action a args
-work_of g Check args = check g.number g.values
+abbrev pub ground_work : GroundMethod → Head → List ℕ → Work
+ground_work g (Task t) args = task t args
+ground_work g (Action a) args = action a args
+ground_work g Check args = check g.number g.values
 
 -- a child of a method, with the objects that its terms stand for
 abbrev pub child_of : GroundMethod → Child → Work
-child_of g child = work_of g child.head (values_of g.values child.args)
+child_of g child = ground_work g child.head (values_of g.values child.args)
 
 -- the constraint, an equality or an inequality of two terms, is true
 abbrev pub Meets : List ℕ → Constraint → Type 0
 Meets values con = MatchBool con.equal (value_of values con.left ≡ value_of values con.right) (value_of values con.left ≡ value_of values con.right → ⊥)
 
--- what the plan of a method says; a number that names no method has no plan
-abbrev pub head_by : GroundMethod → Option MethodPlan → Work
-head_by g None = task 0 []
-head_by g (Some plan) = task plan.schema.task (values_of g.values plan.schema.task_args)
+-- what the plan of a method says: the task that it decomposes, its subtasks, its pairs
+abbrev pub decomposed : GroundMethod → MethodPlan → Work
+decomposed g plan = task plan.schema.task (values_of g.values plan.schema.task_args)
 
-abbrev pub works_by : GroundMethod → Option MethodPlan → List Work
-works_by g None = []
-works_by g (Some plan) = map (child_of g) plan.schema.children
+abbrev pub subtasks_of : GroundMethod → MethodPlan → List Work
+subtasks_of g plan = map (child_of g) plan.schema.children
 
-abbrev pub heir_by : Option MethodPlan → Option ℕ
-heir_by None = None
-heir_by (Some plan) = plan.heir
-
-abbrev pub IsPairBy : Option MethodPlan → ℕ → ℕ → Type 0
-IsPairBy None i j = ⊥
-IsPairBy (Some plan) i j = Contains plan.schema.pairs (record { first = i; then = j })
-
-abbrev pub IsCopierBy : Option MethodPlan → ℕ → Type 0
-IsCopierBy None i = ⊥
-IsCopierBy (Some plan) i = Contains plan.copiers i
+abbrev pub IsPairIn : MethodPlan → ℕ → ℕ → Type 0
+IsPairIn plan i j = Contains plan.schema.pairs (record { first = i; then = j })
 
 module _ (c : Compiled) where
   abbrev pub InTypeOf : ℕ → ℕ → Type 0
@@ -72,10 +62,10 @@ module _ (c : Compiled) where
   top_task = length c.hddl.tasks
 
   -- the parameters that are declared for what stands here
-  abbrev pub AreParams : Work → List Param → Type 0
-  AreParams (action a args) params = (s : ActionSchema) × (slice_get c.hddl.actions a ≡ Some s) × (s.params ≡ params)
-  AreParams (check m values) params = (p : MethodPlan) × (slice_get c.methods m ≡ Some p) × (p.schema.params ≡ params)
-  AreParams (task t args) params = (s : TaskSchema) × (slice_get c.hddl.tasks t ≡ Some s) × (s.params ≡ params)
+  abbrev pub AreParamsOf : Work → List Param → Type 0
+  AreParamsOf (action a args) params = (s : ActionSchema) × (slice_get c.hddl.actions a ≡ Some s) × (s.params ≡ params)
+  AreParamsOf (check m values) params = (p : MethodPlan) × (slice_get c.methods m ≡ Some p) × (p.schema.params ≡ params)
+  AreParamsOf (task t args) params = (s : TaskSchema) × (slice_get c.hddl.tasks t ≡ Some s) × (s.params ≡ params)
 
   abbrev pub objects_of : Work → List ℕ
   objects_of (action a args) = args
@@ -84,7 +74,7 @@ module _ (c : Compiled) where
 
   -- its objects are of the declared types
   abbrev pub IsDeclared : Work → Type 0
-  IsDeclared w = (params : List Param) × AreParams w params × AreTyped InTypeOf params (objects_of w)
+  IsDeclared w = (params : List Param) × AreParamsOf w params × AreTyped InTypeOf params (objects_of w)
 
   -- a ground method: its values are of their types, its constraints hold, and the arguments of its children are of the declared types
   pub record IsGroundMethod (g : GroundMethod) : Type 0 where
@@ -94,15 +84,16 @@ module _ (c : Compiled) where
     pub constraints : (con : Constraint) → Contains plan.schema.constraints con → Meets g.values con
     pub declared : (child : Child) → Contains plan.schema.children child → IsDeclared (child_of g child)
 
+  -- each method by its plan; a number that names no method has no plan, and then there are no children
   abbrev pub network : Net
   network = record {
     Work = Work;
     Method = GroundMethod;
-    head = λ g. head_by g (slice_get c.methods g.number);
-    works = λ g. works_by g (slice_get c.methods g.number);
+    head = λ g. option_map_or (decomposed g) (slice_get c.methods g.number) (task 0 []);
+    works = λ g. option_map_or (subtasks_of g) (slice_get c.methods g.number) [];
     IsSimple = IsPrimitive;
     IsGround = IsGroundMethod;
-    Pair = λ g. IsPairBy (slice_get c.methods g.number);
-    heir = λ g. heir_by (slice_get c.methods g.number);
-    IsCopier = λ g. IsCopierBy (slice_get c.methods g.number);
+    Pair = λ g i j. MatchOption (slice_get c.methods g.number) ⊥ (λ plan. IsPairIn plan i j);
+    heir = λ g. option_and_then (λ plan. plan.heir) (slice_get c.methods g.number);
+    IsCopier = λ g i. MatchOption (slice_get c.methods g.number) ⊥ (λ plan. Contains plan.copiers i);
   }

@@ -6,7 +6,7 @@ use Rattle.plan_model.specs.declared.schemas.MethodPlan.{MethodPlan}
 use Rattle.plan_model.specs.declared.values.Compiled.{Compiled}
 use Rattle.task_networks.specs.Tree.{Tree, Label, waits, ran, used, Address}
 use Rattle.task_networks.specs.Front.{IsFront}
-use Rattle.task_networks.specs.Executable.{IsExecutable}
+use Rattle.task_networks.specs.Executable.{IsExecutableOrder}
 use Rattle.task_networks.specs.Executable as Executions
 use Rattle.plan_meaning.specs.Truth.{State, IsTrueIn, after}
 use Rattle.plan_meaning.specs.Network.{Work, action, check, task, network, InTypeOf, top_task}
@@ -60,7 +60,7 @@ module _ (c : Compiled) where
   -- a front whose conditions are true, each in the state before it
   pub record IsExecutableFront (tree : Tree (network c)) (order : List Address) : Type 0 where
     pub front : IsFront (network c) top_work tree order
-    pub executable : IsExecutable (network c) State Allows next initial tree order
+    pub executable : IsExecutableOrder (network c) State Allows next initial tree order
 
   -- an executable front without open leaves, whose last state makes the goal true
   abbrev pub IsSolution : Tree (network c) → List Address → Type 0

@@ -16,7 +16,7 @@ use Rattle.slot_encoding.specs.OrderFormulas.{OrderNumbers, pair_of, any_slot, s
 use Rattle.slot_encoding.specs.EncodedValue.{atom}
 use Rattle.plan_meaning.proofs.TruthEquations.{truth-Not, truth-Holds, truth-Forall}
 use Rattle.plan_meaning.proofs.EffectEquations.{adds-Add, adds-Delete, adds-Forall, adds-When, deletes-Add, deletes-Delete, deletes-Forall, deletes-When}
-use Rattle.slot_encoding.specs.OrderMeaning.{IsSlotOf, pair_atom, AreTheSlots, OrderMeaning}
+use Rattle.slot_encoding.specs.OrderMeaning.{IsSlotObject, pair_atom, AreTheSlots, OrderMeaning}
 use Rattle.plan_meaning.proofs.EachPart.{each_map, one_map}
 
 at_front : (xs ys : List ℕ) (i : ℕ) → i < length xs → slice_index (xs ++ ys) i ≡ slice_index xs i
@@ -33,7 +33,7 @@ module _ (n : OrderNumbers) (slots : ℕ) (InType : ℕ → ℕ → Type 0) (S :
   True = IsTrueIn InType S
 
   abbrev IsSlot : ℕ → Type 0
-  IsSlot = IsSlotOf n slots
+  IsSlot = IsSlotObject n slots
 
   abbrev pair : ℕ → ℕ → GroundAtom
   pair = pair_atom n slots

@@ -24,7 +24,7 @@ use Rattle.plan_meaning.specs.Truth.{State, value_of, EachTrue, OneTrue, AreType
 use Rattle.plan_meaning.specs.Network.{Work, action, check, task, GroundMethod, network, child_of, IsDeclared}
 use Rattle.plan_meaning.specs.Network as Source
 use Rattle.plan_meaning.specs.ClassicalPlan as Printed
-use Rattle.plan_meaning.specs.ClassicalPlan.{IsObject, AreObjects, IsApplicable}
+use Rattle.plan_meaning.specs.ClassicalPlan.{HasWord, AreObjects, IsApplicable}
 use Rattle.plan_meaning.specs.SpelledPlan.{object_word, step_of}
 use Rattle.slot_encoding.specs.SourceParts.{retyped, source_param, source_formula}
 use Rattle.slot_encoding.specs.EncodedNames.{slot_type, first_slot, guard_types, top_predicate, free_predicate, before_predicate, task_predicate, action_predicate, check_predicate, guard_predicate}
@@ -125,10 +125,10 @@ module _ (c : Compiled) where
 
     -- Words of objects.
     pub record ObjectWords : Type 0 where
-      pub source : (o : ℕ) → o < length c.hddl.objects → IsObject p o (object_word c o)
-      pub slot : (k : ℕ) → IsSlot k → IsObject p (slot_object k) (slot_word k)
-      pub one : (o o' : ℕ) (w : Word) → IsObject p o w → IsObject p o' w → o ≡ o'
-      pub one_word : (o : ℕ) (w w' : Word) → IsObject p o w → IsObject p o w' → w ≡ w'
+      pub source : (o : ℕ) → o < length c.hddl.objects → HasWord p o (object_word c o)
+      pub slot : (k : ℕ) → IsSlot k → HasWord p (slot_object k) (slot_word k)
+      pub one : (o o' : ℕ) (w : Word) → HasWord p o w → HasWord p o' w → o ≡ o'
+      pub one_word : (o : ℕ) (w w' : Word) → HasWord p o w → HasWord p o w' → w ≡ w'
 
     -- the printed action that the act is a step of, and its objects
     pub record IsMethodAct (h : ℕ) (new : List ℕ) (g : GroundMethod) (a : ActionSchema) (os : List ℕ) : Type 0 where

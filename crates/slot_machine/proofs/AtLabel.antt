@@ -3,7 +3,7 @@ use Rattle.std.proofs.Common.{ℕ, ◌≡◌, ◌<◌, ◌⊎◌, inl, inr, [], 
 use Rattle.task_networks.specs.Order.{Precedes, direct}
 use Rattle.task_networks.specs.Net.{Net, count}
 use Rattle.task_networks.specs.Lawful.{IsLawful}
-use Rattle.task_networks.specs.Tree.{Label, waits, ran, used, Tree, Address, label_at, IsBelow}
+use Rattle.task_networks.specs.Tree.{Label, waits, ran, used, Tree, Address, label_at, IsAbove}
 use Rattle.task_networks.specs.Schedule.{Blocks}
 use Rattle.task_networks.proofs.Addresses.{not-below_parent}
 use Rattle.task_networks.proofs.Orders.{precedes_within, last_pair}
@@ -82,7 +82,7 @@ module _ (N : Net) where
         same : m ≡ n
         same = cc
 
-        go : (k ∷ p ≡ i ∷ p) ⊎ IsBelow (k ∷ p) p → Precedes (N.Pair n) i j
+        go : (k ∷ p ≡ i ∷ p) ⊎ IsAbove (k ∷ p) p → Precedes (N.Pair n) i j
         go (inl x) = let y : k ≡ i = cc in subst (λ z. Precedes (N.Pair n) z j) y (subst (λ z. Precedes (N.Pair z) k j) same h)
         go (inr x) = absurd (not-below_parent k p x)
 
@@ -90,6 +90,6 @@ module _ (N : Net) where
     not-blocks_itself tree [] b = b
     not-blocks_itself tree (j ∷ q) (m, i, e, h, c) = go c
       where
-        go : (i ∷ q ≡ j ∷ q) ⊎ IsBelow (i ∷ q) q → ⊥
+        go : (i ∷ q ≡ j ∷ q) ⊎ IsAbove (i ∷ q) q → ⊥
         go (inl x) = let y : i ≡ j = cc in law.acyclic m j (subst (λ z. Precedes (N.Pair m) z j) y h)
         go (inr x) = not-below_parent i q x

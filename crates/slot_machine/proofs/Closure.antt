@@ -4,16 +4,16 @@ use Rattle.std.proofs.lemmas.List.Elements.{Contains-append_left}
 use Rattle.task_networks.specs.Order.{Precedes, direct, through}
 use Rattle.task_networks.specs.Net.{Net}
 use Rattle.task_networks.specs.Lawful.{IsLawful}
-use Rattle.task_networks.specs.Tree.{Tree, Address, IsAddress, IsBelow, label_at, IsOpen, waits, used, IsProcessed}
+use Rattle.task_networks.specs.Tree.{Tree, Address, IsAddress, IsAbove, label_at, IsOpen, waits, used, IsProcessed}
 use Rattle.task_networks.specs.Schedule.{Blocks, IsSchedule, MustPrecede}
 use Rattle.task_networks.specs.Pending.{AreDifferent}
 use Rattle.task_networks.proofs.Addresses.{below_below, below_up, below-itself}
 use Rattle.task_networks.proofs.Different.{no_more}
 use Rattle.task_networks.proofs.Lists.{Contains-here, head_or_tail, not-in_empty, cut_at}
 use Rattle.task_networks.proofs.Orders.{precedes_then}
-use Rattle.slot_machine.specs.Machine.{State, IsUnblocked}
+use Rattle.slot_machine.specs.Machine.{SlotState, IsUnblocked}
 use Rattle.slot_machine.proofs.AtLabel.{not-blocks_itself}
-use Rattle.slot_machine.proofs.FrontSteps.{open_apart}
+use Rattle.slot_machine.proofs.FrontSteps.{open_address, open_apart}
 use Rattle.slot_machine.proofs.Growth.{leaves}
 use Rattle.slot_machine.proofs.Matching.{Matches, parent_used, nothing_blocks}
 
@@ -24,18 +24,15 @@ module _ (N : Net) where
     blocks_then tree u [] (k ∷ r) a x y = absurd x
     blocks_then tree u (j ∷ q) (k ∷ r) a (m, i, e, c, d) (m', i', e', c', d') = go d'
       where
-        go : (i' ∷ r ≡ j ∷ q) ⊎ IsBelow (i' ∷ r) q → Blocks N tree u (k ∷ r)
+        go : (i' ∷ r ≡ j ∷ q) ⊎ IsAbove (i' ∷ r) q → Blocks N tree u (k ∷ r)
         go (inl f) =
             let g : i' ≡ j = cc in
             let h : r ≡ q = cc in
             let s : m' ≡ m = (let x = ap (label_at N tree) h in cc) in
-            (m', i, e', precedes_then i j k (subst (λ z. Precedes (N.Pair z) i j) (sym s) c) (subst (λ z. Precedes (N.Pair m') z k) g c'), subst (λ z. IsBelow (i ∷ z) u) (sym h) d)
+            (m', i, e', precedes_then i j k (subst (λ z. Precedes (N.Pair z) i j) (sym s) c) (subst (λ z. Precedes (N.Pair m') z k) g c'), subst (λ z. IsAbove (i ∷ z) u) (sym h) d)
         go (inr f) = (m', i', e', c', below_below (i' ∷ r) q u f (below_up i q u d))
 
-    module _ (b : ℕ) (s : State N) (tree : Tree N) (slot : Address → ℕ) (m : Matches N b s tree slot) where
-      address : (u : Address) → IsOpen N tree u → IsAddress N tree u
-      address u (w, e) = (waits w, e)
-
+    module _ (b : ℕ) (s : SlotState N) (tree : Tree N) (slot : Address → ℕ) (m : Matches N b s tree slot) where
       -- the pairs say no more than the tree
       pub chain_sound : (x y : ℕ) → Precedes s.before x y → (u : Address) × (v : Address) × IsOpen N tree u × IsOpen N tree v × (slot u ≡ x) × (slot v ≡ y) × Blocks N tree u v
       chain_sound x y (direct h) = m.sound x y h
@@ -43,7 +40,7 @@ module _ (N : Net) where
           let (u, v, ou, ov, eu, ev, bl) = chain_sound x z c in
           let (v', w, ov', ow, ev', ew, bl') = m.sound z y h in
           let f : v' ≡ v = m.apart v' v ov' ov (ev' ∙ sym ev) in
-          (u, w, ou, ow, eu, ew, blocks_then tree u v w (address v ov) bl (subst (λ z. Blocks N tree z w) f bl'))
+          (u, w, ou, ow, eu, ew, blocks_then tree u v w (open_address N tree v ov) bl (subst (λ z. Blocks N tree z w) f bl'))
 
       -- the walk back from v meets different leaves, so it ends
       walk : (leaves : List Address) → ((p : Address) → IsOpen N tree p → Contains leaves p) → (k : ℕ) (u v : Address) (seen : List Address) → length leaves < k + length seen
@@ -64,7 +61,7 @@ module _ (N : Net) where
               subst (λ z. Blocks N tree z v) (m.apart x' x ox' ox ex) (subst (Blocks N tree x') (m.apart v' v ov' ov ev) bl')
 
           before : (x p : Address) → IsOpen N tree x → Blocks N tree x v → Contains (v ∷ seen) p → Blocks N tree x p
-          before x p ox bl' c = elim (head_or_tail v seen p c) [ inl e ↦ subst (Blocks N tree x) e bl' | inr e ↦ blocks_then tree x v p (address v ov) bl' (bs p e) ]
+          before x p ox bl' c = elim (head_or_tail v seen p c) [ inl e ↦ subst (Blocks N tree x) e bl' | inr e ↦ blocks_then tree x v p (open_address N tree v ov) bl' (bs p e) ]
 
           new : (x : Address) → IsOpen N tree x → s.before (slot x) (slot v) → Contains (v ∷ seen) x → ⊥
           new x ox bf c = not-blocks_itself N law tree x (before x x ox (blocks x ox bf) c)
@@ -85,14 +82,14 @@ module _ (N : Net) where
   pub only_siblings : (tree : Tree N) (order : List Address) (u v : Address) → IsSchedule N tree order → IsOpen N tree u → IsOpen N tree v → MustPrecede N tree u v ↔ Blocks N tree u v
   only_siblings tree order u v s ou ov = (λ h. to v ov h.0 h.1 h.2, λ h. (v, below-itself v, h))
     where
-      used_above : (c v : Address) → IsBelow c v → IsAddress N tree v → (c ≡ v) ⊎ IsProcessed N tree c
+      used_above : (c v : Address) → IsAbove c v → IsAddress N tree v → (c ≡ v) ⊎ IsProcessed N tree c
       used_above c [] e a = inl e
       used_above c (k ∷ v) (inl e) a = inl e
       used_above c (k ∷ v) (inr h) (l, e) =
           let (m, f) = parent_used N tree k v l e in
           elim (used_above c v h (used m, f)) [ inl x ↦ inr (used m, ap (label_at N tree) x ∙ f, tt) | inr x ↦ inr x ]
 
-      to : (v : Address) → IsOpen N tree v → (c : Address) → IsBelow c v → Blocks N tree u c → Blocks N tree u v
+      to : (v : Address) → IsOpen N tree v → (c : Address) → IsAbove c v → Blocks N tree u c → Blocks N tree u v
       to v (w, e) c h bl = elim (used_above c v h (waits w, e)) [
         | inl x ↦ subst (Blocks N tree u) x bl
         | inr x ↦ (let (taken, rest, f) = cut_at order c ((s.covers c).1 x) in
@@ -101,7 +98,7 @@ module _ (N : Net) where
       ]
 
   -- the machine's test is the sentence on the tree
-  pub waiting_iff : (b : ℕ) (s : State N) (tree : Tree N) (order : List Address) (slot : Address → ℕ) (v : Address) → Matches N b s tree slot → IsSchedule N tree order → IsOpen N tree v → IsUnblocked N s (slot v) ↔ ((u : Address) → IsOpen N tree u → MustPrecede N tree u v → ⊥)
+  pub waiting_iff : (b : ℕ) (s : SlotState N) (tree : Tree N) (order : List Address) (slot : Address → ℕ) (v : Address) → Matches N b s tree slot → IsSchedule N tree order → IsOpen N tree v → IsUnblocked N s (slot v) ↔ ((u : Address) → IsOpen N tree u → MustPrecede N tree u v → ⊥)
   waiting_iff b s tree order slot v m sc ov = (
     λ unblocked u ou h. nothing_blocks N b s tree slot v u m unblocked ov ou ((only_siblings tree order u v sc ou ov).0 h),
     λ f x bf. (let (u, v', ou, ov', eu, ev, bl) = m.sound x (slot v) bf in f u ou (v, below-itself v, subst (Blocks N tree u) (m.apart v' v ov' ov ev) bl)),

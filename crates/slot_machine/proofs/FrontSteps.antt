@@ -2,7 +2,7 @@
 use Rattle.std.proofs.Common.{ℕ, ◌≡◌, ◌≢◌, ◌⊎◌, inl, inr, List, [], ◌∷◌, ◌++◌, Option, Some, None, option_map, slice_get, refl, ap, sym, subst, ◌∙◌, Contains, append_assoc}
 use Rattle.std.proofs.lemmas.List.Elements.{Contains-append_left, Contains-push, Contains-push_cases}
 use Rattle.task_networks.specs.Net.{Net}
-use Rattle.task_networks.specs.Tree.{waits, Label, IsTaken, Tree, Address, IsOpen, IsProcessed, label_at, IsAddress, used, IsBelow}
+use Rattle.task_networks.specs.Tree.{waits, Label, IsTaken, Tree, Address, IsOpen, IsProcessed, label_at, IsAddress, used, IsAbove}
 use Rattle.task_networks.specs.Schedule.{Blocks, IsDue, IsSchedule}
 use Rattle.task_networks.proofs.Addresses.{not-below_parent, below-itself, is_same_address}
 use Rattle.task_networks.proofs.Lists.{cut_push, cut_at}
@@ -15,6 +15,9 @@ module _ (N : Net) where
 
   pub taken_apart : (l : Label N) (w : N.Work) → l ≡ waits w → IsTaken N l → ⊥
   taken_apart l w e t = let h : IsTaken N (waits w) = subst (IsTaken N) e t in h
+
+  pub open_address : (tree : Tree N) (u : Address) → IsOpen N tree u → IsAddress N tree u
+  open_address tree u (w, e) = (waits w, e)
 
   pub open_apart : (tree : Tree N) (p : Address) → IsOpen N tree p → IsProcessed N tree p → ⊥
   open_apart tree p (w, e) (l, f, t) = taken_apart l w (cc) t
@@ -80,7 +83,7 @@ module _ (N : Net) where
     blocks_back u j q n (m, i, e, c, d) = (m, i, used_back q m n e, c, d)
 
     not-own_child : (i : ℕ) (q : Address) → q ≡ i ∷ q → ⊥
-    not-own_child i q e = not-below_parent i q (subst (λ x. IsBelow x q) e (below-itself q))
+    not-own_child i q e = not-below_parent i q (subst (λ x. IsAbove x q) e (below-itself q))
 
     -- what blocks a child of p that is no sibling blocks p: so too the other way
     pub due_grows : (taken : List Address) (v : Address) → IsProcessed N tree v → (Contains taken p → ⊥) → IsDue N tree taken v → IsDue N tree' taken v
@@ -97,9 +100,9 @@ module _ (N : Net) where
             b' = blocks_back u j q n b
 
             up : (i : ℕ) → u ≡ i ∷ p → Blocks N tree p (j ∷ q)
-            up i f = (b'.0, b'.1, b'.2, b'.3, inside (subst (λ x. IsBelow (b'.1 ∷ q) x) f b'.4))
+            up i f = (b'.0, b'.1, b'.2, b'.3, inside (subst (λ x. IsAbove (b'.1 ∷ q) x) f b'.4))
               where
-                inside : (b'.1 ∷ q ≡ i ∷ p) ⊎ IsBelow (b'.1 ∷ q) p → IsBelow (b'.1 ∷ q) p
+                inside : (b'.1 ∷ q ≡ i ∷ p) ⊎ IsAbove (b'.1 ∷ q) p → IsAbove (b'.1 ∷ q) p
                 inside (inl h) = absurd (n cc)
                 inside (inr h) = h
 
@@ -153,7 +156,7 @@ module _ (N : Net) where
       d = s.due order [] p refl
 
       go : Contains order (i ∷ p) ⊎ (p ≡ i ∷ p) → ⊥
-      go (inr f) = not-below_parent i p (subst (λ x. IsBelow x p) f (below-itself p))
+      go (inr f) = not-below_parent i p (subst (λ x. IsAbove x p) f (below-itself p))
       go (inl c) =
           let h = cut_at order (i ∷ p) c in
           let b : Contains h.0 p = (s.due h.0 (h.1 ++ p ∷ []) (i ∷ p) (ap (λ x. x ++ p ∷ []) h.2 ∙ append_assoc h.0 ((i ∷ p) ∷ h.1) (p ∷ []))).begun in

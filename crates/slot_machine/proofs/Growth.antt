@@ -1,7 +1,7 @@
 -- One open leaf is processed: how the labels change.
 use Rattle.std.proofs.Common.{ℕ, zero, suc, ◌≡◌, ◌≢◌, ◌⊎◌, inl, inr, List, [], ◌∷◌, Option, Some, None, option_map, option_and_then, slice_get, refl, ap, sym, subst, ◌∙◌}
 use Rattle.task_networks.specs.Net.{Net}
-use Rattle.task_networks.specs.Tree.{Label, waits, ran, used, Tree, Address, IsTaken, label_at, label, at, child_at, children_of, open_leaf, done, split, none, IsBelow, Trees, more, works_of, AreGrown}
+use Rattle.task_networks.specs.Tree.{Label, waits, ran, used, Tree, Address, IsTaken, label_at, label, at, child_at, children_of, open_leaf, done, split, none, IsAbove, Trees, more, works_of, AreGrown}
 use Rattle.task_networks.proofs.Addresses.{is_below, below_up, below_cases, is_same_address}
 use Rattle.slot_machine.proofs.Replaced.{put, at-put_same, label-put_other}
 
@@ -32,13 +32,13 @@ module _ (N : Net) where
   nothing_under (Some (split m ts)) None k e = absurd cc
   nothing_under (Some (split m ts)) (Some v) k e = absurd cc
 
-  pub none_below : (tree : Tree N) (p q : Address) → at N tree p ≡ None → IsBelow p q → at N tree q ≡ None
+  pub none_below : (tree : Tree N) (p q : Address) → at N tree p ≡ None → IsAbove p q → at N tree q ≡ None
   none_below tree p [] e b = subst (λ x. at N tree x ≡ None) b e
   none_below tree p (k ∷ q) e (inl b) = subst (λ x. at N tree x ≡ None) b e
   none_below tree p (k ∷ q) e (inr b) = ap (option_and_then (λ u. child_at N (children_of N u) k)) (none_below tree p q e b)
 
   -- two trees that differ at p alone
-  growth : (tree tree' : Tree N) (p : Address) (w : N.Work) (s : Tree N) → IsTaken N (label N s) → IsFresh s → at N tree p ≡ Some (open_leaf w) → at N tree' p ≡ Some s → ((q : Address) → (IsBelow p q → ⊥) → label_at N tree' q ≡ label_at N tree q) → IsGrowth tree tree' p w (label N s)
+  growth : (tree tree' : Tree N) (p : Address) (w : N.Work) (s : Tree N) → IsTaken N (label N s) → IsFresh s → at N tree p ≡ Some (open_leaf w) → at N tree' p ≡ Some s → ((q : Address) → (IsAbove p q → ⊥) → label_at N tree' q ≡ label_at N tree q) → IsGrowth tree tree' p w (label N s)
   growth tree tree' p w s t f a b o = record {
     taken = t;
     was = ap (option_map (label N)) a;
@@ -51,18 +51,18 @@ module _ (N : Net) where
       child : (i : ℕ) → label_at N tree' (i ∷ p) ≡ option_map waits (slice_get (child_works (label N s)) i)
       child i = ap (λ x. option_map (label N) (option_and_then (λ t. child_at N (children_of N t) i) x)) b ∙ f i
 
-      deep : (q : Address) (i : ℕ) → ((i : ℕ) → q ≢ i ∷ p) → (q ≡ i ∷ p) ⊎ ((j : ℕ) × IsBelow (j ∷ i ∷ p) q) → at N tree' q ≡ at N tree q
+      deep : (q : Address) (i : ℕ) → ((i : ℕ) → q ≢ i ∷ p) → (q ≡ i ∷ p) ⊎ ((j : ℕ) × IsAbove (j ∷ i ∷ p) q) → at N tree' q ≡ at N tree q
       deep q i k (inl e) = absurd (k i e)
       deep q i k (inr (j, c)) =
           let x : at N tree' (j ∷ i ∷ p) ≡ None = nothing_under (at N tree' (i ∷ p)) (slice_get (child_works (label N s)) i) j (child i) in
           let y : at N tree (i ∷ p) ≡ None = ap (option_and_then (λ t. child_at N (children_of N t) i)) a in
           none_below tree' (j ∷ i ∷ p) q x c ∙ sym (none_below tree (i ∷ p) q y (below_up j (i ∷ p) q c))
 
-      inside : (q : Address) → q ≢ p → ((i : ℕ) → q ≢ i ∷ p) → (q ≡ p) ⊎ ((i : ℕ) × IsBelow (i ∷ p) q) → at N tree' q ≡ at N tree q
+      inside : (q : Address) → q ≢ p → ((i : ℕ) → q ≢ i ∷ p) → (q ≡ p) ⊎ ((i : ℕ) × IsAbove (i ∷ p) q) → at N tree' q ≡ at N tree q
       inside q n k (inl e) = absurd (n e)
       inside q n k (inr (i, c)) = deep q i k (below_cases (i ∷ p) q c)
 
-      other : (q : Address) → q ≢ p → ((i : ℕ) → q ≢ i ∷ p) → Dec (IsBelow p q) → label_at N tree' q ≡ label_at N tree q
+      other : (q : Address) → q ≢ p → ((i : ℕ) → q ≢ i ∷ p) → Dec (IsAbove p q) → label_at N tree' q ≡ label_at N tree q
       other q n k (no d) = o q d
       other q n k (yes c) = ap (option_map (label N)) (inside q n k (below_cases p q c))
 

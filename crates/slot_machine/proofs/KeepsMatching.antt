@@ -4,17 +4,17 @@ use Rattle.std.proofs.Math.Decide.{ℕ_discrete}
 use Rattle.std.proofs.lemmas.Option.{slice_get_within, slice_get_cases}
 use Rattle.task_networks.specs.Net.{Net}
 use Rattle.task_networks.specs.Lawful.{IsLawful}
-use Rattle.task_networks.specs.Tree.{at, Tree, Address, Label, IsOpen, IsAddress, waits, label_at, label, child_at, children_of}
+use Rattle.task_networks.specs.Tree.{at, Tree, Address, Label, IsOpen, waits, label_at, label, child_at, children_of}
 use Rattle.task_networks.specs.Schedule.{Blocks}
 use Rattle.task_networks.proofs.Addresses.{is_same_address}
 use Rattle.task_networks.proofs.Orders.{is_some}
-use Rattle.slot_machine.specs.Machine.{State, IsUnblocked}
+use Rattle.slot_machine.specs.Machine.{SlotState, IsUnblocked}
 use Rattle.slot_machine.proofs.AtLabel.{heir_of, PairOf, CopierOf, heir_exists, heir_within, from_pair, pair_within, blocks_sibling, copier_within, TakesOverOf, PrecedesOf, covered, not-blocks_itself, last_pair_of, sibling_blocks}
-use Rattle.slot_machine.proofs.FrontSteps.{taken_apart, child_waits, blocks_grows}
+use Rattle.slot_machine.proofs.FrontSteps.{taken_apart, child_waits, open_address, blocks_grows}
 use Rattle.slot_machine.proofs.Growth.{IsGrowth, child_works, place, leaf_at, none_below}
 use Rattle.slot_machine.proofs.Matching.{Matches, back, down, up, nothing_blocks}
 
-module _ (N : Net) (law : IsLawful N) (b : ℕ) (s s' : State N) (tree tree' : Tree N) (p : Address) (w : N.Work) (l : Label N) (g : IsGrowth N tree tree' p w l) (slot : Address → ℕ) (m : Matches N b s tree slot) (unblocked : IsUnblocked N s (slot p)) where
+module _ (N : Net) (law : IsLawful N) (b : ℕ) (s s' : SlotState N) (tree tree' : Tree N) (p : Address) (w : N.Work) (l : Label N) (g : IsGrowth N tree tree' p w l) (slot : Address → ℕ) (m : Matches N b s tree slot) (unblocked : IsUnblocked N s (slot p)) where
   abbrev n : ℕ
   n = length (child_works N l)
 
@@ -29,9 +29,6 @@ module _ (N : Net) (law : IsLawful N) (b : ℕ) (s s' : State N) (tree tree' : T
 
   open_p : IsOpen N tree p
   open_p = (w, g.was)
-
-  address_of : (u : Address) → IsOpen N tree u → IsAddress N tree u
-  address_of u (v, e) = (waits v, e)
 
   -- an open leaf of the grown tree is a new child, or an old one
   open_cases : (u : Address) (v : N.Work) → label_at N tree' u ≡ Some (waits v) → ((i : ℕ) × (u ≡ i ∷ p) × (slice_get (child_works N l) i ≡ Some v)) ⊎ ((u ≢ p) × (label_at N tree u ≡ Some (waits v)))
@@ -73,17 +70,14 @@ module _ (N : Net) (law : IsLawful N) (b : ℕ) (s s' : State N) (tree tree' : T
   new_or_old : (u : Address) → IsOpen N tree' u → IsNew u ⊎ IsOld u
   new_or_old u (v, e) = elim (open_cases u v e) [ inl x ↦ inl (x.0, x.1, slice_get_within (child_works N l) x.0 v x.2) | inr x ↦ inr (x.0, (v, x.1)) ]
 
-  grows : (u v : Address) → Blocks N tree u v → Blocks N tree' u v
-  grows u v bl = blocks_grows N tree tree' p w l g u v bl
-
   blocks_old : (u v : Address) → IsOpen N tree v → Blocks N tree' u v → Blocks N tree u v
-  blocks_old u v o bl = back N law b s tree tree' p w l g slot m u v (address_of v o) bl
+  blocks_old u v o bl = back N law b s tree tree' p w l g slot m u v (open_address N tree v o) bl
 
   blocks_child : (k : ℕ) (v : Address) → Blocks N tree p v → Blocks N tree' (k ∷ p) v
-  blocks_child k v bl = grows (k ∷ p) v (down N law b s tree tree' p w l g slot m k v bl)
+  blocks_child k v bl = blocks_grows N tree tree' p w l g (k ∷ p) v (down N law b s tree tree' p w l g slot m k v bl)
 
   child_blocks : (k : ℕ) (v : Address) → IsOpen N tree v → Blocks N tree' (k ∷ p) v → Blocks N tree p v
-  child_blocks k v o bl = up N law b s tree tree' p w l g slot m k v (address_of v o) (blocks_old (k ∷ p) v o bl)
+  child_blocks k v o bl = up N law b s tree tree' p w l g slot m k v (open_address N tree v o) (blocks_old (k ∷ p) v o bl)
 
   -- no old leaf blocks a new child
   old_new : (u : Address) (j : ℕ) → IsOpen N tree u → Blocks N tree' u (j ∷ p) → ⊥
@@ -188,7 +182,7 @@ module _ (N : Net) (law : IsLawful N) (b : ℕ) (s s' : State N) (tree tree' : T
                 nv e = unblocked x (subst (λ z. s.before x z) (sym ev ∙ ap slot e) h)
 
                 pick : Dec (u ≡ p) → Dec (n ≡ 0) → Sound x y
-                pick (no nu) z = (u, v, keeps_open u ou nu, keeps_open v ov nv, eu, ev, grows u v bl)
+                pick (no nu) z = (u, v, keeps_open u ou nu, keeps_open v ov nv, eu, ev, blocks_grows N tree tree' p w l g u v bl)
                 pick (yes e) (yes z) = absurd (f (z, sym eu ∙ ap slot e))
                 pick (yes e) (no z) =
                     let h = heir_exists N law l (omega arith) in
@@ -223,7 +217,7 @@ module _ (N : Net) (law : IsLawful N) (b : ℕ) (s s' : State N) (tree tree' : T
         go (inl bf) = inl (stays u v nu ou bf)
         go (inr (x, ox, bx, bf)) =
             let nx : x ≢ p = λ e. nothing_blocks N b s tree slot p u m unblocked open_p ou (subst (Blocks N tree u) e bx) in
-            inr (x, keeps_open x ox nx, grows u x bx, stays x v nx ox bf)
+            inr (x, keeps_open x ox nx, blocks_grows N tree tree' p w l g u x bx, stays x v nx ox bf)
 
     new_old : (i : ℕ) (v : Address) → i < n → IsOld v → Blocks N tree p v → Complete (i ∷ p) v
     new_old i v h (nv, ov) bl = go (m.complete p v open_p ov bl)

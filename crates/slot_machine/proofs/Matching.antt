@@ -2,16 +2,16 @@
 use Rattle.std.proofs.Common.{ℕ, ◌≡◌, ◌≢◌, ◌≤◌, ◌⊎◌, ◌↔◌, inl, inr, List, [], ◌∷◌, Option, Some, None, option_map, refl, ap, subst, ◌∙◌, Contains}
 use Rattle.task_networks.specs.Net.{Net}
 use Rattle.task_networks.specs.Lawful.{IsLawful}
-use Rattle.task_networks.specs.Tree.{at, Tree, Address, label_at, label, waits, IsOpen, ran, used, Label, IsAddress, IsBelow, IsProcessed}
+use Rattle.task_networks.specs.Tree.{at, Tree, Address, label_at, label, waits, IsOpen, ran, used, Label, IsAddress, IsAbove, IsProcessed}
 use Rattle.task_networks.specs.Schedule.{Blocks, IsSchedule, IsDue, IsBegun}
 use Rattle.task_networks.proofs.Nodes.{parent}
-use Rattle.slot_machine.specs.Machine.{State, IsUnblocked}
+use Rattle.slot_machine.specs.Machine.{SlotState, IsUnblocked}
 use Rattle.slot_machine.proofs.AtLabel.{not-blocks_itself}
 use Rattle.slot_machine.proofs.FrontSteps.{blocks_back, blocks_grows, open_apart, address_back}
 use Rattle.slot_machine.proofs.Growth.{IsGrowth, place}
 
 module _ (N : Net) where
-  pub record Matches (b : ℕ) (s : State N) (tree : Tree N) (slot : Address → ℕ) : Type 0 where
+  pub record Matches (b : ℕ) (s : SlotState N) (tree : Tree N) (slot : Address → ℕ) : Type 0 where
     pub holds : (x : ℕ) (w : N.Work) → s.holds x w ↔ ((q : Address) × (label_at N tree q ≡ Some (waits w)) × (slot q ≡ x))
     pub free : (x : ℕ) → s.free x ↔ ((1 ≤ x) × (x ≤ b) × ((q : Address) → IsOpen N tree q → slot q ≡ x → ⊥))
     pub range : (q : Address) → IsOpen N tree q → (1 ≤ slot q) × (slot q ≤ b)
@@ -19,7 +19,7 @@ module _ (N : Net) where
     pub sound : (x y : ℕ) → s.before x y → (u : Address) × (v : Address) × IsOpen N tree u × IsOpen N tree v × (slot u ≡ x) × (slot v ≡ y) × Blocks N tree u v
     pub complete : (u v : Address) → IsOpen N tree u → IsOpen N tree v → Blocks N tree u v → s.before (slot u) (slot v) ⊎ ((x : Address) × IsOpen N tree x × Blocks N tree u x × s.before (slot x) (slot v))
 
-  pub nothing_blocks : (b : ℕ) (s : State N) (tree : Tree N) (slot : Address → ℕ) (p u : Address) → Matches b s tree slot → IsUnblocked N s (slot p) → IsOpen N tree p → IsOpen N tree u → Blocks N tree u p → ⊥
+  pub nothing_blocks : (b : ℕ) (s : SlotState N) (tree : Tree N) (slot : Address → ℕ) (p u : Address) → Matches b s tree slot → IsUnblocked N s (slot p) → IsOpen N tree p → IsOpen N tree u → Blocks N tree u p → ⊥
   nothing_blocks b s tree slot p u m unblocked op ou bl = elim (m.complete u p ou op bl) [ inl x ↦ unblocked (slot u) x | inr x ↦ unblocked (slot x.0) x.3 ]
 
   -- the parent of an address is a split
@@ -30,7 +30,12 @@ module _ (N : Net) where
       go None f c = absurd cc
       go (Some t) f c = let h = parent N tree i q t f in (h.0, ap (option_map (label N)) h.2)
 
-  module _ (law : IsLawful N) (b : ℕ) (s : State N) (tree tree' : Tree N) (p : Address) (w : N.Work) (l : Label N) (g : IsGrowth N tree tree' p w l) (slot : Address → ℕ) (m : Matches b s tree slot) where
+  -- the parent of an open leaf is taken, or there is none
+  pub open_begun : (tree : Tree N) (order : List Address) (u : Address) (w : N.Work) → IsSchedule N tree order → label_at N tree u ≡ Some (waits w) → IsBegun order u
+  open_begun tree order [] w s e = tt
+  open_begun tree order (i ∷ q) w s e = let h = parent_used tree i q (waits w) e in (s.covers q).1 (used h.0, h.1, tt)
+
+  module _ (law : IsLawful N) (b : ℕ) (s : SlotState N) (tree tree' : Tree N) (p : Address) (w : N.Work) (l : Label N) (g : IsGrowth N tree tree' p w l) (slot : Address → ℕ) (m : Matches b s tree slot) where
     open_p : IsOpen N tree p
     open_p = (w, g.was)
 
@@ -47,7 +52,7 @@ module _ (N : Net) where
     up k [] a bl = bl
     up k (j ∷ q) a (n, i, e, h, c) = (n, i, e, h, go c)
       where
-        go : (i ∷ q ≡ k ∷ p) ⊎ IsBelow (i ∷ q) p → IsBelow (i ∷ q) p
+        go : (i ∷ q ≡ k ∷ p) ⊎ IsAbove (i ∷ q) p → IsAbove (i ∷ q) p
         go (inl x) = absurd (parent_apart j q a (let y : q ≡ p = cc in y))
         go (inr x) = x
 
@@ -55,14 +60,11 @@ module _ (N : Net) where
     down k [] bl = bl
     down k (j ∷ q) (n, i, e, h, c) = (n, i, e, h, inr c)
 
-    grows : (u v : Address) → Blocks N tree u v → Blocks N tree' u v
-    grows u v bl = blocks_grows N tree tree' p w l g u v bl
-
     pub due_unblocked : (order : List Address) → IsSchedule N tree order → IsDue N tree' order p → IsUnblocked N s (slot p)
     due_unblocked order sc d x bf =
         let (u, v, ou, ov, eu, ev, bl) = m.sound x (slot p) bf in
         let e : v ≡ p = m.apart v p ov open_p ev in
-        let c : Contains order u = d.clear u (go u ou) (grows u p (subst (Blocks N tree u) e bl)) in
+        let c : Contains order u = d.clear u (go u ou) (blocks_grows N tree tree' p w l g u p (subst (Blocks N tree u) e bl)) in
         open_apart N tree u ou ((sc.covers u).0 c)
       where
         go : (u : Address) → IsOpen N tree u → IsAddress N tree' u
@@ -78,12 +80,8 @@ module _ (N : Net) where
     is_open (used n) u e = inr (used n, e, tt)
 
     pub unblocked_due : (order : List Address) → IsSchedule N tree order → IsUnblocked N s (slot p) → IsDue N tree' order p
-    unblocked_due order sc unblocked = record { fresh = λ c. open_apart N tree p open_p ((sc.covers p).0 c); begun = begun p g.was; clear = λ u a bl. clear u (address_back N tree tree' p w l g u a) bl }
+    unblocked_due order sc unblocked = record { fresh = λ c. open_apart N tree p open_p ((sc.covers p).0 c); begun = open_begun tree order p w sc g.was; clear = λ u a bl. clear u (address_back N tree tree' p w l g u a) bl }
       where
-        begun : (q : Address) → label_at N tree q ≡ Some (waits w) → IsBegun order q
-        begun [] e = tt
-        begun (i ∷ q) e = let h = parent_used tree i q (waits w) e in (sc.covers q).1 (used h.0, h.1, tt)
-
         clear : (u : Address) → IsAddress N tree u ⊎ ((i : ℕ) × (u ≡ i ∷ p)) → Blocks N tree' u p → Contains order u
         clear u (inl (k, e)) bl = elim (is_open k u e) [ inl o ↦ absurd (nothing_blocks b s tree slot p u m unblocked open_p o (back u p (waits w, g.was) bl)) | inr o ↦ (sc.covers u).1 o ]
         clear u (inr (i, e)) bl = absurd (not-blocks_itself N law tree p (up i p (waits w, g.was) (subst (λ x. Blocks N tree x p) e (back u p (waits w, g.was) bl))))

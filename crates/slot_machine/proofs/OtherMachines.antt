@@ -4,13 +4,13 @@ use Rattle.task_networks.specs.Net.{Net}
 use Rattle.task_networks.specs.Lawful.{IsLawful}
 use Rattle.task_networks.specs.Spelling.{Act}
 use Rattle.task_networks.proofs.Lists.{cut_push, by_push}
-use Rattle.slot_machine.specs.Machine.{State, Runs, start, end_of, May}
+use Rattle.slot_machine.specs.Machine.{SlotState, Runs, start, end_of, May}
 use Rattle.slot_machine.specs.Laws.{SpellsFront}
 use Rattle.slot_machine.specs.OtherMachine.{AgreesAtFronts, TakesAll, AreSame}
 use Rattle.slot_machine.proofs.RunSpellings.{spells_from_runs, runs_iff_spells}
 use Rattle.slot_machine.proofs.SpellingRuns.{runs_push, runs_back, end-push}
 
-module _ (N : Net) (law : IsLawful N) (read : List (Act N) → State N) (Takes : List (Act N) → Act N → Type 0) (b : ℕ) (top : N.Work) (positive : 1 ≤ b) (agrees : AgreesAtFronts N read Takes b top) where
+module _ (N : Net) (law : IsLawful N) (read : List (Act N) → SlotState N) (Takes : List (Act N) → Act N → Type 0) (b : ℕ) (top : N.Work) (positive : 1 ≤ b) (agrees : AgreesAtFronts N read Takes b top) where
   takes_push : (acts : List (Act N)) (a : Act N) → TakesAll N Takes (acts ++ a ∷ []) ↔ (TakesAll N Takes acts × Takes acts a)
   takes_push acts a = (
     λ t. (λ taken rest c e. t taken (rest ++ a ∷ []) c (ap (λ x. x ++ a ∷ []) e ∙ append_assoc taken (c ∷ rest) (a ∷ [])), t acts [] a refl),
@@ -35,7 +35,7 @@ module _ (N : Net) (law : IsLawful N) (read : List (Act N) → State N) (Takes :
       one_more : (acts : List (Act N)) (a : Act N) → Same acts → Same (acts ++ a ∷ [])
       one_more acts a (runs, alike) = ((to, from), after')
         where
-          s : State N
+          s : SlotState N
           s = end_of N (start N b top) acts
 
           front : Runs N (start N b top) acts → SpellsFront N b top acts

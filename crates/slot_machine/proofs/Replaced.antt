@@ -1,9 +1,9 @@
 -- A subtree is put in the place of another.
 use Rattle.std.proofs.Common.{ℕ, zero, suc, ◌≡◌, ◌≢◌, ◌⊎◌, inl, inr, [], ◌∷◌, Option, Some, None, option_map, option_and_then, refl, ap, sym, subst, ◌∙◌}
 use Rattle.task_networks.specs.Net.{Net}
-use Rattle.task_networks.specs.Tree.{Trees, Tree, none, more, open_leaf, done, split, Address, at, child_at, work_of, works_of, AreGrown, IsGrown, IsBelow, children_of, label, label_at}
+use Rattle.task_networks.specs.Tree.{Trees, Tree, none, more, open_leaf, done, split, Address, at, child_at, work_of, works_of, AreGrown, IsGrown, IsAbove, children_of, label, label_at}
 use Rattle.task_networks.proofs.Addresses.{is_below, below_cases}
-use Rattle.task_networks.proofs.Nodes.{parent, child_below}
+use Rattle.task_networks.proofs.Nodes.{parent, child_below, grown_at}
 
 module _ (N : Net) where
   abbrev pub set_child : Trees N → ℕ → Tree N → Trees N
@@ -54,15 +54,6 @@ module _ (N : Net) where
   set-set (more u ts) zero r s = refl
   set-set (more u ts) (suc i) r s = ap (more u) (set-set ts i r s)
 
-  child_grown : (ts : Trees N) (i : ℕ) (t : Tree N) → AreGrown N ts → child_at N ts i ≡ Some t → IsGrown N t
-  child_grown none i t g e = absurd cc
-  child_grown (more u ts) zero t g e = let f : u ≡ t = cc in subst (IsGrown N) f g.0
-  child_grown (more u ts) (suc i) t g e = child_grown ts i t g.1 e
-
-  pub grown_at : (tree : Tree N) (p : Address) (t : Tree N) → IsGrown N tree → at N tree p ≡ Some t → IsGrown N t
-  grown_at tree [] t g e = let f : tree ≡ t = cc in subst (IsGrown N) f g
-  grown_at tree (i ∷ p) t g e = let u = parent N tree i p t e in child_grown u.1 i t (grown_at tree p (split u.0 u.1) g u.2).2 u.3
-
   put_step : (tree : Tree N) (i : ℕ) (p : Address) (m : N.Method) (ts : Trees N) (s : Tree N) → at N tree p ≡ Some (split m ts) → put tree (i ∷ p) s ≡ put tree p (split m (set_child ts i s))
   put_step tree i p m ts s e = ap (λ o. put tree p (replaced o i s)) e
 
@@ -95,20 +86,20 @@ module _ (N : Net) where
   grown-put tree [] t s e g h w = let f : tree ≡ t = cc in (h, w ∙ ap (work_of N) (sym f))
   grown-put tree (i ∷ p) t s e g h w =
       let u = parent N tree i p t e in
-      let k = grown_at tree p (split u.0 u.1) g u.2 in
+      let k = grown_at N tree p (split u.0 u.1) g u.2 in
       let r = grown-put tree p (split u.0 u.1) (split u.0 (set_child u.1 i s)) u.2 g (k.0, works-set u.1 i t s u.3 w ∙ k.1, grown-set u.1 i s k.2 h) refl in
       subst (λ x. IsGrown N x × (work_of N x ≡ work_of N tree)) (sym (put_step tree i p u.0 u.1 s u.2)) r
 
   -- what is at a node decides what is below it
-  below_same : (tree tree' : Tree N) (p q : Address) → at N tree' p ≡ at N tree p → IsBelow p q → at N tree' q ≡ at N tree q
+  below_same : (tree tree' : Tree N) (p q : Address) → at N tree' p ≡ at N tree p → IsAbove p q → at N tree' q ≡ at N tree q
   below_same tree tree' p [] e b = subst (λ x. at N tree' x ≡ at N tree x) b e
   below_same tree tree' p (k ∷ q) e (inl b) = subst (λ x. at N tree' x ≡ at N tree x) b e
   below_same tree tree' p (k ∷ q) e (inr b) = ap (option_and_then (λ u. child_at N (children_of N u) k)) (below_same tree tree' p q e b)
 
-  pub label-put_other : (tree : Tree N) (p : Address) (t s : Tree N) → at N tree p ≡ Some t → (q : Address) → (IsBelow p q → ⊥) → label_at N (put tree p s) q ≡ label_at N tree q
+  pub label-put_other : (tree : Tree N) (p : Address) (t s : Tree N) → at N tree p ≡ Some t → (q : Address) → (IsAbove p q → ⊥) → label_at N (put tree p s) q ≡ label_at N tree q
   label-put_other tree [] t s e q n = absurd (n (all_below q))
     where
-      all_below : (q : Address) → IsBelow [] q
+      all_below : (q : Address) → IsAbove [] q
       all_below [] = refl
       all_below (k ∷ q) = inr (all_below q)
   label-put_other tree (i ∷ p) t s e q n = subst (λ x. label_at N x q ≡ label_at N tree q) (sym (put_step tree i p u.0 u.1 s u.2)) (go (is_below p q) (label-put_other tree p (split u.0 u.1) s' u.2 q))
@@ -122,13 +113,13 @@ module _ (N : Net) where
       h : at N (put tree p s') p ≡ Some s'
       h = at-put_same tree p (split u.0 u.1) s' u.2
 
-      side : (q ≡ p) ⊎ ((k : ℕ) × IsBelow (k ∷ p) q) → label_at N (put tree p s') q ≡ label_at N tree q
+      side : (q ≡ p) ⊎ ((k : ℕ) × IsAbove (k ∷ p) q) → label_at N (put tree p s') q ≡ label_at N tree q
       side (inl f) = subst (λ x. label_at N (put tree p s') x ≡ label_at N tree x) (sym f) (ap (option_map (label N)) h ∙ sym (ap (option_map (label N)) u.2))
       side (inr (k, b)) =
-          let d : k ≢ i = λ f. n (subst (λ x. IsBelow (x ∷ p) q) f b) in
+          let d : k ≢ i = λ f. n (subst (λ x. IsAbove (x ∷ p) q) f b) in
           let c : at N (put tree p s') (k ∷ p) ≡ at N tree (k ∷ p) = child_below N (put tree p s') k p u.0 (set_child u.1 i s) h ∙ child-set_other u.1 i k s d ∙ sym (child_below N tree k p u.0 u.1 u.2) in
           ap (option_map (label N)) (below_same tree (put tree p s') (k ∷ p) q c b)
 
-      go : Dec (IsBelow p q) → ((IsBelow p q → ⊥) → label_at N (put tree p s') q ≡ label_at N tree q) → label_at N (put tree p s') q ≡ label_at N tree q
+      go : Dec (IsAbove p q) → ((IsAbove p q → ⊥) → label_at N (put tree p s') q ≡ label_at N tree q) → label_at N (put tree p s') q ≡ label_at N tree q
       go (no d) ih = ih d
       go (yes b) ih = side (below_cases p q b)

@@ -10,7 +10,7 @@ use Rattle.task_networks.specs.Pending.{AreDifferent}
 use Rattle.task_networks.specs.Spelling.{Act, run, apply, Spells, IsAct, others, label_of}
 use Rattle.task_networks.proofs.Addresses.{is_same_address}
 use Rattle.task_networks.proofs.Lists.{by_push}
-use Rattle.slot_machine.specs.Machine.{State, with_heir, IsUnblocked, May, insert_at, after, Runs, start, end_of}
+use Rattle.slot_machine.specs.Machine.{SlotState, with_heir, IsUnblocked, May, insert_at, after_act, Runs, start, end_of}
 use Rattle.slot_machine.proofs.AtLabel.{heir_of}
 use Rattle.slot_machine.proofs.Growth.{child_works, leaf_at, IsGrowth}
 use Rattle.slot_machine.proofs.Inserts.{length-insert_at, different-insert_at, at-insert_at, insert_cases}
@@ -54,7 +54,7 @@ module _ (N : Net) where
   abbrev pub Agree : Tree N → (Address → ℕ) → (Address → ℕ) → Type 0
   Agree tree f g = (q : Address) → IsAddress N tree q → g q ≡ f q
 
-  pub matches_agree : (b : ℕ) (s : State N) (tree : Tree N) (f g : Address → ℕ) → Agree tree f g → Matches N b s tree f → Matches N b s tree g
+  pub matches_agree : (b : ℕ) (s : SlotState N) (tree : Tree N) (f g : Address → ℕ) → Agree tree f g → Matches N b s tree f → Matches N b s tree g
   matches_agree b s tree f g a m = record {
     holds = λ x w. (λ h. (let (q, e, k) = (m.holds x w).0 h in (q, e, a q (waits w, e) ∙ k)), λ h. (m.holds x w).1 (h.0, h.1, sym (a h.0 (waits w, h.1)) ∙ h.2));
     free = λ x. (λ h. (let r = (m.free x).0 h in (r.0, r.1, λ q o e. r.2 q o (sym (agree q o) ∙ e))), λ h. (m.free x).1 (h.0, h.1, λ q o e. h.2 q o (agree q o ∙ e)));
@@ -90,7 +90,7 @@ module _ (N : Net) where
         act q (apply h new m) (x, y, z) = (x, y ∙ sym (a q (used m, x)), z ∙ map_same (λ i. f (i ∷ q)) (λ i. g (i ∷ q)) (others N m) (λ i o. sym (a (i ∷ q) (child_address N tree q m i s.front.grown x ((rest_cases (N.heir m) (count N m) i).0 o).0))))
 
     -- what a step asks
-    pub record Asks (s : State N) (e : Act N) : Type 0 where
+    pub record Asks (s : SlotState N) (e : Act N) : Type 0 where
       pub holds : s.holds (slot_of N e) (work_at N (label_of N e))
       pub legal : IsLegal N (label_of N e)
       pub unblocked : IsUnblocked N s (slot_of N e)
@@ -98,7 +98,7 @@ module _ (N : Net) where
       pub free : (i : ℕ) → i < length (child_works N (label_of N e)) → (heir_of N (label_of N e) ≡ Some i → ⊥) → s.free (slice_index (slots_of e) i)
       pub apart : (i j : ℕ) → i < length (child_works N (label_of N e)) → j < length (child_works N (label_of N e)) → (heir_of N (label_of N e) ≡ Some i → ⊥) → (heir_of N (label_of N e) ≡ Some j → ⊥) → slice_index (slots_of e) i ≡ slice_index (slots_of e) j → i ≡ j
 
-    asks : (s : State N) (tree : Tree N) (f : Address → ℕ) → Matches N b s tree f → (e : Act N) → May N s e → Asks s e
+    asks : (s : SlotState N) (tree : Tree N) (f : Address → ℕ) → Matches N b s tree f → (e : Act N) → May N s e → Asks s e
     asks s tree f mt (run h w) m = record { holds = m.holds; legal = m.simple; unblocked = m.unblocked; heirs = λ i e. absurd cc; free = λ i r. (absurd (omega arith)); apart = λ i j r. (absurd (omega arith)) }
     asks s tree f mt (apply h new n) m = go (N.heir n) refl m.enough
       where
@@ -144,14 +144,14 @@ module _ (N : Net) where
               | inr c ↦ m.free (slice_index all i) c
             ]
 
-    act_from : (s : State N) (e : Act N) (tree : Tree N) (slot : Address → ℕ) (p : Address) → May N s e → Asks s e → label_at N tree p ≡ Some (label_of N e) → slot_of N e ≡ slot p → ((i : ℕ) → slot (i ∷ p) ≡ slice_index (slots_of e) i) → IsAct N tree slot p e
+    act_from : (s : SlotState N) (e : Act N) (tree : Tree N) (slot : Address → ℕ) (p : Address) → May N s e → Asks s e → label_at N tree p ≡ Some (label_of N e) → slot_of N e ≡ slot p → ((i : ℕ) → slot (i ∷ p) ≡ slice_index (slots_of e) i) → IsAct N tree slot p e
     act_from s (run h w) tree slot p m ask a c k = (a, c)
     act_from s (apply h new n) tree slot p m ask a c k = (a, c, others_only N law n (λ i. slot (i ∷ p)) h (λ i e. k i ∙ ask.heirs i e) new m.enough (λ i r. k i))
 
     abbrev pub Fronts : List (Act N) → Type 0
     Fronts acts = (tree : Tree N) × (order : List Address) × (slot : Address → ℕ) × Spells N b top acts tree order slot
 
-    pub step_at : (acts : List (Act N)) (e : Act N) (s : State N) (tree : Tree N) (order : List Address) (f : Address → ℕ) → Spells N b top acts tree order f → Matches N b s tree f → May N s e → (p : Address) → label_at N tree p ≡ Some (waits (work_at N (label_of N e))) → f p ≡ slot_of N e → (g : Address → ℕ) × Spells N b top (acts ++ e ∷ []) (put N tree p (tree_of N (label_of N e))) (order ++ p ∷ []) g
+    pub step_at : (acts : List (Act N)) (e : Act N) (s : SlotState N) (tree : Tree N) (order : List Address) (f : Address → ℕ) → Spells N b top acts tree order f → Matches N b s tree f → May N s e → (p : Address) → label_at N tree p ≡ Some (waits (work_at N (label_of N e))) → f p ≡ slot_of N e → (g : Address → ℕ) × Spells N b top (acts ++ e ∷ []) (put N tree p (tree_of N (label_of N e))) (order ++ p ∷ []) g
     step_at acts e s tree order f sp m my p was h = go p was h
       where
         l : Label N
@@ -208,15 +208,15 @@ module _ (N : Net) where
             heirs : (i : ℕ) → heir_of N l ≡ Some i → g (i ∷ p) ≡ g p
             heirs i x = child i ∙ ask.heirs i x ∙ own
 
-            after' : Matches N b (after N s e) tree' g
-            after' = keeps N law b s (after N s e) tree tree' p w l gr g m' unblocked (is_after N law b s tree tree' p g e gr m' unblocked act heirs
+            after' : Matches N b (after_act N s e) tree' g
+            after' = keeps N law b s (after_act N s e) tree tree' p w l gr g m' unblocked (is_after N law b s tree tree' p g e gr m' unblocked act heirs
                 (λ i r n. subst s.free (sym (child i)) (ask.free i r n))
                 (λ i j r q n k x. ask.apart i j r q n k (sym (child i) ∙ x ∙ child j)))
 
             range : (i : ℕ) → i < length (child_works N l) → (1 ≤ g (i ∷ p)) × (g (i ∷ p) ≤ b)
             range i r = after'.range (i ∷ p) (get_or (child_works N l) i w, gr.children i ∙ ap (option_map waits) (slice_get-get_or (child_works N l) i w r))
 
-    step_forth : (acts : List (Act N)) (e : Act N) (s : State N) (tree : Tree N) (order : List Address) (f : Address → ℕ) → Spells N b top acts tree order f → Matches N b s tree f → May N s e → Fronts (acts ++ e ∷ [])
+    step_forth : (acts : List (Act N)) (e : Act N) (s : SlotState N) (tree : Tree N) (order : List Address) (f : Address → ℕ) → Spells N b top acts tree order f → Matches N b s tree f → May N s e → Fronts (acts ++ e ∷ [])
     step_forth acts e s tree order f sp m my =
         let (p, was, h) = (m.holds (slot_of N e) (work_at N (label_of N e))).0 (asks s tree f m e my).holds in
         let r = step_at acts e s tree order f sp m my p was h in

@@ -13,13 +13,14 @@ use Rattle.task_networks.specs.Pending.{AreDifferent, IsWithin, IsPending}
 use Rattle.task_networks.specs.Spelling.{others, Act, label_of, run, apply, Spells}
 use Rattle.task_networks.proofs.Different.{different_append, different_without, within_whole, without_cases, length_whole}
 use Rattle.task_networks.proofs.Lists.{not-in_empty, head_or_tail, Contains-later, cut_at, by_push}
-use Rattle.slot_machine.specs.Machine.{State, IsUnblocked, May, end_of, start}
+use Rattle.slot_machine.specs.Machine.{SlotState, IsUnblocked, May, end_of, start}
 use Rattle.slot_machine.proofs.FrontSteps.{taken_apart, child_waits, last_children_wait, schedule_back}
 use Rattle.slot_machine.proofs.Growth.{leaves, IsGrowth, child_works, place}
 use Rattle.slot_machine.proofs.LabelTrees.{work_at, IsLegal, untaken, leaf_only, tree_of, tree_at, growth_from, work-tree_of, grown_legal}
 use Rattle.slot_machine.proofs.Matching.{Matches, due_unblocked}
 use Rattle.slot_machine.proofs.OtherChildren.{Contains-map, rest_of, length-rest}
-use Rattle.slot_machine.proofs.Replaced.{put, grown-put, put-put, put_back, grown_at}
+use Rattle.task_networks.proofs.Nodes.{grown_at}
+use Rattle.slot_machine.proofs.Replaced.{put, grown-put, put-put, put_back}
 use Rattle.slot_machine.proofs.RunSpellings.{spells_none, step_at}
 use Rattle.slot_machine.proofs.SpellingRuns.{runs_from_spells}
 use Rattle.slot_machine.proofs.SpellingSteps.{slot_of, pending_grows, open_pending}
@@ -97,7 +98,7 @@ module _ (N : Net) (law : IsLawful N) (b : ℕ) (top : N.Work) where
       from q (inr (inr (x, y))) (v, f) = elim (without_cases xs p ys q ((s.lists q).1 (v, sym (g.others q x y) ∙ f))) [ inl e ↦ absurd (x (sym e)) | inr c ↦ Contains-append_right new (xs ++ ys) q c ]
 
   -- an entry for a step, where enough slots are free
-  some_act : (s : State N) (tree : Tree N) (f : Address → ℕ) (p : Address) (leaves : List Address) (l : Label N) → Matches N b s tree f → Listing tree leaves → label_at N tree p ≡ Some (waits (work_at N l)) → IsUnblocked N s (f p) → IsLegal N l → IsTaken N l → length (child_works N l) + length leaves ≤ suc b → (e : Act N) × (label_of N e ≡ l) × (slot_of N e ≡ f p) × May N s e
+  some_act : (s : SlotState N) (tree : Tree N) (f : Address → ℕ) (p : Address) (leaves : List Address) (l : Label N) → Matches N b s tree f → Listing tree leaves → label_at N tree p ≡ Some (waits (work_at N l)) → IsUnblocked N s (f p) → IsLegal N l → IsTaken N l → length (child_works N l) + length leaves ≤ suc b → (e : Act N) × (label_of N e ≡ l) × (slot_of N e ≡ f p) × May N s e
   some_act s tree f p leaves (waits w) m ls was unblocked legal t h = absurd t
   some_act s tree f p leaves (ran w) m ls was unblocked legal t h = (run (f p) w, refl, refl, record { holds = (m.holds (f p) w).1 (p, was, refl); simple = legal; unblocked = unblocked })
   some_act s tree f p leaves (used n) m ls was unblocked legal t h = go (N.heir n) refl

@@ -9,7 +9,7 @@ use Rattle.task_networks.specs.Schedule.{IsDue, Blocks}
 use Rattle.task_networks.specs.Pending.{AreDifferent}
 use Rattle.task_networks.specs.Spelling.{Act, label_of, Spells, IsAct, AreActs, run, apply, numbers, others}
 use Rattle.task_networks.proofs.Lists.{by_push}
-use Rattle.slot_machine.specs.Machine.{State, Runs, May, end_of, after, with_heir, IsUnblocked, IsSlotOf, start}
+use Rattle.slot_machine.specs.Machine.{SlotState, Runs, May, end_of, after_act, with_heir, IsUnblocked, IsSlotOf, start}
 use Rattle.slot_machine.proofs.AtLabel.{heir_of, heir_exists, heir_within}
 use Rattle.slot_machine.proofs.FrontSteps.{schedule_back, last_children_wait}
 use Rattle.slot_machine.proofs.Growth.{IsGrowth, child_works, place}
@@ -17,7 +17,8 @@ use Rattle.slot_machine.proofs.KeepsMatching.{IsAfter, keeps}
 use Rattle.slot_machine.proofs.LabelTrees.{work_at, tree_of, IsLegal, grown_legal, tree_at, growth_from, work-tree_of, leaf_only, untaken}
 use Rattle.slot_machine.proofs.Matching.{Matches, due_unblocked}
 use Rattle.slot_machine.proofs.OtherChildren.{with-heir_others, get_number, map_cases, rest_cases, different-map, different_rest}
-use Rattle.slot_machine.proofs.Replaced.{put, grown_at, grown-put}
+use Rattle.task_networks.proofs.Nodes.{grown_at}
+use Rattle.slot_machine.proofs.Replaced.{put, grown-put}
 use Rattle.slot_machine.proofs.SpellingSteps.{acts_last, spells_back, label_taken, act_label, open_slots_apart, no_acts}
 
 module _ (N : Net) where
@@ -74,28 +75,28 @@ module _ (N : Net) where
           r = grown-put N tree' p (tree_of N l) (open_leaf w) a s.front.grown tt (sym (work-tree_of N l))
 
   -- runs, from the end
-  pub runs_push : (s : State N) (acts : List (Act N)) (e : Act N) → Runs N s acts → May N (end_of N s acts) e → Runs N s (acts ++ e ∷ [])
+  pub runs_push : (s : SlotState N) (acts : List (Act N)) (e : Act N) → Runs N s acts → May N (end_of N s acts) e → Runs N s (acts ++ e ∷ [])
   runs_push s [] e r m = (m, tt)
-  runs_push s (d ∷ acts) e r m = (r.0, runs_push (after N s d) acts e r.1 m)
+  runs_push s (d ∷ acts) e r m = (r.0, runs_push (after_act N s d) acts e r.1 m)
 
-  pub runs_back : (s : State N) (acts : List (Act N)) (e : Act N) → Runs N s (acts ++ e ∷ []) → Runs N s acts × May N (end_of N s acts) e
+  pub runs_back : (s : SlotState N) (acts : List (Act N)) (e : Act N) → Runs N s (acts ++ e ∷ []) → Runs N s acts × May N (end_of N s acts) e
   runs_back s [] e r = (tt, r.0)
-  runs_back s (d ∷ acts) e r = let h = runs_back (after N s d) acts e r.1 in ((r.0, h.0), h.1)
+  runs_back s (d ∷ acts) e r = let h = runs_back (after_act N s d) acts e r.1 in ((r.0, h.0), h.1)
 
-  pub end-push : (s : State N) (acts : List (Act N)) (e : Act N) → end_of N s (acts ++ e ∷ []) ≡ after N (end_of N s acts) e
+  pub end-push : (s : SlotState N) (acts : List (Act N)) (e : Act N) → end_of N s (acts ++ e ∷ []) ≡ after_act N (end_of N s acts) e
   end-push s [] e = refl
-  end-push s (d ∷ acts) e = end-push (after N s d) acts e
+  end-push s (d ∷ acts) e = end-push (after_act N s d) acts e
 
   -- the slots that an act names are those of the children
   pub act_slots : (law : IsLawful N) (tree : Tree N) (slot : Address → ℕ) (p : Address) (h : ℕ) (new : List ℕ) (m : N.Method) → ((i : ℕ) → N.heir m ≡ Some i → slot (i ∷ p) ≡ slot p) → IsAct N tree slot p (apply h new m) → with_heir (N.heir m) h new ≡ map (λ i. slot (i ∷ p)) (numbers 0 (count N m))
   act_slots law tree slot p h new m heirs (a, c, d) = ap (with_heir (N.heir m) h) d ∙ with-heir_others N law m (λ i. slot (i ∷ p)) h (λ k e. heirs k e ∙ sym c)
 
-  module _ (law : IsLawful N) (b : ℕ) (s : State N) (tree tree' : Tree N) (p : Address) (slot : Address → ℕ) where
+  module _ (law : IsLawful N) (b : ℕ) (s : SlotState N) (tree tree' : Tree N) (p : Address) (slot : Address → ℕ) where
     pub is_after : (e : Act N) (g : IsGrowth N tree tree' p (work_at N (label_of N e)) (label_of N e)) (m : Matches N b s tree slot) (unblocked : IsUnblocked N s (slot p)) → IsAct N tree' slot p e
         → ((i : ℕ) → heir_of N (label_of N e) ≡ Some i → slot (i ∷ p) ≡ slot p)
         → ((i : ℕ) → i < length (child_works N (label_of N e)) → (heir_of N (label_of N e) ≡ Some i → ⊥) → s.free (slot (i ∷ p)))
         → ((i j : ℕ) → i < length (child_works N (label_of N e)) → j < length (child_works N (label_of N e)) → (heir_of N (label_of N e) ≡ Some i → ⊥) → (heir_of N (label_of N e) ≡ Some j → ⊥) → slot (i ∷ p) ≡ slot (j ∷ p) → i ≡ j)
-        → IsAfter N law b s (after N s e) tree tree' p (work_at N (label_of N e)) (label_of N e) g slot m unblocked
+        → IsAfter N law b s (after_act N s e) tree tree' p (work_at N (label_of N e)) (label_of N e) g slot m unblocked
     is_after (run h w) g m unblocked (a, c) heir_slots was_free new_apart = record {
       heirs = heir_slots;
       was_free = was_free;
@@ -122,12 +123,12 @@ module _ (N : Net) where
         child : (i x : ℕ) → IsSlotOf N h new n i x ↔ ((i < count N n) × (x ≡ slot (i ∷ p)))
         child i x = subst (λ z. (slice_get z i ≡ Some x) ↔ ((i < count N n) × (x ≡ slot (i ∷ p)))) (sym (act_slots law tree' slot p h new n heir_slots (a, c, d))) (get_number (λ i. slot (i ∷ p)) (count N n) i x)
 
-        to : (x y : ℕ) → (after N s (apply h new n)).before x y → (s.before x y × ((count N n ≡ 0) × (x ≡ slot p) → ⊥)) ⊎ (((i : ℕ) × (j : ℕ) × N.Pair n i j × (x ≡ slot (i ∷ p)) × (y ≡ slot (j ∷ p))) ⊎ ((i : ℕ) × N.IsCopier n i × (x ≡ slot (i ∷ p)) × s.before (slot p) y))
+        to : (x y : ℕ) → (after_act N s (apply h new n)).before x y → (s.before x y × ((count N n ≡ 0) × (x ≡ slot p) → ⊥)) ⊎ (((i : ℕ) × (j : ℕ) × N.Pair n i j × (x ≡ slot (i ∷ p)) × (y ≡ slot (j ∷ p))) ⊎ ((i : ℕ) × N.IsCopier n i × (x ≡ slot (i ∷ p)) × s.before (slot p) y))
         to x y (inl z) = inl (z.0, λ f. z.1 (f.0, f.1 ∙ sym c))
         to x y (inr (inl (i, j, pr, ex, ey))) = inr (inl (i, j, pr, ((child i x).0 ex).1, ((child j y).0 ey).1))
         to x y (inr (inr (i, k, ex, bf))) = inr (inr (i, k, ((child i x).0 ex).1, subst (λ z. s.before z y) c bf))
 
-        from : (x y : ℕ) → (s.before x y × ((count N n ≡ 0) × (x ≡ slot p) → ⊥)) ⊎ (((i : ℕ) × (j : ℕ) × N.Pair n i j × (x ≡ slot (i ∷ p)) × (y ≡ slot (j ∷ p))) ⊎ ((i : ℕ) × N.IsCopier n i × (x ≡ slot (i ∷ p)) × s.before (slot p) y)) → (after N s (apply h new n)).before x y
+        from : (x y : ℕ) → (s.before x y × ((count N n ≡ 0) × (x ≡ slot p) → ⊥)) ⊎ (((i : ℕ) × (j : ℕ) × N.Pair n i j × (x ≡ slot (i ∷ p)) × (y ≡ slot (j ∷ p))) ⊎ ((i : ℕ) × N.IsCopier n i × (x ≡ slot (i ∷ p)) × s.before (slot p) y)) → (after_act N s (apply h new n)).before x y
         from x y (inl z) = inl (z.0, λ f. z.1 (f.0, f.1 ∙ c))
         from x y (inr (inl (i, j, pr, ex, ey))) = let r = law.pairs n i j pr in inr (inl (i, j, pr, (child i x).1 (r.0, ex), (child j y).1 (r.1, ey)))
         from x y (inr (inr (i, k, ex, bf))) = inr (inr (i, k, (child i x).1 (law.copier_is_child n i k, ex), subst (λ z. s.before z y) (sym c) bf))
@@ -153,10 +154,10 @@ module _ (N : Net) where
 
   module _ (law : IsLawful N) (b : ℕ) (top : N.Work) where
     -- what a step of a spelling is for the machine
-    step_back : (acts' : List (Act N)) (tree' : Tree N) (order : List Address) (p : Address) (slot : Address → ℕ) (s : State N) → Spells N b top acts' tree' (order ++ p ∷ []) slot → (d : LastStep b top acts' tree' order p slot) → Matches N b s d.tree slot → May N s d.act × Matches N b (after N s d.act) tree' slot
+    step_back : (acts' : List (Act N)) (tree' : Tree N) (order : List Address) (p : Address) (slot : Address → ℕ) (s : SlotState N) → Spells N b top acts' tree' (order ++ p ∷ []) slot → (d : LastStep b top acts' tree' order p slot) → Matches N b s d.tree slot → May N s d.act × Matches N b (after_act N s d.act) tree' slot
     step_back acts' tree' order p slot s sp d m = (
       may law b s d.tree tree' p slot d.act d.growth m unblocked d.is_act d.legal heirs was_free new_apart,
-      keeps N law b s (after N s d.act) d.tree tree' p w l d.growth slot m unblocked (is_after law b s d.tree tree' p slot d.act d.growth m unblocked d.is_act heirs was_free new_apart),
+      keeps N law b s (after_act N s d.act) d.tree tree' p w l d.growth slot m unblocked (is_after law b s d.tree tree' p slot d.act d.growth m unblocked d.is_act heirs was_free new_apart),
     )
       where
         l : Label N

@@ -12,7 +12,7 @@ use Rattle.task_networks.proofs.Lists.{Contains-here, Contains-later, cut_push_a
 use Rattle.slot_machine.proofs.AtLabel.{heir_of}
 use Rattle.slot_machine.proofs.FrontSteps.{open_apart, taken_apart, address_grows, address_back, schedule_grows, child_waits, used_back, used_grows, schedule_back}
 use Rattle.slot_machine.proofs.Growth.{IsGrowth, place, child_works}
-use Rattle.slot_machine.proofs.Matching.{parent_used}
+use Rattle.slot_machine.proofs.Matching.{open_begun}
 use Rattle.slot_machine.proofs.OtherChildren.{map_same}
 
 module _ (N : Net) where
@@ -61,11 +61,7 @@ module _ (N : Net) where
 
   -- after a whole schedule the open leaves are pending
   pub open_pending : (tree : Tree N) (order : List Address) (u : Address) → IsSchedule N tree order → IsOpen N tree u → IsPending N tree order u
-  open_pending tree order u s (w, e) = record { address = (waits w, e); begun = begun u e; left = λ c. open_apart N tree u (w, e) ((s.covers u).0 c) }
-    where
-      begun : (u : Address) → label_at N tree u ≡ Some (waits w) → IsBegun order u
-      begun [] e = tt
-      begun (i ∷ q) e = let h = parent_used N tree i q (waits w) e in (s.covers q).1 (used h.0, h.1, tt)
+  open_pending tree order u s (w, e) = record { address = (waits w, e); begun = open_begun N tree order u w s e; left = λ c. open_apart N tree u (w, e) ((s.covers u).0 c) }
 
   pub pending_open : (tree : Tree N) (order : List Address) (u : Address) → IsSchedule N tree order → IsPending N tree order u → IsOpen N tree u
   pending_open tree order u s d = go d.address.0 d.address.1

@@ -11,7 +11,7 @@ use Rattle.task_networks.proofs.Different.{no_more}
 use Rattle.task_networks.proofs.Lists.{Contains-later, Contains-here}
 use Rattle.task_networks.proofs.Nodes.{leaves_of}
 use Rattle.task_networks.proofs.Numbers.{length-numbers, to_numbers}
-use Rattle.slot_machine.specs.Machine.{State, end_of, start, IsUnblocked, May}
+use Rattle.slot_machine.specs.Machine.{SlotState, end_of, start, IsUnblocked, May}
 use Rattle.slot_machine.specs.Causes.{IsWaiting, IsNextAt, Can}
 use Rattle.slot_machine.specs.Laws.{RunsAreSpelledFronts, FrontIsTheOnlyOne, TestsTellCauses, StateTellsFront, FewPendingHaveSpellings, CausesAreSentences, labels, LabelsAreOfActs}
 use Rattle.slot_machine.specs.Reached.{Tells}
@@ -32,7 +32,7 @@ module _ (N : Net) (law : IsLawful N) where
   front_is_the_only_one b top acts t o f t' o' f' s s' = one_front N law b top acts t o f t' o' f' s s'
 
   module _ (b : ℕ) (top : N.Work) (acts : List (Act N)) (tree : Tree N) (order : List Address) (slot : Address → ℕ) (s : Spells N b top acts tree order slot) where
-    abbrev last : State N
+    abbrev last : SlotState N
     last = end_of N (start N b top) acts
 
     pub matches_spelling : Matches N b last tree slot

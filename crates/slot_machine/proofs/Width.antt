@@ -2,17 +2,17 @@
 use Rattle.std.proofs.Common.{ℕ, zero, suc, ◌≡◌, ◌+◌, ◌<◌, ◌≤◌, ◌⊎◌, inl, inr, List, [], ◌∷◌, ◌++◌, length, slice_get, filter, Bool, true, false, cond, Some, option_map, refl, ap, sym, subst, ◌∙◌, Contains, arith, append_assoc, length-append, add-le-add}
 use Rattle.std.proofs.lemmas.List.Elements.{Contains-append_left, filter-append}
 use Rattle.task_networks.specs.Net.{Net, count}
-use Rattle.task_networks.specs.Tree.{Tree, Address, IsAddress, open_leaf, done, split, Trees, none, more, at, IsBelow, waits, label, ran, child_at, used, work_of, works_of, IsGrown, AreGrown}
+use Rattle.task_networks.specs.Tree.{Tree, Address, IsAddress, open_leaf, done, split, Trees, none, more, at, IsAbove, waits, label, ran, child_at, used, work_of, works_of, IsGrown, AreGrown}
 use Rattle.task_networks.specs.Schedule.{Blocks, IsSchedule, IsDue}
-use Rattle.task_networks.specs.Pending.{is_among, is_pending, nodes_at, nodes_from, IsWithin}
+use Rattle.task_networks.specs.Pending.{IsWithin}
+use Rattle.task_networks.specs.PendingComputed.{is_listed, is_pending, nodes_at, nodes_from}
 use Rattle.task_networks.specs.Front.{IsFront}
-use Rattle.task_networks.specs.Bound.{itself, weight, weights, IsBound, IsReached, block_number, as_child}
+use Rattle.task_networks.specs.Bound.{itself, weight, weights, AreLargeEnough, IsReached, block_number, as_child}
 use Rattle.task_networks.proofs.Addresses.{below-itself, below_up}
 use Rattle.task_networks.proofs.BoundLaws.{by_size, enough_for_all, at_block, after_block}
 use Rattle.task_networks.proofs.Lists.{Contains-later, cut_at}
-use Rattle.task_networks.proofs.Nodes.{parent, child_below, below_children}
+use Rattle.task_networks.proofs.Nodes.{parent, child_below, below_children, grown_at}
 use Rattle.task_networks.proofs.PendingNodes.{to_among, among_to, pending_to, within_iff}
-use Rattle.slot_machine.proofs.Replaced.{grown_at}
 
 -- a front's taken nodes
 pub record IsClosed (N : Net) (tree : Tree N) (taken : List Address) : Type 0 where
@@ -24,42 +24,42 @@ module _ (N : Net) (block : N.Method → ℕ → ℕ) (number : N.Work → ℕ) 
     -- how many are pending at p or below
     abbrev mutual
       pub pending_below : Address → Tree N → ℕ
-      pending_below p (open_leaf w) = cond (is_among taken p) 0 1
-      pending_below p (done w) = cond (is_among taken p) 0 1
-      pending_below p (split m ts) = cond (is_among taken p) (pending_below_all p 0 ts) 1
+      pending_below p (open_leaf w) = cond (is_listed taken p) 0 1
+      pending_below p (done w) = cond (is_listed taken p) 0 1
+      pending_below p (split m ts) = cond (is_listed taken p) (pending_below_all p 0 ts) 1
 
       pub pending_below_all : Address → ℕ → Trees N → ℕ
       pending_below_all p i none = 0
       pending_below_all p i (more t ts) = pending_below (i ∷ p) t + pending_below_all p (suc i) ts
 
-    untaken : (p : Address) → is_among taken p ≡ false → Contains taken p → ⊥
+    untaken : (p : Address) → is_listed taken p ≡ false → Contains taken p → ⊥
     untaken p e c = let f = to_among taken p c in cc
 
-    one_pending : (p : Address) (t : Tree N) → is_among taken p ≡ false → pending_below p t ≡ 1
+    one_pending : (p : Address) (t : Tree N) → is_listed taken p ≡ false → pending_below p t ≡ 1
     one_pending p (open_leaf w) e = ap (λ b. cond b 0 1) e
     one_pending p (done w) e = ap (λ b. cond b 0 1) e
     one_pending p (split m ts) e = ap (λ b. cond b (pending_below_all p 0 ts) 1) e
 
     -- where one is pending, a node isn't taken
     mutual
-      some_left : (p : Address) (t : Tree N) → at N tree p ≡ Some t → 0 < pending_below p t → (u : Address) × IsBelow p u × IsAddress N tree u × (Contains taken u → ⊥)
-      some_left p (open_leaf w) a l = leaf (is_among taken p) refl l
+      some_left : (p : Address) (t : Tree N) → at N tree p ≡ Some t → 0 < pending_below p t → (u : Address) × IsAbove p u × IsAddress N tree u × (Contains taken u → ⊥)
+      some_left p (open_leaf w) a l = leaf (is_listed taken p) refl l
         where
-          leaf : (b : Bool) → is_among taken p ≡ b → 0 < cond b 0 1 → (u : Address) × IsBelow p u × IsAddress N tree u × (Contains taken u → ⊥)
+          leaf : (b : Bool) → is_listed taken p ≡ b → 0 < cond b 0 1 → (u : Address) × IsAbove p u × IsAddress N tree u × (Contains taken u → ⊥)
           leaf true e l = absurd (omega arith)
           leaf false e l = (p, below-itself p, (waits w, ap (option_map (label N)) a), untaken p e)
-      some_left p (done w) a l = leaf (is_among taken p) refl l
+      some_left p (done w) a l = leaf (is_listed taken p) refl l
         where
-          leaf : (b : Bool) → is_among taken p ≡ b → 0 < cond b 0 1 → (u : Address) × IsBelow p u × IsAddress N tree u × (Contains taken u → ⊥)
+          leaf : (b : Bool) → is_listed taken p ≡ b → 0 < cond b 0 1 → (u : Address) × IsAbove p u × IsAddress N tree u × (Contains taken u → ⊥)
           leaf true e l = absurd (omega arith)
           leaf false e l = (p, below-itself p, (ran w, ap (option_map (label N)) a), untaken p e)
-      some_left p (split m ts) a l = node (is_among taken p) refl (λ k. some_child p 0 ts (λ j. subst (λ z. at N tree (z ∷ p) ≡ child_at N ts j) (let x : j ≡ 0 + j = omega arith in x) (child_below N tree j p m ts a)) k) l
+      some_left p (split m ts) a l = node (is_listed taken p) refl (λ k. some_child p 0 ts (λ j. subst (λ z. at N tree (z ∷ p) ≡ child_at N ts j) (let x : j ≡ 0 + j = omega arith in x) (child_below N tree j p m ts a)) k) l
         where
-          node : (b : Bool) → is_among taken p ≡ b → (0 < pending_below_all p 0 ts → (u : Address) × IsBelow p u × IsAddress N tree u × (Contains taken u → ⊥)) → 0 < cond b (pending_below_all p 0 ts) 1 → (u : Address) × IsBelow p u × IsAddress N tree u × (Contains taken u → ⊥)
+          node : (b : Bool) → is_listed taken p ≡ b → (0 < pending_below_all p 0 ts → (u : Address) × IsAbove p u × IsAddress N tree u × (Contains taken u → ⊥)) → 0 < cond b (pending_below_all p 0 ts) 1 → (u : Address) × IsAbove p u × IsAddress N tree u × (Contains taken u → ⊥)
           node true e ih l = ih l
           node false e ih l = (p, below-itself p, (used m, ap (option_map (label N)) a), untaken p e)
 
-      some_child : (p : Address) (i : ℕ) (ts : Trees N) → ((j : ℕ) → at N tree ((i + j) ∷ p) ≡ child_at N ts j) → 0 < pending_below_all p i ts → (u : Address) × IsBelow p u × IsAddress N tree u × (Contains taken u → ⊥)
+      some_child : (p : Address) (i : ℕ) (ts : Trees N) → ((j : ℕ) → at N tree ((i + j) ∷ p) ≡ child_at N ts j) → 0 < pending_below_all p i ts → (u : Address) × IsAbove p u × IsAddress N tree u × (Contains taken u → ⊥)
       some_child p i none a l = absurd (omega arith)
       some_child p i (more t ts) a l = elim (by_size 0 (pending_below (i ∷ p) t)) [
         | inl x ↦ (let h = some_left (i ∷ p) t (subst (λ z. at N tree (z ∷ p) ≡ Some t) (let y : i + 0 ≡ i = omega arith in y) (a 0)) x in (h.0, below_up i p h.0 h.1, h.2, h.3))
@@ -126,7 +126,7 @@ module _ (N : Net) (block : N.Method → ℕ → ℕ) (number : N.Work → ℕ) 
         let r = sums m k p (suc i) ts (λ j s e. subst (λ z. pending_below (z ∷ p) s ≤ weight k (block m z) (number (work_of N s))) (let q : i + suc j ≡ suc i + j = omega arith in q) (f (suc j) s e)) in
         add-le-add a r
 
-    module _ (top : N.Work) (law : IsBound N block number top) (reached : (p : Address) (t : Tree N) → at N tree p ≡ Some t → IsReached N top (work_of N t)) (closed : IsClosed N tree taken) where
+    module _ (top : N.Work) (law : AreLargeEnough N block number top) (reached : (p : Address) (t : Tree N) → at N tree p ≡ Some t → IsReached N top (work_of N t)) (closed : IsClosed N tree taken) where
       child_in : (ts : Trees N) (j : ℕ) (t : Tree N) → child_at N ts j ≡ Some t → j < length (works_of N ts)
       child_in none j t e = absurd cc
       child_in (more u ts) zero t e = omega arith
@@ -134,17 +134,17 @@ module _ (N : Net) (block : N.Method → ℕ → ℕ) (number : N.Work → ℕ) 
 
       mutual
         pub bounded : (p : Address) (t : Tree N) → at N tree p ≡ Some t → IsGrown N t → pending_below p t ≤ number (work_of N t)
-        bounded p (open_leaf w) a g = let b = law.positive w (reached p (open_leaf w) a) in leaf (is_among taken p) (number w) b
+        bounded p (open_leaf w) a g = let b = law.positive w (reached p (open_leaf w) a) in leaf (is_listed taken p) (number w) b
           where
             leaf : (c : Bool) (x : ℕ) → 1 ≤ x → cond c 0 1 ≤ x
             leaf true x l = omega arith
             leaf false x l = l
-        bounded p (done w) a g = let b = law.positive w (reached p (done w) a) in leaf (is_among taken p) (number w) b
+        bounded p (done w) a g = let b = law.positive w (reached p (done w) a) in leaf (is_listed taken p) (number w) b
           where
             leaf : (c : Bool) (x : ℕ) → 1 ≤ x → cond c 0 1 ≤ x
             leaf true x l = omega arith
             leaf false x l = l
-        bounded p (split m ts) a g = node (is_among taken p) (each p 0 ts (λ j. subst (λ z. at N tree (z ∷ p) ≡ child_at N ts j) (let x : j ≡ 0 + j = omega arith in x) (child_below N tree j p m ts a)) g.2)
+        bounded p (split m ts) a g = node (is_listed taken p) (each p 0 ts (λ j. subst (λ z. at N tree (z ∷ p) ≡ child_at N ts j) (let x : j ≡ 0 + j = omega arith in x) (child_below N tree j p m ts a)) g.2)
           where
             node : (c : Bool) → ((j : ℕ) (t : Tree N) → child_at N ts j ≡ Some t → pending_below ((0 + j) ∷ p) t ≤ number (work_of N t)) → cond c (pending_below_all p 0 ts) 1 ≤ number (N.head m)
             node false ih = law.positive (N.head m) (reached p (split m ts) a)
@@ -167,7 +167,7 @@ module _ (N : Net) (block : N.Method → ℕ → ℕ) (number : N.Work → ℕ) 
                     let q = ap (λ z. weights N block number m (block m j) 0 z) g.1 in
                     omega arith
                   where
-                    left : (u : Address) × IsBelow (j ∷ p) u × IsAddress N tree u × (Contains taken u → ⊥)
+                    left : (u : Address) × IsAbove (j ∷ p) u × IsAddress N tree u × (Contains taken u → ⊥)
                     left = some_left (j ∷ p) t (is_child_at j t c) (subst (λ z. 0 < pending_below (z ∷ p) t) (zero-plus j) l)
 
                     weigh : (k : ℕ) (s : Tree N) → child_at N ts k ≡ Some s → pending_below ((0 + k) ∷ p) s ≤ weight (block m j) (block m (0 + k)) (number (work_of N s))
@@ -181,9 +181,9 @@ module _ (N : Net) (block : N.Method → ℕ → ℕ) (number : N.Work → ℕ) 
                         pick (inr (inl x)) = let r = at_block (block m j) (block m k) (number (work_of N s)) x in let y = subst (λ z. pending_below (z ∷ p) s ≤ number (work_of N s)) (zero-plus k) (ih k s e) in omega arith
                         pick (inr (inr x)) =
                             let r = after_block (block m j) (block m k) (number (work_of N s)) x in
-                            let y = one_pending (k ∷ p) s (fresh (is_among taken (k ∷ p)) refl) in omega arith
+                            let y = one_pending (k ∷ p) s (fresh (is_listed taken (k ∷ p)) refl) in omega arith
                           where
-                            fresh : (b : Bool) → is_among taken (k ∷ p) ≡ b → b ≡ false
+                            fresh : (b : Bool) → is_listed taken (k ∷ p) ≡ b → b ≡ false
                             fresh false q = refl
                             fresh true q = absurd (left.3 (closed.clear left.0 (k ∷ p) (among_to taken (k ∷ p) q) left.2
                                 (m, j, ap (option_map (label N)) a, law.ordered m j k (within j t c) (within k s e) x, left.1)))
@@ -198,16 +198,16 @@ module _ (N : Net) (block : N.Method → ℕ → ℕ) (number : N.Work → ℕ) 
 
     -- the list of what is pending is no longer
     module _ (parents : (i : ℕ) (q : Address) → Contains taken (i ∷ q) → Contains taken q) where
-      taken_up : (p q : Address) → IsBelow p q → Contains taken q → Contains taken p
+      taken_up : (p q : Address) → IsAbove p q → Contains taken q → Contains taken p
       taken_up p [] b c = subst (Contains taken) (sym b) c
       taken_up p (k ∷ q) (inl e) c = subst (Contains taken) (sym e) c
       taken_up p (k ∷ q) (inr b) c = taken_up p q b (parents k q c)
 
-      none_below : (p q : Address) (j : ℕ) → (Contains taken p → ⊥) → IsBelow (j ∷ p) q → is_pending taken q ≡ true → ⊥
+      none_below : (p q : Address) (j : ℕ) → (Contains taken p → ⊥) → IsAbove (j ∷ p) q → is_pending taken q ≡ true → ⊥
       none_below p [] j n b e = cc
       none_below p (k ∷ q) j n b e = let h = (pending_to taken (k ∷ q) e).0 in go b h
         where
-          go : (j ∷ p ≡ k ∷ q) ⊎ IsBelow (j ∷ p) q → Contains taken q → ⊥
+          go : (j ∷ p ≡ k ∷ q) ⊎ IsAbove (j ∷ p) q → Contains taken q → ⊥
           go (inl x) h = n (let y : q ≡ p = cc in subst (Contains taken) y h)
           go (inr x) h = n (taken_up p q (below_up j p q x) h)
 
@@ -219,10 +219,10 @@ module _ (N : Net) (block : N.Method → ℕ → ℕ) (number : N.Work → ℕ) 
           go true e ih = absurd (f x (0, omega arith, refl) e)
           go false e ih = ih
 
-      own : (p : Address) (xs : List Address) (x : ℕ) → (is_among taken p ≡ true → length (filter (is_pending taken) xs) ≤ x) → (is_among taken p ≡ false → filter (is_pending taken) xs ≡ []) → length (filter (is_pending taken) (p ∷ xs)) ≤ cond (is_among taken p) x 1
-      own p xs x f g = go (is_among taken p) (is_pending taken p) refl refl
+      own : (p : Address) (xs : List Address) (x : ℕ) → (is_listed taken p ≡ true → length (filter (is_pending taken) xs) ≤ x) → (is_listed taken p ≡ false → filter (is_pending taken) xs ≡ []) → length (filter (is_pending taken) (p ∷ xs)) ≤ cond (is_listed taken p) x 1
+      own p xs x f g = go (is_listed taken p) (is_pending taken p) refl refl
         where
-          go : (b c : Bool) → is_among taken p ≡ b → is_pending taken p ≡ c → length (cond c (p ∷ filter (is_pending taken) xs) (filter (is_pending taken) xs)) ≤ cond b x 1
+          go : (b c : Bool) → is_listed taken p ≡ b → is_pending taken p ≡ c → length (cond c (p ∷ filter (is_pending taken) xs) (filter (is_pending taken) xs)) ≤ cond b x 1
           go true true e d = absurd ((pending_to taken p d).1 (among_to taken p e))
           go true false e d = f e
           go false true e d = let h = ap length (g e) in omega arith
@@ -264,7 +264,7 @@ module _ (N : Net) (block : N.Method → ℕ → ℕ) (number : N.Work → ℕ) 
       as_child m i h.0 (reached_at tree g p (split m ts) a) (sym (ap (λ z. slice_get z i) h.1) ∙ child_work ts i t c)
 
   -- no schedule of any front has more pending than the top work's number
-  pub bound_holds : (top : N.Work) → IsBound N block number top → (tree : Tree N) (order : List Address) → IsFront N top tree order → IsWithin N (number top) tree order
+  pub bound_holds : (top : N.Work) → AreLargeEnough N block number top → (tree : Tree N) (order : List Address) → IsFront N top tree order → IsWithin N (number top) tree order
   bound_holds top law tree order f = (within_iff N (number top) tree order).1 (λ taken rest e.
       (let c = closed_at tree order taken rest f.schedule e in
       let a = few tree taken c.parents [] tree in

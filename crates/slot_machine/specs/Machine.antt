@@ -17,7 +17,7 @@ with_heir None h new = new
 with_heir (Some k) h new = insert_at k h new
 
 module _ (N : Net) where
-  pub record State : Type 1 where
+  pub record SlotState : Type 1 where
     -- slot x holds the work
     pub holds : ℕ → N.Work → Type 0
     pub free : ℕ → Type 0
@@ -25,7 +25,7 @@ module _ (N : Net) where
     pub before : ℕ → ℕ → Type 0
 
   -- slot 1 holds the top work, slots 2 to b are free
-  abbrev pub start : ℕ → N.Work → State
+  abbrev pub start : ℕ → N.Work → SlotState
   start b top = record {
     holds = λ x w. (x ≡ 1) × (w ≡ top);
     free = λ x. (1 < x) × (x ≤ b);
@@ -33,15 +33,15 @@ module _ (N : Net) where
   }
 
   -- what is at slot h waits for none
-  abbrev pub IsUnblocked : State → ℕ → Type 0
+  abbrev pub IsUnblocked : SlotState → ℕ → Type 0
   IsUnblocked s h = (x : ℕ) → s.before x h → ⊥
 
-  pub record MayRun (s : State) (h : ℕ) (w : N.Work) : Type 0 where
+  pub record MayRun (s : SlotState) (h : ℕ) (w : N.Work) : Type 0 where
     pub holds : s.holds h w
     pub simple : N.IsSimple w
     pub unblocked : IsUnblocked s h
 
-  pub record MayApply (s : State) (h : ℕ) (new : List ℕ) (m : N.Method) : Type 0 where
+  pub record MayApply (s : SlotState) (h : ℕ) (new : List ℕ) (m : N.Method) : Type 0 where
     pub holds : s.holds h (N.head m)
     pub ground : N.IsGround m
     pub unblocked : IsUnblocked s h
@@ -49,7 +49,7 @@ module _ (N : Net) where
     pub free : (x : ℕ) → Contains new x → s.free x
     pub apart : AreDifferent new
 
-  abbrev pub May : State → Act N → Type 0
+  abbrev pub May : SlotState → Act N → Type 0
   May s (run h w) = MayRun s h w
   May s (apply h new m) = MayApply s h new m
 
@@ -58,13 +58,13 @@ module _ (N : Net) where
   IsSlotOf h new m i x = slice_get (with_heir (N.heir m) h new) i ≡ Some x
 
   -- what was at h is gone, and the children are in their slots
-  abbrev pub after : State → Act N → State
-  after s (run h w) = record {
+  abbrev pub after_act : SlotState → Act N → SlotState
+  after_act s (run h w) = record {
     holds = λ x v. s.holds x v × ((x ≡ h) × (v ≡ w) → ⊥);
     free = λ x. s.free x ⊎ (x ≡ h);
     before = λ x y. s.before x y × (x ≡ h → ⊥);
   }
-  after s (apply h new m) = record {
+  after_act s (apply h new m) = record {
     holds = λ x v. (s.holds x v × ((x ≡ h) × (v ≡ N.head m) → ⊥)) ⊎ ((i : ℕ) × IsSlotOf h new m i x × (slice_get (N.works m) i ≡ Some v));
     free = λ x. (s.free x × ((i : ℕ) → IsSlotOf h new m i x → ⊥)) ⊎ ((count N m ≡ 0) × (x ≡ h));
     before = λ x y. (s.before x y × ((count N m ≡ 0) × (x ≡ h) → ⊥))
@@ -72,10 +72,10 @@ module _ (N : Net) where
         ⊎ ((i : ℕ) × N.IsCopier m i × IsSlotOf h new m i x × s.before h y));
   }
 
-  abbrev pub Runs : State → List (Act N) → Type 0
+  abbrev pub Runs : SlotState → List (Act N) → Type 0
   Runs s [] = Unit {0}
-  Runs s (a ∷ acts) = May s a × Runs (after s a) acts
+  Runs s (a ∷ acts) = May s a × Runs (after_act s a) acts
 
-  abbrev pub end_of : State → List (Act N) → State
+  abbrev pub end_of : SlotState → List (Act N) → SlotState
   end_of s [] = s
-  end_of s (a ∷ acts) = end_of (after s a) acts
+  end_of s (a ∷ acts) = end_of (after_act s a) acts

@@ -3,10 +3,10 @@ use Rattle.std.specs.Prelude.{ℕ, ◌≡◌, ◌↔◌, List, [], ◌∷◌, �
 use Rattle.task_networks.specs.Net.{Net}
 use Rattle.task_networks.specs.Tree.{Tree, Address}
 use Rattle.task_networks.specs.Spelling.{Act, Spells}
-use Rattle.slot_machine.specs.Machine.{State, start, May, after, end_of}
+use Rattle.slot_machine.specs.Machine.{SlotState, start, May, after_act, end_of}
 
 -- two states say the same
-pub record AreSame (N : Net) (s t : State N) : Type 0 where
+pub record AreSame (N : Net) (s t : SlotState N) : Type 0 where
   pub holds : (x : ℕ) (w : N.Work) → s.holds x w ↔ t.holds x w
   pub free : (x : ℕ) → s.free x ↔ t.free x
   pub before : (x y : ℕ) → s.before x y ↔ t.before x y
@@ -16,7 +16,7 @@ abbrev pub TakesAll : (N : Net) → (List (Act N) → Act N → Type 0) → List
 TakesAll N Takes acts = (taken rest : List (Act N)) (a : Act N) → acts ≡ taken ++ a ∷ rest → Takes taken a
 
 -- `read acts` is what its state after these acts says of the slots
-module _ (N : Net) (read : List (Act N) → State N) (Takes : List (Act N) → Act N → Type 0) where
+module _ (N : Net) (read : List (Act N) → SlotState N) (Takes : List (Act N) → Act N → Type 0) where
   -- after acts that spell a front, where its state says what the slot machine's does,
   -- it takes the same acts, and its state says what the slot machine's does after one
   pub record AgreesAtFronts (b : ℕ) (top : N.Work) : Type 0 where
@@ -26,4 +26,4 @@ module _ (N : Net) (read : List (Act N) → State N) (Takes : List (Act N) → A
         → Takes acts a ↔ May N (end_of N (start N b top) acts) a
     pub step : (acts : List (Act N)) (tree : Tree N) (order : List Address) (slot : Address → ℕ) (a : Act N)
         → Spells N b top acts tree order slot → AreSame N (read acts) (end_of N (start N b top) acts) → May N (end_of N (start N b top) acts) a
-        → AreSame N (read (acts ++ a ∷ [])) (after N (end_of N (start N b top) acts) a)
+        → AreSame N (read (acts ++ a ∷ [])) (after_act N (end_of N (start N b top) acts) a)

@@ -4,7 +4,7 @@ use Rattle.task_networks.specs.Order.{Precedes}
 use Rattle.task_networks.specs.Net.{Net}
 use Rattle.task_networks.specs.Tree.{Tree, waits, Address, label_at, IsAddress, IsOpen}
 use Rattle.task_networks.specs.Schedule.{MustPrecede}
-use Rattle.slot_machine.specs.Machine.{State}
+use Rattle.slot_machine.specs.Machine.{SlotState}
 
 -- two functions give each address of the tree the same slot
 abbrev pub SameSlots : (N : Net) → Tree N → (f g : Address → ℕ) → Type 0
@@ -20,7 +20,7 @@ module _ (N : Net) (tree : Tree N) (slot : Address → ℕ) where
   IsLeft b x = (1 ≤ x) × (x ≤ b) × ((p : Address) → IsOpen N tree p → slot p ≡ x → ⊥)
 
   -- the state tells the front's open leaves, their slots, and what must precede what
-  pub record Tells (b : ℕ) (s : State N) : Type 0 where
+  pub record Tells (b : ℕ) (s : SlotState N) : Type 0 where
     pub holds : (x : ℕ) (w : N.Work) → s.holds x w ↔ HasLeaf x w
     pub free : (x : ℕ) → s.free x ↔ IsLeft b x
     -- no order pair touches a free slot

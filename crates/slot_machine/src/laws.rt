@@ -3,7 +3,7 @@
 //! `of` is any value that the picked network is made of.
 
 ghost use Rattle.task_networks.specs.Lawful.{IsLawful};
-ghost use Rattle.slot_machine.specs.Laws.{RunsAreSpelledFronts, FrontIsTheOnlyOne, StateTellsFront, FewPendingHaveSpellings, CausesAreSentences, LabelsAreOfActs, OtherTakesFronts, WidthIsBounded, RunsAreExecutableFronts, PlansAreSpelledSolutions};
+ghost use Rattle.slot_machine.specs.Laws.{RunsAreSpelledFronts, FrontIsTheOnlyOne, StateTellsFront, PendingAreOpenLeaves, FewPendingHaveSpellings, CausesAreSentences, LabelsAreOfActs, OtherTakesFronts, WidthIsBounded, RunsAreExecutableFronts, PlansAreSpelledSolutions};
 
 use crate::machine::{Execution, OtherMachine};
 use task_networks::Network;
@@ -24,6 +24,11 @@ pub fn front_is_the_only_one<N: Network, T>(of: &T)
 pub fn state_tells_front<N: Network, T>(of: &T)
     requires lawful { IsLawful N.net }
     ensures { StateTellsFront N.net }
+{}
+
+/// After a whole schedule what is pending are the open leaves.
+pub fn pending_are_open_leaves<N: Network, T>(of: &T)
+    ensures { PendingAreOpenLeaves N.net }
 {}
 
 /// A front has a spelling exactly where never more than the number of slots are pending.

@@ -10,7 +10,7 @@ mod machine;
 
 pub use laws::{
     causes_are_sentences, few_pending_have_spellings, front_is_the_only_one, labels_are_of_acts,
-    other_takes_fronts, plans_are_spelled_solutions, runs_are_spelled_fronts, state_tells_front,
-    width_is_bounded,
+    other_takes_fronts, pending_are_open_leaves, plans_are_spelled_solutions,
+    runs_are_spelled_fronts, state_tells_front, width_is_bounded,
 };
 pub use machine::{Execution, OtherMachine};

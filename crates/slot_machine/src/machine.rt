@@ -4,7 +4,7 @@ ghost use Rattle.std.specs.Prelude.{ℕ, List, [], ◌∷◌};
 ghost use Rattle.task_networks.specs.Net.{Net, one_action};
 ghost use Rattle.task_networks.specs.Tree.{Label};
 ghost use Rattle.task_networks.specs.Spelling.{Act};
-ghost use Rattle.slot_machine.specs.Machine.{State, start, end_of, May};
+ghost use Rattle.slot_machine.specs.Machine.{SlotState, start, end_of, May};
 
 use std::marker::Brand;
 
@@ -12,7 +12,7 @@ use std::marker::Brand;
 pub trait OtherMachine {
     ghost net: { Net };
 
-    ghost read: { List (Act net) → State net };
+    ghost read: { List (Act net) → SlotState net };
 
     ghost takes: { List (Act net) → Act net → Type 0 };
 }

@@ -3,7 +3,7 @@ use Rattle.std.proofs.Common.{ℕ, zero, suc, ◌≡◌, ◌≢◌, ◌+◌, ◌
 use Rattle.std.proofs.lemmas.List.{length-map}
 use Rattle.task_networks.specs.Order.{Precedes, direct, through}
 use Rattle.task_networks.specs.Net.{Net, count}
-use Rattle.task_networks.specs.Bound.{weight, weights, IsAloneAtTheEnd, block_number, IsBound, IsReached, as_child, itself}
+use Rattle.task_networks.specs.Bound.{weight, weights, IsAloneAtTheEnd, block_number, AreLargeEnough, IsReached, as_child, itself}
 use Rattle.task_networks.specs.Laws.{TheBoundIsLargeEnough, LiftedBoundIsBound}
 use Rattle.task_networks.specs.Lifted.{IsLifted}
 use Rattle.task_networks.proofs.Tests.{blocks}
@@ -54,7 +54,7 @@ module _ (N : Net) (block : N.Method → ℕ → ℕ) (number : N.Work → ℕ) 
       omega arith
 
   -- so each block's number is at most the task's
-  pub enough_for_all : (top : N.Work) → IsBound N block number top → (m : N.Method) (i : ℕ) → N.IsGround m → IsReached N top (N.head m) → i < count N m → block_number N block number m (block m i) ≤ number (N.head m)
+  pub enough_for_all : (top : N.Work) → AreLargeEnough N block number top → (m : N.Method) (i : ℕ) → N.IsGround m → IsReached N top (N.head m) → i < count N m → block_number N block number m (block m i) ≤ number (N.head m)
   enough_for_all top bound m i g r l = go (by_size (number (N.head m)) (block_number N block number m (block m i)))
     where
       go : (number (N.head m) < block_number N block number m (block m i)) ⊎ ((number (N.head m) ≡ block_number N block number m (block m i)) ⊎ (block_number N block number m (block m i) < number (N.head m))) → block_number N block number m (block m i) ≤ number (N.head m)
@@ -102,7 +102,7 @@ module _ (N L : Net) (work : N.Work → L.Work) (method : N.Method → L.Method)
       get-map (v ∷ ws) zero w e = let f : v ≡ w = cc in ap (λ z. Some (work z)) f
       get-map (v ∷ ws) (suc i) w e = get-map ws i w e
 
-  pub lifted_bound : (top : N.Work) → IsBound L block number (work top) → IsBound N (λ m. block (method m)) (λ w. number (work w)) top
+  pub lifted_bound : (top : N.Work) → AreLargeEnough L block number (work top) → AreLargeEnough N (λ m. block (method m)) (λ w. number (work w)) top
   lifted_bound top bound = record {
     positive = λ w r. bound.positive (work w) (reached_lifted top w r);
     ordered = λ m i j a b l. precedes_ground m i j (bound.ordered (method m) i j (subst (λ n. i < n) (same_count m) a) (subst (λ n. j < n) (same_count m) b) l);

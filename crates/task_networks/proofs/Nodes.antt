@@ -1,10 +1,11 @@
 -- The nodes of a tree, listed.
-use Rattle.std.proofs.Common.{ℕ, zero, suc, ◌≡◌, ◌+◌, ◌≤◌, inl, inr, List, [], ◌∷◌, Option, Some, None, option_map, refl, ap, subst, Contains, arith}
+use Rattle.std.proofs.Common.{ℕ, zero, suc, ◌≡◌, ◌+◌, ◌<◌, ◌≤◌, inl, inr, List, [], ◌∷◌, length, Option, Some, None, option_map, refl, ap, subst, Contains, arith}
 use Rattle.std.specs.Option.{option_and_then}
 use Rattle.std.proofs.lemmas.List.Elements.{Contains-append_left, Contains-append_right, Contains-append_cases}
 use Rattle.task_networks.specs.Net.{Net}
-use Rattle.task_networks.specs.Tree.{Tree, Address, at, Trees, split, child_at, children_of, open_leaf, done, none, more, IsAddress, label, IsOpen, waits, IsBelow}
-use Rattle.task_networks.specs.Pending.{nodes_at, nodes_from, AreDifferent}
+use Rattle.task_networks.specs.Tree.{Tree, Address, at, Trees, split, child_at, children_of, open_leaf, done, none, more, IsAddress, label, IsOpen, waits, IsAbove, IsGrown, AreGrown, works_of}
+use Rattle.task_networks.specs.Pending.{AreDifferent}
+use Rattle.task_networks.specs.PendingComputed.{nodes_at, nodes_from}
 use Rattle.task_networks.proofs.Addresses.{below-itself, below_up, not-below_parent, same_sibling}
 use Rattle.task_networks.proofs.Different.{different_append}
 use Rattle.task_networks.proofs.Lists.{Contains-here, Contains-later, head_or_tail, not-in_empty}
@@ -22,6 +23,21 @@ module _ (N : Net) where
 
   pub child_below : (tree : Tree N) (i : ℕ) (p : Address) (m : N.Method) (ts : Trees N) → at N tree p ≡ Some (split m ts) → at N tree (i ∷ p) ≡ child_at N ts i
   child_below tree i p m ts e = ap (option_and_then (λ u. child_at N (children_of N u) i)) e
+
+  -- a subtree of a grown tree is grown
+  child_grown : (ts : Trees N) (i : ℕ) (t : Tree N) → AreGrown N ts → child_at N ts i ≡ Some t → IsGrown N t
+  child_grown none i t g e = absurd cc
+  child_grown (more u ts) zero t g e = let f : u ≡ t = cc in subst (IsGrown N) f g.0
+  child_grown (more u ts) (suc i) t g e = child_grown ts i t g.1 e
+
+  pub grown_at : (tree : Tree N) (p : Address) (t : Tree N) → IsGrown N tree → at N tree p ≡ Some t → IsGrown N t
+  grown_at tree [] t g e = let f : tree ≡ t = cc in subst (IsGrown N) f g
+  grown_at tree (i ∷ p) t g e = let u = parent tree i p t e in child_grown u.1 i t (grown_at tree p (split u.0 u.1) g u.2).2 u.3
+
+  pub child_in : (ts : Trees N) (i : ℕ) → i < length (works_of N ts) → (t : Tree N) × (child_at N ts i ≡ Some t)
+  child_in none i h = absurd (omega arith)
+  child_in (more t ts) zero h = (t, refl)
+  child_in (more t ts) (suc i) h = child_in ts i (omega arith)
 
   itself : (p : Address) (t : Tree N) → Contains (nodes_at N p t) p
   itself p (open_leaf w) = Contains-here p []
@@ -52,12 +68,12 @@ module _ (N : Net) where
 
   -- each node once
   mutual
-    pub below_nodes : (t : Tree N) (p q : Address) → Contains (nodes_at N p t) q → IsBelow p q
-    below_nodes (open_leaf w) p q c = elim (head_or_tail p [] q c) [ inl e ↦ subst (IsBelow p) e (below-itself p) | inr d ↦ absurd (not-in_empty q d) ]
-    below_nodes (done w) p q c = elim (head_or_tail p [] q c) [ inl e ↦ subst (IsBelow p) e (below-itself p) | inr d ↦ absurd (not-in_empty q d) ]
-    below_nodes (split m ts) p q c = elim (head_or_tail p (nodes_from N p 0 ts) q c) [ inl e ↦ subst (IsBelow p) e (below-itself p) | inr d ↦ (let h = below_children ts p 0 q d in below_up h.0 p q h.2) ]
+    pub below_nodes : (t : Tree N) (p q : Address) → Contains (nodes_at N p t) q → IsAbove p q
+    below_nodes (open_leaf w) p q c = elim (head_or_tail p [] q c) [ inl e ↦ subst (IsAbove p) e (below-itself p) | inr d ↦ absurd (not-in_empty q d) ]
+    below_nodes (done w) p q c = elim (head_or_tail p [] q c) [ inl e ↦ subst (IsAbove p) e (below-itself p) | inr d ↦ absurd (not-in_empty q d) ]
+    below_nodes (split m ts) p q c = elim (head_or_tail p (nodes_from N p 0 ts) q c) [ inl e ↦ subst (IsAbove p) e (below-itself p) | inr d ↦ (let h = below_children ts p 0 q d in below_up h.0 p q h.2) ]
 
-    pub below_children : (ts : Trees N) (p : Address) (i : ℕ) (q : Address) → Contains (nodes_from N p i ts) q → (j : ℕ) × (i ≤ j) × IsBelow (j ∷ p) q
+    pub below_children : (ts : Trees N) (p : Address) (i : ℕ) (q : Address) → Contains (nodes_from N p i ts) q → (j : ℕ) × (i ≤ j) × IsAbove (j ∷ p) q
     below_children none p i q c = absurd (not-in_empty q c)
     below_children (more t ts) p i q c = elim (Contains-append_cases (nodes_at N (i ∷ p) t) (nodes_from N p (suc i) ts) q c) [ inl d ↦ (i, omega arith, below_nodes t (i ∷ p) q d) | inr d ↦ (let h = below_children ts p (suc i) q d in (h.0, (let l = h.1 in omega arith), h.2)) ]
 

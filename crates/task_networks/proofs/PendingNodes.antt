@@ -4,7 +4,8 @@ use Rattle.std.proofs.Common.{eq-eqb}
 use Rattle.task_networks.specs.Net.{Net}
 use Rattle.task_networks.specs.Tree.{Address, at, Tree}
 use Rattle.task_networks.specs.Schedule.{IsBegun}
-use Rattle.task_networks.specs.Pending.{same_address, is_among, pending, is_pending, IsPending, nodes_at, AreDifferent, IsWithin}
+use Rattle.task_networks.specs.Pending.{IsPending, AreDifferent, IsWithin}
+use Rattle.task_networks.specs.PendingComputed.{same_address, is_listed, pending, is_pending, nodes_at}
 use Rattle.task_networks.proofs.Different.{no_more}
 use Rattle.task_networks.proofs.Filters.{filter_to, to_filter, different-filter}
 use Rattle.task_networks.proofs.Lists.{Contains-later, not-in_empty, head_or_tail}
@@ -24,24 +25,28 @@ pub address_same_itself : (p : Address) → same_address p p ≡ true
 address_same_itself [] = refl
 address_same_itself (i ∷ p) = let e : (i == i) ≡ true = eq-eqb i i refl in ap (λ b. b && same_address p p) e ∙ address_same_itself p
 
+pub both_true : (a b : Bool) → a ≡ true → b ≡ true → (a && b) ≡ true
+both_true true b e f = f
+both_true false b e f = absurd cc
+
+pub second_true : (a b : Bool) → b ≡ true → (a || b) ≡ true
+second_true true b f = refl
+second_true false b f = f
+
 pub either : (a b : Bool) → (a || b) ≡ true → (a ≡ true) ⊎ (b ≡ true)
 either true b e = inl refl
 either false b e = inr e
 
-pub among_to : (ps : List Address) (p : Address) → is_among ps p ≡ true → Contains ps p
+pub among_to : (ps : List Address) (p : Address) → is_listed ps p ≡ true → Contains ps p
 among_to [] p e = absurd cc
-among_to (q ∷ ps) p e = elim (either (same_address p q) (is_among ps p) e) [ inl x ↦ (0, omega arith, sym (same_to p q x)) | inr x ↦ Contains-later q ps p (among_to ps p x) ]
+among_to (q ∷ ps) p e = elim (either (same_address p q) (is_listed ps p) e) [ inl x ↦ (0, omega arith, sym (same_to p q x)) | inr x ↦ Contains-later q ps p (among_to ps p x) ]
 
-pub to_among : (ps : List Address) (p : Address) → Contains ps p → is_among ps p ≡ true
+pub to_among : (ps : List Address) (p : Address) → Contains ps p → is_listed ps p ≡ true
 to_among [] p c = absurd (not-in_empty p c)
 to_among (q ∷ ps) p c = elim (head_or_tail q ps p c) [
-  | inl e ↦ ap (λ b. b || is_among ps p) (subst (λ z. same_address z q ≡ true) e (address_same_itself q))
-  | inr d ↦ second (same_address p q) (is_among ps p) (to_among ps p d)
+  | inl e ↦ ap (λ b. b || is_listed ps p) (subst (λ z. same_address z q ≡ true) e (address_same_itself q))
+  | inr d ↦ second_true (same_address p q) (is_listed ps p) (to_among ps p d)
 ]
-  where
-    second : (a b : Bool) → b ≡ true → (a || b) ≡ true
-    second true b f = refl
-    second false b f = f
 
 pub not_to : (b : Bool) → not b ≡ true → b ≡ true → ⊥
 not_to true e f = cc
@@ -52,12 +57,12 @@ to_not true n = absurd (n refl)
 to_not false n = refl
 
 pub pending_to : (taken : List Address) (p : Address) → is_pending taken p ≡ true → IsBegun taken p × (Contains taken p → ⊥)
-pending_to taken [] e = (tt, λ c. not_to (is_among taken []) e (to_among taken [] c))
-pending_to taken (i ∷ p) e = let h = both (is_among taken p) (not (is_among taken (i ∷ p))) e in (among_to taken p h.0, λ c. not_to (is_among taken (i ∷ p)) h.1 (to_among taken (i ∷ p) c))
+pending_to taken [] e = (tt, λ c. not_to (is_listed taken []) e (to_among taken [] c))
+pending_to taken (i ∷ p) e = let h = both (is_listed taken p) (not (is_listed taken (i ∷ p))) e in (among_to taken p h.0, λ c. not_to (is_listed taken (i ∷ p)) h.1 (to_among taken (i ∷ p) c))
 
 pub to_pending : (taken : List Address) (p : Address) → IsBegun taken p → (Contains taken p → ⊥) → is_pending taken p ≡ true
-to_pending taken [] b n = to_not (is_among taken []) (λ e. n (among_to taken [] e))
-to_pending taken (i ∷ p) b n = ap (λ z. z && not (is_among taken (i ∷ p))) (to_among taken p b) ∙ to_not (is_among taken (i ∷ p)) (λ e. n (among_to taken (i ∷ p) e))
+to_pending taken [] b n = to_not (is_listed taken []) (λ e. n (among_to taken [] e))
+to_pending taken (i ∷ p) b n = ap (λ z. z && not (is_listed taken (i ∷ p))) (to_among taken p b) ∙ to_not (is_listed taken (i ∷ p)) (λ e. n (among_to taken (i ∷ p) e))
 
 module _ (N : Net) where
   pub pending_iff : (tree : Tree N) (taken : List Address) (p : Address) → Contains (pending N tree taken) p ↔ IsPending N tree taken p

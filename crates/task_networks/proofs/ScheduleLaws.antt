@@ -4,7 +4,7 @@ use Rattle.std.proofs.lemmas.List.Elements.{Contains-append_left}
 use Rattle.task_networks.specs.Order.{IsNext, IsLine, IsMaximal}
 use Rattle.task_networks.specs.Net.{count, Net}
 use Rattle.task_networks.specs.Lawful.{TakesOver}
-use Rattle.task_networks.specs.Tree.{Label, label_at, waits, ran, used, Tree, Address, IsBelow}
+use Rattle.task_networks.specs.Tree.{Label, label_at, waits, ran, used, Tree, Address, IsAbove}
 use Rattle.task_networks.specs.Schedule.{IsSchedule}
 use Rattle.task_networks.specs.Spelling.{others}
 use Rattle.task_networks.specs.Laws.{LineIsTheOnlyOne, PreparedIsLawful, RootStandsFirst, NothingIsPendingAtTheEnd, EarlierSubtreesStandBefore}
@@ -58,7 +58,7 @@ module _ (N : Net) where
       go (used m) e = d.left ((f.front.schedule.covers p).1 (used m, e, tt))
 
   -- each ancestor of a scheduled node is that node, or stands before it
-  ancestors_before : (tree : Tree N) (order : List Address) → IsSchedule N tree order → (c v : Address) → IsBelow c v → (taken rest : List Address) → order ≡ taken ++ v ∷ rest → (c ≡ v) ⊎ Contains taken c
+  ancestors_before : (tree : Tree N) (order : List Address) → IsSchedule N tree order → (c v : Address) → IsAbove c v → (taken rest : List Address) → order ≡ taken ++ v ∷ rest → (c ≡ v) ⊎ Contains taken c
   ancestors_before tree order s c [] b taken rest e = inl b
   ancestors_before tree order s c (k ∷ v) (inl b) taken rest e = inl b
   ancestors_before tree order s c (k ∷ v) (inr b) taken rest e =

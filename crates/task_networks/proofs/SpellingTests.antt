@@ -4,7 +4,8 @@ use Rattle.std.specs.Prelude.{nat_le}
 use Rattle.std.specs.List.{list_any, list_all}
 use Rattle.task_networks.specs.Net.{Net}
 use Rattle.task_networks.specs.Tree.{Address, ran, Tree, Label, waits, used, label_at}
-use Rattle.task_networks.specs.Pending.{nodes_at, pending, IsWithin}
+use Rattle.task_networks.specs.Pending.{IsWithin}
+use Rattle.task_networks.specs.PendingComputed.{nodes_at, pending}
 use Rattle.task_networks.specs.Front.{IsFront}
 use Rattle.task_networks.specs.Spelling.{Act, AreActs, Spells}
 use Rattle.task_networks.proofs.Lists.{not-in_empty, head_or_tail}

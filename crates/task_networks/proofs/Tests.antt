@@ -3,19 +3,15 @@ use Rattle.std.proofs.Common.{ℕ, ◌≡◌, ◌↔◌, inl, inr, List, [], ◌
 use Rattle.std.specs.List.{list_any, list_all}
 use Rattle.task_networks.specs.Order.{ArePairsOf, Precedes}
 use Rattle.task_networks.specs.Net.{Net, count}
-use Rattle.task_networks.specs.Tree.{Address, IsBelow, Label, waits, ran, used, Tree, label_at, IsProcessed, IsTaken}
+use Rattle.task_networks.specs.Tree.{Address, IsAbove, Label, waits, ran, used, Tree, label_at, IsProcessed, IsTaken}
 use Rattle.task_networks.specs.Schedule.{IsBegun, Blocks, IsDue, IsSchedule}
-use Rattle.task_networks.specs.Pending.{same_address, is_among, nodes_at}
+use Rattle.task_networks.specs.PendingComputed.{same_address, is_listed, nodes_at}
 use Rattle.task_networks.specs.Spelling.{numbers}
 use Rattle.task_networks.proofs.Lists.{not-in_empty, head_or_tail, Contains-later}
 use Rattle.task_networks.proofs.Nodes.{nodes, lists_address}
 use Rattle.task_networks.proofs.Numbers.{to_numbers}
 use Rattle.task_networks.proofs.Orders.{precedes_within}
-use Rattle.task_networks.proofs.PendingNodes.{both, either, same_to, address_same_itself, among_to, to_among, not_to, to_not}
-
-both_true : (a b : Bool) → a ≡ true → b ≡ true → (a && b) ≡ true
-both_true true b e f = f
-both_true false b e f = absurd cc
+use Rattle.task_networks.proofs.PendingNodes.{both, both_true, second_true, either, same_to, address_same_itself, among_to, to_among, not_to, to_not}
 
 implies : (a b : Bool) → (a ≡ true → b ≡ true) → (not a || b) ≡ true
 implies true b f = f refl
@@ -43,33 +39,25 @@ pub to_any : {A : Type 0} (test : A → Bool) (xs : List A) (x : A) → Contains
 to_any test [] x c e = absurd (not-in_empty x c)
 to_any test (y ∷ xs) x c e = elim (head_or_tail y xs x c) [
   | inl f ↦ ap (λ b. b || list_any test xs) (subst (λ z. test z ≡ true) (sym f) e)
-  | inr d ↦ second (test y) (list_any test xs) (to_any test xs x d e)
+  | inr d ↦ second_true (test y) (list_any test xs) (to_any test xs x d e)
 ]
-  where
-    second : (a b : Bool) → b ≡ true → (a || b) ≡ true
-    second true b f = refl
-    second false b f = f
 
 abbrev pub is_below : Address → Address → Bool
 is_below p [] = same_address p []
 is_below p (k ∷ u) = same_address p (k ∷ u) || is_below p u
 
-below_to : (p u : Address) → is_below p u ≡ true → IsBelow p u
+below_to : (p u : Address) → is_below p u ≡ true → IsAbove p u
 below_to p [] e = same_to p [] e
 below_to p (k ∷ u) e = elim (either (same_address p (k ∷ u)) (is_below p u) e) [ inl h ↦ inl (same_to p (k ∷ u) h) | inr h ↦ inr (below_to p u h) ]
 
-to_below : (p u : Address) → IsBelow p u → is_below p u ≡ true
+to_below : (p u : Address) → IsAbove p u → is_below p u ≡ true
 to_below p [] b = subst (λ z. same_address z [] ≡ true) (sym b) refl
 to_below p (k ∷ u) (inl e) = subst (λ z. (same_address z (k ∷ u) || is_below z u) ≡ true) (sym e) (ap (λ b. b || is_below (k ∷ u) u) (address_same_itself (k ∷ u)))
-to_below p (k ∷ u) (inr b) = second (same_address p (k ∷ u)) (is_below p u) (to_below p u b)
-  where
-    second : (a b : Bool) → b ≡ true → (a || b) ≡ true
-    second true b f = refl
-    second false b f = f
+to_below p (k ∷ u) (inr b) = second_true (same_address p (k ∷ u)) (is_below p u) (to_below p u b)
 
 abbrev pub is_begun : List Address → Address → Bool
 is_begun taken [] = true
-is_begun taken (i ∷ p) = is_among taken p
+is_begun taken (i ∷ p) = is_listed taken p
 
 begun_iff : (taken : List Address) (p : Address) → (is_begun taken p ≡ true) ↔ IsBegun taken p
 begun_iff taken [] = (λ e. tt, λ b. refl)
@@ -92,7 +80,7 @@ module _ (N : Net) (precedes : N.Method → ℕ → ℕ → Bool) where
   blocks tree u (j ∷ q) = blocks_by u j q (label_at N tree q)
 
   abbrev pub is_due : Tree N → List Address → Address → Bool
-  is_due tree taken v = not (is_among taken v) && (is_begun taken v && list_all (λ u. not (blocks tree u v) || is_among taken u) (nodes_at N [] tree))
+  is_due tree taken v = not (is_listed taken v) && (is_begun taken v && list_all (λ u. not (blocks tree u v) || is_listed taken u) (nodes_at N [] tree))
 
   abbrev pub are_due : Tree N → List Address → List Address → Bool
   are_due tree taken [] = true
@@ -105,7 +93,7 @@ module _ (N : Net) (precedes : N.Method → ℕ → ℕ → Bool) where
   is_taken (Some (used m)) = true
 
   abbrev pub covers : Tree N → List Address → Bool
-  covers tree order = list_all (λ p. is_taken (label_at N tree p)) order && list_all (λ p. not (is_taken (label_at N tree p)) || is_among order p) (nodes_at N [] tree)
+  covers tree order = list_all (λ p. is_taken (label_at N tree p)) order && list_all (λ p. not (is_taken (label_at N tree p)) || is_listed order p) (nodes_at N [] tree)
 
   abbrev pub is_schedule : Tree N → List Address → Bool
   is_schedule tree order = covers tree order && are_due tree [] order
@@ -134,22 +122,22 @@ module _ (N : Net) (precedes : N.Method → ℕ → ℕ → Bool) where
     due_iff taken v = (to, from)
       where
         clear : Address → Bool
-        clear u = not (blocks tree u v) || is_among taken u
+        clear u = not (blocks tree u v) || is_listed taken u
 
         to : is_due tree taken v ≡ true → IsDue N tree taken v
         to e =
-            let (fresh, rest) = both (not (is_among taken v)) (is_begun taken v && list_all clear (nodes_at N [] tree)) e in
+            let (fresh, rest) = both (not (is_listed taken v)) (is_begun taken v && list_all clear (nodes_at N [] tree)) e in
             let (begun, each) = both (is_begun taken v) (list_all clear (nodes_at N [] tree)) rest in
             record {
-              fresh = λ c. not_to (is_among taken v) fresh (to_among taken v c);
+              fresh = λ c. not_to (is_listed taken v) fresh (to_among taken v c);
               begun = (begun_iff taken v).0 begun;
-              clear = λ u a b. among_to taken u (implied (blocks tree u v) (is_among taken u) (all_to clear (nodes_at N [] tree) each u (lists_address N tree u a)) (to_blocks u v b));
+              clear = λ u a b. among_to taken u (implied (blocks tree u v) (is_listed taken u) (all_to clear (nodes_at N [] tree) each u (lists_address N tree u a)) (to_blocks u v b));
             }
 
         from : IsDue N tree taken v → is_due tree taken v ≡ true
-        from d = both_true (not (is_among taken v)) (is_begun taken v && list_all clear (nodes_at N [] tree)) (to_not (is_among taken v) (λ e. d.fresh (among_to taken v e)))
+        from d = both_true (not (is_listed taken v)) (is_begun taken v && list_all clear (nodes_at N [] tree)) (to_not (is_listed taken v) (λ e. d.fresh (among_to taken v e)))
             (both_true (is_begun taken v) (list_all clear (nodes_at N [] tree)) ((begun_iff taken v).1 d.begun)
-            (to_all clear (nodes_at N [] tree) (λ u c. implies (blocks tree u v) (is_among taken u) (λ b. to_among taken u (d.clear u (nodes N tree tree [] u refl c) (blocks_to u v b))))))
+            (to_all clear (nodes_at N [] tree) (λ u c. implies (blocks tree u v) (is_listed taken u) (λ b. to_among taken u (d.clear u (nodes N tree tree [] u refl c) (blocks_to u v b))))))
 
     dues_to : (taken order : List Address) → are_due tree taken order ≡ true → (more rest : List Address) (v : Address) → order ≡ more ++ v ∷ rest → IsDue N tree (taken ++ more) v
     dues_to taken [] e [] rest v f = absurd cc
@@ -189,7 +177,7 @@ module _ (N : Net) (precedes : N.Method → ℕ → ℕ → Bool) where
         done p = is_taken (label_at N tree p)
 
         listed : Address → Bool
-        listed p = not (is_taken (label_at N tree p)) || is_among order p
+        listed p = not (is_taken (label_at N tree p)) || is_listed order p
 
         to : is_schedule tree order ≡ true → IsSchedule N tree order
         to e =
@@ -198,7 +186,7 @@ module _ (N : Net) (precedes : N.Method → ℕ → ℕ → Bool) where
             record {
               covers = λ p. (
                 λ c. (taken_iff p).0 (all_to done order there p c),
-                λ h. among_to order p (implied (done p) (is_among order p) (all_to listed (nodes_at N [] tree) all p (lists_address N tree p (h.0, h.1))) ((taken_iff p).1 h)),
+                λ h. among_to order p (implied (done p) (is_listed order p) (all_to listed (nodes_at N [] tree) all p (lists_address N tree p (h.0, h.1))) ((taken_iff p).1 h)),
               );
               due = λ taken rest p f. dues_to [] order dues taken rest p f;
             }
@@ -206,5 +194,5 @@ module _ (N : Net) (precedes : N.Method → ℕ → ℕ → Bool) where
         from : IsSchedule N tree order → is_schedule tree order ≡ true
         from s = both_true (covers tree order) (are_due tree [] order)
             (both_true (list_all done order) (list_all listed (nodes_at N [] tree)) (to_all done order (λ p c. (taken_iff p).1 ((s.covers p).0 c)))
-            (to_all listed (nodes_at N [] tree) (λ p c. implies (done p) (is_among order p) (λ h. to_among order p ((s.covers p).1 ((taken_iff p).0 h))))))
+            (to_all listed (nodes_at N [] tree) (λ p c. implies (done p) (is_listed order p) (λ h. to_among order p ((s.covers p).1 ((taken_iff p).0 h))))))
             (to_dues [] order (λ more rest v e. s.due more rest v e))

@@ -38,7 +38,7 @@ module _ (N : Net) (block : N.Method → ℕ → ℕ) (number : N.Work → ℕ) 
 
   -- numbers that are large enough for all that is reached from the top work: each block's is at most the task's,
   -- but for a last block with one child alone whose number isn't above the task's
-  pub record IsBound (top : N.Work) : Type 0 where
+  pub record AreLargeEnough (top : N.Work) : Type 0 where
     pub positive : (w : N.Work) → IsReached N top w → 1 ≤ number w
     -- the children of a block precede those of later blocks
     pub ordered : (m : N.Method) (i j : ℕ) → i < count N m → j < count N m → block m i < block m j → Precedes (N.Pair m) i j

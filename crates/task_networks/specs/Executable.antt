@@ -24,7 +24,7 @@ module _ (N : Net) (State : Type 1) (Allows : State → Label N → Type 0) (nex
   last_state s (l ∷ ls) = last_state (next s l) ls
 
   -- the nodes can be executed in this order, from the first state on
-  pub record IsExecutable (first : State) (tree : Tree N) (order : List Address) : Type 0 where
+  pub record IsExecutableOrder (first : State) (tree : Tree N) (order : List Address) : Type 0 where
     pub labels : List (Label N)
     pub are_labels : AreLabels N tree order labels
     pub allowed : AreAllowed first labels
@@ -32,5 +32,5 @@ module _ (N : Net) (State : Type 1) (Allows : State → Label N → Type 0) (nex
   -- an executable front without open leaves, whose last state makes the goal true
   pub record IsSolution (top : N.Work) (first : State) (Goal : State → Type 0) (tree : Tree N) (order : List Address) : Type 0 where
     pub finished : IsFinished N top tree order
-    pub executable : IsExecutable first tree order
+    pub executable : IsExecutableOrder first tree order
     pub goal : Goal (last_state first executable.labels)

@@ -4,11 +4,12 @@ use Rattle.task_networks.specs.Order.{Precedes, IsLine}
 use Rattle.task_networks.specs.Net.{Net, count}
 use Rattle.task_networks.specs.Lawful.{IsLawful}
 use Rattle.task_networks.specs.Prepared.{IsPrepared}
-use Rattle.task_networks.specs.Tree.{Tree, used, Address, IsBelow, label_at, IsAddress, IsProcessed}
+use Rattle.task_networks.specs.Tree.{Tree, used, Address, IsAbove, label_at, IsAddress, IsProcessed}
 use Rattle.task_networks.specs.Schedule.{IsSchedule}
-use Rattle.task_networks.specs.Pending.{AreDifferent, IsPending, IsWithin, pending}
+use Rattle.task_networks.specs.Pending.{AreDifferent, IsPending, IsWithin}
+use Rattle.task_networks.specs.PendingComputed.{pending}
 use Rattle.task_networks.specs.Front.{IsFinished}
-use Rattle.task_networks.specs.Bound.{AreBlocks, IsBound, IsTheBound}
+use Rattle.task_networks.specs.Bound.{AreBlocks, AreLargeEnough, IsTheBound}
 use Rattle.task_networks.specs.Lifted.{IsLifted}
 use Rattle.task_networks.specs.Strata.{IsLawfulRanking, IsTailRecursive, IsNamedCycle}
 
@@ -36,7 +37,7 @@ module _ (N : Net) where
   abbrev pub EarlierSubtreesStandBefore : Type 0
   EarlierSubtreesStandBefore = (tree : Tree N) (order taken rest : List Address) (q : Address) (m : N.Method) (i j : ℕ) (u v : Address)
       → IsSchedule N tree order → order ≡ taken ++ v ∷ rest
-      → label_at N tree q ≡ Some (used m) → Precedes (N.Pair m) i j → IsBelow (i ∷ q) u → IsAddress N tree u → IsBelow (j ∷ q) v
+      → label_at N tree q ≡ Some (used m) → Precedes (N.Pair m) i j → IsAbove (i ∷ q) u → IsAddress N tree u → IsAbove (j ∷ q) v
       → IsProcessed N tree u × Contains taken u
 
   -- the computed list of what is pending has the pending nodes
@@ -52,12 +53,12 @@ module _ (N : Net) where
   abbrev pub TheBoundIsLargeEnough : Type 0
   TheBoundIsLargeEnough = (top : N.Work) (block : N.Method → ℕ → ℕ) (number group : N.Work → ℕ)
       → ((m : N.Method) → (line : List ℕ) × IsLine (N.Pair m) (count N m) line × AreBlocks (N.Pair m) line (block m))
-      → IsTheBound N block number group top → IsBound N block number top
+      → IsTheBound N block number group top → AreLargeEnough N block number top
 
 -- numbers of schemas that are large enough are so for the ground works
 abbrev pub LiftedBoundIsBound : (N L : Net) → (N.Work → L.Work) → (N.Method → L.Method) → Type 0
 LiftedBoundIsBound N L work method = IsLifted N L work method → (top : N.Work) (block : L.Method → ℕ → ℕ) (number : L.Work → ℕ)
-    → IsBound L block number (work top) → IsBound N (λ m. block (method m)) (λ w. number (work w)) top
+    → AreLargeEnough L block number (work top) → AreLargeEnough N (λ m. block (method m)) (λ w. number (work w)) top
 
 -- a problem with a lawful ranking is tail-recursive
 abbrev pub RankedIsTailRecursive : {Task Edge : Type 0} → (source target : Edge → Task) → List Edge → (Edge → Type 0) → Type 0

@@ -1,9 +1,8 @@
 -- What is pending: the nodes that are begun and not taken yet, and how many they are.
 -- Source: the progression bound of Alford et al., "Bound to Plan", ICAPS 2016. Checks count as tasks.
-use Rattle.std.specs.Prelude.{ℕ, suc, ◌≡◌, ◌≤◌, List, [], ◌∷◌, ◌++◌, length, filter, Bool, true, false, not, ◌&&◌, ◌==◌, Contains}
-use Rattle.std.specs.List.{list_any}
+use Rattle.std.specs.Prelude.{ℕ, ◌≡◌, ◌≤◌, List, [], ◌∷◌, ◌++◌, length, Contains}
 use Rattle.task_networks.specs.Net.{Net}
-use Rattle.task_networks.specs.Tree.{Tree, Trees, open_leaf, done, split, none, more, Address, IsAddress}
+use Rattle.task_networks.specs.Tree.{Tree, Address, IsAddress}
 use Rattle.task_networks.specs.Schedule.{IsBegun}
 
 -- no element stands twice
@@ -36,34 +35,3 @@ module _ (N : Net) where
     pub parts : order ≡ taken ++ rest
     pub pending : ArePending tree taken nodes
     pub many : length nodes ≡ b
-
--- the same, computed
-
-abbrev pub same_address : Address → Address → Bool
-same_address [] [] = true
-same_address (i ∷ p) (j ∷ q) = (i == j) && same_address p q
-same_address [] (j ∷ q) = false
-same_address (i ∷ p) [] = false
-
-abbrev pub is_among : List Address → Address → Bool
-is_among nodes p = list_any (same_address p) nodes
-
-abbrev pub is_pending : List Address → Address → Bool
-is_pending taken [] = not (is_among taken [])
-is_pending taken (i ∷ p) = is_among taken p && not (is_among taken (i ∷ p))
-
-module _ (N : Net) where
-  abbrev mutual
-    -- the nodes of a tree that stands at p, and of trees that are its children from number i on
-    pub nodes_at : Address → Tree N → List Address
-    nodes_at p (open_leaf w) = p ∷ []
-    nodes_at p (done w) = p ∷ []
-    nodes_at p (split m ts) = p ∷ nodes_from p 0 ts
-
-    pub nodes_from : Address → ℕ → Trees N → List Address
-    nodes_from p i none = []
-    nodes_from p i (more t ts) = nodes_at (i ∷ p) t ++ nodes_from p (suc i) ts
-
-  -- all pending nodes
-  abbrev pub pending : Tree N → List Address → List Address
-  pending tree taken = filter (is_pending taken) (nodes_at [] tree)

@@ -3,7 +3,7 @@
 use Rattle.std.specs.Prelude.{ℕ, ◌≡◌, ◌↔◌, List, [], ◌∷◌, ◌++◌, Some, Contains}
 use Rattle.task_networks.specs.Order.{Precedes}
 use Rattle.task_networks.specs.Net.{Net}
-use Rattle.task_networks.specs.Tree.{Tree, used, Address, IsBelow, label_at, IsAddress, IsProcessed}
+use Rattle.task_networks.specs.Tree.{Tree, used, Address, IsAbove, label_at, IsAddress, IsProcessed}
 
 -- the parent is taken, or there is none
 abbrev pub IsBegun : List Address → Address → Type 0
@@ -14,7 +14,7 @@ module _ (N : Net) where
   -- u is in the subtree of a sibling that precedes v
   abbrev pub Blocks : Tree N → Address → Address → Type 0
   Blocks tree u [] = ⊥
-  Blocks tree u (j ∷ q) = (m : N.Method) × (i : ℕ) × (label_at N tree q ≡ Some (used m)) × Precedes (N.Pair m) i j × IsBelow (i ∷ q) u
+  Blocks tree u (j ∷ q) = (m : N.Method) × (i : ℕ) × (label_at N tree q ≡ Some (used m)) × Precedes (N.Pair m) i j × IsAbove (i ∷ q) u
 
   -- v can be taken after these
   pub record IsDue (tree : Tree N) (taken : List Address) (v : Address) : Type 0 where
@@ -22,11 +22,18 @@ module _ (N : Net) where
     pub begun : IsBegun taken v
     pub clear : (u : Address) → IsAddress N tree u → Blocks tree u v → Contains taken u
 
-  -- all processed nodes, each where it can be taken
+  -- All processed nodes, each where it can be taken.
+  -- A schedule of the tree that stands in Tree is t x q p y. The addresses that are pending after each step:
+  --   at first   []
+  --   t          [0]  [1]
+  --   x          [0,0]  [1,0]  [1]      y waits for p and q, since x comes before y
+  --   q          [0,0]  [1]
+  --   p          [1]
+  --   y          none
   pub record IsSchedule (tree : Tree N) (order : List Address) : Type 0 where
     pub covers : (p : Address) → Contains order p ↔ IsProcessed N tree p
     pub due : (taken rest : List Address) (p : Address) → order ≡ taken ++ p ∷ rest → IsDue tree taken p
 
   -- u is in the subtree of a sibling that precedes v, or precedes an ancestor of v
   abbrev pub MustPrecede : Tree N → Address → Address → Type 0
-  MustPrecede tree u v = (c : Address) × IsBelow c v × Blocks tree u c
+  MustPrecede tree u v = (c : Address) × IsAbove c v × Blocks tree u c

@@ -1,6 +1,6 @@
 -- Edges between tasks: reaching, groups, bad cycles and the one that is named, tail recursion, rankings.
 -- Source: this project's, after the tail-recursive problems of Alford et al., "Bound to Plan", ICAPS 2016, and the stratifications of the same authors' earlier work.
-use Rattle.std.specs.Prelude.{ℕ, ◌≡◌, ◌<◌, ◌≤◌, ◌⊎◌, ◌↔◌, List, [], ◌∷◌, ◌++◌, length, Contains}
+use Rattle.std.specs.Prelude.{ℕ, ◌≡◌, ◌<◌, ◌≤◌, ◌⊎◌, List, [], ◌∷◌, ◌++◌, length, Contains}
 
 -- an edge goes from the task of a method to a child that is a task.
 -- They are listed by the method's place, then the child's number, each once
@@ -17,10 +17,6 @@ module _ {Task Edge : Type 0} (source target : Edge → Task) (edges : List Edge
   -- the same, or each reaches the other
   abbrev pub IsOneGroup : Task → Task → Type 0
   IsOneGroup x y = Reaches x y × Reaches y x
-
-  -- numbers for the groups
-  abbrev pub AreGroups : (Task → ℕ) → Type 0
-  AreGroups group = (x y : Task) → (group x ≡ group y) ↔ IsOneGroup x y
 
   -- at the first edge in which two walks differ, this one's is listed earlier
   pub record ComesFirst (walk other : List Edge) : Type 0 where

@@ -20,14 +20,20 @@ pub data Label (N : Net) : Type 0 where
   ran : N.Work → Label N
   used : N.Method → Label N
 
--- the way from the root to a node, the innermost step first: i ∷ p is child i of p
+-- The way from the root to a node, the innermost step first: i ∷ p is child i of p.
+-- A tree of t, whose children are x and y, with x before y; those of x are p and q, in any order. Beside each node stands its address:
+--             t []
+--            /    \
+--       x [0]      y [1]
+--       /   \
+--  p [0,0]   q [1,0]
 abbrev pub Address : Type 0
 Address = List ℕ
 
--- u is p or below it
-abbrev pub IsBelow : Address → Address → Type 0
-IsBelow p [] = p ≡ []
-IsBelow p (k ∷ u) = (p ≡ k ∷ u) ⊎ IsBelow p u
+-- p is u or above it
+abbrev pub IsAbove : Address → Address → Type 0
+IsAbove p [] = p ≡ []
+IsAbove p (k ∷ u) = (p ≡ k ∷ u) ⊎ IsAbove p u
 
 module _ (N : Net) where
   abbrev pub work_of : Tree N → N.Work

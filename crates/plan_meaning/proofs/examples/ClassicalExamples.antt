@@ -18,7 +18,7 @@ use Rattle.plan_model.specs.declared.values.Pddl.{Pddl}
 use Rattle.plan_model.specs.Typing.{Leads, stay, climb, IsPart}
 use Rattle.task_networks.proofs.Lists.{not-in_empty, head_or_tail}
 use Rattle.plan_meaning.specs.Truth.{State, ground, AreTyped, IsTrueIn, after}
-use Rattle.plan_meaning.specs.ClassicalPlan.{IsObject, AreObjects, InTypeOf, IsApplicable, IsExecutable, IsPlan}
+use Rattle.plan_meaning.specs.ClassicalPlan.{HasWord, AreObjects, InTypeOf, IsApplicable, IsExecutable, IsPlan}
 use Rattle.plan_meaning.proofs.TruthEquations.{truth-Holds}
 use Rattle.plan_meaning.proofs.EffectEquations.{adds-Add, adds-And}
 use Rattle.plan_meaning.proofs.examples.TruthExamples.{to, from, object_of}
@@ -153,7 +153,7 @@ b_is_no_thing (object, is, part) =
     no (inr (members, e, a)) = cc
 
 -- the word b is that of object 2 alone
-word_b : (k : ℕ) → IsObject one k (codes "b") → 2 ≡ k
+word_b : (k : ℕ) → HasWord one k (codes "b") → 2 ≡ k
 word_b zero (y, e, f) = let g : o ≡ y = cc in absurd (other_byte (codes "o") (codes "b") (subst (λ (z : Object). slice_get names z.name.number ≡ Some (codes "b")) (sym g) f) refl)
 word_b (suc zero) (y, e, f) = let g : q ≡ y = cc in absurd (other_byte (codes "q") (codes "b") (subst (λ (z : Object). slice_get names z.name.number ≡ Some (codes "b")) (sym g) f) refl)
 word_b (suc (suc zero)) w = refl
@@ -167,7 +167,7 @@ not_of_the_type (a, objects, i, rest) = no objects i.objects_are (subst (λ (z :
     no (k ∷ os) are typed = b_is_no_thing (subst (λ z. InThis z 1) (sym (word_b k are.0)) typed.0)
 
 -- q isn't here
-word_q : (k : ℕ) → IsObject one k (codes "q") → 1 ≡ k
+word_q : (k : ℕ) → HasWord one k (codes "q") → 1 ≡ k
 word_q zero (y, e, f) = let g : o ≡ y = cc in absurd (other_byte (codes "o") (codes "q") (subst (λ (z : Object). slice_get names z.name.number ≡ Some (codes "q")) (sym g) f) refl)
 word_q (suc zero) w = refl
 word_q (suc (suc zero)) (y, e, f) = let g : b ≡ y = cc in absurd (other_byte (codes "b") (codes "q") (subst (λ (z : Object). slice_get names z.name.number ≡ Some (codes "q")) (sym g) f) refl)

@@ -1,5 +1,5 @@
 -- Edges, groups and blocks of a worked row, each from parts that compute.
-use Rattle.std.proofs.Common.{ℕ, zero, suc, ◌≡◌, ◌<◌, ◌⊎◌, ◌↔◌, inl, inr, List, [], ◌∷◌, ◌++◌, refl, ap, sym, subst, ◌∙◌, Contains, arith}
+use Rattle.std.proofs.Common.{ℕ, zero, suc, ◌≡◌, ◌<◌, ◌⊎◌, ◌↔◌, inl, inr, List, [], ◌∷◌, ◌++◌, ap, sym, subst, ◌∙◌, Contains, arith}
 use Rattle.std.specs.Prelude.{take, drop}
 use Rattle.plan_model.specs.declared.values.Compiled.{Compiled}
 use Rattle.task_networks.specs.Order.{Precedes, direct, through, IsCut}
@@ -8,6 +8,7 @@ use Rattle.task_networks.specs.Strata as Walks
 use Rattle.task_networks.proofs.Lists.{not-in_empty, head_or_tail}
 use Rattle.plan_meaning.specs.Schemas.{Schema, task, action, check}
 use Rattle.plan_meaning.specs.Strata.{Edge, IsEarlier, IsEdge, AreEdges, source, target, IsOneGroup}
+use Rattle.plan_meaning.specs.Bound.{group_of}
 use Rattle.plan_meaning.proofs.ListedItems.{Every, of_each}
 
 abbrev pub edge : ℕ → ℕ → Edge
@@ -34,11 +35,9 @@ in_order (x ∷ y ∷ edges) (d ∷ before) rest e f o g = in_order (y ∷ edges
 pub are_edges_by : (c : Compiled) (edges : List Edge) → Every (IsEdge c) edges → ((m i : ℕ) → IsEdge c (edge m i) → Contains edges (edge m i)) → InOrder edges → AreEdges c edges
 are_edges_by c edges each all order = record { all = λ e. (of_each (IsEdge c) edges each e, all e.method e.child); in_order = λ before rest e f g. in_order edges before rest e f order g }
 
--- a number for each task, and none for what isn't one
+-- each task is a group of its own
 abbrev pub own_group : Schema → ℕ
-own_group (action a) = 0
-own_group (check m) = 0
-own_group (task t) = suc t
+own_group = group_of (λ t. t)
 
 pub of_own_group : (s : Schema) (t : ℕ) → own_group s ≡ own_group (task t) → s ≡ task t
 of_own_group (action a) t e = absurd (omega arith)
@@ -68,19 +67,11 @@ module _ (c : Compiled) (edges : List Edge) (are : AreEdges c edges) (rank : Sch
       go (inr k) (inl e) = sym e
       go (inr k) (inr h) = absurd (omega arith)
 
-  pub own_groups : Every StaysOrFalls edges → (s : Schema) (t : ℕ) → (own_group s ≡ own_group (task t)) ↔ ((u : ℕ) × (s ≡ task u) × IsOneGroup c s (task t))
-  own_groups falls s t = (to s, from)
+  pub own_groups : Every StaysOrFalls edges → (t u : ℕ) → (t ≡ u) ↔ IsOneGroup c (task t) (task u)
+  own_groups falls t u = (λ e. (edges, are, (([], ap task e), ([], ap task (sym e)))), λ g. number (ap own_group (one_group_is_one falls (task t) (task u) g)))
     where
-      same : (u : ℕ) → u ≡ t → IsOneGroup c (task u) (task t)
-      same u e = (edges, are, (([], ap task e), ([], ap task (sym e))))
-
-      to : (s : Schema) → own_group s ≡ suc t → (u : ℕ) × (s ≡ task u) × IsOneGroup c s (task t)
-      to (action a) e = absurd (omega arith)
-      to (check m) e = absurd (omega arith)
-      to (task u) e = (u, refl, same u (omega arith))
-
-      from : (u : ℕ) × (s ≡ task u) × IsOneGroup c s (task t) → own_group s ≡ own_group (task t)
-      from (u, e, g) = ap own_group (one_group_is_one falls s (task t) g)
+      number : suc t ≡ suc u → t ≡ u
+      number e = omega arith
 
 -- without pairs there is one block
 pub one_block : {Pairs : ℕ → ℕ → Type 0} (line : List ℕ) → ((i j : ℕ) → Pairs i j → ⊥) → AreBlocks Pairs line (λ i. 0)

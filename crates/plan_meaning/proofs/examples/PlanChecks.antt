@@ -9,7 +9,7 @@ use Rattle.task_networks.proofs.Filters.{filter_to, to_filter}
 use Rattle.task_networks.proofs.PendingNodes.{both, not_to, to_not}
 use Rattle.task_networks.proofs.Tests.{any_to, to_any}
 use Rattle.plan_model.specs.declared.networks.Pair.{Pair}
-use Rattle.plan_meaning.proofs.examples.Unequal.{both_true}
+use Rattle.task_networks.proofs.PendingNodes.{both_true}
 use Rattle.plan_meaning.specs.Compilation.{pair, Pairs}
 
 -- where a list of numbers is cut, those before are the lesser ones

@@ -13,7 +13,7 @@ use Rattle.plan_model.specs.declared.values.Hddl.{Hddl}
 use Rattle.task_networks.specs.Order.{IsLine}
 use Rattle.task_networks.specs.Spelling.{numbers, is_heir}
 use Rattle.plan_meaning.specs.Truth.{IsTrueIn}
-use Rattle.plan_meaning.specs.Compilation.{Counts, Pairs, children, pairs, last_of, AreGuards, IsMethodPlan}
+use Rattle.plan_meaning.specs.Compilation.{AsksSomething, Pairs, children, pairs, last_of, AreGuards, IsMethodPlan}
 use Rattle.plan_meaning.proofs.TruthEquations.{truth-Holds}
 use Rattle.plan_meaning.proofs.examples.TruthExamples.{to}
 use Rattle.plan_meaning.proofs.examples.RowValues.{always}
@@ -22,7 +22,7 @@ use Rattle.plan_meaning.proofs.examples.RowChecks.{always_true, untested}
 use Rattle.plan_meaning.proofs.examples.PlanChecks.{line_up, copiers_by, is_top}
 
 -- an atom is no empty conjunction: it isn't true everywhere
-pub holds_counts : (a : Atom) → Counts (Holds a)
+pub holds_counts : (a : Atom) → AsksSomething (Holds a)
 holds_counts a e = to (λ i. truth-Holds (λ o t. ⊥) (λ g. ⊥) a i []) (subst (λ f. IsTrueIn (λ o t. ⊥) (λ g. ⊥) f []) (sym e) (always_true (λ o t. ⊥) (λ g. ⊥) []))
 
 pub leaf_is_not_at_once : Leaf ≡ AtOnce → ⊥
@@ -59,7 +59,7 @@ plain h mode s plan pre checked tested f = record {
   guards = f.guards;
 }
 
-pub with_check : (h : Hddl) (s : MethodSchema) (plan : MethodPlan) → Counts s.pre → plan.checked ≡ true → plan.tested ≡ false → Fits h s plan → IsMethodPlan h Leaf s plan
+pub with_check : (h : Hddl) (s : MethodSchema) (plan : MethodPlan) → AsksSomething s.pre → plan.checked ≡ true → plan.tested ≡ false → Fits h s plan → IsMethodPlan h Leaf s plan
 with_check h s plan pre checked tested f = record {
   checked = (λ t. (refl, pre), λ k. checked);
   tested = (λ t. (let e : false ≡ true = sym tested ∙ t in untested e), λ k. absurd (leaf_is_not_at_once k.0));
@@ -71,7 +71,7 @@ with_check h s plan pre checked tested f = record {
   guards = f.guards;
 }
 
-pub when_applied : (h : Hddl) (s : MethodSchema) (plan : MethodPlan) → Counts s.pre → plan.checked ≡ false → plan.tested ≡ true → Fits h s plan → IsMethodPlan h AtOnce s plan
+pub when_applied : (h : Hddl) (s : MethodSchema) (plan : MethodPlan) → AsksSomething s.pre → plan.checked ≡ false → plan.tested ≡ true → Fits h s plan → IsMethodPlan h AtOnce s plan
 when_applied h s plan pre checked tested f = record {
   checked = (λ t. (let e : false ≡ true = sym checked ∙ t in untested e), λ k. absurd (leaf_is_not_at_once (sym k.0)));
   tested = (λ t. (refl, pre), λ k. tested);

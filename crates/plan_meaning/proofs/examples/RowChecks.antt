@@ -6,7 +6,8 @@ use Rattle.plan_model.specs.declared.steps.GroundAction.{GroundAction}
 use Rattle.plan_model.specs.declared.values.Compiled.{Compiled}
 use Rattle.task_networks.specs.Net.{Net}
 use Rattle.task_networks.specs.Tree.{Tree, Address, Label, waits, label_at, work_of, IsGrown, IsOpen}
-use Rattle.task_networks.specs.Pending.{nodes_at, pending, IsPending}
+use Rattle.task_networks.specs.Pending.{IsPending}
+use Rattle.task_networks.specs.PendingComputed.{nodes_at, pending}
 use Rattle.task_networks.proofs.PendingNodes.{pending_iff}
 use Rattle.task_networks.specs.Schedule.{IsSchedule}
 use Rattle.task_networks.specs.Front.{IsFront}

@@ -5,11 +5,11 @@ use Rattle.std.proofs.lemmas.Fmt.{decimal_injective}
 use Rattle.htn_base.specs.Escapes.{slot_word}
 use Rattle.plan_model.specs.declared.steps.GroundAction.{GroundAction}
 use Rattle.task_networks.specs.Net.{Net}
-use Rattle.task_networks.specs.Tree.{Tree, Trees, split, more, done, none, open_leaf, Address, label, label_at, at, child_at, used, IsGrown, AreGrown, works_of, IsAddress}
+use Rattle.task_networks.specs.Tree.{Tree, split, done, open_leaf, Address, label, label_at, at, used, IsGrown, IsAddress}
 use Rattle.task_networks.specs.Pending.{IsPending}
 use Rattle.task_networks.specs.Spelling.{Act, apply, run, others, AreActs, IsAct, Spells}
 use Rattle.task_networks.proofs.Lists.{not-in_empty, head_or_tail}
-use Rattle.task_networks.proofs.Nodes.{parent, child_below}
+use Rattle.task_networks.proofs.Nodes.{child_below, grown_at, child_in}
 use Rattle.task_networks.proofs.ScheduleLaws.{root_stands_first}
 use Rattle.plan_meaning.specs.Network.{Work, action, check, task, GroundMethod, network}
 use Rattle.plan_meaning.specs.Solution.{top_work}
@@ -72,24 +72,6 @@ module _ where
   is_one (suc zero) e = refl
   is_one (suc (suc k)) e = absurd (less 6 7 (omega arith) (ap size e))
 
--- a subtree of a grown tree is grown, and has the children of its method
-module _ where
-  child_grown : (ts : Trees N) (i : ℕ) (t : Tree N) → AreGrown N ts → child_at N ts i ≡ Some t → IsGrown N t
-  child_grown none i t g e = absurd cc
-  child_grown (more u ts) zero t g e = subst (IsGrown N) (let f : u ≡ t = cc in f) g.0
-  child_grown (more u ts) (suc i) t g e = child_grown ts i t g.1 e
-
-  part_grown : (tree : Tree N) (q : Address) (t : Tree N) → IsGrown N tree → at N tree q ≡ Some t → IsGrown N t
-  part_grown tree [] t g e = subst (IsGrown N) (let f : tree ≡ t = cc in f) g
-  part_grown tree (i ∷ q) t g e =
-      let (m, ts, f, h) = parent N tree i q t e in
-      child_grown ts i t (part_grown tree q (split m ts) g f).2 h
-
-  has_child : (ts : Trees N) (i : ℕ) → i < length (works_of N ts) → (t : Tree N) × (child_at N ts i ≡ Some t)
-  has_child none i l = absurd (omega arith)
-  has_child (more t ts) zero l = (t, refl)
-  has_child (more t ts) (suc i) l = has_child ts i (omega arith)
-
 -- method 1 has two children, the second is the heir
 module _ (g : GroundMethod) (one : g.number ≡ 1) where
   others_are : others N g ≡ 0 ∷ []
@@ -110,7 +92,7 @@ module _ (g : GroundMethod) (one : g.number ≡ 1) where
       go (Some (done w)) f h = absurd cc
       go (Some (split m ts)) f h =
           let same : m ≡ g = cc in
-          let (t, k) = has_child ts i (omega (arith, ap length (part_grown tree q (split m ts) grown f).1, count_is, ap (λ z. length (N.works z)) same)) in
+          let (t, k) = child_in N ts i (omega (arith, ap length (grown_at N tree q (split m ts) grown f).1, count_is, ap (λ z. length (N.works z)) same)) in
           (label N t, ap (option_map (label N)) (child_below N tree i q m ts f ∙ k))
 
 -- no front, whatever its slots are, is spelled by it

@@ -1,5 +1,5 @@
 -- Numbers and words that differ.
-use Rattle.std.proofs.Common.{ℕ, ◌≡◌, ◌<◌, ◌==◌, ◌&&◌, Bool, true, false, List, Some, ap, arith, eq-eqb, nat_lt}
+use Rattle.std.proofs.Common.{ℕ, ◌≡◌, ◌<◌, ◌==◌, true, false, List, Some, ap, arith, eq-eqb, nat_lt}
 use Rattle.plan_meaning.proofs.examples.TruthExamples.{first_of}
 
 pub less : (i j : ℕ) → i < j → j ≡ i → ⊥
@@ -17,7 +17,3 @@ lt_to a b e = grind (arith, e)
 
 pub to_lt : (a b : ℕ) → a < b → nat_lt a b ≡ true
 to_lt a b l = grind (arith, l)
-
-pub both_true : (a b : Bool) → a ≡ true → b ≡ true → (a && b) ≡ true
-both_true true b e f = f
-both_true false b e f = absurd cc

@@ -28,7 +28,7 @@ use Rattle.plan_texts.proofs.Spelled.{sound_roll}
 use Rattle.task_networks.specs.Order.{Precedes, direct, through, ArePairsOf, IsAcyclic}
 use Rattle.task_networks.proofs.Lists.{head_or_tail, not-in_empty}
 use Rattle.plan_meaning.specs.Laws.{AreOrdered}
-use Rattle.plan_meaning.specs.Compilation.{Counts, Pairs, IsCompiled}
+use Rattle.plan_meaning.specs.Compilation.{AsksSomething, Pairs, IsCompiled}
 use Rattle.slot_encoding.specs.SourceParts.{renamed}
 use Rattle.slot_encoding.specs.OrderFormulas.{free_parts}
 use Rattle.slot_encoding.specs.EncodedNames.{free_predicate, encoded_types, encoded_objects, encoded_predicates, order_numbers}
@@ -44,7 +44,7 @@ use Rattle.slot_encoding.specs.EncodedWords.{numbered, formula_words_step, formu
 abbrev never : Formula
 never = Or []
 
-counts : Counts never
+counts : AsksSomething never
 counts e =
     let f : is_empty never ≡ false = ap is_empty (sym (rolls-Or [])) ∙ fold-roll-Formula Bool no_part (Formula-F.Or []) in
     let g : is_empty (And []) ≡ true = ap is_empty (sym (rolls-And [])) ∙ fold-roll-Formula Bool no_part (Formula-F.And []) in

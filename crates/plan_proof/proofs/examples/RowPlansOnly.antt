@@ -8,7 +8,7 @@ use Rattle.task_networks.specs.Net.{Net}
 use Rattle.task_networks.specs.Spelling.{Act, apply, run, others, Spells}
 use Rattle.task_networks.specs.Lawful.{IsLawful}
 use Rattle.task_networks.proofs.ScheduleLaws.{prepared_is_lawful}
-use Rattle.slot_machine.specs.Machine.{State, start, after, Runs}
+use Rattle.slot_machine.specs.Machine.{SlotState, start, after_act, Runs}
 use Rattle.slot_machine.proofs.SpellingRuns.{runs_from_spells}
 use Rattle.plan_meaning.specs.ClassicalPlan.{IsPlan}
 use Rattle.plan_meaning.specs.Truth.{AreTyped}
@@ -70,8 +70,8 @@ abbrev applied : ℕ → List ℕ → GroundMethod → Act N
 applied h new g = apply h new g
 
 module _ (b : ℕ) where
-  abbrev begun : State N
-  begun = after N (start N b top) (apply 1 [] (uses 0))
+  abbrev begun : SlotState N
+  begun = after_act N (start N b top) (apply 1 [] (uses 0))
 
   -- after the start no slot holds anything
   nothing_held : (x : ℕ) (w : Work) → begun.holds x w → ⊥
@@ -101,7 +101,7 @@ module _ (b : ℕ) where
       first = let e = r.0.holds.0 in λ i. applied (e i) (no_new i) (same i)
 
       rest : acts ≡ []
-      rest = nothing_left acts (subst (λ z. Runs N (after N (start N b top) z) acts) first r.1)
+      rest = nothing_left acts (subst (λ z. Runs N (after_act N (start N b top) z) acts) first r.1)
 
   law : IsLawful N
   law = prepared_is_lawful N (prepared empty.hddl Leaf empty (empty_row Leaf).ordered (empty_is_compiled Leaf))

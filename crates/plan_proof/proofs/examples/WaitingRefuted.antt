@@ -10,7 +10,7 @@ use Rattle.task_networks.proofs.ScheduleLaws.{prepared_is_lawful}
 use Rattle.task_networks.specs.Net.{Net, count}
 use Rattle.task_networks.specs.Tree.{Tree, Address, Label, label_at, used, ran}
 use Rattle.task_networks.specs.Spelling.{Act, apply, run, others, AreActs, Spells}
-use Rattle.slot_machine.specs.Machine.{State, start, after, Runs, IsSlotOf}
+use Rattle.slot_machine.specs.Machine.{SlotState, start, after_act, Runs, IsSlotOf}
 use Rattle.slot_machine.proofs.SpellingRuns.{runs_from_spells}
 use Rattle.plan_meaning.specs.Network.{Work, action, check, task, GroundMethod, network}
 use Rattle.plan_meaning.specs.Solution.{top_work}
@@ -149,14 +149,14 @@ module _ (b : ℕ) (small : b < 2 ^ 32) (h1 h2 h3 h4 : ℕ) (in_1 : h1 ≤ b) (i
     (new1 new2 : List ℕ) (g1 g2 : GroundMethod) (w3 w4 : Work)
     (e1 : begins ≡ step_of waiting (apply h1 new1 g1)) (e2 : splits ≡ step_of waiting (apply h2 new2 g2)) (e4 : ends ≡ step_of waiting (run h4 w4))
     (r : Runs N (start N b (top_work waiting)) (apply h1 new1 g1 ∷ apply h2 new2 g2 ∷ run h3 w3 ∷ run h4 w4 ∷ [])) where
-  abbrev s1 : State N
-  s1 = after N (start N b (top_work waiting)) (apply h1 new1 g1)
+  abbrev s1 : SlotState N
+  s1 = after_act N (start N b (top_work waiting)) (apply h1 new1 g1)
 
-  abbrev s2 : State N
-  s2 = after N s1 (apply h2 new2 g2)
+  abbrev s2 : SlotState N
+  s2 = after_act N s1 (apply h2 new2 g2)
 
-  abbrev s3 : State N
-  s3 = after N s2 (run h3 w3)
+  abbrev s3 : SlotState N
+  s3 = after_act N s2 (run h3 w3)
 
   top_method : g1.number ≡ 0
   top_method = is_zero g1.number (ap name_of e1)

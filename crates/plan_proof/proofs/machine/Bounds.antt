@@ -18,12 +18,14 @@ use Rattle.task_networks.specs.Bound as Bounds
 use Rattle.task_networks.proofs.BoundLaws.{the_bound_is_large_enough, lifted_bound_is_bound}
 use Rattle.slot_machine.proofs.Width.{bound_holds}
 use Rattle.plan_meaning.specs.Network as Network
-use Rattle.plan_meaning.specs.Network.{Work, GroundMethod, network, child_of, work_of, IsPairBy, top_task}
+use Rattle.plan_meaning.specs.Network.{Work, GroundMethod, network, child_of, ground_work, top_task}
+use Rattle.plan_meaning.proofs.MethodParts.{IsPairBy}
 use Rattle.plan_meaning.specs.Schemas as Schemas
 use Rattle.plan_meaning.specs.Schemas.{Schema, schemas, schema_of}
 use Rattle.plan_meaning.specs.Compilation.{IsCompiled}
 use Rattle.plan_meaning.specs.Solution.{top_work}
-use Rattle.plan_meaning.specs.Bound.{IsBound}
+use Rattle.plan_meaning.specs.Bound.{group_of, IsBound}
+use Rattle.plan_meaning.proofs.MethodParts.{head_by, works_by, head_schema_by, schemas_by}
 use Rattle.plan_meaning.proofs.CompiledNetworks.{plan_of}
 use Rattle.plan_proof.specs.Headline.{IsFaithful, LosesNothing}
 use Rattle.plan_meaning.specs.Truth.{values_of}
@@ -36,11 +38,11 @@ schema (Network.check m values) = Schemas.check m
 schema (Network.task t args) = Schemas.task t
 
 module _ (c : Compiled) where
-  schema-head : (g : GroundMethod) (o : Option MethodPlan) → schema (Network.head_by g o) ≡ Schemas.head_by o
+  schema-head : (g : GroundMethod) (o : Option MethodPlan) → schema (head_by g o) ≡ head_schema_by o
   schema-head g None = refl
   schema-head g (Some plan) = refl
 
-  schema-work : (g : GroundMethod) (hd : Head) (args : List ℕ) → schema (work_of g hd args) ≡ schema_of g.number hd
+  schema-work : (g : GroundMethod) (hd : Head) (args : List ℕ) → schema (ground_work g hd args) ≡ schema_of g.number hd
   schema-work g (Task t) args = refl
   schema-work g (Action a) args = refl
   schema-work g Check args = refl
@@ -52,7 +54,7 @@ module _ (c : Compiled) where
       let f = schema-children g cs in
       cc
 
-  schema-works : (g : GroundMethod) (o : Option MethodPlan) → map schema (Network.works_by g o) ≡ Schemas.works_by g.number o
+  schema-works : (g : GroundMethod) (o : Option MethodPlan) → map schema (works_by g o) ≡ schemas_by g.number o
   schema-works g None = refl
   schema-works g (Some plan) = schema-children g plan.schema.children
 
@@ -66,7 +68,7 @@ module _ (c : Compiled) where
 
 module _ (h : Hddl) (mode : Checks) (c : Compiled) (compiled : IsCompiled h mode c) (n : ℕ) (bound : IsBound c n) where
   abbrev HasBlocks : ℕ → Option MethodPlan → Type 0
-  HasBlocks m o = (line : List ℕ) × IsLine (IsPairBy o) (length (Schemas.works_by m o)) line × AreBlocks (IsPairBy o) line (bound.block m)
+  HasBlocks m o = (line : List ℕ) × IsLine (IsPairBy o) (length (schemas_by m o)) line × AreBlocks (IsPairBy o) line (bound.block m)
 
   no_cut : (before rest : List ℕ) (i : ℕ) → [] ≡ before ++ i ∷ rest → ⊥
   no_cut [] rest i e = cc
@@ -75,15 +77,15 @@ module _ (h : Hddl) (mode : Checks) (c : Compiled) (compiled : IsCompiled h mode
   blocks : (m : ℕ) → HasBlocks m (slice_get c.methods m)
   blocks m = go (slice_get c.methods m) refl
     where
-      go : (o : Option MethodPlan) → slice_get c.methods m ≡ o → (line : List ℕ) × IsLine (IsPairBy o) (length (Schemas.works_by m o)) line × AreBlocks (IsPairBy o) line (bound.block m)
+      go : (o : Option MethodPlan) → slice_get c.methods m ≡ o → (line : List ℕ) × IsLine (IsPairBy o) (length (schemas_by m o)) line × AreBlocks (IsPairBy o) line (bound.block m)
       go None e = ([], record { whole = λ i l. absurd (let x : i < 0 = l in omega arith); each = λ before rest i f. absurd (no_cut before rest i f) }, λ i j x y. absurd (not-in_empty i x))
       go (Some plan) e =
           let (s, k, is) = plan_of h mode (h.top ∷ h.methods) c.methods m plan compiled.methods e in
           let many = length-map plan.schema.children (λ (child : Child). schema_of m child.head) in
           (plan.line, subst (λ z. IsLine (IsPairBy (Some plan)) z plan.line) (sym many) is.line, bound.blocks m plan e)
 
-  schema_bound : Bounds.IsBound (schemas c) bound.block bound.number (Schemas.task (top_task c))
-  schema_bound = the_bound_is_large_enough (schemas c) (Schemas.task (top_task c)) bound.block bound.number bound.group blocks bound.numbers
+  schema_bound : Bounds.AreLargeEnough (schemas c) bound.block bound.number (Schemas.task (top_task c))
+  schema_bound = the_bound_is_large_enough (schemas c) (Schemas.task (top_task c)) bound.block bound.number (group_of bound.group) blocks bound.numbers
 
   pub within_bound : (tree : Tree (network c)) (order : List Address) → IsFront (network c) (top_work c) tree order → IsWithin (network c) n tree order
   within_bound tree order front = subst (λ z. IsWithin (network c) z tree order) bound.is

@@ -20,7 +20,7 @@ Changed S D A g = (S g × (D g → ⊥)) ⊎ A g
 
 module _ (c : Compiled) (b : ℕ) (style : Style) (p : Pddl) where
   -- equal states read the same
-  pub reads_alike : (S S' : State) (t t' : Machine.State (network c)) (T T' : State) → ((g : GroundAtom) → S g ↔ S' g) → AreSame (network c) t t' → ((g : GroundAtom) → T g ↔ T' g) → Reads c b style p S t T → Reads c b style p S' t' T'
+  pub reads_alike : (S S' : State) (t t' : Machine.SlotState (network c)) (T T' : State) → ((g : GroundAtom) → S g ↔ S' g) → AreSame (network c) t t' → ((g : GroundAtom) → T g ↔ T' g) → Reads c b style p S t T → Reads c b style p S' t' T'
   reads_alike S S' t t' T T' s m q r = record {
     holds = λ x w. (let h = r.holds x w in let a = m.holds x w in let e = s (held c b style p x w) in (λ k. (let z = h.0 (a.1 k) in (z.0, z.1, e.0 z.2)), λ z. a.0 (h.1 (z.0, z.1, e.1 z.2))));
     free = λ x. (let h = r.free x in let a = m.free x in let e = s (free_atom c b style p x) in (λ k. (let z = h.0 (a.1 k) in (z.0, e.0 z.1)), λ z. a.0 (h.1 (z.0, e.1 z.1))));
@@ -29,7 +29,7 @@ module _ (c : Compiled) (b : ℕ) (style : Style) (p : Pddl) where
     guards = λ ty o k. (let h = r.guards ty o k in let e = s (atom (guard_predicate c ty) o) in (λ z. h.0 (e.1 z), λ z. e.0 (h.1 z)));
   }
 
-  module _ (d : PredicatesDiffer c) (S : State) (t : Machine.State (network c)) (T : State) (r : Reads c b style p S t T) (h : ℕ) (w : Work) (known : IsKnown c w) (slot : IsSlot c b style p h)
+  module _ (d : PredicatesDiffer c) (S : State) (t : Machine.SlotState (network c)) (T : State) (r : Reads c b style p S t T) (h : ℕ) (w : Work) (known : IsKnown c w) (slot : IsSlot c b style p h)
       (D A : GroundAtom → Type 0) (source_D : (g : GroundAtom) → D g → g.predicate < length c.hddl.predicates) (source_A : (g : GroundAtom) → A g → g.predicate < length c.hddl.predicates) where
     abbrev pub Goes : GroundAtom → Type 0
     Goes g = (g ≡ held c b style p h w) ⊎ (((o : ℕ) × IsSlotObject c b style p o × (g ≡ before_atom c b style p h o)) ⊎ D g)
@@ -37,7 +37,7 @@ module _ (c : Compiled) (b : ℕ) (style : Style) (p : Pddl) where
     abbrev pub Comes : GroundAtom → Type 0
     Comes g = (g ≡ free_atom c b style p h) ⊎ A g
 
-    abbrev pub freed : Machine.State (network c)
+    abbrev pub freed : Machine.SlotState (network c)
     freed = record {
       holds = λ x v. t.holds x v × ((x ≡ h) × (v ≡ w) → ⊥);
       free = λ x. t.free x ⊎ (x ≡ h);

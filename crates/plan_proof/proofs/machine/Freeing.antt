@@ -34,7 +34,7 @@ module _ (c : Compiled) (b : ℕ) (style : Style) (p : Pddl) where
   abbrev pub WaitsForNone : State → ℕ → Type 0
   WaitsForNone S h = (o : ℕ) → IsSlotObject c b style p o → S (record { predicate = before_predicate c; args = o ∷ slot_object c b style p h ∷ [] }) → ⊥
 
-  pub unblocked_iff : (S : State) (t : Machine.State (network c)) (T : State) (h : ℕ) → Reads c b style p S t T → IsSlot c b style p h → Machine.IsUnblocked (network c) t h ↔ WaitsForNone S h
+  pub unblocked_iff : (S : State) (t : Machine.SlotState (network c)) (T : State) (h : ℕ) → Reads c b style p S t T → IsSlot c b style p h → Machine.IsUnblocked (network c) t h ↔ WaitsForNone S h
   unblocked_iff S t T h r slot = (
     λ u o s q. (let (x, k, e) = (slot_of c b style p o).0 s in u x ((r.before x h).1 (k, slot, subst (λ z. S (record { predicate = before_predicate c; args = z ∷ slot_object c b style p h ∷ [] })) e q))),
     λ w x f. (let (s, k, q) = (r.before x h).0 f in w (slot_object c b style p x) ((slot_of c b style p (slot_object c b style p x)).1 (x, s, refl)) q),
@@ -112,7 +112,7 @@ module _ (c : Compiled) (b : ℕ) (style : Style) (p : Pddl) where
         from (inr (inr x)) = inr (inr ((one-append (D g) clear change vs).1 (inr x)))
 
     -- the slot of what is held is free after
-    module _ (t : Machine.State (network c)) (T : State) (d : PredicatesDiffer c) (r : Reads c b style p S t T) (w : Work) (known : IsKnown c w) (slot : IsSlot c b style p h) (a : Atom) (is : ground vs a ≡ held c b style p h w)
+    module _ (t : Machine.SlotState (network c)) (T : State) (d : PredicatesDiffer c) (r : Reads c b style p S t T) (w : Work) (known : IsKnown c w) (slot : IsSlot c b style p h) (a : Atom) (is : ground vs a ≡ held c b style p h w)
         (change : List Effect) (SD SA : GroundAtom → Type 0) (source_D : (g : GroundAtom) → SD g → g.predicate < length c.hddl.predicates) (source_A : (g : GroundAtom) → SA g → g.predicate < length c.hddl.predicates)
         (change_D : (g : GroundAtom) → OneTrue (D g) change vs ↔ SD g) (change_A : (g : GroundAtom) → OneTrue (A g) change vs ↔ SA g) where
       abbrev F : State

@@ -31,7 +31,7 @@ module _ (c : Compiled) (b : ℕ) (style : Style) (p : Pddl) (means : PiecesMean
   N = network c
 
   -- what is held is known, and what is held or free is a slot
-  pub record IsSane (t : Machine.State N) : Type 0 where
+  pub record IsSane (t : Machine.SlotState N) : Type 0 where
     pub holds : (x : ℕ) (w : Work) → t.holds x w → IsKnown c w × IsSlot c b style p x
     pub free : (x : ℕ) → t.free x → IsSlot c b style p x
 
@@ -44,7 +44,7 @@ module _ (c : Compiled) (b : ℕ) (style : Style) (p : Pddl) (means : PiecesMean
       known : IsKnown c (top_work c)
       known = let e : length c.hddl.tasks ≤ length c.hddl.tasks = omega arith in e
 
-  sane_after : (t : Machine.State N) (act : Act N) → IsSane t → May N t act → IsSane (Machine.after N t act)
+  sane_after : (t : Machine.SlotState N) (act : Act N) → IsSane t → May N t act → IsSane (Machine.after_act N t act)
   sane_after t (run h w) s may = record {
     holds = λ x v k. s.holds x v k.0;
     free = λ x k. elim k [ inl y ↦ s.free x y | inr e ↦ subst (IsSlot c b style p) (sym e) (s.holds h w may.holds).1 ];
@@ -64,7 +64,7 @@ module _ (c : Compiled) (b : ℕ) (style : Style) (p : Pddl) (means : PiecesMean
           go None e = s.free x (may.free x (get_contains new i x e))
           go (Some k) e = elim (insert_cases k h new x (get_contains (Machine.insert_at k h new) i x e)) [ inl f ↦ subst (IsSlot c b style p) f slot | inr d ↦ s.free x (may.free x d) ]
 
-  act_is : (t : Machine.State N) (act : Act N) → IsSane t → May N t act → (a : ActionSchema) × (os : List ℕ) × IsActBy c b style p act a os
+  act_is : (t : Machine.SlotState N) (act : Act N) → IsSane t → May N t act → (a : ActionSchema) × (os : List ℕ) × IsActBy c b style p act a os
   act_is t (run h (action n args)) s may =
       let (known, slot) = s.holds h (action n args) may.holds in
       let (ps, (x, is, e), ty) = known in (
@@ -101,9 +101,9 @@ module _ (c : Compiled) (b : ℕ) (style : Style) (p : Pddl) (means : PiecesMean
       long : length (others N g) ≡ length ground.plan.schema.children - 1
       long = others_long N means.lawful g ∙ ap (λ n. n - 1) (count_is c means.fits g ground.plan ground.is)
 
-  acts_from : (t : Machine.State N) (acts : List (Act N)) → IsSane t → Runs N t acts → AreActs c b style p acts
+  acts_from : (t : Machine.SlotState N) (acts : List (Act N)) → IsSane t → Runs N t acts → AreActs c b style p acts
   acts_from t [] s r = tt
-  acts_from t (act ∷ acts) s r = (act_is t act s r.0, acts_from (Machine.after N t act) acts (sane_after t act s r.0) r.1)
+  acts_from t (act ∷ acts) s r = (act_is t act s r.0, acts_from (Machine.after_act N t act) acts (sane_after t act s r.0) r.1)
 
   pub acts_are : 1 ≤ b → (acts : List (Act N)) → Runs N (start N b (top_work c)) acts → AreActs c b style p acts
   acts_are positive acts r = acts_from (start N b (top_work c)) acts (sane_start positive) r

@@ -14,7 +14,8 @@ use Rattle.task_networks.specs.Lawful.{IsLawful}
 use Rattle.task_networks.specs.Spelling.{others}
 use Rattle.slot_machine.proofs.OtherChildren.{rest_of, length-rest}
 use Rattle.plan_meaning.specs.Truth.{values_of, AreTyped}
-use Rattle.plan_meaning.specs.Network.{Work, GroundMethod, network, InTypeOf, IsDeclared, work_of, child_of, head_by, works_by}
+use Rattle.plan_meaning.specs.Network.{Work, GroundMethod, network, InTypeOf, IsDeclared, ground_work, child_of}
+use Rattle.plan_meaning.proofs.MethodParts.{head_by, works_by}
 use Rattle.plan_proof.proofs.machine.Reading.{IsKnown}
 use Rattle.plan_proof.proofs.machine.Facts.{FitsTogether}
 use Rattle.slot_encoding.proofs.places.ListPlaces.{get_map_cases, get_contains}
@@ -38,7 +39,7 @@ module _ (c : Compiled) (fits : FitsTogether c) (g : GroundMethod) (plan : Metho
   known_head = subst (IsKnown c) (sym (ap (head_by g) is)) (fits.tasks g.number plan is)
 
   module _ (typed : AreTyped (InTypeOf c) plan.schema.params g.values) (declared : (child : Child) → Contains plan.schema.children child → IsDeclared c (child_of g child)) where
-    known_work : (hd : Head) (args : List ℕ) → (hd ≡ Check → IsTrue plan.checked) → IsDeclared c (work_of g hd args) → IsKnown c (work_of g hd args)
+    known_work : (hd : Head) (args : List ℕ) → (hd ≡ Check → IsTrue plan.checked) → IsDeclared c (ground_work g hd args) → IsKnown c (ground_work g hd args)
     known_work (Task n) args checked d = let (ps, (s, e, f), ty) = d in let l = slice_get_within c.hddl.tasks n s e in omega arith
     known_work (Action n) args checked d = d
     known_work Check args checked d = (plan, is, checked refl, typed)

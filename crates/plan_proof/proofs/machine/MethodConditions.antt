@@ -83,7 +83,7 @@ module _ (c : Compiled) (b : ℕ) (style : Style) (p : Pddl) (h : ℕ) (new : Li
   pub held_ground : ground objects (held_task c p.names b style g.number plan) ≡ held c b style p h (task plan.schema.task (values_of g.values plan.schema.task_args))
   held_ground = λ i. record { predicate = task_predicate c plan.schema.task; args = slot_object c b style p h ∷ term_values plan.schema.task_args i }
 
-  module _ (means : PiecesMean c b style p) (S : State) (t : Machine.State (network c)) (T : State) (r : Reads c b style p S t T) (is : slice_get c.methods g.number ≡ Some plan) (slots : (x : ℕ) → Contains new x → IsSlot c b style p x) where
+  module _ (means : PiecesMean c b style p) (S : State) (t : Machine.SlotState (network c)) (T : State) (r : Reads c b style p S t T) (is : slice_get c.methods g.number ≡ Some plan) (slots : (x : ℕ) → Contains new x → IsSlot c b style p x) where
     abbrev True : Formula → List ℕ → Type 0
     True = IsTrueIn (InT c b style p) S
 

@@ -21,7 +21,8 @@ use Rattle.task_networks.proofs.Numbers.{length-numbers}
 use Rattle.slot_machine.specs.Machine.{insert_at, with_heir, IsSlotOf}
 use Rattle.slot_machine.proofs.Inserts.{length-insert_at}
 use Rattle.plan_meaning.specs.Truth.{State, ground, value_of, values_of, AreTyped, OneTrue, Adds, Deletes}
-use Rattle.plan_meaning.specs.Network.{Work, GroundMethod, network, InTypeOf, child_of, work_of, head_by, works_by, heir_by, IsPairBy, IsCopierBy, task}
+use Rattle.plan_meaning.specs.Network.{Work, GroundMethod, network, InTypeOf, child_of, ground_work, task}
+use Rattle.plan_meaning.proofs.MethodParts.{head_by, works_by, heir_by, IsPairBy, IsCopierBy}
 use Rattle.slot_encoding.specs.EncodedNames.{free_predicate, before_predicate, task_predicate, action_predicate, check_predicate, order_numbers}
 use Rattle.slot_encoding.specs.EncodedValue.{atom}
 use Rattle.slot_encoding.specs.OrderFormulas.{pair_of, copy_parts}
@@ -93,7 +94,7 @@ module _ (c : Compiled) (b : ℕ) (style : Style) (p : Pddl) (h : ℕ) (new : Li
           ∙ ap (λ n. values_of g.values (map Var (numbers 0 n))) (sym (typed_long (InTypeOf c) plan.schema.params g.values typed))
           ∙ own_vars g.values
 
-      by_head : (hd : Head) → child.head ≡ hd → ground xs (child_atom c p.names b style g.number plan v (record child { head = hd })) ≡ held c b style p x (work_of g hd (values_of g.values child.args))
+      by_head : (hd : Head) → child.head ≡ hd → ground xs (child_atom c p.names b style g.number plan v (record child { head = hd })) ≡ held c b style p x (ground_work g hd (values_of g.values child.args))
       by_head (Task t) f = λ i. record { predicate = task_predicate c t; args = e i ∷ ts i }
       by_head (Action a) f = λ i. record { predicate = action_predicate c a; args = e i ∷ ts i }
       by_head Check f = let q : map (value_of xs) (map (moved p.names c.hddl.names (front c p.names b style g.number plan)) child.args) ≡ g.values = ts ∙ own f in

@@ -43,7 +43,7 @@ each_contains P (y ∷ xs) =
       λ f. (f y (Contains-here y xs), r.1 (λ x k. f x (Contains-later y xs x k))),
     )
 
-module _ (c : Compiled) (b : ℕ) (style : Style) (p : Pddl) (means : PiecesMean c b style p) (S : State) (t : Machine.State (network c)) (T : State) (r : Reads c b style p S t T)
+module _ (c : Compiled) (b : ℕ) (style : Style) (p : Pddl) (means : PiecesMean c b style p) (S : State) (t : Machine.SlotState (network c)) (T : State) (r : Reads c b style p S t T)
     (h : ℕ) (new : List ℕ) (g : GroundMethod) where
   abbrev N : Net
   N = network c
@@ -55,19 +55,19 @@ module _ (c : Compiled) (b : ℕ) (style : Style) (p : Pddl) (means : PiecesMean
     -- what the two kinds of methods leave
     module _ (declared : (child : Child) → Contains plan.schema.children child → IsDeclared c (child_of g child)) (slot : IsSlot c b style p h) (holds : t.holds h (N.head g)) (alone : t.free h → ⊥) (free : (x : ℕ) → Contains new x → t.free x) where
       abbrev Left : Effect → Type 0
-      Left e = Reads c b style p (after (InT c b style p) S e xs) (Machine.after N t (apply h new g)) T
+      Left e = Reads c b style p (after (InT c b style p) S e xs) (Machine.after_act N t (apply h new g)) T
 
       abbrev freeing' : List Effect
       freeing' = freeing c p.names b style (held_task c p.names b style g.number plan) (depth c p.names b style g.number plan)
 
       no_children : count N g ≡ 0 → Left (E.And freeing')
       no_children z = subst (λ l. Left (E.And l)) (append-nil freeing') (subst (λ n. Left (E.And (freeing c p.names b style (held_task c p.names b style g.number plan) n ++ []))) (depth_long c b style p h new g plan long typed)
-          (reads_alike c b style p left left _ (Machine.after N t (apply h new g)) (Changed T (λ a. ⊥) (λ a. ⊥)) T (λ a. (λ q. q, λ q. q)) same (λ a. (λ q. elim q [ inl y ↦ y.0 | inr y ↦ absurd y ], λ q. inl (q, λ y. y))) reads))
+          (reads_alike c b style p left left _ (Machine.after_act N t (apply h new g)) (Changed T (λ a. ⊥) (λ a. ⊥)) T (λ a. (λ q. q, λ q. q)) same (λ a. (λ q. elim q [ inl y ↦ y.0 | inr y ↦ absurd y ], λ q. inl (q, λ y. y))) reads))
         where
           left : State
           left = after (InT c b style p) S (E.And (freeing c p.names b style (held_task c p.names b style g.number plan) (length xs) ++ [])) xs
 
-          state : Machine.State N
+          state : Machine.SlotState N
           state = record {
             holds = λ x v. t.holds x v × ((x ≡ h) × (v ≡ N.head g) → ⊥);
             free = λ x. t.free x ⊎ (x ≡ h);
@@ -95,7 +95,7 @@ module _ (c : Compiled) (b : ℕ) (style : Style) (p : Pddl) (means : PiecesMean
               without None e f = empty new few f
               without (Some k) e f = let l = means.lawful.heir_is_child g k e in omega (arith, z)
 
-          same : AreSame N state (Machine.after N t (apply h new g))
+          same : AreSame N state (Machine.after_act N t (apply h new g))
           same = record {
             holds = λ x v. (λ k. inl k, λ k. elim k [ inl y ↦ y | inr y ↦ absurd (no_work y.0 v y.2) ]);
             free = λ x. (λ k. elim k [ inl y ↦ inl (y, λ i s. no_slot i x s) | inr y ↦ inr (z, y) ], λ k. elim k [ inl y ↦ inl y.0 | inr y ↦ inr y.1 ]);
@@ -104,7 +104,7 @@ module _ (c : Compiled) (b : ℕ) (style : Style) (p : Pddl) (means : PiecesMean
 
       some_children : (hd : ℕ) → N.heir g ≡ Some hd → 0 < count N g → Left (E.And (splitting c p.names b style g.number plan))
       some_children hd heir some =
-          reads_alike c b style p (Changed S Goes Comes) (after (InT c b style p) S (E.And (splitting c p.names b style g.number plan)) xs) (Machine.after N t (apply h new g)) (Machine.after N t (apply h new g)) T T
+          reads_alike c b style p (Changed S Goes Comes) (after (InT c b style p) S (E.And (splitting c p.names b style g.number plan)) xs) (Machine.after_act N t (apply h new g)) (Machine.after_act N t (apply h new g)) T T
           same (record { holds = λ x v. (λ k. k, λ k. k); free = λ x. (λ k. k, λ k. k); before = λ x y. (λ k. k, λ k. k) }) (λ a. (λ k. k, λ k. k))
           (Split.split_reads c b style p means.differ S t T r h new g holds alone hd heir some (known_children c means.fits g plan is typed declared) free)
         where

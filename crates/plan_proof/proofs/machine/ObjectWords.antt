@@ -17,7 +17,7 @@ use Rattle.plan_texts.specs.Types.{EachIs, AreDifferent}
 use Rattle.plan_texts.specs.Printable.{IsPlain}
 use Rattle.plan_texts.proofs.Basics.{bytes_eq-true}
 use Rattle.slot_encoding.proofs.places.Places.{in_range, same_place, get-word, each-at-some}
-use Rattle.plan_meaning.specs.ClassicalPlan.{IsObject, AreObjects}
+use Rattle.plan_meaning.specs.ClassicalPlan.{HasWord, AreObjects}
 use Rattle.plan_meaning.specs.SpelledPlan.{object_by, object_word}
 use Rattle.slot_encoding.specs.SourceParts.{name, source_word}
 use Rattle.slot_encoding.specs.EncodedNames.{first_slot, encoded_objects}
@@ -45,11 +45,11 @@ module _ (h : Hddl) (mode : Checks) (c : Compiled) (b : ℕ) (style : Style) (p 
   words = map (λ (x : Object). named p.names x.name) p.objects
 
   -- the word of an object of the list of words
-  word_there : (o : ℕ) (w : Word) → IsObject p o w → slice_get words o ≡ Some w
+  word_there : (o : ℕ) (w : Word) → HasWord p o w → slice_get words o ≡ Some w
   word_there o w (x, e, f) = get_to_map (λ (x : Object). named p.names x.name) p.objects o x e ∙ ap Some (get-word p.names x.name.number w f)
 
   -- an object named by a word has this word
-  has_word : (o : ℕ) (x : Object) (w : Word) → slice_get p.objects o ≡ Some x → x.name ≡ name p.names w → IsObject p o w
+  has_word : (o : ℕ) (x : Object) (w : Word) → slice_get p.objects o ≡ Some x → x.name ≡ name p.names w → HasWord p o w
   has_word o x w e f =
       let plain : IsPlain (named p.names x.name) = each-at-some IsPlain words o (named p.names x.name) is.printable.words.objects (get_to_map (λ (x : Object). named p.names x.name) p.objects o x e) in
       (x, e, subst (λ z. slice_get p.names z.number ≡ Some w) (sym f) (name_word p.names w (subst (λ z. is_name (named p.names z) ≡ true) f plain.1)))
@@ -57,22 +57,22 @@ module _ (h : Hddl) (mode : Checks) (c : Compiled) (b : ℕ) (style : Style) (p 
   at : (o : ℕ) (x : Object) → slice_get (encoded_objects c p.names b) o ≡ Some x → slice_get p.objects o ≡ Some x
   at o x e = ap (λ z. slice_get z o) is.encoded.objects ∙ e
 
-  of_source : (o : ℕ) → o < length c.hddl.objects → IsObject p o (object_word c o)
+  of_source : (o : ℕ) → o < length c.hddl.objects → HasWord p o (object_word c o)
   of_source o l =
       let (x, e) = within_get c.hddl.objects o l in
-      subst (IsObject p o) (ap (object_by c) (sym e)) (has_word o (printed_object c p.names b x) (source_word c.hddl.names x.name) (at o (printed_object c p.names b x) (object_at c p.names b o x e)) refl)
+      subst (HasWord p o) (ap (object_by c) (sym e)) (has_word o (printed_object c p.names b x) (source_word c.hddl.names x.name) (at o (printed_object c p.names b x) (object_at c p.names b o x e)) refl)
 
-  of_slot : (k : ℕ) → IsSlot c b style p k → IsObject p (slot_object c b style p k) (slot_word k)
+  of_slot : (k : ℕ) → IsSlot c b style p k → HasWord p (slot_object c b style p k) (slot_word k)
   of_slot zero s = absurd (let l = s.0 in omega arith)
   of_slot (suc k) s =
       let e : suc k - 1 ≡ k = omega arith in
       let l : k < b = (let m = s.1 in omega arith) in
-      subst (λ z. IsObject p (first_slot c + z) (slot_word (suc k))) (sym e) (has_word (first_slot c + k) (printed_slot c p.names b (suc k)) (slot_word (suc k)) (at (first_slot c + k) (printed_slot c p.names b (suc k)) (slot_at c p.names b k l)) refl)
+      subst (λ z. HasWord p (first_slot c + z) (slot_word (suc k))) (sym e) (has_word (first_slot c + k) (printed_slot c p.names b (suc k)) (slot_word (suc k)) (at (first_slot c + k) (printed_slot c p.names b (suc k)) (slot_at c p.names b k l)) refl)
 
-  one : (o o' : ℕ) (w : Word) → IsObject p o w → IsObject p o' w → o ≡ o'
+  one : (o o' : ℕ) (w : Word) → HasWord p o w → HasWord p o' w → o ≡ o'
   one o o' w i j = same_get words o o' w is.printable.words.objects_differ (word_there o w i) (word_there o' w j)
 
-  one_word : (o : ℕ) (w w' : Word) → IsObject p o w → IsObject p o w' → w ≡ w'
+  one_word : (o : ℕ) (w w' : Word) → HasWord p o w → HasWord p o w' → w ≡ w'
   one_word o w w' i j = let e = word_there o w i in let f = word_there o w' j in cc
 
   pub object_words : ObjectWords c b style p

@@ -10,7 +10,7 @@ use Rattle.task_networks.specs.Spelling.{Act, Spells, label_of}
 use Rattle.task_networks.specs.Executable as Executions
 use Rattle.slot_machine.specs.Machine as Machine
 use Rattle.slot_machine.specs.Machine.{start}
-use Rattle.slot_machine.specs.Laws.{IsPlan, IsExecutableRun}
+use Rattle.slot_machine.specs.Laws.{IsSolutionRun, IsExecutableRun}
 use Rattle.slot_machine.proofs.Executions.{runs_are_executable_fronts, plans_are_spelled_solutions}
 use Rattle.plan_meaning.specs.Truth.{State, EachTrue, IsTrueIn}
 use Rattle.plan_meaning.specs.ClassicalPlan as Printed
@@ -35,11 +35,11 @@ module _ (c : Compiled) (b : ℕ) (style : Style) (p : Pddl) (means : PiecesMean
   N = network c
 
   -- all slots are free
-  abbrev AllFree : Machine.State N → Type 0
+  abbrev AllFree : Machine.SlotState N → Type 0
   AllFree t = (x : ℕ) → 1 ≤ x → x ≤ b → t.free x
 
   -- the goal: every slot is free, and the source goal is true
-  goal_true : (S : State) (t : Machine.State N) (T : State) → Reads c b style p S t T → IsTrueIn (InT c b style p) S p.goal [] ↔ (AllFree t × IsGoal c T)
+  goal_true : (S : State) (t : Machine.SlotState N) (T : State) → Reads c b style p S t T → IsTrueIn (InT c b style p) S p.goal [] ↔ (AllFree t × IsGoal c T)
   goal_true S t T r = (to, from)
     where
       f1 : List Formula
@@ -86,7 +86,7 @@ module _ (c : Compiled) (b : ℕ) (style : Style) (p : Pddl) (means : PiecesMean
       leads : LeadsBy c b style p (λ S. Unit {0}) (Contains p.init) acts ↔ (Machine.Runs N (start N b (top_work c)) acts × Executions.AreAllowed N State (Allows c) (next c) (initial c) (map (label_of N) acts) × Unit {0})
       leads = leads_iff c b style p means positive (λ S. Unit {0}) (λ t T. Unit {0}) (λ S t T r. (λ k. k, λ k. k)) acts (Contains p.init) (start N b (top_work c)) (initial c) (start_reads c b style p means positive) (reached_first c b style p means positive)
 
-      fronts : IsExecutableRun N State (Allows c) (next c) (initial c) (IsGoal c) b (top_work c) acts ↔ ((tree : Tree N) × (order : List Address) × (slot : Address → ℕ) × Spells N b (top_work c) acts tree order slot × Executions.IsExecutable N State (Allows c) (next c) (initial c) tree order)
+      fronts : IsExecutableRun N State (Allows c) (next c) (initial c) (IsGoal c) b (top_work c) acts ↔ ((tree : Tree N) × (order : List Address) × (slot : Address → ℕ) × Spells N b (top_work c) acts tree order slot × Executions.IsExecutableOrder N State (Allows c) (next c) (initial c) tree order)
       fronts = runs_are_executable_fronts N means.lawful State (Allows c) (next c) (initial c) (IsGoal c) b (top_work c) acts positive
 
   pub acts_plans : (acts : List (Act N)) → LeadsBy c b style p (λ S. IsTrueIn (Printed.InTypeOf p) S p.goal []) (Contains p.init) acts ↔ SpellSolution acts
@@ -100,5 +100,5 @@ module _ (c : Compiled) (b : ℕ) (style : Style) (p : Pddl) (means : PiecesMean
           × (AllFree (Machine.end_of N (start N b (top_work c)) acts) × IsGoal c (Executions.last_state N State (Allows c) (next c) (initial c) (map (label_of N) acts))))
       leads = leads_iff c b style p means positive (λ S. IsTrueIn (Printed.InTypeOf p) S p.goal []) (λ t T. AllFree t × IsGoal c T) goal_true acts (Contains p.init) (start N b (top_work c)) (initial c) (start_reads c b style p means positive) (reached_first c b style p means positive)
 
-      plans : IsPlan N State (Allows c) (next c) (initial c) (IsGoal c) b (top_work c) acts ↔ SpellSolution acts
+      plans : IsSolutionRun N State (Allows c) (next c) (initial c) (IsGoal c) b (top_work c) acts ↔ SpellSolution acts
       plans = plans_are_spelled_solutions N means.lawful State (Allows c) (next c) (initial c) (IsGoal c) b (top_work c) acts positive

@@ -39,7 +39,7 @@ module _ (c : Compiled) (b : ℕ) (style : Style) (p : Pddl) where
   pair x y = before_atom x (slot_object c b style p y)
 
   -- the atoms of S say what t says of the slots, what T says of the source, and which objects are in the types of guards
-  pub record Reads (S : State) (t : Machine.State (network c)) (T : State) : Type 0 where
+  pub record Reads (S : State) (t : Machine.SlotState (network c)) (T : State) : Type 0 where
     pub holds : (x : ℕ) (w : Work) → t.holds x w ↔ (IsKnown c w × IsSlot c b style p x × S (held x w))
     pub free : (x : ℕ) → t.free x ↔ (IsSlot c b style p x × S (free_atom x))
     pub before : (x y : ℕ) → t.before x y ↔ (IsSlot c b style p x × IsSlot c b style p y × S (pair x y))

@@ -35,7 +35,7 @@ typed_long InType [] (o ∷ os) t = absurd t
 typed_long InType (p ∷ ps) [] t = absurd t
 typed_long InType (p ∷ ps) (o ∷ os) t = ap suc (typed_long InType ps os t.1)
 
-module _ (c : Compiled) (b : ℕ) (style : Style) (p : Pddl) (m : PiecesMean c b style p) (S : State) (t : Machine.State (network c)) (T : State) (r : Reads c b style p S t T) where
+module _ (c : Compiled) (b : ℕ) (style : Style) (p : Pddl) (m : PiecesMean c b style p) (S : State) (t : Machine.SlotState (network c)) (T : State) (r : Reads c b style p S t T) where
   abbrev N : Net
   N = network c
 
@@ -43,7 +43,7 @@ module _ (c : Compiled) (b : ℕ) (style : Style) (p : Pddl) (m : PiecesMean c b
   pub record IsTaken (act : Act N) (a : ActionSchema) (os : List ℕ) : Type 0 where
     pub may : May N t act
     pub allows : Allows c T (label_of N act)
-    pub reads : Reads c b style p (after (InT c b style p) S a.eff os) (Machine.after N t act) (next c T (label_of N act))
+    pub reads : Reads c b style p (after (InT c b style p) S a.eff os) (Machine.after_act N t act) (next c T (label_of N act))
 
   module _ (h : ℕ) (args : List ℕ) (predicate : ℕ) where
     abbrev vs : List ℕ
@@ -70,8 +70,8 @@ module _ (c : Compiled) (b : ℕ) (style : Style) (p : Pddl) (m : PiecesMean c b
     pub work_reads : (count : ℕ) (change : List Effect) (w : Work) → length args ≡ count → IsKnown c w → IsSlot c b style p h → held c b style p h w ≡ record { predicate = predicate; args = vs }
         → (D A : GroundAtom → Type 0) → ((g : GroundAtom) → D g → g.predicate < length c.hddl.predicates) → ((g : GroundAtom) → A g → g.predicate < length c.hddl.predicates)
         → ((g : GroundAtom) → OneTrue (λ e v. Deletes (InT c b style p) S e v g) change vs ↔ D g) → ((g : GroundAtom) → OneTrue (λ e v. Adds (InT c b style p) S e v g) change vs ↔ A g)
-        → Reads c b style p (after (InT c b style p) S (eff count change) vs) (Machine.after N t (run h w)) (Changed T D A)
-    work_reads count change w e known slot is D A sd sa cd ca = subst (λ n. Reads c b style p (after (InT c b style p) S (eff n change) vs) (Machine.after N t (run h w)) (Changed T D A)) e
+        → Reads c b style p (after (InT c b style p) S (eff count change) vs) (Machine.after_act N t (run h w)) (Changed T D A)
+    work_reads count change w e known slot is D A sd sa cd ca = subst (λ n. Reads c b style p (after (InT c b style p) S (eff n change) vs) (Machine.after_act N t (run h w)) (Changed T D A)) e
         (freeing_reads c b style p S h args (m.order S vs) t T m.differ r w known slot (hold (length args)) (hold_ground ∙ sym is) change D A sd sa cd ca)
 
   -- actions
@@ -97,7 +97,7 @@ module _ (c : Compiled) (b : ℕ) (style : Style) (p : Pddl) (m : PiecesMean c b
           let x = action_true.0 tr in record {
             may = record { holds = (r.holds h w).1 (known, slot, x.0); simple = tt; unblocked = (unblocked_iff c b style p S t T h r slot).1 x.1 };
             allows = subst (λ o. AllowsAction c T o args) (sym is) ((means.condition s.pre args (m.fits.action_pre n s is)).0 x.2);
-            reads = subst (λ o. Reads c b style p (after (InT c b style p) S (encoded_action c p.names b style n s).eff xs) (Machine.after N t (run h w)) (after_action c T o args)) (sym is)
+            reads = subst (λ o. Reads c b style p (after (InT c b style p) S (encoded_action c p.names b style n s).eff xs) (Machine.after_act N t (run h w)) (after_action c T o args)) (sym is)
                 (work_reads h args (action_predicate c n) (length s.params) (source_change c p.names b style 1 s.eff) w (typed_long (InTypeOf c) s.params args typed) known slot refl
                 (Deletes (InTypeOf c) T s.eff args) (Adds (InTypeOf c) T s.eff args)
                 (λ g z. means.deletes_source s.eff args g (m.fits.action_eff n s is) z) (λ g z. means.adds_source s.eff args g (m.fits.action_eff n s is) z)
@@ -150,7 +150,7 @@ module _ (c : Compiled) (b : ℕ) (style : Style) (p : Pddl) (m : PiecesMean c b
             may = record { holds = (r.holds h v).1 (known_check, slot, x.0); simple = tt; unblocked = (unblocked_iff c b style p S t T h r slot).1 x.1 };
             allows = subst (λ o. AllowsCheck c T o args) (sym is) ((says.condition plan.schema.pre args (m.fits.method_pre n plan is)).0 x.2);
             reads = reads_alike c b style p (after (InT c b style p) S (encoded_check c p.names b style n plan).eff ys) (after (InT c b style p) S (encoded_check c p.names b style n plan).eff ys)
-                (Machine.after N t (run h v)) (Machine.after N t (run h v)) (Changed T (λ g. ⊥) (λ g. ⊥)) T
+                (Machine.after_act N t (run h v)) (Machine.after_act N t (run h v)) (Changed T (λ g. ⊥) (λ g. ⊥)) T
                 (λ g. (λ z. z, λ z. z))
                 (record { holds = λ x u. (λ z. z, λ z. z); free = λ x. (λ z. z, λ z. z); before = λ x y. (λ z. z, λ z. z) })
                 none_changed

@@ -25,7 +25,7 @@ insert_keeps zero h hs x d = Contains-later h hs x d
 insert_keeps (suc k) h [] x d = absurd (not-in_empty x d)
 insert_keeps (suc k) h (y ∷ hs) x d = elim (head_or_tail y hs x d) [ inl e ↦ (0, omega arith, e) | inr e ↦ Contains-later y (insert_at k h hs) x (insert_keeps k h hs x e) ]
 
-module _ (c : Compiled) (b : ℕ) (style : Style) (p : Pddl) (d : PredicatesDiffer c) (S : State) (t : Machine.State (network c)) (T : State) (r : Reads c b style p S t T) (h : ℕ) (new : List ℕ) (g : GroundMethod) where
+module _ (c : Compiled) (b : ℕ) (style : Style) (p : Pddl) (d : PredicatesDiffer c) (S : State) (t : Machine.SlotState (network c)) (T : State) (r : Reads c b style p S t T) (h : ℕ) (new : List ℕ) (g : GroundMethod) where
   abbrev N : Net
   N = network c
 
@@ -44,8 +44,8 @@ module _ (c : Compiled) (b : ℕ) (style : Style) (p : Pddl) (d : PredicatesDiff
   abbrev pub Comes : GroundAtom → Type 0
   Comes a = IsChild a ⊎ (IsLink a ⊎ IsCopy a)
 
-  abbrev split : Machine.State N
-  split = Machine.after N t (apply h new g)
+  abbrev split : Machine.SlotState N
+  split = Machine.after_act N t (apply h new g)
 
   abbrev S' : State
   S' = Changed S Goes Comes

@@ -10,7 +10,7 @@ use Rattle.slot_machine.proofs.RunSpellings.{runs_iff_spells}
 use Rattle.slot_machine.proofs.Theorem.{few_pending_have_spellings, front_is_the_only_one}
 use Rattle.plan_meaning.specs.Truth.{State, IsTrueIn, after}
 use Rattle.plan_meaning.specs.ClassicalPlan as Printed
-use Rattle.plan_meaning.specs.ClassicalPlan.{Leads, IsExecutable, IsPlan}
+use Rattle.plan_meaning.specs.ClassicalPlan.{EndsIn, IsExecutable, IsPlan}
 use Rattle.plan_meaning.specs.Network.{network}
 use Rattle.plan_meaning.specs.Solution.{top_work}
 use Rattle.plan_meaning.specs.SpelledPlan.{step_of}
@@ -27,14 +27,14 @@ module _ (c : Compiled) (b : ℕ) (style : Style) (p : Pddl) (words : StepsAreAc
   N = network c
 
   -- steps that lead on are those of acts that do
-  to_acts : (P : State → Type 0) (S : State) (steps : List GroundAction) → Leads p P S steps → (acts : List (Act N)) × (steps ≡ map (step_of c) acts) × LeadsBy c b style p P S acts
+  to_acts : (P : State → Type 0) (S : State) (steps : List GroundAction) → EndsIn p P S steps → (acts : List (Act N)) × (steps ≡ map (step_of c) acts) × LeadsBy c b style p P S acts
   to_acts P S [] k = ([], refl, k)
   to_acts P S (step ∷ steps) (a, os, app, more) =
       let (act, e, is) = words.to_act S step a os app in
       let (acts, f, rest) = to_acts P (after (Printed.InTypeOf p) S a.eff os) steps more in
       (act ∷ acts, cc, (a, os, (is, app.condition), rest))
 
-  from_acts : (P : State → Type 0) (S : State) (acts : List (Act N)) → LeadsBy c b style p P S acts → Leads p P S (map (step_of c) acts)
+  from_acts : (P : State → Type 0) (S : State) (acts : List (Act N)) → LeadsBy c b style p P S acts → EndsIn p P S (map (step_of c) acts)
   from_acts P S [] k = k
   from_acts P S (act ∷ acts) (a, os, app, more) = (a, os, words.from_act S act a os app.0 app.1, from_acts P (after (Printed.InTypeOf p) S a.eff os) acts more)
 

@@ -7,7 +7,7 @@ use Rattle.plan_model.specs.declared.values.Compiled.{Compiled}
 use Rattle.plan_model.specs.declared.values.Pddl.{Pddl}
 use Rattle.task_networks.specs.Net.{Net}
 use Rattle.task_networks.specs.Spelling.{Act, apply}
-use Rattle.slot_machine.specs.Machine.{start, Runs, end_of, after}
+use Rattle.slot_machine.specs.Machine.{start, Runs, end_of, after_act}
 use Rattle.plan_meaning.specs.Compilation.{IsCompiled}
 use Rattle.plan_meaning.specs.Network.{task, network}
 use Rattle.plan_meaning.specs.Solution.{top_work}
@@ -46,7 +46,7 @@ no_run b list r f =
     let h = begins N b (top_work calls_itself_compiled) in
     let (rest, e, r', f') = first_is N (uses 0) (task 0 []) (start_has_t (Task 0)) (start_alone (Task 0)) (λ k. k) s h list r f in
     let h' = moves N (uses 0) (task 0 []) (start_has_t (Task 0)) (start_alone (Task 0)) (λ k. k) s h in
-    never_free N (uses 1) (m_has_one (Task 0)) (m_alone (Task 0)) (λ k. k) (after N s (apply 1 [] (uses 0))) h' rest r' f'
+    never_free N (uses 1) (m_has_one (Task 0)) (m_alone (Task 0)) (λ k. k) (after_act N s (apply 1 [] (uses 0))) h' rest r' f'
 
 pub no_plan : (mode : Checks) (b : ℕ) (style : Style) (p : Pddl) → IsPrinted calls_itself mode calls_itself_compiled b style p → HasNoPlan p
 no_plan mode b style p is list plan = let (list', e, r, f) = plan_runs calls_itself mode calls_itself_compiled b style p (calls_itself_row mode).ordered is list plan in no_run b list' r f

@@ -7,7 +7,7 @@ use Rattle.plan_model.specs.declared.schemas.MethodPlan.{MethodPlan}
 use Rattle.plan_model.specs.declared.values.Compiled.{Compiled}
 use Rattle.task_networks.specs.Net.{Net}
 use Rattle.plan_meaning.specs.Truth.{AreTyped}
-use Rattle.plan_meaning.specs.Network.{Work, action, check, task, GroundMethod, network, work_of, IsPrimitive, InTypeOf, IsGroundMethod}
+use Rattle.plan_meaning.specs.Network.{Work, action, check, task, GroundMethod, network, ground_work, IsPrimitive, InTypeOf, IsGroundMethod}
 use Rattle.plan_meaning.proofs.examples.RowValues.{method_plan, uses}
 use Rattle.plan_meaning.proofs.examples.Unequal.{less}
 use Rattle.plan_proof.specs.Problems.{method, with_subtask}
@@ -78,5 +78,5 @@ module _ (head : Head) where
   pub start_has_t : HasOneChild N (uses 0) (task 0 [])
   start_has_t = record { works = refl; heir = refl }
 
-  pub m_has_one : HasOneChild N (uses 1) (work_of (uses 1) head [])
+  pub m_has_one : HasOneChild N (uses 1) (ground_work (uses 1) head [])
   m_has_one = record { works = refl; heir = refl }

@@ -8,7 +8,7 @@ use Rattle.plan_model.specs.declared.values.Compiled.{Compiled}
 use Rattle.plan_model.specs.declared.values.Pddl.{Pddl}
 use Rattle.task_networks.specs.Net.{Net}
 use Rattle.task_networks.specs.Spelling.{Act, run, apply}
-use Rattle.slot_machine.specs.Machine.{start, Runs, end_of, after}
+use Rattle.slot_machine.specs.Machine.{start, Runs, end_of, after_act}
 use Rattle.plan_meaning.specs.ClassicalPlan.{IsPlan}
 use Rattle.plan_meaning.specs.Network.{GroundMethod, action, task, network, IsPrimitive, IsGroundMethod}
 use Rattle.plan_meaning.specs.Solution.{top_work}
@@ -43,11 +43,11 @@ only_run b list r f =
     let s = start N b (top_work smallest_compiled) in
     let h = begins N b (top_work smallest_compiled) in
     let (list', e, r', f') = first_is N (uses 0) (task 0 []) (start_has_t (Action 0)) (start_alone (Action 0)) (λ k. k) s h list r f in
-    let s' = after N s (apply 1 [] (uses 0)) in
+    let s' = after_act N s (apply 1 [] (uses 0)) in
     let h' = moves N (uses 0) (task 0 []) (start_has_t (Action 0)) (start_alone (Action 0)) (λ k. k) s h in
     let (list'', e', r'', f'') = first_is N (uses 1) (action 0 []) (m_has_one (Action 0)) (m_alone (Action 0)) (λ k. k) s' h' list' r' f' in
     let h'' = moves N (uses 1) (action 0 []) (m_has_one (Action 0)) (m_alone (Action 0)) (λ k. k) s' h' in
-    let e'' = last_is N (action 0 []) a_is_whole (after N s' (apply 1 [] (uses 1))) h'' list'' r'' f'' in
+    let e'' = last_is N (action 0 []) a_is_whole (after_act N s' (apply 1 [] (uses 1))) h'' list'' r'' f'' in
     e ∙ ap (λ z. apply 1 [] (uses 0) ∷ z) (e' ∙ ap (λ z. apply 1 [] (uses 1) ∷ z) e'')
 
 in_words : map (step_of smallest_compiled) acts ≡ start_m_a

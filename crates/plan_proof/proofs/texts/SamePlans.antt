@@ -15,7 +15,7 @@ use Rattle.plan_model.specs.declared.steps.GroundAction.{GroundAction}
 use Rattle.plan_model.specs.declared.values.Pddl.{Pddl}
 use Rattle.htn_base.specs.declared.name.Name.{Name}
 use Rattle.plan_meaning.specs.Truth.{State, AreTyped, IsTrueIn, Adds, Deletes, after}
-use Rattle.plan_meaning.specs.ClassicalPlan.{IsObject, AreObjects, InTypeOf, Leads, IsExecutable, IsPlan}
+use Rattle.plan_meaning.specs.ClassicalPlan.{HasWord, AreObjects, InTypeOf, EndsIn, IsExecutable, IsPlan}
 use Rattle.plan_texts.proofs.AlikeLaws.{pddl_symmetric}
 use Rattle.plan_texts.proofs.Members.{each-has, has-to_map, has-of_map}
 use Rattle.plan_texts.proofs.UniquePddl.{spelled_alike}
@@ -71,7 +71,7 @@ module _ (c d : Pddl) (hc : HasSoundWords c) (hd : HasSoundWords d) (alike : Are
         let a = same-adds e e' i values g in let b = same-deletes e e' i values g in let s = same g in
         (λ x. elim x [ inl y ↦ inl (s.0 y.0, λ z. y.1 (b.1 z)) | inr y ↦ inr (a.0 y) ], λ x. elim x [ inl y ↦ inl (s.1 y.0, λ z. y.1 (b.0 z)) | inr y ↦ inr (a.1 y) ])
 
-  same-object : (o : ℕ) (u : Word) → IsObject c o u → IsObject d o u
+  same-object : (o : ℕ) (u : Word) → HasWord c o u → HasWord d o u
   same-object o u e =
       let s = same-at (object_said v) (object_said w) c.objects d.objects o e.0 alike.objects e.1 in
       (s.0, s.1, same-name c.names d.names e.0.name s.0.name u (ap (λ z. z.0) s.2) (each-at-some _ d.objects o s.0 hd.objects_named s.1) e.2)
@@ -82,7 +82,7 @@ module _ (c d : Pddl) (hc : HasSoundWords c) (hd : HasSoundWords d) (alike : Are
   same-objects (o ∷ os) [] e = absurd e
   same-objects (o ∷ os) (u ∷ us) e = (same-object o u e.0, same-objects os us e.1)
 
-  same-leads : (P P' : State → Type 0) → ((S S' : State) → ((g : GroundAtom) → S g ↔ S' g) → P S → P' S') → (ss : List GroundAction) (S S' : State) → ((g : GroundAtom) → S g ↔ S' g) → Leads c P S ss → Leads d P' S' ss
+  same-leads : (P P' : State → Type 0) → ((S S' : State) → ((g : GroundAtom) → S g ↔ S' g) → P S → P' S') → (ss : List GroundAction) (S S' : State) → ((g : GroundAtom) → S g ↔ S' g) → EndsIn c P S ss → EndsIn d P' S' ss
   same-leads P P' goal [] S S' same e = goal S S' same e
   same-leads P P' goal (s ∷ ss) S S' same e =
       let a = e.2 in

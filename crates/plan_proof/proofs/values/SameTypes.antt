@@ -17,7 +17,7 @@ use Rattle.plan_model.specs.declared.types.Object.{Object}
 use Rattle.plan_model.specs.declared.formulas.Formula.{Formula}
 use Rattle.plan_model.specs.declared.effects.Effect.{Effect}
 use Rattle.plan_model.specs.declared.values.Hddl.{Hddl}
-use Rattle.plan_meaning.specs.Compilation.{Counts}
+use Rattle.plan_meaning.specs.Compilation.{AsksSomething}
 use Rattle.slot_encoding.specs.SourceParts.{source_param, source_formula, source_effect}
 use Rattle.slot_encoding.specs.EncodedActions.{is_empty, is_empty_effect}
 use Rattle.plan_proof.specs.Same.{AreSameButNames}
@@ -64,7 +64,7 @@ module _ (v w : Declared) where
   pub empty-effect-same : (f g : Effect) → done v f ≡ done w g → is_empty_effect f ≡ is_empty_effect g
   empty-effect-same f g e = empty-done v f ∙ ap does_nothing e ∙ sym (empty-done w g)
 
-  pub counts : (f g : Formula) → said v f ≡ said w g → Counts f → Counts g
+  pub counts : (f g : Formula) → said v f ≡ said w g → AsksSomething f → AsksSomething g
   counts f g e n h = n ((empty-said v f).1 ((empty-said v f).0 ∙ ap says_nothing e ∙ ap (λ z. says_nothing (said w z)) h ∙ said-empty w))
 
 module _ (c d : Hddl) (same : AreSameButNames c d) (sc : IsSoundHddl c) (sd : IsSoundHddl d) (apart : AreApart (hddl_words d).unions) where

@@ -18,7 +18,7 @@ use Rattle.task_networks.proofs.Lists.{not-in_empty, head_or_tail, Contains-here
 use Rattle.plan_texts.specs.SoundValue.{IsSoundHead, IsSoundChild, IsSoundMethod, IsSoundHddl, scope_of}
 use Rattle.plan_texts.proofs.Members.{each-has, contains-has}
 use Rattle.plan_meaning.specs.Truth.{value_of, values_of, AreTyped}
-use Rattle.plan_meaning.specs.Network.{GroundMethod, work_of, child_of, InTypeOf, IsDeclared}
+use Rattle.plan_meaning.specs.Network.{GroundMethod, ground_work, child_of, InTypeOf, IsDeclared}
 use Rattle.plan_meaning.specs.Compilation.{same_term, same_guard, check_child, children, params_of_task, params_of_action, params_of, placed, all_placed, IsParamIn, IsDeclaredIn, IsGuard, IsMethodPlan, IsCompiled}
 use Rattle.slot_encoding.specs.EncodedNames.{joined, guard_types}
 use Rattle.plan_meaning.proofs.Pairs.{once_to, to_once, append_to}
@@ -109,12 +109,12 @@ module _ (mode : Checks) (c : Compiled) (compiled : IsCompiled c.hddl mode c) (s
   ]
 
   module _ (g : GroundMethod) where
-    declared_from : (head : Head) (n : ℕ) (os : List ℕ) → IsSoundHead c.hddl head n → AreTyped (InTypeOf c) (params_of c.hddl head) os → IsDeclared c (work_of g head os)
+    declared_from : (head : Head) (n : ℕ) (os : List ℕ) → IsSoundHead c.hddl head n → AreTyped (InTypeOf c) (params_of c.hddl head) os → IsDeclared c (ground_work g head os)
     declared_from (Task t) n os (s, e, l) typed = (s.params, (s, e, refl), subst (λ z. AreTyped (InTypeOf c) (params_of_task c.hddl z) os) e typed)
     declared_from (Action a) n os (s, e, l) typed = (s.params, (s, e, refl), subst (λ z. AreTyped (InTypeOf c) (params_of_action c.hddl z) os) e typed)
     declared_from Check n os h typed = absurd h
 
-    declared_to : (head : Head) (n : ℕ) (os : List ℕ) → IsSoundHead c.hddl head n → IsDeclared c (work_of g head os) → AreTyped (InTypeOf c) (params_of c.hddl head) os
+    declared_to : (head : Head) (n : ℕ) (os : List ℕ) → IsSoundHead c.hddl head n → IsDeclared c (ground_work g head os) → AreTyped (InTypeOf c) (params_of c.hddl head) os
     declared_to (Task t) n os h (params, (s, e, f), typed) = subst (λ z. AreTyped (InTypeOf c) (params_of_task c.hddl z) os) (sym e) (subst (λ z. AreTyped (InTypeOf c) z os) (sym f) typed)
     declared_to (Action a) n os h (params, (s, e, f), typed) = subst (λ z. AreTyped (InTypeOf c) (params_of_action c.hddl z) os) (sym e) (subst (λ z. AreTyped (InTypeOf c) z os) (sym f) typed)
     declared_to Check n os h d = absurd h

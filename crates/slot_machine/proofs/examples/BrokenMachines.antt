@@ -9,16 +9,16 @@ use Rattle.task_networks.proofs.examples.Nets.{tail, chain, ChainPair, of_t, of_
 use Rattle.task_networks.proofs.Lists.{head_or_tail, not-in_empty}
 use Rattle.task_networks.proofs.SpellingTests.{spells_by}
 use Rattle.task_networks.proofs.Tests.{schedule_iff}
-use Rattle.slot_machine.specs.Machine.{State, after, IsSlotOf, May, start, MayRun, IsUnblocked}
+use Rattle.slot_machine.specs.Machine.{SlotState, after_act, IsSlotOf, May, start, MayRun, IsUnblocked}
 use Rattle.slot_machine.specs.Laws.{SpellsFront}
 use Rattle.slot_machine.proofs.RunSpellings.{runs_iff_spells}
 
 -- another machine over the same states
 record Machine (N : Net) : Type 1 where
-  may : State N → Act N → Type 0
-  step : State N → Act N → State N
+  may : SlotState N → Act N → Type 0
+  step : SlotState N → Act N → SlotState N
 
-abbrev RunsOf : (N : Net) → Machine N → State N → List (Act N) → Type 0
+abbrev RunsOf : (N : Net) → Machine N → SlotState N → List (Act N) → Type 0
 RunsOf N machine s [] = Unit {0}
 RunsOf N machine s (a ∷ acts) = machine.may s a × RunsOf N machine (machine.step s a) acts
 
@@ -31,9 +31,9 @@ only x y c = elim (head_or_tail x [] y c) [ inl e ↦ e | inr d ↦ absurd (not-
 
 -- no pairs are copied: p isn't before y once x is split, and y runs too early
 module _ where
-  abbrev step_without_copies : State chain → Act chain → State chain
-  step_without_copies s (run h w) = after chain s (run h w)
-  step_without_copies s (apply h new m) = record (after chain s (apply h new m)) {
+  abbrev step_without_copies : SlotState chain → Act chain → SlotState chain
+  step_without_copies s (run h w) = after_act chain s (run h w)
+  step_without_copies s (apply h new m) = record (after_act chain s (apply h new m)) {
     before = λ x y. (s.before x y × ((count chain m ≡ 0) × (x ≡ h) → ⊥)) ⊎ ((i : ℕ) × (j : ℕ) × ChainPair m i j × IsSlotOf chain h new m i x × IsSlotOf chain h new m j y);
   }
 
@@ -43,13 +43,13 @@ module _ where
   abbrev early_acts : List (Act chain)
   early_acts = apply 1 (2 ∷ []) of_t ∷ apply 2 (3 ∷ []) of_x ∷ run 2 chain_q ∷ run 1 chain_y ∷ []
 
-  abbrev first : State chain
+  abbrev first : SlotState chain
   first = start chain 3 chain_t
 
-  abbrev second : State chain
+  abbrev second : SlotState chain
   second = step_without_copies first (apply 1 (2 ∷ []) of_t)
 
-  abbrev third : State chain
+  abbrev third : SlotState chain
   third = step_without_copies second (apply 2 (3 ∷ []) of_x)
 
   -- the one pair is from slot 2 to slot 1
@@ -103,9 +103,9 @@ module _ where
 
 -- pairs stay when a slot is freed: y waits for ever
 module _ where
-  abbrev step_without_clearing : State chain → Act chain → State chain
-  step_without_clearing s (run h w) = record (after chain s (run h w)) { before = s.before }
-  step_without_clearing s (apply h new m) = after chain s (apply h new m)
+  abbrev step_without_clearing : SlotState chain → Act chain → SlotState chain
+  step_without_clearing s (run h w) = record (after_act chain s (run h w)) { before = s.before }
+  step_without_clearing s (apply h new m) = after_act chain s (apply h new m)
 
   abbrev pairs_stay : Machine chain
   pairs_stay = record { may = May chain; step = step_without_clearing }
@@ -176,12 +176,12 @@ module _ where
       covered (suc (suc (suc i))) l = absurd (omega arith)
 
   -- new slots may be named twice
-  abbrev MayTwice : State three → Act three → Type 0
+  abbrev MayTwice : SlotState three → Act three → Type 0
   MayTwice s (run h w) = MayRun three s h w
   MayTwice s (apply h new m) = s.holds h three_t × IsUnblocked three s h × (length new ≡ 2) × ((x : ℕ) → Contains new x → s.free x)
 
   abbrev slots_may_coincide : Machine three
-  slots_may_coincide = record { may = MayTwice; step = after three }
+  slots_may_coincide = record { may = MayTwice; step = after_act three }
 
   abbrev twice_acts : List (Act three)
   twice_acts = apply 1 (2 ∷ 2 ∷ []) tt ∷ []
@@ -194,12 +194,12 @@ module _ where
 
 -- the heir has a new slot, as all children: what is spelled has one new slot too few, and its own slot is freed
 module _ where
-  abbrev MayMove : State tail → Act tail → Type 0
+  abbrev MayMove : SlotState tail → Act tail → Type 0
   MayMove s (run h w) = MayRun tail s h w
   MayMove s (apply h new m) = s.holds h tail_t × IsUnblocked tail s h × (length new ≡ count tail m) × ((x : ℕ) → Contains new x → s.free x) × AreDifferent new
 
-  abbrev step_moved : State tail → Act tail → State tail
-  step_moved s (run h w) = after tail s (run h w)
+  abbrev step_moved : SlotState tail → Act tail → SlotState tail
+  step_moved s (run h w) = after_act tail s (run h w)
   step_moved s (apply h new m) = record {
     holds = λ x v. (s.holds x v × ((x ≡ h) × (v ≡ tail_t) → ⊥)) ⊎ ((i : ℕ) × (slice_get new i ≡ Some x) × (slice_get (tail_works m) i ≡ Some v));
     free = λ x. (s.free x × (Contains new x → ⊥)) ⊎ (x ≡ h);

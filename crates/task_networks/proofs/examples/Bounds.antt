@@ -1,6 +1,6 @@
 -- Bounds, cycles and rankings, worked out.
 use Rattle.std.proofs.Common.{ℕ, zero, suc, ◌≡◌, ◌-◌, ◌<◌, ◌≤◌, ◌⊎◌, inl, inr, List, [], ◌∷◌, length, refl, ap, sym, subst, arith}
-use Rattle.task_networks.specs.Bound.{block_number, IsAloneAtTheEnd, Counts, IsTheBound, IsReached, itself, IsBound}
+use Rattle.task_networks.specs.Bound.{block_number, IsAloneAtTheEnd, Counts, IsTheBound, IsReached, itself, AreLargeEnough}
 use Rattle.task_networks.specs.Strata.{IsNamedCycle, IsWalk, ComesFirst, IsLawfulRanking}
 use Rattle.task_networks.proofs.examples.Nets.{tail, TailMethod, TailWork, tail_t, tail_a, again, IsTailAction, stop}
 use Rattle.task_networks.proofs.Lists.{not-in_empty, head_or_tail}
@@ -54,7 +54,7 @@ module _ where
   too_small w = 1
 
   -- one isn't enough: after t is decomposed, a and t are pending
-  not_one : IsBound tail tail_block too_small tail_t → ⊥
+  not_one : AreLargeEnough tail tail_block too_small tail_t → ⊥
   not_one h = let l = h.enough again 0 tt itself (omega arith) (λ w o s. (let b = o.in_block in let c = o.earlier 1 (omega arith) (omega arith) in omega arith)) in omega arith
 
 -- edges: t -> u by a child that isn't last, u -> t by one that is

@@ -3,7 +3,8 @@ use Rattle.std.proofs.Common.{◌≡◌, inl, inr, [], ◌∷◌, length, Some, 
 use Rattle.task_networks.specs.Order.{direct, Precedes}
 use Rattle.task_networks.specs.Tree.{Tree, split, more, done, none, IsGrown, label_at, ran, used, open_leaf}
 use Rattle.task_networks.specs.Schedule.{IsSchedule, Blocks}
-use Rattle.task_networks.specs.Pending.{pending, IsWidth, IsWithin}
+use Rattle.task_networks.specs.Pending.{IsWidth, IsWithin}
+use Rattle.task_networks.specs.PendingComputed.{pending}
 use Rattle.task_networks.proofs.examples.Nets.{fork_t, fork, fork_a, fork_b, fork_precedes, fork_decides, chain, of_t, of_x, chain_p, chain_q, chain_y, chain_precedes, chain_decides, ChainMethod, ChainPair, no_chain}
 use Rattle.task_networks.proofs.PendingNodes.{pending_different, pending_iff, within_iff}
 use Rattle.task_networks.proofs.SpellingTests.{within_by}
@@ -48,7 +49,7 @@ module _ where
   not_one_child : IsGrown fork (split tt (more (done fork_a) none)) → ⊥
   not_one_child g = let e = ap length g.1 in omega arith
 
--- t -> x < y, and x -> p, q
+-- t -> x < y, and x -> p, q: the example that is drawn with the definitions of trees and schedules
 module _ where
   abbrev chain_tree : Tree chain
   chain_tree = split of_t (more (split of_x (more (done chain_p) (more (done chain_q) none))) (more (done chain_y) none))
@@ -89,6 +90,9 @@ module _ where
 
   after_q : pending chain chain_tree ([] ∷ (0 ∷ []) ∷ (1 ∷ 0 ∷ []) ∷ []) ≡ (0 ∷ 0 ∷ []) ∷ (1 ∷ []) ∷ []
   after_q = refl
+
+  after_p : pending chain chain_tree ([] ∷ (0 ∷ []) ∷ (1 ∷ 0 ∷ []) ∷ (0 ∷ 0 ∷ []) ∷ []) ≡ (1 ∷ []) ∷ []
+  after_p = refl
 
   at_the_end : pending chain chain_tree ([] ∷ (0 ∷ []) ∷ (1 ∷ 0 ∷ []) ∷ (0 ∷ 0 ∷ []) ∷ (1 ∷ []) ∷ []) ≡ []
   at_the_end = refl

@@ -2,7 +2,7 @@
 use Rattle.std.proofs.Common.{ℕ, zero, suc, ◌≡◌, ◌⊎◌, inr, List, [], ◌∷◌, refl, sym, subst, arith}
 use Rattle.task_networks.specs.Tree.{Tree, split, more, done, none, Address, ran, used, Label}
 use Rattle.task_networks.specs.Front.{IsFront}
-use Rattle.task_networks.specs.Executable.{IsExecutable, AreLabels, AreAllowed}
+use Rattle.task_networks.specs.Executable.{IsExecutableOrder, AreLabels, AreAllowed}
 use Rattle.task_networks.specs.Spelling.{Act, apply, run, Spells}
 use Rattle.task_networks.proofs.examples.Nets.{tail, tail_t, again, tail_a, stop, tail_precedes, tail_decides, fork, fork_b, fork_a}
 use Rattle.task_networks.proofs.PendingNodes.{pending_iff}
@@ -72,10 +72,10 @@ module _ where
   abbrev both_done : Tree fork
   both_done = split tt (more (done fork_a) (more (done fork_b) none))
 
-  a_then_b : IsExecutable fork Fact Needs made nothing both_done ([] ∷ (0 ∷ []) ∷ (1 ∷ []) ∷ [])
+  a_then_b : IsExecutableOrder fork Fact Needs made nothing both_done ([] ∷ (0 ∷ []) ∷ (1 ∷ []) ∷ [])
   a_then_b = record { labels = used tt ∷ ran fork_a ∷ ran fork_b ∷ []; are_labels = (refl, (refl, (refl, tt))); allowed = (tt, (tt, (inr refl, tt))) }
 
-  not_b_then_a : IsExecutable fork Fact Needs made nothing both_done ([] ∷ (1 ∷ []) ∷ (0 ∷ []) ∷ []) → ⊥
+  not_b_then_a : IsExecutableOrder fork Fact Needs made nothing both_done ([] ∷ (1 ∷ []) ∷ (0 ∷ []) ∷ []) → ⊥
   not_b_then_a e = go e.labels e.are_labels e.allowed
     where
       go : (ls : List (Label fork)) → AreLabels fork both_done ([] ∷ (1 ∷ []) ∷ (0 ∷ []) ∷ []) ls → AreAllowed fork Fact Needs made nothing ls → ⊥

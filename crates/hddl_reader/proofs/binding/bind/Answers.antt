@@ -1,5 +1,5 @@
 use Rattle.std.proofs.Common.{subst}
-use Rattle.hddl_reader.specs.Bound.{AreSchemas}
+use Rattle.hddl_reader.specs.Binding.{AreSchemas}
 use Rattle.hddl_reader.specs.Rest.{word_of}
 use Rattle.hddl_reader.specs.Tables.{Extends}
 use Rattle.hddl_reader.proofs.Calls.{schemas-later, top-later}

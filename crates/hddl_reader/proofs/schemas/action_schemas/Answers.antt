@@ -1,5 +1,5 @@
 use Rattle.std.proofs.Common.{ℕ, ◌<◌, length, take, get_or, [], ◌∷◌, arith}
-use Rattle.hddl_reader.specs.Bound.{IsActionOf}
+use Rattle.hddl_reader.specs.Binding.{IsActionOf}
 use Rattle.hddl_reader.specs.Rest.{word_of}
 use Rattle.hddl_reader.specs.Tables.{Extends}
 use Rattle.hddl_reader.proofs.Loops.{next_words, next_together}

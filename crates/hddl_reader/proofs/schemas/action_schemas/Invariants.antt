@@ -1,6 +1,6 @@
 use Rattle.std.proofs.Common.{◌≡◌, ◌++◌, map, take}
 use Rattle.plan_texts.specs.Types.{AreDifferent}
-use Rattle.hddl_reader.specs.Bound.{IsActionOf}
+use Rattle.hddl_reader.specs.Binding.{IsActionOf}
 use Rattle.hddl_reader.specs.Rest.{word_of}
 use Rattle.hddl_reader.specs.Tables.{Together}
 use Rattle.hddl_reader.proofs.schemas.action_schemas.Given as goal

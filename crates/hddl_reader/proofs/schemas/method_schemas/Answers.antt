@@ -1,6 +1,6 @@
 use Rattle.std.proofs.Common.{ℕ, ◌<◌, length, take, [], arith}
 use Rattle.hddl_reader.specs.declared.written.WrittenMethod.{WrittenMethod}
-use Rattle.hddl_reader.specs.Bound.{IsMethodOf}
+use Rattle.hddl_reader.specs.Binding.{IsMethodOf}
 use Rattle.hddl_reader.specs.Rest.{word_of}
 use Rattle.hddl_reader.proofs.Calls.{method-later}
 use Rattle.hddl_reader.proofs.Loops.{next_words, next_together}

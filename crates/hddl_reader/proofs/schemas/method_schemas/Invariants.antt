@@ -1,7 +1,7 @@
 use Rattle.std.proofs.Common.{◌≡◌, map, take}
 use Rattle.plan_texts.specs.Types.{AreDifferent}
 use Rattle.hddl_reader.specs.declared.written.WrittenMethod.{WrittenMethod}
-use Rattle.hddl_reader.specs.Bound.{IsMethodOf}
+use Rattle.hddl_reader.specs.Binding.{IsMethodOf}
 use Rattle.hddl_reader.specs.Rest.{word_of}
 use Rattle.hddl_reader.specs.Tables.{Extends, Together}
 use Rattle.hddl_reader.proofs.schemas.method_schemas.Given as goal

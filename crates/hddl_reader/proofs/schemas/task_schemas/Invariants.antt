@@ -1,6 +1,6 @@
 use Rattle.std.proofs.Common.{◌≡◌, ◌++◌, map, take}
 use Rattle.plan_texts.specs.Types.{AreDifferent}
-use Rattle.hddl_reader.specs.Bound.{IsTaskOf}
+use Rattle.hddl_reader.specs.Binding.{IsTaskOf}
 use Rattle.hddl_reader.specs.Rest.{word_of}
 use Rattle.hddl_reader.specs.Tables.{Together}
 use Rattle.hddl_reader.proofs.schemas.task_schemas.Given as goal

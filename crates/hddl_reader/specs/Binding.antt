@@ -130,7 +130,7 @@ pub record AreTitles (say_domain say_problem : ℕ → Word) (names : List Word)
   pub object : Says names t.object (codes "object")
 
 -- the value of a domain and a problem that were read
-pub record IsBound (say_domain say_problem : ℕ → Word) (d : WrittenDomain) (p : WrittenProblem) (h : Hddl) : Type 0 where
+pub record IsValueOf (say_domain say_problem : ℕ → Word) (d : WrittenDomain) (p : WrittenProblem) (h : Hddl) : Type 0 where
   pub names : List Word
   pub titles : Titles
   pub schemas : Declarations
@@ -148,4 +148,4 @@ pub record IsRead (domain problem : List ℕ) (h : Hddl) : Type 0 where
   pub asked : WrittenProblem
   pub domain_is : symbols domain ≡ written_as (domain_part (word_of domain) written)
   pub problem_is : symbols problem ≡ written_as (problem_part (word_of problem) asked)
-  pub bound : IsBound (word_of domain) (word_of problem) written asked h
+  pub bound : IsValueOf (word_of domain) (word_of problem) written asked h
