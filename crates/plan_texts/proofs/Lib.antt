@@ -28,3 +28,4 @@ pub mod WholeRow
 pub mod PlanSteps
 pub mod PlanRows
 pub mod SchemaRows
+pub mod SoundProblems
