@@ -1,8 +1,8 @@
 -- What a sound problem gives to the crates that compile, encode and print it.
-use Rattle.std.proofs.Common.{ℕ, zero, suc, ◌≡◌, ◌<◌, ◌≤◌, ◌^◌, List, [], ◌∷◌, length, get_or, All, Contains, arith}
+use Rattle.std.proofs.Common.{ℕ, zero, suc, ◌≡◌, inl, inr, ◌<◌, ◌≤◌, ◌^◌, List, [], ◌∷◌, length, get_or, All, Contains, refl, arith}
 use Rattle.plan_texts.specs.Types.{EachIs}
 use Rattle.plan_texts.specs.SoundProblem.{all_methods, NamesSubtasks, IsSmallNetwork, IsSoundNetwork, IsSoundProblem, HasSmallNetworks}
-use Rattle.plan_texts.proofs.Members.{each-has, contains-has}
+use Rattle.plan_texts.proofs.Members.{each-has, contains-has, has-contains}
 use Rattle.plan_model.specs.Parts.{AreListed, AreListedParents}
 use Rattle.plan_model.specs.declared.types.Parent.{Parent}
 use Rattle.plan_model.specs.declared.networks.Pair.{Pair}
@@ -22,6 +22,13 @@ each-more P Q (x ∷ xs) f e = (f x e.0, each-more P Q xs f e.1)
 -- what each item is, one of them is
 pub each-contains : {X : Type 0} (P : X → Type 0) (xs : List X) → EachIs P xs → (x : X) → Contains xs x → P x
 each-contains P xs e x c = each-has P xs x e (contains-has xs x c)
+
+pub each-of : {X : Type 0} (P : X → Type 0) (xs : List X) → ((x : X) → Contains xs x → P x) → EachIs P xs
+each-of P [] f = tt
+each-of P (x ∷ xs) f = (f x (has-contains (x ∷ xs) x (inl refl)), each-of P xs (λ y c. f y (has-contains (x ∷ xs) y (inr (contains-has xs y c)))))
+
+pub small_networks : (h : Hddl) → ((s : MethodSchema) → Contains (all_methods h) s → IsSmallNetwork s) → HasSmallNetworks h
+small_networks h = each-of IsSmallNetwork (all_methods h)
 
 pub small_network : (h : Hddl) → HasSmallNetworks h → (s : MethodSchema) → Contains (all_methods h) s → IsSmallNetwork s
 small_network h small = each-contains IsSmallNetwork (all_methods h) small
