@@ -15,11 +15,7 @@ mod front;
 mod last;
 mod line;
 mod order;
-#[cfg(test)]
-mod plain;
 mod sorted;
-#[cfg(test)]
-mod tests;
 mod walk;
 
 pub use child_set::ChildSet;
