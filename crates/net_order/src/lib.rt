@@ -19,4 +19,5 @@ mod sorted;
 mod walk;
 
 pub use child_set::ChildSet;
+pub use direct::empty_sets;
 pub use order::{Order, OrderError};

@@ -1,6 +1,6 @@
 use Rattle.std.proofs.Common.{◌≡◌, length}
 use Rattle.plan_model.specs.Parts.{AreListedParents}
-use Rattle.method_precs.proofs.samples.types.Given as goal
+use Rattle.public_calls.proofs.method_precs.samples.types.Given as goal
 
 abbrev pub invariant-loop-number : goal.invariant-loop-number
 invariant-loop-number l = record {

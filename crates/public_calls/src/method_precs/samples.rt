@@ -2,10 +2,10 @@
 
 ghost use Rattle.std.specs.Prelude.{◌≡◌, ◌≤◌, ◌<◌, ◌∷◌, [], All, IfOk, length};
 ghost use Rattle.plan_model.specs.Parts.{AreListed, AreListedParents};
-ghost use Rattle.method_precs.specs.Rising.{AreRising, IsRising};
+ghost use Rattle.public_calls.specs.Rising.{AreRising, IsRising};
 
-use crate::compile;
 use htn_base::{List, Memory, Name, NameTable};
+use method_precs::compile;
 use plan_model::{
     ActionSchema, Checks, Child, Compiled, Effect, Formula, Hddl, Head, MethodSchema, Pair, Param,
     Parent, TaskSchema, Term, Types,
