@@ -1,10 +1,11 @@
 -- Words of a name table: which a name stands for, that they differ, and which of them is a NAME.
-use Rattle.std.proofs.Common.{◌≡◌, ℕ, zero, suc, ◌+◌, ◌<◌, ◌≤◌, length, get_or, Bool, true, false, not, ◌&&◌, ◌==◌, if◌then◌else◌, Some, List, [], ◌∷◌, ◌++◌, refl, sym, ◌∙◌, ap, subst, arith}
+use Rattle.std.proofs.Common.{◌≡◌, ℕ, zero, suc, ◌+◌, ◌<◌, ◌≤◌, ◌^◌, length, get_or, Bool, true, false, not, ◌&&◌, ◌==◌, if◌then◌else◌, Some, List, [], ◌∷◌, ◌++◌, refl, sym, ◌∙◌, ap, subst, arith}
 use Rattle.std.specs.Prelude.{slice_get}
 use Rattle.std.specs.Char.{to_ascii_lowercase}
 use Rattle.std.specs.List.{list_all, list_any}
 use Rattle.std.specs.Str.{bytes_eq}
 use Rattle.std.proofs.lemmas.Bool.{and_parts, and_from}
+use Rattle.std.proofs.lemmas.List.{length_push}
 use Rattle.std.proofs.lemmas.List.Quantifiers.{position-Some}
 use Rattle.std.proofs.lemmas.Option.{slice_get-get_or, get_or_from_slice_get, same_Some}
 use Rattle.htn_base.specs.declared.name.Name.{Name}
@@ -75,3 +76,11 @@ begins_len0 (b ∷ w) h = absurd (omega arith)
 pub begins_len1 : (w : List ℕ) → 1 ≤ length w → begins_plain w ≡ (not (get_or w 0 0 == 63) && not (get_or w 0 0 == 58))
 begins_len1 [] h = absurd (omega arith)
 begins_len1 (b ∷ w) h = refl
+
+-- a table with room for one more word has no more than these with it
+pub few_words : (old : List Word) (w : Word) → length old < 67108864 → length (with_word old w) ≤ 2 ^ 26
+few_words old w l = go (list_any (bytes_eq w) old)
+  where
+    go : (b : Bool) → length (if b then old else old ++ w ∷ []) ≤ 2 ^ 26
+    go true = omega arith
+    go false = let e = length_push old w in omega arith

@@ -1,5 +1,5 @@
 -- The value that is bound to what was read: each name stands for its word, and each head for what is declared.
-use Rattle.std.specs.Prelude.{ℕ, ◌≡◌, ◌<◌, ◌+◌, ◌++◌, List, [], ◌∷◌, map, length, codes, Option, Some, None, slice_get}
+use Rattle.std.specs.Prelude.{ℕ, ◌≡◌, ◌<◌, ◌≤◌, ◌^◌, ◌+◌, ◌++◌, List, [], ◌∷◌, map, length, codes, Option, Some, None, slice_get}
 use Rattle.std.specs.List.{filter_map}
 use Rattle.htn_base.specs.declared.name.Name.{Name}
 use Rattle.text_forms.specs.Faults.{IsFaultless}
@@ -132,6 +132,7 @@ pub record AreTitles (say_domain say_problem : ℕ → Word) (names : List Word)
 -- the value of a domain and a problem that were read
 pub record IsValueOf (say_domain say_problem : ℕ → Word) (d : WrittenDomain) (p : WrittenProblem) (h : Hddl) : Type 0 where
   pub names : List Word
+  pub few : length names ≤ 2 ^ 26
   pub titles : Titles
   pub schemas : Declarations
   pub top : MethodSchema
@@ -146,6 +147,7 @@ pub record IsRead (domain problem : List ℕ) (h : Hddl) : Type 0 where
   pub problem_faultless : IsFaultless problem
   pub written : WrittenDomain
   pub asked : WrittenProblem
+  pub few : length written.sections ≤ 2 ^ 25
   pub domain_is : symbols domain ≡ written_as (domain_part (word_of domain) written)
   pub problem_is : symbols problem ≡ written_as (problem_part (word_of problem) asked)
   pub bound : IsValueOf (word_of domain) (word_of problem) written asked h

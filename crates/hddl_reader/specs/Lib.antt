@@ -1,4 +1,3 @@
-pub mod Small
 pub mod Rest
 pub mod Written
 pub mod Plain

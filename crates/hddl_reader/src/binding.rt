@@ -1,4 +1,4 @@
-ghost use Rattle.std.specs.Prelude.{◌≡◌, [], ◌∷◌, IfOk, OnOk};
+ghost use Rattle.std.specs.Prelude.{◌≡◌, ◌≤◌, ◌^◌, [], ◌∷◌, IfOk, OnOk, length};
 ghost use Rattle.hddl_reader.specs.Binding.{hddl_of, AreTitles, IsValueOf, IsTopOf};
 ghost use Rattle.hddl_reader.specs.Rest.{word_of};
 ghost use Rattle.hddl_reader.specs.Tables.{Extends};
@@ -64,6 +64,7 @@ fn title_names(
     names: &mut NameTable,
 ) -> Result<Titles, Stop>
     ensures grows { OnOk result (Extends names.old names.new) }
+    ensures few { OnOk result (length names.new ≤ 2 ^ 26) }
     ensures titles { IfOk result (λ t. AreTitles (word_of domain.now) (word_of problem.now) names.new written.now asked.now t) }
 {
     let domain_name = name_of(domain, written.name, names)?;

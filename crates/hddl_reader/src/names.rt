@@ -1,4 +1,4 @@
-ghost use Rattle.std.specs.Prelude.{◌≡◌, [], ◌∷◌, ◌++◌, ◌&&◌, ◌==◌, IfOk, OnOk, IsTrue};
+ghost use Rattle.std.specs.Prelude.{◌≡◌, ◌≤◌, ◌^◌, [], ◌∷◌, ◌++◌, ◌&&◌, ◌==◌, IfOk, OnOk, IsTrue, length};
 ghost use Rattle.std.specs.Char.{to_ascii_lowercase};
 ghost use Rattle.std.specs.List.{list_all};
 ghost use Rattle.htn_base.specs.Table.{with_word};
@@ -18,14 +18,15 @@ use htn_base::{Name, NameTable, is_reserved};
 use sexpr_text::Sexprs;
 
 /// The greatest number of words of a table.
-const MOST_WORDS: usize = 4_294_967_295;
+const MOST_WORDS: usize = 67_108_864;
 
 /// The name of the word in the table, where it is put if it isn't there.
-#[tactic(auto, using(crate::proofs::NameLemmas::says_found, crate::proofs::NameLemmas::table_differs))]
+#[tactic(auto, using(crate::proofs::NameLemmas::says_found, crate::proofs::NameLemmas::table_differs, crate::proofs::NameLemmas::few_words))]
 pub fn intern(names: &mut NameTable, word: &[u8]) -> Result<Name, Stop>
     ensures words { OnOk result (names.new ≡ with_word names.old (folded word.now)) }
     ensures says { IfOk result (λ n. Says names.new n (folded word.now)) }
     ensures differ { OnOk result (AreDifferent names.new) }
+    ensures few { OnOk result (length names.new ≤ 2 ^ 26) }
 {
     if names.len() >= MOST_WORDS {
         return Err(Stop::Memory);

@@ -1,34 +1,29 @@
-ghost use Rattle.std.specs.Prelude.{◌≡◌, ◌≤◌, [], length, IfOk, IfSome};
-ghost use Rattle.plan_model.specs.Parts.{AreListed};
+ghost use Rattle.std.specs.Prelude.{◌≤◌, length, IfOk, IfSome};
 ghost use Rattle.plan_texts.specs.FirstSeen.{IsHddlOf};
-ghost use Rattle.plan_texts.specs.SoundValue.{IsSoundHddl};
+ghost use Rattle.plan_texts.specs.SoundProblem.{IsSoundProblem};
 ghost use Rattle.plan_meaning.specs.Laws.{AreOrdered};
 ghost use Rattle.hddl_reader.specs.Binding.{IsRead};
-ghost use Rattle.hddl_reader.specs.Small.{HaveFewSubtasks, HaveFewParameters};
 
 use crate::binding::bind;
 use crate::forms;
 use crate::stop::Stop;
-use htn_base::{Memory, NameTable};
-use plan_model::{Formula, Hddl};
+use htn_base::Memory;
+use plan_model::Hddl;
 use sexpr_text::Sexprs;
 use std::alloc::Global;
 
 /// The greatest number of bytes of a text of the form.
 const LARGEST_TEXT: usize = 65_536;
 
+/// The greatest number of sections of a domain.
+const MOST_SECTIONS: usize = 33_554_432;
+
 /// Reads a domain and a problem of the smallest form: each text has at most 65,536
 /// bytes, and letters fold to lower case. `None` says that the pair isn't of the form.
-#[tactic(auto, using(crate::proofs::Spelled::spelled, crate::proofs::Sound::sound, crate::proofs::SmallNetworks::ordered, crate::proofs::SmallNetworks::few_subtasks, crate::proofs::SmallNetworks::few_parameters, crate::proofs::SmallNetworks::listed, crate::proofs::SmallNetworks::no_condition, crate::proofs::SmallNetworks::no_unions))]
 pub fn small(alloc: Global, domain: &[u8], problem: &[u8]) -> Result<Option<Hddl>, Memory>
-    ensures spelled { IfOk result (λ o. IfSome o (λ h. IsHddlOf domain.now problem.now h)) }
-    ensures sound { IfOk result (λ o. IfSome o (λ h. IsSoundHddl h)) }
-    ensures ordered { IfOk result (λ o. IfSome o (λ h. AreOrdered h)) }
-    ensures few_subtasks { IfOk result (λ o. IfSome o (λ h. HaveFewSubtasks h)) }
-    ensures few_parameters { IfOk result (λ o. IfSome o (λ h. HaveFewParameters h)) }
-    ensures listed { IfOk result (λ o. IfSome o (λ h. AreListed h.types)) }
-    ensures top { IfOk result (λ o. IfSome o (λ h. h.top.pre ≡ Formula.And [])) }
-    ensures no_unions { IfOk result (λ o. IfSome o (λ h. h.types.unions ≡ [])) }
+    ensures spelled { IfOk result (λ o. IfSome o (IsHddlOf domain.now problem.now)) }
+    ensures sound { IfOk result (λ o. IfSome o IsSoundProblem) }
+    ensures ordered { IfOk result (λ o. IfSome o AreOrdered) }
 {
     if domain.len() > LARGEST_TEXT || problem.len() > LARGEST_TEXT {
         return Ok(None);
@@ -65,28 +60,10 @@ fn read_both(alloc: Global, domain: &Sexprs<'_>, problem: &Sexprs<'_>) -> Result
     ensures read { IfOk result (λ h. IsRead domain.now problem.now h) }
 {
     let written = forms::domain(alloc, domain)?;
+    if written.sections.len() > MOST_SECTIONS {
+        return Err(Stop::NotOfForm);
+    }
     let asked = forms::problem(problem)?;
     let value = bind(alloc, domain, problem, &written, &asked)?;
     Ok(value)
-}
-
-#[cfg(test)]
-mod tests {
-    use super::*;
-    use std::test::Fail;
-
-    const DOMAIN: &[u8] = b"(define (domain d) (:task t :parameters ())
-        (:METHOD M :parameters () :task (t) :subtasks (a)) ; a comment (
-        (:action a :parameters ()))";
-
-    const PROBLEM: &[u8] = b"(define (problem p) (:domain d) (:htn :subtasks (t)))";
-
-    #[test]
-    fn reads_the_smallest_problem(rt: HostRuntime) -> Result<(), Fail> {
-        let value = small(rt.alloc(), DOMAIN, PROBLEM)?.ok_or("not of the form")?;
-        assert_eq!(rt; value.tasks.len(), 1);
-        assert_eq!(rt; value.methods.len(), 1);
-        assert_eq!(rt; value.top.children.len(), 1);
-        Ok(())
-    }
 }

@@ -14,12 +14,14 @@ use Rattle.task_networks.proofs.Different.{no_more}
 use Rattle.plan_model.specs.declared.networks.Pair.{Pair}
 use Rattle.plan_model.specs.declared.schemas.MethodSchema.{MethodSchema}
 use Rattle.plan_model.specs.declared.values.Hddl.{Hddl}
+use Rattle.plan_texts.specs.SoundProblem.{HasSmallNetworks}
+use Rattle.plan_texts.proofs.SoundProblems.{small_network}
 use Rattle.plan_meaning.specs.Compilation.{pair, same_pair, once, pairs, children, Pairs}
 use Rattle.plan_meaning.specs.Laws.{AreOrdered}
 use Rattle.plan_meaning.proofs.Pairs.{pairs_within, pairs_acyclic}
 use Rattle.net_order.specs.Meaning.{AreBelow}
 use Rattle.method_precs.specs.Pairs.{shifted}
-use Rattle.method_precs.specs.Small.{AreSmall, HaveFewParams, IsFit}
+use Rattle.method_precs.specs.Small.{IsFit}
 
 pub below_from_pairs : (count : ℕ) (ps : List Pair) → ArePairsOf (Pairs ps) count → AreBelow count ps
 below_from_pairs count ps w k d l = w (get_or ps k d).first (get_or ps k d).then (Contains-get_or ps k d l)
@@ -82,8 +84,8 @@ module _ (s : MethodSchema) (fit : IsFit s) (b : Bool) where
   children_few = go b
     where
       go : (b : Bool) → length (children b s) ≤ 4097
-      go true = let l = fit.small in omega arith
-      go false = let l = fit.small in omega arith
+      go true = let l = fit.small.subtasks in omega arith
+      go false = let l = fit.small.subtasks in omega arith
 
   pub pairs_below : AreBelow (length (children b s)) (pairs b s)
   pairs_below = below_from_pairs (length (children b s)) (pairs b s) (pairs_within b s fit.within)
@@ -101,14 +103,15 @@ module _ (s : MethodSchema) (fit : IsFit s) (b : Bool) where
   pub pairs_few : length (pairs b s) < 2 ^ 32
   pairs_few = let h = few_below (length (children b s)) (pairs b s) different pairs_below in let k = square_few (length (children b s)) children_few in omega arith
 
-pub fit_of : (h : Hddl) → AreOrdered h → AreSmall h → HaveFewParams h → (s : MethodSchema) → Contains (h.top ∷ h.methods) s → IsFit s
-fit_of h ordered small few s c = record { within = (ordered s c).0; acyclic = (ordered s c).1; small = small s c; few = few s c }
+module _ (h : Hddl) (ordered : AreOrdered h) (small : HasSmallNetworks h) where
+  fit_of : (s : MethodSchema) → Contains (h.top ∷ h.methods) s → IsFit s
+  fit_of s c = record { within = (ordered s c).0; acyclic = (ordered s c).1; small = small_network h small s c }
 
-pub fit_top : (h : Hddl) → AreOrdered h → AreSmall h → HaveFewParams h → IsFit h.top
-fit_top h ordered small few = fit_of h ordered small few h.top (Contains-here h.top h.methods)
+  pub fit_top : IsFit h.top
+  fit_top = fit_of h.top (Contains-here h.top h.methods)
 
-pub fit_methods : (h : Hddl) → AreOrdered h → AreSmall h → HaveFewParams h → All IsFit h.methods
-fit_methods h ordered small few k d l = fit_of h ordered small few (get_or h.methods k d) (Contains-later h.top h.methods (get_or h.methods k d) (Contains-get_or h.methods k d l))
+  pub fit_methods : All IsFit h.methods
+  fit_methods k d l = fit_of (get_or h.methods k d) (Contains-later h.top h.methods (get_or h.methods k d) (Contains-get_or h.methods k d l))
 
 -- the pairs of a method with a check, before each is kept once
 pub below_checked : (n : ℕ) (ps : List Pair) → AreBelow n ps → AreBelow (n + 1) (map (λ k. pair 0 (suc k)) (numbers 0 n) ++ map shifted ps)

@@ -4,4 +4,4 @@ pub mod SameKeys
 pub mod Fits
 pub mod SinglePairs
 pub mod OrderParts
-pub mod Risings
+pub mod Problems

@@ -2,4 +2,3 @@ pub mod Pairs
 pub mod Ordered
 pub mod Keys
 pub mod Small
-pub mod Rising

@@ -1,10 +1,10 @@
 ghost use Rattle.std.specs.Prelude.{IfOk};
 ghost use Rattle.task_networks.specs.Lawful.{IsLawful};
 ghost use Rattle.plan_model.specs.Parts.{AreListed};
+ghost use Rattle.plan_texts.specs.SoundProblem.{HasSmallNetworks};
 ghost use Rattle.plan_meaning.specs.Compilation.{IsCompiled};
 ghost use Rattle.plan_meaning.specs.Network.{network};
 ghost use Rattle.plan_meaning.specs.Laws.{AreOrdered};
-ghost use Rattle.method_precs.specs.Small.{AreSmall, HaveFewParams};
 
 use crate::plans::plans_of;
 use htn_base::Memory;
@@ -15,15 +15,19 @@ use std::alloc::Global;
 /// It takes memory for n² bits for a network of n subtasks.
 pub fn compile(alloc: Global, problem: Hddl, checks: &Checks) -> Result<Compiled, Memory>
     requires ordered { AreOrdered problem }
-    requires small { AreSmall problem }
-    requires few { HaveFewParams problem }
+    requires small { HasSmallNetworks problem }
     requires listed { AreListed problem.types }
     ensures compiled { IfOk result (IsCompiled problem checks.now) }
     ensures lawful { IfOk result (λ compiled. IsLawful (network compiled)) }
 {
-    let methods = plans_of(alloc, &problem, checks)?;
-    Ok(Compiled {
-        hddl: problem,
-        methods,
-    })
+    match plans_of(alloc, &problem, checks) {
+        Ok(methods) => Ok(Compiled {
+            hddl: problem,
+            methods,
+        }),
+        Err(Memory) => {
+            drop(problem);
+            Err(Memory)
+        }
+    }
 }

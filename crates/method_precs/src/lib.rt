@@ -1,7 +1,7 @@
 //! The compiled value of a problem: checks of preconditions, pairs, lines, heirs, copiers and guards of its methods.
 //!
-//! Stands on `htn_base`, `net_order` and the definitions of `task_networks`, `plan_model` and `plan_meaning`. The
-//! contract used above: `compile` gives the compiled value, and its network is lawful.
+//! Stands on `htn_base`, `net_order` and the definitions of `task_networks`, `plan_model`, `plan_texts` and
+//! `plan_meaning`. The contract used above: `compile` gives the compiled value, and its network is lawful.
 #![tactic(auto)]
 
 mod checks;
@@ -12,11 +12,7 @@ mod orders;
 mod pairs;
 mod placed;
 mod plans;
-#[cfg(test)]
-mod samples;
 mod single_guards;
 mod single_pairs;
-#[cfg(test)]
-mod tests;
 
 pub use compilation::compile;

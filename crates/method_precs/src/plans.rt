@@ -10,7 +10,9 @@ use crate::guards::guards_of;
 use crate::orders::Ordered;
 use crate::pairs::pairs_of;
 use htn_base::{List, Memory};
-use plan_model::{Checks, Hddl, MethodPlan, MethodSchema};
+use plan_model::{
+    Checks, Child, Constraint, Formula, Hddl, MethodPlan, MethodSchema, Pair, Param, Term,
+};
 use std::alloc::Global;
 
 /// The plans of the top method and then of the others, in order.
@@ -39,19 +41,25 @@ fn plan_of(
     requires fit { IsFit method.now }
     ensures { IfOk result (spec.IsMethodPlan problem.now checks.now method.now) }
 {
+    let guards = guards_of(alloc, problem, method)?;
     let checked = is_checked(checks, &method.pre);
     let schema = schema_of(alloc, checked, method)?;
     let count = schema.children.len() as u32;
-    let ordered = Ordered::new(alloc, count, schema.pairs.as_slice())?;
-    Ok(MethodPlan {
-        schema,
-        checked,
-        tested: is_tested(checks, &method.pre),
-        line: ordered.line,
-        heir: ordered.heir,
-        copiers: ordered.copiers,
-        guards: guards_of(alloc, problem, method)?,
-    })
+    match Ordered::new(alloc, count, schema.pairs.as_slice()) {
+        Ok(ordered) => Ok(MethodPlan {
+            schema,
+            checked,
+            tested: is_tested(checks, &method.pre),
+            line: ordered.line,
+            heir: ordered.heir,
+            copiers: ordered.copiers,
+            guards,
+        }),
+        Err(Memory) => {
+            drop(schema);
+            Err(Memory)
+        }
+    }
 }
 
 /// The method with its check, if there is one, and each pair once.
@@ -62,14 +70,60 @@ fn schema_of(alloc: Global, checked: bool, method: &MethodSchema) -> Result<Meth
       pairs = spec.pairs checked method.now;
     }) }
 {
-    Ok(MethodSchema {
+    let network = network_of(alloc, checked, method)?;
+    Ok(joined(method, network, front_of(alloc, method)?))
+}
+
+/// Copies of the parameters, the task's arguments and the precondition.
+fn front_of(
+    alloc: Global,
+    method: &MethodSchema,
+) -> Result<(List<Param>, List<Term>, Formula), Memory>
+    ensures { IfOk result (λ front. front ≡ (method.now.params, method.now.task_args, method.now.pre)) }
+{
+    let params = method.params.copy(alloc)?;
+    let task_args = method.task_args.copy(alloc)?;
+    Ok((params, task_args, method.pre.copy(alloc)?))
+}
+
+/// The children with the check, if there is one, each pair once, and the constraints.
+fn network_of(
+    alloc: Global,
+    checked: bool,
+    method: &MethodSchema,
+) -> Result<(List<Child>, List<Pair>, List<Constraint>), Memory>
+    requires { IsFit method.now }
+    ensures { IfOk result (λ network. network ≡
+        (spec.children checked method.now, spec.pairs checked method.now, method.now.constraints)) }
+{
+    let children = children_of(alloc, checked, method)?;
+    let pairs = pairs_of(alloc, checked, method)?;
+    Ok((children, pairs, method.constraints.copy(alloc)?))
+}
+
+/// The method of this name and task with these parts.
+fn joined(
+    method: &MethodSchema,
+    network: (List<Child>, List<Pair>, List<Constraint>),
+    front: (List<Param>, List<Term>, Formula),
+) -> MethodSchema
+    requires front { front ≡ (method.now.params, method.now.task_args, method.now.pre) }
+    ensures { result ≡ record method.now {
+      children = network.0;
+      pairs = network.1;
+      constraints = network.2;
+    } }
+{
+    let (children, pairs, constraints) = network;
+    let (params, task_args, pre) = front;
+    MethodSchema {
         name: method.name,
-        params: method.params.copy(alloc)?,
+        params,
         task: method.task,
-        task_args: method.task_args.copy(alloc)?,
-        pre: method.pre.copy(alloc)?,
-        children: children_of(alloc, checked, method)?,
-        pairs: pairs_of(alloc, checked, method)?,
-        constraints: method.constraints.copy(alloc)?,
-    })
+        task_args,
+        pre,
+        children,
+        pairs,
+        constraints,
+    }
 }

@@ -1,10 +1,10 @@
-ghost use Rattle.std.specs.Prelude.{◌≡◌, ◌<◌, ℕ, [], not, false, true, IfOk, length, slice_set, slice_index_or};
+ghost use Rattle.std.specs.Prelude.{◌≡◌, ◌<◌, [], not, true, IfOk, length, slice_set, slice_index_or};
 ghost use Rattle.plan_meaning.specs.Compilation as spec;
 ghost use Rattle.net_order.specs.Marks.{marked, has, IsSquare};
 ghost use Rattle.net_order.specs.Meaning.{AreBelow};
 
 use htn_base::{List, Memory};
-use net_order::ChildSet;
+use net_order::{ChildSet, empty_sets};
 use plan_model::Pair;
 use std::alloc::Global;
 
@@ -13,7 +13,7 @@ pub fn single_pairs(alloc: Global, count: usize, pairs: &[Pair]) -> Result<List<
     requires within { AreBelow count pairs.now }
     ensures single { IfOk result (λ single. single ≡ spec.once spec.same_pair pairs.now) }
 {
-    let mut seen = no_pairs(alloc, count)?;
+    let mut seen = empty_sets(alloc, count)?;
     let mut single = List::new(alloc);
     for pair in pairs {
         if is_new(&mut seen, pair) {
@@ -21,18 +21,6 @@ pub fn single_pairs(alloc: Global, count: usize, pairs: &[Pair]) -> Result<List<
         }
     }
     Ok(single)
-}
-
-/// An empty set for each child.
-fn no_pairs(alloc: Global, count: usize) -> Result<Vec<ChildSet>, Memory>
-    ensures square { IfOk result (λ sets. IsSquare count sets.items) }
-    ensures empty { IfOk result (λ sets. (i j : ℕ) → j < count → marked sets.items i j ≡ false) }
-{
-    let mut sets = Vec::new(alloc);
-    for _ in 0..count {
-        sets.push(ChildSet::new(alloc, count)?)?;
-    }
-    Ok(sets)
 }
 
 /// Puts the pair's first child into the set of the second one. It tells whether it was not there.

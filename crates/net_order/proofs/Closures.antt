@@ -1,4 +1,4 @@
--- Closures as they grow pair by pair, and the pair that is refused.
+-- Chains as pairs are added, and the pair that is refused.
 use Rattle.std.proofs.Common.{ℕ, ◌≡◌, ◌+◌, ◌<◌, ◌↔◌, ◌⊎◌, inl, inr, List, [], ◌∷◌, ◌++◌, length, Bool, true, false, IsTrue, take, drop, get_or, set, sym, subst, ap, ◌∙◌, arith, length-take-le, append_assoc, take-append-drop, get_or-set_same, get_or-set_other}
 use Rattle.std.proofs.lemmas.List.{take_more, drop_more}
 use Rattle.std.proofs.lemmas.Bool.{cases_eq, both_ways}
@@ -8,20 +8,7 @@ use Rattle.task_networks.proofs.Lists.{by_push, not-in_empty}
 use Rattle.task_networks.proofs.Orders.{last_pair}
 use Rattle.net_order.specs.Marks.{has, marked, Marked, IsSquare}
 use Rattle.net_order.specs.Meaning.{pair, Pairs, AreBelow}
-use Rattle.net_order.specs.Closure.{IsClosure, IsLinked}
 use Rattle.net_order.proofs.Chains.{wider, chain_cases, chain_by_last, acyclic_push, cyclic_push, acyclic_fewer, ByLast}
-
--- without pairs nothing precedes anything
-pub closure_none : (count : ℕ) (before : List (List Bool)) → IsSquare count before → ((i j : ℕ) → j < count → marked before i j ≡ false) → IsClosure count [] before
-closure_none count before square empty = record {
-  square = square;
-  precedes = λ i j a b. ((λ m. absurd (both_ways (marked before i j) (empty i j b) m)), λ c. absurd (none i j c));
-  acyclic = λ i c. none i i c;
-}
-  where
-    none : (i j : ℕ) → Precedes (Pairs []) i j → ⊥
-    none i j (direct h) = let k = h.1 in omega arith
-    none i j (through c h) = let k = h.1 in omega arith
 
 -- the set of what precedes i, and i itself
 pub has_added : (s : List Bool) (i a : ℕ) → i < length s → IsTrue (has (set s i true) a) ↔ ((a ≡ i) ⊎ IsTrue (has s a))
@@ -31,46 +18,12 @@ has_added s i a l = go (cases_eq a i)
     go (inl e) = ((λ x. inl e), λ x. subst (λ y. has (set s i true) y ≡ true) (sym e) (get_or-set_same s i true false l))
     go (inr d) = let e = get_or-set_other s i a true false d in ((λ x. inr (sym e ∙ x)), λ x. elim x [ inl f ↦ absurd (d f) | inr f ↦ e ∙ f ])
 
-module _ (count : ℕ) (ps : List Pair) (p : Pair) (old new : List (List Bool)) (added : List Bool) where
-  pub closure_push : p.first < count → p.then < count → IsClosure count ps old → (p.first ≡ p.then → ⊥) → marked old p.then p.first ≡ false
-      → IsLinked count p.then added old new → added ≡ set (get_or old p.first []) p.first true → IsClosure count (ps ++ p ∷ []) new
-  closure_push f t h differ apart link is = record {
-    square = link.square;
-    precedes = λ a b l m. (to a b l m, from a b l m);
-    acyclic = acyclic_push ps p h.acyclic differ (λ c. both_ways (marked old p.then p.first) apart ((h.precedes p.then p.first t f).1 c));
-  }
-    where
-      within : p.first < length (get_or old p.first [])
-      within = let e = h.square.marks p.first f in omega arith
-
-      is_added : (a : ℕ) → IsTrue (has added a) ↔ ((a ≡ p.first) ⊎ Marked old a p.first)
-      is_added a = subst (λ s. IsTrue (has s a) ↔ ((a ≡ p.first) ⊎ Marked old a p.first)) (sym is) (has_added (get_or old p.first []) p.first a within)
-
-      by_last : (a b : ℕ) → a < count → b < count → ((b ≡ p.then) ⊎ Marked old p.then b) → ((a ≡ p.first) ⊎ Marked old a p.first) → ByLast ps p a b
-      by_last a b l m x y = (elim x [ inl e ↦ inl e | inr e ↦ inr ((h.precedes p.then b t m).0 e) ], elim y [ inl e ↦ inl e | inr e ↦ inr ((h.precedes a p.first l f).0 e) ])
-
-      marks : (a b : ℕ) → a < count → b < count → ByLast ps p a b → ((b ≡ p.then) ⊎ Marked old p.then b) × IsTrue (has added a)
-      marks a b l m x = (elim x.0 [ inl e ↦ inl e | inr e ↦ inr ((h.precedes p.then b t m).1 e) ], (is_added a).1 (elim x.1 [ inl e ↦ inl e | inr e ↦ inr ((h.precedes a p.first l f).1 e) ]))
-
-      to : (a b : ℕ) → a < count → b < count → Marked new a b → Precedes (Pairs (ps ++ p ∷ [])) a b
-      to a b l m x = elim ((link.marks a b m).0 x) [ inl y ↦ wider ps (p ∷ []) a b ((h.precedes a b l m).0 y) | inr y ↦ chain_by_last ps p a b (by_last a b l m y.0 ((is_added a).0 y.1)) ]
-
-      from : (a b : ℕ) → a < count → b < count → Precedes (Pairs (ps ++ p ∷ [])) a b → Marked new a b
-      from a b l m x = (link.marks a b m).1 (elim (chain_cases ps p a b x) [ inl c ↦ inl ((h.precedes a b l m).1 c) | inr c ↦ inr (marks a b l m c) ])
-
 module _ (pairs : List Pair) (k : ℕ) (d : Pair) (l : k < length pairs) where
   abbrev here : Pair
   here = get_or pairs k d
 
   parts : pairs ≡ take k pairs ++ here ∷ drop (k + 1) pairs
   parts = sym (take-append-drop k pairs) ∙ ap (λ z. take k pairs ++ z) (drop_more pairs k d l)
-
-  pub closure_more : (count : ℕ) (old new : List (List Bool)) (added : List Bool) → AreBelow count pairs → IsClosure count (take k pairs) old → ((get_or pairs k d).first ≡ (get_or pairs k d).then → ⊥)
-      → marked old (get_or pairs k d).then (get_or pairs k d).first ≡ false → IsLinked count (get_or pairs k d).then added old new
-      → added ≡ set (get_or old (get_or pairs k d).first []) (get_or pairs k d).first true → IsClosure count (take (k + 1) pairs) new
-  closure_more count old new added below h differ apart link is =
-      let b = below k d l in
-      subst (λ ps. IsClosure count ps new) (sym (take_more pairs k d l)) (closure_push count (take k pairs) (get_or pairs k d) old new added b.0 b.1 h differ apart link is)
 
   pub refused_at : IsAcyclic (Pairs (take k pairs)) → Closes pair (take k pairs) (get_or pairs k d).first (get_or pairs k d).then → IsFirstClosing pair pairs k × (IsAcyclic (Pairs pairs) → ⊥)
   refused_at acyclic closes = (

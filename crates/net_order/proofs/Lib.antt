@@ -1,4 +1,3 @@
-pub mod Linking
 pub mod Chains
 pub mod Closures
 pub mod Lines

@@ -11,11 +11,6 @@ pub record IsClosure (count : ℕ) (pairs : List Pair) (before : List (List Bool
   pub precedes : (i j : ℕ) → i < count → j < count → Marked before i j ↔ Precedes (Pairs pairs) i j
   pub acyclic : IsAcyclic (Pairs pairs)
 
--- the added ones now precede j and all that j precedes
-pub record IsLinked (count j : ℕ) (added : List Bool) (old new : List (List Bool)) : Type 0 where
-  pub square : IsSquare count new
-  pub marks : (a b : ℕ) → b < count → Marked new a b ↔ (Marked old a b ⊎ (((b ≡ j) ⊎ Marked old j b) × IsTrue (has added a)))
-
 -- the children with which a pair begins
 abbrev pub AreFirsts : List Pair → List Bool → Type 0
 AreFirsts pairs set = (i : ℕ) → IsTrue (has set i) ↔ ((p : Pair) × Contains pairs p × (p.first ≡ i))

@@ -5,4 +5,5 @@ pub mod Answers
 pub mod Meaning
 pub mod Closure
 pub mod Front
+pub mod Placed
 pub mod Walk

@@ -17,6 +17,10 @@ pub record IsSquare (count : ℕ) (before : List (List Bool)) : Type 0 where
   pub sets : length before ≡ count
   pub marks : (j : ℕ) → j < count → length (slice_index_or before j []) ≡ count
 
+-- nothing is marked in the sets of so many children
+abbrev pub AreEmpty : ℕ → List (List Bool) → Type 0
+AreEmpty count before = (i j : ℕ) → j < count → marked before i j ≡ false
+
 -- the marked predecessors of the child are all in the set
 abbrev pub IsPreceded : List (List Bool) → List Bool → ℕ → Type 0
 IsPreceded before set i = (j : ℕ) → Marked before j i → IsTrue (has set j)
@@ -39,6 +43,10 @@ IsMarkedLast before i = (i < length before) × ((j : ℕ) → j < length before 
 -- each of the first k of the line is marked as one that precedes each of the rest
 abbrev pub IsMarkedCut : List (List Bool) → List ℕ → ℕ → Type 0
 IsMarkedCut before line k = (p q : ℕ) → p < k → k ≤ q → q < length line → Marked before (slice_index line p) (slice_index line q)
+
+-- the set has the places at which the line is cut
+abbrev pub AreMarkedCuts : List (List Bool) → List ℕ → List Bool → Type 0
+AreMarkedCuts before line set = (k : ℕ) → k < length line → IsTrue (has set k) ↔ IsMarkedCut before line k
 
 -- so many of the line, from the first on, are in the set, and the next is not
 pub record IsCovered (line : List ℕ) (set : List Bool) (n : ℕ) : Type 0 where

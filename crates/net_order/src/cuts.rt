@@ -1,5 +1,5 @@
-ghost use Rattle.std.specs.Prelude.{◌≡◌, ℕ, ◌<◌, ◌≤◌, ◌↔◌, All, min, length, IsTrue, IfOk};
-ghost use Rattle.net_order.specs.Marks.{has, IsSquare, IsMarkedCut, IsCovered};
+ghost use Rattle.std.specs.Prelude.{◌≡◌, ◌<◌, All, min, length, IfOk};
+ghost use Rattle.net_order.specs.Marks.{IsSquare, AreMarkedCuts, IsCovered};
 
 use crate::child_set::ChildSet;
 use htn_base::Memory;
@@ -10,7 +10,7 @@ pub fn cuts_of(alloc: Global, before: &[ChildSet], line: &[u32]) -> Result<Child
     requires square { IsSquare (length before.now) before.now }
     requires children { All (λ i. i < length before.now) line.now }
     ensures room { IfOk result (λ set. length set ≡ length line.now) }
-    ensures cuts { IfOk result (λ set. (k : ℕ) → k < length line.now → IsTrue (has set k) ↔ IsMarkedCut before.now line.now k) }
+    ensures cuts { IfOk result (AreMarkedCuts before.now line.now) }
 {
     let mut cuts = ChildSet::new(alloc, line.len())?;
     let mut reach = line.len();

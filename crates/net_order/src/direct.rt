@@ -1,5 +1,5 @@
-ghost use Rattle.std.specs.Prelude.{◌≡◌, ℕ, ◌<◌, false, length, IfOk};
-ghost use Rattle.net_order.specs.Marks.{marked, IsSquare};
+ghost use Rattle.std.specs.Prelude.{length, IfOk};
+ghost use Rattle.net_order.specs.Marks.{AreEmpty, IsSquare};
 ghost use Rattle.net_order.specs.Meaning.{AreBelow};
 ghost use Rattle.net_order.specs.Closure.{IsAdded, IsDirect};
 
@@ -21,7 +21,7 @@ pub fn direct_sets(alloc: Global, count: usize, pairs: &[Pair]) -> Result<Vec<Ch
 /// An empty set for each child.
 pub fn empty_sets(alloc: Global, count: usize) -> Result<Vec<ChildSet>, Memory>
     ensures square { IfOk result (λ before. IsSquare count before.items) }
-    ensures empty { IfOk result (λ before. (i j : ℕ) → j < count → marked before.items i j ≡ false) }
+    ensures empty { IfOk result (λ before. AreEmpty count before.items) }
 {
     let mut before = Vec::new(alloc);
     for _ in 0..count {

@@ -15,12 +15,9 @@ mod front;
 mod last;
 mod line;
 mod order;
-#[cfg(test)]
-mod plain;
 mod sorted;
-#[cfg(test)]
-mod tests;
 mod walk;
 
 pub use child_set::ChildSet;
+pub use direct::empty_sets;
 pub use order::{Order, OrderError};

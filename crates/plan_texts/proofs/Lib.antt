@@ -18,3 +18,4 @@ pub mod Layers
 pub mod OneOrder
 pub mod PlanSteps
 pub mod examples
+pub mod SoundProblems

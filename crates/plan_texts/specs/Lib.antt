@@ -17,3 +17,4 @@ pub mod PrintableValue
 pub mod FirstSeen
 pub mod PlanText
 pub mod SoundValue
+pub mod SoundProblem

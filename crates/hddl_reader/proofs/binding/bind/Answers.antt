@@ -15,6 +15,7 @@ returns c =
     record {
       bound = record {
         names = names;
+        few = c.in_ok-titles.ensures.few;
         titles = c.in_ok-titles.titles;
         schemas = x;
         top = c.in_ok-top.top;

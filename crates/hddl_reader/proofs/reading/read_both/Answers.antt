@@ -1,3 +1,4 @@
+use Rattle.std.proofs.Common.{arith}
 use Rattle.hddl_reader.proofs.reading.read_both.Goals as goal
 
 pub returns : goal.returns
@@ -7,6 +8,7 @@ returns c = record {
     problem_faultless = c.in_ok-asked.ensures.faultless;
     written = c.in_ok-written.written;
     asked = c.in_ok-asked.asked;
+    few = omega (arith, c.in_ok-written.ensures, c.if-len-gt-MOST_SECTIONS.false);
     domain_is = c.in_ok-written.ensures.read;
     problem_is = c.in_ok-asked.ensures.read;
     bound = c.in_ok-value.ensures.bound;

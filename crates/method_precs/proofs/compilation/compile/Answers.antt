@@ -7,12 +7,12 @@ use Rattle.method_precs.proofs.Fits.{fit_top, fit_methods}
 use Rattle.method_precs.proofs.compilation.compile.Goals as goal
 
 pub plans_of-requires-clause-top : goal.plans_of-requires-clause-top
-plans_of-requires-clause-top c = fit_top c.args.problem c.requires.ordered c.requires.small c.requires.few
+plans_of-requires-clause-top c = fit_top c.args.problem c.requires.ordered c.requires.small
 
 pub plans_of-requires-clause-methods : goal.plans_of-requires-clause-methods
-plans_of-requires-clause-methods c = fit_methods c.args.problem c.requires.ordered c.requires.small c.requires.few
+plans_of-requires-clause-methods c = fit_methods c.args.problem c.requires.ordered c.requires.small
 
-pub returns-clause-lawful : goal.returns-clause-lawful
-returns-clause-lawful c =
-    let compiled : Compiled = record { hddl = c.args.problem; methods = c.in_ok-methods.methods } in
-    prepared_is_lawful (network compiled) (prepared c.args.problem c.args.checks.now compiled c.requires.ordered (record { hddl = refl; methods = c.in_ok-methods.ensures }))
+pub returns-in-Ok-clause-lawful : goal.returns-in-Ok-clause-lawful
+returns-in-Ok-clause-lawful c =
+    let compiled : Compiled = record { hddl = c.args.problem; methods = c.in-Ok.methods } in
+    prepared_is_lawful (network compiled) (prepared c.args.problem c.args.checks.now compiled c.requires.ordered (record { hddl = refl; methods = c.in-Ok.ensures }))

@@ -30,11 +30,11 @@ new-requires-clause-acyclic c =
     let is : c.as_slice.result.now ≡ pairs c.is_checked-checked.result c.args.method.now = c.as_slice.ensures.items ∙ ap (λ (z : MethodSchema). z.pairs) c.in_ok-schema.ensures in
     subst (λ (ps : List Pair). IsAcyclic (Pairs ps)) (sym is) (acyclic s c.requires.fit b)
 
-pub returns : goal.returns
-returns c =
+pub returns-in-Ok : goal.returns-in-Ok
+returns-in-Ok c =
     let schema : MethodSchema = c.in_ok-schema.schema in
-    let ordered = subst (λ (ps : List Pair). IsOrdered (length schema.children) ps c.in_ok-ordered.ordered) c.as_slice.ensures.items
-    (subst (λ n. IsOrdered n c.as_slice.result.now c.in_ok-ordered.ordered) c.len-count.ensures.length c.in_ok-ordered.ensures.ordered) in
+    let ordered = subst (λ (ps : List Pair). IsOrdered (length schema.children) ps c.in-Ok.ordered) c.as_slice.ensures.items
+    (subst (λ n. IsOrdered n c.as_slice.result.now c.in-Ok.ordered) c.len-count.ensures.length c.in-Ok.ensures.ordered) in
     record {
       checked = c.is_checked-checked.ensures;
       tested = c.is_tested.ensures;
@@ -43,5 +43,5 @@ returns c =
       heir = ordered.heir;
       copiers = ordered.copiers;
       copiers_in_order = ordered.copiers_in_order;
-      guards = c.in_ok-guards_of.ensures;
+      guards = c.in_ok-guards.ensures;
     }
