@@ -50,10 +50,6 @@ pub behind-each : {X : Type 0} (f : X → Part) (xs : List X) → of_each (λ x.
 behind-each f [] = refl
 behind-each f (x ∷ xs) = ap (λ z. behind (f x) ++ z) (behind-each f xs)
 
-pub lines-each : {X : Type 0} (f : X → Part) (xs : List X) → of_each (λ x. line (f x)) xs ≡ lines (all_parts (map f xs))
-lines-each f [] = refl
-lines-each f (x ∷ xs) = append_assoc (behind (f x)) (10 ∷ []) (of_each (λ x. line (f x)) xs) ∙ ap (λ z. behind (f x) ++ (10 ∷ z)) (lines-each f xs)
-
 pub typed-each : {X : Type 0} (f : X → Word × List Word) (xs : List X) → of_each (λ x. 32 ∷ typed (f x)) xs ≡ bytes_behind (typed_parts (map f xs))
 typed-each f [] = refl
 typed-each f (x ∷ xs) = ap (λ z. (32 ∷ typed (f x)) ++ z) (typed-each f xs) ∙ simp append_assoc

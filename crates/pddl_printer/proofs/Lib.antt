@@ -7,6 +7,7 @@ pub mod Lines
 pub mod Ranges
 pub mod LiteralBytes
 pub mod Heads
+pub mod Forms
 pub mod WrittenLiterals
 pub mod OtherConditions
 pub mod OtherEffects

@@ -1,4 +1,5 @@
 pub mod WrittenOut
+pub mod InForm
 pub mod AppendsPrefix
 pub mod Wrote
 pub mod Scopes

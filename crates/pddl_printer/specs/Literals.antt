@@ -10,6 +10,9 @@ use Rattle.plan_model.specs.declared.terms.Param.{Param}
 use Rattle.plan_model.specs.declared.formulas.Formula.{Formula}
 use Rattle.plan_model.specs.declared.effects.Effect.{Effect}
 use Rattle.pddl_printer.specs.declared.object_range.Range.{Range}
+use Rattle.pddl_printer.specs.declared.instances.Literal.{Literal}
+use Rattle.pddl_printer.specs.declared.instances.Literal.TheVariants.{Held, Denied, Conditional}
+use Rattle.pddl_printer.specs.WrittenOut.{placed_atom}
 
 module _ (v : Declared) (scope : List Word) where
   abbrev pub atom_part : Atom → Part
@@ -24,6 +27,12 @@ module _ (v : Declared) (scope : List Word) where
 
   abbrev pub conditional_part : Atom → Atom → Part
   conditional_part a k = headed (codes "when") (part (atom_part a) (part (atom_part k) nothing))
+
+  -- a literal with this object in place of the variable of this number
+  abbrev pub literal_part : ℕ → Literal → ℕ → Part
+  literal_part depth (Held a) = λ o. atom_part (placed_atom depth o a.now)
+  literal_part depth (Denied a) = λ o. denied_part (placed_atom depth o a.now)
+  literal_part depth (Conditional a k) = λ o. conditional_part (placed_atom depth o a.now) (placed_atom depth o k.now)
 
   -- each behind a space
   abbrev pub conditions_behind : List Formula → List ℕ

@@ -2,16 +2,16 @@ ghost use Rattle.std.specs.Prelude.{◌≡◌, ◌+◌};
 ghost use Rattle.text_forms.specs.Printing.{bytes_behind};
 ghost use Rattle.plan_texts.specs.SpellsPddl.{pddl_words};
 ghost use Rattle.plan_texts.specs.Printed.{all_parts};
-ghost use Rattle.pddl_printer.specs.WrittenOut.{each, placed_atom};
-ghost use Rattle.pddl_printer.specs.Literals.{atom_part, denied_part, conditional_part, is_over as over};
+ghost use Rattle.pddl_printer.specs.WrittenOut.{each};
+ghost use Rattle.pddl_printer.specs.Literals.{literal_part, is_over as over};
 ghost use Rattle.pddl_printer.specs.Scopes.{words_in_force};
 ghost use Rattle.pddl_printer.specs.Wrote.{Wrote};
 
-use crate::instances::{Instance, put_conditional, put_denied, put_held};
+use crate::instances::{Instance, Literal, put_instance};
 use crate::object_range::Range;
 use crate::scope::Scope;
 use crate::sheet::Sheet;
-use plan_model::{Atom, Param, Pddl};
+use plan_model::{Param, Pddl};
 
 /// The objects of a range, each in place of the variable of this number.
 #[derive(Clone, Copy)]
@@ -43,48 +43,17 @@ pub(crate) fn is_over(range: Range, params: &[Param]) -> bool
     }
 }
 
-/// Puts the atom for each object, each behind a space.
-pub(crate) fn put_each_held(
+/// Puts the literal for each object, each behind a space.
+pub(crate) fn put_each(
     p: &Pddl,
     scope: &Scope<'_>,
     of: Instances,
-    atom: &Atom,
+    literal: &Literal<'_>,
     sheet: &mut Sheet<'_>,
 )
-    ensures { Wrote (bytes_behind (all_parts (each of.range of.depth (λ o. atom_part (pddl_words p.now) (words_in_force p.now scope.now) (placed_atom of.depth o atom.now))))) sheet.old sheet.new }
+    ensures { Wrote (bytes_behind (all_parts (each of.range of.depth (literal_part (pddl_words p.now) (words_in_force p.now scope.now) of.depth literal.now)))) sheet.old sheet.new }
 {
     for k in 0..of.range.count {
-        put_held(p, scope, of.at(k), atom, sheet);
-    }
-}
-
-/// Puts that the atom does not hold, for each object and each behind a space.
-pub(crate) fn put_each_denied(
-    p: &Pddl,
-    scope: &Scope<'_>,
-    of: Instances,
-    atom: &Atom,
-    sheet: &mut Sheet<'_>,
-)
-    ensures { Wrote (bytes_behind (all_parts (each of.range of.depth (λ o. denied_part (pddl_words p.now) (words_in_force p.now scope.now) (placed_atom of.depth o atom.now))))) sheet.old sheet.new }
-{
-    for k in 0..of.range.count {
-        put_denied(p, scope, of.at(k), atom, sheet);
-    }
-}
-
-/// Puts that the condition makes the other atom true, for each object and each behind a space.
-pub(crate) fn put_each_conditional(
-    p: &Pddl,
-    scope: &Scope<'_>,
-    of: Instances,
-    condition: &Atom,
-    added: &Atom,
-    sheet: &mut Sheet<'_>,
-)
-    ensures { Wrote (bytes_behind (all_parts (each of.range of.depth (λ o. conditional_part (pddl_words p.now) (words_in_force p.now scope.now) (placed_atom of.depth o condition.now) (placed_atom of.depth o added.now))))) sheet.old sheet.new }
-{
-    for k in 0..of.range.count {
-        put_conditional(p, scope, of.at(k), condition, added, sheet);
+        put_instance(p, scope, of.at(k), literal, sheet);
     }
 }

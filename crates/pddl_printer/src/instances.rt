@@ -5,7 +5,7 @@ ghost use Rattle.plan_texts.specs.Printed.{all_parts, term_part};
 ghost use Rattle.plan_model.specs.declared.terms.Term.TheVariants.{Var};
 ghost use Rattle.pddl_printer.specs.WrittenOut.{placed, placed_atom};
 ghost use Rattle.pddl_printer.specs.Behind.{behind};
-ghost use Rattle.pddl_printer.specs.Literals.{atom_part, inside, denied_part, conditional_part};
+ghost use Rattle.pddl_printer.specs.Literals.{inside, literal_part};
 ghost use Rattle.pddl_printer.specs.Scopes.{words_in_force};
 ghost use Rattle.pddl_printer.specs.Wrote.{Wrote};
 
@@ -14,6 +14,17 @@ use crate::sheet::Sheet;
 use crate::terms::put_term;
 use crate::words::{put_object, put_predicate};
 use plan_model::{Atom, Pddl, Term};
+
+/// What a quantifier that is written out says of its variable.
+#[derive(Clone, Copy)]
+pub(crate) enum Literal<'a> {
+    /// The atom holds.
+    Held(&'a Atom),
+    /// The atom does not hold.
+    Denied(&'a Atom),
+    /// Where the first atom holds, the second becomes true.
+    Conditional(&'a Atom, &'a Atom),
+}
 
 /// An object that stands in place of the variable of this number.
 #[derive(Clone, Copy)]
@@ -65,50 +76,33 @@ fn put_inside(p: &Pddl, scope: &Scope<'_>, at: Instance, atom: &Atom, sheet: &mu
     put_placed_terms(p, scope, at, atom.args.as_slice(), sheet);
 }
 
-/// Puts an instance of an atom behind a space.
-pub(crate) fn put_held(
+/// Puts a literal with the object in place of the variable, behind a space.
+pub(crate) fn put_instance(
     p: &Pddl,
     scope: &Scope<'_>,
     at: Instance,
-    atom: &Atom,
+    literal: &Literal<'_>,
     sheet: &mut Sheet<'_>,
 )
-    ensures { Wrote (behind (atom_part (pddl_words p.now) (words_in_force p.now scope.now) (placed_atom at.depth at.object atom.now))) sheet.old sheet.new }
+    ensures { Wrote (behind (literal_part (pddl_words p.now) (words_in_force p.now scope.now) at.depth literal.now at.object)) sheet.old sheet.new }
 {
-    sheet.put(b" (");
-    put_inside(p, scope, at, atom, sheet);
-    sheet.put(b")");
-}
-
-/// Puts that an instance of an atom does not hold, behind a space.
-pub(crate) fn put_denied(
-    p: &Pddl,
-    scope: &Scope<'_>,
-    at: Instance,
-    atom: &Atom,
-    sheet: &mut Sheet<'_>,
-)
-    ensures { Wrote (behind (denied_part (pddl_words p.now) (words_in_force p.now scope.now) (placed_atom at.depth at.object atom.now))) sheet.old sheet.new }
-{
-    sheet.put(b" (not (");
-    put_inside(p, scope, at, atom, sheet);
-    sheet.put(b"))");
-}
-
-/// Puts that an instance of an atom makes that of another true, behind a space.
-pub(crate) fn put_conditional(
-    p: &Pddl,
-    scope: &Scope<'_>,
-    at: Instance,
-    condition: &Atom,
-    added: &Atom,
-    sheet: &mut Sheet<'_>,
-)
-    ensures { Wrote (behind (conditional_part (pddl_words p.now) (words_in_force p.now scope.now) (placed_atom at.depth at.object condition.now) (placed_atom at.depth at.object added.now))) sheet.old sheet.new }
-{
-    sheet.put(b" (when (");
-    put_inside(p, scope, at, condition, sheet);
-    sheet.put(b") (");
-    put_inside(p, scope, at, added, sheet);
-    sheet.put(b"))");
+    match literal {
+        Literal::Held(atom) => {
+            sheet.put(b" (");
+            put_inside(p, scope, at, atom, sheet);
+            sheet.put(b")");
+        }
+        Literal::Denied(atom) => {
+            sheet.put(b" (not (");
+            put_inside(p, scope, at, atom, sheet);
+            sheet.put(b"))");
+        }
+        Literal::Conditional(condition, added) => {
+            sheet.put(b" (when (");
+            put_inside(p, scope, at, condition, sheet);
+            sheet.put(b") (");
+            put_inside(p, scope, at, added, sheet);
+            sheet.put(b"))");
+        }
+    }
 }

@@ -12,21 +12,16 @@ mod facts;
 mod formulas;
 mod instances;
 mod object_range;
+mod pages;
 mod schemas;
 mod scope;
-mod sections;
 mod sheet;
 mod terms;
-#[cfg(test)]
-mod tests;
 mod texts;
 mod typed_lists;
 mod words;
 mod written_conditions;
 mod written_effects;
-mod written_sections;
-mod written_texts;
 
 pub use object_range::Range;
-pub use texts::{print_domain, print_problem};
-pub use written_texts::{print_written_out_domain, print_written_out_problem};
+pub use texts::{print_domain, print_problem, print_written_out_domain, print_written_out_problem};

@@ -1,5 +1,5 @@
 /// All objects of a type, where these are so many from a number on.
-#[derive(Clone, Copy, Debug, PartialEq, Eq)]
+#[derive(Clone, Copy)]
 pub struct Range {
     pub ty: u32,
     pub first: u32,

@@ -1,18 +1,24 @@
 ghost use Rattle.std.specs.Prelude.{map};
 ghost use Rattle.text_forms.specs.Printing.{bytes_behind, lines};
 ghost use Rattle.plan_texts.specs.SpellsPddl.{pddl_words};
-ghost use Rattle.plan_texts.specs.Printed.{all_parts};
+ghost use Rattle.plan_texts.specs.Printed.{all_parts, formula_part, effect_part};
 ghost use Rattle.plan_texts.specs.PrintedTexts.{predicate_part, action_part};
+ghost use Rattle.pddl_printer.specs.InForm.{action_in, condition_in, effect_in};
 ghost use Rattle.pddl_printer.specs.Behind.{behind, line};
+ghost use Rattle.pddl_printer.specs.Scopes.{words_in_force};
 ghost use Rattle.pddl_printer.specs.Wrote.{Wrote};
 
+use crate::each_object::Instances;
 use crate::effects::put_effect;
 use crate::formulas::put_formula;
+use crate::object_range::Range;
 use crate::scope::Scope;
 use crate::sheet::Sheet;
 use crate::typed_lists::{put_params, put_variables};
 use crate::words::put_name;
-use plan_model::{ActionSchema, Pddl, Predicate};
+use crate::written_conditions::put_written_condition;
+use crate::written_effects::put_written_effect;
+use plan_model::{ActionSchema, Effect, Formula, Pddl, Predicate};
 
 /// Puts a predicate with its parameters behind a space.
 fn put_predicate(p: &Pddl, predicate: &Predicate, sheet: &mut Sheet<'_>)
@@ -33,27 +39,71 @@ pub(crate) fn put_predicates(p: &Pddl, predicates: &[Predicate], sheet: &mut She
     }
 }
 
+/// Puts a condition behind a space, as it is or with its quantifiers over the range written out.
+pub(crate) fn put_condition(
+    p: &Pddl,
+    scope: &Scope<'_>,
+    range: Option<Range>,
+    depth: usize,
+    formula: &Formula,
+    sheet: &mut Sheet<'_>,
+)
+    ensures { Wrote (behind (formula_part (pddl_words p.now) (condition_in range depth formula.now) (words_in_force p.now scope.now))) sheet.old sheet.new }
+{
+    match range {
+        Some(range) => {
+            put_written_condition(p, scope, Instances { range, depth }, formula, sheet);
+        }
+        None => put_formula(p, scope, formula, sheet),
+    }
+}
+
+/// Puts an effect behind a space, as it is or with its quantifiers over the range written out.
+fn put_change(
+    p: &Pddl,
+    scope: &Scope<'_>,
+    range: Option<Range>,
+    depth: usize,
+    effect: &Effect,
+    sheet: &mut Sheet<'_>,
+)
+    ensures { Wrote (behind (effect_part (pddl_words p.now) (effect_in range depth effect.now) (words_in_force p.now scope.now))) sheet.old sheet.new }
+{
+    match range {
+        Some(range) => {
+            put_written_effect(p, scope, Instances { range, depth }, effect, sheet);
+        }
+        None => put_effect(p, scope, effect, sheet),
+    }
+}
+
 /// Puts an action on a line of its own.
-fn put_action(p: &Pddl, action: &ActionSchema, sheet: &mut Sheet<'_>)
-    ensures { Wrote (line (action_part (pddl_words p.now) action.now)) sheet.old sheet.new }
+fn put_action(p: &Pddl, range: Option<Range>, action: &ActionSchema, sheet: &mut Sheet<'_>)
+    ensures { Wrote (line (action_part (pddl_words p.now) (action_in range action.now))) sheet.old sheet.new }
 {
     let scope = Scope::Within(&Scope::Empty, action.params.as_slice());
+    let depth = action.params.len();
     sheet.put(b" (:action ");
     put_name(p, action.name, sheet);
     sheet.put(b" :parameters");
     put_variables(p, action.params.as_slice(), sheet);
     sheet.put(b" :precondition");
-    put_formula(p, &scope, &action.pre, sheet);
+    put_condition(p, &scope, range, depth, &action.pre, sheet);
     sheet.put(b" :effect");
-    put_effect(p, &scope, &action.eff, sheet);
+    put_change(p, &scope, range, depth, &action.eff, sheet);
     sheet.put(b")\n");
 }
 
 /// Puts actions, each on a line of its own.
-pub(crate) fn put_actions(p: &Pddl, actions: &[ActionSchema], sheet: &mut Sheet<'_>)
-    ensures { Wrote (lines (all_parts (map (action_part (pddl_words p.now)) actions.now))) sheet.old sheet.new }
+pub(crate) fn put_actions(
+    p: &Pddl,
+    range: Option<Range>,
+    actions: &[ActionSchema],
+    sheet: &mut Sheet<'_>,
+)
+    ensures { Wrote (lines (all_parts (map (action_part (pddl_words p.now)) (map (action_in range) actions.now)))) sheet.old sheet.new }
 {
     for action in actions {
-        put_action(p, action, sheet);
+        put_action(p, range, action, sheet);
     }
 }

@@ -9,8 +9,9 @@ ghost use Rattle.pddl_printer.specs.Literals.{conditions_behind};
 ghost use Rattle.pddl_printer.specs.Scopes.{words_in_force};
 ghost use Rattle.pddl_printer.specs.Wrote.{Wrote};
 
-use crate::each_object::{Instances, is_over, put_each_denied, put_each_held};
+use crate::each_object::{Instances, is_over, put_each};
 use crate::formulas::put_formula;
+use crate::instances::Literal;
 use crate::scope::Scope;
 use crate::sheet::Sheet;
 use plan_model::{Formula, Param, Pddl};
@@ -96,7 +97,7 @@ fn put_literal(
     ensures { Wrote (conditions_behind (pddl_words p.now) (words_in_force p.now scope.now) (literal of.range of.depth whole.now (out-Formula body.now))) sheet.old sheet.new }
 {
     match body {
-        Formula::Holds(atom) => put_each_held(p, scope, of, atom, sheet),
+        Formula::Holds(atom) => put_each(p, scope, of, &Literal::Held(atom), sheet),
         Formula::Not(part) => put_negated_literal(p, scope, of, whole, part.get(), sheet),
         _ => put_formula(p, scope, whole, sheet),
     }
@@ -113,7 +114,7 @@ fn put_negated_literal(
     ensures { Wrote (conditions_behind (pddl_words p.now) (words_in_force p.now scope.now) (negated_literal of.range of.depth whole.now (out-Formula part.now))) sheet.old sheet.new }
 {
     match part {
-        Formula::Holds(atom) => put_each_denied(p, scope, of, atom, sheet),
+        Formula::Holds(atom) => put_each(p, scope, of, &Literal::Denied(atom), sheet),
         _ => put_formula(p, scope, whole, sheet),
     }
 }

@@ -11,8 +11,9 @@ ghost use Rattle.pddl_printer.specs.Literals.{effects_behind};
 ghost use Rattle.pddl_printer.specs.Scopes.{words_in_force};
 ghost use Rattle.pddl_printer.specs.Wrote.{Wrote};
 
-use crate::each_object::{Instances, is_over, put_each_conditional, put_each_denied};
+use crate::each_object::{Instances, is_over, put_each};
 use crate::effects::put_effect;
+use crate::instances::Literal;
 use crate::scope::Scope;
 use crate::sheet::Sheet;
 use plan_model::{Atom, Effect, Formula, Param, Pddl};
@@ -98,7 +99,7 @@ fn put_change(
     ensures { Wrote (effects_behind (pddl_words p.now) (words_in_force p.now scope.now) (change of.range of.depth whole.now (out-Effect body.now))) sheet.old sheet.new }
 {
     match body {
-        Effect::Delete(atom) => put_each_denied(p, scope, of, atom, sheet),
+        Effect::Delete(atom) => put_each(p, scope, of, &Literal::Denied(atom), sheet),
         Effect::When(condition, change) => {
             put_conditional_add(p, scope, of, whole, condition, change.get(), sheet);
         }
@@ -136,7 +137,13 @@ fn put_add(
     ensures { Wrote (effects_behind (pddl_words p.now) (words_in_force p.now scope.now) (conditional_add of.range of.depth whole.now (Formula-F.Holds condition.now) (out-Effect change.now))) sheet.old sheet.new }
 {
     match change {
-        Effect::Add(added) => put_each_conditional(p, scope, of, condition, added, sheet),
+        Effect::Add(added) => put_each(
+            p,
+            scope,
+            of,
+            &Literal::Conditional(condition, added),
+            sheet,
+        ),
         _ => put_effect(p, scope, whole, sheet),
     }
 }

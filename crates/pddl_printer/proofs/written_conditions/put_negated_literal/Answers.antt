@@ -18,7 +18,7 @@ returns-in-Holds c =
     let s = words_in_force c.args.p.now c.args.scope.now in
     let r = c.args.of.range in
     let d = c.args.of.depth in
-    wrote-as (each-denied v s r d c.in-Holds.atom ∙ ap (λ x. conditions_behind v s (negated_literal r d c.args.whole.now x)) (sym (ap out-Formula c.in-Holds.is ∙ out-Holds c.in-Holds.atom))) c.put_each_denied.ensures
+    wrote-as (each-denied v s r d c.in-Holds.atom ∙ ap (λ x. conditions_behind v s (negated_literal r d c.args.whole.now x)) (sym (ap out-Formula c.in-Holds.is ∙ out-Holds c.in-Holds.atom))) c.put_each.ensures
 
 pub returns-in_default : goal.returns-in_default
 returns-in_default c =

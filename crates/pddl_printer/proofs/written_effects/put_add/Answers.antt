@@ -19,7 +19,7 @@ returns-in-Add c =
     let s = words_in_force c.args.p.now c.args.scope.now in
     let r = c.args.of.range in
     let d = c.args.of.depth in
-    wrote-as (each-conditional v s r d c.args.condition.now c.in-Add.added ∙ ap (λ x. effects_behind v s (conditional_add r d c.args.whole.now (Formula-F.Holds c.args.condition.now) x)) (sym (ap out-Effect c.in-Add.is ∙ out-Add c.in-Add.added))) c.put_each_conditional.ensures
+    wrote-as (each-conditional v s r d c.args.condition.now c.in-Add.added ∙ ap (λ x. effects_behind v s (conditional_add r d c.args.whole.now (Formula-F.Holds c.args.condition.now) x)) (sym (ap out-Effect c.in-Add.is ∙ out-Add c.in-Add.added))) c.put_each.ensures
 
 pub returns-in_default : goal.returns-in_default
 returns-in_default c =

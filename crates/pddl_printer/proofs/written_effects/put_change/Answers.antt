@@ -19,7 +19,7 @@ returns-in-Delete c =
     let s = words_in_force c.args.p.now c.args.scope.now in
     let r = c.args.of.range in
     let d = c.args.of.depth in
-    wrote-as (each-deleted v s r d c.in-Delete.atom ∙ ap (λ x. effects_behind v s (change r d c.args.whole.now x)) (sym (ap out-Effect c.in-Delete.is ∙ out-Delete c.in-Delete.atom))) c.put_each_denied.ensures
+    wrote-as (each-deleted v s r d c.in-Delete.atom ∙ ap (λ x. effects_behind v s (change r d c.args.whole.now x)) (sym (ap out-Effect c.in-Delete.is ∙ out-Delete c.in-Delete.atom))) c.put_each.ensures
 
 pub returns-in-When : goal.returns-in-When
 returns-in-When c =
