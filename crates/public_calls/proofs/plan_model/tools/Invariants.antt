@@ -1,6 +1,6 @@
 use Rattle.std.proofs.Common.{◌≡◌, length}
 use Rattle.plan_model.specs.Parts.{AreListedParents}
-use Rattle.plan_model.proofs.tests.tools.Given as goal
+use Rattle.public_calls.proofs.plan_model.tools.Given as goal
 
 abbrev pub invariant-loop-number : goal.invariant-loop-number
 invariant-loop-number l = record {

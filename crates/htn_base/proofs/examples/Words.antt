@@ -1,7 +1,7 @@
 -- Words, tables and escapes, worked out.
 use Rattle.std.proofs.Common.{◌≡◌, [], ◌∷◌, true, false, codes, None, Some, refl}
 use Rattle.std.specs.Fmt.{digits}
-use Rattle.htn_base.specs.Words.{folded, is_reserved}
+use Rattle.htn_base.specs.Words.{folded, is_reserved, is_name}
 use Rattle.htn_base.specs.Table.{number_of, with_word}
 use Rattle.htn_base.specs.Escapes.{is_plain_word, hex, escaped, slot_word}
 
@@ -13,6 +13,18 @@ reserved = refl
 
 either_is_reserved : is_reserved (codes "either") ≡ true
 either_is_reserved = refl
+
+a_name : is_name (codes "andy") ≡ true
+a_name = refl
+
+a_variable : is_name (codes "?x") ≡ false
+a_variable = refl
+
+a_keyword : is_name (codes ":htn") ≡ false
+a_keyword = refl
+
+no_word : is_name [] ≡ false
+no_word = refl
 
 a_name_is_not : is_reserved (codes "andy") ≡ false
 a_name_is_not = refl
