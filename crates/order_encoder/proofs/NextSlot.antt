@@ -1,5 +1,5 @@
 -- A list with an item for each number, from one on, and the item of the next number put at its end.
-use Rattle.std.proofs.Common.{ℕ, zero, suc, ◌≡◌, ◌+◌, List, [], ◌∷◌, ◌++◌, map, ap, sym, ◌∙◌, arith}
+use Rattle.std.proofs.Common.{ℕ, zero, suc, ◌≡◌, ◌+◌, List, [], ◌∷◌, ◌++◌, map, Result, Ok, Err, IfOk, IsOkAnd, refl, ap, sym, ◌∙◌, arith}
 use Rattle.std.proofs.lemmas.List.{append_assoc}
 use Rattle.task_networks.specs.Spelling.{numbers}
 
@@ -13,3 +13,13 @@ pub push_next : {A : Type 0} (f : ℕ → A) (i k : ℕ) (old now new : List A) 
 push_next f i k old now new x e g h =
     h ∙ ap (λ z. z ++ x ∷ []) e ∙ append_assoc old (map f (numbers i k)) (x ∷ []) ∙ ap (λ z. old ++ (map f (numbers i k) ++ z ∷ [])) g
     ∙ ap (λ z. old ++ z) (sym (map_next f i k)) ∙ ap (λ n. old ++ map f (numbers i n)) (let e : suc k ≡ k + 1 = omega arith in e)
+
+-- what is at the end after a put, by what was made if there was memory for it
+pub put_is : {A X : Type 0} (old new : List A) (made : Result A X) (y : A) → IfOk made (λ x. x ≡ y) → IsOkAnd made (λ x. new ≡ old ++ x ∷ []) → new ≡ old ++ y ∷ []
+put_is old new (Ok x) y g h = h ∙ ap (λ z. old ++ z ∷ []) g
+put_is old new (Err m) y g h = absurd h
+
+-- the same for the item of the next number
+pub put_next : {A X : Type 0} (f : ℕ → A) (i k : ℕ) (old now new : List A) (made : Result A X)
+    → now ≡ old ++ map f (numbers i k) → IfOk made (λ x. x ≡ f (i + k)) → IsOkAnd made (λ x. new ≡ now ++ x ∷ []) → new ≡ old ++ map f (numbers i (k + 1))
+put_next f i k old now new made e g h = push_next f i k old now new (f (i + k)) e refl (put_is now new made (f (i + k)) g h)

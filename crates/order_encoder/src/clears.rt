@@ -63,7 +63,7 @@ pub fn push_clearing(
     ensures parts { OnOk result (into.new ≡ into.old ++ clear_parts (numbers n.now) slots depth style.now h) }
 {
     match style {
-        Style::Adl => into.push(clear_all(alloc, n, h, depth)?),
+        Style::Adl => into.put(clear_all(alloc, n, h, depth)),
         Style::Flat => push_clears(alloc, n, slots, h, into),
     }
 }
@@ -72,7 +72,7 @@ fn clear_all(alloc: Global, n: &OrderNames, h: Term, depth: u32) -> Result<Effec
     ensures { IfOk result (λ e. e ≡ Forall (any_slot (numbers n.now) 0) (Delete (pair_of (numbers n.now) 0 h (Var depth)))) }
 {
     let params = any_slot_params(alloc, n)?;
-    let part = Effect::Delete(before(alloc, n, h, Term::Var(depth))?);
+    let part = clear_one(alloc, n, h, Term::Var(depth))?;
     Ok(Effect::Forall(params, Boxed::new(alloc, part)?))
 }
 
@@ -87,7 +87,14 @@ fn push_clears(
     ensures { OnOk result (into.new ≡ into.old ++ clear_parts (numbers n.now) slots 0 Flat h) }
 {
     for k in 0..slots {
-        into.push(Effect::Delete(before(alloc, n, h, Term::Obj(n.first_slot + k))?))?;
+        into.put(clear_one(alloc, n, h, Term::Obj(n.first_slot + k)))?;
     }
     Ok(())
+}
+
+/// The slot of `h` comes before that of `then` no more.
+fn clear_one(alloc: Global, n: &OrderNames, h: Term, then: Term) -> Result<Effect, Memory>
+    ensures { IfOk result (λ e. e ≡ Delete (pair_of (numbers n.now) 0 h then)) }
+{
+    Ok(Effect::Delete(before(alloc, n, h, then)?))
 }

@@ -68,7 +68,7 @@ pub fn push_copying(
     ensures parts { OnOk result (into.new ≡ into.old ++ copy_parts (numbers n.now) slots depth style.now h child) }
 {
     match style {
-        Style::Adl => into.push(copy_all(alloc, n, h, child, depth)?),
+        Style::Adl => into.put(copy_all(alloc, n, h, child, depth)),
         Style::Flat => push_copies(alloc, n, slots, h, child, into),
     }
 }
@@ -99,7 +99,7 @@ fn push_copies(
     ensures { OnOk result (into.new ≡ into.old ++ copy_parts (numbers n.now) slots 0 Flat h child) }
 {
     for k in 0..slots {
-        into.push(copy_one(alloc, n, h, child, Term::Obj(n.first_slot + k))?)?;
+        into.put(copy_one(alloc, n, h, child, Term::Obj(n.first_slot + k)))?;
     }
     Ok(())
 }

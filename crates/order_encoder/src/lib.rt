@@ -8,8 +8,6 @@ mod clears;
 mod copies;
 mod names;
 mod pairs;
-#[cfg(test)]
-mod tests;
 mod waits;
 
 pub use clears::{clearing, push_clearing};

@@ -64,7 +64,7 @@ pub fn push_waiting(
     ensures parts { OnOk result (into.new ≡ into.old ++ wait_parts (numbers n.now) slots depth style.now h) }
 {
     match style {
-        Style::Adl => into.push(wait_for_all(alloc, n, h, depth)?),
+        Style::Adl => into.put(wait_for_all(alloc, n, h, depth)),
         Style::Flat => push_waits(alloc, n, slots, h, into),
     }
 }
@@ -88,7 +88,7 @@ fn push_waits(
     ensures { OnOk result (into.new ≡ into.old ++ wait_parts (numbers n.now) slots 0 Flat h) }
 {
     for k in 0..slots {
-        into.push(comes_not_before(alloc, n, Term::Obj(n.first_slot + k), h)?)?;
+        into.put(comes_not_before(alloc, n, Term::Obj(n.first_slot + k), h))?;
     }
     Ok(())
 }

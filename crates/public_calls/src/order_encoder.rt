@@ -3,8 +3,8 @@
 
 ghost use Rattle.std.specs.Prelude.{◌≡◌};
 
-use crate::{OrderNames, clearing, copying, waiting};
 use htn_base::{Boxed, List, Memory, Name};
+use order_encoder::{OrderNames, clearing, copying, waiting};
 use plan_model::{Atom, Effect, Formula, Style, Term};
 use std::alloc::Global;
 use std::test::Fail;
