@@ -17,7 +17,7 @@ use std::alloc::Global;
 
 /// A declared word with its offset, and its types: none where none is written, more than one where they make
 /// a union. The name of a variable is without its question mark.
-#[derive(Debug, Drop)]
+#[derive(Drop)]
 pub struct RawParam {
     pub name: Name,
     pub ty: List<RawTerm>,
@@ -26,7 +26,7 @@ pub struct RawParam {
 
 /// What a typed list declares: parameters, each a new one; variables of a predicate; objects; or types, whose
 /// types are their parents.
-#[derive(Clone, Copy, Debug, PartialEq, Eq)]
+#[derive(Clone, Copy)]
 pub enum ListKind {
     Parameters,
     Predicate,

@@ -5,7 +5,7 @@ ghost use Rattle.htn_base.specs.Words.{folded};
 ghost use Rattle.gd_reader.specs.Words.{head_of, effect_head_of, sort_of, sort_of_one, sort_of_more, is_hyphen, is_either};
 
 /// What a word begins at the front of a formula.
-#[derive(Clone, Copy, Debug, PartialEq, Eq)]
+#[derive(Clone, Copy)]
 pub enum Head {
     And,
     Or,
@@ -19,7 +19,7 @@ pub enum Head {
 }
 
 /// What a word begins at the front of an effect.
-#[derive(Clone, Copy, Debug, PartialEq, Eq)]
+#[derive(Clone, Copy)]
 pub enum EffectHead {
     And,
     Forall,
@@ -31,7 +31,7 @@ pub enum EffectHead {
 }
 
 /// What a word is by its letters.
-#[derive(Clone, Copy, Debug, PartialEq, Eq)]
+#[derive(Clone, Copy, PartialEq)]
 pub enum Sort {
     Variable,
     Name,

@@ -2,7 +2,7 @@
 
 ghost use Rattle.std.specs.Prelude.{◌≤◌, length};
 
-use crate::{ListKind, RawEffect, RawFormula, effect, formula, typed_list};
+use gd_reader::{ListKind, RawEffect, RawFormula, effect, formula, typed_list};
 use htn_base::{Fault, NameTable};
 use sexpr_text::{ReadError, read};
 use std::alloc::Global;
@@ -39,7 +39,7 @@ fn effect_fault(rt: &impl Abort, alloc: Global, source: &[u8]) -> Option<(u16, u
 }
 
 // Of the list that the text is.
-#[tactic(auto, using(crate::proofs::Items::whole_inside))]
+#[tactic(auto, using(gd_reader::proofs::Items::whole_inside))]
 fn list_fault(rt: &impl Abort, alloc: Global, source: &[u8], kind: ListKind) -> Option<(u16, u32)>
     requires short { length source.now ≤ 16777216 }
 {
@@ -145,7 +145,7 @@ fn effect_with_its_parts(rt: HostRuntime) {
 }
 
 #[test]
-#[tactic(auto, using(crate::proofs::Items::whole_inside))]
+#[tactic(auto, using(gd_reader::proofs::Items::whole_inside))]
 fn list_with_a_union(rt: HostRuntime) {
     let s = read(rt.alloc(), b"(?x - (either t u t))", 0).expect(&rt, "a text");
     assert!(rt; s.close_of(0).is_some());

@@ -2,8 +2,8 @@
 
 ghost use Rattle.std.specs.Prelude.{◌+◌, ◌≤◌, length, IfOk};
 
-use crate::{Kind, ReadError, Sexprs, Token, read};
 use htn_base::{Fault, Span};
+use sexpr_text::{Kind, ReadError, Sexprs, read};
 use std::alloc::Global;
 use std::process::Abort;
 use std::test::Fail;
@@ -99,8 +99,9 @@ fn is_token(
     start: u32,
     end: u32,
 ) {
-    let span = Span { start, end };
-    assert!(rt; s.token(i) == Some(Token { kind, word, span }), "at {i}");
+    let token = s.token(i).expect(rt, "a token");
+    assert!(rt; token.kind == kind, "at {i}");
+    assert_eq!(rt; (token.word, token.span), (word, Span { start, end }), "at {i}");
 }
 
 #[test]
