@@ -1,3 +1,3 @@
 pub mod TableLemmas
 pub mod EscapeLemmas
-pub mod Examples
+pub mod examples

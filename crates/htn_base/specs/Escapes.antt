@@ -32,6 +32,10 @@ escaped word = if is_plain_word word then word else codes "htn_u_" ++ flat_map h
 abbrev pub slot_word : ℕ → List ℕ
 slot_word k = codes "htn_s" ++ decimal k
 
+-- slots are counted from 1, by numbers of 32 bits
+abbrev pub IsWordOfSlot : ℕ → List ℕ → Type 0
+IsWordOfSlot k word = (0 < k) × (k < 2 ^ 32) × (word ≡ slot_word k)
+
 -- A name that the printed texts may have: a letter, then letters, digits, `-` and `_`, in lower case.
 pub record IsPrintedName (printed : List ℕ) : Type 0 where
   pub letter : begins_with_letter printed ≡ true

@@ -44,17 +44,3 @@ impl<T: Drop> Boxed<T> {
         Ok(Boxed { owned })
     }
 }
-
-impl<T: PartialEq> PartialEq for Boxed<T> {
-    ghost eq = { T.eq };
-
-    ghost laws = { T.laws };
-
-    fn eq(&self, other: &Self) -> bool {
-        self.get() == other.get()
-    }
-}
-
-impl<T: Eq> Eq for Boxed<T> {
-    ghost laws = { T.Eq.laws };
-}

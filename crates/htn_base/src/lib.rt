@@ -6,18 +6,23 @@
 
 mod boxed;
 mod fault;
+mod lengths;
 mod list;
 mod memory;
 mod name;
-#[cfg(test)]
-mod tests;
 mod text;
+mod try_clone;
 mod words;
 
 pub use boxed::Boxed;
 pub use fault::{Fault, Span};
+pub use lengths::number;
 pub use list::List;
 pub use memory::Memory;
 pub use name::{Name, NameTable};
 pub use text::Text;
-pub use words::{esc, is_plain, is_reserved, names_stay_apart, slot_name};
+pub use try_clone::TryClone;
+pub use words::{
+    esc, is_name, is_plain, is_reserved, is_reserved_in_any_case, names_stay_apart, slot_name,
+    slot_number,
+};

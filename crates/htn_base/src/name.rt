@@ -1,4 +1,4 @@
-ghost use Rattle.std.specs.Prelude.{◌≡◌, ◌-◌, ◌^◌, ◌<◌, [], length, slice_get, IfOk, OnOk, OnErr, Some};
+ghost use Rattle.std.specs.Prelude.{◌≡◌, [], length, slice_get, IfOk, OnOk, OnErr, Some};
 ghost use Rattle.std.specs.Option.{option_copied, option_map};
 ghost use Rattle.htn_base.specs.Words.{folded};
 
@@ -12,6 +12,9 @@ use std::marker::Model;
 pub struct Name {
     pub number: u32,
 }
+
+/// The number of words of a full table.
+const MOST_WORDS: usize = 0xffff_ffff;
 
 /// Words and their numbers. Contracts see the words in the order in which they were first seen.
 #[derive(Drop)]
@@ -51,15 +54,17 @@ impl NameTable {
         self.words.len()
     }
 
-    /// The name of the word, in lower case. A word that is there keeps its number, and a new word takes the next.
-    /// After `Memory` the table is as it was.
+    /// The name of the word, in lower case. A word that is there keeps its number, and a new word takes the next. A full
+    /// table wants memory. After `Memory` the table is as it was.
     pub fn intern(&mut self, word: &[u8]) -> Result<Name, Memory>
-        requires room { length self.old < 2 ^ 32 - 1 }
         ensures words { OnOk result (self.new ≡ with_word self.old (folded word.now)) }
         ensures number { IfOk result (λ name. number_of self.new (folded word.now) ≡ Some name.number) }
         ensures unchanged { OnErr result (self.new ≡ self.old) }
         ensures sound { IsTable self.new }
     {
+        if self.len() >= MOST_WORDS {
+            return Err(Memory);
+        }
         let word = in_lower_case(*self.words.allocator(), word)?;
         let (place, _) = self.words.insert_full(word)?;
         Ok(Name {

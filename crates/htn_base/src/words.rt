@@ -1,4 +1,4 @@
-ghost use Rattle.std.specs.Prelude.{◌≡◌, ◌<◌, [], ◌∷◌, codes, nat_eq, IfOk};
+ghost use Rattle.std.specs.Prelude.{◌≡◌, ◌↔◌, ◌<◌, ◌^◌, ℕ, Some, [], ◌∷◌, codes, decimal, nat_eq, IfOk};
 ghost use Rattle.std.specs.Str.{bytes_eq};
 ghost use Rattle.std.specs.List.{list_all, list_any, starts_with};
 ghost use Rattle.htn_base.specs.Escapes as spec;
@@ -17,33 +17,59 @@ pub fn is_plain(word: &[u8]) -> bool
     begins_with_letter(word) && has_plain_bytes(word) && !is_generated(word)
 }
 
+/// The words that have a meaning of their own in a domain or a problem.
+const RESERVED: [&[u8]; 13] = [
+    b"-",
+    b"->",
+    b"=",
+    b"<",
+    b"and",
+    b"or",
+    b"not",
+    b"imply",
+    b"forall",
+    b"exists",
+    b"when",
+    b"increase",
+    b"either",
+];
+
 /// Whether the word has a meaning of its own in a domain or a problem, so that nothing may be named by it. Folded words
 /// are asked for: an upper-case letter makes a word that isn't reserved.
 pub fn is_reserved(word: &[u8]) -> bool
     ensures reserved { result ≡ words.is_reserved word.now }
 {
-    let reserved: [&[u8]; 13] = [
-        b"-",
-        b"->",
-        b"=",
-        b"<",
-        b"and",
-        b"or",
-        b"not",
-        b"imply",
-        b"forall",
-        b"exists",
-        b"when",
-        b"increase",
-        b"either",
-    ];
-    is_among(word, &reserved)
+    is_among(word, &RESERVED)
 }
 
 fn is_among(word: &[u8], listed: &[&[u8]]) -> bool
     ensures { result ≡ list_any (λ one. bytes_eq word.now one.now) listed.now }
 {
     listed.iter().any(|one| word == *one)
+}
+
+/// Whether the word has such a meaning in any case of its letters.
+pub fn is_reserved_in_any_case(word: &[u8]) -> bool
+    ensures reserved { result ≡ words.is_reserved (words.folded word.now) }
+{
+    is_among_in_any_case(word, &RESERVED)
+}
+
+fn is_among_in_any_case(word: &[u8], listed: &[&[u8]]) -> bool
+    ensures { result ≡ list_any (λ one. bytes_eq (words.folded word.now) (words.folded one.now)) listed.now }
+{
+    listed.iter().any(|one| word.eq_ignore_ascii_case(one))
+}
+
+/// Whether the word, in any case of its letters, may name a domain, a type, an object, a predicate, a task, an action,
+/// a method or a subtask.
+pub fn is_name(word: &[u8]) -> bool
+    ensures name { result ≡ words.is_name (words.folded word.now) }
+{
+    match word {
+        [] | [b'?' | b':', ..] => false,
+        _ => !is_reserved_in_any_case(word),
+    }
 }
 
 /// The printed word of a source name: a plain word itself, and any other as `htn_u_` and each byte in two lower-case
@@ -69,6 +95,36 @@ pub fn slot_name(alloc: Global, k: u32) -> Result<Text, Memory>
     let mut text = Text::from_slice(alloc, b"htn_s")?;
     text.push_all(digits.format(k).as_bytes())?;
     Ok(text)
+}
+
+/// The number of the slot of this word, from 1 to 2^32 - 1. `None` exactly where it is the word of no such slot.
+pub fn slot_number(word: &[u8]) -> Option<u32>
+    ensures number { (k : ℕ) → (result ≡ Some k) ↔ spec.IsWordOfSlot k word.now }
+{
+    let digits = word.strip_prefix(b"htn_s")?;
+    let k = parsed(digits)?;
+    if k > 0 && is_decimal(k, digits) {
+        Some(k)
+    } else {
+        None
+    }
+}
+
+/// The number of these digits. A sign or leading zeros may stand before them.
+fn parsed(digits: &[u8]) -> Option<u32>
+    ensures { (k : ℕ) → k < 2 ^ 32 → digits.now ≡ decimal k → result ≡ Some k }
+{
+    match str::from_utf8(digits) {
+        Ok(text) => text.parse().ok(),
+        Err(_) => None,
+    }
+}
+
+/// Whether these are the digits that the number is printed with.
+fn is_decimal(k: u32, digits: &[u8]) -> bool
+    ensures { result ≡ bytes_eq (decimal k) digits.now }
+{
+    Buffer::new().format(k).as_bytes() == digits
 }
 
 fn begins_with_letter(word: &[u8]) -> bool

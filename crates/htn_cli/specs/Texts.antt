@@ -12,7 +12,7 @@ use Rattle.slot_encoding.specs.EncodedValue.{IsEncoded}
 use Rattle.plan_meaning.specs.Laws.{AreOrdered}
 use Rattle.slot_encoding.specs.EncodedWords.{HasEncodedWords}
 use Rattle.slot_encoding.specs.Existence.{HasEncodedValue}
-use Rattle.slot_encoding.specs.Pieces.{IsPrinted}
+use Rattle.slot_encoding.specs.Printed.{IsPrinted}
 use Rattle.printed_sizes.specs.Capped.{capped}
 use Rattle.htn_cli.specs.declared.manner.Manner.{Manner}
 

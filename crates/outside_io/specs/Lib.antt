@@ -2,5 +2,6 @@ pub mod Count
 pub mod Folder
 pub mod Files
 pub mod Sink
+pub mod Steady
 pub mod Script
 pub mod Untold

@@ -1,10 +1,12 @@
-ghost use Rattle.std.specs.Prelude.{◌≡◌};
-ghost use Rattle.outside_io.specs.Untold.{untold_files};
+ghost use Rattle.std.specs.Prelude.{◌≡◌, IfOk, IfErr, OnOk};
+ghost use Rattle.outside_io.specs.Files.{GetGives, GetRefused, PutGives, PutRefused};
+ghost use Rattle.outside_io.specs.Untold.{counted_get, counted_put, untold_files};
 
 use crate::files::{Files, GetError, PutError};
 use std::alloc::Global;
 use std::fs;
 use std::io::{self, ErrorKind, Read};
+use std::marker::Model;
 
 /// The real files. Nothing is told of what they hold; each failure of a call raises a count.
 #[derive(Drop)]
@@ -14,10 +16,19 @@ pub struct DiskFiles {
     put_faults: u64,
 }
 
+impl Model for DiskFiles {
+    ghost use Rattle.outside_io.specs.Files.{FilesState};
+    ghost use Rattle.outside_io.specs.Untold.{untold_files};
+
+    ghost Value = { FilesState };
+
+    ghost view = { λ f. untold_files f.get_faults f.put_faults };
+}
+
 impl DiskFiles {
     /// The files that the process can reach, by their paths.
     pub fn new(runtime: HostRuntime) -> DiskFiles
-        ensures untold { ⟦<DiskFiles as Files>⟧.state result ≡ untold_files 0 0 }
+        ensures untold { result ≡ untold_files 0 0 }
     {
         DiskFiles {
             runtime,
@@ -40,9 +51,13 @@ fn is_refused_memory(error: &io::Error) -> bool {
 }
 
 impl Files for DiskFiles {
-    ghost state = { λ f. untold_files f.get_faults f.put_faults };
+    ghost state = { λ f. f };
 
-    fn get(&mut self, alloc: Global, name: &str, limit: u64) -> Result<Vec<u8>, GetError> {
+    fn get(&mut self, alloc: Global, name: &str, limit: u64) -> Result<Vec<u8>, GetError>
+        ensures ok { IfOk result (λ v. GetGives self.old self.new name.now limit v.items) }
+        ensures err { IfErr result (GetRefused self.old self.new name.now) }
+        ensures counted { IfErr result (λ error. self.new ≡ counted_get self.old error) }
+    {
         match read(&self.runtime, alloc, name, limit) {
             Ok(bytes) => Ok(bytes),
             Err(error) if is_refused_memory(&error) => Err(GetError::Memory),
@@ -53,7 +68,11 @@ impl Files for DiskFiles {
         }
     }
 
-    fn put(&mut self, name: &str, bytes: &[u8]) -> Result<(), PutError> {
+    fn put(&mut self, name: &str, bytes: &[u8]) -> Result<(), PutError>
+        ensures ok { OnOk result (PutGives self.old self.new name.now bytes.now) }
+        ensures err { IfErr result (PutRefused self.old self.new name.now) }
+        ensures counted { IfErr result (λ error. self.new ≡ counted_put self.old error) }
+    {
         match fs::write(&self.runtime, name, bytes) {
             Ok(()) => Ok(()),
             Err(error) if is_refused_memory(&error) => Err(PutError::Memory),

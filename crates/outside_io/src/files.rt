@@ -1,11 +1,12 @@
 ghost use Rattle.std.specs.Prelude.{◌≡◌, IfOk, IfErr, OnOk};
 ghost use Rattle.outside_io.specs.Files.{FilesState, GetGives, GetRefused, PutGives, PutRefused};
 
+use htn_base::Memory;
 use std::alloc::Global;
 use thiserror::Error;
 
 /// Why a get gave no bytes.
-#[derive(Clone, Copy, Debug, PartialEq, Eq, Drop, Error)]
+#[derive(Debug, PartialEq, Eq, Drop, Error)]
 pub enum GetError {
     /// The file was not read, and the count of failed gets rose.
     #[error("the file was not read")]
@@ -15,8 +16,19 @@ pub enum GetError {
     Memory,
 }
 
+impl From<Memory> for GetError {
+    ghost use Rattle.std.specs.Prelude.{◌≡◌};
+    ghost use Rattle.outside_io.specs.declared.files.GetError.TheVariants.{Memory as OutOfMemory};
+
+    ghost from_gives = { λ _ error. error ≡ OutOfMemory };
+
+    fn from(_: Memory) -> GetError {
+        GetError::Memory
+    }
+}
+
 /// Why a put was not done.
-#[derive(Clone, Copy, Debug, PartialEq, Eq, Drop, Error)]
+#[derive(Debug, PartialEq, Eq, Drop, Error)]
 pub enum PutError {
     /// The file was not written whole, and the count of failed puts rose.
     #[error("the file was not written")]
@@ -24,6 +36,17 @@ pub enum PutError {
     /// Memory was refused, and nothing changed.
     #[error("out of memory")]
     Memory,
+}
+
+impl From<Memory> for PutError {
+    ghost use Rattle.std.specs.Prelude.{◌≡◌};
+    ghost use Rattle.outside_io.specs.declared.files.PutError.TheVariants.{Memory as OutOfMemory};
+
+    ghost from_gives = { λ _ error. error ≡ OutOfMemory };
+
+    fn from(_: Memory) -> PutError {
+        PutError::Memory
+    }
 }
 
 /// Files that are named by texts, and are read and written whole.

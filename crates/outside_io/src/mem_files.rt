@@ -1,12 +1,12 @@
-ghost use Rattle.std.specs.Prelude.{◌≡◌, ◌⊎◌, IfOk, IfErr, OnOk, OnErr, IsErrOf, None, true, false};
+ghost use Rattle.std.specs.Prelude.{◌≡◌, IfOk, IfErr, OnOk, OnErr, IsErrOf, true, false};
 ghost use Rattle.std.specs.Option.{option_copied};
 ghost use Rattle.outside_io.specs.Files.{GetGives, GetRefused, PutGives, PutRefused};
 ghost use Rattle.outside_io.specs.Folder.{bytes_of, with_bytes};
-ghost use Rattle.outside_io.specs.Script.{after_call, fails_next, files_state, no_files, with_failing};
+ghost use Rattle.outside_io.specs.Script.{GetIsToFail, after_get, after_put, after_refused_get, after_refused_put, fails_next, files_state, no_files, with_failing};
 
 use crate::files::{Files, GetError, PutError};
-use crate::folder::{MemFolder, first_bytes};
 use crate::script::Script;
+use crate::steady_files::{SteadyFiles, first_bytes};
 use htn_base::{Memory, Text};
 use std::alloc::Global;
 use std::marker::Model;
@@ -15,7 +15,7 @@ use std::marker::Model;
 #[derive(Drop)]
 pub struct MemFiles {
     alloc: Global,
-    folder: MemFolder,
+    files: SteadyFiles,
     gets: Script,
     puts: Script,
     failed: Option<Text>,
@@ -26,7 +26,7 @@ impl Model for MemFiles {
 
     ghost Value = { ScriptedFiles };
 
-    ghost view = { λ f. record { folder = f.folder; gets = f.gets; puts = f.puts; failed = f.failed } };
+    ghost view = { λ f. record { folder = f.files; gets = f.gets; puts = f.puts; failed = f.failed } };
 }
 
 impl MemFiles {
@@ -36,7 +36,7 @@ impl MemFiles {
     {
         MemFiles {
             alloc,
-            folder: MemFolder::new(alloc),
+            files: SteadyFiles::new(alloc),
             gets: Script::new(alloc),
             puts: Script::new(alloc),
             failed: None,
@@ -48,7 +48,7 @@ impl MemFiles {
         ensures added { OnOk result (self.new ≡ record self.old { folder = with_bytes self.old.folder name.now bytes.now }) }
         ensures unchanged { OnErr result (self.new ≡ self.old) }
     {
-        self.folder.put(name, bytes)
+        self.files.add(name, bytes)
     }
 
     /// Lets get number `k` fail, counted from 0.
@@ -71,7 +71,7 @@ impl MemFiles {
     pub fn bytes(&self, name: &str) -> Option<&[u8]>
         ensures held { option_copied result ≡ bytes_of self.now.folder name.now }
     {
-        self.folder.bytes(name)
+        self.files.bytes(name)
     }
 
     fn copy_name(&self, name: &str) -> Result<Text, Memory>
@@ -88,17 +88,18 @@ impl Files for MemFiles {
         ensures ok { IfOk result (λ v. GetGives (files_state self.old) (files_state self.new) name.now limit v.items) }
         ensures err { IfErr result (GetRefused (files_state self.old) (files_state self.new) name.now) }
         ensures unscripted { OnOk result (fails_next self.old.gets ≡ false) }
-        ensures caused { IsErrOf result GetError.Failed → (fails_next self.old.gets ≡ true) ⊎ (bytes_of self.old.folder name.now ≡ None) }
-        ensures counted { OnOk result (self.new ≡ record self.old { gets = after_call self.old.gets }) }
+        ensures caused { IsErrOf result GetError.Failed → GetIsToFail self.old name.now }
+        ensures given { OnOk result (self.new ≡ after_get self.old) }
+        ensures refused { IfErr result (λ error. self.new ≡ after_refused_get self.old name.now error) }
     {
         if !self.gets.fails_next()
-            && let Some(bytes) = self.folder.bytes(name)
+            && let Some(bytes) = self.files.bytes(name)
         {
-            let first = first_bytes(alloc, bytes, limit).map_err(|_| GetError::Memory)?;
+            let first = first_bytes(alloc, bytes, limit)?;
             self.gets.count_call();
             return Ok(first);
         }
-        let name = self.copy_name(name).map_err(|_| GetError::Memory)?;
+        let name = self.copy_name(name)?;
         self.failed = Some(name);
         self.gets.count_fault();
         Err(GetError::Failed)
@@ -109,15 +110,16 @@ impl Files for MemFiles {
         ensures err { IfErr result (PutRefused (files_state self.old) (files_state self.new) name.now) }
         ensures unscripted { OnOk result (fails_next self.old.puts ≡ false) }
         ensures caused { IsErrOf result PutError.Failed → fails_next self.old.puts ≡ true }
-        ensures counted { OnOk result (self.new.puts ≡ after_call self.old.puts) }
+        ensures put { OnOk result (self.new ≡ after_put self.old name.now bytes.now) }
+        ensures refused { IfErr result (λ error. self.new ≡ after_refused_put self.old name.now error) }
     {
         if self.puts.fails_next() {
-            let name = self.copy_name(name).map_err(|_| PutError::Memory)?;
+            let name = self.copy_name(name)?;
             self.failed = Some(name);
             self.puts.count_fault();
             return Err(PutError::Failed);
         }
-        self.folder.put(name, bytes).map_err(|_| PutError::Memory)?;
+        self.files.add(name, bytes)?;
         self.puts.count_call();
         Ok(())
     }

@@ -1,31 +1,27 @@
-ghost use Rattle.std.specs.Prelude.{◌≡◌, ℕ, ◌+◌, ◌<◌, ◌≤◌, [], IfOk, IfErr, OnOk, OnErr, IsErrOf, true, false, length, min};
+ghost use Rattle.std.specs.Prelude.{◌≡◌, ◌<◌, IfOk, IfErr, OnOk, OnErr, IsErrOf, true, false, length, min};
 ghost use Rattle.outside_io.specs.Sink.{WriteTakes, WriteRefused};
-ghost use Rattle.outside_io.specs.Script.{after_call, empty_sink, fails_next, one_more, sink_state, with_failing};
+ghost use Rattle.outside_io.specs.Script.{after_refused_write, after_write, empty_sink, fails_next, sink_state, with_failing};
 
 use crate::script::Script;
 use crate::sink::{Sink, WriteError};
-use htn_base::{Memory, Text};
+use crate::steady_sink::SteadySink;
+use htn_base::Memory;
 use std::alloc::Global;
 use std::marker::Model;
 
 /// A sink in memory that takes a few bytes at a time, and of which chosen writes fail.
 #[derive(Drop)]
 pub struct MemSink {
-    text: Text,
-    largest: usize,
+    sink: SteadySink,
     writes: Script,
-    refused: u64,
 }
 
 impl Model for MemSink {
-    ghost use Rattle.std.specs.Prelude.{◌<◌};
     ghost use Rattle.outside_io.specs.Script.{ScriptedSink};
 
     ghost Value = { ScriptedSink };
 
-    ghost view = { λ s. record { bytes = s.text; largest = s.largest; writes = s.writes; refused = s.refused } };
-
-    ghost invariant = { λ s. 0 < s.largest };
+    ghost view = { λ s. record { sink = s.sink; writes = s.writes } };
 }
 
 impl MemSink {
@@ -35,10 +31,8 @@ impl MemSink {
         ensures empty { result ≡ empty_sink largest }
     {
         MemSink {
-            text: Text::new(alloc),
-            largest,
+            sink: SteadySink::new(alloc, largest),
             writes: Script::new(alloc),
-            refused: 0,
         }
     }
 
@@ -52,9 +46,9 @@ impl MemSink {
 
     /// All bytes that were taken.
     pub fn bytes(&self) -> &[u8]
-        ensures taken { result.now ≡ self.now.bytes }
+        ensures taken { result.now ≡ self.now.sink.bytes }
     {
-        self.text.as_slice()
+        self.sink.bytes()
     }
 }
 
@@ -64,20 +58,17 @@ impl Sink for MemSink {
     fn write(&mut self, piece: &[u8]) -> Result<usize, WriteError>
         ensures ok { IfOk result (WriteTakes (sink_state self.old) (sink_state self.new) piece.now) }
         ensures err { IfErr result (WriteRefused (sink_state self.old) (sink_state self.new)) }
-        ensures largest { IfOk result (λ count. count ≡ min (length piece.now) self.old.largest) }
+        ensures largest { IfOk result (λ count. count ≡ min (length piece.now) self.old.sink.largest) }
         ensures unscripted { OnOk result (fails_next self.old.writes ≡ false) }
         ensures caused { IsErrOf result WriteError.Failed → fails_next self.old.writes ≡ true }
-        ensures counted { OnOk result (self.new.writes ≡ after_call self.old.writes) }
+        ensures taken { OnOk result (self.new ≡ after_write self.old piece.now) }
+        ensures refused { IfErr result (λ error. self.new ≡ after_refused_write self.old error) }
     {
         if self.writes.fails_next() {
             self.writes.count_fault();
             return Err(WriteError::Failed);
         }
-        let count = piece.len().min(self.largest);
-        if self.text.push_all(&piece[..count]).is_err() {
-            self.refused = self.refused.saturating_add(1);
-            return Err(WriteError::Memory);
-        }
+        let count = self.sink.write(piece)?;
         self.writes.count_call();
         Ok(count)
     }

@@ -4,7 +4,7 @@ ghost use Rattle.outside_io.specs.Sink.{SinkState, WriteTakes, WriteRefused};
 use thiserror::Error;
 
 /// Why a write took nothing.
-#[derive(Clone, Copy, Debug, PartialEq, Eq, Drop, Error)]
+#[derive(Debug, PartialEq, Eq, Drop, Error)]
 pub enum WriteError {
     /// The write failed, and the count of faults rose.
     #[error("the write failed")]

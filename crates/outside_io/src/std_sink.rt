@@ -1,8 +1,10 @@
-ghost use Rattle.std.specs.Prelude.{◌≡◌, ◌≤◌, length, IfOk};
-ghost use Rattle.outside_io.specs.Untold.{untold_sink};
+ghost use Rattle.std.specs.Prelude.{◌≡◌, ◌≤◌, length, IfOk, IfErr};
+ghost use Rattle.outside_io.specs.Sink.{WriteTakes, WriteRefused};
+ghost use Rattle.outside_io.specs.Untold.{counted_write, untold_sink};
 
 use crate::sink::{Sink, WriteError};
 use std::io::{self, ErrorKind, Write};
+use std::marker::Model;
 
 #[derive(Clone, Copy)]
 enum Stream {
@@ -19,23 +21,32 @@ pub struct StdSink {
     refused: u64,
 }
 
+impl Model for StdSink {
+    ghost use Rattle.outside_io.specs.Sink.{SinkState};
+    ghost use Rattle.outside_io.specs.Untold.{untold_sink};
+
+    ghost Value = { SinkState };
+
+    ghost view = { λ s. untold_sink s.faults s.refused };
+}
+
 impl StdSink {
     /// Standard output.
     pub fn output(runtime: HostRuntime) -> StdSink
-        ensures untold { ⟦<StdSink as Sink>⟧.state result ≡ untold_sink 0 0 }
+        ensures untold { result ≡ untold_sink 0 0 }
     {
         StdSink::new(runtime, Stream::Output)
     }
 
     /// Standard error.
     pub fn error(runtime: HostRuntime) -> StdSink
-        ensures untold { ⟦<StdSink as Sink>⟧.state result ≡ untold_sink 0 0 }
+        ensures untold { result ≡ untold_sink 0 0 }
     {
         StdSink::new(runtime, Stream::Error)
     }
 
     fn new(runtime: HostRuntime, stream: Stream) -> StdSink
-        ensures untold { ⟦<StdSink as Sink>⟧.state result ≡ untold_sink 0 0 }
+        ensures untold { result ≡ untold_sink 0 0 }
     {
         StdSink {
             runtime,
@@ -56,9 +67,13 @@ impl StdSink {
 }
 
 impl Sink for StdSink {
-    ghost state = { λ s. untold_sink s.faults s.refused };
+    ghost state = { λ s. s };
 
-    fn write(&mut self, piece: &[u8]) -> Result<usize, WriteError> {
+    fn write(&mut self, piece: &[u8]) -> Result<usize, WriteError>
+        ensures ok { IfOk result (WriteTakes self.old self.new piece.now) }
+        ensures err { IfErr result (WriteRefused self.old self.new) }
+        ensures counted { IfErr result (λ error. self.new ≡ counted_write self.old error) }
+    {
         match self.write_once(piece) {
             Ok(count) if 0 < count || piece.is_empty() => Ok(count),
             Err(error) if error.kind() == ErrorKind::OutOfMemory => {

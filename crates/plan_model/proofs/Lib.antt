@@ -1,4 +1,4 @@
-pub mod Examples
+pub mod examples
 pub mod Marks
 pub mod PartsOf
 pub mod Numbers

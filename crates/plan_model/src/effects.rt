@@ -6,7 +6,7 @@ use htn_base::{Boxed, List, Memory};
 use std::alloc::Global;
 
 /// What an action does, as in PDDL 2.1, level 1. A condition of `When` is tested in the state before the action.
-#[derive(Debug, PartialEq, Eq, Drop)]
+#[derive(Drop)]
 pub enum Effect {
     Add(Atom),
     Delete(Atom),
@@ -52,7 +52,7 @@ fn copy_list(alloc: Global, effects: &List<Effect>) -> Result<List<Effect>, Memo
     let parts = effects.as_slice();
     let mut copies = List::new(alloc);
     for part in parts {
-        copies.push(part.copy(alloc)?)?;
+        copies.put(part.copy(alloc))?;
     }
     Ok(copies)
 }

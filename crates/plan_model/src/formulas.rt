@@ -5,7 +5,7 @@ use htn_base::{Boxed, List, Memory};
 use std::alloc::Global;
 
 /// A condition, as in PDDL 2.1, level 1: an atom, an equality of objects, the connectives and the quantifiers.
-#[derive(Debug, PartialEq, Eq, Drop)]
+#[derive(Drop)]
 pub enum Formula {
     Holds(Atom),
     Equal(Term, Term),
@@ -60,7 +60,7 @@ fn copy_list(alloc: Global, formulas: &List<Formula>) -> Result<List<Formula>, M
     let parts = formulas.as_slice();
     let mut copies = List::new(alloc);
     for part in parts {
-        copies.push(part.copy(alloc)?)?;
+        copies.put(part.copy(alloc))?;
     }
     Ok(copies)
 }

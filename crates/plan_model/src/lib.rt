@@ -16,8 +16,6 @@ mod parts;
 mod schemas;
 mod steps;
 mod terms;
-#[cfg(test)]
-mod tests;
 mod types;
 mod values;
 

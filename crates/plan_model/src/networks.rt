@@ -1,11 +1,11 @@
 ghost use Rattle.std.specs.Prelude.{◌≡◌, IfOk};
 
 use crate::terms::Term;
-use htn_base::{List, Memory, Name};
+use htn_base::{List, Memory, Name, TryClone};
 use std::alloc::Global;
 
 /// What a subtask is: an abstract task, an action, or the check of the method's precondition.
-#[derive(Clone, Copy, Debug, PartialEq, Eq)]
+#[derive(Clone, Copy, PartialEq)]
 pub enum Head {
     Task(u32),
     Action(u32),
@@ -22,7 +22,7 @@ impl Head {
 }
 
 /// A subtask of a network, with its id where one is written.
-#[derive(Debug, PartialEq, Eq, Drop)]
+#[derive(Drop)]
 pub struct Child {
     pub id: Option<Name>,
     pub head: Head,
@@ -42,8 +42,14 @@ impl Child {
     }
 }
 
+impl TryClone for Child {
+    fn try_clone(&self, alloc: Global) -> Result<Child, Memory> {
+        self.copy(alloc)
+    }
+}
+
 /// The subtask `first` stands before the subtask `then`, both by their places in the network.
-#[derive(Clone, Copy, Debug, PartialEq, Eq)]
+#[derive(Clone, Copy, PartialEq)]
 pub struct Pair {
     pub first: u32,
     pub then: u32,
@@ -59,7 +65,7 @@ impl Pair {
 }
 
 /// The two terms are the same object, or where `equal` is false two objects.
-#[derive(Clone, Copy, Debug, PartialEq, Eq)]
+#[derive(Clone, Copy)]
 pub struct Constraint {
     pub equal: bool,
     pub left: Term,
@@ -76,7 +82,7 @@ impl Constraint {
 }
 
 /// The term is an object of the type.
-#[derive(Clone, Copy, Debug, PartialEq, Eq)]
+#[derive(Clone, Copy, PartialEq)]
 pub struct Guard {
     pub ty: u32,
     pub term: Term,

@@ -5,7 +5,7 @@ use std::alloc::Global;
 
 /// How the precondition of a method is checked: by a leaf of its own, which may come late, or at once where the
 /// method is applied.
-#[derive(Clone, Copy, Debug, PartialEq, Eq)]
+#[derive(Clone, Copy, Debug)]
 pub enum Checks {
     Leaf,
     AtOnce,
@@ -22,7 +22,7 @@ impl Checks {
 
 /// How the problem is printed: with the conditions and effects of PDDL's ADL part, or with conjunctions of literals
 /// alone.
-#[derive(Clone, Copy, Debug, PartialEq, Eq)]
+#[derive(Clone, Copy, Debug)]
 pub enum Style {
     Adl,
     Flat,

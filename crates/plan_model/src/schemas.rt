@@ -7,7 +7,7 @@ use crate::terms::{Param, Term};
 use htn_base::{List, Memory, Name};
 use std::alloc::Global;
 
-#[derive(Debug, PartialEq, Eq, Drop)]
+#[derive(Drop)]
 pub struct Predicate {
     pub name: Name,
     pub params: List<Param>,
@@ -26,7 +26,7 @@ impl Predicate {
 }
 
 /// An abstract task.
-#[derive(Debug, PartialEq, Eq, Drop)]
+#[derive(Drop)]
 pub struct TaskSchema {
     pub name: Name,
     pub params: List<Param>,
@@ -44,7 +44,7 @@ impl TaskSchema {
     }
 }
 
-#[derive(Debug, PartialEq, Eq, Drop)]
+#[derive(Drop)]
 pub struct ActionSchema {
     pub name: Name,
     pub params: List<Param>,
@@ -70,7 +70,7 @@ impl ActionSchema {
 ///
 /// `pairs` has, for an ordered network, each subtask before the next, and then every written pair in text order,
 /// repeats too.
-#[derive(Debug, PartialEq, Eq, Drop)]
+#[derive(Drop)]
 pub struct MethodSchema {
     pub name: Name,
     pub params: List<Param>,
@@ -87,28 +87,54 @@ impl MethodSchema {
     pub fn copy(&self, alloc: Global) -> Result<MethodSchema, Memory>
         ensures equal { IfOk result (λ copy. copy ≡ self.now) }
     {
-        Ok(MethodSchema {
-            name: self.name,
-            params: self.params.copy(alloc)?,
-            task: self.task,
-            task_args: self.task_args.copy(alloc)?,
-            pre: self.pre.copy(alloc)?,
-            children: copy_children(alloc, &self.children)?,
-            pairs: self.pairs.copy(alloc)?,
-            constraints: self.constraints.copy(alloc)?,
-        })
+        let network = self.copy_network(alloc)?;
+        Ok(self.joined(network, self.copy_front(alloc)?))
     }
-}
 
-fn copy_children(alloc: Global, children: &List<Child>) -> Result<List<Child>, Memory>
-    ensures equal { IfOk result (λ copies. copies ≡ children.now) }
-{
-    let parts = children.as_slice();
-    let mut copies = List::new(alloc);
-    for part in parts {
-        copies.push(part.copy(alloc)?)?;
+    /// Copies of the parameters, the task's arguments and the precondition.
+    fn copy_front(&self, alloc: Global) -> Result<(List<Param>, List<Term>, Formula), Memory>
+        ensures { IfOk result (λ front. front ≡ (self.now.params, self.now.task_args, self.now.pre)) }
+    {
+        let params = self.params.copy(alloc)?;
+        let task_args = self.task_args.copy(alloc)?;
+        Ok((params, task_args, self.pre.copy(alloc)?))
     }
-    Ok(copies)
+
+    /// Copies of the subtasks, the pairs and the constraints.
+    fn copy_network(
+        &self,
+        alloc: Global,
+    ) -> Result<(List<Child>, List<Pair>, List<Constraint>), Memory>
+        ensures { IfOk result (λ network. network ≡ (self.now.children, self.now.pairs, self.now.constraints)) }
+    {
+        let children = self.children.copy_each(alloc)?;
+        let pairs = self.pairs.copy(alloc)?;
+        Ok((children, pairs, self.constraints.copy(alloc)?))
+    }
+
+    /// The method of this name and task with these parts.
+    fn joined(
+        &self,
+        network: (List<Child>, List<Pair>, List<Constraint>),
+        front: (List<Param>, List<Term>, Formula),
+    ) -> MethodSchema
+        requires network { network ≡ (self.now.children, self.now.pairs, self.now.constraints) }
+        requires front { front ≡ (self.now.params, self.now.task_args, self.now.pre) }
+        ensures { result ≡ self.now }
+    {
+        let (children, pairs, constraints) = network;
+        let (params, task_args, pre) = front;
+        MethodSchema {
+            name: self.name,
+            params,
+            task: self.task,
+            task_args,
+            pre,
+            children,
+            pairs,
+            constraints,
+        }
+    }
 }
 
 /// A method as it is encoded. Children are named by their places, the check first where there is one.
@@ -117,7 +143,7 @@ fn copy_children(alloc: Global, children: &List<Child>) -> Result<List<Child>, M
 /// `line`: the children in an order that the pairs allow. `heir`: the child that takes the task's own slot.
 /// `copiers`: the children for which the order of what waits for the task is copied. `guards`: the types that the
 /// subtasks' arguments must have beyond those of the parameters.
-#[derive(Debug, PartialEq, Eq, Drop)]
+#[derive(Drop)]
 pub struct MethodPlan {
     pub schema: MethodSchema,
     pub checked: bool,
@@ -133,14 +159,17 @@ impl MethodPlan {
     pub fn copy(&self, alloc: Global) -> Result<MethodPlan, Memory>
         ensures equal { IfOk result (λ copy. copy ≡ self.now) }
     {
+        let line = self.line.copy(alloc)?;
+        let copiers = self.copiers.copy(alloc)?;
+        let guards = self.guards.copy(alloc)?;
         Ok(MethodPlan {
             schema: self.schema.copy(alloc)?,
             checked: self.checked,
             tested: self.tested,
-            line: self.line.copy(alloc)?,
+            line,
             heir: self.heir,
-            copiers: self.copiers.copy(alloc)?,
-            guards: self.guards.copy(alloc)?,
+            copiers,
+            guards,
         })
     }
 }

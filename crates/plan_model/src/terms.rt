@@ -5,7 +5,7 @@ use std::alloc::Global;
 
 /// What stands for an object: `Var(k)` is the k-th variable in force, the schema's parameters first and then
 /// those of the quantifiers from outside in; `Obj(x)` is the object of number x.
-#[derive(Clone, Copy, Debug, PartialEq, Eq)]
+#[derive(Clone, Copy, PartialEq)]
 pub enum Term {
     Var(u32),
     Obj(u32),
@@ -21,7 +21,7 @@ impl Term {
 }
 
 /// A variable with its type.
-#[derive(Clone, Copy, Debug, PartialEq, Eq)]
+#[derive(Clone, Copy)]
 pub struct Param {
     pub name: Name,
     pub ty: u32,
@@ -37,7 +37,7 @@ impl Param {
 }
 
 /// A predicate with terms, as many as it has parameters.
-#[derive(Debug, PartialEq, Eq, Drop)]
+#[derive(Drop)]
 pub struct Atom {
     pub predicate: u32,
     pub args: List<Term>,
@@ -56,7 +56,7 @@ impl Atom {
 }
 
 /// A predicate with objects, as many as it has parameters.
-#[derive(Debug, PartialEq, Eq, Drop)]
+#[derive(Drop)]
 pub struct GroundAtom {
     pub predicate: u32,
     pub args: List<u32>,

@@ -7,7 +7,7 @@ use htn_base::{List, Memory, Name};
 use std::alloc::Global;
 
 /// One written pair of a type and its parent.
-#[derive(Clone, Copy, Debug, PartialEq, Eq)]
+#[derive(Clone, Copy)]
 pub struct Parent {
     pub child: u32,
     pub parent: u32,
@@ -27,7 +27,7 @@ impl Parent {
 /// without a written parent has the one pair with type 0.
 ///
 /// Union k of `unions` is the type of number `names.len() + k`: an object is in it that is in one of its types.
-#[derive(Debug, PartialEq, Eq, Drop)]
+#[derive(Drop)]
 pub struct Types {
     pub names: List<Name>,
     pub parents: List<Parent>,
@@ -65,24 +65,13 @@ impl Types {
         Ok(Types {
             names: self.names.copy(alloc)?,
             parents: self.parents.copy(alloc)?,
-            unions: copy_unions(alloc, &self.unions)?,
+            unions: self.unions.copy_each(alloc)?,
         })
     }
 }
 
-fn copy_unions(alloc: Global, unions: &List<List<u32>>) -> Result<List<List<u32>>, Memory>
-    ensures equal { IfOk result (λ copies. copies ≡ unions.now) }
-{
-    let parts = unions.as_slice();
-    let mut copies = List::new(alloc);
-    for part in parts {
-        copies.push(part.copy(alloc)?)?;
-    }
-    Ok(copies)
-}
-
 /// An object with its declared type; a constant is declared in the domain.
-#[derive(Clone, Copy, Debug, PartialEq, Eq)]
+#[derive(Clone, Copy)]
 pub struct Object {
     pub name: Name,
     pub ty: u32,

@@ -1,3 +1,5 @@
+-- How a printed state reads.
+pub mod Reading
 pub mod SourceEffects
 pub mod SourceMeanings
 pub mod GuardAtoms

@@ -1,7 +1,6 @@
 pub mod SoundWords
 pub mod TextPlans
 pub mod Headline
-pub mod Reading
 pub mod Faithful
 pub mod Same
 pub mod Problems

@@ -6,7 +6,7 @@
 ghost use Rattle.plan_texts.specs.PrintedTexts.{domain_text, problem_text};
 ghost use Rattle.plan_meaning.specs.Laws.{AreOrdered};
 ghost use Rattle.plan_proof.specs.Headline.{IsFaithful};
-ghost use Rattle.slot_encoding.specs.Pieces.{IsPrinted};
+ghost use Rattle.slot_encoding.specs.Printed.{IsPrinted};
 ghost use Rattle.plan_proof.specs.Faithful.{ExecutablesSpellFronts, PlansSpellSolutions, EachSpellsOne, SpellingsAreWithin, FrontsWithinAreSpelled, IsFaithfulValue, LosesNothingFromTheBoundOn};
 
 use plan_model::{Checks, Compiled, Hddl, Pddl, Style};

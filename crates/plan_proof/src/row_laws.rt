@@ -5,7 +5,7 @@
 
 ghost use Rattle.plan_texts.specs.FirstSeen.{IsHddlOf};
 ghost use Rattle.plan_texts.specs.PrintedTexts.{domain_text, problem_text};
-ghost use Rattle.slot_encoding.specs.Pieces.{IsPrinted};
+ghost use Rattle.slot_encoding.specs.Printed.{IsPrinted};
 ghost use Rattle.plan_proof.specs.Problems.{smallest, calls_itself};
 ghost use Rattle.plan_proof.specs.Plans.{start_m_a, IsOnlyPlan, IsOnlyPlanOfTexts, HasNoPlan, HaveNoPlan};
 

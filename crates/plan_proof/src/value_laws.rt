@@ -9,7 +9,7 @@ ghost use Rattle.plan_texts.specs.SoundValue.{IsSoundHddl};
 ghost use Rattle.plan_meaning.specs.Compilation.{IsCompiled};
 ghost use Rattle.plan_meaning.specs.Laws.{AreOrdered};
 ghost use Rattle.plan_proof.specs.Headline.{Headline, HeadlineAtBound};
-ghost use Rattle.slot_encoding.specs.Pieces.{IsPrinted};
+ghost use Rattle.slot_encoding.specs.Printed.{IsPrinted};
 ghost use Rattle.plan_proof.specs.Same.{AreSameButNames};
 
 use plan_model::{Checks, Compiled, Hddl, Pddl, Style};

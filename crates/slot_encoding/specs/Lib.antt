@@ -4,7 +4,7 @@ pub mod OrderMeaning
 pub mod EncodedNames
 pub mod EncodedActions
 pub mod EncodedValue
-pub mod Pieces
+pub mod Printed
 pub mod EncodedWords
 pub mod Numberable
 pub mod WordsDiffer

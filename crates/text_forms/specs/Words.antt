@@ -1,20 +1,16 @@
 -- Words: which are names, and the place of a word among others.
 -- Source: appendix A (grammar) of Fox and Long, "PDDL2.1", JAIR 20, 2003, level 1: a variable starts with ?, a keyword with a colon.
-use Rattle.std.specs.Prelude.{ℕ, suc, ◌==◌, ◌&&◌, Bool, true, false, not, cond, List, [], ◌∷◌, Option, Some, None, option_map, slice_index_or}
+use Rattle.std.specs.Prelude.{ℕ, suc, Bool, true, false, not, cond, List, [], ◌∷◌, Option, Some, None, option_map, slice_index_or}
 use Rattle.std.specs.List.{list_any}
 use Rattle.std.specs.Str.{bytes_eq}
 use Rattle.htn_base.specs.Words.{is_reserved}
+pub use Rattle.htn_base.specs.Words.{is_name}
 
 abbrev pub Word : Type 0
 Word = List ℕ
 
 abbrev pub is_among : Word → List Word → Bool
 is_among w ws = list_any (bytes_eq w) ws
-
--- a word that starts with neither ? nor : and isn't reserved
-abbrev pub is_name : Word → Bool
-is_name [] = false
-is_name (b ∷ w) = not (b == 63) && (not (b == 58) && not (is_reserved (b ∷ w)))
 
 -- what stands behind the ? of a declared variable
 abbrev pub is_variable : Word → Bool

@@ -23,7 +23,7 @@ use Rattle.plan_meaning.specs.Compilation.{IsCompiled}
 use Rattle.plan_meaning.proofs.examples.PlanKinds.{plain, none_rise}
 use Rattle.plan_meaning.proofs.examples.RowValues.{child, always, nothing, problem, method_schema, method_plan, task_schema, action_schema}
 use Rattle.plan_meaning.proofs.examples.SmallestRow.{smallest_hddl, smallest}
-use Rattle.slot_encoding.specs.Pieces.{IsPrinted}
+use Rattle.slot_encoding.specs.Printed.{IsPrinted}
 use Rattle.plan_proof.proofs.examples.SmallestFaithful.{smallest_is_printed}
 use Rattle.plan_proof.specs.Same.{AreSameButNames}
 use Rattle.plan_proof.proofs.values.SameSound.{action-words-same}

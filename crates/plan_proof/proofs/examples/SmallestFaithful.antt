@@ -26,7 +26,7 @@ use Rattle.plan_meaning.proofs.examples.RowWords.{slot_1}
 use Rattle.plan_meaning.proofs.examples.SmallestRow.{smallest, smallest_names, smallest_hddl, steps}
 use Rattle.plan_proof.specs.Headline.{IsFaithful, SpellsSolution}
 use Rattle.plan_proof.proofs.examples.SmallestPlan.{plan_row}
-use Rattle.slot_encoding.specs.Pieces.{IsPrinted}
+use Rattle.slot_encoding.specs.Printed.{IsPrinted}
 use Rattle.plan_proof.proofs.machine.PrintedMeans.{printed_faithful, faithful_texts}
 use Rattle.plan_proof.proofs.examples.RowPlans.{smallest_row}
 

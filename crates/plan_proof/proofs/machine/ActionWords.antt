@@ -23,7 +23,7 @@ use Rattle.slot_encoding.specs.SourceParts.{name}
 use Rattle.slot_encoding.specs.EncodedNames.{slot_type, slot_param}
 use Rattle.slot_encoding.specs.EncodedActions.{spare, encoded_method, encoded_check, encoded_action, method_word}
 use Rattle.slot_encoding.specs.EncodedValue.{encoded_actions}
-use Rattle.slot_encoding.specs.Pieces.{IsPrinted}
+use Rattle.slot_encoding.specs.Printed.{IsPrinted}
 use Rattle.slot_encoding.proofs.places.ListPlaces.{get_to_map}
 use Rattle.plan_proof.proofs.machine.ObjectWords.{name_word, same_get}
 

@@ -8,8 +8,8 @@ use Rattle.plan_model.specs.declared.values.Pddl.{Pddl}
 use Rattle.plan_meaning.specs.Network.{Work, action, check, task}
 use Rattle.slot_encoding.specs.EncodedNames.{free_predicate, before_predicate, guard_predicate, first_slot}
 use Rattle.slot_encoding.specs.EncodedValue.{atom}
-use Rattle.slot_encoding.specs.Pieces.{PredicatesDiffer, IsNumbered, slot_object, IsSlot, IsSlotObject}
-use Rattle.plan_proof.specs.Reading.{IsKnown, held, free_atom, before_atom}
+use Rattle.slot_encoding.proofs.Pieces.{PredicatesDiffer, IsNumbered, slot_object, IsSlot, IsSlotObject}
+use Rattle.plan_proof.proofs.machine.Reading.{IsKnown, held, free_atom, before_atom}
 
 pub known_numbered : (c : Compiled) (w : Work) → IsKnown c w → IsNumbered c w
 known_numbered c (action a args) k = let (ps, (s, e, f), t) = k in slice_get_within c.hddl.actions a s e

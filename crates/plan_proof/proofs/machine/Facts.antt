@@ -17,7 +17,7 @@ use Rattle.plan_meaning.specs.Network.{network}
 use Rattle.slot_encoding.specs.EncodedNames.{order_numbers}
 use Rattle.slot_encoding.specs.EncodedValue.{IsEncoded}
 use Rattle.slot_encoding.specs.OrderMeaning.{OrderMeaning}
-use Rattle.slot_encoding.specs.Pieces.{PredicatesDiffer, SourceAgrees, GuardsDeclare, GuardAtomsAgree, IsSoundCondition, IsSoundChange}
+use Rattle.slot_encoding.proofs.Pieces.{PredicatesDiffer, SourceAgrees, GuardsDeclare, GuardAtomsAgree, IsSoundCondition, IsSoundChange}
 
 -- the numbers and parts of a compiled problem fit together
 pub record FitsTogether (c : Compiled) : Type 0 where

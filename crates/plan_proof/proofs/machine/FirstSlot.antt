@@ -16,7 +16,7 @@ use Rattle.plan_texts.specs.PrintableValue.{arities_of}
 use Rattle.plan_texts.proofs.Members.{each-has, contains-has}
 use Rattle.slot_encoding.specs.EncodedNames.{top_predicate, first_slot}
 use Rattle.slot_encoding.specs.EncodedValue.{atom}
-use Rattle.slot_encoding.specs.Pieces.{IsPrinted}
+use Rattle.slot_encoding.specs.Printed.{IsPrinted}
 use Rattle.slot_encoding.proofs.places.ObjectPlaces.{length-objects}
 
 pub some_slot : (h : Hddl) (mode : Checks) (c : Compiled) (b : ℕ) (style : Style) (p : Pddl) → IsPrinted h mode c b style p → 1 ≤ b

@@ -10,8 +10,8 @@ use Rattle.plan_meaning.specs.Truth.{State}
 use Rattle.plan_meaning.specs.Network.{Work, network, InTypeOf}
 use Rattle.slot_encoding.specs.EncodedNames.{guard_types, guard_predicate}
 use Rattle.slot_encoding.specs.EncodedValue.{atom}
-use Rattle.slot_encoding.specs.Pieces.{PredicatesDiffer, slot_object, IsSlot, IsSlotObject}
-use Rattle.plan_proof.specs.Reading.{IsKnown, held, free_atom, before_atom, pair, Reads}
+use Rattle.slot_encoding.proofs.Pieces.{PredicatesDiffer, slot_object, IsSlot, IsSlotObject}
+use Rattle.plan_proof.proofs.machine.Reading.{IsKnown, held, free_atom, before_atom, pair, Reads}
 use Rattle.plan_proof.proofs.machine.Atoms.{slot_of, held_free, held_before, free_before, same_held, same_free, same_pair, source_held, source_free, source_before, guard_held, guard_free, guard_before, source_guard}
 
 -- the state after, where the effect deletes D and adds A

@@ -19,8 +19,8 @@ use Rattle.slot_encoding.specs.EncodedActions.{is_free, waiting, freeing}
 use Rattle.plan_meaning.proofs.TruthEquations.{truth-And, truth-Holds}
 use Rattle.plan_meaning.proofs.EffectEquations.{adds-And, adds-Add, adds-Delete, deletes-And, deletes-Add, deletes-Delete}
 use Rattle.slot_encoding.specs.OrderMeaning.{OrderMeaning}
-use Rattle.slot_encoding.specs.Pieces.{PredicatesDiffer, slot_object, IsSlot, IsSlotObject}
-use Rattle.plan_proof.specs.Reading.{IsKnown, held, free_atom, before_atom, Reads}
+use Rattle.slot_encoding.proofs.Pieces.{PredicatesDiffer, slot_object, IsSlot, IsSlotObject}
+use Rattle.plan_proof.proofs.machine.Reading.{IsKnown, held, free_atom, before_atom, Reads}
 use Rattle.slot_encoding.proofs.places.Sums.{each-append, one-append}
 use Rattle.plan_proof.proofs.machine.Atoms.{slot_of}
 use Rattle.plan_proof.proofs.machine.Freed.{Changed, freed, freed_reads, reads_alike}

@@ -23,7 +23,8 @@ use Rattle.plan_meaning.specs.Compilation.{once}
 use Rattle.slot_encoding.specs.EncodedNames.{guard_types, first_slot, first_guard, top_predicate, free_predicate, guard_predicate}
 use Rattle.slot_encoding.specs.EncodedValue.{same_atom, atom, first_atoms, AreGuardAtoms, IsInitial}
 use Rattle.plan_meaning.proofs.Pairs.{once_to, map_to, append_to}
-use Rattle.slot_encoding.specs.Pieces.{IsPrinted, GuardAtomsAgree}
+use Rattle.slot_encoding.specs.Printed.{IsPrinted}
+use Rattle.slot_encoding.proofs.Pieces.{GuardAtomsAgree}
 use Rattle.slot_encoding.proofs.places.ListPlaces.{get_within}
 use Rattle.slot_encoding.proofs.places.ObjectTypes.{sound_here}
 use Rattle.slot_encoding.proofs.places.KeptItems.{keeps_to, to_keeps, position_at}

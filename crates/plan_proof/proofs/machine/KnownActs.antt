@@ -13,8 +13,8 @@ use Rattle.plan_meaning.specs.Truth.{AreTyped}
 use Rattle.plan_meaning.specs.Network.{Work, action, check, task, IsGroundMethod, network, InTypeOf}
 use Rattle.plan_meaning.specs.Solution.{top_work}
 use Rattle.slot_encoding.specs.EncodedActions.{encoded_method, encoded_check, encoded_action}
-use Rattle.slot_encoding.specs.Pieces.{slot_object, IsSlot, IsActBy}
-use Rattle.plan_proof.specs.Reading.{IsKnown}
+use Rattle.slot_encoding.proofs.Pieces.{slot_object, IsSlot, IsActBy}
+use Rattle.plan_proof.proofs.machine.Reading.{IsKnown}
 use Rattle.plan_proof.proofs.machine.Facts.{PiecesMean}
 use Rattle.slot_encoding.proofs.places.ListPlaces.{get_contains}
 use Rattle.plan_proof.proofs.machine.Methods.{each_contains}

@@ -15,7 +15,7 @@ use Rattle.task_networks.specs.Spelling.{others}
 use Rattle.slot_machine.proofs.OtherChildren.{rest_of, length-rest}
 use Rattle.plan_meaning.specs.Truth.{values_of, AreTyped}
 use Rattle.plan_meaning.specs.Network.{Work, GroundMethod, network, InTypeOf, IsDeclared, work_of, child_of, head_by, works_by}
-use Rattle.plan_proof.specs.Reading.{IsKnown}
+use Rattle.plan_proof.proofs.machine.Reading.{IsKnown}
 use Rattle.plan_proof.proofs.machine.Facts.{FitsTogether}
 use Rattle.slot_encoding.proofs.places.ListPlaces.{get_map_cases, get_contains}
 

@@ -24,8 +24,8 @@ use Rattle.slot_encoding.specs.EncodedNames.{free_predicate, guard_predicate, ta
 use Rattle.slot_encoding.specs.EncodedValue.{atom}
 use Rattle.slot_encoding.specs.EncodedActions.{is_free, waiting, spare, front, depth, differ, test, held_task, constraints, guards, tested, source_condition, encoded_method}
 use Rattle.plan_meaning.proofs.TruthEquations.{truth-Holds, truth-Not, truth-Equal}
-use Rattle.slot_encoding.specs.Pieces.{SourceMeaning, slot_object, IsSlot}
-use Rattle.plan_proof.specs.Reading.{held, free_atom, Reads}
+use Rattle.slot_encoding.proofs.Pieces.{SourceMeaning, slot_object, IsSlot}
+use Rattle.plan_proof.proofs.machine.Reading.{held, free_atom, Reads}
 use Rattle.plan_meaning.proofs.EachPart.{each_map}
 use Rattle.slot_encoding.proofs.places.Sums.{each-append, mapped, map-numbers, value-moved, values-moved}
 use Rattle.plan_proof.proofs.machine.Atoms.{one_slot}

@@ -27,8 +27,8 @@ use Rattle.slot_encoding.specs.EncodedValue.{atom}
 use Rattle.slot_encoding.specs.OrderFormulas.{pair_of, copy_parts}
 use Rattle.slot_encoding.specs.EncodedActions.{is_free, spare, front, depth, slot_vars, children_slots, held_task, child_atom, child_atoms}
 use Rattle.plan_meaning.proofs.EffectEquations.{adds-Add, adds-Delete, deletes-Add, deletes-Delete}
-use Rattle.slot_encoding.specs.Pieces.{slot_object, IsSlot, IsSlotObject}
-use Rattle.plan_proof.specs.Reading.{held, free_atom, before_atom, pair}
+use Rattle.slot_encoding.proofs.Pieces.{slot_object, IsSlot, IsSlotObject}
+use Rattle.plan_proof.proofs.machine.Reading.{held, free_atom, before_atom, pair}
 use Rattle.plan_meaning.proofs.EachPart.{one_map}
 use Rattle.slot_encoding.proofs.places.Sums.{one-append, some_mapped, index-map, get_index, own_vars}
 use Rattle.slot_encoding.proofs.places.ListPlaces.{get_map_cases, get_to_map, get_contains}

@@ -21,8 +21,8 @@ use Rattle.plan_meaning.specs.Network.{Work, GroundMethod, IsGroundMethod, netwo
 use Rattle.plan_meaning.specs.Solution.{AllowsMethod}
 use Rattle.slot_encoding.specs.EncodedActions.{spare, depth, held_task, freeing, splitting, method_eff, encoded_method}
 use Rattle.plan_meaning.proofs.EffectEquations.{adds-And, adds-Delete, deletes-And, deletes-Delete}
-use Rattle.slot_encoding.specs.Pieces.{IsSlot, IsMethodAct}
-use Rattle.plan_proof.specs.Reading.{held, Reads, Applies}
+use Rattle.slot_encoding.proofs.Pieces.{IsSlot, IsMethodAct}
+use Rattle.plan_proof.proofs.machine.Reading.{held, Reads, Applies}
 use Rattle.slot_encoding.proofs.places.Sums.{one-append}
 use Rattle.plan_proof.proofs.machine.Facts.{PiecesMean}
 use Rattle.plan_proof.proofs.machine.Freed.{Changed, reads_alike}

@@ -21,7 +21,8 @@ use Rattle.plan_meaning.specs.ClassicalPlan.{IsObject, AreObjects}
 use Rattle.plan_meaning.specs.SpelledPlan.{object_by, object_word}
 use Rattle.slot_encoding.specs.SourceParts.{name, source_word}
 use Rattle.slot_encoding.specs.EncodedNames.{first_slot, encoded_objects}
-use Rattle.slot_encoding.specs.Pieces.{IsPrinted, IsSlot, slot_object, ObjectWords}
+use Rattle.slot_encoding.specs.Printed.{IsPrinted}
+use Rattle.slot_encoding.proofs.Pieces.{IsSlot, slot_object, ObjectWords}
 use Rattle.slot_encoding.proofs.places.ListPlaces.{get_to_map, get_within, within_get}
 use Rattle.slot_encoding.proofs.places.ObjectPlaces.{printed_object, printed_slot, object_at, slot_at}
 

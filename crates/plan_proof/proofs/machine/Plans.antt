@@ -20,8 +20,8 @@ use Rattle.slot_encoding.specs.OrderFormulas.{free_parts}
 use Rattle.slot_encoding.specs.EncodedNames.{free_predicate, order_numbers}
 use Rattle.slot_encoding.specs.EncodedActions.{source_condition}
 use Rattle.plan_meaning.proofs.TruthEquations.{truth-And}
-use Rattle.slot_encoding.specs.Pieces.{slot_object}
-use Rattle.plan_proof.specs.Reading.{Reads, LeadsBy}
+use Rattle.slot_encoding.proofs.Pieces.{slot_object}
+use Rattle.plan_proof.proofs.machine.Reading.{Reads, LeadsBy}
 use Rattle.slot_encoding.proofs.places.Sums.{each-append}
 use Rattle.plan_proof.proofs.machine.Atoms.{slot_of}
 use Rattle.plan_proof.proofs.machine.Facts.{PiecesMean}

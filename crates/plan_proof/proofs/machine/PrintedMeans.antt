@@ -15,7 +15,7 @@ use Rattle.slot_encoding.specs.EncodedNames.{order_numbers}
 use Rattle.plan_meaning.proofs.CompiledNetworks.{prepared}
 use Rattle.plan_proof.specs.Headline.{IsFaithful}
 use Rattle.plan_proof.proofs.texts.PrintedPlans.{printed-executables, printed-plans}
-use Rattle.slot_encoding.specs.Pieces.{IsPrinted}
+use Rattle.slot_encoding.specs.Printed.{IsPrinted}
 use Rattle.plan_proof.specs.Faithful.{IsFaithfulValue}
 use Rattle.plan_proof.proofs.machine.Facts.{PiecesMean}
 use Rattle.plan_proof.proofs.machine.Fits.{fits}

@@ -21,8 +21,8 @@ use Rattle.plan_meaning.specs.Network.{Work, action, check, network, InTypeOf}
 use Rattle.plan_meaning.specs.Solution.{Allows, AllowsAction, AllowsCheck, after_action, next}
 use Rattle.slot_encoding.specs.EncodedNames.{action_predicate, check_predicate}
 use Rattle.slot_encoding.specs.EncodedActions.{held_work, waiting, freeing, source_condition, source_change, encoded_action, encoded_check}
-use Rattle.slot_encoding.specs.Pieces.{SourceMeaning, slot_object, IsSlot, IsActionAct, IsCheckAct}
-use Rattle.plan_proof.specs.Reading.{IsKnown, held, Reads, Applies}
+use Rattle.slot_encoding.proofs.Pieces.{SourceMeaning, slot_object, IsSlot, IsActionAct, IsCheckAct}
+use Rattle.plan_proof.proofs.machine.Reading.{IsKnown, held, Reads, Applies}
 use Rattle.slot_encoding.proofs.places.Sums.{own_vars}
 use Rattle.plan_proof.proofs.machine.Facts.{PiecesMean}
 use Rattle.plan_proof.proofs.machine.Freed.{Changed, reads_alike}

@@ -15,7 +15,7 @@ use Rattle.slot_machine.proofs.Theorem.{matches_spelling}
 use Rattle.plan_meaning.specs.Truth.{State, after}
 use Rattle.plan_meaning.specs.Network.{Work, action, check, task, network}
 use Rattle.plan_meaning.specs.Solution.{Allows, next, top_work}
-use Rattle.plan_proof.specs.Reading.{Reads, Applies, LeadsBy}
+use Rattle.plan_proof.proofs.machine.Reading.{Reads, Applies, LeadsBy}
 use Rattle.plan_proof.proofs.machine.Facts.{PiecesMean}
 use Rattle.plan_proof.proofs.machine.Freeing.{InT}
 use Rattle.plan_proof.proofs.machine.Running.{IsTaken, action_to, action_from, check_to, check_from}

@@ -26,7 +26,8 @@ use Rattle.plan_meaning.specs.Network as Source
 use Rattle.plan_meaning.specs.ClassicalPlan as Printed
 use Rattle.plan_meaning.proofs.TruthEquations.{truth-And}
 use Rattle.plan_meaning.proofs.EffectEquations.{adds-And, deletes-And}
-use Rattle.slot_encoding.specs.Pieces.{IsPrinted, AreAgreed, IsSoundCondition, IsSoundChange, SourceMeaning, SourceAgrees}
+use Rattle.slot_encoding.specs.Printed.{IsPrinted}
+use Rattle.slot_encoding.proofs.Pieces.{AreAgreed, IsSoundCondition, IsSoundChange, SourceMeaning, SourceAgrees}
 use Rattle.slot_encoding.proofs.places.ObjectTypes.{types_agree}
 use Rattle.slot_encoding.proofs.places.SourceFormulas.{truth-source}
 use Rattle.plan_proof.proofs.machine.SourceEffects.{adds-source, deletes-source}

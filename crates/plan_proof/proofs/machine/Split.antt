@@ -14,8 +14,8 @@ use Rattle.plan_meaning.specs.Truth.{State}
 use Rattle.plan_meaning.specs.Network.{Work, GroundMethod, network}
 use Rattle.slot_encoding.specs.EncodedNames.{free_predicate, before_predicate, guard_predicate}
 use Rattle.slot_encoding.specs.EncodedValue.{atom}
-use Rattle.slot_encoding.specs.Pieces.{PredicatesDiffer, slot_object, IsSlot}
-use Rattle.plan_proof.specs.Reading.{IsKnown, held, free_atom, pair, Reads}
+use Rattle.slot_encoding.proofs.Pieces.{PredicatesDiffer, slot_object, IsSlot}
+use Rattle.plan_proof.proofs.machine.Reading.{IsKnown, held, free_atom, pair, Reads}
 use Rattle.slot_encoding.proofs.places.ListPlaces.{get_contains, contains_get}
 use Rattle.plan_proof.proofs.machine.Atoms.{one_slot, held_free, held_before, free_before, same_held, same_free, same_pair, source_held, source_free, source_before, guard_held, guard_free, guard_before}
 use Rattle.plan_proof.proofs.machine.Freed.{Changed}

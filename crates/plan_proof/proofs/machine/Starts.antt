@@ -18,8 +18,8 @@ use Rattle.plan_meaning.specs.Compilation.{once}
 use Rattle.slot_encoding.specs.EncodedNames.{guard_types, top_predicate, free_predicate, task_predicate, guard_predicate, first_slot, first_task}
 use Rattle.slot_encoding.specs.EncodedValue.{same_atom, atom, first_atoms, AreGuardAtoms, IsInitial}
 use Rattle.plan_meaning.proofs.Pairs.{once_to, to_once, map_to}
-use Rattle.slot_encoding.specs.Pieces.{slot_object, IsSlot}
-use Rattle.plan_proof.specs.Reading.{IsKnown, held, free_atom, pair, Reads}
+use Rattle.slot_encoding.proofs.Pieces.{slot_object, IsSlot}
+use Rattle.plan_proof.proofs.machine.Reading.{IsKnown, held, free_atom, pair, Reads}
 use Rattle.plan_proof.proofs.machine.Facts.{PiecesMean}
 use Rattle.plan_proof.proofs.machine.Atoms.{held_free, same_held, source_held, source_free, source_before, source_guard, free_before, guard_held, guard_free, guard_before}
 

@@ -24,7 +24,8 @@ use Rattle.slot_encoding.specs.SourceParts.{source_param}
 use Rattle.slot_encoding.specs.EncodedNames.{slot_type, first_slot, slot_param}
 use Rattle.slot_encoding.specs.EncodedActions.{spare, encoded_method, encoded_check, encoded_action}
 use Rattle.slot_encoding.specs.EncodedValue.{encoded_actions}
-use Rattle.slot_encoding.specs.Pieces.{IsPrinted, IsSlotObject, IsSlot, slot_object, IsActBy, StepsAreActs}
+use Rattle.slot_encoding.specs.Printed.{IsPrinted}
+use Rattle.slot_encoding.proofs.Pieces.{IsSlotObject, IsSlot, slot_object, IsActBy, StepsAreActs}
 use Rattle.slot_encoding.proofs.places.ListPlaces.{get_within, get_contains, contains_get, append_same}
 use Rattle.slot_encoding.proofs.places.Predicates.{is_checked, passed_once, passed_within}
 use Rattle.slot_encoding.proofs.places.ObjectTypes.{lists_agree}

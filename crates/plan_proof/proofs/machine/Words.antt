@@ -15,8 +15,8 @@ use Rattle.plan_meaning.specs.Network.{network}
 use Rattle.plan_meaning.specs.Solution.{top_work}
 use Rattle.plan_meaning.specs.SpelledPlan.{step_of}
 use Rattle.plan_proof.specs.Headline.{SpellsExecutableFront, SpellsSolution, SpellsOne}
-use Rattle.slot_encoding.specs.Pieces.{StepsAreActs}
-use Rattle.plan_proof.specs.Reading.{LeadsBy}
+use Rattle.slot_encoding.proofs.Pieces.{StepsAreActs}
+use Rattle.plan_proof.proofs.machine.Reading.{LeadsBy}
 use Rattle.plan_proof.specs.Faithful.{SpellingsAreWithin, FrontsWithinAreSpelled, IsFaithfulValue}
 use Rattle.plan_proof.proofs.machine.Facts.{PiecesMean}
 use Rattle.plan_proof.proofs.machine.KnownActs.{AreActs, acts_are}

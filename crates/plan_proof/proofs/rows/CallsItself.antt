@@ -13,7 +13,7 @@ use Rattle.plan_meaning.specs.Network.{task, network}
 use Rattle.plan_meaning.specs.Solution.{top_work}
 use Rattle.plan_meaning.proofs.examples.PlanKinds.{plain, none_rise}
 use Rattle.plan_meaning.proofs.examples.RowValues.{uses}
-use Rattle.slot_encoding.specs.Pieces.{IsPrinted}
+use Rattle.slot_encoding.specs.Printed.{IsPrinted}
 use Rattle.plan_proof.proofs.examples.RowPlans.{IsLawfulRow, plain_formulas}
 use Rattle.plan_proof.proofs.examples.SoundChecks.{sound_by, ordered_by}
 use Rattle.plan_proof.specs.Problems.{calls_itself}

@@ -16,7 +16,7 @@ use Rattle.plan_meaning.specs.Laws.{AreOrdered}
 use Rattle.plan_meaning.specs.Network.{network}
 use Rattle.plan_meaning.specs.Solution.{top_work, initial, Allows, next, IsGoal}
 use Rattle.plan_meaning.specs.SpelledPlan.{step_of}
-use Rattle.slot_encoding.specs.Pieces.{IsPrinted}
+use Rattle.slot_encoding.specs.Printed.{IsPrinted}
 use Rattle.plan_proof.proofs.machine.Facts.{PiecesMean}
 use Rattle.plan_proof.proofs.machine.FirstSlot.{some_slot}
 use Rattle.plan_proof.proofs.machine.PrintedMeans.{pieces_mean, printed_faithful}

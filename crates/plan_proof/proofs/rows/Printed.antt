@@ -26,7 +26,7 @@ use Rattle.slot_encoding.specs.EncodedActions.{no_part, is_empty, no_effect, is_
 use Rattle.slot_encoding.specs.EncodedValue.{encoded_actions, IsEncoded}
 use Rattle.plan_meaning.proofs.examples.RowValues.{always, nothing}
 use Rattle.plan_meaning.proofs.examples.RowWords.{slot_1}
-use Rattle.slot_encoding.specs.Pieces.{IsPrinted}
+use Rattle.slot_encoding.specs.Printed.{IsPrinted}
 use Rattle.plan_proof.proofs.examples.SoundChecks.{sound-Add, sound-Delete, sound-Both}
 use Rattle.plan_proof.specs.Problems.{calls_itself, words}
 use Rattle.plan_proof.proofs.rows.CallsItself.{calls_itself_compiled, calls_itself_row}

@@ -16,7 +16,7 @@ use Rattle.plan_meaning.specs.SpelledPlan.{step_of, IsSpelling}
 use Rattle.plan_meaning.proofs.examples.RowValues.{uses}
 use Rattle.plan_meaning.proofs.examples.RowWords.{step, slot_1}
 use Rattle.plan_meaning.proofs.examples.SmallestRow as Row
-use Rattle.slot_encoding.specs.Pieces.{IsPrinted}
+use Rattle.slot_encoding.specs.Printed.{IsPrinted}
 use Rattle.plan_proof.proofs.machine.FirstSlot.{some_slot}
 use Rattle.plan_proof.proofs.examples.RowPlans.{smallest_row, solution_plan}
 use Rattle.plan_proof.specs.Problems.{smallest}

@@ -23,7 +23,7 @@ use Rattle.task_networks.specs.Order.{ArePairsOf, IsAcyclic}
 use Rattle.plan_meaning.specs.Compilation.{Pairs, AreMethodPlans, IsCompiled}
 use Rattle.plan_meaning.specs.Laws.{AreOrdered}
 use Rattle.plan_proof.specs.Headline.{Headline, HeadlineAtBound}
-use Rattle.slot_encoding.specs.Pieces.{IsPrinted}
+use Rattle.slot_encoding.specs.Printed.{IsPrinted}
 use Rattle.plan_proof.proofs.machine.Bounds.{loses_nothing}
 use Rattle.plan_proof.proofs.machine.PrintedMeans.{printed_faithful, faithful_texts}
 use Rattle.plan_proof.specs.Same.{AreSameButNames}

@@ -23,7 +23,8 @@ use Rattle.plan_meaning.specs.Compilation.{same_term, same_guard, check_child, c
 use Rattle.slot_encoding.specs.EncodedNames.{joined, guard_types}
 use Rattle.plan_meaning.proofs.Pairs.{once_to, to_once, append_to}
 use Rattle.plan_meaning.proofs.CompiledNetworks.{plan_of}
-use Rattle.slot_encoding.specs.Pieces.{IsPrinted, GuardsDeclare}
+use Rattle.slot_encoding.specs.Printed.{IsPrinted}
+use Rattle.slot_encoding.proofs.Pieces.{GuardsDeclare}
 use Rattle.slot_encoding.proofs.places.ObjectTypes.{sound_here}
 use Rattle.plan_model.specs.declared.options.Style.{Style}
 use Rattle.plan_model.specs.declared.values.Pddl.{Pddl}

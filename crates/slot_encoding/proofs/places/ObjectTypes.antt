@@ -16,7 +16,8 @@ use Rattle.slot_encoding.specs.SourceParts.{retyped, source_param}
 use Rattle.slot_encoding.specs.EncodedNames.{slot_type, first_slot, encoded_types, encoded_objects}
 use Rattle.plan_meaning.specs.Network as Source
 use Rattle.plan_meaning.specs.ClassicalPlan as Printed
-use Rattle.slot_encoding.specs.Pieces.{IsPrinted, TypesAgree, IsSlotObject, ListsAgree}
+use Rattle.slot_encoding.specs.Printed.{IsPrinted}
+use Rattle.slot_encoding.proofs.Pieces.{TypesAgree, IsSlotObject, ListsAgree}
 use Rattle.slot_encoding.proofs.places.ObjectPlaces.{printed_object, printed_slot, object_cases, object_at, slot_at}
 use Rattle.slot_encoding.proofs.places.PrintedTypes.{part_to, part_from, slot_apart, apart_from_slots}
 use Rattle.slot_encoding.proofs.places.SourceFormulas.{typed-source}

@@ -7,7 +7,7 @@ use Rattle.plan_model.specs.declared.schemas.MethodPlan.{MethodPlan}
 use Rattle.plan_model.specs.declared.values.Compiled.{Compiled}
 use Rattle.plan_meaning.specs.Network.{Work, action, check, task}
 use Rattle.slot_encoding.specs.EncodedNames.{first_task, first_action, first_check, first_guard, top_predicate, free_predicate, before_predicate, task_predicate, action_predicate, check_predicate}
-use Rattle.slot_encoding.specs.Pieces.{IsNumbered, work_predicate, work_args, held_atom, PredicatesDiffer}
+use Rattle.slot_encoding.proofs.Pieces.{IsNumbered, work_predicate, work_args, held_atom, PredicatesDiffer}
 
 abbrev one_if : Bool → ℕ
 one_if true = 1

@@ -1,0 +1,198 @@
+//! Each copy is made once with ample memory, and types are asked that were worked out by hand.
+
+ghost use Rattle.std.specs.Prelude.{◌≡◌, ◌<◌, All, IfOk, length};
+ghost use Rattle.plan_model.specs.Parts.{AreListed};
+
+use htn_base::{Boxed, List, Memory, Name, Text};
+use plan_model::{
+    ActionSchema, Atom, Child, Effect, Formula, GroundAction, GroundAtom, Head, MethodPlan,
+    MethodSchema, Object, Parent, Predicate, TaskSchema, Term, Types, in_type, members,
+};
+use std::alloc::Global;
+use std::test::Fail;
+
+fn truth(alloc: Global) -> Formula {
+    Formula::And(List::new(alloc))
+}
+
+#[test]
+fn formulas(rt: HostRuntime) -> Result<(), Fail> {
+    let not = Boxed::new(rt.alloc(), Formula::Equal(Term::Var(0), Term::Obj(2)))?;
+    let mut parts = List::new(rt.alloc());
+    parts.push(Formula::Not(not))?;
+    assert!(rt; Formula::Or(parts).copy(rt.alloc()).is_ok());
+    Ok(())
+}
+
+#[test]
+fn effects(rt: HostRuntime) -> Result<(), Fail> {
+    let none = Boxed::new(rt.alloc(), Effect::And(List::new(rt.alloc())))?;
+    let effect = Effect::When(truth(rt.alloc()), none);
+    assert!(rt; effect.copy(rt.alloc()).is_ok());
+    Ok(())
+}
+
+#[test]
+fn atoms(rt: HostRuntime) -> Result<(), Fail> {
+    let predicate = 3;
+    let args = List::new(rt.alloc());
+    assert!(rt; Atom { predicate, args }.copy(rt.alloc()).is_ok());
+    let args = List::new(rt.alloc());
+    assert!(rt; GroundAtom { predicate, args }.copy(rt.alloc()).is_ok());
+    Ok(())
+}
+
+#[test]
+fn schemas(rt: HostRuntime) -> Result<(), Fail> {
+    let name = Name { number: 3 };
+    let params = List::new(rt.alloc());
+    assert!(rt; Predicate { name, params }.copy(rt.alloc()).is_ok());
+    let params = List::new(rt.alloc());
+    assert!(rt; TaskSchema { name, params }.copy(rt.alloc()).is_ok());
+    let action = ActionSchema {
+        name,
+        params: List::new(rt.alloc()),
+        pre: truth(rt.alloc()),
+        eff: Effect::And(List::new(rt.alloc())),
+    };
+    assert!(rt; action.copy(rt.alloc()).is_ok());
+    Ok(())
+}
+
+fn network(alloc: Global) -> Result<List<Child>, Memory> {
+    let mut children = List::new(alloc);
+    children.push(Child {
+        id: Some(Name { number: 4 }),
+        head: Head::Action(5),
+        args: List::new(alloc),
+    })?;
+    Ok(children)
+}
+
+fn method(alloc: Global, children: List<Child>) -> MethodSchema {
+    MethodSchema {
+        name: Name { number: 3 },
+        params: List::new(alloc),
+        task: 6,
+        task_args: List::new(alloc),
+        pre: truth(alloc),
+        children,
+        pairs: List::new(alloc),
+        constraints: List::new(alloc),
+    }
+}
+
+#[test]
+fn methods(rt: HostRuntime) -> Result<(), Fail> {
+    let plan = MethodPlan {
+        schema: method(rt.alloc(), network(rt.alloc())?),
+        checked: true,
+        tested: false,
+        line: List::new(rt.alloc()),
+        heir: None,
+        copiers: List::new(rt.alloc()),
+        guards: List::new(rt.alloc()),
+    };
+    let copied = plan.copy(rt.alloc()).is_ok();
+    drop(plan);
+    assert!(rt; copied);
+    Ok(())
+}
+
+#[test]
+fn types(rt: HostRuntime) -> Result<(), Fail> {
+    let mut unions = List::new(rt.alloc());
+    unions.push(List::new(rt.alloc()))?;
+    let types = Types {
+        names: List::new(rt.alloc()),
+        parents: List::new(rt.alloc()),
+        unions,
+    };
+    assert!(rt; types.copy(rt.alloc()).is_ok());
+    Ok(())
+}
+
+#[test]
+fn steps(rt: HostRuntime) -> Result<(), Fail> {
+    let mut args = List::new(rt.alloc());
+    args.push(Text::from_slice(rt.alloc(), b"truck")?)?;
+    let name = Text::new(rt.alloc());
+    assert!(rt; GroundAction { name, args }.copy(rt.alloc()).is_ok());
+    Ok(())
+}
+
+// The types `hammer saw - tool mallet - hammer`: tool 1, hammer 2, saw 3, mallet 4, and the union 5 of saw and mallet.
+fn tools(alloc: Global) -> Result<Types, Memory>
+    ensures listed { IfOk result AreListed }
+{
+    let mut names = List::new(alloc);
+    let mut parents = List::new(alloc);
+    for number in 0..5 {
+        names.push(Name { number })?;
+        parents.push(Parent {
+            child: number,
+            parent: number / 2,
+        })?;
+    }
+    Ok(Types {
+        names,
+        parents,
+        unions: saw_or_mallet(alloc)?,
+    })
+}
+
+fn saw_or_mallet(alloc: Global) -> Result<List<List<u32>>, Memory>
+    ensures listed { IfOk result (All (All (λ member. member < 5))) }
+{
+    let mut saw = List::new(alloc);
+    saw.push(3)?;
+    saw.push(4)?;
+    let mut unions = List::new(alloc);
+    unions.push(saw)?;
+    Ok(unions)
+}
+
+// an object of each of the types 1 to 4
+fn objects(alloc: Global) -> Result<List<Object>, Memory>
+    ensures few { IfOk result (λ objects. length objects < 5) }
+{
+    let mut objects = List::new(alloc);
+    for ty in 1..5 {
+        let name = Name { number: ty };
+        let constant = false;
+        objects.push(Object { name, ty, constant })?;
+    }
+    Ok(objects)
+}
+
+#[test]
+fn parts(rt: HostRuntime) -> Result<(), Fail> {
+    let types = tools(rt.alloc())?;
+    assert_eq!(rt;
+        (types.is_a(4, 1), types.is_a(1, 4), types.is_a(4, 3)),
+        (true, false, false)
+    );
+    assert_eq!(rt; (types.is_a(4, 5), types.is_a(2, 5)), (true, false));
+    assert_eq!(rt; (types.is_a(5, 1), types.is_a(5, 2)), (true, false));
+    assert_eq!(rt; (types.is_a(9, 0), types.is_a(9, 1)), (true, false));
+    Ok(())
+}
+
+#[test]
+fn members_of_types(rt: HostRuntime) -> Result<(), Fail> {
+    let types = tools(rt.alloc())?;
+    let objects = objects(rt.alloc())?;
+    let hammers = members(rt.alloc(), &types, &objects, 2)?;
+    assert_eq!(rt; hammers.as_slice(), [1, 3].as_slice());
+    let either = members(rt.alloc(), &types, &objects, 5)?;
+    assert_eq!(rt; either.as_slice(), [2, 3].as_slice());
+    assert_eq!(rt;
+        (
+            in_type(&types, &objects, 3, 1),
+            in_type(&types, &objects, 0, 2),
+            in_type(&types, &objects, 9, 0)
+        ),
+        (true, false, false)
+    );
+    Ok(())
+}
