@@ -36,9 +36,6 @@ pub fn name_of(names: &mut NameTable, word: &[u8]) -> Result<Name, Failure>
     ensures memory { IfErr result (λ e. e ≡ Failure.Memory) }
     ensures keeps { Keeps names.old names.new }
 {
-    if names.len() >= 4294967295 {
-        return Err(Failure::Memory);
-    }
     match names.intern(word) {
         Ok(name) => Ok(name),
         Err(_) => Err(Failure::Memory),
