@@ -1,5 +1,5 @@
 use crate::reader::stop::Stop;
-use htn_base::{Name, NameTable, is_reserved};
+use htn_base::{Name, NameTable, is_name};
 
 /// Whether a word is this one, in any case of its letters.
 pub fn is_word(word: &[u8], key: &[u8]) -> bool {
@@ -22,21 +22,15 @@ pub fn due(word: &[u8], key: &[u8]) -> Result<(), Stop> {
 
 /// The name of a word in the table, where it is put if it isn't there.
 pub fn interned(names: &mut NameTable, word: &[u8]) -> Result<Name, Stop> {
-    if names.len() >= 4294967295 {
-        return Err(Stop::Memory);
-    }
     Ok(names.intern(word)?)
 }
 
 /// The name of a word that may be a name.
 pub fn name_of(names: &mut NameTable, word: &[u8]) -> Result<Name, Stop> {
-    if matches!(word.first(), None | Some(b'?' | b':')) {
-        return Err(Stop::NotOfForm);
-    }
-    let name = interned(names, word)?;
-    match names.text(name) {
-        Some(folded) if !is_reserved(folded) => Ok(name),
-        _ => Err(Stop::NotOfForm),
+    if is_name(word) {
+        interned(names, word)
+    } else {
+        Err(Stop::NotOfForm)
     }
 }
 
