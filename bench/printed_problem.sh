@@ -21,11 +21,11 @@ mod checks;
 mod reader;
 
 use crate::checks::compiled;
+use crate::reader::hddl;
 use htn_base::Memory;
 use outside_io::{DiskFiles, Files};
 use plan_model::{Checks, Compiled, Style};
 use problem_texts::texts_of;
-use crate::reader::hddl;
 use slot_encoder::sizes;
 use std::alloc::Global;
 use std::{env, io};

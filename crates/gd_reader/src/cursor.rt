@@ -11,7 +11,7 @@ use sexpr_text::{Kind, Sexprs};
 
 /// What stands at a token, with its offset: a word, or a list with the numbers of the token that comes first
 /// in it and of the one behind it.
-#[derive(Clone, Copy, Debug)]
+#[derive(Clone, Copy)]
 pub enum Item<'a> {
     End,
     Close(u32),

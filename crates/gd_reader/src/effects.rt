@@ -16,7 +16,7 @@ use sexpr_text::Sexprs;
 use std::alloc::Global;
 
 /// An effect as it is written. An increase is the empty effect.
-#[derive(Debug, Drop)]
+#[derive(Drop)]
 pub enum RawEffect {
     Add(RawAtom),
     Delete(RawAtom),

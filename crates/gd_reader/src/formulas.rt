@@ -15,7 +15,7 @@ use sexpr_text::Sexprs;
 use std::alloc::Global;
 
 /// A formula as it is written.
-#[derive(Debug, Drop)]
+#[derive(Drop)]
 pub enum RawFormula {
     Holds(RawAtom),
     Equal(RawTerm, RawTerm),

@@ -11,8 +11,8 @@ use crate::cursor::{Item, item_at, word_due, word_or_end};
 use crate::stop::{Failure, Stop};
 use crate::term::{RawTerm, name_of, see, used_of};
 use crate::typed_lists::{ListKind, are_variables};
-use crate::words::{Sort, is_either, is_reserved, sort_of};
-use htn_base::{List, Memory, NameTable};
+use crate::words::{Sort, is_either, sort_of};
+use htn_base::{List, Memory, NameTable, is_reserved_in_any_case};
 use sexpr_text::Sexprs;
 use std::alloc::Global;
 
@@ -57,7 +57,7 @@ fn type_of(
         }
         Sort::Variable => Err(Failure::At(Stop::Departs(8, at))),
         Sort::Other => {
-            if are_types(kind) && is_reserved(word) {
+            if are_types(kind) && is_reserved_in_any_case(word) {
                 Err(Failure::At(Stop::Departs(9, at)))
             } else {
                 Err(Failure::At(Stop::Departs(8, at)))

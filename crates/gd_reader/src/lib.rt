@@ -12,8 +12,6 @@ mod kind;
 mod reading;
 mod stop;
 mod term;
-#[cfg(test)]
-mod tests;
 mod typed_lists;
 mod words;
 

@@ -22,7 +22,7 @@ use sexpr_text::{ReadError, Sexprs};
 use std::alloc::Global;
 
 /// What was read, and the number of the token where reading goes on.
-#[derive(Debug, Drop)]
+#[derive(Drop)]
 pub struct Got<T> {
     pub value: T,
     pub next: u32,

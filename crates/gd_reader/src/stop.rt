@@ -1,12 +1,12 @@
 /// Where reading stops: the tokens end too early, or a token departs, with its code and offset.
-#[derive(Clone, Copy, Debug, PartialEq, Eq)]
+#[derive(Clone, Copy)]
 pub enum Stop {
     Ends,
     Departs(u16, u32),
 }
 
 /// Why a part isn't read.
-#[derive(Clone, Copy, Debug, PartialEq, Eq)]
+#[derive(Clone, Copy)]
 pub enum Failure {
     Memory,
     At(Stop),

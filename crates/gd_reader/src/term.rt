@@ -14,7 +14,7 @@ use sexpr_text::Sexprs;
 use std::alloc::Global;
 
 /// A variable or a name, and the offset of its word. The name of a variable is without its question mark.
-#[derive(Clone, Copy, Debug, PartialEq, Eq)]
+#[derive(Clone, Copy)]
 pub struct RawTerm {
     pub name: Name,
     pub variable: bool,
@@ -22,7 +22,7 @@ pub struct RawTerm {
 }
 
 /// A name and the terms to which it is applied.
-#[derive(Debug, Drop)]
+#[derive(Drop)]
 pub struct RawAtom {
     pub head: RawTerm,
     pub args: List<RawTerm>,
@@ -36,9 +36,6 @@ pub fn name_of(names: &mut NameTable, word: &[u8]) -> Result<Name, Failure>
     ensures memory { IfErr result (λ e. e ≡ Failure.Memory) }
     ensures keeps { Keeps names.old names.new }
 {
-    if names.len() >= 4294967295 {
-        return Err(Failure::Memory);
-    }
     match names.intern(word) {
         Ok(name) => Ok(name),
         Err(_) => Err(Failure::Memory),

@@ -10,14 +10,14 @@ use crate::cursor::word_or_end;
 use crate::kind::kind_of;
 use crate::stop::{Failure, Stop};
 use crate::term::{RawTerm, name_of, see};
-use crate::words::{Sort, is_hyphen, is_reserved, rest, sort_of};
-use htn_base::{List, Memory, Name, NameTable};
+use crate::words::{Sort, is_hyphen, rest, sort_of};
+use htn_base::{List, Memory, Name, NameTable, is_reserved_in_any_case};
 use sexpr_text::Sexprs;
 use std::alloc::Global;
 
 /// A declared word with its offset, and its types: none where none is written, more than one where they make
 /// a union. The name of a variable is without its question mark.
-#[derive(Debug, Drop)]
+#[derive(Drop)]
 pub struct RawParam {
     pub name: Name,
     pub ty: List<RawTerm>,
@@ -26,7 +26,7 @@ pub struct RawParam {
 
 /// What a typed list declares: parameters, each a new one; variables of a predicate; objects; or types, whose
 /// types are their parents.
-#[derive(Clone, Copy, Debug, PartialEq, Eq)]
+#[derive(Clone, Copy)]
 pub enum ListKind {
     Parameters,
     Predicate,
@@ -86,7 +86,7 @@ fn variable_of(
     ensures keeps { Keeps names.old names.new }
     ensures gives { Gives (λ x. (x, (names.new, seen.new))) result (variable_by once (names.old, seen.old) at (folded word.now)) }
 {
-    if is_reserved(word) {
+    if is_reserved_in_any_case(word) {
         return Err(Failure::At(Stop::Departs(9, at)));
     }
     let known = see(seen, word)?;
@@ -133,7 +133,7 @@ fn param_of(
         Sort::Other => {
             if variables {
                 Err(Failure::At(Stop::Departs(8, at)))
-            } else if is_reserved(word) {
+            } else if is_reserved_in_any_case(word) {
                 Err(Failure::At(Stop::Departs(9, at)))
             } else {
                 Err(Failure::At(Stop::Departs(8, at)))
@@ -190,6 +190,7 @@ pub fn params_of(
         if is_hyphen_due(&pending, word) {
             let (ty, next) = kind_of(alloc, s, behind, kind, names)?;
             settle(alloc, &mut done, &pending, &ty)?;
+            drop(ty);
             pending = List::new(alloc);
             i = next;
         } else {
@@ -198,6 +199,7 @@ pub fn params_of(
             i = behind;
         }
     }
+    drop(seen);
     let none = List::new(alloc);
     settle(alloc, &mut done, &pending, &none)?;
     Ok((done, i))

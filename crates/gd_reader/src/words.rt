@@ -1,11 +1,12 @@
-ghost use Rattle.std.specs.Prelude.{◌≡◌, ◌||◌, drop, codes};
+ghost use Rattle.std.specs.Prelude.{◌≡◌, drop};
 ghost use Rattle.std.specs.Str.{bytes_eq};
-ghost use Rattle.htn_base.specs.Words as base;
 ghost use Rattle.htn_base.specs.Words.{folded};
 ghost use Rattle.gd_reader.specs.Words.{head_of, effect_head_of, sort_of, sort_of_one, sort_of_more, is_hyphen, is_either};
 
+use htn_base::is_reserved_in_any_case;
+
 /// What a word begins at the front of a formula.
-#[derive(Clone, Copy, Debug, PartialEq, Eq)]
+#[derive(Clone, Copy)]
 pub enum Head {
     And,
     Or,
@@ -19,7 +20,7 @@ pub enum Head {
 }
 
 /// What a word begins at the front of an effect.
-#[derive(Clone, Copy, Debug, PartialEq, Eq)]
+#[derive(Clone, Copy)]
 pub enum EffectHead {
     And,
     Forall,
@@ -31,7 +32,7 @@ pub enum EffectHead {
 }
 
 /// What a word is by its letters.
-#[derive(Clone, Copy, Debug, PartialEq, Eq)]
+#[derive(Clone, Copy, PartialEq)]
 pub enum Sort {
     Variable,
     Name,
@@ -45,41 +46,12 @@ pub fn is_word(word: &[u8], key: &[u8]) -> bool
     word.eq_ignore_ascii_case(key)
 }
 
-/// Whether a word is reserved, in any case of its letters.
-pub fn is_reserved(word: &[u8]) -> bool
-    ensures reserved { result ≡ base.is_reserved (folded word.now) }
-{
-    is_sign(word) || is_connective(word) || is_clause(word)
-}
-
-fn is_sign(w: &[u8]) -> bool
-    ensures { result ≡ (let v = folded w.now in bytes_eq v (codes "-") || bytes_eq v (codes "->") || bytes_eq v (codes "=") || bytes_eq v (codes "<")) }
-{
-    is_word(w, b"-") || is_word(w, b"->") || is_word(w, b"=") || is_word(w, b"<")
-}
-
-fn is_connective(w: &[u8]) -> bool
-    ensures { result ≡ (let v = folded w.now in bytes_eq v (codes "and") || bytes_eq v (codes "or") || bytes_eq v (codes "not") || bytes_eq v (codes "imply")) }
-{
-    is_word(w, b"and") || is_word(w, b"or") || is_word(w, b"not") || is_word(w, b"imply")
-}
-
-fn is_clause(w: &[u8]) -> bool
-    ensures { result ≡ (let v = folded w.now in bytes_eq v (codes "forall") || bytes_eq v (codes "exists") || bytes_eq v (codes "when") || bytes_eq v (codes "increase") || bytes_eq v (codes "either")) }
-{
-    is_word(w, b"forall")
-        || is_word(w, b"exists")
-        || is_word(w, b"when")
-        || is_word(w, b"increase")
-        || is_word(w, b"either")
-}
-
 /// The sort of a word, in any case of its letters.
 #[tactic(auto, using(crate::proofs::Sorts::sort_len0, crate::proofs::Sorts::sort_len1, crate::proofs::Sorts::sort_len2))]
 pub fn sort_of(w: &[u8]) -> Sort
     ensures sort { result ≡ sort_of (folded w.now) }
 {
-    let reserved = is_reserved(w);
+    let reserved = is_reserved_in_any_case(w);
     match w {
         [] => Sort::Other,
         [b] => sort_of_one(b.to_ascii_lowercase(), reserved),

@@ -11,7 +11,7 @@ use htn_base::Memory;
 use method_precs::compile;
 use net_order::{Order, OrderError};
 use plan_model::{Checks, Compiled, Hddl, MethodSchema, Pair};
-use row_reader::are_listed;
+use crate::reader::are_listed;
 use std::alloc::Global;
 
 /// The compiled problem, or `None` where a network has a cycle or is too large, or the types aren't listed.

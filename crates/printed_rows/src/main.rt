@@ -8,6 +8,7 @@
 #![tactic(auto)]
 
 mod checks;
+mod reader;
 mod rows;
 mod running;
 

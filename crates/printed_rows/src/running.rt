@@ -9,7 +9,7 @@ use outside_io::{DiskFiles, Files, GetError};
 use pddl_printer::{print_domain, print_problem};
 use plan_model::{Checks, Compiled, Style};
 use problem_texts::{Texts, texts_of};
-use row_reader::hddl;
+use crate::reader::hddl;
 use slot_encoder::{Sizes, encode, sizes};
 use std::alloc::{AllocError, Global};
 use std::io::{self, Write};

@@ -3,7 +3,7 @@ ghost use Rattle.text_forms.specs.Bytes.{class_of, class_in, comment_after};
 ghost use Rattle.sexpr_text.specs.Seen.{class_seen};
 
 /// What a byte is where it stands. A comment is blank.
-#[derive(Clone, Copy, Debug, PartialEq, Eq)]
+#[derive(Clone, Copy)]
 pub enum Class {
     Blank,
     Opening,

@@ -12,8 +12,6 @@ mod faults;
 mod marks;
 mod read_error;
 mod sexprs;
-#[cfg(test)]
-mod tests;
 mod tokens;
 
 pub use read_error::ReadError;

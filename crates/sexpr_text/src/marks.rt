@@ -16,7 +16,7 @@ use std::alloc::Global;
 pub const EACH: u32 = 8;
 
 /// A place from which on the tokens from some number on stand, and how many lists are open there.
-#[derive(Clone, Copy, Debug)]
+#[derive(Clone, Copy)]
 pub struct Place {
     pub at: u32,
     pub depth: u32,

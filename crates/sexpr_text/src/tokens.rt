@@ -7,7 +7,7 @@ use crate::ends::{blank_end, word_end};
 use htn_base::Span;
 
 /// A parenthesis that opens a list, one that closes a list, or a word.
-#[derive(Clone, Copy, Debug, PartialEq, Eq)]
+#[derive(Clone, Copy, PartialEq)]
 pub enum Kind {
     Start,
     Stop,
@@ -16,7 +16,7 @@ pub enum Kind {
 
 /// A token: its kind, its bytes, and where they stand in the source. The word of a parenthesis is the
 /// parenthesis. Letters are as the source has them.
-#[derive(Clone, Copy, Debug, PartialEq, Eq)]
+#[derive(Clone, Copy)]
 pub struct Token<'a> {
     pub kind: Kind,
     pub word: &'a [u8],
@@ -24,7 +24,7 @@ pub struct Token<'a> {
 }
 
 /// A token without its bytes.
-#[derive(Clone, Copy, Debug)]
+#[derive(Clone, Copy)]
 pub struct Piece {
     pub kind: Kind,
     pub span: Span,
