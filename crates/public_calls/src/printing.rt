@@ -22,7 +22,12 @@ const SLOTS: Range = Range {
 fn domain(rt: HostRuntime) -> Result<(), Fail> {
     let mut text = Text::new(rt.alloc());
     print_domain(&value(rt.alloc())?, &mut text)?;
-    assert!(rt; text == domain_page(rt.alloc(), " (:action go :parameters (?h - slot) :precondition (and (forall (?x - slot) (not (before ?x ?h))) (forall (?x - slot) (free ?x)) (forall (?x - object) (free ?x)) (or (imply (free ?h) (not (= ?h a))) (exists (?x - slot) (free ?x)))) :effect (and (forall (?x - slot) (not (before ?h ?x))) (forall (?x - slot) (when (before ?x ?h) (free ?x))) (forall (?x - slot) (free ?x))))")?);
+    assert!(rt;
+        text == domain_page(
+            rt.alloc(),
+            " (:action go :parameters (?h - slot) :precondition (and (forall (?x - slot) (not (before ?x ?h))) (forall (?x - slot) (free ?x)) (forall (?x - object) (free ?x)) (or (imply (free ?h) (not (= ?h a))) (exists (?x - slot) (free ?x)))) :effect (and (forall (?x - slot) (not (before ?h ?x))) (forall (?x - slot) (when (before ?x ?h) (free ?x))) (forall (?x - slot) (free ?x))))"
+        )?
+    );
     Ok(())
 }
 
@@ -30,7 +35,12 @@ fn domain(rt: HostRuntime) -> Result<(), Fail> {
 fn domain_written_out(rt: HostRuntime) -> Result<(), Fail> {
     let mut text = Text::new(rt.alloc());
     print_written_out_domain(&value(rt.alloc())?, &SLOTS, &mut text)?;
-    assert!(rt; text == domain_page(rt.alloc(), " (:action go :parameters (?h - slot) :precondition (and (not (before b ?h)) (not (before c ?h)) (free b) (free c) (forall (?x - object) (free ?x)) (or (imply (free ?h) (not (= ?h a))) (exists (?x - slot) (free ?x)))) :effect (and (not (before ?h b)) (not (before ?h c)) (when (before b ?h) (free b)) (when (before c ?h) (free c)) (forall (?x - slot) (free ?x))))")?);
+    assert!(rt;
+        text == domain_page(
+            rt.alloc(),
+            " (:action go :parameters (?h - slot) :precondition (and (not (before b ?h)) (not (before c ?h)) (free b) (free c) (forall (?x - object) (free ?x)) (or (imply (free ?h) (not (= ?h a))) (exists (?x - slot) (free ?x)))) :effect (and (not (before ?h b)) (not (before ?h c)) (when (before b ?h) (free b)) (when (before c ?h) (free c)) (forall (?x - slot) (free ?x))))"
+        )?
+    );
     Ok(())
 }
 
@@ -59,7 +69,9 @@ fn domain_page(alloc: Global, action: &str) -> Result<Text, Memory> {
     let mut text = Text::new(alloc);
     text.push_all(b"(define (domain w)\n (:requirements :adl)\n (:types slot - object)\n")?;
     text.push_all(b" (:constants a - object b - slot c - slot)\n")?;
-    text.push_all(b" (:predicates (before ?x - slot ?h - slot) (free ?h - (either object slot)))\n")?;
+    text.push_all(
+        b" (:predicates (before ?x - slot ?h - slot) (free ?h - (either object slot)))\n",
+    )?;
     text.push_all(action.as_bytes())?;
     text.push_all(b"\n)\n")?;
     Ok(text)
@@ -122,7 +134,13 @@ fn words(alloc: Global) -> Result<NameTable, Memory> {
 fn types(alloc: Global) -> Result<Types, Memory> {
     let unions = one(alloc, list(alloc, &[0, 1]))?;
     let names = list(alloc, &[name(2), name(3)])?;
-    let parents = list(alloc, &[Parent { child: 1, parent: 0 }])?;
+    let parents = list(
+        alloc,
+        &[Parent {
+            child: 1,
+            parent: 0,
+        }],
+    )?;
     Ok(Types {
         names,
         parents,

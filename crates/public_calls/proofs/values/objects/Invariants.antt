@@ -1,5 +1,5 @@
 use Rattle.std.proofs.Common.{◌≡◌, ◌+◌, length}
-use Rattle.public_calls.proofs.plan_model.objects.Given as goal
+use Rattle.public_calls.proofs.values.objects.Given as goal
 
 abbrev pub invariant-loop-ty : goal.invariant-loop-ty
 invariant-loop-ty l = length l.objects + 1 ≡ l.ty

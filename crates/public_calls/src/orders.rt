@@ -97,6 +97,9 @@ fn sets(rt: HostRuntime) -> Result<(), Fail> {
     let mut set = ChildSet::new(rt.alloc(), 70)?;
     set.insert(65);
     let copy = set.copy(rt.alloc())?;
-    assert_eq!(rt; (copy.len(), copy.contains(65), copy.contains(1)), (70, true, false));
+    assert_eq!(rt;
+        (copy.len(), copy.contains(65), copy.contains(1)),
+        (70, true, false)
+    );
     Ok(())
 }

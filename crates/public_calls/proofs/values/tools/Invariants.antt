@@ -1,9 +1,9 @@
 use Rattle.std.proofs.Common.{◌≡◌, length}
 use Rattle.plan_model.specs.Parts.{AreListedParents}
-use Rattle.public_calls.proofs.method_precs.samples.types.Given as goal
+use Rattle.public_calls.proofs.values.tools.Given as goal
 
 abbrev pub invariant-loop-number : goal.invariant-loop-number
 invariant-loop-number l = record {
   names : length l.names ≡ l.number;
-  parents : AreListedParents l.count l.parents;
+  parents : AreListedParents 5 l.parents;
 }

@@ -1,5 +1,5 @@
 use Rattle.public_calls.proofs.Risings.{ordered_by_rising, small_by_rising}
-use Rattle.public_calls.proofs.method_precs.samples.compiled.Goals as goal
+use Rattle.public_calls.proofs.methods.samples.compiled.Goals as goal
 
 pub compile-requires-clause-ordered : goal.compile-requires-clause-ordered
 compile-requires-clause-ordered c = ordered_by_rising c.args.problem c.requires.top c.requires.methods

@@ -1,6 +1,8 @@
 // `outside_io`: files and sinks in memory, and on the machine.
-use outside_io::{DiskFiles, Files, GetError, MemFiles, MemSink, PutError};
-use outside_io::{Sink, StdSink, SteadyFiles, SteadySink, WriteError};
+use outside_io::{
+    DiskFiles, Files, GetError, MemFiles, MemSink, PutError, Sink, StdSink, SteadyFiles,
+    SteadySink, WriteError,
+};
 use std::alloc::Global;
 use std::process::Abort;
 use std::{env, fs};
@@ -71,7 +73,7 @@ fn a_sink_takes_a_few_bytes_at_a_time(rt: HostRuntime) {
 fn a_steady_sink_takes_a_few_bytes_at_a_time(rt: HostRuntime) {
     let mut sink = SteadySink::new(rt.alloc(), 2);
     took(&rt, &mut sink, b"abc", 2);
-    took(&rt, &mut sink, b"c", 1); 
+    took(&rt, &mut sink, b"c", 1);
     assert!(rt; sink.bytes() == b"abc".as_slice());
 }
 

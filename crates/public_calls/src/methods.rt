@@ -6,7 +6,7 @@ ghost use Rattle.public_calls.specs.Rising.{IsRising};
 
 mod samples;
 
-use crate::method_precs::samples::{
+use crate::methods::samples::{
     action, always, calls, child, children, compiled, four_types, method, one, problem, ready,
     task, types,
 };

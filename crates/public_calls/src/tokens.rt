@@ -101,7 +101,11 @@ fn is_token(
 ) {
     let token = s.token(i).expect(rt, "a token");
     assert!(rt; token.kind == kind, "at {i}");
-    assert_eq!(rt; (token.word, token.span), (word, Span { start, end }), "at {i}");
+    assert_eq!(rt;
+        (token.word, token.span),
+        (word, Span { start, end }),
+        "at {i}"
+    );
 }
 
 #[test]
