@@ -7,7 +7,7 @@ use htn_base::{List, Memory, Name};
 use std::alloc::Global;
 
 /// One written pair of a type and its parent.
-#[derive(Clone, Copy)]
+#[derive(Clone, Copy, PartialEq)]
 pub struct Parent {
     pub child: u32,
     pub parent: u32,
