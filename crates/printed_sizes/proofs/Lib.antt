@@ -28,5 +28,6 @@ pub mod GuardTypes
 pub mod HeadSizes
 -- What the code counts of methods and of the initial facts.
 pub mod MethodCounts
+pub mod SeenAtoms
 pub mod FactCounts
 pub mod KeptNumbers

@@ -12,8 +12,9 @@ use crate::scope::Scope;
 use crate::slots::free_size;
 use plan_model::{Effect, Formula};
 
-fn is_empty(condition: &Formula) -> bool
-    ensures { result ≡ encoded.is_empty condition.now }
+/// Whether a condition is the empty conjunction.
+pub fn is_empty(condition: &Formula) -> bool
+    ensures empty { result ≡ encoded.is_empty condition.now }
 {
     match condition {
         Formula::And(parts) => parts.len() == 0,
@@ -27,8 +28,9 @@ fn is_empty(condition: &Formula) -> bool
     }
 }
 
-fn is_empty_effect(effect: &Effect) -> bool
-    ensures { result ≡ encoded.is_empty_effect effect.now }
+/// Whether an effect is the empty conjunction.
+pub fn is_empty_effect(effect: &Effect) -> bool
+    ensures empty { result ≡ encoded.is_empty_effect effect.now }
 {
     match effect {
         Effect::And(parts) => parts.len() == 0,

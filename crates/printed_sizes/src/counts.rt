@@ -1,8 +1,7 @@
-ghost use Rattle.std.specs.Prelude.{◌≡◌, ◌+◌, ◌*◌, ℕ, length, decimal, IfOk};
+ghost use Rattle.std.specs.Prelude.{◌≡◌, ◌+◌, ◌*◌, ℕ, length, decimal};
 ghost use Rattle.printed_sizes.specs.Capped.{capped};
 ghost use Rattle.printed_sizes.specs.Slots as spec;
 
-use htn_base::Memory;
 use itoa::Buffer;
 
 /// The sum of two lengths.
@@ -36,14 +35,4 @@ pub(crate) fn all_digits(count: u32) -> u64
         total = plus(total, digits(1 + k));
     }
     total
-}
-
-/// A length as a number. One past 2^32 - 1 is answered as want of memory.
-pub(crate) fn number(len: usize) -> Result<u32, Memory>
-    ensures { IfOk result (λ n. n ≡ len) }
-{
-    if len > 0xffff_ffff {
-        return Err(Memory);
-    }
-    Ok(len as u32)
 }

@@ -42,8 +42,9 @@ fn push_types(guards: &[Guard], types: &mut List<u32>) -> Result<(), Memory>
 fn push_type(ty: u32, types: &mut List<u32>) -> Result<(), Memory>
     ensures { OnOk result (types.new ≡ with_type types.old ty) }
 {
-    if !types.as_slice().contains(&ty) {
-        types.push(ty)?;
+    if types.as_slice().contains(&ty) {
+        Ok(())
+    } else {
+        types.push(ty)
     }
-    Ok(())
 }

@@ -70,7 +70,7 @@ fn push_guards(c: &Compiled, types: &[u32], into: &mut List<u64>) -> Result<(), 
     ensures { OnOk result (into.new ≡ into.old ++ map (spec.guard_head c.now) types.now) }
 {
     for ty in types {
-        into.push(guard_word_size(c, *ty)?)?;
+        into.put(guard_word_size(c, *ty))?;
     }
     Ok(())
 }

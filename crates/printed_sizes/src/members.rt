@@ -7,11 +7,11 @@ ghost use Rattle.printed_sizes.specs.Capped.{capped};
 ghost use Rattle.printed_sizes.specs.Problems as spec;
 ghost use Rattle.printed_sizes.specs.Words as words;
 
-use crate::counts::{number, plus, times};
+use crate::counts::{plus, times};
 use crate::facts::arguments_size;
 use crate::frame::Frame;
 use crate::predicates::guard_word_size;
-use htn_base::{List, Memory};
+use htn_base::{List, Memory, number};
 use plan_model::{Compiled, members};
 use std::alloc::Global;
 

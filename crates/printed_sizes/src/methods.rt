@@ -8,7 +8,7 @@ ghost use Rattle.printed_sizes.specs.Works as works;
 ghost use Rattle.printed_sizes.specs.Frames.{IsFrame};
 
 use crate::conditions::condition_size;
-use crate::counts::{all_digits, number, plus, times};
+use crate::counts::{all_digits, plus, times};
 use crate::frame::Frame;
 use crate::predicate_numbers::{after, first_check, sum, task_predicate};
 use crate::predicates::guard_word_size;
@@ -19,7 +19,7 @@ use crate::terms::{term_size, terms_size};
 use crate::typed_lists::params_size;
 use crate::words::{head_size, own_size};
 use crate::works::line_size;
-use htn_base::Memory;
+use htn_base::{Memory, number};
 use plan_model::{Constraint, Guard, MethodPlan, Term};
 
 /// The length of the lines of the methods' actions.

@@ -1,8 +1,7 @@
 ghost use Rattle.std.specs.Prelude.{◌≡◌, ◌+◌, cond, IfOk};
 ghost use Rattle.slot_encoding.specs.EncodedNames as names;
 
-use crate::counts::number;
-use htn_base::Memory;
+use htn_base::{Memory, number};
 use plan_model::{Compiled, MethodPlan};
 
 /// The sum. One past 2^32 - 1 is answered as want of memory.

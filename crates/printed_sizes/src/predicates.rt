@@ -3,10 +3,10 @@ ghost use Rattle.slot_encoding.specs.EncodedNames.{guard_word, guard_types};
 ghost use Rattle.printed_sizes.specs.Capped.{capped};
 ghost use Rattle.printed_sizes.specs.Sections as spec;
 
-use crate::counts::{all_digits, digits, number, plus, times};
+use crate::counts::{all_digits, digits, plus, times};
 use crate::sections::source_predicates_size;
 use crate::words::own_size;
-use htn_base::{Memory, Name};
+use htn_base::{Memory, Name, number};
 use plan_model::{ActionSchema, Compiled, MethodPlan, TaskSchema};
 
 /// The length of the predicate of a slot that holds something with so many parameters, behind a space.

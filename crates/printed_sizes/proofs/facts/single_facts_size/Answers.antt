@@ -6,7 +6,8 @@ use Rattle.plan_meaning.specs.Compilation.{once}
 use Rattle.slot_encoding.specs.EncodedValue.{same_atom}
 use Rattle.printed_sizes.specs.Capped.{capped}
 use Rattle.printed_sizes.specs.Problems.{fact_size}
-use Rattle.printed_sizes.proofs.FactCounts.{same_key, seen_more, single_sum}
+use Rattle.printed_sizes.proofs.FactCounts.{single_sum}
+use Rattle.printed_sizes.proofs.SeenAtoms.{same_key, seen_more}
 use Rattle.printed_sizes.proofs.facts.single_facts_size.Goals as goal
 
 pub loop-atom-preserved : goal.loop-atom-preserved

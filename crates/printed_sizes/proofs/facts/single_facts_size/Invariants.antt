@@ -8,7 +8,7 @@ use Rattle.slot_encoding.specs.EncodedValue.{same_atom}
 use Rattle.printed_sizes.specs.Capped.{capped}
 use Rattle.printed_sizes.specs.Problems.{fact_size}
 use Rattle.printed_sizes.proofs.Once.{has}
-use Rattle.printed_sizes.proofs.FactCounts.{same_key}
+use Rattle.printed_sizes.proofs.SeenAtoms.{same_key}
 use Rattle.printed_sizes.proofs.facts.single_facts_size.Given as goal
 
 abbrev pub invariant-loop-atom : goal.invariant-loop-atom
