@@ -6,7 +6,7 @@ use crate::parts::Parts;
 use htn_base::{List, Name};
 
 /// One written pair of a type and its parent.
-#[derive(Clone, Copy)]
+#[derive(Clone, Copy, PartialEq)]
 pub struct Parent {
     pub child: u32,
     pub parent: u32,
