@@ -11,7 +11,6 @@ mod list;
 mod memory;
 mod name;
 mod text;
-mod try_clone;
 mod words;
 
 pub use boxed::Boxed;
@@ -21,7 +20,6 @@ pub use list::List;
 pub use memory::Memory;
 pub use name::{Name, NameTable};
 pub use text::Text;
-pub use try_clone::TryClone;
 pub use words::{
     esc, is_name, is_plain, is_reserved, is_reserved_in_any_case, names_stay_apart, slot_name,
     slot_number,

@@ -11,29 +11,11 @@ pub enum Term {
     Obj(u32),
 }
 
-impl Term {
-    /// An equal term. It takes no memory.
-    pub fn copy(&self, _alloc: Global) -> Result<Term, Memory>
-        ensures equal { IfOk result (λ copy. copy ≡ self.now) }
-    {
-        Ok(*self)
-    }
-}
-
 /// A variable with its type.
 #[derive(Clone, Copy)]
 pub struct Param {
     pub name: Name,
     pub ty: u32,
-}
-
-impl Param {
-    /// An equal variable. It takes no memory.
-    pub fn copy(&self, _alloc: Global) -> Result<Param, Memory>
-        ensures equal { IfOk result (λ copy. copy ≡ self.now) }
-    {
-        Ok(*self)
-    }
 }
 
 /// A predicate with terms, as many as it has parameters.

@@ -3,23 +3,13 @@ ghost use Rattle.std.specs.Option.{option_copied};
 ghost use Rattle.plan_model.specs.Parts.{AreListed};
 
 use crate::parts::Parts;
-use htn_base::{List, Memory, Name};
-use std::alloc::Global;
+use htn_base::{List, Name};
 
 /// One written pair of a type and its parent.
 #[derive(Clone, Copy, PartialEq)]
 pub struct Parent {
     pub child: u32,
     pub parent: u32,
-}
-
-impl Parent {
-    /// An equal pair. It takes no memory.
-    pub fn copy(&self, _alloc: Global) -> Result<Parent, Memory>
-        ensures equal { IfOk result (λ copy. copy ≡ self.now) }
-    {
-        Ok(*self)
-    }
 }
 
 /// The types. Type 0 is `object`, of which every type is a part; the others follow in the order in which they are
@@ -57,17 +47,6 @@ impl Types {
         let place = (ty as usize).checked_sub(self.names.len())?;
         self.unions.get(place)
     }
-
-    /// An equal list of types.
-    pub fn copy(&self, alloc: Global) -> Result<Types, Memory>
-        ensures equal { IfOk result (λ copy. copy ≡ self.now) }
-    {
-        Ok(Types {
-            names: self.names.copy(alloc)?,
-            parents: self.parents.copy(alloc)?,
-            unions: self.unions.copy_each(alloc)?,
-        })
-    }
 }
 
 /// An object with its declared type; a constant is declared in the domain.
@@ -76,13 +55,4 @@ pub struct Object {
     pub name: Name,
     pub ty: u32,
     pub constant: bool,
-}
-
-impl Object {
-    /// An equal object. It takes no memory.
-    pub fn copy(&self, _alloc: Global) -> Result<Object, Memory>
-        ensures equal { IfOk result (λ copy. copy ≡ self.now) }
-    {
-        Ok(*self)
-    }
 }

@@ -1,8 +1,8 @@
 //! Each call that may want memory is made once with ample memory, and its answer compared.
 
 use htn_base::{
-    Boxed, List, Memory, NameTable, Text, TryClone, esc, is_name, is_plain, is_reserved, number,
-    slot_name, slot_number,
+    Boxed, List, Memory, NameTable, Text, esc, is_name, is_plain, is_reserved, number, slot_name,
+    slot_number,
 };
 use std::test::Fail;
 
@@ -17,18 +17,6 @@ fn lists(rt: HostRuntime) -> Result<(), Fail> {
     assert!(rt; list.put(Err(Memory)).is_err());
     assert_eq!(rt; list.as_slice(), [3, 1, 4].as_slice());
     assert_eq!(rt; Boxed::new(rt.alloc(), 7u8)?.into_inner(), 7);
-    Ok(())
-}
-
-#[test]
-fn lists_of_texts(rt: HostRuntime) -> Result<(), Fail> {
-    let mut texts = List::new(rt.alloc());
-    texts.push(Text::from_slice(rt.alloc(), b"ab")?)?;
-    assert!(rt; texts.copy_each(rt.alloc())? == texts);
-    let mut lists = List::new(rt.alloc());
-    lists.push(List::new(rt.alloc()))?;
-    lists.put(List::<u32>::new(rt.alloc()).try_clone(rt.alloc()))?;
-    assert!(rt; lists.copy_each(rt.alloc())? == lists);
     Ok(())
 }
 

@@ -3,17 +3,12 @@
 ghost use Rattle.std.specs.Prelude.{◌≡◌, ◌<◌, All, IfOk, length};
 ghost use Rattle.plan_model.specs.Parts.{AreListed};
 
-use htn_base::{Boxed, List, Memory, Name, Text};
+use htn_base::{Boxed, List, Memory, Name};
 use plan_model::{
-    ActionSchema, Atom, Child, Effect, Formula, GroundAction, GroundAtom, Head, MethodPlan,
-    MethodSchema, Object, Parent, Predicate, TaskSchema, Term, Types, in_type, members,
+    Atom, Child, Formula, GroundAtom, Head, Object, Parent, Term, Types, in_type, members,
 };
 use std::alloc::Global;
 use std::test::Fail;
-
-fn truth(alloc: Global) -> Formula {
-    Formula::And(List::new(alloc))
-}
 
 #[test]
 fn formulas(rt: HostRuntime) -> Result<(), Fail> {
@@ -21,14 +16,6 @@ fn formulas(rt: HostRuntime) -> Result<(), Fail> {
     let mut parts = List::new(rt.alloc());
     parts.push(Formula::Not(not))?;
     assert!(rt; Formula::Or(parts).copy(rt.alloc()).is_ok());
-    Ok(())
-}
-
-#[test]
-fn effects(rt: HostRuntime) -> Result<(), Fail> {
-    let none = Boxed::new(rt.alloc(), Effect::And(List::new(rt.alloc())))?;
-    let effect = Effect::When(truth(rt.alloc()), none);
-    assert!(rt; effect.copy(rt.alloc()).is_ok());
     Ok(())
 }
 
@@ -43,81 +30,13 @@ fn atoms(rt: HostRuntime) -> Result<(), Fail> {
 }
 
 #[test]
-fn schemas(rt: HostRuntime) -> Result<(), Fail> {
-    let name = Name { number: 3 };
-    let params = List::new(rt.alloc());
-    assert!(rt; Predicate { name, params }.copy(rt.alloc()).is_ok());
-    let params = List::new(rt.alloc());
-    assert!(rt; TaskSchema { name, params }.copy(rt.alloc()).is_ok());
-    let action = ActionSchema {
-        name,
-        params: List::new(rt.alloc()),
-        pre: truth(rt.alloc()),
-        eff: Effect::And(List::new(rt.alloc())),
-    };
-    assert!(rt; action.copy(rt.alloc()).is_ok());
-    Ok(())
-}
-
-fn network(alloc: Global) -> Result<List<Child>, Memory> {
-    let mut children = List::new(alloc);
-    children.push(Child {
+fn subtasks(rt: HostRuntime) -> Result<(), Fail> {
+    let child = Child {
         id: Some(Name { number: 4 }),
         head: Head::Action(5),
-        args: List::new(alloc),
-    })?;
-    Ok(children)
-}
-
-fn method(alloc: Global, children: List<Child>) -> MethodSchema {
-    MethodSchema {
-        name: Name { number: 3 },
-        params: List::new(alloc),
-        task: 6,
-        task_args: List::new(alloc),
-        pre: truth(alloc),
-        children,
-        pairs: List::new(alloc),
-        constraints: List::new(alloc),
-    }
-}
-
-#[test]
-fn methods(rt: HostRuntime) -> Result<(), Fail> {
-    let plan = MethodPlan {
-        schema: method(rt.alloc(), network(rt.alloc())?),
-        checked: true,
-        tested: false,
-        line: List::new(rt.alloc()),
-        heir: None,
-        copiers: List::new(rt.alloc()),
-        guards: List::new(rt.alloc()),
+        args: List::new(rt.alloc()),
     };
-    let copied = plan.copy(rt.alloc()).is_ok();
-    drop(plan);
-    assert!(rt; copied);
-    Ok(())
-}
-
-#[test]
-fn types(rt: HostRuntime) -> Result<(), Fail> {
-    let mut unions = List::new(rt.alloc());
-    unions.push(List::new(rt.alloc()))?;
-    let types = Types {
-        names: List::new(rt.alloc()),
-        parents: List::new(rt.alloc()),
-        unions,
-    };
-    assert!(rt; types.copy(rt.alloc()).is_ok());
-    Ok(())
-}
-
-#[test]
-fn steps(rt: HostRuntime) -> Result<(), Fail> {
-    let mut args = List::new(rt.alloc());
-    args.push(Text::from_slice(rt.alloc(), b"truck")?)?;
-    let name = Text::new(rt.alloc());
-    assert!(rt; GroundAction { name, args }.copy(rt.alloc()).is_ok());
+    assert!(rt; child.copy(rt.alloc()).is_ok());
     Ok(())
 }
 
