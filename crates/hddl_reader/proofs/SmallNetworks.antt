@@ -7,7 +7,7 @@ use Rattle.task_networks.specs.Order.{Precedes, direct, through, ArePairsOf, IsA
 use Rattle.text_forms.specs.Words.{Word}
 use Rattle.plan_texts.specs.Types.{EachIs}
 use Rattle.plan_texts.proofs.Members.{each-has, contains-has}
-use Rattle.plan_meaning.specs.Compilation.{Pairs}
+use Rattle.plan_model.specs.Pairs.{Pairs}
 use Rattle.plan_meaning.specs.Laws.{AreOrdered}
 use Rattle.plan_model.specs.Parts.{AreListed}
 use Rattle.plan_model.specs.declared.formulas.Formula.TheVariants.{And}

@@ -14,7 +14,8 @@ use Rattle.task_networks.proofs.Different.{no_more}
 use Rattle.plan_model.specs.declared.networks.Pair.{Pair}
 use Rattle.plan_model.specs.declared.schemas.MethodSchema.{MethodSchema}
 use Rattle.plan_model.specs.declared.values.Hddl.{Hddl}
-use Rattle.plan_meaning.specs.Compilation.{pair, same_pair, once, pairs, children, Pairs}
+use Rattle.plan_meaning.specs.Compilation.{same_pair, once, pairs, children}
+use Rattle.plan_model.specs.Pairs.{pair, Pairs}
 use Rattle.plan_meaning.specs.Laws.{AreOrdered}
 use Rattle.plan_meaning.proofs.Pairs.{pairs_within, pairs_acyclic}
 use Rattle.net_order.specs.Meaning.{AreBelow}

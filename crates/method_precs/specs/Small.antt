@@ -3,7 +3,7 @@ use Rattle.std.specs.Prelude.{◌≤◌, ◌<◌, ◌^◌, ◌∷◌, length, Co
 use Rattle.task_networks.specs.Order.{ArePairsOf, IsAcyclic}
 use Rattle.plan_model.specs.declared.schemas.MethodSchema.{MethodSchema}
 use Rattle.plan_model.specs.declared.values.Hddl.{Hddl}
-use Rattle.plan_meaning.specs.Compilation.{Pairs}
+use Rattle.plan_model.specs.Pairs.{Pairs}
 
 -- no network has more than 4,096 subtasks
 abbrev pub AreSmall : Hddl → Type 0
