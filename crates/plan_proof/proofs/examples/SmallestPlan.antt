@@ -23,8 +23,8 @@ use Rattle.plan_texts.proofs.SmallestRow.{h, x, wait, held, turned, freed, all_f
 use Rattle.plan_texts.proofs.SmallestPrintable.{smallest_printable}
 use Rattle.plan_proof.specs.TextPlans.{IsPlanOf}
 use Rattle.plan_texts.proofs.Members.{contains-has}
-use Rattle.plan_proof.proofs.texts.Truths.{truth_roll}
-use Rattle.plan_proof.proofs.texts.Changes.{adds_roll}
+use Rattle.plan_meaning.proofs.TruthEquations.{truth_roll}
+use Rattle.plan_meaning.proofs.EffectEquations.{adds_roll}
 
 abbrev T : ℕ → ℕ → Type 0
 T = InTypeOf smallest
