@@ -9,7 +9,7 @@ use Rattle.plan_texts.specs.Types.{EachIs}
 use Rattle.plan_texts.specs.SoundProblem.{all_methods, IsShort, IsSmallNetwork, IsSoundNetwork, IsWithinLimits, IsSoundProblem}
 use Rattle.plan_texts.proofs.Members.{contains-has}
 use Rattle.plan_texts.proofs.SoundProblems.{each-more, each-contains}
-use Rattle.plan_meaning.specs.Compilation.{Pairs}
+use Rattle.plan_model.specs.Pairs.{Pairs}
 use Rattle.plan_meaning.specs.Laws.{AreOrdered}
 use Rattle.plan_model.specs.declared.formulas.Formula.TheVariants.{And}
 use Rattle.plan_model.specs.declared.networks.Head.{Head}

@@ -16,7 +16,8 @@ use Rattle.plan_model.specs.declared.schemas.MethodSchema.{MethodSchema}
 use Rattle.plan_model.specs.declared.values.Hddl.{Hddl}
 use Rattle.plan_texts.specs.SoundProblem.{HasSmallNetworks}
 use Rattle.plan_texts.proofs.SoundProblems.{small_network}
-use Rattle.plan_meaning.specs.Compilation.{pair, same_pair, once, pairs, children, Pairs}
+use Rattle.plan_meaning.specs.Compilation.{same_pair, once, pairs, children}
+use Rattle.plan_model.specs.Pairs.{pair, Pairs}
 use Rattle.plan_meaning.specs.Laws.{AreOrdered}
 use Rattle.plan_meaning.proofs.Pairs.{pairs_within, pairs_acyclic}
 use Rattle.net_order.specs.Meaning.{AreBelow}

@@ -3,7 +3,8 @@ use Rattle.std.specs.Prelude.{ℕ, ◌≡◌, ◌≢◌, ◌<◌, ◌↔◌, Boo
 use Rattle.std.specs.List.Sorted.{IsStrictlyIncreasing}
 use Rattle.task_networks.specs.Order.{IsLine, IsMaximal}
 use Rattle.plan_model.specs.declared.networks.Pair.{Pair}
-use Rattle.plan_meaning.specs.Compilation.{Pairs, last_of}
+use Rattle.plan_meaning.specs.Compilation.{last_of}
+use Rattle.plan_model.specs.Pairs.{Pairs}
 use Rattle.method_precs.specs.declared.orders.Ordered.{Ordered}
 
 abbrev pub IsCopier : (ℕ → Bool) → Option ℕ → ℕ → Type 0

@@ -1,7 +1,7 @@
 ghost use Rattle.std.specs.Prelude.{◌≡◌, ◌≢◌, ◌≤◌, ◌<◌, ◌^◌, ◌↔◌, ℕ, Some, Contains, IsTrue, IfOk, length};
 ghost use Rattle.std.specs.List.Sorted.{IsStrictlyIncreasing};
 ghost use Rattle.task_networks.specs.Order.{IsAcyclic, IsMaximal};
-ghost use Rattle.plan_meaning.specs.Compilation.{Pairs};
+ghost use Rattle.plan_model.specs.Pairs.{Pairs};
 ghost use Rattle.net_order.specs.Meaning.{AreBelow, IsOrderOf};
 ghost use Rattle.net_order.specs.Answers.{maximal};
 ghost use Rattle.method_precs.specs.Ordered.{AreCopiers, IsCopier, IsOrdered};

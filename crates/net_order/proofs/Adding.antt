@@ -6,7 +6,8 @@ use Rattle.std.proofs.lemmas.Bool.{cases_eq}
 use Rattle.plan_model.specs.declared.networks.Pair.{Pair}
 use Rattle.task_networks.proofs.Lists.{not-in_empty}
 use Rattle.net_order.specs.Marks.{has, marked, Marked, IsSquare}
-use Rattle.net_order.specs.Meaning.{pair, Pairs, AreBelow}
+use Rattle.net_order.specs.Meaning.{AreBelow}
+use Rattle.plan_model.specs.Pairs.{pair, Pairs}
 use Rattle.net_order.specs.Closure.{IsAdded}
 use Rattle.net_order.proofs.Chains.{among_push, among_cases}
 use Rattle.net_order.proofs.Closures.{has_added}

@@ -4,7 +4,8 @@ use Rattle.std.proofs.lemmas.List.Elements.{Contains-append_left, Contains-push,
 use Rattle.plan_model.specs.declared.networks.Pair.{Pair}
 use Rattle.task_networks.specs.Order.{Precedes, direct, through, IsAcyclic, ArePairsOf, Closes}
 use Rattle.task_networks.proofs.Orders.{precedes_then}
-use Rattle.net_order.specs.Meaning.{pair, Pairs, AreBelow}
+use Rattle.net_order.specs.Meaning.{AreBelow}
+use Rattle.plan_model.specs.Pairs.{pair, Pairs}
 
 -- chains of pairs that are among others
 pub chain_map : {P Q : ℕ → ℕ → Type 0} → ((i j : ℕ) → P i j → Precedes Q i j) → (i j : ℕ) → Precedes P i j → Precedes Q i j

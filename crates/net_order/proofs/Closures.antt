@@ -7,7 +7,8 @@ use Rattle.task_networks.specs.Order.{Precedes, direct, through, IsAcyclic, Clos
 use Rattle.task_networks.proofs.Lists.{by_push, not-in_empty}
 use Rattle.task_networks.proofs.Orders.{last_pair}
 use Rattle.net_order.specs.Marks.{has, marked, Marked, IsSquare}
-use Rattle.net_order.specs.Meaning.{pair, Pairs, AreBelow}
+use Rattle.net_order.specs.Meaning.{AreBelow}
+use Rattle.plan_model.specs.Pairs.{pair, Pairs}
 use Rattle.net_order.proofs.Chains.{wider, chain_cases, chain_by_last, acyclic_push, cyclic_push, acyclic_fewer, ByLast}
 
 -- the set of what precedes i, and i itself

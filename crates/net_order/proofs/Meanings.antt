@@ -8,7 +8,8 @@ use Rattle.task_networks.specs.Order.{Precedes, direct, through, ArePairsOf, IsN
 use Rattle.task_networks.proofs.Orders.{precedes_within}
 use Rattle.task_networks.proofs.Lists.{last_cases}
 use Rattle.net_order.specs.Marks.{has, marked, Marked, IsSquare, IsMarkedLast, IsMarkedCut}
-use Rattle.net_order.specs.Meaning.{pair, Pairs, AreBelow, IsOrderOf}
+use Rattle.net_order.specs.Meaning.{AreBelow, IsOrderOf}
+use Rattle.plan_model.specs.Pairs.{pair, Pairs}
 use Rattle.net_order.specs.Closure.{IsClosure, AreFirsts}
 use Rattle.net_order.proofs.Chains.{chain_map, pairs_of}
 use Rattle.net_order.proofs.Whole as whole

@@ -5,7 +5,7 @@ use Rattle.plan_model.specs.declared.networks.Pair.{Pair}
 use Rattle.task_networks.specs.Order.{Precedes, direct, IsAcyclic, ArePairsOf, IsLine}
 use Rattle.net_order.specs.Marks.{marked, Marked, IsSquare}
 use Rattle.net_order.specs.Line.{IsGreedy, IsClosed}
-use Rattle.net_order.specs.Meaning.{Pairs}
+use Rattle.plan_model.specs.Pairs.{Pairs}
 use Rattle.net_order.proofs.Adding.{added_none}
 use Rattle.net_order.specs.Closure.{IsClosure, IsAdded, IsDirect}
 use Rattle.net_order.proofs.Chains.{chain_map}

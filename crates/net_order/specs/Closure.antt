@@ -3,7 +3,7 @@ use Rattle.std.specs.Prelude.{ℕ, ◌≡◌, ◌<◌, ◌↔◌, ◌⊎◌, IsT
 use Rattle.plan_model.specs.declared.networks.Pair.{Pair}
 use Rattle.task_networks.specs.Order.{Precedes, IsAcyclic}
 use Rattle.net_order.specs.Marks.{has, Marked, IsSquare}
-use Rattle.net_order.specs.Meaning.{Pairs}
+use Rattle.plan_model.specs.Pairs.{Pairs}
 
 -- the marked ones of each child are those that precede it, and no child precedes itself
 pub record IsClosure (count : ℕ) (pairs : List Pair) (before : List (List Bool)) : Type 0 where

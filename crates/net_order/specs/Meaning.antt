@@ -2,17 +2,11 @@
 -- Source: Höller et al., "HDDL", AAAI 2020, ordering constraints of a task network: the written pairs generate the order.
 use Rattle.std.specs.Prelude.{ℕ, ◌≡◌, ◌<◌, ◌≤◌, ◌↔◌, IsTrue, List, MatchOption, All}
 use Rattle.plan_model.specs.declared.networks.Pair.{Pair}
-use Rattle.task_networks.specs.Order.{Precedes, IsAcyclic, IsLine, IsHeir, IsLast, IsMaximal, IsCut, Among, IsFirstClosing}
+use Rattle.plan_model.specs.Pairs.{pair, Pairs}
+use Rattle.task_networks.specs.Order.{Precedes, IsAcyclic, IsLine, IsHeir, IsLast, IsMaximal, IsCut, IsFirstClosing}
 use Rattle.net_order.specs.declared.order.OrderError.{OrderError}
 use Rattle.net_order.specs.declared.order.OrderError.TheVariants.{Cycle, Memory}
 use Rattle.net_order.specs.Answers.{Answers, precedes, heir, maximal, cut}
-
-abbrev pub pair : ℕ → ℕ → Pair
-pair i j = record { first = i; then = j }
-
--- the pairs of a list
-abbrev pub Pairs : List Pair → ℕ → ℕ → Type 0
-Pairs pairs = Among pair pairs
 
 -- the answers are those of the order that the pairs generate on so many children
 pub record IsOrderOf (count : ℕ) (pairs : List Pair) (order : Answers) : Type 0 where

@@ -1,6 +1,7 @@
 ghost use Rattle.std.specs.Prelude.{◌<◌, ◌^◌, ◌↔◌, length, IsTrue, IfOk};
 ghost use Rattle.task_networks.specs.Order.{IsAcyclic, IsFirstClosing};
-ghost use Rattle.net_order.specs.Meaning.{pair, Pairs, AreBelow};
+ghost use Rattle.net_order.specs.Meaning.{AreBelow};
+ghost use Rattle.plan_model.specs.Pairs.{pair, Pairs};
 
 use crate::direct::direct_sets;
 use crate::walk::is_acyclic;

@@ -13,7 +13,8 @@ use Rattle.plan_model.specs.declared.values.Hddl.{Hddl}
 use Rattle.plan_model.specs.declared.values.Compiled.{Compiled}
 use Rattle.plan_meaning.specs.Network.{GroundMethod, network, child_of}
 use Rattle.plan_meaning.proofs.MethodParts.{works_by, heir_by, IsPairBy, IsCopierBy}
-use Rattle.plan_meaning.specs.Compilation.{pair, Pairs, last_of, IsMethodPlan, AreMethodPlans, IsCompiled}
+use Rattle.plan_meaning.specs.Compilation.{last_of, IsMethodPlan, AreMethodPlans, IsCompiled}
+use Rattle.plan_model.specs.Pairs.{pair, Pairs}
 use Rattle.plan_meaning.specs.Laws.{AreOrdered}
 use Rattle.plan_meaning.proofs.Pairs.{pairs_within, pairs_acyclic}
 

@@ -29,10 +29,10 @@ module _ (InType : ℕ → ℕ → Type 0) (S : State) where
   deletes_natural X v k (Effect-F.Forall ps e) = refl
   deletes_natural X v k (Effect-F.When f e) = refl
 
-  adds_roll : (x : Effect-F Effect) → Adds InType S (roll-Effect x) ≡ adds_step InType S (Adds InType S) x
+  pub adds_roll : (x : Effect-F Effect) → Adds InType S (roll-Effect x) ≡ adds_step InType S (Adds InType S) x
   adds_roll x = rec-roll-Effect (List ℕ → GroundAtom → Type 0) (λ X v k layer. adds_step InType S k layer) adds_natural x
 
-  deletes_roll : (x : Effect-F Effect) → Deletes InType S (roll-Effect x) ≡ deletes_step InType S (Deletes InType S) x
+  pub deletes_roll : (x : Effect-F Effect) → Deletes InType S (roll-Effect x) ≡ deletes_step InType S (Deletes InType S) x
   deletes_roll x = rec-roll-Effect (List ℕ → GroundAtom → Type 0) (λ X v k layer. deletes_step InType S k layer) deletes_natural x
 
   pub adds-Add : (a : Atom) → Adds InType S (Add a) ≡ (λ values g. g ≡ ground values a)

@@ -2,7 +2,8 @@
 use Rattle.std.specs.Prelude.{ℕ, MatchOption, List, [], Option, Contains}
 use Rattle.std.specs.Option.{option_map_or, option_and_then}
 use Rattle.plan_model.specs.declared.schemas.MethodPlan.{MethodPlan}
-use Rattle.plan_meaning.specs.Network.{Work, GroundMethod, task, decomposed, subtasks_of, IsPairIn}
+use Rattle.plan_model.specs.Pairs.{Pairs}
+use Rattle.plan_meaning.specs.Network.{Work, GroundMethod, task, decomposed, subtasks_of}
 use Rattle.plan_meaning.specs.Schemas.{Schema, subschemas_of}
 use Rattle.plan_meaning.specs.Schemas as Schemas
 
@@ -16,7 +17,7 @@ abbrev pub heir_by : Option MethodPlan → Option ℕ
 heir_by o = option_and_then (λ plan. plan.heir) o
 
 abbrev pub IsPairBy : Option MethodPlan → ℕ → ℕ → Type 0
-IsPairBy o i j = MatchOption o ⊥ (λ plan. IsPairIn plan i j)
+IsPairBy o i j = MatchOption o ⊥ (λ plan. Pairs plan.schema.pairs i j)
 
 abbrev pub IsCopierBy : Option MethodPlan → ℕ → Type 0
 IsCopierBy o i = MatchOption o ⊥ (λ plan. Contains plan.copiers i)

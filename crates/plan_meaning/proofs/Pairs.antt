@@ -8,7 +8,8 @@ use Rattle.task_networks.proofs.Filters.{filter_to, to_filter}
 use Rattle.task_networks.proofs.Numbers.{numbers_to}
 use Rattle.plan_model.specs.declared.networks.Pair.{Pair}
 use Rattle.plan_model.specs.declared.schemas.MethodSchema.{MethodSchema}
-use Rattle.plan_meaning.specs.Compilation.{pair, same_pair, once, pairs, children, Pairs}
+use Rattle.plan_meaning.specs.Compilation.{same_pair, once, pairs, children}
+use Rattle.plan_model.specs.Pairs.{pair, Pairs}
 
 -- an item of a list of single ones is an item of the list
 pub once_to : {A : Type 0} (same : A → A → Bool) (xs : List A) (x : A) → Contains (once same xs) x → Contains xs x

@@ -4,7 +4,8 @@ use Rattle.std.specs.Prelude.{ℕ, suc, ◌≡◌, ◌↔◌, slice_get, Some}
 use Rattle.plan_model.specs.declared.schemas.MethodPlan.{MethodPlan}
 use Rattle.plan_model.specs.declared.values.Compiled.{Compiled}
 use Rattle.task_networks.specs.Bound.{AreBlocks, IsTheBound}
-use Rattle.plan_meaning.specs.Network.{top_task, IsPairIn}
+use Rattle.plan_model.specs.Pairs.{Pairs}
+use Rattle.plan_meaning.specs.Network.{top_task}
 use Rattle.plan_meaning.specs.Schemas.{Schema, action, check, task, schemas}
 use Rattle.plan_meaning.specs.Strata.{IsReachedTask, IsOneGroup}
 
@@ -18,7 +19,7 @@ group_of group (task t) = suc (group t)
 pub record IsBound (c : Compiled) (n : ℕ) : Type 0 where
   -- block m i is the block of child i of method m
   pub block : ℕ → ℕ → ℕ
-  pub blocks : (m : ℕ) (plan : MethodPlan) → slice_get c.methods m ≡ Some plan → AreBlocks (IsPairIn plan) plan.line (block m)
+  pub blocks : (m : ℕ) (plan : MethodPlan) → slice_get c.methods m ≡ Some plan → AreBlocks (Pairs plan.schema.pairs) plan.line (block m)
   -- of the tasks that are reached, those that reach each other have one group
   pub group : ℕ → ℕ
   pub groups : (t u : ℕ) → IsReachedTask c t → IsReachedTask c u → (group t ≡ group u) ↔ IsOneGroup c (task t) (task u)

@@ -21,15 +21,13 @@ use Rattle.plan_model.specs.declared.options.Checks.TheVariants.{Leaf, AtOnce}
 use Rattle.plan_model.specs.declared.values.Hddl.{Hddl}
 use Rattle.plan_model.specs.declared.values.Compiled.{Compiled}
 use Rattle.plan_model.specs.Typing.{InType, IsA}
+use Rattle.plan_model.specs.Pairs.{pair, Pairs}
 use Rattle.task_networks.specs.Order.{IsLine, IsMaximal}
 use Rattle.task_networks.specs.Spelling.{numbers}
 
 -- a missing condition is read as the empty conjunction, which asks nothing
 abbrev pub AsksSomething : Formula → Type 0
 AsksSomething pre = pre ≢ And []
-
-abbrev pub pair : ℕ → ℕ → Pair
-pair i j = record { first = i; then = j }
 
 abbrev pub same_pair : Pair → Pair → Bool
 same_pair p q = (p.first == q.first) && (p.then == q.then)
@@ -61,9 +59,6 @@ children false s = s.children
 abbrev pub pairs : Bool → MethodSchema → List Pair
 pairs true s = once same_pair (map (λ k. pair 0 (suc k)) (numbers 0 (length s.children)) ++ map (λ p. pair (suc p.first) (suc p.then)) s.pairs)
 pairs false s = once same_pair s.pairs
-
-abbrev pub Pairs : List Pair → ℕ → ℕ → Type 0
-Pairs ps i j = Contains ps (pair i j)
 
 -- the last of a list
 abbrev pub last_of : List ℕ → Option ℕ

@@ -8,7 +8,7 @@ use Rattle.plan_model.specs.declared.values.Pddl.{Pddl}
 use Rattle.task_networks.specs.Order.{ArePairsOf, IsAcyclic}
 use Rattle.plan_meaning.specs.Bound.{IsBound}
 use Rattle.plan_meaning.specs.ClassicalPlan.{IsExecutable}
-use Rattle.plan_meaning.specs.Compilation.{Pairs}
+use Rattle.plan_model.specs.Pairs.{Pairs}
 
 -- the pairs of each network are of its subtasks, and have no cycle
 abbrev pub AreOrdered : Hddl → Type 0

@@ -12,6 +12,7 @@ use Rattle.plan_model.specs.declared.schemas.ActionSchema.{ActionSchema}
 use Rattle.plan_model.specs.declared.schemas.MethodPlan.{MethodPlan}
 use Rattle.plan_model.specs.declared.values.Compiled.{Compiled}
 use Rattle.plan_model.specs.Typing.{InType}
+use Rattle.plan_model.specs.Pairs.{Pairs}
 use Rattle.task_networks.specs.Net.{Net}
 use Rattle.plan_meaning.specs.Truth.{value_of, values_of, AreTyped}
 
@@ -44,15 +45,12 @@ child_of g child = ground_work g child.head (values_of g.values child.args)
 abbrev pub Meets : List ℕ → Constraint → Type 0
 Meets values con = MatchBool con.equal (value_of values con.left ≡ value_of values con.right) (value_of values con.left ≡ value_of values con.right → ⊥)
 
--- what the plan of a method says: the task that it decomposes, its subtasks, its pairs
+-- what the plan of a method says: the task that it decomposes, and its subtasks
 abbrev pub decomposed : GroundMethod → MethodPlan → Work
 decomposed g plan = task plan.schema.task (values_of g.values plan.schema.task_args)
 
 abbrev pub subtasks_of : GroundMethod → MethodPlan → List Work
 subtasks_of g plan = map (child_of g) plan.schema.children
-
-abbrev pub IsPairIn : MethodPlan → ℕ → ℕ → Type 0
-IsPairIn plan i j = Contains plan.schema.pairs (record { first = i; then = j })
 
 module _ (c : Compiled) where
   abbrev pub InTypeOf : ℕ → ℕ → Type 0
@@ -93,7 +91,7 @@ module _ (c : Compiled) where
     works = λ g. option_map_or (subtasks_of g) (slice_get c.methods g.number) [];
     IsSimple = IsPrimitive;
     IsGround = IsGroundMethod;
-    Pair = λ g i j. MatchOption (slice_get c.methods g.number) ⊥ (λ plan. IsPairIn plan i j);
+    Pair = λ g i j. MatchOption (slice_get c.methods g.number) ⊥ (λ plan. Pairs plan.schema.pairs i j);
     heir = λ g. option_and_then (λ plan. plan.heir) (slice_get c.methods g.number);
     IsCopier = λ g i. MatchOption (slice_get c.methods g.number) ⊥ (λ plan. Contains plan.copiers i);
   }

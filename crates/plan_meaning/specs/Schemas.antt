@@ -7,8 +7,8 @@ use Rattle.plan_model.specs.declared.networks.Head.TheVariants.{Task, Action, Ch
 use Rattle.plan_model.specs.declared.networks.Child.{Child}
 use Rattle.plan_model.specs.declared.schemas.MethodPlan.{MethodPlan}
 use Rattle.plan_model.specs.declared.values.Compiled.{Compiled}
+use Rattle.plan_model.specs.Pairs.{Pairs}
 use Rattle.task_networks.specs.Net.{Net}
-use Rattle.plan_meaning.specs.Network.{IsPairIn}
 
 pub data Schema : Type 0 where
   action : (number : ℕ) → Schema
@@ -38,7 +38,7 @@ schemas c = record {
   works = λ m. option_map_or (subschemas_of m) (slice_get c.methods m) [];
   IsSimple = IsPrimitive;
   IsGround = λ m. (plan : MethodPlan) × (slice_get c.methods m ≡ Some plan);
-  Pair = λ m i j. MatchOption (slice_get c.methods m) ⊥ (λ plan. IsPairIn plan i j);
+  Pair = λ m i j. MatchOption (slice_get c.methods m) ⊥ (λ plan. Pairs plan.schema.pairs i j);
   heir = λ m. option_and_then (λ plan. plan.heir) (slice_get c.methods m);
   IsCopier = λ m i. MatchOption (slice_get c.methods m) ⊥ (λ plan. Contains plan.copiers i);
 }

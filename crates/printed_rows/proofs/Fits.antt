@@ -6,7 +6,7 @@ use Rattle.task_networks.proofs.Lists.{head_or_tail}
 use Rattle.plan_model.specs.declared.networks.Pair.{Pair}
 use Rattle.plan_model.specs.declared.schemas.MethodSchema.{MethodSchema}
 use Rattle.plan_model.specs.declared.values.Hddl.{Hddl}
-use Rattle.plan_meaning.specs.Compilation.{pair, Pairs}
+use Rattle.plan_model.specs.Pairs.{pair, Pairs}
 use Rattle.plan_meaning.specs.Laws.{AreOrdered}
 use Rattle.net_order.specs.Meaning.{AreBelow}
 use Rattle.method_precs.specs.Small.{AreSmall, HaveFewParams, IsFit}

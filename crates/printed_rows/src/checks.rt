@@ -1,7 +1,7 @@
 ghost use Rattle.std.specs.Prelude.{◌≤◌, ◌<◌, ◌^◌, ◌↔◌, All, IsTrue, IfOk, IfSome, length};
 ghost use Rattle.task_networks.specs.Order.{IsAcyclic};
 ghost use Rattle.plan_model.specs.Parts.{AreListed};
-ghost use Rattle.plan_meaning.specs.Compilation.{Pairs};
+ghost use Rattle.plan_model.specs.Pairs.{Pairs};
 ghost use Rattle.net_order.specs.Meaning.{AreBelow};
 ghost use Rattle.method_precs.specs.Small.{IsFit};
 ghost use Rattle.problem_texts.specs.ArePrinted.{IsCompiledProblem};

@@ -7,7 +7,7 @@ use Rattle.plan_model.specs.declared.schemas.MethodPlan.{MethodPlan}
 use Rattle.plan_model.specs.declared.values.Compiled.{Compiled}
 use Rattle.task_networks.specs.Bound.{AreBlocks, IsReached, itself, as_child}
 use Rattle.task_networks.proofs.Lists.{not-in_empty}
-use Rattle.plan_meaning.specs.Network.{IsPairIn}
+use Rattle.plan_model.specs.Pairs.{Pairs}
 use Rattle.plan_meaning.specs.Schemas.{task, schemas}
 use Rattle.plan_meaning.specs.Strata.{Edge, IsEdge, AreEdges}
 use Rattle.plan_meaning.specs.Bound.{IsBound}
@@ -77,9 +77,9 @@ module _ where
   bound_is_four : IsBound beside 4
   bound_is_four = bound_by beside block number edges (are_edges [] (0 ∷ [])) own_group (inr (omega arith), (inr (omega arith), tt)) blocks positive above attained
     where
-      blocks : (m : ℕ) (plan : MethodPlan) → slice_get beside.methods m ≡ Some plan → AreBlocks (IsPairIn plan) plan.line (block m)
-      blocks zero plan e = subst (λ (p : MethodPlan). AreBlocks (IsPairIn p) p.line (block 0)) (let f : top [] (0 ∷ []) ≡ plan = cc in f) (one_block (0 ∷ 1 ∷ []) (λ i j c. not-in_empty _ c))
-      blocks (suc zero) plan e = subst (λ (p : MethodPlan). AreBlocks (IsPairIn p) p.line (block 1)) (let f : of_x ≡ plan = cc in f) (one_block (0 ∷ 1 ∷ []) (λ i j c. not-in_empty _ c))
+      blocks : (m : ℕ) (plan : MethodPlan) → slice_get beside.methods m ≡ Some plan → AreBlocks (Pairs plan.schema.pairs) plan.line (block m)
+      blocks zero plan e = subst (λ (p : MethodPlan). AreBlocks (Pairs p.schema.pairs) p.line (block 0)) (let f : top [] (0 ∷ []) ≡ plan = cc in f) (one_block (0 ∷ 1 ∷ []) (λ i j c. not-in_empty _ c))
+      blocks (suc zero) plan e = subst (λ (p : MethodPlan). AreBlocks (Pairs p.schema.pairs) p.line (block 1)) (let f : of_x ≡ plan = cc in f) (one_block (0 ∷ 1 ∷ []) (λ i j c. not-in_empty _ c))
       blocks (suc (suc m)) plan e = absurd cc
 
       positive : (t : ℕ) → 1 ≤ number t
@@ -120,9 +120,9 @@ module _ where
   bound_is_three : IsBound in_order 3
   bound_is_three = bound_by in_order block_of number_of edges (are_edges (record { first = 0; then = 1 } ∷ []) []) own_group (inr (omega arith), (inr (omega arith), tt)) blocks positive above attained
     where
-      blocks : (m : ℕ) (plan : MethodPlan) → slice_get in_order.methods m ≡ Some plan → AreBlocks (IsPairIn plan) plan.line (block_of m)
-      blocks zero plan e = subst (λ (p : MethodPlan). AreBlocks (IsPairIn p) p.line (block_of 0)) (let f : top (record { first = 0; then = 1 } ∷ []) [] ≡ plan = cc in f) (two_blocks (0, omega arith, refl))
-      blocks (suc zero) plan e = subst (λ (p : MethodPlan). AreBlocks (IsPairIn p) p.line (block_of 1)) (let f : of_x ≡ plan = cc in f) (one_block (0 ∷ 1 ∷ []) (λ i j c. not-in_empty _ c))
+      blocks : (m : ℕ) (plan : MethodPlan) → slice_get in_order.methods m ≡ Some plan → AreBlocks (Pairs plan.schema.pairs) plan.line (block_of m)
+      blocks zero plan e = subst (λ (p : MethodPlan). AreBlocks (Pairs p.schema.pairs) p.line (block_of 0)) (let f : top (record { first = 0; then = 1 } ∷ []) [] ≡ plan = cc in f) (two_blocks (0, omega arith, refl))
+      blocks (suc zero) plan e = subst (λ (p : MethodPlan). AreBlocks (Pairs p.schema.pairs) p.line (block_of 1)) (let f : of_x ≡ plan = cc in f) (one_block (0 ∷ 1 ∷ []) (λ i j c. not-in_empty _ c))
       blocks (suc (suc m)) plan e = absurd cc
 
       positive : (t : ℕ) → 1 ≤ number_of t

@@ -3,7 +3,8 @@ use Rattle.std.proofs.Common.{ℕ, suc, ◌≡◌, ◌≤◌, ◌⊎◌, inl, in
 use Rattle.plan_model.specs.declared.schemas.MethodPlan.{MethodPlan}
 use Rattle.plan_model.specs.declared.values.Compiled.{Compiled}
 use Rattle.task_networks.specs.Bound.{AreBlocks, IsReached, Counts, block_number}
-use Rattle.plan_meaning.specs.Network.{top_task, IsPairIn}
+use Rattle.plan_model.specs.Pairs.{Pairs}
+use Rattle.plan_meaning.specs.Network.{top_task}
 use Rattle.plan_meaning.specs.Schemas.{Schema, task, action, check, IsPrimitive, schemas}
 use Rattle.plan_meaning.specs.Strata.{Edge, AreEdges}
 use Rattle.plan_meaning.specs.Bound.{IsBound}
@@ -30,7 +31,7 @@ module _ (c : Compiled) (block : ℕ → ℕ → ℕ) (f : ℕ → ℕ) where
   IsAttained t = (f t ≡ 1) ⊎ ((m : ℕ) × (i : ℕ) × (schemas c).IsGround m × IsReached (schemas c) (task (top_task c)) ((schemas c).head m) × (task t ≡ (schemas c).head m) × DoesCount m i × (number_of_block m i ≡ f t))
 
   pub bound_by : (edges : List Edge) (are : AreEdges c edges) (rank : Schema → ℕ) → Every (StaysOrFalls c edges are rank) edges
-      → ((m : ℕ) (plan : MethodPlan) → slice_get c.methods m ≡ Some plan → AreBlocks (IsPairIn plan) plan.line (block m))
+      → ((m : ℕ) (plan : MethodPlan) → slice_get c.methods m ≡ Some plan → AreBlocks (Pairs plan.schema.pairs) plan.line (block m))
       → ((t : ℕ) → 1 ≤ f t)
       → ((m i : ℕ) → (schemas c).IsGround m → DoesCount m i → number_of_block m i ≤ number_by f ((schemas c).head m))
       → ((t : ℕ) → IsAttained t)

@@ -10,9 +10,11 @@ use Rattle.task_networks.proofs.examples.Nets.{no_chain}
 use Rattle.plan_model.specs.declared.networks.Pair.{Pair}
 use Rattle.plan_model.specs.declared.schemas.MethodPlan.{MethodPlan}
 use Rattle.plan_model.specs.declared.values.Compiled.{Compiled}
-use Rattle.plan_meaning.specs.Network.{GroundMethod, network, child_of, IsPairIn}
+use Rattle.plan_model.specs.Pairs.{Pairs}
+use Rattle.plan_meaning.specs.Network.{GroundMethod, network, child_of}
 use Rattle.plan_meaning.proofs.MethodParts.{works_by, IsPairBy}
-use Rattle.plan_meaning.specs.Compilation.{pair, same_pair}
+use Rattle.plan_meaning.specs.Compilation.{same_pair}
+use Rattle.plan_model.specs.Pairs.{pair}
 use Rattle.plan_meaning.proofs.examples.Unequal.{lt_to}
 
 abbrev pub is_pair_by : Option MethodPlan → ℕ → ℕ → Bool
@@ -66,7 +68,7 @@ flat_some g plan e = record {
         let k = both (nat_lt p.then (length plan.schema.children)) (list_all (λ (q : Pair). not (p.then == q.first)) plan.schema.pairs) h.1 in
         (lt_to p.first (length plan.schema.children) h.0, (lt_to p.then (length plan.schema.children) k.0, k.1))
 
-    never_meet : (i j k : ℕ) → IsPairIn plan i j → IsPairIn plan j k → ⊥
+    never_meet : (i j k : ℕ) → Pairs plan.schema.pairs i j → Pairs plan.schema.pairs j k → ⊥
     never_meet i j k a b = not_to (j == j) (all_to (λ (q : Pair). not (j == q.first)) plan.schema.pairs (tests (pair i j) a).1.1 (pair j k) b) (eq-eqb j j refl)
 
     to : (i j : ℕ) → list_any (same_pair (pair i j)) plan.schema.pairs ≡ true → Contains plan.schema.pairs (pair i j)

@@ -10,7 +10,7 @@ use Rattle.task_networks.specs.Bound.{IsReached, itself, as_child}
 use Rattle.task_networks.specs.Strata as Walks
 use Rattle.task_networks.specs.Strata.{ComesFirst}
 use Rattle.task_networks.proofs.Lists.{not-in_empty, head_or_tail}
-use Rattle.plan_meaning.specs.Network.{IsPairIn}
+use Rattle.plan_model.specs.Pairs.{Pairs}
 use Rattle.plan_meaning.specs.Schemas.{task, schemas}
 use Rattle.plan_meaning.specs.Strata.{Edge, IsEdge, AreEdges, IsBad, IsTailRecursive, IsNamedCycle, source, target}
 use Rattle.plan_meaning.proofs.ListedItems.{of_each}
@@ -35,7 +35,7 @@ first_is_not_last l = let e = leads_to_second 1 0 (l.1 1 (omega arith) (omega ar
 abbrev top : MethodPlan
 top = method_plan (method_schema 3 2 always (child (Task 0) ∷ []) []) false (0 ∷ []) (Some 0) []
 
-only_child : IsLast (IsPairIn top) 1 0
+only_child : IsLast (Pairs top.schema.pairs) 1 0
 only_child = (omega arith, λ j l n. absurd (omega arith))
 
 -- m: t -> t < a

@@ -10,7 +10,7 @@ use Rattle.task_networks.proofs.PendingNodes.{both, not_to, to_not}
 use Rattle.task_networks.proofs.Tests.{any_to, to_any}
 use Rattle.plan_model.specs.declared.networks.Pair.{Pair}
 use Rattle.task_networks.proofs.PendingNodes.{both_true}
-use Rattle.plan_meaning.specs.Compilation.{pair, Pairs}
+use Rattle.plan_model.specs.Pairs.{pair, Pairs}
 
 -- where a list of numbers is cut, those before are the lesser ones
 cut_numbers : (k n : ℕ) (listed rest : List ℕ) (i : ℕ) → numbers k n ≡ listed ++ i ∷ rest

@@ -13,7 +13,8 @@ use Rattle.plan_model.specs.declared.values.Hddl.{Hddl}
 use Rattle.task_networks.specs.Order.{IsLine}
 use Rattle.task_networks.specs.Spelling.{numbers, is_heir}
 use Rattle.plan_meaning.specs.Truth.{IsTrueIn}
-use Rattle.plan_meaning.specs.Compilation.{AsksSomething, Pairs, children, pairs, last_of, AreGuards, IsMethodPlan}
+use Rattle.plan_meaning.specs.Compilation.{AsksSomething, children, pairs, last_of, AreGuards, IsMethodPlan}
+use Rattle.plan_model.specs.Pairs.{Pairs}
 use Rattle.plan_meaning.proofs.TruthEquations.{truth-Holds}
 use Rattle.plan_meaning.proofs.examples.TruthExamples.{to}
 use Rattle.plan_meaning.proofs.examples.RowValues.{always}

@@ -4,7 +4,7 @@ use Rattle.plan_model.specs.declared.schemas.MethodPlan.{MethodPlan}
 use Rattle.task_networks.specs.Order.{Precedes, direct, IsLast}
 use Rattle.task_networks.specs.Bound.{AreBlocks, IsReached, itself, as_child, IsAloneAtTheEnd}
 use Rattle.task_networks.proofs.Lists.{not-in_empty}
-use Rattle.plan_meaning.specs.Network.{IsPairIn}
+use Rattle.plan_model.specs.Pairs.{Pairs}
 use Rattle.plan_meaning.specs.Schemas.{Schema, task, schemas}
 use Rattle.plan_meaning.specs.Strata.{Edge, IsEdge, AreEdges, IsBad, IsTailRecursive}
 use Rattle.plan_meaning.specs.Bound.{IsBound}
@@ -41,13 +41,13 @@ are_edges = are_edges_by tail_recursion edges (from_top, (from_t, tt)) all (inl 
 tail_recursive : IsTailRecursive tail_recursion
 tail_recursive = (edges, are_edges, λ e walk b. of_each (λ e. IsBad tail_recursion e → ⊥) edges ((λ bad. bad only_child), ((λ bad. bad t_is_last), tt)) e b.0 b.1)
   where
-    only_child : IsLast (IsPairIn top) 1 0
+    only_child : IsLast (Pairs top.schema.pairs) 1 0
     only_child = (omega arith, λ j l n. absurd (omega arith))
 
-    t_is_last : IsLast (IsPairIn again) 2 1
+    t_is_last : IsLast (Pairs again.schema.pairs) 2 1
     t_is_last = (omega arith, before)
       where
-        before : (j : ℕ) → j < 2 → j ≢ 1 → Precedes (IsPairIn again) j 1
+        before : (j : ℕ) → j < 2 → j ≢ 1 → Precedes (Pairs again.schema.pairs) j 1
         before zero l n = direct (0, omega arith, refl)
         before (suc j) l n = absurd (n (omega arith))
 
@@ -65,10 +65,10 @@ number (suc (suc t)) = 1
 bound_is_two : IsBound tail_recursion 2
 bound_is_two = bound_by tail_recursion block number edges are_edges own_group (inr (omega arith), (inl refl, tt)) blocks positive above attained
   where
-    blocks : (m : ℕ) (plan : MethodPlan) → slice_get tail_recursion.methods m ≡ Some plan → AreBlocks (IsPairIn plan) plan.line (block m)
-    blocks zero plan e = subst (λ (p : MethodPlan). AreBlocks (IsPairIn p) p.line (block 0)) (let f : top ≡ plan = cc in f) (one_block (0 ∷ []) (λ i j c. not-in_empty _ c))
-    blocks (suc zero) plan e = subst (λ (p : MethodPlan). AreBlocks (IsPairIn p) p.line (block 1)) (let f : again ≡ plan = cc in f) (two_blocks (0, omega arith, refl))
-    blocks (suc (suc zero)) plan e = subst (λ (p : MethodPlan). AreBlocks (IsPairIn p) p.line (block 2)) (let f : stop ≡ plan = cc in f) (one_block [] (λ i j c. not-in_empty _ c))
+    blocks : (m : ℕ) (plan : MethodPlan) → slice_get tail_recursion.methods m ≡ Some plan → AreBlocks (Pairs plan.schema.pairs) plan.line (block m)
+    blocks zero plan e = subst (λ (p : MethodPlan). AreBlocks (Pairs p.schema.pairs) p.line (block 0)) (let f : top ≡ plan = cc in f) (one_block (0 ∷ []) (λ i j c. not-in_empty _ c))
+    blocks (suc zero) plan e = subst (λ (p : MethodPlan). AreBlocks (Pairs p.schema.pairs) p.line (block 1)) (let f : again ≡ plan = cc in f) (two_blocks (0, omega arith, refl))
+    blocks (suc (suc zero)) plan e = subst (λ (p : MethodPlan). AreBlocks (Pairs p.schema.pairs) p.line (block 2)) (let f : stop ≡ plan = cc in f) (one_block [] (λ i j c. not-in_empty _ c))
     blocks (suc (suc (suc m))) plan e = absurd cc
 
     positive : (t : ℕ) → 1 ≤ number t

@@ -7,7 +7,7 @@ use Rattle.task_networks.specs.Bound.{AreBlocks, IsReached, itself, as_child, Is
 use Rattle.task_networks.specs.Strata.{IsLawfulRanking}
 use Rattle.task_networks.proofs.Lists.{not-in_empty}
 use Rattle.task_networks.proofs.StrataLaws.{ranked_is_tail_recursive}
-use Rattle.plan_meaning.specs.Network.{IsPairIn}
+use Rattle.plan_model.specs.Pairs.{Pairs}
 use Rattle.plan_meaning.specs.Schemas.{Schema, task, action, check, schemas}
 use Rattle.plan_meaning.specs.Strata.{Edge, IsEdge, AreEdges, IsBad, IsTailRecursive, source, target}
 use Rattle.plan_meaning.specs.Bound.{IsBound}
@@ -69,10 +69,10 @@ rank (task (suc (suc t))) = 2
 tail_recursive : IsTailRecursive transport
 tail_recursive = (edges, are_edges, ranked_is_tail_recursive (source transport) (target transport) edges (IsBad transport) rank lawful)
   where
-    get_to_is_last : IsLast (IsPairIn via) 2 1
+    get_to_is_last : IsLast (Pairs via.schema.pairs) 2 1
     get_to_is_last = (omega arith, before)
       where
-        before : (j : ℕ) → j < 2 → j ≢ 1 → Precedes (IsPairIn via) j 1
+        before : (j : ℕ) → j < 2 → j ≢ 1 → Precedes (Pairs via.schema.pairs) j 1
         before zero l n = direct (0, omega arith, refl)
         before (suc j) l n = absurd (n (omega arith))
 
@@ -81,7 +81,7 @@ tail_recursive = (edges, are_edges, ranked_is_tail_recursive (source transport) 
         (inl (omega arith), (inl (omega arith), (inl (omega arith), (inl (omega arith), (inl (omega arith), (inr ((λ bad. bad get_to_is_last), omega arith), tt)))))) e c
 
 -- the children of m-deliver are a block each
-four_blocks : AreBlocks (IsPairIn deliver) (0 ∷ 1 ∷ 2 ∷ 3 ∷ []) (λ i. i)
+four_blocks : AreBlocks (Pairs deliver.schema.pairs) (0 ∷ 1 ∷ 2 ∷ 3 ∷ []) (λ i. i)
 four_blocks i j c d = (λ l. (j, cut j, taken i j l (below_four j d), left j (below_four j d)), λ h. (upward i j (h.1 i j h.2 h.3)).0)
   where
     below_four : (j : ℕ) → Contains {X = ℕ} (0 ∷ 1 ∷ 2 ∷ 3 ∷ []) j → j < 4
@@ -104,14 +104,14 @@ four_blocks i j c d = (λ l. (j, cut j, taken i j l (below_four j d), left j (be
     left (suc (suc (suc zero))) m = (0, omega arith, refl)
     left (suc (suc (suc (suc j)))) m = absurd (omega arith)
 
-    parts : (k : ℕ) (low high : List ℕ) → Every (λ x. x < k) low → Every (λ x. (k ≤ x) × (x < 4)) high → (a b : ℕ) → Contains low a → Contains high b → Precedes (IsPairIn deliver) a b
+    parts : (k : ℕ) (low high : List ℕ) → Every (λ x. x < k) low → Every (λ x. (k ≤ x) × (x < 4)) high → (a b : ℕ) → Contains low a → Contains high b → Precedes (Pairs deliver.schema.pairs) a b
     parts k low high f g a b x y =
         let p = of_each (λ x. x < k) low f a x in
         let q = of_each (λ x. (k ≤ x) × (x < 4)) high g b y in
         let r = q.0 in
         to_chain a b (omega arith) q.1
 
-    cut : (k : ℕ) → IsCut (IsPairIn deliver) (0 ∷ 1 ∷ 2 ∷ 3 ∷ []) k
+    cut : (k : ℕ) → IsCut (Pairs deliver.schema.pairs) (0 ∷ 1 ∷ 2 ∷ 3 ∷ []) k
     cut zero = λ a b x y. absurd (not-in_empty a x)
     cut (suc zero) = parts 1 (0 ∷ []) (1 ∷ 2 ∷ 3 ∷ []) (omega arith, tt) ((omega arith, omega arith), ((omega arith, omega arith), ((omega arith, omega arith), tt)))
     cut (suc (suc zero)) = parts 2 (0 ∷ 1 ∷ []) (2 ∷ 3 ∷ []) (omega arith, (omega arith, tt)) ((omega arith, omega arith), ((omega arith, omega arith), tt))
@@ -137,11 +137,11 @@ number (suc (suc (suc t))) = 1
 bound_is_15 : IsBound transport 15
 bound_is_15 = bound_by transport block number edges are_edges rank (inr (omega arith), (inr (omega arith), (inr (omega arith), (inr (omega arith), (inr (omega arith), (inl refl, tt)))))) blocks positive above attained
   where
-    blocks : (m : ℕ) (plan : MethodPlan) → slice_get transport.methods m ≡ Some plan → AreBlocks (IsPairIn plan) plan.line (block m)
-    blocks zero plan e = subst (λ (p : MethodPlan). AreBlocks (IsPairIn p) p.line (block 0)) (let f : top ≡ plan = cc in f) (one_block (0 ∷ 1 ∷ 2 ∷ []) (λ i j c. not-in_empty _ c))
-    blocks (suc zero) plan e = subst (λ (p : MethodPlan). AreBlocks (IsPairIn p) p.line (block 1)) (let f : deliver ≡ plan = cc in f) four_blocks
-    blocks (suc (suc zero)) plan e = subst (λ (p : MethodPlan). AreBlocks (IsPairIn p) p.line (block 2)) (let f : via ≡ plan = cc in f) (two_blocks (0, omega arith, refl))
-    blocks (suc (suc (suc zero))) plan e = subst (λ (p : MethodPlan). AreBlocks (IsPairIn p) p.line (block 3)) (let f : there ≡ plan = cc in f) (one_block (0 ∷ []) (λ i j c. not-in_empty _ c))
+    blocks : (m : ℕ) (plan : MethodPlan) → slice_get transport.methods m ≡ Some plan → AreBlocks (Pairs plan.schema.pairs) plan.line (block m)
+    blocks zero plan e = subst (λ (p : MethodPlan). AreBlocks (Pairs p.schema.pairs) p.line (block 0)) (let f : top ≡ plan = cc in f) (one_block (0 ∷ 1 ∷ 2 ∷ []) (λ i j c. not-in_empty _ c))
+    blocks (suc zero) plan e = subst (λ (p : MethodPlan). AreBlocks (Pairs p.schema.pairs) p.line (block 1)) (let f : deliver ≡ plan = cc in f) four_blocks
+    blocks (suc (suc zero)) plan e = subst (λ (p : MethodPlan). AreBlocks (Pairs p.schema.pairs) p.line (block 2)) (let f : via ≡ plan = cc in f) (two_blocks (0, omega arith, refl))
+    blocks (suc (suc (suc zero))) plan e = subst (λ (p : MethodPlan). AreBlocks (Pairs p.schema.pairs) p.line (block 3)) (let f : there ≡ plan = cc in f) (one_block (0 ∷ []) (λ i j c. not-in_empty _ c))
     blocks (suc (suc (suc (suc m)))) plan e = absurd cc
 
     positive : (t : ℕ) → 1 ≤ number t

@@ -4,7 +4,8 @@ use Rattle.plan_model.specs.declared.networks.Pair.{Pair}
 use Rattle.task_networks.specs.Order.{Precedes, direct, through, ArePairsOf}
 use Rattle.task_networks.proofs.PendingNodes.{both}
 use Rattle.task_networks.proofs.Tests.{Decides}
-use Rattle.plan_meaning.specs.Network.{GroundMethod, network, IsPairIn}
+use Rattle.plan_model.specs.Pairs.{Pairs}
+use Rattle.plan_meaning.specs.Network.{GroundMethod, network}
 use Rattle.plan_meaning.proofs.MethodParts.{IsPairBy, works_by}
 use Rattle.plan_meaning.proofs.examples.Unequal.{lt_to, to_lt}
 use Rattle.task_networks.proofs.PendingNodes.{both_true}
@@ -16,14 +17,14 @@ use Rattle.plan_meaning.proofs.examples.TransportValue.{transport, top, deliver,
 abbrev pub chain_of_four : ℕ → ℕ → Bool
 chain_of_four i j = nat_lt i j && nat_lt j 4
 
-one_up : (i j : ℕ) → IsPairIn deliver i j → (j ≡ suc i) × (j < 4)
+one_up : (i j : ℕ) → Pairs deliver.schema.pairs i j → (j ≡ suc i) × (j < 4)
 one_up i j c = of_each (λ (p : Pair). (p.then ≡ suc p.first) × (p.then < 4)) deliver.schema.pairs ((refl, omega arith), ((refl, omega arith), ((refl, omega arith), tt))) (record { first = i; then = j }) c
 
-pub upward : (i j : ℕ) → Precedes (IsPairIn deliver) i j → (i < j) × (j < 4)
+pub upward : (i j : ℕ) → Precedes (Pairs deliver.schema.pairs) i j → (i < j) × (j < 4)
 upward i j (direct p) = let h = one_up i j p in let a = h.0 in let b = h.1 in (omega arith, omega arith)
 upward i k (through {j = j} c p) = let h = upward i j c in let a = h.0 in let g = one_up j k p in let b = g.0 in let d = g.1 in (omega arith, omega arith)
 
-pair_up : (i : ℕ) → suc i < 4 → IsPairIn deliver i (suc i)
+pair_up : (i : ℕ) → suc i < 4 → Pairs deliver.schema.pairs i (suc i)
 pair_up zero l = (0, omega arith, refl)
 pair_up (suc zero) l = (1, omega arith, refl)
 pair_up (suc (suc zero)) l = (2, omega arith, refl)
@@ -32,14 +33,14 @@ pair_up (suc (suc (suc i))) l = absurd (omega arith)
 cases : (i j : ℕ) → i < suc j → (i ≡ j) ⊎ (i < j)
 cases i j l = grind arith
 
-pub to_chain : (i j : ℕ) → i < j → j < 4 → Precedes (IsPairIn deliver) i j
+pub to_chain : (i j : ℕ) → i < j → j < 4 → Precedes (Pairs deliver.schema.pairs) i j
 to_chain i zero l m = absurd (omega arith)
 to_chain i (suc j) l m = elim (cases i j (omega arith)) [
-  | inl e ↦ subst (λ z. Precedes (IsPairIn deliver) z (suc j)) (sym e) (direct (pair_up j m))
+  | inl e ↦ subst (λ z. Precedes (Pairs deliver.schema.pairs) z (suc j)) (sym e) (direct (pair_up j m))
   | inr k ↦ through (to_chain i j k (omega arith)) (pair_up j m)
 ]
 
-chain_iff : (i j : ℕ) → (chain_of_four i j ≡ true) ↔ Precedes (IsPairIn deliver) i j
+chain_iff : (i j : ℕ) → (chain_of_four i j ≡ true) ↔ Precedes (Pairs deliver.schema.pairs) i j
 chain_iff i j = (
   λ e. (let h = both (nat_lt i j) (nat_lt j 4) e in to_chain i j (lt_to i j h.0) (lt_to j 4 h.1)),
   λ c. (let h = upward i j c in both_true (nat_lt i j) (nat_lt j 4) (to_lt i j h.0) (to_lt j 4 h.1)),

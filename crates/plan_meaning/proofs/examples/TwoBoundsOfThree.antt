@@ -3,7 +3,7 @@ use Rattle.std.proofs.Common.{ℕ, zero, suc, ◌≡◌, ◌≤◌, inl, inr, Li
 use Rattle.plan_model.specs.declared.schemas.MethodPlan.{MethodPlan}
 use Rattle.task_networks.specs.Bound.{AreBlocks, itself, as_child}
 use Rattle.task_networks.proofs.Lists.{not-in_empty}
-use Rattle.plan_meaning.specs.Network.{IsPairIn}
+use Rattle.plan_model.specs.Pairs.{Pairs}
 use Rattle.plan_meaning.specs.Schemas.{schemas}
 use Rattle.plan_meaning.specs.Strata.{Edge, IsEdge, AreEdges}
 use Rattle.plan_meaning.specs.Bound.{IsBound}
@@ -47,9 +47,9 @@ module _ where
   bound_of_waiting : IsBound waiting 3
   bound_of_waiting = bound_by waiting block number edges waiting_edges own_group (inr (omega arith), tt) blocks positive above attained
     where
-      blocks : (m : ℕ) (plan : MethodPlan) → slice_get waiting.methods m ≡ Some plan → AreBlocks (IsPairIn plan) plan.line (block m)
-      blocks zero plan e = subst (λ (p : MethodPlan). AreBlocks (IsPairIn p) p.line (block 0)) (let f : top ≡ plan = cc in f) (two_blocks (0, omega arith, refl))
-      blocks (suc zero) plan e = subst (λ (p : MethodPlan). AreBlocks (IsPairIn p) p.line (block 1)) (let f : of_x ≡ plan = cc in f) (one_block (0 ∷ 1 ∷ []) (λ i j c. not-in_empty _ c))
+      blocks : (m : ℕ) (plan : MethodPlan) → slice_get waiting.methods m ≡ Some plan → AreBlocks (Pairs plan.schema.pairs) plan.line (block m)
+      blocks zero plan e = subst (λ (p : MethodPlan). AreBlocks (Pairs p.schema.pairs) p.line (block 0)) (let f : top ≡ plan = cc in f) (two_blocks (0, omega arith, refl))
+      blocks (suc zero) plan e = subst (λ (p : MethodPlan). AreBlocks (Pairs p.schema.pairs) p.line (block 1)) (let f : of_x ≡ plan = cc in f) (one_block (0 ∷ 1 ∷ []) (λ i j c. not-in_empty _ c))
       blocks (suc (suc m)) plan e = absurd cc
 
       above : (m i : ℕ) → (schemas waiting).IsGround m → DoesCount waiting block number m i → number_of_block waiting block number m i ≤ number_by number ((schemas waiting).head m)
@@ -91,9 +91,9 @@ module _ where
   bound_of_late_check : IsBound late_check 3
   bound_of_late_check = bound_by late_check late_block number edges late_edges own_group (inr (omega arith), tt) blocks positive above attained
     where
-      blocks : (m : ℕ) (plan : MethodPlan) → slice_get late_check.methods m ≡ Some plan → AreBlocks (IsPairIn plan) plan.line (late_block m)
-      blocks zero plan e = subst (λ (p : MethodPlan). AreBlocks (IsPairIn p) p.line (late_block 0)) (let f : late_top_plan ≡ plan = cc in f) (one_block (0 ∷ 1 ∷ []) (λ i j c. not-in_empty _ c))
-      blocks (suc zero) plan e = subst (λ (p : MethodPlan). AreBlocks (IsPairIn p) p.line (late_block 1)) (let f : late_method_plan ≡ plan = cc in f) (two_blocks (0, omega arith, refl))
+      blocks : (m : ℕ) (plan : MethodPlan) → slice_get late_check.methods m ≡ Some plan → AreBlocks (Pairs plan.schema.pairs) plan.line (late_block m)
+      blocks zero plan e = subst (λ (p : MethodPlan). AreBlocks (Pairs p.schema.pairs) p.line (late_block 0)) (let f : late_top_plan ≡ plan = cc in f) (one_block (0 ∷ 1 ∷ []) (λ i j c. not-in_empty _ c))
+      blocks (suc zero) plan e = subst (λ (p : MethodPlan). AreBlocks (Pairs p.schema.pairs) p.line (late_block 1)) (let f : late_method_plan ≡ plan = cc in f) (two_blocks (0, omega arith, refl))
       blocks (suc (suc m)) plan e = absurd cc
 
       above : (m i : ℕ) → (schemas late_check).IsGround m → DoesCount late_check late_block number m i → number_of_block late_check late_block number m i ≤ number_by number ((schemas late_check).head m)

@@ -28,7 +28,8 @@ use Rattle.plan_texts.proofs.Spelled.{sound_roll}
 use Rattle.task_networks.specs.Order.{Precedes, direct, through, ArePairsOf, IsAcyclic}
 use Rattle.task_networks.proofs.Lists.{head_or_tail, not-in_empty}
 use Rattle.plan_meaning.specs.Laws.{AreOrdered}
-use Rattle.plan_meaning.specs.Compilation.{AsksSomething, Pairs, IsCompiled}
+use Rattle.plan_meaning.specs.Compilation.{AsksSomething, IsCompiled}
+use Rattle.plan_model.specs.Pairs.{Pairs}
 use Rattle.slot_encoding.specs.SourceParts.{renamed}
 use Rattle.slot_encoding.specs.OrderFormulas.{free_parts}
 use Rattle.slot_encoding.specs.EncodedNames.{free_predicate, encoded_types, encoded_objects, encoded_predicates, order_numbers}

@@ -23,8 +23,8 @@ use Rattle.plan_texts.proofs.examples.SmallestRow.{h, x, wait, held, turned, fre
 use Rattle.plan_texts.proofs.examples.SmallestPrintable.{smallest_printable}
 use Rattle.plan_proof.specs.TextPlans.{IsPlanOf}
 use Rattle.plan_texts.proofs.Members.{contains-has}
-use Rattle.plan_proof.proofs.texts.Truths.{truth_roll}
-use Rattle.plan_proof.proofs.texts.Changes.{adds_roll}
+use Rattle.plan_meaning.proofs.TruthEquations.{truth_roll}
+use Rattle.plan_meaning.proofs.EffectEquations.{adds_roll}
 
 abbrev T : ℕ → ℕ → Type 0
 T = InTypeOf smallest

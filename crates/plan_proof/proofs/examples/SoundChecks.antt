@@ -43,7 +43,7 @@ use Rattle.task_networks.specs.Spelling.{numbers}
 use Rattle.task_networks.proofs.Numbers.{to_numbers}
 use Rattle.task_networks.proofs.PendingNodes.{both, not_to}
 use Rattle.task_networks.proofs.Tests.{all_to, any_to}
-use Rattle.plan_meaning.specs.Compilation.{pair, Pairs}
+use Rattle.plan_model.specs.Pairs.{pair, Pairs}
 use Rattle.plan_meaning.specs.Laws.{AreOrdered}
 use Rattle.plan_meaning.proofs.examples.Unequal.{lt_to}
 use Rattle.plan_meaning.proofs.examples.PlanChecks.{climbs}

@@ -14,25 +14,8 @@ use Rattle.plan_model.specs.declared.effects.Effect.TheFolds.{fold-roll-Effect, 
 use Rattle.plan_model.specs.declared.effects.Effect.TheOpen.{Effect-F}
 use Rattle.plan_meaning.specs.Truth.{State, ground, OneTrue, AreTyped, IsTrueIn, adds_step, Adds, deletes_step, Deletes}
 use Rattle.slot_encoding.specs.SourceParts.{retyped, source_param, source_atom, source_formula, effect_layer, source_effect}
-use Rattle.plan_meaning.proofs.EffectEquations.{adds-Add, adds-Delete, adds-And, adds-Forall, adds-When, deletes-Add, deletes-Delete, deletes-And, deletes-Forall, deletes-When}
-use Rattle.plan_model.specs.declared.effects.Effect.TheVariants.{rolls-Add, rolls-Delete, rolls-And, rolls-Forall, rolls-When}
+use Rattle.plan_meaning.proofs.EffectEquations.{adds_roll, deletes_roll}
 use Rattle.slot_encoding.proofs.places.SourceFormulas.{ground-source, typed-source, truth-source}
-
-module _ (InType : ℕ → ℕ → Type 0) (S : State) where
-  -- one level of an effect
-  adds_roll : (x : Effect-F Effect) → Adds InType S (roll-Effect x) ≡ adds_step InType S (Adds InType S) x
-  adds_roll (Effect-F.Add a) = ap (Adds InType S) (rolls-Add a) ∙ adds-Add InType S a
-  adds_roll (Effect-F.Delete a) = ap (Adds InType S) (rolls-Delete a) ∙ adds-Delete InType S a
-  adds_roll (Effect-F.And es) = ap (Adds InType S) (rolls-And es) ∙ adds-And InType S es
-  adds_roll (Effect-F.Forall ps e) = ap (Adds InType S) (rolls-Forall ps e) ∙ adds-Forall InType S ps e
-  adds_roll (Effect-F.When f e) = ap (Adds InType S) (rolls-When f e) ∙ adds-When InType S f e
-
-  deletes_roll : (x : Effect-F Effect) → Deletes InType S (roll-Effect x) ≡ deletes_step InType S (Deletes InType S) x
-  deletes_roll (Effect-F.Add a) = ap (Deletes InType S) (rolls-Add a) ∙ deletes-Add InType S a
-  deletes_roll (Effect-F.Delete a) = ap (Deletes InType S) (rolls-Delete a) ∙ deletes-Delete InType S a
-  deletes_roll (Effect-F.And es) = ap (Deletes InType S) (rolls-And es) ∙ deletes-And InType S es
-  deletes_roll (Effect-F.Forall ps e) = ap (Deletes InType S) (rolls-Forall ps e) ∙ deletes-Forall InType S ps e
-  deletes_roll (Effect-F.When f e) = ap (Deletes InType S) (rolls-When f e) ∙ deletes-When InType S f e
 
 module _ (names source : List (List ℕ)) (InType InType' : ℕ → ℕ → Type 0) (same_type : (o t : ℕ) → InType' o (retyped t) ↔ InType o t)
     (v : Declared) (arities : List ℕ) (S S' : State) (agreed : (g : GroundAtom) → g.predicate < length v.predicates → S' g ↔ S g) (front : List ℕ) where

@@ -1,12 +1,13 @@
 -- What an effect adds and deletes goes by the words.
-use Rattle.std.proofs.Common.{ℕ, ◌≡◌, ◌↔◌, ◌⊎◌, inl, inr, ◌++◌, List, [], ◌∷◌, map, refl, ap, sym, subst}
+use Rattle.std.proofs.Common.{ℕ, ◌≡◌, ◌↔◌, ◌⊎◌, inl, inr, ◌++◌, List, [], ◌∷◌, map, sym, subst}
 use Rattle.text_forms.specs.Words.{Word}
 use Rattle.plan_texts.specs.Declared.{Declared, kind_at}
 use Rattle.plan_texts.specs.Said.{Done, adds, deletes, both, for_every, when, Dones, no_more, and_more, dones, done_step, done}
 use Rattle.plan_meaning.specs.Truth.{State, value_of, OneTrue, adds_step, Adds, deletes_step, Deletes}
+use Rattle.plan_meaning.proofs.EffectEquations.{adds_roll, deletes_roll}
 use Rattle.plan_model.specs.declared.terms.GroundAtom.{GroundAtom}
 use Rattle.plan_model.specs.declared.effects.Effect.{Effect, roll-Effect}
-use Rattle.plan_model.specs.declared.effects.Effect.TheFolds.{rec-roll-Effect, map-Effect, ind-Effect}
+use Rattle.plan_model.specs.declared.effects.Effect.TheFolds.{map-Effect, ind-Effect}
 use Rattle.plan_model.specs.declared.effects.Effect.TheOpen.{Effect-F}
 use Rattle.plan_proof.proofs.texts.Truths.{AreTypedSaid, TrueSaid, typed-said, truth-said}
 use Rattle.plan_texts.proofs.Effects.{done_roll}
@@ -35,31 +36,6 @@ module _ (InWord : ℕ → List Word → Type 0) (S : State) where
     pub OneDeletes : Dones → List ℕ → GroundAtom → Type 0
     OneDeletes no_more values g = ⊥
     OneDeletes (and_more d ds) values g = DeletesSaid d values g ⊎ OneDeletes ds values g
-
-module _ (InType : ℕ → ℕ → Type 0) (S : State) where
-  one-map : (X Y : Type 0) (u : X → Y) (k : Y → List ℕ → GroundAtom → Type 0) (xs : List X) (values : List ℕ) (g : GroundAtom) → OneTrue (λ x w. k (u x) w g) xs values ≡ OneTrue (λ y w. k y w g) (map u xs) values
-  one-map X Y u k [] values g = refl
-  one-map X Y u k (x ∷ xs) values g = ap (λ t. k (u x) values g ⊎ t) (one-map X Y u k xs values g)
-
-  adds_natural : (X : Type 0) (u : X → Effect) (k : Effect → List ℕ → GroundAtom → Type 0) (x : Effect-F X) → adds_step InType S (λ p. k (u p)) x ≡ adds_step InType S k (map-Effect X Effect u x)
-  adds_natural X u k (Effect-F.Add a) = refl
-  adds_natural X u k (Effect-F.Delete a) = refl
-  adds_natural X u k (Effect-F.And es) = λ i values g. one-map X Effect u k es values g i
-  adds_natural X u k (Effect-F.Forall ps e) = refl
-  adds_natural X u k (Effect-F.When f e) = refl
-
-  deletes_natural : (X : Type 0) (u : X → Effect) (k : Effect → List ℕ → GroundAtom → Type 0) (x : Effect-F X) → deletes_step InType S (λ p. k (u p)) x ≡ deletes_step InType S k (map-Effect X Effect u x)
-  deletes_natural X u k (Effect-F.Add a) = refl
-  deletes_natural X u k (Effect-F.Delete a) = refl
-  deletes_natural X u k (Effect-F.And es) = λ i values g. one-map X Effect u k es values g i
-  deletes_natural X u k (Effect-F.Forall ps e) = refl
-  deletes_natural X u k (Effect-F.When f e) = refl
-
-  pub adds_roll : (x : Effect-F Effect) → Adds InType S (roll-Effect x) ≡ adds_step InType S (Adds InType S) x
-  adds_roll x = rec-roll-Effect (List ℕ → GroundAtom → Type 0) (λ X u k layer. adds_step InType S k layer) adds_natural x
-
-  pub deletes_roll : (x : Effect-F Effect) → Deletes InType S (roll-Effect x) ≡ deletes_step InType S (Deletes InType S) x
-  deletes_roll x = rec-roll-Effect (List ℕ → GroundAtom → Type 0) (λ X u k layer. deletes_step InType S k layer) deletes_natural x
 
 module _ (v : Declared) (InType : ℕ → ℕ → Type 0) (InWord : ℕ → List Word → Type 0) (same_type : (o t : ℕ) → InType o t ↔ InWord o (kind_at v t)) (S S' : State) (same_state : (g : _) → S g ↔ S' g) where
   abbrev pub AddsClaim : Effect → Type 0

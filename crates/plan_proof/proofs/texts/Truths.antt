@@ -1,12 +1,13 @@
 -- Truth goes by the words: it is decided by what a formula says.
-use Rattle.std.proofs.Common.{ℕ, ◌≡◌, ◌↔◌, ◌⊎◌, inl, inr, ◌++◌, List, [], ◌∷◌, map, refl, ap, sym, subst}
+use Rattle.std.proofs.Common.{ℕ, ◌≡◌, ◌↔◌, ◌⊎◌, inl, inr, ◌++◌, List, [], ◌∷◌, map, sym, subst}
 use Rattle.text_forms.specs.Words.{Word}
 use Rattle.plan_texts.specs.Declared.{Declared, kind_at}
 use Rattle.plan_texts.specs.Said.{Typed, Said, holds, equal, no, all, any, imply, every, some, Saids, none, more, saids, typed, said_step, said}
 use Rattle.plan_meaning.specs.Truth.{State, ground, value_of, EachTrue, OneTrue, AreTyped, truth_step, IsTrueIn}
+use Rattle.plan_meaning.proofs.TruthEquations.{truth_roll}
 use Rattle.plan_model.specs.declared.terms.Param.{Param}
 use Rattle.plan_model.specs.declared.formulas.Formula.{Formula, roll-Formula}
-use Rattle.plan_model.specs.declared.formulas.Formula.TheFolds.{rec-roll-Formula, map-Formula, ind-Formula}
+use Rattle.plan_model.specs.declared.formulas.Formula.TheFolds.{map-Formula, ind-Formula}
 use Rattle.plan_model.specs.declared.formulas.Formula.TheOpen.{Formula-F}
 use Rattle.plan_texts.proofs.Readings.{said_roll}
 
@@ -35,28 +36,6 @@ module _ (InWord : ℕ → List Word → Type 0) (S : State) where
     pub OneSaid : Saids → List ℕ → Type 0
     OneSaid none values = ⊥
     OneSaid (more s ss) values = TrueSaid s values ⊎ OneSaid ss values
-
-module _ (InType : ℕ → ℕ → Type 0) (S : State) where
-  each-map : (X Y : Type 0) (u : X → Y) (k : Y → List ℕ → Type 0) (xs : List X) (values : List ℕ) → EachTrue (λ x. k (u x)) xs values ≡ EachTrue k (map u xs) values
-  each-map X Y u k [] values = refl
-  each-map X Y u k (x ∷ xs) values = ap (λ t. k (u x) values × t) (each-map X Y u k xs values)
-
-  one-map : (X Y : Type 0) (u : X → Y) (k : Y → List ℕ → Type 0) (xs : List X) (values : List ℕ) → OneTrue (λ x. k (u x)) xs values ≡ OneTrue k (map u xs) values
-  one-map X Y u k [] values = refl
-  one-map X Y u k (x ∷ xs) values = ap (λ t. k (u x) values ⊎ t) (one-map X Y u k xs values)
-
-  natural : (X : Type 0) (u : X → Formula) (k : Formula → List ℕ → Type 0) (x : Formula-F X) → truth_step InType S (λ p. k (u p)) x ≡ truth_step InType S k (map-Formula X Formula u x)
-  natural X u k (Formula-F.Holds a) = refl
-  natural X u k (Formula-F.Equal s t) = refl
-  natural X u k (Formula-F.Not f) = refl
-  natural X u k (Formula-F.And fs) = λ i values. each-map X Formula u k fs values i
-  natural X u k (Formula-F.Or fs) = λ i values. one-map X Formula u k fs values i
-  natural X u k (Formula-F.Imply f g) = refl
-  natural X u k (Formula-F.Forall ps f) = refl
-  natural X u k (Formula-F.Exists ps f) = refl
-
-  pub truth_roll : (x : Formula-F Formula) → IsTrueIn InType S (roll-Formula x) ≡ truth_step InType S (IsTrueIn InType S) x
-  truth_roll x = rec-roll-Formula (List ℕ → Type 0) (λ X u k layer. truth_step InType S k layer) natural x
 
 module _ (v : Declared) (InType : ℕ → ℕ → Type 0) (InWord : ℕ → List Word → Type 0) (same_type : (o t : ℕ) → InType o t ↔ InWord o (kind_at v t)) (S S' : State) (same_state : (g : _) → S g ↔ S' g) where
   pub typed-said : (xs : List Param) (os : List ℕ) → AreTyped InType xs os ↔ AreTypedSaid InWord S' (map (typed v) xs) os

@@ -28,7 +28,8 @@ use Rattle.task_networks.specs.Net.{Net, one_action}
 use Rattle.task_networks.specs.Order.{IsLine, IsMaximal}
 use Rattle.task_networks.specs.Spelling.{numbers}
 use Rattle.task_networks.proofs.ScheduleLaws.{line_is_the_only_one}
-use Rattle.plan_meaning.specs.Compilation.{pair, once, same_pair, same_guard, children, pairs, Pairs, last_of, Keeps, params_of, params_of_task, params_of_action, placed, all_placed, IsParamIn, IsDeclaredIn, IsGuard, IsMethodPlan, AreMethodPlans}
+use Rattle.plan_meaning.specs.Compilation.{once, same_pair, same_guard, children, pairs, last_of, Keeps, params_of, params_of_task, params_of_action, placed, all_placed, IsParamIn, IsDeclaredIn, IsGuard, IsMethodPlan, AreMethodPlans}
+use Rattle.plan_model.specs.Pairs.{pair, Pairs}
 use Rattle.plan_proof.specs.Same.{AreSameButNames}
 use Rattle.plan_proof.proofs.values.Pairing.{Both, maps-length, both-of_maps, both-maps, both-and, increasing-same}
 use Rattle.plan_proof.proofs.values.TypeNumbers.{AreApart}

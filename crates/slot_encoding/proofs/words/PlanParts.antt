@@ -28,7 +28,8 @@ use Rattle.plan_texts.specs.SoundValue.{IsSoundHddl, IsSoundMethod, IsSoundHead,
 use Rattle.plan_texts.proofs.Members.{each-has, contains-has, has-contains, length-map}
 use Rattle.plan_texts.proofs.Places.{each-join}
 use Rattle.slot_encoding.proofs.places.Places.{each-at-some, each-from_has}
-use Rattle.plan_meaning.specs.Compilation.{children, pairs, Pairs, last_of, params_of_task, params_of_action, params_of, placed, all_placed, IsGuard, same_guard, IsMethodPlan, AreMethodPlans, IsCompiled}
+use Rattle.plan_meaning.specs.Compilation.{children, pairs, last_of, params_of_task, params_of_action, params_of, placed, all_placed, IsGuard, same_guard, IsMethodPlan, AreMethodPlans, IsCompiled}
+use Rattle.plan_model.specs.Pairs.{Pairs}
 use Rattle.slot_encoding.specs.EncodedActions.{slot_vars}
 use Rattle.plan_meaning.proofs.Pairs.{once_to}
 use Rattle.slot_encoding.proofs.places.KeptItems.{keeps_to}

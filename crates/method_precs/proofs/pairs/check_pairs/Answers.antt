@@ -1,5 +1,5 @@
 use Rattle.std.proofs.Common.{suc, ◌≡◌, ◌+◌, ◌++◌, ◌∷◌, [], sym, ap, ◌∙◌, arith}
-use Rattle.plan_meaning.specs.Compilation.{pair}
+use Rattle.plan_model.specs.Pairs.{pair}
 use Rattle.method_precs.proofs.Growing.{map-numbers-push}
 use Rattle.method_precs.proofs.pairs.check_pairs.Goals as goal
 

@@ -1,6 +1,6 @@
 use Rattle.std.proofs.Common.{◌≡◌, suc, map}
 use Rattle.task_networks.specs.Spelling.{numbers}
-use Rattle.plan_meaning.specs.Compilation.{pair}
+use Rattle.plan_model.specs.Pairs.{pair}
 use Rattle.method_precs.proofs.pairs.check_pairs.Given as goal
 
 abbrev pub invariant-loop-k : goal.invariant-loop-k

@@ -1,7 +1,7 @@
 use Rattle.std.proofs.Common.{suc, ◌≡◌, ◌+◌, ◌++◌, ◌∷◌, [], map, take, get_or, sym, ap, ◌∙◌, append_assoc, arith}
 use Rattle.task_networks.specs.Spelling.{numbers}
 use Rattle.plan_model.specs.declared.networks.Pair.{Pair}
-use Rattle.plan_meaning.specs.Compilation.{pair}
+use Rattle.plan_model.specs.Pairs.{pair}
 use Rattle.method_precs.specs.Pairs.{shifted}
 use Rattle.method_precs.proofs.Growing.{map-take-more}
 use Rattle.method_precs.proofs.pairs.with_check.Goals as goal

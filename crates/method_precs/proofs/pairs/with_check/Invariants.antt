@@ -1,6 +1,6 @@
 use Rattle.std.proofs.Common.{◌≡◌, ◌++◌, suc, map, take}
 use Rattle.task_networks.specs.Spelling.{numbers}
-use Rattle.plan_meaning.specs.Compilation.{pair}
+use Rattle.plan_model.specs.Pairs.{pair}
 use Rattle.method_precs.specs.Pairs.{shifted}
 use Rattle.method_precs.proofs.pairs.with_check.Given as goal
 

@@ -2,7 +2,8 @@ use Rattle.std.proofs.Common.{◌≡◌, ◌<◌, ◌^◌, List, length, subst, 
 use Rattle.task_networks.specs.Order.{IsAcyclic}
 use Rattle.plan_model.specs.declared.networks.Pair.{Pair}
 use Rattle.plan_model.specs.declared.schemas.MethodSchema.{MethodSchema}
-use Rattle.plan_meaning.specs.Compilation.{Pairs, children, pairs}
+use Rattle.plan_meaning.specs.Compilation.{children, pairs}
+use Rattle.plan_model.specs.Pairs.{Pairs}
 use Rattle.net_order.specs.Meaning.{AreBelow}
 use Rattle.method_precs.specs.Ordered.{IsOrdered}
 use Rattle.method_precs.proofs.Fits.{pairs_below, pairs_few, acyclic}

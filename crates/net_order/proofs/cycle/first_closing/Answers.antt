@@ -3,7 +3,7 @@ use Rattle.std.proofs.lemmas.List.{take_all}
 use Rattle.std.proofs.lemmas.Bool.{both_ways}
 use Rattle.plan_model.specs.declared.networks.Pair.{Pair}
 use Rattle.task_networks.specs.Order.{IsAcyclic}
-use Rattle.net_order.specs.Meaning.{Pairs}
+use Rattle.plan_model.specs.Pairs.{Pairs}
 use Rattle.net_order.proofs.Closures.{first_at, acyclic_none}
 use Rattle.net_order.proofs.cycle.first_closing.Goals as goal
 

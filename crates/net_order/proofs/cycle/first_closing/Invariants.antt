@@ -1,6 +1,6 @@
 use Rattle.std.proofs.Common.{◌-◌, ◌<◌, ◌≤◌, length, take}
 use Rattle.task_networks.specs.Order.{IsAcyclic}
-use Rattle.net_order.specs.Meaning.{Pairs}
+use Rattle.plan_model.specs.Pairs.{Pairs}
 use Rattle.net_order.proofs.cycle.first_closing.Given as goal
 
 abbrev pub invariant-loop-cyclic : goal.invariant-loop-cyclic

@@ -2,7 +2,7 @@ use Rattle.std.proofs.Common.{◌↔◌, IsTrue, subst}
 use Rattle.std.proofs.lemmas.Result.{IfOk-weaker}
 use Rattle.task_networks.specs.Order.{IsAcyclic}
 use Rattle.net_order.specs.Marks.{Marked}
-use Rattle.net_order.specs.Meaning.{Pairs}
+use Rattle.plan_model.specs.Pairs.{Pairs}
 use Rattle.net_order.proofs.Sorting.{acyclic_sets}
 use Rattle.net_order.proofs.cycle.have_no_cycle.Goals as goal
 
