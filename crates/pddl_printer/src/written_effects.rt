@@ -137,13 +137,10 @@ fn put_add(
     ensures { Wrote (effects_behind (pddl_words p.now) (words_in_force p.now scope.now) (conditional_add of.range of.depth whole.now (Formula-F.Holds condition.now) (out-Effect change.now))) sheet.old sheet.new }
 {
     match change {
-        Effect::Add(added) => put_each(
-            p,
-            scope,
-            of,
-            &Literal::Conditional(condition, added),
-            sheet,
-        ),
+        Effect::Add(added) => {
+            let literal = Literal::Conditional(condition, added);
+            put_each(p, scope, of, &literal, sheet);
+        }
         _ => put_effect(p, scope, whole, sheet),
     }
 }

@@ -33,7 +33,9 @@ pub fn texts_of(
     ensures printed { IfOk result (λ texts. ArePrinted c.now slots style.now texts.domain texts.problem) }
 {
     let value = encode(alloc, c, slots, &Style::Adl)?;
-    texts_in_style(alloc, c, slots, style, &value, sizes)
+    let texts = texts_in_style(alloc, c, slots, style, &value, sizes);
+    drop(value);
+    texts
 }
 
 fn texts_in_style(
