@@ -10,3 +10,4 @@ pub mod TermGrammar
 pub mod ListGrammar
 pub mod Grammar
 pub mod Reading
+pub mod Calls
