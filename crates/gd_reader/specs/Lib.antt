@@ -11,3 +11,4 @@ pub mod TermGrammar
 pub mod ListGrammar
 pub mod Grammar
 pub mod Reading
+pub mod Calls

@@ -64,11 +64,11 @@ fn effect_headed_of(
         }
         EffectHead::Forall => {
             let (vars, part) = bound_effect_of(alloc, s, i, names)?;
-            Ok(RawEffect::Forall(vars, Boxed::new(alloc, part)?))
+            Ok(RawEffect::Forall(vars, part))
         }
         EffectHead::When => {
             let (condition, part) = guarded_of(alloc, s, i, names)?;
-            Ok(RawEffect::When(condition, Boxed::new(alloc, part)?))
+            Ok(RawEffect::When(condition, part))
         }
         EffectHead::Not => {
             let atom = deleted_of(alloc, s, i, names)?;
@@ -115,14 +115,14 @@ fn one_effect_of(
     s: &Sexprs<'_>,
     i: u32,
     names: &mut NameTable,
-) -> Result<RawEffect, Failure>
+) -> Result<Boxed<RawEffect>, Failure>
     ensures keeps { Keeps names.old names.new }
     ensures gives { Gives (λ x. (x, names.new)) result (one_effect names.old (parts_at s.now i)) }
 {
     let (inside, behind) = list_due(s, i)?;
     let part = effect_inside_of(alloc, s, inside, names)?;
     end_due(s, behind)?;
-    Ok(part)
+    Ok(Boxed::new(alloc, part)?)
 }
 
 // A formula, an effect, and the end of their list.
@@ -133,7 +133,7 @@ fn guarded_of(
     s: &Sexprs<'_>,
     i: u32,
     names: &mut NameTable,
-) -> Result<(RawFormula, RawEffect), Failure>
+) -> Result<(RawFormula, Boxed<RawEffect>), Failure>
     ensures keeps { Keeps names.old names.new }
     ensures gives { Gives (λ x. (x, names.new)) result (guarded names.old (parts_at s.now i)) }
 {
@@ -151,7 +151,7 @@ fn bound_effect_of(
     s: &Sexprs<'_>,
     i: u32,
     names: &mut NameTable,
-) -> Result<(List<RawParam>, RawEffect), Failure>
+) -> Result<(List<RawParam>, Boxed<RawEffect>), Failure>
     ensures keeps { Keeps names.old names.new }
     ensures gives { Gives (λ x. (x, names.new)) result (bound_effect names.old (parts_at s.now i)) }
 {

@@ -70,11 +70,11 @@ fn headed_of(
         }
         Head::Not => {
             let part = one_of(alloc, s, i, names)?;
-            Ok(RawFormula::Not(Boxed::new(alloc, part)?))
+            Ok(RawFormula::Not(part))
         }
         Head::Imply => {
             let (first, second) = two_of(alloc, s, i, names)?;
-            Ok(RawFormula::Imply(Boxed::new(alloc, first)?, Boxed::new(alloc, second)?))
+            Ok(RawFormula::Imply(first, second))
         }
         Head::Equal => {
             let (left, right) = two_terms_of(s, i, names)?;
@@ -86,11 +86,11 @@ fn headed_of(
         }
         Head::Forall => {
             let (vars, part) = bound_of(alloc, s, i, names)?;
-            Ok(RawFormula::Forall(vars, Boxed::new(alloc, part)?))
+            Ok(RawFormula::Forall(vars, part))
         }
         Head::Exists => {
             let (vars, part) = bound_of(alloc, s, i, names)?;
-            Ok(RawFormula::Exists(vars, Boxed::new(alloc, part)?))
+            Ok(RawFormula::Exists(vars, part))
         }
         Head::Wrong => Err(Failure::At(Stop::Departs(8, at))),
     }
@@ -125,14 +125,14 @@ fn one_of(
     s: &Sexprs<'_>,
     i: u32,
     names: &mut NameTable,
-) -> Result<RawFormula, Failure>
+) -> Result<Boxed<RawFormula>, Failure>
     ensures keeps { Keeps names.old names.new }
     ensures gives { Gives (λ x. (x, names.new)) result (one names.old (parts_at s.now i)) }
 {
     let (inside, behind) = list_due(s, i)?;
     let part = inside_of(alloc, s, inside, names)?;
     end_due(s, behind)?;
-    Ok(part)
+    Ok(Boxed::new(alloc, part)?)
 }
 
 // Two formulas, and the end of their list.
@@ -143,12 +143,12 @@ fn two_of(
     s: &Sexprs<'_>,
     i: u32,
     names: &mut NameTable,
-) -> Result<(RawFormula, RawFormula), Failure>
+) -> Result<(Boxed<RawFormula>, Boxed<RawFormula>), Failure>
     ensures keeps { Keeps names.old names.new }
     ensures gives { Gives (λ x. (x, names.new)) result (two names.old (parts_at s.now i)) }
 {
     let (inside, behind) = list_due(s, i)?;
-    let first = inside_of(alloc, s, inside, names)?;
+    let first = Boxed::new(alloc, inside_of(alloc, s, inside, names)?)?;
     let second = one_of(alloc, s, behind, names)?;
     Ok((first, second))
 }
@@ -161,7 +161,7 @@ fn bound_of(
     s: &Sexprs<'_>,
     i: u32,
     names: &mut NameTable,
-) -> Result<(List<RawParam>, RawFormula), Failure>
+) -> Result<(List<RawParam>, Boxed<RawFormula>), Failure>
     ensures keeps { Keeps names.old names.new }
     ensures gives { Gives (λ x. (x, names.new)) result (bound names.old (parts_at s.now i)) }
 {

@@ -70,10 +70,7 @@ fn type_of(
 fn add(types: &mut List<RawTerm>, known: bool, ty: RawTerm) -> Result<(), Memory>
     ensures added { OnOk result (types.new ≡ types.old ++ unless known ty []) }
 {
-    if !known {
-        types.push(ty)?;
-    }
-    Ok(())
+    if known { Ok(()) } else { types.push(ty) }
 }
 
 // The names of a union behind its first one, up to its end. Repeats are dropped.

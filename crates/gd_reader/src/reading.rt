@@ -1,16 +1,14 @@
-ghost use Rattle.std.specs.Prelude.{◌≡◌, ◌<◌, [], IfOk, IfErr};
+ghost use Rattle.std.specs.Prelude.{◌≡◌, ◌<◌, IfOk, IfErr};
 ghost use Rattle.text_forms.specs.Placed.{parts_at};
 ghost use Rattle.text_forms.specs.Tokens.{token_count};
 ghost use Rattle.gd_reader.specs.Answers.{Gives};
+ghost use Rattle.gd_reader.specs.Calls.{IsFormulaRead, RefusesFormula, IsEffectRead, RefusesEffect, IsListRead, RefusesList};
 ghost use Rattle.gd_reader.specs.Effects.{effect_read};
 ghost use Rattle.gd_reader.specs.Ends.{end_of};
 ghost use Rattle.gd_reader.specs.Formulas.{formula_read};
-ghost use Rattle.gd_reader.specs.Grammar.{formula_form, effect_form};
-ghost use Rattle.gd_reader.specs.ListGrammar.{params_form};
-ghost use Rattle.gd_reader.specs.Reading.{IsRead, Refuses, refusal, StandsInList};
+ghost use Rattle.gd_reader.specs.Reading.{refusal, StandsInList};
 ghost use Rattle.gd_reader.specs.Shown.{EndsAt};
 ghost use Rattle.gd_reader.specs.Terms.{Keeps};
-ghost use Rattle.gd_reader.specs.TypedLists.{listed};
 
 use crate::cursor::list_due;
 use crate::effects::{RawEffect, effect_inside_of};
@@ -92,9 +90,9 @@ pub fn formula(
     names: &mut NameTable,
 ) -> Result<Got<RawFormula>, ReadError>
     requires token { at < token_count s.now }
-    ensures read { IfOk result (λ got. IsRead formula_form (formula_read names.old) s.now at (got.value, names.new)) }
+    ensures read { IfOk result (λ got. IsFormulaRead names.old s.now at (got.value, names.new)) }
     ensures next { IfOk result (λ got. EndsAt s.now at got.next) }
-    ensures refused { IfErr result (Refuses formula_form (formula_read names.old) s.now at file) }
+    ensures refused { IfErr result (RefusesFormula names.old s.now at file) }
     ensures keeps { Keeps names.old names.new }
 {
     match formula_of(alloc, s, at, names) {
@@ -113,9 +111,9 @@ pub fn effect(
     names: &mut NameTable,
 ) -> Result<Got<RawEffect>, ReadError>
     requires token { at < token_count s.now }
-    ensures read { IfOk result (λ got. IsRead effect_form (effect_read names.old) s.now at (got.value, names.new)) }
+    ensures read { IfOk result (λ got. IsEffectRead names.old s.now at (got.value, names.new)) }
     ensures next { IfOk result (λ got. EndsAt s.now at got.next) }
-    ensures refused { IfErr result (Refuses effect_form (effect_read names.old) s.now at file) }
+    ensures refused { IfErr result (RefusesEffect names.old s.now at file) }
     ensures keeps { Keeps names.old names.new }
 {
     match effect_of(alloc, s, at, names) {
@@ -135,9 +133,9 @@ pub fn typed_list(
     names: &mut NameTable,
 ) -> Result<Got<List<RawParam>>, ReadError>
     requires stands { StandsInList s.now at }
-    ensures read { IfOk result (λ got. IsRead (params_form kind []) (listed kind names.old) s.now at (got.value, names.new)) }
+    ensures read { IfOk result (λ got. IsListRead kind names.old s.now at (got.value, names.new)) }
     ensures next { IfOk result (λ got. parts_at s.now got.next ≡ end_of (parts_at s.now at)) }
-    ensures refused { IfErr result (Refuses (params_form kind []) (listed kind names.old) s.now at file) }
+    ensures refused { IfErr result (RefusesList kind names.old s.now at file) }
     ensures keeps { Keeps names.old names.new }
 {
     match params_of(alloc, s, at, kind, names) {
