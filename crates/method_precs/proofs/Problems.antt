@@ -5,7 +5,7 @@ use Rattle.plan_texts.specs.SoundProblem.{all_methods, IsSoundProblem}
 use Rattle.plan_texts.proofs.SoundProblems.{pairs_within}
 use Rattle.plan_model.specs.declared.schemas.MethodSchema.{MethodSchema}
 use Rattle.plan_model.specs.declared.values.Hddl.{Hddl}
-use Rattle.plan_meaning.specs.Compilation.{Pairs}
+use Rattle.plan_model.specs.Pairs.{Pairs}
 use Rattle.plan_meaning.specs.Laws.{AreOrdered}
 
 pub ordered : (h : Hddl) → IsSoundProblem h → ((s : MethodSchema) → Contains (all_methods h) s → IsAcyclic (Pairs s.pairs)) → AreOrdered h
