@@ -1,5 +1,6 @@
 ghost use Rattle.std.specs.Prelude.{◌≡◌, ◌≤◌, ◌<◌, ◌^◌, ◌++◌, IfOk, OnOk, length, map, suc};
 ghost use Rattle.task_networks.specs.Spelling.{numbers};
+ghost use Rattle.plan_model.specs.Pairs as order;
 ghost use Rattle.plan_meaning.specs.Compilation as spec;
 ghost use Rattle.net_order.specs.Meaning.{AreBelow};
 ghost use Rattle.method_precs.specs.Pairs.{shifted};
@@ -29,7 +30,7 @@ pub fn pairs_of(alloc: Global, checked: bool, method: &MethodSchema) -> Result<L
 fn with_check(alloc: Global, count: u32, pairs: &[Pair]) -> Result<List<Pair>, Memory>
     requires small { count ≤ 4096 }
     requires within { AreBelow count pairs.now }
-    ensures all { IfOk result (λ all. all ≡ map (λ k. spec.pair 0 (suc k)) (numbers 0 count) ++ map shifted pairs.now) }
+    ensures all { IfOk result (λ all. all ≡ map (λ k. order.pair 0 (suc k)) (numbers 0 count) ++ map shifted pairs.now) }
 {
     let mut all = check_pairs(alloc, count)?;
     for pair in pairs {
@@ -43,7 +44,7 @@ fn with_check(alloc: Global, count: u32, pairs: &[Pair]) -> Result<List<Pair>, M
 
 fn check_pairs(alloc: Global, count: u32) -> Result<List<Pair>, Memory>
     requires { count ≤ 4096 }
-    ensures { IfOk result (λ pairs. pairs ≡ map (λ k. spec.pair 0 (suc k)) (numbers 0 count)) }
+    ensures { IfOk result (λ pairs. pairs ≡ map (λ k. order.pair 0 (suc k)) (numbers 0 count)) }
 {
     let mut pairs = List::new(alloc);
     for k in 0..count {

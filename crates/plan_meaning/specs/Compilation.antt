@@ -71,12 +71,12 @@ Keeps {A = A} P (x ∷ xs) kept = (P x × (rest : List A) × (kept ≡ x ∷ res
 
 module _ (h : Hddl) where
   abbrev pub params_of_task : Option TaskSchema → List Param
-  params_of_task None = []
   params_of_task (Some s) = s.params
+  params_of_task None = []
 
   abbrev pub params_of_action : Option ActionSchema → List Param
-  params_of_action None = []
   params_of_action (Some s) = s.params
+  params_of_action None = []
 
   -- the declared parameters of what a subtask names
   abbrev pub params_of : Head → List Param
@@ -96,8 +96,8 @@ module _ (h : Hddl) where
 
   module _ (s : MethodSchema) where
     abbrev pub IsParamIn : Option Param → ℕ → Type 0
-    IsParamIn None ty = ⊥
     IsParamIn (Some p) ty = IsA h.types p.ty ty
+    IsParamIn None ty = ⊥
 
     -- the term's declaration puts it into the type
     abbrev pub IsDeclaredIn : ℕ → Term → Type 0

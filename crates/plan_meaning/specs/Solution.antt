@@ -17,18 +17,18 @@ module _ (c : Compiled) where
 
   -- the condition of an action
   abbrev pub AllowsAction : State → Option ActionSchema → List ℕ → Type 0
-  AllowsAction S None args = ⊥
   AllowsAction S (Some s) args = IsTrueIn (InTypeOf c) S s.pre args
+  AllowsAction S None args = ⊥
 
   -- the precondition of a method, at its check
   abbrev pub AllowsCheck : State → Option MethodPlan → List ℕ → Type 0
-  AllowsCheck S None values = ⊥
   AllowsCheck S (Some plan) values = IsTrueIn (InTypeOf c) S plan.schema.pre values
+  AllowsCheck S None values = ⊥
 
   -- the precondition of a method that is tested where it is applied
   abbrev pub AllowsMethod : State → Option MethodPlan → List ℕ → Type 0
-  AllowsMethod S None values = ⊥
   AllowsMethod S (Some plan) values = IsTrue plan.tested → IsTrueIn (InTypeOf c) S plan.schema.pre values
+  AllowsMethod S None values = ⊥
 
   -- what a node asks of the state before it
   abbrev pub Allows : State → Label (network c) → Type 0
@@ -39,8 +39,8 @@ module _ (c : Compiled) where
   Allows S (used g) = AllowsMethod S (slice_get c.methods g.number) g.values
 
   abbrev pub after_action : State → Option ActionSchema → List ℕ → State
-  after_action S None args = S
   after_action S (Some s) args = after (InTypeOf c) S s.eff args
+  after_action S None args = S
 
   -- actions alone change the state
   abbrev pub next : State → Label (network c) → State

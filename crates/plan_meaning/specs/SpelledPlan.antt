@@ -18,19 +18,19 @@ module _ (c : Compiled) where
   printed number = escaped (slice_index_or c.hddl.names number [])
 
   abbrev pub object_by : Option Object → List ℕ
-  object_by None = []
   object_by (Some x) = printed x.name.number
+  object_by None = []
 
   abbrev pub object_word : ℕ → List ℕ
   object_word o = object_by (slice_get c.hddl.objects o)
 
   abbrev pub action_by : Option ActionSchema → List ℕ
-  action_by None = []
   action_by (Some s) = printed s.name.number
+  action_by None = []
 
   abbrev pub method_by : Option MethodPlan → List ℕ
-  method_by None = []
   method_by (Some plan) = printed plan.schema.name.number
+  method_by None = []
 
   -- the name of the action that processes an action or a check
   abbrev pub work_name : Work → List ℕ

@@ -28,8 +28,8 @@ module _ (c : Compiled) where
   source e = (schemas c).head e.method
 
   abbrev pub target_by : Option Schema → Schema
-  target_by None = task 0
   target_by (Some s) = s
+  target_by None = task 0
 
   abbrev pub target : Edge → Schema
   target e = target_by (slice_get ((schemas c).works e.method) e.child)
