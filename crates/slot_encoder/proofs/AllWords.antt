@@ -111,24 +111,24 @@ module _ (c : Compiled) (names : List Word) (b : ℕ) (style : Style) (v : Encod
     names = names;
     domain = v.domain;
     problem = v.problem;
-    types = v.types;
-    objects = v.objects;
-    predicates = v.predicates;
-    actions = v.actions;
-    init = v.init;
-    goal = v.goal;
+    types = v.declarations.types;
+    objects = v.declarations.objects;
+    predicates = v.declarations.predicates;
+    actions = v.behaviour.actions;
+    init = v.behaviour.init;
+    goal = v.behaviour.goal;
   }
 
-  encoded : IsEncoded c b style value
+  pub encoded : IsEncoded c b style value
   encoded = record {
     domain = are.domain;
     problem = are.problem;
-    types = are.types;
-    objects = are.objects;
-    predicates = are.predicates;
-    actions = are.actions;
-    init = are.init;
-    goal = are.goal;
+    types = are.declarations.types;
+    objects = are.declarations.objects;
+    predicates = are.declarations.predicates;
+    actions = are.behaviour.actions;
+    init = are.behaviour.init;
+    goal = are.behaviour.goal;
   }
 
   pub value-printable : HasEncodedWords c b names → length names < 2 ^ 32 → IsPrintableWhereSound c b value

@@ -1,7 +1,6 @@
 pub mod Appended
 pub mod Numbered
-pub mod Once
-pub mod Members
+pub mod GuardAtoms
 pub mod Splits
 pub mod SingleAtoms
 pub mod PredicateParts

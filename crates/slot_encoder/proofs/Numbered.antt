@@ -1,9 +1,6 @@
 -- Lists that are made along numbers, or along a list and numbers at once.
-use Rattle.std.proofs.Common.{ℕ, zero, suc, ◌≡◌, ◌+◌, ◌-◌, ◌<◌, ◌≤◌, Bool, true, false, cond, List, [], ◌∷◌, ◌++◌, map, filter, take, drop, length, get_or, refl, ap, sym, ◌∙◌, arith, append_assoc, Option}
-use Rattle.std.proofs.lemmas.List.{append-nil, length_push}
-use Rattle.std.proofs.lemmas.List.Elements.{filter_more}
-use Rattle.plan_model.specs.declared.schemas.MethodPlan.{MethodPlan}
-use Rattle.slot_encoder.specs.Pieces.{with_check}
+use Rattle.std.proofs.Common.{ℕ, zero, suc, ◌≡◌, ◌+◌, ◌-◌, ◌<◌, ◌≤◌, Bool, true, false, cond, List, [], ◌∷◌, ◌++◌, map, drop, length, get_or, refl, ap, sym, ◌∙◌, arith, append_assoc, Option}
+use Rattle.std.proofs.lemmas.List.{append-nil}
 use Rattle.task_networks.specs.Spelling.{numbers, is_heir}
 use Rattle.plan_model.specs.declared.terms.Term.TheVariants.{Var}
 use Rattle.plan_model.specs.declared.formulas.Formula.{Formula}
@@ -65,19 +62,3 @@ differ_next i n old now next l e g =
     ∙ ap (λ k. now ++ (map (unequal_to (1 + i)) (numbers (suc (1 + i)) m) ++ differ (numbers (suc (1 + i)) k))) (let k : n - (i + 1) ≡ n - 1 - i = omega arith in k)
     ∙ ap (λ k. now ++ differ (numbers (1 + i) k)) (let k : suc (n - 1 - i) ≡ n - i = omega arith in k)
     ∙ e
-
--- the number of the next check
-pub check_next : (first : ℕ) (xs : List MethodPlan) (i : ℕ) (x : MethodPlan) (now next : ℕ) → i < length xs → x ≡ get_or xs i x → now ≡ first + length (filter (λ (plan : MethodPlan). plan.checked) (take i xs))
-    → next ≡ with_check x now → next ≡ first + length (filter (λ (plan : MethodPlan). plan.checked) (take (i + 1) xs))
-check_next first xs i x now next l e g h =
-    h ∙ go x.checked ∙ ap (λ (y : MethodPlan). first + length (before ++ cond y.checked (y ∷ []) [])) e ∙ ap (λ ys. first + length ys) (sym (filter_more (λ (plan : MethodPlan). plan.checked) xs i x l))
-  where
-    before : List MethodPlan
-    before = filter (λ (plan : MethodPlan). plan.checked) (take i xs)
-
-    more : length (before ++ x ∷ []) ≡ length before + 1
-    more = length_push before x
-
-    go : (b : Bool) → cond b (now + 1) now ≡ first + length (before ++ cond b (x ∷ []) [])
-    go true = let k = more in omega (arith, g, k)
-    go false = g ∙ ap (λ ys. first + length ys) (sym (append-nil before))

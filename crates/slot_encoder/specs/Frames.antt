@@ -10,6 +10,8 @@ use Rattle.plan_model.specs.declared.options.Style.{Style}
 use Rattle.slot_encoding.specs.SourceParts.{renamed}
 use Rattle.slot_encoding.specs.EncodedValue.{encoded_actions, IsInitial}
 use Rattle.slot_encoder.specs.Pieces.{encoded_goal}
+use Rattle.slot_encoder.specs.declared.encoding.Behaviour.{Behaviour}
+use Rattle.slot_encoder.specs.declared.encoding.Declarations.{Declarations}
 use Rattle.slot_encoder.specs.declared.encoding.Encoded.{Encoded}
 use Rattle.slot_encoder.specs.declared.frame.Frame.{Frame}
 use Rattle.slot_encoder.specs.declared.numbers.Numbers.{Numbers}
@@ -39,12 +41,19 @@ pub record AreVariables (plan : MethodPlan) (v : Variables) : Type 0 where
   pub slots : v.slots ≡ slot_vars plan.heir 0 1 (length plan.schema.children)
 
 -- the parts of the printed problem, at these words
-pub record AreEncoded (c : Compiled) (names : List (List ℕ)) (b : ℕ) (style : Style) (v : Encoded) : Type 0 where
-  pub domain : v.domain ≡ renamed names c.hddl.names c.hddl.domain
-  pub problem : v.problem ≡ renamed names c.hddl.names c.hddl.problem
-  pub types : v.types ≡ spec.encoded_types c names b
-  pub objects : v.objects ≡ spec.encoded_objects c names b
-  pub predicates : v.predicates ≡ spec.encoded_predicates c names b
-  pub actions : v.actions ≡ encoded_actions c names b style
-  pub init : IsInitial c names b style v.init
-  pub goal : v.goal ≡ encoded_goal c names b style
+module _ (c : Compiled) (names : List (List ℕ)) (b : ℕ) where
+  pub record AreDeclarations (v : Declarations) : Type 0 where
+    pub types : v.types ≡ spec.encoded_types c names b
+    pub objects : v.objects ≡ spec.encoded_objects c names b
+    pub predicates : v.predicates ≡ spec.encoded_predicates c names b
+
+  pub record IsBehaviour (style : Style) (v : Behaviour) : Type 0 where
+    pub actions : v.actions ≡ encoded_actions c names b style
+    pub init : IsInitial c names b style v.init
+    pub goal : v.goal ≡ encoded_goal c names b style
+
+  pub record AreEncoded (style : Style) (v : Encoded) : Type 0 where
+    pub domain : v.domain ≡ renamed names c.hddl.names c.hddl.domain
+    pub problem : v.problem ≡ renamed names c.hddl.names c.hddl.problem
+    pub declarations : AreDeclarations v.declarations
+    pub behaviour : IsBehaviour style v.behaviour

@@ -45,7 +45,7 @@ fn push_methods(
     let mut m: u32 = 0;
     let mut check = frame.numbers.first_check;
     for plan in methods {
-        into.push(encoded_method(alloc, frame, m, check, plan)?)?;
+        into.put(encoded_method(alloc, frame, m, check, plan))?;
         m = plus(m, 1)?;
         check = after(plan, check)?;
     }
@@ -81,9 +81,10 @@ fn push_check(
     ensures { OnOk result (into.new ≡ into.old ++ if_checked plan.now (check_action frame.now.compiled.now frame.now.printed.now frame.now.slots frame.now.style check plan.now)) }
 {
     if plan.checked {
-        into.push(encoded_check(alloc, frame, check, plan)?)?;
+        into.put(encoded_check(alloc, frame, check, plan))
+    } else {
+        Ok(())
     }
-    Ok(())
 }
 
 fn push_source(
@@ -97,7 +98,7 @@ fn push_source(
 {
     let mut a: u32 = 0;
     for action in actions {
-        into.push(encoded_action(alloc, frame, a, action)?)?;
+        into.put(encoded_action(alloc, frame, a, action))?;
         a = plus(a, 1)?;
     }
     Ok(())

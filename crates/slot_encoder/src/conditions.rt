@@ -9,6 +9,7 @@ use crate::frame::Frame;
 use htn_base::{List, Memory};
 use order_encoder::{push_clearing, push_waiting};
 use plan_model::{Effect, Formula, Term};
+use printed_sizes::{is_empty, is_empty_effect};
 use std::alloc::Global;
 
 /// Puts a source condition at the end, but no empty conjunction.
@@ -21,24 +22,10 @@ pub(crate) fn push_condition(
 ) -> Result<(), Memory>
     ensures { OnOk result (into.new ≡ into.old ++ spec.source_condition frame.now.compiled.now frame.now.printed.now frame.now.slots frame.now.style front condition.now) }
 {
-    if !is_empty(condition) {
-        into.push(source_formula(alloc, frame, front, condition)?)?;
-    }
-    Ok(())
-}
-
-fn is_empty(condition: &Formula) -> bool
-    ensures { result ≡ spec.is_empty condition.now }
-{
-    match condition {
-        Formula::Holds(_) => false,
-        Formula::Equal(_, _) => false,
-        Formula::Not(_) => false,
-        Formula::And(parts) => parts.len() == 0,
-        Formula::Or(_) => false,
-        Formula::Imply(_, _) => false,
-        Formula::Forall(_, _) => false,
-        Formula::Exists(_, _) => false,
+    if is_empty(condition) {
+        Ok(())
+    } else {
+        into.put(source_formula(alloc, frame, front, condition))
     }
 }
 
@@ -52,21 +39,10 @@ pub(crate) fn push_change(
 ) -> Result<(), Memory>
     ensures { OnOk result (into.new ≡ into.old ++ spec.source_change frame.now.compiled.now frame.now.printed.now frame.now.slots frame.now.style front effect.now) }
 {
-    if !is_empty_effect(effect) {
-        into.push(source_effect(alloc, frame, front, effect)?)?;
-    }
-    Ok(())
-}
-
-fn is_empty_effect(effect: &Effect) -> bool
-    ensures { result ≡ spec.is_empty_effect effect.now }
-{
-    match effect {
-        Effect::Add(_) => false,
-        Effect::Delete(_) => false,
-        Effect::And(parts) => parts.len() == 0,
-        Effect::Forall(_, _) => false,
-        Effect::When(_, _) => false,
+    if is_empty_effect(effect) {
+        Ok(())
+    } else {
+        into.put(source_effect(alloc, frame, front, effect))
     }
 }
 
@@ -88,8 +64,7 @@ pub(crate) fn push_waits(
         Term::Var(0),
         depth,
         into,
-    )?;
-    Ok(())
+    )
 }
 
 /// Puts at the end that the pairs which leave the first variable's slot go.
@@ -110,6 +85,5 @@ pub(crate) fn push_clears(
         Term::Var(0),
         depth,
         into,
-    )?;
-    Ok(())
+    )
 }

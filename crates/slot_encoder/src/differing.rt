@@ -35,7 +35,7 @@ fn push_unequal(
     ensures { OnOk result (into.new ≡ into.old ++ map (λ u. F.Not (F.Equal (T.Var slot) (T.Var u))) (numbers first count)) }
 {
     for k in 0..count {
-        into.push(unequal(alloc, slot, first + k)?)?;
+        into.put(unequal(alloc, slot, first + k))?;
     }
     Ok(())
 }

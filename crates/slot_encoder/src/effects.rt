@@ -58,7 +58,7 @@ fn listed(
     let parts = effects.as_slice();
     let mut moved = List::new(alloc);
     for part in parts {
-        moved.push(source_effect(alloc, frame, front, part)?)?;
+        moved.put(source_effect(alloc, frame, front, part))?;
     }
     Ok(moved)
 }

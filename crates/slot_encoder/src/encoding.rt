@@ -4,20 +4,20 @@ ghost use Rattle.slot_encoding.specs.EncodedNames as names;
 ghost use Rattle.slot_encoding.specs.EncodedValue.{IsEncoded};
 ghost use Rattle.order_encoder.specs.Orders as orders;
 ghost use Rattle.slot_encoding.specs.EncodedWords.{HasEncodedWords};
-ghost use Rattle.slot_encoder.specs.Frames.{IsFrame, AreEncoded};
+ghost use Rattle.slot_encoder.specs.Frames.{IsFrame, AreDeclarations, IsBehaviour, AreEncoded};
 ghost use Rattle.slot_encoder.specs.Vocabulary.{IsPrintableWhereSound};
 
 use crate::actions::encoded_actions;
 use crate::frame::Frame;
 use crate::goals::goal_of;
 use crate::initial::encoded_initial;
-use crate::numbers::{number, numbers_of, plus};
+use crate::numbers::{numbers_of, plus};
 use crate::objects::encoded_objects;
 use crate::predicates::encoded_predicates;
 use crate::types::encoded_types;
 use crate::vocabulary::vocabulary;
 use crate::words::{name_of, renamed};
-use htn_base::{List, Memory, Name, NameTable};
+use htn_base::{List, Memory, Name, NameTable, number};
 use order_encoder::OrderNames;
 use plan_model::{
     ActionSchema, Compiled, Formula, GroundAtom, Object, Pddl, Predicate, Style, Types,
@@ -40,12 +40,12 @@ pub fn encode(alloc: Global, c: &Compiled, slots: u32, style: &Style) -> Result<
         names,
         domain: value.domain,
         problem: value.problem,
-        types: value.types,
-        objects: value.objects,
-        predicates: value.predicates,
-        actions: value.actions,
-        init: value.init,
-        goal: value.goal,
+        types: value.declarations.types,
+        objects: value.declarations.objects,
+        predicates: value.declarations.predicates,
+        actions: value.behaviour.actions,
+        init: value.behaviour.init,
+        goal: value.behaviour.goal,
     })
 }
 
@@ -54,9 +54,21 @@ pub fn encode(alloc: Global, c: &Compiled, slots: u32, style: &Style) -> Result<
 pub(crate) struct Encoded {
     pub domain: Name,
     pub problem: Name,
+    pub declarations: Declarations,
+    pub behaviour: Behaviour,
+}
+
+/// What the printed problem declares.
+#[derive(Drop)]
+pub(crate) struct Declarations {
     pub types: Types,
     pub objects: List<Object>,
     pub predicates: List<Predicate>,
+}
+
+/// What may happen in the printed problem, where it starts and what is wanted.
+#[derive(Drop)]
+pub(crate) struct Behaviour {
     pub actions: List<ActionSchema>,
     pub init: List<GroundAtom>,
     pub goal: Formula,
@@ -72,10 +84,10 @@ fn value_of(
     requires listed { AreListed c.now.hddl.types }
     ensures { IfOk result (AreEncoded c.now printed.now slots style.now) }
 {
-    let guard_types = guard_types(alloc, c)?;
     let numbers = numbers_of(c)?;
     let order = order_of(c, printed, numbers.before)?;
     plus(order.first_slot, slots)?;
+    let guard_types = guard_types(alloc, c)?;
     let frame = Frame {
         compiled: c,
         printed,
@@ -106,14 +118,46 @@ fn parts_of(alloc: Global, frame: &Frame<'_>) -> Result<Encoded, Memory>
     ensures { IfOk result (AreEncoded frame.now.compiled.now frame.now.printed.now frame.now.slots frame.now.style) }
 {
     let hddl = &frame.compiled.hddl;
-    Ok(Encoded {
-        domain: renamed(alloc, frame, hddl.domain)?,
-        problem: renamed(alloc, frame, hddl.problem)?,
+    let domain = renamed(alloc, frame, hddl.domain)?;
+    let problem = renamed(alloc, frame, hddl.problem)?;
+    let declarations = declarations_of(alloc, frame)?;
+    match behaviour_of(alloc, frame) {
+        Ok(behaviour) => Ok(Encoded {
+            domain,
+            problem,
+            declarations,
+            behaviour,
+        }),
+        Err(memory) => {
+            drop(declarations);
+            Err(memory)
+        }
+    }
+}
+
+fn declarations_of(alloc: Global, frame: &Frame<'_>) -> Result<Declarations, Memory>
+    requires { IsFrame frame.now }
+    ensures { IfOk result (AreDeclarations frame.now.compiled.now frame.now.printed.now frame.now.slots) }
+{
+    let objects = encoded_objects(alloc, frame)?;
+    let predicates = encoded_predicates(alloc, frame)?;
+    Ok(Declarations {
         types: encoded_types(alloc, frame)?,
-        objects: encoded_objects(alloc, frame)?,
-        predicates: encoded_predicates(alloc, frame)?,
-        actions: encoded_actions(alloc, frame)?,
-        init: encoded_initial(alloc, frame)?,
+        objects,
+        predicates,
+    })
+}
+
+fn behaviour_of(alloc: Global, frame: &Frame<'_>) -> Result<Behaviour, Memory>
+    requires frame { IsFrame frame.now }
+    requires listed { AreListed frame.now.compiled.now.hddl.types }
+    ensures { IfOk result (IsBehaviour frame.now.compiled.now frame.now.printed.now frame.now.slots frame.now.style) }
+{
+    let actions = encoded_actions(alloc, frame)?;
+    let init = encoded_initial(alloc, frame)?;
+    Ok(Behaviour {
+        actions,
+        init,
         goal: goal_of(alloc, frame)?,
     })
 }

@@ -66,7 +66,7 @@ fn listed(
     let parts = formulas.as_slice();
     let mut moved = List::new(alloc);
     for part in parts {
-        moved.push(source_formula(alloc, frame, front, part)?)?;
+        moved.put(source_formula(alloc, frame, front, part))?;
     }
     Ok(moved)
 }

@@ -29,7 +29,7 @@ fn push_all_free(alloc: Global, frame: &Frame<'_>, into: &mut List<Formula>) -> 
     ensures { OnOk result (into.new ≡ into.old ++ free_parts (names.order_numbers frame.now.compiled.now frame.now.printed.now frame.now.slots) frame.now.slots 0 frame.now.style (names.free_predicate frame.now.compiled.now)) }
 {
     match frame.style {
-        Style::Adl => into.push(any_free(alloc, frame)?),
+        Style::Adl => into.put(any_free(alloc, frame)),
         Style::Flat => push_each_free(alloc, frame, frame.order.first_slot, frame.slots, into),
     }
 }
@@ -56,7 +56,7 @@ fn push_each_free(
     ensures { OnOk result (into.new ≡ into.old ++ map (slot_free frame.now.compiled.now) (numbers first count)) }
 {
     for k in 0..count {
-        into.push(free(alloc, frame, Term::Obj(first + k))?)?;
+        into.put(free(alloc, frame, Term::Obj(first + k)))?;
     }
     Ok(())
 }

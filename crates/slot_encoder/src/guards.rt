@@ -4,9 +4,9 @@ ghost use Rattle.slot_encoding.specs.EncodedNames as spec;
 ghost use Rattle.slot_encoder.specs.Frames.{IsFrame};
 
 use crate::frame::Frame;
-use crate::numbers::{number, plus};
+use crate::numbers::plus;
 use crate::words::{named, numbered_word, prefixed_word};
-use htn_base::{Memory, Name, Text};
+use htn_base::{Memory, Name, Text, number};
 use plan_model::Compiled;
 use std::alloc::Global;
 

@@ -31,7 +31,7 @@ fn first_atoms(alloc: Global, frame: &Frame<'_>) -> Result<List<GroundAtom>, Mem
     ensures { IfOk result (λ atoms. atoms ≡ spec.first_atoms frame.now.compiled.now frame.now.printed.now frame.now.slots frame.now.style) }
 {
     let mut into = List::new(alloc);
-    into.push(atom(alloc, frame.numbers.top, frame.order.first_slot)?)?;
+    into.put(atom(alloc, frame.numbers.top, frame.order.first_slot))?;
     push_free(alloc, frame, frame.slots.saturating_sub(1), &mut into)?;
     push_single(alloc, frame.compiled.hddl.init.as_slice(), &mut into)?;
     Ok(into)
@@ -55,7 +55,7 @@ fn push_free(
     ensures { OnOk result (into.new ≡ into.old ++ map (slot_atom frame.now.compiled.now) (numbers 1 count)) }
 {
     for k in 0..count {
-        into.push(free(alloc, frame, 1 + k)?)?;
+        into.put(free(alloc, frame, 1 + k))?;
     }
     Ok(())
 }
@@ -111,7 +111,7 @@ fn push_atoms(
     ensures { OnOk result (into.new ≡ into.old ++ map (spec.atom predicate) objects.now) }
 {
     for object in objects {
-        into.push(atom(alloc, predicate, *object)?)?;
+        into.put(atom(alloc, predicate, *object))?;
     }
     Ok(())
 }

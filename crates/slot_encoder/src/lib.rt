@@ -1,6 +1,6 @@
 //! The printed problem as a PDDL value: slots that hold what is pending, and actions that process it.
 //!
-//! It stands on the values of `plan_model`, on the order formulas of `order_encoder` and on the definitions of `plan_meaning`.
+//! It stands on the values of `plan_model`, on the order formulas of `order_encoder` and on the definitions of `slot_encoding`.
 //! The contract used above: `encode` gives exactly the defined value, over a table that has all its words, so that it can be printed
 //! wherever the problem is sound. `sizes`, of `printed_sizes`, says how long its two texts are without the value.
 #![tactic(auto)]

@@ -34,8 +34,8 @@ pub(crate) fn encoded_method(
     requires check { check ≡ names.check_predicate frame.now.compiled.now m }
     ensures { IfOk result (λ a. a ≡ spec.encoded_method frame.now.compiled.now frame.now.printed.now frame.now.slots frame.now.style m plan.now) }
 {
-    let variables = variables_of(alloc, plan)?;
     let name = method_name(alloc, frame, m, plan)?;
+    let variables = variables_of(alloc, plan)?;
     let params = method_params(alloc, frame, plan, &variables)?;
     let conditions = method_conditions(alloc, frame, plan, &variables)?;
     let effects = method_effects(alloc, frame, check, plan, &variables)?;
@@ -163,7 +163,7 @@ fn push_constraints(
     ensures { OnOk result (into.new ≡ into.old ++ map (printed_constraint frame.now.compiled.now frame.now.printed.now front) constraints.now) }
 {
     for one in constraints {
-        into.push(constraint(alloc, frame, front, one)?)?;
+        into.put(constraint(alloc, frame, front, one))?;
     }
     Ok(())
 }
@@ -196,7 +196,7 @@ fn push_guards(
     ensures { OnOk result (into.new ≡ into.old ++ map (printed_guard frame.now.compiled.now frame.now.printed.now front) guards.now) }
 {
     for one in guards {
-        into.push(guard(alloc, frame, front, one)?)?;
+        into.put(guard(alloc, frame, front, one))?;
     }
     Ok(())
 }
@@ -205,9 +205,9 @@ fn guard(alloc: Global, frame: &Frame<'_>, front: u32, one: &Guard) -> Result<Fo
     requires { IsFrame frame.now }
     ensures { IfOk result (λ f. f ≡ printed_guard frame.now.compiled.now frame.now.printed.now front one.now) }
 {
-    let mut args = List::new(alloc);
-    args.push(moved(frame, front, one.term)?)?;
     let predicate = guard_predicate(frame, one.ty)?;
+    let mut args = List::new(alloc);
+    args.put(moved(frame, front, one.term))?;
     Ok(Formula::Holds(Atom { predicate, args }))
 }
 
@@ -221,7 +221,8 @@ fn push_tested(
     ensures { OnOk result (into.new ≡ into.old ++ tested_parts frame.now.compiled.now frame.now.printed.now frame.now.slots frame.now.style front plan.now) }
 {
     if plan.tested {
-        push_condition(alloc, frame, front, &plan.schema.pre, into)?;
+        push_condition(alloc, frame, front, &plan.schema.pre, into)
+    } else {
+        Ok(())
     }
-    Ok(())
 }

@@ -4,7 +4,7 @@ ghost use Rattle.slot_encoding.specs.EncodedNames as spec;
 ghost use Rattle.slot_encoder.specs.Frames.{AreNumbers};
 ghost use Rattle.slot_encoder.specs.Pieces.{with_check};
 
-use htn_base::Memory;
+use htn_base::{Memory, number};
 use plan_model::{Compiled, MethodPlan};
 
 /// The numbers of the generated predicates, after those of the source: three of the slots, and the first ones of the tasks,
@@ -18,16 +18,6 @@ pub(crate) struct Numbers {
     pub first_action: u32,
     pub first_check: u32,
     pub first_guard: u32,
-}
-
-/// A length as a number. One past 2^32 - 1 is answered as want of memory.
-pub(crate) fn number(len: usize) -> Result<u32, Memory>
-    ensures { IfOk result (λ n. n ≡ len) }
-{
-    if len > 0xffff_ffff {
-        return Err(Memory);
-    }
-    Ok(len as u32)
 }
 
 /// The sum. One past 2^32 - 1 is answered as want of memory.
@@ -44,18 +34,24 @@ pub(crate) fn numbers_of(c: &Compiled) -> Result<Numbers, Memory>
     ensures { IfOk result (AreNumbers c.now) }
 {
     let top = number(c.hddl.predicates.len())?;
-    let first_task = plus(top, 3)?;
-    let first_action = plus(first_task, number(c.hddl.tasks.len())?)?;
-    let first_check = plus(first_action, number(c.hddl.actions.len())?)?;
-    let first_guard = plus(first_check, checks(c.methods.as_slice())?)?;
+    let tasks = number(c.hddl.tasks.len())?;
+    let actions = number(c.hddl.actions.len())?;
+    let checks = checks(c.methods.as_slice())?;
+    let all = top as u64 + 3 + tasks as u64 + actions as u64 + checks as u64;
+    if all > 0xffff_ffff {
+        return Err(Memory);
+    }
+    let first_task = top + 3;
+    let first_action = first_task + tasks;
+    let first_check = first_action + actions;
     Ok(Numbers {
         top,
-        free: plus(top, 1)?,
-        before: plus(top, 2)?,
+        free: top + 1,
+        before: top + 2,
         first_task,
         first_action,
         first_check,
-        first_guard,
+        first_guard: first_check + checks,
     })
 }
 

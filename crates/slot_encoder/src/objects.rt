@@ -35,7 +35,7 @@ fn push_objects(
     ensures { OnOk result (into.new ≡ into.old ++ map (printed_object frame.now.compiled.now frame.now.printed.now) objects.now) }
 {
     for object in objects {
-        into.push(printed(alloc, frame, object)?)?;
+        into.put(printed(alloc, frame, object))?;
     }
     Ok(())
 }
@@ -59,7 +59,7 @@ fn push_slots(
     ensures { OnOk result (into.new ≡ into.old ++ map (printed_slot frame.now.printed.now) (numbers 1 slots)) }
 {
     for k in 0..slots {
-        into.push(slot(alloc, frame, 1 + k)?)?;
+        into.put(slot(alloc, frame, 1 + k))?;
     }
     Ok(())
 }

@@ -8,10 +8,9 @@ ghost use Rattle.slot_encoder.specs.Pieces.{printed_predicate, generated_predica
 
 use crate::frame::Frame;
 use crate::guards::guard_name;
-use crate::numbers::number;
 use crate::terms::source_params;
 use crate::words::{named, numbered, prefixed, renamed};
-use htn_base::{List, Memory, Name};
+use htn_base::{List, Memory, Name, number};
 use plan_model::{ActionSchema, MethodPlan, Param, Predicate, TaskSchema};
 use std::alloc::Global;
 
@@ -55,7 +54,7 @@ fn push_source(
     ensures { OnOk result (into.new ≡ into.old ++ map (printed_predicate frame.now.compiled.now frame.now.printed.now) predicates.now) }
 {
     for predicate in predicates {
-        into.push(source(alloc, frame, predicate)?)?;
+        into.put(source(alloc, frame, predicate))?;
     }
     Ok(())
 }
@@ -76,9 +75,9 @@ fn push_generated(
 ) -> Result<(), Memory>
     ensures { OnOk result (into.new ≡ into.old ++ generated_predicates frame.now.compiled.now frame.now.printed.now) }
 {
-    into.push(of_slot(alloc, frame, b"htn_top")?)?;
-    into.push(of_slot(alloc, frame, b"htn_free")?)?;
-    into.push(of_pair(alloc, frame)?)?;
+    into.put(of_slot(alloc, frame, b"htn_top"))?;
+    into.put(of_slot(alloc, frame, b"htn_free"))?;
+    into.put(of_pair(alloc, frame))?;
     Ok(())
 }
 
@@ -121,7 +120,7 @@ fn push_tasks(
     ensures { OnOk result (into.new ≡ into.old ++ map (task_held frame.now.compiled.now frame.now.printed.now) tasks.now) }
 {
     for task in tasks {
-        into.push(held(alloc, frame, b"htn_t_", task.name, task.params.len())?)?;
+        into.put(held(alloc, frame, b"htn_t_", task.name, task.params.len()))?;
     }
     Ok(())
 }
@@ -135,7 +134,7 @@ fn push_actions(
     ensures { OnOk result (into.new ≡ into.old ++ map (action_held frame.now.compiled.now frame.now.printed.now) actions.now) }
 {
     for action in actions {
-        into.push(held(alloc, frame, b"htn_a_", action.name, action.params.len())?)?;
+        into.put(held(alloc, frame, b"htn_a_", action.name, action.params.len()))?;
     }
     Ok(())
 }
@@ -164,9 +163,10 @@ fn push_check(
 {
     if plan.checked {
         let schema = &plan.schema;
-        into.push(held(alloc, frame, b"htn_c_", schema.name, schema.params.len())?)?;
+        into.put(held(alloc, frame, b"htn_c_", schema.name, schema.params.len()))
+    } else {
+        Ok(())
     }
-    Ok(())
 }
 
 /// A predicate for a slot that holds what has so many parameters.
@@ -179,13 +179,12 @@ fn held(
 ) -> Result<Predicate, Memory>
     ensures { IfOk result (λ p. p ≡ record { name = parts.name frame.now.printed.now (prefix.now ++ parts.source_word frame.now.compiled.now.hddl.names name); params = spec.held_params frame.now.compiled.now frame.now.printed.now 0 count }) }
 {
+    let name = prefixed(alloc, frame, prefix, name)?;
+    let count = number(count)?;
     let mut params = List::new(alloc);
     params.push(slot_param(named(frame, b"htn_h")))?;
-    push_arguments(alloc, frame, number(count)?, &mut params)?;
-    Ok(Predicate {
-        name: prefixed(alloc, frame, prefix, name)?,
-        params,
-    })
+    push_arguments(alloc, frame, count, &mut params)?;
+    Ok(Predicate { name, params })
 }
 
 fn push_arguments(
@@ -197,7 +196,7 @@ fn push_arguments(
     ensures { OnOk result (into.new ≡ into.old ++ map (argument frame.now.printed.now) (numbers 1 count)) }
 {
     for k in 0..count {
-        into.push(one_argument(alloc, frame, 1 + k)?)?;
+        into.put(one_argument(alloc, frame, 1 + k))?;
     }
     Ok(())
 }
@@ -220,7 +219,7 @@ fn push_guards(
     ensures { OnOk result (into.new ≡ into.old ++ map (guard_tested frame.now.compiled.now frame.now.printed.now) types.now) }
 {
     for ty in types {
-        into.push(guard(alloc, frame, *ty)?)?;
+        into.put(guard(alloc, frame, *ty))?;
     }
     Ok(())
 }
@@ -228,13 +227,11 @@ fn push_guards(
 fn guard(alloc: Global, frame: &Frame<'_>, ty: u32) -> Result<Predicate, Memory>
     ensures { IfOk result (λ p. p ≡ guard_tested frame.now.compiled.now frame.now.printed.now ty) }
 {
+    let name = guard_name(alloc, frame, ty)?;
     let mut params = List::new(alloc);
     params.push(Param {
         name: named(frame, b"htn_a1"),
         ty: 2,
     })?;
-    Ok(Predicate {
-        name: guard_name(alloc, frame, ty)?,
-        params,
-    })
+    Ok(Predicate { name, params })
 }

@@ -6,10 +6,9 @@ ghost use Rattle.slot_encoder.specs.Vocabulary as words;
 ghost use Rattle.slot_encoder.specs.Vocabulary.{Gains};
 
 use crate::guards::guard_word;
-use crate::numbers::number;
 use crate::quantified::{put_effect, put_formula};
 use crate::vocabulary::{put, put_numbered, put_own, put_params, put_prefixed};
-use htn_base::{Memory, Name, NameTable};
+use htn_base::{Memory, Name, NameTable, number};
 use plan_model::{ActionSchema, Compiled, MethodPlan, Param, Predicate, TaskSchema};
 use printed_sizes::guard_types;
 use std::alloc::Global;

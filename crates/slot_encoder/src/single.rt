@@ -32,9 +32,10 @@ fn push_new(
     ensures { OnOk result (into.new ≡ into.old ++ cond new (atom.now ∷ []) []) }
 {
     if new {
-        into.push(atom.copy(alloc)?)?;
+        into.put(atom.copy(alloc))
+    } else {
+        Ok(())
     }
-    Ok(())
 }
 
 /// What tells an atom from others: its predicate and its objects, in one list.

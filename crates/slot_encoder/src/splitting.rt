@@ -170,7 +170,7 @@ fn push_pairs(
     ensures { OnOk result (into.new ≡ into.old ++ map (added_pair frame.now.compiled.now frame.now.printed.now frame.now.slots slots.now) pairs.now) }
 {
     for pair in pairs {
-        into.push(added(alloc, frame, slots, pair)?)?;
+        into.put(added(alloc, frame, slots, pair))?;
     }
     Ok(())
 }
@@ -223,6 +223,5 @@ fn push_copied(
         slot,
         depth,
         into,
-    )?;
-    Ok(())
+    )
 }

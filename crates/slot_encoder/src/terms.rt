@@ -49,7 +49,7 @@ pub(crate) fn push_params(
     ensures { OnOk result (into.new ≡ into.old ++ map (spec.source_param frame.now.printed.now frame.now.compiled.now.hddl.names) params.now) }
 {
     for param in params {
-        into.push(source_param(alloc, frame, param)?)?;
+        into.put(source_param(alloc, frame, param))?;
     }
     Ok(())
 }
@@ -74,7 +74,7 @@ pub(crate) fn push_moved(
     ensures { OnOk result (into.new ≡ into.old ++ map (spec.moved frame.now.printed.now frame.now.compiled.now.hddl.names front) terms.now) }
 {
     for term in terms {
-        into.push(moved(frame, front, *term)?)?;
+        into.put(moved(frame, front, *term))?;
     }
     Ok(())
 }

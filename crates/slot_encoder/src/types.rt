@@ -46,7 +46,7 @@ fn push_names(
     ensures { OnOk result (into.new ≡ into.old ++ map (parts.renamed frame.now.printed.now frame.now.compiled.now.hddl.names) names.now) }
 {
     for name in names {
-        into.push(renamed(alloc, frame, *name)?)?;
+        into.put(renamed(alloc, frame, *name))?;
     }
     Ok(())
 }
@@ -71,7 +71,7 @@ fn push_parents(pairs: &[Parent], into: &mut List<Parent>) -> Result<(), Memory>
     ensures { OnOk result (into.new ≡ into.old ++ map printed_parent pairs.now) }
 {
     for pair in pairs {
-        into.push(parent(pair)?)?;
+        into.put(parent(pair))?;
     }
     Ok(())
 }
@@ -90,7 +90,7 @@ fn unions(alloc: Global, unions: &[List<u32>]) -> Result<List<List<u32>>, Memory
 {
     let mut into = List::new(alloc);
     for types in unions {
-        into.push(union(alloc, types.as_slice())?)?;
+        into.put(union(alloc, types.as_slice()))?;
     }
     Ok(into)
 }
@@ -100,7 +100,7 @@ fn union(alloc: Global, types: &[u32]) -> Result<List<u32>, Memory>
 {
     let mut into = List::new(alloc);
     for ty in types {
-        into.push(retyped(*ty)?)?;
+        into.put(retyped(*ty))?;
     }
     Ok(into)
 }

@@ -3,8 +3,8 @@ ghost use Rattle.task_networks.specs.Spelling as spelling;
 ghost use Rattle.slot_encoding.specs.EncodedActions.{slot_vars};
 ghost use Rattle.slot_encoder.specs.Frames.{AreVariables};
 
-use crate::numbers::{number, plus};
-use htn_base::{List, Memory};
+use crate::numbers::plus;
+use htn_base::{List, Memory, number};
 use plan_model::MethodPlan;
 use std::alloc::Global;
 

@@ -38,13 +38,10 @@ fn put_words(alloc: Global, c: &Compiled, slots: u32, names: &mut NameTable) -> 
     put_formula(alloc, &c.hddl.names, &c.hddl.goal, names)
 }
 
-/// Puts a word into the table. A table of 2^32 - 1 words is full, which is answered as want of memory.
+/// Puts a word into the table. A full table is answered as want of memory.
 pub(crate) fn put(word: &[u8], names: &mut NameTable) -> Result<(), Memory>
     ensures { OnOk result (Gains (folded word.now ∷ []) names.old names.new) }
 {
-    if names.len() >= 0xffff_ffff {
-        return Err(Memory);
-    }
     names.intern(word)?;
     Ok(())
 }

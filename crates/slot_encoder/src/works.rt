@@ -9,12 +9,12 @@ ghost use Rattle.slot_encoder.specs.Pieces.{check_action};
 use crate::atoms::held_work;
 use crate::conditions::{push_change, push_condition, push_waits};
 use crate::frame::Frame;
-use crate::numbers::{number, plus};
+use crate::numbers::plus;
 use crate::predicates::slot_param;
 use crate::splitting::freeing;
 use crate::terms::push_params;
 use crate::words::{named, prefixed, renamed};
-use htn_base::{List, Memory};
+use htn_base::{List, Memory, number};
 use plan_model::{ActionSchema, Effect, Formula, MethodPlan, Param};
 use std::alloc::Global;
 

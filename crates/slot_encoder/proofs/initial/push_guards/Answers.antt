@@ -1,7 +1,7 @@
 use Rattle.std.proofs.Common.{[], refl, sym, subst}
 use Rattle.std.proofs.lemmas.List.{append-nil, take_all}
 use Rattle.slot_encoder.specs.Pieces.{AddsGuardAtoms}
-use Rattle.slot_encoder.proofs.Members.{guards_next}
+use Rattle.slot_encoder.proofs.GuardAtoms.{guards_next}
 use Rattle.slot_encoder.proofs.initial.push_guards.Goals as goal
 
 pub loop-ty-init : goal.loop-ty-init

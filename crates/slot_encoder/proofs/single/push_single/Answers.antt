@@ -1,5 +1,6 @@
 use Rattle.std.specs.HashSet.{contains}
-use Rattle.slot_encoder.proofs.SingleAtoms.{same_key, seen_more, single_next}
+use Rattle.printed_sizes.proofs.SeenAtoms.{same_key, seen_more}
+use Rattle.slot_encoder.proofs.SingleAtoms.{single_next}
 use Rattle.slot_encoder.proofs.single.push_single.Goals as goal
 
 pub loop-atom-preserved : goal.loop-atom-preserved
