@@ -7,11 +7,11 @@ ghost use Rattle.method_precs.specs.Small.{IsFit};
 ghost use Rattle.problem_texts.specs.ArePrinted.{IsCompiledProblem};
 ghost use Rattle.printed_rows.specs.Fit.{AreFit};
 
+use crate::reader::are_listed;
 use htn_base::Memory;
 use method_precs::compile;
 use net_order::{Order, OrderError};
 use plan_model::{Checks, Compiled, Hddl, MethodSchema, Pair};
-use crate::reader::are_listed;
 use std::alloc::Global;
 
 /// The compiled problem, or `None` where a network has a cycle or is too large, or the types aren't listed.

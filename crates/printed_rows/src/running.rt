@@ -3,13 +3,13 @@ ghost use Rattle.plan_model.specs.Parts.{AreListed};
 ghost use Rattle.problem_texts.specs.ArePrinted.{IsCompiledProblem};
 
 use crate::checks::compiled;
+use crate::reader::hddl;
 use crate::rows::{ROWS, Row};
 use htn_base::{Memory, Text};
 use outside_io::{DiskFiles, Files, GetError};
 use pddl_printer::{print_domain, print_problem};
 use plan_model::{Checks, Compiled, Style};
 use problem_texts::{Texts, texts_of};
-use crate::reader::hddl;
 use slot_encoder::{Sizes, encode, sizes};
 use std::alloc::{AllocError, Global};
 use std::io::{self, Write};

@@ -116,10 +116,8 @@ fn written_parents(
 }
 
 fn add_parent(parents: &mut List<Parent>, pair: Parent) -> Result<(), Stop> {
-    let is_there = parents
-        .as_slice()
-        .iter()
-        .any(|other| other.child == pair.child && other.parent == pair.parent);
+    let is_there = parents.as_slice().iter().any(|other| other.child == pair.child
+        && other.parent == pair.parent);
     if !is_there {
         parents.push(pair)?;
     }
