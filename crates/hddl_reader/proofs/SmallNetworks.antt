@@ -105,3 +105,6 @@ module _ (domain problem : List ℕ) (h : Hddl) (r : IsRead domain problem h) wh
     networks = each-more IsBare (IsSoundNetwork h.names) (all_methods h) (λ s m. subst (IsSoundNetwork h.names) (sym m.3) (sound-bare h.names m.0 m.1 m.2)) all-bare;
     limits = limits;
   }
+
+  pub no_unions : h.types.unions ≡ []
+  no_unions = ap (λ (g : Hddl). g.types.unions) r.bound.is

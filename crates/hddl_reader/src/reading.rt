@@ -1,4 +1,4 @@
-ghost use Rattle.std.specs.Prelude.{◌≤◌, length, IfOk, IfSome};
+ghost use Rattle.std.specs.Prelude.{◌≡◌, ◌≤◌, [], length, IfOk, IfSome};
 ghost use Rattle.plan_texts.specs.FirstSeen.{IsHddlOf};
 ghost use Rattle.plan_texts.specs.SoundProblem.{IsSoundProblem};
 ghost use Rattle.plan_meaning.specs.Laws.{AreOrdered};
@@ -24,6 +24,7 @@ pub fn small(alloc: Global, domain: &[u8], problem: &[u8]) -> Result<Option<Hddl
     ensures spelled { IfOk result (λ o. IfSome o (IsHddlOf domain.now problem.now)) }
     ensures sound { IfOk result (λ o. IfSome o IsSoundProblem) }
     ensures ordered { IfOk result (λ o. IfSome o AreOrdered) }
+    ensures no_unions { IfOk result (λ o. IfSome o (λ h. h.types.unions ≡ [])) }
 {
     if domain.len() > LARGEST_TEXT || problem.len() > LARGEST_TEXT {
         return Ok(None);

@@ -17,8 +17,6 @@ mod order_formulas;
 #[cfg(test)]
 mod orders;
 #[cfg(test)]
-mod printing;
-#[cfg(test)]
 mod readings;
 #[cfg(test)]
 mod tokens;

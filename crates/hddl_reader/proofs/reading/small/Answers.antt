@@ -1,5 +1,5 @@
 use Rattle.hddl_reader.proofs.Spelled.{spelled}
-use Rattle.hddl_reader.proofs.SmallNetworks.{ordered, sound_problem}
+use Rattle.hddl_reader.proofs.SmallNetworks.{ordered, sound_problem, no_unions}
 use Rattle.hddl_reader.proofs.reading.small.Goals as goal
 
 pub returns-in-Ok-clause-spelled : goal.returns-in-Ok-clause-spelled
@@ -10,3 +10,6 @@ returns-in-Ok-clause-sound c = sound_problem c.args.domain.now c.args.problem.no
 
 pub returns-in-Ok-clause-ordered : goal.returns-in-Ok-clause-ordered
 returns-in-Ok-clause-ordered c = ordered c.args.domain.now c.args.problem.now c.in-Ok.value c.in-Ok.ensures.read
+
+pub returns-in-Ok-clause-no_unions : goal.returns-in-Ok-clause-no_unions
+returns-in-Ok-clause-no_unions c = no_unions c.args.domain.now c.args.problem.now c.in-Ok.value c.in-Ok.ensures.read
