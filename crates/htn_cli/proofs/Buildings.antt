@@ -1,12 +1,12 @@
 -- What two input texts come to, from what is printed of their problem.
 use Rattle.std.proofs.Common.{ℕ, ◌≡◌, ◌<◌, ◌≤◌, ◌^◌, List, [], length, ap, ◌∙◌, arith}
-use Rattle.plan_model.specs.declared.formulas.Formula.TheVariants.{And}
 use Rattle.plan_model.specs.declared.values.Hddl.{Hddl}
 use Rattle.plan_model.specs.declared.values.Compiled.{Compiled}
 use Rattle.plan_model.specs.declared.values.Pddl.{Pddl}
 use Rattle.plan_texts.specs.FirstSeen.{IsHddlOf}
 use Rattle.plan_texts.specs.PrintedTexts.{domain_text, problem_text}
-use Rattle.plan_texts.specs.SoundValue.{IsSoundHddl}
+use Rattle.plan_texts.specs.SoundProblem.{IsSoundProblem}
+use Rattle.plan_texts.proofs.SoundProblems.{few_unions}
 use Rattle.plan_meaning.specs.Compilation.{IsCompiled}
 use Rattle.slot_encoding.specs.EncodedValue.{IsEncoded}
 use Rattle.plan_meaning.specs.Laws.{AreOrdered}
@@ -48,19 +48,19 @@ module _ (compiled : Compiled) (manner : Manner) (sizes : Sizes) (sized : AreSiz
         problem_fits = let e = ap length printed.problem_is in omega (arith, e, problem_fits printed.value printed.encoded printed.words few_p);
       }
 
-module _ (domain problem : List ℕ) (manner : Manner) (read : Hddl) (spelled : IsHddlOf domain problem read) (sound : IsSoundHddl read) (ordered : AreOrdered read) (top : read.top.pre ≡ And []) (unions : read.types.unions ≡ []) (some : 1 ≤ manner.slots) (short : AreShort domain problem) where
+module _ (domain problem : List ℕ) (manner : Manner) (read : Hddl) (spelled : IsHddlOf domain problem read) (sound : IsSoundProblem read) (ordered : AreOrdered read) (some : 1 ≤ manner.slots) (short : AreShort domain problem) where
   translated : (compiled : Compiled) (texts : Texts) → IsCompiled read manner.checks compiled → AreWhole compiled manner texts → AreTranslated domain problem manner texts
   translated compiled texts is p =
-      let plain = ap (λ (h : Hddl). h.top.pre) is.hddl ∙ top in
-      let none = ap (λ (h : Hddl). length h.types.unions) is.hddl ∙ ap length unions in
-      let few : length compiled.hddl.types.unions < 2 ^ 64 = omega (arith, none) in
+      let plain = ap (λ (h : Hddl). h.top.pre) is.hddl ∙ sound.no_condition in
+      let same = ap (λ (h : Hddl). length h.types.unions) is.hddl in
+      let few : length compiled.hddl.types.unions < 2 ^ 64 = let l = few_unions read sound in omega (arith, same, l) in
       record {
         read = read;
         compiled = compiled;
         value = p.printed.value;
         spelled = spelled;
         ordered = ordered;
-        printed = record { sound = sound; compiled = is; printable = p.printed.printable read manner.checks sound is plain some few; encoded = p.printed.encoded };
+        printed = record { sound = sound.value; compiled = is; printable = p.printed.printable read manner.checks sound.value is plain some few; encoded = p.printed.encoded };
         words = p.printed.words;
         domain_is = p.printed.domain_is;
         problem_is = p.printed.problem_is;
@@ -70,5 +70,5 @@ module _ (domain problem : List ℕ) (manner : Manner) (read : Hddl) (spelled : 
 
   pub comes_to : (built : Built) → Becomes read manner built → ComesTo domain problem manner built
   comes_to built.NotOfForm becomes = tt
-  comes_to (built.TooLong n) (compiled, is, long) = (short, record { read = read; compiled = compiled; spelled = spelled; sound = sound; compiled_is = is; encoded = has_encoded_value compiled manner.slots manner.style; too_long = long })
+  comes_to (built.TooLong n) (compiled, is, long) = (short, record { read = read; compiled = compiled; spelled = spelled; sound = sound.value; compiled_is = is; encoded = has_encoded_value compiled manner.slots manner.style; too_long = long })
   comes_to (built.Whole texts) (compiled, is, prints) = (short, translated compiled (texts_of texts) is prints)

@@ -1,7 +1,7 @@
 ghost use Rattle.std.specs.Prelude.{◌≤◌, IfOk, IfSome, IfNone};
 ghost use Rattle.plan_model.specs.Parts.{AreListed};
+ghost use Rattle.plan_texts.specs.SoundProblem.{IsSoundProblem};
 ghost use Rattle.plan_meaning.specs.Laws.{AreOrdered};
-ghost use Rattle.method_precs.specs.Small.{AreSmall, HaveFewParams};
 ghost use Rattle.printed_sizes.specs.AreSizes.{AreSizesOf};
 ghost use Rattle.problem_texts.specs.ArePrinted.{IsCompiledProblem};
 ghost use Rattle.htn_cli.specs.Texts.{longest};
@@ -54,14 +54,14 @@ pub(crate) fn build(
 }
 
 fn translated(alloc: Global, read: Hddl, manner: &Manner) -> Result<Built, Memory>
+    requires sound { IsSoundProblem read }
     requires ordered { AreOrdered read }
-    requires small { AreSmall read }
-    requires few { HaveFewParams read }
-    requires listed { AreListed read.types }
     ensures { IfOk result (Becomes read manner.now) }
 {
     let compiled = compile(alloc, read, &manner.checks)?;
-    printed(alloc, &compiled, manner)
+    let built = printed(alloc, &compiled, manner);
+    drop(compiled);
+    built
 }
 
 /// The printed texts of a compiled problem, where neither is too long.

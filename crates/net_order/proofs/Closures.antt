@@ -1,15 +1,14 @@
 -- Chains as pairs are added, and the pair that is refused.
 use Rattle.std.proofs.Common.{ℕ, ◌≡◌, ◌+◌, ◌<◌, ◌↔◌, ◌⊎◌, inl, inr, List, [], ◌∷◌, ◌++◌, length, Bool, true, false, IsTrue, take, drop, get_or, set, sym, subst, ap, ◌∙◌, arith, length-take-le, append_assoc, take-append-drop, get_or-set_same, get_or-set_other}
 use Rattle.std.proofs.lemmas.List.{take_more, drop_more}
-use Rattle.std.proofs.lemmas.Bool.{cases_eq, both_ways}
+use Rattle.std.proofs.lemmas.Bool.{cases_eq}
 use Rattle.plan_model.specs.declared.networks.Pair.{Pair}
-use Rattle.task_networks.specs.Order.{Precedes, direct, through, IsAcyclic, Closes, IsFirstClosing}
+use Rattle.task_networks.specs.Order.{Precedes, IsAcyclic, Closes, IsFirstClosing}
 use Rattle.task_networks.proofs.Lists.{by_push, not-in_empty}
 use Rattle.task_networks.proofs.Orders.{last_pair}
-use Rattle.net_order.specs.Marks.{has, marked, Marked, IsSquare}
-use Rattle.net_order.specs.Meaning.{AreBelow}
+use Rattle.net_order.specs.Marks.{has}
 use Rattle.plan_model.specs.Pairs.{pair, Pairs}
-use Rattle.net_order.proofs.Chains.{wider, chain_cases, chain_by_last, acyclic_push, cyclic_push, acyclic_fewer, ByLast}
+use Rattle.net_order.proofs.Chains.{wider, chain_cases, chain_by_last, acyclic_push, cyclic_push, acyclic_fewer}
 
 -- the set of what precedes i, and i itself
 pub has_added : (s : List Bool) (i a : ℕ) → i < length s → IsTrue (has (set s i true) a) ↔ ((a ≡ i) ⊎ IsTrue (has s a))

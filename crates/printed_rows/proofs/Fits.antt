@@ -9,7 +9,9 @@ use Rattle.plan_model.specs.declared.values.Hddl.{Hddl}
 use Rattle.plan_model.specs.Pairs.{pair, Pairs}
 use Rattle.plan_meaning.specs.Laws.{AreOrdered}
 use Rattle.net_order.specs.Meaning.{AreBelow}
-use Rattle.method_precs.specs.Small.{AreSmall, HaveFewParams, IsFit}
+use Rattle.plan_texts.specs.SoundProblem.{HasSmallNetworks}
+use Rattle.plan_texts.proofs.SoundProblems.{small_networks}
+use Rattle.method_precs.specs.Small.{IsFit}
 use Rattle.printed_rows.specs.Fit.{AreFit}
 
 pub within : (count : ℕ) (pairs : List Pair) → AreBelow count pairs → ArePairsOf (Pairs pairs) count
@@ -22,11 +24,8 @@ module _ (h : Hddl) (fit : AreFit h) where
   pub ordered : AreOrdered h
   ordered s c = let f = each s c in (f.within, f.acyclic)
 
-  pub small : AreSmall h
-  small s c = (each s c).small
-
-  pub few : HaveFewParams h
-  few s c = (each s c).few
+  pub small : HasSmallNetworks h
+  small = small_networks h (λ s c. (each s c).small)
 
 pub fit_by : (s : MethodSchema) (b : Bool) → length s.children ≤ 4096 → length s.params < 2 ^ 32 → (IsTrue b → AreBelow (length s.children) s.pairs) → (IsTrue b → IsAcyclic (Pairs s.pairs)) → IsTrue b → IsFit s
-fit_by s b small few below acyclic t = record { within = within (length s.children) s.pairs (below t); acyclic = acyclic t; small = small; few = few }
+fit_by s b small few below acyclic t = record { within = within (length s.children) s.pairs (below t); acyclic = acyclic t; small = record { subtasks = small; params = few } }

@@ -15,7 +15,6 @@ use plan_model::{Checks, Compiled, Hddl, MethodSchema, Pair};
 use std::alloc::Global;
 
 /// The compiled problem, or `None` where a network has a cycle or is too large, or the types aren't listed.
-#[tactic(auto, using(crate::proofs::Fits::small, crate::proofs::Fits::few))]
 pub fn compiled(alloc: Global, problem: Hddl, checks: Checks) -> Result<Option<Compiled>, Memory>
     ensures listed { IfOk result (λ o. IfSome o (λ c. AreListed c.hddl.types)) }
     ensures compiled { IfOk result (λ o. IfSome o IsCompiledProblem) }

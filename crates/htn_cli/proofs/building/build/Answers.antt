@@ -10,9 +10,7 @@ returns-in-Some c =
     let spelled = rw is at read.spelled in
     let sound = rw is at read.sound in
     let ordered = rw is at read.ordered in
-    let top = rw is at read.top in
-    let unions = rw is at read.no_unions in
     if_ok_too c.translated.result
-    (comes_to c.args.domain.now c.args.problem.now c.args.manner.now c.in-Some.read spelled sound ordered top unions c.requires
+    (comes_to c.args.domain.now c.args.problem.now c.args.manner.now c.in-Some.read spelled sound ordered c.requires
     (omega (arith, c.if-domain-gt-LONGEST_INPUT.false), omega (arith, c.if-problem-gt-LONGEST_INPUT.false)))
     c.translated.ensures
