@@ -1,6 +1,6 @@
 -- Pieces of the printed problem, as the code makes them.
 -- Source: this project's encoding, after Alford et al., "Bound to Plan", ICAPS 2016.
-use Rattle.std.specs.Prelude.{ℕ, ◌≡◌, length, true, slice_index, codes, decimal, ◌-◌, ◌+◌, cond, List, [], ◌∷◌, ◌++◌, map}
+use Rattle.std.specs.Prelude.{ℕ, suc, ◌≡◌, length, true, filter, Option, slice_index, codes, decimal, ◌-◌, ◌+◌, cond, List, [], ◌∷◌, ◌++◌, map}
 use Rattle.plan_model.specs.declared.networks.Child.{Child}
 use Rattle.plan_model.specs.declared.terms.Atom.{Atom}
 use Rattle.plan_model.specs.declared.effects.Effect.{Effect}
@@ -11,13 +11,13 @@ use Rattle.plan_model.specs.declared.schemas.ActionSchema.{ActionSchema}
 use Rattle.plan_model.specs.declared.values.Compiled.{Compiled}
 use Rattle.plan_model.specs.declared.options.Style.{Style}
 use Rattle.std.specs.List.{flat_map}
-use Rattle.task_networks.specs.Spelling.{numbers}
+use Rattle.task_networks.specs.Spelling.{numbers, is_heir}
 use Rattle.plan_model.specs.declared.networks.Head.{Head}
 use Rattle.plan_model.specs.declared.networks.Head.TheVariants.{Task, Action, Check}
 use Rattle.plan_model.specs.declared.networks.Pair.{Pair}
 use Rattle.plan_model.specs.declared.networks.Constraint.{Constraint}
 use Rattle.plan_model.specs.declared.formulas.Formula.{Formula}
-use Rattle.plan_model.specs.declared.formulas.Formula.TheVariants.{Holds, And, Forall}
+use Rattle.plan_model.specs.declared.formulas.Formula.TheVariants.{Holds, Equal, Not, And, Forall}
 use Rattle.plan_model.specs.declared.networks.Guard.{Guard}
 use Rattle.slot_encoding.specs.OrderFormulas.{pair_of, any_slot, clear_parts, copy_parts, free_parts}
 use Rattle.plan_meaning.specs.Network.{InTypeOf}
@@ -69,6 +69,27 @@ printed_slot names k = record { name = name names (slot_word k); ty = slot_type;
 
 abbrev pub printed_parent : Parent → Parent
 printed_parent p = record { child = retyped p.child; parent = retyped p.parent }
+
+-- slots and what was `object` stand below `object`
+abbrev pub printed_parents : List Parent → List Parent
+printed_parents ps = record { child = slot_type; parent = 0 } ∷ record { child = object_type; parent = 0 } ∷ map printed_parent ps
+
+abbrev pub checked : List MethodPlan → List MethodPlan
+checked plans = filter (λ (plan : MethodPlan). plan.checked) plans
+
+-- the first slot holds a source action or a check, with its parameters
+abbrev pub held_work : ℕ → ℕ → Atom
+held_work predicate count = record { predicate = predicate; args = map Var (numbers 0 (suc count)) }
+
+abbrev pub unequal_to : ℕ → ℕ → Formula
+unequal_to v u = Not (Equal (Var v) (Var u))
+
+-- the slot of child i, where new is the next new one; and the new one after it
+abbrev pub child_slot : Option ℕ → ℕ → ℕ → ℕ
+child_slot heir i new = cond (is_heir heir i) 0 new
+
+abbrev pub next_new : Option ℕ → ℕ → ℕ → ℕ
+next_new heir i new = cond (is_heir heir i) new (new + 1)
 
 -- one more where the method has a check
 abbrev pub with_check : MethodPlan → ℕ → ℕ
