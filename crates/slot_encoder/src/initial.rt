@@ -2,7 +2,6 @@ ghost use Rattle.std.specs.Prelude.{◌≡◌, ◌++◌, map, IfOk, OnOk};
 ghost use Rattle.plan_model.specs.Parts.{AreListed};
 ghost use Rattle.slot_encoding.specs.EncodedValue as spec;
 ghost use Rattle.slot_encoder.specs.Frames.{IsFrame};
-ghost use Rattle.slot_encoder.specs.Pieces.{AddsMembers};
 ghost use Rattle.slot_encoder.specs.Made as made;
 
 use crate::frame::Frame;
@@ -92,7 +91,7 @@ fn push_members(
 ) -> Result<(), Memory>
     requires frame { IsFrame frame.now }
     requires listed { AreListed frame.now.compiled.now.hddl.types }
-    ensures { OnOk result (AddsMembers frame.now.compiled.now ty into.old into.new) }
+    ensures { OnOk result (made.AddsMembers frame.now ty into.old into.new) }
 {
     let hddl = &frame.compiled.hddl;
     let predicate = guard_predicate(frame, ty)?;
