@@ -14,6 +14,10 @@ use Rattle.printed_sizes.specs.Words.{own_size, object_size, head_size, slot_siz
 use Rattle.printed_sizes.specs.Slots.{digits}
 use Rattle.printed_sizes.specs.Works.{goal_size}
 
+-- the objects of a type, in number order
+abbrev pub AreMembers : Compiled → ℕ → List ℕ → Type 0
+AreMembers c ty members = Keeps (λ o. InTypeOf c o ty) (numbers 0 (length c.hddl.objects)) members
+
 module _ (c : Compiled) (b : ℕ) where
   -- a fact behind a space
   abbrev pub fact_size : GroundAtom → ℕ
@@ -34,14 +38,12 @@ module _ (c : Compiled) (b : ℕ) where
   -- for each of these types its objects
   abbrev pub IsMembersSize : List ℕ → ℕ → Type 0
   IsMembersSize [] n = n ≡ 0
-  IsMembersSize (ty ∷ tys) n = (members : List ℕ) × (rest : ℕ)
-      × Keeps (λ o. InTypeOf c o ty) (numbers 0 (length c.hddl.objects)) members
+  IsMembersSize (ty ∷ tys) n = (members : List ℕ) × (rest : ℕ) × AreMembers c ty members
       × (n ≡ sum_by (member_fact_size ty) members + rest) × IsMembersSize tys rest
 
   -- the facts on the objects of one of them, as far as 64 bits go
   abbrev pub IsMemberFactsSize : ℕ → ℕ → Type 0
-  IsMemberFactsSize ty size = (members : List ℕ) × Keeps (λ o. InTypeOf c o ty) (numbers 0 (length c.hddl.objects)) members
-      × (size ≡ capped (sum_by (member_fact_size ty) members))
+  IsMemberFactsSize ty size = (members : List ℕ) × AreMembers c ty members × (size ≡ capped (sum_by (member_fact_size ty) members))
 
   -- those on the objects of all of them, as far as 64 bits go
   abbrev pub IsCappedMembersSize : List ℕ → ℕ → Type 0
