@@ -30,6 +30,10 @@ use Rattle.printed_sizes.specs.declared.scope.Scope.{Scope}
 abbrev pub line_length : ℕ → ℕ → ℕ → ℕ → ℕ
 line_length name params pre change = capped (46 + name + params + pre + change)
 
+-- the predicates, by the lengths of the source's, and of those of tasks, actions, checks and guards
+abbrev pub predicates_length : ℕ → ℕ → ℕ → ℕ → ℕ → ℕ
+predicates_length own tasks actions checks guards = capped (own + (106 + tasks) + actions + checks + guards)
+
 module _ (f : Frame) where
   -- of words
   abbrev pub object_length : ℕ → ℕ

@@ -24,6 +24,10 @@ abbrev pub differ_size : List ℕ → ℕ
 differ_size [] = 0
 differ_size (v ∷ vs) = sum_by (λ u. 24 + digits v + digits u) vs + differ_size vs
 
+-- the variable for the slot of the child at this place, by number
+abbrev pub child_slot : MethodPlan → ℕ → ℕ
+child_slot plan i = slice_index (slot_vars plan.heir 0 1 (length plan.schema.children)) i
+
 -- the word of what holds a child; check: the predicate of the method's check
 abbrev pub holder_size : Compiled → ℕ → Head → ℕ
 holder_size c check (Task t) = head_size c (task_predicate c t)
@@ -48,7 +52,7 @@ module _ (c : Compiled) (b : ℕ) (style : Style) (plan : MethodPlan) where
 
   -- the slot of the child at this place
   abbrev pub slot_at : ℕ → ℕ
-  slot_at i = slice_index (slot_vars plan.heir 0 1 (length plan.schema.children)) i
+  slot_at i = child_slot plan i
 
   -- what a slot holds, by the lengths of its word and of the slot's variable
   abbrev pub placed_size : ℕ → ℕ → List Term → ℕ

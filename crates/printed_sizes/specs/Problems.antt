@@ -54,6 +54,10 @@ module _ (c : Compiled) (b : ℕ) where
   IsProblemSize style n = (members : ℕ) × IsMembersSize (guard_types c) members
       × (n ≡ 63 + own_size c c.hddl.problem + own_size c c.hddl.domain + (first_facts_size + members) + goal_size c b style)
 
+  -- a text of this length
+  abbrev pub HasProblemSize : Style → List ℕ → Type 0
+  HasProblemSize style text = (n : ℕ) → IsProblemSize style n → length text ≡ n
+
   -- the whole text, as far as 64 bits go
   abbrev pub IsCappedProblemSize : Style → ℕ → Type 0
   IsCappedProblemSize style size = (n : ℕ) × IsProblemSize style n × (size ≡ capped n)

@@ -1,6 +1,7 @@
 ghost use Rattle.std.specs.Prelude.{◌≡◌, ◌+◌, ◌-◌, ◌<◌, ℕ, ◌^◌, length, slice_index, IfOk};
 ghost use Rattle.slot_encoding.specs.EncodedActions.{slot_vars};
 ghost use Rattle.printed_sizes.specs.Capped.{capped, IsFromTwo};
+ghost use Rattle.printed_sizes.specs.Methods.{child_slot};
 ghost use Rattle.printed_sizes.specs.Slots as slots;
 ghost use Rattle.printed_sizes.specs.Frames.{IsFrame};
 ghost use Rattle.printed_sizes.specs.MethodLengths as of;
@@ -215,7 +216,7 @@ fn own_variable_size(frame: &Frame<'_>, plan: &MethodPlan, last: u64, k: usize) 
 /// The number of the variable for the slot of the child at this place: the heir has the task's, the others the new ones in
 /// number order; 0 past the children.
 fn slot_at(plan: &MethodPlan, place: usize) -> usize
-    ensures { result ≡ slice_index (slot_vars plan.now.heir 0 1 (length plan.now.schema.children)) place }
+    ensures { result ≡ child_slot plan.now place }
 {
     if place < plan.schema.children.len() {
         behind_heir(plan.heir, place)
