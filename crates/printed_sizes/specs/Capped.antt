@@ -6,16 +6,17 @@ use Rattle.std.specs.Prelude.{ℕ, ◌≡◌, ◌-◌, ◌^◌, min}
 abbrev pub capped : ℕ → ℕ
 capped n = min n (2 ^ 64 - 1)
 
--- a number is this of lengths of which others tell, as far as 64 bits go
+-- the result is what is made of two lengths, where two numbers are these lengths as far as 64 bits go
 abbrev pub IsFromTwo : (ℕ → ℕ → ℕ) → ℕ → ℕ → ℕ → Type 0
-IsFromTwo of a b result = (m n : ℕ) → a ≡ capped m → b ≡ capped n → result ≡ of m n
+IsFromTwo make a b result = (m n : ℕ) → a ≡ capped m → b ≡ capped n → result ≡ make m n
 
+-- the same of more
 abbrev pub IsFromThree : (ℕ → ℕ → ℕ → ℕ) → ℕ → ℕ → ℕ → ℕ → Type 0
-IsFromThree of a b c result = (m n p : ℕ) → a ≡ capped m → b ≡ capped n → c ≡ capped p → result ≡ of m n p
+IsFromThree make a b c result = (m n p : ℕ) → a ≡ capped m → b ≡ capped n → c ≡ capped p → result ≡ make m n p
 
 abbrev pub IsFromFour : (ℕ → ℕ → ℕ → ℕ → ℕ) → ℕ → ℕ → ℕ → ℕ → ℕ → Type 0
-IsFromFour of a b c d result = (m n p q : ℕ) → a ≡ capped m → b ≡ capped n → c ≡ capped p → d ≡ capped q → result ≡ of m n p q
+IsFromFour make a b c d result = (m n p q : ℕ) → a ≡ capped m → b ≡ capped n → c ≡ capped p → d ≡ capped q → result ≡ make m n p q
 
 abbrev pub IsFromFive : (ℕ → ℕ → ℕ → ℕ → ℕ → ℕ) → ℕ → ℕ → ℕ → ℕ → ℕ → ℕ → Type 0
-IsFromFive of a b c d e result =
-    (m n p q r : ℕ) → a ≡ capped m → b ≡ capped n → c ≡ capped p → d ≡ capped q → e ≡ capped r → result ≡ of m n p q r
+IsFromFive make a b c d e result =
+    (m n p q r : ℕ) → a ≡ capped m → b ≡ capped n → c ≡ capped p → d ≡ capped q → e ≡ capped r → result ≡ make m n p q r

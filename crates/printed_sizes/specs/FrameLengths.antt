@@ -61,45 +61,48 @@ module _ (f : Frame) where
   abbrev pub free_length : ℕ
   free_length = capped (slots.free_size f.slots f.style)
 
-  -- where these variables are in force
+  -- of terms, formulas and effects where these variables are in force
   module _ (scope : Scope) where
+    abbrev sizes : List ℕ
+    sizes = sizes_in_force f.compiled.now scope
+
     abbrev pub variable_length : ℕ → ℕ
-    variable_length k = capped (get_or (sizes_in_force f.compiled.now scope) k 0)
+    variable_length k = capped (get_or sizes k 0)
 
     abbrev pub term_length : Term → ℕ
-    term_length t = capped (formulas.term_size f.compiled.now f.slots (sizes_in_force f.compiled.now scope) t)
+    term_length t = capped (formulas.term_size f.compiled.now f.slots sizes t)
 
     abbrev pub terms_length : List Term → ℕ
-    terms_length ts = capped (sum_by (formulas.term_size f.compiled.now f.slots (sizes_in_force f.compiled.now scope)) ts)
+    terms_length ts = capped (sum_by (formulas.term_size f.compiled.now f.slots sizes) ts)
 
     abbrev pub atom_length : Atom → ℕ
-    atom_length a = capped (formulas.atom_size f.compiled.now f.slots (sizes_in_force f.compiled.now scope) a.predicate a.args)
+    atom_length a = capped (formulas.atom_size f.compiled.now f.slots sizes a.predicate a.args)
 
     abbrev pub formula_length : Formula → ℕ
-    formula_length x = capped (formulas.formula_size f.compiled.now f.slots x (sizes_in_force f.compiled.now scope))
+    formula_length x = capped (formulas.formula_size f.compiled.now f.slots x sizes)
 
     abbrev pub formulas_length : List Formula → ℕ
-    formulas_length xs = capped (sum_by (λ x. formulas.formula_size f.compiled.now f.slots x (sizes_in_force f.compiled.now scope)) xs)
+    formulas_length xs = capped (sum_by (λ x. formulas.formula_size f.compiled.now f.slots x sizes) xs)
 
     -- and these too
     abbrev pub formula_within_length : List Param → Formula → ℕ
     formula_within_length params x = capped (formulas.formula_size f.compiled.now f.slots x (sizes_within f.compiled.now scope params))
 
     abbrev pub effect_length : Effect → ℕ
-    effect_length e = capped (formulas.effect_size f.compiled.now f.slots e (sizes_in_force f.compiled.now scope))
+    effect_length e = capped (formulas.effect_size f.compiled.now f.slots e sizes)
 
     abbrev pub effects_length : List Effect → ℕ
-    effects_length es = capped (sum_by (λ e. formulas.effect_size f.compiled.now f.slots e (sizes_in_force f.compiled.now scope)) es)
+    effects_length es = capped (sum_by (λ e. formulas.effect_size f.compiled.now f.slots e sizes) es)
 
     abbrev pub effect_within_length : List Param → Effect → ℕ
     effect_within_length params e = capped (formulas.effect_size f.compiled.now f.slots e (sizes_within f.compiled.now scope params))
 
     -- nothing of an empty conjunction
     abbrev pub condition_length : Formula → ℕ
-    condition_length x = capped (works.condition_size f.compiled.now f.slots f.style (sizes_in_force f.compiled.now scope) x)
+    condition_length x = capped (works.condition_size f.compiled.now f.slots f.style sizes x)
 
     abbrev pub change_length : Effect → ℕ
-    change_length e = capped (works.change_size f.compiled.now f.slots f.style (sizes_in_force f.compiled.now scope) e)
+    change_length e = capped (works.change_size f.compiled.now f.slots f.style sizes e)
 
   -- of the actions of the source's actions and of checks
   abbrev pub arguments_length : List Param → ℕ
@@ -133,6 +136,7 @@ module _ (f : Frame) where
   abbrev pub fact_length : GroundAtom → ℕ
   fact_length g = capped (problems.fact_size f.compiled.now f.slots g)
 
+  -- nothing of one that is not new
   abbrev pub fact_if_length : Bool → GroundAtom → ℕ
   fact_if_length new g = capped (cond new (problems.fact_size f.compiled.now f.slots g) 0)
 
