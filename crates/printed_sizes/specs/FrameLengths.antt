@@ -1,7 +1,6 @@
 -- The lengths that are counted from a frame, each as far as 64 bits go.
 -- Source: this project's.
-use Rattle.std.specs.Prelude.{ℕ, Bool, ◌+◌, ◌-◌, cond, List, sum_by, get_or}
-use Rattle.task_networks.specs.Spelling.{numbers}
+use Rattle.std.specs.Prelude.{ℕ, Bool, ◌+◌, cond, List, sum_by, get_or}
 use Rattle.plan_model.specs.declared.terms.Term.{Term}
 use Rattle.plan_model.specs.declared.terms.Atom.{Atom}
 use Rattle.plan_model.specs.declared.terms.GroundAtom.{GroundAtom}
@@ -28,11 +27,11 @@ use Rattle.printed_sizes.specs.declared.scope.Scope.{Scope}
 
 -- a line of an action, by the lengths of its name, parameters, condition and effect
 abbrev pub line_length : ℕ → ℕ → ℕ → ℕ → ℕ
-line_length name params pre change = capped (46 + name + params + pre + change)
+line_length name params pre change = capped (works.line_size name params pre change)
 
 -- the predicates, by the lengths of the source's, and of those of tasks, actions, checks and guards
 abbrev pub predicates_length : ℕ → ℕ → ℕ → ℕ → ℕ → ℕ
-predicates_length own tasks actions checks guards = capped (own + (106 + tasks) + actions + checks + guards)
+predicates_length own tasks actions checks guards = capped (sections.all_predicates_size own tasks actions checks guards)
 
 module _ (f : Frame) where
   -- of words
@@ -145,8 +144,7 @@ module _ (f : Frame) where
   single_facts_length gs = capped (sum_by (problems.fact_size f.compiled.now f.slots) (once same_atom gs))
 
   abbrev pub slot_facts_length : ℕ
-  slot_facts_length =
-      capped (11 + words.slot_size f.slots 0 + sum_by (problems.free_fact_size f.compiled.now f.slots) (numbers 1 (f.slots - 1)))
+  slot_facts_length = capped (problems.slot_facts_size f.compiled.now f.slots)
 
   abbrev pub first_facts_length : ℕ
   first_facts_length = capped (problems.first_facts_size f.compiled.now f.slots)
@@ -166,9 +164,7 @@ module _ (f : Frame) where
   goal_length = capped (works.goal_size f.compiled.now f.slots f.style)
 
   abbrev pub page_length : ℕ → ℕ → ℕ
-  page_length facts members =
-      capped (63 + words.own_size f.compiled.now f.compiled.now.hddl.problem + words.own_size f.compiled.now f.compiled.now.hddl.domain
-      + (facts + members) + works.goal_size f.compiled.now f.slots f.style)
+  page_length facts members = capped (problems.page_size f.compiled.now f.slots f.style facts members)
 
   abbrev pub IsProblemLength : ℕ → Type 0
   IsProblemLength n = problems.IsCappedProblemSize f.compiled.now f.slots f.style n

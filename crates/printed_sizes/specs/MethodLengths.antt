@@ -1,7 +1,6 @@
 -- The lengths in the action of a method that are counted from a frame, each as far as 64 bits go.
 -- Source: this project's.
 use Rattle.std.specs.Prelude.{ℕ, ◌+◌, ◌*◌, List, [], ◌∷◌, ◌++◌, sum_by, get_or}
-use Rattle.task_networks.specs.Spelling.{numbers}
 use Rattle.plan_model.specs.declared.terms.Term.{Term}
 use Rattle.plan_model.specs.declared.networks.Head.{Head}
 use Rattle.plan_model.specs.declared.networks.Child.{Child}
@@ -10,9 +9,7 @@ use Rattle.plan_model.specs.declared.networks.Constraint.{Constraint}
 use Rattle.plan_model.specs.declared.networks.Guard.{Guard}
 use Rattle.plan_model.specs.declared.schemas.MethodPlan.{MethodPlan}
 use Rattle.printed_sizes.specs.Capped.{capped}
-use Rattle.printed_sizes.specs.Formulas.{param_size}
-use Rattle.printed_sizes.specs.Slots.{all_digits, waiting_size}
-use Rattle.printed_sizes.specs.Works.{line_size}
+use Rattle.printed_sizes.specs.Slots.{all_digits}
 use Rattle.printed_sizes.specs.Methods as methods
 use Rattle.printed_sizes.specs.declared.frame.Frame.{Frame}
 
@@ -39,9 +36,7 @@ module _ (f : Frame) where
 
     -- with so many new slots, by the lengths of its condition and effect
     abbrev pub whole_length : ℕ → ℕ → ℕ → ℕ → ℕ
-    whole_length m spare pre eff =
-        capped (line_size f.compiled.now f.slots f.style (methods.name_size f.compiled.now f.slots f.style plan m)
-        (20 + (spare * 18 + all_digits spare) + sum_by (param_size f.compiled.now) plan.schema.params) pre eff)
+    whole_length m spare pre eff = capped (methods.whole_size f.compiled.now f.slots f.style plan m spare pre eff)
 
     -- by the lengths of the word of what is held and of the slot's variable
     abbrev pub placed_length : List Term → ℕ → ℕ → ℕ
@@ -71,10 +66,7 @@ module _ (f : Frame) where
 
     -- with so many new slots, by the lengths of the task in its slot and of the guards
     abbrev pub conditions_length : ℕ → ℕ → ℕ → ℕ
-    conditions_length spare task guards =
-        capped (6 + (task + waiting_size f.slots f.style + (spare * 18 + all_digits spare) + methods.differ_size (numbers 1 spare)
-        + sum_by (methods.test_size f.compiled.now f.slots f.style plan) plan.schema.constraints + guards
-        + methods.tested_size f.compiled.now f.slots f.style plan))
+    conditions_length spare task guards = capped (methods.conditions_size f.compiled.now f.slots f.style plan spare task guards)
 
     -- of a variable by number, with one more of this length behind all
     abbrev pub variable_length : ℕ → ℕ → ℕ
@@ -108,10 +100,7 @@ module _ (f : Frame) where
 
     -- with so many new slots, by the lengths of the task in its slot and of the children
     abbrev pub changes_length : ℕ → ℕ → ℕ → ℕ
-    changes_length spare task children =
-        capped (6 + (6 + task + (spare * 24 + all_digits spare) + children
-        + sum_by (methods.pair_size f.compiled.now f.slots f.style plan 0) plan.schema.pairs
-        + sum_by (methods.copied_size f.compiled.now f.slots f.style plan 0) plan.copiers))
+    changes_length spare task children = capped (methods.changes_size f.compiled.now f.slots f.style plan 0 spare task children)
 
     abbrev pub split_length : ℕ → ℕ
     split_length check = capped (methods.split_size f.compiled.now f.slots f.style plan check)

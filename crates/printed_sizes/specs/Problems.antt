@@ -31,9 +31,13 @@ module _ (c : Compiled) (b : ℕ) where
   abbrev pub free_fact_size : ℕ → ℕ
   free_fact_size k = 17 + digits (k + 1)
 
-  -- the first slot holds the top task, the others are free, and the source atoms are true, each written once
+  -- the first slot holds the top task, and the others are free
+  abbrev pub slot_facts_size : ℕ
+  slot_facts_size = 11 + slot_size b 0 + sum_by free_fact_size (numbers 1 (b - 1))
+
+  -- and the source atoms are true, each written once
   abbrev pub first_facts_size : ℕ
-  first_facts_size = 11 + slot_size b 0 + sum_by free_fact_size (numbers 1 (b - 1)) + sum_by fact_size (once same_atom c.hddl.init)
+  first_facts_size = slot_facts_size + sum_by fact_size (once same_atom c.hddl.init)
 
   -- for each of these types its objects
   abbrev pub IsMembersSize : List ℕ → ℕ → Type 0
@@ -49,10 +53,13 @@ module _ (c : Compiled) (b : ℕ) where
   abbrev pub IsCappedMembersSize : List ℕ → ℕ → Type 0
   IsCappedMembersSize tys size = (n : ℕ) × IsMembersSize tys n × (size ≡ capped n)
 
+  -- by the lengths of the first facts and of the facts on guards
+  abbrev pub page_size : Style → ℕ → ℕ → ℕ
+  page_size style facts members = 63 + own_size c c.hddl.problem + own_size c c.hddl.domain + (facts + members) + goal_size c b style
+
   -- the whole text
   abbrev pub IsProblemSize : Style → ℕ → Type 0
-  IsProblemSize style n = (members : ℕ) × IsMembersSize (guard_types c) members
-      × (n ≡ 63 + own_size c c.hddl.problem + own_size c c.hddl.domain + (first_facts_size + members) + goal_size c b style)
+  IsProblemSize style n = (members : ℕ) × IsMembersSize (guard_types c) members × (n ≡ page_size style first_facts_size members)
 
   -- a text of this length
   abbrev pub HasProblemSize : Style → List ℕ → Type 0
