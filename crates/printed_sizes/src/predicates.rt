@@ -1,7 +1,8 @@
-ghost use Rattle.std.specs.Prelude.{◌≡◌, ◌+◌, [], length, slice_index_or, sum_by, IfOk, ℕ};
+ghost use Rattle.std.specs.Prelude.{◌≡◌, [], length, slice_index_or, sum_by, IfOk};
 ghost use Rattle.slot_encoding.specs.EncodedNames.{guard_word, guard_types};
-ghost use Rattle.printed_sizes.specs.Capped.{capped};
+ghost use Rattle.printed_sizes.specs.Capped.{capped, IsFromFive};
 ghost use Rattle.printed_sizes.specs.Sections as spec;
+ghost use Rattle.printed_sizes.specs.FrameLengths.{predicates_length};
 
 use crate::counts::{all_digits, digits, plus, times};
 use crate::sections::source_predicates_size;
@@ -26,7 +27,7 @@ fn counted_size(c: &Compiled, name: Name, count: u32) -> u64
 }
 
 fn tasks_size(c: &Compiled, tasks: &[TaskSchema]) -> Result<u64, Memory>
-    ensures { IfOk result (λ size. size ≡ capped (sum_by (spec.task_predicate_size c.now) tasks.now)) }
+    ensures { IfOk result (λ n. n ≡ capped (sum_by (spec.task_predicate_size c.now) tasks.now)) }
 {
     let mut total: u64 = 0;
     for task in tasks {
@@ -36,7 +37,7 @@ fn tasks_size(c: &Compiled, tasks: &[TaskSchema]) -> Result<u64, Memory>
 }
 
 fn actions_size(c: &Compiled, actions: &[ActionSchema]) -> Result<u64, Memory>
-    ensures { IfOk result (λ size. size ≡ capped (sum_by (spec.action_predicate_size c.now) actions.now)) }
+    ensures { IfOk result (λ n. n ≡ capped (sum_by (spec.action_predicate_size c.now) actions.now)) }
 {
     let mut total: u64 = 0;
     for action in actions {
@@ -59,7 +60,7 @@ fn check_size(c: &Compiled, plan: &MethodPlan) -> Result<u64, Memory>
 }
 
 fn checks_size(c: &Compiled, methods: &[MethodPlan]) -> Result<u64, Memory>
-    ensures { IfOk result (λ size. size ≡ capped (sum_by (spec.check_predicate_size c.now) methods.now)) }
+    ensures { IfOk result (λ n. n ≡ capped (sum_by (spec.check_predicate_size c.now) methods.now)) }
 {
     let mut total: u64 = 0;
     for plan in methods {
@@ -91,7 +92,7 @@ pub(crate) fn guard_word_size(c: &Compiled, ty: u32) -> Result<u64, Memory>
 }
 
 fn guards_size(c: &Compiled, types: &[u32]) -> Result<u64, Memory>
-    ensures { IfOk result (λ size. size ≡ capped (sum_by (spec.guard_predicate_size c.now) types.now)) }
+    ensures { IfOk result (λ n. n ≡ capped (sum_by (spec.guard_predicate_size c.now) types.now)) }
 {
     let mut total: u64 = 0;
     for ty in types {
@@ -114,7 +115,7 @@ pub(crate) fn predicates_size(c: &Compiled, types: &[u32]) -> Result<u64, Memory
 }
 
 fn sum_of_five(own: u64, tasks: u64, actions: u64, checks: u64, guards: u64) -> u64
-    ensures { (n m p q r : ℕ) → own ≡ capped n → tasks ≡ capped m → actions ≡ capped p → checks ≡ capped q → guards ≡ capped r → result ≡ capped (n + (106 + m) + p + q + r) }
+    ensures { IsFromFive predicates_length own tasks actions checks guards result }
 {
     let declared = plus(own, plus(106, tasks));
     let acting = plus(declared, actions);
