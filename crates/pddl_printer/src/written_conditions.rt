@@ -69,7 +69,8 @@ fn put_quantified(
     body: &Formula,
     sheet: &mut Sheet<'_>,
 )
-    ensures { Wrote (quantified_text p.now scope.now of whole.now params.now body.now) sheet.old sheet.new }
+    ensures { Wrote (quantified_text p.now scope.now of whole.now params.now body.now)
+        sheet.old sheet.new }
 {
     if is_over(of.range, params) {
         put_literal(p, scope, of, whole, body, sheet);

@@ -69,7 +69,8 @@ fn put_quantified_change(
     body: &Effect,
     sheet: &mut Sheet<'_>,
 )
-    ensures { Wrote (quantified_text p.now scope.now of whole.now params.now body.now) sheet.old sheet.new }
+    ensures { Wrote (quantified_text p.now scope.now of whole.now params.now body.now)
+        sheet.old sheet.new }
 {
     if is_over(of.range, params) {
         put_change(p, scope, of, whole, body, sheet);
@@ -106,7 +107,8 @@ fn put_conditional_add(
     change: &Effect,
     sheet: &mut Sheet<'_>,
 )
-    ensures { Wrote (when_text p.now scope.now of whole.now condition.now change.now) sheet.old sheet.new }
+    ensures { Wrote (when_text p.now scope.now of whole.now condition.now change.now)
+        sheet.old sheet.new }
 {
     match condition {
         Formula::Holds(atom) => put_add(p, scope, of, whole, atom, change, sheet),
@@ -124,7 +126,8 @@ fn put_add(
     change: &Effect,
     sheet: &mut Sheet<'_>,
 )
-    ensures { Wrote (add_text p.now scope.now of whole.now condition.now change.now) sheet.old sheet.new }
+    ensures { Wrote (add_text p.now scope.now of whole.now condition.now change.now)
+        sheet.old sheet.new }
 {
     match change {
         Effect::Add(added) => {
