@@ -1,11 +1,4 @@
-ghost use Rattle.std.specs.Prelude.{map};
-ghost use Rattle.text_forms.specs.Printing.{bytes_behind, lines};
-ghost use Rattle.plan_texts.specs.SpellsPddl.{pddl_words};
-ghost use Rattle.plan_texts.specs.Printed.{all_parts, formula_part, effect_part};
-ghost use Rattle.plan_texts.specs.PrintedTexts.{predicate_part, action_part};
-ghost use Rattle.pddl_printer.specs.InForm.{action_in, condition_in, effect_in};
-ghost use Rattle.pddl_printer.specs.Behind.{behind, line};
-ghost use Rattle.pddl_printer.specs.Scopes.{words_in_force};
+ghost use Rattle.pddl_printer.specs.Texts.{predicate_text, predicates_text, condition_text, change_text, action_text, actions_text};
 ghost use Rattle.pddl_printer.specs.Wrote.{Wrote};
 
 use crate::each_object::Instances;
@@ -22,7 +15,7 @@ use plan_model::{ActionSchema, Effect, Formula, Pddl, Predicate};
 
 /// Puts a predicate with its parameters behind a space.
 fn put_predicate(p: &Pddl, predicate: &Predicate, sheet: &mut Sheet<'_>)
-    ensures { Wrote (behind (predicate_part (pddl_words p.now) predicate.now)) sheet.old sheet.new }
+    ensures { Wrote (predicate_text p.now predicate.now) sheet.old sheet.new }
 {
     sheet.put(b" (");
     put_name(p, predicate.name, sheet);
@@ -32,7 +25,7 @@ fn put_predicate(p: &Pddl, predicate: &Predicate, sheet: &mut Sheet<'_>)
 
 /// Puts predicates with their parameters, each behind a space.
 pub(crate) fn put_predicates(p: &Pddl, predicates: &[Predicate], sheet: &mut Sheet<'_>)
-    ensures { Wrote (bytes_behind (all_parts (map (predicate_part (pddl_words p.now)) predicates.now))) sheet.old sheet.new }
+    ensures { Wrote (predicates_text p.now predicates.now) sheet.old sheet.new }
 {
     for predicate in predicates {
         put_predicate(p, predicate, sheet);
@@ -48,7 +41,7 @@ pub(crate) fn put_condition(
     formula: &Formula,
     sheet: &mut Sheet<'_>,
 )
-    ensures { Wrote (behind (formula_part (pddl_words p.now) (condition_in range depth formula.now) (words_in_force p.now scope.now))) sheet.old sheet.new }
+    ensures { Wrote (condition_text p.now scope.now range depth formula.now) sheet.old sheet.new }
 {
     match range {
         Some(range) => {
@@ -67,7 +60,7 @@ fn put_change(
     effect: &Effect,
     sheet: &mut Sheet<'_>,
 )
-    ensures { Wrote (behind (effect_part (pddl_words p.now) (effect_in range depth effect.now) (words_in_force p.now scope.now))) sheet.old sheet.new }
+    ensures { Wrote (change_text p.now scope.now range depth effect.now) sheet.old sheet.new }
 {
     match range {
         Some(range) => {
@@ -79,7 +72,7 @@ fn put_change(
 
 /// Puts an action on a line of its own.
 fn put_action(p: &Pddl, range: Option<Range>, action: &ActionSchema, sheet: &mut Sheet<'_>)
-    ensures { Wrote (line (action_part (pddl_words p.now) (action_in range action.now))) sheet.old sheet.new }
+    ensures { Wrote (action_text p.now range action.now) sheet.old sheet.new }
 {
     let scope = Scope::Within(&Scope::Empty, action.params.as_slice());
     let depth = action.params.len();
@@ -101,7 +94,7 @@ pub(crate) fn put_actions(
     actions: &[ActionSchema],
     sheet: &mut Sheet<'_>,
 )
-    ensures { Wrote (lines (all_parts (map (action_part (pddl_words p.now)) (map (action_in range) actions.now)))) sheet.old sheet.new }
+    ensures { Wrote (actions_text p.now range actions.now) sheet.old sheet.new }
 {
     for action in actions {
         put_action(p, range, action, sheet);
