@@ -16,3 +16,4 @@ pub mod OrCycle
 pub mod ProblemBound
 pub mod BoundedProblem
 pub mod EveryFront
+pub mod examples
