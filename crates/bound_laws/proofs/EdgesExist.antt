@@ -17,7 +17,7 @@ use Rattle.bound_laws.proofs.Decided.{Or_not, same_or_not, both}
 use Rattle.bound_laws.proofs.ProblemEdges.{schema_told}
 use Rattle.bound_laws.proofs.Reach.{reaches_on, by_edge, reaches_or_not}
 
-abbrev AreInOrder : List Edge → Type 0
+abbrev pub AreInOrder : List Edge → Type 0
 AreInOrder [] = Unit {0}
 AreInOrder (e ∷ es) = ((f : Edge) → Contains es f → IsEarlier e f) × AreInOrder es
 

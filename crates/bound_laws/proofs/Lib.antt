@@ -12,6 +12,7 @@ pub mod FallingRanks
 pub mod Lines
 pub mod ProblemEdges
 pub mod EdgesExist
+pub mod OneCycle
 pub mod OrCycle
 pub mod ProblemBound
 pub mod BoundedProblem

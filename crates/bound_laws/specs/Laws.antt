@@ -20,6 +20,10 @@ module _ (c : Compiled) where
   abbrev pub TailRecursiveHasNoNamedCycle : Type 0
   TailRecursiveHasNoNamedCycle = IsTailRecursive c → (e : Edge) (walk : List Edge) → IsNamedCycle c e walk → ⊥
 
+  -- one cycle at most is the named one
+  abbrev pub NamedCycleIsTheOnlyOne : Type 0
+  NamedCycleIsTheOnlyOne = (e d : Edge) (walk back : List Edge) → IsNamedCycle c e walk → IsNamedCycle c d back → (e ≡ d) × (walk ≡ back)
+
   -- a tail-recursive problem has exactly one bound
   abbrev pub TailRecursiveHasOneBound : Type 0
   TailRecursiveHasOneBound = IsTailRecursive c → (n : ℕ) × IsBound c n × ((other : ℕ) → IsBound c other → other ≡ n)

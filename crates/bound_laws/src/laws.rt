@@ -1,14 +1,15 @@
 //! The laws of bounds, each the contract of a function that does nothing.
 
 ghost use Rattle.plan_meaning.specs.Compilation.{IsCompiled};
-ghost use Rattle.bound_laws.specs.Laws.{TailRecursiveOrNamedCycle, TailRecursiveHasNoNamedCycle, TailRecursiveHasOneBound, BoundedIsTailRecursive, EveryFrontIsWithinTheBound, RankedExactly};
+ghost use Rattle.bound_laws.specs.Laws.{TailRecursiveOrNamedCycle, TailRecursiveHasNoNamedCycle, NamedCycleIsTheOnlyOne, TailRecursiveHasOneBound, BoundedIsTailRecursive, EveryFrontIsWithinTheBound, RankedExactly};
 
 use plan_model::{Checks, Compiled, Hddl};
 
-/// A problem is tail-recursive or has the named bad cycle, and not both.
+/// A problem is tail-recursive or has a named bad cycle, exactly one, and not both.
 pub fn tail_recursive_or_bad_cycle(compiled: &Compiled)
     ensures either { TailRecursiveOrNamedCycle compiled.now }
     ensures not_both { TailRecursiveHasNoNamedCycle compiled.now }
+    ensures one { NamedCycleIsTheOnlyOne compiled.now }
 {}
 
 /// A compiled problem that is tail-recursive has exactly one bound, and one that isn't has none.

@@ -1,8 +1,8 @@
-//! Which compiled problems have a bound, and what it bounds: each is tail-recursive or has the named bad cycle,
-//! the tail-recursive ones have exactly one bound, and no schedule of any front has more pending than that.
+//! Which compiled problems have a bound, and what it bounds: each is tail-recursive or has one named bad cycle,
+//! the tail-recursive ones and no others have a bound, and no schedule of any front has more pending than that.
 //!
-//! It stands on the definitions of `plan_meaning`, and on the machine of slots (`slot_machine`) for the width of fronts.
-//! No crate above uses it yet; `every_front_is_within_the_bound` is the law that says what a bound is for.
+//! The definitions are those of `plan_meaning`, and this crate adds no other. It stands on `plan_meaning`, and for the width
+//! of fronts on `slot_machine`. No code calls it; for a crate above, `every_front_is_within_the_bound` says what a bound is for.
 #![tactic(auto)]
 
 mod laws;
