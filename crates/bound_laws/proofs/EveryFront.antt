@@ -1,6 +1,5 @@
 -- No schedule of any front of a compiled problem has more pending than the bound.
-use Rattle.std.proofs.Common.{ℕ, ◌≡◌, ◌<◌, List, [], ◌∷◌, ◌++◌, map, length, slice_get, Option, Some, None, refl, sym, subst, arith}
-use Rattle.std.proofs.lemmas.List.{length-map}
+use Rattle.std.proofs.Common.{ℕ, ◌≡◌, ◌<◌, List, [], ◌∷◌, ◌++◌, map, length, slice_get, Option, Some, None, refl, subst, arith}
 use Rattle.plan_model.specs.declared.options.Checks.{Checks}
 use Rattle.plan_model.specs.declared.networks.Head.{Head}
 use Rattle.plan_model.specs.declared.networks.Head.TheVariants.{Task, Action, Check}
@@ -19,17 +18,16 @@ use Rattle.task_networks.proofs.BoundLaws.{the_bound_is_large_enough, lifted_bou
 use Rattle.slot_machine.proofs.Width.{bound_holds}
 use Rattle.plan_meaning.specs.Network as Network
 use Rattle.plan_meaning.specs.Network.{Work, GroundMethod, network, child_of, ground_work, top_task}
-use Rattle.plan_meaning.proofs.MethodParts.{IsPairBy}
 use Rattle.plan_meaning.specs.Schemas as Schemas
 use Rattle.plan_meaning.specs.Schemas.{Schema, schemas, schema_of}
 use Rattle.plan_meaning.specs.Compilation.{IsCompiled}
 use Rattle.plan_meaning.specs.Solution.{top_work}
 use Rattle.plan_meaning.specs.Bound.{group_of, IsBound}
-use Rattle.plan_meaning.proofs.MethodParts.{head_by, works_by, head_schema_by, schemas_by}
-use Rattle.plan_meaning.proofs.CompiledNetworks.{plan_of}
-use Rattle.bound_laws.specs.Laws.{EveryFrontIsWithinTheBound}
+use Rattle.plan_meaning.proofs.MethodParts.{head_by, works_by, IsPairBy, head_schema_by, schemas_by}
 use Rattle.plan_meaning.specs.Truth.{values_of}
 use Rattle.task_networks.proofs.Lists.{not-in_empty}
+use Rattle.bound_laws.specs.Laws.{EveryFrontIsWithinTheBound}
+use Rattle.bound_laws.proofs.Lines.{has_lines}
 
 -- what a ground work is an instance of
 abbrev schema : Work → Schema
@@ -79,10 +77,7 @@ module _ (h : Hddl) (mode : Checks) (c : Compiled) (compiled : IsCompiled h mode
     where
       go : (o : Option MethodPlan) → slice_get c.methods m ≡ o → (line : List ℕ) × IsLine (IsPairBy o) (length (schemas_by m o)) line × AreBlocks (IsPairBy o) line (bound.block m)
       go None e = ([], record { whole = λ i l. absurd (let x : i < 0 = l in omega arith); each = λ before rest i f. absurd (no_cut before rest i f) }, λ i j x y. absurd (not-in_empty i x))
-      go (Some plan) e =
-          let (s, k, is) = plan_of h mode (h.top ∷ h.methods) c.methods m plan compiled.methods e in
-          let many = length-map plan.schema.children (λ (child : Child). schema_of m child.head) in
-          (plan.line, subst (λ z. IsLine (IsPairBy (Some plan)) z plan.line) (sym many) is.line, bound.blocks m plan e)
+      go (Some plan) e = (plan.line, has_lines h mode c compiled m plan e, bound.blocks m plan e)
 
   schema_bound : Bounds.AreLargeEnough (schemas c) bound.block bound.number (Schemas.task (top_task c))
   schema_bound = the_bound_is_large_enough (schemas c) (Schemas.task (top_task c)) bound.block bound.number (group_of bound.group) blocks bound.numbers
