@@ -2,7 +2,6 @@
 use Rattle.std.proofs.Common.{ℕ, zero, suc, ◌≡◌, ◌+◌, ◌-◌, ◌<◌, ◌≤◌, Bool, true, false, cond, List, [], ◌∷◌, ◌++◌, map, drop, length, get_or, refl, ap, sym, ◌∙◌, arith, append_assoc, Option}
 use Rattle.std.proofs.lemmas.List.{append-nil}
 use Rattle.task_networks.specs.Spelling.{numbers, is_heir}
-use Rattle.plan_model.specs.declared.terms.Term.TheVariants.{Var}
 use Rattle.plan_model.specs.declared.formulas.Formula.{Formula}
 use Rattle.slot_encoding.specs.EncodedActions.{slot_vars, differ}
 use Rattle.slot_encoder.specs.Pieces.{unequal_to}

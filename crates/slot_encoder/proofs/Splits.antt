@@ -17,14 +17,6 @@ use Rattle.slot_encoder.specs.Made as made
 use Rattle.slot_encoder.specs.declared.frame.Frame.{Frame}
 
 module _ (f : Frame) (m : ℕ) (plan : MethodPlan) where
-  child_atom-is : (v : ℕ) (child : Child) → made.child_atom f (spec.front f.compiled.now f.printed.now f.slots f.style 0 plan) (check_predicate f.compiled.now m) v child ≡ spec.child_atom f.compiled.now f.printed.now f.slots f.style m plan v child
-  child_atom-is v child = refl
-
-  child_atoms-is : (vs : List ℕ) (children : List Child) → made.child_atoms f (spec.front f.compiled.now f.printed.now f.slots f.style 0 plan) (check_predicate f.compiled.now m) vs children ≡ spec.child_atoms f.compiled.now f.printed.now f.slots f.style m plan vs children
-  child_atoms-is [] children = refl
-  child_atoms-is (v ∷ vs) [] = refl
-  child_atoms-is (v ∷ vs) (child ∷ children) = ap (λ rest. spec.child_atom f.compiled.now f.printed.now f.slots f.style m plan v child ∷ rest) (child_atoms-is vs children)
-
   split-is : made.split f (check_predicate f.compiled.now m) plan ≡ spec.splitting f.compiled.now f.printed.now f.slots f.style m plan
   split-is = refl
 
