@@ -1,9 +1,8 @@
 use Rattle.std.proofs.Common.{take, ◌∷◌}
 use Rattle.plan_texts.specs.SpellsPddl.{pddl_words}
 use Rattle.plan_texts.specs.PrintedTexts.{parent_words}
-use Rattle.pddl_printer.specs.Behind.{typed}
+use Rattle.pddl_printer.specs.Behind.{of_each, typed}
 use Rattle.pddl_printer.specs.Wrote.{Wrote}
-use Rattle.pddl_printer.proofs.Each.{of_each}
 use Rattle.pddl_printer.proofs.typed_lists.put_parents.Given as goal
 
 abbrev pub invariant-loop-pair : goal.invariant-loop-pair
