@@ -9,7 +9,6 @@ use crate::object_range::Range;
 use crate::schemas::{put_actions, put_condition};
 use crate::scope::Scope;
 use crate::sheet::Sheet;
-use crate::typed_lists::{put_objects, put_parents};
 use crate::words::put_name;
 use plan_model::Pddl;
 
@@ -31,10 +30,10 @@ fn put_domain_head(p: &Pddl, sheet: &mut Sheet<'_>)
 {
     sheet.put(b" (:requirements :adl)\n");
     sheet.put(b" (:types");
-    put_parents(p, p.types.parents.as_slice(), sheet);
+    put_items(p, p.types.parents.as_slice(), sheet);
     sheet.put(b")\n");
     sheet.put(b" (:constants");
-    put_objects(p, p.objects.as_slice(), sheet);
+    put_items(p, p.objects.as_slice(), sheet);
     sheet.put(b")\n");
     sheet.put(b" (:predicates");
     put_items(p, p.predicates.as_slice(), sheet);

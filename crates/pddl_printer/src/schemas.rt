@@ -4,11 +4,11 @@ ghost use Rattle.pddl_printer.specs.Wrote.{Wrote};
 use crate::each_object::Instances;
 use crate::effects::put_effect;
 use crate::formulas::put_formula;
-use crate::items::Item;
+use crate::items::{Item, put_items};
 use crate::object_range::Range;
 use crate::scope::Scope;
 use crate::sheet::Sheet;
-use crate::typed_lists::{put_params, put_variables};
+use crate::typed_lists::put_variables;
 use crate::words::put_name;
 use crate::written_conditions::put_written_condition;
 use crate::written_effects::put_written_effect;
@@ -20,7 +20,7 @@ impl Item for Predicate {
     fn put(&self, p: &Pddl, sheet: &mut Sheet<'_>) {
         sheet.put(b" (");
         put_name(p, self.name, sheet);
-        put_params(p, self.params.as_slice(), sheet);
+        put_items(p, self.params.as_slice(), sheet);
         sheet.put(b")");
     }
 }
