@@ -29,10 +29,11 @@ module _ (p : Pddl) where
   abbrev pub types_text : List ℕ → List ℕ
   types_text types = bytes_behind (all_parts (map name (map (word_at (pddl_types p)) types)))
 
-  -- without the space
+  -- without the space, of one type and of several as ( either A B )
   abbrev pub union_text : List ℕ → List ℕ
   union_text types = bytes (kind_part (map (word_at (pddl_types p)) types))
 
+  -- of a type that may be a union
   abbrev pub kind_text : ℕ → List ℕ
   kind_text ty = bytes (kind_part (kind_at (pddl_words p) ty))
 
@@ -40,6 +41,7 @@ module _ (p : Pddl) where
   abbrev pub param_text : Param → List ℕ
   param_text x = typed (param_words (pddl_words p) x)
 
+  -- behind a space
   abbrev pub spaced_param_text : Param → List ℕ
   spaced_param_text x = 32 ∷ param_text x
 
