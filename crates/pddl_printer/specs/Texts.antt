@@ -1,11 +1,11 @@
 -- The text of each part of a value p. One part stands behind a space, and of several each does, where no other place is named.
-use Rattle.std.specs.Prelude.{ℕ, Option, List, [], map}
+use Rattle.std.specs.Prelude.{ℕ, Option, List, [], ◌∷◌, map}
 use Rattle.text_forms.specs.Lists.{name, group}
 use Rattle.text_forms.specs.Words.{word_at}
 use Rattle.text_forms.specs.Printing.{bytes, bytes_behind, lines}
 use Rattle.plan_texts.specs.Declared.{kind_at}
 use Rattle.plan_texts.specs.SpellsPddl.{pddl_types, pddl_words}
-use Rattle.plan_texts.specs.Printed.{all_parts, kind_part, param_words, params_parts, typed_parts, term_part, applied_part, formula_part, effect_part}
+use Rattle.plan_texts.specs.Printed.{all_parts, kind_part, param_words, params_parts, term_part, applied_part, formula_part, effect_part}
 use Rattle.plan_texts.specs.PrintedTexts.{object_words, parent_words, predicate_part, fact_part, action_part}
 use Rattle.plan_model.specs.declared.terms.Term.{Term}
 use Rattle.plan_model.specs.declared.terms.Term.TheVariants.{Obj}
@@ -29,10 +29,11 @@ module _ (p : Pddl) where
   abbrev pub types_text : List ℕ → List ℕ
   types_text types = bytes_behind (all_parts (map name (map (word_at (pddl_types p)) types)))
 
-  -- without the space
+  -- without the space, of one type and of several as ( either A B )
   abbrev pub union_text : List ℕ → List ℕ
   union_text types = bytes (kind_part (map (word_at (pddl_types p)) types))
 
+  -- of a type that may be a union
   abbrev pub kind_text : ℕ → List ℕ
   kind_text ty = bytes (kind_part (kind_at (pddl_words p) ty))
 
@@ -40,11 +41,11 @@ module _ (p : Pddl) where
   abbrev pub param_text : Param → List ℕ
   param_text x = typed (param_words (pddl_words p) x)
 
-  -- each variable with its type
-  abbrev pub params_text : List Param → List ℕ
-  params_text xs = bytes_behind (params_parts (pddl_words p) xs)
+  -- behind a space
+  abbrev pub spaced_param_text : Param → List ℕ
+  spaced_param_text x = 32 ∷ param_text x
 
-  -- the same with a space between two
+  -- variables with their types, a space between two
   abbrev pub between_text : List Param → List ℕ
   between_text xs = between (params_parts (pddl_words p) xs)
 
@@ -52,13 +53,13 @@ module _ (p : Pddl) where
   abbrev pub variables_text : List Param → List ℕ
   variables_text xs = behind (group (params_parts (pddl_words p) xs))
 
-  -- each type with its parent
-  abbrev pub parents_text : List Parent → List ℕ
-  parents_text parents = bytes_behind (typed_parts (map (parent_words (pddl_words p)) parents))
+  -- a type with its parent
+  abbrev pub parent_text : Parent → List ℕ
+  parent_text x = 32 ∷ typed (parent_words (pddl_words p) x)
 
-  -- each object with its type
-  abbrev pub objects_text : List Object → List ℕ
-  objects_text objects = bytes_behind (typed_parts (map (object_words (pddl_words p)) objects))
+  -- an object with its type
+  abbrev pub object_text : Object → List ℕ
+  object_text x = 32 ∷ typed (object_words (pddl_words p) x)
 
   -- the objects of a fact
   abbrev pub args_text : List ℕ → List ℕ
@@ -67,14 +68,8 @@ module _ (p : Pddl) where
   abbrev pub fact_text : GroundAtom → List ℕ
   fact_text g = behind (fact_part (pddl_words p) g)
 
-  abbrev pub facts_text : List GroundAtom → List ℕ
-  facts_text facts = bytes_behind (all_parts (map (fact_part (pddl_words p)) facts))
-
   abbrev pub predicate_text : Predicate → List ℕ
   predicate_text d = behind (predicate_part (pddl_words p) d)
-
-  abbrev pub predicates_text : List Predicate → List ℕ
-  predicates_text predicates = bytes_behind (all_parts (map (predicate_part (pddl_words p)) predicates))
 
   -- with the quantifiers over the range written out, if there is one; each action on a line of its own
   module _ (range : Option Range) where

@@ -1,6 +1,7 @@
-ghost use Rattle.pddl_printer.specs.Texts.{args_text, fact_text, facts_text};
+ghost use Rattle.pddl_printer.specs.Texts.{args_text, fact_text};
 ghost use Rattle.pddl_printer.specs.Wrote.{Wrote};
 
+use crate::items::Item;
 use crate::sheet::Sheet;
 use crate::words::{put_object, put_predicate};
 use plan_model::{GroundAtom, Pddl};
@@ -15,21 +16,13 @@ fn put_objects(p: &Pddl, objects: &[u32], sheet: &mut Sheet<'_>)
     }
 }
 
-/// Puts a fact behind a space.
-fn put_fact(p: &Pddl, fact: &GroundAtom, sheet: &mut Sheet<'_>)
-    ensures { Wrote (fact_text p.now fact.now) sheet.old sheet.new }
-{
-    sheet.put(b" (");
-    put_predicate(p, fact.predicate, sheet);
-    put_objects(p, fact.args.as_slice(), sheet);
-    sheet.put(b")");
-}
+impl Item for GroundAtom {
+    ghost text = { fact_text };
 
-/// Puts facts, each behind a space.
-pub(crate) fn put_facts(p: &Pddl, facts: &[GroundAtom], sheet: &mut Sheet<'_>)
-    ensures { Wrote (facts_text p.now facts.now) sheet.old sheet.new }
-{
-    for fact in facts {
-        put_fact(p, fact, sheet);
+    fn put(&self, p: &Pddl, sheet: &mut Sheet<'_>) {
+        sheet.put(b" (");
+        put_predicate(p, self.predicate, sheet);
+        put_objects(p, self.args.as_slice(), sheet);
+        sheet.put(b")");
     }
 }

@@ -1,34 +1,27 @@
-ghost use Rattle.pddl_printer.specs.Texts.{predicate_text, predicates_text, condition_text, change_text, action_text, actions_text};
+ghost use Rattle.pddl_printer.specs.Texts.{predicate_text, condition_text, change_text, action_text, actions_text};
 ghost use Rattle.pddl_printer.specs.Wrote.{Wrote};
 
 use crate::each_object::Instances;
 use crate::effects::put_effect;
 use crate::formulas::put_formula;
+use crate::items::{Item, put_items};
 use crate::object_range::Range;
 use crate::scope::Scope;
 use crate::sheet::Sheet;
-use crate::typed_lists::{put_params, put_variables};
+use crate::typed_lists::put_variables;
 use crate::words::put_name;
 use crate::written_conditions::put_written_condition;
 use crate::written_effects::put_written_effect;
 use plan_model::{ActionSchema, Effect, Formula, Pddl, Predicate};
 
-/// Puts a predicate with its parameters behind a space.
-fn put_predicate(p: &Pddl, predicate: &Predicate, sheet: &mut Sheet<'_>)
-    ensures { Wrote (predicate_text p.now predicate.now) sheet.old sheet.new }
-{
-    sheet.put(b" (");
-    put_name(p, predicate.name, sheet);
-    put_params(p, predicate.params.as_slice(), sheet);
-    sheet.put(b")");
-}
+impl Item for Predicate {
+    ghost text = { predicate_text };
 
-/// Puts predicates with their parameters, each behind a space.
-pub(crate) fn put_predicates(p: &Pddl, predicates: &[Predicate], sheet: &mut Sheet<'_>)
-    ensures { Wrote (predicates_text p.now predicates.now) sheet.old sheet.new }
-{
-    for predicate in predicates {
-        put_predicate(p, predicate, sheet);
+    fn put(&self, p: &Pddl, sheet: &mut Sheet<'_>) {
+        sheet.put(b" (");
+        put_name(p, self.name, sheet);
+        put_items(p, self.params.as_slice(), sheet);
+        sheet.put(b")");
     }
 }
 

@@ -1,7 +1,8 @@
-ghost use Rattle.pddl_printer.specs.Texts.{types_text, union_text, kind_text, parents_text, objects_text};
-ghost use Rattle.pddl_printer.specs.Texts.{param_text, params_text, between_text, variables_text};
+ghost use Rattle.pddl_printer.specs.Texts.{types_text, union_text, kind_text, parent_text, object_text};
+ghost use Rattle.pddl_printer.specs.Texts.{param_text, spaced_param_text, between_text, variables_text};
 ghost use Rattle.pddl_printer.specs.Wrote.{Wrote};
 
+use crate::items::{Item, put_items};
 use crate::sheet::Sheet;
 use crate::words::{put_name, put_type};
 use plan_model::{Object, Param, Parent, Pddl};
@@ -51,13 +52,12 @@ fn put_param(p: &Pddl, param: Param, sheet: &mut Sheet<'_>)
     put_kind(p, param.ty, sheet);
 }
 
-/// Puts variables with their types, each behind a space.
-pub(crate) fn put_params(p: &Pddl, params: &[Param], sheet: &mut Sheet<'_>)
-    ensures { Wrote (params_text p.now params.now) sheet.old sheet.new }
-{
-    for param in params {
+impl Item for Param {
+    ghost text = { spaced_param_text };
+
+    fn put(&self, p: &Pddl, sheet: &mut Sheet<'_>) {
         sheet.put(b" ");
-        put_param(p, *param, sheet);
+        put_param(p, *self, sheet);
     }
 }
 
@@ -67,7 +67,7 @@ fn put_between(p: &Pddl, params: &[Param], sheet: &mut Sheet<'_>)
 {
     if let Some((first, rest)) = params.split_first() {
         put_param(p, *first, sheet);
-        put_params(p, rest, sheet);
+        put_items(p, rest, sheet);
     }
 }
 
@@ -80,26 +80,24 @@ pub(crate) fn put_variables(p: &Pddl, params: &[Param], sheet: &mut Sheet<'_>)
     sheet.put(b")");
 }
 
-/// Puts each type with its parent behind a space.
-pub(crate) fn put_parents(p: &Pddl, parents: &[Parent], sheet: &mut Sheet<'_>)
-    ensures { Wrote (parents_text p.now parents.now) sheet.old sheet.new }
-{
-    for pair in parents {
+impl Item for Parent {
+    ghost text = { parent_text };
+
+    fn put(&self, p: &Pddl, sheet: &mut Sheet<'_>) {
         sheet.put(b" ");
-        put_type(p, pair.child, sheet);
+        put_type(p, self.child, sheet);
         sheet.put(b" - ");
-        put_type(p, pair.parent, sheet);
+        put_type(p, self.parent, sheet);
     }
 }
 
-/// Puts each object with its type behind a space.
-pub(crate) fn put_objects(p: &Pddl, objects: &[Object], sheet: &mut Sheet<'_>)
-    ensures { Wrote (objects_text p.now objects.now) sheet.old sheet.new }
-{
-    for object in objects {
+impl Item for Object {
+    ghost text = { object_text };
+
+    fn put(&self, p: &Pddl, sheet: &mut Sheet<'_>) {
         sheet.put(b" ");
-        put_name(p, object.name, sheet);
+        put_name(p, self.name, sheet);
         sheet.put(b" - ");
-        put_type(p, object.ty, sheet);
+        put_type(p, self.ty, sheet);
     }
 }
