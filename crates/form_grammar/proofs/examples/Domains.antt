@@ -1,13 +1,11 @@
 -- Domains and their faults, by computation.
 use Rattle.std.proofs.Common.{◌≡◌, ℕ, Option, Some, None, List, codes, refl}
 use Rattle.text_forms.specs.Faults.{Fault, fault}
-use Rattle.text_forms.specs.Placed.{Placed, parts_at}
-use Rattle.form_grammar.specs.Formulas.{Due, due_rows}
-use Rattle.form_grammar.specs.Rows.{form}
-use Rattle.form_grammar.specs.Sections.{DomainDue, part, domain_rows, domain_fault}
+use Rattle.form_grammar.specs.Definitions.{definition_fault}
+use Rattle.form_grammar.specs.Sections.{hddl, domain}
 
 abbrev fault_of : List ℕ → Option Fault
-fault_of text = domain_fault 0 (parts_at text 0)
+fault_of text = definition_fault hddl domain text
 
 no_token : fault_of (codes "") ≡ Some (fault 5 0)
 no_token = refl
