@@ -6,12 +6,12 @@ use Rattle.text_forms.specs.Placed.{Placed, level, parts_at}
 use Rattle.text_forms.specs.Tokens.{Lexeme, spells, tokens, lexemes}
 use Rattle.text_forms.specs.Words.{Word}
 use Rattle.form_grammar.specs.Codes.{Form, complete, unfinished, wrong, Whole, Begins, Departs}
-use Rattle.form_grammar.specs.Rows.{Rows}
+use Rattle.form_grammar.specs.Rows.{Rows, form}
 use Rattle.form_grammar.specs.Texts.{text_form, one_list, the_list, define_fault, marked_lists, mark_or_list, plan_fault}
 
 -- what the tokens from number i on, up to the place m, are to a form
 abbrev pub up_to : (Placed → Form) → List ℕ → ℕ → ℕ → Form
-up_to form text i m = form (level 0 (before m (drop i (lexemes text))))
+up_to f text i m = f (level 0 (before m (drop i (lexemes text))))
 
 -- where the tokens don't begin the form, one token departs, with one code
 pub record HasOneDeparture (f : Form) : Type 0 where
@@ -20,21 +20,31 @@ pub record HasOneDeparture (f : Form) : Type 0 where
   pub excludes : (code at : ℕ) → Departs f code at → Begins f → ⊥
   pub one : (code at code' at' : ℕ) → Departs f code at → Departs f code' at' → (code ≡ code') × (at ≡ at')
 
+-- A sequence of two forms is begun by what begins the first, and by a whole text of the first and what begins the second.
+pub record IsSequence (a b both : Form) : Type 0 where
+  pub whole : Whole both ↔ (Whole a × Whole b)
+  pub begins : Begins both ↔ (Begins a × (Whole a → Begins b))
+  pub departs : (code at : ℕ) → Departs both code at ↔ (Departs a code at ⊎ (Whole a × Departs b code at))
+
+-- what is due in a grammar has the same form where it is due in a larger one
+abbrev pub KeepsForms : {X Y : Type 0} → Rows X → Rows Y → (X → Y) → Type 0
+KeepsForms {X} {Y} rows larger f = (due : X) (p : Placed) → form larger (f due) p ≡ form rows due p
+
 -- of the tokens of a text, from number i on
-pub record HasPrefixLaws (form : Placed → Form) (text : List ℕ) (i : ℕ) : Type 0 where
+pub record HasPrefixLaws (f : Placed → Form) (text : List ℕ) (i : ℕ) : Type 0 where
   -- what begins the form is closed under prefixes
-  pub prefixes : (m n : ℕ) → m ≤ n → Begins (up_to form text i n) → Begins (up_to form text i m)
-  pub of_all : (m : ℕ) → Begins (form (parts_at text i)) → Begins (up_to form text i m)
+  pub prefixes : (m n : ℕ) → m ≤ n → Begins (up_to f text i n) → Begins (up_to f text i m)
+  pub of_all : (m : ℕ) → Begins (f (parts_at text i)) → Begins (up_to f text i m)
   -- the token that departs is the first with which the tokens no longer begin the form, and is so in all longer prefixes
-  pub first : (code at : ℕ) → Departs (form (parts_at text i)) code at → Begins (up_to form text i at)
-  pub later : (code at m : ℕ) → Departs (form (parts_at text i)) code at → at < m → Departs (up_to form text i m) code at
+  pub first : (code at : ℕ) → Departs (f (parts_at text i)) code at → Begins (up_to f text i at)
+  pub later : (code at m : ℕ) → Departs (f (parts_at text i)) code at → at < m → Departs (up_to f text i m) code at
   -- and where one token more no longer begins it, that token departs
-  pub only : (m : ℕ) → Begins (up_to form text i m) → (Begins (up_to form text i (suc m)) → ⊥) → (code : ℕ) × Departs (form (parts_at text i)) code m
+  pub only : (m : ℕ) → Begins (up_to f text i m) → (Begins (up_to f text i (suc m)) → ⊥) → (code : ℕ) × Departs (f (parts_at text i)) code m
 
 -- The one fault of form of a text, where its tokens have no fault: none of what is whole, and else the token that departs, with its code.
-pub record TellsFault (form : Placed → Form) (text : List ℕ) (told : Option Fault) : Type 0 where
-  pub none : (told ≡ None) ↔ Whole (form (parts_at text 0))
-  pub departs : (code at : ℕ) → Departs (form (parts_at text 0)) code at → told ≡ Some (fault code at)
+pub record TellsFault (f : Placed → Form) (text : List ℕ) (told : Option Fault) : Type 0 where
+  pub none : (told ≡ None) ↔ Whole (f (parts_at text 0))
+  pub departs : (code at : ℕ) → Departs (f (parts_at text 0)) code at → told ≡ Some (fault code at)
 
 -- A domain or a problem ends too early only where it has no token: fault 5 at its length.
 pub record TellsDefineFault {X : Type 0} (rows : Rows X) (inside : X) (text : List ℕ) : Type 0 where

@@ -3,16 +3,24 @@
 ghost use Rattle.std.specs.Prelude.{ℕ, Bool};
 ghost use Rattle.text_forms.specs.Faults.{IsFaultless};
 ghost use Rattle.text_forms.specs.Words.{Word};
-ghost use Rattle.form_grammar.specs.Codes.{Form};
-ghost use Rattle.form_grammar.specs.Laws.{HasOneDeparture, HasPrefixLaws, TellsDefineFault, TellsPlanFault};
+ghost use Rattle.form_grammar.specs.Codes.{Form, ◌followed_by◌};
+ghost use Rattle.form_grammar.specs.Laws.{HasOneDeparture, IsSequence, HasPrefixLaws, KeepsForms, TellsDefineFault, TellsPlanFault};
 ghost use Rattle.form_grammar.specs.Rows.{form, list_form};
 ghost use Rattle.form_grammar.specs.Texts.{text_form};
+ghost use Rattle.form_grammar.specs.Lists.{term_rows, list_rows};
+ghost use Rattle.form_grammar.specs.Formulas.{formula_rows, of_terms, of_list};
+ghost use Rattle.form_grammar.specs.Effects.{effect_rows, of_formula};
+ghost use Rattle.form_grammar.specs.Networks.{network_rows};
+ghost use Rattle.form_grammar.specs.Sections.{Language, Definition, define, section_rows, of_effect, of_network};
+ghost use Rattle.form_grammar.specs.Definitions.{definition_form};
+ghost use Rattle.form_grammar.specs.Plans.{is_mark, step, step_rows, steps_form};
 
 use crate::grammar::{Grammar, TextGrammar};
 
 /// Tokens that do not begin a form have exactly one token that departs, with exactly one code; a whole text begins its form.
 pub fn one_token_departs()
     ensures one { (f : Form) → HasOneDeparture f }
+    ensures sequences { (f g : Form) → IsSequence f g (f followed_by g) }
 {}
 
 /// From any token of a text on: prefixes of what begins a form begin it, the token that departs is the first with
@@ -33,4 +41,22 @@ pub fn faults_are_departures<G: Grammar>(text: &[u8])
     requires faultless { IsFaultless text.now }
     ensures define { TellsDefineFault G.rows G.inside text.now }
     ensures plan { (is_mark : Word → Bool) → TellsPlanFault G.rows G.inside is_mark text.now }
+{}
+
+/// Of domains and problems in either language, and of classical plans.
+pub fn definitions_and_plans_have_one_fault(text: &[u8])
+    requires faultless { IsFaultless text.now }
+    ensures define { (l : Language) (d : Definition) → TellsDefineFault section_rows (define l d) text.now }
+    ensures plan { TellsPlanFault step_rows step is_mark text.now }
+    ensures prefixes { (l : Language) (d : Definition) → HasPrefixLaws (definition_form l d) text.now 0 }
+    ensures plan_prefixes { HasPrefixLaws steps_form text.now 0 }
+{}
+
+/// Terms, typed lists, formulas, effects and networks have the same forms alone as in a domain or a problem.
+pub fn parts_keep_their_forms()
+    ensures terms { KeepsForms term_rows section_rows (λ d. of_effect (of_formula (of_terms d))) }
+    ensures lists { KeepsForms list_rows section_rows (λ d. of_effect (of_formula (of_list d))) }
+    ensures formulas { KeepsForms formula_rows section_rows (λ d. of_effect (of_formula d)) }
+    ensures effects { KeepsForms effect_rows section_rows of_effect }
+    ensures networks { KeepsForms network_rows section_rows of_network }
 {}
