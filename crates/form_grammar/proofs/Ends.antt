@@ -40,12 +40,12 @@ module _ {X : Type 0} (rows : Rows X) where
   close_ends (go x) at e = e
   close_ends (stop code) at e = e
 
-  word_ends : (n : Next X) (at : ℕ) (p : Placed) → ((x : X) → Ends (form rows x p) → ⊥) → Ends (elim n [ | go next ↦ form rows next p | stop code ↦ wrong code at ]) → ⊥
+  word_ends : (n : Next X) (at : ℕ) (p : Placed) → ((x : X) → Ends (form rows x p) → ⊥) → Ends (elim n [ go next ↦ form rows next p | stop code ↦ wrong code at ]) → ⊥
   word_ends (go x) at p h e = h x e
   word_ends (stop code) at p h e = e
 
   list_ends : (n : Next (Inner X)) (at : ℕ) (p q : Placed) → ((x : X) → Ends (form rows x p) → ⊥) → ((x : X) → Ends (form rows x q) → ⊥)
-      → Ends (elim n [ | go i ↦ form rows i.inside p followed_by form rows (i.behind (front p)) q | stop code ↦ wrong code at ]) → ⊥
+      → Ends (elim n [ go i ↦ form rows i.inside p followed_by form rows (i.behind (front p)) q | stop code ↦ wrong code at ]) → ⊥
   list_ends (go i) at p q h k e = ends_then (form rows i.inside p) (form rows (i.behind (front p)) q) (h i.inside) (k (i.behind (front p))) e
   list_ends (stop code) at p q h k e = e
 
@@ -76,13 +76,13 @@ module _ {X : Type 0} (rows : Rows X) where
   trailing_mark (close at) is_mark inside lo c e = absurd e
   trailing_mark (word at v cut) is_mark inside lo c e = by_test (is_mark v) refl e
     where
-      by_test : (b : Bool) → is_mark v ≡ b → Ends (elim (if b then go behind_mark else stop 8) [ | go next ↦ text_form rows (marked_lists is_mark inside) next cut | stop code ↦ wrong code at ]) → ((cut ≡ cut) × (at ≡ at) × (is_mark v ≡ true)) ⊎ ⊥
+      by_test : (b : Bool) → is_mark v ≡ b → Ends (elim (if b then go behind_mark else stop 8) [ go next ↦ text_form rows (marked_lists is_mark inside) next cut | stop code ↦ wrong code at ]) → ((cut ≡ cut) × (at ≡ at) × (is_mark v ≡ true)) ⊎ ⊥
       by_test true t e = inl (refl, refl, t)
       by_test false t e = absurd e
   trailing_mark (word at v (close b)) is_mark inside lo c e = absurd c
   trailing_mark (word at v (word b u p)) is_mark inside lo c e = by_test (is_mark v) e
     where
-      by_test : (t : Bool) → Ends (elim (if t then go behind_mark else stop 8) [ | go next ↦ text_form rows (marked_lists is_mark inside) next (word b u p) | stop code ↦ wrong code at ]) → EndsMarked is_mark (word at v (word b u p)) (last_word lo (word at v (word b u p)))
+      by_test : (t : Bool) → Ends (elim (if t then go behind_mark else stop 8) [ go next ↦ text_form rows (marked_lists is_mark inside) next (word b u p) | stop code ↦ wrong code at ]) → EndsMarked is_mark (word at v (word b u p)) (last_word lo (word at v (word b u p)))
       by_test true e = absurd e
       by_test false e = absurd e
   trailing_mark (word at v (list b p q)) is_mark inside lo c e = by_test (is_mark v) e (trailing_mark q is_mark inside at c.1)
@@ -90,7 +90,7 @@ module _ {X : Type 0} (rows : Rows X) where
       both : Ends (form rows inside p followed_by text_form rows (marked_lists is_mark inside) mark_or_list q) → (Ends (text_form rows (marked_lists is_mark inside) mark_or_list q) → EndsMarked is_mark q (last_word at q)) → EndsMarked is_mark q (last_word at q)
       both e h = h (ends_second (form rows inside p) (text_form rows (marked_lists is_mark inside) mark_or_list q) (whole_ends p inside c.0) e)
 
-      by_test : (t : Bool) → Ends (elim (if t then go behind_mark else stop 8) [ | go next ↦ text_form rows (marked_lists is_mark inside) next (list b p q) | stop code ↦ wrong code at ])
+      by_test : (t : Bool) → Ends (elim (if t then go behind_mark else stop 8) [ go next ↦ text_form rows (marked_lists is_mark inside) next (list b p q) | stop code ↦ wrong code at ])
           → (Ends (text_form rows (marked_lists is_mark inside) mark_or_list q) → EndsMarked is_mark q (last_word at q)) → EndsMarked is_mark (word at v (list b p q)) (last_word lo (word at v (list b p q)))
       by_test true e h = inr (both e h)
       by_test false e h = absurd e

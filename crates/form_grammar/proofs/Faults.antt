@@ -109,8 +109,10 @@ module _ {X : Type 0} (rows : Rows X) (inside : X) where
   pub define_told : (text : List ℕ) → IsFaultless text → TellsDefineFault rows inside text
   define_told text n = record {
     of_form = told define_form text (fault 5 (length text));
-    early = λ b w. (none_left text (tokens text) (no_tokens rows (parts_at text 0) 5 inside (all_closed text n) (is_early (define_form (parts_at text 0)) b w)),
-      early_told (define_form (parts_at text 0)) (fault 5 (length text)) (is_early (define_form (parts_at text 0)) b w));
+    early = λ b w. (
+      none_left text (tokens text) (no_tokens rows (parts_at text 0) 5 inside (all_closed text n) (is_early (define_form (parts_at text 0)) b w)),
+      early_told (define_form (parts_at text 0)) (fault 5 (length text)) (is_early (define_form (parts_at text 0)) b w),
+    );
   }
 
   abbrev plan_form : (Word → Bool) → Placed → Form
@@ -119,7 +121,9 @@ module _ {X : Type 0} (rows : Rows X) (inside : X) where
   pub plan_told : (is_mark : Word → Bool) (text : List ℕ) → IsFaultless text → TellsPlanFault rows inside is_mark text
   plan_told is_mark text n = record {
     of_form = told (plan_form is_mark) text (fault 8 (last_word 0 (parts_at text 0)));
-    early = λ b w. (last_word 0 (parts_at text 0),
+    early = λ b w. (
+      last_word 0 (parts_at text 0),
       marked is_mark (lexemes text) 0 (last_word 0 (parts_at text 0)) (trailing_mark rows (parts_at text 0) is_mark inside 0 (all_closed text n) (is_early (plan_form is_mark (parts_at text 0)) b w)),
-      early_told (plan_form is_mark (parts_at text 0)) (fault 8 (last_word 0 (parts_at text 0))) (is_early (plan_form is_mark (parts_at text 0)) b w));
+      early_told (plan_form is_mark (parts_at text 0)) (fault 8 (last_word 0 (parts_at text 0))) (is_early (plan_form is_mark (parts_at text 0)) b w),
+    );
   }

@@ -40,7 +40,7 @@ entry (e ∷ table) w = if bytes_eq w e.0 then Some e.1 else entry table w
 
 -- what the table says of a word, and else what is said of other words
 abbrev pub by_word : {X : Type 0} → Table X → (Word → Next X) → Word → Next X
-by_word table others w = elim (entry table w) [ | None ↦ others w | Some x ↦ go x ]
+by_word table others w = elim (entry table w) [ None ↦ others w | Some x ↦ go x ]
 
 -- keywords that count as one part, each named by the first of them
 abbrev pub counts_as : Word → Word
@@ -55,4 +55,4 @@ unknown false = stop 8
 
 -- A keyword of the table: one that isn't in it has 6, one that counts as a part that was seen 7, a word that is no keyword 8.
 abbrev pub by_keyword : {X Y : Type 0} → Table X → List Word → (X → Y) → Word → Next Y
-by_keyword table seen leaves w = elim (entry table w) [ | None ↦ unknown (is_keyword w) | Some x ↦ if_allowed (not (is_among (counts_as w) seen)) 7 (leaves x) ]
+by_keyword table seen leaves w = elim (entry table w) [ None ↦ unknown (is_keyword w) | Some x ↦ if_allowed (not (is_among (counts_as w) seen)) 7 (leaves x) ]
