@@ -1,10 +1,10 @@
 -- Where the tokens of a whole text end too early, when all lists are closed.
-use Rattle.std.proofs.Common.{◌≡◌, ℕ, ◌⊎◌, inl, inr, Bool, true, false, if◌then◌else◌, Option, refl, sym, ◌∙◌, ap, subst}
+use Rattle.std.proofs.Common.{◌≡◌, ℕ, ◌⊎◌, inl, inr, Bool, true, false, if◌then◌else◌, refl}
 use Rattle.text_forms.specs.Placed.{Placed, cut, close, word, list, IsWhole}
 use Rattle.text_forms.specs.Words.{Word}
 use Rattle.form_grammar.specs.Codes.{Form, complete, unfinished, wrong, ◌followed_by◌}
-use Rattle.form_grammar.specs.Rows.{Next, go, stop, Inner, Row, Rows, form, closed, front}
-use Rattle.form_grammar.specs.Texts.{text_form, one_list, OneDue, the_list, the_end, marked_lists, ListsDue, mark_or_list, behind_mark, last_word}
+use Rattle.form_grammar.specs.Rows.{Next, go, stop, Inner, Rows, form, closed, front}
+use Rattle.form_grammar.specs.Texts.{text_form, one_list, the_list, the_end, marked_lists, mark_or_list, behind_mark, last_word}
 
 abbrev pub Ends : Form → Type 0
 Ends complete = ⊥

@@ -1,15 +1,15 @@
 -- The fault of form of a whole text, where its tokens have no fault.
-use Rattle.std.proofs.Common.{◌≡◌, ℕ, zero, suc, ◌<◌, ◌⊎◌, inl, inr, Bool, true, false, Option, Some, None, List, [], ◌∷◌, ◌++◌, drop, length, map, refl, sym, ◌∙◌, ap, subst, arith, rules}
+use Rattle.std.proofs.Common.{◌≡◌, ℕ, zero, suc, ◌<◌, inl, inr, Bool, true, Some, None, List, [], ◌∷◌, ◌++◌, length, map, refl, sym, ap, arith}
 use Rattle.text_forms.specs.Faults.{Fault, fault, IsFaultless}
 use Rattle.text_forms.specs.Lists.{AreMatched}
-use Rattle.text_forms.specs.Placed.{Placed, cut, close, word, list, IsWhole, level, parts_at}
+use Rattle.text_forms.specs.Placed.{Placed, cut, IsWhole, level, parts_at}
 use Rattle.text_forms.specs.Tokens.{Token, Lexeme, opens, closes, spells, tokens, lexemes, lexeme, symbol, symbols}
 use Rattle.text_forms.specs.Words.{Word}
 use Rattle.text_forms.proofs.MatchedFaults.{matched_are_faultless}
 use Rattle.form_grammar.specs.Codes.{Form, complete, unfinished, wrong, Whole, Begins, Departs}
-use Rattle.form_grammar.specs.Laws.{TellsFault, TellsDefineFault, TellsPlanFault, EndsInMark}
+use Rattle.form_grammar.specs.Laws.{TellsFault, TellsDefineFault, TellsPlanFault}
 use Rattle.form_grammar.specs.Rows.{Rows}
-use Rattle.form_grammar.specs.Texts.{text_form, fault_or, one_list, the_list, define_fault, last_word, marked_lists, mark_or_list, plan_fault}
+use Rattle.form_grammar.specs.Texts.{text_form, fault_or, one_list, the_list, last_word, marked_lists, mark_or_list}
 use Rattle.form_grammar.proofs.Ends.{Ends, AreClosed, EndsMarked, no_tokens, trailing_mark}
 
 -- matched parentheses close each list that is open in front of the tokens

@@ -1,8 +1,8 @@
 -- Effects, line by line. What is due stands in a list, up to its closing parenthesis.
 -- Source: appendix A (grammar) of Fox and Long, "PDDL2.1", JAIR 20, 2003, level 1; an increase is passed over. The codes are this project's.
-use Rattle.std.specs.Prelude.{ℕ, List, [], ◌∷◌, codes}
+use Rattle.std.specs.Prelude.{[], ◌∷◌, codes}
 use Rattle.text_forms.specs.Placed.{Placed}
-use Rattle.text_forms.specs.Words.{Word, is_name}
+use Rattle.text_forms.specs.Words.{is_name}
 use Rattle.form_grammar.specs.Codes.{Form}
 use Rattle.form_grammar.specs.Rows.{Rows, row_as, list_form, word_or_end, list_due, list_or_end}
 use Rattle.form_grammar.specs.Words.{Table, by_word, used}

@@ -1,11 +1,11 @@
 -- Laws of forms over tokens.
 use Rattle.std.specs.Prelude.{◌≡◌, ℕ, suc, ◌<◌, ◌≤◌, ◌⊎◌, ◌↔◌, Bool, true, Option, Some, None, List, [], ◌∷◌, ◌++◌, drop, length}
-use Rattle.text_forms.specs.Faults.{Fault, fault, IsFaultless}
+use Rattle.text_forms.specs.Faults.{Fault, fault}
 use Rattle.text_forms.specs.Fronts.{before}
 use Rattle.text_forms.specs.Placed.{Placed, level, parts_at}
 use Rattle.text_forms.specs.Tokens.{Lexeme, spells, tokens, lexemes}
 use Rattle.text_forms.specs.Words.{Word}
-use Rattle.form_grammar.specs.Codes.{Form, complete, unfinished, wrong, Whole, Begins, Departs}
+use Rattle.form_grammar.specs.Codes.{Form, Whole, Begins, Departs}
 use Rattle.form_grammar.specs.Rows.{Rows, form}
 use Rattle.form_grammar.specs.Texts.{text_form, one_list, the_list, define_fault, marked_lists, mark_or_list, plan_fault}
 

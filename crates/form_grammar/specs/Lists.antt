@@ -1,10 +1,10 @@
 -- Terms and typed lists, line by line, each up to the closing parenthesis.
 -- Source: appendix A (grammar) of Fox and Long, "PDDL2.1", JAIR 20, 2003, level 1; with unions in lists of variables. The codes are this project's.
-use Rattle.std.specs.Prelude.{ℕ, Bool, true, false, ◌&&◌, if◌then◌else◌, List, drop, codes}
+use Rattle.std.specs.Prelude.{Bool, false, if◌then◌else◌, List, drop, codes}
 use Rattle.htn_base.specs.Table.{with_word}
 use Rattle.htn_base.specs.Words.{is_reserved}
 use Rattle.text_forms.specs.Words.{Word, is_among, is_name}
-use Rattle.form_grammar.specs.Rows.{Next, go, stop, if_allowed, Inner, Rows, row, a_list, end_due, word_due, word_or_end}
+use Rattle.form_grammar.specs.Rows.{Next, go, stop, Rows, row, a_list, end_due, word_due, word_or_end}
 use Rattle.form_grammar.specs.Words.{is_variable_word, is_term, is_word, used, declared}
 
 pub data TermDue : Type 0 where

@@ -1,10 +1,9 @@
 -- Subtasks, ordering and constraints of a network, line by line. What is due stands in a list, up to its closing parenthesis.
 -- Source: the full syntax definition of Höller et al., "HDDL", AAAI 2020; a pair may have its sign behind its first name. The codes are this project's.
-use Rattle.std.specs.Prelude.{ℕ, List, [], ◌∷◌, codes}
-use Rattle.text_forms.specs.Placed.{Placed}
+use Rattle.std.specs.Prelude.{[], ◌∷◌, codes}
 use Rattle.text_forms.specs.Words.{Word, is_name}
-use Rattle.form_grammar.specs.Rows.{Next, go, stop, Inner, Rows, row, row_as, a_list, word_due, word_or_end, list_due, list_or_end}
-use Rattle.form_grammar.specs.Words.{Table, is_term, is_word, by_word, used, declared}
+use Rattle.form_grammar.specs.Rows.{Next, go, stop, Rows, row, row_as, a_list, word_due, word_or_end, list_due, list_or_end}
+use Rattle.form_grammar.specs.Words.{is_term, is_word, by_word, used, declared}
 use Rattle.form_grammar.specs.Lists.{TermDue, ended, term, terms, applied, term_rows}
 
 pub data NetworkDue : Type 0 where

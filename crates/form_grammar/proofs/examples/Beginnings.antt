@@ -1,5 +1,5 @@
 -- A whole domain and its beginnings, by computation.
-use Rattle.std.proofs.Common.{◌≡◌, ℕ, None, List, ◌++◌, codes, refl, slice_range}
+use Rattle.std.proofs.Common.{◌≡◌, ℕ, None, codes, refl, slice_range}
 use Rattle.text_forms.specs.Placed.{parts_at}
 use Rattle.form_grammar.specs.Codes.{Form, complete, unfinished, wrong}
 use Rattle.form_grammar.specs.Definitions.{definition_form, definition_fault}

@@ -1,6 +1,6 @@
 -- Classical plans and the fault of their form, by computation.
-use Rattle.std.proofs.Common.{◌≡◌, ℕ, Option, Some, None, codes, refl}
-use Rattle.text_forms.specs.Faults.{Fault, fault}
+use Rattle.std.proofs.Common.{◌≡◌, Some, None, codes, refl}
+use Rattle.text_forms.specs.Faults.{fault}
 use Rattle.form_grammar.specs.Plans.{steps_fault}
 
 -- whole plans
