@@ -4,4 +4,6 @@ pub mod TextLaws
 pub mod Meaning
 pub mod Ends
 pub mod Faults
+pub mod Fronts
+pub mod Endings
 pub mod examples

@@ -41,6 +41,10 @@ pub record HasPrefixLaws (f : Placed → Form) (text : List ℕ) (i : ℕ) : Typ
   -- and where one token more no longer begins it, that token departs
   pub only : (m : ℕ) → Begins (up_to f text i m) → (Begins (up_to f text i (suc m)) → ⊥) → (code : ℕ) × Departs (f (parts_at text i)) code m
 
+-- tokens begin a form exactly where more tokens behind them make a whole text of it
+abbrev pub BeginsWhatCanBeWhole : (Placed → Form) → Type 0
+BeginsWhatCanBeWhole f = (ts : List Lexeme) → Begins (f (level 0 ts)) ↔ ((us : List Lexeme) × Whole (f (level 0 (ts ++ us))))
+
 -- The one fault of form of a text, where its tokens have no fault: none of what is whole, and else the token that departs, with its code.
 pub record TellsFault (f : Placed → Form) (text : List ℕ) (told : Option Fault) : Type 0 where
   pub none : (told ≡ None) ↔ Whole (f (parts_at text 0))

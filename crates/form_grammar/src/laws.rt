@@ -4,13 +4,13 @@ ghost use Rattle.std.specs.Prelude.{ℕ, Bool};
 ghost use Rattle.text_forms.specs.Faults.{IsFaultless};
 ghost use Rattle.text_forms.specs.Words.{Word};
 ghost use Rattle.form_grammar.specs.Codes.{Form, ◌followed_by◌};
-ghost use Rattle.form_grammar.specs.Laws.{HasOneDeparture, IsSequence, HasPrefixLaws, KeepsForms, TellsDefineFault, TellsPlanFault};
+ghost use Rattle.form_grammar.specs.Laws.{HasOneDeparture, IsSequence, HasPrefixLaws, KeepsForms, BeginsWhatCanBeWhole, TellsDefineFault, TellsPlanFault};
 ghost use Rattle.form_grammar.specs.Rows.{form, list_form};
-ghost use Rattle.form_grammar.specs.Texts.{text_form};
-ghost use Rattle.form_grammar.specs.Lists.{term_rows, list_rows};
-ghost use Rattle.form_grammar.specs.Formulas.{formula_rows, of_terms, of_list};
-ghost use Rattle.form_grammar.specs.Effects.{effect_rows, of_formula};
-ghost use Rattle.form_grammar.specs.Networks.{network_rows};
+ghost use Rattle.form_grammar.specs.Texts.{text_form, one_list, the_list};
+ghost use Rattle.form_grammar.specs.Lists.{ListDue, term_rows, list_rows};
+ghost use Rattle.form_grammar.specs.Formulas.{gd, formula_rows, of_terms, of_list};
+ghost use Rattle.form_grammar.specs.Effects.{eff, effect_rows, of_formula};
+ghost use Rattle.form_grammar.specs.Networks.{NetworkDue, network_rows};
 ghost use Rattle.form_grammar.specs.Sections.{Language, Definition, define, section_rows, of_effect, of_network};
 ghost use Rattle.form_grammar.specs.Definitions.{definition_form};
 ghost use Rattle.form_grammar.specs.Plans.{is_mark, step, step_rows, steps_form};
@@ -59,4 +59,14 @@ pub fn parts_keep_their_forms()
     ensures formulas { KeepsForms formula_rows section_rows (λ d. of_effect (of_formula d)) }
     ensures effects { KeepsForms effect_rows section_rows of_effect }
     ensures networks { KeepsForms network_rows section_rows of_network }
+{}
+
+/// Tokens begin a classical plan, or a text that is one formula, effect, typed list or list of a network, exactly where
+/// more tokens behind them make it whole.
+pub fn begins_what_can_be_whole()
+    ensures plans { BeginsWhatCanBeWhole steps_form }
+    ensures formulas { BeginsWhatCanBeWhole (text_form formula_rows (one_list 8 gd) the_list) }
+    ensures effects { BeginsWhatCanBeWhole (text_form effect_rows (one_list 8 eff) the_list) }
+    ensures lists { (d : ListDue) → BeginsWhatCanBeWhole (text_form list_rows (one_list 8 d) the_list) }
+    ensures networks { (d : NetworkDue) → BeginsWhatCanBeWhole (text_form network_rows (one_list 8 d) the_list) }
 {}
