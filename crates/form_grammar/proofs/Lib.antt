@@ -1,0 +1,9 @@
+pub mod Cuts
+pub mod RowLaws
+pub mod TextLaws
+pub mod Meaning
+pub mod Ends
+pub mod Faults
+pub mod Fronts
+pub mod Endings
+pub mod examples

@@ -1,0 +1,6 @@
+mod Formulas
+mod Networks
+mod Domains
+mod Problems
+mod Plans
+mod Beginnings

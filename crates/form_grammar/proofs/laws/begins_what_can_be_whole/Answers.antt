@@ -1,0 +1,23 @@
+use Rattle.form_grammar.specs.Effects.{eff, effect_rows}
+use Rattle.form_grammar.specs.Formulas.{gd, formula_rows}
+use Rattle.form_grammar.specs.Lists.{list_rows}
+use Rattle.form_grammar.specs.Networks.{network_rows}
+use Rattle.form_grammar.specs.Plans.{is_mark, step, step_rows}
+use Rattle.form_grammar.specs.Rows.{Rows}
+use Rattle.form_grammar.specs.Laws.{BeginsWhatCanBeWhole}
+use Rattle.form_grammar.specs.Texts.{text_form, one_list, the_list, marked_lists, mark_or_list}
+use Rattle.form_grammar.proofs.Endings.{Ending, list_ends, formula_ends, effect_ends, network_ends, step_ends, one_ends, plan_ends, each_can}
+use Rattle.form_grammar.proofs.Fronts as fronts
+use Rattle.form_grammar.proofs.laws.begins_what_can_be_whole.Goals as goal
+
+of_one : {X : Type 0} (rows : Rows X) (inside : X) → ((d : X) → Ending rows d) → BeginsWhatCanBeWhole (text_form rows (one_list 8 inside) the_list)
+of_one rows inside e = fronts.begins_what_can_be_whole rows (one_list 8 inside) (λ d. Unit {0}) (each_can rows (one_list 8 inside) e (one_ends rows 8 inside (e inside))) the_list
+
+pub returns : goal.returns
+returns c = record {
+  plans = fronts.begins_what_can_be_whole step_rows (marked_lists is_mark step) (λ d. Unit {0}) (each_can step_rows (marked_lists is_mark step) step_ends plan_ends) mark_or_list;
+  formulas = of_one formula_rows gd formula_ends;
+  effects = of_one effect_rows eff effect_ends;
+  lists = λ d. of_one list_rows d list_ends;
+  networks = λ d. of_one network_rows d network_ends;
+}

@@ -1,0 +1,8 @@
+use Rattle.form_grammar.proofs.Faults.{define_told, plan_told}
+use Rattle.form_grammar.proofs.laws.faults_are_departures.Goals as goal
+
+pub returns : goal.returns
+returns g c = record {
+  define = define_told g.G.Grammar.rows g.G.Grammar.inside c.args.text.now c.requires.faultless;
+  plan = λ is_mark. plan_told g.G.Grammar.rows g.G.Grammar.inside is_mark c.args.text.now c.requires.faultless;
+}

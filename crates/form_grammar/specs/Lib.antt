@@ -1,0 +1,12 @@
+pub mod Codes
+pub mod Rows
+pub mod Texts
+pub mod Laws
+pub mod Words
+pub mod Lists
+pub mod Formulas
+pub mod Effects
+pub mod Networks
+pub mod Sections
+pub mod Definitions
+pub mod Plans
