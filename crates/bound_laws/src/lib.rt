@@ -2,7 +2,7 @@
 //! the tail-recursive ones and no others have a bound, and no schedule of any front has more pending than that.
 //!
 //! The definitions are those of `plan_meaning`, and this crate adds no other. It stands on `plan_meaning`, and for the width
-//! of fronts on `slot_machine`. No code calls it; for a crate above, `every_front_is_within_the_bound` says what a bound is for.
+//! of fronts on `slot_machine`. The contract used above: `every_front_is_within_the_bound`, which says what a bound is for.
 #![tactic(auto)]
 
 mod laws;
