@@ -1,6 +1,7 @@
 ghost use Rattle.std.specs.Prelude.{◌≡◌, ℕ};
 ghost use Rattle.printed_sizes.specs.Capped.{capped, IsFromThree, IsFromFour};
 ghost use Rattle.printed_sizes.specs.FrameLengths as of;
+ghost use Rattle.printed_sizes.specs.FrameLengths.{work_length};
 ghost use Rattle.printed_sizes.specs.Frames.{IsFrame};
 
 use crate::conditions::{change_size, condition_size};
@@ -62,7 +63,7 @@ fn work_size(
     change: u64,
 ) -> u64
     requires { IsFrame frame.now }
-    ensures { IsFromThree (of.work_length frame.now params.now condition.now) name head change result }
+    ensures { IsFromThree (work_length frame.now params.now condition.now) name head change result }
 {
     let scope = Scope::Within(&Scope::Empty, params);
     let held = held_size(frame, head, params);
