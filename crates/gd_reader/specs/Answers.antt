@@ -22,6 +22,10 @@ abbrev pub Gives : {A B : Type 0} → (A → B) → Result A Failure → Result 
 Gives view (Ok x) a = a ≡ Ok (view x)
 Gives view (Err e) a = Fails e a
 
+-- the same, with the words of the table behind it
+abbrev pub GivesWith : {A N : Type 0} → N → Result A Failure → Result (A × N) Stop → Type 0
+GivesWith names result a = Gives (λ x. (x, names)) result a
+
 -- A word is due. It comes with its place and with what is behind it.
 unfoldable pub word_due : Placed → Result (ℕ × Word × Placed) Stop
 word_due cut = Err Ends

@@ -2,7 +2,7 @@
 use Rattle.std.specs.Prelude.{◌≡◌, ℕ, ◌+◌, ◌<◌, ◌≤◌, ◌^◌, Some, List}
 use Rattle.htn_base.specs.Words.{folded}
 use Rattle.text_forms.specs.Closing.{close_at}
-use Rattle.text_forms.specs.Placed.{cut, close, word, list, parts_at, IsWhole}
+use Rattle.text_forms.specs.Placed.{Placed, cut, close, word, list, parts_at, IsWhole}
 use Rattle.text_forms.specs.Tokens.{token_count}
 use Rattle.gd_reader.specs.declared.cursor.Item.{Item}
 use Rattle.gd_reader.specs.declared.cursor.Item.TheVariants as items
@@ -30,6 +30,14 @@ IsListTo text i inside behind = (at : ℕ) × IsList text i at inside behind
 
 abbrev pub EndsAt : List ℕ → ℕ → ℕ → Type 0
 EndsAt text i behind = (inside : ℕ) × IsListTo text i inside behind
+
+-- what stands at two tokens
+abbrev pub parts_at_both : List ℕ → ℕ × ℕ → Placed × Placed
+parts_at_both text x = (parts_at text x.0, parts_at text x.1)
+
+-- two tokens that stand behind token i
+abbrev pub AreLater : List ℕ → ℕ → ℕ × ℕ → Type 0
+AreLater text i x = (i < x.0) × (x.0 ≤ token_count text) × (i < x.1) × (x.1 ≤ token_count text)
 
 abbrev pub Shows : List ℕ → ℕ → Item → Type 0
 Shows text i items.End = (parts_at text i ≡ cut) × (token_count text ≤ i)

@@ -4,7 +4,7 @@ ghost use Rattle.htn_base.specs.Words.{folded};
 ghost use Rattle.text_forms.specs.Placed.{parts_at};
 ghost use Rattle.text_forms.specs.Tokens.{token_count};
 ghost use Rattle.gd_reader.specs.Answers.{Gives, word_due, word_or_end, list_due, list_or_end, end_due, passed};
-ghost use Rattle.gd_reader.specs.Shown.{Shows, IsListTo};
+ghost use Rattle.gd_reader.specs.Shown.{Shows, IsListTo, AreLater, parts_at_both};
 
 use crate::stop::{Failure, Stop};
 use sexpr_text::{Kind, Sexprs};
@@ -43,7 +43,8 @@ pub fn item_at<'a>(s: &Sexprs<'a>, i: u32) -> Item<'a>
 /// The word that is due at token `i`: its offset, its letters, and the number of the token behind it.
 #[tactic(auto, unfolding(crate::specs::Answers::word_due))]
 pub fn word_due<'a>(s: &Sexprs<'a>, i: u32) -> Result<(u32, &'a [u8], u32), Failure>
-    ensures gives { Gives (λ x. (x.0, folded x.1.now, parts_at s.now x.2)) result (word_due (parts_at s.now i)) }
+    ensures gives { Gives (λ x. (x.0, folded x.1.now, parts_at s.now x.2)) result
+        (word_due (parts_at s.now i)) }
     ensures later { IfOk result (λ x. (i < x.2) × (x.2 ≤ token_count s.now)) }
     ensures memory { IfErr result (λ e. e ≡ Failure.Memory → ⊥) }
 {
@@ -57,7 +58,8 @@ pub fn word_due<'a>(s: &Sexprs<'a>, i: u32) -> Result<(u32, &'a [u8], u32), Fail
 /// The same, or `None` at the end of the list in which the token stands.
 #[tactic(auto, unfolding(crate::specs::Answers::word_or_end))]
 pub fn word_or_end<'a>(s: &Sexprs<'a>, i: u32) -> Result<Option<(u32, &'a [u8], u32)>, Failure>
-    ensures gives { Gives (option_map (λ x. (x.0, folded x.1.now, parts_at s.now x.2))) result (word_or_end (parts_at s.now i)) }
+    ensures gives { Gives (option_map (λ x. (x.0, folded x.1.now, parts_at s.now x.2))) result
+        (word_or_end (parts_at s.now i)) }
     ensures later { IfOk result (λ o. IfSome o (λ x. (i < x.2) × (x.2 ≤ token_count s.now))) }
     ensures memory { IfErr result (λ e. e ≡ Failure.Memory → ⊥) }
 {
@@ -72,10 +74,11 @@ pub fn word_or_end<'a>(s: &Sexprs<'a>, i: u32) -> Result<Option<(u32, &'a [u8], 
 /// The list that is due at token `i`: the numbers of the token that comes first in it and of the one behind it.
 #[tactic(auto, unfolding(crate::specs::Answers::list_due))]
 pub fn list_due(s: &Sexprs<'_>, i: u32) -> Result<(u32, u32), Failure>
-    ensures gives { Gives (λ x. (parts_at s.now x.0, parts_at s.now x.1)) result (list_due (parts_at s.now i)) }
-    ensures later { IfOk result (λ x. (i < x.0) × (x.0 ≤ token_count s.now) × (i < x.1) × (x.1 ≤ token_count s.now)) }
+    ensures gives { Gives (parts_at_both s.now) result (list_due (parts_at s.now i)) }
+    ensures later { IfOk result (AreLater s.now i) }
     ensures closed { IfOk result (λ x. IsListTo s.now i x.0 x.1) }
-    ensures goes_on { IfErr result (λ e. i < token_count s.now → e ≡ Failure.At Stop.Ends → ⊥) }
+    ensures goes_on { IfErr result
+        (λ e. i < token_count s.now → e ≡ Failure.At Stop.Ends → ⊥) }
     ensures memory { IfErr result (λ e. e ≡ Failure.Memory → ⊥) }
 {
     match item_at(s, i) {
@@ -88,8 +91,9 @@ pub fn list_due(s: &Sexprs<'_>, i: u32) -> Result<(u32, u32), Failure>
 /// The same, or `None` at the end of the list in which the token stands.
 #[tactic(auto, unfolding(crate::specs::Answers::list_or_end))]
 pub fn list_or_end(s: &Sexprs<'_>, i: u32) -> Result<Option<(u32, u32)>, Failure>
-    ensures gives { Gives (option_map (λ x. (parts_at s.now x.0, parts_at s.now x.1))) result (list_or_end (parts_at s.now i)) }
-    ensures later { IfOk result (λ o. IfSome o (λ x. (i < x.0) × (x.0 ≤ token_count s.now) × (i < x.1) × (x.1 ≤ token_count s.now))) }
+    ensures gives { Gives (option_map (parts_at_both s.now)) result
+        (list_or_end (parts_at s.now i)) }
+    ensures later { IfOk result (λ o. IfSome o (AreLater s.now i)) }
     ensures memory { IfErr result (λ e. e ≡ Failure.Memory → ⊥) }
 {
     match item_at(s, i) {

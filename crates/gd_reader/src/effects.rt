@@ -1,6 +1,6 @@
 ghost use Rattle.htn_base.specs.Words.{folded};
 ghost use Rattle.text_forms.specs.Placed.{parts_at};
-ghost use Rattle.gd_reader.specs.Answers.{Gives};
+ghost use Rattle.gd_reader.specs.Answers.{GivesWith};
 ghost use Rattle.gd_reader.specs.Effects.{effect_inside, effects, one_effect, guarded, bound_effect, deleted, effect_headed};
 ghost use Rattle.gd_reader.specs.Terms.{Keeps};
 ghost use Rattle.gd_reader.specs.Words.{effect_head_of};
@@ -35,7 +35,7 @@ pub fn effect_inside_of(
     names: &mut NameTable,
 ) -> Result<RawEffect, Failure>
     ensures keeps { Keeps names.old names.new }
-    ensures gives { Gives (λ x. (x, names.new)) result (effect_inside names.old (parts_at s.now i)) }
+    ensures gives { GivesWith names.new result (effect_inside names.old (parts_at s.now i)) }
 {
     match word_or_end(s, i)? {
         None => Ok(RawEffect::And(List::new(alloc))),
@@ -55,7 +55,9 @@ fn effect_headed_of(
     names: &mut NameTable,
 ) -> Result<RawEffect, Failure>
     ensures keeps { Keeps names.old names.new }
-    ensures gives { Gives (λ x. (x, names.new)) result (effect_headed (effect_head_of (folded word.now)) names.old at (folded word.now) (parts_at s.now i)) }
+    ensures gives { GivesWith names.new result
+        (effect_headed (effect_head_of (folded word.now)) names.old at (folded word.now)
+        (parts_at s.now i)) }
 {
     match effect_head_of(word) {
         EffectHead::And => {
@@ -96,7 +98,7 @@ fn effects_of(
     names: &mut NameTable,
 ) -> Result<List<RawEffect>, Failure>
     ensures keeps { Keeps names.old names.new }
-    ensures gives { Gives (λ x. (x, names.new)) result (effects names.old (parts_at s.now i)) }
+    ensures gives { GivesWith names.new result (effects names.old (parts_at s.now i)) }
 {
     let mut parts = List::new(alloc);
     while let Some((inside, behind)) = list_or_end(s, i)? {
@@ -117,7 +119,7 @@ fn one_effect_of(
     names: &mut NameTable,
 ) -> Result<Boxed<RawEffect>, Failure>
     ensures keeps { Keeps names.old names.new }
-    ensures gives { Gives (λ x. (x, names.new)) result (one_effect names.old (parts_at s.now i)) }
+    ensures gives { GivesWith names.new result (one_effect names.old (parts_at s.now i)) }
 {
     let (inside, behind) = list_due(s, i)?;
     let part = effect_inside_of(alloc, s, inside, names)?;
@@ -135,7 +137,7 @@ fn guarded_of(
     names: &mut NameTable,
 ) -> Result<(RawFormula, Boxed<RawEffect>), Failure>
     ensures keeps { Keeps names.old names.new }
-    ensures gives { Gives (λ x. (x, names.new)) result (guarded names.old (parts_at s.now i)) }
+    ensures gives { GivesWith names.new result (guarded names.old (parts_at s.now i)) }
 {
     let (inside, behind) = list_due(s, i)?;
     let condition = inside_of(alloc, s, inside, names)?;
@@ -153,7 +155,7 @@ fn bound_effect_of(
     names: &mut NameTable,
 ) -> Result<(List<RawParam>, Boxed<RawEffect>), Failure>
     ensures keeps { Keeps names.old names.new }
-    ensures gives { Gives (λ x. (x, names.new)) result (bound_effect names.old (parts_at s.now i)) }
+    ensures gives { GivesWith names.new result (bound_effect names.old (parts_at s.now i)) }
 {
     let (inside, behind) = list_due(s, i)?;
     let (vars, _) = params_of(alloc, s, inside, ListKind::Parameters, names)?;
@@ -170,7 +172,7 @@ fn deleted_of(
     names: &mut NameTable,
 ) -> Result<RawAtom, Failure>
     ensures keeps { Keeps names.old names.new }
-    ensures gives { Gives (λ x. (x, names.new)) result (deleted names.old (parts_at s.now i)) }
+    ensures gives { GivesWith names.new result (deleted names.old (parts_at s.now i)) }
 {
     let (inside, behind) = list_due(s, i)?;
     let atom = applied_of(alloc, s, inside, names)?;

@@ -1,6 +1,6 @@
 ghost use Rattle.htn_base.specs.Words.{folded};
 ghost use Rattle.text_forms.specs.Placed.{parts_at};
-ghost use Rattle.gd_reader.specs.Answers.{Gives};
+ghost use Rattle.gd_reader.specs.Answers.{GivesWith};
 ghost use Rattle.gd_reader.specs.Formulas.{inside, formulas, one, two, bound, headed};
 ghost use Rattle.gd_reader.specs.Terms.{Keeps};
 ghost use Rattle.gd_reader.specs.Words.{head_of};
@@ -37,7 +37,7 @@ pub fn inside_of(
     names: &mut NameTable,
 ) -> Result<RawFormula, Failure>
     ensures keeps { Keeps names.old names.new }
-    ensures gives { Gives (λ x. (x, names.new)) result (inside names.old (parts_at s.now i)) }
+    ensures gives { GivesWith names.new result (inside names.old (parts_at s.now i)) }
 {
     match word_or_end(s, i)? {
         None => Ok(RawFormula::And(List::new(alloc))),
@@ -57,7 +57,8 @@ fn headed_of(
     names: &mut NameTable,
 ) -> Result<RawFormula, Failure>
     ensures keeps { Keeps names.old names.new }
-    ensures gives { Gives (λ x. (x, names.new)) result (headed (head_of (folded word.now)) names.old at (folded word.now) (parts_at s.now i)) }
+    ensures gives { GivesWith names.new result
+        (headed (head_of (folded word.now)) names.old at (folded word.now) (parts_at s.now i)) }
 {
     match head_of(word) {
         Head::And => {
@@ -106,7 +107,7 @@ fn formulas_of(
     names: &mut NameTable,
 ) -> Result<List<RawFormula>, Failure>
     ensures keeps { Keeps names.old names.new }
-    ensures gives { Gives (λ x. (x, names.new)) result (formulas names.old (parts_at s.now i)) }
+    ensures gives { GivesWith names.new result (formulas names.old (parts_at s.now i)) }
 {
     let mut parts = List::new(alloc);
     while let Some((inside, behind)) = list_or_end(s, i)? {
@@ -127,7 +128,7 @@ fn one_of(
     names: &mut NameTable,
 ) -> Result<Boxed<RawFormula>, Failure>
     ensures keeps { Keeps names.old names.new }
-    ensures gives { Gives (λ x. (x, names.new)) result (one names.old (parts_at s.now i)) }
+    ensures gives { GivesWith names.new result (one names.old (parts_at s.now i)) }
 {
     let (inside, behind) = list_due(s, i)?;
     let part = inside_of(alloc, s, inside, names)?;
@@ -145,7 +146,7 @@ fn two_of(
     names: &mut NameTable,
 ) -> Result<(Boxed<RawFormula>, Boxed<RawFormula>), Failure>
     ensures keeps { Keeps names.old names.new }
-    ensures gives { Gives (λ x. (x, names.new)) result (two names.old (parts_at s.now i)) }
+    ensures gives { GivesWith names.new result (two names.old (parts_at s.now i)) }
 {
     let (inside, behind) = list_due(s, i)?;
     let first = Boxed::new(alloc, inside_of(alloc, s, inside, names)?)?;
@@ -163,7 +164,7 @@ fn bound_of(
     names: &mut NameTable,
 ) -> Result<(List<RawParam>, Boxed<RawFormula>), Failure>
     ensures keeps { Keeps names.old names.new }
-    ensures gives { Gives (λ x. (x, names.new)) result (bound names.old (parts_at s.now i)) }
+    ensures gives { GivesWith names.new result (bound names.old (parts_at s.now i)) }
 {
     let (inside, behind) = list_due(s, i)?;
     let (vars, _) = params_of(alloc, s, inside, ListKind::Parameters, names)?;

@@ -2,7 +2,7 @@ ghost use Rattle.std.specs.Prelude.{◌≡◌, ◌<◌, ◌≤◌, ◌++◌, [],
 ghost use Rattle.htn_base.specs.Words.{folded};
 ghost use Rattle.text_forms.specs.Placed.{parts_at};
 ghost use Rattle.text_forms.specs.Tokens.{token_count};
-ghost use Rattle.gd_reader.specs.Answers.{Gives, with_front};
+ghost use Rattle.gd_reader.specs.Answers.{Gives, GivesWith, with_front};
 ghost use Rattle.gd_reader.specs.Ends.{end_of};
 ghost use Rattle.gd_reader.specs.Terms.{Keeps};
 ghost use Rattle.gd_reader.specs.TypedLists.{type_due, more_names, some_names, union, union_due, kind_due, are_variables, are_types, unless};
@@ -43,7 +43,7 @@ fn type_of(
     word: &[u8],
 ) -> Result<List<RawTerm>, Failure>
     ensures keeps { Keeps names.old names.new }
-    ensures gives { Gives (λ x. (x, names.new)) result (type_due kind names.old at (folded word.now)) }
+    ensures gives { GivesWith names.new result (type_due kind names.old at (folded word.now)) }
 {
     match sort_of(word) {
         Sort::Name => {
@@ -83,7 +83,8 @@ fn more_names_of(
     names: &mut NameTable,
 ) -> Result<List<RawTerm>, Failure>
     ensures keeps { Keeps names.old names.new }
-    ensures gives { Gives (λ x. (x, names.new)) result (with_front types (more_names (names.old, seen) (parts_at s.now i))) }
+    ensures gives { GivesWith names.new result
+        (with_front types (more_names (names.old, seen) (parts_at s.now i))) }
 {
     while let Some((at, word, behind)) = word_or_end(s, i)? {
         let ty = used_of(names, at, word)?;
@@ -103,7 +104,7 @@ fn some_names_of(
     names: &mut NameTable,
 ) -> Result<List<RawTerm>, Failure>
     ensures keeps { Keeps names.old names.new }
-    ensures gives { Gives (λ x. (x, names.new)) result (some_names names.old (parts_at s.now i)) }
+    ensures gives { GivesWith names.new result (some_names names.old (parts_at s.now i)) }
 {
     let (at, word, i) = word_due(s, i)?;
     let first = used_of(names, at, word)?;
@@ -122,7 +123,7 @@ fn union_of(
     names: &mut NameTable,
 ) -> Result<List<RawTerm>, Failure>
     ensures keeps { Keeps names.old names.new }
-    ensures gives { Gives (λ x. (x, names.new)) result (union names.old (parts_at s.now i)) }
+    ensures gives { GivesWith names.new result (union names.old (parts_at s.now i)) }
 {
     let (at, word, i) = word_due(s, i)?;
     if is_either(word) {
@@ -143,7 +144,7 @@ fn union_due_of(
     names: &mut NameTable,
 ) -> Result<List<RawTerm>, Failure>
     ensures keeps { Keeps names.old names.new }
-    ensures gives { Gives (λ x. (x, names.new)) result (union_due kind names.old at (parts_at s.now i)) }
+    ensures gives { GivesWith names.new result (union_due kind names.old at (parts_at s.now i)) }
 {
     if are_variables(kind) {
         union_of(alloc, s, i, names)
@@ -162,7 +163,8 @@ pub fn kind_of(
     names: &mut NameTable,
 ) -> Result<(List<RawTerm>, u32), Failure>
     ensures keeps { Keeps names.old names.new }
-    ensures gives { Gives (λ x. ((x.0, parts_at s.now x.1), names.new)) result (kind_due kind names.old (parts_at s.now i)) }
+    ensures gives { Gives (λ x. ((x.0, parts_at s.now x.1), names.new)) result
+        (kind_due kind names.old (parts_at s.now i)) }
     ensures later { IfOk result (λ x. (i < x.1) × (x.1 ≤ token_count s.now)) }
     ensures closed { IfOk result (λ x. end_of (parts_at s.now x.1) ≡ end_of (parts_at s.now i)) }
 {

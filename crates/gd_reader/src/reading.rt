@@ -36,7 +36,8 @@ fn formula_of(
 ) -> Result<Got<RawFormula>, Failure>
     requires token { at < token_count s.now }
     ensures keeps { Keeps names.old names.new }
-    ensures gives { Gives (λ got. (got.value, names.new)) result (formula_read names.old (parts_at s.now at)) }
+    ensures gives { Gives (λ got. (got.value, names.new)) result
+        (formula_read names.old (parts_at s.now at)) }
     ensures next { IfOk result (λ got. EndsAt s.now at got.next) }
     ensures goes_on { IfErr result (λ e. e ≡ Failure.At Stop.Ends → ⊥) }
 {
@@ -55,7 +56,8 @@ fn effect_of(
 ) -> Result<Got<RawEffect>, Failure>
     requires token { at < token_count s.now }
     ensures keeps { Keeps names.old names.new }
-    ensures gives { Gives (λ got. (got.value, names.new)) result (effect_read names.old (parts_at s.now at)) }
+    ensures gives { Gives (λ got. (got.value, names.new)) result
+        (effect_read names.old (parts_at s.now at)) }
     ensures next { IfOk result (λ got. EndsAt s.now at got.next) }
     ensures goes_on { IfErr result (λ e. e ≡ Failure.At Stop.Ends → ⊥) }
 {

@@ -3,7 +3,7 @@ ghost use Rattle.htn_base.specs.Table.{with_word};
 ghost use Rattle.htn_base.specs.Words.{folded};
 ghost use Rattle.text_forms.specs.Placed.{parts_at};
 ghost use Rattle.text_forms.specs.Words.{is_among};
-ghost use Rattle.gd_reader.specs.Answers.{Gives};
+ghost use Rattle.gd_reader.specs.Answers.{GivesWith};
 ghost use Rattle.gd_reader.specs.Terms.{Keeps, name_in, term, used, terms, two_terms, applied, atom};
 
 use crate::cursor::{end_due, word_due, word_or_end};
@@ -58,7 +58,7 @@ pub fn see(seen: &mut NameTable, word: &[u8]) -> Result<bool, Failure>
 #[tactic(auto, unfolding(crate::specs::Terms::term), using(crate::proofs::Sorts::folded_rest, crate::proofs::Keeping::keeps_same))]
 pub fn term_of(names: &mut NameTable, at: u32, word: &[u8]) -> Result<RawTerm, Failure>
     ensures keeps { Keeps names.old names.new }
-    ensures gives { Gives (λ x. (x, names.new)) result (term names.old at (folded word.now)) }
+    ensures gives { GivesWith names.new result (term names.old at (folded word.now)) }
 {
     match sort_of(word) {
         Sort::Variable => {
@@ -85,7 +85,7 @@ pub fn term_of(names: &mut NameTable, at: u32, word: &[u8]) -> Result<RawTerm, F
 #[tactic(auto, unfolding(crate::specs::Terms::used), using(crate::proofs::Keeping::keeps_same))]
 pub fn used_of(names: &mut NameTable, at: u32, word: &[u8]) -> Result<RawTerm, Failure>
     ensures keeps { Keeps names.old names.new }
-    ensures gives { Gives (λ x. (x, names.new)) result (used names.old at (folded word.now)) }
+    ensures gives { GivesWith names.new result (used names.old at (folded word.now)) }
 {
     match sort_of(word) {
         Sort::Name => {
@@ -109,7 +109,7 @@ pub fn terms_of(
     names: &mut NameTable,
 ) -> Result<List<RawTerm>, Failure>
     ensures keeps { Keeps names.old names.new }
-    ensures gives { Gives (λ x. (x, names.new)) result (terms names.old (parts_at s.now i)) }
+    ensures gives { GivesWith names.new result (terms names.old (parts_at s.now i)) }
 {
     let mut terms = List::new(alloc);
     while let Some((at, word, behind)) = word_or_end(s, i)? {
@@ -128,7 +128,7 @@ pub fn two_terms_of(
     names: &mut NameTable,
 ) -> Result<(RawTerm, RawTerm), Failure>
     ensures keeps { Keeps names.old names.new }
-    ensures gives { Gives (λ x. (x, names.new)) result (two_terms names.old (parts_at s.now i)) }
+    ensures gives { GivesWith names.new result (two_terms names.old (parts_at s.now i)) }
 {
     let (at, word, i) = word_due(s, i)?;
     let first = term_of(names, at, word)?;
@@ -149,7 +149,8 @@ pub fn atom_of(
     names: &mut NameTable,
 ) -> Result<RawAtom, Failure>
     ensures keeps { Keeps names.old names.new }
-    ensures gives { Gives (λ x. (x, names.new)) result (atom names.old at (folded word.now) (parts_at s.now i)) }
+    ensures gives { GivesWith names.new result
+        (atom names.old at (folded word.now) (parts_at s.now i)) }
 {
     let name = name_of(names, word)?;
     let args = terms_of(alloc, s, i, names)?;
@@ -170,7 +171,7 @@ pub fn applied_of(
     names: &mut NameTable,
 ) -> Result<RawAtom, Failure>
     ensures keeps { Keeps names.old names.new }
-    ensures gives { Gives (λ x. (x, names.new)) result (applied names.old (parts_at s.now i)) }
+    ensures gives { GivesWith names.new result (applied names.old (parts_at s.now i)) }
 {
     let (at, word, i) = word_due(s, i)?;
     let head = used_of(names, at, word)?;

@@ -1,7 +1,7 @@
 ghost use Rattle.std.specs.Prelude.{◌≡◌, ◌++◌, map, IfOk, OnOk};
 ghost use Rattle.htn_base.specs.Words.{folded};
 ghost use Rattle.text_forms.specs.Placed.{parts_at};
-ghost use Rattle.gd_reader.specs.Answers.{Gives};
+ghost use Rattle.gd_reader.specs.Answers.{Gives, GivesWith};
 ghost use Rattle.gd_reader.specs.Ends.{end_of};
 ghost use Rattle.gd_reader.specs.Terms.{Keeps};
 ghost use Rattle.gd_reader.specs.TypedLists.{declares, variable_by, param_due, with_type, listed, hyphen_due, is_parameters, are_variables};
@@ -62,7 +62,8 @@ fn declare(
     word: &[u8],
 ) -> Result<RawParam, Failure>
     ensures keeps { Keeps names.old names.new }
-    ensures gives { Gives (λ x. (x, (names.new, seen.new))) result (declares (names.old, seen.old) at (folded word.now)) }
+    ensures gives { GivesWith (names.new, seen.new) result
+        (declares (names.old, seen.old) at (folded word.now)) }
 {
     let name = name_of(names, word)?;
     see(seen, word)?;
@@ -84,7 +85,8 @@ fn variable_of(
     word: &[u8],
 ) -> Result<RawParam, Failure>
     ensures keeps { Keeps names.old names.new }
-    ensures gives { Gives (λ x. (x, (names.new, seen.new))) result (variable_by once (names.old, seen.old) at (folded word.now)) }
+    ensures gives { GivesWith (names.new, seen.new) result
+        (variable_by once (names.old, seen.old) at (folded word.now)) }
 {
     if is_reserved_in_any_case(word) {
         return Err(Failure::At(Stop::Departs(9, at)));
@@ -112,7 +114,8 @@ fn param_of(
     word: &[u8],
 ) -> Result<RawParam, Failure>
     ensures keeps { Keeps names.old names.new }
-    ensures gives { Gives (λ x. (x, (names.new, seen.new))) result (param_due kind (names.old, seen.old) at (folded word.now)) }
+    ensures gives { GivesWith (names.new, seen.new) result
+        (param_due kind (names.old, seen.old) at (folded word.now)) }
 {
     let variables = are_variables(kind);
     match sort_of(word) {
@@ -180,7 +183,8 @@ pub fn params_of(
     names: &mut NameTable,
 ) -> Result<(List<RawParam>, u32), Failure>
     ensures keeps { Keeps names.old names.new }
-    ensures gives { Gives (λ x. (x.0, names.new)) result (listed kind names.old (parts_at s.now i)) }
+    ensures gives { Gives (λ x. (x.0, names.new)) result
+        (listed kind names.old (parts_at s.now i)) }
     ensures closed { IfOk result (λ x. parts_at s.now x.1 ≡ end_of (parts_at s.now i)) }
 {
     let mut seen = NameTable::new(alloc);
