@@ -36,6 +36,15 @@ front_same (opens at) ts us = refl
 front_same (closes at) ts us = refl
 front_same (spells at w) ts us = refl
 
+-- where the list begins with what is chosen for it
+from_front : (f : Option Word → List Lexeme → Form) (q : Placed) → ((us : List Lexeme) × (level 0 us ≡ q) × Whole (f (front q) us)) → (us : List Lexeme) × Whole (f (front (level 0 us)) us)
+from_front f q r = (r.0, subst (λ p. Whole (f (front p) r.0)) (sym r.1) r.2)
+
+-- where the list has a token already
+with_front : (f : Option Word → List Lexeme → Form) (x : Lexeme) (ts : List Lexeme) → ((us : List Lexeme) × Whole (f (front (level 0 (x ∷ ts))) ((x ∷ ts) ++ us)))
+    → (us : List Lexeme) × Whole (f (front (level 0 ((x ∷ ts) ++ us))) ((x ∷ ts) ++ us))
+with_front f x ts r = (r.0, subst (λ o. Whole (f o ((x ∷ ts) ++ r.0))) (front_same x ts r.0) r.1)
+
 then_assoc : (a b c : Form) → (a followed_by b) followed_by c ≡ a followed_by (b followed_by c)
 then_assoc complete b c = refl
 then_assoc unfinished b c = refl
@@ -197,25 +206,24 @@ module _ {X T : Type 0} (rows : Rows X) (texts : TextRows X T) (Can : X → Type
       (m.0, subst Whole (sym (at_word rows texts d ds t at w (ts ++ m.0))) m.1)
   more (opens at ∷ []) [] t c b =
       let m = chosen_more (texts t).at_list at (λ i. rest rows texts (i.0 ∷ []) 0 (i.1 None) []) (λ us i. rest rows texts (i.0 ∷ []) 0 (i.1 (front (level 0 us))) us) (subst Begins (list_outside rows texts t at []) b)
-          (λ i e f. let q = can.ends i.0 (can.outside_list t i e) in let r = with_list rows texts q.0 i.0 [] (i.1 (front q.0)) q.1 (can.outside_ends (i.1 (front q.0))) in
-          (r.0, subst (λ p. Whole (rest rows texts (i.0 ∷ []) 0 (i.1 (front p)) r.0)) (sym r.1) r.2)) in
+          (λ i e f. let q = can.ends i.0 (can.outside_list t i e) in
+          from_front (λ o us. rest rows texts (i.0 ∷ []) 0 (i.1 o) us) q.0 (with_list rows texts q.0 i.0 [] (i.1 (front q.0)) q.1 (can.outside_ends (i.1 (front q.0))))) in
       (m.0, subst Whole (sym (list_outside rows texts t at m.0)) m.1)
   more (opens at ∷ []) (d ∷ ds) t c b =
       let m = chosen_more (rows d).at_list at (λ i. rest rows texts (i.inside ∷ i.behind None ∷ ds) 0 t []) (λ us i. rest rows texts (i.inside ∷ i.behind (front (level 0 us)) ∷ ds) 0 t us) (subst Begins (at_list rows texts d ds t at []) b)
-          (λ i e f. let g = can.by_list d i c.0 e in let q = can.ends i.inside g.0 in let r = with_list rows texts q.0 i.inside (i.behind (front q.0) ∷ ds) t q.1 (all_end (i.behind (front q.0) ∷ ds) t (g.1 (front q.0), c.1)) in
-          (r.0, subst (λ p. Whole (rest rows texts (i.inside ∷ i.behind (front p) ∷ ds) 0 t r.0)) (sym r.1) r.2)) in
+          (λ i e f. let g = can.by_list d i c.0 e in let q = can.ends i.inside g.0 in
+          from_front (λ o us. rest rows texts (i.inside ∷ i.behind o ∷ ds) 0 t us) q.0 (with_list rows texts q.0 i.inside (i.behind (front q.0) ∷ ds) t q.1 (all_end (i.behind (front q.0) ∷ ds) t (g.1 (front q.0), c.1)))) in
       (m.0, subst Whole (sym (at_list rows texts d ds t at m.0)) m.1)
   more (opens at ∷ x ∷ ts) [] t c b =
       let m = chosen_more (texts t).at_list at (λ i. rest rows texts (i.0 ∷ []) 0 (i.1 (front (level 0 (x ∷ ts)))) (x ∷ ts)) (λ us i. rest rows texts (i.0 ∷ []) 0 (i.1 (front (level 0 ((x ∷ ts) ++ us)))) ((x ∷ ts) ++ us))
           (subst Begins (list_outside rows texts t at (x ∷ ts)) b)
-          (λ i e f. let r = more (x ∷ ts) (i.0 ∷ []) (i.1 (front (level 0 (x ∷ ts)))) (can.outside_list t i e, tt) f in
-          (r.0, subst (λ o. Whole (rest rows texts (i.0 ∷ []) 0 (i.1 o) ((x ∷ ts) ++ r.0))) (front_same x ts r.0) r.1)) in
+          (λ i e f. with_front (λ o us. rest rows texts (i.0 ∷ []) 0 (i.1 o) us) x ts (more (x ∷ ts) (i.0 ∷ []) (i.1 (front (level 0 (x ∷ ts)))) (can.outside_list t i e, tt) f)) in
       (m.0, subst Whole (sym (list_outside rows texts t at ((x ∷ ts) ++ m.0))) m.1)
   more (opens at ∷ x ∷ ts) (d ∷ ds) t c b =
       let m = chosen_more (rows d).at_list at (λ i. rest rows texts (i.inside ∷ i.behind (front (level 0 (x ∷ ts))) ∷ ds) 0 t (x ∷ ts))
           (λ us i. rest rows texts (i.inside ∷ i.behind (front (level 0 ((x ∷ ts) ++ us))) ∷ ds) 0 t ((x ∷ ts) ++ us)) (subst Begins (at_list rows texts d ds t at (x ∷ ts)) b)
-          (λ i e f. let g = can.by_list d i c.0 e in let r = more (x ∷ ts) (i.inside ∷ i.behind (front (level 0 (x ∷ ts))) ∷ ds) t (g.0, (g.1 (front (level 0 (x ∷ ts))), c.1)) f in
-          (r.0, subst (λ o. Whole (rest rows texts (i.inside ∷ i.behind o ∷ ds) 0 t ((x ∷ ts) ++ r.0))) (front_same x ts r.0) r.1)) in
+          (λ i e f. let g = can.by_list d i c.0 e in
+          with_front (λ o us. rest rows texts (i.inside ∷ i.behind o ∷ ds) 0 t us) x ts (more (x ∷ ts) (i.inside ∷ i.behind (front (level 0 (x ∷ ts))) ∷ ds) t (g.0, (g.1 (front (level 0 (x ∷ ts))), c.1)) f)) in
       (m.0, subst Whole (sym (at_list rows texts d ds t at ((x ∷ ts) ++ m.0))) m.1)
 
   pub begins_what_can_be_whole : (t : T) → BeginsWhatCanBeWhole (text_form rows texts t)
