@@ -55,17 +55,23 @@ parts_end method seen = by_test (is_among (codes ":task") seen) refl
   where
     by_test : (b : Bool) → is_among (codes ":task") seen ≡ b → Ending section_rows (parts method seen)
     by_test true e = (close 0, subst (λ b. Whole (closed (if_allowed b 8 tt) 0)) (sym e) tt)
-    by_test false e = (word 0 (codes ":task") (list 0 (word 0 (codes "a") (close 0)) (close 0)),
-        subst (λ b. Whole (elim (if_allowed (not b) 7 (group (of_terms_due applied) (parts method (codes ":task" ∷ seen)))) [
-          | go next ↦ form section_rows next (list 0 (word 0 (codes "a") (close 0)) (close 0))
-          | stop code ↦ wrong code 0
-        ])) (sym e) tt)
+    by_test false e = (
+      word 0 (codes ":task") (list 0 (word 0 (codes "a") (close 0)) (close 0)),
+      subst (λ b. Whole (elim (if_allowed (not b) 7 (group (of_terms_due applied) (parts method (codes ":task" ∷ seen)))) [
+        | go next ↦ form section_rows next (list 0 (word 0 (codes "a") (close 0)) (close 0))
+        | stop code ↦ wrong code 0
+      ])) (sym e) tt,
+    )
 
 action_end : (l : Language) (seen : List Word) → NoAction seen → Ending section_rows (section l domain seen)
-action_end hddl seen c = (word 0 (codes ":action") (word 0 (codes "a") (close 0)),
-    subst (λ b. Whole (elim (if_allowed (not b) 7 (named action)) [ | go next ↦ form section_rows next (word 0 (codes "a") (close 0)) | stop code ↦ wrong code 0 ])) (sym c) tt)
-action_end pddl seen c = (word 0 (codes ":action") (word 0 (codes "a") (close 0)),
-    subst (λ b. Whole (elim (if_allowed (not b) 7 (named action)) [ | go next ↦ form section_rows next (word 0 (codes "a") (close 0)) | stop code ↦ wrong code 0 ])) (sym c) tt)
+action_end hddl seen c = (
+  word 0 (codes ":action") (word 0 (codes "a") (close 0)),
+  subst (λ b. Whole (elim (if_allowed (not b) 7 (named action)) [ go next ↦ form section_rows next (word 0 (codes "a") (close 0)) | stop code ↦ wrong code 0 ])) (sym c) tt,
+)
+action_end pddl seen c = (
+  word 0 (codes ":action") (word 0 (codes "a") (close 0)),
+  subst (λ b. Whole (elim (if_allowed (not b) 7 (named action)) [ go next ↦ form section_rows next (word 0 (codes "a") (close 0)) | stop code ↦ wrong code 0 ])) (sym c) tt,
+)
 
 abbrev heading : Placed
 heading = list 0 (word 0 (codes "domain") (word 0 (codes "a") (close 0))) (close 0)
@@ -132,7 +138,7 @@ entry_can (t ∷ table) w x c e = by_test (bytes_eq w t.0) e (entry_can table w 
 word_can : (table : Table SectionDue) (others : Word → Next SectionDue) (w : Word) (x : SectionDue) → AllCan table → (others w ≡ go x → Can x) → by_word table others w ≡ go x → Can x
 word_can table others w x c h e = by_entry (entry table w) refl e
   where
-    by_entry : (o : Option SectionDue) → entry table w ≡ o → ◌≡◌ {A = Next SectionDue} (elim o [ | None ↦ others w | Some y ↦ go y ]) (go x) → Can x
+    by_entry : (o : Option SectionDue) → entry table w ≡ o → ◌≡◌ {A = Next SectionDue} (elim o [ None ↦ others w | Some y ↦ go y ]) (go x) → Can x
     by_entry None i e = h e
     by_entry (Some y) i e = subst Can (go_same y x e) (entry_can table w y c i)
 
@@ -143,7 +149,7 @@ keyword_can table seen leaves w x c h e = by_entry (entry table w) refl e
     none true e = absurd (stops 6 x e)
     none false e = absurd (stops 8 x e)
 
-    by_entry : (o : Option SectionDue) → entry table w ≡ o → ◌≡◌ {A = Next SectionDue} (elim o [ | None ↦ unknown (is_keyword w) | Some y ↦ if_allowed (not (is_among (counts_as w) seen)) 7 (leaves y) ]) (go x) → Can x
+    by_entry : (o : Option SectionDue) → entry table w ≡ o → ◌≡◌ {A = Next SectionDue} (elim o [ None ↦ unknown (is_keyword w) | Some y ↦ if_allowed (not (is_among (counts_as w) seen)) 7 (leaves y) ]) (go x) → Can x
     by_entry None i e = none (is_keyword w) e
     by_entry (Some y) i e = allowed_can (not (is_among (counts_as w) seen)) 7 (leaves y) x (h y (entry_can table w y c i)) e
 

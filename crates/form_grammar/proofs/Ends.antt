@@ -2,21 +2,16 @@
 use Rattle.std.proofs.Common.{◌≡◌, ℕ, ◌⊎◌, inl, inr, Bool, true, false, if◌then◌else◌, refl}
 use Rattle.text_forms.specs.Placed.{Placed, cut, close, word, list, IsWhole}
 use Rattle.text_forms.specs.Words.{Word}
-use Rattle.form_grammar.specs.Codes.{Form, complete, unfinished, wrong, ◌followed_by◌}
+use Rattle.form_grammar.specs.Codes.{Form, EndsEarly, complete, unfinished, wrong, ◌followed_by◌}
 use Rattle.form_grammar.specs.Rows.{Next, go, stop, Inner, Rows, form, closed, front}
 use Rattle.form_grammar.specs.Texts.{text_form, one_list, the_list, the_end, marked_lists, mark_or_list, behind_mark, last_word}
 
-abbrev pub Ends : Form → Type 0
-Ends complete = ⊥
-Ends unfinished = Unit {0}
-Ends (wrong code at) = ⊥
-
-ends_then : (a b : Form) → (Ends a → ⊥) → (Ends b → ⊥) → Ends (a followed_by b) → ⊥
+ends_then : (a b : Form) → (EndsEarly a → ⊥) → (EndsEarly b → ⊥) → EndsEarly (a followed_by b) → ⊥
 ends_then complete b h k e = k e
 ends_then unfinished b h k e = h tt
 ends_then (wrong code at) b h k e = e
 
-ends_second : (a b : Form) → (Ends a → ⊥) → Ends (a followed_by b) → Ends b
+ends_second : (a b : Form) → (EndsEarly a → ⊥) → EndsEarly (a followed_by b) → EndsEarly b
 ends_second complete b h e = e
 ends_second unfinished b h e = absurd (h tt)
 ends_second (wrong code at) b h e = absurd e
@@ -36,34 +31,34 @@ EndsMarked is_mark (word a v p) at = ((p ≡ cut) × (at ≡ a) × (is_mark v �
 EndsMarked is_mark (list a p q) at = EndsMarked is_mark q at
 
 module _ {X : Type 0} (rows : Rows X) where
-  close_ends : (n : Next (Unit {0})) (at : ℕ) → Ends (closed n at) → ⊥
+  close_ends : (n : Next (Unit {0})) (at : ℕ) → EndsEarly (closed n at) → ⊥
   close_ends (go x) at e = e
   close_ends (stop code) at e = e
 
-  word_ends : (n : Next X) (at : ℕ) (p : Placed) → ((x : X) → Ends (form rows x p) → ⊥) → Ends (elim n [ go next ↦ form rows next p | stop code ↦ wrong code at ]) → ⊥
+  word_ends : (n : Next X) (at : ℕ) (p : Placed) → ((x : X) → EndsEarly (form rows x p) → ⊥) → EndsEarly (elim n [ go next ↦ form rows next p | stop code ↦ wrong code at ]) → ⊥
   word_ends (go x) at p h e = h x e
   word_ends (stop code) at p h e = e
 
-  list_ends : (n : Next (Inner X)) (at : ℕ) (p q : Placed) → ((x : X) → Ends (form rows x p) → ⊥) → ((x : X) → Ends (form rows x q) → ⊥)
-      → Ends (elim n [ go i ↦ form rows i.inside p followed_by form rows (i.behind (front p)) q | stop code ↦ wrong code at ]) → ⊥
+  list_ends : (n : Next (Inner X)) (at : ℕ) (p q : Placed) → ((x : X) → EndsEarly (form rows x p) → ⊥) → ((x : X) → EndsEarly (form rows x q) → ⊥)
+      → EndsEarly (elim n [ go i ↦ form rows i.inside p followed_by form rows (i.behind (front p)) q | stop code ↦ wrong code at ]) → ⊥
   list_ends (go i) at p q h k e = ends_then (form rows i.inside p) (form rows (i.behind (front p)) q) (h i.inside) (k (i.behind (front p))) e
   list_ends (stop code) at p q h k e = e
 
   -- in a list that is closed, the tokens don't end too early
-  pub whole_ends : (p : Placed) (due : X) → IsWhole p → Ends (form rows due p) → ⊥
+  pub whole_ends : (p : Placed) (due : X) → IsWhole p → EndsEarly (form rows due p) → ⊥
   whole_ends cut due w e = w
   whole_ends (close at) due w e = close_ends (rows due).at_close at e
   whole_ends (word at v p) due w e = word_ends ((rows due).at_word v) at p (λ x. whole_ends p x w) e
   whole_ends (list at p q) due w e = list_ends (rows due).at_list at p q (λ x. whole_ends p x w.0) (λ x. whole_ends q x w.1) e
 
-  end_ends : (q : Placed) (code : ℕ) (inside : X) → Ends (text_form rows (one_list code inside) the_end q) → ⊥
+  end_ends : (q : Placed) (code : ℕ) (inside : X) → EndsEarly (text_form rows (one_list code inside) the_end q) → ⊥
   end_ends cut code inside e = e
   end_ends (close at) code inside e = e
   end_ends (word at v q) code inside e = e
   end_ends (list at p q) code inside e = e
 
   -- a domain or a problem ends too early only where it has no token
-  pub no_tokens : (p : Placed) (code : ℕ) (inside : X) → AreClosed p → Ends (text_form rows (one_list code inside) the_list p) → p ≡ cut
+  pub no_tokens : (p : Placed) (code : ℕ) (inside : X) → AreClosed p → EndsEarly (text_form rows (one_list code inside) the_list p) → p ≡ cut
   no_tokens cut code inside c e = refl
   no_tokens (close at) code inside c e = absurd e
   no_tokens (word at v p) code inside c e = absurd e
@@ -71,27 +66,27 @@ module _ {X : Type 0} (rows : Rows X) where
       absurd (ends_then (form rows inside p) (text_form rows (one_list code inside) the_end q) (whole_ends p inside c.0) (end_ends q code inside) e)
 
   -- a plan ends too early only behind a trailing mark, which is its last word outside all lists
-  pub trailing_mark : (p : Placed) (is_mark : Word → Bool) (inside : X) (lo : ℕ) → AreClosed p → Ends (text_form rows (marked_lists is_mark inside) mark_or_list p) → EndsMarked is_mark p (last_word lo p)
+  pub trailing_mark : (p : Placed) (is_mark : Word → Bool) (inside : X) (lo : ℕ) → AreClosed p → EndsEarly (text_form rows (marked_lists is_mark inside) mark_or_list p) → EndsMarked is_mark p (last_word lo p)
   trailing_mark cut is_mark inside lo c e = e
   trailing_mark (close at) is_mark inside lo c e = absurd e
   trailing_mark (word at v cut) is_mark inside lo c e = by_test (is_mark v) refl e
     where
-      by_test : (b : Bool) → is_mark v ≡ b → Ends (elim (if b then go behind_mark else stop 8) [ go next ↦ text_form rows (marked_lists is_mark inside) next cut | stop code ↦ wrong code at ]) → ((cut ≡ cut) × (at ≡ at) × (is_mark v ≡ true)) ⊎ ⊥
+      by_test : (b : Bool) → is_mark v ≡ b → EndsEarly (elim (if b then go behind_mark else stop 8) [ go next ↦ text_form rows (marked_lists is_mark inside) next cut | stop code ↦ wrong code at ]) → ((cut ≡ cut) × (at ≡ at) × (is_mark v ≡ true)) ⊎ ⊥
       by_test true t e = inl (refl, refl, t)
       by_test false t e = absurd e
   trailing_mark (word at v (close b)) is_mark inside lo c e = absurd c
   trailing_mark (word at v (word b u p)) is_mark inside lo c e = by_test (is_mark v) e
     where
-      by_test : (t : Bool) → Ends (elim (if t then go behind_mark else stop 8) [ go next ↦ text_form rows (marked_lists is_mark inside) next (word b u p) | stop code ↦ wrong code at ]) → EndsMarked is_mark (word at v (word b u p)) (last_word lo (word at v (word b u p)))
+      by_test : (t : Bool) → EndsEarly (elim (if t then go behind_mark else stop 8) [ go next ↦ text_form rows (marked_lists is_mark inside) next (word b u p) | stop code ↦ wrong code at ]) → EndsMarked is_mark (word at v (word b u p)) (last_word lo (word at v (word b u p)))
       by_test true e = absurd e
       by_test false e = absurd e
   trailing_mark (word at v (list b p q)) is_mark inside lo c e = by_test (is_mark v) e (trailing_mark q is_mark inside at c.1)
     where
-      both : Ends (form rows inside p followed_by text_form rows (marked_lists is_mark inside) mark_or_list q) → (Ends (text_form rows (marked_lists is_mark inside) mark_or_list q) → EndsMarked is_mark q (last_word at q)) → EndsMarked is_mark q (last_word at q)
+      both : EndsEarly (form rows inside p followed_by text_form rows (marked_lists is_mark inside) mark_or_list q) → (EndsEarly (text_form rows (marked_lists is_mark inside) mark_or_list q) → EndsMarked is_mark q (last_word at q)) → EndsMarked is_mark q (last_word at q)
       both e h = h (ends_second (form rows inside p) (text_form rows (marked_lists is_mark inside) mark_or_list q) (whole_ends p inside c.0) e)
 
-      by_test : (t : Bool) → Ends (elim (if t then go behind_mark else stop 8) [ go next ↦ text_form rows (marked_lists is_mark inside) next (list b p q) | stop code ↦ wrong code at ])
-          → (Ends (text_form rows (marked_lists is_mark inside) mark_or_list q) → EndsMarked is_mark q (last_word at q)) → EndsMarked is_mark (word at v (list b p q)) (last_word lo (word at v (list b p q)))
+      by_test : (t : Bool) → EndsEarly (elim (if t then go behind_mark else stop 8) [ go next ↦ text_form rows (marked_lists is_mark inside) next (list b p q) | stop code ↦ wrong code at ])
+          → (EndsEarly (text_form rows (marked_lists is_mark inside) mark_or_list q) → EndsMarked is_mark q (last_word at q)) → EndsMarked is_mark (word at v (list b p q)) (last_word lo (word at v (list b p q)))
       by_test true e h = inr (both e h)
       by_test false e h = absurd e
   trailing_mark (list at p q) is_mark inside lo c e =

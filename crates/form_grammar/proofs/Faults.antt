@@ -6,11 +6,11 @@ use Rattle.text_forms.specs.Placed.{Placed, cut, IsWhole, level, parts_at}
 use Rattle.text_forms.specs.Tokens.{Token, Lexeme, opens, closes, spells, tokens, lexemes, lexeme, symbol, symbols}
 use Rattle.text_forms.specs.Words.{Word}
 use Rattle.text_forms.proofs.MatchedFaults.{matched_are_faultless}
-use Rattle.form_grammar.specs.Codes.{Form, complete, unfinished, wrong, Whole, Begins, Departs}
+use Rattle.form_grammar.specs.Codes.{Form, complete, unfinished, wrong, Whole, EndsEarly, Departs}
 use Rattle.form_grammar.specs.Laws.{TellsFault, TellsDefineFault, TellsPlanFault}
 use Rattle.form_grammar.specs.Rows.{Rows}
-use Rattle.form_grammar.specs.Texts.{text_form, fault_or, one_list, the_list, last_word, marked_lists, mark_or_list}
-use Rattle.form_grammar.proofs.Ends.{Ends, AreClosed, EndsMarked, no_tokens, trailing_mark}
+use Rattle.form_grammar.specs.Texts.{fault_or, define_form, define_fault, last_word, marked_form, plan_fault}
+use Rattle.form_grammar.proofs.Ends.{AreClosed, EndsMarked, no_tokens, trailing_mark}
 
 -- matched parentheses close each list that is open in front of the tokens
 open_closed : (ts : List Lexeme) (k j : ℕ) → AreMatched k (map symbol ts) → j < k → IsWhole (level j ts)
@@ -92,38 +92,24 @@ told form text e = record {
   departs = told_departs (form (parts_at text 0)) e;
 }
 
-is_early : (f : Form) → Begins f → (Whole f → ⊥) → Ends f
-is_early complete b n = n tt
-is_early unfinished b n = tt
-is_early (wrong code at) b n = b
-
-early_told : (f : Form) (e : Fault) → Ends f → fault_or e f ≡ Some e
+early_told : (f : Form) (e : Fault) → EndsEarly f → fault_or e f ≡ Some e
 early_told complete e n = absurd n
 early_told unfinished e n = refl
 early_told (wrong code at) e n = absurd n
 
 module _ {X : Type 0} (rows : Rows X) (inside : X) where
-  abbrev define_form : Placed → Form
-  define_form p = text_form rows (one_list 5 inside) the_list p
-
-  pub define_told : (text : List ℕ) → IsFaultless text → TellsDefineFault rows inside text
+  pub define_told : (text : List ℕ) → IsFaultless text → TellsDefineFault rows inside text (define_fault rows inside (length text) (parts_at text 0))
   define_told text n = record {
-    of_form = told define_form text (fault 5 (length text));
-    early = λ b w. (
-      none_left text (tokens text) (no_tokens rows (parts_at text 0) 5 inside (all_closed text n) (is_early (define_form (parts_at text 0)) b w)),
-      early_told (define_form (parts_at text 0)) (fault 5 (length text)) (is_early (define_form (parts_at text 0)) b w),
-    );
+    of_form = told (define_form rows inside) text (fault 5 (length text));
+    early = λ b. (none_left text (tokens text) (no_tokens rows (parts_at text 0) 5 inside (all_closed text n) b), early_told (define_form rows inside (parts_at text 0)) (fault 5 (length text)) b);
   }
 
-  abbrev plan_form : (Word → Bool) → Placed → Form
-  plan_form is_mark p = text_form rows (marked_lists is_mark inside) mark_or_list p
-
-  pub plan_told : (is_mark : Word → Bool) (text : List ℕ) → IsFaultless text → TellsPlanFault rows inside is_mark text
+  pub plan_told : (is_mark : Word → Bool) (text : List ℕ) → IsFaultless text → TellsPlanFault rows inside is_mark text (plan_fault rows inside is_mark (parts_at text 0))
   plan_told is_mark text n = record {
-    of_form = told (plan_form is_mark) text (fault 8 (last_word 0 (parts_at text 0)));
-    early = λ b w. (
+    of_form = told (marked_form rows inside is_mark) text (fault 8 (last_word 0 (parts_at text 0)));
+    early = λ b. (
       last_word 0 (parts_at text 0),
-      marked is_mark (lexemes text) 0 (last_word 0 (parts_at text 0)) (trailing_mark rows (parts_at text 0) is_mark inside 0 (all_closed text n) (is_early (plan_form is_mark (parts_at text 0)) b w)),
-      early_told (plan_form is_mark (parts_at text 0)) (fault 8 (last_word 0 (parts_at text 0))) (is_early (plan_form is_mark (parts_at text 0)) b w),
+      marked is_mark (lexemes text) 0 (last_word 0 (parts_at text 0)) (trailing_mark rows (parts_at text 0) is_mark inside 0 (all_closed text n) b),
+      early_told (marked_form rows inside is_mark (parts_at text 0)) (fault 8 (last_word 0 (parts_at text 0))) b,
     );
   }

@@ -5,10 +5,10 @@ use Rattle.text_forms.specs.Faults.{Fault}
 use Rattle.text_forms.specs.Placed.{Placed, parts_at}
 use Rattle.form_grammar.specs.Codes.{Form}
 use Rattle.form_grammar.specs.Sections.{Language, Definition, define, section_rows}
-use Rattle.form_grammar.specs.Texts.{text_form, one_list, the_list, define_fault}
+use Rattle.form_grammar.specs.Texts.{define_form, define_fault}
 
 abbrev pub definition_form : Language → Definition → Placed → Form
-definition_form l d p = text_form section_rows (one_list 5 (define l d)) the_list p
+definition_form l d p = define_form section_rows (define l d) p
 
 -- in a text whose tokens have no fault
 abbrev pub definition_fault : Language → Definition → List ℕ → Option Fault
