@@ -1,10 +1,10 @@
 -- Where the tokens of a whole text end too early, when all lists are closed.
-use Rattle.std.proofs.Common.{◌≡◌, ℕ, ◌⊎◌, inl, inr, Bool, true, false, if◌then◌else◌, refl}
+use Rattle.std.proofs.Common.{◌≡◌, ℕ, ◌⊎◌, inl, inr, Bool, true, false, if◌then◌else◌, refl, sym, ◌∙◌, ap, subst}
 use Rattle.text_forms.specs.Placed.{Placed, cut, close, word, list, IsWhole}
 use Rattle.text_forms.specs.Words.{Word}
-use Rattle.form_grammar.specs.Codes.{Form, EndsEarly, complete, unfinished, wrong, ◌followed_by◌}
+use Rattle.form_grammar.specs.Codes.{Form, Begins, EndsEarly, complete, unfinished, wrong, ◌followed_by◌}
 use Rattle.form_grammar.specs.Rows.{Next, go, stop, Inner, Rows, form, closed, front}
-use Rattle.form_grammar.specs.Texts.{text_form, one_list, the_list, the_end, marked_lists, mark_or_list, behind_mark, last_word}
+use Rattle.form_grammar.specs.Texts.{ListsDue, text_form, one_list, the_list, the_end, marked_lists, mark_or_list, behind_mark, last_word}
 
 ends_then : (a b : Form) → (EndsEarly a → ⊥) → (EndsEarly b → ⊥) → EndsEarly (a followed_by b) → ⊥
 ends_then complete b h k e = k e
@@ -91,3 +91,33 @@ module _ {X : Type 0} (rows : Rows X) where
       by_test false e h = absurd e
   trailing_mark (list at p q) is_mark inside lo c e =
       trailing_mark q is_mark inside lo c.1 (ends_second (form rows inside p) (text_form rows (marked_lists is_mark inside) mark_or_list q) (whole_ends p inside c.0) e)
+
+  early_behind : (p q : Placed) (is_mark : Word → Bool) (inside : X) (a at : ℕ) → IsWhole p → Begins (form rows inside p followed_by text_form rows (marked_lists is_mark inside) mark_or_list q)
+      → (Begins (text_form rows (marked_lists is_mark inside) mark_or_list q) → EndsEarly (text_form rows (marked_lists is_mark inside) mark_or_list q) × (last_word a q ≡ at))
+      → EndsEarly (form rows inside p followed_by text_form rows (marked_lists is_mark inside) mark_or_list q) × (last_word a q ≡ at)
+  early_behind p q is_mark inside a at w b h = by_form (form rows inside p) (whole_ends p inside w) b
+    where
+      by_form : (f : Form) → (EndsEarly f → ⊥) → Begins (f followed_by text_form rows (marked_lists is_mark inside) mark_or_list q)
+          → EndsEarly (f followed_by text_form rows (marked_lists is_mark inside) mark_or_list q) × (last_word a q ≡ at)
+      by_form complete n b = h b
+      by_form unfinished n b = absurd (n tt)
+      by_form (wrong code k) n b = absurd b
+
+  -- and behind a trailing mark it does
+  pub early_mark : (p : Placed) (is_mark : Word → Bool) (inside : X) (lo at : ℕ) (t : ListsDue) → AreClosed p → EndsMarked is_mark p at → Begins (text_form rows (marked_lists is_mark inside) t p)
+      → EndsEarly (text_form rows (marked_lists is_mark inside) t p) × (last_word lo p ≡ at)
+  early_mark cut is_mark inside lo at t c m b = absurd m
+  early_mark (close a) is_mark inside lo at t c m b = absurd m
+  early_mark (word a v p) is_mark inside lo at behind_mark c m b = absurd b
+  early_mark (word a v p) is_mark inside lo at mark_or_list c (inl m) b =
+      (subst (λ s. EndsEarly (elim (if s then go behind_mark else stop 8) [ | go next ↦ text_form rows (marked_lists is_mark inside) next p | stop code ↦ wrong code a ])) (sym m.2)
+      (subst (λ q. EndsEarly (text_form rows (marked_lists is_mark inside) behind_mark q)) (sym m.0) tt), ap (last_word a) m.0 ∙ sym m.1)
+  early_mark (word a v p) is_mark inside lo at mark_or_list c (inr m) b = by_test (is_mark v) b (early_mark p is_mark inside a at behind_mark c m)
+    where
+      by_test : (s : Bool) → Begins (elim (if s then go behind_mark else stop 8) [ | go next ↦ text_form rows (marked_lists is_mark inside) next p | stop code ↦ wrong code a ])
+          → (Begins (text_form rows (marked_lists is_mark inside) behind_mark p) → EndsEarly (text_form rows (marked_lists is_mark inside) behind_mark p) × (last_word a p ≡ at))
+          → EndsEarly (elim (if s then go behind_mark else stop 8) [ | go next ↦ text_form rows (marked_lists is_mark inside) next p | stop code ↦ wrong code a ]) × (last_word a p ≡ at)
+      by_test true b h = h b
+      by_test false b h = absurd b
+  early_mark (list a p q) is_mark inside lo at mark_or_list c m b = early_behind p q is_mark inside lo at c.0 b (early_mark q is_mark inside lo at mark_or_list c.1 m)
+  early_mark (list a p q) is_mark inside lo at behind_mark c m b = early_behind p q is_mark inside lo at c.0 b (early_mark q is_mark inside lo at mark_or_list c.1 m)
