@@ -1,16 +1,16 @@
 -- What may be due in a domain can be made whole, since an action may always come.
-use Rattle.std.proofs.Common.{◌≡◌, ℕ, Bool, true, false, not, if◌then◌else◌, ◌||◌, List, [], ◌∷◌, ◌++◌, Option, Some, None, codes, refl, sym, ◌∙◌, ap, subst}
+use Rattle.std.proofs.Common.{◌≡◌, ℕ, Bool, true, false, not, if◌then◌else◌, ◌||◌, List, [], ◌∷◌, Option, Some, None, codes, refl, sym, ◌∙◌, ap, subst}
 use Rattle.std.proofs.lemmas.Slice.Eq.{bytes_eq-Decides}
 use Rattle.std.specs.Str.{bytes_eq}
 use Rattle.htn_base.specs.Words.{is_reserved}
-use Rattle.text_forms.specs.Placed.{Placed, cut, close, word, list, level}
+use Rattle.text_forms.specs.Placed.{Placed, close, word, list}
 use Rattle.text_forms.specs.Words.{Word, is_among, is_name}
-use Rattle.form_grammar.specs.Codes.{Form, wrong, Whole}
-use Rattle.form_grammar.specs.Rows.{Next, go, stop, if_allowed, Inner, Row, Rows, form, closed, row_as, next_as, inner_as, a_list}
-use Rattle.form_grammar.specs.Words.{Table, entry, by_word, by_keyword, used, declared, is_keyword, unknown, counts_as}
+use Rattle.form_grammar.specs.Codes.{wrong, Whole}
+use Rattle.form_grammar.specs.Rows.{Next, go, stop, if_allowed, Inner, form, closed, next_as, inner_as, a_list}
+use Rattle.form_grammar.specs.Words.{Table, entry, by_word, by_keyword, used, is_keyword, unknown, counts_as}
 use Rattle.form_grammar.specs.Effects.{effect_rows}
 use Rattle.form_grammar.specs.Networks.{network_rows}
-use Rattle.form_grammar.specs.Sections.{Language, hddl, pddl, Definition, domain, problem, Parted, task, method, action, network, SectionDue, of_effect, of_network, group, define, header, kind, title, title_end, sections, section, predicates, predicate, domain_name, facts, fact, objects_of_fact, value, named, parts, section_table, part_table, seen_behind, section_rows, of_terms_due, typed}
+use Rattle.form_grammar.specs.Sections.{Language, hddl, pddl, domain, problem, Parted, task, method, action, network, SectionDue, of_effect, of_network, group, define, header, kind, title, title_end, sections, section, predicates, predicate, domain_name, facts, fact, objects_of_fact, value, named, parts, section_table, part_table, seen_behind, section_rows, of_terms_due, typed}
 use Rattle.form_grammar.specs.Lists.{ended, applied, anything, of_predicate}
 use Rattle.form_grammar.specs.Texts.{OneDue, the_list, the_end, one_list}
 use Rattle.form_grammar.proofs.Meaning.{then_whole, form_same}

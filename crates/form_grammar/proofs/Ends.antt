@@ -109,14 +109,16 @@ module _ {X : Type 0} (rows : Rows X) where
   early_mark cut is_mark inside lo at t c m b = absurd m
   early_mark (close a) is_mark inside lo at t c m b = absurd m
   early_mark (word a v p) is_mark inside lo at behind_mark c m b = absurd b
-  early_mark (word a v p) is_mark inside lo at mark_or_list c (inl m) b =
-      (subst (λ s. EndsEarly (elim (if s then go behind_mark else stop 8) [ | go next ↦ text_form rows (marked_lists is_mark inside) next p | stop code ↦ wrong code a ])) (sym m.2)
-      (subst (λ q. EndsEarly (text_form rows (marked_lists is_mark inside) behind_mark q)) (sym m.0) tt), ap (last_word a) m.0 ∙ sym m.1)
+  early_mark (word a v p) is_mark inside lo at mark_or_list c (inl m) b = (
+    subst (λ s. EndsEarly (elim (if s then go behind_mark else stop 8) [ go next ↦ text_form rows (marked_lists is_mark inside) next p | stop code ↦ wrong code a ])) (sym m.2)
+        (subst (λ q. EndsEarly (text_form rows (marked_lists is_mark inside) behind_mark q)) (sym m.0) tt),
+    ap (last_word a) m.0 ∙ sym m.1,
+  )
   early_mark (word a v p) is_mark inside lo at mark_or_list c (inr m) b = by_test (is_mark v) b (early_mark p is_mark inside a at behind_mark c m)
     where
-      by_test : (s : Bool) → Begins (elim (if s then go behind_mark else stop 8) [ | go next ↦ text_form rows (marked_lists is_mark inside) next p | stop code ↦ wrong code a ])
+      by_test : (s : Bool) → Begins (elim (if s then go behind_mark else stop 8) [ go next ↦ text_form rows (marked_lists is_mark inside) next p | stop code ↦ wrong code a ])
           → (Begins (text_form rows (marked_lists is_mark inside) behind_mark p) → EndsEarly (text_form rows (marked_lists is_mark inside) behind_mark p) × (last_word a p ≡ at))
-          → EndsEarly (elim (if s then go behind_mark else stop 8) [ | go next ↦ text_form rows (marked_lists is_mark inside) next p | stop code ↦ wrong code a ]) × (last_word a p ≡ at)
+          → EndsEarly (elim (if s then go behind_mark else stop 8) [ go next ↦ text_form rows (marked_lists is_mark inside) next p | stop code ↦ wrong code a ]) × (last_word a p ≡ at)
       by_test true b h = h b
       by_test false b h = absurd b
   early_mark (list a p q) is_mark inside lo at mark_or_list c m b = early_behind p q is_mark inside lo at c.0 b (early_mark q is_mark inside lo at mark_or_list c.1 m)

@@ -123,7 +123,7 @@ module _ {X : Type 0} (rows : Rows X) (inside : X) where
   plan_told is_mark text n = record {
     of_form = told (marked_form rows inside is_mark) text (fault 8 (last_word 0 (parts_at text 0)));
     trailing_mark = λ at m b. let e = early_mark rows (parts_at text 0) is_mark inside 0 at mark_or_list (all_closed text n) (of_mark is_mark text at m n) b in
-      early_told (marked_form rows inside is_mark (parts_at text 0)) (fault 8 (last_word 0 (parts_at text 0))) e.0 ∙ ap (λ a. Some (fault 8 a)) e.1;
+        early_told (marked_form rows inside is_mark (parts_at text 0)) (fault 8 (last_word 0 (parts_at text 0))) e.0 ∙ ap (λ a. Some (fault 8 a)) e.1;
     early = λ b. (
       last_word 0 (parts_at text 0),
       marked is_mark (lexemes text) 0 (last_word 0 (parts_at text 0)) (trailing_mark rows (parts_at text 0) is_mark inside 0 (all_closed text n) b),

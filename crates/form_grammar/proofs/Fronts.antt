@@ -1,12 +1,12 @@
 -- Tokens that begin a text can go on to a whole one, where all that may be due can be made whole.
-use Rattle.std.proofs.Common.{◌≡◌, ℕ, zero, suc, Bool, true, false, if◌then◌else◌, Option, Some, None, List, [], ◌∷◌, ◌++◌, refl, sym, ◌∙◌, ap, subst}
+use Rattle.std.proofs.Common.{◌≡◌, ℕ, suc, Bool, true, false, if◌then◌else◌, Option, None, List, [], ◌∷◌, ◌++◌, refl, sym, ◌∙◌, ap, subst}
 use Rattle.text_forms.specs.Placed.{Placed, cut, close, word, list, IsWhole, level}
 use Rattle.text_forms.specs.Tokens.{Lexeme, opens, closes, spells}
 use Rattle.text_forms.specs.Words.{Word}
 use Rattle.form_grammar.specs.Codes.{Form, complete, unfinished, wrong, Whole, Begins, ◌followed_by◌}
 use Rattle.form_grammar.specs.Laws.{BeginsWhatCanBeWhole}
-use Rattle.form_grammar.specs.Rows.{Next, go, stop, Inner, Row, Rows, form, closed, front}
-use Rattle.form_grammar.specs.Texts.{TextRow, TextRows, text_form}
+use Rattle.form_grammar.specs.Rows.{Next, go, stop, Inner, Rows, form, closed, front}
+use Rattle.form_grammar.specs.Texts.{TextRows, text_form}
 use Rattle.form_grammar.proofs.Meaning.{then_whole, form_whole}
 
 -- the tokens of a list up to its closing parenthesis, and others behind them
