@@ -9,7 +9,7 @@ use Rattle.text_forms.proofs.MatchedFaults.{matched_are_faultless}
 use Rattle.form_grammar.specs.Codes.{Form, complete, unfinished, wrong, Whole, EndsEarly, Departs}
 use Rattle.form_grammar.specs.Laws.{EndsInMark, TellsFault, TellsDefineFault, TellsPlanFault}
 use Rattle.form_grammar.specs.Rows.{Rows}
-use Rattle.form_grammar.specs.Texts.{mark_or_list, fault_or, define_form, define_fault, last_word, marked_form, plan_fault}
+use Rattle.form_grammar.specs.Texts.{mark_or_list, fault_or, define_form, last_word, marked_form}
 use Rattle.form_grammar.proofs.Ends.{AreClosed, EndsMarked, no_tokens, trailing_mark, early_mark}
 
 -- matched parentheses close each list that is open in front of the tokens
@@ -112,21 +112,17 @@ of_mark is_mark text at m n =
     subst (λ ts. EndsMarked is_mark (level 0 ts) at) (sym m.2) (marked_by is_mark m.0 0 at m.1 m.3 (subst (λ ts. AreMatched 0 (map symbol ts)) m.2 (of_lists text n)))
 
 module _ {X : Type 0} (rows : Rows X) (inside : X) where
-  pub define_told : (text : List ℕ) → IsFaultless text → TellsDefineFault rows inside text (define_fault rows inside (length text) (parts_at text 0))
+  pub define_told : (text : List ℕ) → IsFaultless text → TellsDefineFault rows inside text
   define_told text n = record {
     of_form = told (define_form rows inside) text (fault 5 (length text));
-    no_tokens = λ e. ap (λ ts. define_fault rows inside (length text) (level 0 (map (lexeme text) ts))) e;
-    early = λ b. (none_left text (tokens text) (no_tokens rows (parts_at text 0) 5 inside (all_closed text n) b), early_told (define_form rows inside (parts_at text 0)) (fault 5 (length text)) b);
+    no_tokens = λ e. ap (λ ts. fault_or (fault 5 (length text)) (define_form rows inside (level 0 (map (lexeme text) ts)))) e;
+    early = λ b. none_left text (tokens text) (no_tokens rows (parts_at text 0) 5 inside (all_closed text n) b);
   }
 
-  pub plan_told : (is_mark : Word → Bool) (text : List ℕ) → IsFaultless text → TellsPlanFault rows inside is_mark text (plan_fault rows inside is_mark (parts_at text 0))
+  pub plan_told : (is_mark : Word → Bool) (text : List ℕ) → IsFaultless text → TellsPlanFault rows inside is_mark text
   plan_told is_mark text n = record {
     of_form = told (marked_form rows inside is_mark) text (fault 8 (last_word 0 (parts_at text 0)));
     trailing_mark = λ at m b. let e = early_mark rows (parts_at text 0) is_mark inside 0 at mark_or_list (all_closed text n) (of_mark is_mark text at m n) b in
         early_told (marked_form rows inside is_mark (parts_at text 0)) (fault 8 (last_word 0 (parts_at text 0))) e.0 ∙ ap (λ a. Some (fault 8 a)) e.1;
-    early = λ b. (
-      last_word 0 (parts_at text 0),
-      marked is_mark (lexemes text) 0 (last_word 0 (parts_at text 0)) (trailing_mark rows (parts_at text 0) is_mark inside 0 (all_closed text n) b),
-      early_told (marked_form rows inside is_mark (parts_at text 0)) (fault 8 (last_word 0 (parts_at text 0))) b,
-    );
+    early = λ b. (last_word 0 (parts_at text 0), marked is_mark (lexemes text) 0 (last_word 0 (parts_at text 0)) (trailing_mark rows (parts_at text 0) is_mark inside 0 (all_closed text n) b));
   }

@@ -2,7 +2,7 @@
 -- Source: this project's; a plan of PDDL 2.1, level 1 (Fox and Long, JAIR 20, 2003), without times. Some planners put a number and a colon before a step.
 use Rattle.std.specs.Prelude.{ℕ, Bool, false, not, ◌&&◌, ◌==◌, nat_le, Option, List, [], ◌∷◌}
 use Rattle.text_forms.specs.Faults.{Fault}
-use Rattle.text_forms.specs.Placed.{Placed, parts_at}
+use Rattle.text_forms.specs.Placed.{Placed}
 use Rattle.text_forms.specs.Words.{Word}
 use Rattle.form_grammar.specs.Codes.{Form}
 use Rattle.form_grammar.specs.Rows.{Rows, word_due, word_or_end}
@@ -43,4 +43,4 @@ steps_form p = marked_form step_rows step is_mark p
 
 -- in a text whose tokens have no fault
 abbrev pub steps_fault : List ℕ → Option Fault
-steps_fault text = plan_fault step_rows step is_mark (parts_at text 0)
+steps_fault text = plan_fault step_rows step is_mark text

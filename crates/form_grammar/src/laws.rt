@@ -1,20 +1,19 @@
 //! The laws of the grammars, each the contract of a function that does nothing.
 
-ghost use Rattle.std.specs.Prelude.{ℕ, Bool, List, length};
+ghost use Rattle.std.specs.Prelude.{ℕ, Bool};
 ghost use Rattle.text_forms.specs.Faults.{IsFaultless};
-ghost use Rattle.text_forms.specs.Placed.{parts_at};
 ghost use Rattle.text_forms.specs.Words.{Word};
 ghost use Rattle.form_grammar.specs.Codes.{Form, ◌followed_by◌};
 ghost use Rattle.form_grammar.specs.Laws.{HasOneDeparture, IsSequence, HasPrefixLaws, KeepsForms, BeginsWhatCanBeWhole, TellsDefineFault, TellsPlanFault};
 ghost use Rattle.form_grammar.specs.Rows.{form, list_form};
-ghost use Rattle.form_grammar.specs.Texts.{text_form, one_list, the_list, define_fault, plan_fault};
+ghost use Rattle.form_grammar.specs.Texts.{text_form, one_list, the_list};
 ghost use Rattle.form_grammar.specs.Lists.{ListDue, term_rows, list_rows};
 ghost use Rattle.form_grammar.specs.Formulas.{gd, formula_rows, of_terms, of_list};
 ghost use Rattle.form_grammar.specs.Effects.{eff, effect_rows, of_formula};
 ghost use Rattle.form_grammar.specs.Networks.{NetworkDue, network_rows};
 ghost use Rattle.form_grammar.specs.Sections.{Language, Definition, domain, define, section_rows, of_effect, of_network};
-ghost use Rattle.form_grammar.specs.Definitions.{definition_form, definition_fault};
-ghost use Rattle.form_grammar.specs.Plans.{is_mark, step, step_rows, steps_form, steps_fault};
+ghost use Rattle.form_grammar.specs.Definitions.{definition_form};
+ghost use Rattle.form_grammar.specs.Plans.{is_mark, step, step_rows, steps_form};
 
 use crate::grammar::{Grammar, TextGrammar};
 
@@ -39,16 +38,14 @@ pub fn prefixes_begin_texts<G: TextGrammar>(text: &[u8])
 /// The fault of form of a text without faults of tokens: a domain or a problem, which is one list, and a classical
 /// plan, whose lists may have marks.
 pub fn faults_are_departures<G: Grammar>(text: &[u8])
-    requires faultless { IsFaultless text.now }
-    ensures define { TellsDefineFault G.rows G.inside text.now (define_fault G.rows G.inside (length text.now) (parts_at text.now 0)) }
-    ensures plan { (is_mark : Word → Bool) → TellsPlanFault G.rows G.inside is_mark text.now (plan_fault G.rows G.inside is_mark (parts_at text.now 0)) }
+    ensures define { IsFaultless text.now → TellsDefineFault G.rows G.inside text.now }
+    ensures plan { IsFaultless text.now → (is_mark : Word → Bool) → TellsPlanFault G.rows G.inside is_mark text.now }
 {}
 
 /// Of domains and problems in either language, and of classical plans.
 pub fn definitions_and_plans_have_one_fault(text: &[u8])
-    requires faultless { IsFaultless text.now }
-    ensures define { (l : Language) (d : Definition) → TellsDefineFault section_rows (define l d) text.now (definition_fault l d text.now) }
-    ensures plan { TellsPlanFault step_rows step is_mark text.now (steps_fault text.now) }
+    ensures define { IsFaultless text.now → (l : Language) (d : Definition) → TellsDefineFault section_rows (define l d) text.now }
+    ensures plan { IsFaultless text.now → TellsPlanFault step_rows step is_mark text.now }
     ensures prefixes { (l : Language) (d : Definition) → HasPrefixLaws (definition_form l d) text.now 0 }
     ensures plan_prefixes { HasPrefixLaws steps_form text.now 0 }
 {}
