@@ -1,10 +1,8 @@
 ghost use Rattle.std.specs.Prelude.{ℕ, ◌≡◌, ◌<◌, ◌+◌, ◌^◌, ◌++◌, IfOk, OnOk};
 ghost use Rattle.plan_model.specs.declared.options.Style.TheVariants.{Flat};
 ghost use Rattle.plan_model.specs.declared.terms.Term.TheVariants.{Var};
-ghost use Rattle.plan_model.specs.declared.effects.Effect.TheVariants.{Delete, Forall};
-ghost use Rattle.slot_encoding.specs.OrderFormulas.{pair_of, any_slot, clear_parts};
-ghost use Rattle.order_encoder.specs.Orders.{numbers, clears};
-ghost use Rattle.order_encoder.specs.Meaning.{Clears};
+ghost use Rattle.order_encoder.specs.NamedOrders as of;
+ghost use Rattle.order_encoder.specs.NamedOrders.{clears, Clears};
 
 use crate::names::OrderNames;
 use crate::pairs::{any_slot_params, before};
@@ -22,8 +20,8 @@ pub fn clearing(
     depth: u32,
 ) -> Result<Effect, Memory>
     requires slots { n.now.first_slot + slots < 2 ^ 32 }
-    ensures effect { IfOk result (λ e. e ≡ clears (numbers n.now) slots depth style.now h) }
-    ensures means { (i : ℕ) → h ≡ Var i → i < depth → IfOk result (Clears (numbers n.now) slots depth i) }
+    ensures effect { IfOk result (λ e. e ≡ of.clearing n.now slots depth style.now h) }
+    ensures means { (i : ℕ) → h ≡ Var i → i < depth → IfOk result (Clears n.now slots depth i) }
 {
     clearing_effect(alloc, n, slots, style, h, depth)
 }
@@ -37,7 +35,7 @@ fn clearing_effect(
     depth: u32,
 ) -> Result<Effect, Memory>
     requires slots { n.now.first_slot + slots < 2 ^ 32 }
-    ensures { IfOk result (λ e. e ≡ clears (numbers n.now) slots depth style.now h) }
+    ensures { IfOk result (λ e. e ≡ of.clearing n.now slots depth style.now h) }
 {
     match style {
         Style::Adl => clear_all(alloc, n, h, depth),
@@ -60,7 +58,7 @@ pub fn push_clearing(
     into: &mut List<Effect>,
 ) -> Result<(), Memory>
     requires slots { n.now.first_slot + slots < 2 ^ 32 }
-    ensures parts { OnOk result (into.new ≡ into.old ++ clear_parts (numbers n.now) slots depth style.now h) }
+    ensures parts { OnOk result (into.new ≡ into.old ++ clears n.now slots depth style.now h) }
 {
     match style {
         Style::Adl => into.put(clear_all(alloc, n, h, depth)),
@@ -69,7 +67,7 @@ pub fn push_clearing(
 }
 
 fn clear_all(alloc: Global, n: &OrderNames, h: Term, depth: u32) -> Result<Effect, Memory>
-    ensures { IfOk result (λ e. e ≡ Forall (any_slot (numbers n.now) 0) (Delete (pair_of (numbers n.now) 0 h (Var depth)))) }
+    ensures { IfOk result (λ e. e ≡ of.clear_all n.now depth h) }
 {
     let params = any_slot_params(alloc, n)?;
     let part = clear_one(alloc, n, h, Term::Var(depth))?;
@@ -84,7 +82,7 @@ fn push_clears(
     into: &mut List<Effect>,
 ) -> Result<(), Memory>
     requires slots { n.now.first_slot + slots < 2 ^ 32 }
-    ensures { OnOk result (into.new ≡ into.old ++ clear_parts (numbers n.now) slots 0 Flat h) }
+    ensures { OnOk result (into.new ≡ into.old ++ clears n.now slots 0 Flat h) }
 {
     for k in 0..slots {
         into.put(clear_one(alloc, n, h, Term::Obj(n.first_slot + k)))?;
@@ -94,7 +92,7 @@ fn push_clears(
 
 /// The slot of `h` comes before that of `then` no more.
 fn clear_one(alloc: Global, n: &OrderNames, h: Term, then: Term) -> Result<Effect, Memory>
-    ensures { IfOk result (λ e. e ≡ Delete (pair_of (numbers n.now) 0 h then)) }
+    ensures { IfOk result (λ e. e ≡ of.one_clear n.now h then) }
 {
     Ok(Effect::Delete(before(alloc, n, h, then)?))
 }

@@ -1,11 +1,7 @@
-ghost use Rattle.std.specs.Prelude.{ℕ, ◌≡◌, ◌<◌, ◌+◌, ◌^◌, ◌++◌, IfOk, OnOk};
+ghost use Rattle.std.specs.Prelude.{◌≡◌, ◌<◌, ◌+◌, ◌^◌, ◌++◌, IfOk, OnOk};
 ghost use Rattle.plan_model.specs.declared.options.Style.TheVariants.{Flat};
-ghost use Rattle.plan_model.specs.declared.terms.Term.TheVariants.{Var};
-ghost use Rattle.plan_model.specs.declared.formulas.Formula.TheVariants.{Holds};
-ghost use Rattle.plan_model.specs.declared.effects.Effect.TheVariants.{Add, Forall, When};
-ghost use Rattle.slot_encoding.specs.OrderFormulas.{pair_of, any_slot, copy_parts};
-ghost use Rattle.order_encoder.specs.Orders.{numbers, copies};
-ghost use Rattle.order_encoder.specs.Meaning.{Copies};
+ghost use Rattle.order_encoder.specs.NamedOrders as of;
+ghost use Rattle.order_encoder.specs.NamedOrders.{copies, Copies, ForVariables};
 
 use crate::names::OrderNames;
 use crate::pairs::{any_slot_params, before};
@@ -25,8 +21,8 @@ pub fn copying(
     depth: u32,
 ) -> Result<Effect, Memory>
     requires slots { n.now.first_slot + slots < 2 ^ 32 }
-    ensures effect { IfOk result (λ e. e ≡ copies (numbers n.now) slots depth style.now h child) }
-    ensures means { (i j : ℕ) → h ≡ Var i → child ≡ Var j → i < depth → j < depth → IfOk result (Copies (numbers n.now) slots depth i j) }
+    ensures effect { IfOk result (λ e. e ≡ of.copying n.now slots depth style.now h child) }
+    ensures means { ForVariables depth h child (λ i j. IfOk result (Copies n.now slots depth i j)) }
 {
     copying_effect(alloc, n, slots, style, h, child, depth)
 }
@@ -41,7 +37,7 @@ fn copying_effect(
     depth: u32,
 ) -> Result<Effect, Memory>
     requires slots { n.now.first_slot + slots < 2 ^ 32 }
-    ensures { IfOk result (λ e. e ≡ copies (numbers n.now) slots depth style.now h child) }
+    ensures { IfOk result (λ e. e ≡ of.copying n.now slots depth style.now h child) }
 {
     match style {
         Style::Adl => copy_all(alloc, n, h, child, depth),
@@ -65,7 +61,7 @@ pub fn push_copying(
     into: &mut List<Effect>,
 ) -> Result<(), Memory>
     requires slots { n.now.first_slot + slots < 2 ^ 32 }
-    ensures parts { OnOk result (into.new ≡ into.old ++ copy_parts (numbers n.now) slots depth style.now h child) }
+    ensures parts { OnOk result (into.new ≡ into.old ++ copies n.now slots depth style.now h child) }
 {
     match style {
         Style::Adl => into.put(copy_all(alloc, n, h, child, depth)),
@@ -80,7 +76,7 @@ fn copy_all(
     child: Term,
     depth: u32,
 ) -> Result<Effect, Memory>
-    ensures { IfOk result (λ e. e ≡ Forall (any_slot (numbers n.now) 0) (When (Holds (pair_of (numbers n.now) 0 h (Var depth))) (Add (pair_of (numbers n.now) 0 child (Var depth))))) }
+    ensures { IfOk result (λ e. e ≡ of.copy_all n.now depth h child) }
 {
     let params = any_slot_params(alloc, n)?;
     let part = copy_one(alloc, n, h, child, Term::Var(depth))?;
@@ -96,7 +92,7 @@ fn push_copies(
     into: &mut List<Effect>,
 ) -> Result<(), Memory>
     requires slots { n.now.first_slot + slots < 2 ^ 32 }
-    ensures { OnOk result (into.new ≡ into.old ++ copy_parts (numbers n.now) slots 0 Flat h child) }
+    ensures { OnOk result (into.new ≡ into.old ++ copies n.now slots 0 Flat h child) }
 {
     for k in 0..slots {
         into.put(copy_one(alloc, n, h, child, Term::Obj(n.first_slot + k)))?;
@@ -112,7 +108,7 @@ fn copy_one(
     child: Term,
     then: Term,
 ) -> Result<Effect, Memory>
-    ensures { IfOk result (λ e. e ≡ When (Holds (pair_of (numbers n.now) 0 h then)) (Add (pair_of (numbers n.now) 0 child then))) }
+    ensures { IfOk result (λ e. e ≡ of.one_copy n.now h child then) }
 {
     let pair = Formula::Holds(before(alloc, n, h, then)?);
     let adds = Effect::Add(before(alloc, n, child, then)?);

@@ -1,7 +1,5 @@
-ghost use Rattle.std.specs.Prelude.{◌≡◌, [], ◌∷◌, IfOk};
-ghost use Rattle.slot_encoding.specs.OrderFormulas.{pair_of};
-ghost use Rattle.slot_encoding.specs.OrderFormulas as spec;
-ghost use Rattle.order_encoder.specs.Orders.{numbers};
+ghost use Rattle.std.specs.Prelude.{◌≡◌, IfOk};
+ghost use Rattle.order_encoder.specs.NamedOrders as of;
 
 use crate::names::OrderNames;
 use htn_base::{List, Memory};
@@ -10,7 +8,7 @@ use std::alloc::Global;
 
 /// The atom that what is at slot `first` comes before what is at slot `then`.
 pub(crate) fn before(alloc: Global, n: &OrderNames, first: Term, then: Term) -> Result<Atom, Memory>
-    ensures { IfOk result (λ atom. atom ≡ pair_of (numbers n.now) 0 first then) }
+    ensures { IfOk result (λ atom. atom ≡ of.pair n.now first then) }
 {
     let mut args = List::new(alloc);
     args.push(first)?;
@@ -23,7 +21,7 @@ pub(crate) fn before(alloc: Global, n: &OrderNames, first: Term, then: Term) -> 
 
 /// The slot that a quantifier brings.
 pub(crate) fn any_slot_params(alloc: Global, n: &OrderNames) -> Result<List<Param>, Memory>
-    ensures { IfOk result (λ params. params ≡ spec.any_slot (numbers n.now) 0) }
+    ensures { IfOk result (λ params. params ≡ of.quantified n.now) }
 {
     let mut params = List::new(alloc);
     params.push(Param {

@@ -1,10 +1,8 @@
 ghost use Rattle.std.specs.Prelude.{ℕ, ◌≡◌, ◌<◌, ◌+◌, ◌^◌, ◌++◌, IfOk, OnOk};
 ghost use Rattle.plan_model.specs.declared.options.Style.TheVariants.{Flat};
 ghost use Rattle.plan_model.specs.declared.terms.Term.TheVariants.{Var};
-ghost use Rattle.plan_model.specs.declared.formulas.Formula.TheVariants.{Holds, Not, Forall};
-ghost use Rattle.slot_encoding.specs.OrderFormulas.{pair_of, any_slot, wait_parts};
-ghost use Rattle.order_encoder.specs.Orders.{numbers, waits};
-ghost use Rattle.order_encoder.specs.Meaning.{Waits};
+ghost use Rattle.order_encoder.specs.NamedOrders as of;
+ghost use Rattle.order_encoder.specs.NamedOrders.{waits, Waits};
 
 use crate::names::OrderNames;
 use crate::pairs::{any_slot_params, before};
@@ -23,8 +21,8 @@ pub fn waiting(
     depth: u32,
 ) -> Result<Formula, Memory>
     requires slots { n.now.first_slot + slots < 2 ^ 32 }
-    ensures formula { IfOk result (λ f. f ≡ waits (numbers n.now) slots depth style.now h) }
-    ensures means { (i : ℕ) → h ≡ Var i → i < depth → IfOk result (Waits (numbers n.now) slots depth i) }
+    ensures formula { IfOk result (λ f. f ≡ of.waiting n.now slots depth style.now h) }
+    ensures means { (i : ℕ) → h ≡ Var i → i < depth → IfOk result (Waits n.now slots depth i) }
 {
     waiting_formula(alloc, n, slots, style, h, depth)
 }
@@ -38,7 +36,7 @@ fn waiting_formula(
     depth: u32,
 ) -> Result<Formula, Memory>
     requires slots { n.now.first_slot + slots < 2 ^ 32 }
-    ensures { IfOk result (λ f. f ≡ waits (numbers n.now) slots depth style.now h) }
+    ensures { IfOk result (λ f. f ≡ of.waiting n.now slots depth style.now h) }
 {
     match style {
         Style::Adl => wait_for_all(alloc, n, h, depth),
@@ -61,7 +59,7 @@ pub fn push_waiting(
     into: &mut List<Formula>,
 ) -> Result<(), Memory>
     requires slots { n.now.first_slot + slots < 2 ^ 32 }
-    ensures parts { OnOk result (into.new ≡ into.old ++ wait_parts (numbers n.now) slots depth style.now h) }
+    ensures parts { OnOk result (into.new ≡ into.old ++ waits n.now slots depth style.now h) }
 {
     match style {
         Style::Adl => into.put(wait_for_all(alloc, n, h, depth)),
@@ -70,7 +68,7 @@ pub fn push_waiting(
 }
 
 fn wait_for_all(alloc: Global, n: &OrderNames, h: Term, depth: u32) -> Result<Formula, Memory>
-    ensures { IfOk result (λ f. f ≡ Forall (any_slot (numbers n.now) 0) (Not (Holds (pair_of (numbers n.now) 0 (Var depth) h)))) }
+    ensures { IfOk result (λ f. f ≡ of.wait_for_all n.now depth h) }
 {
     let params = any_slot_params(alloc, n)?;
     let part = comes_not_before(alloc, n, Term::Var(depth), h)?;
@@ -85,7 +83,7 @@ fn push_waits(
     into: &mut List<Formula>,
 ) -> Result<(), Memory>
     requires slots { n.now.first_slot + slots < 2 ^ 32 }
-    ensures { OnOk result (into.new ≡ into.old ++ wait_parts (numbers n.now) slots 0 Flat h) }
+    ensures { OnOk result (into.new ≡ into.old ++ waits n.now slots 0 Flat h) }
 {
     for k in 0..slots {
         into.put(comes_not_before(alloc, n, Term::Obj(n.first_slot + k), h))?;
@@ -94,7 +92,7 @@ fn push_waits(
 }
 
 fn comes_not_before(alloc: Global, n: &OrderNames, first: Term, h: Term) -> Result<Formula, Memory>
-    ensures { IfOk result (λ f. f ≡ Not (Holds (pair_of (numbers n.now) 0 first h))) }
+    ensures { IfOk result (λ f. f ≡ of.one_wait n.now first h) }
 {
     let pair = Formula::Holds(before(alloc, n, first, h)?);
     Ok(Formula::Not(Boxed::new(alloc, pair)?))

@@ -6,15 +6,10 @@ use Rattle.text_forms.specs.Lists.{Part}
 use Rattle.text_forms.specs.Printing.{bytes_behind, lines}
 use Rattle.plan_texts.specs.Printed.{all_parts, typed_parts}
 use Rattle.text_forms.specs.Words.{Word}
-use Rattle.pddl_printer.specs.Behind.{behind, line, typed}
+use Rattle.pddl_printer.specs.Behind.{behind, line, typed, of_each}
 use Rattle.pddl_printer.specs.Wrote.{Wrote}
 use Rattle.pddl_printer.specs.declared.sheet.Sheet.{Sheet}
 use Rattle.pddl_printer.proofs.Appended.{wrote-as, wrote-then}
-
--- the bytes of each item, one after another
-abbrev pub of_each : {X : Type 0} → (X → List ℕ) → List X → List ℕ
-of_each f [] = []
-of_each f (x ∷ xs) = f x ++ of_each f xs
 
 pub of_each-append : {X : Type 0} (f : X → List ℕ) (xs ys : List X) → of_each f (xs ++ ys) ≡ of_each f xs ++ of_each f ys
 of_each-append f [] ys = refl

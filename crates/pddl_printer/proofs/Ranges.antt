@@ -5,12 +5,12 @@ use Rattle.text_forms.specs.Lists.{Part}
 use Rattle.text_forms.specs.Printing.{bytes_behind}
 use Rattle.task_networks.specs.Spelling.{numbers}
 use Rattle.plan_texts.specs.Printed.{all_parts}
+use Rattle.pddl_printer.specs.Behind.{behind, of_each}
 use Rattle.pddl_printer.specs.WrittenOut.{joined}
-use Rattle.pddl_printer.specs.Behind.{behind}
 use Rattle.pddl_printer.specs.Wrote.{Wrote}
 use Rattle.pddl_printer.specs.declared.sheet.Sheet.{Sheet}
 use Rattle.pddl_printer.proofs.Appended.{wrote-as, wrote-then}
-use Rattle.pddl_printer.proofs.Each.{of_each, of_each-append, behind-each}
+use Rattle.pddl_printer.proofs.Each.{of_each-append, behind-each}
 
 numbers-next : (i n : ℕ) → numbers i (suc n) ≡ numbers i n ++ (i + n) ∷ []
 numbers-next i zero = ap (λ x. x ∷ []) (let e : i ≡ i + 0 = omega arith in e)

@@ -21,3 +21,8 @@ line p = behind p ++ 10 ∷ []
 -- a word with its types, as WORD - TYPE
 abbrev pub typed : Word × List Word → List ℕ
 typed x = x.0 ++ (codes " - " ++ bytes (kind_part x.1))
+
+-- the bytes of each item, one after another
+abbrev pub of_each : {X : Type 0} → (X → List ℕ) → List X → List ℕ
+of_each f [] = []
+of_each f (x ∷ xs) = f x ++ of_each f xs

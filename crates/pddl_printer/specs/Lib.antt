@@ -6,3 +6,7 @@ pub mod Scopes
 pub mod Behind
 pub mod Literals
 pub mod Heads
+pub mod Texts
+pub mod InstanceTexts
+pub mod ConditionTexts
+pub mod EffectTexts

@@ -1,10 +1,6 @@
 ghost use Rattle.std.specs.Prelude.{◌≡◌, ◌+◌};
-ghost use Rattle.text_forms.specs.Printing.{bytes_behind};
-ghost use Rattle.plan_texts.specs.SpellsPddl.{pddl_words};
-ghost use Rattle.plan_texts.specs.Printed.{all_parts};
-ghost use Rattle.pddl_printer.specs.WrittenOut.{each};
-ghost use Rattle.pddl_printer.specs.Literals.{literal_part, is_over as over};
-ghost use Rattle.pddl_printer.specs.Scopes.{words_in_force};
+ghost use Rattle.pddl_printer.specs.Literals.{is_over as over};
+ghost use Rattle.pddl_printer.specs.InstanceTexts.{literals_text};
 ghost use Rattle.pddl_printer.specs.Wrote.{Wrote};
 
 use crate::instances::{Instance, Literal, put_instance};
@@ -51,7 +47,7 @@ pub(crate) fn put_each(
     literal: &Literal<'_>,
     sheet: &mut Sheet<'_>,
 )
-    ensures { Wrote (bytes_behind (all_parts (each of.range of.depth (literal_part (pddl_words p.now) (words_in_force p.now scope.now) of.depth literal.now)))) sheet.old sheet.new }
+    ensures { Wrote (literals_text p.now scope.now of literal.now) sheet.old sheet.new }
 {
     for k in 0..of.range.count {
         put_instance(p, scope, of.at(k), literal, sheet);

@@ -1,9 +1,4 @@
-ghost use Rattle.std.specs.Prelude.{map};
-ghost use Rattle.text_forms.specs.Printing.{bytes_behind};
-ghost use Rattle.plan_texts.specs.SpellsPddl.{pddl_words};
-ghost use Rattle.plan_texts.specs.Printed.{all_parts, effect_part};
-ghost use Rattle.pddl_printer.specs.Behind.{behind};
-ghost use Rattle.pddl_printer.specs.Scopes.{words_in_force, words_within};
+ghost use Rattle.pddl_printer.specs.Texts.{effect_text, effects_text, effect_within};
 ghost use Rattle.pddl_printer.specs.Wrote.{Wrote};
 
 use crate::formulas::put_formula;
@@ -16,7 +11,7 @@ use plan_model::{Effect, Param, Pddl};
 /// Puts an effect behind a space.
 #[cycle(effects)]
 pub(crate) fn put_effect(p: &Pddl, scope: &Scope<'_>, effect: &Effect, sheet: &mut Sheet<'_>)
-    ensures { Wrote (behind (effect_part (pddl_words p.now) effect.now (words_in_force p.now scope.now))) sheet.old sheet.new }
+    ensures { Wrote (effect_text p.now scope.now effect.now) sheet.old sheet.new }
 {
     match effect {
         Effect::Add(atom) => put_atom(p, scope, atom, sheet),
@@ -48,7 +43,7 @@ pub(crate) fn put_effect(p: &Pddl, scope: &Scope<'_>, effect: &Effect, sheet: &m
 /// Puts effects, each behind a space.
 #[cycle(effects)]
 fn put_effects(p: &Pddl, scope: &Scope<'_>, effects: &[Effect], sheet: &mut Sheet<'_>)
-    ensures { Wrote (bytes_behind (all_parts (map (λ e. effect_part (pddl_words p.now) e (words_in_force p.now scope.now)) effects.now))) sheet.old sheet.new }
+    ensures { Wrote (effects_text p.now scope.now effects.now) sheet.old sheet.new }
 {
     for effect in effects {
         put_effect(p, scope, effect, sheet);
@@ -58,7 +53,7 @@ fn put_effects(p: &Pddl, scope: &Scope<'_>, effects: &[Effect], sheet: &mut Shee
 /// Puts an effect behind a space, with these variables in force too.
 #[cycle(effects)]
 fn put_within(p: &Pddl, scope: &Scope<'_>, params: &[Param], effect: &Effect, sheet: &mut Sheet<'_>)
-    ensures { Wrote (behind (effect_part (pddl_words p.now) effect.now (words_within p.now scope.now params.now))) sheet.old sheet.new }
+    ensures { Wrote (effect_within p.now scope.now params.now effect.now) sheet.old sheet.new }
 {
     let within = Scope::Within(&*scope, &*params);
     put_effect(p, &within, effect, sheet);

@@ -1,9 +1,4 @@
-ghost use Rattle.std.specs.Prelude.{map};
-ghost use Rattle.text_forms.specs.Printing.{bytes_behind};
-ghost use Rattle.plan_texts.specs.SpellsPddl.{pddl_words};
-ghost use Rattle.plan_texts.specs.Printed.{all_parts, formula_part};
-ghost use Rattle.pddl_printer.specs.Behind.{behind};
-ghost use Rattle.pddl_printer.specs.Scopes.{words_in_force, words_within};
+ghost use Rattle.pddl_printer.specs.Texts.{formula_text, formulas_text, formula_within};
 ghost use Rattle.pddl_printer.specs.Wrote.{Wrote};
 
 use crate::scope::Scope;
@@ -15,7 +10,7 @@ use plan_model::{Formula, Param, Pddl};
 /// Puts a formula behind a space.
 #[cycle(formulas)]
 pub(crate) fn put_formula(p: &Pddl, scope: &Scope<'_>, formula: &Formula, sheet: &mut Sheet<'_>)
-    ensures { Wrote (behind (formula_part (pddl_words p.now) formula.now (words_in_force p.now scope.now))) sheet.old sheet.new }
+    ensures { Wrote (formula_text p.now scope.now formula.now) sheet.old sheet.new }
 {
     match formula {
         Formula::Holds(atom) => put_atom(p, scope, atom, sheet),
@@ -64,7 +59,7 @@ pub(crate) fn put_formula(p: &Pddl, scope: &Scope<'_>, formula: &Formula, sheet:
 /// Puts formulas, each behind a space.
 #[cycle(formulas)]
 fn put_formulas(p: &Pddl, scope: &Scope<'_>, formulas: &[Formula], sheet: &mut Sheet<'_>)
-    ensures { Wrote (bytes_behind (all_parts (map (λ f. formula_part (pddl_words p.now) f (words_in_force p.now scope.now)) formulas.now))) sheet.old sheet.new }
+    ensures { Wrote (formulas_text p.now scope.now formulas.now) sheet.old sheet.new }
 {
     for formula in formulas {
         put_formula(p, scope, formula, sheet);
@@ -80,7 +75,7 @@ fn put_within(
     formula: &Formula,
     sheet: &mut Sheet<'_>,
 )
-    ensures { Wrote (behind (formula_part (pddl_words p.now) formula.now (words_within p.now scope.now params.now))) sheet.old sheet.new }
+    ensures { Wrote (formula_within p.now scope.now params.now formula.now) sheet.old sheet.new }
 {
     let within = Scope::Within(&*scope, &*params);
     put_formula(p, &within, formula, sheet);

@@ -1,12 +1,5 @@
-ghost use Rattle.std.specs.Prelude.{map};
-ghost use Rattle.text_forms.specs.Printing.{bytes_behind};
-ghost use Rattle.plan_texts.specs.SpellsPddl.{pddl_words};
-ghost use Rattle.plan_texts.specs.Printed.{all_parts, term_part};
 ghost use Rattle.plan_model.specs.declared.terms.Term.TheVariants.{Var};
-ghost use Rattle.pddl_printer.specs.WrittenOut.{placed, placed_atom};
-ghost use Rattle.pddl_printer.specs.Behind.{behind};
-ghost use Rattle.pddl_printer.specs.Literals.{inside, literal_part};
-ghost use Rattle.pddl_printer.specs.Scopes.{words_in_force};
+ghost use Rattle.pddl_printer.specs.InstanceTexts.{placed_text, all_placed_text, inside_text, literal_text};
 ghost use Rattle.pddl_printer.specs.Wrote.{Wrote};
 
 use crate::scope::Scope;
@@ -35,7 +28,7 @@ pub(crate) struct Instance {
 
 /// Puts a variable behind a space, or the object in its place.
 fn put_variable(p: &Pddl, scope: &Scope<'_>, at: Instance, k: u32, sheet: &mut Sheet<'_>)
-    ensures { Wrote (behind (term_part (pddl_words p.now) (words_in_force p.now scope.now) (placed at.depth at.object (Var k)))) sheet.old sheet.new }
+    ensures { Wrote (placed_text p.now scope.now at (Var k)) sheet.old sheet.new }
 {
     if k as usize == at.depth {
         sheet.put(b" ");
@@ -46,7 +39,7 @@ fn put_variable(p: &Pddl, scope: &Scope<'_>, at: Instance, k: u32, sheet: &mut S
 }
 
 fn put_placed_term(p: &Pddl, scope: &Scope<'_>, at: Instance, term: Term, sheet: &mut Sheet<'_>)
-    ensures { Wrote (behind (term_part (pddl_words p.now) (words_in_force p.now scope.now) (placed at.depth at.object term))) sheet.old sheet.new }
+    ensures { Wrote (placed_text p.now scope.now at term) sheet.old sheet.new }
 {
     match term {
         Term::Var(k) => put_variable(p, scope, at, k, sheet),
@@ -61,7 +54,7 @@ fn put_placed_terms(
     terms: &[Term],
     sheet: &mut Sheet<'_>,
 )
-    ensures { Wrote (bytes_behind (all_parts (map (term_part (pddl_words p.now) (words_in_force p.now scope.now)) (map (placed at.depth at.object) terms.now)))) sheet.old sheet.new }
+    ensures { Wrote (all_placed_text p.now scope.now at terms.now) sheet.old sheet.new }
 {
     for term in terms {
         put_placed_term(p, scope, at, *term, sheet);
@@ -70,7 +63,7 @@ fn put_placed_terms(
 
 /// Puts an instance of an atom without the parentheses around it.
 fn put_inside(p: &Pddl, scope: &Scope<'_>, at: Instance, atom: &Atom, sheet: &mut Sheet<'_>)
-    ensures { Wrote (inside (pddl_words p.now) (words_in_force p.now scope.now) (placed_atom at.depth at.object atom.now)) sheet.old sheet.new }
+    ensures { Wrote (inside_text p.now scope.now at atom.now) sheet.old sheet.new }
 {
     put_predicate(p, atom.predicate, sheet);
     put_placed_terms(p, scope, at, atom.args.as_slice(), sheet);
@@ -84,7 +77,7 @@ pub(crate) fn put_instance(
     literal: &Literal<'_>,
     sheet: &mut Sheet<'_>,
 )
-    ensures { Wrote (behind (literal_part (pddl_words p.now) (words_in_force p.now scope.now) at.depth literal.now at.object)) sheet.old sheet.new }
+    ensures { Wrote (literal_text p.now scope.now at literal.now) sheet.old sheet.new }
 {
     match literal {
         Literal::Held(atom) => {

@@ -11,6 +11,7 @@ mod effects;
 mod facts;
 mod formulas;
 mod instances;
+mod items;
 mod object_range;
 mod pages;
 mod schemas;

@@ -4,12 +4,11 @@ ghost use Rattle.pddl_printer.specs.Heads.{domain_head, problem_head};
 ghost use Rattle.pddl_printer.specs.InForm.{value_in};
 ghost use Rattle.pddl_printer.specs.Wrote.{Wrote};
 
-use crate::facts::put_facts;
+use crate::items::put_items;
 use crate::object_range::Range;
-use crate::schemas::{put_actions, put_condition, put_predicates};
+use crate::schemas::{put_actions, put_condition};
 use crate::scope::Scope;
 use crate::sheet::Sheet;
-use crate::typed_lists::{put_objects, put_parents};
 use crate::words::put_name;
 use plan_model::Pddl;
 
@@ -31,13 +30,13 @@ fn put_domain_head(p: &Pddl, sheet: &mut Sheet<'_>)
 {
     sheet.put(b" (:requirements :adl)\n");
     sheet.put(b" (:types");
-    put_parents(p, p.types.parents.as_slice(), sheet);
+    put_items(p, p.types.parents.as_slice(), sheet);
     sheet.put(b")\n");
     sheet.put(b" (:constants");
-    put_objects(p, p.objects.as_slice(), sheet);
+    put_items(p, p.objects.as_slice(), sheet);
     sheet.put(b")\n");
     sheet.put(b" (:predicates");
-    put_predicates(p, p.predicates.as_slice(), sheet);
+    put_items(p, p.predicates.as_slice(), sheet);
     sheet.put(b")\n");
 }
 
@@ -64,6 +63,6 @@ fn put_problem_head(p: &Pddl, sheet: &mut Sheet<'_>)
     sheet.put(b")\n");
     sheet.put(b" (:objects)\n");
     sheet.put(b" (:init");
-    put_facts(p, p.init.as_slice(), sheet);
+    put_items(p, p.init.as_slice(), sheet);
     sheet.put(b")\n");
 }

@@ -1,41 +1,27 @@
-ghost use Rattle.std.specs.Prelude.{map};
-ghost use Rattle.text_forms.specs.Printing.{bytes_behind, lines};
-ghost use Rattle.plan_texts.specs.SpellsPddl.{pddl_words};
-ghost use Rattle.plan_texts.specs.Printed.{all_parts, formula_part, effect_part};
-ghost use Rattle.plan_texts.specs.PrintedTexts.{predicate_part, action_part};
-ghost use Rattle.pddl_printer.specs.InForm.{action_in, condition_in, effect_in};
-ghost use Rattle.pddl_printer.specs.Behind.{behind, line};
-ghost use Rattle.pddl_printer.specs.Scopes.{words_in_force};
+ghost use Rattle.pddl_printer.specs.Texts.{predicate_text, condition_text, change_text, action_text, actions_text};
 ghost use Rattle.pddl_printer.specs.Wrote.{Wrote};
 
 use crate::each_object::Instances;
 use crate::effects::put_effect;
 use crate::formulas::put_formula;
+use crate::items::{Item, put_items};
 use crate::object_range::Range;
 use crate::scope::Scope;
 use crate::sheet::Sheet;
-use crate::typed_lists::{put_params, put_variables};
+use crate::typed_lists::put_variables;
 use crate::words::put_name;
 use crate::written_conditions::put_written_condition;
 use crate::written_effects::put_written_effect;
 use plan_model::{ActionSchema, Effect, Formula, Pddl, Predicate};
 
-/// Puts a predicate with its parameters behind a space.
-fn put_predicate(p: &Pddl, predicate: &Predicate, sheet: &mut Sheet<'_>)
-    ensures { Wrote (behind (predicate_part (pddl_words p.now) predicate.now)) sheet.old sheet.new }
-{
-    sheet.put(b" (");
-    put_name(p, predicate.name, sheet);
-    put_params(p, predicate.params.as_slice(), sheet);
-    sheet.put(b")");
-}
+impl Item for Predicate {
+    ghost text = { predicate_text };
 
-/// Puts predicates with their parameters, each behind a space.
-pub(crate) fn put_predicates(p: &Pddl, predicates: &[Predicate], sheet: &mut Sheet<'_>)
-    ensures { Wrote (bytes_behind (all_parts (map (predicate_part (pddl_words p.now)) predicates.now))) sheet.old sheet.new }
-{
-    for predicate in predicates {
-        put_predicate(p, predicate, sheet);
+    fn put(&self, p: &Pddl, sheet: &mut Sheet<'_>) {
+        sheet.put(b" (");
+        put_name(p, self.name, sheet);
+        put_items(p, self.params.as_slice(), sheet);
+        sheet.put(b")");
     }
 }
 
@@ -48,7 +34,7 @@ pub(crate) fn put_condition(
     formula: &Formula,
     sheet: &mut Sheet<'_>,
 )
-    ensures { Wrote (behind (formula_part (pddl_words p.now) (condition_in range depth formula.now) (words_in_force p.now scope.now))) sheet.old sheet.new }
+    ensures { Wrote (condition_text p.now scope.now range depth formula.now) sheet.old sheet.new }
 {
     match range {
         Some(range) => {
@@ -67,7 +53,7 @@ fn put_change(
     effect: &Effect,
     sheet: &mut Sheet<'_>,
 )
-    ensures { Wrote (behind (effect_part (pddl_words p.now) (effect_in range depth effect.now) (words_in_force p.now scope.now))) sheet.old sheet.new }
+    ensures { Wrote (change_text p.now scope.now range depth effect.now) sheet.old sheet.new }
 {
     match range {
         Some(range) => {
@@ -79,7 +65,7 @@ fn put_change(
 
 /// Puts an action on a line of its own.
 fn put_action(p: &Pddl, range: Option<Range>, action: &ActionSchema, sheet: &mut Sheet<'_>)
-    ensures { Wrote (line (action_part (pddl_words p.now) (action_in range action.now))) sheet.old sheet.new }
+    ensures { Wrote (action_text p.now range action.now) sheet.old sheet.new }
 {
     let scope = Scope::Within(&Scope::Empty, action.params.as_slice());
     let depth = action.params.len();
@@ -101,7 +87,7 @@ pub(crate) fn put_actions(
     actions: &[ActionSchema],
     sheet: &mut Sheet<'_>,
 )
-    ensures { Wrote (lines (all_parts (map (action_part (pddl_words p.now)) (map (action_in range) actions.now)))) sheet.old sheet.new }
+    ensures { Wrote (actions_text p.now range actions.now) sheet.old sheet.new }
 {
     for action in actions {
         put_action(p, range, action, sheet);

@@ -1,11 +1,6 @@
-ghost use Rattle.std.specs.Prelude.{map};
 ghost use Rattle.text_forms.specs.Words.{word_at};
-ghost use Rattle.text_forms.specs.Printing.{bytes_behind};
-ghost use Rattle.plan_texts.specs.Declared.{variable};
-ghost use Rattle.plan_texts.specs.SpellsPddl.{pddl_words};
-ghost use Rattle.plan_texts.specs.Printed.{all_parts, term_part, applied_part};
-ghost use Rattle.pddl_printer.specs.Behind.{behind};
 ghost use Rattle.pddl_printer.specs.Scopes.{words_in_force};
+ghost use Rattle.pddl_printer.specs.Texts.{term_text, terms_text, atom_text};
 ghost use Rattle.pddl_printer.specs.Wrote.{Wrote};
 
 use crate::scope::Scope;
@@ -24,7 +19,7 @@ fn put_variable(p: &Pddl, scope: &Scope<'_>, k: u32, sheet: &mut Sheet<'_>)
 
 /// Puts a term behind a space.
 pub(crate) fn put_term(p: &Pddl, scope: &Scope<'_>, term: Term, sheet: &mut Sheet<'_>)
-    ensures { Wrote (behind (term_part (pddl_words p.now) (words_in_force p.now scope.now) term)) sheet.old sheet.new }
+    ensures { Wrote (term_text p.now scope.now term) sheet.old sheet.new }
 {
     match term {
         Term::Var(k) => {
@@ -40,7 +35,7 @@ pub(crate) fn put_term(p: &Pddl, scope: &Scope<'_>, term: Term, sheet: &mut Shee
 
 /// Puts terms, each behind a space.
 fn put_terms(p: &Pddl, scope: &Scope<'_>, terms: &[Term], sheet: &mut Sheet<'_>)
-    ensures { Wrote (bytes_behind (all_parts (map (term_part (pddl_words p.now) (words_in_force p.now scope.now)) terms.now))) sheet.old sheet.new }
+    ensures { Wrote (terms_text p.now scope.now terms.now) sheet.old sheet.new }
 {
     for term in terms {
         put_term(p, scope, *term, sheet);
@@ -49,7 +44,7 @@ fn put_terms(p: &Pddl, scope: &Scope<'_>, terms: &[Term], sheet: &mut Sheet<'_>)
 
 /// Puts a predicate with its terms behind a space.
 pub(crate) fn put_atom(p: &Pddl, scope: &Scope<'_>, atom: &Atom, sheet: &mut Sheet<'_>)
-    ensures { Wrote (behind (applied_part (pddl_words p.now) (words_in_force p.now scope.now) atom.now.predicate atom.now.args)) sheet.old sheet.new }
+    ensures { Wrote (atom_text p.now scope.now atom.now) sheet.old sheet.new }
 {
     sheet.put(b" (");
     put_predicate(p, atom.predicate, sheet);

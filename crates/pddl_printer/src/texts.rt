@@ -15,7 +15,8 @@ use plan_model::Pddl;
 pub fn print_domain(p: &Pddl, into: &mut Text) -> Result<(), Memory>
     ensures printed { OnOk result (into.new ≡ into.old ++ domain_text p.now) }
     ensures prefix { OnErr result (AppendsPrefix (domain_text p.now) into.old into.new) }
-    ensures spelled { IsPrintable p.now → SpellsPddl (domain_text p.now) (problem_text p.now) p.now }
+    ensures spelled { IsPrintable p.now →
+        SpellsPddl (domain_text p.now) (problem_text p.now) p.now }
 {
     let mut sheet = Sheet { into, whole: true };
     put_domain(p, None, &mut sheet);
@@ -26,7 +27,8 @@ pub fn print_domain(p: &Pddl, into: &mut Text) -> Result<(), Memory>
 pub fn print_problem(p: &Pddl, into: &mut Text) -> Result<(), Memory>
     ensures printed { OnOk result (into.new ≡ into.old ++ problem_text p.now) }
     ensures prefix { OnErr result (AppendsPrefix (problem_text p.now) into.old into.new) }
-    ensures spelled { IsPrintable p.now → SpellsPddl (domain_text p.now) (problem_text p.now) p.now }
+    ensures spelled { IsPrintable p.now →
+        SpellsPddl (domain_text p.now) (problem_text p.now) p.now }
 {
     let mut sheet = Sheet { into, whole: true };
     put_problem(p, None, &mut sheet);
@@ -36,7 +38,8 @@ pub fn print_problem(p: &Pddl, into: &mut Text) -> Result<(), Memory>
 /// Appends the domain text of the value in which the quantifiers over the range are written out, without making it.
 pub fn print_written_out_domain(p: &Pddl, r: &Range, into: &mut Text) -> Result<(), Memory>
     ensures printed { OnOk result (into.new ≡ into.old ++ domain_text (out r.now p.now)) }
-    ensures prefix { OnErr result (AppendsPrefix (domain_text (out r.now p.now)) into.old into.new) }
+    ensures prefix { OnErr result
+        (AppendsPrefix (domain_text (out r.now p.now)) into.old into.new) }
 {
     let mut sheet = Sheet { into, whole: true };
     put_domain(p, Some(*r), &mut sheet);
@@ -46,7 +49,8 @@ pub fn print_written_out_domain(p: &Pddl, r: &Range, into: &mut Text) -> Result<
 /// Appends the problem text of the value in which the quantifiers over the range are written out, without making it.
 pub fn print_written_out_problem(p: &Pddl, r: &Range, into: &mut Text) -> Result<(), Memory>
     ensures printed { OnOk result (into.new ≡ into.old ++ problem_text (out r.now p.now)) }
-    ensures prefix { OnErr result (AppendsPrefix (problem_text (out r.now p.now)) into.old into.new) }
+    ensures prefix { OnErr result
+        (AppendsPrefix (problem_text (out r.now p.now)) into.old into.new) }
 {
     let mut sheet = Sheet { into, whole: true };
     put_problem(p, Some(*r), &mut sheet);

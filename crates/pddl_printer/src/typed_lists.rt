@@ -1,21 +1,15 @@
-ghost use Rattle.std.specs.Prelude.{map, []};
-ghost use Rattle.text_forms.specs.Lists.{group, name};
-ghost use Rattle.text_forms.specs.Words.{word_at};
-ghost use Rattle.text_forms.specs.Printing.{bytes, bytes_behind};
-ghost use Rattle.plan_texts.specs.Declared.{kind_at, variable};
-ghost use Rattle.plan_texts.specs.SpellsPddl.{pddl_types, pddl_words};
-ghost use Rattle.plan_texts.specs.Printed.{all_parts, kind_part, param_words, params_parts, typed_parts};
-ghost use Rattle.plan_texts.specs.PrintedTexts.{object_words, parent_words};
-ghost use Rattle.pddl_printer.specs.Behind.{behind, between, typed};
+ghost use Rattle.pddl_printer.specs.Texts.{types_text, union_text, kind_text, parent_text, object_text};
+ghost use Rattle.pddl_printer.specs.Texts.{param_text, spaced_param_text, between_text, variables_text};
 ghost use Rattle.pddl_printer.specs.Wrote.{Wrote};
 
+use crate::items::{Item, put_items};
 use crate::sheet::Sheet;
 use crate::words::{put_name, put_type};
 use plan_model::{Object, Param, Parent, Pddl};
 
 /// Puts the words of types, each behind a space.
 fn put_types(p: &Pddl, types: &[u32], sheet: &mut Sheet<'_>)
-    ensures { Wrote (bytes_behind (all_parts (map name (map (word_at (pddl_types p.now)) types.now)))) sheet.old sheet.new }
+    ensures { Wrote (types_text p.now types.now) sheet.old sheet.new }
 {
     for ty in types {
         sheet.put(b" ");
@@ -25,7 +19,7 @@ fn put_types(p: &Pddl, types: &[u32], sheet: &mut Sheet<'_>)
 
 /// Puts a union of types: of one type its word, of more `(either A B ..)`.
 fn put_union(p: &Pddl, types: &[u32], sheet: &mut Sheet<'_>)
-    ensures { Wrote (bytes (kind_part (map (word_at (pddl_types p.now)) types.now))) sheet.old sheet.new }
+    ensures { Wrote (union_text p.now types.now) sheet.old sheet.new }
 {
     match types {
         [] => {}
@@ -40,7 +34,7 @@ fn put_union(p: &Pddl, types: &[u32], sheet: &mut Sheet<'_>)
 
 /// Puts a type, which may be a union.
 fn put_kind(p: &Pddl, ty: u32, sheet: &mut Sheet<'_>)
-    ensures { Wrote (bytes (kind_part (kind_at (pddl_words p.now) ty))) sheet.old sheet.new }
+    ensures { Wrote (kind_text p.now ty) sheet.old sheet.new }
 {
     match p.types.union_at(ty) {
         Some(types) => put_union(p, types.as_slice(), sheet),
@@ -50,7 +44,7 @@ fn put_kind(p: &Pddl, ty: u32, sheet: &mut Sheet<'_>)
 
 /// Puts a variable with its type, as `?x - T`.
 fn put_param(p: &Pddl, param: Param, sheet: &mut Sheet<'_>)
-    ensures { Wrote (typed (param_words (pddl_words p.now) param)) sheet.old sheet.new }
+    ensures { Wrote (param_text p.now param) sheet.old sheet.new }
 {
     sheet.put(b"?");
     put_name(p, param.name, sheet);
@@ -58,55 +52,52 @@ fn put_param(p: &Pddl, param: Param, sheet: &mut Sheet<'_>)
     put_kind(p, param.ty, sheet);
 }
 
-/// Puts variables with their types, each behind a space.
-pub(crate) fn put_params(p: &Pddl, params: &[Param], sheet: &mut Sheet<'_>)
-    ensures { Wrote (bytes_behind (params_parts (pddl_words p.now) params.now)) sheet.old sheet.new }
-{
-    for param in params {
+impl Item for Param {
+    ghost text = { spaced_param_text };
+
+    fn put(&self, p: &Pddl, sheet: &mut Sheet<'_>) {
         sheet.put(b" ");
-        put_param(p, *param, sheet);
+        put_param(p, *self, sheet);
     }
 }
 
 /// Puts variables with their types, a space between two.
 fn put_between(p: &Pddl, params: &[Param], sheet: &mut Sheet<'_>)
-    ensures { Wrote (between (params_parts (pddl_words p.now) params.now)) sheet.old sheet.new }
+    ensures { Wrote (between_text p.now params.now) sheet.old sheet.new }
 {
     if let Some((first, rest)) = params.split_first() {
         put_param(p, *first, sheet);
-        put_params(p, rest, sheet);
+        put_items(p, rest, sheet);
     }
 }
 
 /// Puts a list of variables with their types behind a space.
 pub(crate) fn put_variables(p: &Pddl, params: &[Param], sheet: &mut Sheet<'_>)
-    ensures { Wrote (behind (group (params_parts (pddl_words p.now) params.now))) sheet.old sheet.new }
+    ensures { Wrote (variables_text p.now params.now) sheet.old sheet.new }
 {
     sheet.put(b" (");
     put_between(p, params, sheet);
     sheet.put(b")");
 }
 
-/// Puts each type with its parent behind a space.
-pub(crate) fn put_parents(p: &Pddl, parents: &[Parent], sheet: &mut Sheet<'_>)
-    ensures { Wrote (bytes_behind (typed_parts (map (parent_words (pddl_words p.now)) parents.now))) sheet.old sheet.new }
-{
-    for pair in parents {
+impl Item for Parent {
+    ghost text = { parent_text };
+
+    fn put(&self, p: &Pddl, sheet: &mut Sheet<'_>) {
         sheet.put(b" ");
-        put_type(p, pair.child, sheet);
+        put_type(p, self.child, sheet);
         sheet.put(b" - ");
-        put_type(p, pair.parent, sheet);
+        put_type(p, self.parent, sheet);
     }
 }
 
-/// Puts each object with its type behind a space.
-pub(crate) fn put_objects(p: &Pddl, objects: &[Object], sheet: &mut Sheet<'_>)
-    ensures { Wrote (bytes_behind (typed_parts (map (object_words (pddl_words p.now)) objects.now))) sheet.old sheet.new }
-{
-    for object in objects {
+impl Item for Object {
+    ghost text = { object_text };
+
+    fn put(&self, p: &Pddl, sheet: &mut Sheet<'_>) {
         sheet.put(b" ");
-        put_name(p, object.name, sheet);
+        put_name(p, self.name, sheet);
         sheet.put(b" - ");
-        put_type(p, object.ty, sheet);
+        put_type(p, self.ty, sheet);
     }
 }

@@ -1,12 +1,4 @@
-ghost use Rattle.std.specs.Prelude.{map};
-ghost use Rattle.plan_texts.specs.SpellsPddl.{pddl_words};
-ghost use Rattle.plan_texts.specs.Printed.{formula_part};
-ghost use Rattle.plan_model.specs.declared.formulas.Formula.{out-Formula};
-ghost use Rattle.plan_model.specs.declared.formulas.Formula.TheOpen.{Formula-F};
-ghost use Rattle.pddl_printer.specs.WrittenOut.{joined, negated_literal, literal, quantified, condition_parts, condition};
-ghost use Rattle.pddl_printer.specs.Behind.{behind};
-ghost use Rattle.pddl_printer.specs.Literals.{conditions_behind};
-ghost use Rattle.pddl_printer.specs.Scopes.{words_in_force};
+ghost use Rattle.pddl_printer.specs.ConditionTexts.{written_text, parts_text, part_text, quantified_text, body_text, negated_text};
 ghost use Rattle.pddl_printer.specs.Wrote.{Wrote};
 
 use crate::each_object::{Instances, is_over, put_each};
@@ -24,7 +16,7 @@ pub(crate) fn put_written_condition(
     formula: &Formula,
     sheet: &mut Sheet<'_>,
 )
-    ensures { Wrote (behind (formula_part (pddl_words p.now) (condition of.range of.depth formula.now) (words_in_force p.now scope.now))) sheet.old sheet.new }
+    ensures { Wrote (written_text p.now scope.now of formula.now) sheet.old sheet.new }
 {
     match formula {
         Formula::And(parts) => {
@@ -43,7 +35,7 @@ fn put_condition_parts(
     parts: &[Formula],
     sheet: &mut Sheet<'_>,
 )
-    ensures { Wrote (conditions_behind (pddl_words p.now) (words_in_force p.now scope.now) (joined (map (condition_parts of.range of.depth) parts.now))) sheet.old sheet.new }
+    ensures { Wrote (parts_text p.now scope.now of parts.now) sheet.old sheet.new }
 {
     for part in parts {
         put_condition_part(p, scope, of, part, sheet);
@@ -57,7 +49,7 @@ fn put_condition_part(
     whole: &Formula,
     sheet: &mut Sheet<'_>,
 )
-    ensures { Wrote (conditions_behind (pddl_words p.now) (words_in_force p.now scope.now) (condition_parts of.range of.depth whole.now)) sheet.old sheet.new }
+    ensures { Wrote (part_text p.now scope.now of whole.now) sheet.old sheet.new }
 {
     match whole {
         Formula::Forall(params, body) => {
@@ -77,7 +69,8 @@ fn put_quantified(
     body: &Formula,
     sheet: &mut Sheet<'_>,
 )
-    ensures { Wrote (conditions_behind (pddl_words p.now) (words_in_force p.now scope.now) (quantified of.range of.depth whole.now (Formula-F.Forall params.now body.now))) sheet.old sheet.new }
+    ensures { Wrote (quantified_text p.now scope.now of whole.now params.now body.now)
+        sheet.old sheet.new }
 {
     if is_over(of.range, params) {
         put_literal(p, scope, of, whole, body, sheet);
@@ -94,7 +87,7 @@ fn put_literal(
     body: &Formula,
     sheet: &mut Sheet<'_>,
 )
-    ensures { Wrote (conditions_behind (pddl_words p.now) (words_in_force p.now scope.now) (literal of.range of.depth whole.now (out-Formula body.now))) sheet.old sheet.new }
+    ensures { Wrote (body_text p.now scope.now of whole.now body.now) sheet.old sheet.new }
 {
     match body {
         Formula::Holds(atom) => put_each(p, scope, of, &Literal::Held(atom), sheet),
@@ -111,7 +104,7 @@ fn put_negated_literal(
     part: &Formula,
     sheet: &mut Sheet<'_>,
 )
-    ensures { Wrote (conditions_behind (pddl_words p.now) (words_in_force p.now scope.now) (negated_literal of.range of.depth whole.now (out-Formula part.now))) sheet.old sheet.new }
+    ensures { Wrote (negated_text p.now scope.now of whole.now part.now) sheet.old sheet.new }
 {
     match part {
         Formula::Holds(atom) => put_each(p, scope, of, &Literal::Denied(atom), sheet),

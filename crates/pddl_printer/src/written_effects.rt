@@ -1,14 +1,4 @@
-ghost use Rattle.std.specs.Prelude.{map};
-ghost use Rattle.plan_texts.specs.SpellsPddl.{pddl_words};
-ghost use Rattle.plan_texts.specs.Printed.{effect_part};
-ghost use Rattle.plan_model.specs.declared.formulas.Formula.{out-Formula};
-ghost use Rattle.plan_model.specs.declared.formulas.Formula.TheOpen.{Formula-F};
-ghost use Rattle.plan_model.specs.declared.effects.Effect.{out-Effect};
-ghost use Rattle.plan_model.specs.declared.effects.Effect.TheOpen.{Effect-F};
-ghost use Rattle.pddl_printer.specs.WrittenOut.{joined, conditional_add, change, quantified_change, effect_parts, effect};
-ghost use Rattle.pddl_printer.specs.Behind.{behind};
-ghost use Rattle.pddl_printer.specs.Literals.{effects_behind};
-ghost use Rattle.pddl_printer.specs.Scopes.{words_in_force};
+ghost use Rattle.pddl_printer.specs.EffectTexts.{written_text, parts_text, part_text, quantified_text, body_text, when_text, add_text};
 ghost use Rattle.pddl_printer.specs.Wrote.{Wrote};
 
 use crate::each_object::{Instances, is_over, put_each};
@@ -26,7 +16,7 @@ pub(crate) fn put_written_effect(
     whole: &Effect,
     sheet: &mut Sheet<'_>,
 )
-    ensures { Wrote (behind (effect_part (pddl_words p.now) (effect of.range of.depth whole.now) (words_in_force p.now scope.now))) sheet.old sheet.new }
+    ensures { Wrote (written_text p.now scope.now of whole.now) sheet.old sheet.new }
 {
     match whole {
         Effect::And(parts) => {
@@ -45,7 +35,7 @@ fn put_effect_parts(
     parts: &[Effect],
     sheet: &mut Sheet<'_>,
 )
-    ensures { Wrote (effects_behind (pddl_words p.now) (words_in_force p.now scope.now) (joined (map (effect_parts of.range of.depth) parts.now))) sheet.old sheet.new }
+    ensures { Wrote (parts_text p.now scope.now of parts.now) sheet.old sheet.new }
 {
     for part in parts {
         put_effect_part(p, scope, of, part, sheet);
@@ -59,7 +49,7 @@ fn put_effect_part(
     whole: &Effect,
     sheet: &mut Sheet<'_>,
 )
-    ensures { Wrote (effects_behind (pddl_words p.now) (words_in_force p.now scope.now) (effect_parts of.range of.depth whole.now)) sheet.old sheet.new }
+    ensures { Wrote (part_text p.now scope.now of whole.now) sheet.old sheet.new }
 {
     match whole {
         Effect::Forall(params, body) => {
@@ -79,7 +69,8 @@ fn put_quantified_change(
     body: &Effect,
     sheet: &mut Sheet<'_>,
 )
-    ensures { Wrote (effects_behind (pddl_words p.now) (words_in_force p.now scope.now) (quantified_change of.range of.depth whole.now (Effect-F.Forall params.now body.now))) sheet.old sheet.new }
+    ensures { Wrote (quantified_text p.now scope.now of whole.now params.now body.now)
+        sheet.old sheet.new }
 {
     if is_over(of.range, params) {
         put_change(p, scope, of, whole, body, sheet);
@@ -96,7 +87,7 @@ fn put_change(
     body: &Effect,
     sheet: &mut Sheet<'_>,
 )
-    ensures { Wrote (effects_behind (pddl_words p.now) (words_in_force p.now scope.now) (change of.range of.depth whole.now (out-Effect body.now))) sheet.old sheet.new }
+    ensures { Wrote (body_text p.now scope.now of whole.now body.now) sheet.old sheet.new }
 {
     match body {
         Effect::Delete(atom) => put_each(p, scope, of, &Literal::Denied(atom), sheet),
@@ -116,7 +107,8 @@ fn put_conditional_add(
     change: &Effect,
     sheet: &mut Sheet<'_>,
 )
-    ensures { Wrote (effects_behind (pddl_words p.now) (words_in_force p.now scope.now) (conditional_add of.range of.depth whole.now (out-Formula condition.now) (out-Effect change.now))) sheet.old sheet.new }
+    ensures { Wrote (when_text p.now scope.now of whole.now condition.now change.now)
+        sheet.old sheet.new }
 {
     match condition {
         Formula::Holds(atom) => put_add(p, scope, of, whole, atom, change, sheet),
@@ -134,7 +126,8 @@ fn put_add(
     change: &Effect,
     sheet: &mut Sheet<'_>,
 )
-    ensures { Wrote (effects_behind (pddl_words p.now) (words_in_force p.now scope.now) (conditional_add of.range of.depth whole.now (Formula-F.Holds condition.now) (out-Effect change.now))) sheet.old sheet.new }
+    ensures { Wrote (add_text p.now scope.now of whole.now condition.now change.now)
+        sheet.old sheet.new }
 {
     match change {
         Effect::Add(added) => {

@@ -116,7 +116,7 @@ module _ (c : Compiled) (names : List Word) (b : ℕ) (style : Style) (has : Has
 
   -- the line of an action, its end aside
   pub size-action : (a : ActionSchema) (n p q r : ℕ) → length (named names a.name) ≡ n → size (group (params_parts v a.params)) ≡ p
-      → size (formula_part v a.pre (map (variable v) a.params)) ≡ q → size (effect_part v a.eff (map (variable v) a.params)) ≡ r → size (action_part v a) + 1 ≡ line_size c b style n p q r
+      → size (formula_part v a.pre (map (variable v) a.params)) ≡ q → size (effect_part v a.eff (map (variable v) a.params)) ≡ r → size (action_part v a) + 1 ≡ line_size n p q r
   size-action a n p q r e f g h =
       let eff = effect_part v a.eff (map (variable v) a.params) in
       let pre = formula_part v a.pre (map (variable v) a.params) in

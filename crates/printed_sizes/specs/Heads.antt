@@ -1,6 +1,6 @@
 -- The lengths of the words of predicates, as far as 64 bits go.
 -- Source: this project's.
-use Rattle.std.specs.Prelude.{ℕ, ◌+◌, length, []}
+use Rattle.std.specs.Prelude.{ℕ, ◌+◌, List, [], length, map, filter}
 use Rattle.plan_model.specs.declared.schemas.Predicate.{Predicate}
 use Rattle.plan_model.specs.declared.schemas.TaskSchema.{TaskSchema}
 use Rattle.plan_model.specs.declared.schemas.ActionSchema.{ActionSchema}
@@ -22,6 +22,10 @@ module _ (c : Compiled) where
 
   abbrev pub check_head : MethodPlan → ℕ
   check_head plan = capped (6 + own_size c plan.schema.name)
+
+  -- one for each method with a check
+  abbrev pub check_heads : List MethodPlan → List ℕ
+  check_heads plans = map check_head (filter (λ (plan : MethodPlan). plan.checked) plans)
 
   abbrev pub guard_head : ℕ → ℕ
   guard_head ty = capped (length (guard_word c [] 0 ty))

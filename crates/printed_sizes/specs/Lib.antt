@@ -11,3 +11,5 @@ pub mod Guards
 pub mod Heads
 pub mod Frames
 pub mod AreSizes
+pub mod FrameLengths
+pub mod MethodLengths

@@ -24,6 +24,10 @@ abbrev pub differ_size : List ℕ → ℕ
 differ_size [] = 0
 differ_size (v ∷ vs) = sum_by (λ u. 24 + digits v + digits u) vs + differ_size vs
 
+-- the variable for the slot of the child at this place, by number
+abbrev pub child_slot : MethodPlan → ℕ → ℕ
+child_slot plan i = slice_index (slot_vars plan.heir 0 1 (length plan.schema.children)) i
+
 -- the word of what holds a child; check: the predicate of the method's check
 abbrev pub holder_size : Compiled → ℕ → Head → ℕ
 holder_size c check (Task t) = head_size c (task_predicate c t)
@@ -48,7 +52,7 @@ module _ (c : Compiled) (b : ℕ) (style : Style) (plan : MethodPlan) where
 
   -- the slot of the child at this place
   abbrev pub slot_at : ℕ → ℕ
-  slot_at i = slice_index (slot_vars plan.heir 0 1 (length plan.schema.children)) i
+  slot_at i = child_slot plan i
 
   -- what a slot holds, by the lengths of its word and of the slot's variable
   abbrev pub placed_size : ℕ → ℕ → List Term → ℕ
@@ -66,14 +70,22 @@ module _ (c : Compiled) (b : ℕ) (style : Style) (plan : MethodPlan) where
   abbrev pub tested_size : ℕ
   tested_size = cond plan.tested (condition_size c b style own_sizes plan.schema.pre) 0
 
+  -- with n new slots, by the lengths of the task in its slot and of the guards
+  abbrev pub conditions_size : ℕ → ℕ → ℕ → ℕ
+  conditions_size n task guards =
+      6 + (task + waiting_size b style + (n * 18 + all_digits n) + differ_size (numbers 1 n)
+      + sum_by test_size plan.schema.constraints + guards + tested_size)
+
   abbrev pub pre_size : ℕ
-  pre_size =
-      6 + (task_size + waiting_size b style + (spare * 18 + all_digits spare) + differ_size (numbers 1 spare)
-      + sum_by test_size plan.schema.constraints + sum_by guard_size plan.guards + tested_size)
+  pre_size = conditions_size spare task_size (sum_by guard_size plan.guards)
 
   abbrev pub name_size : ℕ → ℕ
   name_size zero = 9
   name_size (suc k) = 6 + own_size c plan.schema.name
+
+  -- m: the number of the method, n: that of its new slots; by the lengths of its condition and effect
+  abbrev pub whole_size : ℕ → ℕ → ℕ → ℕ → ℕ
+  whole_size m n pre eff = line_size (name_size m) (20 + (n * 18 + all_digits n) + sum_by (param_size c) plan.schema.params) pre eff
 
   -- check: the predicate of the method's check
   module _ (check : ℕ) where
@@ -95,10 +107,13 @@ module _ (c : Compiled) (b : ℕ) (style : Style) (plan : MethodPlan) where
     abbrev pub copied_size : ℕ → ℕ
     copied_size i = copying_size b style (child_size style (place_size 5 (slot_at i)) (place_size 0 (slot_at i)))
 
+    -- with n new slots, by the lengths of the task in its slot and of the children
+    abbrev pub changes_size : ℕ → ℕ → ℕ → ℕ
+    changes_size n task children =
+        6 + (6 + task + (n * 24 + all_digits n) + children + sum_by pair_size plan.schema.pairs + sum_by copied_size plan.copiers)
+
     abbrev pub split_size : ℕ
-    split_size =
-        6 + (6 + task_size + (spare * 24 + all_digits spare) + children_size 0 plan.schema.children
-        + sum_by pair_size plan.schema.pairs + sum_by copied_size plan.copiers)
+    split_size = changes_size spare task_size (children_size 0 plan.schema.children)
 
     abbrev pub eff_size : List Child → ℕ
     eff_size [] = 6 + freeing_size c b style task_size
@@ -106,7 +121,7 @@ module _ (c : Compiled) (b : ℕ) (style : Style) (plan : MethodPlan) where
 
     -- m: the number of the method
     abbrev pub method_size : ℕ → ℕ
-    method_size m = line_size c b style (name_size m) (20 + (spare * 18 + all_digits spare) + sum_by (param_size c) plan.schema.params) pre_size (eff_size plan.schema.children)
+    method_size m = whole_size m spare pre_size (eff_size plan.schema.children)
 
 -- the lines of the methods from number m on
 abbrev pub methods_size : Compiled → ℕ → Style → ℕ → List MethodPlan → ℕ

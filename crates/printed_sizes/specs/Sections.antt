@@ -14,6 +14,10 @@ use Rattle.printed_sizes.specs.Words.{own_size, type_size}
 use Rattle.printed_sizes.specs.Formulas.{param_size}
 use Rattle.printed_sizes.specs.Slots.{all_digits}
 
+-- the predicates, by the lengths of the source's, and of those of tasks, actions, checks and guards; three of slots are added
+abbrev pub all_predicates_size : ℕ → ℕ → ℕ → ℕ → ℕ → ℕ
+all_predicates_size own tasks actions checks guards = own + (106 + tasks) + actions + checks + guards
+
 module _ (c : Compiled) where
   -- a type with its parent
   abbrev pub parent_size : Parent → ℕ
@@ -51,8 +55,7 @@ module _ (c : Compiled) where
   abbrev pub guard_predicate_size : ℕ → ℕ
   guard_predicate_size ty = 24 + length (guard_word c [] 0 ty)
 
-  -- the predicates: the source's, the three of slots, of tasks, of actions, of checks, of guards
   abbrev pub predicates_size : ℕ
   predicates_size =
-      sum_by predicate_size c.hddl.predicates + (106 + sum_by task_predicate_size c.hddl.tasks) + sum_by action_predicate_size c.hddl.actions
-      + sum_by check_predicate_size c.methods + sum_by guard_predicate_size (guard_types c)
+      all_predicates_size (sum_by predicate_size c.hddl.predicates) (sum_by task_predicate_size c.hddl.tasks)
+      (sum_by action_predicate_size c.hddl.actions) (sum_by check_predicate_size c.methods) (sum_by guard_predicate_size (guard_types c))

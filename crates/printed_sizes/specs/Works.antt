@@ -13,6 +13,10 @@ use Rattle.printed_sizes.specs.Words.{own_size}
 use Rattle.printed_sizes.specs.Formulas.{variable_size, param_size, formula_size, effect_size}
 use Rattle.printed_sizes.specs.Slots.{waiting_size, clearing_size, free_size}
 
+-- a line of an action, by the lengths of its name, parameters, condition and effect
+abbrev pub line_size : ℕ → ℕ → ℕ → ℕ → ℕ
+line_size name params pre change = 46 + name + params + pre + change
+
 module _ (c : Compiled) (b : ℕ) (style : Style) where
   -- a condition of the source behind a space, but no empty conjunction
   abbrev pub condition_size : List ℕ → Formula → ℕ
@@ -24,10 +28,6 @@ module _ (c : Compiled) (b : ℕ) (style : Style) where
   -- the goal behind a space
   abbrev pub goal_size : ℕ
   goal_size = 6 + (condition_size [] c.hddl.goal + free_size b style)
-
-  -- a line of an action, by the lengths of its name, parameters, condition and effect
-  abbrev pub line_size : ℕ → ℕ → ℕ → ℕ → ℕ
-  line_size name params pre change = 46 + name + params + pre + change
 
   -- a variable behind a space
   abbrev pub argument_size : Param → ℕ

@@ -1,8 +1,7 @@
 ghost use Rattle.std.specs.Prelude.{◌≡◌};
 ghost use Rattle.slot_encoding.specs.EncodedActions as encoded;
-ghost use Rattle.printed_sizes.specs.Capped.{capped};
-ghost use Rattle.printed_sizes.specs.Works as spec;
-ghost use Rattle.printed_sizes.specs.Frames.{IsFrame, sizes_in_force};
+ghost use Rattle.printed_sizes.specs.Frames.{IsFrame};
+ghost use Rattle.printed_sizes.specs.FrameLengths as of;
 
 use crate::counts::plus;
 use crate::effects::effect_size;
@@ -44,7 +43,7 @@ pub fn is_empty_effect(effect: &Effect) -> bool
 /// The length of a condition of the source behind a space; an empty conjunction is not printed.
 pub(crate) fn condition_size(frame: &Frame<'_>, scope: &Scope<'_>, condition: &Formula) -> u64
     requires { IsFrame frame.now }
-    ensures { result ≡ capped (spec.condition_size frame.now.compiled.now frame.now.slots frame.now.style (sizes_in_force frame.now.compiled.now scope.now) condition.now) }
+    ensures { result ≡ of.condition_length frame.now scope.now condition.now }
 {
     if is_empty(condition) {
         0
@@ -56,7 +55,7 @@ pub(crate) fn condition_size(frame: &Frame<'_>, scope: &Scope<'_>, condition: &F
 /// The length of an effect of the source behind a space; an empty conjunction is not printed.
 pub(crate) fn change_size(frame: &Frame<'_>, scope: &Scope<'_>, effect: &Effect) -> u64
     requires { IsFrame frame.now }
-    ensures { result ≡ capped (spec.change_size frame.now.compiled.now frame.now.slots frame.now.style (sizes_in_force frame.now.compiled.now scope.now) effect.now) }
+    ensures { result ≡ of.change_length frame.now scope.now effect.now }
 {
     if is_empty_effect(effect) {
         0
@@ -68,7 +67,7 @@ pub(crate) fn change_size(frame: &Frame<'_>, scope: &Scope<'_>, effect: &Effect)
 /// The length of the printed goal behind a space.
 pub(crate) fn goal_size(frame: &Frame<'_>) -> u64
     requires { IsFrame frame.now }
-    ensures { result ≡ capped (spec.goal_size frame.now.compiled.now frame.now.slots frame.now.style) }
+    ensures { result ≡ of.goal_length frame.now }
 {
     let own = condition_size(frame, &Scope::Empty, &frame.compiled.hddl.goal);
     let parts = plus(own, free_size(frame));

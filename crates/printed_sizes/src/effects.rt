@@ -1,7 +1,6 @@
-ghost use Rattle.std.specs.Prelude.{◌≡◌, sum_by};
-ghost use Rattle.printed_sizes.specs.Capped.{capped};
-ghost use Rattle.printed_sizes.specs.Formulas as spec;
-ghost use Rattle.printed_sizes.specs.Frames.{IsFrame, sizes_in_force, sizes_within};
+ghost use Rattle.std.specs.Prelude.{◌≡◌};
+ghost use Rattle.printed_sizes.specs.Frames.{IsFrame};
+ghost use Rattle.printed_sizes.specs.FrameLengths as of;
 
 use crate::counts::plus;
 use crate::formulas::formula_size;
@@ -15,7 +14,7 @@ use plan_model::{Effect, Param};
 #[cycle(effects)]
 pub(crate) fn effect_size(frame: &Frame<'_>, scope: &Scope<'_>, effect: &Effect) -> u64
     requires { IsFrame frame.now }
-    ensures { result ≡ capped (spec.effect_size frame.now.compiled.now frame.now.slots effect.now (sizes_in_force frame.now.compiled.now scope.now)) }
+    ensures { result ≡ of.effect_length frame.now scope.now effect.now }
 {
     match effect {
         Effect::Add(atom) => atom_size(frame, scope, atom),
@@ -39,7 +38,7 @@ pub(crate) fn effect_size(frame: &Frame<'_>, scope: &Scope<'_>, effect: &Effect)
 #[cycle(effects)]
 fn effects_size(frame: &Frame<'_>, scope: &Scope<'_>, effects: &[Effect]) -> u64
     requires { IsFrame frame.now }
-    ensures { result ≡ capped (sum_by (λ e. spec.effect_size frame.now.compiled.now frame.now.slots e (sizes_in_force frame.now.compiled.now scope.now)) effects.now) }
+    ensures { result ≡ of.effects_length frame.now scope.now effects.now }
 {
     let mut total: u64 = 0;
     for effect in effects {
@@ -52,7 +51,7 @@ fn effects_size(frame: &Frame<'_>, scope: &Scope<'_>, effects: &[Effect]) -> u64
 #[cycle(effects)]
 fn size_within(frame: &Frame<'_>, scope: &Scope<'_>, params: &[Param], effect: &Effect) -> u64
     requires { IsFrame frame.now }
-    ensures { result ≡ capped (spec.effect_size frame.now.compiled.now frame.now.slots effect.now (sizes_within frame.now.compiled.now scope.now params.now)) }
+    ensures { result ≡ of.effect_within_length frame.now scope.now params.now effect.now }
 {
     let within = Scope::Within(&*scope, &*params);
     effect_size(frame, &within, effect)

@@ -1,11 +1,6 @@
-ghost use Rattle.std.specs.Prelude.{◌≡◌, ◌+◌, ◌-◌, ◌∷◌, ◌<◌, cond, sum_by, IfOk};
-ghost use Rattle.task_networks.specs.Spelling.{numbers};
-ghost use Rattle.plan_meaning.specs.Compilation.{once};
-ghost use Rattle.slot_encoding.specs.EncodedValue.{same_atom};
-ghost use Rattle.printed_sizes.specs.Capped.{capped};
-ghost use Rattle.printed_sizes.specs.Problems as spec;
-ghost use Rattle.printed_sizes.specs.Words as words;
+ghost use Rattle.std.specs.Prelude.{◌≡◌, ◌∷◌, IfOk};
 ghost use Rattle.printed_sizes.specs.Frames.{IsFrame};
+ghost use Rattle.printed_sizes.specs.FrameLengths as of;
 
 use crate::counts::{plus, times};
 use crate::frame::Frame;
@@ -19,7 +14,7 @@ use std::collections::HashSet;
 /// and the source's atoms, each once.
 pub(crate) fn first_facts_size(alloc: Global, frame: &Frame<'_>) -> Result<u64, Memory>
     requires { IsFrame frame.now }
-    ensures { IfOk result (λ size. size ≡ capped (spec.first_facts_size frame.now.compiled.now frame.now.slots)) }
+    ensures { IfOk result (λ size. size ≡ of.first_facts_length frame.now) }
 {
     let source = single_facts_size(alloc, frame, frame.compiled.hddl.init.as_slice())?;
     Ok(plus(slot_facts_size(frame), source))
@@ -28,7 +23,7 @@ pub(crate) fn first_facts_size(alloc: Global, frame: &Frame<'_>) -> Result<u64, 
 /// The length of the facts on the slots.
 fn slot_facts_size(frame: &Frame<'_>) -> u64
     requires { IsFrame frame.now }
-    ensures { result ≡ capped (11 + words.slot_size frame.now.slots 0 + sum_by (spec.free_fact_size frame.now.compiled.now frame.now.slots) (numbers 1 (frame.now.slots - 1))) }
+    ensures { result ≡ of.slot_facts_length frame.now }
 {
     if frame.slots == 0 {
         11
@@ -41,7 +36,7 @@ fn slot_facts_size(frame: &Frame<'_>) -> u64
 /// The length of these atoms, each at its first place alone.
 fn single_facts_size(alloc: Global, frame: &Frame<'_>, atoms: &[GroundAtom]) -> Result<u64, Memory>
     requires { IsFrame frame.now }
-    ensures { IfOk result (λ size. size ≡ capped (sum_by (spec.fact_size frame.now.compiled.now frame.now.slots) (once same_atom atoms.now))) }
+    ensures { IfOk result (λ size. size ≡ of.single_facts_length frame.now atoms.now) }
 {
     let mut seen = HashSet::new(alloc);
     let mut total: u64 = 0;
@@ -54,7 +49,7 @@ fn single_facts_size(alloc: Global, frame: &Frame<'_>, atoms: &[GroundAtom]) -> 
 
 fn new_fact_size(frame: &Frame<'_>, new: bool, atom: &GroundAtom) -> u64
     requires { IsFrame frame.now }
-    ensures { result ≡ capped (cond new (spec.fact_size frame.now.compiled.now frame.now.slots atom.now) 0) }
+    ensures { result ≡ of.fact_if_length frame.now new atom.now }
 {
     if new { fact_size(frame, atom) } else { 0 }
 }
@@ -62,7 +57,7 @@ fn new_fact_size(frame: &Frame<'_>, new: bool, atom: &GroundAtom) -> u64
 /// The length of a fact behind a space.
 fn fact_size(frame: &Frame<'_>, atom: &GroundAtom) -> u64
     requires { IsFrame frame.now }
-    ensures { result ≡ capped (spec.fact_size frame.now.compiled.now frame.now.slots atom.now) }
+    ensures { result ≡ of.fact_length frame.now atom.now }
 {
     let head = plus(3, head_size(frame, atom.predicate));
     plus(head, arguments_size(frame, atom.args.as_slice()))
@@ -70,7 +65,7 @@ fn fact_size(frame: &Frame<'_>, atom: &GroundAtom) -> u64
 
 /// The length of objects, each behind a space.
 pub(crate) fn arguments_size(frame: &Frame<'_>, objects: &[u32]) -> u64
-    ensures { result ≡ capped (sum_by (λ o. 1 + words.object_size frame.now.compiled.now frame.now.slots o) objects.now) }
+    ensures { result ≡ of.objects_length frame.now objects.now }
 {
     let mut total: u64 = 0;
     for object in objects {

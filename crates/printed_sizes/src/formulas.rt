@@ -1,7 +1,6 @@
-ghost use Rattle.std.specs.Prelude.{◌≡◌, sum_by};
-ghost use Rattle.printed_sizes.specs.Capped.{capped};
-ghost use Rattle.printed_sizes.specs.Formulas as spec;
-ghost use Rattle.printed_sizes.specs.Frames.{IsFrame, sizes_in_force, sizes_within};
+ghost use Rattle.std.specs.Prelude.{◌≡◌};
+ghost use Rattle.printed_sizes.specs.Frames.{IsFrame};
+ghost use Rattle.printed_sizes.specs.FrameLengths as of;
 
 use crate::counts::plus;
 use crate::frame::Frame;
@@ -14,7 +13,7 @@ use plan_model::{Formula, Param};
 #[cycle(formulas)]
 pub(crate) fn formula_size(frame: &Frame<'_>, scope: &Scope<'_>, formula: &Formula) -> u64
     requires { IsFrame frame.now }
-    ensures { result ≡ capped (spec.formula_size frame.now.compiled.now frame.now.slots formula.now (sizes_in_force frame.now.compiled.now scope.now)) }
+    ensures { result ≡ of.formula_length frame.now scope.now formula.now }
 {
     match formula {
         Formula::Holds(atom) => atom_size(frame, scope, atom),
@@ -50,7 +49,7 @@ pub(crate) fn formula_size(frame: &Frame<'_>, scope: &Scope<'_>, formula: &Formu
 #[cycle(formulas)]
 fn formulas_size(frame: &Frame<'_>, scope: &Scope<'_>, formulas: &[Formula]) -> u64
     requires { IsFrame frame.now }
-    ensures { result ≡ capped (sum_by (λ f. spec.formula_size frame.now.compiled.now frame.now.slots f (sizes_in_force frame.now.compiled.now scope.now)) formulas.now) }
+    ensures { result ≡ of.formulas_length frame.now scope.now formulas.now }
 {
     let mut total: u64 = 0;
     for formula in formulas {
@@ -63,7 +62,7 @@ fn formulas_size(frame: &Frame<'_>, scope: &Scope<'_>, formulas: &[Formula]) -> 
 #[cycle(formulas)]
 fn size_within(frame: &Frame<'_>, scope: &Scope<'_>, params: &[Param], formula: &Formula) -> u64
     requires { IsFrame frame.now }
-    ensures { result ≡ capped (spec.formula_size frame.now.compiled.now frame.now.slots formula.now (sizes_within frame.now.compiled.now scope.now params.now)) }
+    ensures { result ≡ of.formula_within_length frame.now scope.now params.now formula.now }
 {
     let within = Scope::Within(&*scope, &*params);
     formula_size(frame, &within, formula)

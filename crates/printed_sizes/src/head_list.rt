@@ -1,5 +1,4 @@
-ghost use Rattle.std.specs.Prelude.{◌≡◌, ◌++◌, map, filter, IfOk, OnOk};
-ghost use Rattle.plan_model.specs.declared.schemas.MethodPlan.{MethodPlan};
+ghost use Rattle.std.specs.Prelude.{◌≡◌, ◌++◌, map, IfOk, OnOk};
 ghost use Rattle.slot_encoding.specs.EncodedNames as names;
 ghost use Rattle.printed_sizes.specs.Heads as spec;
 ghost use Rattle.printed_sizes.specs.Frames.{AreHeads};
@@ -56,7 +55,7 @@ fn push_actions(c: &Compiled, actions: &[ActionSchema], into: &mut List<u64>) ->
 }
 
 fn push_checks(c: &Compiled, methods: &[MethodPlan], into: &mut List<u64>) -> Result<(), Memory>
-    ensures { OnOk result (into.new ≡ into.old ++ map (spec.check_head c.now) (filter (λ (plan : MethodPlan). plan.checked) methods.now)) }
+    ensures { OnOk result (into.new ≡ into.old ++ spec.check_heads c.now methods.now) }
 {
     for plan in methods {
         if plan.checked {

@@ -1,11 +1,8 @@
-ghost use Rattle.std.specs.Prelude.{◌≡◌, ◌+◌, ◌*◌, ℕ, length, sum_by, IfOk};
-ghost use Rattle.task_networks.specs.Spelling.{numbers};
+ghost use Rattle.std.specs.Prelude.{◌≡◌, ℕ, length, IfOk};
 ghost use Rattle.plan_model.specs.Parts.{AreListed};
-ghost use Rattle.plan_meaning.specs.Compilation.{Keeps};
-ghost use Rattle.plan_meaning.specs.Network.{InTypeOf};
 ghost use Rattle.printed_sizes.specs.Capped.{capped};
-ghost use Rattle.printed_sizes.specs.Problems as spec;
-ghost use Rattle.printed_sizes.specs.Words as words;
+ghost use Rattle.printed_sizes.specs.Problems.{AreMembers};
+ghost use Rattle.printed_sizes.specs.FrameLengths as of;
 
 use crate::counts::{plus, times};
 use crate::facts::arguments_size;
@@ -18,7 +15,7 @@ use std::alloc::Global;
 /// The length of the facts that the objects of these types are in them, each behind a space.
 pub(crate) fn members_size(alloc: Global, frame: &Frame<'_>, types: &[u32]) -> Result<u64, Memory>
     requires { AreListed frame.now.compiled.now.hddl.types }
-    ensures { IfOk result (spec.IsCappedMembersSize frame.now.compiled.now frame.now.slots types.now) }
+    ensures { IfOk result (of.IsMembersLength frame.now types.now) }
 {
     let mut total: u64 = 0;
     for ty in types {
@@ -29,7 +26,7 @@ pub(crate) fn members_size(alloc: Global, frame: &Frame<'_>, types: &[u32]) -> R
 
 fn type_members_size(alloc: Global, frame: &Frame<'_>, ty: u32) -> Result<u64, Memory>
     requires { AreListed frame.now.compiled.now.hddl.types }
-    ensures { IfOk result (spec.IsMemberFactsSize frame.now.compiled.now frame.now.slots ty) }
+    ensures { IfOk result (of.IsMemberFactsLength frame.now ty) }
 {
     let head = guard_word_size(frame.compiled, ty)?;
     let listed = members_of(alloc, frame.compiled, ty)?;
@@ -40,7 +37,7 @@ fn type_members_size(alloc: Global, frame: &Frame<'_>, ty: u32) -> Result<u64, M
 /// The numbers of the objects in the type.
 fn members_of(alloc: Global, c: &Compiled, ty: u32) -> Result<List<u32>, Memory>
     requires { AreListed c.now.hddl.types }
-    ensures { IfOk result (λ members. Keeps (λ o. InTypeOf c.now o ty) (numbers 0 (length c.now.hddl.objects)) members) }
+    ensures { IfOk result (AreMembers c.now ty) }
 {
     number(c.hddl.objects.len())?;
     let listed = members(alloc, &c.hddl.types, &c.hddl.objects, ty)?;
@@ -50,7 +47,7 @@ fn members_of(alloc: Global, c: &Compiled, ty: u32) -> Result<List<u32>, Memory>
 /// The length of the facts on these objects, by that of the word of the guard.
 fn member_facts_size(frame: &Frame<'_>, head: u64, count: u32, objects: &[u32]) -> u64
     requires { count ≡ length objects.now }
-    ensures { (h : ℕ) → head ≡ capped h → result ≡ capped (sum_by (λ o. 4 + h + words.object_size frame.now.compiled.now frame.now.slots o) objects.now) }
+    ensures { (h : ℕ) → head ≡ capped h → result ≡ of.member_facts_length frame.now objects.now h }
 {
     let heads = times(count, plus(3, head));
     plus(heads, arguments_size(frame, objects))

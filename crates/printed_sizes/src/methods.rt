@@ -1,11 +1,9 @@
-ghost use Rattle.std.specs.Prelude.{◌≡◌, ◌+◌, ◌-◌, ◌*◌, ℕ, cond, length, sum_by, IfOk};
+ghost use Rattle.std.specs.Prelude.{◌≡◌, ◌-◌, cond, length, IfOk};
 ghost use Rattle.task_networks.specs.Spelling.{numbers};
-ghost use Rattle.printed_sizes.specs.Capped.{capped};
-ghost use Rattle.printed_sizes.specs.Formulas as formulas;
-ghost use Rattle.printed_sizes.specs.Methods as spec;
-ghost use Rattle.printed_sizes.specs.Slots as slots;
-ghost use Rattle.printed_sizes.specs.Works as works;
+ghost use Rattle.printed_sizes.specs.Capped.{capped, IsFromTwo};
+ghost use Rattle.printed_sizes.specs.Methods.{differ_size};
 ghost use Rattle.printed_sizes.specs.Frames.{IsFrame};
+ghost use Rattle.printed_sizes.specs.MethodLengths as of;
 
 use crate::conditions::condition_size;
 use crate::counts::{all_digits, plus, times};
@@ -26,7 +24,7 @@ use plan_model::{Constraint, Guard, MethodPlan, Term};
 pub(crate) fn methods_size(frame: &Frame<'_>, methods: &[MethodPlan]) -> Result<u64, Memory>
     requires frame { IsFrame frame.now }
     requires methods { methods.now ≡ frame.now.compiled.now.methods }
-    ensures { IfOk result (λ size. size ≡ capped (spec.methods_size frame.now.compiled.now frame.now.slots frame.now.style 0 methods.now)) }
+    ensures { IfOk result (λ size. size ≡ of.methods_length frame.now methods.now) }
 {
     let mut total: u64 = 0;
     let mut m: u32 = 0;
@@ -42,7 +40,7 @@ pub(crate) fn methods_size(frame: &Frame<'_>, methods: &[MethodPlan]) -> Result<
 /// The length of the line of the action of method `m`. `check` is the predicate of its check.
 fn method_size(frame: &Frame<'_>, m: u32, check: u32, plan: &MethodPlan) -> Result<u64, Memory>
     requires { IsFrame frame.now }
-    ensures { IfOk result (λ size. size ≡ capped (spec.method_size frame.now.compiled.now frame.now.slots frame.now.style plan.now check m)) }
+    ensures { IfOk result (λ size. size ≡ of.method_length frame.now plan.now check m) }
 {
     let spare = number(plan.schema.children.len().saturating_sub(1))?;
     let task = task_size(frame, plan)?;
@@ -53,7 +51,7 @@ fn method_size(frame: &Frame<'_>, m: u32, check: u32, plan: &MethodPlan) -> Resu
 
 /// The same, by the lengths of its condition and its effect.
 fn whole_size(frame: &Frame<'_>, m: u32, plan: &MethodPlan, spare: u32, pre: u64, eff: u64) -> u64
-    ensures { (p q : ℕ) → pre ≡ capped p → eff ≡ capped q → result ≡ capped (works.line_size frame.now.compiled.now frame.now.slots frame.now.style (spec.name_size frame.now.compiled.now frame.now.slots frame.now.style plan.now m) (20 + (spare * 18 + slots.all_digits spare) + sum_by (formulas.param_size frame.now.compiled.now) plan.now.schema.params) p q) }
+    ensures { IsFromTwo (of.whole_length frame.now plan.now m spare) pre eff result }
 {
     let name = name_size(frame, m, plan);
     let listed = plus(20, new_slots_size(spare, 18));
@@ -65,7 +63,7 @@ fn whole_size(frame: &Frame<'_>, m: u32, plan: &MethodPlan, spare: u32, pre: u64
 }
 
 fn name_size(frame: &Frame<'_>, m: u32, plan: &MethodPlan) -> u64
-    ensures { result ≡ capped (spec.name_size frame.now.compiled.now frame.now.slots frame.now.style plan.now m) }
+    ensures { result ≡ of.name_length frame.now plan.now m }
 {
     match m {
         0 => 9,
@@ -75,14 +73,14 @@ fn name_size(frame: &Frame<'_>, m: u32, plan: &MethodPlan) -> u64
 
 /// The length of what is said of each of so many new slots, of this length but for the digits.
 pub(crate) fn new_slots_size(spare: u32, each: u64) -> u64
-    ensures { result ≡ capped (spare * each + slots.all_digits spare) }
+    ensures { result ≡ of.new_slots_length spare each }
 {
     plus(times(spare, each), all_digits(spare))
 }
 
 /// The length of what says that each two of so many new slots differ.
 fn differ_size(spare: u32) -> u64
-    ensures { result ≡ capped (spec.differ_size (numbers 1 spare)) }
+    ensures { result ≡ capped (differ_size (numbers 1 spare)) }
 {
     let each = plus(times(spare, 12), all_digits(spare));
     times(spare.saturating_sub(1), each)
@@ -96,7 +94,7 @@ pub(crate) fn placed_size(
     slot: u64,
     args: &[Term],
 ) -> u64
-    ensures { (h s : ℕ) → head ≡ capped h → slot ≡ capped s → result ≡ capped (spec.placed_size frame.now.compiled.now frame.now.slots frame.now.style plan.now h s args.now) }
+    ensures { IsFromTwo (of.placed_length frame.now plan.now args.now) head slot result }
 {
     let scope = Scope::Within(&Scope::Empty, plan.schema.params.as_slice());
     let start = plus(plus(5, head), slot);
@@ -106,7 +104,7 @@ pub(crate) fn placed_size(
 /// The length of the method's task in the first slot.
 fn task_size(frame: &Frame<'_>, plan: &MethodPlan) -> Result<u64, Memory>
     requires { IsFrame frame.now }
-    ensures { IfOk result (λ size. size ≡ capped (spec.task_size frame.now.compiled.now frame.now.slots frame.now.style plan.now)) }
+    ensures { IfOk result (λ size. size ≡ of.task_length frame.now plan.now) }
 {
     let predicate = task_predicate(frame.compiled, plan.schema.task)?;
     let head = head_size(frame, predicate);
@@ -117,8 +115,8 @@ fn task_size(frame: &Frame<'_>, plan: &MethodPlan) -> Result<u64, Memory>
 fn pre_size(frame: &Frame<'_>, plan: &MethodPlan, spare: u32, task: u64) -> Result<u64, Memory>
     requires frame { IsFrame frame.now }
     requires spare { spare ≡ length plan.now.schema.children - 1 }
-    requires task { task ≡ capped (spec.task_size frame.now.compiled.now frame.now.slots frame.now.style plan.now) }
-    ensures { IfOk result (λ size. size ≡ capped (spec.pre_size frame.now.compiled.now frame.now.slots frame.now.style plan.now)) }
+    requires task { task ≡ of.task_length frame.now plan.now }
+    ensures { IfOk result (λ size. size ≡ of.pre_length frame.now plan.now) }
 {
     let guards = guards_size(frame, plan, plan.guards.as_slice())?;
     Ok(conditions_size(frame, plan, spare, task, guards))
@@ -126,7 +124,7 @@ fn pre_size(frame: &Frame<'_>, plan: &MethodPlan, spare: u32, task: u64) -> Resu
 
 fn conditions_size(frame: &Frame<'_>, plan: &MethodPlan, spare: u32, task: u64, guards: u64) -> u64
     requires { IsFrame frame.now }
-    ensures { (t g : ℕ) → task ≡ capped t → guards ≡ capped g → result ≡ capped (6 + (t + slots.waiting_size frame.now.slots frame.now.style + (spare * 18 + slots.all_digits spare) + spec.differ_size (numbers 1 spare) + sum_by (spec.test_size frame.now.compiled.now frame.now.slots frame.now.style plan.now) plan.now.schema.constraints + g + spec.tested_size frame.now.compiled.now frame.now.slots frame.now.style plan.now)) }
+    ensures { IsFromTwo (of.conditions_length frame.now plan.now spare) task guards result }
 {
     let waited = plus(task, waiting_size(frame));
     let free = plus(waited, new_slots_size(spare, 18));
@@ -137,7 +135,7 @@ fn conditions_size(frame: &Frame<'_>, plan: &MethodPlan, spare: u32, task: u64, 
 }
 
 fn tests_size(frame: &Frame<'_>, plan: &MethodPlan, constraints: &[Constraint]) -> u64
-    ensures { result ≡ capped (sum_by (spec.test_size frame.now.compiled.now frame.now.slots frame.now.style plan.now) constraints.now) }
+    ensures { result ≡ of.tests_length frame.now plan.now constraints.now }
 {
     let mut total: u64 = 0;
     for constraint in constraints {
@@ -148,7 +146,7 @@ fn tests_size(frame: &Frame<'_>, plan: &MethodPlan, constraints: &[Constraint]) 
 
 /// The length of a constraint behind a space.
 fn test_size(frame: &Frame<'_>, plan: &MethodPlan, constraint: &Constraint) -> u64
-    ensures { result ≡ capped (spec.test_size frame.now.compiled.now frame.now.slots frame.now.style plan.now constraint.now) }
+    ensures { result ≡ of.test_length frame.now plan.now constraint.now }
 {
     let scope = Scope::Within(&Scope::Empty, plan.schema.params.as_slice());
     let start = test_start(constraint.equal);
@@ -163,7 +161,7 @@ fn test_start(equal: bool) -> u64
 }
 
 fn guards_size(frame: &Frame<'_>, plan: &MethodPlan, guards: &[Guard]) -> Result<u64, Memory>
-    ensures { IfOk result (λ size. size ≡ capped (sum_by (spec.guard_size frame.now.compiled.now frame.now.slots frame.now.style plan.now) guards.now)) }
+    ensures { IfOk result (λ size. size ≡ of.guards_length frame.now plan.now guards.now) }
 {
     let mut total: u64 = 0;
     for guard in guards {
@@ -174,7 +172,7 @@ fn guards_size(frame: &Frame<'_>, plan: &MethodPlan, guards: &[Guard]) -> Result
 
 /// The length of a guard behind a space.
 fn guard_size(frame: &Frame<'_>, plan: &MethodPlan, guard: &Guard) -> Result<u64, Memory>
-    ensures { IfOk result (λ size. size ≡ capped (spec.guard_size frame.now.compiled.now frame.now.slots frame.now.style plan.now guard.now)) }
+    ensures { IfOk result (λ size. size ≡ of.guard_length frame.now plan.now guard.now) }
 {
     let scope = Scope::Within(&Scope::Empty, plan.schema.params.as_slice());
     let head = plus(3, guard_word_size(frame.compiled, guard.ty)?);
@@ -184,7 +182,7 @@ fn guard_size(frame: &Frame<'_>, plan: &MethodPlan, guard: &Guard) -> Result<u64
 /// The length of the method's own condition where it is tested at once.
 fn tested_size(frame: &Frame<'_>, plan: &MethodPlan) -> u64
     requires { IsFrame frame.now }
-    ensures { result ≡ capped (spec.tested_size frame.now.compiled.now frame.now.slots frame.now.style plan.now) }
+    ensures { result ≡ of.tested_length frame.now plan.now }
 {
     if plan.tested {
         let scope = Scope::Within(&Scope::Empty, plan.schema.params.as_slice());

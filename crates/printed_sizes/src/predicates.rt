@@ -1,7 +1,8 @@
-ghost use Rattle.std.specs.Prelude.{◌≡◌, ◌+◌, [], length, slice_index_or, sum_by, IfOk, ℕ};
+ghost use Rattle.std.specs.Prelude.{◌≡◌, [], length, slice_index_or, sum_by, IfOk};
 ghost use Rattle.slot_encoding.specs.EncodedNames.{guard_word, guard_types};
-ghost use Rattle.printed_sizes.specs.Capped.{capped};
-ghost use Rattle.printed_sizes.specs.Sections as spec;
+ghost use Rattle.printed_sizes.specs.Capped.{capped, IsFromFive};
+ghost use Rattle.printed_sizes.specs.Sections as of;
+ghost use Rattle.printed_sizes.specs.FrameLengths.{predicates_length};
 
 use crate::counts::{all_digits, digits, plus, times};
 use crate::sections::source_predicates_size;
@@ -11,14 +12,14 @@ use plan_model::{ActionSchema, Compiled, MethodPlan, TaskSchema};
 
 /// The length of the predicate of a slot that holds something with so many parameters, behind a space.
 fn held_predicate_size(c: &Compiled, name: Name, len: usize) -> Result<u64, Memory>
-    ensures { IfOk result (λ size. size ≡ capped (spec.held_predicate_size c.now name len)) }
+    ensures { IfOk result (λ size. size ≡ capped (of.held_predicate_size c.now name len)) }
 {
     let count = number(len)?;
     Ok(counted_size(c, name, count))
 }
 
 fn counted_size(c: &Compiled, name: Name, count: u32) -> u64
-    ensures { result ≡ capped (spec.held_predicate_size c.now name count) }
+    ensures { result ≡ capped (of.held_predicate_size c.now name count) }
 {
     let start = plus(27, own_size(c, name));
     let numbered = plus(times(count, 20), all_digits(count));
@@ -26,7 +27,7 @@ fn counted_size(c: &Compiled, name: Name, count: u32) -> u64
 }
 
 fn tasks_size(c: &Compiled, tasks: &[TaskSchema]) -> Result<u64, Memory>
-    ensures { IfOk result (λ size. size ≡ capped (sum_by (spec.task_predicate_size c.now) tasks.now)) }
+    ensures { IfOk result (λ n. n ≡ capped (sum_by (of.task_predicate_size c.now) tasks.now)) }
 {
     let mut total: u64 = 0;
     for task in tasks {
@@ -36,7 +37,7 @@ fn tasks_size(c: &Compiled, tasks: &[TaskSchema]) -> Result<u64, Memory>
 }
 
 fn actions_size(c: &Compiled, actions: &[ActionSchema]) -> Result<u64, Memory>
-    ensures { IfOk result (λ size. size ≡ capped (sum_by (spec.action_predicate_size c.now) actions.now)) }
+    ensures { IfOk result (λ n. n ≡ capped (sum_by (of.action_predicate_size c.now) actions.now)) }
 {
     let mut total: u64 = 0;
     for action in actions {
@@ -49,7 +50,7 @@ fn actions_size(c: &Compiled, actions: &[ActionSchema]) -> Result<u64, Memory>
 }
 
 fn check_size(c: &Compiled, plan: &MethodPlan) -> Result<u64, Memory>
-    ensures { IfOk result (λ size. size ≡ capped (spec.check_predicate_size c.now plan.now)) }
+    ensures { IfOk result (λ size. size ≡ capped (of.check_predicate_size c.now plan.now)) }
 {
     if plan.checked {
         held_predicate_size(c, plan.schema.name, plan.schema.params.len())
@@ -59,7 +60,7 @@ fn check_size(c: &Compiled, plan: &MethodPlan) -> Result<u64, Memory>
 }
 
 fn checks_size(c: &Compiled, methods: &[MethodPlan]) -> Result<u64, Memory>
-    ensures { IfOk result (λ size. size ≡ capped (sum_by (spec.check_predicate_size c.now) methods.now)) }
+    ensures { IfOk result (λ n. n ≡ capped (sum_by (of.check_predicate_size c.now) methods.now)) }
 {
     let mut total: u64 = 0;
     for plan in methods {
@@ -91,7 +92,7 @@ pub(crate) fn guard_word_size(c: &Compiled, ty: u32) -> Result<u64, Memory>
 }
 
 fn guards_size(c: &Compiled, types: &[u32]) -> Result<u64, Memory>
-    ensures { IfOk result (λ size. size ≡ capped (sum_by (spec.guard_predicate_size c.now) types.now)) }
+    ensures { IfOk result (λ n. n ≡ capped (sum_by (of.guard_predicate_size c.now) types.now)) }
 {
     let mut total: u64 = 0;
     for ty in types {
@@ -103,7 +104,7 @@ fn guards_size(c: &Compiled, types: &[u32]) -> Result<u64, Memory>
 /// The length of all predicates, each behind a space; `types`: those of guards.
 pub(crate) fn predicates_size(c: &Compiled, types: &[u32]) -> Result<u64, Memory>
     requires { types.now ≡ guard_types c.now }
-    ensures { IfOk result (λ size. size ≡ capped (spec.predicates_size c.now)) }
+    ensures { IfOk result (λ size. size ≡ capped (of.predicates_size c.now)) }
 {
     let tasks = tasks_size(c, c.hddl.tasks.as_slice())?;
     let actions = actions_size(c, c.hddl.actions.as_slice())?;
@@ -114,7 +115,7 @@ pub(crate) fn predicates_size(c: &Compiled, types: &[u32]) -> Result<u64, Memory
 }
 
 fn sum_of_five(own: u64, tasks: u64, actions: u64, checks: u64, guards: u64) -> u64
-    ensures { (n m p q r : ℕ) → own ≡ capped n → tasks ≡ capped m → actions ≡ capped p → checks ≡ capped q → guards ≡ capped r → result ≡ capped (n + (106 + m) + p + q + r) }
+    ensures { IsFromFive predicates_length own tasks actions checks guards result }
 {
     let declared = plus(own, plus(106, tasks));
     let acting = plus(declared, actions);

@@ -1,11 +1,9 @@
-ghost use Rattle.std.specs.Prelude.{◌≡◌, ◌+◌, ℕ, IfOk};
+ghost use Rattle.std.specs.Prelude.{◌≡◌, IfOk};
 ghost use Rattle.plan_model.specs.Parts.{AreListed};
 ghost use Rattle.slot_encoding.specs.EncodedNames as names;
-ghost use Rattle.printed_sizes.specs.Capped.{capped};
-ghost use Rattle.printed_sizes.specs.Problems as spec;
-ghost use Rattle.printed_sizes.specs.Words as words;
-ghost use Rattle.printed_sizes.specs.Works as works;
+ghost use Rattle.printed_sizes.specs.Capped.{IsFromTwo};
 ghost use Rattle.printed_sizes.specs.Frames.{IsFrame};
+ghost use Rattle.printed_sizes.specs.FrameLengths as of;
 
 use crate::conditions::goal_size;
 use crate::counts::plus;
@@ -21,7 +19,7 @@ pub(crate) fn problem_size(alloc: Global, frame: &Frame<'_>, types: &[u32]) -> R
     requires frame { IsFrame frame.now }
     requires listed { AreListed frame.now.compiled.now.hddl.types }
     requires types { types.now ≡ names.guard_types frame.now.compiled.now }
-    ensures { IfOk result (spec.IsCappedProblemSize frame.now.compiled.now frame.now.slots frame.now.style) }
+    ensures { IfOk result (of.IsProblemLength frame.now) }
 {
     let facts = first_facts_size(alloc, frame)?;
     let members = members_size(alloc, frame, types)?;
@@ -31,7 +29,7 @@ pub(crate) fn problem_size(alloc: Global, frame: &Frame<'_>, types: &[u32]) -> R
 /// The length of the problem text, by those of the first facts and of the facts on guards.
 fn page_size(frame: &Frame<'_>, facts: u64, members: u64) -> u64
     requires { IsFrame frame.now }
-    ensures { (f m : ℕ) → facts ≡ capped f → members ≡ capped m → result ≡ capped (63 + words.own_size frame.now.compiled.now frame.now.compiled.now.hddl.problem + words.own_size frame.now.compiled.now frame.now.compiled.now.hddl.domain + (f + m) + works.goal_size frame.now.compiled.now frame.now.slots frame.now.style) }
+    ensures { IsFromTwo (of.page_length frame.now) facts members result }
 {
     let named = plus(63, own_size(frame.compiled, frame.compiled.hddl.problem));
     let both = plus(named, own_size(frame.compiled, frame.compiled.hddl.domain));

@@ -1,8 +1,8 @@
-ghost use Rattle.std.specs.Prelude.{◌≡◌, ◌-◌, length, sum_by};
+ghost use Rattle.std.specs.Prelude.{◌≡◌, sum_by};
 ghost use Rattle.printed_sizes.specs.Capped.{capped};
 ghost use Rattle.printed_sizes.specs.Sections as spec;
-ghost use Rattle.printed_sizes.specs.Slots as slots;
 ghost use Rattle.printed_sizes.specs.Frames.{IsFrame};
+ghost use Rattle.printed_sizes.specs.FrameLengths as of;
 
 use crate::counts::{plus, times};
 use crate::frame::Frame;
@@ -56,7 +56,7 @@ fn source_objects_size(c: &Compiled, objects: &[Object]) -> u64
 /// The length of the objects of the source and of the slots with their types, each behind a space.
 pub(crate) fn objects_size(frame: &Frame<'_>) -> u64
     requires { IsFrame frame.now }
-    ensures { result ≡ capped (spec.objects_size frame.now.compiled.now frame.now.slots) }
+    ensures { result ≡ of.declared_objects_length frame.now }
 {
     let own = source_objects_size(frame.compiled, frame.compiled.hddl.objects.as_slice());
     let slots = plus(times(frame.slots, 17), frame.digits);

@@ -1,7 +1,7 @@
 ghost use Rattle.std.specs.Prelude.{◌≡◌, ℕ};
 ghost use Rattle.printed_sizes.specs.Capped.{capped};
-ghost use Rattle.printed_sizes.specs.Slots as spec;
 ghost use Rattle.printed_sizes.specs.Frames.{IsFrame};
+ghost use Rattle.printed_sizes.specs.FrameLengths as of;
 
 use crate::counts::{plus, times};
 use crate::frame::Frame;
@@ -10,7 +10,7 @@ use plan_model::Style;
 /// The length of what says that no slot comes before the first variable's.
 pub(crate) fn waiting_size(frame: &Frame<'_>) -> u64
     requires { IsFrame frame.now }
-    ensures { result ≡ capped (spec.waiting_size frame.now.slots frame.now.style) }
+    ensures { result ≡ of.waiting_length frame.now }
 {
     match frame.style {
         Style::Adl => 62,
@@ -21,7 +21,7 @@ pub(crate) fn waiting_size(frame: &Frame<'_>) -> u64
 /// The length of what deletes the pairs that leave the first variable's slot.
 pub(crate) fn clearing_size(frame: &Frame<'_>) -> u64
     requires { IsFrame frame.now }
-    ensures { result ≡ capped (spec.clearing_size frame.now.slots frame.now.style) }
+    ensures { result ≡ of.clearing_length frame.now }
 {
     match frame.style {
         Style::Adl => 62,
@@ -32,7 +32,7 @@ pub(crate) fn clearing_size(frame: &Frame<'_>) -> u64
 /// The length of what adds these pairs for a child in a variable of this length.
 pub(crate) fn copying_size(frame: &Frame<'_>, child: u64) -> u64
     requires { IsFrame frame.now }
-    ensures { (m : ℕ) → child ≡ capped m → result ≡ capped (spec.copying_size frame.now.slots frame.now.style m) }
+    ensures { (m : ℕ) → child ≡ capped m → result ≡ of.copying_length frame.now m }
 {
     match frame.style {
         Style::Adl => plus(85, child),
@@ -46,7 +46,7 @@ pub(crate) fn copying_size(frame: &Frame<'_>, child: u64) -> u64
 /// The length of what says that each slot is free.
 pub(crate) fn free_size(frame: &Frame<'_>) -> u64
     requires { IsFrame frame.now }
-    ensures { result ≡ capped (spec.free_size frame.now.slots frame.now.style) }
+    ensures { result ≡ of.free_length frame.now }
 {
     match frame.style {
         Style::Adl => 47,

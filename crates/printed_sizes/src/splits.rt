@@ -1,9 +1,10 @@
-ghost use Rattle.std.specs.Prelude.{◌≡◌, ◌+◌, ◌-◌, ◌*◌, ◌<◌, ◌++◌, ◌∷◌, [], ℕ, ◌^◌, get_or, length, slice_index, sum_by, IfOk};
+ghost use Rattle.std.specs.Prelude.{◌≡◌, ◌+◌, ◌-◌, ◌<◌, ℕ, ◌^◌, length, slice_index, IfOk};
 ghost use Rattle.slot_encoding.specs.EncodedActions.{slot_vars};
-ghost use Rattle.printed_sizes.specs.Capped.{capped};
-ghost use Rattle.printed_sizes.specs.Methods as spec;
+ghost use Rattle.printed_sizes.specs.Capped.{capped, IsFromTwo};
+ghost use Rattle.printed_sizes.specs.Methods.{child_slot};
 ghost use Rattle.printed_sizes.specs.Slots as slots;
 ghost use Rattle.printed_sizes.specs.Frames.{IsFrame};
+ghost use Rattle.printed_sizes.specs.MethodLengths as of;
 
 use crate::counts::{digits, plus};
 use crate::frame::Frame;
@@ -26,8 +27,8 @@ pub(crate) fn eff_size(
 ) -> Result<u64, Memory>
     requires frame { IsFrame frame.now }
     requires spare { spare ≡ length plan.now.schema.children - 1 }
-    requires task { task ≡ capped (spec.task_size frame.now.compiled.now frame.now.slots frame.now.style plan.now) }
-    ensures { IfOk result (λ size. size ≡ capped (spec.eff_size frame.now.compiled.now frame.now.slots frame.now.style plan.now check plan.now.schema.children)) }
+    requires task { task ≡ of.task_length frame.now plan.now }
+    ensures { IfOk result (λ size. size ≡ of.eff_length frame.now plan.now check) }
 {
     if plan.schema.children.len() == 0 {
         Ok(plus(6, freeing_size(frame, task)))
@@ -45,8 +46,8 @@ fn split_size(
 ) -> Result<u64, Memory>
     requires frame { IsFrame frame.now }
     requires spare { spare ≡ length plan.now.schema.children - 1 }
-    requires task { task ≡ capped (spec.task_size frame.now.compiled.now frame.now.slots frame.now.style plan.now) }
-    ensures { IfOk result (λ size. size ≡ capped (spec.split_size frame.now.compiled.now frame.now.slots frame.now.style plan.now check)) }
+    requires task { task ≡ of.task_length frame.now plan.now }
+    ensures { IfOk result (λ size. size ≡ of.split_length frame.now plan.now check) }
 {
     let children = children_size(frame, check, plan, spare, plan.schema.children.as_slice())?;
     Ok(changes_size(frame, plan, spare, task, children))
@@ -55,7 +56,7 @@ fn split_size(
 fn changes_size(frame: &Frame<'_>, plan: &MethodPlan, spare: u32, task: u64, children: u64) -> u64
     requires frame { IsFrame frame.now }
     requires spare { spare ≡ length plan.now.schema.children - 1 }
-    ensures { (t n : ℕ) → task ≡ capped t → children ≡ capped n → result ≡ capped (6 + (6 + t + (spare * 24 + slots.all_digits spare) + n + sum_by (spec.pair_size frame.now.compiled.now frame.now.slots frame.now.style plan.now 0) plan.now.schema.pairs + sum_by (spec.copied_size frame.now.compiled.now frame.now.slots frame.now.style plan.now 0) plan.now.copiers)) }
+    ensures { IsFromTwo (of.changes_length frame.now plan.now spare) task children result }
 {
     let freed = plus(6, task);
     let taken = plus(freed, new_slots_size(spare, 24));
@@ -77,7 +78,7 @@ fn children_size(
 ) -> Result<u64, Memory>
     requires frame { IsFrame frame.now }
     requires spare { spare ≡ length plan.now.schema.children - 1 }
-    ensures { IfOk result (λ size. size ≡ capped (spec.children_size frame.now.compiled.now frame.now.slots frame.now.style plan.now check 0 children.now)) }
+    ensures { IfOk result (λ n. n ≡ of.children_length frame.now plan.now check children.now) }
 {
     let mut total: u64 = 0;
     let mut i: u32 = 0;
@@ -99,7 +100,7 @@ fn child_size(
 ) -> Result<u64, Memory>
     requires frame { IsFrame frame.now }
     requires spare { spare ≡ length plan.now.schema.children - 1 }
-    ensures { IfOk result (λ size. size ≡ capped (spec.placed_child_size frame.now.compiled.now frame.now.slots frame.now.style plan.now check i child.now)) }
+    ensures { IfOk result (λ n. n ≡ of.child_length frame.now plan.now check i child.now) }
 {
     let head = child_head_size(frame, check, child.head)?;
     let slot = slot_of(frame, plan, spare, 0, i);
@@ -109,7 +110,7 @@ fn child_size(
 /// The length of the word of what holds a child.
 fn child_head_size(frame: &Frame<'_>, check: u32, head: Head) -> Result<u64, Memory>
     requires { IsFrame frame.now }
-    ensures { IfOk result (λ size. size ≡ capped (spec.holder_size frame.now.compiled.now check head)) }
+    ensures { IfOk result (λ size. size ≡ of.holder_length frame.now check head) }
 {
     match head {
         Head::Task(task) => {
@@ -126,7 +127,7 @@ fn child_head_size(frame: &Frame<'_>, check: u32, head: Head) -> Result<u64, Mem
 
 fn pairs_size(frame: &Frame<'_>, plan: &MethodPlan, spare: u32, pairs: &[Pair]) -> u64
     requires { spare ≡ length plan.now.schema.children - 1 }
-    ensures { result ≡ capped (sum_by (spec.pair_size frame.now.compiled.now frame.now.slots frame.now.style plan.now 0) pairs.now) }
+    ensures { result ≡ of.pairs_length frame.now plan.now pairs.now }
 {
     let mut total: u64 = 0;
     for pair in pairs {
@@ -137,7 +138,7 @@ fn pairs_size(frame: &Frame<'_>, plan: &MethodPlan, spare: u32, pairs: &[Pair]) 
 
 fn pair_size(frame: &Frame<'_>, plan: &MethodPlan, spare: u32, pair: &Pair) -> u64
     requires { spare ≡ length plan.now.schema.children - 1 }
-    ensures { result ≡ capped (spec.pair_size frame.now.compiled.now frame.now.slots frame.now.style plan.now 0 pair.now) }
+    ensures { result ≡ of.pair_length frame.now plan.now pair.now }
 {
     let first = plus(17, slot_of(frame, plan, spare, 0, pair.first));
     plus(first, slot_of(frame, plan, spare, 0, pair.then))
@@ -146,7 +147,7 @@ fn pair_size(frame: &Frame<'_>, plan: &MethodPlan, spare: u32, pair: &Pair) -> u
 fn copies_size(frame: &Frame<'_>, plan: &MethodPlan, spare: u32, copiers: &[u32]) -> u64
     requires frame { IsFrame frame.now }
     requires spare { spare ≡ length plan.now.schema.children - 1 }
-    ensures { result ≡ capped (sum_by (spec.copied_size frame.now.compiled.now frame.now.slots frame.now.style plan.now 0) copiers.now) }
+    ensures { result ≡ of.copies_length frame.now plan.now copiers.now }
 {
     let mut total: u64 = 0;
     for child in copiers {
@@ -159,7 +160,7 @@ fn copies_size(frame: &Frame<'_>, plan: &MethodPlan, spare: u32, copiers: &[u32]
 fn copied_size(frame: &Frame<'_>, plan: &MethodPlan, spare: u32, child: u32) -> u64
     requires frame { IsFrame frame.now }
     requires spare { spare ≡ length plan.now.schema.children - 1 }
-    ensures { result ≡ capped (spec.copied_size frame.now.compiled.now frame.now.slots frame.now.style plan.now 0 child) }
+    ensures { result ≡ of.copied_length frame.now plan.now child }
 {
     let last = last_size(&frame.style);
     copying_size(frame, slot_of(frame, plan, spare, last, child))
@@ -178,7 +179,7 @@ fn last_size(style: &Style) -> u64
 /// The length of the variable of the slot of the child at this place.
 fn slot_of(frame: &Frame<'_>, plan: &MethodPlan, spare: u32, last: u64, place: u32) -> u64
     requires { spare ≡ length plan.now.schema.children - 1 }
-    ensures { (n : ℕ) → last ≡ capped n → result ≡ capped (spec.place_size frame.now.compiled.now frame.now.slots frame.now.style plan.now n (spec.slot_at frame.now.compiled.now frame.now.slots frame.now.style plan.now place)) }
+    ensures { (n : ℕ) → last ≡ capped n → result ≡ of.slot_length frame.now plan.now n place }
 {
     variable_size(frame, plan, spare, last, slot_at(plan, place as usize))
 }
@@ -186,7 +187,7 @@ fn slot_of(frame: &Frame<'_>, plan: &MethodPlan, spare: u32, last: u64, place: u
 /// The length of a method's variable by number; `last`: that of the one behind all.
 fn variable_size(frame: &Frame<'_>, plan: &MethodPlan, spare: u32, last: u64, k: usize) -> u64
     requires { spare ≡ length plan.now.schema.children - 1 }
-    ensures { (n : ℕ) → last ≡ capped n → result ≡ capped (spec.place_size frame.now.compiled.now frame.now.slots frame.now.style plan.now n k) }
+    ensures { (n : ℕ) → last ≡ capped n → result ≡ of.variable_length frame.now plan.now n k }
 {
     if k == 0 {
         5
@@ -198,7 +199,7 @@ fn variable_size(frame: &Frame<'_>, plan: &MethodPlan, spare: u32, last: u64, k:
 }
 
 fn own_variable_size(frame: &Frame<'_>, plan: &MethodPlan, last: u64, k: usize) -> u64
-    ensures { (n : ℕ) → last ≡ capped n → result ≡ capped (get_or (spec.own_sizes frame.now.compiled.now frame.now.slots frame.now.style plan.now ++ n ∷ []) k 0) }
+    ensures { (n : ℕ) → last ≡ capped n → result ≡ of.own_variable_length frame.now plan.now n k }
 {
     match plan.schema.params.get(k) {
         Some(param) => own_size(frame.compiled, param.name),
@@ -215,7 +216,7 @@ fn own_variable_size(frame: &Frame<'_>, plan: &MethodPlan, last: u64, k: usize) 
 /// The number of the variable for the slot of the child at this place: the heir has the task's, the others the new ones in
 /// number order; 0 past the children.
 fn slot_at(plan: &MethodPlan, place: usize) -> usize
-    ensures { result ≡ slice_index (slot_vars plan.now.heir 0 1 (length plan.now.schema.children)) place }
+    ensures { result ≡ child_slot plan.now place }
 {
     if place < plan.schema.children.len() {
         behind_heir(plan.heir, place)

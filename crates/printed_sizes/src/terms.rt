@@ -1,7 +1,6 @@
-ghost use Rattle.std.specs.Prelude.{◌≡◌, get_or, sum_by};
-ghost use Rattle.printed_sizes.specs.Capped.{capped};
-ghost use Rattle.printed_sizes.specs.Formulas as spec;
-ghost use Rattle.printed_sizes.specs.Frames.{IsFrame, sizes_in_force};
+ghost use Rattle.std.specs.Prelude.{◌≡◌};
+ghost use Rattle.printed_sizes.specs.Frames.{IsFrame};
+ghost use Rattle.printed_sizes.specs.FrameLengths as of;
 
 use crate::counts::plus;
 use crate::frame::Frame;
@@ -11,7 +10,7 @@ use plan_model::{Atom, Term};
 
 /// The length of the word of the k-th variable in force.
 fn variable_size(frame: &Frame<'_>, scope: &Scope<'_>, k: u32) -> u64
-    ensures { result ≡ capped (get_or (sizes_in_force frame.now.compiled.now scope.now) k 0) }
+    ensures { result ≡ of.variable_length frame.now scope.now k }
 {
     match scope.find(k as usize) {
         Ok(param) => own_size(frame.compiled, param.name),
@@ -21,7 +20,7 @@ fn variable_size(frame: &Frame<'_>, scope: &Scope<'_>, k: u32) -> u64
 
 /// The length of a term behind a space.
 pub(crate) fn term_size(frame: &Frame<'_>, scope: &Scope<'_>, term: Term) -> u64
-    ensures { result ≡ capped (spec.term_size frame.now.compiled.now frame.now.slots (sizes_in_force frame.now.compiled.now scope.now) term) }
+    ensures { result ≡ of.term_length frame.now scope.now term }
 {
     match term {
         Term::Var(k) => plus(2, variable_size(frame, scope, k)),
@@ -31,7 +30,7 @@ pub(crate) fn term_size(frame: &Frame<'_>, scope: &Scope<'_>, term: Term) -> u64
 
 /// The length of terms, each behind a space.
 pub(crate) fn terms_size(frame: &Frame<'_>, scope: &Scope<'_>, terms: &[Term]) -> u64
-    ensures { result ≡ capped (sum_by (spec.term_size frame.now.compiled.now frame.now.slots (sizes_in_force frame.now.compiled.now scope.now)) terms.now) }
+    ensures { result ≡ of.terms_length frame.now scope.now terms.now }
 {
     let mut total: u64 = 0;
     for term in terms {
@@ -43,7 +42,7 @@ pub(crate) fn terms_size(frame: &Frame<'_>, scope: &Scope<'_>, terms: &[Term]) -
 /// The length of a predicate with its terms behind a space.
 pub(crate) fn atom_size(frame: &Frame<'_>, scope: &Scope<'_>, atom: &Atom) -> u64
     requires { IsFrame frame.now }
-    ensures { result ≡ capped (spec.atom_size frame.now.compiled.now frame.now.slots (sizes_in_force frame.now.compiled.now scope.now) atom.now.predicate atom.now.args) }
+    ensures { result ≡ of.atom_length frame.now scope.now atom.now }
 {
     let head = plus(3, head_size(frame, atom.predicate));
     plus(head, terms_size(frame, scope, atom.args.as_slice()))

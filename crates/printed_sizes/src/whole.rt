@@ -1,12 +1,12 @@
-ghost use Rattle.std.specs.Prelude.{◌≡◌, length, sum_by, IfOk};
+ghost use Rattle.std.specs.Prelude.{◌≡◌, IfOk};
 ghost use Rattle.plan_model.specs.Parts.{AreListed};
 ghost use Rattle.slot_encoding.specs.EncodedNames as names;
 ghost use Rattle.printed_sizes.specs.AreSizes.{AreSizesOf};
 ghost use Rattle.printed_sizes.specs.Capped.{capped};
-ghost use Rattle.printed_sizes.specs.Domains as spec;
-ghost use Rattle.printed_sizes.specs.Methods as lines;
 ghost use Rattle.printed_sizes.specs.Sections as sections;
 ghost use Rattle.printed_sizes.specs.Frames.{IsFrame};
+ghost use Rattle.printed_sizes.specs.FrameLengths as of;
+ghost use Rattle.printed_sizes.specs.MethodLengths as lines;
 
 use crate::counts::{all_digits, plus};
 use crate::frame::Frame;
@@ -45,7 +45,7 @@ fn sizes_of(alloc: Global, frame: &Frame<'_>, types: &[u32]) -> Result<Sizes, Me
     requires frame { IsFrame frame.now }
     requires listed { AreListed frame.now.compiled.now.hddl.types }
     requires types { types.now ≡ names.guard_types frame.now.compiled.now }
-    ensures { IfOk result (λ s. AreSizesOf frame.now.compiled.now frame.now.slots frame.now.style s) }
+    ensures { IfOk result (of.AreLengths frame.now) }
 {
     let domain = domain_size(frame, types)?;
     let problem = problem_size(alloc, frame, types)?;
@@ -55,7 +55,7 @@ fn sizes_of(alloc: Global, frame: &Frame<'_>, types: &[u32]) -> Result<Sizes, Me
 fn domain_size(frame: &Frame<'_>, types: &[u32]) -> Result<u64, Memory>
     requires frame { IsFrame frame.now }
     requires types { types.now ≡ names.guard_types frame.now.compiled.now }
-    ensures { IfOk result (λ size. size ≡ capped (spec.domain_size frame.now.compiled.now frame.now.slots frame.now.style)) }
+    ensures { IfOk result (λ size. size ≡ of.domain_length frame.now) }
 {
     let predicates = predicates_size(frame.compiled, types)?;
     let actions = actions_size(frame)?;
@@ -66,8 +66,8 @@ fn domain_size(frame: &Frame<'_>, types: &[u32]) -> Result<u64, Memory>
 fn sections_size(frame: &Frame<'_>, predicates: u64, actions: u64) -> u64
     requires frame { IsFrame frame.now }
     requires predicates { predicates ≡ capped (sections.predicates_size frame.now.compiled.now) }
-    requires actions { actions ≡ capped (spec.actions_size frame.now.compiled.now frame.now.slots frame.now.style) }
-    ensures { result ≡ capped (spec.domain_size frame.now.compiled.now frame.now.slots frame.now.style) }
+    requires actions { actions ≡ of.actions_length frame.now }
+    ensures { result ≡ of.domain_length frame.now }
 {
     let named = plus(81, own_size(frame.compiled, frame.compiled.hddl.domain));
     let typed = plus(named, parents_size(frame.compiled));
@@ -79,7 +79,7 @@ fn sections_size(frame: &Frame<'_>, predicates: u64, actions: u64) -> u64
 /// The length of the lines of all actions.
 fn actions_size(frame: &Frame<'_>) -> Result<u64, Memory>
     requires { IsFrame frame.now }
-    ensures { IfOk result (λ size. size ≡ capped (spec.actions_size frame.now.compiled.now frame.now.slots frame.now.style)) }
+    ensures { IfOk result (λ size. size ≡ of.actions_length frame.now) }
 {
     let methods = methods_size(frame, frame.compiled.methods.as_slice())?;
     Ok(all_actions_size(frame, methods))
@@ -87,8 +87,8 @@ fn actions_size(frame: &Frame<'_>) -> Result<u64, Memory>
 
 fn all_actions_size(frame: &Frame<'_>, methods: u64) -> u64
     requires frame { IsFrame frame.now }
-    requires methods { methods ≡ capped (lines.methods_size frame.now.compiled.now frame.now.slots frame.now.style 0 frame.now.compiled.now.methods) }
-    ensures { result ≡ capped (spec.actions_size frame.now.compiled.now frame.now.slots frame.now.style) }
+    requires methods { methods ≡ lines.methods_length frame.now frame.now.compiled.now.methods }
+    ensures { result ≡ of.actions_length frame.now }
 {
     let checks = checks_size(frame, frame.compiled.methods.as_slice());
     let source = source_actions_size(frame, frame.compiled.hddl.actions.as_slice());

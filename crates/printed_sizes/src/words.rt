@@ -3,6 +3,7 @@ ghost use Rattle.htn_base.specs.Escapes.{escaped, slot_word};
 ghost use Rattle.printed_sizes.specs.Capped.{capped};
 ghost use Rattle.printed_sizes.specs.Words as spec;
 ghost use Rattle.printed_sizes.specs.Frames.{IsFrame};
+ghost use Rattle.printed_sizes.specs.FrameLengths as of;
 
 use crate::counts::{digits, plus};
 use crate::frame::Frame;
@@ -40,7 +41,7 @@ pub(crate) fn slot_size(k: u32) -> u64
 
 /// The length of the printed word of an object, which may be a slot.
 pub(crate) fn object_size(frame: &Frame<'_>, object: u32) -> u64
-    ensures { result ≡ capped (spec.object_size frame.now.compiled.now frame.now.slots object) }
+    ensures { result ≡ of.object_length frame.now object }
 {
     let objects = &frame.compiled.hddl.objects;
     match objects.get(object as usize) {
@@ -51,7 +52,7 @@ pub(crate) fn object_size(frame: &Frame<'_>, object: u32) -> u64
 
 /// The length of the word of the slot at this place, counted from 0; 0 past the last one.
 fn slot_object_size(frame: &Frame<'_>, place: usize) -> u64
-    ensures { result ≡ capped (spec.slot_size frame.now.slots place) }
+    ensures { result ≡ of.slot_length frame.now place }
 {
     if place < frame.slots as usize {
         slot_size(place as u32 + 1)
@@ -63,7 +64,7 @@ fn slot_object_size(frame: &Frame<'_>, place: usize) -> u64
 /// The length of the printed word of a predicate.
 pub(crate) fn head_size(frame: &Frame<'_>, predicate: u32) -> u64
     requires { IsFrame frame.now }
-    ensures { result ≡ capped (spec.head_size frame.now.compiled.now predicate) }
+    ensures { result ≡ of.head_length frame.now predicate }
 {
     match frame.heads.get(predicate as usize) {
         Some(size) => *size,

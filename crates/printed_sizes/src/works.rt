@@ -1,6 +1,7 @@
-ghost use Rattle.std.specs.Prelude.{◌≡◌, ◌+◌, ℕ, sum_by};
-ghost use Rattle.printed_sizes.specs.Capped.{capped};
-ghost use Rattle.printed_sizes.specs.Works as spec;
+ghost use Rattle.std.specs.Prelude.{◌≡◌, ℕ};
+ghost use Rattle.printed_sizes.specs.Capped.{capped, IsFromThree, IsFromFour};
+ghost use Rattle.printed_sizes.specs.FrameLengths as of;
+ghost use Rattle.printed_sizes.specs.FrameLengths.{work_length};
 ghost use Rattle.printed_sizes.specs.Frames.{IsFrame};
 
 use crate::conditions::{change_size, condition_size};
@@ -14,7 +15,7 @@ use plan_model::{ActionSchema, Formula, MethodPlan, Param};
 
 /// The length of the line of an action, by those of its name, parameters, condition and effect.
 pub(crate) fn line_size(name: u64, params: u64, pre: u64, change: u64) -> u64
-    ensures { (n p q r : ℕ) → name ≡ capped n → params ≡ capped p → pre ≡ capped q → change ≡ capped r → result ≡ capped (46 + n + p + q + r) }
+    ensures { IsFromFour of.line_length name params pre change result }
 {
     let named = plus(46, name);
     let listed = plus(named, params);
@@ -24,7 +25,7 @@ pub(crate) fn line_size(name: u64, params: u64, pre: u64, change: u64) -> u64
 
 /// The length of variables, each behind a space.
 fn arguments_size(frame: &Frame<'_>, params: &[Param]) -> u64
-    ensures { result ≡ capped (sum_by (spec.argument_size frame.now.compiled.now frame.now.slots frame.now.style) params.now) }
+    ensures { result ≡ of.arguments_length frame.now params.now }
 {
     let mut total: u64 = 0;
     for param in params {
@@ -36,7 +37,7 @@ fn arguments_size(frame: &Frame<'_>, params: &[Param]) -> u64
 
 /// The length of what a slot holds, by that of its word.
 fn held_size(frame: &Frame<'_>, head: u64, params: &[Param]) -> u64
-    ensures { (h : ℕ) → head ≡ capped h → result ≡ capped (spec.held_size frame.now.compiled.now frame.now.slots frame.now.style h params.now) }
+    ensures { (h : ℕ) → head ≡ capped h → result ≡ of.held_length frame.now params.now h }
 {
     let start = plus(10, head);
     plus(start, arguments_size(frame, params))
@@ -45,7 +46,7 @@ fn held_size(frame: &Frame<'_>, head: u64, params: &[Param]) -> u64
 /// The length of what says that what is held goes and its slot is free.
 pub(crate) fn freeing_size(frame: &Frame<'_>, held: u64) -> u64
     requires { IsFrame frame.now }
-    ensures { (h : ℕ) → held ≡ capped h → result ≡ capped (spec.freeing_size frame.now.compiled.now frame.now.slots frame.now.style h) }
+    ensures { (h : ℕ) → held ≡ capped h → result ≡ of.freeing_length frame.now h }
 {
     let start = plus(24, held);
     plus(start, clearing_size(frame))
@@ -62,7 +63,7 @@ fn work_size(
     change: u64,
 ) -> u64
     requires { IsFrame frame.now }
-    ensures { (w h n : ℕ) → name ≡ capped w → head ≡ capped h → change ≡ capped n → result ≡ capped (spec.work_size frame.now.compiled.now frame.now.slots frame.now.style w h params.now condition.now n) }
+    ensures { IsFromThree (work_length frame.now params.now condition.now) name head change result }
 {
     let scope = Scope::Within(&Scope::Empty, params);
     let held = held_size(frame, head, params);
@@ -78,7 +79,7 @@ fn work_size(
 /// The length of the line of a source action's action.
 fn source_action_size(frame: &Frame<'_>, action: &ActionSchema) -> u64
     requires { IsFrame frame.now }
-    ensures { result ≡ capped (spec.source_action_size frame.now.compiled.now frame.now.slots frame.now.style action.now) }
+    ensures { result ≡ of.source_action_length frame.now action.now }
 {
     let params = action.params.as_slice();
     let name = own_size(frame.compiled, action.name);
@@ -91,7 +92,7 @@ fn source_action_size(frame: &Frame<'_>, action: &ActionSchema) -> u64
 /// The length of the line of a check's action.
 fn check_size(frame: &Frame<'_>, plan: &MethodPlan) -> u64
     requires { IsFrame frame.now }
-    ensures { result ≡ capped (spec.check_size frame.now.compiled.now frame.now.slots frame.now.style plan.now) }
+    ensures { result ≡ of.check_length frame.now plan.now }
 {
     let name = plus(6, own_size(frame.compiled, plan.schema.name));
     work_size(
@@ -106,7 +107,7 @@ fn check_size(frame: &Frame<'_>, plan: &MethodPlan) -> u64
 
 fn if_checked_size(frame: &Frame<'_>, plan: &MethodPlan) -> u64
     requires { IsFrame frame.now }
-    ensures { result ≡ capped (spec.if_checked_size frame.now.compiled.now frame.now.slots frame.now.style plan.now) }
+    ensures { result ≡ of.if_checked_length frame.now plan.now }
 {
     if plan.checked {
         check_size(frame, plan)
@@ -118,7 +119,7 @@ fn if_checked_size(frame: &Frame<'_>, plan: &MethodPlan) -> u64
 /// The length of the lines of the source actions' actions.
 pub(crate) fn source_actions_size(frame: &Frame<'_>, actions: &[ActionSchema]) -> u64
     requires { IsFrame frame.now }
-    ensures { result ≡ capped (sum_by (spec.source_action_size frame.now.compiled.now frame.now.slots frame.now.style) actions.now) }
+    ensures { result ≡ of.source_actions_length frame.now actions.now }
 {
     let mut total: u64 = 0;
     for action in actions {
@@ -130,7 +131,7 @@ pub(crate) fn source_actions_size(frame: &Frame<'_>, actions: &[ActionSchema]) -
 /// The length of the lines of the checks' actions.
 pub(crate) fn checks_size(frame: &Frame<'_>, methods: &[MethodPlan]) -> u64
     requires { IsFrame frame.now }
-    ensures { result ≡ capped (sum_by (spec.if_checked_size frame.now.compiled.now frame.now.slots frame.now.style) methods.now) }
+    ensures { result ≡ of.checks_length frame.now methods.now }
 {
     let mut total: u64 = 0;
     for plan in methods {

@@ -2,10 +2,9 @@
 use Rattle.std.proofs.Common.{ℕ, zero, suc, ◌≡◌, ◌+◌, ◌-◌, ◌<◌, ◌≤◌, Bool, true, false, cond, List, [], ◌∷◌, ◌++◌, map, drop, length, get_or, refl, ap, sym, ◌∙◌, arith, append_assoc, Option}
 use Rattle.std.proofs.lemmas.List.{append-nil}
 use Rattle.task_networks.specs.Spelling.{numbers, is_heir}
-use Rattle.plan_model.specs.declared.terms.Term.TheVariants.{Var}
 use Rattle.plan_model.specs.declared.formulas.Formula.{Formula}
-use Rattle.plan_model.specs.declared.formulas.Formula.TheVariants.{Not, Equal}
 use Rattle.slot_encoding.specs.EncodedActions.{slot_vars, differ}
+use Rattle.slot_encoder.specs.Pieces.{unequal_to}
 
 drop_next : {X : Type 0} (xs : List X) (i : ℕ) (d : X) → i < length xs → drop i xs ≡ get_or xs i d ∷ drop (i + 1) xs
 drop_next [] i d l = absurd (omega arith)
@@ -48,9 +47,6 @@ slots_next heir i new n old now next then l e g h =
     ∙ e
 
 -- a slot differs from those after it
-abbrev pub unequal_to : ℕ → ℕ → Formula
-unequal_to v u = Not (Equal (Var v) (Var u))
-
 pub differ_next : (i n : ℕ) (old now next : List Formula) → i < n → now ++ differ (numbers (1 + i) (n - i)) ≡ old
     → next ≡ now ++ map (unequal_to (1 + i)) (numbers (i + 2) (n - 1 - i)) → next ++ differ (numbers (1 + (i + 1)) (n - (i + 1))) ≡ old
 differ_next i n old now next l e g =

@@ -8,50 +8,41 @@ use Rattle.plan_model.specs.declared.schemas.ActionSchema.{ActionSchema}
 use Rattle.plan_model.specs.declared.effects.Effect.TheVariants as E
 use Rattle.slot_encoding.specs.SourceParts.{source_word}
 use Rattle.slot_encoder.proofs.Numbered.{drop_past}
-use Rattle.plan_model.specs.declared.options.Style.{Style}
 use Rattle.plan_model.specs.declared.networks.Child.{Child}
 use Rattle.plan_model.specs.declared.effects.Effect.{Effect}
 use Rattle.plan_model.specs.declared.schemas.MethodPlan.{MethodPlan}
-use Rattle.plan_model.specs.declared.values.Compiled.{Compiled}
 use Rattle.slot_encoding.specs.EncodedNames.{check_predicate}
 use Rattle.slot_encoding.specs.EncodedActions as spec
-use Rattle.slot_encoder.specs.Pieces.{child_atom, child_atoms, split, method_change}
+use Rattle.slot_encoder.specs.Made as made
+use Rattle.slot_encoder.specs.declared.frame.Frame.{Frame}
 
-module _ (c : Compiled) (names : List (List ℕ)) (b : ℕ) (style : Style) (m : ℕ) (plan : MethodPlan) where
-  child_atom-is : (v : ℕ) (child : Child) → child_atom c names (spec.front c names b style 0 plan) (check_predicate c m) v child ≡ spec.child_atom c names b style m plan v child
-  child_atom-is v child = refl
-
-  child_atoms-is : (vs : List ℕ) (children : List Child) → child_atoms c names (spec.front c names b style 0 plan) (check_predicate c m) vs children ≡ spec.child_atoms c names b style m plan vs children
-  child_atoms-is [] children = refl
-  child_atoms-is (v ∷ vs) [] = refl
-  child_atoms-is (v ∷ vs) (child ∷ children) = ap (λ rest. spec.child_atom c names b style m plan v child ∷ rest) (child_atoms-is vs children)
-
-  split-is : split c names b style (check_predicate c m) plan ≡ spec.splitting c names b style m plan
+module _ (f : Frame) (m : ℕ) (plan : MethodPlan) where
+  split-is : made.split f (check_predicate f.compiled.now m) plan ≡ spec.splitting f.compiled.now f.printed.now f.slots f.style m plan
   split-is = refl
 
-  method_change-is : (children : List Child) → method_change c names b style (check_predicate c m) plan children ≡ spec.method_eff c names b style m plan children
+  method_change-is : (children : List Child) → made.method_change f (check_predicate f.compiled.now m) plan children ≡ spec.method_eff f.compiled.now f.printed.now f.slots f.style m plan children
   method_change-is [] = refl
   method_change-is (child ∷ children) = split-is
 
   -- at the predicate of the method's check
-  pub method_change-at : (check : ℕ) (children : List Child) → check ≡ check_predicate c m → method_change c names b style check plan children ≡ spec.method_eff c names b style m plan children
-  method_change-at check children e = ap (λ k. method_change c names b style k plan children) e ∙ method_change-is children
+  pub method_change-at : (check : ℕ) (children : List Child) → check ≡ check_predicate f.compiled.now m → made.method_change f check plan children ≡ spec.method_eff f.compiled.now f.printed.now f.slots f.style m plan children
+  method_change-at check children e = ap (λ k. made.method_change f k plan children) e ∙ method_change-is children
 
 -- a list of children that has come to its end adds nothing
-pub children_done : (c : Compiled) (names : List (List ℕ)) (front check : ℕ) (slots : List ℕ) (children : List Child) (i : ℕ) (now old : List Effect) → length children ≤ i
-    → now ++ map E.Add (child_atoms c names front check (drop i slots) (drop i children)) ≡ old → now ≡ old
-children_done c names front check slots children i now old l e =
-    sym (append-nil now) ∙ ap (λ z. now ++ map E.Add z) (sym (ap (child_atoms c names front check (drop i slots)) (drop_past children i l) ∙ none (drop i slots))) ∙ e
+pub children_done : (f : Frame) (front check : ℕ) (slots : List ℕ) (children : List Child) (i : ℕ) (now old : List Effect) → length children ≤ i
+    → now ++ map E.Add (made.child_atoms f front check (drop i slots) (drop i children)) ≡ old → now ≡ old
+children_done f front check slots children i now old l e =
+    sym (append-nil now) ∙ ap (λ z. now ++ map E.Add z) (sym (ap (made.child_atoms f front check (drop i slots)) (drop_past children i l) ∙ none (drop i slots))) ∙ e
   where
-    none : (vs : List ℕ) → child_atoms c names front check vs [] ≡ []
+    none : (vs : List ℕ) → made.child_atoms f front check vs [] ≡ []
     none [] = refl
     none (v ∷ vs) = refl
 
-module _ (c : Compiled) (names : List (List ℕ)) (b : ℕ) (style : Style) (i : ℕ) (plan : MethodPlan) where
-  pub method_word_first : (m : ℕ) → m ≡ 0 → spec.method_word c names b style i plan m ≡ codes "htn_start"
-  method_word_first m e = ap (spec.method_word c names b style i plan) e
+module _ (f : Frame) (i : ℕ) (plan : MethodPlan) where
+  pub method_word_first : (m : ℕ) → m ≡ 0 → spec.method_word f.compiled.now f.printed.now f.slots f.style i plan m ≡ codes "htn_start"
+  method_word_first m e = ap (spec.method_word f.compiled.now f.printed.now f.slots f.style i plan) e
 
-  pub method_word_later : (m : ℕ) → 0 < m → spec.method_word c names b style i plan m ≡ codes "htn_m_" ++ source_word c.hddl.names plan.schema.name
+  pub method_word_later : (m : ℕ) → 0 < m → spec.method_word f.compiled.now f.printed.now f.slots f.style i plan m ≡ codes "htn_m_" ++ source_word f.compiled.now.hddl.names plan.schema.name
   method_word_later zero l = absurd (omega arith)
   method_word_later (suc m) l = refl
 

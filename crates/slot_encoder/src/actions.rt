@@ -1,7 +1,6 @@
 ghost use Rattle.std.specs.Prelude.{◌≡◌, ◌++◌, IfOk, OnOk};
-ghost use Rattle.slot_encoding.specs.EncodedValue as spec;
 ghost use Rattle.slot_encoder.specs.Frames.{IsFrame};
-ghost use Rattle.slot_encoder.specs.Pieces.{check_action, if_checked};
+ghost use Rattle.slot_encoder.specs.Made as made;
 
 use crate::frame::Frame;
 use crate::methods::encoded_method;
@@ -17,7 +16,7 @@ pub(crate) fn encoded_actions(
     frame: &Frame<'_>,
 ) -> Result<List<ActionSchema>, Memory>
     requires { IsFrame frame.now }
-    ensures { IfOk result (λ actions. actions ≡ spec.encoded_actions frame.now.compiled.now frame.now.printed.now frame.now.slots frame.now.style) }
+    ensures { IfOk result (λ actions. actions ≡ made.all_actions frame.now) }
 {
     let methods = frame.compiled.methods.as_slice();
     let mut into = List::new(alloc);
@@ -40,7 +39,7 @@ fn push_methods(
 ) -> Result<(), Memory>
     requires frame { IsFrame frame.now }
     requires methods { methods.now ≡ frame.now.compiled.now.methods }
-    ensures { OnOk result (into.new ≡ into.old ++ spec.encoded_methods frame.now.compiled.now frame.now.printed.now frame.now.slots frame.now.style 0 methods.now) }
+    ensures { OnOk result (into.new ≡ into.old ++ made.method_actions frame.now methods.now) }
 {
     let mut m: u32 = 0;
     let mut check = frame.numbers.first_check;
@@ -60,7 +59,7 @@ fn push_checks(
 ) -> Result<(), Memory>
     requires frame { IsFrame frame.now }
     requires methods { methods.now ≡ frame.now.compiled.now.methods }
-    ensures { OnOk result (into.new ≡ into.old ++ spec.encoded_checks frame.now.compiled.now frame.now.printed.now frame.now.slots frame.now.style 0 methods.now) }
+    ensures { OnOk result (into.new ≡ into.old ++ made.check_actions frame.now methods.now) }
 {
     let mut check = frame.numbers.first_check;
     for plan in methods {
@@ -78,7 +77,7 @@ fn push_check(
     into: &mut List<ActionSchema>,
 ) -> Result<(), Memory>
     requires { IsFrame frame.now }
-    ensures { OnOk result (into.new ≡ into.old ++ if_checked plan.now (check_action frame.now.compiled.now frame.now.printed.now frame.now.slots frame.now.style check plan.now)) }
+    ensures { OnOk result (into.new ≡ into.old ++ made.checking_action frame.now check plan.now) }
 {
     if plan.checked {
         into.put(encoded_check(alloc, frame, check, plan))
@@ -94,7 +93,7 @@ fn push_source(
     into: &mut List<ActionSchema>,
 ) -> Result<(), Memory>
     requires { IsFrame frame.now }
-    ensures { OnOk result (into.new ≡ into.old ++ spec.encoded_source frame.now.compiled.now frame.now.printed.now frame.now.slots frame.now.style 0 actions.now) }
+    ensures { OnOk result (into.new ≡ into.old ++ made.source_actions frame.now actions.now) }
 {
     let mut a: u32 = 0;
     for action in actions {

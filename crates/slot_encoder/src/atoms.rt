@@ -1,12 +1,9 @@
-ghost use Rattle.std.specs.Prelude.{◌≡◌, ◌∷◌, ◌++◌, map, suc, IfOk, OnOk};
-ghost use Rattle.plan_model.specs.declared.terms.Term.{Term};
+ghost use Rattle.std.specs.Prelude.{◌≡◌, ◌++◌, map, IfOk, OnOk};
 ghost use Rattle.plan_model.specs.declared.terms.Term.TheVariants as T;
 ghost use Rattle.task_networks.specs.Spelling.{numbers};
-ghost use Rattle.slot_encoding.specs.SourceParts as parts;
-ghost use Rattle.slot_encoding.specs.OrderFormulas as order;
-ghost use Rattle.slot_encoding.specs.EncodedNames as names;
-ghost use Rattle.slot_encoding.specs.EncodedActions as spec;
 ghost use Rattle.slot_encoder.specs.Frames.{IsFrame};
+ghost use Rattle.slot_encoder.specs.Pieces.{held_work};
+ghost use Rattle.slot_encoder.specs.Made as made;
 
 use crate::frame::Frame;
 use crate::terms::push_moved;
@@ -17,7 +14,7 @@ use std::alloc::Global;
 /// The atom that the slot is free.
 pub(crate) fn is_free(alloc: Global, frame: &Frame<'_>, slot: u32) -> Result<Atom, Memory>
     requires { IsFrame frame.now }
-    ensures { IfOk result (λ a. a ≡ spec.is_free frame.now.compiled.now frame.now.printed.now frame.now.slots frame.now.style slot) }
+    ensures { IfOk result (λ a. a ≡ made.is_free frame.now slot) }
 {
     let mut args = List::new(alloc);
     args.push(Term::Var(slot))?;
@@ -35,7 +32,7 @@ pub(crate) fn comes_before(
     then: u32,
 ) -> Result<Atom, Memory>
     requires { IsFrame frame.now }
-    ensures { IfOk result (λ a. a ≡ order.pair_of (names.order_numbers frame.now.compiled.now frame.now.printed.now frame.now.slots) frame.now.slots (T.Var first) (T.Var then)) }
+    ensures { IfOk result (λ a. a ≡ made.comes_before frame.now first then) }
 {
     let mut args = List::new(alloc);
     args.push(Term::Var(first))?;
@@ -55,7 +52,7 @@ pub(crate) fn held(
     front: u32,
     terms: &[Term],
 ) -> Result<Atom, Memory>
-    ensures { IfOk result (λ a. a ≡ record { predicate = predicate; args = T.Var slot ∷ map (parts.moved frame.now.printed.now frame.now.compiled.now.hddl.names front) terms.now }) }
+    ensures { IfOk result (λ a. a ≡ made.held_atom frame.now predicate slot front terms.now) }
 {
     let mut args = List::new(alloc);
     args.push(Term::Var(slot))?;
@@ -65,7 +62,7 @@ pub(crate) fn held(
 
 /// The atom that the first slot holds a source action or a check, with its parameters.
 pub(crate) fn held_work(alloc: Global, predicate: u32, count: u32) -> Result<Atom, Memory>
-    ensures { IfOk result (λ a. a ≡ record { predicate = predicate; args = map T.Var (numbers 0 (suc count)) }) }
+    ensures { IfOk result (λ a. a ≡ held_work predicate count) }
 {
     let mut args = List::new(alloc);
     args.push(Term::Var(0))?;

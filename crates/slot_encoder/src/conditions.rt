@@ -1,7 +1,6 @@
 ghost use Rattle.std.specs.Prelude.{◌≡◌, ◌++◌, OnOk};
-ghost use Rattle.slot_encoding.specs.EncodedActions as spec;
 ghost use Rattle.slot_encoder.specs.Frames.{IsFrame};
-ghost use Rattle.slot_encoder.specs.Pieces.{cleared};
+ghost use Rattle.slot_encoder.specs.Made as made;
 
 use crate::effects::source_effect;
 use crate::formulas::source_formula;
@@ -20,7 +19,7 @@ pub(crate) fn push_condition(
     condition: &Formula,
     into: &mut List<Formula>,
 ) -> Result<(), Memory>
-    ensures { OnOk result (into.new ≡ into.old ++ spec.source_condition frame.now.compiled.now frame.now.printed.now frame.now.slots frame.now.style front condition.now) }
+    ensures { OnOk result (into.new ≡ into.old ++ made.condition frame.now front condition.now) }
 {
     if is_empty(condition) {
         Ok(())
@@ -37,7 +36,7 @@ pub(crate) fn push_change(
     effect: &Effect,
     into: &mut List<Effect>,
 ) -> Result<(), Memory>
-    ensures { OnOk result (into.new ≡ into.old ++ spec.source_change frame.now.compiled.now frame.now.printed.now frame.now.slots frame.now.style front effect.now) }
+    ensures { OnOk result (into.new ≡ into.old ++ made.change frame.now front effect.now) }
 {
     if is_empty_effect(effect) {
         Ok(())
@@ -54,7 +53,7 @@ pub(crate) fn push_waits(
     into: &mut List<Formula>,
 ) -> Result<(), Memory>
     requires { IsFrame frame.now }
-    ensures { OnOk result (into.new ≡ into.old ++ spec.waiting frame.now.compiled.now frame.now.printed.now frame.now.slots frame.now.style depth) }
+    ensures { OnOk result (into.new ≡ into.old ++ made.waiting frame.now depth) }
 {
     push_waiting(
         alloc,
@@ -75,7 +74,7 @@ pub(crate) fn push_clears(
     into: &mut List<Effect>,
 ) -> Result<(), Memory>
     requires { IsFrame frame.now }
-    ensures { OnOk result (into.new ≡ into.old ++ cleared frame.now.compiled.now frame.now.printed.now frame.now.slots frame.now.style depth) }
+    ensures { OnOk result (into.new ≡ into.old ++ made.cleared frame.now depth) }
 {
     push_clearing(
         alloc,

@@ -1,8 +1,7 @@
 ghost use Rattle.std.specs.Prelude.{◌≡◌, ◌+◌, ◌≤◌, ◌^◌, ◌++◌, map, IfOk, OnOk};
-ghost use Rattle.plan_model.specs.declared.terms.Term.TheVariants as T;
-ghost use Rattle.plan_model.specs.declared.formulas.Formula.TheVariants as F;
 ghost use Rattle.task_networks.specs.Spelling.{numbers};
 ghost use Rattle.slot_encoding.specs.EncodedActions.{differ};
+ghost use Rattle.slot_encoder.specs.Pieces.{unequal_to};
 
 use crate::numbers::plus;
 use htn_base::{Boxed, List, Memory};
@@ -32,7 +31,7 @@ fn push_unequal(
     into: &mut List<Formula>,
 ) -> Result<(), Memory>
     requires { first + count ≤ 2 ^ 32 }
-    ensures { OnOk result (into.new ≡ into.old ++ map (λ u. F.Not (F.Equal (T.Var slot) (T.Var u))) (numbers first count)) }
+    ensures { OnOk result (into.new ≡ into.old ++ map (unequal_to slot) (numbers first count)) }
 {
     for k in 0..count {
         into.put(unequal(alloc, slot, first + k))?;
@@ -41,7 +40,7 @@ fn push_unequal(
 }
 
 fn unequal(alloc: Global, slot: u32, other: u32) -> Result<Formula, Memory>
-    ensures { IfOk result (λ f. f ≡ F.Not (F.Equal (T.Var slot) (T.Var other))) }
+    ensures { IfOk result (λ f. f ≡ unequal_to slot other) }
 {
     let equal = Formula::Equal(Term::Var(slot), Term::Var(other));
     Ok(Formula::Not(Boxed::new(alloc, equal)?))

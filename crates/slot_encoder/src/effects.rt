@@ -1,5 +1,5 @@
 ghost use Rattle.std.specs.Prelude.{◌≡◌, map, IfOk};
-ghost use Rattle.slot_encoding.specs.SourceParts as spec;
+ghost use Rattle.slot_encoder.specs.Made as made;
 
 use crate::formulas::source_formula;
 use crate::frame::Frame;
@@ -16,7 +16,7 @@ pub(crate) fn source_effect(
     front: u32,
     effect: &Effect,
 ) -> Result<Effect, Memory>
-    ensures { IfOk result (λ e. e ≡ spec.source_effect frame.now.printed.now frame.now.compiled.now.hddl.names front effect.now) }
+    ensures { IfOk result (λ e. e ≡ made.effect frame.now front effect.now) }
 {
     match effect {
         Effect::Add(atom) => Ok(Effect::Add(source_atom(alloc, frame, front, atom)?)),
@@ -40,7 +40,7 @@ fn boxed(
     front: u32,
     effect: &Boxed<Effect>,
 ) -> Result<Boxed<Effect>, Memory>
-    ensures { IfOk result (λ e. e ≡ spec.source_effect frame.now.printed.now frame.now.compiled.now.hddl.names front effect.now) }
+    ensures { IfOk result (λ e. e ≡ made.effect frame.now front effect.now) }
 {
     let part = source_effect(alloc, frame, front, effect.get())?;
     Boxed::new(alloc, part)
@@ -53,7 +53,7 @@ fn listed(
     front: u32,
     effects: &List<Effect>,
 ) -> Result<List<Effect>, Memory>
-    ensures { IfOk result (λ es. es ≡ map (spec.source_effect frame.now.printed.now frame.now.compiled.now.hddl.names front) effects.now) }
+    ensures { IfOk result (λ es. es ≡ map (made.effect frame.now front) effects.now) }
 {
     let parts = effects.as_slice();
     let mut moved = List::new(alloc);

@@ -4,7 +4,8 @@ ghost use Rattle.slot_encoding.specs.EncodedNames as names;
 ghost use Rattle.slot_encoding.specs.EncodedValue.{IsEncoded};
 ghost use Rattle.order_encoder.specs.Orders as orders;
 ghost use Rattle.slot_encoding.specs.EncodedWords.{HasEncodedWords};
-ghost use Rattle.slot_encoder.specs.Frames.{IsFrame, AreDeclarations, IsBehaviour, AreEncoded};
+ghost use Rattle.slot_encoder.specs.Frames.{IsFrame, AreEncoded};
+ghost use Rattle.slot_encoder.specs.Made as made;
 ghost use Rattle.slot_encoder.specs.Vocabulary.{IsPrintableWhereSound};
 
 use crate::actions::encoded_actions;
@@ -102,7 +103,7 @@ fn value_of(
 
 fn order_of(c: &Compiled, printed: &NameTable, before: u32) -> Result<OrderNames, Memory>
     requires { before ≡ names.before_predicate c.now }
-    ensures { IfOk result (λ order. orders.numbers order ≡ names.order_numbers c.now printed.now 0) }
+    ensures { IfOk result (λ o. orders.numbers o ≡ names.order_numbers c.now printed.now 0) }
 {
     Ok(OrderNames {
         before,
@@ -115,7 +116,7 @@ fn order_of(c: &Compiled, printed: &NameTable, before: u32) -> Result<OrderNames
 fn parts_of(alloc: Global, frame: &Frame<'_>) -> Result<Encoded, Memory>
     requires frame { IsFrame frame.now }
     requires listed { AreListed frame.now.compiled.now.hddl.types }
-    ensures { IfOk result (AreEncoded frame.now.compiled.now frame.now.printed.now frame.now.slots frame.now.style) }
+    ensures { IfOk result (made.AreEncoded frame.now) }
 {
     let hddl = &frame.compiled.hddl;
     let domain = renamed(alloc, frame, hddl.domain)?;
@@ -137,7 +138,7 @@ fn parts_of(alloc: Global, frame: &Frame<'_>) -> Result<Encoded, Memory>
 
 fn declarations_of(alloc: Global, frame: &Frame<'_>) -> Result<Declarations, Memory>
     requires { IsFrame frame.now }
-    ensures { IfOk result (AreDeclarations frame.now.compiled.now frame.now.printed.now frame.now.slots) }
+    ensures { IfOk result (made.AreDeclarations frame.now) }
 {
     let objects = encoded_objects(alloc, frame)?;
     let predicates = encoded_predicates(alloc, frame)?;
@@ -151,7 +152,7 @@ fn declarations_of(alloc: Global, frame: &Frame<'_>) -> Result<Declarations, Mem
 fn behaviour_of(alloc: Global, frame: &Frame<'_>) -> Result<Behaviour, Memory>
     requires frame { IsFrame frame.now }
     requires listed { AreListed frame.now.compiled.now.hddl.types }
-    ensures { IfOk result (IsBehaviour frame.now.compiled.now frame.now.printed.now frame.now.slots frame.now.style) }
+    ensures { IfOk result (made.IsBehaviour frame.now) }
 {
     let actions = encoded_actions(alloc, frame)?;
     let init = encoded_initial(alloc, frame)?;

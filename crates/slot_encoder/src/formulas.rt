@@ -1,5 +1,5 @@
 ghost use Rattle.std.specs.Prelude.{◌≡◌, map, IfOk};
-ghost use Rattle.slot_encoding.specs.SourceParts as spec;
+ghost use Rattle.slot_encoder.specs.Made as made;
 
 use crate::frame::Frame;
 use crate::terms::{moved, source_atom, source_params};
@@ -15,7 +15,7 @@ pub(crate) fn source_formula(
     front: u32,
     formula: &Formula,
 ) -> Result<Formula, Memory>
-    ensures { IfOk result (λ f. f ≡ spec.source_formula frame.now.printed.now frame.now.compiled.now.hddl.names front formula.now) }
+    ensures { IfOk result (λ f. f ≡ made.formula frame.now front formula.now) }
 {
     match formula {
         Formula::Holds(atom) => Ok(Formula::Holds(source_atom(alloc, frame, front, atom)?)),
@@ -48,7 +48,7 @@ fn boxed(
     front: u32,
     formula: &Boxed<Formula>,
 ) -> Result<Boxed<Formula>, Memory>
-    ensures { IfOk result (λ f. f ≡ spec.source_formula frame.now.printed.now frame.now.compiled.now.hddl.names front formula.now) }
+    ensures { IfOk result (λ f. f ≡ made.formula frame.now front formula.now) }
 {
     let part = source_formula(alloc, frame, front, formula.get())?;
     Boxed::new(alloc, part)
@@ -61,7 +61,7 @@ fn listed(
     front: u32,
     formulas: &List<Formula>,
 ) -> Result<List<Formula>, Memory>
-    ensures { IfOk result (λ fs. fs ≡ map (spec.source_formula frame.now.printed.now frame.now.compiled.now.hddl.names front) formulas.now) }
+    ensures { IfOk result (λ fs. fs ≡ map (made.formula frame.now front) formulas.now) }
 {
     let parts = formulas.as_slice();
     let mut moved = List::new(alloc);

@@ -1,10 +1,6 @@
-ghost use Rattle.std.specs.Prelude.{◌≡◌, ◌+◌, ◌++◌, ◌<◌, ◌≤◌, ◌^◌, ◌∷◌, [], map, IfOk, OnOk};
-ghost use Rattle.task_networks.specs.Spelling.{numbers};
-ghost use Rattle.plan_model.specs.declared.formulas.Formula.TheVariants as F;
-ghost use Rattle.slot_encoding.specs.OrderFormulas.{free_parts};
-ghost use Rattle.slot_encoding.specs.EncodedNames as names;
+ghost use Rattle.std.specs.Prelude.{◌≡◌, ◌+◌, ◌++◌, ◌≤◌, ◌^◌, IfOk, OnOk};
 ghost use Rattle.slot_encoder.specs.Frames.{IsFrame};
-ghost use Rattle.slot_encoder.specs.Pieces.{all_slots_free, slot_free, encoded_goal};
+ghost use Rattle.slot_encoder.specs.Made as made;
 
 use crate::conditions::push_condition;
 use crate::frame::Frame;
@@ -16,7 +12,7 @@ use std::alloc::Global;
 /// The source goal, and every slot free.
 pub(crate) fn goal_of(alloc: Global, frame: &Frame<'_>) -> Result<Formula, Memory>
     requires { IsFrame frame.now }
-    ensures { IfOk result (λ f. f ≡ encoded_goal frame.now.compiled.now frame.now.printed.now frame.now.slots frame.now.style) }
+    ensures { IfOk result (λ f. f ≡ made.goal frame.now) }
 {
     let mut into = List::new(alloc);
     push_condition(alloc, frame, 0, &frame.compiled.hddl.goal, &mut into)?;
@@ -26,7 +22,7 @@ pub(crate) fn goal_of(alloc: Global, frame: &Frame<'_>) -> Result<Formula, Memor
 
 fn push_all_free(alloc: Global, frame: &Frame<'_>, into: &mut List<Formula>) -> Result<(), Memory>
     requires { IsFrame frame.now }
-    ensures { OnOk result (into.new ≡ into.old ++ free_parts (names.order_numbers frame.now.compiled.now frame.now.printed.now frame.now.slots) frame.now.slots 0 frame.now.style (names.free_predicate frame.now.compiled.now)) }
+    ensures { OnOk result (into.new ≡ into.old ++ made.slots_free frame.now) }
 {
     match frame.style {
         Style::Adl => into.put(any_free(alloc, frame)),
@@ -36,7 +32,7 @@ fn push_all_free(alloc: Global, frame: &Frame<'_>, into: &mut List<Formula>) -> 
 
 fn any_free(alloc: Global, frame: &Frame<'_>) -> Result<Formula, Memory>
     requires { IsFrame frame.now }
-    ensures { IfOk result (λ f. f ≡ all_slots_free frame.now.compiled.now frame.now.printed.now) }
+    ensures { IfOk result (λ f. f ≡ made.any_slot_free frame.now) }
 {
     let mut params = List::new(alloc);
     params.push(slot_param(frame.order.x))?;
@@ -53,7 +49,7 @@ fn push_each_free(
 ) -> Result<(), Memory>
     requires frame { IsFrame frame.now }
     requires room { first + count ≤ 2 ^ 32 }
-    ensures { OnOk result (into.new ≡ into.old ++ map (slot_free frame.now.compiled.now) (numbers first count)) }
+    ensures { OnOk result (into.new ≡ into.old ++ made.each_free frame.now first count) }
 {
     for k in 0..count {
         into.put(free(alloc, frame, Term::Obj(first + k)))?;
@@ -63,7 +59,7 @@ fn push_each_free(
 
 fn free(alloc: Global, frame: &Frame<'_>, slot: Term) -> Result<Formula, Memory>
     requires { IsFrame frame.now }
-    ensures { IfOk result (λ f. f ≡ F.Holds (record { predicate = names.free_predicate frame.now.compiled.now; args = slot ∷ [] })) }
+    ensures { IfOk result (λ f. f ≡ made.free frame.now slot) }
 {
     let mut args = List::new(alloc);
     args.push(slot)?;

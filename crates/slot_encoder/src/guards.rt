@@ -1,7 +1,7 @@
 ghost use Rattle.std.specs.Prelude.{◌≡◌, ◌==◌, [], unwrap_or, position, slice_index_or, IfOk};
-ghost use Rattle.slot_encoding.specs.SourceParts as parts;
 ghost use Rattle.slot_encoding.specs.EncodedNames as spec;
 ghost use Rattle.slot_encoder.specs.Frames.{IsFrame};
+ghost use Rattle.slot_encoder.specs.Made as made;
 
 use crate::frame::Frame;
 use crate::numbers::plus;
@@ -12,7 +12,7 @@ use std::alloc::Global;
 
 /// The name of a guard's predicate.
 pub(crate) fn guard_name(alloc: Global, frame: &Frame<'_>, ty: u32) -> Result<Name, Memory>
-    ensures { IfOk result (λ n. n ≡ parts.name frame.now.printed.now (spec.guard_word frame.now.compiled.now frame.now.printed.now 0 ty)) }
+    ensures { IfOk result (λ n. n ≡ made.guard_name frame.now ty) }
 {
     let word = guard_word(alloc, frame.compiled, ty)?;
     Ok(named(frame, word.as_slice()))

@@ -1,10 +1,8 @@
-ghost use Rattle.std.specs.Prelude.{◌≡◌, ◌+◌, ◌-◌, ◌++◌, map, IfOk, OnOk};
-ghost use Rattle.task_networks.specs.Spelling.{numbers};
+ghost use Rattle.std.specs.Prelude.{◌≡◌, ◌++◌, map, IfOk, OnOk};
 ghost use Rattle.plan_model.specs.Parts.{AreListed};
-ghost use Rattle.plan_meaning.specs.Compilation.{once};
 ghost use Rattle.slot_encoding.specs.EncodedValue as spec;
 ghost use Rattle.slot_encoder.specs.Frames.{IsFrame};
-ghost use Rattle.slot_encoder.specs.Pieces.{slot_atom, AddsGuardAtoms, AddsMembers};
+ghost use Rattle.slot_encoder.specs.Made as made;
 
 use crate::frame::Frame;
 use crate::guards::guard_predicate;
@@ -19,7 +17,7 @@ use std::alloc::Global;
 pub(crate) fn encoded_initial(alloc: Global, frame: &Frame<'_>) -> Result<List<GroundAtom>, Memory>
     requires frame { IsFrame frame.now }
     requires listed { AreListed frame.now.compiled.now.hddl.types }
-    ensures { IfOk result (spec.IsInitial frame.now.compiled.now frame.now.printed.now frame.now.slots frame.now.style) }
+    ensures { IfOk result (made.IsInitial frame.now) }
 {
     let mut into = first_atoms(alloc, frame)?;
     push_guards(alloc, frame, frame.guard_types.as_slice(), &mut into)?;
@@ -28,7 +26,7 @@ pub(crate) fn encoded_initial(alloc: Global, frame: &Frame<'_>) -> Result<List<G
 
 fn first_atoms(alloc: Global, frame: &Frame<'_>) -> Result<List<GroundAtom>, Memory>
     requires { IsFrame frame.now }
-    ensures { IfOk result (λ atoms. atoms ≡ spec.first_atoms frame.now.compiled.now frame.now.printed.now frame.now.slots frame.now.style) }
+    ensures { IfOk result (λ atoms. atoms ≡ made.first_atoms frame.now) }
 {
     let mut into = List::new(alloc);
     into.put(atom(alloc, frame.numbers.top, frame.order.first_slot))?;
@@ -52,7 +50,7 @@ fn push_free(
     into: &mut List<GroundAtom>,
 ) -> Result<(), Memory>
     requires { IsFrame frame.now }
-    ensures { OnOk result (into.new ≡ into.old ++ map (slot_atom frame.now.compiled.now) (numbers 1 count)) }
+    ensures { OnOk result (into.new ≡ into.old ++ made.free_atoms frame.now count) }
 {
     for k in 0..count {
         into.put(free(alloc, frame, 1 + k))?;
@@ -62,7 +60,7 @@ fn push_free(
 
 fn free(alloc: Global, frame: &Frame<'_>, k: u32) -> Result<GroundAtom, Memory>
     requires { IsFrame frame.now }
-    ensures { IfOk result (λ a. a ≡ slot_atom frame.now.compiled.now k) }
+    ensures { IfOk result (λ a. a ≡ made.slot_atom frame.now k) }
 {
     let slot = plus(frame.order.first_slot, k)?;
     atom(alloc, frame.numbers.free, slot)
@@ -76,7 +74,7 @@ fn push_guards(
 ) -> Result<(), Memory>
     requires frame { IsFrame frame.now }
     requires listed { AreListed frame.now.compiled.now.hddl.types }
-    ensures { OnOk result (AddsGuardAtoms frame.now.compiled.now frame.now.printed.now frame.now.slots frame.now.style types.now into.old into.new) }
+    ensures { OnOk result (made.AddsGuardAtoms frame.now types.now into.old into.new) }
 {
     for ty in types {
         push_members(alloc, frame, *ty, into)?;
@@ -93,7 +91,7 @@ fn push_members(
 ) -> Result<(), Memory>
     requires frame { IsFrame frame.now }
     requires listed { AreListed frame.now.compiled.now.hddl.types }
-    ensures { OnOk result (AddsMembers frame.now.compiled.now ty into.old into.new) }
+    ensures { OnOk result (made.AddsMembers frame.now ty into.old into.new) }
 {
     let hddl = &frame.compiled.hddl;
     let predicate = guard_predicate(frame, ty)?;

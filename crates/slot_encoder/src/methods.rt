@@ -1,11 +1,8 @@
 ghost use Rattle.std.specs.Prelude.{◌≡◌, ◌++◌, map, IfOk, OnOk};
-ghost use Rattle.plan_model.specs.declared.formulas.Formula.TheVariants as F;
 ghost use Rattle.task_networks.specs.Spelling.{numbers};
-ghost use Rattle.slot_encoding.specs.SourceParts as parts;
 ghost use Rattle.slot_encoding.specs.EncodedNames as names;
-ghost use Rattle.slot_encoding.specs.EncodedActions as spec;
 ghost use Rattle.slot_encoder.specs.Frames.{IsFrame, AreVariables};
-ghost use Rattle.slot_encoder.specs.Pieces.{printed_constraint, printed_guard, new_slot, method_parameters, task_at_first, tested_parts};
+ghost use Rattle.slot_encoder.specs.Made as made;
 
 use crate::atoms::{held, is_free};
 use crate::conditions::{push_condition, push_waits};
@@ -32,7 +29,7 @@ pub(crate) fn encoded_method(
 ) -> Result<ActionSchema, Memory>
     requires frame { IsFrame frame.now }
     requires check { check ≡ names.check_predicate frame.now.compiled.now m }
-    ensures { IfOk result (λ a. a ≡ spec.encoded_method frame.now.compiled.now frame.now.printed.now frame.now.slots frame.now.style m plan.now) }
+    ensures { IfOk result (λ a. a ≡ made.method_action frame.now m plan.now) }
 {
     let name = method_name(alloc, frame, m, plan)?;
     let variables = variables_of(alloc, plan)?;
@@ -48,7 +45,7 @@ pub(crate) fn encoded_method(
 }
 
 fn method_name(alloc: Global, frame: &Frame<'_>, m: u32, plan: &MethodPlan) -> Result<Name, Memory>
-    ensures { IfOk result (λ n. n ≡ parts.name frame.now.printed.now (spec.method_word frame.now.compiled.now frame.now.printed.now frame.now.slots frame.now.style m plan.now m)) }
+    ensures { IfOk result (λ n. n ≡ made.method_name frame.now m plan.now) }
 {
     match m {
         0 => Ok(named(frame, b"htn_start")),
@@ -64,7 +61,7 @@ fn method_params(
     variables: &Variables,
 ) -> Result<List<Param>, Memory>
     requires { AreVariables plan.now variables.now }
-    ensures { IfOk result (λ ps. ps ≡ method_parameters frame.now.compiled.now frame.now.printed.now plan.now) }
+    ensures { IfOk result (λ ps. ps ≡ made.method_params frame.now plan.now) }
 {
     let mut into = List::new(alloc);
     into.push(slot_param(named(frame, b"htn_h")))?;
@@ -79,7 +76,7 @@ fn push_new_slots(
     spare: u32,
     into: &mut List<Param>,
 ) -> Result<(), Memory>
-    ensures { OnOk result (into.new ≡ into.old ++ map (new_slot frame.now.printed.now) (numbers 1 spare)) }
+    ensures { OnOk result (into.new ≡ into.old ++ map (made.new_slot frame.now) (numbers 1 spare)) }
 {
     for k in 0..spare {
         into.push(slot_param(numbered(alloc, frame, b"htn_h", 1 + k)?))?;
@@ -97,7 +94,7 @@ fn method_conditions(
 ) -> Result<List<Formula>, Memory>
     requires frame { IsFrame frame.now }
     requires variables { AreVariables plan.now variables.now }
-    ensures { IfOk result (λ fs. fs ≡ spec.method_pre frame.now.compiled.now frame.now.printed.now frame.now.slots frame.now.style 0 plan.now) }
+    ensures { IfOk result (λ fs. fs ≡ made.method_pre frame.now plan.now) }
 {
     let front = variables.front;
     let mut into = List::new(alloc);
@@ -125,7 +122,7 @@ pub(crate) fn held_task(
     front: u32,
 ) -> Result<Atom, Memory>
     requires { IsFrame frame.now }
-    ensures { IfOk result (λ a. a ≡ task_at_first frame.now.compiled.now frame.now.printed.now front plan.now) }
+    ensures { IfOk result (λ a. a ≡ made.method_task frame.now front plan.now) }
 {
     let predicate = task_predicate(frame.compiled, &frame.numbers, plan.schema.task)?;
     held(
@@ -145,7 +142,7 @@ fn push_free(
     into: &mut List<Formula>,
 ) -> Result<(), Memory>
     requires { IsFrame frame.now }
-    ensures { OnOk result (into.new ≡ into.old ++ map (λ v. F.Holds (spec.is_free frame.now.compiled.now frame.now.printed.now frame.now.slots frame.now.style v)) (numbers 1 spare)) }
+    ensures { OnOk result (into.new ≡ into.old ++ made.new_slots_free frame.now spare) }
 {
     for k in 0..spare {
         into.push(Formula::Holds(is_free(alloc, frame, 1 + k)?))?;
@@ -160,7 +157,8 @@ fn push_constraints(
     constraints: &[Constraint],
     into: &mut List<Formula>,
 ) -> Result<(), Memory>
-    ensures { OnOk result (into.new ≡ into.old ++ map (printed_constraint frame.now.compiled.now frame.now.printed.now front) constraints.now) }
+    ensures { OnOk result (into.new ≡ into.old ++
+        made.constraints frame.now front constraints.now) }
 {
     for one in constraints {
         into.put(constraint(alloc, frame, front, one))?;
@@ -174,7 +172,7 @@ fn constraint(
     front: u32,
     one: &Constraint,
 ) -> Result<Formula, Memory>
-    ensures { IfOk result (λ f. f ≡ printed_constraint frame.now.compiled.now frame.now.printed.now front one.now) }
+    ensures { IfOk result (λ f. f ≡ made.constraint frame.now front one.now) }
 {
     let left = moved(frame, front, one.left)?;
     let equal = Formula::Equal(left, moved(frame, front, one.right)?);
@@ -193,7 +191,7 @@ fn push_guards(
     into: &mut List<Formula>,
 ) -> Result<(), Memory>
     requires { IsFrame frame.now }
-    ensures { OnOk result (into.new ≡ into.old ++ map (printed_guard frame.now.compiled.now frame.now.printed.now front) guards.now) }
+    ensures { OnOk result (into.new ≡ into.old ++ made.guards frame.now front guards.now) }
 {
     for one in guards {
         into.put(guard(alloc, frame, front, one))?;
@@ -203,7 +201,7 @@ fn push_guards(
 
 fn guard(alloc: Global, frame: &Frame<'_>, front: u32, one: &Guard) -> Result<Formula, Memory>
     requires { IsFrame frame.now }
-    ensures { IfOk result (λ f. f ≡ printed_guard frame.now.compiled.now frame.now.printed.now front one.now) }
+    ensures { IfOk result (λ f. f ≡ made.guard frame.now front one.now) }
 {
     let predicate = guard_predicate(frame, one.ty)?;
     let mut args = List::new(alloc);
@@ -218,7 +216,7 @@ fn push_tested(
     plan: &MethodPlan,
     into: &mut List<Formula>,
 ) -> Result<(), Memory>
-    ensures { OnOk result (into.new ≡ into.old ++ tested_parts frame.now.compiled.now frame.now.printed.now frame.now.slots frame.now.style front plan.now) }
+    ensures { OnOk result (into.new ≡ into.old ++ made.tested frame.now front plan.now) }
 {
     if plan.tested {
         push_condition(alloc, frame, front, &plan.schema.pre, into)

@@ -1,8 +1,7 @@
-ghost use Rattle.std.specs.Prelude.{◌≡◌, ◌+◌, ◌==◌, ◌<◌, filter, length, IfOk};
-ghost use Rattle.plan_model.specs.declared.schemas.MethodPlan.{MethodPlan};
+ghost use Rattle.std.specs.Prelude.{◌≡◌, ◌+◌, ◌==◌, ◌<◌, length, IfOk};
 ghost use Rattle.slot_encoding.specs.EncodedNames as spec;
 ghost use Rattle.slot_encoder.specs.Frames.{AreNumbers};
-ghost use Rattle.slot_encoder.specs.Pieces.{with_check};
+ghost use Rattle.slot_encoder.specs.Pieces.{checked, with_check};
 
 use htn_base::{Memory, number};
 use plan_model::{Compiled, MethodPlan};
@@ -57,7 +56,7 @@ pub(crate) fn numbers_of(c: &Compiled) -> Result<Numbers, Memory>
 
 /// How many of the methods have a check.
 fn checks(methods: &[MethodPlan]) -> Result<u32, Memory>
-    ensures { IfOk result (λ n. n ≡ length (filter (λ (plan : MethodPlan). plan.checked) methods.now)) }
+    ensures { IfOk result (λ n. n ≡ length (checked methods.now)) }
 {
     let mut count: u32 = 0;
     for plan in methods {

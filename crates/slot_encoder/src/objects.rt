@@ -1,8 +1,6 @@
-ghost use Rattle.std.specs.Prelude.{◌≡◌, ◌++◌, map, true, IfOk, OnOk};
-ghost use Rattle.plan_model.specs.declared.types.Object.{Object};
+ghost use Rattle.std.specs.Prelude.{◌≡◌, ◌++◌, map, IfOk, OnOk};
 ghost use Rattle.task_networks.specs.Spelling.{numbers};
-ghost use Rattle.slot_encoding.specs.EncodedNames as spec;
-ghost use Rattle.slot_encoder.specs.Pieces.{printed_object, printed_slot};
+ghost use Rattle.slot_encoder.specs.Made as made;
 
 use crate::frame::Frame;
 use crate::terms::retyped;
@@ -13,7 +11,7 @@ use std::alloc::Global;
 
 /// The source objects, and then the slots.
 pub(crate) fn encoded_objects(alloc: Global, frame: &Frame<'_>) -> Result<List<Object>, Memory>
-    ensures { IfOk result (λ os. os ≡ spec.encoded_objects frame.now.compiled.now frame.now.printed.now frame.now.slots) }
+    ensures { IfOk result (λ os. os ≡ made.objects frame.now) }
 {
     let mut into = List::new(alloc);
     push_objects(
@@ -32,7 +30,7 @@ fn push_objects(
     objects: &[Object],
     into: &mut List<Object>,
 ) -> Result<(), Memory>
-    ensures { OnOk result (into.new ≡ into.old ++ map (printed_object frame.now.compiled.now frame.now.printed.now) objects.now) }
+    ensures { OnOk result (into.new ≡ into.old ++ map (made.object frame.now) objects.now) }
 {
     for object in objects {
         into.put(printed(alloc, frame, object))?;
@@ -41,7 +39,7 @@ fn push_objects(
 }
 
 fn printed(alloc: Global, frame: &Frame<'_>, object: &Object) -> Result<Object, Memory>
-    ensures { IfOk result (λ o. o ≡ printed_object frame.now.compiled.now frame.now.printed.now object.now) }
+    ensures { IfOk result (λ o. o ≡ made.object frame.now object.now) }
 {
     Ok(Object {
         name: renamed(alloc, frame, object.name)?,
@@ -56,7 +54,7 @@ fn push_slots(
     slots: u32,
     into: &mut List<Object>,
 ) -> Result<(), Memory>
-    ensures { OnOk result (into.new ≡ into.old ++ map (printed_slot frame.now.printed.now) (numbers 1 slots)) }
+    ensures { OnOk result (into.new ≡ into.old ++ map (made.slot frame.now) (numbers 1 slots)) }
 {
     for k in 0..slots {
         into.put(slot(alloc, frame, 1 + k))?;
@@ -65,7 +63,7 @@ fn push_slots(
 }
 
 fn slot(alloc: Global, frame: &Frame<'_>, k: u32) -> Result<Object, Memory>
-    ensures { IfOk result (λ o. o ≡ printed_slot frame.now.printed.now k) }
+    ensures { IfOk result (λ o. o ≡ made.slot frame.now k) }
 {
     let word = slot_name(alloc, k)?;
     Ok(Object {

@@ -1,10 +1,8 @@
-ghost use Rattle.std.specs.Prelude.{◌≡◌, ◌++◌, [], ◌∷◌, map, filter, codes, IfOk, OnOk};
-ghost use Rattle.plan_model.specs.declared.schemas.MethodPlan.{MethodPlan};
+ghost use Rattle.std.specs.Prelude.{◌≡◌, ◌++◌, map, IfOk, OnOk};
 ghost use Rattle.task_networks.specs.Spelling.{numbers};
-ghost use Rattle.slot_encoding.specs.SourceParts as parts;
 ghost use Rattle.slot_encoding.specs.EncodedNames as spec;
 ghost use Rattle.slot_encoder.specs.Frames.{IsFrame};
-ghost use Rattle.slot_encoder.specs.Pieces.{printed_predicate, generated_predicates, task_held, action_held, check_held, guard_tested, argument, if_checked};
+ghost use Rattle.slot_encoder.specs.Made as made;
 
 use crate::frame::Frame;
 use crate::guards::guard_name;
@@ -20,7 +18,7 @@ pub(crate) fn encoded_predicates(
     frame: &Frame<'_>,
 ) -> Result<List<Predicate>, Memory>
     requires { IsFrame frame.now }
-    ensures { IfOk result (λ ps. ps ≡ spec.encoded_predicates frame.now.compiled.now frame.now.printed.now frame.now.slots) }
+    ensures { IfOk result (λ ps. ps ≡ made.predicates frame.now) }
 {
     let mut into = List::new(alloc);
     push_predicates(alloc, frame, &mut into)?;
@@ -33,7 +31,7 @@ fn push_predicates(
     into: &mut List<Predicate>,
 ) -> Result<(), Memory>
     requires { IsFrame frame.now }
-    ensures { OnOk result (into.new ≡ into.old ++ spec.encoded_predicates frame.now.compiled.now frame.now.printed.now frame.now.slots) }
+    ensures { OnOk result (into.new ≡ into.old ++ made.predicates frame.now) }
 {
     let c = frame.compiled;
     push_source(alloc, frame, c.hddl.predicates.as_slice(), into)?;
@@ -51,7 +49,7 @@ fn push_source(
     predicates: &[Predicate],
     into: &mut List<Predicate>,
 ) -> Result<(), Memory>
-    ensures { OnOk result (into.new ≡ into.old ++ map (printed_predicate frame.now.compiled.now frame.now.printed.now) predicates.now) }
+    ensures { OnOk result (into.new ≡ into.old ++ map (made.predicate frame.now) predicates.now) }
 {
     for predicate in predicates {
         into.put(source(alloc, frame, predicate))?;
@@ -60,7 +58,7 @@ fn push_source(
 }
 
 fn source(alloc: Global, frame: &Frame<'_>, predicate: &Predicate) -> Result<Predicate, Memory>
-    ensures { IfOk result (λ p. p ≡ printed_predicate frame.now.compiled.now frame.now.printed.now predicate.now) }
+    ensures { IfOk result (λ p. p ≡ made.predicate frame.now predicate.now) }
 {
     Ok(Predicate {
         name: renamed(alloc, frame, predicate.name)?,
@@ -73,7 +71,7 @@ fn push_generated(
     frame: &Frame<'_>,
     into: &mut List<Predicate>,
 ) -> Result<(), Memory>
-    ensures { OnOk result (into.new ≡ into.old ++ generated_predicates frame.now.compiled.now frame.now.printed.now) }
+    ensures { OnOk result (into.new ≡ into.old ++ made.slot_predicates frame.now) }
 {
     into.put(of_slot(alloc, frame, b"htn_top"))?;
     into.put(of_slot(alloc, frame, b"htn_free"))?;
@@ -82,7 +80,7 @@ fn push_generated(
 }
 
 fn of_slot(alloc: Global, frame: &Frame<'_>, word: &[u8]) -> Result<Predicate, Memory>
-    ensures { IfOk result (λ p. p ≡ record { name = parts.name frame.now.printed.now word.now; params = spec.slot_param frame.now.compiled.now frame.now.printed.now 0 (codes "htn_h") ∷ [] }) }
+    ensures { IfOk result (λ p. p ≡ made.slot_predicate frame.now word.now) }
 {
     let mut params = List::new(alloc);
     params.push(slot_param(named(frame, b"htn_h")))?;
@@ -93,7 +91,7 @@ fn of_slot(alloc: Global, frame: &Frame<'_>, word: &[u8]) -> Result<Predicate, M
 }
 
 fn of_pair(alloc: Global, frame: &Frame<'_>) -> Result<Predicate, Memory>
-    ensures { IfOk result (λ p. p ≡ record { name = parts.name frame.now.printed.now (codes "htn_before"); params = spec.slot_param frame.now.compiled.now frame.now.printed.now 0 (codes "htn_x") ∷ spec.slot_param frame.now.compiled.now frame.now.printed.now 0 (codes "htn_h") ∷ [] }) }
+    ensures { IfOk result (λ p. p ≡ made.order_predicate frame.now) }
 {
     let mut params = List::new(alloc);
     params.push(slot_param(named(frame, b"htn_x")))?;
@@ -117,7 +115,7 @@ fn push_tasks(
     tasks: &[TaskSchema],
     into: &mut List<Predicate>,
 ) -> Result<(), Memory>
-    ensures { OnOk result (into.new ≡ into.old ++ map (task_held frame.now.compiled.now frame.now.printed.now) tasks.now) }
+    ensures { OnOk result (into.new ≡ into.old ++ map (made.task_held frame.now) tasks.now) }
 {
     for task in tasks {
         into.put(held(alloc, frame, b"htn_t_", task.name, task.params.len()))?;
@@ -131,7 +129,7 @@ fn push_actions(
     actions: &[ActionSchema],
     into: &mut List<Predicate>,
 ) -> Result<(), Memory>
-    ensures { OnOk result (into.new ≡ into.old ++ map (action_held frame.now.compiled.now frame.now.printed.now) actions.now) }
+    ensures { OnOk result (into.new ≡ into.old ++ map (made.action_held frame.now) actions.now) }
 {
     for action in actions {
         into.put(held(alloc, frame, b"htn_a_", action.name, action.params.len()))?;
@@ -145,7 +143,7 @@ fn push_checks(
     methods: &[MethodPlan],
     into: &mut List<Predicate>,
 ) -> Result<(), Memory>
-    ensures { OnOk result (into.new ≡ into.old ++ map (check_held frame.now.compiled.now frame.now.printed.now) (filter (λ (plan : MethodPlan). plan.checked) methods.now)) }
+    ensures { OnOk result (into.new ≡ into.old ++ made.checks_held frame.now methods.now) }
 {
     for plan in methods {
         push_check(alloc, frame, plan, into)?;
@@ -159,7 +157,7 @@ fn push_check(
     plan: &MethodPlan,
     into: &mut List<Predicate>,
 ) -> Result<(), Memory>
-    ensures { OnOk result (into.new ≡ into.old ++ if_checked plan.now (check_held frame.now.compiled.now frame.now.printed.now plan.now)) }
+    ensures { OnOk result (into.new ≡ into.old ++ made.checking_held frame.now plan.now) }
 {
     if plan.checked {
         let schema = &plan.schema;
@@ -177,7 +175,7 @@ fn held(
     name: Name,
     count: usize,
 ) -> Result<Predicate, Memory>
-    ensures { IfOk result (λ p. p ≡ record { name = parts.name frame.now.printed.now (prefix.now ++ parts.source_word frame.now.compiled.now.hddl.names name); params = spec.held_params frame.now.compiled.now frame.now.printed.now 0 count }) }
+    ensures { IfOk result (λ p. p ≡ made.held frame.now prefix.now name count) }
 {
     let name = prefixed(alloc, frame, prefix, name)?;
     let count = number(count)?;
@@ -193,7 +191,7 @@ fn push_arguments(
     count: u32,
     into: &mut List<Param>,
 ) -> Result<(), Memory>
-    ensures { OnOk result (into.new ≡ into.old ++ map (argument frame.now.printed.now) (numbers 1 count)) }
+    ensures { OnOk result (into.new ≡ into.old ++ map (made.argument frame.now) (numbers 1 count)) }
 {
     for k in 0..count {
         into.put(one_argument(alloc, frame, 1 + k))?;
@@ -202,7 +200,7 @@ fn push_arguments(
 }
 
 fn one_argument(alloc: Global, frame: &Frame<'_>, k: u32) -> Result<Param, Memory>
-    ensures { IfOk result (λ p. p ≡ argument frame.now.printed.now k) }
+    ensures { IfOk result (λ p. p ≡ made.argument frame.now k) }
 {
     Ok(Param {
         name: numbered(alloc, frame, b"htn_a", k)?,
@@ -216,7 +214,7 @@ fn push_guards(
     types: &[u32],
     into: &mut List<Predicate>,
 ) -> Result<(), Memory>
-    ensures { OnOk result (into.new ≡ into.old ++ map (guard_tested frame.now.compiled.now frame.now.printed.now) types.now) }
+    ensures { OnOk result (into.new ≡ into.old ++ map (made.guard_tested frame.now) types.now) }
 {
     for ty in types {
         into.put(guard(alloc, frame, *ty))?;
@@ -225,7 +223,7 @@ fn push_guards(
 }
 
 fn guard(alloc: Global, frame: &Frame<'_>, ty: u32) -> Result<Predicate, Memory>
-    ensures { IfOk result (λ p. p ≡ guard_tested frame.now.compiled.now frame.now.printed.now ty) }
+    ensures { IfOk result (λ p. p ≡ made.guard_tested frame.now ty) }
 {
     let name = guard_name(alloc, frame, ty)?;
     let mut params = List::new(alloc);

@@ -1,7 +1,6 @@
-ghost use Rattle.std.specs.Prelude.{map, OnOk};
-ghost use Rattle.slot_encoding.specs.EncodedNames.{joined};
+ghost use Rattle.std.specs.Prelude.{OnOk};
 ghost use Rattle.slot_encoding.specs.EncodedWords as spec;
-ghost use Rattle.slot_encoder.specs.Vocabulary.{Gains};
+ghost use Rattle.slot_encoder.specs.Vocabulary.{Gains, words_of_formulas, words_of_effects};
 
 use crate::vocabulary::put_params;
 use htn_base::{Memory, NameTable};
@@ -46,7 +45,7 @@ fn put_formulas(
     formulas: &[Formula],
     names: &mut NameTable,
 ) -> Result<(), Memory>
-    ensures { OnOk result (Gains (joined (map (spec.formula_words source.now) formulas.now)) names.old names.new) }
+    ensures { OnOk result (Gains (words_of_formulas source.now formulas.now) names.old names.new) }
 {
     for formula in formulas {
         put_formula(alloc, source, formula, names)?;
@@ -86,7 +85,7 @@ fn put_effects(
     effects: &[Effect],
     names: &mut NameTable,
 ) -> Result<(), Memory>
-    ensures { OnOk result (Gains (joined (map (spec.effect_words source.now) effects.now)) names.old names.new) }
+    ensures { OnOk result (Gains (words_of_effects source.now effects.now) names.old names.new) }
 {
     for effect in effects {
         put_effect(alloc, source, effect, names)?;

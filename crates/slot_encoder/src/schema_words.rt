@@ -1,9 +1,14 @@
-ghost use Rattle.std.specs.Prelude.{◌≡◌, ◌-◌, [], ◌∷◌, map, codes, length, IfOk, OnOk};
+ghost use Rattle.std.specs.Prelude.{◌≡◌, ◌-◌, [], ◌∷◌, length, IfOk, OnOk};
 ghost use Rattle.htn_base.specs.Words.{IsFolded};
 ghost use Rattle.slot_encoding.specs.EncodedNames as encoded;
+ghost use Rattle.slot_encoding.specs.EncodedNames.{guard_types};
 ghost use Rattle.slot_encoding.specs.EncodedWords as spec;
-ghost use Rattle.slot_encoder.specs.Vocabulary as words;
-ghost use Rattle.slot_encoder.specs.Vocabulary.{Gains};
+ghost use Rattle.slot_encoder.specs.Vocabulary.{Gains, words_of_slots, words_of_guards};
+ghost use Rattle.slot_encoder.specs.Vocabulary.{words_of_predicate, words_of_predicates};
+ghost use Rattle.slot_encoder.specs.Vocabulary.{words_of_tasks, words_of_held_actions};
+ghost use Rattle.slot_encoder.specs.Vocabulary.{words_if_checked, words_of_checks};
+ghost use Rattle.slot_encoder.specs.Vocabulary.{words_of_method, words_of_methods};
+ghost use Rattle.slot_encoder.specs.Vocabulary.{words_of_action, words_of_actions};
 
 use crate::guards::guard_word;
 use crate::quantified::{put_effect, put_formula};
@@ -35,7 +40,7 @@ fn put_declared(
     predicates: &[Predicate],
     names: &mut NameTable,
 ) -> Result<(), Memory>
-    ensures { OnOk result (Gains (encoded.joined (map (words.words_of_predicate c.now) predicates.now)) names.old names.new) }
+    ensures { OnOk result (Gains (words_of_predicates c.now predicates.now) names.old names.new) }
 {
     for predicate in predicates {
         put_predicate(alloc, c, predicate, names)?;
@@ -49,7 +54,7 @@ fn put_predicate(
     predicate: &Predicate,
     names: &mut NameTable,
 ) -> Result<(), Memory>
-    ensures { OnOk result (Gains (words.words_of_predicate c.now predicate.now) names.old names.new) }
+    ensures { OnOk result (Gains (words_of_predicate c.now predicate.now) names.old names.new) }
 {
     put_own(alloc, &c.hddl.names, predicate.name, names)?;
     put_params(alloc, &c.hddl.names, predicate.params.as_slice(), names)
@@ -57,7 +62,7 @@ fn put_predicate(
 
 /// Puts the names of the three predicates of the slots into the table.
 fn put_generated(names: &mut NameTable) -> Result<(), Memory>
-    ensures { OnOk result (Gains (codes "htn_top" ∷ codes "htn_free" ∷ codes "htn_before" ∷ []) names.old names.new) }
+    ensures { OnOk result (Gains words_of_slots names.old names.new) }
 {
     put(b"htn_top", names)?;
     put(b"htn_free", names)?;
@@ -74,7 +79,8 @@ fn put_held(
     names: &mut NameTable,
 ) -> Result<(), Memory>
     requires { IsFolded prefix.now }
-    ensures { OnOk result (Gains (spec.held_words c.now prefix.now name params.now) names.old names.new) }
+    ensures { OnOk result
+        (Gains (spec.held_words c.now prefix.now name params.now) names.old names.new) }
 {
     put_prefixed(alloc, &c.hddl.names, prefix, name, names)?;
     put_numbered(alloc, b"htn_a", number(params.len())?, names)
@@ -86,7 +92,7 @@ fn put_tasks(
     tasks: &[TaskSchema],
     names: &mut NameTable,
 ) -> Result<(), Memory>
-    ensures { OnOk result (Gains (encoded.joined (map (words.words_of_task c.now) tasks.now)) names.old names.new) }
+    ensures { OnOk result (Gains (words_of_tasks c.now tasks.now) names.old names.new) }
 {
     for task in tasks {
         put_held(
@@ -107,7 +113,7 @@ fn put_held_actions(
     actions: &[ActionSchema],
     names: &mut NameTable,
 ) -> Result<(), Memory>
-    ensures { OnOk result (Gains (encoded.joined (map (words.words_of_held_action c.now) actions.now)) names.old names.new) }
+    ensures { OnOk result (Gains (words_of_held_actions c.now actions.now) names.old names.new) }
 {
     for action in actions {
         put_held(
@@ -128,7 +134,7 @@ fn put_checks(
     methods: &[MethodPlan],
     names: &mut NameTable,
 ) -> Result<(), Memory>
-    ensures { OnOk result (Gains (encoded.joined (map (words.words_if_checked c.now) methods.now)) names.old names.new) }
+    ensures { OnOk result (Gains (words_of_checks c.now methods.now) names.old names.new) }
 {
     for plan in methods {
         put_check(alloc, c, plan, names)?;
@@ -143,7 +149,7 @@ fn put_check(
     plan: &MethodPlan,
     names: &mut NameTable,
 ) -> Result<(), Memory>
-    ensures { OnOk result (Gains (words.words_if_checked c.now plan.now) names.old names.new) }
+    ensures { OnOk result (Gains (words_if_checked c.now plan.now) names.old names.new) }
 {
     let schema = &plan.schema;
     if plan.checked {
@@ -161,7 +167,7 @@ fn put_check(
 }
 
 fn put_guards(alloc: Global, c: &Compiled, names: &mut NameTable) -> Result<(), Memory>
-    ensures { OnOk result (Gains (map (encoded.guard_word c.now [] 0) (encoded.guard_types c.now)) names.old names.new) }
+    ensures { OnOk result (Gains (words_of_guards c.now (guard_types c.now)) names.old names.new) }
 {
     let types = guard_types(alloc, c)?;
     put_guard_words(alloc, c, types.as_slice(), names)
@@ -173,7 +179,7 @@ fn put_guard_words(
     types: &[u32],
     names: &mut NameTable,
 ) -> Result<(), Memory>
-    ensures { OnOk result (Gains (map (encoded.guard_word c.now [] 0) types.now) names.old names.new) }
+    ensures { OnOk result (Gains (words_of_guards c.now types.now) names.old names.new) }
 {
     for ty in types {
         put_guard(alloc, c, *ty, names)?;
@@ -207,7 +213,7 @@ fn put_each_method(
     methods: &[MethodPlan],
     names: &mut NameTable,
 ) -> Result<(), Memory>
-    ensures { OnOk result (Gains (encoded.joined (map (words.words_of_method c.now) methods.now)) names.old names.new) }
+    ensures { OnOk result (Gains (words_of_methods c.now methods.now) names.old names.new) }
 {
     for plan in methods {
         put_method(alloc, c, plan, names)?;
@@ -222,7 +228,7 @@ fn put_method(
     plan: &MethodPlan,
     names: &mut NameTable,
 ) -> Result<(), Memory>
-    ensures { OnOk result (Gains (words.words_of_method c.now plan.now) names.old names.new) }
+    ensures { OnOk result (Gains (words_of_method c.now plan.now) names.old names.new) }
 {
     let schema = &plan.schema;
     let spare = spare_slots(plan)?;
@@ -247,7 +253,7 @@ pub(crate) fn put_actions(
     actions: &[ActionSchema],
     names: &mut NameTable,
 ) -> Result<(), Memory>
-    ensures { OnOk result (Gains (encoded.joined (map (words.words_of_action c.now) actions.now)) names.old names.new) }
+    ensures { OnOk result (Gains (words_of_actions c.now actions.now) names.old names.new) }
 {
     for action in actions {
         put_action(alloc, c, action, names)?;
@@ -261,7 +267,7 @@ fn put_action(
     action: &ActionSchema,
     names: &mut NameTable,
 ) -> Result<(), Memory>
-    ensures { OnOk result (Gains (words.words_of_action c.now action.now) names.old names.new) }
+    ensures { OnOk result (Gains (words_of_action c.now action.now) names.old names.new) }
 {
     put_own(alloc, &c.hddl.names, action.name, names)?;
     put_params(alloc, &c.hddl.names, action.params.as_slice(), names)?;

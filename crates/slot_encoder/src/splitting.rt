@@ -1,11 +1,8 @@
 ghost use Rattle.std.specs.Prelude.{◌≡◌, ◌++◌, map, IfOk, OnOk};
 ghost use Rattle.std.specs.List.{flat_map};
 ghost use Rattle.plan_model.specs.declared.effects.Effect.TheVariants as E;
-ghost use Rattle.task_networks.specs.Spelling.{numbers};
-ghost use Rattle.slot_encoding.specs.OrderFormulas as order;
-ghost use Rattle.slot_encoding.specs.EncodedActions as spec;
 ghost use Rattle.slot_encoder.specs.Frames.{IsFrame, AreVariables};
-ghost use Rattle.slot_encoder.specs.Pieces.{added_pair, child_atom, child_atoms, copied, split, method_change};
+ghost use Rattle.slot_encoder.specs.Made as made;
 
 use crate::atoms::{comes_before, held, is_free};
 use crate::conditions::push_clears;
@@ -28,7 +25,7 @@ pub(crate) fn method_effects(
 ) -> Result<List<Effect>, Memory>
     requires frame { IsFrame frame.now }
     requires variables { AreVariables plan.now variables.now }
-    ensures { IfOk result (λ es. es ≡ method_change frame.now.compiled.now frame.now.printed.now frame.now.slots frame.now.style check plan.now plan.now.schema.children) }
+    ensures { IfOk result (λ es. es ≡ made.method_eff frame.now check plan.now) }
 {
     if plan.schema.children.len() == 0 {
         let task = held_task(alloc, frame, plan, variables.front)?;
@@ -46,7 +43,7 @@ pub(crate) fn freeing(
     depth: u32,
 ) -> Result<List<Effect>, Memory>
     requires { IsFrame frame.now }
-    ensures { IfOk result (λ es. es ≡ spec.freeing frame.now.compiled.now frame.now.printed.now frame.now.slots frame.now.style held depth) }
+    ensures { IfOk result (λ es. es ≡ made.freeing frame.now held depth) }
 {
     let mut into = List::new(alloc);
     into.push(Effect::Delete(held))?;
@@ -64,7 +61,7 @@ fn splitting(
 ) -> Result<List<Effect>, Memory>
     requires frame { IsFrame frame.now }
     requires variables { AreVariables plan.now variables.now }
-    ensures { IfOk result (λ es. es ≡ split frame.now.compiled.now frame.now.printed.now frame.now.slots frame.now.style check plan.now) }
+    ensures { IfOk result (λ es. es ≡ made.split frame.now check plan.now) }
 {
     let schema = &plan.schema;
     let front = variables.front;
@@ -100,7 +97,7 @@ fn push_taken(
     into: &mut List<Effect>,
 ) -> Result<(), Memory>
     requires { IsFrame frame.now }
-    ensures { OnOk result (into.new ≡ into.old ++ map (λ v. E.Delete (spec.is_free frame.now.compiled.now frame.now.printed.now frame.now.slots frame.now.style v)) (numbers 1 spare)) }
+    ensures { OnOk result (into.new ≡ into.old ++ made.new_slots_taken frame.now spare) }
 {
     for k in 0..spare {
         into.push(Effect::Delete(is_free(alloc, frame, 1 + k)?))?;
@@ -119,7 +116,8 @@ fn push_children(
     into: &mut List<Effect>,
 ) -> Result<(), Memory>
     requires { IsFrame frame.now }
-    ensures { OnOk result (into.new ≡ into.old ++ map E.Add (child_atoms frame.now.compiled.now frame.now.printed.now front check slots.now children.now)) }
+    ensures { OnOk result (into.new ≡ into.old ++
+        map E.Add (made.child_atoms frame.now front check slots.now children.now)) }
 {
     let mut i: u32 = 0;
     for child in children {
@@ -143,7 +141,7 @@ fn placed(
     child: &Child,
 ) -> Result<Atom, Memory>
     requires { IsFrame frame.now }
-    ensures { IfOk result (λ a. a ≡ child_atom frame.now.compiled.now frame.now.printed.now front check slot child.now) }
+    ensures { IfOk result (λ a. a ≡ made.child_atom frame.now front check slot child.now) }
 {
     let args = child.args.as_slice();
     match child.head {
@@ -167,7 +165,7 @@ fn push_pairs(
     into: &mut List<Effect>,
 ) -> Result<(), Memory>
     requires { IsFrame frame.now }
-    ensures { OnOk result (into.new ≡ into.old ++ map (added_pair frame.now.compiled.now frame.now.printed.now frame.now.slots slots.now) pairs.now) }
+    ensures { OnOk result (into.new ≡ into.old ++ made.added_pairs frame.now slots.now pairs.now) }
 {
     for pair in pairs {
         into.put(added(alloc, frame, slots, pair))?;
@@ -177,7 +175,7 @@ fn push_pairs(
 
 fn added(alloc: Global, frame: &Frame<'_>, slots: &[u32], pair: &Pair) -> Result<Effect, Memory>
     requires { IsFrame frame.now }
-    ensures { IfOk result (λ e. e ≡ added_pair frame.now.compiled.now frame.now.printed.now frame.now.slots slots.now pair.now) }
+    ensures { IfOk result (λ e. e ≡ made.added_pair frame.now slots.now pair.now) }
 {
     let first = slot_of(slots, pair.first);
     let then = slot_of(slots, pair.then);
@@ -194,7 +192,8 @@ fn push_copies(
     into: &mut List<Effect>,
 ) -> Result<(), Memory>
     requires { IsFrame frame.now }
-    ensures { OnOk result (into.new ≡ into.old ++ flat_map (copied frame.now.compiled.now frame.now.printed.now frame.now.slots frame.now.style depth slots.now) copiers.now) }
+    ensures { OnOk result (into.new ≡ into.old ++
+        flat_map (made.copied frame.now depth slots.now) copiers.now) }
 {
     for child in copiers {
         push_copied(alloc, frame, depth, slots, *child, into)?;
@@ -211,7 +210,7 @@ fn push_copied(
     into: &mut List<Effect>,
 ) -> Result<(), Memory>
     requires { IsFrame frame.now }
-    ensures { OnOk result (into.new ≡ into.old ++ copied frame.now.compiled.now frame.now.printed.now frame.now.slots frame.now.style depth slots.now child) }
+    ensures { OnOk result (into.new ≡ into.old ++ made.copied frame.now depth slots.now child) }
 {
     let slot = Term::Var(slot_of(slots, child));
     push_copying(

@@ -1,5 +1,6 @@
 ghost use Rattle.std.specs.Prelude.{◌≡◌, ◌++◌, map, IfOk, OnOk};
 ghost use Rattle.slot_encoding.specs.SourceParts as spec;
+ghost use Rattle.slot_encoder.specs.Made as made;
 
 use crate::frame::Frame;
 use crate::words::renamed;
@@ -19,7 +20,7 @@ pub(crate) fn retyped(ty: u32) -> Result<u32, Memory>
 }
 
 pub(crate) fn source_param(alloc: Global, frame: &Frame<'_>, param: &Param) -> Result<Param, Memory>
-    ensures { IfOk result (λ p. p ≡ spec.source_param frame.now.printed.now frame.now.compiled.now.hddl.names param.now) }
+    ensures { IfOk result (λ p. p ≡ made.param frame.now param.now) }
 {
     Ok(Param {
         name: renamed(alloc, frame, param.name)?,
@@ -32,7 +33,7 @@ pub(crate) fn source_params(
     frame: &Frame<'_>,
     params: &[Param],
 ) -> Result<List<Param>, Memory>
-    ensures { IfOk result (λ ps. ps ≡ map (spec.source_param frame.now.printed.now frame.now.compiled.now.hddl.names) params.now) }
+    ensures { IfOk result (λ ps. ps ≡ map (made.param frame.now) params.now) }
 {
     let mut into = List::new(alloc);
     push_params(alloc, frame, params, &mut into)?;
@@ -46,7 +47,7 @@ pub(crate) fn push_params(
     params: &[Param],
     into: &mut List<Param>,
 ) -> Result<(), Memory>
-    ensures { OnOk result (into.new ≡ into.old ++ map (spec.source_param frame.now.printed.now frame.now.compiled.now.hddl.names) params.now) }
+    ensures { OnOk result (into.new ≡ into.old ++ map (made.param frame.now) params.now) }
 {
     for param in params {
         into.put(source_param(alloc, frame, param))?;
@@ -56,7 +57,7 @@ pub(crate) fn push_params(
 
 /// A term of the source behind `front` further variables. A number past 2^32 - 1 is answered as want of memory.
 pub(crate) fn moved(frame: &Frame<'_>, front: u32, term: Term) -> Result<Term, Memory>
-    ensures { IfOk result (λ t. t ≡ spec.moved frame.now.printed.now frame.now.compiled.now.hddl.names front term) }
+    ensures { IfOk result (λ t. t ≡ made.term frame.now front term) }
 {
     match term {
         Term::Var(k) => Ok(Term::Var(front.checked_add(k).ok_or(Memory)?)),
@@ -71,7 +72,7 @@ pub(crate) fn push_moved(
     terms: &[Term],
     into: &mut List<Term>,
 ) -> Result<(), Memory>
-    ensures { OnOk result (into.new ≡ into.old ++ map (spec.moved frame.now.printed.now frame.now.compiled.now.hddl.names front) terms.now) }
+    ensures { OnOk result (into.new ≡ into.old ++ map (made.term frame.now front) terms.now) }
 {
     for term in terms {
         into.put(moved(frame, front, *term))?;
@@ -85,7 +86,7 @@ pub(crate) fn source_atom(
     front: u32,
     atom: &Atom,
 ) -> Result<Atom, Memory>
-    ensures { IfOk result (λ a. a ≡ spec.source_atom frame.now.printed.now frame.now.compiled.now.hddl.names front atom.now) }
+    ensures { IfOk result (λ a. a ≡ made.atom frame.now front atom.now) }
 {
     let mut args = List::new(alloc);
     push_moved(frame, front, atom.args.as_slice(), &mut args)?;

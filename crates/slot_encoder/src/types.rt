@@ -1,9 +1,7 @@
-ghost use Rattle.std.specs.Prelude.{◌≡◌, ◌∷◌, ◌++◌, map, drop, codes, IfOk, OnOk};
-ghost use Rattle.plan_model.specs.declared.types.Parent.{Parent};
-ghost use Rattle.htn_base.specs.declared.name.Name.{Name};
+ghost use Rattle.std.specs.Prelude.{◌≡◌, ◌++◌, map, IfOk, OnOk};
 ghost use Rattle.slot_encoding.specs.SourceParts as parts;
-ghost use Rattle.slot_encoding.specs.EncodedNames as spec;
-ghost use Rattle.slot_encoder.specs.Pieces.{printed_parent};
+ghost use Rattle.slot_encoder.specs.Pieces.{printed_parent, printed_parents};
+ghost use Rattle.slot_encoder.specs.Made as made;
 
 use crate::frame::Frame;
 use crate::terms::retyped;
@@ -14,7 +12,7 @@ use std::alloc::Global;
 
 /// The types of the printed problem: `object`, slots, what was `object`, and the source's types.
 pub(crate) fn encoded_types(alloc: Global, frame: &Frame<'_>) -> Result<Types, Memory>
-    ensures { IfOk result (λ types. types ≡ spec.encoded_types frame.now.compiled.now frame.now.printed.now frame.now.slots) }
+    ensures { IfOk result (λ types. types ≡ made.types frame.now) }
 {
     let types = &frame.compiled.hddl.types;
     Ok(Types {
@@ -25,7 +23,7 @@ pub(crate) fn encoded_types(alloc: Global, frame: &Frame<'_>) -> Result<Types, M
 }
 
 fn type_names(alloc: Global, frame: &Frame<'_>, names: &[Name]) -> Result<List<Name>, Memory>
-    ensures { IfOk result (λ ns. ns ≡ parts.name frame.now.printed.now (codes "object") ∷ parts.name frame.now.printed.now (codes "htn_slot") ∷ parts.name frame.now.printed.now (codes "htn_object") ∷ map (parts.renamed frame.now.printed.now frame.now.compiled.now.hddl.names) (drop 1 names.now)) }
+    ensures { IfOk result (λ ns. ns ≡ made.type_names frame.now names.now) }
 {
     let mut into = List::new(alloc);
     into.push(named(frame, b"object"))?;
@@ -43,7 +41,7 @@ fn push_names(
     names: &[Name],
     into: &mut List<Name>,
 ) -> Result<(), Memory>
-    ensures { OnOk result (into.new ≡ into.old ++ map (parts.renamed frame.now.printed.now frame.now.compiled.now.hddl.names) names.now) }
+    ensures { OnOk result (into.new ≡ into.old ++ map (made.renamed frame.now) names.now) }
 {
     for name in names {
         into.put(renamed(alloc, frame, *name))?;
@@ -52,7 +50,7 @@ fn push_names(
 }
 
 fn parents(alloc: Global, pairs: &[Parent]) -> Result<List<Parent>, Memory>
-    ensures { IfOk result (λ ps. ps ≡ record { child = spec.slot_type; parent = 0 } ∷ record { child = spec.object_type; parent = 0 } ∷ map printed_parent pairs.now) }
+    ensures { IfOk result (λ ps. ps ≡ printed_parents pairs.now) }
 {
     let mut into = List::new(alloc);
     into.push(Parent {

@@ -1,7 +1,8 @@
-ghost use Rattle.std.specs.Prelude.{◌≡◌, ◌+◌, [], ◌∷◌, ◌++◌, cond, slice_index, IfOk, OnOk};
+ghost use Rattle.std.specs.Prelude.{◌≡◌, [], ◌∷◌, ◌++◌, slice_index, IfOk, OnOk};
 ghost use Rattle.task_networks.specs.Spelling as spelling;
 ghost use Rattle.slot_encoding.specs.EncodedActions.{slot_vars};
 ghost use Rattle.slot_encoder.specs.Frames.{AreVariables};
+ghost use Rattle.slot_encoder.specs.Pieces.{child_slot, next_new};
 
 use crate::numbers::plus;
 use htn_base::{List, Memory, number};
@@ -48,8 +49,8 @@ fn slots_of(alloc: Global, heir: Option<u32>, count: u32) -> Result<List<u32>, M
 
 /// Puts the slot of child `i` at the end. It gives the next new slot.
 fn push_slot(heir: Option<u32>, i: u32, new: u32, into: &mut List<u32>) -> Result<u32, Memory>
-    ensures pushed { OnOk result (into.new ≡ into.old ++ cond (spelling.is_heir heir i) 0 new ∷ []) }
-    ensures next { IfOk result (λ next. next ≡ cond (spelling.is_heir heir i) new (new + 1)) }
+    ensures pushed { OnOk result (into.new ≡ into.old ++ child_slot heir i new ∷ []) }
+    ensures next { IfOk result (λ next. next ≡ next_new heir i new) }
 {
     if is_heir(heir, i) {
         into.push(0)?;

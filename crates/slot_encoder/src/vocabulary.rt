@@ -1,11 +1,10 @@
-ghost use Rattle.std.specs.Prelude.{◌<◌, ◌^◌, [], ◌∷◌, ◌++◌, map, codes, decimal, length, IfOk, OnOk};
+ghost use Rattle.std.specs.Prelude.{◌<◌, ◌^◌, [], ◌∷◌, ◌++◌, map, decimal, length, IfOk, OnOk};
 ghost use Rattle.htn_base.specs.Words.{folded, IsFolded};
 ghost use Rattle.htn_base.specs.Escapes as escapes;
-ghost use Rattle.plan_model.specs.declared.types.Object.{Object};
 ghost use Rattle.task_networks.specs.Spelling.{numbers};
 ghost use Rattle.slot_encoding.specs.SourceParts as parts;
 ghost use Rattle.slot_encoding.specs.EncodedWords as spec;
-ghost use Rattle.slot_encoder.specs.Vocabulary.{Gains};
+ghost use Rattle.slot_encoder.specs.Vocabulary.{Gains, words_of_objects, words_of_variables};
 
 use crate::quantified::put_formula;
 use crate::schema_words::{put_actions, put_methods, put_predicates};
@@ -68,7 +67,8 @@ pub(crate) fn put_prefixed(
     names: &mut NameTable,
 ) -> Result<(), Memory>
     requires { IsFolded prefix.now }
-    ensures { OnOk result (Gains ((prefix.now ++ parts.source_word source.now name) ∷ []) names.old names.new) }
+    ensures { OnOk result
+        (Gains ((prefix.now ++ parts.source_word source.now name) ∷ []) names.old names.new) }
 {
     let word = prefixed_word(alloc, source, prefix, name)?;
     put(word.as_slice(), names)
@@ -149,7 +149,7 @@ fn put_source_objects(
     objects: &[Object],
     names: &mut NameTable,
 ) -> Result<(), Memory>
-    ensures { OnOk result (Gains (map (λ (x : Object). spec.own_word c.now x.name) objects.now) names.old names.new) }
+    ensures { OnOk result (Gains (words_of_objects c.now objects.now) names.old names.new) }
 {
     for object in objects {
         put_own(alloc, &c.hddl.names, object.name, names)?;
@@ -175,7 +175,7 @@ fn put_slot(alloc: Global, k: u32, names: &mut NameTable) -> Result<(), Memory>
 
 /// Puts the variables of the generated predicates and of the slots of actions into the table.
 fn put_variables(names: &mut NameTable) -> Result<(), Memory>
-    ensures { OnOk result (Gains (codes "htn_h" ∷ codes "htn_x" ∷ codes "htn_a1" ∷ []) names.old names.new) }
+    ensures { OnOk result (Gains words_of_variables names.old names.new) }
 {
     put(b"htn_h", names)?;
     put(b"htn_x", names)?;

@@ -1,5 +1,6 @@
 ghost use Rattle.std.specs.Prelude.{◌≡◌, ◌++◌, decimal, length, IfOk};
 ghost use Rattle.slot_encoding.specs.SourceParts as spec;
+ghost use Rattle.slot_encoder.specs.Made as made;
 
 use crate::frame::Frame;
 use htn_base::{Memory, Name, NameTable, Text, esc};
@@ -42,7 +43,7 @@ pub(crate) fn own_word(alloc: Global, source: &NameTable, name: Name) -> Result<
 
 /// The name of a source name's printed word.
 pub(crate) fn renamed(alloc: Global, frame: &Frame<'_>, name: Name) -> Result<Name, Memory>
-    ensures { IfOk result (λ n. n ≡ spec.renamed frame.now.printed.now frame.now.compiled.now.hddl.names name) }
+    ensures { IfOk result (λ n. n ≡ made.renamed frame.now name) }
 {
     let word = own_word(alloc, &frame.compiled.hddl.names, name)?;
     Ok(named(frame, word.as_slice()))
@@ -55,7 +56,7 @@ pub(crate) fn prefixed(
     prefix: &[u8],
     name: Name,
 ) -> Result<Name, Memory>
-    ensures { IfOk result (λ n. n ≡ spec.name frame.now.printed.now (prefix.now ++ spec.source_word frame.now.compiled.now.hddl.names name)) }
+    ensures { IfOk result (λ n. n ≡ made.prefixed frame.now prefix.now name) }
 {
     let word = prefixed_word(alloc, &frame.compiled.hddl.names, prefix, name)?;
     Ok(named(frame, word.as_slice()))

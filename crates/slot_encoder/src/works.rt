@@ -1,10 +1,6 @@
-ghost use Rattle.std.specs.Prelude.{◌≡◌, ◌++◌, ◌∷◌, suc, map, codes, IfOk};
-ghost use Rattle.plan_model.specs.declared.formulas.Formula.TheVariants as F;
-ghost use Rattle.slot_encoding.specs.SourceParts as parts;
-ghost use Rattle.slot_encoding.specs.EncodedNames as names;
-ghost use Rattle.slot_encoding.specs.EncodedActions as spec;
+ghost use Rattle.std.specs.Prelude.{◌≡◌, IfOk};
 ghost use Rattle.slot_encoder.specs.Frames.{IsFrame};
-ghost use Rattle.slot_encoder.specs.Pieces.{check_action};
+ghost use Rattle.slot_encoder.specs.Made as made;
 
 use crate::atoms::held_work;
 use crate::conditions::{push_change, push_condition, push_waits};
@@ -26,7 +22,7 @@ pub(crate) fn encoded_action(
     action: &ActionSchema,
 ) -> Result<ActionSchema, Memory>
     requires { IsFrame frame.now }
-    ensures { IfOk result (λ s. s ≡ spec.encoded_action frame.now.compiled.now frame.now.printed.now frame.now.slots frame.now.style a action.now) }
+    ensures { IfOk result (λ s. s ≡ made.source_action frame.now a action.now) }
 {
     let predicate = plus(frame.numbers.first_action, a)?;
     let count = number(action.params.len())?;
@@ -51,7 +47,7 @@ pub(crate) fn encoded_check(
     plan: &MethodPlan,
 ) -> Result<ActionSchema, Memory>
     requires { IsFrame frame.now }
-    ensures { IfOk result (λ s. s ≡ check_action frame.now.compiled.now frame.now.printed.now frame.now.slots frame.now.style check plan.now) }
+    ensures { IfOk result (λ s. s ≡ made.check_action frame.now check plan.now) }
 {
     let schema = &plan.schema;
     let count = number(schema.params.len())?;
@@ -69,7 +65,7 @@ pub(crate) fn encoded_check(
 
 /// The slot, and then the parameters.
 fn work_params(alloc: Global, frame: &Frame<'_>, params: &[Param]) -> Result<List<Param>, Memory>
-    ensures { IfOk result (λ ps. ps ≡ names.slot_param frame.now.compiled.now frame.now.printed.now 0 (codes "htn_h") ∷ map (parts.source_param frame.now.printed.now frame.now.compiled.now.hddl.names) params.now) }
+    ensures { IfOk result (λ ps. ps ≡ made.work_params frame.now params.now) }
 {
     let mut into = List::new(alloc);
     into.push(slot_param(named(frame, b"htn_h")))?;
@@ -86,7 +82,7 @@ fn work_conditions(
     pre: &Formula,
 ) -> Result<List<Formula>, Memory>
     requires { IsFrame frame.now }
-    ensures { IfOk result (λ fs. fs ≡ F.Holds (spec.held_work frame.now.compiled.now frame.now.printed.now frame.now.slots frame.now.style predicate count) ∷ spec.waiting frame.now.compiled.now frame.now.printed.now frame.now.slots frame.now.style (suc count) ++ spec.source_condition frame.now.compiled.now frame.now.printed.now frame.now.slots frame.now.style 1 pre.now) }
+    ensures { IfOk result (λ fs. fs ≡ made.work_pre frame.now predicate count pre.now) }
 {
     let mut into = List::new(alloc);
     into.push(Formula::Holds(held_work(alloc, predicate, count)?))?;
@@ -102,7 +98,7 @@ fn work_effects(
     count: u32,
 ) -> Result<List<Effect>, Memory>
     requires { IsFrame frame.now }
-    ensures { IfOk result (λ es. es ≡ spec.freeing frame.now.compiled.now frame.now.printed.now frame.now.slots frame.now.style (spec.held_work frame.now.compiled.now frame.now.printed.now frame.now.slots frame.now.style predicate count) (suc count)) }
+    ensures { IfOk result (λ es. es ≡ made.work_eff frame.now predicate count) }
 {
     let held = held_work(alloc, predicate, count)?;
     freeing(alloc, frame, held, plus(count, 1)?)

@@ -1,100 +1,17 @@
 -- At or above the bound no schedule of any solution is lost.
-use Rattle.std.proofs.Common.{ℕ, ◌≡◌, ◌<◌, ◌≤◌, List, [], ◌∷◌, ◌++◌, map, length, slice_get, Option, Some, None, refl, sym, subst, arith}
-use Rattle.std.proofs.lemmas.List.{length-map}
+use Rattle.std.proofs.Common.{ℕ, ◌≤◌, List, arith}
 use Rattle.plan_model.specs.declared.options.Checks.{Checks}
-use Rattle.plan_model.specs.declared.networks.Head.{Head}
-use Rattle.plan_model.specs.declared.networks.Head.TheVariants.{Task, Action, Check}
-use Rattle.plan_model.specs.declared.networks.Child.{Child}
-use Rattle.plan_model.specs.declared.schemas.MethodPlan.{MethodPlan}
 use Rattle.plan_model.specs.declared.values.Hddl.{Hddl}
 use Rattle.plan_model.specs.declared.values.Compiled.{Compiled}
-use Rattle.task_networks.specs.Order.{IsLine}
-use Rattle.task_networks.specs.Tree.{Tree, Address}
-use Rattle.task_networks.specs.Pending.{IsWithin}
-use Rattle.task_networks.specs.Front.{IsFront}
-use Rattle.task_networks.specs.Lifted.{IsLifted}
-use Rattle.task_networks.specs.Bound.{AreBlocks, itself}
-use Rattle.task_networks.specs.Bound as Bounds
-use Rattle.task_networks.proofs.BoundLaws.{the_bound_is_large_enough, lifted_bound_is_bound}
-use Rattle.slot_machine.proofs.Width.{bound_holds}
-use Rattle.plan_meaning.specs.Network as Network
-use Rattle.plan_meaning.specs.Network.{Work, GroundMethod, network, child_of, ground_work, top_task}
-use Rattle.plan_meaning.proofs.MethodParts.{IsPairBy}
-use Rattle.plan_meaning.specs.Schemas as Schemas
-use Rattle.plan_meaning.specs.Schemas.{Schema, schemas, schema_of}
 use Rattle.plan_meaning.specs.Compilation.{IsCompiled}
-use Rattle.plan_meaning.specs.Solution.{top_work}
-use Rattle.plan_meaning.specs.Bound.{group_of, IsBound}
-use Rattle.plan_meaning.proofs.MethodParts.{head_by, works_by, head_schema_by, schemas_by}
-use Rattle.plan_meaning.proofs.CompiledNetworks.{plan_of}
+use Rattle.plan_meaning.specs.Bound.{IsBound}
+use Rattle.bound_laws.proofs.EveryFront.{every_front_is_within}
 use Rattle.plan_proof.specs.Headline.{IsFaithful, LosesNothing}
-use Rattle.plan_meaning.specs.Truth.{values_of}
-use Rattle.task_networks.proofs.Lists.{not-in_empty}
-
--- what a ground work is an instance of
-abbrev schema : Work → Schema
-schema (Network.action a args) = Schemas.action a
-schema (Network.check m values) = Schemas.check m
-schema (Network.task t args) = Schemas.task t
-
-module _ (c : Compiled) where
-  schema-head : (g : GroundMethod) (o : Option MethodPlan) → schema (head_by g o) ≡ head_schema_by o
-  schema-head g None = refl
-  schema-head g (Some plan) = refl
-
-  schema-work : (g : GroundMethod) (hd : Head) (args : List ℕ) → schema (ground_work g hd args) ≡ schema_of g.number hd
-  schema-work g (Task t) args = refl
-  schema-work g (Action a) args = refl
-  schema-work g Check args = refl
-
-  schema-children : (g : GroundMethod) (cs : List Child) → map schema (map (child_of g) cs) ≡ map (λ (child : Child). schema_of g.number child.head) cs
-  schema-children g [] = refl
-  schema-children g (child ∷ cs) =
-      let e = schema-work g child.head (values_of g.values child.args) in
-      let f = schema-children g cs in
-      cc
-
-  schema-works : (g : GroundMethod) (o : Option MethodPlan) → map schema (works_by g o) ≡ schemas_by g.number o
-  schema-works g None = refl
-  schema-works g (Some plan) = schema-children g plan.schema.children
-
-  lifted : IsLifted (network c) (schemas c) schema (λ (g : GroundMethod). g.number)
-  lifted = record {
-    head = λ g. schema-head g (slice_get c.methods g.number);
-    works = λ g. schema-works g (slice_get c.methods g.number);
-    pairs = λ g i j q. q;
-    ground = λ g k. (k.plan, k.is);
-  }
 
 module _ (h : Hddl) (mode : Checks) (c : Compiled) (compiled : IsCompiled h mode c) (n : ℕ) (bound : IsBound c n) where
-  abbrev HasBlocks : ℕ → Option MethodPlan → Type 0
-  HasBlocks m o = (line : List ℕ) × IsLine (IsPairBy o) (length (schemas_by m o)) line × AreBlocks (IsPairBy o) line (bound.block m)
-
-  no_cut : (before rest : List ℕ) (i : ℕ) → [] ≡ before ++ i ∷ rest → ⊥
-  no_cut [] rest i e = cc
-  no_cut (x ∷ before) rest i e = cc
-
-  blocks : (m : ℕ) → HasBlocks m (slice_get c.methods m)
-  blocks m = go (slice_get c.methods m) refl
-    where
-      go : (o : Option MethodPlan) → slice_get c.methods m ≡ o → (line : List ℕ) × IsLine (IsPairBy o) (length (schemas_by m o)) line × AreBlocks (IsPairBy o) line (bound.block m)
-      go None e = ([], record { whole = λ i l. absurd (let x : i < 0 = l in omega arith); each = λ before rest i f. absurd (no_cut before rest i f) }, λ i j x y. absurd (not-in_empty i x))
-      go (Some plan) e =
-          let (s, k, is) = plan_of h mode (h.top ∷ h.methods) c.methods m plan compiled.methods e in
-          let many = length-map plan.schema.children (λ (child : Child). schema_of m child.head) in
-          (plan.line, subst (λ z. IsLine (IsPairBy (Some plan)) z plan.line) (sym many) is.line, bound.blocks m plan e)
-
-  schema_bound : Bounds.AreLargeEnough (schemas c) bound.block bound.number (Schemas.task (top_task c))
-  schema_bound = the_bound_is_large_enough (schemas c) (Schemas.task (top_task c)) bound.block bound.number (group_of bound.group) blocks bound.numbers
-
-  pub within_bound : (tree : Tree (network c)) (order : List Address) → IsFront (network c) (top_work c) tree order → IsWithin (network c) n tree order
-  within_bound tree order front = subst (λ z. IsWithin (network c) z tree order) bound.is
-      (bound_holds (network c) (λ (g : GroundMethod). bound.block g.number) (λ w. bound.number (schema w)) (top_work c)
-      (lifted_bound_is_bound (network c) (schemas c) schema (λ (g : GroundMethod). g.number) (lifted c) (top_work c) bound.block bound.number schema_bound) tree order front)
-
   pub loses_nothing : (b : ℕ) (domain problem : List ℕ) → n ≤ b → IsFaithful c b domain problem → LosesNothing c b domain problem
   loses_nothing b domain problem l f tree order solution =
       let front = solution.finished.front in
-      let w = within_bound tree order front in
+      let w = every_front_is_within h mode c compiled n bound tree order front in
       let (steps, slot, s) = f.spelled tree order front (λ taken rest nodes e a. (let k = w taken rest nodes e a in omega arith)) in
       (steps, slot, s, (f.plans steps).1 (tree, order, slot, s, solution))

@@ -1,10 +1,7 @@
 use Rattle.plan_model.specs.declared.terms.Term.TheVariants.{Obj}
-use Rattle.plan_model.specs.declared.formulas.Formula.TheVariants.{Holds}
-use Rattle.plan_model.specs.declared.effects.Effect.TheVariants.{Add, When}
-use Rattle.slot_encoding.specs.OrderFormulas.{pair_of}
-use Rattle.order_encoder.specs.Orders.{numbers}
+use Rattle.order_encoder.specs.NamedOrders as of
 use Rattle.order_encoder.proofs.NextSlot.{put_next}
 use Rattle.order_encoder.proofs.copies.push_copies.Goals as goal
 
 pub loop-k-preserved : goal.loop-k-preserved
-loop-k-preserved c = put_next (λ o. When (Holds (pair_of (numbers c.args.n.now) 0 c.args.h (Obj o))) (Add (pair_of (numbers c.args.n.now) 0 c.args.child (Obj o)))) c.args.n.now.first_slot c.loop-k.k c.args.into.now c.loop-k.into c.put.new.self c.copy_one.result c.loop-k.invariant c.copy_one.ensures c.in_ok-put.ensures.put
+loop-k-preserved c = put_next (λ o. of.one_copy c.args.n.now c.args.h c.args.child (Obj o)) c.args.n.now.first_slot c.loop-k.k c.args.into.now c.loop-k.into c.put.new.self c.copy_one.result c.loop-k.invariant c.copy_one.ensures c.in_ok-put.ensures.put

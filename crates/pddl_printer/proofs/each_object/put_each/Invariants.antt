@@ -1,10 +1,9 @@
 use Rattle.task_networks.specs.Spelling.{numbers}
 use Rattle.plan_texts.specs.SpellsPddl.{pddl_words}
-use Rattle.pddl_printer.specs.Behind.{behind}
+use Rattle.pddl_printer.specs.Behind.{behind, of_each}
 use Rattle.pddl_printer.specs.Literals.{literal_part}
 use Rattle.pddl_printer.specs.Scopes.{words_in_force}
 use Rattle.pddl_printer.specs.Wrote.{Wrote}
-use Rattle.pddl_printer.proofs.Each.{of_each}
 use Rattle.pddl_printer.proofs.each_object.put_each.Given as goal
 
 abbrev pub invariant-loop-k : goal.invariant-loop-k

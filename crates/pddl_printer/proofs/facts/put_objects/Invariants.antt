@@ -2,9 +2,8 @@ use Rattle.std.proofs.Common.{take, []}
 use Rattle.plan_texts.specs.SpellsPddl.{pddl_words}
 use Rattle.plan_texts.specs.Printed.{term_part}
 use Rattle.plan_model.specs.declared.terms.Term.TheVariants.{Obj}
-use Rattle.pddl_printer.specs.Behind.{behind}
+use Rattle.pddl_printer.specs.Behind.{behind, of_each}
 use Rattle.pddl_printer.specs.Wrote.{Wrote}
-use Rattle.pddl_printer.proofs.Each.{of_each}
 use Rattle.pddl_printer.proofs.facts.put_objects.Given as goal
 
 abbrev pub invariant-loop-object : goal.invariant-loop-object

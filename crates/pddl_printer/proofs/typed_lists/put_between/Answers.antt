@@ -5,6 +5,7 @@ use Rattle.plan_texts.specs.SpellsPddl.{pddl_words}
 use Rattle.plan_texts.specs.Printed.{param_words, params_parts, typed_parts}
 use Rattle.pddl_printer.specs.Behind.{between, typed}
 use Rattle.pddl_printer.proofs.Appended.{wrote-as, wrote-then}
+use Rattle.pddl_printer.proofs.Each.{typed-each}
 use Rattle.pddl_printer.proofs.typed_lists.put_between.Goals as goal
 use Rattle.std.proofs.Common.{append_assoc}
 
@@ -13,4 +14,4 @@ first-typed x xs = simp append_assoc
 
 pub returns-in-Some : goal.returns-in-Some
 returns-in-Some c =
-    wrote-as (first-typed (param_words (pddl_words c.args.p.now) c.in-Some.first.now) (map (param_words (pddl_words c.args.p.now)) c.in-Some.rest.now) ∙ ap (λ xs. between (params_parts (pddl_words c.args.p.now) xs)) (sym c.in-Some.ensures.cases.0)) (wrote-then c.put_param.ensures c.put_params.ensures)
+    wrote-as (first-typed (param_words (pddl_words c.args.p.now) c.in-Some.first.now) (map (param_words (pddl_words c.args.p.now)) c.in-Some.rest.now) ∙ ap (λ xs. between (params_parts (pddl_words c.args.p.now) xs)) (sym c.in-Some.ensures.cases.0)) (wrote-then c.put_param.ensures (wrote-as (typed-each (param_words (pddl_words c.args.p.now)) c.in-Some.rest.now) c.put_items.ensures))

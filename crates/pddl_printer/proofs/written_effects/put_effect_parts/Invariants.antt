@@ -4,7 +4,7 @@ use Rattle.pddl_printer.specs.WrittenOut.{effect_parts}
 use Rattle.pddl_printer.specs.Literals.{effects_behind}
 use Rattle.pddl_printer.specs.Scopes.{words_in_force}
 use Rattle.pddl_printer.specs.Wrote.{Wrote}
-use Rattle.pddl_printer.proofs.Each.{of_each}
+use Rattle.pddl_printer.specs.Behind.{of_each}
 use Rattle.pddl_printer.proofs.written_effects.put_effect_parts.Given as goal
 
 abbrev pub invariant-loop-part : goal.invariant-loop-part

@@ -1,12 +1,9 @@
 use Rattle.std.proofs.Common.{◌≡◌, ℕ, ◌∷◌, take}
-use Rattle.std.specs.Prelude.{sum_by}
 use Rattle.std.specs.HashSet.{contains}
 use Rattle.std.specs.declared.vec.Vec.{Vec}
 use Rattle.plan_model.specs.declared.terms.GroundAtom.{GroundAtom}
-use Rattle.plan_meaning.specs.Compilation.{once}
 use Rattle.slot_encoding.specs.EncodedValue.{same_atom}
-use Rattle.printed_sizes.specs.Capped.{capped}
-use Rattle.printed_sizes.specs.Problems.{fact_size}
+use Rattle.printed_sizes.specs.FrameLengths as of
 use Rattle.printed_sizes.proofs.Once.{has}
 use Rattle.printed_sizes.proofs.SeenAtoms.{same_key}
 use Rattle.printed_sizes.proofs.facts.single_facts_size.Given as goal
@@ -14,5 +11,5 @@ use Rattle.printed_sizes.proofs.facts.single_facts_size.Given as goal
 abbrev pub invariant-loop-atom : goal.invariant-loop-atom
 invariant-loop-atom l = record {
   seen : (g : GroundAtom) (v : Vec ℕ _) → v.items ≡ g.predicate ∷ g.args → contains same_key l.seen v ≡ has same_atom g (take l.atom-index l.atoms);
-  total : l.total ≡ capped (sum_by (fact_size l.frame.compiled.now l.frame.slots) (once same_atom (take l.atom-index l.atoms)));
+  total : l.total ≡ of.single_facts_length l.frame (take l.atom-index l.atoms);
 }

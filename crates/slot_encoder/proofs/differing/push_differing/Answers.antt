@@ -1,6 +1,7 @@
 use Rattle.std.proofs.Common.{◌+◌, ◌-◌, ◌++◌, map, ap, ◌∙◌}
 use Rattle.task_networks.specs.Spelling.{numbers}
-use Rattle.slot_encoder.proofs.Numbered.{differ_next, unequal_to}
+use Rattle.slot_encoder.specs.Pieces.{unequal_to}
+use Rattle.slot_encoder.proofs.Numbered.{differ_next}
 use Rattle.slot_encoding.specs.EncodedActions.{differ}
 use Rattle.slot_encoder.proofs.differing.push_differing.Goals as goal
 

@@ -1,5 +1,5 @@
 use Rattle.order_encoder.proofs.NextSlot.{put_next}
-use Rattle.slot_encoder.proofs.Numbered.{unequal_to}
+use Rattle.slot_encoder.specs.Pieces.{unequal_to}
 use Rattle.slot_encoder.proofs.differing.push_unequal.Goals as goal
 
 pub loop-k-preserved : goal.loop-k-preserved

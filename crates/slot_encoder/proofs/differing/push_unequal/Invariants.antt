@@ -1,6 +1,6 @@
 use Rattle.std.proofs.Common.{◌≡◌, ◌++◌, map}
 use Rattle.task_networks.specs.Spelling.{numbers}
-use Rattle.slot_encoder.proofs.Numbered.{unequal_to}
+use Rattle.slot_encoder.specs.Pieces.{unequal_to}
 use Rattle.slot_encoder.proofs.differing.push_unequal.Given as goal
 
 abbrev pub invariant-loop-k : goal.invariant-loop-k

@@ -1,6 +1,6 @@
 use Rattle.std.proofs.Common.{take}
-use Rattle.slot_encoder.specs.Pieces.{AddsGuardAtoms}
+use Rattle.slot_encoder.specs.Made as made
 use Rattle.slot_encoder.proofs.initial.push_guards.Given as goal
 
 abbrev pub invariant-loop-ty : goal.invariant-loop-ty
-invariant-loop-ty l = AddsGuardAtoms l.frame.compiled.now l.frame.printed.now l.frame.slots l.frame.style (take l.ty-index l.types) l.initial.into l.into
+invariant-loop-ty l = made.AddsGuardAtoms l.frame (take l.ty-index l.types) l.initial.into l.into

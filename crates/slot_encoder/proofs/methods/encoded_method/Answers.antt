@@ -9,4 +9,4 @@ returns c =
     same_action c.in_ok-name.name _ c.in_ok-params.params _ _ _ _ _ c.in_ok-name.ensures
     c.in_ok-params.ensures
     (ap F.And c.in_ok-conditions.ensures)
-    (ap E.And (c.in_ok-effects.ensures ∙ method_change-at c.args.frame.now.compiled.now c.args.frame.now.printed.now c.args.frame.now.slots c.args.frame.now.style c.args.m c.args.plan.now c.args.check c.args.plan.now.schema.children c.requires.check))
+    (ap E.And (c.in_ok-effects.ensures ∙ method_change-at c.args.frame.now c.args.m c.args.plan.now c.args.check c.args.plan.now.schema.children c.requires.check))

@@ -1,6 +1,6 @@
 use Rattle.std.proofs.Common.{◌≡◌, ◌++◌, map, take}
-use Rattle.slot_encoder.specs.Pieces.{guard_tested}
+use Rattle.slot_encoder.specs.Made as made
 use Rattle.slot_encoder.proofs.predicates.push_guards.Given as goal
 
 abbrev pub invariant-loop-ty : goal.invariant-loop-ty
-invariant-loop-ty l = l.into ≡ l.initial.into ++ map (guard_tested l.frame.compiled.now l.frame.printed.now) (take l.ty-index l.types)
+invariant-loop-ty l = l.into ≡ l.initial.into ++ map (made.guard_tested l.frame) (take l.ty-index l.types)

@@ -3,7 +3,7 @@ use Rattle.plan_model.specs.declared.schemas.Predicate.{Predicate}
 use Rattle.plan_model.specs.declared.schemas.TaskSchema.{TaskSchema}
 use Rattle.plan_model.specs.declared.schemas.ActionSchema.{ActionSchema}
 use Rattle.plan_model.specs.declared.schemas.MethodPlan.{MethodPlan}
-use Rattle.slot_encoder.specs.Pieces.{printed_predicate, task_held, action_held, check_held, guard_tested}
+use Rattle.slot_encoder.specs.Made as made
 use Rattle.slot_encoder.proofs.Appended.{append_six}
 use Rattle.slot_encoder.proofs.PredicateParts.{predicates-is}
 use Rattle.slot_encoder.proofs.predicates.push_predicates.Goals as goal
@@ -11,10 +11,10 @@ use Rattle.slot_encoder.proofs.predicates.push_predicates.Goals as goal
 pub returns : goal.returns
 returns c =
     append_six {A = Predicate} c.args.into.now _ _ _ _ _ _ _ _ _ _ _ _
-    (c.in_ok-push_source.ensures ∙ ap (λ (xs : List Predicate). c.args.into.now ++ map (printed_predicate c.args.frame.now.compiled.now c.args.frame.now.printed.now) xs) c.as_slice.ensures.items)
+    (c.in_ok-push_source.ensures ∙ ap (λ (xs : List Predicate). c.args.into.now ++ map (made.predicate c.args.frame.now) xs) c.as_slice.ensures.items)
     c.in_ok-push_generated.ensures
-    (c.in_ok-push_tasks.ensures ∙ ap (λ (xs : List TaskSchema). c.push_generated.new.into ++ map (task_held c.args.frame.now.compiled.now c.args.frame.now.printed.now) xs) c.as_slice-2.ensures.items)
-    (c.in_ok-push_actions.ensures ∙ ap (λ (xs : List ActionSchema). c.push_tasks.new.into ++ map (action_held c.args.frame.now.compiled.now c.args.frame.now.printed.now) xs) c.as_slice-3.ensures.items)
-    (c.in_ok-push_checks.ensures ∙ ap (λ (xs : List MethodPlan). c.push_actions.new.into ++ map (check_held c.args.frame.now.compiled.now c.args.frame.now.printed.now) (filter (λ (plan : MethodPlan). plan.checked) xs)) c.as_slice-4.ensures.items)
-    (c.in_ok-push_guards.ensures ∙ ap (λ (xs : List ℕ). c.push_checks.new.into ++ map (guard_tested c.args.frame.now.compiled.now c.args.frame.now.printed.now) xs) (c.as_slice-5.ensures.items ∙ c.requires.guard_types))
-    ∙ ap (λ (ps : List Predicate). c.args.into.now ++ ps) (predicates-is c.args.frame.now.compiled.now c.args.frame.now.printed.now c.args.frame.now.slots)
+    (c.in_ok-push_tasks.ensures ∙ ap (λ (xs : List TaskSchema). c.push_generated.new.into ++ map (made.task_held c.args.frame.now) xs) c.as_slice-2.ensures.items)
+    (c.in_ok-push_actions.ensures ∙ ap (λ (xs : List ActionSchema). c.push_tasks.new.into ++ map (made.action_held c.args.frame.now) xs) c.as_slice-3.ensures.items)
+    (c.in_ok-push_checks.ensures ∙ ap (λ (xs : List MethodPlan). c.push_actions.new.into ++ map (made.check_held c.args.frame.now) (filter (λ (plan : MethodPlan). plan.checked) xs)) c.as_slice-4.ensures.items)
+    (c.in_ok-push_guards.ensures ∙ ap (λ (xs : List ℕ). c.push_checks.new.into ++ map (made.guard_tested c.args.frame.now) xs) (c.as_slice-5.ensures.items ∙ c.requires.guard_types))
+    ∙ ap (λ (ps : List Predicate). c.args.into.now ++ ps) (predicates-is c.args.frame.now)

@@ -1,8 +1,8 @@
 use Rattle.std.proofs.Common.{◌≡◌, ◌++◌, map}
 use Rattle.task_networks.specs.Spelling.{numbers}
 use Rattle.plan_model.specs.declared.effects.Effect.TheVariants as E
-use Rattle.slot_encoding.specs.EncodedActions as spec
+use Rattle.slot_encoder.specs.Made as made
 use Rattle.slot_encoder.proofs.splitting.push_taken.Given as goal
 
 abbrev pub invariant-loop-k : goal.invariant-loop-k
-invariant-loop-k l = l.into ≡ l.initial.into ++ map (λ v. E.Delete (spec.is_free l.frame.compiled.now l.frame.printed.now l.frame.slots l.frame.style v)) (numbers 1 l.k)
+invariant-loop-k l = l.into ≡ l.initial.into ++ map (λ v. E.Delete (made.is_free l.frame v)) (numbers 1 l.k)

@@ -1,0 +1,2 @@
+-- What is proved of every compiled problem.
+pub mod Laws

@@ -1,0 +1,5 @@
+use Rattle.pddl_printer.proofs.Appended.{wrote-then}
+use Rattle.pddl_printer.proofs.typed_lists.ParamItem.put.Goals as goal
+
+pub returns : goal.returns
+returns c = wrote-then c.put.ensures c.put_param.ensures

@@ -1,0 +1,5 @@
+use Rattle.pddl_printer.proofs.Appended.{wrote-then}
+use Rattle.pddl_printer.proofs.typed_lists.ParentItem.put.Goals as goal
+
+pub returns : goal.returns
+returns c = wrote-then (wrote-then c.put.ensures c.put_type.ensures) (wrote-then c.put-2.ensures c.put_type-2.ensures)

@@ -1,0 +1,361 @@
+-- The parts of the printed problem, each as it is made from the frame.
+-- Source: this project's encoding, after Alford et al., "Bound to Plan", ICAPS 2016.
+use Rattle.std.specs.Prelude.{ℕ, suc, true, ◌≡◌, ◌+◌, ◌-◌, cond, List, [], ◌∷◌, ◌++◌, map, drop, length, slice_index, codes, decimal}
+use Rattle.std.specs.List.{flat_map}
+use Rattle.htn_base.specs.Escapes.{slot_word}
+use Rattle.htn_base.specs.declared.name.Name.{Name}
+use Rattle.plan_model.specs.declared.options.Style.{Style}
+use Rattle.plan_model.specs.declared.types.Types.{Types}
+use Rattle.plan_model.specs.declared.types.Object.{Object}
+use Rattle.plan_model.specs.declared.terms.Param.{Param}
+use Rattle.plan_model.specs.declared.terms.Term.{Term}
+use Rattle.plan_model.specs.declared.terms.Term.TheVariants.{Var, Obj}
+use Rattle.plan_model.specs.declared.terms.Atom.{Atom}
+use Rattle.plan_model.specs.declared.terms.GroundAtom.{GroundAtom}
+use Rattle.plan_model.specs.declared.formulas.Formula.{Formula}
+use Rattle.plan_model.specs.declared.formulas.Formula.TheVariants.{Holds, Forall}
+use Rattle.plan_model.specs.declared.effects.Effect.{Effect}
+use Rattle.plan_model.specs.declared.effects.Effect.TheVariants as E
+use Rattle.plan_model.specs.declared.networks.Head.{Head}
+use Rattle.plan_model.specs.declared.networks.Head.TheVariants.{Task, Action, Check}
+use Rattle.plan_model.specs.declared.networks.Child.{Child}
+use Rattle.plan_model.specs.declared.networks.Constraint.{Constraint}
+use Rattle.plan_model.specs.declared.networks.Guard.{Guard}
+use Rattle.plan_model.specs.declared.networks.Pair.{Pair}
+use Rattle.plan_model.specs.declared.schemas.Predicate.{Predicate}
+use Rattle.plan_model.specs.declared.schemas.TaskSchema.{TaskSchema}
+use Rattle.plan_model.specs.declared.schemas.ActionSchema.{ActionSchema}
+use Rattle.plan_model.specs.declared.schemas.MethodPlan.{MethodPlan}
+use Rattle.plan_model.specs.declared.values.Compiled.{Compiled}
+use Rattle.plan_meaning.specs.Network.{InTypeOf}
+use Rattle.plan_meaning.specs.Compilation.{Keeps}
+use Rattle.task_networks.specs.Spelling.{numbers}
+use Rattle.slot_encoding.specs.SourceParts as source
+use Rattle.slot_encoding.specs.OrderFormulas as order
+use Rattle.slot_encoding.specs.EncodedNames as encoded
+use Rattle.slot_encoding.specs.EncodedActions as actions
+use Rattle.slot_encoding.specs.EncodedValue as value
+use Rattle.slot_encoder.specs.Pieces.{checked, if_checked, encoded_goal}
+use Rattle.slot_encoder.specs.Frames as frames
+use Rattle.slot_encoder.specs.declared.encoding.Behaviour.{Behaviour}
+use Rattle.slot_encoder.specs.declared.encoding.Declarations.{Declarations}
+use Rattle.slot_encoder.specs.declared.encoding.Encoded.{Encoded}
+use Rattle.slot_encoder.specs.declared.frame.Frame.{Frame}
+
+module _ (f : Frame) where
+  abbrev c : Compiled
+  c = f.compiled.now
+
+  -- the words of the printed problem, and of the source
+  abbrev words : List (List ℕ)
+  words = f.printed.now
+
+  abbrev own : List (List ℕ)
+  own = f.compiled.now.hddl.names
+
+  abbrev b : ℕ
+  b = f.slots
+
+  abbrev style : Style
+  style = f.style
+
+  abbrev pairs : order.OrderNumbers
+  pairs = encoded.order_numbers c words b
+
+  -- names
+  abbrev pub renamed : Name → Name
+  renamed = source.renamed words own
+
+  abbrev pub prefixed : List ℕ → Name → Name
+  prefixed prefix n = source.name words (prefix ++ source.source_word own n)
+
+  abbrev pub guard_name : ℕ → Name
+  guard_name ty = source.name words (encoded.guard_word c words 0 ty)
+
+  -- what stands in the source, with the names, types and variables of the printed problem
+  abbrev pub param : Param → Param
+  param = source.source_param words own
+
+  abbrev pub term : ℕ → Term → Term
+  term = source.moved words own
+
+  abbrev pub atom : ℕ → Atom → Atom
+  atom = source.source_atom words own
+
+  abbrev pub formula : ℕ → Formula → Formula
+  formula = source.source_formula words own
+
+  abbrev pub effect : ℕ → Effect → Effect
+  effect = source.source_effect words own
+
+  -- none where it is an empty conjunction
+  abbrev pub condition : ℕ → Formula → List Formula
+  condition = actions.source_condition c words b style
+
+  abbrev pub change : ℕ → Effect → List Effect
+  change = actions.source_change c words b style
+
+  -- types
+  abbrev pub types : Types
+  types = encoded.encoded_types c words b
+
+  -- of the source's types, the first of which is `object`
+  abbrev pub type_names : List Name → List Name
+  type_names names =
+      source.name words (codes "object")
+      ∷ source.name words (codes "htn_slot")
+      ∷ source.name words (codes "htn_object")
+      ∷ map renamed (drop 1 names)
+
+  -- objects
+  abbrev pub objects : List Object
+  objects = encoded.encoded_objects c words b
+
+  abbrev pub object : Object → Object
+  object x = record { name = renamed x.name; ty = source.retyped x.ty; constant = true }
+
+  abbrev pub slot : ℕ → Object
+  slot k = record { name = source.name words (slot_word k); ty = encoded.slot_type; constant = true }
+
+  -- predicates
+  abbrev pub predicates : List Predicate
+  predicates = encoded.encoded_predicates c words b
+
+  abbrev pub predicate : Predicate → Predicate
+  predicate p = record { name = renamed p.name; params = map param p.params }
+
+  abbrev pub slot_param : List ℕ → Param
+  slot_param = encoded.slot_param c words 0
+
+  abbrev pub slot_predicate : List ℕ → Predicate
+  slot_predicate word = record { name = source.name words word; params = slot_param (codes "htn_h") ∷ [] }
+
+  abbrev pub order_predicate : Predicate
+  order_predicate = record {
+    name = source.name words (codes "htn_before");
+    params = slot_param (codes "htn_x") ∷ slot_param (codes "htn_h") ∷ [];
+  }
+
+  -- the three predicates of the slots
+  abbrev pub slot_predicates : List Predicate
+  slot_predicates = slot_predicate (codes "htn_top") ∷ slot_predicate (codes "htn_free") ∷ order_predicate ∷ []
+
+  -- a slot holds what has so many parameters
+  abbrev pub held : List ℕ → Name → ℕ → Predicate
+  held prefix n count = record { name = prefixed prefix n; params = encoded.held_params c words 0 count }
+
+  abbrev pub task_held : TaskSchema → Predicate
+  task_held s = held (codes "htn_t_") s.name (length s.params)
+
+  abbrev pub action_held : ActionSchema → Predicate
+  action_held s = held (codes "htn_a_") s.name (length s.params)
+
+  abbrev pub check_held : MethodPlan → Predicate
+  check_held plan = held (codes "htn_c_") plan.schema.name (length plan.schema.params)
+
+  abbrev pub checks_held : List MethodPlan → List Predicate
+  checks_held methods = map check_held (checked methods)
+
+  -- the one of the method's check, if it has one
+  abbrev pub checking_held : MethodPlan → List Predicate
+  checking_held plan = if_checked plan (check_held plan)
+
+  abbrev pub argument : ℕ → Param
+  argument k = record { name = source.name words (codes "htn_a" ++ decimal k); ty = encoded.object_type }
+
+  abbrev pub guard_tested : ℕ → Predicate
+  guard_tested ty = record { name = guard_name ty; params = record { name = source.name words (codes "htn_a1"); ty = encoded.object_type } ∷ [] }
+
+  -- atoms, conditions and effects of slots
+  abbrev pub is_free : ℕ → Atom
+  is_free = actions.is_free c words b style
+
+  abbrev pub comes_before : ℕ → ℕ → Atom
+  comes_before first then = order.pair_of pairs b (Var first) (Var then)
+
+  -- a slot holds what has these arguments
+  abbrev pub held_atom : ℕ → ℕ → ℕ → List Term → Atom
+  held_atom predicate slot front terms = record { predicate = predicate; args = Var slot ∷ map (term front) terms }
+
+  abbrev pub waiting : ℕ → List Formula
+  waiting = actions.waiting c words b style
+
+  abbrev pub cleared : ℕ → List Effect
+  cleared depth = order.clear_parts pairs b depth style (Var 0)
+
+  abbrev pub freeing : Atom → ℕ → List Effect
+  freeing = actions.freeing c words b style
+
+  -- all actions
+  abbrev pub all_actions : List ActionSchema
+  all_actions = value.encoded_actions c words b style
+
+  -- of the methods, the top method being number 0
+  abbrev pub method_actions : List MethodPlan → List ActionSchema
+  method_actions = value.encoded_methods c words b style 0
+
+  abbrev pub method_action : ℕ → MethodPlan → ActionSchema
+  method_action = actions.encoded_method c words b style
+
+  abbrev pub method_name : ℕ → MethodPlan → Name
+  method_name m plan = source.name words (actions.method_word c words b style m plan m)
+
+  abbrev pub new_slot : ℕ → Param
+  new_slot k = slot_param (codes "htn_h" ++ decimal k)
+
+  -- the task's slot, the new slots, and the method's own parameters
+  abbrev pub method_params : MethodPlan → List Param
+  method_params plan = slot_param (codes "htn_h") ∷ map new_slot (numbers 1 (length plan.schema.children - 1)) ++ map param plan.schema.params
+
+  abbrev pub method_pre : MethodPlan → List Formula
+  method_pre = actions.method_pre c words b style 0
+
+  -- the method's task, in the first slot
+  abbrev pub method_task : ℕ → MethodPlan → Atom
+  method_task front plan = held_atom (encoded.task_predicate c plan.schema.task) 0 front plan.schema.task_args
+
+  abbrev pub new_slots_free : ℕ → List Formula
+  new_slots_free spare = map (λ v. Holds (is_free v)) (numbers 1 spare)
+
+  abbrev pub constraint : ℕ → Constraint → Formula
+  constraint front con = actions.test con.equal (term front con.left) (term front con.right)
+
+  abbrev pub constraints : ℕ → List Constraint → List Formula
+  constraints front cs = map (constraint front) cs
+
+  abbrev pub guard : ℕ → Guard → Formula
+  guard front g = Holds (record { predicate = encoded.guard_predicate c g.ty; args = term front g.term ∷ [] })
+
+  abbrev pub guards : ℕ → List Guard → List Formula
+  guards front gs = map (guard front) gs
+
+  -- the precondition where it is tested at once
+  abbrev pub tested : ℕ → MethodPlan → List Formula
+  tested front plan = cond plan.tested (condition front plan.schema.pre) []
+
+  abbrev pub new_slots_taken : ℕ → List Effect
+  new_slots_taken spare = map (λ v. E.Delete (is_free v)) (numbers 1 spare)
+
+  -- a child in its slot; check: the predicate of the method's check
+  abbrev pub child_atom : ℕ → ℕ → ℕ → Child → Atom
+  child_atom front check v child = by child.head
+    where
+      by : Head → Atom
+      by (Task t) = held_atom (encoded.task_predicate c t) v front child.args
+      by (Action a) = held_atom (encoded.action_predicate c a) v front child.args
+      by Check = held_atom check v front child.args
+
+  abbrev pub child_atoms : ℕ → ℕ → List ℕ → List Child → List Atom
+  child_atoms front check (v ∷ vs) (child ∷ children) = child_atom front check v child ∷ child_atoms front check vs children
+  child_atoms front check [] children = []
+  child_atoms front check (v ∷ vs) [] = []
+
+  abbrev pub added_pair : List ℕ → Pair → Effect
+  added_pair slots p = E.Add (comes_before (slice_index slots p.first) (slice_index slots p.then))
+
+  abbrev pub added_pairs : List ℕ → List Pair → List Effect
+  added_pairs slots ps = map (added_pair slots) ps
+
+  -- the order of what waits for the task, copied for one child
+  abbrev pub copied : ℕ → List ℕ → ℕ → List Effect
+  copied depth slots i = order.copy_parts pairs b depth style (Var 0) (Var (slice_index slots i))
+
+  -- a method with children puts them into slots
+  abbrev pub split : ℕ → MethodPlan → List Effect
+  split check plan =
+      E.Delete (actions.held_task c words b style 0 plan) ∷ new_slots_taken (actions.spare c words b style 0 plan)
+      ++ (map E.Add (child_atoms (actions.front c words b style 0 plan) check (actions.children_slots c words b style 0 plan) plan.schema.children)
+      ++ (added_pairs (actions.children_slots c words b style 0 plan) plan.schema.pairs
+      ++ flat_map (copied (actions.depth c words b style 0 plan) (actions.children_slots c words b style 0 plan)) plan.copiers))
+
+  abbrev pub method_change : ℕ → MethodPlan → List Child → List Effect
+  method_change check plan [] = freeing (actions.held_task c words b style 0 plan) (actions.depth c words b style 0 plan)
+  method_change check plan (child ∷ children) = split check plan
+
+  -- a childless method frees the task's slot
+  abbrev pub method_eff : ℕ → MethodPlan → List Effect
+  method_eff check plan = method_change check plan plan.schema.children
+
+  -- of the checks
+  abbrev pub check_actions : List MethodPlan → List ActionSchema
+  check_actions = value.encoded_checks c words b style 0
+
+  abbrev pub check_action : ℕ → MethodPlan → ActionSchema
+  check_action check plan = actions.work_action c words b style (codes "htn_c_" ++ source.source_word own plan.schema.name) check plan.schema.params plan.schema.pre []
+
+  -- its check's action, if the method has one
+  abbrev pub checking_action : ℕ → MethodPlan → List ActionSchema
+  checking_action check plan = if_checked plan (check_action check plan)
+
+  -- of the source
+  abbrev pub source_actions : List ActionSchema → List ActionSchema
+  source_actions = value.encoded_source c words b style 0
+
+  abbrev pub source_action : ℕ → ActionSchema → ActionSchema
+  source_action = actions.encoded_action c words b style
+
+  -- of a source action or a check: the slot, and then the parameters
+  abbrev pub work_params : List Param → List Param
+  work_params params = slot_param (codes "htn_h") ∷ map param params
+
+  abbrev pub work_atom : ℕ → ℕ → Atom
+  work_atom = actions.held_work c words b style
+
+  -- it is held in the slot with nothing before it, and its own condition holds
+  abbrev pub work_pre : ℕ → ℕ → Formula → List Formula
+  work_pre predicate count pre = Holds (work_atom predicate count) ∷ waiting (suc count) ++ condition 1 pre
+
+  abbrev pub work_eff : ℕ → ℕ → List Effect
+  work_eff predicate count = freeing (work_atom predicate count) (suc count)
+
+  -- what is true at the start
+  abbrev pub IsInitial : List GroundAtom → Type 0
+  IsInitial = value.IsInitial c words b style
+
+  abbrev pub first_atoms : List GroundAtom
+  first_atoms = value.first_atoms c words b style
+
+  abbrev pub slot_atom : ℕ → GroundAtom
+  slot_atom k = value.atom (encoded.free_predicate c) (encoded.first_slot c + k)
+
+  -- so many slots after the first one are free
+  abbrev pub free_atoms : ℕ → List GroundAtom
+  free_atoms count = map slot_atom (numbers 1 count)
+
+  -- the guard atoms of these types behind old
+  abbrev pub AddsGuardAtoms : List ℕ → List GroundAtom → List GroundAtom → Type 0
+  AddsGuardAtoms tys old new = (added : List GroundAtom) × value.AreGuardAtoms c words b style tys added × (new ≡ old ++ added)
+
+  -- the atoms of one guard behind old
+  abbrev pub AddsMembers : ℕ → List GroundAtom → List GroundAtom → Type 0
+  AddsMembers ty old new = (members : List ℕ) × Keeps (λ o. InTypeOf c o ty) (numbers 0 (length c.hddl.objects)) members × (new ≡ old ++ map (value.atom (encoded.guard_predicate c ty)) members)
+
+  -- the goal: the source's, and every slot free
+  abbrev pub goal : Formula
+  goal = encoded_goal c words b style
+
+  abbrev pub free : Term → Formula
+  free slot = Holds (record { predicate = encoded.free_predicate c; args = slot ∷ [] })
+
+  abbrev pub slot_free : ℕ → Formula
+  slot_free o = free (Obj o)
+
+  -- of so many slots, from object number first on
+  abbrev pub each_free : ℕ → ℕ → List Formula
+  each_free first count = map slot_free (numbers first count)
+
+  abbrev pub any_slot_free : Formula
+  any_slot_free = Forall (order.any_slot (encoded.order_numbers c words 0) 0) (free (Var 0))
+
+  abbrev pub slots_free : List Formula
+  slots_free = order.free_parts pairs b 0 style (encoded.free_predicate c)
+
+  -- the whole, and its halves
+  abbrev pub AreDeclarations : Declarations → Type 0
+  AreDeclarations = frames.AreDeclarations c words b
+
+  abbrev pub IsBehaviour : Behaviour → Type 0
+  IsBehaviour = frames.IsBehaviour c words b style
+
+  abbrev pub AreEncoded : Encoded → Type 0
+  AreEncoded = frames.AreEncoded c words b style
