@@ -1,8 +1,8 @@
 -- How what is due is made whole: terms, typed lists, formulas, effects, networks and steps always can be.
-use Rattle.std.proofs.Common.{ℕ, List, [], ◌∷◌, Option, codes, refl, sym, subst}
-use Rattle.text_forms.specs.Placed.{Placed, cut, close, word, list, level}
-use Rattle.text_forms.specs.Tokens.{Lexeme, opens, spells}
-use Rattle.form_grammar.specs.Codes.{Form, Whole}
+use Rattle.std.proofs.Common.{ℕ, List, [], ◌∷◌, codes, refl, sym, subst}
+use Rattle.text_forms.specs.Placed.{Placed, close, word, list, level}
+use Rattle.text_forms.specs.Tokens.{Lexeme, opens}
+use Rattle.form_grammar.specs.Codes.{Whole}
 use Rattle.form_grammar.specs.Rows.{Rows, form}
 use Rattle.form_grammar.specs.Texts.{TextRows, text_form, OneDue, the_list, the_end, one_list, ListsDue, mark_or_list, behind_mark, marked_lists}
 use Rattle.form_grammar.specs.Lists.{TermDue, ended, term, terms, applied, words, anything, term_rows, ListDue, parameters, of_predicate, objects, types, names, behind_name, type, union, some_types, more_types, list_rows}

@@ -1,16 +1,16 @@
 -- The fault of form of a whole text, where its tokens have no fault.
-use Rattle.std.proofs.Common.{◌≡◌, ℕ, zero, suc, ◌<◌, inl, inr, Bool, true, Some, None, List, [], ◌∷◌, ◌++◌, length, map, refl, sym, ap, arith}
+use Rattle.std.proofs.Common.{◌∙◌, ◌≡◌, ℕ, zero, suc, ◌<◌, inl, inr, Bool, true, Some, None, List, [], ◌∷◌, ◌++◌, length, map, refl, sym, ap, arith, subst}
 use Rattle.text_forms.specs.Faults.{Fault, fault, IsFaultless}
 use Rattle.text_forms.specs.Lists.{AreMatched}
 use Rattle.text_forms.specs.Placed.{Placed, cut, IsWhole, level, parts_at}
 use Rattle.text_forms.specs.Tokens.{Token, Lexeme, opens, closes, spells, tokens, lexemes, lexeme, symbol, symbols}
 use Rattle.text_forms.specs.Words.{Word}
 use Rattle.text_forms.proofs.MatchedFaults.{matched_are_faultless}
-use Rattle.form_grammar.specs.Codes.{Form, complete, unfinished, wrong, Whole, Begins, Departs}
-use Rattle.form_grammar.specs.Laws.{TellsFault, TellsDefineFault, TellsPlanFault}
+use Rattle.form_grammar.specs.Codes.{Form, complete, unfinished, wrong, Whole, EndsEarly, Departs}
+use Rattle.form_grammar.specs.Laws.{EndsInMark, TellsFault, TellsDefineFault, TellsPlanFault}
 use Rattle.form_grammar.specs.Rows.{Rows}
-use Rattle.form_grammar.specs.Texts.{text_form, fault_or, one_list, the_list, last_word, marked_lists, mark_or_list}
-use Rattle.form_grammar.proofs.Ends.{Ends, AreClosed, EndsMarked, no_tokens, trailing_mark}
+use Rattle.form_grammar.specs.Texts.{mark_or_list, fault_or, define_form, last_word, marked_form}
+use Rattle.form_grammar.proofs.Ends.{AreClosed, EndsMarked, no_tokens, trailing_mark, early_mark}
 
 -- matched parentheses close each list that is open in front of the tokens
 open_closed : (ts : List Lexeme) (k j : ℕ) → AreMatched k (map symbol ts) → j < k → IsWhole (level j ts)
@@ -71,6 +71,16 @@ marked is_mark (spells a w ∷ ts) zero at (inl e) = ([], w, last ts e.0, e.2)
 marked is_mark (spells a w ∷ ts) zero at (inr e) = let m = marked is_mark ts 0 at e in (spells a w ∷ m.0, m.1, ap (λ us. spells a w ∷ us) m.2, m.3)
 marked is_mark (spells a w ∷ ts) (suc k) at e = let m = marked is_mark ts (suc k) at e in (spells a w ∷ m.0, m.1, ap (λ us. spells a w ∷ us) m.2, m.3)
 
+marked_by : (is_mark : Word → Bool) (ts : List Lexeme) (k at : ℕ) (w : Word) → is_mark w ≡ true → AreMatched k (map symbol (ts ++ spells at w ∷ [])) → EndsMarked is_mark (level k (ts ++ spells at w ∷ [])) at
+marked_by is_mark [] zero at w e m = inl (refl, refl, e)
+marked_by is_mark [] (suc k) at w e m = absurd m
+marked_by is_mark (opens a ∷ ts) zero at w e m = marked_by is_mark ts 1 at w e m
+marked_by is_mark (opens a ∷ ts) (suc k) at w e m = marked_by is_mark ts (suc (suc k)) at w e m
+marked_by is_mark (closes a ∷ ts) zero at w e m = absurd m
+marked_by is_mark (closes a ∷ ts) (suc k) at w e m = marked_by is_mark ts k at w e m
+marked_by is_mark (spells a v ∷ ts) zero at w e m = inr (marked_by is_mark ts zero at w e m)
+marked_by is_mark (spells a v ∷ ts) (suc k) at w e m = marked_by is_mark ts (suc k) at w e m
+
 none_told : (f : Form) (e : Fault) → fault_or e f ≡ None → Whole f
 none_told complete e h = tt
 none_told unfinished e h = absurd cc
@@ -92,38 +102,27 @@ told form text e = record {
   departs = told_departs (form (parts_at text 0)) e;
 }
 
-is_early : (f : Form) → Begins f → (Whole f → ⊥) → Ends f
-is_early complete b n = n tt
-is_early unfinished b n = tt
-is_early (wrong code at) b n = b
-
-early_told : (f : Form) (e : Fault) → Ends f → fault_or e f ≡ Some e
+early_told : (f : Form) (e : Fault) → EndsEarly f → fault_or e f ≡ Some e
 early_told complete e n = absurd n
 early_told unfinished e n = refl
 early_told (wrong code at) e n = absurd n
 
-module _ {X : Type 0} (rows : Rows X) (inside : X) where
-  abbrev define_form : Placed → Form
-  define_form p = text_form rows (one_list 5 inside) the_list p
+of_mark : (is_mark : Word → Bool) (text : List ℕ) (at : ℕ) → EndsInMark is_mark text at → IsFaultless text → EndsMarked is_mark (parts_at text 0) at
+of_mark is_mark text at m n =
+    subst (λ ts. EndsMarked is_mark (level 0 ts) at) (sym m.2) (marked_by is_mark m.0 0 at m.1 m.3 (subst (λ ts. AreMatched 0 (map symbol ts)) m.2 (of_lists text n)))
 
+module _ {X : Type 0} (rows : Rows X) (inside : X) where
   pub define_told : (text : List ℕ) → IsFaultless text → TellsDefineFault rows inside text
   define_told text n = record {
-    of_form = told define_form text (fault 5 (length text));
-    early = λ b w. (
-      none_left text (tokens text) (no_tokens rows (parts_at text 0) 5 inside (all_closed text n) (is_early (define_form (parts_at text 0)) b w)),
-      early_told (define_form (parts_at text 0)) (fault 5 (length text)) (is_early (define_form (parts_at text 0)) b w),
-    );
+    of_form = told (define_form rows inside) text (fault 5 (length text));
+    no_tokens = λ e. ap (λ ts. fault_or (fault 5 (length text)) (define_form rows inside (level 0 (map (lexeme text) ts)))) e;
+    early = λ b. none_left text (tokens text) (no_tokens rows (parts_at text 0) 5 inside (all_closed text n) b);
   }
-
-  abbrev plan_form : (Word → Bool) → Placed → Form
-  plan_form is_mark p = text_form rows (marked_lists is_mark inside) mark_or_list p
 
   pub plan_told : (is_mark : Word → Bool) (text : List ℕ) → IsFaultless text → TellsPlanFault rows inside is_mark text
   plan_told is_mark text n = record {
-    of_form = told (plan_form is_mark) text (fault 8 (last_word 0 (parts_at text 0)));
-    early = λ b w. (
-      last_word 0 (parts_at text 0),
-      marked is_mark (lexemes text) 0 (last_word 0 (parts_at text 0)) (trailing_mark rows (parts_at text 0) is_mark inside 0 (all_closed text n) (is_early (plan_form is_mark (parts_at text 0)) b w)),
-      early_told (plan_form is_mark (parts_at text 0)) (fault 8 (last_word 0 (parts_at text 0))) (is_early (plan_form is_mark (parts_at text 0)) b w),
-    );
+    of_form = told (marked_form rows inside is_mark) text (fault 8 (last_word 0 (parts_at text 0)));
+    trailing_mark = λ at m b. let e = early_mark rows (parts_at text 0) is_mark inside 0 at mark_or_list (all_closed text n) (of_mark is_mark text at m n) b in
+        early_told (marked_form rows inside is_mark (parts_at text 0)) (fault 8 (last_word 0 (parts_at text 0))) e.0 ∙ ap (λ a. Some (fault 8 a)) e.1;
+    early = λ b. (last_word 0 (parts_at text 0), marked is_mark (lexemes text) 0 (last_word 0 (parts_at text 0)) (trailing_mark rows (parts_at text 0) is_mark inside 0 (all_closed text n) b));
   }

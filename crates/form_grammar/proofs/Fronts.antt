@@ -1,12 +1,12 @@
 -- Tokens that begin a text can go on to a whole one, where all that may be due can be made whole.
-use Rattle.std.proofs.Common.{◌≡◌, ℕ, zero, suc, Bool, true, false, if◌then◌else◌, Option, Some, None, List, [], ◌∷◌, ◌++◌, refl, sym, ◌∙◌, ap, subst}
+use Rattle.std.proofs.Common.{◌≡◌, ℕ, suc, Bool, true, false, if◌then◌else◌, Option, None, List, [], ◌∷◌, ◌++◌, refl, sym, ◌∙◌, ap, subst}
 use Rattle.text_forms.specs.Placed.{Placed, cut, close, word, list, IsWhole, level}
 use Rattle.text_forms.specs.Tokens.{Lexeme, opens, closes, spells}
 use Rattle.text_forms.specs.Words.{Word}
 use Rattle.form_grammar.specs.Codes.{Form, complete, unfinished, wrong, Whole, Begins, ◌followed_by◌}
 use Rattle.form_grammar.specs.Laws.{BeginsWhatCanBeWhole}
-use Rattle.form_grammar.specs.Rows.{Next, go, stop, Inner, Row, Rows, form, closed, front}
-use Rattle.form_grammar.specs.Texts.{TextRow, TextRows, text_form}
+use Rattle.form_grammar.specs.Rows.{Next, go, stop, Inner, Rows, form, closed, front}
+use Rattle.form_grammar.specs.Texts.{TextRows, text_form}
 use Rattle.form_grammar.proofs.Meaning.{then_whole, form_whole}
 
 -- the tokens of a list up to its closing parenthesis, and others behind them
@@ -35,6 +35,15 @@ front_same : (x : Lexeme) (ts us : List Lexeme) → front (level 0 (x ∷ ts)) �
 front_same (opens at) ts us = refl
 front_same (closes at) ts us = refl
 front_same (spells at w) ts us = refl
+
+-- where the list begins with what is chosen for it
+from_front : (f : Option Word → List Lexeme → Form) (q : Placed) → ((us : List Lexeme) × (level 0 us ≡ q) × Whole (f (front q) us)) → (us : List Lexeme) × Whole (f (front (level 0 us)) us)
+from_front f q r = (r.0, subst (λ p. Whole (f (front p) r.0)) (sym r.1) r.2)
+
+-- where the list has a token already
+with_front : (f : Option Word → List Lexeme → Form) (x : Lexeme) (ts : List Lexeme) → ((us : List Lexeme) × Whole (f (front (level 0 (x ∷ ts))) ((x ∷ ts) ++ us)))
+    → (us : List Lexeme) × Whole (f (front (level 0 ((x ∷ ts) ++ us))) ((x ∷ ts) ++ us))
+with_front f x ts r = (r.0, subst (λ o. Whole (f o ((x ∷ ts) ++ r.0))) (front_same x ts r.0) r.1)
 
 then_assoc : (a b c : Form) → (a followed_by b) followed_by c ≡ a followed_by (b followed_by c)
 then_assoc complete b c = refl
@@ -96,14 +105,14 @@ module _ {X T : Type 0} (rows : Rows X) (texts : TextRows X T) where
   at_word : (d : X) (ds : List X) (t : T) (at : ℕ) (w : Word) (ts : List Lexeme) → rest (d ∷ ds) 0 t (spells at w ∷ ts) ≡ chosen ((rows d).at_word w) at (λ x. rest (x ∷ ds) 0 t ts)
   at_word d ds t at w ts = ap (λ r. form rows d (word at w (level 0 ts)) followed_by r) (rest_word ds 0 t at w ts) ∙ by_word ((rows d).at_word w)
     where
-      by_word : (n : Next X) → ◌≡◌ {A = Form} ((elim n [ | go next ↦ form rows next (level 0 ts) | stop code ↦ wrong code at ]) followed_by rest ds 1 t ts) (chosen n at (λ x. rest (x ∷ ds) 0 t ts))
+      by_word : (n : Next X) → ◌≡◌ {A = Form} ((elim n [ go next ↦ form rows next (level 0 ts) | stop code ↦ wrong code at ]) followed_by rest ds 1 t ts) (chosen n at (λ x. rest (x ∷ ds) 0 t ts))
       by_word (go x) = refl
       by_word (stop code) = refl
 
   at_list : (d : X) (ds : List X) (t : T) (at : ℕ) (ts : List Lexeme) → rest (d ∷ ds) 0 t (opens at ∷ ts) ≡ chosen (rows d).at_list at (λ i. rest (i.inside ∷ i.behind (front (level 0 ts)) ∷ ds) 0 t ts)
   at_list d ds t at ts = ap (λ r. form rows d (list at (level 0 ts) (level 1 ts)) followed_by r) (rest_open ds 0 t at ts) ∙ by_list (rows d).at_list
     where
-      by_list : (n : Next (Inner X)) → ◌≡◌ {A = Form} ((elim n [ | go i ↦ form rows i.inside (level 0 ts) followed_by form rows (i.behind (front (level 0 ts))) (level 1 ts) | stop code ↦ wrong code at ]) followed_by rest ds 2 t ts)
+      by_list : (n : Next (Inner X)) → ◌≡◌ {A = Form} ((elim n [ go i ↦ form rows i.inside (level 0 ts) followed_by form rows (i.behind (front (level 0 ts))) (level 1 ts) | stop code ↦ wrong code at ]) followed_by rest ds 2 t ts)
           (chosen n at (λ i. rest (i.inside ∷ i.behind (front (level 0 ts)) ∷ ds) 0 t ts))
       by_list (go i) = then_assoc (form rows i.inside (level 0 ts)) (form rows (i.behind (front (level 0 ts))) (level 1 ts)) (rest ds 2 t ts)
       by_list (stop code) = refl
@@ -111,14 +120,14 @@ module _ {X T : Type 0} (rows : Rows X) (texts : TextRows X T) where
   word_outside : (t : T) (at : ℕ) (w : Word) (ts : List Lexeme) → rest [] 0 t (spells at w ∷ ts) ≡ chosen ((texts t).at_word w) at (λ s. rest [] 0 s ts)
   word_outside t at w ts = by_word ((texts t).at_word w)
     where
-      by_word : (n : Next T) → ◌≡◌ {A = Form} (elim n [ | go next ↦ text_form rows texts next (level 0 ts) | stop code ↦ wrong code at ]) (chosen n at (λ s. rest [] 0 s ts))
+      by_word : (n : Next T) → ◌≡◌ {A = Form} (elim n [ go next ↦ text_form rows texts next (level 0 ts) | stop code ↦ wrong code at ]) (chosen n at (λ s. rest [] 0 s ts))
       by_word (go x) = refl
       by_word (stop code) = refl
 
   list_outside : (t : T) (at : ℕ) (ts : List Lexeme) → rest [] 0 t (opens at ∷ ts) ≡ chosen (texts t).at_list at (λ i. rest (i.0 ∷ []) 0 (i.1 (front (level 0 ts))) ts)
   list_outside t at ts = by_list (texts t).at_list
     where
-      by_list : (n : Next (X × (Option Word → T))) → ◌≡◌ {A = Form} (elim n [ | go i ↦ form rows i.0 (level 0 ts) followed_by text_form rows texts (i.1 (front (level 0 ts))) (level 1 ts) | stop code ↦ wrong code at ])
+      by_list : (n : Next (X × (Option Word → T))) → ◌≡◌ {A = Form} (elim n [ go i ↦ form rows i.0 (level 0 ts) followed_by text_form rows texts (i.1 (front (level 0 ts))) (level 1 ts) | stop code ↦ wrong code at ])
           (chosen n at (λ i. rest (i.0 ∷ []) 0 (i.1 (front (level 0 ts))) ts))
       by_list (go i) = refl
       by_list (stop code) = refl
@@ -156,9 +165,11 @@ module _ {X T : Type 0} (rows : Rows X) (texts : TextRows X T) where
   -- a whole list in front of what is whole
   pub with_list : (q : Placed) (d : X) (ds : List X) (t : T) → Whole (form rows d q) → (us : List Lexeme) × Whole (rest ds 0 t us) → (us : List Lexeme) × (level 0 us ≡ q) × Whole (rest (d ∷ ds) 0 t us)
   with_list q d ds t w r =
-      let is = form_whole rows q d w in
-      (tokens_of q r.0, level_inside q r.0 is,
-      then_whole (form rows d (level 0 (tokens_of q r.0))) (rest ds 1 t (tokens_of q r.0)) (subst (λ p. Whole (form rows d p)) (sym (level_inside q r.0 is)) w) (subst Whole (sym (rest_behind ds 0 t q r.0 is)) r.1))
+      let is = form_whole rows q d w in (
+        tokens_of q r.0,
+        level_inside q r.0 is,
+        then_whole (form rows d (level 0 (tokens_of q r.0))) (rest ds 1 t (tokens_of q r.0)) (subst (λ p. Whole (form rows d p)) (sym (level_inside q r.0 is)) w) (subst Whole (sym (rest_behind ds 0 t q r.0 is)) r.1),
+      )
 
 whole_begins : (f : Form) → Whole f → Begins f
 whole_begins complete w = tt
@@ -197,25 +208,24 @@ module _ {X T : Type 0} (rows : Rows X) (texts : TextRows X T) (Can : X → Type
       (m.0, subst Whole (sym (at_word rows texts d ds t at w (ts ++ m.0))) m.1)
   more (opens at ∷ []) [] t c b =
       let m = chosen_more (texts t).at_list at (λ i. rest rows texts (i.0 ∷ []) 0 (i.1 None) []) (λ us i. rest rows texts (i.0 ∷ []) 0 (i.1 (front (level 0 us))) us) (subst Begins (list_outside rows texts t at []) b)
-          (λ i e f. let q = can.ends i.0 (can.outside_list t i e) in let r = with_list rows texts q.0 i.0 [] (i.1 (front q.0)) q.1 (can.outside_ends (i.1 (front q.0))) in
-          (r.0, subst (λ p. Whole (rest rows texts (i.0 ∷ []) 0 (i.1 (front p)) r.0)) (sym r.1) r.2)) in
+      (λ i e f. let q = can.ends i.0 (can.outside_list t i e) in
+      from_front (λ o us. rest rows texts (i.0 ∷ []) 0 (i.1 o) us) q.0 (with_list rows texts q.0 i.0 [] (i.1 (front q.0)) q.1 (can.outside_ends (i.1 (front q.0))))) in
       (m.0, subst Whole (sym (list_outside rows texts t at m.0)) m.1)
   more (opens at ∷ []) (d ∷ ds) t c b =
       let m = chosen_more (rows d).at_list at (λ i. rest rows texts (i.inside ∷ i.behind None ∷ ds) 0 t []) (λ us i. rest rows texts (i.inside ∷ i.behind (front (level 0 us)) ∷ ds) 0 t us) (subst Begins (at_list rows texts d ds t at []) b)
-          (λ i e f. let g = can.by_list d i c.0 e in let q = can.ends i.inside g.0 in let r = with_list rows texts q.0 i.inside (i.behind (front q.0) ∷ ds) t q.1 (all_end (i.behind (front q.0) ∷ ds) t (g.1 (front q.0), c.1)) in
-          (r.0, subst (λ p. Whole (rest rows texts (i.inside ∷ i.behind (front p) ∷ ds) 0 t r.0)) (sym r.1) r.2)) in
+      (λ i e f. let g = can.by_list d i c.0 e in let q = can.ends i.inside g.0 in
+      from_front (λ o us. rest rows texts (i.inside ∷ i.behind o ∷ ds) 0 t us) q.0 (with_list rows texts q.0 i.inside (i.behind (front q.0) ∷ ds) t q.1 (all_end (i.behind (front q.0) ∷ ds) t (g.1 (front q.0), c.1)))) in
       (m.0, subst Whole (sym (at_list rows texts d ds t at m.0)) m.1)
   more (opens at ∷ x ∷ ts) [] t c b =
       let m = chosen_more (texts t).at_list at (λ i. rest rows texts (i.0 ∷ []) 0 (i.1 (front (level 0 (x ∷ ts)))) (x ∷ ts)) (λ us i. rest rows texts (i.0 ∷ []) 0 (i.1 (front (level 0 ((x ∷ ts) ++ us)))) ((x ∷ ts) ++ us))
-          (subst Begins (list_outside rows texts t at (x ∷ ts)) b)
-          (λ i e f. let r = more (x ∷ ts) (i.0 ∷ []) (i.1 (front (level 0 (x ∷ ts)))) (can.outside_list t i e, tt) f in
-          (r.0, subst (λ o. Whole (rest rows texts (i.0 ∷ []) 0 (i.1 o) ((x ∷ ts) ++ r.0))) (front_same x ts r.0) r.1)) in
+      (subst Begins (list_outside rows texts t at (x ∷ ts)) b)
+      (λ i e f. with_front (λ o us. rest rows texts (i.0 ∷ []) 0 (i.1 o) us) x ts (more (x ∷ ts) (i.0 ∷ []) (i.1 (front (level 0 (x ∷ ts)))) (can.outside_list t i e, tt) f)) in
       (m.0, subst Whole (sym (list_outside rows texts t at ((x ∷ ts) ++ m.0))) m.1)
   more (opens at ∷ x ∷ ts) (d ∷ ds) t c b =
       let m = chosen_more (rows d).at_list at (λ i. rest rows texts (i.inside ∷ i.behind (front (level 0 (x ∷ ts))) ∷ ds) 0 t (x ∷ ts))
-          (λ us i. rest rows texts (i.inside ∷ i.behind (front (level 0 ((x ∷ ts) ++ us))) ∷ ds) 0 t ((x ∷ ts) ++ us)) (subst Begins (at_list rows texts d ds t at (x ∷ ts)) b)
-          (λ i e f. let g = can.by_list d i c.0 e in let r = more (x ∷ ts) (i.inside ∷ i.behind (front (level 0 (x ∷ ts))) ∷ ds) t (g.0, (g.1 (front (level 0 (x ∷ ts))), c.1)) f in
-          (r.0, subst (λ o. Whole (rest rows texts (i.inside ∷ i.behind o ∷ ds) 0 t ((x ∷ ts) ++ r.0))) (front_same x ts r.0) r.1)) in
+      (λ us i. rest rows texts (i.inside ∷ i.behind (front (level 0 ((x ∷ ts) ++ us))) ∷ ds) 0 t ((x ∷ ts) ++ us)) (subst Begins (at_list rows texts d ds t at (x ∷ ts)) b)
+      (λ i e f. let g = can.by_list d i c.0 e in
+      with_front (λ o us. rest rows texts (i.inside ∷ i.behind o ∷ ds) 0 t us) x ts (more (x ∷ ts) (i.inside ∷ i.behind (front (level 0 (x ∷ ts))) ∷ ds) t (g.0, (g.1 (front (level 0 (x ∷ ts))), c.1)) f)) in
       (m.0, subst Whole (sym (at_list rows texts d ds t at ((x ∷ ts) ++ m.0))) m.1)
 
   pub begins_what_can_be_whole : (t : T) → BeginsWhatCanBeWhole (text_form rows texts t)

@@ -6,4 +6,5 @@ pub mod Ends
 pub mod Faults
 pub mod Fronts
 pub mod Endings
+pub mod DomainEndings
 pub mod examples

@@ -5,9 +5,9 @@ use Rattle.text_forms.specs.Fronts.{before}
 use Rattle.text_forms.specs.Placed.{Placed, level, parts_at}
 use Rattle.text_forms.specs.Tokens.{Lexeme, spells, tokens, lexemes}
 use Rattle.text_forms.specs.Words.{Word}
-use Rattle.form_grammar.specs.Codes.{Form, Whole, Begins, Departs}
+use Rattle.form_grammar.specs.Codes.{Form, Whole, Begins, EndsEarly, Departs}
 use Rattle.form_grammar.specs.Rows.{Rows, form}
-use Rattle.form_grammar.specs.Texts.{text_form, one_list, the_list, define_fault, marked_lists, mark_or_list, plan_fault}
+use Rattle.form_grammar.specs.Texts.{define_form, define_fault, marked_form, plan_fault}
 
 -- what the tokens from number i on, up to the place m, are to a form
 abbrev pub up_to : (Placed → Form) → List ℕ → ℕ → ℕ → Form
@@ -50,18 +50,18 @@ pub record TellsFault (f : Placed → Form) (text : List ℕ) (told : Option Fau
   pub none : (told ≡ None) ↔ Whole (f (parts_at text 0))
   pub departs : (code at : ℕ) → Departs (f (parts_at text 0)) code at → told ≡ Some (fault code at)
 
--- A domain or a problem ends too early only where it has no token: fault 5 at its length.
+-- A domain or a problem ends too early where it has no token, and only there: fault 5 at its length.
 pub record TellsDefineFault {X : Type 0} (rows : Rows X) (inside : X) (text : List ℕ) : Type 0 where
-  pub of_form : TellsFault (text_form rows (one_list 5 inside) the_list) text (define_fault rows inside (length text) (parts_at text 0))
-  pub early : Begins (text_form rows (one_list 5 inside) the_list (parts_at text 0)) → (Whole (text_form rows (one_list 5 inside) the_list (parts_at text 0)) → ⊥)
-      → (tokens text ≡ []) × (define_fault rows inside (length text) (parts_at text 0) ≡ Some (fault 5 (length text)))
+  pub of_form : TellsFault (define_form rows inside) text (define_fault rows inside text)
+  pub no_tokens : tokens text ≡ [] → define_fault rows inside text ≡ Some (fault 5 (length text))
+  pub early : EndsEarly (define_form rows inside (parts_at text 0)) → tokens text ≡ []
 
 -- the last token is a mark, at this place
 abbrev pub EndsInMark : (Word → Bool) → List ℕ → ℕ → Type 0
 EndsInMark is_mark text at = (ts : List Lexeme) × (w : Word) × (lexemes text ≡ ts ++ spells at w ∷ []) × (is_mark w ≡ true)
 
--- A plan ends too early only behind a mark without a list: fault 8 at this mark.
+-- A plan whose tokens begin one ends too early where the last token is a mark, and only there: fault 8 at this mark.
 pub record TellsPlanFault {X : Type 0} (rows : Rows X) (inside : X) (is_mark : Word → Bool) (text : List ℕ) : Type 0 where
-  pub of_form : TellsFault (text_form rows (marked_lists is_mark inside) mark_or_list) text (plan_fault rows inside is_mark (parts_at text 0))
-  pub early : Begins (text_form rows (marked_lists is_mark inside) mark_or_list (parts_at text 0)) → (Whole (text_form rows (marked_lists is_mark inside) mark_or_list (parts_at text 0)) → ⊥)
-      → (at : ℕ) × EndsInMark is_mark text at × (plan_fault rows inside is_mark (parts_at text 0) ≡ Some (fault 8 at))
+  pub of_form : TellsFault (marked_form rows inside is_mark) text (plan_fault rows inside is_mark text)
+  pub trailing_mark : (at : ℕ) → EndsInMark is_mark text at → Begins (marked_form rows inside is_mark (parts_at text 0)) → plan_fault rows inside is_mark text ≡ Some (fault 8 at)
+  pub early : EndsEarly (marked_form rows inside is_mark (parts_at text 0)) → (at : ℕ) × EndsInMark is_mark text at

@@ -2,11 +2,11 @@
 -- Source: this project's; a plan of PDDL 2.1, level 1 (Fox and Long, JAIR 20, 2003), without times. Some planners put a number and a colon before a step.
 use Rattle.std.specs.Prelude.{ℕ, Bool, false, not, ◌&&◌, ◌==◌, nat_le, Option, List, [], ◌∷◌}
 use Rattle.text_forms.specs.Faults.{Fault}
-use Rattle.text_forms.specs.Placed.{Placed, parts_at}
+use Rattle.text_forms.specs.Placed.{Placed}
 use Rattle.text_forms.specs.Words.{Word}
 use Rattle.form_grammar.specs.Codes.{Form}
 use Rattle.form_grammar.specs.Rows.{Rows, word_due, word_or_end}
-use Rattle.form_grammar.specs.Texts.{text_form, marked_lists, mark_or_list, plan_fault}
+use Rattle.form_grammar.specs.Texts.{marked_form, plan_fault}
 use Rattle.form_grammar.specs.Words.{used}
 
 -- In a plan a reserved word is a name like any other.
@@ -39,8 +39,8 @@ step_rows step = word_due 8 (used is_step_name args)
 step_rows args = word_or_end 8 (used is_step_name args)
 
 abbrev pub steps_form : Placed → Form
-steps_form p = text_form step_rows (marked_lists is_mark step) mark_or_list p
+steps_form p = marked_form step_rows step is_mark p
 
 -- in a text whose tokens have no fault
 abbrev pub steps_fault : List ℕ → Option Fault
-steps_fault text = plan_fault step_rows step is_mark (parts_at text 0)
+steps_fault text = plan_fault step_rows step is_mark text

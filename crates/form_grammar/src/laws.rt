@@ -11,7 +11,7 @@ ghost use Rattle.form_grammar.specs.Lists.{ListDue, term_rows, list_rows};
 ghost use Rattle.form_grammar.specs.Formulas.{gd, formula_rows, of_terms, of_list};
 ghost use Rattle.form_grammar.specs.Effects.{eff, effect_rows, of_formula};
 ghost use Rattle.form_grammar.specs.Networks.{NetworkDue, network_rows};
-ghost use Rattle.form_grammar.specs.Sections.{Language, Definition, define, section_rows, of_effect, of_network};
+ghost use Rattle.form_grammar.specs.Sections.{Language, Definition, domain, define, section_rows, of_effect, of_network};
 ghost use Rattle.form_grammar.specs.Definitions.{definition_form};
 ghost use Rattle.form_grammar.specs.Plans.{is_mark, step, step_rows, steps_form};
 
@@ -38,16 +38,14 @@ pub fn prefixes_begin_texts<G: TextGrammar>(text: &[u8])
 /// The fault of form of a text without faults of tokens: a domain or a problem, which is one list, and a classical
 /// plan, whose lists may have marks.
 pub fn faults_are_departures<G: Grammar>(text: &[u8])
-    requires faultless { IsFaultless text.now }
-    ensures define { TellsDefineFault G.rows G.inside text.now }
-    ensures plan { (is_mark : Word → Bool) → TellsPlanFault G.rows G.inside is_mark text.now }
+    ensures define { IsFaultless text.now → TellsDefineFault G.rows G.inside text.now }
+    ensures plan { IsFaultless text.now → (is_mark : Word → Bool) → TellsPlanFault G.rows G.inside is_mark text.now }
 {}
 
 /// Of domains and problems in either language, and of classical plans.
 pub fn definitions_and_plans_have_one_fault(text: &[u8])
-    requires faultless { IsFaultless text.now }
-    ensures define { (l : Language) (d : Definition) → TellsDefineFault section_rows (define l d) text.now }
-    ensures plan { TellsPlanFault step_rows step is_mark text.now }
+    ensures define { IsFaultless text.now → (l : Language) (d : Definition) → TellsDefineFault section_rows (define l d) text.now }
+    ensures plan { IsFaultless text.now → TellsPlanFault step_rows step is_mark text.now }
     ensures prefixes { (l : Language) (d : Definition) → HasPrefixLaws (definition_form l d) text.now 0 }
     ensures plan_prefixes { HasPrefixLaws steps_form text.now 0 }
 {}
@@ -61,9 +59,10 @@ pub fn parts_keep_their_forms()
     ensures networks { KeepsForms network_rows section_rows of_network }
 {}
 
-/// Tokens begin a classical plan, or a text that is one formula, effect, typed list or list of a network, exactly where
-/// more tokens behind them make it whole.
+/// Tokens begin a domain, a classical plan, or a text that is one formula, effect, typed list or list of a network, exactly
+/// where more tokens behind them make it whole. (Not so a problem: a parenthesis begins one more section where all stand.)
 pub fn begins_what_can_be_whole()
+    ensures domains { (l : Language) → BeginsWhatCanBeWhole (definition_form l domain) }
     ensures plans { BeginsWhatCanBeWhole steps_form }
     ensures formulas { BeginsWhatCanBeWhole (text_form formula_rows (one_list 8 gd) the_list) }
     ensures effects { BeginsWhatCanBeWhole (text_form effect_rows (one_list 8 eff) the_list) }

@@ -10,6 +10,6 @@ mod laws;
 
 pub use grammar::{Grammar, TextGrammar};
 pub use laws::{
-    begins_what_can_be_whole, definitions_and_plans_have_one_fault, faults_are_departures, one_token_departs,
-    parts_keep_their_forms, prefixes_begin, prefixes_begin_texts,
+    begins_what_can_be_whole, definitions_and_plans_have_one_fault, faults_are_departures,
+    one_token_departs, parts_keep_their_forms, prefixes_begin, prefixes_begin_texts,
 };

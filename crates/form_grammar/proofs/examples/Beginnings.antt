@@ -3,7 +3,7 @@ use Rattle.std.proofs.Common.{◌≡◌, ℕ, None, codes, refl, slice_range}
 use Rattle.text_forms.specs.Placed.{parts_at}
 use Rattle.form_grammar.specs.Codes.{Form, complete, unfinished, wrong}
 use Rattle.form_grammar.specs.Definitions.{definition_form, definition_fault}
-use Rattle.form_grammar.specs.Sections.{hddl, domain}
+use Rattle.form_grammar.specs.Sections.{hddl, domain, problem}
 
 -- a keyword in upper case, and pairs with their sign in either place
 both_signs : definition_fault hddl domain (codes "(define (domain d) (:task t :parameters ()) (:method m :parameters () :task (t) :subtasks (and (x (a)) (y (a))) :ORDERING (and (x < y) (< y x))) (:action a :parameters ()))") ≡ None
@@ -34,3 +34,10 @@ all_bytes = refl
 -- of a cut keyword the form says that it is unknown
 in_a_keyword : front 24 ≡ wrong 6 20
 in_a_keyword = refl
+
+-- One more section begins where all sections of a problem stand, but no keyword of it can come.
+one_more_section : definition_form hddl problem (parts_at (codes "(define (problem p)(:domain d)(:requirements)(:objects)(:init)(:goal ())(:metric)(:htn)(") 0) ≡ unfinished
+one_more_section = refl
+
+one_more_keyword : definition_form hddl problem (parts_at (codes "(define (problem p)(:domain d)(:requirements)(:objects)(:init)(:goal ())(:metric)(:htn)(:goal") 0) ≡ wrong 7 88
+one_more_keyword = refl

@@ -7,6 +7,8 @@ use Rattle.form_grammar.specs.Rows.{Rows}
 use Rattle.form_grammar.specs.Laws.{BeginsWhatCanBeWhole}
 use Rattle.form_grammar.specs.Texts.{text_form, one_list, the_list, marked_lists, mark_or_list}
 use Rattle.form_grammar.proofs.Endings.{Ending, list_ends, formula_ends, effect_ends, network_ends, step_ends, one_ends, plan_ends, each_can}
+use Rattle.form_grammar.specs.Sections.{domain, define, section_rows}
+use Rattle.form_grammar.proofs.DomainEndings.{Can, domain_can}
 use Rattle.form_grammar.proofs.Fronts as fronts
 use Rattle.form_grammar.proofs.laws.begins_what_can_be_whole.Goals as goal
 
@@ -15,6 +17,7 @@ of_one rows inside e = fronts.begins_what_can_be_whole rows (one_list 8 inside) 
 
 pub returns : goal.returns
 returns c = record {
+  domains = λ l. fronts.begins_what_can_be_whole section_rows (one_list 5 (define l domain)) Can (domain_can l) the_list;
   plans = fronts.begins_what_can_be_whole step_rows (marked_lists is_mark step) (λ d. Unit {0}) (each_can step_rows (marked_lists is_mark step) step_ends plan_ends) mark_or_list;
   formulas = of_one formula_rows gd formula_ends;
   effects = of_one effect_rows eff effect_ends;

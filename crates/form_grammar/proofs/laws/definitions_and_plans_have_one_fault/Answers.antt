@@ -8,8 +8,8 @@ use Rattle.form_grammar.proofs.laws.definitions_and_plans_have_one_fault.Goals a
 
 pub returns : goal.returns
 returns c = record {
-  define = λ l d. define_told section_rows (define l d) c.args.text.now c.requires.faultless;
-  plan = plan_told step_rows step is_mark c.args.text.now c.requires.faultless;
+  define = λ n l d. define_told section_rows (define l d) c.args.text.now n;
+  plan = plan_told step_rows step is_mark c.args.text.now;
   prefixes = λ l d. prefix_laws (definition_form l d) (text_cuttable section_rows (one_list 5 (define l d)) the_list) c.args.text.now 0;
   plan_prefixes = prefix_laws steps_form (text_cuttable step_rows (marked_lists is_mark step) mark_or_list) c.args.text.now 0;
 }
