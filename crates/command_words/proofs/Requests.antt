@@ -3,8 +3,7 @@ use Rattle.std.proofs.Common.{◌≡◌, List, [], get_or, drop, Some, unwrap_or
 use Rattle.plan_model.specs.declared.options.Style.TheVariants.{Adl}
 use Rattle.plan_model.specs.declared.options.Checks.TheVariants.{Leaf}
 use Rattle.command_words.specs.Names.{Word, Names, AreApart}
-use Rattle.command_words.specs.Bounds.{IsNumeral}
-use Rattle.command_words.specs.Options.{Chosen, nothing_chosen, Choose}
+use Rattle.command_words.specs.Options.{Chosen, nothing_chosen, Choose, HasNumeral}
 use Rattle.command_words.specs.Words.{Request, translation_words, Asks, AreOfAForm}
 use Rattle.command_words.proofs.Choices.{choose_one}
 
@@ -42,7 +41,7 @@ not_apart words names options e none (request, asks) =
 pub not_chosen : (words : List Word) (names : Names) (options : List Word) → words ≡ translation_words names options → ((after : Chosen) → Choose options nothing_chosen after → ⊥) → AreOfAForm words → ⊥
 not_chosen words names options e none (request, asks) = none asks.chosen (chosen_there words names options request asks e)
 
-pub not_bound : (words : List Word) (names : Names) (options : List Word) (chosen : Chosen) → words ≡ translation_words names options → Choose options nothing_chosen chosen → ((numeral : Word) → chosen.bound ≡ Some numeral → IsNumeral numeral → ⊥) → AreOfAForm words → ⊥
+pub not_bound : (words : List Word) (names : Names) (options : List Word) (chosen : Chosen) → words ≡ translation_words names options → Choose options nothing_chosen chosen → ((numeral : Word) → HasNumeral chosen numeral → ⊥) → AreOfAForm words → ⊥
 not_bound words names options chosen e chooses none (request, asks) =
     let same = choose_one options nothing_chosen chosen asks.chosen chooses (chosen_there words names options request asks e) in
-    none request.numeral (ap (λ (z : Chosen). z.bound) same ∙ asks.numeral) asks.number
+    none request.numeral (ap (λ (z : Chosen). z.bound) same ∙ asks.numeral, asks.number)

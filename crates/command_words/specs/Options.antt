@@ -6,6 +6,7 @@ use Rattle.plan_model.specs.declared.options.Checks.{Checks}
 use Rattle.plan_model.specs.declared.options.Checks.TheVariants.{Leaf, AtOnce}
 use Rattle.command_words.specs.declared.settings.Settings.{Settings}
 use Rattle.command_words.specs.Names.{Word}
+use Rattle.command_words.specs.Bounds.{IsNumeral}
 
 -- what the options have set so far
 pub record Chosen : Type 0 where
@@ -16,8 +17,20 @@ pub record Chosen : Type 0 where
 abbrev pub chosen_of : Settings → Chosen
 chosen_of settings = record { bound = option_copied settings.bound; style = settings.style; checks = settings.checks }
 
+-- settings after a choice, from those before it
+abbrev pub Adds : (Chosen → Chosen → Type 0) → Settings → Settings → Type 0
+Adds Choice before after = Choice (chosen_of before) (chosen_of after)
+
+-- no choice goes on from these settings
+abbrev pub CannotAdd : (Chosen → Chosen → Type 0) → Settings → Type 0
+CannotAdd Choice before = (after : Chosen) → Choice (chosen_of before) after → ⊥
+
 abbrev pub nothing_chosen : Chosen
 nothing_chosen = record { bound = None; style = None; checks = None }
+
+-- the bound that was set is this numeral
+abbrev pub HasNumeral : Chosen → Word → Type 0
+HasNumeral chosen numeral = (chosen.bound ≡ Some numeral) × IsNumeral numeral
 
 abbrev pub style_word : Style → Word
 style_word Adl = codes "adl"
@@ -33,10 +46,12 @@ abbrev pub SetsBound : Word → Chosen → Chosen → Type 0
 SetsBound value before after = (before.bound ≡ None) × (after ≡ record before { bound = Some value })
 
 abbrev pub SetsStyle : Word → Chosen → Chosen → Type 0
-SetsStyle value before after = (style : Style) × (value ≡ style_word style) × (before.style ≡ None) × (after ≡ record before { style = Some style })
+SetsStyle value before after =
+    (style : Style) × (value ≡ style_word style) × (before.style ≡ None) × (after ≡ record before { style = Some style })
 
 abbrev pub SetsChecks : Word → Chosen → Chosen → Type 0
-SetsChecks value before after = (checks : Checks) × (value ≡ checks_word checks) × (before.checks ≡ None) × (after ≡ record before { checks = Some checks })
+SetsChecks value before after =
+    (checks : Checks) × (value ≡ checks_word checks) × (before.checks ≡ None) × (after ≡ record before { checks = Some checks })
 
 abbrev pub Sets : Word → Word → Chosen → Chosen → Type 0
 Sets option value before after =

@@ -1,7 +1,7 @@
 //! The words of the command line: the command that they ask for, and the number of slots in it.
 //!
-//! Stands on `plan_model`. The contract used above: `command` answers exactly the command that the words ask for, and `None` exactly
-//! where they are of no command's form.
+//! Stands on `plan_model`. The contract used above: `command` answers exactly the command that the
+//! words ask for, and `None` exactly where they are of no command's form.
 #![tactic(auto)]
 
 mod bounds;

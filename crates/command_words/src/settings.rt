@@ -1,7 +1,6 @@
-ghost use Rattle.std.specs.Prelude.{◌≡◌, ◌↔◌, ◌<◌, ◌≤◌, ◌∷◌, length, IsTrue, IfSome, IfNone, map, option_copied, string_bytes};
-ghost use Rattle.command_words.specs.Names.{Word};
-ghost use Rattle.command_words.specs.Bounds.{IsNumeral};
-ghost use Rattle.command_words.specs.Options.{Chosen, Choose, Sets, SetsBound, SetsStyle, SetsChecks, chosen_of, style_word, checks_word, nothing_chosen};
+ghost use Rattle.std.specs.Prelude.{◌≡◌, ◌↔◌, ◌<◌, ◌≤◌, ◌∷◌, length, IsTrue, IfSome, IfNone};
+ghost use Rattle.command_words.specs.Names.{Word, words_of};
+ghost use Rattle.command_words.specs.Options.{Adds, CannotAdd, Choose, Chosen, HasNumeral, Sets, SetsBound, SetsChecks, SetsStyle, checks_word, chosen_of, nothing_chosen, style_word};
 
 use crate::bounds::is_numeral;
 use plan_model::{Checks, Style};
@@ -16,8 +15,9 @@ pub(crate) struct Settings<'a> {
 
 /// The settings of words that are options with their values; `None` where they are not.
 pub(crate) fn settings_of(words: &[String]) -> Option<Settings<'_>>
-    ensures chosen { IfSome result (λ s. Choose (map string_bytes words.now) nothing_chosen (chosen_of s)) }
-    ensures other { IfNone result ((after : Chosen) → Choose (map string_bytes words.now) nothing_chosen after → ⊥) }
+    ensures chosen { IfSome result (λ s. Choose (words_of words.now) nothing_chosen (chosen_of s)) }
+    ensures other { IfNone result ((after : Chosen) →
+        Choose (words_of words.now) nothing_chosen after → ⊥) }
 {
     let nothing = Settings {
         bound: None,
@@ -29,8 +29,8 @@ pub(crate) fn settings_of(words: &[String]) -> Option<Settings<'_>>
 
 impl<'a> Settings<'a> {
     fn with_all(self, words: &'a [String]) -> Option<Settings<'a>>
-        ensures chosen { IfSome result (λ s. Choose (map string_bytes words.now) (chosen_of self.entry) (chosen_of s)) }
-        ensures other { IfNone result ((after : Chosen) → Choose (map string_bytes words.now) (chosen_of self.entry) after → ⊥) }
+        ensures chosen { IfSome result (Adds (Choose (words_of words.now)) self.entry) }
+        ensures other { IfNone result (CannotAdd (Choose (words_of words.now)) self.entry) }
     {
         match words {
             [] => Some(self),
@@ -44,8 +44,8 @@ impl<'a> Settings<'a> {
 
     /// With the value of one more option, which was not set before.
     fn with(self, option: &str, value: &'a str) -> Option<Settings<'a>>
-        ensures set { IfSome result (λ s. Sets option.now value.now (chosen_of self.entry) (chosen_of s)) }
-        ensures other { IfNone result ((after : Chosen) → Sets option.now value.now (chosen_of self.entry) after → ⊥) }
+        ensures set { IfSome result (Adds (Sets option.now value.now) self.entry) }
+        ensures other { IfNone result (CannotAdd (Sets option.now value.now) self.entry) }
     {
         if is_option(option, "--bound") {
             self.with_bound(value)
@@ -60,16 +60,16 @@ impl<'a> Settings<'a> {
 
     /// The value of `--bound` that was set, where it is a numeral.
     pub(crate) fn numeral(&self) -> Option<&'a str>
-        ensures set { IfSome result (λ word. (option_copied self.now.bound ≡ Some word.now) × IsNumeral word.now) }
-        ensures other { IfNone result ((word : Word) → option_copied self.now.bound ≡ Some word → IsNumeral word → ⊥) }
+        ensures set { IfSome result (λ word. HasNumeral (chosen_of self.now) word.now) }
+        ensures other { IfNone result ((word : Word) → HasNumeral (chosen_of self.now) word → ⊥) }
     {
         let word = self.bound?;
         if is_numeral(word) { Some(word) } else { None }
     }
 
     fn with_bound(self, value: &'a str) -> Option<Settings<'a>>
-        ensures set { IfSome result (λ s. SetsBound value.now (chosen_of self.entry) (chosen_of s)) }
-        ensures other { IfNone result ((after : Chosen) → SetsBound value.now (chosen_of self.entry) after → ⊥) }
+        ensures set { IfSome result (Adds (SetsBound value.now) self.entry) }
+        ensures other { IfNone result (CannotAdd (SetsBound value.now) self.entry) }
     {
         if self.bound.is_some() {
             return None;
@@ -82,8 +82,8 @@ impl<'a> Settings<'a> {
     }
 
     fn with_style(self, value: &str) -> Option<Settings<'a>>
-        ensures set { IfSome result (λ s. SetsStyle value.now (chosen_of self.entry) (chosen_of s)) }
-        ensures other { IfNone result ((after : Chosen) → SetsStyle value.now (chosen_of self.entry) after → ⊥) }
+        ensures set { IfSome result (Adds (SetsStyle value.now) self.entry) }
+        ensures other { IfNone result (CannotAdd (SetsStyle value.now) self.entry) }
     {
         if self.style.is_some() {
             return None;
@@ -97,8 +97,8 @@ impl<'a> Settings<'a> {
     }
 
     fn with_checks(self, value: &str) -> Option<Settings<'a>>
-        ensures set { IfSome result (λ s. SetsChecks value.now (chosen_of self.entry) (chosen_of s)) }
-        ensures other { IfNone result ((after : Chosen) → SetsChecks value.now (chosen_of self.entry) after → ⊥) }
+        ensures set { IfSome result (Adds (SetsChecks value.now) self.entry) }
+        ensures other { IfNone result (CannotAdd (SetsChecks value.now) self.entry) }
     {
         if self.checks.is_some() {
             return None;
@@ -122,7 +122,8 @@ struct Pair<'a> {
 
 fn pair_of(words: &[String]) -> Pair<'_>
     requires { 2 ≤ length words.now }
-    ensures spelled { map string_bytes words.now ≡ result.option.now ∷ result.value.now ∷ map string_bytes result.more.now }
+    ensures spelled { words_of words.now
+        ≡ result.option.now ∷ result.value.now ∷ words_of result.more.now }
     ensures shorter { length result.more.now < length words.now }
 {
     match words {

@@ -1,5 +1,5 @@
-ghost use Rattle.std.specs.Prelude.{◌≡◌, ◌↔◌, List, map, string_bytes, IfSome, IfNone, IsTrue};
-ghost use Rattle.command_words.specs.Names.{Word, Names, names_of};
+ghost use Rattle.std.specs.Prelude.{◌≡◌, ◌↔◌, List, string_bytes, IfSome, IfNone, IsTrue};
+ghost use Rattle.command_words.specs.Names.{Word, Names, names_of, words_of};
 ghost use Rattle.command_words.specs.Words.{AreOfAForm, AskFor, Asks, request_of, translation_words};
 
 use crate::commands::Command;
@@ -7,13 +7,15 @@ use crate::names::{Named, are_apart};
 use crate::settings::settings_of;
 use plan_model::{Checks, Style};
 
-/// The command that the words ask for; `None` exactly where the words are of no command's form. It takes no memory.
+/// The command that the words ask for; `None` exactly where the words are of no command's form.
+/// It takes no memory.
 ///
-/// The one form is `translate D P OD OP` with its options, where OD and OP differ and neither is D or P. The option `--bound N` is
-/// required; `--style adl|flat` and `--checks leaf|atonce` may be left out, and then are `adl` and `leaf`.
+/// The one form is `translate D P OD OP` with its options, where OD and OP differ and neither is D
+/// or P. The option `--bound N` is required; `--style adl|flat` and `--checks leaf|atonce` may be
+/// left out, and then are `adl` and `leaf`.
 pub fn command(words: &[String]) -> Option<Command<'_>>
-    ensures asked { IfSome result (AskFor (map string_bytes words.now)) }
-    ensures formless { IfNone result (AreOfAForm (map string_bytes words.now) → ⊥) }
+    ensures asked { IfSome result (AskFor (words_of words.now)) }
+    ensures formless { IfNone result (AreOfAForm (words_of words.now) → ⊥) }
 {
     let asked = asked(words)?;
     Some(Command::Translate {
@@ -27,7 +29,8 @@ pub fn command(words: &[String]) -> Option<Command<'_>>
     })
 }
 
-/// A translation that is asked for: its files, the numeral of its slots, its style and its checks of preconditions.
+/// A translation that is asked for: its files, the numeral of its slots, its style and its checks
+/// of preconditions.
 #[derive(Clone, Copy)]
 pub struct Translation<'a> {
     pub names: Named<'a>,
@@ -36,10 +39,11 @@ pub struct Translation<'a> {
     pub checks: Checks,
 }
 
-/// The translation that the words ask for; `None` exactly where the words are of no command's form. It takes no memory.
+/// The translation that the words ask for; `None` exactly where the words are of no command's form.
+/// It takes no memory.
 pub fn asked(words: &[String]) -> Option<Translation<'_>>
-    ensures asked { IfSome result (λ asked. Asks (map string_bytes words.now) (request_of asked)) }
-    ensures formless { IfNone result (AreOfAForm (map string_bytes words.now) → ⊥) }
+    ensures asked { IfSome result (λ asked. Asks (words_of words.now) (request_of asked)) }
+    ensures formless { IfNone result (AreOfAForm (words_of words.now) → ⊥) }
 {
     let parts = parts_of(words)?;
     if !are_apart(&parts.names) {
@@ -63,10 +67,10 @@ struct Parts<'a> {
 }
 
 fn parts_of(words: &[String]) -> Option<Parts<'_>>
-    ensures spelled { IfSome result (λ parts.
-        map string_bytes words.now ≡ translation_words (names_of parts.names) (map string_bytes parts.options.now)) }
-    ensures other { IfNone result ((names : Names) (options : List Word) →
-        map string_bytes words.now ≡ translation_words names options → ⊥) }
+    ensures spelled { IfSome result (λ parts. words_of words.now
+        ≡ translation_words (names_of parts.names) (words_of parts.options.now)) }
+    ensures other { IfNone result ((names : Names) (options : List Word) → words_of words.now
+        ≡ translation_words names options → ⊥) }
 {
     let [first, d, p, od, op, options @ ..] = words else {
         return None;

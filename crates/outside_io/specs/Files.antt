@@ -1,5 +1,5 @@
 use Rattle.std.specs.Prelude.{◌≡◌, ℕ, Bool, List, Option, Some, IfSome, option_map, take}
-use Rattle.outside_io.specs.Count.{Rises}
+use Rattle.outside_io.specs.Count.{Rises, HasRisen}
 use Rattle.outside_io.specs.Folder.{Folder, file_of, with_bytes, told_of, KeepsOthers}
 use Rattle.outside_io.specs.declared.files.GetError.{GetError}
 use Rattle.outside_io.specs.declared.files.GetError.TheVariants as get
@@ -13,6 +13,13 @@ pub record FilesState : Type 0 where
   pub put_faults : ℕ  -- how many puts have failed
   pub failed : Option (List ℕ)  -- the name in the last call that failed, where it is told
   pub lenient : Bool  -- whether a name that is not held reads as an empty file
+
+-- a get has failed, or a put
+abbrev pub GetHasFailed : FilesState → FilesState → Type 0
+GetHasFailed old new = HasRisen old.get_faults new.get_faults
+
+abbrev pub PutHasFailed : FilesState → FilesState → Type 0
+PutHasFailed old new = HasRisen old.put_faults new.put_faults
 
 -- a get that gives the first bytes of a file
 pub record GetGives (old new : FilesState) (name : List ℕ) (limit : ℕ) (bytes : List ℕ) : Type 0 where

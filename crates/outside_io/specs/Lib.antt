@@ -1,4 +1,5 @@
 pub mod Count
+pub mod Seen
 pub mod Folder
 pub mod Files
 pub mod Sink

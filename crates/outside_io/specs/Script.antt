@@ -46,7 +46,8 @@ pub record ScriptedFiles : Type 0 where
   pub failed : Option (List ℕ)
 
 abbrev pub files_state : ScriptedFiles → FilesState
-files_state files = record { held = Some files.folder; get_faults = files.gets.faults; put_faults = files.puts.faults; failed = files.failed; lenient = false }
+files_state files =
+    record { held = Some files.folder; get_faults = files.gets.faults; put_faults = files.puts.faults; failed = files.failed; lenient = false }
 
 -- a sink in memory, and a script for writes
 pub record ScriptedSink : Type 0 where
@@ -63,6 +64,20 @@ no_files = record { folder = []; gets = fresh; puts = fresh; failed = None }
 -- nothing taken, and no write that is to fail
 abbrev pub empty_sink : ℕ → ScriptedSink
 empty_sink largest = record { sink = empty_bounded largest; writes = fresh }
+
+-- the files in which a name holds these bytes
+abbrev pub with_file : ScriptedFiles → List ℕ → List ℕ → ScriptedFiles
+with_file files name bytes = record files { folder = with_bytes files.folder name bytes }
+
+-- the files, and the sink, of which one more call is to fail
+abbrev pub with_failing_get : ScriptedFiles → ℕ → ScriptedFiles
+with_failing_get files number = record files { gets = with_failing files.gets number }
+
+abbrev pub with_failing_put : ScriptedFiles → ℕ → ScriptedFiles
+with_failing_put files number = record files { puts = with_failing files.puts number }
+
+abbrev pub with_failing_write : ScriptedSink → ℕ → ScriptedSink
+with_failing_write s number = record s { writes = with_failing s.writes number }
 
 -- the script lets the next get fail, or the name is not held
 abbrev pub GetIsToFail : ScriptedFiles → List ℕ → Type 0

@@ -1,5 +1,5 @@
 use Rattle.std.specs.Prelude.{◌≡◌, ◌≢◌, ℕ, ◌<◌, ◌≤◌, List, [], ◌++◌, length, Option, option_map, take}
-use Rattle.outside_io.specs.Count.{Rises}
+use Rattle.outside_io.specs.Count.{Rises, HasRisen}
 use Rattle.outside_io.specs.declared.sink.WriteError.{WriteError}
 use Rattle.outside_io.specs.declared.sink.WriteError.TheVariants.{Failed, Memory}
 
@@ -8,6 +8,10 @@ pub record SinkState : Type 0 where
   pub written : Option (List ℕ)  -- all bytes that it took, where they are told
   pub faults : ℕ  -- how many writes have failed
   pub refused : ℕ  -- how many writes found no memory
+
+-- a write has failed
+abbrev pub WriteHasFailed : SinkState → SinkState → Type 0
+WriteHasFailed old new = HasRisen old.faults new.faults
 
 -- a write that takes the first `count` bytes of a piece, at least one where there is one
 pub record WriteTakes (old new : SinkState) (piece : List ℕ) (count : ℕ) : Type 0 where

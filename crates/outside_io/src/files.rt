@@ -1,5 +1,6 @@
 ghost use Rattle.std.specs.Prelude.{◌≡◌, IfOk, IfErr, OnOk};
 ghost use Rattle.outside_io.specs.Files.{FilesState, GetGives, GetRefused, PutGives, PutRefused};
+ghost use Rattle.outside_io.specs.Seen.{Seen};
 
 use htn_base::Memory;
 use std::alloc::Global;
@@ -55,11 +56,12 @@ pub trait Files {
 
     /// Gives the first `limit` bytes of the named file, all of them if there are fewer.
     fn get(&mut self, alloc: Global, name: &str, limit: u64) -> Result<Vec<u8>, GetError>
-        ensures ok { IfOk result (λ v. GetGives (state self.old) (state self.new) name.now limit v.items) }
-        ensures err { IfErr result (GetRefused (state self.old) (state self.new) name.now) };
+        ensures ok { IfOk result (λ v.
+            Seen state GetGives self.old self.new name.now limit v.items) }
+        ensures err { IfErr result (Seen state GetRefused self.old self.new name.now) };
 
     /// Makes the named file hold exactly these bytes.
     fn put(&mut self, name: &str, bytes: &[u8]) -> Result<(), PutError>
-        ensures ok { OnOk result (PutGives (state self.old) (state self.new) name.now bytes.now) }
-        ensures err { IfErr result (PutRefused (state self.old) (state self.new) name.now) };
+        ensures ok { OnOk result (Seen state PutGives self.old self.new name.now bytes.now) }
+        ensures err { IfErr result (Seen state PutRefused self.old self.new name.now) };
 }

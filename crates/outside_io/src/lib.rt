@@ -1,9 +1,9 @@
-// What lies outside of the program: files that are read and written whole, and sinks that take bytes.
-// It stands on `htn_base` for `Memory`. The layer above uses the contracts of `Files` and `Sink`: a
-// call fails only where the object's count of faults rises, and what is held and written is told where
-// the implementation tells it. Of the four in memory each call gives the whole new value, by one
-// equation: `SteadyFiles` and `SteadySink` never fail, `MemFiles` and `MemSink` are these with a script
-// of the calls that fail. `DiskFiles` and `StdSink` are the real ones.
+// What lies outside of the program: files that are read and written whole, and sinks that take
+// bytes. It stands on `htn_base` for `Memory`. The layer above uses the contracts of `Files` and
+// `Sink`: a call fails only where the object's count of faults rises, and what is held and written
+// is told where the implementation tells it. Of the four in memory each call gives the whole new
+// value, by one equation: `SteadyFiles` and `SteadySink` never fail, `MemFiles` and `MemSink` are
+// these with a script of the calls that fail. `DiskFiles` and `StdSink` are the real ones.
 #![tactic(auto)]
 
 mod disk_files;

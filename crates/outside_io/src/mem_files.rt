@@ -1,8 +1,9 @@
 ghost use Rattle.std.specs.Prelude.{◌≡◌, IfOk, IfErr, OnOk, OnErr, IsErrOf, true, false};
 ghost use Rattle.std.specs.Option.{option_copied};
 ghost use Rattle.outside_io.specs.Files.{GetGives, GetRefused, PutGives, PutRefused};
-ghost use Rattle.outside_io.specs.Folder.{bytes_of, with_bytes};
-ghost use Rattle.outside_io.specs.Script.{GetIsToFail, after_get, after_put, after_refused_get, after_refused_put, fails_next, files_state, no_files, with_failing};
+ghost use Rattle.outside_io.specs.Seen.{Seen};
+ghost use Rattle.outside_io.specs.Folder.{bytes_of};
+ghost use Rattle.outside_io.specs.Script.{GetIsToFail, after_get, after_put, after_refused_get, after_refused_put, fails_next, files_state, no_files, with_failing_get, with_failing_put, with_file};
 
 use crate::files::{Files, GetError, PutError};
 use crate::script::Script;
@@ -26,7 +27,8 @@ impl Model for MemFiles {
 
     ghost Value = { ScriptedFiles };
 
-    ghost view = { λ f. record { folder = f.files; gets = f.gets; puts = f.puts; failed = f.failed } };
+    ghost view = { λ f.
+        record { folder = f.files; gets = f.gets; puts = f.puts; failed = f.failed } };
 }
 
 impl MemFiles {
@@ -45,7 +47,7 @@ impl MemFiles {
 
     /// Makes the name hold these bytes, in place of what it held.
     pub fn add(&mut self, name: &str, bytes: &[u8]) -> Result<(), Memory>
-        ensures added { OnOk result (self.new ≡ record self.old { folder = with_bytes self.old.folder name.now bytes.now }) }
+        ensures added { OnOk result (self.new ≡ with_file self.old name.now bytes.now) }
         ensures unchanged { OnErr result (self.new ≡ self.old) }
     {
         self.files.add(name, bytes)
@@ -53,7 +55,7 @@ impl MemFiles {
 
     /// Lets get number `k` fail, counted from 0.
     pub fn fail_get(&mut self, k: u32) -> Result<(), Memory>
-        ensures added { OnOk result (self.new ≡ record self.old { gets = with_failing self.old.gets k }) }
+        ensures added { OnOk result (self.new ≡ with_failing_get self.old k) }
         ensures unchanged { OnErr result (self.new ≡ self.old) }
     {
         self.gets.fail(k)
@@ -61,7 +63,7 @@ impl MemFiles {
 
     /// Lets put number `k` fail, counted from 0.
     pub fn fail_put(&mut self, k: u32) -> Result<(), Memory>
-        ensures added { OnOk result (self.new ≡ record self.old { puts = with_failing self.old.puts k }) }
+        ensures added { OnOk result (self.new ≡ with_failing_put self.old k) }
         ensures unchanged { OnErr result (self.new ≡ self.old) }
     {
         self.puts.fail(k)
@@ -85,12 +87,13 @@ impl Files for MemFiles {
     ghost state = { files_state };
 
     fn get(&mut self, alloc: Global, name: &str, limit: u64) -> Result<Vec<u8>, GetError>
-        ensures ok { IfOk result (λ v. GetGives (files_state self.old) (files_state self.new) name.now limit v.items) }
-        ensures err { IfErr result (GetRefused (files_state self.old) (files_state self.new) name.now) }
+        ensures ok { IfOk result (λ v.
+            Seen files_state GetGives self.old self.new name.now limit v.items) }
+        ensures err { IfErr result (Seen files_state GetRefused self.old self.new name.now) }
         ensures unscripted { OnOk result (fails_next self.old.gets ≡ false) }
         ensures caused { IsErrOf result GetError.Failed → GetIsToFail self.old name.now }
         ensures given { OnOk result (self.new ≡ after_get self.old) }
-        ensures refused { IfErr result (λ error. self.new ≡ after_refused_get self.old name.now error) }
+        ensures refused { IfErr result (λ e. self.new ≡ after_refused_get self.old name.now e) }
     {
         if !self.gets.fails_next()
             && let Some(bytes) = self.files.bytes(name)
@@ -106,12 +109,12 @@ impl Files for MemFiles {
     }
 
     fn put(&mut self, name: &str, bytes: &[u8]) -> Result<(), PutError>
-        ensures ok { OnOk result (PutGives (files_state self.old) (files_state self.new) name.now bytes.now) }
-        ensures err { IfErr result (PutRefused (files_state self.old) (files_state self.new) name.now) }
+        ensures ok { OnOk result (Seen files_state PutGives self.old self.new name.now bytes.now) }
+        ensures err { IfErr result (Seen files_state PutRefused self.old self.new name.now) }
         ensures unscripted { OnOk result (fails_next self.old.puts ≡ false) }
         ensures caused { IsErrOf result PutError.Failed → fails_next self.old.puts ≡ true }
         ensures put { OnOk result (self.new ≡ after_put self.old name.now bytes.now) }
-        ensures refused { IfErr result (λ error. self.new ≡ after_refused_put self.old name.now error) }
+        ensures refused { IfErr result (λ e. self.new ≡ after_refused_put self.old name.now e) }
     {
         if self.puts.fails_next() {
             let name = self.copy_name(name)?;

@@ -1,6 +1,7 @@
 ghost use Rattle.std.specs.Prelude.{◌≡◌, ◌<◌, IfOk, IfErr, OnOk, OnErr, IsErrOf, true, false, length, min};
 ghost use Rattle.outside_io.specs.Sink.{WriteTakes, WriteRefused};
-ghost use Rattle.outside_io.specs.Script.{after_refused_write, after_write, empty_sink, fails_next, sink_state, with_failing};
+ghost use Rattle.outside_io.specs.Seen.{Seen};
+ghost use Rattle.outside_io.specs.Script.{after_refused_write, after_write, empty_sink, fails_next, sink_state, with_failing_write};
 
 use crate::script::Script;
 use crate::sink::{Sink, WriteError};
@@ -38,7 +39,7 @@ impl MemSink {
 
     /// Lets write number `k` fail, counted from 0.
     pub fn fail_write(&mut self, k: u32) -> Result<(), Memory>
-        ensures added { OnOk result (self.new ≡ record self.old { writes = with_failing self.old.writes k }) }
+        ensures added { OnOk result (self.new ≡ with_failing_write self.old k) }
         ensures unchanged { OnErr result (self.new ≡ self.old) }
     {
         self.writes.fail(k)
@@ -56,9 +57,9 @@ impl Sink for MemSink {
     ghost state = { sink_state };
 
     fn write(&mut self, piece: &[u8]) -> Result<usize, WriteError>
-        ensures ok { IfOk result (WriteTakes (sink_state self.old) (sink_state self.new) piece.now) }
-        ensures err { IfErr result (WriteRefused (sink_state self.old) (sink_state self.new)) }
-        ensures largest { IfOk result (λ count. count ≡ min (length piece.now) self.old.sink.largest) }
+        ensures ok { IfOk result (Seen sink_state WriteTakes self.old self.new piece.now) }
+        ensures err { IfErr result (Seen sink_state WriteRefused self.old self.new) }
+        ensures largest { IfOk result (λ n. n ≡ min (length piece.now) self.old.sink.largest) }
         ensures unscripted { OnOk result (fails_next self.old.writes ≡ false) }
         ensures caused { IsErrOf result WriteError.Failed → fails_next self.old.writes ≡ true }
         ensures taken { OnOk result (self.new ≡ after_write self.old piece.now) }

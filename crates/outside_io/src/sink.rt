@@ -1,5 +1,6 @@
 ghost use Rattle.std.specs.Prelude.{IfOk, IfErr};
 ghost use Rattle.outside_io.specs.Sink.{SinkState, WriteTakes, WriteRefused};
+ghost use Rattle.outside_io.specs.Seen.{Seen};
 
 use thiserror::Error;
 
@@ -20,6 +21,6 @@ pub trait Sink {
 
     /// Takes the first bytes of a piece, at least one where there is one, and answers how many.
     fn write(&mut self, piece: &[u8]) -> Result<usize, WriteError>
-        ensures ok { IfOk result (WriteTakes (state self.old) (state self.new) piece.now) }
-        ensures err { IfErr result (WriteRefused (state self.old) (state self.new)) };
+        ensures ok { IfOk result (Seen state WriteTakes self.old self.new piece.now) }
+        ensures err { IfErr result (Seen state WriteRefused self.old self.new) };
 }

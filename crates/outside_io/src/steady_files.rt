@@ -3,6 +3,7 @@ ghost use Rattle.std.specs.Option.{option_copied};
 ghost use Rattle.std.specs.Result.{IsOkUnless};
 ghost use Rattle.outside_io.specs.Files.{GetGives, GetRefused, PutGives, PutRefused};
 ghost use Rattle.outside_io.specs.Folder.{bytes_of, with_bytes, has_name, KeepsOthers};
+ghost use Rattle.outside_io.specs.Seen.{Seen};
 ghost use Rattle.outside_io.specs.Steady.{steady_files};
 
 use crate::files::{Files, GetError, PutError};
@@ -96,8 +97,9 @@ impl Files for SteadyFiles {
     ghost state = { steady_files };
 
     fn get(&mut self, alloc: Global, name: &str, limit: u64) -> Result<Vec<u8>, GetError>
-        ensures ok { IfOk result (λ v. GetGives (steady_files self.old) (steady_files self.new) name.now limit v.items) }
-        ensures err { IfErr result (GetRefused (steady_files self.old) (steady_files self.new) name.now) }
+        ensures ok { IfOk result (λ v.
+            Seen steady_files GetGives self.old self.new name.now limit v.items) }
+        ensures err { IfErr result (Seen steady_files GetRefused self.old self.new name.now) }
         ensures never_fails { IsOkUnless result GetError.Memory }
         ensures unchanged { self.new ≡ self.old }
     {
@@ -106,8 +108,8 @@ impl Files for SteadyFiles {
     }
 
     fn put(&mut self, name: &str, bytes: &[u8]) -> Result<(), PutError>
-        ensures ok { OnOk result (PutGives (steady_files self.old) (steady_files self.new) name.now bytes.now) }
-        ensures err { IfErr result (PutRefused (steady_files self.old) (steady_files self.new) name.now) }
+        ensures ok { OnOk result (Seen steady_files PutGives self.old self.new name.now bytes.now) }
+        ensures err { IfErr result (Seen steady_files PutRefused self.old self.new name.now) }
         ensures never_fails { IsOkUnless result PutError.Memory }
         ensures put { OnOk result (self.new ≡ with_bytes self.old name.now bytes.now) }
         ensures unchanged { OnErr result (self.new ≡ self.old) }

@@ -1,6 +1,7 @@
 ghost use Rattle.std.specs.Prelude.{◌≡◌, ◌<◌, IfOk, IfErr, OnOk, OnErr, length, min};
 ghost use Rattle.std.specs.Result.{IsOkUnless};
 ghost use Rattle.outside_io.specs.Sink.{WriteTakes, WriteRefused};
+ghost use Rattle.outside_io.specs.Seen.{Seen};
 ghost use Rattle.outside_io.specs.Steady.{after_taking, after_want, empty_bounded, steady_sink};
 
 use crate::sink::{Sink, WriteError};
@@ -52,8 +53,8 @@ impl Sink for SteadySink {
     ghost state = { steady_sink };
 
     fn write(&mut self, piece: &[u8]) -> Result<usize, WriteError>
-        ensures ok { IfOk result (WriteTakes (steady_sink self.old) (steady_sink self.new) piece.now) }
-        ensures err { IfErr result (WriteRefused (steady_sink self.old) (steady_sink self.new)) }
+        ensures ok { IfOk result (Seen steady_sink WriteTakes self.old self.new piece.now) }
+        ensures err { IfErr result (Seen steady_sink WriteRefused self.old self.new) }
         ensures never_fails { IsOkUnless result WriteError.Memory }
         ensures largest { IfOk result (λ count. count ≡ min (length piece.now) self.old.largest) }
         ensures taken { OnOk result (self.new ≡ after_taking self.old piece.now) }
