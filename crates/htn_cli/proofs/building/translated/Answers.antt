@@ -11,11 +11,11 @@ compile-requires-clause-small c = c.requires.sound.limits.networks
 pub compile-requires-clause-listed : goal.compile-requires-clause-listed
 compile-requires-clause-listed c = listed c.args.read c.requires.sound
 
-pub printed-requires-clause-compiled : goal.printed-requires-clause-compiled
-printed-requires-clause-compiled c = (c.args.read, c.args.manner.now.checks, c.in_ok-compiled.ensures.compiled)
+pub printed-built-requires-clause-compiled : goal.printed-built-requires-clause-compiled
+printed-built-requires-clause-compiled c = (c.args.read, c.args.manner.now.checks, c.in_ok-compiled.ensures.compiled)
 
-pub printed-requires-clause-listed : goal.printed-requires-clause-listed
-printed-requires-clause-listed c = subst (λ (h : Hddl). AreListed h.types) (sym c.in_ok-compiled.ensures.compiled.hddl) (listed c.args.read c.requires.sound)
+pub printed-built-requires-clause-listed : goal.printed-built-requires-clause-listed
+printed-built-requires-clause-listed c = subst (λ (h : Hddl). AreListed h.types) (sym c.in_ok-compiled.ensures.compiled.hddl) (listed c.args.read c.requires.sound)
 
 pub returns : goal.returns
 returns c = if_ok_too c.printed-built.result (λ built prints. (c.in_ok-compiled.compiled, c.in_ok-compiled.ensures.compiled, prints)) c.printed-built.ensures
