@@ -61,6 +61,10 @@ module _ (names : Names) (manner : Manner) where
   abbrev pub LeavesDone : Texts → FilesState → FilesState → SinkState → SinkState → Type 0
   LeavesDone texts old new out out' = BothStand names texts old new × TakesWhole (slots_line manner.slots) out out'
 
+  -- the texts that are defined were written
+  abbrev pub IsTranslated : FilesState → FilesState → SinkState → SinkState → Type 0
+  IsTranslated old new out out' = (texts : Texts) × AreDefined names manner old texts × LeavesDone texts old new out out'
+
   -- memory was refused before the first put, before the second, or when the number of slots was told
   abbrev pub LeavesStarved : FilesState → FilesState → SinkState → SinkState → Type 0
   LeavesStarved old new out out' =

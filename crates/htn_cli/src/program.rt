@@ -1,6 +1,8 @@
-ghost use Rattle.std.specs.Prelude.{ℕ, ◌≡◌, ◌≢◌, ◌↔◌, ◌⊎◌, ◌<◌, ◌≤◌, ◌^◌, IfErr, OnOk, map, string_bytes};
-ghost use Rattle.outside_io.specs.Count.{HasRisen};
-ghost use Rattle.command_words.specs.Names.{AreApart};
+ghost use Rattle.std.specs.Prelude.{ℕ, ◌≡◌, ◌≢◌, ◌↔◌, ◌⊎◌, ◌<◌, ◌≤◌, ◌^◌, IfErr, OnOk};
+ghost use Rattle.outside_io.specs.Seen.{Seen};
+ghost use Rattle.outside_io.specs.Files.{GetHasFailed, PutHasFailed};
+ghost use Rattle.outside_io.specs.Sink.{WriteHasFailed};
+ghost use Rattle.command_words.specs.Names.{AreApart, words_of};
 ghost use Rattle.command_words.specs.Bounds.{IsNumeral, most_slots};
 ghost use Rattle.command_words.specs.Words.{AreOfAForm, request_of};
 ghost use Rattle.htn_cli.specs.Ending.{Achieves, Answers, AskForSlots, Ends, HasHeadline, HasHeadlineAtBound, IsBeforePuts, IsDone, IsPastLimit, IsRefused, IsRefusedFor, IsUntouched, RefusesRequest};
@@ -22,44 +24,53 @@ pub fn run<F: Files, O: Sink, E: Sink>(
     out: &mut O,
     err: &mut E,
 ) -> Status
-    ensures done { result ≡ Status.Done → IsDone (map string_bytes words.now)
+    ensures done { result ≡ Status.Done → IsDone (words_of words.now)
         (F.state files.old) (F.state files.new) (O.state out.old) (O.state out.new) }
-    ensures headline { result ≡ Status.Done → HasHeadline (map string_bytes words.now) (F.state files.old) (F.state files.new) }
-    ensures at_bound { result ≡ Status.Done → HasHeadlineAtBound (map string_bytes words.now) (F.state files.old) (F.state files.new) }
+    ensures headline { result ≡ Status.Done →
+        Seen F.state (HasHeadline (words_of words.now)) files.old files.new }
+    ensures at_bound { result ≡ Status.Done →
+        Seen F.state (HasHeadlineAtBound (words_of words.now)) files.old files.new }
     ensures quiet { result ≡ Status.Done → E.state err.new ≡ E.state err.old }
-    ensures refused { result ≢ Status.Done → Ends (map string_bytes words.now)
-        (F.state files.old) (F.state files.new) (O.state out.old) (O.state out.new) result (E.state err.old) (E.state err.new) }
+    ensures refused { result ≢ Status.Done → Ends (words_of words.now)
+        (F.state files.old) (F.state files.new) (O.state out.old) (O.state out.new)
+        result (E.state err.old) (E.state err.new) }
 
     ensures untouched { IsBeforePuts result →
         IsUntouched (F.state files.old) (F.state files.new) (O.state out.old) (O.state out.new) }
-    ensures words { (result ≡ Status.Words) ↔ (AreOfAForm (map string_bytes words.now) → ⊥) }
+    ensures words { (result ≡ Status.Words) ↔ (AreOfAForm (words_of words.now) → ⊥) }
 
-    // A number of slots that is past a limit is refused before any file is read, and takes no memory.
-    ensures past_all { (n : ℕ) → AskForSlots (map string_bytes words.now) n → 2 ^ 128 ≤ n →
-        IsRefusedFor (F.state files.old) (F.state files.new) (O.state out.old) (O.state out.new)
+    // A number of slots that is past a limit is refused before any file is read, and takes no
+    // memory.
+    ensures past_all { (n : ℕ) → AskForSlots (words_of words.now) n → 2 ^ 128 ≤ n → IsRefusedFor
+        (F.state files.old) (F.state files.new) (O.state out.old) (O.state out.new)
         Refusal.BoundLimit result (E.state err.old) (E.state err.new) }
-    ensures past_slots { (n : ℕ) → AskForSlots (map string_bytes words.now) n → most_slots < n → n < 2 ^ 128 →
-        IsRefusedFor (F.state files.old) (F.state files.new) (O.state out.old) (O.state out.new)
+    ensures past_slots { (n : ℕ) → AskForSlots (words_of words.now) n →
+        most_slots < n → n < 2 ^ 128 → IsRefusedFor
+        (F.state files.old) (F.state files.new) (O.state out.old) (O.state out.new)
         (Refusal.SlotsLimit n) result (E.state err.old) (E.state err.new) }
-    ensures past_output { (n : ℕ) → AskForSlots (map string_bytes words.now) n → n ≤ most_slots → result ≡ Status.Limit →
-        (size : ℕ) × IsPastLimit (map string_bytes words.now) (F.state files.old) size
-        × IsRefusedFor (F.state files.old) (F.state files.new) (O.state out.old) (O.state out.new)
+    ensures past_output { (n : ℕ) → AskForSlots (words_of words.now) n →
+        n ≤ most_slots → result ≡ Status.Limit →
+        (size : ℕ) × IsPastLimit (words_of words.now) (F.state files.old) size × IsRefusedFor
+        (F.state files.old) (F.state files.new) (O.state out.old) (O.state out.new)
         (Refusal.OutputLimit size) result (E.state err.old) (E.state err.new) }
 
-    ensures answer { (HasRisen (F.state files.old).get_faults (F.state files.new).get_faults → ⊥) →
-        (HasRisen (F.state files.old).put_faults (F.state files.new).put_faults → ⊥) →
-        (HasRisen (O.state out.old).faults (O.state out.new).faults → ⊥) →
-        Answers (map string_bytes words.now) (F.state files.old) result }
+    ensures answer { (Seen F.state GetHasFailed files.old files.new → ⊥) →
+        (Seen F.state PutHasFailed files.old files.new → ⊥) →
+        (Seen O.state WriteHasFailed out.old out.new → ⊥) →
+        Answers (words_of words.now) (F.state files.old) result }
 
-    ensures read_fault { result ≡ Status.ReadFault → HasRisen (F.state files.old).get_faults (F.state files.new).get_faults }
+    ensures read_fault { result ≡ Status.ReadFault → Seen F.state GetHasFailed files.old files.new }
     ensures write_fault { result ≡ Status.WriteFault →
-        HasRisen (F.state files.old).put_faults (F.state files.new).put_faults
-        ⊎ HasRisen (O.state out.old).faults (O.state out.new).faults }
+        Seen F.state PutHasFailed files.old files.new
+        ⊎ Seen O.state WriteHasFailed out.old out.new }
 
     // And a count that rose shows in the status.
-    ensures failed_get { (F.state files.old).get_faults < (F.state files.new).get_faults → result ≡ Status.ReadFault }
-    ensures failed_put { (F.state files.old).put_faults < (F.state files.new).put_faults → result ≡ Status.WriteFault }
-    ensures failed_write { (O.state out.old).faults < (O.state out.new).faults → result ≡ Status.WriteFault }
+    ensures failed_get { (F.state files.old).get_faults < (F.state files.new).get_faults →
+        result ≡ Status.ReadFault }
+    ensures failed_put { (F.state files.old).put_faults < (F.state files.new).put_faults →
+        result ≡ Status.WriteFault }
+    ensures failed_write { (O.state out.old).faults < (O.state out.new).faults →
+        result ≡ Status.WriteFault }
 {
     match act(alloc, words, files, out) {
         Ok(()) => Status::Done,
@@ -76,9 +87,9 @@ fn act<'a, F: Files, O: Sink>(
     files: &mut F,
     out: &mut O,
 ) -> Result<(), Refusal<'a>>
-    ensures done { OnOk result (IsDone (map string_bytes words.now)
+    ensures done { OnOk result (IsDone (words_of words.now)
         (F.state files.old) (F.state files.new) (O.state out.old) (O.state out.new)) }
-    ensures refused { IfErr result (IsRefused (map string_bytes words.now)
+    ensures refused { IfErr result (IsRefused (words_of words.now)
         (F.state files.old) (F.state files.new) (O.state out.old) (O.state out.new)) }
 {
     match asked(words) {
@@ -96,9 +107,11 @@ fn obey<'a, F: Files, O: Sink>(
     requires number { IsNumeral (request_of asked.now).numeral }
     requires apart { AreApart (request_of asked.now).names }
     ensures done { OnOk result (Achieves
-        (F.state files.old) (F.state files.new) (O.state out.old) (O.state out.new) (request_of asked.now)) }
+        (F.state files.old) (F.state files.new) (O.state out.old) (O.state out.new)
+        (request_of asked.now)) }
     ensures refused { IfErr result (RefusesRequest
-        (F.state files.old) (F.state files.new) (O.state out.old) (O.state out.new) (request_of asked.now)) }
+        (F.state files.old) (F.state files.new) (O.state out.old) (O.state out.new)
+        (request_of asked.now)) }
 {
     match bound_of(asked.numeral) {
         Bound::Slots(slots) => {

@@ -1,4 +1,5 @@
 ghost use Rattle.std.specs.Prelude.{◌+◌, ◌<◌, IfOk, IfErr, OnOk, length, take};
+ghost use Rattle.outside_io.specs.Seen.{Seen};
 ghost use Rattle.outside_io.specs.Sink.{WriteRefused};
 ghost use Rattle.htn_cli.specs.Sent.{StopsAt, TakesNext, TakesWhole};
 
@@ -6,8 +7,8 @@ use outside_io::{Sink, WriteError};
 
 /// Writes a text whole, or as far as the sink takes it. Each turn takes at least one byte.
 pub(crate) fn send<S: Sink>(sink: &mut S, text: &[u8]) -> Result<(), WriteError>
-    ensures whole { OnOk result (TakesWhole text.now (S.state sink.old) (S.state sink.new)) }
-    ensures part { IfErr result (StopsAt text.now (S.state sink.old) (S.state sink.new)) }
+    ensures whole { OnOk result (Seen S.state (TakesWhole text.now) sink.old sink.new) }
+    ensures part { IfErr result (Seen S.state (StopsAt text.now) sink.old sink.new) }
 {
     let mut done = 0;
     while done < text.len() {
@@ -19,8 +20,8 @@ pub(crate) fn send<S: Sink>(sink: &mut S, text: &[u8]) -> Result<(), WriteError>
 /// Writes some of the bytes of a text from `done` on, and answers how many.
 fn send_from<S: Sink>(sink: &mut S, text: &[u8], done: usize) -> Result<usize, WriteError>
     requires { done < length text.now }
-    ensures next { IfOk result (TakesNext text.now done (S.state sink.old) (S.state sink.new)) }
-    ensures refused { IfErr result (WriteRefused (S.state sink.old) (S.state sink.new)) }
+    ensures next { IfOk result (Seen S.state (TakesNext text.now done) sink.old sink.new) }
+    ensures refused { IfErr result (Seen S.state WriteRefused sink.old sink.new) }
 {
     sink.write(&text[done..])
 }

@@ -1,4 +1,5 @@
 ghost use Rattle.std.specs.Prelude.{◌++◌, IfErr, OnOk};
+ghost use Rattle.outside_io.specs.Seen.{Seen};
 ghost use Rattle.htn_cli.specs.Refusal.{line_of};
 ghost use Rattle.htn_cli.specs.Line.{line_text};
 ghost use Rattle.htn_cli.specs.Left.{slots_line};
@@ -11,7 +12,7 @@ use outside_io::{Sink, WriteError};
 
 /// Writes the line of a refusal, as far as the sink takes it.
 pub(crate) fn tell<E: Sink>(err: &mut E, refusal: &Refusal<'_>)
-    ensures told { Told (line_of refusal.now) (E.state err.old) (E.state err.new) }
+    ensures told { Seen E.state (Told (line_of refusal.now)) err.old err.new }
 {
     let line = refusal.line();
     let _ = send_line(err, &line);
@@ -19,16 +20,16 @@ pub(crate) fn tell<E: Sink>(err: &mut E, refusal: &Refusal<'_>)
 
 /// Writes the text of a number of slots.
 pub(crate) fn tell_slots<O: Sink>(out: &mut O, slots: u32) -> Result<(), WriteError>
-    ensures whole { OnOk result (TakesWhole (slots_line slots) (O.state out.old) (O.state out.new)) }
-    ensures part { IfErr result (StopsAt (slots_line slots) (O.state out.old) (O.state out.new)) }
+    ensures whole { OnOk result (Seen O.state (TakesWhole (slots_line slots)) out.old out.new) }
+    ensures part { IfErr result (Seen O.state (StopsAt (slots_line slots)) out.old out.new) }
 {
     let mut buffer = Buffer::new();
     send_parts(out, b"slots ", buffer.format(slots).as_bytes(), b"\n")
 }
 
 fn send_line<E: Sink>(err: &mut E, line: &Line<'_>) -> Result<(), WriteError>
-    ensures whole { OnOk result (TakesWhole (line_text line.now) (E.state err.old) (E.state err.new)) }
-    ensures part { IfErr result (StopsAt (line_text line.now) (E.state err.old) (E.state err.new)) }
+    ensures whole { OnOk result (Seen E.state (TakesWhole (line_text line.now)) err.old err.new) }
+    ensures part { IfErr result (Seen E.state (StopsAt (line_text line.now)) err.old err.new) }
 {
     let (before, after) = (line.before.as_bytes(), line.after.as_bytes());
     match line.middle {
@@ -46,8 +47,10 @@ fn send_parts<S: Sink>(
     second: &[u8],
     third: &[u8],
 ) -> Result<(), WriteError>
-    ensures whole { OnOk result (TakesWhole (first.now ++ second.now ++ third.now) (S.state sink.old) (S.state sink.new)) }
-    ensures part { IfErr result (StopsAt (first.now ++ second.now ++ third.now) (S.state sink.old) (S.state sink.new)) }
+    ensures whole { let text = first.now ++ second.now ++ third.now in
+        OnOk result (Seen S.state (TakesWhole text) sink.old sink.new) }
+    ensures part { let text = first.now ++ second.now ++ third.now in
+        IfErr result (Seen S.state (StopsAt text) sink.old sink.new) }
 {
     send_two(sink, first, second)?;
     send(sink, third)?;
@@ -55,8 +58,10 @@ fn send_parts<S: Sink>(
 }
 
 fn send_two<S: Sink>(sink: &mut S, first: &[u8], second: &[u8]) -> Result<(), WriteError>
-    ensures whole { OnOk result (TakesWhole (first.now ++ second.now) (S.state sink.old) (S.state sink.new)) }
-    ensures part { IfErr result (StopsAt (first.now ++ second.now) (S.state sink.old) (S.state sink.new)) }
+    ensures whole { let text = first.now ++ second.now in
+        OnOk result (Seen S.state (TakesWhole text) sink.old sink.new) }
+    ensures part { let text = first.now ++ second.now in
+        IfErr result (Seen S.state (StopsAt text) sink.old sink.new) }
 {
     send(sink, first)?;
     send(sink, second)?;

@@ -1,10 +1,9 @@
 ghost use Rattle.std.specs.Prelude.{◌≢◌, ◌≤◌, IfOk, IfErr, OnOk};
 ghost use Rattle.outside_io.specs.Files.{GetGives, PutGives};
+ghost use Rattle.outside_io.specs.Seen.{Seen};
 ghost use Rattle.command_words.specs.Names.{names_of};
-ghost use Rattle.htn_cli.specs.Texts.{Texts as PrintedTexts};
-ghost use Rattle.htn_cli.specs.Inputs.{AreDefined};
 ghost use Rattle.htn_cli.specs.Built.{ComesTo, texts_of};
-ghost use Rattle.htn_cli.specs.Left.{BothStand, Leaves, LeavesDone, slots_line};
+ghost use Rattle.htn_cli.specs.Left.{BothStand, IsTranslated, Leaves, slots_line};
 ghost use Rattle.htn_cli.specs.Stops.{StopsBuild, StopsDelivery, StopsGet, StopsPrint, StopsPut};
 ghost use Rattle.htn_cli.specs.Sent.{TakesWhole};
 
@@ -30,11 +29,10 @@ pub(crate) fn translate<'a, F: Files, O: Sink>(
 ) -> Result<(), Refusal<'a>>
     requires apart { names.now.od.now ≢ names.now.op.now }
     requires some { 1 ≤ manner.now.slots }
-    ensures done { OnOk result ((texts : PrintedTexts)
-        × AreDefined (names_of names.now) manner.now (F.state files.old) texts
-        × LeavesDone (names_of names.now) manner.now texts (F.state files.old) (F.state files.new) (O.state out.old) (O.state out.new)) }
-    ensures refused { IfErr result (λ refusal.
-        Leaves (names_of names.now) manner.now refusal (F.state files.old) (F.state files.new) (O.state out.old) (O.state out.new)) }
+    ensures done { OnOk result (IsTranslated (names_of names.now) manner.now
+        (F.state files.old) (F.state files.new) (O.state out.old) (O.state out.new)) }
+    ensures refused { IfErr result (λ refusal. Leaves (names_of names.now) manner.now refusal
+        (F.state files.old) (F.state files.new) (O.state out.old) (O.state out.new)) }
 {
     let domain = read(alloc, files, names.d)?;
     let problem = read(alloc, files, names.p)?;
@@ -50,7 +48,8 @@ fn texts_for<'a>(
     problem: &[u8],
 ) -> Result<Texts, Refusal<'a>>
     requires { 1 ≤ manner.now.slots }
-    ensures whole { IfOk result (λ texts. ComesTo domain.now problem.now manner.now (Built.Whole texts)) }
+    ensures whole { IfOk result (λ texts.
+        ComesTo domain.now problem.now manner.now (Built.Whole texts)) }
     ensures refused { IfErr result (StopsBuild domain.now problem.now manner.now names.now.d.now) }
 {
     match build(alloc, domain, problem, manner) {
@@ -62,8 +61,9 @@ fn texts_for<'a>(
 }
 
 fn read<'a, F: Files>(alloc: Global, files: &mut F, name: &'a str) -> Result<Vec<u8>, Refusal<'a>>
-    ensures read { IfOk result (λ v. GetGives (F.state files.old) (F.state files.new) name.now ASKED_BYTES v.items) }
-    ensures refused { IfErr result (StopsGet name.now (F.state files.old) (F.state files.new)) }
+    ensures read { IfOk result (λ v.
+        Seen F.state GetGives files.old files.new name.now ASKED_BYTES v.items) }
+    ensures refused { IfErr result (Seen F.state (StopsGet name.now) files.old files.new) }
 {
     match files.get(alloc, name, ASKED_BYTES) {
         Ok(bytes) => Ok(bytes),
@@ -81,8 +81,9 @@ fn deliver<'a, F: Files, O: Sink>(
     out: &mut O,
 ) -> Result<(), Refusal<'a>>
     requires { names.now.od.now ≢ names.now.op.now }
-    ensures stand { OnOk result (BothStand (names_of names.now) (texts_of texts.now) (F.state files.old) (F.state files.new)) }
-    ensures told { OnOk result (TakesWhole (slots_line slots) (O.state out.old) (O.state out.new)) }
+    ensures stand { OnOk result (BothStand (names_of names.now) (texts_of texts.now)
+        (F.state files.old) (F.state files.new)) }
+    ensures told { OnOk result (Seen O.state (TakesWhole (slots_line slots)) out.old out.new) }
     ensures refused { IfErr result (StopsDelivery (names_of names.now) slots (texts_of texts.now)
         (F.state files.old) (F.state files.new) (O.state out.old) (O.state out.new)) }
 {
@@ -92,8 +93,8 @@ fn deliver<'a, F: Files, O: Sink>(
 }
 
 fn put<'a, F: Files>(files: &mut F, name: &'a str, text: &[u8]) -> Result<(), Refusal<'a>>
-    ensures written { OnOk result (PutGives (F.state files.old) (F.state files.new) name.now text.now) }
-    ensures refused { IfErr result (StopsPut name.now (F.state files.old) (F.state files.new)) }
+    ensures written { OnOk result (Seen F.state PutGives files.old files.new name.now text.now) }
+    ensures refused { IfErr result (Seen F.state (StopsPut name.now) files.old files.new) }
 {
     match files.put(name, text) {
         Ok(()) => Ok(()),
@@ -103,8 +104,8 @@ fn put<'a, F: Files>(files: &mut F, name: &'a str, text: &[u8]) -> Result<(), Re
 }
 
 fn print<'a, O: Sink>(out: &mut O, slots: u32) -> Result<(), Refusal<'a>>
-    ensures written { OnOk result (TakesWhole (slots_line slots) (O.state out.old) (O.state out.new)) }
-    ensures refused { IfErr result (StopsPrint (slots_line slots) (O.state out.old) (O.state out.new)) }
+    ensures written { OnOk result (Seen O.state (TakesWhole (slots_line slots)) out.old out.new) }
+    ensures refused { IfErr result (Seen O.state (StopsPrint (slots_line slots)) out.old out.new) }
 {
     match tell_slots(out, slots) {
         Ok(()) => Ok(()),

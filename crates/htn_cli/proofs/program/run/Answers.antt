@@ -1,4 +1,5 @@
-use Rattle.std.proofs.Common.{sym, ◌∙◌, subst, ⊎_elim, arith, map, string_bytes}
+use Rattle.std.proofs.Common.{sym, ◌∙◌, subst, ⊎_elim, arith}
+use Rattle.command_words.specs.Names.{words_of}
 use Rattle.htn_cli.specs.Ending.{Answers}
 use Rattle.htn_cli.proofs.Headlines.{headline_done, at_bound_done}
 use Rattle.htn_cli.proofs.Endings.{never_done, past_all, past_slots, past_not_done, past_output, refused_for, write_fault, answers}
@@ -25,24 +26,24 @@ returns-in-Err-clause-at_bound g c = λ e. absurd (never_done c.in-Err.refusal (
 pub returns-in-Err-clause-past_all : goal.returns-in-Err-clause-past_all
 returns-in-Err-clause-past_all g c =
     λ n asks past.
-    let x = past_all (map string_bytes c.args.words.now) (g.F.Files.state c.args.files.now) (g.F.Files.state c.act.new.files) (g.O.Sink.state c.args.out.now) (g.O.Sink.state c.act.new.out) n c.in-Err.refusal c.in-Err.ensures.refused asks past in
+    let x = past_all (words_of c.args.words.now) (g.F.Files.state c.args.files.now) (g.F.Files.state c.act.new.files) (g.O.Sink.state c.args.out.now) (g.O.Sink.state c.act.new.out) n c.in-Err.refusal c.in-Err.ensures.refused asks past in
     refused_for _ _ _ _ _ _ _ _ _ c.status.ensures x.0 x.1 c.tell.ensures.told
 
 pub returns-in-Err-clause-past_slots : goal.returns-in-Err-clause-past_slots
 returns-in-Err-clause-past_slots g c =
     λ n asks past few.
-    let x = past_slots (map string_bytes c.args.words.now) (g.F.Files.state c.args.files.now) (g.F.Files.state c.act.new.files) (g.O.Sink.state c.args.out.now) (g.O.Sink.state c.act.new.out) n c.in-Err.refusal c.in-Err.ensures.refused asks past few in
+    let x = past_slots (words_of c.args.words.now) (g.F.Files.state c.args.files.now) (g.F.Files.state c.act.new.files) (g.O.Sink.state c.args.out.now) (g.O.Sink.state c.act.new.out) n c.in-Err.refusal c.in-Err.ensures.refused asks past few in
     refused_for _ _ _ _ _ _ _ _ _ c.status.ensures x.0 x.1 c.tell.ensures.told
 
 pub returns-in-Err-clause-past_output : goal.returns-in-Err-clause-past_output
 returns-in-Err-clause-past_output g c =
     λ n asks few e.
-    let x = past_output (map string_bytes c.args.words.now) (g.F.Files.state c.args.files.now) (g.F.Files.state c.act.new.files) (g.O.Sink.state c.args.out.now) (g.O.Sink.state c.act.new.out) n c.in-Err.refusal c.in-Err.ensures.refused asks few (sym c.status.ensures ∙ e) in
+    let x = past_output (words_of c.args.words.now) (g.F.Files.state c.args.files.now) (g.F.Files.state c.act.new.files) (g.O.Sink.state c.args.out.now) (g.O.Sink.state c.act.new.out) n c.in-Err.refusal c.in-Err.ensures.refused asks few (sym c.status.ensures ∙ e) in
     (x.0, x.1, refused_for _ _ _ _ _ _ _ _ _ c.status.ensures x.2 x.3 c.tell.ensures.told)
 
 pub returns-in-Err-clause-write_fault : goal.returns-in-Err-clause-write_fault
 returns-in-Err-clause-write_fault g c =
-    λ e. write_fault (map string_bytes c.args.words.now) (g.F.Files.state c.args.files.now) (g.F.Files.state c.act.new.files) (g.O.Sink.state c.args.out.now) (g.O.Sink.state c.act.new.out) c.in-Err.refusal c.in-Err.ensures.refused (sym c.status.ensures ∙ e)
+    λ e. write_fault (words_of c.args.words.now) (g.F.Files.state c.args.files.now) (g.F.Files.state c.act.new.files) (g.O.Sink.state c.args.out.now) (g.O.Sink.state c.act.new.out) c.in-Err.refusal c.in-Err.ensures.refused (sym c.status.ensures ∙ e)
 
 pub returns-in-Ok-clause-answer : goal.returns-in-Ok-clause-answer
 returns-in-Ok-clause-answer g c =
@@ -51,5 +52,5 @@ returns-in-Ok-clause-answer g c =
 pub returns-in-Err-clause-answer : goal.returns-in-Err-clause-answer
 returns-in-Err-clause-answer g c =
     λ gets puts writes.
-    subst (Answers (map string_bytes c.args.words.now) (g.F.Files.state c.args.files.now)) (sym c.status.ensures)
-    (answers (map string_bytes c.args.words.now) (g.F.Files.state c.args.files.now) (g.F.Files.state c.act.new.files) (g.O.Sink.state c.args.out.now) (g.O.Sink.state c.act.new.out) gets (λ x. ⊎_elim puts writes x) c.in-Err.refusal c.in-Err.ensures.refused)
+    subst (Answers (words_of c.args.words.now) (g.F.Files.state c.args.files.now)) (sym c.status.ensures)
+    (answers (words_of c.args.words.now) (g.F.Files.state c.args.files.now) (g.F.Files.state c.act.new.files) (g.O.Sink.state c.args.out.now) (g.O.Sink.state c.act.new.out) gets (λ x. ⊎_elim puts writes x) c.in-Err.refusal c.in-Err.ensures.refused)
