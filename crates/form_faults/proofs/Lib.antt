@@ -1,0 +1,5 @@
+mod WordTests
+mod TermsSaid
+mod ListsSaid
+mod FormulasSaid
+mod EffectsSaid

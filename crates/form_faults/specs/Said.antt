@@ -1,0 +1,20 @@
+-- What an answer of a reader says of the tokens, as a form of the grammar with codes.
+use Rattle.std.specs.Prelude.{Result, Ok, Err}
+use Rattle.form_grammar.specs.Codes.{Form, complete, unfinished, wrong}
+use Rattle.form_grammar.specs.Lists as grammar
+use Rattle.gd_reader.specs.declared.stop.Stop.{Stop}
+use Rattle.gd_reader.specs.declared.stop.Stop.TheVariants.{Ends, Departs}
+use Rattle.gd_reader.specs.declared.typed_lists.ListKind.{ListKind}
+use Rattle.gd_reader.specs.declared.typed_lists.ListKind.TheVariants.{Parameters, Predicate, Objects, Types}
+
+abbrev pub said : {A : Type 0} → Result A Stop → Form
+said (Ok x) = complete
+said (Err Ends) = unfinished
+said (Err (Departs code at)) = wrong code at
+
+-- the kinds of typed lists in the words of the grammar
+abbrev pub kind_of : ListKind → grammar.ListKind
+kind_of Parameters = grammar.parameters
+kind_of Predicate = grammar.of_predicate
+kind_of Objects = grammar.objects
+kind_of Types = grammar.types

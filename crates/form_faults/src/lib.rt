@@ -1,0 +1,2 @@
+//! What `gd_reader` answers is what the grammar with codes says.
+#![tactic(auto)]
