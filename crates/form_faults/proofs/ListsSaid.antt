@@ -168,7 +168,7 @@ union_then Objects names at p q k next h = refl
 union_then Types names at p q k next h = refl
 
 by_hyphen : (b : Bool) (t d : Result Rest Stop) (next : ListDue) (n : Next ListDue) (at : ℕ) (p : Placed) → said t ≡ form list_rows next p → said d ≡ at_next list_rows n at p
-    → said (elim b [ | true ↦ t | false ↦ d ]) ≡ at_next list_rows (if b then go next else n) at p
+    → said (elim b [ true ↦ t | false ↦ d ]) ≡ at_next list_rows (if b then go next else n) at p
 by_hyphen true t d next n at p h k = h
 by_hyphen false t d next n at p h k = k
 
