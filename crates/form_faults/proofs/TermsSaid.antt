@@ -36,12 +36,15 @@ said_map (Err (Departs code at)) k = refl
 abbrev pub at_next : {X : Type 0} → Rows X → Next X → ℕ → Placed → Form
 at_next rows n at q = elim n [ go x ↦ form rows x q | stop code ↦ wrong code at ]
 
-pub end_said : {B : Type 0} (q : Placed) (y : B) → said (end_due q >>= (λ x. Ok y)) ≡ form term_rows due.ended q
+pub ends_said : (q : Placed) → said (end_due q) ≡ form term_rows due.ended q
 unfolding end_due
-end_said cut y = refl
-end_said (close at) y = refl
-end_said (word at w q) y = refl
-end_said (list at p q) y = refl
+ends_said cut = refl
+ends_said (close at) = refl
+ends_said (word at w q) = refl
+ends_said (list at p q) = refl
+
+pub end_said : {B : Type 0} (q : Placed) (y : B) → said (end_due q >>= (λ x. Ok y)) ≡ form term_rows due.ended q
+end_said q y = said_map (end_due q) (λ x. y) ∙ ends_said q
 
 -- a term, and what is due behind it
 term_by_said : {B X : Type 0} (rows : Rows X) (s : Sort) (names : Names) (at : ℕ) (w : Word) (k : RawTerm × Names → Result B Stop) (next : X) (q : Placed) → ((x : RawTerm × Names) → said (k x) ≡ form rows next q)

@@ -1,5 +1,5 @@
 -- Words as the reader sorts them and as the grammar tests them.
-use Rattle.std.proofs.Common.{ℕ, ◌≡◌, Bool, true, false, not, ◌&&◌, ◌||◌, ◌==◌, if◌then◌else◌, Option, Some, None, [], ◌∷◌, refl, sym, ap, subst, ◌∙◌}
+use Rattle.std.proofs.Common.{ℕ, ◌≡◌, ◌↔◌, Bool, true, false, not, ◌&&◌, ◌||◌, ◌==◌, if◌then◌else◌, Option, Some, None, [], ◌∷◌, refl, sym, ap, subst, ◌∙◌}
 use Rattle.std.proofs.lemmas.Bool.{eqb-true}
 use Rattle.std.specs.Str.{bytes_eq}
 use Rattle.htn_base.specs.Words.{is_reserved}
@@ -101,3 +101,19 @@ at_key {H} {X} of_head others w k h rest x table here later = by_test (bytes_eq 
     by_test : (b : Bool) → of_head (if b then h else rest) ≡ elim (if b then Some x else entry table w) [ None ↦ others w | Some x ↦ go x ]
     by_test true = here
     by_test false = later
+
+sort_is_name : (s : Sort) → is_name_sort s ≡ true → s ≡ Name
+sort_is_name Variable e = let f = e in cc
+sort_is_name Name e = refl
+sort_is_name Other e = let f = e in cc
+
+sort_is_variable : (s : Sort) → is_variable_sort s ≡ true → s ≡ Variable
+sort_is_variable Variable e = refl
+sort_is_variable Name e = let f = e in cc
+sort_is_variable Other e = let f = e in cc
+
+pub names_sorted : (w : Word) → (sort_of w ≡ Name) ↔ (is_name w ≡ true)
+names_sorted w = (λ e. sym (name_test w) ∙ ap is_name_sort e, λ e. sort_is_name (sort_of w) (name_test w ∙ e))
+
+pub variables_sorted : (w : Word) → (sort_of w ≡ Variable) ↔ (is_variable_word w ≡ true)
+variables_sorted w = (λ e. sym (variable_test w) ∙ ap is_variable_sort e, λ e. sort_is_variable (sort_of w) (variable_test w ∙ e))
