@@ -1,15 +1,14 @@
 -- Terms and atoms are answered as the grammar says.
-use Rattle.std.proofs.Common.{◌≡◌, ℕ, Ok, Err, Result, List, [], ◌∷◌, drop, true, false, refl, ◌∙◌, ap}
+use Rattle.std.proofs.Common.{◌≡◌, ℕ, Ok, Err, Result, ◌∷◌, drop, true, false, refl, ◌∙◌, ap}
 use Rattle.text_forms.specs.Placed.{Placed, cut, close, word, list}
 use Rattle.text_forms.specs.Words.{Word, is_name}
-use Rattle.form_grammar.specs.Codes.{Form, complete, unfinished, wrong, ◌followed_by◌}
+use Rattle.form_grammar.specs.Codes.{Form, wrong, ◌followed_by◌}
 use Rattle.form_grammar.specs.Lists.{term_rows}
 use Rattle.form_grammar.specs.Lists as due
 use Rattle.form_grammar.specs.Rows.{Next, go, stop, if_allowed, Rows, form}
 use Rattle.form_grammar.specs.Words as words
 use Rattle.gd_reader.specs.declared.stop.Stop.{Stop}
 use Rattle.gd_reader.specs.declared.stop.Stop.TheVariants.{Ends, Departs}
-use Rattle.gd_reader.specs.declared.term.RawAtom.{RawAtom}
 use Rattle.gd_reader.specs.declared.term.RawTerm.{RawTerm}
 use Rattle.gd_reader.specs.declared.words.Sort.{Sort}
 use Rattle.gd_reader.specs.declared.words.Sort.TheVariants.{Variable, Name, Other}

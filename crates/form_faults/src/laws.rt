@@ -18,15 +18,17 @@ ghost use Rattle.gd_reader.specs.ListGrammar.{params_form};
 ghost use Rattle.gd_reader.specs.Terms as read;
 ghost use Rattle.gd_reader.specs.TypedLists.{union, listed};
 ghost use Rattle.gd_reader.specs.Words.{sort_of};
-ghost use Rattle.form_faults.specs.Calls.{ReadsWhole, RefusesDeparted};
+ghost use Rattle.form_faults.specs.Calls.{ReadsWhole, FaultsDepart};
 ghost use Rattle.form_faults.specs.Said.{AnswersAs, typed_form};
 ghost use Rattle.form_faults.specs.SameForms.{IsSameForm};
 
-/// A formula that is read is whole; a fault is the token that departs, with its code.
+/// A formula that is read is whole in the grammar with codes, and where it is refused with a fault, the token at the fault's
+/// place departs, with its code. The reading function answers what the grammar says of any tokens, and the form without codes,
+/// by which the call's contract says what is whole and what begins, is the same.
 pub fn formulas_have_the_codes_of_the_grammar()
     ensures answers { AnswersAs formula_form formula_read }
     ensures read { ReadsWhole formula_form IsFormulaRead }
-    ensures refused { RefusesDeparted formula_form RefusesFormula }
+    ensures refused { FaultsDepart formula_form RefusesFormula }
     ensures same { (p : Placed) → IsSameForm (plain.formula_form p) (formula_form p) }
 {}
 
@@ -34,7 +36,7 @@ pub fn formulas_have_the_codes_of_the_grammar()
 pub fn typed_lists_have_the_codes_of_the_grammar()
     ensures answers { (kind : ListKind) → AnswersAs (typed_form kind) (listed kind) }
     ensures read { (kind : ListKind) → ReadsWhole (typed_form kind) (IsListRead kind) }
-    ensures refused { (kind : ListKind) → RefusesDeparted (typed_form kind) (RefusesList kind) }
+    ensures refused { (kind : ListKind) → FaultsDepart (typed_form kind) (RefusesList kind) }
     ensures same { (kind : ListKind) (p : Placed) → IsSameForm (params_form kind [] p) (typed_form kind p) }
 {}
 
@@ -42,11 +44,11 @@ pub fn typed_lists_have_the_codes_of_the_grammar()
 pub fn effects_have_the_codes_of_the_grammar()
     ensures answers { AnswersAs effect_form effect_read }
     ensures read { ReadsWhole effect_form IsEffectRead }
-    ensures refused { RefusesDeparted effect_form RefusesEffect }
+    ensures refused { FaultsDepart effect_form RefusesEffect }
     ensures same { (p : Placed) → IsSameForm (plain.effect_form p) (effect_form p) }
 {}
 
-/// Terms, atoms, unions, and what an increase passes over, each up to the end of its list.
+/// The same of the answers for terms, atoms, unions and what an increase passes over, each up to the end of its list.
 pub fn parts_have_the_codes_of_the_grammar()
     ensures ends { AnswersAs (form due.term_rows due.ended) (λ names. answers.end_due) }
     ensures terms { AnswersAs (form due.term_rows due.terms) read.terms }
@@ -56,7 +58,7 @@ pub fn parts_have_the_codes_of_the_grammar()
     ensures unions { AnswersAs (form due.list_rows due.union) union }
 {}
 
-/// Words are sorted as the grammar tests them.
+/// A word is a name, or a variable, by its sort exactly where the grammar's tests say so.
 pub fn words_are_sorted_as_the_grammar_tests_them()
     ensures names { (w : Word) → (sort_of w ≡ sorts.Name) ↔ (is_name w ≡ true) }
     ensures variables { (w : Word) → (sort_of w ≡ sorts.Variable) ↔ (is_variable_word w ≡ true) }

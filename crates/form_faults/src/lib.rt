@@ -9,6 +9,7 @@
 mod laws;
 
 pub use laws::{
-    effects_have_the_codes_of_the_grammar, formulas_have_the_codes_of_the_grammar, parts_have_the_codes_of_the_grammar,
-    typed_lists_have_the_codes_of_the_grammar, words_are_sorted_as_the_grammar_tests_them,
+    effects_have_the_codes_of_the_grammar, formulas_have_the_codes_of_the_grammar,
+    parts_have_the_codes_of_the_grammar, typed_lists_have_the_codes_of_the_grammar,
+    words_are_sorted_as_the_grammar_tests_them,
 };

@@ -3,7 +3,7 @@ use Rattle.form_grammar.specs.Formulas.{formula_form}
 use Rattle.gd_reader.specs.Formulas.{formula_read}
 use Rattle.gd_reader.specs.Grammar as plain
 use Rattle.gd_reader.proofs.FormulaExact.{formula_exact}
-use Rattle.form_faults.proofs.Calls.{reads_whole, refuses_departed, same_form}
+use Rattle.form_faults.proofs.Calls.{reads_whole, faults_depart, same_form}
 use Rattle.form_faults.proofs.FormulasSaid.{formula_said}
 use Rattle.form_faults.proofs.laws.formulas_have_the_codes_of_the_grammar.Goals as goal
 
@@ -11,6 +11,6 @@ pub returns : goal.returns
 returns c = record {
   answers = λ names p. formula_said p names;
   read = reads_whole plain.formula_form formula_form formula_read (λ names p. formula_said p names);
-  refused = refuses_departed plain.formula_form formula_form formula_read (λ names p. formula_said p names);
+  refused = faults_depart plain.formula_form formula_form formula_read (λ names p. formula_said p names);
   same = λ p. same_form (plain.formula_form p) (formula_form p) (formula_read [] p) (formula_exact p []).tells (formula_said p []);
 }

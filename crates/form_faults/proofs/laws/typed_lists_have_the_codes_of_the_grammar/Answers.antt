@@ -3,7 +3,7 @@ use Rattle.gd_reader.specs.ListGrammar.{params_form}
 use Rattle.gd_reader.specs.TypedLists.{listed}
 use Rattle.gd_reader.proofs.ListExact.{listed_exact}
 use Rattle.form_faults.specs.Said.{typed_form}
-use Rattle.form_faults.proofs.Calls.{reads_whole, refuses_departed, same_form}
+use Rattle.form_faults.proofs.Calls.{reads_whole, faults_depart, same_form}
 use Rattle.form_faults.proofs.ListsSaid.{listed_said}
 use Rattle.form_faults.proofs.laws.typed_lists_have_the_codes_of_the_grammar.Goals as goal
 
@@ -11,6 +11,6 @@ pub returns : goal.returns
 returns c = record {
   answers = λ kind names p. listed_said p kind names;
   read = λ kind. reads_whole (params_form kind []) (typed_form kind) (listed kind) (λ names p. listed_said p kind names);
-  refused = λ kind. refuses_departed (params_form kind []) (typed_form kind) (listed kind) (λ names p. listed_said p kind names);
+  refused = λ kind. faults_depart (params_form kind []) (typed_form kind) (listed kind) (λ names p. listed_said p kind names);
   same = λ kind p. same_form (params_form kind [] p) (typed_form kind p) (listed kind [] p) (listed_exact p kind []).tells (listed_said p kind []);
 }
