@@ -1,9 +1,10 @@
 // What is read is whole in the grammar with codes, and a fault is the token that departs from it, with its code.
-ghost use Rattle.std.specs.Prelude.{◌≡◌, ◌↔◌, true, []};
+ghost use Rattle.std.specs.Prelude.{◌≡◌, ◌↔◌, ℕ, true, List, []};
 ghost use Rattle.text_forms.specs.Placed.{Placed};
 ghost use Rattle.text_forms.specs.Words.{Word, is_name};
 ghost use Rattle.form_grammar.specs.Effects.{effect_form};
 ghost use Rattle.form_grammar.specs.Formulas.{formula_form};
+ghost use Rattle.form_grammar.specs.Laws.{HasPrefixLaws};
 ghost use Rattle.form_grammar.specs.Lists as due;
 ghost use Rattle.form_grammar.specs.Rows.{form};
 ghost use Rattle.form_grammar.specs.Words.{is_variable_word};
@@ -24,12 +25,14 @@ ghost use Rattle.form_faults.specs.SameForms.{IsSameForm};
 
 /// A formula that is read is whole in the grammar with codes, and where it is refused with a fault, the token at the fault's
 /// place departs, with its code. The reading function answers what the grammar says of any tokens, and the form without codes,
-/// by which the call's contract says what is whole and what begins, is the same.
+/// by which the call's contract says what is whole and what begins, is the same. From any token of a text on, the token that
+/// departs is the first with which the tokens no longer begin a formula.
 pub fn formulas_have_the_codes_of_the_grammar()
     ensures answers { AnswersAs formula_form formula_read }
     ensures read { ReadsWhole formula_form IsFormulaRead }
     ensures refused { FaultsDepart formula_form RefusesFormula }
     ensures same { (p : Placed) → IsSameForm (plain.formula_form p) (formula_form p) }
+    ensures prefixes { (text : List ℕ) (i : ℕ) → HasPrefixLaws formula_form text i }
 {}
 
 /// The same of typed lists of each kind.
@@ -38,6 +41,7 @@ pub fn typed_lists_have_the_codes_of_the_grammar()
     ensures read { (kind : ListKind) → ReadsWhole (typed_form kind) (IsListRead kind) }
     ensures refused { (kind : ListKind) → FaultsDepart (typed_form kind) (RefusesList kind) }
     ensures same { (kind : ListKind) (p : Placed) → IsSameForm (params_form kind [] p) (typed_form kind p) }
+    ensures prefixes { (kind : ListKind) (text : List ℕ) (i : ℕ) → HasPrefixLaws (typed_form kind) text i }
 {}
 
 /// The same of effects.
@@ -46,6 +50,7 @@ pub fn effects_have_the_codes_of_the_grammar()
     ensures read { ReadsWhole effect_form IsEffectRead }
     ensures refused { FaultsDepart effect_form RefusesEffect }
     ensures same { (p : Placed) → IsSameForm (plain.effect_form p) (effect_form p) }
+    ensures prefixes { (text : List ℕ) (i : ℕ) → HasPrefixLaws effect_form text i }
 {}
 
 /// The same of the answers for terms, atoms, unions and what an increase passes over, each up to the end of its list.
