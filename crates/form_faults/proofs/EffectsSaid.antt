@@ -1,8 +1,7 @@
 -- Effects are answered as the grammar says.
-use Rattle.std.proofs.Common.{◌≡◌, ℕ, Bool, if◌then◌else◌, Ok, Err, Result, List, [], ◌∷◌, drop, codes, refl, sym, ◌∙◌, ap}
+use Rattle.std.proofs.Common.{◌≡◌, ℕ, if◌then◌else◌, Ok, [], ◌∷◌, drop, codes, refl, sym, ◌∙◌, ap}
 use Rattle.text_forms.specs.Placed.{Placed, cut, close, word, list}
 use Rattle.text_forms.specs.Words.{Word, is_name}
-use Rattle.form_grammar.specs.Codes.{Form, complete, unfinished, wrong, ◌followed_by◌}
 use Rattle.form_grammar.specs.Effects.{EffectDue, of_formula, group, eff, effs, eff_table, effect_rows, effect_form}
 use Rattle.form_grammar.specs.Formulas.{FormulaDue, of_terms, of_list, gd, formula_rows}
 use Rattle.form_grammar.specs.Lists.{TermDue, term_rows, ListDue, list_rows}
@@ -10,10 +9,7 @@ use Rattle.form_grammar.specs.Lists as due
 use Rattle.form_grammar.specs.Rows.{Next, go, stop, if_allowed, form}
 use Rattle.form_grammar.specs.Words as words
 use Rattle.form_grammar.proofs.Meaning.{form_same}
-use Rattle.gd_reader.specs.declared.effects.RawEffect.{RawEffect}
 use Rattle.gd_reader.specs.declared.effects.RawEffect.TheVariants as raw
-use Rattle.gd_reader.specs.declared.stop.Stop.{Stop}
-use Rattle.gd_reader.specs.declared.stop.Stop.TheVariants.{Ends, Departs}
 use Rattle.gd_reader.specs.declared.typed_lists.ListKind.TheVariants.{Parameters}
 use Rattle.gd_reader.specs.declared.words.EffectHead.{EffectHead}
 use Rattle.gd_reader.specs.declared.words.EffectHead.TheVariants as head

@@ -3,3 +3,4 @@ mod TermsSaid
 mod ListsSaid
 mod FormulasSaid
 mod EffectsSaid
+mod Calls

@@ -1,16 +1,16 @@
 -- Unions and typed lists of each kind are answered as the grammar says.
-use Rattle.std.proofs.Common.{◌≡◌, ℕ, Bool, true, false, if◌then◌else◌, Ok, Err, Result, List, [], ◌∷◌, drop, refl, sym, ◌∙◌, ap}
+use Rattle.std.proofs.Common.{◌≡◌, ℕ, Bool, true, false, if◌then◌else◌, Err, Result, List, [], drop, refl, sym, ◌∙◌, ap}
 use Rattle.htn_base.specs.Table.{with_word}
 use Rattle.htn_base.specs.Words.{is_reserved}
 use Rattle.text_forms.specs.Placed.{Placed, cut, close, word, list}
-use Rattle.text_forms.specs.Words.{Word, is_among, is_name}
-use Rattle.form_grammar.specs.Codes.{Form, complete, unfinished, wrong, ◌followed_by◌}
+use Rattle.text_forms.specs.Words.{Word, is_among}
+use Rattle.form_grammar.specs.Codes.{Form, wrong, ◌followed_by◌}
 use Rattle.form_grammar.specs.Lists.{ListDue, list_rows}
 use Rattle.form_grammar.specs.Lists as due
 use Rattle.form_grammar.specs.Rows.{Next, go, stop, if_allowed, Inner, form, front, a_list}
 use Rattle.form_grammar.specs.Words as words
 use Rattle.gd_reader.specs.declared.stop.Stop.{Stop}
-use Rattle.gd_reader.specs.declared.stop.Stop.TheVariants.{Ends, Departs}
+use Rattle.gd_reader.specs.declared.stop.Stop.TheVariants.{Departs}
 use Rattle.gd_reader.specs.declared.term.RawTerm.{RawTerm}
 use Rattle.gd_reader.specs.declared.typed_lists.ListKind.{ListKind}
 use Rattle.gd_reader.specs.declared.typed_lists.ListKind.TheVariants.{Parameters, Predicate, Objects, Types}
@@ -18,13 +18,12 @@ use Rattle.gd_reader.specs.declared.typed_lists.RawParam.{RawParam}
 use Rattle.gd_reader.specs.declared.words.Sort.{Sort}
 use Rattle.gd_reader.specs.declared.words.Sort.TheVariants.{Variable, Name, Other}
 use Rattle.gd_reader.specs.Answers.{◌>>=◌}
-use Rattle.gd_reader.specs.TermGrammar.{is_name_sort}
-use Rattle.gd_reader.specs.Terms.{Names, raw_term, used}
-use Rattle.gd_reader.specs.TypedLists.{State, Rest, declares, variable_by, param_by, param_due, type_by, type_due, more_names, some_names, union, union_due, params, behind, typed, listed, undeclared}
+use Rattle.gd_reader.specs.Terms.{Names}
+use Rattle.gd_reader.specs.TypedLists.{State, Rest, declares, is_parameters, are_variables, are_types, variable_by, param_by, param_due, type_by, type_due, more_names, some_names, union, union_due, params, behind, typed, listed, undeclared}
 use Rattle.gd_reader.specs.Words.{sort_of, is_hyphen, is_either}
 use Rattle.form_faults.specs.Said.{said, kind_of}
 use Rattle.form_faults.proofs.TermsSaid.{said_then, said_map, at_next, used_then}
-use Rattle.form_faults.proofs.WordTests.{name_test, is_variable_sort, variable_test, declared_by, declared_test}
+use Rattle.form_faults.proofs.WordTests.{used_test, is_variable_sort, variable_test, declared_by, declared_test}
 
 more_said : (p : Placed) (st : State) → said (more_names st p) ≡ form list_rows due.more_types p
 unfolding more_names
@@ -97,64 +96,48 @@ module _ {B : Type 0} (st : State) (seen : List Word) (at : ℕ) (w : Word) (k :
         by_sort Name = refl
         by_sort Other = refl
 
-    object_then : said (param_due Objects st at w >>= k) ≡ at_next list_rows (words.declared 8 (leaves seen) w) at q
+    -- objects and types
+    name_then : (kind : ListKind) → are_variables kind ≡ false → said (param_due kind st at w >>= k) ≡ at_next list_rows (words.declared 8 (leaves seen) w) at q
     unfolding param_by
-    object_then = by_sort (sort_of w) ∙ ap (λ n. at_next list_rows n at q) (declared_test w (leaves seen))
+    name_then kind none = by_sort (sort_of w) ∙ ap (λ n. at_next list_rows n at q) (declared_test w (leaves seen))
       where
-        by_sort : (s : Sort) → said (param_by s Objects st at w >>= k) ≡ at_next list_rows (declared_by s (undeclared w) (leaves seen)) at q
-        by_sort Variable = refl
-        by_sort Name = h _ _ seen
-        by_sort Other = refl
-
-    type_name_then : said (param_due Types st at w >>= k) ≡ at_next list_rows (words.declared 8 (leaves seen) w) at q
-    unfolding param_by
-    type_name_then = by_sort (sort_of w) ∙ ap (λ n. at_next list_rows n at q) (declared_test w (leaves seen))
-      where
-        by_sort : (s : Sort) → said (param_by s Types st at w >>= k) ≡ at_next list_rows (declared_by s (undeclared w) (leaves seen)) at q
-        by_sort Variable = refl
-        by_sort Name = h _ _ seen
-        by_sort Other = refl
+        by_sort : (s : Sort) → said (param_by s kind st at w >>= k) ≡ at_next list_rows (declared_by s (undeclared w) (leaves seen)) at q
+        by_sort Variable = ap (λ b. said {A = B} ((if b then variable_by (is_parameters kind) st at (drop 1 w) else Err (Departs 8 at)) >>= k)) none
+        by_sort Name = ap (λ b. said {A = B} ((if b then Err (Departs 8 at) else declares st at w) >>= k)) none ∙ h _ _ seen
+        by_sort Other = ap (λ b. said {A = B} ((if b then Err (Departs 8 at) else Err (Departs (undeclared w) at)) >>= k)) none
 
 declared_then : {B : Type 0} (kind : ListKind) (st : State) (seen : List Word) (at : ℕ) (w : Word) (k : RawParam × State → Result B Stop) (leaves : List Word → ListDue) (q : Placed) → Fits kind st.1 seen
     → ((x : RawParam) (st' : State) (seen' : List Word) → Fits kind st'.1 seen' → said (k (x, st')) ≡ form list_rows (leaves seen') q)
     → said (param_due kind st at w >>= k) ≡ at_next list_rows (due.declares (kind_of kind) seen leaves w) at q
 declared_then Parameters st seen at w k leaves q fits h = parameter_then st seen at w k leaves q fits h
 declared_then Predicate st seen at w k leaves q fits h = predicate_then st seen at w k leaves q (λ x st seen. h x st seen tt)
-declared_then Objects st seen at w k leaves q fits h = object_then st seen at w k leaves q (λ x st seen. h x st seen tt)
-declared_then Types st seen at w k leaves q fits h = type_name_then st seen at w k leaves q (λ x st seen. h x st seen tt)
+declared_then Objects st seen at w k leaves q fits h = name_then st seen at w k leaves q (λ x st seen. h x st seen tt) Objects refl
+declared_then Types st seen at w k leaves q fits h = name_then st seen at w k leaves q (λ x st seen. h x st seen tt) Types refl
 
--- a type of one word, and what is due behind it
-module _ {B : Type 0} (names : Names) (at : ℕ) (w : Word) (k : List RawTerm × Names → Result B Stop) (next : ListDue) (q : Placed) (h : (x : List RawTerm × Names) → said (k x) ≡ form list_rows next q) where
-  type_used : (kind : ListKind) → ((s : Sort) → said (type_by s kind names at w >>= k) ≡ at_next list_rows (if_allowed (is_name_sort s) 8 next) at q)
-      → said (type_due kind names at w >>= k) ≡ at_next list_rows (words.used is_name next w) at q
-  type_used kind by_sort = by_sort (sort_of w) ∙ ap (λ b. at_next list_rows (if_allowed b 8 next) at q) (name_test w)
+-- a type of one word, by the word's sort
+abbrev type_next : ListKind → Sort → Word → ListDue → Next ListDue
+type_next kind s w next = declared_by s (if are_types kind then undeclared w else 8) next
 
-  type_then : (kind : ListKind) → said (type_due kind names at w >>= k) ≡ at_next list_rows (due.type_word (kind_of kind) next w) at q
-  unfolding type_by
-  type_then Parameters = type_used Parameters by_sort
-    where
-      by_sort : (s : Sort) → said (type_by s Parameters names at w >>= k) ≡ at_next list_rows (if_allowed (is_name_sort s) 8 next) at q
-      by_sort Variable = refl
-      by_sort Name = h _
-      by_sort Other = refl
-  type_then Predicate = type_used Predicate by_sort
-    where
-      by_sort : (s : Sort) → said (type_by s Predicate names at w >>= k) ≡ at_next list_rows (if_allowed (is_name_sort s) 8 next) at q
-      by_sort Variable = refl
-      by_sort Name = h _
-      by_sort Other = refl
-  type_then Objects = type_used Objects by_sort
-    where
-      by_sort : (s : Sort) → said (type_by s Objects names at w >>= k) ≡ at_next list_rows (if_allowed (is_name_sort s) 8 next) at q
-      by_sort Variable = refl
-      by_sort Name = h _
-      by_sort Other = refl
-  type_then Types = by_sort (sort_of w) ∙ ap (λ n. at_next list_rows n at q) (declared_test w next)
-    where
-      by_sort : (s : Sort) → said (type_by s Types names at w >>= k) ≡ at_next list_rows (declared_by s (undeclared w) next) at q
-      by_sort Variable = refl
-      by_sort Name = h _
-      by_sort Other = refl
+type_due_next : (kind : ListKind) (w : Word) (next : ListDue) → type_next kind (sort_of w) w next ≡ due.type_word (kind_of kind) next w
+type_due_next Parameters w next = used_test w next
+type_due_next Predicate w next = used_test w next
+type_due_next Objects w next = used_test w next
+type_due_next Types w next = declared_test w next
+
+-- and what is due behind it
+type_then : {B : Type 0} (kind : ListKind) (names : Names) (at : ℕ) (w : Word) (k : List RawTerm × Names → Result B Stop) (next : ListDue) (q : Placed) → ((x : List RawTerm × Names) → said (k x) ≡ form list_rows next q)
+    → said (type_due kind names at w >>= k) ≡ at_next list_rows (due.type_word (kind_of kind) next w) at q
+unfolding type_by
+type_then {B} kind names at w k next q h = by_sort (sort_of w) ∙ ap (λ n. at_next list_rows n at q) (type_due_next kind w next)
+  where
+    by_test : (b : Bool) → said {A = B} ((if b then Err (Departs (undeclared w) at) else Err (Departs 8 at)) >>= k) ≡ wrong (if b then undeclared w else 8) at
+    by_test true = refl
+    by_test false = refl
+
+    by_sort : (s : Sort) → said (type_by s kind names at w >>= k) ≡ at_next list_rows (type_next kind s w next) at q
+    by_sort Variable = refl
+    by_sort Name = h _
+    by_sort Other = by_test (are_types kind)
 
 -- a union, where it may stand, and what is due behind it
 abbrev at_union : Next (Inner ListDue) → ℕ → Placed → Placed → Form
@@ -194,7 +177,7 @@ mutual
   typed_said cut kind st seen fits = refl
   typed_said (close at) kind st seen fits = refl
   typed_said (word at w p) kind st seen fits =
-      type_then st.0 at w _ (due.names (kind_of kind) seen) p (λ t. said_map (params kind (t.1, st.1) p) _ ∙ params_said p kind (t.1, st.1) seen fits) kind
+      type_then kind st.0 at w _ (due.names (kind_of kind) seen) p (λ t. said_map (params kind (t.1, st.1) p) _ ∙ params_said p kind (t.1, st.1) seen fits)
   typed_said (list at p q) kind st seen fits =
       union_then kind st.0 at p q _ (due.names (kind_of kind) seen) (λ t. said_map (params kind (t.1, st.1) q) _ ∙ params_said q kind (t.1, st.1) seen fits)
 

@@ -1,15 +1,14 @@
 -- Terms and atoms are answered as the grammar says.
-use Rattle.std.proofs.Common.{◌≡◌, ℕ, Ok, Err, Result, List, [], ◌∷◌, drop, true, false, refl, ◌∙◌, ap}
+use Rattle.std.proofs.Common.{◌≡◌, ℕ, Ok, Err, Result, ◌∷◌, drop, true, false, refl, ◌∙◌, ap}
 use Rattle.text_forms.specs.Placed.{Placed, cut, close, word, list}
 use Rattle.text_forms.specs.Words.{Word, is_name}
-use Rattle.form_grammar.specs.Codes.{Form, complete, unfinished, wrong, ◌followed_by◌}
+use Rattle.form_grammar.specs.Codes.{Form, wrong, ◌followed_by◌}
 use Rattle.form_grammar.specs.Lists.{term_rows}
 use Rattle.form_grammar.specs.Lists as due
 use Rattle.form_grammar.specs.Rows.{Next, go, stop, if_allowed, Rows, form}
 use Rattle.form_grammar.specs.Words as words
 use Rattle.gd_reader.specs.declared.stop.Stop.{Stop}
 use Rattle.gd_reader.specs.declared.stop.Stop.TheVariants.{Ends, Departs}
-use Rattle.gd_reader.specs.declared.term.RawAtom.{RawAtom}
 use Rattle.gd_reader.specs.declared.term.RawTerm.{RawTerm}
 use Rattle.gd_reader.specs.declared.words.Sort.{Sort}
 use Rattle.gd_reader.specs.declared.words.Sort.TheVariants.{Variable, Name, Other}
@@ -36,12 +35,15 @@ said_map (Err (Departs code at)) k = refl
 abbrev pub at_next : {X : Type 0} → Rows X → Next X → ℕ → Placed → Form
 at_next rows n at q = elim n [ go x ↦ form rows x q | stop code ↦ wrong code at ]
 
-pub end_said : {B : Type 0} (q : Placed) (y : B) → said (end_due q >>= (λ x. Ok y)) ≡ form term_rows due.ended q
+pub ends_said : (q : Placed) → said (end_due q) ≡ form term_rows due.ended q
 unfolding end_due
-end_said cut y = refl
-end_said (close at) y = refl
-end_said (word at w q) y = refl
-end_said (list at p q) y = refl
+ends_said cut = refl
+ends_said (close at) = refl
+ends_said (word at w q) = refl
+ends_said (list at p q) = refl
+
+pub end_said : {B : Type 0} (q : Placed) (y : B) → said (end_due q >>= (λ x. Ok y)) ≡ form term_rows due.ended q
+end_said q y = said_map (end_due q) (λ x. y) ∙ ends_said q
 
 -- a term, and what is due behind it
 term_by_said : {B X : Type 0} (rows : Rows X) (s : Sort) (names : Names) (at : ℕ) (w : Word) (k : RawTerm × Names → Result B Stop) (next : X) (q : Placed) → ((x : RawTerm × Names) → said (k x) ≡ form rows next q)

@@ -1,0 +1,9 @@
+-- The grammar of the reader's contracts, which has no codes, beside the grammar with codes.
+use Rattle.std.specs.Prelude.{◌↔◌}
+use Rattle.form_grammar.specs.Codes.{Form, Whole, Begins}
+use Rattle.gd_reader.specs.Forms as plain
+
+-- the same is whole, and the same begins
+pub record IsSameForm (a : plain.Form) (b : Form) : Type 0 where
+  pub whole : a.Whole ↔ Whole b
+  pub begins : a.Begins ↔ Begins b
