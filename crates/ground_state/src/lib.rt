@@ -1,0 +1,13 @@
+//! Truth and steps, computed: a state of ground atoms, and whether a formula is true in it.
+//!
+//! Stands on `htn_base`, `plan_model` and the definitions of `plan_meaning`. The contract used above: `holds` answers
+//! whether a formula is true in a state.
+#![tactic(auto)]
+
+mod env;
+mod state;
+mod truth;
+
+pub use env::Env;
+pub use state::State;
+pub use truth::holds;
