@@ -3,3 +3,7 @@ pub mod Sizes
 pub mod RoomEquations
 pub mod TruthCases
 pub mod Found
+pub mod Lists
+pub mod StateLaws
+pub mod EffectSizes
+pub mod GatherCases

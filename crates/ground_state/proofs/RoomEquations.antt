@@ -1,4 +1,4 @@
--- The room for a formula goes down the formula.
+-- The room for a formula goes down the formula, and that for an effect down the effect.
 use Rattle.std.proofs.Common.{ℕ, zero, suc, ◌≡◌, ◌+◌, ◌<◌, ◌≤◌, List, [], ◌∷◌, length, map, get_or, refl, ap, sym, subst, ◌∙◌, arith}
 use Rattle.plan_model.specs.declared.terms.Atom.{Atom}
 use Rattle.plan_model.specs.declared.terms.Param.{Param}
@@ -6,8 +6,12 @@ use Rattle.plan_model.specs.declared.formulas.Formula.{Formula, roll-Formula}
 use Rattle.plan_model.specs.declared.formulas.Formula.TheFolds.{rec-roll-Formula, map-Formula}
 use Rattle.plan_model.specs.declared.formulas.Formula.TheOpen.{Formula-F}
 use Rattle.plan_model.specs.declared.formulas.Formula.TheVariants as F
+use Rattle.plan_model.specs.declared.effects.Effect.{Effect, roll-Effect}
+use Rattle.plan_model.specs.declared.effects.Effect.TheFolds.{rec-roll-Effect, map-Effect}
+use Rattle.plan_model.specs.declared.effects.Effect.TheOpen.{Effect-F}
+use Rattle.plan_model.specs.declared.effects.Effect.TheVariants as E
 use Rattle.ground_state.specs.Frames.{Frame}
-use Rattle.ground_state.specs.Room.{EachFits, fits_step, fits, Fits, AllFit, FitsWithin}
+use Rattle.ground_state.specs.Room.{EachFits, fits_step, fits, Fits, AllFit, FitsWithin, effect_fits_step, effect_fits, EffectFits, AllEffectsFit, EffectFitsWithin}
 
 each-map : (X Y : Type 0) (v : X → Y) (k : Y → ℕ → Type 0) (xs : List X) (n : ℕ) → EachFits (λ x. k (v x)) xs n ≡ EachFits k (map v xs) n
 each-map X Y v k [] n = refl
@@ -59,3 +63,30 @@ module _ (env : Frame) where
 
   pub fits-Exists : (f : Formula) (ps xs : List Param) (p x : Formula) → f ≡ F.Exists ps p → xs ≡ ps → x ≡ p → Fits env f → FitsWithin env xs x
   fits-Exists f ps xs p x e d g h = subst (λ ys. FitsWithin env ys x) (sym d) (subst (FitsWithin env ps) (sym g) (fits-at env.room env.arity f (Formula-F.Exists ps p) (F.rolls-Exists ps p ∙ sym e) (length env.objects) h))
+
+module _ (room arity : ℕ) where
+  effect-natural : (X : Type 0) (v : X → Effect) (k : Effect → ℕ → Type 0) (x : Effect-F X) → effect_fits_step room arity (λ p. k (v p)) x ≡ effect_fits_step room arity k (map-Effect X Effect v x)
+  effect-natural X v k (Effect-F.Add a) = refl
+  effect-natural X v k (Effect-F.Delete a) = refl
+  effect-natural X v k (Effect-F.And es) = λ i n. each-map X Effect v k es n i
+  effect-natural X v k (Effect-F.Forall ps e) = refl
+  effect-natural X v k (Effect-F.When f e) = refl
+
+  effect-roll : (x : Effect-F Effect) → effect_fits room arity (roll-Effect x) ≡ effect_fits_step room arity (effect_fits room arity) x
+  effect-roll x = rec-roll-Effect (ℕ → Type 0) (λ X v k layer. effect_fits_step room arity k layer) effect-natural x
+
+  effect-at : (e : Effect) (x : Effect-F Effect) → roll-Effect x ≡ e → (n : ℕ) → effect_fits room arity e n → effect_fits_step room arity (effect_fits room arity) x n
+  effect-at e x d n h = subst (λ (P : ℕ → Type 0). P n) (ap (effect_fits room arity) (sym d) ∙ effect-roll x) h
+
+module _ (env : Frame) where
+  pub fits-All : (e : Effect) (ps xs : List Effect) → e ≡ E.And ps → xs ≡ ps → EffectFits env e → AllEffectsFit env xs
+  fits-All e ps xs d g h = subst (AllEffectsFit env) (sym g) (effect-at env.room env.arity e (Effect-F.And ps) (E.rolls-And ps ∙ sym d) (length env.objects) h)
+
+  pub fits-Each : (e : Effect) (ps xs : List Param) (p x : Effect) → e ≡ E.Forall ps p → xs ≡ ps → x ≡ p → EffectFits env e → EffectFitsWithin env xs x
+  fits-Each e ps xs p x d k g h = subst (λ ys. EffectFitsWithin env ys x) (sym k) (subst (EffectFitsWithin env ps) (sym g) (effect-at env.room env.arity e (Effect-F.Forall ps p) (E.rolls-Forall ps p ∙ sym d) (length env.objects) h))
+
+  pub fits-condition : (e : Effect) (f : Formula) (p : Effect) → e ≡ E.When f p → EffectFits env e → Fits env f
+  fits-condition e f p d h = (effect-at env.room env.arity e (Effect-F.When f p) (E.rolls-When f p ∙ sym d) (length env.objects) h).0
+
+  pub fits-When : (e : Effect) (f : Formula) (p x : Effect) → e ≡ E.When f p → x ≡ p → EffectFits env e → EffectFits env x
+  fits-When e f p x d g h = subst (EffectFits env) (sym g) (effect-at env.room env.arity e (Effect-F.When f p) (E.rolls-When f p ∙ sym d) (length env.objects) h).1

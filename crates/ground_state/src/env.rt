@@ -1,9 +1,9 @@
 ghost use Rattle.std.specs.Prelude.{ℕ, ◌≡◌, ◌≤◌, ◌<◌, length, IfOk};
-ghost use Rattle.plan_meaning.specs.Truth.{value_of, values_of};
+ghost use Rattle.plan_meaning.specs.Truth.{value_of, values_of, ground};
 ghost use Rattle.ground_state.specs.Frames.{Frame, frame, pushed};
 
 use htn_base::{List, Memory};
-use plan_model::Term;
+use plan_model::{Atom, GroundAtom, Term};
 use std::alloc::Global;
 
 /// The objects of the variables in force, the schema's parameters first and then those of the quantifiers from
@@ -56,6 +56,20 @@ impl Env {
             },
             Term::Obj(object) => object,
         }
+    }
+
+    /// The ground atom that the atom stands for.
+    pub(crate) fn ground(&self, alloc: Global, atom: &Atom) -> Result<GroundAtom, Memory>
+        ensures { IfOk result (λ g. g ≡ ground (frame self.now).objects atom.now) }
+    {
+        let mut args = List::new(alloc);
+        for term in atom.args.as_slice() {
+            args.push(self.value(*term))?;
+        }
+        Ok(GroundAtom {
+            predicate: atom.predicate,
+            args,
+        })
     }
 
     /// Fills in the arguments that the terms stand for.

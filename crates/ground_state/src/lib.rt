@@ -4,8 +4,11 @@
 //! whether a formula is true in a state.
 #![tactic(auto)]
 
+mod change;
 mod env;
+mod gather;
 mod state;
+mod step;
 mod truth;
 
 pub use env::Env;
