@@ -32,7 +32,6 @@ at-other p q n = by (is_eq (nat_cmp p q)) refl
 
 -- s and t differ in the lists of one predicate alone
 module _ (s t : State) (a : GroundAtom) where
-
   pub with-one : ((g : GroundAtom) → a.predicate ≡ g.predicate → has t g.predicate g.args ≡ (is_eq (slice_cmp nat_cmp g.args a.args) || has s g.predicate g.args))
       → ((g : GroundAtom) → (a.predicate ≡ g.predicate → ⊥) → has t g.predicate g.args ≡ has s g.predicate g.args) → Has t (With s a)
   with-one here there g = elim (cases_eq a.predicate g.predicate) [
@@ -86,11 +85,11 @@ module _ (s t : State) (a : GroundAtom) (w : ArgLists) (put : (q : ℕ) → tree
   pub inserted : (before : List (Vec ℕ Global)) (key : Vec ℕ Global) → w.keys ≡ ordered.insert_key (λ x y. slice_cmp nat_cmp x.items y.items) before key → key.items ≡ a.args
       → ((args : List ℕ) → has s a.predicate args ≡ list_any (λ k. is_eq (slice_cmp nat_cmp args (items k))) before) → Has t (With s a)
   inserted before key e k before-is = with-one s t a (λ g p.
-    here g.predicate g.args p
-    ∙ ap (list_any (λ k. is_eq (slice_cmp nat_cmp g.args (items k)))) e
-    ∙ any-insert items g.args before key
-    ∙ (λ i. is_eq (slice_cmp nat_cmp g.args (k i)) || (sym (before-is g.args) ∙ ap (λ q. has s q g.args) p) i)
-  ) there
+      here g.predicate g.args p
+      ∙ ap (list_any (λ k. is_eq (slice_cmp nat_cmp g.args (items k)))) e
+      ∙ any-insert items g.args before key
+      ∙ (λ i. is_eq (slice_cmp nat_cmp g.args (k i)) || (sym (before-is g.args) ∙ ap (λ q. has s q g.args) p) i)
+      ) there
 
   -- one is taken out
   pub removed : (before : List (Vec ℕ Global)) (args : List ℕ) → w.keys ≡ remove_key (λ k. is_eq (slice_cmp nat_cmp args (items k))) before → list_any (λ k. is_eq (slice_cmp nat_cmp args (items k))) w.keys ≡ false → args ≡ a.args

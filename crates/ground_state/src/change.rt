@@ -28,11 +28,7 @@ impl State {
     }
 
     /// The atoms of the list that are not in the set.
-    fn lacking(
-        &self,
-        alloc: Global,
-        atoms: &List<GroundAtom>,
-    ) -> Result<List<GroundAtom>, Memory>
+    fn lacking(&self, alloc: Global, atoms: &List<GroundAtom>) -> Result<List<GroundAtom>, Memory>
         ensures { IfOk result (λ lacking. spec.AreLacking self.now atoms.now lacking) }
     {
         let mut lacking = List::new(alloc);

@@ -82,7 +82,7 @@ fn gather_each(
     Ok(())
 }
 
-/// The same, of the effect with each objects of these types.
+/// The same, of the effect with all objects of these types.
 #[cycle(gather)]
 fn gather_within(
     alloc: Global,

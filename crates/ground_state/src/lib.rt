@@ -1,7 +1,7 @@
-//! Truth and steps, computed: a state of ground atoms, and whether a formula is true in it.
+//! Truth and steps, computed: a state of ground atoms, whether a formula is true in it, and the state after an effect.
 //!
-//! Stands on `htn_base`, `plan_model` and the definitions of `plan_meaning`. The contract used above: `holds` answers
-//! whether a formula is true in a state.
+//! Stands on `htn_base`, `plan_model` and the definitions of `plan_meaning`. The contracts used above: `holds` answers
+//! whether a formula is true in a state, and `State::apply` goes to the state after an effect.
 #![tactic(auto)]
 
 mod change;

@@ -24,8 +24,8 @@ gather-returns-then-adds-clause-gathered t c =
     let v = c.args.env.now.values.items in
     let a = ground v c.in-Add.atom in
     on_ok_weaker c.put.result (λ p.
-      cases.gathers-same (λ g. g ≡ ground c.args.env.now.values.items c.in-Add.atom) (Touches I S c.args.adds c.args.eff.now v) c.args.into.now c.put.new.self (cases.touches-Add I S v c.args.adds c.args.eff.now c.in-Add.atom c.in-Add.is c.if-adds.true)
-      (cases.gathers-push c.args.into.now c.put.new.self a (put-made c.ground.result a c.args.into.now c.put.new.self c.ground.ensures p))
+    cases.gathers-same (λ g. g ≡ ground c.args.env.now.values.items c.in-Add.atom) (Touches I S c.args.adds c.args.eff.now v) c.args.into.now c.put.new.self (cases.touches-Add I S v c.args.adds c.args.eff.now c.in-Add.atom c.in-Add.is c.if-adds.true)
+    (cases.gathers-push c.args.into.now c.put.new.self a (put-made c.ground.result a c.args.into.now c.put.new.self c.ground.ensures p))
     ) c.put.ensures.put
 
 pub gather-returns-then-not-adds-clause-gathered : goal.gather-returns-then-not-adds-clause-gathered
@@ -35,23 +35,23 @@ gather-returns-then-not-adds-clause-gathered t c =
     let v = c.args.env.now.values.items in
     let a = ground v c.in-Delete.atom in
     on_ok_weaker c.put-then-not-adds.result (λ p.
-      cases.gathers-same (λ g. g ≡ ground c.args.env.now.values.items c.in-Delete.atom) (Touches I S c.args.adds c.args.eff.now v) c.args.into.now c.put-then-not-adds.new.self (cases.touches-Delete I S v c.args.adds c.args.eff.now c.in-Delete.atom c.in-Delete.is c.if-not-adds.true)
-      (cases.gathers-push c.args.into.now c.put-then-not-adds.new.self a (put-made c.ground-then-not-adds.result a c.args.into.now c.put-then-not-adds.new.self c.ground-then-not-adds.ensures p))
+    cases.gathers-same (λ g. g ≡ ground c.args.env.now.values.items c.in-Delete.atom) (Touches I S c.args.adds c.args.eff.now v) c.args.into.now c.put-then-not-adds.new.self (cases.touches-Delete I S v c.args.adds c.args.eff.now c.in-Delete.atom c.in-Delete.is c.if-not-adds.true)
+    (cases.gathers-push c.args.into.now c.put-then-not-adds.new.self a (put-made c.ground-then-not-adds.result a c.args.into.now c.put-then-not-adds.new.self c.ground-then-not-adds.ensures p))
     ) c.put-then-not-adds.ensures.put
 
 pub gather-gather_each-requires : goal.gather-gather_each-requires
 gather-gather_each-requires t c = (
   let d = c.decreases in
-  let l = sizes.falls-And c.args.eff.now c.in-And.parts c.as_slice.result.now c.in-And.is c.as_slice.ensures.items in
-  omega (arith, d, l),
+      let l = sizes.falls-And c.args.eff.now c.in-And.parts c.as_slice.result.now c.in-And.is c.as_slice.ensures.items in
+      omega (arith, d, l),
   (c.requires.world, room.fits-All (frame c.args.env.now) c.args.eff.now c.in-And.parts c.as_slice.result.now c.in-And.is c.as_slice.ensures.items c.requires.room),
 )
 
 pub gather-gather_within-requires : goal.gather-gather_within-requires
 gather-gather_within-requires t c = (
   let d = c.decreases in
-  let l = sizes.falls-Forall c.args.eff.now c.in-Forall.params c.as_slice-in-Forall.result.now c.in-Forall.body c.get.result.now c.in-Forall.is c.as_slice-in-Forall.ensures.items c.get.ensures.value in
-  omega (arith, d, l),
+      let l = sizes.falls-Forall c.args.eff.now c.in-Forall.params c.as_slice-in-Forall.result.now c.in-Forall.body c.get.result.now c.in-Forall.is c.as_slice-in-Forall.ensures.items c.get.ensures.value in
+      omega (arith, d, l),
   (c.requires.world, room.fits-Each (frame c.args.env.now) c.args.eff.now c.in-Forall.params c.as_slice-in-Forall.result.now c.in-Forall.body c.get.result.now c.in-Forall.is c.as_slice-in-Forall.ensures.items c.get.ensures.value c.requires.room),
 )
 
@@ -61,8 +61,8 @@ gather-holds-requires-clause-room t c = room.fits-condition (frame c.args.env.no
 pub gather-gather-requires : goal.gather-gather-requires
 gather-gather-requires t c = (
   let d = c.decreases in
-  let l = sizes.falls-When c.args.eff.now c.in-When.condition c.in-When.body c.get-then-holds.result.now c.in-When.is c.get-then-holds.ensures.value in
-  omega (arith, d, l),
+      let l = sizes.falls-When c.args.eff.now c.in-When.condition c.in-When.body c.get-then-holds.result.now c.in-When.is c.get-then-holds.ensures.value in
+      omega (arith, d, l),
   (c.requires.world, subst (λ e. EffectFits e c.get-then-holds.result.now) (sym c.holds.ensures.kept) (room.fits-When (frame c.args.env.now) c.args.eff.now c.in-When.condition c.in-When.body c.get-then-holds.result.now c.in-When.is c.get-then-holds.ensures.value c.requires.room)),
 )
 
@@ -73,9 +73,9 @@ gather-returns-then-holds-clause-gathered t c =
     let v = c.args.env.now.values.items in
     let x = c.get-then-holds.result.now in
     on_ok_weaker c.gather.result (λ h.
-      cases.gathers-same (Touches I S c.args.adds x v) (Touches I S c.args.adds c.args.eff.now v) c.args.into.now c.gather.new.into
-      (cases.touches-When I S v c.args.adds c.args.eff.now c.in-When.condition c.in-When.body x c.in-When.is c.get-then-holds.ensures.value (c.holds.ensures.truth.0 c.if-holds.true))
-      (subst (λ (e : Frame). Gathers (Touches I S c.args.adds x e.objects) c.args.into.now c.gather.new.into) c.holds.ensures.kept h)
+    cases.gathers-same (Touches I S c.args.adds x v) (Touches I S c.args.adds c.args.eff.now v) c.args.into.now c.gather.new.into
+    (cases.touches-When I S v c.args.adds c.args.eff.now c.in-When.condition c.in-When.body x c.in-When.is c.get-then-holds.ensures.value (c.holds.ensures.truth.0 c.if-holds.true))
+    (subst (λ (e : Frame). Gathers (Touches I S c.args.adds x e.objects) c.args.into.now c.gather.new.into) c.holds.ensures.kept h)
     ) c.gather.ensures.gathered
 
 pub gather-returns-else-adds-clause-gathered : goal.gather-returns-else-adds-clause-gathered
@@ -98,8 +98,8 @@ gather-returns-in-And-clause-gathered t c =
     let S = atoms c.args.world.now.state.now in
     let v = c.args.env.now.values.items in
     on_ok_weaker c.gather_each.result (
-      cases.gathers-same (OneTouches I S c.args.adds c.as_slice.result.now v) (Touches I S c.args.adds c.args.eff.now v) c.args.into.now c.gather_each.new.into
-      (cases.touches-And I S v c.args.adds c.args.eff.now c.in-And.parts c.as_slice.result.now c.in-And.is c.as_slice.ensures.items)
+    cases.gathers-same (OneTouches I S c.args.adds c.as_slice.result.now v) (Touches I S c.args.adds c.args.eff.now v) c.args.into.now c.gather_each.new.into
+    (cases.touches-And I S v c.args.adds c.args.eff.now c.in-And.parts c.as_slice.result.now c.in-And.is c.as_slice.ensures.items)
     ) c.gather_each.ensures.gathered
 
 pub gather-returns-in-Forall-clause-gathered : goal.gather-returns-in-Forall-clause-gathered
@@ -108,8 +108,8 @@ gather-returns-in-Forall-clause-gathered t c =
     let S = atoms c.args.world.now.state.now in
     let v = c.args.env.now.values.items in
     on_ok_weaker c.gather_within.result (
-      cases.gathers-same (TouchesWithin I S c.args.adds c.as_slice-in-Forall.result.now c.get.result.now v) (Touches I S c.args.adds c.args.eff.now v) c.args.into.now c.gather_within.new.into
-      (cases.touches-Forall I S v c.args.adds c.args.eff.now c.in-Forall.params c.as_slice-in-Forall.result.now c.in-Forall.body c.get.result.now c.in-Forall.is c.as_slice-in-Forall.ensures.items c.get.ensures.value)
+    cases.gathers-same (TouchesWithin I S c.args.adds c.as_slice-in-Forall.result.now c.get.result.now v) (Touches I S c.args.adds c.args.eff.now v) c.args.into.now c.gather_within.new.into
+    (cases.touches-Forall I S v c.args.adds c.args.eff.now c.in-Forall.params c.as_slice-in-Forall.result.now c.in-Forall.body c.get.result.now c.in-Forall.is c.as_slice-in-Forall.ensures.items c.get.ensures.value)
     ) c.gather_within.ensures.gathered
 
 pub gather-returns-else-holds-clause-gathered : goal.gather-returns-else-holds-clause-gathered
@@ -123,13 +123,13 @@ gather-returns-else-holds-clause-gathered t c =
 pub gather_each-gather-requires : goal.gather_each-gather-requires
 gather_each-gather-requires t c = (
   let d = c.decreases in
-  let l = sizes.falls-part c.args.parts.now c.loop-part.part-index c.part-item.result c.part-item.result c.loop-part-test.true c.part-item.is in
-  omega (arith, d, l),
+      let l = sizes.falls-part c.args.parts.now c.loop-part.part-index c.part-item.result c.part-item.result c.loop-part-test.true c.part-item.is in
+      omega (arith, d, l),
   (
     c.requires.world,
     subst (λ (e : Frame). EffectFits e c.part-item.result) (sym c.loop-part.invariant.0)
-    (subst (EffectFits (frame c.args.env.now)) (sym c.part-item.is)
-    (room.each-at (effect_fits (frame c.args.env.now).room (frame c.args.env.now).arity) c.args.parts.now (length c.args.env.now.values.items) c.loop-part.part-index c.part-item.result c.loop-part-test.true c.requires.room)),
+        (subst (EffectFits (frame c.args.env.now)) (sym c.part-item.is)
+        (room.each-at (effect_fits (frame c.args.env.now).room (frame c.args.env.now).arity) c.args.parts.now (length c.args.env.now.values.items) c.loop-part.part-index c.part-item.result c.loop-part-test.true c.requires.room)),
   ),
 )
 
@@ -139,12 +139,11 @@ gather_each-loop-part-preserved t c =
     let S = atoms c.args.world.now.state.now in
     let v = c.args.env.now.values.items in
     let i = c.loop-part.part-index in
-    let e = c.part-item.result in
-    (
+    let e = c.part-item.result in (
       c.in_ok-gather.ensures.kept ∙ c.loop-part.invariant.0,
       cases.gathers-then (OneTouches I S c.args.adds (take i c.args.parts.now) v) (Touches I S c.args.adds e v) (OneTouches I S c.args.adds (take (i + 1) c.args.parts.now) v) c.args.into.now c.loop-part.into c.gather.new.into
-      (cases.touches-next I S v c.args.adds c.args.parts.now i e c.loop-part-test.true c.part-item.is) c.loop-part.invariant.1
-      (subst (λ (f : Frame). Gathers (Touches I S c.args.adds e f.objects) c.loop-part.into c.gather.new.into) c.loop-part.invariant.0 c.in_ok-gather.ensures.gathered),
+          (cases.touches-next I S v c.args.adds c.args.parts.now i e c.loop-part-test.true c.part-item.is) c.loop-part.invariant.1
+          (subst (λ (f : Frame). Gathers (Touches I S c.args.adds e f.objects) c.loop-part.into c.gather.new.into) c.loop-part.invariant.0 c.in_ok-gather.ensures.gathered),
     )
 
 pub gather_each-returns-clause-gathered : goal.gather_each-returns-clause-gathered
@@ -159,8 +158,8 @@ gather_within-returns-in_default-clause-gathered t c =
     let S = atoms c.args.world.now.state.now in
     let v = c.args.env.now.values.items in
     on_ok_weaker c.gather.result (
-      cases.gathers-same (Touches I S c.args.adds c.args.body.now v) (TouchesWithin I S c.args.adds c.args.params.now c.args.body.now v) c.args.into.now c.gather.new.into
-      (cases.within-none I S v c.args.adds c.args.params.now c.args.body.now c.in_default.ensures.cases)
+    cases.gathers-same (Touches I S c.args.adds c.args.body.now v) (TouchesWithin I S c.args.adds c.args.params.now c.args.body.now v) c.args.into.now c.gather.new.into
+    (cases.within-none I S v c.args.adds c.args.params.now c.args.body.now c.in_default.ensures.cases)
     ) c.gather.ensures.gathered
 
 pub gather_within-returns-in_err-gathered-clause-kept : goal.gather_within-returns-in_err-gathered-clause-kept
@@ -178,18 +177,18 @@ gather_within-loop-object-preserved t c =
     let Q : State = TouchesWithin I S c.args.adds c.in-Some.rest.now c.args.body.now (v ++ i ∷ []) in
     elim c.if-in_type.branch [
       | gather_within-then-in_type+in_ok-gathered w ↦ (
-        let typed : I c.loop-object.object c.in-Some.param.now.ty = c.in_type.ensures.0 w.if-in_type.true in
-        let objects : w.push.new.self.values.items ≡ v ++ c.loop-object.object ∷ [] = ap (λ (f : Frame). f.objects) w.push.ensures ∙ ap (λ (f : Frame). f.objects ++ c.loop-object.object ∷ []) c.loop-object.invariant.0 in
-        let more : Gathers Q c.loop-object.into w.gather_within-gathered.new.into = subst (λ u. Gathers (TouchesWithin I S c.args.adds c.in-Some.rest.now c.args.body.now u) c.loop-object.into w.gather_within-gathered.new.into) objects w.in_ok-gathered.ensures.gathered in
-        let kept : frame w.pop.new.self ≡ frame c.args.env.now = w.pop.ensures (frame c.loop-object.env) c.loop-object.object (w.gather_within-gathered.ensures.kept ∙ w.push.ensures) ∙ c.loop-object.invariant.0 in
-        let all : Gathers N c.args.into.now w.gather_within-gathered.new.into = cases.gathers-then P Q N c.args.into.now c.loop-object.into w.gather_within-gathered.new.into (λ g. cases.below-more (R g) (Q g) i (λ r. r.1, λ q. (typed, q))) c.loop-object.invariant.1 more in
-        (ap frame w.env-is ∙ kept, subst (Gathers N c.args.into.now) (sym w.into-is) all)
-      )
+          let typed : I c.loop-object.object c.in-Some.param.now.ty = c.in_type.ensures.0 w.if-in_type.true in
+          let objects : w.push.new.self.values.items ≡ v ++ c.loop-object.object ∷ [] = ap (λ (f : Frame). f.objects) w.push.ensures ∙ ap (λ (f : Frame). f.objects ++ c.loop-object.object ∷ []) c.loop-object.invariant.0 in
+          let more : Gathers Q c.loop-object.into w.gather_within-gathered.new.into = subst (λ u. Gathers (TouchesWithin I S c.args.adds c.in-Some.rest.now c.args.body.now u) c.loop-object.into w.gather_within-gathered.new.into) objects w.in_ok-gathered.ensures.gathered in
+          let kept : frame w.pop.new.self ≡ frame c.args.env.now = w.pop.ensures (frame c.loop-object.env) c.loop-object.object (w.gather_within-gathered.ensures.kept ∙ w.push.ensures) ∙ c.loop-object.invariant.0 in
+          let all : Gathers N c.args.into.now w.gather_within-gathered.new.into = cases.gathers-then P Q N c.args.into.now c.loop-object.into w.gather_within-gathered.new.into (λ g. cases.below-more (R g) (Q g) i (λ r. r.1, λ q. (typed, q))) c.loop-object.invariant.1 more in
+          (ap frame w.env-is ∙ kept, subst (Gathers N c.args.into.now) (sym w.into-is) all)
+          )
       | gather_within-else-in_type w ↦ (
-        let none : (g : GroundAtom) → R g c.loop-object.object → ⊥ = λ g r. true≢false (sym (c.in_type.ensures.1 r.0) ∙ w.if-in_type.false) in
-        let all : Gathers N c.args.into.now c.loop-object.into = cases.gathers-same P N c.args.into.now c.loop-object.into (λ g. cases.below-none (R g) i (none g)) c.loop-object.invariant.1 in
-        (ap frame w.env-is ∙ c.loop-object.invariant.0, subst (Gathers N c.args.into.now) (sym w.into-is) all)
-      )
+          let none : (g : GroundAtom) → R g c.loop-object.object → ⊥ = λ g r. true≢false (sym (c.in_type.ensures.1 r.0) ∙ w.if-in_type.false) in
+          let all : Gathers N c.args.into.now c.loop-object.into = cases.gathers-same P N c.args.into.now c.loop-object.into (λ g. cases.below-none (R g) i (none g)) c.loop-object.invariant.1 in
+          (ap frame w.env-is ∙ c.loop-object.invariant.0, subst (Gathers N c.args.into.now) (sym w.into-is) all)
+          )
     ]
 
 pub gather_within-returns-clause-gathered : goal.gather_within-returns-clause-gathered

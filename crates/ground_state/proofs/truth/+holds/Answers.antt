@@ -43,8 +43,14 @@ holds-holds-requires-in-Imply t c = (
 pub holds-holds-requires-then-holds : goal.holds-holds-requires-then-holds
 holds-holds-requires-then-holds t c = (
   (let d = c.decreases in let l = sizes.falls-conclusion c.args.f.now c.in-Imply.premise c.in-Imply.conclusion c.get-then-holds.result.now c.in-Imply.is c.get-then-holds.ensures.value in omega (arith, d, l)),
-  (c.requires.listed, (c.requires.few, subst (λ e. Fits e c.get-then-holds.result.now) (sym c.holds-in-Imply.ensures.kept)
-  (room.fits-conclusion (frame c.args.env.now) c.args.f.now c.in-Imply.premise c.in-Imply.conclusion c.get-then-holds.result.now c.in-Imply.is c.get-then-holds.ensures.value c.requires.room))),
+  (
+    c.requires.listed,
+    (
+      c.requires.few,
+      subst (λ e. Fits e c.get-then-holds.result.now) (sym c.holds-in-Imply.ensures.kept)
+          (room.fits-conclusion (frame c.args.env.now) c.args.f.now c.in-Imply.premise c.in-Imply.conclusion c.get-then-holds.result.now c.in-Imply.is c.get-then-holds.ensures.value c.requires.room),
+    ),
+  ),
 )
 
 pub holds-returns-then-holds-clause-truth : goal.holds-returns-then-holds-clause-truth
@@ -104,9 +110,15 @@ holds-returns-in-Exists-clause-truth t c =
 pub is_among-holds-requires : goal.is_among-holds-requires
 is_among-holds-requires t c = (
   (let d = c.decreases in let l = sizes.falls-part c.args.parts.now c.loop-part.part-index c.part-item.result c.part-item.result c.loop-part-test.true c.part-item.is in omega (arith, d, l)),
-  (c.requires.listed, (c.requires.few, subst (λ (e : Frame). Fits e c.part-item.result) (sym c.loop-part.invariant.0)
-  (subst (Fits (frame c.args.env.now)) (sym c.part-item.is)
-  (room.each-at (fits (frame c.args.env.now).room (frame c.args.env.now).arity) c.args.parts.now (length c.args.env.now.values.items) c.loop-part.part-index c.part-item.result c.loop-part-test.true c.requires.room)))),
+  (
+    c.requires.listed,
+    (
+      c.requires.few,
+      subst (λ (e : Frame). Fits e c.part-item.result) (sym c.loop-part.invariant.0)
+          (subst (Fits (frame c.args.env.now)) (sym c.part-item.is)
+          (room.each-at (fits (frame c.args.env.now).room (frame c.args.env.now).arity) c.args.parts.now (length c.args.env.now.values.items) c.loop-part.part-index c.part-item.result c.loop-part-test.true c.requires.room)),
+    ),
+  ),
 )
 
 pub is_found-returns-then-found-clause-kept : goal.is_found-returns-then-found-clause-kept
@@ -120,15 +132,15 @@ is_found-loop-object-preserved t c =
     let before : (o : ℕ) → o < c.loop-object.object → P o = λ o l os i a. c.loop-object.invariant.1 o os l i a in
     elim c.if-in_type.branch [
       | is_found-then-in_type+else-found w ↦ (
-        let kept : frame w.pop.new.self ≡ frame c.args.env.now = w.pop.ensures (frame c.loop-object.env) c.loop-object.object (w.is_found-found.ensures.kept ∙ w.push.ensures) ∙ c.loop-object.invariant.0 in
-        let objects : w.push.new.self.values.items ≡ c.args.env.now.values.items ++ c.loop-object.object ∷ [] = ap (λ (f : Frame). f.objects) w.push.ensures ∙ ap (λ (f : Frame). f.objects ++ c.loop-object.object ∷ []) c.loop-object.invariant.0 in
-        let last : P c.loop-object.object = λ os i a. subst (λ v. Is (not c.args.wanted) (IsTrueIn I S c.args.body.now (v ++ os))) objects (w.if-found.ensures.answer os a) in
-        (ap frame w.env-is ∙ kept, λ o os l i a. below-next P c.loop-object.object before last o l os i a)
-      )
+          let kept : frame w.pop.new.self ≡ frame c.args.env.now = w.pop.ensures (frame c.loop-object.env) c.loop-object.object (w.is_found-found.ensures.kept ∙ w.push.ensures) ∙ c.loop-object.invariant.0 in
+          let objects : w.push.new.self.values.items ≡ c.args.env.now.values.items ++ c.loop-object.object ∷ [] = ap (λ (f : Frame). f.objects) w.push.ensures ∙ ap (λ (f : Frame). f.objects ++ c.loop-object.object ∷ []) c.loop-object.invariant.0 in
+          let last : P c.loop-object.object = λ os i a. subst (λ v. Is (not c.args.wanted) (IsTrueIn I S c.args.body.now (v ++ os))) objects (w.if-found.ensures.answer os a) in
+          (ap frame w.env-is ∙ kept, λ o os l i a. below-next P c.loop-object.object before last o l os i a)
+          )
       | is_found-else-in_type w ↦ (
-        let last : P c.loop-object.object = λ os i a. absurd (true≢false (sym (c.in_type.ensures.1 i) ∙ w.if-in_type.false)) in
-        (ap frame w.env-is ∙ c.loop-object.invariant.0, λ o os l i a. below-next P c.loop-object.object before last o l os i a)
-      )
+          let last : P c.loop-object.object = λ os i a. absurd (true≢false (sym (c.in_type.ensures.1 i) ∙ w.if-in_type.false)) in
+          (ap frame w.env-is ∙ c.loop-object.invariant.0, λ o os l i a. below-next P c.loop-object.object before last o l os i a)
+          )
     ]
 
 pub is_found-returns-clause-answer : goal.is_found-returns-clause-answer

@@ -13,6 +13,6 @@ returns-clause-after c =
     let S = atoms c.args.self.now in
     let deletes = subst (λ (e : Frame). Gathers (Touches I S false c.args.eff.now e.objects) [] c.in_ok-deletes.deletes) c.in_ok-adds.ensures.kept c.in_ok-deletes.ensures.touched in
     on_ok_weaker c.change.result (λ h g.
-      let a = after-gathered I S c.args.eff.now c.args.env.now.values.items c.in_ok-adds.adds c.in_ok-deletes.deletes c.in_ok-adds.ensures.touched deletes g in
-      (λ x. a.0 ((h g).0 x), λ x. (h g).1 (a.1 x))
+    let a = after-gathered I S c.args.eff.now c.args.env.now.values.items c.in_ok-adds.adds c.in_ok-deletes.deletes c.in_ok-adds.ensures.touched deletes g in
+    (λ x. a.0 ((h g).0 x), λ x. (h g).1 (a.1 x))
     ) c.change.ensures.changed

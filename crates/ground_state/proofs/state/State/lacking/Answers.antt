@@ -17,7 +17,7 @@ loop-atom-preserved c =
     let e = c.atom-item.is ∙ ap (λ (ys : List GroundAtom). get_or ys c.loop-atom.atom-index c.atom-item.result) items in
     elim c.if-not-has.branch [
       | then-not-has+in_ok-put w ↦ subst (AreLacking s (take (i + 1) xs)) (sym (w.lacking-is ∙ put-made w.copy.result a c.loop-atom.lacking w.put.new.self w.copy.ensures.equal w.in_ok-put.ensures.put))
-      (lacking-next s xs c.loop-atom.lacking i a l e c.loop-atom.invariant (λ u. true≢false (sym (c.has.ensures.1 u) ∙ w.if-not-has.true)))
+          (lacking-next s xs c.loop-atom.lacking i a l e c.loop-atom.invariant (λ u. true≢false (sym (c.has.ensures.1 u) ∙ w.if-not-has.true)))
       | else-not-has w ↦ subst (AreLacking s (take (i + 1) xs)) (sym w.lacking-is) (lacking-skip s xs c.loop-atom.lacking i a l e c.loop-atom.invariant (c.has.ensures.0 w.if-not-has.false))
     ]
 
