@@ -1,10 +1,8 @@
 -- A search over the objects of the types.
-use Rattle.std.proofs.Common.{ℕ, suc, ◌≡◌, ◌+◌, ◌<◌, ◌++◌, Bool, true, false, not, List, [], ◌∷◌, nat_lt, refl, ap, sym, inl, inr, subst, append_assoc, arith}
+use Rattle.std.proofs.Common.{ℕ, ◌≡◌, ◌+◌, ◌<◌, ◌++◌, List, [], ◌∷◌, inl, inr, subst, append_assoc, arith}
 use Rattle.std.proofs.lemmas.Bool.{cases_lt}
 use Rattle.plan_model.specs.declared.terms.Param.{Param}
-use Rattle.plan_model.specs.declared.formulas.Formula.{Formula}
-use Rattle.plan_meaning.specs.Truth.{State, AreTyped, IsTrueIn}
-use Rattle.ground_state.specs.Search.{Is}
+use Rattle.plan_meaning.specs.Truth.{AreTyped}
 
 -- what holds of the numbers below one, and of it, holds below the next
 pub below-next : (P : ℕ → Type 0) (i : ℕ) → ((o : ℕ) → o < i → P o) → P i → (o : ℕ) → o < i + 1 → P o

@@ -1,5 +1,6 @@
 -- The room for a formula goes down the formula, and that for an effect down the effect.
-use Rattle.std.proofs.Common.{ℕ, zero, suc, ◌≡◌, ◌+◌, ◌<◌, ◌≤◌, List, [], ◌∷◌, length, map, get_or, refl, ap, sym, subst, ◌∙◌, arith}
+use Rattle.std.proofs.Common.{ℕ, zero, suc, ◌≡◌, ◌<◌, ◌≤◌, List, [], ◌∷◌, length, map, get_or, refl, ap, sym, subst, ◌∙◌, arith}
+use Rattle.plan_model.specs.declared.terms.Term.{Term}
 use Rattle.plan_model.specs.declared.terms.Atom.{Atom}
 use Rattle.plan_model.specs.declared.terms.Param.{Param}
 use Rattle.plan_model.specs.declared.formulas.Formula.{Formula, roll-Formula}
@@ -90,3 +91,10 @@ module _ (env : Frame) where
 
   pub fits-When : (e : Effect) (f : Formula) (p x : Effect) → e ≡ E.When f p → x ≡ p → EffectFits env e → EffectFits env x
   fits-When e f p x d g h = subst (EffectFits env) (sym g) (effect-at env.room env.arity e (Effect-F.When f p) (E.rolls-When f p ∙ sym d) (length env.objects) h).1
+
+-- these take no room
+pub fits-Equal : (env : Frame) (s t : Term) → Fits env (F.Equal s t)
+fits-Equal env s t = subst (λ (P : ℕ → Type 0). P (length env.objects)) (sym (ap (fits env.room env.arity) (sym (F.rolls-Equal s t)) ∙ fits-roll env.room env.arity (Formula-F.Equal s t))) tt
+
+pub fits-Delete : (env : Frame) (a : Atom) → EffectFits env (E.Delete a)
+fits-Delete env a = subst (λ (P : ℕ → Type 0). P (length env.objects)) (sym (ap (effect_fits env.room env.arity) (sym (E.rolls-Delete a)) ∙ effect-roll env.room env.arity (Effect-F.Delete a))) tt

@@ -1,5 +1,5 @@
 -- Truth, by the kinds of formulas, as it is computed.
-use Rattle.std.proofs.Common.{ℕ, zero, suc, ◌≡◌, ◌+◌, ◌<◌, ◌↔◌, inl, inr, Bool, true, false, not, IsTrue, List, [], ◌∷◌, ◌++◌, length, get_or, Contains, nat_eq, refl, ap, sym, subst, ◌∙◌, append_assoc, append-nil, true≢false, arith}
+use Rattle.std.proofs.Common.{ℕ, zero, suc, ◌≡◌, ◌<◌, ◌↔◌, inl, inr, Bool, true, false, not, IsTrue, List, [], ◌∷◌, ◌++◌, length, get_or, Contains, nat_eq, refl, ap, sym, subst, ◌∙◌, true≢false, arith}
 use Rattle.std.proofs.lemmas.Bool.{eqb-true, eq-eqb}
 use Rattle.plan_model.specs.declared.terms.Term.{Term}
 use Rattle.plan_model.specs.declared.terms.Atom.{Atom}
@@ -9,7 +9,7 @@ use Rattle.plan_model.specs.declared.formulas.Formula.TheVariants as F
 use Rattle.plan_meaning.specs.Truth.{State, ground, value_of, EachTrue, OneTrue, AreTyped, IsTrueIn}
 use Rattle.plan_meaning.proofs.TruthEquations.{truth-Holds, truth-Equal, truth-Not, truth-And, truth-Or, truth-Imply, truth-Forall, truth-Exists}
 use Rattle.task_networks.proofs.Lists.{Contains-here, Contains-later}
-use Rattle.ground_state.specs.Search.{Is, IsAmongParts, IsFound}
+use Rattle.ground_state.specs.Search.{IsAmongParts, IsFound}
 
 true-is-not-false : IsTrue false → ⊥
 true-is-not-false e = true≢false (sym e)

@@ -1,11 +1,10 @@
-use Rattle.std.proofs.Common.{ℕ, ◌≡◌, ◌+◌, ◌<◌, ◌↔◌, ◌++◌, Bool, true, false, List, [], ◌∷◌, length, take, Contains, sym, subst, ap, ◌∙◌, true≢false, arith}
+use Rattle.std.proofs.Common.{ℕ, ◌≡◌, ◌+◌, ◌<◌, ◌++◌, [], ◌∷◌, length, take, sym, subst, ap, ◌∙◌, true≢false, arith}
 use Rattle.std.proofs.lemmas.List.{take_all}
 use Rattle.std.proofs.lemmas.Result.{on_ok_weaker}
 use Rattle.plan_model.specs.declared.terms.GroundAtom.{GroundAtom}
-use Rattle.plan_model.specs.declared.effects.Effect.{Effect}
 use Rattle.plan_model.specs.Typing.{InType}
 use Rattle.plan_model.proofs.PartsOf.{in_type_within}
-use Rattle.plan_meaning.specs.Truth.{State, ground, AreTyped}
+use Rattle.plan_meaning.specs.Truth.{State, ground}
 use Rattle.ground_state.specs.Frames.{Frame, frame}
 use Rattle.ground_state.specs.Room.{effect_fits, EffectFits}
 use Rattle.ground_state.specs.States.{atoms}

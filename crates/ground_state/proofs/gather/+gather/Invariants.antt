@@ -1,4 +1,4 @@
-use Rattle.std.proofs.Common.{ℕ, ◌≡◌, ◌+◌, ◌<◌, ◌++◌, List, [], ◌∷◌, length, take}
+use Rattle.std.proofs.Common.{ℕ, ◌≡◌, ◌+◌, ◌<◌, ◌++◌, [], ◌∷◌, length, take}
 use Rattle.plan_model.specs.Typing.{InType}
 use Rattle.ground_state.specs.Frames.{frame}
 use Rattle.ground_state.specs.States.{atoms}

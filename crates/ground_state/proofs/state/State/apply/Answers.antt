@@ -1,4 +1,4 @@
-use Rattle.std.proofs.Common.{true, false, [], subst}
+use Rattle.std.proofs.Common.{false, [], subst}
 use Rattle.std.proofs.lemmas.Result.{on_ok_weaker}
 use Rattle.plan_model.specs.Typing.{InType}
 use Rattle.ground_state.specs.Frames.{Frame}

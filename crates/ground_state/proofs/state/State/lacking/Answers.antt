@@ -1,4 +1,4 @@
-use Rattle.std.proofs.Common.{◌≡◌, ◌+◌, ◌<◌, ◌≤◌, ◌∙◌, List, length, take, get_or, ap, sym, subst, true≢false}
+use Rattle.std.proofs.Common.{◌+◌, ◌<◌, ◌≤◌, ◌∙◌, List, length, take, get_or, ap, sym, subst, true≢false}
 use Rattle.std.proofs.lemmas.List.{take_all}
 use Rattle.plan_model.specs.declared.terms.GroundAtom.{GroundAtom}
 use Rattle.ground_state.specs.States.{AreLacking}

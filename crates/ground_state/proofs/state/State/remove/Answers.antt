@@ -1,4 +1,4 @@
-use Rattle.std.proofs.Common.{ℕ, ◌≡◌, cond, Some, refl, ◌∙◌, subst}
+use Rattle.std.proofs.Common.{refl, subst}
 use Rattle.std.specs.Option.{IsSome}
 use Rattle.ground_state.proofs.StateLaws.{removed, some-lists}
 use Rattle.ground_state.proofs.state.State.remove.Goals as goal
