@@ -19,6 +19,8 @@ mod orders;
 #[cfg(test)]
 mod readings;
 #[cfg(test)]
+mod states;
+#[cfg(test)]
 mod tokens;
 #[cfg(test)]
 mod values;

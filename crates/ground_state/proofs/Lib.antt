@@ -1,0 +1,9 @@
+-- A measure that falls, room and truth, by the kinds of formulas.
+pub mod Sizes
+pub mod RoomEquations
+pub mod TruthCases
+pub mod Found
+pub mod Lists
+pub mod StateLaws
+pub mod EffectSizes
+pub mod GatherCases

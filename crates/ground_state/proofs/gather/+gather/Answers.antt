@@ -1,0 +1,202 @@
+use Rattle.std.proofs.Common.{ℕ, ◌≡◌, ◌+◌, ◌<◌, ◌++◌, [], ◌∷◌, length, take, sym, subst, ap, ◌∙◌, true≢false, arith}
+use Rattle.std.proofs.lemmas.List.{take_all}
+use Rattle.std.proofs.lemmas.Result.{on_ok_weaker}
+use Rattle.plan_model.specs.declared.terms.GroundAtom.{GroundAtom}
+use Rattle.plan_model.specs.Typing.{InType}
+use Rattle.plan_model.proofs.PartsOf.{in_type_within}
+use Rattle.plan_meaning.specs.Truth.{State, ground}
+use Rattle.ground_state.specs.Frames.{Frame, frame}
+use Rattle.ground_state.specs.Room.{effect_fits, EffectFits}
+use Rattle.ground_state.specs.States.{atoms}
+use Rattle.ground_state.specs.Search.{Gathers, Touches, OneTouches, TouchesWithin}
+use Rattle.ground_state.proofs.EffectSizes as sizes
+use Rattle.ground_state.proofs.RoomEquations as room
+use Rattle.ground_state.proofs.GatherCases as cases
+use Rattle.ground_state.proofs.StateLaws.{put-made}
+use Rattle.ground_state.proofs.gather.+gather.Goals as goal
+use Rattle.ground_state.proofs.gather.+gather.Goals.{gather_within-then-in_type+in_ok-gathered, gather_within-else-in_type}
+
+pub gather-returns-then-adds-clause-gathered : goal.gather-returns-then-adds-clause-gathered
+gather-returns-then-adds-clause-gathered t c =
+    let I = InType c.args.world.now.types.now c.args.world.now.objects.now in
+    let S = atoms c.args.world.now.state.now in
+    let v = c.args.env.now.values.items in
+    let a = ground v c.in-Add.atom in
+    on_ok_weaker c.put.result (λ p.
+    cases.gathers-same (λ g. g ≡ ground c.args.env.now.values.items c.in-Add.atom) (Touches I S c.args.adds c.args.eff.now v) c.args.into.now c.put.new.self (cases.touches-Add I S v c.args.adds c.args.eff.now c.in-Add.atom c.in-Add.is c.if-adds.true)
+    (cases.gathers-push c.args.into.now c.put.new.self a (put-made c.ground.result a c.args.into.now c.put.new.self c.ground.ensures p))
+    ) c.put.ensures.put
+
+pub gather-returns-then-not-adds-clause-gathered : goal.gather-returns-then-not-adds-clause-gathered
+gather-returns-then-not-adds-clause-gathered t c =
+    let I = InType c.args.world.now.types.now c.args.world.now.objects.now in
+    let S = atoms c.args.world.now.state.now in
+    let v = c.args.env.now.values.items in
+    let a = ground v c.in-Delete.atom in
+    on_ok_weaker c.put-then-not-adds.result (λ p.
+    cases.gathers-same (λ g. g ≡ ground c.args.env.now.values.items c.in-Delete.atom) (Touches I S c.args.adds c.args.eff.now v) c.args.into.now c.put-then-not-adds.new.self (cases.touches-Delete I S v c.args.adds c.args.eff.now c.in-Delete.atom c.in-Delete.is c.if-not-adds.true)
+    (cases.gathers-push c.args.into.now c.put-then-not-adds.new.self a (put-made c.ground-then-not-adds.result a c.args.into.now c.put-then-not-adds.new.self c.ground-then-not-adds.ensures p))
+    ) c.put-then-not-adds.ensures.put
+
+pub gather-gather_each-requires : goal.gather-gather_each-requires
+gather-gather_each-requires t c = (
+  let d = c.decreases in
+      let l = sizes.falls-And c.args.eff.now c.in-And.parts c.as_slice.result.now c.in-And.is c.as_slice.ensures.items in
+      omega (arith, d, l),
+  (c.requires.world, room.fits-All (frame c.args.env.now) c.args.eff.now c.in-And.parts c.as_slice.result.now c.in-And.is c.as_slice.ensures.items c.requires.room),
+)
+
+pub gather-gather_within-requires : goal.gather-gather_within-requires
+gather-gather_within-requires t c = (
+  let d = c.decreases in
+      let l = sizes.falls-Forall c.args.eff.now c.in-Forall.params c.as_slice-in-Forall.result.now c.in-Forall.body c.get.result.now c.in-Forall.is c.as_slice-in-Forall.ensures.items c.get.ensures.value in
+      omega (arith, d, l),
+  (c.requires.world, room.fits-Each (frame c.args.env.now) c.args.eff.now c.in-Forall.params c.as_slice-in-Forall.result.now c.in-Forall.body c.get.result.now c.in-Forall.is c.as_slice-in-Forall.ensures.items c.get.ensures.value c.requires.room),
+)
+
+pub gather-holds-requires-clause-room : goal.gather-holds-requires-clause-room
+gather-holds-requires-clause-room t c = room.fits-condition (frame c.args.env.now) c.args.eff.now c.in-When.condition c.in-When.body c.in-When.is c.requires.room
+
+pub gather-gather-requires : goal.gather-gather-requires
+gather-gather-requires t c = (
+  let d = c.decreases in
+      let l = sizes.falls-When c.args.eff.now c.in-When.condition c.in-When.body c.get-then-holds.result.now c.in-When.is c.get-then-holds.ensures.value in
+      omega (arith, d, l),
+  (c.requires.world, subst (λ e. EffectFits e c.get-then-holds.result.now) (sym c.holds.ensures.kept) (room.fits-When (frame c.args.env.now) c.args.eff.now c.in-When.condition c.in-When.body c.get-then-holds.result.now c.in-When.is c.get-then-holds.ensures.value c.requires.room)),
+)
+
+pub gather-returns-then-holds-clause-gathered : goal.gather-returns-then-holds-clause-gathered
+gather-returns-then-holds-clause-gathered t c =
+    let I = InType c.args.world.now.types.now c.args.world.now.objects.now in
+    let S = atoms c.args.world.now.state.now in
+    let v = c.args.env.now.values.items in
+    let x = c.get-then-holds.result.now in
+    on_ok_weaker c.gather.result (λ h.
+    cases.gathers-same (Touches I S c.args.adds x v) (Touches I S c.args.adds c.args.eff.now v) c.args.into.now c.gather.new.into
+    (cases.touches-When I S v c.args.adds c.args.eff.now c.in-When.condition c.in-When.body x c.in-When.is c.get-then-holds.ensures.value (c.holds.ensures.truth.0 c.if-holds.true))
+    (subst (λ (e : Frame). Gathers (Touches I S c.args.adds x e.objects) c.args.into.now c.gather.new.into) c.holds.ensures.kept h)
+    ) c.gather.ensures.gathered
+
+pub gather-returns-else-adds-clause-gathered : goal.gather-returns-else-adds-clause-gathered
+gather-returns-else-adds-clause-gathered t c =
+    let I = InType c.args.world.now.types.now c.args.world.now.objects.now in
+    let S = atoms c.args.world.now.state.now in
+    let v = c.args.env.now.values.items in
+    cases.gathers-none (Touches I S c.args.adds c.args.eff.now v) c.args.into.now (cases.touches-Add-not I S v c.args.adds c.args.eff.now c.in-Add.atom c.in-Add.is c.if-adds.false)
+
+pub gather-returns-else-not-adds-clause-gathered : goal.gather-returns-else-not-adds-clause-gathered
+gather-returns-else-not-adds-clause-gathered t c =
+    let I = InType c.args.world.now.types.now c.args.world.now.objects.now in
+    let S = atoms c.args.world.now.state.now in
+    let v = c.args.env.now.values.items in
+    cases.gathers-none (Touches I S c.args.adds c.args.eff.now v) c.args.into.now (cases.touches-Delete-not I S v c.args.adds c.args.eff.now c.in-Delete.atom c.in-Delete.is c.if-not-adds.false)
+
+pub gather-returns-in-And-clause-gathered : goal.gather-returns-in-And-clause-gathered
+gather-returns-in-And-clause-gathered t c =
+    let I = InType c.args.world.now.types.now c.args.world.now.objects.now in
+    let S = atoms c.args.world.now.state.now in
+    let v = c.args.env.now.values.items in
+    on_ok_weaker c.gather_each.result (
+    cases.gathers-same (OneTouches I S c.args.adds c.as_slice.result.now v) (Touches I S c.args.adds c.args.eff.now v) c.args.into.now c.gather_each.new.into
+    (cases.touches-And I S v c.args.adds c.args.eff.now c.in-And.parts c.as_slice.result.now c.in-And.is c.as_slice.ensures.items)
+    ) c.gather_each.ensures.gathered
+
+pub gather-returns-in-Forall-clause-gathered : goal.gather-returns-in-Forall-clause-gathered
+gather-returns-in-Forall-clause-gathered t c =
+    let I = InType c.args.world.now.types.now c.args.world.now.objects.now in
+    let S = atoms c.args.world.now.state.now in
+    let v = c.args.env.now.values.items in
+    on_ok_weaker c.gather_within.result (
+    cases.gathers-same (TouchesWithin I S c.args.adds c.as_slice-in-Forall.result.now c.get.result.now v) (Touches I S c.args.adds c.args.eff.now v) c.args.into.now c.gather_within.new.into
+    (cases.touches-Forall I S v c.args.adds c.args.eff.now c.in-Forall.params c.as_slice-in-Forall.result.now c.in-Forall.body c.get.result.now c.in-Forall.is c.as_slice-in-Forall.ensures.items c.get.ensures.value)
+    ) c.gather_within.ensures.gathered
+
+pub gather-returns-else-holds-clause-gathered : goal.gather-returns-else-holds-clause-gathered
+gather-returns-else-holds-clause-gathered t c =
+    let I = InType c.args.world.now.types.now c.args.world.now.objects.now in
+    let S = atoms c.args.world.now.state.now in
+    let v = c.args.env.now.values.items in
+    cases.gathers-none (Touches I S c.args.adds c.args.eff.now v) c.args.into.now
+    (cases.touches-When-not I S v c.args.adds c.args.eff.now c.in-When.condition c.in-When.body c.in-When.is (λ u. true≢false (sym (c.holds.ensures.truth.1 u) ∙ c.if-holds.false)))
+
+pub gather_each-gather-requires : goal.gather_each-gather-requires
+gather_each-gather-requires t c = (
+  let d = c.decreases in
+      let l = sizes.falls-part c.args.parts.now c.loop-part.part-index c.part-item.result c.part-item.result c.loop-part-test.true c.part-item.is in
+      omega (arith, d, l),
+  (
+    c.requires.world,
+    subst (λ (e : Frame). EffectFits e c.part-item.result) (sym c.loop-part.invariant.0)
+        (subst (EffectFits (frame c.args.env.now)) (sym c.part-item.is)
+        (room.each-at (effect_fits (frame c.args.env.now).room (frame c.args.env.now).arity) c.args.parts.now (length c.args.env.now.values.items) c.loop-part.part-index c.part-item.result c.loop-part-test.true c.requires.room)),
+  ),
+)
+
+pub gather_each-loop-part-preserved : goal.gather_each-loop-part-preserved
+gather_each-loop-part-preserved t c =
+    let I = InType c.args.world.now.types.now c.args.world.now.objects.now in
+    let S = atoms c.args.world.now.state.now in
+    let v = c.args.env.now.values.items in
+    let i = c.loop-part.part-index in
+    let e = c.part-item.result in (
+      c.in_ok-gather.ensures.kept ∙ c.loop-part.invariant.0,
+      cases.gathers-then (OneTouches I S c.args.adds (take i c.args.parts.now) v) (Touches I S c.args.adds e v) (OneTouches I S c.args.adds (take (i + 1) c.args.parts.now) v) c.args.into.now c.loop-part.into c.gather.new.into
+          (cases.touches-next I S v c.args.adds c.args.parts.now i e c.loop-part-test.true c.part-item.is) c.loop-part.invariant.1
+          (subst (λ (f : Frame). Gathers (Touches I S c.args.adds e f.objects) c.loop-part.into c.gather.new.into) c.loop-part.invariant.0 c.in_ok-gather.ensures.gathered),
+    )
+
+pub gather_each-returns-clause-gathered : goal.gather_each-returns-clause-gathered
+gather_each-returns-clause-gathered t c =
+    let I = InType c.args.world.now.types.now c.args.world.now.objects.now in
+    let S = atoms c.args.world.now.state.now in
+    subst (λ es. Gathers (OneTouches I S c.args.adds es c.args.env.now.values.items) c.args.into.now c.loop-part.into) (take_all c.loop-part.part-index c.args.parts.now c.loop-part-test.false) c.loop-part.invariant.1
+
+pub gather_within-returns-in_default-clause-gathered : goal.gather_within-returns-in_default-clause-gathered
+gather_within-returns-in_default-clause-gathered t c =
+    let I = InType c.args.world.now.types.now c.args.world.now.objects.now in
+    let S = atoms c.args.world.now.state.now in
+    let v = c.args.env.now.values.items in
+    on_ok_weaker c.gather.result (
+    cases.gathers-same (Touches I S c.args.adds c.args.body.now v) (TouchesWithin I S c.args.adds c.args.params.now c.args.body.now v) c.args.into.now c.gather.new.into
+    (cases.within-none I S v c.args.adds c.args.params.now c.args.body.now c.in_default.ensures.cases)
+    ) c.gather.ensures.gathered
+
+pub gather_within-returns-in_err-gathered-clause-kept : goal.gather_within-returns-in_err-gathered-clause-kept
+gather_within-returns-in_err-gathered-clause-kept t c = c.pop.ensures (frame c.loop-object.env) c.loop-object.object (c.gather_within-gathered.ensures.kept ∙ c.push.ensures) ∙ c.loop-object.invariant.0
+
+pub gather_within-loop-object-preserved : goal.gather_within-loop-object-preserved
+gather_within-loop-object-preserved t c =
+    let I = InType c.args.world.now.types.now c.args.world.now.objects.now in
+    let S = atoms c.args.world.now.state.now in
+    let v = c.args.env.now.values.items in
+    let i = c.loop-object.object in
+    let R : GroundAtom → ℕ → Type 0 = λ g o. I o c.in-Some.param.now.ty × TouchesWithin I S c.args.adds c.in-Some.rest.now c.args.body.now (v ++ o ∷ []) g in
+    let P : State = λ g. (o : ℕ) × (o < c.loop-object.object) × R g o in
+    let N : State = λ g. (o : ℕ) × (o < c.loop-object.object + 1) × R g o in
+    let Q : State = TouchesWithin I S c.args.adds c.in-Some.rest.now c.args.body.now (v ++ i ∷ []) in
+    elim c.if-in_type.branch [
+      | gather_within-then-in_type+in_ok-gathered w ↦ (
+          let typed : I c.loop-object.object c.in-Some.param.now.ty = c.in_type.ensures.0 w.if-in_type.true in
+          let objects : w.push.new.self.values.items ≡ v ++ c.loop-object.object ∷ [] = ap (λ (f : Frame). f.objects) w.push.ensures ∙ ap (λ (f : Frame). f.objects ++ c.loop-object.object ∷ []) c.loop-object.invariant.0 in
+          let more : Gathers Q c.loop-object.into w.gather_within-gathered.new.into = subst (λ u. Gathers (TouchesWithin I S c.args.adds c.in-Some.rest.now c.args.body.now u) c.loop-object.into w.gather_within-gathered.new.into) objects w.in_ok-gathered.ensures.gathered in
+          let kept : frame w.pop.new.self ≡ frame c.args.env.now = w.pop.ensures (frame c.loop-object.env) c.loop-object.object (w.gather_within-gathered.ensures.kept ∙ w.push.ensures) ∙ c.loop-object.invariant.0 in
+          let all : Gathers N c.args.into.now w.gather_within-gathered.new.into = cases.gathers-then P Q N c.args.into.now c.loop-object.into w.gather_within-gathered.new.into (λ g. cases.below-more (R g) (Q g) i (λ r. r.1, λ q. (typed, q))) c.loop-object.invariant.1 more in
+          (ap frame w.env-is ∙ kept, subst (Gathers N c.args.into.now) (sym w.into-is) all)
+          )
+      | gather_within-else-in_type w ↦ (
+          let none : (g : GroundAtom) → R g c.loop-object.object → ⊥ = λ g r. true≢false (sym (c.in_type.ensures.1 r.0) ∙ w.if-in_type.false) in
+          let all : Gathers N c.args.into.now c.loop-object.into = cases.gathers-same P N c.args.into.now c.loop-object.into (λ g. cases.below-none (R g) i (none g)) c.loop-object.invariant.1 in
+          (ap frame w.env-is ∙ c.loop-object.invariant.0, subst (Gathers N c.args.into.now) (sym w.into-is) all)
+          )
+    ]
+
+pub gather_within-returns-clause-gathered : goal.gather_within-returns-clause-gathered
+gather_within-returns-clause-gathered t c =
+    let I = InType c.args.world.now.types.now c.args.world.now.objects.now in
+    let S = atoms c.args.world.now.state.now in
+    let v = c.args.env.now.values.items in
+    let p = c.in-Some.param.now in
+    let below : (o : ℕ) → I o c.in-Some.param.now.ty → o < c.loop-object.object =
+    λ o i. (let l = in_type_within c.args.world.now.types.now c.args.world.now.objects.now c.in-Some.param.now.ty o i in let e = c.loop-object-test.false in let n = c.len-object-end.ensures.length in omega arith) in
+    cases.gathers-same (λ g. (o : ℕ) × (o < c.loop-object.object) × (I o c.in-Some.param.now.ty × TouchesWithin I S c.args.adds c.in-Some.rest.now c.args.body.now (v ++ o ∷ []) g)) (TouchesWithin I S c.args.adds c.args.params.now c.args.body.now v) c.args.into.now c.loop-object.into
+    (cases.within-all I S v c.args.adds p c.in-Some.rest.now c.args.params.now c.args.body.now c.loop-object.object c.in-Some.ensures.cases.0 below) c.loop-object.invariant.1

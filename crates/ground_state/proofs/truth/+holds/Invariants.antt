@@ -1,0 +1,27 @@
+use Rattle.std.proofs.Common.{ℕ, ◌≡◌, ◌+◌, ◌<◌, ◌++◌, not, List, [], ◌∷◌, length, get_or}
+use Rattle.plan_model.specs.declared.formulas.Formula.{Formula}
+use Rattle.plan_model.specs.Typing.{InType}
+use Rattle.plan_meaning.specs.Truth.{IsTrueIn, AreTyped}
+use Rattle.ground_state.specs.Frames.{frame}
+use Rattle.ground_state.specs.States.{atoms}
+use Rattle.ground_state.specs.Search.{Is}
+use Rattle.ground_state.proofs.Sizes.{size, sizes}
+use Rattle.ground_state.proofs.truth.+holds.Given as goal
+
+abbrev pub decreases-holds : goal.decreases-holds
+decreases-holds l = size l.f.now
+
+abbrev pub decreases-is_among : goal.decreases-is_among
+decreases-is_among l = 1 + sizes l.parts.now
+
+abbrev pub decreases-is_found : goal.decreases-is_found
+decreases-is_found l = 1 + length l.params.now + size l.body.now
+
+-- the parts so far are not as wanted
+abbrev pub invariant-is_among-loop-part : goal.invariant-is_among-loop-part
+invariant-is_among-loop-part l = (frame l.env ≡ frame l.fn.env) × ((k : ℕ) (d : Formula) → k < l.part-index → Is (not l.wanted) (IsTrueIn (InType l.types l.objects) (atoms l.s) (get_or l.parts k d) l.fn.env.values.items))
+
+-- with the objects so far the body is not as wanted
+abbrev pub invariant-is_found-loop-object : goal.invariant-is_found-loop-object
+invariant-is_found-loop-object l = (frame l.env ≡ frame l.fn.env)
+    × ((o : ℕ) (os : List ℕ) → o < l.object → InType l.types l.objects o l.param.ty → AreTyped (InType l.types l.objects) l.rest os → Is (not l.wanted) (IsTrueIn (InType l.types l.objects) (atoms l.s) l.body ((l.fn.env.values.items ++ o ∷ []) ++ os)))

@@ -1,0 +1,4 @@
+pub mod Frames
+pub mod Room
+pub mod States
+pub mod Search

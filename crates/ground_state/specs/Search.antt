@@ -1,0 +1,50 @@
+-- What a search for a part, or for objects, comes to, and what is gathered from an effect.
+-- Source: this project's.
+use Rattle.std.specs.Prelude.{ℕ, ◌<◌, ◌^◌, Bool, true, false, not, List, ◌++◌, ◌⊎◌, ◌↔◌, Contains, MatchBool, length}
+use Rattle.plan_model.specs.declared.terms.Param.{Param}
+use Rattle.plan_model.specs.declared.terms.GroundAtom.{GroundAtom}
+use Rattle.plan_model.specs.declared.formulas.Formula.{Formula}
+use Rattle.plan_model.specs.declared.effects.Effect.{Effect}
+use Rattle.plan_model.specs.Parts.{AreListed}
+use Rattle.plan_meaning.specs.Truth.{State, AreTyped, IsTrueIn, OneTrue, Adds, Deletes}
+use Rattle.ground_state.specs.declared.gather.World.{World}
+
+-- the statement is true, or it is not, as wanted
+abbrev pub Is : Bool → Type 0 → Type 0
+Is true P = P
+Is false P = P → ⊥
+
+module _ (InType : ℕ → ℕ → Type 0) (S : State) (wanted : Bool) where
+  -- one of the formulas is as wanted, or each is not
+  abbrev pub IsAmongParts : Bool → List Formula → List ℕ → Type 0
+  IsAmongParts found fs values = MatchBool found
+      ((f : Formula) × Contains fs f × Is wanted (IsTrueIn InType S f values))
+      ((f : Formula) → Contains fs f → Is (not wanted) (IsTrueIn InType S f values))
+
+  -- for some objects of the types the formula is as wanted, or for each it is not
+  abbrev pub IsFound : Bool → List Param → Formula → List ℕ → Type 0
+  IsFound found ps f values = MatchBool found
+      ((os : List ℕ) × AreTyped InType ps os × Is wanted (IsTrueIn InType S f (values ++ os)))
+      ((os : List ℕ) → AreTyped InType ps os → Is (not wanted) (IsTrueIn InType S f (values ++ os)))
+
+-- the new list has the atoms of the old one and those that are as P says
+abbrev pub Gathers : State → List GroundAtom → List GroundAtom → Type 0
+Gathers P old new = (g : GroundAtom) → Contains new g ↔ (Contains old g ⊎ P g)
+
+module _ (InType : ℕ → ℕ → Type 0) (S : State) where
+  -- what the effect adds, or deletes
+  abbrev pub Touches : Bool → Effect → List ℕ → State
+  Touches true = Adds InType S
+  Touches false = Deletes InType S
+
+  -- the same, of one of the effects, and of one with objects of the types
+  abbrev pub OneTouches : Bool → List Effect → List ℕ → State
+  OneTouches adds es values g = OneTrue (λ e v. Touches adds e v g) es values
+
+  abbrev pub TouchesWithin : Bool → List Param → Effect → List ℕ → State
+  TouchesWithin adds ps e values g = (os : List ℕ) × AreTyped InType ps os × Touches adds e (values ++ os) g
+
+-- the types are listed, and objects have numbers of 32 bits
+pub record IsWorld (world : World) : Type 0 where
+  pub listed : AreListed world.types.now
+  pub few : length world.objects.now < 2 ^ 32

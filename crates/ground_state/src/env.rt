@@ -1,0 +1,94 @@
+ghost use Rattle.std.specs.Prelude.{ℕ, ◌≡◌, ◌≤◌, ◌<◌, length, IfOk};
+ghost use Rattle.plan_meaning.specs.Truth.{value_of, values_of, ground};
+ghost use Rattle.ground_state.specs.Frames.{Frame, frame, pushed};
+
+use htn_base::{List, Memory};
+use plan_model::{Atom, GroundAtom, Term};
+use std::alloc::Global;
+
+/// The objects of the variables in force, the schema's parameters first and then those of the quantifiers from
+/// outside in. Its room is taken at once, so that no test of a formula takes memory.
+///
+/// `args`: the arguments of the atom that is looked up.
+#[derive(Drop)]
+pub struct Env {
+    values: Vec<u32>,
+    args: Vec<u32>,
+}
+
+impl Env {
+    /// The environment in which these are in force, with room for `depth` variables and for `arity` arguments of an
+    /// atom.
+    pub fn new(alloc: Global, args: &List<u32>, depth: u32, arity: u32) -> Result<Env, Memory>
+        ensures objects { IfOk result (λ env. (frame env).objects ≡ args.now) }
+        ensures depth { IfOk result (λ env. depth ≤ (frame env).room) }
+        ensures arity { IfOk result (λ env. arity ≤ (frame env).arity) }
+    {
+        let mut values = Vec::with_capacity(alloc, depth as usize)?;
+        values.extend_from_slice(args.as_slice())?;
+        let args = Vec::with_capacity(alloc, arity as usize)?;
+        Ok(Env { values, args })
+    }
+
+    /// Puts one more variable in force.
+    pub(crate) fn push(&mut self, object: u32)
+        requires { length (frame self.old).objects < (frame self.old).room }
+        ensures { frame self.new ≡ pushed (frame self.old) object }
+    {
+        self.values.push_reserved(object);
+    }
+
+    /// Takes the innermost variable away.
+    pub(crate) fn pop(&mut self)
+        ensures { (f : Frame) (o : ℕ) → frame self.old ≡ pushed f o → frame self.new ≡ f }
+    {
+        self.values.pop();
+    }
+
+    /// The object that the term stands for: a variable that is not in force stands for object 0.
+    pub(crate) fn value(&self, term: Term) -> u32
+        ensures { result ≡ value_of (frame self.now).objects term }
+    {
+        match term {
+            Term::Var(k) => match self.values.get(k as usize) {
+                Some(object) => *object,
+                None => 0,
+            },
+            Term::Obj(object) => object,
+        }
+    }
+
+    /// The ground atom that the atom stands for.
+    pub(crate) fn ground(&self, alloc: Global, atom: &Atom) -> Result<GroundAtom, Memory>
+        ensures { IfOk result (λ g. g ≡ ground (frame self.now).objects atom.now) }
+    {
+        let mut args = List::new(alloc);
+        for term in atom.args.as_slice() {
+            args.push(self.value(*term))?;
+        }
+        Ok(GroundAtom {
+            predicate: atom.predicate,
+            args,
+        })
+    }
+
+    /// Fills in the arguments that the terms stand for.
+    pub(crate) fn fill(&mut self, terms: &[Term])
+        requires { length terms.now ≤ (frame self.old).arity }
+        ensures args { self.new.args.items ≡ values_of (frame self.old).objects terms.now }
+        ensures kept { frame self.new ≡ frame self.old }
+    {
+        self.args.clear();
+        for term in terms {
+            let value = self.value(*term);
+            self.args.push_reserved(value);
+        }
+    }
+
+    /// The arguments that were filled in last.
+    pub(crate) fn args(&self) -> &[u32]
+        ensures { result.now ≡ self.now.args.items }
+    {
+        self.args.as_slice()
+    }
+}

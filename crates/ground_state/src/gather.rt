@@ -1,0 +1,113 @@
+ghost use Rattle.std.specs.Prelude.{◌≡◌, ◌<◌, ◌^◌, length, OnOk};
+ghost use Rattle.plan_model.specs.Typing.{InType};
+ghost use Rattle.ground_state.specs.Frames.{frame};
+ghost use Rattle.ground_state.specs.Room.{EffectFits, AllEffectsFit, EffectFitsWithin};
+ghost use Rattle.ground_state.specs.States.{atoms};
+ghost use Rattle.ground_state.specs.Search.{Gathers, Touches, OneTouches, TouchesWithin, IsWorld};
+
+use crate::env::Env;
+use crate::state::State;
+use crate::truth::holds;
+use htn_base::{List, Memory};
+use plan_model::{Effect, GroundAtom, Object, Param, Types, in_type};
+use std::alloc::Global;
+
+/// What an effect is read in: the state before it, the types and the objects.
+#[derive(Clone, Copy)]
+pub(crate) struct World<'a> {
+    pub state: &'a State,
+    pub types: &'a Types,
+    pub objects: &'a List<Object>,
+}
+
+/// Puts the atoms that the effect adds, or those that it deletes, at the end of the list.
+#[cycle(gather)]
+pub(crate) fn gather(
+    alloc: Global,
+    adds: bool,
+    eff: &Effect,
+    env: &mut Env,
+    world: &World<'_>,
+    into: &mut List<GroundAtom>,
+) -> Result<(), Memory>
+    requires world { IsWorld world.now }
+    requires room { EffectFits (frame env.old) eff.now }
+    ensures gathered { OnOk result (Gathers (Touches (InType world.now.types.now world.now.objects.now) (atoms world.now.state.now) adds eff.now (frame env.old).objects) into.old into.new) }
+    ensures kept { frame env.new ≡ frame env.old }
+{
+    match eff {
+        Effect::Add(atom) => {
+            if adds {
+                return into.put(env.ground(alloc, atom));
+            }
+            Ok(())
+        }
+        Effect::Delete(atom) => {
+            if !adds {
+                return into.put(env.ground(alloc, atom));
+            }
+            Ok(())
+        }
+        Effect::And(parts) => gather_each(alloc, adds, parts.as_slice(), env, world, into),
+        Effect::Forall(params, body) => {
+            gather_within(alloc, adds, params.as_slice(), body.get(), env, world, into)
+        }
+        Effect::When(condition, body) => {
+            if holds(condition, env, world.state, world.types, world.objects) {
+                return gather(alloc, adds, body.get(), env, world, into);
+            }
+            Ok(())
+        }
+    }
+}
+
+/// The same, of each of the effects.
+#[cycle(gather)]
+fn gather_each(
+    alloc: Global,
+    adds: bool,
+    parts: &[Effect],
+    env: &mut Env,
+    world: &World<'_>,
+    into: &mut List<GroundAtom>,
+) -> Result<(), Memory>
+    requires world { IsWorld world.now }
+    requires room { AllEffectsFit (frame env.old) parts.now }
+    ensures gathered { OnOk result (Gathers (OneTouches (InType world.now.types.now world.now.objects.now) (atoms world.now.state.now) adds parts.now (frame env.old).objects) into.old into.new) }
+    ensures kept { frame env.new ≡ frame env.old }
+{
+    for part in parts {
+        gather(alloc, adds, part, env, world, into)?;
+    }
+    Ok(())
+}
+
+/// The same, of the effect with all objects of these types.
+#[cycle(gather)]
+fn gather_within(
+    alloc: Global,
+    adds: bool,
+    params: &[Param],
+    body: &Effect,
+    env: &mut Env,
+    world: &World<'_>,
+    into: &mut List<GroundAtom>,
+) -> Result<(), Memory>
+    requires world { IsWorld world.now }
+    requires room { EffectFitsWithin (frame env.old) params.now body.now }
+    ensures gathered { OnOk result (Gathers (TouchesWithin (InType world.now.types.now world.now.objects.now) (atoms world.now.state.now) adds params.now body.now (frame env.old).objects) into.old into.new) }
+    ensures kept { frame env.new ≡ frame env.old }
+{
+    let Some((param, rest)) = params.split_first() else {
+        return gather(alloc, adds, body, env, world, into);
+    };
+    for object in 0..world.objects.len() as u32 {
+        if in_type(world.types, world.objects, object, param.ty) {
+            env.push(object);
+            let gathered = gather_within(alloc, adds, rest, body, env, world, into);
+            env.pop();
+            gathered?;
+        }
+    }
+    Ok(())
+}

@@ -1,0 +1,16 @@
+//! Truth and steps, computed: a state of ground atoms, whether a formula is true in it, and the state after an effect.
+//!
+//! Stands on `htn_base`, `plan_model` and the definitions of `plan_meaning`. The contracts used above: `holds` answers
+//! whether a formula is true in a state, and `State::apply` goes to the state after an effect.
+#![tactic(auto)]
+
+mod change;
+mod env;
+mod gather;
+mod state;
+mod step;
+mod truth;
+
+pub use env::Env;
+pub use state::State;
+pub use truth::holds;

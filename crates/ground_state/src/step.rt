@@ -1,0 +1,65 @@
+ghost use Rattle.std.specs.Prelude.{◌≡◌, ◌<◌, ◌^◌, [], length, IfOk, OnOk, OnErr};
+ghost use Rattle.plan_model.specs.Typing.{InType};
+ghost use Rattle.plan_model.specs.Parts.{AreListed};
+ghost use Rattle.plan_meaning.specs.Truth.{after};
+ghost use Rattle.ground_state.specs.Frames.{frame};
+ghost use Rattle.ground_state.specs.Room.{EffectFits};
+ghost use Rattle.ground_state.specs.States.{atoms, Has, IsSame};
+ghost use Rattle.ground_state.specs.Search.{Gathers, Touches};
+
+use crate::env::Env;
+use crate::gather::{World, gather};
+use crate::state::State;
+use htn_base::{List, Memory};
+use plan_model::{Effect, GroundAtom, Object, Types};
+use std::alloc::Global;
+
+impl State {
+    /// Goes to the state after the effect, where the environment has the objects of the variables in force: each
+    /// condition is tested in the old state, and an add wins over a delete. After `Memory` the state is as it was.
+    pub fn apply(
+        &mut self,
+        alloc: Global,
+        types: &Types,
+        objects: &List<Object>,
+        eff: &Effect,
+        env: &mut Env,
+    ) -> Result<(), Memory>
+        requires listed { AreListed types.now }
+        requires few { length objects.now < 2 ^ 32 }
+        requires room { EffectFits (frame env.old) eff.now }
+        ensures after { OnOk result (Has self.new (after (InType types.now objects.now) (atoms self.old) eff.now (frame env.old).objects)) }
+        ensures unchanged { OnErr result (IsSame self.old self.new) }
+        ensures kept { frame env.new ≡ frame env.old }
+    {
+        let adds = touched(alloc, true, eff, env, self, types, objects)?;
+        let deletes = touched(alloc, false, eff, env, self, types, objects)?;
+        self.change(alloc, &adds, &deletes)
+    }
+}
+
+/// The atoms that the effect adds, or those that it deletes.
+fn touched(
+    alloc: Global,
+    adds: bool,
+    eff: &Effect,
+    env: &mut Env,
+    state: &State,
+    types: &Types,
+    objects: &List<Object>,
+) -> Result<List<GroundAtom>, Memory>
+    requires listed { AreListed types.now }
+    requires few { length objects.now < 2 ^ 32 }
+    requires room { EffectFits (frame env.old) eff.now }
+    ensures touched { IfOk result (Gathers (Touches (InType types.now objects.now) (atoms state.now) adds eff.now (frame env.old).objects) []) }
+    ensures kept { frame env.new ≡ frame env.old }
+{
+    let world = World {
+        state,
+        types,
+        objects,
+    };
+    let mut atoms = List::new(alloc);
+    gather(alloc, adds, eff, env, &world, &mut atoms)?;
+    Ok(atoms)
+}

@@ -1,0 +1,111 @@
+ghost use Rattle.std.specs.Prelude.{◌≡◌, ◌≤◌, ◌<◌, ◌^◌, ◌↔◌, IsTrue, length};
+ghost use Rattle.plan_model.specs.Typing.{InType};
+ghost use Rattle.plan_model.specs.Parts.{AreListed};
+ghost use Rattle.plan_meaning.specs.Truth.{ground, IsTrueIn};
+ghost use Rattle.ground_state.specs.Frames.{frame};
+ghost use Rattle.ground_state.specs.Room.{Fits, AllFit, FitsWithin};
+ghost use Rattle.ground_state.specs.States.{atoms};
+ghost use Rattle.ground_state.specs.Search.{IsAmongParts, IsFound};
+
+use crate::env::Env;
+use crate::state::State;
+use htn_base::List;
+use plan_model::{Atom, Formula, Object, Param, Types, in_type};
+
+/// Whether the formula is true in the state, where the environment has the objects of the variables in force. It takes
+/// no memory and leaves the environment as it was. A conjunction stops at its first false part.
+#[cycle(holds)]
+pub fn holds(f: &Formula, env: &mut Env, s: &State, types: &Types, objects: &List<Object>) -> bool
+    requires listed { AreListed types.now }
+    requires few { length objects.now < 2 ^ 32 }
+    requires room { Fits (frame env.old) f.now }
+    ensures truth { IsTrue result ↔ IsTrueIn (InType types.now objects.now) (atoms s.now) f.now (frame env.old).objects }
+    ensures kept { frame env.new ≡ frame env.old }
+{
+    match f {
+        Formula::Holds(atom) => has_atom(atom, env, s),
+        Formula::Equal(left, right) => env.value(*left) == env.value(*right),
+        Formula::Not(part) => !holds(part.get(), env, s, types, objects),
+        Formula::And(parts) => !is_among(false, parts.as_slice(), env, s, types, objects),
+        Formula::Or(parts) => is_among(true, parts.as_slice(), env, s, types, objects),
+        Formula::Imply(premise, conclusion) => {
+            if holds(premise.get(), env, s, types, objects) {
+                return holds(conclusion.get(), env, s, types, objects);
+            }
+            true
+        }
+        Formula::Forall(params, body) => {
+            !is_found(false, params.as_slice(), body.get(), env, s, types, objects)
+        }
+        Formula::Exists(params, body) => {
+            is_found(true, params.as_slice(), body.get(), env, s, types, objects)
+        }
+    }
+}
+
+/// Whether the atom that this one stands for is in the state.
+fn has_atom(atom: &Atom, env: &mut Env, s: &State) -> bool
+    requires { length atom.now.args ≤ (frame env.old).arity }
+    ensures truth { IsTrue result ↔ atoms s.now (ground (frame env.old).objects atom.now) }
+    ensures kept { frame env.new ≡ frame env.old }
+{
+    env.fill(atom.args.as_slice());
+    s.has_args(atom.predicate, env.args())
+}
+
+/// Whether one of the formulas is true, or one is false, as wanted.
+#[cycle(holds)]
+fn is_among(
+    wanted: bool,
+    parts: &[Formula],
+    env: &mut Env,
+    s: &State,
+    types: &Types,
+    objects: &List<Object>,
+) -> bool
+    requires listed { AreListed types.now }
+    requires few { length objects.now < 2 ^ 32 }
+    requires room { AllFit (frame env.old) parts.now }
+    ensures answer { IsAmongParts (InType types.now objects.now) (atoms s.now) wanted result parts.now (frame env.old).objects }
+    ensures kept { frame env.new ≡ frame env.old }
+{
+    for part in parts {
+        if holds(part, env, s, types, objects) == wanted {
+            return true;
+        }
+    }
+    false
+}
+
+/// Whether for some objects of these types the formula is true, or false, as wanted.
+#[cycle(holds)]
+fn is_found(
+    wanted: bool,
+    params: &[Param],
+    body: &Formula,
+    env: &mut Env,
+    s: &State,
+    types: &Types,
+    objects: &List<Object>,
+) -> bool
+    requires listed { AreListed types.now }
+    requires few { length objects.now < 2 ^ 32 }
+    requires room { FitsWithin (frame env.old) params.now body.now }
+    ensures answer { IsFound (InType types.now objects.now) (atoms s.now) wanted result params.now body.now (frame env.old).objects }
+    ensures kept { frame env.new ≡ frame env.old }
+{
+    let Some((param, rest)) = params.split_first() else {
+        return holds(body, env, s, types, objects) == wanted;
+    };
+    for object in 0..objects.len() as u32 {
+        if in_type(types, objects, object, param.ty) {
+            env.push(object);
+            let found = is_found(wanted, rest, body, env, s, types, objects);
+            env.pop();
+            if found {
+                return true;
+            }
+        }
+    }
+    false
+}
