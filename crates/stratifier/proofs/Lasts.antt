@@ -1,0 +1,2 @@
+-- Last children.
+use Rattle.std.proofs.Common.{ℕ}

@@ -1,0 +1,5 @@
+pub mod Entering
+pub mod Walks
+pub mod Listing
+pub mod ByTask
+pub mod Lasts

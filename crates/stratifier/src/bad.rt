@@ -1,0 +1,53 @@
+ghost use Rattle.std.specs.Prelude.{◌≡◌, ℕ, ◌<◌, ◌≤◌, ◌^◌, ◌↔◌, All, IsTrue, Some, length, slice_get, IfOk, MatchOption};
+ghost use Rattle.stratifier.specs.declared.edge.Edge as declared;
+ghost use Rattle.stratifier.specs.Conditions.{IsFit, IsFitNetwork};
+ghost use Rattle.stratifier.specs.Bad.{AreBadMarks, AreLasts, IsLastOf};
+
+use crate::edge::Edge;
+use htn_base::{List, Memory};
+use net_order::{Order, OrderError};
+use plan_model::{Compiled, MethodPlan};
+use std::alloc::Global;
+
+/// For each of the edges whether it is bad: whether its child isn't the last of its method.
+pub fn bad_marks(alloc: Global, c: &Compiled, edges: &List<Edge>) -> Result<List<bool>, Memory>
+    requires fit { IsFit c.now }
+    requires methods { All (λ (e : declared.Edge). e.method < length c.now.methods) edges.now }
+    ensures bad { IfOk result (AreBadMarks c.now edges.now) }
+{
+    let lasts = last_children(alloc, c.methods.as_slice())?;
+    let mut marks = List::new(alloc);
+    for edge in edges.as_slice() {
+        marks.push(lasts[edge.method as usize] != Some(edge.child))?;
+    }
+    Ok(marks)
+}
+
+/// For each method its last child, if it has one.
+fn last_children(alloc: Global, methods: &[MethodPlan]) -> Result<Vec<Option<u32>>, Memory>
+    requires { All (λ plan. IsFitNetwork plan) methods.now }
+    ensures lasts { IfOk result (λ lasts. AreLasts methods.now lasts.items) }
+{
+    let mut lasts = Vec::new(alloc);
+    for plan in methods {
+        lasts.push(last_child(alloc, plan)?)?;
+    }
+    Ok(lasts)
+}
+
+/// The child that all others of the method precede, if there is one.
+fn last_child(alloc: Global, plan: &MethodPlan) -> Result<Option<u32>, Memory>
+    requires { IsFitNetwork plan.now }
+    ensures last { IfOk result (IsLastOf plan.now) }
+{
+    let count = plan.schema.children.len() as u32;
+    match Order::new(alloc, count, plan.schema.pairs.as_slice()) {
+        Ok(order) => {
+            let last = order.last();
+            drop(order);
+            Ok(last)
+        }
+        Err(OrderError::Memory) => Err(Memory),
+        Err(OrderError::Cycle { .. }) => unreachable!(),
+    }
+}
