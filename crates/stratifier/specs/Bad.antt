@@ -1,6 +1,7 @@
 -- The last children of methods, and marks of bad edges.
 -- Source: this project's, after the tail-recursive problems of Alford et al., "Bound to Plan", ICAPS 2016.
 use Rattle.std.specs.Prelude.{ℕ, ◌≡◌, ◌↔◌, Bool, IsTrue, List, length, slice_get, Option, Some, MatchOption}
+use Rattle.plan_model.specs.declared.networks.Pair.{Pair}
 use Rattle.plan_model.specs.declared.schemas.MethodPlan.{MethodPlan}
 use Rattle.plan_model.specs.declared.values.Compiled.{Compiled}
 use Rattle.plan_model.specs.Pairs.{Pairs}
@@ -9,9 +10,12 @@ use Rattle.plan_meaning.specs.Strata.{IsBad}
 use Rattle.stratifier.specs.declared.edge.Edge as Declared
 use Rattle.stratifier.specs.Listed.{edge_of}
 
--- the last child of the method; none exactly where no child is last
+-- the last of so many children; none exactly where no child is last
+abbrev pub IsLastChild : ℕ → List Pair → Option ℕ → Type 0
+IsLastChild count pairs last = MatchOption last ((i : ℕ) → IsLast (Pairs pairs) count i → ⊥) (IsLast (Pairs pairs) count)
+
 abbrev pub IsLastOf : MethodPlan → Option ℕ → Type 0
-IsLastOf plan last = MatchOption last ((i : ℕ) → IsLast (Pairs plan.schema.pairs) (length plan.schema.children) i → ⊥) (IsLast (Pairs plan.schema.pairs) (length plan.schema.children))
+IsLastOf plan = IsLastChild (length plan.schema.children) plan.schema.pairs
 
 pub record AreLasts (methods : List MethodPlan) (lasts : List (Option ℕ)) : Type 0 where
   pub room : length lasts ≡ length methods

@@ -1,4 +1,4 @@
-ghost use Rattle.std.specs.Prelude.{◌≡◌, ℕ, ◌<◌, ◌≤◌, ◌^◌, ◌↔◌, All, IsTrue, Some, length, slice_get, IfOk, MatchOption};
+ghost use Rattle.std.specs.Prelude.{◌≡◌, ◌≢◌, ℕ, ◌<◌, ◌≤◌, ◌^◌, ◌↔◌, All, IsTrue, Some, length, slice_get, IfOk, MatchOption};
 ghost use Rattle.stratifier.specs.declared.edge.Edge as declared;
 ghost use Rattle.stratifier.specs.Conditions.{IsFit, IsFitNetwork};
 ghost use Rattle.stratifier.specs.Bad.{AreBadMarks, AreLasts, IsLastOf};
@@ -18,9 +18,19 @@ pub fn bad_marks(alloc: Global, c: &Compiled, edges: &List<Edge>) -> Result<List
     let lasts = last_children(alloc, c.methods.as_slice())?;
     let mut marks = List::new(alloc);
     for edge in edges.as_slice() {
-        marks.push(lasts[edge.method as usize] != Some(edge.child))?;
+        marks.push(is_other(lasts[edge.method as usize], edge.child))?;
     }
     Ok(marks)
+}
+
+/// Whether it is another child, or none.
+fn is_other(last: Option<u32>, child: u32) -> bool
+    ensures other { IsTrue result ↔ (last ≢ Some child) }
+{
+    match last {
+        Some(place) => place != child,
+        None => true,
+    }
 }
 
 /// For each method its last child, if it has one.
