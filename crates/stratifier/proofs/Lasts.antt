@@ -1,5 +1,5 @@
 -- Last children, method by method, and marks of bad edges.
-use Rattle.std.proofs.Common.{ℕ, zero, suc, ◌≡◌, ◌≢◌, ◌+◌, ◌<◌, ◌≤◌, ◌⊎◌, ◌↔◌, inl, inr, List, [], ◌∷◌, ◌++◌, length, map, Bool, IsTrue, true, false, Option, Some, None, slice_get, refl, sym, subst, ap, ◌∙◌, arith}
+use Rattle.std.proofs.Common.{ℕ, zero, suc, ◌≡◌, ◌≢◌, ◌+◌, ◌<◌, ◌⊎◌, ◌↔◌, inl, inr, List, [], ◌∷◌, ◌++◌, length, Bool, IsTrue, Option, Some, None, slice_get, refl, sym, subst, ap, ◌∙◌}
 use Rattle.std.proofs.lemmas.Bool.{cases_eq}
 use Rattle.std.proofs.lemmas.List.{length-map, length_push}
 use Rattle.std.proofs.lemmas.Option.{get_or_from_slice_get}
@@ -8,16 +8,16 @@ use Rattle.plan_model.specs.declared.networks.Pair.{Pair}
 use Rattle.plan_model.specs.declared.schemas.MethodPlan.{MethodPlan}
 use Rattle.plan_model.specs.declared.values.Compiled.{Compiled}
 use Rattle.plan_model.specs.Pairs.{Pairs}
-use Rattle.task_networks.specs.Order.{Precedes, IsAcyclic, IsLast}
+use Rattle.task_networks.specs.Order.{IsAcyclic, IsLast}
 use Rattle.task_networks.proofs.Orders.{precedes_then}
-use Rattle.plan_meaning.specs.Schemas.{schemas, schema_of}
+use Rattle.plan_meaning.specs.Schemas.{schema_of}
 use Rattle.plan_meaning.specs.Strata.{IsBad}
 use Rattle.plan_meaning.proofs.MethodParts.{IsPairBy, schemas_by}
 use Rattle.plan_meaning.proofs.BoundParts.{there_at}
 use Rattle.stratifier.specs.declared.edge.Edge as Declared
 use Rattle.stratifier.specs.Listed.{edge_of}
-use Rattle.stratifier.specs.Conditions.{IsFit, IsFitNetwork}
-use Rattle.stratifier.specs.Bad.{IsLastChild, IsLastOf, AreLasts, AreBadMarks}
+use Rattle.stratifier.specs.Conditions.{HaveNoCycle, IsOrdered}
+use Rattle.stratifier.specs.Bad.{IsLastChild, IsLastOf, AreLasts}
 
 -- an item of a list with one more
 push_get : {A : Type 0} (xs : List A) (x y : A) (k : ℕ) → slice_get (xs ++ x ∷ []) k ≡ Some y → (slice_get xs k ≡ Some y) ⊎ ((k ≡ length xs) × (y ≡ x))
@@ -75,24 +75,24 @@ marked_more c edges k marks new edge mark is bad h f = record {
 }
 
 -- an edge is bad where its child isn't the last one
-bad_by : (plan : MethodPlan) (last : Option ℕ) (child : ℕ) → IsFitNetwork plan → IsLastOf plan last → (last ≢ Some child) ↔ (IsLast (Pairs plan.schema.pairs) (length plan.schema.children) child → ⊥)
-bad_by plan None child fit h = (λ n. h child, λ n e. absurd cc)
-bad_by plan (Some i) child fit h = (
-  λ n l. n (ap Some (last_is_one (Pairs plan.schema.pairs) (length plan.schema.children) i child fit.acyclic h l)),
+bad_by : (plan : MethodPlan) (last : Option ℕ) (child : ℕ) → IsOrdered plan → IsLastOf plan last → (last ≢ Some child) ↔ (IsLast (Pairs plan.schema.pairs) (length plan.schema.children) child → ⊥)
+bad_by plan None child ordered h = (λ n. h child, λ n e. absurd cc)
+bad_by plan (Some i) child ordered h = (
+  λ n l. n (ap Some (last_is_one (Pairs plan.schema.pairs) (length plan.schema.children) i child ordered.acyclic h l)),
   λ n e. n (subst (IsLast (Pairs plan.schema.pairs) (length plan.schema.children)) (some_same i child e) h),
 )
 
-pub bad_of : (c : Compiled) (e : Declared.Edge) (plan : MethodPlan) (last : Option ℕ) → slice_get c.methods e.method ≡ Some plan → IsFitNetwork plan → IsLastOf plan last → (last ≢ Some e.child) ↔ IsBad c (edge_of e)
-bad_of c e plan last is fit h =
+pub bad_of : (c : Compiled) (e : Declared.Edge) (plan : MethodPlan) (last : Option ℕ) → slice_get c.methods e.method ≡ Some plan → IsOrdered plan → IsLastOf plan last → (last ≢ Some e.child) ↔ IsBad c (edge_of e)
+bad_of c e plan last is ordered h =
     let many : length (schemas_by e.method (Some plan)) ≡ length plan.schema.children = length-map plan.schema.children (λ (child : Child). schema_of e.method child.head) in
     subst (λ o. (last ≢ Some e.child) ↔ (IsLast (IsPairBy o) (length (schemas_by e.method o)) e.child → ⊥)) (sym is)
-    (subst (λ n. (last ≢ Some e.child) ↔ (IsLast (Pairs plan.schema.pairs) n e.child → ⊥)) (sym many) (bad_by plan last e.child fit h))
+    (subst (λ n. (last ≢ Some e.child) ↔ (IsLast (Pairs plan.schema.pairs) n e.child → ⊥)) (sym many) (bad_by plan last e.child ordered h))
 
-pub bad_mark : (c : Compiled) (e : Declared.Edge) (methods : List MethodPlan) (lasts : List (Option ℕ)) (last : Option ℕ) → IsFit c → methods ≡ c.methods → e.method < length c.methods → AreLasts methods lasts → slice_get lasts e.method ≡ Some last
+pub bad_mark : (c : Compiled) (e : Declared.Edge) (methods : List MethodPlan) (lasts : List (Option ℕ)) (last : Option ℕ) → HaveNoCycle c → methods ≡ c.methods → e.method < length c.methods → AreLasts methods lasts → slice_get lasts e.method ≡ Some last
     → (last ≢ Some e.child) ↔ IsBad c (edge_of e)
-bad_mark c e methods lasts last fit same l are is =
+bad_mark c e methods lasts last ordered same l are is =
     let (plan, f) = there_at c.methods e.method l in
-    let network = subst IsFitNetwork (get_or_from_slice_get c.methods e.method plan plan f) (fit.networks e.method plan l) in
+    let network = subst IsOrdered (get_or_from_slice_get c.methods e.method plan plan f) (ordered e.method plan l) in
     bad_of c e plan last f network (are.each e.method plan last (ap (λ ms. slice_get ms e.method) same ∙ f) is)
 
 pub lasts_all : (methods : List MethodPlan) (k : ℕ) (lasts : List (Option ℕ)) → k ≡ length methods → AreLastsBelow methods k lasts → AreLasts methods lasts

@@ -3,3 +3,4 @@ pub mod Walks
 pub mod Listing
 pub mod ByTask
 pub mod Lasts
+pub mod Compiled

@@ -1,7 +1,6 @@
 -- The list of all edges: it grows by methods and children, has each edge, and is in order.
-use Rattle.std.proofs.Common.{ℕ, zero, suc, ◌≡◌, ◌+◌, ◌<◌, ◌≤◌, ◌⊎◌, ◌↔◌, inl, inr, List, [], ◌∷◌, ◌++◌, length, map, Bool, true, false, cond, get_or, take, All, Some, slice_get, Contains, refl, sym, subst, ap, ◌∙◌, arith, append_assoc}
+use Rattle.std.proofs.Common.{ℕ, zero, suc, ◌≡◌, ◌+◌, ◌<◌, ◌≤◌, ◌↔◌, inl, inr, List, [], ◌∷◌, ◌++◌, length, map, Bool, true, false, cond, get_or, take, All, Some, slice_get, Contains, refl, sym, subst, ap, ◌∙◌, arith, append_assoc}
 use Rattle.std.proofs.lemmas.List.{append-nil, take_more}
-use Rattle.std.proofs.lemmas.Option.{slice_get_within}
 use Rattle.std.proofs.lemmas.List.Elements.{Contains-append_left, Contains-append_right, Contains-append_cases}
 use Rattle.plan_model.specs.declared.networks.Head.{Head}
 use Rattle.plan_model.specs.declared.networks.Head.TheVariants.{Task, Action, Check}
@@ -12,12 +11,12 @@ use Rattle.plan_model.specs.Parts.{IsMarked}
 use Rattle.task_networks.specs.Bound.{IsReached}
 use Rattle.task_networks.proofs.Lists.{not-in_empty, head_or_tail, Contains-here, Contains-later}
 use Rattle.plan_meaning.specs.Network.{top_task}
-use Rattle.plan_meaning.specs.Schemas.{Schema, task, action, check, schemas, schema_of}
+use Rattle.plan_meaning.specs.Schemas.{Schema, task, schemas, schema_of}
 use Rattle.plan_meaning.specs.Strata.{Edge, IsEdge, IsEarlier, AreEdges, IsReachedTask}
 use Rattle.plan_meaning.proofs.MethodParts.{head_schema_by, schemas_by}
 use Rattle.htn_base.specs.declared.memory.Memory.{Memory}
 use Rattle.stratifier.specs.declared.edge.Edge as Declared
-use Rattle.stratifier.specs.Conditions.{IsFit}
+use Rattle.stratifier.specs.Conditions.{AreSmall}
 use Rattle.stratifier.specs.Listed.{edge_of, edges_to, edges_from, edges_of}
 use Rattle.std.specs.Prelude.{Result, Ok, Err, IfOk}
 
@@ -51,7 +50,7 @@ module _ (old now : List Edge) (m : ℕ) (children : List Child) (k : ℕ) (d : 
   from_next h =
       let n : length (take k children) ≡ 0 + length (take k children) = omega arith in
       let e : edges_from m 0 (take (k + 1) children) ≡ edges_from m 0 (take k children) ++ edges_to m k (get_or children k d).head =
-          ap (edges_from m 0) (take_more children k d l) ∙ (edges_from_more m 0 (take k children) (get_or children k d) ∙ ap (λ z. edges_from m 0 (take k children) ++ edges_to m z (get_or children k d).head) (sym n ∙ take_length children k l)) in
+      ap (edges_from m 0) (take_more children k d l) ∙ (edges_from_more m 0 (take k children) (get_or children k d) ∙ ap (λ z. edges_from m 0 (take k children) ++ edges_to m z (get_or children k d).head) (sym n ∙ take_length children k l)) in
       ap (λ s. s ++ edges_to m k (get_or children k d).head) h ∙ (append_assoc old (edges_from m 0 (take k children)) (edges_to m k (get_or children k d).head) ∙ ap (λ s. old ++ s) (sym e))
 
   pub from_with_task : (t : ℕ) → (get_or children k d).head ≡ Task t → now ≡ old ++ edges_from m 0 (take k children) → now ++ record { method = m; child = k } ∷ [] ≡ old ++ edges_from m 0 (take (k + 1) children)
@@ -226,9 +225,9 @@ module _ (marks : List Bool) where
           (subst (λ n. Contains (edges_from n 0 plan.schema.children) e) a (subst (λ n. Contains (edges_from e.method 0 plan.schema.children) (record { method = e.method; child = n })) b (to_from e.method 0 plan.schema.children e.child h.subtask s)))
 
 -- each method's task has a mark
-pub tasks_marked : (c : Compiled) → IsFit c → (methods : List MethodPlan) (marks : List Bool) → methods ≡ c.methods → length marks ≡ top_task c + 1 → All (λ (plan : MethodPlan). plan.schema.task < length marks) methods
-tasks_marked c fit methods marks e room k d l =
-    let n = fit.numbered k d (subst (λ ms. k < length ms) e l) in
+pub tasks_marked : (c : Compiled) → AreSmall c → (methods : List MethodPlan) (marks : List Bool) → methods ≡ c.methods → length marks ≡ top_task c + 1 → All (λ (plan : MethodPlan). plan.schema.task < length marks) methods
+tasks_marked c small methods marks e room k d l =
+    let n = small.numbered k d (subst (λ ms. k < length ms) e l) in
     let t = subst (λ ms. (get_or ms k d).schema.task ≤ top_task c) (sym e) n.task in
     omega arith
 

@@ -1,5 +1,5 @@
 -- A walk over the tasks from the top, as far as it went.
-use Rattle.std.proofs.Common.{ℕ, zero, suc, ◌≡◌, ◌+◌, ◌<◌, ◌≤◌, ◌⊎◌, ◌↔◌, inl, inr, List, [], ◌∷◌, ◌++◌, length, Bool, true, false, get_or, map, Option, Some, None, slice_get, Contains, refl, sym, subst, ap, ◌∙◌, arith}
+use Rattle.std.proofs.Common.{ℕ, zero, suc, ◌≡◌, ◌+◌, ◌<◌, ◌≤◌, ◌⊎◌, ◌↔◌, inl, inr, List, [], ◌∷◌, ◌++◌, length, Bool, false, get_or, map, Some, slice_get, Contains, refl, sym, subst, ap, ◌∙◌, arith}
 use Rattle.std.proofs.lemmas.Bool.{false≢true}
 use Rattle.std.proofs.lemmas.Option.{slice_get_within, get_or_from_slice_get}
 use Rattle.std.proofs.lemmas.List.Elements.{Contains-append_left, Contains-push, Contains-push_cases}
@@ -10,11 +10,11 @@ use Rattle.plan_model.specs.declared.schemas.MethodPlan.{MethodPlan}
 use Rattle.plan_model.specs.declared.values.Compiled.{Compiled}
 use Rattle.plan_model.specs.Parts.{IsMarked}
 use Rattle.plan_model.proofs.Marks.{marked_within}
-use Rattle.stratifier.specs.Conditions.{IsFit, IsNumbered}
+use Rattle.stratifier.specs.Conditions.{AreSmall, IsNumbered}
 use Rattle.task_networks.specs.Bound.{IsReached, itself, as_child}
 use Rattle.task_networks.proofs.Lists.{not-in_empty}
 use Rattle.plan_meaning.specs.Network.{top_task}
-use Rattle.plan_meaning.specs.Schemas.{Schema, task, action, check, schemas, schema_of}
+use Rattle.plan_meaning.specs.Schemas.{Schema, task, schemas, schema_of}
 use Rattle.plan_meaning.specs.Strata.{IsReachedTask}
 use Rattle.plan_meaning.proofs.MethodParts.{head_schema_by, schemas_by}
 use Rattle.stratifier.specs.declared.reach.Walk.{Walk}
@@ -134,10 +134,10 @@ module _ (c : Compiled) where
       let r = w.room in
       omega arith
 
-  pub next_within : IsFit c → (methods : List MethodPlan) (places : List ℕ) → methods ≡ c.methods → (t : ℕ) → IsSubtaskOf methods places t → t ≤ top_task c
-  next_within fit methods places e t (m, k, plan, f, s) =
+  pub next_within : AreSmall c → (methods : List MethodPlan) (places : List ℕ) → methods ≡ c.methods → (t : ℕ) → IsSubtaskOf methods places t → t ≤ top_task c
+  next_within small methods places e t (m, k, plan, f, s) =
       let g = ap (λ ms. slice_get ms m) (sym e) ∙ f in
-      let n = fit.numbered m plan (slice_get_within c.methods m plan g) in
+      let n = small.numbered m plan (slice_get_within c.methods m plan g) in
       let is = get_or_from_slice_get c.methods m plan plan g in
       (subst (IsNumbered (top_task c)) is n).subtasks t s
 

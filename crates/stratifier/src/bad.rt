@@ -1,6 +1,6 @@
 ghost use Rattle.std.specs.Prelude.{◌≡◌, ◌≢◌, ℕ, ◌<◌, ◌≤◌, ◌^◌, ◌↔◌, All, IsTrue, Some, length, slice_get, IfOk, MatchOption};
 ghost use Rattle.stratifier.specs.declared.edge.Edge as declared;
-ghost use Rattle.stratifier.specs.Conditions.{IsFit, IsFitNetwork};
+ghost use Rattle.stratifier.specs.Conditions.{AreSmall, HaveNoCycle, IsOrdered, IsSmallNetwork};
 ghost use Rattle.stratifier.specs.Bad.{AreBadMarks, AreLasts, IsLastOf};
 
 use crate::edge::Edge;
@@ -11,7 +11,8 @@ use std::alloc::Global;
 
 /// For each of the edges whether it is bad: whether its child isn't the last of its method.
 pub fn bad_marks(alloc: Global, c: &Compiled, edges: &List<Edge>) -> Result<List<bool>, Memory>
-    requires fit { IsFit c.now }
+    requires small { AreSmall c.now }
+    requires ordered { HaveNoCycle c.now }
     requires methods { All (λ (e : declared.Edge). e.method < length c.now.methods) edges.now }
     ensures bad { IfOk result (AreBadMarks c.now edges.now) }
 {
@@ -35,7 +36,8 @@ fn is_other(last: Option<u32>, child: u32) -> bool
 
 /// For each method its last child, if it has one.
 fn last_children(alloc: Global, methods: &[MethodPlan]) -> Result<Vec<Option<u32>>, Memory>
-    requires { All (λ plan. IsFitNetwork plan) methods.now }
+    requires small { All IsSmallNetwork methods.now }
+    requires ordered { All IsOrdered methods.now }
     ensures lasts { IfOk result (λ lasts. AreLasts methods.now lasts.items) }
 {
     let mut lasts = Vec::new(alloc);
@@ -47,7 +49,8 @@ fn last_children(alloc: Global, methods: &[MethodPlan]) -> Result<Vec<Option<u32
 
 /// The child that all others of the method precede, if there is one.
 fn last_child(alloc: Global, plan: &MethodPlan) -> Result<Option<u32>, Memory>
-    requires { IsFitNetwork plan.now }
+    requires small { IsSmallNetwork plan.now }
+    requires ordered { IsOrdered plan.now }
     ensures last { IfOk result (IsLastOf plan.now) }
 {
     let count = plan.schema.children.len() as u32;

@@ -5,13 +5,15 @@
 //! contract used above: the listed edges are all edges of the problem, in order, each once (`edges`).
 #![tactic(auto)]
 
+mod all_edges;
 mod bad;
 mod by_task;
 mod edge;
-mod all_edges;
+mod laws;
 mod reach;
 
+pub use all_edges::edges;
 pub use bad::bad_marks;
 pub use edge::Edge;
-pub use all_edges::edges;
+pub use laws::compiled_networks_have_no_cycle;
 pub use reach::reached;

@@ -1,6 +1,4 @@
-use Rattle.std.proofs.Common.{ℕ, ◌≡◌, ◌+◌, ◌<◌, ◌∷◌, ◌++◌, [], List, length, map, take, get_or, false, sym, ap, subst, ◌∙◌, arith}
-use Rattle.std.proofs.lemmas.List.{get_or_read}
-use Rattle.plan_model.specs.declared.schemas.MethodPlan.{MethodPlan}
+use Rattle.std.proofs.Common.{◌≡◌, ◌+◌, ◌++◌, List, map, take, sym, ap, subst, ◌∙◌}
 use Rattle.plan_meaning.specs.Strata.{Edge}
 use Rattle.stratifier.specs.Listed.{edge_of, edges_from, edges_of}
 use Rattle.stratifier.proofs.Listing.{of_marked, of_unmarked}

@@ -1,4 +1,4 @@
-use Rattle.std.proofs.Common.{◌≡◌, ap, sym, subst, ◌∙◌}
+use Rattle.std.proofs.Common.{sym, subst}
 use Rattle.stratifier.specs.Bad.{IsLastChild}
 use Rattle.stratifier.proofs.Lasts.{last_told}
 use Rattle.stratifier.proofs.bad.last_child.Goals as goal

@@ -1,6 +1,6 @@
-use Rattle.std.proofs.Common.{ℕ, ◌≡◌, ◌+◌, ◌<◌, ◌≤◌, ◌↔◌, List, [], ◌∷◌, length, get_or, Contains, refl, sym, ap, subst, ◌∙◌, arith}
+use Rattle.std.proofs.Common.{ℕ, ◌≡◌, ◌+◌, ◌↔◌, List, [], ◌∷◌, length, get_or, Contains, refl, sym, ap, subst, ◌∙◌, arith}
 use Rattle.std.proofs.lemmas.List.{get_or_read}
-use Rattle.std.proofs.lemmas.List.Elements.{Contains-get_or, Contains-push}
+use Rattle.std.proofs.lemmas.List.Elements.{Contains-get_or}
 use Rattle.stratifier.specs.declared.reach.Walk.{Walk}
 use Rattle.stratifier.specs.Links.{IsMethodOf, IsSubtaskOf}
 use Rattle.stratifier.specs.Entered.{AreEntered}
@@ -11,7 +11,7 @@ pub loop-task-init : goal.loop-task-init
 loop-task-init c =
     let top = c.len-top.ensures.length in
     walked_first c.args.c.now c.in_ok-walk.walk c.enter.new.self (c.in_ok-walk.ensures.room ∙ ap (λ n. n + 1) top) c.in_ok-walk.ensures.empty c.in_ok-walk.ensures.nothing
-        (subst (λ n. AreEntered (λ t. t ≡ n) c.in_ok-walk.walk c.enter.new.self) top c.in_ok-enter.ensures.entered)
+    (subst (λ n. AreEntered (λ t. t ≡ n) c.in_ok-walk.walk c.enter.new.self) top c.in_ok-enter.ensures.entered)
 
 pub index-requires : goal.index-requires
 index-requires c =
@@ -32,7 +32,7 @@ enter_next-requires-clause-places c k d l =
 
 pub enter_next-requires-clause-tasks : goal.enter_next-requires-clause-tasks
 enter_next-requires-clause-tasks c t s =
-    let n = next_within c.args.c.now c.requires.fit _ c.as_slice.result.now c.as_slice-methods.ensures.items t s in
+    let n = next_within c.args.c.now c.requires.small _ c.as_slice.result.now c.as_slice-methods.ensures.items t s in
     let r = c.loop-task.invariant.room in
     omega arith
 
@@ -45,8 +45,8 @@ loop-task-preserved c =
     let methods = c.as_slice-methods.ensures.items in
     let old : Walk = record { marks = c.loop-task.walk.marks; work = c.pop.new.self } in
     walked_on c.args.c.now c.loop-task.walk.marks.items c.loop-task.walk.work.items c.in-Some.task old c.enter_next.new.self c.as_slice.result.now c.loop-task.invariant c.in-Some.ensures.items refl
-        (λ m. subst (λ s. Contains s m ↔ IsMethodOf c.args.c.now.methods c.in-Some.task m) (sym row) (subst (λ ms. Contains (get_or c.in_ok-by_task.by_task.items c.in-Some.task []) m ↔ IsMethodOf ms c.in-Some.task m) methods (c.in_ok-by_task.ensures.methods c.in-Some.task m)))
-        (subst (λ ms. AreEntered (IsSubtaskOf ms c.as_slice.result.now) old c.enter_next.new.self) methods c.in_ok-enter_next.ensures.entered)
+    (λ m. subst (λ s. Contains s m ↔ IsMethodOf c.args.c.now.methods c.in-Some.task m) (sym row) (subst (λ ms. Contains (get_or c.in_ok-by_task.by_task.items c.in-Some.task []) m ↔ IsMethodOf ms c.in-Some.task m) methods (c.in_ok-by_task.ensures.methods c.in-Some.task m)))
+    (subst (λ ms. AreEntered (IsSubtaskOf ms c.as_slice.result.now) old c.enter_next.new.self) methods c.in_ok-enter_next.ensures.entered)
 
 empty_list : (xs : List ℕ) → length xs ≡ 0 → xs ≡ []
 empty_list [] e = refl

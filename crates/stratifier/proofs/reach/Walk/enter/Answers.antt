@@ -1,6 +1,6 @@
-use Rattle.std.proofs.Common.{◌≡◌, false, get_or, refl, sym, ◌∙◌}
+use Rattle.std.proofs.Common.{false, refl, sym, ◌∙◌}
 use Rattle.std.proofs.lemmas.List.{get_or_read}
-use Rattle.stratifier.proofs.Entering.{entered_one, entered_before}
+use Rattle.stratifier.proofs.Entering.{entered_one}
 use Rattle.stratifier.proofs.reach.Walk.enter.Goals as goal
 
 pub returns-in_ok-push : goal.returns-in_ok-push

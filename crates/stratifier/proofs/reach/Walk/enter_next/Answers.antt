@@ -1,4 +1,4 @@
-use Rattle.std.proofs.Common.{ℕ, ◌≡◌, ◌+◌, ◌<◌, length, refl, sym, ap, subst, ◌∙◌, arith}
+use Rattle.std.proofs.Common.{refl, sym, ap, subst, ◌∙◌, arith}
 use Rattle.std.proofs.lemmas.Option.{slice_get_read}
 use Rattle.std.proofs.lemmas.List.Elements.{Contains-get_or}
 use Rattle.plan_model.specs.declared.schemas.MethodPlan.{MethodPlan}
@@ -27,4 +27,4 @@ loop-m-preserved c =
     let plan = c.index-methods-m.result in
     let is = slice_get_read c.args.methods.now _ _ plan refl (c.requires.places k 0 c.loop-m-test.true) c.index-methods-m.is in
     entered_more (subtask_of_more c.args.methods.now places k 0 c.loop-m-test.true plan is) c.args.self.now c.loop-m.self c.enter_subtasks.new.self c.loop-m.invariant
-        (subst (λ s. AreEntered (IsSubtask s) c.loop-m.self c.enter_subtasks.new.self) (c.as_slice.ensures.items ∙ ap (λ (p : MethodPlan). p.schema.children) (sym c.index-methods-m.is)) c.in_ok-enter_subtasks.ensures.entered)
+    (subst (λ s. AreEntered (IsSubtask s) c.loop-m.self c.enter_subtasks.new.self) (c.as_slice.ensures.items ∙ ap (λ (p : MethodPlan). p.schema.children) (sym c.index-methods-m.is)) c.in_ok-enter_subtasks.ensures.entered)

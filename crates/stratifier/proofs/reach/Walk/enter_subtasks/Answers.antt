@@ -1,6 +1,5 @@
-use Rattle.std.proofs.Common.{ℕ, ◌≡◌, ◌+◌, ◌<◌, length, refl, sym, ap, subst, ◌∙◌, arith}
+use Rattle.std.proofs.Common.{sym, ap, subst, ◌∙◌, arith}
 use Rattle.plan_model.specs.declared.networks.Child.{Child}
-use Rattle.stratifier.specs.Links.{IsSubtask}
 use Rattle.stratifier.specs.Entered.{AreEntered}
 use Rattle.stratifier.proofs.Entering.{entered_none, entered_as, entered_more, no_subtask, subtask_more, subtask_over}
 use Rattle.stratifier.proofs.reach.Walk.enter_subtasks.Goals as goal
