@@ -1,17 +1,19 @@
 -- Last children, method by method, and marks of bad edges.
-use Rattle.std.proofs.Common.{ℕ, zero, suc, ◌≡◌, ◌≢◌, ◌+◌, ◌<◌, ◌⊎◌, ◌↔◌, inl, inr, List, [], ◌∷◌, ◌++◌, length, Bool, IsTrue, Option, Some, None, slice_get, refl, sym, subst, ap, ◌∙◌}
+use Rattle.std.proofs.Common.{get_or, map, Contains, ℕ, zero, suc, ◌≡◌, ◌≢◌, ◌+◌, ◌<◌, ◌⊎◌, ◌↔◌, inl, inr, List, [], ◌∷◌, ◌++◌, length, Bool, IsTrue, Option, Some, None, slice_get, refl, sym, subst, ap, ◌∙◌}
 use Rattle.std.proofs.lemmas.Bool.{cases_eq}
 use Rattle.std.proofs.lemmas.List.{length-map, length_push}
-use Rattle.std.proofs.lemmas.Option.{get_or_from_slice_get}
+use Rattle.std.proofs.lemmas.Option.{get_or_from_slice_get, slice_get_within}
 use Rattle.plan_model.specs.declared.networks.Child.{Child}
 use Rattle.plan_model.specs.declared.networks.Pair.{Pair}
 use Rattle.plan_model.specs.declared.schemas.MethodPlan.{MethodPlan}
 use Rattle.plan_model.specs.declared.values.Compiled.{Compiled}
 use Rattle.plan_model.specs.Pairs.{Pairs}
 use Rattle.task_networks.specs.Order.{IsAcyclic, IsLast}
+use Rattle.task_networks.proofs.Lists.{not-in_empty, head_or_tail, Contains-here, Contains-later}
+use Rattle.std.proofs.lemmas.List.Elements.{Contains-get_or}
 use Rattle.task_networks.proofs.Orders.{precedes_then}
 use Rattle.plan_meaning.specs.Schemas.{schema_of}
-use Rattle.plan_meaning.specs.Strata.{IsBad}
+use Rattle.plan_meaning.specs.Strata.{AreEdges, IsBad}
 use Rattle.plan_meaning.proofs.MethodParts.{IsPairBy, schemas_by}
 use Rattle.plan_meaning.proofs.BoundParts.{there_at}
 use Rattle.stratifier.specs.declared.edge.Edge as Declared
@@ -97,3 +99,16 @@ bad_mark c e methods lasts last ordered same l are is =
 
 pub lasts_all : (methods : List MethodPlan) (k : ℕ) (lasts : List (Option ℕ)) → k ≡ length methods → AreLastsBelow methods k lasts → AreLasts methods lasts
 lasts_all methods k lasts e h = record { room = h.room ∙ e; each = h.each }
+
+-- the method of an edge is there
+in_map : (edges : List Declared.Edge) (e : Declared.Edge) → Contains edges e → Contains (map edge_of edges) (edge_of e)
+in_map [] e k = absurd (not-in_empty e k)
+in_map (d ∷ edges) e k = elim (head_or_tail d edges e k) [
+  | inl f ↦ subst (λ z. Contains (map edge_of (d ∷ edges)) (edge_of z)) f (Contains-here (edge_of d) (map edge_of edges))
+  | inr j ↦ Contains-later (edge_of d) (map edge_of edges) (edge_of e) (in_map edges e j)
+]
+
+pub method_within : (c : Compiled) (edges : List Declared.Edge) → AreEdges c (map edge_of edges) → (k : ℕ) (d : Declared.Edge) → k < length edges → (get_or edges k d).method < length c.methods
+method_within c edges are k d l =
+    let h = (are.all (edge_of (get_or edges k d))).0 (in_map edges (get_or edges k d) (Contains-get_or edges k d l)) in
+    slice_get_within c.methods (get_or edges k d).method h.ground.0 h.ground.1

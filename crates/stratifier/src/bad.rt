@@ -1,6 +1,7 @@
-ghost use Rattle.std.specs.Prelude.{◌≡◌, ◌≢◌, ℕ, ◌<◌, ◌≤◌, ◌^◌, ◌↔◌, All, IsTrue, Some, length, slice_get, IfOk, MatchOption};
-ghost use Rattle.stratifier.specs.declared.edge.Edge as declared;
+ghost use Rattle.std.specs.Prelude.{◌≡◌, ◌≢◌, ◌↔◌, All, IsTrue, Some, map, IfOk};
+ghost use Rattle.plan_meaning.specs.Strata.{AreEdges};
 ghost use Rattle.stratifier.specs.Conditions.{AreSmall, HaveNoCycle, IsOrdered, IsSmallNetwork};
+ghost use Rattle.stratifier.specs.Listed.{edge_of};
 ghost use Rattle.stratifier.specs.Bad.{AreBadMarks, AreLasts, IsLastOf};
 
 use crate::edge::Edge;
@@ -13,7 +14,7 @@ use std::alloc::Global;
 pub fn bad_marks(alloc: Global, c: &Compiled, edges: &List<Edge>) -> Result<List<bool>, Memory>
     requires small { AreSmall c.now }
     requires ordered { HaveNoCycle c.now }
-    requires methods { All (λ (e : declared.Edge). e.method < length c.now.methods) edges.now }
+    requires edges { AreEdges c.now (map edge_of edges.now) }
     ensures bad { IfOk result (AreBadMarks c.now edges.now) }
 {
     let lasts = last_children(alloc, c.methods.as_slice())?;
