@@ -5,6 +5,7 @@ ghost use Rattle.plan_model.specs.Parts.{AreListed};
 ghost use Rattle.public_calls.specs.Rising.{IsRising};
 
 mod samples;
+mod strata;
 
 use crate::methods::samples::{
     action, always, calls, child, children, compiled, four_types, method, one, problem, ready,

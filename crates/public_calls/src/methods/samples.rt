@@ -31,6 +31,7 @@ pub fn problem(
     methods: List<MethodSchema>,
 ) -> Hddl
     ensures types { result.types ≡ types }
+    ensures tasks { result.tasks ≡ tasks }
     ensures top { result.top ≡ top }
     ensures methods { result.methods ≡ methods }
 {

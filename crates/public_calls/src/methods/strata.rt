@@ -1,0 +1,71 @@
+//! The edges of a problem whose top task calls itself.
+
+ghost use Rattle.std.specs.Prelude.{◌≡◌, ◌∷◌, [], IfOk};
+ghost use Rattle.plan_model.specs.declared.networks.Head.TheVariants.{Task};
+ghost use Rattle.public_calls.specs.Recursive.{IsRecursive};
+ghost use Rattle.stratifier.specs.Conditions.{AreSmall, HaveNoCycle};
+
+use crate::methods::samples::{always, method, one, problem, types};
+use htn_base::{List, Memory, Name};
+use plan_model::{Child, Compiled, Head, MethodPlan, MethodSchema};
+use std::alloc::Global;
+use std::test::Fail;
+use stratifier::{bad_marks, edges, reached, Edge};
+
+/// The method of the top task, of number 0, whose only child is that task.
+fn calls_itself(alloc: Global) -> Result<MethodSchema, Memory>
+    ensures recursive { IfOk result IsRecursive }
+{
+    let child = Child {
+        id: None,
+        head: Head::Task(0),
+        args: List::new(alloc),
+    };
+    Ok(MethodSchema {
+        name: Name { number: 0 },
+        params: List::new(alloc),
+        task: 0,
+        task_args: List::new(alloc),
+        pre: always(alloc),
+        children: one(alloc, child)?,
+        pairs: List::new(alloc),
+        constraints: List::new(alloc),
+    })
+}
+
+fn plan(alloc: Global) -> Result<MethodPlan, Memory>
+    ensures recursive { IfOk result (λ plan. IsRecursive plan.schema) }
+{
+    Ok(MethodPlan {
+        schema: calls_itself(alloc)?,
+        checked: false,
+        tested: false,
+        line: List::new(alloc),
+        heir: None,
+        copiers: List::new(alloc),
+        guards: List::new(alloc),
+    })
+}
+
+fn recursive(alloc: Global) -> Result<Compiled, Memory>
+    ensures small { IfOk result AreSmall }
+    ensures ordered { IfOk result HaveNoCycle }
+{
+    let top = method(alloc, always(alloc), &[], List::new(alloc), false)?;
+    let types = types(alloc, 1)?;
+    let methods = one(alloc, plan(alloc)?)?;
+    let hddl = problem(alloc, types, List::new(alloc), List::new(alloc), top, List::new(alloc));
+    Ok(Compiled { hddl, methods })
+}
+
+// The only child is the last one, so the edge isn't bad.
+#[test]
+fn one_edge(rt: HostRuntime) -> Result<(), Fail> {
+    let value = recursive(rt.alloc())?;
+    let found = edges(rt.alloc(), &value)?;
+    let bad = bad_marks(rt.alloc(), &value, &found)?;
+    assert_eq!(rt; reached(rt.alloc(), &value)?.as_slice(), [true].as_slice());
+    assert_eq!(rt; found.as_slice(), [Edge { method: 0, child: 0 }].as_slice());
+    assert_eq!(rt; bad.as_slice(), [false].as_slice());
+    Ok(())
+}

@@ -1,0 +1,6 @@
+pub mod Entering
+pub mod Walks
+pub mod Listing
+pub mod ByTask
+pub mod Lasts
+pub mod Compiled

@@ -1,0 +1,27 @@
+-- The last children of methods, and marks of bad edges.
+-- Source: this project's, after the tail-recursive problems of Alford et al., "Bound to Plan", ICAPS 2016.
+use Rattle.std.specs.Prelude.{ℕ, ◌≡◌, ◌↔◌, Bool, IsTrue, List, length, slice_get, Option, Some, MatchOption}
+use Rattle.plan_model.specs.declared.networks.Pair.{Pair}
+use Rattle.plan_model.specs.declared.schemas.MethodPlan.{MethodPlan}
+use Rattle.plan_model.specs.declared.values.Compiled.{Compiled}
+use Rattle.plan_model.specs.Pairs.{Pairs}
+use Rattle.task_networks.specs.Order.{IsLast}
+use Rattle.plan_meaning.specs.Strata.{IsBad}
+use Rattle.stratifier.specs.declared.edge.Edge as Declared
+use Rattle.stratifier.specs.Listed.{edge_of}
+
+-- the last of so many children; none exactly where no child is last
+abbrev pub IsLastChild : ℕ → List Pair → Option ℕ → Type 0
+IsLastChild count pairs last = MatchOption last ((i : ℕ) → IsLast (Pairs pairs) count i → ⊥) (IsLast (Pairs pairs) count)
+
+abbrev pub IsLastOf : MethodPlan → Option ℕ → Type 0
+IsLastOf plan = IsLastChild (length plan.schema.children) plan.schema.pairs
+
+pub record AreLasts (methods : List MethodPlan) (lasts : List (Option ℕ)) : Type 0 where
+  pub room : length lasts ≡ length methods
+  pub each : (m : ℕ) (plan : MethodPlan) (last : Option ℕ) → slice_get methods m ≡ Some plan → slice_get lasts m ≡ Some last → IsLastOf plan last
+
+-- a mark for each edge, which says whether it is bad
+pub record AreBadMarks (c : Compiled) (edges : List Declared.Edge) (marks : List Bool) : Type 0 where
+  pub room : length marks ≡ length edges
+  pub each : (k : ℕ) (e : Declared.Edge) (mark : Bool) → slice_get edges k ≡ Some e → slice_get marks k ≡ Some mark → IsTrue mark ↔ IsBad c (edge_of e)

@@ -1,0 +1,5 @@
+pub mod Links
+pub mod Conditions
+pub mod Entered
+pub mod Listed
+pub mod Bad

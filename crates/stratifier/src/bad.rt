@@ -1,0 +1,67 @@
+ghost use Rattle.std.specs.Prelude.{◌≡◌, ◌≢◌, ◌↔◌, All, IsTrue, Some, map, IfOk};
+ghost use Rattle.plan_meaning.specs.Strata.{AreEdges};
+ghost use Rattle.stratifier.specs.Conditions.{AreSmall, HaveNoCycle, IsOrdered, IsSmallNetwork};
+ghost use Rattle.stratifier.specs.Listed.{edge_of};
+ghost use Rattle.stratifier.specs.Bad.{AreBadMarks, AreLasts, IsLastOf};
+
+use crate::edge::Edge;
+use htn_base::{List, Memory};
+use net_order::{Order, OrderError};
+use plan_model::{Compiled, MethodPlan};
+use std::alloc::Global;
+
+/// For each of the edges whether it is bad: whether its child isn't the last of its method.
+pub fn bad_marks(alloc: Global, c: &Compiled, edges: &List<Edge>) -> Result<List<bool>, Memory>
+    requires small { AreSmall c.now }
+    requires ordered { HaveNoCycle c.now }
+    requires edges { AreEdges c.now (map edge_of edges.now) }
+    ensures bad { IfOk result (AreBadMarks c.now edges.now) }
+{
+    let lasts = last_children(alloc, c.methods.as_slice())?;
+    let mut marks = List::new(alloc);
+    for edge in edges.as_slice() {
+        marks.push(is_other(lasts[edge.method as usize], edge.child))?;
+    }
+    Ok(marks)
+}
+
+/// Whether it is another child, or none.
+fn is_other(last: Option<u32>, child: u32) -> bool
+    ensures other { IsTrue result ↔ (last ≢ Some child) }
+{
+    match last {
+        Some(place) => place != child,
+        None => true,
+    }
+}
+
+/// For each method its last child, if it has one.
+fn last_children(alloc: Global, methods: &[MethodPlan]) -> Result<Vec<Option<u32>>, Memory>
+    requires small { All IsSmallNetwork methods.now }
+    requires ordered { All IsOrdered methods.now }
+    ensures lasts { IfOk result (λ lasts. AreLasts methods.now lasts.items) }
+{
+    let mut lasts = Vec::new(alloc);
+    for plan in methods {
+        lasts.push(last_child(alloc, plan)?)?;
+    }
+    Ok(lasts)
+}
+
+/// The child that all others of the method precede, if there is one.
+fn last_child(alloc: Global, plan: &MethodPlan) -> Result<Option<u32>, Memory>
+    requires small { IsSmallNetwork plan.now }
+    requires ordered { IsOrdered plan.now }
+    ensures last { IfOk result (IsLastOf plan.now) }
+{
+    let count = plan.schema.children.len() as u32;
+    match Order::new(alloc, count, plan.schema.pairs.as_slice()) {
+        Ok(order) => {
+            let last = order.last();
+            drop(order);
+            Ok(last)
+        }
+        Err(OrderError::Memory) => Err(Memory),
+        Err(OrderError::Cycle { .. }) => unreachable!(),
+    }
+}

@@ -1,0 +1,19 @@
+//! The edges between the tasks of a compiled problem: which tasks are reached from the top, all edges in order, and
+//! which of them are bad.
+//!
+//! Stands on `htn_base`, `plan_model`, `net_order` and the definitions of `task_networks` and `plan_meaning`. The
+//! contract used above: the listed edges are all edges of the problem, in order, each once (`edges`).
+#![tactic(auto)]
+
+mod all_edges;
+mod bad;
+mod by_task;
+mod edge;
+mod laws;
+mod reach;
+
+pub use all_edges::edges;
+pub use bad::bad_marks;
+pub use edge::Edge;
+pub use laws::compiled_networks_have_no_cycle;
+pub use reach::reached;

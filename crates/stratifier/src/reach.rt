@@ -1,0 +1,87 @@
+ghost use Rattle.std.specs.Prelude.{◌≡◌, ℕ, ◌+◌, ◌<◌, ◌≤◌, ◌↔◌, All, length, IfOk, OnOk, slice_index_or, false, [], ◌∷◌};
+ghost use Rattle.plan_meaning.specs.Strata.{IsReachedTask};
+ghost use Rattle.stratifier.specs.Conditions.{AreSmall};
+ghost use Rattle.stratifier.specs.Links.{IsSubtask, IsSubtaskOf};
+ghost use Rattle.stratifier.specs.Entered.{AreEntered};
+ghost use Rattle.plan_model.specs.Parts.{IsMarked};
+
+use crate::by_task::methods_by_task;
+use htn_base::Memory;
+use plan_model::{Child, Compiled, Head, MethodPlan};
+use std::alloc::Global;
+
+/// A mark for each task, the top task too: whether it is reached from the top.
+pub fn reached(alloc: Global, c: &Compiled) -> Result<Vec<bool>, Memory>
+    requires small { AreSmall c.now }
+    ensures room { IfOk result (λ marks. length marks.items ≡ length c.now.hddl.tasks + 1) }
+    ensures reached { IfOk result (λ marks. (t : ℕ) → IsMarked marks.items t ↔ IsReachedTask c.now t) }
+{
+    let top = c.hddl.tasks.len();
+    let methods = c.methods.as_slice();
+    let by_task = methods_by_task(alloc, top + 1, methods)?;
+    let mut walk = Walk::new(alloc, top + 1)?;
+    walk.enter(top as u32)?;
+    while let Some(task) = walk.work.pop() {
+        walk.enter_next(methods, by_task[task as usize].as_slice())?;
+    }
+    Ok(walk.marks)
+}
+
+/// A walk over the tasks: those that were entered are marked, and `work` has those that are still to be done.
+#[derive(Drop)]
+pub struct Walk {
+    marks: Vec<bool>,
+    work: Vec<u32>,
+}
+
+impl Walk {
+    /// The walk over so many tasks that entered none.
+    fn new(alloc: Global, count: usize) -> Result<Walk, Memory>
+        ensures room { IfOk result (λ walk. length walk.marks.items ≡ count) }
+        ensures empty { IfOk result (λ walk. (t : ℕ) → slice_index_or walk.marks.items t false ≡ false) }
+        ensures nothing { IfOk result (λ walk. walk.work.items ≡ []) }
+    {
+        let marks = vec![in alloc; false; count]?;
+        Ok(Walk {
+            marks,
+            work: Vec::new(alloc),
+        })
+    }
+
+    /// Enters the task, unless it was entered before.
+    fn enter(&mut self, task: u32) -> Result<(), Memory>
+        requires { task < length self.old.marks.items }
+        ensures entered { OnOk result (AreEntered (λ t. t ≡ task) self.old self.new) }
+    {
+        if !self.marks[task as usize] {
+            self.marks[task as usize] = true;
+            self.work.push(task)?;
+        }
+        Ok(())
+    }
+
+    /// Enters those of the children that are tasks.
+    fn enter_subtasks(&mut self, children: &[Child]) -> Result<(), Memory>
+        requires { (t : ℕ) → IsSubtask children.now t → t < length self.old.marks.items }
+        ensures entered { OnOk result (AreEntered (IsSubtask children.now) self.old self.new) }
+    {
+        for child in children {
+            if let Head::Task(task) = child.head {
+                self.enter(task)?;
+            }
+        }
+        Ok(())
+    }
+
+    /// Enters the tasks among the children of the methods at these places.
+    fn enter_next(&mut self, methods: &[MethodPlan], places: &[u32]) -> Result<(), Memory>
+        requires places { All (λ m. m < length methods.now) places.now }
+        requires tasks { (t : ℕ) → IsSubtaskOf methods.now places.now t → t < length self.old.marks.items }
+        ensures entered { OnOk result (AreEntered (IsSubtaskOf methods.now places.now) self.old self.new) }
+    {
+        for m in places {
+            self.enter_subtasks(methods[*m as usize].schema.children.as_slice())?;
+        }
+        Ok(())
+    }
+}
