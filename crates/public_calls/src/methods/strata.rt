@@ -10,7 +10,7 @@ use htn_base::{List, Memory, Name};
 use plan_model::{Child, Compiled, Head, MethodPlan, MethodSchema};
 use std::alloc::Global;
 use std::test::Fail;
-use stratifier::{bad_marks, edges, reached, Edge};
+use stratifier::{Edge, bad_marks, edges, reached};
 
 /// The method of the top task, of number 0, whose only child is that task.
 fn calls_itself(alloc: Global) -> Result<MethodSchema, Memory>
@@ -54,7 +54,14 @@ fn recursive(alloc: Global) -> Result<Compiled, Memory>
     let top = method(alloc, always(alloc), &[], List::new(alloc), false)?;
     let types = types(alloc, 1)?;
     let methods = one(alloc, plan(alloc)?)?;
-    let hddl = problem(alloc, types, List::new(alloc), List::new(alloc), top, List::new(alloc));
+    let hddl = problem(
+        alloc,
+        types,
+        List::new(alloc),
+        List::new(alloc),
+        top,
+        List::new(alloc),
+    );
     Ok(Compiled { hddl, methods })
 }
 
@@ -65,7 +72,14 @@ fn one_edge(rt: HostRuntime) -> Result<(), Fail> {
     let found = edges(rt.alloc(), &value)?;
     let bad = bad_marks(rt.alloc(), &value, &found)?;
     assert_eq!(rt; reached(rt.alloc(), &value)?.as_slice(), [true].as_slice());
-    assert_eq!(rt; found.as_slice(), [Edge { method: 0, child: 0 }].as_slice());
+    assert_eq!(rt;
+        found.as_slice(),
+        [Edge {
+            method: 0,
+            child: 0
+        }]
+        .as_slice()
+    );
     assert_eq!(rt; bad.as_slice(), [false].as_slice());
     Ok(())
 }
