@@ -1,5 +1,5 @@
 -- A method of task 0 whose only child is that task.
-use Rattle.std.specs.Prelude.{◌≡◌, [], ◌∷◌, List}
+use Rattle.std.specs.Prelude.{◌≡◌, [], ◌∷◌}
 use Rattle.plan_model.specs.declared.networks.Head.TheVariants.{Task}
 use Rattle.plan_model.specs.declared.networks.Child.{Child}
 use Rattle.plan_model.specs.declared.schemas.MethodSchema.{MethodSchema}

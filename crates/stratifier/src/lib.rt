@@ -1,8 +1,8 @@
 //! The edges between the tasks of a compiled problem: which tasks are reached from the top, all edges in order, and
 //! which of them are bad.
 //!
-//! Stands on `htn_base`, `plan_model`, `net_order` and the definitions of `task_networks` and `plan_meaning`. The
-//! contract used above: the listed edges are all edges of the problem, in order, each once (`edges`).
+//! Stands on `htn_base`, `plan_model`, `net_order` and the definitions of `task_networks` and `plan_meaning`; no crate
+//! above uses it yet. Its contract: the listed edges are all edges of the problem, in order (`edges`).
 #![tactic(auto)]
 
 mod all_edges;

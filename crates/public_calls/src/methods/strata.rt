@@ -1,7 +1,6 @@
 //! The edges of a problem whose top task calls itself.
 
-ghost use Rattle.std.specs.Prelude.{◌≡◌, ◌∷◌, [], IfOk};
-ghost use Rattle.plan_model.specs.declared.networks.Head.TheVariants.{Task};
+ghost use Rattle.std.specs.Prelude.{IfOk};
 ghost use Rattle.public_calls.specs.Recursive.{IsRecursive};
 ghost use Rattle.stratifier.specs.Conditions.{AreSmall, HaveNoCycle};
 
@@ -65,21 +64,29 @@ fn recursive(alloc: Global) -> Result<Compiled, Memory>
     Ok(Compiled { hddl, methods })
 }
 
-// The only child is the last one, so the edge isn't bad.
+/// Whether the top task is reached, and its edge to itself, which is to the last child, is the only one.
+fn has_one_edge(alloc: Global, value: &Compiled) -> Result<bool, Memory>
+    requires small { AreSmall value.now }
+    requires ordered { HaveNoCycle value.now }
+{
+    let found = edges(alloc, value)?;
+    let bad = bad_marks(alloc, value, &found)?;
+    let marks = reached(alloc, value)?;
+    let edge = Edge {
+        method: 0,
+        child: 0,
+    };
+    Ok(
+        found.as_slice() == [edge].as_slice()
+            && bad.as_slice() == [false].as_slice()
+            && marks.as_slice() == [true].as_slice(),
+    )
+}
+
 #[test]
 fn one_edge(rt: HostRuntime) -> Result<(), Fail> {
     let value = recursive(rt.alloc())?;
-    let found = edges(rt.alloc(), &value)?;
-    let bad = bad_marks(rt.alloc(), &value, &found)?;
-    assert_eq!(rt; reached(rt.alloc(), &value)?.as_slice(), [true].as_slice());
-    assert_eq!(rt;
-        found.as_slice(),
-        [Edge {
-            method: 0,
-            child: 0
-        }]
-        .as_slice()
-    );
-    assert_eq!(rt; bad.as_slice(), [false].as_slice());
+    assert!(rt; has_one_edge(rt.alloc(), &value)?);
+    drop(value);
     Ok(())
 }

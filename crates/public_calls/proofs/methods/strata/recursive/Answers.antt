@@ -1,0 +1,28 @@
+use Rattle.std.proofs.Common.{ℕ, zero, suc, List, [], ◌∷◌, length, All, sym, subst, arith}
+use Rattle.task_networks.specs.Order.{Precedes, direct, through}
+use Rattle.task_networks.proofs.Lists.{not-in_empty}
+use Rattle.plan_model.specs.declared.networks.Pair.{Pair}
+use Rattle.plan_model.specs.declared.schemas.MethodPlan.{MethodPlan}
+use Rattle.plan_model.specs.Pairs.{pair, Pairs}
+use Rattle.net_order.specs.Meaning.{AreBelow}
+use Rattle.stratifier.specs.Conditions.{IsOrdered}
+use Rattle.public_calls.specs.Recursive.{IsRecursive}
+use Rattle.public_calls.proofs.methods.strata.recursive.Goals as goal
+
+no_chain : (i j : ℕ) → Precedes (Pairs []) i j → ⊥
+no_chain i j (direct h) = not-in_empty (pair i j) h
+no_chain i k (through {j = j} chain h) = not-in_empty (pair j k) h
+
+-- a method without pairs has no cycle
+ordered : (plan : MethodPlan) → IsRecursive plan.schema → IsOrdered plan
+ordered plan r = record {
+  pairs = subst (AreBelow (length plan.schema.children)) (sym r.pairs) (λ k d l. absurd (omega arith));
+  acyclic = λ i. subst (λ (ps : List Pair). Precedes (Pairs ps) i i → ⊥) (sym r.pairs) (no_chain i i);
+}
+
+all_ordered : (plan : MethodPlan) → IsRecursive plan.schema → All IsOrdered (plan ∷ [])
+all_ordered plan r zero d l = ordered plan r
+all_ordered plan r (suc k) d l = absurd (omega arith)
+
+pub returns-clause-ordered : goal.returns-clause-ordered
+returns-clause-ordered c = subst (All IsOrdered) (sym c.in_ok-methods.ensures) (all_ordered c.in_ok-plan.field-0 c.in_ok-plan.ensures.recursive)
