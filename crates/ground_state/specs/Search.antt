@@ -5,44 +5,61 @@ use Rattle.plan_model.specs.declared.terms.Param.{Param}
 use Rattle.plan_model.specs.declared.terms.GroundAtom.{GroundAtom}
 use Rattle.plan_model.specs.declared.formulas.Formula.{Formula}
 use Rattle.plan_model.specs.declared.effects.Effect.{Effect}
+use Rattle.plan_model.specs.Typing.{InType}
 use Rattle.plan_model.specs.Parts.{AreListed}
 use Rattle.plan_meaning.specs.Truth.{State, AreTyped, IsTrueIn, OneTrue, Adds, Deletes}
 use Rattle.ground_state.specs.declared.gather.World.{World}
+use Rattle.ground_state.specs.Frames.{Frame}
+use Rattle.ground_state.specs.States.{atoms}
 
 -- the statement is true, or it is not, as wanted
 abbrev pub Is : Bool → Type 0 → Type 0
 Is true P = P
 Is false P = P → ⊥
 
-module _ (InType : ℕ → ℕ → Type 0) (S : State) (wanted : Bool) where
+module _ (Typed : ℕ → ℕ → Type 0) (S : State) (wanted : Bool) where
   -- one of the formulas is as wanted, or each is not
   abbrev pub IsAmongParts : Bool → List Formula → List ℕ → Type 0
   IsAmongParts found fs values = MatchBool found
-      ((f : Formula) × Contains fs f × Is wanted (IsTrueIn InType S f values))
-      ((f : Formula) → Contains fs f → Is (not wanted) (IsTrueIn InType S f values))
+      ((f : Formula) × Contains fs f × Is wanted (IsTrueIn Typed S f values))
+      ((f : Formula) → Contains fs f → Is (not wanted) (IsTrueIn Typed S f values))
 
   -- for some objects of the types the formula is as wanted, or for each it is not
   abbrev pub IsFound : Bool → List Param → Formula → List ℕ → Type 0
   IsFound found ps f values = MatchBool found
-      ((os : List ℕ) × AreTyped InType ps os × Is wanted (IsTrueIn InType S f (values ++ os)))
-      ((os : List ℕ) → AreTyped InType ps os → Is (not wanted) (IsTrueIn InType S f (values ++ os)))
+      ((os : List ℕ) × AreTyped Typed ps os × Is wanted (IsTrueIn Typed S f (values ++ os)))
+      ((os : List ℕ) → AreTyped Typed ps os → Is (not wanted) (IsTrueIn Typed S f (values ++ os)))
 
 -- the new list has the atoms of the old one and those that are as P says
 abbrev pub Gathers : State → List GroundAtom → List GroundAtom → Type 0
 Gathers P old new = (g : GroundAtom) → Contains new g ↔ (Contains old g ⊎ P g)
 
-module _ (InType : ℕ → ℕ → Type 0) (S : State) where
+module _ (Typed : ℕ → ℕ → Type 0) (S : State) where
   -- what the effect adds, or deletes
   abbrev pub Touches : Bool → Effect → List ℕ → State
-  Touches true = Adds InType S
-  Touches false = Deletes InType S
+  Touches true = Adds Typed S
+  Touches false = Deletes Typed S
 
   -- the same, of one of the effects, and of one with objects of the types
   abbrev pub OneTouches : Bool → List Effect → List ℕ → State
   OneTouches adds es values g = OneTrue (λ e v. Touches adds e v g) es values
 
   abbrev pub TouchesWithin : Bool → List Param → Effect → List ℕ → State
-  TouchesWithin adds ps e values g = (os : List ℕ) × AreTyped InType ps os × Touches adds e (values ++ os) g
+  TouchesWithin adds ps e values g = (os : List ℕ) × AreTyped Typed ps os × Touches adds e (values ++ os) g
+
+module _ (world : World) where
+  abbrev pub InTypeOf : ℕ → ℕ → Type 0
+  InTypeOf = InType world.types.now world.objects.now
+
+  -- what is added, or deleted, by an effect, by effects, and by one with more variables
+  abbrev pub Reads : Bool → Effect → Frame → State
+  Reads adds e env = Touches InTypeOf (atoms world.state.now) adds e env.objects
+
+  abbrev pub ReadsEach : Bool → List Effect → Frame → State
+  ReadsEach adds es env = OneTouches InTypeOf (atoms world.state.now) adds es env.objects
+
+  abbrev pub ReadsWithin : Bool → List Param → Effect → Frame → State
+  ReadsWithin adds ps e env = TouchesWithin InTypeOf (atoms world.state.now) adds ps e env.objects
 
 -- the types are listed, and objects have numbers of 32 bits
 pub record IsWorld (world : World) : Type 0 where

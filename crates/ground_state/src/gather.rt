@@ -1,9 +1,7 @@
 ghost use Rattle.std.specs.Prelude.{◌≡◌, ◌<◌, ◌^◌, length, OnOk};
-ghost use Rattle.plan_model.specs.Typing.{InType};
 ghost use Rattle.ground_state.specs.Frames.{frame};
 ghost use Rattle.ground_state.specs.Room.{EffectFits, AllEffectsFit, EffectFitsWithin};
-ghost use Rattle.ground_state.specs.States.{atoms};
-ghost use Rattle.ground_state.specs.Search.{Gathers, Touches, OneTouches, TouchesWithin, IsWorld};
+ghost use Rattle.ground_state.specs.Search.{Gathers, Reads, ReadsEach, ReadsWithin, IsWorld};
 
 use crate::env::Env;
 use crate::state::State;
@@ -32,7 +30,7 @@ pub(crate) fn gather(
 ) -> Result<(), Memory>
     requires world { IsWorld world.now }
     requires room { EffectFits (frame env.old) eff.now }
-    ensures gathered { OnOk result (Gathers (Touches (InType world.now.types.now world.now.objects.now) (atoms world.now.state.now) adds eff.now (frame env.old).objects) into.old into.new) }
+    ensures gathered { OnOk result (Gathers (Reads world.now adds eff.now (frame env.old)) into.old into.new) }
     ensures kept { frame env.new ≡ frame env.old }
 {
     match eff {
@@ -73,7 +71,7 @@ fn gather_each(
 ) -> Result<(), Memory>
     requires world { IsWorld world.now }
     requires room { AllEffectsFit (frame env.old) parts.now }
-    ensures gathered { OnOk result (Gathers (OneTouches (InType world.now.types.now world.now.objects.now) (atoms world.now.state.now) adds parts.now (frame env.old).objects) into.old into.new) }
+    ensures gathered { OnOk result (Gathers (ReadsEach world.now adds parts.now (frame env.old)) into.old into.new) }
     ensures kept { frame env.new ≡ frame env.old }
 {
     for part in parts {
@@ -95,7 +93,7 @@ fn gather_within(
 ) -> Result<(), Memory>
     requires world { IsWorld world.now }
     requires room { EffectFitsWithin (frame env.old) params.now body.now }
-    ensures gathered { OnOk result (Gathers (TouchesWithin (InType world.now.types.now world.now.objects.now) (atoms world.now.state.now) adds params.now body.now (frame env.old).objects) into.old into.new) }
+    ensures gathered { OnOk result (Gathers (ReadsWithin world.now adds params.now body.now (frame env.old)) into.old into.new) }
     ensures kept { frame env.new ≡ frame env.old }
 {
     let Some((param, rest)) = params.split_first() else {
