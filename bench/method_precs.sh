@@ -7,25 +7,28 @@ top=$(cd "$(dirname "$0")/.." && pwd)
 copy=$(mktemp -d)
 trap 'rm -rf "$copy"' EXIT
 mkdir -p "$copy/crates/precs_bench/src"
-for crate in htn_base task_networks plan_model plan_meaning net_order method_precs; do
+for crate in htn_base task_networks text_forms plan_model plan_texts plan_meaning net_order method_precs; do
     cp -r "$top/crates/$crate" "$copy/crates/"
     grep "^$crate:" "$top/crates.txt" >>"$copy/crates.txt"
 done
-echo "precs_bench: htn_base task_networks plan_model plan_meaning net_order method_precs" >>"$copy/crates.txt"
+echo "precs_bench: htn_base task_networks text_forms plan_model plan_texts plan_meaning net_order method_precs" >>"$copy/crates.txt"
 cp "$top/HANDLES" "$copy/"
-# the tests' small problems serve here too
-for part in src/samples.rt; do
-    sed 's/use crate::compile;/use method_precs::compile;/' "$top/crates/method_precs/$part" >"$copy/crates/precs_bench/$part"
-done
-mkdir -p "$copy/crates/precs_bench/proofs"
-cp -r "$top/crates/method_precs/proofs/samples" "$copy/crates/precs_bench/proofs/"
-find "$copy/crates/precs_bench/proofs" -name '*.antt' -exec sed -i 's/method_precs\.proofs\.samples/precs_bench.proofs.samples/' {} +
+# the small problems of the tests serve here too
+tests="$top/crates/public_calls"
+bench="$copy/crates/precs_bench"
+mkdir -p "$bench/proofs" "$bench/specs"
+cp "$tests/src/methods/samples.rt" "$bench/src/"
+cp -r "$tests/proofs/methods/samples" "$tests/proofs/Risings.antt" "$bench/proofs/"
+cp "$tests/specs/Rising.antt" "$bench/specs/"
+echo 'pub mod Risings' >"$bench/proofs/Lib.antt"
+echo 'pub mod Rising' >"$bench/specs/Lib.antt"
+find "$bench" -type f -exec sed -i 's/public_calls\.proofs\.methods\./precs_bench.proofs./; s/public_calls\./precs_bench./' {} +
 cat >"$copy/crates/precs_bench/src/main.rt" <<'E'
 #![tactic(auto)]
 
 ghost use Rattle.std.specs.Prelude.{All, IfOk};
 ghost use Rattle.plan_model.specs.Parts.{AreListed};
-ghost use Rattle.method_precs.specs.Rising.{IsRising};
+ghost use Rattle.precs_bench.specs.Rising.{IsRising};
 
 mod samples;
 
