@@ -1,0 +1,6 @@
+pub mod Answers
+pub mod NetworksSaid
+pub mod Standing
+pub mod PartsSaid
+pub mod SectionsSaid
+pub mod DefinitionsSaid
