@@ -66,8 +66,8 @@ fn effect_of(
     Ok(Got { value, next })
 }
 
-// The fault of a failure, in the text with so many bytes. Up to the end of a list the tokens never end too early.
-fn refusal(failure: Failure, file: u8, end: u32) -> ReadError
+/// The fault of a failure, in the text with so many bytes. Up to the end of a list the tokens never end too early.
+pub fn refusal(failure: Failure, file: u8, end: u32) -> ReadError
     ensures refusal { result ≡ refusal file end failure }
 {
     match failure {

@@ -4,3 +4,4 @@ pub mod Standing
 pub mod PartsSaid
 pub mod SectionsSaid
 pub mod DefinitionsSaid
+pub mod NetworkSteps

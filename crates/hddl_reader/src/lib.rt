@@ -5,7 +5,9 @@
 //! keep their numbers. The language is a parameter: PDDL is HDDL without tasks, methods and an initial network.
 #![tactic(auto)]
 
+mod items;
 mod networks;
+mod opened;
 mod parts;
 mod sections;
 
