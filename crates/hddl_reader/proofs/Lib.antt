@@ -5,3 +5,4 @@ pub mod PartsSaid
 pub mod SectionsSaid
 pub mod DefinitionsSaid
 pub mod NetworkSteps
+pub mod SectionSteps

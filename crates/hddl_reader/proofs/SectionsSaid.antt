@@ -38,10 +38,10 @@ use Rattle.hddl_reader.specs.declared.sections.Language.TheVariants as language
 use Rattle.hddl_reader.specs.declared.sections.RawSections.{RawSections}
 use Rattle.hddl_reader.specs.declared.sections.Section.{Section}
 use Rattle.hddl_reader.specs.declared.sections.Section.TheVariants as section
-use Rattle.hddl_reader.specs.Networks.{is_word}
+use Rattle.hddl_reader.specs.Networks.{is_word, one_of, all_of}
 use Rattle.hddl_reader.specs.Networks as network
 use Rattle.hddl_reader.specs.Parts.{no_parts, is_there, keyword_by, parts}
-use Rattle.hddl_reader.specs.Sections.{plain_table, hierarchy_table, section_of, no_sections, has_section, words, name_by, dropped_name, declared_due, predicate, predicates, used_names, assignment, fact, facts, named_parts, goal, section_read, section_inside, sections, may_end}
+use Rattle.hddl_reader.specs.Sections.{plain_table, hierarchy_table, section_of, no_sections, has_section, words, name_by, dropped_name, declared_due, predicate_headed, used_names, assignment, fact, facts, named_parts, goal, section_read, section_inside, sections, may_end}
 use Rattle.hddl_reader.specs.Definitions.{language_of, kind_of as definition_of}
 use Rattle.hddl_reader.proofs.Answers.{bound, said_behind, declared_then}
 use Rattle.hddl_reader.proofs.PartsSaid.{terms_of_section, typed_said, formula_said, parts_said, parted_of, built, by_end}
@@ -78,17 +78,18 @@ named_then (list at p q) names k next h due c l v = sym (l at p q)
 named_then (word at w p) names k next h due c l v =
     ap said (bound (network.declared 8 names at w) (λ h. Ok ((h.0, p), h.1)) k) ∙ declared_then section_rows 8 names at w (λ h. k ((h.0, p), h.1)) next p (λ x. h x p) ∙ sym (v at w p)
 
-predicate_said : (p : Placed) (names : Names) → said (predicate names p) ≡ form section_rows grammar.predicate p
-unfolding predicate
-predicate_said p names =
-    named_then p names _ (typed due.of_predicate) (λ x q. said_map (listed list_kind.Predicate x.1 q) _ ∙ typed_said list_kind.Predicate q x.1) grammar.predicate (λ at. refl) (λ at p q. refl) (λ at w q. refl)
+predicate_said : (p : Placed) (names : Names) (place : ℕ) → said (one_of predicate_headed names place p) ≡ form section_rows grammar.predicate p
+unfolding predicate_headed word_due
+predicate_said cut names place = refl
+predicate_said (close at) names place = refl
+predicate_said (list at p q) names place = refl
+predicate_said (word at w p) names place = declared_then section_rows 8 names at w _ (typed due.of_predicate) p (λ h. said_map (listed list_kind.Predicate h.1 p) _ ∙ typed_said list_kind.Predicate p h.1)
 
-predicates_said : (p : Placed) (names : Names) → said (predicates names p) ≡ form section_rows grammar.predicates p
-unfolding predicates
+predicates_said : (p : Placed) (names : Names) → said (all_of predicate_headed names p) ≡ form section_rows grammar.predicates p
 predicates_said cut names = refl
 predicates_said (close at) names = refl
 predicates_said (word at w p) names = refl
-predicates_said (list at p q) names = said_then (predicate names p) _ _ _ (predicate_said p names) (λ x. said_map (predicates x.1 q) _ ∙ predicates_said q x.1)
+predicates_said (list at p q) names = said_then (one_of predicate_headed names at p) _ _ _ (predicate_said p names at) (λ x. said_map (all_of predicate_headed x.1 q) _ ∙ predicates_said q x.1)
 
 used_said : (p : Placed) (names : Names) → said (used_names names p) ≡ form section_rows grammar.objects_of_fact p
 unfolding used_names
@@ -118,7 +119,7 @@ fact_said (close at) names = refl
 fact_said (list at p q) names = refl
 fact_said (word at w p) names = by_test (is_word (codes "=") w)
   where
-    by_test : (b : Bool) → said {A = List RawAtom × Names} (if b then assignment p >>= (λ _. Ok ([], names)) else read.used names at w >>= (λ h. used_names h.1 p >>= (λ xs. Ok (record { head = h.0; args = xs.0 } ∷ [], xs.1))))
+    by_test : (b : Bool) → said {A = Option RawAtom × Names} (if b then assignment p >>= (λ _. Ok (None, names)) else read.used names at w >>= (λ h. used_names h.1 p >>= (λ xs. Ok (Some (record { head = h.0; args = xs.0 }), xs.1))))
         ≡ at_next section_rows (elim (if b then Some (group (of_terms_due due.anything) grammar.value) else None) [ None ↦ used is_name grammar.objects_of_fact w | Some x ↦ go x ]) at p
     by_test true = said_map (assignment p) _ ∙ assignment_said p
     by_test false = used_then section_rows names at w _ grammar.objects_of_fact p (λ x. said_map (used_names x.1 p) _ ∙ used_said p x.1)
@@ -164,7 +165,7 @@ unfolding section_read
 section_said section.Requirements st names p = said_map (words p) _ ∙ words_said p ∙ sym (terms_of_section due.words p)
 section_said section.Types st names p = said_map (listed list_kind.Types names p) _ ∙ typed_said list_kind.Types p names
 section_said section.Constants st names p = said_map (listed list_kind.Objects names p) _ ∙ typed_said list_kind.Objects p names
-section_said section.Predicates st names p = said_map (predicates names p) _ ∙ predicates_said p names
+section_said section.Predicates st names p = said_map (all_of predicate_headed names p) _ ∙ predicates_said p names
 section_said section.Functions st names p = said_map (passed p) _ ∙ passed_said p ∙ sym (terms_of_section due.anything p)
 section_said section.Task st names p = said_map (named_parts parted.Task names p) _ ∙ named_said parted.Task p names
 section_said section.Method st names p = said_map (named_parts parted.Method names p) _ ∙ named_said parted.Method p names
@@ -267,7 +268,7 @@ unfolding section_read
 section_put section.Requirements st names p r e = ap (λ (r : RawSections × Names). standing r.0) (sym (built (words p) _ r e).1)
 section_put section.Types st names p r e = ap (λ (r : RawSections × Names). standing r.0) (sym (built (listed list_kind.Types names p) _ r e).1)
 section_put section.Constants st names p r e = ap (λ (r : RawSections × Names). standing r.0) (sym (built (listed list_kind.Objects names p) _ r e).1)
-section_put section.Predicates st names p r e = ap (λ (r : RawSections × Names). standing r.0) (sym (built (predicates names p) _ r e).1)
+section_put section.Predicates st names p r e = ap (λ (r : RawSections × Names). standing r.0) (sym (built (all_of predicate_headed names p) _ r e).1)
 section_put section.Functions st names p r e = ap (λ (r : RawSections × Names). standing r.0) (sym (built (passed p) _ r e).1)
 section_put section.Task st names p r e = ap (λ (r : RawSections × Names). standing r.0) (sym (built (named_parts parted.Task names p) _ r e).1)
 section_put section.Method st names p r e = ap (λ (r : RawSections × Names). standing r.0) (sym (built (named_parts parted.Method names p) _ r e).1)

@@ -34,7 +34,7 @@ use Rattle.hddl_reader.specs.declared.sections.RawMethod.{RawMethod}
 use Rattle.hddl_reader.specs.declared.sections.RawSections.{RawSections}
 use Rattle.hddl_reader.specs.declared.sections.Section.{Section}
 use Rattle.hddl_reader.specs.declared.sections.Section.TheVariants as section
-use Rattle.hddl_reader.specs.Networks.{declared, is_word}
+use Rattle.hddl_reader.specs.Networks.{declared, is_word, Headed, all_of}
 use Rattle.hddl_reader.specs.Parts.{no_parts, is_there, keyword_by, parts}
 
 abbrev pub plain_table : Definition → Table Section
@@ -135,15 +135,9 @@ dropped_name p = word_due p >>= (λ v. name_by (sort_of v.1) v.0 >>= (λ _. end_
 unfoldable pub declared_due : Names → Placed → Result ((RawTerm × Placed) × Names) Stop
 declared_due names p = word_due p >>= (λ v. declared 8 names v.0 v.1 >>= (λ h. Ok ((h.0, v.2), h.1)))
 
--- a predicate in its parentheses
-unfoldable pub predicate : Names → Placed → Result (RawHead × Names) Stop
-predicate names p = declared_due names p >>= (λ h. listed list_kind.Predicate h.1 h.0.1 >>= (λ xs. Ok (record { name = h.0.0; params = xs.0 }, xs.1)))
-
-unfoldable pub predicates : Names → Placed → Result (List RawHead × Names) Stop
-predicates names cut = Err Ends
-predicates names (close at) = Ok ([], names)
-predicates names (word at w p) = Err (Departs 8 at)
-predicates names (list at p q) = predicate names p >>= (λ x. predicates x.1 q >>= (λ xs. Ok (x.0 ∷ xs.0, xs.1)))
+-- a predicate, by the word at the front of its list
+unfoldable pub predicate_headed : Headed RawHead
+predicate_headed names place at w p = declared 8 names at w >>= (λ h. listed list_kind.Predicate h.1 p >>= (λ xs. Ok (record { name = h.0; params = xs.0 }, xs.1)))
 
 -- names up to the end of their list
 unfoldable pub used_names : Names → Placed → Result (List RawTerm × Names) Stop
@@ -157,16 +151,21 @@ unfoldable pub assignment : Placed → Result (Unit {0}) Stop
 assignment p = list_due p >>= (λ g. passed g.0 >>= (λ _. word_due g.1 >>= (λ v. end_due v.2)))
 
 -- an element of :init in its parentheses: an atom, or an assignment, of which nothing is kept
-unfoldable pub fact : Names → Placed → Result (List RawAtom × Names) Stop
+unfoldable pub fact : Names → Placed → Result (Option RawAtom × Names) Stop
 fact names p = word_due p >>= (λ v.
-    if is_word (codes "=") v.1 then assignment v.2 >>= (λ _. Ok ([], names))
-    else used names v.0 v.1 >>= (λ h. used_names h.1 v.2 >>= (λ xs. Ok (record { head = h.0; args = xs.0 } ∷ [], xs.1))))
+    if is_word (codes "=") v.1 then assignment v.2 >>= (λ _. Ok (None, names))
+    else used names v.0 v.1 >>= (λ h. used_names h.1 v.2 >>= (λ xs. Ok (Some (record { head = h.0; args = xs.0 }), xs.1))))
+
+-- those that are kept
+abbrev pub with_kept : {X : Type 0} → Option X → List X → List X
+with_kept None xs = xs
+with_kept (Some x) xs = x ∷ xs
 
 unfoldable pub facts : Names → Placed → Result (List RawAtom × Names) Stop
 facts names cut = Err Ends
 facts names (close at) = Ok ([], names)
 facts names (word at w p) = Err (Departs 8 at)
-facts names (list at p q) = fact names p >>= (λ x. facts x.1 q >>= (λ xs. Ok (x.0 ++ xs.0, xs.1)))
+facts names (list at p q) = fact names p >>= (λ x. facts x.1 q >>= (λ xs. Ok (with_kept x.0 xs.0, xs.1)))
 
 -- a name and its parts
 unfoldable pub named_parts : Parted → Names → Placed → Result ((RawTerm × RawParts) × Names) Stop
@@ -181,7 +180,7 @@ unfoldable pub section_read : Section → RawSections → Names → Placed → R
 section_read section.Requirements st names p = words p >>= (λ _. Ok (record st { requirements = true }, names))
 section_read section.Types st names p = listed list_kind.Types names p >>= (λ x. Ok (record st { types = Some x.0 }, x.1))
 section_read section.Constants st names p = listed list_kind.Objects names p >>= (λ x. Ok (record st { constants = Some x.0 }, x.1))
-section_read section.Predicates st names p = predicates names p >>= (λ x. Ok (record st { predicates = Some x.0 }, x.1))
+section_read section.Predicates st names p = all_of predicate_headed names p >>= (λ x. Ok (record st { predicates = Some x.0 }, x.1))
 section_read section.Functions st names p = passed p >>= (λ _. Ok (record st { functions = true }, names))
 section_read section.Task st names p = named_parts parted.Task names p >>= (λ x. Ok (record st { tasks = st.tasks ++ head_of x.0.0 x.0.1 ∷ [] }, x.1))
 section_read section.Method st names p = named_parts parted.Method names p >>= (λ x. Ok (record st { methods = st.methods ++ methods_of x.0.0 x.0.1.task x.0.1 }, x.1))

@@ -9,6 +9,7 @@ mod items;
 mod networks;
 mod opened;
 mod parts;
+mod facts;
 mod sections;
 
 pub use networks::{RawCon, RawNet, RawPair, RawSub};
