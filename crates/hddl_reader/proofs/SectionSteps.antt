@@ -9,7 +9,14 @@ use Rattle.gd_reader.specs.declared.term.RawTerm.{RawTerm}
 use Rattle.gd_reader.specs.Answers.{◌>>=◌, Fails, with_front, word_or_end, list_or_end}
 use Rattle.gd_reader.specs.Terms.{Names, used}
 use Rattle.gd_reader.proofs.Steps.{Met, Pair, met_behind, by_step, fails_bind}
-use Rattle.hddl_reader.specs.Sections.{words, used_names, fact, facts, with_kept}
+use Rattle.text_forms.specs.Words.{Word}
+use Rattle.form_grammar.specs.Words.{Table, entry}
+use Rattle.std.specs.Str.{bytes_eq}
+use Rattle.std.specs.Prelude.{Bool, true, false, if◌then◌else◌}
+use Rattle.hddl_reader.specs.declared.sections.Definition.{Definition}
+use Rattle.hddl_reader.specs.declared.sections.Language.{Language}
+use Rattle.hddl_reader.specs.declared.sections.Section.{Section}
+use Rattle.hddl_reader.specs.Sections.{words, used_names, fact, facts, with_kept, section_of, plain_table, hierarchy_table}
 
 abbrev pub words_by : Option Met → Result (Unit {0}) Stop
 words_by None = Ok tt
@@ -67,3 +74,21 @@ module _ (front : List RawAtom) (names : Names) (p : Placed) (whole : Result (Li
       ∙ sym (ap (λ a. with_front front (a >>= (λ x. facts x.1 v.1 >>= (λ xs. Ok (with_kept x.0 xs.0, xs.1))))) t)
       ∙ sym (ap (with_front front) (facts_is names p ∙ ap (λ r. r >>= facts_by names) h))
       ∙ so_far
+
+-- the first that is there
+abbrev pub or_else : {X : Type 0} → Option X → Option X → Option X
+or_else None o = o
+or_else (Some x) o = Some x
+
+entry_more : {X : Type 0} (one other : Table X) (w : Word) → entry (one ++ other) w ≡ or_else (entry one w) (entry other w)
+entry_more [] other w = refl
+entry_more {X} (e ∷ one) other w = by_test (entry_more one other w) (bytes_eq w e.0)
+  where
+    by_test : entry (one ++ other) w ≡ or_else (entry one w) (entry other w) → (b : Bool)
+        → ◌≡◌ {A = Option X} (if b then Some e.1 else entry (one ++ other) w) (or_else (if b then Some e.1 else entry one w) (entry other w))
+    by_test h true = refl
+    by_test h false = h
+
+pub section_is : (l : Language) (d : Definition) (w : Word) → section_of l d w ≡ or_else (entry (plain_table d) w) (entry (hierarchy_table l d) w)
+unfolding section_of
+section_is l d w = entry_more (plain_table d) (hierarchy_table l d) w

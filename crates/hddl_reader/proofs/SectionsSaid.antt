@@ -41,7 +41,7 @@ use Rattle.hddl_reader.specs.declared.sections.Section.TheVariants as section
 use Rattle.hddl_reader.specs.Networks.{is_word, one_of, all_of}
 use Rattle.hddl_reader.specs.Networks as network
 use Rattle.hddl_reader.specs.Parts.{no_parts, is_there, keyword_by, parts}
-use Rattle.hddl_reader.specs.Sections.{plain_table, hierarchy_table, section_of, no_sections, has_section, words, name_by, dropped_name, declared_due, predicate_headed, used_names, assignment, fact, facts, named_parts, goal, section_read, section_inside, sections, may_end}
+use Rattle.hddl_reader.specs.Sections.{plain_table, hierarchy_table, section_of, no_sections, has_section, words, name_by, dropped_name, predicate_headed, used_names, assignment, fact, facts, named_parts, goal, section_read, section_inside, sections, may_end}
 use Rattle.hddl_reader.specs.Definitions.{language_of, kind_of as definition_of}
 use Rattle.hddl_reader.proofs.Answers.{bound, said_behind, declared_then}
 use Rattle.hddl_reader.proofs.PartsSaid.{terms_of_section, typed_said, formula_said, parts_said, parted_of, built, by_end}
@@ -65,18 +65,6 @@ dropped_said (word at w p) = by_sort (sort_of w) ∙ ap (λ b. at_next section_r
     by_sort sort.Name = ends_said p ∙ sym (terms_of_section due.ended p)
     by_sort sort.Variable = refl
     by_sort sort.Other = refl
-
--- a declared name, and what is due behind it
-named_then : {B : Type 0} (p : Placed) (names : Names) (k : (RawTerm × Placed) × Names → Result B Stop) (next : SectionDue) → ((x : RawTerm × Names) (q : Placed) → said (k ((x.0, q), x.1)) ≡ form section_rows next q)
-    → (due : SectionDue) → ((at : ℕ) → form section_rows due (close at) ≡ wrong 8 at) → ((at : ℕ) (p q : Placed) → form section_rows due (list at p q) ≡ wrong 8 at)
-    → ((at : ℕ) (w : Word) (q : Placed) → form section_rows due (word at w q) ≡ at_next section_rows (declared 8 next w) at q)
-    → said (declared_due names p >>= k) ≡ form section_rows due p
-unfolding declared_due word_due
-named_then cut names k next h due c l v = refl
-named_then (close at) names k next h due c l v = sym (c at)
-named_then (list at p q) names k next h due c l v = sym (l at p q)
-named_then (word at w p) names k next h due c l v =
-    ap said (bound (network.declared 8 names at w) (λ h. Ok ((h.0, p), h.1)) k) ∙ declared_then section_rows 8 names at w (λ h. k ((h.0, p), h.1)) next p (λ x. h x p) ∙ sym (v at w p)
 
 predicate_said : (p : Placed) (names : Names) (place : ℕ) → said (one_of predicate_headed names place p) ≡ form section_rows grammar.predicate p
 unfolding predicate_headed word_due
@@ -132,9 +120,11 @@ facts_said (word at w p) names = refl
 facts_said (list at p q) names = said_then (fact names p) _ _ _ (fact_said p names) (λ x. said_map (facts x.1 q) _ ∙ facts_said q x.1)
 
 named_said : (kind : Parted) (p : Placed) (names : Names) → said (named_parts kind names p) ≡ form section_rows (grammar.named (parted_of kind)) p
-unfolding named_parts
-named_said kind p names =
-    named_then p names _ (grammar.parts (parted_of kind) []) (λ x q. said_map (parts kind no_parts x.1 q) _ ∙ parts_said kind q x.1) (grammar.named (parted_of kind)) (λ at. refl) (λ at p q. refl) (λ at w q. refl)
+unfolding named_parts word_due
+named_said kind cut names = refl
+named_said kind (close at) names = refl
+named_said kind (list at p q) names = refl
+named_said kind (word at w p) names = declared_then section_rows 8 names at w _ (grammar.parts (parted_of kind) []) p (λ h. said_map (parts kind no_parts h.1 p) _ ∙ parts_said kind p h.1)
 
 goal_said : (p : Placed) (names : Names) → said (goal names p) ≡ form section_rows (group (of_effect (effects.of_formula gd)) (of_terms_due due.ended)) p
 unfolding goal list_due

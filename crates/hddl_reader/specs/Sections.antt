@@ -1,6 +1,7 @@
 -- The sections of a domain and of a problem as they are read, and the lists that are theirs alone.
 -- Source: the full syntax definition of Höller et al., "HDDL", AAAI 2020, and appendix A of Fox and Long, "PDDL2.1", JAIR 20, 2003, level 1.
 use Rattle.std.specs.Prelude.{ℕ, Bool, true, false, List, [], ◌∷◌, ◌++◌, Option, Some, None, Result, Ok, Err, if◌then◌else◌, codes}
+use Rattle.std.specs.Option.{option_map}
 use Rattle.text_forms.specs.Placed.{Placed, cut, close, word, list}
 use Rattle.text_forms.specs.Words.{Word}
 use Rattle.form_grammar.specs.Words.{Table, entry}
@@ -107,13 +108,14 @@ network_of st = record { subs = or_none st.subs; ordered = st.ordered; pairs = o
 abbrev pub action_of : RawTerm → RawParts → RawAction
 action_of name st = record { head = head_of name st; pre = or_true st.pre; eff = or_nothing st.eff }
 
--- a method with a task
-abbrev pub method_of : RawTerm → RawAtom → RawParts → RawMethod
-method_of name task st = record { head = head_of name st; task = task; pre = or_true st.pre; net = network_of st }
+-- a method, where its task stands
+abbrev pub method_of : RawTerm → RawParts → Option RawMethod
+method_of name st = option_map (λ task. record { head = head_of name st; task = task; pre = or_true st.pre; net = network_of st }) st.task
 
-abbrev pub methods_of : RawTerm → Option RawAtom → RawParts → List RawMethod
-methods_of name None st = []
-methods_of name (Some task) st = method_of name task st ∷ []
+-- those that are kept
+abbrev pub with_kept : {X : Type 0} → Option X → List X → List X
+with_kept None xs = xs
+with_kept (Some x) xs = x ∷ xs
 
 -- words up to the end of their list
 unfoldable pub words : Placed → Result (Unit {0}) Stop
@@ -130,10 +132,6 @@ name_by sort.Other at = Err (Departs 8 at)
 -- one name, which is dropped, and the end of its list
 unfoldable pub dropped_name : Placed → Result (Unit {0}) Stop
 dropped_name p = word_due p >>= (λ v. name_by (sort_of v.1) v.0 >>= (λ _. end_due v.2))
-
--- a declared name, and what is behind it
-unfoldable pub declared_due : Names → Placed → Result ((RawTerm × Placed) × Names) Stop
-declared_due names p = word_due p >>= (λ v. declared 8 names v.0 v.1 >>= (λ h. Ok ((h.0, v.2), h.1)))
 
 -- a predicate, by the word at the front of its list
 unfoldable pub predicate_headed : Headed RawHead
@@ -156,11 +154,7 @@ fact names p = word_due p >>= (λ v.
     if is_word (codes "=") v.1 then assignment v.2 >>= (λ _. Ok (None, names))
     else used names v.0 v.1 >>= (λ h. used_names h.1 v.2 >>= (λ xs. Ok (Some (record { head = h.0; args = xs.0 }), xs.1))))
 
--- those that are kept
-abbrev pub with_kept : {X : Type 0} → Option X → List X → List X
-with_kept None xs = xs
-with_kept (Some x) xs = x ∷ xs
-
+-- the atoms among the elements
 unfoldable pub facts : Names → Placed → Result (List RawAtom × Names) Stop
 facts names cut = Err Ends
 facts names (close at) = Ok ([], names)
@@ -169,7 +163,7 @@ facts names (list at p q) = fact names p >>= (λ x. facts x.1 q >>= (λ xs. Ok (
 
 -- a name and its parts
 unfoldable pub named_parts : Parted → Names → Placed → Result ((RawTerm × RawParts) × Names) Stop
-named_parts kind names p = declared_due names p >>= (λ h. parts kind no_parts h.1 h.0.1 >>= (λ x. Ok ((h.0.0, x.0), x.1)))
+named_parts kind names p = word_due p >>= (λ v. declared 8 names v.0 v.1 >>= (λ h. parts kind no_parts h.1 v.2 >>= (λ x. Ok ((h.0, x.0), x.1))))
 
 -- a goal in its parentheses, and the end of the section
 unfoldable pub goal : Names → Placed → Result (RawFormula × Names) Stop
@@ -183,7 +177,7 @@ section_read section.Constants st names p = listed list_kind.Objects names p >>=
 section_read section.Predicates st names p = all_of predicate_headed names p >>= (λ x. Ok (record st { predicates = Some x.0 }, x.1))
 section_read section.Functions st names p = passed p >>= (λ _. Ok (record st { functions = true }, names))
 section_read section.Task st names p = named_parts parted.Task names p >>= (λ x. Ok (record st { tasks = st.tasks ++ head_of x.0.0 x.0.1 ∷ [] }, x.1))
-section_read section.Method st names p = named_parts parted.Method names p >>= (λ x. Ok (record st { methods = st.methods ++ methods_of x.0.0 x.0.1.task x.0.1 }, x.1))
+section_read section.Method st names p = named_parts parted.Method names p >>= (λ x. Ok (record st { methods = st.methods ++ with_kept (method_of x.0.0 x.0.1) [] }, x.1))
 section_read section.Action st names p = named_parts parted.Action names p >>= (λ x. Ok (record st { actions = st.actions ++ action_of x.0.0 x.0.1 ∷ [] }, x.1))
 section_read section.Domain st names p = dropped_name p >>= (λ _. Ok (record st { domain = true }, names))
 section_read section.Objects st names p = listed list_kind.Objects names p >>= (λ x. Ok (record st { objects = Some x.0 }, x.1))
