@@ -1,7 +1,7 @@
 -- A problem has one list of edges, and so one named cycle at most.
 use Rattle.std.proofs.Common.{◌≡◌, ◌↔◌, inl, inr, List, [], ◌∷◌, ◌++◌, refl, ap, sym, subst, Contains, arith}
 use Rattle.plan_model.specs.declared.values.Compiled.{Compiled}
-use Rattle.task_networks.specs.Pending.{AreDifferent}
+use Rattle.htn_base.specs.Different.{AreDifferent}
 use Rattle.task_networks.specs.Strata as Walks
 use Rattle.task_networks.proofs.Lists.{not-in_empty, head_or_tail, Contains-here, Contains-later}
 use Rattle.task_networks.proofs.StrataLaws.{named_cycle_is_the_only_one}

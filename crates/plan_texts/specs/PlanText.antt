@@ -68,3 +68,11 @@ IsStepWord w = (is_folded_word w ≡ true) × (is_step_name w ≡ true)
 -- each word is a folded name
 abbrev pub ArePrintableSteps : List GroundAction → Type 0
 ArePrintableSteps steps = EachIs (λ (s : GroundAction). IsStepWord s.name × EachIs IsStepWord s.args) steps
+
+-- the text spells one list of steps at most
+abbrev pub SpellsOnePlan : List ℕ → Type 0
+SpellsOnePlan text = (steps others : List GroundAction) → SpellsPlan text steps → SpellsPlan text others → steps ≡ others
+
+-- what is printed for the steps spells them, if they are printable
+abbrev pub IsSpelledByItsText : List GroundAction → Type 0
+IsSpelledByItsText steps = ArePrintableSteps steps → SpellsPlan (plan_text steps) steps

@@ -9,8 +9,8 @@ use Rattle.plan_model.specs.declared.values.Hddl.{Hddl}
 use Rattle.plan_model.specs.Pairs.{pair, Pairs}
 use Rattle.plan_meaning.specs.Laws.{AreOrdered}
 use Rattle.net_order.specs.Meaning.{AreBelow}
-use Rattle.plan_texts.specs.SoundProblem.{HasSmallNetworks}
-use Rattle.plan_texts.proofs.SoundProblems.{small_networks}
+use Rattle.plan_texts.specs.SoundProblem.{HasSmallMethods}
+use Rattle.plan_texts.proofs.SoundProblems.{small_methods}
 use Rattle.method_precs.specs.Small.{IsFit}
 use Rattle.printed_rows.specs.Fit.{AreFit}
 
@@ -24,8 +24,8 @@ module _ (h : Hddl) (fit : AreFit h) where
   pub ordered : AreOrdered h
   ordered s c = let f = each s c in (f.within, f.acyclic)
 
-  pub small : HasSmallNetworks h
-  small = small_networks h (λ s c. (each s c).small)
+  pub small : HasSmallMethods h
+  small = small_methods h (λ s c. (each s c).small)
 
 pub fit_by : (s : MethodSchema) (b : Bool) → length s.children ≤ 4096 → length s.params < 2 ^ 32 → (IsTrue b → AreBelow (length s.children) s.pairs) → (IsTrue b → IsAcyclic (Pairs s.pairs)) → IsTrue b → IsFit s
 fit_by s b small few below acyclic t = record { within = within (length s.children) s.pairs (below t); acyclic = acyclic t; small = record { subtasks = small; params = few } }

@@ -7,7 +7,7 @@ use Rattle.text_forms.specs.Lists.{written as written_as}
 use Rattle.text_forms.specs.Tokens.{symbols}
 use Rattle.text_forms.specs.Words.{Word}
 use Rattle.plan_texts.specs.Printable.{IsPlain}
-use Rattle.plan_texts.specs.Types.{AreDifferent}
+use Rattle.htn_base.specs.Different.{AreDifferent}
 use Rattle.plan_model.specs.declared.formulas.Formula.TheVariants.{And}
 use Rattle.plan_model.specs.declared.effects.Effect.TheVariants.{And as Both}
 use Rattle.plan_model.specs.declared.networks.Head.{Head}

@@ -2,7 +2,8 @@
 use Rattle.std.proofs.Common.{ℕ, ◌≡◌, ◌<◌, ◌++◌, List, [], ◌∷◌, map, length, refl, ap, sym, subst, ◌∙◌}
 use Rattle.text_forms.specs.Words.{Word, word_at}
 use Rattle.plan_texts.specs.Declared.{Declared, named, kinds, kind_at, variable, one_word}
-use Rattle.plan_texts.specs.Types.{Has, EachIs, AreDifferent}
+use Rattle.htn_base.specs.Different.{AreDifferent}
+use Rattle.plan_texts.specs.Types.{Has, EachIs}
 use Rattle.plan_texts.specs.SpellsHddl.{hddl_words, task_words, action_words}
 use Rattle.plan_texts.specs.Printable.{IsPlain, IsInForce, IsSoundParam, AreSoundParams, IsSound, IsSoundEffect, HasWords}
 use Rattle.plan_texts.specs.SoundValue.{IsSoundHddl, IsSoundMethod, IsSoundHead, IsSoundChild, IsSoundConstraint, scope_of, arities, method_words}

@@ -9,12 +9,14 @@ use Rattle.plan_model.specs.declared.values.Compiled.{Compiled}
 use Rattle.plan_model.specs.Typing.{Leads}
 use Rattle.plan_texts.specs.Declared.{Declared, named, kinds, one_word}
 use Rattle.plan_texts.specs.Declared as Declared
-use Rattle.plan_texts.specs.Types.{Has, EachIs, AreDifferent}
+use Rattle.htn_base.specs.Different.{AreDifferent}
+use Rattle.plan_texts.specs.Types.{Has, EachIs}
 use Rattle.plan_texts.specs.Printable.{IsPlain, IsUnion}
 use Rattle.plan_texts.specs.SoundValue.{IsSoundHddl, arities}
 use Rattle.plan_texts.specs.SpellsHddl.{hddl_types, hddl_words}
 use Rattle.plan_texts.proofs.Basics.{apart}
-use Rattle.plan_texts.proofs.Members.{each-has, has-of_map, has-to_map, has-at, length-map}
+use Rattle.plan_texts.proofs.DifferentWords.{different_by}
+use Rattle.plan_texts.proofs.Members.{each-has, each-lacks, lacks-each, has-of_map, has-to_map, has-at, length-map}
 use Rattle.slot_encoding.proofs.places.Places.{same_place}
 use Rattle.slot_encoding.specs.SourceParts.{name, retyped}
 use Rattle.slot_encoding.specs.EncodedNames.{encoded_types}
@@ -81,13 +83,13 @@ module _ (c : Compiled) (names : List Word) (b : ℕ) (sound : IsSoundHddl c.hdd
   differ = go source.names sound.first sound.words.types_differ
     where
       go : (ns : List Name) → word_at (map (named c.hddl.names) ns) 0 ≡ codes "object" → AreDifferent (map (named c.hddl.names) ns) → AreDifferent (codes "object" ∷ codes "htn_slot" ∷ codes "htn_object" ∷ own_types c ns)
-      go [] f d = ((apart _ _ refl, (apart _ _ refl, tt)), ((apart _ _ refl, tt), (tt, tt)))
+      go [] f d = different_by (codes "object" ∷ codes "htn_slot" ∷ codes "htn_object" ∷ []) refl
       go (n ∷ others) f d = (
-        (apart _ _ refl, (apart _ _ refl, each-map (λ u. codes "object" ≡ u → ⊥) (own_word c) others (λ x h e. each-has (λ (x : Name). named c.hddl.names n ≡ named c.hddl.names x → ⊥) others x (each-of_map (λ u. named c.hddl.names n ≡ u → ⊥) (named c.hddl.names) others d.0) h (f ∙ escaped-once (codes "object") (named c.hddl.names x) e)))),
+        each-lacks (codes "htn_slot" ∷ codes "htn_object" ∷ map (own_word c) others) (codes "object") (apart _ _ refl, (apart _ _ refl, each-map (λ u. codes "object" ≡ u → ⊥) (own_word c) others (λ x h e. each-has (λ (x : Name). named c.hddl.names n ≡ named c.hddl.names x → ⊥) others x (each-of_map (λ u. named c.hddl.names n ≡ u → ⊥) (named c.hddl.names) others (lacks-each (map (named c.hddl.names) others) (named c.hddl.names n) d.0)) h (f ∙ escaped-once (codes "object") (named c.hddl.names x) e)))),
         (
-          (apart _ _ refl, each-map (λ u. codes "htn_slot" ≡ u → ⊥) (own_word c) others (λ x h e. no_escape (codes "htn_slot") (named c.hddl.names x) refl e)),
+          each-lacks (codes "htn_object" ∷ map (own_word c) others) (codes "htn_slot") (apart _ _ refl, each-map (λ u. codes "htn_slot" ≡ u → ⊥) (own_word c) others (λ x h e. no_escape (codes "htn_slot") (named c.hddl.names x) refl e)),
           (
-            each-map (λ u. codes "htn_object" ≡ u → ⊥) (own_word c) others (λ x h e. no_escape (codes "htn_object") (named c.hddl.names x) refl e),
+            each-lacks (map (own_word c) others) (codes "htn_object") (each-map (λ u. codes "htn_object" ≡ u → ⊥) (own_word c) others (λ x h e. no_escape (codes "htn_object") (named c.hddl.names x) refl e)),
             different-by (named c.hddl.names) (own_word c) others (λ x y h k e. escaped-once (named c.hddl.names x) (named c.hddl.names y) e) d.1,
           ),
         ),

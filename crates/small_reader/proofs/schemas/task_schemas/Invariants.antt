@@ -1,5 +1,5 @@
 use Rattle.std.proofs.Common.{◌≡◌, ◌++◌, map, take}
-use Rattle.plan_texts.specs.Types.{AreDifferent}
+use Rattle.htn_base.specs.Different.{AreDifferent}
 use Rattle.small_reader.specs.Binding.{IsTaskOf}
 use Rattle.small_reader.specs.Rest.{word_of}
 use Rattle.small_reader.specs.Tables.{Together}
