@@ -1,16 +1,15 @@
--- Lists of different elements, told by what is put at their end and by two places.
-use Rattle.std.proofs.Common.{zero, suc, ◌≡◌, ◌≢◌, inl, inr, List, [], ◌∷◌, ◌++◌, sym, Contains, arith}
-use Rattle.std.specs.List.{AllPairs}
+-- Lists of different elements: one element, one more, and parts.
+use Rattle.std.proofs.Common.{zero, suc, ◌≡◌, inl, inr, List, [], ◌∷◌, ◌++◌, sym, Contains, arith}
 use Rattle.std.proofs.lemmas.List.Elements.{Contains-append_left, Contains-append_cases}
 use Rattle.htn_base.specs.Different.{AreDifferent}
 
-pub different_one : {A : Type 0} (x : A) → AreDifferent (x ∷ [])
-different_one x = (λ c. let l = c.1 in omega arith, tt)
+pub different-one : {A : Type 0} (x : A) → AreDifferent (x ∷ [])
+different-one x = (λ c. let l = c.1 in omega arith, tt)
 
 -- one more element
-pub different_push : {A : Type 0} (xs : List A) (x : A) → AreDifferent xs → (Contains xs x → ⊥) → AreDifferent (xs ++ x ∷ [])
-different_push [] x d new = different_one x
-different_push {A = A} (y ∷ ys) x d new = (λ c. elim (Contains-append_cases ys (x ∷ []) y c) [ inl k ↦ d.0 k | inr k ↦ last k ], different_push ys x d.1 (λ c. let l = c.1 in new (suc c.0, omega arith, c.2)))
+pub different-push : {A : Type 0} (xs : List A) (x : A) → AreDifferent xs → (Contains xs x → ⊥) → AreDifferent (xs ++ x ∷ [])
+different-push [] x d new = different-one x
+different-push {A = A} (y ∷ ys) x d new = (λ c. elim (Contains-append_cases ys (x ∷ []) y c) [ inl k ↦ d.0 k | inr k ↦ last k ], different-push ys x d.1 (λ c. let l = c.1 in new (suc c.0, omega arith, c.2)))
   where
     last : Contains (x ∷ []) y → ⊥
     last (zero, l, e) = new (0, omega arith, sym e)
@@ -24,11 +23,3 @@ different-left (x ∷ xs) ys d = (λ c. d.0 (Contains-append_left xs ys x c), di
 pub different-right : {A : Type 0} (xs ys : List A) → AreDifferent (xs ++ ys) → AreDifferent ys
 different-right [] ys d = d
 different-right (x ∷ xs) ys d = different-right xs ys d.1
-
--- elements differ where those at each two places do
-pub different-pairs : {A : Type 0} (xs : List A) → AllPairs (λ one other. one ≢ other) xs → AreDifferent xs
-different-pairs [] h = tt
-different-pairs (x ∷ xs) h = (
-  λ c. (let l = c.1 in h 0 (suc c.0) x (omega arith) (omega arith) (sym c.2)),
-  different-pairs xs (λ j k d l m. h (suc j) (suc k) d (omega arith) (omega arith)),
-)

@@ -14,7 +14,7 @@ use Rattle.std.proofs.lemmas.Str.Ascii.{lowercase-lowercase}
 use Rattle.indexmap.specs.IndexSet.{insert_key}
 use Rattle.htn_base.specs.Words.{folded, IsFolded}
 use Rattle.htn_base.specs.Table.{words_of, number_of, with_word, IsTable}
-use Rattle.htn_base.proofs.DifferentLemmas.{different_push}
+use Rattle.htn_base.proofs.DifferentLemmas.{different-push}
 
 module _ {X Y : Type 0} (view : X → Y) (test : Y → Bool) where
   list_any-map : (xs : List X) → list_any test (map view xs) ≡ list_any (λ x. test (view x)) xs
@@ -103,7 +103,7 @@ IsTable-with_word words word table room low = by (list_any (bytes_eq word) words
     by : (there : Bool) → list_any (bytes_eq word) words ≡ there → IsTable (cond there words (words ++ word ∷ []))
     by true e = table
     by false e = record {
-      differ = different_push words word table.differ (new e);
+      differ = different-push words word table.differ (new e);
       folded = All-push IsFolded words word table.folded low;
       short = omega (arith, length-append words (word ∷ []), table.short);
     }

@@ -6,6 +6,7 @@ use Rattle.std.proofs.lemmas.List.{length-map}
 use Rattle.text_forms.specs.Words.{Word, word_at}
 use Rattle.plan_texts.specs.Declared.{Declared, named}
 use Rattle.htn_base.specs.Different.{AreDifferent}
+use Rattle.htn_base.proofs.DifferentLemmas.{different-one}
 use Rattle.plan_texts.specs.Types.{EachIs}
 use Rattle.plan_texts.specs.Printable.{IsPlain, AreSoundParams, sound_step, IsSound, sound_effect_step, IsSoundEffect}
 use Rattle.plan_texts.specs.SpellsHddl.{hddl_words, task_words, action_words}
@@ -117,7 +118,7 @@ module _ (sd sp : ℕ → Word) (d : WrittenDomain) (p : WrittenProblem) (names 
     problem = named-plain sp names t.problem p.name are_titles.problem;
     words = record {
       types = subst (EachIs IsPlain) (sym one) ((refl, refl), tt);
-      types_differ = (tt, tt);
+      types_differ = different-one _;
       unions = tt;
       objects = tt;
       predicates = tt;

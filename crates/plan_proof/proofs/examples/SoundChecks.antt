@@ -1,6 +1,6 @@
 -- Whether a problem is sound, as far as it computes: its words, numbers, parameters and networks. Formulas and effects are asked for layer by layer.
 -- And whether its networks are ordered: each pair goes up.
-use Rattle.std.proofs.Common.{ℕ, suc, ◌≡◌, ◌<◌, ◌≤◌, ◌==◌, ◌&&◌, ◌-◌, ◌++◌, Bool, true, false, not, List, [], ◌∷◌, map, length, Option, Some, None, slice_get, refl, ap, sym, subst, Contains, arith, nat_lt}
+use Rattle.std.proofs.Common.{ℕ, suc, ◌≡◌, ◌<◌, ◌≤◌, ◌==◌, ◌&&◌, ◌-◌, ◌++◌, Bool, true, false, List, [], ◌∷◌, map, length, Option, Some, None, slice_get, refl, ap, sym, subst, Contains, arith, nat_lt}
 use Rattle.std.specs.Prelude.{codes, slice_index}
 use Rattle.std.specs.Str.{bytes_eq}
 use Rattle.std.specs.List.{list_any, list_all}
@@ -36,14 +36,14 @@ use Rattle.plan_texts.specs.Types.{Has, EachIs}
 use Rattle.plan_texts.specs.SpellsHddl.{hddl_types, hddl_words, task_words, action_words}
 use Rattle.plan_texts.specs.Printable.{IsPlain, IsPlainVariable, IsInForce, IsSoundAtom, IsSoundParam, AreSoundParams, sound_step, IsSound, sound_effect_step, IsSoundEffect, IsUnion, HasWords}
 use Rattle.plan_texts.specs.SoundValue.{IsSoundHddl, IsSoundMethod, IsSoundHead, IsSoundChild, IsSoundConstraint, scope_of, arities, method_words}
-use Rattle.plan_texts.proofs.Basics.{bytes_eq-true, bytes_eq-refl}
+use Rattle.plan_texts.proofs.Basics.{bytes_eq-true}
 use Rattle.plan_texts.proofs.DifferentWords.{are_different, different_by}
 use Rattle.plan_texts.proofs.Members.{contains-has, has-contains}
 use Rattle.plan_texts.proofs.Spelled.{sound_roll}
 use Rattle.plan_texts.proofs.SpelledEffects.{sound_roll as effect-sound_roll}
 use Rattle.task_networks.specs.Spelling.{numbers}
 use Rattle.task_networks.proofs.Numbers.{to_numbers}
-use Rattle.task_networks.proofs.PendingNodes.{both, not_to}
+use Rattle.task_networks.proofs.PendingNodes.{both}
 use Rattle.task_networks.proofs.Tests.{all_to, any_to}
 use Rattle.plan_model.specs.Pairs.{pair, Pairs}
 use Rattle.plan_meaning.specs.Laws.{AreOrdered}

@@ -2,7 +2,7 @@
 use Rattle.std.proofs.Common.{ℕ, zero, suc, ◌≡◌, ◌<◌, ◌≤◌, ◌⊎◌, inl, inr, List, [], ◌∷◌, map, codes, refl, sym, subst, arith}
 use Rattle.std.specs.Prelude.{Contains}
 use Rattle.text_forms.specs.Words.{Word}
-use Rattle.htn_base.proofs.DifferentLemmas.{different_one}
+use Rattle.htn_base.proofs.DifferentLemmas.{different-one}
 use Rattle.plan_texts.specs.Declared.{named}
 use Rattle.plan_texts.specs.SpellsPddl.{pddl_words}
 use Rattle.plan_texts.specs.Printable.{IsSoundParam, AreSoundParams, sound_step, IsSound, sound_effect_step, IsSoundEffect, IsSoundAtom}
@@ -47,11 +47,11 @@ other : IsSoundParam (pddl_words smallest) (arities_of smallest) x
 other = ((refl, refl), omega arith)
 
 sound-params : AreSoundParams (pddl_words smallest) (arities_of smallest) (h ∷ [])
-sound-params = ((one 1 refl, tt), different_one _)
+sound-params = ((one 1 refl, tt), different-one _)
 
 sound-wait : IsSound (pddl_words smallest) (arities_of smallest) wait scope
 sound-wait = sound _ (Formula-F.Forall (x ∷ []) (Not (Holds (record { predicate = 2; args = Var 1 ∷ Var 0 ∷ [] })))) scope (rolls-Forall _ _) (
-  ((other, tt), different_one _),
+  ((other, tt), different-one _),
   sound _ (Formula-F.Not (Holds (record { predicate = 2; args = Var 1 ∷ Var 0 ∷ [] }))) both (rolls-Not _) (sound _ (Formula-F.Holds (record { predicate = 2; args = Var 1 ∷ Var 0 ∷ [] })) both (rolls-Holds _) (omega arith, refl, (refl, (refl, tt)))),
 )
 
@@ -74,7 +74,7 @@ sound-freed = sound-effect freed (Effect-F.And _) scope (rolls-Both _) (
     sound-add 1 (omega arith, refl, (refl, tt)),
     (
       sound-effect clear (Effect-F.Forall (x ∷ []) (Delete (record { predicate = 2; args = Var 0 ∷ Var 1 ∷ [] }))) scope (rolls-Each_one _ _) (
-        ((other, tt), different_one _),
+        ((other, tt), different-one _),
         sound-effect _ (Effect-F.Delete (record { predicate = 2; args = Var 0 ∷ Var 1 ∷ [] })) both (rolls-Delete _) (omega arith, refl, (refl, (refl, tt))),
       ),
       tt,
@@ -85,7 +85,7 @@ sound-freed = sound-effect freed (Effect-F.And _) scope (rolls-Both _) (
 sound-goal : IsSound (pddl_words smallest) (arities_of smallest) all_free []
 sound-goal = sound all_free (Formula-F.And _) [] (rolls-And _) (
   sound _ (Formula-F.Forall (x ∷ []) (Holds (record { predicate = 1; args = Var 0 ∷ [] }))) [] (rolls-Forall _ _) (
-    ((other, tt), different_one _),
+    ((other, tt), different-one _),
     sound _ (Formula-F.Holds (record { predicate = 1; args = Var 0 ∷ [] })) (codes "htn_x" ∷ []) (rolls-Holds _) (omega arith, refl, (refl, tt)),
   ),
   tt,
@@ -111,7 +111,7 @@ smallest_printable = record {
     unions = tt;
     objects = ((refl, refl), tt);
     predicates = ((refl, refl), ((refl, refl), ((refl, refl), ((refl, refl), ((refl, refl), tt)))));
-    objects_differ = different_one _;
+    objects_differ = different-one _;
     predicates_differ = different_by (pddl_words smallest).predicates refl;
   };
   first = refl;

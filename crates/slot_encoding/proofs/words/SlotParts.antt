@@ -23,7 +23,7 @@ use Rattle.slot_encoding.specs.EncodedNames.{first_slot, free_predicate, before_
 use Rattle.slot_encoding.proofs.places.ListPlaces.{length-joined}
 use Rattle.slot_encoding.proofs.places.ObjectPlaces.{length-objects}
 use Rattle.slot_encoding.specs.EncodedWords.{HasEncodedWords}
-use Rattle.htn_base.proofs.DifferentLemmas.{different_one, different-left}
+use Rattle.htn_base.proofs.DifferentLemmas.{different-one, different-left}
 use Rattle.slot_encoding.proofs.words.Lists.{each-map}
 use Rattle.slot_encoding.proofs.words.TableWords.{named-name}
 use Rattle.slot_encoding.proofs.words.Scopes.{last-different}
@@ -71,7 +71,7 @@ module _ (c : Compiled) (names : List Word) (b : ℕ) (sound : IsSoundHddl c.hdd
     behind-named = ap (λ w. scope ++ w ∷ []) (named-name (codes "htn_x") names (known_x c names b sound has))
 
     any_sound : AreSoundParams v' ar' (any_slot n b)
-    any_sound = ((sound_x c names b sound has, tt), different_one _)
+    any_sound = ((sound_x c names b sound has, tt), different-one _)
 
     all_slots : (f : Formula) → IsSound v' ar' f behind → Sound (Forall (any_slot n b) f)
     all_slots f s = sound-Forall v' ar' scope (any_slot n b) f any_sound (subst (IsSound v' ar' f) (sym behind-named) s)

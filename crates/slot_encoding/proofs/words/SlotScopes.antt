@@ -20,7 +20,7 @@ use Rattle.task_networks.proofs.Numbers.{length-numbers}
 use Rattle.slot_encoding.specs.SourceParts.{name, source_param}
 use Rattle.slot_encoding.proofs.places.ListPlaces.{length-joined}
 use Rattle.slot_encoding.specs.EncodedWords.{param_words, numbered, HasEncodedWords}
-use Rattle.htn_base.proofs.DifferentLemmas.{different_one, different-left}
+use Rattle.htn_base.proofs.DifferentLemmas.{different-one, different-left}
 use Rattle.slot_encoding.proofs.words.Lists.{each-map, different-numbers, IsBetween, different-ranks, below-join}
 use Rattle.slot_encoding.proofs.words.PlainWords.{is_generated, escape_is_none, plain-behind, folded-decimal, some-decimal}
 use Rattle.slot_encoding.proofs.words.TableWords.{named-name}
@@ -89,7 +89,7 @@ module _ (c : Compiled) (names : List Word) (b : ℕ) (sound : IsSoundHddl c.hdd
         (record { different = slots_apart n short; below = slots_first n })
         (escapes_differ v v' ar ar' (extended c names b sound has) (scope_of c.hddl params) are.1)
         (each-map (IsBetween part_rank 1 2) escaped (scope_of c.hddl params) (λ w m. (let e : part_rank (escaped w) ≡ 1 = ap (λ t. cond t (cond (get_or (escaped w) 4 0 == 120) 2 0) 1) (escape_is_none w) in (omega arith, omega arith)))))
-        (different_one (codes "htn_x")) ((omega arith, omega arith), tt)
+        (different-one (codes "htn_x")) ((omega arith, omega arith), tt)
 
     pub scope_apart : AreDifferent action_scope
     scope_apart = different-left action_scope (codes "htn_x" ∷ []) scope_x_apart
