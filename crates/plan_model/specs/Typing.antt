@@ -27,9 +27,9 @@ IsPart types ty of = IsBelow types ty of ⊎ ((members : List ℕ) × (union_at 
 abbrev pub InType : Types → List Object → ℕ → ℕ → Type 0
 InType types objects x ty = (object : Object) × (slice_get objects x ≡ Some object) × IsPart types object.ty ty
 
--- the objects in a type
-abbrev pub AreMembers : Types → List Object → ℕ → List ℕ → Type 0
-AreMembers types objects ty members = (x : ℕ) → Contains members x ↔ InType types objects x ty
+-- an object is listed exactly where it is in the type
+abbrev pub AreObjectsOf : Types → List Object → ℕ → List ℕ → Type 0
+AreObjectsOf types objects ty members = (x : ℕ) → Contains members x ↔ InType types objects x ty
 
 -- a union is a part of a type where each of its types is
 abbrev pub IsA : Types → ℕ → ℕ → Type 0
