@@ -106,7 +106,7 @@ pub different-numbers : (f : ℕ → Word) (m : ℕ) → ((j k : ℕ) → j < m 
 different-numbers f m once i zero l = tt
 different-numbers f m once i (suc n) l = (
   each-lacks (map f (numbers (suc i) n)) (f i)
-    (each-map (λ u. f i ≡ u → ⊥) f (numbers (suc i) n) (λ k h e. (let r = numbers_to (suc i) n k (has-contains (numbers (suc i) n) k h) in let g = r.0 in let j = r.1 in let s = once i k (omega arith) (omega arith) e in omega arith))),
+      (each-map (λ u. f i ≡ u → ⊥) f (numbers (suc i) n) (λ k h e. (let r = numbers_to (suc i) n k (has-contains (numbers (suc i) n) k h) in let g = r.0 in let j = r.1 in let s = once i k (omega arith) (omega arith) e in omega arith))),
   different-numbers f m once (suc i) n (omega arith),
 )
 

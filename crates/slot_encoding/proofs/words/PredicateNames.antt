@@ -221,8 +221,7 @@ module _ (c : Compiled) (names : List Word) (b : ℕ) (sound : IsSoundHddl c.hdd
         (record {
           different = different-by (λ (p : Predicate). named c.hddl.names p.name) (λ (p : Predicate). own_word c p.name) c.hddl.predicates (λ p q h k e. escaped-once (named c.hddl.names p.name) (named c.hddl.names q.name) e) sound.words.predicates_differ;
           below = each-map (λ w. rank w < 1) (λ (p : Predicate). own_word c p.name) c.hddl.predicates (λ p m. (let e : rank (own_word c p.name) ≡ 0 = rank-escaped (named c.hddl.names p.name) in omega arith));
-        })
-        (
+        }) (
           each-lacks (codes "htn_free" ∷ codes "htn_before" ∷ task_names) (codes "htn_top") (apart _ _ refl, (apart _ _ refl, not_task (codes "htn_top") refl)),
           (each-lacks (codes "htn_before" ∷ task_names) (codes "htn_free") (apart _ _ refl, not_task (codes "htn_free") refl), (each-lacks task_names (codes "htn_before") (not_task (codes "htn_before") refl), tasks_differ)),
         )

@@ -39,7 +39,7 @@ slot_names n = codes "htn_h" ∷ map (λ k. codes "htn_h" ++ decimal k) (numbers
 slots_apart : (n : ℕ) → n < 2 ^ 64 → AreDifferent (slot_names n)
 slots_apart n l = (
   each-lacks (map (λ k. codes "htn_h" ++ decimal k) (numbers 1 n)) (codes "htn_h")
-    (each-map (λ u. codes "htn_h" ≡ u → ⊥) (λ k. codes "htn_h" ++ decimal k) (numbers 1 n) (λ k m e. some-decimal k (sym (ap (drop 5) e)))),
+      (each-map (λ u. codes "htn_h" ≡ u → ⊥) (λ k. codes "htn_h" ++ decimal k) (numbers 1 n) (λ k m e. some-decimal k (sym (ap (drop 5) e)))),
   different-numbers (λ k. codes "htn_h" ++ decimal k) (1 + n) (λ j k i m e. decimal_injective j k (omega arith) (omega arith) (ap (drop 5) e)) 1 n (omega arith),
 )
 
