@@ -13,7 +13,8 @@ ghost use Rattle.form_grammar.specs.Effects.{eff, effect_rows, of_formula};
 ghost use Rattle.form_grammar.specs.Networks.{NetworkDue, network_rows};
 ghost use Rattle.form_grammar.specs.Sections.{Language, Definition, domain, define, section_rows, of_effect, of_network};
 ghost use Rattle.form_grammar.specs.Definitions.{definition_form};
-ghost use Rattle.form_grammar.specs.Plans.{is_mark, step, step_rows, steps_form};
+ghost use Rattle.form_grammar.specs.Plans.{step, step_rows, steps_form};
+ghost use Rattle.text_forms.specs.StepWords.{is_mark};
 
 use crate::grammar::{Grammar, TextGrammar};
 

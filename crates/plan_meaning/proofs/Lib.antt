@@ -7,6 +7,7 @@ pub mod BlockNumbers
 pub mod BoundParts
 pub mod BoundIsOne
 pub mod BoundLaws
+pub mod EdgesInOrder
 -- Truth and effects, worked out.
 pub mod TruthEquations
 pub mod EffectEquations
