@@ -13,4 +13,5 @@ pub mod TruthEquations
 pub mod EffectEquations
 pub mod ListedItems
 pub mod EachPart
+pub mod Once
 pub mod examples

@@ -1,5 +1,6 @@
 pub mod Basics
 pub mod Members
+pub mod Together
 pub mod Places
 pub mod UnionTypes
 pub mod Readings
