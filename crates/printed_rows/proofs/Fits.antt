@@ -1,5 +1,5 @@
 -- What the run-time checks give of a whole problem.
-use Rattle.std.proofs.Common.{ℕ, ◌<◌, ◌≤◌, ◌^◌, List, ◌∷◌, inl, inr, length, Contains, Bool, IsTrue, subst}
+use Rattle.std.proofs.Common.{◌<◌, ◌≤◌, ◌^◌, ◌∷◌, inl, inr, length, Contains, Bool, IsTrue, subst}
 use Rattle.std.proofs.lemmas.List.Elements.{All-contains}
 use Rattle.task_networks.specs.Order.{IsAcyclic}
 use Rattle.task_networks.proofs.Lists.{head_or_tail}

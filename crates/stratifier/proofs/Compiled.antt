@@ -1,5 +1,5 @@
 -- The compiled methods of a problem whose networks have no cycle.
-use Rattle.std.proofs.Common.{ℕ, List, ◌∷◌, length, get_or, sym, subst}
+use Rattle.std.proofs.Common.{◌∷◌, length, get_or, sym, subst}
 use Rattle.std.proofs.lemmas.Option.{slice_get-get_or}
 use Rattle.task_networks.specs.Order.{ArePairsOf, IsAcyclic}
 use Rattle.plan_model.specs.declared.options.Checks.{Checks}

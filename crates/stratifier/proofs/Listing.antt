@@ -9,7 +9,7 @@ use Rattle.plan_model.specs.declared.schemas.MethodPlan.{MethodPlan}
 use Rattle.plan_model.specs.declared.values.Compiled.{Compiled}
 use Rattle.plan_model.specs.Parts.{IsMarked}
 use Rattle.task_networks.specs.Bound.{IsReached}
-use Rattle.task_networks.proofs.Lists.{not-in_empty, head_or_tail, Contains-here, Contains-later}
+use Rattle.task_networks.proofs.Lists.{not-in_empty, head_or_tail, Contains-here}
 use Rattle.plan_meaning.specs.Network.{top_task}
 use Rattle.plan_meaning.specs.Schemas.{Schema, task, schemas, schema_of}
 use Rattle.plan_meaning.specs.Strata.{Edge, IsEdge, AreEdges, IsReachedTask}
