@@ -1,0 +1,4 @@
+pub mod Networks
+pub mod Parts
+pub mod Sections
+pub mod Definitions
