@@ -6,8 +6,8 @@ use Rattle.task_networks.specs.Strata as Walks
 use Rattle.task_networks.proofs.Lists.{not-in_empty, head_or_tail, Contains-here, Contains-later}
 use Rattle.task_networks.proofs.StrataLaws.{named_cycle_is_the_only_one}
 use Rattle.plan_meaning.specs.Strata.{Edge, IsEarlier, AreEdges, source, target, IsBad}
+use Rattle.plan_meaning.proofs.EdgesInOrder.{AreInOrder}
 use Rattle.bound_laws.specs.Laws.{NamedCycleIsTheOnlyOne}
-use Rattle.bound_laws.proofs.EdgesExist.{AreInOrder}
 
 earlier_then : (d e f : Edge) → IsEarlier d e → IsEarlier e f → IsEarlier d f
 earlier_then d e f (inl a) (inl b) = inl (omega arith)

@@ -3,7 +3,7 @@ use Rattle.std.proofs.Common.{ℕ, zero, suc, ◌≡◌, ◌+◌, ◌*◌, ◌<�
 use Rattle.std.proofs.Math.Nat.{mul-le-mul_left}
 use Rattle.std.proofs.lemmas.List.{length-map}
 use Rattle.std.proofs.lemmas.List.Elements.{All-contains, All-append, All-map, Contains-get_or, Contains-append_left, Contains-append_right}
-use Rattle.task_networks.specs.Order.{ArePairsOf, IsAcyclic}
+use Rattle.task_networks.specs.Order.{IsAcyclic}
 use Rattle.htn_base.specs.Different.{AreDifferent}
 use Rattle.task_networks.specs.Spelling.{numbers}
 use Rattle.std.proofs.lemmas.Bool.{eq-eqb, cases_eq, true≢false}
@@ -21,11 +21,9 @@ use Rattle.plan_model.specs.Pairs.{pair, Pairs}
 use Rattle.plan_meaning.specs.Laws.{AreOrdered}
 use Rattle.plan_meaning.proofs.Pairs.{pairs_within, pairs_acyclic}
 use Rattle.net_order.specs.Meaning.{AreBelow}
+use Rattle.net_order.proofs.Chains.{below_from_pairs}
 use Rattle.method_precs.specs.Pairs.{shifted}
 use Rattle.method_precs.specs.Small.{IsFit}
-
-pub below_from_pairs : (count : ℕ) (ps : List Pair) → ArePairsOf (Pairs ps) count → AreBelow count ps
-below_from_pairs count ps w k d l = w (get_or ps k d).first (get_or ps k d).then (Contains-get_or ps k d l)
 
 eqb_same : (n : ℕ) → nat_eq n n ≡ true
 eqb_same n = eq-eqb n n refl

@@ -7,9 +7,11 @@ pub mod BlockNumbers
 pub mod BoundParts
 pub mod BoundIsOne
 pub mod BoundLaws
+pub mod EdgesInOrder
 -- Truth and effects, worked out.
 pub mod TruthEquations
 pub mod EffectEquations
 pub mod ListedItems
 pub mod EachPart
+pub mod Once
 pub mod examples

@@ -30,10 +30,12 @@ use Rattle.small_reader.specs.declared.written.WrittenProblem.{WrittenProblem}
 use Rattle.small_reader.specs.declared.schemas.Declarations.{Declarations}
 use Rattle.small_reader.specs.declared.written.Section.{Section}
 use Rattle.small_reader.specs.Binding.{children_of, method_schema, place_of, IsHead, IsNamed, IsTaskOf, IsActionOf, IsCalled, IsSubtaskOf, IsMethodOf, IsTopOf, AreSchemas}
-use Rattle.small_reader.specs.Tables.{Extends, Together}
+use Rattle.small_reader.specs.Tables.{Extends}
+use Rattle.plan_texts.specs.Together.{Together}
 use Rattle.small_reader.specs.Written.{task_of, action_of, method_of, subtask_part, subtask_parts, method_entries, method_part}
 use Rattle.small_reader.proofs.SchemaLemmas.{word-said, named-name, named-later, task-later, action-later, no-condition}
-use Rattle.small_reader.proofs.Tables.{says_later, extends_then, get-within, get-behind, together-map}
+use Rattle.small_reader.proofs.Tables.{says_later, extends_then, get-within, get-behind}
+use Rattle.plan_texts.proofs.Together.{together-map}
 
 has-behind : (us ws : List Word) (w : Word) → Has ws w → Has (us ++ ws) w
 has-behind [] ws w h = h

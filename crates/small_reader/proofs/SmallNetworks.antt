@@ -21,11 +21,11 @@ use Rattle.plan_model.specs.declared.values.Hddl.{Hddl}
 use Rattle.small_reader.specs.declared.written.Section.{Section}
 use Rattle.small_reader.specs.Binding.{children_of, method_schema, hddl_of, IsTaskOf, IsActionOf, IsMethodOf, IsRead}
 use Rattle.small_reader.specs.Rest.{word_of}
-use Rattle.small_reader.specs.Tables.{Together}
+use Rattle.plan_texts.specs.Together.{Together}
 use Rattle.small_reader.specs.Written.{task_of, action_of, method_of}
 use Rattle.small_reader.proofs.SchemaLemmas.{each-from}
 use Rattle.small_reader.proofs.Sound.{sound}
-use Rattle.small_reader.proofs.Tables.{together-length}
+use Rattle.plan_texts.proofs.Together.{together-length}
 
 -- a method with at most one subtask and nothing else
 abbrev IsBare : MethodSchema → Type 0

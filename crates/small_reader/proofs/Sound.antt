@@ -32,9 +32,9 @@ use Rattle.small_reader.specs.declared.written.WrittenProblem.{WrittenProblem}
 use Rattle.small_reader.specs.Rest.{word_of}
 use Rattle.small_reader.specs.Written.{task_of, action_of, method_of}
 use Rattle.small_reader.specs.Binding.{children_of, method_schema, IsHead, IsNamed, IsTaskOf, IsActionOf, IsCalled, IsSubtaskOf, IsMethodOf, IsTopOf, AreSchemas, AreTitles, hddl_of, IsRead}
-use Rattle.small_reader.specs.Tables.{Together}
+use Rattle.plan_texts.specs.Together.{Together}
 use Rattle.small_reader.proofs.SchemaLemmas.{word-said, named-plain, each-from, each-word, same-words, partner}
-use Rattle.small_reader.proofs.Tables.{together-length}
+use Rattle.plan_texts.proofs.Together.{together-length}
 use Rattle.small_reader.proofs.Spelled.{task-words, action-words, one-type}
 
 module _ (v : Declared) (counts : List ℕ) (scope : List Word) where

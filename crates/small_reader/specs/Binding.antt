@@ -24,7 +24,8 @@ use Rattle.small_reader.specs.declared.written.Section.{Section}
 use Rattle.small_reader.specs.declared.written.WrittenMethod.{WrittenMethod}
 use Rattle.small_reader.specs.declared.written.WrittenDomain.{WrittenDomain}
 use Rattle.small_reader.specs.declared.written.WrittenProblem.{WrittenProblem}
-use Rattle.small_reader.specs.Tables.{Says, Extends, Together}
+use Rattle.small_reader.specs.Tables.{Says, Extends}
+use Rattle.plan_texts.specs.Together.{Together}
 use Rattle.small_reader.specs.Written.{task_of, action_of, method_of, domain_part, problem_part}
 use Rattle.small_reader.specs.Rest.{word_of}
 

@@ -29,6 +29,24 @@ use Rattle.slot_encoding.proofs.words.PlainWords.{is_generated, escape_is_none, 
 use Rattle.slot_encoding.proofs.words.TableWords.{named-name, words-named, words-made}
 use Rattle.slot_encoding.proofs.words.PrintedWords.{printed_words, printed_arities}
 
+-- the words
+module _ (c : Compiled) (names : List Word) (b : ℕ) (known : EachIs (Has names) (type_words c)) where
+  abbrev with_names : List Name → Compiled
+  with_names ns = record c { hddl = record c.hddl { types = record c.hddl.types { names = ns } } }
+
+  pub types-named : Declared.type_words names (encoded_types c names b) ≡ type_words c
+  types-named = go c.hddl.types.names known
+    where
+      go : (ns : List Name) → EachIs (Has names) (codes "object" ∷ codes "htn_slot" ∷ codes "htn_object" ∷ own_types c ns)
+          → Declared.type_words names (encoded_types (with_names ns) names b) ≡ codes "object" ∷ codes "htn_slot" ∷ codes "htn_object" ∷ own_types c ns
+      go [] k =
+          let e = words-named names (λ (w : Word). w) (codes "object" ∷ codes "htn_slot" ∷ codes "htn_object" ∷ []) (λ w h. each-has (Has names) (codes "object" ∷ codes "htn_slot" ∷ codes "htn_object" ∷ []) w k h) in
+          e
+      go (n ∷ others) (o, (s, (t, k))) =
+          let e = words-named names (λ (w : Word). w) (codes "object" ∷ codes "htn_slot" ∷ codes "htn_object" ∷ []) (λ w h. each-has (Has names) (codes "object" ∷ codes "htn_slot" ∷ codes "htn_object" ∷ []) w (o, (s, (t, tt))) h) in
+          let r = words-made (λ (x : Name). name names (own_word c x)) (named names) (own_word c) others (λ x h. named-name (own_word c x) names (each-has (Has names) (map (own_word c) others) (own_word c x) k (has-to_map (own_word c) others x h))) in
+          (λ i. word_at (e i) 0 ∷ word_at (e i) 1 ∷ word_at (e i) 2 ∷ r i)
+
 module _ (c : Compiled) (names : List Word) (b : ℕ) (sound : IsSoundHddl c.hddl) (known : EachIs (Has names) (type_words c)) where
   abbrev source : Types
   source = c.hddl.types
@@ -49,23 +67,6 @@ module _ (c : Compiled) (names : List Word) (b : ℕ) (sound : IsSoundHddl c.hdd
   retyped_within zero l = let h = count-types in omega arith
   retyped_within (suc t) l = let h = count-types in omega arith
 
-  -- the words
-  abbrev with_names : List Name → Compiled
-  with_names ns = record c { hddl = record c.hddl { types = record c.hddl.types { names = ns } } }
-
-  pub types-named : Declared.type_words names (encoded_types c names b) ≡ type_words c
-  types-named = go source.names known
-    where
-      go : (ns : List Name) → EachIs (Has names) (codes "object" ∷ codes "htn_slot" ∷ codes "htn_object" ∷ own_types c ns)
-          → Declared.type_words names (encoded_types (with_names ns) names b) ≡ codes "object" ∷ codes "htn_slot" ∷ codes "htn_object" ∷ own_types c ns
-      go [] k =
-          let e = words-named names (λ (w : Word). w) (codes "object" ∷ codes "htn_slot" ∷ codes "htn_object" ∷ []) (λ w h. each-has (Has names) (codes "object" ∷ codes "htn_slot" ∷ codes "htn_object" ∷ []) w k h) in
-          e
-      go (n ∷ others) (o, (s, (t, k))) =
-          let e = words-named names (λ (w : Word). w) (codes "object" ∷ codes "htn_slot" ∷ codes "htn_object" ∷ []) (λ w h. each-has (Has names) (codes "object" ∷ codes "htn_slot" ∷ codes "htn_object" ∷ []) w (o, (s, (t, tt))) h) in
-          let r = words-made (λ (x : Name). name names (own_word c x)) (named names) (own_word c) others (λ x h. named-name (own_word c x) names (each-has (Has names) (map (own_word c) others) (own_word c x) k (has-to_map (own_word c) others x h))) in
-          (λ i. word_at (e i) 0 ∷ word_at (e i) 1 ∷ word_at (e i) 2 ∷ r i)
-
   plain : EachIs IsPlain (type_words c)
   plain = ((refl, refl), ((refl, refl), ((refl, refl), go source.names sound.words.types)))
     where
@@ -74,7 +75,7 @@ module _ (c : Compiled) (names : List Word) (b : ℕ) (sound : IsSoundHddl c.hdd
       go (n ∷ others) p = each-map IsPlain (own_word c) others (λ x h. plain-escaped (named c.hddl.names x) (each-has (λ (x : Name). IsPlain (named c.hddl.names x)) others x (each-of_map IsPlain (named c.hddl.names) others p.1) h))
 
   pub types_plain : EachIs IsPlain (Declared.type_words names (encoded_types c names b))
-  types_plain = subst (EachIs IsPlain) (sym types-named) plain
+  types_plain = subst (EachIs IsPlain) (sym (types-named c names b known)) plain
 
   no_escape : (w u : Word) → is_generated w ≡ true → w ≡ escaped u → ⊥
   no_escape w u g e = true≢false (sym g ∙ ap is_generated e ∙ escape_is_none u)
@@ -96,10 +97,10 @@ module _ (c : Compiled) (names : List Word) (b : ℕ) (sound : IsSoundHddl c.hdd
       )
 
   pub types_differ : AreDifferent (Declared.type_words names (encoded_types c names b))
-  types_differ = subst AreDifferent (sym types-named) differ
+  types_differ = subst AreDifferent (sym (types-named c names b known)) differ
 
   pub first_type : word_at (Declared.type_words names (encoded_types c names b)) 0 ≡ codes "object"
-  first_type = ap (λ ws. word_at ws 0) types-named
+  first_type = ap (λ ws. word_at ws 0) (types-named c names b known)
 
   -- unions
   abbrev v : Declared
