@@ -3,6 +3,7 @@ pub mod Pairs
 pub mod MethodParts
 pub mod CompiledNetworks
 pub mod ClassicalLaws
+pub mod FailingLaws
 pub mod BlockNumbers
 pub mod BoundParts
 pub mod BoundIsOne
@@ -12,4 +13,5 @@ pub mod TruthEquations
 pub mod EffectEquations
 pub mod ListedItems
 pub mod EachPart
+pub mod SameStates
 pub mod examples
