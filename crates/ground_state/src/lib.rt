@@ -7,10 +7,15 @@
 mod change;
 mod env;
 mod gather;
+mod kinds;
+mod need;
+mod places;
 mod state;
 mod step;
 mod truth;
+mod verdict;
 
 pub use env::Env;
 pub use state::State;
 pub use truth::holds;
+pub use verdict::{FailWhy, Verdict};
