@@ -10,3 +10,5 @@ pub mod GatherCases
 pub mod KindLaws
 pub mod NeedLaws
 pub mod PlaceLaws
+pub mod IndexLaws
+pub mod RunLaws

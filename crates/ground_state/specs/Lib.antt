@@ -5,3 +5,4 @@ pub mod Search
 pub mod Kinds
 pub mod Needs
 pub mod Places
+pub mod Runs
