@@ -2,6 +2,7 @@
 use Rattle.std.proofs.Common.{ℕ, ◌≡◌, ◌+◌, ◌<◌, ◌≤◌, ◌↔◌, ◌++◌, inl, inr, List, [], ◌∷◌, length, get_or, take, drop, Contains, Option, Some, None, refl, ap, sym, subst, ◌∙◌, arith, append_assoc, take-append-drop, length-take-le}
 use Rattle.std.proofs.lemmas.List.{take_more, take_all}
 use Rattle.plan_model.specs.declared.terms.GroundAtom.{GroundAtom}
+use Rattle.plan_model.specs.declared.terms.Param.{Param}
 use Rattle.plan_model.specs.declared.schemas.ActionSchema.{ActionSchema}
 use Rattle.plan_model.specs.declared.steps.GroundAction.{GroundAction}
 use Rattle.plan_model.specs.declared.values.Pddl.{Pddl}
@@ -18,6 +19,9 @@ use Rattle.ground_state.specs.Needs.{HasRoom, HasRoomForAll}
 use Rattle.ground_state.specs.States.{atoms, Has}
 use Rattle.ground_state.specs.Runs.{AreArguments, HasRoomIn, IsAsRoomy, IsTaken}
 use Rattle.ground_state.proofs.IndexLaws.{typed_length}
+
+pub same_arguments : (p : Pddl) (ps qs : List Param) (ws vs : List (List ℕ)) (os : List ℕ) → ps ≡ qs → ws ≡ vs → AreArguments p ps ws os → AreArguments p qs vs os
+same_arguments p ps qs ws vs os e f a = subst (λ us. AreArguments p qs us os) f (subst (λ xs. AreArguments p xs ws os) e a)
 
 -- the room is the same, and so is what has room in it
 pub still_roomy : (p : Pddl) (old new : Frame) → IsAsRoomy old new → HasRoomIn p old → HasRoomIn p new
@@ -41,13 +45,13 @@ module _ (p : Pddl) (step : GroundAction) (a : ActionSchema) (named : IsNamed p 
         go b os i = none os (i.objects_are, subst (λ (d : ActionSchema). AreTyped (InTypeOf p) d.params os) (apart.actions b a step i.named named) i.typed)
 
     pub condition_fails : (os : List ℕ) → AreArguments p a.params step.args os → (IsTrueIn (InTypeOf p) S a.pre os → ⊥) → FailsIn p step condition S
-    condition_fails os args no = ((a, os, record { named = named; objects_are = args.0; typed = args.1 }), λ allowed. go allowed.0 allowed.1 allowed.2)
+    condition_fails os args wrong = ((a, os, record { named = named; objects_are = args.0; typed = args.1 }), λ allowed. go allowed.0 allowed.1 allowed.2)
       where
         go : (b : ActionSchema) (us : List ℕ) → IsApplicable p S step b us → ⊥
         go b us i =
             let f = apart.actions b a step (record { action = i.action; name = i.name }) named in
             let g = same_objects p apart us os step.args i.objects_are args.0 in
-            no (subst (λ vs. IsTrueIn (InTypeOf p) S a.pre vs) g (subst (λ (d : ActionSchema). IsTrueIn (InTypeOf p) S d.pre us) f i.condition))
+            wrong (subst (λ vs. IsTrueIn (InTypeOf p) S a.pre vs) g (subst (λ (d : ActionSchema). IsTrueIn (InTypeOf p) S d.pre us) f i.condition))
 
 module _ (p : Pddl) where
   abbrev I : truth.State
