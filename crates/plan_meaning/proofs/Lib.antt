@@ -3,6 +3,7 @@ pub mod Pairs
 pub mod MethodParts
 pub mod CompiledNetworks
 pub mod ClassicalLaws
+pub mod FailingLaws
 pub mod BlockNumbers
 pub mod BoundParts
 pub mod BoundIsOne
@@ -14,4 +15,5 @@ pub mod EffectEquations
 pub mod ListedItems
 pub mod EachPart
 pub mod Once
+pub mod SameStates
 pub mod examples
