@@ -8,7 +8,9 @@ use Rattle.std.proofs.lemmas.List.{take_more, map-append}
 use Rattle.std.proofs.lemmas.List.Quantifiers.{position-Some}
 use Rattle.std.proofs.lemmas.Slice.Eq.{bytes_eq-Decides}
 use Rattle.htn_base.specs.declared.name.Name.{Name}
-use Rattle.htn_base.specs.Table.{number_of, AllDiffer, IsTable}
+use Rattle.htn_base.specs.Different.{AreDifferent}
+use Rattle.htn_base.specs.Table.{number_of, IsTable}
+use Rattle.htn_base.proofs.DifferentLemmas.{different-places}
 use Rattle.ground_state.specs.Places.{HasNumber, HasWordAt, AreFirstPlaces, ArePlaces, Finds}
 
 abbrev pub IsPlaceOf : ℕ → List Name → ℕ → Option ℕ → Type 0
@@ -76,15 +78,15 @@ word_numbered table word n e =
 pub not_numbered : (table : List (List ℕ)) (word : List ℕ) (n : ℕ) → number_of table word ≡ None → slice_get table n ≡ Some word → ⊥
 not_numbered table word n e f = let g : None ≡ Some (position_or_len (bytes_eq word) table) = sym e ∙ word_numbered table word n f in absurd cc
 
-pub one_place : (table : List (List ℕ)) (word : List ℕ) (n m : ℕ) → AllDiffer table → slice_get table n ≡ Some word → slice_get table m ≡ Some word → n ≡ m
+pub one_place : (table : List (List ℕ)) (word : List ℕ) (n m : ℕ) → AreDifferent table → slice_get table n ≡ Some word → slice_get table m ≡ Some word → n ≡ m
 one_place table word n m differ e f =
     let a = slice_get_within table n word e in
     let b = slice_get_within table m word f in
     let same : get_or table n [] ≡ get_or table m [] = get_or_from_slice_get table n word [] e ∙ sym (get_or_from_slice_get table m word [] f) in
     elim (cases_lt n m) [
-      | inl l ↦ absurd (differ n m [] l b same)
+      | inl l ↦ absurd (different-places table differ n m [] l b same)
       | inr l ↦ elim (cases_lt m n) [
-        | inl k ↦ absurd (differ m n [] k a (sym same))
+        | inl k ↦ absurd (different-places table differ m n [] k a (sym same))
         | inr k ↦ omega arith
       ]
     ]
@@ -94,7 +96,7 @@ pub finds_none : (table : List (List ℕ)) (places : List (Option ℕ)) (word : 
 finds_none table places word e names are k (x, f, g) = not_numbered table word x.number e g
 
 -- where it has one, the place of the number is that of the word
-pub finds_at : (table : List (List ℕ)) (places : List (Option ℕ)) (word : List ℕ) (n : ℕ) (place : Option ℕ) → AllDiffer table → number_of table word ≡ Some n → slice_get places n ≡ Some place → Finds table places word place
+pub finds_at : (table : List (List ℕ)) (places : List (Option ℕ)) (word : List ℕ) (n : ℕ) (place : Option ℕ) → AreDifferent table → number_of table word ≡ Some n → slice_get places n ≡ Some place → Finds table places word place
 finds_at table places word n place differ e at names are = go place (subst (IsPlaceOf (length names) names n) (get_or_from_slice_get places n place None at) (are.each n (slice_get_within places n place at)))
   where
     there : slice_get table n ≡ Some word

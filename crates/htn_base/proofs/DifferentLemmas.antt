@@ -1,5 +1,7 @@
 -- Lists of different elements: one element, one more, and parts.
-use Rattle.std.proofs.Common.{zero, suc, ◌≡◌, inl, inr, List, [], ◌∷◌, ◌++◌, sym, Contains, arith}
+use Rattle.std.proofs.Common.{zero, suc, ◌≡◌, ◌≢◌, inl, inr, List, [], ◌∷◌, ◌++◌, sym, ◌∙◌, Contains, arith}
+use Rattle.std.specs.List.{AllPairs}
+use Rattle.std.proofs.lemmas.List.{get_or_default}
 use Rattle.std.proofs.lemmas.List.Elements.{Contains-append_left, Contains-append_cases}
 use Rattle.htn_base.specs.Different.{AreDifferent}
 
@@ -23,3 +25,11 @@ different-left (x ∷ xs) ys d = (λ c. d.0 (Contains-append_left xs ys x c), di
 pub different-right : {A : Type 0} (xs ys : List A) → AreDifferent (xs ++ ys) → AreDifferent ys
 different-right [] ys d = d
 different-right (x ∷ xs) ys d = different-right xs ys d.1
+
+-- of two places
+pub different-places : {A : Type 0} (xs : List A) → AreDifferent xs → AllPairs (λ one other. one ≢ other) xs
+different-places [] h j k d l m = absurd (omega arith)
+different-places (x ∷ xs) h zero zero d l m = absurd (omega arith)
+different-places (x ∷ xs) h zero (suc k) d l m = λ e. h.0 (k, omega arith, get_or_default xs k x d (omega arith) ∙ sym e)
+different-places (x ∷ xs) h (suc j) zero d l m = absurd (omega arith)
+different-places (x ∷ xs) h (suc j) (suc k) d l m = different-places xs h.1 j k d (omega arith) (omega arith)
