@@ -1,0 +1,2 @@
+//! The bound of a compiled problem.
+#![tactic(auto)]
