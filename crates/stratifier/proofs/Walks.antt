@@ -10,7 +10,7 @@ use Rattle.plan_model.specs.declared.schemas.MethodPlan.{MethodPlan}
 use Rattle.plan_model.specs.declared.values.Compiled.{Compiled}
 use Rattle.plan_model.specs.Parts.{IsMarked}
 use Rattle.plan_model.proofs.Marks.{marked_within}
-use Rattle.stratifier.specs.Conditions.{AreSmall, IsNumbered}
+use Rattle.stratifier.specs.Conditions.{IsSmallCompiled, IsNumbered}
 use Rattle.task_networks.specs.Bound.{IsReached, itself, as_child}
 use Rattle.task_networks.proofs.Lists.{not-in_empty}
 use Rattle.plan_meaning.specs.Network.{top_task}
@@ -134,7 +134,7 @@ module _ (c : Compiled) where
       let r = w.room in
       omega arith
 
-  pub next_within : AreSmall c → (methods : List MethodPlan) (places : List ℕ) → methods ≡ c.methods → (t : ℕ) → IsSubtaskOf methods places t → t ≤ top_task c
+  pub next_within : IsSmallCompiled c → (methods : List MethodPlan) (places : List ℕ) → methods ≡ c.methods → (t : ℕ) → IsSubtaskOf methods places t → t ≤ top_task c
   next_within small methods places e t (m, k, plan, f, s) =
       let g = ap (λ ms. slice_get ms m) (sym e) ∙ f in
       let n = small.numbered m plan (slice_get_within c.methods m plan g) in

@@ -3,3 +3,4 @@ pub mod Conditions
 pub mod Entered
 pub mod Listed
 pub mod Bad
+pub mod Stratified

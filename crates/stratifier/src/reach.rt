@@ -1,6 +1,6 @@
 ghost use Rattle.std.specs.Prelude.{◌≡◌, ℕ, ◌+◌, ◌<◌, ◌≤◌, ◌↔◌, All, length, IfOk, OnOk, slice_index_or, false, [], ◌∷◌};
 ghost use Rattle.plan_meaning.specs.Strata.{IsReachedTask};
-ghost use Rattle.stratifier.specs.Conditions.{AreSmall};
+ghost use Rattle.stratifier.specs.Conditions.{IsSmallCompiled};
 ghost use Rattle.stratifier.specs.Links.{IsSubtask, IsSubtaskOf};
 ghost use Rattle.stratifier.specs.Entered.{AreEntered};
 ghost use Rattle.plan_model.specs.Parts.{IsMarked};
@@ -12,7 +12,7 @@ use std::alloc::Global;
 
 /// A mark for each task, the top task too: whether it is reached from the top.
 pub fn reached(alloc: Global, c: &Compiled) -> Result<Vec<bool>, Memory>
-    requires small { AreSmall c.now }
+    requires small { IsSmallCompiled c.now }
     ensures room { IfOk result (λ marks. length marks.items ≡ length c.now.hddl.tasks + 1) }
     ensures reached { IfOk result (λ marks. (t : ℕ) → IsMarked marks.items t ↔ IsReachedTask c.now t) }
 {
