@@ -195,8 +195,8 @@ module _ (Pair : ℕ → ℕ → Type 0) (line : List ℕ) (different : AreDiffe
   }
 
   -- the block of the next: a new one after a cut, with all that stand from there on
-  record Starts (k start : ℕ) : Type 0 where
-    is : start + k ≡ sum_by (counted (at k)) (take k line) + length line
+  pub record Starts (k start : ℕ) : Type 0 where
+    pub is : start + k ≡ sum_by (counted (at k)) (take k line) + length line
 
   pub starts_new : (k start : ℕ) → k < length line → IsCut Pair line k → start + k ≡ length line → Starts k start
   starts_new k start l cut e = record { is = (let a = sum_zeros (counted (at k)) (take k line) (λ x c. before_block (at k) (block x) (number x) (parts k x (get_or line k 0) cut c (at_drop k line l))) in omega arith) }
@@ -206,3 +206,59 @@ module _ (Pair : ℕ → ℕ → Type 0) (line : List ℕ) (different : AreDiffe
 
   pub starts_same : (k pending greatest : ℕ) → suc k < length line → (IsCut Pair line (suc k) → ⊥) → IsSummed (suc k) pending greatest → Starts (suc k) pending
   starts_same k pending greatest l none h = record { is = subst (λ b. pending + suc k ≡ sum_by (counted b) (take (suc k) line) + length line) (stays k l none) (h.sum k refl) }
+
+  -- the next child counts its number, and no longer one
+  adds : (k start new : ℕ) → k < length line → Starts k start → new + 1 ≡ start + number (get_or line k 0) → new + suc k ≡ sum_by (counted (at k)) (take (suc k) line) + length line
+  adds k start new l h e =
+      let a = sum_by_more (counted (at k)) line k 0 l in
+      let b = at_block (at k) (at k) (number (get_or line k 0)) refl in
+      let c = ap (λ n. sum_by (counted (at k)) (take n line)) (let y : k + 1 ≡ suc k = omega arith in y) in
+      let d = h.is in
+      omega arith
+
+  -- so it never exceeds the block's number
+  pub adds_within : (k start new : ℕ) → k < length line → Starts k start → new + 1 ≡ start + number (get_or line k 0) → new ≤ block_sum (at k)
+  adds_within k start new l h e = within k new l (adds k start new l h e)
+
+  -- the block before a cut is whole
+  whole_at_cut : (k pending greatest : ℕ) → suc k < length line → IsCut Pair line (suc k) → IsSummed (suc k) pending greatest → block_sum (at k) ≤ greatest
+  whole_at_cut k pending greatest l cut h =
+      let a = at_end k pending (omega arith) (λ x c. parts (suc k) (get_or line k 0) x cut (at_take k line (omega arith)) c) (h.sum k refl) in
+      let b = h.kept (omega arith) in
+      omega arith
+
+  pub summed_more : (k pending start new greatest more : ℕ) → k < length line → IsSummed k pending greatest → Starts k start → IsCut Pair line k ⊎ (IsCut Pair line k → ⊥)
+      → new + 1 ≡ start + number (get_or line k 0) → greatest ≤ more → new ≤ more → (more ≡ greatest) ⊎ (more ≡ new) → IsSummed (suc k) new more
+  summed_more k pending start new greatest more l h s or_not e p q one = record {
+    first = λ f. absurd (omega arith);
+    sum = λ j f. subst (λ n. new + suc k ≡ sum_by (counted (at n)) (take (suc k) line) + length line) (let y : k ≡ j = omega arith in y) (adds k start new l s e);
+    kept = λ f. q;
+    above = λ x c. elim (take_more k line x c) [ inl d ↦ before x d | inr d ↦ inr (k, refl, ap block d) ];
+    attained = elim one [ inl f ↦ elim h.attained [ inl g ↦ inl (f ∙ g) | inr g ↦ inr (g.0, g.1, (let a = g.2 in omega arith)) ] | inr f ↦ inr (get_or line k 0, drop_in k line _ (at_drop k line l), (let a = adds_within k start new l s e in omega arith)) ];
+  }
+    where
+      before : (x : ℕ) → Contains (take k line) x → (block_sum (block x) ≤ more) ⊎ ((j : ℕ) × (suc k ≡ suc j) × (block x ≡ at j))
+      before x d = elim (h.above x d) [ inl f ↦ inl (omega arith) | inr f ↦ last f.0 f.1 f.2 ]
+        where
+          last : (j : ℕ) → k ≡ suc j → block x ≡ at j → (block_sum (block x) ≤ more) ⊎ ((i : ℕ) × (suc k ≡ suc i) × (block x ≡ at i))
+          last j f g = elim or_not [
+            | inl cut ↦ inl (
+            let a = whole_at_cut j pending greatest (omega arith) (subst (IsCut Pair line) f cut) (subst (λ n. IsSummed n pending greatest) f h) in
+            let b = ap block_sum g in
+            omega arith)
+            | inr none ↦ inr (k, refl, g ∙ stays j (omega arith) (λ cut. none (subst (IsCut Pair line) (sym f) cut)) ∙ ap at (sym f))
+          ]
+
+  -- over the whole line
+  pub summed_above : (pending greatest x : ℕ) → IsSummed (length line) pending greatest → Contains line x → block_sum (block x) ≤ greatest
+  summed_above pending greatest x h c = elim (h.above x (all_taken line x c)) [ inl f ↦ f | inr f ↦ last f.0 f.1 f.2 ]
+    where
+      last : (j : ℕ) → length line ≡ suc j → block x ≡ at j → block_sum (block x) ≤ greatest
+      last j f g =
+          let a = at_end j pending (omega arith) (λ y d. absurd (none y (subst (λ n. Contains (drop n line) y) (sym f) d))) (subst (λ n. pending + n ≡ sum_by (counted (at j)) (take n line) + length line) f (h.sum j f)) in
+          let b = h.kept (omega arith) in
+          let d = ap block_sum g in
+          omega arith
+        where
+          none : (y : ℕ) → Contains (drop (length line) line) y → ⊥
+          none y d = let k = length-drop (length line) line in let m = d.1 in omega arith

@@ -1,1 +1,3 @@
 pub mod Along
+pub mod LineSums
+pub mod Steps
