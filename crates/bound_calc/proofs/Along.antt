@@ -85,6 +85,31 @@ module _ (f : ℕ → ℕ) where
   sum_positive [] h = omega arith
   sum_positive (x ∷ xs) h = let a = h x (Contains-here x xs) in let b = sum_positive xs (λ y c. h y (Contains-later x xs y c)) in omega (arith, sum_by-cons f x xs)
 
+module _ (line : List ℕ) (number block : ℕ → ℕ) where
+  -- what child x counts in block b
+  abbrev pub counted : ℕ → ℕ → ℕ
+  counted b x = weight b (block x) (number x)
+
+  -- the number of block b
+  abbrev pub block_sum : ℕ → ℕ
+  block_sum b = sum_by (counted b) line
+
+  -- the block of the child at place k
+  abbrev pub at : ℕ → ℕ
+  at k = block (get_or line k 0)
+
+  -- the sum so far, over the first k of the line
+  pub record IsSummed (k pending greatest : ℕ) : Type 0 where
+    pub first : k ≡ 0 → pending ≡ length line
+    pub sum : (j : ℕ) → k ≡ suc j → pending + k ≡ sum_by (counted (at j)) (take k line) + length line
+    pub kept : 0 < k → pending ≤ greatest
+    pub above : (x : ℕ) → Contains (take k line) x → (block_sum (block x) ≤ greatest) ⊎ ((j : ℕ) × (k ≡ suc j) × (block x ≡ at j))
+    pub attained : (greatest ≡ 1) ⊎ ((x : ℕ) × Contains line x × (greatest ≤ block_sum (block x)))
+
+  -- the block of the next: a new one after a cut, with all that stand from there on
+  pub record Starts (k start : ℕ) : Type 0 where
+    pub is : start + k ≡ sum_by (counted (at k)) (take k line) + length line
+
 module _ (Pair : ℕ → ℕ → Type 0) (line : List ℕ) (different : AreDifferent line) (number : ℕ → ℕ) (positive : (x : ℕ) → Contains line x → 1 ≤ number x) (block : ℕ → ℕ) (are : AreBlocks Pair line block) where
   -- blocks rise along the line
   rises : (k x y : ℕ) → Contains (take k line) x → Contains (drop k line) y → block x ≤ block y
@@ -141,51 +166,31 @@ module _ (Pair : ℕ → ℕ → Type 0) (line : List ℕ) (different : AreDiffe
       go (inr (inl e)) = e
       go (inr (inr m)) = absurd (let h = up in omega arith)
 
-  -- what child x counts in block b
-  abbrev pub counted : ℕ → ℕ → ℕ
-  counted b x = weight b (block x) (number x)
-
-  -- the number of block b
-  abbrev pub block_sum : ℕ → ℕ
-  block_sum b = sum_by (counted b) line
-
-  counts_positive : (b x : ℕ) → Contains line x → b ≤ block x → 1 ≤ counted b x
+  counts_positive : (b x : ℕ) → Contains line x → b ≤ block x → 1 ≤ counted line number block b x
   counts_positive b x c l = go (by_size (block x) b)
     where
-      go : (block x < b) ⊎ ((block x ≡ b) ⊎ (b < block x)) → 1 ≤ counted b x
+      go : (block x < b) ⊎ ((block x ≡ b) ⊎ (b < block x)) → 1 ≤ counted line number block b x
       go (inl m) = absurd (omega arith)
       go (inr (inl e)) = let a = at_block b (block x) (number x) e in let p = positive x c in omega arith
       go (inr (inr m)) = let a = after_block b (block x) (number x) m in omega arith
 
-  -- what is pending once the first k are there, of the block that holds the last of them
-  abbrev pub at : ℕ → ℕ
-  at k = block (get_or line k 0)
-
   -- what has been summed at place k never exceeds the block's number
-  pub within : (k pending : ℕ) → k < length line → pending + suc k ≡ sum_by (counted (at k)) (take (suc k) line) + length line → pending ≤ block_sum (at k)
+  pub within : (k pending : ℕ) → k < length line → pending + suc k ≡ sum_by (counted line number block (at line number block k)) (take (suc k) line) + length line → pending ≤ block_sum line number block (at line number block k)
   within k pending l e =
-      let a = sum_by-take-drop (counted (at k)) line (suc k) in
-      let b = sum_positive (counted (at k)) (drop (suc k) line) (λ x c. counts_positive (at k) x (drop_in (suc k) line x c) (rises (suc k) (get_or line k 0) x (at_take k line l) c)) in
+      let a = sum_by-take-drop (counted line number block (at line number block k)) line (suc k) in
+      let b = sum_positive (counted line number block (at line number block k)) (drop (suc k) line) (λ x c. counts_positive (at line number block k) x (drop_in (suc k) line x c) (rises (suc k) (get_or line k 0) x (at_take k line l) c)) in
       let d = length-drop (suc k) line in
       omega arith
 
   -- and is the block's number at its end
-  at_end : (k pending : ℕ) → k < length line → ((x : ℕ) → Contains (drop (suc k) line) x → at k < block x) → pending + suc k ≡ sum_by (counted (at k)) (take (suc k) line) + length line → block_sum (at k) ≤ pending
+  at_end : (k pending : ℕ) → k < length line → ((x : ℕ) → Contains (drop (suc k) line) x → at line number block k < block x) → pending + suc k ≡ sum_by (counted line number block (at line number block k)) (take (suc k) line) + length line → block_sum line number block (at line number block k) ≤ pending
   at_end k pending l ends e =
-      let a = sum_by-take-drop (counted (at k)) line (suc k) in
-      let b = sum_ones (counted (at k)) (drop (suc k) line) (λ x c. after_block (at k) (block x) (number x) (ends x c)) in
+      let a = sum_by-take-drop (counted line number block (at line number block k)) line (suc k) in
+      let b = sum_ones (counted line number block (at line number block k)) (drop (suc k) line) (λ x c. after_block (at line number block k) (block x) (number x) (ends x c)) in
       let d = length-drop (suc k) line in
       omega arith
 
-  -- the sum so far, over the first k of the line
-  pub record IsSummed (k pending greatest : ℕ) : Type 0 where
-    pub first : k ≡ 0 → pending ≡ length line
-    pub sum : (j : ℕ) → k ≡ suc j → pending + k ≡ sum_by (counted (at j)) (take k line) + length line
-    pub kept : 0 < k → pending ≤ greatest
-    pub above : (x : ℕ) → Contains (take k line) x → (block_sum (block x) ≤ greatest) ⊎ ((j : ℕ) × (k ≡ suc j) × (block x ≡ at j))
-    pub attained : (greatest ≡ 1) ⊎ ((x : ℕ) × Contains line x × (greatest ≤ block_sum (block x)))
-
-  pub summed_none : IsSummed 0 (length line) 1
+  pub summed_none : IsSummed line number block 0 (length line) 1
   summed_none = record {
     first = λ e. refl;
     sum = λ j e. absurd (omega arith);
@@ -194,70 +199,66 @@ module _ (Pair : ℕ → ℕ → Type 0) (line : List ℕ) (different : AreDiffe
     attained = inl refl;
   }
 
-  -- the block of the next: a new one after a cut, with all that stand from there on
-  pub record Starts (k start : ℕ) : Type 0 where
-    pub is : start + k ≡ sum_by (counted (at k)) (take k line) + length line
+  pub starts_new : (k start : ℕ) → k < length line → IsCut Pair line k → start + k ≡ length line → Starts line number block k start
+  starts_new k start l cut e = record { is = (let a = sum_zeros (counted line number block (at line number block k)) (take k line) (λ x c. before_block (at line number block k) (block x) (number x) (parts k x (get_or line k 0) cut c (at_drop k line l))) in omega arith) }
 
-  pub starts_new : (k start : ℕ) → k < length line → IsCut Pair line k → start + k ≡ length line → Starts k start
-  starts_new k start l cut e = record { is = (let a = sum_zeros (counted (at k)) (take k line) (λ x c. before_block (at k) (block x) (number x) (parts k x (get_or line k 0) cut c (at_drop k line l))) in omega arith) }
-
-  pub starts_first : (pending greatest : ℕ) → IsSummed 0 pending greatest → Starts 0 pending
+  pub starts_first : (pending greatest : ℕ) → IsSummed line number block 0 pending greatest → Starts line number block 0 pending
   starts_first pending greatest h = record { is = (let a = h.first refl in omega arith) }
 
-  pub starts_same : (k pending greatest : ℕ) → suc k < length line → (IsCut Pair line (suc k) → ⊥) → IsSummed (suc k) pending greatest → Starts (suc k) pending
-  starts_same k pending greatest l none h = record { is = subst (λ b. pending + suc k ≡ sum_by (counted b) (take (suc k) line) + length line) (stays k l none) (h.sum k refl) }
+  pub starts_same : (k pending greatest : ℕ) → suc k < length line → (IsCut Pair line (suc k) → ⊥) → IsSummed line number block (suc k) pending greatest → Starts line number block (suc k) pending
+  starts_same k pending greatest l none h = record { is = subst (λ b. pending + suc k ≡ sum_by (counted line number block b) (take (suc k) line) + length line) (stays k l none) (h.sum k refl) }
 
   -- the next child counts its number, and no longer one
-  adds : (k start new : ℕ) → k < length line → Starts k start → new + 1 ≡ start + number (get_or line k 0) → new + suc k ≡ sum_by (counted (at k)) (take (suc k) line) + length line
+  adds : (k start new : ℕ) → k < length line → Starts line number block k start → new + 1 ≡ start + number (get_or line k 0) → new + suc k ≡ sum_by (counted line number block (at line number block k)) (take (suc k) line) + length line
   adds k start new l h e =
-      let a = sum_by_more (counted (at k)) line k 0 l in
-      let b = at_block (at k) (at k) (number (get_or line k 0)) refl in
-      let c = ap (λ n. sum_by (counted (at k)) (take n line)) (let y : k + 1 ≡ suc k = omega arith in y) in
+      let a = sum_by_more (counted line number block (at line number block k)) line k 0 l in
+      let b = at_block (at line number block k) (at line number block k) (number (get_or line k 0)) refl in
+      let c = ap (λ n. sum_by (counted line number block (at line number block k)) (take n line)) (let y : k + 1 ≡ suc k = omega arith in y) in
       let d = h.is in
       omega arith
 
   -- so it never exceeds the block's number
-  pub adds_within : (k start new : ℕ) → k < length line → Starts k start → new + 1 ≡ start + number (get_or line k 0) → new ≤ block_sum (at k)
+  pub adds_within : (k start new : ℕ) → k < length line → Starts line number block k start → new + 1 ≡ start + number (get_or line k 0) → new ≤ block_sum line number block (at line number block k)
   adds_within k start new l h e = within k new l (adds k start new l h e)
 
   -- the block before a cut is whole
-  whole_at_cut : (k pending greatest : ℕ) → suc k < length line → IsCut Pair line (suc k) → IsSummed (suc k) pending greatest → block_sum (at k) ≤ greatest
+  whole_at_cut : (k pending greatest : ℕ) → suc k < length line → IsCut Pair line (suc k) → IsSummed line number block (suc k) pending greatest → block_sum line number block (at line number block k) ≤ greatest
   whole_at_cut k pending greatest l cut h =
       let a = at_end k pending (omega arith) (λ x c. parts (suc k) (get_or line k 0) x cut (at_take k line (omega arith)) c) (h.sum k refl) in
       let b = h.kept (omega arith) in
       omega arith
 
-  pub summed_more : (k pending start new greatest more : ℕ) → k < length line → IsSummed k pending greatest → Starts k start → IsCut Pair line k ⊎ (IsCut Pair line k → ⊥)
-      → new + 1 ≡ start + number (get_or line k 0) → greatest ≤ more → new ≤ more → (more ≡ greatest) ⊎ (more ≡ new) → IsSummed (suc k) new more
+  pub summed_more : (k pending start new greatest more : ℕ) → k < length line → IsSummed line number block k pending greatest → Starts line number block k start → IsCut Pair line k ⊎ (IsCut Pair line k → ⊥)
+      → new + 1 ≡ start + number (get_or line k 0) → greatest ≤ more → new ≤ more → (more ≡ greatest) ⊎ (more ≡ new) → IsSummed line number block (suc k) new more
   summed_more k pending start new greatest more l h s or_not e p q one = record {
     first = λ f. absurd (omega arith);
-    sum = λ j f. subst (λ n. new + suc k ≡ sum_by (counted (at n)) (take (suc k) line) + length line) (let y : k ≡ j = omega arith in y) (adds k start new l s e);
+    sum = λ j f. subst (λ n. new + suc k ≡ sum_by (counted line number block (at line number block n)) (take (suc k) line) + length line) (let y : k ≡ j = omega arith in y) (adds k start new l s e);
     kept = λ f. q;
     above = λ x c. elim (take_more k line x c) [ inl d ↦ before x d | inr d ↦ inr (k, refl, ap block d) ];
     attained = elim one [ inl f ↦ elim h.attained [ inl g ↦ inl (f ∙ g) | inr g ↦ inr (g.0, g.1, (let a = g.2 in omega arith)) ] | inr f ↦ inr (get_or line k 0, drop_in k line _ (at_drop k line l), (let a = adds_within k start new l s e in omega arith)) ];
   }
     where
-      before : (x : ℕ) → Contains (take k line) x → (block_sum (block x) ≤ more) ⊎ ((j : ℕ) × (suc k ≡ suc j) × (block x ≡ at j))
+      before : (x : ℕ) → Contains (take k line) x → (block_sum line number block (block x) ≤ more) ⊎ ((j : ℕ) × (suc k ≡ suc j) × (block x ≡ at line number block j))
       before x d = elim (h.above x d) [ inl f ↦ inl (omega arith) | inr f ↦ last f.0 f.1 f.2 ]
         where
-          last : (j : ℕ) → k ≡ suc j → block x ≡ at j → (block_sum (block x) ≤ more) ⊎ ((i : ℕ) × (suc k ≡ suc i) × (block x ≡ at i))
+          last : (j : ℕ) → k ≡ suc j → block x ≡ at line number block j → (block_sum line number block (block x) ≤ more) ⊎ ((i : ℕ) × (suc k ≡ suc i) × (block x ≡ at line number block i))
           last j f g = elim or_not [
             | inl cut ↦ inl (
-            let a = whole_at_cut j pending greatest (omega arith) (subst (IsCut Pair line) f cut) (subst (λ n. IsSummed n pending greatest) f h) in
-            let b = ap block_sum g in
+            let a = whole_at_cut j pending greatest (omega arith) (subst (IsCut Pair line) f cut) (subst (λ n. IsSummed line number block n pending greatest) f h) in
+            let b = ap (block_sum line number block) g in
             omega arith)
-            | inr none ↦ inr (k, refl, g ∙ stays j (omega arith) (λ cut. none (subst (IsCut Pair line) (sym f) cut)) ∙ ap at (sym f))
+            | inr none ↦ inr (k, refl, g ∙ stays j (omega arith) (λ cut. none (subst (IsCut Pair line) (sym f) cut)) ∙ ap (at line number block) (sym f))
           ]
 
   -- over the whole line
-  pub summed_above : (pending greatest x : ℕ) → IsSummed (length line) pending greatest → Contains line x → block_sum (block x) ≤ greatest
+  pub summed_above : (pending greatest x : ℕ) → IsSummed line number block (length line) pending greatest → Contains line x → block_sum line number block (block x) ≤ greatest
   summed_above pending greatest x h c = elim (h.above x (all_taken line x c)) [ inl f ↦ f | inr f ↦ last f.0 f.1 f.2 ]
     where
-      last : (j : ℕ) → length line ≡ suc j → block x ≡ at j → block_sum (block x) ≤ greatest
+      last : (j : ℕ) → length line ≡ suc j → block x ≡ at line number block j → block_sum line number block (block x) ≤ greatest
       last j f g =
-          let a = at_end j pending (omega arith) (λ y d. absurd (none y (subst (λ n. Contains (drop n line) y) (sym f) d))) (subst (λ n. pending + n ≡ sum_by (counted (at j)) (take n line) + length line) f (h.sum j f)) in
+          let a = at_end j pending (omega arith) (λ y d. absurd (none y (subst (λ n. Contains (drop n line) y) (sym f) d))) (subst (λ n. pending + n ≡ sum_by (counted line number block (at line number block j)) (take n line) + length line) f (h.sum j f)) in
           let b = h.kept (omega arith) in
-          let d = ap block_sum g in
+          let d = ap (block_sum line number block) g in
           omega arith
         where
           none : (y : ℕ) → Contains (drop (length line) line) y → ⊥

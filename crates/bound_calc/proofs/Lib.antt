@@ -1,3 +1,4 @@
 pub mod Along
 pub mod LineSums
 pub mod Steps
+pub mod Greatest

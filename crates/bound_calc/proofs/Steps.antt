@@ -19,7 +19,7 @@ use Rattle.task_networks.proofs.BoundLaws.{by_size, enough_for_all, before_block
 use Rattle.task_networks.proofs.Lists.{not-in_empty, head_or_tail, Contains-here, Contains-later}
 use Rattle.plan_meaning.specs.Network.{top_task}
 use Rattle.plan_meaning.specs.Schemas.{Schema, task, action, check, schemas, schema_of, IsPrimitive}
-use Rattle.plan_meaning.specs.Strata.{Edge, IsEdge, AreEdges, source, target, target_by, IsOneGroup}
+use Rattle.plan_meaning.specs.Strata.{Edge, IsEdge, AreEdges, source, target, target_by, IsOneGroup, IsReachedTask}
 use Rattle.plan_meaning.specs.Bound.{group_of, IsBound}
 use Rattle.plan_meaning.proofs.MethodParts.{IsPairBy, head_schema_by, schemas_by}
 use Rattle.plan_meaning.proofs.BoundParts.{AreWhole, at_most, not_of_the_group, there_at, listed}
@@ -49,6 +49,12 @@ weight_up k b x y f = go (by_size b k)
     go (inl l) = let a = before_block k b x l in let d = before_block k b y l in omega arith
     go (inr (inl e)) = let a = at_block k b x e in let d = at_block k b y e in let h = f e in omega arith
     go (inr (inr l)) = let a = after_block k b x l in let d = after_block k b y l in omega arith
+
+-- the numbers of the groups so far: none is above the bound's, and the methods that are done are counted in
+pub record AreNumbered (c : Compiled) (ranks : Ranks) (n : ℕ) (A : IsBound c n) (Done : ℕ → Type 0) (x : List ℕ) : Type 0 where
+  pub high : (t : ℕ) → IsReachedTask c t → slice_index x (number_of ranks t) ≤ A.number (task t)
+  pub done : (m i : ℕ) (plan : MethodPlan) → Done m → slice_get c.methods m ≡ Some plan → IsReachedTask c plan.schema.task
+      → Counts (schemas c) A.block A.number (group_of A.group) m i → Bounds.block_number (schemas c) A.block A.number m (A.block m i) ≤ slice_index x (number_of ranks plan.schema.task)
 
 module _ (c : Compiled) (known : HasLines c) (small : IsSmallCompiled c) (ranks : Ranks) (strata : IsStratified c ranks) where
   abbrev pub Reached : Schema → Type 0
@@ -139,14 +145,8 @@ module _ (c : Compiled) (known : HasLines c) (small : IsSmallCompiled c) (ranks 
         let j : A.number ((schemas c).head m) ≡ A.number (task plan.schema.task) = ap A.number (ap head_schema_by e) in
         omega arith
 
-    -- the numbers of the groups so far: none is above the bound's, and the methods that are done are counted in
-    pub record AreNumbered (Done : ℕ → Type 0) (x : List ℕ) : Type 0 where
-      pub high : (t : ℕ) → Reached (task t) → slice_index x (number_of ranks t) ≤ A.number (task t)
-      pub done : (m i : ℕ) (plan : MethodPlan) → Done m → slice_get c.methods m ≡ Some plan → Reached (task plan.schema.task)
-          → Counts (schemas c) A.block A.number (group_of A.group) m i → Bounds.block_number (schemas c) A.block A.number m (A.block m i) ≤ slice_index x (number_of ranks plan.schema.task)
-
     -- a group whose methods are all done has its number
-    pub full : (Done : ℕ → Type 0) (x : List ℕ) (t : ℕ) → 1 ≤ slice_index x (number_of ranks t) → AreNumbered Done x → Reached (task t)
+    pub full : (Done : ℕ → Type 0) (x : List ℕ) (t : ℕ) → 1 ≤ slice_index x (number_of ranks t) → AreNumbered c ranks n A Done x → Reached (task t)
         → ((m : ℕ) (plan : MethodPlan) → slice_get c.methods m ≡ Some plan → Reached (task plan.schema.task) → number_of ranks plan.schema.task ≡ number_of ranks t → Done m)
         → A.number (task t) ≤ slice_index x (number_of ranks t)
     full Done x t low h r all = go (A.numbers.attained (task t) r)
@@ -163,7 +163,7 @@ module _ (c : Compiled) (known : HasLines c) (small : IsSmallCompiled c) (ranks 
             omega arith
 
     -- one method, where the groups with lower numbers are done
-    module _ (Done : ℕ → Type 0) (x : List ℕ) (low : All (λ v. 1 ≤ v) x) (room : length x ≡ suc (top_task c)) (are_numbered : AreNumbered Done x) (m : ℕ) (plan : MethodPlan) (e : slice_get c.methods m ≡ Some plan) (r : Reached (task plan.schema.task))
+    module _ (Done : ℕ → Type 0) (x : List ℕ) (low : All (λ v. 1 ≤ v) x) (room : length x ≡ suc (top_task c)) (are_numbered : AreNumbered c ranks n A Done x) (m : ℕ) (plan : MethodPlan) (e : slice_get c.methods m ≡ Some plan) (r : Reached (task plan.schema.task))
         (lower : (k : ℕ) (other : MethodPlan) → slice_get c.methods k ≡ Some other → Reached (task other.schema.task) → number_of ranks other.schema.task < number_of ranks plan.schema.task → Done k) where
       abbrev own : ℕ → ℕ
       own = child_number ranks x plan.schema.children
@@ -231,7 +231,7 @@ module _ (c : Compiled) (known : HasLines c) (small : IsSmallCompiled c) (ranks 
           omega arith
 
       pub step : (More : ℕ → Type 0) (y : List ℕ) (v w : ℕ) → ((k : ℕ) → More k → Done k ⊎ (k ≡ m)) → IsGreatestBlock plan own v
-          → slice_index x (number_of ranks plan.schema.task) ≤ w → v ≤ w → (w ≡ slice_index x (number_of ranks plan.schema.task)) ⊎ (w ≡ v) → y ≡ set x (number_of ranks plan.schema.task) w → AreNumbered More y
+          → slice_index x (number_of ranks plan.schema.task) ≤ w → v ≤ w → (w ≡ slice_index x (number_of ranks plan.schema.task)) ⊎ (w ≡ v) → y ≡ set x (number_of ranks plan.schema.task) w → AreNumbered c ranks n A More y
       step More y v w more is p q one f = record { high = high; done = done }
         where
           g : ℕ
