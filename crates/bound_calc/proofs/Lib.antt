@@ -2,3 +2,4 @@ pub mod Along
 pub mod LineSums
 pub mod Steps
 pub mod Greatest
+pub mod Placing
