@@ -3,3 +3,4 @@ pub mod LineSums
 pub mod Steps
 pub mod Greatest
 pub mod Placing
+pub mod Counting
