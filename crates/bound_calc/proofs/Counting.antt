@@ -28,9 +28,10 @@ use Rattle.stratifier.specs.Conditions.{HaveNoCycle, IsNumbered, IsOrdered, IsSm
 use Rattle.stratifier.specs.Stratified.{IsStratified, number_of, rank_by}
 use Rattle.bound_calc.specs.declared.groups.BoundError.{BoundError}
 use Rattle.bound_calc.specs.declared.groups.BoundError.TheVariants.{Past128, Memory}
-use Rattle.bound_calc.specs.Blocks.{child_number, IsGreatestBlock, HasPastBlock}
+use Rattle.bound_calc.specs.Blocks.{IsGreatest, IsPastBy}
 use Rattle.bound_calc.specs.ByRank.{IsPlace, AreByRank, AreRanked, HaveNumbers}
-use Rattle.bound_calc.specs.Past.{HaveLines, IsRefused}
+use Rattle.bound_calc.specs.Lines.{HasLine, HaveLines}
+use Rattle.bound_calc.specs.Past.{IsRefused}
 use Rattle.bound_calc.proofs.Steps.{AreNumbered, full, past, step}
 
 -- each of a list, at a place
@@ -69,7 +70,7 @@ module _ (c : Compiled) (ranks : Ranks) (small : IsSmallCompiled c) (strata : Is
   known : HasLines c
   known m plan e =
       let many = length-map plan.schema.children (λ (child : Child). schema_of m child.head) in
-      subst (λ z. IsLine (Pairs plan.schema.pairs) z plan.line) (sym many) (of_all (λ (plan : MethodPlan). IsLine (Pairs plan.schema.pairs) (length plan.schema.children) plan.line) c.methods m plan lines e)
+      subst (λ z. IsLine (Pairs plan.schema.pairs) z plan.line) (sym many) (of_all HasLine c.methods m plan lines e)
 
   has_bound : (n : ℕ) × IsBound c n
   has_bound = tail_recursive_has_bound c known ((ranked_exactly c).1 (rank_by ranks, strata.ranking))
@@ -117,7 +118,7 @@ module _ (c : Compiled) (ranks : Ranks) (small : IsSmallCompiled c) (strata : Is
       | inr new ↦ inr (sym (ap (λ (p : ℕ × ℕ). p.1) new))
     ]
 
-    pub counted_more : (x y : List ℕ) (plan : MethodPlan) (v w : ℕ) → slice_get c.methods (get_or places k d).1 ≡ Some plan → AreCounted c ranks places k x → IsGreatestBlock plan (child_number ranks x plan.schema.children) v
+    pub counted_more : (x y : List ℕ) (plan : MethodPlan) (v w : ℕ) → slice_get c.methods (get_or places k d).1 ≡ Some plan → AreCounted c ranks places k x → IsGreatest ranks x plan v
         → w ≡ max (slice_index x (get_or places k d).0) v → y ≡ set x (get_or places k d).0 w → AreCounted c ranks places (k + 1) y
     counted_more x y plan v w e h is f g = record {
       room = ap length g ∙ length-set x (get_or places k d).0 w ∙ h.room;
@@ -158,11 +159,11 @@ module _ (c : Compiled) (ranks : Ranks) (small : IsSmallCompiled c) (strata : Is
 
     -- a block past 128 bits
     pub refused : (x : List ℕ) (plan : MethodPlan) (error : BoundError) → slice_get c.methods (get_or places k d).1 ≡ Some plan → AreCounted c ranks places k x
-        → (error ≡ Past128 → HasPastBlock plan (child_number ranks x plan.schema.children)) → IsRefused c error
+        → IsPastBy ranks x plan error → IsRefused c error
     refused x plan Memory e h f = tt
     refused x plan Past128 e h f =
         let (n, A) = has_bound in
-        (n, A, past c known small ranks strata n A (IsDone places k) x h.low h.room (h.numbered n A) (get_or places k d).1 plan e reached (lower plan same) (f refl))
+        (n, A, past c known small ranks strata n A (IsDone places k) x h.low h.room (h.numbered n A) (get_or places k d).1 plan e reached (lower plan same) f)
       where
         some : (a b : MethodPlan) → Some a ≡ Some b → a ≡ b
         some a b s = cc

@@ -9,7 +9,7 @@ use Rattle.plan_model.specs.declared.networks.Head.TheVariants.{Task, Action, Ch
 use Rattle.plan_model.specs.declared.networks.Child.{Child}
 use Rattle.plan_model.specs.declared.schemas.MethodPlan.{MethodPlan}
 use Rattle.plan_model.specs.Pairs.{Pairs}
-use Rattle.task_networks.specs.Order.{IsLine, IsCut}
+use Rattle.task_networks.specs.Order.{IsCut}
 use Rattle.task_networks.specs.Net.{Net}
 use Rattle.task_networks.specs.Pending.{AreDifferent}
 use Rattle.task_networks.specs.Bound.{AreBlocks}
@@ -21,6 +21,7 @@ use Rattle.net_order.specs.Meaning.{IsOrderOf}
 use Rattle.net_order.proofs.Whole.{child_of, different, length_line}
 use Rattle.stratifier.specs.declared.ranks.Ranks.{Ranks}
 use Rattle.bound_calc.specs.Blocks.{head_number, child_number, block_number, IsGreatestBlock, HasPastBlock}
+use Rattle.bound_calc.specs.Lines.{HasLine}
 use Rattle.bound_calc.specs.ByRank.{AreRanked, HaveNumbers}
 use Rattle.bound_calc.proofs.Along.{IsSummed, Starts, summed_none, summed_more, summed_above, starts_new, starts_first, starts_same, adds_within}
 
@@ -38,7 +39,7 @@ one_method plan = record {
   IsCopier = λ m i. ⊥;
 }
 
-module _ (plan : MethodPlan) (is_line : IsLine (Pairs plan.schema.pairs) (length plan.schema.children) plan.line) where
+module _ (plan : MethodPlan) (is_line : HasLine plan) where
   pub many : length plan.line ≡ length plan.schema.children
   many = length_line (Pairs plan.schema.pairs) (length plan.schema.children) plan.line is_line.each is_line.whole
 
@@ -103,8 +104,8 @@ module _ (plan : MethodPlan) (is_line : IsLine (Pairs plan.schema.pairs) (length
         above block i are c = summed_above (Pairs plan.schema.pairs) plan.line all_different number positive block are pending greatest i (subst (λ z. IsSummed plan.line number block z pending greatest) e (h block are)) c
 
 -- each child counts at least one
-pub positive : (ranks : Ranks) (numbers : List ℕ) (children : List Child) → HaveNumbers ranks numbers → (i : ℕ) → 1 ≤ child_number ranks numbers children i
-positive ranks numbers children have i = go (slice_get children i)
+pub positive : (ranks : Ranks) (numbers : List ℕ) (plan : MethodPlan) → HaveNumbers ranks numbers → (i : ℕ) → 1 ≤ child_number ranks numbers plan i
+positive ranks numbers plan have i = go (slice_get plan.schema.children i)
   where
     of_head : (h : Head) → 1 ≤ head_number ranks numbers h
     of_head (Task t) = have.positive _ 0 (have.groups t)
@@ -115,13 +116,13 @@ positive ranks numbers children have i = go (slice_get children i)
     go None = omega arith
     go (Some child) = of_head child.head
 
-module _ (plan : MethodPlan) (is_line : IsLine (Pairs plan.schema.pairs) (length plan.schema.children) plan.line) (number : ℕ → ℕ) (positive : (x : ℕ) → Contains plan.line x → 1 ≤ number x) (block : ℕ → ℕ) (are : AreBlocks (Pairs plan.schema.pairs) plan.line block) where
+module _ (plan : MethodPlan) (is_line : HasLine plan) (number : ℕ → ℕ) (positive : (x : ℕ) → Contains plan.line x → 1 ≤ number x) (block : ℕ → ℕ) (are : AreBlocks (Pairs plan.schema.pairs) plan.line block) where
   pub summed_first : IsSummed plan.line number block 0 (length plan.line) 1
   summed_first = summed_none (Pairs plan.schema.pairs) plan.line (all_different plan is_line) number positive block are
 
 -- the number of the child at a place
-pub child-number : (ranks : Ranks) (numbers : List ℕ) (children : List Child) (i : ℕ) (d : Child) → i < length children → child_number ranks numbers children i ≡ head_number ranks numbers (get_or children i d).head
-child-number ranks numbers children i d l = ap (λ o. option_map_or (λ (child : Child). head_number ranks numbers child.head) o 1) (slice_get-get_or children i d l)
+pub child-number : (ranks : Ranks) (numbers : List ℕ) (plan : MethodPlan) (i : ℕ) (d : Child) → i < length plan.schema.children → child_number ranks numbers plan i ≡ head_number ranks numbers (get_or plan.schema.children i d).head
+child-number ranks numbers plan i d l = ap (λ o. option_map_or (λ (child : Child). head_number ranks numbers child.head) o 1) (slice_get-get_or plan.schema.children i d l)
 
 -- a child's task has a rank
 pub child_ranked : (ranks : Ranks) (plan : MethodPlan) → AreRanked ranks plan → (i : ℕ) (d : Child) → i < length plan.schema.children → (t : ℕ) → (get_or plan.schema.children i d).head ≡ Task t → t < length ranks.numbers.items

@@ -166,7 +166,7 @@ module _ (c : Compiled) (known : HasLines c) (small : IsSmallCompiled c) (ranks 
     module _ (Done : ℕ → Type 0) (x : List ℕ) (low : All (λ v. 1 ≤ v) x) (room : length x ≡ suc (top_task c)) (are_numbered : AreNumbered c ranks n A Done x) (m : ℕ) (plan : MethodPlan) (e : slice_get c.methods m ≡ Some plan) (r : Reached (task plan.schema.task))
         (lower : (k : ℕ) (other : MethodPlan) → slice_get c.methods k ≡ Some other → Reached (task other.schema.task) → number_of ranks other.schema.task < number_of ranks plan.schema.task → Done k) where
       abbrev own : ℕ → ℕ
-      own = child_number ranks x plan.schema.children
+      own = child_number ranks x plan
 
       at_least_one : (t : ℕ) → 1 ≤ slice_index x (number_of ranks t)
       at_least_one t = low (number_of ranks t) 0 (let s = strata.small t in omega arith)

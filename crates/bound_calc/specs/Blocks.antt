@@ -1,6 +1,6 @@
 -- The greatest number of a block of a method, from the numbers of its children.
 -- Source: this project's, after the progression bound of Alford et al., "Bound to Plan", ICAPS 2016.
-use Rattle.std.specs.Prelude.{ℕ, ◌≡◌, ◌<◌, ◌≤◌, ◌⊎◌, ◌^◌, List, slice_get, slice_index, Contains}
+use Rattle.std.specs.Prelude.{ℕ, ◌≡◌, ◌<◌, ◌≤◌, ◌⊎◌, ◌^◌, List, slice_get, slice_index, Contains, Option, Some, None}
 use Rattle.std.specs.List.{sum_by}
 use Rattle.std.specs.Option.{option_map_or}
 use Rattle.plan_model.specs.declared.networks.Head.{Head}
@@ -11,6 +11,8 @@ use Rattle.plan_model.specs.Pairs.{Pairs}
 use Rattle.task_networks.specs.Bound.{AreBlocks, weight}
 use Rattle.stratifier.specs.declared.ranks.Ranks.{Ranks}
 use Rattle.stratifier.specs.Stratified.{number_of}
+use Rattle.bound_calc.specs.declared.groups.BoundError.{BoundError}
+use Rattle.bound_calc.specs.declared.groups.BoundError.TheVariants.{Past128, Memory}
 
 -- what a child counts, where each group of tasks has its number: an action and a check count one
 abbrev pub head_number : Ranks → List ℕ → Head → ℕ
@@ -18,8 +20,8 @@ head_number ranks numbers (Task t) = slice_index numbers (number_of ranks t)
 head_number ranks numbers (Action a) = 1
 head_number ranks numbers Check = 1
 
-abbrev pub child_number : Ranks → List ℕ → List Child → ℕ → ℕ
-child_number ranks numbers children i = option_map_or (λ (child : Child). head_number ranks numbers child.head) (slice_get children i) 1
+abbrev pub child_number : Ranks → List ℕ → MethodPlan → ℕ → ℕ
+child_number ranks numbers plan i = option_map_or (λ (child : Child). head_number ranks numbers child.head) (slice_get plan.schema.children i) 1
 
 -- where number i is the number of child i, and block i its block
 module _ (plan : MethodPlan) (number : ℕ → ℕ) where
@@ -35,3 +37,19 @@ module _ (plan : MethodPlan) (number : ℕ → ℕ) where
   -- the number of a block is past 128 bits
   abbrev pub HasPastBlock : Type 0
   HasPastBlock = (block : ℕ → ℕ) → AreBlocks (Pairs plan.schema.pairs) plan.line block → (i : ℕ) × Contains plan.line i × (2 ^ 128 ≤ block_number block i)
+
+-- over the numbers of the groups so far
+module _ (ranks : Ranks) (numbers : List ℕ) (plan : MethodPlan) where
+  abbrev pub IsGreatest : ℕ → Type 0
+  IsGreatest = IsGreatestBlock plan (child_number ranks numbers plan)
+
+  abbrev pub IsPast : Type 0
+  IsPast = HasPastBlock plan (child_number ranks numbers plan)
+
+  abbrev pub IsGreatestOrPast : Option ℕ → Type 0
+  IsGreatestOrPast None = IsPast
+  IsGreatestOrPast (Some n) = IsGreatest n
+
+  abbrev pub IsPastBy : BoundError → Type 0
+  IsPastBy Past128 = IsPast
+  IsPastBy Memory = Unit {0}

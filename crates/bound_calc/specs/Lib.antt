@@ -1,3 +1,4 @@
-pub mod Blocks
-pub mod ByRank
+pub mod Lines
 pub mod Past
+pub mod ByRank
+pub mod Blocks

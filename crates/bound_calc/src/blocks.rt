@@ -1,12 +1,10 @@
-ghost use Rattle.std.specs.Prelude.{◌≡◌, ◌<◌, ◌≤◌, ℕ, All, Some, length, IfOk, IfErr, MatchOption, slice_get};
-ghost use Rattle.plan_model.specs.Pairs.{Pairs};
+ghost use Rattle.std.specs.Prelude.{◌≡◌, ◌<◌, ◌≤◌, ℕ, length, IfOk, IfErr};
 ghost use Rattle.plan_model.specs.declared.networks.Head.TheVariants.{Task};
-ghost use Rattle.task_networks.specs.Order.{IsLine};
 ghost use Rattle.net_order.specs.Meaning.{IsOrderOf};
 ghost use Rattle.stratifier.specs.Conditions.{IsOrdered, IsSmallMethod};
-ghost use Rattle.bound_calc.specs.Blocks.{head_number, child_number, IsGreatestBlock, HasPastBlock};
+ghost use Rattle.bound_calc.specs.Blocks.{head_number, IsGreatest, IsGreatestOrPast, IsPastBy};
 ghost use Rattle.bound_calc.specs.ByRank.{AreRanked, HaveNumbers};
-ghost use Rattle.bound_calc.specs.declared.groups.BoundError.TheVariants.{Past128};
+ghost use Rattle.bound_calc.specs.Lines.{HasLine};
 
 use crate::groups::BoundError;
 use net_order::{Order, OrderError};
@@ -23,11 +21,11 @@ pub fn method_number(
 ) -> Result<u128, BoundError>
     requires small { IsSmallMethod plan.now }
     requires ordered { IsOrdered plan.now }
-    requires line { IsLine (Pairs plan.now.schema.pairs) (length plan.now.schema.children) plan.now.line }
+    requires line { HasLine plan.now }
     requires ranked { AreRanked r.now plan.now }
     requires numbers { HaveNumbers r.now numbers.now }
-    ensures greatest { IfOk result (IsGreatestBlock plan.now (child_number r.now numbers.now plan.now.schema.children)) }
-    ensures past { IfErr result (λ e. e ≡ Past128 → HasPastBlock plan.now (child_number r.now numbers.now plan.now.schema.children)) }
+    ensures greatest { IfOk result (IsGreatest r.now numbers.now plan.now) }
+    ensures past { IfErr result (IsPastBy r.now numbers.now plan.now) }
 {
     let count = plan.schema.children.len() as u32;
     match Order::new(alloc, count, plan.schema.pairs.as_slice()) {
@@ -46,12 +44,10 @@ pub fn method_number(
 fn greatest_block(order: &Order, plan: &MethodPlan, r: &Ranks, numbers: &[u128]) -> Option<u128>
     requires small { IsSmallMethod plan.now }
     requires order { IsOrderOf (length plan.now.schema.children) plan.now.schema.pairs order.now }
-    requires line { IsLine (Pairs plan.now.schema.pairs) (length plan.now.schema.children) plan.now.line }
+    requires line { HasLine plan.now }
     requires ranked { AreRanked r.now plan.now }
     requires numbers { HaveNumbers r.now numbers.now }
-    ensures greatest { MatchOption result
-        (HasPastBlock plan.now (child_number r.now numbers.now plan.now.schema.children))
-        (IsGreatestBlock plan.now (child_number r.now numbers.now plan.now.schema.children)) }
+    ensures greatest { IsGreatestOrPast r.now numbers.now plan.now result }
 {
     let children = plan.schema.children.as_slice();
     let line = plan.line.as_slice();

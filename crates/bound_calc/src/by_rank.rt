@@ -1,4 +1,4 @@
-ghost use Rattle.std.specs.Prelude.{IfOk, ◌≡◌, ◌+◌, ◌≤◌, All, length};
+ghost use Rattle.std.specs.Prelude.{IfOk};
 ghost use Rattle.stratifier.specs.Conditions.{IsSmallCompiled};
 ghost use Rattle.stratifier.specs.Stratified.{IsStratified};
 ghost use Rattle.bound_calc.specs.ByRank.{AreByRank};

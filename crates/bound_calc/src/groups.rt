@@ -1,8 +1,9 @@
-ghost use Rattle.std.specs.Prelude.{◌≡◌, IfOk, IfErr};
+ghost use Rattle.std.specs.Prelude.{IfOk, IfErr};
 ghost use Rattle.plan_meaning.specs.Bound.{IsBound};
 ghost use Rattle.stratifier.specs.Conditions.{HaveNoCycle, IsSmallCompiled};
 ghost use Rattle.stratifier.specs.Stratified.{IsStratified};
-ghost use Rattle.bound_calc.specs.Past.{HaveLines, IsRefused};
+ghost use Rattle.bound_calc.specs.Lines.{HaveLines};
+ghost use Rattle.bound_calc.specs.Past.{IsRefused};
 
 use crate::blocks::method_number;
 use crate::by_rank::by_rank;

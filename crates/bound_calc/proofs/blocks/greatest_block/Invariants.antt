@@ -8,5 +8,5 @@ use Rattle.bound_calc.proofs.blocks.greatest_block.Given as goal
 abbrev pub invariant-loop-k : goal.invariant-loop-k
 invariant-loop-k l = record {
   within : l.k ≤ length l.plan.line;
-  summed : (block : ℕ → ℕ) → AreBlocks (Pairs l.plan.schema.pairs) l.plan.line block → IsSummed l.plan.line (child_number l.r l.numbers l.plan.schema.children) block l.k l.pending l.greatest;
+  summed : (block : ℕ → ℕ) → AreBlocks (Pairs l.plan.schema.pairs) l.plan.line block → IsSummed l.plan.line (child_number l.r l.numbers l.plan) block l.k l.pending l.greatest;
 }

@@ -1,15 +1,12 @@
 use Rattle.std.proofs.Common.{ℕ, ◌≡◌, ◌<◌, ◌≤◌, ◌+◌, length, slice_get, slice_index, get_or, set, Some, replicate, max, refl, sym, ap, subst, ◌∙◌, arith}
 use Rattle.std.proofs.lemmas.List.{get_or_read}
-use Rattle.plan_model.specs.Pairs.{Pairs}
-use Rattle.plan_model.specs.declared.schemas.MethodPlan.{MethodPlan}
-use Rattle.task_networks.specs.Order.{IsLine}
 use Rattle.stratifier.specs.Conditions.{IsOrdered, IsSmallMethod}
 use Rattle.stratifier.specs.Stratified.{number_of}
 use Rattle.plan_meaning.specs.Bound.{IsBound}
-use Rattle.bound_calc.specs.Blocks.{child_number, IsGreatestBlock, HasPastBlock}
+use Rattle.bound_calc.specs.Blocks.{IsGreatest, IsPastBy}
+use Rattle.bound_calc.specs.Lines.{HasLine}
 use Rattle.bound_calc.specs.ByRank.{AreByRank, HaveNumbers}
 use Rattle.plan_meaning.specs.Network.{top_task}
-use Rattle.bound_calc.specs.declared.groups.BoundError.TheVariants.{Past128}
 use Rattle.bound_calc.specs.Past.{IsRefused}
 use Rattle.bound_calc.proofs.Counting.{AreCounted, of_all, plan_at, counted_none, have_numbers, are_ranked, method_below, group_below, counted_more, refused, counted_all, error_told}
 use Rattle.bound_calc.proofs.groups.bound.Goals as goal
@@ -66,7 +63,7 @@ method_number-requires-clause-line c =
     let below = method_below c.args.c.now c.args.r.now c.requires.small c.requires.strata c.requires.lines places by_rank k (0, 0) l in
     let is : slice_get c.args.c.now.methods (get_or c.as_slice-place-items.result.now c.loop-place.place-index (0, 0)).1 ≡ Some c.index-methods-m.result =
         plan_at c.as_slice-methods.result.now c.args.c.now.methods place.1 plan c.as_slice-methods.ensures.items below c.index-methods-m.is in
-    of_all (λ (plan : MethodPlan). IsLine (Pairs plan.schema.pairs) (length plan.schema.children) plan.line) c.args.c.now.methods place.1 plan c.requires.lines is
+    of_all HasLine c.args.c.now.methods place.1 plan c.requires.lines is
 
 pub method_number-requires-clause-ranked : goal.method_number-requires-clause-ranked
 method_number-requires-clause-ranked c =
@@ -96,7 +93,7 @@ returns-in_err-number-clause-refused c =
     let below = method_below c.args.c.now c.args.r.now c.requires.small c.requires.strata c.requires.lines places by_rank k (0, 0) l in
     let is : slice_get c.args.c.now.methods (get_or c.as_slice-place-items.result.now c.loop-place.place-index (0, 0)).1 ≡ Some c.index-methods-m.result =
         plan_at c.as_slice-methods.result.now c.args.c.now.methods place.1 plan c.as_slice-methods.ensures.items below c.index-methods-m.is in
-    let past = subst (λ xs. c.in_err-number.field-0.0 ≡ Past128 → HasPastBlock c.index-methods-m.result (child_number c.args.r.now xs c.index-methods-m.result.schema.children)) c.as_slice.ensures.value c.in_err-number.ensures.past in
+    let past = subst (λ xs. IsPastBy c.args.r.now xs c.index-methods-m.result c.in_err-number.field-0.0) c.as_slice.ensures.value c.in_err-number.ensures.past in
     let h = refused c.args.c.now c.args.r.now c.requires.small c.requires.strata c.requires.lines places by_rank k (0, 0) l c.loop-place.numbers.items plan c.in_err-number.field-0.0 is c.loop-place.invariant past in
     error_told c.from_residual-in_err-number.result (IsRefused c.args.c.now) _ c.from_residual-in_err-number.ensures.1 (λ error same. subst (IsRefused c.args.c.now) (sym same) h)
 
@@ -137,7 +134,7 @@ loop-place-preserved c =
     let b = group_below c.args.c.now c.args.r.now c.requires.small c.requires.strata c.requires.lines places by_rank k (0, 0) l x c.loop-place.invariant in
     let former = get_or_read x place.0 c.index-former.result.now b c.index-former.ensures 0 in
     counted_more c.args.c.now c.args.r.now c.requires.small c.requires.strata c.requires.lines places by_rank k (0, 0) l x _ plan c.in_ok-number.number c.max.result is c.loop-place.invariant
-    (subst (λ xs. IsGreatestBlock c.index-methods-m.result (child_number c.args.r.now xs c.index-methods-m.result.schema.children) c.in_ok-number.number) c.as_slice.ensures.value c.in_ok-number.ensures.greatest)
+    (subst (λ xs. IsGreatest c.args.r.now xs c.index-methods-m.result c.in_ok-number.number) c.as_slice.ensures.value c.in_ok-number.ensures.greatest)
     (c.max.ensures ∙ ap (λ n. max n c.in_ok-number.number) former) refl
 
 pub returns-clause-bound : goal.returns-clause-bound
