@@ -4,3 +4,4 @@ pub mod Listing
 pub mod ByTask
 pub mod Lasts
 pub mod Compiled
+pub mod Descents

@@ -9,6 +9,7 @@ mod all_edges;
 mod bad;
 mod by_task;
 mod edge;
+mod finishing;
 mod laws;
 mod ranks;
 mod reach;
