@@ -5,3 +5,4 @@ pub mod ByTask
 pub mod Lasts
 pub mod Compiled
 pub mod Descents
+pub mod Grouped

@@ -6,3 +6,5 @@ pub mod Bad
 pub mod Stratified
 pub mod Graph
 pub mod Finishing
+pub mod Grouping
+pub mod Edged

@@ -10,6 +10,7 @@ mod bad;
 mod by_task;
 mod edge;
 mod finishing;
+mod groups;
 mod laws;
 mod ranks;
 mod reach;
