@@ -7,4 +7,3 @@ pub mod Stratified
 pub mod Graph
 pub mod Finishing
 pub mod Grouping
-pub mod Edged
