@@ -70,7 +70,7 @@ module _ (c : Compiled) where
     room = h.room ∙ room;
     top_marked = (h.marks (top_task c)).1 (inr refl);
     reached = λ t m. elim ((h.marks t).0 m) [ inl o ↦ absurd (not_old t o) | inr e ↦ subst (IsReachedTask c) (sym e) itself ];
-    to_do = λ t k. elim (h.added t k) [ inl o ↦ absurd (not-in_empty t (subst (λ s. Contains s t) empty o)) | inr m ↦ m ];
+    to_do = λ t k. elim (h.added t k) [ inl o ↦ absurd (not-in_empty t (subst (λ s. Contains s t) empty o)) | inr m ↦ m.0 ];
     done = λ t m. elim (h.to_do t m) [ inl o ↦ absurd (not_old t o) | inr k ↦ inl k ];
   }
     where
@@ -83,7 +83,7 @@ module _ (c : Compiled) where
     room = h.room ∙ (ap length same ∙ w.room);
     top_marked = kept (top_task c) w.top_marked;
     reached = λ u m. elim ((h.marks u).0 m) [ inl o ↦ w.reached u (subst (λ s. IsMarked s u) same o) | inr n ↦ next_reached u n ];
-    to_do = λ u k. elim (h.added u k) [ inl o ↦ kept u (w.to_do u (subst (λ s. Contains s u) (sym e) (Contains-append_left old.work.items (t ∷ []) u o))) | inr m ↦ m ];
+    to_do = λ u k. elim (h.added u k) [ inl o ↦ kept u (w.to_do u (subst (λ s. Contains s u) (sym e) (Contains-append_left old.work.items (t ∷ []) u o))) | inr m ↦ m.0 ];
     done = λ u m. elim (h.to_do u m) [
       | inl o ↦ elim (w.done u (subst (λ s. IsMarked s u) same o)) [
         | inl k ↦ elim (Contains-push_cases old.work.items t u (subst (λ s. Contains s u) e k)) [

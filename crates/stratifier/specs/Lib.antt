@@ -4,3 +4,6 @@ pub mod Entered
 pub mod Listed
 pub mod Bad
 pub mod Stratified
+pub mod Graph
+pub mod Finishing
+pub mod Grouping

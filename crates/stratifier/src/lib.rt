@@ -9,6 +9,8 @@ mod all_edges;
 mod bad;
 mod by_task;
 mod edge;
+mod finishing;
+mod groups;
 mod laws;
 mod ranks;
 mod reach;
