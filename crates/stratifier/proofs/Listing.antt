@@ -17,7 +17,7 @@ use Rattle.plan_meaning.proofs.MethodParts.{head_schema_by, schemas_by}
 use Rattle.plan_meaning.proofs.EdgesInOrder.{AreInOrder, one_after_another, both_in_order}
 use Rattle.htn_base.specs.declared.memory.Memory.{Memory}
 use Rattle.stratifier.specs.declared.edge.Edge as Declared
-use Rattle.stratifier.specs.Conditions.{AreSmall}
+use Rattle.stratifier.specs.Conditions.{IsSmallCompiled}
 use Rattle.stratifier.specs.Listed.{edge_of, edges_to, edges_from, edges_of}
 use Rattle.std.specs.Prelude.{Result, Ok, Err, IfOk}
 
@@ -205,7 +205,7 @@ module _ (marks : List Bool) where
           (subst (λ n. Contains (edges_from n 0 plan.schema.children) e) a (subst (λ n. Contains (edges_from e.method 0 plan.schema.children) (record { method = e.method; child = n })) b (to_from e.method 0 plan.schema.children e.child h.subtask s)))
 
 -- each method's task has a mark
-pub tasks_marked : (c : Compiled) → AreSmall c → (methods : List MethodPlan) (marks : List Bool) → methods ≡ c.methods → length marks ≡ top_task c + 1 → All (λ (plan : MethodPlan). plan.schema.task < length marks) methods
+pub tasks_marked : (c : Compiled) → IsSmallCompiled c → (methods : List MethodPlan) (marks : List Bool) → methods ≡ c.methods → length marks ≡ top_task c + 1 → All (λ (plan : MethodPlan). plan.schema.task < length marks) methods
 tasks_marked c small methods marks e room k d l =
     let n = small.numbered k d (subst (λ ms. k < length ms) e l) in
     let t = subst (λ ms. (get_or ms k d).schema.task ≤ top_task c) (sym e) n.task in
