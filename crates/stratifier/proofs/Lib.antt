@@ -4,3 +4,5 @@ pub mod Listing
 pub mod ByTask
 pub mod Lasts
 pub mod Compiled
+pub mod Descents
+pub mod Grouped

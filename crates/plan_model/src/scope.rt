@@ -1,18 +1,18 @@
 ghost use Rattle.std.specs.Prelude.{◌≡◌, ◌+◌, IfOk, IfErr, Some, slice_get, length};
-ghost use Rattle.printed_sizes.specs.Frames.{in_force};
+ghost use Rattle.plan_model.specs.Scopes.{in_force};
 
-use plan_model::Param;
+use crate::terms::Param;
 
-/// The source's variables in force: those of the lists around, and behind them those of the innermost list.
+/// The variables in force: those of the lists around, and behind them those of the innermost list.
 #[derive(Clone, Copy)]
-pub(crate) enum Scope<'a> {
+pub enum Scope<'a> {
     Empty,
     Within(&'a Scope<'a>, &'a [Param]),
 }
 
 impl Scope<'_> {
     /// The k-th variable in force, or how far behind the last one it would stand.
-    pub(crate) fn find(&self, k: usize) -> Result<Param, usize>
+    pub fn find(&self, k: usize) -> Result<Param, usize>
         ensures found { IfOk result (λ param. slice_get (in_force self.now) k ≡ Some param) }
         ensures missing { IfErr result (λ left. k ≡ length (in_force self.now) + left) }
     {

@@ -1,3 +1,4 @@
+-- Folders, worked out.
 use Rattle.std.proofs.Common.{◌≡◌, [], ◌∷◌, true, false, Some, None, take, codes, refl}
 use Rattle.std.specs.Option.{option_map}
 use Rattle.outside_io.specs.Folder.{file_of, with_bytes}
