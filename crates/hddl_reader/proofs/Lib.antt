@@ -1,1 +1,3 @@
+pub mod FoldSteps
 pub mod NetworkSteps
+pub mod PartSteps
