@@ -2,7 +2,8 @@
 //!
 //! Stands on `sexpr_text` and `htn_base`, and on the definitions of `text_forms`. The contract used above:
 //! each call answers a value exactly where a whole form begins at the token, and else the fault of the
-//! first token with which the tokens no longer begin the form; old names keep their numbers.
+//! first token with which the tokens no longer begin the form; old names keep their numbers, and each further
+//! one is of a word of the text, on an error too.
 //!
 //! A reader of forms that hold these stands on the steps too: what stands at a token (`cursor`), words,
 //! terms and atoms, typed lists, and what stands in the parentheses of a formula or an effect. A step
@@ -13,6 +14,7 @@ mod cursor;
 mod effects;
 mod formulas;
 mod kind;
+mod laws;
 mod reading;
 mod stop;
 mod term;
@@ -22,6 +24,7 @@ mod words;
 pub use cursor::{Item, end_due, item_at, list_due, list_or_end, pass, word_due, word_or_end};
 pub use effects::{RawEffect, effect_inside_of};
 pub use formulas::{RawFormula, inside_of};
+pub use laws::at_most_one_word_is_added_for_each_token;
 pub use reading::{Got, effect, formula, refusal, typed_list};
 pub use stop::{Failure, Stop};
 pub use term::{

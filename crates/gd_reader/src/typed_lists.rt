@@ -1,6 +1,7 @@
 ghost use Rattle.std.specs.Prelude.{◌≡◌, ◌++◌, map, IfOk, OnOk};
 ghost use Rattle.htn_base.specs.Words.{folded};
 ghost use Rattle.text_forms.specs.Placed.{parts_at};
+ghost use Rattle.gd_reader.specs.Added.{AddsOf, AddsWord, bare};
 ghost use Rattle.gd_reader.specs.Answers.{Gives, GivesWith};
 ghost use Rattle.gd_reader.specs.Ends.{end_of};
 ghost use Rattle.gd_reader.specs.Terms.{Keeps};
@@ -62,6 +63,7 @@ fn declare(
     word: &[u8],
 ) -> Result<RawParam, Failure>
     ensures keeps { Keeps names.old names.new }
+    ensures adds { AddsWord (folded word.now) names.old names.new }
     ensures gives { GivesWith (names.new, seen.new) result
         (declares (names.old, seen.old) at (folded word.now)) }
 {
@@ -85,6 +87,7 @@ fn variable_of(
     word: &[u8],
 ) -> Result<RawParam, Failure>
     ensures keeps { Keeps names.old names.new }
+    ensures adds { AddsWord (folded word.now) names.old names.new }
     ensures gives { GivesWith (names.new, seen.new) result
         (variable_by once (names.old, seen.old) at (folded word.now)) }
 {
@@ -104,7 +107,7 @@ fn variable_of(
 }
 
 // The word that declares.
-#[tactic(auto, unfolding(crate::specs::TypedLists::param_by), using(crate::proofs::Keeping::keeps_same, crate::proofs::Keeping::keeps_then, crate::proofs::Sorts::folded_rest))]
+#[tactic(auto, unfolding(crate::specs::TypedLists::param_by), using(crate::proofs::Adding::bare_variable, crate::proofs::Adding::bare_name, crate::proofs::Keeping::keeps_same, crate::proofs::Keeping::keeps_then, crate::proofs::Sorts::folded_rest))]
 fn param_of(
     alloc: Global,
     kind: ListKind,
@@ -114,6 +117,7 @@ fn param_of(
     word: &[u8],
 ) -> Result<RawParam, Failure>
     ensures keeps { Keeps names.old names.new }
+    ensures adds { AddsWord (bare (folded word.now)) names.old names.new }
     ensures gives { GivesWith (names.new, seen.new) result
         (param_due kind (names.old, seen.old) at (folded word.now)) }
 {
@@ -183,6 +187,7 @@ pub fn params_of(
     names: &mut NameTable,
 ) -> Result<(List<RawParam>, u32), Failure>
     ensures keeps { Keeps names.old names.new }
+    ensures adds { AddsOf s.now names.old names.new }
     ensures gives { Gives (λ x. (x.0, names.new)) result
         (listed kind names.old (parts_at s.now i)) }
     ensures closed { IfOk result (λ x. parts_at s.now x.1 ≡ end_of (parts_at s.now i)) }
