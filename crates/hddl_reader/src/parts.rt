@@ -4,6 +4,7 @@ ghost use Rattle.htn_base.specs.Words.{folded};
 ghost use Rattle.text_forms.specs.Placed.{parts_at};
 ghost use Rattle.text_forms.specs.Tokens.{token_count};
 ghost use Rattle.form_grammar.specs.Words.{entry, is_keyword};
+ghost use Rattle.gd_reader.specs.Added.{AddsOf};
 ghost use Rattle.gd_reader.specs.Answers.{Gives, GivesWith};
 ghost use Rattle.gd_reader.specs.Terms.{Keeps};
 ghost use Rattle.hddl_reader.specs.Parts.{network_table, part_of, no_parts, stands, keyword_by, may_end, part_due, part_at, part_read, parts};
@@ -217,6 +218,7 @@ impl RawParts {
         names: &mut NameTable,
     ) -> Result<(), Failure>
         ensures keeps { Keeps names.old names.new }
+        ensures adds { AddsOf s.now names.old names.new }
         ensures gives { Gives (λ _. (self.new, names.new)) result
             (part_read part self.old names.old place (parts_at s.now i)) }
     {
@@ -258,6 +260,7 @@ impl RawParts {
         names: &mut NameTable,
     ) -> Result<(), Failure>
         ensures keeps { Keeps names.old names.new }
+        ensures adds { AddsOf s.now names.old names.new }
         ensures gives { Gives (λ _. (self.new, names.new)) result
             (parts kind self.old names.old (parts_at s.now i)) }
     {
@@ -278,6 +281,7 @@ pub(crate) fn parts_of(
     names: &mut NameTable,
 ) -> Result<RawParts, Failure>
     ensures keeps { Keeps names.old names.new }
+    ensures adds { AddsOf s.now names.old names.new }
     ensures gives { GivesWith names.new result (parts kind no_parts names.old (parts_at s.now i)) }
 {
     let mut parts = RawParts::new();

@@ -24,6 +24,7 @@ loop-part-preserved c =
     let is = c.in-Some.is in
     let gives = c.in_ok-part.ensures.gives in
     record {
+      adds = λ all h old. c.in_ok-read_part.ensures.adds all h (c.loop-part.invariant.adds all h old);
       keeps = keeps_then c.args.names.now c.loop-part.names c.read_part.new.names c.loop-part.invariant.keeps c.in_ok-read_part.ensures.keeps;
       rest = fold_next (part_next c.args.kind) due_behind (part_met c.args.kind) (parts_all c.args.kind) (parts_is c.args.kind) (c.loop-part.self, c.loop-part.names) (parts_at c.args.s.now c.loop-part.i) (parts c.args.kind c.args.self.now c.args.names.now (parts_at c.args.s.now c.args.i)) c.loop-part.invariant.rest (c.in-Some.part, c.in-Some.place, parts_at c.args.s.now c.in-Some.inside, parts_at c.args.s.now c.in-Some.behind) (c.read_part.new.self, c.read_part.new.names) (rw is at gives) c.in_ok-read_part.ensures.gives;
     }
