@@ -207,11 +207,7 @@ impl Item for RawPair {
 
 // An equation, as what stands in the parentheses of a list.
 #[tactic(auto, using(gd_reader::proofs::Keeping::keeps_same), unfolding(crate::specs::Networks::equation))]
-fn equation(
-    s: &Sexprs<'_>,
-    i: u32,
-    names: &mut NameTable,
-) -> Result<(RawTerm, RawTerm), Failure>
+fn equation(s: &Sexprs<'_>, i: u32, names: &mut NameTable) -> Result<(RawTerm, RawTerm), Failure>
     ensures keeps { Keeps names.old names.new }
     ensures adds { AddsOf s.now names.old names.new }
     ensures gives { GivesWith names.new result (equation names.old (parts_at s.now i)) }
