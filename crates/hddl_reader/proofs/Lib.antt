@@ -6,3 +6,6 @@ pub mod SectionsSaid
 pub mod DefinitionsSaid
 pub mod NetworkSteps
 pub mod SectionSteps
+pub mod FoldSteps
+pub mod NetworkSteps
+pub mod PartSteps

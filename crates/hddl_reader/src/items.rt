@@ -1,5 +1,6 @@
 ghost use Rattle.htn_base.specs.Words.{folded};
 ghost use Rattle.text_forms.specs.Placed.{parts_at};
+ghost use Rattle.gd_reader.specs.Added.{AddsOf, AddsWordOf, bare};
 ghost use Rattle.gd_reader.specs.Answers.{GivesWith};
 ghost use Rattle.gd_reader.specs.Terms.{Keeps};
 ghost use Rattle.hddl_reader.specs.Networks.{Headed, one_of, all_of, some_of};
@@ -25,6 +26,7 @@ pub(crate) trait Item: Drop {
         names: &mut NameTable,
     ) -> Result<Self, Failure>
         ensures keeps { Keeps names.old names.new }
+        ensures adds { AddsWordOf (bare (folded word.now)) s.now names.old names.new }
         ensures gives { GivesWith names.new result
             (headed names.old place at (folded word.now) (parts_at s.now i)) };
 }
@@ -39,6 +41,7 @@ fn one_of<T: Item>(
     names: &mut NameTable,
 ) -> Result<T, Failure>
     ensures keeps { Keeps names.old names.new }
+    ensures adds { AddsOf s.now names.old names.new }
     ensures gives { GivesWith names.new result
         (one_of T.headed names.old place (parts_at s.now i)) }
 {
@@ -55,6 +58,7 @@ pub(crate) fn all_of<T: Item>(
     names: &mut NameTable,
 ) -> Result<List<T>, Failure>
     ensures keeps { Keeps names.old names.new }
+    ensures adds { AddsOf s.now names.old names.new }
     ensures gives { GivesWith names.new result (all_of T.headed names.old (parts_at s.now i)) }
 {
     let mut items = List::new(alloc);
@@ -77,6 +81,7 @@ pub(crate) fn some_of<T: Item>(
     names: &mut NameTable,
 ) -> Result<List<T>, Failure>
     ensures keeps { Keeps names.old names.new }
+    ensures adds { AddsOf s.now names.old names.new }
     ensures gives { GivesWith names.new result
         (some_of T.headed names.old place (parts_at s.now i)) }
 {

@@ -14,4 +14,7 @@ mod sections;
 
 pub use networks::{RawCon, RawNet, RawPair, RawSub};
 pub use parts::{Part, Parted, RawParts};
-pub use sections::{Definition, Language, RawAction, RawDomain, RawHead, RawMethod, RawProblem, RawSections, Section};
+pub use sections::{
+    Definition, Language, RawAction, RawDomain, RawHead, RawMethod, RawProblem, RawSections,
+    Section,
+};

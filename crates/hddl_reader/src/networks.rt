@@ -1,5 +1,6 @@
 ghost use Rattle.htn_base.specs.Words.{folded};
 ghost use Rattle.text_forms.specs.Placed.{parts_at};
+ghost use Rattle.gd_reader.specs.Added.{AddsOf, AddsWord, bare};
 ghost use Rattle.gd_reader.specs.Answers.{Gives, GivesWith};
 ghost use Rattle.gd_reader.specs.Terms.{Keeps};
 ghost use Rattle.hddl_reader.specs.Networks.{declared, behind_name, sign_due, name_due, then_due, equation};
@@ -47,7 +48,7 @@ pub struct RawNet {
 }
 
 /// A name that is or may be declared. A reserved word has code 9, another word that is no name this one.
-#[tactic(auto, unfolding(crate::specs::Networks::declared), using(gd_reader::proofs::Keeping::keeps_same))]
+#[tactic(auto, unfolding(crate::specs::Networks::declared), using(gd_reader::proofs::Adding::bare_name, gd_reader::proofs::Keeping::keeps_same))]
 pub(crate) fn declared_of(
     names: &mut NameTable,
     code: u16,
@@ -55,6 +56,7 @@ pub(crate) fn declared_of(
     word: &[u8],
 ) -> Result<RawTerm, Failure>
     ensures keeps { Keeps names.old names.new }
+    ensures adds { AddsWord (bare (folded word.now)) names.old names.new }
     ensures gives { GivesWith names.new result (declared code names.old at (folded word.now)) }
 {
     match sort_of(word) {
@@ -81,6 +83,7 @@ fn behind_name(
     names: &mut NameTable,
 ) -> Result<(Option<RawTerm>, RawAtom), Failure>
     ensures keeps { Keeps names.old names.new }
+    ensures adds { AddsOf s.now names.old names.new }
     ensures gives { GivesWith names.new result
         (behind_name head names.old (parts_at s.now i)) }
 {
@@ -144,6 +147,7 @@ fn sign_due(s: &Sexprs<'_>, i: u32) -> Result<u32, Failure>
 #[tactic(auto, using(gd_reader::proofs::Keeping::keeps_same), unfolding(crate::specs::Networks::name_due))]
 fn name_due(s: &Sexprs<'_>, i: u32, names: &mut NameTable) -> Result<(RawTerm, u32), Failure>
     ensures keeps { Keeps names.old names.new }
+    ensures adds { AddsOf s.now names.old names.new }
     ensures gives { Gives (λ x. ((x.0, parts_at s.now x.1), names.new)) result
         (name_due names.old (parts_at s.now i)) }
 {
@@ -162,6 +166,7 @@ fn then_due(
     names: &mut NameTable,
 ) -> Result<RawPair, Failure>
     ensures keeps { Keeps names.old names.new }
+    ensures adds { AddsOf s.now names.old names.new }
     ensures gives { GivesWith names.new result
         (then_due first place names.old (parts_at s.now i)) }
 {
@@ -202,12 +207,9 @@ impl Item for RawPair {
 
 // An equation, as what stands in the parentheses of a list.
 #[tactic(auto, using(gd_reader::proofs::Keeping::keeps_same), unfolding(crate::specs::Networks::equation))]
-fn equation(
-    s: &Sexprs<'_>,
-    i: u32,
-    names: &mut NameTable,
-) -> Result<(RawTerm, RawTerm), Failure>
+fn equation(s: &Sexprs<'_>, i: u32, names: &mut NameTable) -> Result<(RawTerm, RawTerm), Failure>
     ensures keeps { Keeps names.old names.new }
+    ensures adds { AddsOf s.now names.old names.new }
     ensures gives { GivesWith names.new result (equation names.old (parts_at s.now i)) }
 {
     let (at, word, i) = word_due(s, i)?;

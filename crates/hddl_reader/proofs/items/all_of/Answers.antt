@@ -25,6 +25,7 @@ loop-items-preserved g c =
     let gives = c.in_ok-place.ensures.gives in
     let pushed = c.in_ok-push.ensures.pushed in
     record {
+      adds = λ all h old. c.in_ok-item.ensures.adds all h (c.loop-items.invariant.adds all h old);
       keeps = keeps_then c.args.names.now c.loop-items.names c.one_of.new.names c.loop-items.invariant.keeps c.in_ok-item.ensures.keeps;
       rest = rw pushed (all_next opened_or_end opened_behind (item_met g.T.Item.headed) (all_of g.T.Item.headed) (all_of_is g.T.Item.headed) c.loop-items.items c.loop-items.names (parts_at c.args.s.now c.loop-items.i) (all_of g.T.Item.headed c.args.names.now (parts_at c.args.s.now c.args.i)) c.loop-items.invariant.rest (c.in-Some.place, parts_at c.args.s.now c.in-Some.inside, parts_at c.args.s.now c.in-Some.behind) c.in_ok-item.item c.one_of.new.names (rw is at gives) c.in_ok-item.ensures.gives);
     }
