@@ -1,0 +1,3 @@
+pub mod FoldSteps
+pub mod NetworkSteps
+pub mod PartSteps

@@ -1,3 +1,4 @@
+pub mod Opened
 pub mod Networks
 pub mod Parts
 pub mod Sections

@@ -1,7 +1,8 @@
 -- The parts of a task, a method, an action or the initial network as they are read: a keyword, and its list.
 -- Source: the full syntax definition of Höller et al., "HDDL", AAAI 2020, and appendix A of Fox and Long, "PDDL2.1", JAIR 20, 2003, level 1.
 use Rattle.std.specs.Prelude.{ℕ, Bool, true, false, List, [], ◌∷◌, Option, Some, None, Result, Ok, Err, if◌then◌else◌, codes}
-use Rattle.text_forms.specs.Placed.{Placed, cut, close, word, list}
+use Rattle.std.specs.Option.{is_some}
+use Rattle.text_forms.specs.Placed.{Placed, cut, close, word, list, parts_at}
 use Rattle.text_forms.specs.Words.{Word}
 use Rattle.form_grammar.specs.Words.{Table, entry, is_keyword}
 use Rattle.gd_reader.specs.declared.effects.RawEffect.TheVariants as raw_effect
@@ -20,6 +21,7 @@ use Rattle.hddl_reader.specs.declared.parts.Parted.{Parted}
 use Rattle.hddl_reader.specs.declared.parts.Parted.TheVariants as parted
 use Rattle.hddl_reader.specs.declared.parts.RawParts.{RawParts}
 use Rattle.hddl_reader.specs.Networks.{sub_headed, pair_headed, con_headed, some_of}
+use Rattle.hddl_reader.specs.Opened.{opened_due}
 
 -- Each part has its keywords: four for subtasks, two for orderings.
 abbrev pub network_table : Table Part
@@ -46,8 +48,7 @@ abbrev pub no_parts : RawParts
 no_parts = record { params = None; task = None; pre = None; eff = None; subs = None; ordered = false; pairs = None; constraints = None }
 
 abbrev pub is_there : {X : Type 0} → Option X → Bool
-is_there None = false
-is_there (Some x) = true
+is_there x = is_some x
 
 -- whether a part stands already; all keywords of subtasks are of one part
 unfoldable pub stands : RawParts → Part → Bool
@@ -101,3 +102,14 @@ unfoldable mutual
   parts_from kind x st names (close at) = Err (Departs 8 at)
   parts_from kind x st names (word at w p) = Err (Departs 8 at)
   parts_from kind x st names (list at p q) = part_read x st names at p >>= (λ r. parts kind r.0 r.1 q)
+
+-- What is next: a part with its list, as the place, what is inside and what is behind it; or the end of the parts.
+unfoldable pub part_due : Parted → RawParts → Placed → Result (Option (Part × ℕ × Placed × Placed)) Stop
+part_due kind st cut = Err Ends
+part_due kind st (close at) = if may_end kind st then Ok None else Err (Departs 8 at)
+part_due kind st (list at p q) = Err (Departs 8 at)
+part_due kind st (word at w p) = keyword_by (part_of kind w) (stands st) at w >>= (λ x. opened_due p >>= (λ g. Ok (Some (x, g.0, g.1, g.2))))
+
+-- a part with a place, and what stands at two tokens
+abbrev pub part_at : List ℕ → Part × ℕ × ℕ × ℕ → Part × ℕ × Placed × Placed
+part_at text x = (x.0, x.1, parts_at text x.2, parts_at text x.3)

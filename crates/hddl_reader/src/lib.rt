@@ -5,10 +5,15 @@
 //! keep their numbers. The language is a parameter: PDDL is HDDL without tasks, methods and an initial network.
 #![tactic(auto)]
 
+mod items;
 mod networks;
+mod opened;
 mod parts;
 mod sections;
 
 pub use networks::{RawCon, RawNet, RawPair, RawSub};
 pub use parts::{Part, Parted, RawParts};
-pub use sections::{Definition, Language, RawAction, RawDomain, RawHead, RawMethod, RawProblem, RawSections, Section};
+pub use sections::{
+    Definition, Language, RawAction, RawDomain, RawHead, RawMethod, RawProblem, RawSections,
+    Section,
+};
