@@ -6,3 +6,4 @@ pub mod Lasts
 pub mod Compiled
 pub mod Descents
 pub mod Grouped
+pub mod TaskGroups
