@@ -4,3 +4,7 @@ pub mod Listing
 pub mod ByTask
 pub mod Lasts
 pub mod Compiled
+pub mod NamedSources
+pub mod NamedSteps
+pub mod NamedDistances
+pub mod NamedWalk

@@ -3,3 +3,5 @@ pub mod Conditions
 pub mod Entered
 pub mod Listed
 pub mod Bad
+pub mod NamedCycle
+pub mod NamedSearch

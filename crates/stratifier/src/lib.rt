@@ -10,6 +10,7 @@ mod bad;
 mod by_task;
 mod edge;
 mod laws;
+mod named;
 mod reach;
 
 pub use all_edges::edges;
