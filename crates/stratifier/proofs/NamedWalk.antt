@@ -1,6 +1,6 @@
 -- The walk that goes one step nearer each time by the first edge that does: of the shortest walks it is the first.
 use Rattle.std.proofs.Common.{ℕ, zero, suc, ◌≡◌, ◌+◌, ◌<◌, ◌≤◌, ◌⊎◌, inl, inr, List, [], ◌∷◌, ◌++◌, length, map, get_or, Some, None, Option, slice_get, Contains, refl, sym, subst, ap, ◌∙◌, arith, append_assoc, append-nil}
-use Rattle.std.proofs.lemmas.List.{map-append}
+use Rattle.std.proofs.lemmas.List.{map-append, get_or_read}
 use Rattle.std.proofs.lemmas.Option.{same_Some, slice_get_within, none-some}
 use Rattle.task_networks.specs.Strata.{IsWalk, ComesFirst}
 use Rattle.task_networks.proofs.Lists.{not-in_empty, head_or_tail, Contains-here, Contains-later}
@@ -10,10 +10,11 @@ use Rattle.plan_meaning.specs.Network.{top_task}
 use Rattle.plan_meaning.specs.Schemas.{Schema, task}
 use Rattle.plan_meaning.specs.Strata.{Edge, source, target}
 use Rattle.plan_meaning.proofs.BoundParts.{there_at}
+use Rattle.stratifier.proofs.NamedDistances.{found_within}
 use Rattle.stratifier.specs.declared.edge.Edge as Declared
 use Rattle.stratifier.specs.declared.named.Ends.{Ends}
 use Rattle.stratifier.specs.Listed.{edge_of}
-use Rattle.stratifier.specs.NamedSearch.{AreEnds, IsBest, IsBestWalk, Leads, AreDistances, AreFirstSteps, IsStep}
+use Rattle.stratifier.specs.NamedSearch.{AreEnds, IsBest, IsBestWalk, Leads, AreDistances, AreFirstSteps, IsStep, ClosesAt, IsCycleAt}
 
 -- an item of a list has a place
 pub place_of : {A : Type 0} (xs : List A) (x : A) → Contains xs x → (k : ℕ) × (slice_get xs k ≡ Some x)
@@ -43,9 +44,22 @@ pub record IsCut {A : Type 0} (xs : List A) (k : ℕ) (x : A) : Type 0 where
   pub earlier : (y : A) → Contains before y → (j : ℕ) × (j < k) × (slice_get xs j ≡ Some y)
   pub later : (j : ℕ) (y : A) → k < j → slice_get xs j ≡ Some y → Contains after y
 
+cut_more : {A : Type 0} (y : A) (xs : List A) (k : ℕ) (x : A) → IsCut xs k x → IsCut (y ∷ xs) (suc k) x
+cut_more {A = A} y xs k x rest = record {
+  before = y ∷ rest.before;
+  after = rest.after;
+  parts = ap (λ z. y ∷ z) rest.parts;
+  earlier = λ z c. elim (head_or_tail y rest.before z c) [ inl f ↦ (0, omega arith, ap Some f) | inr d ↦ (let (j, l, g) = rest.earlier z d in (suc j, omega arith, g)) ];
+  later = later;
+}
+  where
+    later : (j : ℕ) (z : A) → suc k < j → slice_get (y ∷ xs) j ≡ Some z → Contains rest.after z
+    later zero z l f = absurd (omega arith)
+    later (suc j) z l f = rest.later j z (omega arith) f
+
 pub cut_there : {A : Type 0} (xs : List A) (k : ℕ) (x : A) → slice_get xs k ≡ Some x → IsCut xs k x
 cut_there [] k x e = absurd (none-some x e)
-cut_there (y ∷ xs) zero x e = record {
+cut_there {A = A} (y ∷ xs) zero x e = record {
   before = [];
   after = xs;
   parts = ap (λ z. z ∷ xs) (same_Some y x e);
@@ -56,20 +70,7 @@ cut_there (y ∷ xs) zero x e = record {
     later : (j : ℕ) (z : A) → 0 < j → slice_get (y ∷ xs) j ≡ Some z → Contains xs z
     later zero z l f = absurd (omega arith)
     later (suc j) z l f = at_place xs j z f
-cut_there (y ∷ xs) (suc k) x e = record {
-  before = y ∷ rest.before;
-  after = rest.after;
-  parts = ap (λ z. y ∷ z) rest.parts;
-  earlier = λ z c. elim (head_or_tail y rest.before z c) [ inl f ↦ (0, omega arith, ap Some f) | inr d ↦ (let (j, l, g) = rest.earlier z d in (suc j, omega arith, g)) ];
-  later = later;
-}
-  where
-    rest : IsCut xs k x
-    rest = cut_there xs k x e
-
-    later : (j : ℕ) (z : A) → suc k < j → slice_get (y ∷ xs) j ≡ Some z → Contains rest.after z
-    later zero z l f = absurd (omega arith)
-    later (suc j) z l f = rest.later j z (omega arith) f
+cut_there (y ∷ xs) (suc k) x e = cut_more y xs k x (cut_there xs k x e)
 
 module _ {Node Link : Type 0} (source target : Link → Node) (edges : List Link) where
   pub best_none : (x y : Node) → x ≡ y → IsBest source target edges x y []
@@ -283,3 +284,32 @@ step_is_nearer ends found t k n there (other, is, from, (near, a, b)) =
     let here : far found t ≡ suc near = ap number (ap (λ z. get_or found z None) (sym from) ∙ a) in
     let next : far found n.to ≡ near = ap number (ap (λ (z : Ends). get_or found z.to None) same ∙ b) in
     omega arith
+
+pub step_at : (ends : List Ends) (found slice steps : List (Option ℕ)) (t k near : ℕ) (read : Option ℕ) → slice ≡ found → AreFirstSteps ends slice steps → get_or found t None ≡ Some near → read ≡ get_or steps t read → read ≡ Some k
+    → IsStep ends found t k × ((j : ℕ) → j < k → IsStep ends found t j → ⊥)
+step_at ends found slice steps t k near read same first has is some =
+    let own = subst (λ s. AreFirstSteps ends s steps) same first in
+    let l = found_within found t near has in
+    own.first t k (sym (get_or_read steps t read (let r = own.room in omega arith) is None) ∙ some)
+
+pub no_step : (ends : List Ends) (found slice steps : List (Option ℕ)) (t near : ℕ) (read : Option ℕ) → slice ≡ found → AreFirstSteps ends slice steps → get_or found t None ≡ Some near → read ≡ get_or steps t read → ((k : ℕ) → read ≡ Some k → ⊥) → get_or steps t None ≡ None
+no_step ends found slice steps t near read same first has is none =
+    let own = subst (λ s. AreFirstSteps ends s steps) same first in
+    let l = found_within found t near has in
+    sym (get_or_read steps t read (let r = own.room in omega arith) is None) ∙ empty read none
+  where
+    empty : (o : Option ℕ) → ((k : ℕ) → o ≡ Some k → ⊥) → o ≡ None
+    empty None n = refl
+    empty (Some k) n = absurd (n k refl)
+
+module _ (c : Compiled) (edges : List Declared.Edge) (ends : List Ends) (are : AreEnds c edges ends) (k : ℕ) (e : Declared.Edge) (n : Ends) (is : slice_get edges k ≡ Some e) (there : slice_get ends k ≡ Some n) where
+  pub back_walk : ClosesAt c edges k → (walk : List Edge) × IsWalk (source c) (target c) (map edge_of edges) (task n.to) walk (task n.from)
+  back_walk (other, f, (walk, w)) =
+      let same : other ≡ e = same_Some other e (sym f ∙ is) in
+      (walk, subst (λ z. IsWalk (source c) (target c) (map edge_of edges) z walk (task n.from)) (ap (λ z. target c (edge_of z)) same ∙ are.to k e n is there)
+        (subst (λ z. IsWalk (source c) (target c) (map edge_of edges) (target c (edge_of other)) walk z) (ap (λ z. source c (edge_of z)) same ∙ are.from k e n is there) w))
+
+  pub cycle_at : (cycle : List Declared.Edge) → (walk : List Edge) × (map edge_of cycle ≡ edge_of e ∷ walk) × IsBest (source c) (target c) (map edge_of edges) (task n.to) (task n.from) walk → IsCycleAt c edges k cycle
+  cycle_at cycle (walk, made, best) = (e, is, walk, made,
+      subst (λ z. IsBest (source c) (target c) (map edge_of edges) z (source c (edge_of e)) walk) (sym (are.to k e n is there))
+      (subst (λ z. IsBest (source c) (target c) (map edge_of edges) (task n.to) z walk) (sym (are.from k e n is there)) best))

@@ -99,17 +99,19 @@ fn cycle_from(
     ends: &[Ends],
     first: usize,
 ) -> Result<List<Edge>, Memory>
+    requires small { AreSmall c.now }
     requires ends { AreEnds c.now edges.now ends.now }
+    requires first { first < length ends.now }
     requires closes { ClosesAt c.now edges.now first }
     ensures cycle { IfOk result (λ cycle. IsCycleAt c.now edges.now first cycle) }
 {
     let count = c.hddl.tasks.len() + 1;
-    let start = ends[first].from;
-    let distances = distances(alloc, count, ends, start)?;
+    let link = ends[first];
+    let distances = distances(alloc, count, ends, link.from)?;
     let steps = first_steps(alloc, ends, distances.as_slice())?;
     let mut cycle = List::new(alloc);
     cycle.push(edges[first])?;
-    let mut task = ends[first].to;
+    let mut task = link.to;
     while let Some(k) = steps[task as usize] {
         cycle.push(edges[k])?;
         task = ends[k].to;
