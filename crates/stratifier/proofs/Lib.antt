@@ -8,3 +8,5 @@ pub mod NamedSources
 pub mod NamedSteps
 pub mod NamedDistances
 pub mod NamedWalk
+pub mod NamedEnds
+pub mod NamedFirst
