@@ -24,6 +24,7 @@ use Rattle.stratifier.specs.NamedCycle.{AreGroupNumbers}
 use Rattle.stratifier.specs.Stratified.{number_in, number_of, rank_by, AreStrata, IsStratified}
 use Rattle.stratifier.specs.Conditions.{IsSmallCompiled, IsNumbered}
 use Rattle.stratifier.proofs.Grouped.{leads_within}
+use Rattle.stratifier.proofs.Lasts.{in_map}
 use Rattle.stratifier.proofs.Walks.{child_at}
 
 -- rows of the first edges
@@ -101,11 +102,6 @@ place_of_edge (d ∷ edges) e c = elim (head_or_tail (edge_of d) (map edge_of ed
   | inr h ↦ (let (k, f, g, i) = place_of_edge edges e h in (suc k, f, g, i))
 ]
 
-edge_at : (edges : List Declared.Edge) (k : ℕ) (d : Declared.Edge) → slice_get edges k ≡ Some d → Contains (map edge_of edges) (edge_of d)
-edge_at [] k d e = absurd cc
-edge_at (x ∷ edges) zero d e = let f : x ≡ d = cc in subst (λ z. Contains (map edge_of (x ∷ edges)) (edge_of z)) f (Contains-here (edge_of x) (map edge_of edges))
-edge_at (x ∷ edges) (suc k) d e = Contains-later (edge_of x) (map edge_of edges) (edge_of d) (edge_at edges k d e)
-
 module _ (c : Compiled) (edges : List Declared.Edge) (are : AreEdges c (map edge_of edges)) where
   abbrev Walk : Schema → List Edge → Schema → Type 0
   Walk = Walks.IsWalk (source c) (target c) (map edge_of edges)
@@ -168,7 +164,7 @@ module _ (c : Compiled) (edges : List Declared.Edge) (are : AreEdges c (map edge
       there (n, (k, l, f), from, to) =
           let (d, g) = there_at edges k (let r = h.room in omega arith) in
           let s : slice_get ends k ≡ Some n = slice_get-get_or ends k n l ∙ ap Some f in
-          (edge_of d, (are.all (edge_of d)).0 (edge_at edges k d g), h.from k d n g s ∙ ap task from, h.to k d n g s ∙ ap task to)
+          (edge_of d, (are.all (edge_of d)).0 (in_map edges d (k, slice_get_within edges k d g, get_or_from_slice_get edges k d d g)), h.from k d n g s ∙ ap task from, h.to k d n g s ∙ ap task to)
 
       back : Joins u v → IsSourceInto ends u v
       back (e, is, from, to) =

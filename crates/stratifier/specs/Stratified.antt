@@ -1,14 +1,15 @@
 -- The strata of a compiled problem: tasks numbered by their groups, so that no edge goes up.
 -- Source: this project's, after the tail-recursive problems of Alford et al., "Bound to Plan", ICAPS 2016.
-use Rattle.std.specs.Prelude.{ℕ, suc, ◌≡◌, ◌<◌, ◌≤◌, ◌↔◌, List, [], ◌∷◌, map, length, slice_index_or}
+use Rattle.std.specs.Prelude.{ℕ, suc, ◌≡◌, ◌≤◌, ◌↔◌, List, map, length, slice_index_or}
 use Rattle.plan_model.specs.declared.values.Compiled.{Compiled}
 use Rattle.plan_meaning.specs.Network.{top_task}
 use Rattle.plan_meaning.specs.Schemas.{Schema, action, check, task}
-use Rattle.plan_meaning.specs.Strata.{Edge, IsEdge, source, target, IsNamedCycle, IsRanking, IsOneGroup}
+use Rattle.plan_meaning.specs.Strata.{Edge, IsEdge, source, target, IsRanking, IsOneGroup}
 use Rattle.stratifier.specs.declared.ranks.Ranks.{Ranks}
 use Rattle.stratifier.specs.declared.ranks.StratError.{StratError}
 use Rattle.stratifier.specs.declared.ranks.StratError.TheVariants.{Cycle, Memory}
 use Rattle.stratifier.specs.Listed.{edge_of}
+use Rattle.stratifier.specs.NamedCycle.{IsNamed}
 
 abbrev pub number_in : List ℕ → Schema → ℕ
 number_in numbers (action a) = 0
@@ -36,12 +37,7 @@ pub record IsStratified (c : Compiled) (ranks : Ranks) : Type 0 where
   pub ranking : IsRanking c (rank_by ranks)
   pub groups : (t u : ℕ) → t ≤ top_task c → u ≤ top_task c → (number_of ranks t ≡ number_of ranks u) ↔ IsOneGroup c (task t) (task u)
 
--- the edges are the bad cycle that is named: the bad edge, then the walk back
-abbrev pub IsTheNamedCycle : Compiled → List Edge → Type 0
-IsTheNamedCycle c [] = ⊥
-IsTheNamedCycle c (e ∷ walk) = IsNamedCycle c e walk
-
 -- a cycle is answered where it is the named one
 abbrev pub IsRefused : Compiled → StratError → Type 0
-IsRefused c (Cycle edges) = IsTheNamedCycle c (map edge_of edges)
+IsRefused c (Cycle edges) = IsNamed c (map edge_of edges)
 IsRefused c Memory = Unit {0}
