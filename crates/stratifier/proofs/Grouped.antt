@@ -1,5 +1,5 @@
 -- Groups numbered one after another, in the reverse of an order in which a walk over the reversed edges leaves the tasks.
-use Rattle.std.proofs.Common.{ℕ, zero, suc, ◌≡◌, ◌+◌, ◌<◌, ◌≤◌, ◌⊎◌, ◌↔◌, inl, inr, List, [], ◌∷◌, ◌++◌, length, Bool, true, false, get_or, set, Contains, refl, sym, subst, ap, ◌∙◌, arith, length-set, append_assoc, get_or-set_same, get_or-set_other}
+use Rattle.std.proofs.Common.{ℕ, suc, ◌≡◌, ◌+◌, ◌<◌, ◌≤◌, ◌⊎◌, ◌↔◌, inl, inr, List, [], ◌∷◌, ◌++◌, length, Bool, true, false, get_or, set, Contains, refl, sym, subst, ap, ◌∙◌, arith, length-set, append_assoc, get_or-set_same, get_or-set_other}
 use Rattle.std.proofs.lemmas.Bool.{cases_eq, cases_lt, false≢true}
 use Rattle.std.proofs.lemmas.List.{append-nil, get_or_past, length_push, length-append}
 use Rattle.std.proofs.lemmas.List.Elements.{Contains-push, Contains-push_cases, Contains-append_left, Contains-append_right, Contains-append_cases}
@@ -13,7 +13,7 @@ use Rattle.plan_model.proofs.Marks.{marked_within}
 use Rattle.stratifier.specs.declared.reach.Walk.{Walk}
 use Rattle.stratifier.specs.declared.groups.Groups.{Groups}
 use Rattle.stratifier.specs.Entered.{AreEntered}
-use Rattle.stratifier.specs.Graph.{Leads, Reaches, itself, onward, ReachBack, AreWithin, AreReversed, IsFinishingOrder, NumberComponents}
+use Rattle.stratifier.specs.Graph.{Leads, Reaches, itself, onward, AreWithin, AreReversed, IsFinishingOrder, NumberComponents}
 use Rattle.stratifier.specs.Grouping.{IsNumbered, number, IsReady, IsNumberedFrom}
 use Rattle.stratifier.proofs.Descents.{reaches_then}
 

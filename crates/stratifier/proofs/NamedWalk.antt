@@ -1,20 +1,19 @@
 -- The walk that goes one step nearer each time by the first edge that does: of the shortest walks it is the first.
-use Rattle.std.proofs.Common.{ℕ, zero, suc, ◌≡◌, ◌+◌, ◌<◌, ◌≤◌, ◌⊎◌, inl, inr, List, [], ◌∷◌, ◌++◌, length, map, get_or, Some, None, Option, slice_get, Contains, refl, sym, subst, ap, ◌∙◌, arith, append_assoc, append-nil}
+use Rattle.std.proofs.Common.{ℕ, zero, suc, ◌≡◌, ◌<◌, ◌≤◌, ◌⊎◌, inl, inr, List, [], ◌∷◌, ◌++◌, length, map, get_or, Some, None, Option, slice_get, Contains, refl, sym, subst, ap, ◌∙◌, arith, append_assoc, append-nil}
 use Rattle.std.proofs.lemmas.List.{map-append, get_or_read}
 use Rattle.std.proofs.lemmas.Option.{same_Some, slice_get_within, none-some}
 use Rattle.task_networks.specs.Strata.{IsWalk, ComesFirst}
 use Rattle.task_networks.proofs.Lists.{not-in_empty, head_or_tail, Contains-here, Contains-later}
 use Rattle.task_networks.proofs.BoundLaws.{by_size}
 use Rattle.plan_model.specs.declared.values.Compiled.{Compiled}
-use Rattle.plan_meaning.specs.Network.{top_task}
-use Rattle.plan_meaning.specs.Schemas.{Schema, task}
+use Rattle.plan_meaning.specs.Schemas.{task}
 use Rattle.plan_meaning.specs.Strata.{Edge, source, target}
 use Rattle.plan_meaning.proofs.BoundParts.{there_at}
 use Rattle.stratifier.proofs.NamedDistances.{found_within}
 use Rattle.stratifier.specs.declared.edge.Edge as Declared
 use Rattle.stratifier.specs.declared.named.Ends.{Ends}
 use Rattle.stratifier.specs.Listed.{edge_of}
-use Rattle.stratifier.specs.NamedSearch.{AreEnds, IsBest, IsBestWalk, Leads, AreDistances, AreFirstSteps, IsStep, ClosesAt, IsCycleAt}
+use Rattle.stratifier.specs.NamedSearch.{AreEnds, IsBest, Leads, AreDistances, AreFirstSteps, IsStep, ClosesAt, IsCycleAt}
 
 -- an item of a list has a place
 pub place_of : {A : Type 0} (xs : List A) (x : A) → Contains xs x → (k : ℕ) × (slice_get xs k ≡ Some x)
@@ -305,11 +304,18 @@ no_step ends found slice steps t near read same first has is none =
 module _ (c : Compiled) (edges : List Declared.Edge) (ends : List Ends) (are : AreEnds c edges ends) (k : ℕ) (e : Declared.Edge) (n : Ends) (is : slice_get edges k ≡ Some e) (there : slice_get ends k ≡ Some n) where
   pub back_walk : ClosesAt c edges k → (walk : List Edge) × IsWalk (source c) (target c) (map edge_of edges) (task n.to) walk (task n.from)
   back_walk (other, f, (walk, w)) =
-      let same : other ≡ e = same_Some other e (sym f ∙ is) in
-      (walk, subst (λ z. IsWalk (source c) (target c) (map edge_of edges) z walk (task n.from)) (ap (λ z. target c (edge_of z)) same ∙ are.to k e n is there)
-        (subst (λ z. IsWalk (source c) (target c) (map edge_of edges) (target c (edge_of other)) walk z) (ap (λ z. source c (edge_of z)) same ∙ are.from k e n is there) w))
+      let same : other ≡ e = same_Some other e (sym f ∙ is) in (
+        walk,
+        subst (λ z. IsWalk (source c) (target c) (map edge_of edges) z walk (task n.from)) (ap (λ z. target c (edge_of z)) same ∙ are.to k e n is there)
+            (subst (λ z. IsWalk (source c) (target c) (map edge_of edges) (target c (edge_of other)) walk z) (ap (λ z. source c (edge_of z)) same ∙ are.from k e n is there) w),
+      )
 
   pub cycle_at : (cycle : List Declared.Edge) → (walk : List Edge) × (map edge_of cycle ≡ edge_of e ∷ walk) × IsBest (source c) (target c) (map edge_of edges) (task n.to) (task n.from) walk → IsCycleAt c edges k cycle
-  cycle_at cycle (walk, made, best) = (e, is, walk, made,
-      subst (λ z. IsBest (source c) (target c) (map edge_of edges) z (source c (edge_of e)) walk) (sym (are.to k e n is there))
-      (subst (λ z. IsBest (source c) (target c) (map edge_of edges) (task n.to) z walk) (sym (are.from k e n is there)) best))
+  cycle_at cycle (walk, made, best) = (
+    e,
+    is,
+    walk,
+    made,
+    subst (λ z. IsBest (source c) (target c) (map edge_of edges) z (source c (edge_of e)) walk) (sym (are.to k e n is there))
+        (subst (λ z. IsBest (source c) (target c) (map edge_of edges) (task n.to) z walk) (sym (are.from k e n is there)) best),
+  )

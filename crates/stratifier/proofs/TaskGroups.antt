@@ -1,15 +1,15 @@
 -- Groups of the tasks of a compiled problem, from those of the rows of its edges.
-use Rattle.std.proofs.Common.{ℕ, zero, suc, ◌≡◌, ◌+◌, ◌<◌, ◌≤◌, ◌⊎◌, ◌↔◌, inl, inr, List, [], ◌∷◌, ◌++◌, length, map, get_or, set, take, Option, Some, slice_get, All, Contains, refl, sym, subst, ap, ◌∙◌, arith, length-set, get_or-set_same, get_or-set_other}
+use Rattle.std.proofs.Common.{ℕ, suc, ◌≡◌, ◌+◌, ◌<◌, ◌≤◌, ◌⊎◌, ◌↔◌, inl, inr, List, [], ◌∷◌, ◌++◌, length, map, get_or, set, take, Some, slice_get, Contains, refl, sym, subst, ap, ◌∙◌, arith, length-set, get_or-set_same, get_or-set_other}
 use Rattle.std.proofs.lemmas.Bool.{cases_eq, cases_lt}
 use Rattle.std.proofs.lemmas.List.{take_more, take_all, get_or_past}
 use Rattle.std.proofs.lemmas.Option.{slice_get-get_or, slice_get_within, get_or_from_slice_get}
-use Rattle.std.proofs.lemmas.List.Elements.{Contains-push, Contains-push_cases, Contains-append_left, Contains-get_or}
+use Rattle.std.proofs.lemmas.List.Elements.{Contains-push, Contains-push_cases, Contains-append_left}
 use Rattle.task_networks.specs.Strata as Walks
-use Rattle.task_networks.proofs.Lists.{not-in_empty, head_or_tail, Contains-here, Contains-later}
+use Rattle.task_networks.proofs.Lists.{not-in_empty, head_or_tail}
 use Rattle.plan_model.specs.declared.values.Compiled.{Compiled}
 use Rattle.plan_meaning.specs.Network.{top_task}
-use Rattle.plan_meaning.specs.Schemas.{Schema, task, schemas}
-use Rattle.plan_meaning.specs.Strata.{Edge, IsEdge, AreEdges, IsBad, IsTailRecursive, IsRanking, IsOneGroup, source, target, target_by}
+use Rattle.plan_meaning.specs.Schemas.{Schema, task}
+use Rattle.plan_meaning.specs.Strata.{Edge, IsEdge, AreEdges, IsBad, IsTailRecursive, IsOneGroup, source, target, target_by}
 use Rattle.plan_meaning.proofs.BoundParts.{head_is_task, there_at}
 use Rattle.plan_meaning.proofs.MethodParts.{head_schema_by, schemas_by}
 use Rattle.stratifier.specs.declared.edge.Edge as Declared

@@ -167,7 +167,13 @@ fn distances(
     let mut distance = 0;
     while !tasks.is_empty() {
         distance += 1;
-        tasks = next_tasks(alloc, &mut found, sources.as_slice(), tasks.as_slice(), distance)?;
+        tasks = next_tasks(
+            alloc,
+            &mut found,
+            sources.as_slice(),
+            tasks.as_slice(),
+            distance,
+        )?;
     }
     Ok(found)
 }
@@ -206,7 +212,11 @@ fn next_tasks(
 }
 
 /// For each of so many tasks those from which an edge leads to it.
-pub(crate) fn sources_by_task(alloc: Global, count: usize, ends: &[Ends]) -> Result<Vec<List<u32>>, Memory>
+pub(crate) fn sources_by_task(
+    alloc: Global,
+    count: usize,
+    ends: &[Ends],
+) -> Result<Vec<List<u32>>, Memory>
     requires within { AreEndsBelow count ends.now }
     ensures room { IfOk result (λ lists. length lists.items ≡ count) }
     ensures sources { IfOk result (λ lists. (t s : ℕ) →

@@ -12,8 +12,8 @@ use htn_base::{List, Memory};
 use plan_model::Compiled;
 use std::alloc::Global;
 
-/// The strata of a problem: a number for each task and the top task, the same for those of one group. An edge goes
-/// to a lower number, or to a last child of the same group.
+/// The strata of a problem: a number for each task and the top task, the same for those of one group.
+/// An edge goes to a lower number, or to a last child of the same group.
 #[derive(Drop)]
 pub struct Ranks {
     numbers: Vec<u32>,
@@ -37,8 +37,8 @@ impl Ranks {
     }
 }
 
-/// Why a problem has no strata: the bad cycle that is named, as a bad edge and the shortest walk back, or want of
-/// memory.
+/// Why a problem has no strata: the bad cycle that is named, as a bad edge and the shortest walk back,
+/// or want of memory.
 #[derive(Drop)]
 pub enum StratError {
     Cycle(List<Edge>),

@@ -1,6 +1,6 @@
-use Rattle.std.proofs.Common.{◌≡◌, ◌+◌, [], arith}
+use Rattle.std.proofs.Common.{◌≡◌, [], arith}
 use Rattle.std.proofs.lemmas.List.{nil_from_length}
-use Rattle.stratifier.proofs.Grouped.{reversed_within, roots_left, grouped_none, grouped_more, grouped_all}
+use Rattle.stratifier.proofs.Grouped.{reversed_within, roots_left, grouped_more, grouped_all}
 use Rattle.stratifier.proofs.groups.group_numbers.Goals as goal
 
 pub finishing_order-requires-clause-within : goal.finishing_order-requires-clause-within
