@@ -10,3 +10,4 @@ pub mod NamedDistances
 pub mod NamedWalk
 pub mod NamedEnds
 pub mod NamedFirst
+pub mod examples

@@ -52,10 +52,16 @@ module _ (c : Compiled) (edges : List Declared.Edge) (are : AreEdges c (map edge
       let one : get_or ends k n ≡ n = same_Some (get_or ends k n) n (sym (slice_get-get_or ends k n l) ∙ is) in
       let from : n.from ≤ top_task c = (let a = (subst (λ (z : Ends). (z.from < top_task c + 1) × (z.to < top_task c + 1)) one below).0 in omega arith) in
       let to : n.to ≤ top_task c = (let a = (subst (λ (z : Ends). (z.from < top_task c + 1) × (z.to < top_task c + 1)) one below).1 in omega arith) in
-      let (list, a, (there, (walk, w))) = (numbers.one n.from n.to from to).0 same in
-      (e, at, (marks.each k e true at mark).0 refl, (walk,
-        subst (λ z. Walks.IsWalk (source c) (target c) all z walk (source c (edge_of e))) (sym (told.to k e n at is))
-        (subst (λ z. Walks.IsWalk (source c) (target c) all (task n.to) walk z) (sym (told.from k e n at is)) (over list all a are (task n.to) (task n.from) walk w))))
+      let (list, a, (there, (walk, w))) = (numbers.one n.from n.to from to).0 same in (
+        e,
+        at,
+        (marks.each k e true at mark).0 refl,
+        (
+          walk,
+          subst (λ z. Walks.IsWalk (source c) (target c) all z walk (source c (edge_of e))) (sym (told.to k e n at is))
+              (subst (λ z. Walks.IsWalk (source c) (target c) all (task n.to) walk z) (sym (told.from k e n at is)) (over list all a are (task n.to) (task n.from) walk w)),
+        ),
+      )
 
   pub is_closing : (k : ℕ) (e : Declared.Edge) → slice_get edges k ≡ Some e → IsBad c (edge_of e) → Walks.Reaches (source c) (target c) all (target c (edge_of e)) (source c (edge_of e)) → IsClosing groups ends bad k
   is_closing k e at is_bad (walk, w) =
@@ -70,27 +76,35 @@ module _ (c : Compiled) (edges : List Declared.Edge) (are : AreEdges c (map edge
       let end = told.to k e n at is in
       let there : Walks.IsWalk (source c) (target c) all (task n.from) (edge_of e ∷ []) (task n.to) = (start, at_place all k (edge_of e) (slice_get-mapped edge_of edges k e at), end) in
       let back : Walks.IsWalk (source c) (target c) all (task n.to) walk (task n.from) =
-          subst (λ z. Walks.IsWalk (source c) (target c) all z walk (task n.from)) end (subst (λ z. Walks.IsWalk (source c) (target c) all (target c (edge_of e)) walk z) start w) in
+      subst (λ z. Walks.IsWalk (source c) (target c) all z walk (task n.from)) end (subst (λ z. Walks.IsWalk (source c) (target c) all (target c (edge_of e)) walk z) start w) in
       (n, is, m ∙ ap Some ((marks.each k e mark at m).1 is_bad), (numbers.one n.from n.to from to).1 (all, are, ((edge_of e ∷ [], there), (walk, back))))
 
   pub none_closes : ((k : ℕ) → IsClosing groups ends bad k → ⊥) → IsTailRecursive c
-  none_closes none = (all, are, λ e walk cycle. (let (k, f) = place_of all e cycle.0 in
-      let (d, at, same) = mapped_at edge_of edges k e f in
-      none k (is_closing k d at (subst (IsBad c) (sym same) cycle.1) (walk, subst (λ z. Walks.IsWalk (source c) (target c) all (target c z) walk (source c z)) (sym same) cycle.2))))
+  none_closes none = (
+    all,
+    are,
+    λ e walk cycle. (let (k, f) = place_of all e cycle.0 in
+        let (d, at, same) = mapped_at edge_of edges k e f in
+        none k (is_closing k d at (subst (IsBad c) (sym same) cycle.1) (walk, subst (λ z. Walks.IsWalk (source c) (target c) all (target c z) walk (source c z)) (sym same) cycle.2))),
+  )
 
   pub closes_at : (k : ℕ) → IsClosing groups ends bad k → ClosesAt c edges k
   closes_at k closing = let (e, at, is_bad, reaches) = closing_is k closing in (e, at, reaches)
 
   pub named_at : (k : ℕ) (cycle : List Declared.Edge) → IsClosing groups ends bad k → NoneBefore groups ends bad k → IsCycleAt c edges k cycle → IsNamed c (map edge_of cycle)
-  named_at k cycle closing none (e, at, walk, made, best) = subst (IsNamed c) (sym made) (all, are, record {
-    cycle = (at_place all k (edge_of e) (slice_get-mapped edge_of edges k e at), is_bad, best.walks);
-    before = cut.before;
-    after = cut.after;
-    parts = cut.parts;
-    none_before = λ d back b w. earlier d back (cut.earlier d b) w;
-    shortest = best.shortest;
-    first = best.first;
-  })
+  named_at k cycle closing none (e, at, walk, made, best) = subst (IsNamed c) (sym made) (
+    all,
+    are,
+    record {
+      cycle = (at_place all k (edge_of e) (slice_get-mapped edge_of edges k e at), is_bad, best.walks);
+      before = cut.before;
+      after = cut.after;
+      parts = cut.parts;
+      none_before = λ d back b w. earlier d back (cut.earlier d b) w;
+      shortest = best.shortest;
+      first = best.first;
+    },
+  )
     where
       cut : IsCut all k (edge_of e)
       cut = cut_there all k (edge_of e) (slice_get-mapped edge_of edges k e at)

@@ -305,11 +305,18 @@ no_step ends found slice steps t near read same first has is none =
 module _ (c : Compiled) (edges : List Declared.Edge) (ends : List Ends) (are : AreEnds c edges ends) (k : ℕ) (e : Declared.Edge) (n : Ends) (is : slice_get edges k ≡ Some e) (there : slice_get ends k ≡ Some n) where
   pub back_walk : ClosesAt c edges k → (walk : List Edge) × IsWalk (source c) (target c) (map edge_of edges) (task n.to) walk (task n.from)
   back_walk (other, f, (walk, w)) =
-      let same : other ≡ e = same_Some other e (sym f ∙ is) in
-      (walk, subst (λ z. IsWalk (source c) (target c) (map edge_of edges) z walk (task n.from)) (ap (λ z. target c (edge_of z)) same ∙ are.to k e n is there)
-        (subst (λ z. IsWalk (source c) (target c) (map edge_of edges) (target c (edge_of other)) walk z) (ap (λ z. source c (edge_of z)) same ∙ are.from k e n is there) w))
+      let same : other ≡ e = same_Some other e (sym f ∙ is) in (
+        walk,
+        subst (λ z. IsWalk (source c) (target c) (map edge_of edges) z walk (task n.from)) (ap (λ z. target c (edge_of z)) same ∙ are.to k e n is there)
+            (subst (λ z. IsWalk (source c) (target c) (map edge_of edges) (target c (edge_of other)) walk z) (ap (λ z. source c (edge_of z)) same ∙ are.from k e n is there) w),
+      )
 
   pub cycle_at : (cycle : List Declared.Edge) → (walk : List Edge) × (map edge_of cycle ≡ edge_of e ∷ walk) × IsBest (source c) (target c) (map edge_of edges) (task n.to) (task n.from) walk → IsCycleAt c edges k cycle
-  cycle_at cycle (walk, made, best) = (e, is, walk, made,
-      subst (λ z. IsBest (source c) (target c) (map edge_of edges) z (source c (edge_of e)) walk) (sym (are.to k e n is there))
-      (subst (λ z. IsBest (source c) (target c) (map edge_of edges) (task n.to) z walk) (sym (are.from k e n is there)) best))
+  cycle_at cycle (walk, made, best) = (
+    e,
+    is,
+    walk,
+    made,
+    subst (λ z. IsBest (source c) (target c) (map edge_of edges) z (source c (edge_of e)) walk) (sym (are.to k e n is there))
+        (subst (λ z. IsBest (source c) (target c) (map edge_of edges) (task n.to) z walk) (sym (are.from k e n is there)) best),
+  )

@@ -5,3 +5,4 @@ pub mod Listed
 pub mod Bad
 pub mod NamedCycle
 pub mod NamedSearch
+pub mod CycleWords

@@ -167,7 +167,13 @@ fn distances(
     let mut distance = 0;
     while !tasks.is_empty() {
         distance += 1;
-        tasks = next_tasks(alloc, &mut found, sources.as_slice(), tasks.as_slice(), distance)?;
+        tasks = next_tasks(
+            alloc,
+            &mut found,
+            sources.as_slice(),
+            tasks.as_slice(),
+            distance,
+        )?;
     }
     Ok(found)
 }

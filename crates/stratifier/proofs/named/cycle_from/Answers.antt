@@ -62,7 +62,7 @@ returns c =
     let found = c.in_ok-distances.distances.items in
     let none = no_step ends found _ c.in_ok-steps.steps.items c.loop-k.task c.loop-k.invariant.near c.index.result.now c.as_slice.ensures.value c.in_ok-steps.ensures.steps c.loop-k.invariant.has c.index.ensures c.in_default.not-Some in
     let all = followed_all c.args.c.now edges ends c.requires.ends (get_or ends first nowhere).from found c.in_ok-distances.ensures.distances (get_or ends first nowhere).to (get_or edges first nothing)
-        c.in_ok-steps.steps.items c.loop-k.cycle c.loop-k.task (subst (λ s. AreFirstSteps ends s c.in_ok-steps.steps.items) c.as_slice.ensures.value c.in_ok-steps.ensures.steps) none c.loop-k.invariant in
+    c.in_ok-steps.steps.items c.loop-k.cycle c.loop-k.task (subst (λ s. AreFirstSteps ends s c.in_ok-steps.steps.items) c.as_slice.ensures.value c.in_ok-steps.ensures.steps) none c.loop-k.invariant in
     record { cycle = cycle_at c.args.c.now edges ends c.requires.ends first (get_or edges first nothing) (get_or ends first nowhere) (slice_get-get_or edges first nothing (let r = c.requires.ends.room in let l = c.requires.first in omega arith)) (slice_get-get_or ends first nowhere c.requires.first) c.loop-k.cycle all }
 
 pub offset_bounds-ends-k : goal.offset_bounds-ends-k

@@ -26,7 +26,7 @@ loop-alloc-preserved c =
     let tasks = c.loop-alloc.tasks.items in
     let distance = c.loop-alloc.distance in
     let found = subst (λ s. AreFound (IsSourceOf s tasks) (distance + 1) c.loop-alloc.found.items c.next_tasks.new.found.items c.in_ok-tasks-2.tasks.items) c.as_slice.ensures.value
-        (subst (λ s. AreFound (IsSourceOf c.as_slice.result.now s) (distance + 1) c.loop-alloc.found.items c.next_tasks.new.found.items c.in_ok-tasks-2.tasks.items) c.as_slice-in-loop-alloc.ensures.value c.in_ok-tasks-2.ensures.found) in
+    (subst (λ s. AreFound (IsSourceOf c.as_slice.result.now s) (distance + 1) c.loop-alloc.found.items c.next_tasks.new.found.items c.in_ok-tasks-2.tasks.items) c.as_slice-in-loop-alloc.ensures.value c.in_ok-tasks-2.ensures.found) in
     searched_on c.args.ends.now c.args.goal c.args.count c.loop-alloc.found.items c.next_tasks.new.found.items tasks c.in_ok-tasks-2.tasks.items distance (distance + 1) sources (omega arith) (let l = not_empty _ c.loop-alloc-test.ensures in let v = c.loop-alloc.tasks.ok.0 in omega arith) c.in_ok-sources.ensures.sources c.loop-alloc.invariant found
 
 pub returns-clause-distances : goal.returns-clause-distances
