@@ -1,21 +1,19 @@
 -- The first bad edge that leads back to its start, and the cycle that is named.
-use Rattle.std.proofs.Common.{ℕ, zero, suc, ◌≡◌, ◌+◌, ◌<◌, ◌≤◌, ◌⊎◌, ◌↔◌, inl, inr, List, [], ◌∷◌, ◌++◌, length, map, get_or, Bool, true, false, Option, Some, None, slice_get, Contains, refl, sym, subst, ap, ◌∙◌, arith}
-use Rattle.std.proofs.lemmas.Bool.{cases_eq, false≢true}
+use Rattle.std.proofs.Common.{ℕ, ◌≡◌, ◌+◌, ◌<◌, ◌≤◌, inl, inr, List, [], ◌∷◌, length, map, get_or, Bool, true, Some, slice_get, refl, sym, subst, ap, ◌∙◌, arith}
+use Rattle.std.proofs.lemmas.Bool.{cases_eq}
 use Rattle.std.proofs.lemmas.Option.{same_Some, slice_get_within, slice_get-get_or}
-use Rattle.std.proofs.lemmas.List.Elements.{Contains-append_right}
 use Rattle.task_networks.specs.Strata as Walks
-use Rattle.task_networks.proofs.Lists.{Contains-here}
 use Rattle.plan_model.specs.declared.values.Compiled.{Compiled}
 use Rattle.plan_meaning.specs.Network.{top_task}
 use Rattle.plan_meaning.specs.Schemas.{Schema, task}
-use Rattle.plan_meaning.specs.Strata.{Edge, AreEdges, IsBad, IsOneGroup, IsTailRecursive, IsNamedCycle, source, target}
+use Rattle.plan_meaning.specs.Strata.{Edge, AreEdges, IsBad, IsTailRecursive, source, target}
 use Rattle.plan_meaning.proofs.BoundParts.{there_at}
 use Rattle.stratifier.specs.declared.edge.Edge as Declared
 use Rattle.stratifier.specs.declared.named.Ends.{Ends}
 use Rattle.stratifier.specs.Listed.{edge_of}
 use Rattle.stratifier.specs.Bad.{AreBadMarks}
-use Rattle.stratifier.specs.NamedCycle.{AreGroupNumbers, IsNamed, MayBeNamed}
-use Rattle.stratifier.specs.NamedSearch.{AreEnds, ClosesAt, IsBest, IsClosing, IsCycleAt}
+use Rattle.stratifier.specs.NamedCycle.{AreGroupNumbers, IsNamed}
+use Rattle.stratifier.specs.NamedSearch.{AreEnds, ClosesAt, IsClosing, IsCycleAt}
 use Rattle.stratifier.proofs.NamedWalk.{place_of, at_place, mapped_at, slice_get-mapped, IsCut, cut_there}
 
 module _ (groups : List ℕ) (ends : List Ends) (bad : List Bool) where

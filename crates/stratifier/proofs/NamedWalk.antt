@@ -1,20 +1,19 @@
 -- The walk that goes one step nearer each time by the first edge that does: of the shortest walks it is the first.
-use Rattle.std.proofs.Common.{ℕ, zero, suc, ◌≡◌, ◌+◌, ◌<◌, ◌≤◌, ◌⊎◌, inl, inr, List, [], ◌∷◌, ◌++◌, length, map, get_or, Some, None, Option, slice_get, Contains, refl, sym, subst, ap, ◌∙◌, arith, append_assoc, append-nil}
+use Rattle.std.proofs.Common.{ℕ, zero, suc, ◌≡◌, ◌<◌, ◌≤◌, ◌⊎◌, inl, inr, List, [], ◌∷◌, ◌++◌, length, map, get_or, Some, None, Option, slice_get, Contains, refl, sym, subst, ap, ◌∙◌, arith, append_assoc, append-nil}
 use Rattle.std.proofs.lemmas.List.{map-append, get_or_read}
 use Rattle.std.proofs.lemmas.Option.{same_Some, slice_get_within, none-some}
 use Rattle.task_networks.specs.Strata.{IsWalk, ComesFirst}
 use Rattle.task_networks.proofs.Lists.{not-in_empty, head_or_tail, Contains-here, Contains-later}
 use Rattle.task_networks.proofs.BoundLaws.{by_size}
 use Rattle.plan_model.specs.declared.values.Compiled.{Compiled}
-use Rattle.plan_meaning.specs.Network.{top_task}
-use Rattle.plan_meaning.specs.Schemas.{Schema, task}
+use Rattle.plan_meaning.specs.Schemas.{task}
 use Rattle.plan_meaning.specs.Strata.{Edge, source, target}
 use Rattle.plan_meaning.proofs.BoundParts.{there_at}
 use Rattle.stratifier.proofs.NamedDistances.{found_within}
 use Rattle.stratifier.specs.declared.edge.Edge as Declared
 use Rattle.stratifier.specs.declared.named.Ends.{Ends}
 use Rattle.stratifier.specs.Listed.{edge_of}
-use Rattle.stratifier.specs.NamedSearch.{AreEnds, IsBest, IsBestWalk, Leads, AreDistances, AreFirstSteps, IsStep, ClosesAt, IsCycleAt}
+use Rattle.stratifier.specs.NamedSearch.{AreEnds, IsBest, Leads, AreDistances, AreFirstSteps, IsStep, ClosesAt, IsCycleAt}
 
 -- an item of a list has a place
 pub place_of : {A : Type 0} (xs : List A) (x : A) → Contains xs x → (k : ℕ) × (slice_get xs k ≡ Some x)

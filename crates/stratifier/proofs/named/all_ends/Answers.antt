@@ -2,7 +2,7 @@ use Rattle.std.proofs.Common.{◌≡◌, ◌<◌, length, Some, get_or, slice_ge
 use Rattle.std.proofs.lemmas.Option.{slice_get-get_or}
 use Rattle.stratifier.specs.declared.edge.Edge.{Edge}
 use Rattle.stratifier.specs.NamedSearch.{HasEnds}
-use Rattle.stratifier.proofs.NamedEnds.{has_ends, ends_none, ends_more, ends_all}
+use Rattle.stratifier.proofs.NamedEnds.{has_ends, ends_more, ends_all}
 use Rattle.stratifier.proofs.named.all_ends.Goals as goal
 
 abbrev none : Edge

@@ -1,5 +1,4 @@
-use Rattle.std.proofs.Common.{◌≡◌, ◌∷◌, ◌++◌, [], ◌<◌, length, Some, None, get_or, slice_get, refl, sym, ap, subst, ◌∙◌, arith}
-use Rattle.std.proofs.lemmas.List.{get_or_read}
+use Rattle.std.proofs.Common.{◌∷◌, ◌++◌, [], ◌<◌, length, get_or, ap, subst, ◌∙◌, arith}
 use Rattle.std.proofs.lemmas.Option.{slice_get-get_or, slice_get_within}
 use Rattle.stratifier.specs.NamedSearch.{AreFirstSteps}
 use Rattle.stratifier.proofs.NamedWalk.{back_walk, cycle_at, step_at, no_step, followed_none, followed_more, followed_all, step_is_nearer}

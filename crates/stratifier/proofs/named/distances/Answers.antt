@@ -1,4 +1,4 @@
-use Rattle.std.proofs.Common.{◌≡◌, ◌+◌, ◌<◌, suc, All, length, refl, sym, ap, subst, ◌∙◌, arith}
+use Rattle.std.proofs.Common.{◌+◌, ◌<◌, All, length, refl, sym, ap, subst, arith}
 use Rattle.std.proofs.lemmas.List.{nil_from_length}
 use Rattle.stratifier.specs.NamedSearch.{AreFound, IsSourceOf}
 use Rattle.stratifier.proofs.NamedDistances.{not_empty, is_empty, searched_first, searched_on, searched_all, tasks_within, sources_within}

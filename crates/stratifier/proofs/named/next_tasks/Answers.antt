@@ -1,9 +1,9 @@
-use Rattle.std.proofs.Common.{◌≡◌, ◌<◌, ◌∷◌, ◌++◌, [], get_or, set, take, refl, sym, ap, subst, ◌∙◌, arith}
+use Rattle.std.proofs.Common.{◌≡◌, ◌<◌, [], get_or, take, sym, ap, subst, ◌∙◌, arith}
 use Rattle.std.proofs.Common.{ℕ, ◌+◌, List, not, length, None, take_all}
 use Rattle.std.proofs.lemmas.List.{get_or_read}
 use Rattle.std.proofs.lemmas.Option.{slice_get-get_or, get_or_from_slice_get}
 use Rattle.stratifier.proofs.NamedSteps.{no_option, an_option}
-use Rattle.stratifier.specs.NamedSearch.{IsSourceOf, AreFound}
+use Rattle.stratifier.specs.NamedSearch.{AreFound}
 use Rattle.stratifier.proofs.NamedDistances.{IsSourceUpTo, found_none, found_as, found_before, found_one, no_source, source_first, source_next, source_row}
 use Rattle.stratifier.proofs.named.next_tasks.Goals as goal
 use Rattle.stratifier.proofs.named.next_tasks.Goals.{then-is_none+in_ok-push, else-is_none}
