@@ -1,12 +1,3 @@
-pub mod Clean
-pub mod Tokens
-pub mod Steps
-pub mod NameLemmas
-pub mod Tables
-pub mod Loops
-pub mod Sections
-pub mod SchemaLemmas
-pub mod Calls
-pub mod Spelled
-pub mod Sound
-pub mod SmallNetworks
+pub mod FoldSteps
+pub mod NetworkSteps
+pub mod PartSteps

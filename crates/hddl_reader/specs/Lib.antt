@@ -1,5 +1,5 @@
-pub mod Rest
-pub mod Written
-pub mod Plain
-pub mod Tables
-pub mod Binding
+pub mod Opened
+pub mod Networks
+pub mod Parts
+pub mod Sections
+pub mod Definitions

@@ -11,3 +11,5 @@ pub mod NamedWalk
 pub mod NamedEnds
 pub mod NamedFirst
 pub mod examples
+pub mod Descents
+pub mod Grouped

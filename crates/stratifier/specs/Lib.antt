@@ -6,3 +6,7 @@ pub mod Bad
 pub mod NamedCycle
 pub mod NamedSearch
 pub mod CycleWords
+pub mod Stratified
+pub mod Graph
+pub mod Finishing
+pub mod Grouping

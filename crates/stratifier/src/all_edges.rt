@@ -1,7 +1,7 @@
 ghost use Rattle.std.specs.Prelude.{◌≡◌, ◌<◌, ◌≤◌, ◌^◌, ◌++◌, All, map, length, IfOk, OnOk};
 ghost use Rattle.plan_model.specs.declared.schemas.MethodPlan.{MethodPlan};
 ghost use Rattle.plan_meaning.specs.Strata.{AreEdges};
-ghost use Rattle.stratifier.specs.Conditions.{AreSmall};
+ghost use Rattle.stratifier.specs.Conditions.{IsSmallCompiled};
 ghost use Rattle.stratifier.specs.Listed.{edge_of, edges_from, edges_of};
 
 use crate::edge::Edge;
@@ -12,7 +12,7 @@ use std::alloc::Global;
 
 /// All edges, by the method's place and then the child's number.
 pub fn edges(alloc: Global, c: &Compiled) -> Result<List<Edge>, Memory>
-    requires small { AreSmall c.now }
+    requires small { IsSmallCompiled c.now }
     ensures edges { IfOk result (λ edges. AreEdges c.now (map edge_of edges)) }
 {
     let marks = reached(alloc, c)?;

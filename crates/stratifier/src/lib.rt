@@ -9,12 +9,16 @@ mod all_edges;
 mod bad;
 mod by_task;
 mod edge;
+mod finishing;
+mod groups;
 mod laws;
 mod named;
+mod ranks;
 mod reach;
 
 pub use all_edges::edges;
 pub use bad::bad_marks;
 pub use edge::Edge;
 pub use laws::compiled_networks_have_no_cycle;
+pub use ranks::{Ranks, StratError, stratify};
 pub use reach::reached;

@@ -1,0 +1,101 @@
+ghost use Rattle.htn_base.specs.Words.{folded};
+ghost use Rattle.text_forms.specs.Placed.{parts_at};
+ghost use Rattle.gd_reader.specs.Added.{AddsOf, AddsWordOf, bare};
+ghost use Rattle.gd_reader.specs.Answers.{GivesWith};
+ghost use Rattle.gd_reader.specs.Terms.{Keeps};
+ghost use Rattle.hddl_reader.specs.Networks.{Headed, one_of, all_of, some_of};
+
+use crate::opened::opened_or_end;
+use gd_reader::{Failure, is_word, word_due, word_or_end};
+use htn_base::{List, NameTable};
+use sexpr_text::Sexprs;
+use std::alloc::Global;
+
+/// What stands in parentheses of its own in a part of a network, known by the word at its front.
+pub(crate) trait Item: Drop {
+    ghost headed: { Headed Self };
+
+    /// The item whose parenthesis stands at the offset `place`, with its first word, and from token `i` on.
+    fn headed_of(
+        alloc: Global,
+        s: &Sexprs<'_>,
+        place: u32,
+        at: u32,
+        word: &[u8],
+        i: u32,
+        names: &mut NameTable,
+    ) -> Result<Self, Failure>
+        ensures keeps { Keeps names.old names.new }
+        ensures adds { AddsWordOf (bare (folded word.now)) s.now names.old names.new }
+        ensures gives { GivesWith names.new result
+            (headed names.old place at (folded word.now) (parts_at s.now i)) };
+}
+
+// An item behind its parenthesis.
+#[tactic(auto, using(gd_reader::proofs::Keeping::keeps_same, gd_reader::proofs::Keeping::keeps_then))]
+fn one_of<T: Item>(
+    alloc: Global,
+    s: &Sexprs<'_>,
+    place: u32,
+    i: u32,
+    names: &mut NameTable,
+) -> Result<T, Failure>
+    ensures keeps { Keeps names.old names.new }
+    ensures adds { AddsOf s.now names.old names.new }
+    ensures gives { GivesWith names.new result
+        (one_of T.headed names.old place (parts_at s.now i)) }
+{
+    let (at, word, i) = word_due(s, i)?;
+    T::headed_of(alloc, s, place, at, word, i, names)
+}
+
+// Items up to the end of their list.
+#[tactic(auto, using(gd_reader::proofs::Keeping::keeps_same, gd_reader::proofs::Keeping::keeps_then))]
+fn all_of<T: Item>(
+    alloc: Global,
+    s: &Sexprs<'_>,
+    mut i: u32,
+    names: &mut NameTable,
+) -> Result<List<T>, Failure>
+    ensures keeps { Keeps names.old names.new }
+    ensures adds { AddsOf s.now names.old names.new }
+    ensures gives { GivesWith names.new result (all_of T.headed names.old (parts_at s.now i)) }
+{
+    let mut items = List::new(alloc);
+    while let Some((place, inside, behind)) = opened_or_end(s, i)? {
+        let item = one_of(alloc, s, place, inside, names)?;
+        items.push(item)?;
+        i = behind;
+    }
+    Ok(items)
+}
+
+/// The items in the list whose parenthesis stands at the offset `place`, from token `i` up to its end: none,
+/// one without parentheses of its own, or `and` and any number.
+#[tactic(auto, using(gd_reader::proofs::Keeping::keeps_same, gd_reader::proofs::Keeping::keeps_then, crate::proofs::NetworkSteps::some_of_is))]
+pub(crate) fn some_of<T: Item>(
+    alloc: Global,
+    s: &Sexprs<'_>,
+    place: u32,
+    i: u32,
+    names: &mut NameTable,
+) -> Result<List<T>, Failure>
+    ensures keeps { Keeps names.old names.new }
+    ensures adds { AddsOf s.now names.old names.new }
+    ensures gives { GivesWith names.new result
+        (some_of T.headed names.old place (parts_at s.now i)) }
+{
+    match word_or_end(s, i)? {
+        None => Ok(List::new(alloc)),
+        Some((at, word, behind)) => {
+            if is_word(word, b"and") {
+                all_of(alloc, s, behind, names)
+            } else {
+                let mut items = List::new(alloc);
+                let item = T::headed_of(alloc, s, place, at, word, behind, names)?;
+                items.push(item)?;
+                Ok(items)
+            }
+        }
+    }
+}
