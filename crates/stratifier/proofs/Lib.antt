@@ -4,6 +4,9 @@ pub mod Listing
 pub mod ByTask
 pub mod Lasts
 pub mod Compiled
+pub mod Descents
+pub mod Grouped
+pub mod TaskGroups
 pub mod NamedSources
 pub mod NamedSteps
 pub mod NamedDistances

@@ -15,7 +15,7 @@ use Rattle.plan_meaning.proofs.BoundParts.{there_at}
 use Rattle.plan_meaning.proofs.MethodParts.{head_schema_by, schemas_by}
 use Rattle.stratifier.specs.declared.edge.Edge as Declared
 use Rattle.stratifier.specs.declared.named.Ends.{Ends}
-use Rattle.stratifier.specs.Conditions.{AreSmall, IsNumbered}
+use Rattle.stratifier.specs.Conditions.{IsSmallCompiled, IsNumbered}
 use Rattle.stratifier.specs.Listed.{edge_of}
 use Rattle.stratifier.specs.NamedSearch.{IsEndsOf, HasEnds, AreEnds}
 use Rattle.stratifier.proofs.Lasts.{push_get, in_map}
@@ -44,7 +44,7 @@ module _ (c : Compiled) (edges : List Declared.Edge) where
       ap (λ o. target_by c (slice_get (schemas_by e.method o) e.child)) h.is
       ∙ (ap (target_by c) (slice_get-mapped (λ (child : Child). schema_of e.method child.head) h.plan.schema.children e.child h.child h.at) ∙ ap (schema_of e.method) h.to)
 
-  ends_below : AreSmall c → (e : Declared.Edge) (n : Ends) → IsEndsOf c.methods e n → (n.from < top_task c + 1) × (n.to < top_task c + 1)
+  ends_below : IsSmallCompiled c → (e : Declared.Edge) (n : Ends) → IsEndsOf c.methods e n → (n.from < top_task c + 1) × (n.to < top_task c + 1)
   ends_below small e n h =
       let numbered = subst (IsNumbered (top_task c)) (get_or_from_slice_get c.methods e.method h.plan h.plan h.is) (small.numbered e.method h.plan (slice_get_within c.methods e.method h.plan h.is)) in
       let a = numbered.task in
@@ -72,7 +72,7 @@ module _ (c : Compiled) (edges : List Declared.Edge) where
     ];
   }
 
-  pub ends_all : AreSmall c → (k : ℕ) (ends : List Ends) → k ≡ length edges → AreEndsUpTo k ends → AreEnds c edges ends
+  pub ends_all : IsSmallCompiled c → (k : ℕ) (ends : List Ends) → k ≡ length edges → AreEndsUpTo k ends → AreEnds c edges ends
   ends_all small k ends all h = record {
     room = h.room ∙ all;
     from = λ j e n f g. source_is e n (h.each j e n f g);

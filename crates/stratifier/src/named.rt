@@ -4,7 +4,7 @@
 ghost use Rattle.std.specs.Prelude.{ℕ, ◌≡◌, ◌+◌, ◌<◌, ◌↔◌, [], All, Contains, IsTrue, map, None, length, IfOk};
 ghost use Rattle.std.specs.List.{slice_index_or};
 ghost use Rattle.plan_meaning.specs.Strata.{AreEdges};
-ghost use Rattle.stratifier.specs.Conditions.{AreSmall};
+ghost use Rattle.stratifier.specs.Conditions.{IsSmallCompiled};
 ghost use Rattle.stratifier.specs.Listed.{edge_of};
 ghost use Rattle.stratifier.specs.Bad.{AreBadMarks};
 ghost use Rattle.stratifier.specs.NamedCycle.{AreGroupNumbers, MayBeNamed};
@@ -32,7 +32,7 @@ pub(crate) fn named_cycle(
     bad: &List<bool>,
     groups: &[u32],
 ) -> Result<Option<List<Edge>>, Memory>
-    requires small { AreSmall c.now }
+    requires small { IsSmallCompiled c.now }
     requires edges { AreEdges c.now (map edge_of edges.now) }
     requires bad { AreBadMarks c.now edges.now bad.now }
     requires groups { AreGroupNumbers c.now groups.now }
@@ -49,8 +49,8 @@ pub(crate) fn named_cycle(
 }
 
 /// The ends of all edges.
-fn all_ends(alloc: Global, c: &Compiled, edges: &List<Edge>) -> Result<Vec<Ends>, Memory>
-    requires small { AreSmall c.now }
+pub(crate) fn all_ends(alloc: Global, c: &Compiled, edges: &List<Edge>) -> Result<Vec<Ends>, Memory>
+    requires small { IsSmallCompiled c.now }
     requires edges { AreEdges c.now (map edge_of edges.now) }
     ensures ends { IfOk result (λ ends. AreEnds c.now edges.now ends.items) }
 {
@@ -99,7 +99,7 @@ fn cycle_from(
     ends: &[Ends],
     first: usize,
 ) -> Result<List<Edge>, Memory>
-    requires small { AreSmall c.now }
+    requires small { IsSmallCompiled c.now }
     requires ends { AreEnds c.now edges.now ends.now }
     requires first { first < length ends.now }
     requires closes { ClosesAt c.now edges.now first }
@@ -213,7 +213,11 @@ fn next_tasks(
 }
 
 /// For each of so many tasks those from which an edge leads to it.
-fn sources_by_task(alloc: Global, count: usize, ends: &[Ends]) -> Result<Vec<List<u32>>, Memory>
+pub(crate) fn sources_by_task(
+    alloc: Global,
+    count: usize,
+    ends: &[Ends],
+) -> Result<Vec<List<u32>>, Memory>
     requires within { AreEndsBelow count ends.now }
     ensures room { IfOk result (λ lists. length lists.items ≡ count) }
     ensures sources { IfOk result (λ lists. (t s : ℕ) →
