@@ -13,3 +13,6 @@ pub mod NamedDistances
 pub mod NamedWalk
 pub mod NamedEnds
 pub mod NamedFirst
+pub mod examples
+pub mod Descents
+pub mod Grouped

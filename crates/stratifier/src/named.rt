@@ -197,7 +197,8 @@ fn next_tasks(
 ) -> Result<Vec<u32>, Memory>
     requires tasks { All (λ t. t < length sources.now) tasks.now }
     requires sources { All (All (λ t. t < length found.old.items)) sources.now }
-    ensures found { IfOk result (λ next. AreFound (IsSourceOf sources.now tasks.now) distance found.old.items found.new.items next.items) }
+    ensures found { IfOk result (λ next. AreFound (IsSourceOf sources.now tasks.now) distance
+        found.old.items found.new.items next.items) }
 {
     let mut next = Vec::new(alloc);
     for task in tasks {
