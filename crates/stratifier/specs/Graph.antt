@@ -31,7 +31,7 @@ pub record IsFinishingOrder (rows : List (List ℕ)) (order : List ℕ) : Type 0
   pub back : ReachBack rows order
 
 -- numbers of groups: no edge goes up, and two have one number exactly where each reaches the other
-pub record AreGroupNumbers (rows : List (List ℕ)) (numbers : List ℕ) : Type 0 where
+pub record NumberComponents (rows : List (List ℕ)) (numbers : List ℕ) : Type 0 where
   pub room : length numbers ≡ length rows
   pub small : (t : ℕ) → t < length rows → slice_index_or numbers t 0 < length rows
   pub not_up : (u v : ℕ) → u < length rows → Leads rows u v → slice_index_or numbers v 0 ≤ slice_index_or numbers u 0

@@ -7,3 +7,5 @@ pub mod Stratified
 pub mod Graph
 pub mod Finishing
 pub mod Grouping
+pub mod NamedCycle
+pub mod NamedSearch

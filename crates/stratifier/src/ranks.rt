@@ -3,7 +3,11 @@ ghost use Rattle.plan_meaning.specs.Strata.{IsTailRecursive};
 ghost use Rattle.stratifier.specs.Conditions.{HaveNoCycle, IsSmallCompiled};
 ghost use Rattle.stratifier.specs.Stratified.{IsRefused, IsStratified, number_of};
 
+use crate::all_edges::edges;
+use crate::bad::bad_marks;
 use crate::edge::Edge;
+use crate::groups::task_groups;
+use crate::named::named_cycle;
 use htn_base::{List, Memory};
 use plan_model::Compiled;
 use std::alloc::Global;
@@ -60,6 +64,11 @@ pub fn stratify(alloc: Global, c: &Compiled) -> Result<Ranks, StratError>
     ensures tail_recursive { IfOk result (λ ranks. IsTailRecursive c.now) }
     ensures refused { IfErr result (IsRefused c.now) }
 {
-    let _edges: List<Edge> = List::new(alloc);
-    Err(StratError::Memory)
+    let edges = edges(alloc, c)?;
+    let bad = bad_marks(alloc, c, &edges)?;
+    let numbers = task_groups(alloc, c, &edges)?;
+    match named_cycle(alloc, c, &edges, &bad, numbers.as_slice())? {
+        Some(cycle) => Err(StratError::Cycle(cycle)),
+        None => Ok(Ranks { numbers }),
+    }
 }
