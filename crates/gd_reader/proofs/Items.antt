@@ -14,6 +14,7 @@ use Rattle.text_forms.specs.Tokens as kinds
 use Rattle.text_forms.proofs.Shown.{shown, drop_get, closes_get}
 use Rattle.gd_reader.specs.declared.cursor.Item.TheVariants as items
 use Rattle.gd_reader.specs.Shown.{IsList, Shows}
+use Rattle.gd_reader.proofs.Adding.{says}
 use Rattle.gd_reader.proofs.Passing.{whole_levels}
 
 closes_none : (ps : List Token) (j i : ℕ) → slice_get ps i ≡ None → flattened (slice_get (closings j ps) i) ≡ None
@@ -68,10 +69,12 @@ module _ (text : List ℕ) (i : ℕ) (t : Read) (here : slice_get (tokens text) 
   pub shows_word : t.kind ≡ Word → t.word.now ≡ slice_range text t.span.start t.span.end → token_count text < 2 ^ 32 → Shows text i (items.Word t.span.start t.word)
   shows_word is letters few =
       let s : ShowsToken text i (token_seen t) kinds.word = subst (λ k. ShowsToken text i (token_seen t) (kind_seen k)) is shows in
+      let parts : parts_at text i ≡ placed_word t.span.start (folded t.word.now) (parts_at text (i + 1)) = subst (λ w. parts_at text i ≡ placed_word t.span.start (folded w) (parts_at text (i + 1))) (sym letters) s in
       record {
-        parts = subst (λ w. parts_at text i ≡ placed_word t.span.start (folded w) (parts_at text (i + 1))) (sym letters) s;
+        parts = parts;
         within = within;
         few = few;
+        said = says text i t.span.start (folded t.word.now) (parts_at text (i + 1)) parts;
       }
 
   pub shows_list : t.kind ≡ Start → (c : ℕ) → close_at text i ≡ Some c → IsList text i t.span.start (i + 1) (c + 1)

@@ -1,4 +1,6 @@
 pub mod Keeping
+pub mod Adding
+pub mod Counted
 pub mod Sorts
 pub mod Passing
 pub mod Items

@@ -4,6 +4,7 @@ pub mod Answers
 pub mod Ends
 pub mod Shown
 pub mod Terms
+pub mod Added
 pub mod TypedLists
 pub mod Formulas
 pub mod Effects

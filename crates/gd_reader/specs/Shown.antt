@@ -4,6 +4,7 @@ use Rattle.htn_base.specs.Words.{folded}
 use Rattle.text_forms.specs.Closing.{close_at}
 use Rattle.text_forms.specs.Placed.{Placed, cut, close, word, list, parts_at, IsWhole}
 use Rattle.text_forms.specs.Tokens.{token_count}
+use Rattle.gd_reader.specs.Added.{Says}
 use Rattle.gd_reader.specs.declared.cursor.Item.{Item}
 use Rattle.gd_reader.specs.declared.cursor.Item.TheVariants as items
 
@@ -23,6 +24,7 @@ pub record IsWord (text : List ℕ) (i at : ℕ) (letters : List ℕ) : Type 0 w
   pub parts : parts_at text i ≡ word at letters (parts_at text (i + 1))
   pub within : i < token_count text
   pub few : token_count text < 2 ^ 32
+  pub said : Says text letters
 
 -- the same, at some place
 abbrev pub IsListTo : List ℕ → ℕ → ℕ → ℕ → Type 0

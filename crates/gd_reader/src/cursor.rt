@@ -3,6 +3,7 @@ ghost use Rattle.std.specs.Option.{option_map};
 ghost use Rattle.htn_base.specs.Words.{folded};
 ghost use Rattle.text_forms.specs.Placed.{parts_at};
 ghost use Rattle.text_forms.specs.Tokens.{token_count};
+ghost use Rattle.gd_reader.specs.Added.{Says};
 ghost use Rattle.gd_reader.specs.Answers.{Gives, word_due, word_or_end, list_due, list_or_end, end_due, passed};
 ghost use Rattle.gd_reader.specs.Shown.{Shows, IsListTo, AreLater, parts_at_both};
 
@@ -46,6 +47,7 @@ pub fn word_due<'a>(s: &Sexprs<'a>, i: u32) -> Result<(u32, &'a [u8], u32), Fail
     ensures gives { Gives (λ x. (x.0, folded x.1.now, parts_at s.now x.2)) result
         (word_due (parts_at s.now i)) }
     ensures later { IfOk result (λ x. (i < x.2) × (x.2 ≤ token_count s.now)) }
+    ensures said { IfOk result (λ x. Says s.now (folded x.1.now)) }
     ensures memory { IfErr result (λ e. e ≡ Failure.Memory → ⊥) }
 {
     match item_at(s, i) {
@@ -61,6 +63,7 @@ pub fn word_or_end<'a>(s: &Sexprs<'a>, i: u32) -> Result<Option<(u32, &'a [u8], 
     ensures gives { Gives (option_map (λ x. (x.0, folded x.1.now, parts_at s.now x.2))) result
         (word_or_end (parts_at s.now i)) }
     ensures later { IfOk result (λ o. IfSome o (λ x. (i < x.2) × (x.2 ≤ token_count s.now))) }
+    ensures said { IfOk result (λ o. IfSome o (λ x. Says s.now (folded x.1.now))) }
     ensures memory { IfErr result (λ e. e ≡ Failure.Memory → ⊥) }
 {
     match item_at(s, i) {

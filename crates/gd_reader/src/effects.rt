@@ -1,5 +1,6 @@
 ghost use Rattle.htn_base.specs.Words.{folded};
 ghost use Rattle.text_forms.specs.Placed.{parts_at};
+ghost use Rattle.gd_reader.specs.Added.{AddsOf, AddsWordOf, bare};
 ghost use Rattle.gd_reader.specs.Answers.{GivesWith};
 ghost use Rattle.gd_reader.specs.Effects.{effect_inside, effects, one_effect, guarded, bound_effect, deleted, effect_headed};
 ghost use Rattle.gd_reader.specs.Terms.{Keeps};
@@ -35,6 +36,7 @@ pub fn effect_inside_of(
     names: &mut NameTable,
 ) -> Result<RawEffect, Failure>
     ensures keeps { Keeps names.old names.new }
+    ensures adds { AddsOf s.now names.old names.new }
     ensures gives { GivesWith names.new result (effect_inside names.old (parts_at s.now i)) }
 {
     match word_or_end(s, i)? {
@@ -55,6 +57,7 @@ fn effect_headed_of(
     names: &mut NameTable,
 ) -> Result<RawEffect, Failure>
     ensures keeps { Keeps names.old names.new }
+    ensures adds { AddsWordOf (bare (folded word.now)) s.now names.old names.new }
     ensures gives { GivesWith names.new result
         (effect_headed (effect_head_of (folded word.now)) names.old at (folded word.now)
         (parts_at s.now i)) }
@@ -98,6 +101,7 @@ fn effects_of(
     names: &mut NameTable,
 ) -> Result<List<RawEffect>, Failure>
     ensures keeps { Keeps names.old names.new }
+    ensures adds { AddsOf s.now names.old names.new }
     ensures gives { GivesWith names.new result (effects names.old (parts_at s.now i)) }
 {
     let mut parts = List::new(alloc);
@@ -119,6 +123,7 @@ fn one_effect_of(
     names: &mut NameTable,
 ) -> Result<Boxed<RawEffect>, Failure>
     ensures keeps { Keeps names.old names.new }
+    ensures adds { AddsOf s.now names.old names.new }
     ensures gives { GivesWith names.new result (one_effect names.old (parts_at s.now i)) }
 {
     let (inside, behind) = list_due(s, i)?;
@@ -137,6 +142,7 @@ fn guarded_of(
     names: &mut NameTable,
 ) -> Result<(RawFormula, Boxed<RawEffect>), Failure>
     ensures keeps { Keeps names.old names.new }
+    ensures adds { AddsOf s.now names.old names.new }
     ensures gives { GivesWith names.new result (guarded names.old (parts_at s.now i)) }
 {
     let (inside, behind) = list_due(s, i)?;
@@ -155,6 +161,7 @@ fn bound_effect_of(
     names: &mut NameTable,
 ) -> Result<(List<RawParam>, Boxed<RawEffect>), Failure>
     ensures keeps { Keeps names.old names.new }
+    ensures adds { AddsOf s.now names.old names.new }
     ensures gives { GivesWith names.new result (bound_effect names.old (parts_at s.now i)) }
 {
     let (inside, behind) = list_due(s, i)?;
@@ -172,6 +179,7 @@ fn deleted_of(
     names: &mut NameTable,
 ) -> Result<RawAtom, Failure>
     ensures keeps { Keeps names.old names.new }
+    ensures adds { AddsOf s.now names.old names.new }
     ensures gives { GivesWith names.new result (deleted names.old (parts_at s.now i)) }
 {
     let (inside, behind) = list_due(s, i)?;

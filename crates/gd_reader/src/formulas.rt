@@ -1,5 +1,6 @@
 ghost use Rattle.htn_base.specs.Words.{folded};
 ghost use Rattle.text_forms.specs.Placed.{parts_at};
+ghost use Rattle.gd_reader.specs.Added.{AddsOf, AddsWordOf, bare};
 ghost use Rattle.gd_reader.specs.Answers.{GivesWith};
 ghost use Rattle.gd_reader.specs.Formulas.{inside, formulas, one, two, bound, headed};
 ghost use Rattle.gd_reader.specs.Terms.{Keeps};
@@ -37,6 +38,7 @@ pub fn inside_of(
     names: &mut NameTable,
 ) -> Result<RawFormula, Failure>
     ensures keeps { Keeps names.old names.new }
+    ensures adds { AddsOf s.now names.old names.new }
     ensures gives { GivesWith names.new result (inside names.old (parts_at s.now i)) }
 {
     match word_or_end(s, i)? {
@@ -57,6 +59,7 @@ fn headed_of(
     names: &mut NameTable,
 ) -> Result<RawFormula, Failure>
     ensures keeps { Keeps names.old names.new }
+    ensures adds { AddsWordOf (bare (folded word.now)) s.now names.old names.new }
     ensures gives { GivesWith names.new result
         (headed (head_of (folded word.now)) names.old at (folded word.now) (parts_at s.now i)) }
 {
@@ -107,6 +110,7 @@ fn formulas_of(
     names: &mut NameTable,
 ) -> Result<List<RawFormula>, Failure>
     ensures keeps { Keeps names.old names.new }
+    ensures adds { AddsOf s.now names.old names.new }
     ensures gives { GivesWith names.new result (formulas names.old (parts_at s.now i)) }
 {
     let mut parts = List::new(alloc);
@@ -128,6 +132,7 @@ fn one_of(
     names: &mut NameTable,
 ) -> Result<Boxed<RawFormula>, Failure>
     ensures keeps { Keeps names.old names.new }
+    ensures adds { AddsOf s.now names.old names.new }
     ensures gives { GivesWith names.new result (one names.old (parts_at s.now i)) }
 {
     let (inside, behind) = list_due(s, i)?;
@@ -146,6 +151,7 @@ fn two_of(
     names: &mut NameTable,
 ) -> Result<(Boxed<RawFormula>, Boxed<RawFormula>), Failure>
     ensures keeps { Keeps names.old names.new }
+    ensures adds { AddsOf s.now names.old names.new }
     ensures gives { GivesWith names.new result (two names.old (parts_at s.now i)) }
 {
     let (inside, behind) = list_due(s, i)?;
@@ -164,6 +170,7 @@ fn bound_of(
     names: &mut NameTable,
 ) -> Result<(List<RawParam>, Boxed<RawFormula>), Failure>
     ensures keeps { Keeps names.old names.new }
+    ensures adds { AddsOf s.now names.old names.new }
     ensures gives { GivesWith names.new result (bound names.old (parts_at s.now i)) }
 {
     let (inside, behind) = list_due(s, i)?;

@@ -2,6 +2,7 @@ ghost use Rattle.std.specs.Prelude.{◌≡◌, ◌<◌, ◌≤◌, ◌++◌, [],
 ghost use Rattle.htn_base.specs.Words.{folded};
 ghost use Rattle.text_forms.specs.Placed.{parts_at};
 ghost use Rattle.text_forms.specs.Tokens.{token_count};
+ghost use Rattle.gd_reader.specs.Added.{AddsOf, AddsWord, bare};
 ghost use Rattle.gd_reader.specs.Answers.{Gives, GivesWith, with_front};
 ghost use Rattle.gd_reader.specs.Ends.{end_of};
 ghost use Rattle.gd_reader.specs.Terms.{Keeps};
@@ -34,7 +35,7 @@ fn alone(alloc: Global, term: RawTerm) -> Result<List<RawTerm>, Memory>
 }
 
 // A type of one word.
-#[tactic(auto, unfolding(crate::specs::TypedLists::type_by), using(crate::proofs::Keeping::keeps_same, crate::proofs::Keeping::keeps_then))]
+#[tactic(auto, unfolding(crate::specs::TypedLists::type_by), using(crate::proofs::Adding::bare_name, crate::proofs::Keeping::keeps_same, crate::proofs::Keeping::keeps_then))]
 fn type_of(
     alloc: Global,
     kind: ListKind,
@@ -43,6 +44,7 @@ fn type_of(
     word: &[u8],
 ) -> Result<List<RawTerm>, Failure>
     ensures keeps { Keeps names.old names.new }
+    ensures adds { AddsWord (bare (folded word.now)) names.old names.new }
     ensures gives { GivesWith names.new result (type_due kind names.old at (folded word.now)) }
 {
     match sort_of(word) {
@@ -83,6 +85,7 @@ fn more_names_of(
     names: &mut NameTable,
 ) -> Result<List<RawTerm>, Failure>
     ensures keeps { Keeps names.old names.new }
+    ensures adds { AddsOf s.now names.old names.new }
     ensures gives { GivesWith names.new result
         (with_front types (more_names (names.old, seen) (parts_at s.now i))) }
 {
@@ -104,6 +107,7 @@ fn some_names_of(
     names: &mut NameTable,
 ) -> Result<List<RawTerm>, Failure>
     ensures keeps { Keeps names.old names.new }
+    ensures adds { AddsOf s.now names.old names.new }
     ensures gives { GivesWith names.new result (some_names names.old (parts_at s.now i)) }
 {
     let (at, word, i) = word_due(s, i)?;
@@ -123,6 +127,7 @@ fn union_of(
     names: &mut NameTable,
 ) -> Result<List<RawTerm>, Failure>
     ensures keeps { Keeps names.old names.new }
+    ensures adds { AddsOf s.now names.old names.new }
     ensures gives { GivesWith names.new result (union names.old (parts_at s.now i)) }
 {
     let (at, word, i) = word_due(s, i)?;
@@ -144,6 +149,7 @@ fn union_due_of(
     names: &mut NameTable,
 ) -> Result<List<RawTerm>, Failure>
     ensures keeps { Keeps names.old names.new }
+    ensures adds { AddsOf s.now names.old names.new }
     ensures gives { GivesWith names.new result (union_due kind names.old at (parts_at s.now i)) }
 {
     if are_variables(kind) {
@@ -163,6 +169,7 @@ pub fn kind_of(
     names: &mut NameTable,
 ) -> Result<(List<RawTerm>, u32), Failure>
     ensures keeps { Keeps names.old names.new }
+    ensures adds { AddsOf s.now names.old names.new }
     ensures gives { Gives (λ x. ((x.0, parts_at s.now x.1), names.new)) result
         (kind_due kind names.old (parts_at s.now i)) }
     ensures later { IfOk result (λ x. (i < x.1) × (x.1 ≤ token_count s.now)) }

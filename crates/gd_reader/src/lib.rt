@@ -2,21 +2,35 @@
 //!
 //! Stands on `sexpr_text` and `htn_base`, and on the definitions of `text_forms`. The contract used above:
 //! each call answers a value exactly where a whole form begins at the token, and else the fault of the
-//! first token with which the tokens no longer begin the form; old names keep their numbers.
+//! first token with which the tokens no longer begin the form; old names keep their numbers, and each further
+//! one is of a word of the text, on an error too.
+//!
+//! A reader of forms that hold these stands on the steps too: what stands at a token (`cursor`), words,
+//! terms and atoms, typed lists, and what stands in the parentheses of a formula or an effect. A step
+//! answers what its definition answers of the tokens from `i` on, or where it stops.
 #![tactic(auto)]
 
 mod cursor;
 mod effects;
 mod formulas;
 mod kind;
+mod laws;
+mod raw_types;
 mod reading;
 mod stop;
 mod term;
 mod typed_lists;
 mod words;
 
-pub use effects::RawEffect;
-pub use formulas::RawFormula;
-pub use reading::{Got, effect, formula, typed_list};
-pub use term::{RawAtom, RawTerm};
-pub use typed_lists::{ListKind, RawParam};
+pub use cursor::{Item, end_due, item_at, list_due, list_or_end, pass, word_due, word_or_end};
+pub use effects::{RawEffect, effect_inside_of};
+pub use formulas::{RawFormula, inside_of};
+pub use laws::at_most_one_word_is_added_for_each_token;
+pub use raw_types::RawTypes;
+pub use reading::{Got, effect, formula, refusal, typed_list};
+pub use stop::{Failure, Stop};
+pub use term::{
+    RawAtom, RawTerm, applied_of, atom_of, name_of, see, term_of, terms_of, two_terms_of, used_of,
+};
+pub use typed_lists::{ListKind, RawParam, params_of};
+pub use words::{Sort, is_word, rest, sort_of};

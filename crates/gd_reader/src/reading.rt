@@ -1,6 +1,7 @@
 ghost use Rattle.std.specs.Prelude.{◌≡◌, ◌<◌, IfOk, IfErr};
 ghost use Rattle.text_forms.specs.Placed.{parts_at};
 ghost use Rattle.text_forms.specs.Tokens.{token_count};
+ghost use Rattle.gd_reader.specs.Added.{AddsOf};
 ghost use Rattle.gd_reader.specs.Answers.{Gives};
 ghost use Rattle.gd_reader.specs.Calls.{IsFormulaRead, RefusesFormula, IsEffectRead, RefusesEffect, IsListRead, RefusesList};
 ghost use Rattle.gd_reader.specs.Effects.{effect_read};
@@ -36,6 +37,7 @@ fn formula_of(
 ) -> Result<Got<RawFormula>, Failure>
     requires token { at < token_count s.now }
     ensures keeps { Keeps names.old names.new }
+    ensures adds { AddsOf s.now names.old names.new }
     ensures gives { Gives (λ got. (got.value, names.new)) result
         (formula_read names.old (parts_at s.now at)) }
     ensures next { IfOk result (λ got. EndsAt s.now at got.next) }
@@ -56,6 +58,7 @@ fn effect_of(
 ) -> Result<Got<RawEffect>, Failure>
     requires token { at < token_count s.now }
     ensures keeps { Keeps names.old names.new }
+    ensures adds { AddsOf s.now names.old names.new }
     ensures gives { Gives (λ got. (got.value, names.new)) result
         (effect_read names.old (parts_at s.now at)) }
     ensures next { IfOk result (λ got. EndsAt s.now at got.next) }
@@ -66,8 +69,8 @@ fn effect_of(
     Ok(Got { value, next })
 }
 
-// The fault of a failure, in the text with so many bytes. Up to the end of a list the tokens never end too early.
-fn refusal(failure: Failure, file: u8, end: u32) -> ReadError
+/// The fault of a failure, in the text with so many bytes. Up to the end of a list the tokens never end too early.
+pub fn refusal(failure: Failure, file: u8, end: u32) -> ReadError
     ensures refusal { result ≡ refusal file end failure }
 {
     match failure {
@@ -96,6 +99,7 @@ pub fn formula(
     ensures next { IfOk result (λ got. EndsAt s.now at got.next) }
     ensures refused { IfErr result (RefusesFormula names.old s.now at file) }
     ensures keeps { Keeps names.old names.new }
+    ensures adds { AddsOf s.now names.old names.new }
 {
     match formula_of(alloc, s, at, names) {
         Ok(got) => Ok(got),
@@ -117,6 +121,7 @@ pub fn effect(
     ensures next { IfOk result (λ got. EndsAt s.now at got.next) }
     ensures refused { IfErr result (RefusesEffect names.old s.now at file) }
     ensures keeps { Keeps names.old names.new }
+    ensures adds { AddsOf s.now names.old names.new }
 {
     match effect_of(alloc, s, at, names) {
         Ok(got) => Ok(got),
@@ -139,6 +144,7 @@ pub fn typed_list(
     ensures next { IfOk result (λ got. parts_at s.now got.next ≡ end_of (parts_at s.now at)) }
     ensures refused { IfErr result (RefusesList kind names.old s.now at file) }
     ensures keeps { Keeps names.old names.new }
+    ensures adds { AddsOf s.now names.old names.new }
 {
     match params_of(alloc, s, at, kind, names) {
         Ok((value, next)) => Ok(Got { value, next }),

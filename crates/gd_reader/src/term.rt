@@ -3,6 +3,7 @@ ghost use Rattle.htn_base.specs.Table.{with_word};
 ghost use Rattle.htn_base.specs.Words.{folded};
 ghost use Rattle.text_forms.specs.Placed.{parts_at};
 ghost use Rattle.text_forms.specs.Words.{is_among};
+ghost use Rattle.gd_reader.specs.Added.{AddsOf, AddsWord, AddsWordOf, bare};
 ghost use Rattle.gd_reader.specs.Answers.{GivesWith};
 ghost use Rattle.gd_reader.specs.Terms.{Keeps, name_in, term, used, terms, two_terms, applied, atom};
 
@@ -29,12 +30,13 @@ pub struct RawAtom {
 }
 
 /// The name of a word in the table, where it is put if it isn't there.
-#[tactic(auto, using(crate::proofs::Keeping::keeps_same, crate::proofs::Keeping::keeps_word, crate::proofs::Keeping::name_found))]
+#[tactic(auto, using(crate::proofs::Keeping::keeps_same, crate::proofs::Keeping::keeps_word, crate::proofs::Keeping::name_found, crate::proofs::Adding::adds_word))]
 pub fn name_of(names: &mut NameTable, word: &[u8]) -> Result<Name, Failure>
     ensures name { IfOk result (λ n. n ≡ name_in names.old (folded word.now)) }
     ensures table { OnOk result (names.new ≡ with_word names.old (folded word.now)) }
     ensures memory { IfErr result (λ e. e ≡ Failure.Memory) }
     ensures keeps { Keeps names.old names.new }
+    ensures adds { AddsWord (folded word.now) names.old names.new }
 {
     match names.intern(word) {
         Ok(name) => Ok(name),
@@ -55,9 +57,10 @@ pub fn see(seen: &mut NameTable, word: &[u8]) -> Result<bool, Failure>
 }
 
 /// A variable or a name.
-#[tactic(auto, unfolding(crate::specs::Terms::term), using(crate::proofs::Sorts::folded_rest, crate::proofs::Keeping::keeps_same))]
+#[tactic(auto, unfolding(crate::specs::Terms::term), using(crate::proofs::Sorts::folded_rest, crate::proofs::Adding::bare_variable, crate::proofs::Adding::bare_name, crate::proofs::Keeping::keeps_same))]
 pub fn term_of(names: &mut NameTable, at: u32, word: &[u8]) -> Result<RawTerm, Failure>
     ensures keeps { Keeps names.old names.new }
+    ensures adds { AddsWord (bare (folded word.now)) names.old names.new }
     ensures gives { GivesWith names.new result (term names.old at (folded word.now)) }
 {
     match sort_of(word) {
@@ -82,9 +85,10 @@ pub fn term_of(names: &mut NameTable, at: u32, word: &[u8]) -> Result<RawTerm, F
 }
 
 /// A name that is used.
-#[tactic(auto, unfolding(crate::specs::Terms::used), using(crate::proofs::Keeping::keeps_same))]
+#[tactic(auto, unfolding(crate::specs::Terms::used), using(crate::proofs::Adding::bare_name, crate::proofs::Keeping::keeps_same))]
 pub fn used_of(names: &mut NameTable, at: u32, word: &[u8]) -> Result<RawTerm, Failure>
     ensures keeps { Keeps names.old names.new }
+    ensures adds { AddsWord (bare (folded word.now)) names.old names.new }
     ensures gives { GivesWith names.new result (used names.old at (folded word.now)) }
 {
     match sort_of(word) {
@@ -109,6 +113,7 @@ pub fn terms_of(
     names: &mut NameTable,
 ) -> Result<List<RawTerm>, Failure>
     ensures keeps { Keeps names.old names.new }
+    ensures adds { AddsOf s.now names.old names.new }
     ensures gives { GivesWith names.new result (terms names.old (parts_at s.now i)) }
 {
     let mut terms = List::new(alloc);
@@ -128,6 +133,7 @@ pub fn two_terms_of(
     names: &mut NameTable,
 ) -> Result<(RawTerm, RawTerm), Failure>
     ensures keeps { Keeps names.old names.new }
+    ensures adds { AddsOf s.now names.old names.new }
     ensures gives { GivesWith names.new result (two_terms names.old (parts_at s.now i)) }
 {
     let (at, word, i) = word_due(s, i)?;
@@ -149,6 +155,7 @@ pub fn atom_of(
     names: &mut NameTable,
 ) -> Result<RawAtom, Failure>
     ensures keeps { Keeps names.old names.new }
+    ensures adds { AddsWordOf (folded word.now) s.now names.old names.new }
     ensures gives { GivesWith names.new result
         (atom names.old at (folded word.now) (parts_at s.now i)) }
 {
@@ -171,6 +178,7 @@ pub fn applied_of(
     names: &mut NameTable,
 ) -> Result<RawAtom, Failure>
     ensures keeps { Keeps names.old names.new }
+    ensures adds { AddsOf s.now names.old names.new }
     ensures gives { GivesWith names.new result (applied names.old (parts_at s.now i)) }
 {
     let (at, word, i) = word_due(s, i)?;

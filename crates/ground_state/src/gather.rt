@@ -4,10 +4,11 @@ ghost use Rattle.ground_state.specs.Room.{EffectFits, AllEffectsFit, EffectFitsW
 ghost use Rattle.ground_state.specs.Search.{Gathers, Reads, ReadsEach, ReadsWithin, IsWorld};
 
 use crate::env::Env;
+use crate::kinds::has_object;
 use crate::state::State;
 use crate::truth::holds;
 use htn_base::{List, Memory};
-use plan_model::{Effect, GroundAtom, Object, Param, Types, in_type};
+use plan_model::{Effect, GroundAtom, Object, Param, Parts, Types};
 use std::alloc::Global;
 
 /// What an effect is read in: the state before it, the types and the objects.
@@ -99,8 +100,9 @@ fn gather_within(
     let Some((param, rest)) = params.split_first() else {
         return gather(alloc, adds, body, env, world, into);
     };
+    let parts = Parts::new(world.types, param.ty);
     for object in 0..world.objects.len() as u32 {
-        if in_type(world.types, world.objects, object, param.ty) {
+        if has_object(&parts, world.objects, object) {
             env.push(object);
             let gathered = gather_within(alloc, adds, rest, body, env, world, into);
             env.pop();

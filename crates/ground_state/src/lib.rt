@@ -7,10 +7,18 @@
 mod change;
 mod env;
 mod gather;
+mod index;
+mod kinds;
+mod need;
+mod places;
+mod run;
 mod state;
 mod step;
 mod truth;
+mod verdict;
 
 pub use env::Env;
+pub use run::run_plan;
 pub use state::State;
 pub use truth::holds;
+pub use verdict::{FailWhy, Verdict};

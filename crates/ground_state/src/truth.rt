@@ -8,9 +8,10 @@ ghost use Rattle.ground_state.specs.States.{atoms};
 ghost use Rattle.ground_state.specs.Search.{IsAmongParts, IsFound};
 
 use crate::env::Env;
+use crate::kinds::has_object;
 use crate::state::State;
 use htn_base::List;
-use plan_model::{Atom, Formula, Object, Param, Types, in_type};
+use plan_model::{Atom, Formula, Object, Param, Parts, Types};
 
 /// Whether the formula is true in the state, where the environment has the objects of the variables in force. It takes
 /// no memory and leaves the environment as it was. A conjunction stops at its first false part.
@@ -97,8 +98,9 @@ fn is_found(
     let Some((param, rest)) = params.split_first() else {
         return holds(body, env, s, types, objects) == wanted;
     };
+    let parts = Parts::new(types, param.ty);
     for object in 0..objects.len() as u32 {
-        if in_type(types, objects, object, param.ty) {
+        if has_object(&parts, objects, object) {
             env.push(object);
             let found = is_found(wanted, rest, body, env, s, types, objects);
             env.pop();

@@ -1,5 +1,4 @@
-pub mod Rest
-pub mod Written
-pub mod Plain
-pub mod Tables
-pub mod Binding
+pub mod Networks
+pub mod Parts
+pub mod Sections
+pub mod Definitions

@@ -1,18 +1,14 @@
-//! Reads the two HDDL texts of a problem.
+//! Whole domains and problems as they are written, with a number for each name and places for faults.
 //!
-//! Stands on `htn_base` (names), `sexpr_text` (tokens), `plan_model` (values) and the definitions of `text_forms`,
-//! `plan_texts` and `plan_meaning`. The contract used above: where `small` answers a value, the two texts spell it,
-//! it is sound, and it can be compiled.
+//! Stands on `sexpr_text`, `gd_reader` and `htn_base`, and on the grammar of `form_grammar`. The contract used above: `domain` and
+//! `problem` answer the value exactly where the tokens are a whole text of the grammar, and else its one fault of form; old names
+//! keep their numbers. The language is a parameter: PDDL is HDDL without tasks, methods and an initial network.
 #![tactic(auto)]
 
-mod binding;
-mod cursor;
-mod forms;
-mod heads;
-mod names;
-mod reading;
-mod schemas;
-mod stop;
-mod written;
+mod networks;
+mod parts;
+mod sections;
 
-pub use reading::small;
+pub use networks::{RawCon, RawNet, RawPair, RawSub};
+pub use parts::{Part, Parted, RawParts};
+pub use sections::{Definition, Language, RawAction, RawDomain, RawHead, RawMethod, RawProblem, RawSections, Section};

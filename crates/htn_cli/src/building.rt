@@ -9,7 +9,7 @@ ghost use Rattle.htn_cli.specs.Built.{ComesTo};
 ghost use Rattle.htn_cli.specs.Printing.{Prints, Becomes, IsFirstPast};
 
 use crate::manner::Manner;
-use hddl_reader::small;
+use small_reader::small;
 use htn_base::Memory;
 use method_precs::compile;
 use plan_model::{Compiled, Hddl};

@@ -1,6 +1,6 @@
 //! A problem of the smallest form is read once with ample memory.
 
-use hddl_reader::small;
+use small_reader::small;
 use std::test::Fail;
 
 const DOMAIN: &[u8] = b"(define (domain d) (:task t :parameters ())

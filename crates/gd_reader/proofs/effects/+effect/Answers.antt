@@ -1,9 +1,12 @@
-use Rattle.std.proofs.Common.{arith}
+use Rattle.std.proofs.Common.{arith, sym, subst, ◌∙◌}
 use Rattle.std.proofs.lemmas.Result.{err_from_is_err_and}
+use Rattle.htn_base.specs.Words.{folded}
 use Rattle.text_forms.specs.Placed.{parts_at}
+use Rattle.gd_reader.specs.Added.{Has}
 use Rattle.gd_reader.specs.Answers.{list_or_end}
 use Rattle.gd_reader.specs.Effects.{effects}
 use Rattle.gd_reader.proofs.EffectSteps.{effect_met, effects_is}
+use Rattle.gd_reader.proofs.Adding.{bare_plain_effect}
 use Rattle.gd_reader.proofs.Keeping.{keeps_then}
 use Rattle.gd_reader.proofs.Steps.{pair_behind, all_end, all_stuck, all_stop, all_next, is_none}
 use Rattle.gd_reader.proofs.effects.+effect.Goals as goal
@@ -28,6 +31,7 @@ effects_of-loop-parts-preserved t c =
     let after = rw is at later in
     let pushed = c.in_ok-push.ensures.pushed in
     record {
+      adds = λ all h old. c.in_ok-part.ensures.adds all h (c.loop-parts.invariant.adds all h old);
       rest = rw pushed (all_next list_or_end pair_behind effect_met effects effects_is c.loop-parts.parts c.loop-parts.names (parts_at c.args.s.now c.loop-parts.i) (effects c.args.names.now (parts_at c.args.s.now c.args.i)) c.loop-parts.invariant.rest (parts_at c.args.s.now c.in-Some.inside, parts_at c.args.s.now c.in-Some.behind) c.in_ok-part.part c.effect_inside_of.new.names (rw is at gives) c.in_ok-part.ensures.gives);
       keeps = keeps_then c.args.names.now c.loop-parts.names c.effect_inside_of.new.names c.loop-parts.invariant.keeps c.in_ok-part.ensures.keeps;
       later = let start = c.loop-parts.invariant.later in omega (arith, after.2);
@@ -38,3 +42,13 @@ effects_of-returns-clause-gives t c =
     let gives = c.in_ok-inside.ensures.gives in
     let never = c.in_default.not-Some in
     all_end list_or_end pair_behind effect_met effects effects_is c.loop-parts.parts c.loop-parts.names (parts_at c.args.s.now c.loop-parts.i) (effects c.args.names.now (parts_at c.args.s.now c.args.i)) c.loop-parts.invariant.rest (rw (is_none c.in_ok-inside.field-0 never) at gives)
+
+pub effect_headed_of-returns-in_err-atom-in-Plain-clause-adds : goal.effect_headed_of-returns-in_err-atom-in-Plain-clause-adds
+effect_headed_of-returns-in_err-atom-in-Plain-clause-adds t c all here =
+    let plain = c.in-Plain.is in
+    c.in_err-atom-in-Plain.ensures.adds all (subst (Has all) (bare_plain_effect (folded c.args.word.now) (sym c.effect_head_of.ensures.head ∙ plain)) here)
+
+pub effect_headed_of-returns-in_ok-atom-in-Plain-clause-adds : goal.effect_headed_of-returns-in_ok-atom-in-Plain-clause-adds
+effect_headed_of-returns-in_ok-atom-in-Plain-clause-adds t c all here =
+    let plain = c.in-Plain.is in
+    c.in_ok-atom-in-Plain.ensures.adds all (subst (Has all) (bare_plain_effect (folded c.args.word.now) (sym c.effect_head_of.ensures.head ∙ plain)) here)

@@ -1,6 +1,7 @@
 use Rattle.std.proofs.Common.{◌≡◌, ◌-◌, ◌*◌, ◌+◌, ◌≤◌}
 use Rattle.text_forms.specs.Placed.{parts_at}
 use Rattle.text_forms.specs.Tokens.{token_count}
+use Rattle.gd_reader.specs.Added.{AddsOf}
 use Rattle.gd_reader.specs.Answers.{with_front}
 use Rattle.gd_reader.specs.Effects.{effects}
 use Rattle.gd_reader.specs.Terms.{Keeps}
@@ -29,6 +30,7 @@ invariant-effects_of-loop-parts l = record {
   rest : with_front l.parts (effects l.names (parts_at l.s l.i)) ≡ effects l.initial.names (parts_at l.s l.initial.i);
   later : l.initial.i ≤ l.i;
   keeps : Keeps l.initial.names l.names;
+  adds : AddsOf l.s l.initial.names l.names;
 }
 
 abbrev pub decreases-effects_of-loop-parts : goal.decreases-effects_of-loop-parts

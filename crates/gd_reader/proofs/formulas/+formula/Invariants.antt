@@ -1,6 +1,7 @@
 use Rattle.std.proofs.Common.{◌≡◌, ◌-◌, ◌*◌, ◌+◌, ◌≤◌}
 use Rattle.text_forms.specs.Placed.{parts_at}
 use Rattle.text_forms.specs.Tokens.{token_count}
+use Rattle.gd_reader.specs.Added.{AddsOf}
 use Rattle.gd_reader.specs.Answers.{with_front}
 use Rattle.gd_reader.specs.Formulas.{formulas}
 use Rattle.gd_reader.specs.Terms.{Keeps}
@@ -29,6 +30,7 @@ invariant-formulas_of-loop-parts l = record {
   rest : with_front l.parts (formulas l.names (parts_at l.s l.i)) ≡ formulas l.initial.names (parts_at l.s l.initial.i);
   later : l.initial.i ≤ l.i;
   keeps : Keeps l.initial.names l.names;
+  adds : AddsOf l.s l.initial.names l.names;
 }
 
 abbrev pub decreases-formulas_of-loop-parts : goal.decreases-formulas_of-loop-parts

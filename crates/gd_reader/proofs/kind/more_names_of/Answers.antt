@@ -27,7 +27,10 @@ loop-seen-preserved c =
     let known = c.in_ok-known.ensures.known in
     let table = c.in_ok-known.ensures.table in
     let added = c.in_ok-add.ensures.added in
+    let said = c.in_ok-at.ensures.said in
+    let says = rw is at said in
     record {
+      adds = λ all h old. c.in_ok-ty.ensures.adds all (says all h) (c.loop-seen.invariant.adds all h old);
       keeps = keeps_then c.args.names.now c.loop-seen.names c.used_of.new.names c.loop-seen.invariant.keeps c.in_ok-ty.ensures.keeps;
       rest = rw (added, known, table) (names_next c.loop-seen.types (c.loop-seen.names, c.loop-seen.seen) (parts_at c.args.s.now c.loop-seen.i) (with_front c.args.types (more_names (c.args.names.now, c.args.seen) (parts_at c.args.s.now c.args.i))) c.loop-seen.invariant.rest (c.in-Some.at, folded c.in-Some.word.now, parts_at c.args.s.now c.in-Some.behind) c.in_ok-ty.ty c.used_of.new.names (rw is at gives) c.in_ok-ty.ensures.gives);
     }

@@ -24,7 +24,10 @@ loop-terms-preserved c =
     let is = c.in-Some.is in
     let gives = c.in_ok-at.ensures.gives in
     let pushed = c.in_ok-push.ensures.pushed in
+    let said = c.in_ok-at.ensures.said in
+    let says = rw is at said in
     record {
+      adds = λ all h old. c.in_ok-term.ensures.adds all (says all h) (c.loop-terms.invariant.adds all h old);
       keeps = keeps_then c.args.names.now c.loop-terms.names c.term_of.new.names c.loop-terms.invariant.keeps c.in_ok-term.ensures.keeps;
       rest = rw pushed (all_next word_or_end met_behind term_met terms terms_is c.loop-terms.terms c.loop-terms.names (parts_at c.args.s.now c.loop-terms.i) (terms c.args.names.now (parts_at c.args.s.now c.args.i)) c.loop-terms.invariant.rest (c.in-Some.at, folded c.in-Some.word.now, parts_at c.args.s.now c.in-Some.behind) c.in_ok-term.term c.term_of.new.names (rw is at gives) c.in_ok-term.ensures.gives);
     }

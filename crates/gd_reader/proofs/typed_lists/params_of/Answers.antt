@@ -46,6 +46,7 @@ loop-pending-preserved-then-is_hyphen_due c =
     let settled = c.in_ok-settle.ensures.settled in
     let empty = c.new-pending-then-is_hyphen_due.ensures.empty in
     record {
+      adds = λ all h old. c.in_ok-ty.ensures.adds all h (c.loop-pending.invariant.adds all h old);
       keeps = keeps_then c.args.names.now c.loop-pending.names c.kind_of.new.names c.loop-pending.invariant.keeps c.in_ok-ty.ensures.keeps;
       closed = c.in_ok-ty.ensures.closed ∙ same_end d;
       rest = rw (settled, empty)
@@ -65,7 +66,11 @@ loop-pending-preserved c =
     let d = (goal.at.loop-pending-preserved c).In-Some in
     let h : hyphen_due c.loop-pending.pending (folded c.in-Some.word.now) ≡ false = (let a = c.if-is_hyphen_due.false in let b = c.is_hyphen_due.ensures.due in cc) in
     let pushed = c.in_ok-push.ensures.pushed in
+    let is = c.in-Some.is in
+    let said = c.in_ok-at.ensures.said in
+    let says = rw is at said in
     record {
+      adds = λ all h old. c.in_ok-param.ensures.adds all (says all h) (c.loop-pending.invariant.adds all h old);
       keeps = keeps_then c.args.names.now c.loop-pending.names c.param_of.new.names c.loop-pending.invariant.keeps c.in_ok-param.ensures.keeps;
       closed = same_end d;
       rest = rw pushed
@@ -77,9 +82,8 @@ pub returns-clause-gives : goal.returns-clause-gives
 returns-clause-gives c =
     let gives = c.in_ok-at.ensures.gives in
     let never = c.in_default.not-Some in
-    let settled = c.in_ok-settle-2.ensures.settled in
-    let none = c.new-none.ensures.empty in
-    rw (settled, none) (sym c.loop-pending.invariant.rest ∙ list_end c.args.kind c.loop-pending.done c.loop-pending.pending (c.loop-pending.names, c.loop-pending.seen) (parts_at c.args.s.now c.loop-pending.i) (rw (is_none c.in_ok-at.field-0 never) at gives))
+    let left = c.in_ok-leave.ensures.left in
+    rw left (sym c.loop-pending.invariant.rest ∙ list_end c.args.kind c.loop-pending.done c.loop-pending.pending (c.loop-pending.names, c.loop-pending.seen) (parts_at c.args.s.now c.loop-pending.i) (rw (is_none c.in_ok-at.field-0 never) at gives))
 
 pub returns-clause-closed : goal.returns-clause-closed
 returns-clause-closed c =

@@ -1,0 +1,12 @@
+pub mod Clean
+pub mod Tokens
+pub mod Steps
+pub mod NameLemmas
+pub mod Tables
+pub mod Loops
+pub mod Sections
+pub mod SchemaLemmas
+pub mod Calls
+pub mod Spelled
+pub mod Sound
+pub mod SmallNetworks
