@@ -1,4 +1,9 @@
 mod WordTests
+mod RowTests
+mod Bundled
+mod NetworksSpelled
+mod NetworksWhole
+mod WholeNetworks
 mod Unions
 mod Freshness
 mod Known

@@ -1,6 +1,7 @@
 pub mod Fresh
 pub mod SpellsSome
 pub mod Exactly
+pub mod SpellsSomeNetwork
 pub mod OfAllRead
 pub mod InTable
 pub mod Bound

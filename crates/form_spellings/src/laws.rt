@@ -3,7 +3,10 @@ ghost use Rattle.std.specs.Prelude.{[]};
 ghost use Rattle.gd_reader.specs.Grammar.{formula_form, effect_form};
 ghost use Rattle.gd_reader.specs.ListGrammar.{params_form};
 ghost use Rattle.gd_reader.specs.declared.typed_lists.ListKind.{ListKind};
-ghost use Rattle.form_spellings.specs.Exactly.{IsWholeExactlyWhere};
+ghost use Rattle.form_grammar.specs.Networks.{network_rows, subs, pairs, cons};
+ghost use Rattle.form_grammar.specs.Rows.{form};
+ghost use Rattle.form_spellings.specs.Exactly.{IsWholeExactlyWhere, IsCodedExactlyWhere};
+ghost use Rattle.form_spellings.specs.SpellsSomeNetwork.{SpellsSomeSubtasks, SpellsSomePairs, SpellsSomeConstraints};
 ghost use Rattle.form_spellings.specs.SpellsSome.{SpellsSomeFormula, SpellsSomeEffect, SpellsSomeList};
 
 /// A formula's form is whole exactly where it spells a formula over some declared words, in some scope.
@@ -19,4 +22,12 @@ pub fn whole_effects()
 /// A typed list of each kind is whole exactly where it spells a list of that kind.
 pub fn whole_lists()
     ensures { (kind : ListKind) → IsWholeExactlyWhere (params_form kind []) (SpellsSomeList kind) }
+{}
+
+/// What stands behind a network's keyword is whole exactly where it spells subtasks, pairs of ids, or constraints, over some
+/// declared words, tasks, actions and ids.
+pub fn whole_networks()
+    ensures subtasks { IsCodedExactlyWhere (form network_rows subs) SpellsSomeSubtasks }
+    ensures pairs { IsCodedExactlyWhere (form network_rows pairs) SpellsSomePairs }
+    ensures constraints { IsCodedExactlyWhere (form network_rows cons) SpellsSomeConstraints }
 {}
