@@ -4,6 +4,9 @@ mod Bundled
 mod NetworksSpelled
 mod NetworksWhole
 mod WholeNetworks
+mod PartTables
+mod Pieces
+mod PartsListed
 mod Unions
 mod Freshness
 mod Known

@@ -79,7 +79,7 @@ module _ (v : Declared) (scope : List Word) (have : HaveLetters scope) where
     sub_from : (p : Placed) (c : Child) → IsWhole p → IsSubtask v tasks actions scope c (group (parts_of p)) → Whole (form network_rows sub p)
     sub_from p c w i = sub_by c.id c.head c.args p w i
 
-    sub_no_word : (c : Child) (w : Word) → IsSubtask v tasks actions scope c (name w) → ⊥
+    pub sub_no_word : (c : Child) (w : Word) → IsSubtask v tasks actions scope c (name w) → ⊥
     sub_no_word c w i = by c.id i
       where
         by : (o : Option Name) → IsSubtaskBy v tasks actions scope o c.head c.args (name w) → ⊥
@@ -120,7 +120,7 @@ module _ (v : Declared) (scope : List Word) (have : HaveLetters scope) where
   con_from : (p : Placed) (x : Constraint) → IsWhole p → IsConstraint v scope x (group (parts_of p)) → Whole (form network_rows con p)
   con_from p x w i = con_by x.equal p x.left x.right w i
 
-  con_no_word : (x : Constraint) (w : Word) → IsConstraint v scope x (name w) → ⊥
+  pub con_no_word : (x : Constraint) (w : Word) → IsConstraint v scope x (name w) → ⊥
   con_no_word x w i = by x.equal i
     where
       by : (b : _) → IsConstraintBy v scope b x.left x.right (name w) → ⊥
@@ -149,7 +149,7 @@ module _ (ids : List Word) where
       (in_front (λ r. Whole (form network_rows (sign (id (of_terms ended))) r)) r (codes "<") (part (name b) nothing) w f
       (λ at s w g. allowed_then network_rows true 8 (id (of_terms ended)) at s refl (last_id s b w g m)))))
 
-  pair_no_word : (x : Pair) (w : Word) → IsOrdered ids x (name w) → ⊥
+  pub pair_no_word : (x : Pair) (w : Word) → IsOrdered ids x (name w) → ⊥
   pair_no_word x w (a, b, inl e, n, m, i, j) = no_group (sym e)
   pair_no_word x w (a, b, inr e, n, m, i, j) = no_group (sym e)
 

@@ -2,6 +2,7 @@ pub mod Fresh
 pub mod SpellsSome
 pub mod Exactly
 pub mod SpellsSomeNetwork
+pub mod SpellsSomeParts
 pub mod OfAllRead
 pub mod InTable
 pub mod Bound
