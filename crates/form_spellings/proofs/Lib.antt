@@ -7,6 +7,7 @@ mod WholeNetworks
 mod PartTables
 mod Pieces
 mod PartsListed
+mod WholeParts
 mod Unions
 mod Freshness
 mod Known

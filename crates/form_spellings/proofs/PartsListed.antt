@@ -241,7 +241,7 @@ picked : (o : Option Piece) (x : SectionDue) → option_map due_of o ≡ Some x 
 picked None x e = absurd (cc)
 picked (Some y) x e = (y, refl, ap (λ (o : Option SectionDue). elim o [ None ↦ due_of y | Some z ↦ z ]) e)
 
-abbrev Listed : List Group → Parts → Type 0
+abbrev pub Listed : List Group → Parts → Type 0
 Listed gs ps = (are_entries (groups_of gs) ps ≡ true) × AllFound gs ps
 
 pub listed_to : (q : Placed) (p : Parted) (seen : List Word) (gs : List Group) → Left p seen gs → Whole (form section_rows (parts p seen) q) → Listed gs (parts_of q)

@@ -2,6 +2,7 @@
 use Rattle.std.specs.Prelude.{◌≡◌, ℕ, true, List, [], map, codes}
 use Rattle.htn_base.specs.Different.{AreDifferent}
 use Rattle.text_forms.specs.Lists.{Part, Parts, name, group, nothing, part}
+use Rattle.text_forms.specs.Placed.{Placed}
 use Rattle.text_forms.specs.Printing.{headed}
 use Rattle.text_forms.specs.Words.{Word, is_name}
 use Rattle.plan_texts.specs.Declared.{Declared, variable}
@@ -18,7 +19,7 @@ use Rattle.plan_model.specs.declared.networks.Pair.{Pair}
 use Rattle.plan_model.specs.declared.terms.Param.{Param}
 use Rattle.plan_model.specs.declared.terms.Term.{Term}
 use Rattle.form_spellings.specs.Fresh.{AreFresh, AreFreshEffects}
-use Rattle.form_spellings.specs.SpellsSome.{HaveLetters}
+use Rattle.form_spellings.specs.SpellsSome.{HaveLetters, StandUpToEnd}
 
 -- different parameters
 abbrev pub AreSomeParams : Part → Type 0
@@ -81,3 +82,21 @@ AreNamed Are ps = (w : Word) × (entries : Parts) × (ps ≡ part (name w) entri
 -- ( NAME vlist )
 abbrev pub IsSomePredicate : Part → Type 0
 IsSomePredicate p = (w : Word) × (ps : Parts) × (p ≡ headed w ps) × (is_name w ≡ true) × ((v : Declared) × (xs : List Param) × EachTyped (IsParam v) xs ps)
+
+-- what stands behind a keyword of a domain, up to its end
+abbrev pub SpellsSomeTask : Placed → Type 0
+SpellsSomeTask p = StandUpToEnd (AreNamed AreTaskParts) p
+
+abbrev pub SpellsSomeMethod : Placed → Type 0
+SpellsSomeMethod p = StandUpToEnd (AreNamed AreMethodParts) p
+
+abbrev pub SpellsSomeAction : Placed → Type 0
+SpellsSomeAction p = StandUpToEnd (AreNamed AreActionParts) p
+
+-- behind the keyword of a problem's network
+abbrev pub SpellsSomeTop : Placed → Type 0
+SpellsSomeTop p = StandUpToEnd AreNetworkParts p
+
+-- inside the list of a predicate
+abbrev pub SpellsSomePredicate : Placed → Type 0
+SpellsSomePredicate p = StandUpToEnd (λ ps. IsSomePredicate (group ps)) p

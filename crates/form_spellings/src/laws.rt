@@ -5,7 +5,10 @@ ghost use Rattle.gd_reader.specs.ListGrammar.{params_form};
 ghost use Rattle.gd_reader.specs.declared.typed_lists.ListKind.{ListKind};
 ghost use Rattle.form_grammar.specs.Networks.{network_rows, subs, pairs, cons};
 ghost use Rattle.form_grammar.specs.Rows.{form};
+ghost use Rattle.form_grammar.specs.Sections.{section_rows, named, parts, predicate, task, method, action, network};
 ghost use Rattle.form_spellings.specs.Exactly.{IsWholeExactlyWhere, IsCodedExactlyWhere};
+ghost use Rattle.form_spellings.specs.SpellsSomeParts.{SpellsSomeTask, SpellsSomeMethod, SpellsSomeAction};
+ghost use Rattle.form_spellings.specs.SpellsSomeParts.{SpellsSomeTop, SpellsSomePredicate};
 ghost use Rattle.form_spellings.specs.SpellsSomeNetwork.{SpellsSomeSubtasks, SpellsSomePairs, SpellsSomeConstraints};
 ghost use Rattle.form_spellings.specs.SpellsSome.{SpellsSomeFormula, SpellsSomeEffect, SpellsSomeList};
 
@@ -30,4 +33,14 @@ pub fn whole_networks()
     ensures subtasks { IsCodedExactlyWhere (form network_rows subs) SpellsSomeSubtasks }
     ensures pairs { IsCodedExactlyWhere (form network_rows pairs) SpellsSomePairs }
     ensures constraints { IsCodedExactlyWhere (form network_rows cons) SpellsSomeConstraints }
+{}
+
+/// What stands behind the keyword of a task, a method, an action or a problem's network, and a predicate's list, is whole exactly
+/// where its parts stand each once under their keywords and each spells something.
+pub fn whole_schemas()
+    ensures tasks { IsCodedExactlyWhere (form section_rows (named task)) SpellsSomeTask }
+    ensures methods { IsCodedExactlyWhere (form section_rows (named method)) SpellsSomeMethod }
+    ensures actions { IsCodedExactlyWhere (form section_rows (named action)) SpellsSomeAction }
+    ensures tops { IsCodedExactlyWhere (form section_rows (parts network [])) SpellsSomeTop }
+    ensures predicates { IsCodedExactlyWhere (form section_rows predicate) SpellsSomePredicate }
 {}
