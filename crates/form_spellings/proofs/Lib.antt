@@ -8,6 +8,8 @@ mod PartTables
 mod Pieces
 mod PartsListed
 mod WholeParts
+mod Topics
+mod SectionTables
 mod Unions
 mod Freshness
 mod Known

@@ -3,6 +3,7 @@ pub mod SpellsSome
 pub mod Exactly
 pub mod SpellsSomeNetwork
 pub mod SpellsSomeParts
+pub mod SpellsSomeSections
 pub mod OfAllRead
 pub mod InTable
 pub mod Bound
