@@ -10,6 +10,7 @@ mod PartsListed
 mod WholeParts
 mod Topics
 mod SectionTables
+mod SectionsListed
 mod Unions
 mod Freshness
 mod Known
