@@ -11,6 +11,7 @@ mod WholeParts
 mod Topics
 mod SectionTables
 mod SectionsListed
+mod WholeDefinitions
 mod Unions
 mod Freshness
 mod Known

@@ -1,13 +1,17 @@
 -- The sections of a domain or a problem spell something, each once its words are declared suitably.
 use Rattle.std.specs.Prelude.{◌≡◌, Bool, true, List, [], codes, Option, Some, None}
-use Rattle.text_forms.specs.Lists.{Part, Parts, nothing, part}
+use Rattle.form_grammar.specs.Sections.{Language, hddl, pddl, Definition, domain, problem}
+use Rattle.text_forms.specs.Lists.{Part, Parts, name, nothing, part}
+use Rattle.text_forms.specs.Placed.{Placed, IsOneList}
+use Rattle.text_forms.specs.Printing.{headed}
 use Rattle.plan_texts.specs.Declared.{Declared}
 use Rattle.plan_texts.specs.Domains.{IsNameIfThere}
 use Rattle.plan_texts.specs.Schemas.{IsObject, IsFact}
-use Rattle.plan_texts.specs.Sections.{are_sections, section, parts_in, only, all_but, one_in, content, are_words, are_values, domain_once}
+use Rattle.plan_texts.specs.Sections.{are_sections, section, parts_in, only, all_but, one_in, content, are_words, are_values, domain_once, domain_many, problem_once}
+use Rattle.plan_texts.specs.SpellsHddl.{hddl_many, hddl_problem_once}
 use Rattle.plan_texts.specs.TypedLists.{EachTyped}
 use Rattle.plan_texts.specs.Types.{TypeItem, IsTypeItem}
-use Rattle.text_forms.specs.Words.{Word}
+use Rattle.text_forms.specs.Words.{Word, is_name}
 use Rattle.plan_model.specs.declared.terms.GroundAtom.{GroundAtom}
 use Rattle.plan_model.specs.declared.types.Object.{Object}
 use Rattle.form_spellings.specs.SpellsSomeParts.{AreNamed, AreTaskParts, AreMethodParts, AreActionParts, AreNetworkParts, IsSomePredicate, IsSomeFormula}
@@ -55,3 +59,13 @@ pub record AreSomeProblemSections (once : List Word) (problem : Parts) : Type 0 
 pub record AreSomeHddlProblemSections (once : List Word) (problem : Parts) : Type 0 where
   pub common : AreSomeProblemSections once problem
   pub top : IsThere AreNetworkParts (section (codes ":htn") problem)
+
+-- ( define ( KIND NAME ) section* ) and nothing behind it, with such sections
+abbrev pub IsDefined : Word → (Parts → Type 0) → Placed → Type 0
+IsDefined kind Are p = (w : Word) × (sections : Parts) × IsOneList p (part (name (codes "define")) (part (headed kind (part (name w) nothing)) sections)) × (is_name w ≡ true) × Are sections
+
+abbrev pub SpellsSomeDefinition : Language → Definition → Placed → Type 0
+SpellsSomeDefinition hddl domain p = IsDefined (codes "domain") (AreSomeDomainSections hddl_many) p
+SpellsSomeDefinition hddl problem p = IsDefined (codes "problem") (AreSomeHddlProblemSections hddl_problem_once) p
+SpellsSomeDefinition pddl domain p = IsDefined (codes "domain") (AreSomeDomainSections domain_many) p
+SpellsSomeDefinition pddl problem p = IsDefined (codes "problem") (AreSomeProblemSections problem_once) p

@@ -3,12 +3,15 @@ ghost use Rattle.std.specs.Prelude.{[]};
 ghost use Rattle.gd_reader.specs.Grammar.{formula_form, effect_form};
 ghost use Rattle.gd_reader.specs.ListGrammar.{params_form};
 ghost use Rattle.gd_reader.specs.declared.typed_lists.ListKind.{ListKind};
+ghost use Rattle.form_grammar.specs.Definitions.{definition_form};
 ghost use Rattle.form_grammar.specs.Networks.{network_rows, subs, pairs, cons};
 ghost use Rattle.form_grammar.specs.Rows.{form};
 ghost use Rattle.form_grammar.specs.Sections.{section_rows, named, parts, predicate, task, method, action, network};
+ghost use Rattle.form_grammar.specs.Sections.{Language, Definition};
 ghost use Rattle.form_spellings.specs.Exactly.{IsWholeExactlyWhere, IsCodedExactlyWhere};
 ghost use Rattle.form_spellings.specs.SpellsSomeParts.{SpellsSomeTask, SpellsSomeMethod, SpellsSomeAction};
 ghost use Rattle.form_spellings.specs.SpellsSomeParts.{SpellsSomeTop, SpellsSomePredicate};
+ghost use Rattle.form_spellings.specs.SpellsSomeSections.{SpellsSomeDefinition};
 ghost use Rattle.form_spellings.specs.SpellsSomeNetwork.{SpellsSomeSubtasks, SpellsSomePairs, SpellsSomeConstraints};
 ghost use Rattle.form_spellings.specs.SpellsSome.{SpellsSomeFormula, SpellsSomeEffect, SpellsSomeList};
 
@@ -43,4 +46,10 @@ pub fn whole_schemas()
     ensures actions { IsCodedExactlyWhere (form section_rows (named action)) SpellsSomeAction }
     ensures tops { IsCodedExactlyWhere (form section_rows (parts network [])) SpellsSomeTop }
     ensures predicates { IsCodedExactlyWhere (form section_rows predicate) SpellsSomePredicate }
+{}
+
+/// A text is whole as a domain or a problem, in either language, exactly where it is one definition whose sections stand as they
+/// may and each spells something, over some declared words, tasks, actions and ids.
+pub fn whole_definitions()
+    ensures { (l : Language) (d : Definition) → IsCodedExactlyWhere (definition_form l d) (SpellsSomeDefinition l d) }
 {}
