@@ -1,27 +1,24 @@
 -- What is whole behind a keyword of a network spells subtasks, pairs or constraints, where all its words are declared.
-use Rattle.std.proofs.Common.{◌≡◌, ℕ, ◌⊎◌, inl, inr, true, false, List, [], ◌∷◌, codes, Option, Some, None, refl, sym, ap, subst, ◌∙◌}
-use Rattle.std.specs.Str.{bytes_eq}
+use Rattle.std.proofs.Common.{◌≡◌, ℕ, inl, inr, true, false, List, [], ◌∷◌, codes, Some, None, refl, sym, ap, ◌∙◌}
 use Rattle.htn_base.specs.declared.name.Name.{Name}
-use Rattle.text_forms.specs.Lists.{Part, Parts, name, group, nothing, part}
+use Rattle.text_forms.specs.Lists.{Part, name, group, nothing, part}
 use Rattle.text_forms.specs.Placed.{Placed, cut, close, word, list, parts_of, IsWhole}
 use Rattle.text_forms.specs.Words.{Word, is_name, first_place}
-use Rattle.form_grammar.specs.Codes.{Form, wrong, Whole}
+use Rattle.form_grammar.specs.Codes.{wrong, Whole}
 use Rattle.form_grammar.specs.Lists.{term, terms, ended, applied}
-use Rattle.form_grammar.specs.Networks.{NetworkDue, network_rows, subs, more_subs, sub, sub_word, behind_id, pairs, more_pairs, pair, pair_word, id, sign, cons, more_cons, con, con_word, equality, of_terms, group as group_due}
-use Rattle.form_grammar.specs.Rows.{Next, go, stop, if_allowed, next_as, form}
+use Rattle.form_grammar.specs.Networks.{network_rows, subs, more_subs, sub, sub_word, behind_id, pairs, more_pairs, pair, pair_word, id, sign, cons, more_cons, con, con_word, equality, of_terms, group as group_due}
+use Rattle.form_grammar.specs.Rows.{go, stop, if_allowed, next_as, form}
 use Rattle.form_grammar.specs.Words.{is_term, is_word, used}
 use Rattle.form_grammar.proofs.Meaning.{whole_then}
-use Rattle.plan_texts.specs.Declared.{Declared, named}
+use Rattle.plan_texts.specs.Declared.{Declared}
 use Rattle.plan_texts.specs.Formulas.{IsTerm}
 use Rattle.plan_texts.specs.Networks.{head_of, IsCall, IsSubtask, IsOrdered, IsEquation, IsConstraint}
 use Rattle.plan_texts.specs.Sections.{bundle}
 use Rattle.plan_texts.specs.TypedLists.{Each}
-use Rattle.plan_texts.specs.Types.{Has}
 use Rattle.plan_texts.proofs.Basics.{bytes_eq-true}
 use Rattle.plan_texts.proofs.Members.{at-has}
 use Rattle.plan_model.specs.declared.networks.Child.{Child}
 use Rattle.plan_model.specs.declared.networks.Constraint.{Constraint}
-use Rattle.plan_model.specs.declared.networks.Head.{Head}
 use Rattle.plan_model.specs.declared.networks.Head.TheVariants.{Task}
 use Rattle.plan_model.specs.declared.networks.Pair.{Pair}
 use Rattle.plan_model.specs.declared.terms.Term.{Term}
@@ -73,9 +70,13 @@ module _ (v : Declared) (scope : List Word) where
           let c = call_to S k2.1 b.0 in
           let t = end_closed T (ended_out network_rows of_terms (λ x. refl) T b.1) in
           let n = at-has v.names w k.0.0.0 in
-          let i : Name = record { number = n.0 } in
-          ((c.0, t.0), (record { id = Some i; head = Task c.1.1; args = c.1.0 },
-          (parts_of S, (λ j. group (part (name (sym n.2 j)) (part (group (parts_of S)) (t.1 j)))), ap is_name n.2 ∙ e, c.1.2)))
+          let i : Name = record { number = n.0 } in (
+            (c.0, t.0),
+            (
+              record { id = Some i; head = Task c.1.1; args = c.1.0 },
+              (parts_of S, (λ j. group (part (name (sym n.2 j)) (part (group (parts_of S)) (t.1 j)))), ap is_name n.2 ∙ e, c.1.2),
+            ),
+          )
 
   pub subtasks_to : (p : Placed) → Knows v scope p → Whole (form network_rows subs p) → IsWhole p × ((cs : List Child) × Each (IsSubtask v v.predicates [] scope) cs (bundle (group (parts_of p))))
   subtasks_to = bundle_to subs more_subs sub sub_word refl refl refl (IsSubtask v v.predicates [] scope) (Knows v scope) (λ at p q k. (k.1, k.2)) (λ at w p k. k.1) sub_to

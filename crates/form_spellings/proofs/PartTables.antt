@@ -1,15 +1,14 @@
 -- Groups of keywords, each with what stands behind: what is seen of them, and what is left.
-use Rattle.std.proofs.Common.{◌≡◌, ℕ, ◌⊎◌, ◌↔◌, inl, inr, Bool, true, false, not, cond, if◌then◌else◌, ◌||◌, ◌&&◌, Option, Some, None, List, [], ◌∷◌, ◌++◌, map, codes, refl, sym, ap, subst, ◌∙◌}
-use Rattle.std.specs.List.{list_any}
+use Rattle.std.proofs.Common.{◌≡◌, Bool, true, false, cond, if◌then◌else◌, ◌||◌, Option, Some, None, List, [], ◌∷◌, map, refl, sym, ap, subst, ◌∙◌}
 use Rattle.std.specs.Option.{option_map}
 use Rattle.std.specs.Str.{bytes_eq}
-use Rattle.text_forms.specs.Lists.{Part, Parts, name, group, nothing, part}
+use Rattle.text_forms.specs.Lists.{Part, Parts, name, part}
 use Rattle.text_forms.specs.Words.{Word, is_among}
 use Rattle.form_grammar.specs.Sections.{SectionDue}
 use Rattle.form_grammar.specs.Words.{Table, entry, counts_as}
-use Rattle.plan_texts.specs.Sections.{without_group, is_in_one, are_entries, is_one_of, found}
+use Rattle.plan_texts.specs.Sections.{without_group, is_in_one, found}
 use Rattle.plan_texts.specs.Types.{EachIs}
-use Rattle.plan_texts.proofs.Basics.{bytes_eq-true, bytes_eq-refl, bytes_eq-other, apart}
+use Rattle.plan_texts.proofs.Basics.{bytes_eq-true, bytes_eq-refl}
 use Rattle.form_spellings.proofs.WordTests.{false_true}
 
 module _ (X : Type 0) (due_of : X → SectionDue) where
@@ -52,6 +51,7 @@ module _ (X : Type 0) (due_of : X → SectionDue) where
       one : (ks : List Word) → entry (flatten gs) w ≡ option_map due_of (pick gs w) → entry (flatten_one ks g.2 (flatten gs)) w ≡ option_map due_of (if is_among w ks then Some g.2 else pick gs w)
       one [] h = h
       one (k ∷ ks) h = step (bytes_eq w k) ks (one ks h)
+
   -- each word of a group counts as its first
   abbrev pub Counts : List Group → Type 0
   Counts gs = EachIs (λ (g : Group). EachIs (λ k. counts_as k ≡ g.0) (words_of g)) gs

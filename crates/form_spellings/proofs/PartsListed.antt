@@ -1,19 +1,19 @@
 -- The parts of a task, a method, an action or a network, under their keywords: one grammar with those that spell something.
-use Rattle.std.proofs.Common.{◌≡◌, ℕ, ◌⊎◌, ◌↔◌, inl, inr, Bool, true, false, not, cond, if◌then◌else◌, ◌||◌, ◌&&◌, Option, Some, None, List, [], ◌∷◌, map, codes, refl, sym, ap, subst, ◌∙◌}
+use Rattle.std.proofs.Common.{◌≡◌, ℕ, Bool, true, false, not, if◌then◌else◌, ◌||◌, Option, Some, None, List, [], ◌∷◌, codes, refl, sym, ap, subst, ◌∙◌}
 use Rattle.std.proofs.lemmas.Bool.{and_from, and_parts}
 use Rattle.std.specs.Option.{option_map}
 use Rattle.std.specs.Str.{bytes_eq}
-use Rattle.text_forms.specs.Lists.{Part, Parts, name, group, nothing, part}
+use Rattle.text_forms.specs.Lists.{Parts, name, group, nothing}
 use Rattle.text_forms.specs.Placed.{Placed, cut, close, word, list, parts_of, IsWhole}
 use Rattle.text_forms.specs.Words.{Word, is_among}
-use Rattle.form_grammar.specs.Codes.{Form, wrong, Whole, ◌followed_by◌}
-use Rattle.form_grammar.specs.Rows.{Next, go, stop, if_allowed, form, closed}
+use Rattle.form_grammar.specs.Codes.{Whole}
+use Rattle.form_grammar.specs.Rows.{if_allowed, form, closed}
 use Rattle.form_grammar.specs.Sections.{SectionDue, section_rows, Parted, task, method, action, network, parts, part_table, has_parts}
 use Rattle.form_grammar.specs.Sections as due
 use Rattle.form_grammar.specs.Words.{Table, entry, counts_as, unknown, is_keyword, by_keyword}
 use Rattle.form_grammar.proofs.Meaning.{whole_then, then_whole}
 use Rattle.form_faults.proofs.TermsSaid.{at_next}
-use Rattle.plan_texts.specs.Sections.{without_group, is_in_one, are_entries, found}
+use Rattle.plan_texts.specs.Sections.{is_in_one, are_entries}
 use Rattle.plan_texts.specs.Types.{EachIs}
 use Rattle.form_spellings.proofs.PartTables as tables
 use Rattle.form_spellings.proofs.Pieces.{Piece, params, formula, effect, empty, head, children, pairs, limits, due_of, Spells, piece_to, piece_from, piece_no_word}
@@ -256,9 +256,10 @@ listed_to (word at w (list b S T)) p seen gs l h =
     let y = picked (pick gs w) k.0 (sym (l.looks w) ∙ k.1) in
     let c = whole_then (form section_rows k.0 S) (form section_rows (parts p (counts_as w ∷ seen)) T) k.2 in
     let s = piece_to y.0 S (subst (λ x. Whole (form section_rows x S)) (sym y.2) c.0) in
-    let m = listed_to T p (counts_as w ∷ seen) (drop_group w gs) (left_behind p seen gs w y.0 l y.1) c.1 in
-    (and_from (is_in_one w (groups_of gs)) _ (tables.is_in Piece due_of gs w y.0 y.1) (ap (λ kss. are_entries kss (parts_of T)) (tables.without_is Piece due_of gs w) ∙ m.0),
-    tables.found_to Piece due_of Spells gs w (group (parts_of S)) (parts_of T) y.0 l.counts l.differ y.1 s m.1)
+    let m = listed_to T p (counts_as w ∷ seen) (drop_group w gs) (left_behind p seen gs w y.0 l y.1) c.1 in (
+      and_from (is_in_one w (groups_of gs)) _ (tables.is_in Piece due_of gs w y.0 y.1) (ap (λ kss. are_entries kss (parts_of T)) (tables.without_is Piece due_of gs w) ∙ m.0),
+      tables.found_to Piece due_of Spells gs w (group (parts_of S)) (parts_of T) y.0 l.counts l.differ y.1 s m.1,
+    )
 
 -- a keyword that may come
 which : (gs : List Group) (w : Word) → is_in_one w (groups_of gs) ≡ true → (y : Piece) × (pick gs w ≡ Some y)

@@ -1,21 +1,21 @@
 -- What stands behind the keywords of tasks, methods, actions and networks, in the one grammar and in the other.
-use Rattle.std.proofs.Common.{◌≡◌, ℕ, ◌⊎◌, inl, inr, Bool, true, false, List, [], ◌∷◌, codes, refl, sym, ap, subst, ◌∙◌}
-use Rattle.text_forms.specs.Lists.{Part, Parts, name, group, nothing, part}
-use Rattle.text_forms.specs.Placed.{Placed, cut, close, word, list, parts_of, IsWhole}
+use Rattle.std.proofs.Common.{◌≡◌, [], ◌∷◌, refl, sym, ap, subst, ◌∙◌}
+use Rattle.text_forms.specs.Lists.{Part, name, group, nothing}
+use Rattle.text_forms.specs.Placed.{Placed, cut, list, parts_of, IsWhole}
 use Rattle.text_forms.specs.Words.{Word}
-use Rattle.form_grammar.specs.Codes.{Form, Whole}
+use Rattle.form_grammar.specs.Codes.{Whole}
 use Rattle.form_grammar.specs.Effects.{EffectDue, eff, effect_rows, of_formula, effect_form}
 use Rattle.form_grammar.specs.Formulas.{FormulaDue, gd, formula_rows, of_terms, of_list, formula_form}
 use Rattle.form_grammar.specs.Lists as due
 use Rattle.form_grammar.specs.Networks.{network_rows, subs, pairs as pairs_due, cons}
 use Rattle.form_grammar.specs.Rows.{form}
 use Rattle.form_grammar.specs.Sections.{SectionDue, section_rows, of_effect, of_network, of_terms_due, typed}
-use Rattle.form_grammar.proofs.Meaning.{form_same, form_whole}
+use Rattle.form_grammar.proofs.Meaning.{form_same}
 use Rattle.form_faults.proofs.Calls.{same_form}
 use Rattle.form_faults.proofs.EffectsSaid.{effect_said}
 use Rattle.form_faults.proofs.FormulasSaid.{formula_said}
 use Rattle.form_faults.proofs.ListsSaid.{listed_said}
-use Rattle.form_faults.specs.Said.{typed_form, kind_of}
+use Rattle.form_faults.specs.Said.{typed_form}
 use Rattle.form_faults.specs.SameForms.{IsSameForm}
 use Rattle.gd_reader.specs.declared.typed_lists.ListKind.{ListKind}
 use Rattle.gd_reader.specs.declared.typed_lists.ListKind.TheVariants.{Parameters}
@@ -29,7 +29,6 @@ use Rattle.gd_reader.proofs.EffectExact.{effect_exact}
 use Rattle.gd_reader.proofs.FormulaExact.{formula_exact}
 use Rattle.gd_reader.proofs.ListExact.{listed_exact}
 use Rattle.plan_texts.specs.Formulas.{IsTerm, IsParam}
-use Rattle.plan_texts.specs.Networks.{IsHeadOf}
 use Rattle.plan_texts.specs.TypedLists.{Each, EachTyped}
 use Rattle.form_spellings.specs.SpellsSomeParts.{AreSomeParams, IsSomeFormula, IsSomeEffect, IsSomeHead, AreSomeSubtasks, AreSomePairs, AreSomeConstraints}
 use Rattle.form_spellings.proofs.EffectSpelled.{applied_written}

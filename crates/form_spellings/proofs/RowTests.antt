@@ -1,16 +1,16 @@
 -- What a row of the grammar lets through: the word that came, and what is due behind it.
-use Rattle.std.proofs.Common.{◌≡◌, ℕ, ◌⊎◌, inl, inr, Bool, true, false, not, ◌&&◌, ◌==◌, if◌then◌else◌, Option, Some, None, List, [], ◌∷◌, refl, sym, ap, subst, ◌∙◌}
+use Rattle.std.proofs.Common.{◌≡◌, ℕ, ◌⊎◌, inl, inr, Bool, true, false, not, ◌&&◌, ◌==◌, if◌then◌else◌, Some, None, [], ◌∷◌, refl, sym, ap, subst, ◌∙◌}
 use Rattle.std.specs.Str.{bytes_eq}
 use Rattle.htn_base.specs.Words.{is_reserved}
 use Rattle.text_forms.specs.Placed.{Placed}
 use Rattle.text_forms.specs.Words.{Word, is_name}
-use Rattle.form_grammar.specs.Codes.{Form, wrong, Whole}
+use Rattle.form_grammar.specs.Codes.{Whole}
 use Rattle.form_grammar.specs.Lists as due
 use Rattle.form_grammar.specs.Rows.{Next, go, stop, if_allowed, Rows, form, row_as}
-use Rattle.form_grammar.specs.Words.{Table, entry, by_word, used, declared}
+use Rattle.form_grammar.specs.Words.{Table, entry, by_word, declared}
 use Rattle.form_grammar.proofs.Meaning.{form_same}
 use Rattle.gd_reader.specs.Answers.{end_due}
-use Rattle.gd_reader.specs.TermGrammar.{end_form, terms_form, two_terms_form, applied_form, passed_form}
+use Rattle.gd_reader.specs.TermGrammar.{end_form, terms_form, two_terms_form, applied_form}
 use Rattle.gd_reader.specs.Terms as read
 use Rattle.gd_reader.specs.Forms as plain
 use Rattle.gd_reader.proofs.TermExact.{end_exact, terms_exact, two_terms_exact, applied_exact}

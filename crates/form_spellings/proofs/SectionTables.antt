@@ -1,10 +1,10 @@
 -- Sections in any order: those that are seen, those that may come, and what is found of them.
-use Rattle.std.proofs.Common.{◌≡◌, ℕ, ◌⊎◌, ◌↔◌, inl, inr, Bool, true, false, not, cond, if◌then◌else◌, ◌||◌, ◌&&◌, Option, Some, None, List, [], ◌∷◌, map, codes, refl, sym, ap, subst, ◌∙◌}
-use Rattle.std.proofs.lemmas.Bool.{and_from, and_parts}
+use Rattle.std.proofs.Common.{◌≡◌, Bool, true, false, cond, ◌||◌, Option, Some, None, List, [], ◌∷◌, refl, sym, ap, subst, ◌∙◌}
+use Rattle.std.proofs.lemmas.Bool.{and_parts}
 use Rattle.std.specs.Str.{bytes_eq}
-use Rattle.text_forms.specs.Lists.{Part, Parts, name, group, nothing, part}
+use Rattle.text_forms.specs.Lists.{Parts, name, group, nothing, part}
 use Rattle.text_forms.specs.Words.{Word, is_among}
-use Rattle.plan_texts.specs.Sections.{without, are_sections, is_headed, content, section, only}
+use Rattle.plan_texts.specs.Sections.{without, are_sections, content, section, only}
 use Rattle.plan_texts.specs.Types.{EachIs}
 use Rattle.plan_texts.proofs.Basics.{bytes_eq-true, bytes_eq-refl}
 use Rattle.form_spellings.specs.SpellsSomeSections.{EachPart}

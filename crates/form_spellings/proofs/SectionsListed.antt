@@ -1,13 +1,13 @@
 -- The sections of a domain or a problem: one grammar with those that spell something.
-use Rattle.std.proofs.Common.{◌≡◌, ℕ, ◌⊎◌, ◌↔◌, inl, inr, Bool, true, false, not, cond, if◌then◌else◌, ◌||◌, ◌&&◌, Option, Some, None, List, [], ◌∷◌, ◌++◌, map, codes, refl, sym, ap, subst, ◌∙◌}
+use Rattle.std.proofs.Common.{◌≡◌, ℕ, Bool, true, false, not, cond, if◌then◌else◌, ◌||◌, Option, Some, None, List, [], ◌∷◌, ◌++◌, map, codes, refl, sym, ap, subst, ◌∙◌}
 use Rattle.std.proofs.lemmas.Bool.{and_from, and_parts}
 use Rattle.std.specs.Option.{option_map}
 use Rattle.std.specs.Str.{bytes_eq}
-use Rattle.text_forms.specs.Lists.{Part, Parts, name, group, nothing, part}
+use Rattle.text_forms.specs.Lists.{Parts, name, group, nothing, part}
 use Rattle.text_forms.specs.Placed.{Placed, cut, close, word, list, parts_of, IsWhole}
 use Rattle.text_forms.specs.Words.{Word, is_among}
-use Rattle.form_grammar.specs.Codes.{Form, wrong, Whole, ◌followed_by◌}
-use Rattle.form_grammar.specs.Rows.{Next, go, stop, if_allowed, form, closed}
+use Rattle.form_grammar.specs.Codes.{Whole}
+use Rattle.form_grammar.specs.Rows.{if_allowed, form, closed}
 use Rattle.form_grammar.specs.Sections.{Language, hddl, pddl, Definition, domain, problem, SectionDue, section_rows, sections, section as section_due, section_table, has_sections, seen_behind}
 use Rattle.form_grammar.specs.Words.{Table, entry, counts_as, unknown, is_keyword, by_keyword}
 use Rattle.form_grammar.proofs.Meaning.{whole_then, then_whole}
@@ -233,9 +233,11 @@ module _ (l : Language) (d : Definition) where
   sections_to (list at (word b k R) T) seen once left h =
       let c = whole_then (form section_rows (section_due l d seen) (word b k R)) (form section_rows (sections l d (seen_behind seen (Some k))) T) h in
       let x = key_to l d seen k b R c.0 in
-      let m = sections_to T (seen_behind seen (Some k)) (without k once) (left_behind l d seen once k left) c.1 in
-      (and_from (is_among k once || is_among k (many_of l d)) (are_sections (without k once) (many_of l d) (parts_of T)) (sym (left.looks k x.0 x.1) ∙ x.2) m.0,
-      (subst (λ o. says_by o (parts_of R)) (sym x.1) (topic_to x.0 R x.3), m.1), ends_behind l d seen k (parts_of R) (parts_of T) ∙ m.2)
+      let m = sections_to T (seen_behind seen (Some k)) (without k once) (left_behind l d seen once k left) c.1 in (
+        and_from (is_among k once || is_among k (many_of l d)) (are_sections (without k once) (many_of l d) (parts_of T)) (sym (left.looks k x.0 x.1) ∙ x.2) m.0,
+        (subst (λ o. says_by o (parts_of R)) (sym x.1) (topic_to x.0 R x.3), m.1),
+        ends_behind l d seen k (parts_of R) (parts_of T) ∙ m.2,
+      )
 
   pub sections_from : (q : Placed) (seen once : List Word) → Left l d seen once → IsWhole q → Listed seen once (parts_of q) → Whole (form section_rows (sections l d seen) q)
   sections_from cut seen once left w i = w

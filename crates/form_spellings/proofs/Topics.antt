@@ -1,39 +1,32 @@
 -- What stands in the sections of a domain and of a problem, in the one grammar and in the other.
-use Rattle.std.proofs.Common.{◌≡◌, ℕ, ◌⊎◌, inl, inr, Bool, true, false, cond, not, ◌||◌, ◌&&◌, List, [], ◌∷◌, map, codes, Option, Some, None, refl, sym, ap, subst, ◌∙◌}
+use Rattle.std.proofs.Common.{◌≡◌, ℕ, ◌⊎◌, inl, inr, Bool, true, false, cond, not, ◌||◌, ◌&&◌, List, [], ◌∷◌, map, codes, Some, refl, sym, ap, subst, ◌∙◌}
 use Rattle.std.proofs.lemmas.Bool.{and_from, and_parts}
-use Rattle.std.specs.Prelude.{◌↔◌}
-use Rattle.std.specs.Str.{bytes_eq}
-use Rattle.text_forms.specs.Lists.{Part, Parts, name, group, nothing, part}
+use Rattle.text_forms.specs.Lists.{Parts, name, group, nothing, part}
 use Rattle.text_forms.specs.Placed.{Placed, cut, close, word, list, parts_of, IsWhole}
-use Rattle.text_forms.specs.Printing.{headed}
-use Rattle.text_forms.specs.Words.{Word, is_name, first_place}
+use Rattle.text_forms.specs.Words.{Word, is_name}
 use Rattle.form_grammar.specs.Codes.{Whole}
 use Rattle.form_grammar.specs.Effects.{of_formula}
 use Rattle.form_grammar.specs.Formulas.{gd, of_terms, formula_rows}
 use Rattle.form_grammar.specs.Lists as due
-use Rattle.form_grammar.specs.Rows.{form, go, stop}
+use Rattle.form_grammar.specs.Rows.{form}
 use Rattle.form_grammar.specs.Words.{used}
 use Rattle.form_grammar.specs.Sections as grammar
 use Rattle.form_grammar.specs.Sections.{SectionDue, section_rows, of_effect, of_terms_due, typed, predicates, predicate, named, parts, domain_name, facts, fact, objects_of_fact, value}
-use Rattle.form_grammar.proofs.Meaning.{form_same, form_whole, whole_then, then_whole}
+use Rattle.form_grammar.proofs.Meaning.{form_same, whole_then, then_whole}
 use Rattle.gd_reader.specs.declared.typed_lists.ListKind.TheVariants.{Objects, Types}
 use Rattle.plan_texts.specs.Declared.{Declared}
-use Rattle.plan_texts.specs.Domains.{IsNameIfThere}
 use Rattle.plan_texts.specs.Formulas.{IsTerm}
-use Rattle.plan_texts.specs.Schemas.{IsFact}
 use Rattle.plan_texts.specs.Sections.{is_headed, content, is_value, are_values, are_words, all_but, one_in}
 use Rattle.plan_texts.specs.TypedLists.{Each}
-use Rattle.plan_texts.proofs.Basics.{bytes_eq-true, bytes_eq-refl}
-use Rattle.plan_model.specs.declared.terms.GroundAtom.{GroundAtom}
+use Rattle.plan_texts.proofs.Basics.{bytes_eq-true}
 use Rattle.plan_model.specs.declared.terms.Term.TheVariants.{Obj}
 use Rattle.form_spellings.specs.SpellsSomeParts.{AreNamed, AreTaskParts, AreMethodParts, AreActionParts, AreNetworkParts, IsSomePredicate, IsSomeFormula}
 use Rattle.form_spellings.specs.SpellsSomeSections.{EachPart, AreSomeTypes, AreSomeObjects, IsSomeFact}
-use Rattle.form_spellings.proofs.FormulaSpelled.{end_closed}
-use Rattle.form_spellings.proofs.Known.{Knows, KnowsWord, declared_by, all_variables, knows_all, first_of}
+use Rattle.form_spellings.proofs.Known.{Knows, declared_by, all_variables, knows_all, first_of}
 use Rattle.form_spellings.proofs.ListsWhole.{name_is, no_group}
-use Rattle.form_spellings.proofs.NetworksWhole.{in_front, list_in_front}
-use Rattle.form_spellings.proofs.PartsWhole.{front_is, back_is, within_is, no_part, no_nothing, end_whole}
-use Rattle.form_spellings.proofs.Pieces.{list_kept, list_same, formula_kept, formula, empty, Spells, piece_to, piece_from, piece_no_word}
+use Rattle.form_spellings.proofs.NetworksWhole.{in_front}
+use Rattle.form_spellings.proofs.PartsWhole.{within_is}
+use Rattle.form_spellings.proofs.Pieces.{list_kept, list_same, formula_kept, formula, empty, piece_to, piece_from, piece_no_word}
 use Rattle.form_spellings.proofs.RowTests.{by_cons, by_here, by_later, allowed_then, then_allowed}
 use Rattle.form_spellings.proofs.Unions.{flip}
 use Rattle.form_spellings.proofs.WholeForms.{whole_lists}
@@ -207,9 +200,10 @@ facts_to (list at S T) h =
     by ps rest (inl (w, qs, e, k, i)) m =
         subst (λ ps. AreFacts (part (group ps) rest)) (sym (e ∙ ap (λ w. part (name w) qs) k)) (and_from (is_value qs) (are_values rest) i m.0, m.1)
     by ps rest (inr f) m =
-        let p = fact_plain ps f in
-        (and_from (not (is_headed (codes "=") (group ps)) || is_value (content (group ps))) (are_values rest) (ap (λ b. not b || is_value (content (group ps))) p) m.0,
-        kept (is_headed (codes "=") (group ps)) p)
+        let p = fact_plain ps f in (
+          and_from (not (is_headed (codes "=") (group ps)) || is_value (content (group ps))) (are_values rest) (ap (λ b. not b || is_value (content (group ps))) p) m.0,
+          kept (is_headed (codes "=") (group ps)) p,
+        )
       where
         kept : (b : Bool) → b ≡ false → EachPart IsSomeFact (cond b (all_but (codes "=") rest) (part (group ps) (all_but (codes "=") rest)))
         kept true e = false_true (sym e)

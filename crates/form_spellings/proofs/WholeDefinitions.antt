@@ -1,13 +1,13 @@
 -- Domains and problems as whole texts: the two grammars are one.
-use Rattle.std.proofs.Common.{◌≡◌, ℕ, ◌⊎◌, inl, inr, Bool, true, false, Option, Some, None, List, [], ◌∷◌, codes, refl, sym, ap, subst, ◌∙◌}
+use Rattle.std.proofs.Common.{◌≡◌, inl, inr, true, Option, Some, None, List, [], codes, refl, sym, subst}
 use Rattle.std.specs.Prelude.{◌↔◌}
 use Rattle.text_forms.specs.Lists.{Part, Parts, name, group, nothing, part}
-use Rattle.text_forms.specs.Placed.{Placed, cut, close, word, list, parts_of, IsWhole, IsOneList}
+use Rattle.text_forms.specs.Placed.{Placed, cut, close, word, list, parts_of, IsWhole}
 use Rattle.text_forms.specs.Printing.{headed}
 use Rattle.text_forms.specs.Words.{Word, is_name}
-use Rattle.form_grammar.specs.Codes.{Form, Whole, ◌followed_by◌}
+use Rattle.form_grammar.specs.Codes.{Whole}
 use Rattle.form_grammar.specs.Definitions.{definition_form}
-use Rattle.form_grammar.specs.Rows.{form, go, stop}
+use Rattle.form_grammar.specs.Rows.{form, stop}
 use Rattle.form_grammar.specs.Sections.{Language, hddl, pddl, Definition, domain, problem, section_rows, sections, define, header, kind, title, title_end, definition_word}
 use Rattle.form_grammar.specs.Texts.{text_form, one_list, the_end}
 use Rattle.form_grammar.proofs.Meaning.{form_whole, whole_then, then_whole}
@@ -21,8 +21,8 @@ use Rattle.form_spellings.proofs.PartsWhole.{no_nothing}
 use Rattle.form_spellings.proofs.Pieces as pieces
 use Rattle.form_spellings.proofs.RowTests.{by_cons, by_here, declared_then, then_declared}
 use Rattle.form_spellings.proofs.SectionTables.{AllSections, IfThere, Firsts, first_has, all_have, all_from}
-use Rattle.form_spellings.proofs.SectionsListed.{once_of, many_of, SaysAt, Listed, there, all_left, sections_to, sections_from}
-use Rattle.form_spellings.proofs.Topics.{requires, type_list, object_list, predicate_list, init, Says, topic_to}
+use Rattle.form_spellings.proofs.SectionsListed.{once_of, SaysAt, Listed, there, all_left, sections_to, sections_from}
+use Rattle.form_spellings.proofs.Topics.{requires, type_list, object_list, predicate_list, init, topic_to}
 use Rattle.form_spellings.proofs.WordTests.{false_true}
 
 -- a section that need not stand
@@ -68,10 +68,19 @@ pddl_domain_to ps i = let P = SaysAt pddl domain in record {
 module _ (l : Language) (many : List Word) (ps : Parts) (s : AreSomeDomainSections many ps) where
   domain_firsts : Firsts (SaysAt l domain) (once_of l domain) ps
   domain_firsts =
-      let P = SaysAt l domain in
-      (emptied P (codes ":requirements") (section (codes ":requirements") ps) s.requires, (emptied P (codes ":types") (section (codes ":types") ps) s.types,
-      (emptied P (codes ":constants") (section (codes ":constants") ps) s.constants, (emptied P (codes ":predicates") (section (codes ":predicates") ps) s.predicates,
-      (emptied P (codes ":functions") (section (codes ":functions") ps) tt, tt)))))
+      let P = SaysAt l domain in (
+        emptied P (codes ":requirements") (section (codes ":requirements") ps) s.requires,
+        (
+          emptied P (codes ":types") (section (codes ":types") ps) s.types,
+          (
+            emptied P (codes ":constants") (section (codes ":constants") ps) s.constants,
+            (
+              emptied P (codes ":predicates") (section (codes ":predicates") ps) s.predicates,
+              (emptied P (codes ":functions") (section (codes ":functions") ps) tt, tt),
+            ),
+          ),
+        ),
+      )
 
 hddl_domain_from : (ps : Parts) → AreSomeDomainSections hddl_many ps → AllListed hddl domain ps
 hddl_domain_from ps s =
@@ -114,10 +123,19 @@ module _ (l : Language) where
 
   problem_firsts : (once : List Word) (ps : Parts) → AreSomeProblemSections once ps → Firsts (SaysAt l problem) problem_once ps
   problem_firsts once ps s =
-      let P = SaysAt l problem in
-      (name_from (section (codes ":domain") ps) s.of_domain, (emptied P (codes ":requirements") (section (codes ":requirements") ps) s.requires,
-      (emptied P (codes ":objects") (section (codes ":objects") ps) s.objects, (emptied P (codes ":init") (section (codes ":init") ps) (s.init_form, s.init),
-      (goal_from (section (codes ":goal") ps) s.goal, (emptied P (codes ":metric") (section (codes ":metric") ps) tt, tt))))))
+      let P = SaysAt l problem in (
+        name_from (section (codes ":domain") ps) s.of_domain,
+        (
+          emptied P (codes ":requirements") (section (codes ":requirements") ps) s.requires,
+          (
+            emptied P (codes ":objects") (section (codes ":objects") ps) s.objects,
+            (
+              emptied P (codes ":init") (section (codes ":init") ps) (s.init_form, s.init),
+              (goal_from (section (codes ":goal") ps) s.goal, (emptied P (codes ":metric") (section (codes ":metric") ps) tt, tt)),
+            ),
+          ),
+        ),
+      )
 
 pddl_problem_to : (ps : Parts) → AllListed pddl problem ps → AreSomeProblemSections problem_once ps
 pddl_problem_to ps i = problem_to pddl problem_once ps i.0 i.1

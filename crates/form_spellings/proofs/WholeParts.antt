@@ -1,22 +1,20 @@
 -- The two grammars of tasks, methods, actions, predicates and a problem's network are one.
-use Rattle.std.proofs.Common.{◌≡◌, ℕ, true, List, [], ◌∷◌, refl, sym, ap, subst}
+use Rattle.std.proofs.Common.{[], refl, sym, subst}
 use Rattle.std.specs.Prelude.{◌↔◌}
-use Rattle.text_forms.specs.Lists.{Part, Parts, name, group, nothing, part}
+use Rattle.text_forms.specs.Lists.{Parts, group}
 use Rattle.text_forms.specs.Placed.{Placed, cut, close, word, list, parts_of, IsWhole}
-use Rattle.text_forms.specs.Words.{Word, is_name}
 use Rattle.form_grammar.specs.Codes.{Whole}
 use Rattle.form_grammar.specs.Lists as due
 use Rattle.form_grammar.specs.Rows.{form}
-use Rattle.form_grammar.specs.Sections.{SectionDue, section_rows, Parted, task, method, action, network, parts, named, predicate, typed}
+use Rattle.form_grammar.specs.Sections.{section_rows, Parted, task, method, action, network, parts, named, predicate, typed}
 use Rattle.form_grammar.proofs.Meaning.{form_whole}
 use Rattle.gd_reader.specs.declared.typed_lists.ListKind.TheVariants.{Predicate}
 use Rattle.plan_texts.specs.Formulas.{IsParam}
 use Rattle.plan_texts.specs.TypedLists.{EachTyped}
 use Rattle.form_spellings.specs.SpellsSomeParts.{AreTaskParts, AreMethodParts, AreActionParts, AreNetworkParts, AreNamed, IsSomePredicate, SpellsSomeTask, SpellsSomeMethod, SpellsSomeAction, SpellsSomeTop, SpellsSomePredicate}
-use Rattle.form_spellings.proofs.ListsWhole.{name_is}
 use Rattle.form_spellings.proofs.NetworksWhole.{in_front}
 use Rattle.form_spellings.proofs.PartsListed.{Listed, pieces, all_left, listed_to, listed_from}
-use Rattle.form_spellings.proofs.PartsWhole.{front_is, within_is}
+use Rattle.form_spellings.proofs.PartsWhole.{within_is}
 use Rattle.form_spellings.proofs.Pieces.{list_kept, list_same}
 use Rattle.form_spellings.proofs.RowTests.{declared_then, then_declared}
 use Rattle.form_spellings.proofs.WholeForms.{whole_lists}

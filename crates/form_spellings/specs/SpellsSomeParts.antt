@@ -1,5 +1,5 @@
 -- What stands behind a keyword of a domain or a problem spells something, once its words are declared suitably.
-use Rattle.std.specs.Prelude.{◌≡◌, ℕ, true, List, [], map, codes}
+use Rattle.std.specs.Prelude.{◌≡◌, ℕ, true, List, [], map}
 use Rattle.htn_base.specs.Different.{AreDifferent}
 use Rattle.text_forms.specs.Lists.{Part, Parts, name, group, nothing, part}
 use Rattle.text_forms.specs.Placed.{Placed}
