@@ -12,6 +12,7 @@ mod Topics
 mod SectionTables
 mod SectionsListed
 mod WholeDefinitions
+mod SpelledSome
 mod Unions
 mod Freshness
 mod Known

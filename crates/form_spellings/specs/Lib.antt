@@ -4,6 +4,8 @@ pub mod Exactly
 pub mod SpellsSomeNetwork
 pub mod SpellsSomeParts
 pub mod SpellsSomeSections
+pub mod DeclaresOnce
+pub mod SpelledWhole
 pub mod OfAllRead
 pub mod InTable
 pub mod Bound

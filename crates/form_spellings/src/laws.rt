@@ -11,6 +11,8 @@ ghost use Rattle.form_grammar.specs.Sections.{Language, Definition};
 ghost use Rattle.form_spellings.specs.Exactly.{IsWholeExactlyWhere, IsCodedExactlyWhere};
 ghost use Rattle.form_spellings.specs.SpellsSomeParts.{SpellsSomeTask, SpellsSomeMethod, SpellsSomeAction};
 ghost use Rattle.form_spellings.specs.SpellsSomeParts.{SpellsSomeTop, SpellsSomePredicate};
+ghost use Rattle.form_spellings.specs.SpelledWhole.{HddlDomainsAreWhole, HddlProblemsAreWhole};
+ghost use Rattle.form_spellings.specs.SpelledWhole.{PddlDomainsAreWhole, PddlProblemsAreWhole};
 ghost use Rattle.form_spellings.specs.SpellsSomeSections.{SpellsSomeDefinition};
 ghost use Rattle.form_spellings.specs.SpellsSomeNetwork.{SpellsSomeSubtasks, SpellsSomePairs, SpellsSomeConstraints};
 ghost use Rattle.form_spellings.specs.SpellsSome.{SpellsSomeFormula, SpellsSomeEffect, SpellsSomeList};
@@ -52,4 +54,13 @@ pub fn whole_schemas()
 /// may and each spells something, over some declared words, tasks, actions and ids.
 pub fn whole_definitions()
     ensures { (l : Language) (d : Definition) → IsCodedExactlyWhere (definition_form l d) (SpellsSomeDefinition l d) }
+{}
+
+/// A text that spells a domain or a problem as it is declared is whole, where no list of parameters and no quantifier declares a
+/// variable twice.
+pub fn spelled_definitions_are_whole()
+    ensures hddl_domains { HddlDomainsAreWhole }
+    ensures hddl_problems { HddlProblemsAreWhole }
+    ensures pddl_domains { PddlDomainsAreWhole }
+    ensures pddl_problems { PddlProblemsAreWhole }
 {}

@@ -3,7 +3,7 @@
 //! It stands on the definitions of `gd_reader`, `form_grammar` and `plan_texts`, and has no code but laws. The contracts used above:
 //! a form is whole exactly where it spells some formula, effect, typed list, part of a network, schema, domain or problem, once its
 //! words are declared suitably (`whole_formulas`, `whole_effects`, `whole_lists`, `whole_networks`, `whole_schemas`,
-//! `whole_definitions`); what is read, once its names are bound, is spelled by the parts from which it was read
+//! `whole_definitions`), so where it spells them as they are declared (`spelled_definitions_are_whole`); what is read, once its names are bound, is spelled by the parts from which it was read
 //! (`what_is_read_is_spelled`), and these parts spell nothing else (`what_is_spelled_is_read`); its names stand in the name table
 //! (`names_stand_in_the_table`).
 #![tactic(auto)]
@@ -13,7 +13,8 @@ mod names;
 mod read;
 
 pub use laws::{
-    whole_definitions, whole_effects, whole_formulas, whole_lists, whole_networks, whole_schemas,
+    spelled_definitions_are_whole, whole_definitions, whole_effects, whole_formulas, whole_lists,
+    whole_networks, whole_schemas,
 };
 pub use names::names_stand_in_the_table;
 pub use read::{what_is_read_is_spelled, what_is_spelled_is_read};
