@@ -11,7 +11,7 @@ use Rattle.plan_model.specs.declared.schemas.MethodPlan.{MethodPlan}
 use Rattle.plan_model.specs.Pairs.{Pairs}
 use Rattle.task_networks.specs.Order.{IsCut}
 use Rattle.task_networks.specs.Net.{Net}
-use Rattle.task_networks.specs.Pending.{AreDifferent}
+use Rattle.htn_base.specs.Different.{AreDifferent}
 use Rattle.task_networks.specs.Bound.{AreBlocks}
 use Rattle.task_networks.proofs.Lists.{not-in_empty}
 use Rattle.task_networks.proofs.BoundLaws.{by_size}

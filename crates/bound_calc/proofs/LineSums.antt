@@ -4,7 +4,7 @@ use Rattle.std.specs.List.{sum_by}
 use Rattle.std.proofs.lemmas.List.Sums.{sum_by-cons, sum_by-append}
 use Rattle.task_networks.specs.Net.{Net}
 use Rattle.task_networks.specs.Order.{IsLine}
-use Rattle.task_networks.specs.Pending.{AreDifferent}
+use Rattle.htn_base.specs.Different.{AreDifferent}
 use Rattle.task_networks.specs.Spelling.{numbers}
 use Rattle.task_networks.specs.Bound.{weight, weights}
 use Rattle.task_networks.proofs.Lists.{not-in_empty, Contains-here, Contains-later, cut_at}
