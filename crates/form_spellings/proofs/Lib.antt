@@ -12,12 +12,15 @@ mod FormulaSpelled
 mod EffectSpelled
 mod WholeForms
 mod KeptWords
+mod Facts
 mod TermsIn
 mod ListsIn
 mod FormulasIn
 mod EffectsIn
 mod NamesIn
 mod TermsBound
+mod PlacesSeen
+mod PlacesRead
 mod UnionsBound
 mod ListsBound
 mod FormulasBound

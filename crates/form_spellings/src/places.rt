@@ -1,0 +1,14 @@
+// The offsets of what was read.
+ghost use Rattle.gd_reader.specs.declared.typed_lists.ListKind.{ListKind};
+ghost use Rattle.gd_reader.specs.Effects.{effect_read};
+ghost use Rattle.gd_reader.specs.Formulas.{formula_read};
+ghost use Rattle.gd_reader.specs.TypedLists.{listed};
+ghost use Rattle.form_spellings.specs.Places.{AreParamsAt, IsFormulaAt, IsEffectAt};
+ghost use Rattle.form_spellings.specs.ReadOf.{OfEachText};
+
+/// Each offset of what was read of a text is that of the token that writes the name.
+pub fn places_are_those_of_tokens()
+    ensures formulas { OfEachText formula_read IsFormulaAt }
+    ensures effects { OfEachText effect_read IsEffectAt }
+    ensures lists { (kind : ListKind) → OfEachText (listed kind) (AreParamsAt kind) }
+{}
