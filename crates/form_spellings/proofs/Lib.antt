@@ -19,6 +19,7 @@ mod FormulasIn
 mod EffectsIn
 mod NamesIn
 mod TermsBound
+mod NetworksIn
 mod PlacesSeen
 mod PlacesRead
 mod UnionsBound

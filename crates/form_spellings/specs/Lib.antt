@@ -3,6 +3,7 @@ pub mod SpellsSome
 pub mod Exactly
 pub mod OfAllRead
 pub mod EachName
+pub mod EachPart
 pub mod InTable
 pub mod Places
 pub mod ReadOf
