@@ -1,11 +1,11 @@
-use Rattle.std.proofs.Common.{Some, None, ap, sym, ◌∙◌, [], ◌++◌}
+use Rattle.std.proofs.Common.{Some, None, ap, sym, ◌∙◌}
 use Rattle.std.proofs.lemmas.List.{append-nil}
 use Rattle.std.proofs.lemmas.Result.{err_from_is_err_and}
 use Rattle.text_forms.specs.Placed.{parts_at}
 use Rattle.gd_reader.specs.Answers.{with_front}
 use Rattle.gd_reader.proofs.Keeping.{keeps_then}
 use Rattle.gd_reader.proofs.Steps.{is_none}
-use Rattle.hddl_reader.specs.Sections.{facts, with_kept}
+use Rattle.hddl_reader.specs.Sections.{facts}
 use Rattle.hddl_reader.proofs.SectionSteps.{facts_end, facts_stuck, facts_stop, facts_next}
 use Rattle.hddl_reader.proofs.facts.facts_of.Goals as goal
 
