@@ -1,5 +1,5 @@
 -- The numbers of the groups over the methods in their order, the lowest group first.
-use Rattle.std.proofs.Common.{ℕ, zero, suc, ◌≡◌, ◌+◌, ◌<◌, ◌≤◌, ◌^◌, ◌⊎◌, inl, inr, List, [], ◌∷◌, ◌++◌, length, get_or, set, take, replicate, max, slice_get, slice_index, Some, All, refl, ap, sym, subst, ◌∙◌, Contains, arith, length-set}
+use Rattle.std.proofs.Common.{ℕ, suc, ◌≡◌, ◌+◌, ◌<◌, ◌≤◌, ◌⊎◌, inl, inr, List, length, get_or, set, take, replicate, max, slice_get, slice_index, Some, All, refl, ap, sym, subst, ◌∙◌, Contains, arith, length-set}
 use Rattle.std.specs.Prelude.{Result, Ok, Err, IfErr}
 use Rattle.std.specs.Result.{IsErrAnd}
 use Rattle.std.specs.List.Sorted.{IsNonDecreasingBy}
@@ -16,15 +16,14 @@ use Rattle.task_networks.specs.Bound.{itself}
 use Rattle.task_networks.proofs.BoundLaws.{by_size}
 use Rattle.task_networks.proofs.Lists.{not-in_empty}
 use Rattle.plan_meaning.specs.Network.{top_task}
-use Rattle.plan_meaning.specs.Schemas.{task, schemas, schema_of}
+use Rattle.plan_meaning.specs.Schemas.{task, schema_of}
 use Rattle.plan_meaning.specs.Strata.{IsReachedTask}
 use Rattle.plan_meaning.specs.Bound.{IsBound}
-use Rattle.plan_meaning.proofs.MethodParts.{IsPairBy, schemas_by}
 use Rattle.bound_laws.proofs.Lines.{HasLines}
 use Rattle.bound_laws.proofs.ProblemBound.{tail_recursive_has_bound}
 use Rattle.bound_laws.proofs.OrCycle.{ranked_exactly}
 use Rattle.stratifier.specs.declared.ranks.Ranks.{Ranks}
-use Rattle.stratifier.specs.Conditions.{HaveNoCycle, IsNumbered, IsOrdered, IsSmallCompiled, IsSmallMethod}
+use Rattle.stratifier.specs.Conditions.{IsNumbered, IsSmallCompiled}
 use Rattle.stratifier.specs.Stratified.{IsStratified, number_of, rank_by}
 use Rattle.bound_calc.specs.declared.groups.BoundError.{BoundError}
 use Rattle.bound_calc.specs.declared.groups.BoundError.TheVariants.{Past128, Memory}

@@ -3,7 +3,7 @@ use Rattle.std.proofs.Common.{ℕ, suc, ◌≡◌, ◌+◌, ◌<◌, ◌≤◌, 
 use Rattle.std.proofs.lemmas.Bool.{cases_eq, cases_lt, false≢true}
 use Rattle.std.proofs.lemmas.List.{append-nil, get_or_past, length_push, length-append}
 use Rattle.std.proofs.lemmas.List.Elements.{Contains-push, Contains-push_cases, Contains-append_left, Contains-append_right, Contains-append_cases}
-use Rattle.task_networks.specs.Pending.{AreDifferent}
+use Rattle.htn_base.specs.Different.{AreDifferent}
 use Rattle.task_networks.specs.Spelling.{numbers}
 use Rattle.task_networks.proofs.Numbers.{to_numbers, length-numbers}
 use Rattle.task_networks.proofs.Different.{different_without, no_more}

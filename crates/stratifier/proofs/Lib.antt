@@ -14,5 +14,3 @@ pub mod NamedWalk
 pub mod NamedEnds
 pub mod NamedFirst
 pub mod examples
-pub mod Descents
-pub mod Grouped

@@ -1,6 +1,6 @@
 -- A depth-first walk without recursion: what is still to be done, and which tasks it has left, in order.
 use Rattle.std.specs.Prelude.{ℕ, suc, ◌≡◌, ◌+◌, ◌<◌, ◌⊎◌, ◌↔◌, Bool, cond, List, [], ◌∷◌, ◌++◌, map, length, Contains}
-use Rattle.task_networks.specs.Pending.{AreDifferent}
+use Rattle.htn_base.specs.Different.{AreDifferent}
 use Rattle.plan_model.specs.Parts.{IsMarked}
 use Rattle.stratifier.specs.declared.finishing.Step.{Step}
 use Rattle.stratifier.specs.declared.finishing.Step.TheVariants.{Enter, Leave}

@@ -1,6 +1,6 @@
 -- A graph of numbered tasks: for each a row of the tasks that its edges lead to.
 use Rattle.std.specs.Prelude.{ℕ, ◌≡◌, ◌<◌, ◌≤◌, ◌↔◌, List, [], ◌∷◌, ◌++◌, length, Contains, slice_index_or}
-use Rattle.task_networks.specs.Pending.{AreDifferent}
+use Rattle.htn_base.specs.Different.{AreDifferent}
 
 abbrev pub Leads : List (List ℕ) → ℕ → ℕ → Type 0
 Leads rows u v = Contains (slice_index_or rows u []) v

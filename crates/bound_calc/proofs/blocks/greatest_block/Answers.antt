@@ -1,9 +1,7 @@
-use Rattle.std.proofs.Common.{ℕ, ◌≡◌, ◌+◌, ◌-◌, ◌<◌, ◌≤◌, ◌⊎◌, inl, inr, ◌^◌, List, length, get_or, Contains, Some, refl, sym, ap, subst, ◌∙◌, arith}
+use Rattle.std.proofs.Common.{ℕ, ◌≡◌, ◌+◌, ◌-◌, ◌<◌, ◌≤◌, inl, inr, ◌^◌, List, length, get_or, Contains, sym, ap, subst, ◌∙◌, arith}
 use Rattle.std.proofs.lemmas.List.Elements.{Contains-get_or}
 use Rattle.plan_model.specs.declared.networks.Child.{Child}
 use Rattle.plan_model.specs.declared.networks.Head.TheVariants.{Task}
-use Rattle.plan_model.specs.Pairs.{Pairs}
-use Rattle.task_networks.specs.Bound.{AreBlocks}
 use Rattle.bound_calc.specs.Blocks.{head_number, child_number, IsGreatestOrPast}
 use Rattle.bound_calc.proofs.Along.{IsSummed}
 use Rattle.bound_calc.proofs.Greatest.{many, child_below, child-number, child_ranked, positive, IsStart, summed_first, summed_next, past_next, greatest_all, at_least}

@@ -1,9 +1,8 @@
-use Rattle.std.proofs.Common.{ℕ, ◌≡◌, ◌<◌, ◌≤◌, ◌+◌, ◌++◌, ◌∷◌, [], Vec, Global, List, length, slice_get, get_or, Some, true, false, IsTrue, refl, sym, ap, subst, ◌∙◌, arith}
+use Rattle.std.proofs.Common.{ℕ, ◌≡◌, ◌<◌, ◌≤◌, ◌+◌, ◌++◌, ◌∷◌, [], Vec, Global, length, slice_get, get_or, Some, false, sym, ap, subst, ◌∙◌, arith}
 use Rattle.std.proofs.lemmas.Bool.{false≢true}
 use Rattle.std.proofs.lemmas.List.{get_or_read}
 use Rattle.std.proofs.lemmas.Option.{slice_get-get_or}
-use Rattle.plan_model.specs.declared.schemas.MethodPlan.{MethodPlan}
-use Rattle.bound_calc.proofs.Placing.{ArePlaced, placed_none, placed_more, placed_same, placed_all, task_below}
+use Rattle.bound_calc.proofs.Placing.{ArePlaced, placed_more, placed_same, placed_all, task_below}
 use Rattle.bound_calc.proofs.by_rank.by_rank.Goals as goal
 use Rattle.bound_calc.proofs.by_rank.by_rank.Goals.{then-index+in_ok-push, else-index}
 
