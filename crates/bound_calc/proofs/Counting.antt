@@ -75,10 +75,14 @@ module _ (c : Compiled) (ranks : Ranks) (small : IsSmallCompiled c) (strata : Is
   has_bound = tail_recursive_has_bound c known ((ranked_exactly c).1 (rank_by ranks, strata.ranking))
 
   pub counted_none : (places : List (ℕ × ℕ)) (x : List ℕ) → x ≡ replicate (top_task c + 1) 1 → AreCounted c ranks places 0 x
-  counted_none places x e = record { room = ap length e ∙ length-replicate (top_task c + 1) 1 ∙ (let y : top_task c + 1 ≡ suc (top_task c) = omega arith in y); low = λ k d l. (let a = one k d (within k l) in omega arith); numbered = λ n A. record {
-    high = λ t r. (let a = one (number_of ranks t) 0 (let s = strata.small t in omega arith) in let p = A.numbers.positive (task t) r in omega arith);
-    done = λ m i plan d f r counts. absurd (not-in_empty (d.0, m) d.1);
-  } }
+  counted_none places x e = record {
+    room = ap length e ∙ length-replicate (top_task c + 1) 1 ∙ (let y : top_task c + 1 ≡ suc (top_task c) = omega arith in y);
+    low = λ k d l. (let a = one k d (within k l) in omega arith);
+    numbered = λ n A. record {
+      high = λ t r. (let a = one (number_of ranks t) 0 (let s = strata.small t in omega arith) in let p = A.numbers.positive (task t) r in omega arith);
+      done = λ m i plan d f r counts. absurd (not-in_empty (d.0, m) d.1);
+    };
+  }
     where
       within : (k : ℕ) → k < length x → k < top_task c + 1
       within k l = subst (λ n. k < n) (ap length e ∙ length-replicate (top_task c + 1) 1) l

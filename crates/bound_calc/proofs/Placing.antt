@@ -60,10 +60,12 @@ module _ (c : Compiled) (ranks : Ranks) where
 
   -- a method of another task
   pub placed_same : (k : ℕ) (places : List (ℕ × ℕ)) (plan : MethodPlan) → slice_get c.methods k ≡ Some plan → (IsReachedTask c plan.schema.task → ⊥) → ArePlaced c ranks k places → ArePlaced c ranks (k + 1) places
-  placed_same k places plan is none h = record { each = λ place. (
-    λ d. (let p = (h.each place).0 d in (let l = p.0 in omega arith, p.1)),
-    λ p. (h.each place).1 (go place (by_size place.1 k) p, p.1),
-  ) }
+  placed_same k places plan is none h = record {
+    each = λ place. (
+      λ d. (let p = (h.each place).0 d in (let l = p.0 in omega arith, p.1)),
+      λ p. (h.each place).1 (go place (by_size place.1 k) p, p.1),
+    );
+  }
     where
       go : (place : ℕ × ℕ) → (place.1 < k) ⊎ ((place.1 ≡ k) ⊎ (k < place.1)) → (place.1 < k + 1) × IsPlace c ranks place → place.1 < k
       go place (inl l) p = l

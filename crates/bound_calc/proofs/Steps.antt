@@ -266,10 +266,10 @@ module _ (c : Compiled) (known : HasLines c) (small : IsSmallCompiled c) (ranks 
           done k i other d s t counts = elim (more k d) [
             | inl old ↦ (let a = are_numbered.done k i other old s t counts in let b = rises (number_of ranks other.schema.task) in omega arith)
             | inr new ↦ (
-            let a = greatest_counts v i is (subst (λ z. Counts (schemas c) A.block A.number (group_of A.group) z i) new counts) in
-            let b = ap (λ z. Bounds.block_number (schemas c) A.block A.number z (A.block z i)) new in
-            let same : other ≡ plan = some other plan (sym s ∙ ap (slice_get c.methods) new ∙ e) in
-            let d = ap (λ (z : MethodPlan). slice_index y (number_of ranks z.schema.task)) same in
-            let h = here in
-            omega arith)
+                let a = greatest_counts v i is (subst (λ z. Counts (schemas c) A.block A.number (group_of A.group) z i) new counts) in
+                let b = ap (λ z. Bounds.block_number (schemas c) A.block A.number z (A.block z i)) new in
+                let same : other ≡ plan = some other plan (sym s ∙ ap (slice_get c.methods) new ∙ e) in
+                let d = ap (λ (z : MethodPlan). slice_index y (number_of ranks z.schema.task)) same in
+                let h = here in
+                omega arith)
           ]
