@@ -10,32 +10,13 @@ use Rattle.task_networks.specs.Strata as Walks
 use Rattle.task_networks.proofs.Lists.{not-in_empty, head_or_tail, Contains-here, Contains-later}
 use Rattle.plan_meaning.specs.Network.{top_task}
 use Rattle.plan_meaning.specs.Schemas.{Schema, task, action, check, schemas}
-use Rattle.plan_meaning.specs.Strata.{Edge, IsEdge, IsEarlier, AreEdges, source, target, target_by}
+use Rattle.plan_meaning.specs.Strata.{Edge, IsEdge, AreEdges, source, target, target_by}
 use Rattle.plan_meaning.proofs.MethodParts.{schemas_by}
 use Rattle.plan_meaning.proofs.BoundParts.{head_is_task}
+use Rattle.plan_meaning.proofs.EdgesInOrder.{AreInOrder, one_after_another, both_in_order}
 use Rattle.bound_laws.proofs.Decided.{Or_not, same_or_not, both}
 use Rattle.bound_laws.proofs.ProblemEdges.{schema_told}
 use Rattle.bound_laws.proofs.Reach.{reaches_on, by_edge, reaches_or_not}
-
-abbrev pub AreInOrder : List Edge → Type 0
-AreInOrder [] = Unit {0}
-AreInOrder (e ∷ es) = ((f : Edge) → Contains es f → IsEarlier e f) × AreInOrder es
-
-one_after_another : (before rest : List Edge) (e f : Edge) (es : List Edge) → AreInOrder es → es ≡ before ++ e ∷ f ∷ rest → IsEarlier e f
-one_after_another [] rest e f [] o s = absurd cc
-one_after_another [] rest e f (d ∷ es) o s =
-    let x : d ≡ e = cc in
-    let y : es ≡ f ∷ rest = cc in
-    subst (λ z. IsEarlier z f) x (o.0 f (subst (λ z. Contains z f) (sym y) (Contains-here f rest)))
-one_after_another (b ∷ before) rest e f [] o s = absurd cc
-one_after_another (b ∷ before) rest e f (d ∷ es) o s = one_after_another before rest e f es o.1 (let y : es ≡ before ++ e ∷ f ∷ rest = cc in y)
-
-both_in_order : (es fs : List Edge) → AreInOrder es → AreInOrder fs → ((e f : Edge) → Contains es e → Contains fs f → IsEarlier e f) → AreInOrder (es ++ fs)
-both_in_order [] fs o p q = p
-both_in_order (e ∷ es) fs o p q = (
-  λ f c. elim (Contains-append_cases es fs f c) [ inl a ↦ o.0 f a | inr b ↦ q e f (Contains-here e es) b ],
-  both_in_order es fs o.1 p (λ d f a b. q d f (Contains-later e es d a) b),
-)
 
 -- the children of a method from number i on, n of them
 row : ℕ → ℕ → ℕ → List Edge

@@ -27,7 +27,7 @@ use Rattle.plan_meaning.proofs.MethodParts.{head_by, works_by, IsPairBy, head_sc
 use Rattle.plan_meaning.specs.Truth.{values_of}
 use Rattle.task_networks.proofs.Lists.{not-in_empty}
 use Rattle.bound_laws.specs.Laws.{EveryFrontIsWithinTheBound}
-use Rattle.bound_laws.proofs.Lines.{has_lines}
+use Rattle.bound_laws.proofs.Lines.{HasLines, has_lines}
 
 -- what a ground work is an instance of
 abbrev schema : Work → Schema
@@ -64,7 +64,7 @@ module _ (c : Compiled) where
     ground = λ g k. (k.plan, k.is);
   }
 
-module _ (h : Hddl) (mode : Checks) (c : Compiled) (compiled : IsCompiled h mode c) (n : ℕ) (bound : IsBound c n) where
+module _ (c : Compiled) (known : HasLines c) (n : ℕ) (bound : IsBound c n) where
   abbrev HasBlocks : ℕ → Option MethodPlan → Type 0
   HasBlocks m o = (line : List ℕ) × IsLine (IsPairBy o) (length (schemas_by m o)) line × AreBlocks (IsPairBy o) line (bound.block m)
 
@@ -77,15 +77,17 @@ module _ (h : Hddl) (mode : Checks) (c : Compiled) (compiled : IsCompiled h mode
     where
       go : (o : Option MethodPlan) → slice_get c.methods m ≡ o → (line : List ℕ) × IsLine (IsPairBy o) (length (schemas_by m o)) line × AreBlocks (IsPairBy o) line (bound.block m)
       go None e = ([], record { whole = λ i l. absurd (let x : i < 0 = l in omega arith); each = λ before rest i f. absurd (no_cut before rest i f) }, λ i j x y. absurd (not-in_empty i x))
-      go (Some plan) e = (plan.line, has_lines h mode c compiled m plan e, bound.blocks m plan e)
+      go (Some plan) e = (plan.line, known m plan e, bound.blocks m plan e)
 
-  schema_bound : Bounds.AreLargeEnough (schemas c) bound.block bound.number (Schemas.task (top_task c))
+  -- its numbers are large enough for the network of schemas
+  pub schema_bound : Bounds.AreLargeEnough (schemas c) bound.block bound.number (Schemas.task (top_task c))
   schema_bound = the_bound_is_large_enough (schemas c) (Schemas.task (top_task c)) bound.block bound.number (group_of bound.group) blocks bound.numbers
 
+module _ (h : Hddl) (mode : Checks) (c : Compiled) (compiled : IsCompiled h mode c) (n : ℕ) (bound : IsBound c n) where
   within_bound : (tree : Tree (network c)) (order : List Address) → IsFront (network c) (top_work c) tree order → IsWithin (network c) n tree order
   within_bound tree order front = subst (λ z. IsWithin (network c) z tree order) bound.is
       (bound_holds (network c) (λ (g : GroundMethod). bound.block g.number) (λ w. bound.number (schema w)) (top_work c)
-      (lifted_bound_is_bound (network c) (schemas c) schema (λ (g : GroundMethod). g.number) (lifted c) (top_work c) bound.block bound.number schema_bound) tree order front)
+      (lifted_bound_is_bound (network c) (schemas c) schema (λ (g : GroundMethod). g.number) (lifted c) (top_work c) bound.block bound.number (schema_bound c (has_lines h mode c compiled) n bound)) tree order front)
 
 pub every_front_is_within : (h : Hddl) (mode : Checks) (c : Compiled) → IsCompiled h mode c → EveryFrontIsWithinTheBound c
 every_front_is_within h mode c compiled n bound tree order front = within_bound h mode c compiled n bound tree order front

@@ -1,13 +1,13 @@
 -- A problem has one list of edges, and so one named cycle at most.
 use Rattle.std.proofs.Common.{◌≡◌, ◌↔◌, inl, inr, List, [], ◌∷◌, ◌++◌, refl, ap, sym, subst, Contains, arith}
 use Rattle.plan_model.specs.declared.values.Compiled.{Compiled}
-use Rattle.task_networks.specs.Pending.{AreDifferent}
+use Rattle.htn_base.specs.Different.{AreDifferent}
 use Rattle.task_networks.specs.Strata as Walks
 use Rattle.task_networks.proofs.Lists.{not-in_empty, head_or_tail, Contains-here, Contains-later}
 use Rattle.task_networks.proofs.StrataLaws.{named_cycle_is_the_only_one}
 use Rattle.plan_meaning.specs.Strata.{Edge, IsEarlier, AreEdges, source, target, IsBad}
+use Rattle.plan_meaning.proofs.EdgesInOrder.{AreInOrder}
 use Rattle.bound_laws.specs.Laws.{NamedCycleIsTheOnlyOne}
-use Rattle.bound_laws.proofs.EdgesExist.{AreInOrder}
 
 earlier_then : (d e f : Edge) → IsEarlier d e → IsEarlier e f → IsEarlier d f
 earlier_then d e f (inl a) (inl b) = inl (omega arith)

@@ -27,7 +27,8 @@ use Rattle.form_faults.specs.Said.{said}
 use Rattle.form_faults.proofs.FormulasSaid.{terms_in, lists_in, inside_said}
 use Rattle.form_faults.proofs.ListsSaid.{listed_said}
 use Rattle.form_faults.proofs.TermsSaid.{said_then, said_map, at_next, end_said, atom_said, applied_said, passed_said}
-use Rattle.form_faults.proofs.WordTests.{name_test, at_key}
+use Rattle.gd_reader.proofs.Sorts.{name_test}
+use Rattle.form_faults.proofs.WordTests.{at_key}
 
 -- formulas, terms and lists are the same as parts of effects
 formulas_in : (d : FormulaDue) (p : Placed) → form effect_rows (of_formula d) p ≡ form formula_rows d p

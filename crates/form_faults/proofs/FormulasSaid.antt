@@ -23,7 +23,8 @@ use Rattle.gd_reader.proofs.Steps.{inside_is}
 use Rattle.form_faults.specs.Said.{said}
 use Rattle.form_faults.proofs.ListsSaid.{listed_said}
 use Rattle.form_faults.proofs.TermsSaid.{said_then, said_map, at_next, end_said, atom_said, two_terms_said}
-use Rattle.form_faults.proofs.WordTests.{name_test, at_key}
+use Rattle.gd_reader.proofs.Sorts.{name_test}
+use Rattle.form_faults.proofs.WordTests.{at_key}
 
 -- terms and lists are the same as parts of formulas
 pub terms_in : (d : TermDue) (p : Placed) → form formula_rows (of_terms d) p ≡ form term_rows d p

@@ -17,7 +17,8 @@ use Rattle.gd_reader.specs.TermGrammar.{is_term_sort, is_name_sort}
 use Rattle.gd_reader.specs.Terms.{Names, term, term_by, raw_term, terms, two_terms, atom, applied, used, name_by}
 use Rattle.gd_reader.specs.Words.{sort_of}
 use Rattle.form_faults.specs.Said.{said}
-use Rattle.form_faults.proofs.WordTests.{name_test, term_test}
+use Rattle.gd_reader.proofs.Sorts.{name_test}
+use Rattle.form_faults.proofs.WordTests.{term_test}
 
 -- one answer after another
 pub said_then : {A B : Type 0} (a : Result A Stop) (k : A → Result B Stop) (f h : Form) → said a ≡ f → ((x : A) → said (k x) ≡ h) → said (a >>= k) ≡ f followed_by h

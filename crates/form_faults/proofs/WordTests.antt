@@ -11,21 +11,7 @@ use Rattle.gd_reader.specs.declared.words.Sort.TheVariants.{Variable, Name, Othe
 use Rattle.gd_reader.specs.TermGrammar.{is_term_sort, is_name_sort}
 use Rattle.gd_reader.specs.TypedLists.{undeclared}
 use Rattle.gd_reader.specs.Words.{sort_of}
-
-pub name_test : (w : Word) → is_name_sort (sort_of w) ≡ is_name w
-unfolding sort_of
-name_test [] = refl
-name_test (b ∷ []) = one (not (b == 63) && (not (b == 58) && not (is_reserved (b ∷ []))))
-  where
-    one : (y : Bool) → is_name_sort (if y then Name else Other) ≡ y
-    one true = refl
-    one false = refl
-name_test (b ∷ c ∷ w) = two (b == 63) (not (b == 58) && not (is_reserved (b ∷ c ∷ w)))
-  where
-    two : (x y : Bool) → is_name_sort (if x then Variable else (if not x && y then Name else Other)) ≡ not x && y
-    two true y = refl
-    two false true = refl
-    two false false = refl
+use Rattle.gd_reader.proofs.Sorts.{name_test}
 
 pub term_test : (w : Word) → is_term_sort (sort_of w) ≡ is_term w
 unfolding sort_of

@@ -29,3 +29,7 @@ kind_of Types = grammar.types
 -- a typed list of a kind, from its front up to its end
 abbrev pub typed_form : ListKind → Placed → Form
 typed_form kind p = form grammar.list_rows (grammar.names (kind_of kind) []) p
+
+-- two terms up to the end of their list
+abbrev pub two_terms_form : Placed → Form
+two_terms_form p = form grammar.term_rows (grammar.term (grammar.term grammar.ended)) p

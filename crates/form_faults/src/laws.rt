@@ -1,10 +1,9 @@
 // What is read is whole in the grammar with codes, and a fault is the token that departs from it, with its code.
 ghost use Rattle.std.specs.Prelude.{◌≡◌, ◌↔◌, ℕ, true, List, []};
-ghost use Rattle.text_forms.specs.Placed.{Placed};
 ghost use Rattle.text_forms.specs.Words.{Word, is_name};
 ghost use Rattle.form_grammar.specs.Effects.{effect_form};
 ghost use Rattle.form_grammar.specs.Formulas.{formula_form};
-ghost use Rattle.form_grammar.specs.Laws.{HasPrefixLaws};
+ghost use Rattle.form_grammar.specs.Laws.{HasAllPrefixLaws};
 ghost use Rattle.form_grammar.specs.Lists as due;
 ghost use Rattle.form_grammar.specs.Rows.{form};
 ghost use Rattle.form_grammar.specs.Words.{is_variable_word};
@@ -20,8 +19,8 @@ ghost use Rattle.gd_reader.specs.Terms as read;
 ghost use Rattle.gd_reader.specs.TypedLists.{union, listed};
 ghost use Rattle.gd_reader.specs.Words.{sort_of};
 ghost use Rattle.form_faults.specs.Calls.{ReadsWhole, FaultsDepart};
-ghost use Rattle.form_faults.specs.Said.{AnswersAs, typed_form};
-ghost use Rattle.form_faults.specs.SameForms.{IsSameForm};
+ghost use Rattle.form_faults.specs.Said.{AnswersAs, typed_form, two_terms_form};
+ghost use Rattle.form_faults.specs.SameForms.{AreSameForms};
 
 /// A formula that is read is whole in the grammar with codes, and where it is refused with a fault, the token at the fault's
 /// place departs, with its code. The reading function answers what the grammar says of any tokens, and the form without codes,
@@ -31,8 +30,8 @@ pub fn formulas_have_the_codes_of_the_grammar()
     ensures answers { AnswersAs formula_form formula_read }
     ensures read { ReadsWhole formula_form IsFormulaRead }
     ensures refused { FaultsDepart formula_form RefusesFormula }
-    ensures same { (p : Placed) → IsSameForm (plain.formula_form p) (formula_form p) }
-    ensures prefixes { (text : List ℕ) (i : ℕ) → HasPrefixLaws formula_form text i }
+    ensures same { AreSameForms plain.formula_form formula_form }
+    ensures prefixes { (text : List ℕ) → HasAllPrefixLaws formula_form text }
 {}
 
 /// The same of typed lists of each kind.
@@ -40,8 +39,8 @@ pub fn typed_lists_have_the_codes_of_the_grammar()
     ensures answers { (kind : ListKind) → AnswersAs (typed_form kind) (listed kind) }
     ensures read { (kind : ListKind) → ReadsWhole (typed_form kind) (IsListRead kind) }
     ensures refused { (kind : ListKind) → FaultsDepart (typed_form kind) (RefusesList kind) }
-    ensures same { (kind : ListKind) (p : Placed) → IsSameForm (params_form kind [] p) (typed_form kind p) }
-    ensures prefixes { (kind : ListKind) (text : List ℕ) (i : ℕ) → HasPrefixLaws (typed_form kind) text i }
+    ensures same { (kind : ListKind) → AreSameForms (params_form kind []) (typed_form kind) }
+    ensures prefixes { (kind : ListKind) (text : List ℕ) → HasAllPrefixLaws (typed_form kind) text }
 {}
 
 /// The same of effects.
@@ -49,15 +48,15 @@ pub fn effects_have_the_codes_of_the_grammar()
     ensures answers { AnswersAs effect_form effect_read }
     ensures read { ReadsWhole effect_form IsEffectRead }
     ensures refused { FaultsDepart effect_form RefusesEffect }
-    ensures same { (p : Placed) → IsSameForm (plain.effect_form p) (effect_form p) }
-    ensures prefixes { (text : List ℕ) (i : ℕ) → HasPrefixLaws effect_form text i }
+    ensures same { AreSameForms plain.effect_form effect_form }
+    ensures prefixes { (text : List ℕ) → HasAllPrefixLaws effect_form text }
 {}
 
 /// The same of the answers for terms, atoms, unions and what an increase passes over, each up to the end of its list.
 pub fn parts_have_the_codes_of_the_grammar()
     ensures ends { AnswersAs (form due.term_rows due.ended) (λ names. answers.end_due) }
     ensures terms { AnswersAs (form due.term_rows due.terms) read.terms }
-    ensures two_terms { AnswersAs (form due.term_rows (due.term (due.term due.ended))) read.two_terms }
+    ensures two_terms { AnswersAs two_terms_form read.two_terms }
     ensures atoms { AnswersAs (form due.term_rows due.applied) read.applied }
     ensures passed { AnswersAs (form due.term_rows due.anything) (λ names. answers.passed) }
     ensures unions { AnswersAs (form due.list_rows due.union) union }

@@ -9,7 +9,8 @@ use Rattle.form_grammar.specs.Lists.{TermDue, ended, term, terms, applied, words
 use Rattle.form_grammar.specs.Formulas.{FormulaDue, of_terms, of_list, group, gd, gds, formula_rows}
 use Rattle.form_grammar.specs.Effects.{EffectDue, of_formula, group as effect_group, eff, effs, effect_rows}
 use Rattle.form_grammar.specs.Networks.{NetworkDue, of_terms as network_terms, group as network_group, subs, more_subs, sub, behind_id, pairs, more_pairs, pair, id, sign, cons, more_cons, con, equality, network_rows}
-use Rattle.form_grammar.specs.Plans.{StepDue, step, args, step_rows, is_mark}
+use Rattle.text_forms.specs.StepWords.{is_mark}
+use Rattle.form_grammar.specs.Plans.{StepDue, step, args, step_rows}
 use Rattle.form_grammar.proofs.Meaning.{then_whole, form_same}
 use Rattle.form_grammar.proofs.Fronts.{CanBeWhole, with_list}
 

@@ -41,6 +41,10 @@ pub record HasPrefixLaws (f : Placed → Form) (text : List ℕ) (i : ℕ) : Typ
   -- and where one token more no longer begins it, that token departs
   pub only : (m : ℕ) → Begins (up_to f text i m) → (Begins (up_to f text i (suc m)) → ⊥) → (code : ℕ) × Departs (f (parts_at text i)) code m
 
+-- from each number on
+abbrev pub HasAllPrefixLaws : (Placed → Form) → List ℕ → Type 0
+HasAllPrefixLaws f text = (i : ℕ) → HasPrefixLaws f text i
+
 -- tokens begin a form exactly where more tokens behind them make a whole text of it
 abbrev pub BeginsWhatCanBeWhole : (Placed → Form) → Type 0
 BeginsWhatCanBeWhole f = (ts : List Lexeme) → Begins (f (level 0 ts)) ↔ ((us : List Lexeme) × Whole (f (level 0 (ts ++ us))))
@@ -65,3 +69,7 @@ pub record TellsPlanFault {X : Type 0} (rows : Rows X) (inside : X) (is_mark : W
   pub of_form : TellsFault (marked_form rows inside is_mark) text (plan_fault rows inside is_mark text)
   pub trailing_mark : (at : ℕ) → EndsInMark is_mark text at → Begins (marked_form rows inside is_mark (parts_at text 0)) → plan_fault rows inside is_mark text ≡ Some (fault 8 at)
   pub early : EndsEarly (marked_form rows inside is_mark (parts_at text 0)) → (at : ℕ) × EndsInMark is_mark text at
+
+-- whichever words are marks
+abbrev pub TellsPlanFaults : {X : Type 0} → Rows X → X → List ℕ → Type 0
+TellsPlanFaults rows inside text = (is_mark : Word → Bool) → TellsPlanFault rows inside is_mark text

@@ -9,4 +9,5 @@ pub mod Effects
 pub mod Networks
 pub mod Sections
 pub mod Definitions
+pub mod DefinitionLaws
 pub mod Plans

@@ -6,7 +6,8 @@ use Rattle.text_forms.specs.Words.{Word}
 use Rattle.plan_texts.specs.Declared.{Declared, variable}
 use Rattle.plan_texts.specs.Formulas.{IsApplied, IsParam, effect_step, IsEffect}
 use Rattle.plan_texts.specs.TypedLists.{Each, EachTyped}
-use Rattle.plan_texts.specs.Types.{EachIs, AreDifferent}
+use Rattle.htn_base.specs.Different.{AreDifferent}
+use Rattle.plan_texts.specs.Types.{EachIs}
 use Rattle.plan_texts.proofs.Effects.{effect_roll}
 use Rattle.plan_model.specs.declared.terms.Term.{Term}
 use Rattle.plan_model.specs.declared.terms.Param.{Param}

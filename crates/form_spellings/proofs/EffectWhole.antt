@@ -7,7 +7,8 @@ use Rattle.text_forms.specs.Words.{Word}
 use Rattle.plan_texts.specs.Declared.{Declared, variable}
 use Rattle.plan_texts.specs.Formulas.{IsParam, effect_step, IsEffect}
 use Rattle.plan_texts.specs.TypedLists.{Each, EachTyped}
-use Rattle.plan_texts.specs.Types.{EachIs, AreDifferent}
+use Rattle.htn_base.specs.Different.{AreDifferent}
+use Rattle.plan_texts.specs.Types.{EachIs}
 use Rattle.plan_texts.proofs.Effects.{effect_roll}
 use Rattle.plan_texts.proofs.Places.{each-append}
 use Rattle.plan_texts.proofs.Spelled.{each_is-map}

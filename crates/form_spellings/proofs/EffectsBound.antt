@@ -31,7 +31,8 @@ use Rattle.gd_reader.specs.Terms.{Names, atom, applied}
 use Rattle.gd_reader.specs.TypedLists.{listed}
 use Rattle.gd_reader.specs.Words.{effect_head_of}
 use Rattle.gd_reader.proofs.Keeping.{keeps_same}
-use Rattle.form_spellings.specs.Bound.{InPairs, IsBoundAtom, IsBoundParam, IsBoundFormula, bound_effect_step, IsBoundEffect}
+use Rattle.plan_texts.specs.Together.{Together}
+use Rattle.form_spellings.specs.Bound.{IsBoundAtom, IsBoundParam, IsBoundFormula, bound_effect_step, IsBoundEffect}
 use Rattle.form_spellings.proofs.EffectsIn.{inside_word}
 use Rattle.form_spellings.proofs.FormulasBound.{FormulaBound, inside_bound, pairs-map, no_pairs, coerce}
 use Rattle.form_spellings.proofs.KeptWords.{Reads, reads_then, reads_map, reads_end}
@@ -63,7 +64,7 @@ abbrev pub EffectBound : Parts → RawEffect → Names → Type 0
 EffectBound ps r table = (v : Declared) (scope : List Word) (e : Effect) → IsBoundEffect v table r scope e → IsEffect v e scope (group ps)
 
 abbrev ManyBound : Parts → List RawEffect → Names → Type 0
-ManyBound ps rs table = (v : Declared) (scope : List Word) (es : List Effect) → InPairs (λ r e. IsBoundEffect v table r scope e) rs es → Each (λ e. IsEffect v e scope) es ps
+ManyBound ps rs table = (v : Declared) (scope : List Word) (es : List Effect) → Together (λ r e. IsBoundEffect v table r scope e) rs es → Each (λ e. IsEffect v e scope) es ps
 
 abbrev OneBound : Parts → RawEffect → Names → Type 0
 OneBound ps r table = (v : Declared) (scope : List Word) (e : Effect) → IsBoundEffect v table r scope e → (q : Part) × (ps ≡ part q nothing) × IsEffect v e scope q
@@ -72,7 +73,7 @@ abbrev GuardedBound : Parts → RawFormula × RawEffect → Names → Type 0
 GuardedBound ps x table = (v : Declared) (scope : List Word) (f : Formula) (e : Effect) → IsBoundFormula v table x.0 scope f → IsBoundEffect v table x.1 scope e → (q : Part) × (r : Part) × (ps ≡ part q (part r nothing)) × IsFormula v f scope q × IsEffect v e scope r
 
 abbrev QuantifiedBound : Parts → List RawParam × RawEffect → Names → Type 0
-QuantifiedBound ps x table = (v : Declared) (scope : List Word) (xs : List Param) (e : Effect) → InPairs (IsBoundParam v table) x.0 xs → IsBoundEffect v table x.1 (scope ++ map (variable v) xs) e
+QuantifiedBound ps x table = (v : Declared) (scope : List Word) (xs : List Param) (e : Effect) → Together (IsBoundParam v table) x.0 xs → IsBoundEffect v table x.1 (scope ++ map (variable v) xs) e
     → (rs : Parts) × (q : Part) × (ps ≡ part (group rs) (part q nothing)) × EachTyped (IsParam v) xs rs × IsEffect v e (scope ++ map (variable v) xs) q
 
 abbrev DeletedBound : Parts → RawAtom → Names → Type 0

@@ -28,7 +28,8 @@ use Rattle.gd_reader.specs.Terms.{Names, atom, applied}
 use Rattle.gd_reader.specs.TypedLists.{listed}
 use Rattle.gd_reader.specs.Words.{effect_head_of}
 use Rattle.gd_reader.proofs.Keeping.{keeps_same}
-use Rattle.form_spellings.specs.Bound.{InPairs, IsBoundAtom, IsBoundParam, IsBoundFormula, IsBoundEffect}
+use Rattle.plan_texts.specs.Together.{Together}
+use Rattle.form_spellings.specs.Bound.{IsBoundAtom, IsBoundParam, IsBoundFormula, IsBoundEffect}
 use Rattle.form_spellings.proofs.EffectsBound.{bound_roll}
 use Rattle.form_spellings.proofs.EffectsIn.{inside_word}
 use Rattle.form_spellings.proofs.FormulasSaid.{FormulaSaid, inside_said}
@@ -45,7 +46,7 @@ abbrev pub EffectSaid : Parts → RawEffect → Names → Type 0
 EffectSaid ps r table = (v : Declared) (scope : List Word) (e : Effect) → IsEffect v e scope (group ps) → IsBoundEffect v table r scope e
 
 abbrev ManySaid : Parts → List RawEffect → Names → Type 0
-ManySaid ps rs table = (v : Declared) (scope : List Word) (es : List Effect) → Each (λ e. IsEffect v e scope) es ps → InPairs (λ r e. IsBoundEffect v table r scope e) rs es
+ManySaid ps rs table = (v : Declared) (scope : List Word) (es : List Effect) → Each (λ e. IsEffect v e scope) es ps → Together (λ r e. IsBoundEffect v table r scope e) rs es
 
 abbrev OneSaid : Parts → RawEffect → Names → Type 0
 OneSaid ps r table = (v : Declared) (scope : List Word) (e : Effect) (q : Part) → ps ≡ part q nothing → IsEffect v e scope q → IsBoundEffect v table r scope e
@@ -55,7 +56,7 @@ GuardedSaid ps x table = (v : Declared) (scope : List Word) (f : Formula) (e : E
 
 abbrev QuantifiedSaid : Parts → List RawParam × RawEffect → Names → Type 0
 QuantifiedSaid ps x table = (v : Declared) (scope : List Word) (xs : List Param) (e : Effect) (rs : Parts) (q : Part) → ps ≡ part (group rs) (part q nothing) → EachTyped (IsParam v) xs rs → IsEffect v e (scope ++ map (variable v) xs) q
-    → InPairs (IsBoundParam v table) x.0 xs × IsBoundEffect v table x.1 (scope ++ map (variable v) xs) e
+    → Together (IsBoundParam v table) x.0 xs × IsBoundEffect v table x.1 (scope ++ map (variable v) xs) e
 
 abbrev DeletedSaid : Parts → RawAtom → Names → Type 0
 DeletedSaid ps a table = (v : Declared) (scope : List Word) (n : ℕ) (xs : List Term) (q : Part) → ps ≡ part q nothing → IsApplied v scope n xs q → IsBoundAtom v table scope a n xs

@@ -6,7 +6,8 @@ use Rattle.text_forms.specs.Words.{Word}
 use Rattle.plan_texts.specs.Declared.{Declared, variable}
 use Rattle.plan_texts.specs.Formulas.{IsTerm, IsParam, formula_step, IsFormula}
 use Rattle.plan_texts.specs.TypedLists.{Each, EachTyped}
-use Rattle.plan_texts.specs.Types.{EachIs, AreDifferent}
+use Rattle.htn_base.specs.Different.{AreDifferent}
+use Rattle.plan_texts.specs.Types.{EachIs}
 use Rattle.plan_texts.proofs.Readings.{formula_roll}
 use Rattle.plan_model.specs.declared.terms.Term.{Term}
 use Rattle.plan_model.specs.declared.terms.Term.TheVariants.{Var, Obj}

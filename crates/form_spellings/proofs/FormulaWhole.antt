@@ -7,7 +7,8 @@ use Rattle.text_forms.specs.Words.{Word, is_variable}
 use Rattle.plan_texts.specs.Declared.{Declared, variable}
 use Rattle.plan_texts.specs.Formulas.{IsParam, formula_step, IsFormula}
 use Rattle.plan_texts.specs.TypedLists.{Each, EachTyped, skipped}
-use Rattle.plan_texts.specs.Types.{EachIs, AreDifferent}
+use Rattle.htn_base.specs.Different.{AreDifferent}
+use Rattle.plan_texts.specs.Types.{EachIs}
 use Rattle.plan_texts.proofs.Places.{each-append}
 use Rattle.plan_texts.proofs.Readings.{formula_roll}
 use Rattle.plan_texts.proofs.Spelled.{each_is-map}

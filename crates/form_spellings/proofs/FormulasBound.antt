@@ -25,7 +25,8 @@ use Rattle.gd_reader.specs.Terms.{Names, two_terms, atom}
 use Rattle.gd_reader.specs.TypedLists.{listed}
 use Rattle.gd_reader.specs.Words.{head_of}
 use Rattle.gd_reader.proofs.Keeping.{keeps_same}
-use Rattle.form_spellings.specs.Bound.{InPairs, IsBoundParam, bound_step, IsBoundFormula}
+use Rattle.plan_texts.specs.Together.{Together}
+use Rattle.form_spellings.specs.Bound.{IsBoundParam, bound_step, IsBoundFormula}
 use Rattle.form_spellings.proofs.FormulasIn.{inside_word}
 use Rattle.form_spellings.proofs.KeptWords.{Reads, reads_then, reads_map, reads_end}
 use Rattle.form_spellings.proofs.ListsBound.{ListBound, listed_bound, parameter_fits}
@@ -33,13 +34,13 @@ use Rattle.form_spellings.proofs.TermsBound.{AtomBound, PairBound, atom_bound, t
 use Rattle.form_spellings.proofs.TermsIn.{same}
 use Rattle.form_spellings.proofs.WordTests.{HeadWord, head_word}
 
-pub pairs-map : {X Y Z : Type 0} (u : X → Y) (R : Y → Z → Type 0) (xs : List X) (zs : List Z) → InPairs (λ x z. R (u x) z) xs zs ≡ InPairs R (map u xs) zs
+pub pairs-map : {X Y Z : Type 0} (u : X → Y) (R : Y → Z → Type 0) (xs : List X) (zs : List Z) → Together (λ x z. R (u x) z) xs zs ≡ Together R (map u xs) zs
 pairs-map u R [] [] = refl
 pairs-map u R [] (z ∷ zs) = refl
 pairs-map u R (x ∷ xs) [] = refl
 pairs-map u R (x ∷ xs) (z ∷ zs) = ap (λ t. R (u x) z × t) (pairs-map u R xs zs)
 
-pub no_pairs : {X Y : Type 0} (R : X → Y → Type 0) (ys : List Y) → InPairs R [] ys → IsEmpty ys
+pub no_pairs : {X Y : Type 0} (R : X → Y → Type 0) (ys : List Y) → Together R [] ys → IsEmpty ys
 no_pairs R [] b = tt
 no_pairs R (y ∷ ys) b = b
 
@@ -72,7 +73,7 @@ abbrev pub FormulaBound : Parts → RawFormula → Names → Type 0
 FormulaBound ps r table = (v : Declared) (scope : List Word) (f : Formula) → IsBoundFormula v table r scope f → IsFormula v f scope (group ps)
 
 abbrev ManyBound : Parts → List RawFormula → Names → Type 0
-ManyBound ps rs table = (v : Declared) (scope : List Word) (fs : List Formula) → InPairs (λ r f. IsBoundFormula v table r scope f) rs fs → Each (λ f. IsFormula v f scope) fs ps
+ManyBound ps rs table = (v : Declared) (scope : List Word) (fs : List Formula) → Together (λ r f. IsBoundFormula v table r scope f) rs fs → Each (λ f. IsFormula v f scope) fs ps
 
 abbrev OneBound : Parts → RawFormula → Names → Type 0
 OneBound ps r table = (v : Declared) (scope : List Word) (f : Formula) → IsBoundFormula v table r scope f → (q : Part) × (ps ≡ part q nothing) × IsFormula v f scope q
@@ -81,7 +82,7 @@ abbrev TwoBound : Parts → RawFormula × RawFormula → Names → Type 0
 TwoBound ps x table = (v : Declared) (scope : List Word) (f g : Formula) → IsBoundFormula v table x.0 scope f → IsBoundFormula v table x.1 scope g → (q : Part) × (r : Part) × (ps ≡ part q (part r nothing)) × IsFormula v f scope q × IsFormula v g scope r
 
 abbrev QuantifiedBound : Parts → List RawParam × RawFormula → Names → Type 0
-QuantifiedBound ps x table = (v : Declared) (scope : List Word) (xs : List Param) (f : Formula) → InPairs (IsBoundParam v table) x.0 xs → IsBoundFormula v table x.1 (scope ++ map (variable v) xs) f
+QuantifiedBound ps x table = (v : Declared) (scope : List Word) (xs : List Param) (f : Formula) → Together (IsBoundParam v table) x.0 xs → IsBoundFormula v table x.1 (scope ++ map (variable v) xs) f
     → (rs : Parts) × (q : Part) × (ps ≡ part (group rs) (part q nothing)) × EachTyped (IsParam v) xs rs × IsFormula v f (scope ++ map (variable v) xs) q
 
 abbrev whole : Word → Placed → Parts

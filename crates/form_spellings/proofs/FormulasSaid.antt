@@ -22,7 +22,8 @@ use Rattle.gd_reader.specs.Terms.{Names, two_terms, atom}
 use Rattle.gd_reader.specs.TypedLists.{listed}
 use Rattle.gd_reader.specs.Words.{head_of}
 use Rattle.gd_reader.proofs.Keeping.{keeps_same}
-use Rattle.form_spellings.specs.Bound.{InPairs, IsBoundParam, IsBoundFormula}
+use Rattle.plan_texts.specs.Together.{Together}
+use Rattle.form_spellings.specs.Bound.{IsBoundParam, IsBoundFormula}
 use Rattle.form_spellings.proofs.FormulasBound.{bound_roll}
 use Rattle.form_spellings.proofs.FormulasIn.{inside_word}
 use Rattle.form_spellings.proofs.KeptWords.{Reads, reads_then, reads_map, reads_end}
@@ -38,7 +39,7 @@ abbrev pub FormulaSaid : Parts → RawFormula → Names → Type 0
 FormulaSaid ps r table = (v : Declared) (scope : List Word) (f : Formula) → IsFormula v f scope (group ps) → IsBoundFormula v table r scope f
 
 abbrev ManySaid : Parts → List RawFormula → Names → Type 0
-ManySaid ps rs table = (v : Declared) (scope : List Word) (fs : List Formula) → Each (λ f. IsFormula v f scope) fs ps → InPairs (λ r f. IsBoundFormula v table r scope f) rs fs
+ManySaid ps rs table = (v : Declared) (scope : List Word) (fs : List Formula) → Each (λ f. IsFormula v f scope) fs ps → Together (λ r f. IsBoundFormula v table r scope f) rs fs
 
 abbrev OneSaid : Parts → RawFormula → Names → Type 0
 OneSaid ps r table = (v : Declared) (scope : List Word) (f : Formula) (q : Part) → ps ≡ part q nothing → IsFormula v f scope q → IsBoundFormula v table r scope f
@@ -48,7 +49,7 @@ TwoSaid ps x table = (v : Declared) (scope : List Word) (f g : Formula) (q r : P
 
 abbrev QuantifiedSaid : Parts → List RawParam × RawFormula → Names → Type 0
 QuantifiedSaid ps x table = (v : Declared) (scope : List Word) (xs : List Param) (f : Formula) (rs : Parts) (q : Part) → ps ≡ part (group rs) (part q nothing) → EachTyped (IsParam v) xs rs → IsFormula v f (scope ++ map (variable v) xs) q
-    → InPairs (IsBoundParam v table) x.0 xs × IsBoundFormula v table x.1 (scope ++ map (variable v) xs) f
+    → Together (IsBoundParam v table) x.0 xs × IsBoundFormula v table x.1 (scope ++ map (variable v) xs) f
 
 abbrev whole : Word → Placed → Parts
 whole w p = part (name w) (parts_of p)

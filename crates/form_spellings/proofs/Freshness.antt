@@ -7,8 +7,10 @@ use Rattle.std.specs.Str.{bytes_eq}
 use Rattle.htn_base.specs.Table.{with_word}
 use Rattle.htn_base.specs.Words.{is_reserved}
 use Rattle.text_forms.specs.Words.{Word, is_among}
-use Rattle.plan_texts.specs.Types.{EachIs, AreDifferent}
+use Rattle.htn_base.specs.Different.{AreDifferent}
+use Rattle.plan_texts.specs.Types.{EachIs}
 use Rattle.plan_texts.proofs.Basics.{bytes_eq-refl, bytes_eq-other}
+use Rattle.plan_texts.proofs.Members.{each-lacks, lacks-each}
 use Rattle.gd_reader.specs.declared.typed_lists.ListKind.{ListKind}
 use Rattle.gd_reader.specs.declared.typed_lists.ListKind.TheVariants.{Parameters, Predicate, Objects, Types}
 use Rattle.gd_reader.specs.declared.words.Sort.{Sort}
@@ -57,7 +59,7 @@ differs u w seen h e = let g = is_in w seen in let i = subst (λ u. is_among u (
 
 pub split_fresh : (once : Bool) (seen : List Word) (u : Word) (ws : List Word) → AllFresh once seen (u ∷ ws) → Fresh once seen u × AllFresh once (with_word seen u) ws
 split_fresh false seen u ws f = (tt, tt)
-split_fresh true seen u ws f = (f.0.0, (go ws f.0.1 f.1.0, f.1.1))
+split_fresh true seen u ws f = (f.0.0, (go ws f.0.1 (lacks-each ws u f.1.0), f.1.1))
   where
     go : (ws : List Word) → EachIs (λ w. is_among w seen ≡ false) ws → EachIs (λ w. u ≡ w → ⊥) ws → EachIs (λ w. is_among w (with_word seen u) ≡ false) ws
     go [] a d = tt
@@ -65,7 +67,7 @@ split_fresh true seen u ws f = (f.0.0, (go ws f.0.1 f.1.0, f.1.1))
 
 pub join_fresh : (once : Bool) (seen : List Word) (u : Word) (ws : List Word) → Fresh once seen u → AllFresh once (with_word seen u) ws → AllFresh once seen (u ∷ ws)
 join_fresh false seen u ws g f = tt
-join_fresh true seen u ws g f = ((g, out ws f.0), (apart ws f.0, f.1))
+join_fresh true seen u ws g f = ((g, out ws f.0), (each-lacks ws u (apart ws f.0), f.1))
   where
     out : (ws : List Word) → EachIs (λ w. is_among w (with_word seen u) ≡ false) ws → EachIs (λ w. is_among w seen ≡ false) ws
     out [] a = tt

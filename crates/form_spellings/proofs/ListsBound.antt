@@ -25,7 +25,8 @@ use Rattle.gd_reader.specs.Terms.{Names}
 use Rattle.gd_reader.specs.TypedLists.{State, declares as declares_word, variable_by, are_variables, param_by, param_due, type_due, union_due, with_type, Rest, one_more, typed_with, params, behind, typed, listed}
 use Rattle.gd_reader.specs.Words.{sort_of, is_hyphen}
 use Rattle.gd_reader.proofs.Keeping.{keeps_same, keeps_word}
-use Rattle.form_spellings.specs.Bound.{InPairs, types_of, parent_of, IsBoundParam, IsBoundObject, IsBoundType}
+use Rattle.plan_texts.specs.Together.{Together}
+use Rattle.form_spellings.specs.Bound.{types_of, parent_of, IsBoundParam, IsBoundObject, IsBoundType}
 use Rattle.form_spellings.proofs.Freshness.{declares}
 use Rattle.form_spellings.proofs.KeptWords.{ReadsBy, Reads, reads_then, reads_map}
 use Rattle.form_spellings.proofs.ListsIn.{words_of}
@@ -144,7 +145,7 @@ module _ {X : Type 0} (Is : Declared → X → Part → Option Part → Type 0) 
   module _ (fits : Fits) where
     -- a typed list, once bound, is spelled by the parts
     abbrev Front : Parts → List RawParam → Names → Type 0
-    Front ps rs table = (v : Declared) (xs : List X) → InPairs (IsBound v table) rs xs → EachTyped (Is v) xs ps
+    Front ps rs table = (v : Declared) (xs : List X) → Together (IsBound v table) rs xs → EachTyped (Is v) xs ps
 
     one_fits : (p : Placed) (w : Word) (x : RawParam) (r : List RawTerm × List RawParam) (table : Names) → Rests kind Front (ahead (parts_of p)) (skipped (parts_of p)) r table → WordBound kind w x table → Front (part (name w) (parts_of p)) (with_type r.0 x ∷ r.1) table
     one_fits p w x r table is one v [] b = absurd b

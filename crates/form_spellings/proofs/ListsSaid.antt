@@ -15,7 +15,8 @@ use Rattle.gd_reader.specs.declared.typed_lists.RawParam.{RawParam}
 use Rattle.gd_reader.specs.ListGrammar.{declared_name}
 use Rattle.gd_reader.specs.Terms.{Names}
 use Rattle.gd_reader.specs.TypedLists.{are_variables, with_type, listed}
-use Rattle.form_spellings.specs.Bound.{InPairs, IsBoundParam, IsBoundObject, IsBoundType}
+use Rattle.plan_texts.specs.Together.{Together}
+use Rattle.form_spellings.specs.Bound.{IsBoundParam, IsBoundObject, IsBoundType}
 use Rattle.form_spellings.proofs.KeptWords.{Reads}
 use Rattle.form_spellings.proofs.ListsBound.{WordBound, Rests, listed_with, said_types, one_type, said_parent}
 use Rattle.form_spellings.proofs.ListsWhole.{name_is}
@@ -29,7 +30,7 @@ module _ {X : Type 0} (Is : Declared → X → Part → Option Part → Type 0) 
   module _ (binds : Binds) where
     -- a typed list that the parts spell is bound to what is read of them
     abbrev Front : Parts → List RawParam → Names → Type 0
-    Front ps rs table = (v : Declared) (xs : List X) → EachTyped (Is v) xs ps → InPairs (IsBound v table) rs xs
+    Front ps rs table = (v : Declared) (xs : List X) → EachTyped (Is v) xs ps → Together (IsBound v table) rs xs
 
     one_binds : (p : Placed) (w : Word) (x : RawParam) (r : List RawTerm × List RawParam) (table : Names) → Rests kind Front (ahead (parts_of p)) (skipped (parts_of p)) r table → WordBound kind w x table → Front (part (name w) (parts_of p)) (with_type r.0 x ∷ r.1) table
     one_binds p w x r table is one v [] b = absurd b

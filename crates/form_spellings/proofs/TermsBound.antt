@@ -24,7 +24,8 @@ use Rattle.gd_reader.specs.Answers.{◌>>=◌, word_due, end_due}
 use Rattle.gd_reader.specs.Terms.{Names, Keeps, found, name_in, raw_term, term_by, term, name_by, used, terms, two_terms, applied, atom}
 use Rattle.gd_reader.specs.Words.{sort_of}
 use Rattle.gd_reader.proofs.Keeping.{keeps_same, keeps_word}
-use Rattle.form_spellings.specs.Bound.{InPairs, IsBoundTerm, IsBoundAtom}
+use Rattle.plan_texts.specs.Together.{Together}
+use Rattle.form_spellings.specs.Bound.{IsBoundTerm, IsBoundAtom}
 use Rattle.form_spellings.proofs.Freshness.{is_in}
 use Rattle.form_spellings.proofs.KeptWords.{Reads, reads_then, reads_map, reads_end}
 use Rattle.form_spellings.proofs.TermsIn.{same}
@@ -52,7 +53,7 @@ abbrev pub TermBound : Word → RawTerm → Names → Type 0
 TermBound w t table = (v : Declared) (scope : List Word) (x : Term) → IsBoundTerm v table scope t x → IsTerm v scope x (name w)
 
 abbrev pub TermsBound : Placed → List RawTerm → Names → Type 0
-TermsBound p ts table = (v : Declared) (scope : List Word) (xs : List Term) → InPairs (IsBoundTerm v table scope) ts xs → Each (IsTerm v scope) xs (parts_of p)
+TermsBound p ts table = (v : Declared) (scope : List Word) (xs : List Term) → Together (IsBoundTerm v table scope) ts xs → Each (IsTerm v scope) xs (parts_of p)
 
 -- a name that is read as its word
 abbrev pub NameBound : Word → RawTerm → Names → Type 0

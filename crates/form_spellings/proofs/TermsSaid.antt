@@ -17,7 +17,8 @@ use Rattle.gd_reader.specs.Answers.{◌>>=◌, word_due, end_due}
 use Rattle.gd_reader.specs.Terms.{Names, Keeps, raw_term, term_by, term, used, terms, two_terms, applied, atom}
 use Rattle.gd_reader.specs.Words.{sort_of}
 use Rattle.gd_reader.proofs.Keeping.{keeps_same, keeps_word}
-use Rattle.form_spellings.specs.Bound.{InPairs, IsBoundTerm, IsBoundAtom}
+use Rattle.plan_texts.specs.Together.{Together}
+use Rattle.form_spellings.specs.Bound.{IsBoundTerm, IsBoundAtom}
 use Rattle.form_spellings.proofs.KeptWords.{Reads, reads_then, reads_map, reads_end}
 use Rattle.form_spellings.proofs.ListsWhole.{name_is}
 use Rattle.form_spellings.proofs.PartsWhole.{front_is, back_is, within_is}
@@ -32,7 +33,7 @@ abbrev pub TermSaid : Word → RawTerm → Names → Type 0
 TermSaid w t table = (v : Declared) (scope : List Word) (x : Term) → IsTerm v scope x (name w) → IsBoundTerm v table scope t x
 
 abbrev pub TermsSaid : Placed → List RawTerm → Names → Type 0
-TermsSaid p ts table = (v : Declared) (scope : List Word) (xs : List Term) → Each (IsTerm v scope) xs (parts_of p) → InPairs (IsBoundTerm v table scope) ts xs
+TermsSaid p ts table = (v : Declared) (scope : List Word) (xs : List Term) → Each (IsTerm v scope) xs (parts_of p) → Together (IsBoundTerm v table scope) ts xs
 
 abbrev pub AtomSaid : Parts → RawAtom → Names → Type 0
 AtomSaid ps a table = (v : Declared) (scope : List Word) (n : ℕ) (xs : List Term) → IsApplied v scope n xs (group ps) → IsBoundAtom v table scope a n xs

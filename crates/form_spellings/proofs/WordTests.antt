@@ -13,6 +13,7 @@ use Rattle.gd_reader.specs.declared.words.EffectHead.{EffectHead}
 use Rattle.gd_reader.specs.declared.words.EffectHead.TheVariants as effect
 use Rattle.gd_reader.specs.TermGrammar.{allowed, is_term_sort, is_name_sort, term_form, name_form}
 use Rattle.gd_reader.specs.Words.{sort_of, head_of, effect_head_of, plain_by, plain_effect_by}
+use Rattle.gd_reader.proofs.Sorts.{name_test}
 
 pub allow : (b : Bool) → b ≡ true → (allowed b).Whole
 allow b e = subst (λ b. (allowed b).Whole) (sym e) tt
@@ -23,23 +24,6 @@ is_allowed false h = absurd h
 
 pub false_true : {P : Type 0} → ◌≡◌ {A = Bool} false true → P
 false_true e = cc
-
--- a name of the one is a name of the other
-pub name_test : (w : Word) → is_name_sort (sort_of w) ≡ is_name w
-unfolding sort_of
-name_test [] = refl
-name_test (b ∷ []) = one (not (b == 63) && (not (b == 58) && not (is_reserved (b ∷ []))))
-  where
-    one : (y : Bool) → is_name_sort (if y then Name else Other) ≡ y
-    one true = refl
-    one false = refl
-name_test (b ∷ c ∷ w) = two (b == 63) (not (b == 58) && not (is_reserved (b ∷ c ∷ w)))
-  where
-    two : (x y : Bool) → is_name_sort (if x then Variable else (if not x && y then Name else Other)) ≡ not x && y
-    two true true = refl
-    two true false = refl
-    two false true = refl
-    two false false = refl
 
 pub whole_name : (w : Word) → is_name w ≡ true → (name_form w).Whole
 whole_name w e = allow (is_name_sort (sort_of w)) (name_test w ∙ e)

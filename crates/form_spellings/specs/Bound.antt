@@ -4,6 +4,7 @@ use Rattle.std.specs.Prelude.{ℕ, ◌≡◌, ◌++◌, Bool, true, false, List,
 use Rattle.text_forms.specs.Words.{Word, word_at, first_place, last_place}
 use Rattle.plan_texts.specs.Declared.{Declared, named, kind_at, variable}
 use Rattle.plan_texts.specs.Types.{TypeItem}
+use Rattle.plan_texts.specs.Together.{Together}
 use Rattle.plan_model.specs.declared.terms.Term.{Term}
 use Rattle.plan_model.specs.declared.terms.Term.TheVariants.{Var, Obj}
 use Rattle.plan_model.specs.declared.terms.Param.{Param}
@@ -23,13 +24,6 @@ use Rattle.gd_reader.specs.declared.effects.RawEffect.TheFolds.{rec-RawEffect}
 use Rattle.gd_reader.specs.declared.effects.RawEffect.TheOpen.{RawEffect-F}
 use Rattle.gd_reader.specs.Terms.{Names}
 
--- as many of the one as of the other, each in its place
-abbrev pub InPairs : {X Y : Type 0} → (X → Y → Type 0) → List X → List Y → Type 0
-InPairs R [] [] = Unit {0}
-InPairs R (x ∷ xs) (y ∷ ys) = R x y × InPairs R xs ys
-InPairs R [] (y ∷ ys) = ⊥
-InPairs R (x ∷ xs) [] = ⊥
-
 module _ (v : Declared) (table : Names) where
   abbrev pub words_of : List RawTerm → List Word
   words_of ts = map (λ (t : RawTerm). named table t.name) ts
@@ -40,7 +34,7 @@ module _ (v : Declared) (table : Names) where
   IsBoundTerm scope r (Obj o) = (r.variable ≡ false) × (first_place (named table r.name) v.objects ≡ Some o)
 
   abbrev pub IsBoundAtom : List Word → RawAtom → ℕ → List Term → Type 0
-  IsBoundAtom scope a n ts = (first_place (named table a.head.name) v.predicates ≡ Some n) × InPairs (IsBoundTerm scope) a.args ts
+  IsBoundAtom scope a n ts = (first_place (named table a.head.name) v.predicates ≡ Some n) × Together (IsBoundTerm scope) a.args ts
 
   -- the types that are written; without any it is object
   abbrev pub types_of : List RawTerm → List Word
@@ -65,11 +59,11 @@ module _ (v : Declared) (table : Names) where
   bound_step k (RawFormula-F.Holds a) scope f = (n : ℕ) × (ts : List Term) × (f ≡ formula.Holds (record { predicate = n; args = ts })) × IsBoundAtom scope a n ts
   bound_step k (RawFormula-F.Equal s t) scope f = (x : Term) × (y : Term) × (f ≡ formula.Equal x y) × IsBoundTerm scope s x × IsBoundTerm scope t y
   bound_step k (RawFormula-F.Not r) scope f = (g : Formula) × (f ≡ formula.Not g) × k r scope g
-  bound_step k (RawFormula-F.And rs) scope f = (gs : List Formula) × (f ≡ formula.And gs) × InPairs (λ r g. k r scope g) rs gs
-  bound_step k (RawFormula-F.Or rs) scope f = (gs : List Formula) × (f ≡ formula.Or gs) × InPairs (λ r g. k r scope g) rs gs
+  bound_step k (RawFormula-F.And rs) scope f = (gs : List Formula) × (f ≡ formula.And gs) × Together (λ r g. k r scope g) rs gs
+  bound_step k (RawFormula-F.Or rs) scope f = (gs : List Formula) × (f ≡ formula.Or gs) × Together (λ r g. k r scope g) rs gs
   bound_step k (RawFormula-F.Imply r s) scope f = (g : Formula) × (h : Formula) × (f ≡ formula.Imply g h) × k r scope g × k s scope h
-  bound_step k (RawFormula-F.Forall rs r) scope f = (xs : List Param) × (g : Formula) × (f ≡ formula.Forall xs g) × InPairs IsBoundParam rs xs × k r (scope ++ map (variable v) xs) g
-  bound_step k (RawFormula-F.Exists rs r) scope f = (xs : List Param) × (g : Formula) × (f ≡ formula.Exists xs g) × InPairs IsBoundParam rs xs × k r (scope ++ map (variable v) xs) g
+  bound_step k (RawFormula-F.Forall rs r) scope f = (xs : List Param) × (g : Formula) × (f ≡ formula.Forall xs g) × Together IsBoundParam rs xs × k r (scope ++ map (variable v) xs) g
+  bound_step k (RawFormula-F.Exists rs r) scope f = (xs : List Param) × (g : Formula) × (f ≡ formula.Exists xs g) × Together IsBoundParam rs xs × k r (scope ++ map (variable v) xs) g
 
   abbrev pub IsBoundFormula : RawFormula → List Word → Formula → Type 0
   IsBoundFormula = rec-RawFormula (List Word → Formula → Type 0) (λ X u k layer. bound_step k layer)
@@ -78,8 +72,8 @@ module _ (v : Declared) (table : Names) where
   abbrev pub bound_effect_step : {X : Type 0} → (X → List Word → Effect → Type 0) → RawEffect-F X → List Word → Effect → Type 0
   bound_effect_step k (RawEffect-F.Add a) scope e = (n : ℕ) × (ts : List Term) × (e ≡ effect.Add (record { predicate = n; args = ts })) × IsBoundAtom scope a n ts
   bound_effect_step k (RawEffect-F.Delete a) scope e = (n : ℕ) × (ts : List Term) × (e ≡ effect.Delete (record { predicate = n; args = ts })) × IsBoundAtom scope a n ts
-  bound_effect_step k (RawEffect-F.And rs) scope e = (gs : List Effect) × (e ≡ effect.And gs) × InPairs (λ r g. k r scope g) rs gs
-  bound_effect_step k (RawEffect-F.Forall rs r) scope e = (xs : List Param) × (g : Effect) × (e ≡ effect.Forall xs g) × InPairs IsBoundParam rs xs × k r (scope ++ map (variable v) xs) g
+  bound_effect_step k (RawEffect-F.And rs) scope e = (gs : List Effect) × (e ≡ effect.And gs) × Together (λ r g. k r scope g) rs gs
+  bound_effect_step k (RawEffect-F.Forall rs r) scope e = (xs : List Param) × (g : Effect) × (e ≡ effect.Forall xs g) × Together IsBoundParam rs xs × k r (scope ++ map (variable v) xs) g
   bound_effect_step k (RawEffect-F.When r s) scope e = (f : Formula) × (g : Effect) × (e ≡ effect.When f g) × IsBoundFormula r scope f × k s scope g
 
   abbrev pub IsBoundEffect : RawEffect → List Word → Effect → Type 0

@@ -2,7 +2,8 @@
 -- Source: this project's; a repeated variable of one quantifier is a fault.
 use Rattle.std.specs.Prelude.{map}
 use Rattle.plan_texts.specs.Declared.{Declared, variable}
-use Rattle.plan_texts.specs.Types.{EachIs, AreDifferent}
+use Rattle.htn_base.specs.Different.{AreDifferent}
+use Rattle.plan_texts.specs.Types.{EachIs}
 use Rattle.plan_model.specs.declared.formulas.Formula.{Formula}
 use Rattle.plan_model.specs.declared.formulas.Formula.TheFolds.{rec-Formula}
 use Rattle.plan_model.specs.declared.formulas.Formula.TheOpen.{Formula-F}

@@ -1,6 +1,6 @@
 -- Each name of what was read has its word in a name table.
 -- Source: this project's.
-use Rattle.std.specs.Prelude.{◌<◌, length}
+use Rattle.std.specs.Prelude.{◌<◌, List, length}
 use Rattle.htn_base.specs.declared.name.Name.{Name as Numbered}
 use Rattle.plan_texts.specs.Types.{EachIs}
 use Rattle.gd_reader.specs.declared.term.RawTerm.{RawTerm}
@@ -27,6 +27,9 @@ module _ (table : Names) where
   -- a declared word and the words of its type
   abbrev pub IsParamIn : RawParam → Type 0
   IsParamIn x = IsIn x.name × EachIs IsTermIn x.ty
+
+  abbrev pub AreParamsIn : List RawParam → Type 0
+  AreParamsIn xs = EachIs IsParamIn xs
 
   -- one level of a formula, where k says it of a part
   abbrev pub in_step : {X : Type 0} → (X → Type 0) → RawFormula-F X → Type 0

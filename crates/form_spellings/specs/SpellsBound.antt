@@ -17,7 +17,8 @@ use Rattle.gd_reader.specs.declared.typed_lists.RawParam.{RawParam}
 use Rattle.gd_reader.specs.declared.typed_lists.ListKind.{ListKind}
 use Rattle.gd_reader.specs.declared.typed_lists.ListKind.TheVariants.{Parameters, Predicate, Objects, Types}
 use Rattle.gd_reader.specs.Terms.{Names}
-use Rattle.form_spellings.specs.Bound.{InPairs, IsBoundFormula, IsBoundEffect, IsBoundParam, IsBoundObject, IsBoundType}
+use Rattle.plan_texts.specs.Together.{Together}
+use Rattle.form_spellings.specs.Bound.{IsBoundFormula, IsBoundEffect, IsBoundParam, IsBoundObject, IsBoundType}
 use Rattle.form_spellings.specs.SpellsSome.{StandsInFront, StandUpToEnd}
 
 abbrev pub SpellsFormula : Names → RawFormula → Placed → Type 0
@@ -27,10 +28,10 @@ abbrev pub SpellsEffect : Names → RawEffect → Placed → Type 0
 SpellsEffect table r p = (v : Declared) (scope : List Word) (e : Effect) → IsBoundEffect v table r scope e → StandsInFront (IsEffect v e scope) p
 
 abbrev pub SpellsList : ListKind → Names → List RawParam → Placed → Type 0
-SpellsList Parameters table rs p = (v : Declared) (xs : List Param) → InPairs (IsBoundParam v table) rs xs → StandUpToEnd (EachTyped (IsParam v) xs) p
-SpellsList Predicate table rs p = (v : Declared) (xs : List Param) → InPairs (IsBoundParam v table) rs xs → StandUpToEnd (EachTyped (IsParam v) xs) p
-SpellsList Objects table rs p = (v : Declared) (constant : Bool) (xs : List Object) → InPairs (IsBoundObject v table constant) rs xs → StandUpToEnd (EachTyped (IsObject v constant) xs) p
-SpellsList Types table rs p = (v : Declared) (xs : List TypeItem) → InPairs (IsBoundType v table) rs xs → StandUpToEnd (EachTyped IsTypeItem xs) p
+SpellsList Parameters table rs p = (v : Declared) (xs : List Param) → Together (IsBoundParam v table) rs xs → StandUpToEnd (EachTyped (IsParam v) xs) p
+SpellsList Predicate table rs p = (v : Declared) (xs : List Param) → Together (IsBoundParam v table) rs xs → StandUpToEnd (EachTyped (IsParam v) xs) p
+SpellsList Objects table rs p = (v : Declared) (constant : Bool) (xs : List Object) → Together (IsBoundObject v table constant) rs xs → StandUpToEnd (EachTyped (IsObject v constant) xs) p
+SpellsList Types table rs p = (v : Declared) (xs : List TypeItem) → Together (IsBoundType v table) rs xs → StandUpToEnd (EachTyped IsTypeItem xs) p
 
 -- And conversely: what the parts spell is a value to which what was read is bound.
 abbrev pub BindsFormula : Names → RawFormula → Placed → Type 0
@@ -40,7 +41,7 @@ abbrev pub BindsEffect : Names → RawEffect → Placed → Type 0
 BindsEffect table r p = (v : Declared) (scope : List Word) (e : Effect) → StandsInFront (IsEffect v e scope) p → IsBoundEffect v table r scope e
 
 abbrev pub BindsList : ListKind → Names → List RawParam → Placed → Type 0
-BindsList Parameters table rs p = (v : Declared) (xs : List Param) → StandUpToEnd (EachTyped (IsParam v) xs) p → InPairs (IsBoundParam v table) rs xs
-BindsList Predicate table rs p = (v : Declared) (xs : List Param) → StandUpToEnd (EachTyped (IsParam v) xs) p → InPairs (IsBoundParam v table) rs xs
-BindsList Objects table rs p = (v : Declared) (constant : Bool) (xs : List Object) → StandUpToEnd (EachTyped (IsObject v constant) xs) p → InPairs (IsBoundObject v table constant) rs xs
-BindsList Types table rs p = (v : Declared) (xs : List TypeItem) → StandUpToEnd (EachTyped IsTypeItem xs) p → InPairs (IsBoundType v table) rs xs
+BindsList Parameters table rs p = (v : Declared) (xs : List Param) → StandUpToEnd (EachTyped (IsParam v) xs) p → Together (IsBoundParam v table) rs xs
+BindsList Predicate table rs p = (v : Declared) (xs : List Param) → StandUpToEnd (EachTyped (IsParam v) xs) p → Together (IsBoundParam v table) rs xs
+BindsList Objects table rs p = (v : Declared) (constant : Bool) (xs : List Object) → StandUpToEnd (EachTyped (IsObject v constant) xs) p → Together (IsBoundObject v table constant) rs xs
+BindsList Types table rs p = (v : Declared) (xs : List TypeItem) → StandUpToEnd (EachTyped IsTypeItem xs) p → Together (IsBoundType v table) rs xs

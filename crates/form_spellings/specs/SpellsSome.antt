@@ -7,7 +7,8 @@ use Rattle.plan_texts.specs.Declared.{Declared, variable}
 use Rattle.plan_texts.specs.Formulas.{IsParam, IsFormula, IsEffect}
 use Rattle.plan_texts.specs.Schemas.{IsObject}
 use Rattle.plan_texts.specs.TypedLists.{EachTyped}
-use Rattle.plan_texts.specs.Types.{EachIs, AreDifferent, TypeItem, IsTypeItem}
+use Rattle.htn_base.specs.Different.{AreDifferent}
+use Rattle.plan_texts.specs.Types.{EachIs, TypeItem, IsTypeItem}
 use Rattle.plan_model.specs.declared.terms.Param.{Param}
 use Rattle.plan_model.specs.declared.types.Object.{Object}
 use Rattle.plan_model.specs.declared.formulas.Formula.{Formula}

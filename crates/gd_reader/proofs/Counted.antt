@@ -6,7 +6,7 @@ use Rattle.std.proofs.lemmas.Map.Made.{length-le_from_is_member, IsDistinct-from
 use Rattle.std.proofs.lemmas.Map.Views.{list_any-from_Contains, Contains-from_any}
 use Rattle.std.proofs.lemmas.Slice.Eq.{bytes_eq-Decides}
 use Rattle.std.specs.Cmp.Lexicographic.{nat_list_eq_equiv}
-use Rattle.htn_base.specs.Table.{AllDiffer}
+use Rattle.htn_base.proofs.DifferentLemmas.{different-places}
 use Rattle.text_forms.specs.Tokens.{Lexeme, opens, closes, spells, tokens, token_count, lexeme, lexemes}
 use Rattle.gd_reader.specs.Added.{HasAll, AddsOf, AtMostOneForEachToken, bare, bare_words, words_in}
 use Rattle.gd_reader.specs.Terms.{Names}
@@ -24,7 +24,7 @@ at_most_one text old new differ adds =
     let within : All (Contains all) new = adds all
     (All-weaker (Contains (words_in text)) (Contains all) (λ x i. Contains-append_right old (words_in text) x i) (words_in text) (All-contains_itself (words_in text)))
     (All-weaker (Contains old) (Contains all) (λ x i. Contains-append_left old (words_in text) x i) old (All-contains_itself old)) in
-    let fits : length new ≤ length all = length-le_from_is_member nat_list_eq_equiv new all (IsDistinct-from_AllPairs bytes_eq-Decides new differ)
+    let fits : length new ≤ length all = length-le_from_is_member nat_list_eq_equiv new all (IsDistinct-from_AllPairs bytes_eq-Decides new (different-places new differ))
     (λ q there. list_any-from_Contains nat_list_eq_equiv q all (All-contains (Contains all) new q within (Contains-from_any (λ x y e. (bytes_eq-Decides x y).0 e) q new there))) in
     let both = length-append old (words_in text) in
     let few = few_words (lexemes text) in

@@ -1,6 +1,6 @@
 -- Which words a name table gets from a text: those of its tokens, at most one for each.
 use Rattle.std.specs.Prelude.{ℕ, ◌+◌, ◌≤◌, List, [], ◌∷◌, drop, length, All, Contains}
-use Rattle.htn_base.specs.Table.{AllDiffer}
+use Rattle.htn_base.specs.Different.{AreDifferent}
 use Rattle.text_forms.specs.Tokens.{Lexeme, opens, closes, spells, lexemes, token_count}
 use Rattle.text_forms.specs.Words.{Word}
 use Rattle.gd_reader.specs.declared.words.Sort.{Sort}
@@ -51,4 +51,4 @@ Says text w = (all : List Word) → HasAll all (words_in text) → Has all (bare
 
 -- a table without repeats gets at most one word for each token of the text
 abbrev pub AtMostOneForEachToken : Type 0
-AtMostOneForEachToken = (text : List ℕ) (old new : Names) → AllDiffer new → AddsOf text old new → length new ≤ length old + token_count text
+AtMostOneForEachToken = (text : List ℕ) (old new : Names) → AreDifferent new → AddsOf text old new → length new ≤ length old + token_count text

@@ -1,4 +1,4 @@
-ghost use Rattle.std.specs.Prelude.{◌≡◌, ◌++◌, map, IfOk, OnOk};
+ghost use Rattle.std.specs.Prelude.{◌≡◌, ◌++◌, [], map, IfOk, OnOk};
 ghost use Rattle.htn_base.specs.Words.{folded};
 ghost use Rattle.text_forms.specs.Placed.{parts_at};
 ghost use Rattle.gd_reader.specs.Added.{AddsOf, AddsWord, bare};
@@ -9,6 +9,7 @@ ghost use Rattle.gd_reader.specs.TypedLists.{declares, variable_by, param_due, w
 
 use crate::cursor::word_or_end;
 use crate::kind::kind_of;
+use crate::raw_types::RawTypes;
 use crate::stop::{Failure, Stop};
 use crate::term::{RawTerm, name_of, see};
 use crate::words::{Sort, is_hyphen, rest, sort_of};
@@ -21,7 +22,7 @@ use std::alloc::Global;
 #[derive(Drop)]
 pub struct RawParam {
     pub name: Name,
-    pub ty: List<RawTerm>,
+    pub ty: RawTypes,
     pub at: u32,
 }
 
@@ -56,7 +57,6 @@ pub fn are_variables(kind: ListKind) -> bool
 
 #[tactic(auto, using(crate::proofs::Keeping::keeps_same, crate::proofs::Keeping::keeps_then))]
 fn declare(
-    alloc: Global,
     names: &mut NameTable,
     seen: &mut NameTable,
     at: u32,
@@ -71,7 +71,7 @@ fn declare(
     see(seen, word)?;
     Ok(RawParam {
         name,
-        ty: List::new(alloc),
+        ty: RawTypes::none(),
         at,
     })
 }
@@ -79,7 +79,6 @@ fn declare(
 // A variable by its name. Where each is to be a new one, a repeat departs.
 #[tactic(auto, unfolding(crate::specs::TypedLists::variable_by), using(crate::proofs::Keeping::keeps_same, crate::proofs::Keeping::keeps_then))]
 fn variable_of(
-    alloc: Global,
     once: bool,
     names: &mut NameTable,
     seen: &mut NameTable,
@@ -101,7 +100,7 @@ fn variable_of(
     let name = name_of(names, word)?;
     Ok(RawParam {
         name,
-        ty: List::new(alloc),
+        ty: RawTypes::none(),
         at,
     })
 }
@@ -109,7 +108,6 @@ fn variable_of(
 // The word that declares.
 #[tactic(auto, unfolding(crate::specs::TypedLists::param_by), using(crate::proofs::Adding::bare_variable, crate::proofs::Adding::bare_name, crate::proofs::Keeping::keeps_same, crate::proofs::Keeping::keeps_then, crate::proofs::Sorts::folded_rest))]
 fn param_of(
-    alloc: Global,
     kind: ListKind,
     names: &mut NameTable,
     seen: &mut NameTable,
@@ -125,7 +123,7 @@ fn param_of(
     match sort_of(word) {
         Sort::Variable => {
             if variables {
-                variable_of(alloc, is_parameters(kind), names, seen, at, rest(word))
+                variable_of(is_parameters(kind), names, seen, at, rest(word))
             } else {
                 Err(Failure::At(Stop::Departs(8, at)))
             }
@@ -134,7 +132,7 @@ fn param_of(
             if variables {
                 Err(Failure::At(Stop::Departs(8, at)))
             } else {
-                declare(alloc, names, seen, at, word)
+                declare(names, seen, at, word)
             }
         }
         Sort::Other => {
@@ -154,14 +152,29 @@ fn settle(
     alloc: Global,
     done: &mut List<RawParam>,
     pending: &List<RawParam>,
-    ty: &List<RawTerm>,
+    types: List<RawTerm>,
 ) -> Result<(), Memory>
-    ensures settled { OnOk result (done.new ≡ done.old ++ map (with_type ty.now) pending.now) }
+    ensures settled { OnOk result (done.new ≡ done.old ++ map (with_type types) pending.now) }
+{
+    let ty = RawTypes::new(alloc, types)?;
+    for p in pending.as_slice() {
+        done.push(RawParam {
+            name: p.name,
+            ty: ty.share()?,
+            at: p.at,
+        })?;
+    }
+    Ok(())
+}
+
+// The words behind which no type is written.
+fn leave(done: &mut List<RawParam>, pending: &List<RawParam>) -> Result<(), Memory>
+    ensures left { OnOk result (done.new ≡ done.old ++ map (with_type []) pending.now) }
 {
     for p in pending.as_slice() {
         done.push(RawParam {
             name: p.name,
-            ty: ty.copy(alloc)?,
+            ty: RawTypes::none(),
             at: p.at,
         })?;
     }
@@ -198,18 +211,16 @@ pub fn params_of(
     while let Some((at, word, behind)) = word_or_end(s, i)? {
         if is_hyphen_due(&pending, word) {
             let (ty, next) = kind_of(alloc, s, behind, kind, names)?;
-            settle(alloc, &mut done, &pending, &ty)?;
-            drop(ty);
+            settle(alloc, &mut done, &pending, ty)?;
             pending = List::new(alloc);
             i = next;
         } else {
-            let param = param_of(alloc, kind, names, &mut seen, at, word)?;
+            let param = param_of(kind, names, &mut seen, at, word)?;
             pending.push(param)?;
             i = behind;
         }
     }
     drop(seen);
-    let none = List::new(alloc);
-    settle(alloc, &mut done, &pending, &none)?;
+    leave(&mut done, &pending)?;
     Ok((done, i))
 }

@@ -7,3 +7,8 @@ pub mod Lists
 pub mod StateLaws
 pub mod EffectSizes
 pub mod GatherCases
+pub mod KindLaws
+pub mod NeedLaws
+pub mod PlaceLaws
+pub mod IndexLaws
+pub mod RunLaws

@@ -73,7 +73,7 @@ module _ (room arity : ℕ) where
   effect-natural X v k (Effect-F.Forall ps e) = refl
   effect-natural X v k (Effect-F.When f e) = refl
 
-  effect-roll : (x : Effect-F Effect) → effect_fits room arity (roll-Effect x) ≡ effect_fits_step room arity (effect_fits room arity) x
+  pub effect-roll : (x : Effect-F Effect) → effect_fits room arity (roll-Effect x) ≡ effect_fits_step room arity (effect_fits room arity) x
   effect-roll x = rec-roll-Effect (ℕ → Type 0) (λ X v k layer. effect_fits_step room arity k layer) effect-natural x
 
   effect-at : (e : Effect) (x : Effect-F Effect) → roll-Effect x ≡ e → (n : ℕ) → effect_fits room arity e n → effect_fits_step room arity (effect_fits room arity) x n

@@ -14,3 +14,7 @@ frame env = record { objects = env.values.items; room = vec_capacity env.values;
 -- with one more variable in force, which stands for this object
 abbrev pub pushed : Frame → ℕ → Frame
 pushed f o = record { objects = f.objects ++ o ∷ []; room = f.room; arity = f.arity }
+
+-- with no variable in force
+abbrev pub cleared : Frame → Frame
+cleared f = record { objects = []; room = f.room; arity = f.arity }

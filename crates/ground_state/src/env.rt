@@ -1,6 +1,6 @@
 ghost use Rattle.std.specs.Prelude.{ℕ, ◌≡◌, ◌≤◌, ◌<◌, length, IfOk};
 ghost use Rattle.plan_meaning.specs.Truth.{value_of, values_of, ground};
-ghost use Rattle.ground_state.specs.Frames.{Frame, frame, pushed};
+ghost use Rattle.ground_state.specs.Frames.{Frame, frame, pushed, cleared};
 
 use htn_base::{List, Memory};
 use plan_model::{Atom, GroundAtom, Term};
@@ -28,6 +28,13 @@ impl Env {
         values.extend_from_slice(args.as_slice())?;
         let args = Vec::with_capacity(alloc, arity as usize)?;
         Ok(Env { values, args })
+    }
+
+    /// Takes all variables away.
+    pub(crate) fn clear(&mut self)
+        ensures { frame self.new ≡ cleared (frame self.old) }
+    {
+        self.values.clear();
     }
 
     /// Puts one more variable in force.

@@ -1,13 +1,15 @@
 ghost use Rattle.std.specs.Prelude.{◌≡◌, ◌<◌, ◌^◌, length, OnOk};
 ghost use Rattle.ground_state.specs.Frames.{frame};
 ghost use Rattle.ground_state.specs.Room.{EffectFits, AllEffectsFit, EffectFitsWithin};
-ghost use Rattle.ground_state.specs.Search.{Gathers, Reads, ReadsEach, ReadsWithin, IsWorld};
+ghost use Rattle.ground_state.specs.Search.{IsWorld};
+ghost use Rattle.ground_state.specs.Clauses.{Gets, GetsEach, GetsWithin};
 
 use crate::env::Env;
+use crate::kinds::has_object;
 use crate::state::State;
 use crate::truth::holds;
 use htn_base::{List, Memory};
-use plan_model::{Effect, GroundAtom, Object, Param, Types, in_type};
+use plan_model::{Effect, GroundAtom, Object, Param, Parts, Types};
 use std::alloc::Global;
 
 /// What an effect is read in: the state before it, the types and the objects.
@@ -30,7 +32,7 @@ pub(crate) fn gather(
 ) -> Result<(), Memory>
     requires world { IsWorld world.now }
     requires room { EffectFits (frame env.old) eff.now }
-    ensures gathered { OnOk result (Gathers (Reads world.now adds eff.now (frame env.old)) into.old into.new) }
+    ensures gathered { OnOk result (Gets world.now adds eff.now env.old into.old into.new) }
     ensures kept { frame env.new ≡ frame env.old }
 {
     match eff {
@@ -71,7 +73,7 @@ fn gather_each(
 ) -> Result<(), Memory>
     requires world { IsWorld world.now }
     requires room { AllEffectsFit (frame env.old) parts.now }
-    ensures gathered { OnOk result (Gathers (ReadsEach world.now adds parts.now (frame env.old)) into.old into.new) }
+    ensures gathered { OnOk result (GetsEach world.now adds parts.now env.old into.old into.new) }
     ensures kept { frame env.new ≡ frame env.old }
 {
     for part in parts {
@@ -93,14 +95,15 @@ fn gather_within(
 ) -> Result<(), Memory>
     requires world { IsWorld world.now }
     requires room { EffectFitsWithin (frame env.old) params.now body.now }
-    ensures gathered { OnOk result (Gathers (ReadsWithin world.now adds params.now body.now (frame env.old)) into.old into.new) }
+    ensures gathered { OnOk result (GetsWithin world.now adds params.now body.now env.old into.old into.new) }
     ensures kept { frame env.new ≡ frame env.old }
 {
     let Some((param, rest)) = params.split_first() else {
         return gather(alloc, adds, body, env, world, into);
     };
+    let parts = Parts::new(world.types, param.ty);
     for object in 0..world.objects.len() as u32 {
-        if in_type(world.types, world.objects, object, param.ty) {
+        if has_object(&parts, world.objects, object) {
             env.push(object);
             let gathered = gather_within(alloc, adds, rest, body, env, world, into);
             env.pop();

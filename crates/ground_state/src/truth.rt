@@ -1,16 +1,16 @@
 ghost use Rattle.std.specs.Prelude.{◌≡◌, ◌≤◌, ◌<◌, ◌^◌, ◌↔◌, IsTrue, length};
-ghost use Rattle.plan_model.specs.Typing.{InType};
 ghost use Rattle.plan_model.specs.Parts.{AreListed};
-ghost use Rattle.plan_meaning.specs.Truth.{ground, IsTrueIn};
+ghost use Rattle.plan_meaning.specs.Truth.{ground};
 ghost use Rattle.ground_state.specs.Frames.{frame};
 ghost use Rattle.ground_state.specs.Room.{Fits, AllFit, FitsWithin};
 ghost use Rattle.ground_state.specs.States.{atoms};
-ghost use Rattle.ground_state.specs.Search.{IsAmongParts, IsFound};
+ghost use Rattle.ground_state.specs.Clauses.{IsTrueBy, IsAmong, Finds};
 
 use crate::env::Env;
+use crate::kinds::has_object;
 use crate::state::State;
 use htn_base::List;
-use plan_model::{Atom, Formula, Object, Param, Types, in_type};
+use plan_model::{Atom, Formula, Object, Param, Parts, Types};
 
 /// Whether the formula is true in the state, where the environment has the objects of the variables in force. It takes
 /// no memory and leaves the environment as it was. A conjunction stops at its first false part.
@@ -19,7 +19,7 @@ pub fn holds(f: &Formula, env: &mut Env, s: &State, types: &Types, objects: &Lis
     requires listed { AreListed types.now }
     requires few { length objects.now < 2 ^ 32 }
     requires room { Fits (frame env.old) f.now }
-    ensures truth { IsTrue result ↔ IsTrueIn (InType types.now objects.now) (atoms s.now) f.now (frame env.old).objects }
+    ensures truth { IsTrue result ↔ IsTrueBy types.now objects.now s.now f.now env.old }
     ensures kept { frame env.new ≡ frame env.old }
 {
     match f {
@@ -66,7 +66,7 @@ fn is_among(
     requires listed { AreListed types.now }
     requires few { length objects.now < 2 ^ 32 }
     requires room { AllFit (frame env.old) parts.now }
-    ensures answer { IsAmongParts (InType types.now objects.now) (atoms s.now) wanted result parts.now (frame env.old).objects }
+    ensures answer { IsAmong types.now objects.now s.now wanted result parts.now env.old }
     ensures kept { frame env.new ≡ frame env.old }
 {
     for part in parts {
@@ -91,14 +91,15 @@ fn is_found(
     requires listed { AreListed types.now }
     requires few { length objects.now < 2 ^ 32 }
     requires room { FitsWithin (frame env.old) params.now body.now }
-    ensures answer { IsFound (InType types.now objects.now) (atoms s.now) wanted result params.now body.now (frame env.old).objects }
+    ensures answer { Finds types.now objects.now s.now wanted result params.now body.now env.old }
     ensures kept { frame env.new ≡ frame env.old }
 {
     let Some((param, rest)) = params.split_first() else {
         return holds(body, env, s, types, objects) == wanted;
     };
+    let parts = Parts::new(types, param.ty);
     for object in 0..objects.len() as u32 {
-        if in_type(types, objects, object, param.ty) {
+        if has_object(&parts, objects, object) {
             env.push(object);
             let found = is_found(wanted, rest, body, env, s, types, objects);
             env.pop();

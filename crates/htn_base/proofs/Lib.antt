@@ -1,3 +1,4 @@
+pub mod DifferentLemmas
 pub mod TableLemmas
 pub mod EscapeLemmas
 pub mod examples

@@ -1,5 +1,5 @@
 -- A name table keeps each word in a vector of its own: what the set says of the vectors, said of the words.
-use Rattle.std.proofs.Common.{◌≡◌, ◌≢◌, ℕ, ◌+◌, ◌-◌, ◌<◌, ◌^◌, List, [], ◌∷◌, ◌++◌, length, get_or, map, Bool, true, false, cond, not, ◌||◌, Some, None, position, nat_lt, nat_eq, refl, sym, ap, subst, ◌∙◌, arith, true≢false}
+use Rattle.std.proofs.Common.{◌≡◌, ℕ, ◌+◌, ◌-◌, ◌<◌, ◌^◌, List, [], ◌∷◌, ◌++◌, length, map, Bool, true, false, cond, not, ◌||◌, Some, None, position, nat_lt, nat_eq, refl, sym, ap, subst, Contains, ◌∙◌, arith, true≢false}
 use Rattle.std.specs.List.{list_any, position_or_len, prefix_len}
 use Rattle.std.specs.Str.{bytes_eq}
 use Rattle.std.specs.declared.vec.Vec.{Vec}
@@ -9,12 +9,12 @@ use Rattle.std.proofs.lemmas.List.{length-map, length-append, map-append}
 use Rattle.std.proofs.lemmas.List.Elements.{All-push}
 use Rattle.std.proofs.lemmas.List.Folds.{list_any_at}
 use Rattle.std.proofs.lemmas.List.Sums.{prefix_len-le-length}
-use Rattle.std.proofs.lemmas.List.Quantifiers.{all_pairs_push}
 use Rattle.std.proofs.lemmas.Slice.Eq.{bytes_eq-Decides}
 use Rattle.std.proofs.lemmas.Str.Ascii.{lowercase-lowercase}
 use Rattle.indexmap.specs.IndexSet.{insert_key}
 use Rattle.htn_base.specs.Words.{folded, IsFolded}
 use Rattle.htn_base.specs.Table.{words_of, number_of, with_word, IsTable}
+use Rattle.htn_base.proofs.DifferentLemmas.{different-push}
 
 module _ {X Y : Type 0} (view : X → Y) (test : Y → Bool) where
   list_any-map : (xs : List X) → list_any test (map view xs) ≡ list_any (λ x. test (view x)) xs
@@ -96,14 +96,14 @@ IsFolded-folded (byte ∷ word) = λ i. lowercase-lowercase byte i ∷ IsFolded-
 IsTable-with_word : (words : List (List ℕ)) (word : List ℕ) → IsTable words → length words < 2 ^ 32 - 1 → IsFolded word → IsTable (with_word words word)
 IsTable-with_word words word table room low = by (list_any (bytes_eq word) words) refl
   where
-    apart : list_any (bytes_eq word) words ≡ false → (k : ℕ) (d : List ℕ) → k < length words → get_or words k d ≢ word
-    apart none k d below same =
-        true≢false (sym (list_any_at (bytes_eq word) words k d below ((bytes_eq-Decides word _).1 (sym same))) ∙ none)
+    new : list_any (bytes_eq word) words ≡ false → Contains words word → ⊥
+    new none (k, below, same) =
+        true≢false (sym (list_any_at (bytes_eq word) words k word below ((bytes_eq-Decides word _).1 (sym same))) ∙ none)
 
     by : (there : Bool) → list_any (bytes_eq word) words ≡ there → IsTable (cond there words (words ++ word ∷ []))
     by true e = table
     by false e = record {
-      differ = all_pairs_push (λ one other. one ≢ other) words word table.differ (apart e);
+      differ = different-push words word table.differ (new e);
       folded = All-push IsFolded words word table.folded low;
       short = omega (arith, length-append words (word ∷ []), table.short);
     }

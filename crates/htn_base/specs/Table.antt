@@ -1,8 +1,9 @@
 -- The words of a name table, in the order in which they were first seen. A word's number is its place from 0.
-use Rattle.std.specs.Prelude.{◌≢◌, ℕ, ◌<◌, ◌^◌, List, [], ◌∷◌, ◌++◌, length, map, Option, All, AllPairs, position, if◌then◌else◌}
+use Rattle.std.specs.Prelude.{ℕ, ◌<◌, ◌^◌, List, [], ◌∷◌, ◌++◌, length, map, Option, All, position, if◌then◌else◌}
 use Rattle.std.specs.List.{list_any}
 use Rattle.std.specs.Str.{bytes_eq}
 use Rattle.std.specs.declared.vec.Vec.{Vec}
+use Rattle.htn_base.specs.Different.{AreDifferent}
 use Rattle.htn_base.specs.Words.{IsFolded}
 
 -- the words of stored vectors
@@ -17,12 +18,8 @@ number_of words word = position (bytes_eq word) words
 abbrev pub with_word : List (List ℕ) → List ℕ → List (List ℕ)
 with_word words word = if list_any (bytes_eq word) words then words else words ++ word ∷ []
 
--- each two words differ
-abbrev pub AllDiffer : List (List ℕ) → Type 0
-AllDiffer words = AllPairs (λ one other. one ≢ other) words
-
 -- what holds of every name table
 pub record IsTable (words : List (List ℕ)) : Type 0 where
-  pub differ : AllDiffer words
+  pub differ : AreDifferent words
   pub folded : All IsFolded words
   pub short : length words < 2 ^ 32

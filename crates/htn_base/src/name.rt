@@ -58,7 +58,7 @@ impl NameTable {
     /// table wants memory. After `Memory` the table is as it was.
     pub fn intern(&mut self, word: &[u8]) -> Result<Name, Memory>
         ensures words { OnOk result (self.new ≡ with_word self.old (folded word.now)) }
-        ensures number { IfOk result (λ name. number_of self.new (folded word.now) ≡ Some name.number) }
+        ensures number { IfOk result (λ n. number_of self.new (folded word.now) ≡ Some n.number) }
         ensures unchanged { OnErr result (self.new ≡ self.old) }
         ensures sound { IsTable self.new }
     {

@@ -3,6 +3,7 @@ ghost use Rattle.std.specs.Str.{bytes_eq};
 ghost use Rattle.std.specs.List.{list_all, list_any, starts_with};
 ghost use Rattle.htn_base.specs.Escapes as spec;
 ghost use Rattle.htn_base.specs.Words as words;
+ghost use Rattle.htn_base.specs.Words.{folded};
 
 use crate::memory::Memory;
 use crate::text::Text;
@@ -56,7 +57,7 @@ pub fn is_reserved_in_any_case(word: &[u8]) -> bool
 }
 
 fn is_among_in_any_case(word: &[u8], listed: &[&[u8]]) -> bool
-    ensures { result ≡ list_any (λ one. bytes_eq (words.folded word.now) (words.folded one.now)) listed.now }
+    ensures { result ≡ list_any (λ one. bytes_eq (folded word.now) (folded one.now)) listed.now }
 {
     listed.iter().any(|one| word.eq_ignore_ascii_case(one))
 }

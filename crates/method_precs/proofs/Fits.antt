@@ -3,8 +3,8 @@ use Rattle.std.proofs.Common.{ℕ, zero, suc, ◌≡◌, ◌+◌, ◌*◌, ◌<�
 use Rattle.std.proofs.Math.Nat.{mul-le-mul_left}
 use Rattle.std.proofs.lemmas.List.{length-map}
 use Rattle.std.proofs.lemmas.List.Elements.{All-contains, All-append, All-map, Contains-get_or, Contains-append_left, Contains-append_right}
-use Rattle.task_networks.specs.Order.{ArePairsOf, IsAcyclic}
-use Rattle.task_networks.specs.Pending.{AreDifferent}
+use Rattle.task_networks.specs.Order.{IsAcyclic}
+use Rattle.htn_base.specs.Different.{AreDifferent}
 use Rattle.task_networks.specs.Spelling.{numbers}
 use Rattle.std.proofs.lemmas.Bool.{eq-eqb, cases_eq, true≢false}
 use Rattle.task_networks.proofs.Lists.{not-in_empty, head_or_tail, Contains-here, Contains-later}
@@ -14,18 +14,16 @@ use Rattle.task_networks.proofs.Different.{no_more}
 use Rattle.plan_model.specs.declared.networks.Pair.{Pair}
 use Rattle.plan_model.specs.declared.schemas.MethodSchema.{MethodSchema}
 use Rattle.plan_model.specs.declared.values.Hddl.{Hddl}
-use Rattle.plan_texts.specs.SoundProblem.{HasSmallNetworks}
-use Rattle.plan_texts.proofs.SoundProblems.{small_network}
+use Rattle.plan_texts.specs.SoundProblem.{HasSmallMethods}
+use Rattle.plan_texts.proofs.SoundProblems.{small_method}
 use Rattle.plan_meaning.specs.Compilation.{same_pair, once, pairs, children}
 use Rattle.plan_model.specs.Pairs.{pair, Pairs}
 use Rattle.plan_meaning.specs.Laws.{AreOrdered}
 use Rattle.plan_meaning.proofs.Pairs.{pairs_within, pairs_acyclic}
 use Rattle.net_order.specs.Meaning.{AreBelow}
+use Rattle.net_order.proofs.Chains.{below_from_pairs}
 use Rattle.method_precs.specs.Pairs.{shifted}
 use Rattle.method_precs.specs.Small.{IsFit}
-
-pub below_from_pairs : (count : ℕ) (ps : List Pair) → ArePairsOf (Pairs ps) count → AreBelow count ps
-below_from_pairs count ps w k d l = w (get_or ps k d).first (get_or ps k d).then (Contains-get_or ps k d l)
 
 eqb_same : (n : ℕ) → nat_eq n n ≡ true
 eqb_same n = eq-eqb n n refl
@@ -104,9 +102,9 @@ module _ (s : MethodSchema) (fit : IsFit s) (b : Bool) where
   pub pairs_few : length (pairs b s) < 2 ^ 32
   pairs_few = let h = few_below (length (children b s)) (pairs b s) different pairs_below in let k = square_few (length (children b s)) children_few in omega arith
 
-module _ (h : Hddl) (ordered : AreOrdered h) (small : HasSmallNetworks h) where
+module _ (h : Hddl) (ordered : AreOrdered h) (small : HasSmallMethods h) where
   fit_of : (s : MethodSchema) → Contains (h.top ∷ h.methods) s → IsFit s
-  fit_of s c = record { within = (ordered s c).0; acyclic = (ordered s c).1; small = small_network h small s c }
+  fit_of s c = record { within = (ordered s c).0; acyclic = (ordered s c).1; small = small_method h small s c }
 
   pub fit_top : IsFit h.top
   fit_top = fit_of h.top (Contains-here h.top h.methods)

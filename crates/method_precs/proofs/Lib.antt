@@ -1,5 +1,4 @@
 pub mod Growing
-pub mod Once
 pub mod SameKeys
 pub mod Fits
 pub mod SinglePairs

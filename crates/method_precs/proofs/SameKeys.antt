@@ -1,13 +1,12 @@
 -- Keys tell guards as the guards themselves are told.
-use Rattle.std.proofs.Common.{ℕ, ◌≡◌, ◌&&◌, ◌||◌, ◌+◌, ◌<◌, Bool, true, false, cond, List, take, get_or, nat_eq, refl, ap, sym, ◌∙◌, length}
-use Rattle.std.proofs.lemmas.List.{take_more}
+use Rattle.std.proofs.Common.{ℕ, ◌≡◌, ◌&&◌, ◌+◌, ◌<◌, Bool, true, cond, List, take, get_or, nat_eq, refl, ap, ◌∙◌, length}
 use mathlib.Core.Bool.{beq}
 use Rattle.plan_model.specs.declared.terms.Term.{Term}
 use Rattle.plan_model.specs.declared.terms.Term.TheVariants.{Var, Obj}
 use Rattle.plan_model.specs.declared.networks.Guard.{Guard}
 use Rattle.plan_meaning.specs.Compilation.{same_term, same_guard}
 use Rattle.method_precs.specs.Keys.{term_key, key}
-use Rattle.method_precs.proofs.Once.{has_same, has_same-push}
+use Rattle.plan_meaning.proofs.Once.{has, has_next}
 
 -- the equality of pairs that a set of keys uses
 abbrev pub same_key : ℕ × (Bool × ℕ) → ℕ × (Bool × ℕ) → Bool
@@ -24,15 +23,5 @@ same_keys g k = ap (λ b. nat_eq g.ty k.ty && b) (same_terms g.term k.term)
 
 -- the keys seen so far and one more
 pub seen_more : (guards : List Guard) (k : ℕ) (d : Guard) → k < length guards → (g : Guard) (old new : Bool)
-    → old ≡ has_same same_guard (take k guards) g → new ≡ cond (same_key (key (get_or guards k d)) (key g)) true old → new ≡ has_same same_guard (take (k + 1) guards) g
-seen_more guards k d l g old new o n =
-    n ∙ (ap (λ b. cond b true old) (same_keys (get_or guards k d) g)
-    ∙ (ap (λ b. cond (same_guard (get_or guards k d) g) true b) o
-    ∙ (as_or (same_guard (get_or guards k d) g) (has_same same_guard (take k guards) g)
-    ∙ sym (ap (λ xs. has_same same_guard xs g) (take_more guards k d l) ∙ has_same-push same_guard (take k guards) (get_or guards k d) g))))
-  where
-    as_or : (a b : Bool) → cond a true b ≡ (b || a)
-    as_or true true = refl
-    as_or true false = refl
-    as_or false true = refl
-    as_or false false = refl
+    → old ≡ has same_guard g (take k guards) → new ≡ cond (same_key (key (get_or guards k d)) (key g)) true old → new ≡ has same_guard g (take (k + 1) guards)
+seen_more guards k d l g old new o n = has_next same_guard guards k d l g old new o (n ∙ ap (λ b. cond b true old) (same_keys (get_or guards k d) g))

@@ -9,7 +9,7 @@ use Rattle.net_order.specs.Marks.{marked}
 use Rattle.net_order.specs.Meaning.{AreBelow}
 use Rattle.net_order.specs.Closure.{IsAdded}
 use Rattle.method_precs.proofs.Fits.{same_itself}
-use Rattle.method_precs.proofs.Once.{has_same_there, not_there, once_next_new, once_next_old}
+use Rattle.plan_meaning.proofs.Once.{has_there, not_there, once_next_new, once_next_old}
 
 -- a slice as long as the list that is written over the list
 pub written : {X : Type 0} (n : ℕ) (xs ys : List X) → length xs ≡ n → take n (xs ++ drop (length xs) ys) ≡ xs
@@ -43,7 +43,7 @@ module _ (count : ℕ) (pairs : List Pair) (k : ℕ) (d : Pair) (l : k < length 
       once_next_new same_pair pairs k d l (not_there same_pair same_itself tells_pair (take k pairs) next (λ c. false≢true (sym unmarked ∙ (added.marks next.first next.then).1 (inr c))))
 
   pub single_old : told ≡ false → once same_pair (take (k + 1) pairs) ≡ once same_pair (take k pairs)
-  single_old t = once_next_old same_pair pairs k d l (has_same_there same_pair same_itself tells_pair (take k pairs) next (elim ((added.marks next.first next.then).0 (not_false (marked now next.first next.then) (sym is ∙ t))) [
+  single_old t = once_next_old same_pair pairs k d l (has_there same_pair same_itself tells_pair (take k pairs) next (elim ((added.marks next.first next.then).0 (not_false (marked now next.first next.then) (sym is ∙ t))) [
     | inl o ↦ absurd (false≢true (sym (empty next.first next.then (below k d l).1) ∙ o))
     | inr c ↦ c
   ]))

@@ -1,7 +1,7 @@
 ghost use Rattle.std.specs.Prelude.{IfOk};
 ghost use Rattle.task_networks.specs.Lawful.{IsLawful};
 ghost use Rattle.plan_model.specs.Parts.{AreListed};
-ghost use Rattle.plan_texts.specs.SoundProblem.{HasSmallNetworks};
+ghost use Rattle.plan_texts.specs.SoundProblem.{HasSmallMethods};
 ghost use Rattle.plan_meaning.specs.Compilation.{IsCompiled};
 ghost use Rattle.plan_meaning.specs.Network.{network};
 ghost use Rattle.plan_meaning.specs.Laws.{AreOrdered};
@@ -15,7 +15,7 @@ use std::alloc::Global;
 /// It takes memory for n² bits for a network of n subtasks.
 pub fn compile(alloc: Global, problem: Hddl, checks: &Checks) -> Result<Compiled, Memory>
     requires ordered { AreOrdered problem }
-    requires small { HasSmallNetworks problem }
+    requires small { HasSmallMethods problem }
     requires listed { AreListed problem.types }
     ensures compiled { IfOk result (IsCompiled problem checks.now) }
     ensures lawful { IfOk result (λ compiled. IsLawful (network compiled)) }

@@ -1,9 +1,7 @@
-ghost use Rattle.std.specs.Prelude.{◌≡◌, ◌≤◌, ◌<◌, ◌^◌, ◌++◌, IfOk, OnOk, length, map, suc};
-ghost use Rattle.task_networks.specs.Spelling.{numbers};
-ghost use Rattle.plan_model.specs.Pairs as order;
+ghost use Rattle.std.specs.Prelude.{◌≡◌, ◌≤◌, ◌++◌, IfOk, length, map};
 ghost use Rattle.plan_meaning.specs.Compilation as spec;
 ghost use Rattle.net_order.specs.Meaning.{AreBelow};
-ghost use Rattle.method_precs.specs.Pairs.{shifted};
+ghost use Rattle.method_precs.specs.Pairs.{shifted, pairs_of_check};
 
 use crate::single_pairs::single_pairs;
 use htn_base::{List, Memory};
@@ -30,7 +28,7 @@ pub fn pairs_of(alloc: Global, checked: bool, method: &MethodSchema) -> Result<L
 fn with_check(alloc: Global, count: u32, pairs: &[Pair]) -> Result<List<Pair>, Memory>
     requires small { count ≤ 4096 }
     requires within { AreBelow count pairs.now }
-    ensures all { IfOk result (λ all. all ≡ map (λ k. order.pair 0 (suc k)) (numbers 0 count) ++ map shifted pairs.now) }
+    ensures all { IfOk result (λ all. all ≡ pairs_of_check count ++ map shifted pairs.now) }
 {
     let mut all = check_pairs(alloc, count)?;
     for pair in pairs {
@@ -44,7 +42,7 @@ fn with_check(alloc: Global, count: u32, pairs: &[Pair]) -> Result<List<Pair>, M
 
 fn check_pairs(alloc: Global, count: u32) -> Result<List<Pair>, Memory>
     requires { count ≤ 4096 }
-    ensures { IfOk result (λ pairs. pairs ≡ map (λ k. order.pair 0 (suc k)) (numbers 0 count)) }
+    ensures { IfOk result (λ pairs. pairs ≡ pairs_of_check count) }
 {
     let mut pairs = List::new(alloc);
     for k in 0..count {

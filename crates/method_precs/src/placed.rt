@@ -1,5 +1,6 @@
 ghost use Rattle.std.specs.Prelude.{◌≡◌, ◌++◌, [], IfOk, OnOk};
 ghost use Rattle.plan_meaning.specs.Compilation as spec;
+ghost use Rattle.method_precs.specs.Plans.{placed_args};
 
 use htn_base::{List, Memory};
 use plan_model::{Child, Guard, Hddl, Head, Param};
@@ -35,7 +36,7 @@ fn params_of<'a>(problem: &'a Hddl, head: &Head) -> &'a [Param]
 
 /// Appends each argument of the subtask with the type of its parameter, as far as there are both.
 fn append_placed(into: &mut List<Guard>, problem: &Hddl, child: &Child) -> Result<(), Memory>
-    ensures { OnOk result (into.new ≡ into.old ++ spec.placed problem.now (spec.params_of problem.now child.now.head) child.now.args) }
+    ensures { OnOk result (into.new ≡ into.old ++ placed_args problem.now child.now) }
 {
     let params = params_of(problem, &child.head);
     let args = child.args.as_slice();

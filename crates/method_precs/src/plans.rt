@@ -1,7 +1,7 @@
-ghost use Rattle.std.specs.Prelude.{◌≡◌, ◌≤◌, ◌<◌, ◌^◌, IfOk, length, ◌∷◌, All};
-ghost use Rattle.task_networks.specs.Order.{ArePairsOf, IsAcyclic};
+ghost use Rattle.std.specs.Prelude.{◌≡◌, IfOk, All};
 ghost use Rattle.plan_model.specs.Parts.{AreListed};
 ghost use Rattle.plan_meaning.specs.Compilation as spec;
+ghost use Rattle.method_precs.specs.Plans.{AreAllPlans, front_parts};
 ghost use Rattle.method_precs.specs.Small.{IsFit};
 
 use crate::checks::{is_checked, is_tested};
@@ -20,7 +20,7 @@ pub fn plans_of(alloc: Global, problem: &Hddl, checks: &Checks) -> Result<List<M
     requires listed { AreListed problem.now.types }
     requires top { IsFit problem.now.top }
     requires methods { All IsFit problem.now.methods }
-    ensures { IfOk result (spec.AreMethodPlans problem.now checks.now (problem.now.top ∷ problem.now.methods)) }
+    ensures { IfOk result (AreAllPlans problem.now checks.now) }
 {
     let mut plans = List::new(alloc);
     plans.push(plan_of(alloc, problem, checks, &problem.top)?)?;
@@ -79,7 +79,7 @@ fn front_of(
     alloc: Global,
     method: &MethodSchema,
 ) -> Result<(List<Param>, List<Term>, Formula), Memory>
-    ensures { IfOk result (λ front. front ≡ (method.now.params, method.now.task_args, method.now.pre)) }
+    ensures { IfOk result (λ front. front ≡ front_parts method.now) }
 {
     let params = method.params.copy(alloc)?;
     let task_args = method.task_args.copy(alloc)?;
@@ -107,7 +107,7 @@ fn joined(
     network: (List<Child>, List<Pair>, List<Constraint>),
     front: (List<Param>, List<Term>, Formula),
 ) -> MethodSchema
-    requires front { front ≡ (method.now.params, method.now.task_args, method.now.pre) }
+    requires front { front ≡ front_parts method.now }
     ensures { result ≡ record method.now {
       children = network.0;
       pairs = network.1;

@@ -1,7 +1,8 @@
-ghost use Rattle.std.specs.Prelude.{◌≡◌, ◌<◌, [], not, true, IfOk, length, slice_set, slice_index_or};
+ghost use Rattle.std.specs.Prelude.{◌≡◌, ◌<◌, not, IfOk, length};
 ghost use Rattle.plan_meaning.specs.Compilation as spec;
 ghost use Rattle.net_order.specs.Marks.{marked, has, IsSquare};
 ghost use Rattle.net_order.specs.Meaning.{AreBelow};
+ghost use Rattle.method_precs.specs.Pairs.{with_pair};
 
 use htn_base::{List, Memory};
 use net_order::{ChildSet, empty_sets};
@@ -29,7 +30,7 @@ fn is_new(seen: &mut [ChildSet], pair: &Pair) -> bool
     requires first { pair.now.first < length seen.old }
     requires then_ { pair.now.then < length seen.old }
     ensures told { result ≡ not (marked seen.old pair.now.first pair.now.then) }
-    ensures seen { seen.new ≡ slice_set seen.old pair.now.then (slice_set (slice_index_or seen.old pair.now.then []) pair.now.first true) }
+    ensures seen { seen.new ≡ with_pair seen.old pair.now }
 {
     let set = &mut seen[pair.then as usize];
     let new = !set.contains(pair.first as usize);

@@ -1,6 +1,6 @@
 -- Chains of a list of pairs, and of the list with one more pair.
-use Rattle.std.proofs.Common.{ℕ, ◌≡◌, ◌<◌, ◌⊎◌, inl, inr, List, [], ◌∷◌, ◌++◌, sym, subst, ap, ◌∙◌, Contains}
-use Rattle.std.proofs.lemmas.List.Elements.{Contains-append_left, Contains-push, Contains-push_cases}
+use Rattle.std.proofs.Common.{ℕ, ◌≡◌, ◌<◌, ◌⊎◌, inl, inr, List, [], ◌∷◌, ◌++◌, get_or, sym, subst, ap, ◌∙◌, Contains}
+use Rattle.std.proofs.lemmas.List.Elements.{Contains-append_left, Contains-get_or, Contains-push, Contains-push_cases}
 use Rattle.plan_model.specs.declared.networks.Pair.{Pair}
 use Rattle.task_networks.specs.Order.{Precedes, direct, through, IsAcyclic, ArePairsOf, Closes}
 use Rattle.task_networks.proofs.Orders.{precedes_then}
@@ -18,6 +18,9 @@ wider ps qs = chain_map (λ i j h. direct (Contains-append_left ps qs (pair i j)
 pub pairs_of : (count : ℕ) (ps : List Pair) → AreBelow count ps → ArePairsOf (Pairs ps) count
 pairs_of count ps below i j c =
     let h = below c.0 (pair i j) c.1 in subst (λ (p : Pair). (p.first < count) × (p.then < count)) c.2 h
+
+pub below_from_pairs : (count : ℕ) (ps : List Pair) → ArePairsOf (Pairs ps) count → AreBelow count ps
+below_from_pairs count ps within k d l = within (get_or ps k d).first (get_or ps k d).then (Contains-get_or ps k d l)
 
 module _ (ps : List Pair) (p : Pair) where
   pub last_added : Precedes (Pairs (ps ++ p ∷ [])) p.first p.then

@@ -2,7 +2,7 @@
 use Rattle.std.proofs.Common.{ℕ, zero, suc, ◌≡◌, ◌<◌, ◌⊎◌, inl, inr, List, [], ◌∷◌, ◌++◌, length, Contains, refl, sym, subst, ap, ◌∙◌, arith, append_assoc, ◌≤◌}
 use Rattle.std.proofs.lemmas.Bool.{cases_eq}
 use Rattle.task_networks.specs.Order.{Precedes, direct, through, IsAcyclic, ArePairsOf, IsReady, IsNext, IsMaximal}
-use Rattle.task_networks.specs.Pending.{AreDifferent}
+use Rattle.htn_base.specs.Different.{AreDifferent}
 use Rattle.task_networks.specs.Spelling.{numbers}
 use Rattle.task_networks.proofs.Lists.{by_push, cut_at, head_or_tail, not-in_empty, Contains-later, Contains-here}
 use Rattle.task_networks.proofs.Different.{different_append, no_more}

@@ -1,5 +1,5 @@
 -- Sets of children as lists of marks: the mark at place i says whether child i is in the set.
-use Rattle.std.specs.Prelude.{ℕ, ◌<◌, ◌≡◌, ◌≢◌, ◌≤◌, Bool, false, IsTrue, List, [], length, slice_index, Contains, ◌⊎◌, ◌↔◌}
+use Rattle.std.specs.Prelude.{ℕ, ◌<◌, ◌≡◌, ◌≢◌, ◌≤◌, Bool, false, IsTrue, List, [], length, slice_index, Contains, Option, MatchOption, ◌⊎◌, ◌↔◌}
 use Rattle.std.specs.List.{slice_index_or}
 
 abbrev pub has : List Bool → ℕ → Bool
@@ -40,6 +40,14 @@ pub record IsLeastFree (before : List (List Bool)) (set : List Bool) (i : ℕ) :
 abbrev pub IsMarkedLast : List (List Bool) → ℕ → Type 0
 IsMarkedLast before i = (i < length before) × ((j : ℕ) → j < length before → j ≢ i → Marked before j i)
 
+-- the last child by the marks; none where there is none
+abbrev pub IsMarkedLastOrNone : List (List Bool) → Option ℕ → Type 0
+IsMarkedLastOrNone before last = MatchOption last ((i : ℕ) → IsMarkedLast before i → ⊥) (IsMarkedLast before)
+
+-- all children but this one are in the set
+abbrev pub HasAllBut : List Bool → ℕ → Type 0
+HasAllBut set i = (j : ℕ) → j < length set → j ≢ i → IsTrue (has set j)
+
 -- each of the first k of the line is marked as one that precedes each of the rest
 abbrev pub IsMarkedCut : List (List Bool) → List ℕ → ℕ → Type 0
 IsMarkedCut before line k = (p q : ℕ) → p < k → k ≤ q → q < length line → Marked before (slice_index line p) (slice_index line q)
@@ -76,3 +84,7 @@ pub record IsLeastOutside (set other : List Bool) (i : ℕ) : Type 0 where
   pub inside : IsTrue (has set i)
   pub outside : IsTrue (has other i) → ⊥
   pub least : IsWithinBelow i set other
+
+-- that child; none where there is none
+abbrev pub IsLeastOutsideOrNone : List Bool → List Bool → Option ℕ → Type 0
+IsLeastOutsideOrNone set other least = MatchOption least (IsWithin set other) (IsLeastOutside set other)

@@ -1,5 +1,5 @@
 -- Children that are listed once all their predecessors are, in whatever order.
-use Rattle.std.specs.Prelude.{ℕ, ◌≡◌, IsTrue, Bool, List, length}
+use Rattle.std.specs.Prelude.{ℕ, ◌≡◌, IsTrue, Bool, true, List, length}
 use Rattle.task_networks.specs.Order.{Precedes}
 use Rattle.net_order.specs.Marks.{has, Marked, IsPreceded, IsWithin}
 
@@ -16,3 +16,7 @@ pub record IsReached (before : List (List Bool)) (child : ℕ) (old new entered 
   pub kept : IsWithin old new
   pub room : length entered ≡ length before
   pub within : IsWithin entered new
+
+-- where a walk tells so
+abbrev pub Reaches : List (List Bool) → ℕ → List Bool → List Bool → List Bool → Bool → Type 0
+Reaches before child old new entered told = told ≡ true → IsReached before child old new entered

@@ -1,5 +1,5 @@
-ghost use Rattle.std.specs.Prelude.{◌≡◌, ℕ, ◌<◌, ◌||◌, Bool, true, false, length, slice_set, IfOk, MatchOption};
-ghost use Rattle.net_order.specs.Marks.{has, IsWithin, IsWithinBelow, IsLeastOutside};
+ghost use Rattle.std.specs.Prelude.{◌≡◌, ℕ, ◌<◌, ◌||◌, true, false, length, slice_set, IfOk};
+ghost use Rattle.net_order.specs.Marks.{has, IsWithinBelow, IsLeastOutsideOrNone};
 
 use htn_base::Memory;
 use std::alloc::Global;
@@ -82,7 +82,7 @@ impl ChildSet {
     pub fn first_outside(&self, other: &ChildSet, low: usize) -> Option<usize>
         requires room { length other.now ≡ length self.now }
         requires low { IsWithinBelow low self.now other.now }
-        ensures least { MatchOption result (IsWithin self.now other.now) (IsLeastOutside self.now other.now) }
+        ensures least { IsLeastOutsideOrNone self.now other.now result }
     {
         let last = self.count / 64;
         for k in low / 64..last + 1 {

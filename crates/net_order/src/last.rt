@@ -1,5 +1,5 @@
-ghost use Rattle.std.specs.Prelude.{◌≡◌, ◌≢◌, ℕ, ◌<◌, ◌^◌, ◌↔◌, length, IsTrue, MatchOption};
-ghost use Rattle.net_order.specs.Marks.{has, IsSquare, IsMarkedLast};
+ghost use Rattle.std.specs.Prelude.{◌<◌, ◌^◌, ◌↔◌, length, IsTrue};
+ghost use Rattle.net_order.specs.Marks.{IsSquare, HasAllBut, IsMarkedLastOrNone};
 
 use crate::child_set::ChildSet;
 
@@ -7,7 +7,7 @@ use crate::child_set::ChildSet;
 pub fn last_of(before: &[ChildSet]) -> Option<u32>
     requires square { IsSquare (length before.now) before.now }
     requires small { length before.now < 2 ^ 32 }
-    ensures last { MatchOption result ((i : ℕ) → IsMarkedLast before.now i → ⊥) (IsMarkedLast before.now) }
+    ensures last { IsMarkedLastOrNone before.now result }
 {
     for (i, set) in before.iter().enumerate() {
         if has_all_but(set, i) {
@@ -19,7 +19,7 @@ pub fn last_of(before: &[ChildSet]) -> Option<u32>
 
 /// Whether all children but this one are in the set.
 fn has_all_but(set: &ChildSet, child: usize) -> bool
-    ensures all { IsTrue result ↔ ((j : ℕ) → j < length set.now → j ≢ child → IsTrue (has set.now j)) }
+    ensures all { IsTrue result ↔ HasAllBut set.now child }
 {
     for j in 0..set.len() {
         if j != child && !set.contains(j) {

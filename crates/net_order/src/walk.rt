@@ -1,7 +1,7 @@
-ghost use Rattle.std.specs.Prelude.{◌≡◌, ◌<◌, ◌^◌, ◌↔◌, true, false, length, IsTrue, IfOk, OnOk};
+ghost use Rattle.std.specs.Prelude.{◌≡◌, ◌<◌, ◌^◌, ◌↔◌, false, length, IsTrue, IfOk};
 ghost use Rattle.task_networks.specs.Order.{IsAcyclic};
 ghost use Rattle.net_order.specs.Marks.{Marked, IsSquare, IsWithin};
-ghost use Rattle.net_order.specs.Walk.{IsSettled, IsReached};
+ghost use Rattle.net_order.specs.Walk.{IsSettled, Reaches};
 
 use crate::child_set::ChildSet;
 use htn_base::Memory;
@@ -37,7 +37,7 @@ fn reach(
     requires settled { IsSettled before.now listed.old }
     requires room { length entered.old ≡ length before.now }
     requires entered { IsWithin entered.old listed.old }
-    ensures reached { IfOk result (λ told. told ≡ true → IsReached before.now child listed.old listed.new entered.new) }
+    ensures reached { IfOk result (Reaches before.now child listed.old listed.new entered.new) }
     ensures cyclic { IfOk result (λ told. told ≡ false → IsAcyclic (Marked before.now) → ⊥) }
 {
     let mut path = Vec::new(alloc);

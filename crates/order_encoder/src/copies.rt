@@ -61,7 +61,8 @@ pub fn push_copying(
     into: &mut List<Effect>,
 ) -> Result<(), Memory>
     requires slots { n.now.first_slot + slots < 2 ^ 32 }
-    ensures parts { OnOk result (into.new ≡ into.old ++ copies n.now slots depth style.now h child) }
+    ensures parts { OnOk result
+        (into.new ≡ into.old ++ copies n.now slots depth style.now h child) }
 {
     match style {
         Style::Adl => into.put(copy_all(alloc, n, h, child, depth)),

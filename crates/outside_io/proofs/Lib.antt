@@ -1,3 +1,3 @@
 pub mod Folders
 pub mod Steady
-mod Examples
+pub mod examples

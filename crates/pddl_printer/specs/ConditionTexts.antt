@@ -4,7 +4,7 @@ use Rattle.plan_model.specs.declared.terms.Param.{Param}
 use Rattle.plan_model.specs.declared.formulas.Formula.{Formula, out-Formula}
 use Rattle.plan_model.specs.declared.formulas.Formula.TheOpen.{Formula-F}
 use Rattle.plan_model.specs.declared.values.Pddl.{Pddl}
-use Rattle.pddl_printer.specs.declared.scope.Scope.{Scope}
+use Rattle.plan_model.specs.declared.scope.Scope.{Scope}
 use Rattle.pddl_printer.specs.declared.each_object.Instances.{Instances}
 use Rattle.pddl_printer.specs.WrittenOut.{joined, negated_literal, literal, quantified, condition_parts, condition}
 use Rattle.pddl_printer.specs.Texts.{formula_text, formulas_text}

@@ -7,7 +7,7 @@ use Rattle.plan_model.specs.declared.formulas.Formula.TheOpen.{Formula-F}
 use Rattle.plan_model.specs.declared.effects.Effect.{Effect, out-Effect}
 use Rattle.plan_model.specs.declared.effects.Effect.TheOpen.{Effect-F}
 use Rattle.plan_model.specs.declared.values.Pddl.{Pddl}
-use Rattle.pddl_printer.specs.declared.scope.Scope.{Scope}
+use Rattle.plan_model.specs.declared.scope.Scope.{Scope}
 use Rattle.pddl_printer.specs.declared.each_object.Instances.{Instances}
 use Rattle.pddl_printer.specs.WrittenOut.{joined, conditional_add, change, quantified_change, effect_parts, effect}
 use Rattle.pddl_printer.specs.Texts.{effect_text, effects_text}

@@ -6,7 +6,7 @@ use Rattle.plan_texts.specs.Printed.{all_parts}
 use Rattle.plan_model.specs.declared.terms.Term.{Term}
 use Rattle.plan_model.specs.declared.terms.Atom.{Atom}
 use Rattle.plan_model.specs.declared.values.Pddl.{Pddl}
-use Rattle.pddl_printer.specs.declared.scope.Scope.{Scope}
+use Rattle.plan_model.specs.declared.scope.Scope.{Scope}
 use Rattle.pddl_printer.specs.declared.instances.Literal.{Literal}
 use Rattle.pddl_printer.specs.declared.instances.Instance.{Instance}
 use Rattle.pddl_printer.specs.declared.each_object.Instances.{Instances}

@@ -1,16 +1,12 @@
--- The variables in force.
-use Rattle.std.specs.Prelude.{List, [], ◌++◌, map}
+-- The words of the variables in force.
+use Rattle.std.specs.Prelude.{List, ◌++◌, map}
 use Rattle.text_forms.specs.Words.{Word}
 use Rattle.plan_texts.specs.Declared.{variable}
 use Rattle.plan_texts.specs.SpellsPddl.{pddl_words}
 use Rattle.plan_model.specs.declared.terms.Param.{Param}
 use Rattle.plan_model.specs.declared.values.Pddl.{Pddl}
-use Rattle.pddl_printer.specs.declared.scope.Scope.{Scope, Empty, Within'}
-
--- from outside in
-abbrev pub in_force : Scope → List Param
-in_force Empty = []
-in_force (Within' at outer params) = in_force outer ++ params.now
+use Rattle.plan_model.specs.declared.scope.Scope.{Scope}
+use Rattle.plan_model.specs.Scopes.{in_force}
 
 abbrev pub words_in_force : Pddl → Scope → List Word
 words_in_force p scope = map (variable (pddl_words p)) (in_force scope)

@@ -20,7 +20,7 @@ use Rattle.plan_model.specs.declared.schemas.Predicate.{Predicate}
 use Rattle.plan_model.specs.declared.schemas.ActionSchema.{ActionSchema}
 use Rattle.plan_model.specs.declared.values.Pddl.{Pddl}
 use Rattle.pddl_printer.specs.declared.object_range.Range.{Range}
-use Rattle.pddl_printer.specs.declared.scope.Scope.{Scope}
+use Rattle.plan_model.specs.declared.scope.Scope.{Scope}
 use Rattle.pddl_printer.specs.Behind.{behind, between, line, typed}
 use Rattle.pddl_printer.specs.InForm.{action_in, condition_in, effect_in}
 use Rattle.pddl_printer.specs.Scopes.{words_in_force, words_within}

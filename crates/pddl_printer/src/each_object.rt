@@ -5,9 +5,8 @@ ghost use Rattle.pddl_printer.specs.Wrote.{Wrote};
 
 use crate::instances::{Instance, Literal, put_instance};
 use crate::object_range::Range;
-use crate::scope::Scope;
 use crate::sheet::Sheet;
-use plan_model::{Param, Pddl};
+use plan_model::{Param, Pddl, Scope};
 
 /// The objects of a range, each in place of the variable of this number.
 #[derive(Clone, Copy)]

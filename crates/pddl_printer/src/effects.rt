@@ -2,11 +2,10 @@ ghost use Rattle.pddl_printer.specs.Texts.{effect_text, effects_text, effect_wit
 ghost use Rattle.pddl_printer.specs.Wrote.{Wrote};
 
 use crate::formulas::put_formula;
-use crate::scope::Scope;
 use crate::sheet::Sheet;
 use crate::terms::put_atom;
 use crate::typed_lists::put_variables;
-use plan_model::{Effect, Param, Pddl};
+use plan_model::{Effect, Param, Pddl, Scope};
 
 /// Puts an effect behind a space.
 #[cycle(effects)]

@@ -15,7 +15,6 @@ mod items;
 mod object_range;
 mod pages;
 mod schemas;
-mod scope;
 mod sheet;
 mod terms;
 mod texts;

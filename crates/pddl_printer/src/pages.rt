@@ -7,10 +7,9 @@ ghost use Rattle.pddl_printer.specs.Wrote.{Wrote};
 use crate::items::put_items;
 use crate::object_range::Range;
 use crate::schemas::{put_actions, put_condition};
-use crate::scope::Scope;
 use crate::sheet::Sheet;
 use crate::words::put_name;
-use plan_model::Pddl;
+use plan_model::{Pddl, Scope};
 
 /// Puts the domain, each section on a line of its own.
 pub(crate) fn put_domain(p: &Pddl, range: Option<Range>, sheet: &mut Sheet<'_>)

@@ -6,13 +6,12 @@ use crate::effects::put_effect;
 use crate::formulas::put_formula;
 use crate::items::{Item, put_items};
 use crate::object_range::Range;
-use crate::scope::Scope;
 use crate::sheet::Sheet;
 use crate::typed_lists::put_variables;
 use crate::words::put_name;
 use crate::written_conditions::put_written_condition;
 use crate::written_effects::put_written_effect;
-use plan_model::{ActionSchema, Effect, Formula, Pddl, Predicate};
+use plan_model::{ActionSchema, Effect, Formula, Pddl, Predicate, Scope};
 
 impl Item for Predicate {
     ghost text = { predicate_text };

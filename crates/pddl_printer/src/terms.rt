@@ -3,10 +3,9 @@ ghost use Rattle.pddl_printer.specs.Scopes.{words_in_force};
 ghost use Rattle.pddl_printer.specs.Texts.{term_text, terms_text, atom_text};
 ghost use Rattle.pddl_printer.specs.Wrote.{Wrote};
 
-use crate::scope::Scope;
 use crate::sheet::Sheet;
 use crate::words::{put_name, put_object, put_predicate};
-use plan_model::{Atom, Pddl, Term};
+use plan_model::{Atom, Pddl, Scope, Term};
 
 /// Puts the word of the k-th variable in force.
 fn put_variable(p: &Pddl, scope: &Scope<'_>, k: u32, sheet: &mut Sheet<'_>)

@@ -4,9 +4,8 @@ ghost use Rattle.pddl_printer.specs.Wrote.{Wrote};
 use crate::each_object::{Instances, is_over, put_each};
 use crate::formulas::put_formula;
 use crate::instances::Literal;
-use crate::scope::Scope;
 use crate::sheet::Sheet;
-use plan_model::{Formula, Param, Pddl};
+use plan_model::{Formula, Param, Pddl, Scope};
 
 /// Puts a condition behind a space, with its quantifiers over the range written out.
 pub(crate) fn put_written_condition(

@@ -4,9 +4,8 @@ ghost use Rattle.pddl_printer.specs.Wrote.{Wrote};
 use crate::each_object::{Instances, is_over, put_each};
 use crate::effects::put_effect;
 use crate::instances::Literal;
-use crate::scope::Scope;
 use crate::sheet::Sheet;
-use plan_model::{Atom, Effect, Formula, Param, Pddl};
+use plan_model::{Atom, Effect, Formula, Param, Pddl, Scope};
 
 /// Puts an effect behind a space, with its quantifiers over the range written out.
 pub(crate) fn put_written_effect(

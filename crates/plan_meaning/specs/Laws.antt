@@ -7,7 +7,8 @@ use Rattle.plan_model.specs.declared.values.Hddl.{Hddl}
 use Rattle.plan_model.specs.declared.values.Pddl.{Pddl}
 use Rattle.task_networks.specs.Order.{ArePairsOf, IsAcyclic}
 use Rattle.plan_meaning.specs.Bound.{IsBound}
-use Rattle.plan_meaning.specs.ClassicalPlan.{IsExecutable}
+use Rattle.plan_meaning.specs.ClassicalPlan.{IsExecutable, IsPlan}
+use Rattle.plan_meaning.specs.FailingStep.{Cause, Fails}
 use Rattle.plan_model.specs.Pairs.{Pairs}
 
 -- the pairs of each network are of its subtasks, and have no cycle
@@ -21,3 +22,13 @@ PrefixIsExecutable p = (steps more : List GroundAction) → IsExecutable p (step
 -- one number at most is the bound
 abbrev pub BoundIsTheOnlyOne : Compiled → Type 0
 BoundIsTheOnlyOne c = (n m : ℕ) → IsBound c n → IsBound c m → n ≡ m
+
+-- a list is a plan, or it fails at one step for one cause, and not both
+pub record IsPlanOrFails (p : Pddl) (steps : List GroundAction) : Type 0 where
+  pub one_of : (IsPlan p steps → ⊥) → ((n : ℕ) (why : Cause) → Fails p steps n why → ⊥) → ⊥
+  pub not_both : (n : ℕ) (why : Cause) → IsPlan p steps → Fails p steps n why → ⊥
+  pub step : (n m : ℕ) (why because : Cause) → Fails p steps n why → Fails p steps m because → n ≡ m
+  pub cause : (n m : ℕ) (why because : Cause) → Fails p steps n why → Fails p steps m because → why ≡ because
+
+abbrev pub EachIsPlanOrFails : Pddl → Type 0
+EachIsPlanOrFails p = (steps : List GroundAction) → IsPlanOrFails p steps

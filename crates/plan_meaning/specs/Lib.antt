@@ -1,5 +1,6 @@
 pub mod Truth
 pub mod ClassicalPlan
+pub mod FailingStep
 pub mod Network
 pub mod Compilation
 pub mod Solution

@@ -3,7 +3,8 @@
 ghost use Rattle.task_networks.specs.Lawful.{IsLawful};
 ghost use Rattle.plan_meaning.specs.Network.{network};
 ghost use Rattle.plan_meaning.specs.Compilation.{IsCompiled};
-ghost use Rattle.plan_meaning.specs.Laws.{AreOrdered, PrefixIsExecutable, BoundIsTheOnlyOne};
+ghost use Rattle.plan_meaning.specs.FailingStep.{AreNamedApart};
+ghost use Rattle.plan_meaning.specs.Laws.{AreOrdered, PrefixIsExecutable, BoundIsTheOnlyOne, EachIsPlanOrFails};
 
 use plan_model::{Checks, Compiled, Hddl, Pddl};
 
@@ -23,4 +24,11 @@ pub fn prefix_is_executable(problem: &Pddl)
 pub fn bound_is_the_only_one(problem: &Hddl, checks: &Checks, compiled: &Compiled)
     requires compiled { IsCompiled problem.now checks.now compiled.now }
     ensures { BoundIsTheOnlyOne compiled.now }
+{}
+
+/// A list of ground actions is a plan, or it fails at one step for one cause, and not both, where no two actions have
+/// one word and no two objects.
+pub fn each_list_is_a_plan_or_fails(problem: &Pddl)
+    requires apart { AreNamedApart problem.now }
+    ensures { EachIsPlanOrFails problem.now }
 {}

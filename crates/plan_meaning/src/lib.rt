@@ -7,4 +7,7 @@
 
 mod laws;
 
-pub use laws::{bound_is_the_only_one, compiled_network_is_lawful, prefix_is_executable};
+pub use laws::{
+    bound_is_the_only_one, compiled_network_is_lawful, each_list_is_a_plan_or_fails,
+    prefix_is_executable,
+};

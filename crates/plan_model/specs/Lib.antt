@@ -1,3 +1,4 @@
 pub mod Typing
 pub mod Parts
 pub mod Pairs
+pub mod Scopes

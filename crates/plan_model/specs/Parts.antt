@@ -32,6 +32,10 @@ IsMemberAt types of ty = (members : List ℕ) × (union_at types of ≡ Some mem
 abbrev pub IsStart : Types → ℕ → List Bool → Type 0
 IsStart types of marks = (ty : ℕ) → ty < 1024 → IsMarked marks ty ↔ ((ty ≡ of) ⊎ IsMemberAt types of ty)
 
+-- now the types of the list are marked too, of those for which there is a mark
+abbrev pub AreMarkedToo : List ℕ → List Bool → List Bool → Type 0
+AreMarkedToo types old new = (ty : ℕ) → ty < length old → IsMarked new ty ↔ (IsMarked old ty ⊎ Contains types ty)
+
 -- now each type is marked from which a chain leads to one that was marked
 abbrev pub AreBelow : List Parent → List Bool → List Bool → Type 0
 AreBelow parents old new = (i : ℕ) → IsMarked new i ↔ ((j : ℕ) × IsMarked old j × Leads parents i j)

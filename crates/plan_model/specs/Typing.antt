@@ -1,6 +1,6 @@
 -- Which objects are in which type.
 -- Source: the types of PDDL 2.1, level 1 (Fox and Long, JAIR 20, 2003): a parent of a type, `either`. That a type may have several parents is this project's.
-use Rattle.std.specs.Prelude.{◌≡◌, ℕ, ◌-◌, List, Option, None, Some, All, Any, Contains, MatchOption, ◌⊎◌, nat_lt, length, slice_get, if◌then◌else◌}
+use Rattle.std.specs.Prelude.{◌≡◌, ◌↔◌, ℕ, ◌-◌, List, Option, None, Some, All, Any, Contains, MatchOption, ◌⊎◌, nat_lt, length, slice_get, if◌then◌else◌}
 use Rattle.plan_model.specs.declared.types.Types.{Types}
 use Rattle.plan_model.specs.declared.types.Parent.{Parent}
 use Rattle.plan_model.specs.declared.types.Object.{Object}
@@ -26,6 +26,10 @@ IsPart types ty of = IsBelow types ty of ⊎ ((members : List ℕ) × (union_at 
 -- object x is in a type where the type that it is declared of is a part of it
 abbrev pub InType : Types → List Object → ℕ → ℕ → Type 0
 InType types objects x ty = (object : Object) × (slice_get objects x ≡ Some object) × IsPart types object.ty ty
+
+-- an object is listed exactly where it is in the type
+abbrev pub AreObjectsOf : Types → List Object → ℕ → List ℕ → Type 0
+AreObjectsOf types objects ty members = (x : ℕ) → Contains members x ↔ InType types objects x ty
 
 -- a union is a part of a type where each of its types is
 abbrev pub IsA : Types → ℕ → ℕ → Type 0

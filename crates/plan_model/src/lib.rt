@@ -4,7 +4,8 @@
 //! Numbers in a value are places from 0: of a predicate, task, action, method, type or object in the list of the
 //! whole value, of a subtask in its network, and of a variable among those in force.
 //!
-//! Stands on `htn_base`. The contracts used above: a copy is equal (`copy`); which types are parts of a type, and its objects (`Types::is_a`, `in_type`, `members`).
+//! Stands on `htn_base`. The contracts used above: a copy is equal (`copy`); which types are parts of a type, and its objects
+//! (`Types::is_a`, `in_type`, `members`, `Parts::new`).
 #![tactic(auto)]
 
 mod effects;
@@ -14,6 +15,7 @@ mod networks;
 mod options;
 mod parts;
 mod schemas;
+mod scope;
 mod steps;
 mod terms;
 mod types;
@@ -24,7 +26,9 @@ pub use formulas::Formula;
 pub use membership::{in_type, members};
 pub use networks::{Child, Constraint, Guard, Head, Pair};
 pub use options::{Checks, Style};
+pub use parts::Parts;
 pub use schemas::{ActionSchema, MethodPlan, MethodSchema, Predicate, TaskSchema};
+pub use scope::Scope;
 pub use steps::GroundAction;
 pub use terms::{Atom, GroundAtom, Param, Term};
 pub use types::{Object, Parent, Types};

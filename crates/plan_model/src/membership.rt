@@ -1,6 +1,6 @@
-ghost use Rattle.std.specs.Prelude.{◌≡◌, ℕ, ◌<◌, ◌^◌, ◌↔◌, Contains, IsTrue, IfOk, length};
+ghost use Rattle.std.specs.Prelude.{◌≡◌, ◌<◌, ◌^◌, ◌↔◌, IsTrue, IfOk, length};
 ghost use Rattle.std.specs.List.Sorted.{IsStrictlyIncreasing};
-ghost use Rattle.plan_model.specs.Typing.{InType};
+ghost use Rattle.plan_model.specs.Typing.{AreObjectsOf, InType};
 ghost use Rattle.plan_model.specs.Parts.{AreListed};
 
 use crate::parts::Parts;
@@ -28,7 +28,7 @@ pub fn members(
 ) -> Result<List<u32>, Memory>
     requires listed { AreListed types.now }
     requires few { length objects.now < 2 ^ 32 }
-    ensures members { IfOk result (λ members. (x : ℕ) → Contains members x ↔ InType types.now objects.now x ty) }
+    ensures members { IfOk result (λ members. AreObjectsOf types.now objects.now ty members) }
     ensures in_order { IfOk result IsStrictlyIncreasing }
 {
     let parts = Parts::new(types, ty);

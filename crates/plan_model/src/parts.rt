@@ -1,6 +1,6 @@
-ghost use Rattle.std.specs.Prelude.{◌≡◌, ℕ, ◌<◌, ◌↔◌, ◌⊎◌, false, All, Contains, IsTrue, IsFalse, slice_index_or, length};
+ghost use Rattle.std.specs.Prelude.{◌≡◌, ℕ, ◌<◌, ◌↔◌, false, All, IsTrue, IsFalse, slice_index_or, length};
 ghost use Rattle.plan_model.specs.Typing as typing;
-ghost use Rattle.plan_model.specs.Parts.{has, unmarked, AreListed, AreListedParents, IsStart, AreBelow, IsMarkedFurther, IsClosedUnder};
+ghost use Rattle.plan_model.specs.Parts.{has, unmarked, AreMarkedToo, AreListed, AreListedParents, IsStart, AreBelow, IsMarkedFurther, IsClosedUnder};
 
 use crate::types::{Parent, Types};
 
@@ -68,8 +68,7 @@ fn start(types: &Types, of: u32) -> [bool; ROOM]
 
 /// Marks each of the types for which there is a mark.
 fn mark_all(marks: &mut [bool], types: &[u32])
-    ensures { (ty : ℕ) → ty < length marks.old →
-        IsTrue (slice_index_or marks.new ty false) ↔ (IsTrue (slice_index_or marks.old ty false) ⊎ Contains types.now ty) }
+    ensures { AreMarkedToo types.now marks.old marks.new }
 {
     for ty in types {
         let place = *ty as usize;

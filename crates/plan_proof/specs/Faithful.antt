@@ -7,6 +7,7 @@ use Rattle.plan_model.specs.declared.values.Pddl.{Pddl}
 use Rattle.task_networks.specs.Tree.{Tree, Address}
 use Rattle.task_networks.specs.Pending.{IsWithin}
 use Rattle.task_networks.specs.Front.{IsFront}
+use Rattle.plan_texts.specs.PrintedTexts.{domain_text, problem_text}
 use Rattle.plan_meaning.specs.ClassicalPlan.{IsExecutable, IsPlan}
 use Rattle.plan_meaning.specs.Network.{network}
 use Rattle.plan_meaning.specs.Solution.{top_work}
@@ -45,3 +46,7 @@ module _ (c : Compiled) (b : ℕ) where
 -- where there are as many slots as the bound, or more, no schedule of any solution is lost
 abbrev pub LosesNothingFromTheBoundOn : Compiled → ℕ → (domain problem : List ℕ) → Type 0
 LosesNothingFromTheBoundOn c b domain problem = (n : ℕ) → IsBound c n → n ≤ b → LosesNothing c b domain problem
+
+-- the same of the two texts that are printed of a value
+abbrev pub PrintedLosesNothing : Compiled → ℕ → Pddl → Type 0
+PrintedLosesNothing c b p = LosesNothingFromTheBoundOn c b (domain_text p) (problem_text p)

@@ -9,6 +9,7 @@ use Rattle.plan_model.specs.declared.values.Pddl.{Pddl}
 use Rattle.task_networks.specs.Tree.{Tree, Address, IsAddress}
 use Rattle.task_networks.specs.Pending.{IsWithin}
 use Rattle.task_networks.specs.Front.{IsFront}
+use Rattle.plan_texts.specs.PrintedTexts.{domain_text, problem_text}
 use Rattle.plan_texts.specs.SpellsPddl.{SpellsPddl}
 use Rattle.plan_texts.specs.FirstSeen.{IsHddlOf}
 use Rattle.plan_meaning.specs.ClassicalPlan.{IsExecutable}
@@ -23,6 +24,10 @@ use Rattle.plan_proof.specs.TextPlans.{IsPlanOf}
 -- executable in a value that the two texts spell
 abbrev pub IsExecutableOf : List ℕ → List ℕ → List GroundAction → Type 0
 IsExecutableOf domain problem steps = (p : Pddl) × SpellsPddl domain problem p × IsExecutable p steps
+
+-- the two texts have the executable lists of the value
+abbrev pub HaveExecutablesOf : (domain problem : List ℕ) → Pddl → Type 0
+HaveExecutablesOf domain problem p = (steps : List GroundAction) → IsExecutableOf domain problem steps ↔ IsExecutable p steps
 
 module _ (c : Compiled) (b : ℕ) where
   -- the list spells, with b slots, an executable front
@@ -64,3 +69,10 @@ Headline source_domain source_problem checks b domain problem = (h : Hddl) (c : 
 abbrev pub HeadlineAtBound : (source_domain source_problem : List ℕ) (checks : Checks) (b : ℕ) (domain problem : List ℕ) → Type 0
 HeadlineAtBound source_domain source_problem checks b domain problem = (h : Hddl) (c : Compiled) (n : ℕ)
     → IsHddlOf source_domain source_problem h → IsCompiled h checks c → IsTailRecursive c → IsBound c n → n ≤ b → LosesNothing c b domain problem
+
+-- both, of the two texts that are printed of a value
+abbrev pub PrintedHeadline : (source_domain source_problem : List ℕ) → Checks → ℕ → Pddl → Type 0
+PrintedHeadline source_domain source_problem checks b p = Headline source_domain source_problem checks b (domain_text p) (problem_text p)
+
+abbrev pub PrintedHeadlineAtBound : (source_domain source_problem : List ℕ) → Checks → ℕ → Pddl → Type 0
+PrintedHeadlineAtBound source_domain source_problem checks b p = HeadlineAtBound source_domain source_problem checks b (domain_text p) (problem_text p)

@@ -3,6 +3,7 @@
 use Rattle.std.specs.Prelude.{ℕ, ◌≡◌, ◌↔◌, List, [], ◌∷◌, codes}
 use Rattle.plan_model.specs.declared.steps.GroundAction.{GroundAction}
 use Rattle.plan_model.specs.declared.values.Pddl.{Pddl}
+use Rattle.plan_texts.specs.PrintedTexts.{domain_text, problem_text}
 use Rattle.plan_meaning.specs.ClassicalPlan.{IsPlan}
 use Rattle.plan_proof.specs.TextPlans.{IsPlanOf}
 
@@ -21,6 +22,10 @@ module _ (steps : List GroundAction) where
 
   abbrev pub IsOnlyPlanOfTexts : (domain problem : List ℕ) → Type 0
   IsOnlyPlanOfTexts domain problem = (list : List GroundAction) → IsPlanOf domain problem list ↔ (list ≡ steps)
+
+  -- of the two texts that are printed of a value
+  abbrev pub IsOnlyPrintedPlan : Pddl → Type 0
+  IsOnlyPrintedPlan p = IsOnlyPlanOfTexts (domain_text p) (problem_text p)
 
 -- no list is a plan
 abbrev pub HasNoPlan : Pddl → Type 0

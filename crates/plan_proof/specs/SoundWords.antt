@@ -3,7 +3,8 @@
 use Rattle.std.specs.Prelude.{◌≡◌, ◌<◌, true, length, codes}
 use Rattle.text_forms.specs.Words.{is_name, word_at}
 use Rattle.plan_texts.specs.Declared.{named}
-use Rattle.plan_texts.specs.Types.{EachIs, AreDifferent}
+use Rattle.htn_base.specs.Different.{AreDifferent}
+use Rattle.plan_texts.specs.Types.{EachIs}
 use Rattle.plan_texts.specs.SpellsPddl.{pddl_types}
 use Rattle.plan_model.specs.declared.types.Parent.{Parent}
 use Rattle.plan_model.specs.declared.types.Object.{Object}

@@ -7,7 +7,7 @@ ghost use Rattle.plan_texts.specs.PrintedTexts.{domain_text, problem_text};
 ghost use Rattle.plan_meaning.specs.Laws.{AreOrdered};
 ghost use Rattle.plan_proof.specs.Headline.{IsFaithful};
 ghost use Rattle.slot_encoding.specs.Printed.{IsPrinted};
-ghost use Rattle.plan_proof.specs.Faithful.{ExecutablesSpellFronts, PlansSpellSolutions, EachSpellsOne, SpellingsAreWithin, FrontsWithinAreSpelled, IsFaithfulValue, LosesNothingFromTheBoundOn};
+ghost use Rattle.plan_proof.specs.Faithful.{ExecutablesSpellFronts, PlansSpellSolutions, EachSpellsOne, SpellingsAreWithin, FrontsWithinAreSpelled, IsFaithfulValue, PrintedLosesNothing};
 
 use plan_model::{Checks, Compiled, Hddl, Pddl, Style};
 
@@ -94,5 +94,5 @@ pub fn texts_lose_nothing(
 )
     requires ordered { AreOrdered problem.now }
     requires printed { IsPrinted problem.now checks.now compiled.now slots style.now value.now }
-    ensures { LosesNothingFromTheBoundOn compiled.now slots (domain_text value.now) (problem_text value.now) }
+    ensures { PrintedLosesNothing compiled.now slots value.now }
 {}

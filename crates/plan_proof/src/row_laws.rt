@@ -7,7 +7,7 @@ ghost use Rattle.plan_texts.specs.FirstSeen.{IsHddlOf};
 ghost use Rattle.plan_texts.specs.PrintedTexts.{domain_text, problem_text};
 ghost use Rattle.slot_encoding.specs.Printed.{IsPrinted};
 ghost use Rattle.plan_proof.specs.Problems.{smallest, calls_itself};
-ghost use Rattle.plan_proof.specs.Plans.{start_m_a, IsOnlyPlan, IsOnlyPlanOfTexts, HasNoPlan, HaveNoPlan};
+ghost use Rattle.plan_proof.specs.Plans.{start_m_a, IsOnlyPlan, IsOnlyPrintedPlan, HasNoPlan, HaveNoPlan};
 
 use plan_model::{Checks, Compiled, Hddl, Pddl, Style};
 
@@ -26,7 +26,7 @@ pub fn smallest_has_one_plan(
     requires spelled { IsHddlOf domain.now problem.now read.now }
     requires printed { IsPrinted read.now checks.now compiled.now slots style.now value.now }
     ensures plan { IsOnlyPlan start_m_a value.now }
-    ensures plan_of_texts { IsOnlyPlanOfTexts start_m_a (domain_text value.now) (problem_text value.now) }
+    ensures plan_of_texts { IsOnlyPrintedPlan start_m_a value.now }
 {}
 
 /// Where the only method of the task has the task itself as its only subtask, there is no plan.

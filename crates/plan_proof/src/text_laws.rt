@@ -4,11 +4,11 @@ ghost use Rattle.plan_texts.specs.SpellsPddl.{SpellsPddl};
 ghost use Rattle.plan_texts.specs.Alike.{AreAlikePddl};
 ghost use Rattle.plan_texts.specs.PrintedTexts.{domain_text, problem_text};
 ghost use Rattle.plan_texts.specs.PrintableValue.{IsPrintable};
-ghost use Rattle.plan_meaning.specs.ClassicalPlan.{IsExecutable, IsPlan};
+ghost use Rattle.plan_meaning.specs.ClassicalPlan.{IsPlan};
 ghost use Rattle.plan_model.specs.declared.steps.GroundAction.{GroundAction};
 ghost use Rattle.plan_proof.specs.SoundWords.{HasSoundWords};
-ghost use Rattle.plan_proof.specs.TextPlans.{IsPlanOf};
-ghost use Rattle.plan_proof.specs.Headline.{IsExecutableOf};
+ghost use Rattle.plan_proof.specs.TextPlans.{HavePlansOf};
+ghost use Rattle.plan_proof.specs.Headline.{HaveExecutablesOf};
 
 use plan_model::Pddl;
 
@@ -29,17 +29,17 @@ pub fn spelled_sound(domain: &[u8], problem: &[u8], value: &Pddl)
 /// Two texts have the plans of each value that they spell.
 pub fn plans_of_texts(domain: &[u8], problem: &[u8], value: &Pddl)
     requires { SpellsPddl domain.now problem.now value.now }
-    ensures { (steps : List GroundAction) → IsPlanOf domain.now problem.now steps ↔ IsPlan value.now steps }
+    ensures { HavePlansOf domain.now problem.now value.now }
 {}
 
 /// The plans of the two printed texts of a printable value are its own.
 pub fn printed_plans(value: &Pddl)
     requires { IsPrintable value.now }
-    ensures { (steps : List GroundAction) → IsPlanOf (domain_text value.now) (problem_text value.now) steps ↔ IsPlan value.now steps }
+    ensures { HavePlansOf (domain_text value.now) (problem_text value.now) value.now }
 {}
 
 /// The executable lists of the two printed texts of a printable value are its own.
 pub fn printed_executables(value: &Pddl)
     requires { IsPrintable value.now }
-    ensures { (steps : List GroundAction) → IsExecutableOf (domain_text value.now) (problem_text value.now) steps ↔ IsExecutable value.now steps }
+    ensures { HaveExecutablesOf (domain_text value.now) (problem_text value.now) value.now }
 {}

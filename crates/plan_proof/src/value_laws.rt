@@ -4,11 +4,10 @@
 //! `slots` is the number of slots.
 
 ghost use Rattle.plan_texts.specs.FirstSeen.{IsHddlOf};
-ghost use Rattle.plan_texts.specs.PrintedTexts.{domain_text, problem_text};
 ghost use Rattle.plan_texts.specs.SoundValue.{IsSoundHddl};
 ghost use Rattle.plan_meaning.specs.Compilation.{IsCompiled};
 ghost use Rattle.plan_meaning.specs.Laws.{AreOrdered};
-ghost use Rattle.plan_proof.specs.Headline.{Headline, HeadlineAtBound};
+ghost use Rattle.plan_proof.specs.Headline.{PrintedHeadline, PrintedHeadlineAtBound};
 ghost use Rattle.slot_encoding.specs.Printed.{IsPrinted};
 ghost use Rattle.plan_proof.specs.Same.{AreSameButNames};
 
@@ -58,7 +57,7 @@ pub fn headline(
     requires spelled { IsHddlOf domain.now problem.now read.now }
     requires printed { IsPrinted read.now checks.now compiled.now slots style.now value.now }
     requires ordered { AreOrdered read.now }
-    ensures { Headline domain.now problem.now checks.now slots (domain_text value.now) (problem_text value.now) }
+    ensures { PrintedHeadline domain.now problem.now checks.now slots value.now }
 {}
 
 /// And where there are as many slots as the bound, or more, they lose no schedule of any solution.
@@ -75,5 +74,5 @@ pub fn headline_at_bound(
     requires spelled { IsHddlOf domain.now problem.now read.now }
     requires printed { IsPrinted read.now checks.now compiled.now slots style.now value.now }
     requires ordered { AreOrdered read.now }
-    ensures { HeadlineAtBound domain.now problem.now checks.now slots (domain_text value.now) (problem_text value.now) }
+    ensures { PrintedHeadlineAtBound domain.now problem.now checks.now slots value.now }
 {}

@@ -5,11 +5,12 @@ use Rattle.std.specs.Str.{bytes_eq}
 use Rattle.text_forms.specs.Lists.{Part, Parts, name, group, nothing, part}
 use Rattle.text_forms.specs.Words.{Word, is_among, is_name, word_at, first_place}
 use Rattle.plan_texts.specs.TypedLists.{EachTyped, is_dash, ahead, ahead_by, first_part, skipped, skipped_by, first_seen}
-use Rattle.plan_texts.specs.Types.{Has, EachIs, AreDifferent, TypeItem, parent_said, IsSomeName, IsTypeItem, Mentions, IsPairSaid, IsPairOf, AreTypes}
+use Rattle.htn_base.specs.Different.{AreDifferent}
+use Rattle.plan_texts.specs.Types.{Has, EachIs, TypeItem, parent_said, IsSomeName, IsTypeItem, Mentions, IsPairSaid, IsPairOf, AreTypes}
 use Rattle.plan_texts.specs.FirstSeen.{type_words_in, types_in_order, type_items, parents_for, place_or_zero, pairs_for, pairs_from, pairs_in_order}
 use Rattle.plan_model.specs.declared.types.Parent.{Parent}
 use Rattle.plan_texts.proofs.Basics.{bytes_eq-true, bytes_eq-refl, bytes_eq-other, no_keyword'}
-use Rattle.plan_texts.proofs.Members.{each-has, has-to_map, has-of_map}
+use Rattle.plan_texts.proofs.Members.{each-has, each-lacks, has-to_map, has-of_map}
 
 or-false : (a b : Bool) → (a || b) ≡ false → (a ≡ false) × (b ≡ false)
 or-false false b e = (refl, e)
@@ -31,7 +32,7 @@ new-different seen (w ∷ ws) = go (is_among w seen) refl (new-different seen ws
         → EachIs (λ u. is_among u (w ∷ seen) ≡ false) (first_seen (w ∷ seen) ws) × AreDifferent (first_seen (w ∷ seen) ws)
         → EachIs (λ u. is_among u seen ≡ false) (cond (is_among w seen) (first_seen seen ws) (w ∷ first_seen (w ∷ seen) ws)) × AreDifferent (cond (is_among w seen) (first_seen seen ws) (w ∷ first_seen (w ∷ seen) ws))
     go true e a b = subst (λ us. EachIs (λ u. is_among u seen ≡ false) us × AreDifferent us) (sym (cond-true _ _ _ e)) a
-    go false e a b = let g = apart (first_seen (w ∷ seen) ws) b.0 in subst (λ us. EachIs (λ u. is_among u seen ≡ false) us × AreDifferent us) (sym (cond-false _ _ _ e)) ((e, g.1), (g.0, b.1))
+    go false e a b = let g = apart (first_seen (w ∷ seen) ws) b.0 in subst (λ us. EachIs (λ u. is_among u seen ≡ false) us × AreDifferent us) (sym (cond-false _ _ _ e)) ((e, g.1), (each-lacks (first_seen (w ∷ seen) ws) w g.0, b.1))
 
 -- it has all words but those that were seen before
 has-first : (seen ws : List Word) (w : Word) → Has ws w → is_among w seen ≡ false → Has (first_seen seen ws) w
@@ -324,7 +325,7 @@ module _ (ps : Parts) (spelled : EachTyped IsTypeItem (type_items ps) ps) (free 
     items = type_items ps;
     spelled = spelled;
     first = refl;
-    different = (not-object tail new.0, new.1);
+    different = (each-lacks tail (codes "object") (not-object tail new.0), new.1);
     same_words = λ w. (words-to w, words-from w);
     same_pairs = λ c q. (pairs-to c q, pairs-from' c q);
   }

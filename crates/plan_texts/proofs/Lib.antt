@@ -1,5 +1,7 @@
 pub mod Basics
 pub mod Members
+pub mod DifferentWords
+pub mod Together
 pub mod Places
 pub mod UnionTypes
 pub mod Readings

@@ -1,5 +1,5 @@
 -- Members of lists.
-use Rattle.std.proofs.Common.{ℕ, zero, suc, ◌≡◌, inl, inr, ◌<◌, List, [], ◌∷◌, map, length, refl, ap, subst, arith}
+use Rattle.std.proofs.Common.{ℕ, zero, suc, ◌≡◌, inl, inr, ◌<◌, List, [], ◌∷◌, map, length, refl, ap, sym, subst, arith}
 use Rattle.std.specs.Prelude.{Contains}
 use Rattle.text_forms.specs.Words.{Word, word_at}
 use Rattle.plan_texts.specs.Types.{EachIs, Has}
@@ -19,6 +19,14 @@ pub has-contains : {X : Type 0} (xs : List X) (x : X) → Has xs x → Contains 
 has-contains [] x h = absurd h
 has-contains (y ∷ xs) x (inl e) = (0, omega arith, e)
 has-contains (y ∷ xs) x (inr h) = let c = has-contains xs x h in let l = c.1 in (suc c.0, omega arith, c.2)
+
+-- the two ways of saying that a list hasn't something
+pub each-lacks : {X : Type 0} (xs : List X) (x : X) → EachIs (λ y. x ≡ y → ⊥) xs → Contains xs x → ⊥
+each-lacks xs x e c = each-has (λ y. x ≡ y → ⊥) xs x e (contains-has xs x c) refl
+
+pub lacks-each : {X : Type 0} (xs : List X) (x : X) → (Contains xs x → ⊥) → EachIs (λ y. x ≡ y → ⊥) xs
+lacks-each [] x n = tt
+lacks-each (y ∷ ys) x n = ((λ e. n (has-contains (y ∷ ys) x (inl (sym e)))), lacks-each ys x (λ c. n (has-contains (y ∷ ys) x (inr (contains-has ys x c)))))
 
 pub has-to_map : {X Y : Type 0} (f : X → Y) (xs : List X) (x : X) → Has xs x → Has (map f xs) (f x)
 has-to_map f [] x h = absurd h

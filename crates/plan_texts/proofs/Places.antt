@@ -4,10 +4,12 @@ use Rattle.std.specs.Option.{option_map}
 use Rattle.std.proofs.lemmas.Bool.{cond-true, cond-false, and_parts}
 use Rattle.text_forms.specs.Words.{Word, is_name, is_variable, first_place, last_place, word_at}
 use Rattle.std.specs.Str.{bytes_eq}
-use Rattle.plan_texts.specs.Types.{EachIs, AreDifferent}
+use Rattle.htn_base.specs.Different.{AreDifferent}
+use Rattle.plan_texts.specs.Types.{EachIs}
 use Rattle.plan_texts.specs.Printable.{IsPlain, IsPlainVariable}
 use Rattle.plan_texts.proofs.Basics.{bytes_eq-true, bytes_eq-refl, bytes_eq-other}
 use Rattle.text_forms.specs.Printing.{is_folded_word}
+use Rattle.plan_texts.proofs.Members.{lacks-each}
 
 pub each-at : (P : Word → Type 0) (ws : List Word) (k : ℕ) → EachIs P ws → k < length ws → P (word_at ws k)
 each-at P [] k e l = absurd (omega arith)
@@ -19,7 +21,7 @@ first-different [] k d l = absurd (omega arith)
 first-different (w ∷ ws) zero d l = cond-true _ _ _ (bytes_eq-refl w)
 first-different (w ∷ ws) (suc k) d l =
     let h : k < length ws = omega arith in
-    let n : w ≡ word_at ws k → ⊥ = each-at (λ u. w ≡ u → ⊥) ws k d.0 h in
+    let n : w ≡ word_at ws k → ⊥ = each-at (λ u. w ≡ u → ⊥) ws k (lacks-each ws w d.0) h in
     cond-false _ _ _ (bytes_eq-other (word_at ws k) w (λ e. n (sym e))) ∙ ap (option_map suc) (first-different ws k d.1 h)
 
 -- what holds of each word in scope holds of one that is found there

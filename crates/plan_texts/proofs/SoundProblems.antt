@@ -1,7 +1,7 @@
 -- What a sound problem gives to the crates that compile, encode and print it.
 use Rattle.std.proofs.Common.{ℕ, zero, suc, ◌≡◌, inl, inr, ◌<◌, ◌≤◌, ◌^◌, List, [], ◌∷◌, length, get_or, All, Contains, refl, arith}
 use Rattle.plan_texts.specs.Types.{EachIs}
-use Rattle.plan_texts.specs.SoundProblem.{all_methods, NamesSubtasks, IsSmallNetwork, IsSoundNetwork, IsSoundProblem, HasSmallNetworks}
+use Rattle.plan_texts.specs.SoundProblem.{all_methods, NamesSubtasks, IsSmallMethod, IsSoundNetwork, IsSoundProblem, HasSmallMethods}
 use Rattle.plan_texts.proofs.Members.{each-has, contains-has, has-contains}
 use Rattle.plan_model.specs.Parts.{AreListed, AreListedParents}
 use Rattle.plan_model.specs.declared.types.Parent.{Parent}
@@ -27,11 +27,11 @@ pub each-of : {X : Type 0} (P : X → Type 0) (xs : List X) → ((x : X) → Con
 each-of P [] f = tt
 each-of P (x ∷ xs) f = (f x (has-contains (x ∷ xs) x (inl refl)), each-of P xs (λ y c. f y (has-contains (x ∷ xs) y (inr (contains-has xs y c)))))
 
-pub small_networks : (h : Hddl) → ((s : MethodSchema) → Contains (all_methods h) s → IsSmallNetwork s) → HasSmallNetworks h
-small_networks h = each-of IsSmallNetwork (all_methods h)
+pub small_methods : (h : Hddl) → ((s : MethodSchema) → Contains (all_methods h) s → IsSmallMethod s) → HasSmallMethods h
+small_methods h = each-of IsSmallMethod (all_methods h)
 
-pub small_network : (h : Hddl) → HasSmallNetworks h → (s : MethodSchema) → Contains (all_methods h) s → IsSmallNetwork s
-small_network h small = each-contains IsSmallNetwork (all_methods h) small
+pub small_method : (h : Hddl) → HasSmallMethods h → (s : MethodSchema) → Contains (all_methods h) s → IsSmallMethod s
+small_method h small = each-contains IsSmallMethod (all_methods h) small
 
 module _ (h : Hddl) (sound : IsSoundProblem h) where
   pub listed : AreListed h.types

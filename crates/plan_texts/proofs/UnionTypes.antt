@@ -6,11 +6,12 @@ use Rattle.text_forms.specs.Words.{Word, is_among}
 use Rattle.text_forms.specs.Printing.{IsPrintablePart, ArePrintableParts}
 use Rattle.plan_texts.specs.Declared.{Declared, one_word, kinds, kind_at}
 use Rattle.plan_texts.specs.TypedLists.{first_seen, words_in, kind_said, are_names}
-use Rattle.plan_texts.specs.Types.{Has, EachIs, AreDifferent}
+use Rattle.htn_base.specs.Different.{AreDifferent}
+use Rattle.plan_texts.specs.Types.{Has, EachIs}
 use Rattle.plan_texts.specs.Printed.{all_parts, kind_part}
 use Rattle.plan_texts.specs.Printable.{IsPlain, IsUnion, HasWords}
 use Rattle.plan_texts.proofs.Basics.{bytes_eq-other}
-use Rattle.plan_texts.proofs.Members.{each-has}
+use Rattle.plan_texts.proofs.Members.{each-has, lacks-each}
 use Rattle.plan_texts.proofs.Places.{each-get, each-join, plain-token}
 
 words-parts : (ws : List Word) → words_in (all_parts (map name ws)) ≡ ws
@@ -27,7 +28,7 @@ still-new seen w (u ∷ ws) e f = ((λ i. bytes_eq-other u w (λ g. f.0 (sym g))
 
 seen-different : (seen ws : List Word) → EachIs (IsNew seen) ws → AreDifferent ws → first_seen seen ws ≡ ws
 seen-different seen [] e d = refl
-seen-different seen (w ∷ ws) e d = cond-false _ _ _ e.0 ∙ ap (λ t. w ∷ t) (seen-different (w ∷ seen) ws (still-new seen w ws e.1 d.0) d.1)
+seen-different seen (w ∷ ws) e d = cond-false _ _ _ e.0 ∙ ap (λ t. w ∷ t) (seen-different (w ∷ seen) ws (still-new seen w ws e.1 (lacks-each ws w d.0)) d.1)
 
 all-new : (ws : List Word) → EachIs (IsNew []) ws
 all-new [] = tt

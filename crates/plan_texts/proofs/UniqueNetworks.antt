@@ -8,7 +8,7 @@ use Rattle.plan_texts.specs.TypedLists.{Each}
 use Rattle.plan_texts.specs.Formulas.{IsTerm}
 use Rattle.plan_texts.specs.Said.{all, none, said}
 use Rattle.plan_texts.specs.Sections.{parameters, precondition, found, stands, bundle}
-use Rattle.plan_texts.specs.Networks.{ordered_subtasks, ordering, task, head_of, chain_if, IsOrdered, ArePairs, id_word, id_words, IsEquation, IsConstraintBy, IsConstraint, IsTask, IsCall, IsSubtaskBy, IsSubtask, IsNetwork, IsMethod, IsTop}
+use Rattle.plan_texts.specs.Networks.{ordered_subtasks, ordering, task, head_of, chain_if, IsOrdered, ArePairs, id_word, ids_by_place, IsEquation, IsConstraintBy, IsConstraint, IsTask, IsCall, IsSubtaskBy, IsSubtask, IsNetwork, IsMethod, IsTop}
 use Rattle.plan_texts.specs.Alike.{child_said, task_said, method_said}
 use Rattle.htn_base.specs.declared.name.Name.{Name}
 use Rattle.plan_model.specs.declared.formulas.Formula.TheOpen.{Formula-F}
@@ -138,7 +138,7 @@ abbrev word_or : Option Word → Word
 word_or None = []
 word_or (Some w) = w
 
-ids-said : (v : Declared) (cs : List Child) → id_words v cs ≡ map (λ (t : Option Word × Head × List Term). word_or t.0) (map (child_said v) cs)
+ids-said : (v : Declared) (cs : List Child) → ids_by_place v cs ≡ map (λ (t : Option Word × Head × List Term). word_or t.0) (map (child_said v) cs)
 ids-said v [] = refl
 ids-said v (c ∷ cs) = ap₂ (λ x xs. x ∷ xs) (go c.id) (ids-said v cs)
   where
@@ -148,14 +148,14 @@ ids-said v (c ∷ cs) = ap₂ (λ x xs. x ∷ xs) (go c.id) (ids-said v cs)
 
 module _ (v w : Declared) (tasks tasks' actions actions' : List Word) (same_objects : v.objects ≡ w.objects) (same_predicates : v.predicates ≡ w.predicates) (same_tasks : tasks ≡ tasks') (same_actions : actions ≡ actions') where
   same-network : (scope scope' : List Word) → scope ≡ scope' → (cs cs' : List Child) (xs xs' : List Pair) (ks ks' : List Constraint) (es : Parts)
-      → IsNetwork v tasks actions scope (id_words v cs) cs xs ks es → IsNetwork w tasks' actions' scope' (id_words w cs') cs' xs' ks' es → (map (child_said v) cs ≡ map (child_said w) cs') × (xs ≡ xs') × (ks ≡ ks')
+      → IsNetwork v tasks actions scope (ids_by_place v cs) cs xs ks es → IsNetwork w tasks' actions' scope' (ids_by_place w cs') cs' xs' ks' es → (map (child_said v) cs ≡ map (child_said w) cs') × (xs ≡ xs') × (ks ≡ ks')
   same-network scope scope' s cs cs' xs xs' ks ks' es e f =
       let a : map (child_said v) cs ≡ map (child_said w) cs' =
       same-each (IsSubtask v tasks actions scope) (IsSubtask w tasks' actions' scope') (child_said v) (child_said w) (same-subtask v w tasks tasks' actions actions' same_objects same_predicates same_tasks same_actions scope scope' s) cs cs' _ e.children_spelled f.children_spelled in
-      let i : id_words v cs ≡ id_words w cs' = ids-said v cs ∙ ap (map (λ (t : Option Word × Head × List Term). word_or t.0)) a ∙ sym (ids-said w cs') in
+      let i : ids_by_place v cs ≡ ids_by_place w cs' = ids-said v cs ∙ ap (map (λ (t : Option Word × Head × List Term). word_or t.0)) a ∙ sym (ids-said w cs') in
       let k : ks ≡ ks' =
       sym (map-is (λ x. x) (λ x. refl) ks) ∙ same-each (IsConstraint v scope) (IsConstraint w scope') (λ x. x) (λ x. x) (same-constraint v w tasks tasks' actions actions' same_objects same_predicates same_tasks same_actions scope scope' s) ks ks' _ e.constraints_spelled f.constraints_spelled ∙ map-is (λ x. x) (λ x. refl) ks' in
-      (a, same-ordered (id_words v cs) (id_words w cs') i xs xs' es e.ordered f.ordered, k)
+      (a, same-ordered (ids_by_place v cs) (ids_by_place w cs') i xs xs' es e.ordered f.ordered, k)
 
   pub same-method : (x y : MethodSchema) (p : Part) → IsMethod v tasks actions x p → IsMethod w tasks' actions' y p → method_said v x ≡ method_said w y
   same-method x y p e f =
@@ -170,7 +170,7 @@ module _ (v w : Declared) (tasks tasks' actions actions' : List Word) (same_obje
       let h' : e.head.1 ≡ f.head.1 = cc in
       let t : x.task ≡ y.task = same-Some x.task y.task (sym e.head.4 ∙ (λ n. first_place (h n) (same_tasks n)) ∙ f.head.4) in
       let u = same-terms v w tasks tasks' actions actions' same_objects same_predicates same_tasks same_actions (map (variable v) x.params) (map (variable w) y.params) s x.task_args y.task_args e.head.1 f.head.1 h' e.head.5 f.head.5 in
-      let g = same-network (map (variable v) x.params) (map (variable w) y.params) s x.children y.children x.pairs y.pairs x.constraints y.constraints f.entries (subst (IsNetwork v tasks actions (map (variable v) x.params) (id_words v x.children) x.children x.pairs x.constraints) j e.network) f.network in
+      let g = same-network (map (variable v) x.params) (map (variable w) y.params) s x.children y.children x.pairs y.pairs x.constraints y.constraints f.entries (subst (IsNetwork v tasks actions (map (variable v) x.params) (ids_by_place v x.children) x.children x.pairs x.constraints) j e.network) f.network in
       λ n. (i n, t n, u n, m n, (l n, g.0 n, g.1 n, g.2 n))
 
   pub same-top : (x y : MethodSchema) (es : Parts) → IsTop v tasks actions x es → IsTop w tasks' actions' y es → method_said v x ≡ method_said w y

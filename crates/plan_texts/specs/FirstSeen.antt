@@ -8,8 +8,8 @@ use Rattle.text_forms.specs.Faults.{IsFaultless}
 use Rattle.text_forms.specs.Lists.{Part, Parts, name, group, nothing, part}
 use Rattle.text_forms.specs.Words.{Word, is_among, first_place}
 use Rattle.plan_texts.specs.Declared.{union_words}
-use Rattle.plan_texts.specs.TypedLists.{is_dash, ahead, words_in, first_seen}
-use Rattle.plan_texts.specs.Types.{TypeItem, parent_said}
+use Rattle.plan_texts.specs.TypedLists.{is_dash, ahead, words_in, first_seen, EachTyped}
+use Rattle.plan_texts.specs.Types.{Has, TypeItem, parent_said, IsTypeItem, AreTypes}
 use Rattle.plan_texts.specs.Sections.{section, parts_in}
 use Rattle.plan_texts.specs.SpellsHddl.{hddl_types, SpellsHddl}
 use Rattle.plan_model.specs.declared.types.Parent.{Parent}
@@ -62,6 +62,10 @@ but_first (w ∷ ws) = ws
 -- by the child's number, then in text order
 abbrev pub pairs_in_order : Parts → List Parent
 pairs_in_order ps = pairs_from 1 (types_in_order ps) (but_first (types_in_order ps)) (type_items ps)
+
+-- the list spells its types and pairs in first-seen order, if it writes no parent for object
+abbrev pub SpellsTypesInOrder : Parts → Type 0
+SpellsTypesInOrder ps = EachTyped IsTypeItem (type_items ps) ps → ((r : Word) → Has (type_items ps) (codes "object", Some r) → ⊥) → AreTypes (types_in_order ps) (pairs_in_order ps) ps
 
 -- two or more types make a union
 abbrev pub union_of : List Word → List (List Word)

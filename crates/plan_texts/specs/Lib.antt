@@ -3,6 +3,7 @@ pub mod TypedLists
 pub mod Formulas
 pub mod Sections
 pub mod Types
+pub mod Together
 pub mod Schemas
 pub mod Domains
 pub mod SpellsPddl

@@ -77,8 +77,9 @@ module _ (v : Declared) where
   id_word None = []
   id_word (Some i) = named v.names i
 
-  abbrev pub id_words : List Child → List Word
-  id_words cs = map (λ (c : Child). id_word c.id) cs
+  -- the id of each subtask, the empty word where there is none
+  abbrev pub ids_by_place : List Child → List Word
+  ids_by_place cs = map (λ (c : Child). id_word c.id) cs
 
   -- ( = term term )
   abbrev pub IsEquation : List Word → Term → Term → Part → Type 0
@@ -134,7 +135,7 @@ module _ (v : Declared) (tasks : List Word) (actions : List Word) where
     pub params : AreParams v m.params (found parameters entries)
     pub head : IsHeadOf (map (variable v) m.params) m.task m.task_args (found task entries)
     pub pre : IsFormula v m.pre (map (variable v) m.params) (found precondition entries)
-    pub network : IsNetwork (map (variable v) m.params) (id_words v m.children) m.children m.pairs m.constraints entries
+    pub network : IsNetwork (map (variable v) m.params) (ids_by_place v m.children) m.children m.pairs m.constraints entries
 
   -- the method of :htn: its name is htn_start, and its task is one behind all others, without arguments or precondition
   pub record IsTop (m : MethodSchema) (entries : Parts) : Type 0 where
@@ -144,4 +145,4 @@ module _ (v : Declared) (tasks : List Word) (actions : List Word) where
     pub pre : m.pre ≡ And []
     pub form : are_entries network_entries entries ≡ true
     pub params : AreParams v m.params (found parameters entries)
-    pub network : IsNetwork (map (variable v) m.params) (id_words v m.children) m.children m.pairs m.constraints entries
+    pub network : IsNetwork (map (variable v) m.params) (ids_by_place v m.children) m.children m.pairs m.constraints entries

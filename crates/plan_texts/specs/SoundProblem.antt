@@ -4,7 +4,8 @@ use Rattle.std.specs.Prelude.{ℕ, ◌≡◌, ◌<◌, ◌≤◌, ◌^◌, List,
 use Rattle.std.specs.List.{filter_map}
 use Rattle.text_forms.specs.Words.{Word}
 use Rattle.plan_texts.specs.Declared.{named}
-use Rattle.plan_texts.specs.Types.{EachIs, AreDifferent}
+use Rattle.htn_base.specs.Different.{AreDifferent}
+use Rattle.plan_texts.specs.Types.{EachIs}
 use Rattle.plan_texts.specs.Printable.{IsPlain}
 use Rattle.plan_texts.specs.SoundValue.{IsSoundHddl}
 use Rattle.plan_model.specs.declared.formulas.Formula.TheVariants.{And}
@@ -21,12 +22,12 @@ abbrev pub all_methods : Hddl → List MethodSchema
 all_methods h = h.top ∷ h.methods
 
 -- at most 4,096 subtasks; a parameter's place is a number of 32 bits
-pub record IsSmallNetwork (s : MethodSchema) : Type 0 where
+pub record IsSmallMethod (s : MethodSchema) : Type 0 where
   pub subtasks : length s.children ≤ 4096
   pub params : length s.params < 2 ^ 32
 
-abbrev pub HasSmallNetworks : Hddl → Type 0
-HasSmallNetworks h = EachIs IsSmallNetwork (all_methods h)
+abbrev pub HasSmallMethods : Hddl → Type 0
+HasSmallMethods h = EachIs IsSmallMethod (all_methods h)
 
 abbrev pub IsShort : {X : Type 0} → List X → Type 0
 IsShort xs = length xs ≤ 2 ^ 25
@@ -45,20 +46,20 @@ pub record IsWithinLimits (h : Hddl) : Type 0 where
   pub task_params : EachIs (λ (t : TaskSchema). IsShort t.params) h.tasks
   pub action_params : EachIs (λ (a : ActionSchema). IsShort a.params) h.actions
   pub method_params : EachIs (λ (s : MethodSchema). IsShort s.params) (all_methods h)
-  pub networks : HasSmallNetworks h
+  pub networks : HasSmallMethods h
 
 -- a pair of two of so many subtasks
 abbrev pub NamesSubtasks : ℕ → Pair → Type 0
 NamesSubtasks count p = (p.first < count) × (p.then < count)
 
--- the words of those subtasks that have an id
-abbrev pub id_words : List Word → MethodSchema → List Word
-id_words names s = map (named names) (filter_map (λ (c : Child). c.id) s.children)
+-- the ids of those subtasks that have one
+abbrev pub written_ids : List Word → MethodSchema → List Word
+written_ids names s = map (named names) (filter_map (λ (c : Child). c.id) s.children)
 
 pub record IsSoundNetwork (names : List Word) (s : MethodSchema) : Type 0 where
   pub pairs : EachIs (NamesSubtasks (length s.children)) s.pairs
-  pub ids_named : EachIs IsPlain (id_words names s)
-  pub ids_differ : AreDifferent (id_words names s)
+  pub ids_named : EachIs IsPlain (written_ids names s)
+  pub ids_differ : AreDifferent (written_ids names s)
 
 pub record IsSoundProblem (h : Hddl) : Type 0 where
   pub value : IsSoundHddl h

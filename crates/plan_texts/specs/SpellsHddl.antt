@@ -3,7 +3,7 @@
 use Rattle.std.specs.Prelude.{ℕ, ◌≡◌, ◌++◌, List, [], ◌∷◌, map, codes, Some}
 use Rattle.text_forms.specs.Lists.{Parts}
 use Rattle.text_forms.specs.Words.{Word}
-use Rattle.plan_texts.specs.Declared.{Declared, named, type_words, words_with}
+use Rattle.plan_texts.specs.Declared.{Declared, named, type_words, union_words, words_with}
 use Rattle.plan_texts.specs.TypedLists.{Each}
 use Rattle.plan_texts.specs.Sections.{section, only, problem_once}
 use Rattle.plan_texts.specs.Networks.{IsTask, IsMethod, IsTop}
@@ -43,6 +43,9 @@ pub record AreHddlProblemSections (v : Declared) (tasks actions : List Word) (p 
 
 abbrev pub hddl_types : Hddl → List Word
 hddl_types c = type_words c.names c.types
+
+abbrev pub hddl_unions : Hddl → List (List Word)
+hddl_unions c = union_words c.names c.types
 
 -- the words that the problem may use
 abbrev pub hddl_words : Hddl → Declared

@@ -1,6 +1,7 @@
 -- What spells the types of a value: their words and the pairs of child and parent, in any order.
 -- Source: appendix A (grammar) of Fox and Long, "PDDL2.1", JAIR 20, 2003, level 1, types; several parents of a type, and types named only as parents, are this project's.
 use Rattle.std.specs.Prelude.{◌≡◌, ◌⊎◌, ◌↔◌, true, List, [], ◌∷◌, codes, Option, Some, None}
+use Rattle.htn_base.specs.Different.{AreDifferent}
 use Rattle.text_forms.specs.Lists.{Part, Parts, name, group}
 use Rattle.text_forms.specs.Words.{Word, is_name, word_at}
 use Rattle.plan_texts.specs.TypedLists.{EachTyped}
@@ -13,11 +14,6 @@ Has (y ∷ ys) x = (y ≡ x) ⊎ Has ys x
 abbrev pub EachIs : {X : Type 0} → (X → Type 0) → List X → Type 0
 EachIs P [] = Unit {0}
 EachIs P (x ∷ xs) = P x × EachIs P xs
-
--- no word stands twice
-abbrev pub AreDifferent : List Word → Type 0
-AreDifferent [] = Unit {0}
-AreDifferent (w ∷ ws) = EachIs (λ u. w ≡ u → ⊥) ws × AreDifferent ws
 
 -- a type and the parent that is written for it, if there is one
 abbrev pub TypeItem : Type 0

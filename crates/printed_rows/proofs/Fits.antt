@@ -1,21 +1,18 @@
 -- What the run-time checks give of a whole problem.
-use Rattle.std.proofs.Common.{ℕ, ◌<◌, ◌≤◌, ◌^◌, List, ◌∷◌, inl, inr, length, Contains, Bool, IsTrue, subst}
+use Rattle.std.proofs.Common.{◌<◌, ◌≤◌, ◌^◌, ◌∷◌, inl, inr, length, Contains, Bool, IsTrue, subst}
 use Rattle.std.proofs.lemmas.List.Elements.{All-contains}
-use Rattle.task_networks.specs.Order.{ArePairsOf, IsAcyclic}
+use Rattle.task_networks.specs.Order.{IsAcyclic}
 use Rattle.task_networks.proofs.Lists.{head_or_tail}
-use Rattle.plan_model.specs.declared.networks.Pair.{Pair}
 use Rattle.plan_model.specs.declared.schemas.MethodSchema.{MethodSchema}
 use Rattle.plan_model.specs.declared.values.Hddl.{Hddl}
-use Rattle.plan_model.specs.Pairs.{pair, Pairs}
+use Rattle.plan_model.specs.Pairs.{Pairs}
 use Rattle.plan_meaning.specs.Laws.{AreOrdered}
 use Rattle.net_order.specs.Meaning.{AreBelow}
-use Rattle.plan_texts.specs.SoundProblem.{HasSmallNetworks}
-use Rattle.plan_texts.proofs.SoundProblems.{small_networks}
+use Rattle.plan_texts.specs.SoundProblem.{HasSmallMethods}
+use Rattle.plan_texts.proofs.SoundProblems.{small_methods}
+use Rattle.net_order.proofs.Chains.{pairs_of}
 use Rattle.method_precs.specs.Small.{IsFit}
 use Rattle.printed_rows.specs.Fit.{AreFit}
-
-pub within : (count : ℕ) (pairs : List Pair) → AreBelow count pairs → ArePairsOf (Pairs pairs) count
-within count pairs below i j c = All-contains (λ (p : Pair). (p.first < count) × (p.then < count)) pairs (pair i j) below c
 
 module _ (h : Hddl) (fit : AreFit h) where
   each : (s : MethodSchema) → Contains (h.top ∷ h.methods) s → IsFit s
@@ -24,8 +21,8 @@ module _ (h : Hddl) (fit : AreFit h) where
   pub ordered : AreOrdered h
   ordered s c = let f = each s c in (f.within, f.acyclic)
 
-  pub small : HasSmallNetworks h
-  small = small_networks h (λ s c. (each s c).small)
+  pub small : HasSmallMethods h
+  small = small_methods h (λ s c. (each s c).small)
 
 pub fit_by : (s : MethodSchema) (b : Bool) → length s.children ≤ 4096 → length s.params < 2 ^ 32 → (IsTrue b → AreBelow (length s.children) s.pairs) → (IsTrue b → IsAcyclic (Pairs s.pairs)) → IsTrue b → IsFit s
-fit_by s b small few below acyclic t = record { within = within (length s.children) s.pairs (below t); acyclic = acyclic t; small = record { subtasks = small; params = few } }
+fit_by s b small few below acyclic t = record { within = pairs_of (length s.children) s.pairs (below t); acyclic = acyclic t; small = record { subtasks = small; params = few } }

@@ -14,7 +14,7 @@ use Rattle.printed_sizes.specs.Capped.{capped}
 use Rattle.printed_sizes.specs.Slots.{digits, all_digits}
 use Rattle.printed_sizes.specs.Words.{object_size, slot_size}
 use Rattle.printed_sizes.specs.Problems.{free_fact_size, member_fact_size, IsMembersSize, IsMemberFactsSize, IsCappedMembersSize}
-use Rattle.printed_sizes.proofs.Once.{has, if_new, once-behind}
+use Rattle.plan_meaning.proofs.Once.{has, if_new, once-behind}
 use Rattle.printed_sizes.proofs.WordSizes.{slot-there, slot-past, size-slot}
 
 module _ (xs : List GroundAtom) (i : ℕ) (x : GroundAtom) (l : i < length xs) (is : x ≡ get_or xs i x) where

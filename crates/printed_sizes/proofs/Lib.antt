@@ -23,7 +23,6 @@ pub mod MethodEffects
 pub mod DomainSizes
 pub mod ProblemSizes
 -- The types of guards, and the lengths of predicates' words.
-pub mod Once
 pub mod GuardTypes
 pub mod HeadSizes
 -- What the code counts of methods and of the initial facts.

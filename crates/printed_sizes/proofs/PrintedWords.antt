@@ -2,7 +2,6 @@
 use Rattle.std.proofs.Common.{ℕ, ◌≡◌, List, [], ◌∷◌, ◌++◌, map, codes, ◌∙◌}
 use Rattle.std.proofs.lemmas.List.{map-append}
 use Rattle.htn_base.specs.Escapes.{slot_word}
-use Rattle.htn_base.specs.declared.name.Name.{Name}
 use Rattle.text_forms.specs.Words.{Word, word_at}
 use Rattle.plan_model.specs.declared.options.Style.{Style}
 use Rattle.plan_model.specs.declared.types.Object.{Object}
@@ -22,9 +21,10 @@ use Rattle.slot_encoding.specs.SourceParts.{name, retyped}
 use Rattle.slot_encoding.specs.EncodedNames.{guard_types, guard_word, checked_methods, encoded_types, encoded_objects, encoded_predicates}
 use Rattle.slot_encoding.specs.EncodedValue.{IsEncoded}
 use Rattle.slot_encoding.proofs.places.ObjectPlaces.{printed_object, printed_slot}
-use Rattle.slot_encoding.specs.EncodedWords.{own_word, own_types, type_words, object_words, param_words, held_words, HasEncodedWords}
+use Rattle.slot_encoding.specs.EncodedWords.{own_word, object_words, param_words, held_words, HasEncodedWords}
 use Rattle.slot_encoding.proofs.words.Lists.{each-left, each-right, each-part}
 use Rattle.slot_encoding.proofs.words.TableWords.{named-name, words-named, words-made}
+use Rattle.slot_encoding.proofs.words.TypeWords.{types-named}
 use Rattle.slot_encoding.proofs.words.KnownWords.{known_types, known_objects, known_source_group, known_three, known_task_group, known_action_group, known_check_group, known_guard_group}
 use Rattle.slot_encoding.proofs.words.PrintedWords.{printed_words}
 use Rattle.slot_encoding.proofs.words.PredicatePlaces.{printed_predicate, held_task, held_action, held_check, guarding, first_group, task_group, action_group, check_group, guard_group}
@@ -32,22 +32,6 @@ use Rattle.printed_sizes.specs.Words.{head_words}
 use Rattle.printed_sizes.proofs.SourceSizes.{HasPrintedWords}
 
 module _ (c : Compiled) (names : List Word) (b : ℕ) (has : HasEncodedWords c b names) where
-  abbrev with_names : List Name → Compiled
-  with_names ns = record c { hddl = record c.hddl { types = record c.hddl.types { names = ns } } }
-
-  types-named : Declared.type_words names (encoded_types c names b) ≡ type_words c
-  types-named = go c.hddl.types.names (known_types c b names has)
-    where
-      go : (ns : List Name) → EachIs (Has names) (codes "object" ∷ codes "htn_slot" ∷ codes "htn_object" ∷ own_types c ns)
-          → Declared.type_words names (encoded_types (with_names ns) names b) ≡ codes "object" ∷ codes "htn_slot" ∷ codes "htn_object" ∷ own_types c ns
-      go [] k =
-          let e = words-named names (λ (w : Word). w) (codes "object" ∷ codes "htn_slot" ∷ codes "htn_object" ∷ []) (λ w h. each-has (Has names) (codes "object" ∷ codes "htn_slot" ∷ codes "htn_object" ∷ []) w k h) in
-          e
-      go (n ∷ others) (o, (s, (t, k))) =
-          let e = words-named names (λ (w : Word). w) (codes "object" ∷ codes "htn_slot" ∷ codes "htn_object" ∷ []) (λ w h. each-has (Has names) (codes "object" ∷ codes "htn_slot" ∷ codes "htn_object" ∷ []) w (o, (s, (t, tt))) h) in
-          let r = words-made (λ (x : Name). name names (own_word c x)) (named names) (own_word c) others (λ x h. named-name (own_word c x) names (each-has (Has names) (map (own_word c) others) (own_word c x) k (has-to_map (own_word c) others x h))) in
-          (λ i. word_at (e i) 0 ∷ word_at (e i) 1 ∷ word_at (e i) 2 ∷ r i)
-
   abbrev own : Object → Word
   own x = own_word c x.name
 
@@ -122,8 +106,8 @@ module _ (c : Compiled) (names : List Word) (b : ℕ) (has : HasEncodedWords c b
 
   pub has-words : HasPrintedWords c b (printed_words c names b)
   has-words = record {
-    types = types-named;
-    unions = (let e = types-named in λ i. map (map (word_at (e i))) (map (map retyped) c.hddl.types.unions));
+    types = types-named c names b (known_types c b names has);
+    unions = (let e = types-named c names b (known_types c b names has) in λ i. map (map (word_at (e i))) (map (map retyped) c.hddl.types.unions));
     objects = objects-named;
     predicates = heads-named;
   }

@@ -23,7 +23,7 @@ use Rattle.printed_sizes.specs.Domains as domains
 use Rattle.printed_sizes.specs.Frames.{sizes_in_force, sizes_within}
 use Rattle.printed_sizes.specs.declared.frame.Frame.{Frame}
 use Rattle.printed_sizes.specs.declared.lengths.Sizes.{Sizes}
-use Rattle.printed_sizes.specs.declared.scope.Scope.{Scope}
+use Rattle.plan_model.specs.declared.scope.Scope.{Scope}
 
 -- a line of an action, by the lengths of its name, parameters, condition and effect
 abbrev pub line_length : ℕ → ℕ → ℕ → ℕ → ℕ

@@ -7,9 +7,8 @@ use crate::counts::plus;
 use crate::effects::effect_size;
 use crate::formulas::formula_size;
 use crate::frame::Frame;
-use crate::scope::Scope;
 use crate::slots::free_size;
-use plan_model::{Effect, Formula};
+use plan_model::{Effect, Formula, Scope};
 
 /// Whether a condition is the empty conjunction.
 pub fn is_empty(condition: &Formula) -> bool

@@ -5,10 +5,9 @@ ghost use Rattle.printed_sizes.specs.FrameLengths as of;
 use crate::counts::plus;
 use crate::formulas::formula_size;
 use crate::frame::Frame;
-use crate::scope::Scope;
 use crate::terms::atom_size;
 use crate::typed_lists::variables_size;
-use plan_model::{Effect, Param};
+use plan_model::{Effect, Param, Scope};
 
 /// The length of a printed effect of the source behind a space.
 #[cycle(effects)]

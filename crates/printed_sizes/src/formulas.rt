@@ -4,10 +4,9 @@ ghost use Rattle.printed_sizes.specs.FrameLengths as of;
 
 use crate::counts::plus;
 use crate::frame::Frame;
-use crate::scope::Scope;
 use crate::terms::{atom_size, term_size};
 use crate::typed_lists::variables_size;
-use plan_model::{Formula, Param};
+use plan_model::{Formula, Param, Scope};
 
 /// The length of a printed formula of the source behind a space.
 #[cycle(formulas)]

@@ -20,7 +20,6 @@ mod methods;
 mod predicate_numbers;
 mod predicates;
 mod problems;
-mod scope;
 mod sections;
 mod slots;
 mod splits;

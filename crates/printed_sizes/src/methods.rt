@@ -10,7 +10,6 @@ use crate::counts::{all_digits, plus, times};
 use crate::frame::Frame;
 use crate::predicate_numbers::{after, first_check, sum, task_predicate};
 use crate::predicates::guard_word_size;
-use crate::scope::Scope;
 use crate::slots::waiting_size;
 use crate::splits::eff_size;
 use crate::terms::{term_size, terms_size};
@@ -18,7 +17,7 @@ use crate::typed_lists::params_size;
 use crate::words::{head_size, own_size};
 use crate::works::line_size;
 use htn_base::{Memory, number};
-use plan_model::{Constraint, Guard, MethodPlan, Term};
+use plan_model::{Constraint, Guard, MethodPlan, Scope, Term};
 
 /// The length of the lines of the methods' actions.
 pub(crate) fn methods_size(frame: &Frame<'_>, methods: &[MethodPlan]) -> Result<u64, Memory>

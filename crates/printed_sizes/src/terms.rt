@@ -4,9 +4,8 @@ ghost use Rattle.printed_sizes.specs.FrameLengths as of;
 
 use crate::counts::plus;
 use crate::frame::Frame;
-use crate::scope::Scope;
 use crate::words::{head_size, object_size, own_size};
-use plan_model::{Atom, Term};
+use plan_model::{Atom, Scope, Term};
 
 /// The length of the word of the k-th variable in force.
 fn variable_size(frame: &Frame<'_>, scope: &Scope<'_>, k: u32) -> u64

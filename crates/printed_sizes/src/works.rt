@@ -7,11 +7,10 @@ ghost use Rattle.printed_sizes.specs.Frames.{IsFrame};
 use crate::conditions::{change_size, condition_size};
 use crate::counts::plus;
 use crate::frame::Frame;
-use crate::scope::Scope;
 use crate::slots::{clearing_size, waiting_size};
 use crate::typed_lists::params_size;
 use crate::words::own_size;
-use plan_model::{ActionSchema, Formula, MethodPlan, Param};
+use plan_model::{ActionSchema, Formula, MethodPlan, Param, Scope};
 
 /// The length of the line of an action, by those of its name, parameters, condition and effect.
 pub(crate) fn line_size(name: u64, params: u64, pre: u64, change: u64) -> u64

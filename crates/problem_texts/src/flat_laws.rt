@@ -21,5 +21,6 @@ pub fn flat_is_written_out(
 )
     requires compiled { IsCompiled read.now checks.now compiled.now }
     requires encoded { IsEncoded compiled.now slots Adl value.now }
-    ensures { IsEncoded compiled.now slots Flat (written_out (slots_of compiled.now slots) value.now) }
+    ensures { IsEncoded compiled.now slots Flat
+        (written_out (slots_of compiled.now slots) value.now) }
 {}

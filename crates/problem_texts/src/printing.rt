@@ -30,7 +30,8 @@ pub fn texts_of(
 ) -> Result<Texts, Memory>
     requires compiled { IsCompiledProblem c.now }
     requires listed { AreListed c.now.hddl.types }
-    ensures printed { IfOk result (λ texts. ArePrinted c.now slots style.now texts.domain texts.problem) }
+    ensures printed { IfOk result
+        (λ texts. ArePrinted c.now slots style.now texts.domain texts.problem) }
 {
     let value = encode(alloc, c, slots, &Style::Adl)?;
     let texts = texts_in_style(alloc, c, slots, style, &value, sizes);

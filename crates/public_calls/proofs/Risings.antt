@@ -8,8 +8,8 @@ use Rattle.plan_model.specs.declared.schemas.MethodSchema.{MethodSchema}
 use Rattle.plan_model.specs.declared.values.Hddl.{Hddl}
 use Rattle.plan_model.specs.Pairs.{pair, Pairs}
 use Rattle.plan_meaning.specs.Laws.{AreOrdered}
-use Rattle.plan_texts.specs.SoundProblem.{IsSmallNetwork, HasSmallNetworks}
-use Rattle.plan_texts.proofs.SoundProblems.{small_networks}
+use Rattle.plan_texts.specs.SoundProblem.{IsSmallMethod, HasSmallMethods}
+use Rattle.plan_texts.proofs.SoundProblems.{small_methods}
 use Rattle.public_calls.specs.Rising.{AreRising, IsRising}
 
 rises : (count : ℕ) (pairs : List Pair) → AreRising count pairs → (i j : ℕ) → Pairs pairs i j → (i < j) × (j < count)
@@ -19,7 +19,7 @@ chain_rises : (count : ℕ) (pairs : List Pair) → AreRising count pairs → (i
 chain_rises count pairs up i j (direct c) = (rises count pairs up i j c).0
 chain_rises count pairs up i j (through {j = k} c d) = let a = chain_rises count pairs up i k c in let b = (rises count pairs up k j d).0 in omega arith
 
-small : (s : MethodSchema) → IsRising s → IsSmallNetwork s
+small : (s : MethodSchema) → IsRising s → IsSmallMethod s
 small s r = let l = r.few in record { subtasks = r.small; params = omega arith }
 
 module _ (h : Hddl) (top : IsRising h.top) (methods : All IsRising h.methods) where
@@ -33,5 +33,5 @@ module _ (h : Hddl) (top : IsRising h.top) (methods : All IsRising h.methods) wh
         λ i p. (let l = chain_rises (length s.children) s.pairs r.rising i i p in omega arith),
       )
 
-  pub small_by_rising : HasSmallNetworks h
-  small_by_rising = small_networks h (λ s c. small s (each s c))
+  pub small_by_rising : HasSmallMethods h
+  small_by_rising = small_methods h (λ s c. small s (each s c))

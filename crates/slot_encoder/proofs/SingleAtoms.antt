@@ -4,7 +4,7 @@ use Rattle.std.proofs.lemmas.List.{take_more}
 use Rattle.plan_model.specs.declared.terms.GroundAtom.{GroundAtom}
 use Rattle.plan_meaning.specs.Compilation.{once}
 use Rattle.slot_encoding.specs.EncodedValue.{same_atom}
-use Rattle.printed_sizes.proofs.Once.{has, if_new, once-behind}
+use Rattle.plan_meaning.proofs.Once.{has, if_new, once-behind}
 
 module _ (xs : List GroundAtom) (i : ℕ) (x : GroundAtom) (l : i < length xs) (is : x ≡ get_or xs i x) where
   pub single_next : (old now next : List GroundAtom) (there new : Bool) → now ≡ old ++ once same_atom (take i xs) → there ≡ has same_atom x (take i xs) → new ≡ not there

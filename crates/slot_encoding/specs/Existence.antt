@@ -1,7 +1,7 @@
 -- That a compiled problem has an encoded value.
 -- Source: this project's.
 use Rattle.std.specs.Prelude.{ℕ}
-use Rattle.htn_base.specs.Table.{AllDiffer}
+use Rattle.htn_base.specs.Different.{AreDifferent}
 use Rattle.plan_model.specs.declared.options.Style.{Style}
 use Rattle.plan_model.specs.declared.values.Compiled.{Compiled}
 use Rattle.plan_model.specs.declared.values.Pddl.{Pddl}
@@ -13,4 +13,4 @@ pub record HasEncodedValue (c : Compiled) (b : ℕ) (style : Style) : Type 0 whe
   pub value : Pddl
   pub encoded : IsEncoded c b style value
   pub words : HasEncodedWords c b value.names
-  pub differ : AllDiffer value.names
+  pub differ : AreDifferent value.names

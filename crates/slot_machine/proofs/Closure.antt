@@ -6,7 +6,7 @@ use Rattle.task_networks.specs.Net.{Net}
 use Rattle.task_networks.specs.Lawful.{IsLawful}
 use Rattle.task_networks.specs.Tree.{Tree, Address, IsAddress, IsAbove, label_at, IsOpen, waits, used, IsProcessed}
 use Rattle.task_networks.specs.Schedule.{Blocks, IsSchedule, MustPrecede}
-use Rattle.task_networks.specs.Pending.{AreDifferent}
+use Rattle.htn_base.specs.Different.{AreDifferent}
 use Rattle.task_networks.proofs.Addresses.{below_below, below_up, below-itself}
 use Rattle.task_networks.proofs.Different.{no_more}
 use Rattle.task_networks.proofs.Lists.{Contains-here, head_or_tail, not-in_empty, cut_at}

@@ -1,6 +1,6 @@
 -- A slot put into a list of slots.
 use Rattle.std.proofs.Common.{ℕ, zero, suc, ◌≡◌, ◌≤◌, ◌⊎◌, inl, inr, List, [], ◌∷◌, length, slice_index, refl, ap, sym, Contains, arith}
-use Rattle.task_networks.specs.Pending.{AreDifferent}
+use Rattle.htn_base.specs.Different.{AreDifferent}
 use Rattle.task_networks.proofs.Lists.{head_or_tail, Contains-later, not-in_empty}
 use Rattle.slot_machine.specs.Machine.{insert_at}
 

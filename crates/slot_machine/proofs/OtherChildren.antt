@@ -5,7 +5,7 @@ use Rattle.std.proofs.lemmas.Option.{slice_get_within}
 use Rattle.std.proofs.Math.Decide.{ℕ_discrete}
 use Rattle.task_networks.specs.Net.{Net, count}
 use Rattle.task_networks.specs.Lawful.{IsLawful}
-use Rattle.task_networks.specs.Pending.{AreDifferent}
+use Rattle.htn_base.specs.Different.{AreDifferent}
 use Rattle.task_networks.specs.Spelling.{numbers, is_heir, others}
 use Rattle.task_networks.proofs.Filters.{filter_to, to_filter, different-filter}
 use Rattle.task_networks.proofs.Lists.{Contains-later, not-in_empty, head_or_tail, Contains-here}

@@ -6,7 +6,7 @@ use Rattle.task_networks.specs.Net.{Net, count}
 use Rattle.task_networks.specs.Lawful.{IsLawful}
 use Rattle.task_networks.specs.Tree.{Address, Tree, IsAddress, at, waits, ran, IsOpen, label, used, label_at, Label, open_leaf, IsGrown, work_of, IsProcessed, IsTaken}
 use Rattle.task_networks.specs.Schedule.{IsDue}
-use Rattle.task_networks.specs.Pending.{AreDifferent}
+use Rattle.htn_base.specs.Different.{AreDifferent}
 use Rattle.task_networks.specs.Spelling.{Act, run, apply, Spells, IsAct, others, label_of}
 use Rattle.task_networks.proofs.Addresses.{is_same_address}
 use Rattle.task_networks.proofs.Lists.{by_push}

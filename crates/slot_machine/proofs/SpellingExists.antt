@@ -9,7 +9,8 @@ use Rattle.task_networks.specs.Net.{Net, count}
 use Rattle.task_networks.specs.Lawful.{IsLawful}
 use Rattle.task_networks.specs.Tree.{Address, at, Tree, IsOpen, Label, waits, label, label_at, IsTaken, ran, used, IsGrown, work_of, open_leaf, IsProcessed}
 use Rattle.task_networks.specs.Schedule.{IsSchedule, IsDue}
-use Rattle.task_networks.specs.Pending.{AreDifferent, IsWithin, IsPending}
+use Rattle.htn_base.specs.Different.{AreDifferent}
+use Rattle.task_networks.specs.Pending.{IsWithin, IsPending}
 use Rattle.task_networks.specs.Spelling.{others, Act, label_of, run, apply, Spells}
 use Rattle.task_networks.proofs.Different.{different_append, different_without, within_whole, without_cases, length_whole}
 use Rattle.task_networks.proofs.Lists.{not-in_empty, head_or_tail, Contains-later, cut_at, by_push}

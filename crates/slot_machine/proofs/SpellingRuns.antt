@@ -6,7 +6,7 @@ use Rattle.task_networks.specs.Net.{Net, count}
 use Rattle.task_networks.specs.Lawful.{IsLawful}
 use Rattle.task_networks.specs.Tree.{Tree, Address, open_leaf, at, label, Label, IsTaken, IsGrown, work_of, IsOpen, waits, label_at, ran, used}
 use Rattle.task_networks.specs.Schedule.{IsDue, Blocks}
-use Rattle.task_networks.specs.Pending.{AreDifferent}
+use Rattle.htn_base.specs.Different.{AreDifferent}
 use Rattle.task_networks.specs.Spelling.{Act, label_of, Spells, IsAct, AreActs, run, apply, numbers, others}
 use Rattle.task_networks.proofs.Lists.{by_push}
 use Rattle.slot_machine.specs.Machine.{SlotState, Runs, May, end_of, after_act, with_heir, IsUnblocked, IsSlotOf, start}

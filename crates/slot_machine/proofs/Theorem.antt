@@ -4,7 +4,8 @@ use Rattle.std.proofs.lemmas.List.{length-map}
 use Rattle.task_networks.specs.Net.{Net}
 use Rattle.task_networks.specs.Lawful.{IsLawful}
 use Rattle.task_networks.specs.Tree.{Tree, Address, IsOpen, Label}
-use Rattle.task_networks.specs.Pending.{IsWithin, AreDifferent, IsPending}
+use Rattle.htn_base.specs.Different.{AreDifferent}
+use Rattle.task_networks.specs.Pending.{IsWithin, IsPending}
 use Rattle.task_networks.specs.Executable.{AreLabels}
 use Rattle.task_networks.specs.Spelling.{run, Act, Spells, apply, numbers, AreActs, label_of}
 use Rattle.task_networks.proofs.Different.{no_more}

@@ -1,7 +1,7 @@
 -- Slots: a number that isn't used, and one put into a list.
 use Rattle.std.proofs.Common.{ℕ, zero, suc, ◌≡◌, ◌+◌, ◌<◌, ◌≤◌, inl, inr, List, [], ◌∷◌, ◌++◌, length, slice_index, refl, ap, sym, subst, Contains, arith}
 use Rattle.std.proofs.Math.Decide.{ℕ_discrete}
-use Rattle.task_networks.specs.Pending.{AreDifferent}
+use Rattle.htn_base.specs.Different.{AreDifferent}
 use Rattle.task_networks.proofs.Different.{length_whole, without_cases}
 use Rattle.task_networks.proofs.Lists.{not-in_empty, Contains-later, head_or_tail, cut_at, Contains-here}
 

@@ -3,7 +3,7 @@ use Rattle.std.specs.Prelude.{ℕ, ◌≡◌, List, length, Contains, Some}
 use Rattle.task_networks.specs.Net.{Net}
 use Rattle.task_networks.specs.Tree.{Tree, waits, Address, label_at, IsOpen}
 use Rattle.task_networks.specs.Schedule.{MustPrecede}
-use Rattle.task_networks.specs.Pending.{AreDifferent}
+use Rattle.htn_base.specs.Different.{AreDifferent}
 use Rattle.task_networks.specs.Spelling.{Act, run, apply, others}
 use Rattle.slot_machine.specs.Reached.{IsLeft}
 

@@ -2,7 +2,7 @@
 -- Source: the translation of Alford et al., "Bound to Plan", ICAPS 2016, with order pairs between slots. Slots count from 1.
 use Rattle.std.specs.Prelude.{ℕ, zero, suc, ◌≡◌, ◌<◌, ◌≤◌, ◌⊎◌, List, [], ◌∷◌, Option, Some, None, length, slice_get, Contains}
 use Rattle.task_networks.specs.Net.{Net, count}
-use Rattle.task_networks.specs.Pending.{AreDifferent}
+use Rattle.htn_base.specs.Different.{AreDifferent}
 use Rattle.task_networks.specs.Spelling.{Act, run, apply, others}
 
 -- a slot put into a list at a place

@@ -51,8 +51,10 @@ pub fn labels_are_of_acts<N: Network, T>(of: &T)
 /// Executable runs are the spelled fronts that are executable, and plans are the spelled solutions.
 pub fn plans_are_spelled_solutions<E: Execution, T>(of: &T)
     requires lawful { IsLawful E.net }
-    ensures fronts { RunsAreExecutableFronts E.net (E.atom → Type 0) E.allows E.next E.first E.goal }
-    ensures plans { PlansAreSpelledSolutions E.net (E.atom → Type 0) E.allows E.next E.first E.goal }
+    ensures fronts { RunsAreExecutableFronts E.net (E.atom → Type 0)
+        E.allows E.next E.first E.goal }
+    ensures plans { PlansAreSpelledSolutions E.net (E.atom → Type 0)
+        E.allows E.next E.first E.goal }
 {}
 
 /// Another machine whose steps agree at fronts takes the same lists of acts.

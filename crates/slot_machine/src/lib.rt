@@ -1,6 +1,6 @@
 //! The machine of slots, and what its runs are: the spelled fronts of a task network.
 //!
-//! It stands on task_networks alone, and no type of the layers above is in it. A crate above plugs in a network, an execution or
+//! It stands on `task_networks`, and no type of the layers above is in it. A crate above plugs in a network, an execution or
 //! another machine, and calls the law that it needs; `plans_are_spelled_solutions` and `other_takes_fronts` are the two that a
 //! classical encoding stands on.
 #![tactic(auto)]

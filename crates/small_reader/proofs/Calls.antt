@@ -13,11 +13,13 @@ use Rattle.text_forms.specs.Words.{Word, is_name, word_at, first_place}
 use Rattle.text_forms.specs.Printing.{headed}
 use Rattle.plan_texts.specs.Declared.{Declared}
 use Rattle.plan_texts.specs.TypedLists.{Each}
-use Rattle.plan_texts.specs.Types.{EachIs, Has, AreDifferent}
+use Rattle.htn_base.specs.Different.{AreDifferent}
+use Rattle.htn_base.proofs.DifferentLemmas.{different-left, different-right}
+use Rattle.plan_texts.specs.Types.{Has}
 use Rattle.plan_texts.specs.Sections.{bundle, bundle_by}
-use Rattle.plan_texts.specs.Networks.{head_of, id_words, IsCall, IsSubtask, IsNetwork, IsHeadOf, IsMethod, IsTop}
+use Rattle.plan_texts.specs.Networks.{head_of, ids_by_place, IsCall, IsSubtask, IsNetwork, IsHeadOf, IsMethod, IsTop}
 use Rattle.plan_texts.proofs.Basics.{bytes_eq-other, no_keyword'}
-use Rattle.plan_texts.proofs.Members.{each-has, has-at}
+use Rattle.plan_texts.proofs.Members.{each-has, lacks-each, has-at}
 use Rattle.plan_texts.proofs.Places.{first-different}
 use Rattle.plan_model.specs.declared.networks.Head.{Head}
 use Rattle.plan_model.specs.declared.networks.Head.TheVariants.{Task, Action, Check}
@@ -28,22 +30,12 @@ use Rattle.small_reader.specs.declared.written.WrittenProblem.{WrittenProblem}
 use Rattle.small_reader.specs.declared.schemas.Declarations.{Declarations}
 use Rattle.small_reader.specs.declared.written.Section.{Section}
 use Rattle.small_reader.specs.Binding.{children_of, method_schema, place_of, IsHead, IsNamed, IsTaskOf, IsActionOf, IsCalled, IsSubtaskOf, IsMethodOf, IsTopOf, AreSchemas}
-use Rattle.small_reader.specs.Tables.{Extends, Together}
+use Rattle.small_reader.specs.Tables.{Extends}
+use Rattle.plan_texts.specs.Together.{Together}
 use Rattle.small_reader.specs.Written.{task_of, action_of, method_of, subtask_part, subtask_parts, method_entries, method_part}
 use Rattle.small_reader.proofs.SchemaLemmas.{word-said, named-name, named-later, task-later, action-later, no-condition}
-use Rattle.small_reader.proofs.Tables.{says_later, extends_then, get-within, get-behind, together-map}
-
-different-front : (us ws : List Word) → AreDifferent (us ++ ws) → AreDifferent us
-different-front [] ws h = tt
-different-front (u ∷ us) ws h = (front us h.0, different-front us ws h.1)
-  where
-    front : (vs : List Word) → EachIs (λ v. u ≡ v → ⊥) (vs ++ ws) → EachIs (λ v. u ≡ v → ⊥) vs
-    front [] e = tt
-    front (v ∷ vs) e = (e.0, front vs e.1)
-
-different-behind : (us ws : List Word) → AreDifferent (us ++ ws) → AreDifferent ws
-different-behind [] ws h = h
-different-behind (u ∷ us) ws h = different-behind us ws h.1
+use Rattle.small_reader.proofs.Tables.{says_later, extends_then, get-within, get-behind}
+use Rattle.plan_texts.proofs.Together.{together-map}
 
 has-behind : (us ws : List Word) (w : Word) → Has ws w → Has (us ++ ws) w
 has-behind [] ws w h = h
@@ -52,7 +44,7 @@ has-behind (u ∷ us) ws w h = inr (has-behind us ws w h)
 not-there : (us ws : List Word) (w : Word) → AreDifferent (us ++ ws) → Has ws w → first_place w us ≡ None
 not-there [] ws w d h = refl
 not-there (u ∷ us) ws w d h =
-    let n : u ≡ w → ⊥ = each-has (λ v. u ≡ v → ⊥) (us ++ ws) w d.0 (has-behind us ws w h) in
+    let n : u ≡ w → ⊥ = λ e. each-has (λ v. u ≡ v → ⊥) (us ++ ws) w (lacks-each (us ++ ws) u d.0) (has-behind us ws w h) e in
     cond-false _ _ _ (bytes_eq-other w u (λ e. n (sym e))) ∙ ap (option_map suc) (not-there us ws w d.1 h)
 
 place-of : (ws : List Word) (k : ℕ) (w : Word) → AreDifferent ws → slice_get ws k ≡ Some w → first_place w ws ≡ Some k
@@ -70,7 +62,7 @@ module _ (tasks actions names : List Word) (front : Extends (tasks ++ actions) n
       ap (λ t. slice_get t k) front.is ∙ get-within (tasks ++ actions) front.more k n
 
   pub task-place : (t : ℕ) (w : Word) → t < length tasks → slice_get names t ≡ Some w → first_place w tasks ≡ Some t
-  task-place t w l e = place-of tasks t w (different-front tasks actions differ) (sym (get-within tasks actions t l) ∙ sym (at-front t (omega arith)) ∙ e)
+  task-place t w l e = place-of tasks t w (different-left tasks actions differ) (sym (get-within tasks actions t l) ∙ sym (at-front t (omega arith)) ∙ e)
 
   action-at : (a : ℕ) (w : Word) → length tasks + a < length tasks + length actions → slice_get names (length tasks + a) ≡ Some w → slice_get actions a ≡ Some w
   action-at a w l e = sym (get-behind tasks actions a) ∙ sym (at-front (length tasks + a) l) ∙ e
@@ -80,7 +72,7 @@ module _ (tasks actions names : List Word) (front : Extends (tasks ++ actions) n
     by-head (Task t) w l e = ap (λ o. head_of o (first_place w actions)) (task-place t w l e)
     by-head (Action a) w l e =
         let s = action-at a w l e in
-        (λ j. head_of (not-there tasks actions w differ (has-place actions a w s) j) (place-of actions a w (different-behind tasks actions differ) s j))
+        (λ j. head_of (not-there tasks actions w differ (has-place actions a w s) j) (place-of actions a w (different-right tasks actions differ) s j))
     by-head Check w l e = absurd l
 
     pub called-head : (h : Head) (i : ℕ) → IsCalled say names count calls h i → head_of (first_place (say i) tasks) (first_place (say i) actions) ≡ Some h
@@ -102,14 +94,14 @@ module _ (tasks actions names : List Word) (front : Extends (tasks ++ actions) n
             tt,
           )
 
-      pub network-spelled : (o : Option ℕ) (h : Option Head) → IsSubtaskOf say names count calls o h → IsNetwork v tasks actions [] (id_words v (children_of h)) (children_of h) [] [] (subtask_parts say o)
+      pub network-spelled : (o : Option ℕ) (h : Option Head) → IsSubtaskOf say names count calls o h → IsNetwork v tasks actions [] (ids_by_place v (children_of h)) (children_of h) [] [] (subtask_parts say o)
       network-spelled o h c = record {
         children_spelled = subtask-spelled [] o h c;
         ordered = record { written = []; pairs_are = refl; pairs_spelled = tt };
         constraints_spelled = tt;
       }
 
-      pub method-network : (w : WrittenMethod) (h : Option Head) → IsSubtaskOf say names count calls w.subtask h → IsNetwork v tasks actions [] (id_words v (children_of h)) (children_of h) [] [] (method_entries say w)
+      pub method-network : (w : WrittenMethod) (h : Option Head) → IsSubtaskOf say names count calls w.subtask h → IsNetwork v tasks actions [] (ids_by_place v (children_of h)) (children_of h) [] [] (method_entries say w)
       method-network w h c = record {
         children_spelled = subtask-spelled [] w.subtask h c;
         ordered = record { written = []; pairs_are = refl; pairs_spelled = tt };

@@ -2,8 +2,8 @@
 use Rattle.std.proofs.Common.{◌≡◌, ℕ, ◌+◌, ◌<◌, length, get_or, map, take, List, [], ◌∷◌, ◌++◌, ap, sym, subst, ◌∙◌, append_assoc}
 use Rattle.std.proofs.lemmas.List.{take_more, map-append}
 use Rattle.text_forms.specs.Words.{Word}
-use Rattle.small_reader.specs.Tables.{Together}
-use Rattle.small_reader.proofs.Tables.{together-push}
+use Rattle.plan_texts.specs.Together.{Together}
+use Rattle.plan_texts.proofs.Together.{together-push}
 
 pub next_words : {X : Type 0} (f : X → Word) (old now new : List Word) (xs : List X) (i : ℕ) (d : X) → i < length xs → now ≡ old ++ map f (take i xs) → new ≡ now ++ f (get_or xs i d) ∷ [] → new ≡ old ++ map f (take (i + 1) xs)
 next_words f old now new xs i d l e n =

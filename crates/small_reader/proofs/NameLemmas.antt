@@ -1,5 +1,5 @@
 -- Words of a name table: which a name stands for, that they differ, and which of them is a NAME.
-use Rattle.std.proofs.Common.{◌≡◌, ℕ, zero, suc, ◌+◌, ◌<◌, ◌≤◌, ◌^◌, length, get_or, Bool, true, false, not, ◌&&◌, ◌==◌, if◌then◌else◌, Some, List, [], ◌∷◌, ◌++◌, refl, sym, ◌∙◌, ap, subst, arith}
+use Rattle.std.proofs.Common.{◌≡◌, ℕ, zero, ◌+◌, ◌<◌, ◌≤◌, ◌^◌, length, get_or, Bool, true, false, not, ◌&&◌, ◌==◌, if◌then◌else◌, Some, List, [], ◌∷◌, ◌++◌, refl, sym, ◌∙◌, ap, subst, arith}
 use Rattle.std.specs.Prelude.{slice_get}
 use Rattle.std.specs.Char.{to_ascii_lowercase}
 use Rattle.std.specs.List.{list_all, list_any}
@@ -9,13 +9,13 @@ use Rattle.std.proofs.lemmas.List.{length_push}
 use Rattle.std.proofs.lemmas.List.Quantifiers.{position-Some}
 use Rattle.std.proofs.lemmas.Option.{slice_get-get_or, get_or_from_slice_get, same_Some}
 use Rattle.htn_base.specs.declared.name.Name.{Name}
-use Rattle.htn_base.specs.Table.{number_of, with_word, AllDiffer, IsTable}
+use Rattle.htn_base.specs.Table.{number_of, with_word, IsTable}
 use Rattle.htn_base.specs.Words.{is_reserved}
 use Rattle.text_forms.specs.Bytes.{is_letter}
 use Rattle.text_forms.specs.Printing.{are_folded}
 use Rattle.text_forms.specs.Words.{Word, is_name, word_at}
 use Rattle.plan_texts.specs.Printable.{IsPlain}
-use Rattle.plan_texts.specs.Types.{EachIs, AreDifferent}
+use Rattle.htn_base.specs.Different.{AreDifferent}
 use Rattle.plan_texts.proofs.Basics.{bytes_eq-true}
 use Rattle.small_reader.specs.Binding.{IsNamed}
 use Rattle.small_reader.specs.Plain.{begins_plain, is_plain}
@@ -26,16 +26,8 @@ says_found ws w n e =
     let p = position-Some (bytes_eq w) ws n [] e in
     slice_get-get_or ws n [] p.0 ∙ ap Some (sym (bytes_eq-true w (get_or ws n []) p.1))
 
-each-index : (P : Word → Type 0) (ws : List Word) → ((k : ℕ) → k < length ws → P (get_or ws k [])) → EachIs P ws
-each-index P [] h = tt
-each-index P (w ∷ ws) h = (h 0 (omega arith), each-index P ws (λ k l. h (suc k) (omega arith)))
-
-all-different : (ws : List Word) → AllDiffer ws → AreDifferent ws
-all-different [] h = tt
-all-different (w ∷ ws) h = (each-index (λ u. w ≡ u → ⊥) ws (λ k l. h 0 (suc k) [] (omega arith) (omega arith)), all-different ws (λ i j d l m. h (suc i) (suc j) d (omega arith) (omega arith)))
-
 pub table_differs : (ws : List Word) → IsTable ws → AreDifferent ws
-table_differs ws table = all-different ws table.differ
+table_differs ws table = table.differ
 
 -- a word that makes the table longer is its last
 pub new_word : (old new : List Word) (w : Word) → new ≡ with_word old w → (length new ≡ length old → ⊥) → new ≡ old ++ w ∷ []

@@ -20,8 +20,10 @@ use Rattle.plan_model.specs.declared.schemas.TaskSchema.{TaskSchema}
 use Rattle.plan_model.specs.declared.schemas.ActionSchema.{ActionSchema}
 use Rattle.plan_texts.proofs.Layers.{formula-And, effect-Both}
 use Rattle.small_reader.specs.Binding.{task_schema, action_schema, IsNamed, IsTaskOf, IsActionOf}
-use Rattle.small_reader.specs.Tables.{Says, Extends, Together}
+use Rattle.small_reader.specs.Tables.{Says, Extends}
+use Rattle.plan_texts.specs.Together.{Together}
 use Rattle.small_reader.specs.Written.{without_parameters, task_part, action_part}
+use Rattle.plan_texts.proofs.Together.{together-maps}
 use Rattle.small_reader.proofs.Tables.{says_later}
 
 pub word-said : (ws : List Word) (n : Name) (w : Word) → Says ws n w → named ws n ≡ w
@@ -54,10 +56,7 @@ each-part R Is view f (x ∷ xs) [] h = absurd h
 each-part R Is view f (x ∷ xs) (y ∷ ys) h = (f x y h.0, each-part R Is view f xs ys h.1)
 
 pub same-words : {X Y : Type 0} (R : X → Y → Type 0) (f : Y → Word) (g : X → Word) → ((x : X) (y : Y) → R x y → f y ≡ g x) → (xs : List X) (ys : List Y) → Together R xs ys → map f ys ≡ map g xs
-same-words R f g e [] [] h = refl
-same-words R f g e [] (y ∷ ys) h = absurd h
-same-words R f g e (x ∷ xs) [] h = absurd h
-same-words R f g e (x ∷ xs) (y ∷ ys) h = λ j. e x y h.0 j ∷ same-words R f g e xs ys h.1 j
+same-words R f g e xs ys h = sym (together-maps g f R (λ x y r. sym (e x y r)) xs ys h)
 
 -- an item of the one list has its partner
 pub partner : {X Y : Type 0} (R : X → Y → Type 0) (xs : List X) (ys : List Y) (k : ℕ) → Together R xs ys → k < length xs → (x : X) × (y : Y) × (slice_get ys k ≡ Some y) × R x y

@@ -6,7 +6,7 @@ use Rattle.htn_base.specs.declared.name.Name.{Name}
 use Rattle.task_networks.specs.Order.{Precedes, direct, through, ArePairsOf, IsAcyclic}
 use Rattle.text_forms.specs.Words.{Word}
 use Rattle.plan_texts.specs.Types.{EachIs}
-use Rattle.plan_texts.specs.SoundProblem.{all_methods, IsShort, IsSmallNetwork, IsSoundNetwork, IsWithinLimits, IsSoundProblem}
+use Rattle.plan_texts.specs.SoundProblem.{all_methods, IsShort, IsSmallMethod, IsSoundNetwork, IsWithinLimits, IsSoundProblem}
 use Rattle.plan_texts.proofs.Members.{contains-has}
 use Rattle.plan_texts.proofs.SoundProblems.{each-more, each-contains}
 use Rattle.plan_model.specs.Pairs.{Pairs}
@@ -21,17 +21,17 @@ use Rattle.plan_model.specs.declared.values.Hddl.{Hddl}
 use Rattle.small_reader.specs.declared.written.Section.{Section}
 use Rattle.small_reader.specs.Binding.{children_of, method_schema, hddl_of, IsTaskOf, IsActionOf, IsMethodOf, IsRead}
 use Rattle.small_reader.specs.Rest.{word_of}
-use Rattle.small_reader.specs.Tables.{Together}
+use Rattle.plan_texts.specs.Together.{Together}
 use Rattle.small_reader.specs.Written.{task_of, action_of, method_of}
 use Rattle.small_reader.proofs.SchemaLemmas.{each-from}
 use Rattle.small_reader.proofs.Sound.{sound}
-use Rattle.small_reader.proofs.Tables.{together-length}
+use Rattle.plan_texts.proofs.Together.{together-length}
 
 -- a method with at most one subtask and nothing else
 abbrev IsBare : MethodSchema → Type 0
 IsBare s = (n : Name) × (t : ℕ) × (o : Option Head) × (s ≡ method_schema n t o)
 
-small-bare : (n : Name) (t : ℕ) (o : Option Head) → IsSmallNetwork (method_schema n t o)
+small-bare : (n : Name) (t : ℕ) (o : Option Head) → IsSmallMethod (method_schema n t o)
 small-bare n t None = record { subtasks = omega arith; params = omega arith }
 small-bare n t (Some c) = record { subtasks = omega arith; params = omega arith }
 
@@ -94,7 +94,7 @@ module _ (domain problem : List ℕ) (h : Hddl) (r : IsRead domain problem h) wh
         task_params = each-from (IsTaskOf say b.names) (λ (t : TaskSchema). IsShort t.params) (λ i t m. subst (λ (u : TaskSchema). IsShort u.params) (sym m.1) (omega arith)) (filter_map task_of r.written.sections) x.tasks are.tasks;
         action_params = each-from (IsActionOf say b.names) (λ (a : ActionSchema). IsShort a.params) (λ i a m. subst (λ (u : ActionSchema). IsShort u.params) (sym m.1) (omega arith)) (filter_map action_of r.written.sections) x.actions are.actions;
         method_params = each-more IsBare (λ (s : MethodSchema). IsShort s.params) (b.top ∷ x.methods) (λ s m. subst (λ (u : MethodSchema). IsShort u.params) (sym m.3) (omega arith)) bare;
-        networks = each-more IsBare IsSmallNetwork (b.top ∷ x.methods) (λ s m. subst IsSmallNetwork (sym m.3) (small-bare m.0 m.1 m.2)) bare;
+        networks = each-more IsBare IsSmallMethod (b.top ∷ x.methods) (λ s m. subst IsSmallMethod (sym m.3) (small-bare m.0 m.1 m.2)) bare;
       })
 
   -- what was read is a sound problem

@@ -5,7 +5,9 @@ use Rattle.std.specs.List.{filter_map}
 use Rattle.std.proofs.lemmas.List.{length-map}
 use Rattle.text_forms.specs.Words.{Word, word_at}
 use Rattle.plan_texts.specs.Declared.{Declared, named}
-use Rattle.plan_texts.specs.Types.{EachIs, AreDifferent}
+use Rattle.htn_base.specs.Different.{AreDifferent}
+use Rattle.htn_base.proofs.DifferentLemmas.{different-one}
+use Rattle.plan_texts.specs.Types.{EachIs}
 use Rattle.plan_texts.specs.Printable.{IsPlain, AreSoundParams, sound_step, IsSound, sound_effect_step, IsSoundEffect}
 use Rattle.plan_texts.specs.SpellsHddl.{hddl_words, task_words, action_words}
 use Rattle.plan_texts.specs.SoundValue.{arities, scope_of, method_words, IsSoundHead, IsSoundChild, IsSoundMethod, IsSoundHddl}
@@ -30,9 +32,9 @@ use Rattle.small_reader.specs.declared.written.WrittenProblem.{WrittenProblem}
 use Rattle.small_reader.specs.Rest.{word_of}
 use Rattle.small_reader.specs.Written.{task_of, action_of, method_of}
 use Rattle.small_reader.specs.Binding.{children_of, method_schema, IsHead, IsNamed, IsTaskOf, IsActionOf, IsCalled, IsSubtaskOf, IsMethodOf, IsTopOf, AreSchemas, AreTitles, hddl_of, IsRead}
-use Rattle.small_reader.specs.Tables.{Together}
+use Rattle.plan_texts.specs.Together.{Together}
 use Rattle.small_reader.proofs.SchemaLemmas.{word-said, named-plain, each-from, each-word, same-words, partner}
-use Rattle.small_reader.proofs.Tables.{together-length}
+use Rattle.plan_texts.proofs.Together.{together-length}
 use Rattle.small_reader.proofs.Spelled.{task-words, action-words, one-type}
 
 module _ (v : Declared) (counts : List ℕ) (scope : List Word) where
@@ -116,7 +118,7 @@ module _ (sd sp : ℕ → Word) (d : WrittenDomain) (p : WrittenProblem) (names 
     problem = named-plain sp names t.problem p.name are_titles.problem;
     words = record {
       types = subst (EachIs IsPlain) (sym one) ((refl, refl), tt);
-      types_differ = (tt, tt);
+      types_differ = different-one _;
       unions = tt;
       objects = tt;
       predicates = tt;

@@ -1,4 +1,4 @@
--- Tables that grow, and lists that go together.
+-- Tables that grow.
 use Rattle.std.proofs.Common.{◌≡◌, ℕ, zero, suc, ◌+◌, ◌<◌, length, Bool, true, false, if◌then◌else◌, Some, List, [], ◌∷◌, ◌++◌, refl, sym, ◌∙◌, ap, arith, append_assoc, zero-add}
 use Rattle.std.specs.Prelude.{slice_get}
 use Rattle.std.specs.List.{list_any}
@@ -6,7 +6,7 @@ use Rattle.std.specs.Str.{bytes_eq}
 use Rattle.std.proofs.lemmas.List.{append-nil}
 use Rattle.htn_base.specs.Table.{with_word}
 use Rattle.text_forms.specs.Words.{Word}
-use Rattle.small_reader.specs.Tables.{Extends, Together}
+use Rattle.small_reader.specs.Tables.{Extends}
 
 pub extends_same : (a : List Word) → Extends a a
 extends_same a = record { more = []; is = sym (append-nil a) }
@@ -38,23 +38,3 @@ get-within (z ∷ xs) ys (suc k) l = get-within xs ys k (omega arith)
 pub get-behind : (xs ys : List Word) (k : ℕ) → slice_get (xs ++ ys) (length xs + k) ≡ slice_get ys k
 get-behind [] ys k = ap (slice_get ys) (zero-add k)
 get-behind (z ∷ xs) ys k = let n : suc (length xs) + k ≡ suc (length xs + k) = omega arith in ap (slice_get (z ∷ (xs ++ ys))) n ∙ get-behind xs ys k
-
-module _ {X Y : Type 0} (R S : X → Y → Type 0) where
-  pub together-map : ((x : X) (y : Y) → R x y → S x y) → (xs : List X) (ys : List Y) → Together R xs ys → Together S xs ys
-  together-map f [] [] h = tt
-  together-map f [] (y ∷ ys) h = h
-  together-map f (x ∷ xs) [] h = h
-  together-map f (x ∷ xs) (y ∷ ys) h = (f x y h.0, together-map f xs ys h.1)
-
-module _ {X Y : Type 0} (R : X → Y → Type 0) where
-  pub together-push : (xs : List X) (ys : List Y) (x : X) (y : Y) → Together R xs ys → R x y → Together R (xs ++ x ∷ []) (ys ++ y ∷ [])
-  together-push [] [] x y h r = (r, tt)
-  together-push [] (v ∷ ys) x y h r = absurd h
-  together-push (u ∷ xs) [] x y h r = absurd h
-  together-push (u ∷ xs) (v ∷ ys) x y h r = (h.0, together-push xs ys x y h.1 r)
-
-  pub together-length : (xs : List X) (ys : List Y) → Together R xs ys → length xs ≡ length ys
-  together-length [] [] h = refl
-  together-length [] (y ∷ ys) h = absurd h
-  together-length (x ∷ xs) [] h = absurd h
-  together-length (x ∷ xs) (y ∷ ys) h = ap suc (together-length xs ys h.1)

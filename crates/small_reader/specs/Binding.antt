@@ -7,7 +7,7 @@ use Rattle.text_forms.specs.Lists.{written as written_as}
 use Rattle.text_forms.specs.Tokens.{symbols}
 use Rattle.text_forms.specs.Words.{Word}
 use Rattle.plan_texts.specs.Printable.{IsPlain}
-use Rattle.plan_texts.specs.Types.{AreDifferent}
+use Rattle.htn_base.specs.Different.{AreDifferent}
 use Rattle.plan_model.specs.declared.formulas.Formula.TheVariants.{And}
 use Rattle.plan_model.specs.declared.effects.Effect.TheVariants.{And as Both}
 use Rattle.plan_model.specs.declared.networks.Head.{Head}
@@ -24,7 +24,8 @@ use Rattle.small_reader.specs.declared.written.Section.{Section}
 use Rattle.small_reader.specs.declared.written.WrittenMethod.{WrittenMethod}
 use Rattle.small_reader.specs.declared.written.WrittenDomain.{WrittenDomain}
 use Rattle.small_reader.specs.declared.written.WrittenProblem.{WrittenProblem}
-use Rattle.small_reader.specs.Tables.{Says, Extends, Together}
+use Rattle.small_reader.specs.Tables.{Says, Extends}
+use Rattle.plan_texts.specs.Together.{Together}
 use Rattle.small_reader.specs.Written.{task_of, action_of, method_of, domain_part, problem_part}
 use Rattle.small_reader.specs.Rest.{word_of}
 

@@ -5,7 +5,7 @@ ghost use Rattle.htn_base.specs.Table.{with_word};
 ghost use Rattle.htn_base.specs.Words.{folded};
 ghost use Rattle.text_forms.specs.Bytes.{is_letter};
 ghost use Rattle.plan_texts.specs.Printable.{IsPlain};
-ghost use Rattle.plan_texts.specs.Types.{AreDifferent};
+ghost use Rattle.htn_base.specs.Different.{AreDifferent};
 ghost use Rattle.small_reader.specs.Binding.{IsNamed};
 ghost use Rattle.small_reader.specs.Plain.{begins_plain, is_plain};
 ghost use Rattle.text_forms.specs.Words.{word_at};

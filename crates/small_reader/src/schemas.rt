@@ -1,9 +1,10 @@
 ghost use Rattle.std.specs.Prelude.{◌≡◌, [], ◌++◌, map, IfOk, OnOk};
 ghost use Rattle.std.specs.List.{filter_map};
-ghost use Rattle.plan_texts.specs.Types.{AreDifferent};
+ghost use Rattle.htn_base.specs.Different.{AreDifferent};
 ghost use Rattle.small_reader.specs.Binding.{action_schema, children_of, method_schema, task_schema, AreSchemas, IsActionOf, IsMethodOf, IsTaskOf};
 ghost use Rattle.small_reader.specs.Rest.{word_of};
-ghost use Rattle.small_reader.specs.Tables.{Extends, Together};
+ghost use Rattle.small_reader.specs.Tables.{Extends};
+ghost use Rattle.plan_texts.specs.Together.{Together};
 ghost use Rattle.small_reader.specs.Written.{task_of, action_of, method_of};
 
 use crate::heads::Heads;

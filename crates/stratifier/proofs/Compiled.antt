@@ -1,9 +1,7 @@
 -- The compiled methods of a problem whose networks have no cycle.
-use Rattle.std.proofs.Common.{ℕ, List, ◌∷◌, length, get_or, sym, subst}
+use Rattle.std.proofs.Common.{◌∷◌, length, get_or, sym, subst}
 use Rattle.std.proofs.lemmas.Option.{slice_get-get_or}
-use Rattle.std.proofs.lemmas.List.Elements.{Contains-get_or}
 use Rattle.task_networks.specs.Order.{ArePairsOf, IsAcyclic}
-use Rattle.plan_model.specs.declared.networks.Pair.{Pair}
 use Rattle.plan_model.specs.declared.options.Checks.{Checks}
 use Rattle.plan_model.specs.declared.schemas.MethodSchema.{MethodSchema}
 use Rattle.plan_model.specs.declared.values.Hddl.{Hddl}
@@ -13,11 +11,8 @@ use Rattle.plan_meaning.specs.Compilation.{IsCompiled}
 use Rattle.plan_meaning.specs.Laws.{AreOrdered}
 use Rattle.plan_meaning.proofs.Pairs.{pairs_within, pairs_acyclic}
 use Rattle.plan_meaning.proofs.CompiledNetworks.{plan_of}
-use Rattle.net_order.specs.Meaning.{AreBelow}
+use Rattle.net_order.proofs.Chains.{below_from_pairs}
 use Rattle.stratifier.specs.Conditions.{HaveNoCycle}
-
-below_from_pairs : (count : ℕ) (ps : List Pair) → ArePairsOf (Pairs ps) count → AreBelow count ps
-below_from_pairs count ps w k d l = w (get_or ps k d).first (get_or ps k d).then (Contains-get_or ps k d l)
 
 pub have_no_cycle : (h : Hddl) (mode : Checks) (c : Compiled) → AreOrdered h → IsCompiled h mode c → HaveNoCycle c
 have_no_cycle h mode c ordered compiled k d l =

@@ -1,5 +1,6 @@
 -- Tasks that are entered one after another.
 use Rattle.std.proofs.Common.{ℕ, ◌≡◌, ◌+◌, ◌<◌, ◌⊎◌, ◌↔◌, inl, inr, List, [], ◌∷◌, ◌++◌, length, Bool, true, false, cond, get_or, set, take, Contains, refl, sym, subst, ap, ◌∙◌, arith, length-set}
+use Rattle.std.proofs.lemmas.Bool.{false≢true}
 use Rattle.std.proofs.lemmas.List.{take_more, length_push}
 use Rattle.std.proofs.lemmas.List.Sums.{sum_by-set}
 use Rattle.std.proofs.lemmas.List.Elements.{Contains-push, Contains-push_cases, Contains-append_left}
@@ -55,7 +56,7 @@ entered_one u old new l n e f = record {
   kept = λ t c. subst (λ s. Contains s t) (sym f) (Contains-append_left old.work.items (u ∷ []) t c);
   added = λ t c. elim (Contains-push_cases old.work.items u t (subst (λ s. Contains s t) f c)) [
     | inl h ↦ inl h
-    | inr h ↦ inr (subst (λ s. IsMarked s t) (sym e) (subst (IsMarked (set old.marks.items u true)) h (set_is_marked old.marks.items u l)))
+    | inr h ↦ inr (subst (λ s. IsMarked s t) (sym e) (subst (IsMarked (set old.marks.items u true)) h (set_is_marked old.marks.items u l)), λ m. false≢true (sym n ∙ subst (IsMarked old.marks.items) (sym h) m))
   ];
   to_do = λ t m. elim (set_marks old.marks.items u t (subst (λ s. IsMarked s t) e m)) [
     | inl h ↦ inr (subst (λ s. Contains s t) (sym f) (subst (Contains (old.work.items ++ u ∷ [])) (sym h) (Contains-push old.work.items u)))
@@ -96,7 +97,10 @@ entered_more parts old mid new a b = record {
     ],
   );
   kept = λ t c. b.kept t (a.kept t c);
-  added = λ t c. elim (b.added t c) [ inl h ↦ elim (a.added t h) [ inl k ↦ inl k | inr k ↦ inr ((b.marks t).1 (inl k)) ] | inr h ↦ inr h ];
+  added = λ t c. elim (b.added t c) [
+    | inl h ↦ elim (a.added t h) [ inl k ↦ inl k | inr k ↦ inr ((b.marks t).1 (inl k.0), k.1) ]
+    | inr h ↦ inr (h.0, λ m. h.1 ((a.marks t).1 (inl m)))
+  ];
   to_do = λ t m. elim (b.to_do t m) [ inl h ↦ elim (a.to_do t h) [ inl k ↦ inl k | inr k ↦ inr (b.kept t k) ] | inr h ↦ inr h ];
   many = b.many ∙ a.many;
 }
@@ -152,3 +156,16 @@ subtask_of_more methods places k d l plan is t = (
   where
     same : (p q : MethodPlan) → Some p ≡ Some q → p ≡ q
     same p q e = cc
+
+-- the tasks at the first places
+pub none_of : (tasks : List ℕ) (t : ℕ) → Contains (take 0 tasks) t → ⊥
+none_of tasks t c = let l = c.1 in omega arith
+
+pub one_of_more : (tasks : List ℕ) (k d : ℕ) → k < length tasks → (t : ℕ) → Contains (take (k + 1) tasks) t ↔ (Contains (take k tasks) t ⊎ (t ≡ get_or tasks k d))
+one_of_more tasks k d l t = (
+  λ c. elim (Contains-push_cases (take k tasks) (get_or tasks k d) t (subst (λ s. Contains s t) (take_more tasks k d l) c)) [ inl h ↦ inl h | inr e ↦ inr (sym e) ],
+  λ h. subst (λ s. Contains s t) (sym (take_more tasks k d l)) (elim h [
+    | inl c ↦ Contains-append_left (take k tasks) (get_or tasks k d ∷ []) t c
+    | inr e ↦ subst (Contains (take k tasks ++ get_or tasks k d ∷ [])) (sym e) (Contains-push (take k tasks) (get_or tasks k d))
+  ]),
+)

@@ -9,14 +9,15 @@ use Rattle.plan_model.specs.declared.schemas.MethodPlan.{MethodPlan}
 use Rattle.plan_model.specs.declared.values.Compiled.{Compiled}
 use Rattle.plan_model.specs.Parts.{IsMarked}
 use Rattle.task_networks.specs.Bound.{IsReached}
-use Rattle.task_networks.proofs.Lists.{not-in_empty, head_or_tail, Contains-here, Contains-later}
+use Rattle.task_networks.proofs.Lists.{not-in_empty, head_or_tail, Contains-here}
 use Rattle.plan_meaning.specs.Network.{top_task}
 use Rattle.plan_meaning.specs.Schemas.{Schema, task, schemas, schema_of}
-use Rattle.plan_meaning.specs.Strata.{Edge, IsEdge, IsEarlier, AreEdges, IsReachedTask}
+use Rattle.plan_meaning.specs.Strata.{Edge, IsEdge, AreEdges, IsReachedTask}
 use Rattle.plan_meaning.proofs.MethodParts.{head_schema_by, schemas_by}
+use Rattle.plan_meaning.proofs.EdgesInOrder.{AreInOrder, one_after_another, both_in_order}
 use Rattle.htn_base.specs.declared.memory.Memory.{Memory}
 use Rattle.stratifier.specs.declared.edge.Edge as Declared
-use Rattle.stratifier.specs.Conditions.{AreSmall}
+use Rattle.stratifier.specs.Conditions.{IsSmallCompiled}
 use Rattle.stratifier.specs.Listed.{edge_of, edges_to, edges_from, edges_of}
 use Rattle.std.specs.Prelude.{Result, Ok, Err, IfOk}
 
@@ -120,27 +121,6 @@ to_from m i (x ∷ xs) (suc k) t e =
     let g : suc i + k ≡ i + suc k = omega arith in
     Contains-append_right (edges_to m i x.head) (edges_from m (suc i) xs) _ (subst (λ n. Contains (edges_from m (suc i) xs) (record { method = m; child = n })) g (to_from m (suc i) xs k t e))
 
--- the edges in order, each before all later ones
-abbrev AreInOrder : List Edge → Type 0
-AreInOrder [] = Unit {0}
-AreInOrder (e ∷ es) = ((f : Edge) → Contains es f → IsEarlier e f) × AreInOrder es
-
-one_after_another : (before rest : List Edge) (e f : Edge) (es : List Edge) → AreInOrder es → es ≡ before ++ e ∷ f ∷ rest → IsEarlier e f
-one_after_another [] rest e f [] o s = absurd cc
-one_after_another [] rest e f (d ∷ es) o s =
-    let x : d ≡ e = cc in
-    let y : es ≡ f ∷ rest = cc in
-    subst (λ z. IsEarlier z f) x (o.0 f (subst (λ z. Contains z f) (sym y) (Contains-here f rest)))
-one_after_another (b ∷ before) rest e f [] o s = absurd cc
-one_after_another (b ∷ before) rest e f (d ∷ es) o s = one_after_another before rest e f es o.1 (let y : es ≡ before ++ e ∷ f ∷ rest = cc in y)
-
-both_in_order : (es fs : List Edge) → AreInOrder es → AreInOrder fs → ((e f : Edge) → Contains es e → Contains fs f → IsEarlier e f) → AreInOrder (es ++ fs)
-both_in_order [] fs o p q = p
-both_in_order (e ∷ es) fs o p q = (
-  λ f c. elim (Contains-append_cases es fs f c) [ inl a ↦ o.0 f a | inr b ↦ q e f (Contains-here e es) b ],
-  both_in_order es fs o.1 p (λ d f a b. q d f (Contains-later e es d a) b),
-)
-
 from_in_order : (m i : ℕ) (children : List Child) → AreInOrder (edges_from m i children)
 from_in_order m i [] = tt
 from_in_order m i (x ∷ xs) = both_in_order (edges_to m i x.head) (edges_from m (suc i) xs) (one x.head) (from_in_order m (suc i) xs)
@@ -225,7 +205,7 @@ module _ (marks : List Bool) where
           (subst (λ n. Contains (edges_from n 0 plan.schema.children) e) a (subst (λ n. Contains (edges_from e.method 0 plan.schema.children) (record { method = e.method; child = n })) b (to_from e.method 0 plan.schema.children e.child h.subtask s)))
 
 -- each method's task has a mark
-pub tasks_marked : (c : Compiled) → AreSmall c → (methods : List MethodPlan) (marks : List Bool) → methods ≡ c.methods → length marks ≡ top_task c + 1 → All (λ (plan : MethodPlan). plan.schema.task < length marks) methods
+pub tasks_marked : (c : Compiled) → IsSmallCompiled c → (methods : List MethodPlan) (marks : List Bool) → methods ≡ c.methods → length marks ≡ top_task c + 1 → All (λ (plan : MethodPlan). plan.schema.task < length marks) methods
 tasks_marked c small methods marks e room k d l =
     let n = small.numbered k d (subst (λ ms. k < length ms) e l) in
     let t = subst (λ ms. (get_or ms k d).schema.task ≤ top_task c) (sym e) n.task in

@@ -10,7 +10,7 @@ use Rattle.plan_model.specs.declared.schemas.MethodPlan.{MethodPlan}
 use Rattle.plan_model.specs.declared.values.Compiled.{Compiled}
 use Rattle.plan_model.specs.Parts.{IsMarked}
 use Rattle.plan_model.proofs.Marks.{marked_within}
-use Rattle.stratifier.specs.Conditions.{AreSmall, IsNumbered}
+use Rattle.stratifier.specs.Conditions.{IsSmallCompiled, IsNumbered}
 use Rattle.task_networks.specs.Bound.{IsReached, itself, as_child}
 use Rattle.task_networks.proofs.Lists.{not-in_empty}
 use Rattle.plan_meaning.specs.Network.{top_task}
@@ -70,7 +70,7 @@ module _ (c : Compiled) where
     room = h.room ∙ room;
     top_marked = (h.marks (top_task c)).1 (inr refl);
     reached = λ t m. elim ((h.marks t).0 m) [ inl o ↦ absurd (not_old t o) | inr e ↦ subst (IsReachedTask c) (sym e) itself ];
-    to_do = λ t k. elim (h.added t k) [ inl o ↦ absurd (not-in_empty t (subst (λ s. Contains s t) empty o)) | inr m ↦ m ];
+    to_do = λ t k. elim (h.added t k) [ inl o ↦ absurd (not-in_empty t (subst (λ s. Contains s t) empty o)) | inr m ↦ m.0 ];
     done = λ t m. elim (h.to_do t m) [ inl o ↦ absurd (not_old t o) | inr k ↦ inl k ];
   }
     where
@@ -83,7 +83,7 @@ module _ (c : Compiled) where
     room = h.room ∙ (ap length same ∙ w.room);
     top_marked = kept (top_task c) w.top_marked;
     reached = λ u m. elim ((h.marks u).0 m) [ inl o ↦ w.reached u (subst (λ s. IsMarked s u) same o) | inr n ↦ next_reached u n ];
-    to_do = λ u k. elim (h.added u k) [ inl o ↦ kept u (w.to_do u (subst (λ s. Contains s u) (sym e) (Contains-append_left old.work.items (t ∷ []) u o))) | inr m ↦ m ];
+    to_do = λ u k. elim (h.added u k) [ inl o ↦ kept u (w.to_do u (subst (λ s. Contains s u) (sym e) (Contains-append_left old.work.items (t ∷ []) u o))) | inr m ↦ m.0 ];
     done = λ u m. elim (h.to_do u m) [
       | inl o ↦ elim (w.done u (subst (λ s. IsMarked s u) same o)) [
         | inl k ↦ elim (Contains-push_cases old.work.items t u (subst (λ s. Contains s u) e k)) [
@@ -134,7 +134,7 @@ module _ (c : Compiled) where
       let r = w.room in
       omega arith
 
-  pub next_within : AreSmall c → (methods : List MethodPlan) (places : List ℕ) → methods ≡ c.methods → (t : ℕ) → IsSubtaskOf methods places t → t ≤ top_task c
+  pub next_within : IsSmallCompiled c → (methods : List MethodPlan) (places : List ℕ) → methods ≡ c.methods → (t : ℕ) → IsSubtaskOf methods places t → t ≤ top_task c
   next_within small methods places e t (m, k, plan, f, s) =
       let g = ap (λ ms. slice_get ms m) (sym e) ∙ f in
       let n = small.numbered m plan (slice_get_within c.methods m plan g) in

@@ -15,15 +15,15 @@ pub record IsNumbered (top : ℕ) (plan : MethodPlan) : Type 0 where
   pub subtasks : (t : ℕ) → IsSubtask plan.schema.children t → t ≤ top
 
 -- at most 4,096 subtasks and the check
-pub record IsSmallNetwork (plan : MethodPlan) : Type 0 where
+pub record IsSmallMethod (plan : MethodPlan) : Type 0 where
   pub children : length plan.schema.children ≤ 4097
   pub pairs : length plan.schema.pairs < 2 ^ 32
 
-pub record AreSmall (c : Compiled) : Type 0 where
+pub record IsSmallCompiled (c : Compiled) : Type 0 where
   pub tasks : top_task c < 2 ^ 32
   pub methods : length c.methods < 2 ^ 32
   pub numbered : All (IsNumbered (top_task c)) c.methods
-  pub networks : All IsSmallNetwork c.methods
+  pub networks : All IsSmallMethod c.methods
 
 -- the pairs are of children, and have no cycle
 pub record IsOrdered (plan : MethodPlan) : Type 0 where

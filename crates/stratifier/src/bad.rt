@@ -1,6 +1,6 @@
 ghost use Rattle.std.specs.Prelude.{◌≡◌, ◌≢◌, ◌↔◌, All, IsTrue, Some, map, IfOk};
 ghost use Rattle.plan_meaning.specs.Strata.{AreEdges};
-ghost use Rattle.stratifier.specs.Conditions.{AreSmall, HaveNoCycle, IsOrdered, IsSmallNetwork};
+ghost use Rattle.stratifier.specs.Conditions.{IsSmallCompiled, HaveNoCycle, IsOrdered, IsSmallMethod};
 ghost use Rattle.stratifier.specs.Listed.{edge_of};
 ghost use Rattle.stratifier.specs.Bad.{AreBadMarks, AreLasts, IsLastOf};
 
@@ -12,7 +12,7 @@ use std::alloc::Global;
 
 /// For each of the edges whether it is bad: whether its child isn't the last of its method.
 pub fn bad_marks(alloc: Global, c: &Compiled, edges: &List<Edge>) -> Result<List<bool>, Memory>
-    requires small { AreSmall c.now }
+    requires small { IsSmallCompiled c.now }
     requires ordered { HaveNoCycle c.now }
     requires edges { AreEdges c.now (map edge_of edges.now) }
     ensures bad { IfOk result (AreBadMarks c.now edges.now) }
@@ -37,7 +37,7 @@ fn is_other(last: Option<u32>, child: u32) -> bool
 
 /// For each method its last child, if it has one.
 fn last_children(alloc: Global, methods: &[MethodPlan]) -> Result<Vec<Option<u32>>, Memory>
-    requires small { All IsSmallNetwork methods.now }
+    requires small { All IsSmallMethod methods.now }
     requires ordered { All IsOrdered methods.now }
     ensures lasts { IfOk result (λ lasts. AreLasts methods.now lasts.items) }
 {
@@ -50,7 +50,7 @@ fn last_children(alloc: Global, methods: &[MethodPlan]) -> Result<Vec<Option<u32
 
 /// The child that all others of the method precede, if there is one.
 fn last_child(alloc: Global, plan: &MethodPlan) -> Result<Option<u32>, Memory>
-    requires small { IsSmallNetwork plan.now }
+    requires small { IsSmallMethod plan.now }
     requires ordered { IsOrdered plan.now }
     ensures last { IfOk result (IsLastOf plan.now) }
 {

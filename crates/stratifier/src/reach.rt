@@ -1,9 +1,7 @@
-ghost use Rattle.std.specs.Prelude.{◌≡◌, ℕ, ◌+◌, ◌<◌, ◌≤◌, ◌↔◌, All, length, IfOk, OnOk, slice_index_or, false, [], ◌∷◌};
-ghost use Rattle.plan_meaning.specs.Strata.{IsReachedTask};
-ghost use Rattle.stratifier.specs.Conditions.{AreSmall};
-ghost use Rattle.stratifier.specs.Links.{IsSubtask, IsSubtaskOf};
-ghost use Rattle.stratifier.specs.Entered.{AreEntered};
-ghost use Rattle.plan_model.specs.Parts.{IsMarked};
+ghost use Rattle.std.specs.Prelude.{◌≡◌, ℕ, ◌+◌, ◌<◌, [], All, Contains, length, IfOk, OnOk};
+ghost use Rattle.stratifier.specs.Conditions.{IsSmallCompiled};
+ghost use Rattle.stratifier.specs.Links.{IsSubtask};
+ghost use Rattle.stratifier.specs.Entered.{AreEntered, AreReachedMarks, AreSubtasksEntered, AreUnmarked, HaveMarks};
 
 use crate::by_task::methods_by_task;
 use htn_base::Memory;
@@ -12,9 +10,9 @@ use std::alloc::Global;
 
 /// A mark for each task, the top task too: whether it is reached from the top.
 pub fn reached(alloc: Global, c: &Compiled) -> Result<Vec<bool>, Memory>
-    requires small { AreSmall c.now }
+    requires small { IsSmallCompiled c.now }
     ensures room { IfOk result (λ marks. length marks.items ≡ length c.now.hddl.tasks + 1) }
-    ensures reached { IfOk result (λ marks. (t : ℕ) → IsMarked marks.items t ↔ IsReachedTask c.now t) }
+    ensures reached { IfOk result (λ marks. AreReachedMarks c.now marks.items) }
 {
     let top = c.hddl.tasks.len();
     let methods = c.methods.as_slice();
@@ -27,18 +25,19 @@ pub fn reached(alloc: Global, c: &Compiled) -> Result<Vec<bool>, Memory>
     Ok(walk.marks)
 }
 
-/// A walk over the tasks: those that were entered are marked, and `work` has those that are still to be done.
+/// A walk over the tasks: those that were entered are marked, and `work` has those that are still
+/// to be done.
 #[derive(Drop)]
 pub struct Walk {
-    marks: Vec<bool>,
-    work: Vec<u32>,
+    pub marks: Vec<bool>,
+    pub work: Vec<u32>,
 }
 
 impl Walk {
     /// The walk over so many tasks that entered none.
-    fn new(alloc: Global, count: usize) -> Result<Walk, Memory>
+    pub fn new(alloc: Global, count: usize) -> Result<Walk, Memory>
         ensures room { IfOk result (λ walk. length walk.marks.items ≡ count) }
-        ensures empty { IfOk result (λ walk. (t : ℕ) → slice_index_or walk.marks.items t false ≡ false) }
+        ensures empty { IfOk result (λ walk. AreUnmarked walk.marks.items) }
         ensures nothing { IfOk result (λ walk. walk.work.items ≡ []) }
     {
         let marks = vec![in alloc; false; count]?;
@@ -49,13 +48,24 @@ impl Walk {
     }
 
     /// Enters the task, unless it was entered before.
-    fn enter(&mut self, task: u32) -> Result<(), Memory>
+    pub fn enter(&mut self, task: u32) -> Result<(), Memory>
         requires { task < length self.old.marks.items }
         ensures entered { OnOk result (AreEntered (λ t. t ≡ task) self.old self.new) }
     {
         if !self.marks[task as usize] {
             self.marks[task as usize] = true;
             self.work.push(task)?;
+        }
+        Ok(())
+    }
+
+    /// Enters each of the tasks.
+    pub fn enter_all(&mut self, tasks: &[u32]) -> Result<(), Memory>
+        requires { All (λ t. t < length self.old.marks.items) tasks.now }
+        ensures entered { OnOk result (AreEntered (Contains tasks.now) self.old self.new) }
+    {
+        for task in tasks {
+            self.enter(*task)?;
         }
         Ok(())
     }
@@ -76,8 +86,8 @@ impl Walk {
     /// Enters the tasks among the children of the methods at these places.
     fn enter_next(&mut self, methods: &[MethodPlan], places: &[u32]) -> Result<(), Memory>
         requires places { All (λ m. m < length methods.now) places.now }
-        requires tasks { (t : ℕ) → IsSubtaskOf methods.now places.now t → t < length self.old.marks.items }
-        ensures entered { OnOk result (AreEntered (IsSubtaskOf methods.now places.now) self.old self.new) }
+        requires tasks { HaveMarks methods.now places.now self.old }
+        ensures entered { OnOk result (AreSubtasksEntered methods.now places.now self.old self.new) }
     {
         for m in places {
             self.enter_subtasks(methods[*m as usize].schema.children.as_slice())?;

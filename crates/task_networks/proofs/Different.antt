@@ -1,7 +1,7 @@
 -- Lists of different elements.
 use Rattle.std.proofs.Common.{suc, ◌≡◌, ◌≤◌, ◌⊎◌, inl, inr, List, [], ◌∷◌, ◌++◌, length, refl, ap, sym, subst, Contains, arith}
 use Rattle.std.proofs.lemmas.List.Elements.{Contains-append_left, Contains-append_right, Contains-append_cases}
-use Rattle.task_networks.specs.Pending.{AreDifferent}
+use Rattle.htn_base.specs.Different.{AreDifferent}
 use Rattle.task_networks.proofs.Lists.{Contains-here, Contains-later, head_or_tail, cut_at}
 
 pub different_append : {A : Type 0} (xs ys : List A) → AreDifferent xs → AreDifferent ys → ((x : A) → Contains xs x → Contains ys x → ⊥) → AreDifferent (xs ++ ys)

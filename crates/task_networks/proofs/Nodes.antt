@@ -4,7 +4,7 @@ use Rattle.std.specs.Option.{option_and_then}
 use Rattle.std.proofs.lemmas.List.Elements.{Contains-append_left, Contains-append_right, Contains-append_cases}
 use Rattle.task_networks.specs.Net.{Net}
 use Rattle.task_networks.specs.Tree.{Tree, Address, at, Trees, split, child_at, children_of, open_leaf, done, none, more, IsAddress, label, IsOpen, waits, IsAbove, IsGrown, AreGrown, works_of}
-use Rattle.task_networks.specs.Pending.{AreDifferent}
+use Rattle.htn_base.specs.Different.{AreDifferent}
 use Rattle.task_networks.specs.PendingComputed.{nodes_at, nodes_from}
 use Rattle.task_networks.proofs.Addresses.{below-itself, below_up, not-below_parent, same_sibling}
 use Rattle.task_networks.proofs.Different.{different_append}

@@ -1,7 +1,7 @@
 -- The numbers from one on.
 use Rattle.std.proofs.Common.{ℕ, zero, suc, ◌≡◌, ◌+◌, ◌<◌, ◌≤◌, inl, inr, length, refl, ap, Contains, arith}
 use Rattle.std.proofs.Math.Decide.{ℕ_discrete}
-use Rattle.task_networks.specs.Pending.{AreDifferent}
+use Rattle.htn_base.specs.Different.{AreDifferent}
 use Rattle.task_networks.specs.Spelling.{numbers}
 use Rattle.task_networks.proofs.Lists.{not-in_empty, head_or_tail, Contains-later}
 

@@ -3,7 +3,7 @@ use Rattle.std.proofs.Common.{ℕ, zero, suc, ◌≡◌, ◌+◌, ◌<◌, ◌�
 use Rattle.std.proofs.Math.Decide.{ℕ_discrete}
 use Rattle.task_networks.specs.Order.{Precedes, direct, through, ArePairsOf, Among, IsAcyclic, IsMaximal}
 use Rattle.task_networks.specs.Net.{count}
-use Rattle.task_networks.specs.Pending.{AreDifferent}
+use Rattle.htn_base.specs.Different.{AreDifferent}
 use Rattle.task_networks.proofs.Different.{no_more}
 use Rattle.task_networks.proofs.Lists.{Contains-later, not-in_empty, head_or_tail}
 

@@ -4,7 +4,8 @@ use Rattle.std.proofs.Common.{eq-eqb}
 use Rattle.task_networks.specs.Net.{Net}
 use Rattle.task_networks.specs.Tree.{Address, at, Tree}
 use Rattle.task_networks.specs.Schedule.{IsBegun}
-use Rattle.task_networks.specs.Pending.{IsPending, AreDifferent, IsWithin}
+use Rattle.htn_base.specs.Different.{AreDifferent}
+use Rattle.task_networks.specs.Pending.{IsPending, IsWithin}
 use Rattle.task_networks.specs.PendingComputed.{same_address, is_listed, pending, is_pending, nodes_at}
 use Rattle.task_networks.proofs.Different.{no_more}
 use Rattle.task_networks.proofs.Filters.{filter_to, to_filter, different-filter}

@@ -1,7 +1,7 @@
 -- Rankings rule out bad cycles, and one cycle at most is the named one.
 use Rattle.std.proofs.Common.{ℕ, ◌≡◌, ◌≤◌, ◌⊎◌, inl, inr, List, [], ◌∷◌, ◌++◌, length, refl, ap, sym, subst, ◌∙◌, Contains, arith}
 use Rattle.std.proofs.lemmas.List.Elements.{Contains-append_right}
-use Rattle.task_networks.specs.Pending.{AreDifferent}
+use Rattle.htn_base.specs.Different.{AreDifferent}
 use Rattle.task_networks.specs.Laws.{RankedIsTailRecursive, NamedCycleIsTheOnlyOne}
 use Rattle.task_networks.specs.Strata.{IsLawfulRanking, IsWalk, ComesFirst}
 use Rattle.task_networks.proofs.Different.{different_without}

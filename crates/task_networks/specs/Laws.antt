@@ -6,7 +6,8 @@ use Rattle.task_networks.specs.Lawful.{IsLawful}
 use Rattle.task_networks.specs.Prepared.{IsPrepared}
 use Rattle.task_networks.specs.Tree.{Tree, used, Address, IsAbove, label_at, IsAddress, IsProcessed}
 use Rattle.task_networks.specs.Schedule.{IsSchedule}
-use Rattle.task_networks.specs.Pending.{AreDifferent, IsPending, IsWithin}
+use Rattle.htn_base.specs.Different.{AreDifferent}
+use Rattle.task_networks.specs.Pending.{IsPending, IsWithin}
 use Rattle.task_networks.specs.PendingComputed.{pending}
 use Rattle.task_networks.specs.Front.{IsFinished}
 use Rattle.task_networks.specs.Bound.{AreBlocks, AreLargeEnough, IsTheBound}

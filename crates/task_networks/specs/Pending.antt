@@ -1,14 +1,10 @@
 -- What is pending: the nodes that are begun and not taken yet, and how many they are.
 -- Source: the progression bound of Alford et al., "Bound to Plan", ICAPS 2016. Checks count as tasks.
-use Rattle.std.specs.Prelude.{ℕ, ◌≡◌, ◌≤◌, List, [], ◌∷◌, ◌++◌, length, Contains}
+use Rattle.std.specs.Prelude.{ℕ, ◌≡◌, ◌≤◌, List, ◌++◌, length, Contains}
+use Rattle.htn_base.specs.Different.{AreDifferent}
 use Rattle.task_networks.specs.Net.{Net}
 use Rattle.task_networks.specs.Tree.{Tree, Address, IsAddress}
 use Rattle.task_networks.specs.Schedule.{IsBegun}
-
--- no element stands twice
-abbrev pub AreDifferent : {A : Type 0} → List A → Type 0
-AreDifferent [] = Unit {0}
-AreDifferent (x ∷ xs) = (Contains xs x → ⊥) × AreDifferent xs
 
 module _ (N : Net) where
   -- the parent of p is taken, or there is none, and p isn't

@@ -1,6 +1,7 @@
 //! The abstract definitions of hierarchical planning, over any task network: orders, networks, trees, schedules, fronts, spellings, bounds.
 //!
-//! They stand in specs/, in reading order in its Lib, and no Rust type is in them. This crate stands on std alone.
+//! They stand in specs/, in reading order in its Lib, and no Rust type is in them. This crate stands on std and
+//! on what `htn_base` calls lists of different elements.
 //! Crates above cite the definitions, and call a law for a network of theirs; proofs/ has the lemmas on these notions.
 #![tactic(auto)]
 

@@ -1,10 +1,14 @@
 -- What holds of every text: how the definitions fit together.
-use Rattle.std.specs.Prelude.{ℕ, ◌+◌, ◌<◌, ◌≤◌, ◌≡◌, ◌⊎◌, ◌↔◌, Option, Some, None, IsSome, List, [], ◌∷◌}
-use Rattle.text_forms.specs.Tokens.{Kind, start, stop, word, Token, token_count, letters_of, Symbol, symbols}
+use Rattle.std.specs.Prelude.{ℕ, ◌+◌, ◌<◌, ◌≤◌, ◌≡◌, ◌⊎◌, ◌↔◌, true, Option, Some, None, IsSome, List, [], ◌∷◌, drop}
+use Rattle.text_forms.specs.Bytes.{is_clean}
+use Rattle.text_forms.specs.Tokens.{Kind, start, stop, word, Token, token_count, letters_of, lexemes, Symbol, symbols}
 use Rattle.text_forms.specs.Closing.{close_at, OpensList}
 use Rattle.text_forms.specs.Faults.{Fault, IsFault, IsLeast, IsFaultless}
 use Rattle.text_forms.specs.Lists.{Parts, group, written, written_all, AreMatched}
-use Rattle.text_forms.specs.Placed.{cut, close, word as placed_word, list, parts_at, IsOneList}
+use Rattle.text_forms.specs.Placed.{cut, close, word as placed_word, list, level, parts_at, IsOneList}
+use Rattle.text_forms.specs.Fronts.{before, cut_before}
+use Rattle.text_forms.specs.Words.{Word}
+use Rattle.text_forms.specs.Printing.{definition, page, is_folded_word, ArePrintableParts}
 
 -- tokens stand one behind another, from one place on up to another
 abbrev pub StandInOrder : ℕ → List Token → ℕ → Type 0
@@ -24,6 +28,10 @@ ShowsToken text i t start = (c : ℕ) → close_at text i ≡ Some c → (parts_
 abbrev pub ShowsBy : List ℕ → ℕ → Option Token → Type 0
 ShowsBy text i None = parts_at text i ≡ cut
 ShowsBy text i (Some t) = ShowsToken text i t t.kind
+
+-- the lists of the tokens in front of a place are those of the text, cut there
+abbrev pub FrontsAreCut : List ℕ → Type 0
+FrontsAreCut text = (i m : ℕ) → level 0 (before m (drop i (lexemes text))) ≡ cut_before m (parts_at text i)
 
 -- symbols with matched parentheses are exactly the writing of nested lists
 abbrev pub MatchedAreLists : Type 0
@@ -45,3 +53,11 @@ MatchedAreFaultless text = AreMatched 0 (symbols text) ↔ ((f : Fault) → IsFa
 abbrev pub IsLeastOrNone : List ℕ → Option Fault → Type 0
 IsLeastOrNone text None = IsFaultless text
 IsLeastOrNone text (Some f) = IsLeast text f
+
+-- a printed page has no bad byte
+abbrev pub PagesAreClean : Type 0
+PagesAreClean = (kind w : Word) (ps : Parts) → is_folded_word kind ≡ true → is_folded_word w ≡ true → ArePrintableParts ps → is_clean (page kind w ps) ≡ true
+
+-- and says the definition of which it is the page
+abbrev pub PagesSayDefinitions : Type 0
+PagesSayDefinitions = (kind w : Word) (ps : Parts) → is_folded_word kind ≡ true → is_folded_word w ≡ true → ArePrintableParts ps → symbols (page kind w ps) ≡ written (definition kind w ps)

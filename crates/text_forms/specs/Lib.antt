@@ -9,5 +9,6 @@ pub mod Lists
 pub mod Placed
 pub mod Fronts
 pub mod Words
+pub mod StepWords
 pub mod Printing
 pub mod Laws

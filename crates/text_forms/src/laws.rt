@@ -1,16 +1,13 @@
 // Laws of the definitions of texts.
-ghost use Rattle.std.specs.Prelude.{◌≡◌, ◌≤◌, ℕ, true, All, List, Some, length, drop, slice_get};
+ghost use Rattle.std.specs.Prelude.{◌≡◌, ◌≤◌, ℕ, true, All, List, Some, length, slice_get};
 ghost use Rattle.text_forms.specs.Bytes.{opening, closing, letter, is_clean};
-ghost use Rattle.text_forms.specs.Tokens.{start, stop, word, tokens, token_count, lexemes, symbols};
+ghost use Rattle.text_forms.specs.Tokens.{start, stop, word, tokens, token_count, symbols};
 ghost use Rattle.text_forms.specs.Comments.{IsClassed};
 ghost use Rattle.text_forms.specs.LongestRuns.{IsAt, IsMade, LiesInOne};
 ghost use Rattle.text_forms.specs.Least.{least_fault};
 ghost use Rattle.text_forms.specs.Lists.{Part, Parts, written, written_all};
-ghost use Rattle.text_forms.specs.Placed.{level, parts_at};
-ghost use Rattle.text_forms.specs.Fronts.{before, cut_before};
-ghost use Rattle.text_forms.specs.Words.{Word};
-ghost use Rattle.text_forms.specs.Printing.{bytes, rows, definition, page, is_folded_word, IsPrintablePart, ArePrintableParts};
-ghost use Rattle.text_forms.specs.Laws.{StandInOrder, ClosesItsLists, ShowsBy, MatchedAreLists, OneNesting, SaysAsPlaced, MatchedAreFaultless, IsLeastOrNone};
+ghost use Rattle.text_forms.specs.Printing.{bytes, rows, IsPrintablePart, ArePrintableParts};
+ghost use Rattle.text_forms.specs.Laws.{StandInOrder, ClosesItsLists, ShowsBy, FrontsAreCut, MatchedAreLists, OneNesting, SaysAsPlaced, MatchedAreFaultless, IsLeastOrNone, PagesAreClean, PagesSayDefinitions};
 
 /// Matched parentheses are those of nested lists, in one way only.
 pub fn lists_law()
@@ -36,7 +33,7 @@ pub fn tokens_law(text: &[u8])
     ensures few { token_count text.now ≤ length text.now }
     ensures closed { ClosesItsLists text.now }
     ensures shown { (i : ℕ) → ShowsBy text.now i (slice_get (tokens text.now) i) }
-    ensures fronts { (i m : ℕ) → level 0 (before m (drop i (lexemes text.now))) ≡ cut_before m (parts_at text.now i) }
+    ensures fronts { FrontsAreCut text.now }
     ensures lists { SaysAsPlaced text.now }
 {}
 
@@ -51,6 +48,6 @@ pub fn printed_law()
     ensures list { (p : Part) → IsPrintablePart p → symbols (bytes p) ≡ written p }
     ensures rows { (ps : Parts) → ArePrintableParts ps → symbols (rows ps) ≡ written_all ps }
     ensures clean_rows { (ps : Parts) → ArePrintableParts ps → is_clean (rows ps) ≡ true }
-    ensures clean { (kind w : Word) (ps : Parts) → is_folded_word kind ≡ true → is_folded_word w ≡ true → ArePrintableParts ps → is_clean (page kind w ps) ≡ true }
-    ensures page { (kind w : Word) (ps : Parts) → is_folded_word kind ≡ true → is_folded_word w ≡ true → ArePrintableParts ps → symbols (page kind w ps) ≡ written (definition kind w ps) }
+    ensures clean { PagesAreClean }
+    ensures page { PagesSayDefinitions }
 {}

@@ -181,4 +181,4 @@ EncodedIsPrintable = (h : Hddl) (mode : Checks) (c : Compiled) (b : ℕ) (style 
     → IsEncoded c b style p → length p.names < 2 ^ 32 → HasEncodedWords c b p.names → IsPrintable p
 
 pub refuted : EncodedIsPrintable → ⊥
-refuted all = (all twins_hddl Leaf twins 1 Adl printed sound ordered compiled (omega arith) (omega arith) (omega arith) encoded short (λ w m. m)).actions_differ.1.1.0.0 refl
+refuted all = (all twins_hddl Leaf twins 1 Adl printed sound ordered compiled (omega arith) (omega arith) (omega arith) encoded short (λ w m. m)).actions_differ.1.1.0 (0, omega arith, refl)

@@ -1,6 +1,6 @@
 -- Whether a problem is sound, as far as it computes: its words, numbers, parameters and networks. Formulas and effects are asked for layer by layer.
 -- And whether its networks are ordered: each pair goes up.
-use Rattle.std.proofs.Common.{ℕ, suc, ◌≡◌, ◌<◌, ◌≤◌, ◌==◌, ◌&&◌, ◌-◌, ◌++◌, Bool, true, false, not, List, [], ◌∷◌, map, length, Option, Some, None, slice_get, refl, ap, sym, subst, Contains, arith, nat_lt}
+use Rattle.std.proofs.Common.{ℕ, suc, ◌≡◌, ◌<◌, ◌≤◌, ◌==◌, ◌&&◌, ◌-◌, ◌++◌, Bool, true, false, List, [], ◌∷◌, map, length, Option, Some, None, slice_get, refl, ap, sym, subst, Contains, arith, nat_lt}
 use Rattle.std.specs.Prelude.{codes, slice_index}
 use Rattle.std.specs.Str.{bytes_eq}
 use Rattle.std.specs.List.{list_any, list_all}
@@ -31,17 +31,19 @@ use Rattle.plan_model.specs.Typing.{Leads, stay, climb}
 use Rattle.text_forms.specs.Words.{Word, is_name, is_variable, is_among, word_at, last_place}
 use Rattle.text_forms.specs.Printing.{are_folded}
 use Rattle.plan_texts.specs.Declared.{Declared, named, kinds, variable}
-use Rattle.plan_texts.specs.Types.{Has, EachIs, AreDifferent}
+use Rattle.htn_base.specs.Different.{AreDifferent}
+use Rattle.plan_texts.specs.Types.{Has, EachIs}
 use Rattle.plan_texts.specs.SpellsHddl.{hddl_types, hddl_words, task_words, action_words}
 use Rattle.plan_texts.specs.Printable.{IsPlain, IsPlainVariable, IsInForce, IsSoundAtom, IsSoundParam, AreSoundParams, sound_step, IsSound, sound_effect_step, IsSoundEffect, IsUnion, HasWords}
 use Rattle.plan_texts.specs.SoundValue.{IsSoundHddl, IsSoundMethod, IsSoundHead, IsSoundChild, IsSoundConstraint, scope_of, arities, method_words}
-use Rattle.plan_texts.proofs.Basics.{bytes_eq-true, bytes_eq-refl}
+use Rattle.plan_texts.proofs.Basics.{bytes_eq-true}
+use Rattle.plan_texts.proofs.DifferentWords.{are_different, different_by}
 use Rattle.plan_texts.proofs.Members.{contains-has, has-contains}
 use Rattle.plan_texts.proofs.Spelled.{sound_roll}
 use Rattle.plan_texts.proofs.SpelledEffects.{sound_roll as effect-sound_roll}
 use Rattle.task_networks.specs.Spelling.{numbers}
 use Rattle.task_networks.proofs.Numbers.{to_numbers}
-use Rattle.task_networks.proofs.PendingNodes.{both, not_to}
+use Rattle.task_networks.proofs.PendingNodes.{both}
 use Rattle.task_networks.proofs.Tests.{all_to, any_to}
 use Rattle.plan_model.specs.Pairs.{pair, Pairs}
 use Rattle.plan_meaning.specs.Laws.{AreOrdered}
@@ -68,10 +70,6 @@ module _ where
   abbrev pub is_plain_variable : Word → Bool
   is_plain_variable w = are_folded w && is_variable w
 
-  abbrev pub are_different : List Word → Bool
-  are_different [] = true
-  are_different (w ∷ ws) = list_all (λ u. not (bytes_eq w u)) ws && are_different ws
-
   abbrev pub are_names : List Word → Bool
   are_names ws = list_all is_plain ws && are_different ws
 
@@ -83,12 +81,6 @@ module _ where
 
   plain_variable_by : (w : Word) → is_plain_variable w ≡ true → IsPlainVariable w
   plain_variable_by w e = both (are_folded w) (is_variable w) e
-
-  pub different_by : (ws : List Word) → are_different ws ≡ true → AreDifferent ws
-  different_by [] e = tt
-  different_by (w ∷ ws) e =
-      let h = both (list_all (λ u. not (bytes_eq w u)) ws) (are_different ws) e in
-      (each_by (λ u. not (bytes_eq w u)) (λ u. w ≡ u → ⊥) (λ u f g. not_to (bytes_eq w u) f (subst (λ z. bytes_eq w z ≡ true) g (bytes_eq-refl w))) ws h.0, different_by ws h.1)
 
   names_by : (ws : List Word) → are_names ws ≡ true → EachIs IsPlain ws × AreDifferent ws
   names_by ws e = let h = both (list_all is_plain ws) (are_different ws) e in (each_by is_plain IsPlain plain_by ws h.0, different_by ws h.1)

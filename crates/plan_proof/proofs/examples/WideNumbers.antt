@@ -7,7 +7,7 @@ use Rattle.plan_model.specs.declared.types.Object.{Object}
 use Rattle.plan_model.specs.declared.values.Compiled.{Compiled}
 use Rattle.plan_model.specs.declared.values.Pddl.{Pddl}
 use Rattle.plan_texts.specs.Declared.{named}
-use Rattle.plan_texts.specs.Types.{AreDifferent}
+use Rattle.htn_base.specs.Different.{AreDifferent}
 use Rattle.plan_texts.specs.SoundValue.{IsSoundHddl}
 use Rattle.plan_texts.specs.PrintableValue.{IsPrintable}
 use Rattle.task_networks.specs.Spelling.{numbers}
@@ -15,7 +15,7 @@ use Rattle.slot_encoding.specs.EncodedValue.{IsEncoded}
 use Rattle.slot_encoding.proofs.places.ListPlaces.{get_to_map, to_get_numbers}
 use Rattle.plan_proof.proofs.machine.ObjectWords.{same_get}
 use Rattle.slot_encoding.specs.EncodedWords.{own_word, HasEncodedWords}
-use Rattle.slot_encoding.proofs.words.Lists.{different-right}
+use Rattle.htn_base.proofs.DifferentLemmas.{different-right}
 use Rattle.slot_encoding.proofs.words.KnownWords.{known_objects}
 use Rattle.slot_encoding.proofs.words.ObjectNames.{objects-named}
 

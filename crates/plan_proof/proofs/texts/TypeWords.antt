@@ -5,7 +5,8 @@ use Rattle.std.proofs.lemmas.List.{get_or-append-add, get_or_append_left}
 use Rattle.std.specs.Prelude.{Contains}
 use Rattle.text_forms.specs.Words.{Word, is_name, word_at}
 use Rattle.plan_texts.specs.Declared.{named, one_word, union_words, kind_at}
-use Rattle.plan_texts.specs.Types.{Has, EachIs, AreDifferent, IsPairOf}
+use Rattle.htn_base.specs.Different.{AreDifferent}
+use Rattle.plan_texts.specs.Types.{Has, EachIs, IsPairOf}
 use Rattle.plan_texts.specs.SpellsPddl.{pddl_types, pddl_words}
 use Rattle.plan_texts.specs.Alike.{object_said, AreAlikePddl}
 use Rattle.plan_model.specs.declared.types.Parent.{Parent}

@@ -2,7 +2,8 @@
 use Rattle.std.proofs.Common.{ℕ, ◌≡◌, ◌<◌, List, [], ◌∷◌, map, length, ap, sym, subst, ◌∙◌}
 use Rattle.text_forms.specs.Words.{Word, word_at}
 use Rattle.plan_texts.specs.Declared.{named}
-use Rattle.plan_texts.specs.Types.{EachIs, AreDifferent}
+use Rattle.htn_base.specs.Different.{AreDifferent}
+use Rattle.plan_texts.specs.Types.{EachIs}
 use Rattle.plan_texts.specs.SpellsHddl.{hddl_types, hddl_words}
 use Rattle.plan_texts.specs.Printable.{IsPlain}
 use Rattle.plan_texts.specs.SoundValue.{IsSoundHddl}
@@ -28,7 +29,9 @@ use Rattle.slot_encoding.specs.Printed.{IsPrinted}
 use Rattle.plan_proof.proofs.machine.Bounds.{loses_nothing}
 use Rattle.plan_proof.proofs.machine.PrintedMeans.{printed_faithful, faithful_texts}
 use Rattle.plan_proof.specs.Same.{AreSameButNames}
-use Rattle.plan_proof.proofs.values.Pairing.{Both, maps-length, both-of_maps, both-each, contains-each}
+use Rattle.plan_texts.specs.Together.{Together}
+use Rattle.plan_texts.proofs.Together.{maps-length, together-of_maps, together-each}
+use Rattle.plan_proof.proofs.values.Pairing.{contains-each}
 use Rattle.plan_proof.proofs.values.TypeNumbers.{AreApart, word-within, word-once, unions-apart, plain-some}
 use Rattle.plan_proof.proofs.values.SameSound.{sound_too}
 use Rattle.plan_proof.proofs.values.SamePlans.{plans-both}
@@ -78,11 +81,11 @@ module _ (c d : Hddl) (same : AreSameButNames c d) where
   abbrev IsSame : MethodSchema → MethodSchema → Type 0
   IsSame s t = method_said (hddl_words c) s ≡ method_said (hddl_words d) t
 
-  all_same : Both IsSame (c.top ∷ c.methods) (d.top ∷ d.methods)
-  all_same = (same.alike.top, both-of_maps (method_said (hddl_words c)) (method_said (hddl_words d)) c.methods d.methods same.alike.methods)
+  all_same : Together IsSame (c.top ∷ c.methods) (d.top ∷ d.methods)
+  all_same = (same.alike.top, together-of_maps (method_said (hddl_words c)) (method_said (hddl_words d)) c.methods d.methods same.alike.methods)
 
   ordered_too : AreOrdered d → AreOrdered c
-  ordered_too o = λ s h. each-has IsOrdered (c.top ∷ c.methods) s (both-each IsSame IsOrdered IsOrdered one (c.top ∷ c.methods) (d.top ∷ d.methods) all_same (contains-each IsOrdered (d.top ∷ d.methods) o)) (contains-has (c.top ∷ c.methods) s h)
+  ordered_too o = λ s h. each-has IsOrdered (c.top ∷ c.methods) s (together-each IsSame IsOrdered IsOrdered one (c.top ∷ c.methods) (d.top ∷ d.methods) all_same (contains-each IsOrdered (d.top ∷ d.methods) o)) (contains-has (c.top ∷ c.methods) s h)
     where
       one : (s t : MethodSchema) → IsSame s t → IsOrdered t → IsOrdered s
       one s t e k =

@@ -1,70 +1,10 @@
--- Two lists, item by item.
-use Rattle.std.proofs.Common.{ℕ, zero, suc, ◌≡◌, ◌<◌, ◌⊎◌, inl, inr, Bool, true, false, List, [], ◌∷◌, map, filter, take, length, cond, slice_get, Some, Contains, refl, ap, sym, subst, ◌∙◌, arith}
+-- Items at the places of lists; increasing lists.
+use Rattle.std.proofs.Common.{ℕ, zero, suc, ◌≡◌, ◌<◌, ◌⊎◌, inl, inr, List, [], ◌∷◌, map, slice_get, Some, Contains, refl, ap, sym, subst, ◌∙◌, arith}
 use Rattle.std.specs.List.{AllPairs}
 use Rattle.std.specs.List.Sorted.{IsStrictlyIncreasing}
 use Rattle.std.proofs.lemmas.List.Kept.{AllPairs-from_increasing}
 use Rattle.task_networks.proofs.Lists.{Contains-here, Contains-later, head_or_tail, not-in_empty}
 use Rattle.plan_texts.specs.Types.{EachIs}
-use Rattle.plan_texts.proofs.Members.{length-map}
-
--- R holds at each place
-abbrev pub Both : {X Y : Type 0} → (X → Y → Type 0) → List X → List Y → Type 0
-Both R [] [] = Unit {0}
-Both R (x ∷ xs) (y ∷ ys) = R x y × Both R xs ys
-Both R [] (y ∷ ys) = ⊥
-Both R (x ∷ xs) [] = ⊥
-
-pub maps-length : {X Y Z : Type 0} (u : X → Z) (w : Y → Z) (xs : List X) (ys : List Y) → map u xs ≡ map w ys → length xs ≡ length ys
-maps-length u w xs ys e = sym (length-map u xs) ∙ ap length e ∙ length-map w ys
-
-pub both-of_maps : {X Y Z : Type 0} (u : X → Z) (w : Y → Z) (xs : List X) (ys : List Y) → map u xs ≡ map w ys → Both (λ x y. u x ≡ w y) xs ys
-both-of_maps u w [] [] e = tt
-both-of_maps u w (x ∷ xs) (y ∷ ys) e = (cc, both-of_maps u w xs ys cc)
-both-of_maps u w [] (y ∷ ys) e = cc
-both-of_maps u w (x ∷ xs) [] e = cc
-
-pub both-maps : {X Y Z : Type 0} (u : X → Z) (w : Y → Z) (R : X → Y → Type 0) → ((x : X) (y : Y) → R x y → u x ≡ w y) → (xs : List X) (ys : List Y) → Both R xs ys → map u xs ≡ map w ys
-both-maps u w R h [] [] e = refl
-both-maps u w R h (x ∷ xs) (y ∷ ys) e = let f = h x y e.0 in let g = both-maps u w R h xs ys e.1 in λ i. f i ∷ g i
-both-maps u w R h [] (y ∷ ys) e = absurd e
-both-maps u w R h (x ∷ xs) [] e = absurd e
-
-pub both-and : {X Y : Type 0} (R : X → Y → Type 0) (P : X → Type 0) (Q : Y → Type 0) (xs : List X) (ys : List Y) → Both R xs ys → EachIs P xs → EachIs Q ys → Both (λ x y. R x y × P x × Q y) xs ys
-both-and R P Q [] [] e p q = tt
-both-and R P Q (x ∷ xs) (y ∷ ys) e p q = ((e.0, p.0, q.0), both-and R P Q xs ys e.1 p.1 q.1)
-both-and R P Q [] (y ∷ ys) e p q = absurd e
-both-and R P Q (x ∷ xs) [] e p q = absurd e
-
-pub both-each : {X Y : Type 0} (R : X → Y → Type 0) (P : X → Type 0) (Q : Y → Type 0) → ((x : X) (y : Y) → R x y → Q y → P x) → (xs : List X) (ys : List Y) → Both R xs ys → EachIs Q ys → EachIs P xs
-both-each R P Q h [] [] e q = tt
-both-each R P Q h (x ∷ xs) (y ∷ ys) e q = (h x y e.0 q.0, both-each R P Q h xs ys e.1 q.1)
-both-each R P Q h [] (y ∷ ys) e q = absurd e
-both-each R P Q h (x ∷ xs) [] e q = absurd e
-
-pub both-length : {X Y : Type 0} (R : X → Y → Type 0) (xs : List X) (ys : List Y) → Both R xs ys → length xs ≡ length ys
-both-length R [] [] e = refl
-both-length R (x ∷ xs) (y ∷ ys) e = ap suc (both-length R xs ys e.1)
-both-length R [] (y ∷ ys) e = absurd e
-both-length R (x ∷ xs) [] e = absurd e
-
-pub both-take : {X Y : Type 0} (R : X → Y → Type 0) (n : ℕ) (xs : List X) (ys : List Y) → Both R xs ys → Both R (take n xs) (take n ys)
-both-take R zero xs ys e = tt
-both-take R (suc n) [] [] e = tt
-both-take R (suc n) (x ∷ xs) (y ∷ ys) e = (e.0, both-take R n xs ys e.1)
-both-take R (suc n) [] (y ∷ ys) e = absurd e
-both-take R (suc n) (x ∷ xs) [] e = absurd e
-
-pub both-filter : {X Y : Type 0} (R : X → Y → Type 0) (p : X → Bool) (q : Y → Bool) → ((x : X) (y : Y) → R x y → p x ≡ q y) → (xs : List X) (ys : List Y) → Both R xs ys → Both R (filter p xs) (filter q ys)
-both-filter R p q h [] [] e = tt
-both-filter R p q h [] (y ∷ ys) e = absurd e
-both-filter R p q h (x ∷ xs) [] e = absurd e
-both-filter R p q h (x ∷ xs) (y ∷ ys) e = go (p x) (q y) (h x y e.0) (both-filter R p q h xs ys e.1)
-  where
-    go : (a b : Bool) → a ≡ b → Both R (filter p xs) (filter q ys) → Both R (cond a (x ∷ filter p xs) (filter p xs)) (cond b (y ∷ filter q ys) (filter q ys))
-    go true true f g = (e.0, g)
-    go false false f g = g
-    go true false f g = cc
-    go false true f g = cc
 
 -- at one place
 pub got : {X Y Z : Type 0} (u : X → Z) (w : Y → Z) (xs : List X) (ys : List Y) → map u xs ≡ map w ys → (k : ℕ) (y : Y) → slice_get ys k ≡ Some y → (x : X) × (slice_get xs k ≡ Some x) × (u x ≡ w y)

@@ -34,7 +34,8 @@ use Rattle.slot_encoding.specs.EncodedActions.{slot_vars, differ, test, source_c
 use Rattle.slot_encoding.specs.EncodedValue.{encoded_methods, encoded_checks, encoded_source, encoded_actions}
 use Rattle.slot_encoding.proofs.places.Splitting.{frees, kids, links, copies_of, splitting_parts}
 use Rattle.plan_proof.specs.Same.{AreSameButNames}
-use Rattle.plan_proof.proofs.values.Pairing.{Both, maps-length, both-of_maps, both-maps, both-length, both-take, both-filter}
+use Rattle.plan_texts.specs.Together.{Together}
+use Rattle.plan_texts.proofs.Together.{maps-length, together-of_maps, together-maps, together-length, together-take, together-filter}
 use Rattle.plan_proof.proofs.values.TypeNumbers.{AreApart}
 use Rattle.plan_proof.proofs.values.SameTypes.{empty-same, empty-effect-same, params-printed, formula-printed, effect-printed}
 use Rattle.plan_proof.proofs.values.SamePlans.{ArePlansAlike, IsSoundPlan}
@@ -49,7 +50,7 @@ module _ (c d : Compiled) (same : AreSameButNames c.hddl d.hddl) (sc : IsSoundHd
   abbrev pub Alike : MethodPlan → MethodPlan → Type 0
   Alike p q = ArePlansAlike v w p q × (IsSoundPlan c.hddl p × IsSoundPlan d.hddl q)
 
-  module _ (plans : Both Alike c.methods d.methods) where
+  module _ (plans : Together Alike c.methods d.methods) where
     -- numbers of predicates and of objects
     pub predicates-count : length c.hddl.predicates ≡ length d.hddl.predicates
     predicates-count = maps-length (predicate_said v) (predicate_said w) c.hddl.predicates d.hddl.predicates same.alike.predicates
@@ -63,16 +64,16 @@ module _ (c d : Compiled) (same : AreSameButNames c.hddl d.hddl) (sc : IsSoundHd
     pub objects-count : length c.hddl.objects ≡ length d.hddl.objects
     objects-count = maps-length (object_said v) (object_said w) c.hddl.objects d.hddl.objects same.alike.objects
 
-    pub checked-both : (xs ys : List MethodPlan) → Both Alike xs ys → Both Alike (filter (λ (plan : MethodPlan). plan.checked) xs) (filter (λ (plan : MethodPlan). plan.checked) ys)
-    checked-both = both-filter Alike (λ (plan : MethodPlan). plan.checked) (λ (plan : MethodPlan). plan.checked) (λ x y e. e.0.checked)
+    pub checked-both : (xs ys : List MethodPlan) → Together Alike xs ys → Together Alike (filter (λ (plan : MethodPlan). plan.checked) xs) (filter (λ (plan : MethodPlan). plan.checked) ys)
+    checked-both = together-filter Alike (λ (plan : MethodPlan). plan.checked) (λ (plan : MethodPlan). plan.checked) (λ x y e. e.0.checked)
 
     checked-count : length (checked_methods c) ≡ length (checked_methods d)
-    checked-count = both-length Alike (checked_methods c) (checked_methods d) (checked-both c.methods d.methods plans)
+    checked-count = together-length Alike (checked_methods c) (checked_methods d) (checked-both c.methods d.methods plans)
 
     pub guard_types-same : guard_types c ≡ guard_types d
     guard_types-same =
         ap (λ z. once nat_eq (joined z))
-        (both-maps (λ (plan : MethodPlan). map (λ (g : Guard). g.ty) plan.guards) (λ (plan : MethodPlan). map (λ (g : Guard). g.ty) plan.guards) Alike (λ x y e. ap (map (λ (g : Guard). g.ty)) e.0.guards) c.methods d.methods plans)
+        (together-maps (λ (plan : MethodPlan). map (λ (g : Guard). g.ty) plan.guards) (λ (plan : MethodPlan). map (λ (g : Guard). g.ty) plan.guards) Alike (λ x y e. ap (map (λ (g : Guard). g.ty)) e.0.guards) c.methods d.methods plans)
 
     pub free-same : free_predicate c ≡ free_predicate d
     free-same = λ i. predicates-count i + 1
@@ -88,7 +89,7 @@ module _ (c d : Compiled) (same : AreSameButNames c.hddl d.hddl) (sc : IsSoundHd
 
     check-same : (m : ℕ) → check_predicate c m ≡ check_predicate d m
     check-same m =
-        let h = both-length Alike _ _ (checked-both (take m c.methods) (take m d.methods) (both-take Alike m c.methods d.methods plans)) in
+        let h = together-length Alike _ _ (checked-both (take m c.methods) (take m d.methods) (together-take Alike m c.methods d.methods plans)) in
         λ i. first_check-same i + h i
 
     pub guard-same : (ty : ℕ) → guard_predicate c ty ≡ guard_predicate d ty
@@ -228,19 +229,19 @@ module _ (c d : Compiled) (same : AreSameButNames c.hddl d.hddl) (sc : IsSoundHd
             eff = E.And (g i);
           }
 
-      methods-printed : (m : ℕ) (ps qs : List MethodPlan) → Both Alike ps qs → encoded_methods c names b style m ps ≡ encoded_methods d names b style m qs
+      methods-printed : (m : ℕ) (ps qs : List MethodPlan) → Together Alike ps qs → encoded_methods c names b style m ps ≡ encoded_methods d names b style m qs
       methods-printed m [] [] e = refl
       methods-printed m [] (q ∷ qs) e = absurd e
       methods-printed m (p ∷ ps) [] e = absurd e
       methods-printed m (p ∷ ps) (q ∷ qs) e = let f = method-printed m p q e.0 in let g = methods-printed (suc m) ps qs e.1 in λ i. f i ∷ g i
 
-      checks-printed : (m : ℕ) (ps qs : List MethodPlan) → Both Alike ps qs → encoded_checks c names b style m ps ≡ encoded_checks d names b style m qs
+      checks-printed : (m : ℕ) (ps qs : List MethodPlan) → Together Alike ps qs → encoded_checks c names b style m ps ≡ encoded_checks d names b style m qs
       checks-printed m [] [] e = refl
       checks-printed m [] (q ∷ qs) e = absurd e
       checks-printed m (p ∷ ps) [] e = absurd e
       checks-printed m (p ∷ ps) (q ∷ qs) e = let f = check-printed m p q e.0 in let g = checks-printed (suc m) ps qs e.1 in let h = e.0.0.checked in λ i. cond (h i) (f i ∷ g i) (g i)
 
-      source-printed : (a : ℕ) (xs ys : List ActionSchema) → Both (λ x y. action_said v x ≡ action_said w y) xs ys
+      source-printed : (a : ℕ) (xs ys : List ActionSchema) → Together (λ x y. action_said v x ≡ action_said w y) xs ys
           → EachIs (λ (x : ActionSchema). AreSoundParams v (arities c.hddl) x.params) xs → EachIs (λ (y : ActionSchema). AreSoundParams w (arities d.hddl) y.params) ys
           → EachIs (λ (x : ActionSchema). IsSound v (arities c.hddl) x.pre (scope_of c.hddl x.params)) xs → EachIs (λ (y : ActionSchema). IsSound w (arities d.hddl) y.pre (scope_of d.hddl y.params)) ys
           → EachIs (λ (x : ActionSchema). IsSoundEffect v (arities c.hddl) x.eff (scope_of c.hddl x.params)) xs → EachIs (λ (y : ActionSchema). IsSoundEffect w (arities d.hddl) y.eff (scope_of d.hddl y.params)) ys
@@ -257,5 +258,5 @@ module _ (c d : Compiled) (same : AreSameButNames c.hddl d.hddl) (sc : IsSoundHd
       actions-same =
           let f = methods-printed 0 c.methods d.methods plans in
           let g = checks-printed 0 c.methods d.methods plans in
-          let h = source-printed 0 c.hddl.actions d.hddl.actions (both-of_maps (action_said v) (action_said w) c.hddl.actions d.hddl.actions same.alike.actions) sc.action_params sd.action_params sc.pre sd.pre sc.eff sd.eff in
+          let h = source-printed 0 c.hddl.actions d.hddl.actions (together-of_maps (action_said v) (action_said w) c.hddl.actions d.hddl.actions same.alike.actions) sc.action_params sd.action_params sc.pre sd.pre sc.eff sd.eff in
           λ i. f i ++ g i ++ h i

@@ -31,7 +31,9 @@ use Rattle.task_networks.proofs.ScheduleLaws.{line_is_the_only_one}
 use Rattle.plan_meaning.specs.Compilation.{once, same_pair, same_guard, children, pairs, last_of, Keeps, params_of, params_of_task, params_of_action, placed, all_placed, IsParamIn, IsDeclaredIn, IsGuard, IsMethodPlan, AreMethodPlans}
 use Rattle.plan_model.specs.Pairs.{pair, Pairs}
 use Rattle.plan_proof.specs.Same.{AreSameButNames}
-use Rattle.plan_proof.proofs.values.Pairing.{Both, maps-length, both-of_maps, both-maps, both-and, increasing-same}
+use Rattle.plan_texts.specs.Together.{Together}
+use Rattle.plan_texts.proofs.Together.{maps-length, together-of_maps, together-maps, together-and}
+use Rattle.plan_proof.proofs.values.Pairing.{increasing-same}
 use Rattle.plan_proof.proofs.values.TypeNumbers.{AreApart}
 use Rattle.plan_proof.proofs.values.SameSound.{params-length}
 use Rattle.plan_proof.proofs.values.SameTypes.{is_a-same, in_same, counts, types-of}
@@ -90,15 +92,15 @@ module _ (c d : Hddl) (same : AreSameButNames c d) (sc : IsSoundHddl c) (sd : Is
 
   task_types : map (λ (s : TaskSchema). types s.params) c.tasks ≡ map (λ (s : TaskSchema). types s.params) d.tasks
   task_types =
-      both-maps (λ (s : TaskSchema). types s.params) (λ (s : TaskSchema). types s.params) (λ x y. (task_said v x ≡ task_said w y) × AreSoundParams v (arities c) x.params × AreSoundParams w (arities d) y.params)
+      together-maps (λ (s : TaskSchema). types s.params) (λ (s : TaskSchema). types s.params) (λ x y. (task_said v x ≡ task_said w y) × AreSoundParams v (arities c) x.params × AreSoundParams w (arities d) y.params)
       (λ x y e. types-of c d same sc sd apart x.params y.params (ap (λ z. z.1) e.0) e.1.0 e.2.0) c.tasks d.tasks
-      (both-and (λ x y. task_said v x ≡ task_said w y) (λ x. AreSoundParams v (arities c) x.params) (λ y. AreSoundParams w (arities d) y.params) c.tasks d.tasks (both-of_maps (task_said v) (task_said w) c.tasks d.tasks same.alike.tasks) sc.task_params sd.task_params)
+      (together-and (λ x y. task_said v x ≡ task_said w y) (λ x. AreSoundParams v (arities c) x.params) (λ y. AreSoundParams w (arities d) y.params) c.tasks d.tasks (together-of_maps (task_said v) (task_said w) c.tasks d.tasks same.alike.tasks) sc.task_params sd.task_params)
 
   action_types : map (λ (s : ActionSchema). types s.params) c.actions ≡ map (λ (s : ActionSchema). types s.params) d.actions
   action_types =
-      both-maps (λ (s : ActionSchema). types s.params) (λ (s : ActionSchema). types s.params) (λ x y. (action_said v x ≡ action_said w y) × AreSoundParams v (arities c) x.params × AreSoundParams w (arities d) y.params)
+      together-maps (λ (s : ActionSchema). types s.params) (λ (s : ActionSchema). types s.params) (λ x y. (action_said v x ≡ action_said w y) × AreSoundParams v (arities c) x.params × AreSoundParams w (arities d) y.params)
       (λ x y e. types-of c d same sc sd apart x.params y.params (ap (λ z. z.1) e.0) e.1.0 e.2.0) c.actions d.actions
-      (both-and (λ x y. action_said v x ≡ action_said w y) (λ x. AreSoundParams v (arities c) x.params) (λ y. AreSoundParams w (arities d) y.params) c.actions d.actions (both-of_maps (action_said v) (action_said w) c.actions d.actions same.alike.actions) sc.action_params sd.action_params)
+      (together-and (λ x y. action_said v x ≡ action_said w y) (λ x. AreSoundParams v (arities c) x.params) (λ y. AreSoundParams w (arities d) y.params) c.actions d.actions (together-of_maps (action_said v) (action_said w) c.actions d.actions same.alike.actions) sc.action_params sd.action_params)
 
   -- the types of the parameters of what a subtask names
   params_same : (f : Head) → types (params_of c f) ≡ types (params_of d f)
@@ -126,7 +128,7 @@ module _ (c d : Hddl) (same : AreSameButNames c d) (sc : IsSoundHddl c) (sd : Is
   placed_same (p ∷ ps) (q ∷ qs) (t ∷ ts) e =
       let f : p.ty ≡ q.ty = cc in let g = placed_same ps qs ts (cc) in λ i. record { ty = f i; term = t } ∷ g i
 
-  all-placed : (xs ys : List Child) → Both (λ x y. child_said v x ≡ child_said w y) xs ys → all_placed c xs ≡ all_placed d ys
+  all-placed : (xs ys : List Child) → Together (λ x y. child_said v x ≡ child_said w y) xs ys → all_placed c xs ≡ all_placed d ys
   all-placed [] [] e = refl
   all-placed [] (y ∷ ys) e = absurd e
   all-placed (x ∷ xs) [] e = absurd e
@@ -213,7 +215,7 @@ module _ (c d : Hddl) (same : AreSameButNames c d) (sc : IsSoundHddl c) (sd : Is
     same_guards : p.guards ≡ q.guards
     same_guards =
         let (xs, k, f) = hp.guards in let (ys, l, g) = hq.guards in
-        let o = all-placed s.children t.children (both-of_maps (child_said v) (child_said w) s.children t.children said_children) in
+        let o = all-placed s.children t.children (together-of_maps (child_said v) (child_said w) s.children t.children said_children) in
         let ty = types-of c d same sc sd apart s.params t.params said_params ss.params.0 st.params.0 in
         f ∙ ap (once same_guard) (guards_same s t ty (all_placed d t.children) xs ys (subst (λ z. Keeps (IsGuard c s) z xs) o k) l) ∙ sym g
 
@@ -230,8 +232,8 @@ module _ (c d : Hddl) (same : AreSameButNames c d) (sc : IsSoundHddl c) (sd : Is
     pub plans_alike : ArePlansAlike v w p q
     plans_alike = record { schema = schema_said; checked = same_checked; tested = same_tested; heir = same_heir; copiers = same_copiers; guards = same_guards }
 
-  pub plans-both : (mode : Checks) (ss ts : List MethodSchema) → Both (λ s t. method_said v s ≡ method_said w t) ss ts → EachIs (IsSoundMethod c) ss → EachIs (IsSoundMethod d) ts → (ps qs : List MethodPlan) → AreMethodPlans c mode ss ps → AreMethodPlans d mode ts qs
-      → Both (λ p q. ArePlansAlike v w p q × (IsSoundPlan c p × IsSoundPlan d q)) ps qs
+  pub plans-both : (mode : Checks) (ss ts : List MethodSchema) → Together (λ s t. method_said v s ≡ method_said w t) ss ts → EachIs (IsSoundMethod c) ss → EachIs (IsSoundMethod d) ts → (ps qs : List MethodPlan) → AreMethodPlans c mode ss ps → AreMethodPlans d mode ts qs
+      → Together (λ p q. ArePlansAlike v w p q × (IsSoundPlan c p × IsSoundPlan d q)) ps qs
   plans-both mode [] [] e a b [] [] h k = tt
   plans-both mode [] [] e a b [] (q ∷ qs) h k = absurd k
   plans-both mode [] [] e a b (p ∷ ps) qs h k = absurd h

@@ -2,7 +2,8 @@
 use Rattle.std.proofs.Common.{ℕ, ◌≡◌, ◌<◌, ◌++◌, List, [], ◌∷◌, map, length, refl, ap, sym, subst, ◌∙◌}
 use Rattle.text_forms.specs.Words.{Word, word_at}
 use Rattle.plan_texts.specs.Declared.{Declared, named, kinds, kind_at, variable, one_word}
-use Rattle.plan_texts.specs.Types.{Has, EachIs, AreDifferent}
+use Rattle.htn_base.specs.Different.{AreDifferent}
+use Rattle.plan_texts.specs.Types.{Has, EachIs}
 use Rattle.plan_texts.specs.SpellsHddl.{hddl_words, task_words, action_words}
 use Rattle.plan_texts.specs.Printable.{IsPlain, IsInForce, IsSoundParam, AreSoundParams, IsSound, IsSoundEffect, HasWords}
 use Rattle.plan_texts.specs.SoundValue.{IsSoundHddl, IsSoundMethod, IsSoundHead, IsSoundChild, IsSoundConstraint, scope_of, arities, method_words}
@@ -30,7 +31,9 @@ use Rattle.plan_model.specs.declared.schemas.ActionSchema.{ActionSchema}
 use Rattle.plan_model.specs.declared.schemas.MethodSchema.{MethodSchema}
 use Rattle.plan_model.specs.declared.values.Hddl.{Hddl}
 use Rattle.plan_proof.specs.Same.{AreSameButNames}
-use Rattle.plan_proof.proofs.values.Pairing.{Both, maps-length, both-of_maps, both-maps, both-each, got}
+use Rattle.plan_texts.specs.Together.{Together}
+use Rattle.plan_texts.proofs.Together.{maps-length, together-of_maps, together-maps, together-each}
+use Rattle.plan_proof.proofs.values.Pairing.{got}
 use Rattle.plan_proof.proofs.values.TypeNumbers.{word-within, kind-has, plain-some}
 use Rattle.plan_proof.proofs.values.SaidFormulas.{SoundTyped, AreSoundTyped, InForce, SoundAtom, SoundSaid, words-typed, words_of, each-typed, params-sound, formula-sound}
 use Rattle.plan_proof.proofs.values.SaidEffects.{SoundDone, effect-sound}
@@ -65,7 +68,7 @@ module _ (c d : Hddl) (same : AreSameButNames c d) where
   scope-same xs ys e = words-typed v xs ∙ ap words_of e ∙ sym (words-typed w ys)
 
   pub arities-same : arities c ≡ arities d
-  arities-same = both-maps (λ (x : Predicate). length x.params) (λ (x : Predicate). length x.params) (λ x y. predicate_said v x ≡ predicate_said w y) (λ x y e. params-length x.params y.params (ap (λ t. t.1) e)) c.predicates d.predicates (both-of_maps (predicate_said v) (predicate_said w) c.predicates d.predicates same.alike.predicates)
+  arities-same = together-maps (λ (x : Predicate). length x.params) (λ (x : Predicate). length x.params) (λ x y. predicate_said v x ≡ predicate_said w y) (λ x y e. params-length x.params y.params (ap (λ t. t.1) e)) c.predicates d.predicates (together-of_maps (predicate_said v) (predicate_said w) c.predicates d.predicates same.alike.predicates)
 
   pub unions-same : v.unions ≡ w.unions
   unions-same = λ i. map (map (word_at (same.types i))) (same.unions i)
@@ -134,8 +137,8 @@ module _ (c d : Hddl) (same : AreSameButNames c d) where
           params = params s.params t.params p m.params;
           task_args = terms s.task_args t.task_args _ _ (ap (λ z. z.2) e) o m.task_args;
           pre = formula s.pre t.pre _ _ (ap (λ z. z.3) e) o m.pre;
-          children = both-each (λ x y. child_said v x ≡ child_said w y) (IsSoundChild c (scope_of c s.params)) (IsSoundChild d (scope_of d t.params)) (child o) s.children t.children (both-of_maps (child_said v) (child_said w) s.children t.children (ap (λ z. z.4.1) e)) m.children;
-          constraints = both-each (λ x y. x ≡ y) (IsSoundConstraint c (scope_of c s.params)) (IsSoundConstraint d (scope_of d t.params)) (constraint o) s.constraints t.constraints (equal s.constraints t.constraints (ap (λ z. z.4.3) e)) m.constraints;
+          children = together-each (λ x y. child_said v x ≡ child_said w y) (IsSoundChild c (scope_of c s.params)) (IsSoundChild d (scope_of d t.params)) (child o) s.children t.children (together-of_maps (child_said v) (child_said w) s.children t.children (ap (λ z. z.4.1) e)) m.children;
+          constraints = together-each (λ x y. x ≡ y) (IsSoundConstraint c (scope_of c s.params)) (IsSoundConstraint d (scope_of d t.params)) (constraint o) s.constraints t.constraints (equal s.constraints t.constraints (ap (λ z. z.4.3) e)) m.constraints;
         }
       where
         child : scope_of c s.params ≡ scope_of d t.params → (x y : Child) → child_said v x ≡ child_said w y → IsSoundChild d (scope_of d t.params) y → IsSoundChild c (scope_of c s.params) x
@@ -146,7 +149,7 @@ module _ (c d : Hddl) (same : AreSameButNames c d) where
         constraint : scope_of c s.params ≡ scope_of d t.params → (x y : Constraint) → x ≡ y → IsSoundConstraint d (scope_of d t.params) y → IsSoundConstraint c (scope_of c s.params) x
         constraint o x y f k = (term x.left y.left _ _ (ap (λ (z : Constraint). z.left) f) o k.0, term x.right y.right _ _ (ap (λ (z : Constraint). z.right) f) o k.1)
 
-        equal : (xs ys : List Constraint) → xs ≡ ys → Both (λ x y. x ≡ y) xs ys
+        equal : (xs ys : List Constraint) → xs ≡ ys → Together (λ x y. x ≡ y) xs ys
         equal [] [] f = tt
         equal [] (y ∷ ys) f = cc
         equal (x ∷ xs) [] f = cc
@@ -167,20 +170,20 @@ module _ (c d : Hddl) (same : AreSameButNames c d) where
     abbrev SameMethod : MethodSchema → MethodSchema → Type 0
     SameMethod x y = method_said v x ≡ method_said w y
 
-    objects_pair : Both SameObject c.objects d.objects
-    objects_pair = both-of_maps (object_said v) (object_said w) c.objects d.objects same.alike.objects
+    objects_pair : Together SameObject c.objects d.objects
+    objects_pair = together-of_maps (object_said v) (object_said w) c.objects d.objects same.alike.objects
 
-    predicates_pair : Both SamePredicate c.predicates d.predicates
-    predicates_pair = both-of_maps (predicate_said v) (predicate_said w) c.predicates d.predicates same.alike.predicates
+    predicates_pair : Together SamePredicate c.predicates d.predicates
+    predicates_pair = together-of_maps (predicate_said v) (predicate_said w) c.predicates d.predicates same.alike.predicates
 
-    tasks_pair : Both SameTask c.tasks d.tasks
-    tasks_pair = both-of_maps (task_said v) (task_said w) c.tasks d.tasks same.alike.tasks
+    tasks_pair : Together SameTask c.tasks d.tasks
+    tasks_pair = together-of_maps (task_said v) (task_said w) c.tasks d.tasks same.alike.tasks
 
-    actions_pair : Both SameAction c.actions d.actions
-    actions_pair = both-of_maps (action_said v) (action_said w) c.actions d.actions same.alike.actions
+    actions_pair : Together SameAction c.actions d.actions
+    actions_pair = together-of_maps (action_said v) (action_said w) c.actions d.actions same.alike.actions
 
-    methods_pair : Both SameMethod c.methods d.methods
-    methods_pair = both-of_maps (method_said v) (method_said w) c.methods d.methods same.alike.methods
+    methods_pair : Together SameMethod c.methods d.methods
+    methods_pair = together-of_maps (method_said v) (method_said w) c.methods d.methods same.alike.methods
 
     pub sound_too : IsSoundHddl c
     sound_too = record {
@@ -192,21 +195,21 @@ module _ (c d : Hddl) (same : AreSameButNames c d) where
       has_parent = λ k l m. let (x, h, e) = sound.has_parent k l (subst (λ z. k < z) types-count m) in (x, subst (λ z. Has z x) (sym same.parents) h, e);
       no_cycle = λ x h l. sound.no_cycle x (subst (λ z. Has z x) same.parents h) (subst (λ z. Leads z x.parent x.child) same.parents l);
       unions = subst (λ (z : Type 0). z) (λ i. EachIs (EachIs (λ t. t < sym types-count i)) (sym same.unions i)) sound.unions;
-      objects = both-each SameObject (λ x. x.ty < length c.types.names) (λ y. y.ty < length d.types.names) (λ x y e. type_within x.ty y.ty (ap (λ z. z.1) e)) c.objects d.objects objects_pair sound.objects;
-      predicates = both-each SamePredicate (λ x. EachIs (IsSoundParam v (arities c)) x.params) (λ y. EachIs (IsSoundParam w (arities d)) y.params) (λ x y e. each-param x.params y.params (ap (λ z. z.1) e)) c.predicates d.predicates predicates_pair sound.predicates;
+      objects = together-each SameObject (λ x. x.ty < length c.types.names) (λ y. y.ty < length d.types.names) (λ x y e. type_within x.ty y.ty (ap (λ z. z.1) e)) c.objects d.objects objects_pair sound.objects;
+      predicates = together-each SamePredicate (λ x. EachIs (IsSoundParam v (arities c)) x.params) (λ y. EachIs (IsSoundParam w (arities d)) y.params) (λ x y e. each-param x.params y.params (ap (λ z. z.1) e)) c.predicates d.predicates predicates_pair sound.predicates;
       calls_named = subst (EachIs IsPlain) (λ i. sym task-words-same i ++ sym action-words-same i) sound.calls_named;
       calls_differ = subst AreDifferent (λ i. sym task-words-same i ++ sym action-words-same i) sound.calls_differ;
       methods_named = subst (EachIs IsPlain) (sym method-words-same) sound.methods_named;
       methods_differ = subst AreDifferent (sym method-words-same) sound.methods_differ;
-      task_params = both-each SameTask (λ x. AreSoundParams v (arities c) x.params) (λ y. AreSoundParams w (arities d) y.params) (λ x y e. params x.params y.params (ap (λ z. z.1) e)) c.tasks d.tasks tasks_pair sound.task_params;
-      action_params = both-each SameAction (λ x. AreSoundParams v (arities c) x.params) (λ y. AreSoundParams w (arities d) y.params) (λ x y e. params x.params y.params (ap (λ z. z.1) e)) c.actions d.actions actions_pair sound.action_params;
-      pre = both-each SameAction (λ x. IsSound v (arities c) x.pre (scope_of c x.params)) (λ y. IsSound w (arities d) y.pre (scope_of d y.params)) (λ x y e. formula x.pre y.pre _ _ (ap (λ z. z.2) e) (scope-same x.params y.params (ap (λ z. z.1) e))) c.actions d.actions actions_pair sound.pre;
-      eff = both-each SameAction (λ x. IsSoundEffect v (arities c) x.eff (scope_of c x.params)) (λ y. IsSoundEffect w (arities d) y.eff (scope_of d y.params)) (λ x y e. effect x.eff y.eff _ _ (ap (λ z. z.3) e) (scope-same x.params y.params (ap (λ z. z.1) e))) c.actions d.actions actions_pair sound.eff;
+      task_params = together-each SameTask (λ x. AreSoundParams v (arities c) x.params) (λ y. AreSoundParams w (arities d) y.params) (λ x y e. params x.params y.params (ap (λ z. z.1) e)) c.tasks d.tasks tasks_pair sound.task_params;
+      action_params = together-each SameAction (λ x. AreSoundParams v (arities c) x.params) (λ y. AreSoundParams w (arities d) y.params) (λ x y e. params x.params y.params (ap (λ z. z.1) e)) c.actions d.actions actions_pair sound.action_params;
+      pre = together-each SameAction (λ x. IsSound v (arities c) x.pre (scope_of c x.params)) (λ y. IsSound w (arities d) y.pre (scope_of d y.params)) (λ x y e. formula x.pre y.pre _ _ (ap (λ z. z.2) e) (scope-same x.params y.params (ap (λ z. z.1) e))) c.actions d.actions actions_pair sound.pre;
+      eff = together-each SameAction (λ x. IsSoundEffect v (arities c) x.eff (scope_of c x.params)) (λ y. IsSoundEffect w (arities d) y.eff (scope_of d y.params)) (λ x y e. effect x.eff y.eff _ _ (ap (λ z. z.3) e) (scope-same x.params y.params (ap (λ z. z.1) e))) c.actions d.actions actions_pair sound.eff;
       top_task = ap (λ z. z.1) same.alike.top ∙ sound.top_task ∙ sym (maps-length (task_said v) (task_said w) c.tasks d.tasks same.alike.tasks);
       top_args = ap (λ z. z.2) same.alike.top ∙ sound.top_args;
       top = method c.top d.top same.alike.top sound.top;
-      method_tasks = both-each SameMethod (λ x. IsSoundHead c (Task x.task) (length x.task_args)) (λ y. IsSoundHead d (Task y.task) (length y.task_args)) (λ x y e k. subst (λ z. IsSoundHead c (Task z) (length x.task_args)) (sym (ap (λ z. z.1) e)) (head (Task y.task) (length x.task_args) (length y.task_args) (ap (λ z. length z.2) e) k)) c.methods d.methods methods_pair sound.method_tasks;
-      methods = both-each SameMethod (IsSoundMethod c) (IsSoundMethod d) method c.methods d.methods methods_pair sound.methods;
+      method_tasks = together-each SameMethod (λ x. IsSoundHead c (Task x.task) (length x.task_args)) (λ y. IsSoundHead d (Task y.task) (length y.task_args)) (λ x y e k. subst (λ z. IsSoundHead c (Task z) (length x.task_args)) (sym (ap (λ z. z.1) e)) (head (Task y.task) (length x.task_args) (length y.task_args) (ap (λ z. length z.2) e) k)) c.methods d.methods methods_pair sound.method_tasks;
+      methods = together-each SameMethod (IsSoundMethod c) (IsSoundMethod d) method c.methods d.methods methods_pair sound.methods;
       init = subst (λ (z : Type 0). z) (λ i. EachIs (λ (g : GroundAtom). SoundAtom (sym objects-same i) (sym predicates-same i) (sym arities-same i) [] g.predicate (map Obj g.args)) (sym same.alike.init i)) sound.init;
       goal = formula c.goal d.goal [] [] same.alike.goal refl sound.goal;
     }

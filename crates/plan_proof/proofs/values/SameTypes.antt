@@ -21,7 +21,8 @@ use Rattle.plan_meaning.specs.Compilation.{AsksSomething}
 use Rattle.slot_encoding.specs.SourceParts.{source_param, source_formula, source_effect}
 use Rattle.slot_encoding.specs.EncodedActions.{is_empty, is_empty_effect}
 use Rattle.plan_proof.specs.Same.{AreSameButNames}
-use Rattle.plan_proof.proofs.values.Pairing.{both-of_maps, both-maps, both-and, got, each-got}
+use Rattle.plan_texts.proofs.Together.{together-of_maps, together-maps, together-and}
+use Rattle.plan_proof.proofs.values.Pairing.{got, each-got}
 use Rattle.plan_proof.proofs.values.TypeNumbers.{place, AreApart, place-at, word-once, all_apart}
 use Rattle.plan_proof.proofs.values.SaidFormulas.{put_param, put, params-put, formula-put, says_nothing, empty-said, said-empty}
 use Rattle.plan_proof.proofs.values.SaidEffects.{put_done, effect-put, does_nothing, empty-done}
@@ -88,9 +89,9 @@ module _ (c d : Hddl) (same : AreSameButNames c d) (sc : IsSoundHddl c) (sd : Is
 
   pub types-of : (xs ys : List Param) → map (typed v) xs ≡ map (typed w) ys → EachIs (IsSoundParam v (arities c)) xs → EachIs (IsSoundParam w (arities d)) ys → map type_of xs ≡ map type_of ys
   types-of xs ys e s t =
-      both-maps type_of type_of (λ x y. (typed v x ≡ typed w y) × IsSoundParam v (arities c) x × IsSoundParam w (arities d) y)
+      together-maps type_of type_of (λ x y. (typed v x ≡ typed w y) × IsSoundParam v (arities c) x × IsSoundParam w (arities d) y)
       (λ x y f. sym (right_v x.ty f.1.1) ∙ ap (λ z. number z.1) f.0 ∙ right_w y.ty f.2.1) xs ys
-      (both-and (λ x y. typed v x ≡ typed w y) (IsSoundParam v (arities c)) (IsSoundParam w (arities d)) xs ys (both-of_maps (typed v) (typed w) xs ys e) s t)
+      (together-and (λ x y. typed v x ≡ typed w y) (IsSoundParam v (arities c)) (IsSoundParam w (arities d)) xs ys (together-of_maps (typed v) (typed w) xs ys e) s t)
 
   module _ (names : List (List ℕ)) where
     pub params-printed : (xs ys : List Param) → map (typed v) xs ≡ map (typed w) ys → EachIs (IsSoundParam v (arities c)) xs → EachIs (IsSoundParam w (arities d)) ys → map (source_param names c.names) xs ≡ map (source_param names d.names) ys

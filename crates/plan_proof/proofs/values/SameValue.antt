@@ -31,7 +31,8 @@ use Rattle.slot_encoding.specs.EncodedNames.{guard_types, checked_methods, held,
 use Rattle.slot_encoding.specs.EncodedValue.{same_atom, atom, first_atoms, AreGuardAtoms, IsInitial, IsEncoded}
 use Rattle.plan_meaning.proofs.examples.Unequal.{lt_to}
 use Rattle.plan_proof.specs.Same.{AreSameButNames}
-use Rattle.plan_proof.proofs.values.Pairing.{Both, maps-length, both-of_maps, both-maps, both-and}
+use Rattle.plan_texts.specs.Together.{Together}
+use Rattle.plan_texts.proofs.Together.{maps-length, together-of_maps, together-maps, together-and}
 use Rattle.plan_proof.proofs.values.TypeNumbers.{AreApart}
 use Rattle.plan_proof.proofs.values.SameSound.{types-count}
 use Rattle.plan_proof.proofs.values.SameTypes.{object_type, in_same, params-printed}
@@ -47,7 +48,7 @@ cond_same : {X : Type 0} (a : Bool) (x x' y y' : X) → (a ≡ true → x ≡ x'
 cond_same true x x' y y' f g = f refl
 cond_same false x x' y y' f g = g
 
-module _ (c d : Compiled) (same : AreSameButNames c.hddl d.hddl) (sc : IsSoundHddl c.hddl) (sd : IsSoundHddl d.hddl) (apart : AreApart (hddl_words d.hddl).unions) (plans : Both (Alike c d same sc sd apart) c.methods d.methods) where
+module _ (c d : Compiled) (same : AreSameButNames c.hddl d.hddl) (sc : IsSoundHddl c.hddl) (sd : IsSoundHddl d.hddl) (apart : AreApart (hddl_words d.hddl).unions) (plans : Together (Alike c d same sc sd apart) c.methods d.methods) where
   abbrev v : Declared
   v = hddl_words c.hddl
 
@@ -67,7 +68,7 @@ module _ (c d : Compiled) (same : AreSameButNames c.hddl d.hddl) (sc : IsSoundHd
     type_names (n ∷ ns) [] e = absurd (cc)
     type_names (n ∷ ns) (m ∷ ms) e =
         let f : map (named c.hddl.names) ns ≡ map (named d.hddl.names) ms = cc in
-        let g = both-maps (renamed names c.hddl.names) (renamed names d.hddl.names) (λ x y. named c.hddl.names x ≡ named d.hddl.names y) (λ x y h. ap (λ z. name names (escaped z)) h) ns ms (both-of_maps (named c.hddl.names) (named d.hddl.names) ns ms f) in
+        let g = together-maps (renamed names c.hddl.names) (renamed names d.hddl.names) (λ x y. named c.hddl.names x ≡ named d.hddl.names y) (λ x y h. ap (λ z. name names (escaped z)) h) ns ms (together-of_maps (named c.hddl.names) (named d.hddl.names) ns ms f) in
         λ i. name names (codes "object") ∷ name names (codes "htn_slot") ∷ name names (codes "htn_object") ∷ g i
 
     types-printed : encoded_types c names b ≡ encoded_types d names b
@@ -81,11 +82,11 @@ module _ (c d : Compiled) (same : AreSameButNames c.hddl d.hddl) (sc : IsSoundHd
 
     objects-printed : encoded_objects c names b ≡ encoded_objects d names b
     objects-printed =
-        let f = both-maps (λ (x : Object). record { name = renamed names c.hddl.names x.name; ty = retyped x.ty; constant = true }) (λ (x : Object). record { name = renamed names d.hddl.names x.name; ty = retyped x.ty; constant = true })
+        let f = together-maps (λ (x : Object). record { name = renamed names c.hddl.names x.name; ty = retyped x.ty; constant = true }) (λ (x : Object). record { name = renamed names d.hddl.names x.name; ty = retyped x.ty; constant = true })
         (λ x y. (object_said v x ≡ object_said w y) × (x.ty < length c.hddl.types.names) × (y.ty < length d.hddl.types.names))
         (λ x y e. let t = object_type c.hddl d.hddl same sd x y e.0 e.1 e.2 in λ i. record { name = name names (escaped (e.0 i).0); ty = retyped (t i); constant = true })
         c.hddl.objects d.hddl.objects
-        (both-and (λ x y. object_said v x ≡ object_said w y) (λ x. x.ty < length c.hddl.types.names) (λ y. y.ty < length d.hddl.types.names) c.hddl.objects d.hddl.objects (both-of_maps (object_said v) (object_said w) c.hddl.objects d.hddl.objects same.alike.objects) sc.objects sd.objects) in
+        (together-and (λ x y. object_said v x ≡ object_said w y) (λ x. x.ty < length c.hddl.types.names) (λ y. y.ty < length d.hddl.types.names) c.hddl.objects d.hddl.objects (together-of_maps (object_said v) (object_said w) c.hddl.objects d.hddl.objects same.alike.objects) sc.objects sd.objects) in
         λ i. f i ++ map (λ k. record { name = name names (slot_word k); ty = 1; constant = true }) (numbers 1 b)
 
     abbrev source_predicate : Compiled → Predicate → Predicate
@@ -93,28 +94,28 @@ module _ (c d : Compiled) (same : AreSameButNames c.hddl d.hddl) (sc : IsSoundHd
 
     source_predicates : map (source_predicate c) c.hddl.predicates ≡ map (source_predicate d) d.hddl.predicates
     source_predicates =
-        both-maps (source_predicate c) (source_predicate d)
+        together-maps (source_predicate c) (source_predicate d)
         (λ x y. (predicate_said v x ≡ predicate_said w y) × EachIs (IsSoundParam v (arities c.hddl)) x.params × EachIs (IsSoundParam w (arities d.hddl)) y.params)
         (λ x y e. let k = params-printed c.hddl d.hddl same sc sd apart names x.params y.params (ap (λ z. z.1) e.0) e.1 e.2 in λ i. record { name = name names (escaped (e.0 i).0); params = k i })
         c.hddl.predicates d.hddl.predicates
-        (both-and (λ x y. predicate_said v x ≡ predicate_said w y) (λ x. EachIs (IsSoundParam v (arities c.hddl)) x.params) (λ y. EachIs (IsSoundParam w (arities d.hddl)) y.params) c.hddl.predicates d.hddl.predicates (both-of_maps (predicate_said v) (predicate_said w) c.hddl.predicates d.hddl.predicates same.alike.predicates) sc.predicates sd.predicates)
+        (together-and (λ x y. predicate_said v x ≡ predicate_said w y) (λ x. EachIs (IsSoundParam v (arities c.hddl)) x.params) (λ y. EachIs (IsSoundParam w (arities d.hddl)) y.params) c.hddl.predicates d.hddl.predicates (together-of_maps (predicate_said v) (predicate_said w) c.hddl.predicates d.hddl.predicates same.alike.predicates) sc.predicates sd.predicates)
 
     held_same : (prefix : List ℕ) (n m : Name) (ps qs : List Param) → named c.hddl.names n ≡ named d.hddl.names m → map (typed v) ps ≡ map (typed w) qs → held c names b prefix n ps ≡ held d names b prefix m qs
     held_same prefix n m ps qs e f = let l = maps-length (typed v) (typed w) ps qs f in λ i. record { name = name names (prefix ++ escaped (e i)); params = held_params d names b (l i) }
 
     held_tasks : map (λ (s : TaskSchema). held c names b (codes "htn_t_") s.name s.params) c.hddl.tasks ≡ map (λ (s : TaskSchema). held d names b (codes "htn_t_") s.name s.params) d.hddl.tasks
     held_tasks =
-        both-maps (λ (s : TaskSchema). held c names b (codes "htn_t_") s.name s.params) (λ (s : TaskSchema). held d names b (codes "htn_t_") s.name s.params) (λ x y. task_said v x ≡ task_said w y)
-        (λ x y e. held_same (codes "htn_t_") x.name y.name x.params y.params (ap (λ z. z.0) e) (ap (λ z. z.1) e)) c.hddl.tasks d.hddl.tasks (both-of_maps (task_said v) (task_said w) c.hddl.tasks d.hddl.tasks same.alike.tasks)
+        together-maps (λ (s : TaskSchema). held c names b (codes "htn_t_") s.name s.params) (λ (s : TaskSchema). held d names b (codes "htn_t_") s.name s.params) (λ x y. task_said v x ≡ task_said w y)
+        (λ x y e. held_same (codes "htn_t_") x.name y.name x.params y.params (ap (λ z. z.0) e) (ap (λ z. z.1) e)) c.hddl.tasks d.hddl.tasks (together-of_maps (task_said v) (task_said w) c.hddl.tasks d.hddl.tasks same.alike.tasks)
 
     held_actions : map (λ (s : ActionSchema). held c names b (codes "htn_a_") s.name s.params) c.hddl.actions ≡ map (λ (s : ActionSchema). held d names b (codes "htn_a_") s.name s.params) d.hddl.actions
     held_actions =
-        both-maps (λ (s : ActionSchema). held c names b (codes "htn_a_") s.name s.params) (λ (s : ActionSchema). held d names b (codes "htn_a_") s.name s.params) (λ x y. action_said v x ≡ action_said w y)
-        (λ x y e. held_same (codes "htn_a_") x.name y.name x.params y.params (ap (λ z. z.0) e) (ap (λ z. z.1) e)) c.hddl.actions d.hddl.actions (both-of_maps (action_said v) (action_said w) c.hddl.actions d.hddl.actions same.alike.actions)
+        together-maps (λ (s : ActionSchema). held c names b (codes "htn_a_") s.name s.params) (λ (s : ActionSchema). held d names b (codes "htn_a_") s.name s.params) (λ x y. action_said v x ≡ action_said w y)
+        (λ x y e. held_same (codes "htn_a_") x.name y.name x.params y.params (ap (λ z. z.0) e) (ap (λ z. z.1) e)) c.hddl.actions d.hddl.actions (together-of_maps (action_said v) (action_said w) c.hddl.actions d.hddl.actions same.alike.actions)
 
     held_checks : map (λ (plan : MethodPlan). held c names b (codes "htn_c_") plan.schema.name plan.schema.params) (checked_methods c) ≡ map (λ (plan : MethodPlan). held d names b (codes "htn_c_") plan.schema.name plan.schema.params) (checked_methods d)
     held_checks =
-        both-maps (λ (plan : MethodPlan). held c names b (codes "htn_c_") plan.schema.name plan.schema.params) (λ (plan : MethodPlan). held d names b (codes "htn_c_") plan.schema.name plan.schema.params) (Alike c d same sc sd apart)
+        together-maps (λ (plan : MethodPlan). held c names b (codes "htn_c_") plan.schema.name plan.schema.params) (λ (plan : MethodPlan). held d names b (codes "htn_c_") plan.schema.name plan.schema.params) (Alike c d same sc sd apart)
         (λ x y e. held_same (codes "htn_c_") x.schema.name y.schema.name x.schema.params y.schema.params (ap (λ z. z.0) e.0.schema) (ap (λ z. z.4.0) e.0.schema)) (checked_methods c) (checked_methods d) (checked-both c d same sc sd apart plans c.methods d.methods plans)
 
     guard_word-same : (ty : ℕ) → guard_word c names b ty ≡ guard_word d names b ty

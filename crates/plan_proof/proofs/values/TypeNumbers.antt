@@ -6,10 +6,12 @@ use Rattle.std.specs.Str.{bytes_eq}
 use Rattle.std.specs.Cmp.Lexicographic.{pointwise}
 use Rattle.text_forms.specs.Words.{Word, word_at, first_place}
 use Rattle.plan_texts.specs.Declared.{Declared, one_word, kinds}
-use Rattle.plan_texts.specs.Types.{EachIs, AreDifferent}
+use Rattle.htn_base.specs.Different.{AreDifferent}
+use Rattle.plan_texts.specs.Types.{EachIs}
 use Rattle.plan_texts.specs.Printable.{IsPlain, IsUnion, HasWords}
 use Rattle.plan_texts.specs.FirstSeen.{first_unions}
 use Rattle.plan_texts.proofs.Basics.{bytes_eq-refl, bytes_eq-other}
+use Rattle.plan_texts.proofs.Members.{lacks-each}
 use Rattle.plan_texts.proofs.Places.{first-different, each-get, each-join}
 
 -- the place of the first of these that has these words; zero where none has
@@ -90,7 +92,7 @@ module _ (us : List (List Word)) (long : EachIs (λ u. 1 < length u) us) (apart 
 
   kinds-apart : (ws : List Word) → AreDifferent ws → AreApart (map one_word ws ++ us)
   kinds-apart [] d = apart
-  kinds-apart (w ∷ ws) d = (each-join (λ y. pointwise bytes_eq y (one_word w) ≡ false) (map one_word ws) us (from_words w ws d.0) (from_unions w us long), kinds-apart ws d.1)
+  kinds-apart (w ∷ ws) d = (each-join (λ y. pointwise bytes_eq y (one_word w) ≡ false) (map one_word ws) us (from_words w ws (lacks-each ws w d.0)) (from_unions w us long), kinds-apart ws d.1)
 
 words_kinds : (ws : List Word) → EachIs (λ k. k ≡ [] → ⊥) (map one_word ws)
 words_kinds [] = tt

@@ -16,6 +16,7 @@ use Rattle.plan_model.specs.declared.formulas.Formula.TheVariants.{And, rolls-An
 use Rattle.plan_model.specs.declared.effects.Effect.TheOpen.{Effect-F}
 use Rattle.plan_model.specs.declared.effects.Effect.TheVariants.{And as Both, rolls-And as rolls-Both}
 use Rattle.plan_model.specs.declared.values.Hddl.{Hddl}
+use Rattle.htn_base.proofs.DifferentLemmas.{different-one}
 use Rattle.plan_texts.proofs.InOrder.{types-in-order}
 use Rattle.plan_texts.proofs.Layers.{formula-And, effect-Both}
 use Rattle.plan_texts.proofs.examples.RowWords.{parts, said, n}
@@ -57,7 +58,7 @@ sound-no_effect : (scope : List Word) → IsSoundEffect v (arities marked) (Both
 sound-no_effect scope = subst (λ e. IsSoundEffect v (arities marked) e scope) (rolls-Both []) (subst (λ (z : List Word → Type 0). z scope) (sym (effect-sound_roll v (arities marked) (Effect-F.And []))) tt)
 
 sound-x : AreSoundParams v (arities marked) (x ∷ [])
-sound-x = ((((refl, refl), omega arith), tt), (tt, tt))
+sound-x = ((((refl, refl), omega arith), tt), different-one _)
 
 sound-top : IsSoundMethod marked marked.top
 sound-top = record { params = (tt, tt); task_args = tt; pre = sound-nothing []; children = tt; constraints = tt }
@@ -66,7 +67,7 @@ pub marked_sound : IsSoundHddl marked
 marked_sound = record {
   domain = (refl, refl);
   problem = (refl, refl);
-  words = record { types = ((refl, refl), tt); types_differ = (tt, tt); unions = tt; objects = tt; predicates = tt; objects_differ = tt; predicates_differ = tt };
+  words = record { types = ((refl, refl), tt); types_differ = different-one _; unions = tt; objects = tt; predicates = tt; objects_differ = tt; predicates_differ = tt };
   first = refl;
   parents = tt;
   has_parent = λ k z l. absurd (omega arith);
@@ -75,7 +76,7 @@ marked_sound = record {
   objects = tt;
   predicates = tt;
   calls_named = ((refl, refl), tt);
-  calls_differ = (tt, tt);
+  calls_differ = different-one _;
   methods_named = tt;
   methods_differ = tt;
   task_params = tt;

@@ -1,6 +1,7 @@
 -- Plans: what spells, and what is refused.
 use Rattle.std.proofs.Common.{ℕ, ◌≡◌, true, false, List, [], ◌∷◌, codes, refl, ap, ◌∙◌}
-use Rattle.plan_texts.specs.PlanText.{is_step_name, is_mark, AreSteps, plan_text}
+use Rattle.text_forms.specs.StepWords.{is_step_name, is_mark}
+use Rattle.plan_texts.specs.PlanText.{AreSteps, plan_text}
 use Rattle.plan_model.specs.declared.steps.GroundAction.{GroundAction}
 use Rattle.plan_texts.proofs.examples.RowWords.{head_word, parts}
 

@@ -1,11 +1,14 @@
 -- The value of the smallest problem is printable, so nothing that is asked contradicts itself.
-use Rattle.std.proofs.Common.{ℕ, zero, suc, ◌≡◌, ◌<◌, ◌≤◌, ◌⊎◌, inl, inr, List, [], ◌∷◌, codes, refl, sym, subst, arith}
+use Rattle.std.proofs.Common.{ℕ, zero, suc, ◌≡◌, ◌<◌, ◌≤◌, ◌⊎◌, inl, inr, List, [], ◌∷◌, map, codes, refl, sym, subst, arith}
 use Rattle.std.specs.Prelude.{Contains}
 use Rattle.text_forms.specs.Words.{Word}
+use Rattle.htn_base.proofs.DifferentLemmas.{different-one}
+use Rattle.plan_texts.specs.Declared.{named}
 use Rattle.plan_texts.specs.SpellsPddl.{pddl_words}
 use Rattle.plan_texts.specs.Printable.{IsSoundParam, AreSoundParams, sound_step, IsSound, sound_effect_step, IsSoundEffect, IsSoundAtom}
 use Rattle.plan_texts.specs.PrintableValue.{arities_of, IsPrintable}
 use Rattle.plan_model.specs.Typing.{Leads, stay, climb}
+use Rattle.plan_model.specs.declared.schemas.ActionSchema.{ActionSchema}
 use Rattle.plan_model.specs.declared.types.Parent.{Parent}
 use Rattle.plan_model.specs.declared.terms.Term.TheVariants.{Var}
 use Rattle.plan_model.specs.declared.formulas.Formula.{Formula, roll-Formula}
@@ -14,7 +17,7 @@ use Rattle.plan_model.specs.declared.formulas.Formula.TheVariants.{Holds, Not, r
 use Rattle.plan_model.specs.declared.effects.Effect.{Effect, roll-Effect}
 use Rattle.plan_model.specs.declared.effects.Effect.TheOpen.{Effect-F}
 use Rattle.plan_model.specs.declared.effects.Effect.TheVariants.{Add, Delete, rolls-Add, rolls-Delete, rolls-And as rolls-Both, rolls-Forall as rolls-Each_one}
-use Rattle.plan_texts.proofs.Basics.{apart}
+use Rattle.plan_texts.proofs.DifferentWords.{different_by}
 use Rattle.plan_texts.proofs.Members.{each-has, contains-has, has-contains}
 use Rattle.plan_texts.proofs.Spelled.{sound_roll}
 use Rattle.plan_texts.proofs.SpelledEffects.{sound_roll as effect-sound_roll}
@@ -44,11 +47,11 @@ other : IsSoundParam (pddl_words smallest) (arities_of smallest) x
 other = ((refl, refl), omega arith)
 
 sound-params : AreSoundParams (pddl_words smallest) (arities_of smallest) (h ∷ [])
-sound-params = ((one 1 refl, tt), (tt, tt))
+sound-params = ((one 1 refl, tt), different-one _)
 
 sound-wait : IsSound (pddl_words smallest) (arities_of smallest) wait scope
 sound-wait = sound _ (Formula-F.Forall (x ∷ []) (Not (Holds (record { predicate = 2; args = Var 1 ∷ Var 0 ∷ [] })))) scope (rolls-Forall _ _) (
-  ((other, tt), (tt, tt)),
+  ((other, tt), different-one _),
   sound _ (Formula-F.Not (Holds (record { predicate = 2; args = Var 1 ∷ Var 0 ∷ [] }))) both (rolls-Not _) (sound _ (Formula-F.Holds (record { predicate = 2; args = Var 1 ∷ Var 0 ∷ [] })) both (rolls-Holds _) (omega arith, refl, (refl, (refl, tt)))),
 )
 
@@ -71,7 +74,7 @@ sound-freed = sound-effect freed (Effect-F.And _) scope (rolls-Both _) (
     sound-add 1 (omega arith, refl, (refl, tt)),
     (
       sound-effect clear (Effect-F.Forall (x ∷ []) (Delete (record { predicate = 2; args = Var 0 ∷ Var 1 ∷ [] }))) scope (rolls-Each_one _ _) (
-        ((other, tt), (tt, tt)),
+        ((other, tt), different-one _),
         sound-effect _ (Effect-F.Delete (record { predicate = 2; args = Var 0 ∷ Var 1 ∷ [] })) both (rolls-Delete _) (omega arith, refl, (refl, (refl, tt))),
       ),
       tt,
@@ -82,7 +85,7 @@ sound-freed = sound-effect freed (Effect-F.And _) scope (rolls-Both _) (
 sound-goal : IsSound (pddl_words smallest) (arities_of smallest) all_free []
 sound-goal = sound all_free (Formula-F.And _) [] (rolls-And _) (
   sound _ (Formula-F.Forall (x ∷ []) (Holds (record { predicate = 1; args = Var 0 ∷ [] }))) [] (rolls-Forall _ _) (
-    ((other, tt), (tt, tt)),
+    ((other, tt), different-one _),
     sound _ (Formula-F.Holds (record { predicate = 1; args = Var 0 ∷ [] })) (codes "htn_x" ∷ []) (rolls-Holds _) (omega arith, refl, (refl, tt)),
   ),
   tt,
@@ -104,12 +107,12 @@ smallest_printable = record {
   problem = (refl, refl);
   words = record {
     types = ((refl, refl), ((refl, refl), ((refl, refl), tt)));
-    types_differ = ((apart _ _ refl, (apart _ _ refl, tt)), ((apart _ _ refl, tt), (tt, tt)));
+    types_differ = different_by (pddl_words smallest).types refl;
     unions = tt;
     objects = ((refl, refl), tt);
     predicates = ((refl, refl), ((refl, refl), ((refl, refl), ((refl, refl), ((refl, refl), tt)))));
-    objects_differ = (tt, tt);
-    predicates_differ = ((apart _ _ refl, (apart _ _ refl, (apart _ _ refl, (apart _ _ refl, tt)))), ((apart _ _ refl, (apart _ _ refl, (apart _ _ refl, tt))), ((apart _ _ refl, (apart _ _ refl, tt)), ((apart _ _ refl, tt), (tt, tt)))));
+    objects_differ = different-one _;
+    predicates_differ = different_by (pddl_words smallest).predicates refl;
   };
   first = refl;
   parents = ((omega arith, omega arith, omega arith), ((omega arith, omega arith, omega arith), tt));
@@ -118,7 +121,7 @@ smallest_printable = record {
   objects = ((omega arith, refl), tt);
   predicates = ((one 1 refl, tt), ((one 1 refl, tt), ((other, (one 1 refl, tt)), ((one 1 refl, tt), ((one 1 refl, tt), tt)))));
   actions_named = ((refl, refl), ((refl, refl), ((refl, refl), tt)));
-  actions_differ = ((apart _ _ refl, (apart _ _ refl, tt)), ((apart _ _ refl, tt), (tt, tt)));
+  actions_differ = different_by (map (λ (a : ActionSchema). named smallest.names a.name) smallest.actions) refl;
   params = (sound-params, (sound-params, (sound-params, tt)));
   pre = (sound-held 0 (omega arith, refl, (refl, tt)), (sound-held 3 (omega arith, refl, (refl, tt)), (sound-held 4 (omega arith, refl, (refl, tt)), tt)));
   eff = (sound-turned 0 3 (omega arith, refl, (refl, tt)) (omega arith, refl, (refl, tt)), (sound-turned 3 4 (omega arith, refl, (refl, tt)) (omega arith, refl, (refl, tt)), (sound-freed, tt)));

@@ -2,7 +2,7 @@ use crate::reader::listing::has_cycle;
 use crate::reader::named::Named;
 use crate::reader::stop::Stop;
 use crate::reader::words::number;
-use gd_reader::{RawParam, RawTerm};
+use gd_reader::{RawParam, RawTypes};
 use htn_base::{List, Name};
 use plan_model::{Param, Parent, Types};
 use std::alloc::Global;
@@ -126,7 +126,7 @@ fn add_parent(parents: &mut List<Parent>, pair: Parent) -> Result<(), Stop> {
 
 impl TypeTable {
     /// The number of a type as it is written: `object` where none is, a union where there are two or more.
-    pub fn kind_of(&self, alloc: Global, written: &List<RawTerm>) -> Result<u32, Stop> {
+    pub fn kind_of(&self, alloc: Global, written: &RawTypes) -> Result<u32, Stop> {
         match written.as_slice() {
             [] => Ok(0),
             [one] => self.by_name.get(one.name),
@@ -134,7 +134,7 @@ impl TypeTable {
         }
     }
 
-    fn union_of(&self, alloc: Global, written: &List<RawTerm>) -> Result<u32, Stop> {
+    fn union_of(&self, alloc: Global, written: &RawTypes) -> Result<u32, Stop> {
         let mut members = List::new(alloc);
         for ty in written.as_slice() {
             members.push(self.by_name.get(ty.name)?)?;

@@ -2,7 +2,7 @@
 
 ghost use Rattle.std.specs.Prelude.{IfOk};
 ghost use Rattle.public_calls.specs.Recursive.{IsRecursive};
-ghost use Rattle.stratifier.specs.Conditions.{AreSmall, HaveNoCycle};
+ghost use Rattle.stratifier.specs.Conditions.{IsSmallCompiled, HaveNoCycle};
 
 use crate::methods::samples::{always, method, one, problem, types};
 use htn_base::{List, Memory, Name};
@@ -47,7 +47,7 @@ fn plan(alloc: Global) -> Result<MethodPlan, Memory>
 }
 
 fn recursive(alloc: Global) -> Result<Compiled, Memory>
-    ensures small { IfOk result AreSmall }
+    ensures small { IfOk result IsSmallCompiled }
     ensures ordered { IfOk result HaveNoCycle }
 {
     let top = method(alloc, always(alloc), &[], List::new(alloc), false)?;
@@ -66,7 +66,7 @@ fn recursive(alloc: Global) -> Result<Compiled, Memory>
 
 /// Whether the top task is reached, and its edge to itself, which is to the last child, is the only one.
 fn has_one_edge(alloc: Global, value: &Compiled) -> Result<bool, Memory>
-    requires small { AreSmall value.now }
+    requires small { IsSmallCompiled value.now }
     requires ordered { HaveNoCycle value.now }
 {
     let found = edges(alloc, value)?;

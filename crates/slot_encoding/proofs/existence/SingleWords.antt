@@ -1,9 +1,8 @@
 -- Words that are each listed once differ, and no word is lost.
-use Rattle.std.proofs.Common.{zero, suc, ◌≡◌, ◌≢◌, ◌⊎◌, inl, inr, Bool, true, false, not, List, [], ◌∷◌, refl, ap, sym, subst, ◌∙◌, Contains, arith, true≢false}
+use Rattle.std.proofs.Common.{◌≡◌, ◌≢◌, ◌⊎◌, inl, inr, Bool, true, false, not, List, [], ◌∷◌, refl, ap, sym, subst, ◌∙◌, Contains, true≢false}
 use Rattle.std.specs.Str.{bytes_eq}
-use Rattle.std.proofs.lemmas.List.Kept.{AllPairs-filter}
-use Rattle.std.proofs.lemmas.List.Elements.{filter_passes}
-use Rattle.htn_base.specs.Table.{AllDiffer}
+use Rattle.htn_base.specs.Different.{AreDifferent}
+use Rattle.task_networks.proofs.Filters.{filter_to, different-filter}
 use Rattle.text_forms.specs.Words.{Word}
 use Rattle.plan_texts.proofs.Basics.{bytes_eq-true, bytes_eq-refl}
 use Rattle.plan_meaning.specs.Compilation.{once}
@@ -25,9 +24,9 @@ to_single = to_once bytes_eq tells
 not_same : (w u : Word) → not (bytes_eq w u) ≡ true → w ≢ u
 not_same w u t e = true≢false (sym t ∙ ap not (subst (λ z. bytes_eq w z ≡ true) e (bytes_eq-refl w)))
 
-pub single_differ : (ws : List Word) → AllDiffer (single_words ws)
-single_differ [] i j d l m = absurd (omega arith)
-single_differ (w ∷ ws) zero zero d l m = absurd (omega arith)
-single_differ (w ∷ ws) zero (suc j) d l m = not_same w _ (filter_passes (λ u. not (bytes_eq w u)) (single_words ws) j d (omega arith))
-single_differ (w ∷ ws) (suc i) zero d l m = absurd (omega arith)
-single_differ (w ∷ ws) (suc i) (suc j) d l m = AllPairs-filter (λ (one other : Word). one ≢ other) (λ u. not (bytes_eq w u)) (single_words ws) (single_differ ws) i j d (omega arith) (omega arith)
+pub single_differ : (ws : List Word) → AreDifferent (single_words ws)
+single_differ [] = tt
+single_differ (w ∷ ws) = (
+  λ c. not_same w w (filter_to (λ u. not (bytes_eq w u)) (single_words ws) w c).1 refl,
+  different-filter (λ u. not (bytes_eq w u)) (single_words ws) (single_differ ws),
+)

@@ -4,7 +4,8 @@ use Rattle.std.specs.Prelude.{Any}
 use Rattle.text_forms.specs.Lists.{Part, Parts, nothing, part}
 use Rattle.text_forms.specs.Words.{Word, is_name, word_at}
 use Rattle.plan_texts.specs.TypedLists.{Each, EachTyped, ahead, skipped}
-use Rattle.plan_texts.specs.Types.{Has, EachIs, AreDifferent}
+use Rattle.htn_base.specs.Different.{AreDifferent}
+use Rattle.plan_texts.specs.Types.{Has, EachIs}
 use Rattle.plan_texts.proofs.Members.{contains-has, has-contains}
 use Rattle.plan_texts.proofs.Places.{first-different}
 

@@ -9,10 +9,11 @@ use Rattle.plan_model.specs.declared.schemas.ActionSchema.{ActionSchema}
 use Rattle.plan_model.specs.declared.schemas.MethodPlan.{MethodPlan}
 use Rattle.plan_model.specs.declared.values.Compiled.{Compiled}
 use Rattle.plan_texts.specs.Declared.{named}
-use Rattle.plan_texts.specs.Types.{Has, EachIs, AreDifferent}
+use Rattle.htn_base.specs.Different.{AreDifferent}
+use Rattle.plan_texts.specs.Types.{Has, EachIs}
 use Rattle.plan_texts.specs.Printable.{IsPlain}
 use Rattle.plan_texts.specs.SoundValue.{IsSoundHddl, method_words as old_words}
-use Rattle.plan_texts.proofs.Members.{each-has}
+use Rattle.plan_texts.proofs.Members.{each-has, each-lacks}
 use Rattle.plan_texts.proofs.Places.{each-join}
 use Rattle.plan_meaning.specs.Compilation.{AreMethodPlans, IsCompiled}
 use Rattle.slot_encoding.specs.EncodedNames.{joined, checked_methods}
@@ -125,7 +126,7 @@ module _ (c : Compiled) (names : List Word) (b : ℕ) (style : Style) (sound : I
     methods_below : AreBelow action_rank 5 (names_from 0 c.methods)
     methods_below = methods_are (AreBelow action_rank 5) (λ plans e. record {
       different = (
-        each-map (λ u. codes "htn_start" ≡ u → ⊥) other_word plans (λ p m f. (let g : 3 ≡ 4 = ap action_rank f in omega arith)),
+        each-lacks (map other_word plans) (codes "htn_start") (each-map (λ u. codes "htn_start" ≡ u → ⊥) other_word plans (λ p m f. (let g : 3 ≡ 4 = ap action_rank f in omega arith))),
         different-by old_word other_word plans (λ x y h k f. escaped-once (old_word x) (old_word y) (ap (drop 6) f)) (subst AreDifferent (sym e) sound.methods_differ),
       );
       below = (omega arith, each-map (λ w. action_rank w < 5) other_word plans (λ p m. omega arith));

@@ -1,5 +1,6 @@
 -- The initial atoms and the goal of the printed problem are sound.
-use Rattle.std.proofs.Common.{ℕ, ◌+◌, ◌-◌, ◌<◌, ◌≤◌, inl, inr, Bool, true, false, cond, List, [], ◌∷◌, ◌++◌, map, length, refl, sym, subst, ◌∙◌, arith}
+use Rattle.std.proofs.Common.{ℕ, ◌+◌, ◌-◌, ◌<◌, ◌≤◌, inl, inr, Bool, true, false, cond, List, [], ◌∷◌, ◌++◌, map, length, refl, sym, subst, ◌∙◌, arith, codes}
+use Rattle.htn_base.proofs.DifferentLemmas.{different-one}
 use Rattle.text_forms.specs.Words.{Word}
 use Rattle.plan_model.specs.declared.options.Style.{Style}
 use Rattle.plan_model.specs.declared.terms.GroundAtom.{GroundAtom}
@@ -90,7 +91,7 @@ module _ (c : Compiled) (names : List Word) (b : ℕ) (style : Style) (sound : I
   pub goal_sound : IsSound (printed_words c names b) (printed_arities c names b) (And (source_condition c names b style 0 c.hddl.goal ++ free_parts (order_numbers c names b) b 0 style (free_predicate c))) []
   goal_sound = sound-And v' ar' [] _ (each-join SoundFormula (source_condition c names b style 0 c.hddl.goal) (free_parts (order_numbers c names b) b 0 style (free_predicate c))
       (go (is_empty c.hddl.goal))
-      (frees c names b sound has [] (tt, tt) 0 refl style))
+      (frees c names b sound has [] (different-one (codes "htn_x")) 0 refl style))
     where
       go : (t : Bool) → EachIs SoundFormula (cond t [] (source_formula names c.hddl.names 0 c.hddl.goal ∷ []))
       go true = tt

@@ -1,9 +1,10 @@
 -- What holds of each item of joined, mapped and filtered lists, and words that differ.
 use Rattle.std.proofs.Common.{ℕ, zero, suc, ◌≡◌, ◌+◌, ◌<◌, ◌≤◌, ◌⊎◌, inl, inr, nat_eq, not, Bool, true, false, cond, List, [], ◌∷◌, ◌++◌, map, filter, slice_get, Some, refl, ap, sym, subst, ◌∙◌, arith, true≢false}
 use Rattle.text_forms.specs.Words.{Word}
-use Rattle.plan_texts.specs.Types.{Has, EachIs, AreDifferent}
+use Rattle.htn_base.specs.Different.{AreDifferent}
+use Rattle.plan_texts.specs.Types.{Has, EachIs}
 use Rattle.std.proofs.lemmas.Bool.Decides.{eqb_tells}
-use Rattle.plan_texts.proofs.Members.{has-contains, contains-has}
+use Rattle.plan_texts.proofs.Members.{each-lacks, lacks-each, has-contains, contains-has}
 use Rattle.plan_meaning.specs.Compilation.{once}
 use Rattle.plan_meaning.proofs.Pairs.{once_to}
 use Rattle.task_networks.proofs.Filters.{filter_to}
@@ -49,18 +50,10 @@ pub each-from_get : {X : Type 0} (P : X → Type 0) (xs : List X) → ((k : ℕ)
 each-from_get P [] h = tt
 each-from_get P (x ∷ xs) h = (h 0 x refl, each-from_get P xs (λ k y e. h (suc k) y e))
 
-pub different-left : (xs ys : List Word) → AreDifferent (xs ++ ys) → AreDifferent xs
-different-left [] ys d = tt
-different-left (x ∷ xs) ys d = (each-left (λ u. x ≡ u → ⊥) xs ys d.0, different-left xs ys d.1)
-
-pub different-right : (xs ys : List Word) → AreDifferent (xs ++ ys) → AreDifferent ys
-different-right [] ys d = d
-different-right (x ∷ xs) ys d = different-right xs ys d.1
-
 -- words differ where other words do that they tell
 pub different-by : {X : Type 0} (f g : X → Word) (xs : List X) → ((x y : X) → Has xs x → Has xs y → g x ≡ g y → f x ≡ f y) → AreDifferent (map f xs) → AreDifferent (map g xs)
 different-by f g [] same d = tt
-different-by {X = X} f g (x ∷ xs) same d = (apart xs (λ y h. h) d.0, different-by f g xs (λ a b h k. same a b (inr h) (inr k)) d.1)
+different-by {X = X} f g (x ∷ xs) same d = (each-lacks (map g xs) (g x) (apart xs (λ y h. h) (lacks-each (map f xs) (f x) d.0)), different-by f g xs (λ a b h k. same a b (inr h) (inr k)) d.1)
   where
     apart : (ys : List X) → ((y : X) → Has ys y → Has xs y) → EachIs (λ u. f x ≡ u → ⊥) (map f ys) → EachIs (λ u. g x ≡ u → ⊥) (map g ys)
     apart [] within e = tt
@@ -79,7 +72,7 @@ different-filter {X = X} f test (x ∷ xs) d = go (test x) (different-filter f t
         by false r = r
 
     go : (t : Bool) → AreDifferent (map f (filter test xs)) → AreDifferent (map f (cond t (x ∷ filter test xs) (filter test xs)))
-    go true r = (apart xs d.0, r)
+    go true r = (each-lacks (map f (filter test xs)) (f x) (apart xs (lacks-each (map f xs) (f x) d.0)), r)
     go false r = r
 
 -- groups of words, each of higher ranks than those before it
@@ -98,7 +91,7 @@ module _ (rank : Word → ℕ) where
   pub different-ranks : (j m : ℕ) (xs ys : List Word) → AreBelow j xs → AreDifferent ys → EachIs (IsBetween j m) ys → AreDifferent (xs ++ ys)
   different-ranks j m [] ys a d e = d
   different-ranks j m (x ∷ xs) ys a d e = (
-    each-join (λ w. x ≡ w → ⊥) xs ys a.different.0 (apart_ranks x j m ys a.below.0 e),
+    each-lacks (xs ++ ys) x (each-join (λ w. x ≡ w → ⊥) xs ys (lacks-each xs x a.different.0) (apart_ranks x j m ys a.below.0 e)),
     different-ranks j m xs ys (record { different = a.different.1; below = a.below.1 }) d e,
   )
 
@@ -112,7 +105,8 @@ module _ (rank : Word → ℕ) where
 pub different-numbers : (f : ℕ → Word) (m : ℕ) → ((j k : ℕ) → j < m → k < m → f j ≡ f k → j ≡ k) → (i n : ℕ) → i + n ≤ m → AreDifferent (map f (numbers i n))
 different-numbers f m once i zero l = tt
 different-numbers f m once i (suc n) l = (
-  each-map (λ u. f i ≡ u → ⊥) f (numbers (suc i) n) (λ k h e. (let r = numbers_to (suc i) n k (has-contains (numbers (suc i) n) k h) in let g = r.0 in let j = r.1 in let s = once i k (omega arith) (omega arith) e in omega arith)),
+  each-lacks (map f (numbers (suc i) n)) (f i)
+      (each-map (λ u. f i ≡ u → ⊥) f (numbers (suc i) n) (λ k h e. (let r = numbers_to (suc i) n k (has-contains (numbers (suc i) n) k h) in let g = r.0 in let j = r.1 in let s = once i k (omega arith) (omega arith) e in omega arith))),
   different-numbers f m once (suc i) n (omega arith),
 )
 
@@ -129,11 +123,11 @@ joined-has {X = X} (ys ∷ xss) x h = elim (parts ys h) [ inl k ↦ (ys, inl ref
 pub different-once : (f : ℕ → Word) (xs : List ℕ) → ((s t : ℕ) → Has xs s → Has xs t → f s ≡ f t → s ≡ t) → AreDifferent (map f (once nat_eq xs))
 different-once f [] same = tt
 different-once f (x ∷ xs) same = (
-  each-map (λ u. f x ≡ u → ⊥) f (filter (λ y. not (nat_eq x y)) (once nat_eq xs)) (λ y h e. (
+  each-lacks (map f (filter (λ y. not (nat_eq x y)) (once nat_eq xs))) (f x) (each-map (λ u. f x ≡ u → ⊥) f (filter (λ y. not (nat_eq x y)) (once nat_eq xs)) (λ y h e. (
       let (k, t) = filter_to (λ y. not (nat_eq x y)) (once nat_eq xs) y (has-contains (filter (λ y. not (nat_eq x y)) (once nat_eq xs)) y h) in
       let s = same x y (inl refl) (inr (contains-has xs y (once_to nat_eq xs y k))) e in
       elim (eqb_tells x y) [ inl d ↦ true≢false (sym t ∙ ap not d.0) | inr d ↦ d.1 s ]
-      )),
+      ))),
   different-filter f (λ y. not (nat_eq x y)) (once nat_eq xs) (different-once f xs (λ s t h k e. same s t (inr h) (inr k) e)),
 )
 

@@ -20,7 +20,8 @@ use Rattle.plan_model.specs.declared.effects.Effect.TheVariants as E
 use Rattle.plan_model.specs.declared.schemas.MethodPlan.{MethodPlan}
 use Rattle.plan_model.specs.declared.values.Compiled.{Compiled}
 use Rattle.plan_texts.specs.Declared.{Declared}
-use Rattle.plan_texts.specs.Types.{Has, EachIs, AreDifferent}
+use Rattle.htn_base.specs.Different.{AreDifferent}
+use Rattle.plan_texts.specs.Types.{Has, EachIs}
 use Rattle.plan_texts.specs.SpellsHddl.{hddl_words}
 use Rattle.plan_texts.specs.Printable.{IsInForce, IsSoundAtom, IsSound, IsSoundEffect}
 use Rattle.plan_texts.specs.SoundValue.{IsSoundHddl, IsSoundConstraint, arities, scope_of}

@@ -21,7 +21,8 @@ use Rattle.task_networks.specs.Spelling.{numbers}
 use Rattle.task_networks.proofs.Lists.{not-in_empty, last_cases}
 use Rattle.task_networks.proofs.Numbers.{length-numbers, numbers_to}
 use Rattle.plan_texts.specs.Declared.{Declared, kinds, variable}
-use Rattle.plan_texts.specs.Types.{Has, EachIs, AreDifferent}
+use Rattle.htn_base.specs.Different.{AreDifferent}
+use Rattle.plan_texts.specs.Types.{Has, EachIs}
 use Rattle.plan_texts.specs.SpellsHddl.{hddl_words}
 use Rattle.plan_texts.specs.Printable.{IsInForce, IsSoundParam, AreSoundParams, IsSound}
 use Rattle.plan_texts.specs.SoundValue.{IsSoundHddl, IsSoundMethod, IsSoundHead, IsSoundChild, IsSoundConstraint, arities, scope_of}

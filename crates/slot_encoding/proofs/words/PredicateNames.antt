@@ -13,12 +13,13 @@ use Rattle.plan_model.specs.declared.schemas.ActionSchema.{ActionSchema}
 use Rattle.plan_model.specs.declared.schemas.MethodPlan.{MethodPlan}
 use Rattle.plan_model.specs.declared.values.Compiled.{Compiled}
 use Rattle.plan_texts.specs.Declared.{named}
-use Rattle.plan_texts.specs.Types.{Has, EachIs, AreDifferent}
+use Rattle.htn_base.specs.Different.{AreDifferent}
+use Rattle.plan_texts.specs.Types.{Has, EachIs}
 use Rattle.plan_texts.specs.SpellsHddl.{hddl_words, task_words, action_words}
 use Rattle.plan_texts.specs.Printable.{IsPlain, IsPlainVariable, IsSoundParam}
 use Rattle.plan_texts.specs.SoundValue.{IsSoundHddl, arities}
 use Rattle.plan_texts.proofs.Basics.{apart}
-use Rattle.plan_texts.proofs.Members.{each-has, has-to_map, length-map}
+use Rattle.plan_texts.proofs.Members.{each-has, each-lacks, has-to_map, length-map}
 use Rattle.plan_texts.proofs.Places.{plain-variable, each-join}
 use Rattle.task_networks.specs.Spelling.{numbers}
 use Rattle.plan_meaning.specs.Compilation.{IsCompiled}
@@ -26,7 +27,8 @@ use Rattle.slot_encoding.specs.SourceParts.{name}
 use Rattle.slot_encoding.specs.EncodedNames.{guard_types, guard_word, checked_methods, encoded_objects, encoded_predicates, held_params}
 use Rattle.slot_encoding.proofs.places.ObjectPlaces.{length-objects}
 use Rattle.slot_encoding.specs.EncodedWords.{own_word, param_words, held_words, numbered, HasEncodedWords}
-use Rattle.slot_encoding.proofs.words.Lists.{each-left, each-right, each-part, each-map, each-of_map, different-left, different-right, different-by, different-ranks, below-join, between-map}
+use Rattle.htn_base.proofs.DifferentLemmas.{different-left, different-right}
+use Rattle.slot_encoding.proofs.words.Lists.{each-left, each-right, each-part, each-map, each-of_map, different-by, different-ranks, below-join, between-map}
 use Rattle.slot_encoding.proofs.words.PlainWords.{rank, rank-escaped, plain-escaped, escaped-once, plain-behind, folded-decimal}
 use Rattle.slot_encoding.proofs.words.TableWords.{named-name, words-made}
 use Rattle.slot_encoding.proofs.words.KnownWords.{known_variables, known_types, known_source_group, known_three, known_task_group, known_action_group, known_check_group, known_guard_group}
@@ -219,8 +221,10 @@ module _ (c : Compiled) (names : List Word) (b : ℕ) (sound : IsSoundHddl c.hdd
         (record {
           different = different-by (λ (p : Predicate). named c.hddl.names p.name) (λ (p : Predicate). own_word c p.name) c.hddl.predicates (λ p q h k e. escaped-once (named c.hddl.names p.name) (named c.hddl.names q.name) e) sound.words.predicates_differ;
           below = each-map (λ w. rank w < 1) (λ (p : Predicate). own_word c p.name) c.hddl.predicates (λ p m. (let e : rank (own_word c p.name) ≡ 0 = rank-escaped (named c.hddl.names p.name) in omega arith));
-        })
-        ((apart _ _ refl, (apart _ _ refl, not_task (codes "htn_top") refl)), ((apart _ _ refl, not_task (codes "htn_free") refl), (not_task (codes "htn_before") refl, tasks_differ)))
+        }) (
+          each-lacks (codes "htn_free" ∷ codes "htn_before" ∷ task_names) (codes "htn_top") (apart _ _ refl, (apart _ _ refl, not_task (codes "htn_top") refl)),
+          (each-lacks (codes "htn_before" ∷ task_names) (codes "htn_free") (apart _ _ refl, not_task (codes "htn_free") refl), (each-lacks task_names (codes "htn_before") (not_task (codes "htn_before") refl), tasks_differ)),
+        )
         ((omega arith, omega arith), ((omega arith, omega arith), ((omega arith, omega arith), between-map rank 1 3 2 (λ (s : TaskSchema). codes "htn_t_" ++ own_word c s.name) c.hddl.tasks (λ s m. refl) (omega arith) (omega arith)))))
         held_actions_differ (between-map rank 3 4 3 (λ (s : ActionSchema). codes "htn_a_" ++ own_word c s.name) c.hddl.actions (λ s m. refl) (omega arith) (omega arith)))
         check_names_differ (between-map rank 4 5 4 (λ (p : MethodPlan). codes "htn_c_" ++ own_word c p.schema.name) (checked_methods c) (λ p m. refl) (omega arith) (omega arith)))

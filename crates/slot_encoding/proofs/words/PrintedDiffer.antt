@@ -4,7 +4,8 @@ use Rattle.text_forms.specs.Words.{Word}
 use Rattle.plan_model.specs.declared.schemas.ActionSchema.{ActionSchema}
 use Rattle.plan_model.specs.declared.values.Pddl.{Pddl}
 use Rattle.plan_texts.specs.Printable.{AreSoundParams, IsSound, IsSoundEffect}
-use Rattle.plan_texts.specs.Types.{EachIs, AreDifferent}
+use Rattle.htn_base.specs.Different.{AreDifferent}
+use Rattle.plan_texts.specs.Types.{EachIs}
 use Rattle.plan_texts.specs.SpellsPddl.{pddl_words}
 use Rattle.plan_texts.specs.PrintableValue.{arities_of, IsPrintable}
 use Rattle.slot_encoding.proofs.places.Places.{same_place}

@@ -2,8 +2,10 @@
 use Rattle.std.proofs.Common.{ℕ, zero, suc, ◌≡◌, ◌+◌, ◌<◌, Bool, true, false, List, [], ◌∷◌, ◌++◌, map, length, Option, Some, None, refl, ap, sym, ◌∙◌, arith, true≢false}
 use Rattle.std.specs.Str.{bytes_eq}
 use Rattle.text_forms.specs.Words.{Word, later, last_place, word_at}
-use Rattle.plan_texts.specs.Types.{EachIs, AreDifferent}
+use Rattle.htn_base.specs.Different.{AreDifferent}
+use Rattle.plan_texts.specs.Types.{EachIs}
 use Rattle.plan_texts.proofs.Basics.{bytes_eq-true, bytes_eq-refl, bytes_eq-other}
+use Rattle.plan_texts.proofs.Members.{lacks-each}
 
 pub last-behind : (w : Word) (us ws : List Word) (k : ℕ) → last_place w ws ≡ Some k → last_place w (us ++ ws) ≡ Some (length us + k)
 last-behind w [] ws k e = let f : k ≡ 0 + k = omega arith in e ∙ ap Some f
@@ -46,5 +48,5 @@ last-absent w (u ∷ ws) e = ap (λ z. later z (bytes_eq w u)) (last-absent w ws
 -- where all words differ, none hides another
 pub last-different : (ws : List Word) (k : ℕ) → AreDifferent ws → k < length ws → last_place (word_at ws k) ws ≡ Some k
 last-different [] k d l = absurd (omega arith)
-last-different (w ∷ ws) zero d l = ap (λ z. later z (bytes_eq w w)) (last-absent w ws d.0) ∙ ap (later None) (bytes_eq-refl w)
+last-different (w ∷ ws) zero d l = ap (λ z. later z (bytes_eq w w)) (last-absent w ws (lacks-each ws w d.0)) ∙ ap (later None) (bytes_eq-refl w)
 last-different (w ∷ ws) (suc k) d l = ap (λ z. later z (bytes_eq (word_at ws k) w)) (last-different ws k d.1 (omega arith))

@@ -12,7 +12,8 @@ use Rattle.plan_model.specs.declared.effects.Effect.{Effect}
 use Rattle.plan_model.specs.declared.effects.Effect.TheVariants as E
 use Rattle.plan_model.specs.declared.values.Compiled.{Compiled}
 use Rattle.plan_texts.specs.Declared.{Declared, named, variable}
-use Rattle.plan_texts.specs.Types.{Has, EachIs, AreDifferent}
+use Rattle.htn_base.specs.Different.{AreDifferent}
+use Rattle.plan_texts.specs.Types.{Has, EachIs}
 use Rattle.plan_texts.specs.Printable.{IsInForce, IsSoundAtom, AreSoundParams, IsSound, IsSoundEffect}
 use Rattle.plan_texts.specs.SoundValue.{IsSoundHddl}
 use Rattle.plan_texts.proofs.Members.{has-contains, length-map}
@@ -22,7 +23,8 @@ use Rattle.slot_encoding.specs.EncodedNames.{first_slot, free_predicate, before_
 use Rattle.slot_encoding.proofs.places.ListPlaces.{length-joined}
 use Rattle.slot_encoding.proofs.places.ObjectPlaces.{length-objects}
 use Rattle.slot_encoding.specs.EncodedWords.{HasEncodedWords}
-use Rattle.slot_encoding.proofs.words.Lists.{each-map, different-left}
+use Rattle.htn_base.proofs.DifferentLemmas.{different-one, different-left}
+use Rattle.slot_encoding.proofs.words.Lists.{each-map}
 use Rattle.slot_encoding.proofs.words.TableWords.{named-name}
 use Rattle.slot_encoding.proofs.words.Scopes.{last-different}
 use Rattle.slot_encoding.proofs.words.PrintedWords.{printed_words, printed_arities}
@@ -69,7 +71,7 @@ module _ (c : Compiled) (names : List Word) (b : ℕ) (sound : IsSoundHddl c.hdd
     behind-named = ap (λ w. scope ++ w ∷ []) (named-name (codes "htn_x") names (known_x c names b sound has))
 
     any_sound : AreSoundParams v' ar' (any_slot n b)
-    any_sound = ((sound_x c names b sound has, tt), (tt, tt))
+    any_sound = ((sound_x c names b sound has, tt), different-one _)
 
     all_slots : (f : Formula) → IsSound v' ar' f behind → Sound (Forall (any_slot n b) f)
     all_slots f s = sound-Forall v' ar' scope (any_slot n b) f any_sound (subst (IsSound v' ar' f) (sym behind-named) s)

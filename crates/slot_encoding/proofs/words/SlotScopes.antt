@@ -8,18 +8,20 @@ use Rattle.plan_model.specs.declared.terms.Term.TheVariants.{Var}
 use Rattle.plan_model.specs.declared.terms.Param.{Param}
 use Rattle.plan_model.specs.declared.values.Compiled.{Compiled}
 use Rattle.plan_texts.specs.Declared.{Declared, variable}
-use Rattle.plan_texts.specs.Types.{Has, EachIs, AreDifferent}
+use Rattle.htn_base.specs.Different.{AreDifferent}
+use Rattle.plan_texts.specs.Types.{Has, EachIs}
 use Rattle.plan_texts.specs.SpellsHddl.{hddl_words}
 use Rattle.plan_texts.specs.Printable.{IsInForce, IsSoundParam, AreSoundParams}
 use Rattle.plan_texts.specs.SoundValue.{IsSoundHddl, arities, scope_of}
-use Rattle.plan_texts.proofs.Members.{length-map}
+use Rattle.plan_texts.proofs.Members.{each-lacks, length-map}
 use Rattle.plan_texts.proofs.Places.{each-join}
 use Rattle.task_networks.specs.Spelling.{numbers}
 use Rattle.task_networks.proofs.Numbers.{length-numbers}
 use Rattle.slot_encoding.specs.SourceParts.{name, source_param}
 use Rattle.slot_encoding.proofs.places.ListPlaces.{length-joined}
 use Rattle.slot_encoding.specs.EncodedWords.{param_words, numbered, HasEncodedWords}
-use Rattle.slot_encoding.proofs.words.Lists.{each-map, different-left, different-numbers, IsBetween, different-ranks, below-join}
+use Rattle.htn_base.proofs.DifferentLemmas.{different-one, different-left}
+use Rattle.slot_encoding.proofs.words.Lists.{each-map, different-numbers, IsBetween, different-ranks, below-join}
 use Rattle.slot_encoding.proofs.words.PlainWords.{is_generated, escape_is_none, plain-behind, folded-decimal, some-decimal}
 use Rattle.slot_encoding.proofs.words.TableWords.{named-name}
 use Rattle.slot_encoding.proofs.words.Scopes.{last-different}
@@ -36,7 +38,8 @@ slot_names n = codes "htn_h" ∷ map (λ k. codes "htn_h" ++ decimal k) (numbers
 
 slots_apart : (n : ℕ) → n < 2 ^ 64 → AreDifferent (slot_names n)
 slots_apart n l = (
-  each-map (λ u. codes "htn_h" ≡ u → ⊥) (λ k. codes "htn_h" ++ decimal k) (numbers 1 n) (λ k m e. some-decimal k (sym (ap (drop 5) e))),
+  each-lacks (map (λ k. codes "htn_h" ++ decimal k) (numbers 1 n)) (codes "htn_h")
+      (each-map (λ u. codes "htn_h" ≡ u → ⊥) (λ k. codes "htn_h" ++ decimal k) (numbers 1 n) (λ k m e. some-decimal k (sym (ap (drop 5) e)))),
   different-numbers (λ k. codes "htn_h" ++ decimal k) (1 + n) (λ j k i m e. decimal_injective j k (omega arith) (omega arith) (ap (drop 5) e)) 1 n (omega arith),
 )
 
@@ -86,7 +89,7 @@ module _ (c : Compiled) (names : List Word) (b : ℕ) (sound : IsSoundHddl c.hdd
         (record { different = slots_apart n short; below = slots_first n })
         (escapes_differ v v' ar ar' (extended c names b sound has) (scope_of c.hddl params) are.1)
         (each-map (IsBetween part_rank 1 2) escaped (scope_of c.hddl params) (λ w m. (let e : part_rank (escaped w) ≡ 1 = ap (λ t. cond t (cond (get_or (escaped w) 4 0 == 120) 2 0) 1) (escape_is_none w) in (omega arith, omega arith)))))
-        (tt, tt) ((omega arith, omega arith), tt)
+        (different-one (codes "htn_x")) ((omega arith, omega arith), tt)
 
     pub scope_apart : AreDifferent action_scope
     scope_apart = different-left action_scope (codes "htn_x" ∷ []) scope_x_apart

@@ -4,7 +4,8 @@ use Rattle.std.proofs.lemmas.List.{length-map, map-append}
 use Rattle.htn_base.specs.Escapes.{escaped}
 use Rattle.text_forms.specs.Words.{Word, last_place, word_at}
 use Rattle.plan_texts.specs.Declared.{Declared, kinds, variable}
-use Rattle.plan_texts.specs.Types.{Has, EachIs, AreDifferent}
+use Rattle.htn_base.specs.Different.{AreDifferent}
+use Rattle.plan_texts.specs.Types.{Has, EachIs}
 use Rattle.plan_texts.specs.Printable.{IsPlainVariable, IsInForce, IsSoundAtom, IsSoundParam, AreSoundParams, sound_step, IsSound}
 use Rattle.plan_texts.proofs.Places.{plain-variable}
 use Rattle.plan_texts.proofs.Spelled.{sound_roll}

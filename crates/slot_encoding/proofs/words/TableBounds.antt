@@ -1,5 +1,5 @@
 -- A short table has few numbered words: there are few slots, and few children of a method.
-use Rattle.std.proofs.Common.{ℕ, ◌≡◌, ◌+◌, ◌-◌, ◌<◌, ◌≤◌, ◌^◌, inl, inr, List, [], ◌∷◌, ◌++◌, map, length, drop, codes, decimal, refl, ap, subst, Contains, arith}
+use Rattle.std.proofs.Common.{ℕ, ◌≡◌, ◌+◌, ◌-◌, ◌<◌, ◌≤◌, ◌^◌, inl, inr, List, ◌++◌, map, length, drop, codes, decimal, ap, subst, Contains, arith}
 use Rattle.std.proofs.lemmas.Fmt.{decimal_injective}
 use Rattle.std.proofs.str.Laws.{order}
 use Rattle.htn_base.specs.Escapes.{slot_word}
@@ -7,9 +7,8 @@ use Rattle.text_forms.specs.Words.{Word}
 use Rattle.plan_model.specs.declared.types.Object.{Object}
 use Rattle.plan_model.specs.declared.schemas.MethodPlan.{MethodPlan}
 use Rattle.plan_model.specs.declared.values.Compiled.{Compiled}
-use Rattle.plan_texts.specs.Types.{Has, EachIs, AreDifferent}
+use Rattle.plan_texts.specs.Types.{Has, EachIs}
 use Rattle.plan_texts.proofs.Members.{each-has, has-to_map, has-contains, contains-has, length-map}
-use Rattle.task_networks.specs.Pending.{AreDifferent as EachOnce}
 use Rattle.task_networks.specs.Spelling.{numbers}
 use Rattle.task_networks.proofs.Numbers.{length-numbers, numbers_to, to_numbers}
 use Rattle.task_networks.proofs.Different.{no_more}
@@ -19,14 +18,10 @@ use Rattle.slot_encoding.proofs.words.Lists.{each-right, each-from_get, differen
 use Rattle.slot_encoding.proofs.words.KnownWords.{known_objects, known_methods}
 use Rattle.slot_encoding.proofs.words.KnownMethods.{known_method}
 
-each_once : (ws : List Word) → AreDifferent ws → EachOnce ws
-each_once [] d = tt
-each_once (w ∷ ws) d = (λ c. each-has (λ u. w ≡ u → ⊥) ws w d.0 (contains-has ws w c) refl, each_once ws d.1)
-
 module _ (f : ℕ → Word) (once : (j k : ℕ) → j < 2 ^ 64 → k < 2 ^ 64 → f j ≡ f k → j ≡ k) (names : List Word) (n : ℕ) (known : EachIs (Has names) (map f (numbers 1 n))) where
   at_least : (m : ℕ) → m ≤ n → m < 2 ^ 64 → m ≤ length names
   at_least m l s =
-      let h = no_more (map f (numbers 1 m)) names (each_once (map f (numbers 1 m)) (different-numbers f (1 + m) (λ j k i o e. once j k (omega arith) (omega arith) e) 1 m (omega arith))) within in
+      let h = no_more (map f (numbers 1 m)) names (different-numbers f (1 + m) (λ j k i o e. once j k (omega arith) (omega arith) e) 1 m (omega arith)) within in
       let e = length-map f (numbers 1 m) in let g = length-numbers 1 m in
       omega arith
     where

@@ -9,12 +9,14 @@ use Rattle.plan_model.specs.declared.values.Compiled.{Compiled}
 use Rattle.plan_model.specs.Typing.{Leads}
 use Rattle.plan_texts.specs.Declared.{Declared, named, kinds, one_word}
 use Rattle.plan_texts.specs.Declared as Declared
-use Rattle.plan_texts.specs.Types.{Has, EachIs, AreDifferent}
+use Rattle.htn_base.specs.Different.{AreDifferent}
+use Rattle.plan_texts.specs.Types.{Has, EachIs}
 use Rattle.plan_texts.specs.Printable.{IsPlain, IsUnion}
 use Rattle.plan_texts.specs.SoundValue.{IsSoundHddl, arities}
 use Rattle.plan_texts.specs.SpellsHddl.{hddl_types, hddl_words}
 use Rattle.plan_texts.proofs.Basics.{apart}
-use Rattle.plan_texts.proofs.Members.{each-has, has-of_map, has-to_map, has-at, length-map}
+use Rattle.plan_texts.proofs.DifferentWords.{different_by}
+use Rattle.plan_texts.proofs.Members.{each-has, each-lacks, lacks-each, has-of_map, has-to_map, has-at, length-map}
 use Rattle.slot_encoding.proofs.places.Places.{same_place}
 use Rattle.slot_encoding.specs.SourceParts.{name, retyped}
 use Rattle.slot_encoding.specs.EncodedNames.{encoded_types}
@@ -26,6 +28,24 @@ use Rattle.slot_encoding.proofs.words.Lists.{each-map, each-of_map, different-by
 use Rattle.slot_encoding.proofs.words.PlainWords.{is_generated, escape_is_none, plain-escaped, escaped-once}
 use Rattle.slot_encoding.proofs.words.TableWords.{named-name, words-named, words-made}
 use Rattle.slot_encoding.proofs.words.PrintedWords.{printed_words, printed_arities}
+
+-- the words
+module _ (c : Compiled) (names : List Word) (b : ℕ) (known : EachIs (Has names) (type_words c)) where
+  abbrev with_names : List Name → Compiled
+  with_names ns = record c { hddl = record c.hddl { types = record c.hddl.types { names = ns } } }
+
+  pub types-named : Declared.type_words names (encoded_types c names b) ≡ type_words c
+  types-named = go c.hddl.types.names known
+    where
+      go : (ns : List Name) → EachIs (Has names) (codes "object" ∷ codes "htn_slot" ∷ codes "htn_object" ∷ own_types c ns)
+          → Declared.type_words names (encoded_types (with_names ns) names b) ≡ codes "object" ∷ codes "htn_slot" ∷ codes "htn_object" ∷ own_types c ns
+      go [] k =
+          let e = words-named names (λ (w : Word). w) (codes "object" ∷ codes "htn_slot" ∷ codes "htn_object" ∷ []) (λ w h. each-has (Has names) (codes "object" ∷ codes "htn_slot" ∷ codes "htn_object" ∷ []) w k h) in
+          e
+      go (n ∷ others) (o, (s, (t, k))) =
+          let e = words-named names (λ (w : Word). w) (codes "object" ∷ codes "htn_slot" ∷ codes "htn_object" ∷ []) (λ w h. each-has (Has names) (codes "object" ∷ codes "htn_slot" ∷ codes "htn_object" ∷ []) w (o, (s, (t, tt))) h) in
+          let r = words-made (λ (x : Name). name names (own_word c x)) (named names) (own_word c) others (λ x h. named-name (own_word c x) names (each-has (Has names) (map (own_word c) others) (own_word c x) k (has-to_map (own_word c) others x h))) in
+          (λ i. word_at (e i) 0 ∷ word_at (e i) 1 ∷ word_at (e i) 2 ∷ r i)
 
 module _ (c : Compiled) (names : List Word) (b : ℕ) (sound : IsSoundHddl c.hddl) (known : EachIs (Has names) (type_words c)) where
   abbrev source : Types
@@ -47,23 +67,6 @@ module _ (c : Compiled) (names : List Word) (b : ℕ) (sound : IsSoundHddl c.hdd
   retyped_within zero l = let h = count-types in omega arith
   retyped_within (suc t) l = let h = count-types in omega arith
 
-  -- the words
-  abbrev with_names : List Name → Compiled
-  with_names ns = record c { hddl = record c.hddl { types = record c.hddl.types { names = ns } } }
-
-  pub types-named : Declared.type_words names (encoded_types c names b) ≡ type_words c
-  types-named = go source.names known
-    where
-      go : (ns : List Name) → EachIs (Has names) (codes "object" ∷ codes "htn_slot" ∷ codes "htn_object" ∷ own_types c ns)
-          → Declared.type_words names (encoded_types (with_names ns) names b) ≡ codes "object" ∷ codes "htn_slot" ∷ codes "htn_object" ∷ own_types c ns
-      go [] k =
-          let e = words-named names (λ (w : Word). w) (codes "object" ∷ codes "htn_slot" ∷ codes "htn_object" ∷ []) (λ w h. each-has (Has names) (codes "object" ∷ codes "htn_slot" ∷ codes "htn_object" ∷ []) w k h) in
-          e
-      go (n ∷ others) (o, (s, (t, k))) =
-          let e = words-named names (λ (w : Word). w) (codes "object" ∷ codes "htn_slot" ∷ codes "htn_object" ∷ []) (λ w h. each-has (Has names) (codes "object" ∷ codes "htn_slot" ∷ codes "htn_object" ∷ []) w (o, (s, (t, tt))) h) in
-          let r = words-made (λ (x : Name). name names (own_word c x)) (named names) (own_word c) others (λ x h. named-name (own_word c x) names (each-has (Has names) (map (own_word c) others) (own_word c x) k (has-to_map (own_word c) others x h))) in
-          (λ i. word_at (e i) 0 ∷ word_at (e i) 1 ∷ word_at (e i) 2 ∷ r i)
-
   plain : EachIs IsPlain (type_words c)
   plain = ((refl, refl), ((refl, refl), ((refl, refl), go source.names sound.words.types)))
     where
@@ -72,7 +75,7 @@ module _ (c : Compiled) (names : List Word) (b : ℕ) (sound : IsSoundHddl c.hdd
       go (n ∷ others) p = each-map IsPlain (own_word c) others (λ x h. plain-escaped (named c.hddl.names x) (each-has (λ (x : Name). IsPlain (named c.hddl.names x)) others x (each-of_map IsPlain (named c.hddl.names) others p.1) h))
 
   pub types_plain : EachIs IsPlain (Declared.type_words names (encoded_types c names b))
-  types_plain = subst (EachIs IsPlain) (sym types-named) plain
+  types_plain = subst (EachIs IsPlain) (sym (types-named c names b known)) plain
 
   no_escape : (w u : Word) → is_generated w ≡ true → w ≡ escaped u → ⊥
   no_escape w u g e = true≢false (sym g ∙ ap is_generated e ∙ escape_is_none u)
@@ -81,23 +84,23 @@ module _ (c : Compiled) (names : List Word) (b : ℕ) (sound : IsSoundHddl c.hdd
   differ = go source.names sound.first sound.words.types_differ
     where
       go : (ns : List Name) → word_at (map (named c.hddl.names) ns) 0 ≡ codes "object" → AreDifferent (map (named c.hddl.names) ns) → AreDifferent (codes "object" ∷ codes "htn_slot" ∷ codes "htn_object" ∷ own_types c ns)
-      go [] f d = ((apart _ _ refl, (apart _ _ refl, tt)), ((apart _ _ refl, tt), (tt, tt)))
+      go [] f d = different_by (codes "object" ∷ codes "htn_slot" ∷ codes "htn_object" ∷ []) refl
       go (n ∷ others) f d = (
-        (apart _ _ refl, (apart _ _ refl, each-map (λ u. codes "object" ≡ u → ⊥) (own_word c) others (λ x h e. each-has (λ (x : Name). named c.hddl.names n ≡ named c.hddl.names x → ⊥) others x (each-of_map (λ u. named c.hddl.names n ≡ u → ⊥) (named c.hddl.names) others d.0) h (f ∙ escaped-once (codes "object") (named c.hddl.names x) e)))),
+        each-lacks (codes "htn_slot" ∷ codes "htn_object" ∷ map (own_word c) others) (codes "object") (apart _ _ refl, (apart _ _ refl, each-map (λ u. codes "object" ≡ u → ⊥) (own_word c) others (λ x h e. each-has (λ (x : Name). named c.hddl.names n ≡ named c.hddl.names x → ⊥) others x (each-of_map (λ u. named c.hddl.names n ≡ u → ⊥) (named c.hddl.names) others (lacks-each (map (named c.hddl.names) others) (named c.hddl.names n) d.0)) h (f ∙ escaped-once (codes "object") (named c.hddl.names x) e)))),
         (
-          (apart _ _ refl, each-map (λ u. codes "htn_slot" ≡ u → ⊥) (own_word c) others (λ x h e. no_escape (codes "htn_slot") (named c.hddl.names x) refl e)),
+          each-lacks (codes "htn_object" ∷ map (own_word c) others) (codes "htn_slot") (apart _ _ refl, each-map (λ u. codes "htn_slot" ≡ u → ⊥) (own_word c) others (λ x h e. no_escape (codes "htn_slot") (named c.hddl.names x) refl e)),
           (
-            each-map (λ u. codes "htn_object" ≡ u → ⊥) (own_word c) others (λ x h e. no_escape (codes "htn_object") (named c.hddl.names x) refl e),
+            each-lacks (map (own_word c) others) (codes "htn_object") (each-map (λ u. codes "htn_object" ≡ u → ⊥) (own_word c) others (λ x h e. no_escape (codes "htn_object") (named c.hddl.names x) refl e)),
             different-by (named c.hddl.names) (own_word c) others (λ x y h k e. escaped-once (named c.hddl.names x) (named c.hddl.names y) e) d.1,
           ),
         ),
       )
 
   pub types_differ : AreDifferent (Declared.type_words names (encoded_types c names b))
-  types_differ = subst AreDifferent (sym types-named) differ
+  types_differ = subst AreDifferent (sym (types-named c names b known)) differ
 
   pub first_type : word_at (Declared.type_words names (encoded_types c names b)) 0 ≡ codes "object"
-  first_type = ap (λ ws. word_at ws 0) types-named
+  first_type = ap (λ ws. word_at ws 0) (types-named c names b known)
 
   -- unions
   abbrev v : Declared

@@ -3,7 +3,7 @@ use Rattle.std.proofs.Common.{ℕ, zero, suc, ◌≡◌, ◌<◌, ◌≤◌, ◌
 use Rattle.task_networks.specs.Net.{Net, count}
 use Rattle.task_networks.specs.Lawful.{IsLawful}
 use Rattle.task_networks.specs.Tree.{Tree, split, more, done, none, Address}
-use Rattle.task_networks.specs.Pending.{AreDifferent}
+use Rattle.htn_base.specs.Different.{AreDifferent}
 use Rattle.task_networks.specs.Spelling.{Act, run, apply, Spells}
 use Rattle.task_networks.proofs.examples.Nets.{tail, chain, ChainPair, of_t, of_x, chain_q, chain_y, chain_t, chain_lawful, chain_p, chain_precedes, chain_decides, no_chain, tail_t, tail_works, TailPair, again, tail_a, tail_lawful}
 use Rattle.task_networks.proofs.Lists.{head_or_tail, not-in_empty}

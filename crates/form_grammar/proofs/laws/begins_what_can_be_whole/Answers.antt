@@ -2,7 +2,8 @@ use Rattle.form_grammar.specs.Effects.{eff, effect_rows}
 use Rattle.form_grammar.specs.Formulas.{gd, formula_rows}
 use Rattle.form_grammar.specs.Lists.{list_rows}
 use Rattle.form_grammar.specs.Networks.{network_rows}
-use Rattle.form_grammar.specs.Plans.{is_mark, step, step_rows}
+use Rattle.text_forms.specs.StepWords.{is_mark}
+use Rattle.form_grammar.specs.Plans.{step, step_rows}
 use Rattle.form_grammar.specs.Rows.{Rows}
 use Rattle.form_grammar.specs.Laws.{BeginsWhatCanBeWhole}
 use Rattle.form_grammar.specs.Texts.{text_form, one_list, the_list, marked_lists, mark_or_list}

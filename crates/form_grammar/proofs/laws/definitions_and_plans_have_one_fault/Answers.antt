@@ -1,5 +1,6 @@
 use Rattle.form_grammar.specs.Definitions.{definition_form}
-use Rattle.form_grammar.specs.Plans.{is_mark, step, step_rows, steps_form}
+use Rattle.text_forms.specs.StepWords.{is_mark}
+use Rattle.form_grammar.specs.Plans.{step, step_rows, steps_form}
 use Rattle.form_grammar.specs.Sections.{define, section_rows}
 use Rattle.form_grammar.specs.Texts.{one_list, the_list, marked_lists, mark_or_list}
 use Rattle.form_grammar.proofs.Faults.{define_told, plan_told}

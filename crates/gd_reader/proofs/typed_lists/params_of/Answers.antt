@@ -82,9 +82,8 @@ pub returns-clause-gives : goal.returns-clause-gives
 returns-clause-gives c =
     let gives = c.in_ok-at.ensures.gives in
     let never = c.in_default.not-Some in
-    let settled = c.in_ok-settle-2.ensures.settled in
-    let none = c.new-none.ensures.empty in
-    rw (settled, none) (sym c.loop-pending.invariant.rest ∙ list_end c.args.kind c.loop-pending.done c.loop-pending.pending (c.loop-pending.names, c.loop-pending.seen) (parts_at c.args.s.now c.loop-pending.i) (rw (is_none c.in_ok-at.field-0 never) at gives))
+    let left = c.in_ok-leave.ensures.left in
+    rw left (sym c.loop-pending.invariant.rest ∙ list_end c.args.kind c.loop-pending.done c.loop-pending.pending (c.loop-pending.names, c.loop-pending.seen) (parts_at c.args.s.now c.loop-pending.i) (rw (is_none c.in_ok-at.field-0 never) at gives))
 
 pub returns-clause-closed : goal.returns-clause-closed
 returns-clause-closed c =

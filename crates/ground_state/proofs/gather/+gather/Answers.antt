@@ -1,12 +1,14 @@
-use Rattle.std.proofs.Common.{ℕ, ◌≡◌, ◌+◌, ◌<◌, ◌++◌, [], ◌∷◌, length, take, sym, subst, ap, ◌∙◌, true≢false, arith}
+use Rattle.std.proofs.Common.{◌↔◌, ℕ, ◌≡◌, ◌+◌, ◌<◌, ◌++◌, [], ◌∷◌, length, take, sym, subst, ap, ◌∙◌, true≢false, arith}
 use Rattle.std.proofs.lemmas.List.{take_all}
 use Rattle.std.proofs.lemmas.Result.{on_ok_weaker}
 use Rattle.plan_model.specs.declared.terms.GroundAtom.{GroundAtom}
 use Rattle.plan_model.specs.Typing.{InType}
 use Rattle.plan_model.proofs.PartsOf.{in_type_within}
+use Rattle.ground_state.proofs.KindLaws.{in_type_by_parts}
 use Rattle.plan_meaning.specs.Truth.{State, ground}
 use Rattle.ground_state.specs.Frames.{Frame, frame}
 use Rattle.ground_state.specs.Room.{effect_fits, EffectFits}
+use Rattle.ground_state.specs.Kinds.{IsOfParts}
 use Rattle.ground_state.specs.States.{atoms}
 use Rattle.ground_state.specs.Search.{Gathers, Touches, OneTouches, TouchesWithin}
 use Rattle.ground_state.proofs.EffectSizes as sizes
@@ -14,7 +16,7 @@ use Rattle.ground_state.proofs.RoomEquations as room
 use Rattle.ground_state.proofs.GatherCases as cases
 use Rattle.ground_state.proofs.StateLaws.{put-made}
 use Rattle.ground_state.proofs.gather.+gather.Goals as goal
-use Rattle.ground_state.proofs.gather.+gather.Goals.{gather_within-then-in_type+in_ok-gathered, gather_within-else-in_type}
+use Rattle.ground_state.proofs.gather.+gather.Goals.{gather_within-then-has_object+in_ok-gathered, gather_within-else-has_object}
 
 pub gather-returns-then-adds-clause-gathered : goal.gather-returns-then-adds-clause-gathered
 gather-returns-then-adds-clause-gathered t c =
@@ -170,21 +172,21 @@ gather_within-loop-object-preserved t c =
     let S = atoms c.args.world.now.state.now in
     let v = c.args.env.now.values.items in
     let i = c.loop-object.object in
-    let R : GroundAtom → ℕ → Type 0 = λ g o. I o c.in-Some.param.now.ty × TouchesWithin I S c.args.adds c.in-Some.rest.now c.args.body.now (v ++ o ∷ []) g in
+    let R : GroundAtom → ℕ → Type 0 = λ g o. IsOfParts c.new-parts.result c.args.world.now.objects.now o × TouchesWithin I S c.args.adds c.in-Some.rest.now c.args.body.now (v ++ o ∷ []) g in
     let P : State = λ g. (o : ℕ) × (o < c.loop-object.object) × R g o in
     let N : State = λ g. (o : ℕ) × (o < c.loop-object.object + 1) × R g o in
     let Q : State = TouchesWithin I S c.args.adds c.in-Some.rest.now c.args.body.now (v ++ i ∷ []) in
-    elim c.if-in_type.branch [
-      | gather_within-then-in_type+in_ok-gathered w ↦ (
-          let typed : I c.loop-object.object c.in-Some.param.now.ty = c.in_type.ensures.0 w.if-in_type.true in
+    elim c.if-has_object.branch [
+      | gather_within-then-has_object+in_ok-gathered w ↦ (
+          let typed : IsOfParts c.new-parts.result c.args.world.now.objects.now c.loop-object.object = c.has_object.ensures.0 w.if-has_object.true in
           let objects : w.push.new.self.values.items ≡ v ++ c.loop-object.object ∷ [] = ap (λ (f : Frame). f.objects) w.push.ensures ∙ ap (λ (f : Frame). f.objects ++ c.loop-object.object ∷ []) c.loop-object.invariant.0 in
           let more : Gathers Q c.loop-object.into w.gather_within-gathered.new.into = subst (λ u. Gathers (TouchesWithin I S c.args.adds c.in-Some.rest.now c.args.body.now u) c.loop-object.into w.gather_within-gathered.new.into) objects w.in_ok-gathered.ensures.gathered in
           let kept : frame w.pop.new.self ≡ frame c.args.env.now = w.pop.ensures (frame c.loop-object.env) c.loop-object.object (w.gather_within-gathered.ensures.kept ∙ w.push.ensures) ∙ c.loop-object.invariant.0 in
           let all : Gathers N c.args.into.now w.gather_within-gathered.new.into = cases.gathers-then P Q N c.args.into.now c.loop-object.into w.gather_within-gathered.new.into (λ g. cases.below-more (R g) (Q g) i (λ r. r.1, λ q. (typed, q))) c.loop-object.invariant.1 more in
           (ap frame w.env-is ∙ kept, subst (Gathers N c.args.into.now) (sym w.into-is) all)
           )
-      | gather_within-else-in_type w ↦ (
-          let none : (g : GroundAtom) → R g c.loop-object.object → ⊥ = λ g r. true≢false (sym (c.in_type.ensures.1 r.0) ∙ w.if-in_type.false) in
+      | gather_within-else-has_object w ↦ (
+          let none : (g : GroundAtom) → R g c.loop-object.object → ⊥ = λ g r. true≢false (sym (c.has_object.ensures.1 r.0) ∙ w.if-has_object.false) in
           let all : Gathers N c.args.into.now c.loop-object.into = cases.gathers-same P N c.args.into.now c.loop-object.into (λ g. cases.below-none (R g) i (none g)) c.loop-object.invariant.1 in
           (ap frame w.env-is ∙ c.loop-object.invariant.0, subst (Gathers N c.args.into.now) (sym w.into-is) all)
           )
@@ -198,5 +200,8 @@ gather_within-returns-clause-gathered t c =
     let p = c.in-Some.param.now in
     let below : (o : ℕ) → I o c.in-Some.param.now.ty → o < c.loop-object.object =
     λ o i. (let l = in_type_within c.args.world.now.types.now c.args.world.now.objects.now c.in-Some.param.now.ty o i in let e = c.loop-object-test.false in let n = c.len-object-end.ensures.length in omega arith) in
-    cases.gathers-same (λ g. (o : ℕ) × (o < c.loop-object.object) × (I o c.in-Some.param.now.ty × TouchesWithin I S c.args.adds c.in-Some.rest.now c.args.body.now (v ++ o ∷ []) g)) (TouchesWithin I S c.args.adds c.args.params.now c.args.body.now v) c.args.into.now c.loop-object.into
-    (cases.within-all I S v c.args.adds p c.in-Some.rest.now c.args.params.now c.args.body.now c.loop-object.object c.in-Some.ensures.cases.0 below) c.loop-object.invariant.1
+    let typed : (o : ℕ) → IsOfParts c.new-parts.result c.args.world.now.objects.now o ↔ InType c.args.world.now.types.now c.args.world.now.objects.now o c.in-Some.param.now.ty =
+    λ o. in_type_by_parts c.args.world.now.types.now c.args.world.now.objects.now c.new-parts.result o c.in-Some.param.now.ty c.new-parts.ensures in
+    let all = cases.within-all I S v c.args.adds p c.in-Some.rest.now c.args.params.now c.args.body.now c.loop-object.object c.in-Some.ensures.cases.0 below in
+    cases.gathers-same (λ g. (o : ℕ) × (o < c.loop-object.object) × (IsOfParts c.new-parts.result c.args.world.now.objects.now o × TouchesWithin I S c.args.adds c.in-Some.rest.now c.args.body.now (v ++ o ∷ []) g)) (TouchesWithin I S c.args.adds c.args.params.now c.args.body.now v) c.args.into.now c.loop-object.into
+    (λ g. (λ t. (all g).0 (t.0, t.1, ((typed t.0).0 t.2.0, t.2.1)), λ t. (let u = (all g).1 t in (u.0, u.1, ((typed u.0).1 u.2.0, u.2.1))))) c.loop-object.invariant.1

@@ -1,6 +1,7 @@
 use Rattle.std.proofs.Common.{ℕ, ◌≡◌, ◌+◌, ◌<◌, ◌++◌, [], ◌∷◌, length, take}
 use Rattle.plan_model.specs.Typing.{InType}
 use Rattle.ground_state.specs.Frames.{frame}
+use Rattle.ground_state.specs.Kinds.{IsOfParts}
 use Rattle.ground_state.specs.States.{atoms}
 use Rattle.ground_state.specs.Search.{Gathers, OneTouches, TouchesWithin}
 use Rattle.ground_state.proofs.EffectSizes.{size, sizes}
@@ -22,4 +23,4 @@ invariant-gather_each-loop-part l = (frame l.env ≡ frame l.fn.env) × Gathers 
 -- what the effect touches with the objects so far is gathered
 abbrev pub invariant-gather_within-loop-object : goal.invariant-gather_within-loop-object
 invariant-gather_within-loop-object l = (frame l.env ≡ frame l.fn.env)
-    × Gathers (λ g. (o : ℕ) × (o < l.object) × (InType l.world.types.now l.world.objects.now o l.param.ty × TouchesWithin (InType l.world.types.now l.world.objects.now) (atoms l.world.state.now) l.adds l.rest l.body (l.fn.env.values.items ++ o ∷ []) g)) l.fn.into l.into
+    × Gathers (λ g. (o : ℕ) × (o < l.object) × (IsOfParts l.parts l.world.objects.now o × TouchesWithin (InType l.world.types.now l.world.objects.now) (atoms l.world.state.now) l.adds l.rest l.body (l.fn.env.values.items ++ o ∷ []) g)) l.fn.into l.into

@@ -3,6 +3,7 @@ use Rattle.plan_model.specs.declared.formulas.Formula.{Formula}
 use Rattle.plan_model.specs.Typing.{InType}
 use Rattle.plan_meaning.specs.Truth.{IsTrueIn, AreTyped}
 use Rattle.ground_state.specs.Frames.{frame}
+use Rattle.ground_state.specs.Kinds.{IsOfParts}
 use Rattle.ground_state.specs.States.{atoms}
 use Rattle.ground_state.specs.Search.{Is}
 use Rattle.ground_state.proofs.Sizes.{size, sizes}
@@ -24,4 +25,4 @@ invariant-is_among-loop-part l = (frame l.env ≡ frame l.fn.env) × ((k : ℕ) 
 -- with the objects so far the body is not as wanted
 abbrev pub invariant-is_found-loop-object : goal.invariant-is_found-loop-object
 invariant-is_found-loop-object l = (frame l.env ≡ frame l.fn.env)
-    × ((o : ℕ) (os : List ℕ) → o < l.object → InType l.types l.objects o l.param.ty → AreTyped (InType l.types l.objects) l.rest os → Is (not l.wanted) (IsTrueIn (InType l.types l.objects) (atoms l.s) l.body ((l.fn.env.values.items ++ o ∷ []) ++ os)))
+    × ((o : ℕ) (os : List ℕ) → o < l.object → IsOfParts l.parts l.objects o → AreTyped (InType l.types l.objects) l.rest os → Is (not l.wanted) (IsTrueIn (InType l.types l.objects) (atoms l.s) l.body ((l.fn.env.values.items ++ o ∷ []) ++ os)))

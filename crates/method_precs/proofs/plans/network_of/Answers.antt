@@ -1,5 +1,5 @@
 use Rattle.std.proofs.Common.{length}
-use Rattle.method_precs.proofs.Fits.{below_from_pairs}
+use Rattle.net_order.proofs.Chains.{below_from_pairs}
 use Rattle.method_precs.proofs.plans.network_of.Goals as goal
 
 pub pairs_of-requires-clause-within : goal.pairs_of-requires-clause-within

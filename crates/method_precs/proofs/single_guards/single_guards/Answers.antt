@@ -5,7 +5,7 @@ use Rattle.plan_model.specs.declared.networks.Guard.{Guard}
 use Rattle.plan_model.specs.declared.terms.Term.TheVariants.{Var}
 use Rattle.plan_meaning.specs.Compilation.{same_guard}
 use Rattle.method_precs.specs.Keys.{key}
-use Rattle.method_precs.proofs.Once.{has_same, once_next_new, once_next_old}
+use Rattle.plan_meaning.proofs.Once.{has, once_next_new, once_next_old}
 use Rattle.method_precs.proofs.SameKeys.{same_key, seen_more}
 use Rattle.method_precs.proofs.single_guards.single_guards.Goals as goal
 use Rattle.method_precs.proofs.single_guards.single_guards.Goals.{then-branch+in_ok-push, else-branch}
@@ -29,7 +29,7 @@ loop-guard-preserved c =
     let old = contains same_key c.loop-guard.seen (key guard) in
     let added : c.in_ok-insert.field-0 ≡ not (contains same_key c.loop-guard.seen (key (get_or c.args.guards.now c.loop-guard.guard-index none))) =
     c.in_ok-insert.ensures.added ∙ ap (λ x. not (contains same_key c.loop-guard.seen x)) c.key_of.ensures in
-    let there : contains same_key c.loop-guard.seen (key (get_or c.args.guards.now c.loop-guard.guard-index none)) ≡ has_same same_guard (take c.loop-guard.guard-index c.args.guards.now) (get_or c.args.guards.now c.loop-guard.guard-index none) =
+    let there : contains same_key c.loop-guard.seen (key (get_or c.args.guards.now c.loop-guard.guard-index none)) ≡ has same_guard (get_or c.args.guards.now c.loop-guard.guard-index none) (take c.loop-guard.guard-index c.args.guards.now) =
     c.loop-guard.invariant.seen guard in
     record {
       seen = λ g. seen_more guards k none c.loop-guard-test.true g (contains same_key c.loop-guard.seen (key g)) (contains same_key c.insert.new.self (key g)) (c.loop-guard.invariant.seen g)

@@ -3,12 +3,12 @@ use Rattle.std.specs.HashSet.{contains}
 use Rattle.plan_model.specs.declared.networks.Guard.{Guard}
 use Rattle.plan_meaning.specs.Compilation.{once, same_guard}
 use Rattle.method_precs.specs.Keys.{key}
-use Rattle.method_precs.proofs.Once.{has_same}
+use Rattle.plan_meaning.proofs.Once.{has}
 use Rattle.method_precs.proofs.SameKeys.{same_key}
 use Rattle.method_precs.proofs.single_guards.single_guards.Given as goal
 
 abbrev pub invariant-loop-guard : goal.invariant-loop-guard
 invariant-loop-guard l = record {
-  seen : (g : Guard) → contains same_key l.seen (key g) ≡ has_same same_guard (take l.guard-index l.guards) g;
+  seen : (g : Guard) → contains same_key l.seen (key g) ≡ has same_guard g (take l.guard-index l.guards);
   single : l.single ≡ once same_guard (take l.guard-index l.guards);
 }

@@ -4,7 +4,7 @@ use Rattle.std.specs.declared.vec.Vec.{Vec}
 use Rattle.plan_model.specs.declared.terms.GroundAtom.{GroundAtom}
 use Rattle.plan_meaning.specs.Compilation.{once}
 use Rattle.slot_encoding.specs.EncodedValue.{same_atom}
-use Rattle.printed_sizes.proofs.Once.{has}
+use Rattle.plan_meaning.proofs.Once.{has}
 use Rattle.printed_sizes.proofs.SeenAtoms.{same_key}
 use Rattle.slot_encoder.proofs.single.push_single.Given as goal
 

@@ -4,7 +4,7 @@ use Rattle.small_reader.specs.Rest.{word_of}
 use Rattle.small_reader.specs.Tables.{Extends}
 use Rattle.small_reader.proofs.Loops.{next_words, next_together}
 use Rattle.small_reader.proofs.SchemaLemmas.{action-later}
-use Rattle.small_reader.proofs.Tables.{together-map}
+use Rattle.plan_texts.proofs.Together.{together-map}
 use Rattle.small_reader.proofs.schemas.action_schemas.Goals as goal
 
 pub loop-action-preserved : goal.loop-action-preserved

@@ -4,7 +4,8 @@ use Rattle.small_reader.specs.Binding.{IsMethodOf}
 use Rattle.small_reader.specs.Rest.{word_of}
 use Rattle.small_reader.proofs.Calls.{method-later}
 use Rattle.small_reader.proofs.Loops.{next_words, next_together}
-use Rattle.small_reader.proofs.Tables.{extends_then, together-map}
+use Rattle.small_reader.proofs.Tables.{extends_then}
+use Rattle.plan_texts.proofs.Together.{together-map}
 use Rattle.small_reader.proofs.schemas.method_schemas.Goals as goal
 
 pub loop-method-preserved : goal.loop-method-preserved

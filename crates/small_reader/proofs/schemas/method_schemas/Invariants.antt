@@ -1,9 +1,10 @@
 use Rattle.std.proofs.Common.{◌≡◌, map, take}
-use Rattle.plan_texts.specs.Types.{AreDifferent}
+use Rattle.htn_base.specs.Different.{AreDifferent}
 use Rattle.small_reader.specs.declared.written.WrittenMethod.{WrittenMethod}
 use Rattle.small_reader.specs.Binding.{IsMethodOf}
 use Rattle.small_reader.specs.Rest.{word_of}
-use Rattle.small_reader.specs.Tables.{Extends, Together}
+use Rattle.small_reader.specs.Tables.{Extends}
+use Rattle.plan_texts.specs.Together.{Together}
 use Rattle.small_reader.proofs.schemas.method_schemas.Given as goal
 
 abbrev pub invariant-loop-method : goal.invariant-loop-method

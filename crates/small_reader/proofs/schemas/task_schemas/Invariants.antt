@@ -1,8 +1,8 @@
 use Rattle.std.proofs.Common.{◌≡◌, ◌++◌, map, take}
-use Rattle.plan_texts.specs.Types.{AreDifferent}
+use Rattle.htn_base.specs.Different.{AreDifferent}
 use Rattle.small_reader.specs.Binding.{IsTaskOf}
 use Rattle.small_reader.specs.Rest.{word_of}
-use Rattle.small_reader.specs.Tables.{Together}
+use Rattle.plan_texts.specs.Together.{Together}
 use Rattle.small_reader.proofs.schemas.task_schemas.Given as goal
 
 abbrev pub invariant-loop-task : goal.invariant-loop-task

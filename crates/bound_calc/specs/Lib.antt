@@ -1,0 +1,4 @@
+pub mod Lines
+pub mod Past
+pub mod ByRank
+pub mod Blocks

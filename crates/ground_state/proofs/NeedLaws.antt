@@ -1,0 +1,112 @@
+-- Room that is enough goes up the kinds of formulas and effects.
+use Rattle.std.proofs.Common.{ℕ, zero, suc, ◌≡◌, ◌+◌, ◌<◌, ◌≤◌, ◌⊎◌, inl, inr, ◌++◌, List, [], ◌∷◌, length, get_or, take, Contains, Result, Ok, Err, IfOk, ap, sym, subst, ◌∙◌, arith}
+use Rattle.std.proofs.lemmas.List.{take_more, take_all}
+use Rattle.std.proofs.lemmas.List.Elements.{Contains-push_cases}
+use Rattle.plan_model.specs.declared.terms.Term.{Term}
+use Rattle.plan_model.specs.declared.terms.Atom.{Atom}
+use Rattle.plan_model.specs.declared.terms.Param.{Param}
+use Rattle.plan_model.specs.declared.formulas.Formula.{Formula, roll-Formula}
+use Rattle.plan_model.specs.declared.formulas.Formula.TheOpen.{Formula-F}
+use Rattle.plan_model.specs.declared.formulas.Formula.TheVariants as F
+use Rattle.plan_model.specs.declared.effects.Effect.{Effect, roll-Effect}
+use Rattle.plan_model.specs.declared.effects.Effect.TheOpen.{Effect-F}
+use Rattle.plan_model.specs.declared.effects.Effect.TheVariants as E
+use Rattle.plan_model.specs.declared.schemas.ActionSchema.{ActionSchema}
+use Rattle.plan_model.specs.declared.values.Pddl.{Pddl}
+use Rattle.ground_state.specs.declared.need.Need.{Need}
+use Rattle.ground_state.specs.Room.{EachFits, fits_step, fits, effect_fits_step, effect_fits}
+use Rattle.ground_state.specs.Needs.{IsWithin, Allows, IsEnough, IsEnoughForEach, IsEnoughForEffect, IsEnoughForEachEffect, HasRoom, HasRoomForAll, IsEnoughForAll, IsEnoughForAction}
+use Rattle.ground_state.proofs.RoomEquations.{fits-roll, effect-roll}
+
+-- what follows of two facts on what was made
+pub if_both : {X M : Type 0} (made : Result X M) (P Q R : X → Type 0) → ((x : X) → P x → Q x → R x) → IfOk made P → IfOk made Q → IfOk made R
+if_both (Ok x) P Q R f p q = f x p q
+if_both (Err m) P Q R f p q = tt
+
+pub allows_more : (P : ℕ → ℕ → Type 0) (less more : Need) → IsWithin less more → Allows P less → Allows P more
+allows_more P less more w h room arity d a = let v = w.0 in let u = w.1 in h room arity (omega arith) (omega arith)
+
+pub each_more : {X : Type 0} (k : X → ℕ → Type 0) (xs : List X) (x : X) (n : ℕ) → EachFits k xs n → k x n → EachFits k (xs ++ x ∷ []) n
+each_more k [] x n e h = (h, tt)
+each_more k (y ∷ xs) x n e h = (e.0, each_more k xs x n e.1 h)
+
+pub each_next : {X : Type 0} (k : X → ℕ → Type 0) (xs : List X) (i : ℕ) (x : X) (n : ℕ) → i < length xs → x ≡ get_or xs i x → EachFits k (take i xs) n → k x n → EachFits k (take (i + 1) xs) n
+each_next k xs i x n l e h f = subst (λ ys. EachFits k ys n) (sym (take_more xs i x l ∙ ap (λ b. take i xs ++ b ∷ []) (sym e))) (each_more k (take i xs) x n h f)
+
+pub each_first : {X : Type 0} (k : X → ℕ → Type 0) (xs : List X) (n : ℕ) → EachFits k (take 0 xs) n
+each_first k xs n = tt
+
+module _ (room arity : ℕ) where
+  fits-from : (f : Formula) (x : Formula-F Formula) → roll-Formula x ≡ f → (n : ℕ) → fits_step room arity (fits room arity) x n → fits room arity f n
+  fits-from f x e n h = subst (λ (P : ℕ → Type 0). P n) (sym (ap (fits room arity) (sym e) ∙ fits-roll room arity x)) h
+
+  effect-from : (e : Effect) (x : Effect-F Effect) → roll-Effect x ≡ e → (n : ℕ) → effect_fits_step room arity (effect_fits room arity) x n → effect_fits room arity e n
+  effect-from e x d n h = subst (λ (P : ℕ → Type 0). P n) (sym (ap (effect_fits room arity) (sym d) ∙ effect-roll room arity x)) h
+
+module _ (f : Formula) (n : ℕ) where
+  pub enough-Holds : (a : Atom) → f ≡ F.Holds a → (need : Need) → length a.args ≤ need.arity → IsEnough n f need
+  enough-Holds a e need l room arity d r = fits-from room arity f (Formula-F.Holds a) (F.rolls-Holds a ∙ sym e) n (omega arith)
+
+  pub enough-Equal : (s t : Term) → f ≡ F.Equal s t → (need : Need) → IsEnough n f need
+  enough-Equal s t e need room arity d r = fits-from room arity f (Formula-F.Equal s t) (F.rolls-Equal s t ∙ sym e) n tt
+
+  pub enough-Not : (p x : Formula) → f ≡ F.Not p → x ≡ p → (need : Need) → IsEnough n x need → IsEnough n f need
+  enough-Not p x e g need h room arity d r = fits-from room arity f (Formula-F.Not p) (F.rolls-Not p ∙ sym e) n (subst (λ y. fits room arity y n) g (h room arity d r))
+
+  pub enough-And : (ps xs : List Formula) → f ≡ F.And ps → xs ≡ ps → (need : Need) → IsEnoughForEach n xs need → IsEnough n f need
+  enough-And ps xs e g need h room arity d r = fits-from room arity f (Formula-F.And ps) (F.rolls-And ps ∙ sym e) n (subst (λ ys. EachFits (fits room arity) ys n) g (h room arity d r))
+
+  pub enough-Or : (ps xs : List Formula) → f ≡ F.Or ps → xs ≡ ps → (need : Need) → IsEnoughForEach n xs need → IsEnough n f need
+  enough-Or ps xs e g need h room arity d r = fits-from room arity f (Formula-F.Or ps) (F.rolls-Or ps ∙ sym e) n (subst (λ ys. EachFits (fits room arity) ys n) g (h room arity d r))
+
+  pub enough-Imply : (p q x y : Formula) → f ≡ F.Imply p q → x ≡ p → y ≡ q → (less need : Need) → IsWithin less need → IsEnough n x less → IsEnough n y need → IsEnough n f need
+  enough-Imply p q x y e g k less need w h j room arity d r =
+      fits-from room arity f (Formula-F.Imply p q) (F.rolls-Imply p q ∙ sym e) n (subst (λ z. fits room arity z n) g (allows_more (λ room arity. fits room arity x n) less need w h room arity d r), subst (λ z. fits room arity z n) k (j room arity d r))
+
+  -- the variables are in force inside, and have room
+  pub enough-Forall : (ps xs : List Param) (p x : Formula) (inner : ℕ) → f ≡ F.Forall ps p → xs ≡ ps → x ≡ p → inner ≡ n + length xs → (less need : Need) → inner ≤ less.depth → IsWithin less need → IsEnough inner x need → IsEnough n f need
+  enough-Forall ps xs p x inner e g k i less need l w h room arity d r =
+      let all : inner ≡ n + length ps = i ∙ ap (λ ys. n + length ys) g in
+      let v = w.0 in
+      fits-from room arity f (Formula-F.Forall ps p) (F.rolls-Forall ps p ∙ sym e) n (omega arith, subst (λ m. fits room arity p m) all (subst (λ z. fits room arity z inner) k (h room arity d r)))
+
+  pub enough-Exists : (ps xs : List Param) (p x : Formula) (inner : ℕ) → f ≡ F.Exists ps p → xs ≡ ps → x ≡ p → inner ≡ n + length xs → (less need : Need) → inner ≤ less.depth → IsWithin less need → IsEnough inner x need → IsEnough n f need
+  enough-Exists ps xs p x inner e g k i less need l w h room arity d r =
+      let all : inner ≡ n + length ps = i ∙ ap (λ ys. n + length ys) g in
+      let v = w.0 in
+      fits-from room arity f (Formula-F.Exists ps p) (F.rolls-Exists ps p ∙ sym e) n (omega arith, subst (λ m. fits room arity p m) all (subst (λ z. fits room arity z inner) k (h room arity d r)))
+
+module _ (e : Effect) (n : ℕ) where
+  pub enough-Add : (a : Atom) → e ≡ E.Add a → (need : Need) → IsEnoughForEffect n e need
+  enough-Add a g need room arity d r = effect-from room arity e (Effect-F.Add a) (E.rolls-Add a ∙ sym g) n tt
+
+  pub enough-Delete : (a : Atom) → e ≡ E.Delete a → (need : Need) → IsEnoughForEffect n e need
+  enough-Delete a g need room arity d r = effect-from room arity e (Effect-F.Delete a) (E.rolls-Delete a ∙ sym g) n tt
+
+  pub enough-All : (ps xs : List Effect) → e ≡ E.And ps → xs ≡ ps → (need : Need) → IsEnoughForEachEffect n xs need → IsEnoughForEffect n e need
+  enough-All ps xs g k need h room arity d r = effect-from room arity e (Effect-F.And ps) (E.rolls-And ps ∙ sym g) n (subst (λ ys. EachFits (effect_fits room arity) ys n) k (h room arity d r))
+
+  pub enough-Each : (ps xs : List Param) (p x : Effect) (inner : ℕ) → e ≡ E.Forall ps p → xs ≡ ps → x ≡ p → inner ≡ n + length xs → (less need : Need) → inner ≤ less.depth → IsWithin less need → IsEnoughForEffect inner x need → IsEnoughForEffect n e need
+  enough-Each ps xs p x inner q g k i less need l w h room arity d r =
+      let all : inner ≡ n + length ps = i ∙ ap (λ ys. n + length ys) g in
+      let v = w.0 in
+      effect-from room arity e (Effect-F.Forall ps p) (E.rolls-Forall ps p ∙ sym q) n (omega arith, subst (λ m. effect_fits room arity p m) all (subst (λ z. effect_fits room arity z inner) k (h room arity d r)))
+
+  pub enough-When : (f : Formula) (p x : Effect) → e ≡ E.When f p → x ≡ p → (less need : Need) → IsWithin less need → IsEnough n f less → IsEnoughForEffect n x need → IsEnoughForEffect n e need
+  enough-When f p x q g less need w h j room arity d r =
+      effect-from room arity e (Effect-F.When f p) (E.rolls-When f p ∙ sym q) n (allows_more (λ room arity. fits room arity f n) less need w h room arity d r, subst (λ z. effect_fits room arity z n) g (j room arity d r))
+
+-- the actions so far and one more
+pub actions_more : (xs : List ActionSchema) (i : ℕ) (a : ActionSchema) (less need : Need) → i < length xs → a ≡ get_or xs i a → IsWithin less need
+    → Allows (λ room arity. (b : ActionSchema) → Contains (take i xs) b → HasRoom room arity b) less → IsEnoughForAction a need → Allows (λ room arity. (b : ActionSchema) → Contains (take (i + 1) xs) b → HasRoom room arity b) need
+actions_more xs i a less need l e w h g room arity d r b c =
+    let more : take (i + 1) xs ≡ take i xs ++ a ∷ [] = take_more xs i a l ∙ ap (λ y. take i xs ++ y ∷ []) (sym e) in
+    let v = w.0 in
+    let u = w.1 in
+    elim (Contains-push_cases (take i xs) a b (subst (λ ys. Contains ys b) more c)) [
+      | inl k ↦ h room arity (omega arith) (omega arith) b k
+      | inr k ↦ subst (HasRoom room arity) k (g room arity d r)
+    ]
+
+pub enough_for_all : (p : Pddl) (i : ℕ) (need : Need) → length p.actions ≤ i → IsEnough 0 p.goal need → Allows (λ room arity. (b : ActionSchema) → Contains (take i p.actions) b → HasRoom room arity b) need → IsEnoughForAll p need
+enough_for_all p i need l g h room arity d r = record { goal = g room arity d r; actions = λ b c. h room arity d r b (subst (λ ys. Contains ys b) (sym (take_all i p.actions l)) c) }

@@ -1,0 +1,89 @@
+-- What a run of a list of ground actions stands on, what it does at a step, and what it answers.
+-- Source: this project's; a plan and a failing step as in plan_meaning.
+use Rattle.std.specs.Prelude.{ℕ, ◌≡◌, ◌<◌, ◌^◌, Bool, MatchBool, MatchOption, List, map, length, Option}
+use Rattle.plan_model.specs.declared.types.Object.{Object}
+use Rattle.plan_model.specs.declared.terms.Param.{Param}
+use Rattle.plan_model.specs.declared.schemas.ActionSchema.{ActionSchema}
+use Rattle.plan_model.specs.declared.steps.GroundAction.{GroundAction}
+use Rattle.plan_model.specs.declared.values.Pddl.{Pddl}
+use Rattle.plan_model.specs.Parts.{AreListed}
+use Rattle.plan_meaning.specs.Truth.{AreTyped, after}
+use Rattle.plan_meaning.specs.ClassicalPlan.{HasWord, AreObjects, InTypeOf, IsApplicable, IsPlan}
+use Rattle.plan_meaning.specs.FailingStep.{Cause, unknown_action, arguments, condition, goal_false, IsNamed, NamesAction, FailsIn, Fails, AreNamedApart}
+use Rattle.ground_state.specs.declared.verdict.FailWhy.{FailWhy}
+use Rattle.ground_state.specs.declared.verdict.FailWhy.TheVariants as why
+use Rattle.ground_state.specs.declared.verdict.Verdict.{Verdict}
+use Rattle.ground_state.specs.declared.verdict.Verdict.TheVariants as verdict
+use Rattle.ground_state.specs.declared.index.Index.{Index}
+use Rattle.ground_state.specs.declared.places.Places.{Places}
+use Rattle.ground_state.specs.declared.state.State.{State}
+use Rattle.ground_state.specs.Frames.{Frame}
+use Rattle.ground_state.specs.States.{atoms, Has}
+use Rattle.ground_state.specs.Kinds.{AreKinds}
+use Rattle.ground_state.specs.Needs.{HasRoomForAll}
+use Rattle.ground_state.specs.Places.{ArePlaces}
+
+abbrev pub cause : FailWhy → Cause
+cause why.UnknownAction = unknown_action
+cause why.Arguments = arguments
+cause why.Condition = condition
+cause why.GoalFalse = goal_false
+
+-- the list is a plan, or it fails at this step for this cause
+abbrev pub IsVerdict : Pddl → List GroundAction → Verdict → Type 0
+IsVerdict p steps verdict.Plan = IsPlan p steps
+IsVerdict p steps (verdict.Fails n w) = Fails p steps n (cause w)
+
+-- types are listed, objects and actions are fewer than 2^32, and no two of them have one word
+pub record IsRunnable (p : Pddl) : Type 0 where
+  pub listed : AreListed p.types
+  pub objects : length p.objects < 2 ^ 32
+  pub actions : length p.actions < 2 ^ 32
+  pub apart : AreNamedApart p
+
+-- where the problem's actions stand, and its objects
+abbrev pub AreActionPlaces : Pddl → Places → Type 0
+AreActionPlaces p places = ArePlaces (length p.names) (map (λ (a : ActionSchema). a.name) p.actions) places.by_name.items
+
+abbrev pub AreObjectPlaces : Pddl → Places → Type 0
+AreObjectPlaces p places = ArePlaces (length p.names) (map (λ (x : Object). x.name) p.objects) places.by_name.items
+
+pub record IsIndex (p : Pddl) (index : Index) : Type 0 where
+  pub actions : AreActionPlaces p index.actions
+  pub objects : AreObjectPlaces p index.objects
+  pub kinds : AreKinds p.types index.kinds
+
+-- each action and the goal have room
+abbrev pub HasRoomIn : Pddl → Frame → Type 0
+HasRoomIn p env = HasRoomForAll p env.room env.arity
+
+-- the room is the same
+abbrev pub IsAsRoomy : Frame → Frame → Type 0
+IsAsRoomy old new = (new.room ≡ old.room) × (new.arity ≡ old.arity)
+
+-- the action that the step names, or that it names none
+abbrev pub IsTheAction : Pddl → GroundAction → Option ActionSchema → Type 0
+IsTheAction p step found = MatchOption found (NamesAction p step → ⊥) (IsNamed p step)
+
+-- the object has the word, and is in the type
+abbrev pub IsArgument : Pddl → List ℕ → ℕ → ℕ → Type 0
+IsArgument p word ty x = HasWord p x word × InTypeOf p x ty
+
+abbrev pub IsTheArgument : Pddl → List ℕ → ℕ → Option ℕ → Type 0
+IsTheArgument p word ty found = MatchOption found ((x : ℕ) → IsArgument p word ty x → ⊥) (IsArgument p word ty)
+
+-- the objects have the words, and each is in its parameter's type
+abbrev pub AreArguments : Pddl → List Param → List (List ℕ) → List ℕ → Type 0
+AreArguments p params words objects = AreObjects p objects words × AreTyped (InTypeOf p) params objects
+
+-- now the objects of the words are in force; or there are no such objects
+abbrev pub IsFilled : Pddl → List Param → List (List ℕ) → Bool → Frame → Type 0
+IsFilled p params words found env = MatchBool found (AreArguments p params words env.objects) ((objects : List ℕ) → AreArguments p params words objects → ⊥)
+
+-- the step is taken from the old state to the new one
+abbrev pub IsTaken : Pddl → GroundAction → State → State → Type 0
+IsTaken p step old new = (a : ActionSchema) × (objects : List ℕ) × IsApplicable p (atoms old) step a objects × Has new (after (InTypeOf p) (atoms old) a.eff objects)
+
+-- it is taken, or it fails for this cause
+abbrev pub IsStepped : Pddl → GroundAction → State → State → Option FailWhy → Type 0
+IsStepped p step old new failed = MatchOption failed (IsTaken p step old new) (λ w. FailsIn p step (cause w) (atoms old))

@@ -1,0 +1,61 @@
+ghost use Rattle.std.specs.Prelude.{◌≡◌, ◌<◌, ◌^◌, length, map, IfOk};
+ghost use Rattle.plan_model.specs.declared.schemas.ActionSchema.{ActionSchema as Action};
+ghost use Rattle.plan_model.specs.declared.types.Object.{Object as Thing};
+ghost use Rattle.ground_state.specs.Places as spec;
+
+use htn_base::{Memory, Name, NameTable};
+use plan_model::{ActionSchema, Object};
+use std::alloc::Global;
+
+/// The places of named things, by the numbers of their names.
+#[derive(Drop)]
+pub struct Places {
+    by_name: Vec<Option<u32>>,
+}
+
+impl Places {
+    /// The places at which these names stand, where there are `count` words.
+    pub(crate) fn new(alloc: Global, count: usize, names: &[Name]) -> Result<Places, Memory>
+        requires few { length names.now < 2 ^ 32 }
+        ensures places { IfOk result (spec.HasPlaces count names.now) }
+    {
+        let mut by_name = vec![in alloc; None; count]?;
+        for (place, name) in names.iter().enumerate() {
+            let number = name.number as usize;
+            if number < by_name.len() {
+                by_name[number] = Some(place as u32);
+            }
+        }
+        Ok(Places { by_name })
+    }
+
+    /// A place of what has the word.
+    pub(crate) fn find(&self, table: &NameTable, word: &[u8]) -> Option<u32>
+        ensures { spec.Finds table.now self.now.by_name.items word.now result }
+    {
+        let name = table.find(word)?;
+        match self.by_name.get(name.number as usize) {
+            Some(place) => *place,
+            None => None,
+        }
+    }
+}
+
+/// The names of the actions.
+pub(crate) fn action_names(alloc: Global, actions: &[ActionSchema]) -> Result<Vec<Name>, Memory>
+    ensures { IfOk result (λ names. names.items ≡ map (λ (a : Action). a.name) actions.now) }
+{
+    let mut names = Vec::new(alloc);
+    for action in actions {
+        names.push(action.name)?;
+    }
+    Ok(names)
+}
+
+/// The names of the objects.
+pub(crate) fn object_names(alloc: Global, objects: &[Object]) -> Result<Vec<Name>, Memory>
+    ensures { IfOk result (λ names. names.items ≡ map (λ (x : Thing). x.name) objects.now) }
+{
+    let names = objects.iter().map(|object| object.name).collect(alloc)?;
+    Ok(names)
+}
