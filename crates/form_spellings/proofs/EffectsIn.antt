@@ -66,8 +66,8 @@ module _ (F : Facts) where
   deleted_in (list at p q) names s =
       reads_then same (AtomIn F) (AtomIn F) names (applied names p) (λ a. end_due q >>= (λ _. Ok a)) (applied_in F p names s.1) (λ a. reads_end (λ b table. (AtomIn F) a.0 table → (AtomIn F) b table) q a (λ _ table is. is))
 
-  nothing_in : (table : Names) → OfEffect (F.Is table) (raw.And [])
-  nothing_in table = in_roll (F.Is table) (RawEffect-F.And []) (raw.And []) (rolls-And []) tt
+  pub no_effect_in : (table : Names) → OfEffect (F.Is table) (raw.And [])
+  no_effect_in table = in_roll (F.Is table) (RawEffect-F.And []) (raw.And []) (rolls-And []) tt
 
   -- behind the word at the front
   headed_in : (h : EffectHead) (names : Names) (at : ℕ) (w : Word) (p : Placed) → F.Seen at w → AllSeen F p → Reads names (effects names p) EffectsIn → Reads names (guarded names p) GuardedIn → Reads names (bound_effect names p) BoundIn → Reads names (effect_headed h names at w p) EffectIn
@@ -79,7 +79,7 @@ module _ (F : Facts) where
   headed_in head.Increase names at w p seen s a b c = go (passed p)
     where
       go : (r : Result (Unit {0}) Stop) → Reads names (r >>= (λ _. Ok (raw.And [], names))) EffectIn
-      go (Ok x) = (keeps_same names, λ table k. nothing_in table)
+      go (Ok x) = (keeps_same names, λ table k. no_effect_in table)
       go (Err e) = tt
   headed_in head.Plain names at w p seen s a b c = reads_map (AtomIn F) EffectIn names (atom names at w p) raw.Add (atom_in F p names at w seen s) (λ x table is. in_roll (F.Is table) (RawEffect-F.Add x) (raw.Add x) (rolls-Add x) is)
   headed_in head.Wrong names at w p seen s a b c = tt
@@ -89,7 +89,7 @@ module _ (F : Facts) where
 
     pub effect_inside_in : (p : Placed) (names : Names) → AllSeen F p → Reads names (effect_inside names p) EffectIn
     effect_inside_in cut names s = tt
-    effect_inside_in (close at) names s = (keeps_same names, λ table k. nothing_in table)
+    effect_inside_in (close at) names s = (keeps_same names, λ table k. no_effect_in table)
     effect_inside_in (list at p q) names s = tt
     effect_inside_in (word at w p) names s =
         subst (λ r. Reads names r EffectIn) (sym (inside_word names at w p)) (headed_in (effect_head_of w) names at w p s.0 s.1 (effects_in p names s.1) (guarded_in p names s.1) (bound_in p names s.1))

@@ -57,6 +57,9 @@ module _ (F : Facts) where
   abbrev BoundIn : List RawParam × RawFormula → Names → Type 0
   BoundIn x table = ParamsIn F true x.0 table × OfFormula (F.Is table) x.1
 
+  pub true_in : (table : Names) → OfFormula (F.Is table) (raw.And [])
+  true_in table = in_roll (F.Is table) (RawFormula-F.And []) (raw.And []) (rolls-And []) tt
+
   -- behind the word at the front
   headed_in : (h : Head) (names : Names) (at : ℕ) (w : Word) (p : Placed) → F.Seen at w → AllSeen F p → Reads names (formulas names p) FormulasIn → Reads names (one names p) FormulaIn → Reads names (two names p) BothIn → Reads names (bound names p) BoundIn → Reads names (headed h names at w p) FormulaIn
   unfolding headed
@@ -75,7 +78,7 @@ module _ (F : Facts) where
 
     pub inside_in : (p : Placed) (names : Names) → AllSeen F p → Reads names (inside names p) FormulaIn
     inside_in cut names s = tt
-    inside_in (close at) names s = (keeps_same names, λ table k. in_roll (F.Is table) (RawFormula-F.And []) (raw.And []) (rolls-And []) tt)
+    inside_in (close at) names s = (keeps_same names, λ table k. true_in table)
     inside_in (list at p q) names s = tt
     inside_in (word at w p) names s =
         subst (λ r. Reads names r FormulaIn) (sym (inside_word names at w p)) (headed_in (head_of w) names at w p s.0 s.1 (formulas_in p names s.1) (one_in p names s.1) (two_formulas_in p names s.1) (bound_in p names s.1))

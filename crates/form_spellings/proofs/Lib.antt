@@ -20,8 +20,12 @@ mod EffectsIn
 mod NamesIn
 mod TermsBound
 mod NetworksIn
+mod PartsIn
+mod SectionsIn
+mod DefinitionsIn
 mod PlacesSeen
 mod PlacesRead
+mod PlacesWhole
 mod UnionsBound
 mod ListsBound
 mod FormulasBound

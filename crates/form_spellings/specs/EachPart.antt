@@ -1,6 +1,6 @@
 -- What holds of each name of a domain and a problem, and of the parenthesis in front of each subtask and each ordering.
 -- Source: this project's.
-use Rattle.std.specs.Prelude.{ℕ, ◌⊎◌, Bool, true, false, List, codes, IfSome}
+use Rattle.std.specs.Prelude.{ℕ, ◌⊎◌, Bool, true, false, codes, IfSome}
 use Rattle.std.specs.Option.{unwrap_or}
 use Rattle.htn_base.specs.declared.name.Name.{Name as Numbered}
 use Rattle.text_forms.specs.Words.{Word}
@@ -50,7 +50,9 @@ module _ (Is : Bool → ℕ → Numbered → Type 0) (Opens : ℕ → ℕ → Wo
   abbrev pub OfAction : RawAction → Type 0
   OfAction a = OfHead a.head × OfFormula Is a.pre × OfEffect Is a.eff
 
+  -- its own name is written somewhere
   pub record OfDomain (d : RawDomain) : Type 0 where
+    pub name : (at : ℕ) × Is false at d.name
     pub types : OfParams Is false d.types
     pub constants : OfParams Is false d.constants
     pub predicates : EachIs OfHead d.predicates
@@ -59,6 +61,7 @@ module _ (Is : Bool → ℕ → Numbered → Type 0) (Opens : ℕ → ℕ → Wo
     pub actions : EachIs OfAction d.actions
 
   pub record OfProblem (p : RawProblem) : Type 0 where
+    pub name : (at : ℕ) × Is false at p.name
     pub objects : OfParams Is false p.objects
     pub params : OfParams Is true p.params
     pub net : OfNet p.net

@@ -11,6 +11,9 @@ use Rattle.gd_reader.specs.declared.formulas.RawFormula.{RawFormula}
 use Rattle.gd_reader.specs.declared.effects.RawEffect.{RawEffect}
 use Rattle.gd_reader.specs.Terms.{Names}
 use Rattle.gd_reader.specs.TypedLists.{are_variables}
+use Rattle.hddl_reader.specs.declared.sections.RawDomain.{RawDomain}
+use Rattle.hddl_reader.specs.declared.sections.RawProblem.{RawProblem}
+use Rattle.form_spellings.specs.EachPart.{OfDomain, OfProblem}
 use Rattle.form_spellings.specs.EachName.{OfParams, OfFormula, OfEffect}
 use Rattle.form_spellings.specs.InTable.{IsIn}
 
@@ -38,6 +41,13 @@ module _ (text : List ℕ) where
 
     abbrev pub IsEffectAt : RawEffect → Type 0
     IsEffectAt = OfEffect IsNameAt
+
+    -- with the parenthesis in front of each subtask and each ordering
+    abbrev pub IsDomainAt : RawDomain → Type 0
+    IsDomainAt = OfDomain IsNameAt OpensWith
+
+    abbrev pub IsProblemAt : RawProblem → Type 0
+    IsProblemAt = OfProblem IsNameAt OpensWith
 
 -- of a list whose words are variables or not, by its kind
 abbrev pub AreParamsAt : ListKind → List ℕ → Names → List RawParam → Type 0
