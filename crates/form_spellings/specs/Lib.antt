@@ -7,6 +7,10 @@ pub mod SpellsSomeSections
 pub mod DeclaresOnce
 pub mod SpelledWhole
 pub mod OfAllRead
+pub mod EachName
+pub mod EachPart
 pub mod InTable
+pub mod Places
+pub mod ReadOf
 pub mod Bound
 pub mod SpellsBound

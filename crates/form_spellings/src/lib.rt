@@ -3,13 +3,15 @@
 //! It stands on the definitions of `gd_reader`, `form_grammar` and `plan_texts`, and has no code but laws. The contracts used above:
 //! a form is whole exactly where it spells some formula, effect, typed list, part of a network, schema, domain or problem, once its
 //! words are declared suitably (`whole_formulas`, `whole_effects`, `whole_lists`, `whole_networks`, `whole_schemas`,
-//! `whole_definitions`), so where it spells them as they are declared (`spelled_definitions_are_whole`); what is read, once its names are bound, is spelled by the parts from which it was read
-//! (`what_is_read_is_spelled`), and these parts spell nothing else (`what_is_spelled_is_read`); its names stand in the name table
-//! (`names_stand_in_the_table`).
+//! `whole_definitions`), so also where it spells a domain or a problem as declared (`spelled_definitions_are_whole`); what is read,
+//! once its names are bound, is spelled by the parts from which it was read (`what_is_read_is_spelled`), and these parts spell nothing
+//! else (`what_is_spelled_is_read`); its names stand in the name table (`names_stand_in_the_table`), and its offsets are those of
+//! tokens (`places_are_those_of_tokens`).
 #![tactic(auto)]
 
 mod laws;
 mod names;
+mod places;
 mod read;
 
 pub use laws::{
@@ -17,4 +19,5 @@ pub use laws::{
     whole_networks, whole_schemas,
 };
 pub use names::names_stand_in_the_table;
+pub use places::places_are_those_of_tokens;
 pub use read::{what_is_read_is_spelled, what_is_spelled_is_read};

@@ -95,7 +95,8 @@ fn gather_within(
 ) -> Result<(), Memory>
     requires world { IsWorld world.now }
     requires room { EffectFitsWithin (frame env.old) params.now body.now }
-    ensures gathered { OnOk result (GetsWithin world.now adds params.now body.now env.old into.old into.new) }
+    ensures gathered { OnOk result
+        (GetsWithin world.now adds params.now body.now env.old into.old into.new) }
     ensures kept { frame env.new ≡ frame env.old }
 {
     let Some((param, rest)) = params.split_first() else {
