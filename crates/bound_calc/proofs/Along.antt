@@ -1,10 +1,10 @@
 -- What blocks count, along the line: each block is a stretch of it, and all that stand behind count one each.
-use Rattle.std.proofs.Common.{ℕ, zero, suc, ◌≡◌, ◌+◌, ◌-◌, ◌<◌, ◌≤◌, ◌⊎◌, inl, inr, List, [], ◌∷◌, length, take, drop, get_or, refl, ap, sym, subst, ◌∙◌, Contains, arith, max}
+use Rattle.std.proofs.Common.{ℕ, zero, suc, ◌≡◌, ◌+◌, ◌<◌, ◌≤◌, ◌⊎◌, inl, inr, List, [], ◌∷◌, length, take, drop, get_or, refl, ap, sym, subst, ◌∙◌, Contains, arith}
 use Rattle.std.specs.List.{sum_by}
 use Rattle.std.proofs.lemmas.List.Sums.{sum_by-cons, sum_by_more, sum_by-take-drop}
 use Rattle.std.proofs.lemmas.List.{length-drop}
 use Rattle.task_networks.specs.Order.{IsCut}
-use Rattle.task_networks.specs.Pending.{AreDifferent}
+use Rattle.htn_base.specs.Different.{AreDifferent}
 use Rattle.task_networks.specs.Bound.{AreBlocks, weight}
 use Rattle.task_networks.proofs.BoundLaws.{by_size, before_block, at_block, after_block}
 use Rattle.task_networks.proofs.Lists.{not-in_empty, head_or_tail, Contains-here, Contains-later}
@@ -244,9 +244,9 @@ module _ (Pair : ℕ → ℕ → Type 0) (line : List ℕ) (different : AreDiffe
           last : (j : ℕ) → k ≡ suc j → block x ≡ at line number block j → (block_sum line number block (block x) ≤ more) ⊎ ((i : ℕ) × (suc k ≡ suc i) × (block x ≡ at line number block i))
           last j f g = elim or_not [
             | inl cut ↦ inl (
-            let a = whole_at_cut j pending greatest (omega arith) (subst (IsCut Pair line) f cut) (subst (λ n. IsSummed line number block n pending greatest) f h) in
-            let b = ap (block_sum line number block) g in
-            omega arith)
+                let a = whole_at_cut j pending greatest (omega arith) (subst (IsCut Pair line) f cut) (subst (λ n. IsSummed line number block n pending greatest) f h) in
+                let b = ap (block_sum line number block) g in
+                omega arith)
             | inr none ↦ inr (k, refl, g ∙ stays j (omega arith) (λ cut. none (subst (IsCut Pair line) (sym f) cut)) ∙ ap (at line number block) (sym f))
           ]
 

@@ -1,5 +1,5 @@
 -- The numbers of the groups over the methods in their order, the lowest group first.
-use Rattle.std.proofs.Common.{ℕ, zero, suc, ◌≡◌, ◌+◌, ◌<◌, ◌≤◌, ◌^◌, ◌⊎◌, inl, inr, List, [], ◌∷◌, ◌++◌, length, get_or, set, take, replicate, max, slice_get, slice_index, Some, All, refl, ap, sym, subst, ◌∙◌, Contains, arith, length-set}
+use Rattle.std.proofs.Common.{ℕ, suc, ◌≡◌, ◌+◌, ◌<◌, ◌≤◌, ◌⊎◌, inl, inr, List, length, get_or, set, take, replicate, max, slice_get, slice_index, Some, All, refl, ap, sym, subst, ◌∙◌, Contains, arith, length-set}
 use Rattle.std.specs.Prelude.{Result, Ok, Err, IfErr}
 use Rattle.std.specs.Result.{IsErrAnd}
 use Rattle.std.specs.List.Sorted.{IsNonDecreasingBy}
@@ -16,15 +16,14 @@ use Rattle.task_networks.specs.Bound.{itself}
 use Rattle.task_networks.proofs.BoundLaws.{by_size}
 use Rattle.task_networks.proofs.Lists.{not-in_empty}
 use Rattle.plan_meaning.specs.Network.{top_task}
-use Rattle.plan_meaning.specs.Schemas.{task, schemas, schema_of}
+use Rattle.plan_meaning.specs.Schemas.{task, schema_of}
 use Rattle.plan_meaning.specs.Strata.{IsReachedTask}
 use Rattle.plan_meaning.specs.Bound.{IsBound}
-use Rattle.plan_meaning.proofs.MethodParts.{IsPairBy, schemas_by}
 use Rattle.bound_laws.proofs.Lines.{HasLines}
 use Rattle.bound_laws.proofs.ProblemBound.{tail_recursive_has_bound}
 use Rattle.bound_laws.proofs.OrCycle.{ranked_exactly}
 use Rattle.stratifier.specs.declared.ranks.Ranks.{Ranks}
-use Rattle.stratifier.specs.Conditions.{HaveNoCycle, IsNumbered, IsOrdered, IsSmallCompiled, IsSmallMethod}
+use Rattle.stratifier.specs.Conditions.{IsNumbered, IsSmallCompiled}
 use Rattle.stratifier.specs.Stratified.{IsStratified, number_of, rank_by}
 use Rattle.bound_calc.specs.declared.groups.BoundError.{BoundError}
 use Rattle.bound_calc.specs.declared.groups.BoundError.TheVariants.{Past128, Memory}
@@ -76,10 +75,14 @@ module _ (c : Compiled) (ranks : Ranks) (small : IsSmallCompiled c) (strata : Is
   has_bound = tail_recursive_has_bound c known ((ranked_exactly c).1 (rank_by ranks, strata.ranking))
 
   pub counted_none : (places : List (ℕ × ℕ)) (x : List ℕ) → x ≡ replicate (top_task c + 1) 1 → AreCounted c ranks places 0 x
-  counted_none places x e = record { room = ap length e ∙ length-replicate (top_task c + 1) 1 ∙ (let y : top_task c + 1 ≡ suc (top_task c) = omega arith in y); low = λ k d l. (let a = one k d (within k l) in omega arith); numbered = λ n A. record {
-    high = λ t r. (let a = one (number_of ranks t) 0 (let s = strata.small t in omega arith) in let p = A.numbers.positive (task t) r in omega arith);
-    done = λ m i plan d f r counts. absurd (not-in_empty (d.0, m) d.1);
-  } }
+  counted_none places x e = record {
+    room = ap length e ∙ length-replicate (top_task c + 1) 1 ∙ (let y : top_task c + 1 ≡ suc (top_task c) = omega arith in y);
+    low = λ k d l. (let a = one k d (within k l) in omega arith);
+    numbered = λ n A. record {
+      high = λ t r. (let a = one (number_of ranks t) 0 (let s = strata.small t in omega arith) in let p = A.numbers.positive (task t) r in omega arith);
+      done = λ m i plan d f r counts. absurd (not-in_empty (d.0, m) d.1);
+    };
+  }
     where
       within : (k : ℕ) → k < length x → k < top_task c + 1
       within k l = subst (λ n. k < n) (ap length e ∙ length-replicate (top_task c + 1) 1) l

@@ -1,5 +1,5 @@
 -- The greatest block of a method, place by place along its line.
-use Rattle.std.proofs.Common.{ℕ, zero, suc, ◌≡◌, ◌+◌, ◌-◌, ◌<◌, ◌≤◌, ◌^◌, ◌⊎◌, ◌↔◌, inl, inr, List, [], ◌∷◌, length, get_or, take, drop, Bool, true, false, max, slice_get, Option, Some, None, refl, ap, sym, subst, ◌∙◌, Contains, arith, IsTrue}
+use Rattle.std.proofs.Common.{ℕ, zero, suc, ◌≡◌, ◌+◌, ◌-◌, ◌<◌, ◌≤◌, ◌⊎◌, ◌↔◌, inl, inr, List, [], length, get_or, true, false, max, slice_get, Option, Some, None, ap, sym, subst, ◌∙◌, Contains, arith, IsTrue}
 use Rattle.std.specs.Option.{option_map_or}
 use Rattle.std.proofs.lemmas.Bool.{false≢true}
 use Rattle.std.proofs.lemmas.Option.{slice_get-get_or}
@@ -11,7 +11,7 @@ use Rattle.plan_model.specs.declared.schemas.MethodPlan.{MethodPlan}
 use Rattle.plan_model.specs.Pairs.{Pairs}
 use Rattle.task_networks.specs.Order.{IsCut}
 use Rattle.task_networks.specs.Net.{Net}
-use Rattle.task_networks.specs.Pending.{AreDifferent}
+use Rattle.htn_base.specs.Different.{AreDifferent}
 use Rattle.task_networks.specs.Bound.{AreBlocks}
 use Rattle.task_networks.proofs.Lists.{not-in_empty}
 use Rattle.task_networks.proofs.BoundLaws.{by_size}
@@ -20,7 +20,7 @@ use Rattle.net_order.specs.Answers.{Answers, cut}
 use Rattle.net_order.specs.Meaning.{IsOrderOf}
 use Rattle.net_order.proofs.Whole.{child_of, different, length_line}
 use Rattle.stratifier.specs.declared.ranks.Ranks.{Ranks}
-use Rattle.bound_calc.specs.Blocks.{head_number, child_number, block_number, IsGreatestBlock, HasPastBlock}
+use Rattle.bound_calc.specs.Blocks.{head_number, child_number, block_number, IsGreatestBlock}
 use Rattle.bound_calc.specs.Lines.{HasLine}
 use Rattle.bound_calc.specs.ByRank.{AreRanked, HaveNumbers}
 use Rattle.bound_calc.proofs.Along.{IsSummed, Starts, summed_none, summed_more, summed_above, starts_new, starts_first, starts_same, adds_within}

@@ -4,3 +4,4 @@ pub mod Steps
 pub mod Greatest
 pub mod Placing
 pub mod Counting
+pub mod examples

@@ -1,13 +1,13 @@
 -- A sum over the children of a method is the same along its line.
-use Rattle.std.proofs.Common.{ℕ, zero, suc, ◌≡◌, ◌+◌, ◌<◌, ◌≤◌, ◌⊎◌, inl, inr, List, [], ◌∷◌, ◌++◌, length, slice_get, Some, refl, ap, sym, subst, ◌∙◌, Contains, arith}
+use Rattle.std.proofs.Common.{ℕ, suc, ◌≡◌, ◌+◌, ◌≤◌, inl, inr, List, [], ◌∷◌, ◌++◌, length, slice_get, Some, refl, ap, sym, subst, Contains, arith}
 use Rattle.std.specs.List.{sum_by}
 use Rattle.std.proofs.lemmas.List.Sums.{sum_by-cons, sum_by-append}
 use Rattle.task_networks.specs.Net.{Net}
 use Rattle.task_networks.specs.Order.{IsLine}
-use Rattle.task_networks.specs.Pending.{AreDifferent}
+use Rattle.htn_base.specs.Different.{AreDifferent}
 use Rattle.task_networks.specs.Spelling.{numbers}
 use Rattle.task_networks.specs.Bound.{weight, weights}
-use Rattle.task_networks.proofs.Lists.{not-in_empty, Contains-here, Contains-later, cut_at}
+use Rattle.task_networks.proofs.Lists.{Contains-here, Contains-later, cut_at}
 use Rattle.task_networks.proofs.Different.{without_cases}
 use Rattle.task_networks.proofs.Numbers.{numbers_to, to_numbers, different-numbers}
 use Rattle.net_order.proofs.Whole.{child_of, different}

@@ -1,6 +1,6 @@
 -- The methods of reached tasks, as far as they are listed; and sorted.
-use Rattle.std.proofs.Common.{ℕ, zero, suc, ◌≡◌, ◌+◌, ◌<◌, ◌≤◌, ◌⊎◌, ◌↔◌, inl, inr, List, [], ◌∷◌, ◌++◌, length, get_or, take, slice_get, Some, false, Ordering, refl, ap, sym, subst, ◌∙◌, Contains, arith}
-use Rattle.std.specs.List.Sorted.{IsSorted, IsPermutation, IsNonDecreasingBy}
+use Rattle.std.proofs.Common.{ℕ, ◌≡◌, ◌+◌, ◌<◌, ◌≤◌, ◌⊎◌, ◌↔◌, inl, inr, List, [], ◌∷◌, ◌++◌, length, get_or, slice_get, Some, false, Ordering, refl, ap, sym, subst, ◌∙◌, Contains, arith}
+use Rattle.std.specs.List.Sorted.{IsSorted, IsPermutation}
 use Rattle.std.specs.Ordering.{nat_cmp, ordering_then, is_lt}
 use Rattle.std.proofs.lemmas.List.Sorted.{IsNonDecreasingBy-from_all_adjacent, Contains-permutation, IsPermutation-sym}
 use Rattle.std.proofs.lemmas.List.Elements.{Contains-append_left, Contains-push, Contains-push_cases}
@@ -60,10 +60,12 @@ module _ (c : Compiled) (ranks : Ranks) where
 
   -- a method of another task
   pub placed_same : (k : ℕ) (places : List (ℕ × ℕ)) (plan : MethodPlan) → slice_get c.methods k ≡ Some plan → (IsReachedTask c plan.schema.task → ⊥) → ArePlaced c ranks k places → ArePlaced c ranks (k + 1) places
-  placed_same k places plan is none h = record { each = λ place. (
-    λ d. (let p = (h.each place).0 d in (let l = p.0 in omega arith, p.1)),
-    λ p. (h.each place).1 (go place (by_size place.1 k) p, p.1),
-  ) }
+  placed_same k places plan is none h = record {
+    each = λ place. (
+      λ d. (let p = (h.each place).0 d in (let l = p.0 in omega arith, p.1)),
+      λ p. (h.each place).1 (go place (by_size place.1 k) p, p.1),
+    );
+  }
     where
       go : (place : ℕ × ℕ) → (place.1 < k) ⊎ ((place.1 ≡ k) ⊎ (k < place.1)) → (place.1 < k + 1) × IsPlace c ranks place → place.1 < k
       go place (inl l) p = l

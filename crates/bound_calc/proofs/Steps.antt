@@ -1,5 +1,5 @@
 -- The bound's numbers, group by group: what a method adds to the number of its task's group.
-use Rattle.std.proofs.Common.{ℕ, zero, suc, ◌≡◌, ◌+◌, ◌<◌, ◌≤◌, ◌^◌, ◌⊎◌, inl, inr, List, [], ◌∷◌, length, map, get_or, set, slice_get, slice_index, Option, Some, None, refl, ap, sym, subst, ◌∙◌, Contains, All, arith, get_or-set_same, get_or-set_other}
+use Rattle.std.proofs.Common.{ℕ, suc, ◌≡◌, ◌+◌, ◌<◌, ◌≤◌, ◌^◌, ◌⊎◌, inl, inr, List, [], ◌∷◌, length, set, slice_get, slice_index, Some, refl, ap, sym, subst, ◌∙◌, Contains, All, arith, get_or-set_same, get_or-set_other}
 use Rattle.std.specs.List.{sum_by}
 use Rattle.std.proofs.lemmas.Bool.{cases_eq}
 use Rattle.std.specs.Option.{option_map, option_map_or}
@@ -16,10 +16,10 @@ use Rattle.task_networks.specs.Spelling.{numbers}
 use Rattle.task_networks.specs.Bound as Bounds
 use Rattle.task_networks.specs.Bound.{IsReached, itself, as_child, weight, Counts}
 use Rattle.task_networks.proofs.BoundLaws.{by_size, enough_for_all, before_block, at_block, after_block}
-use Rattle.task_networks.proofs.Lists.{not-in_empty, head_or_tail, Contains-here, Contains-later}
+use Rattle.task_networks.proofs.Lists.{not-in_empty, head_or_tail}
 use Rattle.plan_meaning.specs.Network.{top_task}
-use Rattle.plan_meaning.specs.Schemas.{Schema, task, action, check, schemas, schema_of, IsPrimitive}
-use Rattle.plan_meaning.specs.Strata.{Edge, IsEdge, AreEdges, source, target, target_by, IsOneGroup, IsReachedTask}
+use Rattle.plan_meaning.specs.Schemas.{Schema, task, action, check, schemas, schema_of}
+use Rattle.plan_meaning.specs.Strata.{Edge, AreEdges, source, target, target_by, IsOneGroup, IsReachedTask}
 use Rattle.plan_meaning.specs.Bound.{group_of, IsBound}
 use Rattle.plan_meaning.proofs.MethodParts.{IsPairBy, head_schema_by, schemas_by}
 use Rattle.plan_meaning.proofs.BoundParts.{AreWhole, at_most, not_of_the_group, there_at, listed}
@@ -266,10 +266,10 @@ module _ (c : Compiled) (known : HasLines c) (small : IsSmallCompiled c) (ranks 
           done k i other d s t counts = elim (more k d) [
             | inl old ↦ (let a = are_numbered.done k i other old s t counts in let b = rises (number_of ranks other.schema.task) in omega arith)
             | inr new ↦ (
-            let a = greatest_counts v i is (subst (λ z. Counts (schemas c) A.block A.number (group_of A.group) z i) new counts) in
-            let b = ap (λ z. Bounds.block_number (schemas c) A.block A.number z (A.block z i)) new in
-            let same : other ≡ plan = some other plan (sym s ∙ ap (slice_get c.methods) new ∙ e) in
-            let d = ap (λ (z : MethodPlan). slice_index y (number_of ranks z.schema.task)) same in
-            let h = here in
-            omega arith)
+                let a = greatest_counts v i is (subst (λ z. Counts (schemas c) A.block A.number (group_of A.group) z i) new counts) in
+                let b = ap (λ z. Bounds.block_number (schemas c) A.block A.number z (A.block z i)) new in
+                let same : other ≡ plan = some other plan (sym s ∙ ap (slice_get c.methods) new ∙ e) in
+                let d = ap (λ (z : MethodPlan). slice_index y (number_of ranks z.schema.task)) same in
+                let h = here in
+                omega arith)
           ]

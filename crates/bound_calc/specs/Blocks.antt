@@ -1,6 +1,6 @@
 -- The greatest number of a block of a method, from the numbers of its children.
 -- Source: this project's, after the progression bound of Alford et al., "Bound to Plan", ICAPS 2016.
-use Rattle.std.specs.Prelude.{ℕ, ◌≡◌, ◌<◌, ◌≤◌, ◌⊎◌, ◌^◌, List, slice_get, slice_index, Contains, Option, Some, None}
+use Rattle.std.specs.Prelude.{ℕ, ◌≡◌, ◌≤◌, ◌⊎◌, ◌^◌, List, slice_get, slice_index, Contains, Option, Some, None}
 use Rattle.std.specs.List.{sum_by}
 use Rattle.std.specs.Option.{option_map_or}
 use Rattle.plan_model.specs.declared.networks.Head.{Head}

@@ -1,6 +1,6 @@
 -- The methods of the tasks that are reached, the lowest group first; and numbers for groups.
 -- Source: this project's.
-use Rattle.std.specs.Prelude.{ℕ, suc, ◌≡◌, ◌<◌, ◌≤◌, ◌↔◌, List, length, Some, slice_get, Contains, All}
+use Rattle.std.specs.Prelude.{ℕ, ◌≡◌, ◌<◌, ◌≤◌, ◌↔◌, List, length, Some, slice_get, Contains, All}
 use Rattle.std.specs.List.Sorted.{IsNonDecreasingBy}
 use Rattle.plan_model.specs.declared.schemas.MethodPlan.{MethodPlan}
 use Rattle.plan_model.specs.declared.values.Compiled.{Compiled}

@@ -1,5 +1,5 @@
 -- The parts of types, type by type, and the objects in a type.
-use Rattle.std.proofs.Common.{ℕ, ◌≡◌, ◌<◌, ◌≤◌, ◌↔◌, ◌⊎◌, ◌++◌, inl, inr, IsTrue, List, [], ◌∷◌, length, get_or, Some, sym, subst, ◌∙◌, ap, arith, slice_get}
+use Rattle.std.proofs.Common.{ℕ, ◌≡◌, ◌<◌, ◌↔◌, ◌⊎◌, ◌++◌, inl, inr, List, [], ◌∷◌, length, Some, sym, subst, ◌∙◌, ap, arith, slice_get}
 use Rattle.std.proofs.lemmas.Bool.{cases_lt}
 use Rattle.std.proofs.lemmas.List.{get_or_push}
 use Rattle.std.proofs.lemmas.Option.{slice_get_within, slice_get-get_or, get_or_from_slice_get}

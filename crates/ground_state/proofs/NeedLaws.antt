@@ -1,5 +1,5 @@
 -- Room that is enough goes up the kinds of formulas and effects.
-use Rattle.std.proofs.Common.{ℕ, zero, suc, ◌≡◌, ◌+◌, ◌<◌, ◌≤◌, ◌⊎◌, inl, inr, ◌++◌, List, [], ◌∷◌, length, get_or, take, Contains, Result, Ok, Err, IfOk, ap, sym, subst, ◌∙◌, arith}
+use Rattle.std.proofs.Common.{ℕ, ◌≡◌, ◌+◌, ◌<◌, ◌≤◌, inl, inr, ◌++◌, List, [], ◌∷◌, length, get_or, take, Contains, Result, Ok, Err, IfOk, ap, sym, subst, ◌∙◌, arith}
 use Rattle.std.proofs.lemmas.List.{take_more, take_all}
 use Rattle.std.proofs.lemmas.List.Elements.{Contains-push_cases}
 use Rattle.plan_model.specs.declared.terms.Term.{Term}
@@ -15,7 +15,7 @@ use Rattle.plan_model.specs.declared.schemas.ActionSchema.{ActionSchema}
 use Rattle.plan_model.specs.declared.values.Pddl.{Pddl}
 use Rattle.ground_state.specs.declared.need.Need.{Need}
 use Rattle.ground_state.specs.Room.{EachFits, fits_step, fits, effect_fits_step, effect_fits}
-use Rattle.ground_state.specs.Needs.{IsWithin, Allows, IsEnough, IsEnoughForEach, IsEnoughForEffect, IsEnoughForEachEffect, HasRoom, HasRoomForAll, IsEnoughForAll, IsEnoughForAction}
+use Rattle.ground_state.specs.Needs.{IsWithin, Allows, IsEnough, IsEnoughForEach, IsEnoughForEffect, IsEnoughForEachEffect, HasRoom, IsEnoughForAll, IsEnoughForAction}
 use Rattle.ground_state.proofs.RoomEquations.{fits-roll, effect-roll}
 
 -- what follows of two facts on what was made

@@ -1,15 +1,15 @@
 -- Places of names, filled in one by one, and what is found for a word.
-use Rattle.std.proofs.Common.{ℕ, zero, suc, ◌≡◌, ◌+◌, ◌<◌, ◌≤◌, ◌↔◌, ◌⊎◌, inl, inr, MatchOption, Bool, true, false, List, [], ◌∷◌, length, get_or, set, Option, Some, None, slice_get, position, replicate, cond, not, map, take, ◌++◌, refl, ap, sym, subst, ◌∙◌, arith, length-set, get_or-set_same, get_or-set_other, true≢false}
+use Rattle.std.proofs.Common.{ℕ, zero, suc, ◌≡◌, ◌+◌, ◌<◌, ◌≤◌, inl, inr, MatchOption, Bool, true, false, List, [], ◌∷◌, length, get_or, set, Option, Some, None, slice_get, cond, not, map, take, ◌++◌, ap, sym, subst, ◌∙◌, arith, length-set, get_or-set_same, get_or-set_other, true≢false}
 use Rattle.std.specs.List.{position_or_len}
 use Rattle.std.specs.Str.{bytes_eq}
 use Rattle.std.proofs.lemmas.Bool.{cases_eq, cases_lt, lt-ltb}
-use Rattle.std.proofs.lemmas.Option.{slice_get_within, slice_get-get_or, get_or_from_slice_get, slice_get_past, slice_get-map}
+use Rattle.std.proofs.lemmas.Option.{slice_get_within, slice_get-get_or, get_or_from_slice_get}
 use Rattle.std.proofs.lemmas.List.{take_more, map-append}
 use Rattle.std.proofs.lemmas.List.Quantifiers.{position-Some}
 use Rattle.std.proofs.lemmas.Slice.Eq.{bytes_eq-Decides}
 use Rattle.htn_base.specs.declared.name.Name.{Name}
 use Rattle.htn_base.specs.Different.{AreDifferent}
-use Rattle.htn_base.specs.Table.{number_of, IsTable}
+use Rattle.htn_base.specs.Table.{number_of}
 use Rattle.htn_base.proofs.DifferentLemmas.{different-places}
 use Rattle.ground_state.specs.Places.{HasNumber, HasWordAt, AreFirstPlaces, ArePlaces, Finds}
 

@@ -1,5 +1,5 @@
 -- Steps of a run: why one fails, and where the steps so far lead.
-use Rattle.std.proofs.Common.{ℕ, ◌≡◌, ◌+◌, ◌<◌, ◌≤◌, ◌↔◌, ◌++◌, inl, inr, List, [], ◌∷◌, length, get_or, take, drop, Contains, Option, Some, None, refl, ap, sym, subst, ◌∙◌, arith, append_assoc, take-append-drop, length-take-le}
+use Rattle.std.proofs.Common.{ℕ, ◌≡◌, ◌+◌, ◌<◌, ◌≤◌, ◌↔◌, ◌++◌, inl, inr, List, [], ◌∷◌, length, get_or, take, drop, Contains, refl, ap, sym, subst, ◌∙◌, arith, append_assoc, take-append-drop, length-take-le}
 use Rattle.std.proofs.lemmas.List.{take_more, take_all}
 use Rattle.plan_model.specs.declared.terms.GroundAtom.{GroundAtom}
 use Rattle.plan_model.specs.declared.terms.Param.{Param}
@@ -8,14 +8,14 @@ use Rattle.plan_model.specs.declared.steps.GroundAction.{GroundAction}
 use Rattle.plan_model.specs.declared.values.Pddl.{Pddl}
 use Rattle.plan_meaning.specs.Truth as truth
 use Rattle.plan_meaning.specs.Truth.{AreTyped, IsTrueIn, after}
-use Rattle.plan_meaning.specs.ClassicalPlan.{AreObjects, InTypeOf, IsApplicable, EndsIn, IsPlan}
-use Rattle.plan_meaning.specs.FailingStep.{Cause, unknown_action, arguments, condition, goal_false, IsNamed, IsInstance, IsAllowed, FailsIn, StepFails, GoalFails, Fails, AreNamedApart}
+use Rattle.plan_meaning.specs.ClassicalPlan.{InTypeOf, IsApplicable, EndsIn, IsPlan}
+use Rattle.plan_meaning.specs.FailingStep.{Cause, unknown_action, arguments, condition, goal_false, IsNamed, IsInstance, FailsIn, Fails, AreNamedApart}
 use Rattle.plan_meaning.proofs.SameStates.{same_truth, same_after}
 use Rattle.plan_meaning.proofs.FailingLaws.{ends_weaker, ends_joined, same_objects}
 use Rattle.ground_state.specs.declared.state.State.{State}
 use Rattle.ground_state.specs.Frames.{Frame}
 use Rattle.ground_state.specs.Room.{fits, effect_fits, Fits, EffectFits}
-use Rattle.ground_state.specs.Needs.{HasRoom, HasRoomForAll}
+use Rattle.ground_state.specs.Needs.{HasRoomForAll}
 use Rattle.ground_state.specs.States.{atoms, Has}
 use Rattle.ground_state.specs.Runs.{AreArguments, HasRoomIn, IsAsRoomy, IsTaken}
 use Rattle.ground_state.proofs.IndexLaws.{typed_length}

@@ -2,6 +2,7 @@ pub mod Frames
 pub mod Room
 pub mod States
 pub mod Search
+pub mod Clauses
 pub mod Kinds
 pub mod Needs
 pub mod Places

@@ -9,7 +9,7 @@ use Rattle.plan_model.specs.declared.values.Pddl.{Pddl}
 use Rattle.plan_model.specs.Parts.{AreListed}
 use Rattle.plan_meaning.specs.Truth.{AreTyped, after}
 use Rattle.plan_meaning.specs.ClassicalPlan.{HasWord, AreObjects, InTypeOf, IsApplicable, IsPlan}
-use Rattle.plan_meaning.specs.FailingStep.{Cause, unknown_action, arguments, condition, goal_false, FailsIn, Fails, AreNamedApart}
+use Rattle.plan_meaning.specs.FailingStep.{Cause, unknown_action, arguments, condition, goal_false, IsNamed, NamesAction, FailsIn, Fails, AreNamedApart}
 use Rattle.ground_state.specs.declared.verdict.FailWhy.{FailWhy}
 use Rattle.ground_state.specs.declared.verdict.FailWhy.TheVariants as why
 use Rattle.ground_state.specs.declared.verdict.Verdict.{Verdict}
@@ -60,6 +60,10 @@ HasRoomIn p env = HasRoomForAll p env.room env.arity
 -- the room is the same
 abbrev pub IsAsRoomy : Frame → Frame → Type 0
 IsAsRoomy old new = (new.room ≡ old.room) × (new.arity ≡ old.arity)
+
+-- the action that the step names, or that it names none
+abbrev pub IsTheAction : Pddl → GroundAction → Option ActionSchema → Type 0
+IsTheAction p step found = MatchOption found (NamesAction p step → ⊥) (IsNamed p step)
 
 -- the object has the word, and is in the type
 abbrev pub IsArgument : Pddl → List ℕ → ℕ → ℕ → Type 0

@@ -47,3 +47,6 @@ AreLacking s list lacking = (g : GroundAtom) → Contains lacking g ↔ (Contain
 -- without those that are deleted, and with those that are added
 abbrev pub Changed : State → List GroundAtom → List GroundAtom → truth.State
 Changed s adds deletes g = WithoutAll s deletes g ⊎ Contains adds g
+
+abbrev pub IsChanged : State → List GroundAtom → List GroundAtom → State → Type 0
+IsChanged old adds deletes new = Has new (Changed old adds deletes)

@@ -16,7 +16,7 @@ impl State {
         adds: &List<GroundAtom>,
         deletes: &List<GroundAtom>,
     ) -> Result<(), Memory>
-        ensures changed { OnOk result (spec.Has self.new (spec.Changed self.old adds.now deletes.now)) }
+        ensures changed { OnOk result (spec.IsChanged self.old adds.now deletes.now self.new) }
         ensures unchanged { OnErr result (spec.IsSame self.old self.new) }
     {
         let added = State::new(alloc, adds)?;

@@ -1,7 +1,8 @@
 ghost use Rattle.std.specs.Prelude.{◌≡◌, ◌<◌, ◌^◌, length, OnOk};
 ghost use Rattle.ground_state.specs.Frames.{frame};
 ghost use Rattle.ground_state.specs.Room.{EffectFits, AllEffectsFit, EffectFitsWithin};
-ghost use Rattle.ground_state.specs.Search.{Gathers, Reads, ReadsEach, ReadsWithin, IsWorld};
+ghost use Rattle.ground_state.specs.Search.{IsWorld};
+ghost use Rattle.ground_state.specs.Clauses.{Gets, GetsEach, GetsWithin};
 
 use crate::env::Env;
 use crate::kinds::has_object;
@@ -31,7 +32,7 @@ pub(crate) fn gather(
 ) -> Result<(), Memory>
     requires world { IsWorld world.now }
     requires room { EffectFits (frame env.old) eff.now }
-    ensures gathered { OnOk result (Gathers (Reads world.now adds eff.now (frame env.old)) into.old into.new) }
+    ensures gathered { OnOk result (Gets world.now adds eff.now env.old into.old into.new) }
     ensures kept { frame env.new ≡ frame env.old }
 {
     match eff {
@@ -72,7 +73,7 @@ fn gather_each(
 ) -> Result<(), Memory>
     requires world { IsWorld world.now }
     requires room { AllEffectsFit (frame env.old) parts.now }
-    ensures gathered { OnOk result (Gathers (ReadsEach world.now adds parts.now (frame env.old)) into.old into.new) }
+    ensures gathered { OnOk result (GetsEach world.now adds parts.now env.old into.old into.new) }
     ensures kept { frame env.new ≡ frame env.old }
 {
     for part in parts {
@@ -94,7 +95,8 @@ fn gather_within(
 ) -> Result<(), Memory>
     requires world { IsWorld world.now }
     requires room { EffectFitsWithin (frame env.old) params.now body.now }
-    ensures gathered { OnOk result (Gathers (ReadsWithin world.now adds params.now body.now (frame env.old)) into.old into.new) }
+    ensures gathered { OnOk result
+        (GetsWithin world.now adds params.now body.now env.old into.old into.new) }
     ensures kept { frame env.new ≡ frame env.old }
 {
     let Some((param, rest)) = params.split_first() else {

@@ -1,6 +1,5 @@
-ghost use Rattle.std.specs.Prelude.{◌≤◌, length, IfOk, MatchOption};
+ghost use Rattle.std.specs.Prelude.{◌≤◌, length, IfOk};
 ghost use Rattle.std.specs.Option.{option_copied};
-ghost use Rattle.plan_meaning.specs.FailingStep.{IsNamed, NamesAction};
 ghost use Rattle.ground_state.specs.Frames.{frame};
 ghost use Rattle.ground_state.specs.Runs as spec;
 
@@ -38,7 +37,7 @@ impl Index {
     /// The action that the step names.
     pub(crate) fn action<'p>(&self, p: &'p Pddl, step: &GroundAction) -> Option<&'p ActionSchema>
         requires index { spec.IsIndex p.now self.now }
-        ensures { MatchOption (option_copied result) (NamesAction p.now step.now → ⊥) (IsNamed p.now step.now) }
+        ensures { spec.IsTheAction p.now step.now (option_copied result) }
     {
         let place = self.actions.find(&p.names, step.name.as_slice())?;
         p.actions.get(place as usize)

@@ -1,7 +1,14 @@
-//! Truth and steps, computed: a state of ground atoms, whether a formula is true in it, and the state after an effect.
+//! Truth, steps and runs, computed: a state of ground atoms, whether a formula is true in it, the state after an effect,
+//! and whether a list of ground actions is a plan.
 //!
 //! Stands on `htn_base`, `plan_model` and the definitions of `plan_meaning`. The contracts used above: `holds` answers
-//! whether a formula is true in a state, and `State::apply` goes to the state after an effect.
+//! whether a formula is true in a state, `State::apply` goes to the state after an effect, and `run_plan` tells plans
+//! from other lists, with the first step that fails and why.
+//!
+//! A state has numbers of predicates and objects alone, and the calls take the types and the objects that these are
+//! numbers of. So they serve a printed problem, a source problem and a compiled one alike: `State::new` of the value's
+//! `init`, an `Env` with the objects of an action's or a method's parameters, `holds` for a condition or the goal, and
+//! `State::apply` for an action's effect.
 #![tactic(auto)]
 
 mod change;

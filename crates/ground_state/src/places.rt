@@ -17,7 +17,7 @@ impl Places {
     /// The places at which these names stand, where there are `count` words.
     pub(crate) fn new(alloc: Global, count: usize, names: &[Name]) -> Result<Places, Memory>
         requires few { length names.now < 2 ^ 32 }
-        ensures places { IfOk result (λ places. spec.ArePlaces count names.now places.by_name.items) }
+        ensures places { IfOk result (spec.HasPlaces count names.now) }
     {
         let mut by_name = vec![in alloc; None; count]?;
         for (place, name) in names.iter().enumerate() {

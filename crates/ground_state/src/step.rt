@@ -1,11 +1,9 @@
-ghost use Rattle.std.specs.Prelude.{◌≡◌, ◌<◌, ◌^◌, [], length, IfOk, OnOk, OnErr};
-ghost use Rattle.plan_model.specs.Typing.{InType};
+ghost use Rattle.std.specs.Prelude.{◌≡◌, ◌<◌, ◌^◌, length, IfOk, OnOk, OnErr};
 ghost use Rattle.plan_model.specs.Parts.{AreListed};
-ghost use Rattle.plan_meaning.specs.Truth.{after};
 ghost use Rattle.ground_state.specs.Frames.{frame};
 ghost use Rattle.ground_state.specs.Room.{EffectFits};
-ghost use Rattle.ground_state.specs.States.{atoms, Has, IsSame};
-ghost use Rattle.ground_state.specs.Search.{Gathers, Touches};
+ghost use Rattle.ground_state.specs.States.{IsSame};
+ghost use Rattle.ground_state.specs.Clauses.{After, Touched};
 
 use crate::env::Env;
 use crate::gather::{World, gather};
@@ -28,7 +26,7 @@ impl State {
         requires listed { AreListed types.now }
         requires few { length objects.now < 2 ^ 32 }
         requires room { EffectFits (frame env.old) eff.now }
-        ensures after { OnOk result (Has self.new (after (InType types.now objects.now) (atoms self.old) eff.now (frame env.old).objects)) }
+        ensures after { OnOk result (After types.now objects.now self.old eff.now env.old self.new) }
         ensures unchanged { OnErr result (IsSame self.old self.new) }
         ensures kept { frame env.new ≡ frame env.old }
     {
@@ -51,7 +49,7 @@ fn touched(
     requires listed { AreListed types.now }
     requires few { length objects.now < 2 ^ 32 }
     requires room { EffectFits (frame env.old) eff.now }
-    ensures touched { IfOk result (Gathers (Touches (InType types.now objects.now) (atoms state.now) adds eff.now (frame env.old).objects) []) }
+    ensures touched { IfOk result (Touched types.now objects.now state.now adds eff.now env.old) }
     ensures kept { frame env.new ≡ frame env.old }
 {
     let world = World {

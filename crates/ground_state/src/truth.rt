@@ -1,11 +1,10 @@
 ghost use Rattle.std.specs.Prelude.{◌≡◌, ◌≤◌, ◌<◌, ◌^◌, ◌↔◌, IsTrue, length};
-ghost use Rattle.plan_model.specs.Typing.{InType};
 ghost use Rattle.plan_model.specs.Parts.{AreListed};
-ghost use Rattle.plan_meaning.specs.Truth.{ground, IsTrueIn};
+ghost use Rattle.plan_meaning.specs.Truth.{ground};
 ghost use Rattle.ground_state.specs.Frames.{frame};
 ghost use Rattle.ground_state.specs.Room.{Fits, AllFit, FitsWithin};
 ghost use Rattle.ground_state.specs.States.{atoms};
-ghost use Rattle.ground_state.specs.Search.{IsAmongParts, IsFound};
+ghost use Rattle.ground_state.specs.Clauses.{IsTrueBy, IsAmong, Finds};
 
 use crate::env::Env;
 use crate::kinds::has_object;
@@ -20,7 +19,7 @@ pub fn holds(f: &Formula, env: &mut Env, s: &State, types: &Types, objects: &Lis
     requires listed { AreListed types.now }
     requires few { length objects.now < 2 ^ 32 }
     requires room { Fits (frame env.old) f.now }
-    ensures truth { IsTrue result ↔ IsTrueIn (InType types.now objects.now) (atoms s.now) f.now (frame env.old).objects }
+    ensures truth { IsTrue result ↔ IsTrueBy types.now objects.now s.now f.now env.old }
     ensures kept { frame env.new ≡ frame env.old }
 {
     match f {
@@ -67,7 +66,7 @@ fn is_among(
     requires listed { AreListed types.now }
     requires few { length objects.now < 2 ^ 32 }
     requires room { AllFit (frame env.old) parts.now }
-    ensures answer { IsAmongParts (InType types.now objects.now) (atoms s.now) wanted result parts.now (frame env.old).objects }
+    ensures answer { IsAmong types.now objects.now s.now wanted result parts.now env.old }
     ensures kept { frame env.new ≡ frame env.old }
 {
     for part in parts {
@@ -92,7 +91,7 @@ fn is_found(
     requires listed { AreListed types.now }
     requires few { length objects.now < 2 ^ 32 }
     requires room { FitsWithin (frame env.old) params.now body.now }
-    ensures answer { IsFound (InType types.now objects.now) (atoms s.now) wanted result params.now body.now (frame env.old).objects }
+    ensures answer { Finds types.now objects.now s.now wanted result params.now body.now env.old }
     ensures kept { frame env.new ≡ frame env.old }
 {
     let Some((param, rest)) = params.split_first() else {

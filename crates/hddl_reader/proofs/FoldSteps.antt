@@ -1,5 +1,5 @@
 -- A repetition in which each step puts what it reads to what stands: here next says what is there, one reads it, and all reads the repetition.
-use Rattle.std.proofs.Common.{◌≡◌, Ok, Err, Result, Option, Some, None, refl, sym, ◌∙◌, ap, subst}
+use Rattle.std.proofs.Common.{◌≡◌, Ok, Result, Option, Some, None, sym, ◌∙◌, ap, subst}
 use Rattle.text_forms.specs.Placed.{Placed}
 use Rattle.gd_reader.specs.declared.stop.Stop.{Stop}
 use Rattle.gd_reader.specs.declared.stop.Failure.{Failure}

@@ -1,7 +1,6 @@
 -- Each production of networks as steps from token to token, as the code takes them.
-use Rattle.std.proofs.Common.{◌≡◌, ℕ, if◌then◌else◌, Ok, Err, Result, Option, Some, None, List, [], ◌∷◌, refl, codes}
+use Rattle.std.proofs.Common.{◌≡◌, ℕ, if◌then◌else◌, Ok, Result, Option, Some, None, List, [], ◌∷◌, refl, codes}
 use Rattle.text_forms.specs.Placed.{Placed, cut, close, word, list}
-use Rattle.text_forms.specs.Words.{Word}
 use Rattle.gd_reader.specs.declared.stop.Stop.{Stop}
 use Rattle.gd_reader.specs.Answers.{◌>>=◌, word_or_end}
 use Rattle.gd_reader.specs.Terms.{Names}

@@ -1,12 +1,13 @@
 -- The parts of a task, a method, an action or the initial network as they are read: a keyword, and its list.
 -- Source: the full syntax definition of Höller et al., "HDDL", AAAI 2020, and appendix A of Fox and Long, "PDDL2.1", JAIR 20, 2003, level 1.
-use Rattle.std.specs.Prelude.{ℕ, Bool, true, false, List, [], ◌∷◌, Option, Some, None, Result, Ok, Err, if◌then◌else◌, codes}
+use Rattle.std.specs.Prelude.{◌≡◌, ℕ, Bool, true, false, List, [], ◌∷◌, Option, Some, None, Result, Ok, Err, if◌then◌else◌, codes}
 use Rattle.std.specs.Option.{is_some}
 use Rattle.text_forms.specs.Placed.{Placed, cut, close, word, list, parts_at}
 use Rattle.text_forms.specs.Words.{Word}
 use Rattle.form_grammar.specs.Words.{Table, entry, is_keyword}
 use Rattle.gd_reader.specs.declared.effects.RawEffect.TheVariants as raw_effect
 use Rattle.gd_reader.specs.declared.formulas.RawFormula.TheVariants as raw_formula
+use Rattle.gd_reader.specs.declared.stop.Failure.{Failure}
 use Rattle.gd_reader.specs.declared.stop.Stop.{Stop}
 use Rattle.gd_reader.specs.declared.stop.Stop.TheVariants.{Ends, Departs}
 use Rattle.gd_reader.specs.declared.typed_lists.ListKind.TheVariants as list_kind
@@ -113,3 +114,8 @@ part_due kind st (word at w p) = keyword_by (part_of kind w) (stands st) at w >>
 -- a part with a place, and what stands at two tokens
 abbrev pub part_at : List ℕ → Part × ℕ × ℕ × ℕ → Part × ℕ × Placed × Placed
 part_at text x = (x.0, x.1, parts_at text x.2, parts_at text x.3)
+
+-- what was read stands in its place, or its failure is passed on
+abbrev pub IsPut : {X : Type 0} → Result X Failure → Result (Unit {0}) Failure → Option X → Type 0
+IsPut (Ok x) result into = (result ≡ Ok tt) × (into ≡ Some x)
+IsPut (Err e) result into = result ≡ Err e

@@ -7,7 +7,7 @@ ghost use Rattle.form_grammar.specs.Words.{entry, is_keyword};
 ghost use Rattle.gd_reader.specs.Added.{AddsOf};
 ghost use Rattle.gd_reader.specs.Answers.{Gives, GivesWith};
 ghost use Rattle.gd_reader.specs.Terms.{Keeps};
-ghost use Rattle.hddl_reader.specs.Parts.{network_table, part_of, no_parts, stands, keyword_by, may_end, part_due, part_at, part_read, parts};
+ghost use Rattle.hddl_reader.specs.Parts.{network_table, part_of, no_parts, stands, keyword_by, may_end, part_due, part_at, part_read, parts, IsPut};
 
 use crate::items::some_of;
 use crate::networks::{RawCon, RawPair, RawSub};
@@ -124,6 +124,14 @@ pub(crate) fn unknown(word: &[u8]) -> u16
     }
 }
 
+/// Puts what was read to its place, or passes its failure on.
+pub(crate) fn put<T: Drop>(read: Result<T, Failure>, into: &mut Option<T>) -> Result<(), Failure>
+    ensures put { IsPut read result into.new }
+{
+    *into = Some(read?);
+    Ok(())
+}
+
 impl RawParts {
     /// No parts yet.
     pub(crate) fn new() -> RawParts
@@ -225,28 +233,27 @@ impl RawParts {
         match part {
             Part::Parameters => {
                 let (params, _) = params_of(alloc, s, i, ListKind::Parameters, names)?;
-                self.params = Some(params);
+                put(Ok(params), &mut self.params)
             }
-            Part::Task => self.task = Some(applied_of(alloc, s, i, names)?),
-            Part::Precondition => self.pre = Some(inside_of(alloc, s, i, names)?),
+            Part::Task => put(applied_of(alloc, s, i, names), &mut self.task),
+            Part::Precondition => put(inside_of(alloc, s, i, names), &mut self.pre),
             Part::NoPrecondition => {
                 end_due(s, i)?;
-                self.pre = Some(RawFormula::And(List::new(alloc)));
+                put(Ok(RawFormula::And(List::new(alloc))), &mut self.pre)
             }
-            Part::Effect => self.eff = Some(effect_inside_of(alloc, s, i, names)?),
+            Part::Effect => put(effect_inside_of(alloc, s, i, names), &mut self.eff),
             Part::NoEffect => {
                 end_due(s, i)?;
-                self.eff = Some(RawEffect::And(List::new(alloc)));
+                put(Ok(RawEffect::And(List::new(alloc))), &mut self.eff)
             }
-            Part::Subtasks => self.subs = Some(some_of(alloc, s, place, i, names)?),
+            Part::Subtasks => put(some_of(alloc, s, place, i, names), &mut self.subs),
             Part::OrderedSubtasks => {
-                self.subs = Some(some_of(alloc, s, place, i, names)?);
                 self.ordered = true;
+                put(some_of(alloc, s, place, i, names), &mut self.subs)
             }
-            Part::Ordering => self.pairs = Some(some_of(alloc, s, place, i, names)?),
-            Part::Constraints => self.constraints = Some(some_of(alloc, s, place, i, names)?),
+            Part::Ordering => put(some_of(alloc, s, place, i, names), &mut self.pairs),
+            Part::Constraints => put(some_of(alloc, s, place, i, names), &mut self.constraints),
         }
-        Ok(())
     }
 
     // Puts the parts from token `i` up to their end.

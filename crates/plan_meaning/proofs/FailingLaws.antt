@@ -1,11 +1,11 @@
 -- A list of ground actions is a plan, or it fails at one step for one cause.
-use Rattle.std.proofs.Common.{ℕ, zero, suc, ◌≡◌, ◌⊎◌, inl, inr, ◌+◌, ◌++◌, List, [], ◌∷◌, length, Some, refl, ap, sym, subst, ◌∙◌, arith, Contains, append_assoc}
+use Rattle.std.proofs.Common.{ℕ, ◌≡◌, ◌⊎◌, inl, inr, ◌+◌, ◌++◌, List, [], ◌∷◌, length, refl, ap, sym, subst, ◌∙◌, arith, Contains}
 use Rattle.plan_model.specs.declared.schemas.ActionSchema.{ActionSchema}
 use Rattle.plan_model.specs.declared.steps.GroundAction.{GroundAction}
 use Rattle.plan_model.specs.declared.values.Pddl.{Pddl}
 use Rattle.plan_meaning.specs.Truth.{State, IsTrueIn, after}
-use Rattle.plan_meaning.specs.ClassicalPlan.{HasWord, AreObjects, InTypeOf, IsApplicable, EndsIn, IsPlan}
-use Rattle.plan_meaning.specs.FailingStep.{Cause, unknown_action, arguments, condition, goal_false, IsNamed, IsInstance, NamesAction, HasArguments, IsAllowed, FailsIn, StepFails, GoalFails, FailsFrom, Fails, AreNamedApart}
+use Rattle.plan_meaning.specs.ClassicalPlan.{AreObjects, InTypeOf, IsApplicable, EndsIn}
+use Rattle.plan_meaning.specs.FailingStep.{Cause, unknown_action, arguments, condition, goal_false, IsInstance, NamesAction, HasArguments, IsAllowed, FailsIn, StepFails, FailsFrom, AreNamedApart}
 use Rattle.plan_meaning.specs.Laws.{EachIsPlanOrFails}
 
 -- two cuts of a list before an element: they are one, or one goes on behind the other

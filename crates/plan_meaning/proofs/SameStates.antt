@@ -1,5 +1,5 @@
 -- States with the same atoms make the same formulas true, and are changed alike by effects.
-use Rattle.std.proofs.Common.{ℕ, ◌↔◌, ◌⊎◌, inl, inr, ◌++◌, List, [], ◌∷◌, map, sym, subst}
+use Rattle.std.proofs.Common.{ℕ, ◌↔◌, inl, inr, ◌++◌, List, [], ◌∷◌, map, sym, subst}
 use Rattle.plan_model.specs.declared.terms.GroundAtom.{GroundAtom}
 use Rattle.plan_model.specs.declared.formulas.Formula.{Formula, roll-Formula}
 use Rattle.plan_model.specs.declared.formulas.Formula.TheFolds.{map-Formula, ind-Formula}

@@ -1,5 +1,5 @@
 -- Where tokens begin in a text, and how many lists are open there.
-use Rattle.std.specs.Prelude.{◌≡◌, ℕ, zero, suc, ◌+◌, ◌*◌, ◌<◌, ◌≤◌, false, Option, Some, None, List, [], ◌∷◌, ◌++◌, drop, length, slice_get}
+use Rattle.std.specs.Prelude.{◌≡◌, ℕ, zero, suc, ◌+◌, ◌*◌, ◌<◌, ◌≤◌, false, true, Option, Some, None, List, [], ◌∷◌, ◌++◌, drop, length, slice_get}
 use Rattle.text_forms.specs.Bytes.{Class, blank, opening, closing, letter, bad, classes_from}
 use Rattle.text_forms.specs.Faults.{open_after, code_at}
 use Rattle.text_forms.specs.Least.{least, least_fault}
@@ -12,14 +12,30 @@ use Rattle.sexpr_text.specs.Seen.{piece_seen}
 abbrev pub classes_at : List ℕ → ℕ → List Class
 classes_at text at = classes_from false (drop at text)
 
--- the same, where no word is under way
+-- from a place on, in front of which a comment is open
+abbrev pub comment_at : List ℕ → ℕ → List Class
+comment_at text at = classes_from true (drop at text)
+
+-- the tokens from a place on, where no word is under way
 abbrev pub tokens_at : List ℕ → ℕ → List Token
 tokens_at text at = tokens_from None at (classes_at text at)
+
+-- the same where a comment is open
+abbrev pub comment_tokens_at : List ℕ → ℕ → List Token
+comment_tokens_at text at = tokens_from None at (comment_at text at)
 
 -- the tokens from a piece on
 abbrev pub tokens_by : List ℕ → Option Piece → List Token
 tokens_by text None = []
 tokens_by text (Some p) = piece_seen p ∷ tokens_at text p.span.end
+
+-- a word that is under way at a place ends at another
+abbrev pub EndsWord : List ℕ → ℕ → ℕ → Type 0
+EndsWord text at end = (first : ℕ) → tokens_from (Some first) at (classes_at text at) ≡ token word first end ∷ tokens_at text end
+
+-- the least fault of these bytes, which stand at a place, is that of the text from another place on, under the same open lists
+abbrev pub HasFaultsFrom : List ℕ → List Class → ℕ → ℕ → Type 0
+HasFaultsFrom text cs at end = (opens : List ℕ) → least opens at cs ≡ least opens end (classes_at text end)
 
 -- which token begins with a byte of a class, and ends at a place
 abbrev pub begun : Class → ℕ → ℕ → List Token
@@ -74,6 +90,10 @@ pub record IsAsDeep (text : List ℕ) (depth at : ℕ) (cs : List Class) : Type 
   pub open_lists : List ℕ
   pub deep : length open_lists ≡ depth
   pub same : least open_lists at cs ≡ least_fault text
+
+-- a byte of the class is no fault where so many lists are open
+abbrev pub IsGoodAt : ℕ → Class → Type 0
+IsGoodAt depth class = (opens : List ℕ) → length opens ≡ depth → code_at opens class ≡ None
 
 -- A text has been read up to a place, in front of which it has no fault and so many tokens begin.
 pub record IsReadTo (text : List ℕ) (count : ℕ) (ps : List Place) (p : Place) : Type 0 where

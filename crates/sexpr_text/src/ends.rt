@@ -1,8 +1,6 @@
-ghost use Rattle.std.specs.Prelude.{◌≡◌, ◌≤◌, ◌<◌, ℕ, true, Some, None, List, ◌∷◌, length, drop, get_or};
-ghost use Rattle.text_forms.specs.Bytes.{class_of, classes_from};
-ghost use Rattle.text_forms.specs.Least.{least};
-ghost use Rattle.text_forms.specs.Tokens.{token, word, tokens_from};
-ghost use Rattle.sexpr_text.specs.Places.{classes_at, tokens_at, BeginsNoToken, IsPassed};
+ghost use Rattle.std.specs.Prelude.{◌≡◌, ◌≤◌, ◌<◌, length, get_or};
+ghost use Rattle.text_forms.specs.Bytes.{class_of};
+ghost use Rattle.sexpr_text.specs.Places.{classes_at, comment_at, comment_tokens_at, tokens_at, BeginsNoToken, EndsWord, HasFaultsFrom, IsPassed};
 
 use crate::classes::{Class, class_of};
 
@@ -11,8 +9,8 @@ pub fn word_end(source: &[u8], from: usize) -> usize
     requires within { from ≤ length source.now }
     ensures later { from ≤ result }
     ensures within { result ≤ length source.now }
-    ensures tokens { (first : ℕ) → tokens_from (Some first) from (classes_at source.now from) ≡ token word first result ∷ tokens_at source.now result }
-    ensures faults { (opens : List ℕ) → least opens from (classes_at source.now from) ≡ least opens result (classes_at source.now result) }
+    ensures tokens { EndsWord source.now from result }
+    ensures faults { HasFaultsFrom source.now (classes_at source.now from) from result }
 {
     for i in from..source.len() {
         match class_of(source[i]) {
@@ -41,8 +39,8 @@ fn line_end(source: &[u8], from: usize) -> usize
     requires within { from ≤ length source.now }
     ensures later { from ≤ result }
     ensures within { result ≤ length source.now }
-    ensures tokens { tokens_from None from (classes_from true (drop from source.now)) ≡ tokens_at source.now result }
-    ensures faults { (opens : List ℕ) → least opens from (classes_from true (drop from source.now)) ≡ least opens result (classes_at source.now result) }
+    ensures tokens { comment_tokens_at source.now from ≡ tokens_at source.now result }
+    ensures faults { HasFaultsFrom source.now (comment_at source.now from) from result }
 {
     for i in from..source.len() {
         if source[i] == b'\n' {

@@ -1,9 +1,9 @@
-ghost use Rattle.std.specs.Prelude.{◌≡◌, ℕ, ◌≤◌, ◌<◌, ◌-◌, ◌^◌, ◌↔◌, List, IsTrue, IsSome, reverse, length, IfOk, OnOk};
+ghost use Rattle.std.specs.Prelude.{◌≡◌, ◌≤◌, ◌<◌, ◌-◌, ◌^◌, length, IfOk, OnOk};
 ghost use Rattle.std.specs.Option.{option_map};
 ghost use Rattle.text_forms.specs.Bytes.{classes_from};
 ghost use Rattle.text_forms.specs.Faults.{fault, innermost, but_innermost, open_after, code_at};
-ghost use Rattle.text_forms.specs.Least.{newer, older, left_open, settled, least_fault};
-ghost use Rattle.sexpr_text.specs.Seen.{class_seen, fault_in};
+ghost use Rattle.text_forms.specs.Least.{newer, older, left_open, settled};
+ghost use Rattle.sexpr_text.specs.Seen.{class_seen, fault_in, least_in, opened, TellsFault};
 
 use crate::classes::{Class, class_in};
 use htn_base::{Fault, Memory};
@@ -25,7 +25,7 @@ const DEEPEST: u32 = 200;
 /// list in front of it that is left open at the end comes before it.
 pub fn first_fault(alloc: Global, source: &[u8], file: u8) -> Result<Option<Fault>, Memory>
     requires short { length source.now ≤ 16777216 }
-    ensures least { IfOk result (λ found. found ≡ option_map (fault_in file) (least_fault source.now)) }
+    ensures least { IfOk result (λ found. found ≡ least_in file source.now) }
 {
     let mut open_lists: Vec<u32> = Vec::new(alloc);
     let mut comment = false;
@@ -43,7 +43,7 @@ pub fn first_fault(alloc: Global, source: &[u8], file: u8) -> Result<Option<Faul
 
 /// Whether a byte is a fault where so many lists are open in front of it.
 pub fn is_fault(class: Class, depth: u32) -> bool
-    ensures fault { (open_lists : List ℕ) → length open_lists ≡ depth → (IsTrue result ↔ IsSome (code_at open_lists (class_seen class))) }
+    ensures fault { TellsFault result depth (class_seen class) }
 {
     match class {
         Class::Blank | Class::Letter => false,
@@ -55,8 +55,9 @@ pub fn is_fault(class: Class, depth: u32) -> bool
 
 // One byte: the lists that are open behind it, and the code of the fault that it is.
 fn enter(open_lists: &mut Vec<u32>, at: u32, class: Class) -> Result<Option<u16>, Memory>
-    ensures open_lists { OnOk result (reverse open_lists.new.items ≡ open_after (reverse open_lists.old.items) at (class_seen class)) }
-    ensures code { IfOk result (λ code. code ≡ code_at (reverse open_lists.old.items) (class_seen class)) }
+    ensures open_lists { OnOk result
+        (opened open_lists.new ≡ open_after (opened open_lists.old) at (class_seen class)) }
+    ensures code { IfOk result (λ code. code ≡ code_at (opened open_lists.old) (class_seen class)) }
 {
     match class {
         Class::Blank | Class::Letter => Ok(None),
@@ -76,7 +77,7 @@ fn enter(open_lists: &mut Vec<u32>, at: u32, class: Class) -> Result<Option<u16>
 // The innermost of these lists, where it is the innermost that is open at the end of the text.
 fn left_open(source: &[u8], comment: bool, mut open_lists: Vec<u32>) -> Option<u32>
     requires short { length source.now < 2 ^ 32 }
-    ensures left { result ≡ left_open 0 (reverse open_lists.items) (classes_from comment source.now) }
+    ensures left { result ≡ left_open 0 (opened open_lists) (classes_from comment source.now) }
 {
     let mut count: u32 = 0;
     let mut inside = comment;
@@ -96,7 +97,7 @@ fn left_open(source: &[u8], comment: bool, mut open_lists: Vec<u32>) -> Option<u
 fn pass(open_lists: &mut Vec<u32>, count: u32, class: Class) -> u32
     requires few { count < 2 ^ 32 - 1 }
     ensures newer { result ≡ newer count (class_seen class) }
-    ensures older { reverse open_lists.new.items ≡ older count (reverse open_lists.old.items) (class_seen class) }
+    ensures older { opened open_lists.new ≡ older count (opened open_lists.old) (class_seen class) }
 {
     match class {
         Class::Opening => count + 1,
@@ -114,8 +115,8 @@ fn pass(open_lists: &mut Vec<u32>, count: u32, class: Class) -> u32
 
 // Takes the innermost list.
 fn leave(open_lists: &mut Vec<u32>) -> Option<u32>
-    ensures innermost { result ≡ innermost (reverse open_lists.old.items) }
-    ensures others { reverse open_lists.new.items ≡ but_innermost (reverse open_lists.old.items) }
+    ensures innermost { result ≡ innermost (opened open_lists.old) }
+    ensures others { opened open_lists.new ≡ but_innermost (opened open_lists.old) }
 {
     open_lists.pop()
 }

@@ -1,8 +1,8 @@
-ghost use Rattle.std.specs.Prelude.{◌≡◌, ◌≤◌, ◌<◌, ◌+◌, ◌↔◌, ℕ, List, None, length, get_or, IfOk, OnOk, IfSome, IsSome};
+ghost use Rattle.std.specs.Prelude.{◌≡◌, ◌≤◌, ◌<◌, ◌+◌, ◌↔◌, length, get_or, IfOk, OnOk, IfSome, IsSome};
 ghost use Rattle.text_forms.specs.Bytes.{class_of};
-ghost use Rattle.text_forms.specs.Faults.{code_at, IsFaultless};
-ghost use Rattle.text_forms.specs.Tokens.{token_count};
-ghost use Rattle.sexpr_text.specs.Places.{IsPlace, AreMarks, IsReadTo};
+ghost use Rattle.text_forms.specs.Faults.{IsFaultless};
+ghost use Rattle.sexpr_text.specs.Kept.{CountsTokens, MarksTokens, GoesOnMarking};
+ghost use Rattle.sexpr_text.specs.Places.{IsGoodAt, IsReadTo};
 ghost use Rattle.sexpr_text.specs.Seen.{class_seen};
 
 use crate::classes::{Class, class_of};
@@ -32,8 +32,8 @@ pub struct Marks {
 /// The marks of a text without faults, in one pass, or `None` where the text has a fault.
 pub fn marks_of(alloc: Global, source: &[u8]) -> Result<Option<Marks>, Memory>
     requires short { length source.now ≤ 16777216 }
-    ensures count { IfOk result (λ found. IfSome found (λ marks. marks.count ≡ token_count source.now)) }
-    ensures marks { IfOk result (λ found. IfSome found (λ marks. AreMarks source.now marks.count marks.places.items)) }
+    ensures count { IfOk result (λ found. IfSome found (CountsTokens source.now)) }
+    ensures marks { IfOk result (λ found. IfSome found (MarksTokens source.now)) }
     ensures faultless { IfOk result (λ found. IsSome found ↔ IsFaultless source.now) }
 {
     let mut marks = Marks {
@@ -60,10 +60,10 @@ impl Marks {
         requires short { length source.now ≤ 16777216 }
         requires within { place.at < length source.now }
         requires class { class_seen class ≡ class_of (get_or source.now place.at 0) }
-        requires good { (opens : List ℕ) → length opens ≡ place.depth → code_at opens (class_seen class) ≡ None }
+        requires good { IsGoodAt place.depth (class_seen class) }
         requires read { IsReadTo source.now self.old.count self.old.places.items place }
         ensures later { IfOk result (λ next. place.at < next.at) }
-        ensures read { IfOk result (λ next. IsReadTo source.now self.new.count self.new.places.items next) }
+        ensures read { IfOk result (IsReadTo source.now self.new.count self.new.places.items) }
     {
         let Place { at, depth } = place;
         match class {
@@ -99,7 +99,7 @@ impl Marks {
     fn mark(&mut self, place: Place) -> Result<(), Memory>
         requires few { self.old.count ≤ 16777216 }
         ensures count { OnOk result (self.new.count ≡ self.old.count + 1) }
-        ensures marks { OnOk result ((text : List ℕ) → IsPlace text self.old.count place → AreMarks text self.old.count self.old.places.items → AreMarks text self.new.count self.new.places.items) }
+        ensures marks { OnOk result (GoesOnMarking place self.old self.new) }
     {
         if self.count % EACH == 0 {
             self.places.push(place)?;

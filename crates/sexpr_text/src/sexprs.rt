@@ -1,10 +1,10 @@
-ghost use Rattle.std.specs.Prelude.{◌≡◌, ◌≤◌, ◌↔◌, length, slice_get, slice_range, IfOk, IfErr, IfSome, IsSome};
+ghost use Rattle.std.specs.Prelude.{◌≡◌, ◌≤◌, ◌↔◌, length, slice_get, IfOk, IfErr, IfSome, IsSome};
 ghost use Rattle.std.specs.Option.{option_map};
 ghost use Rattle.text_forms.specs.Closing.{close_at, OpensList};
 ghost use Rattle.text_forms.specs.Faults.{IsFaultless};
 ghost use Rattle.text_forms.specs.Tokens.{tokens, token_count};
 ghost use Rattle.sexpr_text.specs.Refused.{IsRefusal};
-ghost use Rattle.sexpr_text.specs.Seen.{token_seen};
+ghost use Rattle.sexpr_text.specs.Seen.{bytes_at, token_seen};
 
 use crate::faults::first_fault;
 use crate::marks::{Marks, marks_of};
@@ -65,7 +65,7 @@ impl<'a> Sexprs<'a> {
     /// in front of it.
     pub fn token(&self, i: u32) -> Option<Token<'a>>
         ensures token { option_map token_seen result ≡ slice_get (tokens self.now) i }
-        ensures word { IfSome result (λ t. t.word.now ≡ slice_range self.now t.span.start t.span.end) }
+        ensures word { IfSome result (λ t. t.word.now ≡ bytes_at self.now t.span) }
     {
         let place = self.marks.place_of(self.source, i)?;
         let piece = next_piece(self.source, place.at)?;
@@ -98,7 +98,7 @@ impl<'a> Sexprs<'a> {
 fn part(source: &[u8], span: Span) -> &[u8]
     requires order { span.start ≤ span.end }
     requires within { span.end ≤ length source.now }
-    ensures bytes { result.now ≡ slice_range source.now span.start span.end }
+    ensures bytes { result.now ≡ bytes_at source.now span }
 {
     &source[span.start as usize..span.end as usize]
 }

@@ -3,7 +3,6 @@ use Rattle.std.proofs.Common.{ℕ, zero, suc, ◌≡◌, ◌+◌, ◌<◌, ◌�
 use Rattle.std.proofs.lemmas.Bool.{cases_eq}
 use Rattle.std.proofs.lemmas.List.{map_push, length-map, length-append}
 use Rattle.std.proofs.lemmas.List.Elements.{Contains-push, Contains-push_cases, Contains-append_left, Contains-append_right, Contains-append_cases}
-use Rattle.task_networks.specs.Pending.{AreDifferent}
 use Rattle.task_networks.proofs.Different.{different_append}
 use Rattle.task_networks.proofs.Lists.{not-in_empty, head_or_tail, Contains-here, Contains-later, cut_push}
 use Rattle.plan_model.specs.Parts.{IsMarked}

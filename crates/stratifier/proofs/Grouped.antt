@@ -1,9 +1,9 @@
 -- Groups numbered one after another, in the reverse of an order in which a walk over the reversed edges leaves the tasks.
-use Rattle.std.proofs.Common.{ℕ, zero, suc, ◌≡◌, ◌+◌, ◌<◌, ◌≤◌, ◌⊎◌, ◌↔◌, inl, inr, List, [], ◌∷◌, ◌++◌, length, Bool, true, false, get_or, set, Contains, refl, sym, subst, ap, ◌∙◌, arith, length-set, append_assoc, get_or-set_same, get_or-set_other}
+use Rattle.std.proofs.Common.{ℕ, suc, ◌≡◌, ◌+◌, ◌<◌, ◌≤◌, ◌⊎◌, ◌↔◌, inl, inr, List, [], ◌∷◌, ◌++◌, length, Bool, true, false, get_or, set, Contains, refl, sym, subst, ap, ◌∙◌, arith, length-set, append_assoc, get_or-set_same, get_or-set_other}
 use Rattle.std.proofs.lemmas.Bool.{cases_eq, cases_lt, false≢true}
 use Rattle.std.proofs.lemmas.List.{append-nil, get_or_past, length_push, length-append}
 use Rattle.std.proofs.lemmas.List.Elements.{Contains-push, Contains-push_cases, Contains-append_left, Contains-append_right, Contains-append_cases}
-use Rattle.task_networks.specs.Pending.{AreDifferent}
+use Rattle.htn_base.specs.Different.{AreDifferent}
 use Rattle.task_networks.specs.Spelling.{numbers}
 use Rattle.task_networks.proofs.Numbers.{to_numbers, length-numbers}
 use Rattle.task_networks.proofs.Different.{different_without, no_more}
@@ -13,7 +13,7 @@ use Rattle.plan_model.proofs.Marks.{marked_within}
 use Rattle.stratifier.specs.declared.reach.Walk.{Walk}
 use Rattle.stratifier.specs.declared.groups.Groups.{Groups}
 use Rattle.stratifier.specs.Entered.{AreEntered}
-use Rattle.stratifier.specs.Graph.{Leads, Reaches, itself, onward, ReachBack, AreWithin, AreReversed, IsFinishingOrder, AreGroupNumbers}
+use Rattle.stratifier.specs.Graph.{Leads, Reaches, itself, onward, AreWithin, AreReversed, IsFinishingOrder, NumberComponents}
 use Rattle.stratifier.specs.Grouping.{IsNumbered, number, IsReady, IsNumberedFrom}
 use Rattle.stratifier.proofs.Descents.{reaches_then}
 
@@ -189,7 +189,7 @@ module _ (back : List (List ℕ)) (order : List ℕ) (f : IsFinishingOrder back 
   pub reaches_both_ways : (u : ℕ) → Reaches back u root → (IsIn u → ⊥) → Reaches back root u
   reaches_both_ways u r o = let (taken, others, g) = cut_at (before ++ root ∷ []) u (or_not u o) in reached_up_to r o taken u others g (Contains-push taken u)
 
-leads_within : (rows : List (List ℕ)) (u v : ℕ) → Leads rows u v → u < length rows
+pub leads_within : (rows : List (List ℕ)) (u v : ℕ) → Leads rows u v → u < length rows
 leads_within rows u v c = elim (cases_lt u (length rows)) [ inl l ↦ l | inr l ↦ absurd (not-in_empty v (subst (λ s. Contains s v) (get_or_past rows u [] l) c)) ]
 
 pub reversed_within : (rows back : List (List ℕ)) → AreReversed rows back → AreWithin back
@@ -229,12 +229,12 @@ module _ (rows back : List (List ℕ)) (order : List ℕ) where
   pub roots_left : AreReversed rows back → (all left : List ℕ) (root : ℕ) (groups : Groups) → AreGrouped all groups → all ≡ left ++ root ∷ [] → (suc (length left) ≤ length rows) × (root < length rows)
   roots_left reversed all left root groups w is = (
     let a = no_more_roots reversed w.finishing in
-    let b = ap length w.parts ∙ length-append all w.gone in
-    let d = ap length is ∙ length_push left root in
-    omega arith,
+        let b = ap length w.parts ∙ length-append all w.gone in
+        let d = ap length is ∙ length_push left root in
+        omega arith,
     let l = w.finishing.within root (subst (λ s. Contains s root) (sym w.parts) (Contains-append_left all w.gone root (subst (λ s. Contains s root) (sym is) (Contains-push left root)))) in
-    let r = reversed.room in
-    omega arith,
+        let r = reversed.room in
+        omega arith,
   )
 
   module _ (reversed : AreReversed rows back) (all : List ℕ) (left : List ℕ) (root n : ℕ) (old new : Groups) (w : AreGrouped all old) (is : all ≡ left ++ root ∷ []) (last : n + suc (length left) ≡ length rows) (h : IsNumberedFrom rows root n old new) where
@@ -331,7 +331,7 @@ module _ (rows back : List (List ℕ)) (order : List ℕ) where
           ]
         ]
 
-  pub grouped_all : AreReversed rows back → (left : List ℕ) (groups : Groups) → left ≡ [] → AreGrouped left groups → AreGroupNumbers rows groups.numbers.items
+  pub grouped_all : AreReversed rows back → (left : List ℕ) (groups : Groups) → left ≡ [] → AreGrouped left groups → NumberComponents rows groups.numbers.items
   grouped_all reversed left groups none w = record {
     room = w.ready.numbers;
     small = λ t l. (let a = w.small t (all t l) in omega arith);

@@ -22,7 +22,7 @@ use Rattle.stratifier.specs.Conditions.{HaveNoCycle, IsOrdered}
 use Rattle.stratifier.specs.Bad.{IsLastChild, IsLastOf, AreLasts}
 
 -- an item of a list with one more
-push_get : {A : Type 0} (xs : List A) (x y : A) (k : ℕ) → slice_get (xs ++ x ∷ []) k ≡ Some y → (slice_get xs k ≡ Some y) ⊎ ((k ≡ length xs) × (y ≡ x))
+pub push_get : {A : Type 0} (xs : List A) (x y : A) (k : ℕ) → slice_get (xs ++ x ∷ []) k ≡ Some y → (slice_get xs k ≡ Some y) ⊎ ((k ≡ length xs) × (y ≡ x))
 push_get [] x y zero e = inr (refl, cc)
 push_get [] x y (suc k) e = absurd cc
 push_get (z ∷ xs) x y zero e = inl e
@@ -101,7 +101,7 @@ pub lasts_all : (methods : List MethodPlan) (k : ℕ) (lasts : List (Option ℕ)
 lasts_all methods k lasts e h = record { room = h.room ∙ e; each = h.each }
 
 -- the method of an edge is there
-in_map : (edges : List Declared.Edge) (e : Declared.Edge) → Contains edges e → Contains (map edge_of edges) (edge_of e)
+pub in_map : (edges : List Declared.Edge) (e : Declared.Edge) → Contains edges e → Contains (map edge_of edges) (edge_of e)
 in_map [] e k = absurd (not-in_empty e k)
 in_map (d ∷ edges) e k = elim (head_or_tail d edges e k) [
   | inl f ↦ subst (λ z. Contains (map edge_of (d ∷ edges)) (edge_of z)) f (Contains-here (edge_of d) (map edge_of edges))

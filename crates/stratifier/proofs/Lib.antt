@@ -6,3 +6,11 @@ pub mod Lasts
 pub mod Compiled
 pub mod Descents
 pub mod Grouped
+pub mod TaskGroups
+pub mod NamedSources
+pub mod NamedSteps
+pub mod NamedDistances
+pub mod NamedWalk
+pub mod NamedEnds
+pub mod NamedFirst
+pub mod examples

@@ -1,6 +1,6 @@
 -- A depth-first walk without recursion: what is still to be done, and which tasks it has left, in order.
-use Rattle.std.specs.Prelude.{ℕ, suc, ◌≡◌, ◌+◌, ◌<◌, ◌⊎◌, ◌↔◌, Bool, cond, List, [], ◌∷◌, length, Contains}
-use Rattle.task_networks.specs.Pending.{AreDifferent}
+use Rattle.std.specs.Prelude.{ℕ, suc, ◌≡◌, ◌+◌, ◌<◌, ◌⊎◌, ◌↔◌, Bool, cond, List, [], ◌∷◌, ◌++◌, map, length, Contains}
+use Rattle.htn_base.specs.Different.{AreDifferent}
 use Rattle.plan_model.specs.Parts.{IsMarked}
 use Rattle.stratifier.specs.declared.finishing.Step.{Step}
 use Rattle.stratifier.specs.declared.finishing.Step.TheVariants.{Enter, Leave}
@@ -39,6 +39,14 @@ to_come (row ∷ rows) (mark ∷ marks) = cond mark 0 (suc (length row)) + to_co
 
 abbrev pub IsDescentOf : List (List ℕ) → Descent → Type 0
 IsDescentOf rows walk = IsDescent rows walk.marks.items walk.steps.items walk.order.items
+
+-- the walk before the step was taken off
+abbrev pub IsBefore : List (List ℕ) → Step → Descent → Type 0
+IsBefore rows step walk = IsDescent rows walk.marks.items (walk.steps.items ++ step ∷ []) walk.order.items
+
+-- a step for each of the tasks is put at the end
+abbrev pub AreToEnter : List ℕ → Descent → Descent → Type 0
+AreToEnter tasks old new = new.steps.items ≡ old.steps.items ++ map Enter tasks
 
 abbrev pub work_of : List (List ℕ) → Descent → ℕ
 work_of rows walk = length walk.steps.items + to_come rows walk.marks.items

@@ -1,6 +1,6 @@
 -- A graph of numbered tasks: for each a row of the tasks that its edges lead to.
 use Rattle.std.specs.Prelude.{ℕ, ◌≡◌, ◌<◌, ◌≤◌, ◌↔◌, List, [], ◌∷◌, ◌++◌, length, Contains, slice_index_or}
-use Rattle.task_networks.specs.Pending.{AreDifferent}
+use Rattle.htn_base.specs.Different.{AreDifferent}
 
 abbrev pub Leads : List (List ℕ) → ℕ → ℕ → Type 0
 Leads rows u v = Contains (slice_index_or rows u []) v
@@ -31,7 +31,7 @@ pub record IsFinishingOrder (rows : List (List ℕ)) (order : List ℕ) : Type 0
   pub back : ReachBack rows order
 
 -- numbers of groups: no edge goes up, and two have one number exactly where each reaches the other
-pub record AreGroupNumbers (rows : List (List ℕ)) (numbers : List ℕ) : Type 0 where
+pub record NumberComponents (rows : List (List ℕ)) (numbers : List ℕ) : Type 0 where
   pub room : length numbers ≡ length rows
   pub small : (t : ℕ) → t < length rows → slice_index_or numbers t 0 < length rows
   pub not_up : (u v : ℕ) → u < length rows → Leads rows u v → slice_index_or numbers v 0 ≤ slice_index_or numbers u 0

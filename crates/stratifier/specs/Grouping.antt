@@ -3,6 +3,12 @@ use Rattle.std.specs.Prelude.{ℕ, ◌≡◌, ◌⊎◌, ◌↔◌, List, [], le
 use Rattle.plan_model.specs.Parts.{IsMarked}
 use Rattle.stratifier.specs.declared.groups.Groups.{Groups}
 use Rattle.stratifier.specs.Graph.{Leads, Reaches}
+use Rattle.stratifier.specs.declared.named.Ends.{Ends}
+use Rattle.stratifier.specs.NamedSearch.{IsSourceInto}
+
+-- the rows of the edges with these ends
+abbrev pub AreRowsOf : List Ends → List (List ℕ) → Type 0
+AreRowsOf ends rows = (s t : ℕ) → Leads rows s t ↔ IsSourceInto ends s t
 
 abbrev pub IsNumbered : Groups → ℕ → Type 0
 IsNumbered groups = IsMarked groups.walk.marks.items

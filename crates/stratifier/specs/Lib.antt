@@ -3,6 +3,9 @@ pub mod Conditions
 pub mod Entered
 pub mod Listed
 pub mod Bad
+pub mod NamedCycle
+pub mod NamedSearch
+pub mod CycleWords
 pub mod Stratified
 pub mod Graph
 pub mod Finishing

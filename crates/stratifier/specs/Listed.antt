@@ -1,5 +1,5 @@
 -- All edges as a list: method by method, child by child.
-use Rattle.std.specs.Prelude.{ℕ, suc, Bool, false, cond, List, [], ◌∷◌, ◌++◌, slice_index_or}
+use Rattle.std.specs.Prelude.{ℕ, suc, ◌≡◌, Bool, false, cond, List, [], ◌∷◌, ◌++◌, map, slice_index_or}
 use Rattle.plan_model.specs.declared.networks.Head.{Head}
 use Rattle.plan_model.specs.declared.networks.Head.TheVariants.{Task, Action, Check}
 use Rattle.plan_model.specs.declared.networks.Child.{Child}
@@ -20,6 +20,10 @@ edges_to m i Check = []
 abbrev pub edges_from : ℕ → ℕ → List Child → List Edge
 edges_from m i [] = []
 edges_from m i (child ∷ rest) = edges_to m i child.head ++ edges_from m (suc i) rest
+
+-- the edges of method m to its children are put at the end
+abbrev pub AreAdded : ℕ → List Child → List Declared.Edge → List Declared.Edge → Type 0
+AreAdded m children old new = map edge_of new ≡ map edge_of old ++ edges_from m 0 children
 
 -- the edges of the methods of marked tasks, from place m on
 abbrev pub edges_of : List Bool → ℕ → List MethodPlan → List Edge

@@ -1,23 +1,34 @@
 -- The strata of a compiled problem: tasks numbered by their groups, so that no edge goes up.
 -- Source: this project's, after the tail-recursive problems of Alford et al., "Bound to Plan", ICAPS 2016.
-use Rattle.std.specs.Prelude.{ℕ, suc, ◌≡◌, ◌<◌, ◌≤◌, ◌↔◌, List, [], ◌∷◌, map, length, slice_index_or}
+use Rattle.std.specs.Prelude.{ℕ, suc, ◌≡◌, ◌≤◌, ◌↔◌, List, map, length, slice_index_or}
 use Rattle.plan_model.specs.declared.values.Compiled.{Compiled}
 use Rattle.plan_meaning.specs.Network.{top_task}
 use Rattle.plan_meaning.specs.Schemas.{Schema, action, check, task}
-use Rattle.plan_meaning.specs.Strata.{Edge, IsNamedCycle, IsRanking, IsOneGroup}
+use Rattle.plan_meaning.specs.Strata.{Edge, IsEdge, source, target, IsRanking, IsOneGroup}
 use Rattle.stratifier.specs.declared.ranks.Ranks.{Ranks}
 use Rattle.stratifier.specs.declared.ranks.StratError.{StratError}
 use Rattle.stratifier.specs.declared.ranks.StratError.TheVariants.{Cycle, Memory}
 use Rattle.stratifier.specs.Listed.{edge_of}
+use Rattle.stratifier.specs.NamedCycle.{IsNamed}
+
+abbrev pub number_in : List ℕ → Schema → ℕ
+number_in numbers (action a) = 0
+number_in numbers (check m) = 0
+number_in numbers (task t) = slice_index_or numbers t 0
+
+-- numbers of the tasks and the top task: no edge goes up, and two have one number exactly where they are of one group
+pub record AreStrata (c : Compiled) (numbers : List ℕ) : Type 0 where
+  pub room : length numbers ≡ suc (top_task c)
+  pub small : (t : ℕ) → slice_index_or numbers t 0 ≤ top_task c
+  pub not_up : (e : Edge) → IsEdge c e → number_in numbers (target c e) ≤ number_in numbers (source c e)
+  pub groups : (t u : ℕ) → t ≤ top_task c → u ≤ top_task c → (slice_index_or numbers t 0 ≡ slice_index_or numbers u 0) ↔ IsOneGroup c (task t) (task u)
 
 -- the number of a task, both its rank and its group's
 abbrev pub number_of : Ranks → ℕ → ℕ
 number_of ranks t = slice_index_or ranks.numbers.items t 0
 
 abbrev pub rank_by : Ranks → Schema → ℕ
-rank_by ranks (action a) = 0
-rank_by ranks (check m) = 0
-rank_by ranks (task t) = number_of ranks t
+rank_by ranks = number_in ranks.numbers.items
 
 -- the numbers, one for each task and the top task, make a lawful ranking, and tasks of one group share theirs with no other
 pub record IsStratified (c : Compiled) (ranks : Ranks) : Type 0 where
@@ -26,12 +37,7 @@ pub record IsStratified (c : Compiled) (ranks : Ranks) : Type 0 where
   pub ranking : IsRanking c (rank_by ranks)
   pub groups : (t u : ℕ) → t ≤ top_task c → u ≤ top_task c → (number_of ranks t ≡ number_of ranks u) ↔ IsOneGroup c (task t) (task u)
 
--- the edges are the bad cycle that is named: the bad edge, then the walk back
-abbrev pub IsTheNamedCycle : Compiled → List Edge → Type 0
-IsTheNamedCycle c [] = ⊥
-IsTheNamedCycle c (e ∷ walk) = IsNamedCycle c e walk
-
 -- a cycle is answered where it is the named one
 abbrev pub IsRefused : Compiled → StratError → Type 0
-IsRefused c (Cycle edges) = IsTheNamedCycle c (map edge_of edges)
+IsRefused c (Cycle edges) = IsNamed c (map edge_of edges)
 IsRefused c Memory = Unit {0}

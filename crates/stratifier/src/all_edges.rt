@@ -1,8 +1,8 @@
-ghost use Rattle.std.specs.Prelude.{◌≡◌, ◌<◌, ◌≤◌, ◌^◌, ◌++◌, All, map, length, IfOk, OnOk};
+ghost use Rattle.std.specs.Prelude.{◌≡◌, ◌<◌, ◌≤◌, ◌^◌, All, map, length, IfOk, OnOk};
 ghost use Rattle.plan_model.specs.declared.schemas.MethodPlan.{MethodPlan};
 ghost use Rattle.plan_meaning.specs.Strata.{AreEdges};
 ghost use Rattle.stratifier.specs.Conditions.{IsSmallCompiled};
-ghost use Rattle.stratifier.specs.Listed.{edge_of, edges_from, edges_of};
+ghost use Rattle.stratifier.specs.Listed.{edge_of, edges_of, AreAdded};
 
 use crate::edge::Edge;
 use crate::reach::reached;
@@ -38,7 +38,7 @@ fn edges_of(alloc: Global, marks: &[bool], methods: &[MethodPlan]) -> Result<Lis
 /// Puts an edge to each of the children that are tasks at the end.
 fn add_edges(edges: &mut List<Edge>, method: u32, children: &[Child]) -> Result<(), Memory>
     requires { length children.now < 2 ^ 32 }
-    ensures added { OnOk result (map edge_of edges.new ≡ map edge_of edges.old ++ edges_from method 0 children.now) }
+    ensures added { OnOk result (AreAdded method children.now edges.old edges.new) }
 {
     for (i, child) in children.iter().enumerate() {
         if let Head::Task(_) = child.head {

@@ -1,7 +1,6 @@
-ghost use Rattle.std.specs.Prelude.{◌≡◌, ◌+◌, ◌<◌, ◌≤◌, ◌^◌, ◌∷◌, ◌++◌, [], map, length, All, IfOk, OnOk};
-ghost use Rattle.stratifier.specs.Finishing.{IsDescent, IsDescentOf, work_of};
+ghost use Rattle.std.specs.Prelude.{◌≡◌, ◌≤◌, ◌^◌, length, IfOk, OnOk};
+ghost use Rattle.stratifier.specs.Finishing.{AreToEnter, IsBefore, IsDescentOf, work_of};
 ghost use Rattle.stratifier.specs.Graph.{AreWithin, IsFinishingOrder};
-ghost use Rattle.stratifier.specs.declared.finishing.Step.TheVariants.{Enter};
 
 use htn_base::{List, Memory};
 use std::alloc::Global;
@@ -26,8 +25,8 @@ pub enum Step {
     Leave(u32),
 }
 
-/// A depth-first walk: the tasks that it entered are marked, the last step is the next, and `order` has the tasks
-/// that it left.
+/// A depth-first walk: the tasks that it entered are marked, the last step is the next, and
+/// `order` has the tasks that it left.
 #[derive(Drop)]
 pub struct Descent {
     marks: Vec<bool>,
@@ -55,7 +54,7 @@ impl Descent {
     /// Takes the step that was last.
     fn take(&mut self, rows: &[List<u32>], step: Step) -> Result<(), Memory>
         requires within { AreWithin rows.now }
-        requires descent { IsDescent rows.now self.old.marks.items (self.old.steps.items ++ step ∷ []) self.old.order.items }
+        requires descent { IsBefore rows.now step self.old }
         ensures descent { OnOk result (IsDescentOf rows.now self.new) }
         ensures less { OnOk result (work_of rows.now self.new ≤ work_of rows.now self.old) }
     {
@@ -74,7 +73,7 @@ impl Descent {
 
     /// Puts a step for each of the tasks at the end.
     fn enter_all(&mut self, tasks: &[u32]) -> Result<(), Memory>
-        ensures steps { OnOk result (self.new.steps.items ≡ self.old.steps.items ++ map Enter tasks.now) }
+        ensures steps { OnOk result (AreToEnter tasks.now self.old self.new) }
         ensures marks { OnOk result (self.new.marks ≡ self.old.marks) }
         ensures order { OnOk result (self.new.order ≡ self.old.order) }
     {

@@ -1,19 +1,62 @@
-ghost use Rattle.std.specs.Prelude.{◌≡◌, ◌<◌, ◌≤◌, ◌^◌, ℕ, [], length, IfOk, OnOk};
-ghost use Rattle.stratifier.specs.Graph.{AreGroupNumbers, AreReversed, AreWithin};
-ghost use Rattle.stratifier.specs.Grouping.{IsNumbered, IsNumberedFrom, IsReady};
+ghost use Rattle.std.specs.Prelude.{◌≡◌, ◌<◌, ◌≤◌, ◌^◌, ℕ, [], length, map, IfOk, OnOk};
+ghost use Rattle.stratifier.specs.Graph.{NumberComponents, AreReversed, AreWithin};
+ghost use Rattle.plan_meaning.specs.Strata.{AreEdges};
+ghost use Rattle.stratifier.specs.Conditions.{IsSmallCompiled};
+ghost use Rattle.stratifier.specs.Listed.{edge_of};
+ghost use Rattle.stratifier.specs.Stratified.{AreStrata};
+ghost use Rattle.stratifier.specs.NamedSearch.{AreEndsBelow};
+ghost use Rattle.stratifier.specs.Grouping.{AreRowsOf, IsNumbered, IsNumberedFrom, IsReady};
 
+use crate::by_task::empty_lists;
+use crate::edge::Edge;
 use crate::finishing::finishing_order;
+use crate::named::{Ends, all_ends, sources_by_task};
 use crate::reach::Walk;
 use htn_base::{List, Memory};
+use plan_model::Compiled;
 use std::alloc::Global;
 
-/// A number for each task, the same for those that reach each other, so that no edge goes up; `back` has the edges
-/// reversed.
-pub fn group_numbers(alloc: Global, rows: &[List<u32>], back: &[List<u32>]) -> Result<Vec<u32>, Memory>
+/// Numbers of the tasks and the top task by their groups, so that no edge goes up.
+pub(crate) fn task_groups(
+    alloc: Global,
+    c: &Compiled,
+    edges: &List<Edge>,
+) -> Result<Vec<u32>, Memory>
+    requires small { IsSmallCompiled c.now }
+    requires edges { AreEdges c.now (map edge_of edges.now) }
+    ensures strata { IfOk result (λ numbers. AreStrata c.now numbers.items) }
+{
+    let count = c.hddl.tasks.len() + 1;
+    let ends = all_ends(alloc, c, edges)?;
+    let rows = targets_by_task(alloc, count, ends.as_slice())?;
+    let back = sources_by_task(alloc, count, ends.as_slice())?;
+    group_numbers(alloc, rows.as_slice(), back.as_slice())
+}
+
+/// For each of so many tasks those to which an edge leads from it.
+fn targets_by_task(alloc: Global, count: usize, ends: &[Ends]) -> Result<Vec<List<u32>>, Memory>
+    requires within { AreEndsBelow count ends.now }
+    ensures room { IfOk result (λ lists. length lists.items ≡ count) }
+    ensures targets { IfOk result (λ lists. AreRowsOf ends.now lists.items) }
+{
+    let mut lists = empty_lists(alloc, count)?;
+    for e in ends {
+        lists[e.from as usize].push(e.to)?;
+    }
+    Ok(lists)
+}
+
+/// A number for each task, the same for those that reach each other, so that no edge goes up;
+/// `back` has the edges reversed.
+pub fn group_numbers(
+    alloc: Global,
+    rows: &[List<u32>],
+    back: &[List<u32>],
+) -> Result<Vec<u32>, Memory>
     requires few { length rows.now ≤ 2 ^ 32 }
     requires within { AreWithin rows.now }
     requires reversed { AreReversed rows.now back.now }
-    ensures groups { IfOk result (λ numbers. AreGroupNumbers rows.now numbers.items) }
+    ensures groups { IfOk result (λ numbers. NumberComponents rows.now numbers.items) }
 {
     let mut order = finishing_order(alloc, back)?;
     let mut groups = Groups::new(alloc, rows.len())?;

@@ -1,8 +1,9 @@
-//! The edges between the tasks of a compiled problem: which tasks are reached from the top, all edges in order, and
-//! which of them are bad.
+//! The strata of a compiled problem: which tasks are reached from the top, the edges between them and
+//! which are bad, the groups of tasks that reach each other, ranks, and the bad cycle that is named.
 //!
-//! Stands on `htn_base`, `plan_model`, `net_order` and the definitions of `task_networks` and `plan_meaning`; no crate
-//! above uses it yet. Its contract: the listed edges are all edges of the problem, in order (`edges`).
+//! Stands on `htn_base`, `plan_model`, `net_order` and the definitions of `task_networks` and
+//! `plan_meaning`. The contract used above: a tail-recursive problem has strata, and any other the named
+//! cycle (`stratify`).
 #![tactic(auto)]
 
 mod all_edges;
@@ -12,6 +13,7 @@ mod edge;
 mod finishing;
 mod groups;
 mod laws;
+mod named;
 mod ranks;
 mod reach;
 

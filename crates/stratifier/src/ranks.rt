@@ -3,13 +3,17 @@ ghost use Rattle.plan_meaning.specs.Strata.{IsTailRecursive};
 ghost use Rattle.stratifier.specs.Conditions.{HaveNoCycle, IsSmallCompiled};
 ghost use Rattle.stratifier.specs.Stratified.{IsRefused, IsStratified, number_of};
 
+use crate::all_edges::edges;
+use crate::bad::bad_marks;
 use crate::edge::Edge;
+use crate::groups::task_groups;
+use crate::named::named_cycle;
 use htn_base::{List, Memory};
 use plan_model::Compiled;
 use std::alloc::Global;
 
-/// The strata of a problem: a number for each task and the top task, the same for those of one group. An edge goes
-/// to a lower number, or to a last child of the same group.
+/// The strata of a problem: a number for each task and the top task, the same for those of one group.
+/// An edge goes to a lower number, or to a last child of the same group.
 #[derive(Drop)]
 pub struct Ranks {
     numbers: Vec<u32>,
@@ -33,8 +37,8 @@ impl Ranks {
     }
 }
 
-/// Why a problem has no strata: the bad cycle that is named, as a bad edge and the shortest walk back, or want of
-/// memory.
+/// Why a problem has no strata: the bad cycle that is named, as a bad edge and the shortest walk back,
+/// or want of memory.
 #[derive(Drop)]
 pub enum StratError {
     Cycle(List<Edge>),
@@ -60,6 +64,11 @@ pub fn stratify(alloc: Global, c: &Compiled) -> Result<Ranks, StratError>
     ensures tail_recursive { IfOk result (λ ranks. IsTailRecursive c.now) }
     ensures refused { IfErr result (IsRefused c.now) }
 {
-    let _edges: List<Edge> = List::new(alloc);
-    Err(StratError::Memory)
+    let edges = edges(alloc, c)?;
+    let bad = bad_marks(alloc, c, &edges)?;
+    let numbers = task_groups(alloc, c, &edges)?;
+    match named_cycle(alloc, c, &edges, &bad, numbers.as_slice())? {
+        Some(cycle) => Err(StratError::Cycle(cycle)),
+        None => Ok(Ranks { numbers }),
+    }
 }

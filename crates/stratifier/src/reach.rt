@@ -1,9 +1,7 @@
-ghost use Rattle.std.specs.Prelude.{◌≡◌, ℕ, ◌+◌, ◌<◌, ◌≤◌, ◌↔◌, All, Contains, length, IfOk, OnOk, slice_index_or, false, [], ◌∷◌};
-ghost use Rattle.plan_meaning.specs.Strata.{IsReachedTask};
+ghost use Rattle.std.specs.Prelude.{◌≡◌, ℕ, ◌+◌, ◌<◌, [], All, Contains, length, IfOk, OnOk};
 ghost use Rattle.stratifier.specs.Conditions.{IsSmallCompiled};
-ghost use Rattle.stratifier.specs.Links.{IsSubtask, IsSubtaskOf};
-ghost use Rattle.stratifier.specs.Entered.{AreEntered};
-ghost use Rattle.plan_model.specs.Parts.{IsMarked};
+ghost use Rattle.stratifier.specs.Links.{IsSubtask};
+ghost use Rattle.stratifier.specs.Entered.{AreEntered, AreReachedMarks, AreSubtasksEntered, AreUnmarked, HaveMarks};
 
 use crate::by_task::methods_by_task;
 use htn_base::Memory;
@@ -14,7 +12,7 @@ use std::alloc::Global;
 pub fn reached(alloc: Global, c: &Compiled) -> Result<Vec<bool>, Memory>
     requires small { IsSmallCompiled c.now }
     ensures room { IfOk result (λ marks. length marks.items ≡ length c.now.hddl.tasks + 1) }
-    ensures reached { IfOk result (λ marks. (t : ℕ) → IsMarked marks.items t ↔ IsReachedTask c.now t) }
+    ensures reached { IfOk result (λ marks. AreReachedMarks c.now marks.items) }
 {
     let top = c.hddl.tasks.len();
     let methods = c.methods.as_slice();
@@ -27,7 +25,8 @@ pub fn reached(alloc: Global, c: &Compiled) -> Result<Vec<bool>, Memory>
     Ok(walk.marks)
 }
 
-/// A walk over the tasks: those that were entered are marked, and `work` has those that are still to be done.
+/// A walk over the tasks: those that were entered are marked, and `work` has those that are still
+/// to be done.
 #[derive(Drop)]
 pub struct Walk {
     pub marks: Vec<bool>,
@@ -38,7 +37,7 @@ impl Walk {
     /// The walk over so many tasks that entered none.
     pub fn new(alloc: Global, count: usize) -> Result<Walk, Memory>
         ensures room { IfOk result (λ walk. length walk.marks.items ≡ count) }
-        ensures empty { IfOk result (λ walk. (t : ℕ) → slice_index_or walk.marks.items t false ≡ false) }
+        ensures empty { IfOk result (λ walk. AreUnmarked walk.marks.items) }
         ensures nothing { IfOk result (λ walk. walk.work.items ≡ []) }
     {
         let marks = vec![in alloc; false; count]?;
@@ -87,8 +86,8 @@ impl Walk {
     /// Enters the tasks among the children of the methods at these places.
     fn enter_next(&mut self, methods: &[MethodPlan], places: &[u32]) -> Result<(), Memory>
         requires places { All (λ m. m < length methods.now) places.now }
-        requires tasks { (t : ℕ) → IsSubtaskOf methods.now places.now t → t < length self.old.marks.items }
-        ensures entered { OnOk result (AreEntered (IsSubtaskOf methods.now places.now) self.old self.new) }
+        requires tasks { HaveMarks methods.now places.now self.old }
+        ensures entered { OnOk result (AreSubtasksEntered methods.now places.now self.old self.new) }
     {
         for m in places {
             self.enter_subtasks(methods[*m as usize].schema.children.as_slice())?;

@@ -1,9 +1,7 @@
-use Rattle.std.proofs.Common.{ℕ, ◌≡◌, ◌+◌, ◌-◌, ◌<◌, ◌≤◌, ◌⊎◌, inl, inr, ◌^◌, List, length, get_or, Contains, Some, refl, sym, ap, subst, ◌∙◌, arith}
+use Rattle.std.proofs.Common.{ℕ, ◌≡◌, ◌+◌, ◌-◌, ◌<◌, ◌≤◌, inl, inr, ◌^◌, List, length, get_or, Contains, sym, ap, subst, ◌∙◌, arith}
 use Rattle.std.proofs.lemmas.List.Elements.{Contains-get_or}
 use Rattle.plan_model.specs.declared.networks.Child.{Child}
 use Rattle.plan_model.specs.declared.networks.Head.TheVariants.{Task}
-use Rattle.plan_model.specs.Pairs.{Pairs}
-use Rattle.task_networks.specs.Bound.{AreBlocks}
 use Rattle.bound_calc.specs.Blocks.{head_number, child_number, IsGreatestOrPast}
 use Rattle.bound_calc.proofs.Along.{IsSummed}
 use Rattle.bound_calc.proofs.Greatest.{many, child_below, child-number, child_ranked, positive, IsStart, summed_first, summed_next, past_next, greatest_all, at_least}
@@ -61,15 +59,18 @@ loop-k-preserved c =
     let up = λ (x : ℕ) (d : Contains c.args.plan.now.line x). positive c.args.r.now c.args.numbers.now c.args.plan.now c.requires.numbers x in
     let start : IsStart c.args.plan.now c.requires.line c.args.order.now c.requires.order c.loop-k.k c.loop-k.pending c.if-k-gt0.pending = elim c.if-k-gt0.branch [
       | then-k-gt0+then-cut w ↦ inl (w.if-k-gt0.true, sym w.cut.ensures ∙ w.if-cut.true, w.pending-is ∙ ap (λ n. n - c.loop-k.k) lines)
-      | else-k-gt0 w ↦ inr (elim w.else-k-gt0.branch [
-        | else-k-gt0-via-then-k-gt0+else-cut v ↦ inr (v.if-k-gt0.true, sym v.cut.ensures ∙ v.if-cut.false)
-        | else-k-gt0-via-else-k-gt0 v ↦ inl (let z = v.if-k-gt0.false in omega arith)
-      ], w.pending-is)
+      | else-k-gt0 w ↦ inr (
+        elim w.else-k-gt0.branch [
+          | else-k-gt0-via-then-k-gt0+else-cut v ↦ inr (v.if-k-gt0.true, sym v.cut.ensures ∙ v.if-cut.false)
+          | else-k-gt0-via-else-k-gt0 v ↦ inl (let z = v.if-k-gt0.false in omega arith)
+        ],
+        w.pending-is,
+      )
     ] in
     let number : c.number_of-number.result ≡ child_number c.args.r.now c.args.numbers.now c.args.plan.now (get_or c.args.plan.now.line c.loop-k.k 0) =
-        c.number_of-number.ensures.number ∙ ap (λ (cs : List Child). head_number c.args.r.now c.args.numbers.now (get_or cs (get_or c.as_slice-line.result.now c.loop-k.k 0) c.index-children-child.result).head) c.as_slice-children.ensures.items
-        ∙ ap (λ xs. head_number c.args.r.now c.args.numbers.now (get_or c.args.plan.now.schema.children (get_or xs c.loop-k.k 0) c.index-children-child.result).head) line
-        ∙ sym (child-number c.args.r.now c.args.numbers.now c.args.plan.now (get_or c.args.plan.now.line c.loop-k.k 0) c.index-children-child.result (child_below c.args.plan.now c.requires.line c.loop-k.k l)) in
+    c.number_of-number.ensures.number ∙ ap (λ (cs : List Child). head_number c.args.r.now c.args.numbers.now (get_or cs (get_or c.as_slice-line.result.now c.loop-k.k 0) c.index-children-child.result).head) c.as_slice-children.ensures.items
+    ∙ ap (λ xs. head_number c.args.r.now c.args.numbers.now (get_or c.args.plan.now.schema.children (get_or xs c.loop-k.k 0) c.index-children-child.result).head) line
+    ∙ sym (child-number c.args.r.now c.args.numbers.now c.args.plan.now (get_or c.args.plan.now.line c.loop-k.k 0) c.index-children-child.result (child_below c.args.plan.now c.requires.line c.loop-k.k l)) in
     let added = c.in_ok-pending.ensures.1 in
     let positive = c.number_of-number.ensures.positive in
     let more : c.in_ok-pending.pending + 1 ≡ c.if-k-gt0.pending + own (get_or c.args.plan.now.line c.loop-k.k 0) = omega arith in
@@ -90,15 +91,18 @@ returns-in_err-pending c =
     let up = λ (x : ℕ) (d : Contains c.args.plan.now.line x). positive c.args.r.now c.args.numbers.now c.args.plan.now c.requires.numbers x in
     let start : IsStart c.args.plan.now c.requires.line c.args.order.now c.requires.order c.loop-k.k c.loop-k.pending c.if-k-gt0.pending = elim c.if-k-gt0.branch [
       | then-k-gt0+then-cut w ↦ inl (w.if-k-gt0.true, sym w.cut.ensures ∙ w.if-cut.true, w.pending-is ∙ ap (λ n. n - c.loop-k.k) lines)
-      | else-k-gt0 w ↦ inr (elim w.else-k-gt0.branch [
-        | else-k-gt0-via-then-k-gt0+else-cut v ↦ inr (v.if-k-gt0.true, sym v.cut.ensures ∙ v.if-cut.false)
-        | else-k-gt0-via-else-k-gt0 v ↦ inl (let z = v.if-k-gt0.false in omega arith)
-      ], w.pending-is)
+      | else-k-gt0 w ↦ inr (
+        elim w.else-k-gt0.branch [
+          | else-k-gt0-via-then-k-gt0+else-cut v ↦ inr (v.if-k-gt0.true, sym v.cut.ensures ∙ v.if-cut.false)
+          | else-k-gt0-via-else-k-gt0 v ↦ inl (let z = v.if-k-gt0.false in omega arith)
+        ],
+        w.pending-is,
+      )
     ] in
     let number : c.number_of-number.result ≡ child_number c.args.r.now c.args.numbers.now c.args.plan.now (get_or c.args.plan.now.line c.loop-k.k 0) =
-        c.number_of-number.ensures.number ∙ ap (λ (cs : List Child). head_number c.args.r.now c.args.numbers.now (get_or cs (get_or c.as_slice-line.result.now c.loop-k.k 0) c.index-children-child.result).head) c.as_slice-children.ensures.items
-        ∙ ap (λ xs. head_number c.args.r.now c.args.numbers.now (get_or c.args.plan.now.schema.children (get_or xs c.loop-k.k 0) c.index-children-child.result).head) line
-        ∙ sym (child-number c.args.r.now c.args.numbers.now c.args.plan.now (get_or c.args.plan.now.line c.loop-k.k 0) c.index-children-child.result (child_below c.args.plan.now c.requires.line c.loop-k.k l)) in
+    c.number_of-number.ensures.number ∙ ap (λ (cs : List Child). head_number c.args.r.now c.args.numbers.now (get_or cs (get_or c.as_slice-line.result.now c.loop-k.k 0) c.index-children-child.result).head) c.as_slice-children.ensures.items
+    ∙ ap (λ xs. head_number c.args.r.now c.args.numbers.now (get_or c.args.plan.now.schema.children (get_or xs c.loop-k.k 0) c.index-children-child.result).head) line
+    ∙ sym (child-number c.args.r.now c.args.numbers.now c.args.plan.now (get_or c.args.plan.now.line c.loop-k.k 0) c.index-children-child.result (child_below c.args.plan.now c.requires.line c.loop-k.k l)) in
     let sum = c.if-k-gt0.pending + (c.number_of-number.result - 1) in
     let positive = c.number_of-number.ensures.positive in
     let more : (c.if-k-gt0.pending + (c.number_of-number.result - 1)) + 1 ≡ c.if-k-gt0.pending + own (get_or c.args.plan.now.line c.loop-k.k 0) = omega arith in

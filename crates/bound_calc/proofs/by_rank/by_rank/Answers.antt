@@ -1,9 +1,8 @@
-use Rattle.std.proofs.Common.{ℕ, ◌≡◌, ◌<◌, ◌≤◌, ◌+◌, ◌++◌, ◌∷◌, [], Vec, Global, List, length, slice_get, get_or, Some, true, false, IsTrue, refl, sym, ap, subst, ◌∙◌, arith}
+use Rattle.std.proofs.Common.{ℕ, ◌≡◌, ◌<◌, ◌≤◌, ◌+◌, ◌++◌, ◌∷◌, [], Vec, Global, length, slice_get, get_or, Some, false, sym, ap, subst, ◌∙◌, arith}
 use Rattle.std.proofs.lemmas.Bool.{false≢true}
 use Rattle.std.proofs.lemmas.List.{get_or_read}
 use Rattle.std.proofs.lemmas.Option.{slice_get-get_or}
-use Rattle.plan_model.specs.declared.schemas.MethodPlan.{MethodPlan}
-use Rattle.bound_calc.proofs.Placing.{ArePlaced, placed_none, placed_more, placed_same, placed_all, task_below}
+use Rattle.bound_calc.proofs.Placing.{ArePlaced, placed_more, placed_same, placed_all, task_below}
 use Rattle.bound_calc.proofs.by_rank.by_rank.Goals as goal
 use Rattle.bound_calc.proofs.by_rank.by_rank.Goals.{then-index+in_ok-push, else-index}
 
@@ -13,7 +12,7 @@ loop-m-preserved c =
     let k = c.loop-m.m in
     let plan = c.plan-item.result in
     let is : slice_get c.args.c.now.methods c.loop-m.m ≡ Some c.plan-item.result =
-        subst (λ ms. slice_get ms c.loop-m.m ≡ Some c.plan-item.result) c.as_slice-plan-items.ensures.items (slice_get-get_or c.as_slice-plan-items.result.now c.loop-m.m c.plan-item.result c.loop-m-test.true ∙ ap Some (sym c.plan-item.is)) in
+    subst (λ ms. slice_get ms c.loop-m.m ≡ Some c.plan-item.result) c.as_slice-plan-items.ensures.items (slice_get-get_or c.as_slice-plan-items.result.now c.loop-m.m c.plan-item.result c.loop-m-test.true ∙ ap Some (sym c.plan-item.is)) in
     let below : c.plan-item.result.schema.task < length c.in_ok-marks.marks.items = let b = task_below c.args.c.now c.args.r.now c.requires.small k plan is in let r = c.in_ok-marks.ensures.room in omega arith in
     let mark : c.index.result.now ≡ get_or c.in_ok-marks.marks.items c.plan-item.result.schema.task false = get_or_read c.in_ok-marks.marks.items plan.schema.task c.index.result.now below c.index.ensures false in
     let told = c.in_ok-marks.ensures.reached plan.schema.task in

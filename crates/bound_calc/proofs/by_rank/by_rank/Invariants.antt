@@ -1,4 +1,3 @@
-use Rattle.std.proofs.Common.{ℕ, ◌≤◌, length}
 use Rattle.bound_calc.proofs.Placing.{ArePlaced}
 use Rattle.bound_calc.proofs.by_rank.by_rank.Given as goal
 

@@ -1,4 +1,4 @@
-use Rattle.std.proofs.Common.{ℕ, ◌≡◌, ◌<◌, ◌≤◌, ◌+◌, length, slice_get, slice_index, get_or, set, Some, replicate, max, refl, sym, ap, subst, ◌∙◌, arith}
+use Rattle.std.proofs.Common.{◌≡◌, ◌<◌, ◌+◌, length, slice_get, get_or, Some, replicate, max, refl, sym, ap, subst, ◌∙◌, arith}
 use Rattle.std.proofs.lemmas.List.{get_or_read}
 use Rattle.stratifier.specs.Conditions.{IsOrdered, IsSmallMethod}
 use Rattle.stratifier.specs.Stratified.{number_of}
@@ -8,7 +8,7 @@ use Rattle.bound_calc.specs.Lines.{HasLine}
 use Rattle.bound_calc.specs.ByRank.{AreByRank, HaveNumbers}
 use Rattle.plan_meaning.specs.Network.{top_task}
 use Rattle.bound_calc.specs.Past.{IsRefused}
-use Rattle.bound_calc.proofs.Counting.{AreCounted, of_all, plan_at, counted_none, have_numbers, are_ranked, method_below, group_below, counted_more, refused, counted_all, error_told}
+use Rattle.bound_calc.proofs.Counting.{of_all, plan_at, counted_none, have_numbers, are_ranked, method_below, group_below, counted_more, refused, counted_all, error_told}
 use Rattle.bound_calc.proofs.groups.bound.Goals as goal
 
 pub loop-place-init : goal.loop-place-init
@@ -36,7 +36,7 @@ method_number-requires-clause-small c =
     let plan = c.index-methods-m.result in
     let below = method_below c.args.c.now c.args.r.now c.requires.small c.requires.strata c.requires.lines places by_rank k (0, 0) l in
     let is : slice_get c.args.c.now.methods (get_or c.as_slice-place-items.result.now c.loop-place.place-index (0, 0)).1 ≡ Some c.index-methods-m.result =
-        plan_at c.as_slice-methods.result.now c.args.c.now.methods place.1 plan c.as_slice-methods.ensures.items below c.index-methods-m.is in
+    plan_at c.as_slice-methods.result.now c.args.c.now.methods place.1 plan c.as_slice-methods.ensures.items below c.index-methods-m.is in
     of_all IsSmallMethod c.args.c.now.methods place.1 plan c.requires.small.networks is
 
 pub method_number-requires-clause-ordered : goal.method_number-requires-clause-ordered
@@ -49,7 +49,7 @@ method_number-requires-clause-ordered c =
     let plan = c.index-methods-m.result in
     let below = method_below c.args.c.now c.args.r.now c.requires.small c.requires.strata c.requires.lines places by_rank k (0, 0) l in
     let is : slice_get c.args.c.now.methods (get_or c.as_slice-place-items.result.now c.loop-place.place-index (0, 0)).1 ≡ Some c.index-methods-m.result =
-        plan_at c.as_slice-methods.result.now c.args.c.now.methods place.1 plan c.as_slice-methods.ensures.items below c.index-methods-m.is in
+    plan_at c.as_slice-methods.result.now c.args.c.now.methods place.1 plan c.as_slice-methods.ensures.items below c.index-methods-m.is in
     of_all IsOrdered c.args.c.now.methods place.1 plan c.requires.ordered is
 
 pub method_number-requires-clause-line : goal.method_number-requires-clause-line
@@ -62,7 +62,7 @@ method_number-requires-clause-line c =
     let plan = c.index-methods-m.result in
     let below = method_below c.args.c.now c.args.r.now c.requires.small c.requires.strata c.requires.lines places by_rank k (0, 0) l in
     let is : slice_get c.args.c.now.methods (get_or c.as_slice-place-items.result.now c.loop-place.place-index (0, 0)).1 ≡ Some c.index-methods-m.result =
-        plan_at c.as_slice-methods.result.now c.args.c.now.methods place.1 plan c.as_slice-methods.ensures.items below c.index-methods-m.is in
+    plan_at c.as_slice-methods.result.now c.args.c.now.methods place.1 plan c.as_slice-methods.ensures.items below c.index-methods-m.is in
     of_all HasLine c.args.c.now.methods place.1 plan c.requires.lines is
 
 pub method_number-requires-clause-ranked : goal.method_number-requires-clause-ranked
@@ -75,7 +75,7 @@ method_number-requires-clause-ranked c =
     let plan = c.index-methods-m.result in
     let below = method_below c.args.c.now c.args.r.now c.requires.small c.requires.strata c.requires.lines places by_rank k (0, 0) l in
     let is : slice_get c.args.c.now.methods (get_or c.as_slice-place-items.result.now c.loop-place.place-index (0, 0)).1 ≡ Some c.index-methods-m.result =
-        plan_at c.as_slice-methods.result.now c.args.c.now.methods place.1 plan c.as_slice-methods.ensures.items below c.index-methods-m.is in
+    plan_at c.as_slice-methods.result.now c.args.c.now.methods place.1 plan c.as_slice-methods.ensures.items below c.index-methods-m.is in
     are_ranked c.args.c.now c.args.r.now c.requires.small c.requires.strata c.requires.lines place.1 plan is
 
 pub method_number-requires-clause-numbers : goal.method_number-requires-clause-numbers
@@ -92,7 +92,7 @@ returns-in_err-number-clause-refused c =
     let plan = c.index-methods-m.result in
     let below = method_below c.args.c.now c.args.r.now c.requires.small c.requires.strata c.requires.lines places by_rank k (0, 0) l in
     let is : slice_get c.args.c.now.methods (get_or c.as_slice-place-items.result.now c.loop-place.place-index (0, 0)).1 ≡ Some c.index-methods-m.result =
-        plan_at c.as_slice-methods.result.now c.args.c.now.methods place.1 plan c.as_slice-methods.ensures.items below c.index-methods-m.is in
+    plan_at c.as_slice-methods.result.now c.args.c.now.methods place.1 plan c.as_slice-methods.ensures.items below c.index-methods-m.is in
     let past = subst (λ xs. IsPastBy c.args.r.now xs c.index-methods-m.result c.in_err-number.field-0.0) c.as_slice.ensures.value c.in_err-number.ensures.past in
     let h = refused c.args.c.now c.args.r.now c.requires.small c.requires.strata c.requires.lines places by_rank k (0, 0) l c.loop-place.numbers.items plan c.in_err-number.field-0.0 is c.loop-place.invariant past in
     error_told c.from_residual-in_err-number.result (IsRefused c.args.c.now) _ c.from_residual-in_err-number.ensures.1 (λ error same. subst (IsRefused c.args.c.now) (sym same) h)
@@ -129,7 +129,7 @@ loop-place-preserved c =
     let plan = c.index-methods-m.result in
     let below = method_below c.args.c.now c.args.r.now c.requires.small c.requires.strata c.requires.lines places by_rank k (0, 0) l in
     let is : slice_get c.args.c.now.methods (get_or c.as_slice-place-items.result.now c.loop-place.place-index (0, 0)).1 ≡ Some c.index-methods-m.result =
-        plan_at c.as_slice-methods.result.now c.args.c.now.methods place.1 plan c.as_slice-methods.ensures.items below c.index-methods-m.is in
+    plan_at c.as_slice-methods.result.now c.args.c.now.methods place.1 plan c.as_slice-methods.ensures.items below c.index-methods-m.is in
     let x = c.loop-place.numbers.items in
     let b = group_below c.args.c.now c.args.r.now c.requires.small c.requires.strata c.requires.lines places by_rank k (0, 0) l x c.loop-place.invariant in
     let former = get_or_read x place.0 c.index-former.result.now b c.index-former.ensures 0 in

@@ -1,4 +1,4 @@
-use Rattle.std.proofs.Common.{map, List, sym, ap, ◌∙◌}
+use Rattle.std.proofs.Common.{map, ap, ◌∙◌}
 use Rattle.std.proofs.lemmas.List.{take_all}
 use Rattle.plan_model.specs.declared.schemas.ActionSchema.{ActionSchema}
 use Rattle.ground_state.proofs.PlaceLaws.{map_next}

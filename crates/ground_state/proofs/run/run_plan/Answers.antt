@@ -1,4 +1,4 @@
-use Rattle.std.proofs.Common.{List, ℕ, ◌≡◌, Contains, ap, sym, subst, ◌∙◌, true≢false}
+use Rattle.std.proofs.Common.{ap, sym, subst, ◌∙◌, true≢false}
 use Rattle.plan_meaning.specs.Truth.{IsTrueIn}
 use Rattle.plan_meaning.specs.ClassicalPlan.{InTypeOf}
 use Rattle.ground_state.specs.Frames.{Frame, frame}

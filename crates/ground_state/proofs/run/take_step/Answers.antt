@@ -1,11 +1,9 @@
-use Rattle.std.proofs.Common.{List, ℕ, ◌≡◌, ap, sym, subst, ◌∙◌, true≢false}
-use Rattle.plan_model.specs.declared.terms.Param.{Param}
-use Rattle.plan_meaning.specs.Truth.{IsTrueIn, after}
+use Rattle.std.proofs.Common.{sym, subst, ◌∙◌, true≢false}
+use Rattle.plan_meaning.specs.Truth.{after}
 use Rattle.plan_meaning.specs.ClassicalPlan.{InTypeOf}
 use Rattle.ground_state.specs.Frames.{Frame, frame}
 use Rattle.ground_state.specs.Room.{EffectFits}
 use Rattle.ground_state.specs.States.{atoms, Has}
-use Rattle.ground_state.specs.Runs.{AreArguments}
 use Rattle.ground_state.proofs.RunLaws as laws
 use Rattle.ground_state.proofs.run.take_step.Goals as goal
 

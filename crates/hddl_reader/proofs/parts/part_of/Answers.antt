@@ -1,7 +1,6 @@
 use Rattle.std.proofs.Common.{◌≡◌, sym, ◌∙◌, subst}
 use Rattle.htn_base.specs.Words.{folded}
-use Rattle.form_grammar.specs.Words.{entry}
-use Rattle.hddl_reader.specs.Parts.{network_table, part_of}
+use Rattle.hddl_reader.specs.Parts.{part_of}
 use Rattle.hddl_reader.proofs.PartSteps.{method_rest}
 use Rattle.hddl_reader.proofs.parts.part_of.Goals as goal
 

@@ -1,5 +1,6 @@
-use Rattle.std.proofs.Common.{ℕ, ◌≡◌, ◌+◌, ◌<◌, List, [], ◌∷◌, length, refl, sym, subst, ◌∙◌, arith}
-use Rattle.stratifier.proofs.Grouped.{reversed_within, roots_left, grouped_none, grouped_more, grouped_all}
+use Rattle.std.proofs.Common.{◌≡◌, [], arith}
+use Rattle.std.proofs.lemmas.List.{nil_from_length}
+use Rattle.stratifier.proofs.Grouped.{reversed_within, roots_left, grouped_more, grouped_all}
 use Rattle.stratifier.proofs.groups.group_numbers.Goals as goal
 
 pub finishing_order-requires-clause-within : goal.finishing_order-requires-clause-within
@@ -27,11 +28,7 @@ loop-root-preserved c =
     let n = c.len.ensures in
     grouped_more c.args.rows.now c.args.back.now _ c.requires.reversed _ _ c.in-Some.root _ _ _ c.loop-root.invariant c.in-Some.ensures.items (omega arith) c.in_ok-number.ensures.numbered
 
-empty_list : (xs : List ℕ) → length xs ≡ 0 → xs ≡ []
-empty_list [] e = refl
-empty_list (x ∷ xs) e = absurd (omega arith)
-
 pub returns : goal.returns
 returns c =
-    let none : c.loop-root.order.items ≡ [] = empty_list c.loop-root.order.items (let a = c.loop-root.order.ok.0 in let z = c.in_default.ensures.cases.0 in omega arith) in
+    let none : c.loop-root.order.items ≡ [] = nil_from_length c.loop-root.order.items (let a = c.loop-root.order.ok.0 in let z = c.in_default.ensures.cases.0 in omega arith) in
     record { groups = grouped_all c.args.rows.now c.args.back.now _ c.requires.reversed c.loop-root.order.items c.loop-root.groups none c.loop-root.invariant }

@@ -1,5 +1,5 @@
-use Rattle.std.proofs.Common.{ℕ, ◌≡◌, ◌+◌, ◌↔◌, List, [], ◌∷◌, length, get_or, Contains, refl, sym, ap, subst, ◌∙◌, arith}
-use Rattle.std.proofs.lemmas.List.{get_or_read}
+use Rattle.std.proofs.Common.{◌≡◌, ◌+◌, ◌↔◌, [], get_or, Contains, refl, sym, ap, subst, ◌∙◌, arith}
+use Rattle.std.proofs.lemmas.List.{get_or_read, nil_from_length}
 use Rattle.std.proofs.lemmas.List.Elements.{Contains-get_or}
 use Rattle.stratifier.specs.declared.reach.Walk.{Walk}
 use Rattle.stratifier.specs.Links.{IsMethodOf, IsSubtaskOf}
@@ -48,11 +48,7 @@ loop-task-preserved c =
     (λ m. subst (λ s. Contains s m ↔ IsMethodOf c.args.c.now.methods c.in-Some.task m) (sym row) (subst (λ ms. Contains (get_or c.in_ok-by_task.by_task.items c.in-Some.task []) m ↔ IsMethodOf ms c.in-Some.task m) methods (c.in_ok-by_task.ensures.methods c.in-Some.task m)))
     (subst (λ ms. AreEntered (IsSubtaskOf ms c.as_slice.result.now) old c.enter_next.new.self) methods c.in_ok-enter_next.ensures.entered)
 
-empty_list : (xs : List ℕ) → length xs ≡ 0 → xs ≡ []
-empty_list [] e = refl
-empty_list (x ∷ xs) e = absurd (omega arith)
-
 pub returns : goal.returns
 returns c =
-    let none : c.loop-task.walk.work.items ≡ [] = empty_list c.loop-task.walk.work.items (let a = c.loop-task.walk.work.ok.0 in let z = c.in_default.ensures.cases.0 in omega arith) in
+    let none : c.loop-task.walk.work.items ≡ [] = nil_from_length c.loop-task.walk.work.items (let a = c.loop-task.walk.work.ok.0 in let z = c.in_default.ensures.cases.0 in omega arith) in
     record { room = c.loop-task.invariant.room; reached = walked_all c.args.c.now c.loop-task.walk.marks.items c.loop-task.walk.work.items none c.loop-task.invariant }

@@ -1,8 +1,6 @@
-use Rattle.std.proofs.Common.{List, ℕ, MatchOption, Option, None, Some, ◌∙◌, sym, subst, map}
-use Rattle.std.specs.Option.{option_copied}
+use Rattle.std.proofs.Common.{None, Some, ◌∙◌, subst, map}
 use Rattle.plan_model.specs.declared.schemas.ActionSchema.{ActionSchema}
-use Rattle.plan_meaning.specs.FailingStep.{IsNamed, NamesAction}
-use Rattle.ground_state.specs.Places.{Finds, HasWordAt}
+use Rattle.ground_state.specs.Places.{Finds}
 use Rattle.ground_state.proofs.IndexLaws.{no_action, the_action}
 use Rattle.ground_state.proofs.index.Index.action.Goals as goal
 

@@ -1,6 +1,6 @@
-use Rattle.std.proofs.Common.{List, ℕ, ◌≡◌, ◌+◌, ◌<◌, ◌++◌, ◌∷◌, [], length, get_or, take, length-take-le, ◌∙◌, ap, sym, subst, arith}
+use Rattle.std.proofs.Common.{◌+◌, ◌<◌, length, get_or, take, length-take-le, ◌∙◌, ap, sym, subst, arith}
 use Rattle.plan_model.specs.declared.terms.Param.{Param}
-use Rattle.ground_state.specs.Frames.{Frame, frame}
+use Rattle.ground_state.specs.Frames.{Frame}
 use Rattle.ground_state.specs.Runs.{IsArgument, AreArguments}
 use Rattle.ground_state.proofs.IndexLaws.{typed_length, arguments_length, arguments_next, argument_at}
 use Rattle.ground_state.proofs.index.Index.fill.Goals as goal

@@ -1,4 +1,4 @@
-use Rattle.std.proofs.Common.{List, ℕ, None, Some, ◌≡◌, ◌∙◌, sym, subst, map, true≢false}
+use Rattle.std.proofs.Common.{◌≡◌, ◌∙◌, sym, subst, map, true≢false}
 use Rattle.plan_model.specs.declared.types.Object.{Object}
 use Rattle.plan_meaning.specs.ClassicalPlan.{InTypeOf}
 use Rattle.ground_state.specs.Runs.{IsTheArgument}

@@ -1,6 +1,4 @@
-use Rattle.std.proofs.Common.{List, length, sym, subst, ◌≡◌, ◌+◌, ap, ◌∙◌, arith}
-use Rattle.std.proofs.lemmas.List.{length-append}
-use Rattle.plan_model.specs.declared.parts.Parts.{Parts}
+use Rattle.std.proofs.Common.{sym, subst, arith}
 use Rattle.ground_state.specs.Kinds.{AreInOrder}
 use Rattle.ground_state.proofs.KindLaws.{kinds_more}
 use Rattle.ground_state.proofs.kinds.Kinds.new.Goals as goal

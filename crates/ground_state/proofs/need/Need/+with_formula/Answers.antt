@@ -1,9 +1,6 @@
-use Rattle.std.proofs.Common.{ℕ, ◌≡◌, ◌+◌, ◌<◌, length, get_or, take, ap, sym, subst, ◌∙◌, arith}
+use Rattle.std.proofs.Common.{take, arith}
 use Rattle.std.proofs.lemmas.Result.{IfOk-weaker}
-use Rattle.std.proofs.lemmas.List.{take_all}
-use Rattle.ground_state.specs.declared.need.Need.{Need}
 use Rattle.ground_state.specs.Room.{EachFits, fits}
-use Rattle.ground_state.specs.Needs as spec
 use Rattle.ground_state.proofs.Sizes as sizes
 use Rattle.ground_state.proofs.NeedLaws as laws
 use Rattle.ground_state.proofs.need.Need.+with_formula.Goals as goal

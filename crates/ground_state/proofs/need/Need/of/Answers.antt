@@ -1,4 +1,4 @@
-use Rattle.std.proofs.Common.{ℕ, ◌<◌, ◌≤◌, ◌∙◌, List, length, get_or, ap, subst, sym}
+use Rattle.std.proofs.Common.{◌<◌, ◌≤◌, ◌∙◌, List, length, get_or, ap, subst}
 use Rattle.plan_model.specs.declared.schemas.ActionSchema.{ActionSchema}
 use Rattle.ground_state.specs.Room.{fits}
 use Rattle.ground_state.proofs.NeedLaws as laws

@@ -1,7 +1,7 @@
-use Rattle.std.proofs.Common.{ℕ, ◌≡◌, ◌≤◌, List, Option, Some, None, length, refl, sym, subst, ap, ◌∙◌, slice_get}
+use Rattle.std.proofs.Common.{ℕ, ◌≡◌, List, Option, Some, refl, sym, subst, slice_get}
 use Rattle.std.proofs.lemmas.Option.{slice_get_read}
 use Rattle.ground_state.specs.Places.{Finds}
-use Rattle.ground_state.proofs.PlaceLaws.{finds_none, finds_at, finds_past}
+use Rattle.ground_state.proofs.PlaceLaws.{finds_none, finds_at}
 use Rattle.ground_state.proofs.places.Places.find.Goals as goal
 
 pub returns-in_err-name : goal.returns-in_err-name

@@ -1,8 +1,8 @@
-use Rattle.std.proofs.Common.{ℕ, ◌≡◌, ◌+◌, ◌<◌, ◌≤◌, List, Option, Some, None, Vec, Global, length, get_or, slice_get, sym, subst, ap, ◌∙◌, length-set, arith}
+use Rattle.std.proofs.Common.{ℕ, ◌≡◌, ◌+◌, ◌<◌, ◌≤◌, Option, Some, Vec, Global, length, get_or, slice_get, sym, subst, ap, ◌∙◌, length-set, arith}
 use Rattle.std.proofs.lemmas.Option.{slice_get-get_or}
 use Rattle.htn_base.specs.declared.name.Name.{Name}
 use Rattle.ground_state.specs.Places.{AreFirstPlaces}
-use Rattle.ground_state.proofs.PlaceLaws.{no_places, places_set, places_past, all_places}
+use Rattle.ground_state.proofs.PlaceLaws.{places_set, places_past, all_places}
 use Rattle.ground_state.proofs.places.Places.new.Goals as goal
 use Rattle.ground_state.proofs.places.Places.new.Goals.{then-number-len, else-number-len}
 

@@ -1,4 +1,4 @@
-use Rattle.std.proofs.Common.{ℕ, ◌≡◌, false, length, ap, subst, ◌∙◌, arith}
+use Rattle.std.proofs.Common.{◌≡◌, false, length, ap, subst, ◌∙◌, arith}
 use Rattle.std.proofs.lemmas.List.{length-replicate}
 use Rattle.stratifier.proofs.Descents.{AreToEnter, to_enter_none, to_enter_more, descent_first, none_marked}
 use Rattle.stratifier.proofs.finishing.Descent.new.Goals as goal

@@ -1,5 +1,5 @@
-use Rattle.std.proofs.Common.{ℕ, ◌≡◌, ◌<◌, List, [], ◌∷◌, length, get_or, Contains, refl, ap, subst, ◌∙◌, arith}
-use Rattle.std.proofs.lemmas.List.{get_or_default, length-append}
+use Rattle.std.proofs.Common.{◌≡◌, [], length, get_or, Contains, refl, ap, subst, ◌∙◌, arith}
+use Rattle.std.proofs.lemmas.List.{get_or_default, length-append, nil_from_length}
 use Rattle.std.proofs.lemmas.List.Elements.{Contains-get_or}
 use Rattle.stratifier.specs.declared.reach.Walk.{Walk}
 use Rattle.stratifier.proofs.Grouped.{on_the_way_first, on_the_way_next, on_the_way_last, ended, work_below}
@@ -33,13 +33,9 @@ loop-task-preserved c =
     let mid : Walk = record { marks = c.loop-task.self.walk.marks; work = c.pop.new.self } in
     on_the_way_next c.args.rows.now c.args.root c.args.number c.args.self.now c.loop-task.self c.in-Some.task mid _ c.as_slice.result.now c.loop-task.invariant c.in-Some.ensures.items refl refl row c.in_ok-enter_all.ensures.entered
 
-empty_list : (xs : List ℕ) → length xs ≡ 0 → xs ≡ []
-empty_list [] e = refl
-empty_list (x ∷ xs) e = absurd (omega arith)
-
 pub returns : goal.returns
 returns c =
     let now = c.loop-task.self in
-    let none : now.walk.work.items ≡ [] = empty_list now.walk.work.items (let a = now.walk.work.ok.0 in let z = c.in_default.ensures.cases.0 in omega arith) in
+    let none : now.walk.work.items ≡ [] = nil_from_length now.walk.work.items (let a = now.walk.work.ok.0 in let z = c.in_default.ensures.cases.0 in omega arith) in
     let end : Walk = record { marks = now.walk.marks; work = c.pop.new.self } in
-    record { numbered = ended c.args.rows.now c.args.root c.args.number c.args.self.now now end refl (empty_list c.pop.new.self.items (let a = now.walk.work.ok.0 in let z = c.in_default.ensures.cases.0 in let i = ap length c.in_default.ensures.items in let j = length-append c.pop.new.self.items [] in omega arith)) (on_the_way_last c.args.rows.now c.args.root c.args.number c.args.self.now c.requires.ready now none c.loop-task.invariant) }
+    record { numbered = ended c.args.rows.now c.args.root c.args.number c.args.self.now now end refl (nil_from_length c.pop.new.self.items (let a = now.walk.work.ok.0 in let z = c.in_default.ensures.cases.0 in let i = ap length c.in_default.ensures.items in let j = length-append c.pop.new.self.items [] in omega arith)) (on_the_way_last c.args.rows.now c.args.root c.args.number c.args.self.now c.requires.ready now none c.loop-task.invariant) }

@@ -1,0 +1,49 @@
+-- What the calls answer, where an environment has the objects of the variables in force.
+-- Source: this project's; truth and the state after an effect as in plan_meaning.
+use Rattle.std.specs.Prelude.{Bool, List, []}
+use Rattle.plan_model.specs.declared.types.Types.{Types}
+use Rattle.plan_model.specs.declared.types.Object.{Object}
+use Rattle.plan_model.specs.declared.terms.Param.{Param}
+use Rattle.plan_model.specs.declared.terms.GroundAtom.{GroundAtom}
+use Rattle.plan_model.specs.declared.formulas.Formula.{Formula}
+use Rattle.plan_model.specs.declared.effects.Effect.{Effect}
+use Rattle.plan_model.specs.Typing.{InType}
+use Rattle.plan_meaning.specs.Truth.{IsTrueIn, after}
+use Rattle.ground_state.specs.declared.env.Env.{Env}
+use Rattle.ground_state.specs.declared.gather.World.{World}
+use Rattle.ground_state.specs.declared.state.State.{State}
+use Rattle.ground_state.specs.Frames.{frame}
+use Rattle.ground_state.specs.States.{atoms, Has}
+use Rattle.ground_state.specs.Search.{IsAmongParts, IsFound, Gathers, Touches, Reads, ReadsEach, ReadsWithin}
+
+module _ (types : Types) (objects : List Object) where
+  -- the formula is true in the state
+  abbrev pub IsTrueBy : State → Formula → Env → Type 0
+  IsTrueBy s f env = IsTrueIn (InType types objects) (atoms s) f (frame env).objects
+
+  -- one of the formulas is as wanted, or each is not
+  abbrev pub IsAmong : State → Bool → Bool → List Formula → Env → Type 0
+  IsAmong s wanted found fs env = IsAmongParts (InType types objects) (atoms s) wanted found fs (frame env).objects
+
+  -- for some objects of the types the formula is as wanted, or for each it is not
+  abbrev pub Finds : State → Bool → Bool → List Param → Formula → Env → Type 0
+  Finds s wanted found ps f env = IsFound (InType types objects) (atoms s) wanted found ps f (frame env).objects
+
+  -- the new state is the one after the effect
+  abbrev pub After : State → Effect → Env → State → Type 0
+  After old e env new = Has new (after (InType types objects) (atoms old) e (frame env).objects)
+
+  -- these are the atoms that the effect adds, or deletes
+  abbrev pub Touched : State → Bool → Effect → Env → List GroundAtom → Type 0
+  Touched s adds e env = Gathers (Touches (InType types objects) (atoms s) adds e (frame env).objects) []
+
+-- what is added, or deleted, by an effect, by effects, and by one with more variables, stands behind the old list
+module _ (world : World) (adds : Bool) where
+  abbrev pub Gets : Effect → Env → List GroundAtom → List GroundAtom → Type 0
+  Gets e env = Gathers (Reads world adds e (frame env))
+
+  abbrev pub GetsEach : List Effect → Env → List GroundAtom → List GroundAtom → Type 0
+  GetsEach es env = Gathers (ReadsEach world adds es (frame env))
+
+  abbrev pub GetsWithin : List Param → Effect → Env → List GroundAtom → List GroundAtom → Type 0
+  GetsWithin ps e env = Gathers (ReadsWithin world adds ps e (frame env))
