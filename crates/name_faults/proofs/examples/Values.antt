@@ -1,0 +1,55 @@
+-- Small raw values for the rows. The words are numbered as they stand in the table.
+use Rattle.std.proofs.Common.{ℕ, true, false, List, [], ◌∷◌, codes}
+use Rattle.htn_base.specs.declared.name.Name.{Name}
+use Rattle.gd_reader.specs.declared.effects.RawEffect.TheVariants as raw_effect
+use Rattle.gd_reader.specs.declared.formulas.RawFormula.TheVariants as raw_formula
+use Rattle.gd_reader.specs.declared.term.RawAtom.{RawAtom}
+use Rattle.gd_reader.specs.declared.term.RawTerm.{RawTerm}
+use Rattle.gd_reader.specs.declared.typed_lists.RawParam.{RawParam}
+use Rattle.gd_reader.specs.Terms.{Names}
+use Rattle.hddl_reader.specs.declared.networks.RawNet.{RawNet}
+use Rattle.hddl_reader.specs.declared.networks.RawPair.{RawPair}
+use Rattle.hddl_reader.specs.declared.networks.RawSub.{RawSub}
+use Rattle.hddl_reader.specs.declared.sections.RawAction.{RawAction}
+use Rattle.hddl_reader.specs.declared.sections.RawDomain.{RawDomain}
+use Rattle.hddl_reader.specs.declared.sections.RawHead.{RawHead}
+use Rattle.hddl_reader.specs.declared.sections.RawMethod.{RawMethod}
+use Rattle.hddl_reader.specs.declared.sections.RawProblem.{RawProblem}
+
+abbrev pub table : Names
+table = codes "object" ∷ codes "a" ∷ codes "b" ∷ codes "c" ∷ codes "x" ∷ []
+
+abbrev pub name : ℕ → Name
+name k = record { number = k }
+
+-- the word of this number at a place, and the variable of that name
+abbrev pub word : ℕ → ℕ → RawTerm
+word k at = record { name = name k; variable = false; at = at }
+
+abbrev pub variable : ℕ → ℕ → RawTerm
+variable k at = record { name = name k; variable = true; at = at }
+
+abbrev pub param : ℕ → List RawTerm → ℕ → RawParam
+param k types at = record { name = name k; ty = types; at = at }
+
+abbrev pub head : ℕ → ℕ → List RawParam → RawHead
+head k at params = record { name = word k at; params = params }
+
+abbrev pub atom : ℕ → ℕ → List RawTerm → RawAtom
+atom k at args = record { head = word k at; args = args }
+
+abbrev pub no_net : RawNet
+no_net = record { subs = []; ordered = false; pairs = []; constraints = [] }
+
+abbrev pub no_domain : RawDomain
+no_domain = record { name = name 0; types = []; constants = []; predicates = []; tasks = []; methods = []; actions = [] }
+
+abbrev pub no_problem : RawProblem
+no_problem = record { name = name 0; objects = []; params = []; net = no_net; init = []; goal = raw_formula.And [] }
+
+-- a method of the task of this word at a place, and an action
+abbrev pub method : RawHead → RawAtom → RawNet → RawMethod
+method h task net = record { head = h; task = task; pre = raw_formula.And []; net = net }
+
+abbrev pub action : RawHead → RawAction
+action h = record { head = h; pre = raw_formula.And []; eff = raw_effect.And [] }
