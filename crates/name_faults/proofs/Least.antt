@@ -101,3 +101,6 @@ module _ (l : Language) (names : Names) (d : RawDomain) (p : RawProblem) where
   pub are_name_codes : AreNameCodes l names d p
   are_name_codes file code at (in_domain f) = domain_codes code at f
   are_name_codes file code at (in_problem f) = problem_codes code at f
+
+pub limit_comes_first : (names : Names) (n : RawNet) → LimitComesFirst names n
+limit_comes_first names n at at' x y = let past = slice_get_within n.subs most_subtasks y.0 y.1 in let within = x.0 in omega arith

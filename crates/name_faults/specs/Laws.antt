@@ -1,11 +1,13 @@
 -- Laws of the faults of names.
-use Rattle.std.specs.Prelude.{ℕ, ◌≡◌, ◌≢◌, ◌≤◌, ◌⊎◌, ◌↔◌}
+use Rattle.std.specs.Prelude.{ℕ, List, ◌≡◌, ◌≢◌, ◌≤◌, ◌⊎◌, ◌↔◌}
 use Rattle.gd_reader.specs.Terms.{Names}
 use Rattle.hddl_reader.specs.declared.networks.RawNet.{RawNet}
 use Rattle.hddl_reader.specs.declared.sections.Language.{Language}
 use Rattle.hddl_reader.specs.declared.sections.RawDomain.{RawDomain}
 use Rattle.hddl_reader.specs.declared.sections.RawProblem.{RawProblem}
-use Rattle.name_faults.specs.Networks.{CyclicOrder, TooManySubtasks}
+use Rattle.hddl_reader.specs.declared.networks.RawPair.{RawPair}
+use Rattle.name_faults.specs.Networks.{IsUnknownId, ClosesOrder, CyclicOrder, TooManySubtasks}
+use Rattle.name_faults.specs.Types.{TypeCycle}
 use Rattle.name_faults.specs.Faults.{HasDomainFault, HasProblemFault, HasNameFault, IsLeast, IsLeastNameFault, HasNoFault, HasNoNameFault}
 
 -- at most one fault is the least of one text
@@ -33,3 +35,14 @@ module _ (l : Language) (names : Names) (d : RawDomain) (p : RawProblem) where
 -- the limit comes before the cycle
 abbrev pub LimitComesFirst : Names → RawNet → Type 0
 LimitComesFirst names n = (at at' : ℕ) → CyclicOrder names n at → TooManySubtasks n at' → ⊥
+
+-- a pair with an unknown id closes no cycle
+abbrev pub UnknownIdsCloseNone : Names → RawNet → Type 0
+UnknownIdsCloseNone names n = (earlier : List RawPair) (x : RawPair) (at : ℕ) → IsUnknownId names n at x.first ⊎ IsUnknownId names n at x.then → ClosesOrder names n earlier x → ⊥
+
+-- one cycle at most is a fault of a network, and one of the types
+abbrev pub OneCycleIsAFault : Names → RawNet → Type 0
+OneCycleIsAFault names n = (at at' : ℕ) → CyclicOrder names n at → CyclicOrder names n at' → at ≡ at'
+
+abbrev pub OneTypeCycleIsAFault : Names → RawDomain → Type 0
+OneTypeCycleIsAFault names d = (at at' : ℕ) → TypeCycle names d at → TypeCycle names d at' → at ≡ at'
