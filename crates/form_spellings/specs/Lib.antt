@@ -2,6 +2,10 @@ pub mod Fresh
 pub mod SpellsSome
 pub mod Exactly
 pub mod OfAllRead
+pub mod EachName
+pub mod EachPart
 pub mod InTable
+pub mod Places
+pub mod ReadOf
 pub mod Bound
 pub mod SpellsBound

@@ -1,10 +1,10 @@
 -- Answers one after another, and what they say of the tokens.
-use Rattle.std.proofs.Common.{◌≡◌, ℕ, Bool, true, false, not, ◌&&◌, ◌==◌, if◌then◌else◌, Result, Ok, Err, Some, None, [], ◌∷◌, refl, sym, ◌∙◌, ap}
+use Rattle.std.proofs.Common.{◌≡◌, ℕ, Bool, true, false, not, ◌&&◌, ◌==◌, if◌then◌else◌, Result, Ok, Err, [], ◌∷◌, refl, ◌∙◌, ap}
 use Rattle.std.proofs.lemmas.Bool.{eqb-true}
 use Rattle.htn_base.specs.Words.{is_reserved}
 use Rattle.text_forms.specs.Placed.{Placed, cut, close, word, list}
 use Rattle.text_forms.specs.Words.{Word}
-use Rattle.form_grammar.specs.Codes.{Form, complete, unfinished, wrong, ◌followed_by◌}
+use Rattle.form_grammar.specs.Codes.{Form, unfinished, wrong, ◌followed_by◌}
 use Rattle.form_grammar.specs.Rows.{Next, go, stop, if_allowed, Row, Rows, form, closed, front}
 use Rattle.form_grammar.specs.Words as words
 use Rattle.gd_reader.specs.declared.stop.Stop.{Stop}

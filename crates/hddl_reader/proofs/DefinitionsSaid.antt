@@ -1,15 +1,15 @@
 -- Domains and problems are answered as the grammar says.
-use Rattle.std.proofs.Common.{◌≡◌, ℕ, Bool, true, false, if◌then◌else◌, Result, Ok, Err, Some, None, [], ◌∷◌, codes, refl, sym, ◌∙◌, ap}
+use Rattle.std.proofs.Common.{◌≡◌, ℕ, Bool, true, false, if◌then◌else◌, Result, Ok, Err, Some, None, codes, refl, sym, ◌∙◌, ap}
 use Rattle.text_forms.specs.Placed.{Placed, cut, close, word, list}
 use Rattle.text_forms.specs.Words.{Word}
-use Rattle.form_grammar.specs.Codes.{Form, wrong, ◌followed_by◌}
+use Rattle.form_grammar.specs.Codes.{wrong}
 use Rattle.form_grammar.specs.Definitions.{definition_form}
-use Rattle.form_grammar.specs.Rows.{Next, go, stop, if_allowed, form}
+use Rattle.form_grammar.specs.Rows.{go, stop, form}
 use Rattle.form_grammar.specs.Sections.{SectionDue, section_rows}
 use Rattle.form_grammar.specs.Sections as grammar
-use Rattle.form_grammar.specs.Texts.{text_form, one_list, the_list, the_end}
+use Rattle.form_grammar.specs.Texts.{text_form, one_list, the_end}
 use Rattle.gd_reader.specs.declared.stop.Stop.{Stop}
-use Rattle.gd_reader.specs.declared.stop.Stop.TheVariants.{Ends, Departs}
+use Rattle.gd_reader.specs.declared.stop.Stop.TheVariants.{Departs}
 use Rattle.gd_reader.specs.Answers.{◌>>=◌, word_due, list_due, end_due}
 use Rattle.gd_reader.specs.Terms.{Names}
 use Rattle.form_faults.specs.Said.{said}

@@ -7,5 +7,5 @@ pub mod DefinitionsSaid
 pub mod NetworkSteps
 pub mod SectionSteps
 pub mod FoldSteps
-pub mod NetworkSteps
 pub mod PartSteps
+pub mod Refusals

@@ -1,9 +1,7 @@
 -- Subtasks, orderings and constraints are answered as the grammar says.
 use Rattle.std.proofs.Common.{◌≡◌, ℕ, Bool, true, false, Result, Ok, Err, Some, None, [], ◌∷◌, codes, refl, sym, ◌∙◌, ap, if◌then◌else◌}
-use Rattle.std.specs.Str.{bytes_eq}
 use Rattle.text_forms.specs.Placed.{Placed, cut, close, word, list}
 use Rattle.text_forms.specs.Words.{Word, is_name}
-use Rattle.form_grammar.specs.Codes.{Form, wrong, ◌followed_by◌}
 use Rattle.form_grammar.specs.Lists.{TermDue, term_rows}
 use Rattle.form_grammar.specs.Lists as due
 use Rattle.form_grammar.specs.Networks.{NetworkDue, of_terms, group, subs, more_subs, sub, behind_id, pairs, more_pairs, pair, id, sign, cons, more_cons, con, equality, sub_word, pair_word, con_word, network_rows}
@@ -12,13 +10,12 @@ use Rattle.form_grammar.specs.Rows as rows
 use Rattle.form_grammar.specs.Words as words
 use Rattle.form_grammar.proofs.Meaning.{form_same}
 use Rattle.gd_reader.specs.declared.stop.Stop.{Stop}
-use Rattle.gd_reader.specs.declared.stop.Stop.TheVariants.{Ends, Departs}
+use Rattle.gd_reader.specs.declared.stop.Stop.TheVariants.{Departs}
 use Rattle.gd_reader.specs.declared.term.RawTerm.{RawTerm}
 use Rattle.gd_reader.specs.Answers.{◌>>=◌, word_due, list_due, end_due}
 use Rattle.gd_reader.specs.Terms.{Names, terms, two_terms, applied, used}
 use Rattle.form_faults.specs.Said.{said}
 use Rattle.form_faults.proofs.TermsSaid.{said_then, said_map, at_next, end_said, terms_said, two_terms_said, applied_said, used_then}
-use Rattle.hddl_reader.specs.declared.networks.RawPair.{RawPair}
 use Rattle.hddl_reader.specs.declared.networks.RawCon.{RawCon}
 use Rattle.hddl_reader.specs.Networks.{Headed, one_of, all_of, some_of, sub_headed, pair_headed, con_headed, con_of, behind_name, name_due, sign_due, then_due, equation, is_word}
 use Rattle.hddl_reader.proofs.Answers.{bound, by_row, row_form, declared_then}

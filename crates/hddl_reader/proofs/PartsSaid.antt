@@ -1,23 +1,20 @@
 -- Parts are answered as the grammar says.
-use Rattle.std.proofs.Common.{◌≡◌, ℕ, Bool, true, false, not, ◌||◌, if◌then◌else◌, Result, Ok, Err, Option, Some, None, List, [], ◌∷◌, codes, refl, sym, ◌∙◌, ap}
+use Rattle.std.proofs.Common.{◌≡◌, ℕ, Bool, true, false, ◌||◌, if◌then◌else◌, Result, Ok, Err, List, [], ◌∷◌, codes, refl, sym, ◌∙◌, ap}
 use Rattle.std.specs.Str.{bytes_eq}
 use Rattle.text_forms.specs.Placed.{Placed, cut, close, word, list}
 use Rattle.text_forms.specs.Words.{Word, is_among}
-use Rattle.form_grammar.specs.Codes.{Form, complete, wrong, ◌followed_by◌}
 use Rattle.form_grammar.specs.Effects.{effect_rows, eff}
 use Rattle.form_grammar.specs.Effects as effects
 use Rattle.form_grammar.specs.Formulas.{gd}
 use Rattle.form_grammar.specs.Lists as due
 use Rattle.form_grammar.specs.Networks.{network_rows, subs, pairs, cons}
-use Rattle.form_grammar.specs.Rows.{Next, go, stop, if_allowed, form, closed}
+use Rattle.form_grammar.specs.Rows.{if_allowed, form, closed}
 use Rattle.form_grammar.specs.Sections.{SectionDue, of_effect, of_network, of_terms_due, typed, group, section_rows, part_table, has_parts}
 use Rattle.form_grammar.specs.Sections as grammar
-use Rattle.form_grammar.specs.Words.{Table, entry, counts_as, by_keyword}
+use Rattle.form_grammar.specs.Words.{Table, counts_as, by_keyword}
 use Rattle.form_grammar.proofs.Meaning.{form_same}
-use Rattle.gd_reader.specs.declared.effects.RawEffect.TheVariants as raw_effect
-use Rattle.gd_reader.specs.declared.formulas.RawFormula.TheVariants as raw_formula
 use Rattle.gd_reader.specs.declared.stop.Stop.{Stop}
-use Rattle.gd_reader.specs.declared.stop.Stop.TheVariants.{Ends, Departs}
+use Rattle.gd_reader.specs.declared.stop.Stop.TheVariants.{Departs}
 use Rattle.gd_reader.specs.declared.typed_lists.ListKind.{ListKind}
 use Rattle.gd_reader.specs.declared.typed_lists.ListKind.TheVariants as list_kind
 use Rattle.gd_reader.specs.Answers.{◌>>=◌, end_due}
@@ -216,7 +213,7 @@ mutual
   parts_said_from (list at p q) kind st names seen fits = refl
   parts_said_from (word at w p) kind st names seen fits =
       (keyword_then section_rows due_of key (reader.part_table kind) (stands st) seen (λ inside. group inside (grammar.parts (parted_of kind) (counts_as w ∷ seen))) at w
-          (λ x. parts_from kind x st names p) p (are_keyed kind) fits (λ x e. behind_said p kind x st names seen w (keyed key (reader.part_table kind) (are_keyed kind) w x e) fits))
+      (λ x. parts_from kind x st names p) p (are_keyed kind) fits (λ x e. behind_said p kind x st names seen w (keyed key (reader.part_table kind) (are_keyed kind) w x e) fits))
       ∙ ap (λ t. at_next section_rows (by_keyword t seen (λ inside. group inside (grammar.parts (parted_of kind) (counts_as w ∷ seen))) w) at p) (sym (same_table kind))
 
   behind_said : (p : Placed) (kind : Parted) (x : Part) (st : RawParts) (names : Names) (seen : List Word) (w : Word) → counts_as w ≡ key x → Fits st seen

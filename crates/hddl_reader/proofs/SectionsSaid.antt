@@ -1,21 +1,19 @@
 -- Sections are answered as the grammar says.
-use Rattle.std.proofs.Common.{◌≡◌, ℕ, Bool, true, false, not, ◌||◌, ◌++◌, if◌then◌else◌, Result, Ok, Err, Option, Some, None, List, [], ◌∷◌, codes, refl, sym, ◌∙◌, ap}
+use Rattle.std.proofs.Common.{◌≡◌, ℕ, Bool, true, false, ◌||◌, ◌++◌, if◌then◌else◌, Result, Ok, Err, Option, Some, None, List, [], ◌∷◌, codes, refl, sym, ◌∙◌, ap}
 use Rattle.std.specs.Str.{bytes_eq}
 use Rattle.std.proofs.lemmas.Slice.Eq.{bytes_eq-Decides}
 use Rattle.text_forms.specs.Placed.{Placed, cut, close, word, list}
 use Rattle.text_forms.specs.Words.{Word, is_among, is_name}
-use Rattle.form_grammar.specs.Codes.{Form, complete, wrong, ◌followed_by◌}
 use Rattle.form_grammar.specs.Effects as effects
 use Rattle.form_grammar.specs.Formulas.{gd}
 use Rattle.form_grammar.specs.Lists as due
-use Rattle.form_grammar.specs.Rows.{Next, go, stop, if_allowed, Row, form, front}
+use Rattle.form_grammar.specs.Rows.{go, if_allowed, form, front}
 use Rattle.form_grammar.specs.Sections.{SectionDue, of_effect, of_terms_due, typed, group, section_rows, section_table, has_sections, seen_behind}
 use Rattle.form_grammar.specs.Sections as grammar
-use Rattle.form_grammar.specs.Words.{Table, entry, counts_as, by_keyword, declared, used}
+use Rattle.form_grammar.specs.Words.{Table, entry, by_keyword, used}
 use Rattle.gd_reader.specs.declared.stop.Stop.{Stop}
-use Rattle.gd_reader.specs.declared.stop.Stop.TheVariants.{Ends, Departs}
+use Rattle.gd_reader.specs.declared.stop.Stop.TheVariants.{Departs}
 use Rattle.gd_reader.specs.declared.term.RawAtom.{RawAtom}
-use Rattle.gd_reader.specs.declared.term.RawTerm.{RawTerm}
 use Rattle.gd_reader.specs.declared.typed_lists.ListKind.TheVariants as list_kind
 use Rattle.gd_reader.specs.declared.words.Sort.{Sort}
 use Rattle.gd_reader.specs.declared.words.Sort.TheVariants as sort
@@ -26,9 +24,9 @@ use Rattle.gd_reader.specs.Terms.{Names}
 use Rattle.gd_reader.specs.Terms as read
 use Rattle.gd_reader.specs.TypedLists.{listed}
 use Rattle.gd_reader.specs.Words.{sort_of}
-use Rattle.form_faults.specs.Said.{said, kind_of}
+use Rattle.form_faults.specs.Said.{said}
 use Rattle.form_faults.proofs.TermsSaid.{said_then, said_map, at_next, end_said, ends_said, passed_said, used_then}
-use Rattle.form_faults.proofs.WordTests.{name_test}
+use Rattle.gd_reader.proofs.Sorts.{name_test}
 use Rattle.hddl_reader.specs.declared.parts.Parted.{Parted}
 use Rattle.hddl_reader.specs.declared.parts.Parted.TheVariants as parted
 use Rattle.hddl_reader.specs.declared.sections.Definition.{Definition}
@@ -39,13 +37,12 @@ use Rattle.hddl_reader.specs.declared.sections.RawSections.{RawSections}
 use Rattle.hddl_reader.specs.declared.sections.Section.{Section}
 use Rattle.hddl_reader.specs.declared.sections.Section.TheVariants as section
 use Rattle.hddl_reader.specs.Networks.{is_word, one_of, all_of}
-use Rattle.hddl_reader.specs.Networks as network
 use Rattle.hddl_reader.specs.Parts.{no_parts, is_there, keyword_by, parts}
 use Rattle.hddl_reader.specs.Sections.{plain_table, hierarchy_table, section_of, no_sections, has_section, words, name_by, dropped_name, predicate_headed, used_names, assignment, fact, facts, named_parts, goal, section_read, section_inside, sections, may_end}
 use Rattle.hddl_reader.specs.Definitions.{language_of, kind_of as definition_of}
-use Rattle.hddl_reader.proofs.Answers.{bound, said_behind, declared_then}
+use Rattle.hddl_reader.proofs.Answers.{said_behind, declared_then}
 use Rattle.hddl_reader.proofs.PartsSaid.{terms_of_section, typed_said, formula_said, parts_said, parted_of, built, by_end}
-use Rattle.hddl_reader.proofs.Standing.{valued, AreKeyed, keyed, keyword_then, lookup, put, has_key, lookup_put}
+use Rattle.hddl_reader.proofs.Standing.{valued, AreKeyed, keyword_then, lookup, put, has_key, lookup_put}
 
 words_said : (p : Placed) → said (words p) ≡ form due.term_rows due.words p
 unfolding words

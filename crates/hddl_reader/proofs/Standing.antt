@@ -4,10 +4,10 @@ use Rattle.std.specs.Str.{bytes_eq}
 use Rattle.std.proofs.lemmas.Slice.Eq.{bytes_eq-Decides}
 use Rattle.text_forms.specs.Placed.{Placed}
 use Rattle.text_forms.specs.Words.{Word, is_among}
-use Rattle.form_grammar.specs.Rows.{Next, go, stop, if_allowed, Rows, form}
+use Rattle.form_grammar.specs.Rows.{Next, if_allowed, Rows, form}
 use Rattle.form_grammar.specs.Words.{Table, entry, is_keyword, unknown, by_keyword, counts_as}
 use Rattle.gd_reader.specs.declared.stop.Stop.{Stop}
-use Rattle.gd_reader.specs.declared.stop.Stop.TheVariants.{Ends, Departs}
+use Rattle.gd_reader.specs.declared.stop.Stop.TheVariants.{Departs}
 use Rattle.gd_reader.specs.Answers.{◌>>=◌}
 use Rattle.std.specs.Prelude.{Result, Ok, Err}
 use Rattle.form_faults.specs.Said.{said}
@@ -53,11 +53,13 @@ keyword_then {X} {Y} {D} {B} rows due key table stands seen leaves at w k q are 
     other : (b : Bool) → said {A = B} (Err (Departs (if b then 6 else 8) at)) ≡ at_next rows (unknown b) at q
     other true = refl
     other false = refl
+
     known : (x : X) (b c : Bool) → c ≡ b → said (k x) ≡ form rows (leaves (due x)) q → said ((if b then Err (Departs 7 at) else Ok x) >>= k) ≡ at_next rows (if_allowed (not c) 7 (leaves (due x))) at q
     known x true true e g = refl
     known x true false e g = let f = e in cc
     known x false true e g = let f = e in cc
     known x false false e g = g
+
     by_entry : (o : Option X) → entry table w ≡ o → said (keyword_by o stands at w >>= k) ≡ at_next rows (next_of seen leaves w (option_map due o)) at q
     by_entry None e = other (is_keyword w)
     by_entry (Some x) e = known x (stands x) (is_among (counts_as w) seen) (ap (λ v. is_among v seen) (keyed key table are w x e) ∙ fits x) (h x e)
@@ -89,6 +91,7 @@ lookup_put k v (e ∷ table) h = by_key (lookup_put k v table) (bytes_eq k e.0) 
         apart : (c : Bool) → bytes_eq v k ≡ c → bytes_eq v e.0 ≡ true → c ≡ false
         apart false a b = refl
         apart true a b = absurd (let d : true ≡ false = sym ((bytes_eq-Decides k k).1 refl) ∙ subst (λ u. bytes_eq k u ≡ false) (sym ((bytes_eq-Decides v e.0).0 b) ∙ (bytes_eq-Decides v k).0 a) f in cc)
+
         other : (c : Bool) → bytes_eq v e.0 ≡ c → ◌≡◌ {A = Bool} (elim (if c then Some e.1 else entry (put k table) v) [ None ↦ false | Some b ↦ b ])
             (bytes_eq v k || elim (if c then Some e.1 else entry table v) [ None ↦ false | Some b ↦ b ])
         other true a = ap (λ b. b || e.1) (sym (apart (bytes_eq v k) refl a))

@@ -1,5 +1,6 @@
 ghost use Rattle.htn_base.specs.Words.{folded};
 ghost use Rattle.text_forms.specs.Placed.{parts_at};
+ghost use Rattle.gd_reader.specs.Added.{AddsOf};
 ghost use Rattle.gd_reader.specs.Answers.{Gives, GivesWith};
 ghost use Rattle.gd_reader.specs.Terms.{Keeps};
 ghost use Rattle.hddl_reader.specs.Sections.{words, dropped_name, used_names, assignment, fact, facts, goal};
@@ -48,6 +49,7 @@ fn used_names_of(
     names: &mut NameTable,
 ) -> Result<List<RawTerm>, Failure>
     ensures keeps { Keeps names.old names.new }
+    ensures adds { AddsOf s.now names.old names.new }
     ensures gives { GivesWith names.new result (used_names names.old (parts_at s.now i)) }
 {
     let mut used = List::new(alloc);
@@ -79,6 +81,7 @@ fn fact_of(
     names: &mut NameTable,
 ) -> Result<Option<RawAtom>, Failure>
     ensures keeps { Keeps names.old names.new }
+    ensures adds { AddsOf s.now names.old names.new }
     ensures gives { GivesWith names.new result (fact names.old (parts_at s.now i)) }
 {
     let (at, word, i) = word_due(s, i)?;
@@ -101,6 +104,7 @@ pub(crate) fn facts_of(
     names: &mut NameTable,
 ) -> Result<List<RawAtom>, Failure>
     ensures keeps { Keeps names.old names.new }
+    ensures adds { AddsOf s.now names.old names.new }
     ensures gives { GivesWith names.new result (facts names.old (parts_at s.now i)) }
 {
     let mut facts = List::new(alloc);
@@ -122,6 +126,7 @@ pub(crate) fn goal_of(
     names: &mut NameTable,
 ) -> Result<RawFormula, Failure>
     ensures keeps { Keeps names.old names.new }
+    ensures adds { AddsOf s.now names.old names.new }
     ensures gives { GivesWith names.new result (goal names.old (parts_at s.now i)) }
 {
     let (inside, behind) = list_due(s, i)?;

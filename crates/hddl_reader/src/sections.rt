@@ -1,20 +1,20 @@
-ghost use Rattle.std.specs.Prelude.{◌≡◌, IfOk};
+ghost use Rattle.std.specs.Prelude.{◌≡◌, IfOk, IfSome};
+ghost use Rattle.std.specs.Option.{option_map};
 ghost use Rattle.htn_base.specs.Words.{folded};
 ghost use Rattle.text_forms.specs.Placed.{parts_at};
-ghost use Rattle.gd_reader.specs.Answers.{Gives, GivesWith};
-ghost use Rattle.gd_reader.specs.Terms.{Keeps};
 ghost use Rattle.form_grammar.specs.Words.{entry};
+ghost use Rattle.gd_reader.specs.Answers.{Gives};
+ghost use Rattle.gd_reader.specs.Shown.{AreLater, parts_at_both};
 ghost use Rattle.hddl_reader.specs.Parts.{keyword_by};
 ghost use Rattle.hddl_reader.specs.declared.sections.Language.TheVariants as language;
-ghost use Rattle.hddl_reader.specs.Sections.{or_none, or_true, or_nothing, head_of, network_of, action_of, method_of, plain_table, hierarchy_table, section_of, no_sections, has_section, may_end, named_parts, predicate_headed, section_read, sections};
+ghost use Rattle.hddl_reader.specs.Sections.{or_none, or_true, or_nothing, head_of, network_of, action_of, method_of, plain_table, hierarchy_table, section_of, no_sections, has_section, may_end, predicate_headed, section_due};
 
-use crate::facts::{dropped_name, facts_of, goal_of, words_of};
-use crate::items::{Item, all_of};
+use crate::items::Item;
 use crate::networks::{RawNet, declared_of};
-use crate::parts::{Parted, RawParts, parts_of, unknown};
+use crate::parts::{RawParts, unknown};
 use gd_reader::{
-    Failure, ListKind, RawAtom, RawEffect, RawFormula, RawParam, RawTerm, Stop, is_word,
-    list_or_end, params_of, pass, word_due,
+    Failure, Item as Shown, ListKind, RawAtom, RawEffect, RawFormula, RawParam, RawTerm, Stop,
+    is_word, item_at, params_of,
 };
 use htn_base::{List, Name, NameTable};
 use sexpr_text::Sexprs;
@@ -117,7 +117,7 @@ pub struct RawProblem {
     pub goal: RawFormula,
 }
 
-fn or_none<T>(alloc: Global, list: Option<List<T>>) -> List<T>
+pub(crate) fn or_none<T>(alloc: Global, list: Option<List<T>>) -> List<T>
     ensures { result ≡ or_none list }
 {
     match list {
@@ -126,7 +126,7 @@ fn or_none<T>(alloc: Global, list: Option<List<T>>) -> List<T>
     }
 }
 
-fn or_true(alloc: Global, formula: Option<RawFormula>) -> RawFormula
+pub(crate) fn or_true(alloc: Global, formula: Option<RawFormula>) -> RawFormula
     ensures { result ≡ or_true formula }
 {
     match formula {
@@ -146,7 +146,7 @@ fn or_nothing(alloc: Global, effect: Option<RawEffect>) -> RawEffect
 
 impl RawParts {
     /// A declared name with these parameters.
-    fn into_head(self, alloc: Global, name: RawTerm) -> RawHead
+    pub(crate) fn into_head(self, alloc: Global, name: RawTerm) -> RawHead
         ensures { result ≡ head_of name self }
     {
         RawHead {
@@ -156,7 +156,7 @@ impl RawParts {
     }
 
     /// An action of this name with these parts.
-    fn into_action(self, alloc: Global, name: RawTerm) -> RawAction
+    pub(crate) fn into_action(self, alloc: Global, name: RawTerm) -> RawAction
         ensures { result ≡ action_of name self }
     {
         let params = or_none(alloc, self.params);
@@ -168,7 +168,7 @@ impl RawParts {
     }
 
     /// A method of this name with these parts, where its task is among them.
-    fn into_method(self, alloc: Global, name: RawTerm) -> Option<RawMethod>
+    pub(crate) fn into_method(self, alloc: Global, name: RawTerm) -> Option<RawMethod>
         ensures { result ≡ method_of name self }
     {
         let task = self.task?;
@@ -288,7 +288,7 @@ fn section_of(language: Language, definition: Definition, word: &[u8]) -> Option
 
 impl RawSections {
     /// No sections yet.
-    fn new(alloc: Global) -> RawSections
+    pub(crate) fn new(alloc: Global) -> RawSections
         ensures empty { result ≡ no_sections }
     {
         RawSections {
@@ -341,8 +341,8 @@ impl RawSections {
         }
     }
 
-    // The section that a word names, unless it stands already and may stand once.
-    fn keyword(
+    /// The section that a word names, unless it stands already and may stand once.
+    pub(crate) fn keyword(
         &self,
         language: Language,
         definition: Definition,
@@ -360,86 +360,25 @@ impl RawSections {
         }
     }
 
-    // Puts a section with what stands behind its keyword, from token `i` on.
-    #[tactic(auto, using(gd_reader::proofs::Keeping::keeps_same, gd_reader::proofs::Keeping::keeps_then), unfolding(crate::specs::Sections::section_read))]
-    fn read_section(
-        &mut self,
-        alloc: Global,
+    /// The section that is next, as the numbers of the token that comes first in it and of the one behind it; or
+    /// `None` at the end of the sections.
+    #[tactic(auto, unfolding(crate::specs::Sections::section_due))]
+    pub(crate) fn section_due(
+        &self,
         s: &Sexprs<'_>,
-        section: Section,
         i: u32,
-        names: &mut NameTable,
-    ) -> Result<(), Failure>
-        ensures keeps { Keeps names.old names.new }
-        ensures gives { Gives (λ _. (self.new, names.new)) result
-            (section_read section self.old names.old (parts_at s.now i)) }
+        language: Language,
+        definition: Definition,
+    ) -> Result<Option<(u32, u32)>, Failure>
+        ensures gives { Gives (option_map (parts_at_both s.now)) result
+            (section_due language definition self.now (parts_at s.now i)) }
+        ensures later { IfOk result (λ o. IfSome o (AreLater s.now i)) }
     {
-        match section {
-            Section::Requirements => {
-                words_of(s, i)?;
-                self.requirements = true;
-            }
-            Section::Types => {
-                let (types, _) = params_of(alloc, s, i, ListKind::Types, names)?;
-                self.types = Some(types);
-            }
-            Section::Constants => {
-                let (constants, _) = params_of(alloc, s, i, ListKind::Objects, names)?;
-                self.constants = Some(constants);
-            }
-            Section::Predicates => self.predicates = Some(all_of(alloc, s, i, names)?),
-            Section::Functions => {
-                pass(s, i)?;
-                self.functions = true;
-            }
-            Section::Task => {
-                let (name, parts) = named_parts(alloc, s, i, Parted::Task, names)?;
-                self.tasks.push(parts.into_head(alloc, name))?;
-            }
-            Section::Method => {
-                let (name, parts) = named_parts(alloc, s, i, Parted::Method, names)?;
-                if let Some(method) = parts.into_method(alloc, name) {
-                    self.methods.push(method)?;
-                }
-            }
-            Section::Action => {
-                let (name, parts) = named_parts(alloc, s, i, Parted::Action, names)?;
-                self.actions.push(parts.into_action(alloc, name))?;
-            }
-            Section::Domain => {
-                dropped_name(s, i)?;
-                self.domain = true;
-            }
-            Section::Objects => {
-                let (objects, _) = params_of(alloc, s, i, ListKind::Objects, names)?;
-                self.objects = Some(objects);
-            }
-            Section::Network => self.network = Some(parts_of(alloc, s, i, Parted::Network, names)?),
-            Section::Init => self.init = Some(facts_of(alloc, s, i, names)?),
-            Section::Goal => self.goal = Some(goal_of(alloc, s, i, names)?),
-            Section::Metric => {
-                pass(s, i)?;
-                self.metric = true;
-            }
+        match item_at(s, i) {
+            Shown::End => Err(Failure::At(Stop::Ends)),
+            Shown::Close(_) if self.may_end(language, definition) => Ok(None),
+            Shown::Close(at) | Shown::Word(at, _) => Err(Failure::At(Stop::Departs(8, at))),
+            Shown::List(_, inside, behind) => Ok(Some((inside, behind))),
         }
-        Ok(())
     }
-}
-
-// A declared name with its parts, from token `i` up to their end.
-#[tactic(auto, using(gd_reader::proofs::Keeping::keeps_same, gd_reader::proofs::Keeping::keeps_then), unfolding(crate::specs::Sections::named_parts))]
-fn named_parts(
-    alloc: Global,
-    s: &Sexprs<'_>,
-    i: u32,
-    kind: Parted,
-    names: &mut NameTable,
-) -> Result<(RawTerm, RawParts), Failure>
-    ensures keeps { Keeps names.old names.new }
-    ensures gives { GivesWith names.new result (named_parts kind names.old (parts_at s.now i)) }
-{
-    let (at, word, i) = word_due(s, i)?;
-    let name = declared_of(names, 8, at, word)?;
-    let parts = parts_of(alloc, s, i, kind, names)?;
-    Ok((name, parts))
 }

@@ -1,11 +1,11 @@
-use Rattle.std.proofs.Common.{Some, None, ap, sym, ◌∙◌, [], ◌++◌}
+use Rattle.std.proofs.Common.{Some, None, ap, sym, ◌∙◌}
 use Rattle.std.proofs.lemmas.List.{append-nil}
 use Rattle.std.proofs.lemmas.Result.{err_from_is_err_and}
 use Rattle.text_forms.specs.Placed.{parts_at}
 use Rattle.gd_reader.specs.Answers.{with_front}
 use Rattle.gd_reader.proofs.Keeping.{keeps_then}
 use Rattle.gd_reader.proofs.Steps.{is_none}
-use Rattle.hddl_reader.specs.Sections.{facts, with_kept}
+use Rattle.hddl_reader.specs.Sections.{facts}
 use Rattle.hddl_reader.proofs.SectionSteps.{facts_end, facts_stuck, facts_stop, facts_next}
 use Rattle.hddl_reader.proofs.facts.facts_of.Goals as goal
 
@@ -29,6 +29,7 @@ loop-facts-preserved-in_ok-push c =
     let read = c.in_ok-fact.ensures.gives in
     let pushed = c.in_ok-push.ensures.pushed in
     record {
+      adds = λ all h old. c.in_ok-fact.ensures.adds all h (c.loop-facts.invariant.adds all h old);
       keeps = keeps_then c.args.names.now c.loop-facts.names c.fact_of.new.names c.loop-facts.invariant.keeps c.in_ok-fact.ensures.keeps;
       rest = rw pushed (facts_next c.loop-facts.facts c.loop-facts.names (parts_at c.args.s.now c.loop-facts.i) (facts c.args.names.now (parts_at c.args.s.now c.args.i)) c.loop-facts.invariant.rest (parts_at c.args.s.now c.in-Some.inside, parts_at c.args.s.now c.in-Some.behind) (Some c.in-Some-2.fact) c.fact_of.new.names (rw is at gives) (rw some at read));
     }
@@ -40,6 +41,7 @@ loop-facts-preserved c =
     let never = c.in_default-2.not-Some in
     let read = c.in_ok-fact.ensures.gives in
     record {
+      adds = λ all h old. c.in_ok-fact.ensures.adds all h (c.loop-facts.invariant.adds all h old);
       keeps = keeps_then c.args.names.now c.loop-facts.names c.fact_of.new.names c.loop-facts.invariant.keeps c.in_ok-fact.ensures.keeps;
       rest = ap (λ (l : _). with_front l (facts c.fact_of.new.names (parts_at c.args.s.now c.in-Some.behind))) (sym (append-nil c.loop-facts.facts)) ∙ facts_next c.loop-facts.facts c.loop-facts.names (parts_at c.args.s.now c.loop-facts.i) (facts c.args.names.now (parts_at c.args.s.now c.args.i)) c.loop-facts.invariant.rest (parts_at c.args.s.now c.in-Some.inside, parts_at c.args.s.now c.in-Some.behind) None c.fact_of.new.names (rw is at gives) (rw (is_none c.in_ok-fact.field-0 never) at read);
     }

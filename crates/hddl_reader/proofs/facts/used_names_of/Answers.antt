@@ -25,7 +25,10 @@ loop-used-preserved c =
     let is = c.in-Some.is in
     let gives = c.in_ok-at.ensures.gives in
     let pushed = c.in_ok-push.ensures.pushed in
+    let said = c.in_ok-at.ensures.said in
+    let says = rw is at said in
     record {
+      adds = λ all h old. c.in_ok-name.ensures.adds all (says all h) (c.loop-used.invariant.adds all h old);
       keeps = keeps_then c.args.names.now c.loop-used.names c.used_of.new.names c.loop-used.invariant.keeps c.in_ok-name.ensures.keeps;
       rest = rw pushed (all_next word_or_end met_behind used_met used_names used_names_is c.loop-used.used c.loop-used.names (parts_at c.args.s.now c.loop-used.i) (used_names c.args.names.now (parts_at c.args.s.now c.args.i)) c.loop-used.invariant.rest (c.in-Some.at, folded c.in-Some.word.now, parts_at c.args.s.now c.in-Some.behind) c.in_ok-name.name c.used_of.new.names (rw is at gives) c.in_ok-name.ensures.gives);
     }
