@@ -1,15 +1,15 @@
 -- The first item of a list for which something holds is one item; what holds of one in the middle.
-use Rattle.std.proofs.Common.{ℕ, ◌≡◌, ◌⊎◌, inl, inr, List, [], ◌∷◌, ◌++◌, length, refl, ap, sym, subst, ◌∙◌, arith}
+use Rattle.std.proofs.Common.{ℕ, ◌≡◌, ◌⊎◌, inl, inr, List, [], ◌∷◌, ◌++◌, Option, Some, None, length, length-append, refl, ap, sym, subst, ◌∙◌, arith}
+use Rattle.text_forms.specs.Words.{Word}
 use Rattle.gd_reader.specs.declared.typed_lists.RawParam.{RawParam}
 use Rattle.gd_reader.specs.Terms.{Names}
 use Rattle.hddl_reader.specs.declared.networks.RawNet.{RawNet}
 use Rattle.hddl_reader.specs.declared.networks.RawPair.{RawPair}
 use Rattle.hddl_reader.specs.declared.networks.RawSub.{RawSub}
-use Rattle.hddl_reader.specs.declared.sections.RawDomain.{RawDomain}
 use Rattle.gd_reader.specs.declared.term.RawTerm.{RawTerm}
 use Rattle.name_faults.specs.Lists.{One, IsFirst}
-use Rattle.name_faults.specs.Words.{term_word}
-use Rattle.name_faults.specs.Networks.{HasId, IsSubtask, IsUnknownId, ClosesOrder}
+use Rattle.name_faults.specs.Words.{WordAt, term_word}
+use Rattle.name_faults.specs.Networks.{id_at, HasId, IsSubtask, IsUnknownId, ClosesOrder}
 use Rattle.name_faults.specs.Types.{ClosesCycle}
 use Rattle.name_faults.specs.Laws.{UnknownIdsCloseNone, OneCycleIsAFault, OneTypeCycleIsAFault}
 
@@ -60,5 +60,34 @@ module _ (names : Names) (n : RawNet) where
   pub one_cycle_is_a_fault : OneCycleIsAFault names n
   one_cycle_is_a_fault at at' a b = sym a.1.1 ∙ (ap (λ (x : RawPair). x.at) (one_is_first (ClosesOrder names n) n.pairs a.1.0 b.1.0 a.1.2 b.1.2) ∙ b.1.1)
 
-pub one_type_cycle_is_a_fault : (names : Names) (d : RawDomain) → OneTypeCycleIsAFault names d
+pub one_type_cycle_is_a_fault : OneTypeCycleIsAFault
 one_type_cycle_is_a_fault names d at at' a b = sym a.1 ∙ (ap (λ (x : RawParam). x.at) (one_is_first (ClosesCycle names) d.types a.0 b.0 a.2 b.2) ∙ b.1)
+
+-- a subtask has one id at most
+one_id : (names : Names) (s : RawSub) (v w : Word) → HasId names v s → HasId names w s → v ≡ w
+one_id names s v w h k = same s.id h k
+  where
+    same : (id : Option RawTerm) → One (λ (x : WordAt). x.word ≡ v) (id_at names id) → One (λ (x : WordAt). x.word ≡ w) (id_at names id) → v ≡ w
+    same None h k = absurd h
+    same (Some t) (inl e) (inl f) = sym e ∙ f
+    same (Some t) (inl e) (inr none) = absurd none
+    same (Some t) (inr none) k = absurd none
+
+module _ (names : Names) (n : RawNet) where
+  -- one subtask is of one id
+  pub same_id : (t u : RawTerm) (i : ℕ) → IsSubtask names n t i → IsSubtask names n u i → term_word names t ≡ term_word names u
+  same_id t u i a b = met (fronts a.front a.rest a.sub b.front b.rest b.sub (sym a.parts ∙ b.parts))
+    where
+      met : Meet a.front a.sub b.front b.sub → term_word names t ≡ term_word names u
+      met (inl e) = one_id names a.sub (term_word names t) (term_word names u) a.has_id (subst (HasId names (term_word names u)) (sym e.1) b.has_id)
+      met (inr (inl m)) = absurd (let l = ap length m.1 in let p = a.number in let q = b.number in let r = length-append a.front (a.sub ∷ m.0) in omega arith)
+      met (inr (inr m)) = absurd (let l = ap length m.1 in let p = a.number in let q = b.number in let r = length-append b.front (b.sub ∷ m.0) in omega arith)
+
+  -- one id is of one subtask
+  pub same_subtask : (t : RawTerm) (i j : ℕ) → IsSubtask names n t i → IsSubtask names n t j → i ≡ j
+  same_subtask t i j a b = met (fronts a.front a.rest a.sub b.front b.rest b.sub (sym a.parts ∙ b.parts))
+    where
+      met : Meet a.front a.sub b.front b.sub → i ≡ j
+      met (inl e) = sym a.number ∙ (ap length e.0 ∙ b.number)
+      met (inr (inl m)) = absurd (b.none_before (subst (One (HasId names (term_word names t))) (sym m.1) (one_in_middle (HasId names (term_word names t)) a.front a.sub m.0 a.has_id)))
+      met (inr (inr m)) = absurd (a.none_before (subst (One (HasId names (term_word names t))) (sym m.1) (one_in_middle (HasId names (term_word names t)) b.front b.sub m.0 b.has_id)))

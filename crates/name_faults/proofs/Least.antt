@@ -1,5 +1,5 @@
 -- The least fault is one, and stands in the domain where the domain has one.
-use Rattle.std.proofs.Common.{ℕ, ◌≡◌, ◌≢◌, ◌<◌, ◌≤◌, ◌⊎◌, ◌↔◌, inl, inr, refl, sym, subst, arith}
+use Rattle.std.proofs.Common.{ℕ, ◌≡◌, ◌≢◌, ◌<◌, ◌≤◌, ◌⊎◌, inl, inr, refl, sym, subst, arith}
 use Rattle.std.proofs.lemmas.Option.{slice_get_within}
 use Rattle.gd_reader.specs.Terms.{Names}
 use Rattle.hddl_reader.specs.declared.networks.RawNet.{RawNet}
@@ -7,8 +7,8 @@ use Rattle.hddl_reader.specs.declared.sections.Language.{Language}
 use Rattle.hddl_reader.specs.declared.sections.RawDomain.{RawDomain}
 use Rattle.hddl_reader.specs.declared.sections.RawProblem.{RawProblem}
 use Rattle.name_faults.specs.Networks.{most_subtasks}
-use Rattle.name_faults.specs.Faults.{HasDomainFault, HasProblemFault, HasNameFault, in_domain, in_problem, IsInFront, IsLeast, IsLeastNameFault, HasNoFault, HasNoNameFault}
-use Rattle.name_faults.specs.Laws.{OneIsLeast, OneIsLeastName, IsLeastByFile, IsNoneByFile, AreNameCodes, LimitComesFirst}
+use Rattle.name_faults.specs.Faults.{HasDomainFault, HasProblemFault, HasNameFault, in_domain, in_problem, IsInFront, IsLeast, IsLeastNameFault, HasNoFault}
+use Rattle.name_faults.specs.Laws.{OneIsLeast, OneIsLeastOfBoth, IsLeastByFile, IsNoneByFile, AreNameCodes, LimitComesFirst}
 
 in_front_of_each_other : (code at code' at' : ℕ) → IsInFront code at code' at' → IsInFront code' at' code at → (code ≡ code') × (at ≡ at')
 in_front_of_each_other code at code' at' (inl l) (inl m) = absurd (omega arith)
@@ -27,7 +27,7 @@ module _ (l : Language) (names : Names) (d : RawDomain) (p : RawProblem) where
   files file code at file' code' at' (inr l) (inl m) = absurd (let e = l.0 in omega arith)
   files file code at file' code' at' (inr l) (inr m) = (l.0, in_front_of_each_other code at code' at' l.1 m.1)
 
-  pub one_is_least_name : OneIsLeastName l names d p
+  pub one_is_least_name : OneIsLeastOfBoth l names d p
   one_is_least_name file code at file' code' at' x y = files file code at file' code' at' (x.least file' code' at' y.is) (y.least file code at x.is)
 
   none_of_files : HasNoFault (HasDomainFault l names d) × HasNoFault (HasProblemFault names d p) → (file code at : ℕ) → HasNameFault l names d p file code at → ⊥

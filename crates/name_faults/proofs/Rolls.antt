@@ -1,5 +1,5 @@
 -- What stands in a formula or an effect, one level at a time.
-use Rattle.std.proofs.Common.{◌≡◌, ◌⊎◌, ◌++◌, List, [], ◌∷◌, map, refl, ap, sym, subst}
+use Rattle.std.proofs.Common.{◌≡◌, ◌⊎◌, List, [], ◌∷◌, map, refl, ap, sym, subst}
 use Rattle.gd_reader.specs.declared.formulas.RawFormula.{RawFormula, roll-RawFormula}
 use Rattle.gd_reader.specs.declared.formulas.RawFormula.TheFolds.{rec-roll-RawFormula, map-RawFormula}
 use Rattle.gd_reader.specs.declared.formulas.RawFormula.TheOpen.{RawFormula-F}
@@ -8,7 +8,7 @@ use Rattle.gd_reader.specs.declared.effects.RawEffect.TheFolds.{rec-roll-RawEffe
 use Rattle.gd_reader.specs.declared.effects.RawEffect.TheOpen.{RawEffect-F}
 use Rattle.gd_reader.specs.Terms.{Names}
 use Rattle.name_faults.specs.Lists.{One}
-use Rattle.name_faults.specs.Uses.{Scope, Use, IsDeclared, variables, formula_step, InFormula, effect_step, InEffect}
+use Rattle.name_faults.specs.Uses.{Scope, Use, formula_step, InFormula, effect_step, InEffect}
 
 one-map : {X Y : Type 0} (u : X → Y) (P : Y → Type 0) (xs : List X) → One (λ x. P (u x)) xs ≡ One P (map u xs)
 one-map u P [] = refl

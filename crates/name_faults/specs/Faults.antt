@@ -1,6 +1,6 @@
 -- The faults of names in a domain and in a problem, one sentence for each code; the least; and none.
 -- Source: this project's.
-use Rattle.std.specs.Prelude.{ℕ, ◌≡◌, ◌<◌, ◌≤◌, ◌⊎◌, List, [], ◌∷◌, ◌++◌, map}
+use Rattle.std.specs.Prelude.{ℕ, ◌≡◌, ◌<◌, ◌≤◌, ◌⊎◌, List, [], ◌++◌, map}
 use Rattle.text_forms.specs.Words.{Word}
 use Rattle.gd_reader.specs.Terms.{Names}
 use Rattle.hddl_reader.specs.declared.networks.RawNet.{RawNet}
@@ -34,7 +34,7 @@ pub data DuplicateInProblem (names : Names) (d : RawDomain) (p : RawProblem) (at
 abbrev pub OfNetworks : (RawNet → Type 0) → RawDomain → Type 0
 OfNetworks P d = One (λ (m : RawMethod). P m.net) d.methods
 
--- A domain names its own constants only.
+-- The faults of a domain, each at its place and with its code. It names its own constants only.
 pub data HasDomainFault (l : Language) (names : Names) (d : RawDomain) (at : ℕ) : ℕ → Type 0 where
   duplicate_name : DuplicateInDomain names d at → HasDomainFault l names d at 10
   unknown_type : UnknownType names d (InDomain names d) (constants names d) at → HasDomainFault l names d at 11
@@ -53,6 +53,7 @@ pub data HasDomainFault (l : Language) (names : Names) (d : RawDomain) (at : ℕ
 abbrev pub objects : Names → RawDomain → RawProblem → List Word
 objects names d p = constants names d ++ map (param_word names) p.objects
 
+-- the faults of a problem, beside its domain; types, predicates, tasks and actions are the domain's
 pub data HasProblemFault (names : Names) (d : RawDomain) (p : RawProblem) (at : ℕ) : ℕ → Type 0 where
   duplicate_name : DuplicateInProblem names d p at → HasProblemFault names d p at 10
   unknown_type : UnknownType names d (InProblem names p) (objects names d p) at → HasProblemFault names d p at 11

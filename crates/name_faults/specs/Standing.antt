@@ -1,6 +1,6 @@
 -- What stands in a domain and in a problem: each declaration and each use, with the variables in force there.
 -- Source: Höller et al., "HDDL", AAAI 2020: the parameters of a method or an action are in force in all its parts.
-use Rattle.std.specs.Prelude.{◌≡◌, ◌⊎◌, ◌++◌, List, []}
+use Rattle.std.specs.Prelude.{◌≡◌, ◌⊎◌, []}
 use Rattle.gd_reader.specs.Terms.{Names}
 use Rattle.hddl_reader.specs.declared.networks.RawNet.{RawNet}
 use Rattle.hddl_reader.specs.declared.networks.RawSub.{RawSub}

@@ -3,7 +3,6 @@
 use Rattle.std.specs.Prelude.{ℕ, ◌≡◌, ◌≢◌, ◌<◌, ◌⊎◌, ◌↔◌, List, [], ◌∷◌, ◌++◌, map, length, codes}
 use Rattle.htn_base.specs.Different.{AreDifferent}
 use Rattle.text_forms.specs.Words.{Word}
-use Rattle.gd_reader.specs.declared.term.RawTerm.{RawTerm}
 use Rattle.gd_reader.specs.declared.typed_lists.RawParam.{RawParam}
 use Rattle.gd_reader.specs.Terms.{Names}
 use Rattle.hddl_reader.specs.declared.sections.Language.{Language}
@@ -17,7 +16,7 @@ pub data Leads (Pair : Word → Word → Type 0) (v : Word) : Word → Type 0 wh
   direct : {w : Word} → Pair v w → Leads Pair v w
   through : {w x : Word} → Leads Pair v w → Pair w x → Leads Pair v x
 
--- so many types other than object there may be; the printed PDDL has two more than its source
+-- so many types other than object there may be; a PDDL domain may be a printed one, which has two more
 abbrev pub most_types : Language → ℕ
 most_types Hddl = 1000
 most_types Pddl = 1002

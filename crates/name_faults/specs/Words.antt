@@ -1,6 +1,6 @@
 -- Words at places: the declarations of a text.
 -- Source: this project's; offsets are in bytes from 0.
-use Rattle.std.specs.Prelude.{ℕ, ◌≡◌, ◌<◌, ◌⊎◌, List, [], ◌∷◌, ◌++◌, map}
+use Rattle.std.specs.Prelude.{ℕ, ◌≡◌, ◌<◌, ◌⊎◌, List, ◌++◌, map}
 use Rattle.htn_base.specs.declared.name.Name.{Name}
 use Rattle.text_forms.specs.Words.{Word, word_at}
 use Rattle.gd_reader.specs.declared.term.RawTerm.{RawTerm}

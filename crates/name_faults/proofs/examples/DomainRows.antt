@@ -1,5 +1,5 @@
 -- A domain with each fault, and one without: duplicate names, types, predicates, tasks, objects, variables and arities.
-use Rattle.std.proofs.Common.{ℕ, zero, suc, ◌≡◌, ◌<◌, ◌≤◌, inl, inr, true, false, List, [], ◌∷◌, codes, refl, sym, ap, ◌∙◌, ◌≢◌, arith}
+use Rattle.std.proofs.Common.{ℕ, ◌≡◌, ◌<◌, inl, inr, List, [], ◌∷◌, None, codes, refl, sym, ap, subst, ◌∙◌, ◌≢◌, arith}
 use Rattle.htn_base.proofs.DifferentLemmas.{different-one}
 use Rattle.gd_reader.specs.declared.formulas.RawFormula.{RawFormula}
 use Rattle.gd_reader.specs.declared.formulas.RawFormula.TheOpen.{RawFormula-F}
@@ -7,20 +7,20 @@ use Rattle.gd_reader.specs.declared.formulas.RawFormula.TheVariants as raw
 use Rattle.gd_reader.specs.declared.formulas.RawFormula.TheVariants.{rolls-Holds, rolls-Exists}
 use Rattle.gd_reader.specs.declared.term.RawAtom.{RawAtom}
 use Rattle.gd_reader.specs.declared.term.RawTerm.{RawTerm}
+use Rattle.hddl_reader.specs.declared.networks.RawNet.{RawNet}
 use Rattle.hddl_reader.specs.declared.sections.Language.TheVariants.{Hddl}
 use Rattle.hddl_reader.specs.declared.sections.RawAction.{RawAction}
 use Rattle.hddl_reader.specs.declared.sections.RawDomain.{RawDomain}
-use Rattle.hddl_reader.specs.declared.sections.RawHead.{RawHead}
 use Rattle.text_forms.specs.Words.{Word}
 use Rattle.name_faults.specs.Lists.{One, Has}
-use Rattle.name_faults.specs.Words.{IsSecond, WordAt, callables, head_at}
-use Rattle.name_faults.specs.Uses.{Scope, Use, IsOfAtom, applies, refers, predicate, subtask, task, InFormula}
+use Rattle.name_faults.specs.Words.{IsSecond, WordAt, term_word}
+use Rattle.name_faults.specs.Uses.{Scope, Use, IsOfAtom, declares, applies, refers, predicate, subtask, task, InFormula}
 use Rattle.name_faults.specs.Standing.{InAction, InMethod, InDomain}
-use Rattle.name_faults.specs.Named.{IsUnknown, HasWrongArity}
+use Rattle.name_faults.specs.Named.{UnknownType, IsUnknown, HasWrongArity}
 use Rattle.name_faults.specs.Types.{IsType, TypeCycle, Leads, direct, through, ClosesCycle, IsOneTooMany, AreTypesBefore, mentioned}
 use Rattle.name_faults.specs.Faults.{HasDomainFault, DuplicateInDomain, constants}
 use Rattle.name_faults.proofs.Rolls.{formula_roll}
-use Rattle.name_faults.proofs.examples.Values.{table, name, word, variable, param, head, atom, no_net, no_domain, method, action, is_first, is_second}
+use Rattle.name_faults.proofs.examples.Values.{table, word, variable, param, head, atom, no_net, no_domain, method, action, is_first, is_second, first_of_one}
 
 abbrev HasFault : RawDomain → ℕ → ℕ → Type 0
 HasFault d at code = HasDomainFault Hddl table d at code
@@ -51,6 +51,30 @@ type_has_11 = HasDomainFault.unknown_type ([], param 4 (word 2 30 ∷ []) 28, In
     lacks (inr (inl e)) = grind arith
     lacks (inr (inr none)) = none
 
+-- of a type that is known
+abbrev of_known_type : RawDomain
+of_known_type = record no_domain { types = param 2 [] 5 ∷ []; constants = param 4 (word 2 30 ∷ []) 28 ∷ [] }
+
+abbrev types_of : Use → List RawTerm
+types_of (declares x) = x.ty
+types_of (applies kind a) = []
+types_of (refers t) = []
+
+known_type_has_none : (at : ℕ) → UnknownType table of_known_type (InDomain table of_known_type) [] at → ⊥
+known_type_has_none at f = stands (f.2, f.3)
+  where
+    lacks : One (λ (t : RawTerm). (t.at ≡ at) × (IsType table of_known_type (term_word table t) → ⊥)) (word 2 30 ∷ []) → ⊥
+    lacks (inl (e, none)) = none (inr (inl refl))
+    lacks (inr none) = none
+
+    stands : InDomain table of_known_type f.0 (declares f.1) × One (λ (t : RawTerm). (t.at ≡ at) × (IsType table of_known_type (term_word table t) → ⊥)) f.1.ty → ⊥
+    stands (InDomain.constant (inl e), h) = lacks (subst (One (λ (t : RawTerm). (t.at ≡ at) × (IsType table of_known_type (term_word table t) → ⊥))) (ap types_of e) h)
+    stands (InDomain.constant (inr none), h) = none
+    stands (InDomain.of_predicate none, h) = none
+    stands (InDomain.of_task none, h) = none
+    stands (InDomain.method none, h) = none
+    stands (InDomain.action none, h) = none
+
 -- a type that is named only as a parent, and object
 parent_is_type : IsType table (record no_domain { types = param 1 (word 2 9 ∷ []) 5 ∷ [] }) (codes "b")
 parent_is_type = inr (inr (inl refl))
@@ -73,9 +97,15 @@ first_pair_closes_none (inl (inr (inl e))) = grind arith
 first_pair_closes_none (inl (inr (inr chain))) = no_pair_leads (codes "b") (codes "a") chain
 first_pair_closes_none (inr none) = none
 
+one_pair_has_none : (at : ℕ) → TypeCycle table (record no_domain { types = param 1 (word 2 9 ∷ []) 5 ∷ [] }) at → ⊥
+one_pair_has_none at c = first_pair_closes_none (first_of_one (ClosesCycle table) (param 1 (word 2 9 ∷ []) 5) c.0 c.2)
+
 second_pair_has_12 : HasFault in_a_circle 11 12
-second_pair_has_12 = HasDomainFault.type_cycle (param 2 (word 1 15 ∷ []) 11, refl,
-    is_second (ClosesCycle table) (param 1 (word 2 9 ∷ []) 5) (param 2 (word 1 15 ∷ []) 11) [] (inl (inr (inr (direct (inl (refl, inl refl)))))) first_pair_closes_none)
+second_pair_has_12 = HasDomainFault.type_cycle (
+  param 2 (word 1 15 ∷ []) 11,
+  refl,
+  is_second (ClosesCycle table) (param 1 (word 2 9 ∷ []) 5) (param 2 (word 1 15 ∷ []) 11) [] (inl (inr (inr (direct (inl (refl, inl refl)))))) first_pair_closes_none,
+)
 
 -- object - a
 object_has_12 : HasFault (record no_domain { types = param 0 (word 1 14 ∷ []) 5 ∷ [] }) 5 12
@@ -122,6 +152,21 @@ action_has_14 = HasDomainFault.unknown_task (inr ([], atom 1 30 [], refl, InDoma
 task_is_known : IsUnknown table (record no_domain { tasks = head 1 60 [] ∷ [] }) task (atom 1 30 []) → ⊥
 task_is_known unknown = unknown (inl (refl, ((λ e. omega arith), tt)))
 
+-- 14: a subtask of no task and no action
+abbrev net_of_c : RawNet
+net_of_c = record no_net { subs = record { id = None; atom = atom 3 80 []; at = 79 } ∷ [] }
+
+subtask_has_14 : HasFault (record no_domain { tasks = head 1 60 [] ∷ []; methods = method (head 2 20 []) (atom 1 30 []) net_of_c ∷ [] }) 80 14
+subtask_has_14 = HasDomainFault.unknown_task (inl ([], atom 3 80 [], refl, InDomain.method (inl (InMethod.network refl (inl (inl (inl refl))))), lacks))
+  where
+    lacks : IsUnknown table (record no_domain { tasks = head 1 60 [] ∷ []; methods = method (head 2 20 []) (atom 1 30 []) net_of_c ∷ [] }) subtask (atom 3 80 [])
+    lacks (inl s) = let e = s.0 in grind arith
+    lacks (inr none) = none
+
+-- an action is a subtask
+action_is_known : IsUnknown table (record no_domain { actions = action (head 3 60 []) ∷ [] }) subtask (atom 3 80 []) → ⊥
+action_is_known unknown = unknown (inl (refl, ((λ e. omega arith), tt)))
+
 -- 15 and 16: (p c ?x)
 abbrev atom_c_x : RawAtom
 atom_c_x = atom 1 50 (word 3 52 ∷ variable 4 54 ∷ [])
@@ -165,6 +210,7 @@ one_before w = (there, back)
         apart : codes "a" ≡ codes "object" → ⊥
         apart e = grind arith
     there (inr none) = absurd none
+
     back : (w ≢ codes "object") × One (λ (m : WordAt). (m.word ≡ w) × (m.at < 7)) (mentioned table two_types.types) → Has (codes "a" ∷ []) w
     back (o, inl (e, l)) = inl e
     back (o, inr (inl (e, l))) = absurd (omega arith)

@@ -1,13 +1,13 @@
 -- A problem's faults beside a domain's: its objects, its facts and its goal.
-use Rattle.std.proofs.Common.{ℕ, ◌≡◌, ◌<◌, ◌≤◌, inl, inr, List, [], ◌∷◌, codes, refl, arith}
+use Rattle.std.proofs.Common.{inl, inr, [], ◌∷◌, codes, refl, arith}
 use Rattle.hddl_reader.specs.declared.sections.Language.TheVariants.{Hddl}
 use Rattle.hddl_reader.specs.declared.sections.RawDomain.{RawDomain}
 use Rattle.hddl_reader.specs.declared.sections.RawProblem.{RawProblem}
 use Rattle.name_faults.specs.Lists.{Has}
-use Rattle.name_faults.specs.Uses.{predicate, refers, applies}
+use Rattle.name_faults.specs.Uses.{predicate}
 use Rattle.name_faults.specs.Standing.{InProblem}
 use Rattle.name_faults.specs.Faults.{HasProblemFault, HasNameFault, in_problem, DuplicateInProblem, objects, constants}
-use Rattle.name_faults.proofs.examples.Values.{table, word, variable, param, head, atom, no_domain, no_problem}
+use Rattle.name_faults.proofs.examples.Values.{table, word, param, head, atom, no_domain, no_problem}
 
 -- the domain declares the constant c and the predicate a
 abbrev domain : RawDomain

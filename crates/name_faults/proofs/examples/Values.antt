@@ -8,8 +8,6 @@ use Rattle.gd_reader.specs.declared.term.RawTerm.{RawTerm}
 use Rattle.gd_reader.specs.declared.typed_lists.RawParam.{RawParam}
 use Rattle.gd_reader.specs.Terms.{Names}
 use Rattle.hddl_reader.specs.declared.networks.RawNet.{RawNet}
-use Rattle.hddl_reader.specs.declared.networks.RawPair.{RawPair}
-use Rattle.hddl_reader.specs.declared.networks.RawSub.{RawSub}
 use Rattle.hddl_reader.specs.declared.sections.RawAction.{RawAction}
 use Rattle.hddl_reader.specs.declared.sections.RawDomain.{RawDomain}
 use Rattle.hddl_reader.specs.declared.sections.RawHead.{RawHead}
@@ -84,3 +82,7 @@ is_second P z x xs h not = record {
   is = h;
   none_before = λ before behind y e c. let s = alone z y before behind e in not (subst (λ ys. P ys z) s.0 (subst (P before) (sym s.1) c));
 }
+
+-- of a list of one, that one
+pub first_of_one : {X : Type 0} (P : List X → X → Type 0) (z x : X) → IsFirst P (z ∷ []) x → P [] z
+first_of_one P z x f = let s = alone z x f.front f.rest f.parts in subst (λ ys. P ys z) s.0 (subst (P f.front) (sym s.1) f.is)
