@@ -7,7 +7,7 @@ use Rattle.text_forms.specs.Words.{Word, is_among}
 use Rattle.plan_texts.specs.Sections.{without, are_sections, content, section, only}
 use Rattle.plan_texts.specs.Types.{EachIs}
 use Rattle.plan_texts.proofs.Basics.{bytes_eq-true, bytes_eq-refl}
-use Rattle.form_spellings.specs.SpellsSomeSections.{EachPart}
+use Rattle.form_spellings.specs.SpellsSomeSections.{EveryPart}
 use Rattle.form_spellings.proofs.Unions.{flip}
 use Rattle.form_spellings.proofs.WordTests.{false_true}
 
@@ -93,14 +93,14 @@ module _ (P : Word → Parts → Type 0) where
       by true e more = subst (λ k. P k qs) (sym (bytes_eq-true k u e)) a.0
       by false e more = more
 
-  pub all_have : (k : Word) (ps : Parts) → AllSections ps → EachPart (λ p. P k (content p)) (only k ps)
+  pub all_have : (k : Word) (ps : Parts) → AllSections ps → EveryPart (λ p. P k (content p)) (only k ps)
   all_have k nothing a = tt
   all_have k (part (name w) ps) a = absurd a
   all_have k (part (group nothing) ps) a = absurd a
   all_have k (part (group (part (group rs) qs)) ps) a = absurd a
   all_have k (part (group (part (name u) qs)) ps) a = by (bytes_eq k u) refl (all_have k ps a.1)
     where
-      by : (b : Bool) → bytes_eq k u ≡ b → EachPart (λ p. P k (content p)) (only k ps) → EachPart (λ p. P k (content p)) (cond b (part (group (part (name u) qs)) (only k ps)) (only k ps))
+      by : (b : Bool) → bytes_eq k u ≡ b → EveryPart (λ p. P k (content p)) (only k ps) → EveryPart (λ p. P k (content p)) (cond b (part (group (part (name u) qs)) (only k ps)) (only k ps))
       by true e more = (subst (λ k. P k qs) (sym (bytes_eq-true k u e)) a.0, more)
       by false e more = more
 
@@ -108,7 +108,7 @@ module _ (P : Word → Parts → Type 0) where
   Firsts ks ps = EachIs (λ k. IfThere k (section k ps)) ks
 
   abbrev pub Alls : List Word → Parts → Type 0
-  Alls ks ps = EachIs (λ k. EachPart (λ p. P k (content p)) (only k ps)) ks
+  Alls ks ps = EachIs (λ k. EveryPart (λ p. P k (content p)) (only k ps)) ks
 
   pub firsts : (ks : List Word) (ps : Parts) → AllSections ps → Firsts ks ps
   firsts [] ps a = tt
@@ -138,15 +138,15 @@ module _ (P : Word → Parts → Type 0) where
   later_alls [] u qs ps a = tt
   later_alls (k ∷ ks) u qs ps a = (by (bytes_eq k u) a.0, later_alls ks u qs ps a.1)
     where
-      by : (b : Bool) → EachPart (λ p. P k (content p)) (cond b (part (group (part (name u) qs)) (only k ps)) (only k ps)) → EachPart (λ p. P k (content p)) (only k ps)
+      by : (b : Bool) → EveryPart (λ p. P k (content p)) (cond b (part (group (part (name u) qs)) (only k ps)) (only k ps)) → EveryPart (λ p. P k (content p)) (only k ps)
       by true a = a.1
       by false a = a
 
   here_first : (u : Word) (qs ps : Parts) → IfThere u (section u (part (group (part (name u) qs)) ps)) → P u qs
   here_first u qs ps h = subst (IfThere u) (ap (λ b. cond b (Some qs) (section u ps)) (bytes_eq-refl u)) h
 
-  here_all : (u : Word) (qs ps : Parts) → EachPart (λ p. P u (content p)) (only u (part (group (part (name u) qs)) ps)) → P u qs
-  here_all u qs ps h = (subst (λ b. EachPart (λ p. P u (content p)) (cond b (part (group (part (name u) qs)) (only u ps)) (only u ps))) (bytes_eq-refl u) h).0
+  here_all : (u : Word) (qs ps : Parts) → EveryPart (λ p. P u (content p)) (only u (part (group (part (name u) qs)) ps)) → P u qs
+  here_all u qs ps h = (subst (λ b. EveryPart (λ p. P u (content p)) (cond b (part (group (part (name u) qs)) (only u ps)) (only u ps))) (bytes_eq-refl u) h).0
 
   -- sections that may stand, and what is said of each keyword, say it of each section
   pub all_from : (ps : Parts) (once many : List Word) → Differ once → are_sections once many ps ≡ true → Firsts once ps → Alls many ps → AllSections ps
@@ -160,4 +160,4 @@ module _ (P : Word → Parts → Type 0) where
     where
       here : (b : Bool) → is_among u once ≡ b → b || is_among u many ≡ true → P u qs
       here true i j = here_first u qs ps (among_each (λ k. IfThere k (section k (part (group (part (name u) qs)) ps))) u once f i)
-      here false i j = here_all u qs ps (among_each (λ k. EachPart (λ p. P k (content p)) (only k (part (group (part (name u) qs)) ps))) u many a j)
+      here false i j = here_all u qs ps (among_each (λ k. EveryPart (λ p. P k (content p)) (only k (part (group (part (name u) qs)) ps))) u many a j)

@@ -27,7 +27,7 @@ use Rattle.form_spellings.specs.Fresh.{AreFresh}
 use Rattle.form_spellings.specs.SpelledWhole.{HddlDomainsAreWhole, PddlDomainsAreWhole, HddlProblemsAreWhole, PddlProblemsAreWhole}
 use Rattle.form_spellings.specs.SpellsSome.{HaveLetters}
 use Rattle.form_spellings.specs.SpellsSomeParts.{AreNamed, AreTaskParts, AreMethodParts, AreActionParts, AreNetworkParts, IsSomeNetwork, IsSomePredicate}
-use Rattle.form_spellings.specs.SpellsSomeSections.{EachPart, IsSomeFact, IsThere, AreSomeDomainSections, AreSomeProblemSections, AreSomeHddlProblemSections}
+use Rattle.form_spellings.specs.SpellsSomeSections.{EveryPart, IsSomeFact, IsThere, AreSomeDomainSections, AreSomeProblemSections, AreSomeHddlProblemSections}
 use Rattle.form_spellings.proofs.FormulaWhole.{bound_letters}
 use Rattle.form_spellings.proofs.SectionTables.{without_other}
 use Rattle.form_spellings.proofs.WholeDefinitions.{whole_definitions}
@@ -37,7 +37,7 @@ use Rattle.std.proofs.lemmas.Bool.{and_parts}
 use Rattle.std.specs.Str.{bytes_eq}
 
 -- each in its place
-each_some : {X : Type 0} (Q : X → Type 0) (Is : X → Part → Type 0) (S : Part → Type 0) → ((x : X) (p : Part) → Q x → Is x p → S p) → (xs : List X) (ps : Parts) → EachIs Q xs → Each Is xs ps → EachPart S ps
+each_some : {X : Type 0} (Q : X → Type 0) (Is : X → Part → Type 0) (S : Part → Type 0) → ((x : X) (p : Part) → Q x → Is x p → S p) → (xs : List X) (ps : Parts) → EachIs Q xs → Each Is xs ps → EveryPart S ps
 each_some Q Is S f [] nothing q e = tt
 each_some Q Is S f [] (part p ps) q e = absurd e
 each_some Q Is S f (x ∷ xs) nothing q e = absurd e
@@ -162,8 +162,8 @@ pddl_domain_some d ps o c = let v = domain_words d in record {
   constants = (v, true, d.constants, c.constants_spelled);
   predicates = each_some _ (IsPredicate v) _ (predicate_some v) d.predicates _ (each_unit d.predicates) c.predicates;
   actions = each_some _ (IsAction v) _ (action_some v) d.actions _ o.actions c.actions;
-  tasks = subst (EachPart (λ p. AreNamed AreTaskParts (content p))) (sym (none_of (codes ":task") ps domain_once domain_many c.domain_form refl refl)) tt;
-  methods = subst (EachPart (λ p. AreNamed AreMethodParts (content p))) (sym (none_of (codes ":method") ps domain_once domain_many c.domain_form refl refl)) tt;
+  tasks = subst (EveryPart (λ p. AreNamed AreTaskParts (content p))) (sym (none_of (codes ":task") ps domain_once domain_many c.domain_form refl refl)) tt;
+  methods = subst (EveryPart (λ p. AreNamed AreMethodParts (content p))) (sym (none_of (codes ":method") ps domain_once domain_many c.domain_form refl refl)) tt;
 }
 
 pub pddl_domains_whole : PddlDomainsAreWhole

@@ -21,7 +21,7 @@ use Rattle.plan_texts.specs.TypedLists.{Each}
 use Rattle.plan_texts.proofs.Basics.{bytes_eq-true}
 use Rattle.plan_model.specs.declared.terms.Term.TheVariants.{Obj}
 use Rattle.form_spellings.specs.SpellsSomeParts.{AreNamed, AreTaskParts, AreMethodParts, AreActionParts, AreNetworkParts, IsSomePredicate, IsSomeFormula}
-use Rattle.form_spellings.specs.SpellsSomeSections.{EachPart, AreSomeTypes, AreSomeObjects, IsSomeFact}
+use Rattle.form_spellings.specs.SpellsSomeSections.{EveryPart, AreSomeTypes, AreSomeObjects, IsSomeFact}
 use Rattle.form_spellings.proofs.Known.{Knows, declared_by, all_variables, knows_all, first_of}
 use Rattle.form_spellings.proofs.ListsWhole.{name_is, no_group}
 use Rattle.form_spellings.proofs.NetworksWhole.{in_front}
@@ -57,13 +57,13 @@ pub term_kept : (d : due.TermDue) (p : Placed) → form section_rows (of_terms_d
 term_kept d p = formula_kept (of_terms d) p ∙ form_same due.term_rows formula_rows of_terms (λ x. refl) p d
 
 -- :predicates
-predicates_to : (q : Placed) → Whole (form section_rows predicates q) → EachPart IsSomePredicate (parts_of q)
+predicates_to : (q : Placed) → Whole (form section_rows predicates q) → EveryPart IsSomePredicate (parts_of q)
 predicates_to cut h = absurd h
 predicates_to (close at) h = tt
 predicates_to (word at w r) h = absurd h
 predicates_to (list at S T) h = let b = whole_then (form section_rows predicate S) (form section_rows predicates T) h in (((whole_predicates S).0 b.0).1, predicates_to T b.1)
 
-predicates_from : (q : Placed) → IsWhole q → EachPart IsSomePredicate (parts_of q) → Whole (form section_rows predicates q)
+predicates_from : (q : Placed) → IsWhole q → EveryPart IsSomePredicate (parts_of q) → Whole (form section_rows predicates q)
 predicates_from cut w e = w
 predicates_from (close at) w e = tt
 predicates_from (word at u r) w e = no_group (sym e.0.2)
@@ -156,7 +156,7 @@ value_from (list at S (word b u (close c))) w e =
     then_whole (form section_rows (of_terms_due due.anything) S) (form section_rows value (word b u (close c))) (subst Whole (sym (term_kept due.anything S)) (passed_from S w.0)) (piece_from empty (close c) tt refl)
 
 abbrev AreFacts : Parts → Type 0
-AreFacts ps = (are_values ps ≡ true) × EachPart IsSomeFact (all_but (codes "=") ps)
+AreFacts ps = (are_values ps ≡ true) × EveryPart IsSomeFact (all_but (codes "=") ps)
 
 -- one element: a value that is passed over, or a fact
 abbrev IsElement : Parts → Type 0
@@ -205,7 +205,7 @@ facts_to (list at S T) h =
           kept (is_headed (codes "=") (group ps)) p,
         )
       where
-        kept : (b : Bool) → b ≡ false → EachPart IsSomeFact (cond b (all_but (codes "=") rest) (part (group ps) (all_but (codes "=") rest)))
+        kept : (b : Bool) → b ≡ false → EveryPart IsSomeFact (cond b (all_but (codes "=") rest) (part (group ps) (all_but (codes "=") rest)))
         kept true e = false_true (sym e)
         kept false e = (f, m.1)
 
@@ -222,7 +222,7 @@ facts_from (word at u r) w a = no_group (sym a.1.0.2.2)
 facts_from (list at S T) w a = by (is_headed (codes "=") (group (parts_of S))) refl a.0 a.1 (λ a. facts_from T w.1 a)
   where
     by : (b : Bool) → is_headed (codes "=") (group (parts_of S)) ≡ b → (not b || is_value (content (group (parts_of S)))) && are_values (parts_of T) ≡ true
-        → EachPart IsSomeFact (cond b (all_but (codes "=") (parts_of T)) (part (group (parts_of S)) (all_but (codes "=") (parts_of T))))
+        → EveryPart IsSomeFact (cond b (all_but (codes "=") (parts_of T)) (part (group (parts_of S)) (all_but (codes "=") (parts_of T))))
         → (AreFacts (parts_of T) → Whole (form section_rows facts T)) → Whole (form section_rows facts (list at S T))
     by true e i f more =
         let a = and_parts (is_value (content (group (parts_of S)))) (are_values (parts_of T)) i in
@@ -261,7 +261,7 @@ abbrev pub Says : Topic → Parts → Type 0
 Says requires ps = are_words ps ≡ true
 Says type_list ps = AreSomeTypes ps
 Says object_list ps = AreSomeObjects ps
-Says predicate_list ps = EachPart IsSomePredicate ps
+Says predicate_list ps = EveryPart IsSomePredicate ps
 Says any ps = Unit {0}
 Says a_task ps = AreNamed AreTaskParts ps
 Says a_method ps = AreNamed AreMethodParts ps

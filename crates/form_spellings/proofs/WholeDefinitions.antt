@@ -15,7 +15,7 @@ use Rattle.plan_texts.specs.Domains.{IsNameIfThere}
 use Rattle.plan_texts.specs.Sections.{section, parts_in, one_in, only, content, are_sections, problem_once, domain_many}
 use Rattle.plan_texts.specs.SpellsHddl.{hddl_many, hddl_problem_once}
 use Rattle.form_spellings.specs.SpellsSomeParts.{AreNetworkParts, IsSomeFormula}
-use Rattle.form_spellings.specs.SpellsSomeSections.{EachPart, IsThere, AreSomeDomainSections, AreSomeProblemSections, AreSomeHddlProblemSections, IsDefined, SpellsSomeDefinition}
+use Rattle.form_spellings.specs.SpellsSomeSections.{EveryPart, IsThere, AreSomeDomainSections, AreSomeProblemSections, AreSomeHddlProblemSections, IsDefined, SpellsSomeDefinition}
 use Rattle.form_spellings.proofs.NetworksWhole.{in_front, list_in_front}
 use Rattle.form_spellings.proofs.PartsWhole.{no_nothing}
 use Rattle.form_spellings.proofs.Pieces as pieces
@@ -34,7 +34,7 @@ emptied : (P : Word → Parts → Type 0) (k : Word) (o : Option Parts) → P k 
 emptied P k None h = tt
 emptied P k (Some qs) h = h
 
-none_stand : (Q R : Part → Type 0) (ps : Parts) → ((p : Part) → Q p → ⊥) → EachPart Q ps → EachPart R ps
+none_stand : (Q R : Part → Type 0) (ps : Parts) → ((p : Part) → Q p → ⊥) → EveryPart Q ps → EveryPart R ps
 none_stand Q R nothing n e = tt
 none_stand Q R (part p ps) n e = absurd (n p e.0)
 

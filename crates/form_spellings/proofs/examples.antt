@@ -1,2 +1,3 @@
 pub mod Forms
 mod Places
+mod Definitions

@@ -17,9 +17,9 @@ use Rattle.plan_model.specs.declared.types.Object.{Object}
 use Rattle.form_spellings.specs.SpellsSomeParts.{AreNamed, AreTaskParts, AreMethodParts, AreActionParts, AreNetworkParts, IsSomePredicate, IsSomeFormula}
 
 -- each part is such
-abbrev pub EachPart : (Part → Type 0) → Parts → Type 0
-EachPart Is nothing = Unit {0}
-EachPart Is (part p ps) = Is p × EachPart Is ps
+abbrev pub EveryPart : (Part → Type 0) → Parts → Type 0
+EveryPart Is nothing = Unit {0}
+EveryPart Is (part p ps) = Is p × EveryPart Is ps
 
 abbrev pub AreSomeTypes : Parts → Type 0
 AreSomeTypes ps = (items : List TypeItem) × EachTyped IsTypeItem items ps
@@ -41,10 +41,10 @@ pub record AreSomeDomainSections (many : List Word) (domain : Parts) : Type 0 wh
   pub requires : are_words (parts_in (section (codes ":requirements") domain)) ≡ true
   pub types : AreSomeTypes (parts_in (section (codes ":types") domain))
   pub constants : AreSomeObjects (parts_in (section (codes ":constants") domain))
-  pub predicates : EachPart IsSomePredicate (parts_in (section (codes ":predicates") domain))
-  pub actions : EachPart (λ p. AreNamed AreActionParts (content p)) (only (codes ":action") domain)
-  pub tasks : EachPart (λ p. AreNamed AreTaskParts (content p)) (only (codes ":task") domain)
-  pub methods : EachPart (λ p. AreNamed AreMethodParts (content p)) (only (codes ":method") domain)
+  pub predicates : EveryPart IsSomePredicate (parts_in (section (codes ":predicates") domain))
+  pub actions : EveryPart (λ p. AreNamed AreActionParts (content p)) (only (codes ":action") domain)
+  pub tasks : EveryPart (λ p. AreNamed AreTaskParts (content p)) (only (codes ":task") domain)
+  pub methods : EveryPart (λ p. AreNamed AreMethodParts (content p)) (only (codes ":method") domain)
 
 -- where the sections of the keywords once may come one time each
 pub record AreSomeProblemSections (once : List Word) (problem : Parts) : Type 0 where
@@ -53,7 +53,7 @@ pub record AreSomeProblemSections (once : List Word) (problem : Parts) : Type 0 
   pub of_domain : IsNameIfThere (section (codes ":domain") problem)
   pub objects : AreSomeObjects (parts_in (section (codes ":objects") problem))
   pub init_form : are_values (parts_in (section (codes ":init") problem)) ≡ true
-  pub init : EachPart IsSomeFact (all_but (codes "=") (parts_in (section (codes ":init") problem)))
+  pub init : EveryPart IsSomeFact (all_but (codes "=") (parts_in (section (codes ":init") problem)))
   pub goal : IsSomeFormula (one_in (section (codes ":goal") problem))
 
 pub record AreSomeHddlProblemSections (once : List Word) (problem : Parts) : Type 0 where
