@@ -19,6 +19,8 @@ mod orders;
 #[cfg(test)]
 mod readings;
 #[cfg(test)]
+mod runs;
+#[cfg(test)]
 mod states;
 #[cfg(test)]
 mod tokens;
