@@ -21,6 +21,8 @@ mod readings;
 #[cfg(test)]
 mod runs;
 #[cfg(test)]
+mod scopes;
+#[cfg(test)]
 mod states;
 #[cfg(test)]
 mod tokens;
