@@ -31,13 +31,13 @@ use Rattle.gd_reader.proofs.Sorts.{name_test}
 use Rattle.form_faults.proofs.WordTests.{at_key}
 
 -- formulas, terms and lists are the same as parts of effects
-formulas_in : (d : FormulaDue) (p : Placed) → form effect_rows (of_formula d) p ≡ form formula_rows d p
+pub formulas_in : (d : FormulaDue) (p : Placed) → form effect_rows (of_formula d) p ≡ form formula_rows d p
 formulas_in d p = form_same formula_rows effect_rows of_formula (λ e. refl) p d
 
-terms_within : (d : TermDue) (p : Placed) → form effect_rows (of_formula (of_terms d)) p ≡ form term_rows d p
+pub terms_within : (d : TermDue) (p : Placed) → form effect_rows (of_formula (of_terms d)) p ≡ form term_rows d p
 terms_within d p = formulas_in (of_terms d) p ∙ terms_in d p
 
-lists_within : (d : ListDue) (p : Placed) → form effect_rows (of_formula (of_list d)) p ≡ form list_rows d p
+pub lists_within : (d : ListDue) (p : Placed) → form effect_rows (of_formula (of_list d)) p ≡ form list_rows d p
 lists_within d p = formulas_in (of_list d) p ∙ lists_in d p
 
 abbrev one_due : EffectDue
@@ -104,7 +104,7 @@ inside_word names at w p = effect_inside_is names (word at w p) ∙ (unfold word
 mutual
   unfolding effect_inside effects one_effect guarded bound_effect
 
-  effect_inside_said : (p : Placed) (names : Names) → said (effect_inside names p) ≡ form effect_rows eff p
+  pub effect_inside_said : (p : Placed) (names : Names) → said (effect_inside names p) ≡ form effect_rows eff p
   effect_inside_said cut names = refl
   effect_inside_said (close at) names = refl
   effect_inside_said (list at p q) names = refl

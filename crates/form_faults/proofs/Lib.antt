@@ -1,6 +1,6 @@
-mod WordTests
-mod TermsSaid
-mod ListsSaid
-mod FormulasSaid
-mod EffectsSaid
-mod Calls
+pub mod WordTests
+pub mod TermsSaid
+pub mod ListsSaid
+pub mod FormulasSaid
+pub mod EffectsSaid
+pub mod Calls

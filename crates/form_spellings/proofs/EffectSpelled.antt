@@ -34,10 +34,10 @@ passed_ends (word at u p) h = passed_ends p h
 passed_ends (list at p q) h = (passed_ends p h.0, passed_ends q h.1)
 
 module _ (v : Declared) where
-  abbrev Applied : List Word → Part → Type 0
+  abbrev pub Applied : List Word → Part → Type 0
   Applied scope q = (n : ℕ) × (ts : List Term) × IsApplied v scope n ts q
 
-  applied_written : (p : Placed) (scope : List Word) → Knows v scope p → (applied_form p).Whole → IsWhole p × Applied scope (group (parts_of p))
+  pub applied_written : (p : Placed) (scope : List Word) → Knows v scope p → (applied_form p).Whole → IsWhole p × Applied scope (group (parts_of p))
   applied_written cut scope k h = absurd h
   applied_written (close at) scope k h = absurd h
   applied_written (list at p q) scope k h = absurd h

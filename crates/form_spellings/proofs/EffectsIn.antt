@@ -1,5 +1,6 @@
--- The names of effects stand in the table.
-use Rattle.std.proofs.Common.{◌≡◌, ℕ, Ok, Err, Result, List, [], ◌∷◌, refl, sym, subst, ◌∙◌}
+-- What holds of the names of effects.
+use Rattle.std.proofs.Common.{◌≡◌, ℕ, Bool, true, Ok, Err, Result, List, [], ◌∷◌, refl, sym, subst, ◌∙◌}
+use Rattle.htn_base.specs.declared.name.Name.{Name as Numbered}
 use Rattle.text_forms.specs.Placed.{Placed, cut, close, word, list}
 use Rattle.text_forms.specs.Words.{Word}
 use Rattle.plan_texts.specs.Types.{EachIs}
@@ -23,108 +24,110 @@ use Rattle.gd_reader.specs.TypedLists.{listed}
 use Rattle.gd_reader.specs.Words.{effect_head_of}
 use Rattle.gd_reader.proofs.EffectSteps.{effect_inside_is}
 use Rattle.gd_reader.proofs.Keeping.{keeps_same}
-use Rattle.form_spellings.specs.InTable.{effect_in_step, IsFormulaIn, IsEffectIn}
+use Rattle.form_spellings.specs.EachName.{effect_of_step, OfFormula, OfEffect}
+use Rattle.form_spellings.proofs.Facts.{Facts, AllSeen}
 use Rattle.form_spellings.proofs.KeptWords.{Reads, reads_then, reads_map, reads_end}
 use Rattle.form_spellings.proofs.TermsIn.{AtomIn, same, atom_in, applied_in}
 use Rattle.form_spellings.proofs.ListsIn.{ParamsIn, listed_in}
 use Rattle.form_spellings.proofs.FormulasIn.{FormulaIn, inside_in}
 
-natural : (table : Names) (X : Type 0) (u : X → RawEffect) (k : RawEffect → Type 0) (x : RawEffect-F X) → effect_in_step table (λ p. k (u p)) x ≡ effect_in_step table k (map-RawEffect X RawEffect u x)
-natural table X u k (RawEffect-F.Add a) = refl
-natural table X u k (RawEffect-F.Delete a) = refl
-natural table X u k (RawEffect-F.And es) = each_is-map u k es
-natural table X u k (RawEffect-F.Forall xs e) = refl
-natural table X u k (RawEffect-F.When f e) = refl
+natural : (Is : Bool → ℕ → Numbered → Type 0) (X : Type 0) (u : X → RawEffect) (k : RawEffect → Type 0) (x : RawEffect-F X) → effect_of_step Is (λ p. k (u p)) x ≡ effect_of_step Is k (map-RawEffect X RawEffect u x)
+natural Is X u k (RawEffect-F.Add a) = refl
+natural Is X u k (RawEffect-F.Delete a) = refl
+natural Is X u k (RawEffect-F.And es) = each_is-map u k es
+natural Is X u k (RawEffect-F.Forall xs e) = refl
+natural Is X u k (RawEffect-F.When f e) = refl
 
 -- one level
-in_roll : (table : Names) (x : RawEffect-F RawEffect) (e : RawEffect) → roll-RawEffect x ≡ e → effect_in_step table (IsEffectIn table) x → IsEffectIn table e
-in_roll table x e is h = subst (IsEffectIn table) is (subst (λ (z : Type 0). z) (sym (rec-roll-RawEffect (Type 0) (λ X u k layer. effect_in_step table k layer) (natural table) x)) h)
-
-abbrev pub EffectIn : RawEffect → Names → Type 0
-EffectIn e table = IsEffectIn table e
-
-abbrev EffectsIn : List RawEffect → Names → Type 0
-EffectsIn es table = EachIs (IsEffectIn table) es
-
-abbrev GuardedIn : RawFormula × RawEffect → Names → Type 0
-GuardedIn x table = IsFormulaIn table x.0 × IsEffectIn table x.1
-
-abbrev BoundIn : List RawParam × RawEffect → Names → Type 0
-BoundIn x table = ParamsIn x.0 table × IsEffectIn table x.1
-
-deleted_in : (p : Placed) (names : Names) → Reads names (deleted names p) AtomIn
-unfolding deleted
-deleted_in cut names = tt
-deleted_in (close at) names = tt
-deleted_in (word at w p) names = tt
-deleted_in (list at p q) names =
-    reads_then same AtomIn AtomIn names (applied names p) (λ a. end_due q >>= (λ _. Ok a)) (applied_in p names) (λ a. reads_end (λ b table. AtomIn a.0 table → AtomIn b table) q a (λ _ table is. is))
-
-nothing_in : (table : Names) → IsEffectIn table (raw.And [])
-nothing_in table = in_roll table (RawEffect-F.And []) (raw.And []) (rolls-And []) tt
+in_roll : (Is : Bool → ℕ → Numbered → Type 0) (x : RawEffect-F RawEffect) (e : RawEffect) → roll-RawEffect x ≡ e → effect_of_step Is (OfEffect Is) x → OfEffect Is e
+in_roll Is x e is h = subst (OfEffect Is) is (subst (λ (z : Type 0). z) (sym (rec-roll-RawEffect (Type 0) (λ X u k layer. effect_of_step Is k layer) (natural Is) x)) h)
 
 pub inside_word : (names : Names) (at : ℕ) (w : Word) (p : Placed) → effect_inside names (word at w p) ≡ effect_headed (effect_head_of w) names at w p
 inside_word names at w p = effect_inside_is names (word at w p) ∙ (unfold word_or_end in refl)
 
--- behind the word at the front
-headed_in : (h : EffectHead) (names : Names) (at : ℕ) (w : Word) (p : Placed) → Reads names (effects names p) EffectsIn → Reads names (guarded names p) GuardedIn → Reads names (bound_effect names p) BoundIn → Reads names (effect_headed h names at w p) EffectIn
-unfolding effect_headed
-headed_in head.And names at w p a b c = reads_map EffectsIn EffectIn names (effects names p) raw.And a (λ es table is. in_roll table (RawEffect-F.And es) (raw.And es) (rolls-And es) is)
-headed_in head.Forall names at w p a b c = reads_map BoundIn EffectIn names (bound_effect names p) (λ x. raw.Forall x.0 x.1) c (λ x table is. in_roll table (RawEffect-F.Forall x.0 x.1) (raw.Forall x.0 x.1) (rolls-Forall x.0 x.1) is)
-headed_in head.When names at w p a b c = reads_map GuardedIn EffectIn names (guarded names p) (λ x. raw.When x.0 x.1) b (λ x table is. in_roll table (RawEffect-F.When x.0 x.1) (raw.When x.0 x.1) (rolls-When x.0 x.1) is)
-headed_in head.Not names at w p a b c = reads_map AtomIn EffectIn names (deleted names p) raw.Delete (deleted_in p names) (λ x table is. in_roll table (RawEffect-F.Delete x) (raw.Delete x) (rolls-Delete x) is)
-headed_in head.Increase names at w p a b c = go (passed p)
-  where
-    go : (r : Result (Unit {0}) Stop) → Reads names (r >>= (λ _. Ok (raw.And [], names))) EffectIn
-    go (Ok x) = (keeps_same names, λ table k. nothing_in table)
-    go (Err e) = tt
-headed_in head.Plain names at w p a b c = reads_map AtomIn EffectIn names (atom names at w p) raw.Add (atom_in p names at w) (λ x table is. in_roll table (RawEffect-F.Add x) (raw.Add x) (rolls-Add x) is)
-headed_in head.Wrong names at w p a b c = tt
+module _ (F : Facts) where
+  abbrev pub EffectIn : RawEffect → Names → Type 0
+  EffectIn e table = OfEffect (F.Is table) e
 
-mutual
-  unfolding effect_inside effects one_effect guarded bound_effect
+  abbrev EffectsIn : List RawEffect → Names → Type 0
+  EffectsIn es table = EachIs (OfEffect (F.Is table)) es
 
-  effect_inside_in : (p : Placed) (names : Names) → Reads names (effect_inside names p) EffectIn
-  effect_inside_in cut names = tt
-  effect_inside_in (close at) names = (keeps_same names, λ table k. nothing_in table)
-  effect_inside_in (list at p q) names = tt
-  effect_inside_in (word at w p) names =
-      subst (λ r. Reads names r EffectIn) (sym (inside_word names at w p)) (headed_in (effect_head_of w) names at w p (effects_in p names) (guarded_in p names) (bound_in p names))
+  abbrev GuardedIn : RawFormula × RawEffect → Names → Type 0
+  GuardedIn x table = OfFormula (F.Is table) x.0 × OfEffect (F.Is table) x.1
 
-  effects_in : (p : Placed) (names : Names) → Reads names (effects names p) EffectsIn
-  effects_in cut names = tt
-  effects_in (close at) names = (keeps_same names, λ table k. tt)
-  effects_in (word at w p) names = tt
-  effects_in (list at p q) names =
-      reads_then same EffectIn EffectsIn names (effect_inside names p) (λ e. effects e.1 q >>= (λ es. Ok (e.0 ∷ es.0, es.1))) (effect_inside_in p names)
-      (λ e. reads_map EffectsIn (λ es table. EffectIn e.0 table → EffectsIn es table) e.1 (effects e.1 q) (λ es. e.0 ∷ es) (effects_in q e.1) (λ es table is one. (one, is)))
+  abbrev BoundIn : List RawParam × RawEffect → Names → Type 0
+  BoundIn x table = ParamsIn F true x.0 table × OfEffect (F.Is table) x.1
 
-  one_in : (p : Placed) (names : Names) → Reads names (one_effect names p) EffectIn
-  one_in cut names = tt
-  one_in (close at) names = tt
-  one_in (word at w p) names = tt
-  one_in (list at p q) names =
-      reads_then same EffectIn EffectIn names (effect_inside names p) (λ e. end_due q >>= (λ _. Ok e)) (effect_inside_in p names) (λ e. reads_end (λ g table. EffectIn e.0 table → EffectIn g table) q e (λ _ table is. is))
+  deleted_in : (p : Placed) (names : Names) → AllSeen F p → Reads names (deleted names p) (AtomIn F)
+  unfolding deleted
+  deleted_in cut names s = tt
+  deleted_in (close at) names s = tt
+  deleted_in (word at w p) names s = tt
+  deleted_in (list at p q) names s =
+      reads_then same (AtomIn F) (AtomIn F) names (applied names p) (λ a. end_due q >>= (λ _. Ok a)) (applied_in F p names s.1) (λ a. reads_end (λ b table. (AtomIn F) a.0 table → (AtomIn F) b table) q a (λ _ table is. is))
 
-  guarded_in : (p : Placed) (names : Names) → Reads names (guarded names p) GuardedIn
-  guarded_in cut names = tt
-  guarded_in (close at) names = tt
-  guarded_in (word at w p) names = tt
-  guarded_in (list at p q) names =
-      reads_then same FormulaIn GuardedIn names (inside names p) (λ f. one_effect f.1 q >>= (λ e. Ok ((f.0, e.0), e.1))) (inside_in p names)
-      (λ f. reads_map EffectIn (λ x table. FormulaIn f.0 table → GuardedIn x table) f.1 (one_effect f.1 q) (λ e. (f.0, e)) (one_in q f.1) (λ e table is one. (one, is)))
+  pub no_effect_in : (table : Names) → OfEffect (F.Is table) (raw.And [])
+  no_effect_in table = in_roll (F.Is table) (RawEffect-F.And []) (raw.And []) (rolls-And []) tt
 
-  bound_in : (p : Placed) (names : Names) → Reads names (bound_effect names p) BoundIn
-  bound_in cut names = tt
-  bound_in (close at) names = tt
-  bound_in (word at w p) names = tt
-  bound_in (list at p q) names =
-      reads_then same ParamsIn BoundIn names (listed Parameters names p) (λ vs. one_effect vs.1 q >>= (λ e. Ok ((vs.0, e.0), e.1))) (listed_in p Parameters names)
-      (λ vs. reads_map EffectIn (λ x table. ParamsIn vs.0 table → BoundIn x table) vs.1 (one_effect vs.1 q) (λ e. (vs.0, e)) (one_in q vs.1) (λ e table is one. (one, is)))
+  -- behind the word at the front
+  headed_in : (h : EffectHead) (names : Names) (at : ℕ) (w : Word) (p : Placed) → F.Seen at w → AllSeen F p → Reads names (effects names p) EffectsIn → Reads names (guarded names p) GuardedIn → Reads names (bound_effect names p) BoundIn → Reads names (effect_headed h names at w p) EffectIn
+  unfolding effect_headed
+  headed_in head.And names at w p seen s a b c = reads_map EffectsIn EffectIn names (effects names p) raw.And a (λ es table is. in_roll (F.Is table) (RawEffect-F.And es) (raw.And es) (rolls-And es) is)
+  headed_in head.Forall names at w p seen s a b c = reads_map BoundIn EffectIn names (bound_effect names p) (λ x. raw.Forall x.0 x.1) c (λ x table is. in_roll (F.Is table) (RawEffect-F.Forall x.0 x.1) (raw.Forall x.0 x.1) (rolls-Forall x.0 x.1) is)
+  headed_in head.When names at w p seen s a b c = reads_map GuardedIn EffectIn names (guarded names p) (λ x. raw.When x.0 x.1) b (λ x table is. in_roll (F.Is table) (RawEffect-F.When x.0 x.1) (raw.When x.0 x.1) (rolls-When x.0 x.1) is)
+  headed_in head.Not names at w p seen s a b c = reads_map (AtomIn F) EffectIn names (deleted names p) raw.Delete (deleted_in p names s) (λ x table is. in_roll (F.Is table) (RawEffect-F.Delete x) (raw.Delete x) (rolls-Delete x) is)
+  headed_in head.Increase names at w p seen s a b c = go (passed p)
+    where
+      go : (r : Result (Unit {0}) Stop) → Reads names (r >>= (λ _. Ok (raw.And [], names))) EffectIn
+      go (Ok x) = (keeps_same names, λ table k. no_effect_in table)
+      go (Err e) = tt
+  headed_in head.Plain names at w p seen s a b c = reads_map (AtomIn F) EffectIn names (atom names at w p) raw.Add (atom_in F p names at w seen s) (λ x table is. in_roll (F.Is table) (RawEffect-F.Add x) (raw.Add x) (rolls-Add x) is)
+  headed_in head.Wrong names at w p seen s a b c = tt
 
-pub effect_in : (p : Placed) (names : Names) → Reads names (effect_read names p) EffectIn
-unfolding effect_read list_due
-effect_in cut names = tt
-effect_in (close at) names = tt
-effect_in (word at w p) names = tt
-effect_in (list at p q) names = effect_inside_in p names
+  mutual
+    unfolding effect_inside effects one_effect guarded bound_effect
+
+    pub effect_inside_in : (p : Placed) (names : Names) → AllSeen F p → Reads names (effect_inside names p) EffectIn
+    effect_inside_in cut names s = tt
+    effect_inside_in (close at) names s = (keeps_same names, λ table k. no_effect_in table)
+    effect_inside_in (list at p q) names s = tt
+    effect_inside_in (word at w p) names s =
+        subst (λ r. Reads names r EffectIn) (sym (inside_word names at w p)) (headed_in (effect_head_of w) names at w p s.0 s.1 (effects_in p names s.1) (guarded_in p names s.1) (bound_in p names s.1))
+
+    effects_in : (p : Placed) (names : Names) → AllSeen F p → Reads names (effects names p) EffectsIn
+    effects_in cut names s = tt
+    effects_in (close at) names s = (keeps_same names, λ table k. tt)
+    effects_in (word at w p) names s = tt
+    effects_in (list at p q) names s =
+        reads_then same EffectIn EffectsIn names (effect_inside names p) (λ e. effects e.1 q >>= (λ es. Ok (e.0 ∷ es.0, es.1))) (effect_inside_in p names s.1)
+        (λ e. reads_map EffectsIn (λ es table. EffectIn e.0 table → EffectsIn es table) e.1 (effects e.1 q) (λ es. e.0 ∷ es) (effects_in q e.1 s.2) (λ es table is one. (one, is)))
+
+    one_in : (p : Placed) (names : Names) → AllSeen F p → Reads names (one_effect names p) EffectIn
+    one_in cut names s = tt
+    one_in (close at) names s = tt
+    one_in (word at w p) names s = tt
+    one_in (list at p q) names s =
+        reads_then same EffectIn EffectIn names (effect_inside names p) (λ e. end_due q >>= (λ _. Ok e)) (effect_inside_in p names s.1) (λ e. reads_end (λ g table. EffectIn e.0 table → EffectIn g table) q e (λ _ table is. is))
+
+    guarded_in : (p : Placed) (names : Names) → AllSeen F p → Reads names (guarded names p) GuardedIn
+    guarded_in cut names s = tt
+    guarded_in (close at) names s = tt
+    guarded_in (word at w p) names s = tt
+    guarded_in (list at p q) names s =
+        reads_then same (FormulaIn F) GuardedIn names (inside names p) (λ f. one_effect f.1 q >>= (λ e. Ok ((f.0, e.0), e.1))) (inside_in F p names s.1)
+        (λ f. reads_map EffectIn (λ x table. (FormulaIn F) f.0 table → GuardedIn x table) f.1 (one_effect f.1 q) (λ e. (f.0, e)) (one_in q f.1 s.2) (λ e table is one. (one, is)))
+
+    bound_in : (p : Placed) (names : Names) → AllSeen F p → Reads names (bound_effect names p) BoundIn
+    bound_in cut names s = tt
+    bound_in (close at) names s = tt
+    bound_in (word at w p) names s = tt
+    bound_in (list at p q) names s =
+        reads_then same (ParamsIn F true) BoundIn names (listed Parameters names p) (λ vs. one_effect vs.1 q >>= (λ e. Ok ((vs.0, e.0), e.1))) (listed_in F p Parameters names s.1)
+        (λ vs. reads_map EffectIn (λ x table. ParamsIn F true vs.0 table → BoundIn x table) vs.1 (one_effect vs.1 q) (λ e. (vs.0, e)) (one_in q vs.1 s.2) (λ e table is one. (one, is)))
+
+  pub effect_in : (p : Placed) (names : Names) → AllSeen F p → Reads names (effect_read names p) EffectIn
+  unfolding effect_read list_due
+  effect_in cut names s = tt
+  effect_in (close at) names s = tt
+  effect_in (word at w p) names s = tt
+  effect_in (list at p q) names s = effect_inside_in p names s.1

@@ -57,7 +57,7 @@ module _ (v : Declared) where
   last_written (list at p q) scope k h = absurd h
   last_written (word at u p) scope k h = let t = term_written scope u k.0 h.0 in let e = end_closed p h.1 in (e.0, (t.0, name u, ap (part (name u)) e.1, t.1))
 
-  two_written : (p : Placed) (scope : List Word) → Knows v scope p → (two_terms_form p).Whole
+  pub two_written : (p : Placed) (scope : List Word) → Knows v scope p → (two_terms_form p).Whole
       → IsWhole p × ((s : Term) × (t : Term) × (q : Part) × (r : Part) × (parts_of p ≡ part q (part r nothing)) × IsTerm v scope s q × IsTerm v scope t r)
   two_written cut scope k h = absurd h
   two_written (close at) scope k h = absurd h

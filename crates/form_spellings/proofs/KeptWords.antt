@@ -37,6 +37,16 @@ pub reads_map : {X Y : Type 0} (P : X → Names → Type 0) (Q : Y → Names →
 reads_map P Q names (Ok x) h a b = (a.0, λ table k. b x.0 table (a.1 table k))
 reads_map P Q names (Err e) h a b = tt
 
+pub reads_weaken : {X : Type 0} (P Q : X → Names → Type 0) (names : Names) (r : Result (X × Names) Stop)
+    → Reads names r P → ((x : X) (table : Names) → P x table → Q x table) → Reads names r Q
+reads_weaken P Q names (Ok x) a b = (a.0, λ table k. b x.0 table (a.1 table k))
+reads_weaken P Q names (Err e) a b = tt
+
+-- behind what adds no word
+pub reads_by : {X Y : Type 0} (P : Y → Names → Type 0) (names : Names) (r : Result X Stop) (f : X → Result (Y × Names) Stop) → ((x : X) → Reads names (f x) P) → Reads names (r >>= f) P
+reads_by P names (Ok x) f a = a x
+reads_by P names (Err e) f a = tt
+
 -- the end of the list behind it
 pub reads_end : {X : Type 0} (Q : X → Names → Type 0) (q : Placed) (x : X × Names) → (parts_of q ≡ nothing → (table : Names) → Q x.0 table) → Reads x.1 (end_due q >>= (λ _. Ok x)) Q
 unfolding end_due

@@ -138,7 +138,7 @@ effect_word w =
     plain Other e = tt
 
 -- a name begins an atom
-no_key : (w k : Word) → is_name w ≡ true → is_name k ≡ false → bytes_eq w k ≡ false
+pub no_key : (w k : Word) → is_name w ≡ true → is_name k ≡ false → bytes_eq w k ≡ false
 no_key w k e f = bytes_eq-other w k (λ g. let h = ap is_name g in cc)
 
 past : (A : Type 0) (b : Bool) (x y z : A) → b ≡ false → y ≡ z → (if b then x else y) ≡ z

@@ -1,7 +1,16 @@
 pub mod Fresh
 pub mod SpellsSome
 pub mod Exactly
+pub mod SpellsSomeNetwork
+pub mod SpellsSomeParts
+pub mod SpellsSomeSections
+pub mod DeclaresOnce
+pub mod SpelledWhole
 pub mod OfAllRead
+pub mod EachName
+pub mod EachPart
 pub mod InTable
+pub mod Places
+pub mod ReadOf
 pub mod Bound
 pub mod SpellsBound

@@ -3,7 +3,18 @@ ghost use Rattle.std.specs.Prelude.{[]};
 ghost use Rattle.gd_reader.specs.Grammar.{formula_form, effect_form};
 ghost use Rattle.gd_reader.specs.ListGrammar.{params_form};
 ghost use Rattle.gd_reader.specs.declared.typed_lists.ListKind.{ListKind};
-ghost use Rattle.form_spellings.specs.Exactly.{IsWholeExactlyWhere};
+ghost use Rattle.form_grammar.specs.Definitions.{definition_form};
+ghost use Rattle.form_grammar.specs.Networks.{network_rows, subs, pairs, cons};
+ghost use Rattle.form_grammar.specs.Rows.{form};
+ghost use Rattle.form_grammar.specs.Sections.{section_rows, named, parts, predicate, task, method, action, network};
+ghost use Rattle.form_grammar.specs.Sections.{Language, Definition};
+ghost use Rattle.form_spellings.specs.Exactly.{IsWholeExactlyWhere, IsCodedExactlyWhere};
+ghost use Rattle.form_spellings.specs.SpellsSomeParts.{SpellsSomeTask, SpellsSomeMethod, SpellsSomeAction};
+ghost use Rattle.form_spellings.specs.SpellsSomeParts.{SpellsSomeTop, SpellsSomePredicate};
+ghost use Rattle.form_spellings.specs.SpelledWhole.{HddlDomainsAreWhole, HddlProblemsAreWhole};
+ghost use Rattle.form_spellings.specs.SpelledWhole.{PddlDomainsAreWhole, PddlProblemsAreWhole};
+ghost use Rattle.form_spellings.specs.SpellsSomeSections.{SpellsSomeDefinition};
+ghost use Rattle.form_spellings.specs.SpellsSomeNetwork.{SpellsSomeSubtasks, SpellsSomePairs, SpellsSomeConstraints};
 ghost use Rattle.form_spellings.specs.SpellsSome.{SpellsSomeFormula, SpellsSomeEffect, SpellsSomeList};
 
 /// A formula's form is whole exactly where it spells a formula over some declared words, in some scope.
@@ -19,4 +30,37 @@ pub fn whole_effects()
 /// A typed list of each kind is whole exactly where it spells a list of that kind.
 pub fn whole_lists()
     ensures { (kind : ListKind) → IsWholeExactlyWhere (params_form kind []) (SpellsSomeList kind) }
+{}
+
+/// What stands behind a network's keyword is whole exactly where it spells subtasks, pairs of ids, or constraints, over some
+/// declared words, tasks, actions and ids.
+pub fn whole_networks()
+    ensures subtasks { IsCodedExactlyWhere (form network_rows subs) SpellsSomeSubtasks }
+    ensures pairs { IsCodedExactlyWhere (form network_rows pairs) SpellsSomePairs }
+    ensures constraints { IsCodedExactlyWhere (form network_rows cons) SpellsSomeConstraints }
+{}
+
+/// What stands behind the keyword of a task, a method, an action or a problem's network, and a predicate's list, is whole exactly
+/// where its parts stand each once under their keywords and each spells something.
+pub fn whole_schemas()
+    ensures tasks { IsCodedExactlyWhere (form section_rows (named task)) SpellsSomeTask }
+    ensures methods { IsCodedExactlyWhere (form section_rows (named method)) SpellsSomeMethod }
+    ensures actions { IsCodedExactlyWhere (form section_rows (named action)) SpellsSomeAction }
+    ensures tops { IsCodedExactlyWhere (form section_rows (parts network [])) SpellsSomeTop }
+    ensures predicates { IsCodedExactlyWhere (form section_rows predicate) SpellsSomePredicate }
+{}
+
+/// A text is whole as a domain or a problem, in either language, exactly where it is one definition whose sections stand as they
+/// may and each spells something, over some declared words, tasks, actions and ids.
+pub fn whole_definitions()
+    ensures { (l : Language) (d : Definition) → IsCodedExactlyWhere (definition_form l d) (SpellsSomeDefinition l d) }
+{}
+
+/// A text that spells a domain or a problem as it is declared is whole, where no list of parameters and no quantifier declares a
+/// variable twice.
+pub fn spelled_definitions_are_whole()
+    ensures hddl_domains { HddlDomainsAreWhole }
+    ensures hddl_problems { HddlProblemsAreWhole }
+    ensures pddl_domains { PddlDomainsAreWhole }
+    ensures pddl_problems { PddlProblemsAreWhole }
 {}

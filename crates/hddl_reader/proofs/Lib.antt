@@ -1,3 +1,11 @@
-pub mod FoldSteps
+pub mod Answers
+pub mod NetworksSaid
+pub mod Standing
+pub mod PartsSaid
+pub mod SectionsSaid
+pub mod DefinitionsSaid
 pub mod NetworkSteps
+pub mod SectionSteps
+pub mod FoldSteps
 pub mod PartSteps
+pub mod Refusals

@@ -1,7 +1,6 @@
 -- A domain and a problem as they are read: one list, with its header and its sections, and nothing behind it.
 -- Source: the full syntax definition of Höller et al., "HDDL", AAAI 2020, and appendix A of Fox and Long, "PDDL2.1", JAIR 20, 2003, level 1.
-use Rattle.std.specs.Prelude.{◌≡◌, ℕ, Bool, List, [], Option, Some, None, Result, Ok, Err, if◌then◌else◌, codes}
-use Rattle.htn_base.specs.declared.fault.Fault.{Fault}
+use Rattle.std.specs.Prelude.{◌≡◌, ℕ, List, Option, Some, None, Result, Ok, Err, if◌then◌else◌, codes}
 use Rattle.htn_base.specs.declared.name.Name.{Name}
 use Rattle.sexpr_text.specs.declared.read_error.ReadError.{ReadError}
 use Rattle.sexpr_text.specs.declared.read_error.ReadError.TheVariants as errors
@@ -11,6 +10,8 @@ use Rattle.text_forms.specs.Words.{Word}
 use Rattle.form_grammar.specs.Codes.{Whole}
 use Rattle.form_grammar.specs.Definitions.{definition_form, definition_fault}
 use Rattle.form_grammar.specs.Sections as grammar
+use Rattle.gd_reader.specs.declared.stop.Failure.{Failure}
+use Rattle.gd_reader.specs.declared.stop.Failure.TheVariants as failures
 use Rattle.gd_reader.specs.declared.stop.Stop.{Stop}
 use Rattle.gd_reader.specs.declared.stop.Stop.TheVariants.{Ends, Departs}
 use Rattle.gd_reader.specs.Answers.{◌>>=◌, word_due, list_due, end_due}
@@ -65,8 +66,13 @@ definition_read l d names (list at p q) = definition_inside l d names p >>= (λ 
 
 abbrev pub domain_of : Name × RawSections → RawDomain
 domain_of x = record {
-  name = x.0; types = or_none x.1.types; constants = or_none x.1.constants; predicates = or_none x.1.predicates;
-  tasks = x.1.tasks; methods = x.1.methods; actions = x.1.actions
+  name = x.0;
+  types = or_none x.1.types;
+  constants = or_none x.1.constants;
+  predicates = or_none x.1.predicates;
+  tasks = x.1.tasks;
+  methods = x.1.methods;
+  actions = x.1.actions;
 }
 
 abbrev pub or_empty : Option RawParts → RawParts
@@ -75,8 +81,12 @@ or_empty (Some x) = x
 
 abbrev pub problem_of : Name × RawSections → RawProblem
 problem_of x = record {
-  name = x.0; objects = or_none x.1.objects; params = or_none (or_empty x.1.network).params; net = network_of (or_empty x.1.network);
-  init = or_none x.1.init; goal = or_true x.1.goal
+  name = x.0;
+  objects = or_none x.1.objects;
+  params = or_none (or_empty x.1.network).params;
+  net = network_of (or_empty x.1.network);
+  init = or_none x.1.init;
+  goal = or_true x.1.goal;
 }
 
 -- the same languages and definitions in the words of the grammar
@@ -92,6 +102,12 @@ kind_of definition.Problem = grammar.problem
 pub record IsRead (l : Language) (d : Definition) (names : Names) (text : List ℕ) (x : Name × RawSections) (left : Names) : Type 0 where
   pub whole : Whole (definition_form (language_of l) (kind_of d) (parts_at text 0))
   pub gives : definition_read l d names (parts_at text 0) ≡ Ok (x, left)
+
+-- What is told of a failure. Where the tokens end too early, it is the header that is missing, at the text's end.
+abbrev pub refusal : ℕ → ℕ → Failure → ReadError
+refusal file end' failures.Memory = errors.Memory
+refusal file end' (failures.At Ends) = errors.Bad (record { code = 5; file = file; at = end' })
+refusal file end' (failures.At (Departs code at)) = errors.Bad (record { code = code; file = file; at = at })
 
 -- The tokens are none, and this is their one fault of form; or memory ran out.
 abbrev pub Refuses : Language → Definition → List ℕ → ℕ → ReadError → Type 0

@@ -1,6 +1,7 @@
 -- The sections of a domain and of a problem as they are read, and the lists that are theirs alone.
 -- Source: the full syntax definition of Höller et al., "HDDL", AAAI 2020, and appendix A of Fox and Long, "PDDL2.1", JAIR 20, 2003, level 1.
 use Rattle.std.specs.Prelude.{ℕ, Bool, true, false, List, [], ◌∷◌, ◌++◌, Option, Some, None, Result, Ok, Err, if◌then◌else◌, codes}
+use Rattle.std.specs.Option.{option_map}
 use Rattle.text_forms.specs.Placed.{Placed, cut, close, word, list}
 use Rattle.text_forms.specs.Words.{Word}
 use Rattle.form_grammar.specs.Words.{Table, entry}
@@ -34,7 +35,7 @@ use Rattle.hddl_reader.specs.declared.sections.RawMethod.{RawMethod}
 use Rattle.hddl_reader.specs.declared.sections.RawSections.{RawSections}
 use Rattle.hddl_reader.specs.declared.sections.Section.{Section}
 use Rattle.hddl_reader.specs.declared.sections.Section.TheVariants as section
-use Rattle.hddl_reader.specs.Networks.{declared, is_word}
+use Rattle.hddl_reader.specs.Networks.{declared, is_word, Headed, all_of}
 use Rattle.hddl_reader.specs.Parts.{no_parts, is_there, keyword_by, parts}
 
 abbrev pub plain_table : Definition → Table Section
@@ -65,8 +66,20 @@ section_of l d w = entry (plain_table d ++ hierarchy_table l d) w
 
 abbrev pub no_sections : RawSections
 no_sections = record {
-  requirements = false; types = None; constants = None; predicates = None; functions = false; tasks = []; methods = []; actions = [];
-  domain = false; objects = None; network = None; init = None; goal = None; metric = false
+  requirements = false;
+  types = None;
+  constants = None;
+  predicates = None;
+  functions = false;
+  tasks = [];
+  methods = [];
+  actions = [];
+  domain = false;
+  objects = None;
+  network = None;
+  init = None;
+  goal = None;
+  metric = false;
 }
 
 -- whether a section stands already that may stand once
@@ -107,13 +120,14 @@ network_of st = record { subs = or_none st.subs; ordered = st.ordered; pairs = o
 abbrev pub action_of : RawTerm → RawParts → RawAction
 action_of name st = record { head = head_of name st; pre = or_true st.pre; eff = or_nothing st.eff }
 
--- a method with a task
-abbrev pub method_of : RawTerm → RawAtom → RawParts → RawMethod
-method_of name task st = record { head = head_of name st; task = task; pre = or_true st.pre; net = network_of st }
+-- a method, where its task stands
+abbrev pub method_of : RawTerm → RawParts → Option RawMethod
+method_of name st = option_map (λ task. record { head = head_of name st; task = task; pre = or_true st.pre; net = network_of st }) st.task
 
-abbrev pub methods_of : RawTerm → Option RawAtom → RawParts → List RawMethod
-methods_of name None st = []
-methods_of name (Some task) st = method_of name task st ∷ []
+-- those that are kept
+abbrev pub with_kept : {X : Type 0} → Option X → List X → List X
+with_kept None xs = xs
+with_kept (Some x) xs = x ∷ xs
 
 -- words up to the end of their list
 unfoldable pub words : Placed → Result (Unit {0}) Stop
@@ -131,19 +145,9 @@ name_by sort.Other at = Err (Departs 8 at)
 unfoldable pub dropped_name : Placed → Result (Unit {0}) Stop
 dropped_name p = word_due p >>= (λ v. name_by (sort_of v.1) v.0 >>= (λ _. end_due v.2))
 
--- a declared name, and what is behind it
-unfoldable pub declared_due : Names → Placed → Result ((RawTerm × Placed) × Names) Stop
-declared_due names p = word_due p >>= (λ v. declared 8 names v.0 v.1 >>= (λ h. Ok ((h.0, v.2), h.1)))
-
--- a predicate in its parentheses
-unfoldable pub predicate : Names → Placed → Result (RawHead × Names) Stop
-predicate names p = declared_due names p >>= (λ h. listed list_kind.Predicate h.1 h.0.1 >>= (λ xs. Ok (record { name = h.0.0; params = xs.0 }, xs.1)))
-
-unfoldable pub predicates : Names → Placed → Result (List RawHead × Names) Stop
-predicates names cut = Err Ends
-predicates names (close at) = Ok ([], names)
-predicates names (word at w p) = Err (Departs 8 at)
-predicates names (list at p q) = predicate names p >>= (λ x. predicates x.1 q >>= (λ xs. Ok (x.0 ∷ xs.0, xs.1)))
+-- a predicate, by the word at the front of its list
+unfoldable pub predicate_headed : Headed RawHead
+predicate_headed names place at w p = declared 8 names at w >>= (λ h. listed list_kind.Predicate h.1 p >>= (λ xs. Ok (record { name = h.0; params = xs.0 }, xs.1)))
 
 -- names up to the end of their list
 unfoldable pub used_names : Names → Placed → Result (List RawTerm × Names) Stop
@@ -157,20 +161,21 @@ unfoldable pub assignment : Placed → Result (Unit {0}) Stop
 assignment p = list_due p >>= (λ g. passed g.0 >>= (λ _. word_due g.1 >>= (λ v. end_due v.2)))
 
 -- an element of :init in its parentheses: an atom, or an assignment, of which nothing is kept
-unfoldable pub fact : Names → Placed → Result (List RawAtom × Names) Stop
+unfoldable pub fact : Names → Placed → Result (Option RawAtom × Names) Stop
 fact names p = word_due p >>= (λ v.
-    if is_word (codes "=") v.1 then assignment v.2 >>= (λ _. Ok ([], names))
-    else used names v.0 v.1 >>= (λ h. used_names h.1 v.2 >>= (λ xs. Ok (record { head = h.0; args = xs.0 } ∷ [], xs.1))))
+    if is_word (codes "=") v.1 then assignment v.2 >>= (λ _. Ok (None, names))
+    else used names v.0 v.1 >>= (λ h. used_names h.1 v.2 >>= (λ xs. Ok (Some (record { head = h.0; args = xs.0 }), xs.1))))
 
+-- the atoms among the elements
 unfoldable pub facts : Names → Placed → Result (List RawAtom × Names) Stop
 facts names cut = Err Ends
 facts names (close at) = Ok ([], names)
 facts names (word at w p) = Err (Departs 8 at)
-facts names (list at p q) = fact names p >>= (λ x. facts x.1 q >>= (λ xs. Ok (x.0 ++ xs.0, xs.1)))
+facts names (list at p q) = fact names p >>= (λ x. facts x.1 q >>= (λ xs. Ok (with_kept x.0 xs.0, xs.1)))
 
 -- a name and its parts
 unfoldable pub named_parts : Parted → Names → Placed → Result ((RawTerm × RawParts) × Names) Stop
-named_parts kind names p = declared_due names p >>= (λ h. parts kind no_parts h.1 h.0.1 >>= (λ x. Ok ((h.0.0, x.0), x.1)))
+named_parts kind names p = word_due p >>= (λ v. declared 8 names v.0 v.1 >>= (λ h. parts kind no_parts h.1 v.2 >>= (λ x. Ok ((h.0, x.0), x.1))))
 
 -- a goal in its parentheses, and the end of the section
 unfoldable pub goal : Names → Placed → Result (RawFormula × Names) Stop
@@ -181,10 +186,10 @@ unfoldable pub section_read : Section → RawSections → Names → Placed → R
 section_read section.Requirements st names p = words p >>= (λ _. Ok (record st { requirements = true }, names))
 section_read section.Types st names p = listed list_kind.Types names p >>= (λ x. Ok (record st { types = Some x.0 }, x.1))
 section_read section.Constants st names p = listed list_kind.Objects names p >>= (λ x. Ok (record st { constants = Some x.0 }, x.1))
-section_read section.Predicates st names p = predicates names p >>= (λ x. Ok (record st { predicates = Some x.0 }, x.1))
+section_read section.Predicates st names p = all_of predicate_headed names p >>= (λ x. Ok (record st { predicates = Some x.0 }, x.1))
 section_read section.Functions st names p = passed p >>= (λ _. Ok (record st { functions = true }, names))
 section_read section.Task st names p = named_parts parted.Task names p >>= (λ x. Ok (record st { tasks = st.tasks ++ head_of x.0.0 x.0.1 ∷ [] }, x.1))
-section_read section.Method st names p = named_parts parted.Method names p >>= (λ x. Ok (record st { methods = st.methods ++ methods_of x.0.0 x.0.1.task x.0.1 }, x.1))
+section_read section.Method st names p = named_parts parted.Method names p >>= (λ x. Ok (record st { methods = st.methods ++ with_kept (method_of x.0.0 x.0.1) [] }, x.1))
 section_read section.Action st names p = named_parts parted.Action names p >>= (λ x. Ok (record st { actions = st.actions ++ action_of x.0.0 x.0.1 ∷ [] }, x.1))
 section_read section.Domain st names p = dropped_name p >>= (λ _. Ok (record st { domain = true }, names))
 section_read section.Objects st names p = listed list_kind.Objects names p >>= (λ x. Ok (record st { objects = Some x.0 }, x.1))
@@ -209,3 +214,10 @@ sections l d st names cut = Err Ends
 sections l d st names (close at) = if may_end l d st then Ok (st, names) else Err (Departs 8 at)
 sections l d st names (word at w p) = Err (Departs 8 at)
 sections l d st names (list at p q) = section_inside l d st names p >>= (λ r. sections l d r.0 r.1 q)
+
+-- What is next: a section, as what is inside and what is behind it; or the end of the sections.
+unfoldable pub section_due : Language → Definition → RawSections → Placed → Result (Option (Placed × Placed)) Stop
+section_due l d st cut = Err Ends
+section_due l d st (close at) = if may_end l d st then Ok None else Err (Departs 8 at)
+section_due l d st (word at w p) = Err (Departs 8 at)
+section_due l d st (list at p q) = Ok (Some (p, q))

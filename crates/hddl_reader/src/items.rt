@@ -51,7 +51,7 @@ fn one_of<T: Item>(
 
 // Items up to the end of their list.
 #[tactic(auto, using(gd_reader::proofs::Keeping::keeps_same, gd_reader::proofs::Keeping::keeps_then))]
-fn all_of<T: Item>(
+pub(crate) fn all_of<T: Item>(
     alloc: Global,
     s: &Sexprs<'_>,
     mut i: u32,

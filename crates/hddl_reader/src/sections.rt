@@ -1,7 +1,24 @@
-use crate::networks::RawNet;
-use crate::parts::RawParts;
-use gd_reader::{RawAtom, RawEffect, RawFormula, RawParam, RawTerm};
-use htn_base::{List, Name};
+ghost use Rattle.std.specs.Prelude.{◌≡◌, IfOk, IfSome};
+ghost use Rattle.std.specs.Option.{option_map};
+ghost use Rattle.htn_base.specs.Words.{folded};
+ghost use Rattle.text_forms.specs.Placed.{parts_at};
+ghost use Rattle.form_grammar.specs.Words.{entry};
+ghost use Rattle.gd_reader.specs.Answers.{Gives};
+ghost use Rattle.gd_reader.specs.Shown.{AreLater, parts_at_both};
+ghost use Rattle.hddl_reader.specs.Parts.{keyword_by};
+ghost use Rattle.hddl_reader.specs.declared.sections.Language.TheVariants as language;
+ghost use Rattle.hddl_reader.specs.Sections.{or_none, or_true, or_nothing, head_of, network_of, action_of, method_of, plain_table, hierarchy_table, section_of, no_sections, has_section, may_end, predicate_headed, section_due};
+
+use crate::items::Item;
+use crate::networks::{RawNet, declared_of};
+use crate::parts::{RawParts, unknown};
+use gd_reader::{
+    Failure, Item as Shown, ListKind, RawAtom, RawEffect, RawFormula, RawParam, RawTerm, Stop,
+    is_word, item_at, params_of,
+};
+use htn_base::{List, Name, NameTable};
+use sexpr_text::Sexprs;
+use std::alloc::Global;
 
 /// The language of a text: PDDL is HDDL without `:task`, `:method` and `:htn`.
 #[derive(Clone, Copy)]
@@ -98,4 +115,270 @@ pub struct RawProblem {
     pub net: RawNet,
     pub init: List<RawAtom>,
     pub goal: RawFormula,
+}
+
+pub(crate) fn or_none<T>(alloc: Global, list: Option<List<T>>) -> List<T>
+    ensures { result ≡ or_none list }
+{
+    match list {
+        None => List::new(alloc),
+        Some(list) => list,
+    }
+}
+
+pub(crate) fn or_true(alloc: Global, formula: Option<RawFormula>) -> RawFormula
+    ensures { result ≡ or_true formula }
+{
+    match formula {
+        None => RawFormula::And(List::new(alloc)),
+        Some(formula) => formula,
+    }
+}
+
+fn or_nothing(alloc: Global, effect: Option<RawEffect>) -> RawEffect
+    ensures { result ≡ or_nothing effect }
+{
+    match effect {
+        None => RawEffect::And(List::new(alloc)),
+        Some(effect) => effect,
+    }
+}
+
+impl RawParts {
+    /// A declared name with these parameters.
+    pub(crate) fn into_head(self, alloc: Global, name: RawTerm) -> RawHead
+        ensures { result ≡ head_of name self }
+    {
+        RawHead {
+            name,
+            params: or_none(alloc, self.params),
+        }
+    }
+
+    /// An action of this name with these parts.
+    pub(crate) fn into_action(self, alloc: Global, name: RawTerm) -> RawAction
+        ensures { result ≡ action_of name self }
+    {
+        let params = or_none(alloc, self.params);
+        RawAction {
+            head: RawHead { name, params },
+            pre: or_true(alloc, self.pre),
+            eff: or_nothing(alloc, self.eff),
+        }
+    }
+
+    /// A method of this name with these parts, where its task is among them.
+    pub(crate) fn into_method(self, alloc: Global, name: RawTerm) -> Option<RawMethod>
+        ensures { result ≡ method_of name self }
+    {
+        let task = self.task?;
+        let params = or_none(alloc, self.params);
+        let net = RawNet {
+            subs: or_none(alloc, self.subs),
+            ordered: self.ordered,
+            pairs: or_none(alloc, self.pairs),
+            constraints: or_none(alloc, self.constraints),
+        };
+        Some(RawMethod {
+            head: RawHead { name, params },
+            task,
+            pre: or_true(alloc, self.pre),
+            net,
+        })
+    }
+}
+
+/// A predicate.
+impl Item for RawHead {
+    ghost headed = { predicate_headed };
+
+    #[tactic(auto, using(gd_reader::proofs::Keeping::keeps_same, gd_reader::proofs::Keeping::keeps_then), unfolding(crate::specs::Sections::predicate_headed))]
+    fn headed_of(
+        alloc: Global,
+        s: &Sexprs<'_>,
+        _: u32,
+        at: u32,
+        word: &[u8],
+        i: u32,
+        names: &mut NameTable,
+    ) -> Result<RawHead, Failure> {
+        let name = declared_of(names, 8, at, word)?;
+        let (params, _) = params_of(alloc, s, i, ListKind::Predicate, names)?;
+        Ok(RawHead { name, params })
+    }
+}
+
+// The section of either language by its keyword, in any case of its letters.
+fn plain_section(definition: Definition, word: &[u8]) -> Option<Section>
+    ensures { result ≡ entry (plain_table definition) (folded word.now) }
+{
+    match definition {
+        Definition::Domain => {
+            if is_word(word, b":requirements") {
+                Some(Section::Requirements)
+            } else if is_word(word, b":types") {
+                Some(Section::Types)
+            } else if is_word(word, b":constants") {
+                Some(Section::Constants)
+            } else if is_word(word, b":predicates") {
+                Some(Section::Predicates)
+            } else if is_word(word, b":functions") {
+                Some(Section::Functions)
+            } else if is_word(word, b":action") {
+                Some(Section::Action)
+            } else {
+                None
+            }
+        }
+        Definition::Problem => {
+            if is_word(word, b":domain") {
+                Some(Section::Domain)
+            } else if is_word(word, b":requirements") {
+                Some(Section::Requirements)
+            } else if is_word(word, b":objects") {
+                Some(Section::Objects)
+            } else if is_word(word, b":init") {
+                Some(Section::Init)
+            } else if is_word(word, b":goal") {
+                Some(Section::Goal)
+            } else if is_word(word, b":metric") {
+                Some(Section::Metric)
+            } else {
+                None
+            }
+        }
+    }
+}
+
+// The section of HDDL alone by its keyword.
+fn hierarchy_section(definition: Definition, word: &[u8]) -> Option<Section>
+    ensures { result ≡ entry (hierarchy_table language.Hddl definition) (folded word.now) }
+{
+    match definition {
+        Definition::Domain => {
+            if is_word(word, b":task") {
+                Some(Section::Task)
+            } else if is_word(word, b":method") {
+                Some(Section::Method)
+            } else {
+                None
+            }
+        }
+        Definition::Problem => {
+            if is_word(word, b":htn") {
+                Some(Section::Network)
+            } else {
+                None
+            }
+        }
+    }
+}
+
+/// The section by its keyword, in any case of its letters, or `None` for another word.
+#[tactic(auto, using(crate::proofs::SectionSteps::section_is))]
+fn section_of(language: Language, definition: Definition, word: &[u8]) -> Option<Section>
+    ensures section { result ≡ section_of language definition (folded word.now) }
+{
+    match (plain_section(definition, word), language) {
+        (Some(section), _) => Some(section),
+        (None, Language::Hddl) => hierarchy_section(definition, word),
+        (None, Language::Pddl) => None,
+    }
+}
+
+impl RawSections {
+    /// No sections yet.
+    pub(crate) fn new(alloc: Global) -> RawSections
+        ensures empty { result ≡ no_sections }
+    {
+        RawSections {
+            requirements: false,
+            types: None,
+            constants: None,
+            predicates: None,
+            functions: false,
+            tasks: List::new(alloc),
+            methods: List::new(alloc),
+            actions: List::new(alloc),
+            domain: false,
+            objects: None,
+            network: None,
+            init: None,
+            goal: None,
+            metric: false,
+        }
+    }
+
+    // Whether a section stands already that may stand once.
+    #[tactic(auto, unfolding(crate::specs::Sections::has_section))]
+    fn has(&self, section: Section) -> bool
+        ensures { result ≡ has_section self.now section }
+    {
+        match section {
+            Section::Requirements => self.requirements,
+            Section::Types => self.types.is_some(),
+            Section::Constants => self.constants.is_some(),
+            Section::Predicates => self.predicates.is_some(),
+            Section::Functions => self.functions,
+            Section::Task | Section::Method | Section::Action => false,
+            Section::Domain => self.domain,
+            Section::Objects => self.objects.is_some(),
+            Section::Network => self.network.is_some(),
+            Section::Init => self.init.is_some(),
+            Section::Goal => self.goal.is_some(),
+            Section::Metric => self.metric,
+        }
+    }
+
+    // A problem of HDDL has an initial network.
+    #[tactic(auto, unfolding(crate::specs::Sections::may_end))]
+    fn may_end(&self, language: Language, definition: Definition) -> bool
+        ensures { result ≡ may_end language definition self.now }
+    {
+        match (language, definition) {
+            (Language::Hddl, Definition::Problem) => self.network.is_some(),
+            (Language::Pddl, Definition::Problem) | (_, Definition::Domain) => true,
+        }
+    }
+
+    /// The section that a word names, unless it stands already and may stand once.
+    pub(crate) fn keyword(
+        &self,
+        language: Language,
+        definition: Definition,
+        at: u32,
+        word: &[u8],
+    ) -> Result<Section, Failure>
+        ensures gives { Gives (λ section. section) result
+            (keyword_by (section_of language definition (folded word.now)) (has_section self.now) at
+            (folded word.now)) }
+    {
+        match section_of(language, definition, word) {
+            None => Err(Failure::At(Stop::Departs(unknown(word), at))),
+            Some(section) if self.has(section) => Err(Failure::At(Stop::Departs(7, at))),
+            Some(section) => Ok(section),
+        }
+    }
+
+    /// The section that is next, as the numbers of the token that comes first in it and of the one behind it; or
+    /// `None` at the end of the sections.
+    #[tactic(auto, unfolding(crate::specs::Sections::section_due))]
+    pub(crate) fn section_due(
+        &self,
+        s: &Sexprs<'_>,
+        i: u32,
+        language: Language,
+        definition: Definition,
+    ) -> Result<Option<(u32, u32)>, Failure>
+        ensures gives { Gives (option_map (parts_at_both s.now)) result
+            (section_due language definition self.now (parts_at s.now i)) }
+        ensures later { IfOk result (λ o. IfSome o (AreLater s.now i)) }
+    {
+        match item_at(s, i) {
+            Shown::End => Err(Failure::At(Stop::Ends)),
+            Shown::Close(_) if self.may_end(language, definition) => Ok(None),
+            Shown::Close(at) | Shown::Word(at, _) => Err(Failure::At(Stop::Departs(8, at))),
+            Shown::List(_, inside, behind) => Ok(Some((inside, behind))),
+        }
+    }
 }

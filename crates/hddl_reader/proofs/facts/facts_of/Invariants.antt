@@ -1,0 +1,18 @@
+use Rattle.std.proofs.Common.{◌≡◌, ◌-◌}
+use Rattle.text_forms.specs.Placed.{parts_at}
+use Rattle.text_forms.specs.Tokens.{token_count}
+use Rattle.gd_reader.specs.Added.{AddsOf}
+use Rattle.gd_reader.specs.Answers.{with_front}
+use Rattle.gd_reader.specs.Terms.{Keeps}
+use Rattle.hddl_reader.specs.Sections.{facts}
+use Rattle.hddl_reader.proofs.facts.facts_of.Given as goal
+
+abbrev pub invariant-loop-facts : goal.invariant-loop-facts
+invariant-loop-facts l = record {
+  keeps : Keeps l.initial.names l.names;
+  adds : AddsOf l.s l.initial.names l.names;
+  rest : with_front l.facts (facts l.names (parts_at l.s l.i)) ≡ facts l.initial.names (parts_at l.s l.initial.i);
+}
+
+abbrev pub decreases-loop-facts : goal.decreases-loop-facts
+decreases-loop-facts l = token_count l.s - l.i

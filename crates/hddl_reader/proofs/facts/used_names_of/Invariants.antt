@@ -1,0 +1,18 @@
+use Rattle.std.proofs.Common.{◌≡◌, ◌-◌}
+use Rattle.text_forms.specs.Placed.{parts_at}
+use Rattle.text_forms.specs.Tokens.{token_count}
+use Rattle.gd_reader.specs.Added.{AddsOf}
+use Rattle.gd_reader.specs.Answers.{with_front}
+use Rattle.gd_reader.specs.Terms.{Keeps}
+use Rattle.hddl_reader.specs.Sections.{used_names}
+use Rattle.hddl_reader.proofs.facts.used_names_of.Given as goal
+
+abbrev pub invariant-loop-used : goal.invariant-loop-used
+invariant-loop-used l = record {
+  keeps : Keeps l.initial.names l.names;
+  adds : AddsOf l.s l.initial.names l.names;
+  rest : with_front l.used (used_names l.names (parts_at l.s l.i)) ≡ used_names l.initial.names (parts_at l.s l.initial.i);
+}
+
+abbrev pub decreases-loop-used : goal.decreases-loop-used
+decreases-loop-used l = token_count l.s - l.i

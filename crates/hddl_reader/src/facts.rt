@@ -1,0 +1,136 @@
+ghost use Rattle.htn_base.specs.Words.{folded};
+ghost use Rattle.text_forms.specs.Placed.{parts_at};
+ghost use Rattle.gd_reader.specs.Added.{AddsOf};
+ghost use Rattle.gd_reader.specs.Answers.{Gives, GivesWith};
+ghost use Rattle.gd_reader.specs.Terms.{Keeps};
+ghost use Rattle.hddl_reader.specs.Sections.{words, dropped_name, used_names, assignment, fact, facts, goal};
+
+use gd_reader::{
+    Failure, Item, RawAtom, RawFormula, RawTerm, Sort, Stop, end_due, inside_of, is_word, item_at,
+    list_due, list_or_end, pass, sort_of, used_of, word_due, word_or_end,
+};
+use htn_base::{List, NameTable};
+use sexpr_text::Sexprs;
+use std::alloc::Global;
+
+/// Passes over words from token `i` up to the end of their list.
+#[tactic(auto, unfolding(crate::specs::Sections::words))]
+pub(crate) fn words_of(s: &Sexprs<'_>, mut i: u32) -> Result<(), Failure>
+    ensures gives { Gives (λ _. tt) result (words (parts_at s.now i)) }
+{
+    loop {
+        match item_at(s, i) {
+            Item::End => return Err(Failure::At(Stop::Ends)),
+            Item::Close(_) => return Ok(()),
+            Item::Word(_, _) => i += 1,
+            Item::List(at, _, _) => return Err(Failure::At(Stop::Departs(8, at))),
+        }
+    }
+}
+
+/// A name that is dropped, and the end of its list.
+#[tactic(auto, unfolding(crate::specs::Sections::dropped_name))]
+pub(crate) fn dropped_name(s: &Sexprs<'_>, i: u32) -> Result<(), Failure>
+    ensures gives { Gives (λ _. tt) result (dropped_name (parts_at s.now i)) }
+{
+    let (at, word, behind) = word_due(s, i)?;
+    match sort_of(word) {
+        Sort::Name => end_due(s, behind),
+        Sort::Variable | Sort::Other => Err(Failure::At(Stop::Departs(8, at))),
+    }
+}
+
+// Names that are used, from token `i` up to the end of their list.
+#[tactic(auto, using(gd_reader::proofs::Keeping::keeps_same, gd_reader::proofs::Keeping::keeps_then))]
+fn used_names_of(
+    alloc: Global,
+    s: &Sexprs<'_>,
+    mut i: u32,
+    names: &mut NameTable,
+) -> Result<List<RawTerm>, Failure>
+    ensures keeps { Keeps names.old names.new }
+    ensures adds { AddsOf s.now names.old names.new }
+    ensures gives { GivesWith names.new result (used_names names.old (parts_at s.now i)) }
+{
+    let mut used = List::new(alloc);
+    while let Some((at, word, behind)) = word_or_end(s, i)? {
+        let name = used_of(names, at, word)?;
+        used.push(name)?;
+        i = behind;
+    }
+    Ok(used)
+}
+
+// Behind the sign of an assignment: a list, a word, and the end, all dropped.
+#[tactic(auto, unfolding(crate::specs::Sections::assignment))]
+fn assignment(s: &Sexprs<'_>, i: u32) -> Result<(), Failure>
+    ensures gives { Gives (λ _. tt) result (assignment (parts_at s.now i)) }
+{
+    let (inside, behind) = list_due(s, i)?;
+    pass(s, inside)?;
+    let (_, _, behind) = word_due(s, behind)?;
+    end_due(s, behind)
+}
+
+// What stands in the parentheses of an element of `:init`: an atom, or an assignment, of which nothing is kept.
+#[tactic(auto, unfolding(crate::specs::Sections::fact), using(gd_reader::proofs::Keeping::keeps_same, gd_reader::proofs::Keeping::keeps_then))]
+fn fact_of(
+    alloc: Global,
+    s: &Sexprs<'_>,
+    i: u32,
+    names: &mut NameTable,
+) -> Result<Option<RawAtom>, Failure>
+    ensures keeps { Keeps names.old names.new }
+    ensures adds { AddsOf s.now names.old names.new }
+    ensures gives { GivesWith names.new result (fact names.old (parts_at s.now i)) }
+{
+    let (at, word, i) = word_due(s, i)?;
+    if is_word(word, b"=") {
+        assignment(s, i)?;
+        Ok(None)
+    } else {
+        let head = used_of(names, at, word)?;
+        let args = used_names_of(alloc, s, i, names)?;
+        Ok(Some(RawAtom { head, args }))
+    }
+}
+
+/// The atoms of `:init` from token `i` up to the end of the section.
+#[tactic(auto, using(gd_reader::proofs::Keeping::keeps_same, gd_reader::proofs::Keeping::keeps_then))]
+pub(crate) fn facts_of(
+    alloc: Global,
+    s: &Sexprs<'_>,
+    mut i: u32,
+    names: &mut NameTable,
+) -> Result<List<RawAtom>, Failure>
+    ensures keeps { Keeps names.old names.new }
+    ensures adds { AddsOf s.now names.old names.new }
+    ensures gives { GivesWith names.new result (facts names.old (parts_at s.now i)) }
+{
+    let mut facts = List::new(alloc);
+    while let Some((inside, behind)) = list_or_end(s, i)? {
+        if let Some(fact) = fact_of(alloc, s, inside, names)? {
+            facts.push(fact)?;
+        }
+        i = behind;
+    }
+    Ok(facts)
+}
+
+/// A goal in its parentheses, and the end of its section.
+#[tactic(auto, unfolding(crate::specs::Sections::goal), using(gd_reader::proofs::Keeping::keeps_same))]
+pub(crate) fn goal_of(
+    alloc: Global,
+    s: &Sexprs<'_>,
+    i: u32,
+    names: &mut NameTable,
+) -> Result<RawFormula, Failure>
+    ensures keeps { Keeps names.old names.new }
+    ensures adds { AddsOf s.now names.old names.new }
+    ensures gives { GivesWith names.new result (goal names.old (parts_at s.now i)) }
+{
+    let (inside, behind) = list_due(s, i)?;
+    let formula = inside_of(alloc, s, inside, names)?;
+    end_due(s, behind)?;
+    Ok(formula)
+}

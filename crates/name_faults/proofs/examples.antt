@@ -1,0 +1,4 @@
+mod Values
+mod DomainRows
+mod NetworkRows
+mod ProblemRows
