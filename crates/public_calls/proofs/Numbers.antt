@@ -1,6 +1,7 @@
 -- What is named in the order in which it stands has different names, and so its problem can be run.
-use Rattle.std.proofs.Common.{ℕ, zero, suc, ◌≡◌, ◌+◌, List, [], ◌∷◌, Some, None, slice_get, ap, sym, ◌∙◌, Contains, arith}
+use Rattle.std.proofs.Common.{ℕ, zero, suc, ◌≡◌, ◌+◌, List, [], ◌∷◌, length, Some, None, slice_get, refl, ap, sym, subst, ◌∙◌, Contains, arith}
 use Rattle.std.proofs.lemmas.Option.{slice_get-get_or}
+use Rattle.htn_base.specs.Table.{IsTable}
 use Rattle.plan_model.specs.declared.types.Object.{Object}
 use Rattle.plan_model.specs.declared.schemas.ActionSchema.{ActionSchema}
 use Rattle.plan_model.specs.declared.steps.GroundAction.{GroundAction}
@@ -9,7 +10,7 @@ use Rattle.plan_meaning.specs.ClassicalPlan.{HasWord}
 use Rattle.plan_meaning.specs.FailingStep.{IsNamed, AreNamedApart}
 use Rattle.ground_state.specs.Runs.{IsRunnable}
 use Rattle.ground_state.proofs.PlaceLaws.{one_place}
-use Rattle.public_calls.specs.Numbered.{AreNumbered, IsNumbered}
+use Rattle.public_calls.specs.Numbered.{AreNumbered, AreTwoObjects, AreFewActions, IsNumbered}
 
 some_same : {X : Type 0} (x y : X) → Some x ≡ Some y → x ≡ y
 some_same x y e = cc
