@@ -1,1 +1,2 @@
 pub mod Risings
+pub mod Numbers

@@ -19,6 +19,10 @@ mod orders;
 #[cfg(test)]
 mod readings;
 #[cfg(test)]
+mod runs;
+#[cfg(test)]
+mod scopes;
+#[cfg(test)]
 mod states;
 #[cfg(test)]
 mod tokens;

@@ -4,7 +4,7 @@ ghost use Rattle.std.specs.Prelude.{◌≡◌, ◌≤◌, All, IfOk, length};
 ghost use Rattle.plan_model.specs.Parts.{AreListed};
 ghost use Rattle.public_calls.specs.Rising.{IsRising};
 
-mod samples;
+pub mod samples;
 mod strata;
 
 use crate::methods::samples::{
