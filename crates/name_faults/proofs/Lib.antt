@@ -1,3 +1,4 @@
+pub mod Ones
 pub mod Least
 pub mod Firsts
 pub mod Rolls
