@@ -43,7 +43,7 @@ fn fault_of(
 
 #[test]
 fn faults_of_domains(rt: HostRuntime) {
-    let rows: [(&[u8], u16, u32); 43] = [
+    let rows: [(&[u8], u16, u32); 22] = [
         (b"  ; nothing", 5, 11),
         (b"define", 5, 0),
         (b"()", 5, 1),
@@ -86,6 +86,16 @@ fn faults_of_domains(rt: HostRuntime) {
             0,
             0,
         ),
+    ];
+    for (source, code, at) in rows {
+        let told = fault_of(&rt, rt.alloc(), source, Language::Hddl, Definition::Domain);
+        assert!(rt; told == (code, at), "at {at}");
+    }
+}
+
+#[test]
+fn faults_of_schemas(rt: HostRuntime) {
+    let rows: [(&[u8], u16, u32); 21] = [
         (b"(define (domain d)x)", 8, 18),
         (b"(define (domain d)())", 8, 19),
         (b"(define (domain d)(types))", 8, 19),
