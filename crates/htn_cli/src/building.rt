@@ -9,12 +9,12 @@ ghost use Rattle.htn_cli.specs.Built.{ComesTo};
 ghost use Rattle.htn_cli.specs.Printing.{Prints, Becomes, IsFirstPast};
 
 use crate::manner::Manner;
-use small_reader::small;
 use htn_base::Memory;
 use method_precs::compile;
 use plan_model::{Compiled, Hddl};
 use problem_texts::{Texts, texts_of};
 use slot_encoder::Sizes;
+use small_reader::small;
 use std::alloc::Global;
 
 /// The greatest length of an input text, in bytes.
