@@ -9,11 +9,15 @@
 //! tokens (`places_are_those_of_tokens`).
 #![tactic(auto)]
 
+mod bound;
 mod laws;
 mod names;
 mod places;
 mod read;
 
+pub use bound::{
+    networks_spell_what_is_bound, schemas_spell_what_is_bound, texts_spell_what_is_bound,
+};
 pub use laws::{
     spelled_definitions_are_whole, whole_definitions, whole_effects, whole_formulas, whole_lists,
     whole_networks, whole_schemas,
