@@ -120,7 +120,7 @@ objects_of_exact (word at w p) names =
     reads_then same (PlainName w) (ObjectsOf (part (name w) (parts_of p))) names (used names at w) (λ x. used_names x.1 p >>= (λ xs. Ok (x.0 ∷ xs.0, xs.1))) (plain_name names at w)
     (λ x. reads_map (ObjectsOf (parts_of p)) (λ ts table. PlainName w x.0 table → ObjectsOf (part (name w) (parts_of p)) ts table) x.1 (used_names x.1 p) (λ ts. x.0 ∷ ts) (objects_of_exact p x.1) (λ ts table is one. one_object w (parts_of p) x.0 ts table one is))
 
-abbrev pub IsReadFact : Names → Declared → RawAtom → GroundAtom → Type 0
+abbrev IsReadFact : Names → Declared → RawAtom → GroundAtom → Type 0
 IsReadFact table v = IsBoundFact v table
 
 -- a fact, or an assignment of which nothing is kept

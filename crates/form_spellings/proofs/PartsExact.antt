@@ -48,7 +48,7 @@ use Rattle.form_spellings.proofs.TermsExact.{no_typed, ParamsExact, parameters_e
 use Rattle.form_spellings.proofs.TermsIn.{same}
 
 -- parameters in their parentheses
-abbrev pub AreParamsExact : Part → List RawParam → Names → Type 0
+abbrev AreParamsExact : Part → List RawParam → Names → Type 0
 AreParamsExact q rs table = (v : Declared) (xs : List Param) → Together (IsBoundParam v table) rs xs ↔ AreParams v xs q
 
 in_parentheses : (ps : Parts) (rs : List RawParam) (table : Names) → ParamsExact ps rs table → AreParamsExact (group ps) rs table
@@ -61,26 +61,26 @@ abbrev pub task_place : List Word → Word → Option ℕ
 task_place tasks u = first_place u tasks
 
 -- What each field says of the part that is found.
-abbrev pub ParamsSay : Names → Part → Option (List RawParam) → Type 0
+abbrev ParamsSay : Names → Part → Option (List RawParam) → Type 0
 ParamsSay table q o = AreParamsExact q (or_none o) table
 
 abbrev pub HeadSays : Names → Part → Option RawAtom → Type 0
 HeadSays table q None = q ≡ group nothing
 HeadSays table q (Some a) = CalledExact task_place q a table
 
-abbrev pub FormulaSays : Names → Part → Option RawFormula → Type 0
+abbrev FormulaSays : Names → Part → Option RawFormula → Type 0
 FormulaSays table q o = FormulaExact q (or_true o) table
 
-abbrev pub EffectSays : Names → Part → Option RawEffect → Type 0
+abbrev EffectSays : Names → Part → Option RawEffect → Type 0
 EffectSays table q o = EffectExact q (or_nothing o) table
 
-abbrev pub SubsSay : Names → Part → Option (List RawSub) → Type 0
+abbrev SubsSay : Names → Part → Option (List RawSub) → Type 0
 SubsSay table q o = ListExact IsSub IsReadSub (bundle q) (or_none o) table
 
-abbrev pub PairsSay : Names → Part → Option (List RawPair) → Type 0
+abbrev PairsSay : Names → Part → Option (List RawPair) → Type 0
 PairsSay table q o = ListExact IsOrdered IsReadPair (bundle q) (or_none o) table
 
-abbrev pub ConsSay : Names → Part → Option (List RawCon) → Type 0
+abbrev ConsSay : Names → Part → Option (List RawCon) → Type 0
 ConsSay table q o = ListExact IsCon IsReadCon (bundle q) (or_none o) table
 
 -- parts y that are read of these, where st stood in front

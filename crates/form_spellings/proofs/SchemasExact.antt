@@ -180,7 +180,7 @@ pub method_is : (n : RawTerm) (y : RawParts) (a : RawAtom) → y.task ≡ Some a
 method_is n y a e = ap (λ o. option_map (method_with n y) o) e
 
 -- declared words, tasks and actions
-abbrev pub Methods : Type 0
+abbrev Methods : Type 0
 Methods = Declared × List Word × List Word
 
 abbrev pub IsMethodOf : Methods → MethodSchema → Part → Type 0

@@ -58,10 +58,10 @@ IsReadAction table v = IsBoundAction v table
 abbrev pub TypesSay : Names → Option Parts → Option (List RawParam) → Type 0
 TypesSay table s o = TypesExact (parts_in s) (or_none o) table
 
-abbrev pub ObjectsSay : Names → Option Parts → Option (List RawParam) → Type 0
+abbrev ObjectsSay : Names → Option Parts → Option (List RawParam) → Type 0
 ObjectsSay table s o = AllObjectsExact (parts_in s) (or_none o) table
 
-abbrev pub PredicatesSay : Names → Option Parts → Option (List RawHead) → Type 0
+abbrev PredicatesSay : Names → Option Parts → Option (List RawHead) → Type 0
 PredicatesSay table s o = ListExact IsPredicate IsReadPredicate (parts_in s) (or_none o) table
 
 -- a network that stands is the one that was read
@@ -70,10 +70,10 @@ NetworkSays table None o = Unit {0}
 NetworkSays table (Some ps) None = ⊥
 NetworkSays table (Some ps) (Some y) = PartsKnown parted.Network ps y table
 
-abbrev pub InitSays : Names → Option Parts → Option (List RawAtom) → Type 0
+abbrev InitSays : Names → Option Parts → Option (List RawAtom) → Type 0
 InitSays table s o = FactsExact (parts_in s) (or_none o) table
 
-abbrev pub GoalSays : Names → Option Parts → Option RawFormula → Type 0
+abbrev GoalSays : Names → Option Parts → Option RawFormula → Type 0
 GoalSays table s o = FormulaExact (one_in s) (or_true o) table
 
 -- and what is added to the lists of tasks, actions and methods

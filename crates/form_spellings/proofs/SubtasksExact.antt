@@ -31,11 +31,11 @@ use Rattle.form_spellings.proofs.TermsExact.{TermsExact, terms_exact, declared_b
 use Rattle.form_spellings.proofs.ItemsExact.{ItemExact, ListExact, some_of_exact}
 
 -- tasks and actions share one space of names
-abbrev pub callee : List Word × List Word → Word → Option Head
+abbrev callee : List Word × List Word → Word → Option Head
 callee e u = head_of (first_place u e.0) (first_place u e.1)
 
 -- a subtask in its parentheses
-abbrev pub SubOf : Parts → Option RawTerm × RawAtom → Names → Type 0
+abbrev SubOf : Parts → Option RawTerm × RawAtom → Names → Type 0
 SubOf ps x table = (v : Declared) (tasks actions scope : List Word) (c : Child) → (IsBoundId v table x.0 c.id × IsBoundCall v table tasks actions scope x.1 c.head c.args) ↔ IsSubtask v tasks actions scope c (group ps)
 
 -- no list is a term

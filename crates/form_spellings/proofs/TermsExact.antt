@@ -112,10 +112,10 @@ module _ {E N : Type 0} (look : E → Word → Option N) where
 
 -- typed lists
 module _ {X : Type 0} (Is : Declared → X → Part → Option Part → Type 0) (IsBound : Declared → Names → RawParam → X → Type 0) where
-  abbrev pub TypedExact : Parts → List RawParam → Names → Type 0
+  abbrev TypedExact : Parts → List RawParam → Names → Type 0
   TypedExact ps rs table = (v : Declared) (xs : List X) → Together (IsBound v table) rs xs ↔ EachTyped (Is v) xs ps
 
-  pub typed_exact : (kind : ListKind) → Fits Is IsBound kind → Binds Is IsBound kind → (p : Placed) (names : Names) → Reads names (listed kind names p) (TypedExact (parts_of p))
+  typed_exact : (kind : ListKind) → Fits Is IsBound kind → Binds Is IsBound kind → (p : Placed) (names : Names) → Reads names (listed kind names p) (TypedExact (parts_of p))
   typed_exact kind fits binds p names =
       reads_weaken (λ rs table. ListBound Is IsBound kind fits p rs table × ListSaid Is IsBound kind binds p rs table) (TypedExact (parts_of p)) names (listed kind names p)
       (reads_both (ListBound Is IsBound kind fits p) (ListSaid Is IsBound kind binds p) names (listed kind names p) (listed_bound Is IsBound kind fits p names) (listed_said Is IsBound kind binds p names))
@@ -135,7 +135,7 @@ pub variables_exact : (p : Placed) (names : Names) → Reads names (listed Predi
 variables_exact = typed_exact IsParam IsBoundParam Predicate variable_fits variable_binds
 
 -- constants or not
-abbrev pub ObjectsExact : Bool → Parts → List RawParam → Names → Type 0
+abbrev ObjectsExact : Bool → Parts → List RawParam → Names → Type 0
 ObjectsExact constant = TypedExact (λ v. IsObject v constant) (λ v table. IsBoundObject v table constant)
 
 abbrev pub AllObjectsExact : Parts → List RawParam → Names → Type 0

@@ -70,16 +70,13 @@ module _ (n : Name) (y : RawSections) (ss : Parts) (table : Names) (h : Sections
   all_methods = subst (MethodsSay table (only (codes ":method") ss)) (sym h.methods.1) h.methods.2
 
   module _ (d : Domain) where
-    abbrev words : Declared
-    words = domain_words d
-
     abbrev calls : Declared × List Word × List Word
     calls = (domain_words d, words_of_tasks d.names d.tasks, words_of_actions d.names d.actions)
 
     same_types : AreBoundTypes (domain_words d) table (type_words d.names d.types) d.types.parents (or_none y.types) ↔ AreTypes (type_words d.names d.types) d.types.parents (parts_in (section (codes ":types") ss))
     same_types = types_exact (domain_words d) table (type_words d.names d.types) d.types.parents (or_none y.types) (parts_in (section (codes ":types") ss)) h.types
 
-    pub domain_to : AreSomeDomainSections hddl_many ss → IsBoundDomain table (domain_of (n, y)) d → AreHddlDomainSections d ss
+    domain_to : AreSomeDomainSections hddl_many ss → IsBoundDomain table (domain_of (n, y)) d → AreHddlDomainSections d ss
     domain_to some b = record {
       common = record {
         domain_form = some.form;
@@ -93,7 +90,7 @@ module _ (n : Name) (y : RawSections) (ss : Parts) (table : Names) (h : Sections
       methods = (all_methods calls d.methods).0 b.methods;
     }
 
-    pub domain_from : AreHddlDomainSections d ss → IsBoundDomain table (domain_of (n, y)) d
+    domain_from : AreHddlDomainSections d ss → IsBoundDomain table (domain_of (n, y)) d
     domain_from i = record {
       types = same_types.1 i.types;
       constants = (h.constants.0 (domain_words d) d.constants).1 i.constants_spelled;
@@ -115,7 +112,7 @@ module _ (n : Name) (y : RawSections) (ss : Parts) (table : Names) (h : Sections
       go (Some z) k = top_exact htn z table k v tasks actions m
 
   module _ (v : Declared) (tasks actions : List Word) (x : Problem) (m : MethodSchema) where
-    pub problem_to : AreSomeHddlProblemSections hddl_problem_once ss → IsBoundProblem table v tasks actions (problem_of (n, y)) x m → AreHddlProblemSections v tasks actions x m ss
+    problem_to : AreSomeHddlProblemSections hddl_problem_once ss → IsBoundProblem table v tasks actions (problem_of (n, y)) x m → AreHddlProblemSections v tasks actions x m ss
     problem_to some b = go (section (codes ":htn") ss) refl some.top
       where
         go : (o : Option Parts) → section (codes ":htn") ss ≡ o → IsThere AreNetworkParts o → AreHddlProblemSections v tasks actions x m ss
@@ -135,7 +132,7 @@ module _ (n : Name) (y : RawSections) (ss : Parts) (table : Names) (h : Sections
           top = (top_there htn e v tasks actions m).0 b.top;
         }
 
-    pub problem_from : AreHddlProblemSections v tasks actions x m ss → IsBoundProblem table v tasks actions (problem_of (n, y)) x m
+    problem_from : AreHddlProblemSections v tasks actions x m ss → IsBoundProblem table v tasks actions (problem_of (n, y)) x m
     problem_from i = record {
       objects = (h.objects.1 v x.objects).1 i.others_spelled;
       init = (h.init v x.init).1 i.init;
@@ -151,13 +148,13 @@ module _ (d : Definition) (kind : Word) (text : List ℕ) (names left later : Na
   known : DefinitionIs (parts_at text 0) x later
   known = stands (DefinitionIs (parts_at text 0)) names left (definition_read language.Hddl d names (parts_at text 0)) x is.gives (definition_exact (parts_at text 0) language.Hddl d names) later keeps
 
-  pub read_of : (w : Word) (ss : Parts) → IsDefinition kind text w ss → IsHeaded w ss x later
+  read_of : (w : Word) (ss : Parts) → IsDefinition kind text w ss → IsHeaded w ss x later
   read_of w ss i = known kind w ss ((says_as_placed text (Text w ss)).0 i.is)
 
-  pub headed_of : {Are : Parts → Type 0} (s : IsDefined kind Are (parts_at text 0)) → IsHeaded s.0 s.1 x later
+  headed_of : {Are : Parts → Type 0} (s : IsDefined kind Are (parts_at text 0)) → IsHeaded s.0 s.1 x later
   headed_of s = known kind s.0 s.1 s.2
 
-  pub defined_of : {Are : Parts → Type 0} → IsFaultless text → (s : IsDefined kind Are (parts_at text 0)) → (w : Word) → w ≡ s.0 → IsDefinition kind text w s.1
+  defined_of : {Are : Parts → Type 0} → IsFaultless text → (s : IsDefined kind Are (parts_at text 0)) → (w : Word) → w ≡ s.0 → IsDefinition kind text w s.1
   defined_of f s w e = subst (λ w. IsDefinition kind text w s.1) (sym e) (record { clean = clean text f; is = (says_as_placed text (Text s.0 s.1)).1 s.2; named = s.3 })
 
 -- both texts, by the sections that were read of them

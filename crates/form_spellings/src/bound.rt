@@ -1,10 +1,9 @@
 // What was read is bound to exactly what is spelled.
-ghost use Rattle.std.specs.Prelude.{ℕ};
 ghost use Rattle.hddl_reader.specs.declared.parts.Parted.TheVariants.{Task, Method, Action, Network};
 ghost use Rattle.hddl_reader.specs.Networks.{sub_headed, pair_headed, con_headed, one_of, some_of};
 ghost use Rattle.hddl_reader.specs.Parts.{no_parts, parts};
 ghost use Rattle.hddl_reader.specs.Sections.{predicate_headed, named_parts};
-ghost use Rattle.form_spellings.specs.OfAllRead.{OfAllRead};
+ghost use Rattle.form_spellings.specs.OfAllRead.{OfAllRead, OfAllOpened};
 ghost use Rattle.form_spellings.specs.ReadNetworks.{AreReadSubtasks, AreReadPairs, AreReadConstraints};
 ghost use Rattle.form_spellings.specs.ReadSchemas.{IsReadPredicate, IsReadTask, IsReadAction, IsReadMethod, IsReadTop};
 ghost use Rattle.form_spellings.specs.ReadTexts.{BoundHddlIsSpelled, SpelledHddlIsBound};
@@ -12,15 +11,15 @@ ghost use Rattle.form_spellings.specs.ReadTexts.{BoundHddlIsSpelled, SpelledHddl
 /// What stands behind a network's keyword spells exactly the subtasks, pairs or constraints to which what was read of it is bound,
 /// over all declared words, tasks, actions, variables and ids.
 pub fn networks_spell_what_is_bound()
-    ensures subtasks { (place : ℕ) → OfAllRead (λ names p. some_of sub_headed names place p) AreReadSubtasks }
-    ensures pairs { (place : ℕ) → OfAllRead (λ names p. some_of pair_headed names place p) AreReadPairs }
-    ensures constraints { (place : ℕ) → OfAllRead (λ names p. some_of con_headed names place p) AreReadConstraints }
+    ensures subtasks { OfAllOpened (some_of sub_headed) AreReadSubtasks }
+    ensures pairs { OfAllOpened (some_of pair_headed) AreReadPairs }
+    ensures constraints { OfAllOpened (some_of con_headed) AreReadConstraints }
 {}
 
 /// A predicate, and what stands behind the keyword of a task, an action, a method or a problem's network, spells exactly the values
 /// to which what was read of it is bound.
 pub fn schemas_spell_what_is_bound()
-    ensures predicates { (place : ℕ) → OfAllRead (λ names p. one_of predicate_headed names place p) IsReadPredicate }
+    ensures predicates { OfAllOpened (one_of predicate_headed) IsReadPredicate }
     ensures tasks { OfAllRead (named_parts Task) IsReadTask }
     ensures actions { OfAllRead (named_parts Action) IsReadAction }
     ensures methods { OfAllRead (named_parts Method) IsReadMethod }
