@@ -8,6 +8,7 @@ use htn_base::{Fault, NameTable};
 use sexpr_text::{ReadError, read};
 use std::alloc::Global;
 use std::process::Abort;
+use std::test::Fail;
 
 // The code and the offset of the fault, if there is one.
 fn told<T: Drop>(rt: &impl Abort, answer: Result<T, ReadError>) -> (u16, u32) {
@@ -326,18 +327,40 @@ fn each_line_of_the_grammar(rt: HostRuntime) {
     assert!(rt; names.find(b"cost").is_none() && names.find(b"minimize").is_none());
 }
 
-// Cut behind its first byte, a list is open: fault 2 of the tokens at its opening parenthesis, and the domain's own
+fn refuses_each_prefix(rt: &impl Abort, alloc: Global, text: &[u8], definition: Definition)
+    requires short { length text.now ≤ 16777216 }
+{
+    for end in 0..text.len() {
+        let (code, _) = fault_of(rt, alloc, &text[..end], Language::Hddl, definition);
+        assert!(rt; code == if end == 0 { 5 } else { 2 }, "at {end}");
+    }
+}
+
+// Cut behind its first byte, a list is open: fault 2 of the tokens at its opening parenthesis, and the text's own
 // parenthesis at the last cut. No tokens have fault 5 at the length.
 #[test]
 fn each_prefix_is_refused(rt: HostRuntime) {
-    for end in 0..DOMAIN.len() {
-        let (code, _) = fault_of(
-            &rt,
-            rt.alloc(),
-            &DOMAIN[..end],
-            Language::Hddl,
-            Definition::Domain,
-        );
-        assert!(rt; code == if end == 0 { 5 } else { 2 }, "at {end}");
+    refuses_each_prefix(&rt, rt.alloc(), DOMAIN, Definition::Domain);
+    refuses_each_prefix(&rt, rt.alloc(), PROBLEM, Definition::Problem);
+}
+
+// An action with so many lists in its condition, each in the one in front of it.
+fn deep(alloc: Global, lists: usize) -> Result<Vec<u8>, Fail> {
+    let mut text = Vec::from_slice(alloc, b"(define (domain d)(:action a :precondition ")?;
+    text.extend_from_slice(&b"(and".repeat(alloc, lists)?)?;
+    text.extend_from_slice(&b")".repeat(alloc, lists)?)?;
+    text.extend_from_slice(b"))")?;
+    Ok(text)
+}
+
+// The lists of the domain and of the action are open around those of the condition, which begin at 43.
+#[test]
+fn conditions_as_deep_as_lists_may_be(rt: HostRuntime) -> Result<(), Fail> {
+    for (lists, fault) in [(198, (0, 0)), (199, (4, 43 + 4 * 198))] {
+        let text = deep(rt.alloc(), lists)?;
+        assert!(rt; text.len() <= 16_777_216);
+        let told = fault_of(&rt, rt.alloc(), &text, Language::Hddl, Definition::Domain);
+        assert!(rt; told == fault, "{lists} lists");
     }
+    Ok(())
 }
