@@ -1,0 +1,36 @@
+-- The first and the last place of a number in a list.
+use Rattle.std.specs.Prelude.{ℕ, suc, ◌≡◌, ◌<◌, ◌==◌, Bool, true, false, cond, List, [], ◌∷◌, Option, Some, None, option_map, slice_get, slice_index_or, take, length}
+
+abbrev pub first_place : ℕ → List ℕ → Option ℕ
+first_place n [] = None
+first_place n (x ∷ xs) = cond (n == x) (Some 0) (option_map suc (first_place n xs))
+
+abbrev pub later : Option ℕ → Bool → Option ℕ
+later (Some k) here = Some (suc k)
+later None true = Some 0
+later None false = None
+
+abbrev pub last_place : ℕ → List ℕ → Option ℕ
+last_place n [] = None
+last_place n (x ∷ xs) = later (last_place n xs) (n == x)
+
+-- the cell of a number; past the end there is none
+abbrev pub cell : List (Option ℕ) → ℕ → Option ℕ
+cell cells n = slice_index_or cells n None
+
+-- the cell of each number has its first place in the list
+abbrev pub AreFirst : List (Option ℕ) → List ℕ → Type 0
+AreFirst cells numbers = (n : ℕ) → cell cells n ≡ first_place n numbers
+
+-- the cell of each number has its last place in the list
+abbrev pub AreLast : List (Option ℕ) → List ℕ → Type 0
+AreLast cells numbers = (n : ℕ) → cell cells n ≡ last_place n numbers
+
+-- each number has the place that it had last in front of it
+abbrev pub AreHidden : List (Option ℕ) → List ℕ → Type 0
+AreHidden hidden numbers = (k : ℕ) → (n : ℕ) → slice_get numbers k ≡ Some n → cell hidden k ≡ last_place n (take k numbers)
+
+pub record AreVariables (cells : List (Option ℕ)) (numbers : List ℕ) (hidden : List (Option ℕ)) : Type 0 where
+  pub last : AreLast cells numbers
+  pub room : length hidden ≡ length numbers
+  pub before : AreHidden hidden numbers
