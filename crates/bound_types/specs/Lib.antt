@@ -1,3 +1,4 @@
 pub mod Seen
 pub mod Kinds
 pub mod Typed
+pub mod Mentions

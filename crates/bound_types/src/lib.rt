@@ -5,8 +5,10 @@
 //! list (`params_of`, `objects_of`).
 #![tactic(auto)]
 
+mod section;
 mod table;
 mod typed;
 
+pub use section::types_in_order;
 pub use table::TypeTable;
 pub use typed::{objects_of, params_of};
