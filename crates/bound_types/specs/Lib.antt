@@ -2,3 +2,4 @@ pub mod Seen
 pub mod Kinds
 pub mod Typed
 pub mod Mentions
+pub mod Parents
