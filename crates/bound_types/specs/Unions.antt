@@ -1,6 +1,8 @@
 -- The unions that typed lists, formulas and effects write, in the order of the raw values.
 -- Source: PDDL 2.1 (Fox and Long, JAIR 20, 2003, level 1) for `either`; which types a union has is this project's.
-use Rattle.std.specs.Prelude.{ℕ, ◌++◌, List, [], ◌∷◌, flat_map}
+use Rattle.std.specs.Prelude.{ℕ, ◌++◌, List, [], ◌∷◌, flat_map, map, fold, ◌≡◌}
+use Rattle.std.specs.List.Sorted.{IsPermutation, IsNonDecreasingBy}
+use Rattle.htn_base.specs.Table.{with_word}
 use Rattle.gd_reader.specs.declared.term.RawTerm.{RawTerm}
 use Rattle.gd_reader.specs.declared.typed_lists.RawParam.{RawParam}
 use Rattle.gd_reader.specs.declared.formulas.RawFormula.{RawFormula}
@@ -55,3 +57,13 @@ module _ (kinds : Kinds) where
 
   abbrev pub effect_unions : RawEffect → List Either
   effect_unions = fold-RawEffect (List Either) effect_step
+
+abbrev pub members_of : Either → List ℕ
+members_of e = e.members
+
+-- the unions with these, as their first words follow one another in the text, each once
+pub record AreWith (found : List Either) (old new : List (List ℕ)) : Type 0 where
+  pub sorted : List Either
+  pub same : IsPermutation found sorted
+  pub rise : IsNonDecreasingBy (λ e. e.at) sorted
+  pub unions : new ≡ fold with_word old (map members_of sorted)
