@@ -1,12 +1,12 @@
 -- The sets of parents with one more word of a section.
-use Rattle.std.proofs.Common.{◌≡◌, ◌≢◌, ℕ, ◌+◌, ◌<◌, List, [], ◌∷◌, ◌++◌, cond, nat_eq, map, length, get_or, set, Some, None, refl, sym, ap, subst, ◌∙◌, inl, inr, arith, append-nil, length-set, get_or-set_other}
+use Rattle.std.proofs.Common.{◌≡◌, ◌≢◌, ℕ, ◌<◌, List, [], ◌∷◌, ◌++◌, cond, nat_eq, map, length, get_or, set, Some, None, refl, sym, ap, ◌∙◌, inl, inr, arith, append-nil, length-set, get_or-set_other}
 use Rattle.std.specs.Prelude.{unwrap_or, slice_get}
 use Rattle.std.specs.List.{flat_map}
 use Rattle.std.proofs.lemmas.Bool.{cases_eq, eq-eqb, ne_eqb}
 use Rattle.std.proofs.lemmas.Grind.{get_or-set_at}
 use Rattle.std.proofs.lemmas.List.{append_assoc}
 use Rattle.std.proofs.lemmas.Option.{slice_get_within, get_or_from_slice_get, slice_get-get_or}
-use Rattle.indexmap.specs.IndexSet.{IndexSet, insert_key, insert_all}
+use Rattle.indexmap.specs.IndexSet.{IndexSet, insert_all}
 use Rattle.name_numbers.specs.Places.{first_place}
 use Rattle.name_numbers.proofs.Found.{first_within}
 use Rattle.gd_reader.specs.declared.typed_lists.RawParam.{RawParam}

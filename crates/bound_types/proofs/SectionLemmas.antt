@@ -1,5 +1,5 @@
 -- One more word of a section of types.
-use Rattle.std.proofs.Common.{◌≡◌, ℕ, ◌+◌, ◌<◌, List, [], ◌∷◌, ◌++◌, Bool, true, false, cond, not, ◌||◌, nat_eq, map, take, length, get_or, refl, ap, ◌∙◌, sym, append-nil}
+use Rattle.std.proofs.Common.{◌≡◌, ℕ, ◌+◌, ◌<◌, List, [], ◌∷◌, ◌++◌, Bool, true, false, cond, not, ◌||◌, nat_eq, take, length, get_or, refl, ap, ◌∙◌, sym, append-nil}
 use Rattle.std.specs.Prelude.{is_some}
 use Rattle.std.specs.Option.{is_none}
 use Rattle.std.proofs.lemmas.List.{append_assoc}

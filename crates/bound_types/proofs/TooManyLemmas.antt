@@ -1,7 +1,6 @@
 -- The numbers that are first seen, and the word that names one type too many.
-use Rattle.std.proofs.Common.{◌≡◌, ◌≢◌, ℕ, zero, suc, ◌+◌, ◌<◌, ◌≤◌, List, [], ◌∷◌, ◌++◌, Bool, true, false, cond, not, ◌&&◌, ◌||◌, nat_eq, map, length, take, drop, get_or, Option, Some, None, refl, sym, ap, subst, ◌∙◌, inl, inr, arith, true≢false, length-append, length-take}
+use Rattle.std.proofs.Common.{◌≡◌, ◌≢◌, ℕ, zero, suc, ◌<◌, ◌≤◌, List, [], ◌∷◌, ◌++◌, Bool, true, false, cond, not, ◌&&◌, ◌||◌, nat_eq, length, take, get_or, Some, refl, sym, ap, subst, ◌∙◌, inl, inr, arith, true≢false, length-take}
 use Rattle.std.specs.Prelude.{Contains, option_map}
-use Rattle.std.specs.List.{list_any}
 use Rattle.std.proofs.lemmas.Bool.{cases_lt, cases_eq, eq-eqb, ne_eqb, eqb-true}
 use Rattle.std.proofs.lemmas.List.{get_or-take, get_or_default}
 use Rattle.std.proofs.lemmas.List.Sorted.{Contains-permutation, IsPermutation-sym}
@@ -13,7 +12,7 @@ use Rattle.task_networks.proofs.Different.{no_more}
 use Rattle.name_numbers.specs.Places.{first_place}
 use Rattle.gd_reader.specs.declared.term.RawTerm.{RawTerm}
 use Rattle.gd_reader.specs.declared.typed_lists.RawParam.{RawParam}
-use Rattle.bound_types.specs.Mentions.{mentioned, numbers_of, AreInTextOrder, types_in_order}
+use Rattle.bound_types.specs.Mentions.{mentioned, numbers_of, AreInTextOrder}
 use Rattle.bound_types.specs.TooMany.{HaveOneWordAPlace, IsSaidBefore, AreTypesBefore, IsOneTooMany}
 use Rattle.bound_types.specs.Seen.{is_among, first_seen}
 

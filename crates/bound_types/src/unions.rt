@@ -50,7 +50,8 @@ pub fn put_unions(
     params: &List<RawParam>,
     into: &mut Vec<Either>,
 ) -> Result<(), Memory>
-    ensures put { OnOk result (into.new.items ≡ into.old.items ++ params_unions table.now params.now) }
+    ensures put { OnOk result
+        (into.new.items ≡ into.old.items ++ params_unions table.now params.now) }
 {
     for param in params.as_slice() {
         put_union(alloc, table, param.ty.as_slice(), into)?;
@@ -66,7 +67,8 @@ pub fn put_unions_of_formula(
     formula: &RawFormula,
     into: &mut Vec<Either>,
 ) -> Result<(), Memory>
-    ensures put { OnOk result (into.new.items ≡ into.old.items ++ formula_unions table.now formula.now) }
+    ensures put { OnOk result
+        (into.new.items ≡ into.old.items ++ formula_unions table.now formula.now) }
 {
     match formula {
         RawFormula::Holds(_) | RawFormula::Equal(_, _) => Ok(()),
@@ -112,7 +114,8 @@ pub fn put_unions_of_effect(
     effect: &RawEffect,
     into: &mut Vec<Either>,
 ) -> Result<(), Memory>
-    ensures put { OnOk result (into.new.items ≡ into.old.items ++ effect_unions table.now effect.now) }
+    ensures put { OnOk result
+        (into.new.items ≡ into.old.items ++ effect_unions table.now effect.now) }
 {
     match effect {
         RawEffect::Add(_) | RawEffect::Delete(_) => Ok(()),

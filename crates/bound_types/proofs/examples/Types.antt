@@ -3,7 +3,6 @@ use Rattle.std.proofs.Common.{◌≡◌, ℕ, List, [], ◌∷◌, false, refl}
 use Rattle.name_numbers.specs.Spots.{spot}
 use Rattle.gd_reader.specs.declared.term.RawTerm.{RawTerm}
 use Rattle.gd_reader.specs.declared.typed_lists.RawParam.{RawParam}
-use Rattle.bound_types.specs.Seen.{first_seen}
 use Rattle.bound_types.specs.Kinds.{Kinds, kind_bound, kind_faults}
 use Rattle.bound_types.specs.Mentions.{types_in_order}
 use Rattle.bound_types.specs.Parents.{parent, pairs_in_order}

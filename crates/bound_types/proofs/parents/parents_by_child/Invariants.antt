@@ -1,4 +1,4 @@
-use Rattle.std.proofs.Common.{◌≡◌, take}
+use Rattle.std.proofs.Common.{take}
 use Rattle.bound_types.specs.Parents.{AreParentsOf}
 use Rattle.bound_types.proofs.parents.parents_by_child.Given as goal
 

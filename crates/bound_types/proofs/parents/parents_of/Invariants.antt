@@ -1,5 +1,5 @@
 use Rattle.std.proofs.Common.{◌≡◌}
-use Rattle.bound_types.specs.Parents.{pairs_below, AreParentsOf}
+use Rattle.bound_types.specs.Parents.{pairs_below}
 use Rattle.bound_types.proofs.parents.parents_of.Given as goal
 
 abbrev pub invariant-loop-child : goal.invariant-loop-child

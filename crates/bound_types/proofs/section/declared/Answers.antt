@@ -1,4 +1,4 @@
-use Rattle.std.proofs.Common.{◌≡◌, ◌++◌, [], ◌∷◌, Bool, true, false, not, ap, ◌∙◌, sym}
+use Rattle.std.proofs.Common.{Bool, true, false, not, ap, ◌∙◌, sym}
 use Rattle.std.specs.Option.{is_none}
 use Rattle.bound_types.proofs.SectionLemmas.{types_in_order-next}
 use Rattle.bound_types.proofs.section.declared.Goals as goal

@@ -1,4 +1,4 @@
-use Rattle.std.proofs.Common.{◌≡◌, ◌+◌, ◌<◌, ap, ◌∙◌, take, length, get_or, rules}
+use Rattle.std.proofs.Common.{◌≡◌, ◌<◌, ap, ◌∙◌, take, length, get_or, rules}
 use Rattle.bound_types.specs.Mentions.{mentioned}
 use Rattle.bound_types.proofs.SectionLemmas.{mentioned-push}
 use Rattle.bound_types.proofs.StepLemmas.{take-read}
