@@ -1,9 +1,8 @@
 -- The number of a type as it is written, and its faults.
 -- Source: PDDL 2.1 (Fox and Long, JAIR 20, 2003, level 1) for `either`; the numbers of unions are this project's.
-use Rattle.std.specs.Prelude.{ℕ, ◌+◌, List, [], ◌∷◌, length, map, flat_map, Option, option_map, unwrap_or, position, nat_eq}
+use Rattle.std.specs.Prelude.{ℕ, ◌+◌, List, [], ◌∷◌, length, map, flat_map, option_map, unwrap_or, position, nat_eq}
 use Rattle.std.specs.Cmp.Lexicographic.{pointwise}
 use Rattle.name_numbers.specs.Places.{first_place}
-use Rattle.name_numbers.specs.Spots.{spot}
 use Rattle.name_numbers.specs.Terms.{unless_found}
 use Rattle.name_numbers.specs.declared.faults.Spot.{Spot}
 use Rattle.gd_reader.specs.declared.term.RawTerm.{RawTerm}

@@ -1,5 +1,5 @@
 -- Typed lists, and their faults.
-use Rattle.std.specs.Prelude.{ℕ, Bool, List, map, flat_map}
+use Rattle.std.specs.Prelude.{Bool, List, map, flat_map}
 use Rattle.name_numbers.specs.declared.faults.Spot.{Spot}
 use Rattle.gd_reader.specs.declared.typed_lists.RawParam.{RawParam}
 use Rattle.plan_model.specs.declared.terms.Param.{Param}

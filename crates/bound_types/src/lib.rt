@@ -1,12 +1,20 @@
-//! The types of two texts: their numbers, the pairs of parents, the unions, and typed lists on these.
+//! The types of two texts: their numbers, the pairs of types and parents, the unions, and typed lists on these.
 //!
-//! Stands on `htn_base`, `name_numbers`, `gd_reader`, `plan_model` and `indexmap`. The contracts used above: written types have the
-//! number that the table of types gives them, or their faults are noted (`TypeTable::kind_of`), and so have the words of a typed
-//! list (`params_of`, `objects_of`).
+//! Stands on `htn_base`, `name_numbers`, `gd_reader`, `plan_model`, `indexmap` and a lemma of `task_networks`. Used above: the types
+//! of a section in the order in which the text first names them, and the least fault of too many (`types_in_order`); their pairs
+//! (`parents_of`); the number of types as they are written, or the faults of their names (`TypeTable::kind_of`), and so for the words
+//! of a typed list (`params_of`, `objects_of`); the unions that typed lists, formulas and effects write (`put_unions` and its kin),
+//! numbered by the offsets of their first words, each once (`TypeTable::add_unions`).
 #![tactic(auto)]
 
+mod parents;
+mod section;
 mod table;
 mod typed;
+mod unions;
 
+pub use parents::parents_of;
+pub use section::types_in_order;
 pub use table::TypeTable;
 pub use typed::{objects_of, params_of};
+pub use unions::{Either, put_union, put_unions, put_unions_of_effect, put_unions_of_formula};

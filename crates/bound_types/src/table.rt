@@ -1,9 +1,14 @@
 ghost use Rattle.std.specs.Prelude.{◌≡◌, [], ◌∷◌, map, length, IfOk, OnOk, unwrap_or};
+ghost use Rattle.std.specs.List.{fold};
+ghost use Rattle.std.specs.List.Sorted.{IsPermutation, IsNonDecreasingBy};
+ghost use Rattle.htn_base.specs.Table.{with_word};
 ghost use Rattle.name_numbers.specs.Spots.{noted};
+ghost use Rattle.bound_types.specs.Unions.{members_of, AreWith};
 ghost use Rattle.bound_types.specs.Kinds.{type_number, type_faults, union_number, kind_by, members_written, kind_bound, kind_faults};
 
+use crate::unions::Either;
 use gd_reader::RawTerm;
-use htn_base::{Memory, Name, number};
+use htn_base::{List, Memory, number};
 use indexmap::IndexSet;
 use name_numbers::{Faults, Places, found_or_noted};
 use std::alloc::Global;
@@ -93,6 +98,47 @@ impl TypeTable {
         Ok(members)
     }
 
+    /// Puts unions to the others by the offsets of their first words, each once. After `Memory` some may be there.
+    pub fn add_unions(&mut self, alloc: Global, found: Vec<Either>) -> Result<(), Memory>
+        ensures unions { OnOk result (AreWith found.items self.old.unions self.new.unions) }
+        ensures types { self.new.types ≡ self.old.types }
+    {
+        match in_text_order(found) {
+            Ok(sorted) => self.add_each(alloc, sorted.as_slice()),
+            Err(error) => Err(error),
+        }
+    }
+
+    /// Puts each of these unions behind the others, unless it is there.
+    fn add_each(&mut self, alloc: Global, sorted: &[Either]) -> Result<(), Memory>
+        ensures unions { OnOk result
+            (self.new.unions ≡ fold with_word self.old.unions (map members_of sorted.now)) }
+        ensures types { self.new.types ≡ self.old.types }
+    {
+        for either in sorted {
+            self.add_union(alloc, either.members.as_slice())?;
+        }
+        Ok(())
+    }
+
+    fn add_union(&mut self, alloc: Global, members: &[u32]) -> Result<(), Memory>
+        ensures union { OnOk result (self.new.unions ≡ with_word self.old.unions members.now) }
+        ensures types { self.new.types ≡ self.old.types }
+    {
+        let union = Vec::from_slice(alloc, members)?;
+        self.unions.insert(union)?;
+        Ok(())
+    }
+
+    /// The numbers of the written types, each once. Nothing is noted.
+    pub fn members(&self, alloc: Global, types: &[RawTerm]) -> Result<List<u32>, Memory>
+        ensures members { IfOk result (λ members. members ≡ members_written self.now types.now) }
+    {
+        let mut faults = Faults::new();
+        let members = self.members_of(alloc, types, &mut faults)?;
+        listed(alloc, members.as_slice())
+    }
+
     /// The number of what has these types.
     fn number_by(&self, members: &[u32]) -> Result<u32, Memory>
         ensures number { IfOk result (λ number. number ≡ kind_by self.now members.now) }
@@ -116,4 +162,24 @@ impl TypeTable {
             None => Ok(0),
         }
     }
+}
+
+/// These numbers in a list of their own.
+fn listed(alloc: Global, numbers: &[u32]) -> Result<List<u32>, Memory>
+    ensures same { IfOk result (λ list. list ≡ numbers.now) }
+{
+    let mut list = List::new(alloc);
+    for number in numbers {
+        list.push(*number)?;
+    }
+    Ok(list)
+}
+
+/// Unions by the offsets of their first words.
+fn in_text_order(mut found: Vec<Either>) -> Result<Vec<Either>, Memory>
+    ensures same { IfOk result (λ sorted. IsPermutation found.items sorted.items) }
+    ensures rise { IfOk result (λ sorted. IsNonDecreasingBy (λ e. e.at) sorted.items) }
+{
+    found.sort_by_key(|either| either.at)?;
+    Ok(found)
 }

@@ -1,4 +1,4 @@
-use Rattle.std.proofs.Common.{◌≡◌, map, take}
+use Rattle.std.proofs.Common.{◌≡◌, take}
 use Rattle.name_numbers.specs.Spots.{noted}
 use Rattle.bound_types.specs.Typed.{objects_bound, params_faults}
 use Rattle.bound_types.proofs.typed.objects_of.Given as goal

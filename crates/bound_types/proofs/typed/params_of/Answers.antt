@@ -1,4 +1,4 @@
-use Rattle.std.proofs.Common.{◌≡◌, ◌+◌, ◌<◌, length, get_or, arith, rules}
+use Rattle.std.proofs.Common.{◌≡◌, ◌<◌, length, get_or, rules}
 use Rattle.bound_types.specs.Typed.{param_bound, typed_faults}
 use Rattle.bound_types.proofs.StepLemmas.{map-read, noted-read}
 use Rattle.bound_types.proofs.typed.params_of.Goals as goal

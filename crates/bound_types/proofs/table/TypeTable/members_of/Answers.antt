@@ -1,4 +1,4 @@
-use Rattle.std.proofs.Common.{◌≡◌, [], ap, ◌∙◌, sym, map, take, nat_eq, refl}
+use Rattle.std.proofs.Common.{[], ap, ◌∙◌, sym, map, take, nat_eq, refl}
 use Rattle.indexmap.specs.IndexSet.{insert_key}
 use Rattle.bound_types.specs.Seen.{first_seen}
 use Rattle.bound_types.specs.Kinds.{type_number, type_faults}

@@ -1,4 +1,4 @@
-use Rattle.std.proofs.Common.{◌≡◌, map, take}
+use Rattle.std.proofs.Common.{◌≡◌, take}
 use Rattle.name_numbers.specs.Spots.{noted}
 use Rattle.bound_types.specs.Kinds.{members_written, kind_faults}
 use Rattle.bound_types.proofs.table.TypeTable.members_of.Given as goal
