@@ -11,10 +11,15 @@ use Rattle.hddl_reader.specs.declared.networks.RawNet.{RawNet}
 use Rattle.hddl_reader.specs.declared.networks.RawPair.{RawPair}
 use Rattle.name_faults.specs.Lists.{One}
 use Rattle.name_faults.specs.Networks.{most_subtasks}
+use Rattle.name_faults.proofs.Firsts.{one_is_first}
 use Rattle.bound_networks.specs.Pairs.{first_of, second_of, pairs_bound, pairs_at}
-use Rattle.bound_networks.specs.Cycle.{IsPair, IsCycle, CyclicOrder}
+use Rattle.bound_networks.specs.Cycle.{IsPair, ClosesOrder, IsCycle, CyclicOrder}
 use Rattle.bound_networks.proofs.Called.{subtask_within}
 use Rattle.bound_networks.proofs.Closing.{all_in_ordered, ClosesAt, closes_at, none_closes, none_first, length-places}
+
+-- a network has its cycle at one place
+pub one_cycle : (n : RawNet) (at at' : ℕ) → CyclicOrder n at → CyclicOrder n at' → at ≡ at'
+one_cycle n at at' a b = sym a.1.1 ∙ ap (λ (x : RawPair). x.at) (one_is_first (ClosesOrder n) n.pairs a.1.0 b.1.0 a.1.2 b.1.2) ∙ b.1.1
 
 module _ (n : RawNet) (pairs : List Pair) (offsets : List ℕ) (are : pairs ≡ pairs_bound n) (at : offsets ≡ pairs_at n) where
   abbrev place : RawPair → ℕ

@@ -1,4 +1,4 @@
-ghost use Rattle.std.specs.Prelude.{◌≡◌, ◌<◌, ◌^◌, ◌++◌, length, flat_map, IfOk, OnOk};
+ghost use Rattle.std.specs.Prelude.{◌≡◌, flat_map, IfOk};
 ghost use Rattle.name_numbers.specs.Spots.{noted};
 ghost use Rattle.plan_model.specs.declared.networks.Head.TheVariants.{Task, Action};
 ghost use Rattle.bound_networks.specs.Callables as spec;
@@ -39,7 +39,8 @@ impl Model for Callables {
 impl Callables {
     /// Those that a domain declares.
     pub fn new(alloc: Global, tasks: &[RawHead], actions: &[RawAction]) -> Result<Callables, Memory>
-        ensures declared { IfOk result (λ callables. callables ≡ spec.declared tasks.now actions.now) }
+        ensures declared { IfOk result
+            (λ callables. callables ≡ spec.declared tasks.now actions.now) }
     {
         let tasks = Callees::new(alloc, tasks_of(alloc, tasks)?)?;
         let actions = Callees::new(alloc, actions_of(alloc, actions)?)?;
@@ -58,7 +59,8 @@ impl Callables {
 
     /// Notes the fault of each task and action whose name stands for an earlier one.
     pub fn seconds(&self, faults: &mut Faults)
-        ensures faults { faults.new.least ≡ noted faults.old.least (spec.second_callables self.now) }
+        ensures faults { faults.new.least
+            ≡ noted faults.old.least (spec.second_callables self.now) }
     {
         self.seconds_among(self.tasks.as_slice(), faults);
         self.seconds_among(self.actions.as_slice(), faults);

@@ -10,9 +10,10 @@ use plan_model::Head;
 /// The task of a method. Where its name stands for none or for an action, or has another number of parameters, the fault is
 /// noted.
 pub fn task_of_method(callables: &Callables, task: &RawAtom, faults: &mut Faults) -> u32
-    ensures bound { result ≡ spec.task_number (spec.head_called (spec.method_task callables.now task.now)) }
-    ensures faults { faults.new.least
-        ≡ noted faults.old.least (spec.call_faults (spec.method_task callables.now task.now) task.now) }
+    ensures bound { result
+        ≡ spec.task_number (spec.head_called (spec.method_task callables.now task.now)) }
+    ensures faults { faults.new.least ≡ noted faults.old.least
+        (spec.call_faults (spec.method_task callables.now task.now) task.now) }
 {
     let found = if_task(callables.get(task.head.name));
     match head_or_noted(found, task, faults) {

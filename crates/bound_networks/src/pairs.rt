@@ -1,4 +1,4 @@
-ghost use Rattle.std.specs.Prelude.{◌≡◌, ◌++◌, flat_map, length, IfOk, OnOk};
+ghost use Rattle.std.specs.Prelude.{◌≡◌, ◌++◌, flat_map, IfOk, OnOk};
 ghost use Rattle.plan_texts.specs.Networks.{chain_if};
 ghost use Rattle.name_numbers.specs.Spots.{noted};
 ghost use Rattle.bound_networks.specs.Ids.{AreIds, subtask_at};

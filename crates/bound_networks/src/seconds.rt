@@ -14,9 +14,11 @@ pub trait Declares {
 
     ghost offset: { Self → ℕ };
 
+    /// The declared name.
     fn name(&self) -> Name
         ensures { result.number ≡ number self.now };
 
+    /// The offset of its word.
     fn at(&self) -> u32
         ensures { result ≡ offset self.now };
 }
@@ -29,8 +31,8 @@ pub fn seconds_of<T: Declares>(
     faults: &mut Faults,
 ) -> Result<(), Memory>
     ensures declared { OnOk result (known.new ≡ known.old ++ map T.number items.now) }
-    ensures faults { OnOk result
-        (faults.new.least ≡ noted faults.old.least (seconds T.number T.offset known.old items.now)) }
+    ensures faults { OnOk result (faults.new.least
+        ≡ noted faults.old.least (seconds T.number T.offset known.old items.now)) }
 {
     for item in items {
         declare(known, item.name(), item.at(), faults)?;
