@@ -1,21 +1,16 @@
 -- The atoms of a state after something is noted of one, and of each of a list.
-use Rattle.std.proofs.Common.{ℕ, ◌+◌, ◌<◌, ◌++◌, length, get_or, take, Contains, ◌≡◌, ◌≢◌, ◌⊎◌, ◌↔◌, inl, inr, Bool, true, false, cond, Option, Some, None, Result, Ok, Err, IfOk, IsOkAnd, List, [], ◌∷◌, refl, ap, sym, subst, ◌∙◌, true≢false}
+use Rattle.std.proofs.Common.{ℕ, ◌+◌, ◌<◌, ◌++◌, length, get_or, take, Contains, ◌≡◌, ◌≢◌, ◌⊎◌, ◌↔◌, inl, inr, Bool, true, false, Option, Some, None, Result, Ok, Err, IfOk, IsOkAnd, List, [], ◌∷◌, refl, ap, sym, subst, ◌∙◌, true≢false}
 use Rattle.std.specs.Prelude.{unwrap_or, IsSome}
-use Rattle.std.specs.Option.{is_some, option_map, option_and_then}
+use Rattle.std.specs.Option.{is_some, option_map}
 use Rattle.std.specs.Cmp.Lexicographic.{slice_cmp}
 use Rattle.std.specs.Ordering.{nat_cmp, is_eq}
-use Rattle.std.specs.BTreeMap as tree
-use Rattle.std.specs.Cmp.{nat_cmp_total}
 use Rattle.std.proofs.lemmas.Bool.{cases_eq}
 use Rattle.std.proofs.lemmas.List.{take_more}
 use Rattle.std.proofs.lemmas.List.Elements.{Contains-push, Contains-push_cases, Contains-append_left}
-use Rattle.std.proofs.lemmas.Map.Lookups.{exact_unsigned}
 use Rattle.plan_model.specs.declared.terms.GroundAtom.{GroundAtom}
-use Rattle.ground_state.specs.declared.notes.Notes.{Notes}
 use Rattle.ground_state.specs.declared.state.State.{State}
-use Rattle.ground_state.specs.Notes as notes
-use Rattle.ground_state.specs.States.{note, note_of, has, atoms, Has, IsSame, IsNoted, AreNoted, KeepsNotes, With, Without, WithAll, WithoutAll, Changed}
-use Rattle.ground_state.proofs.Lists.{self-Equal, Equal-from, same-lists, lists-same}
+use Rattle.ground_state.specs.States.{note_of, has, atoms, Has, IsSame, IsNoted, AreNoted, KeepsNotes, With, Without, WithAll, WithoutAll}
+use Rattle.ground_state.proofs.Lists.{same-lists, lists-same}
 
 same-atoms : (g a : GroundAtom) → g.predicate ≡ a.predicate → g.args ≡ a.args → g ≡ a
 same-atoms g a p e = λ i. record { predicate = p i; args = e i }
@@ -31,65 +26,11 @@ same-or-not g a = elim (cases_eq g.predicate a.predicate) [
     by p true e = inl (same-atoms g a p (same-lists g.args a.args e))
     by p false e = inr (λ d. true≢false (sym (lists-same g.args a.args (ap (λ (x : GroundAtom). x.args) d)) ∙ e))
 
-at-same : (p q : ℕ) → p ≡ q → is_eq (nat_cmp p q) ≡ true
-at-same p q e = ap (λ r. is_eq (nat_cmp p r)) (sym e) ∙ ap is_eq (self-Equal nat_cmp nat_cmp_total p)
-
-at-other : (p q : ℕ) → (p ≡ q → ⊥) → is_eq (nat_cmp p q) ≡ false
-at-other p q n = by (is_eq (nat_cmp p q)) refl
-  where
-    by : (b : Bool) → is_eq (nat_cmp p q) ≡ b → b ≡ false
-    by true e = absurd (n (exact_unsigned p q (Equal-from (nat_cmp p q) e)))
-    by false e = refl
-
--- the answer for what stands at the predicate
-abbrev answer : List ℕ → Option Notes → Option Bool
-answer args o = option_and_then (λ lists. notes.noted lists args) o
-
--- s and t differ in the notes of one predicate alone
-module _ (s t : State) (a : GroundAtom) (w : Notes) (put : (q : ℕ) → tree.get nat_cmp t.facts q ≡ cond (tree.is_at (nat_cmp a.predicate) q) (Some w) (tree.get nat_cmp s.facts q)) where
-  here : (q : ℕ) (args : List ℕ) → a.predicate ≡ q → note t q args ≡ notes.noted w args
-  here q args e = ap (answer args) (put q ∙ ap (λ b. cond b (Some w) (tree.get nat_cmp s.facts q)) (at-same a.predicate q e))
-
-  there : (g : GroundAtom) → (a.predicate ≡ g.predicate → ⊥) → note_of t g ≡ note_of s g
-  there g n = ap (answer g.args) (put g.predicate ∙ ap (λ b. cond b (Some w) (tree.get nat_cmp s.facts g.predicate)) (at-other a.predicate g.predicate n))
-
-  module _ (before : Notes) (was : (args : List ℕ) → note s a.predicate args ≡ notes.noted before args) where
-    -- something is noted of one list of objects
-    pub noted : (v : Option Bool) → notes.IsNoted before a.args v w → IsNoted s a v t
-    noted v n = record {
-      here = here a.predicate a.args refl ∙ n.here;
-      others = λ g d. elim (cases_eq a.predicate g.predicate) [
-        | inl e ↦ here g.predicate g.args e ∙ n.others g.args (λ x. d (same-atoms g a (sym e) x)) ∙ sym (was g.args) ∙ ap (λ q. note s q g.args) e
-        | inr m ↦ there g m
-      ];
-    }
-
-    -- nothing is
-    pub unnoted : notes.AreSame before w → (g : GroundAtom) → note_of t g ≡ note_of s g
-    unnoted same g = elim (cases_eq a.predicate g.predicate) [
-      | inl e ↦ here g.predicate g.args e ∙ same g.args ∙ sym (was g.args) ∙ ap (λ q. note s q g.args) e
-      | inr m ↦ there g m
-    ]
-
--- what is noted of a predicate, from what stands there
-pub some-notes : (s : State) (p : ℕ) (lists : Notes) → Some lists ≡ tree.get nat_cmp s.facts p → (args : List ℕ) → note s p args ≡ notes.noted lists args
-some-notes s p lists e args = ap (answer args) (sym e)
-
-pub no-notes : (s : State) (p : ℕ) (lists : Notes) → None ≡ tree.get nat_cmp s.facts p → notes.AreNone lists → (args : List ℕ) → note s p args ≡ notes.noted lists args
-no-notes s p lists e n args = ap (answer args) (sym e) ∙ sym (n args)
-
--- where nothing stands at the predicate, nothing changes
-pub nothing-noted : (s : State) (a : GroundAtom) (f : Option Bool → Option Bool) → f None ≡ None → None ≡ tree.get nat_cmp s.facts a.predicate → IsNoted s a (f (note_of s a)) s
-nothing-noted s a f k e = let none : note_of s a ≡ None = ap (answer a.args) (sym e) in record { here = none ∙ sym k ∙ ap f (sym none); others = λ g d. refl }
-
 abbrev truth : Option Bool → Bool
 truth o = unwrap_or o false
 
 same-has : (s t : State) (g : GroundAtom) → has t g.predicate g.args ≡ has s g.predicate g.args → atoms t g ↔ atoms s g
 same-has s t g e = (λ x. sym e ∙ x, λ x. e ∙ x)
-
-pub same-by-notes : (s t : State) → ((g : GroundAtom) → note_of t g ≡ note_of s g) → IsSame s t
-same-by-notes s t e g = same-has s t g (ap truth (e g))
 
 pub same-twice : (r s t : State) → IsSame r s → IsSame s t → IsSame r t
 same-twice r s t f h g = (λ x. (f g).0 ((h g).0 x), λ x. (h g).1 ((f g).1 x))
@@ -190,13 +131,6 @@ noted-next xs i a s t l e h k n g c = elim ((taken-next xs i a l e g).0 c) [
 -- the atom at the place is one of the list
 pub item-of : (xs : List GroundAtom) (i : ℕ) (a : GroundAtom) → i < length xs → a ≡ get_or xs i a → Contains xs a
 item-of xs i a l e = (i, l, sym e)
-
--- the deletes taken out, and then the adds put in
-pub changed : (old s t u new : State) (adds deletes : List GroundAtom) → IsSame old s → Has t (WithoutAll s deletes) → Has u (WithAll t adds) → IsSame u new → Has new (Changed old adds deletes)
-changed old s t u new adds deletes a b c d g = (
-  λ x. elim ((c g).0 ((d g).0 x)) [ inl y ↦ (let z = (b g).0 y in inl ((a g).0 z.0, z.1)) | inr y ↦ inr y ],
-  λ x. (d g).1 ((c g).1 (elim x [ inl y ↦ inl ((b g).1 ((a g).1 y.0, y.1)) | inr y ↦ inr y ])),
-)
 
 -- what was made and put at the end of a list
 pub put-made : {X E : Type 0} (made : Result X E) (x : X) (old new : List X) → IfOk made (λ y. y ≡ x) → IsOkAnd made (λ y. new ≡ old ++ y ∷ []) → new ≡ old ++ x ∷ []

@@ -1,6 +1,7 @@
 -- What is noted of lists of objects.
 -- Source: this project's.
 use Rattle.std.specs.Prelude.{ℕ, ◌≡◌, Bool, List, Option, None}
+use Rattle.std.specs.Option.{option_map}
 use Rattle.std.specs.Ordering.{nat_cmp}
 use Rattle.std.specs.Cmp.Lexicographic.{slice_cmp}
 use Rattle.std.specs.BTreeMap as tree
@@ -21,3 +22,7 @@ AreSame old new = (args : List ℕ) → noted new args ≡ noted old args
 pub record IsNoted (old : Notes) (args : List ℕ) (w : Option Bool) (new : Notes) : Type 0 where
   pub here : noted new args ≡ w
   pub others : (list : List ℕ) → (list ≡ args → ⊥) → noted new list ≡ noted old list
+
+-- the same, where something was noted of the list
+abbrev pub IsSet : Notes → List ℕ → Bool → Notes → Type 0
+IsSet old args truth new = IsNoted old args (option_map (λ _. truth) (noted old args)) new

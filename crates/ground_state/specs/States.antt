@@ -1,7 +1,7 @@
 -- The atoms that are true in a computed state.
 -- Source: this project's; a state as in Truth.
 use Rattle.std.specs.Prelude.{ℕ, ◌≡◌, ◌≢◌, ◌⊎◌, ◌↔◌, Bool, false, IsTrue, IsSome, List, Contains, Option, unwrap_or}
-use Rattle.std.specs.Option.{option_and_then}
+use Rattle.std.specs.Option.{option_map, option_and_then}
 use Rattle.std.specs.Ordering.{nat_cmp}
 use Rattle.std.specs.BTreeMap as tree
 use Rattle.plan_model.specs.declared.terms.GroundAtom.{GroundAtom}
@@ -36,6 +36,10 @@ IsSame s t = Has t (atoms s)
 pub record IsNoted (old : State) (a : GroundAtom) (w : Option Bool) (new : State) : Type 0 where
   pub here : note_of new a ≡ w
   pub others : (g : GroundAtom) → g ≢ a → note_of new g ≡ note_of old g
+
+-- the same, where something was noted of the atom
+abbrev pub IsSet : State → GroundAtom → Bool → State → Type 0
+IsSet old a truth new = IsNoted old a (option_map (λ _. truth) (note_of old a)) new
 
 -- something is noted of each of the atoms
 abbrev pub AreNoted : List GroundAtom → State → Type 0

@@ -7,8 +7,8 @@ use plan_model::GroundAtom;
 use std::alloc::Global;
 
 impl State {
-    /// Makes the atoms of one list true and then those of the other false that are not also in the first. After
-    /// `Memory` the state is as it was.
+    /// Makes the atoms of the second list false and then those of the first true. What needs memory comes first, so
+    /// that after `Memory` the state is as it was.
     pub(crate) fn change(
         &mut self,
         alloc: Global,

@@ -1,5 +1,4 @@
 ghost use Rattle.std.specs.Prelude.{◌≡◌, Some, None, OnOk, OnErr};
-ghost use Rattle.std.specs.Option.{option_map};
 ghost use Rattle.ground_state.specs.Notes as spec;
 
 use htn_base::Memory;
@@ -42,7 +41,7 @@ impl Notes {
 
     /// Notes this of these objects, where something is noted of them. It takes no memory.
     pub(crate) fn set(&mut self, args: &[u32], truth: bool)
-        ensures { spec.IsNoted self.old args.now (option_map (λ _. truth) (spec.noted self.old args.now)) self.new }
+        ensures { spec.IsSet self.old args.now truth self.new }
     {
         if let Some(noted) = self.truths.get_mut(args) {
             *noted = truth;

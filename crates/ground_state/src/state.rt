@@ -1,5 +1,4 @@
 ghost use Rattle.std.specs.Prelude.{◌≡◌, ◌↔◌, IsTrue, Contains, Some, None, IfOk, OnOk, OnErr};
-ghost use Rattle.std.specs.Option.{option_map};
 ghost use Rattle.ground_state.specs.States as spec;
 
 use crate::notes::Notes;
@@ -76,7 +75,7 @@ impl State {
 
     /// Notes this of the atom, where something is noted of it. It takes no memory.
     pub(crate) fn set(&mut self, atom: &GroundAtom, truth: bool)
-        ensures { spec.IsNoted self.old atom.now (option_map (λ _. truth) (spec.note_of self.old atom.now)) self.new }
+        ensures { spec.IsSet self.old atom.now truth self.new }
     {
         if let Some(notes) = self.facts.get_mut(&atom.predicate) {
             notes.set(atom.args.as_slice(), truth);
