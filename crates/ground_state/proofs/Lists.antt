@@ -1,15 +1,16 @@
--- Ordered lists of lists of numbers: what is among them after one is put in or taken out.
-use Rattle.std.proofs.Common.{ℕ, ◌≡◌, ◌≢◌, ◌||◌, Bool, true, false, cond, List, [], ◌∷◌, refl, ap, sym, ◌∙◌, true≢false}
-use Rattle.std.specs.List.{list_any}
-use Rattle.std.specs.Set.{remove_key}
-use Rattle.std.specs.BTreeSet.{insert_key}
+-- Lists of numbers as keys of an ordered map.
+use Rattle.std.proofs.Common.{ℕ, ◌≡◌, ◌≢◌, Bool, true, false, Option, List, Vec, Global, refl, ap, sym, ◌∙◌, true≢false}
+use Rattle.std.specs.Map.{IsKeyTest, AreApart, KeepsOthers, lookup}
+use Rattle.std.specs.BTreeMap as tree
 use Rattle.std.specs.Cmp.{IsTotalOrder}
 use Rattle.std.specs.Cmp.Lexicographic.{slice_cmp}
-use Rattle.std.specs.Ordering.{nat_cmp, is_eq, match_ordering, ordering_reverse}
+use Rattle.std.specs.Ordering.{nat_cmp, is_eq, eq_by_cmp, ordering_reverse}
 use Rattle.std.specs.declared.cmp.Ordering.{Ordering}
 use Rattle.std.specs.declared.cmp.Ordering.TheVariants.{Less, Equal, Greater}
 use Rattle.std.proofs.lemmas.Map.Lookups.{exact_bytes}
 use Rattle.std.proofs.lemmas.Cmp.{nat_list_cmp_total}
+use Rattle.ground_state.specs.declared.notes.Notes.{Notes}
+use Rattle.ground_state.specs.Notes.{IsNoted}
 
 pub self-Equal : {K : Type 0} (R : K → K → Ordering) → IsTotalOrder R → (x : K) → R x x ≡ Equal
 self-Equal R o x = by (R x x) (o.antisymm x x)
@@ -30,41 +31,27 @@ same-lists xs ys e = exact_bytes xs ys (Equal-from (slice_cmp nat_cmp xs ys) e)
 pub lists-same : (xs ys : List ℕ) → xs ≡ ys → is_eq (slice_cmp nat_cmp xs ys) ≡ true
 lists-same xs ys e = ap (λ zs. is_eq (slice_cmp nat_cmp xs zs)) (sym e) ∙ ap is_eq (self-Equal (slice_cmp nat_cmp) nat_list_cmp_total xs)
 
-or-swap : (a b c : Bool) → (b || (a || c)) ≡ (a || (b || c))
-or-swap true true c = refl
-or-swap true false c = refl
-or-swap false true c = refl
-or-swap false false c = refl
+abbrev pub order : Vec ℕ Global → Vec ℕ Global → Ordering
+order x y = slice_cmp nat_cmp x.items y.items
 
-or-again : (b c : Bool) → (b || c) ≡ (b || (b || c))
-or-again true c = refl
-or-again false c = refl
+abbrev pub query : List ℕ → Vec ℕ Global → Ordering
+query args k = slice_cmp nat_cmp args k.items
 
--- items k is the list that stands as k
-module _ {K : Type 0} (items : K → List ℕ) where
-  abbrev pub at : List ℕ → K → Bool
-  at xs k = is_eq (slice_cmp nat_cmp xs (items k))
+is-key : (xs : List ℕ) → IsKeyTest (eq_by_cmp order) (tree.is_at (query xs))
+is-key xs x y e = ap (λ zs. is_eq (slice_cmp nat_cmp zs y.items)) (same-lists xs x.items e)
 
-  abbrev pub order : K → K → Ordering
-  order x y = slice_cmp nat_cmp (items x) (items y)
+apart : (xs ys : List ℕ) → xs ≢ ys → AreApart (tree.is_at (query xs)) (tree.is_at (query ys))
+apart xs ys n k e = by (tree.is_at (query ys) k) refl
+  where
+    by : (b : Bool) → tree.is_at (query ys) k ≡ b → b ≡ false
+    by true d = absurd (n (same-lists xs k.items e ∙ sym (same-lists ys k.items d)))
+    by false d = refl
 
-  pub any-insert : (xs : List ℕ) (ks : List K) (a : K) → list_any (at xs) (insert_key order ks a) ≡ (at xs a || list_any (at xs) ks)
-  any-insert xs [] a = refl
-  any-insert xs (k ∷ ks) a = by (any-insert xs ks a) (order a k) refl
-    where
-      by : list_any (at xs) (insert_key order ks a) ≡ (at xs a || list_any (at xs) ks) → (o : Ordering) → order a k ≡ o → list_any (at xs) (match_ordering o (a ∷ k ∷ ks) (k ∷ ks) (k ∷ insert_key order ks a)) ≡ (at xs a || (at xs k || list_any (at xs) ks))
-      by r Less e = refl
-      by r Equal e = or-again (at xs k) (list_any (at xs) ks) ∙ ap (λ ys. is_eq (slice_cmp nat_cmp xs ys) || (at xs k || list_any (at xs) ks)) (sym (exact_bytes (items a) (items k) e))
-      by r Greater e = ap (λ b. at xs k || b) r ∙ or-swap (at xs a) (at xs k) (list_any (at xs) ks)
+others : (xs ys : List ℕ) → xs ≢ ys → (old new : List (Vec ℕ Global × Bool)) → KeepsOthers (eq_by_cmp order) (tree.is_at (query xs)) old new
+    → lookup (tree.is_at (query ys)) new ≡ lookup (tree.is_at (query ys)) old
+unfolding KeepsOthers
+others xs ys n old new k = k (tree.is_at (query ys)) (is-key ys) (apart xs ys n)
 
-  pub any-remove : (xs ys : List ℕ) (ks : List K) → xs ≢ ys → list_any (at xs) (remove_key (at ys) ks) ≡ list_any (at xs) ks
-  any-remove xs ys [] n = refl
-  any-remove xs ys (k ∷ ks) n = by (any-remove xs ys ks n) (at ys k) refl
-    where
-      other : (b : Bool) → at xs k ≡ b → at ys k ≡ true → b ≡ false
-      other true d e = absurd (n (same-lists xs (items k) d ∙ sym (same-lists ys (items k) e)))
-      other false d e = refl
-
-      by : list_any (at xs) (remove_key (at ys) ks) ≡ list_any (at xs) ks → (b : Bool) → at ys k ≡ b → list_any (at xs) (cond b ks (k ∷ remove_key (at ys) ks)) ≡ (at xs k || list_any (at xs) ks)
-      by r true e = ap (λ b. b || list_any (at xs) ks) (sym (other (at xs k) refl e))
-      by r false e = ap (λ b. at xs k || b) r
+-- one entry of the notes is put, or taken out
+pub noted-by : (old new : Notes) (args : List ℕ) (w : Option Bool) → tree.UpdatesBy order (query args) old.truths new.truths w → IsNoted old args w new
+noted-by old new args w u = record { here = u.1; others = λ list n. others args list (λ e. n (sym e)) old.truths.entries new.truths.entries u.3 }

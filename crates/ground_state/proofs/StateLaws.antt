@@ -1,111 +1,84 @@
--- The atoms of a state after one is put in or taken out.
-use Rattle.std.proofs.Common.{ℕ, ◌+◌, ◌<◌, ◌++◌, length, get_or, take, Contains, ◌≡◌, ◌≢◌, ◌⊎◌, ◌↔◌, inl, inr, ◌||◌, Bool, true, false, cond, Option, Some, None, Result, Ok, Err, IfOk, IsOkAnd, Vec, Global, List, [], ◌∷◌, refl, ap, sym, subst, ◌∙◌, true≢false}
-use Rattle.std.specs.Prelude.{option_map, unwrap_or}
-use Rattle.std.specs.List.{list_any}
-use Rattle.std.specs.Set.{remove_key}
+-- The atoms of a state after something is noted of one, and of each of a list.
+use Rattle.std.proofs.Common.{ℕ, ◌+◌, ◌<◌, ◌++◌, length, get_or, take, Contains, ◌≡◌, ◌≢◌, ◌⊎◌, ◌↔◌, inl, inr, Bool, true, false, Option, Some, None, Result, Ok, Err, IfOk, IsOkAnd, List, [], ◌∷◌, refl, ap, sym, subst, ◌∙◌, true≢false}
+use Rattle.std.specs.Prelude.{unwrap_or, IsSome}
+use Rattle.std.specs.Option.{is_some, option_map}
 use Rattle.std.specs.Cmp.Lexicographic.{slice_cmp}
 use Rattle.std.specs.Ordering.{nat_cmp, is_eq}
-use Rattle.std.specs.BTreeMap as tree
-use Rattle.std.specs.BTreeSet as ordered
-use Rattle.std.specs.Cmp.{nat_cmp_total}
-use Rattle.std.proofs.lemmas.Bool.{cases_eq, or_cases, or_left, or_right}
+use Rattle.std.proofs.lemmas.Bool.{cases_eq}
 use Rattle.std.proofs.lemmas.List.{take_more}
 use Rattle.std.proofs.lemmas.List.Elements.{Contains-push, Contains-push_cases, Contains-append_left}
-use Rattle.std.proofs.lemmas.Map.Lookups.{exact_unsigned}
 use Rattle.plan_model.specs.declared.terms.GroundAtom.{GroundAtom}
 use Rattle.ground_state.specs.declared.state.State.{State}
-use Rattle.ground_state.specs.States.{has, atoms, Has, IsSame, With, Without, WithAll, WithoutAll, AreLacking, Changed}
-use Rattle.ground_state.proofs.Lists.{any-insert, any-remove, self-Equal, Equal-from, same-lists, lists-same}
+use Rattle.ground_state.specs.States.{note_of, has, atoms, Has, IsSame, IsNoted, AreNoted, KeepsNotes, With, Without, WithAll, WithoutAll}
+use Rattle.ground_state.proofs.Lists.{same-lists, lists-same}
 
-pub same-atoms : (g a : GroundAtom) → g.predicate ≡ a.predicate → g.args ≡ a.args → g ≡ a
+same-atoms : (g a : GroundAtom) → g.predicate ≡ a.predicate → g.args ≡ a.args → g ≡ a
 same-atoms g a p e = λ i. record { predicate = p i; args = e i }
 
-at-same : (p q : ℕ) → p ≡ q → is_eq (nat_cmp p q) ≡ true
-at-same p q e = ap (λ r. is_eq (nat_cmp p r)) (sym e) ∙ ap is_eq (self-Equal nat_cmp nat_cmp_total p)
-
-at-other : (p q : ℕ) → (p ≡ q → ⊥) → is_eq (nat_cmp p q) ≡ false
-at-other p q n = by (is_eq (nat_cmp p q)) refl
+-- two atoms are one, or not
+same-or-not : (g a : GroundAtom) → (g ≡ a) ⊎ (g ≢ a)
+same-or-not g a = elim (cases_eq g.predicate a.predicate) [
+  | inl p ↦ by p (is_eq (slice_cmp nat_cmp g.args a.args)) refl
+  | inr n ↦ inr (λ e. n (ap (λ (x : GroundAtom). x.predicate) e))
+]
   where
-    by : (b : Bool) → is_eq (nat_cmp p q) ≡ b → b ≡ false
-    by true e = absurd (n (exact_unsigned p q (Equal-from (nat_cmp p q) e)))
-    by false e = refl
+    by : g.predicate ≡ a.predicate → (b : Bool) → is_eq (slice_cmp nat_cmp g.args a.args) ≡ b → (g ≡ a) ⊎ (g ≢ a)
+    by p true e = inl (same-atoms g a p (same-lists g.args a.args e))
+    by p false e = inr (λ d. true≢false (sym (lists-same g.args a.args (ap (λ (x : GroundAtom). x.args) d)) ∙ e))
 
--- s and t differ in the lists of one predicate alone
-module _ (s t : State) (a : GroundAtom) where
-  pub with-one : ((g : GroundAtom) → a.predicate ≡ g.predicate → has t g.predicate g.args ≡ (is_eq (slice_cmp nat_cmp g.args a.args) || has s g.predicate g.args))
-      → ((g : GroundAtom) → (a.predicate ≡ g.predicate → ⊥) → has t g.predicate g.args ≡ has s g.predicate g.args) → Has t (With s a)
-  with-one here there g = elim (cases_eq a.predicate g.predicate) [
-    | inl e ↦ (
-      λ h. elim (or_cases (is_eq (slice_cmp nat_cmp g.args a.args)) (has s g.predicate g.args) (sym (here g e) ∙ h)) [ inl x ↦ inr (same-atoms g a (sym e) (same-lists g.args a.args x)) | inr x ↦ inl x ],
-      λ h. here g e ∙ elim h [
-        | inl x ↦ or_right (is_eq (slice_cmp nat_cmp g.args a.args)) (has s g.predicate g.args) x
-        | inr x ↦ or_left (is_eq (slice_cmp nat_cmp g.args a.args)) (has s g.predicate g.args) (lists-same g.args a.args (ap (λ (y : GroundAtom). y.args) x))
-      ],
-    )
-    | inr n ↦ (
-      λ h. inl (sym (there g n) ∙ h),
-      λ h. there g n ∙ elim h [ inl x ↦ x | inr x ↦ absurd (n (ap (λ (y : GroundAtom). y.predicate) (sym x))) ],
+abbrev truth : Option Bool → Bool
+truth o = unwrap_or o false
+
+same-has : (s t : State) (g : GroundAtom) → has t g.predicate g.args ≡ has s g.predicate g.args → atoms t g ↔ atoms s g
+same-has s t g e = (λ x. sym e ∙ x, λ x. e ∙ x)
+
+pub same-twice : (r s t : State) → IsSame r s → IsSame s t → IsSame r t
+same-twice r s t f h g = (λ x. (f g).0 ((h g).0 x), λ x. (h g).1 ((f g).1 x))
+
+module _ (s t : State) (a : GroundAtom) (v : Option Bool) (n : IsNoted s a v t) where
+  pub made-true : v ≡ Some true → Has t (With s a)
+  made-true e g = elim (same-or-not g a) [
+    | inl d ↦ (λ x. inr d, λ x. subst (atoms t) (sym d) (ap truth (n.here ∙ e)))
+    | inr d ↦ (
+      λ x. inl (sym (ap truth (n.others g d)) ∙ x),
+      λ x. elim x [ inl y ↦ ap truth (n.others g d) ∙ y | inr y ↦ absurd (d y) ],
     )
   ]
 
-  pub without-one : ((args : List ℕ) → args ≡ a.args → has t a.predicate args ≡ false)
-      → ((args : List ℕ) → args ≢ a.args → has t a.predicate args ≡ has s a.predicate args)
-      → ((g : GroundAtom) → (a.predicate ≡ g.predicate → ⊥) → has t g.predicate g.args ≡ has s g.predicate g.args) → Has t (Without s a)
-  without-one gone kept there g = elim (cases_eq a.predicate g.predicate) [
-    | inl e ↦ (
-      λ h.
-          let h' : has t a.predicate g.args ≡ true = subst (λ p. has t p g.args ≡ true) (sym e) h in
-          let n : g.args ≢ a.args = λ d. true≢false (sym h' ∙ gone g.args d) in
-          (subst (λ p. has s p g.args ≡ true) e (sym (kept g.args n) ∙ h'), λ d. n (ap (λ (y : GroundAtom). y.args) d)),
-      λ h.
-          let n : g.args ≢ a.args = λ d. h.1 (same-atoms g a (sym e) d) in
-          subst (λ p. has t p g.args ≡ true) e (kept g.args n ∙ subst (λ p. has s p g.args ≡ true) (sym e) h.0),
-    )
-    | inr n ↦ (λ h. (sym (there g n) ∙ h, λ d. n (ap (λ (y : GroundAtom). y.predicate) (sym d))), λ h. there g n ∙ h.0)
+  pub made-false : truth v ≡ false → Has t (Without s a)
+  made-false e g = elim (same-or-not g a) [
+    | inl d ↦ (λ x. absurd (true≢false (sym (subst (atoms t) d x) ∙ ap truth n.here ∙ e)), λ x. absurd (x.1 d))
+    | inr d ↦ (λ x. (sym (ap truth (n.others g d)) ∙ x, d), λ x. ap truth (n.others g d) ∙ x.0)
   ]
 
-abbrev ArgLists : Type 0
-ArgLists = ordered.BTreeSet (Vec ℕ Global)
+  pub still-same : truth v ≡ has s a.predicate a.args → IsSame s t
+  still-same e g = elim (same-or-not g a) [
+    | inl d ↦ same-has s t g (subst (λ (x : GroundAtom). has t x.predicate x.args ≡ has s x.predicate x.args) (sym d) (ap truth n.here ∙ e))
+    | inr d ↦ same-has s t g (ap truth (n.others g d))
+  ]
 
-abbrev items : Vec ℕ Global → List ℕ
-items k = k.items
+  -- where something is noted now of what something was
+  pub keeps-notes : (IsSome (note_of s a) → IsSome v) → KeepsNotes s t
+  keeps-notes k g i = elim (same-or-not g a) [
+    | inl d ↦ subst (λ (x : GroundAtom). IsSome (note_of t x)) (sym d) (subst IsSome (sym n.here) (k (subst (λ (x : GroundAtom). IsSome (note_of s x)) d i)))
+    | inr d ↦ subst IsSome (sym (n.others g d)) i
+  ]
 
--- the answer for what stands at the predicate
-abbrev answer : List ℕ → Option ArgLists → Bool
-answer args o = unwrap_or (option_map (λ lists. ordered.contains_by (λ k. slice_cmp nat_cmp args k.items) lists) o) false
+set-Some : (b : Bool) (o : Option Bool) → IsSome o → option_map (λ _. b) o ≡ Some b
+set-Some b (Some x) i = refl
+set-Some b None i = absurd (true≢false (sym i))
 
-module _ (s t : State) (a : GroundAtom) (w : ArgLists) (put : (q : ℕ) → tree.get nat_cmp t.facts q ≡ cond (tree.is_at (nat_cmp a.predicate) q) (Some w) (tree.get nat_cmp s.facts q)) where
-  here : (q : ℕ) (args : List ℕ) → a.predicate ≡ q → has t q args ≡ list_any (λ k. is_eq (slice_cmp nat_cmp args (items k))) w.keys
-  here q args e = ap (answer args) (put q ∙ ap (λ b. cond b (Some w) (tree.get nat_cmp s.facts q)) (at-same a.predicate q e))
+pub set-false : (o : Option Bool) → truth (option_map (λ _. false) o) ≡ false
+set-false (Some x) = refl
+set-false None = refl
 
-  there : (g : GroundAtom) → (a.predicate ≡ g.predicate → ⊥) → has t g.predicate g.args ≡ has s g.predicate g.args
-  there g n = ap (answer g.args) (put g.predicate ∙ ap (λ b. cond b (Some w) (tree.get nat_cmp s.facts g.predicate)) (at-other a.predicate g.predicate n))
+-- what is noted as true or false
+module _ (s t : State) (a : GroundAtom) (b : Bool) (n : IsNoted s a (option_map (λ _. b) (note_of s a)) t) where
+  pub set-true : IsSome (note_of s a) → b ≡ true → Has t (With s a)
+  set-true i e = made-true s t a (option_map (λ _. b) (note_of s a)) n (set-Some b (note_of s a) i ∙ ap (λ x. Some x) e)
 
-  -- among the lists of the predicate one is put in
-  pub inserted : (before : List (Vec ℕ Global)) (key : Vec ℕ Global) → w.keys ≡ ordered.insert_key (λ x y. slice_cmp nat_cmp x.items y.items) before key → key.items ≡ a.args
-      → ((args : List ℕ) → has s a.predicate args ≡ list_any (λ k. is_eq (slice_cmp nat_cmp args (items k))) before) → Has t (With s a)
-  inserted before key e k before-is = with-one s t a (λ g p.
-      here g.predicate g.args p
-      ∙ ap (list_any (λ k. is_eq (slice_cmp nat_cmp g.args (items k)))) e
-      ∙ any-insert items g.args before key
-      ∙ (λ i. is_eq (slice_cmp nat_cmp g.args (k i)) || (sym (before-is g.args) ∙ ap (λ q. has s q g.args) p) i)
-      ) there
-
-  -- one is taken out
-  pub removed : (before : List (Vec ℕ Global)) (args : List ℕ) → w.keys ≡ remove_key (λ k. is_eq (slice_cmp nat_cmp args (items k))) before → list_any (λ k. is_eq (slice_cmp nat_cmp args (items k))) w.keys ≡ false → args ≡ a.args
-      → ((xs : List ℕ) → has s a.predicate xs ≡ list_any (λ k. is_eq (slice_cmp nat_cmp xs (items k))) before) → Has t (Without s a)
-  removed before args e gone k before-is =
-      without-one s t a
-      (λ xs d. here a.predicate xs refl ∙ ap (λ ys. list_any (λ k. is_eq (slice_cmp nat_cmp ys (items k))) w.keys) (d ∙ sym k) ∙ gone)
-      (λ xs n. here a.predicate xs refl ∙ ap (list_any (λ k. is_eq (slice_cmp nat_cmp xs (items k)))) e ∙ any-remove items xs args before (λ d. n (d ∙ k)) ∙ sym (before-is xs))
-      there
-
--- what the state has of a predicate, from what stands there
-pub some-lists : (s : State) (p : ℕ) (lists : ArgLists) → Some lists ≡ tree.get nat_cmp s.facts p → (args : List ℕ) → has s p args ≡ list_any (λ k. is_eq (slice_cmp nat_cmp args (items k))) lists.keys
-some-lists s p lists e args = ap (answer args) (sym e)
-
-pub no-lists : (s : State) (p : ℕ) (ks : List (Vec ℕ Global)) → None ≡ tree.get nat_cmp s.facts p → ks ≡ [] → (args : List ℕ) → has s p args ≡ list_any (λ k. is_eq (slice_cmp nat_cmp args (items k))) ks
-no-lists s p ks e d args = ap (answer args) (sym e) ∙ sym (ap (list_any (λ k. is_eq (slice_cmp nat_cmp args (items k)))) d)
+  pub set-keeps : KeepsNotes s t
+  set-keeps = keeps-notes s t a (option_map (λ _. b) (note_of s a)) n (λ i. subst IsSome (sym (set-Some b (note_of s a) i)) refl)
 
 -- one item more of a list
 pub taken-next : (xs : List GroundAtom) (i : ℕ) (a : GroundAtom) → i < length xs → a ≡ get_or xs i a → (g : GroundAtom) → Contains (take (i + 1) xs) g ↔ (Contains (take i xs) g ⊎ (g ≡ a))
@@ -148,59 +121,31 @@ without-next old s t xs i a l e h w g =
       λ x. (w g).1 ((h g).1 (x.0, λ c. x.1 (more.1 (inl c))), λ d. x.1 (more.1 (inr d))),
     )
 
--- what was put in, and was not there, is taken out again
-pub taken-back : (old s t : State) (xs : List GroundAtom) → ((g : GroundAtom) → Contains xs g → atoms old g → ⊥) → Has s (WithAll old xs) → Has t (WithoutAll s xs) → IsSame old t
-taken-back old s t xs n h w g = (
-  λ x.
-      let y = (w g).0 x in
-      elim ((h g).0 y.0) [ inl z ↦ z | inr z ↦ absurd (y.1 z) ],
-  λ x. (w g).1 ((h g).1 (inl x), λ c. n g c x),
-)
+-- one atom more of those of which something is noted
+pub noted-next : (xs : List GroundAtom) (i : ℕ) (a : GroundAtom) (s t : State) → i < length xs → a ≡ get_or xs i a → AreNoted (take i xs) s → KeepsNotes s t → IsSome (note_of t a) → AreNoted (take (i + 1) xs) t
+noted-next xs i a s t l e h k n g c = elim ((taken-next xs i a l e g).0 c) [
+  | inl d ↦ k g (h g d)
+  | inr d ↦ subst (λ (x : GroundAtom). IsSome (note_of t x)) (sym d) n
+]
 
--- the adds put in, and then the deletes taken out that are not also added
-pub changed : (old added s t : State) (adds deletes fresh gone : List GroundAtom) → Has added (Contains adds) → AreLacking old adds fresh → AreLacking added deletes gone → Has s (WithAll old fresh) → Has t (WithoutAll s gone) → Has t (Changed old adds deletes)
-changed old added s t adds deletes fresh gone a f d h w g = (
-  λ x.
-      let y = (w g).0 x in
-      elim ((h g).0 y.0) [
-        | inl z ↦ elim (decided (has added g.predicate g.args)) [
-          | inl e ↦ inr ((a g).0 e)
-          | inr n ↦ inl (z, λ c. y.1 ((d g).1 (c, n)))
-        ]
-        | inr z ↦ inr ((f g).0 z).0
-      ],
-  λ x. (w g).1 (elim x [
-    | inl y ↦ ((h g).1 (inl y.0), λ c. y.1 ((d g).0 c).0)
-    | inr c ↦ (
-      (h g).1 (elim (decided (has old g.predicate g.args)) [ inl e ↦ inl e | inr n ↦ inr ((f g).1 (c, n)) ]),
-      λ u. ((d g).0 u).1 ((a g).1 c),
-    )
-  ]),
-)
-  where
-    decided : (b : Bool) → (b ≡ true) ⊎ (b ≡ true → ⊥)
-    decided true = inl refl
-    decided false = inr (λ e. true≢false (sym e))
-
--- one atom more of those that are lacking, or one that is not
-pub lacking-next : (s : State) (xs lacking : List GroundAtom) (i : ℕ) (a : GroundAtom) → i < length xs → a ≡ get_or xs i a → AreLacking s (take i xs) lacking → (atoms s a → ⊥) → AreLacking s (take (i + 1) xs) (lacking ++ a ∷ [])
-lacking-next s xs lacking i a l e h n g =
-    let more = taken-next xs i a l e g in (
-      λ c. elim (Contains-push_cases lacking a g c) [
-        | inl y ↦ (more.1 (inl ((h g).0 y).0), ((h g).0 y).1)
-        | inr y ↦ (more.1 (inr (sym y)), λ u. n (subst (atoms s) (sym y) u))
-      ],
-      λ x. elim (more.0 x.0) [ inl y ↦ Contains-append_left lacking (a ∷ []) g ((h g).1 (y, x.1)) | inr y ↦ subst (Contains (lacking ++ a ∷ [])) (sym y) (Contains-push lacking a) ],
-    )
-
-pub lacking-skip : (s : State) (xs lacking : List GroundAtom) (i : ℕ) (a : GroundAtom) → i < length xs → a ≡ get_or xs i a → AreLacking s (take i xs) lacking → atoms s a → AreLacking s (take (i + 1) xs) lacking
-lacking-skip s xs lacking i a l e h n g =
-    let more = taken-next xs i a l e g in (
-      λ c. (more.1 (inl ((h g).0 c).0), ((h g).0 c).1),
-      λ x. elim (more.0 x.0) [ inl y ↦ (h g).1 (y, x.1) | inr y ↦ absurd (x.1 (subst (atoms s) (sym y) n)) ],
-    )
+-- the atom at the place is one of the list
+pub item-of : (xs : List GroundAtom) (i : ℕ) (a : GroundAtom) → i < length xs → a ≡ get_or xs i a → Contains xs a
+item-of xs i a l e = (i, l, sym e)
 
 -- what was made and put at the end of a list
 pub put-made : {X E : Type 0} (made : Result X E) (x : X) (old new : List X) → IfOk made (λ y. y ≡ x) → IsOkAnd made (λ y. new ≡ old ++ y ∷ []) → new ≡ old ++ x ∷ []
 put-made (Ok y) x old new e p = p ∙ ap (λ z. old ++ z ∷ []) e
 put-made (Err m) x old new e p = absurd p
+
+-- where nothing was noted of the atom, it is now noted as false
+pub entered : (s t : State) (a : GroundAtom) → is_some (note_of s a) ≡ false → IsNoted s a (Some false) t → IsSame s t × KeepsNotes s t × IsSome (note_of t a)
+entered s t a e n =
+    let was : note_of s a ≡ None = none (note_of s a) e in (
+      still-same s t a (Some false) n (sym (ap truth was)),
+      keeps-notes s t a (Some false) n (λ i. refl),
+      subst IsSome (sym n.here) refl,
+    )
+  where
+    none : (o : Option Bool) → is_some o ≡ false → o ≡ None
+    none None e = refl
+    none (Some x) e = absurd (true≢false e)

@@ -1,17 +1,24 @@
 -- The atoms that are true in a computed state.
 -- Source: this project's; a state as in Truth.
-use Rattle.std.specs.Prelude.{ℕ, ◌≡◌, ◌≢◌, ◌⊎◌, ◌↔◌, Bool, false, IsTrue, List, Contains, option_map, unwrap_or}
+use Rattle.std.specs.Prelude.{ℕ, ◌≡◌, ◌≢◌, ◌⊎◌, ◌↔◌, Bool, false, IsTrue, IsSome, List, Contains, Option, unwrap_or}
+use Rattle.std.specs.Option.{option_map, option_and_then}
 use Rattle.std.specs.Ordering.{nat_cmp}
-use Rattle.std.specs.Cmp.Lexicographic.{slice_cmp}
 use Rattle.std.specs.BTreeMap as tree
-use Rattle.std.specs.BTreeSet as ordered
 use Rattle.plan_model.specs.declared.terms.GroundAtom.{GroundAtom}
 use Rattle.plan_meaning.specs.Truth as truth
 use Rattle.ground_state.specs.declared.state.State.{State}
+use Rattle.ground_state.specs.Notes as notes
+
+-- what is noted of the predicate and these objects
+abbrev pub note : State → ℕ → List ℕ → Option Bool
+note s predicate args = option_and_then (λ lists. notes.noted lists args) (tree.get nat_cmp s.facts predicate)
+
+abbrev pub note_of : State → GroundAtom → Option Bool
+note_of s g = note s g.predicate g.args
 
 -- whether the predicate is true of these objects
 abbrev pub has : State → ℕ → List ℕ → Bool
-has s predicate args = unwrap_or (option_map (λ lists. ordered.contains_by (λ list. slice_cmp nat_cmp args list.items) lists) (tree.get nat_cmp s.facts predicate)) false
+has s predicate args = unwrap_or (note s predicate args) false
 
 -- the atoms that the set has
 abbrev pub atoms : State → truth.State
@@ -24,6 +31,23 @@ Has s P = (g : GroundAtom) → atoms s g ↔ P g
 -- two sets have the same atoms
 abbrev pub IsSame : State → State → Type 0
 IsSame s t = Has t (atoms s)
+
+-- w is noted of this atom now, and of others what was noted before
+pub record IsNoted (old : State) (a : GroundAtom) (w : Option Bool) (new : State) : Type 0 where
+  pub here : note_of new a ≡ w
+  pub others : (g : GroundAtom) → g ≢ a → note_of new g ≡ note_of old g
+
+-- the same, where something was noted of the atom
+abbrev pub IsSet : State → GroundAtom → Bool → State → Type 0
+IsSet old a truth new = IsNoted old a (option_map (λ _. truth) (note_of old a)) new
+
+-- something is noted of each of the atoms
+abbrev pub AreNoted : List GroundAtom → State → Type 0
+AreNoted list s = (g : GroundAtom) → Contains list g → IsSome (note_of s g)
+
+-- of what something was noted something still is
+abbrev pub KeepsNotes : State → State → Type 0
+KeepsNotes old new = (g : GroundAtom) → IsSome (note_of old g) → IsSome (note_of new g)
 
 -- those of the set, and one
 abbrev pub With : State → GroundAtom → truth.State
@@ -39,10 +63,6 @@ WithAll s list g = atoms s g ⊎ Contains list g
 
 abbrev pub WithoutAll : State → List GroundAtom → truth.State
 WithoutAll s list g = atoms s g × (Contains list g → ⊥)
-
--- these are the atoms of the list that the set lacks
-abbrev pub AreLacking : State → List GroundAtom → List GroundAtom → Type 0
-AreLacking s list lacking = (g : GroundAtom) → Contains lacking g ↔ (Contains list g × (atoms s g → ⊥))
 
 -- without those that are deleted, and with those that are added
 abbrev pub Changed : State → List GroundAtom → List GroundAtom → truth.State

@@ -1,5 +1,4 @@
-ghost use Rattle.std.specs.Prelude.{Contains, IfOk, OnOk, OnErr};
-ghost use Rattle.plan_model.specs.declared.terms.GroundAtom.{GroundAtom as Fact};
+ghost use Rattle.std.specs.Prelude.{OnOk, OnErr};
 ghost use Rattle.ground_state.specs.States as spec;
 
 use crate::state::State;
@@ -8,8 +7,8 @@ use plan_model::GroundAtom;
 use std::alloc::Global;
 
 impl State {
-    /// Makes the atoms of one list true and then those of the other false that are not also in the first. After
-    /// `Memory` the state is as it was.
+    /// Makes the atoms of the second list false and then those of the first true. What needs memory comes first, so
+    /// that after `Memory` the state is as it was.
     pub(crate) fn change(
         &mut self,
         alloc: Global,
@@ -19,48 +18,57 @@ impl State {
         ensures changed { OnOk result (spec.IsChanged self.old adds.now deletes.now self.new) }
         ensures unchanged { OnErr result (spec.IsSame self.old self.new) }
     {
-        let added = State::new(alloc, adds)?;
-        let gone = added.lacking(alloc, deletes)?;
-        let fresh = self.lacking(alloc, adds)?;
-        self.insert_all(alloc, fresh.as_slice())?;
-        self.remove_all(gone.as_slice());
+        if let Err(memory) = self.enter(alloc, adds.as_slice()) {
+            self.forget(adds.as_slice());
+            return Err(memory);
+        }
+        self.deny(deletes.as_slice());
+        self.affirm(adds.as_slice());
+        self.forget(deletes.as_slice());
         Ok(())
     }
 
-    /// The atoms of the list that are not in the set.
-    fn lacking(&self, alloc: Global, atoms: &List<GroundAtom>) -> Result<List<GroundAtom>, Memory>
-        ensures { IfOk result (λ lacking. spec.AreLacking self.now atoms.now lacking) }
+    /// Notes those of the atoms as false of which nothing is noted.
+    fn enter(&mut self, alloc: Global, atoms: &[GroundAtom]) -> Result<(), Memory>
+        ensures same { spec.IsSame self.old self.new }
+        ensures noted { OnOk result (spec.AreNoted atoms.now self.new) }
     {
-        let mut lacking = List::new(alloc);
-        for atom in atoms.as_slice() {
-            if !self.has(atom) {
-                lacking.put(atom.copy(alloc))?;
-            }
-        }
-        Ok(lacking)
-    }
-
-    /// Makes the atoms true, none of which is. After `Memory` those that were made true are taken back.
-    fn insert_all(&mut self, alloc: Global, atoms: &[GroundAtom]) -> Result<(), Memory>
-        requires { (g : Fact) → Contains atoms.now g → spec.atoms self.old g → ⊥ }
-        ensures inserted { OnOk result (spec.Has self.new (spec.WithAll self.old atoms.now)) }
-        ensures unchanged { OnErr result (spec.IsSame self.old self.new) }
-    {
-        for (i, atom) in atoms.iter().enumerate() {
-            if let Err(memory) = self.insert(alloc, atom) {
-                self.remove_all(&atoms[..i]);
-                return Err(memory);
+        for atom in atoms {
+            if self.note(atom.predicate, atom.args.as_slice()).is_none() {
+                self.insert(alloc, atom, false)?;
             }
         }
         Ok(())
     }
 
     /// Makes the atoms false.
-    fn remove_all(&mut self, atoms: &[GroundAtom])
-        ensures { spec.Has self.new (spec.WithoutAll self.old atoms.now) }
+    fn deny(&mut self, atoms: &[GroundAtom])
+        ensures without { spec.Has self.new (spec.WithoutAll self.old atoms.now) }
+        ensures noted { spec.KeepsNotes self.old self.new }
     {
         for atom in atoms {
-            self.remove(atom);
+            self.set(atom, false);
+        }
+    }
+
+    /// Makes the atoms true.
+    fn affirm(&mut self, atoms: &[GroundAtom])
+        requires { spec.AreNoted atoms.now self.old }
+        ensures { spec.Has self.new (spec.WithAll self.old atoms.now) }
+    {
+        for atom in atoms {
+            self.set(atom, true);
+        }
+    }
+
+    /// Takes away what is noted of those of the atoms that are false.
+    fn forget(&mut self, atoms: &[GroundAtom])
+        ensures { spec.IsSame self.old self.new }
+    {
+        for atom in atoms {
+            if !self.has(atom) {
+                self.remove(atom);
+            }
         }
     }
 }

@@ -17,6 +17,7 @@ mod gather;
 mod index;
 mod kinds;
 mod need;
+mod notes;
 mod places;
 mod run;
 mod state;

@@ -1,15 +1,17 @@
-ghost use Rattle.std.specs.Prelude.{◌≡◌, ◌↔◌, IsTrue, Contains, IfOk, OnOk, OnErr};
+ghost use Rattle.std.specs.Prelude.{◌≡◌, ◌↔◌, IsTrue, Contains, Some, None, IfOk, OnOk, OnErr};
 ghost use Rattle.ground_state.specs.States as spec;
 
+use crate::notes::Notes;
 use htn_base::{List, Memory};
 use plan_model::GroundAtom;
 use std::alloc::Global;
-use std::collections::{BTreeMap, BTreeSet};
+use std::collections::BTreeMap;
 
-/// A set of ground atoms, those that are true. `facts` has the lists of arguments of each predicate, in order.
+/// A set of ground atoms, those that are true. `facts` has what is noted of each predicate: an atom that is noted as
+/// false is one that a step makes true or has made false.
 #[derive(Drop)]
 pub struct State {
-    facts: BTreeMap<u32, BTreeSet<Vec<u32>>>,
+    facts: BTreeMap<u32, Notes>,
 }
 
 impl State {
@@ -21,7 +23,7 @@ impl State {
             facts: BTreeMap::new(alloc),
         };
         for atom in atoms.as_slice() {
-            state.insert(alloc, atom)?;
+            state.insert(alloc, atom, true)?;
         }
         Ok(state)
     }
@@ -37,37 +39,55 @@ impl State {
     pub(crate) fn has_args(&self, predicate: u32, args: &[u32]) -> bool
         ensures { result ≡ spec.has self.now predicate args.now }
     {
+        self.note(predicate, args).unwrap_or(false)
+    }
+
+    /// What is noted of the predicate and these objects.
+    pub(crate) fn note(&self, predicate: u32, args: &[u32]) -> Option<bool>
+        ensures { result ≡ spec.note self.now predicate args.now }
+    {
         match self.facts.get(&predicate) {
-            Some(lists) => lists.contains(args),
-            None => false,
+            Some(notes) => notes.get(args),
+            None => None,
         }
     }
 
-    /// Makes the atom true. After `Memory` the state is as it was.
-    pub(crate) fn insert(&mut self, alloc: Global, atom: &GroundAtom) -> Result<(), Memory>
-        ensures inserted { OnOk result (spec.Has self.new (spec.With self.old atom.now)) }
+    /// Notes this of the atom. After `Memory` the state is as it was.
+    pub(crate) fn insert(
+        &mut self,
+        alloc: Global,
+        atom: &GroundAtom,
+        truth: bool,
+    ) -> Result<(), Memory>
+        ensures inserted { OnOk result (spec.IsNoted self.old atom.now (Some truth) self.new) }
         ensures unchanged { OnErr result (spec.IsSame self.old self.new) }
     {
-        let args = Vec::from_slice(alloc, atom.args.as_slice())?;
         match self.facts.get_mut(&atom.predicate) {
-            Some(lists) => {
-                lists.insert(args)?;
-            }
+            Some(notes) => notes.insert(alloc, atom.args.as_slice(), truth),
             None => {
-                let mut lists = BTreeSet::new(alloc);
-                lists.insert(args)?;
-                self.facts.insert(atom.predicate, lists)?;
+                let mut notes = Notes::new(alloc);
+                notes.insert(alloc, atom.args.as_slice(), truth)?;
+                self.facts.insert(atom.predicate, notes)?;
+                Ok(())
             }
         }
-        Ok(())
     }
 
-    /// Makes the atom false.
-    pub(crate) fn remove(&mut self, atom: &GroundAtom)
-        ensures { spec.Has self.new (spec.Without self.old atom.now) }
+    /// Notes this of the atom, where something is noted of it. It takes no memory.
+    pub(crate) fn set(&mut self, atom: &GroundAtom, truth: bool)
+        ensures { spec.IsSet self.old atom.now truth self.new }
     {
-        if let Some(lists) = self.facts.get_mut(&atom.predicate) {
-            lists.remove(atom.args.as_slice());
+        if let Some(notes) = self.facts.get_mut(&atom.predicate) {
+            notes.set(atom.args.as_slice(), truth);
+        }
+    }
+
+    /// Takes away what is noted of the atom.
+    pub(crate) fn remove(&mut self, atom: &GroundAtom)
+        ensures { spec.IsNoted self.old atom.now None self.new }
+    {
+        if let Some(notes) = self.facts.get_mut(&atom.predicate) {
+            notes.remove(atom.args.as_slice());
         }
     }
 }

@@ -1,0 +1,28 @@
+-- What is noted of lists of objects.
+-- Source: this project's.
+use Rattle.std.specs.Prelude.{ℕ, ◌≡◌, Bool, List, Option, None}
+use Rattle.std.specs.Option.{option_map}
+use Rattle.std.specs.Ordering.{nat_cmp}
+use Rattle.std.specs.Cmp.Lexicographic.{slice_cmp}
+use Rattle.std.specs.BTreeMap as tree
+use Rattle.ground_state.specs.declared.notes.Notes.{Notes}
+
+abbrev pub noted : Notes → List ℕ → Option Bool
+noted notes args = tree.get_by (λ list. slice_cmp nat_cmp args list.items) notes.truths
+
+-- nothing is noted
+abbrev pub AreNone : Notes → Type 0
+AreNone notes = (args : List ℕ) → noted notes args ≡ None
+
+-- the same is noted of each list
+abbrev pub AreSame : Notes → Notes → Type 0
+AreSame old new = (args : List ℕ) → noted new args ≡ noted old args
+
+-- w is noted of this list now, and of others what was noted before
+pub record IsNoted (old : Notes) (args : List ℕ) (w : Option Bool) (new : Notes) : Type 0 where
+  pub here : noted new args ≡ w
+  pub others : (list : List ℕ) → (list ≡ args → ⊥) → noted new list ≡ noted old list
+
+-- the same, where something was noted of the list
+abbrev pub IsSet : Notes → List ℕ → Bool → Notes → Type 0
+IsSet old args truth new = IsNoted old args (option_map (λ _. truth) (noted old args)) new
