@@ -19,7 +19,7 @@ use Rattle.plan_meaning.proofs.BoundParts.{there_at}
 use Rattle.stratifier.specs.declared.edge.Edge as Declared
 use Rattle.stratifier.specs.Listed.{edge_of}
 use Rattle.stratifier.specs.Conditions.{HaveNoCycle, IsOrdered}
-use Rattle.stratifier.specs.Bad.{IsLastChild, IsLastOf, AreLasts}
+use Rattle.stratifier.specs.Bad.{IsLastOf, AreLasts}
 
 -- an item of a list with one more
 pub push_get : {A : Type 0} (xs : List A) (x y : A) (k : ℕ) → slice_get (xs ++ x ∷ []) k ≡ Some y → (slice_get xs k ≡ Some y) ⊎ ((k ≡ length xs) × (y ≡ x))
@@ -54,9 +54,6 @@ lasts_more methods k lasts plan last is l h = record {
     | inr g ↦ subst (IsLastOf p) (sym g.1) (subst (λ z. IsLastOf z last) (some_same plan p (sym is ∙ (ap (slice_get methods) (sym (g.0 ∙ h.room)) ∙ e))) l)
   ];
 }
-
-pub last_told : (plan : MethodPlan) (last : Option ℕ) (count : ℕ) (pairs : List Pair) → pairs ≡ plan.schema.pairs → count ≡ length plan.schema.children → IsLastChild count pairs last → IsLastOf plan last
-last_told plan last count pairs e f h = subst (λ n. IsLastChild n plan.schema.pairs last) f (subst (λ ps. IsLastChild count ps last) e h)
 
 -- marks of the first k edges
 pub record AreMarkedBelow (c : Compiled) (edges : List Declared.Edge) (k : ℕ) (marks : List Bool) : Type 0 where

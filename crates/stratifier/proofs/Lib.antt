@@ -3,6 +3,7 @@ pub mod Walks
 pub mod Listing
 pub mod ByTask
 pub mod Lasts
+pub mod LastChild
 pub mod Compiled
 pub mod Descents
 pub mod Grouped

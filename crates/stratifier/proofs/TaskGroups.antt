@@ -135,7 +135,7 @@ module _ (c : Compiled) (edges : List Declared.Edge) (are : AreEdges c (map edge
     )
 
     pub strata : (numbers : List ℕ) → length rows ≡ suc (top_task c) → NumberComponents rows numbers → AreStrata c numbers
-    strata numbers room h = record { room = h.room ∙ room; small = small; not_up = not_up; groups = groups }
+    strata numbers room h = record { groups = record { room = (let r = h.room in omega arith); one = groups }; small = small; not_up = not_up }
       where
         small : (t : ℕ) → get_or numbers t 0 ≤ top_task c
         small t = elim (cases_lt t (length rows)) [
@@ -202,7 +202,7 @@ ends_of_edge c small e is =
 
 -- of a problem without a bad cycle, the numbers are a lawful ranking
 pub stratified : (c : Compiled) (ranks : Ranks) → IsSmallCompiled c → IsTailRecursive c → AreStrata c ranks.numbers.items → IsStratified c ranks
-stratified c ranks small (edges, are, tail) h = record { room = h.room; small = h.small; ranking = (edges, are, lawful); groups = h.groups }
+stratified c ranks small (edges, are, tail) h = record { room = (let r = h.groups.room in omega arith); small = h.small; ranking = (edges, are, lawful); groups = h.groups.one }
   where
     lawful : (e : Edge) → Contains edges e → (rank_by ranks (target c e) < rank_by ranks (source c e)) ⊎ ((IsBad c e → ⊥) × (rank_by ranks (target c e) ≤ rank_by ranks (source c e)))
     lawful e k =
@@ -215,14 +215,14 @@ stratified c ranks small (edges, are, tail) h = record { room = h.room; small = 
               let f = ap (rank_by ranks) from in
               let g = ap (rank_by ranks) to in
               let same : number_of ranks u ≡ number_of ranks t = omega arith in
-              let (list, all, (r, (walk, w))) = (h.groups u t a b).0 same in
+              let (list, all, (r, (walk, w))) = (h.groups.one u t a b).0 same in
               let v = over c list edges all are (task t) (task u) walk w in
               inr (λ bad. tail e walk (k, bad, subst (λ z. Walks.IsWalk (source c) (target c) edges z walk (source c e)) (sym to) (subst (Walks.IsWalk (source c) (target c) edges (task t) walk) (sym from) v)), low)
               )
         ]
 
 pub group_numbers_of : (c : Compiled) (numbers slice : List ℕ) → slice ≡ numbers → AreStrata c numbers → AreGroupNumbers c slice
-group_numbers_of c numbers slice e h = subst (AreGroupNumbers c) (sym e) (record { room = let r = h.room in omega arith; one = h.groups })
+group_numbers_of c numbers slice e h = subst (AreGroupNumbers c) (sym e) h.groups
 
 -- rows that are read by slices
 module _ (c : Compiled) (edges : List Declared.Edge) (are : AreEdges c (map edge_of edges)) (ends list : List Ends) (h : AreEnds c edges ends) (same : list ≡ ends)

@@ -1,10 +1,11 @@
 -- The last children of methods, and marks of bad edges.
 -- Source: this project's, after the tail-recursive problems of Alford et al., "Bound to Plan", ICAPS 2016.
-use Rattle.std.specs.Prelude.{ℕ, ◌≡◌, ◌↔◌, Bool, IsTrue, List, length, slice_get, Option, Some, MatchOption}
+use Rattle.std.specs.Prelude.{ℕ, ◌≡◌, ◌≢◌, ◌<◌, ◌↔◌, Bool, IsTrue, List, length, slice_get, Option, Some, MatchOption}
 use Rattle.plan_model.specs.declared.networks.Pair.{Pair}
 use Rattle.plan_model.specs.declared.schemas.MethodPlan.{MethodPlan}
 use Rattle.plan_model.specs.declared.values.Compiled.{Compiled}
 use Rattle.plan_model.specs.Pairs.{Pairs}
+use Rattle.plan_model.specs.Parts.{IsMarked}
 use Rattle.task_networks.specs.Order.{IsLast}
 use Rattle.plan_meaning.specs.Strata.{IsBad}
 use Rattle.stratifier.specs.declared.edge.Edge as Declared
@@ -13,6 +14,13 @@ use Rattle.stratifier.specs.Listed.{edge_of}
 -- the last of so many children; none exactly where no child is last
 abbrev pub IsLastChild : ℕ → List Pair → Option ℕ → Type 0
 IsLastChild count pairs last = MatchOption last ((i : ℕ) → IsLast (Pairs pairs) count i → ⊥) (IsLast (Pairs pairs) count)
+
+-- the only item without a mark
+abbrev pub IsOnlyUnmarked : List Bool → ℕ → Type 0
+IsOnlyUnmarked marks i = (i < length marks) × (IsMarked marks i → ⊥) × ((j : ℕ) → j < length marks → j ≢ i → IsMarked marks j)
+
+abbrev pub IsOnlyUnmarkedOrNone : List Bool → Option ℕ → Type 0
+IsOnlyUnmarkedOrNone marks only = MatchOption only ((i : ℕ) → IsOnlyUnmarked marks i → ⊥) (IsOnlyUnmarked marks)
 
 abbrev pub IsLastOf : MethodPlan → Option ℕ → Type 0
 IsLastOf plan = IsLastChild (length plan.schema.children) plan.schema.pairs

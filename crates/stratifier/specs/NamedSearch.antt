@@ -8,7 +8,7 @@ use Rattle.plan_model.specs.declared.values.Compiled.{Compiled}
 use Rattle.task_networks.specs.Strata.{IsWalk, Reaches, ComesFirst}
 use Rattle.plan_meaning.specs.Network.{top_task}
 use Rattle.plan_meaning.specs.Schemas.{Schema, task}
-use Rattle.plan_meaning.specs.Strata.{Edge, source, target}
+use Rattle.plan_meaning.specs.Strata.{Edge, AreEdges, source, target}
 use Rattle.stratifier.specs.declared.edge.Edge as Declared
 use Rattle.stratifier.specs.declared.named.Ends.{Ends}
 use Rattle.stratifier.specs.Listed.{edge_of}
@@ -34,6 +34,10 @@ pub record AreEnds (c : Compiled) (edges : List Declared.Edge) (ends : List Ends
   pub from : (k : ℕ) (e : Declared.Edge) (n : Ends) → slice_get edges k ≡ Some e → slice_get ends k ≡ Some n → source c (edge_of e) ≡ task n.from
   pub to : (k : ℕ) (e : Declared.Edge) (n : Ends) → slice_get edges k ≡ Some e → slice_get ends k ≡ Some n → target c (edge_of e) ≡ task n.to
   pub below : AreEndsBelow (top_task c + 1) ends
+
+-- those of all edges
+abbrev pub AreAllEnds : Compiled → List Ends → Type 0
+AreAllEnds c ends = (edges : List Declared.Edge) × AreEdges c (map edge_of edges) × AreEnds c edges ends
 
 -- of all walks the shortest, and of these the first
 pub record IsBest {Node Link : Type 0} (source target : Link → Node) (edges : List Link) (x y : Node) (walk : List Link) : Type 0 where

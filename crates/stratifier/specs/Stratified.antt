@@ -9,19 +9,18 @@ use Rattle.stratifier.specs.declared.ranks.Ranks.{Ranks}
 use Rattle.stratifier.specs.declared.ranks.StratError.{StratError}
 use Rattle.stratifier.specs.declared.ranks.StratError.TheVariants.{Cycle, Memory}
 use Rattle.stratifier.specs.Listed.{edge_of}
-use Rattle.stratifier.specs.NamedCycle.{IsNamed}
+use Rattle.stratifier.specs.NamedCycle.{AreGroupNumbers, IsNamed}
 
 abbrev pub number_in : List ℕ → Schema → ℕ
 number_in numbers (action a) = 0
 number_in numbers (check m) = 0
 number_in numbers (task t) = slice_index_or numbers t 0
 
--- numbers of the tasks and the top task: no edge goes up, and two have one number exactly where they are of one group
+-- numbers of the groups of the tasks and the top task, so that no edge goes up
 pub record AreStrata (c : Compiled) (numbers : List ℕ) : Type 0 where
-  pub room : length numbers ≡ suc (top_task c)
+  pub groups : AreGroupNumbers c numbers
   pub small : (t : ℕ) → slice_index_or numbers t 0 ≤ top_task c
   pub not_up : (e : Edge) → IsEdge c e → number_in numbers (target c e) ≤ number_in numbers (source c e)
-  pub groups : (t u : ℕ) → t ≤ top_task c → u ≤ top_task c → (slice_index_or numbers t 0 ≡ slice_index_or numbers u 0) ↔ IsOneGroup c (task t) (task u)
 
 -- the number of a task, both its rank and its group's
 abbrev pub number_of : Ranks → ℕ → ℕ

@@ -2,11 +2,11 @@ ghost use Rattle.std.specs.Prelude.{◌≡◌, ◌≢◌, ◌↔◌, All, IsTrue
 ghost use Rattle.plan_meaning.specs.Strata.{AreEdges};
 ghost use Rattle.stratifier.specs.Conditions.{IsSmallCompiled, HaveNoCycle, IsOrdered, IsSmallMethod};
 ghost use Rattle.stratifier.specs.Listed.{edge_of};
-ghost use Rattle.stratifier.specs.Bad.{AreBadMarks, AreLasts, IsLastOf};
+ghost use Rattle.stratifier.specs.Bad.{AreBadMarks, AreLasts};
 
 use crate::edge::Edge;
+use crate::last::last_child;
 use htn_base::{List, Memory};
-use net_order::{Order, OrderError};
 use plan_model::{Compiled, MethodPlan};
 use std::alloc::Global;
 
@@ -46,22 +46,4 @@ fn last_children(alloc: Global, methods: &[MethodPlan]) -> Result<Vec<Option<u32
         lasts.push(last_child(alloc, plan)?)?;
     }
     Ok(lasts)
-}
-
-/// The child that all others of the method precede, if there is one.
-fn last_child(alloc: Global, plan: &MethodPlan) -> Result<Option<u32>, Memory>
-    requires small { IsSmallMethod plan.now }
-    requires ordered { IsOrdered plan.now }
-    ensures last { IfOk result (IsLastOf plan.now) }
-{
-    let count = plan.schema.children.len() as u32;
-    match Order::new(alloc, count, plan.schema.pairs.as_slice()) {
-        Ok(order) => {
-            let last = order.last();
-            drop(order);
-            Ok(last)
-        }
-        Err(OrderError::Memory) => Err(Memory),
-        Err(OrderError::Cycle { .. }) => unreachable!(),
-    }
 }

@@ -1,35 +1,27 @@
-ghost use Rattle.std.specs.Prelude.{◌≡◌, ◌<◌, ◌≤◌, ◌^◌, ℕ, [], length, map, IfOk, OnOk};
+ghost use Rattle.std.specs.Prelude.{◌≡◌, ◌<◌, ◌≤◌, ◌^◌, ℕ, [], length, IfOk, OnOk};
 ghost use Rattle.stratifier.specs.Graph.{NumberComponents, AreReversed, AreWithin};
-ghost use Rattle.plan_meaning.specs.Strata.{AreEdges};
 ghost use Rattle.stratifier.specs.Conditions.{IsSmallCompiled};
-ghost use Rattle.stratifier.specs.Listed.{edge_of};
 ghost use Rattle.stratifier.specs.Stratified.{AreStrata};
-ghost use Rattle.stratifier.specs.NamedSearch.{AreEndsBelow};
+ghost use Rattle.stratifier.specs.NamedSearch.{AreAllEnds, AreEndsBelow};
 ghost use Rattle.stratifier.specs.Grouping.{AreRowsOf, IsNumbered, IsNumberedFrom, IsReady};
 
 use crate::by_task::empty_lists;
-use crate::edge::Edge;
 use crate::finishing::finishing_order;
-use crate::named::{Ends, all_ends, sources_by_task};
+use crate::named::{Ends, sources_by_task};
 use crate::reach::Walk;
 use htn_base::{List, Memory};
 use plan_model::Compiled;
 use std::alloc::Global;
 
 /// Numbers of the tasks and the top task by their groups, so that no edge goes up.
-pub(crate) fn task_groups(
-    alloc: Global,
-    c: &Compiled,
-    edges: &List<Edge>,
-) -> Result<Vec<u32>, Memory>
+pub(crate) fn task_groups(alloc: Global, c: &Compiled, ends: &[Ends]) -> Result<Vec<u32>, Memory>
     requires small { IsSmallCompiled c.now }
-    requires edges { AreEdges c.now (map edge_of edges.now) }
+    requires ends { AreAllEnds c.now ends.now }
     ensures strata { IfOk result (λ numbers. AreStrata c.now numbers.items) }
 {
     let count = c.hddl.tasks.len() + 1;
-    let ends = all_ends(alloc, c, edges)?;
-    let rows = targets_by_task(alloc, count, ends.as_slice())?;
-    let back = sources_by_task(alloc, count, ends.as_slice())?;
+    let rows = targets_by_task(alloc, count, ends)?;
+    let back = sources_by_task(alloc, count, ends)?;
     group_numbers(alloc, rows.as_slice(), back.as_slice())
 }
 

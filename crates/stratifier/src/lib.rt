@@ -1,7 +1,7 @@
 //! The strata of a compiled problem: which tasks are reached from the top, the edges between them and
 //! which are bad, the groups of tasks that reach each other, ranks, and the bad cycle that is named.
 //!
-//! Stands on `htn_base`, `plan_model`, `net_order` and the definitions of `task_networks` and
+//! Stands on `htn_base`, `plan_model` and the definitions of `task_networks`, `net_order` and
 //! `plan_meaning`. The contract used above: a tail-recursive problem has strata, and any other the named
 //! cycle (`stratify`).
 #![tactic(auto)]
@@ -12,6 +12,7 @@ mod by_task;
 mod edge;
 mod finishing;
 mod groups;
+mod last;
 mod laws;
 mod named;
 mod ranks;

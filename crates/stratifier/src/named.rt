@@ -29,20 +29,21 @@ pub(crate) fn named_cycle(
     alloc: Global,
     c: &Compiled,
     edges: &List<Edge>,
+    ends: &[Ends],
     bad: &List<bool>,
     groups: &[u32],
 ) -> Result<Option<List<Edge>>, Memory>
     requires small { IsSmallCompiled c.now }
     requires edges { AreEdges c.now (map edge_of edges.now) }
+    requires ends { AreEnds c.now edges.now ends.now }
     requires bad { AreBadMarks c.now edges.now bad.now }
     requires groups { AreGroupNumbers c.now groups.now }
     ensures named { IfOk result (λ cycle. MayBeNamed c.now cycle) }
 {
-    let ends = all_ends(alloc, c, edges)?;
-    match first_closing(groups, ends.as_slice(), bad.as_slice()) {
+    match first_closing(groups, ends, bad.as_slice()) {
         None => Ok(None),
         Some(first) => {
-            let cycle = cycle_from(alloc, c, edges.as_slice(), ends.as_slice(), first)?;
+            let cycle = cycle_from(alloc, c, edges.as_slice(), ends, first)?;
             Ok(Some(cycle))
         }
     }

@@ -7,7 +7,7 @@ use crate::all_edges::edges;
 use crate::bad::bad_marks;
 use crate::edge::Edge;
 use crate::groups::task_groups;
-use crate::named::named_cycle;
+use crate::named::{all_ends, named_cycle};
 use htn_base::{List, Memory};
 use plan_model::Compiled;
 use std::alloc::Global;
@@ -66,8 +66,9 @@ pub fn stratify(alloc: Global, c: &Compiled) -> Result<Ranks, StratError>
 {
     let edges = edges(alloc, c)?;
     let bad = bad_marks(alloc, c, &edges)?;
-    let numbers = task_groups(alloc, c, &edges)?;
-    match named_cycle(alloc, c, &edges, &bad, numbers.as_slice())? {
+    let ends = all_ends(alloc, c, &edges)?;
+    let numbers = task_groups(alloc, c, ends.as_slice())?;
+    match named_cycle(alloc, c, &edges, ends.as_slice(), &bad, numbers.as_slice())? {
         Some(cycle) => Err(StratError::Cycle(cycle)),
         None => Ok(Ranks { numbers }),
     }
