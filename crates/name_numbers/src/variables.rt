@@ -1,6 +1,7 @@
 ghost use Rattle.std.specs.Prelude.{◌≡◌, ◌++◌, ◌-◌, [], ◌∷◌, take, length, OnOk, OnErr};
 
 use crate::places::make_room;
+use gd_reader::RawParam;
 use htn_base::{Memory, Name, number};
 use std::alloc::Global;
 use std::marker::Model;
@@ -32,6 +33,7 @@ impl Model for Variables {
 
 impl Variables {
     ghost use Rattle.name_numbers.specs.Places.{last_place};
+    ghost use Rattle.name_numbers.specs.Entered.{variables_of};
 
     /// None in force. They take no memory yet.
     pub fn new(alloc: Global) -> Variables
@@ -73,6 +75,21 @@ impl Variables {
             hidden: self.cells[cell],
         })?;
         self.cells[cell] = Some(place);
+        Ok(())
+    }
+
+    /// Puts the variables of a list in force within the others. After `Memory` they are as they were.
+    pub fn enter_all(&mut self, params: &[RawParam]) -> Result<(), Memory>
+        ensures entered { OnOk result (self.new ≡ self.old ++ variables_of params.now) }
+        ensures unchanged { OnErr result (self.new ≡ self.old) }
+    {
+        let outer = self.len();
+        for param in params {
+            if let Err(memory) = self.enter(param.name) {
+                self.leave(outer);
+                return Err(memory);
+            }
+        }
         Ok(())
     }
 
