@@ -80,8 +80,8 @@ fn parts_of(
     faults: &mut Faults,
 ) -> Result<List<Formula>, Memory>
     ensures bound { IfOk result (λ bound. bound ≡ formulas_bound known.now scope.old parts.now) }
-    ensures faults { OnOk result
-        (faults.new.least ≡ noted faults.old.least (formulas_faults known.now scope.old parts.now)) }
+    ensures faults { OnOk result (faults.new.least
+        ≡ noted faults.old.least (formulas_faults known.now scope.old parts.now)) }
     ensures kept { scope.new ≡ scope.old }
 {
     let parts = parts.as_slice();

@@ -14,7 +14,8 @@ use std::alloc::Global;
 /// none, its fault is noted: 16 at a variable, 15 at an object.
 pub fn term_of(objects: &Places, scope: &Variables, term: RawTerm, faults: &mut Faults) -> Term
     ensures bound { result ≡ term_bound objects.now scope.now term }
-    ensures faults { faults.new.least ≡ noted faults.old.least (term_faults objects.now scope.now term) }
+    ensures faults { faults.new.least
+        ≡ noted faults.old.least (term_faults objects.now scope.now term) }
 {
     if term.variable {
         Term::Var(found_or_noted(scope.get(term.name), 16, term.at, faults))
