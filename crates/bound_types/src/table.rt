@@ -87,7 +87,8 @@ impl TypeTable {
         types: &[RawTerm],
         faults: &mut Faults,
     ) -> Result<IndexSet<u32>, Memory>
-        ensures members { IfOk result (λ members. members.keys ≡ members_written self.now types.now) }
+        ensures members { IfOk result
+            (λ members. members.keys ≡ members_written self.now types.now) }
         ensures faults { OnOk result
             (faults.new.least ≡ noted faults.old.least (kind_faults self.now types.now)) }
     {
