@@ -1,5 +1,5 @@
 -- The first and the last place of a number in a list.
-use Rattle.std.specs.Prelude.{ℕ, suc, ◌≡◌, ◌<◌, ◌==◌, Bool, true, false, cond, List, [], ◌∷◌, Option, Some, None, option_map, slice_get, slice_index_or, take, length}
+use Rattle.std.specs.Prelude.{ℕ, suc, ◌≡◌, ◌==◌, Bool, true, false, cond, List, [], ◌∷◌, Option, Some, None, option_map, slice_index_or}
 
 abbrev pub first_place : ℕ → List ℕ → Option ℕ
 first_place n [] = None
@@ -25,12 +25,3 @@ AreFirst cells numbers = (n : ℕ) → cell cells n ≡ first_place n numbers
 -- the cell of each number has its last place in the list
 abbrev pub AreLast : List (Option ℕ) → List ℕ → Type 0
 AreLast cells numbers = (n : ℕ) → cell cells n ≡ last_place n numbers
-
--- each number has the place that it had last in front of it
-abbrev pub AreHidden : List (Option ℕ) → List ℕ → Type 0
-AreHidden hidden numbers = (k : ℕ) → (n : ℕ) → slice_get numbers k ≡ Some n → cell hidden k ≡ last_place n (take k numbers)
-
-pub record AreVariables (cells : List (Option ℕ)) (numbers : List ℕ) (hidden : List (Option ℕ)) : Type 0 where
-  pub last : AreLast cells numbers
-  pub room : length hidden ≡ length numbers
-  pub before : AreHidden hidden numbers

@@ -68,6 +68,15 @@ impl Places {
         }
         Ok(())
     }
+
+    /// Takes all declarations back. It costs in proportion to their number, however great the numbers of the names are.
+    pub fn clear(&mut self)
+        ensures none { self.new ≡ [] }
+    {
+        while let Some(number) = self.numbers.pop() {
+            self.cells[number as usize] = None;
+        }
+    }
 }
 
 /// Makes room for a cell of this number. The new ones are empty, also where memory ran out in between.

@@ -1,0 +1,4 @@
+pub mod Found
+pub mod InForce
+pub mod HeadPlaces
+pub mod Noted
