@@ -51,4 +51,18 @@ mod Opened
 mod FormulasSaid
 mod EffectsSaid
 mod SaidForms
+mod TermsExact
+mod ItemsExact
+mod SubtasksExact
+mod PairsExact
+mod ConstraintsExact
+mod ReadFields
+mod PartsExact
+mod SchemasExact
+mod FactsExact
+mod SectionsExact
+mod TextsExact
+mod NetworksRead
+mod SchemasRead
+mod TextsRead
 pub mod examples

@@ -1,15 +1,13 @@
 -- What spells a domain or a problem as it is declared spells some of each part.
-use Rattle.std.proofs.Common.{◌≡◌, ℕ, Bool, true, false, cond, ◌||◌, List, [], ◌∷◌, ◌++◌, map, codes, Option, Some, None, refl, sym, ap, subst, ◌∙◌}
+use Rattle.std.proofs.Common.{◌≡◌, Bool, true, false, cond, ◌||◌, List, [], ◌∷◌, map, codes, refl, sym, ap, subst, ◌∙◌}
 use Rattle.text_forms.specs.Lists.{Part, Parts, name, group, nothing, part}
-use Rattle.text_forms.specs.Placed.{Placed}
 use Rattle.text_forms.specs.Words.{Word, is_among}
 use Rattle.form_grammar.specs.Sections.{hddl, pddl, domain, problem}
-use Rattle.htn_base.specs.Different.{AreDifferent}
 use Rattle.plan_texts.specs.Declared.{Declared, named, variable}
 use Rattle.plan_texts.specs.Domains.{Domain, Problem, domain_words, AreDomainSections, AreProblemSections}
 use Rattle.plan_texts.specs.Networks.{IsTask, IsMethod, IsTop, IsNetwork}
 use Rattle.plan_texts.specs.Schemas.{IsPredicate, IsAction, IsFact, AreParams}
-use Rattle.plan_texts.specs.Sections.{section, content, only, without, are_sections, domain_once, domain_many, problem_once}
+use Rattle.plan_texts.specs.Sections.{content, only, without, are_sections, domain_once, domain_many, problem_once}
 use Rattle.plan_texts.specs.SpellsHddl.{AreHddlDomainSections, AreHddlProblemSections, hddl_many, hddl_problem_once}
 use Rattle.plan_texts.specs.TypedLists.{Each}
 use Rattle.plan_texts.specs.Types.{EachIs}

@@ -1,3 +1,4 @@
 pub mod Forms
 mod Places
 mod Definitions
+mod Texts

@@ -14,3 +14,9 @@ pub mod Places
 pub mod ReadOf
 pub mod Bound
 pub mod SpellsBound
+pub mod BoundNetworks
+pub mod BoundSchemas
+pub mod BoundTexts
+pub mod ReadNetworks
+pub mod ReadSchemas
+pub mod ReadTexts

@@ -7,8 +7,7 @@ ghost use Rattle.form_grammar.specs.Definitions.{definition_form};
 ghost use Rattle.form_grammar.specs.Networks.{network_rows, subs, pairs, cons};
 ghost use Rattle.form_grammar.specs.Rows.{form};
 ghost use Rattle.form_grammar.specs.Sections.{section_rows, named, parts, predicate, task, method, action, network};
-ghost use Rattle.form_grammar.specs.Sections.{Language, Definition};
-ghost use Rattle.form_spellings.specs.Exactly.{IsWholeExactlyWhere, IsCodedExactlyWhere};
+ghost use Rattle.form_spellings.specs.Exactly.{IsWholeExactlyWhere, IsCodedExactlyWhere, AreCodedExactlyWhere};
 ghost use Rattle.form_spellings.specs.SpellsSomeParts.{SpellsSomeTask, SpellsSomeMethod, SpellsSomeAction};
 ghost use Rattle.form_spellings.specs.SpellsSomeParts.{SpellsSomeTop, SpellsSomePredicate};
 ghost use Rattle.form_spellings.specs.SpelledWhole.{HddlDomainsAreWhole, HddlProblemsAreWhole};
@@ -53,7 +52,7 @@ pub fn whole_schemas()
 /// A text is whole as a domain or a problem, in either language, exactly where it is one definition whose sections stand as they
 /// may and each spells something, over some declared words, tasks, actions and ids.
 pub fn whole_definitions()
-    ensures { (l : Language) (d : Definition) → IsCodedExactlyWhere (definition_form l d) (SpellsSomeDefinition l d) }
+    ensures { AreCodedExactlyWhere definition_form SpellsSomeDefinition }
 {}
 
 /// A text that spells a domain or a problem as it is declared is whole, where no list of parameters and no quantifier declares a

@@ -5,15 +5,20 @@
 //! words are declared suitably (`whole_formulas`, `whole_effects`, `whole_lists`, `whole_networks`, `whole_schemas`,
 //! `whole_definitions`), so also where it spells a domain or a problem as declared (`spelled_definitions_are_whole`); what is read,
 //! once its names are bound, is spelled by the parts from which it was read (`what_is_read_is_spelled`), and these parts spell nothing
-//! else (`what_is_spelled_is_read`); its names stand in the name table (`names_stand_in_the_table`), and its offsets are those of
-//! tokens (`places_are_those_of_tokens`).
+//! else (`what_is_spelled_is_read`); the same holds of the parts of networks (`networks_spell_what_is_bound`), of schemas
+//! (`schemas_spell_what_is_bound`) and of the whole texts of an HDDL domain and problem (`texts_spell_what_is_bound`); its names
+//! stand in the name table (`names_stand_in_the_table`), and its offsets are those of tokens (`places_are_those_of_tokens`).
 #![tactic(auto)]
 
+mod bound;
 mod laws;
 mod names;
 mod places;
 mod read;
 
+pub use bound::{
+    networks_spell_what_is_bound, schemas_spell_what_is_bound, texts_spell_what_is_bound,
+};
 pub use laws::{
     spelled_definitions_are_whole, whole_definitions, whole_effects, whole_formulas, whole_lists,
     whole_networks, whole_schemas,

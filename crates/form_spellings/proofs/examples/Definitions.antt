@@ -1,5 +1,5 @@
 -- Whole texts and what they spell: a domain without sections, and one of an action whose variable is declared nowhere.
-use Rattle.std.proofs.Common.{[], ◌∷◌, codes, refl}
+use Rattle.std.proofs.Common.{codes}
 use Rattle.text_forms.specs.Placed.{Placed, cut, close, word, list}
 use Rattle.form_grammar.specs.Codes.{Whole}
 use Rattle.form_grammar.specs.Definitions.{definition_form}

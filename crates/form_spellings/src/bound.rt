@@ -1,0 +1,33 @@
+// What was read is bound to exactly what is spelled.
+ghost use Rattle.hddl_reader.specs.declared.parts.Parted.TheVariants.{Task, Method, Action, Network};
+ghost use Rattle.hddl_reader.specs.Networks.{sub_headed, pair_headed, con_headed, one_of, some_of};
+ghost use Rattle.hddl_reader.specs.Parts.{no_parts, parts};
+ghost use Rattle.hddl_reader.specs.Sections.{predicate_headed, named_parts};
+ghost use Rattle.form_spellings.specs.OfAllRead.{OfAllRead, OfAllOpened};
+ghost use Rattle.form_spellings.specs.ReadNetworks.{AreReadSubtasks, AreReadPairs, AreReadConstraints};
+ghost use Rattle.form_spellings.specs.ReadSchemas.{IsReadPredicate, IsReadTask, IsReadAction, IsReadMethod, IsReadTop};
+ghost use Rattle.form_spellings.specs.ReadTexts.{BoundHddlIsSpelled, SpelledHddlIsBound};
+
+/// What stands behind a network's keyword spells exactly the subtasks, pairs or constraints to which what was read of it is bound,
+/// over all declared words, tasks, actions, variables and ids.
+pub fn networks_spell_what_is_bound()
+    ensures subtasks { OfAllOpened (some_of sub_headed) AreReadSubtasks }
+    ensures pairs { OfAllOpened (some_of pair_headed) AreReadPairs }
+    ensures constraints { OfAllOpened (some_of con_headed) AreReadConstraints }
+{}
+
+/// A predicate, and what stands behind the keyword of a task, an action, a method or a problem's network, spells exactly the values
+/// to which what was read of it is bound.
+pub fn schemas_spell_what_is_bound()
+    ensures predicates { OfAllOpened (one_of predicate_headed) IsReadPredicate }
+    ensures tasks { OfAllRead (named_parts Task) IsReadTask }
+    ensures actions { OfAllRead (named_parts Action) IsReadAction }
+    ensures methods { OfAllRead (named_parts Method) IsReadMethod }
+    ensures tops { OfAllRead (parts Network no_parts) IsReadTop }
+{}
+
+/// Two texts of which a domain and a problem were read spell an HDDL value exactly where what was read is bound to it.
+pub fn texts_spell_what_is_bound()
+    ensures spelled { BoundHddlIsSpelled }
+    ensures bound { SpelledHddlIsBound }
+{}
