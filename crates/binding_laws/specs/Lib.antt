@@ -1,2 +1,4 @@
 pub mod Numbers
 pub mod Terms
+pub mod Kinds
+pub mod Typed

@@ -1,6 +1,8 @@
 // Laws that go over from the numbers of names to their words.
+ghost use Rattle.binding_laws.specs.Kinds.{HasKindFaults, IsKindBound, OfAllKinds};
 ghost use Rattle.binding_laws.specs.Numbers.{HaveOnePlace};
 ghost use Rattle.binding_laws.specs.Terms.{HasTermFaults, IsTermBound, OfAllTables};
+ghost use Rattle.binding_laws.specs.Typed.{HasTypedFaults, AreParamsBound, AreObjectsBound};
 
 /// In a table of different words the place of a number among others is that of its word among theirs.
 pub fn numbers_are_words()
@@ -12,4 +14,19 @@ pub fn numbers_are_words()
 pub fn terms_are_bound()
     ensures faults { OfAllTables HasTermFaults }
     ensures bound { OfAllTables IsTermBound }
+{}
+
+/// The faults of written types are the words that no type has. Types without faults are bound to the number of what is written,
+/// where no type is written twice and two or more are a union that has a number.
+pub fn types_are_bound()
+    ensures faults { OfAllKinds HasKindFaults }
+    ensures bound { OfAllKinds IsKindBound }
+{}
+
+/// The faults of a typed list are those of the types that it writes. Without faults its variables are bound to parameters of these
+/// types, and its names to objects, which have one type each.
+pub fn lists_are_bound()
+    ensures faults { OfAllKinds HasTypedFaults }
+    ensures params { OfAllKinds AreParamsBound }
+    ensures objects { OfAllKinds AreObjectsBound }
 {}

@@ -7,4 +7,4 @@
 
 mod laws;
 
-pub use laws::{numbers_are_words, terms_are_bound};
+pub use laws::{lists_are_bound, numbers_are_words, terms_are_bound, types_are_bound};
