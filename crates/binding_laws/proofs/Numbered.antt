@@ -4,6 +4,7 @@ use Rattle.std.specs.Prelude.{Contains, option_map, position, unwrap_or}
 use Rattle.std.specs.List.{list_any, position_or_len}
 use Rattle.std.specs.Str.{bytes_eq}
 use Rattle.std.proofs.lemmas.Bool.{cond-true, cond-false, eqb-true, lt-ltb}
+use Rattle.std.proofs.lemmas.List.{get_or-append-add, length-map}
 use Rattle.std.proofs.lemmas.List.Quantifiers.{position-Some}
 use Rattle.htn_base.specs.Different.{AreDifferent}
 use Rattle.text_forms.specs.Words.{Word, word_at, first_place}
@@ -55,8 +56,7 @@ kind_alone (t ∷ ts) us zero l = refl
 kind_alone (t ∷ ts) us (suc k) l = kind_alone ts us k (omega arith)
 
 pub kind_union : (ts : List Word) (us : List (List Word)) (k : ℕ) → get_or (map one_word ts ++ us) (length ts + k) [] ≡ get_or us k []
-kind_union [] us k = refl
-kind_union (t ∷ ts) us k = kind_union ts us k
+kind_union ts us k = ap (λ n. get_or (map one_word ts ++ us) (n + k) []) (sym (length-map ts one_word)) ∙ get_or-append-add (map one_word ts) us k []
 
 -- what stands in a list has a first place there
 pub place_of_member : (us : List (List ℕ)) (ns : List ℕ) → Has us ns → (k : ℕ) × (position (bytes_eq ns) us ≡ Some k) × (k < length us) × (get_or us k [] ≡ ns)
@@ -68,10 +68,10 @@ place_of_member us ns h =
   where
     within : (us : List (List ℕ)) → Has us ns → position_or_len (bytes_eq ns) us < length us
     within [] h = absurd h
-    within (u ∷ us) (inl e) = subst (λ b. cond (not b) (suc (position_or_len (bytes_eq ns) us)) 0 < suc (length us)) (sym (ap (bytes_eq ns) e ∙ bytes_eq-refl ns)) (omega arith)
+    within (u ∷ us) (inl e) = subst (λ b. cond (not b) (1 + position_or_len (bytes_eq ns) us) 0 < suc (length us)) (sym (ap (bytes_eq ns) e ∙ bytes_eq-refl ns)) (omega arith)
     within (u ∷ us) (inr h) = by (bytes_eq ns u) (within us h)
       where
-        by : (b : Bool) → position_or_len (bytes_eq ns) us < length us → cond (not b) (suc (position_or_len (bytes_eq ns) us)) 0 < suc (length us)
+        by : (b : Bool) → position_or_len (bytes_eq ns) us < length us → cond (not b) (1 + position_or_len (bytes_eq ns) us) 0 < suc (length us)
         by true l = omega arith
         by false l = omega arith
 
