@@ -4,3 +4,13 @@ pub mod Terms
 pub mod Numbered
 pub mod Written
 pub mod Typed
+pub mod Said
+pub mod Heads
+pub mod Somewhere
+pub mod Atoms
+pub mod Layers
+pub mod FormulaFaults
+pub mod EffectFaults
+pub mod BoundLayers
+pub mod FormulaValues
+pub mod EffectValues

@@ -13,7 +13,7 @@ use Rattle.name_numbers.specs.Places as numbers
 use Rattle.binding_laws.specs.Numbers.{words_of, AreKnown, HaveOnePlace}
 
 -- two numbers of one word are one
-same_number : (names : Names) (i j : ℕ) → AreDifferent names → i < length names → j < length names → word_at names i ≡ word_at names j → i ≡ j
+pub same_number : (names : Names) (i j : ℕ) → AreDifferent names → i < length names → j < length names → word_at names i ≡ word_at names j → i ≡ j
 same_number names i j d l m e =
     let f : Some i ≡ Some j = sym (first-different names i d l) ∙ ap (λ w. words.first_place w names) e ∙ first-different names j d m in
     cc

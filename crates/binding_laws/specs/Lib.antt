@@ -2,3 +2,6 @@ pub mod Numbers
 pub mod Terms
 pub mod Kinds
 pub mod Typed
+pub mod Uses
+pub mod Known
+pub mod Formulas

@@ -1,8 +1,11 @@
 // Laws that go over from the numbers of names to their words.
+ghost use Rattle.binding_laws.specs.Formulas.{HasAtomFaults, HasFormulaFaults, HasEffectFaults, IsAtomBound, IsFormulaBound, IsEffectBound, OfAllKnown};
 ghost use Rattle.binding_laws.specs.Kinds.{HasKindFaults, IsKindBound, OfAllKinds};
 ghost use Rattle.binding_laws.specs.Numbers.{HaveOnePlace};
 ghost use Rattle.binding_laws.specs.Terms.{HasTermFaults, IsTermBound, OfAllTables};
 ghost use Rattle.binding_laws.specs.Typed.{HasTypedFaults, AreParamsBound, AreObjectsBound};
+ghost use Rattle.binding_laws.specs.Uses.{AreSaidOfDomains, AreSaidOfProblems};
+ghost use Rattle.plan_texts.specs.Declared.{Declared};
 
 /// In a table of different words the place of a number among others is that of its word among theirs.
 pub fn numbers_are_words()
@@ -29,4 +32,28 @@ pub fn lists_are_bound()
     ensures faults { OfAllKinds HasTypedFaults }
     ensures params { OfAllKinds AreParamsBound }
     ensures objects { OfAllKinds AreObjectsBound }
+{}
+
+/// The faults of what stands somewhere, each declaration and each use, are the sentences on it.
+pub fn uses_are_said()
+    ensures domains { AreSaidOfDomains }
+    ensures problems { AreSaidOfProblems }
+{}
+
+/// The faults of an atom are those of its uses; an atom without faults is bound to what it stands for.
+pub fn atoms_are_bound()
+    ensures faults { OfAllKnown HasAtomFaults }
+    ensures bound { OfAllKnown (λ names d objects known. (v : Declared) → IsAtomBound names d objects known v) }
+{}
+
+/// The faults of a formula are those of its declarations and uses; a formula without faults is bound to what it stands for.
+pub fn formulas_are_bound()
+    ensures faults { OfAllKnown HasFormulaFaults }
+    ensures bound { OfAllKnown (λ names d objects known. (v : Declared) → IsFormulaBound names d objects known v) }
+{}
+
+/// The faults of an effect are those of its declarations and uses; an effect without faults is bound to what it stands for.
+pub fn effects_are_bound()
+    ensures faults { OfAllKnown HasEffectFaults }
+    ensures bound { OfAllKnown (λ names d objects known. (v : Declared) → IsEffectBound names d objects known v) }
 {}

@@ -7,4 +7,4 @@
 
 mod laws;
 
-pub use laws::{lists_are_bound, numbers_are_words, terms_are_bound, types_are_bound};
+pub use laws::{atoms_are_bound, effects_are_bound, formulas_are_bound, lists_are_bound, numbers_are_words, terms_are_bound, types_are_bound, uses_are_said};
