@@ -1,6 +1,6 @@
 -- Atoms by numbers and in words.
-use Rattle.std.proofs.Common.{ℕ, ◌≡◌, ◌<◌, inl, inr, List, [], ◌∷◌, ◌++◌, map, length, Option, Some, refl, sym, ap, subst, ◌∙◌}
-use Rattle.std.specs.Prelude.{◌⊎◌, ◌↔◌, flat_map}
+use Rattle.std.proofs.Common.{ℕ, ◌≡◌, inl, inr, List, [], ◌∷◌, map, length, refl, sym, ap, subst, ◌∙◌}
+use Rattle.std.specs.Prelude.{◌⊎◌}
 use Rattle.text_forms.specs.Words.{Word, word_at, first_place}
 use Rattle.gd_reader.specs.declared.term.RawAtom.{RawAtom}
 use Rattle.gd_reader.specs.declared.term.RawTerm.{RawTerm}
@@ -13,21 +13,18 @@ use Rattle.plan_texts.specs.Types.{EachIs}
 use Rattle.form_spellings.specs.Bound.{IsBoundTerm, IsBoundAtom}
 use Rattle.form_spellings.specs.EachName.{OfAtom}
 use Rattle.form_spellings.specs.InTable.{IsIn, IsNameIn}
-use Rattle.name_faults.specs.Lists.{One, Each, Has}
-use Rattle.name_faults.specs.Words.{term_word}
-use Rattle.name_faults.specs.Uses.{Scope, Use, Kind, predicate, applies, refers, IsOfAtom}
-use Rattle.name_numbers.specs.declared.faults.Spot.{Spot}
-use Rattle.name_numbers.specs.declared.heads.Head.{Head}
+use Rattle.name_faults.specs.Lists.{One, Has}
+use Rattle.name_faults.specs.Uses.{Scope, Use, predicate, applies, refers, IsOfAtom}
 use Rattle.name_numbers.specs.Heads.{head_numbers, declared}
 use Rattle.name_numbers.specs.Spots.{spot}
 use Rattle.name_numbers.specs.Terms.{term_bound, term_faults, terms_bound, terms_faults}
 use Rattle.bound_formulas.specs.declared.known.Known.{Known}
-use Rattle.bound_formulas.specs.Atoms.{place_of, head_faults, atom_bound, atom_faults}
-use Rattle.binding_laws.specs.Known.{head_of, AreHeadsOf, IsKnownOf, HasKnown}
+use Rattle.bound_formulas.specs.Atoms.{head_faults, atom_bound, atom_faults}
+use Rattle.binding_laws.specs.Known.{head_of, IsKnownOf, HasKnown}
 use Rattle.binding_laws.specs.Kinds.{AreTermsIn}
 use Rattle.binding_laws.specs.Numbers.{words_of, AreKnown}
 use Rattle.binding_laws.specs.Terms.{AreOfTable}
-use Rattle.binding_laws.specs.Uses.{HasUseFault, HasFaultIn}
+use Rattle.binding_laws.specs.Uses.{HasUseFault}
 use Rattle.binding_laws.specs.Formulas.{HasAtomFaults, IsAtomBound, OfAllKnown}
 use Rattle.binding_laws.proofs.Heads.{rising, wrong_there, wrong_back, found_is}
 use Rattle.binding_laws.proofs.Lists.{append_there, append_left, append_right, flat_there, flat_back}
@@ -105,19 +102,21 @@ module _ (names : Names) (d : RawDomain) (objects : List Word) (known : Known) (
 
     args_are : (scope : List ℕ) (ts : List RawTerm) → AreKnown names scope → AreTermsIn names ts → terms_faults known.objects scope ts ≡ [] → Together (IsBoundTerm v names (words_of names scope)) ts (terms_bound known.objects scope ts)
     args_are scope [] k is e = tt
-    args_are scope (t ∷ ts) k is e =
-        (term_is scope t k is.0 (none_left (term_faults known.objects scope t) (terms_faults known.objects scope ts) e),
-         args_are scope ts k is.1 (none_right (term_faults known.objects scope t) (terms_faults known.objects scope ts) e))
+    args_are scope (t ∷ ts) k is e = (
+      term_is scope t k is.0 (none_left (term_faults known.objects scope t) (terms_faults known.objects scope ts) e),
+      args_are scope ts k is.1 (none_right (term_faults known.objects scope t) (terms_faults known.objects scope ts) e),
+    )
 
     pub atom_is : (scope : List ℕ) (a : RawAtom) → AreKnown names scope → OfAtom (IsNameIn names) a → atom_faults known scope a ≡ [] → IsBoundAtom v names (words_of names scope) a (atom_bound known scope a).predicate (atom_bound known scope a).args
     atom_is scope a k is e =
         let f = none_left (head_faults a.head.at (length a.args) (declared a.head.name.number known.predicates)) (terms_faults known.objects scope a.args) e in
         let g = none_right (head_faults a.head.at (length a.args) (declared a.head.name.number known.predicates)) (terms_faults known.objects scope a.args) e in
-        let heads = subst (λ hs. AreKnown names (head_numbers hs)) (sym of.predicates.are) (heads_known names d.predicates of.predicates.words_in) in
-        (ap (first_place (word_at names a.head.name.number)) has.predicates
-        ∙ (have_one_place names a.head.name.number (head_numbers known.predicates) of.types.differ is.0 heads).0
-        ∙ found_is names of.types.differ a.head.name.number is.0 a.head.at (length a.args) known.predicates f,
-         args_are scope a.args k is.1 g)
+        let heads = subst (λ hs. AreKnown names (head_numbers hs)) (sym of.predicates.are) (heads_known names d.predicates of.predicates.words_in) in (
+          ap (first_place (word_at names a.head.name.number)) has.predicates
+              ∙ (have_one_place names a.head.name.number (head_numbers known.predicates) of.types.differ is.0 heads).0
+              ∙ found_is names of.types.differ a.head.name.number is.0 a.head.at (length a.args) known.predicates f,
+          args_are scope a.args k is.1 g,
+        )
 
 pub has_atom_faults : OfAllKnown HasAtomFaults
 has_atom_faults names d objects known scope a code at of k is = (atom_there names d objects known of scope a code at k is, atom_back names d objects known of scope a code at k is)

@@ -1,5 +1,5 @@
 -- The faults of an effect are those of its declarations and uses.
-use Rattle.std.proofs.Common.{ℕ, ◌≡◌, inl, inr, List, [], ◌∷◌, ◌++◌, map, refl, sym, subst}
+use Rattle.std.proofs.Common.{ℕ, inl, inr, List, [], ◌∷◌, ◌++◌, map, refl, sym, subst}
 use Rattle.std.specs.Prelude.{◌↔◌, flat_map}
 use Rattle.text_forms.specs.Words.{Word}
 use Rattle.gd_reader.specs.declared.effects.RawEffect.{RawEffect, roll-RawEffect}
@@ -66,25 +66,29 @@ module _ (names : Names) (d : RawDomain) (objects : List Word) (known : Known) (
   level : (y : RawEffect-F Proved) (scope : List ℕ) → AreKnown names scope → effect_of_step (IsNameIn names) (IsEffectIn names) (opened y) → Level (opened y) scope
   level (RawEffect-F.Add a) scope k is = (atom_there names d objects known of scope a code at k is, atom_back names d objects known of scope a code at k is)
   level (RawEffect-F.Delete a) scope k is = (atom_there names d objects known of scope a code at k is, atom_back names d objects known of scope a code at k is)
-  level (RawEffect-F.And es) scope k is =
-      (λ h. one_back Q (λ e. InEffect names e (words_of names scope)) (effects es) (parts_there es scope k is h),
-       λ s. parts_back es scope k is (one_there Q (λ e. InEffect names e (words_of names scope)) (effects es) s))
+  level (RawEffect-F.And es) scope k is = (
+    λ h. one_back Q (λ e. InEffect names e (words_of names scope)) (effects es) (parts_there es scope k is h),
+    λ s. parts_back es scope k is (one_there Q (λ e. InEffect names e (words_of names scope)) (effects es) s),
+  )
   level (RawEffect-F.Forall xs e) scope k is =
-      let E = e.1 (scope ++ variables_of xs) (inner_in names scope xs k is.0) is.1 in
-      (quantified_there names d objects known of code at scope xs (faults e.0) (InEffect names e.0) is.0 E.0,
-       quantified_back names d objects known of code at scope xs (faults e.0) (InEffect names e.0) is.0 E.1)
+      let E = e.1 (scope ++ variables_of xs) (inner_in names scope xs k is.0) is.1 in (
+        quantified_there names d objects known of code at scope xs (faults e.0) (InEffect names e.0) is.0 E.0,
+        quantified_back names d objects known of code at scope xs (faults e.0) (InEffect names e.0) is.0 E.1,
+      )
   level (RawEffect-F.When f e) scope k is =
       let F = formula_has names d objects known of code at f scope k is.0 in
-      let E = e.1 scope k is.1 in
-      (both_there names d objects known of code at (formula_faults known scope f) (faults e.0 scope) (InFormula names f (words_of names scope)) (InEffect names e.0 (words_of names scope)) F.0 E.0,
-       both_back names d objects known of code at (formula_faults known scope f) (faults e.0 scope) (InFormula names f (words_of names scope)) (InEffect names e.0 (words_of names scope)) F.1 E.1)
+      let E = e.1 scope k is.1 in (
+        both_there names d objects known of code at (formula_faults known scope f) (faults e.0 scope) (InFormula names f (words_of names scope)) (InEffect names e.0 (words_of names scope)) F.0 E.0,
+        both_back names d objects known of code at (formula_faults known scope f) (faults e.0 scope) (InFormula names f (words_of names scope)) (InEffect names e.0 (words_of names scope)) F.1 E.1,
+      )
 
   claim : (x : RawEffect-F RawEffect) → ((scope : List ℕ) → AreKnown names scope → effect_of_step (IsNameIn names) (IsEffectIn names) x → Level x scope) → Claim (roll-RawEffect x)
   claim x is scope k i =
       let L = is scope k (effect_in names x i) in
-      let e = effect_faults_level known x (roll-RawEffect x) refl scope in
-      (λ h. let s = L.0 (subst (λ ss. Has ss (spot at code)) e h) in (s.0, s.1, effect_roll names x (roll-RawEffect x) refl (words_of names scope) s.0 s.1 s.2, s.3),
-       λ s. subst (λ ss. Has ss (spot at code)) (sym e) (L.1 (s.0, s.1, effect_unroll names x (roll-RawEffect x) refl (words_of names scope) s.0 s.1 s.2, s.3)))
+      let e = effect_faults_level known x (roll-RawEffect x) refl scope in (
+        λ h. let s = L.0 (subst (λ ss. Has ss (spot at code)) e h) in (s.0, s.1, effect_roll names x (roll-RawEffect x) refl (words_of names scope) s.0 s.1 s.2, s.3),
+        λ s. subst (λ ss. Has ss (spot at code)) (sym e) (L.1 (s.0, s.1, effect_unroll names x (roll-RawEffect x) refl (words_of names scope) s.0 s.1 s.2, s.3)),
+      )
 
   pub effect_has : (e : RawEffect) → Claim e
   effect_has = ind-RawEffect Claim (λ x y is. subst (λ z. Claim (roll-RawEffect z)) is (claim (opened y) (level y)))

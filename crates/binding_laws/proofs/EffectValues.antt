@@ -1,5 +1,5 @@
 -- An effect without faults is bound to what it stands for.
-use Rattle.std.proofs.Common.{ℕ, ◌≡◌, inl, inr, List, [], ◌∷◌, ◌++◌, map, refl, sym, ap, subst, ◌∙◌}
+use Rattle.std.proofs.Common.{ℕ, ◌≡◌, inl, inr, List, [], ◌∷◌, ◌++◌, map, refl, sym, subst, ◌∙◌}
 use Rattle.std.specs.Prelude.{flat_map}
 use Rattle.text_forms.specs.Words.{Word}
 use Rattle.gd_reader.specs.declared.effects.RawEffect.{RawEffect, roll-RawEffect}
@@ -7,7 +7,7 @@ use Rattle.gd_reader.specs.declared.effects.RawEffect.TheFolds.{map-RawEffect, i
 use Rattle.gd_reader.specs.declared.effects.RawEffect.TheOpen.{RawEffect-F}
 use Rattle.gd_reader.specs.Terms.{Names}
 use Rattle.hddl_reader.specs.declared.sections.RawDomain.{RawDomain}
-use Rattle.plan_texts.specs.Declared.{Declared, variable}
+use Rattle.plan_texts.specs.Declared.{Declared}
 use Rattle.plan_texts.specs.Together.{Together}
 use Rattle.plan_texts.specs.Types.{EachIs}
 use Rattle.plan_model.specs.declared.effects.Effect.{Effect}
@@ -55,9 +55,10 @@ module _ (names : Names) (d : RawDomain) (objects : List Word) (known : Known) (
   many : (es : List Proved) (scope : List ℕ) → AreKnown names scope → EachIs (IsEffectIn names) (effects es) → AreNumberedIn names known.types (λ here u. One (λ e. InEffect names e (words_of names scope) here u) (effects es))
       → flat_map (λ e. e scope) (map faults (effects es)) ≡ [] → Together (λ r g. IsBoundEffect v names r (words_of names scope) g) (effects es) (map (λ e. e scope) (map stands (effects es)))
   many [] scope k is n e = tt
-  many (f ∷ fs) scope k is n e =
-      (f.1 scope k is.0 (λ here x s. n here x (inl s)) (none_left (faults f.0 scope) (flat_map (λ e. e scope) (map faults (effects fs))) e),
-       many fs scope k is.1 (λ here x s. n here x (inr s)) (none_right (faults f.0 scope) (flat_map (λ e. e scope) (map faults (effects fs))) e))
+  many (f ∷ fs) scope k is n e = (
+    f.1 scope k is.0 (λ here x s. n here x (inl s)) (none_left (faults f.0 scope) (flat_map (λ e. e scope) (map faults (effects fs))) e),
+    many fs scope k is.1 (λ here x s. n here x (inr s)) (none_right (faults f.0 scope) (flat_map (λ e. e scope) (map faults (effects fs))) e),
+  )
 
   abbrev opened : RawEffect-F Proved → RawEffect-F RawEffect
   opened y = map-RawEffect Proved RawEffect (λ e. e.0) y
@@ -72,15 +73,21 @@ module _ (names : Names) (d : RawDomain) (objects : List Word) (known : Known) (
   level (RawEffect-F.And es) scope k is n e = (map (λ e. e scope) (map stands (effects es)), refl, many es scope k is n e)
   level (RawEffect-F.Forall xs f) scope k is n e =
       let inner = f.1 (scope ++ variables_of xs) (inner_in names scope xs k is.0) is.1
-        (inner_numbered names d objects known of v has scope xs (InEffect names f.0) (λ here x s. n here x (inr s)))
-        (none_right (params_faults known.types xs) (faults f.0 (scope ++ variables_of xs)) e) in
-      (params_bound known.types xs, stands f.0 (scope ++ variables_of xs), refl,
-       params_are names d objects known of v has xs is.0 (λ x s. n [] x (inl s)) (none_left (params_faults known.types xs) (faults f.0 (scope ++ variables_of xs)) e),
-       subst (λ ws. IsBoundEffect v names f.0 ws (stands f.0 (scope ++ variables_of xs))) (inner_is names d objects known of v has scope xs) inner)
-  level (RawEffect-F.When f g) scope k is n e =
-      (formula_bound known scope f, stands g.0 scope, refl,
-       formula_is names d objects known of v has f scope k is.0 (λ here x s. n here x (inl s)) (none_left (formula_faults known scope f) (faults g.0 scope) e),
-       g.1 scope k is.1 (λ here x s. n here x (inr s)) (none_right (formula_faults known scope f) (faults g.0 scope) e))
+      (inner_numbered names d objects known of v has scope xs (InEffect names f.0) (λ here x s. n here x (inr s)))
+      (none_right (params_faults known.types xs) (faults f.0 (scope ++ variables_of xs)) e) in (
+        params_bound known.types xs,
+        stands f.0 (scope ++ variables_of xs),
+        refl,
+        params_are names d objects known of v has xs is.0 (λ x s. n [] x (inl s)) (none_left (params_faults known.types xs) (faults f.0 (scope ++ variables_of xs)) e),
+        subst (λ ws. IsBoundEffect v names f.0 ws (stands f.0 (scope ++ variables_of xs))) (inner_is names d objects known of v has scope xs) inner,
+      )
+  level (RawEffect-F.When f g) scope k is n e = (
+    formula_bound known scope f,
+    stands g.0 scope,
+    refl,
+    formula_is names d objects known of v has f scope k is.0 (λ here x s. n here x (inl s)) (none_left (formula_faults known scope f) (faults g.0 scope) e),
+    g.1 scope k is.1 (λ here x s. n here x (inr s)) (none_right (formula_faults known scope f) (faults g.0 scope) e),
+  )
 
   claim : (x : RawEffect-F RawEffect) → ((scope : List ℕ) → AreKnown names scope → effect_of_step (IsNameIn names) (IsEffectIn names) x → Level x scope) → Claim (roll-RawEffect x)
   claim x is scope k i n e =

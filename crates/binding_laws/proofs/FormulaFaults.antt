@@ -1,5 +1,5 @@
 -- The faults of a formula are those of its declarations and uses.
-use Rattle.std.proofs.Common.{ℕ, ◌≡◌, inl, inr, List, [], ◌∷◌, ◌++◌, map, refl, sym, ap, subst, ◌∙◌}
+use Rattle.std.proofs.Common.{ℕ, ◌≡◌, inl, inr, List, [], ◌∷◌, ◌++◌, map, refl, sym, subst}
 use Rattle.std.specs.Prelude.{◌⊎◌, ◌↔◌, flat_map}
 use Rattle.text_forms.specs.Words.{Word}
 use Rattle.gd_reader.specs.declared.term.RawTerm.{RawTerm}
@@ -21,15 +21,13 @@ use Rattle.name_numbers.specs.Spots.{spot}
 use Rattle.name_numbers.specs.Terms.{term_faults}
 use Rattle.bound_types.specs.Typed.{params_faults}
 use Rattle.bound_formulas.specs.declared.known.Known.{Known}
-use Rattle.bound_formulas.specs.Atoms.{atom_faults}
 use Rattle.bound_formulas.specs.Formulas.{formula_faults_step, formula_faults}
 use Rattle.bound_formulas.proofs.Parts.{faults_level}
 use Rattle.binding_laws.specs.Kinds.{IsKindFault}
 use Rattle.binding_laws.specs.Known.{IsKnownOf}
 use Rattle.binding_laws.specs.Numbers.{words_of, AreKnown}
-use Rattle.binding_laws.specs.Uses.{HasUseFault}
 use Rattle.binding_laws.specs.Formulas.{HasFormulaFaults, OfAllKnown}
-use Rattle.binding_laws.proofs.Atoms.{Here, AtomAt, term_there, term_back, atom_there, atom_back}
+use Rattle.binding_laws.proofs.Atoms.{Here, term_there, term_back, atom_there, atom_back}
 use Rattle.binding_laws.proofs.Layers.{formula_in, inner_words, inner_in}
 use Rattle.binding_laws.proofs.Lists.{append_there, append_left, append_right}
 use Rattle.binding_laws.proofs.Somewhere.{Somewhere, either_there, either_left, either_right, one_there, one_back, at_use}
@@ -120,9 +118,10 @@ module _ (names : Names) (d : RawDomain) (objects : List Word) (known : Known) (
   parts_back (f ∷ fs) scope k is (inr i) = append_right (faults f.0 scope) (flat_map (λ f. f scope) (map faults (formulas fs))) (spot at code) (parts_back fs scope k is.1 i)
 
   many : (fs : List Proved) (scope : List ℕ) → AreKnown names scope → EachIs (IsFormulaIn names) (formulas fs) → Has (flat_map (λ f. f scope) (map faults (formulas fs))) (spot at code) ↔ Somewhere Q (λ here u. One (λ f. InFormula names f (words_of names scope) here u) (formulas fs))
-  many fs scope k is =
-      (λ h. one_back Q (λ f. InFormula names f (words_of names scope)) (formulas fs) (parts_there fs scope k is h),
-       λ s. parts_back fs scope k is (one_there Q (λ f. InFormula names f (words_of names scope)) (formulas fs) s))
+  many fs scope k is = (
+    λ h. one_back Q (λ f. InFormula names f (words_of names scope)) (formulas fs) (parts_there fs scope k is h),
+    λ s. parts_back fs scope k is (one_there Q (λ f. InFormula names f (words_of names scope)) (formulas fs) s),
+  )
 
   abbrev opened : RawFormula-F Proved → RawFormula-F RawFormula
   opened y = map-RawFormula Proved RawFormula (λ e. e.0) y
@@ -138,9 +137,10 @@ module _ (names : Names) (d : RawDomain) (objects : List Word) (known : Known) (
   level (RawFormula-F.Or fs) scope k is = many fs scope k is
   level (RawFormula-F.Imply f g) scope k is =
       let F = f.1 scope k is.0 in
-      let G = g.1 scope k is.1 in
-      (both_there (faults f.0 scope) (faults g.0 scope) (InFormula names f.0 (words_of names scope)) (InFormula names g.0 (words_of names scope)) F.0 G.0,
-       both_back (faults f.0 scope) (faults g.0 scope) (InFormula names f.0 (words_of names scope)) (InFormula names g.0 (words_of names scope)) F.1 G.1)
+      let G = g.1 scope k is.1 in (
+        both_there (faults f.0 scope) (faults g.0 scope) (InFormula names f.0 (words_of names scope)) (InFormula names g.0 (words_of names scope)) F.0 G.0,
+        both_back (faults f.0 scope) (faults g.0 scope) (InFormula names f.0 (words_of names scope)) (InFormula names g.0 (words_of names scope)) F.1 G.1,
+      )
   level (RawFormula-F.Forall xs f) scope k is =
       let F = f.1 (scope ++ variables_of xs) (inner_in names scope xs k is.0) is.1 in
       (quantified_there scope xs (faults f.0) (InFormula names f.0) is.0 F.0, quantified_back scope xs (faults f.0) (InFormula names f.0) is.0 F.1)
@@ -151,9 +151,10 @@ module _ (names : Names) (d : RawDomain) (objects : List Word) (known : Known) (
   claim : (x : RawFormula-F RawFormula) → ((scope : List ℕ) → AreKnown names scope → of_step (IsNameIn names) (IsFormulaIn names) x → Level x scope) → Claim (roll-RawFormula x)
   claim x is scope k i =
       let L = is scope k (formula_in names x i) in
-      let e = faults_level known x (roll-RawFormula x) refl scope in
-      (λ h. let s = L.0 (subst (λ ss. Has ss (spot at code)) e h) in (s.0, s.1, formula_roll names x (roll-RawFormula x) refl (words_of names scope) s.0 s.1 s.2, s.3),
-       λ s. subst (λ ss. Has ss (spot at code)) (sym e) (L.1 (s.0, s.1, formula_unroll names x (roll-RawFormula x) refl (words_of names scope) s.0 s.1 s.2, s.3)))
+      let e = faults_level known x (roll-RawFormula x) refl scope in (
+        λ h. let s = L.0 (subst (λ ss. Has ss (spot at code)) e h) in (s.0, s.1, formula_roll names x (roll-RawFormula x) refl (words_of names scope) s.0 s.1 s.2, s.3),
+        λ s. subst (λ ss. Has ss (spot at code)) (sym e) (L.1 (s.0, s.1, formula_unroll names x (roll-RawFormula x) refl (words_of names scope) s.0 s.1 s.2, s.3)),
+      )
 
   pub formula_has : (f : RawFormula) → Claim f
   formula_has = ind-RawFormula Claim (λ x y is. subst (λ z. Claim (roll-RawFormula z)) is (claim (opened y) (level y)))

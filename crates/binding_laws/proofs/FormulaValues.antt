@@ -12,11 +12,9 @@ use Rattle.plan_texts.specs.Declared.{Declared, variable}
 use Rattle.plan_texts.specs.Together.{Together}
 use Rattle.plan_texts.specs.Types.{EachIs}
 use Rattle.plan_model.specs.declared.formulas.Formula.{Formula}
-use Rattle.plan_model.specs.declared.terms.Param.{Param}
 use Rattle.form_spellings.specs.Bound.{IsBoundParam, bound_step, IsBoundFormula}
 use Rattle.form_spellings.specs.EachName.{of_step}
 use Rattle.form_spellings.specs.InTable.{IsNameIn, AreParamsIn, IsFormulaIn}
-
 use Rattle.name_faults.specs.Lists.{One}
 use Rattle.name_faults.specs.Uses.{Scope, Use, declares, IsDeclared, variables, InFormula}
 use Rattle.name_faults.specs.Uses as uses
@@ -24,14 +22,12 @@ use Rattle.name_faults.proofs.Rolls.{formula_roll}
 use Rattle.name_numbers.specs.declared.faults.Spot.{Spot}
 use Rattle.name_numbers.specs.Entered.{variables_of}
 use Rattle.name_numbers.specs.Terms.{term_bound, term_faults}
-use Rattle.bound_types.specs.Kinds.{Kinds}
-use Rattle.bound_types.specs.Kinds as kinds
 use Rattle.bound_types.specs.Typed.{params_bound, params_faults}
 use Rattle.bound_formulas.specs.declared.known.Known.{Known}
 use Rattle.bound_formulas.specs.Atoms.{atom_bound}
 use Rattle.bound_formulas.specs.Formulas.{formula_step, formula_bound, formula_faults_step, formula_faults}
 use Rattle.bound_formulas.proofs.Parts.{formula_level, faults_level}
-use Rattle.binding_laws.specs.Kinds.{HasKinds, IsNumbered}
+use Rattle.binding_laws.specs.Kinds.{IsNumbered}
 use Rattle.binding_laws.specs.Known.{IsKnownOf, HasKnown}
 use Rattle.binding_laws.specs.Numbers.{words_of, AreKnown}
 use Rattle.binding_laws.specs.Formulas.{AreNumberedIn, IsFormulaBound, OfAllKnown}
@@ -79,9 +75,10 @@ module _ (names : Names) (d : RawDomain) (objects : List Word) (known : Known) (
   many : (fs : List Proved) (scope : List ℕ) → AreKnown names scope → EachIs (IsFormulaIn names) (formulas fs) → AreNumberedIn names known.types (λ here u. One (λ f. InFormula names f (words_of names scope) here u) (formulas fs))
       → flat_map (λ f. f scope) (map faults (formulas fs)) ≡ [] → Together (λ r g. IsBoundFormula v names r (words_of names scope) g) (formulas fs) (map (λ f. f scope) (map stands (formulas fs)))
   many [] scope k is n e = tt
-  many (f ∷ fs) scope k is n e =
-      (f.1 scope k is.0 (λ here x s. n here x (inl s)) (none_left (faults f.0 scope) (flat_map (λ f. f scope) (map faults (formulas fs))) e),
-       many fs scope k is.1 (λ here x s. n here x (inr s)) (none_right (faults f.0 scope) (flat_map (λ f. f scope) (map faults (formulas fs))) e))
+  many (f ∷ fs) scope k is n e = (
+    f.1 scope k is.0 (λ here x s. n here x (inl s)) (none_left (faults f.0 scope) (flat_map (λ f. f scope) (map faults (formulas fs))) e),
+    many fs scope k is.1 (λ here x s. n here x (inr s)) (none_right (faults f.0 scope) (flat_map (λ f. f scope) (map faults (formulas fs))) e),
+  )
 
   abbrev opened : RawFormula-F Proved → RawFormula-F RawFormula
   opened y = map-RawFormula Proved RawFormula (λ e. e.0) y
@@ -97,25 +94,37 @@ module _ (names : Names) (d : RawDomain) (objects : List Word) (known : Known) (
 
   level : (y : RawFormula-F Proved) (scope : List ℕ) → AreKnown names scope → of_step (IsNameIn names) (IsFormulaIn names) (opened y) → Level (opened y) scope
   level (RawFormula-F.Holds a) scope k is n e = ((atom_bound known scope a).predicate, (atom_bound known scope a).args, refl, atom_is names d objects known of v has scope a k is e)
-  level (RawFormula-F.Equal s t) scope k is n e =
-      (term_bound known.objects scope s, term_bound known.objects scope t, refl,
-       term_is names d objects known of v has scope s k is.0 (none_left (term_faults known.objects scope s) (term_faults known.objects scope t) e),
-       term_is names d objects known of v has scope t k is.1 (none_right (term_faults known.objects scope s) (term_faults known.objects scope t) e))
+  level (RawFormula-F.Equal s t) scope k is n e = (
+    term_bound known.objects scope s,
+    term_bound known.objects scope t,
+    refl,
+    term_is names d objects known of v has scope s k is.0 (none_left (term_faults known.objects scope s) (term_faults known.objects scope t) e),
+    term_is names d objects known of v has scope t k is.1 (none_right (term_faults known.objects scope s) (term_faults known.objects scope t) e),
+  )
   level (RawFormula-F.Not f) scope k is n e = (stands f.0 scope, refl, f.1 scope k is n e)
   level (RawFormula-F.And fs) scope k is n e = (map (λ f. f scope) (map stands (formulas fs)), refl, many fs scope k is n e)
   level (RawFormula-F.Or fs) scope k is n e = (map (λ f. f scope) (map stands (formulas fs)), refl, many fs scope k is n e)
-  level (RawFormula-F.Imply f g) scope k is n e =
-      (stands f.0 scope, stands g.0 scope, refl,
-       f.1 scope k is.0 (λ here x s. n here x (inl s)) (none_left (faults f.0 scope) (faults g.0 scope) e),
-       g.1 scope k is.1 (λ here x s. n here x (inr s)) (none_right (faults f.0 scope) (faults g.0 scope) e))
-  level (RawFormula-F.Forall xs f) scope k is n e =
-      (params_bound known.types xs, stands f.0 (scope ++ variables_of xs), refl,
-       params_are xs is.0 (λ x s. n [] x (inl s)) (none_left (params_faults known.types xs) (faults f.0 (scope ++ variables_of xs)) e),
-       inner f xs scope k is.0 is.1 (λ here x s. n here x (inr s)) (none_right (params_faults known.types xs) (faults f.0 (scope ++ variables_of xs)) e))
-  level (RawFormula-F.Exists xs f) scope k is n e =
-      (params_bound known.types xs, stands f.0 (scope ++ variables_of xs), refl,
-       params_are xs is.0 (λ x s. n [] x (inl s)) (none_left (params_faults known.types xs) (faults f.0 (scope ++ variables_of xs)) e),
-       inner f xs scope k is.0 is.1 (λ here x s. n here x (inr s)) (none_right (params_faults known.types xs) (faults f.0 (scope ++ variables_of xs)) e))
+  level (RawFormula-F.Imply f g) scope k is n e = (
+    stands f.0 scope,
+    stands g.0 scope,
+    refl,
+    f.1 scope k is.0 (λ here x s. n here x (inl s)) (none_left (faults f.0 scope) (faults g.0 scope) e),
+    g.1 scope k is.1 (λ here x s. n here x (inr s)) (none_right (faults f.0 scope) (faults g.0 scope) e),
+  )
+  level (RawFormula-F.Forall xs f) scope k is n e = (
+    params_bound known.types xs,
+    stands f.0 (scope ++ variables_of xs),
+    refl,
+    params_are xs is.0 (λ x s. n [] x (inl s)) (none_left (params_faults known.types xs) (faults f.0 (scope ++ variables_of xs)) e),
+    inner f xs scope k is.0 is.1 (λ here x s. n here x (inr s)) (none_right (params_faults known.types xs) (faults f.0 (scope ++ variables_of xs)) e),
+  )
+  level (RawFormula-F.Exists xs f) scope k is n e = (
+    params_bound known.types xs,
+    stands f.0 (scope ++ variables_of xs),
+    refl,
+    params_are xs is.0 (λ x s. n [] x (inl s)) (none_left (params_faults known.types xs) (faults f.0 (scope ++ variables_of xs)) e),
+    inner f xs scope k is.0 is.1 (λ here x s. n here x (inr s)) (none_right (params_faults known.types xs) (faults f.0 (scope ++ variables_of xs)) e),
+  )
 
   claim : (x : RawFormula-F RawFormula) → ((scope : List ℕ) → AreKnown names scope → of_step (IsNameIn names) (IsFormulaIn names) x → Level x scope) → Claim (roll-RawFormula x)
   claim x is scope k i n e =

@@ -1,10 +1,9 @@
 -- Declarations by numbers and in words: the first of a word is the one of the least offset.
-use Rattle.std.proofs.Common.{ℕ, zero, suc, ◌≡◌, ◌<◌, ◌≤◌, Bool, true, false, cond, eqb, inl, inr, List, [], ◌∷◌, map, length, get_or, Option, Some, None, refl, sym, ap, subst, ◌∙◌, arith}
-use Rattle.std.specs.Prelude.{◌⊎◌, ◌↔◌, ◌≢◌, option_map, AllPairs}
-use Rattle.std.proofs.lemmas.Bool.{eqb-true, eqb-false, cond-true, cond-false}
+use Rattle.std.proofs.Common.{ℕ, suc, ◌≡◌, ◌<◌, ◌≤◌, Bool, true, false, cond, eqb, inl, inr, List, [], ◌∷◌, map, length, get_or, Option, Some, None, refl, sym, ap, ◌∙◌, arith}
+use Rattle.std.specs.Prelude.{◌⊎◌, ◌≢◌, option_map}
+use Rattle.std.proofs.lemmas.Bool.{eqb-true, eqb-false}
 use Rattle.htn_base.specs.Different.{AreDifferent}
-use Rattle.text_forms.specs.Words.{Word, word_at}
-use Rattle.text_forms.specs.Words as words
+use Rattle.text_forms.specs.Words.{word_at}
 use Rattle.gd_reader.specs.Terms.{Names}
 use Rattle.hddl_reader.specs.declared.sections.RawHead.{RawHead}
 use Rattle.plan_texts.specs.Types.{EachIs}
@@ -18,9 +17,8 @@ use Rattle.name_numbers.specs.Heads.{head_numbers, declared, next}
 use Rattle.name_numbers.specs.Places as numbers
 use Rattle.name_numbers.specs.Spots.{spot, IsInTextOrder}
 use Rattle.bound_formulas.specs.Atoms.{place_of, head_faults}
-use Rattle.binding_laws.specs.Known.{head_of, AreHeadsOf}
-use Rattle.binding_laws.specs.Numbers.{words_of, AreKnown}
-use Rattle.binding_laws.proofs.Places.{have_one_place, same_number}
+use Rattle.binding_laws.specs.Known.{head_of}
+use Rattle.binding_laws.proofs.Places.{same_number}
 
 -- each later offset is greater
 abbrev pub AreRising : List RawHead → Type 0
@@ -85,12 +83,14 @@ module _ (names : Names) (differ : AreDifferent names) (n : ℕ) (known : n < le
     where
       wider : (k : RawHead) → (IsOf h → ⊥) → IsFirstAmong hs k → IsFirstAmong (h ∷ hs) k
       wider k x f = (f.0, ((λ w. absurd (x w)), f.1))
+
       later : (o : Option Declared) → declared n (map head_of hs) ≡ o → (IsOf h → ⊥) → option_map next o ≡ Some r
           → ((s : Declared) → declared n (map head_of hs) ≡ Some s → One (λ k. IsFirstAmong hs k × (length k.params ≡ s.arity)) hs) → One (λ k. IsFirstAmong (h ∷ hs) k × (length k.params ≡ r.arity)) hs
       later None d x f more = absurd (cc)
       later (Some s) d x f more =
           let same : s.arity ≡ r.arity = cc in
           one_map (λ k. IsFirstAmong hs k × (length k.params ≡ s.arity)) (λ k. IsFirstAmong (h ∷ hs) k × (length k.params ≡ r.arity)) hs (λ k p. (wider k x p.0, p.1 ∙ same)) (more s d)
+
       go : (b : Bool) → eqb n h.name.name.number ≡ b → answer h hs b ≡ Some r → ((s : Declared) → declared n (map head_of hs) ≡ Some s → One (λ k. IsFirstAmong hs k × (length k.params ≡ s.arity)) hs)
           → One (λ k. IsFirstAmong (h ∷ hs) k × (length k.params ≡ r.arity)) (h ∷ hs)
       go true i e more = inl ((of_number h i, ((λ w. omega arith), each_map (λ (g : RawHead). h.name.at < g.name.at) (λ (g : RawHead). IsOf g → h.name.at ≤ g.name.at) hs (λ g l w. omega arith) up.0)), let same : length h.params ≡ r.arity = cc in same)
@@ -105,6 +105,7 @@ module _ (names : Names) (differ : AreDifferent names) (n : ℕ) (known : n < le
       beyond [] w u o = absurd o
       beyond (g ∷ gs) w u (inl p) = let l = u.0 in let m = p.0.1.0 w in absurd (omega arith)
       beyond (g ∷ gs) w u (inr p) = beyond gs w u.1 p
+
       later : (o : Option Declared) → declared n (map head_of hs) ≡ o → option_map next o ≡ Some r → One (λ k. IsFirstAmong (h ∷ hs) k × Q k) hs
           → ((s : Declared) → declared n (map head_of hs) ≡ Some s → One (λ k. IsFirstAmong hs k × Q k) hs → (k : RawHead) × Q k × (length k.params ≡ s.arity)) → (k : RawHead) × Q k × (length k.params ≡ r.arity)
       later None d f o more = absurd (cc)
@@ -112,6 +113,7 @@ module _ (names : Names) (differ : AreDifferent names) (n : ℕ) (known : n < le
           let same : s.arity ≡ r.arity = cc in
           let g = more s d (one_map (λ k. IsFirstAmong (h ∷ hs) k × Q k) (λ k. IsFirstAmong hs k × Q k) hs (λ k p. ((p.0.0, p.0.1.1), p.1)) o) in
           (g.0, g.1, g.2 ∙ same)
+
       go : (b : Bool) → eqb n h.name.name.number ≡ b → answer h hs b ≡ Some r → One (λ k. IsFirstAmong (h ∷ hs) k × Q k) (h ∷ hs)
           → ((s : Declared) → declared n (map head_of hs) ≡ Some s → One (λ k. IsFirstAmong hs k × Q k) hs → (k : RawHead) × Q k × (length k.params ≡ s.arity)) → (k : RawHead) × Q k × (length k.params ≡ r.arity)
       go true i e (inl p) more = (h, p.1, let same : length h.params ≡ r.arity = cc in same)
@@ -127,15 +129,23 @@ module _ (names : Names) (differ : AreDifferent names) (n : ℕ) (known : n < le
     by_arity : (r : Declared) → declared n (map head_of hs) ≡ Some r → (b : Bool) → eqb r.arity count ≡ b → Has (cond b [] (spot at' 17 ∷ [])) (spot at code) → IsWrong
     by_arity r f true e h = absurd h
     by_arity r f false e (inr h) = absurd h
-    by_arity r f false e (inl h) =
-        (ap (λ (s : Spot). s.at) h, inr (sym (ap (λ (s : Spot). s.code) h),
+    by_arity r f false e (inl h) = (
+      ap (λ (s : Spot). s.at) h,
+      inr (
+        sym (ap (λ (s : Spot). s.code) h),
         one_map (λ h. IsFirstAmong hs h × (length h.params ≡ r.arity)) (λ h. IsFirstAmong hs h × (length h.params ≢ count)) hs
-        (λ h p. (p.0, λ g. eqb-false r.arity count e (sym p.1 ∙ g))) (some_is hs r is up f)))
+            (λ h p. (p.0, λ g. eqb-false r.arity count e (sym p.1 ∙ g))) (some_is hs r is up f),
+      ),
+    )
 
     pub wrong_there : (o : Option Declared) → declared n (map head_of hs) ≡ o → Has (head_faults at' count o) (spot at code) → IsWrong
-    wrong_there None f (inl h) =
-        (ap (λ (s : Spot). s.at) h, inl (sym (ap (λ (s : Spot). s.code) h),
-        λ o. none_is hs is f (one_map (IsFirstAmong hs) IsOf hs (λ h p. p.0) o)))
+    wrong_there None f (inl h) = (
+      ap (λ (s : Spot). s.at) h,
+      inl (
+        sym (ap (λ (s : Spot). s.code) h),
+        λ o. none_is hs is f (one_map (IsFirstAmong hs) IsOf hs (λ h p. p.0) o),
+      ),
+    )
     wrong_there None f (inr h) = absurd h
     wrong_there (Some r) f h = by_arity r f (eqb r.arity count) refl h
 
@@ -160,6 +170,7 @@ module _ (names : Names) (differ : AreDifferent names) (n : ℕ) (known : n < le
           → option_map suc (numbers.first_place n (head_numbers hs)) ≡ Some (place_of (option_map next o))
       behind None d e more = absurd (cc)
       behind (Some s) d e more = ap (option_map suc) (more (ap (head_faults at' count) d ∙ e)) ∙ ap (λ o. Some (suc (place_of o))) d
+
       go : (b : Bool) → head_faults at' count (cond b (Some (record { place = 0; arity = h.arity })) (option_map next (declared n hs))) ≡ []
           → (head_faults at' count (declared n hs) ≡ [] → numbers.first_place n (head_numbers hs) ≡ Some (place_of (declared n hs)))
           → cond b (Some 0) (option_map suc (numbers.first_place n (head_numbers hs))) ≡ Some (place_of (cond b (Some (record { place = 0; arity = h.arity })) (option_map next (declared n hs))))

@@ -1,7 +1,7 @@
 -- One level of what holds of each name in a formula or an effect, and the variables that a list declares.
-use Rattle.std.proofs.Common.{ℕ, ◌≡◌, ◌<◌, List, [], ◌∷◌, ◌++◌, map, length, refl, ap, sym, subst, ◌∙◌}
+use Rattle.std.proofs.Common.{ℕ, ◌≡◌, List, [], ◌∷◌, ◌++◌, refl, ap, subst, ◌∙◌}
 use Rattle.std.proofs.lemmas.List.{map-append}
-use Rattle.text_forms.specs.Words.{Word, word_at}
+use Rattle.text_forms.specs.Words.{word_at}
 use Rattle.gd_reader.specs.declared.typed_lists.RawParam.{RawParam}
 use Rattle.gd_reader.specs.declared.formulas.RawFormula.{RawFormula, roll-RawFormula}
 use Rattle.gd_reader.specs.declared.formulas.RawFormula.TheFolds.{rec-roll-RawFormula, map-RawFormula}
@@ -10,9 +10,8 @@ use Rattle.gd_reader.specs.declared.effects.RawEffect.{RawEffect, roll-RawEffect
 use Rattle.gd_reader.specs.declared.effects.RawEffect.TheFolds.{rec-roll-RawEffect, map-RawEffect}
 use Rattle.gd_reader.specs.declared.effects.RawEffect.TheOpen.{RawEffect-F}
 use Rattle.gd_reader.specs.Terms.{Names}
-use Rattle.plan_texts.specs.Types.{EachIs}
 use Rattle.plan_texts.proofs.Spelled.{each_is-map}
-use Rattle.form_spellings.specs.EachName.{of_step, OfFormula, effect_of_step, OfEffect}
+use Rattle.form_spellings.specs.EachName.{of_step, effect_of_step}
 use Rattle.form_spellings.specs.InTable.{IsNameIn, IsFormulaIn, IsEffectIn, AreParamsIn}
 use Rattle.name_faults.specs.Uses.{variables}
 use Rattle.name_numbers.specs.Entered.{variables_of}

@@ -3,8 +3,8 @@ use Rattle.std.proofs.Common.{ℕ, suc, ◌≡◌, Bool, true, false, cond, inl,
 use Rattle.std.specs.Prelude.{◌⊎◌, ◌↔◌, option_map, flat_map}
 use Rattle.std.specs.Str.{bytes_eq}
 use Rattle.text_forms.specs.Words.{Word, first_place, last_place, later}
-use Rattle.plan_texts.proofs.Basics.{bytes_eq-true, bytes_eq-refl, bytes_eq-other}
-use Rattle.name_faults.specs.Lists.{One, Each, Has}
+use Rattle.plan_texts.proofs.Basics.{bytes_eq-refl, bytes_eq-other}
+use Rattle.name_faults.specs.Lists.{One, Has}
 use Rattle.name_numbers.specs.Spots.{spot}
 use Rattle.name_numbers.specs.Terms.{unless_found}
 use Rattle.name_numbers.specs.declared.faults.Spot.{Spot}

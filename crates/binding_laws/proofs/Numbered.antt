@@ -1,7 +1,7 @@
 -- Types that are written: the numbers and the words that stand for them.
-use Rattle.std.proofs.Common.{ℕ, zero, suc, ◌≡◌, ◌<◌, ◌+◌, Bool, true, false, cond, inl, inr, List, [], ◌∷◌, ◌++◌, map, length, get_or, Option, Some, None, refl, sym, ap, subst, ◌∙◌, nat_eq, nat_lt, not, ◌||◌, arith}
-use Rattle.std.specs.Prelude.{Contains, option_map, position, unwrap_or}
-use Rattle.std.specs.List.{list_any, position_or_len}
+use Rattle.std.proofs.Common.{ℕ, zero, suc, ◌≡◌, ◌<◌, ◌+◌, Bool, true, false, cond, inl, inr, List, [], ◌∷◌, ◌++◌, map, length, get_or, Option, Some, None, refl, sym, ap, subst, ◌∙◌, nat_eq, not, ◌||◌, arith}
+use Rattle.std.specs.Prelude.{Contains, option_map, position}
+use Rattle.std.specs.List.{position_or_len}
 use Rattle.std.specs.Str.{bytes_eq}
 use Rattle.std.proofs.lemmas.Bool.{cond-true, cond-false, eqb-true, lt-ltb}
 use Rattle.std.proofs.lemmas.List.{get_or-append-add, length-map}
@@ -45,6 +45,7 @@ first_is w (u ∷ ws) k e = go (bytes_eq w u) refl e (first_is w ws)
         let r = more j g in
         let l = r.0 in
         subst (λ k. (k < suc (length ws)) × (word_at (u ∷ ws) k ≡ w)) is (omega arith, r.1)
+
     go : (x : Bool) → bytes_eq w u ≡ x → cond x (Some 0) (option_map suc (first_place w ws)) ≡ Some k → ((j : ℕ) → first_place w ws ≡ Some j → (j < length ws) × (word_at ws j ≡ w)) → (k < suc (length ws)) × (word_at (u ∷ ws) k ≡ w)
     go true g f more = let is : 0 ≡ k = cc in subst (λ k. (k < suc (length ws)) × (word_at (u ∷ ws) k ≡ w)) is (omega arith, sym (bytes_eq-true w u g))
     go false g f more = behind (first_place w ws) refl f more

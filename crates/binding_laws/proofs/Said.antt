@@ -1,11 +1,11 @@
 -- The faults of what stands somewhere are the sentences on it.
-use Rattle.std.proofs.Common.{ℕ, ◌≡◌, inl, inr, List, refl, sym}
+use Rattle.std.proofs.Common.{ℕ, inl, inr, List}
 use Rattle.std.specs.Prelude.{◌↔◌}
 use Rattle.text_forms.specs.Words.{Word}
 use Rattle.gd_reader.specs.Terms.{Names}
 use Rattle.hddl_reader.specs.declared.sections.RawDomain.{RawDomain}
 use Rattle.name_faults.specs.Standing.{InDomain, InProblem}
-use Rattle.name_faults.specs.Uses.{Scope, Kind, predicate, subtask, task, Use, declares, applies, refers}
+use Rattle.name_faults.specs.Uses.{Scope, predicate, subtask, task, Use, declares, applies, refers}
 use Rattle.binding_laws.specs.Uses.{HasUseFault, HasFaultIn, IsSaid, AreSaidOfDomains, AreSaidOfProblems}
 
 module _ (names : Names) (d : RawDomain) (objects : List Word) (Stands : Scope → Use → Type 0) (code at : ℕ) where

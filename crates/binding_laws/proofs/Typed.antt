@@ -1,6 +1,6 @@
 -- Typed lists by numbers and in words.
-use Rattle.std.proofs.Common.{ℕ, ◌≡◌, ◌≤◌, inl, inr, Bool, List, [], ◌∷◌, length, refl, ap, sym, ◌∙◌, arith}
-use Rattle.std.specs.Prelude.{◌↔◌, codes}
+use Rattle.std.proofs.Common.{ℕ, ◌≡◌, ◌≤◌, inl, inr, Bool, List, [], ◌∷◌, length, refl, ap, arith}
+use Rattle.std.specs.Prelude.{codes}
 use Rattle.gd_reader.specs.declared.term.RawTerm.{RawTerm}
 use Rattle.gd_reader.specs.declared.typed_lists.RawParam.{RawParam}
 use Rattle.gd_reader.specs.Terms.{Names}
@@ -35,9 +35,10 @@ module _ (names : Names) (d : RawDomain) (kinds : Kinds) (of : AreTypesOf names 
   module _ (v : Declared) (has : HasKinds v names kinds) where
     params : (xs : List RawParam) → AreParamsIn names xs → EachIs (λ (x : RawParam). IsNumbered names kinds x.ty) xs → params_faults kinds xs ≡ [] → Together (IsBoundParam v names) xs (params_bound kinds xs)
     params [] is n e = tt
-    params (x ∷ xs) is n e =
-        ((ap (λ t. named t x.name) has.table, is_kind_bound names d kinds v x.ty of is.0.1 has n.0 (none_left (kind_faults kinds x.ty) (params_faults kinds xs) e)),
-         params xs is.1 n.1 (none_right (kind_faults kinds x.ty) (params_faults kinds xs) e))
+    params (x ∷ xs) is n e = (
+      (ap (λ t. named t x.name) has.table, is_kind_bound names d kinds v x.ty of is.0.1 has n.0 (none_left (kind_faults kinds x.ty) (params_faults kinds xs) e)),
+      params xs is.1 n.1 (none_right (kind_faults kinds x.ty) (params_faults kinds xs) e),
+    )
 
     object_type : (ts : List RawTerm) → AreTermsIn names ts → length ts ≤ 1 → kind_faults kinds ts ≡ [] → word_at v.types (kind_bound kinds ts) ∷ [] ≡ types_of v names ts
     object_type [] is l e = ap (λ w. w ∷ []) (first_is (codes "object") v.types 0 has.object_first).1
@@ -46,14 +47,16 @@ module _ (names : Names) (d : RawDomain) (kinds : Kinds) (of : AreTypesOf names 
 
     objects : (constant : Bool) (xs : List RawParam) → AreParamsIn names xs → EachIs (λ (x : RawParam). length x.ty ≤ 1) xs → params_faults kinds xs ≡ [] → Together (IsBoundObject v names constant) xs (objects_bound kinds constant xs)
     objects constant [] is n e = tt
-    objects constant (x ∷ xs) is n e =
-        ((ap (λ t. named t x.name) has.table, object_type x.ty is.0.1 n.0 (none_left (kind_faults kinds x.ty) (params_faults kinds xs) e), refl),
-         objects constant xs is.1 n.1 (none_right (kind_faults kinds x.ty) (params_faults kinds xs) e))
+    objects constant (x ∷ xs) is n e = (
+      (ap (λ t. named t x.name) has.table, object_type x.ty is.0.1 n.0 (none_left (kind_faults kinds x.ty) (params_faults kinds xs) e), refl),
+      objects constant xs is.1 n.1 (none_right (kind_faults kinds x.ty) (params_faults kinds xs) e),
+    )
 
 pub has_typed_faults : OfAllKinds HasTypedFaults
-has_typed_faults names d kinds xs code at of is =
-    (λ h. there names d kinds of xs code at is (flat_there (typed_faults kinds) xs (spot at code) h),
-     λ h. flat_back (typed_faults kinds) xs (spot at code) (back names d kinds of xs code at is h))
+has_typed_faults names d kinds xs code at of is = (
+  λ h. there names d kinds of xs code at is (flat_there (typed_faults kinds) xs (spot at code) h),
+  λ h. flat_back (typed_faults kinds) xs (spot at code) (back names d kinds of xs code at is h),
+)
 
 pub are_params_bound : OfAllKinds AreParamsBound
 are_params_bound names d kinds v xs of is has n e = params names d kinds of v has xs is n e

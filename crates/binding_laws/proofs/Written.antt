@@ -1,6 +1,6 @@
 -- Written types by numbers and in words.
-use Rattle.std.proofs.Common.{ℕ, zero, suc, ◌≡◌, ◌<◌, ◌+◌, inl, inr, List, [], ◌∷◌, ◌++◌, map, length, get_or, Option, Some, None, refl, sym, ap, subst, ◌∙◌, arith}
-use Rattle.std.specs.Prelude.{◌↔◌, ◌≤◌, unwrap_or, option_map, flat_map, position, Contains, codes}
+use Rattle.std.proofs.Common.{ℕ, ◌≡◌, ◌<◌, ◌+◌, inl, inr, List, [], ◌∷◌, ◌++◌, map, length, get_or, refl, sym, ap, subst, ◌∙◌, arith}
+use Rattle.std.specs.Prelude.{unwrap_or, option_map, position, codes}
 use Rattle.std.specs.Str.{bytes_eq}
 use Rattle.std.proofs.lemmas.List.{get_or-map, length-map}
 use Rattle.htn_base.specs.Different.{AreDifferent}
@@ -80,10 +80,11 @@ module _ (names : Names) (d : RawDomain) (kinds : Kinds) (of : AreTypesOf names 
   numbers_differ [] is e n = tt
   numbers_differ (t ∷ ts) is e n =
       let f = none_left (type_faults kinds t) (kind_faults kinds ts) e in
-      let g = none_right (type_faults kinds t) (kind_faults kinds ts) e in
-      ((λ c. n.0 (has_contains (map (term_word names) ts) (term_word names t)
-        (has_to_map (term_word names) ts (term_word names t) (same_words t ts is.0 f is.1 g (has_of_map (type_number kinds) ts (type_number kinds t) (contains_has (map (type_number kinds) ts) (type_number kinds t) c)))))),
-       numbers_differ ts is.1 g n.1)
+      let g = none_right (type_faults kinds t) (kind_faults kinds ts) e in (
+        (λ c. n.0 (has_contains (map (term_word names) ts) (term_word names t)
+            (has_to_map (term_word names) ts (term_word names t) (same_words t ts is.0 f is.1 g (has_of_map (type_number kinds) ts (type_number kinds t) (contains_has (map (type_number kinds) ts) (type_number kinds t) c)))))),
+        numbers_differ ts is.1 g n.1,
+      )
 
   members_are : (ts : List RawTerm) → AreTermsIn names ts → kind_faults kinds ts ≡ [] → AreDifferent (map (term_word names) ts) → members_written kinds ts ≡ map (type_number kinds) ts
   members_are ts is e n = seen_once [] (map (type_number kinds) ts) (numbers_differ ts is e n) (λ m h g. g)
@@ -102,8 +103,8 @@ module _ (names : Names) (d : RawDomain) (kinds : Kinds) (of : AreTypesOf names 
     union_is ns n m more e h =
         let p = place_of_member kinds.unions ns h in
         let is : kind_by kinds ns ≡ length v.types + p.0 =
-            ap (kind_by kinds) e ∙ ap (λ ms. unwrap_or (option_map (λ k. length kinds.types + k) (position (bytes_eq ms) kinds.unions)) 0) (sym e)
-            ∙ ap (λ o. unwrap_or (option_map (λ k. length kinds.types + k) o) 0) p.1 ∙ ap (λ k. k + p.0) (sym (ap length has.types ∙ length-map kinds.types (word_at names))) in
+        ap (kind_by kinds) e ∙ ap (λ ms. unwrap_or (option_map (λ k. length kinds.types + k) (position (bytes_eq ms) kinds.unions)) 0) (sym e)
+        ∙ ap (λ o. unwrap_or (option_map (λ k. length kinds.types + k) o) 0) p.1 ∙ ap (λ k. k + p.0) (sym (ap length has.types ∙ length-map kinds.types (word_at names))) in
         ap (kind_at v) is ∙ kind_union v.types v.unions p.0 ∙ ap (λ us. get_or us p.0 []) has.unions
         ∙ get_or-map (map (word_at v.types)) kinds.unions p.0 [] [] p.2 ∙ ap (map (word_at v.types)) p.3
 
@@ -118,9 +119,10 @@ module _ (names : Names) (d : RawDomain) (kinds : Kinds) (of : AreTypesOf names 
         ∙ ap (map (word_at v.types)) m ∙ ap (λ ws. map (word_at ws) (map (type_number kinds) (t ∷ u ∷ ts))) has.types ∙ types_are (t ∷ u ∷ ts) is e
 
 pub has_kind_faults : OfAllKinds HasKindFaults
-has_kind_faults names d kinds ts code at of is =
-    (λ h. kinds_there names d kinds of ts code at is (flat_there (type_faults kinds) ts (spot at code) h),
-     λ h. flat_back (type_faults kinds) ts (spot at code) (kinds_back names d kinds of ts code at is h.0 h.1))
+has_kind_faults names d kinds ts code at of is = (
+  λ h. kinds_there names d kinds of ts code at is (flat_there (type_faults kinds) ts (spot at code) h),
+  λ h. flat_back (type_faults kinds) ts (spot at code) (kinds_back names d kinds of ts code at is h.0 h.1),
+)
 
 pub is_kind_bound : OfAllKinds IsKindBound
 is_kind_bound names d kinds v ts of is has n e = kind_is names d kinds of v has ts is n e

@@ -1,6 +1,6 @@
 -- What is declared, by the numbers of names, is what a domain declares.
 -- Source: this project's; offsets rise in the order of the text.
-use Rattle.std.specs.Prelude.{ℕ, ◌≡◌, List, map, length}
+use Rattle.std.specs.Prelude.{◌≡◌, List, map, length}
 use Rattle.htn_base.specs.Different.{AreDifferent}
 use Rattle.text_forms.specs.Words.{Word}
 use Rattle.gd_reader.specs.Terms.{Names}

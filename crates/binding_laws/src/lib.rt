@@ -1,10 +1,17 @@
 //! What binding says over the numbers of names is what is said in words: of its faults and of what it gives.
 //!
-//! Stands on the definitions of `name_numbers`, `name_faults` and `form_spellings`, and has no code but laws. The contracts used
-//! above: the place of a number is that of its word (`numbers_are_words`); the faults of a term are the sentences on its word, and
-//! a term without faults is bound to what its word stands for (`terms_are_bound`).
+//! Stands on the definitions of `name_numbers`, `bound_types` and `bound_formulas`, which speak of numbers, and on those of
+//! `name_faults` and `form_spellings`, which speak of words; it has no code but laws. The contracts used above: the place of a
+//! number is that of its word (`numbers_are_words`); the faults of terms, written types and typed lists are the sentences on their
+//! words, and those of atoms, formulas and effects are the faults of what is declared and used in them; where there are none, each
+//! is bound to what it stands for (`terms_are_bound`, `types_are_bound`, `lists_are_bound`, `atoms_are_bound`,
+//! `formulas_are_bound`, `effects_are_bound`); the faults of what is declared and used in a whole text are the sentences on it
+//! (`uses_are_said`).
 #![tactic(auto)]
 
 mod laws;
 
-pub use laws::{atoms_are_bound, effects_are_bound, formulas_are_bound, lists_are_bound, numbers_are_words, terms_are_bound, types_are_bound, uses_are_said};
+pub use laws::{
+    atoms_are_bound, effects_are_bound, formulas_are_bound, lists_are_bound, numbers_are_words,
+    terms_are_bound, types_are_bound, uses_are_said,
+};
