@@ -14,3 +14,4 @@ pub mod EffectFaults
 pub mod BoundLayers
 pub mod FormulaValues
 pub mod EffectValues
+pub mod SecondWords

@@ -5,3 +5,4 @@ pub mod Typed
 pub mod Uses
 pub mod Known
 pub mod Formulas
+pub mod Seconds

@@ -10,8 +10,10 @@
 #![tactic(auto)]
 
 mod laws;
+mod networks;
 
 pub use laws::{
     atoms_are_bound, effects_are_bound, formulas_are_bound, lists_are_bound, numbers_are_words,
     terms_are_bound, types_are_bound, uses_are_said,
 };
+pub use networks::seconds_are_said;
