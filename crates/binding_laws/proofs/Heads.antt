@@ -46,20 +46,20 @@ each_map P Q [] f h = tt
 each_map P Q (x ∷ xs) f h = (f x h.0, each_map P Q xs f h.1)
 
 module _ (names : Names) (differ : AreDifferent names) (n : ℕ) (known : n < length names) where
-  abbrev IsOf : RawHead → Type 0
+  abbrev pub IsOf : RawHead → Type 0
   IsOf h = term_word names h.name ≡ word_at names n
 
   -- none with the word stands at a lesser offset
-  abbrev IsFirstAmong : List RawHead → RawHead → Type 0
+  abbrev pub IsFirstAmong : List RawHead → RawHead → Type 0
   IsFirstAmong hs h = IsOf h × Each (λ (g : RawHead). IsOf g → h.name.at ≤ g.name.at) hs
 
   abbrev answer : RawHead → List RawHead → Bool → Option Declared
   answer h hs b = cond b (Some (record { place = 0; arity = length h.params })) (option_map next (declared n (map head_of hs)))
 
-  of_number : (h : RawHead) → eqb n h.name.name.number ≡ true → IsOf h
+  pub of_number : (h : RawHead) → eqb n h.name.name.number ≡ true → IsOf h
   of_number h e = ap (word_at names) (sym (eqb-true n h.name.name.number e))
 
-  to_number : (h : RawHead) → IsIn names h.name.name → eqb n h.name.name.number ≡ false → IsOf h → ⊥
+  pub to_number : (h : RawHead) → IsIn names h.name.name → eqb n h.name.name.number ≡ false → IsOf h → ⊥
   to_number h i e w = eqb-false n h.name.name.number e (same_number names n h.name.name.number differ known i (sym w))
 
   none_front : (o : Option Declared) → option_map next o ≡ None → o ≡ None

@@ -15,3 +15,5 @@ pub mod BoundLayers
 pub mod FormulaValues
 pub mod EffectValues
 pub mod SecondWords
+pub mod OrderWords
+pub mod CallWords

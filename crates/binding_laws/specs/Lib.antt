@@ -6,3 +6,5 @@ pub mod Uses
 pub mod Known
 pub mod Formulas
 pub mod Seconds
+pub mod Orders
+pub mod Calls

@@ -16,4 +16,4 @@ pub use laws::{
     atoms_are_bound, effects_are_bound, formulas_are_bound, lists_are_bound, numbers_are_words,
     terms_are_bound, types_are_bound, uses_are_said,
 };
-pub use networks::seconds_are_said;
+pub use networks::{calls_are_said, orders_are_said, seconds_are_said};

@@ -1,4 +1,7 @@
 // Laws of declarations and of networks that go over from the numbers of names to their words.
+ghost use Rattle.hddl_reader.specs.declared.networks.RawNet.{RawNet};
+ghost use Rattle.binding_laws.specs.Calls.{HasCallFaults, HasTaskFaults, OfAllCallables};
+ghost use Rattle.binding_laws.specs.Orders.{HasUnknownIds, HasCycle, HasLimit, OfAllNetworks};
 ghost use Rattle.binding_laws.specs.Seconds.{HasSecondTerms, HasSecondParams, HasSecondHeads, HasSecondMethods};
 
 /// The faults of second declarations stand at the names whose word stands in front already: ids and other terms, variables and
@@ -8,4 +11,18 @@ pub fn seconds_are_said()
     ensures params { HasSecondParams }
     ensures heads { HasSecondHeads }
     ensures methods { HasSecondMethods }
+{}
+
+/// The faults of the ordering of a network: the ids in pairs that no subtask has, the pair that closes the first cycle, and the
+/// first subtask past the limit.
+pub fn orders_are_said()
+    ensures unknown { OfAllNetworks HasUnknownIds }
+    ensures cycle { OfAllNetworks HasCycle }
+    ensures limit { (net : RawNet) → HasLimit net }
+{}
+
+/// The faults of the name that a subtask calls are those of its use, and those of the task of a method likewise.
+pub fn calls_are_said()
+    ensures subtasks { OfAllCallables HasCallFaults }
+    ensures tasks { OfAllCallables HasTaskFaults }
 {}
