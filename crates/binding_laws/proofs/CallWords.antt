@@ -1,9 +1,9 @@
 -- Names of tasks and actions that are called, by numbers and in words.
-use Rattle.std.proofs.Common.{ℕ, suc, ◌≡◌, ◌<◌, ◌≤◌, Bool, true, false, cond, eqb, nat_lt, inl, inr, List, [], ◌∷◌, ◌++◌, map, length, Option, Some, None, refl, sym, ap, subst, ◌∙◌, arith}
+use Rattle.std.proofs.Common.{ℕ, suc, ◌≡◌, ◌<◌, ◌≤◌, Bool, true, false, cond, eqb, nat_lt, inl, inr, List, [], ◌∷◌, ◌++◌, length, Option, Some, None, refl, sym, ap, subst, ◌∙◌, arith}
 use Rattle.std.specs.Prelude.{◌⊎◌, ◌↔◌, ◌≢◌}
 use Rattle.std.proofs.lemmas.Bool.{eqb-true, eqb-false, ltb-true, ltb-false}
 use Rattle.htn_base.specs.Different.{AreDifferent}
-use Rattle.text_forms.specs.Words.{Word, word_at}
+use Rattle.text_forms.specs.Words.{Word}
 use Rattle.plan_model.specs.declared.networks.Head.{Head}
 use Rattle.plan_model.specs.declared.networks.Head.TheVariants.{Task, Action, Check}
 use Rattle.gd_reader.specs.Terms.{Names}
@@ -14,7 +14,6 @@ use Rattle.plan_texts.specs.Types.{EachIs}
 use Rattle.form_spellings.specs.InTable.{IsIn}
 use Rattle.name_faults.specs.Lists.{One, Each, Has}
 use Rattle.name_faults.specs.Uses.{Scope, applies, subtask, task}
-use Rattle.name_faults.specs.Words.{callables}
 use Rattle.name_numbers.specs.declared.faults.Spot.{Spot}
 use Rattle.name_numbers.specs.Spots.{spot}
 use Rattle.bound_networks.specs.declared.callables.Callable.{Callable}
@@ -122,15 +121,26 @@ module _ (names : Names) (differ : AreDifferent names) (n : ℕ) (known : n < le
       go true f e more =
           let same : callable (head k) h ≡ x = cc in
           record {
-            declaration = h; member = inl refl; is = of_number names differ n known h f;
+            declaration = h;
+            member = inl refl;
+            is = of_number names differ n known h f;
             first = ((λ w. omega arith), each_by (λ (g : RawHead). h.name.at < g.name.at) (NoEarlier h) hs (λ g l w. omega arith) up.0);
-            arity = ap (λ (c : Callable). c.arity) same; place = ap (λ (c : Callable). c.at) same; number = k; is_head = sym (ap (λ (c : Callable). c.head) same);
+            arity = ap (λ (c : Callable). c.arity) same;
+            place = ap (λ (c : Callable). c.at) same;
+            number = k;
+            is_head = sym (ap (λ (c : Callable). c.head) same);
           }
       go false f e more =
           let r = more e in
           record {
-            declaration = r.declaration; member = inr r.member; is = r.is; first = ((λ w. absurd (to_number names differ n known h i.0 f w)), r.first);
-            arity = r.arity; place = r.place; number = r.number; is_head = r.is_head;
+            declaration = r.declaration;
+            member = inr r.member;
+            is = r.is;
+            first = ((λ w. absurd (to_number names differ n known h i.0 f w)), r.first);
+            arity = r.arity;
+            place = r.place;
+            number = r.number;
+            is_head = r.is_head;
           }
 
   module _ (ts hs : List RawHead) (ins : EachIs (λ (h : RawHead). IsIn names h.name.name) ts) (inh : EachIs (λ (h : RawHead). IsIn names h.name.name) hs) (upt : AreRising ts) (uph : AreRising hs) (apart : AreDifferent (offsets (ts ++ hs))) where
@@ -182,9 +192,13 @@ module _ (names : Names) (differ : AreDifferent names) (n : ℕ) (known : n < le
       by_arity : (z : Callable) → Meets meant (Some z) → (b : Bool) → eqb z.arity (length a.args) ≡ b → Has (cond b [] (spot a.head.at 17 ∷ [])) (spot at code) → IsWrong
       by_arity z m true e h = absurd h
       by_arity z m false e (inr h) = absurd h
-      by_arity z m false e (inl h) =
-          (ap (λ (s : Spot). s.at) h, inr (sym (ap (λ (s : Spot). s.code) h),
-          has_one (λ h. First h × (length h.params ≢ length a.args)) meant m.0 m.1 (m.2, λ g. eqb-false z.arity (length a.args) e (sym m.3 ∙ g))))
+      by_arity z m false e (inl h) = (
+        ap (λ (s : Spot). s.at) h,
+        inr (
+          sym (ap (λ (s : Spot). s.code) h),
+          has_one (λ h. First h × (length h.params ≢ length a.args)) meant m.0 m.1 (m.2, λ g. eqb-false z.arity (length a.args) e (sym m.3 ∙ g)),
+        ),
+      )
 
       pub wrong_there : (o : Option Callable) → Meets meant o → Has (call_faults o a) (spot at code) → IsWrong
       wrong_there None m (inl h) = (ap (λ (s : Spot). s.at) h, inl (sym (ap (λ (s : Spot). s.code) h), m))
@@ -260,15 +274,17 @@ module _ (names : Names) (d : RawDomain) (known : Declared) (of : AreCallablesOf
 
   call_has : (objects : List Word) (here : Scope) (code at : ℕ) → Has (call_faults (called (declared d.tasks d.actions) a) a) (spot at code) ↔ HasUseFault names d objects here (applies subtask a) code at
   call_has objects here code at =
-      let m = meets names of.differ a.head.name.number is ts hs ins inh upt uph of.apart (stands_for (declared d.tasks d.actions) a.head.name.number) answered in
-      (wrong_there names of.differ a.head.name.number is ts hs ins inh upt uph of.apart (ts ++ hs) (λ h l. l) a code at (stands_for (declared d.tasks d.actions) a.head.name.number) m,
-       wrong_back names of.differ a.head.name.number is ts hs ins inh upt uph of.apart (ts ++ hs) (λ h l. l) a code at (stands_for (declared d.tasks d.actions) a.head.name.number) m)
+      let m = meets names of.differ a.head.name.number is ts hs ins inh upt uph of.apart (stands_for (declared d.tasks d.actions) a.head.name.number) answered in (
+        wrong_there names of.differ a.head.name.number is ts hs ins inh upt uph of.apart (ts ++ hs) (λ h l. l) a code at (stands_for (declared d.tasks d.actions) a.head.name.number) m,
+        wrong_back names of.differ a.head.name.number is ts hs ins inh upt uph of.apart (ts ++ hs) (λ h l. l) a code at (stands_for (declared d.tasks d.actions) a.head.name.number) m,
+      )
 
   task_has : (objects : List Word) (here : Scope) (code at : ℕ) → Has (call_faults (method_task (declared d.tasks d.actions) a) a) (spot at code) ↔ HasUseFault names d objects here (applies task a) code at
   task_has objects here code at =
-      let m = meets_task names of.differ a.head.name.number is ts hs ins inh upt uph of.apart (stands_for (declared d.tasks d.actions) a.head.name.number) answered in
-      (wrong_there names of.differ a.head.name.number is ts hs ins inh upt uph of.apart ts (has_left ts hs) a code at (if_task (stands_for (declared d.tasks d.actions) a.head.name.number)) m,
-       wrong_back names of.differ a.head.name.number is ts hs ins inh upt uph of.apart ts (has_left ts hs) a code at (if_task (stands_for (declared d.tasks d.actions) a.head.name.number)) m)
+      let m = meets_task names of.differ a.head.name.number is ts hs ins inh upt uph of.apart (stands_for (declared d.tasks d.actions) a.head.name.number) answered in (
+        wrong_there names of.differ a.head.name.number is ts hs ins inh upt uph of.apart ts (has_left ts hs) a code at (if_task (stands_for (declared d.tasks d.actions) a.head.name.number)) m,
+        wrong_back names of.differ a.head.name.number is ts hs ins inh upt uph of.apart ts (has_left ts hs) a code at (if_task (stands_for (declared d.tasks d.actions) a.head.name.number)) m,
+      )
 
 pub has_call_faults : OfAllCallables HasCallFaults
 has_call_faults names d known objects here a code at of is = subst (λ k. Has (call_faults (called k a) a) (spot at code) ↔ HasUseFault names d objects here (applies subtask a) code at) (sym of.are) (call_has names d known of a is objects here code at)

@@ -17,3 +17,4 @@ pub mod EffectValues
 pub mod SecondWords
 pub mod OrderWords
 pub mod CallWords
+pub mod NetworkWords

@@ -1,9 +1,9 @@
 -- The ordering of a network by numbers and in words.
-use Rattle.std.proofs.Common.{ℕ, suc, ◌≡◌, ◌<◌, ◌≤◌, Bool, true, false, cond, eqb, inl, inr, List, [], ◌∷◌, ◌++◌, map, length, Option, Some, None, refl, sym, ap, subst, ◌∙◌}
-use Rattle.std.specs.Prelude.{◌⊎◌, ◌↔◌, option_map, flat_map, slice_get, IfSome}
+use Rattle.std.proofs.Common.{ℕ, suc, ◌≡◌, ◌<◌, Bool, true, false, cond, inl, inr, List, [], ◌∷◌, ◌++◌, length, Option, Some, None, refl, sym, ap, subst, ◌∙◌}
+use Rattle.std.specs.Prelude.{◌⊎◌, option_map, slice_get, IfSome}
 use Rattle.std.proofs.lemmas.Bool.{eqb-true, eqb-false}
 use Rattle.htn_base.specs.Different.{AreDifferent}
-use Rattle.text_forms.specs.Words.{Word, word_at}
+use Rattle.text_forms.specs.Words.{word_at}
 use Rattle.task_networks.specs.Order.{Precedes, direct, through}
 use Rattle.gd_reader.specs.Terms.{Names}
 use Rattle.gd_reader.specs.declared.term.RawTerm.{RawTerm}
@@ -13,7 +13,7 @@ use Rattle.hddl_reader.specs.declared.networks.RawSub.{RawSub}
 use Rattle.plan_texts.specs.Types.{EachIs}
 use Rattle.form_spellings.specs.InTable.{IsIn}
 use Rattle.name_faults.specs.Lists.{One, Has, IsFirst}
-use Rattle.name_faults.specs.Words.{WordAt, term_word}
+use Rattle.name_faults.specs.Words.{WordAt}
 use Rattle.name_faults.specs.Networks as words
 use Rattle.name_numbers.specs.declared.faults.Spot.{Spot}
 use Rattle.name_numbers.specs.Spots.{spot}
@@ -80,6 +80,7 @@ module _ (names : Names) (differ : AreDifferent names) (n : ℕ) (known : n < le
           let r = more j g in
           let next : suc j ≡ i = cc in
           (s ∷ r.0, r.1, r.2, ap (λ zs. s ∷ zs) r.3, ap suc r.4 ∙ next, r.5, λ o. elim o [ inl h ↦ id_not s.id is.0 f h | inr h ↦ r.6 h ])
+
       go : (b : Bool) → has_id n s.id ≡ b → cond b (Some 0) (option_map suc (subtask_of n ss)) ≡ Some i → ((j : ℕ) → subtask_of n ss ≡ Some j → IsAt ss j) → IsAt (s ∷ ss) i
       go true f e more = let first : 0 ≡ i = cc in ([], s, ss, refl, first, id_there s.id f, λ o. o)
       go false f e more = behind (subtask_of n ss) refl f e more
@@ -194,19 +195,21 @@ first_by K P Q xs x k there back first =
       parts = first.parts;
       is = there first.front x front (back_each K first.front (x ∷ first.rest) all).0 first.is;
       none_before = λ before behind y e q.
-        let within = subst (EachIs K) e front in
-        first.none_before before behind y e (back before y (front_each K before (y ∷ behind) within) (back_each K before (y ∷ behind) within).0 q);
+          let within = subst (EachIs K) e front in
+          first.none_before before behind y e (back before y (front_each K before (y ∷ behind) within) (back_each K before (y ∷ behind) within).0 q);
     }
 
 pub has_unknown_ids : OfAllNetworks HasUnknownIds
-has_unknown_ids names n code at of =
-    (λ h. pairs_there names n of n.pairs code at of.pairs (flat_there (pair_faults n.subs) n.pairs (spot at code) h),
-     λ u. flat_back (pair_faults n.subs) n.pairs (spot at code) (pairs_back names n of n.pairs code at of.pairs u.0 u.1))
+has_unknown_ids names n code at of = (
+  λ h. pairs_there names n of n.pairs code at of.pairs (flat_there (pair_faults n.subs) n.pairs (spot at code) h),
+  λ u. flat_back (pair_faults n.subs) n.pairs (spot at code) (pairs_back names n of n.pairs code at of.pairs u.0 u.1),
+)
 
 pub has_cycle : OfAllNetworks HasCycle
-has_cycle names n at of =
-    (λ c. (c.0, (c.1.0, c.1.1, first_by known (numbers.ClosesOrder n) (words.ClosesOrder names n) n.pairs c.1.0 of.pairs (closes_there names n of) (closes_back names n of) c.1.2)),
-     λ c. (c.0, (c.1.0, c.1.1, first_by known (words.ClosesOrder names n) (numbers.ClosesOrder n) n.pairs c.1.0 of.pairs (closes_back names n of) (closes_there names n of) c.1.2)))
+has_cycle names n at of = (
+  λ c. (c.0, (c.1.0, c.1.1, first_by known (numbers.ClosesOrder n) (words.ClosesOrder names n) n.pairs c.1.0 of.pairs (closes_there names n of) (closes_back names n of) c.1.2)),
+  λ c. (c.0, (c.1.0, c.1.1, first_by known (words.ClosesOrder names n) (numbers.ClosesOrder n) n.pairs c.1.0 of.pairs (closes_back names n of) (closes_there names n of) c.1.2)),
+)
   where
     known : RawPair → Type 0
     known x = IsIn names x.first.name × IsIn names x.then.name
@@ -221,6 +224,7 @@ limit_back : (o : Option RawSub) (s : RawSub) (code at : ℕ) → code ≡ 21 �
 limit_back o s code at c e f = subst (λ o. Has (numbers.limit_at o) (spot at code)) (sym e) (inl (ap (λ x. spot x 21) f ∙ ap (spot at) (sym c)))
 
 pub has_limit : (n : RawNet) → HasLimit n
-has_limit n code at =
-    (limit_there (slice_get n.subs words.most_subtasks) code at,
-     λ l. limit_back (slice_get n.subs words.most_subtasks) l.1.0 code at l.0 l.1.1 l.1.2)
+has_limit n code at = (
+  limit_there (slice_get n.subs words.most_subtasks) code at,
+  λ l. limit_back (slice_get n.subs words.most_subtasks) l.1.0 code at l.0 l.1.1 l.1.2,
+)

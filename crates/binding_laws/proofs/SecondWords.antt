@@ -1,20 +1,20 @@
 -- Second declarations by numbers and in words.
 use Rattle.std.proofs.Common.{ℕ, zero, suc, ◌≡◌, ◌<◌, inl, inr, List, [], ◌∷◌, ◌++◌, map, length, get_or, Option, Some, None, refl, sym, ap, subst, ◌∙◌, append-nil, arith}
-use Rattle.std.specs.Prelude.{◌⊎◌, ◌↔◌}
+use Rattle.std.specs.Prelude.{◌⊎◌}
 use Rattle.std.proofs.lemmas.List.{map-append, append_assoc}
 use Rattle.htn_base.specs.Different.{AreDifferent}
 use Rattle.text_forms.specs.Words.{Word, word_at}
 use Rattle.text_forms.specs.Words as words
 use Rattle.gd_reader.specs.Terms.{Names}
 use Rattle.name_faults.specs.Lists.{One, Each, Has}
-use Rattle.name_faults.specs.Words.{WordAt, IsSameEarlier, IsSecond}
+use Rattle.name_faults.specs.Words.{WordAt, IsSameEarlier}
 use Rattle.name_numbers.specs.declared.faults.Spot.{Spot}
 use Rattle.name_numbers.specs.Places as numbers
 use Rattle.name_numbers.specs.Spots.{spot, IsInTextOrder}
 use Rattle.bound_networks.specs.Seconds.{if_known, seconds}
 use Rattle.binding_laws.specs.Numbers.{words_of, AreKnown}
-use Rattle.binding_laws.specs.Seconds.{declares_at, AreDeclared, HasSeconds}
-use Rattle.binding_laws.proofs.Lists.{no_first, lacks_first, append_there, append_left, append_right}
+use Rattle.binding_laws.specs.Seconds.{declares_at, HasSeconds}
+use Rattle.binding_laws.proofs.Lists.{no_first, append_there, append_left, append_right}
 use Rattle.binding_laws.proofs.Numbered.{first_is}
 use Rattle.binding_laws.proofs.Places.{have_one_place}
 
@@ -123,7 +123,7 @@ module _ {X : Type 0} (number offset : X → ℕ) (names : Names) (differ : AreD
   seconds_there before (x ∷ xs) code at k is h = elim (append_there (if_known (numbers.first_place (number x) before) (offset x)) (seconds number offset (before ++ number x ∷ []) xs) (spot at code) h) [
     | inl i ↦ let r = if_there (numbers.first_place (number x) before) (offset x) code at i in (r.3, inl (r.2, found_word before (number x) r.0 is.0 k r.1))
     | inr i ↦ let r = seconds_there (before ++ number x ∷ []) xs code at (known_push before (number x) k is.0) is.1 i in
-      (r.0, inr (subst (λ ws. IsSecondFrom ws (said xs) at) (map-append (word_at names) before (number x ∷ [])) r.1))
+        (r.0, inr (subst (λ ws. IsSecondFrom ws (said xs) at) (map-append (word_at names) before (number x ∷ [])) r.1))
   ]
 
   seconds_back : (before : List ℕ) (xs : List X) (code at : ℕ) → AreKnown names before → Each (λ x. number x < length names) xs → code ≡ 10 → IsSecondFrom (words_of names before) (said xs) at → Has (seconds number offset before xs) (spot at code)
@@ -136,11 +136,12 @@ module _ {X : Type 0} (number offset : X → ℕ) (names : Names) (differ : AreD
       (seconds_back (before ++ number x ∷ []) xs code at (known_push before (number x) k is.0) is.1 c (subst (λ ws. IsSecondFrom ws (said xs) at) (sym (map-append (word_at names) before (number x ∷ []))) s))
 
 pub has_seconds : {X : Type 0} (number offset : X → ℕ) → HasSeconds number offset
-has_seconds number offset names earlier xs code at of =
-    (λ h. let r = seconds_there number offset names of.differ earlier xs code at of.earlier_in of.words_in h in
+has_seconds number offset names earlier xs code at of = (
+  λ h. let r = seconds_there number offset names of.differ earlier xs code at of.earlier_in of.words_in h in
       (r.0, from_there (words_of names earlier) at [] (map (declares_at number offset names) xs) up (subst (λ ws. IsSecondFrom ws (map (declares_at number offset names) xs) at) (sym (append-nil (words_of names earlier))) r.1)),
-     λ s. seconds_back number offset names of.differ earlier xs code at of.earlier_in of.words_in s.0
-      (subst (λ ws. IsSecondFrom ws (map (declares_at number offset names) xs) at) (append-nil (words_of names earlier)) (from_back (words_of names earlier) at [] (map (declares_at number offset names) xs) up s.1)))
+  λ s. seconds_back number offset names of.differ earlier xs code at of.earlier_in of.words_in s.0
+      (subst (λ ws. IsSecondFrom ws (map (declares_at number offset names) xs) at) (append-nil (words_of names earlier)) (from_back (words_of names earlier) at [] (map (declares_at number offset names) xs) up s.1)),
+)
   where
     up : AreRisingAt (map (declares_at number offset names) xs)
     up = rising_at number offset names of.differ xs of.in_order

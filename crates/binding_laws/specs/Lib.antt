@@ -8,3 +8,4 @@ pub mod Formulas
 pub mod Seconds
 pub mod Orders
 pub mod Calls
+pub mod WholeNetworks

@@ -3,6 +3,8 @@ ghost use Rattle.hddl_reader.specs.declared.networks.RawNet.{RawNet};
 ghost use Rattle.binding_laws.specs.Calls.{HasCallFaults, HasTaskFaults, OfAllCallables};
 ghost use Rattle.binding_laws.specs.Orders.{HasUnknownIds, HasCycle, HasLimit, OfAllNetworks};
 ghost use Rattle.binding_laws.specs.Seconds.{HasSecondTerms, HasSecondParams, HasSecondHeads, HasSecondMethods};
+ghost use Rattle.binding_laws.specs.WholeNetworks.{HasNetworkFaults};
+ghost use Rattle.std.specs.Prelude.{ℕ, List};
 
 /// The faults of second declarations stand at the names whose word stands in front already: ids and other terms, variables and
 /// objects, predicates and tasks, methods.
@@ -25,4 +27,11 @@ pub fn orders_are_said()
 pub fn calls_are_said()
     ensures subtasks { OfAllCallables HasCallFaults }
     ensures tasks { OfAllCallables HasTaskFaults }
+{}
+
+/// The faults of a whole network are those of its ids, its ordering and its limit, and those of the uses in its subtasks and
+/// constraints.
+pub fn networks_are_said()
+    ensures faults { OfAllCallables (λ names d known.
+        (objects scope : List ℕ) → HasNetworkFaults names d known objects scope) }
 {}
