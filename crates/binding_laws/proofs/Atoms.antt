@@ -121,5 +121,5 @@ module _ (names : Names) (d : RawDomain) (objects : List Word) (known : Known) (
 pub has_atom_faults : OfAllKnown HasAtomFaults
 has_atom_faults names d objects known scope a code at of k is = (atom_there names d objects known of scope a code at k is, atom_back names d objects known of scope a code at k is)
 
-pub is_atom_bound : OfAllKnown (λ names d objects known. (v : Declared) → IsAtomBound names d objects known v)
+pub is_atom_bound : OfAllKnown IsAtomBound
 is_atom_bound names d objects known v scope a of k is has e = atom_is names d objects known of v has scope a k is e

@@ -98,5 +98,5 @@ module _ (names : Names) (d : RawDomain) (objects : List Word) (known : Known) (
   pub effect_is : (e : RawEffect) → Claim e
   effect_is = ind-RawEffect Claim (λ x y is. subst (λ z. Claim (roll-RawEffect z)) is (claim (opened y) (level y)))
 
-pub is_effect_bound : OfAllKnown (λ names d objects known. (v : Declared) → IsEffectBound names d objects known v)
+pub is_effect_bound : OfAllKnown IsEffectBound
 is_effect_bound names d objects known v scope e of k is has n f = effect_is names d objects known of v has e scope k is n f

@@ -135,5 +135,5 @@ module _ (names : Names) (d : RawDomain) (objects : List Word) (known : Known) (
   pub formula_is : (f : RawFormula) → Claim f
   formula_is = ind-RawFormula Claim (λ x y is. subst (λ z. Claim (roll-RawFormula z)) is (claim (opened y) (level y)))
 
-pub is_formula_bound : OfAllKnown (λ names d objects known. (v : Declared) → IsFormulaBound names d objects known v)
+pub is_formula_bound : OfAllKnown IsFormulaBound
 is_formula_bound names d objects known v scope f of k is has n e = formula_is names d objects known of v has f scope k is n e

@@ -43,21 +43,20 @@ module _ (names : Names) (d : RawDomain) (objects : List Word) (known : Known) w
   HasEffectFaults = (scope : List ℕ) (e : RawEffect) (code at : ℕ) → IsKnownOf names d objects known → AreKnown names scope → IsEffectIn names e
       → Has (effect_faults known scope e) (spot at code) ↔ HasFaultIn names d objects (InEffect names e (words_of names scope)) code at
 
-  module _ (v : Declared) where
-    -- without faults each is bound to what it stands for
-    abbrev pub IsAtomBound : Type 0
-    IsAtomBound = (scope : List ℕ) (a : RawAtom) → IsKnownOf names d objects known → AreKnown names scope → OfAtom (IsNameIn names) a → HasKnown v names known
-        → atom_faults known scope a ≡ [] → IsBoundAtom v names (words_of names scope) a (atom_bound known scope a).predicate (atom_bound known scope a).args
+  -- without faults each is bound to what it stands for
+  abbrev pub IsAtomBound : Type 0
+  IsAtomBound = (v : Declared) (scope : List ℕ) (a : RawAtom) → IsKnownOf names d objects known → AreKnown names scope → OfAtom (IsNameIn names) a → HasKnown v names known
+      → atom_faults known scope a ≡ [] → IsBoundAtom v names (words_of names scope) a (atom_bound known scope a).predicate (atom_bound known scope a).args
 
-    abbrev pub IsFormulaBound : Type 0
-    IsFormulaBound = (scope : List ℕ) (f : RawFormula) → IsKnownOf names d objects known → AreKnown names scope → IsFormulaIn names f → HasKnown v names known
-        → AreNumberedIn names known.types (InFormula names f (words_of names scope)) → formula_faults known scope f ≡ []
-        → IsBoundFormula v names f (words_of names scope) (formula_bound known scope f)
+  abbrev pub IsFormulaBound : Type 0
+  IsFormulaBound = (v : Declared) (scope : List ℕ) (f : RawFormula) → IsKnownOf names d objects known → AreKnown names scope → IsFormulaIn names f → HasKnown v names known
+      → AreNumberedIn names known.types (InFormula names f (words_of names scope)) → formula_faults known scope f ≡ []
+      → IsBoundFormula v names f (words_of names scope) (formula_bound known scope f)
 
-    abbrev pub IsEffectBound : Type 0
-    IsEffectBound = (scope : List ℕ) (e : RawEffect) → IsKnownOf names d objects known → AreKnown names scope → IsEffectIn names e → HasKnown v names known
-        → AreNumberedIn names known.types (InEffect names e (words_of names scope)) → effect_faults known scope e ≡ []
-        → IsBoundEffect v names e (words_of names scope) (effect_bound known scope e)
+  abbrev pub IsEffectBound : Type 0
+  IsEffectBound = (v : Declared) (scope : List ℕ) (e : RawEffect) → IsKnownOf names d objects known → AreKnown names scope → IsEffectIn names e → HasKnown v names known
+      → AreNumberedIn names known.types (InEffect names e (words_of names scope)) → effect_faults known scope e ≡ []
+      → IsBoundEffect v names e (words_of names scope) (effect_bound known scope e)
 
 abbrev pub OfAllKnown : (Names → RawDomain → List Word → Known → Type 0) → Type 0
 OfAllKnown P = (names : Names) (d : RawDomain) (objects : List Word) (known : Known) → P names d objects known

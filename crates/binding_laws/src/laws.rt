@@ -5,7 +5,6 @@ ghost use Rattle.binding_laws.specs.Numbers.{HaveOnePlace};
 ghost use Rattle.binding_laws.specs.Terms.{HasTermFaults, IsTermBound, OfAllTables};
 ghost use Rattle.binding_laws.specs.Typed.{HasTypedFaults, AreParamsBound, AreObjectsBound};
 ghost use Rattle.binding_laws.specs.Uses.{AreSaidOfDomains, AreSaidOfProblems};
-ghost use Rattle.plan_texts.specs.Declared.{Declared};
 
 /// In a table of different words the place of a number among others is that of its word among theirs.
 pub fn numbers_are_words()
@@ -43,17 +42,17 @@ pub fn uses_are_said()
 /// The faults of an atom are those of its uses; an atom without faults is bound to what it stands for.
 pub fn atoms_are_bound()
     ensures faults { OfAllKnown HasAtomFaults }
-    ensures bound { OfAllKnown (λ names d objects known. (v : Declared) → IsAtomBound names d objects known v) }
+    ensures bound { OfAllKnown IsAtomBound }
 {}
 
 /// The faults of a formula are those of its declarations and uses; a formula without faults is bound to what it stands for.
 pub fn formulas_are_bound()
     ensures faults { OfAllKnown HasFormulaFaults }
-    ensures bound { OfAllKnown (λ names d objects known. (v : Declared) → IsFormulaBound names d objects known v) }
+    ensures bound { OfAllKnown IsFormulaBound }
 {}
 
 /// The faults of an effect are those of its declarations and uses; an effect without faults is bound to what it stands for.
 pub fn effects_are_bound()
     ensures faults { OfAllKnown HasEffectFaults }
-    ensures bound { OfAllKnown (λ names d objects known. (v : Declared) → IsEffectBound names d objects known v) }
+    ensures bound { OfAllKnown IsEffectBound }
 {}
