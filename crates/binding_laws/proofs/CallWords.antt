@@ -29,7 +29,7 @@ one_has P [] o = absurd o
 one_has P (x ∷ xs) (inl p) = (x, inl refl, p)
 one_has P (x ∷ xs) (inr o) = let g = one_has P xs o in (g.0, inr g.1, g.2)
 
-has_one : {X : Type 0} (P : X → Type 0) (xs : List X) (x : X) → Has xs x → P x → One P xs
+pub has_one : {X : Type 0} (P : X → Type 0) (xs : List X) (x : X) → Has xs x → P x → One P xs
 has_one P [] x h p = absurd h
 has_one P (y ∷ xs) x (inl e) p = inl (subst P (sym e) p)
 has_one P (y ∷ xs) x (inr h) p = inr (has_one P xs x h p)
@@ -61,7 +61,7 @@ has_left [] ys x h = absurd h
 has_left (z ∷ xs) ys x (inl e) = inl e
 has_left (z ∷ xs) ys x (inr h) = inr (has_left xs ys x h)
 
-has_right : {X : Type 0} (xs ys : List X) (x : X) → Has ys x → Has (xs ++ ys) x
+pub has_right : {X : Type 0} (xs ys : List X) (x : X) → Has ys x → Has (xs ++ ys) x
 has_right [] ys x h = h
 has_right (z ∷ xs) ys x h = inr (has_right xs ys x h)
 
@@ -84,27 +84,27 @@ two_lists (k ∷ ts) hs g h d (inl i) l e = d.0 (has_contains (offsets (ts ++ hs
 two_lists (k ∷ ts) hs g h d (inr m) l e = two_lists ts hs g h d.1 m l e
 
 module _ (names : Names) (differ : AreDifferent names) (n : ℕ) (known : n < length names) where
-  abbrev Of : RawHead → Type 0
+  abbrev pub Of : RawHead → Type 0
   Of = IsOf names differ n known
 
-  abbrev NoEarlier : RawHead → RawHead → Type 0
+  abbrev pub NoEarlier : RawHead → RawHead → Type 0
   NoEarlier h g = Of g → h.name.at ≤ g.name.at
 
   -- the first of one list
-  record IsCalled (head : ℕ → Head) (hs : List RawHead) (x : Callable) : Type 0 where
-    declaration : RawHead
-    member : Has hs declaration
-    is : Of declaration
-    first : Each (NoEarlier declaration) hs
-    arity : length declaration.params ≡ x.arity
-    place : declaration.name.at ≡ x.at
-    number : ℕ
-    is_head : x.head ≡ head number
+  pub record IsCalled (head : ℕ → Head) (hs : List RawHead) (x : Callable) : Type 0 where
+    pub declaration : RawHead
+    pub member : Has hs declaration
+    pub is : Of declaration
+    pub first : Each (NoEarlier declaration) hs
+    pub arity : length declaration.params ≡ x.arity
+    pub place : declaration.name.at ≡ x.at
+    pub number : ℕ
+    pub is_head : x.head ≡ head number
 
-  abbrev found : (ℕ → Head) → ℕ → List RawHead → Option Callable
+  abbrev pub found : (ℕ → Head) → ℕ → List RawHead → Option Callable
   found head k hs = first_called n (callables_from head k hs)
 
-  none_called : (head : ℕ → Head) (k : ℕ) (hs : List RawHead) → EachIs (λ (h : RawHead). IsIn names h.name.name) hs → found head k hs ≡ None → One Of hs → ⊥
+  pub none_called : (head : ℕ → Head) (k : ℕ) (hs : List RawHead) → EachIs (λ (h : RawHead). IsIn names h.name.name) hs → found head k hs ≡ None → One Of hs → ⊥
   none_called head k [] i e o = absurd o
   none_called head k (h ∷ hs) i e o = go (eqb n h.name.name.number) refl e o (none_called head (suc k) hs i.1)
     where
@@ -113,7 +113,7 @@ module _ (names : Names) (differ : AreDifferent names) (n : ℕ) (known : n < le
       go false f e (inl w) more = to_number names differ n known h i.0 f w
       go false f e (inr o) more = more e o
 
-  some_called : (head : ℕ → Head) (k : ℕ) (hs : List RawHead) (x : Callable) → EachIs (λ (h : RawHead). IsIn names h.name.name) hs → AreRising hs → found head k hs ≡ Some x → IsCalled head hs x
+  pub some_called : (head : ℕ → Head) (k : ℕ) (hs : List RawHead) (x : Callable) → EachIs (λ (h : RawHead). IsIn names h.name.name) hs → AreRising hs → found head k hs ≡ Some x → IsCalled head hs x
   some_called head k [] x i up e = absurd (cc)
   some_called head k (h ∷ hs) x i up e = go (eqb n h.name.name.number) refl e (some_called head (suc k) hs x i.1 up.1)
     where
@@ -257,16 +257,16 @@ module _ (names : Names) (d : RawDomain) (known : Declared) (of : AreCallablesOf
   back_in [] ys e = e
   back_in (x ∷ xs) ys e = back_in xs ys e.1
 
-  ins : EachIs (λ (h : RawHead). IsIn names h.name.name) ts
+  pub ins : EachIs (λ (h : RawHead). IsIn names h.name.name) ts
   ins = front_in ts hs of.words_in
 
-  inh : EachIs (λ (h : RawHead). IsIn names h.name.name) hs
+  pub inh : EachIs (λ (h : RawHead). IsIn names h.name.name) hs
   inh = back_in ts hs of.words_in
 
-  upt : AreRising ts
+  pub upt : AreRising ts
   upt = rising ts of.tasks_in_order
 
-  uph : AreRising hs
+  pub uph : AreRising hs
   uph = rising hs of.actions_in_order
 
   answered : Answer names of.differ a.head.name.number is ts hs ins inh upt uph of.apart (stands_for (declared d.tasks d.actions) a.head.name.number)

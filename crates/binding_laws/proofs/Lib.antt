@@ -17,4 +17,5 @@ pub mod EffectValues
 pub mod SecondWords
 pub mod OrderWords
 pub mod CallWords
+pub mod CallValues
 pub mod NetworkWords

@@ -1,6 +1,6 @@
 // Laws of declarations and of networks that go over from the numbers of names to their words.
 ghost use Rattle.hddl_reader.specs.declared.networks.RawNet.{RawNet};
-ghost use Rattle.binding_laws.specs.Calls.{HasCallFaults, HasTaskFaults, OfAllCallables};
+ghost use Rattle.binding_laws.specs.Calls.{HasCallFaults, HasTaskFaults, IsCallBound, OfAllCallables};
 ghost use Rattle.binding_laws.specs.Orders.{HasUnknownIds, HasCycle, HasLimit, OfAllNetworks};
 ghost use Rattle.binding_laws.specs.Seconds.{HasSecondTerms, HasSecondParams, HasSecondHeads, HasSecondMethods};
 ghost use Rattle.binding_laws.specs.WholeNetworks.{HasNetworkFaults};
@@ -23,10 +23,12 @@ pub fn orders_are_said()
     ensures limit { (net : RawNet) → HasLimit net }
 {}
 
-/// The faults of the name that a subtask calls are those of its use, and those of the task of a method likewise.
+/// The faults of the name that a subtask calls are those of its use, and those of the task of a method likewise. Without faults,
+/// and where no two declarations have one word, what a subtask calls is the task, or else the action, of its word.
 pub fn calls_are_said()
     ensures subtasks { OfAllCallables HasCallFaults }
     ensures tasks { OfAllCallables HasTaskFaults }
+    ensures bound { OfAllCallables IsCallBound }
 {}
 
 /// The faults of a whole network are those of its ids, its ordering and its limit, and those of the uses in its subtasks and
