@@ -7,18 +7,17 @@ use Rattle.plan_model.specs.declared.networks.Head.{Head}
 use Rattle.plan_model.specs.declared.networks.Head.TheVariants.{Task, Action}
 use Rattle.gd_reader.specs.Terms.{Names}
 use Rattle.gd_reader.specs.declared.term.RawAtom.{RawAtom}
-use Rattle.hddl_reader.specs.declared.sections.RawDomain.{RawDomain}
 use Rattle.hddl_reader.specs.declared.sections.RawHead.{RawHead}
 use Rattle.plan_texts.specs.Networks.{head_of}
 use Rattle.plan_texts.specs.Types.{EachIs}
 use Rattle.form_spellings.specs.InTable.{IsIn}
 use Rattle.name_faults.specs.Lists.{Has}
-use Rattle.name_faults.specs.Words.{callables, term_word}
+use Rattle.name_faults.specs.Words.{term_word}
 use Rattle.bound_networks.specs.declared.callables.Callable.{Callable}
-use Rattle.bound_networks.specs.Callables.{Declared, declared, heads, callable, callables_from, first_called, sooner_called}
+use Rattle.bound_networks.specs.Callables.{heads, callable, callables_from, first_called, sooner_called}
 use Rattle.bound_networks.specs.Calls.{called, head_called, call_faults}
-use Rattle.binding_laws.specs.Calls.{AreCallablesOf, called_words, IsCallBound, OfAllCallables}
-use Rattle.binding_laws.proofs.CallWords.{IsCalled, none_called, some_called, has_one, has_right, ins, inh, upt, uph}
+use Rattle.binding_laws.specs.Calls.{IsCallBound, OfAllCallables}
+use Rattle.binding_laws.proofs.CallWords.{none_called, some_called, has_one, has_right, ins, inh, upt, uph}
 use Rattle.binding_laws.proofs.Heads.{AreRising}
 use Rattle.binding_laws.proofs.Lists.{lacks_first}
 use Rattle.binding_laws.proofs.Numbered.{has_contains, has_of_map, has_to_map}
