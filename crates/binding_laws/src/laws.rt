@@ -26,14 +26,14 @@ pub fn types_are_bound()
 {}
 
 /// The faults of a typed list are those of the types that it writes. Without faults its variables are bound to parameters of these
-/// types, and its names to objects, which have one type each.
+/// types, where those have numbers as above, and its names to objects, where at most one type is written for each.
 pub fn lists_are_bound()
     ensures faults { OfAllKinds HasTypedFaults }
     ensures params { OfAllKinds AreParamsBound }
     ensures objects { OfAllKinds AreObjectsBound }
 {}
 
-/// The faults of what stands somewhere, each declaration and each use, are the sentences on it.
+/// The faults of the declarations and uses of a domain, and of a problem, are the sentences on it, for the codes 11 and 13 to 17.
 pub fn uses_are_said()
     ensures domains { AreSaidOfDomains }
     ensures problems { AreSaidOfProblems }
@@ -45,13 +45,15 @@ pub fn atoms_are_bound()
     ensures bound { OfAllKnown IsAtomBound }
 {}
 
-/// The faults of a formula are those of its declarations and uses; a formula without faults is bound to what it stands for.
+/// The faults of a formula are those of its declarations and uses; a formula without faults, whose types have numbers, is bound to
+/// what it stands for.
 pub fn formulas_are_bound()
     ensures faults { OfAllKnown HasFormulaFaults }
     ensures bound { OfAllKnown IsFormulaBound }
 {}
 
-/// The faults of an effect are those of its declarations and uses; an effect without faults is bound to what it stands for.
+/// The faults of an effect are those of its declarations and uses; an effect without faults, whose types have numbers, is bound to
+/// what it stands for.
 pub fn effects_are_bound()
     ensures faults { OfAllKnown HasEffectFaults }
     ensures bound { OfAllKnown IsEffectBound }
