@@ -1,0 +1,5 @@
+use Rattle.binding_laws.proofs.NetworkWords.{has_network_faults}
+use Rattle.binding_laws.proofs.networks.networks_are_said.Goals as goal
+
+pub returns : goal.returns
+returns c = record { faults = has_network_faults }

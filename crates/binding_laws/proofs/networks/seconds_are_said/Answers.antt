@@ -1,0 +1,10 @@
+use Rattle.binding_laws.proofs.SecondWords.{has_seconds}
+use Rattle.binding_laws.proofs.networks.seconds_are_said.Goals as goal
+
+pub returns : goal.returns
+returns c = record {
+  terms = has_seconds (λ t. t.name.number) (λ t. t.at);
+  params = has_seconds (λ x. x.name.number) (λ x. x.at);
+  heads = has_seconds (λ h. h.name.name.number) (λ h. h.name.at);
+  methods = has_seconds (λ m. m.head.name.name.number) (λ m. m.head.name.at);
+}

@@ -1,0 +1,47 @@
+-- What binding says of a whole network by numbers, in words: its faults.
+-- Source: this project's.
+use Rattle.std.specs.Prelude.{ℕ, ◌≡◌, ◌⊎◌, ◌↔◌, List, [], Option}
+use Rattle.gd_reader.specs.Terms.{Names}
+use Rattle.hddl_reader.specs.declared.networks.RawCon.{RawCon}
+use Rattle.hddl_reader.specs.declared.networks.RawNet.{RawNet}
+use Rattle.hddl_reader.specs.declared.networks.RawSub.{RawSub}
+use Rattle.hddl_reader.specs.declared.sections.RawDomain.{RawDomain}
+use Rattle.plan_texts.specs.Types.{EachIs}
+use Rattle.form_spellings.specs.EachName.{OfAtom}
+use Rattle.form_spellings.specs.InTable.{IsIn, IsNameIn}
+use Rattle.name_faults.specs.Lists.{Has}
+use Rattle.name_faults.specs.Networks.{UnknownSubtaskId, CyclicOrder, TooManySubtasks}
+use Rattle.name_faults.specs.Networks as words
+use Rattle.name_faults.specs.Standing.{IsOfNetwork}
+use Rattle.name_faults.specs.Words.{IsSecond}
+use Rattle.name_numbers.specs.Spots.{spot}
+use Rattle.bound_networks.specs.Callables.{Declared}
+use Rattle.bound_networks.specs.Cycle.{IsCycle}
+use Rattle.bound_networks.specs.Ids.{term_number, term_at, ids}
+use Rattle.bound_networks.specs.Networks.{network_faults}
+use Rattle.binding_laws.specs.Calls.{AreCallablesOf}
+use Rattle.binding_laws.specs.Numbers.{words_of}
+use Rattle.binding_laws.specs.Orders.{AreIdsIn}
+use Rattle.binding_laws.specs.Seconds.{AreDeclared}
+use Rattle.binding_laws.specs.Terms.{AreOfTable}
+use Rattle.binding_laws.specs.Uses.{HasFaultIn}
+
+-- The names of a network are in the table, and its ids stand in the order of the text.
+pub record IsNetworkIn (names : Names) (n : RawNet) : Type 0 where
+  pub ordering : AreIdsIn names n
+  pub declared : AreDeclared term_number term_at names [] (ids n.subs)
+  pub calls : EachIs (λ (s : RawSub). OfAtom (IsNameIn names) s.atom) n.subs
+  pub constraints : EachIs (λ (c : RawCon). IsIn names c.left.name × IsIn names c.right.name) n.constraints
+
+module _ (names : Names) (d : RawDomain) (known : Declared) (objects scope : List ℕ) where
+  -- 10 and 19 to 21 of its ids and its ordering, and the faults of its subtasks and constraints
+  abbrev pub IsNetworkFault : RawNet → (code at : ℕ) → Type 0
+  IsNetworkFault n code at = ((code ≡ 10) × IsSecond [] (words.ids names n.subs) at)
+      ⊎ (((code ≡ 19) × UnknownSubtaskId names n at)
+      ⊎ (((code ≡ 20) × CyclicOrder names n at)
+      ⊎ (((code ≡ 21) × TooManySubtasks n at)
+      ⊎ HasFaultIn names d (words_of names objects) (λ here u. (here ≡ words_of names scope) × IsOfNetwork n u) code at)))
+
+  abbrev pub HasNetworkFaults : Type 0
+  HasNetworkFaults = (n : RawNet) (cycle : Option ℕ) (code at : ℕ) → AreCallablesOf names d known → AreOfTable names objects scope → IsNetworkIn names n → IsCycle n cycle
+      → Has (network_faults known objects scope n cycle) (spot at code) ↔ IsNetworkFault n code at

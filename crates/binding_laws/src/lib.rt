@@ -1,0 +1,21 @@
+//! What binding says over the numbers of names is what is said in words: of its faults and of what it gives.
+//!
+//! Stands on the definitions of `name_numbers`, `bound_types`, `bound_formulas` and `bound_networks`, which speak of numbers, and on
+//! those of `name_faults` and `form_spellings`, which speak of words; it has no code but laws. The contracts used above: the place
+//! of a number is that of its word (`numbers_are_words`); the faults of terms, written types and typed lists are the sentences on
+//! their words, and those of atoms, formulas and effects are the faults of what is declared and used in them; where there are none,
+//! and each type that is written has a number, each is bound to what it stands for (`terms_are_bound`, `types_are_bound`,
+//! `lists_are_bound`, `atoms_are_bound`, `formulas_are_bound`, `effects_are_bound`); the faults of what is declared and used in a
+//! whole domain or problem are the sentences on it (`uses_are_said`); so are those of second declarations (`seconds_are_said`), of
+//! the names that subtasks and methods call (`calls_are_said`), of the ordering of a network (`orders_are_said`), and of a whole
+//! network (`networks_are_said`).
+#![tactic(auto)]
+
+mod laws;
+mod networks;
+
+pub use laws::{
+    atoms_are_bound, effects_are_bound, formulas_are_bound, lists_are_bound, numbers_are_words,
+    terms_are_bound, types_are_bound, uses_are_said,
+};
+pub use networks::{calls_are_said, networks_are_said, orders_are_said, seconds_are_said};

@@ -1,0 +1,39 @@
+// Laws of declarations and of networks that go over from the numbers of names to their words.
+ghost use Rattle.hddl_reader.specs.declared.networks.RawNet.{RawNet};
+ghost use Rattle.binding_laws.specs.Calls.{HasCallFaults, HasTaskFaults, IsCallBound, OfAllCallables};
+ghost use Rattle.binding_laws.specs.Orders.{HasUnknownIds, HasCycle, HasLimit, OfAllNetworks};
+ghost use Rattle.binding_laws.specs.Seconds.{HasSecondTerms, HasSecondParams, HasSecondHeads, HasSecondMethods};
+ghost use Rattle.binding_laws.specs.WholeNetworks.{HasNetworkFaults};
+ghost use Rattle.std.specs.Prelude.{ℕ, List};
+
+/// The faults of second declarations stand at the names whose word stands in front already: ids and other terms, variables and
+/// objects, predicates and tasks, methods.
+pub fn seconds_are_said()
+    ensures terms { HasSecondTerms }
+    ensures params { HasSecondParams }
+    ensures heads { HasSecondHeads }
+    ensures methods { HasSecondMethods }
+{}
+
+/// The faults of the ordering of a network: the ids in pairs that no subtask has, the pair that closes the first cycle, and the
+/// first subtask past the limit.
+pub fn orders_are_said()
+    ensures unknown { OfAllNetworks HasUnknownIds }
+    ensures cycle { OfAllNetworks HasCycle }
+    ensures limit { (net : RawNet) → HasLimit net }
+{}
+
+/// The faults of the name that a subtask calls are those of its use, and those of the task of a method likewise. Without faults,
+/// and where no two declarations have one word, what a subtask calls is the task, or else the action, of its word.
+pub fn calls_are_said()
+    ensures subtasks { OfAllCallables HasCallFaults }
+    ensures tasks { OfAllCallables HasTaskFaults }
+    ensures bound { OfAllCallables IsCallBound }
+{}
+
+/// The faults of a whole network are those of its ids, its ordering and its limit, and those of the uses in its subtasks and
+/// constraints.
+pub fn networks_are_said()
+    ensures faults { OfAllCallables (λ names d known.
+        (objects scope : List ℕ) → HasNetworkFaults names d known objects scope) }
+{}
