@@ -1,0 +1,39 @@
+-- One more number at the end of those that are seen.
+use Rattle.std.proofs.Common.{◌≡◌, ℕ, List, [], ◌∷◌, ◌++◌, Bool, true, false, cond, ◌||◌, nat_eq, refl, ap, ◌∙◌, sym}
+use Rattle.std.specs.List.{list_any}
+use Rattle.indexmap.specs.IndexSet.{insert_key}
+use Rattle.bound_types.specs.Seen.{is_among, first_seen}
+
+first_seen-push-cases : (a b c : Bool) (x n : ℕ) (xs : List ℕ)
+    → x ∷ cond ((b || a) || c) xs (xs ++ n ∷ []) ≡ cond (a || (b || c)) (x ∷ xs) ((x ∷ xs) ++ n ∷ [])
+first_seen-push-cases true true c x n xs = refl
+first_seen-push-cases true false c x n xs = refl
+first_seen-push-cases false true c x n xs = refl
+first_seen-push-cases false false true x n xs = refl
+first_seen-push-cases false false false x n xs = refl
+
+-- it goes last, unless it was seen
+pub first_seen-push : (seen xs : List ℕ) (n : ℕ)
+    → first_seen seen (xs ++ n ∷ []) ≡ cond (is_among n seen || is_among n (first_seen seen xs)) (first_seen seen xs) (first_seen seen xs ++ n ∷ [])
+first_seen-push seen [] n = by (is_among n seen)
+  where
+    by : (a : Bool) → cond a [] (n ∷ []) ≡ cond (a || false) [] (n ∷ [])
+    by true = refl
+    by false = refl
+first_seen-push seen (x ∷ xs) n = by (is_among x seen) (first_seen-push seen xs n) (first_seen-push (x ∷ seen) xs n)
+  where
+    by : (known : Bool)
+        → first_seen seen (xs ++ n ∷ []) ≡ cond (is_among n seen || is_among n (first_seen seen xs)) (first_seen seen xs) (first_seen seen xs ++ n ∷ [])
+        → first_seen (x ∷ seen) (xs ++ n ∷ []) ≡ cond (is_among n (x ∷ seen) || is_among n (first_seen (x ∷ seen) xs)) (first_seen (x ∷ seen) xs) (first_seen (x ∷ seen) xs ++ n ∷ [])
+        → cond known (first_seen seen (xs ++ n ∷ [])) (x ∷ first_seen (x ∷ seen) (xs ++ n ∷ []))
+        ≡ cond (is_among n seen || is_among n (cond known (first_seen seen xs) (x ∷ first_seen (x ∷ seen) xs)))
+        (cond known (first_seen seen xs) (x ∷ first_seen (x ∷ seen) xs))
+        (cond known (first_seen seen xs) (x ∷ first_seen (x ∷ seen) xs) ++ n ∷ [])
+    by true same new = same
+    by false same new =
+        ap (λ ys. x ∷ ys) new
+        ∙ first_seen-push-cases (is_among n seen) (nat_eq n x) (is_among n (first_seen (x ∷ seen) xs)) x n (first_seen (x ∷ seen) xs)
+
+-- as a set of keys takes it
+pub insert_key-first_seen : (xs : List ℕ) (n : ℕ) → insert_key nat_eq (first_seen [] xs) n ≡ first_seen [] (xs ++ n ∷ [])
+insert_key-first_seen xs n = sym (first_seen-push [] xs n)

@@ -1,0 +1,12 @@
+//! The types of two texts: their numbers, the pairs of parents, the unions, and typed lists on these.
+//!
+//! Stands on `htn_base`, `name_numbers`, `gd_reader`, `plan_model` and `indexmap`. The contracts used above: written types have the
+//! number that the table of types gives them, or their faults are noted (`TypeTable::kind_of`), and so have the words of a typed
+//! list (`params_of`, `objects_of`).
+#![tactic(auto)]
+
+mod table;
+mod typed;
+
+pub use table::TypeTable;
+pub use typed::{objects_of, params_of};

@@ -1,0 +1,5 @@
+pub mod Spots
+pub mod Places
+pub mod Entered
+pub mod Heads
+pub mod Terms
