@@ -1,2 +1,4 @@
 pub mod SeenLemmas
 pub mod StepLemmas
+pub mod SectionLemmas
+pub mod ParentsLemmas

@@ -1,5 +1,7 @@
 -- One more number at the end of those that are seen.
-use Rattle.std.proofs.Common.{◌≡◌, ℕ, List, [], ◌∷◌, ◌++◌, Bool, true, false, cond, ◌||◌, nat_eq, refl, ap, ◌∙◌, sym}
+use Rattle.std.proofs.Common.{◌≡◌, ℕ, suc, List, [], ◌∷◌, ◌++◌, Bool, true, false, cond, ◌||◌, nat_eq, Option, Some, None, refl, ap, ◌∙◌, sym}
+use Rattle.std.specs.Prelude.{is_some, option_map}
+use Rattle.name_numbers.specs.Places.{first_place}
 use Rattle.std.specs.List.{list_any}
 use Rattle.indexmap.specs.IndexSet.{insert_key}
 use Rattle.bound_types.specs.Seen.{is_among, first_seen}
@@ -37,3 +39,13 @@ first_seen-push seen (x ∷ xs) n = by (is_among x seen) (first_seen-push seen x
 -- as a set of keys takes it
 pub insert_key-first_seen : (xs : List ℕ) (n : ℕ) → insert_key nat_eq (first_seen [] xs) n ≡ first_seen [] (xs ++ n ∷ [])
 insert_key-first_seen xs n = sym (first_seen-push [] xs n)
+
+first_place-step : (same : Bool) (found : Option ℕ) → is_some (cond same (Some 0) (option_map suc found)) ≡ (same || is_some found)
+first_place-step true found = refl
+first_place-step false None = refl
+first_place-step false (Some k) = refl
+
+-- a number has a place exactly where it is among the others
+pub is_some-first_place : (n : ℕ) (xs : List ℕ) → is_some (first_place n xs) ≡ is_among n xs
+is_some-first_place n [] = refl
+is_some-first_place n (x ∷ xs) = first_place-step (nat_eq n x) (first_place n xs) ∙ ap (λ there. nat_eq n x || there) (is_some-first_place n xs)

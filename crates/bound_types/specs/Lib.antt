@@ -1,3 +1,5 @@
 pub mod Seen
 pub mod Kinds
 pub mod Typed
+pub mod Mentions
+pub mod Parents

@@ -5,8 +5,12 @@
 //! list (`params_of`, `objects_of`).
 #![tactic(auto)]
 
+mod parents;
+mod section;
 mod table;
 mod typed;
 
+pub use parents::parents_of;
+pub use section::types_in_order;
 pub use table::TypeTable;
 pub use typed::{objects_of, params_of};
