@@ -2,3 +2,5 @@ pub mod SeenLemmas
 pub mod StepLemmas
 pub mod SectionLemmas
 pub mod ParentsLemmas
+pub mod TooManyLemmas
+pub mod TooManyNoted

@@ -3,3 +3,4 @@ pub mod Kinds
 pub mod Typed
 pub mod Mentions
 pub mod Parents
+pub mod TooMany
