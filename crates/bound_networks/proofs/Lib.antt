@@ -1,0 +1,6 @@
+pub mod ChainPairs
+pub mod Closing
+pub mod Called
+pub mod Cycles
+pub mod Steps
+mod examples
