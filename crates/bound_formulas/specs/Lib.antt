@@ -1,3 +1,4 @@
 pub mod Atoms
+pub mod Facts
 pub mod Formulas
 pub mod Effects

@@ -29,7 +29,12 @@ pub fn atom_of(
 }
 
 /// The number of the predicate of this name, which is applied to so many terms.
-fn predicate_of(predicates: &Heads, head: RawTerm, count: usize, faults: &mut Faults) -> u32
+pub(crate) fn predicate_of(
+    predicates: &Heads,
+    head: RawTerm,
+    count: usize,
+    faults: &mut Faults,
+) -> u32
     ensures place { result ≡ place_of (declared head.name.number predicates.now) }
     ensures faults { faults.new.least ≡ noted faults.old.least
         (head_faults head.at count (declared head.name.number predicates.now)) }

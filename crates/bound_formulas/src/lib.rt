@@ -2,15 +2,18 @@
 //!
 //! Stands on `htn_base`, on `gd_reader` for what is written and on `plan_model` for what it stands for, and on `name_numbers` and
 //! `bound_types` for the names that are declared. The contracts used above: a formula, an effect or an atom is bound to what stands
-//! for it, the faults of its names are noted, and the variables in force are as they were (`formula_of`, `effect_of`, `atom_of`).
+//! for it, the faults of its names are noted, and the variables in force are as they were (`formula_of`, `effect_of`, `atom_of`); and
+//! so is a fact, where no variable is in force (`fact_of`).
 #![tactic(auto)]
 
 mod atoms;
 mod effects;
+mod facts;
 mod formulas;
 mod known;
 
 pub use atoms::atom_of;
 pub use effects::effect_of;
+pub use facts::fact_of;
 pub use formulas::formula_of;
 pub use known::Known;
