@@ -4,3 +4,5 @@ pub mod SectionLemmas
 pub mod ParentsLemmas
 pub mod TooManyLemmas
 pub mod TooManyNoted
+pub mod UnionsLemmas
+pub mod examples

@@ -4,3 +4,4 @@ pub mod Typed
 pub mod Mentions
 pub mod Parents
 pub mod TooMany
+pub mod Unions

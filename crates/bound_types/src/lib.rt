@@ -9,8 +9,10 @@ mod parents;
 mod section;
 mod table;
 mod typed;
+mod unions;
 
 pub use parents::parents_of;
 pub use section::types_in_order;
 pub use table::TypeTable;
 pub use typed::{objects_of, params_of};
+pub use unions::{Either, put_union, put_unions, put_unions_of_effect, put_unions_of_formula};

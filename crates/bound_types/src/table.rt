@@ -3,7 +3,7 @@ ghost use Rattle.name_numbers.specs.Spots.{noted};
 ghost use Rattle.bound_types.specs.Kinds.{type_number, type_faults, union_number, kind_by, members_written, kind_bound, kind_faults};
 
 use gd_reader::RawTerm;
-use htn_base::{Memory, Name, number};
+use htn_base::{List, Memory, number};
 use indexmap::IndexSet;
 use name_numbers::{Faults, Places, found_or_noted};
 use std::alloc::Global;
@@ -93,6 +93,15 @@ impl TypeTable {
         Ok(members)
     }
 
+    /// The numbers of the written types, each once. Nothing is noted.
+    pub fn members(&self, alloc: Global, types: &[RawTerm]) -> Result<List<u32>, Memory>
+        ensures members { IfOk result (λ members. members ≡ members_written self.now types.now) }
+    {
+        let mut faults = Faults::new();
+        let members = self.members_of(alloc, types, &mut faults)?;
+        listed(alloc, members.as_slice())
+    }
+
     /// The number of what has these types.
     fn number_by(&self, members: &[u32]) -> Result<u32, Memory>
         ensures number { IfOk result (λ number. number ≡ kind_by self.now members.now) }
@@ -116,4 +125,15 @@ impl TypeTable {
             None => Ok(0),
         }
     }
+}
+
+/// These numbers in a list of their own.
+fn listed(alloc: Global, numbers: &[u32]) -> Result<List<u32>, Memory>
+    ensures same { IfOk result (λ list. list ≡ numbers.now) }
+{
+    let mut list = List::new(alloc);
+    for number in numbers {
+        list.push(*number)?;
+    }
+    Ok(list)
 }
