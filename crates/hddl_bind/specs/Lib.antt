@@ -5,3 +5,4 @@ pub mod Methods
 pub mod DomainSchemas
 pub mod Facts
 pub mod ProblemParts
+pub mod Judged

@@ -14,7 +14,6 @@ use Rattle.bound_networks.specs.Networks.{network_bound, network_faults}
 use Rattle.hddl_reader.specs.declared.sections.RawProblem.{RawProblem}
 use Rattle.plan_model.specs.declared.formulas.Formula.TheVariants.{And}
 use Rattle.plan_model.specs.declared.schemas.MethodSchema.{MethodSchema}
-use Rattle.hddl_bind.specs.declared.methods.Front.{Front}
 use Rattle.hddl_bind.specs.declared.problem_parts.ProblemParts.{ProblemParts}
 use Rattle.hddl_bind.specs.Methods.{joined}
 use Rattle.hddl_bind.specs.Facts.{facts_bound, facts_faults}

@@ -36,7 +36,8 @@ pub fn names_of(
     faults: &mut Faults,
 ) -> Result<DomainNames, Memory>
     ensures known { IfOk result (λ names. names.known ≡ known_in types d.now) }
-    ensures callables { IfOk result (λ names. names.callables ≡ declared d.now.tasks d.now.actions) }
+    ensures callables { IfOk result
+        (λ names. names.callables ≡ declared d.now.tasks d.now.actions) }
     ensures faults { OnOk result
         (faults.new.least ≡ noted faults.old.least (second_names d.now)) }
 {

@@ -5,13 +5,15 @@
 //! actions, methods and facts are bound to what stands for them, and the faults of their names are noted (`predicates_of`,
 //! `tasks_of`, `actions_of`, `methods_of`, `facts_of`), and so are all that a domain declares but its types (`schemas_of`) and what
 //! a problem says beyond its domain (`parts_of`); names that are declared again are noted where the tables of names are made
-//! (`names_of`). The whole domain and the whole problem are to stand on these.
+//! (`names_of`); and what was bound is handed out exactly where no fault was noted, else the least is (`judged`). The whole domain
+//! and the whole problem are to stand on these.
 #![tactic(auto)]
 
 mod actions;
 mod declared;
 mod domain_names;
 mod domain_schemas;
+mod errors;
 mod facts;
 mod heads;
 mod methods;
@@ -20,6 +22,7 @@ mod problem_parts;
 pub use actions::actions_of;
 pub use domain_names::{DomainNames, names_of};
 pub use domain_schemas::{DomainSchemas, schemas_of};
+pub use errors::{BindError, judged};
 pub use facts::facts_of;
 pub use heads::{predicates_of, tasks_of};
 pub use methods::methods_of;

@@ -4,7 +4,6 @@ use Rattle.gd_reader.specs.declared.term.RawAtom.{RawAtom}
 use Rattle.gd_reader.specs.declared.term.RawTerm.{RawTerm}
 use Rattle.gd_reader.specs.declared.typed_lists.RawParam.{RawParam}
 use Rattle.hddl_reader.specs.declared.sections.RawHead.{RawHead}
-use Rattle.name_numbers.specs.declared.heads.Head.{Head}
 use Rattle.name_numbers.specs.Spots.{spot}
 use Rattle.bound_formulas.specs.declared.known.Known.{Known}
 use Rattle.hddl_bind.specs.Schemas.{heads_faults}
