@@ -1,0 +1,2 @@
+pub mod MethodsNoted
+mod examples

@@ -1,0 +1,18 @@
+use Rattle.std.proofs.Common.{ap, ◌∙◌}
+use Rattle.name_numbers.specs.Entered.{variables_of}
+use Rattle.name_numbers.specs.Spots.{noted}
+use Rattle.bound_types.specs.Typed.{params_faults}
+use Rattle.bound_formulas.specs.Formulas.{formula_faults}
+use Rattle.bound_formulas.specs.Effects.{effect_faults}
+use Rattle.bound_networks.proofs.Steps.{noted_three}
+use Rattle.hddl_bind.specs.Actions.{scope_of}
+use Rattle.hddl_bind.proofs.actions.action_of.Goals as goal
+
+pub returns-clause-faults : goal.returns-clause-faults
+returns-clause-faults c =
+    let known = c.args.known.now in
+    let a = c.args.action.now in
+    let entered = c.in_ok-enter_alone.ensures.entered ∙ ap variables_of c.as_slice.ensures.items in
+    let pre = c.in_ok-pre.ensures.faults ∙ ap (λ s. noted c.params_of.new.faults.least (formula_faults known s a.pre)) entered in
+    let eff = c.in_ok-eff.ensures.faults ∙ ap (λ s. noted c.formula_of.new.faults.least (effect_faults known s a.eff)) (c.in_ok-pre.ensures.kept ∙ entered) in
+    noted_three _ _ _ _ (params_faults known.types a.head.params) (formula_faults known (scope_of a.head) a.pre) (effect_faults known (scope_of a.head) a.eff) c.in_ok-params.ensures.faults pre eff

@@ -1,0 +1,89 @@
+ghost use Rattle.std.specs.Prelude.{◌≡◌, IfOk, OnOk};
+ghost use Rattle.name_numbers.specs.Spots.{noted};
+ghost use Rattle.hddl_bind.specs.DomainSchemas as spec;
+
+use crate::actions::actions_of;
+use crate::heads::{predicates_of, tasks_of};
+use crate::methods::methods_of;
+use bound_formulas::Known;
+use bound_networks::Callables;
+use bound_types::{TypeTable, objects_of};
+use hddl_reader::RawDomain;
+use htn_base::{List, Memory};
+use name_numbers::Faults;
+use plan_model::{ActionSchema, MethodSchema, Object, Predicate, TaskSchema};
+use std::alloc::Global;
+
+/// All that a domain declares but its types. The objects are its constants.
+#[derive(Drop)]
+pub struct DomainSchemas {
+    pub objects: List<Object>,
+    pub predicates: List<Predicate>,
+    pub tasks: List<TaskSchema>,
+    pub actions: List<ActionSchema>,
+    pub methods: List<MethodSchema>,
+}
+
+/// What has parameters alone: constants, predicates and tasks.
+#[derive(Drop)]
+struct Typed {
+    objects: List<Object>,
+    predicates: List<Predicate>,
+    tasks: List<TaskSchema>,
+}
+
+/// All that a domain declares but its types. Faults: 10 in a network, 11, 13 to 17 and 19 to 21.
+pub fn schemas_of(
+    alloc: Global,
+    known: &Known,
+    callables: &Callables,
+    d: &RawDomain,
+    faults: &mut Faults,
+) -> Result<DomainSchemas, Memory>
+    ensures bound { IfOk result
+        (λ bound. bound ≡ spec.schemas_bound known.now callables.now d.now) }
+    ensures faults { OnOk result (spec.AreSchemasNoted known.now callables.now d.now
+        faults.old.least faults.new.least) }
+{
+    let typed = typed_of(alloc, &known.types, d, faults)?;
+    let actions = actions_of(alloc, known, d.actions.as_slice(), faults)?;
+    let methods = methods_of(alloc, known, callables, d.methods.as_slice(), faults)?;
+    Ok(together(typed, actions, methods))
+}
+
+fn typed_of(
+    alloc: Global,
+    types: &TypeTable,
+    d: &RawDomain,
+    faults: &mut Faults,
+) -> Result<Typed, Memory>
+    ensures bound { IfOk result (λ typed. typed ≡ spec.typed_bound types.now d.now) }
+    ensures faults { OnOk result
+        (faults.new.least ≡ noted faults.old.least (spec.typed_faults types.now d.now)) }
+{
+    let objects = objects_of(alloc, types, &d.constants, true, faults)?;
+    let predicates = predicates_of(alloc, types, d.predicates.as_slice(), faults)?;
+    let tasks = tasks_of(alloc, types, d.tasks.as_slice(), faults)?;
+    Ok(Typed {
+        objects,
+        predicates,
+        tasks,
+    })
+}
+
+fn together(typed: Typed, actions: List<ActionSchema>, methods: List<MethodSchema>) -> DomainSchemas
+    ensures together { result ≡ spec.together typed actions methods }
+{
+    let Typed {
+        objects,
+        predicates,
+        tasks,
+    } = typed;
+    DomainSchemas {
+        objects,
+        predicates,
+        tasks,
+        actions,
+        methods,
+    }
+}

@@ -1,0 +1,29 @@
+//! The schemas and facts of a domain and a problem with the numbers of what their names stand for.
+//!
+//! Stands on `htn_base`, on the raw texts of `hddl_reader` and on the values of `plan_model`, and on `name_numbers`, `bound_types`,
+//! `bound_formulas` and `bound_networks` for what is declared and for the parts. The contracts used above: predicates, tasks,
+//! actions, methods and facts are bound to what stands for them, and the faults of their names are noted (`predicates_of`,
+//! `tasks_of`, `actions_of`, `methods_of`, `facts_of`), and so are all that a domain declares but its types (`schemas_of`) and what
+//! a problem says beyond its domain (`parts_of`); names that are declared again are noted where the tables of names are made
+//! (`names_of`); and what was bound is handed out exactly where no fault was noted, else the least is (`judged`). The whole domain
+//! and the whole problem are to stand on these.
+#![tactic(auto)]
+
+mod actions;
+mod declared;
+mod domain_names;
+mod domain_schemas;
+mod errors;
+mod facts;
+mod heads;
+mod methods;
+mod problem_parts;
+
+pub use actions::actions_of;
+pub use domain_names::{DomainNames, names_of};
+pub use domain_schemas::{DomainSchemas, schemas_of};
+pub use errors::{BindError, judged};
+pub use facts::facts_of;
+pub use heads::{predicates_of, tasks_of};
+pub use methods::methods_of;
+pub use problem_parts::{ProblemParts, parts_of};
