@@ -1,2 +1,3 @@
 pub mod Fit
+pub mod Ready
 pub mod Shown

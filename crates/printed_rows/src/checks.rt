@@ -8,6 +8,7 @@ ghost use Rattle.problem_texts.specs.ArePrinted.{IsCompiledProblem};
 ghost use Rattle.printed_rows.specs.Fit.{AreFit};
 
 use crate::reader::are_listed;
+use crate::ready::are_below;
 use htn_base::Memory;
 use method_precs::compile;
 use net_order::{Order, OrderError};
@@ -76,14 +77,6 @@ fn has_order(alloc: Global, count: u32, pairs: &[Pair]) -> Result<bool, Memory>
     } else {
         Ok(false)
     }
-}
-
-fn are_below(count: u32, pairs: &[Pair]) -> bool
-    ensures { IsTrue result ↔ AreBelow count pairs.now }
-{
-    pairs
-        .iter()
-        .all(|pair| pair.first < count && pair.then < count)
 }
 
 fn is_acyclic(alloc: Global, count: u32, pairs: &[Pair]) -> Result<bool, Memory>

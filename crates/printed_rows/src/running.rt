@@ -60,7 +60,7 @@ impl From<io::Error> for Failure {
 
 /// The two HDDL texts of a row.
 #[derive(Drop)]
-struct Source {
+pub struct Source {
     domain: Vec<u8>,
     problem: Vec<u8>,
 }
@@ -68,15 +68,21 @@ struct Source {
 /// Prints each row, in both styles and in its modes.
 pub fn print_all(rt: &HostRuntime, alloc: Global, files: &mut DiskFiles) -> Result<(), Failure> {
     for row in ROWS {
-        let source = source_of(alloc, files, row.name)?;
+        let source = source_of(alloc, files, row.name, row.name)?;
         print_styles(rt, alloc, &row, &source)?;
     }
     Ok(())
 }
 
-fn source_of(alloc: Global, files: &mut DiskFiles, name: &str) -> Result<Source, Failure> {
-    let domain = format!(in alloc; "{name}.d.hddl")?;
-    let problem = format!(in alloc; "{name}.p.hddl")?;
+/// The texts of a domain and a problem, by their names.
+pub fn source_of(
+    alloc: Global,
+    files: &mut DiskFiles,
+    domain: &str,
+    problem: &str,
+) -> Result<Source, Failure> {
+    let domain = format!(in alloc; "{domain}.d.hddl")?;
+    let problem = format!(in alloc; "{problem}.p.hddl")?;
     Ok(Source {
         domain: files.get(alloc, domain.as_str(), LIMIT)?,
         problem: files.get(alloc, problem.as_str(), LIMIT)?,
@@ -139,7 +145,8 @@ fn are_as_long(texts: &Texts, sizes: &Sizes) -> bool {
     sizes.domain == texts.domain.len() as u64 && sizes.problem == texts.problem.len() as u64
 }
 
-fn compiled_source(alloc: Global, source: &Source, checks: Checks) -> Result<Compiled, Failure>
+/// The compiled problem of two texts.
+pub fn compiled_source(alloc: Global, source: &Source, checks: Checks) -> Result<Compiled, Failure>
     ensures listed { IfOk result (λ c. AreListed c.hddl.types) }
     ensures compiled { IfOk result IsCompiledProblem }
 {
