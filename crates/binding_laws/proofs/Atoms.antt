@@ -18,8 +18,8 @@ use Rattle.name_faults.specs.Uses.{Scope, Use, predicate, applies, refers, IsOfA
 use Rattle.name_numbers.specs.Heads.{head_numbers, declared}
 use Rattle.name_numbers.specs.Spots.{spot}
 use Rattle.name_numbers.specs.Terms.{term_bound, term_faults, terms_bound, terms_faults}
-use Rattle.bound_formulas.specs.declared.known.Known.{Known}
-use Rattle.bound_formulas.specs.Atoms.{head_faults, atom_bound, atom_faults}
+use Rattle.bind_formulas.specs.declared.known.Known.{Known}
+use Rattle.bind_formulas.specs.Atoms.{head_faults, atom_bound, atom_faults}
 use Rattle.binding_laws.specs.Known.{head_of, IsKnownOf, HasKnown}
 use Rattle.binding_laws.specs.Kinds.{AreTermsIn}
 use Rattle.binding_laws.specs.Numbers.{words_of, AreKnown}

@@ -16,10 +16,10 @@ use Rattle.name_faults.proofs.Rolls.{effect_roll, effect_unroll}
 use Rattle.name_numbers.specs.declared.faults.Spot.{Spot}
 use Rattle.name_numbers.specs.Entered.{variables_of}
 use Rattle.name_numbers.specs.Spots.{spot}
-use Rattle.bound_formulas.specs.declared.known.Known.{Known}
-use Rattle.bound_formulas.specs.Formulas.{formula_faults}
-use Rattle.bound_formulas.specs.Effects.{effect_faults_step, effect_faults}
-use Rattle.bound_formulas.proofs.Parts.{effect_faults_level}
+use Rattle.bind_formulas.specs.declared.known.Known.{Known}
+use Rattle.bind_formulas.specs.Formulas.{formula_faults}
+use Rattle.bind_formulas.specs.Effects.{effect_faults_step, effect_faults}
+use Rattle.bind_formulas.proofs.Parts.{effect_faults_level}
 use Rattle.binding_laws.specs.Known.{IsKnownOf}
 use Rattle.binding_laws.specs.Numbers.{words_of, AreKnown}
 use Rattle.binding_laws.specs.Formulas.{HasEffectFaults, OfAllKnown}

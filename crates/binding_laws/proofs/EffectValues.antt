@@ -20,12 +20,12 @@ use Rattle.name_faults.specs.Uses as uses
 use Rattle.name_faults.proofs.Rolls.{effect_roll}
 use Rattle.name_numbers.specs.declared.faults.Spot.{Spot}
 use Rattle.name_numbers.specs.Entered.{variables_of}
-use Rattle.bound_types.specs.Typed.{params_bound, params_faults}
-use Rattle.bound_formulas.specs.declared.known.Known.{Known}
-use Rattle.bound_formulas.specs.Atoms.{atom_bound}
-use Rattle.bound_formulas.specs.Formulas.{formula_bound, formula_faults}
-use Rattle.bound_formulas.specs.Effects.{effect_step, effect_bound, effect_faults_step, effect_faults}
-use Rattle.bound_formulas.proofs.Parts.{effect_level, effect_faults_level}
+use Rattle.bind_types.specs.Typed.{params_bound, params_faults}
+use Rattle.bind_formulas.specs.declared.known.Known.{Known}
+use Rattle.bind_formulas.specs.Atoms.{atom_bound}
+use Rattle.bind_formulas.specs.Formulas.{formula_bound, formula_faults}
+use Rattle.bind_formulas.specs.Effects.{effect_step, effect_bound, effect_faults_step, effect_faults}
+use Rattle.bind_formulas.proofs.Parts.{effect_level, effect_faults_level}
 use Rattle.binding_laws.specs.Known.{IsKnownOf, HasKnown}
 use Rattle.binding_laws.specs.Numbers.{words_of, AreKnown}
 use Rattle.binding_laws.specs.Formulas.{AreNumberedIn, IsEffectBound, OfAllKnown}

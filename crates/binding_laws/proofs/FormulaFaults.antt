@@ -19,10 +19,10 @@ use Rattle.name_numbers.specs.declared.faults.Spot.{Spot}
 use Rattle.name_numbers.specs.Entered.{variables_of}
 use Rattle.name_numbers.specs.Spots.{spot}
 use Rattle.name_numbers.specs.Terms.{term_faults}
-use Rattle.bound_types.specs.Typed.{params_faults}
-use Rattle.bound_formulas.specs.declared.known.Known.{Known}
-use Rattle.bound_formulas.specs.Formulas.{formula_faults_step, formula_faults}
-use Rattle.bound_formulas.proofs.Parts.{faults_level}
+use Rattle.bind_types.specs.Typed.{params_faults}
+use Rattle.bind_formulas.specs.declared.known.Known.{Known}
+use Rattle.bind_formulas.specs.Formulas.{formula_faults_step, formula_faults}
+use Rattle.bind_formulas.proofs.Parts.{faults_level}
 use Rattle.binding_laws.specs.Kinds.{IsKindFault}
 use Rattle.binding_laws.specs.Known.{IsKnownOf}
 use Rattle.binding_laws.specs.Numbers.{words_of, AreKnown}

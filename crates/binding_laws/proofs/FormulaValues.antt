@@ -22,11 +22,11 @@ use Rattle.name_faults.proofs.Rolls.{formula_roll}
 use Rattle.name_numbers.specs.declared.faults.Spot.{Spot}
 use Rattle.name_numbers.specs.Entered.{variables_of}
 use Rattle.name_numbers.specs.Terms.{term_bound, term_faults}
-use Rattle.bound_types.specs.Typed.{params_bound, params_faults}
-use Rattle.bound_formulas.specs.declared.known.Known.{Known}
-use Rattle.bound_formulas.specs.Atoms.{atom_bound}
-use Rattle.bound_formulas.specs.Formulas.{formula_step, formula_bound, formula_faults_step, formula_faults}
-use Rattle.bound_formulas.proofs.Parts.{formula_level, faults_level}
+use Rattle.bind_types.specs.Typed.{params_bound, params_faults}
+use Rattle.bind_formulas.specs.declared.known.Known.{Known}
+use Rattle.bind_formulas.specs.Atoms.{atom_bound}
+use Rattle.bind_formulas.specs.Formulas.{formula_step, formula_bound, formula_faults_step, formula_faults}
+use Rattle.bind_formulas.proofs.Parts.{formula_level, faults_level}
 use Rattle.binding_laws.specs.Kinds.{IsNumbered}
 use Rattle.binding_laws.specs.Known.{IsKnownOf, HasKnown}
 use Rattle.binding_laws.specs.Numbers.{words_of, AreKnown}

@@ -16,7 +16,7 @@ use Rattle.name_numbers.specs.declared.heads.Head.{Head}
 use Rattle.name_numbers.specs.Heads.{head_numbers, declared, next}
 use Rattle.name_numbers.specs.Places as numbers
 use Rattle.name_numbers.specs.Spots.{spot, IsInTextOrder}
-use Rattle.bound_formulas.specs.Atoms.{place_of, head_faults}
+use Rattle.bind_formulas.specs.Atoms.{place_of, head_faults}
 use Rattle.binding_laws.specs.Known.{head_of}
 use Rattle.binding_laws.proofs.Places.{same_number}
 

@@ -20,12 +20,12 @@ use Rattle.name_faults.proofs.Firsts.{one_cycle_is_a_fault}
 use Rattle.name_numbers.specs.declared.faults.Spot.{Spot}
 use Rattle.name_numbers.specs.Spots.{spot}
 use Rattle.name_numbers.specs.Terms.{term_faults, terms_faults}
-use Rattle.bound_networks.specs.Callables.{Declared}
-use Rattle.bound_networks.specs.Calls.{called, call_faults}
-use Rattle.bound_networks.specs.Cycle.{IsCycle, cycle_faults, limit_faults, order_faults}
-use Rattle.bound_networks.specs.Ids.{term_number, term_at, id_at, ids, second_ids}
-use Rattle.bound_networks.specs.Networks.{constraint_faults, child_faults, network_faults}
-use Rattle.bound_networks.specs.Pairs.{pair_faults}
+use Rattle.bind_networks.specs.Callables.{Declared}
+use Rattle.bind_networks.specs.Calls.{called, call_faults}
+use Rattle.bind_networks.specs.Cycle.{IsCycle, cycle_faults, limit_faults, order_faults}
+use Rattle.bind_networks.specs.Ids.{term_number, term_at, id_at, ids, second_ids}
+use Rattle.bind_networks.specs.Networks.{constraint_faults, child_faults, network_faults}
+use Rattle.bind_networks.specs.Pairs.{pair_faults}
 use Rattle.binding_laws.specs.Calls.{AreCallablesOf, OfAllCallables}
 use Rattle.binding_laws.specs.Kinds.{AreTermsIn}
 use Rattle.binding_laws.specs.Numbers.{words_of}

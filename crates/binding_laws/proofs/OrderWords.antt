@@ -18,9 +18,9 @@ use Rattle.name_faults.specs.Networks as words
 use Rattle.name_numbers.specs.declared.faults.Spot.{Spot}
 use Rattle.name_numbers.specs.Spots.{spot}
 use Rattle.name_numbers.specs.Terms.{unless_found}
-use Rattle.bound_networks.specs.Ids.{has_id, subtask_of}
-use Rattle.bound_networks.specs.Pairs.{pair_faults}
-use Rattle.bound_networks.specs.Cycle as numbers
+use Rattle.bind_networks.specs.Ids.{has_id, subtask_of}
+use Rattle.bind_networks.specs.Pairs.{pair_faults}
+use Rattle.bind_networks.specs.Cycle as numbers
 use Rattle.binding_laws.specs.Orders.{AreIdsIn, HasUnknownIds, HasCycle, HasLimit, OfAllNetworks}
 use Rattle.binding_laws.proofs.Lists.{append_there, append_left, append_right, flat_there, flat_back, unless_has}
 use Rattle.binding_laws.proofs.Places.{same_number}

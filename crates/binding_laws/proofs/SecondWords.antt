@@ -11,7 +11,7 @@ use Rattle.name_faults.specs.Words.{WordAt, IsSameEarlier}
 use Rattle.name_numbers.specs.declared.faults.Spot.{Spot}
 use Rattle.name_numbers.specs.Places as numbers
 use Rattle.name_numbers.specs.Spots.{spot, IsInTextOrder}
-use Rattle.bound_networks.specs.Seconds.{if_known, seconds}
+use Rattle.bind_networks.specs.Seconds.{if_known, seconds}
 use Rattle.binding_laws.specs.Numbers.{words_of, AreKnown}
 use Rattle.binding_laws.specs.Seconds.{declares_at, HasSeconds}
 use Rattle.binding_laws.proofs.Lists.{no_first, append_there, append_left, append_right}

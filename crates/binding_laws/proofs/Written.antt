@@ -17,7 +17,7 @@ use Rattle.name_faults.specs.Types.{IsType}
 use Rattle.name_faults.specs.Words.{term_word}
 use Rattle.name_numbers.specs.Places as numbers
 use Rattle.name_numbers.specs.Spots.{spot}
-use Rattle.bound_types.specs.Kinds.{Kinds, type_number, type_faults, kind_by, members_written, kind_bound, kind_faults}
+use Rattle.bind_types.specs.Kinds.{Kinds, type_number, type_faults, kind_by, members_written, kind_bound, kind_faults}
 use Rattle.binding_laws.specs.Numbers.{words_of}
 use Rattle.binding_laws.specs.Kinds.{AreTypesOf, HasKinds, AreTermsIn, IsKindFault, IsNumbered, HasKindFaults, IsKindBound, OfAllKinds}
 use Rattle.binding_laws.proofs.Places.{have_one_place}

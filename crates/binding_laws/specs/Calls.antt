@@ -14,8 +14,8 @@ use Rattle.name_faults.specs.Lists.{Has}
 use Rattle.name_faults.specs.Uses.{Scope, applies, subtask, task}
 use Rattle.name_faults.specs.Words.{callables, term_word}
 use Rattle.name_numbers.specs.Spots.{spot, IsInTextOrder}
-use Rattle.bound_networks.specs.Callables.{Declared, declared, heads}
-use Rattle.bound_networks.specs.Calls.{called, method_task, head_called, call_faults}
+use Rattle.bind_networks.specs.Callables.{Declared, declared, heads}
+use Rattle.bind_networks.specs.Calls.{called, method_task, head_called, call_faults}
 use Rattle.binding_laws.specs.Uses.{HasUseFault}
 
 abbrev pub offsets : List RawHead → List ℕ

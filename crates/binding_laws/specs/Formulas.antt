@@ -15,11 +15,11 @@ use Rattle.form_spellings.specs.InTable.{IsNameIn, IsFormulaIn, IsEffectIn}
 use Rattle.name_faults.specs.Lists.{Has}
 use Rattle.name_faults.specs.Uses.{Scope, Use, declares, predicate, IsOfAtom, InFormula, InEffect}
 use Rattle.name_numbers.specs.Spots.{spot}
-use Rattle.bound_types.specs.Kinds.{Kinds}
-use Rattle.bound_formulas.specs.declared.known.Known.{Known}
-use Rattle.bound_formulas.specs.Atoms.{atom_bound, atom_faults}
-use Rattle.bound_formulas.specs.Formulas.{formula_bound, formula_faults}
-use Rattle.bound_formulas.specs.Effects.{effect_bound, effect_faults}
+use Rattle.bind_types.specs.Kinds.{Kinds}
+use Rattle.bind_formulas.specs.declared.known.Known.{Known}
+use Rattle.bind_formulas.specs.Atoms.{atom_bound, atom_faults}
+use Rattle.bind_formulas.specs.Formulas.{formula_bound, formula_faults}
+use Rattle.bind_formulas.specs.Effects.{effect_bound, effect_faults}
 use Rattle.binding_laws.specs.Kinds.{IsNumbered}
 use Rattle.binding_laws.specs.Known.{IsKnownOf, HasKnown}
 use Rattle.binding_laws.specs.Numbers.{words_of, AreKnown}

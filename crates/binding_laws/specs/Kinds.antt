@@ -15,7 +15,7 @@ use Rattle.name_faults.specs.Lists.{One, Has}
 use Rattle.name_faults.specs.Types.{IsType}
 use Rattle.name_faults.specs.Words.{term_word}
 use Rattle.name_numbers.specs.Spots.{spot}
-use Rattle.bound_types.specs.Kinds.{Kinds, members_written, kind_bound, kind_faults}
+use Rattle.bind_types.specs.Kinds.{Kinds, members_written, kind_bound, kind_faults}
 use Rattle.binding_laws.specs.Numbers.{words_of, AreKnown}
 
 -- The types, by the numbers of their names in one table, are those of the domain.

@@ -12,7 +12,7 @@ use Rattle.form_spellings.specs.InTable.{IsIn}
 use Rattle.name_numbers.specs.declared.heads.Head.{Head}
 use Rattle.name_numbers.specs.Heads.{head_numbers}
 use Rattle.name_numbers.specs.Spots.{IsInTextOrder}
-use Rattle.bound_formulas.specs.declared.known.Known.{Known}
+use Rattle.bind_formulas.specs.declared.known.Known.{Known}
 use Rattle.binding_laws.specs.Kinds.{AreTypesOf, HasKinds}
 use Rattle.binding_laws.specs.Numbers.{words_of, AreKnown}
 

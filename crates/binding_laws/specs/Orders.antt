@@ -12,8 +12,8 @@ use Rattle.form_spellings.specs.InTable.{IsIn}
 use Rattle.name_faults.specs.Lists.{Has}
 use Rattle.name_faults.specs.Networks.{UnknownSubtaskId, CyclicOrder, TooManySubtasks}
 use Rattle.name_numbers.specs.Spots.{spot}
-use Rattle.bound_networks.specs.Pairs.{pair_faults}
-use Rattle.bound_networks.specs.Cycle as numbers
+use Rattle.bind_networks.specs.Pairs.{pair_faults}
+use Rattle.bind_networks.specs.Cycle as numbers
 
 -- The ids of subtasks, and those in pairs, have their words in the table.
 pub record AreIdsIn (names : Names) (n : RawNet) : Type 0 where

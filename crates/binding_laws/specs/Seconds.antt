@@ -11,7 +11,7 @@ use Rattle.hddl_reader.specs.declared.sections.RawMethod.{RawMethod}
 use Rattle.name_faults.specs.Lists.{Each, Has}
 use Rattle.name_faults.specs.Words.{WordAt, IsSecond}
 use Rattle.name_numbers.specs.Spots.{spot, IsInTextOrder}
-use Rattle.bound_networks.specs.Seconds.{seconds}
+use Rattle.bind_networks.specs.Seconds.{seconds}
 use Rattle.binding_laws.specs.Numbers.{words_of, AreKnown}
 
 module _ {X : Type 0} (number offset : X → ℕ) where

@@ -11,8 +11,8 @@ use Rattle.form_spellings.specs.Bound.{IsBoundParam, IsBoundObject}
 use Rattle.form_spellings.specs.InTable.{AreParamsIn}
 use Rattle.name_faults.specs.Lists.{One, Has}
 use Rattle.name_numbers.specs.Spots.{spot}
-use Rattle.bound_types.specs.Kinds.{Kinds}
-use Rattle.bound_types.specs.Typed.{params_bound, objects_bound, params_faults}
+use Rattle.bind_types.specs.Kinds.{Kinds}
+use Rattle.bind_types.specs.Typed.{params_bound, objects_bound, params_faults}
 use Rattle.binding_laws.specs.Kinds.{AreTypesOf, HasKinds, IsKindFault, IsNumbered}
 
 module _ (names : Names) (d : RawDomain) (kinds : Kinds) where

@@ -15,10 +15,10 @@ use Rattle.name_faults.specs.Networks as words
 use Rattle.name_faults.specs.Standing.{IsOfNetwork}
 use Rattle.name_faults.specs.Words.{IsSecond}
 use Rattle.name_numbers.specs.Spots.{spot}
-use Rattle.bound_networks.specs.Callables.{Declared}
-use Rattle.bound_networks.specs.Cycle.{IsCycle}
-use Rattle.bound_networks.specs.Ids.{term_number, term_at, ids}
-use Rattle.bound_networks.specs.Networks.{network_faults}
+use Rattle.bind_networks.specs.Callables.{Declared}
+use Rattle.bind_networks.specs.Cycle.{IsCycle}
+use Rattle.bind_networks.specs.Ids.{term_number, term_at, ids}
+use Rattle.bind_networks.specs.Networks.{network_faults}
 use Rattle.binding_laws.specs.Calls.{AreCallablesOf}
 use Rattle.binding_laws.specs.Numbers.{words_of}
 use Rattle.binding_laws.specs.Orders.{AreIdsIn}

@@ -1,6 +1,6 @@
 //! What binding says over the numbers of names is what is said in words: of its faults and of what it gives.
 //!
-//! Stands on the definitions of `name_numbers`, `bound_types`, `bound_formulas` and `bound_networks`, which speak of numbers, and on
+//! Stands on the definitions of `name_numbers`, `bind_types`, `bind_formulas` and `bind_networks`, which speak of numbers, and on
 //! those of `name_faults` and `form_spellings`, which speak of words; it has no code but laws. The contracts used above: the place
 //! of a number is that of its word (`numbers_are_words`); the faults of terms, written types and typed lists are the sentences on
 //! their words, and those of atoms, formulas and effects are the faults of what is declared and used in them; where there are none,

@@ -6,8 +6,8 @@ use Rattle.plan_texts.proofs.Together.{together-push}
 use Rattle.name_numbers.specs.declared.faults.Spot.{Spot}
 use Rattle.name_numbers.specs.Spots.{noted}
 use Rattle.name_numbers.proofs.Noted.{noted-append}
-use Rattle.bound_formulas.specs.declared.known.Known.{Known}
-use Rattle.bound_networks.specs.Callables.{Declared}
+use Rattle.bind_formulas.specs.declared.known.Known.{Known}
+use Rattle.bind_networks.specs.Callables.{Declared}
 use Rattle.hddl_reader.specs.declared.sections.RawMethod.{RawMethod}
 use Rattle.hddl_bind.specs.Methods.{IsCycleOf, method_faults, methods_faults, IsMethodNoted, AreMethodsNoted}
 

@@ -3,10 +3,10 @@
 use Rattle.std.specs.Prelude.{ℕ, List, ◌++◌, map, flat_map}
 use Rattle.name_numbers.specs.declared.faults.Spot.{Spot}
 use Rattle.name_numbers.specs.Entered.{variables_of}
-use Rattle.bound_types.specs.Typed.{params_bound, params_faults}
-use Rattle.bound_formulas.specs.declared.known.Known.{Known}
-use Rattle.bound_formulas.specs.Formulas.{formula_bound, formula_faults}
-use Rattle.bound_formulas.specs.Effects.{effect_bound, effect_faults}
+use Rattle.bind_types.specs.Typed.{params_bound, params_faults}
+use Rattle.bind_formulas.specs.declared.known.Known.{Known}
+use Rattle.bind_formulas.specs.Formulas.{formula_bound, formula_faults}
+use Rattle.bind_formulas.specs.Effects.{effect_bound, effect_faults}
 use Rattle.hddl_reader.specs.declared.sections.RawHead.{RawHead}
 use Rattle.hddl_reader.specs.declared.sections.RawAction.{RawAction}
 use Rattle.plan_model.specs.declared.schemas.ActionSchema.{ActionSchema}

@@ -7,10 +7,10 @@ use Rattle.gd_reader.specs.declared.typed_lists.RawParam.{RawParam}
 use Rattle.hddl_reader.specs.declared.sections.RawDomain.{RawDomain}
 use Rattle.hddl_reader.specs.declared.sections.RawHead.{RawHead}
 use Rattle.hddl_reader.specs.declared.sections.RawMethod.{RawMethod}
-use Rattle.bound_types.specs.Kinds.{Kinds}
-use Rattle.bound_formulas.specs.declared.known.Known.{Known}
-use Rattle.bound_networks.specs.Callables.{declared, second_callables}
-use Rattle.bound_networks.specs.Seconds.{seconds}
+use Rattle.bind_types.specs.Kinds.{Kinds}
+use Rattle.bind_formulas.specs.declared.known.Known.{Known}
+use Rattle.bind_networks.specs.Callables.{declared, second_callables}
+use Rattle.bind_networks.specs.Seconds.{seconds}
 
 -- the objects of a list, by the numbers of their names
 abbrev pub objects_declared : List RawParam → List ℕ

@@ -3,10 +3,10 @@ use Rattle.std.specs.Prelude.{ℕ, ◌≡◌, true, List, ◌++◌, Option}
 use Rattle.plan_texts.specs.Together.{Together}
 use Rattle.name_numbers.specs.declared.faults.Spot.{Spot}
 use Rattle.name_numbers.specs.Spots.{noted}
-use Rattle.bound_types.specs.Kinds.{Kinds}
-use Rattle.bound_types.specs.Typed.{objects_bound, params_faults}
-use Rattle.bound_formulas.specs.declared.known.Known.{Known}
-use Rattle.bound_networks.specs.Callables.{Declared}
+use Rattle.bind_types.specs.Kinds.{Kinds}
+use Rattle.bind_types.specs.Typed.{objects_bound, params_faults}
+use Rattle.bind_formulas.specs.declared.known.Known.{Known}
+use Rattle.bind_networks.specs.Callables.{Declared}
 use Rattle.plan_model.specs.declared.schemas.ActionSchema.{ActionSchema}
 use Rattle.plan_model.specs.declared.schemas.MethodSchema.{MethodSchema}
 use Rattle.hddl_reader.specs.declared.sections.RawDomain.{RawDomain}

@@ -4,9 +4,9 @@ use Rattle.std.specs.Prelude.{List, [], map, flat_map}
 use Rattle.name_numbers.specs.declared.faults.Spot.{Spot}
 use Rattle.gd_reader.specs.declared.term.RawAtom.{RawAtom}
 use Rattle.plan_model.specs.declared.terms.GroundAtom.{GroundAtom}
-use Rattle.bound_formulas.specs.declared.known.Known.{Known}
-use Rattle.bound_formulas.specs.Atoms.{atom_faults}
-use Rattle.bound_formulas.specs.Facts.{fact_bound}
+use Rattle.bind_formulas.specs.declared.known.Known.{Known}
+use Rattle.bind_formulas.specs.Atoms.{atom_faults}
+use Rattle.bind_formulas.specs.Facts.{fact_bound}
 
 module _ (known : Known) where
   abbrev pub facts_bound : List RawAtom → List GroundAtom

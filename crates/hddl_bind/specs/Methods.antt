@@ -6,14 +6,14 @@ use Rattle.plan_texts.specs.Together.{Together}
 use Rattle.name_numbers.specs.declared.faults.Spot.{Spot}
 use Rattle.name_numbers.specs.Spots.{noted}
 use Rattle.name_numbers.specs.Terms.{terms_bound, terms_faults}
-use Rattle.bound_types.specs.Typed.{params_bound, params_faults}
-use Rattle.bound_formulas.specs.declared.known.Known.{Known}
-use Rattle.bound_formulas.specs.Formulas.{formula_bound, formula_faults}
-use Rattle.bound_networks.specs.declared.networks.BoundNet.{BoundNet}
-use Rattle.bound_networks.specs.Callables.{Declared}
-use Rattle.bound_networks.specs.Calls.{method_task, head_called, task_number, call_faults}
-use Rattle.bound_networks.specs.Cycle.{IsCycle}
-use Rattle.bound_networks.specs.Networks.{network_bound, network_faults}
+use Rattle.bind_types.specs.Typed.{params_bound, params_faults}
+use Rattle.bind_formulas.specs.declared.known.Known.{Known}
+use Rattle.bind_formulas.specs.Formulas.{formula_bound, formula_faults}
+use Rattle.bind_networks.specs.declared.networks.BoundNet.{BoundNet}
+use Rattle.bind_networks.specs.Callables.{Declared}
+use Rattle.bind_networks.specs.Calls.{method_task, head_called, task_number, call_faults}
+use Rattle.bind_networks.specs.Cycle.{IsCycle}
+use Rattle.bind_networks.specs.Networks.{network_bound, network_faults}
 use Rattle.gd_reader.specs.declared.term.RawAtom.{RawAtom}
 use Rattle.hddl_reader.specs.declared.sections.RawMethod.{RawMethod}
 use Rattle.plan_model.specs.declared.schemas.MethodSchema.{MethodSchema}

@@ -5,12 +5,12 @@ use Rattle.htn_base.specs.declared.name.Name.{Name}
 use Rattle.name_numbers.specs.declared.faults.Spot.{Spot}
 use Rattle.name_numbers.specs.Entered.{variables_of}
 use Rattle.name_numbers.specs.Spots.{noted}
-use Rattle.bound_types.specs.Typed.{objects_bound, params_bound, params_faults}
-use Rattle.bound_formulas.specs.declared.known.Known.{Known}
-use Rattle.bound_formulas.specs.Formulas.{formula_bound, formula_faults}
-use Rattle.bound_networks.specs.Callables.{Declared}
-use Rattle.bound_networks.specs.Cycle.{IsCycle}
-use Rattle.bound_networks.specs.Networks.{network_bound, network_faults}
+use Rattle.bind_types.specs.Typed.{objects_bound, params_bound, params_faults}
+use Rattle.bind_formulas.specs.declared.known.Known.{Known}
+use Rattle.bind_formulas.specs.Formulas.{formula_bound, formula_faults}
+use Rattle.bind_networks.specs.Callables.{Declared}
+use Rattle.bind_networks.specs.Cycle.{IsCycle}
+use Rattle.bind_networks.specs.Networks.{network_bound, network_faults}
 use Rattle.hddl_reader.specs.declared.sections.RawProblem.{RawProblem}
 use Rattle.plan_model.specs.declared.formulas.Formula.TheVariants.{And}
 use Rattle.plan_model.specs.declared.schemas.MethodSchema.{MethodSchema}

@@ -2,8 +2,8 @@
 -- Source: Höller et al., "HDDL", AAAI 2020, which declares tasks as PDDL does predicates.
 use Rattle.std.specs.Prelude.{List, map, flat_map}
 use Rattle.name_numbers.specs.declared.faults.Spot.{Spot}
-use Rattle.bound_types.specs.Kinds.{Kinds}
-use Rattle.bound_types.specs.Typed.{params_bound, params_faults}
+use Rattle.bind_types.specs.Kinds.{Kinds}
+use Rattle.bind_types.specs.Typed.{params_bound, params_faults}
 use Rattle.hddl_reader.specs.declared.sections.RawHead.{RawHead}
 use Rattle.plan_model.specs.declared.schemas.Predicate.{Predicate}
 use Rattle.plan_model.specs.declared.schemas.TaskSchema.{TaskSchema}

@@ -3,8 +3,8 @@ ghost use Rattle.name_numbers.specs.Entered.{variables_of};
 ghost use Rattle.name_numbers.specs.Spots.{noted};
 ghost use Rattle.hddl_bind.specs.Actions.{action_bound, actions_bound, action_faults, actions_faults};
 
-use bound_formulas::{Known, effect_of, formula_of};
-use bound_types::params_of;
+use bind_formulas::{Known, effect_of, formula_of};
+use bind_types::params_of;
 use gd_reader::RawParam;
 use hddl_reader::RawAction;
 use htn_base::{List, Memory};

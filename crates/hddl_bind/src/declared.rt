@@ -1,9 +1,9 @@
 ghost use Rattle.std.specs.Prelude.{◌≡◌, [], IfOk, OnOk};
 ghost use Rattle.name_numbers.specs.Spots.{noted};
-ghost use Rattle.bound_networks.specs.Seconds.{seconds};
+ghost use Rattle.bind_networks.specs.Seconds.{seconds};
 ghost use Rattle.hddl_bind.specs.DeclaredNames.{heads_declared, second_heads};
 
-use bound_networks::{Declares, seconds_of};
+use bind_networks::{Declares, seconds_of};
 use hddl_reader::RawHead;
 use htn_base::{Memory, number};
 use name_numbers::{Faults, Head, Heads, Places};

@@ -1,12 +1,12 @@
 ghost use Rattle.std.specs.Prelude.{◌≡◌, IfOk, OnOk};
 ghost use Rattle.name_numbers.specs.Spots.{noted};
-ghost use Rattle.bound_networks.specs.Callables.{declared};
+ghost use Rattle.bind_networks.specs.Callables.{declared};
 ghost use Rattle.hddl_bind.specs.DeclaredNames.{objects_declared, heads_declared, known_in, second_names};
 
 use crate::declared::{note_seconds, predicates_declared};
-use bound_formulas::Known;
-use bound_networks::{Callables, seconds_of};
-use bound_types::TypeTable;
+use bind_formulas::Known;
+use bind_networks::{Callables, seconds_of};
+use bind_types::TypeTable;
 use hddl_reader::RawDomain;
 use htn_base::Memory;
 use name_numbers::{Faults, Heads, Places};

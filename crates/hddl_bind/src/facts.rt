@@ -2,7 +2,7 @@ ghost use Rattle.std.specs.Prelude.{◌≡◌, IfOk, OnOk};
 ghost use Rattle.name_numbers.specs.Spots.{noted};
 ghost use Rattle.hddl_bind.specs.Facts.{facts_bound, facts_faults};
 
-use bound_formulas::{Known, fact_of};
+use bind_formulas::{Known, fact_of};
 use gd_reader::RawAtom;
 use htn_base::{List, Memory};
 use name_numbers::Faults;

@@ -2,7 +2,7 @@ ghost use Rattle.std.specs.Prelude.{◌≡◌, IfOk, OnOk};
 ghost use Rattle.name_numbers.specs.Spots.{noted};
 ghost use Rattle.hddl_bind.specs.Schemas.{predicates_bound, tasks_bound, heads_faults};
 
-use bound_types::{TypeTable, params_of};
+use bind_types::{TypeTable, params_of};
 use hddl_reader::RawHead;
 use htn_base::{List, Memory};
 use name_numbers::Faults;

@@ -1,7 +1,7 @@
 //! The schemas and facts of a domain and a problem with the numbers of what their names stand for.
 //!
-//! Stands on `htn_base`, on the raw texts of `hddl_reader` and on the values of `plan_model`, and on `name_numbers`, `bound_types`,
-//! `bound_formulas` and `bound_networks` for what is declared and for the parts. The contracts used above: predicates, tasks,
+//! Stands on `htn_base`, on the raw texts of `hddl_reader` and on the values of `plan_model`, and on `name_numbers`, `bind_types`,
+//! `bind_formulas` and `bind_networks` for what is declared and for the parts. The contracts used above: predicates, tasks,
 //! actions, methods and facts are bound to what stands for them, and the faults of their names are noted (`predicates_of`,
 //! `tasks_of`, `actions_of`, `methods_of`, `facts_of`), and so are all that a domain declares but its types (`schemas_of`) and what
 //! a problem says beyond its domain (`parts_of`); names that are declared again are noted where the tables of names are made

@@ -4,9 +4,9 @@ ghost use Rattle.hddl_bind.specs.Actions.{scope_of};
 ghost use Rattle.hddl_bind.specs.Methods as spec;
 
 use crate::actions::enter_alone;
-use bound_formulas::{Known, formula_of};
-use bound_networks::{BoundNet, Callables, network_of, task_of_method};
-use bound_types::params_of;
+use bind_formulas::{Known, formula_of};
+use bind_networks::{BoundNet, Callables, network_of, task_of_method};
+use bind_types::params_of;
 use hddl_reader::RawMethod;
 use htn_base::{List, Memory, Name};
 use name_numbers::{Faults, Places, Variables, terms_of};

@@ -1,7 +1,7 @@
 use Rattle.std.proofs.Common.{[]}
-use Rattle.bound_formulas.specs.Atoms.{atom_faults}
-use Rattle.bound_formulas.specs.Facts.{fact_bound}
-use Rattle.bound_networks.proofs.Steps.{noted_step, map_step, put_is, if_put}
+use Rattle.bind_formulas.specs.Atoms.{atom_faults}
+use Rattle.bind_formulas.specs.Facts.{fact_bound}
+use Rattle.bind_networks.proofs.Steps.{noted_step, map_step, put_is, if_put}
 use Rattle.hddl_bind.proofs.facts.facts_of.Goals as goal
 
 pub loop-fact-preserved : goal.loop-fact-preserved

@@ -1,0 +1,12 @@
+use Rattle.std.proofs.Common.{◌≡◌, [], map, take}
+use Rattle.std.specs.Prelude.{flat_map}
+use Rattle.name_numbers.specs.Spots.{noted}
+use Rattle.name_numbers.specs.Terms.{term_faults}
+use Rattle.bind_formulas.specs.Facts.{object_bound}
+use Rattle.bind_formulas.proofs.facts.fact_of.Given as goal
+
+abbrev pub invariant-loop-term : goal.invariant-loop-term
+invariant-loop-term l = record {
+  bound : l.args ≡ map (object_bound l.known.objects) (take l.term-index l.fact.args);
+  faults : l.faults.least ≡ noted l.initial.faults.least (flat_map (term_faults l.known.objects []) (take l.term-index l.fact.args));
+}

@@ -1,0 +1,44 @@
+ghost use Rattle.std.specs.Prelude.{◌≡◌, [], IfOk, OnOk};
+ghost use Rattle.name_numbers.specs.Spots.{noted};
+ghost use Rattle.name_numbers.specs.Terms.{term_faults};
+ghost use Rattle.bind_formulas.specs.Atoms.{atom_faults};
+ghost use Rattle.bind_formulas.specs.Facts.{object_bound, fact_bound};
+
+use crate::atoms::predicate_of;
+use crate::known::Known;
+use gd_reader::{RawAtom, RawTerm};
+use htn_base::{List, Memory};
+use name_numbers::{Faults, Places, found_or_noted};
+use plan_model::GroundAtom;
+use std::alloc::Global;
+
+/// What a fact stands for, where no variable is in force. Faults: those of the atom, so 16 at each variable.
+pub fn fact_of(
+    alloc: Global,
+    known: &Known,
+    fact: &RawAtom,
+    faults: &mut Faults,
+) -> Result<GroundAtom, Memory>
+    ensures bound { IfOk result (λ bound. bound ≡ fact_bound known.now fact.now) }
+    ensures faults { OnOk result
+        (faults.new.least ≡ noted faults.old.least (atom_faults known.now [] fact.now)) }
+{
+    let predicate = predicate_of(&known.predicates, fact.head, fact.args.len(), faults);
+    let mut args = List::new(alloc);
+    for term in fact.args.as_slice() {
+        args.push(object_of(&known.objects, *term, faults))?;
+    }
+    Ok(GroundAtom { predicate, args })
+}
+
+/// The object of this name.
+fn object_of(objects: &Places, term: RawTerm, faults: &mut Faults) -> u32
+    ensures bound { result ≡ object_bound objects.now term }
+    ensures faults { faults.new.least ≡ noted faults.old.least (term_faults objects.now [] term) }
+{
+    if term.variable {
+        faults.note(term.at, 16);
+        return 0;
+    }
+    found_or_noted(objects.get(term.name), 15, term.at, faults)
+}

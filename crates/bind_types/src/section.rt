@@ -1,0 +1,85 @@
+ghost use Rattle.std.specs.Prelude.{◌≡◌, ◌≤◌, MatchOption, IfOk, OnOk};
+ghost use Rattle.bind_types.specs.TooMany.{HaveOneWordAPlace, IsTooManyTypes, NotesLeast, NoneIsOfType, IsFirstOfType};
+ghost use Rattle.bind_types.specs.Mentions.{mentioned, AreInTextOrder, AreTypesOf, types_in_order};
+
+use gd_reader::{RawParam, RawTerm};
+use htn_base::{List, Memory, Name};
+use name_numbers::{Faults, Places};
+use std::alloc::Global;
+
+/// `object`, and the types of a section of types in the order in which the text first names them, be it as a parent alone. The
+/// first word of the type that is one more than `most` other than `object` is a fault of code 22.
+pub fn types_in_order(
+    alloc: Global,
+    object: Name,
+    most: u32,
+    listed: &List<RawParam>,
+    faults: &mut Faults,
+) -> Result<Places, Memory>
+    requires few { most ≤ 4096 }
+    requires words { HaveOneWordAPlace (mentioned listed.now) }
+    ensures types { IfOk result (AreTypesOf object.number listed.now) }
+    ensures faults { OnOk result (NotesLeast (IsTooManyTypes most object.number listed.now)
+        faults.old.least faults.new.least) }
+{
+    let words = words_in_order(alloc, listed)?;
+    let types = declared(alloc, object, words.as_slice())?;
+    if let Some(at) = first_of_type(&types, most + 1, words.as_slice()) {
+        faults.note(at, 22);
+    }
+    Ok(types)
+}
+
+/// The words of a section of types in the order of the text.
+fn words_in_order(alloc: Global, listed: &List<RawParam>) -> Result<Vec<RawTerm>, Memory>
+    ensures words { IfOk result (λ words. AreInTextOrder listed.now words.items) }
+{
+    let mut words = words_of(alloc, listed)?;
+    words.sort_by_key(|word| word.at)?;
+    Ok(words)
+}
+
+/// Each word of a section of types.
+fn words_of(alloc: Global, listed: &List<RawParam>) -> Result<Vec<RawTerm>, Memory>
+    ensures words { IfOk result (λ words. words.items ≡ mentioned listed.now) }
+{
+    let mut words = Vec::new(alloc);
+    for item in listed.as_slice() {
+        words.push(RawTerm {
+            name: item.name,
+            variable: false,
+            at: item.at,
+        })?;
+        words.extend_from_slice(item.ty.as_slice())?;
+    }
+    Ok(words)
+}
+
+/// `object`, and the others as these words first name them.
+fn declared(alloc: Global, object: Name, words: &[RawTerm]) -> Result<Places, Memory>
+    ensures types { IfOk result (λ types. types ≡ types_in_order object.number words.now) }
+{
+    let mut types = Places::new(alloc);
+    types.declare(object)?;
+    for word in words {
+        if types.get(word.name).is_none() {
+            types.declare(word.name)?;
+        }
+    }
+    Ok(types)
+}
+
+/// The offset of the first word that has this place among the types.
+fn first_of_type(types: &Places, place: u32, words: &[RawTerm]) -> Option<u32>
+    ensures first { MatchOption result (NoneIsOfType types.now place words.now)
+        (IsFirstOfType types.now place words.now) }
+{
+    for word in words {
+        if let Some(found) = types.get(word.name) {
+            if found == place {
+                return Some(word.at);
+            }
+        }
+    }
+    None
+}

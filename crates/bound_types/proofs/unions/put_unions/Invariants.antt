@@ -1,6 +1,0 @@
-use Rattle.std.proofs.Common.{◌≡◌, ◌++◌, take}
-use Rattle.bound_types.specs.Unions.{params_unions}
-use Rattle.bound_types.proofs.unions.put_unions.Given as goal
-
-abbrev pub invariant-loop-param : goal.invariant-loop-param
-invariant-loop-param l = l.into.items ≡ l.fn.into.items ++ params_unions l.table (take l.param-index l.params)
