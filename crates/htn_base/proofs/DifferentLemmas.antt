@@ -1,7 +1,7 @@
 -- Lists of different elements: one element, one more, and parts.
-use Rattle.std.proofs.Common.{zero, suc, ◌≡◌, ◌≢◌, inl, inr, List, [], ◌∷◌, ◌++◌, sym, ◌∙◌, Contains, arith}
+use Rattle.std.proofs.Common.{ℕ, zero, suc, ◌≢◌, inl, inr, List, [], ◌∷◌, ◌++◌, take, drop, sym, ◌∙◌, subst, Contains, arith}
 use Rattle.std.specs.List.{AllPairs}
-use Rattle.std.proofs.lemmas.List.{get_or_default}
+use Rattle.std.proofs.lemmas.List.{get_or_default, take-append-drop}
 use Rattle.std.proofs.lemmas.List.Elements.{Contains-append_left, Contains-append_cases}
 use Rattle.htn_base.specs.Different.{AreDifferent}
 
@@ -25,6 +25,9 @@ different-left (x ∷ xs) ys d = (λ c. d.0 (Contains-append_left xs ys x c), di
 pub different-right : {A : Type 0} (xs ys : List A) → AreDifferent (xs ++ ys) → AreDifferent ys
 different-right [] ys d = d
 different-right (x ∷ xs) ys d = different-right xs ys d.1
+
+pub different-take : {A : Type 0} (n : ℕ) (xs : List A) → AreDifferent xs → AreDifferent (take n xs)
+different-take n xs d = different-left (take n xs) (drop n xs) (subst AreDifferent (sym (take-append-drop n xs)) d)
 
 -- of two places
 pub different-places : {A : Type 0} (xs : List A) → AreDifferent xs → AllPairs (λ one other. one ≢ other) xs

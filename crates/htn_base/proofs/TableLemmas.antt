@@ -1,12 +1,14 @@
 -- A name table keeps each word in a vector of its own: what the set says of the vectors, said of the words.
-use Rattle.std.proofs.Common.{◌≡◌, ℕ, ◌+◌, ◌-◌, ◌<◌, ◌^◌, List, [], ◌∷◌, ◌++◌, length, map, Bool, true, false, cond, not, ◌||◌, Some, None, position, nat_lt, nat_eq, refl, sym, ap, subst, Contains, ◌∙◌, arith, true≢false}
+use Rattle.std.proofs.Common.{◌≡◌, ℕ, ◌+◌, ◌-◌, ◌<◌, ◌^◌, List, [], ◌∷◌, ◌++◌, length, map, Bool, true, false, cond, not, ◌||◌, Some, None, position, nat_lt, nat_eq, refl, sym, ap, subst, Contains, ◌∙◌, arith, true≢false, take, get_or}
 use Rattle.std.specs.List.{list_any, position_or_len, prefix_len}
 use Rattle.std.specs.Str.{bytes_eq}
 use Rattle.std.specs.declared.vec.Vec.{Vec}
 use Rattle.std.specs.Cmp.Lexicographic.{pointwise}
 use Rattle.std.proofs.lemmas.Bool.{lt-ltb}
-use Rattle.std.proofs.lemmas.List.{length-map, length-append, map-append}
-use Rattle.std.proofs.lemmas.List.Elements.{All-push}
+use Rattle.std.proofs.lemmas.List.{length-map, length-append, length-take, map-append}
+use Rattle.std.proofs.Math.Nat.{min-le_right}
+use Rattle.std.proofs.lemmas.List.Elements.{All-push, All-take, All-get_or}
+use Rattle.std.proofs.lemmas.List.Quantifiers.{position-Some}
 use Rattle.std.proofs.lemmas.List.Folds.{list_any_at}
 use Rattle.std.proofs.lemmas.List.Sums.{prefix_len-le-length}
 use Rattle.std.proofs.lemmas.Slice.Eq.{bytes_eq-Decides}
@@ -14,7 +16,7 @@ use Rattle.std.proofs.lemmas.Str.Ascii.{lowercase-lowercase}
 use Rattle.indexmap.specs.IndexSet.{insert_key}
 use Rattle.htn_base.specs.Words.{folded, IsFolded}
 use Rattle.htn_base.specs.Table.{words_of, number_of, with_word, IsTable}
-use Rattle.htn_base.proofs.DifferentLemmas.{different-push}
+use Rattle.htn_base.proofs.DifferentLemmas.{different-push, different-take}
 
 module _ {X Y : Type 0} (view : X → Y) (test : Y → Bool) where
   list_any-map : (xs : List X) → list_any test (map view xs) ≡ list_any (λ x. test (view x)) xs
@@ -78,6 +80,29 @@ module _ {X : Type 0} (test : X → Bool) (new : X) (passes : test new ≡ true)
           let long = length-append xs (new ∷ []) in
           let below : position_or_len test (xs ++ new ∷ []) < length (xs ++ new ∷ []) = omega arith in
           position-at (xs ++ new ∷ []) below ∙ ap Some place
+
+-- a word that has a number in a table is in lower case, and putting it there changes nothing
+module _ (words : List (List ℕ)) (word : List ℕ) (table : IsTable words) (n : ℕ) (known : number_of words word ≡ Some n) where
+  stands : (n < length words) × (word ≡ get_or words n word)
+  stands = let found = position-Some (bytes_eq word) words n word known in (found.0, (bytes_eq-Decides word _).0 found.1)
+
+  pub known-folded : folded word ≡ word
+  known-folded = subst IsFolded (sym stands.1) (All-get_or IsFolded words n word stands.0 table.folded)
+
+  pub known-number : number_of words (folded word) ≡ Some n
+  known-number = ap (number_of words) known-folded ∙ known
+
+  pub known-same : with_word words (folded word) ≡ words
+  known-same = ap (with_word words) known-folded ∙ ap (λ there. cond there words (words ++ word ∷ []))
+      (list_any_at (bytes_eq word) words n word stands.0 ((bytes_eq-Decides word _).1 stands.1))
+
+-- the first words of a table are a table
+pub IsTable-take : (n : ℕ) (words : List (List ℕ)) → IsTable words → IsTable (take n words)
+IsTable-take n words table = record {
+  differ = different-take n words table.differ;
+  folded = All-take IsFolded n words table.folded;
+  short = let short = table.short in omega (arith, length-take n words, min-le_right n (length words));
+}
 
 -- the number of a word in the table that has it
 number_of-with_word : (words : List (List ℕ)) (word : List ℕ) → number_of (with_word words word) word ≡ Some (position_or_len (bytes_eq word) words)

@@ -1,10 +1,10 @@
 -- The words of a name table, in the order in which they were first seen. A word's number is its place from 0.
-use Rattle.std.specs.Prelude.{ℕ, ◌<◌, ◌^◌, List, [], ◌∷◌, ◌++◌, length, map, Option, All, position, if◌then◌else◌}
+use Rattle.std.specs.Prelude.{ℕ, ◌≡◌, ◌<◌, ◌^◌, List, [], ◌∷◌, ◌++◌, length, map, Option, Some, All, position, if◌then◌else◌}
 use Rattle.std.specs.List.{list_any}
 use Rattle.std.specs.Str.{bytes_eq}
 use Rattle.std.specs.declared.vec.Vec.{Vec}
 use Rattle.htn_base.specs.Different.{AreDifferent}
-use Rattle.htn_base.specs.Words.{IsFolded}
+use Rattle.htn_base.specs.Words.{folded, IsFolded}
 
 -- the words of stored vectors
 abbrev pub words_of : {A : Type 0} → List (Vec ℕ A) → List (List ℕ)
@@ -23,3 +23,8 @@ pub record IsTable (words : List (List ℕ)) : Type 0 where
   pub differ : AreDifferent words
   pub folded : All IsFolded words
   pub short : length words < 2 ^ 32
+
+-- A word that has this number already, in lower case, so that putting it among the words changes nothing.
+pub record IsKnown (words : List (List ℕ)) (word : List ℕ) (place : ℕ) : Type 0 where
+  pub number : number_of words (folded word) ≡ Some place
+  pub same : with_word words (folded word) ≡ words

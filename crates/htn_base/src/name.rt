@@ -1,4 +1,4 @@
-ghost use Rattle.std.specs.Prelude.{◌≡◌, [], length, slice_get, IfOk, OnOk, OnErr, Some};
+ghost use Rattle.std.specs.Prelude.{◌≡◌, [], length, slice_get, take, IfOk, IfSome, OnOk, OnErr, Some};
 ghost use Rattle.std.specs.Option.{option_copied, option_map};
 ghost use Rattle.htn_base.specs.Words.{folded};
 
@@ -35,7 +35,7 @@ impl Model for NameTable {
 
 impl NameTable {
     ghost use Rattle.htn_base.specs.Words.{folded};
-    ghost use Rattle.htn_base.specs.Table.{number_of, with_word, IsTable};
+    ghost use Rattle.htn_base.specs.Table.{number_of, with_word, IsKnown, IsTable};
 
     /// A table of no words. It takes no memory yet.
     pub fn new(alloc: Global) -> NameTable
@@ -62,6 +62,9 @@ impl NameTable {
         ensures unchanged { OnErr result (self.new ≡ self.old) }
         ensures sound { IsTable self.new }
     {
+        if let Some(name) = self.known(word) {
+            return Ok(name);
+        }
         if self.len() >= MOST_WORDS {
             return Err(Memory);
         }
@@ -70,6 +73,21 @@ impl NameTable {
         Ok(Name {
             number: place as u32,
         })
+    }
+
+    // The name of a word that is there, if it is written in lower case: nothing is copied for it.
+    fn known(&self, word: &[u8]) -> Option<Name>
+        ensures known { IfSome result (λ n. IsKnown self.now word.now n.number) }
+    {
+        self.find(word)
+    }
+
+    /// Forgets all words but the first ones, `len` of them or all. Each of these keeps its number.
+    pub fn truncate(&mut self, len: usize)
+        ensures words { self.new ≡ take len self.old }
+        ensures sound { IsTable self.new }
+    {
+        self.words.truncate(len);
     }
 
     /// The name of the word as it is given, without folding. `None` exactly where it is not there.

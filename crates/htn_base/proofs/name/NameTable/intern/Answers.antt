@@ -1,6 +1,9 @@
-use Rattle.std.proofs.Common.{◌-◌, ◌<◌, ◌^◌, length, arith}
+use Rattle.std.proofs.Common.{sym, ◌-◌, ◌<◌, ◌^◌, length, arith}
 use Rattle.htn_base.proofs.TableLemmas.{words_after, number_after, table_after, IsFolded-folded}
 use Rattle.htn_base.proofs.name.NameTable.intern.Goals as goal
+
+pub returns-in-Some-clause-words : goal.returns-in-Some-clause-words
+returns-in-Some-clause-words c = let known = c.in-Some.ensures.known in sym known.same
 
 pub returns-clause-words : goal.returns-clause-words
 returns-clause-words c = words_after _ _ _ _ _ c.in_ok-place.ensures.keys c.self.view_is c.in_ok-word.ensures
