@@ -65,4 +65,5 @@ mod TextsExact
 mod NetworksRead
 mod SchemasRead
 mod TextsRead
+pub mod order
 pub mod examples

@@ -20,3 +20,7 @@ pub mod BoundTexts
 pub mod ReadNetworks
 pub mod ReadSchemas
 pub mod ReadTexts
+pub mod OneWord
+pub mod Rising
+pub mod EachList
+pub mod InOrder

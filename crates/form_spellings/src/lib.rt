@@ -7,7 +7,8 @@
 //! once its names are bound, is spelled by the parts from which it was read (`what_is_read_is_spelled`), and these parts spell nothing
 //! else (`what_is_spelled_is_read`); the same holds of the parts of networks (`networks_spell_what_is_bound`), of schemas
 //! (`schemas_spell_what_is_bound`) and of the whole texts of an HDDL domain and problem (`texts_spell_what_is_bound`); its names
-//! stand in the name table (`names_stand_in_the_table`), and its offsets are those of tokens (`places_are_those_of_tokens`).
+//! stand in the name table (`names_stand_in_the_table`), its offsets are those of tokens (`places_are_those_of_tokens`), one word at
+//! each (`one_word_stands_at_one_offset`), and its lists stand in the order of the text (`what_is_read_is_in_order`).
 #![tactic(auto)]
 
 mod bound;
@@ -15,6 +16,7 @@ mod laws;
 mod names;
 mod places;
 mod read;
+mod rising;
 
 pub use bound::{
     networks_spell_what_is_bound, schemas_spell_what_is_bound, texts_spell_what_is_bound,
@@ -26,3 +28,4 @@ pub use laws::{
 pub use names::names_stand_in_the_table;
 pub use places::places_are_those_of_tokens;
 pub use read::{what_is_read_is_spelled, what_is_spelled_is_read};
+pub use rising::{one_word_stands_at_one_offset, what_is_read_is_in_order};
