@@ -9,6 +9,7 @@
 #![tactic(auto)]
 
 mod plan_laws;
+mod print_laws;
 mod row_laws;
 mod text_laws;
 mod value_laws;
@@ -16,6 +17,9 @@ mod value_laws;
 pub use plan_laws::{
     executables_spell_fronts, plans_spell_solutions, spellings_fit_slots, texts_are_faithful,
     texts_lose_nothing, value_is_faithful,
+};
+pub use print_laws::{
+    encoded_values_say_the_same, one_compiled_value, one_pair_of_texts, texts_are_what_is_said,
 };
 pub use row_laws::{calls_itself_has_no_plan, smallest_has_one_plan};
 pub use text_laws::{

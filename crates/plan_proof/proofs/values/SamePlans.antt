@@ -38,7 +38,7 @@ use Rattle.plan_proof.proofs.values.TypeNumbers.{AreApart}
 use Rattle.plan_proof.proofs.values.SameSound.{params-length}
 use Rattle.plan_proof.proofs.values.SameTypes.{is_a-same, in_same, counts, types-of}
 
-bool_same : (a b : Bool) → (IsTrue a → IsTrue b) → (IsTrue b → IsTrue a) → a ≡ b
+pub bool_same : (a b : Bool) → (IsTrue a → IsTrue b) → (IsTrue b → IsTrue a) → a ≡ b
 bool_same true true f g = refl
 bool_same false false f g = refl
 bool_same true false f g = sym (f refl)
@@ -59,7 +59,7 @@ module _ {A : Type 0} (P Q : A → Type 0) (to : (x : A) → P x → Q x) (from 
   keeps-more (x ∷ xs) ks (inr (n, k)) = inr (λ q. n (from x q), keeps-more xs ks k)
 
 -- the line of a list of children
-line-same : (Pair : ℕ → ℕ → Type 0) (xs : List Child) (line other : List ℕ) → IsLine Pair (length xs) line → IsLine Pair (length xs) other → line ≡ other
+pub line-same : (Pair : ℕ → ℕ → Type 0) (xs : List Child) (line other : List ℕ) → IsLine Pair (length xs) line → IsLine Pair (length xs) other → line ≡ other
 line-same Pair xs line other a b = line_is_the_only_one net tt line other a b
   where
     net : Net

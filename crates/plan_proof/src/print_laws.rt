@@ -1,0 +1,58 @@
+//! That what is printed is fixed, as the contracts of functions that do nothing.
+//!
+//! `slots` is the number of slots, whatever it is; style and mode of checks are those of the words of a run.
+
+ghost use Rattle.std.specs.Prelude.{◌≡◌};
+ghost use Rattle.plan_texts.specs.PrintedTexts.{domain_text, problem_text};
+ghost use Rattle.plan_meaning.specs.Compilation.{IsCompiled};
+ghost use Rattle.plan_proof.specs.OneText.{SayTheSame, IsFullyEncoded, AreTextsFor};
+
+use plan_model::{Checks, Compiled, Hddl, Pddl, Style};
+
+/// A problem has one compiled value at most in each mode.
+pub fn one_compiled_value(problem: &Hddl, checks: &Checks, one: &Compiled, other: &Compiled)
+    requires one { IsCompiled problem.now checks.now one.now }
+    requires other { IsCompiled problem.now checks.now other.now }
+    ensures { one.now ≡ other.now }
+{}
+
+/// Two PDDL values that say the same in one order have the same two texts.
+pub fn texts_are_what_is_said(one: &Pddl, other: &Pddl)
+    requires { SayTheSame one.now other.now }
+    ensures domain { domain_text one.now ≡ domain_text other.now }
+    ensures problem { problem_text one.now ≡ problem_text other.now }
+{}
+
+/// All encoded values of a compiled problem over tables that have all their words say the same, so they have the same two texts.
+pub fn encoded_values_say_the_same(
+    compiled: &Compiled,
+    slots: u32,
+    style: &Style,
+    one: &Pddl,
+    other: &Pddl,
+)
+    requires one { IsFullyEncoded compiled.now slots style.now one.now }
+    requires other { IsFullyEncoded compiled.now slots style.now other.now }
+    ensures said { SayTheSame one.now other.now }
+    ensures domain { domain_text one.now ≡ domain_text other.now }
+    ensures problem { problem_text one.now ≡ problem_text other.now }
+{}
+
+/// Two source texts have one pair of printed texts at most, in each mode of checks, at each number of slots, in each style: whichever
+/// values they are read as, and whichever tables the printed values have.
+pub fn one_pair_of_texts(
+    domain: &[u8],
+    problem: &[u8],
+    checks: &Checks,
+    slots: u32,
+    style: &Style,
+    od: &[u8],
+    op: &[u8],
+    other_od: &[u8],
+    other_op: &[u8],
+)
+    requires one { AreTextsFor domain.now problem.now checks.now slots style.now od.now op.now }
+    requires other { AreTextsFor domain.now problem.now checks.now slots style.now other_od.now other_op.now }
+    ensures domain { od.now ≡ other_od.now }
+    ensures problem { op.now ≡ other_op.now }
+{}
