@@ -9,3 +9,5 @@ pub mod Seconds
 pub mod Orders
 pub mod Calls
 pub mod WholeNetworks
+pub mod EachList
+pub mod InOrder
