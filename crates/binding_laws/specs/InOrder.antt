@@ -1,10 +1,10 @@
 -- What is asked of a domain and a problem that were read: their names are in the table, and their offsets are those of a text.
 -- Source: this project's.
-use Rattle.std.specs.Prelude.{ℕ, ◌≤◌, Bool, true, false, List, map, length}
+use Rattle.std.specs.Prelude.{ℕ, ◌≤◌, List, map, length}
 use Rattle.htn_base.specs.Different.{AreDifferent}
-use Rattle.htn_base.specs.declared.name.Name.{Name}
 use Rattle.text_forms.specs.Words.{Word}
 use Rattle.gd_reader.specs.Terms.{Names}
+use Rattle.gd_reader.specs.declared.term.RawTerm.{RawTerm}
 use Rattle.gd_reader.specs.declared.typed_lists.RawParam.{RawParam}
 use Rattle.hddl_reader.specs.declared.networks.RawNet.{RawNet}
 use Rattle.hddl_reader.specs.declared.sections.RawAction.{RawAction}
@@ -16,7 +16,7 @@ use Rattle.plan_texts.specs.Declared.{named}
 use Rattle.plan_texts.specs.Printable.{IsPlain, IsPlainVariable}
 use Rattle.plan_texts.specs.Types.{EachIs}
 use Rattle.form_spellings.specs.EachPart.{OfDomain, OfProblem}
-use Rattle.form_spellings.specs.InTable.{IsIn}
+use Rattle.form_spellings.specs.InTable.{IsNameIn}
 use Rattle.name_faults.specs.Words.{callables, term_word, param_word}
 use Rattle.name_numbers.specs.Spots.{IsInTextOrder}
 use Rattle.bind_types.specs.Mentions.{mentioned}
@@ -32,19 +32,16 @@ Anywhere place at w = Unit {0}
 abbrev pub param_offsets : List RawParam → List ℕ
 param_offsets xs = map (λ (x : RawParam). x.at) xs
 
--- at most one type is written
-abbrev pub HasOneType : RawParam → Type 0
-HasOneType x = length x.ty ≤ 1
-
--- the ids of subtasks, as far as they are written, follow one another in the text
-abbrev pub AreIdsInOrder : RawNet → Type 0
-AreIdsInOrder n = IsInTextOrder (map term_at (ids n.subs))
-
 module _ (names : Names) where
-  -- the word is in the table; that of a name is a folded NAME, while a variable that is used may have any word
-  abbrev pub IsNamed : Bool → ℕ → Name → Type 0
-  IsNamed true at n = IsIn names n
-  IsNamed false at n = IsIn names n × IsPlain (named names n)
+  -- the word of a declared name is a folded NAME
+  abbrev pub IsPlainName : RawTerm → Type 0
+  IsPlainName t = IsPlain (term_word names t)
+
+  -- a type with its parent, or an object with its type: one is written at most, since an `either` stands only behind variables
+  pub record IsTypedName (x : RawParam) : Type 0 where
+    pub plain : IsPlain (param_word names x)
+    pub types_plain : EachIs IsPlainName x.ty
+    pub one_type : length x.ty ≤ 1
 
   -- no type is written twice in one `either`
   abbrev pub IsWrittenOnce : RawParam → Type 0
@@ -60,25 +57,38 @@ module _ (names : Names) where
     pub variables : AreVariables xs
     pub differ : AreDifferent (map (param_word names) xs)
 
+  pub record IsPredicateInOrder (h : RawHead) : Type 0 where
+    pub name : IsPlainName h.name
+    pub params : AreVariables h.params
+
+  pub record IsHeadInOrder (h : RawHead) : Type 0 where
+    pub name : IsPlainName h.name
+    pub params : AreParameters h.params
+
+  -- the ids of subtasks, as far as they are written, follow one another in the text
+  pub record IsNetworkInOrder (n : RawNet) : Type 0 where
+    pub ids_plain : EachIs IsPlainName (ids n.subs)
+    pub ids_in_order : IsInTextOrder (map term_at (ids n.subs))
+
   pub record IsMethodInOrder (m : RawMethod) : Type 0 where
-    pub params : AreParameters m.head.params
+    pub head : IsHeadInOrder m.head
     pub pre : OfEachList AreParameters m.pre
-    pub ids : AreIdsInOrder m.net
+    pub net : IsNetworkInOrder m.net
 
   pub record IsActionInOrder (a : RawAction) : Type 0 where
-    pub params : AreParameters a.head.params
+    pub head : IsHeadInOrder a.head
     pub pre : OfEachList AreParameters a.pre
     pub eff : OfEachListOfEffect AreParameters a.eff
 
   pub record IsDomainInOrder (d : RawDomain) : Type 0 where
-    -- each name that is declared or used, of types, predicates, tasks, methods, actions, ids, objects and variables
-    pub words : OfDomain IsNamed Anywhere d
-    -- behind a type one parent is written, behind a constant one type: an `either` stands only behind variables
-    pub one_parent : EachIs HasOneType d.types
-    pub one_type : EachIs HasOneType d.constants
-    -- the lists of variables, and what is in the parts where these are in force
-    pub predicates : EachIs (λ (h : RawHead). AreVariables h.params) d.predicates
-    pub tasks : EachIs (λ (h : RawHead). AreParameters h.params) d.tasks
+    -- each name that is declared or used is in the table: of types, predicates, tasks, methods, actions, ids, objects, variables
+    pub words : OfDomain (IsNameIn names) Anywhere d
+    pub name : IsPlain (named names d.name)
+    -- each part by itself: words that can be declared, lists of variables, ids
+    pub types : EachIs IsTypedName d.types
+    pub constants : EachIs IsTypedName d.constants
+    pub predicates : EachIs IsPredicateInOrder d.predicates
+    pub tasks : EachIs IsHeadInOrder d.tasks
     pub methods : EachIs IsMethodInOrder d.methods
     pub actions : EachIs IsActionInOrder d.actions
     -- a parent is read behind each type in front of it, so one offset may come twice, with the one word that stands there
@@ -93,13 +103,13 @@ module _ (names : Names) where
     pub callables_apart : AreDifferent (offsets (callables d))
 
   pub record IsProblemInOrder (p : RawProblem) : Type 0 where
-    -- each name that is declared or used
-    pub words : OfProblem IsNamed Anywhere p
-    -- behind an object one type is written
-    pub one_type : EachIs HasOneType p.objects
-    -- the variables of the initial network, and those of quantifiers in the goal
+    -- each name that is declared or used is in the table
+    pub words : OfProblem (IsNameIn names) Anywhere p
+    pub name : IsPlain (named names p.name)
+    -- each part by itself
+    pub objects : EachIs IsTypedName p.objects
     pub params : AreParameters p.params
+    pub net : IsNetworkInOrder p.net
     pub goal : OfEachList AreParameters p.goal
-    -- the names of objects, and the ids of the initial network, in the order in which they were read
+    -- the names of objects, in the order in which they were read
     pub objects_in_order : IsInTextOrder (param_offsets p.objects)
-    pub ids_in_order : AreIdsInOrder p.net
