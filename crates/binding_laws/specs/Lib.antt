@@ -11,3 +11,5 @@ pub mod Calls
 pub mod WholeNetworks
 pub mod EachList
 pub mod InOrder
+pub mod NetworkValues
+pub mod TypeWords
