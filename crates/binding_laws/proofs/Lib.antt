@@ -25,3 +25,8 @@ pub mod SecondCallables
 pub mod Mentioned
 pub mod TypeWords
 pub mod TooManyWords
+pub mod FromOrder
+pub mod SchemaFaults
+pub mod MethodFaults
+pub mod DomainParts
+pub mod ProblemParts

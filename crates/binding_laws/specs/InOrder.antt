@@ -94,6 +94,7 @@ module _ (names : Names) where
     -- a parent is read behind each type in front of it, so one offset may come twice, with the one word that stands there
     pub types_at_places : HaveOneWordAPlace (mentioned d.types)
     -- the names of declarations of one kind, in the order in which they were read
+    pub types_in_order : IsInTextOrder (param_offsets d.types)
     pub constants_in_order : IsInTextOrder (param_offsets d.constants)
     pub predicates_in_order : IsInTextOrder (offsets d.predicates)
     pub tasks_in_order : IsInTextOrder (offsets d.tasks)

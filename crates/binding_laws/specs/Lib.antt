@@ -13,3 +13,4 @@ pub mod EachList
 pub mod InOrder
 pub mod NetworkValues
 pub mod TypeWords
+pub mod Schemas

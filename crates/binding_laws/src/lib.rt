@@ -13,6 +13,7 @@
 
 mod laws;
 mod networks;
+mod schemas;
 mod types;
 
 pub use laws::{
@@ -20,4 +21,5 @@ pub use laws::{
     terms_are_bound, types_are_bound, uses_are_said,
 };
 pub use networks::{calls_are_said, networks_are_said, orders_are_said, seconds_are_said};
+pub use schemas::schemas_are_said;
 pub use types::domain_types_are_said;
