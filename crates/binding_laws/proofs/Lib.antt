@@ -2,6 +2,7 @@ pub mod Places
 pub mod Lists
 pub mod Terms
 pub mod Numbered
+pub mod Ones
 pub mod Written
 pub mod Typed
 pub mod Said
@@ -19,3 +20,13 @@ pub mod OrderWords
 pub mod CallWords
 pub mod CallValues
 pub mod NetworkWords
+pub mod NetworkValues
+pub mod SecondCallables
+pub mod Mentioned
+pub mod TypeWords
+pub mod TooManyWords
+pub mod FromOrder
+pub mod SchemaFaults
+pub mod MethodFaults
+pub mod DomainParts
+pub mod ProblemParts

@@ -25,7 +25,7 @@ use Rattle.binding_laws.specs.Orders.{AreIdsIn, HasUnknownIds, HasCycle, HasLimi
 use Rattle.binding_laws.proofs.Lists.{append_there, append_left, append_right, flat_there, flat_back, unless_has}
 use Rattle.binding_laws.proofs.Places.{same_number}
 
-abbrev AreIn : Names → List RawSub → Type 0
+abbrev pub AreIn : Names → List RawSub → Type 0
 AreIn names ss = EachIs (λ (s : RawSub). IfSome s.id (λ (t : RawTerm). IsIn names t.name)) ss
 
 module _ (names : Names) (differ : AreDifferent names) (n : ℕ) (known : n < length names) where

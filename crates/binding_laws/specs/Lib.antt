@@ -9,3 +9,8 @@ pub mod Seconds
 pub mod Orders
 pub mod Calls
 pub mod WholeNetworks
+pub mod EachList
+pub mod InOrder
+pub mod NetworkValues
+pub mod TypeWords
+pub mod Schemas

@@ -13,9 +13,13 @@
 
 mod laws;
 mod networks;
+mod schemas;
+mod types;
 
 pub use laws::{
     atoms_are_bound, effects_are_bound, formulas_are_bound, lists_are_bound, numbers_are_words,
     terms_are_bound, types_are_bound, uses_are_said,
 };
 pub use networks::{calls_are_said, networks_are_said, orders_are_said, seconds_are_said};
+pub use schemas::schemas_are_said;
+pub use types::domain_types_are_said;

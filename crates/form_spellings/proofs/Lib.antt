@@ -66,4 +66,5 @@ mod NetworksRead
 mod SchemasRead
 mod TextsRead
 pub mod order
+pub mod seen
 pub mod examples

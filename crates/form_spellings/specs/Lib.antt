@@ -24,3 +24,5 @@ pub mod OneWord
 pub mod Rising
 pub mod EachList
 pub mod InOrder
+pub mod Written
+pub mod SeenInOrder

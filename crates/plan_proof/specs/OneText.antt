@@ -50,3 +50,7 @@ pub record AreTextsFor (domain problem : List ℕ) (mode : Checks) (b : ℕ) (st
   pub is_encoded : IsFullyEncoded compiled b style value
   pub domain_is : printed_domain ≡ domain_text value
   pub problem_is : printed_problem ≡ problem_text value
+
+-- some pair of texts is theirs
+abbrev pub HaveTexts : (domain problem : List ℕ) → Checks → ℕ → Style → Type 0
+HaveTexts domain problem mode b style = (od op : List ℕ) × AreTextsFor domain problem mode b style od op

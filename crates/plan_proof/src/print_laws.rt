@@ -5,7 +5,10 @@
 ghost use Rattle.std.specs.Prelude.{◌≡◌};
 ghost use Rattle.plan_texts.specs.PrintedTexts.{domain_text, problem_text};
 ghost use Rattle.plan_meaning.specs.Compilation.{IsCompiled};
-ghost use Rattle.plan_proof.specs.OneText.{SayTheSame, IsFullyEncoded, AreTextsFor};
+ghost use Rattle.plan_texts.specs.FirstSeen.{IsHddlOf};
+ghost use Rattle.plan_texts.specs.SoundValue.{IsSoundHddl};
+ghost use Rattle.plan_meaning.specs.Laws.{AreOrdered};
+ghost use Rattle.plan_proof.specs.OneText.{HasOneCompiled, SayTheSame, IsFullyEncoded, AreTextsFor, HaveTexts};
 
 use plan_model::{Checks, Compiled, Hddl, Pddl, Style};
 
@@ -14,6 +17,13 @@ pub fn one_compiled_value(problem: &Hddl, checks: &Checks, one: &Compiled, other
     requires one { IsCompiled problem.now checks.now one.now }
     requires other { IsCompiled problem.now checks.now other.now }
     ensures { one.now ≡ other.now }
+{}
+
+/// A problem whose networks have no cycle has exactly one compiled value in each mode. It is asked for nothing else, not even
+/// that names and types fit together, and no limits.
+pub fn every_problem_has_one_compiled_value(problem: &Hddl, checks: &Checks)
+    requires ordered { AreOrdered problem.now }
+    ensures { HasOneCompiled problem.now checks.now }
 {}
 
 /// Two PDDL values that say the same in one order have the same two texts.
@@ -55,4 +65,19 @@ pub fn one_pair_of_texts(
     requires other { AreTextsFor domain.now problem.now checks.now slots style.now other_od.now other_op.now }
     ensures domain { od.now ≡ other_od.now }
     ensures problem { op.now ≡ other_op.now }
+{}
+
+/// And they have one, if they spell a sound value whose networks have no cycle.
+pub fn some_pair_of_texts(
+    domain: &[u8],
+    problem: &[u8],
+    read: &Hddl,
+    checks: &Checks,
+    slots: u32,
+    style: &Style,
+)
+    requires spelled { IsHddlOf domain.now problem.now read.now }
+    requires sound { IsSoundHddl read.now }
+    requires ordered { AreOrdered read.now }
+    ensures { HaveTexts domain.now problem.now checks.now slots style.now }
 {}

@@ -13,6 +13,7 @@ use Rattle.plan_texts.specs.SpellsHddl.{hddl_words}
 use Rattle.plan_texts.specs.FirstSeen.{IsHddlOf}
 use Rattle.plan_texts.specs.SoundValue.{IsSoundHddl}
 use Rattle.plan_texts.specs.PrintedTexts.{domain_text, problem_text}
+use Rattle.plan_meaning.specs.Laws.{AreOrdered}
 use Rattle.plan_meaning.specs.Network.{InTypeOf}
 use Rattle.slot_encoding.specs.SourceParts.{renamed}
 use Rattle.slot_encoding.specs.OrderFormulas.{free_parts}
@@ -20,17 +21,19 @@ use Rattle.slot_encoding.specs.EncodedNames.{guard_types, guard_predicate, free_
 use Rattle.slot_encoding.specs.EncodedActions.{source_condition}
 use Rattle.slot_encoding.specs.EncodedValue.{atom, first_atoms, encoded_actions, AreGuardAtoms, IsInitial, IsEncoded}
 use Rattle.slot_encoding.specs.EncodedWords.{own_word, encoded_words, HasEncodedWords}
+use Rattle.slot_encoding.proofs.existence.Encoded.{has_encoded_value}
 use Rattle.slot_encoding.proofs.existence.Kept.{some_guard_atoms}
 use Rattle.slot_encoding.proofs.words.KnownWords.{known_domain, known_problem}
 use Rattle.task_networks.specs.Spelling.{numbers}
 use Rattle.plan_proof.specs.Same.{AreSameButNames}
-use Rattle.plan_proof.specs.OneText.{SayTheSame, IsFullyEncoded, AreTextsFor}
+use Rattle.plan_proof.specs.OneText.{SayTheSame, IsFullyEncoded, AreTextsFor, HaveTexts}
 use Rattle.plan_proof.proofs.values.TypeNumbers.{AreApart}
 use Rattle.plan_proof.proofs.values.SamePlans.{keeps-same}
 use Rattle.plan_proof.proofs.values.Headlines.{same_but_names, unions_apart, encoded_by}
 use Rattle.plan_proof.proofs.one.SaidTexts.{domain-same, problem-same}
 use Rattle.plan_proof.proofs.one.EncodedParts.{types-same, word, objects-said, predicates-said}
 use Rattle.plan_proof.proofs.one.EncodedActions.{actions-said, goal-said}
+use Rattle.plan_proof.proofs.one.SomeCompiled.{has_one_compiled}
 
 module _ (c : Compiled) (b : ℕ) (style : Style) where
   -- the encoded value over this table, with these initial atoms
@@ -125,3 +128,13 @@ module _ (domain problem : List ℕ) (mode : Checks) (b : ℕ) (style : Style) (
         one.domain_is ∙ one_domain_text one.compiled b style one.value p one.is_encoded e ∙ one_domain_text other.compiled b style p other.value f other.is_encoded ∙ sym other.domain_is,
         one.problem_is ∙ one_problem_text one.compiled b style one.value p one.is_encoded e ∙ one_problem_text other.compiled b style p other.value f other.is_encoded ∙ sym other.problem_is,
       )
+
+-- each sound value whose networks have no cycle has its pair of printed texts
+pub some_texts : (domain problem : List ℕ) (read : Hddl) (mode : Checks) (b : ℕ) (style : Style) → IsHddlOf domain problem read → IsSoundHddl read → AreOrdered read → HaveTexts domain problem mode b style
+some_texts domain problem read mode b style spelled sound ordered =
+    let (c, is, only) = has_one_compiled read mode ordered in
+    let e = has_encoded_value c b style in (
+      domain_text e.value,
+      problem_text e.value,
+      record { read = read; spelled = spelled; sound = sound; compiled = c; is_compiled = is; value = e.value; is_encoded = record { encoded = e.encoded; words = e.words }; domain_is = refl; problem_is = refl },
+    )

@@ -1,0 +1,13 @@
+// Laws of the schemas of a domain and of the parts of a problem that go over from the numbers of names to their words.
+ghost use Rattle.binding_laws.specs.Schemas.{HasHeadFaults, HasActionFaults, HasMethodFaults};
+ghost use Rattle.binding_laws.specs.Schemas.{HasSchemaFaults, HasPartFaults, OfAllLookups};
+
+/// The faults of predicates, tasks, actions and methods are those of their declarations and uses, and those of the ordering of
+/// methods' networks; so are those of all that a domain declares but its types, and of a problem's parts.
+pub fn schemas_are_said()
+    ensures heads { OfAllLookups HasHeadFaults }
+    ensures actions { OfAllLookups HasActionFaults }
+    ensures methods { OfAllLookups HasMethodFaults }
+    ensures domains { OfAllLookups HasSchemaFaults }
+    ensures problems { OfAllLookups HasPartFaults }
+{}

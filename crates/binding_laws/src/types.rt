@@ -1,0 +1,11 @@
+// Laws of the types of a domain that go over from the numbers of names to their words.
+ghost use Rattle.binding_laws.specs.TypeWords.{OfAllTypes, HasTooManyTypes, HasTypes};
+ghost use Rattle.binding_laws.specs.TypeWords.{HasTypesInOrder};
+
+/// The types in the order of the text are those that the domain has, each once: object, and the others as the text first names
+/// them. The first word of a type that is one too many is that of the sentence on it.
+pub fn domain_types_are_said()
+    ensures types { OfAllTypes HasTypes }
+    ensures order { OfAllTypes HasTypesInOrder }
+    ensures too_many { OfAllTypes HasTooManyTypes }
+{}
