@@ -1,2 +1,3 @@
 pub mod TextFaults
 pub mod Values
+pub mod Reading

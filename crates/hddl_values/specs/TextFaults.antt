@@ -1,7 +1,7 @@
--- The faults of two HDDL texts, the domain's and the problem's: of tokens, of form and of names; the least; and none.
+-- The faults of two HDDL texts, a domain's and a problem's: of tokens, of form and of names; the least; and none.
 -- Source: this project's. A text is looked through phase by phase: tokens first (a bad byte, a list without an end or too deep, a stray
--- parenthesis), then the form, then the names, and the next phase only where the one before has no fault; the problem comes after
--- the domain.
+-- parenthesis), then the form, then the names; the next phase only where the one before found nothing, and the problem only where the
+-- domain has no fault.
 use Rattle.std.specs.Prelude.{ℕ, ◌≡◌, Some, List}
 use Rattle.text_forms.specs.Faults.{fault, IsFaultless}
 use Rattle.text_forms.specs.Faults as tokens
@@ -27,10 +27,6 @@ pub record IsProblemOf (text : List ℕ) (table : Names) (p : RawProblem) : Type
   pub read : IsProblemRead Hddl before text (p, behind)
   pub keeps : Keeps behind table
 
--- its one fault of form, where its tokens have none
-abbrev pub HasFormFault : grammar.Definition → List ℕ → (code at : ℕ) → Type 0
-HasFormFault kind text code at = IsFaultless text × (definition_fault grammar.hddl kind text ≡ Some (fault code at))
-
 -- The text of a domain has no fault: it is read as this one, whose names have none.
 pub record IsGoodDomain (text : List ℕ) (table : Names) (d : RawDomain) : Type 0 where
   pub tokens : IsFaultless text
@@ -43,24 +39,30 @@ pub record IsGoodProblem (text : List ℕ) (table : Names) (d : RawDomain) (p : 
   pub read : IsProblemOf text table p
   pub names : HasNoFault (HasProblemFault table d p)
 
--- the least fault of the first text that has one, in the first phase in which it has one
-module _ (domain problem : List ℕ) where
-  pub data IsLeastFault : (file code at : ℕ) → Type 0 where
-    domain_tokens : {code at : ℕ} → tokens.IsLeast domain (fault code at) → IsLeastFault 0 code at
-    domain_form : {code at : ℕ} → HasFormFault grammar.domain domain code at → IsLeastFault 0 code at
-    domain_names : {code at : ℕ} (table : Names) (d : RawDomain) → IsFaultless domain → IsDomainOf domain table d
-        → IsLeast (HasDomainFault Hddl table d) code at → IsLeastFault 0 code at
-    problem_tokens : {code at : ℕ} (table : Names) (d : RawDomain) → IsGoodDomain domain table d
-        → tokens.IsLeast problem (fault code at) → IsLeastFault 1 code at
-    problem_form : {code at : ℕ} (table : Names) (d : RawDomain) → IsGoodDomain domain table d
-        → HasFormFault grammar.problem problem code at → IsLeastFault 1 code at
-    problem_names : {code at : ℕ} (table : Names) (d : RawDomain) (p : RawProblem) → IsGoodDomain domain table d
-        → IsFaultless problem → IsProblemOf problem table p → IsLeast (HasProblemFault table d p) code at → IsLeastFault 1 code at
+-- The least fault of a domain's text, in the first phase in which it has one.
+pub data IsLeastOfDomain (text : List ℕ) (code at : ℕ) : Type 0 where
+  of_tokens : tokens.IsLeast text (fault code at) → IsLeastOfDomain text code at
+  of_form : IsFaultless text → definition_fault grammar.hddl grammar.domain text ≡ Some (fault code at) → IsLeastOfDomain text code at
+  of_names : (table : Names) (d : RawDomain) → IsFaultless text → IsDomainOf text table d → IsLeast (HasDomainFault Hddl table d) code at
+      → IsLeastOfDomain text code at
 
-  -- neither text has a fault
-  pub record HaveNoFault : Type 0 where
-    pub table : Names
-    pub d : RawDomain
-    pub p : RawProblem
-    pub domain_is : IsGoodDomain domain table d
-    pub problem_is : IsGoodProblem problem table d p
+-- The same of a problem's text, over a domain's without faults.
+pub data IsLeastOfProblem (domain text : List ℕ) (code at : ℕ) : Type 0 where
+  of_tokens : tokens.IsLeast text (fault code at) → IsLeastOfProblem domain text code at
+  of_form : IsFaultless text → definition_fault grammar.hddl grammar.problem text ≡ Some (fault code at) → IsLeastOfProblem domain text code at
+  of_names : (table : Names) (d : RawDomain) (p : RawProblem) → IsGoodDomain domain table d → IsFaultless text → IsProblemOf text table p
+      → IsLeast (HasProblemFault table d p) code at → IsLeastOfProblem domain text code at
+
+-- the least of both, where the domain is file 0 and the problem file 1
+pub data IsLeastFault (domain problem : List ℕ) : (file code at : ℕ) → Type 0 where
+  in_domain : {code at : ℕ} → IsLeastOfDomain domain code at → IsLeastFault domain problem 0 code at
+  in_problem : {code at : ℕ} (table : Names) (d : RawDomain) → IsGoodDomain domain table d → IsLeastOfProblem domain problem code at
+      → IsLeastFault domain problem 1 code at
+
+-- neither text has a fault
+pub record HaveNoFault (domain problem : List ℕ) : Type 0 where
+  pub table : Names
+  pub d : RawDomain
+  pub p : RawProblem
+  pub domain_is : IsGoodDomain domain table d
+  pub problem_is : IsGoodProblem problem table d p
