@@ -1,4 +1,4 @@
-//! That what is printed is fixed, as the contracts of functions that do nothing.
+//! That what is printed, and what is told of bounds and cycles, is fixed, as the contracts of functions that do nothing.
 //!
 //! `slots` is the number of slots, whatever it is; style and mode of checks are those of the words of a run.
 
@@ -9,6 +9,7 @@ ghost use Rattle.plan_texts.specs.FirstSeen.{IsHddlOf};
 ghost use Rattle.plan_texts.specs.SoundValue.{IsSoundHddl};
 ghost use Rattle.plan_meaning.specs.Laws.{AreOrdered};
 ghost use Rattle.plan_proof.specs.OneText.{HasOneCompiled, SayTheSame, IsFullyEncoded, AreTextsFor, HaveTexts};
+ghost use Rattle.plan_proof.specs.OneGraph.{HaveOneGraph, HaveOneBound, HaveOneNamedCycle};
 
 use plan_model::{Checks, Compiled, Hddl, Pddl, Style};
 
@@ -80,4 +81,25 @@ pub fn some_pair_of_texts(
     requires sound { IsSoundHddl read.now }
     requires ordered { AreOrdered read.now }
     ensures { HaveTexts domain.now problem.now checks.now slots style.now }
+{}
+
+/// What is compiled of two values of the same source texts has the same edges, the same cycles and bounds, and the same words on
+/// them: so it is one bound that is told of the texts, or one cycle, whichever values they are read as.
+pub fn one_bound_or_cycle_of_texts(
+    domain: &[u8],
+    problem: &[u8],
+    one: &Hddl,
+    other: &Hddl,
+    checks: &Checks,
+    one_compiled: &Compiled,
+    other_compiled: &Compiled,
+)
+    requires one_spelled { IsHddlOf domain.now problem.now one.now }
+    requires other_spelled { IsHddlOf domain.now problem.now other.now }
+    requires sound { IsSoundHddl other.now }
+    requires one_compiled { IsCompiled one.now checks.now one_compiled.now }
+    requires other_compiled { IsCompiled other.now checks.now other_compiled.now }
+    ensures graph { HaveOneGraph one_compiled.now other_compiled.now }
+    ensures bound { HaveOneBound one_compiled.now other_compiled.now }
+    ensures cycle { HaveOneNamedCycle one_compiled.now other_compiled.now }
 {}

@@ -116,7 +116,7 @@ module _ (domain problem : List ℕ) (mode : Checks) (b : ℕ) (style : Style) (
       let (p, n, e) = some_encoded other.compiled b style words in
       let same = same_but_names domain problem one.read other.read one.spelled other.spelled other.sound in
       let apart = unions_apart domain problem one.read other.read one.spelled other.spelled other.sound in
-      let d = encoded_by other.read one.read mode other.compiled one.compiled b style p same apart other.sound other.is_compiled one.is_compiled e in (
+      let d = encoded_by other.read one.read mode other.compiled one.compiled same apart other.sound other.is_compiled one.is_compiled b style p e in (
         p,
         record { encoded = d; words = λ w h. subst (λ z. Contains z w) (sym n) (Contains-append_left (encoded_words one.compiled b) (encoded_words other.compiled b) w h) },
         record { encoded = e; words = λ w h. subst (λ z. Contains z w) (sym n) (Contains-append_right (encoded_words one.compiled b) (encoded_words other.compiled b) w h) },
