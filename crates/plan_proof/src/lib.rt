@@ -20,7 +20,8 @@ pub use plan_laws::{
 };
 pub use print_laws::{
     encoded_values_say_the_same, every_problem_has_one_compiled_value, one_bound_or_cycle_of_texts,
-    one_compiled_value, one_pair_of_texts, some_pair_of_texts, texts_are_what_is_said,
+    one_compiled_value, one_pair_of_texts, printed_texts_are_the_pair, some_pair_of_texts,
+    texts_are_what_is_said,
 };
 pub use row_laws::{calls_itself_has_no_plan, smallest_has_one_plan};
 pub use text_laws::{

@@ -1,34 +1,32 @@
 -- Compiled problems that are the same but for names have the same edges, cycles and bounds.
-use Rattle.std.proofs.Common.{ℕ, zero, suc, ◌≡◌, ◌+◌, ◌<◌, ◌≤◌, ◌≢◌, ◌⊎◌, ◌↔◌, inl, inr, List, [], ◌∷◌, ◌++◌, map, length, Option, Some, None, slice_get, refl, ap, sym, subst, ◌∙◌, Contains, arith}
-use Rattle.text_forms.specs.Words.{Word}
+use Rattle.std.proofs.Common.{ℕ, zero, suc, ◌≡◌, ◌+◌, ◌<◌, ◌≤◌, ◌⊎◌, inl, inr, List, [], ◌∷◌, map, length, Option, Some, None, slice_get, refl, ap, sym, subst, ◌∙◌}
 use Rattle.plan_model.specs.declared.networks.Child.{Child}
 use Rattle.plan_model.specs.declared.options.Checks.{Checks}
 use Rattle.plan_model.specs.declared.schemas.MethodPlan.{MethodPlan}
 use Rattle.plan_model.specs.declared.values.Hddl.{Hddl}
 use Rattle.plan_model.specs.declared.values.Compiled.{Compiled}
 use Rattle.plan_model.specs.Pairs.{Pairs}
-use Rattle.plan_texts.specs.Declared.{Declared, named}
+use Rattle.plan_texts.specs.Declared.{named}
 use Rattle.plan_texts.specs.SpellsHddl.{hddl_words, task_words}
 use Rattle.plan_texts.specs.FirstSeen.{IsHddlOf}
 use Rattle.plan_texts.specs.SoundValue.{IsSoundHddl}
-use Rattle.plan_texts.specs.Alike.{task_said, child_said, method_said}
+use Rattle.plan_texts.specs.Alike.{task_said, child_said}
 use Rattle.plan_texts.specs.Together.{Together}
 use Rattle.plan_texts.proofs.Together.{maps-length, together-maps}
 use Rattle.plan_texts.proofs.Unique.{map-map}
-use Rattle.task_networks.specs.Net.{Net, count}
+use Rattle.task_networks.specs.Net.{count}
 use Rattle.task_networks.specs.Order.{IsLast}
 use Rattle.task_networks.specs.Bound.{AreBlocks, IsReached, itself, as_child, weight, weights, block_number, IsAloneAtTheEnd, Counts, IsTheBound}
 use Rattle.task_networks.specs.Strata as Walks
 use Rattle.plan_meaning.specs.Compilation.{IsCompiled}
 use Rattle.plan_meaning.specs.Network.{top_task}
 use Rattle.plan_meaning.specs.Schemas.{Schema, task, schema_of, schemas}
-use Rattle.plan_meaning.specs.Strata.{Edge, IsReachedTask, source, target, target_by, IsEdge, AreEdges, IsBad, IsTailRecursive, IsNamedCycle, IsRanking, IsOneGroup}
+use Rattle.plan_meaning.specs.Strata.{Edge, source, target, target_by, IsEdge, AreEdges, IsBad, IsTailRecursive, IsNamedCycle, IsRanking, IsOneGroup}
 use Rattle.plan_meaning.specs.Bound.{group_of, IsBound}
 use Rattle.plan_meaning.proofs.MethodParts.{IsPairBy, head_schema_by, schemas_by}
 use Rattle.plan_meaning.proofs.BoundLaws.{bound_is_the_only_one}
 use Rattle.bound_laws.proofs.OneCycle.{one_named_cycle}
 use Rattle.plan_proof.specs.OneGraph.{plan_words, HaveOneGraph, HaveOneBound, HaveOneNamedCycle}
-use Rattle.plan_proof.specs.Same.{AreSameButNames}
 use Rattle.plan_proof.proofs.values.SamePlans.{ArePlansAlike}
 use Rattle.plan_proof.proofs.values.SameSound.{task-words-same}
 use Rattle.plan_proof.proofs.values.Headlines.{same_but_names, unions_apart, same_here, plans_here}
