@@ -1,7 +1,9 @@
 -- Compiled problems that are the same but for names have the same edges, cycles and bounds.
-use Rattle.std.proofs.Common.{ℕ, zero, suc, ◌≡◌, ◌+◌, ◌<◌, ◌≤◌, ◌⊎◌, inl, inr, List, [], ◌∷◌, map, length, Option, Some, None, slice_get, refl, ap, sym, subst, ◌∙◌}
+use Rattle.std.proofs.Common.{ℕ, zero, suc, ◌≡◌, ◌+◌, ◌<◌, ◌≤◌, ◌⊎◌, inl, inr, List, [], ◌∷◌, map, length, Option, Some, None, option_map, slice_get, refl, ap, sym, subst, ◌∙◌}
+use Rattle.std.proofs.lemmas.Option.{slice_get-map}
 use Rattle.plan_model.specs.declared.networks.Child.{Child}
 use Rattle.plan_model.specs.declared.options.Checks.{Checks}
+use Rattle.plan_model.specs.declared.schemas.TaskSchema.{TaskSchema}
 use Rattle.plan_model.specs.declared.schemas.MethodPlan.{MethodPlan}
 use Rattle.plan_model.specs.declared.values.Hddl.{Hddl}
 use Rattle.plan_model.specs.declared.values.Compiled.{Compiled}
@@ -232,6 +234,16 @@ graph_of_shape c d shape tasks methods =
       ranking = λ rank. (ranking_on c d shape rank, ranking_on d c back rank);
       bound = λ n. (bound_on c d shape n, bound_on d c back n);
     }
+
+-- the words by place, as the line of a cycle tells them
+module _ (c d : Compiled) (graph : HaveOneGraph c d) where
+  pub task_word-same : (t : ℕ) → option_map (λ (s : TaskSchema). named c.hddl.names s.name) (slice_get c.hddl.tasks t) ≡ option_map (λ (s : TaskSchema). named d.hddl.names s.name) (slice_get d.hddl.tasks t)
+  task_word-same t = sym (slice_get-map (λ (s : TaskSchema). named c.hddl.names s.name) c.hddl.tasks t) ∙ ap (λ z. slice_get z t) graph.tasks ∙ slice_get-map (λ (s : TaskSchema). named d.hddl.names s.name) d.hddl.tasks t
+
+  pub method_word-same : (m : ℕ) → option_map (λ (plan : MethodPlan). named c.hddl.names plan.schema.name) (slice_get c.methods m) ≡ option_map (λ (plan : MethodPlan). named d.hddl.names plan.schema.name) (slice_get d.methods m)
+  method_word-same m =
+      sym (slice_get-map (λ (plan : MethodPlan). named c.hddl.names plan.schema.name) c.methods m) ∙ ap (λ z. slice_get z m) graph.methods
+      ∙ slice_get-map (λ (plan : MethodPlan). named d.hddl.names plan.schema.name) d.methods m
 
 -- what is compiled of two values of the same texts
 module _ (domain problem : List ℕ) (h h' : Hddl) (mode : Checks) (c c' : Compiled) (spelled : IsHddlOf domain problem h) (spelled' : IsHddlOf domain problem h') (sound : IsSoundHddl h) (compiled : IsCompiled h mode c) (compiled' : IsCompiled h' mode c') where
