@@ -12,3 +12,5 @@ pub mod SomeLine
 pub mod SomeCompiled
 -- One pair of texts.
 pub mod OneText
+-- One bound and one named cycle.
+pub mod OneGraph

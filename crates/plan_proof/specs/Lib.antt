@@ -6,3 +6,4 @@ pub mod Same
 pub mod Problems
 pub mod Plans
 pub mod OneText
+pub mod OneGraph

@@ -51,6 +51,15 @@ pub record AreTextsFor (domain problem : List ℕ) (mode : Checks) (b : ℕ) (st
   pub domain_is : printed_domain ≡ domain_text value
   pub problem_is : printed_problem ≡ problem_text value
 
--- some pair of texts is theirs
-abbrev pub HaveTexts : (domain problem : List ℕ) → Checks → ℕ → Style → Type 0
-HaveTexts domain problem mode b style = (od op : List ℕ) × AreTextsFor domain problem mode b style od op
+module _ (domain problem : List ℕ) (mode : Checks) (b : ℕ) (style : Style) where
+  -- some pair of texts is theirs
+  abbrev pub HaveTexts : Type 0
+  HaveTexts = (od op : List ℕ) × AreTextsFor domain problem mode b style od op
+
+  -- one pair at most is theirs
+  abbrev pub HaveOnePairOfTexts : Type 0
+  HaveOnePairOfTexts = (od op od' op' : List ℕ) → AreTextsFor domain problem mode b style od op → AreTextsFor domain problem mode b style od' op' → (od ≡ od') × (op ≡ op')
+
+  -- those that are printed for a value
+  abbrev pub PrintedAreTextsFor : Pddl → Type 0
+  PrintedAreTextsFor p = AreTextsFor domain problem mode b style (domain_text p) (problem_text p)

@@ -1,5 +1,5 @@
 -- What is encoded of a compiled value over two tables that have all its words says the same: actions and goal.
-use Rattle.std.proofs.Common.{ℕ, zero, suc, ◌≡◌, ◌-◌, Bool, true, false, cond, List, [], ◌∷◌, ◌++◌, map, filter, length, slice_index, codes, decimal, refl, ap, sym, subst, ◌∙◌}
+use Rattle.std.proofs.Common.{ℕ, zero, suc, ◌≡◌, ◌-◌, Bool, true, false, cond, List, [], ◌∷◌, ◌++◌, map, filter, length, slice_index, codes, decimal, refl, sym, subst}
 use Rattle.text_forms.specs.Words.{Word}
 use Rattle.plan_model.specs.declared.options.Style.{Style}
 use Rattle.plan_model.specs.declared.terms.Atom.{Atom}
@@ -20,14 +20,14 @@ use Rattle.plan_model.specs.declared.values.Compiled.{Compiled}
 use Rattle.task_networks.specs.Spelling.{numbers}
 use Rattle.plan_texts.specs.Declared.{Declared}
 use Rattle.plan_texts.specs.Types.{Has, EachIs}
-use Rattle.plan_texts.specs.Said.{typed, said, done}
+use Rattle.plan_texts.specs.Said.{said}
 use Rattle.plan_texts.specs.Alike.{action_said}
 use Rattle.plan_texts.specs.Together.{Together}
 use Rattle.plan_texts.proofs.Together.{together-maps}
-use Rattle.slot_encoding.specs.SourceParts.{name, source_word, source_param, source_formula, moved}
-use Rattle.slot_encoding.specs.OrderFormulas.{OrderNumbers, pair_of, copy_parts, free_parts}
-use Rattle.slot_encoding.specs.EncodedNames.{joined, checked_methods, free_predicate, action_predicate, check_predicate, guard_predicate, slot_param, order_numbers}
-use Rattle.slot_encoding.specs.EncodedActions.{is_empty, is_empty_effect, is_free, differ, test, source_condition, source_change, freeing, waiting, held_work, work_action, encoded_action, encoded_check, spare, front, depth, children_slots, held_task, child_atom, child_atoms, constraints, guards, tested, method_pre, splitting, method_eff, method_word, encoded_method}
+use Rattle.slot_encoding.specs.SourceParts.{name, source_param, moved}
+use Rattle.slot_encoding.specs.OrderFormulas.{pair_of, copy_parts, free_parts}
+use Rattle.slot_encoding.specs.EncodedNames.{joined, free_predicate, action_predicate, check_predicate, guard_predicate, slot_param, order_numbers}
+use Rattle.slot_encoding.specs.EncodedActions.{is_empty, is_empty_effect, is_free, differ, test, source_condition, source_change, freeing, waiting, held_work, work_action, encoded_check, spare, front, depth, children_slots, held_task, child_atom, child_atoms, constraints, guards, tested, method_pre, splitting, method_eff, method_word, encoded_method}
 use Rattle.slot_encoding.specs.EncodedValue.{encoded_methods, encoded_checks, encoded_source, encoded_actions}
 use Rattle.slot_encoding.specs.EncodedWords.{param_words, formula_words, effect_words, own_word, method_words, HasEncodedWords}
 use Rattle.slot_encoding.specs.EncodedWords as W

@@ -1,5 +1,5 @@
 -- What is encoded of a compiled value over two tables that have all its words says the same: types, objects, predicates, formulas on slots.
-use Rattle.std.proofs.Common.{ℕ, ◌≡◌, ◌-◌, true, List, [], ◌∷◌, ◌++◌, map, length, codes, decimal, refl, ap, sym, subst, ◌∙◌}
+use Rattle.std.proofs.Common.{ℕ, ◌≡◌, true, List, [], ◌∷◌, ◌++◌, map, length, codes, decimal, sym, ◌∙◌}
 use Rattle.htn_base.specs.Escapes.{slot_word}
 use Rattle.htn_base.specs.declared.name.Name.{Name}
 use Rattle.text_forms.specs.Words.{Word, word_at}
@@ -9,9 +9,7 @@ use Rattle.plan_model.specs.declared.types.Object.{Object}
 use Rattle.plan_model.specs.declared.terms.Term.{Term}
 use Rattle.plan_model.specs.declared.terms.Term.TheVariants.{Var, Obj}
 use Rattle.plan_model.specs.declared.terms.Param.{Param}
-use Rattle.plan_model.specs.declared.formulas.Formula.{Formula}
-use Rattle.plan_model.specs.declared.formulas.Formula.TheVariants.{Holds, Not, Forall}
-use Rattle.plan_model.specs.declared.effects.Effect.{Effect}
+use Rattle.plan_model.specs.declared.formulas.Formula.TheVariants.{Holds, Not}
 use Rattle.plan_model.specs.declared.effects.Effect.TheVariants as E
 use Rattle.plan_model.specs.declared.schemas.Predicate.{Predicate}
 use Rattle.plan_model.specs.declared.schemas.TaskSchema.{TaskSchema}
@@ -21,15 +19,15 @@ use Rattle.plan_model.specs.declared.values.Compiled.{Compiled}
 use Rattle.task_networks.specs.Spelling.{numbers}
 use Rattle.plan_texts.specs.Declared.{Declared, kinds, named, one_word}
 use Rattle.plan_texts.specs.Types.{Has, EachIs}
-use Rattle.plan_texts.specs.Said.{typed, said, done}
+use Rattle.plan_texts.specs.Said.{typed}
 use Rattle.plan_texts.specs.Alike.{object_said, predicate_said}
 use Rattle.plan_texts.specs.Together.{Together}
 use Rattle.plan_texts.proofs.Together.{together-maps}
 use Rattle.plan_texts.proofs.Members.{each-has, has-to_map}
-use Rattle.slot_encoding.specs.SourceParts.{name, retyped, source_param}
+use Rattle.slot_encoding.specs.SourceParts.{name, retyped}
 use Rattle.slot_encoding.specs.OrderFormulas.{OrderNumbers, pair_of, any_slot, slot_objects, wait_parts, clear_parts, copy_parts, free_parts}
-use Rattle.slot_encoding.specs.EncodedNames.{joined, guard_types, checked_methods, slot_param, held, held_params, guard_word, encoded_types, encoded_objects, encoded_predicates, order_numbers}
-use Rattle.slot_encoding.specs.EncodedWords.{param_words, numbered, held_words, own_word, type_words, object_words, HasEncodedWords}
+use Rattle.slot_encoding.specs.EncodedNames.{joined, guard_types, checked_methods, slot_param, held, held_params, guard_word, encoded_objects, encoded_predicates, order_numbers}
+use Rattle.slot_encoding.specs.EncodedWords.{param_words, held_words, own_word, HasEncodedWords}
 use Rattle.slot_encoding.proofs.places.ObjectPlaces.{printed_object, printed_slot}
 use Rattle.slot_encoding.proofs.words.Lists.{each-left, each-right, each-part}
 use Rattle.slot_encoding.proofs.words.KnownWords.{known_types, known_objects, known_variables, known_source_group, known_three, known_task_group, known_action_group, known_check_group, known_guard_group}

@@ -1,6 +1,5 @@
 -- A problem has one compiled value at most in each mode.
-use Rattle.std.proofs.Common.{ℕ, ◌≡◌, Bool, IsTrue, List, [], ◌∷◌, Some, length, refl, ap, sym, subst, ◌∙◌}
-use Rattle.plan_model.specs.declared.networks.Guard.{Guard}
+use Rattle.std.proofs.Common.{ℕ, ◌≡◌, List, [], ◌∷◌, Some, length, refl, ap, sym, subst, ◌∙◌}
 use Rattle.plan_model.specs.declared.options.Checks.{Checks}
 use Rattle.plan_model.specs.declared.schemas.MethodSchema.{MethodSchema}
 use Rattle.plan_model.specs.declared.schemas.MethodPlan.{MethodPlan}

@@ -9,7 +9,6 @@ use Rattle.plan_model.specs.declared.formulas.Formula.TheVariants.{And}
 use Rattle.plan_model.specs.declared.values.Hddl.{Hddl}
 use Rattle.plan_model.specs.declared.values.Compiled.{Compiled}
 use Rattle.plan_model.specs.declared.values.Pddl.{Pddl}
-use Rattle.plan_texts.specs.SpellsHddl.{hddl_words}
 use Rattle.plan_texts.specs.FirstSeen.{IsHddlOf}
 use Rattle.plan_texts.specs.SoundValue.{IsSoundHddl}
 use Rattle.plan_texts.specs.PrintedTexts.{domain_text, problem_text}
@@ -20,14 +19,13 @@ use Rattle.slot_encoding.specs.OrderFormulas.{free_parts}
 use Rattle.slot_encoding.specs.EncodedNames.{guard_types, guard_predicate, free_predicate, encoded_types, encoded_objects, encoded_predicates, order_numbers}
 use Rattle.slot_encoding.specs.EncodedActions.{source_condition}
 use Rattle.slot_encoding.specs.EncodedValue.{atom, first_atoms, encoded_actions, AreGuardAtoms, IsInitial, IsEncoded}
+use Rattle.slot_encoding.specs.Printed.{IsPrinted}
 use Rattle.slot_encoding.specs.EncodedWords.{own_word, encoded_words, HasEncodedWords}
 use Rattle.slot_encoding.proofs.existence.Encoded.{has_encoded_value}
 use Rattle.slot_encoding.proofs.existence.Kept.{some_guard_atoms}
 use Rattle.slot_encoding.proofs.words.KnownWords.{known_domain, known_problem}
 use Rattle.task_networks.specs.Spelling.{numbers}
-use Rattle.plan_proof.specs.Same.{AreSameButNames}
 use Rattle.plan_proof.specs.OneText.{SayTheSame, IsFullyEncoded, AreTextsFor, HaveTexts}
-use Rattle.plan_proof.proofs.values.TypeNumbers.{AreApart}
 use Rattle.plan_proof.proofs.values.SamePlans.{keeps-same}
 use Rattle.plan_proof.proofs.values.Headlines.{same_but_names, unions_apart, encoded_by}
 use Rattle.plan_proof.proofs.one.SaidTexts.{domain-same, problem-same}
@@ -37,7 +35,7 @@ use Rattle.plan_proof.proofs.one.SomeCompiled.{has_one_compiled}
 
 module _ (c : Compiled) (b : ℕ) (style : Style) where
   -- the encoded value over this table, with these initial atoms
-  abbrev over : List Word → List GroundAtom → Pddl
+  abbrev pub over : List Word → List GroundAtom → Pddl
   over names init = record {
     names = names;
     domain = renamed names c.hddl.names c.hddl.domain;
@@ -100,10 +98,11 @@ module _ (c : Compiled) (b : ℕ) (style : Style) where
   one_problem_text p q e f = problem-same p q (encoded-same p q e f)
 
   -- over any table there is an encoded value
-  pub some_encoded : (names : List Word) → (p : Pddl) × (p.names ≡ names) × IsEncoded c b style p
-  some_encoded names =
-      let (guards, a) = some_guard_atoms c names b style (guard_types c) in
-      (over names (first_atoms c names b style ++ guards), refl, record { domain = refl; problem = refl; types = refl; objects = refl; predicates = refl; actions = refl; init = (guards, a, refl); goal = refl })
+  pub over_is_encoded : (names : List Word) (guards : List GroundAtom) → AreGuardAtoms c names b style (guard_types c) guards → IsEncoded c b style (over names (first_atoms c names b style ++ guards))
+  over_is_encoded names guards a = record { domain = refl; problem = refl; types = refl; objects = refl; predicates = refl; actions = refl; init = (guards, a, refl); goal = refl }
+
+  some_encoded : (names : List Word) → (p : Pddl) × (p.names ≡ names) × IsEncoded c b style p
+  some_encoded names = let (guards, a) = some_guard_atoms c names b style (guard_types c) in (over names (first_atoms c names b style ++ guards), refl, over_is_encoded names guards a)
 
 -- two pairs of printed texts of one pair of source texts
 module _ (domain problem : List ℕ) (mode : Checks) (b : ℕ) (style : Style) (od op od' op' : List ℕ) (one : AreTextsFor domain problem mode b style od op) (other : AreTextsFor domain problem mode b style od' op') where
@@ -116,7 +115,7 @@ module _ (domain problem : List ℕ) (mode : Checks) (b : ℕ) (style : Style) (
       let (p, n, e) = some_encoded other.compiled b style words in
       let same = same_but_names domain problem one.read other.read one.spelled other.spelled other.sound in
       let apart = unions_apart domain problem one.read other.read one.spelled other.spelled other.sound in
-      let d = encoded_by other.read one.read mode other.compiled one.compiled b style p same apart other.sound other.is_compiled one.is_compiled e in (
+      let d = encoded_by other.read one.read mode other.compiled one.compiled same apart other.sound other.is_compiled one.is_compiled b style p e in (
         p,
         record { encoded = d; words = λ w h. subst (λ z. Contains z w) (sym n) (Contains-append_left (encoded_words one.compiled b) (encoded_words other.compiled b) w h) },
         record { encoded = e; words = λ w h. subst (λ z. Contains z w) (sym n) (Contains-append_right (encoded_words one.compiled b) (encoded_words other.compiled b) w h) },
@@ -128,6 +127,20 @@ module _ (domain problem : List ℕ) (mode : Checks) (b : ℕ) (style : Style) (
         one.domain_is ∙ one_domain_text one.compiled b style one.value p one.is_encoded e ∙ one_domain_text other.compiled b style p other.value f other.is_encoded ∙ sym other.domain_is,
         one.problem_is ∙ one_problem_text one.compiled b style one.value p one.is_encoded e ∙ one_problem_text other.compiled b style p other.value f other.is_encoded ∙ sym other.problem_is,
       )
+
+-- what the run knows of the value that it prints makes its texts those of the source texts
+pub are_texts : (domain problem : List ℕ) (read : Hddl) (mode : Checks) (c : Compiled) (b : ℕ) (style : Style) (p : Pddl) → IsHddlOf domain problem read → IsPrinted read mode c b style p → HasEncodedWords c b p.names → AreTextsFor domain problem mode b style (domain_text p) (problem_text p)
+are_texts domain problem read mode c b style p spelled printed words = record {
+  read = read;
+  spelled = spelled;
+  sound = printed.sound;
+  compiled = c;
+  is_compiled = printed.compiled;
+  value = p;
+  is_encoded = record { encoded = printed.encoded; words = words };
+  domain_is = refl;
+  problem_is = refl;
+}
 
 -- each sound value whose networks have no cycle has its pair of printed texts
 pub some_texts : (domain problem : List ℕ) (read : Hddl) (mode : Checks) (b : ℕ) (style : Style) → IsHddlOf domain problem read → IsSoundHddl read → AreOrdered read → HaveTexts domain problem mode b style

@@ -1,8 +1,8 @@
 -- When two formulas, or two effects, over two tables of names say the same, by their constructor, and lists of them.
-use Rattle.std.proofs.Common.{ℕ, ◌≡◌, Bool, true, false, cond, inl, inr, List, [], ◌∷◌, ◌++◌, map, refl, ap, ap₂, sym, ◌∙◌}
+use Rattle.std.proofs.Common.{◌≡◌, Bool, true, false, cond, inl, inr, List, [], ◌∷◌, ◌++◌, map, refl, ap, ap₂, sym, ◌∙◌}
 use Rattle.plan_texts.specs.Declared.{Declared}
 use Rattle.plan_texts.specs.Types.{Has}
-use Rattle.plan_texts.specs.Said.{typed, Said, holds, equal, no, all, every, saids, said_step, said, Done, adds, deletes, both, for_every, when, dones, done_step, done}
+use Rattle.plan_texts.specs.Said.{typed, holds, equal, no, all, every, saids, said, adds, deletes, both, for_every, when, dones, done}
 use Rattle.plan_texts.specs.Together.{Together}
 use Rattle.plan_texts.proofs.Together.{together-maps}
 use Rattle.plan_texts.proofs.Readings.{said_roll}

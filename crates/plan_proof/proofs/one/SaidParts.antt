@@ -1,5 +1,5 @@
 -- What is printed for a formula, and for an effect, is a function of what it says.
-use Rattle.std.proofs.Common.{ℕ, ◌≡◌, List, [], ◌∷◌, ◌++◌, map, codes, refl, ap, ap₂, sym, subst, ◌∙◌}
+use Rattle.std.proofs.Common.{◌≡◌, List, [], ◌∷◌, ◌++◌, map, codes, refl, ap, ap₂, sym, subst, ◌∙◌}
 use Rattle.text_forms.specs.Lists.{Part, Parts, group, nothing, part}
 use Rattle.text_forms.specs.Words.{Word}
 use Rattle.text_forms.specs.Printing.{headed}

@@ -1,5 +1,5 @@
 -- Two PDDL values that say the same in one order have the same two texts.
-use Rattle.std.proofs.Common.{ℕ, ◌≡◌, Bool, List, [], ◌∷◌, map, codes, refl, ap, sym, ◌∙◌}
+use Rattle.std.proofs.Common.{◌≡◌, Bool, List, [], ◌∷◌, map, codes, refl, ap, sym, ◌∙◌}
 use Rattle.text_forms.specs.Lists.{Part, name, group, nothing, part}
 use Rattle.text_forms.specs.Words.{Word, word_at}
 use Rattle.text_forms.specs.Printing.{headed, page}
@@ -8,10 +8,9 @@ use Rattle.plan_texts.specs.SpellsPddl.{pddl_words}
 use Rattle.plan_texts.specs.Said.{Typed, typed, Said, Done}
 use Rattle.plan_texts.specs.Alike.{object_said, predicate_said, action_said}
 use Rattle.plan_texts.specs.Printed.{all_parts, typed_parts, applied_part, formula_part}
-use Rattle.plan_texts.specs.PrintedTexts.{object_words, parent_words, predicate_part, action_part, domain_parts, problem_parts, domain_text, problem_text}
+use Rattle.plan_texts.specs.PrintedTexts.{object_words, parent_words, predicate_part, action_part, domain_text, problem_text}
 use Rattle.plan_texts.proofs.Unique.{map-map}
 use Rattle.plan_model.specs.declared.terms.Term.TheVariants.{Obj}
-use Rattle.plan_model.specs.declared.types.Object.{Object}
 use Rattle.plan_model.specs.declared.types.Parent.{Parent}
 use Rattle.plan_model.specs.declared.schemas.Predicate.{Predicate}
 use Rattle.plan_model.specs.declared.schemas.ActionSchema.{ActionSchema}

@@ -1,5 +1,5 @@
 -- A problem whose networks have no cycle has a compiled value in each mode.
-use Rattle.std.proofs.Common.{ℕ, zero, suc, ◌≡◌, ◌+◌, ◌<◌, ◌⊎◌, ◌↔◌, inl, inr, Bool, true, false, IsTrue, List, [], ◌∷◌, ◌++◌, length, Option, Some, None, slice_get, refl, ap, sym, subst, ◌∙◌, Contains, arith}
+use Rattle.std.proofs.Common.{ℕ, zero, suc, ◌≡◌, ◌+◌, ◌⊎◌, ◌↔◌, inl, inr, Bool, true, false, IsTrue, List, [], ◌∷◌, ◌++◌, length, Option, Some, None, slice_get, refl, ap, sym, subst, ◌∙◌, Contains, arith}
 use Rattle.std.specs.Prelude.{All, MatchOption}
 use Rattle.plan_model.specs.Typing.{union_at, IsPart, InType, IsA}
 use Rattle.plan_model.specs.Pairs.{pair, Pairs}
@@ -9,9 +9,7 @@ use Rattle.plan_model.specs.declared.terms.Param.{Param}
 use Rattle.plan_model.specs.declared.types.Object.{Object}
 use Rattle.plan_model.specs.declared.types.Types.{Types}
 use Rattle.plan_model.specs.declared.formulas.Formula.{Formula}
-use Rattle.plan_model.specs.declared.formulas.Formula.TheVariants.{And}
 use Rattle.plan_model.specs.declared.networks.Pair.{Pair}
-use Rattle.plan_model.specs.declared.networks.Guard.{Guard}
 use Rattle.plan_model.specs.declared.options.Checks.{Checks}
 use Rattle.plan_model.specs.declared.options.Checks.TheVariants.{Leaf, AtOnce}
 use Rattle.plan_model.specs.declared.schemas.MethodSchema.{MethodSchema}
@@ -21,7 +19,7 @@ use Rattle.plan_model.specs.declared.values.Compiled.{Compiled}
 use Rattle.plan_model.proofs.Numbers.{AreFound, found_none, found_more, found_less}
 use Rattle.plan_texts.specs.SpellsHddl.{hddl_words}
 use Rattle.plan_texts.specs.Said.{said}
-use Rattle.task_networks.specs.Order.{Precedes, direct, through, ArePairsOf, IsAcyclic, IsLine, IsMaximal}
+use Rattle.task_networks.specs.Order.{Precedes, direct, through, ArePairsOf, IsAcyclic, IsMaximal}
 use Rattle.task_networks.proofs.Orders.{next_among, is_some}
 use Rattle.task_networks.proofs.Lists.{Contains-here, Contains-later}
 use Rattle.bound_laws.proofs.Decided.{Or_not, same_or_not, less_or_not, not_or, both, some_or_not}

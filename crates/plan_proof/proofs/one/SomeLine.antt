@@ -1,10 +1,10 @@
 -- Where the pairs of a network have no cycle, its children have a line.
-use Rattle.std.proofs.Common.{ℕ, zero, suc, ◌≡◌, ◌+◌, ◌<◌, ◌≤◌, ◌⊎◌, inl, inr, List, [], ◌∷◌, ◌++◌, length, refl, ap, sym, subst, ◌∙◌, Contains, arith}
+use Rattle.std.proofs.Common.{ℕ, zero, suc, ◌≡◌, ◌+◌, ◌<◌, ◌⊎◌, inl, inr, List, [], ◌∷◌, ◌++◌, length, sym, subst, Contains, arith}
 use Rattle.std.proofs.lemmas.List.{length_push}
 use Rattle.std.proofs.lemmas.List.Elements.{Contains-push_cases, Contains-append_left}
 use Rattle.htn_base.specs.Different.{AreDifferent}
 use Rattle.htn_base.proofs.DifferentLemmas.{different-push}
-use Rattle.task_networks.specs.Order.{Precedes, direct, through, ArePairsOf, IsAcyclic, IsReady, IsNext, IsLine, IsMaximal}
+use Rattle.task_networks.specs.Order.{Precedes, direct, through, ArePairsOf, IsAcyclic, IsReady, IsNext, IsLine}
 use Rattle.task_networks.specs.Spelling.{numbers}
 use Rattle.task_networks.proofs.Different.{no_more}
 use Rattle.task_networks.proofs.Lists.{not-in_empty, cut_push}

@@ -70,6 +70,7 @@ pub record ArePlansAlike (v w : Declared) (p q : MethodPlan) : Type 0 where
   pub schema : method_said v p.schema ≡ method_said w q.schema
   pub checked : p.checked ≡ q.checked
   pub tested : p.tested ≡ q.tested
+  pub line : p.line ≡ q.line
   pub heir : p.heir ≡ q.heir
   pub copiers : p.copiers ≡ q.copiers
   pub guards : p.guards ≡ q.guards
@@ -230,7 +231,7 @@ module _ (c d : Hddl) (same : AreSameButNames c d) (sc : IsSoundHddl c) (sd : Is
         }
 
     pub plans_alike : ArePlansAlike v w p q
-    plans_alike = record { schema = schema_said; checked = same_checked; tested = same_tested; heir = same_heir; copiers = same_copiers; guards = same_guards }
+    plans_alike = record { schema = schema_said; checked = same_checked; tested = same_tested; line = same_line; heir = same_heir; copiers = same_copiers; guards = same_guards }
 
   pub plans-both : (mode : Checks) (ss ts : List MethodSchema) → Together (λ s t. method_said v s ≡ method_said w t) ss ts → EachIs (IsSoundMethod c) ss → EachIs (IsSoundMethod d) ts → (ps qs : List MethodPlan) → AreMethodPlans c mode ss ps → AreMethodPlans d mode ts qs
       → Together (λ p q. ArePlansAlike v w p q × (IsSoundPlan c p × IsSoundPlan d q)) ps qs
