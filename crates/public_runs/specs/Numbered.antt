@@ -11,17 +11,18 @@ abbrev pub AreNumbered : {X : Type 0} → (X → ℕ) → ℕ → List X → Typ
 AreNumbered number n [] = Unit {0}
 AreNumbered number n (x ∷ xs) = (number x ≡ n) × AreNumbered number (n + 1) xs
 
-pub record AreTwoObjects (objects : List Object) : Type 0 where
-  pub count : length objects ≡ 2
+-- named from the first word on
+pub record AreFewObjects (objects : List Object) : Type 0 where
+  pub count : length objects ≤ 100
   pub numbered : AreNumbered (λ (x : Object). x.name.number) 0 objects
 
--- their names come after those of the two objects
-pub record AreFewActions (actions : List ActionSchema) : Type 0 where
-  pub count : length actions ≤ 3
-  pub numbered : AreNumbered (λ (a : ActionSchema). a.name.number) 2 actions
+-- named from word n on
+pub record AreFewActions (n : ℕ) (actions : List ActionSchema) : Type 0 where
+  pub count : length actions ≤ 100
+  pub numbered : AreNumbered (λ (a : ActionSchema). a.name.number) n actions
 
-pub record IsNumbered (p : Pddl) : Type 0 where
+pub record IsNumbered (n : ℕ) (p : Pddl) : Type 0 where
   pub names : IsTable p.names
   pub types : AreListed p.types
-  pub objects : AreTwoObjects p.objects
-  pub actions : AreFewActions p.actions
+  pub objects : AreFewObjects p.objects
+  pub actions : AreFewActions n p.actions
