@@ -23,4 +23,5 @@ pub mod ReadTexts
 pub mod OneWord
 pub mod Rising
 pub mod EachList
+pub mod Arguments
 pub mod InOrder
