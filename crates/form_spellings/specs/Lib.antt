@@ -25,3 +25,4 @@ pub mod Rising
 pub mod EachList
 pub mod Arguments
 pub mod InOrder
+pub mod TypeOrder
