@@ -6,3 +6,7 @@ pub mod Formulas
 pub mod Effects
 pub mod Networks
 pub mod Parts
+pub mod TypeWords
+pub mod Sorted
+pub mod Heads
+pub mod Sections
