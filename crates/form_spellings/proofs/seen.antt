@@ -10,3 +10,5 @@ pub mod TypeWords
 pub mod Sorted
 pub mod Heads
 pub mod Sections
+pub mod Definitions
+pub mod Theorem

@@ -1,5 +1,5 @@
 -- The unions of what was read of a task, a method, an action, a predicate and a goal are those that they write, and facts write none.
-use Rattle.std.proofs.Common.{◌≡◌, ◌∙◌, ℕ, Bool, true, false, if◌then◌else◌, codes, Ok, Result, Option, Some, None, List, [], ◌∷◌, ◌++◌, refl, sym, ap, subst}
+use Rattle.std.proofs.Common.{◌≡◌, ◌∙◌, ℕ, Bool, true, false, if◌then◌else◌, codes, Ok, Option, Some, None, List, [], ◌∷◌, ◌++◌, refl, sym, ap, subst}
 use Rattle.std.proofs.lemmas.List.{append-nil}
 use Rattle.std.specs.List.{flat_map}
 use Rattle.std.specs.Option.{option_map}
@@ -8,7 +8,6 @@ use Rattle.text_forms.specs.Words.{Word}
 use Rattle.plan_texts.proofs.Basics.{bytes_eq-true}
 use Rattle.gd_reader.specs.declared.effects.RawEffect.{RawEffect}
 use Rattle.gd_reader.specs.declared.formulas.RawFormula.{RawFormula}
-use Rattle.gd_reader.specs.declared.stop.Stop.{Stop}
 use Rattle.gd_reader.specs.declared.term.RawAtom.{RawAtom}
 use Rattle.gd_reader.specs.declared.term.RawTerm.{RawTerm}
 use Rattle.gd_reader.specs.declared.typed_lists.ListKind.TheVariants as list_kind
@@ -23,7 +22,6 @@ use Rattle.hddl_reader.specs.declared.parts.RawParts.{RawParts}
 use Rattle.hddl_reader.specs.declared.sections.RawHead.{RawHead}
 use Rattle.hddl_reader.specs.declared.sections.RawMethod.{RawMethod}
 use Rattle.hddl_reader.specs.Networks.{declared, is_word, one_of, all_of}
-use Rattle.hddl_reader.specs.Parts.{parts}
 use Rattle.hddl_reader.specs.Sections.{or_none, or_true, or_nothing, head_of, network_of, action_of, method_of, with_kept, predicate_headed, used_names, assignment, fact, facts, named_parts, goal}
 use Rattle.form_spellings.specs.Written.{Union, params_unions, formula_unions, effect_unions, head_unions, method_unions, action_unions}
 use Rattle.form_spellings.proofs.KeptWords.{Reads, reads_then, reads_map, reads_weaken, reads_by, reads_end}
@@ -32,7 +30,7 @@ use Rattle.form_spellings.proofs.SchemasExact.{NamedKnown, named_known}
 use Rattle.form_spellings.proofs.TermsBound.{NameBound, used_bound}
 use Rattle.form_spellings.proofs.TermsExact.{reads_both, declared_bound}
 use Rattle.form_spellings.proofs.TermsIn.{same}
-use Rattle.form_spellings.proofs.seen.Adding.{Same, same_refl, same_by, same_join, same_then, in_option}
+use Rattle.form_spellings.proofs.seen.Adding.{Same, same_refl, same_join, in_option}
 use Rattle.form_spellings.proofs.seen.Effects.{no_effect_unions}
 use Rattle.form_spellings.proofs.seen.Erased.{unions_at, inside_at, named_inside}
 use Rattle.form_spellings.proofs.seen.Formulas.{FormulaSeen, inside_seen, true_unions, alone_at}
@@ -47,7 +45,7 @@ module _ (table : Names) where
   params_or_none None = refl
   params_or_none (Some xs) = refl
 
-  formula_or_true : (o : Option RawFormula) → formula_unions table (or_true o) ≡ in_option (formula_unions table) o
+  pub formula_or_true : (o : Option RawFormula) → formula_unions table (or_true o) ≡ in_option (formula_unions table) o
   formula_or_true None = true_unions table
   formula_or_true (Some f) = refl
 

@@ -1,5 +1,5 @@
 -- The unions and the words of types of the sections that were read are those that the sections write.
-use Rattle.std.proofs.Common.{◌≡◌, ◌∙◌, ℕ, suc, Bool, true, false, if◌then◌else◌, cond, codes, Ok, Err, Result, Option, Some, None, List, [], ◌∷◌, ◌++◌, refl, sym, ap, subst, arith}
+use Rattle.std.proofs.Common.{◌≡◌, ◌∙◌, ℕ, suc, Bool, true, false, if◌then◌else◌, cond, codes, Ok, Err, Result, Option, Some, List, [], ◌∷◌, ◌++◌, refl, sym, ap, subst, arith}
 use Rattle.std.specs.List.{flat_map}
 use Rattle.std.specs.Option.{is_some}
 use Rattle.std.specs.Str.{bytes_eq}
@@ -310,8 +310,11 @@ module _ (d : Definition) (st : RawSections) (at : ℕ) (w : Word) (p : Placed) 
   section_seen section.Action names k m = reads_map (ActionSeen p) (Stepped d section.Action st us p) names (named_parts parted.Action names p) (λ x. record st { actions = st.actions ++ action_of x.0 x.1 ∷ [] }) (action_seen p names)
       (λ x table is f. (in_domain d st (record st { actions = st.actions ++ action_of x.0 x.1 ∷ [] }) us table m (put_action st us table (action_of x.0 x.1) (subst (Same (action_unions table (action_of x.0 x.1))) (sym (behind_key (codes ":action") k)) is)), refl))
   section_seen section.Method names k m = reads_map (MethodSeen p) (Stepped d section.Method st us p) names (named_parts parted.Method names p) (λ x. record st { methods = st.methods ++ with_kept (method_of x.0 x.1) [] }) (method_seen p names)
-      (λ x table is f. (subst (λ o. Adds (sections_unions table d st) (sections_unions table d (record st { methods = st.methods ++ with_kept o [] })) us) (sym is.1)
-      (in_domain d st (record st { methods = st.methods ++ is.0 ∷ [] }) us table m (put_method st us table is.0 (subst (Same (method_unions table is.0)) (sym (behind_key (codes ":method") k)) is.2))), refl))
+      (λ x table is f. (
+        subst (λ o. Adds (sections_unions table d st) (sections_unions table d (record st { methods = st.methods ++ with_kept o [] })) us) (sym is.1)
+            (in_domain d st (record st { methods = st.methods ++ is.0 ∷ [] }) us table m (put_method st us table is.0 (subst (Same (method_unions table is.0)) (sym (behind_key (codes ":method") k)) is.2))),
+        refl,
+      ))
   section_seen section.Network names k m = reads_map (PartsAdd parted.Network no_parts (unions_at p)) (Stepped d section.Network st us p) names (parts parted.Network no_parts names p) (λ x. record st { network = Some x }) (parts_seen p parted.Network no_parts names)
       (λ x table is f. (in_problem d st (record st { network = Some x }) us table m (put_network st us table x (network x table is) f), refl))
     where

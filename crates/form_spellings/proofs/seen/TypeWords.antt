@@ -1,19 +1,18 @@
 -- The words of a list of types that was read are those that its parts write, and its items are those that they say.
-use Rattle.std.proofs.Common.{◌≡◌, ◌∙◌, ◌↔◌, ℕ, suc, ◌≤◌, inl, inr, Bool, true, false, cond, codes, Ok, Err, Result, List, [], ◌∷◌, ◌++◌, map, Option, Some, None, refl, sym, ap, subst, arith}
+use Rattle.std.proofs.Common.{◌≡◌, ◌∙◌, ℕ, suc, inl, inr, Bool, true, false, cond, codes, Ok, Result, List, [], ◌∷◌, ◌++◌, map, Option, None, refl, sym, ap, subst, arith}
 use Rattle.std.proofs.lemmas.Bool.{cond-true, cond-false}
 use Rattle.std.specs.Str.{bytes_eq}
-use Rattle.text_forms.specs.Lists.{Part, Parts, name, group, nothing, part}
+use Rattle.text_forms.specs.Lists.{Part, Parts, nothing, part}
 use Rattle.text_forms.specs.Placed.{Placed, cut, close, word, list, parts_of}
 use Rattle.text_forms.specs.Words.{Word, is_name}
 use Rattle.plan_texts.specs.Declared.{Declared, named}
 use Rattle.plan_texts.specs.FirstSeen.{type_words_in, word_said, type_items}
 use Rattle.plan_texts.specs.Together.{Together}
-use Rattle.plan_texts.specs.TypedLists.{is_dash, ahead, first_part, skipped, skipped_by, EachTyped}
-use Rattle.plan_texts.specs.Types.{Has, TypeItem, IsTypeItem, parent_said}
+use Rattle.plan_texts.specs.TypedLists.{is_dash, ahead, skipped, skipped_by, EachTyped}
+use Rattle.plan_texts.specs.Types.{TypeItem, IsTypeItem, parent_said}
 use Rattle.plan_texts.proofs.Basics.{no_keyword'}
 use Rattle.plan_texts.proofs.Unique.{map-append}
 use Rattle.gd_reader.specs.declared.stop.Stop.{Stop}
-use Rattle.gd_reader.specs.declared.stop.Stop.TheVariants.{Departs}
 use Rattle.gd_reader.specs.declared.term.RawTerm.{RawTerm}
 use Rattle.gd_reader.specs.declared.typed_lists.ListKind.TheVariants.{Types}
 use Rattle.gd_reader.specs.declared.typed_lists.RawParam.{RawParam}
@@ -21,7 +20,7 @@ use Rattle.gd_reader.specs.declared.words.Sort.{Sort}
 use Rattle.gd_reader.specs.declared.words.Sort.TheVariants.{Variable, Name, Other}
 use Rattle.gd_reader.specs.Answers.{◌>>=◌}
 use Rattle.gd_reader.specs.Terms.{Names}
-use Rattle.gd_reader.specs.TypedLists.{State, declares as declares_word, undeclared, param_by, param_due, type_by, type_due, union_due, with_type, Rest, one_more, typed_with, params, behind, typed, listed}
+use Rattle.gd_reader.specs.TypedLists.{State, param_by, param_due, type_by, type_due, with_type, Rest, one_more, typed_with, params, behind, typed, listed}
 use Rattle.gd_reader.specs.Words.{sort_of, is_hyphen}
 use Rattle.gd_reader.proofs.Keeping.{keeps_same, keeps_word}
 use Rattle.form_spellings.specs.Bound.{parent_of, IsBoundType}
@@ -36,7 +35,7 @@ use Rattle.form_spellings.proofs.Unions.{flip}
 use Rattle.form_spellings.proofs.WordTests.{name_of_sort}
 use Rattle.form_spellings.proofs.order.Climbs.{Climbs, climbs_from}
 use Rattle.form_spellings.proofs.order.Spans.{Span, fits}
-use Rattle.form_spellings.proofs.seen.Adding.{Same, same_refl, same_by, same_join, same_then, has_split, has_left, has_right}
+use Rattle.form_spellings.proofs.seen.Adding.{Same, same_refl, same_by, same_join, has_split, has_left, has_right}
 
 abbrev word_of : ℕ → Word → Written Word
 word_of at w = record { at = at; is = w }
