@@ -182,17 +182,17 @@ module _ (table : Names) where
   abbrev tasks_in : RawSections → List Union
   tasks_in st = flat_map (head_unions table) st.tasks
 
-  abbrev methods_in : RawSections → List Union
-  methods_in st = flat_map (method_unions table) st.methods
-
   abbrev actions_in : RawSections → List Union
   actions_in st = flat_map (action_unions table) st.actions
+
+  abbrev methods_in : RawSections → List Union
+  methods_in st = flat_map (method_unions table) st.methods
 
   abbrev pub network_in : RawParts → List Union
   network_in y = params_unions table (or_none y.params)
 
   abbrev pub sections_unions : Definition → RawSections → List Union
-  sections_unions definition.Domain st = predicates_in st ++ (tasks_in st ++ (methods_in st ++ actions_in st))
+  sections_unions definition.Domain st = predicates_in st ++ (tasks_in st ++ (actions_in st ++ methods_in st))
   sections_unions definition.Problem st = in_option network_in st.network ++ in_option (formula_unions table) st.goal
 
 -- A section is put to those in front of it: its unions are added, and its types, if it is that of types.
@@ -217,27 +217,27 @@ in_problem definition.Problem st r us table e a = a
 
 module _ (st : RawSections) (us : List Union) (table : Names) where
   put_predicates : (xs : List RawHead) → Same (flat_map (head_unions table) xs) us → is_some st.predicates ≡ false → Adds (sections_unions table definition.Domain st) (sections_unions table definition.Domain (record st { predicates = Some xs })) us
-  put_predicates xs is e = adds_front (predicates_in table st) (flat_map (head_unions table) xs) us (tasks_in table st ++ (methods_in table st ++ actions_in table st)) (fills (flat_map (head_unions table)) st.predicates xs us e is)
+  put_predicates xs is e = adds_front (predicates_in table st) (flat_map (head_unions table) xs) us (tasks_in table st ++ (actions_in table st ++ methods_in table st)) (fills (flat_map (head_unions table)) st.predicates xs us e is)
 
   put_task : (x : RawHead) → Same (head_unions table x) us → Adds (sections_unions table definition.Domain st) (sections_unions table definition.Domain (record st { tasks = st.tasks ++ x ∷ [] })) us
   put_task x is =
-      adds_back (predicates_in table st) (tasks_in table st ++ (methods_in table st ++ actions_in table st)) (flat_map (head_unions table) (st.tasks ++ x ∷ []) ++ (methods_in table st ++ actions_in table st)) us
-      (adds_front (tasks_in table st) (flat_map (head_unions table) (st.tasks ++ x ∷ [])) us (methods_in table st ++ actions_in table st)
+      adds_back (predicates_in table st) (tasks_in table st ++ (actions_in table st ++ methods_in table st)) (flat_map (head_unions table) (st.tasks ++ x ∷ []) ++ (actions_in table st ++ methods_in table st)) us
+      (adds_front (tasks_in table st) (flat_map (head_unions table) (st.tasks ++ x ∷ [])) us (actions_in table st ++ methods_in table st)
       (adds_same (tasks_in table st) (flat_map (head_unions table) (st.tasks ++ x ∷ [])) (head_unions table x) us is (grows (head_unions table) st.tasks x)))
-
-  put_method : (x : RawMethod) → Same (method_unions table x) us → Adds (sections_unions table definition.Domain st) (sections_unions table definition.Domain (record st { methods = st.methods ++ x ∷ [] })) us
-  put_method x is =
-      adds_back (predicates_in table st) (tasks_in table st ++ (methods_in table st ++ actions_in table st)) (tasks_in table st ++ (flat_map (method_unions table) (st.methods ++ x ∷ []) ++ actions_in table st)) us
-      (adds_back (tasks_in table st) (methods_in table st ++ actions_in table st) (flat_map (method_unions table) (st.methods ++ x ∷ []) ++ actions_in table st) us
-      (adds_front (methods_in table st) (flat_map (method_unions table) (st.methods ++ x ∷ [])) us (actions_in table st)
-      (adds_same (methods_in table st) (flat_map (method_unions table) (st.methods ++ x ∷ [])) (method_unions table x) us is (grows (method_unions table) st.methods x))))
 
   put_action : (x : RawAction) → Same (action_unions table x) us → Adds (sections_unions table definition.Domain st) (sections_unions table definition.Domain (record st { actions = st.actions ++ x ∷ [] })) us
   put_action x is =
-      adds_back (predicates_in table st) (tasks_in table st ++ (methods_in table st ++ actions_in table st)) (tasks_in table st ++ (methods_in table st ++ flat_map (action_unions table) (st.actions ++ x ∷ []))) us
-      (adds_back (tasks_in table st) (methods_in table st ++ actions_in table st) (methods_in table st ++ flat_map (action_unions table) (st.actions ++ x ∷ [])) us
-      (adds_back (methods_in table st) (actions_in table st) (flat_map (action_unions table) (st.actions ++ x ∷ [])) us
+      adds_back (predicates_in table st) (tasks_in table st ++ (actions_in table st ++ methods_in table st)) (tasks_in table st ++ (flat_map (action_unions table) (st.actions ++ x ∷ []) ++ methods_in table st)) us
+      (adds_back (tasks_in table st) (actions_in table st ++ methods_in table st) (flat_map (action_unions table) (st.actions ++ x ∷ []) ++ methods_in table st) us
+      (adds_front (actions_in table st) (flat_map (action_unions table) (st.actions ++ x ∷ [])) us (methods_in table st)
       (adds_same (actions_in table st) (flat_map (action_unions table) (st.actions ++ x ∷ [])) (action_unions table x) us is (grows (action_unions table) st.actions x))))
+
+  put_method : (x : RawMethod) → Same (method_unions table x) us → Adds (sections_unions table definition.Domain st) (sections_unions table definition.Domain (record st { methods = st.methods ++ x ∷ [] })) us
+  put_method x is =
+      adds_back (predicates_in table st) (tasks_in table st ++ (actions_in table st ++ methods_in table st)) (tasks_in table st ++ (actions_in table st ++ flat_map (method_unions table) (st.methods ++ x ∷ []))) us
+      (adds_back (tasks_in table st) (actions_in table st ++ methods_in table st) (actions_in table st ++ flat_map (method_unions table) (st.methods ++ x ∷ [])) us
+      (adds_back (actions_in table st) (methods_in table st) (flat_map (method_unions table) (st.methods ++ x ∷ [])) us
+      (adds_same (methods_in table st) (flat_map (method_unions table) (st.methods ++ x ∷ [])) (method_unions table x) us is (grows (method_unions table) st.methods x))))
 
   put_network : (y : RawParts) → Same (network_in table y) us → is_some st.network ≡ false → Adds (sections_unions table definition.Problem st) (sections_unions table definition.Problem (record st { network = Some y })) us
   put_network y is e = adds_front (in_option (network_in table) st.network) (network_in table y) us (in_option (formula_unions table) st.goal) (fills (network_in table) st.network y us e is)

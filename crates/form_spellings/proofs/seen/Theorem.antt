@@ -80,7 +80,7 @@ module _ (table : Names) where
   network_or_empty (Some y) = refl
 
   domain_fields : (x : Name × RawSections) → domain_unions table (domain_of x) ≡ sections_unions table definition.Domain x.1
-  domain_fields x = ap (λ us. us ++ (flat_map (head_unions table) x.1.tasks ++ (flat_map (method_unions table) x.1.methods ++ flat_map (action_unions table) x.1.actions))) (heads_or_none x.1.predicates)
+  domain_fields x = ap (λ us. us ++ (flat_map (head_unions table) x.1.tasks ++ (flat_map (action_unions table) x.1.actions ++ flat_map (method_unions table) x.1.methods))) (heads_or_none x.1.predicates)
 
   problem_fields : (x : Name × RawSections) → problem_unions table (problem_of x) ≡ sections_unions table definition.Problem x.1
   problem_fields x i = network_or_empty x.1.network i ++ formula_or_true table x.1.goal i
