@@ -12,3 +12,4 @@ pub mod Heads
 pub mod Sections
 pub mod Definitions
 pub mod Theorem
+pub mod Mapped
