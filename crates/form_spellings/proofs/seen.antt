@@ -13,3 +13,4 @@ pub mod Sections
 pub mod Definitions
 pub mod Theorem
 pub mod Mapped
+pub mod TypeLists

@@ -8,6 +8,7 @@ use Rattle.htn_base.specs.Words.{folded}
 use Rattle.text_forms.specs.Bytes.{blank, opening, closing, letter, bad, is_letter, is_white, class_of, class_in, comment_after, classes_from}
 use Rattle.text_forms.specs.LongestRuns.{IsLongestRun}
 use Rattle.text_forms.specs.Printing.{are_folded}
+use Rattle.form_spellings.proofs.PlacesSeen.{from_drop}
 
 -- each of these bytes may stand in a word
 abbrev AreLetters : List ℕ → Type 0
@@ -32,12 +33,7 @@ classed c [] k b e f = cc
 classed c (x ∷ text) zero b e f = let s : x ≡ b = cc in subst (λ b. is_letter b ≡ true) s (in_class c x (let g : class_in c x ≡ letter = cc in g))
 classed c (x ∷ text) (suc k) b e f = classed (comment_after c x) text k b e f
 
--- a part of a list
-get_drop : (n k : ℕ) (xs : List ℕ) → slice_get (drop n xs) k ≡ slice_get xs (n + k)
-get_drop zero k xs = let e : k ≡ 0 + k = omega arith in ap (slice_get xs) e
-get_drop (suc n) k [] = refl
-get_drop (suc n) k (x ∷ xs) = let e : suc n + k ≡ suc (n + k) = omega arith in get_drop n k xs ∙ ap (slice_get (x ∷ xs)) (sym e)
-
+-- within the first of a list
 get_take : (n k b : ℕ) (xs : List ℕ) → slice_get (take n xs) k ≡ Some b → (k < n) × (slice_get xs k ≡ Some b)
 get_take zero k b xs e = cc
 get_take (suc n) k b [] e = cc
@@ -65,4 +61,4 @@ pub run_folds : (text : List ℕ) (first behind : ℕ) → IsLongestRun text fir
 run_folds text first behind run = folds (slice_range text first behind) (λ k b e.
     (let r = get_take (behind - first) k b (drop first text) e in
     let l = r.0 in
-    classed false text (first + k) b (run.letters (first + k) (omega arith) (omega arith)) (sym (get_drop first k text) ∙ r.1)))
+    classed false text (first + k) b (run.letters (first + k) (omega arith) (omega arith)) (from_drop first text k ∙ r.1)))

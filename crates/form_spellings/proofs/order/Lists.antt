@@ -12,6 +12,7 @@ use Rattle.text_forms.specs.Words.{Word, is_among}
 use Rattle.plan_texts.specs.Declared.{named}
 use Rattle.plan_texts.specs.Printable.{IsPlain, IsPlainVariable}
 use Rattle.plan_texts.specs.Types.{EachIs}
+use Rattle.plan_texts.proofs.SoundProblems.{each-more}
 use Rattle.gd_reader.specs.declared.stop.Stop.{Stop}
 use Rattle.gd_reader.specs.declared.stop.Stop.TheVariants.{Departs}
 use Rattle.gd_reader.specs.declared.term.RawTerm.{RawTerm}
@@ -228,25 +229,17 @@ list_is kind from to xs table is = record {
 pub no_list : (kind : ListKind) (table : Names) → IsListInOrder table kind []
 no_list kind table = list_is kind 0 0 [] table (no_params kind 0 0 [] table (omega arith))
 
-each_types : {P Q : RawParam → Type 0} (xs : List RawParam) → ((x : RawParam) → P x → Q x) → EachIs P xs → EachIs Q xs
-each_types [] h e = tt
-each_types (x ∷ xs) h e = (h x e.0, each_types xs h e.1)
-
 -- of the variables that a predicate declares
 pub variables_are : (table : Names) (kind : ListKind) (xs : List RawParam) → are_variables kind ≡ true → IsListInOrder table kind xs → AreVariables table xs
 variables_are table kind xs e is = record {
   plain = subst (λ b. EachIs (λ (x : RawParam). IsDeclarable b (param_word table x)) xs) e is.words;
-  types_once = each_types xs (λ x t. t.differ) is.types;
+  types_once = each-more (HasTypes table) (IsWrittenOnce table) xs (λ x t. t.differ) is.types;
   in_order = is.rise;
-  types_behind = each_types xs (λ x t. t.behind) is.types;
+  types_behind = each-more (HasTypes table) HasTypesBehind xs (λ x t. t.behind) is.types;
 }
 
 pub parameters_are : (table : Names) (xs : List RawParam) → IsListInOrder table Parameters xs → AreParameters table xs
 parameters_are table xs is = record { variables = variables_are table Parameters xs refl is; differ = is.once refl }
-
-type_words : (table : Names) (ts : List RawTerm) → EachIs (IsTypeName table) ts → EachIs (λ t. IsPlainName table t) ts
-type_words table [] e = tt
-type_words table (t ∷ ts) e = (e.0.1, type_words table ts e.1)
 
 -- of objects and types
 pub typed_names : (table : Names) (kind : ListKind) (xs : List RawParam) → are_variables kind ≡ false → IsListInOrder table kind xs → EachIs (IsTypedName table) xs
@@ -254,7 +247,7 @@ typed_names table kind xs e is = go xs (subst (λ b. EachIs (λ (x : RawParam). 
   where
     go : (xs : List RawParam) → EachIs (λ (x : RawParam). IsPlain (param_word table x)) xs → EachIs (HasTypes table) xs → EachIs (λ (x : RawParam). length x.ty ≤ 1) xs → EachIs (IsTypedName table) xs
     go [] a b c = tt
-    go (x ∷ xs) a b c = (record { plain = a.0; types_plain = type_words table x.ty b.0.names; one_type = c.0; type_behind = b.0.behind }, go xs a.1 b.1 c.1)
+    go (x ∷ xs) a b c = (record { plain = a.0; types_plain = each-more (IsTypeName table) (IsPlainName table) x.ty (λ t n. n.1) b.0.names; one_type = c.0; type_behind = b.0.behind }, go xs a.1 b.1 c.1)
 
 abbrev pub ListInOrder : ListKind → List RawParam → Names → Type 0
 ListInOrder kind xs table = IsListInOrder table kind xs

@@ -36,13 +36,13 @@ use Rattle.form_spellings.proofs.seen.Sorted.{place, kept_same, kept_both}
 use Rattle.form_spellings.proofs.seen.TypeWords.{items_seen}
 
 -- A list that was read, by what the text shows at rising places.
-record IsShown {X : Type 0} (read : List (Written X)) (text : List X) : Type 0 where
-  ordered : List (Written X)
-  from : ℕ
-  to : ℕ
-  climbs : Climbs place from ordered to
-  same : Same read ordered
-  text_is : text ≡ all_written ordered
+pub record IsShown {X : Type 0} (read : List (Written X)) (text : List X) : Type 0 where
+  pub ordered : List (Written X)
+  pub from : ℕ
+  pub to : ℕ
+  pub climbs : Climbs place from ordered to
+  pub same : Same read ordered
+  pub text_is : text ≡ all_written ordered
 
 written_as : {X : Type 0} (read : List (Written X)) (text : List X) → IsShown read text → IsWrittenAs read text
 written_as read text s = record { ordered = s.ordered; rise = climbs_rise place s.ordered s.from s.to s.climbs; same = contained read s.ordered s.same; text_is = s.text_is }
@@ -54,7 +54,7 @@ permuted xs ys p x = (
 )
 
 -- words of types
-words_kept : (read words : List (Written Word)) (text seen : List Word) → IsShown read text → AreSorted read words → first_seen seen (all_written words) ≡ first_seen seen text
+pub words_kept : (read words : List (Written Word)) (text seen : List Word) → IsShown read text → AreSorted read words → first_seen seen (all_written words) ≡ first_seen seen text
 words_kept read words text seen s a =
     kept_same bytes_eq bytes_eq-refl first_seen (λ seen. refl) (λ seen x xs. refl) words s.ordered seen s.from s.to a.rise s.climbs (same_then words read s.ordered (permuted read words a.same) s.same)
     ∙ ap (first_seen seen) (sym s.text_is)
