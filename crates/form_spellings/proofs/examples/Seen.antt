@@ -1,6 +1,6 @@
 -- A small domain: its types in the order in which its text first names them, and a union that two variables share.
-use Rattle.std.proofs.Common.{◌≡◌, ℕ, false, List, [], ◌∷◌, codes, Some, refl, arith}
-use Rattle.text_forms.specs.Lists.{Parts, nothing, part, name, group}
+use Rattle.std.proofs.Common.{◌≡◌, ℕ, false, List, [], ◌∷◌, codes, refl}
+use Rattle.text_forms.specs.Lists.{Parts, nothing, part, name}
 use Rattle.text_forms.specs.Printing.{headed}
 use Rattle.text_forms.specs.Words.{Word}
 use Rattle.plan_texts.specs.FirstSeen.{types_in_order, pairs_in_order, unions_in_all}

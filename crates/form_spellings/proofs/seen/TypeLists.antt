@@ -1,12 +1,11 @@
 -- The words of a list of types, put in the order of their offsets, name the types in the order of the text.
-use Rattle.std.proofs.Common.{◌≡◌, ◌∙◌, ℕ, zero, suc, ◌≤◌, ◌<◌, List, [], ◌∷◌, map, length, slice_index_or, refl, sym, ap, subst, arith}
+use Rattle.std.proofs.Common.{◌≡◌, ◌∙◌, ℕ, zero, suc, ◌<◌, List, [], ◌∷◌, map, length, slice_index_or, refl, sym, ap, arith}
 use Rattle.std.proofs.lemmas.List.Sorted.{IsPermutation-map}
 use Rattle.std.specs.List.Sorted.{IsNonDecreasingBy}
 use Rattle.text_forms.specs.Placed.{parts_at, parts_of}
 use Rattle.plan_texts.specs.FirstSeen.{type_words_in}
 use Rattle.plan_texts.specs.TypedLists.{first_seen}
 use Rattle.plan_texts.proofs.Unique.{map-map}
-use Rattle.gd_reader.specs.declared.term.RawTerm.{RawTerm}
 use Rattle.gd_reader.specs.declared.typed_lists.ListKind.TheVariants.{Types}
 use Rattle.gd_reader.specs.TypedLists.{listed}
 use Rattle.form_spellings.specs.Rising.{mentioned}
