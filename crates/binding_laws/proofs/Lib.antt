@@ -30,3 +30,12 @@ pub mod SchemaFaults
 pub mod MethodFaults
 pub mod DomainParts
 pub mod ProblemParts
+pub mod SchemaValues
+pub mod MethodValues
+pub mod PartValues
+pub mod TypeCycles
+pub mod LeastSpots
+pub mod TableKeeps
+pub mod DomainFaults
+pub mod ProblemFaults
+pub mod WholeFaults
