@@ -59,14 +59,25 @@ fn pairs_among(
         offsets: List::new(alloc),
     };
     for item in listed.as_slice() {
-        if let Some(child) = place_among(types, count, item.name) {
-            written.put_parents(types, count, child, item.at, item.ty.as_slice())?;
-        }
+        written.put_item(types, count, item)?;
     }
     Ok(written)
 }
 
 impl ParentPairs {
+    /// Puts the pairs of a word of the section and its parents behind the others.
+    fn put_item(&mut self, types: &Places, count: u32, item: &RawParam) -> Result<(), Memory>
+        ensures pairs { OnOk result
+            (self.new.pairs ≡ self.old.pairs ++ spec.pairs_behind types.now count item.now) }
+        ensures offsets { OnOk result
+            (self.new.offsets ≡ self.old.offsets ++ spec.places_behind types.now count item.now) }
+    {
+        match place_among(types, count, item.name) {
+            Some(child) => self.put_parents(types, count, child, item.at, item.ty.as_slice()),
+            None => Ok(()),
+        }
+    }
+
     /// Puts the pairs of a child, whose word stands at this offset, and its parents behind the others.
     fn put_parents(
         &mut self,
@@ -82,8 +93,8 @@ impl ParentPairs {
             ++ map (λ _. at) (flat_map (spec.pair_among types.now count child) parents.now)) }
     {
         for parent in parents {
-            let parent = parent_among(types, count, child, parent.name);
-            self.put(child, parent, at)?;
+            let place = parent_among(types, count, child, parent.name);
+            self.put(child, place, at)?;
         }
         Ok(())
     }

@@ -9,11 +9,7 @@ use plan_model::Types;
 use std::alloc::Global;
 
 /// The types of a table as a part of a value, with the pairs of this section of types.
-pub fn types_of(
-    alloc: Global,
-    table: &TypeTable,
-    listed: &List<RawParam>,
-) -> Result<Types, Memory>
+pub fn types_of(alloc: Global, table: &TypeTable, listed: &List<RawParam>) -> Result<Types, Memory>
     ensures types { IfOk result (λ types.
         types ≡ types_bound table.now (pairs_in_order table.now.types listed.now)) }
 {

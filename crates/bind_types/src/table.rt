@@ -1,7 +1,7 @@
 ghost use Rattle.std.specs.Prelude.{◌≡◌, [], ◌∷◌, map, length, IfOk, OnOk, unwrap_or};
 ghost use Rattle.std.specs.List.{fold};
 ghost use Rattle.std.specs.List.Sorted.{IsPermutation, IsNonDecreasingBy};
-ghost use Rattle.htn_base.specs.Table.{with_word};
+ghost use Rattle.htn_base.specs.Table.{with_word, words_of};
 ghost use Rattle.name_numbers.specs.Spots.{noted};
 ghost use Rattle.bind_types.specs.Parents.{pairs_in_order};
 ghost use Rattle.bind_types.specs.Unions.{members_of, AreWith};
@@ -61,11 +61,7 @@ impl TypeTable {
     }
 
     /// The pairs of types and parents of a section of these types.
-    pub fn parents_of(
-        &self,
-        alloc: Global,
-        listed: &List<RawParam>,
-    ) -> Result<List<Parent>, Memory>
+    pub fn parents_of(&self, alloc: Global, listed: &List<RawParam>) -> Result<List<Parent>, Memory>
         ensures pairs { IfOk result
             (λ pairs. pairs ≡ pairs_in_order self.now.types listed.now) }
     {
@@ -76,11 +72,7 @@ impl TypeTable {
     pub fn unions_of(&self, alloc: Global) -> Result<List<List<u32>>, Memory>
         ensures unions { IfOk result (λ unions. unions ≡ self.now.unions) }
     {
-        let mut unions = List::new(alloc);
-        for union in self.unions.as_slice() {
-            unions.put(listed(alloc, union.as_slice()))?;
-        }
-        Ok(unions)
+        lists_of(alloc, self.unions.as_slice())
     }
 
     /// The number of a type as it is written: 0 where none is, the type's own where there is one, and where there are two or more
@@ -196,6 +188,18 @@ impl TypeTable {
             None => Ok(0),
         }
     }
+}
+
+/// These lists of numbers.
+fn lists_of(alloc: Global, stored: &[Vec<u32>]) -> Result<List<List<u32>>, Memory>
+    ensures same { IfOk result (λ lists. lists ≡ words_of stored.now) }
+{
+    let mut lists = List::new(alloc);
+    for numbers in stored {
+        let list = listed(alloc, numbers.as_slice())?;
+        lists.push(list)?;
+    }
+    Ok(lists)
 }
 
 /// These numbers in a list of their own.
