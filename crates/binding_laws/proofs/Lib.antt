@@ -39,3 +39,13 @@ pub mod TableKeeps
 pub mod DomainFaults
 pub mod ProblemFaults
 pub mod WholeFaults
+pub mod WrittenFormulas
+pub mod WrittenEffects
+pub mod UnionTables
+pub mod NumberedTypes
+pub mod WordsInUse
+pub mod NoTypeCycle
+pub mod TypePairs
+pub mod BoundTypes
+pub mod NoSeconds
+pub mod WholeValues

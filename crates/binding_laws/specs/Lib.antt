@@ -17,3 +17,5 @@ pub mod Schemas
 pub mod SchemaValues
 pub mod TypeCycles
 pub mod WholeFaults
+pub mod BoundTypes
+pub mod WholeValues
