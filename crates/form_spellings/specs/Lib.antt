@@ -28,6 +28,3 @@ pub mod InOrder
 pub mod Written
 pub mod SeenInOrder
 pub mod TypeOrder
-pub mod TypeOrder
-pub mod Written
-pub mod SeenInOrder
