@@ -64,7 +64,7 @@ module _ (names : Names) (differ : AreDifferent names) where
   objects_in [] is = tt
   objects_in (x ∷ xs) is = (is.0.0, objects_in xs is.1)
 
-  objects_said : (xs : List RawParam) → words_of names (objects_declared xs) ≡ map (λ (x : RawParam). word_at names x.name.number) xs
+  pub objects_said : (xs : List RawParam) → words_of names (objects_declared xs) ≡ map (λ (x : RawParam). word_at names x.name.number) xs
   objects_said [] = refl
   objects_said (x ∷ xs) = ap (λ ws. word_at names x.name.number ∷ ws) (objects_said xs)
 

@@ -92,7 +92,7 @@ module _ (names : Names) (d : RawDomain) (kinds : Kinds) (of : AreTypesOf names 
         numbers_differ ts is.1 g n.1,
       )
 
-  members_are : (ts : List RawTerm) → AreTermsIn names ts → kind_faults kinds ts ≡ [] → AreDifferent (map (term_word names) ts) → members_written kinds ts ≡ map (type_number kinds) ts
+  pub members_are : (ts : List RawTerm) → AreTermsIn names ts → kind_faults kinds ts ≡ [] → AreDifferent (map (term_word names) ts) → members_written kinds ts ≡ map (type_number kinds) ts
   members_are ts is e n = seen_once [] (map (type_number kinds) ts) (numbers_differ ts is e n) (λ m h g. g)
 
   module _ (v : Declared) (has : HasKinds v names kinds) where

@@ -14,3 +14,8 @@ pub mod InOrder
 pub mod NetworkValues
 pub mod TypeWords
 pub mod Schemas
+pub mod SchemaValues
+pub mod TypeCycles
+pub mod WholeFaults
+pub mod BoundTypes
+pub mod WholeValues

@@ -14,6 +14,7 @@
 mod laws;
 mod networks;
 mod schemas;
+mod texts;
 mod types;
 
 pub use laws::{
@@ -21,5 +22,6 @@ pub use laws::{
     terms_are_bound, types_are_bound, uses_are_said,
 };
 pub use networks::{calls_are_said, networks_are_said, orders_are_said, seconds_are_said};
-pub use schemas::schemas_are_said;
-pub use types::domain_types_are_said;
+pub use schemas::{schemas_are_bound, schemas_are_said};
+pub use texts::{whole_texts_are_bound, whole_texts_are_judged};
+pub use types::{domain_types_are_bound, domain_types_are_said};

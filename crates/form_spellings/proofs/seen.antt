@@ -6,3 +6,11 @@ pub mod Formulas
 pub mod Effects
 pub mod Networks
 pub mod Parts
+pub mod TypeWords
+pub mod Sorted
+pub mod Heads
+pub mod Sections
+pub mod Definitions
+pub mod Theorem
+pub mod Mapped
+pub mod TypeLists

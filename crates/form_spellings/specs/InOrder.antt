@@ -18,6 +18,7 @@ use Rattle.hddl_reader.specs.declared.sections.RawProblem.{RawProblem}
 use Rattle.plan_texts.specs.Declared.{named}
 use Rattle.plan_texts.specs.Printable.{IsPlain, IsPlainVariable}
 use Rattle.plan_texts.specs.Types.{EachIs}
+use Rattle.form_spellings.specs.Arguments.{IsFormulaInOrder, IsEffectInOrder}
 use Rattle.form_spellings.specs.EachList.{OfEachList, OfEachListOfEffect}
 use Rattle.form_spellings.specs.InTable.{IsDomainIn, IsProblemIn}
 use Rattle.form_spellings.specs.Rising.{Rise, term_offsets, param_offsets, head_offsets, action_offsets, method_offsets, atom_offsets}
@@ -81,12 +82,15 @@ module _ (names : Names) where
     pub head : IsHeadInOrder m.head
     pub task : IsAtomInOrder m.task
     pub pre : OfEachList AreParameters m.pre
+    pub pre_in_order : IsFormulaInOrder m.pre
     pub net : IsNetworkInOrder m.net
 
   pub record IsActionInOrder (a : RawAction) : Type 0 where
     pub head : IsHeadInOrder a.head
     pub pre : OfEachList AreParameters a.pre
     pub eff : OfEachListOfEffect AreParameters a.eff
+    pub pre_in_order : IsFormulaInOrder a.pre
+    pub eff_in_order : IsEffectInOrder a.eff
 
   pub record IsDomainInOrder (d : RawDomain) : Type 0 where
     -- each name that is declared or used is in the table: of types, predicates, tasks, methods, actions, ids, objects, variables
@@ -121,6 +125,7 @@ module _ (names : Names) where
     pub net : IsNetworkInOrder p.net
     pub facts : EachIs IsAtomInOrder p.init
     pub goal : OfEachList AreParameters p.goal
+    pub goal_in_order : IsFormulaInOrder p.goal
     -- the names of objects and the facts, in the order in which they were read
     pub objects_in_order : Rise (param_offsets p.objects)
     pub facts_in_order : Rise (atom_offsets p.init)
@@ -129,8 +134,9 @@ module _ (names : Names) where
 abbrev pub DomainIsInOrder : Names → RawDomain → Type 0
 DomainIsInOrder names d = AreDifferent names → IsDomainInOrder names d
 
-abbrev pub ListsAreParameters : Names → RawFormula → Type 0
-ListsAreParameters names f = OfEachList (AreParameters names) f
+-- its lists of variables, and the terms of its atoms
+abbrev pub FormulaIsInOrder : Names → RawFormula → Type 0
+FormulaIsInOrder names f = OfEachList (AreParameters names) f × IsFormulaInOrder f
 
-abbrev pub ListsOfEffectAreParameters : Names → RawEffect → Type 0
-ListsOfEffectAreParameters names e = OfEachListOfEffect (AreParameters names) e
+abbrev pub EffectIsInOrder : Names → RawEffect → Type 0
+EffectIsInOrder names e = OfEachListOfEffect (AreParameters names) e × IsEffectInOrder e

@@ -23,6 +23,8 @@ pub mod ReadTexts
 pub mod OneWord
 pub mod Rising
 pub mod EachList
+pub mod Arguments
 pub mod InOrder
 pub mod Written
 pub mod SeenInOrder
+pub mod TypeOrder

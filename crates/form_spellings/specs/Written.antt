@@ -103,7 +103,7 @@ module _ (table : Names) where
 
   -- constants have one type each
   abbrev pub domain_unions : RawDomain → List Union
-  domain_unions d = flat_map head_unions d.predicates ++ (flat_map head_unions d.tasks ++ (flat_map method_unions d.methods ++ flat_map action_unions d.actions))
+  domain_unions d = flat_map head_unions d.predicates ++ (flat_map head_unions d.tasks ++ (flat_map action_unions d.actions ++ flat_map method_unions d.methods))
 
   abbrev pub problem_unions : RawProblem → List Union
   problem_unions p = params_unions p.params ++ formula_unions p.goal

@@ -25,8 +25,7 @@ use Rattle.hddl_reader.specs.declared.sections.RawSections.{RawSections}
 use Rattle.hddl_reader.specs.Definitions.{coded, key_due, definition_word, title, definition_inside, nothing_due, definition_read, domain_of, or_empty, problem_of, IsRead}
 use Rattle.hddl_reader.specs.Networks.{declared, is_word}
 use Rattle.hddl_reader.specs.Sections.{no_sections, sections, or_none}
-use Rattle.form_spellings.specs.EachList.{OfEachList, OfEachListOfEffect}
-use Rattle.form_spellings.specs.InOrder.{AreParameters, IsPredicateInOrder, IsDomainInOrder, IsProblemInOrder}
+use Rattle.form_spellings.specs.InOrder.{FormulaIsInOrder, EffectIsInOrder, IsPredicateInOrder, IsDomainInOrder, IsProblemInOrder}
 use Rattle.form_spellings.specs.InTable.{IsDomainIn, IsProblemIn}
 use Rattle.form_spellings.specs.Rising.{HaveOneWordAPlace, mentioned}
 use Rattle.form_spellings.proofs.KeptWords.{Reads, reads_then, reads_map, reads_by}
@@ -149,6 +148,7 @@ problem_is x table words h =
     let n = network_parts x.1.network table st.network in
     let fs = facts_are table x.1.init st.init in
     let os = list_is list_kind.Objects table x.1.objects st.objects in
+    let goal = or_true_in_order table x.1.goal st.goal in
     record {
       words = words;
       name = h.0;
@@ -156,7 +156,8 @@ problem_is x table words h =
       params = list_or_none table (or_empty x.1.network).params n.params;
       net = net_in_order (or_empty x.1.network) table n;
       facts = fs.2.1;
-      goal = or_true_in_order table x.1.goal st.goal;
+      goal = goal.lists;
+      goal_in_order = goal.terms;
       objects_in_order = os.rise;
       facts_in_order = climbs_rise atom_place (or_none x.1.init) fs.0 fs.1 fs.2.0;
     }
@@ -165,8 +166,8 @@ problem_is x table words h =
 pub whole_in_order : (l : Language) (d : Definition) (text : List ℕ) (names left later : Names) (x : Name × RawSections) → IsRead l d names text x left → Keeps left later → DefinitionIs x later
 whole_in_order l d text names left later x is k = stands DefinitionIs names left (definition_read l d names (parts_at text 0)) x is.gives (definition_in (parts_at text 0) l d names (parts_rise text 0)) later k
 
-pub formulas_in_order : (text : List ℕ) (i : ℕ) (names left later : Names) (f : RawFormula) → formula_read names (parts_at text i) ≡ Ok (f, left) → Keeps left later → OfEachList (AreParameters later) f
-formulas_in_order text i names left later f e k = stands FormulaInOrder names left (formula_read names (parts_at text i)) f e (formula_in_order (parts_at text i) names (parts_rise text i)) later k
+pub formulas_in_order : (text : List ℕ) (i : ℕ) (names left later : Names) (f : RawFormula) → formula_read names (parts_at text i) ≡ Ok (f, left) → Keeps left later → FormulaIsInOrder later f
+formulas_in_order text i names left later f e k = let is = stands FormulaInOrder names left (formula_read names (parts_at text i)) f e (formula_in_order (parts_at text i) names (parts_rise text i)) later k in (is.lists, is.terms)
 
-pub effects_in_order : (text : List ℕ) (i : ℕ) (names left later : Names) (x : RawEffect) → effect_read names (parts_at text i) ≡ Ok (x, left) → Keeps left later → OfEachListOfEffect (AreParameters later) x
-effects_in_order text i names left later x e k = stands EffectInOrder names left (effect_read names (parts_at text i)) x e (effect_in_order (parts_at text i) names (parts_rise text i)) later k
+pub effects_in_order : (text : List ℕ) (i : ℕ) (names left later : Names) (x : RawEffect) → effect_read names (parts_at text i) ≡ Ok (x, left) → Keeps left later → EffectIsInOrder later x
+effects_in_order text i names left later x e k = let is = stands EffectInOrder names left (effect_read names (parts_at text i)) x e (effect_in_order (parts_at text i) names (parts_rise text i)) later k in (is.lists, is.terms)

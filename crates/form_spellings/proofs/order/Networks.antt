@@ -19,7 +19,7 @@ use Rattle.form_spellings.proofs.KeptWords.{Reads, reads_then, reads_map, reads_
 use Rattle.form_spellings.proofs.TermsIn.{same}
 use Rattle.form_spellings.proofs.order.Chains.{HeadedAt, IsWide}
 use Rattle.form_spellings.proofs.order.Climbs.{Climbs, climbs_put, climbs_from, climbs_rise}
-use Rattle.form_spellings.proofs.order.Effects.{atom_rises}
+use Rattle.form_spellings.proofs.order.Formulas.{atom_rises}
 use Rattle.form_spellings.proofs.order.Spans.{Span, fits}
 use Rattle.form_spellings.proofs.order.Terms.{IsReadAs, plain_word, TermsClimb, AtomClimbs, PairClimbs, term_place, used_as, declared_as, terms_climb, applied_climbs, two_climb}
 

@@ -32,8 +32,8 @@ use Rattle.form_spellings.proofs.KeptWords.{Reads, reads_then, reads_map, reads_
 use Rattle.form_spellings.proofs.TermsIn.{same}
 use Rattle.form_spellings.proofs.order.Chains.{Placing, Chain, HeadedAt, IsWide, chain_each, chain_climbs, some_of_chain}
 use Rattle.form_spellings.proofs.order.Climbs.{Climbs, climbs_from, climbs_join, climbs_rise}
-use Rattle.form_spellings.proofs.order.Effects.{EffectInOrder, AtomInOrder, no_effect_in_order, applied_in_order, effect_inside_in_order}
-use Rattle.form_spellings.proofs.order.Formulas.{FormulaInOrder, true_in_order, inside_in_order}
+use Rattle.form_spellings.proofs.order.Effects.{EffectInOrder, no_effect_in_order, applied_in_order, effect_inside_in_order}
+use Rattle.form_spellings.proofs.order.Formulas.{FormulaInOrder, AtomInOrder, true_in_order, inside_in_order}
 use Rattle.form_spellings.proofs.order.Lists.{ListInOrder, no_list, parameters_are, listed_in_order}
 use Rattle.form_spellings.proofs.order.Networks.{SubAt, PairAt, ConAt, sub_at, sub_wide, pair_at, pair_wide, con_at, con_wide}
 use Rattle.form_spellings.proofs.order.Spans.{Rising, behind_word, inside_list, behind_list}

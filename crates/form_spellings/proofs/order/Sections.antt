@@ -33,8 +33,7 @@ use Rattle.form_spellings.proofs.TermsIn.{same}
 use Rattle.form_spellings.proofs.order.Callables.{head_place, action_place, method_place, Apart, one_task, one_action}
 use Rattle.form_spellings.proofs.order.Chains.{HeadedAt, IsWide, Chain, all_of_chain}
 use Rattle.form_spellings.proofs.order.Climbs.{Climbs, climbs_fit, climbs_from, climbs_to, climbs_join, climbs_put, climbs_one}
-use Rattle.form_spellings.proofs.order.Effects.{AtomInOrder, atom_rises}
-use Rattle.form_spellings.proofs.order.Formulas.{FormulaInOrder, inside_in_order}
+use Rattle.form_spellings.proofs.order.Formulas.{FormulaInOrder, AtomInOrder, atom_rises, inside_in_order}
 use Rattle.form_spellings.proofs.order.Lists.{ListInOrder, variables_are, listed_in_order}
 use Rattle.form_spellings.proofs.order.Parts.{Chained, PartsAre, PutTo, none_are, parts_in_order, list_or_none, or_true_in_order, or_nothing_in_order, net_in_order}
 use Rattle.form_spellings.proofs.order.Spans.{Span, fits}
@@ -144,7 +143,10 @@ head_is : (name : RawTerm) (st : RawParts) (table : Names) → IsPlainName table
 head_is name st table n h = record { name = n; params = list_or_none table st.params h.params }
 
 action_is : (name : RawTerm) (st : RawParts) (table : Names) → IsPlainName table name → PartsAre st table → IsActionInOrder table (action_of name st)
-action_is name st table n h = record { head = head_is name st table n h; pre = or_true_in_order table st.pre h.pre; eff = or_nothing_in_order table st.eff h.eff }
+action_is name st table n h =
+    let pre = or_true_in_order table st.pre h.pre in
+    let eff = or_nothing_in_order table st.eff h.eff in
+    record { head = head_is name st table n h; pre = pre.lists; eff = eff.lists; pre_in_order = pre.terms; eff_in_order = eff.terms }
 
 -- methods up to a place
 abbrev Methods : ℕ → ℕ → List RawMethod → Names → Type 0
@@ -156,7 +158,10 @@ method_is from to x table is = go x.1.task is.parts.task
   where
     go : (o : Option RawAtom) → IfSome o (λ a. AtomInOrder a table) → Methods from to (with_kept (let m : Option RawMethod = elim o [ None ↦ None | Some task ↦ Some (record { head = head_of x.0 x.1; task = task; pre = or_true x.1.pre; net = network_of x.1 }) ] in m) []) table
     go None t = let a = is.opens in let b = is.closes in (omega arith, tt)
-    go (Some task) t = let a = is.closes in ((is.opens, omega arith), (record { head = head_is x.0 x.1 table is.name is.parts; task = t; pre = or_true_in_order table x.1.pre is.parts.pre; net = net_in_order x.1 table is.parts }, tt))
+    go (Some task) t =
+        let a = is.closes in
+        let pre = or_true_in_order table x.1.pre is.parts.pre in
+        ((is.opens, omega arith), (record { head = head_is x.0 x.1 table is.name is.parts; task = t; pre = pre.lists; pre_in_order = pre.terms; net = net_in_order x.1 table is.parts }, tt))
 
 -- The sections that stand, up to a place.
 pub record SectionsAre (now : ℕ) (st : RawSections) (table : Names) : Type 0 where

@@ -1,5 +1,5 @@
 -- The unions of an effect that was read are those that its parts write.
-use Rattle.std.proofs.Common.{◌≡◌, ◌∙◌, ℕ, Ok, Err, Result, List, [], ◌∷◌, ◌++◌, map, refl, sym, ap, subst}
+use Rattle.std.proofs.Common.{◌≡◌, ◌∙◌, ℕ, Ok, Err, Result, List, [], ◌∷◌, ◌++◌, map, sym, ap, subst}
 use Rattle.text_forms.specs.Placed.{Placed, cut, close, word, list}
 use Rattle.text_forms.specs.Words.{Word}
 use Rattle.gd_reader.specs.declared.effects.RawEffect.{RawEffect, roll-RawEffect}
@@ -9,7 +9,6 @@ use Rattle.gd_reader.specs.declared.effects.RawEffect.TheVariants as raw
 use Rattle.gd_reader.specs.declared.effects.RawEffect.TheVariants.{rolls-Add, rolls-Delete, rolls-And, rolls-Forall, rolls-When}
 use Rattle.gd_reader.specs.declared.formulas.RawFormula.{RawFormula}
 use Rattle.gd_reader.specs.declared.stop.Stop.{Stop}
-use Rattle.gd_reader.specs.declared.term.RawAtom.{RawAtom}
 use Rattle.gd_reader.specs.declared.typed_lists.ListKind.TheVariants.{Parameters}
 use Rattle.gd_reader.specs.declared.typed_lists.RawParam.{RawParam}
 use Rattle.gd_reader.specs.declared.words.EffectHead.{EffectHead}

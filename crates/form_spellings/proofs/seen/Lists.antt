@@ -1,14 +1,12 @@
 -- The unions of a typed list that was read are those that its parts write.
-use Rattle.std.proofs.Common.{◌≡◌, ◌∙◌, ◌||◌, ℕ, Bool, true, false, if◌then◌else◌, cond, Ok, Err, Result, List, [], ◌∷◌, ◌++◌, map, codes, Some, refl, sym, ap, subst}
+use Rattle.std.proofs.Common.{◌≡◌, ◌∙◌, ◌||◌, ℕ, Bool, true, false, if◌then◌else◌, Ok, Err, Result, List, [], ◌∷◌, ◌++◌, codes, Some, refl, sym, ap, subst}
 use Rattle.std.proofs.lemmas.Bool.{cond-true, cond-false}
 use Rattle.std.specs.Str.{bytes_eq}
 use Rattle.htn_base.specs.Table.{with_word}
 use Rattle.text_forms.specs.Lists.{Parts, name, group, nothing, part}
 use Rattle.text_forms.specs.Placed.{Placed, cut, close, word, list, parts_of}
 use Rattle.text_forms.specs.Words.{Word, is_among}
-use Rattle.plan_texts.specs.FirstSeen.{without_types}
 use Rattle.plan_texts.specs.TypedLists.{first_seen, words_in}
-use Rattle.plan_texts.proofs.Basics.{bytes_eq-refl}
 use Rattle.gd_reader.specs.declared.stop.Stop.{Stop}
 use Rattle.gd_reader.specs.declared.stop.Stop.TheVariants.{Departs}
 use Rattle.gd_reader.specs.declared.term.RawTerm.{RawTerm}
@@ -33,7 +31,7 @@ use Rattle.form_spellings.proofs.TermsIn.{same}
 use Rattle.form_spellings.proofs.Unions.{flip}
 use Rattle.form_spellings.proofs.UnionsBound.{said_words, TypesBound, union_due_bound}
 use Rattle.form_spellings.proofs.WordTests.{false_true}
-use Rattle.form_spellings.proofs.seen.Adding.{Same, same_refl, same_by, same_join, same_then, same_twice}
+use Rattle.form_spellings.proofs.seen.Adding.{Same, same_refl, same_by, same_join, same_twice}
 use Rattle.form_spellings.proofs.seen.Erased.{unions_at, inside_at, front_place}
 use Rattle.form_spellings.proofs.seen.Terms.{Any}
 

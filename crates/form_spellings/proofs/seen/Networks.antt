@@ -1,5 +1,5 @@
 -- Networks write no unions.
-use Rattle.std.proofs.Common.{◌≡◌, ◌∙◌, ℕ, Bool, true, false, if◌then◌else◌, codes, Ok, Err, List, [], ◌∷◌, Option, Some, None, refl, sym, ap, subst}
+use Rattle.std.proofs.Common.{◌≡◌, ◌∙◌, ℕ, Bool, true, false, if◌then◌else◌, codes, Ok, Err, [], ◌∷◌, Some, None, refl, sym, ap}
 use Rattle.text_forms.specs.Placed.{Placed, cut, close, word, list}
 use Rattle.text_forms.specs.Words.{Word}
 use Rattle.plan_texts.proofs.Basics.{bytes_eq-true}
@@ -18,7 +18,7 @@ use Rattle.form_spellings.proofs.seen.Formulas.{alone_at}
 use Rattle.form_spellings.proofs.seen.Terms.{NoUnions, NoneInside, none_at_end, terms_none, applied_none, two_none}
 
 -- a list without any in front of parts without any
-none_joined : (at : ℕ) (p q : Placed) → inside_at p ≡ [] → unions_at q ≡ [] → unions_at (list at p q) ≡ []
+pub none_joined : (at : ℕ) (p q : Placed) → inside_at p ≡ [] → unions_at q ≡ [] → unions_at (list at p q) ≡ []
 none_joined at p q e f = sym (alone_at p q f) ∙ e
 
 -- behind the name at the front of a subtask

@@ -1,5 +1,5 @@
 -- The unions of the parts of a task, a method, an action or a network that were read are those that the parts write.
-use Rattle.std.proofs.Common.{◌≡◌, ◌∙◌, ◌⊎◌, inl, inr, ℕ, Bool, true, false, if◌then◌else◌, codes, Ok, Err, Option, Some, None, List, [], ◌++◌, refl, sym, subst}
+use Rattle.std.proofs.Common.{◌≡◌, ◌∙◌, ◌⊎◌, inl, inr, ℕ, Bool, true, false, if◌then◌else◌, Ok, Err, Option, Some, List, [], ◌++◌, refl, sym, subst}
 use Rattle.std.specs.Option.{is_some}
 use Rattle.text_forms.specs.Placed.{Placed, cut, close, word, list}
 use Rattle.text_forms.specs.Words.{Word}
@@ -12,7 +12,7 @@ use Rattle.gd_reader.specs.declared.stop.Stop.TheVariants.{Departs}
 use Rattle.gd_reader.specs.declared.term.RawTerm.{RawTerm}
 use Rattle.gd_reader.specs.declared.typed_lists.ListKind.TheVariants as list_kind
 use Rattle.gd_reader.specs.declared.typed_lists.RawParam.{RawParam}
-use Rattle.gd_reader.specs.Answers.{◌>>=◌, word_due, end_due}
+use Rattle.gd_reader.specs.Answers.{◌>>=◌, word_due}
 use Rattle.gd_reader.specs.Effects.{effect_inside}
 use Rattle.gd_reader.specs.Formulas.{inside}
 use Rattle.gd_reader.specs.Terms.{Names, applied}
@@ -33,7 +33,7 @@ use Rattle.form_spellings.proofs.TermsBound.{NameBound}
 use Rattle.form_spellings.proofs.TermsExact.{declared_bound}
 use Rattle.form_spellings.proofs.TermsIn.{same}
 use Rattle.form_spellings.proofs.WordTests.{false_true}
-use Rattle.form_spellings.proofs.seen.Adding.{Same, same_by, same_refl, Adds, adds_none, adds_all, adds_front, adds_back, adds_then, in_option, fills}
+use Rattle.form_spellings.proofs.seen.Adding.{Same, same_by, Adds, adds_none, adds_all, adds_front, adds_back, adds_then, in_option, fills}
 use Rattle.form_spellings.proofs.seen.Effects.{EffectSeen, effect_inside_seen, no_effect_unions}
 use Rattle.form_spellings.proofs.seen.Erased.{unions_at, inside_at}
 use Rattle.form_spellings.proofs.seen.Formulas.{FormulaSeen, inside_seen, true_unions}

@@ -1,5 +1,5 @@
 -- Terms and atoms write no unions.
-use Rattle.std.proofs.Common.{◌≡◌, ◌∙◌, ℕ, Ok, Result, List, [], ◌∷◌, drop, false, refl}
+use Rattle.std.proofs.Common.{◌≡◌, ◌∙◌, ℕ, Ok, Result, [], ◌∷◌, drop, false, refl}
 use Rattle.text_forms.specs.Lists.{nothing}
 use Rattle.text_forms.specs.Placed.{Placed, cut, close, word, list, parts_of}
 use Rattle.text_forms.specs.Words.{Word}
@@ -12,7 +12,6 @@ use Rattle.gd_reader.specs.Terms.{Names, raw_term, term_by, term, used, terms, t
 use Rattle.gd_reader.specs.Words.{sort_of}
 use Rattle.gd_reader.proofs.Keeping.{keeps_same, keeps_word}
 use Rattle.form_spellings.proofs.KeptWords.{Reads, reads_then, reads_map, reads_end}
-use Rattle.form_spellings.proofs.PartsWhole.{no_part}
 use Rattle.form_spellings.proofs.TermsBound.{NameBound, used_bound}
 use Rattle.form_spellings.proofs.TermsIn.{same}
 use Rattle.form_spellings.proofs.seen.Erased.{unions_at, inside_at, named_inside}

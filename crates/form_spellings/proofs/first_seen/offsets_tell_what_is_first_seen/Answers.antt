@@ -1,0 +1,5 @@
+use Rattle.form_spellings.proofs.seen.Theorem.{texts_seen}
+use Rattle.form_spellings.proofs.first_seen.offsets_tell_what_is_first_seen.Goals as goal
+
+pub returns : goal.returns
+returns c = record { seen = texts_seen }
