@@ -1,13 +1,12 @@
 -- A list that is sorted by places, in which one thing may stand several times, names the same things in the same order as the list
 -- at rising places in which each stands once.
-use Rattle.std.proofs.Common.{◌≡◌, ◌∙◌, ◌⊎◌, inl, inr, ◌||◌, ℕ, suc, ◌≤◌, ◌<◌, Bool, true, false, cond, List, [], ◌∷◌, ◌++◌, length, slice_index_or, refl, sym, ap, subst, arith}
+use Rattle.std.proofs.Common.{◌≡◌, ◌∙◌, ◌⊎◌, inl, inr, ℕ, suc, ◌≤◌, ◌<◌, Bool, true, false, cond, List, [], ◌∷◌, ◌++◌, length, slice_index_or, refl, sym, ap, subst, arith}
 use Rattle.std.proofs.lemmas.Bool.{cond-true, cond-false, or_left, or_right}
 use Rattle.std.specs.List.{list_any}
 use Rattle.std.specs.List.Sorted.{IsNonDecreasingBy}
 use Rattle.plan_texts.specs.Types.{Has, EachIs}
 use Rattle.plan_texts.proofs.Members.{each-has}
 use Rattle.form_spellings.specs.Written.{Written, all_written}
-use Rattle.form_spellings.proofs.WordTests.{false_true}
 use Rattle.form_spellings.proofs.order.Climbs.{Climbs}
 use Rattle.form_spellings.proofs.seen.Adding.{Same}
 
