@@ -14,3 +14,4 @@ pub mod Definitions
 pub mod Theorem
 pub mod Mapped
 pub mod TypeLists
+pub mod Bound

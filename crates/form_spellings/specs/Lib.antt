@@ -28,3 +28,4 @@ pub mod InOrder
 pub mod Written
 pub mod SeenInOrder
 pub mod TypeOrder
+pub mod HddlInOrder

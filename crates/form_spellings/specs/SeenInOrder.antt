@@ -5,9 +5,12 @@ use Rattle.std.specs.List.Sorted.{IsPermutation, IsNonDecreasingBy}
 use Rattle.text_forms.specs.Lists.{Parts}
 use Rattle.text_forms.specs.Words.{Word}
 use Rattle.plan_texts.specs.Domains.{AreDefinitions}
-use Rattle.plan_texts.specs.FirstSeen.{type_words_in, type_items, types_in_order, but_first, pairs_from, pairs_in_order, unions_in_all, first_unions, unions_in_order}
+use Rattle.plan_texts.specs.FirstSeen.{type_words_in, type_items, types_in_order, but_first, pairs_from, pairs_in_order}
+use Rattle.plan_texts.specs.FirstSeen.{unions_in_all, first_unions, unions_in_order}
 use Rattle.plan_texts.specs.Sections.{section, parts_in}
 use Rattle.plan_texts.specs.TypedLists.{first_seen}
+use Rattle.plan_texts.specs.Types.{TypeItem}
+use Rattle.plan_model.specs.declared.types.Parent.{Parent}
 use Rattle.gd_reader.specs.Terms.{Names}
 use Rattle.hddl_reader.specs.declared.sections.RawDomain.{RawDomain}
 use Rattle.hddl_reader.specs.declared.sections.RawProblem.{RawProblem}
@@ -31,13 +34,23 @@ pub record AreSorted {X : Type 0} (read sorted : List (Written X)) : Type 0 wher
   pub same : IsPermutation read sorted
   pub rise : IsNonDecreasingBy (λ (w : Written X). w.at) sorted
 
--- object, and the other words of the list of types by their offsets, each once
-abbrev pub AreTypesSeen : Names → RawDomain → Parts → Type 0
-AreTypesSeen table d domain = (words : List (Written Word)) → AreSorted (type_words table d.types) words → types_in_order (type_parts domain) ≡ codes "object" ∷ first_seen (codes "object" ∷ []) (all_written words)
+-- object, and the others of these words, each once
+abbrev pub types_of : List Word → List Word
+types_of words = codes "object" ∷ first_seen (codes "object" ∷ []) words
 
--- by the child's number, then as they were read
+-- the types are object and the words of their list by their offsets
+abbrev pub AreTypesSeen : Names → RawDomain → Parts → Type 0
+AreTypesSeen table d domain =
+    (words : List (Written Word)) → AreSorted (type_words table d.types) words
+    → types_in_order (type_parts domain) ≡ types_of (all_written words)
+
+-- of the types but object, which has the number 0: by the child's number, then as they were read
+abbrev pub pairs_of : List Word → List TypeItem → List Parent
+pairs_of types items = pairs_from 1 types (but_first types) items
+
 abbrev pub ArePairsSeen : Names → RawDomain → Parts → Type 0
-ArePairsSeen table d domain = pairs_in_order (type_parts domain) ≡ pairs_from 1 (types_in_order (type_parts domain)) (but_first (types_in_order (type_parts domain))) (map (item_written table) d.types)
+ArePairsSeen table d domain =
+    pairs_in_order (type_parts domain) ≡ pairs_of (types_in_order (type_parts domain)) (map (item_written table) d.types)
 
 -- those of the domain by their offsets, then those of the problem, each once
 abbrev pub AreUnionsSeen : Names → RawDomain → RawProblem → Parts → Parts → Type 0
@@ -47,16 +60,17 @@ AreUnionsSeen table d p domain problem =
 
 -- What two texts with these sections name, and in which order.
 pub record AreSeen (table : Names) (d : RawDomain) (p : RawProblem) (domain problem : Parts) : Type 0 where
-  pub type_words_written : IsWrittenAs (type_words table d.types) (type_words_in (type_parts domain))
-  pub items_written : type_items (type_parts domain) ≡ map (item_written table) d.types
-  pub domain_unions_written : IsWrittenAs (domain_unions table d) (unions_in_all domain)
-  pub problem_unions_written : IsWrittenAs (problem_unions table p) (unions_in_all problem)
+  pub words_are : IsWrittenAs (type_words table d.types) (type_words_in (type_parts domain))
+  pub items_are : type_items (type_parts domain) ≡ map (item_written table) d.types
+  pub in_domain : IsWrittenAs (domain_unions table d) (unions_in_all domain)
+  pub in_problem : IsWrittenAs (problem_unions table p) (unions_in_all problem)
   pub types : AreTypesSeen table d domain
   pub pairs : ArePairsSeen table d domain
   pub unions : AreUnionsSeen table d p domain problem
 
--- of all texts of which a domain and a problem were read
+-- of all texts of which a domain and a problem were read, by the sections that their tokens show
 abbrev pub AllAreSeen : Type 0
 AllAreSeen =
     (domain problem : List ℕ) (table : Names) (d : RawDomain) (p : RawProblem) → AreRead domain problem table d p
-    → (domain_word problem_word : Word) (texts : AreDefinitions domain problem domain_word problem_word) → AreSeen table d p texts.domain_sections texts.problem_sections
+    → (domain_word problem_word : Word) (texts : AreDefinitions domain problem domain_word problem_word)
+    → AreSeen table d p texts.domain_sections texts.problem_sections

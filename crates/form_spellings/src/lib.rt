@@ -9,7 +9,8 @@
 //! (`schemas_spell_what_is_bound`) and of the whole texts of an HDDL domain and problem (`texts_spell_what_is_bound`); its names
 //! stand in the name table (`names_stand_in_the_table`), its offsets are those of tokens (`places_are_those_of_tokens`), one word at
 //! each (`one_word_stands_at_one_offset`), and its lists stand in the order of the text (`what_is_read_is_in_order`); the texts
-//! first name types, pairs and unions in the order of its offsets (`offsets_tell_what_is_first_seen`).
+//! first name types, pairs and unions in the order of its offsets, so what is read, bound in this order, is the HDDL value of its
+//! texts (`offsets_tell_what_is_first_seen`).
 #![tactic(auto)]
 
 mod bound;

@@ -1,9 +1,15 @@
 -- What is kept of things is kept of what they stand for, where a test tells the same of both; and keeping is adding one by one.
-use Rattle.std.proofs.Common.{◌≡◌, ◌∙◌, ◌||◌, Bool, true, false, cond, if◌then◌else◌, List, [], ◌∷◌, ◌++◌, map, refl, sym, ap, append_assoc}
+use Rattle.std.proofs.Common.{ℕ, ◌≡◌, ◌∙◌, ◌||◌, ◌&&◌, eqb, Bool, true, false, cond, if◌then◌else◌, List, [], ◌∷◌, ◌++◌, map, refl, sym, ap, append_assoc}
 use Rattle.std.proofs.lemmas.Bool.{cond-true, cond-false}
 use Rattle.std.proofs.lemmas.List.{append-nil}
 use Rattle.std.proofs.lemmas.List.Folds.{list_any-append}
+use Rattle.std.specs.Cmp.Lexicographic.{pointwise}
 use Rattle.std.specs.List.{list_any, fold}
+use Rattle.std.specs.Str.{bytes_eq}
+use Rattle.htn_base.specs.Table.{with_word}
+use Rattle.text_forms.specs.Words.{Word}
+use Rattle.plan_texts.specs.FirstSeen.{first_unions}
+use Rattle.plan_texts.specs.TypedLists.{first_seen}
 use Rattle.plan_texts.specs.Types.{EachIs}
 
 module _ {X Y : Type 0} (same : X → X → Bool) (same' : Y → Y → Bool) (f : X → Y) (Known : X → Type 0) (agree : (x y : X) → Known x → Known y → same' (f x) (f y) ≡ same x y) where
@@ -50,3 +56,16 @@ module _ {X : Type 0} (same : X → X → Bool) (kept : List X → List X → Li
       go : (b : Bool) → list_any (same x) old ≡ b → fold put old xs ≡ old ++ kept seen xs → fold put (old ++ x ∷ []) xs ≡ (old ++ x ∷ []) ++ kept (x ∷ seen) xs → fold put (if b then old else old ++ x ∷ []) xs ≡ old ++ kept seen (x ∷ xs)
       go true e here later = here ∙ ap (λ ks. old ++ ks) (sym (more seen x xs ∙ cond-true _ _ _ (sym (s x) ∙ e)))
       go false e here later = later ∙ append_assoc old (x ∷ []) (kept (x ∷ seen) xs) ∙ ap (λ ks. old ++ ks) (sym (more seen x xs ∙ cond-false _ _ _ (sym (s x) ∙ e)))
+
+-- Unions by the numbers of their types, put one by one to a table, are by the words of their types those that are first seen.
+module _ (w : ℕ → Word) (Known : ℕ → Type 0) (agree : (i j : ℕ) → Known i → Known j → bytes_eq (w i) (w j) ≡ eqb i j) where
+  lists_agree : (ms ns : List ℕ) → EachIs Known ms → EachIs Known ns → pointwise bytes_eq (map w ms) (map w ns) ≡ bytes_eq ms ns
+  lists_agree [] [] k l = refl
+  lists_agree [] (n ∷ ns) k l = refl
+  lists_agree (m ∷ ms) [] k l = refl
+  lists_agree (m ∷ ms) (n ∷ ns) k l = λ i. agree m n k.0 l.0 i && lists_agree ms ns k.1 l.1 i
+
+  pub unions_mapped : (us : List (List ℕ)) → EachIs (EachIs Known) us → map (map w) (fold with_word [] us) ≡ first_unions [] (map (map w) us)
+  unions_mapped us k =
+      ap (map (map w)) (put_kept bytes_eq first_seen (λ seen. refl) (λ seen x xs. refl) us [] [] (λ x. refl))
+      ∙ sym (kept_mapped bytes_eq (pointwise bytes_eq) (map w) (EachIs Known) lists_agree first_seen (λ seen. refl) (λ seen x xs. refl) first_unions (λ seen. refl) (λ seen x xs. refl) us [] tt k)

@@ -1,13 +1,12 @@
 -- A list that is sorted by places, in which one thing may stand several times, names the same things in the same order as the list
 -- at rising places in which each stands once.
-use Rattle.std.proofs.Common.{◌≡◌, ◌∙◌, ◌⊎◌, inl, inr, ◌||◌, ℕ, suc, ◌≤◌, ◌<◌, Bool, true, false, cond, List, [], ◌∷◌, ◌++◌, length, slice_index_or, refl, sym, ap, subst, arith}
-use Rattle.std.proofs.lemmas.Bool.{cond-true, cond-false}
+use Rattle.std.proofs.Common.{◌≡◌, ◌∙◌, ◌⊎◌, inl, inr, ℕ, suc, ◌≤◌, ◌<◌, Bool, true, false, cond, List, [], ◌∷◌, ◌++◌, length, slice_index_or, refl, sym, ap, subst, arith}
+use Rattle.std.proofs.lemmas.Bool.{cond-true, cond-false, or_left, or_right}
 use Rattle.std.specs.List.{list_any}
 use Rattle.std.specs.List.Sorted.{IsNonDecreasingBy}
 use Rattle.plan_texts.specs.Types.{Has, EachIs}
 use Rattle.plan_texts.proofs.Members.{each-has}
 use Rattle.form_spellings.specs.Written.{Written, all_written}
-use Rattle.form_spellings.proofs.WordTests.{false_true}
 use Rattle.form_spellings.proofs.order.Climbs.{Climbs}
 use Rattle.form_spellings.proofs.seen.Adding.{Same}
 
@@ -74,14 +73,6 @@ module _ {X : Type 0} where
         back : (w : Written X) → Has ts w → (s ≡ w) ⊎ Has ss w → Has ss w
         back w h (inl f) = let b = each-has (λ v. suc t.at ≤ v.at) ts w (behind ts (suc t.at) to c.1) h in let g = ap place (e ∙ f) in absurd (omega arith)
         back w h (inr k) = k
-
-    or_right : (a b : Bool) → b ≡ true → (a || b) ≡ true
-    or_right true b e = refl
-    or_right false b e = e
-
-    or_left : (a b : Bool) → a ≡ true → (a || b) ≡ true
-    or_left true b e = refl
-    or_left false b e = false_true e
 
     abbrev NamesSame : List (Written X) → List (Written X) → List X → Type 0
     NamesSame ss ts seen = kept seen (all_written ss) ≡ kept seen (all_written ts)

@@ -125,10 +125,10 @@ module _ (table : Names) (d : RawDomain) (p : RawProblem) (domain problem : Part
 
   all_seen : AreSeen table d p domain problem
   all_seen = record {
-    type_words_written = written_as (type_words table d.types) (type_words_in (type_parts domain)) ws;
-    items_written = is;
-    domain_unions_written = written_as (domain_unions table d) (unions_in_all domain) us;
-    problem_unions_written = written_as (problem_unions table p) (unions_in_all problem) vs;
+    words_are = written_as (type_words table d.types) (type_words_in (type_parts domain)) ws;
+    items_are = is;
+    in_domain = written_as (domain_unions table d) (unions_in_all domain) us;
+    in_problem = written_as (problem_unions table p) (unions_in_all problem) vs;
     types = λ words a. ap (λ us. codes "object" ∷ us) (sym (words_kept (type_words table d.types) words (type_words_in (type_parts domain)) (codes "object" ∷ []) ws a));
     pairs = ap (pairs_from 1 (types_in_order (type_parts domain)) (but_first (types_in_order (type_parts domain)))) is;
     unions = both_kept;
