@@ -54,3 +54,4 @@ pub mod EffectSound
 pub mod SchemaSound
 pub mod CallSound
 pub mod PartSound
+pub mod MethodSound
