@@ -55,3 +55,4 @@ pub mod SchemaSound
 pub mod CallSound
 pub mod PartSound
 pub mod MethodSound
+pub mod NetworkSound

@@ -20,3 +20,4 @@ pub mod WholeFaults
 pub mod BoundTypes
 pub mod WholeValues
 pub mod SoundSchemas
+pub mod SoundNetworks
