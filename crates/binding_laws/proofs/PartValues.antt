@@ -58,7 +58,7 @@ one_type : (names : Names) (xs : List RawParam) → EachIs (IsTypedName names) x
 one_type names xs is = each_wider (IsTypedName names) (λ (x : RawParam). length x.ty ≤ 1) xs (λ x i. i.one_type) is
 
 -- a term without faults, where no variable is in force, is an object
-objects_only : (objects : List ℕ) (ts : List RawTerm) → terms_faults objects [] ts ≡ [] → map Obj (map (object_bound objects) ts) ≡ terms_bound objects [] ts
+pub objects_only : (objects : List ℕ) (ts : List RawTerm) → terms_faults objects [] ts ≡ [] → map Obj (map (object_bound objects) ts) ≡ terms_bound objects [] ts
 objects_only objects [] e = refl
 objects_only objects (t ∷ ts) e = λ i. one t.variable (none_left (term_faults objects [] t) (terms_faults objects [] ts) e) i ∷ objects_only objects ts (none_right (term_faults objects [] t) (terms_faults objects [] ts) e) i
   where

@@ -19,3 +19,5 @@ pub mod TypeCycles
 pub mod WholeFaults
 pub mod BoundTypes
 pub mod WholeValues
+pub mod SoundSchemas
+pub mod SoundNetworks

@@ -21,7 +21,9 @@ pub use laws::{
     atoms_are_bound, effects_are_bound, formulas_are_bound, lists_are_bound, numbers_are_words,
     terms_are_bound, types_are_bound, uses_are_said,
 };
-pub use networks::{calls_are_said, networks_are_said, orders_are_said, seconds_are_said};
-pub use schemas::{schemas_are_bound, schemas_are_said};
+pub use networks::{
+    calls_are_said, networks_are_said, networks_are_sound, orders_are_said, seconds_are_said,
+};
+pub use schemas::{schemas_are_bound, schemas_are_said, schemas_are_sound};
 pub use texts::{whole_texts_are_bound, whole_texts_are_judged};
 pub use types::{domain_types_are_bound, domain_types_are_said};
