@@ -1,15 +1,14 @@
 -- A call without faults is of a declared task or action with as many parameters as terms stand there.
-use Rattle.std.proofs.Common.{ℕ, zero, suc, ◌≡◌, ◌+◌, Bool, true, false, cond, eqb, inl, inr, List, [], ◌∷◌, map, length, Option, Some, None, refl, sym, ap, subst, ◌∙◌, nat_lt, arith}
+use Rattle.std.proofs.Common.{ℕ, suc, ◌≡◌, ◌+◌, Bool, true, false, cond, eqb, inl, inr, List, [], ◌∷◌, length, Option, Some, None, refl, sym, ap, ◌∙◌, nat_lt, arith}
 use Rattle.std.specs.Prelude.{◌⊎◌, slice_get, ◌==◌}
 use Rattle.std.proofs.lemmas.Bool.{eqb-true}
 use Rattle.gd_reader.specs.declared.term.RawAtom.{RawAtom}
 use Rattle.hddl_reader.specs.declared.sections.RawHead.{RawHead}
 use Rattle.plan_model.specs.declared.networks.Head.{Head}
-use Rattle.plan_model.specs.declared.networks.Head.TheVariants.{Task, Action, Check}
 use Rattle.name_numbers.specs.Spots.{spot}
 use Rattle.bind_networks.specs.declared.callables.Callable.{Callable}
-use Rattle.bind_networks.specs.Callables.{Declared, callable, callables_from, first_called, sooner_called, stands_for, number}
-use Rattle.bind_networks.specs.Calls.{call_faults, head_called}
+use Rattle.bind_networks.specs.Callables.{Declared, callable, callables_from, first_called, sooner_called, stands_for}
+use Rattle.bind_networks.specs.Calls.{call_faults}
 
 -- the declaration of a callable, by its number
 abbrev pub IsDeclaredAt : (ℕ → Head) → ℕ → List RawHead → Callable → Type 0

@@ -101,15 +101,13 @@ module _ (names : Names) (d : RawDomain) (objects : List Word) (known : Known) (
       let part = f.1 (scope ++ variables_of xs) (inner_in names scope xs k is.0) is.1 l.1
       (inner_numbered names d objects known of v has scope xs (InEffect names f.0) (λ here x s. n here x (inr s)))
       (none_right (params_faults known.types xs) (faults f.0 (scope ++ variables_of xs)) e) in
-      sound_by (effect.Forall ps g) (Effect-F.Forall ps g) (effect.rolls-Forall ps g) (words_of names scope)
-      (
+      sound_by (effect.Forall ps g) (Effect-F.Forall ps g) (effect.rolls-Forall ps g) (words_of names scope) (
         params_sound names d objects known of v has arities are others enough xs is.0 l.0 (λ x s. n [] x (inl s)) (none_left (params_faults known.types xs) (faults f.0 (scope ++ variables_of xs)) e),
         subst (λ ws. IsSoundEffect w arities g ws) (inner_is names d objects known of v has scope xs) part,
       )
   level (RawEffect-F.When f g) scope k is l n e =
       let c = formula_bound known scope f in
-      sound_by (effect.When c (stands g.0 scope)) (Effect-F.When c (stands g.0 scope)) (effect.rolls-When c (stands g.0 scope)) (words_of names scope)
-      (
+      sound_by (effect.When c (stands g.0 scope)) (Effect-F.When c (stands g.0 scope)) (effect.rolls-When c (stands g.0 scope)) (words_of names scope) (
         formula_sound names d objects known of v has arities are others enough f scope k is.0 l.0 (λ here x s. n here x (inl s)) (none_left (formula_faults known scope f) (faults g.0 scope) e),
         g.1 scope k is.1 l.1 (λ here x s. n here x (inr s)) (none_right (formula_faults known scope f) (faults g.0 scope) e),
       )

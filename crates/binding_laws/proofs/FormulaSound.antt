@@ -5,7 +5,7 @@ use Rattle.std.specs.Str.{bytes_eq}
 use Rattle.std.proofs.lemmas.Bool.{eqb-true}
 use Rattle.std.proofs.lemmas.List.{length-map}
 use Rattle.htn_base.specs.Different.{AreDifferent}
-use Rattle.text_forms.specs.Words.{Word, word_at, first_place, last_place, later}
+use Rattle.text_forms.specs.Words.{Word, word_at, last_place, later}
 use Rattle.gd_reader.specs.declared.term.RawAtom.{RawAtom}
 use Rattle.gd_reader.specs.declared.term.RawTerm.{RawTerm}
 use Rattle.gd_reader.specs.declared.typed_lists.RawParam.{RawParam}
@@ -40,7 +40,7 @@ use Rattle.name_numbers.specs.declared.heads.Head.{Head}
 use Rattle.name_numbers.specs.Entered.{variables_of}
 use Rattle.name_numbers.specs.Heads.{declared, next}
 use Rattle.name_numbers.specs.Spots.{spot}
-use Rattle.name_numbers.specs.Terms.{term_bound, term_faults, terms_bound, terms_faults}
+use Rattle.name_numbers.specs.Terms.{term_bound, term_faults, terms_faults}
 use Rattle.bind_types.specs.Typed.{params_bound, params_faults}
 use Rattle.bind_formulas.specs.declared.known.Known.{Known}
 use Rattle.bind_formulas.specs.Atoms.{place_of, head_faults, atom_bound, atom_faults}
@@ -192,8 +192,7 @@ module _ (names : Names) (d : RawDomain) (objects : List Word) (known : Known) (
   level (RawFormula-F.Equal s t) scope k is l n e =
       let x = term_bound known.objects scope s in
       let y = term_bound known.objects scope t in
-      sound_by (formula.Equal x y) (Formula-F.Equal x y) (formula.rolls-Equal x y) (words_of names scope)
-      (
+      sound_by (formula.Equal x y) (Formula-F.Equal x y) (formula.rolls-Equal x y) (words_of names scope) (
         term_in_force (words_of names scope) s x (term_is names d objects known of v has scope s k is.0 (none_left (term_faults known.objects scope s) (term_faults known.objects scope t) e)),
         term_in_force (words_of names scope) t y (term_is names d objects known of v has scope t k is.1 (none_right (term_faults known.objects scope s) (term_faults known.objects scope t) e)),
       )
@@ -205,24 +204,21 @@ module _ (names : Names) (d : RawDomain) (objects : List Word) (known : Known) (
       let gs = map (λ f. f scope) (map stands (formulas fs)) in
       sound_by (formula.Or gs) (Formula-F.Or gs) (formula.rolls-Or gs) (words_of names scope) (many fs scope k is l n e)
   level (RawFormula-F.Imply f g) scope k is l n e =
-      sound_by (formula.Imply (stands f.0 scope) (stands g.0 scope)) (Formula-F.Imply (stands f.0 scope) (stands g.0 scope)) (formula.rolls-Imply (stands f.0 scope) (stands g.0 scope)) (words_of names scope)
-      (
+      sound_by (formula.Imply (stands f.0 scope) (stands g.0 scope)) (Formula-F.Imply (stands f.0 scope) (stands g.0 scope)) (formula.rolls-Imply (stands f.0 scope) (stands g.0 scope)) (words_of names scope) (
         f.1 scope k is.0 l.0 (λ here x s. n here x (inl s)) (none_left (faults f.0 scope) (faults g.0 scope) e),
         g.1 scope k is.1 l.1 (λ here x s. n here x (inr s)) (none_right (faults f.0 scope) (faults g.0 scope) e),
       )
   level (RawFormula-F.Forall xs f) scope k is l n e =
       let ps = params_bound known.types xs in
       let g = stands f.0 (scope ++ variables_of xs) in
-      sound_by (formula.Forall ps g) (Formula-F.Forall ps g) (formula.rolls-Forall ps g) (words_of names scope)
-      (
+      sound_by (formula.Forall ps g) (Formula-F.Forall ps g) (formula.rolls-Forall ps g) (words_of names scope) (
         params_sound xs is.0 l.0 (λ x s. n [] x (inl s)) (none_left (params_faults known.types xs) (faults f.0 (scope ++ variables_of xs)) e),
         inner f xs scope k is.0 is.1 l.1 (λ here x s. n here x (inr s)) (none_right (params_faults known.types xs) (faults f.0 (scope ++ variables_of xs)) e),
       )
   level (RawFormula-F.Exists xs f) scope k is l n e =
       let ps = params_bound known.types xs in
       let g = stands f.0 (scope ++ variables_of xs) in
-      sound_by (formula.Exists ps g) (Formula-F.Exists ps g) (formula.rolls-Exists ps g) (words_of names scope)
-      (
+      sound_by (formula.Exists ps g) (Formula-F.Exists ps g) (formula.rolls-Exists ps g) (words_of names scope) (
         params_sound xs is.0 l.0 (λ x s. n [] x (inl s)) (none_left (params_faults known.types xs) (faults f.0 (scope ++ variables_of xs)) e),
         inner f xs scope k is.0 is.1 l.1 (λ here x s. n here x (inr s)) (none_right (params_faults known.types xs) (faults f.0 (scope ++ variables_of xs)) e),
       )

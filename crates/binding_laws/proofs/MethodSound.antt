@@ -1,5 +1,5 @@
 -- Methods without faults are bound to ones whose terms are in force.
-use Rattle.std.proofs.Common.{ℕ, ◌≡◌, inl, inr, List, [], ◌∷◌, ◌++◌, map, length, Option, refl, sym, ap, subst, ◌∙◌}
+use Rattle.std.proofs.Common.{ℕ, ◌≡◌, inl, inr, List, [], ◌∷◌, ◌++◌, map, length, Option, sym, subst}
 use Rattle.std.specs.Prelude.{◌≤◌}
 use Rattle.text_forms.specs.Words.{Word}
 use Rattle.gd_reader.specs.Terms.{Names}
@@ -9,9 +9,8 @@ use Rattle.hddl_reader.specs.declared.sections.RawDomain.{RawDomain}
 use Rattle.hddl_reader.specs.declared.sections.RawMethod.{RawMethod}
 use Rattle.plan_model.specs.declared.networks.Child.{Child}
 use Rattle.plan_model.specs.declared.networks.Constraint.{Constraint}
-use Rattle.plan_model.specs.declared.schemas.MethodSchema.{MethodSchema}
 use Rattle.plan_texts.specs.Declared.{Declared, variable}
-use Rattle.plan_texts.specs.Printable.{IsInForce, AreSoundParams, IsSound}
+use Rattle.plan_texts.specs.Printable.{IsInForce, IsSound}
 use Rattle.plan_texts.specs.Together.{Together}
 use Rattle.plan_texts.specs.Types.{EachIs}
 use Rattle.form_spellings.specs.BoundNetworks.{IsBoundSubtask, IsBoundConstraint}
@@ -21,7 +20,6 @@ use Rattle.form_spellings.specs.InTable.{IsNameIn}
 use Rattle.name_faults.specs.Lists.{One}
 use Rattle.name_faults.specs.Standing.{InMethod}
 use Rattle.name_faults.specs.Uses.{InFormula}
-use Rattle.name_numbers.specs.declared.faults.Spot.{Spot}
 use Rattle.name_numbers.specs.Terms.{terms_faults}
 use Rattle.bind_types.specs.Typed.{params_bound, params_faults}
 use Rattle.bind_formulas.specs.declared.known.Known.{Known}
@@ -34,7 +32,6 @@ use Rattle.hddl_bind.specs.Methods.{IsCycleOf, front_faults, method_faults, meth
 use Rattle.binding_laws.specs.Formulas.{AreNumberedIn}
 use Rattle.binding_laws.specs.InOrder.{Anywhere, IsMethodInOrder}
 use Rattle.binding_laws.specs.Known.{IsKnownOf, HasKnown}
-use Rattle.binding_laws.specs.Numbers.{words_of}
 use Rattle.binding_laws.specs.SoundSchemas.{with_objects, IsSoundBody}
 use Rattle.binding_laws.proofs.FormulaSound.{arities_of, term_in_force, terms_in_force, params_sound, formula_sound}
 use Rattle.binding_laws.proofs.Layers.{declared_words, declared_in}

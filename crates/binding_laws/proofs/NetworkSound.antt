@@ -1,19 +1,15 @@
 -- The network of a method without faults is sound.
-use Rattle.std.proofs.Common.{ℕ, zero, suc, ◌≡◌, ◌<◌, ◌+◌, Bool, true, false, cond, inl, inr, List, [], ◌∷◌, ◌++◌, map, length, Option, Some, None, refl, sym, ap, subst, ◌∙◌, arith}
+use Rattle.std.proofs.Common.{ℕ, zero, suc, ◌≡◌, ◌<◌, ◌+◌, Bool, true, false, cond, List, [], ◌∷◌, ◌++◌, map, length, Option, Some, None, refl, sym, ap, subst, ◌∙◌, arith}
 use Rattle.std.specs.Prelude.{flat_map, option_map}
 use Rattle.std.specs.List.{filter_map}
 use Rattle.std.proofs.lemmas.List.{length-map}
 use Rattle.htn_base.specs.Different.{AreDifferent}
 use Rattle.htn_base.specs.declared.name.Name.{Name}
-use Rattle.text_forms.specs.Words.{Word, word_at}
 use Rattle.gd_reader.specs.Terms.{Names}
 use Rattle.gd_reader.specs.declared.term.RawTerm.{RawTerm}
-use Rattle.hddl_reader.specs.declared.networks.RawNet.{RawNet}
 use Rattle.hddl_reader.specs.declared.networks.RawPair.{RawPair}
 use Rattle.hddl_reader.specs.declared.networks.RawSub.{RawSub}
 use Rattle.plan_model.specs.declared.networks.Child.{Child}
-use Rattle.plan_model.specs.declared.networks.Pair.{Pair}
-use Rattle.plan_model.specs.Pairs.{pair}
 use Rattle.plan_texts.specs.Declared.{named}
 use Rattle.plan_texts.specs.Networks.{chain, chain_if}
 use Rattle.plan_texts.specs.Printable.{IsPlain}
@@ -21,7 +17,6 @@ use Rattle.plan_texts.specs.SoundProblem.{NamesSubtasks}
 use Rattle.plan_texts.specs.Types.{EachIs}
 use Rattle.name_faults.specs.Lists.{Has}
 use Rattle.name_faults.specs.Words.{IsSecond, term_word}
-use Rattle.name_numbers.specs.declared.faults.Spot.{Spot}
 use Rattle.name_numbers.specs.Spots.{spot}
 use Rattle.bind_networks.specs.Callables.{Declared}
 use Rattle.bind_networks.specs.Cycle.{cycle_faults, limit_faults, order_faults}

@@ -1,5 +1,5 @@
 -- Predicates, tasks and actions without faults are bound to ones whose numbers name what is declared.
-use Rattle.std.proofs.Common.{ℕ, ◌≡◌, inl, inr, List, [], ◌∷◌, ◌++◌, map, length, refl, sym, ap, subst, ◌∙◌}
+use Rattle.std.proofs.Common.{ℕ, ◌≡◌, inl, inr, List, [], ◌∷◌, ◌++◌, map, length, sym, subst}
 use Rattle.std.specs.Prelude.{◌≤◌}
 use Rattle.text_forms.specs.Words.{Word}
 use Rattle.gd_reader.specs.Terms.{Names}
@@ -17,8 +17,7 @@ use Rattle.form_spellings.specs.InTable.{IsNameIn}
 use Rattle.name_faults.specs.Lists.{One}
 use Rattle.name_faults.specs.Standing.{InAction}
 use Rattle.name_faults.specs.Uses.{Scope, Use, IsDeclared, InFormula, InEffect}
-use Rattle.name_numbers.specs.declared.faults.Spot.{Spot}
-use Rattle.bind_types.specs.Typed.{params_bound, params_faults}
+use Rattle.bind_types.specs.Typed.{params_faults}
 use Rattle.bind_formulas.specs.declared.known.Known.{Known}
 use Rattle.bind_formulas.specs.Effects.{effect_bound, effect_faults}
 use Rattle.bind_formulas.specs.Formulas.{formula_bound, formula_faults}
@@ -27,7 +26,6 @@ use Rattle.hddl_bind.specs.Schemas.{predicate_bound, task_bound, head_faults, he
 use Rattle.binding_laws.specs.Formulas.{AreNumberedIn}
 use Rattle.binding_laws.specs.InOrder.{Anywhere, IsPredicateInOrder, IsHeadInOrder, IsActionInOrder}
 use Rattle.binding_laws.specs.Known.{IsKnownOf, HasKnown}
-use Rattle.binding_laws.specs.Numbers.{words_of, AreKnown}
 use Rattle.binding_laws.proofs.EffectSound.{effect_sound}
 use Rattle.binding_laws.proofs.FormulaSound.{arities_of, params_plain, params_sound, formula_sound}
 use Rattle.binding_laws.proofs.Layers.{declared_words, declared_in}
