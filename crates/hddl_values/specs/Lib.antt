@@ -1,4 +1,3 @@
 pub mod TextFaults
 pub mod Values
 pub mod Reading
-pub mod FaultWords

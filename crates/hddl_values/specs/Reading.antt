@@ -10,7 +10,7 @@ use Rattle.gd_reader.specs.Terms.{Names, Keeps}
 use Rattle.hddl_bind.specs.declared.bound_domain.BoundDomain.{BoundDomain}
 use Rattle.hddl_bind.specs.declared.errors.BindError.{BindError}
 use Rattle.hddl_bind.specs.declared.errors.BindError.TheVariants as bind_errors
-use Rattle.hddl_bind.specs.WholeDomains.{IsDomainBound}
+use Rattle.hddl_bind.specs.WholeDomains.{IsDomainBound, IsDomainRefused}
 use Rattle.hddl_reader.specs.declared.sections.Language.TheVariants.{Hddl}
 use Rattle.hddl_reader.specs.declared.sections.RawDomain.{RawDomain}
 use Rattle.hddl_reader.specs.declared.sections.RawProblem.{RawProblem}
@@ -40,6 +40,11 @@ RefusesForm kind file text (errors.Bad f) = (f.file ≡ file)
 abbrev pub read_error : BindError → ReadError
 read_error bind_errors.Memory = errors.Memory
 read_error (bind_errors.Bad f) = errors.Bad f
+
+-- the least fault of a domain's names
+abbrev pub RefusesNames : Names → RawDomain → ReadError → Type 0
+RefusesNames table d errors.Memory = Unit {0}
+RefusesNames table d (errors.Bad f) = IsDomainRefused table d (bind_errors.Bad f)
 
 -- The text of a domain has no fault of tokens or form, and is bound to this over the words of a table.
 pub record IsBoundText (text : List ℕ) (table : Names) (b : BoundDomain) : Type 0 where

@@ -1,8 +1,13 @@
 ghost use Rattle.std.specs.Prelude.{◌≤◌, ◌≡◌, length, IfOk, IfErr};
-ghost use Rattle.hddl_values.specs.Reading.{IsBoundText, RefusesDomain, read_error};
+ghost use Rattle.htn_base.specs.Different.{AreDifferent};
+ghost use Rattle.gd_reader.specs.Terms.{Keeps};
+ghost use Rattle.bind_types.specs.Cycle.{IsSection};
+ghost use Rattle.hddl_bind.specs.WholeDomains.{IsDomainBound};
+ghost use Rattle.hddl_values.specs.Reading.{IsBoundText, RefusesDomain, RefusesNames, read_error};
 
-use crate::reading::read_domain;
+use crate::reading::{differ, read_domain};
 use hddl_bind::{BindError, BoundDomain, bind_domain};
+use hddl_reader::RawDomain;
 use htn_base::NameTable;
 use sexpr_text::ReadError;
 use std::alloc::Global;
@@ -18,11 +23,28 @@ pub(crate) fn bound_domain(
     ensures refused { IfErr result (RefusesDomain text.now) }
 {
     match read_domain(alloc, text, names) {
-        Ok(domain) => match bind_domain(alloc, names, domain) {
-            Ok(bound) => Ok(bound),
-            Err(error) => Err(read_error(error)),
-        },
+        Ok(domain) => bound_names(alloc, domain, names),
         Err(error) => Err(error),
+    }
+}
+
+/// The same of a domain that was read.
+fn bound_names(
+    alloc: Global,
+    domain: RawDomain,
+    names: &mut NameTable,
+) -> Result<BoundDomain, ReadError>
+    requires section { IsSection domain.types }
+    ensures bound { IfOk result (IsDomainBound names.new domain) }
+    ensures refused { IfErr result (RefusesNames names.new domain) }
+    ensures differ { AreDifferent names.new }
+    ensures keeps { Keeps names.old names.new }
+{
+    let bound = bind_domain(alloc, names, domain);
+    differ(names);
+    match bound {
+        Ok(bound) => Ok(bound),
+        Err(error) => Err(read_error(error)),
     }
 }
 

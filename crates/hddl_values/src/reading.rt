@@ -1,4 +1,5 @@
 ghost use Rattle.std.specs.Prelude.{◌≡◌, ◌≤◌, length, IfOk, IfErr, OnOk};
+ghost use Rattle.htn_base.specs.Different.{AreDifferent};
 ghost use Rattle.text_forms.specs.Faults.{IsFaultless};
 ghost use Rattle.form_grammar.specs.Sections as grammar;
 ghost use Rattle.sexpr_text.specs.Refused.{IsRefusal};
@@ -19,12 +20,15 @@ pub(crate) fn read_domain(
     requires short { length text.now ≤ 16777216 }
     ensures read { IfOk result (ReadsDomain text.now names.old names.new) }
     ensures refused { IfErr result (RefusesForm grammar.domain 0 text.now) }
+    ensures differ { AreDifferent names.new }
     ensures keeps { Keeps names.old names.new }
 {
-    match tokens(alloc, text, 0) {
+    let domain = match tokens(alloc, text, 0) {
         Ok(s) => domain(alloc, &s, 0, Language::Hddl, names),
         Err(error) => Err(error),
-    }
+    };
+    differ(names);
+    domain
 }
 
 /// The problem as it is written, or its fault of tokens or of form.
@@ -36,12 +40,22 @@ pub(crate) fn read_problem(
     requires short { length text.now ≤ 16777216 }
     ensures read { IfOk result (ReadsProblem text.now names.old names.new) }
     ensures refused { IfErr result (RefusesForm grammar.problem 1 text.now) }
+    ensures differ { AreDifferent names.new }
     ensures keeps { Keeps names.old names.new }
 {
-    match tokens(alloc, text, 1) {
+    let problem = match tokens(alloc, text, 1) {
         Ok(s) => problem(alloc, &s, 1, Language::Hddl, names),
         Err(error) => Err(error),
-    }
+    };
+    differ(names);
+    problem
+}
+
+/// No word stands twice in a table of names.
+pub(crate) fn differ(names: &NameTable)
+    ensures { AreDifferent names.now }
+{
+    let _count = names.len();
 }
 
 /// The tokens of a text, with an index of them.

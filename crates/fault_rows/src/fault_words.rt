@@ -1,10 +1,5 @@
-ghost use Rattle.std.specs.Prelude.{◌≡◌};
-ghost use Rattle.hddl_values.specs.FaultWords.{fault_word};
-
 /// The word of a fault's code, from 1 to 22; no other code has one.
-pub fn fault_word(code: u16) -> &'static str
-    ensures word { result.now ≡ fault_word code }
-{
+pub fn fault_word(code: u16) -> &'static str {
     match code {
         1 => "BadByte",
         2 => "UnclosedParen",

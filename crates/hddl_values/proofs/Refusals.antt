@@ -1,0 +1,24 @@
+-- The least fault of one text is that of both.
+use Rattle.std.proofs.Common.{ℕ, ◌≡◌, List, sym, subst, Result, Ok, Err}
+use Rattle.std.specs.Prelude.{IfErr}
+use Rattle.gd_reader.specs.Terms.{Names}
+use Rattle.plan_model.specs.declared.values.Hddl.{Hddl}
+use Rattle.hddl_bind.specs.declared.bound_domain.BoundDomain.{BoundDomain}
+use Rattle.sexpr_text.specs.declared.read_error.ReadError.{ReadError}
+use Rattle.sexpr_text.specs.declared.read_error.ReadError.TheVariants as errors
+use Rattle.hddl_values.specs.TextFaults.{IsLeastFault, in_domain, in_problem}
+use Rattle.hddl_values.specs.Reading.{RefusesDomain, RefusesProblem, IsBoundText}
+use Rattle.hddl_values.specs.Values.{IsRefusal}
+use Rattle.hddl_values.proofs.DomainTexts.{good_domain}
+
+module _ (domain problem : List ℕ) where
+  pub domain_refused : (e : ReadError) → RefusesDomain domain e → IsRefusal domain problem e
+  domain_refused errors.Memory h = tt
+  domain_refused (errors.Bad f) (file, least) = subst (λ n. IsLeastFault domain problem n f.code f.at) (sym file) (in_domain least)
+
+  pub problem_refused : (table : Names) (b : BoundDomain) → IsBoundText domain table b → (r : Result Hddl ReadError)
+      → IfErr r (RefusesProblem table b problem) → IfErr r (IsRefusal domain problem)
+  problem_refused table b bound (Ok h) is = tt
+  problem_refused table b bound (Err errors.Memory) is = tt
+  problem_refused table b bound (Err (errors.Bad f)) (file, least) =
+      subst (λ n. IsLeastFault domain problem n f.code f.at) (sym file) (in_problem table bound.d (good_domain domain table b bound) (least domain bound))
