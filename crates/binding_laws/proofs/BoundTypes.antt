@@ -98,13 +98,13 @@ module _ (names : Names) (object : ℕ) (d : RawDomain) (v : Declared) (kinds : 
   parent_type : (x : RawParam) (t : RawTerm) → Has d.types x → Has x.ty t → IsType names d (term_word names t)
   parent_type x t h i = inr (mention_said names d.types (λ (m : WordAt). m.word ≡ term_word names t) t (mention_back d.types x t h (inr i)) refl)
 
-  in_table : (x : RawParam) → Has d.types x → OfParam (IsNameIn names) false x
+  pub in_table : (x : RawParam) → Has d.types x → OfParam (IsNameIn names) false x
   in_table x h = each_has (OfParam (IsNameIn names) false) d.types x is.words_in h
 
-  own_at : (x : RawParam) → Has d.types x → (own_place kinds.types d.types x < length W) × (word_at W (own_place kinds.types d.types x) ≡ param_word names x)
+  pub own_at : (x : RawParam) → Has d.types x → (own_place kinds.types d.types x < length W) × (word_at W (own_place kinds.types d.types x) ≡ param_word names x)
   own_at x h = placed x.name.number (in_table x h).0 (own_type x h)
 
-  parent_at : (x : RawParam) (t : RawTerm) → Has d.types x → Has x.ty t → (place_of kinds.types t < length W) × (word_at W (place_of kinds.types t) ≡ term_word names t)
+  pub parent_at : (x : RawParam) (t : RawTerm) → Has d.types x → Has x.ty t → (place_of kinds.types t < length W) × (word_at W (place_of kinds.types t) ≡ term_word names t)
   parent_at x t h i = placed t.name.number (each_has (λ (t : RawTerm). IsIn names t.name) x.ty t (in_table x h).1 i) (parent_type x t h i)
 
   -- the one parent that is written
@@ -213,8 +213,7 @@ module _ (names : Names) (object : ℕ) (d : RawDomain) (v : Declared) (kinds : 
       (parent n p, plan_has (pairs_in_order kinds.types d.types) (parent n p) (pair_back kinds.types d.types n p (above n own.0) above_first (inl (x.0, x.1, refl, (t.0, t.1, refl)))), own.1 ∙ x.2, (parent_at x.0 t.0 x.1 t.1).1 ∙ t.2)
   pairs_back c q (inr (e, not_object, m, nowhere)) =
       let w = place_at W c (has_plan W c (words_back c (inr m))) in
-      let above_first = positive w.0 (λ z. not_object (sym w.2 ∙ ap (word_at W) z ∙ first_at.0)) in
-      (
+      let above_first = positive w.0 (λ z. not_object (sym w.2 ∙ ap (word_at W) z ∙ first_at.0)) in (
         parent w.0 0,
         plan_has (pairs_in_order kinds.types d.types) (parent w.0 0) (pair_back kinds.types d.types w.0 0 (above w.0 w.1) above_first (inr (refl, λ p r. nowhere (word_at W p) (subst (λ c. plan.Has items (c, Some (word_at W p))) w.2 (written_said w.0 p r))))),
         w.2,

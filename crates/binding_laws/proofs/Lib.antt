@@ -49,3 +49,4 @@ pub mod TypePairs
 pub mod BoundTypes
 pub mod NoSeconds
 pub mod WholeValues
+pub mod seen

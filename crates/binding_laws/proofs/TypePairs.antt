@@ -69,11 +69,14 @@ module _ (types : List ℕ) (xs : List RawParam) where
   for_there : (child : ℕ) (q : Parent) → Has (pairs_for child (parents_written types xs child)) q → (q.child ≡ child) × (0 < child) × (IsWritten child q.parent ⊎ ((q.parent ≡ 0) × ((p : ℕ) → IsWritten child p → ⊥)))
   for_there zero q h = absurd h
   for_there (suc c) q h =
-      let r = with_there (suc c) (parents_written types xs (suc c)) q (subst (λ ps. Has ps q) (for_one c (parents_written types xs (suc c))) h) in
-      (r.0, omega arith, elim r.1 [
-        | inl w ↦ inl (written_there (suc c) q.parent w)
-        | inr (e, f) ↦ inr (e, λ p w. subst (λ ps. Has ps p) f (written_back (suc c) p w))
-      ])
+      let r = with_there (suc c) (parents_written types xs (suc c)) q (subst (λ ps. Has ps q) (for_one c (parents_written types xs (suc c))) h) in (
+        r.0,
+        omega arith,
+        elim r.1 [
+          | inl w ↦ inl (written_there (suc c) q.parent w)
+          | inr (e, f) ↦ inr (e, λ p w. subst (λ ps. Has ps p) f (written_back (suc c) p w))
+        ],
+      )
 
   nothing : (ps : List ℕ) → ((p : ℕ) → Has ps p → ⊥) → ps ≡ []
   nothing [] f = refl

@@ -19,3 +19,4 @@ pub mod TypeCycles
 pub mod WholeFaults
 pub mod BoundTypes
 pub mod WholeValues
+pub mod SeenBound

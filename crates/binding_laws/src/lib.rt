@@ -11,12 +11,14 @@
 //! network (`networks_are_said`).
 #![tactic(auto)]
 
+mod first_seen;
 mod laws;
 mod networks;
 mod schemas;
 mod texts;
 mod types;
 
+pub use first_seen::what_is_bound_is_of_its_texts;
 pub use laws::{
     atoms_are_bound, effects_are_bound, formulas_are_bound, lists_are_bound, numbers_are_words,
     terms_are_bound, types_are_bound, uses_are_said,
