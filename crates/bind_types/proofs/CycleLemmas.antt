@@ -1,5 +1,5 @@
 -- Which child of a section of types is the first that closes a cycle.
-use Rattle.std.proofs.Common.{ℕ, zero, suc, ◌≡◌, ◌≢◌, ◌<◌, ◌⊎◌, inl, inr, List, [], ◌∷◌, ◌++◌, Option, Some, None, refl, ap, sym, subst, ◌∙◌, Contains, arith}
+use Rattle.std.proofs.Common.{ℕ, zero, suc, ◌≡◌, ◌⊎◌, inl, inr, List, [], ◌∷◌, ◌++◌, Some, refl, ap, sym, subst, ◌∙◌, Contains, arith}
 use Rattle.std.proofs.lemmas.Grind.{flat_map-append}
 use Rattle.std.proofs.lemmas.List.Elements.{Contains-append_left, Contains-append_right, Contains-append_cases}
 use Rattle.task_networks.specs.Order.{Precedes, direct, through, IsAcyclic, IsFirstClosing}
@@ -11,7 +11,7 @@ use Rattle.name_faults.specs.Lists.{One, Each, IsFirst}
 use Rattle.gd_reader.specs.declared.term.RawTerm.{RawTerm}
 use Rattle.gd_reader.specs.declared.typed_lists.RawParam.{RawParam}
 use Rattle.bind_types.specs.Cycle.{IsParent, ClosesCycle}
-use Rattle.bind_types.specs.PairsAmong.{place_among, parent_among, pairs_behind, pairs_among, places_among}
+use Rattle.bind_types.specs.PairsAmong.{place_among, parent_among, pairs_behind, pairs_among}
 use Rattle.bind_types.proofs.PairLemmas.{same_number, number_at, number-place, IsParentAt, pair-of, pair-from, IsPairAt, pair_at}
 
 one-map : {X : Type 0} {P Q : X → Type 0} → ((x : X) → P x → Q x) → (xs : List X) → One P xs → One Q xs

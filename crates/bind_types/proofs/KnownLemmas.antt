@@ -1,11 +1,11 @@
 -- Which words of a section of types are of the first types.
-use Rattle.std.proofs.Common.{ℕ, zero, suc, ◌≡◌, ◌≢◌, ◌+◌, ◌<◌, ◌≤◌, ◌⊎◌, inl, inr, List, [], ◌∷◌, ◌++◌, Option, Some, None, true, length, map, take, drop, get_or, refl, ap, sym, subst, ◌∙◌, Contains, append_assoc, append-nil, arith, length-take}
-use Rattle.std.specs.Prelude.{is_some, AllPairs}
-use Rattle.std.proofs.lemmas.Bool.{cases_lt, cases_eq, eq-eqb}
+use Rattle.std.proofs.Common.{ℕ, suc, ◌≡◌, ◌+◌, ◌<◌, ◌≤◌, inl, inr, List, [], ◌∷◌, ◌++◌, Option, Some, None, true, length, map, take, drop, get_or, refl, ap, sym, subst, ◌∙◌, Contains, append_assoc, append-nil, arith, length-take}
+use Rattle.std.specs.Prelude.{is_some}
+use Rattle.std.proofs.lemmas.Bool.{cases_lt, cases_eq}
 use Rattle.std.proofs.lemmas.List.{get_or-take, get_or_default, map-append, take-append-drop}
 use Rattle.std.proofs.lemmas.List.Elements.{Contains-append_right}
 use Rattle.std.proofs.lemmas.List.Sorted.{Contains-permutation, IsPermutation-sym}
-use Rattle.task_networks.proofs.Lists.{Contains-here, Contains-later, head_or_tail}
+use Rattle.task_networks.proofs.Lists.{Contains-here, Contains-later}
 use Rattle.name_faults.specs.Lists.{Each}
 use Rattle.name_numbers.specs.Places.{first_place}
 use Rattle.name_numbers.specs.Spots.{IsInTextOrder}

@@ -1,17 +1,15 @@
 -- The types of a domain, bound to what its section of types says.
-use Rattle.std.proofs.Common.{ℕ, zero, suc, ◌≡◌, ◌<◌, false, inl, inr, List, [], ◌∷◌, ◌++◌, map, length, Option, Some, None, refl, sym, ap, subst, ◌∙◌, arith}
-use Rattle.std.specs.Prelude.{◌⊎◌, ◌↔◌, codes, unwrap_or, ◌≤◌}
+use Rattle.std.proofs.Common.{ℕ, zero, suc, ◌≡◌, ◌<◌, false, inl, inr, List, [], ◌∷◌, map, length, Option, Some, None, refl, sym, ap, subst, ◌∙◌, arith}
+use Rattle.std.specs.Prelude.{◌⊎◌, codes, unwrap_or, ◌≤◌}
 use Rattle.std.proofs.lemmas.List.{length-map}
 use Rattle.htn_base.specs.Different.{AreDifferent}
-use Rattle.htn_base.specs.declared.name.Name.{Name}
 use Rattle.text_forms.specs.Words.{Word, word_at}
 use Rattle.text_forms.specs.Words as words
 use Rattle.gd_reader.specs.Terms.{Names}
 use Rattle.gd_reader.specs.declared.term.RawTerm.{RawTerm}
 use Rattle.gd_reader.specs.declared.typed_lists.RawParam.{RawParam}
 use Rattle.hddl_reader.specs.declared.sections.RawDomain.{RawDomain}
-use Rattle.plan_model.specs.declared.types.Parent.{Parent}
-use Rattle.plan_texts.specs.Declared.{Declared, named}
+use Rattle.plan_texts.specs.Declared.{Declared}
 use Rattle.plan_texts.specs.Together.{Together}
 use Rattle.plan_texts.specs.TypedLists.{first_seen}
 use Rattle.plan_texts.specs.Types as plan
@@ -20,7 +18,7 @@ use Rattle.form_spellings.specs.Bound.{parent_of, IsBoundType}
 use Rattle.form_spellings.specs.BoundTexts.{AreBoundTypes}
 use Rattle.form_spellings.specs.EachName.{OfParam}
 use Rattle.form_spellings.specs.InTable.{IsIn, IsNameIn}
-use Rattle.name_faults.specs.Lists.{One, Has}
+use Rattle.name_faults.specs.Lists.{Has}
 use Rattle.name_faults.specs.Types.{IsType, TypeCycle}
 use Rattle.name_faults.specs.Words.{WordAt, term_word, param_word}
 use Rattle.name_numbers.specs.Places as numbers
@@ -36,7 +34,7 @@ use Rattle.binding_laws.proofs.Lists.{no_first, append_left, append_right, appen
 use Rattle.binding_laws.proofs.Mentioned.{mention_said, said_mention}
 use Rattle.binding_laws.proofs.NoTypeCycle.{no_parent_of_object}
 use Rattle.binding_laws.proofs.Numbered.{first_is}
-use Rattle.binding_laws.proofs.Ones.{one_has, has_one, each_has}
+use Rattle.binding_laws.proofs.Ones.{each_has}
 use Rattle.binding_laws.proofs.Places.{have_one_place, same_number}
 use Rattle.binding_laws.proofs.SecondWords.{has_at}
 use Rattle.binding_laws.proofs.TypePairs.{own_place, IsWritten, IsPair, pair_there, pair_back}

@@ -1,5 +1,5 @@
 -- All faults of a domain by numbers and in words.
-use Rattle.std.proofs.Common.{ℕ, ◌≡◌, ◌<◌, false, inl, inr, List, [], ◌∷◌, ◌++◌, map, length, Option, refl, sym, ap, subst, ◌∙◌}
+use Rattle.std.proofs.Common.{ℕ, ◌≡◌, ◌<◌, false, inl, inr, List, [], ◌∷◌, ◌++◌, map, length, Option, refl, sym, subst}
 use Rattle.std.specs.Prelude.{◌⊎◌, ◌↔◌}
 use Rattle.gd_reader.specs.Terms.{Names}
 use Rattle.gd_reader.specs.declared.typed_lists.RawParam.{RawParam}
@@ -11,9 +11,9 @@ use Rattle.plan_texts.specs.Together.{Together}
 use Rattle.plan_texts.specs.Types.{EachIs}
 use Rattle.form_spellings.specs.EachName.{OfParam}
 use Rattle.form_spellings.specs.EachPart.{OfHead, OfMethod}
-use Rattle.form_spellings.specs.InTable.{IsNameIn, AreParamsIn}
+use Rattle.form_spellings.specs.InTable.{IsNameIn}
 use Rattle.name_faults.specs.Faults.{DuplicateInDomain, constants, HasDomainFault}
-use Rattle.name_faults.specs.Lists.{One, Each, Has}
+use Rattle.name_faults.specs.Lists.{Each, Has}
 use Rattle.name_faults.specs.Networks.{ids, UnknownSubtaskId, CyclicOrder, TooManySubtasks}
 use Rattle.name_faults.specs.Standing.{InDomain}
 use Rattle.name_faults.specs.Types.{most_types, TypeCycle, TooManyTypes}

@@ -1,5 +1,5 @@
 -- What laws ask of a network, of callables and of what is looked up follows from what is asked of a whole domain.
-use Rattle.std.proofs.Common.{ℕ, ◌≡◌, ◌<◌, List, [], ◌∷◌, ◌++◌, map, length, Option, Some, None, refl, ap, subst}
+use Rattle.std.proofs.Common.{◌≡◌, ◌<◌, List, [], ◌∷◌, ◌++◌, map, length, Option, Some, None, refl, ap, subst}
 use Rattle.std.specs.Prelude.{IfSome}
 use Rattle.htn_base.specs.Different.{AreDifferent}
 use Rattle.text_forms.specs.Words.{word_at}
@@ -12,14 +12,12 @@ use Rattle.hddl_reader.specs.declared.networks.RawSub.{RawSub}
 use Rattle.hddl_reader.specs.declared.sections.RawAction.{RawAction}
 use Rattle.hddl_reader.specs.declared.sections.RawDomain.{RawDomain}
 use Rattle.hddl_reader.specs.declared.sections.RawHead.{RawHead}
-use Rattle.hddl_reader.specs.declared.sections.RawMethod.{RawMethod}
 use Rattle.plan_texts.specs.Types.{EachIs}
-use Rattle.form_spellings.specs.EachPart.{OfSub, OfPair, OfNet, OfHead, OfAction, OfMethod}
+use Rattle.form_spellings.specs.EachPart.{OfSub, OfPair, OfNet, OfHead, OfAction}
 use Rattle.form_spellings.specs.EachName.{OfAtom, OfTerm}
 use Rattle.form_spellings.specs.InTable.{IsIn, IsNameIn, AreParamsIn}
 use Rattle.name_faults.specs.Faults.{constants}
 use Rattle.name_faults.specs.Lists.{Each}
-use Rattle.name_faults.specs.Words.{callables}
 use Rattle.name_numbers.specs.Spots.{IsInTextOrder}
 use Rattle.bind_types.specs.Kinds.{Kinds}
 use Rattle.bind_networks.specs.Callables.{declared, heads}
@@ -30,10 +28,8 @@ use Rattle.binding_laws.specs.InOrder.{Anywhere, IsDomainInOrder}
 use Rattle.binding_laws.specs.Kinds.{AreTypesOf}
 use Rattle.binding_laws.specs.Known.{IsKnownOf}
 use Rattle.binding_laws.specs.Numbers.{words_of, AreKnown}
-use Rattle.binding_laws.specs.Orders.{AreIdsIn}
-use Rattle.binding_laws.specs.Seconds.{AreDeclared}
 use Rattle.binding_laws.specs.WholeNetworks.{IsNetworkIn}
-use Rattle.binding_laws.proofs.Ones.{each_wider, each_mapped, each_both}
+use Rattle.binding_laws.proofs.Ones.{each_wider, each_both}
 
 module _ (names : Names) (differ : AreDifferent names) where
   ids_in : (ss : List RawSub) → EachIs (OfSub (IsNameIn names) Anywhere) ss → Each (λ (t : RawTerm). term_number t < length names) (ids ss)

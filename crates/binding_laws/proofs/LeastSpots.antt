@@ -1,7 +1,7 @@
 -- The least of the spots that were noted is the least fault, where these spots are the faults or have the least of them.
-use Rattle.std.proofs.Common.{ℕ, ◌≡◌, ◌<◌, ◌≤◌, Bool, true, false, inl, inr, List, [], ◌++◌, Some, None, Option, refl, sym, ap, subst, ◌∙◌, arith}
+use Rattle.std.proofs.Common.{ℕ, ◌≡◌, ◌<◌, ◌≤◌, Bool, true, false, inl, inr, List, [], ◌++◌, Some, None, refl, sym, ap, arith}
 use Rattle.std.specs.Prelude.{◌⊎◌, ◌↔◌, ◌==◌, ◌&&◌, ◌||◌, nat_lt, Contains}
-use Rattle.std.proofs.lemmas.Bool.{ltb-true, ltb-false, lt-ltb, eqb-true, eqb-false, eq-eqb}
+use Rattle.std.proofs.lemmas.Bool.{ltb-true, ltb-false, eqb-true, eqb-false}
 use Rattle.name_faults.specs.Faults.{IsInFront, IsLeast, HasNoFault}
 use Rattle.name_faults.specs.Lists.{Has}
 use Rattle.name_numbers.specs.declared.faults.Spot.{Spot}

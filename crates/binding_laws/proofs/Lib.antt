@@ -49,4 +49,11 @@ pub mod TypePairs
 pub mod BoundTypes
 pub mod NoSeconds
 pub mod WholeValues
+pub mod FormulaSound
+pub mod EffectSound
+pub mod SchemaSound
+pub mod CallSound
+pub mod PartSound
+pub mod MethodSound
+pub mod NetworkSound
 pub mod seen

@@ -1,6 +1,6 @@
 -- The words of a section of types by numbers and in words.
-use Rattle.std.proofs.Common.{ℕ, ◌≡◌, ◌<◌, ◌≤◌, Bool, true, false, cond, inl, inr, List, [], ◌∷◌, ◌++◌, map, length, refl, sym, ap, subst, ◌∙◌, nat_eq, ◌||◌}
-use Rattle.std.specs.Prelude.{◌⊎◌, ◌↔◌, Contains, codes}
+use Rattle.std.proofs.Common.{ℕ, ◌≡◌, ◌<◌, Bool, true, false, cond, inl, inr, List, [], ◌∷◌, ◌++◌, map, length, refl, sym, ap, subst, ◌∙◌, nat_eq, ◌||◌}
+use Rattle.std.specs.Prelude.{◌⊎◌}
 use Rattle.std.proofs.lemmas.Bool.{eqb-true, eqb-false}
 use Rattle.std.proofs.lemmas.List.{map-append}
 use Rattle.htn_base.specs.Different.{AreDifferent}
@@ -11,14 +11,14 @@ use Rattle.gd_reader.specs.declared.typed_lists.RawParam.{RawParam}
 use Rattle.plan_texts.specs.TypedLists.{first_seen}
 use Rattle.plan_texts.specs.Types.{EachIs}
 use Rattle.form_spellings.specs.InTable.{IsIn, AreParamsIn}
-use Rattle.name_faults.specs.Lists.{One, Each, Has}
+use Rattle.name_faults.specs.Lists.{One, Has}
 use Rattle.name_faults.specs.Types as words
-use Rattle.name_faults.specs.Words.{WordAt, term_word, term_at}
+use Rattle.name_faults.specs.Words.{WordAt, term_at}
 use Rattle.bind_types.specs.Mentions.{own_word, mentioned}
 use Rattle.bind_types.specs.Seen as numbers
 use Rattle.binding_laws.specs.Numbers.{words_of, AreKnown}
-use Rattle.binding_laws.proofs.Numbered.{contains_has, has_contains, has_of_map, has_to_map}
-use Rattle.binding_laws.proofs.Ones.{one_has, has_one, one_mapped, mapped_one, each_has, has_each, each_both, differ_mapped}
+use Rattle.binding_laws.proofs.Numbered.{contains_has}
+use Rattle.binding_laws.proofs.Ones.{one_has, has_one, one_mapped, mapped_one, each_both, differ_mapped}
 use Rattle.binding_laws.proofs.Places.{same_number, same_word}
 
 -- a mention by numbers is one in words

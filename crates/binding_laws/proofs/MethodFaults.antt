@@ -11,7 +11,7 @@ use Rattle.form_spellings.specs.EachPart.{OfMethod}
 use Rattle.form_spellings.specs.InTable.{IsNameIn}
 use Rattle.name_faults.specs.Lists.{One, Has}
 use Rattle.name_faults.specs.Standing.{IsOfNetwork, InMethod}
-use Rattle.name_faults.specs.Uses.{Scope, Use, applies, refers, task, IsDeclared, IsOfAtom, variables, InFormula}
+use Rattle.name_faults.specs.Uses.{Scope, Use, applies, task, IsDeclared, IsOfAtom, variables, InFormula}
 use Rattle.name_numbers.specs.declared.faults.Spot.{Spot}
 use Rattle.name_numbers.specs.Terms.{term_faults, terms_faults}
 use Rattle.bind_types.specs.Typed.{params_faults}
@@ -34,7 +34,7 @@ use Rattle.binding_laws.proofs.FromOrder.{network_in}
 use Rattle.binding_laws.proofs.Layers.{declared_words, declared_in}
 use Rattle.binding_laws.proofs.Lists.{append_there, append_left, append_right, flat_there, flat_back}
 use Rattle.binding_laws.proofs.SchemaFaults.{Q, here_is, wider, heads_there, heads_back, actions_there, actions_back, net_there, net_back}
-use Rattle.binding_laws.proofs.Somewhere.{Somewhere, either_there, either_left, either_right, one_there, one_back, at_use}
+use Rattle.binding_laws.proofs.Somewhere.{Somewhere, at_use}
 
 module _ (names : Names) (d : RawDomain) (objects : List Word) (known : Known) (of : IsKnownOf names d objects known) (callables : Declared) (ofc : AreCallablesOf names d callables) (code at : ℕ) where
   abbrev Uses : Scope → Use → Type 0

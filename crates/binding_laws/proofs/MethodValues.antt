@@ -1,6 +1,5 @@
 -- What methods without faults are bound to.
 use Rattle.std.proofs.Common.{ℕ, ◌≡◌, inl, inr, List, [], ◌∷◌, ◌++◌, map, Option, Some, None, refl, sym, ap, subst, ◌∙◌}
-use Rattle.std.specs.Prelude.{option_map}
 use Rattle.text_forms.specs.Words.{Word, first_place}
 use Rattle.gd_reader.specs.Terms.{Names}
 use Rattle.gd_reader.specs.declared.term.RawAtom.{RawAtom}
@@ -20,7 +19,7 @@ use Rattle.form_spellings.specs.EachPart.{OfMethod}
 use Rattle.form_spellings.specs.InTable.{IsIn, IsNameIn}
 use Rattle.name_faults.specs.Lists.{One}
 use Rattle.name_faults.specs.Standing.{InMethod}
-use Rattle.name_faults.specs.Uses.{declares, variables, InFormula}
+use Rattle.name_faults.specs.Uses.{InFormula}
 use Rattle.name_faults.specs.Words.{term_word}
 use Rattle.name_numbers.specs.declared.faults.Spot.{Spot}
 use Rattle.name_numbers.specs.Terms.{terms_bound, terms_faults}
@@ -28,12 +27,11 @@ use Rattle.bind_types.specs.Typed.{params_bound, params_faults}
 use Rattle.bind_formulas.specs.declared.known.Known.{Known}
 use Rattle.bind_formulas.specs.Formulas.{formula_bound, formula_faults}
 use Rattle.bind_networks.specs.declared.callables.Callable.{Callable}
-use Rattle.bind_networks.specs.Callables.{Declared, heads}
+use Rattle.bind_networks.specs.Callables.{Declared}
 use Rattle.bind_networks.specs.Calls.{called, method_task, if_task, only_task, head_called, task_number, call_faults}
 use Rattle.bind_networks.specs.Networks.{network_bound, network_faults}
 use Rattle.hddl_bind.specs.Actions.{scope_of}
 use Rattle.hddl_bind.specs.Methods.{IsCycleOf, front_faults, method_faults, method_bound, methods_bound, methods_faults}
-use Rattle.binding_laws.specs.Calls.{called_words}
 use Rattle.binding_laws.specs.Formulas.{AreNumberedIn}
 use Rattle.binding_laws.specs.InOrder.{Anywhere, IsMethodInOrder}
 use Rattle.binding_laws.specs.NetworkValues.{HasObjects, IsBoundNet}

@@ -1,5 +1,5 @@
 -- What a network without faults is bound to.
-use Rattle.std.proofs.Common.{ℕ, suc, ◌≡◌, ◌<◌, Bool, true, false, cond, eqb, List, [], ◌∷◌, ◌++◌, map, length, Option, Some, None, refl, sym, ap, subst, ◌∙◌}
+use Rattle.std.proofs.Common.{ℕ, suc, ◌≡◌, ◌<◌, Bool, true, false, cond, List, [], ◌∷◌, ◌++◌, map, length, Option, Some, None, refl, sym, ap, subst, ◌∙◌}
 use Rattle.std.specs.Prelude.{flat_map, option_map, unwrap_or, IfSome}
 use Rattle.std.specs.Str.{bytes_eq}
 use Rattle.std.proofs.lemmas.Bool.{eqb-true}
@@ -32,7 +32,7 @@ use Rattle.bind_networks.specs.Callables.{Declared, heads}
 use Rattle.bind_networks.specs.Calls.{called, call_faults}
 use Rattle.bind_networks.specs.Cycle.{cycle_faults, limit_faults, order_faults}
 use Rattle.bind_networks.specs.Ids.{ids, id_at, has_id, second_ids, subtask_of}
-use Rattle.bind_networks.specs.Networks.{id_bound, constraint_bound, constraint_faults, child_bound, child_faults, network_bound, network_faults}
+use Rattle.bind_networks.specs.Networks.{id_bound, constraint_bound, constraint_faults, child_bound, child_faults}
 use Rattle.bind_networks.specs.Pairs.{if_both, if_pair, first_of, second_of, written, pair_faults}
 use Rattle.binding_laws.specs.Calls.{AreCallablesOf, called_words, OfAllCallables}
 use Rattle.binding_laws.specs.InOrder.{IsPlainName}

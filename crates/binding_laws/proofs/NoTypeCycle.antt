@@ -1,12 +1,12 @@
 -- Where no pair of types closes a cycle as the first, none closes one, and object has no parent.
-use Rattle.std.proofs.Common.{ℕ, zero, suc, ◌≡◌, ◌<◌, ◌≤◌, inl, inr, List, [], ◌∷◌, ◌++◌, length, refl, sym, ap, subst, ◌∙◌, length-append, arith}
+use Rattle.std.proofs.Common.{ℕ, zero, suc, ◌≡◌, ◌<◌, ◌≤◌, inl, inr, List, [], ◌∷◌, ◌++◌, length, refl, ap, ◌∙◌, length-append, arith}
 use Rattle.std.specs.Prelude.{codes}
 use Rattle.std.proofs.lemmas.List.{append_assoc}
 use Rattle.gd_reader.specs.Terms.{Names}
 use Rattle.gd_reader.specs.declared.term.RawTerm.{RawTerm}
 use Rattle.gd_reader.specs.declared.typed_lists.RawParam.{RawParam}
 use Rattle.hddl_reader.specs.declared.sections.RawDomain.{RawDomain}
-use Rattle.name_faults.specs.Lists.{One, Has, IsFirst}
+use Rattle.name_faults.specs.Lists.{Has, IsFirst}
 use Rattle.name_faults.specs.Types.{ClosesCycle, TypeCycle, Leads, IsParent}
 use Rattle.name_faults.specs.Words.{term_word, param_word}
 use Rattle.std.specs.Prelude.{◌⊎◌}

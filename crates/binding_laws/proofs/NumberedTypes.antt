@@ -1,5 +1,5 @@
 -- Each type that is written in a domain or a problem without faults has a number.
-use Rattle.std.proofs.Common.{ℕ, ◌≡◌, ◌≤◌, false, true, inl, inr, List, [], ◌∷◌, ◌++◌, map, length, refl, sym, ap, subst, ◌∙◌, arith}
+use Rattle.std.proofs.Common.{ℕ, ◌≡◌, ◌≤◌, inl, inr, List, [], ◌∷◌, ◌++◌, map, length, refl, sym, ap, subst, ◌∙◌, arith}
 use Rattle.std.specs.Prelude.{◌⊎◌, flat_map}
 use Rattle.htn_base.specs.Different.{AreDifferent}
 use Rattle.gd_reader.specs.Terms.{Names}
@@ -21,18 +21,17 @@ use Rattle.form_spellings.specs.InTable.{IsNameIn, AreParamsIn}
 use Rattle.name_faults.specs.Faults.{HasDomainFault, HasProblemFault, HasNoFault}
 use Rattle.name_faults.specs.Lists.{One, Has}
 use Rattle.name_faults.specs.Standing.{IsOfNetwork, InAction, InMethod, InDomain, InProblem}
-use Rattle.name_faults.specs.Types.{IsType}
-use Rattle.name_faults.specs.Uses.{Scope, predicate, subtask, task, declares, refers, IsDeclared, IsOfAtom, IsOneOf, variables}
+use Rattle.name_faults.specs.Uses.{Scope, predicate, subtask, task, declares, IsDeclared, IsOfAtom, IsOneOf, variables}
 use Rattle.name_faults.specs.Words.{term_word}
 use Rattle.name_numbers.specs.declared.faults.Spot.{Spot}
 use Rattle.name_numbers.specs.Spots.{spot}
 use Rattle.bind_types.specs.Kinds.{Kinds, type_number, members_written, kind_faults}
-use Rattle.bind_types.specs.Unions.{union_at, unions_said, unions_behind, params_unions, formula_unions, effect_unions}
+use Rattle.bind_types.specs.Unions.{union_at, unions_said, params_unions, formula_unions, effect_unions}
 use Rattle.bind_types.specs.declared.unions.Either.{Either}
 use Rattle.hddl_bind.specs.WholeUnions.{head_unions, heads_unions, action_unions, actions_unions, method_unions, methods_unions, domain_unions, problem_unions}
 use Rattle.binding_laws.specs.Formulas.{AreNumberedIn}
-use Rattle.binding_laws.specs.InOrder.{Anywhere, IsTypedName, AreVariables, AreParameters, IsPredicateInOrder, IsHeadInOrder, IsMethodInOrder, IsActionInOrder, IsDomainInOrder, IsProblemInOrder}
-use Rattle.binding_laws.specs.Kinds.{AreTypesOf, AreTermsIn, IsKindFault, IsNumbered}
+use Rattle.binding_laws.specs.InOrder.{Anywhere, IsTypedName, IsPredicateInOrder, IsHeadInOrder, IsMethodInOrder, IsActionInOrder, IsDomainInOrder, IsProblemInOrder}
+use Rattle.binding_laws.specs.Kinds.{AreTypesOf, AreTermsIn, IsNumbered}
 use Rattle.binding_laws.proofs.Lists.{append_left, append_right, flat_back}
 use Rattle.binding_laws.proofs.Ones.{one_has, has_one, each_has}
 use Rattle.binding_laws.proofs.Written.{has_kind_faults, members_are}

@@ -1,6 +1,6 @@
 -- What holds of one of a list, of each of it, and of lists made of others.
 use Rattle.std.proofs.Common.{◌≡◌, inl, inr, List, [], ◌∷◌, ◌++◌, map, refl, sym, subst}
-use Rattle.std.specs.Prelude.{◌⊎◌, Contains}
+use Rattle.std.specs.Prelude.{◌⊎◌}
 use Rattle.htn_base.specs.Different.{AreDifferent}
 use Rattle.plan_texts.specs.Types.{EachIs}
 use Rattle.name_faults.specs.Lists.{One, Has}

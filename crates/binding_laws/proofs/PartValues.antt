@@ -1,48 +1,40 @@
 -- What all that a domain declares but its types, and the parts of a problem, are bound to, where none of them has a fault.
-use Rattle.std.proofs.Common.{ℕ, ◌≡◌, Bool, true, false, cond, inl, inr, List, [], ◌∷◌, ◌++◌, map, length, refl, sym, ap, subst, ◌∙◌}
-use Rattle.std.specs.Prelude.{flat_map, unwrap_or, ◌≤◌}
+use Rattle.std.proofs.Common.{ℕ, ◌≡◌, Bool, true, false, cond, List, [], ◌∷◌, ◌++◌, map, length, refl, sym, ap, subst, ◌∙◌}
+use Rattle.std.specs.Prelude.{unwrap_or, ◌≤◌}
 use Rattle.std.proofs.lemmas.List.{length-map}
-use Rattle.text_forms.specs.Words.{Word}
 use Rattle.gd_reader.specs.Terms.{Names}
 use Rattle.gd_reader.specs.declared.term.RawAtom.{RawAtom}
 use Rattle.gd_reader.specs.declared.term.RawTerm.{RawTerm}
 use Rattle.gd_reader.specs.declared.typed_lists.RawParam.{RawParam}
-use Rattle.hddl_reader.specs.declared.sections.RawDomain.{RawDomain}
 use Rattle.hddl_reader.specs.declared.sections.RawHead.{RawHead}
-use Rattle.hddl_reader.specs.declared.sections.RawProblem.{RawProblem}
 use Rattle.plan_model.specs.declared.terms.Term.TheVariants.{Var, Obj}
-use Rattle.plan_texts.specs.Declared as words
 use Rattle.plan_texts.specs.Declared.{named, variable}
-use Rattle.plan_texts.specs.Together.{Together}
 use Rattle.plan_texts.specs.Types.{EachIs}
 use Rattle.form_spellings.specs.Bound.{IsBoundAtom}
 use Rattle.form_spellings.specs.BoundNetworks.{IsBoundNetwork}
 use Rattle.form_spellings.specs.BoundSchemas.{IsBoundFact}
 use Rattle.form_spellings.specs.EachName.{OfAtom}
 use Rattle.form_spellings.specs.InTable.{IsNameIn}
-use Rattle.name_faults.specs.Lists.{One}
-use Rattle.name_faults.specs.Standing.{InAction, InMethod, InDomain, InProblem}
-use Rattle.name_faults.specs.Uses.{IsDeclared}
+use Rattle.name_faults.specs.Standing.{InDomain, InProblem}
 use Rattle.name_numbers.specs.declared.faults.Spot.{Spot}
 use Rattle.name_numbers.specs.Heads.{declared}
 use Rattle.name_numbers.specs.Places.{first_place, last_place}
-use Rattle.name_numbers.specs.Terms.{unless_found, term_bound, term_faults, terms_bound, terms_faults}
+use Rattle.name_numbers.specs.Terms.{unless_found, term_faults, terms_bound, terms_faults}
 use Rattle.bind_types.specs.Typed.{params_bound, params_faults}
-use Rattle.bind_formulas.specs.declared.known.Known.{Known}
 use Rattle.bind_formulas.specs.Atoms.{atom_faults, head_faults, place_of}
 use Rattle.bind_formulas.specs.Facts.{object_bound, fact_bound}
 use Rattle.bind_formulas.specs.Formulas.{formula_faults}
 use Rattle.bind_networks.specs.Networks.{network_bound, network_faults}
 use Rattle.hddl_bind.specs.Actions.{actions_faults}
 use Rattle.hddl_bind.specs.DomainSchemas.{typed_faults}
-use Rattle.hddl_bind.specs.Facts.{facts_bound, facts_faults}
+use Rattle.hddl_bind.specs.Facts.{facts_faults}
 use Rattle.hddl_bind.specs.Methods.{methods_faults}
 use Rattle.hddl_bind.specs.ProblemParts.{top_scope, top_faults, top_bound}
 use Rattle.hddl_bind.specs.Schemas.{heads_faults}
 use Rattle.binding_laws.specs.InOrder.{IsTypedName}
-use Rattle.binding_laws.specs.NetworkValues.{HasObjects, IsBoundNet}
-use Rattle.binding_laws.specs.Numbers.{words_of, AreKnown}
-use Rattle.binding_laws.specs.SchemaValues.{AreLookedUp, HasBoundSchemas, HasBoundParts, OfAllWords, task_words, action_words}
+use Rattle.binding_laws.specs.NetworkValues.{IsBoundNet}
+use Rattle.binding_laws.specs.Numbers.{words_of}
+use Rattle.binding_laws.specs.SchemaValues.{HasBoundSchemas, HasBoundParts, OfAllWords, task_words, action_words}
 use Rattle.binding_laws.proofs.Atoms.{of_table, atom_is}
 use Rattle.binding_laws.proofs.FormulaValues.{is_formula_bound, params_are, variables_are}
 use Rattle.binding_laws.proofs.FromOrder.{network_in}
@@ -58,7 +50,7 @@ one_type : (names : Names) (xs : List RawParam) → EachIs (IsTypedName names) x
 one_type names xs is = each_wider (IsTypedName names) (λ (x : RawParam). length x.ty ≤ 1) xs (λ x i. i.one_type) is
 
 -- a term without faults, where no variable is in force, is an object
-objects_only : (objects : List ℕ) (ts : List RawTerm) → terms_faults objects [] ts ≡ [] → map Obj (map (object_bound objects) ts) ≡ terms_bound objects [] ts
+pub objects_only : (objects : List ℕ) (ts : List RawTerm) → terms_faults objects [] ts ≡ [] → map Obj (map (object_bound objects) ts) ≡ terms_bound objects [] ts
 objects_only objects [] e = refl
 objects_only objects (t ∷ ts) e = λ i. one t.variable (none_left (term_faults objects [] t) (terms_faults objects [] ts) e) i ∷ objects_only objects ts (none_right (term_faults objects [] t) (terms_faults objects [] ts) e) i
   where

@@ -2,7 +2,7 @@
 use Rattle.std.proofs.Common.{ℕ, ◌≡◌, ◌<◌, false, inl, inr, List, [], ◌∷◌, ◌++◌, map, length, Option, refl, sym, ap, subst, ◌∙◌}
 use Rattle.std.specs.Prelude.{◌⊎◌, ◌↔◌}
 use Rattle.std.proofs.lemmas.List.{map-append}
-use Rattle.text_forms.specs.Words.{Word, word_at}
+use Rattle.text_forms.specs.Words.{word_at}
 use Rattle.gd_reader.specs.Terms.{Names}
 use Rattle.gd_reader.specs.declared.typed_lists.RawParam.{RawParam}
 use Rattle.hddl_reader.specs.declared.sections.RawDomain.{RawDomain}
@@ -10,9 +10,9 @@ use Rattle.hddl_reader.specs.declared.sections.RawProblem.{RawProblem}
 use Rattle.form_spellings.specs.EachName.{OfParam}
 use Rattle.form_spellings.specs.InTable.{IsNameIn}
 use Rattle.name_faults.specs.Faults.{DuplicateInProblem, constants, objects, HasProblemFault}
-use Rattle.name_faults.specs.Lists.{One, Has}
+use Rattle.name_faults.specs.Lists.{Has}
 use Rattle.name_faults.specs.Standing.{InProblem}
-use Rattle.name_faults.specs.Words.{param_at, param_word, IsSecond}
+use Rattle.name_faults.specs.Words.{param_at, IsSecond}
 use Rattle.name_numbers.specs.declared.faults.Spot.{Spot}
 use Rattle.name_numbers.specs.Spots.{spot}
 use Rattle.bind_types.specs.Kinds.{Kinds}

@@ -1,5 +1,5 @@
 -- The faults of predicates, tasks, actions and methods by numbers and in words.
-use Rattle.std.proofs.Common.{ℕ, ◌≡◌, inl, inr, List, [], ◌∷◌, ◌++◌, Option, refl, sym, subst}
+use Rattle.std.proofs.Common.{ℕ, ◌≡◌, inl, inr, List, [], ◌∷◌, ◌++◌, Option, sym, subst}
 use Rattle.std.specs.Prelude.{◌⊎◌, ◌↔◌, flat_map}
 use Rattle.text_forms.specs.Words.{Word}
 use Rattle.gd_reader.specs.Terms.{Names}
@@ -7,45 +7,38 @@ use Rattle.hddl_reader.specs.declared.networks.RawNet.{RawNet}
 use Rattle.hddl_reader.specs.declared.sections.RawAction.{RawAction}
 use Rattle.hddl_reader.specs.declared.sections.RawDomain.{RawDomain}
 use Rattle.hddl_reader.specs.declared.sections.RawHead.{RawHead}
-use Rattle.hddl_reader.specs.declared.sections.RawMethod.{RawMethod}
-use Rattle.plan_texts.specs.Together.{Together}
 use Rattle.plan_texts.specs.Types.{EachIs}
-use Rattle.form_spellings.specs.EachPart.{OfHead, OfAction, OfMethod}
+use Rattle.form_spellings.specs.EachPart.{OfHead, OfAction}
 use Rattle.form_spellings.specs.InTable.{IsNameIn}
 use Rattle.name_faults.specs.Lists.{One, Has}
-use Rattle.name_faults.specs.Standing.{IsOfNetwork, InAction, InMethod}
-use Rattle.name_faults.specs.Uses.{Scope, Use, applies, refers, task, IsDeclared, IsOfAtom, variables, InFormula, InEffect}
+use Rattle.name_faults.specs.Standing.{IsOfNetwork, InAction}
+use Rattle.name_faults.specs.Uses.{Scope, Use, IsDeclared, variables, InFormula, InEffect}
 use Rattle.name_numbers.specs.declared.faults.Spot.{Spot}
 use Rattle.name_numbers.specs.Spots.{spot}
-use Rattle.name_numbers.specs.Terms.{term_faults, terms_faults}
 use Rattle.bind_types.specs.Typed.{params_faults}
 use Rattle.bind_formulas.specs.declared.known.Known.{Known}
 use Rattle.bind_formulas.specs.Effects.{effect_faults}
 use Rattle.bind_formulas.specs.Formulas.{formula_faults}
 use Rattle.bind_networks.specs.Callables.{Declared}
-use Rattle.bind_networks.specs.Calls.{method_task, call_faults}
 use Rattle.bind_networks.specs.Cycle.{IsCycle}
 use Rattle.bind_networks.specs.Networks.{network_faults}
 use Rattle.hddl_bind.specs.Actions.{scope_of, action_faults, actions_faults}
-use Rattle.hddl_bind.specs.Methods.{IsCycleOf, front_faults, method_faults, methods_faults}
 use Rattle.hddl_bind.specs.Schemas.{head_faults, heads_faults}
 use Rattle.binding_laws.specs.Calls.{AreCallablesOf}
-use Rattle.binding_laws.specs.InOrder.{Anywhere, IsMethodInOrder}
+use Rattle.binding_laws.specs.InOrder.{Anywhere}
 use Rattle.binding_laws.specs.Known.{IsKnownOf}
 use Rattle.binding_laws.specs.Numbers.{words_of, AreKnown}
-use Rattle.binding_laws.specs.Schemas.{IsOrderFault, IsOrderFaultIn, HasHeadFaults, HasActionFaults, HasMethodFaults, OfAllLookups}
-use Rattle.binding_laws.specs.Uses.{HasUseFault, HasFaultIn}
+use Rattle.binding_laws.specs.Schemas.{IsOrderFault}
+use Rattle.binding_laws.specs.Uses.{HasFaultIn}
 use Rattle.binding_laws.specs.WholeNetworks.{IsNetworkIn, IsNetworkFault}
-use Rattle.binding_laws.proofs.Atoms.{of_table, Here, TermsAt, args_there, args_back}
-use Rattle.binding_laws.proofs.CallWords.{has_task_faults}
+use Rattle.binding_laws.proofs.Atoms.{of_table, Here}
 use Rattle.binding_laws.proofs.EffectFaults.{has_effect_faults}
 use Rattle.binding_laws.proofs.FormulaFaults.{has_formula_faults, params_there, params_back}
-use Rattle.binding_laws.proofs.FromOrder.{network_in}
 use Rattle.binding_laws.proofs.Layers.{declared_words, declared_in}
 use Rattle.binding_laws.proofs.Lists.{append_there, append_left, append_right, flat_there, flat_back}
 use Rattle.binding_laws.proofs.NetworkWords.{has_network_faults}
 use Rattle.binding_laws.proofs.Ones.{each_wider}
-use Rattle.binding_laws.proofs.Somewhere.{Somewhere, one_there, one_back, at_use}
+use Rattle.binding_laws.proofs.Somewhere.{Somewhere, one_there, one_back}
 
 module _ (names : Names) (d : RawDomain) (objects : List Word) (known : Known) (of : IsKnownOf names d objects known) (code at : ℕ) where
   abbrev pub Q : Scope → Use → Type 0

@@ -1,14 +1,11 @@
 -- What predicates, tasks and actions without faults are bound to.
-use Rattle.std.proofs.Common.{ℕ, ◌≡◌, inl, inr, List, [], ◌∷◌, ◌++◌, map, refl, sym, ap, subst, ◌∙◌}
+use Rattle.std.proofs.Common.{ℕ, ◌≡◌, List, [], ◌∷◌, ◌++◌, map, sym, ap, subst, ◌∙◌}
 use Rattle.std.specs.Prelude.{flat_map}
 use Rattle.text_forms.specs.Words.{Word}
 use Rattle.gd_reader.specs.Terms.{Names}
-use Rattle.gd_reader.specs.declared.typed_lists.RawParam.{RawParam}
 use Rattle.hddl_reader.specs.declared.sections.RawAction.{RawAction}
 use Rattle.hddl_reader.specs.declared.sections.RawDomain.{RawDomain}
 use Rattle.hddl_reader.specs.declared.sections.RawHead.{RawHead}
-use Rattle.plan_model.specs.declared.schemas.Predicate.{Predicate}
-use Rattle.plan_model.specs.declared.schemas.TaskSchema.{TaskSchema}
 use Rattle.plan_texts.specs.Declared as words
 use Rattle.plan_texts.specs.Declared.{named, variable}
 use Rattle.plan_texts.specs.Together.{Together}
@@ -16,7 +13,7 @@ use Rattle.plan_texts.specs.Types.{EachIs}
 use Rattle.form_spellings.specs.Bound.{IsBoundParam, IsBoundFormula, IsBoundEffect}
 use Rattle.form_spellings.specs.BoundSchemas.{IsBoundPredicate, IsBoundTask, IsBoundAction}
 use Rattle.form_spellings.specs.EachPart.{OfHead, OfAction}
-use Rattle.form_spellings.specs.InTable.{IsNameIn, AreParamsIn}
+use Rattle.form_spellings.specs.InTable.{IsNameIn}
 use Rattle.name_faults.specs.Lists.{One, Has}
 use Rattle.name_faults.specs.Standing.{InAction}
 use Rattle.name_faults.specs.Uses.{Scope, Use, declares, IsDeclared, variables, InFormula, InEffect}
@@ -28,7 +25,6 @@ use Rattle.bind_formulas.specs.Formulas.{formula_bound, formula_faults}
 use Rattle.hddl_bind.specs.Actions.{scope_of, action_bound, action_faults, actions_faults}
 use Rattle.hddl_bind.specs.Schemas.{predicate_bound, task_bound, head_faults, heads_faults}
 use Rattle.binding_laws.specs.Formulas.{AreNumberedIn}
-use Rattle.binding_laws.specs.Kinds.{IsNumbered}
 use Rattle.binding_laws.specs.InOrder.{Anywhere}
 use Rattle.binding_laws.specs.Known.{IsKnownOf, HasKnown}
 use Rattle.binding_laws.specs.Numbers.{words_of, AreKnown}

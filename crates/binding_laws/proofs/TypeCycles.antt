@@ -1,23 +1,22 @@
 -- A cycle of types by numbers and in words.
 use Rattle.std.proofs.Common.{ℕ, ◌≡◌, ◌<◌, false, inl, inr, List, [], ◌∷◌, length, refl, sym, ap, subst, ◌∙◌}
-use Rattle.std.specs.Prelude.{◌⊎◌, ◌↔◌, codes}
+use Rattle.std.specs.Prelude.{◌⊎◌, codes}
 use Rattle.htn_base.specs.Different.{AreDifferent}
 use Rattle.text_forms.specs.Words.{Word, word_at}
 use Rattle.task_networks.specs.Order.{Precedes, direct, through}
 use Rattle.gd_reader.specs.Terms.{Names}
 use Rattle.gd_reader.specs.declared.term.RawTerm.{RawTerm}
 use Rattle.gd_reader.specs.declared.typed_lists.RawParam.{RawParam}
-use Rattle.hddl_reader.specs.declared.sections.RawDomain.{RawDomain}
 use Rattle.plan_texts.specs.Types.{EachIs}
 use Rattle.form_spellings.specs.EachName.{OfParam}
-use Rattle.form_spellings.specs.InTable.{IsIn, IsNameIn, AreParamsIn}
+use Rattle.form_spellings.specs.InTable.{IsNameIn, AreParamsIn}
 use Rattle.name_faults.specs.Lists.{One}
 use Rattle.name_faults.specs.Types as words
 use Rattle.name_faults.specs.Types.{Leads}
 use Rattle.name_faults.specs.Words.{term_word, param_word}
 use Rattle.bind_types.specs.Cycle as numbers
 use Rattle.binding_laws.specs.TypeCycles.{HasTypeCycle, HasSectionFaults}
-use Rattle.binding_laws.specs.TypeWords.{AreTypesIn, OfAllTypes}
+use Rattle.binding_laws.specs.TypeWords.{OfAllTypes}
 use Rattle.binding_laws.proofs.Heads.{one_map}
 use Rattle.binding_laws.proofs.OrderWords.{first_by}
 use Rattle.binding_laws.proofs.Places.{same_number}

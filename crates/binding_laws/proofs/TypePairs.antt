@@ -1,14 +1,13 @@
 -- The pairs of types and parents by numbers: which they are.
-use Rattle.std.proofs.Common.{ℕ, zero, suc, ◌≡◌, ◌<◌, Bool, true, false, cond, eqb, inl, inr, List, [], ◌∷◌, ◌++◌, map, length, refl, sym, ap, subst, ◌∙◌, arith}
+use Rattle.std.proofs.Common.{ℕ, zero, suc, ◌≡◌, ◌<◌, Bool, true, false, cond, eqb, inl, inr, List, [], ◌∷◌, ◌++◌, map, length, refl, sym, ap, subst, arith}
 use Rattle.std.specs.Prelude.{◌⊎◌, flat_map, unwrap_or}
 use Rattle.std.proofs.lemmas.Bool.{eqb-true, eqb-false, eq-eqb, ne_eqb, cases_lt, cond-false}
 use Rattle.gd_reader.specs.declared.term.RawTerm.{RawTerm}
 use Rattle.gd_reader.specs.declared.typed_lists.RawParam.{RawParam}
 use Rattle.plan_model.specs.declared.types.Parent.{Parent}
-use Rattle.name_faults.specs.Lists.{One, Has}
+use Rattle.name_faults.specs.Lists.{Has}
 use Rattle.name_numbers.specs.Places.{first_place}
 use Rattle.bind_types.specs.Parents.{parent, pairs_with, pairs_for, place_of, parents_behind, parents_written, pairs_below, pairs_in_order}
-use Rattle.bind_types.specs.Seen.{first_seen}
 use Rattle.binding_laws.proofs.Lists.{append_there, append_left, append_right, flat_there, flat_back}
 use Rattle.binding_laws.proofs.Mentioned.{seen_there, seen_back}
 use Rattle.binding_laws.proofs.Numbered.{has_of_map, has_to_map}

@@ -12,7 +12,6 @@ use Rattle.form_spellings.specs.InTable.{IsIn}
 use Rattle.name_faults.specs.Lists.{Has}
 use Rattle.name_faults.specs.Types.{IsType}
 use Rattle.name_faults.specs.Words.{WordAt, term_word}
-use Rattle.bind_types.specs.Kinds.{Kinds}
 use Rattle.bind_types.specs.Mentions.{mentioned, numbers_of, AreInTextOrder, types_in_order}
 use Rattle.bind_types.specs.Seen.{first_seen}
 use Rattle.binding_laws.specs.Kinds.{AreTypesOf}

@@ -1,7 +1,6 @@
 -- What is refused is the least fault, and what is bound has none.
-use Rattle.std.proofs.Common.{ℕ, ◌≡◌, ◌<◌, inl, inr, List, [], ◌∷◌, ◌++◌, length, Some, None, refl, sym, ap, subst, ◌∙◌, arith}
+use Rattle.std.proofs.Common.{ℕ, ◌≡◌, inl, inr, List, [], ◌++◌, Some, None, subst, ◌∙◌, arith}
 use Rattle.std.specs.Prelude.{◌⊎◌, ◌↔◌, codes}
-use Rattle.htn_base.specs.declared.fault.Fault.{Fault}
 use Rattle.gd_reader.specs.Terms.{Names}
 use Rattle.hddl_reader.specs.declared.sections.Language.TheVariants as language
 use Rattle.hddl_reader.specs.declared.sections.RawDomain.{RawDomain}
@@ -13,7 +12,6 @@ use Rattle.name_faults.proofs.Least.{least_by_file, none_by_file}
 use Rattle.name_numbers.specs.declared.faults.Spot.{Spot}
 use Rattle.name_numbers.specs.Spots.{spot, noted, AreLeastOf}
 use Rattle.bind_types.specs.Cycle.{IsSectionFault}
-use Rattle.bind_types.specs.Kinds.{Kinds}
 use Rattle.bind_networks.specs.Callables.{declared}
 use Rattle.hddl_bind.specs.DeclaredNames.{known_in, second_names}
 use Rattle.hddl_bind.specs.DomainSchemas.{schemas_faults}

@@ -1,16 +1,15 @@
 -- The value of a domain and a problem without faults is what they say.
-use Rattle.std.proofs.Common.{ℕ, ◌≡◌, ◌<◌, true, false, inl, inr, List, [], ◌∷◌, ◌++◌, map, length, Some, None, Option, refl, sym, ap, subst, ◌∙◌, append-nil}
+use Rattle.std.proofs.Common.{ℕ, ◌≡◌, true, false, inl, inr, List, [], ◌∷◌, ◌++◌, map, length, refl, sym, ap, subst, ◌∙◌, append-nil}
 use Rattle.std.specs.Prelude.{◌⊎◌, ◌≤◌, codes}
 use Rattle.std.proofs.lemmas.List.{length-map}
 use Rattle.htn_base.specs.Different.{AreDifferent}
-use Rattle.text_forms.specs.Words.{Word, word_at}
+use Rattle.text_forms.specs.Words.{Word}
 use Rattle.gd_reader.specs.Terms.{Names}
 use Rattle.gd_reader.specs.declared.typed_lists.RawParam.{RawParam}
 use Rattle.hddl_reader.specs.declared.sections.Language.TheVariants as language
 use Rattle.hddl_reader.specs.declared.sections.RawAction.{RawAction}
 use Rattle.hddl_reader.specs.declared.sections.RawDomain.{RawDomain}
 use Rattle.hddl_reader.specs.declared.sections.RawHead.{RawHead}
-use Rattle.hddl_reader.specs.declared.sections.RawMethod.{RawMethod}
 use Rattle.hddl_reader.specs.declared.sections.RawProblem.{RawProblem}
 use Rattle.plan_model.specs.declared.types.Object.{Object}
 use Rattle.plan_model.specs.declared.types.Parent.{Parent}
@@ -21,17 +20,13 @@ use Rattle.plan_texts.specs.Domains.{domain_words}
 use Rattle.plan_texts.specs.SpellsHddl.{words_of_tasks, words_of_actions, hddl_words, hddl_domain}
 use Rattle.plan_texts.specs.Together.{Together}
 use Rattle.plan_texts.specs.TypedLists.{first_seen}
-use Rattle.plan_texts.specs.Types.{EachIs}
 use Rattle.form_spellings.specs.BoundSchemas.{IsBoundMethod, IsBoundTop}
 use Rattle.form_spellings.specs.BoundTexts.{AreBoundTypes, IsBoundDomain, IsBoundProblem, IsBoundHddl}
 use Rattle.name_faults.specs.Faults.{DuplicateInDomain, constants, objects, HasDomainFault, HasProblemFault, HasNoFault}
-use Rattle.name_faults.specs.Lists.{Has}
 use Rattle.name_faults.specs.Standing.{InDomain, InProblem}
-use Rattle.name_faults.specs.Uses.{Scope, declares}
 use Rattle.name_faults.specs.Words.{callables as tasks_and_actions, head_at, term_word}
-use Rattle.name_numbers.specs.declared.faults.Spot.{Spot}
 use Rattle.bind_types.specs.Kinds.{Kinds}
-use Rattle.bind_types.specs.Listed.{name_of, types_bound}
+use Rattle.bind_types.specs.Listed.{name_of}
 use Rattle.bind_types.specs.Parents.{pairs_in_order}
 use Rattle.bind_types.specs.Typed.{objects_bound}
 use Rattle.bind_types.specs.declared.unions.Either.{Either}
@@ -49,7 +44,6 @@ use Rattle.hddl_bind.specs.WholeUnions.{domain_unions, problem_unions}
 use Rattle.binding_laws.specs.Calls.{called_words, offsets}
 use Rattle.binding_laws.specs.Formulas.{AreNumberedIn}
 use Rattle.binding_laws.specs.Kinds.{AreTypesOf, AreTermsIn}
-use Rattle.binding_laws.specs.Known.{HasKnown}
 use Rattle.binding_laws.specs.Numbers.{words_of}
 use Rattle.binding_laws.specs.SchemaValues.{AreLookedUp, AreSchemasBound, ArePartsBound, task_words, action_words}
 use Rattle.binding_laws.specs.TypeWords.{AreTypesIn}
@@ -66,7 +60,7 @@ use Rattle.binding_laws.proofs.TypeWords.{has_types_in_order}
 use Rattle.binding_laws.proofs.UnionTables.{found_stands, old_in_front}
 use Rattle.binding_laws.proofs.WholeFaults.{types_in, types_are, domain_none, problem_none}
 use Rattle.binding_laws.proofs.WordsInUse.{type_words_are, has_known, predicates_are, constants_are, all_objects_are}
-use Rattle.binding_laws.proofs.Written.{none_left, none_right}
+use Rattle.binding_laws.proofs.Written.{none_right}
 use Rattle.binding_laws.proofs.WrittenFormulas.{IsWritten}
 
 task_words_are : (names : Names) (kinds : Kinds) (hs : List RawHead) → words_of_tasks names (tasks_bound kinds hs) ≡ map (λ (h : RawHead). term_word names h.name) hs

@@ -1,6 +1,5 @@
 -- The words that an effect declares: their types are in the table, none is written twice, and their unions are those of the effect.
-use Rattle.std.proofs.Common.{ℕ, ◌≡◌, true, inl, inr, List, [], ◌∷◌, ◌++◌, map, refl, sym, ap, subst, ◌∙◌}
-use Rattle.std.specs.Prelude.{◌⊎◌}
+use Rattle.std.proofs.Common.{◌≡◌, inl, inr, List, [], ◌∷◌, ◌++◌, map, refl, sym, subst}
 use Rattle.gd_reader.specs.declared.typed_lists.RawParam.{RawParam}
 use Rattle.gd_reader.specs.declared.effects.RawEffect.{RawEffect, roll-RawEffect}
 use Rattle.gd_reader.specs.declared.effects.RawEffect.TheFolds.{rec-roll-RawEffect, fold-roll-RawEffect, map-RawEffect, ind-RawEffect}
@@ -8,10 +7,10 @@ use Rattle.gd_reader.specs.declared.effects.RawEffect.TheOpen.{RawEffect-F}
 use Rattle.gd_reader.specs.Terms.{Names}
 use Rattle.plan_texts.specs.Types.{EachIs}
 use Rattle.plan_texts.proofs.Spelled.{each_is-map}
-use Rattle.form_spellings.specs.EachName.{effect_of_step, OfParams}
+use Rattle.form_spellings.specs.EachName.{effect_of_step}
 use Rattle.form_spellings.specs.InTable.{IsNameIn, IsEffectIn}
-use Rattle.name_faults.specs.Lists.{One, Has}
-use Rattle.name_faults.specs.Uses.{Scope, predicate, Use, declares, IsDeclared, variables, effect_step, InFormula, InEffect}
+use Rattle.name_faults.specs.Lists.{One}
+use Rattle.name_faults.specs.Uses.{Scope, predicate, declares, variables, effect_step, InEffect}
 use Rattle.name_faults.proofs.Rolls.{effect_unroll}
 use Rattle.bind_types.specs.Kinds.{Kinds}
 use Rattle.bind_types.specs.Unions.{joined, params_unions, formula_unions, effect_unions}
@@ -20,8 +19,7 @@ use Rattle.bind_types.specs.declared.unions.Either.{Either}
 use Rattle.binding_laws.specs.EachList.{effect_listed_step, OfEachListOfEffect}
 use Rattle.binding_laws.specs.InOrder.{AreParameters}
 use Rattle.binding_laws.proofs.Layers.{effect_in}
-use Rattle.binding_laws.proofs.Lists.{append_left, append_right}
-use Rattle.binding_laws.proofs.WrittenFormulas.{IsWritten, wider, list_written, no_atom, both, formula_written}
+use Rattle.binding_laws.proofs.WrittenFormulas.{IsWritten, list_written, no_atom, both, formula_written}
 
 listed_natural : (P : List RawParam → Type 0) (X : Type 0) (u : X → RawEffect) (k : RawEffect → Type 0) (x : RawEffect-F X) → effect_listed_step P (λ p. k (u p)) x ≡ effect_listed_step P k (map-RawEffect X RawEffect u x)
 listed_natural P X u k (RawEffect-F.Add a) = refl

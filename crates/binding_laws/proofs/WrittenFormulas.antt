@@ -1,6 +1,6 @@
 -- The words that a formula declares: their types are in the table, none is written twice, and their unions are those of the formula.
-use Rattle.std.proofs.Common.{ℕ, ◌≡◌, true, inl, inr, List, [], ◌∷◌, ◌++◌, map, refl, sym, ap, subst, ◌∙◌}
-use Rattle.std.specs.Prelude.{◌⊎◌, flat_map}
+use Rattle.std.proofs.Common.{◌≡◌, true, inl, inr, List, [], ◌∷◌, ◌++◌, map, refl, sym, subst}
+use Rattle.std.specs.Prelude.{◌⊎◌}
 use Rattle.gd_reader.specs.declared.term.RawAtom.{RawAtom}
 use Rattle.gd_reader.specs.declared.term.RawTerm.{RawTerm}
 use Rattle.gd_reader.specs.declared.typed_lists.RawParam.{RawParam}
@@ -13,14 +13,14 @@ use Rattle.plan_texts.proofs.Spelled.{each_is-map}
 use Rattle.form_spellings.specs.EachName.{of_step, OfParams}
 use Rattle.form_spellings.specs.InTable.{IsNameIn, IsFormulaIn}
 use Rattle.name_faults.specs.Lists.{One, Has}
-use Rattle.name_faults.specs.Uses.{Scope, Kind, predicate, Use, declares, applies, refers, IsDeclared, variables, formula_step, InFormula}
+use Rattle.name_faults.specs.Uses.{Scope, Kind, predicate, declares, applies, refers, IsDeclared, variables, formula_step, InFormula}
 use Rattle.name_faults.proofs.Rolls.{formula_unroll}
 use Rattle.bind_types.specs.Kinds.{Kinds}
 use Rattle.bind_types.specs.Unions.{joined, unions_behind, params_unions, formula_unions}
 use Rattle.bind_types.specs.Unions as unions
 use Rattle.bind_types.specs.declared.unions.Either.{Either}
 use Rattle.binding_laws.specs.EachList.{listed_step, OfEachList}
-use Rattle.binding_laws.specs.InOrder.{AreVariables, AreParameters, IsWrittenOnce}
+use Rattle.binding_laws.specs.InOrder.{AreParameters, IsWrittenOnce}
 use Rattle.binding_laws.specs.Kinds.{AreTermsIn}
 use Rattle.binding_laws.proofs.Layers.{formula_in}
 use Rattle.binding_laws.proofs.Lists.{append_left, append_right}

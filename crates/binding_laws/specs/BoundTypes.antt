@@ -1,11 +1,10 @@
 -- The types of a domain without faults, by numbers, are bound to what its section of types says in words.
 -- Source: this project's.
-use Rattle.std.specs.Prelude.{ℕ, ◌≡◌, List, map}
+use Rattle.std.specs.Prelude.{ℕ}
 use Rattle.gd_reader.specs.Terms.{Names}
 use Rattle.gd_reader.specs.declared.typed_lists.RawParam.{RawParam}
 use Rattle.hddl_reader.specs.declared.sections.RawDomain.{RawDomain}
 use Rattle.plan_texts.specs.Declared.{Declared, named}
-use Rattle.plan_texts.specs.FirstSeen.{but_first, pairs_from}
 use Rattle.plan_texts.specs.Types.{TypeItem, EachIs}
 use Rattle.form_spellings.specs.Bound.{parent_of}
 use Rattle.form_spellings.specs.BoundTexts.{AreBoundTypes}

@@ -19,4 +19,6 @@ pub mod TypeCycles
 pub mod WholeFaults
 pub mod BoundTypes
 pub mod WholeValues
+pub mod SoundSchemas
+pub mod SoundNetworks
 pub mod SeenBound

@@ -1,6 +1,5 @@
 -- What is refused of a whole domain and a whole problem by the numbers of names is the least fault in words; what is bound has none.
 -- Source: this project's.
-use Rattle.std.specs.Prelude.{ℕ}
 use Rattle.htn_base.specs.Different.{AreDifferent}
 use Rattle.htn_base.specs.declared.fault.Fault.{Fault}
 use Rattle.gd_reader.specs.Terms.{Names, Keeps}

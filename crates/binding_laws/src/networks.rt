@@ -6,6 +6,7 @@ ghost use Rattle.binding_laws.specs.Orders.{HasUnknownIds, HasCycle, HasLimit, O
 ghost use Rattle.binding_laws.specs.Seconds.{HasSecondTerms, HasSecondParams, HasSecondHeads, HasSecondMethods};
 ghost use Rattle.binding_laws.specs.WholeNetworks.{HasNetworkFaults};
 ghost use Rattle.binding_laws.specs.NetworkValues.{IsNetworkBound};
+ghost use Rattle.binding_laws.specs.SoundNetworks.{HasSoundNetwork};
 ghost use Rattle.std.specs.Prelude.{ℕ, List};
 
 /// The faults of second declarations stand at the names whose word stands in front already: ids and other terms, variables and
@@ -42,4 +43,9 @@ pub fn networks_are_said()
         (objects scope : List ℕ) → HasNetworkFaults names d known objects scope) }
     ensures bound { OfAllCallables (λ names d known.
         (objects scope : List ℕ) → IsNetworkBound names d known objects scope) }
+{}
+
+/// The network of a method without faults is sound: pairs are of its subtasks, and the ids that are written are names and differ.
+pub fn networks_are_sound()
+    ensures sound { HasSoundNetwork }
 {}

@@ -2,6 +2,7 @@
 ghost use Rattle.binding_laws.specs.Schemas.{HasHeadFaults, HasActionFaults, HasMethodFaults};
 ghost use Rattle.binding_laws.specs.Schemas.{HasSchemaFaults, HasPartFaults, OfAllLookups};
 ghost use Rattle.binding_laws.specs.SchemaValues.{HasBoundSchemas, HasBoundParts, OfAllWords};
+ghost use Rattle.binding_laws.specs.SoundSchemas.{HasSoundSchemas, HasSoundParts};
 
 /// The faults of predicates, tasks, actions and methods are those of their declarations and uses, and those of the ordering of
 /// methods' networks; so are those of all that a domain declares but its types, and of a problem's parts.
@@ -18,4 +19,11 @@ pub fn schemas_are_said()
 pub fn schemas_are_bound()
     ensures domains { OfAllWords HasBoundSchemas }
     ensures problems { OfAllWords HasBoundParts }
+{}
+
+/// Without faults the numbers of predicates, tasks, actions, facts and the goal name what is declared, as is asked of a sound value:
+/// variables and objects in force, as many terms as parameters, types that there are.
+pub fn schemas_are_sound()
+    ensures domains { OfAllWords HasSoundSchemas }
+    ensures problems { OfAllWords HasSoundParts }
 {}

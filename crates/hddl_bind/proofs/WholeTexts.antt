@@ -1,6 +1,6 @@
 -- A whole domain and a whole problem: what was noted part by part is all that is noted, and how it is judged.
-use Rattle.std.proofs.Common.{ℕ, ◌≡◌, ◌++◌, List, [], Option, Some, None, Result, IfOk, IfErr, length, refl, ap, sym, subst, ◌∙◌}
-use Rattle.name_numbers.specs.Spots.{spot, noted}
+use Rattle.std.proofs.Common.{ℕ, ◌≡◌, Option, Some, None, Result, IfOk, IfErr, length, refl, ap, sym, subst, ◌∙◌}
+use Rattle.name_numbers.specs.Spots.{noted}
 use Rattle.name_numbers.specs.declared.faults.Spot.{Spot}
 use Rattle.name_numbers.proofs.Least.{none_is_noted}
 use Rattle.gd_reader.specs.Terms.{Names}
@@ -13,7 +13,7 @@ use Rattle.bind_types.specs.Listed.{name_of, types_bound}
 use Rattle.bind_types.specs.Parents.{pairs_in_order}
 use Rattle.bind_types.specs.Unions.{AreWith}
 use Rattle.bind_formulas.specs.declared.known.Known.{Known}
-use Rattle.bind_networks.specs.Callables.{Declared, declared}
+use Rattle.bind_networks.specs.Callables.{declared}
 use Rattle.bind_networks.proofs.Steps.{noted_two, noted_three}
 use Rattle.hddl_bind.specs.declared.bound_domain.BoundDomain.{BoundDomain}
 use Rattle.hddl_bind.specs.declared.domain_names.DomainNames.{DomainNames}

@@ -17,7 +17,7 @@ use Rattle.bind_types.specs.Mentions.{AreTypesOf}
 use Rattle.bind_types.specs.Parents.{pairs_in_order}
 use Rattle.bind_types.specs.TooMany.{NotesLeast}
 use Rattle.bind_types.specs.Unions.{AreWith}
-use Rattle.bind_networks.specs.Callables.{Declared, declared}
+use Rattle.bind_networks.specs.Callables.{declared}
 use Rattle.plan_model.specs.declared.types.Types.{Types}
 use Rattle.hddl_bind.specs.declared.bound_domain.BoundDomain.{BoundDomain}
 use Rattle.hddl_bind.specs.declared.domain_names.DomainNames.{DomainNames}

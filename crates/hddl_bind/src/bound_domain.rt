@@ -52,11 +52,8 @@ pub fn bind_domain(
     bound
 }
 
-fn domain_of(
-    alloc: Global,
-    names: &mut NameTable,
-    d: &RawDomain,
-) -> Result<BoundDomain, BindError>
+#[tactic(auto, using(gd_reader::proofs::Keeping::keeps_same, gd_reader::proofs::Keeping::keeps_word))]
+fn domain_of(alloc: Global, names: &mut NameTable, d: &RawDomain) -> Result<BoundDomain, BindError>
     requires section { IsSection d.now.types }
     ensures bound { IfOk result (spec.IsDomainBound names.new d.now) }
     ensures refused { IfErr result (spec.IsDomainRefused names.new d.now) }
@@ -134,12 +131,7 @@ fn parts_of(
     }
 }
 
-fn together(
-    domain: Name,
-    types: Types,
-    schemas: DomainSchemas,
-    names: DomainNames,
-) -> BoundDomain
+fn together(domain: Name, types: Types, schemas: DomainSchemas, names: DomainNames) -> BoundDomain
     ensures together { result ≡ spec.with_schemas domain types schemas names }
 {
     let DomainSchemas {

@@ -53,7 +53,7 @@ fn noted_problem(
     faults: &mut Faults,
 ) -> Result<ProblemParts, Memory>
     ensures words { OnOk result (names.new ≡ spec.with_start names.old) }
-    ensures noted { IfOk result (spec.IsNotedWithStart names.new d.old p.now
+    ensures noted { IfOk result (spec.IsNotedWithStart d.old p.now names.new
         faults.old.least faults.new.least d.new) }
 {
     let start = names.intern(b"htn_start")?;

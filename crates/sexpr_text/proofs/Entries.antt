@@ -3,7 +3,7 @@ use Rattle.std.proofs.Common.{◌≡◌, ℕ, zero, suc, ◌+◌, ◌<◌, ◌�
 use Rattle.std.proofs.lemmas.Option.{get_or_from_slice_get, slice_get_within}
 use Rattle.std.proofs.lemmas.Bool.{false≢true}
 use Rattle.std.specs.Prelude.{slice_get, IsSome}
-use Rattle.text_forms.specs.Bytes.{Class, blank, opening, closing, letter, bad, class_of, classes_from, comment_after}
+use Rattle.text_forms.specs.Bytes.{Class, blank, opening, closing, letter, class_of, classes_from, comment_after}
 use Rattle.text_forms.specs.Laws.{StandInOrder}
 use Rattle.text_forms.specs.LongestRuns.{IsMade, IsMadeBy}
 use Rattle.text_forms.specs.Tokens.{Kind, start, stop, word, Token, token, tokens}

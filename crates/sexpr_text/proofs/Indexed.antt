@@ -1,8 +1,8 @@
 -- The index of a text, token by token.
-use Rattle.std.proofs.Common.{◌≡◌, ℕ, zero, suc, ◌+◌, ◌<◌, ◌≤◌, ◌⊎◌, inl, inr, length, drop, get_or, slice_set, Option, Some, None, List, [], ◌∷◌, ◌++◌, refl, sym, ap, ◌∙◌, subst, arith}
+use Rattle.std.proofs.Common.{◌≡◌, ℕ, zero, suc, ◌+◌, ◌<◌, ◌≤◌, ◌⊎◌, inl, inr, length, drop, get_or, slice_set, Some, None, List, [], ◌∷◌, ◌++◌, refl, sym, ap, ◌∙◌, subst, arith}
 use Rattle.std.proofs.lemmas.List.{length_push}
 use Rattle.std.specs.Prelude.{slice_get, IfSome}
-use Rattle.text_forms.specs.Closing.{close_after, close_of, close_at}
+use Rattle.text_forms.specs.Closing.{close_of, close_at}
 use Rattle.text_forms.specs.Faults.{innermost, but_innermost}
 use Rattle.text_forms.specs.Tokens.{Kind, start, stop, word, Token, token, tokens, token_count}
 use Rattle.sexpr_text.specs.declared.index.Entry.{Entry}

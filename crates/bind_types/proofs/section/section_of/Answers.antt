@@ -1,10 +1,5 @@
-use Rattle.std.proofs.Common.{◌≡◌, ◌+◌, Option, Some, None, ap, subst, sym, ◌∙◌}
-use Rattle.std.specs.Prelude.{ℕ}
-use Rattle.name_numbers.specs.Spots.{noted}
-use Rattle.bind_types.specs.Cycle.{IsSectionFault}
+use Rattle.std.proofs.Common.{◌≡◌, ap, ◌∙◌}
 use Rattle.bind_types.specs.Mentions.{types_in_order}
-use Rattle.bind_types.specs.PairsAmong.{if_at, IsCycleAmong}
-use Rattle.bind_types.specs.TooMany.{NotesLeast, NoneIsOfType, IsFirstOfType}
 use Rattle.bind_types.proofs.SectionNoted.{section-noted}
 use Rattle.bind_types.proofs.section.section_of.Goals as goal
 

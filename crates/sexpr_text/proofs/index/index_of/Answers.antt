@@ -1,4 +1,4 @@
-use Rattle.std.proofs.Common.{ap, sym, ◌∙◌, arith}
+use Rattle.std.proofs.Common.{ap, ◌∙◌, arith}
 use Rattle.text_forms.proofs.Lists.{few_tokens}
 use Rattle.sexpr_text.specs.Places.{tokens_by}
 use Rattle.sexpr_text.specs.Seen.{opened}

@@ -1,4 +1,4 @@
-use Rattle.std.proofs.Common.{ℕ, ◌++◌, map, refl, ap, ◌∙◌}
+use Rattle.std.proofs.Common.{◌++◌, map, refl, ap, ◌∙◌}
 use Rattle.bind_types.specs.PairsAmong.{if_parent, pair_among}
 use Rattle.bind_types.proofs.StepLemmas.{flat-behind, flat-made}
 use Rattle.bind_types.proofs.cycle.ParentPairs.put_parents.Goals as goal

@@ -1,6 +1,5 @@
 use Rattle.std.proofs.Common.{◌≡◌, ◌∷◌, ◌++◌, [], ap, sym, ◌∙◌, subst, length, reverse, arith}
 use Rattle.std.proofs.lemmas.List.{reverse-append}
-use Rattle.text_forms.specs.Faults.{but_innermost}
 use Rattle.sexpr_text.specs.Index.{GoesOnIndexing, closed}
 use Rattle.sexpr_text.specs.Seen.{kind_seen, opened}
 use Rattle.sexpr_text.proofs.Indexed.{entry_of, enter_start, enter_stop, enter_word}

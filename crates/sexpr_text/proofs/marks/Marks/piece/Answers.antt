@@ -1,8 +1,3 @@
-use Rattle.std.proofs.Common.{◌≡◌, Some, None, Option, List, ℕ, ap, sym, ◌∙◌, arith}
-use Rattle.std.proofs.lemmas.Option.{slice_get_past}
-use Rattle.std.specs.Option.{option_map}
-use Rattle.std.specs.Prelude.{slice_get}
-use Rattle.text_forms.specs.Tokens.{tokens}
 use Rattle.sexpr_text.proofs.Numbered.{piece_here}
 use Rattle.sexpr_text.proofs.marks.Marks.piece.Goals as goal
 

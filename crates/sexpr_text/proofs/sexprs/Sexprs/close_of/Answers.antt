@@ -1,4 +1,4 @@
-use Rattle.std.proofs.Common.{◌≡◌, subst, sym}
+use Rattle.std.proofs.Common.{subst, sym}
 use Rattle.std.specs.Prelude.{◌↔◌, IsSome}
 use Rattle.text_forms.proofs.Lists.{closes_its_lists}
 use Rattle.text_forms.specs.Closing.{close_at, OpensList}
