@@ -4,6 +4,7 @@ use Rattle.std.specs.Prelude.{codes, unwrap_or}
 use Rattle.std.specs.List.{fold}
 use Rattle.std.specs.List.Sorted.{IsPermutation}
 use Rattle.std.proofs.lemmas.List.{length-map, map-append}
+use Rattle.std.proofs.lemmas.List.Sums.{fold-append}
 use Rattle.std.proofs.lemmas.List.Sorted.{Contains-permutation, IsPermutation-sym, IsPermutation-map}
 use Rattle.htn_base.specs.Different.{AreDifferent}
 use Rattle.htn_base.specs.Table.{with_word}
@@ -67,14 +68,10 @@ use Rattle.binding_laws.proofs.Written.{has_kind_faults}
 use Rattle.binding_laws.proofs.seen.Pairs.{IsPlaced, pairs_are}
 use Rattle.binding_laws.proofs.seen.Unions.{said, IsBelow, IsBounded, Agree, AreTypes, domain_agrees, problem_agrees}
 
--- the words of a section of types, as binding and as reading lists them
+-- the words of a section of types, as binding and as reading has them
 same_mentioned : (xs : List RawParam) → mentioned xs ≡ rising.mentioned xs
 same_mentioned [] = refl
 same_mentioned (x ∷ xs) = ap (λ ts. own_word x ∷ (x.ty ++ ts)) (same_mentioned xs)
-
-folded : (xs ys us : List (List ℕ)) → fold with_word us (xs ++ ys) ≡ fold with_word (fold with_word us xs) ys
-folded [] ys us = refl
-folded (x ∷ xs) ys us = folded xs ys (with_word us x)
 
 zero_or : (o : Option ℕ) → place_or_zero o ≡ unwrap_or o 0
 zero_or None = refl
@@ -210,7 +207,7 @@ module _ (before left : Names) (d : RawDomain) (p : RawProblem) (is : AreInOrder
       (members_known (problem_unions kinds p) kinds.unions y.unions y.are_unions (written.problem_unions names p) agree_p.same agree_p.known)
 
   table_is : y.unions ≡ fold with_word [] (map members_of ds ++ map members_of ps)
-  table_is = y.are_unions.unions ∙ ap (λ us. fold with_word us (map members_of ps)) x.are_kinds.unions.unions ∙ sym (folded (map members_of ds) (map members_of ps) [])
+  table_is = y.are_unions.unions ∙ ap (λ us. fold with_word us (map members_of ps)) x.are_kinds.unions.unions ∙ sym (fold-append with_word [] (map members_of ds) (map members_of ps))
 
   unions_seen : hddl_unions value ≡ first_unions [] (all_written (map ew ds) ++ all_written (map ew ps))
   unions_seen =

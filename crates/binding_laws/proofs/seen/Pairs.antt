@@ -2,7 +2,7 @@
 use Rattle.std.proofs.Common.{ℕ, zero, suc, ◌≡◌, ◌<◌, ◌+◌, Bool, true, false, cond, eqb, List, [], ◌∷◌, ◌++◌, map, length, Option, Some, None, refl, sym, ap, subst, ◌∙◌, append-nil, append_assoc, arith}
 use Rattle.std.specs.Prelude.{◌≤◌, ◌==◌, unwrap_or, flat_map}
 use Rattle.std.specs.Str.{bytes_eq}
-use Rattle.std.proofs.lemmas.Bool.{cond-true, cond-false, ne_eqb}
+use Rattle.std.proofs.lemmas.Bool.{cond-true, cond-false}
 use Rattle.htn_base.specs.Different.{AreDifferent}
 use Rattle.text_forms.specs.Words.{Word, word_at}
 use Rattle.text_forms.specs.Words as words
@@ -22,7 +22,7 @@ use Rattle.name_faults.specs.Words.{term_word, param_word}
 use Rattle.bind_types.specs.Parents.{parent, pairs_with, pairs_for, place_of, parents_behind, parents_written, pairs_below, pairs_in_order}
 use Rattle.bind_types.specs.Seen as numbers
 use Rattle.binding_laws.proofs.Places.{same_word}
-use Rattle.binding_laws.proofs.TypePairs.{own_place}
+use Rattle.binding_laws.proofs.TypePairs.{own_place, for_one}
 
 -- what is known of a section of types, whose types have these numbers and words
 module _ (names : Names) (types : List ℕ) (xs : List RawParam) (W : List Word) (differ : AreDifferent W) where
@@ -82,12 +82,9 @@ module _ (names : Names) (types : List ℕ) (xs : List RawParam) (W : List Word)
         ap (numbers.first_seen []) (behind_are xs placed k l)
         ∙ kept_mapped bytes_eq eqb place Stands alike first_seen (λ seen. refl) (λ seen v vs. refl) numbers.first_seen (λ seen. refl) (λ seen n ns. refl) (parents_for (word_at W k) (items xs)) [] tt (parents_stand xs placed (word_at W k))
 
-    for_one : (c : ℕ) (ps : List ℕ) → pairs_for (suc c) ps ≡ pairs_with (suc c) ps
-    for_one c ps = cond-false _ _ _ (ne_eqb (suc c) 0 (λ e. omega arith))
-
     one_type : (c : ℕ) (qs : List Word) (ps : List ℕ) → ps ≡ map place (first_seen [] qs) → pairs_for (suc c) ps ≡ plan.pairs_for (suc c) W qs
-    one_type c [] ps e = for_one c ps ∙ ap (pairs_with (suc c)) e
-    one_type c (q ∷ qs) ps e = for_one c ps ∙ ap (pairs_with (suc c)) e ∙ sym (map-map place (parent (suc c)) (first_seen [] (q ∷ qs)))
+    one_type c [] ps e = for_one types xs c ps ∙ ap (pairs_with (suc c)) e
+    one_type c (q ∷ qs) ps e = for_one types xs c ps ∙ ap (pairs_with (suc c)) e ∙ sym (map-map place (parent (suc c)) (first_seen [] (q ∷ qs)))
 
     -- from this place on these are the words of types
     abbrev Behind : ℕ → List Word → Type 0
