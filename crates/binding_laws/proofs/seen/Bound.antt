@@ -1,5 +1,5 @@
 -- What is bound of a domain and a problem is in the order of what was read.
-use Rattle.std.proofs.Common.{ℕ, zero, suc, ◌≡◌, ◌<◌, inl, inr, List, [], ◌∷◌, ◌++◌, map, length, Option, Some, None, refl, sym, ap, subst, ◌∙◌}
+use Rattle.std.proofs.Common.{ℕ, ◌≡◌, ◌<◌, inl, inr, List, [], ◌∷◌, ◌++◌, map, length, Option, Some, None, refl, sym, ap, subst, ◌∙◌}
 use Rattle.std.specs.Prelude.{codes, unwrap_or}
 use Rattle.std.specs.List.{fold}
 use Rattle.std.specs.List.Sorted.{IsPermutation}
@@ -17,7 +17,6 @@ use Rattle.hddl_reader.specs.declared.sections.Language.TheVariants as language
 use Rattle.hddl_reader.specs.declared.sections.RawDomain.{RawDomain}
 use Rattle.hddl_reader.specs.declared.sections.RawProblem.{RawProblem}
 use Rattle.plan_model.specs.declared.values.Hddl.{Hddl}
-use Rattle.plan_texts.specs.Declared.{named}
 use Rattle.plan_texts.specs.FirstSeen.{place_or_zero, first_unions}
 use Rattle.plan_texts.specs.SpellsHddl.{hddl_words, hddl_types, hddl_unions}
 use Rattle.plan_texts.specs.TypedLists.{first_seen}
@@ -39,9 +38,8 @@ use Rattle.name_faults.specs.Uses.{Scope, declares}
 use Rattle.name_faults.specs.Words.{term_word}
 use Rattle.name_numbers.specs.Places as numbers
 use Rattle.bind_types.specs.Kinds.{Kinds, kind_faults}
-use Rattle.bind_types.specs.Listed.{name_of}
 use Rattle.bind_types.specs.Mentions.{mentioned, own_word}
-use Rattle.bind_types.specs.Parents.{place_of, pairs_in_order}
+use Rattle.bind_types.specs.Parents.{place_of}
 use Rattle.bind_types.specs.Unions.{members_of, AreWith}
 use Rattle.bind_types.specs.declared.unions.Either.{Either}
 use Rattle.hddl_bind.specs.WholeDomains.{DomainBinding, IsObject, bound_by, faults_by}
@@ -66,7 +64,7 @@ use Rattle.binding_laws.proofs.WholeValues.{is_bound_both}
 use Rattle.binding_laws.proofs.WordsInUse.{type_words_are}
 use Rattle.binding_laws.proofs.Written.{has_kind_faults}
 use Rattle.binding_laws.proofs.seen.Pairs.{IsPlaced, pairs_are}
-use Rattle.binding_laws.proofs.seen.Unions.{said, IsBelow, IsBounded, Agree, AreTypes, domain_agrees, problem_agrees}
+use Rattle.binding_laws.proofs.seen.Unions.{said, Agree, AreTypes, domain_agrees, problem_agrees}
 
 -- the words of a section of types, as binding and as reading has them
 same_mentioned : (xs : List RawParam) → mentioned xs ≡ rising.mentioned xs

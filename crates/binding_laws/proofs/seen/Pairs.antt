@@ -1,6 +1,6 @@
 -- The pairs of types and parents in order, by numbers and by words.
-use Rattle.std.proofs.Common.{ℕ, zero, suc, ◌≡◌, ◌<◌, ◌+◌, Bool, true, false, cond, eqb, List, [], ◌∷◌, ◌++◌, map, length, Option, Some, None, refl, sym, ap, subst, ◌∙◌, append-nil, append_assoc, arith}
-use Rattle.std.specs.Prelude.{◌≤◌, ◌==◌, unwrap_or, flat_map}
+use Rattle.std.proofs.Common.{ℕ, suc, ◌≡◌, ◌<◌, ◌+◌, Bool, true, false, cond, eqb, List, [], ◌∷◌, ◌++◌, map, length, refl, sym, ap, subst, ◌∙◌, append-nil, append_assoc, arith}
+use Rattle.std.specs.Prelude.{◌≤◌, flat_map}
 use Rattle.std.specs.Str.{bytes_eq}
 use Rattle.std.proofs.lemmas.Bool.{cond-true, cond-false}
 use Rattle.htn_base.specs.Different.{AreDifferent}
@@ -9,7 +9,6 @@ use Rattle.text_forms.specs.Words as words
 use Rattle.gd_reader.specs.Terms.{Names}
 use Rattle.gd_reader.specs.declared.term.RawTerm.{RawTerm}
 use Rattle.gd_reader.specs.declared.typed_lists.RawParam.{RawParam}
-use Rattle.plan_model.specs.declared.types.Parent.{Parent}
 use Rattle.plan_texts.specs.FirstSeen.{place_or_zero, parents_for, pairs_from, but_first}
 use Rattle.plan_texts.specs.FirstSeen as plan
 use Rattle.plan_texts.specs.TypedLists.{first_seen}
@@ -17,7 +16,6 @@ use Rattle.plan_texts.specs.Types.{EachIs, TypeItem}
 use Rattle.plan_texts.proofs.Unique.{map-map}
 use Rattle.form_spellings.specs.Written.{item_written, parent_written}
 use Rattle.form_spellings.proofs.seen.Mapped.{kept_mapped}
-use Rattle.name_faults.specs.Lists.{Has}
 use Rattle.name_faults.specs.Words.{term_word, param_word}
 use Rattle.bind_types.specs.Parents.{parent, pairs_with, pairs_for, place_of, parents_behind, parents_written, pairs_below, pairs_in_order}
 use Rattle.bind_types.specs.Seen as numbers
