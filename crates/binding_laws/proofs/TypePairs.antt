@@ -62,7 +62,7 @@ module _ (types : List ℕ) (xs : List RawParam) where
   with_back child (r ∷ ps) p (inl h) = has_to_map (parent child) (r ∷ ps) (parent child p) (has_one (λ s. parent child s ≡ parent child p) (r ∷ ps) p h refl)
   with_back child (r ∷ ps) p (inr (e, f)) = absurd (cc)
 
-  for_one : (c : ℕ) (ps : List ℕ) → pairs_for (suc c) ps ≡ pairs_with (suc c) ps
+  pub for_one : (c : ℕ) (ps : List ℕ) → pairs_for (suc c) ps ≡ pairs_with (suc c) ps
   for_one c ps = cond-false _ _ _ (ne_eqb (suc c) 0 (λ e. omega arith))
 
   for_there : (child : ℕ) (q : Parent) → Has (pairs_for child (parents_written types xs child)) q → (q.child ≡ child) × (0 < child) × (IsWritten child q.parent ⊎ ((q.parent ≡ 0) × ((p : ℕ) → IsWritten child p → ⊥)))

@@ -64,12 +64,12 @@ module _ (names : Names) (d : RawDomain) (kinds : Kinds) (of : AreTypesOf names 
   kinds_back (t ∷ ts) code at is c (inr h) = inr (kinds_back ts code at is.1 c h)
 
   -- a type without a fault stands at its number
-  type_is : (t : RawTerm) → IsIn names t.name → type_faults kinds t ≡ [] → (type_number kinds t < length (words_of names kinds.types)) × (word_at (words_of names kinds.types) (type_number kinds t) ≡ term_word names t)
+  pub type_is : (t : RawTerm) → IsIn names t.name → type_faults kinds t ≡ [] → (type_number kinds t < length (words_of names kinds.types)) × (word_at (words_of names kinds.types) (type_number kinds t) ≡ term_word names t)
   type_is t is e =
       first_is (term_word names t) (words_of names kinds.types) (type_number kinds t)
       (first t is ∙ found_at 11 t.at (numbers.first_place t.name.number kinds.types) e)
 
-  types_are : (ts : List RawTerm) → AreTermsIn names ts → kind_faults kinds ts ≡ [] → map (word_at (words_of names kinds.types)) (map (type_number kinds) ts) ≡ map (term_word names) ts
+  pub types_are : (ts : List RawTerm) → AreTermsIn names ts → kind_faults kinds ts ≡ [] → map (word_at (words_of names kinds.types)) (map (type_number kinds) ts) ≡ map (term_word names) ts
   types_are [] is e = refl
   types_are (t ∷ ts) is e = λ i.
       (type_is t is.0 (none_left (type_faults kinds t) (kind_faults kinds ts) e)).1 i

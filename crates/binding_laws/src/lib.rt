@@ -3,7 +3,8 @@
 //! Stands on the definitions of `name_numbers`, `bind_types`, `bind_formulas`, `bind_networks` and `hddl_bind`, which speak of
 //! numbers, and on those of `name_faults` and `form_spellings`, which speak of words; it has no code but laws. The contracts used
 //! above, for a domain and a problem that were read (`specs/InOrder`): what is refused is the least fault, and what is bound has none
-//! (`whole_texts_are_judged`); the value that is bound is what the two stand for (`whole_texts_are_bound`).
+//! (`whole_texts_are_judged`); the value that is bound is what the two stand for (`whole_texts_are_bound`), in the order in which the
+//! texts name it, so that it is the HDDL value of the texts (`what_is_bound_is_of_its_texts`).
 //!
 //! Below them, in reading order: the place of a number is that of its word (`numbers_are_words`); the faults of terms, written types
 //! and typed lists are the sentences on their words, and those of atoms, formulas and effects are the faults of what is declared and
@@ -16,12 +17,14 @@
 //! (`schemas_are_said`, `schemas_are_bound`, `schemas_are_sound`).
 #![tactic(auto)]
 
+mod first_seen;
 mod laws;
 mod networks;
 mod schemas;
 mod texts;
 mod types;
 
+pub use first_seen::what_is_bound_is_of_its_texts;
 pub use laws::{
     atoms_are_bound, effects_are_bound, formulas_are_bound, lists_are_bound, numbers_are_words,
     terms_are_bound, types_are_bound, uses_are_said,
