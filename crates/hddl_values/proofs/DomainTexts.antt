@@ -24,7 +24,7 @@ use Rattle.binding_laws.proofs.WholeFaults.{domain_least, domain_none}
 use Rattle.sexpr_text.specs.declared.read_error.ReadError.{ReadError}
 use Rattle.sexpr_text.specs.declared.read_error.ReadError.TheVariants as errors
 use Rattle.hddl_values.specs.Reading.{ReadsDomain, RefusesNames, RefusesDomain, IsBoundText, read_error}
-use Rattle.hddl_values.specs.TextFaults.{IsDomainOf, IsGoodDomain, of_names}
+use Rattle.hddl_values.specs.TextFaults.{IsDomainOf, IsGoodDomain, domain_names}
 
 module _ (text : List ℕ) (before behind later : Names) (d : RawDomain) (is : ReadsDomain text before behind d) (keeps : Keeps behind later) (differ : AreDifferent later) where
   pub domain_of : IsDomainOf text later d
@@ -49,6 +49,7 @@ module _ (text : List ℕ) (before behind later : Names) (d : RawDomain) (is : R
     net = record { ids_plain = tt; ids_in_order = tt; subs_in_order = tt; each_sub = tt; pairs_in_order = tt; each_pair = tt; constraints_in_order = tt; each_constraint = tt };
     facts = tt;
     goal = tt;
+    goal_in_order = tt;
     objects_in_order = tt;
     facts_in_order = tt;
   }
@@ -58,8 +59,8 @@ module _ (text : List ℕ) (before behind later : Names) (d : RawDomain) (is : R
 
   pub names_refused : (e : ReadError) → RefusesNames later d e → RefusesDomain text e
   names_refused errors.Memory r = tt
-  names_refused (errors.Bad f) (file, object, of_object, (x, e)) =
-      (file, of_names later d is.tokens domain_of (domain_least later later d nothing all_in_order object of_object x f.code f.at e))
+  names_refused (errors.Bad f) (file, (object, of_object, (x, e))) =
+      (file, domain_names later d is.tokens domain_of (domain_least later later d nothing all_in_order object of_object x f.code f.at e))
 
   pub bound_text : (b : BoundDomain) → IsDomainBound later d b → IsBoundText text later b
   bound_text b h = record { differ = differ; d = d; tokens = is.tokens; read = domain_of; bound = h }

@@ -1,2 +1,3 @@
 pub mod DomainTexts
+pub mod ProblemTexts
 pub mod Refusals

@@ -7,7 +7,7 @@ use Rattle.hddl_bind.specs.declared.bound_domain.BoundDomain.{BoundDomain}
 use Rattle.sexpr_text.specs.declared.read_error.ReadError.{ReadError}
 use Rattle.sexpr_text.specs.declared.read_error.ReadError.TheVariants as errors
 use Rattle.hddl_values.specs.TextFaults.{IsLeastFault, in_domain, in_problem}
-use Rattle.hddl_values.specs.Reading.{RefusesDomain, RefusesProblem, IsBoundText}
+use Rattle.hddl_values.specs.Reading.{RefusesDomain, RefusesOver, RefusesProblem, IsBoundText}
 use Rattle.hddl_values.specs.Values.{IsRefusal}
 use Rattle.hddl_values.proofs.DomainTexts.{good_domain}
 
@@ -16,9 +16,12 @@ module _ (domain problem : List ℕ) where
   domain_refused errors.Memory h = tt
   domain_refused (errors.Bad f) (file, least) = subst (λ n. IsLeastFault domain problem n f.code f.at) (sym file) (in_domain least)
 
+  refused : (table : Names) (b : BoundDomain) → IsBoundText domain table b → (e : ReadError) → RefusesOver domain problem e → IsRefusal domain problem e
+  refused table b bound errors.Memory h = tt
+  refused table b bound (errors.Bad f) (file, least) =
+      subst (λ n. IsLeastFault domain problem n f.code f.at) (sym file) (in_problem table bound.d (good_domain domain table b bound) least)
+
   pub problem_refused : (table : Names) (b : BoundDomain) → IsBoundText domain table b → (r : Result Hddl ReadError)
       → IfErr r (RefusesProblem table b problem) → IfErr r (IsRefusal domain problem)
   problem_refused table b bound (Ok h) is = tt
-  problem_refused table b bound (Err errors.Memory) is = tt
-  problem_refused table b bound (Err (errors.Bad f)) (file, least) =
-      subst (λ n. IsLeastFault domain problem n f.code f.at) (sym file) (in_problem table bound.d (good_domain domain table b bound) (least domain bound))
+  problem_refused table b bound (Err e) is = refused table b bound e (is domain bound)

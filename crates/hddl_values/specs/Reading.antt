@@ -62,6 +62,10 @@ RefusesDomain text (errors.Bad f) = (f.file ≡ 0) × IsLeastOfDomain text f.cod
 abbrev pub IsValueOver : Names → BoundDomain → List ℕ → Value → Type 0
 IsValueOver table b text h = (domain : List ℕ) → IsBoundText domain table b → IsValueOf domain text h
 
+-- the least fault of a problem's text over that of a domain; or memory ran out
+abbrev pub RefusesOver : (domain text : List ℕ) → ReadError → Type 0
+RefusesOver domain text errors.Memory = Unit {0}
+RefusesOver domain text (errors.Bad f) = (f.file ≡ 1) × IsLeastOfProblem domain text f.code f.at
+
 abbrev pub RefusesProblem : Names → BoundDomain → List ℕ → ReadError → Type 0
-RefusesProblem table b text errors.Memory = Unit {0}
-RefusesProblem table b text (errors.Bad f) = (f.file ≡ 1) × ((domain : List ℕ) → IsBoundText domain table b → IsLeastOfProblem domain text f.code f.at)
+RefusesProblem table b text e = (domain : List ℕ) → IsBoundText domain table b → RefusesOver domain text e

@@ -41,16 +41,16 @@ pub record IsGoodProblem (text : List ℕ) (table : Names) (d : RawDomain) (p : 
 
 -- The least fault of a domain's text, in the first phase in which it has one.
 pub data IsLeastOfDomain (text : List ℕ) (code at : ℕ) : Type 0 where
-  of_tokens : tokens.IsLeast text (fault code at) → IsLeastOfDomain text code at
-  of_form : IsFaultless text → definition_fault grammar.hddl grammar.domain text ≡ Some (fault code at) → IsLeastOfDomain text code at
-  of_names : (table : Names) (d : RawDomain) → IsFaultless text → IsDomainOf text table d → IsLeast (HasDomainFault Hddl table d) code at
+  domain_tokens : tokens.IsLeast text (fault code at) → IsLeastOfDomain text code at
+  domain_form : IsFaultless text → definition_fault grammar.hddl grammar.domain text ≡ Some (fault code at) → IsLeastOfDomain text code at
+  domain_names : (table : Names) (d : RawDomain) → IsFaultless text → IsDomainOf text table d → IsLeast (HasDomainFault Hddl table d) code at
       → IsLeastOfDomain text code at
 
 -- The same of a problem's text, over a domain's without faults.
 pub data IsLeastOfProblem (domain text : List ℕ) (code at : ℕ) : Type 0 where
-  of_tokens : tokens.IsLeast text (fault code at) → IsLeastOfProblem domain text code at
-  of_form : IsFaultless text → definition_fault grammar.hddl grammar.problem text ≡ Some (fault code at) → IsLeastOfProblem domain text code at
-  of_names : (table : Names) (d : RawDomain) (p : RawProblem) → IsGoodDomain domain table d → IsFaultless text → IsProblemOf text table p
+  problem_tokens : tokens.IsLeast text (fault code at) → IsLeastOfProblem domain text code at
+  problem_form : IsFaultless text → definition_fault grammar.hddl grammar.problem text ≡ Some (fault code at) → IsLeastOfProblem domain text code at
+  problem_names : (table : Names) (d : RawDomain) (p : RawProblem) → IsGoodDomain domain table d → IsFaultless text → IsProblemOf text table p
       → IsLeast (HasProblemFault table d p) code at → IsLeastOfProblem domain text code at
 
 -- the least of both, where the domain is file 0 and the problem file 1

@@ -66,18 +66,13 @@ fn tokens<'a>(alloc: Global, text: &'a [u8], file: u8) -> Result<Sexprs<'a>, Rea
     ensures refused { IfErr result (IsRefusal text.now file) }
 {
     match read(alloc, text, file) {
-        Ok(s) => indexed(alloc, s),
+        Ok(mut s) => match s.index(alloc) {
+            Ok(()) => Ok(s),
+            Err(Memory) => {
+                drop(s);
+                Err(ReadError::Memory)
+            }
+        },
         Err(error) => Err(error),
-    }
-}
-
-fn indexed<'a>(alloc: Global, s: Sexprs<'a>) -> Result<Sexprs<'a>, ReadError>
-    ensures same { IfOk result (λ indexed. indexed ≡ s) }
-    ensures memory { IfErr result (λ e. e ≡ ReadError.Memory) }
-{
-    let mut s = s;
-    match s.index(alloc) {
-        Ok(()) => Ok(s),
-        Err(Memory) => Err(ReadError::Memory),
     }
 }
