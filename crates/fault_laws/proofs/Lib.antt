@@ -1,0 +1,6 @@
+mod Lists
+mod Seconds
+mod Uses
+mod Parts
+mod Formulas
+mod Effects

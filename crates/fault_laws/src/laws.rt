@@ -1,0 +1,8 @@
+// Texts that spell a value have no fault.
+ghost use Rattle.fault_laws.specs.Faultless.{SpelledTextsAreFaultless};
+
+/// Two texts that spell a sound value whose networks have no cycle, with at most 1,000 types beside object, have no fault of tokens
+/// and are read as a domain and a problem, whose names have no fault.
+pub fn spelled_texts_are_faultless()
+    ensures { SpelledTextsAreFaultless }
+{}
