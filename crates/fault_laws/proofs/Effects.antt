@@ -19,10 +19,10 @@ use Rattle.plan_texts.specs.Together.{Together}
 use Rattle.plan_texts.specs.Types.{EachIs}
 use Rattle.plan_texts.proofs.SpelledEffects.{sound_roll}
 use Rattle.form_spellings.specs.Bound.{IsBoundParam, bound_effect_step, IsBoundEffect}
-use Rattle.form_spellings.proofs.FormulasBound.{pairs-map}
 use Rattle.name_faults.specs.Lists.{One}
 use Rattle.name_faults.specs.Uses.{Scope, Use, IsDeclared, variables, effect_step, InEffect}
 use Rattle.name_faults.proofs.Rolls.{effect_unroll}
+use Rattle.fault_laws.proofs.Lists.{together_mapped}
 use Rattle.fault_laws.proofs.Uses.{IsGood}
 use Rattle.fault_laws.proofs.Parts.{HasWordsOf, params_good, same_variables, atom_good}
 use Rattle.fault_laws.proofs.Formulas.{formula_good}
@@ -31,7 +31,7 @@ module _ (names : Names) (v : Declared) where
   bound_natural : (X : Type 0) (u : X → RawEffect) (k : RawEffect → List Word → Effect → Type 0) (x : RawEffect-F X) → bound_effect_step v names (λ p. k (u p)) x ≡ bound_effect_step v names k (map-RawEffect X RawEffect u x)
   bound_natural X u k (RawEffect-F.Add a) = refl
   bound_natural X u k (RawEffect-F.Delete a) = refl
-  bound_natural X u k (RawEffect-F.And rs) = λ i scope e. (gs : List Effect) × (e ≡ effect.And gs) × pairs-map u (λ r g. k r scope g) rs gs i
+  bound_natural X u k (RawEffect-F.And rs) = λ i scope e. (gs : List Effect) × (e ≡ effect.And gs) × together_mapped u (λ r g. k r scope g) rs gs i
   bound_natural X u k (RawEffect-F.Forall xs r) = refl
   bound_natural X u k (RawEffect-F.When r s) = refl
 

@@ -19,10 +19,10 @@ use Rattle.plan_texts.specs.Together.{Together}
 use Rattle.plan_texts.specs.Types.{EachIs}
 use Rattle.plan_texts.proofs.Spelled.{sound_roll}
 use Rattle.form_spellings.specs.Bound.{IsBoundParam, bound_step, IsBoundFormula}
-use Rattle.form_spellings.proofs.FormulasBound.{pairs-map}
 use Rattle.name_faults.specs.Lists.{One}
 use Rattle.name_faults.specs.Uses.{Scope, Use, IsDeclared, variables, formula_step, InFormula}
 use Rattle.name_faults.proofs.Rolls.{formula_unroll}
+use Rattle.fault_laws.proofs.Lists.{together_mapped}
 use Rattle.fault_laws.proofs.Uses.{IsGood}
 use Rattle.fault_laws.proofs.Parts.{HasWordsOf, two_good, params_good, same_variables, atom_good}
 
@@ -31,8 +31,8 @@ module _ (names : Names) (v : Declared) where
   bound_natural X u k (RawFormula-F.Holds a) = refl
   bound_natural X u k (RawFormula-F.Equal s t) = refl
   bound_natural X u k (RawFormula-F.Not r) = refl
-  bound_natural X u k (RawFormula-F.And rs) = λ i scope f. (gs : List Formula) × (f ≡ formula.And gs) × pairs-map u (λ r g. k r scope g) rs gs i
-  bound_natural X u k (RawFormula-F.Or rs) = λ i scope f. (gs : List Formula) × (f ≡ formula.Or gs) × pairs-map u (λ r g. k r scope g) rs gs i
+  bound_natural X u k (RawFormula-F.And rs) = λ i scope f. (gs : List Formula) × (f ≡ formula.And gs) × together_mapped u (λ r g. k r scope g) rs gs i
+  bound_natural X u k (RawFormula-F.Or rs) = λ i scope f. (gs : List Formula) × (f ≡ formula.Or gs) × together_mapped u (λ r g. k r scope g) rs gs i
   bound_natural X u k (RawFormula-F.Imply r s) = refl
   bound_natural X u k (RawFormula-F.Forall xs r) = refl
   bound_natural X u k (RawFormula-F.Exists xs r) = refl

@@ -4,3 +4,8 @@ mod Uses
 mod Parts
 mod Formulas
 mod Effects
+mod Networks
+mod NetworkUses
+mod Types
+mod Declarations
+mod Domains

@@ -105,3 +105,10 @@ same_item word (z ∷ xs) x y d (inl f) (inl g) e = sym f ∙ g
 same_item word (z ∷ xs) x y d (inl f) (inr k) e = absurd (d.0 (subst (Contains (map word xs)) (sym e ∙ sym (ap word f)) (has-contains (map word xs) (word y) (has-to_map word xs y k))))
 same_item word (z ∷ xs) x y d (inr h) (inl g) e = absurd (d.0 (subst (Contains (map word xs)) (e ∙ sym (ap word g)) (has-contains (map word xs) (word x) (has-to_map word xs x h))))
 same_item word (z ∷ xs) x y d (inr h) (inr k) e = same_item word xs x y d.1 h k e
+
+-- going together is the same of mapped items
+pub together_mapped : {X Y Z : Type 0} (u : X → Y) (R : Y → Z → Type 0) (xs : List X) (zs : List Z) → Together (λ x z. R (u x) z) xs zs ≡ Together R (map u xs) zs
+together_mapped u R [] [] = refl
+together_mapped u R [] (z ∷ zs) = refl
+together_mapped u R (x ∷ xs) [] = refl
+together_mapped u R (x ∷ xs) (z ∷ zs) = ap (λ t. R (u x) z × t) (together_mapped u R xs zs)

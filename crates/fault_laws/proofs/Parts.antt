@@ -1,7 +1,7 @@
 -- Terms, typed lists and atoms that are bound have no fault.
-use Rattle.std.proofs.Common.{ℕ, zero, suc, ◌≡◌, inl, inr, true, false, List, [], ◌∷◌, ◌++◌, length, map, get_or, codes, Some, refl, sym, ap, subst, ◌∙◌}
+use Rattle.std.proofs.Common.{ℕ, zero, suc, ◌≡◌, ◌<◌, Bool, inl, inr, true, false, List, [], ◌∷◌, ◌++◌, length, map, get_or, codes, Some, refl, sym, ap, subst, ◌∙◌}
 use Rattle.std.specs.Prelude.{◌⊎◌, slice_index, slice_get}
-use Rattle.text_forms.specs.Words.{Word, first_place}
+use Rattle.text_forms.specs.Words.{Word, first_place, word_at}
 use Rattle.gd_reader.specs.Terms.{Names}
 use Rattle.gd_reader.specs.declared.term.RawAtom.{RawAtom}
 use Rattle.gd_reader.specs.declared.term.RawTerm.{RawTerm}
@@ -10,13 +10,15 @@ use Rattle.hddl_reader.specs.declared.sections.RawDomain.{RawDomain}
 use Rattle.plan_model.specs.declared.terms.Param.{Param}
 use Rattle.plan_model.specs.declared.terms.Term.{Term}
 use Rattle.plan_model.specs.declared.terms.Term.TheVariants.{Var, Obj}
+use Rattle.plan_model.specs.declared.types.Object.{Object}
 use Rattle.plan_texts.specs.Declared.{Declared, one_word, kinds, kind_at, variable}
 use Rattle.plan_texts.specs.Together.{Together}
 use Rattle.plan_texts.specs.Types.{EachIs}
 use Rattle.plan_texts.specs.Types as value
+use Rattle.plan_texts.proofs.Members.{each-has, has-at}
 use Rattle.plan_texts.proofs.Places.{each-join}
 use Rattle.plan_texts.proofs.Together.{together-maps, together-length}
-use Rattle.form_spellings.specs.Bound.{types_of, IsBoundTerm, IsBoundAtom, IsBoundParam}
+use Rattle.form_spellings.specs.Bound.{types_of, IsBoundTerm, IsBoundAtom, IsBoundParam, IsBoundObject}
 use Rattle.name_faults.specs.Lists.{One, Has}
 use Rattle.name_faults.specs.Types.{IsType}
 use Rattle.name_faults.specs.Uses.{Scope, Use, declares, applies, refers, predicate, IsDeclared, IsOfAtom, IsOneOf, variables}
@@ -31,7 +33,7 @@ pub record HasWordsOf (names : Names) (d : RawDomain) (objects : List Word) (v :
   pub objects_are : v.objects ≡ objects
   pub predicates : (a : RawAtom) (n : ℕ) → first_place (term_word names a.head) v.predicates ≡ Some n → length a.args ≡ slice_index arities n → IsApplicable names d predicate a
 
-each_more : {X : Type 0} (P Q : X → Type 0) (xs : List X) → ((x : X) → P x → Q x) → EachIs P xs → EachIs Q xs
+pub each_more : {X : Type 0} (P Q : X → Type 0) (xs : List X) → ((x : X) → P x → Q x) → EachIs P xs → EachIs Q xs
 each_more P Q [] f e = tt
 each_more P Q (x ∷ xs) f e = (f x e.0, each_more P Q xs f e.1)
 
@@ -88,6 +90,15 @@ module _ (names : Names) (d : RawDomain) (objects : List Word) (v : Declared) (a
       let g = beside (IsBoundParam v names) (λ x. u ≡ declares x) rs xs b o in
       let x = g.1 in
       subst (Good here) (sym g.5) (types_typed g.0.ty (kind_at v x.ty) (kind_typed x.ty) g.4.1)
+
+  -- objects, each of a type of the value
+  pub objects_good : (constant : Bool) (rs : List RawParam) (xs : List Object) (here : Scope) (u : Use) → Together (IsBoundObject v names constant) rs xs → EachIs (λ (x : Object). x.ty < length v.types) xs → IsDeclared rs u → Good here u
+  objects_good constant rs xs here u t inside o =
+      let g = beside (IsBoundObject v names constant) (λ x. u ≡ declares x) rs xs t o in
+      let r = g.0 in
+      let x = g.1 in
+      let l = each-has (λ (x : Object). x.ty < length v.types) xs x inside g.3 in
+      subst (Good here) (sym g.5) (types_typed r.ty (word_at v.types x.ty ∷ []) (k.types (word_at v.types x.ty) (has-at v.types x.ty l), tt) g.4.1)
 
   pub same_variables : (rs : List RawParam) (xs : List Param) → Together (IsBoundParam v names) rs xs → map (variable v) xs ≡ variables names rs
   same_variables rs xs b = sym (together-maps (param_word names) (variable v) (IsBoundParam v names) (λ r x c. sym c.0) rs xs b)
