@@ -1,6 +1,7 @@
 -- The names of a domain and of a problem that are bound to a sound value have no fault.
-use Rattle.std.proofs.Common.{ℕ, ◌≡◌, ◌<◌, ◌≤◌, ◌+◌, Bool, true, inl, inr, List, [], ◌∷◌, ◌++◌, map, length, refl, sym, ap, subst, ◌∙◌, arith}
+use Rattle.std.proofs.Common.{ℕ, ◌≡◌, ◌<◌, ◌≤◌, ◌+◌, Bool, true, false, inl, inr, List, [], ◌∷◌, ◌++◌, map, length, refl, sym, ap, subst, ◌∙◌, arith}
 use Rattle.std.specs.Prelude.{Contains}
+use Rattle.htn_base.specs.Different.{AreDifferent}
 use Rattle.text_forms.specs.Words.{Word, word_at}
 use Rattle.gd_reader.specs.Terms.{Names}
 use Rattle.gd_reader.specs.declared.term.RawAtom.{RawAtom}
@@ -20,6 +21,7 @@ use Rattle.plan_model.specs.declared.schemas.TaskSchema.{TaskSchema}
 use Rattle.plan_model.specs.declared.terms.GroundAtom.{GroundAtom}
 use Rattle.plan_model.specs.declared.terms.Term.TheVariants.{Obj}
 use Rattle.plan_model.specs.declared.types.Object.{Object}
+use Rattle.plan_model.specs.declared.types.Parent.{Parent}
 use Rattle.plan_model.specs.declared.values.Hddl.{Hddl}
 use Rattle.plan_meaning.specs.Laws.{AreOrdered}
 use Rattle.plan_texts.specs.Declared.{Declared, named, variable, words_with}
@@ -162,13 +164,17 @@ module _ (names : Names) (d : RawDomain) (h : Hddl) (cs : List Object) (b : IsBo
     no_duplicate at (DuplicateInDomain.constant i) = no_second [] (map (param_at names) d.constants) at (constants_apart names d h cs b s others all) i
     no_duplicate at (DuplicateInDomain.subtask_id o) = of_networks (λ n. IsSecond [] (ids names n.subs) at) (λ n f i. f.second at i) o
 
-    parents_inside : _
-    parents_inside = s.value.parents
+    abbrev Inside : List Word → Parent → Type 0
+    Inside ts x = (x.child < length ts) × (x.parent < length ts) × (0 < x.child)
+
+    parents_inside : (xs : List Parent) → EachIs (λ (x : Parent). (x.child < length h.types.names) × (x.parent < length h.types.names) × (0 < x.child)) xs → EachIs (Inside (hddl_types h)) xs
+    parents_inside [] e = tt
+    parents_inside (x ∷ xs) e = (let n = length-map (named h.names) h.types.names in let l = e.0.0 in let m = e.0.1 in (omega (arith, l, n), omega (arith, m, n), e.0.2), parents_inside xs e.1)
 
     pub domain_faultless : HasNoFault (HasDomainFault language.Hddl names d)
     domain_faultless at code (HasDomainFault.duplicate_name f) = no_duplicate at f
     domain_faultless at code (HasDomainFault.unknown_type f) = no_type names d (constants names d) (InDomain names d) domain_good at f
-    domain_faultless at code (HasDomainFault.type_cycle f) = ?
+    domain_faultless at code (HasDomainFault.type_cycle f) = types.no_cycle names Own (hddl_types h) h.types.parents d b.types one (parents_inside h.types.parents s.value.parents) s.value.no_cycle at f
     domain_faultless at code (HasDomainFault.unknown_predicate f) = no_name names d (constants names d) (InDomain names d) domain_good at predicate f
     domain_faultless at code (HasDomainFault.unknown_task (inl f)) = no_name names d (constants names d) (InDomain names d) domain_good at subtask f
     domain_faultless at code (HasDomainFault.unknown_task (inr f)) = no_name names d (constants names d) (InDomain names d) domain_good at task f
@@ -178,4 +184,54 @@ module _ (names : Names) (d : RawDomain) (h : Hddl) (cs : List Object) (b : IsBo
     domain_faultless at code (HasDomainFault.unknown_subtask_id o) = of_networks (λ n. UnknownSubtaskId names n at) (λ n f. f.unknown at) o
     domain_faultless at code (HasDomainFault.cyclic_order o) = of_networks (λ n. CyclicOrder names n at) (λ n f. f.cycle at) o
     domain_faultless at code (HasDomainFault.too_many_subtasks o) = of_networks (λ n. TooManySubtasks n at) (λ n f. f.many at) o
-    domain_faultless at code (HasDomainFault.too_many_types f) = ?
+    domain_faultless at code (HasDomainFault.too_many_types f) = types.not_too_many names Own (hddl_types h) h.types.parents d b.types one 1000 at (let n = length-map (named h.names) h.types.names in omega (arith, few, n)) f
+
+    -- the problem beside it
+    module _ (p : RawProblem) (c : IsBoundProblem names (hddl_words h) (task_words h) (action_words h) p (hddl_problem h others) h.top) (top_pairs : HasNamedPairs names p.net) where
+      other_words : map (param_word names) p.objects ≡ map (λ (x : Object). named h.names x.name) others
+      other_words = together-maps (param_word names) (λ (x : Object). named h.names x.name) (IsBoundObject (hddl_words h) names false) (λ r x i. sym i.0) p.objects others c.objects
+
+      abbrev All : List Word
+      All = objects names d p
+
+      both : HasWordsOf names d All (hddl_words h) (arities h)
+      both = words_are names d h cs b s All h.objects (object_words names d h cs b s others all ∙ ap (λ ws. constants names d ++ ws) (sym other_words))
+
+      abbrev GoodIn : Scope → Use → Type 0
+      GoodIn = IsGood names d All
+
+      top_scope : map (variable (hddl_words h)) h.top.params ≡ variables names p.params
+      top_scope = same_variables names d All (hddl_words h) (arities h) both p.params h.top.params c.top.params_bound
+
+      problem_good : (here : Scope) (u : Use) → InProblem names p here u → GoodIn here u
+      problem_good here u (InProblem.object o) = objects_good names d All (hddl_words h) (arities h) both false p.objects others here u c.objects (each_back (λ (x : Object). x.ty < length (hddl_types h)) cs others sound_objects) o
+      problem_good here u (InProblem.parameter o) = params_good names d All (hddl_words h) (arities h) both p.params h.top.params here u c.top.params_bound o
+      problem_good here u (InProblem.network e o) =
+          subst (λ here. GoodIn here u) (sym e) (network_good names d All (hddl_words h) (arities h) both h (task_words h) (action_words h) calls (variables names p.params) (scope_of h h.top.params) p.net h.top.children h.top.pairs h.top.constraints u
+          (subst (λ scope. IsBoundNetwork (hddl_words h) names (task_words h) (action_words h) scope p.net h.top.children h.top.pairs h.top.constraints) top_scope c.top.network) s.value.top.children o)
+      problem_good here u (InProblem.fact e o) =
+          let g = beside (IsBoundFact (hddl_words h) names) (λ a. IsOfAtom predicate a u) p.init h.init c.init o in
+          let x = g.1 in
+          let i = each-has (λ (g : GroundAtom). IsSoundAtom (hddl_words h) (arities h) [] g.predicate (map Obj g.args)) h.init x s.value.init g.3 in
+          subst (λ here. GoodIn here u) (sym e) (atom_good names d All (hddl_words h) (arities h) both [] g.0 x.predicate (map Obj x.args) u g.4 i.1 g.5)
+      problem_good here u (InProblem.goal o) = formula_good names d All (hddl_words h) (arities h) both (hddl_words h) p.goal h.goal [] [] here u c.goal s.value.goal o
+
+      top_faultless : IsFaultlessNetwork names p.net
+      top_faultless = network_faultless names d h s ordered (task_words h) (action_words h) h.objects (map (variable (hddl_words h)) h.top.params) p.net h.top (inl refl) top_pairs c.top.network
+
+      others_apart : AreDifferent (constants names d ++ map word (map (param_at names) p.objects))
+      others_apart = subst (λ ws. AreDifferent (constants names d ++ ws)) (sym other_words ∙ map-map (param_at names) word p.objects) (objects_differ names d h cs b s others all)
+
+      pub problem_faultless : HasNoFault (HasProblemFault names d p)
+      problem_faultless at code (HasProblemFault.duplicate_name (DuplicateInProblem.object i)) = no_second (constants names d) (map (param_at names) p.objects) at others_apart i
+      problem_faultless at code (HasProblemFault.duplicate_name (DuplicateInProblem.subtask_id i)) = top_faultless.second at i
+      problem_faultless at code (HasProblemFault.unknown_type f) = no_type names d All (InProblem names p) problem_good at f
+      problem_faultless at code (HasProblemFault.unknown_predicate f) = no_name names d All (InProblem names p) problem_good at predicate f
+      problem_faultless at code (HasProblemFault.unknown_task (inl f)) = no_name names d All (InProblem names p) problem_good at subtask f
+      problem_faultless at code (HasProblemFault.unknown_task (inr f)) = no_name names d All (InProblem names p) problem_good at task f
+      problem_faultless at code (HasProblemFault.unknown_object f) = no_object names d All (InProblem names p) problem_good at f
+      problem_faultless at code (HasProblemFault.unknown_variable f) = no_variable names d All (InProblem names p) problem_good at f
+      problem_faultless at code (HasProblemFault.wrong_arity f) = no_arity names d All (InProblem names p) problem_good at f
+      problem_faultless at code (HasProblemFault.unknown_subtask_id f) = top_faultless.unknown at f
+      problem_faultless at code (HasProblemFault.cyclic_order f) = top_faultless.cycle at f
+      problem_faultless at code (HasProblemFault.too_many_subtasks f) = top_faultless.many at f
