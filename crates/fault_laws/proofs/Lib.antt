@@ -9,3 +9,4 @@ mod NetworkUses
 mod Types
 mod Declarations
 mod Domains
+mod Fresh
