@@ -10,3 +10,5 @@ mod Types
 mod Declarations
 mod Domains
 mod Fresh
+mod Filled
+mod Reading
