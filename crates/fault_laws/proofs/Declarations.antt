@@ -1,12 +1,11 @@
 -- The words that a domain that is bound to a sound value declares.
-use Rattle.std.proofs.Common.{ℕ, zero, suc, ◌≡◌, ◌<◌, true, inl, inr, List, [], ◌∷◌, ◌++◌, map, length, get_or, Option, Some, None, refl, sym, ap, subst, ◌∙◌}
-use Rattle.std.specs.Prelude.{slice_index, slice_get}
+use Rattle.std.proofs.Common.{ℕ, zero, suc, ◌≡◌, true, List, [], ◌∷◌, ◌++◌, map, length, get_or, Option, Some, None, refl, sym, ap, subst, ◌∙◌}
+use Rattle.std.specs.Prelude.{slice_get}
 use Rattle.htn_base.specs.Different.{AreDifferent}
 use Rattle.htn_base.proofs.DifferentLemmas.{different-left}
 use Rattle.text_forms.specs.Words.{Word, first_place}
 use Rattle.gd_reader.specs.Terms.{Names}
 use Rattle.gd_reader.specs.declared.term.RawAtom.{RawAtom}
-use Rattle.gd_reader.specs.declared.typed_lists.RawParam.{RawParam}
 use Rattle.hddl_reader.specs.declared.sections.RawAction.{RawAction}
 use Rattle.hddl_reader.specs.declared.sections.RawDomain.{RawDomain}
 use Rattle.hddl_reader.specs.declared.sections.RawHead.{RawHead}
@@ -36,7 +35,7 @@ use Rattle.form_spellings.specs.BoundSchemas.{IsBoundPredicate, IsBoundTask, IsB
 use Rattle.form_spellings.specs.BoundTexts.{IsBoundDomain}
 use Rattle.name_faults.specs.Faults.{constants}
 use Rattle.name_faults.specs.Uses.{predicate, subtask, task}
-use Rattle.name_faults.specs.Words.{WordAt, callables, term_word, param_word, param_at, head_at}
+use Rattle.name_faults.specs.Words.{callables, term_word, param_word, param_at, head_at}
 use Rattle.fault_laws.proofs.Lists.{has_front, has_back, beside_at, first_found}
 use Rattle.fault_laws.proofs.Seconds.{word}
 use Rattle.fault_laws.proofs.Uses.{head_word, IsApplicable, applicable}

@@ -1,11 +1,8 @@
 -- The names of a domain and of a problem that are bound to a sound value have no fault.
-use Rattle.std.proofs.Common.{ℕ, ◌≡◌, ◌<◌, ◌≤◌, ◌+◌, Bool, true, false, inl, inr, List, [], ◌∷◌, ◌++◌, map, length, refl, sym, ap, subst, ◌∙◌, arith}
-use Rattle.std.specs.Prelude.{Contains}
+use Rattle.std.proofs.Common.{ℕ, ◌≡◌, ◌<◌, true, false, inl, inr, List, [], ◌∷◌, ◌++◌, map, length, refl, sym, ap, subst, ◌∙◌, arith}
 use Rattle.htn_base.specs.Different.{AreDifferent}
-use Rattle.text_forms.specs.Words.{Word, word_at}
+use Rattle.text_forms.specs.Words.{Word}
 use Rattle.gd_reader.specs.Terms.{Names}
-use Rattle.gd_reader.specs.declared.term.RawAtom.{RawAtom}
-use Rattle.gd_reader.specs.declared.typed_lists.RawParam.{RawParam}
 use Rattle.hddl_reader.specs.declared.networks.RawNet.{RawNet}
 use Rattle.hddl_reader.specs.declared.sections.Language.TheVariants as language
 use Rattle.hddl_reader.specs.declared.sections.RawAction.{RawAction}
@@ -16,8 +13,6 @@ use Rattle.hddl_reader.specs.declared.sections.RawProblem.{RawProblem}
 use Rattle.plan_model.specs.declared.networks.Head.TheVariants.{Task}
 use Rattle.plan_model.specs.declared.schemas.ActionSchema.{ActionSchema}
 use Rattle.plan_model.specs.declared.schemas.MethodSchema.{MethodSchema}
-use Rattle.plan_model.specs.declared.schemas.Predicate.{Predicate}
-use Rattle.plan_model.specs.declared.schemas.TaskSchema.{TaskSchema}
 use Rattle.plan_model.specs.declared.terms.GroundAtom.{GroundAtom}
 use Rattle.plan_model.specs.declared.terms.Term.TheVariants.{Obj}
 use Rattle.plan_model.specs.declared.types.Object.{Object}
@@ -30,11 +25,10 @@ use Rattle.plan_texts.specs.Printable.{IsSound, IsSoundEffect, IsSoundAtom}
 use Rattle.plan_texts.specs.SoundProblem.{IsSmallMethod, IsSoundNetwork, IsSoundProblem, all_methods}
 use Rattle.plan_texts.specs.SoundValue.{arities, scope_of, IsSoundHead, IsSoundMethod}
 use Rattle.plan_texts.specs.SpellsHddl.{hddl_types, hddl_words, hddl_domain, hddl_problem, task_words, action_words}
-use Rattle.plan_texts.specs.Together.{Together}
 use Rattle.plan_texts.specs.Types.{EachIs}
 use Rattle.plan_texts.specs.Types as value
 use Rattle.plan_texts.proofs.Members.{each-has, has-contains, length-map}
-use Rattle.plan_texts.proofs.Unique.{map-map, map-append}
+use Rattle.plan_texts.proofs.Unique.{map-map}
 use Rattle.plan_texts.proofs.Together.{together-maps}
 use Rattle.form_spellings.specs.Bound.{IsBoundObject, IsBoundFormula, IsBoundEffect}
 use Rattle.form_spellings.specs.BoundNetworks.{IsBoundNetwork}

@@ -1,9 +1,7 @@
 -- What stands in an effect that is bound to a sound one has no fault.
-use Rattle.std.proofs.Common.{ℕ, ◌≡◌, inl, inr, List, [], ◌∷◌, ◌++◌, map, refl, sym, ap, subst, ◌∙◌}
-use Rattle.std.specs.Prelude.{◌⊎◌}
+use Rattle.std.proofs.Common.{ℕ, ◌≡◌, inl, inr, List, [], ◌∷◌, ◌++◌, map, refl, sym, subst, ◌∙◌}
 use Rattle.text_forms.specs.Words.{Word}
 use Rattle.gd_reader.specs.Terms.{Names}
-use Rattle.gd_reader.specs.declared.typed_lists.RawParam.{RawParam}
 use Rattle.gd_reader.specs.declared.effects.RawEffect.{RawEffect, roll-RawEffect}
 use Rattle.gd_reader.specs.declared.effects.RawEffect.TheFolds.{rec-roll-RawEffect, map-RawEffect, ind-RawEffect}
 use Rattle.gd_reader.specs.declared.effects.RawEffect.TheOpen.{RawEffect-F}
@@ -12,15 +10,14 @@ use Rattle.plan_model.specs.declared.effects.Effect.{Effect, roll-Effect}
 use Rattle.plan_model.specs.declared.effects.Effect.TheOpen.{Effect-F}
 use Rattle.plan_model.specs.declared.effects.Effect.TheVariants as effect
 use Rattle.plan_model.specs.declared.effects.Effect.TheVariants.{rolls-Add, rolls-Delete, rolls-And, rolls-Forall, rolls-When}
-use Rattle.plan_model.specs.declared.terms.Param.{Param}
 use Rattle.plan_texts.specs.Declared.{Declared, variable}
 use Rattle.plan_texts.specs.Printable.{sound_effect_step, IsSoundEffect}
 use Rattle.plan_texts.specs.Together.{Together}
 use Rattle.plan_texts.specs.Types.{EachIs}
 use Rattle.plan_texts.proofs.SpelledEffects.{sound_roll}
-use Rattle.form_spellings.specs.Bound.{IsBoundParam, bound_effect_step, IsBoundEffect}
+use Rattle.form_spellings.specs.Bound.{bound_effect_step, IsBoundEffect}
 use Rattle.name_faults.specs.Lists.{One}
-use Rattle.name_faults.specs.Uses.{Scope, Use, IsDeclared, variables, effect_step, InEffect}
+use Rattle.name_faults.specs.Uses.{Scope, Use, variables, effect_step, InEffect}
 use Rattle.name_faults.proofs.Rolls.{effect_unroll}
 use Rattle.fault_laws.proofs.Lists.{together_mapped}
 use Rattle.fault_laws.proofs.Uses.{IsGood}

@@ -1,21 +1,20 @@
 -- No token is the empty word, so the words of an ordering are not.
-use Rattle.std.proofs.Common.{ℕ, suc, Bool, ◌≡◌, ◌<◌, ◌≤◌, ◌-◌, false, List, [], ◌∷◌, map, length, take, drop, Some, All, Contains, refl, sym, ap, subst, ◌∙◌, arith, length-take, length-drop, inl, inr, None}
+use Rattle.std.proofs.Common.{ℕ, suc, Bool, ◌≡◌, ◌<◌, ◌-◌, false, List, [], ◌∷◌, map, length, drop, Some, refl, ap, subst, ◌∙◌, arith, length-take, length-drop, inl, inr, None}
 use Rattle.std.specs.Prelude.{slice_get, slice_range}
 use Rattle.std.proofs.lemmas.List.Elements.{All-contains}
 use Rattle.std.proofs.lemmas.Bool.{cases_lt}
 use Rattle.std.proofs.lemmas.Option.{slice_get_past}
 use Rattle.htn_base.specs.Words.{folded}
 use Rattle.std.specs.Char.{to_ascii_lowercase}
-use Rattle.text_forms.specs.Bytes.{Class, letter, classes, classes_from, comment_after}
+use Rattle.text_forms.specs.Bytes.{letter, classes, classes_from, comment_after}
 use Rattle.text_forms.specs.LongestRuns.{IsMade, IsMadeBy, IsAt}
-use Rattle.text_forms.specs.Tokens.{Kind, start, stop, word, Token, tokens, Lexeme, opens, closes, spells, lexeme_by, letters_of, lexeme, lexemes}
-use Rattle.text_forms.specs.Words.{Word}
+use Rattle.text_forms.specs.Tokens.{Kind, start, stop, word, tokens, spells, lexeme_by, lexeme, lexemes}
 use Rattle.text_forms.proofs.EachToken.{each_made}
 use Rattle.gd_reader.specs.Terms.{Names}
 use Rattle.hddl_reader.specs.declared.networks.RawNet.{RawNet}
 use Rattle.hddl_reader.specs.declared.networks.RawPair.{RawPair}
 use Rattle.plan_texts.specs.Types.{EachIs}
-use Rattle.plan_texts.proofs.Members.{contains-has, has-contains, has-of_map, length-map}
+use Rattle.plan_texts.proofs.Members.{contains-has, has-contains, has-of_map}
 use Rattle.form_spellings.specs.EachPart.{OfPair, OfNet}
 use Rattle.form_spellings.specs.Places.{as_written, IsWordAt, OpensWith, IsNameAt}
 use Rattle.name_faults.specs.Words.{term_word}

@@ -1,7 +1,6 @@
 -- One of a list, one of a list beside another, and items whose words differ.
-use Rattle.std.proofs.Common.{ℕ, zero, suc, ◌≡◌, ◌<◌, inl, inr, Bool, true, false, cond, List, [], ◌∷◌, ◌++◌, map, length, Option, Some, None, refl, sym, ap, subst, ◌∙◌, arith}
-use Rattle.std.specs.Prelude.{◌⊎◌, slice_get, Contains}
-use Rattle.std.specs.Option.{option_map}
+use Rattle.std.proofs.Common.{ℕ, zero, suc, ◌≡◌, inl, inr, Bool, true, false, List, [], ◌∷◌, ◌++◌, map, Option, Some, None, refl, sym, ap, subst, ◌∙◌}
+use Rattle.std.specs.Prelude.{slice_get, Contains}
 use Rattle.std.specs.Str.{bytes_eq}
 use Rattle.htn_base.specs.Different.{AreDifferent}
 use Rattle.text_forms.specs.Words.{Word, first_place, last_place}
@@ -9,7 +8,7 @@ use Rattle.plan_texts.specs.Together.{Together}
 use Rattle.plan_texts.specs.Types.{EachIs}
 use Rattle.plan_texts.specs.Types as value
 use Rattle.plan_texts.proofs.Basics.{bytes_eq-true}
-use Rattle.plan_texts.proofs.Members.{has-contains, contains-has, has-to_map}
+use Rattle.plan_texts.proofs.Members.{has-contains, has-to_map}
 use Rattle.name_faults.specs.Lists.{One, Each, Has}
 
 pub one_has : {X : Type 0} (P : X → Type 0) (xs : List X) → One P xs → (x : X) × value.Has xs x × P x

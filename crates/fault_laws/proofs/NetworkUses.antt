@@ -1,6 +1,5 @@
 -- Subtasks and constraints of a network that is bound to a sound one have no fault.
-use Rattle.std.proofs.Common.{ℕ, ◌≡◌, inl, inr, List, length, Some, refl, sym, ap, subst, ◌∙◌}
-use Rattle.std.specs.Prelude.{◌⊎◌}
+use Rattle.std.proofs.Common.{ℕ, ◌≡◌, inl, inr, List, length, Some, sym, subst}
 use Rattle.text_forms.specs.Words.{Word, first_place}
 use Rattle.gd_reader.specs.Terms.{Names}
 use Rattle.gd_reader.specs.declared.term.RawAtom.{RawAtom}
@@ -25,7 +24,6 @@ use Rattle.plan_texts.proofs.Together.{together-length}
 use Rattle.form_spellings.specs.Bound.{IsBoundTerm}
 use Rattle.form_spellings.specs.BoundNetworks.{IsBoundConstraint, IsBoundSubtask, IsBoundNetwork}
 use Rattle.form_spellings.specs.BoundSchemas.{IsBoundHead}
-use Rattle.name_faults.specs.Lists.{One}
 use Rattle.name_faults.specs.Standing.{IsOfNetwork}
 use Rattle.name_faults.specs.Uses.{Scope, Use, subtask, task, IsOfAtom, IsOneOf}
 use Rattle.name_faults.specs.Words.{term_word}

@@ -1,5 +1,5 @@
 -- The ids, the ordering and the size of a network that is bound to a sound one have no fault.
-use Rattle.std.proofs.Common.{ℕ, zero, suc, ◌≡◌, ◌<◌, ◌≤◌, ◌+◌, Bool, true, false, cond, eqb, inl, inr, List, [], ◌∷◌, ◌++◌, map, length, Option, Some, None, refl, sym, ap, subst, ◌∙◌, arith}
+use Rattle.std.proofs.Common.{ℕ, zero, suc, ◌≡◌, ◌<◌, ◌≤◌, ◌+◌, Bool, true, false, eqb, inl, inr, List, [], ◌∷◌, ◌++◌, map, length, Option, Some, None, refl, sym, ap, subst, ◌∙◌, arith}
 use Rattle.std.specs.Prelude.{◌⊎◌, slice_get, Contains, option_map}
 use Rattle.std.specs.List.{filter_map, cons_option}
 use Rattle.std.proofs.lemmas.Bool.{cond-true, cond-false, eqb-true, eqb-false}
@@ -27,9 +27,9 @@ use Rattle.plan_texts.proofs.Basics.{bytes_eq-refl, bytes_eq-other}
 use Rattle.plan_texts.proofs.Members.{each-has, has-contains}
 use Rattle.plan_texts.proofs.Together.{together-map, together-length}
 use Rattle.form_spellings.specs.BoundNetworks.{IsBoundPair, IsBoundId, IsBoundSubtask, IsBoundNetwork}
-use Rattle.name_faults.specs.Lists.{One, IsFirst}
+use Rattle.name_faults.specs.Lists.{One}
 use Rattle.name_faults.specs.Words.{WordAt, term_word, IsSecond}
-use Rattle.name_faults.specs.Networks.{most_subtasks, id_at, ids, HasId, UnknownSubtaskId, IsUnknownId, IsSubtask, IsPair, IsChained, IsOrdered, ClosesOrder, CyclicOrder, TooManySubtasks}
+use Rattle.name_faults.specs.Networks.{id_at, ids, HasId, UnknownSubtaskId, IsUnknownId, IsSubtask, IsPair, IsChained, IsOrdered, CyclicOrder, TooManySubtasks}
 use Rattle.fault_laws.proofs.Lists.{one_has, has_one, has_front, has_back, beside, beside_at, first_found}
 use Rattle.fault_laws.proofs.Seconds.{word, no_second}
 

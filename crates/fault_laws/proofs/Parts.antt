@@ -1,6 +1,6 @@
 -- Terms, typed lists and atoms that are bound have no fault.
-use Rattle.std.proofs.Common.{ℕ, zero, suc, ◌≡◌, ◌<◌, Bool, inl, inr, true, false, List, [], ◌∷◌, ◌++◌, length, map, get_or, codes, Some, refl, sym, ap, subst, ◌∙◌}
-use Rattle.std.specs.Prelude.{◌⊎◌, slice_index, slice_get}
+use Rattle.std.proofs.Common.{ℕ, zero, suc, ◌≡◌, ◌<◌, Bool, inl, inr, List, [], ◌∷◌, length, map, get_or, Some, refl, sym, subst, ◌∙◌}
+use Rattle.std.specs.Prelude.{slice_index}
 use Rattle.text_forms.specs.Words.{Word, first_place, word_at}
 use Rattle.gd_reader.specs.Terms.{Names}
 use Rattle.gd_reader.specs.declared.term.RawAtom.{RawAtom}
@@ -21,7 +21,7 @@ use Rattle.plan_texts.proofs.Together.{together-maps, together-length}
 use Rattle.form_spellings.specs.Bound.{types_of, IsBoundTerm, IsBoundAtom, IsBoundParam, IsBoundObject}
 use Rattle.name_faults.specs.Lists.{One, Has}
 use Rattle.name_faults.specs.Types.{IsType}
-use Rattle.name_faults.specs.Uses.{Scope, Use, declares, applies, refers, predicate, IsDeclared, IsOfAtom, IsOneOf, variables}
+use Rattle.name_faults.specs.Uses.{Scope, Use, declares, refers, predicate, IsDeclared, IsOfAtom, IsOneOf, variables}
 use Rattle.name_faults.specs.Words.{term_word, param_word}
 use Rattle.fault_laws.proofs.Lists.{beside, first_has, last_has}
 use Rattle.fault_laws.proofs.Uses.{IsApplicable, IsReferred, IsGood}

@@ -1,5 +1,5 @@
 -- Two texts that spell a sound value are read, and what is read has no fault of names.
-use Rattle.std.proofs.Common.{ℕ, ◌≡◌, List, [], ◌∷◌, ◌++◌, map, codes, Result, Ok, Err, refl, sym, ap, subst, ◌∙◌}
+use Rattle.std.proofs.Common.{ℕ, ◌≡◌, List, [], codes, Result, Ok, Err, refl, sym, subst}
 use Rattle.htn_base.specs.declared.name.Name.{Name}
 use Rattle.text_forms.specs.Lists.{Parts, name, nothing, part}
 use Rattle.text_forms.specs.Placed.{parts_at}
@@ -13,35 +13,22 @@ use Rattle.form_faults.specs.Said.{said}
 use Rattle.gd_reader.specs.declared.stop.Stop.{Stop}
 use Rattle.gd_reader.specs.declared.stop.Stop.TheVariants.{Ends, Departs}
 use Rattle.gd_reader.specs.declared.typed_lists.ListKind.TheVariants as list_kind
-use Rattle.gd_reader.specs.declared.typed_lists.RawParam.{RawParam}
 use Rattle.gd_reader.specs.Terms.{Names, Keeps}
 use Rattle.gd_reader.proofs.Keeping.{keeps_same}
 use Rattle.hddl_reader.specs.declared.sections.Definition.{Definition}
 use Rattle.hddl_reader.specs.declared.sections.Definition.TheVariants as definition
 use Rattle.hddl_reader.specs.declared.sections.Language.TheVariants as language
-use Rattle.hddl_reader.specs.declared.sections.RawDomain.{RawDomain}
 use Rattle.hddl_reader.specs.declared.sections.RawMethod.{RawMethod}
-use Rattle.hddl_reader.specs.declared.sections.RawProblem.{RawProblem}
 use Rattle.hddl_reader.specs.declared.sections.RawSections.{RawSections}
 use Rattle.hddl_reader.specs.Definitions.{definition_read, domain_of, problem_of, kind_of, IsRead, IsDomainRead, IsProblemRead}
 use Rattle.hddl_reader.proofs.DefinitionsSaid.{definition_said}
 use Rattle.hddl_reader.proofs.Refusals.{is_read}
-use Rattle.plan_model.specs.declared.schemas.ActionSchema.{ActionSchema}
-use Rattle.plan_model.specs.declared.schemas.MethodSchema.{MethodSchema}
-use Rattle.plan_model.specs.declared.schemas.TaskSchema.{TaskSchema}
-use Rattle.plan_model.specs.declared.types.Object.{Object}
-use Rattle.plan_model.specs.declared.values.Hddl.{Hddl}
-use Rattle.plan_texts.specs.Declared.{Declared, named, variable}
-use Rattle.plan_texts.specs.Domains.{domain_words, IsDefinition}
-use Rattle.plan_texts.specs.FirstSeen.{IsHddlOf}
-use Rattle.plan_texts.specs.Printable.{AreSoundParams, IsSound, IsSoundEffect}
-use Rattle.plan_texts.specs.SoundProblem.{IsSoundProblem}
-use Rattle.plan_texts.specs.SoundValue.{arities, scope_of, IsSoundMethod}
+use Rattle.plan_texts.specs.Declared.{named}
+use Rattle.plan_texts.specs.Domains.{IsDefinition}
+use Rattle.plan_texts.specs.SoundValue.{arities}
 use Rattle.plan_texts.specs.SpellsHddl.{hddl_words, hddl_domain, hddl_problem, task_words, action_words}
 use Rattle.plan_texts.specs.Types.{EachIs}
-use Rattle.form_spellings.specs.DeclaresOnce.{DeclaresOnce, DifferByWord, TaskDeclaresOnce, MethodDeclaresOnce, ActionDeclaresOnce}
 use Rattle.form_spellings.specs.EachPart.{OfMethod}
-use Rattle.form_spellings.specs.Fresh.{AreFresh}
 use Rattle.form_spellings.specs.InOrder.{IsTypedName}
 use Rattle.form_spellings.specs.Places.{IsDomainAt, IsProblemAt, OpensWith, IsNameAt}
 use Rattle.form_spellings.specs.ReadOf.{OfEachWhole, KeepsWords}
@@ -50,7 +37,7 @@ use Rattle.form_spellings.specs.SpelledWhole.{HddlDomainsAreWhole, HddlProblemsA
 use Rattle.form_spellings.specs.SpellsSomeSections.{IsDefined}
 use Rattle.form_spellings.proofs.order.Definitions.{domain_types, whole_in_order}
 use Rattle.form_spellings.proofs.order.Lists.{typed_names}
-use Rattle.fault_laws.specs.Faultless.{AreFaultless, SpelledTextsAreFaultless}
+use Rattle.fault_laws.specs.Faultless.{SpelledTextsAreFaultless}
 use Rattle.fault_laws.proofs.Domains.{HasNamedPairs, domain_faultless, problem_faultless}
 use Rattle.fault_laws.proofs.Filled.{pairs_named}
 use Rattle.fault_laws.proofs.Fresh.{formula_fresh, declares_once}
@@ -82,7 +69,7 @@ module _ (whole_domains : HddlDomainsAreWhole) (whole_problems : HddlProblemsAre
       let dw = whole_domains (hddl_domain h cs) (parts_at domain 0) (declares_once h s cs) (defined_of (codes "domain") domain (named h.names h.domain) texts.domain_sections _ texts.domain_text sections.in_domain) in
       let dr = read_of definition.Domain [] domain dw in
       let pw = whole_problems (hddl_words h) (task_words h) (action_words h) (hddl_problem h others) h.top (parts_at problem 0) (formula_fresh (hddl_words h) (hddl_words h) refl (arities h) h.goal [] s.value.goal)
-          s.value.top.params.1 (defined_of (codes "problem") problem (named h.names h.problem) texts.problem_sections _ texts.problem_text sections.in_problem) in
+      s.value.top.params.1 (defined_of (codes "problem") problem (named h.names h.problem) texts.problem_sections _ texts.problem_text sections.in_problem) in
       let pr = read_of definition.Problem dr.1 problem pw in
       let table = pr.1 in
       let d = domain_of dr.0 in

@@ -1,6 +1,6 @@
 -- Where the words of declarations differ, none is declared a second time.
-use Rattle.std.proofs.Common.{ℕ, ◌≡◌, ◌<◌, inl, inr, List, [], ◌∷◌, ◌++◌, map, refl, sym, ap, subst, ◌∙◌, arith}
-use Rattle.std.specs.Prelude.{◌⊎◌, Contains}
+use Rattle.std.proofs.Common.{ℕ, ◌≡◌, inl, inr, List, [], ◌∷◌, ◌++◌, map, sym, ap, subst, arith}
+use Rattle.std.specs.Prelude.{◌⊎◌}
 use Rattle.htn_base.specs.Different.{AreDifferent}
 use Rattle.text_forms.specs.Words.{Word}
 use Rattle.plan_texts.specs.Types as value
@@ -30,8 +30,8 @@ no_second earlier xs at d s =
     elim g.2.1 [
       | inl h ↦ apart earlier (map word xs) (word g.0) d (had earlier (word g.0) h) (has-to_map word xs g.0 g.1)
       | inr o ↦ (
-        let k = one_has (IsSameEarlier g.0) xs o in
-        let e = ap (λ (x : WordAt). x.at) (same_item word xs k.0 g.0 (behind earlier (map word xs) d) k.1 g.1 k.2.0) in
-        let l = k.2.1 in
-        omega arith)
+          let k = one_has (IsSameEarlier g.0) xs o in
+          let e = ap (λ (x : WordAt). x.at) (same_item word xs k.0 g.0 (behind earlier (map word xs) d) k.1 g.1 k.2.0) in
+          let l = k.2.1 in
+          omega arith)
     ]

@@ -1,7 +1,6 @@
 -- The types of a domain that is bound to a sound value have no cycle, and are not too many.
-use Rattle.std.proofs.Common.{ℕ, zero, suc, ◌≡◌, ◌<◌, ◌≤◌, ◌+◌, inl, inr, List, [], ◌∷◌, ◌++◌, map, length, codes, Option, Some, None, refl, sym, ap, subst, ◌∙◌, arith}
-use Rattle.std.specs.Prelude.{◌⊎◌, ◌↔◌, Contains}
-use Rattle.htn_base.specs.Different.{AreDifferent}
+use Rattle.std.proofs.Common.{ℕ, ◌≡◌, ◌<◌, ◌≤◌, ◌+◌, inl, inr, List, [], ◌∷◌, ◌++◌, map, length, codes, Option, Some, refl, sym, ap, subst, ◌∙◌, arith}
+use Rattle.std.specs.Prelude.{◌⊎◌, Contains}
 use Rattle.text_forms.specs.Words.{Word, word_at}
 use Rattle.task_networks.proofs.Different.{no_more}
 use Rattle.gd_reader.specs.Terms.{Names}
@@ -11,18 +10,17 @@ use Rattle.hddl_reader.specs.declared.sections.RawDomain.{RawDomain}
 use Rattle.plan_model.specs.declared.types.Parent.{Parent}
 use Rattle.plan_model.specs.Typing.{Leads, stay, climb}
 use Rattle.plan_texts.specs.Declared.{Declared}
-use Rattle.plan_texts.specs.Together.{Together}
 use Rattle.plan_texts.specs.Types.{EachIs, TypeItem, Mentions, IsPairOf}
 use Rattle.plan_texts.specs.Types as value
 use Rattle.plan_texts.proofs.Members.{each-has, has-contains, contains-has}
 use Rattle.plan_texts.proofs.Places.{first-different}
 use Rattle.form_spellings.specs.Bound.{parent_of, IsBoundType}
 use Rattle.form_spellings.specs.BoundTexts.{AreBoundTypes}
-use Rattle.name_faults.specs.Lists.{One, Has, IsFirst}
+use Rattle.name_faults.specs.Lists.{One, Has}
 use Rattle.name_faults.specs.Types.{mentioned, IsType, IsParent, ClosesCycle, TypeCycle, IsOneTooMany}
 use Rattle.name_faults.specs.Types.{direct, through}
 use Rattle.name_faults.specs.Types as words
-use Rattle.name_faults.specs.Words.{WordAt, term_word, param_word, term_at, param_at}
+use Rattle.name_faults.specs.Words.{WordAt, term_word, param_word, term_at}
 use Rattle.fault_laws.proofs.Lists.{one_has, has_one, has_front, has_back, beside, beside_back}
 
 -- one parent is written at most
@@ -193,6 +191,6 @@ module _ (names : Names) where
               | inl f ↦ (let n = same_number z.child 0 l.0 (omega arith) (q.2 ∙ f ∙ sym b.first) in omega arith)
               | inr (inl f) ↦ acyclic z q.1 (subst (Leads parents z.parent) (same_number z.parent z.child l.1 l.0 (q.3 ∙ f ∙ sym q.2)) stay)
               | inr (inr c) ↦ (
-                let r = chain_of first.front within (term_word names g.0) (param_word names x) c in
-                acyclic z q.1 (subst (λ i. Leads parents i z.child) (same_number r.0 z.parent r.2 l.1 (r.4 ∙ sym q.3)) (subst (Leads parents r.0) (same_number r.1 z.child r.3 l.0 (r.5 ∙ sym q.2)) r.6)))
+                  let r = chain_of first.front within (term_word names g.0) (param_word names x) c in
+                  acyclic z q.1 (subst (λ i. Leads parents i z.child) (same_number r.0 z.parent r.2 l.1 (r.4 ∙ sym q.3)) (subst (Leads parents r.0) (same_number r.1 z.child r.3 l.0 (r.5 ∙ sym q.2)) r.6)))
             ]

@@ -1,17 +1,16 @@
 -- Declarations and uses without a fault.
-use Rattle.std.proofs.Common.{ℕ, ◌≡◌, ◌≢◌, ◌≤◌, true, false, List, length, map, refl, sym, ap, subst, ◌∙◌, arith}
+use Rattle.std.proofs.Common.{ℕ, ◌≡◌, ◌≢◌, ◌≤◌, true, false, List, length, map, sym, ap, ◌∙◌, arith}
 use Rattle.htn_base.specs.Different.{AreDifferent}
 use Rattle.text_forms.specs.Words.{Word}
 use Rattle.gd_reader.specs.Terms.{Names}
 use Rattle.gd_reader.specs.declared.term.RawAtom.{RawAtom}
 use Rattle.gd_reader.specs.declared.term.RawTerm.{RawTerm}
-use Rattle.gd_reader.specs.declared.typed_lists.RawParam.{RawParam}
 use Rattle.hddl_reader.specs.declared.sections.RawDomain.{RawDomain}
 use Rattle.hddl_reader.specs.declared.sections.RawHead.{RawHead}
 use Rattle.plan_texts.specs.Types.{EachIs}
 use Rattle.plan_texts.specs.Types as value
 use Rattle.plan_texts.proofs.Members.{each-has}
-use Rattle.name_faults.specs.Lists.{One, Each, Has}
+use Rattle.name_faults.specs.Lists.{Has}
 use Rattle.name_faults.specs.Named.{declared, meant, StandsFor, IsUnknown, HasWrongArity, UnknownType, UnknownName, UnknownObject, UnknownVariable, WrongArity}
 use Rattle.name_faults.specs.Types.{IsType}
 use Rattle.name_faults.specs.Uses.{Scope, Use, declares, applies, refers, Kind}
