@@ -85,7 +85,7 @@ module _ (F : Facts) where
 
   -- the two names, once the place of the parenthesis is known
   abbrev ThenIn : RawTerm → ℕ → RawPair → Names → Type 0
-  ThenIn first place y table = (y.first ≡ first) × (y.at ≡ place) × TermIn F y.then table
+  ThenIn first place y table = (y.first ≡ first) × (y.at ≡ place) × TermIn F y.then table × (y.then.variable ≡ false)
 
   then_in : (p : Placed) (first : RawTerm) (place : ℕ) (names : Names) → AllSeen F p → Reads names (then_due first place names p) (ThenIn first place)
   unfolding then_due name_due word_due
@@ -94,7 +94,7 @@ module _ (F : Facts) where
   then_in (list at p q) first place names s = tt
   then_in (word at w p) first place names s =
       due_then (NameFrom at) (ThenIn first place) names p (used names at w) (λ b. end_due b.0.1 >>= (λ _. Ok (record { first = first; then = b.0.0; at = place }, b.1))) (name_in names at w s.0)
-      (λ b. reads_end (λ y table. NameFrom at b.0 table → ThenIn first place y table) p (record { first = first; then = b.0; at = place }, b.1) (λ _ table one. (refl, refl, one.0)))
+      (λ b. reads_end (λ y table. NameFrom at b.0 table → ThenIn first place y table) p (record { first = first; then = b.0; at = place }, b.1) (λ _ table one. (refl, refl, one.0, one.2)))
 
   -- < a b
   prefixed_in : (p : Placed) (names : Names) (place at : ℕ) → F.Opens place at (codes "<") → AllSeen F p → Reads names (name_due names p >>= (λ a. then_due a.0.0 place a.1 a.0.1)) OrderIn
@@ -105,7 +105,7 @@ module _ (F : Facts) where
   prefixed_in (word b u p) names place at sign s =
       due_then (NameFrom b) OrderIn names p (used names b u) (λ a. then_due a.0.0 place a.1 a.0.1) (name_in names b u s.0)
       (λ a. reads_weaken (ThenIn a.0 place) (λ y table. NameFrom b a.0 table → OrderIn y table) a.1 (then_due a.0 place a.1 p) (then_in p a.0 place a.1 s.1)
-      (λ y table is one. record { first = subst (λ t. TermIn F t table) (sym is.0) one.0; then = is.2; place = inr (at, subst (λ n. F.Opens n at (codes "<")) (sym is.1) sign) }))
+      (λ y table is one. record { first = subst (λ t. TermIn F t table) (sym is.0) one.0; then = is.2; place = inr (at, subst (λ n. F.Opens n at (codes "<")) (sym is.1) sign); ids = (ap (λ (t : RawTerm). t.variable) is.0 ∙ one.2, is.3) }))
 
   -- behind the first name of a < b
   second_in : (p : Placed) (a : RawTerm) (place : ℕ) (names : Names) → AllSeen F p → Reads names (sign_due p >>= (λ q. then_due a place names q)) (ThenIn a place)
@@ -124,7 +124,7 @@ module _ (F : Facts) where
   between_in p names place at w opens seen s =
       reads_then same (NameFrom at) OrderIn names (used names at w) (λ a. sign_due p >>= (λ q. then_due a.0 place a.1 q)) (name_in names at w seen)
       (λ a. reads_weaken (ThenIn a.0 place) (λ y table. NameFrom at a.0 table → OrderIn y table) a.1 (sign_due p >>= (λ q. then_due a.0 place a.1 q)) (second_in p a.0 place a.1 s)
-      (λ y table is one. record { first = subst (λ t. TermIn F t table) (sym is.0) one.0; then = is.2; place = inl (w, subst (λ n. F.Opens n y.first.at w) (sym is.1) (subst (λ n. F.Opens place n w) (sym (ap (λ (t : RawTerm). t.at) is.0 ∙ one.1)) opens)) }))
+      (λ y table is one. record { first = subst (λ t. TermIn F t table) (sym is.0) one.0; then = is.2; place = inl (w, subst (λ n. F.Opens n y.first.at w) (sym is.1) (subst (λ n. F.Opens place n w) (sym (ap (λ (t : RawTerm). t.at) is.0 ∙ one.1)) opens)); ids = (ap (λ (t : RawTerm). t.variable) is.0 ∙ one.2, is.3) }))
 
   pub pair_in : HeadedIn pair_headed OrderIn
   unfolding pair_headed

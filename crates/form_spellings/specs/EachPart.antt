@@ -1,6 +1,6 @@
 -- What holds of each name of a domain and a problem, and of the parenthesis in front of each subtask and each ordering.
 -- Source: this project's.
-use Rattle.std.specs.Prelude.{ℕ, ◌⊎◌, Bool, true, false, codes, IfSome}
+use Rattle.std.specs.Prelude.{ℕ, ◌≡◌, ◌⊎◌, Bool, true, false, codes, IfSome}
 use Rattle.std.specs.Option.{unwrap_or}
 use Rattle.htn_base.specs.declared.name.Name.{Name as Numbered}
 use Rattle.text_forms.specs.Words.{Word}
@@ -34,6 +34,8 @@ module _ (Is : Bool → ℕ → Numbered → Type 0) (Opens : ℕ → ℕ → Wo
     pub first : OfTerm Is x.first
     pub then : OfTerm Is x.then
     pub place : OpensTerm x.at x.first ⊎ ((at : ℕ) × Opens x.at at (codes "<"))
+    -- neither is a variable
+    pub ids : (x.first.variable ≡ false) × (x.then.variable ≡ false)
 
   abbrev pub OfCon : RawCon → Type 0
   OfCon c = OfTerm Is c.left × OfTerm Is c.right

@@ -11,3 +11,7 @@ OfEachText read Fact = (text : List ℕ) (i : ℕ) (names left later : Names) (x
 -- a fact of each value that a whole text is read as
 abbrev pub OfEachWhole : {X : Type 0} → (Names → List ℕ → X × Names → Type 0) → (List ℕ → Names → X → Type 0) → Type 0
 OfEachWhole IsRead Fact = (text : List ℕ) (names later : Names) (x : _) → IsRead names text x → Keeps x.1 later → Fact text later x.0
+
+-- the words of a table keep their places where a whole text is read
+abbrev pub KeepsWords : {X : Type 0} → (Names → List ℕ → X × Names → Type 0) → Type 0
+KeepsWords IsRead = (text : List ℕ) (names : Names) (x : _) → IsRead names text x → Keeps names x.1

@@ -37,7 +37,7 @@ module _ (text : List ℕ) (before behind later : Names) (d : RawDomain) (is : R
   section_is = record { words = in_order.types_at_places; in_order = in_order.types_in_order }
 
   -- a problem that says nothing, so that the laws of both texts can be asked of the domain alone
-  pub nothing : RawProblem
+  abbrev pub nothing : RawProblem
   nothing = record { name = d.name; objects = []; params = []; net = record { subs = []; ordered = false; pairs = []; constraints = [] }; init = []; goal = And [] }
 
   nothing_in_order : IsProblemInOrder later nothing

@@ -98,7 +98,7 @@ module _ (domain text : List ℕ) (table later : Names) (b : BoundDomain) (bound
       record { tokens = is.tokens; read = problem_of; names = problem_none table later bound.d p here object of_object x r.0 r.1 }
 
   -- in the table that has the word of the top method too
-  last : Names
+  abbrev last : Names
   last = with_start later
 
   spelled : (h : Value) → IsProblemBound b p later h → IsHddlOf domain text h

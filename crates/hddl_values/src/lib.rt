@@ -7,8 +7,10 @@
 #![tactic(auto)]
 
 mod domains;
+mod laws;
 mod problems;
 mod reading;
 mod values;
 
+pub use laws::spelled_texts_have_no_fault;
 pub use values::hddl_of;

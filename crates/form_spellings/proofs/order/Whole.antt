@@ -15,6 +15,7 @@ use Rattle.form_spellings.specs.InOrder.{IsDomainInOrder, IsProblemInOrder}
 use Rattle.form_spellings.specs.InTable.{IsDomainIn, IsProblemIn}
 use Rattle.form_spellings.specs.Places.{IsDomainAt}
 use Rattle.form_spellings.proofs.DefinitionsIn.{DefinitionIs, definition_in, domain_is, problem_is}
+use Rattle.form_spellings.proofs.KeptWords.{Reads}
 use Rattle.form_spellings.proofs.NamesIn.{stands, anywhere, all_seen}
 use Rattle.form_spellings.proofs.PlacesWhole.{domains_placed}
 use Rattle.form_spellings.proofs.order.Definitions as order
@@ -42,3 +43,12 @@ problems_in_order l text names later x h k =
     let is = order.whole_in_order l definition.Problem text names x.1 later h.0 h.2 k in
     let words = subst (IsProblemIn later) h.1 (problems_stand l text names later x h k) in
     subst (IsProblemInOrder later) (sym h.1) (order.problem_is h.0 later words is)
+
+kept : (l : Language) (d : Definition) (text : List ℕ) (names left : Names) (x : Name × RawSections) → IsRead l d names text x left → Keeps names left
+kept l d text names left x is = (subst (λ r. Reads names r (DefinitionIs anywhere)) is.gives (definition_in anywhere (parts_at text 0) l d names (all_seen (parts_at text 0)))).0
+
+pub domains_keep : (l : Language) (text : List ℕ) (names : Names) (x : RawDomain × Names) → IsDomainRead l names text x → Keeps names x.1
+domains_keep l text names x h = kept l definition.Domain text names x.1 h.0 h.2
+
+pub problems_keep : (l : Language) (text : List ℕ) (names : Names) (x : RawProblem × Names) → IsProblemRead l names text x → Keeps names x.1
+problems_keep l text names x h = kept l definition.Problem text names x.1 h.0 h.2

@@ -1,0 +1,14 @@
+mod Lists
+mod Seconds
+mod Uses
+mod Parts
+mod Formulas
+mod Effects
+mod Networks
+mod NetworkUses
+mod Types
+mod Declarations
+mod Domains
+mod Fresh
+mod Filled
+mod Reading
