@@ -1,7 +1,8 @@
 -- What is refused is the least fault, and what is bound has none.
 use Rattle.std.proofs.Common.{ℕ, ◌≡◌, inl, inr, List, [], ◌++◌, Some, None, subst, ◌∙◌, arith}
 use Rattle.std.specs.Prelude.{◌⊎◌, ◌↔◌, codes}
-use Rattle.gd_reader.specs.Terms.{Names}
+use Rattle.htn_base.specs.Different.{AreDifferent}
+use Rattle.gd_reader.specs.Terms.{Names, Keeps}
 use Rattle.hddl_reader.specs.declared.sections.Language.TheVariants as language
 use Rattle.hddl_reader.specs.declared.sections.RawDomain.{RawDomain}
 use Rattle.hddl_reader.specs.declared.sections.RawProblem.{RawProblem}
@@ -18,6 +19,7 @@ use Rattle.hddl_bind.specs.DomainSchemas.{schemas_faults}
 use Rattle.hddl_bind.specs.WholeDomains.{DomainBinding, IsObject, bound_by, faults_by}
 use Rattle.hddl_bind.specs.WholeProblems.{ProblemBinding}
 use Rattle.hddl_bind.specs.WholeProblems as problem
+use Rattle.binding_laws.specs.InOrder.{IsDomainInOrder}
 use Rattle.binding_laws.specs.Kinds.{AreTypesOf}
 use Rattle.binding_laws.specs.TypeWords.{AreTypesIn}
 use Rattle.binding_laws.specs.WholeFaults.{AreInOrder, IsLeastOfDomain, DomainHasNone, IsLeastOfProblem, BothHaveNone, OfAllInOrder}
@@ -30,29 +32,42 @@ use Rattle.binding_laws.proofs.TypeWords.{has_types}
 no_spots : AreLeastOf (λ s. ⊥) []
 no_spots = record { sound = λ k d l. absurd (omega arith); least = λ s f. absurd f }
 
-module _ (before names : Names) (d : RawDomain) (p : RawProblem) (is : AreInOrder before names d p) (object : ℕ) (of_object : IsObject before object) where
-  pub types_in : AreTypesIn names object d.types
-  types_in =
+-- of a domain in order, bound with an earlier table that this one keeps
+module _ (before names : Names) (d : RawDomain) (differ : AreDifferent names) (keeps : Keeps before names) (domain : IsDomainInOrder names d)
+    (object : ℕ) (of_object : IsObject before object) where
+  pub types_by : AreTypesIn names object d.types
+  types_by =
       let n = number_is before (codes "object") object of_object in
-      let l = keeps_longer before names is.keeps in
+      let l = keeps_longer before names keeps in
       let m = n.0 in
-      record { differ = is.differ; known = omega arith; is_object = keeps_word before names object is.keeps n.0 ∙ n.1; words_in = is.domain.words.types }
+      record { differ = differ; known = omega arith; is_object = keeps_word before names object keeps n.0 ∙ n.1; words_in = domain.words.types }
 
   module _ (x : DomainBinding object d) where
     abbrev others : List Spot
     others = second_names d ++ schemas_faults (known_in x.kinds d) (declared d.tasks d.actions) d x.cycles
 
+    domain_are : (code at : ℕ) → (IsSectionFault (most_types language.Hddl) object d.types (spot at code) ⊎ Has others (spot at code)) ↔ HasDomainFault language.Hddl names d at code
+    domain_are code at = domain_faults_are names object d domain types_by x.kinds x.are_kinds.types x.cycles x.are_cycles at code
+
+    pub least_by : (code at : ℕ) → noted None (faults_by object d x) ≡ Some (spot at code) → IsLeast (HasDomainFault language.Hddl names d) code at
+    least_by code at e = least_is (IsSectionFault (most_types language.Hddl) object d.types) (HasDomainFault language.Hddl names d) x.types others x.are_of_types domain_are code at e
+
+    pub none_by : faults_by object d x ≡ [] → HasNoFault (HasDomainFault language.Hddl names d)
+    none_by e = none_is (IsSectionFault (most_types language.Hddl) object d.types) (HasDomainFault language.Hddl names d) x.types others x.are_of_types domain_are e
+
+module _ (before names : Names) (d : RawDomain) (p : RawProblem) (is : AreInOrder before names d p) (object : ℕ) (of_object : IsObject before object) where
+  pub types_in : AreTypesIn names object d.types
+  types_in = types_by before names d is.differ is.keeps is.domain object of_object
+
+  module _ (x : DomainBinding object d) where
     pub types_are : AreTypesOf names d x.kinds
     types_are = (has_types names object d x.kinds types_in x.are_kinds.types).0
 
-    domain_are : (code at : ℕ) → (IsSectionFault (most_types language.Hddl) object d.types (spot at code) ⊎ Has others (spot at code)) ↔ HasDomainFault language.Hddl names d at code
-    domain_are code at = domain_faults_are names object d is.domain types_in x.kinds x.are_kinds.types x.cycles x.are_cycles at code
-
     pub domain_least : (code at : ℕ) → noted None (faults_by object d x) ≡ Some (spot at code) → IsLeast (HasDomainFault language.Hddl names d) code at
-    domain_least code at e = least_is (IsSectionFault (most_types language.Hddl) object d.types) (HasDomainFault language.Hddl names d) x.types others x.are_of_types domain_are code at e
+    domain_least code at e = least_by before names d is.differ is.keeps is.domain object of_object x code at e
 
     pub domain_none : faults_by object d x ≡ [] → HasNoFault (HasDomainFault language.Hddl names d)
-    domain_none e = none_is (IsSectionFault (most_types language.Hddl) object d.types) (HasDomainFault language.Hddl names d) x.types others x.are_of_types domain_are e
+    domain_none e = none_by before names d is.differ is.keeps is.domain object of_object x e
 
     module _ (y : ProblemBinding (bound_by object d x) p) where
       listed : List Spot

@@ -6,12 +6,10 @@ use Rattle.htn_base.specs.declared.fault.Fault.{Fault}
 use Rattle.text_forms.specs.Faults.{IsFaultless}
 use Rattle.gd_reader.specs.Terms.{Names, Keeps}
 use Rattle.gd_reader.proofs.Keeping.{keeps_same, keeps_then}
-use Rattle.gd_reader.specs.declared.formulas.RawFormula.TheVariants.{And}
 use Rattle.hddl_reader.specs.declared.sections.Language.TheVariants.{Hddl}
 use Rattle.hddl_reader.specs.declared.sections.RawDomain.{RawDomain}
-use Rattle.hddl_reader.specs.declared.sections.RawProblem.{RawProblem}
 use Rattle.hddl_reader.specs.Definitions.{IsDomainRead}
-use Rattle.form_spellings.specs.InOrder.{IsDomainInOrder, IsProblemInOrder}
+use Rattle.form_spellings.specs.InOrder.{IsDomainInOrder}
 use Rattle.form_spellings.proofs.order.Whole.{domains_in_order}
 use Rattle.name_faults.specs.Faults.{HasDomainFault, IsLeast, HasNoFault}
 use Rattle.bind_types.specs.Cycle.{IsSection}
@@ -19,8 +17,7 @@ use Rattle.hddl_bind.specs.declared.bound_domain.BoundDomain.{BoundDomain}
 use Rattle.hddl_bind.specs.declared.errors.BindError.{BindError}
 use Rattle.hddl_bind.specs.declared.errors.BindError.TheVariants.{Bad, Memory}
 use Rattle.hddl_bind.specs.WholeDomains.{IsDomainBound, IsDomainRefused}
-use Rattle.binding_laws.specs.WholeFaults.{AreInOrder}
-use Rattle.binding_laws.proofs.WholeFaults.{domain_least, domain_none}
+use Rattle.binding_laws.proofs.WholeFaults.{least_by, none_by}
 use Rattle.sexpr_text.specs.declared.read_error.ReadError.{ReadError}
 use Rattle.sexpr_text.specs.declared.read_error.ReadError.TheVariants as errors
 use Rattle.hddl_values.specs.Reading.{ReadsDomain, RefusesNames, RefusesDomain, IsBoundText, read_error}
@@ -36,31 +33,10 @@ module _ (text : List ℕ) (before behind later : Names) (d : RawDomain) (is : R
   pub section_is : IsSection d.types
   section_is = record { words = in_order.types_at_places; in_order = in_order.types_in_order }
 
-  -- a problem that says nothing, so that the laws of both texts can be asked of the domain alone
-  abbrev pub nothing : RawProblem
-  nothing = record { name = d.name; objects = []; params = []; net = record { subs = []; ordered = false; pairs = []; constraints = [] }; init = []; goal = And [] }
-
-  nothing_in_order : IsProblemInOrder later nothing
-  nothing_in_order = record {
-    words = record { name = in_order.words.name; objects = tt; params = tt; net = (tt, tt, tt); init = tt; goal = tt };
-    name = in_order.name;
-    objects = tt;
-    params = record { variables = record { plain = tt; types_once = tt; in_order = tt; types_behind = tt }; differ = tt };
-    net = record { ids_plain = tt; ids_in_order = tt; subs_in_order = tt; each_sub = tt; pairs_in_order = tt; each_pair = tt; constraints_in_order = tt; each_constraint = tt };
-    facts = tt;
-    goal = tt;
-    goal_in_order = tt;
-    objects_in_order = tt;
-    facts_in_order = tt;
-  }
-
-  pub all_in_order : AreInOrder later later d nothing
-  all_in_order = record { differ = differ; keeps = keeps_same later; domain = in_order; problem = nothing_in_order }
-
   pub names_refused : (e : ReadError) → RefusesNames later d e → RefusesDomain text e
   names_refused errors.Memory r = tt
   names_refused (errors.Bad f) (file, (object, of_object, (x, e))) =
-      (file, domain_names later d is.tokens domain_of (domain_least later later d nothing all_in_order object of_object x f.code f.at e))
+      (file, domain_names later d is.tokens domain_of (least_by later later d differ (keeps_same later) in_order object of_object x f.code f.at e))
 
   pub bound_text : (b : BoundDomain) → IsDomainBound later d b → IsBoundText text later b
   bound_text b h = record { differ = differ; d = d; tokens = is.tokens; read = domain_of; bound = h }
@@ -82,6 +58,5 @@ good_domain text table b h =
     record {
       tokens = h.tokens;
       read = h.read;
-      names = domain_none table table h.d (nothing text h.read.before h.read.behind table h.d is h.read.keeps h.differ)
-          (all_in_order text h.read.before h.read.behind table h.d is h.read.keeps h.differ) object of_object x e;
+      names = none_by table table h.d h.differ (keeps_same table) (in_order text h.read.before h.read.behind table h.d is h.read.keeps h.differ) object of_object x e;
     }

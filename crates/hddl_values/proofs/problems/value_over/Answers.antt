@@ -12,4 +12,4 @@ pub returns-in-Err-bind_problem-clause-refused : goal.returns-in-Err-bind_proble
 returns-in-Err-bind_problem-clause-refused c domain bound =
     subst (RefusesOver domain c.args.text.now) (sym c.read_error.ensures.same)
     (refused_for domain c.args.text.now c.args.names c.read_problem.new.names c.args.domain bound c.in-Ok.problem c.in-Ok.ensures.read c.in-Ok.ensures.keeps
-        c.in-Ok.ensures.differ c.in-Err-bind_problem.error c.in-Err-bind_problem.ensures.refused)
+    c.in-Ok.ensures.differ c.in-Err-bind_problem.error c.in-Err-bind_problem.ensures.refused)
