@@ -4,8 +4,7 @@ use htn_base::Fault;
 use outside_io::{DiskFiles, Files, GetError};
 use sexpr_text::ReadError;
 use std::alloc::Global;
-use std::io;
-use std::str;
+use std::{io, str};
 
 /// So many pairs are stored.
 const PAIRS: u32 = 361;
