@@ -61,12 +61,12 @@ impl State {
         }
     }
 
-    /// Takes away what is noted of those of the atoms that are false.
+    /// Takes away what is noted of those of the atoms that are false, where there are many notes.
     fn forget(&mut self, atoms: &[GroundAtom])
         ensures { spec.IsSame self.old self.new }
     {
         for atom in atoms {
-            if !self.has(atom) {
+            if self.is_spare(atom) {
                 self.remove(atom);
             }
         }

@@ -1,4 +1,5 @@
-ghost use Rattle.std.specs.Prelude.{◌≡◌, ◌↔◌, IsTrue, Contains, Some, None, IfOk, OnOk, OnErr};
+ghost use Rattle.std.specs.Prelude.{◌≡◌, ◌↔◌, false, IsTrue, Contains, Some, None, IfOk, OnOk, OnErr};
+ghost use Rattle.std.specs.Bool.{OnTrue};
 ghost use Rattle.ground_state.specs.States as spec;
 
 use crate::notes::Notes;
@@ -79,6 +80,16 @@ impl State {
     {
         if let Some(notes) = self.facts.get_mut(&atom.predicate) {
             notes.set(atom.args.as_slice(), truth);
+        }
+    }
+
+    /// Whether the atom is noted as false, among many notes of its predicate. It is then as if nothing were noted.
+    pub(crate) fn is_spare(&self, atom: &GroundAtom) -> bool
+        ensures { OnTrue result (spec.note_of self.now atom.now ≡ Some false) }
+    {
+        match self.facts.get(&atom.predicate) {
+            Some(notes) => notes.is_spare(atom.args.as_slice()),
+            None => false,
         }
     }
 
