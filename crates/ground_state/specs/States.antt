@@ -13,6 +13,10 @@ use Rattle.ground_state.specs.Notes as notes
 abbrev pub note : State → ℕ → List ℕ → Option Bool
 note s predicate args = option_and_then (λ lists. notes.noted lists args) (tree.get nat_cmp s.facts predicate)
 
+-- the predicate and these objects
+abbrev pub atom : ℕ → List ℕ → GroundAtom
+atom predicate args = record { predicate = predicate; args = args }
+
 abbrev pub note_of : State → GroundAtom → Option Bool
 note_of s g = note s g.predicate g.args
 
