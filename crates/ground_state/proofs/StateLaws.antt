@@ -1,5 +1,5 @@
 -- The atoms of a state after something is noted of one, and of each of a list.
-use Rattle.std.proofs.Common.{ℕ, ◌+◌, ◌<◌, ◌++◌, length, get_or, take, Contains, ◌≡◌, ◌≢◌, ◌⊎◌, ◌↔◌, inl, inr, Bool, true, false, Option, Some, None, Result, Ok, Err, IfOk, IsOkAnd, List, [], ◌∷◌, refl, ap, sym, subst, ◌∙◌, true≢false}
+use Rattle.std.proofs.Common.{ℕ, ◌+◌, ◌<◌, ◌++◌, length, get_or, take, Contains, ◌≡◌, ◌≢◌, ◌⊎◌, ◌↔◌, inl, inr, Bool, true, false, Option, Some, None, List, [], ◌∷◌, refl, ap, sym, subst, ◌∙◌, true≢false}
 use Rattle.std.specs.Prelude.{unwrap_or, IsSome}
 use Rattle.std.specs.Option.{is_some, option_map}
 use Rattle.std.specs.Cmp.Lexicographic.{slice_cmp}
@@ -9,11 +9,15 @@ use Rattle.std.proofs.lemmas.List.{take_more}
 use Rattle.std.proofs.lemmas.List.Elements.{Contains-push, Contains-push_cases, Contains-append_left}
 use Rattle.plan_model.specs.declared.terms.GroundAtom.{GroundAtom}
 use Rattle.ground_state.specs.declared.state.State.{State}
-use Rattle.ground_state.specs.States.{note_of, has, atoms, Has, IsSame, IsNoted, AreNoted, KeepsNotes, With, Without, WithAll, WithoutAll}
+use Rattle.ground_state.specs.States.{atom, note_of, has, atoms, Has, IsSame, IsNoted, AreNoted, KeepsNotes, With, Without, WithAll, WithoutAll}
 use Rattle.ground_state.proofs.Lists.{same-lists, lists-same}
 
-same-atoms : (g a : GroundAtom) → g.predicate ≡ a.predicate → g.args ≡ a.args → g ≡ a
+pub same-atoms : (g a : GroundAtom) → g.predicate ≡ a.predicate → g.args ≡ a.args → g ≡ a
 same-atoms g a p e = λ i. record { predicate = p i; args = e i }
+
+-- what is true of the atom of this predicate and these objects is true of this one
+pub of-atom : (P : GroundAtom → Type 0) (predicate : ℕ) (args : List ℕ) (a : GroundAtom) → predicate ≡ a.predicate → args ≡ a.args → P (atom predicate args) → P a
+of-atom P predicate args a p e = subst P (same-atoms (atom predicate args) a p e)
 
 -- two atoms are one, or not
 same-or-not : (g a : GroundAtom) → (g ≡ a) ⊎ (g ≢ a)
@@ -131,11 +135,6 @@ noted-next xs i a s t l e h k n g c = elim ((taken-next xs i a l e g).0 c) [
 -- the atom at the place is one of the list
 pub item-of : (xs : List GroundAtom) (i : ℕ) (a : GroundAtom) → i < length xs → a ≡ get_or xs i a → Contains xs a
 item-of xs i a l e = (i, l, sym e)
-
--- what was made and put at the end of a list
-pub put-made : {X E : Type 0} (made : Result X E) (x : X) (old new : List X) → IfOk made (λ y. y ≡ x) → IsOkAnd made (λ y. new ≡ old ++ y ∷ []) → new ≡ old ++ x ∷ []
-put-made (Ok y) x old new e p = p ∙ ap (λ z. old ++ z ∷ []) e
-put-made (Err m) x old new e p = absurd p
 
 -- where nothing was noted of the atom, it is now noted as false
 pub entered : (s t : State) (a : GroundAtom) → is_some (note_of s a) ≡ false → IsNoted s a (Some false) t → IsSame s t × KeepsNotes s t × IsSome (note_of t a)

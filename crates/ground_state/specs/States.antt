@@ -1,9 +1,7 @@
 -- The atoms that are true in a computed state.
 -- Source: this project's; a state as in Truth.
-use Rattle.std.specs.Prelude.{ℕ, ◌≡◌, ◌≢◌, ◌⊎◌, ◌↔◌, Bool, false, IsTrue, IsSome, List, Contains, Option, unwrap_or}
+use Rattle.std.specs.Prelude.{ℕ, ◌≡◌, ◌≢◌, ◌⊎◌, ◌↔◌, Bool, false, IsTrue, IsSome, List, Contains, slice_get, Option, unwrap_or}
 use Rattle.std.specs.Option.{option_map, option_and_then}
-use Rattle.std.specs.Ordering.{nat_cmp}
-use Rattle.std.specs.BTreeMap as tree
 use Rattle.plan_model.specs.declared.terms.GroundAtom.{GroundAtom}
 use Rattle.plan_meaning.specs.Truth as truth
 use Rattle.ground_state.specs.declared.state.State.{State}
@@ -11,7 +9,11 @@ use Rattle.ground_state.specs.Notes as notes
 
 -- what is noted of the predicate and these objects
 abbrev pub note : State → ℕ → List ℕ → Option Bool
-note s predicate args = option_and_then (λ lists. notes.noted lists args) (tree.get nat_cmp s.facts predicate)
+note s predicate args = option_and_then (λ lists. notes.noted lists args) (slice_get s.facts.items predicate)
+
+-- the predicate and these objects
+abbrev pub atom : ℕ → List ℕ → GroundAtom
+atom predicate args = record { predicate = predicate; args = args }
 
 abbrev pub note_of : State → GroundAtom → Option Bool
 note_of s g = note s g.predicate g.args
@@ -31,6 +33,10 @@ Has s P = (g : GroundAtom) → atoms s g ↔ P g
 -- two sets have the same atoms
 abbrev pub IsSame : State → State → Type 0
 IsSame s t = Has t (atoms s)
+
+-- the same is noted of each atom
+abbrev pub HasSameNotes : State → State → Type 0
+HasSameNotes old new = (predicate : ℕ) (args : List ℕ) → note new predicate args ≡ note old predicate args
 
 -- w is noted of this atom now, and of others what was noted before
 pub record IsNoted (old : State) (a : GroundAtom) (w : Option Bool) (new : State) : Type 0 where

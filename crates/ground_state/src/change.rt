@@ -1,9 +1,9 @@
 ghost use Rattle.std.specs.Prelude.{OnOk, OnErr};
 ghost use Rattle.ground_state.specs.States as spec;
 
+use crate::atom_list::{AtomList, KeptAtom};
 use crate::state::State;
-use htn_base::{List, Memory};
-use plan_model::GroundAtom;
+use htn_base::Memory;
 use std::alloc::Global;
 
 impl State {
@@ -12,8 +12,8 @@ impl State {
     pub(crate) fn change(
         &mut self,
         alloc: Global,
-        adds: &List<GroundAtom>,
-        deletes: &List<GroundAtom>,
+        adds: &AtomList,
+        deletes: &AtomList,
     ) -> Result<(), Memory>
         ensures changed { OnOk result (spec.IsChanged self.old adds.now deletes.now self.new) }
         ensures unchanged { OnErr result (spec.IsSame self.old self.new) }
@@ -29,45 +29,45 @@ impl State {
     }
 
     /// Notes those of the atoms as false of which nothing is noted.
-    fn enter(&mut self, alloc: Global, atoms: &[GroundAtom]) -> Result<(), Memory>
+    fn enter(&mut self, alloc: Global, atoms: &[KeptAtom]) -> Result<(), Memory>
         ensures same { spec.IsSame self.old self.new }
         ensures noted { OnOk result (spec.AreNoted atoms.now self.new) }
     {
         for atom in atoms {
-            if self.note(atom.predicate, atom.args.as_slice()).is_none() {
-                self.insert(alloc, atom, false)?;
+            if self.note(atom.predicate(), atom.objects()).is_none() {
+                self.insert(alloc, atom.predicate(), atom.objects(), false)?;
             }
         }
         Ok(())
     }
 
     /// Makes the atoms false.
-    fn deny(&mut self, atoms: &[GroundAtom])
+    fn deny(&mut self, atoms: &[KeptAtom])
         ensures without { spec.Has self.new (spec.WithoutAll self.old atoms.now) }
         ensures noted { spec.KeepsNotes self.old self.new }
     {
         for atom in atoms {
-            self.set(atom, false);
+            self.set(atom.predicate(), atom.objects(), false);
         }
     }
 
     /// Makes the atoms true.
-    fn affirm(&mut self, atoms: &[GroundAtom])
+    fn affirm(&mut self, atoms: &[KeptAtom])
         requires { spec.AreNoted atoms.now self.old }
         ensures { spec.Has self.new (spec.WithAll self.old atoms.now) }
     {
         for atom in atoms {
-            self.set(atom, true);
+            self.set(atom.predicate(), atom.objects(), true);
         }
     }
 
-    /// Takes away what is noted of those of the atoms that are false.
-    fn forget(&mut self, atoms: &[GroundAtom])
+    /// Takes away what is noted of those of the atoms that are false, where there are many notes.
+    fn forget(&mut self, atoms: &[KeptAtom])
         ensures { spec.IsSame self.old self.new }
     {
         for atom in atoms {
-            if !self.has(atom) {
-                self.remove(atom);
+            if self.is_spare(atom.predicate(), atom.objects()) {
+                self.remove(atom.predicate(), atom.objects());
             }
         }
     }

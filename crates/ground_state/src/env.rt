@@ -1,9 +1,9 @@
-ghost use Rattle.std.specs.Prelude.{ℕ, ◌≡◌, ◌≤◌, ◌<◌, length, IfOk};
-ghost use Rattle.plan_meaning.specs.Truth.{value_of, values_of, ground};
+ghost use Rattle.std.specs.Prelude.{ℕ, ◌≡◌, ◌≤◌, ◌<◌, length, IfOk, OnOk};
+ghost use Rattle.plan_meaning.specs.Truth.{value_of, values_of};
 ghost use Rattle.ground_state.specs.Frames.{Frame, frame, pushed, cleared};
 
 use htn_base::{List, Memory};
-use plan_model::{Atom, GroundAtom, Term};
+use plan_model::Term;
 use std::alloc::Global;
 
 /// The objects of the variables in force, the schema's parameters first and then those of the quantifiers from
@@ -65,18 +65,15 @@ impl Env {
         }
     }
 
-    /// The ground atom that the atom stands for.
-    pub(crate) fn ground(&self, alloc: Global, atom: &Atom) -> Result<GroundAtom, Memory>
-        ensures { IfOk result (λ g. g ≡ ground (frame self.now).objects atom.now) }
+    /// Writes down the objects that the terms stand for, in place of what was written there.
+    pub(crate) fn write(&self, terms: &[Term], into: &mut Vec<u32>) -> Result<(), Memory>
+        ensures { OnOk result (into.new.items ≡ values_of (frame self.now).objects terms.now) }
     {
-        let mut args = List::new(alloc);
-        for term in atom.args.as_slice() {
-            args.push(self.value(*term))?;
+        into.clear();
+        for term in terms {
+            into.push(self.value(*term))?;
         }
-        Ok(GroundAtom {
-            predicate: atom.predicate,
-            args,
-        })
+        Ok(())
     }
 
     /// Fills in the arguments that the terms stand for.

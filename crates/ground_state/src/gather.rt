@@ -4,12 +4,13 @@ ghost use Rattle.ground_state.specs.Room.{EffectFits, AllEffectsFit, EffectFitsW
 ghost use Rattle.ground_state.specs.Search.{IsWorld};
 ghost use Rattle.ground_state.specs.Clauses.{Gets, GetsEach, GetsWithin};
 
+use crate::atom_list::AtomList;
 use crate::env::Env;
 use crate::kinds::has_object;
 use crate::state::State;
 use crate::truth::holds;
 use htn_base::{List, Memory};
-use plan_model::{Effect, GroundAtom, Object, Param, Parts, Types};
+use plan_model::{Effect, Object, Param, Parts, Types};
 use std::alloc::Global;
 
 /// What an effect is read in: the state before it, the types and the objects.
@@ -28,7 +29,7 @@ pub(crate) fn gather(
     eff: &Effect,
     env: &mut Env,
     world: &World<'_>,
-    into: &mut List<GroundAtom>,
+    into: &mut AtomList,
 ) -> Result<(), Memory>
     requires world { IsWorld world.now }
     requires room { EffectFits (frame env.old) eff.now }
@@ -38,13 +39,13 @@ pub(crate) fn gather(
     match eff {
         Effect::Add(atom) => {
             if adds {
-                return into.put(env.ground(alloc, atom));
+                return into.put(alloc, env, atom);
             }
             Ok(())
         }
         Effect::Delete(atom) => {
             if !adds {
-                return into.put(env.ground(alloc, atom));
+                return into.put(alloc, env, atom);
             }
             Ok(())
         }
@@ -69,7 +70,7 @@ fn gather_each(
     parts: &[Effect],
     env: &mut Env,
     world: &World<'_>,
-    into: &mut List<GroundAtom>,
+    into: &mut AtomList,
 ) -> Result<(), Memory>
     requires world { IsWorld world.now }
     requires room { AllEffectsFit (frame env.old) parts.now }
@@ -91,7 +92,7 @@ fn gather_within(
     body: &Effect,
     env: &mut Env,
     world: &World<'_>,
-    into: &mut List<GroundAtom>,
+    into: &mut AtomList,
 ) -> Result<(), Memory>
     requires world { IsWorld world.now }
     requires room { EffectFitsWithin (frame env.old) params.now body.now }

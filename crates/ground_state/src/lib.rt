@@ -11,6 +11,7 @@
 //! `State::apply` for an action's effect.
 #![tactic(auto)]
 
+mod atom_list;
 mod change;
 mod env;
 mod gather;

@@ -1,9 +1,13 @@
-ghost use Rattle.std.specs.Prelude.{◌≡◌, Some, None, OnOk, OnErr};
+ghost use Rattle.std.specs.Prelude.{◌≡◌, false, Some, None, OnOk, OnErr};
+ghost use Rattle.std.specs.Bool.{OnTrue};
 ghost use Rattle.ground_state.specs.Notes as spec;
 
 use htn_base::Memory;
 use std::alloc::Global;
 use std::collections::BTreeMap;
+
+/// Where more notes than these are kept of a predicate, those are taken away that a step leaves false.
+const MANY: usize = 4096;
 
 /// Of lists of objects, in order, whether one predicate is true of them. A list of which nothing is noted is one of
 /// which it is not true.
@@ -46,6 +50,13 @@ impl Notes {
         if let Some(noted) = self.truths.get_mut(args) {
             *noted = truth;
         }
+    }
+
+    /// Whether the predicate is noted as not true of these objects, among many notes. It is then as if nothing were noted.
+    pub(crate) fn is_spare(&self, args: &[u32]) -> bool
+        ensures { OnTrue result (spec.noted self.now args.now ≡ Some false) }
+    {
+        self.truths.len() > MANY && matches!(self.get(args), Some(false))
     }
 
     /// Takes away what is noted of these objects.

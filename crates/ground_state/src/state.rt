@@ -1,17 +1,25 @@
-ghost use Rattle.std.specs.Prelude.{◌≡◌, ◌↔◌, IsTrue, Contains, Some, None, IfOk, OnOk, OnErr};
+ghost use Rattle.std.specs.Prelude.{◌≡◌, ◌↔◌, false, IsTrue, Contains, Some, None, IfOk, OnOk, OnErr};
+ghost use Rattle.std.specs.Bool.{OnTrue};
 ghost use Rattle.ground_state.specs.States as spec;
 
+use crate::atom_list::AtomList;
 use crate::notes::Notes;
 use htn_base::{List, Memory};
 use plan_model::GroundAtom;
 use std::alloc::Global;
-use std::collections::BTreeMap;
 
-/// A set of ground atoms, those that are true. `facts` has what is noted of each predicate: an atom that is noted as
-/// false is one that a step makes true or has made false.
+/// More predicates than these count as want of memory: no text of at most 16 megabytes declares so many.
+const MOST_PREDICATES: u32 = 1 << 24;
+
+/// A set of ground atoms, those that are true. `facts` has what is noted of each predicate, at its number: an atom that is
+/// noted as false is one that a step makes true or has made false.
+///
+/// `adds` and `deletes`: what the last step touched, kept for their room alone.
 #[derive(Drop)]
 pub struct State {
-    facts: BTreeMap<u32, Notes>,
+    facts: Vec<Notes>,
+    pub(crate) adds: AtomList,
+    pub(crate) deletes: AtomList,
 }
 
 impl State {
@@ -20,10 +28,12 @@ impl State {
         ensures atoms { IfOk result (λ s. spec.Has s (Contains atoms.now)) }
     {
         let mut state = State {
-            facts: BTreeMap::new(alloc),
+            facts: Vec::new(alloc),
+            adds: AtomList::new(alloc),
+            deletes: AtomList::new(alloc),
         };
         for atom in atoms.as_slice() {
-            state.insert(alloc, atom, true)?;
+            state.insert(alloc, atom.predicate, atom.args.as_slice(), true)?;
         }
         Ok(state)
     }
@@ -46,7 +56,7 @@ impl State {
     pub(crate) fn note(&self, predicate: u32, args: &[u32]) -> Option<bool>
         ensures { result ≡ spec.note self.now predicate args.now }
     {
-        match self.facts.get(&predicate) {
+        match self.facts.get(predicate as usize) {
             Some(notes) => notes.get(args),
             None => None,
         }
@@ -56,38 +66,58 @@ impl State {
     pub(crate) fn insert(
         &mut self,
         alloc: Global,
-        atom: &GroundAtom,
+        predicate: u32,
+        args: &[u32],
         truth: bool,
     ) -> Result<(), Memory>
-        ensures inserted { OnOk result (spec.IsNoted self.old atom.now (Some truth) self.new) }
+        ensures inserted { OnOk result
+            (spec.IsNoted self.old (spec.atom predicate args.now) (Some truth) self.new) }
         ensures unchanged { OnErr result (spec.IsSame self.old self.new) }
     {
-        match self.facts.get_mut(&atom.predicate) {
-            Some(notes) => notes.insert(alloc, atom.args.as_slice(), truth),
-            None => {
-                let mut notes = Notes::new(alloc);
-                notes.insert(alloc, atom.args.as_slice(), truth)?;
-                self.facts.insert(atom.predicate, notes)?;
-                Ok(())
-            }
+        if predicate < MOST_PREDICATES {
+            self.widen(alloc, predicate)?;
+        }
+        match self.facts.get_mut(predicate as usize) {
+            Some(notes) => notes.insert(alloc, args, truth),
+            None => Err(Memory),
         }
     }
 
-    /// Notes this of the atom, where something is noted of it. It takes no memory.
-    pub(crate) fn set(&mut self, atom: &GroundAtom, truth: bool)
-        ensures { spec.IsSet self.old atom.now truth self.new }
+    /// Makes a place for the notes of this predicate, if there is none yet.
+    fn widen(&mut self, alloc: Global, predicate: u32) -> Result<(), Memory>
+        ensures { spec.HasSameNotes self.old self.new }
     {
-        if let Some(notes) = self.facts.get_mut(&atom.predicate) {
-            notes.set(atom.args.as_slice(), truth);
+        for _ in self.facts.len()..predicate as usize + 1 {
+            self.facts.push(Notes::new(alloc))?;
+        }
+        Ok(())
+    }
+
+    /// Notes this of the atom, where something is noted of it. It takes no memory.
+    pub(crate) fn set(&mut self, predicate: u32, args: &[u32], truth: bool)
+        ensures { spec.IsSet self.old (spec.atom predicate args.now) truth self.new }
+    {
+        if let Some(notes) = self.facts.get_mut(predicate as usize) {
+            notes.set(args, truth);
+        }
+    }
+
+    /// Whether the atom is noted as false, among many notes of its predicate. It is then as if nothing were noted.
+    pub(crate) fn is_spare(&self, predicate: u32, args: &[u32]) -> bool
+        ensures { OnTrue result (spec.note self.now predicate args.now ≡ Some false) }
+    {
+        match self.facts.get(predicate as usize) {
+            Some(notes) => notes.is_spare(args),
+            None => false,
         }
     }
 
     /// Takes away what is noted of the atom.
-    pub(crate) fn remove(&mut self, atom: &GroundAtom)
-        ensures { spec.IsNoted self.old atom.now None self.new }
+    pub(crate) fn remove(&mut self, predicate: u32, args: &[u32])
+        ensures { spec.IsNoted self.old (spec.atom predicate args.now) None self.new }
     {
-        if let Some(notes) = self.facts.get_mut(&atom.predicate) {
-            notes.remove(atom.args.as_slice());
+        if let Some(notes) = self.facts.get_mut(predicate as usize) {
+            notes.remove(args);
         }
     }
 }

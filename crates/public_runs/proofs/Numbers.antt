@@ -1,16 +1,15 @@
 -- What is named in the order in which it stands has different names, and so its problem can be run.
-use Rattle.std.proofs.Common.{ℕ, zero, suc, ◌≡◌, ◌+◌, ◌++◌, List, [], ◌∷◌, length, Some, None, slice_get, refl, ap, sym, subst, ◌∙◌, Contains, length-append, arith}
+use Rattle.std.proofs.Common.{ℕ, zero, suc, ◌≡◌, ◌+◌, ◌++◌, List, [], ◌∷◌, length, Some, None, slice_get, ap, sym, subst, ◌∙◌, Contains, length-append, arith}
 use Rattle.std.proofs.lemmas.Option.{slice_get-get_or}
-use Rattle.htn_base.specs.Table.{IsTable}
 use Rattle.plan_model.specs.declared.types.Object.{Object}
 use Rattle.plan_model.specs.declared.schemas.ActionSchema.{ActionSchema}
 use Rattle.plan_model.specs.declared.steps.GroundAction.{GroundAction}
 use Rattle.plan_model.specs.declared.values.Pddl.{Pddl}
 use Rattle.plan_meaning.specs.ClassicalPlan.{HasWord}
-use Rattle.plan_meaning.specs.FailingStep.{IsNamed, AreNamedApart}
+use Rattle.plan_meaning.specs.FailingStep.{IsNamed}
 use Rattle.ground_state.specs.Runs.{IsRunnable}
 use Rattle.ground_state.proofs.PlaceLaws.{one_place}
-use Rattle.public_runs.specs.Numbered.{AreNumbered, AreFewObjects, AreFewActions, IsNumbered}
+use Rattle.public_runs.specs.Numbered.{AreNumbered, IsNumbered}
 
 -- one more item, with the next number
 numbered_more : {X : Type 0} (number : X → ℕ) (n : ℕ) (xs : List X) (x : X) → AreNumbered number n xs → number x ≡ n + length xs → AreNumbered number n (xs ++ x ∷ [])

@@ -14,7 +14,6 @@ use Rattle.ground_state.specs.Search.{Gathers, Touches, OneTouches, TouchesWithi
 use Rattle.ground_state.proofs.EffectSizes as sizes
 use Rattle.ground_state.proofs.RoomEquations as room
 use Rattle.ground_state.proofs.GatherCases as cases
-use Rattle.ground_state.proofs.StateLaws.{put-made}
 use Rattle.ground_state.proofs.gather.+gather.Goals as goal
 use Rattle.ground_state.proofs.gather.+gather.Goals.{gather_within-then-has_object+in_ok-gathered, gather_within-else-has_object}
 
@@ -26,7 +25,7 @@ gather-returns-then-adds-clause-gathered t c =
     let a = ground v c.in-Add.atom in
     on_ok_weaker c.put.result (λ p.
     cases.gathers-same (λ g. g ≡ ground c.args.env.now.values.items c.in-Add.atom) (Touches I S c.args.adds c.args.eff.now v) c.args.into.now c.put.new.self (cases.touches-Add I S v c.args.adds c.args.eff.now c.in-Add.atom c.in-Add.is c.if-adds.true)
-    (cases.gathers-push c.args.into.now c.put.new.self a (put-made c.ground.result a c.args.into.now c.put.new.self c.ground.ensures p))
+    (cases.gathers-push c.args.into.now c.put.new.self a p)
     ) c.put.ensures.put
 
 pub gather-returns-then-not-adds-clause-gathered : goal.gather-returns-then-not-adds-clause-gathered
@@ -37,7 +36,7 @@ gather-returns-then-not-adds-clause-gathered t c =
     let a = ground v c.in-Delete.atom in
     on_ok_weaker c.put-then-not-adds.result (λ p.
     cases.gathers-same (λ g. g ≡ ground c.args.env.now.values.items c.in-Delete.atom) (Touches I S c.args.adds c.args.eff.now v) c.args.into.now c.put-then-not-adds.new.self (cases.touches-Delete I S v c.args.adds c.args.eff.now c.in-Delete.atom c.in-Delete.is c.if-not-adds.true)
-    (cases.gathers-push c.args.into.now c.put-then-not-adds.new.self a (put-made c.ground-then-not-adds.result a c.args.into.now c.put-then-not-adds.new.self c.ground-then-not-adds.ensures p))
+    (cases.gathers-push c.args.into.now c.put-then-not-adds.new.self a p)
     ) c.put-then-not-adds.ensures.put
 
 pub gather-gather_each-requires : goal.gather-gather_each-requires

@@ -1,6 +1,0 @@
-use Rattle.std.proofs.Common.{◌≡◌, take}
-use Rattle.plan_meaning.specs.Truth.{values_of}
-use Rattle.ground_state.proofs.env.Env.ground.Given as goal
-
-abbrev pub invariant-loop-term : goal.invariant-loop-term
-invariant-loop-term l = l.args ≡ values_of l.self.values.items (take l.term-index l.atom.args)

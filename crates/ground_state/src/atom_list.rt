@@ -1,0 +1,118 @@
+ghost use Rattle.std.specs.Prelude.{◌≡◌, ◌++◌, ◌∷◌, [], IfOk, OnOk, OnErr};
+ghost use Rattle.plan_meaning.specs.Truth.{ground};
+ghost use Rattle.ground_state.specs.Frames.{frame};
+
+use crate::env::Env;
+use htn_base::Memory;
+use plan_model::Atom;
+use std::alloc::Global;
+use std::marker::Model;
+
+/// A ground atom whose room serves another one after it.
+#[derive(Drop)]
+pub struct KeptAtom {
+    predicate: u32,
+    args: Vec<u32>,
+}
+
+impl Model for KeptAtom {
+    ghost use Rattle.plan_model.specs.declared.terms.GroundAtom.{GroundAtom};
+
+    ghost Value = { GroundAtom };
+
+    ghost view = { λ a. record { predicate = a.predicate; args = a.args.items } };
+}
+
+impl KeptAtom {
+    /// The ground atom that the atom stands for.
+    fn new(alloc: Global, env: &Env, atom: &Atom) -> Result<KeptAtom, Memory>
+        ensures { IfOk result (λ kept. kept ≡ ground (frame env.now).objects atom.now) }
+    {
+        let mut args = Vec::new(alloc);
+        env.write(atom.args.as_slice(), &mut args)?;
+        Ok(KeptAtom {
+            predicate: atom.predicate,
+            args,
+        })
+    }
+
+    /// Becomes the ground atom that the atom stands for.
+    fn set(&mut self, env: &Env, atom: &Atom) -> Result<(), Memory>
+        ensures { OnOk result (self.new ≡ ground (frame env.now).objects atom.now) }
+    {
+        self.predicate = atom.predicate;
+        env.write(atom.args.as_slice(), &mut self.args)
+    }
+
+    pub(crate) fn predicate(&self) -> u32
+        ensures { result ≡ self.now.predicate }
+    {
+        self.predicate
+    }
+
+    pub(crate) fn objects(&self) -> &[u32]
+        ensures { result.now ≡ self.now.args }
+    {
+        self.args.as_slice()
+    }
+}
+
+/// A list of ground atoms that keeps its room where it is emptied, the first so many of those that are kept.
+#[derive(Drop)]
+pub struct AtomList {
+    kept: Vec<KeptAtom>,
+    count: usize,
+}
+
+impl Model for AtomList {
+    ghost use Rattle.std.specs.Prelude.{List, take};
+    ghost use Rattle.plan_model.specs.declared.terms.GroundAtom.{GroundAtom};
+
+    ghost Value = { List GroundAtom };
+
+    ghost view = { λ list. take list.count list.kept.items };
+}
+
+impl AtomList {
+    /// The empty list. It takes no memory yet.
+    pub(crate) fn new(alloc: Global) -> AtomList
+        ensures { result ≡ [] }
+    {
+        AtomList {
+            kept: Vec::new(alloc),
+            count: 0,
+        }
+    }
+
+    /// Empties the list.
+    pub(crate) fn clear(&mut self)
+        ensures { self.new ≡ [] }
+    {
+        self.count = 0;
+    }
+
+    /// All atoms in order.
+    pub(crate) fn as_slice(&self) -> &[KeptAtom]
+        ensures { result.now ≡ self.now }
+    {
+        let kept = self.kept.as_slice();
+        &kept[..self.count.min(kept.len())]
+    }
+
+    /// Puts the ground atom that the atom stands for at the end. After `Memory` the list is as it was.
+    pub(crate) fn put(&mut self, alloc: Global, env: &Env, atom: &Atom) -> Result<(), Memory>
+        ensures put { OnOk result
+            (self.new ≡ self.old ++ ground (frame env.now).objects atom.now ∷ []) }
+        ensures unchanged { OnErr result (self.new ≡ self.old) }
+    {
+        if self.count < self.kept.len() {
+            self.kept[self.count].set(env, atom)?;
+            self.count += 1;
+            return Ok(());
+        }
+        let kept = KeptAtom::new(alloc, env, atom)?;
+        self.kept.push(kept)?;
+        self.count = self.kept.len();
+        Ok(())
+    }
+}
