@@ -1,6 +1,6 @@
 -- A domain that was read stands in order, so binding may go through it; what it is refused for is its least fault.
-use Rattle.std.proofs.Common.{ℕ, ◌≡◌, inl, inr, List, [], false, Result, Ok, Err}
-use Rattle.std.specs.Prelude.{IfErr}
+use Rattle.std.proofs.Common.{ℕ, ◌≡◌, ◌≤◌, List, [], length, Result, Ok, Err}
+use Rattle.std.specs.Prelude.{IfOk, IfErr, OnOk}
 use Rattle.htn_base.specs.Different.{AreDifferent}
 use Rattle.htn_base.specs.declared.fault.Fault.{Fault}
 use Rattle.text_forms.specs.Faults.{IsFaultless}
@@ -38,8 +38,12 @@ module _ (text : List ℕ) (before behind later : Names) (d : RawDomain) (is : R
   names_refused (errors.Bad f) (file, (object, of_object, (x, e))) =
       (file, domain_names later d is.tokens domain_of (least_by later later d differ (keeps_same later) in_order object of_object x f.code f.at e))
 
-  pub bound_text : (b : BoundDomain) → IsDomainBound later d b → IsBoundText text later b
-  bound_text b h = record { differ = differ; d = d; tokens = is.tokens; read = domain_of; bound = h }
+  pub bound_text : length text ≤ 16777216 → length later ≤ 16777217 → (b : BoundDomain) → IsDomainBound later d b → IsBoundText text later b
+  bound_text short few b h = record { short = short; differ = differ; few = few; d = d; tokens = is.tokens; read = domain_of; bound = h }
+
+  pub bound_of : length text ≤ 16777216 → (r : Result BoundDomain ReadError) → OnOk r (length later ≤ 16777217) → IfOk r (IsDomainBound later d) → IfOk r (IsBoundText text later)
+  bound_of short (Ok b) few h = bound_text short few b h
+  bound_of short (Err e) few h = tt
 
   pub names_refused_of : (r : Result BoundDomain ReadError) → IfErr r (RefusesNames later d) → IfErr r (RefusesDomain text)
   names_refused_of (Ok b) h = tt

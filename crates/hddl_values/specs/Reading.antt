@@ -1,6 +1,6 @@
 -- What each of two texts comes to on the way to their value.
 -- Source: this project's.
-use Rattle.std.specs.Prelude.{ℕ, ◌≡◌, ◌⊎◌, List, Some}
+use Rattle.std.specs.Prelude.{ℕ, ◌≡◌, ◌≤◌, ◌⊎◌, List, Some, length}
 use Rattle.htn_base.specs.Different.{AreDifferent}
 use Rattle.text_forms.specs.Faults.{fault, IsFaultless}
 use Rattle.text_forms.specs.Faults as tokens
@@ -48,7 +48,9 @@ RefusesNames table d (errors.Bad f) = IsDomainRefused table d (bind_errors.Bad f
 
 -- The text of a domain has no fault of tokens or form, and is bound to this over the words of a table.
 pub record IsBoundText (text : List ℕ) (table : Names) (b : BoundDomain) : Type 0 where
+  pub short : length text ≤ 16777216
   pub differ : AreDifferent table
+  pub few : length table ≤ 16777217
   pub d : RawDomain
   pub tokens : IsFaultless text
   pub read : IsDomainOf text table d

@@ -1,4 +1,4 @@
-ghost use Rattle.std.specs.Prelude.{◌≤◌, ◌≡◌, length, IfOk, IfErr};
+ghost use Rattle.std.specs.Prelude.{◌≤◌, ◌≡◌, ◌+◌, [], length, IfOk, IfErr, OnOk};
 ghost use Rattle.htn_base.specs.Different.{AreDifferent};
 ghost use Rattle.gd_reader.specs.Terms.{Keeps};
 ghost use Rattle.bind_types.specs.Cycle.{IsSection};
@@ -19,6 +19,7 @@ pub(crate) fn bound_domain(
     names: &mut NameTable,
 ) -> Result<BoundDomain, ReadError>
     requires short { length text.now ≤ 16777216 }
+    requires empty { names.old ≡ [] }
     ensures bound { IfOk result (IsBoundText text.now names.new) }
     ensures refused { IfErr result (RefusesDomain text.now) }
 {
@@ -38,6 +39,7 @@ fn bound_names(
     ensures bound { IfOk result (IsDomainBound names.new domain) }
     ensures refused { IfErr result (RefusesNames names.new domain) }
     ensures differ { AreDifferent names.new }
+    ensures few { OnOk result (length names.new ≤ length names.old + 1) }
     ensures keeps { Keeps names.old names.new }
 {
     let bound = bind_domain(alloc, names, domain);

@@ -1,4 +1,4 @@
-ghost use Rattle.std.specs.Prelude.{◌≡◌, ◌≤◌, length, IfOk, IfErr, OnOk};
+ghost use Rattle.std.specs.Prelude.{◌≡◌, ◌≤◌, ◌+◌, length, IfOk, IfErr, OnOk};
 ghost use Rattle.htn_base.specs.Different.{AreDifferent};
 ghost use Rattle.text_forms.specs.Faults.{IsFaultless};
 ghost use Rattle.form_grammar.specs.Sections as grammar;
@@ -20,13 +20,25 @@ pub(crate) fn read_domain(
     requires short { length text.now ≤ 16777216 }
     ensures read { IfOk result (ReadsDomain text.now names.old names.new) }
     ensures refused { IfErr result (RefusesForm grammar.domain 0 text.now) }
+    ensures differ { OnOk result (AreDifferent names.new) }
+    ensures few { OnOk result (length names.new ≤ length names.old + length text.now) }
+    ensures keeps { OnOk result (Keeps names.old names.new) }
+{
+    match tokens(alloc, text, 0) {
+        Ok(s) => domain_of(alloc, &s, names),
+        Err(error) => Err(error),
+    }
+}
+
+fn domain_of(alloc: Global, s: &Sexprs<'_>, names: &mut NameTable) -> Result<RawDomain, ReadError>
+    requires faultless { IsFaultless s.now }
+    ensures read { IfOk result (ReadsDomain s.now names.old names.new) }
+    ensures refused { IfErr result (RefusesForm grammar.domain 0 s.now) }
     ensures differ { AreDifferent names.new }
+    ensures few { length names.new ≤ length names.old + length s.now }
     ensures keeps { Keeps names.old names.new }
 {
-    let domain = match tokens(alloc, text, 0) {
-        Ok(s) => domain(alloc, &s, 0, Language::Hddl, names),
-        Err(error) => Err(error),
-    };
+    let domain = domain(alloc, s, 0, Language::Hddl, names);
     differ(names);
     domain
 }
@@ -40,13 +52,25 @@ pub(crate) fn read_problem(
     requires short { length text.now ≤ 16777216 }
     ensures read { IfOk result (ReadsProblem text.now names.old names.new) }
     ensures refused { IfErr result (RefusesForm grammar.problem 1 text.now) }
+    ensures differ { OnOk result (AreDifferent names.new) }
+    ensures few { OnOk result (length names.new ≤ length names.old + length text.now) }
+    ensures keeps { OnOk result (Keeps names.old names.new) }
+{
+    match tokens(alloc, text, 1) {
+        Ok(s) => problem_of(alloc, &s, names),
+        Err(error) => Err(error),
+    }
+}
+
+fn problem_of(alloc: Global, s: &Sexprs<'_>, names: &mut NameTable) -> Result<RawProblem, ReadError>
+    requires faultless { IsFaultless s.now }
+    ensures read { IfOk result (ReadsProblem s.now names.old names.new) }
+    ensures refused { IfErr result (RefusesForm grammar.problem 1 s.now) }
     ensures differ { AreDifferent names.new }
+    ensures few { length names.new ≤ length names.old + length s.now }
     ensures keeps { Keeps names.old names.new }
 {
-    let problem = match tokens(alloc, text, 1) {
-        Ok(s) => problem(alloc, &s, 1, Language::Hddl, names),
-        Err(error) => Err(error),
-    };
+    let problem = problem(alloc, s, 1, Language::Hddl, names);
     differ(names);
     problem
 }
