@@ -56,3 +56,4 @@ pub mod CallSound
 pub mod PartSound
 pub mod MethodSound
 pub mod NetworkSound
+pub mod sound

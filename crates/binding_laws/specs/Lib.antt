@@ -21,3 +21,4 @@ pub mod BoundTypes
 pub mod WholeValues
 pub mod SoundSchemas
 pub mod SoundNetworks
+pub mod SoundValues

@@ -21,6 +21,7 @@ mod networks;
 mod schemas;
 mod texts;
 mod types;
+mod values;
 
 pub use laws::{
     atoms_are_bound, effects_are_bound, formulas_are_bound, lists_are_bound, numbers_are_words,
@@ -32,3 +33,4 @@ pub use networks::{
 pub use schemas::{schemas_are_bound, schemas_are_said, schemas_are_sound};
 pub use texts::{whole_texts_are_bound, whole_texts_are_judged};
 pub use types::{domain_types_are_bound, domain_types_are_said};
+pub use values::bound_values_are_sound;

@@ -1,0 +1,3 @@
+pub mod Acyclic
+pub mod GoodNetworks
+pub mod Ordered
