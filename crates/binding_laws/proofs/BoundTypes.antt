@@ -96,13 +96,13 @@ module _ (names : Names) (object : ℕ) (d : RawDomain) (v : Declared) (kinds : 
   parent_type : (x : RawParam) (t : RawTerm) → Has d.types x → Has x.ty t → IsType names d (term_word names t)
   parent_type x t h i = inr (mention_said names d.types (λ (m : WordAt). m.word ≡ term_word names t) t (mention_back d.types x t h (inr i)) refl)
 
-  in_table : (x : RawParam) → Has d.types x → OfParam (IsNameIn names) false x
+  pub in_table : (x : RawParam) → Has d.types x → OfParam (IsNameIn names) false x
   in_table x h = each_has (OfParam (IsNameIn names) false) d.types x is.words_in h
 
-  own_at : (x : RawParam) → Has d.types x → (own_place kinds.types d.types x < length W) × (word_at W (own_place kinds.types d.types x) ≡ param_word names x)
+  pub own_at : (x : RawParam) → Has d.types x → (own_place kinds.types d.types x < length W) × (word_at W (own_place kinds.types d.types x) ≡ param_word names x)
   own_at x h = placed x.name.number (in_table x h).0 (own_type x h)
 
-  parent_at : (x : RawParam) (t : RawTerm) → Has d.types x → Has x.ty t → (place_of kinds.types t < length W) × (word_at W (place_of kinds.types t) ≡ term_word names t)
+  pub parent_at : (x : RawParam) (t : RawTerm) → Has d.types x → Has x.ty t → (place_of kinds.types t < length W) × (word_at W (place_of kinds.types t) ≡ term_word names t)
   parent_at x t h i = placed t.name.number (each_has (λ (t : RawTerm). IsIn names t.name) x.ty t (in_table x h).1 i) (parent_type x t h i)
 
   -- the one parent that is written

@@ -63,11 +63,11 @@ use Rattle.binding_laws.proofs.WordsInUse.{type_words_are, has_known, predicates
 use Rattle.binding_laws.proofs.Written.{none_right}
 use Rattle.binding_laws.proofs.WrittenFormulas.{IsWritten}
 
-task_words_are : (names : Names) (kinds : Kinds) (hs : List RawHead) → words_of_tasks names (tasks_bound kinds hs) ≡ map (λ (h : RawHead). term_word names h.name) hs
+pub task_words_are : (names : Names) (kinds : Kinds) (hs : List RawHead) → words_of_tasks names (tasks_bound kinds hs) ≡ map (λ (h : RawHead). term_word names h.name) hs
 task_words_are names kinds [] = refl
 task_words_are names kinds (h ∷ hs) = ap (λ ws. term_word names h.name ∷ ws) (task_words_are names kinds hs)
 
-action_words_are : (names : Names) (known : Known) (actions : List RawAction) → words_of_actions names (actions_bound known actions) ≡ map (λ (h : RawHead). term_word names h.name) (heads actions)
+pub action_words_are : (names : Names) (known : Known) (actions : List RawAction) → words_of_actions names (actions_bound known actions) ≡ map (λ (h : RawHead). term_word names h.name) (heads actions)
 action_words_are names known [] = refl
 action_words_are names known (a ∷ actions) = ap (λ ws. term_word names a.head.name ∷ ws) (action_words_are names known actions)
 

@@ -50,21 +50,23 @@ module _ (before left : Names) (d : RawDomain) (p : RawProblem) (is : AreInOrder
   pub parts_none : parts_faults more_known callables p y.cycle ≡ []
   parts_none = none_right (second_objects (objects_declared d.constants) p.objects) (parts_faults more_known callables p y.cycle) ey
 
-  pub top_good : IsGoodNetwork (with_start left) value.top
-  top_good =
+  pub top_none : network_faults callables more_known.objects (top_scope p) p.net y.cycle ≡ []
+  top_none =
       let facts = none_right (params_faults more_known.types p.objects) (facts_faults more_known p.init ++ (formula_faults more_known [] p.goal ++ top_faults more_known callables p y.cycle)) parts_none in
       let goal = none_right (facts_faults more_known p.init) (formula_faults more_known [] p.goal ++ top_faults more_known callables p y.cycle) facts in
       let top = none_right (formula_faults more_known [] p.goal) (top_faults more_known callables p y.cycle) goal in
-      network_good (with_start left) callables more_known.objects (top_scope p) p.net y.cycle value.top (network_in (with_start left) is.differ p.net is.problem.words.net is.problem.net.ids_in_order) is.problem.net y.is_cycle
-      (none_right (params_faults more_known.types p.params) (network_faults callables more_known.objects (top_scope p) p.net y.cycle) top) refl refl
+      none_right (params_faults more_known.types p.params) (network_faults callables more_known.objects (top_scope p) p.net y.cycle) top
+
+  top_good : IsGoodNetwork (with_start left) value.top
+  top_good = network_good (with_start left) callables more_known.objects (top_scope p) p.net y.cycle value.top (network_in (with_start left) is.differ p.net is.problem.words.net is.problem.net.ids_in_order) is.problem.net y.is_cycle top_none refl refl
+
+  pub methods_none : methods_faults known callables d.methods x.cycles ≡ []
+  methods_none =
+      let none = whole.schemas_none before left d p is object of_object x ex start of_start y ey in
+      none_right (actions_faults known d.actions) (methods_faults known callables d.methods x.cycles) (none_right (typed_faults known.types d) (actions_faults known d.actions ++ methods_faults known callables d.methods x.cycles) none)
 
   pub all_good : EachIs (IsGoodNetwork (with_start left)) (all_methods value)
-  all_good =
-      let none = whole.schemas_none before left d p is object of_object x ex start of_start y ey in
-      let behind = none_right (typed_faults known.types d) (actions_faults known d.actions ++ methods_faults known callables d.methods x.cycles) none in (
-        top_good,
-        methods_good (with_start left) callables is.differ known d.methods x.cycles is.domain.words.methods is.domain.methods x.are_cycles (none_right (actions_faults known d.actions) (methods_faults known callables d.methods x.cycles) behind),
-      )
+  all_good = (top_good, methods_good (with_start left) callables is.differ known d.methods x.cycles is.domain.words.methods is.domain.methods x.are_cycles methods_none)
 
   pub ordered : AreOrdered value
   ordered s c =
