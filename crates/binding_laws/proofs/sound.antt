@@ -6,3 +6,6 @@ pub mod TypePairs
 pub mod PlainWords
 pub mod CalledHeads
 pub mod Whole
+pub mod ShortLists
+pub mod FewTypes
+pub mod Limits

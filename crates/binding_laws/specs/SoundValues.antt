@@ -1,21 +1,33 @@
 -- The value that is bound of a domain and a problem without faults is sound, and its networks have no cycle.
 -- Source: this project's.
+use Rattle.std.specs.Prelude.{ℕ, ◌<◌, ◌≤◌, ◌^◌, List, length}
+use Rattle.form_spellings.specs.Places.{IsDomainAt, IsProblemAt}
 use Rattle.gd_reader.specs.Terms.{Names}
 use Rattle.hddl_reader.specs.declared.sections.RawDomain.{RawDomain}
 use Rattle.hddl_reader.specs.declared.sections.RawProblem.{RawProblem}
 use Rattle.plan_model.specs.declared.values.Hddl.{Hddl}
 use Rattle.plan_meaning.specs.Laws.{AreOrdered}
-use Rattle.plan_texts.specs.SoundProblem.{IsWithinLimits, IsSoundProblem}
+use Rattle.plan_texts.specs.SoundProblem.{IsShort, IsSoundProblem}
 use Rattle.hddl_bind.specs.declared.bound_domain.BoundDomain.{BoundDomain}
 use Rattle.hddl_bind.specs.WholeDomains.{IsDomainBound}
 use Rattle.hddl_bind.specs.WholeProblems.{with_start, IsProblemBound}
 use Rattle.binding_laws.specs.WholeFaults.{AreInOrder}
+
+-- The offsets in a domain and a problem are those of tokens of two texts, of at most 16,777,216 bytes each.
+pub record AreOfTexts (names : Names) (d : RawDomain) (p : RawProblem) : Type 0 where
+  pub domain : List ℕ
+  pub problem : List ℕ
+  pub domain_at : IsDomainAt domain names d
+  pub problem_at : IsProblemAt problem names p
+  pub domain_short : length domain ≤ 2 ^ 24
+  pub problem_short : length problem ≤ 2 ^ 24
 
 module _ (before left : Names) (d : RawDomain) (p : RawProblem) where
   -- each pair of a network is of its subtasks, and no chain of pairs leads from a subtask to itself
   abbrev pub IsOrderedBoth : Type 0
   IsOrderedBoth = (b : BoundDomain) (h : Hddl) → AreInOrder before (with_start left) d p → IsDomainBound before d b → IsProblemBound b p left h → AreOrdered h
 
-  -- numbers and words fit together, within the limits of a value
+  -- numbers and words fit together, where the table and the unions are as few as is asked
   abbrev pub IsSoundBoth : Type 0
-  IsSoundBoth = (b : BoundDomain) (h : Hddl) → AreInOrder before (with_start left) d p → IsDomainBound before d b → IsProblemBound b p left h → IsWithinLimits h → IsSoundProblem h
+  IsSoundBoth = (b : BoundDomain) (h : Hddl) → AreInOrder before (with_start left) d p → IsDomainBound before d b → IsProblemBound b p left h
+      → AreOfTexts (with_start left) d p → length left < 2 ^ 26 → IsShort h.types.unions → IsSoundProblem h

@@ -109,7 +109,7 @@ module _ (h : Hddl) (d : RawDomain) (known : Known) (tasks_are : h.tasks ≡ tas
       let behind = none_right (params_faults known.types m.head.params) (call_faults (method_task callables m.task) m.task ++ (terms_faults known.objects scope m.task.args ++ formula_faults known scope m.pre)) front in
       let uses = none_right (order_faults m.net cycle) (flat_map (child_faults callables known.objects scope) m.net.subs ++ flat_map (constraint_faults known.objects scope) m.net.constraints) net in (
         decomposed_sound m.task (none_left (call_faults (method_task callables m.task) m.task) (terms_faults known.objects scope m.task.args ++ formula_faults known scope m.pre) behind)
-        (length (terms_bound known.objects scope m.task.args)) (length-map m.task.args (term_bound known.objects scope)),
+            (length (terms_bound known.objects scope m.task.args)) (length-map m.task.args (term_bound known.objects scope)),
         children_sound known.objects scope m.net.subs (none_left (flat_map (child_faults callables known.objects scope) m.net.subs) (flat_map (constraint_faults known.objects scope) m.net.constraints) uses),
       )
 

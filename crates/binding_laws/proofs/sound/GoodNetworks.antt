@@ -54,6 +54,6 @@ module _ (names : Names) (callables : Declared) where
     methods_good (m ∷ ms) [] is o right e = absurd right
     methods_good (m ∷ ms) (c ∷ cs) is o right e = (
       network_good known.objects (scope_of m.head) m.net c (method_bound known callables m) (network_in names differ m.net is.0.3 o.0.net.ids_in_order) o.0.net right.0
-      (none_right (front_faults known callables m) (network_faults callables known.objects (scope_of m.head) m.net c) (none_left (method_faults known callables m c) (methods_faults known callables ms cs) e)) refl refl,
+          (none_right (front_faults known callables m) (network_faults callables known.objects (scope_of m.head) m.net c) (none_left (method_faults known callables m c) (methods_faults known callables ms cs) e)) refl refl,
       methods_good ms cs is.1 o.1 right.1 (none_right (method_faults known callables m c) (methods_faults known callables ms cs) e),
     )

@@ -74,13 +74,11 @@ use Rattle.plan_model.specs.declared.types.Parent.{Parent}
 use Rattle.plan_model.specs.declared.networks.Head.TheVariants.{Task}
 use Rattle.binding_laws.proofs.sound.Ordered.{parts_none, top_none, methods_none, all_good}
 use Rattle.binding_laws.proofs.sound.GoodNetworks.{IsGoodNetwork}
-use Rattle.binding_laws.specs.SoundValues.{IsSoundBoth}
-use Rattle.binding_laws.specs.WholeValues.{OfAllBound}
 use Rattle.binding_laws.proofs.sound.PlainWords.{constants_differ, predicates_differ, methods_differ, objects_differ, typed_plain, predicates_plain, heads_plain, action_heads, methods_plain, type_plain}
 use Rattle.binding_laws.proofs.sound.TypePairs.{parents_within, has_parent, no_cycle}
 
 -- what holds of each of two lists that go together
-both_each : {X : Type 0} (P Q : X → Type 0) (xs : List X) → EachIs P xs → EachIs Q xs → EachIs (λ x. P x × Q x) xs
+pub both_each : {X : Type 0} (P Q : X → Type 0) (xs : List X) → EachIs P xs → EachIs Q xs → EachIs (λ x. P x × Q x) xs
 both_each P Q [] e f = tt
 both_each P Q (x ∷ xs) e f = ((e.0, f.0), both_each P Q xs e.1 f.1)
 
@@ -309,8 +307,3 @@ module _ (before left : Names) (d : RawDomain) (p : RawProblem) (is : AreInOrder
     networks = each_wider (IsGoodNetwork names) (IsSoundNetwork names) (all_methods value) (λ m g. g.sound) (all_good before left d p is object of_object x ex start of_start y ey);
     limits = within;
   }
-
-pub is_sound_both : OfAllBound IsSoundBoth
-is_sound_both before left d p b h is (object, of_object, (x, ex, same)) (start, of_start, (y, ey, is_value)) =
-    let r = subst (λ b. (y : ProblemBinding b p) × (problem.faults_by b p y ≡ []) × (h ≡ hddl_bound b y.unions p left start)) same (y, ey, is_value) in
-    subst (λ h. IsWithinLimits h → IsSoundProblem h) (sym r.2) (problem_sound before left d p is object of_object x ex start of_start r.0 r.1)

@@ -1,5 +1,5 @@
 use Rattle.binding_laws.proofs.sound.Ordered.{is_ordered_both}
-use Rattle.binding_laws.proofs.sound.Whole.{is_sound_both}
+use Rattle.binding_laws.proofs.sound.Limits.{is_sound_both}
 use Rattle.binding_laws.proofs.values.bound_values_are_sound.Goals as goal
 
 pub returns : goal.returns
