@@ -9,3 +9,5 @@ pub mod Whole
 pub mod ShortLists
 pub mod FewTypes
 pub mod Limits
+pub mod FewUnions
+pub mod ReadValues

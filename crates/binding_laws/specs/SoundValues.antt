@@ -1,12 +1,15 @@
 -- The value that is bound of a domain and a problem without faults is sound, and its networks have no cycle.
 -- Source: this project's.
-use Rattle.std.specs.Prelude.{ℕ, ◌<◌, ◌≤◌, ◌^◌, List, length}
+use Rattle.std.specs.Prelude.{ℕ, ◌<◌, ◌≤◌, ◌+◌, ◌^◌, List, length}
 use Rattle.form_spellings.specs.Places.{IsDomainAt, IsProblemAt}
-use Rattle.gd_reader.specs.Terms.{Names}
+use Rattle.htn_base.specs.Different.{AreDifferent}
+use Rattle.form_spellings.specs.ReadTexts.{AreRead}
+use Rattle.gd_reader.specs.Terms.{Names, Keeps}
 use Rattle.hddl_reader.specs.declared.sections.RawDomain.{RawDomain}
 use Rattle.hddl_reader.specs.declared.sections.RawProblem.{RawProblem}
 use Rattle.plan_model.specs.declared.values.Hddl.{Hddl}
 use Rattle.plan_meaning.specs.Laws.{AreOrdered}
+use Rattle.plan_texts.specs.FirstSeen.{IsHddlOf}
 use Rattle.plan_texts.specs.SoundProblem.{IsShort, IsSoundProblem}
 use Rattle.hddl_bind.specs.declared.bound_domain.BoundDomain.{BoundDomain}
 use Rattle.hddl_bind.specs.WholeDomains.{IsDomainBound}
@@ -31,3 +34,27 @@ module _ (before left : Names) (d : RawDomain) (p : RawProblem) where
   abbrev pub IsSoundBoth : Type 0
   IsSoundBoth = (b : BoundDomain) (h : Hddl) → AreInOrder before (with_start left) d p → IsDomainBound before d b → IsProblemBound b p left h
       → AreOfTexts (with_start left) d p → length left < 2 ^ 26 → IsShort h.types.unions → IsSoundProblem h
+
+-- the value of two texts has no more unions than the texts have bytes
+abbrev pub HasFewUnions : Type 0
+HasFewUnions = (domain problem : List ℕ) (h : Hddl) → IsHddlOf domain problem h → length h.types.unions ≤ length domain + length problem
+
+-- A value of two texts of at most 16,777,216 bytes each: a domain and a problem were read of them and bound, with so many words at most.
+pub record IsBoundOf (domain problem : List ℕ) (h : Hddl) : Type 0 where
+  pub domain_short : length domain ≤ 16777216
+  pub problem_short : length problem ≤ 16777216
+  pub d : RawDomain
+  pub p : RawProblem
+  pub before : Names
+  pub left : Names
+  pub read : AreRead domain problem (with_start left) d p
+  pub differ : AreDifferent (with_start left)
+  pub keeps : Keeps before (with_start left)
+  pub few_words : length left < 2 ^ 26
+  pub b : BoundDomain
+  pub domain_bound : IsDomainBound before d b
+  pub problem_bound : IsProblemBound b p left h
+
+-- such a value that the texts spell, in their order, is sound, and its networks have no cycle
+abbrev pub ReadValuesAreSound : Type 0
+ReadValuesAreSound = (domain problem : List ℕ) (h : Hddl) → IsBoundOf domain problem h → IsHddlOf domain problem h → IsSoundProblem h × AreOrdered h

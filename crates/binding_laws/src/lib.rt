@@ -33,4 +33,4 @@ pub use networks::{
 pub use schemas::{schemas_are_bound, schemas_are_said, schemas_are_sound};
 pub use texts::{whole_texts_are_bound, whole_texts_are_judged};
 pub use types::{domain_types_are_bound, domain_types_are_said};
-pub use values::bound_values_are_sound;
+pub use values::{bound_values_are_sound, read_values_are_sound};

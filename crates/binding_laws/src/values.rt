@@ -1,9 +1,21 @@
 // Laws of what is asked of the value of a whole domain and a whole problem.
-ghost use Rattle.binding_laws.specs.SoundValues.{IsOrderedBoth, IsSoundBoth};
+ghost use Rattle.binding_laws.specs.SoundValues.{HasFewUnions, IsOrderedBoth, IsSoundBoth, ReadValuesAreSound};
 ghost use Rattle.binding_laws.specs.WholeValues.{OfAllBound};
 
-/// The value that is bound of a domain and a problem is sound, and its networks have no cycle.
+use form_spellings::{places_are_those_of_tokens, what_is_read_is_in_order};
+
+/// The value that is bound of a domain and a problem that were read of two short texts is sound, and its networks have no cycle. It
+/// has no more unions than the texts have bytes.
 pub fn bound_values_are_sound()
     ensures ordered { OfAllBound IsOrderedBoth }
     ensures sound { OfAllBound IsSoundBoth }
+    ensures unions { HasFewUnions }
 {}
+
+/// The value of two texts that were read and bound, and that spell it, is sound, and its networks have no cycle.
+pub fn read_values_are_sound()
+    ensures { ReadValuesAreSound }
+{
+    places_are_those_of_tokens();
+    what_is_read_is_in_order();
+}

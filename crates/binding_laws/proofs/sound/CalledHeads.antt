@@ -1,8 +1,7 @@
 -- What subtasks and methods without faults call: declared tasks and actions, with as many terms as parameters.
 use Rattle.std.proofs.Common.{ℕ, zero, suc, ◌≡◌, ◌+◌, inl, inr, List, [], ◌∷◌, ◌++◌, map, length, Option, Some, None, refl, sym, ap, subst, ◌∙◌, arith}
-use Rattle.std.specs.Prelude.{◌⊎◌, slice_get, flat_map}
+use Rattle.std.specs.Prelude.{slice_get, flat_map}
 use Rattle.std.proofs.lemmas.List.{length-map}
-use Rattle.std.proofs.lemmas.Option.{slice_get-map}
 use Rattle.gd_reader.specs.declared.term.RawAtom.{RawAtom}
 use Rattle.hddl_reader.specs.declared.networks.RawSub.{RawSub}
 use Rattle.hddl_reader.specs.declared.sections.RawAction.{RawAction}
@@ -12,9 +11,7 @@ use Rattle.hddl_reader.specs.declared.sections.RawMethod.{RawMethod}
 use Rattle.plan_model.specs.declared.networks.Child.{Child}
 use Rattle.plan_model.specs.declared.networks.Head.{Head}
 use Rattle.plan_model.specs.declared.networks.Head.TheVariants.{Task, Action, Check}
-use Rattle.plan_model.specs.declared.schemas.ActionSchema.{ActionSchema}
 use Rattle.plan_model.specs.declared.schemas.MethodSchema.{MethodSchema}
-use Rattle.plan_model.specs.declared.schemas.TaskSchema.{TaskSchema}
 use Rattle.plan_model.specs.declared.values.Hddl.{Hddl}
 use Rattle.plan_texts.specs.SoundValue.{IsSoundHead}
 use Rattle.plan_texts.specs.Together.{Together}

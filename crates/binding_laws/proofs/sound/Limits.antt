@@ -1,5 +1,5 @@
 -- The value of two short texts is within its limits.
-use Rattle.std.proofs.Common.{ℕ, suc, ◌≡◌, ◌<◌, ◌≤◌, ◌+◌, ◌^◌, Bool, true, false, cond, inl, inr, List, [], ◌∷◌, ◌++◌, map, length, refl, sym, ap, subst, ◌∙◌, length-append, arith}
+use Rattle.std.proofs.Common.{ℕ, ◌≡◌, ◌<◌, ◌≤◌, ◌+◌, ◌^◌, Bool, true, false, cond, List, [], ◌∷◌, ◌++◌, map, length, sym, ap, subst, length-append, arith}
 use Rattle.std.specs.Prelude.{codes}
 use Rattle.std.specs.List.{list_any}
 use Rattle.std.specs.Str.{bytes_eq}
@@ -30,7 +30,6 @@ use Rattle.form_spellings.specs.Rising.{Rise, param_offsets, head_offsets}
 use Rattle.name_faults.specs.Faults.{HasDomainFault}
 use Rattle.bind_types.specs.Kinds.{Kinds}
 use Rattle.bind_types.specs.Listed.{name_of}
-use Rattle.bind_types.specs.Mentions.{mentioned}
 use Rattle.bind_types.specs.TooMany.{HaveOneWordAPlace}
 use Rattle.bind_types.specs.Typed.{params_bound, param_bound, object_bound, objects_bound}
 use Rattle.bind_formulas.specs.declared.known.Known.{Known}

@@ -1,12 +1,10 @@
 -- The networks of the value of a domain and a problem without faults: sound, and without a cycle.
-use Rattle.std.proofs.Common.{ℕ, ◌≡◌, List, [], ◌∷◌, ◌++◌, length, refl, sym, subst, Contains}
-use Rattle.task_networks.specs.Order.{ArePairsOf}
+use Rattle.std.proofs.Common.{ℕ, ◌≡◌, [], ◌++◌, length, refl, sym, subst}
 use Rattle.gd_reader.specs.Terms.{Names}
 use Rattle.hddl_reader.specs.declared.sections.RawDomain.{RawDomain}
 use Rattle.hddl_reader.specs.declared.sections.RawProblem.{RawProblem}
 use Rattle.plan_meaning.specs.Laws.{AreOrdered}
-use Rattle.plan_model.specs.Pairs.{Pairs, pair}
-use Rattle.plan_model.specs.declared.schemas.MethodSchema.{MethodSchema}
+use Rattle.plan_model.specs.Pairs.{pair}
 use Rattle.plan_model.specs.declared.values.Hddl.{Hddl}
 use Rattle.plan_texts.specs.SoundProblem.{NamesSubtasks, all_methods}
 use Rattle.plan_texts.specs.Types.{EachIs}
@@ -30,7 +28,7 @@ use Rattle.binding_laws.specs.WholeFaults.{AreInOrder}
 use Rattle.binding_laws.specs.WholeValues.{OfAllBound}
 use Rattle.binding_laws.proofs.FromOrder.{network_in}
 use Rattle.binding_laws.proofs.WholeValues as whole
-use Rattle.binding_laws.proofs.Written.{none_left, none_right}
+use Rattle.binding_laws.proofs.Written.{none_right}
 use Rattle.binding_laws.proofs.sound.GoodNetworks.{IsGoodNetwork, network_good, methods_good}
 
 module _ (before left : Names) (d : RawDomain) (p : RawProblem) (is : AreInOrder before (with_start left) d p) (object : ℕ) (of_object : IsObject before object) (x : DomainBinding object d) (ex : faults_by object d x ≡ [])

@@ -1,7 +1,5 @@
 -- The words of what is declared without faults are names, and differ where they share a space.
-use Rattle.std.proofs.Common.{ℕ, ◌≡◌, ◌<◌, ◌≤◌, false, true, inl, inr, List, [], ◌∷◌, ◌++◌, map, length, refl, sym, ap, subst, ◌∙◌}
-use Rattle.std.specs.Prelude.{codes, Contains}
-use Rattle.std.proofs.lemmas.List.{map-append}
+use Rattle.std.proofs.Common.{ℕ, ◌≡◌, inl, inr, List, [], ◌∷◌, ◌++◌, map, refl, sym, ap, subst}
 use Rattle.htn_base.specs.Different.{AreDifferent}
 use Rattle.text_forms.specs.Words.{Word}
 use Rattle.gd_reader.specs.Terms.{Names}
@@ -25,7 +23,7 @@ use Rattle.bind_networks.specs.Callables.{heads}
 use Rattle.binding_laws.specs.InOrder.{IsTypedName, IsPlainName, IsPredicateInOrder, IsHeadInOrder, IsMethodInOrder, IsActionInOrder, IsDomainInOrder, IsProblemInOrder}
 use Rattle.binding_laws.proofs.NoSeconds.{words_differ, rising_differ, new, at_of, word_of}
 use Rattle.binding_laws.proofs.Numbered.{contains_has, has_contains, has_of_map}
-use Rattle.binding_laws.proofs.Ones.{one_has, has_one, has_each}
+use Rattle.binding_laws.proofs.Ones.{one_has}
 
 -- words that differ, behind others that differ and have none of them
 pub differ_behind : (us ws : List Word) → AreDifferent us → AreDifferent ws → ((w : Word) → Has us w → Has ws w → ⊥) → AreDifferent (us ++ ws)

@@ -1,5 +1,5 @@
 -- A list whose offsets rise and lie in a text has at most as many items as the text has bytes.
-use Rattle.std.proofs.Common.{ℕ, zero, suc, ◌≡◌, ◌<◌, ◌≤◌, ◌+◌, inl, inr, List, [], ◌∷◌, map, length, get_or, subst, arith, Contains}
+use Rattle.std.proofs.Common.{ℕ, suc, ◌<◌, ◌≤◌, ◌+◌, inl, inr, List, [], ◌∷◌, map, length, get_or, subst, arith}
 use Rattle.std.proofs.lemmas.List.{length-map}
 use Rattle.text_forms.specs.Tokens.{Lexeme, spells, lexemes}
 use Rattle.text_forms.specs.Words.{Word}

@@ -1,8 +1,7 @@
 -- The pairs of types and parents of a domain without faults: of types that there are, one for each but object, and without a cycle.
-use Rattle.std.proofs.Common.{ℕ, zero, suc, ◌≡◌, ◌<◌, ◌≤◌, inl, inr, List, [], ◌∷◌, ◌++◌, map, length, refl, sym, ap, subst, ◌∙◌, append_assoc, append-nil, arith, Contains}
+use Rattle.std.proofs.Common.{ℕ, ◌≡◌, ◌<◌, ◌≤◌, inl, inr, List, [], ◌∷◌, ◌++◌, map, length, refl, sym, ap, subst, ◌∙◌, append_assoc, append-nil, arith}
 use Rattle.std.specs.Prelude.{◌⊎◌, flat_map, codes}
 use Rattle.std.proofs.lemmas.List.Concat.{flat_map-append}
-use Rattle.std.proofs.lemmas.List.Elements.{Contains-append_right, Contains-append_left}
 use Rattle.task_networks.specs.Order.{Precedes, direct, through, IsAcyclic}
 use Rattle.task_networks.proofs.Orders.{precedes_then}
 use Rattle.text_forms.specs.Words.{Word, word_at}
@@ -18,18 +17,17 @@ use Rattle.plan_model.specs.declared.types.Parent.{Parent}
 use Rattle.plan_texts.specs.Types as plan
 use Rattle.plan_texts.specs.Types.{EachIs}
 use Rattle.plan_texts.proofs.Members.{contains-has}
-use Rattle.name_faults.specs.Lists.{One, Has}
+use Rattle.name_faults.specs.Lists.{Has}
 use Rattle.name_faults.specs.Types.{IsParent, Leads, ClosesCycle, TypeCycle}
 use Rattle.name_faults.specs.Types as words
 use Rattle.name_faults.specs.Words.{term_word, param_word}
-use Rattle.bind_types.specs.Kinds.{Kinds}
 use Rattle.bind_types.specs.Parents.{parent, place_of, parents_written, pairs_in_order}
 use Rattle.binding_laws.specs.InOrder.{IsTypedName}
 use Rattle.binding_laws.proofs.BoundTypes.{plan_has, has_plan}
 use Rattle.binding_laws.proofs.Lists.{append_there, flat_back}
 use Rattle.binding_laws.proofs.NoTypeCycle.{none_closes}
 use Rattle.binding_laws.proofs.Numbered.{contains_has, has_contains, has_of_map, has_to_map}
-use Rattle.binding_laws.proofs.Ones.{one_has, has_one, each_has, has_each, one_mapped}
+use Rattle.binding_laws.proofs.Ones.{one_has, has_one, each_has}
 use Rattle.binding_laws.proofs.TypePairs.{own_place, IsWritten, IsPair, pair_there, pair_back, written_there, written_back}
 use Rattle.binding_laws.proofs.sound.GoodUnions.{or_first}
 

@@ -1,5 +1,5 @@
 -- The value of a domain and a problem without faults is sound.
-use Rattle.std.proofs.Common.{ℕ, ◌≡◌, ◌<◌, ◌≤◌, Bool, true, false, inl, inr, List, [], ◌∷◌, ◌++◌, map, length, Some, refl, sym, ap, subst, ◌∙◌, length-append, arith}
+use Rattle.std.proofs.Common.{ℕ, ◌≡◌, ◌<◌, ◌≤◌, Bool, true, false, List, [], ◌∷◌, ◌++◌, map, length, refl, sym, ap, subst, ◌∙◌, length-append, arith}
 use Rattle.std.specs.Prelude.{codes, flat_map}
 use Rattle.std.proofs.lemmas.List.{map-append, length-map}
 use Rattle.htn_base.specs.Different.{AreDifferent}
@@ -10,7 +10,6 @@ use Rattle.gd_reader.specs.declared.typed_lists.RawParam.{RawParam}
 use Rattle.hddl_reader.specs.declared.sections.Language.TheVariants as language
 use Rattle.hddl_reader.specs.declared.sections.RawDomain.{RawDomain}
 use Rattle.hddl_reader.specs.declared.sections.RawHead.{RawHead}
-use Rattle.hddl_reader.specs.declared.sections.RawAction.{RawAction}
 use Rattle.hddl_reader.specs.declared.sections.RawMethod.{RawMethod}
 use Rattle.hddl_reader.specs.declared.sections.RawProblem.{RawProblem}
 use Rattle.plan_model.specs.declared.networks.Child.{Child}
@@ -21,9 +20,9 @@ use Rattle.plan_model.specs.declared.values.Hddl.{Hddl}
 use Rattle.plan_texts.specs.Declared as words
 use Rattle.plan_texts.specs.Declared.{named}
 use Rattle.plan_texts.specs.Printable.{IsPlain, IsUnion, HasWords, IsInForce}
-use Rattle.plan_texts.specs.SoundValue.{arities, IsSoundHead, IsSoundChild, IsSoundMethod, IsSoundHddl}
+use Rattle.plan_texts.specs.SoundValue.{arities, IsSoundHead, IsSoundMethod, IsSoundHddl}
 use Rattle.plan_texts.specs.SoundProblem.{all_methods, IsSoundNetwork, IsSoundProblem, IsWithinLimits}
-use Rattle.plan_texts.specs.SpellsHddl.{hddl_types, hddl_words, task_words, action_words, words_of_tasks, words_of_actions}
+use Rattle.plan_texts.specs.SpellsHddl.{hddl_types, hddl_words, task_words, action_words}
 use Rattle.plan_texts.specs.Types as plan
 use Rattle.plan_texts.specs.Types.{EachIs}
 use Rattle.plan_texts.proofs.Members.{has-at}
@@ -36,16 +35,12 @@ use Rattle.bind_types.specs.Kinds.{Kinds, kind_bound}
 use Rattle.bind_types.specs.Listed.{name_of}
 use Rattle.bind_types.specs.Typed.{object_bound, objects_bound, param_bound}
 use Rattle.bind_formulas.specs.declared.known.Known.{Known}
-use Rattle.bind_formulas.specs.Formulas.{formula_faults}
-use Rattle.bind_types.specs.Typed.{params_faults}
 use Rattle.bind_networks.specs.Callables.{Declared, heads}
 use Rattle.bind_networks.specs.Cycle.{order_faults}
-use Rattle.bind_networks.specs.Networks.{child_faults, constraint_faults, network_faults}
-use Rattle.hddl_bind.specs.Actions.{actions_faults}
+use Rattle.bind_networks.specs.Networks.{child_faults, constraint_faults}
 use Rattle.hddl_bind.specs.DeclaredNames.{heads_declared}
 use Rattle.hddl_bind.specs.DomainSchemas.{schemas_bound}
-use Rattle.hddl_bind.specs.Facts.{facts_faults}
-use Rattle.hddl_bind.specs.Methods.{methods_bound, methods_faults}
+use Rattle.hddl_bind.specs.Methods.{methods_bound}
 use Rattle.hddl_bind.specs.ProblemParts.{top_scope, parts_bound}
 use Rattle.hddl_bind.specs.Schemas.{predicates_bound, task_bound, tasks_bound}
 use Rattle.hddl_bind.specs.WholeDomains.{DomainBinding, IsObject, bound_by, faults_by}
@@ -59,7 +54,6 @@ use Rattle.binding_laws.specs.SoundSchemas.{IsSoundBody, AreSchemasSound, ArePar
 use Rattle.binding_laws.specs.WholeFaults.{AreInOrder}
 use Rattle.binding_laws.proofs.BoundTypes.{own_at, parent_at}
 use Rattle.binding_laws.proofs.Ones.{each_wider, each_has, has_each, each_both, each_mapped, differ_mapped}
-use Rattle.binding_laws.proofs.BoundTypes.{has_plan}
 use Rattle.binding_laws.proofs.PartSound.{has_sound_schemas, has_sound_parts}
 use Rattle.binding_laws.proofs.Places.{same_number}
 use Rattle.binding_laws.proofs.TypeWords.{has_types}
@@ -74,7 +68,7 @@ use Rattle.plan_model.specs.declared.types.Parent.{Parent}
 use Rattle.plan_model.specs.declared.networks.Head.TheVariants.{Task}
 use Rattle.binding_laws.proofs.sound.Ordered.{parts_none, top_none, methods_none, all_good}
 use Rattle.binding_laws.proofs.sound.GoodNetworks.{IsGoodNetwork}
-use Rattle.binding_laws.proofs.sound.PlainWords.{constants_differ, predicates_differ, methods_differ, objects_differ, typed_plain, predicates_plain, heads_plain, action_heads, methods_plain, type_plain}
+use Rattle.binding_laws.proofs.sound.PlainWords.{predicates_differ, methods_differ, objects_differ, typed_plain, predicates_plain, heads_plain, action_heads, methods_plain, type_plain}
 use Rattle.binding_laws.proofs.sound.TypePairs.{parents_within, has_parent, no_cycle}
 
 -- what holds of each of two lists that go together
