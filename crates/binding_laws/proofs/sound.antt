@@ -11,3 +11,4 @@ pub mod FewTypes
 pub mod Limits
 pub mod FewUnions
 pub mod ReadValues
+pub mod FewWords

@@ -1,8 +1,10 @@
 -- The value that is bound of a domain and a problem without faults is sound, and its networks have no cycle.
 -- Source: this project's.
-use Rattle.std.specs.Prelude.{ℕ, ◌<◌, ◌≤◌, ◌+◌, ◌^◌, List, length}
+use Rattle.std.specs.Prelude.{ℕ, ◌<◌, ◌≤◌, ◌+◌, ◌^◌, List, [], length, codes}
 use Rattle.form_spellings.specs.Places.{IsDomainAt, IsProblemAt}
 use Rattle.htn_base.specs.Different.{AreDifferent}
+use Rattle.htn_base.specs.Table.{with_word}
+use Rattle.gd_reader.specs.Added.{AddsOf}
 use Rattle.form_spellings.specs.ReadTexts.{AreRead}
 use Rattle.gd_reader.specs.Terms.{Names, Keeps}
 use Rattle.hddl_reader.specs.declared.sections.RawDomain.{RawDomain}
@@ -58,3 +60,16 @@ pub record IsBoundOf (domain problem : List ℕ) (h : Hddl) : Type 0 where
 -- such a value that the texts spell, in their order, is sound, and its networks have no cycle
 abbrev pub ReadValuesAreSound : Type 0
 ReadValuesAreSound = (domain problem : List ℕ) (h : Hddl) → IsBoundOf domain problem h → IsHddlOf domain problem h → IsSoundProblem h × AreOrdered h
+
+-- The words of a problem are put behind those of its domain and the word object, and the table began empty.
+pub record IsTableOf (domain problem : List ℕ) (left : Names) : Type 0 where
+  pub behind : Names
+  pub domain_adds : AddsOf domain [] behind
+  pub behind_differ : AreDifferent behind
+  pub problem_adds : AddsOf problem (with_word behind (codes "object")) left
+  pub left_differ : AreDifferent left
+
+-- each text adds at most one word for each of its tokens
+abbrev pub TablesAreFew : Type 0
+TablesAreFew = (domain problem : List ℕ) (left : Names) → length domain ≤ 16777216 → length problem ≤ 16777216
+    → IsTableOf domain problem left → length left < 2 ^ 26

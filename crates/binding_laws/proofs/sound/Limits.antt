@@ -55,7 +55,7 @@ use Rattle.binding_laws.proofs.sound.ShortLists.{word_within, few_items}
 use Rattle.binding_laws.proofs.sound.Whole.{both_each, problem_sound}
 
 -- one word more at most
-one_longer : (ws : Names) (w : Word) → length (with_word ws w) ≤ length ws + 1
+pub one_longer : (ws : Names) (w : Word) → length (with_word ws w) ≤ length ws + 1
 one_longer ws w = go (list_any (bytes_eq w) ws)
   where
     go : (b : Bool) → length (cond b ws (ws ++ w ∷ [])) ≤ length ws + 1
