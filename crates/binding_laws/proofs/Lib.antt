@@ -57,3 +57,4 @@ pub mod PartSound
 pub mod MethodSound
 pub mod NetworkSound
 pub mod seen
+pub mod sound

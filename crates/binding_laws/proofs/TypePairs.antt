@@ -31,14 +31,14 @@ module _ (types : List ℕ) (xs : List RawParam) where
   behind_back : (child p : ℕ) (x : RawParam) → own_place x ≡ child → (t : RawTerm) → Has x.ty t → place_of types t ≡ p → Has (parents_behind types child x) p
   behind_back child p x e t h f = subst (λ b. Has (cond b (map (place_of types) x.ty) []) p) (sym (eq-eqb child (own_place x) (sym e))) (has_to_map (place_of types) x.ty p (has_one (λ t. place_of types t ≡ p) x.ty t h f))
 
-  written_there : (child p : ℕ) → Has (parents_written types xs child) p → IsWritten child p
+  pub written_there : (child p : ℕ) → Has (parents_written types xs child) p → IsWritten child p
   written_there child p h =
       let o = flat_there (parents_behind types child) xs p (seen_there [] (flat_map (parents_behind types child) xs) p h) in
       let x = one_has (λ x. Has (parents_behind types child x) p) xs o in
       let r = behind_there child p x.0 x.2 in
       (x.0, x.1, r.0, r.1)
 
-  written_back : (child p : ℕ) → IsWritten child p → Has (parents_written types xs child) p
+  pub written_back : (child p : ℕ) → IsWritten child p → Has (parents_written types xs child) p
   written_back child p (x, h, e, (t, i, f)) =
       elim (seen_back [] (flat_map (parents_behind types child) xs) p (flat_back (parents_behind types child) xs p (has_one (λ x. Has (parents_behind types child x) p) xs x h (behind_back child p x e t i f)))) [
         | inl none ↦ absurd none

@@ -63,11 +63,11 @@ use Rattle.binding_laws.proofs.WordsInUse.{type_words_are, has_known, predicates
 use Rattle.binding_laws.proofs.Written.{none_right}
 use Rattle.binding_laws.proofs.WrittenFormulas.{IsWritten}
 
-task_words_are : (names : Names) (kinds : Kinds) (hs : List RawHead) → words_of_tasks names (tasks_bound kinds hs) ≡ map (λ (h : RawHead). term_word names h.name) hs
+pub task_words_are : (names : Names) (kinds : Kinds) (hs : List RawHead) → words_of_tasks names (tasks_bound kinds hs) ≡ map (λ (h : RawHead). term_word names h.name) hs
 task_words_are names kinds [] = refl
 task_words_are names kinds (h ∷ hs) = ap (λ ws. term_word names h.name ∷ ws) (task_words_are names kinds hs)
 
-action_words_are : (names : Names) (known : Known) (actions : List RawAction) → words_of_actions names (actions_bound known actions) ≡ map (λ (h : RawHead). term_word names h.name) (heads actions)
+pub action_words_are : (names : Names) (known : Known) (actions : List RawAction) → words_of_actions names (actions_bound known actions) ≡ map (λ (h : RawHead). term_word names h.name) (heads actions)
 action_words_are names known [] = refl
 action_words_are names known (a ∷ actions) = ap (λ ws. term_word names a.head.name ∷ ws) (action_words_are names known actions)
 
@@ -81,88 +81,88 @@ words_are names (h ∷ hs) = ap (λ ws. term_word names h.name ∷ ws) (words_ar
 
 module _ (before left : Names) (d : RawDomain) (p : RawProblem) (is : AreInOrder before (with_start left) d p) (object : ℕ) (of_object : IsObject before object) (x : DomainBinding object d) (ex : faults_by object d x ≡ [])
     (start : ℕ) (of_start : IsStart (with_start left) start) (y : ProblemBinding (bound_by object d x) p) (ey : problem.faults_by (bound_by object d x) p y ≡ []) where
-  abbrev names : Names
+  abbrev pub names : Names
   names = with_start left
 
-  abbrev kinds : Kinds
+  abbrev pub kinds : Kinds
   kinds = x.kinds
 
   -- with the unions of the problem too
-  abbrev all_kinds : Kinds
+  abbrev pub all_kinds : Kinds
   all_kinds = record { types = kinds.types; unions = y.unions }
 
-  abbrev callables : Declared
+  abbrev pub callables : Declared
   callables = declared d.tasks d.actions
 
-  abbrev known : Known
+  abbrev pub known : Known
   known = known_in kinds d
 
-  abbrev more_known : Known
+  abbrev pub more_known : Known
   more_known = known_with known y.unions p
 
-  abbrev parents : List Parent
+  abbrev pub parents : List Parent
   parents = pairs_in_order kinds.types d.types
 
-  abbrev value : Hddl
+  abbrev pub value : Hddl
   value = hddl_bound (bound_by object d x) y.unions p left start
 
-  abbrev own : List Object
+  abbrev pub own : List Object
   own = objects_bound all_kinds false p.objects
 
-  abbrev constant_objects : List Object
+  abbrev pub constant_objects : List Object
   constant_objects = objects_bound kinds true d.constants
 
-  abbrev dw : words.Declared
+  abbrev pub dw : words.Declared
   dw = domain_words (hddl_domain value constant_objects)
 
-  abbrev pw : words.Declared
+  abbrev pub pw : words.Declared
   pw = hddl_words value
 
-  in_types : AreTypesIn names object d.types
+  pub in_types : AreTypesIn names object d.types
   in_types = types_in before names d p is object of_object
 
-  of : AreTypesOf names d kinds
+  pub of : AreTypesOf names d kinds
   of = types_are before names d p is object of_object x
 
-  no_domain : HasNoFault (HasDomainFault language.Hddl names d)
+  pub no_domain : HasNoFault (HasDomainFault language.Hddl names d)
   no_domain = domain_none before names d p is object of_object x ex
 
-  no_problem : HasNoFault (HasProblemFault names d p)
+  pub no_problem : HasNoFault (HasProblemFault names d p)
   no_problem = problem_none before names d p is object of_object x y ey
 
-  abbrev rest : List Word
+  abbrev pub rest : List Word
   rest = first_seen (codes "object" ∷ []) (map (term_word names) x.are_kinds.types.0)
 
-  first : words_of names kinds.types ≡ codes "object" ∷ rest
+  pub first : words_of names kinds.types ≡ codes "object" ∷ rest
   first = ap (words_of names) x.are_kinds.types.2 ∙ has_types_in_order names object d x.are_kinds.types.0 in_types x.are_kinds.types.1
 
-  more : (more : List (List ℕ)) × (y.unions ≡ kinds.unions ++ more)
+  pub more : (more : List (List ℕ)) × (y.unions ≡ kinds.unions ++ more)
   more = old_in_front (problem_unions kinds p) kinds.unions y.unions y.are_unions
 
-  numbered : AreNumberedIn names kinds (InDomain names d)
+  pub numbered : AreNumberedIn names kinds (InDomain names d)
   numbered =
       numbered_in_domain names d kinds of [] (domain_unions (record { types = kinds.types; unions = [] }) d)
       (found_stands (domain_unions (record { types = kinds.types; unions = [] }) d) [] kinds.unions x.are_kinds.unions) no_domain (in_domain names (record { types = kinds.types; unions = [] }) d is.domain)
 
-  of_all : AreTypesOf names d all_kinds
+  pub of_all : AreTypesOf names d all_kinds
   of_all = record { differ = of.differ; known = of.known; words = of.words }
 
-  same_written : (found : List Either) (z : RawParam) → IsWritten names kinds found z ⊎ (AreTermsIn names z.ty × (length z.ty ≤ 1)) → IsWritten names (record { types = kinds.types; unions = kinds.unions }) found z ⊎ (AreTermsIn names z.ty × (length z.ty ≤ 1))
+  pub same_written : (found : List Either) (z : RawParam) → IsWritten names kinds found z ⊎ (AreTermsIn names z.ty × (length z.ty ≤ 1)) → IsWritten names (record { types = kinds.types; unions = kinds.unions }) found z ⊎ (AreTermsIn names z.ty × (length z.ty ≤ 1))
   same_written found z (inl w) = inl (record { types_in = w.types_in; once = w.once; unions = w.unions })
   same_written found z (inr s) = inr s
 
-  all_numbered : AreNumberedIn names all_kinds (InProblem names p)
+  pub all_numbered : AreNumberedIn names all_kinds (InProblem names p)
   all_numbered =
       numbered_in_problem names d all_kinds of_all kinds.unions (problem_unions kinds p)
       (found_stands (problem_unions kinds p) kinds.unions y.unions y.are_unions) p no_problem (λ here z s. same_written (problem_unions kinds p) z (in_problem names kinds p is.problem here z s))
 
-  apart : AreDifferent (called_words names d callables (tasks_and_actions d))
+  pub apart : AreDifferent (called_words names d callables (tasks_and_actions d))
   apart =
       subst AreDifferent (words_are names (tasks_and_actions d))
       (words_differ [] (map (head_at names) (tasks_and_actions d)) (λ at s. no_domain at 10 (HasDomainFault.duplicate_name (DuplicateInDomain.task_or_action s)))
       (subst AreDifferent (sym (offsets_are names (tasks_and_actions d))) is.domain.callables_apart))
 
-  up : AreLookedUp names d (constants names d) known callables dw
+  pub up : AreLookedUp names d (constants names d) known callables dw
   up = record {
     known_is = known_of names is.differ d is.domain kinds of;
     callables_are = callables_of names is.differ d is.domain;
@@ -170,7 +170,7 @@ module _ (before left : Names) (d : RawDomain) (p : RawProblem) (is : AreInOrder
     apart = apart;
   }
 
-  up_all : AreLookedUp names d (objects names d p) more_known callables pw
+  pub up_all : AreLookedUp names d (objects names d p) more_known callables pw
   up_all = record {
     known_is = known_is names d is.domain kinds of y.unions p is.problem;
     callables_are = callables_of names is.differ d is.domain;
@@ -178,32 +178,32 @@ module _ (before left : Names) (d : RawDomain) (p : RawProblem) (is : AreInOrder
     apart = apart;
   }
 
-  schemas_none : schemas_faults known callables d x.cycles ≡ []
+  pub schemas_none : schemas_faults known callables d x.cycles ≡ []
   schemas_none = none_right (second_names d) (schemas_faults known callables d x.cycles) (none_right x.types (second_names d ++ schemas_faults known callables d x.cycles) ex)
 
-  schemas : AreSchemasBound names d (constants names d) known callables dw (schemas_bound known callables d)
+  pub schemas : AreSchemasBound names d (constants names d) known callables dw (schemas_bound known callables d)
   schemas = has_bound_schemas names d (constants names d) known callables dw x.cycles up is.domain numbered x.are_cycles schemas_none
 
-  named_start : named names (name_of start) ≡ codes "htn_start"
+  pub named_start : named names (name_of start) ≡ codes "htn_start"
   named_start = (number_is names (codes "htn_start") start of_start).1
 
-  parts : ArePartsBound names d (objects names d p) more_known callables pw p (parts_bound more_known callables (name_of start) (length (tasks_bound kinds d.tasks)) p)
+  pub parts : ArePartsBound names d (objects names d p) more_known callables pw p (parts_bound more_known callables (name_of start) (length (tasks_bound kinds d.tasks)) p)
   parts =
       has_bound_parts names d (objects names d p) more_known callables pw (name_of start) (length (tasks_bound kinds d.tasks)) p y.cycle up_all is.problem all_numbered named_start (length-map d.tasks (task_bound kinds))
       (none_right (second_objects (objects_declared d.constants) p.objects) (parts_faults more_known callables p y.cycle) ey)
 
-  tasks_said : task_words names d (constants names d) known callables dw ≡ words_of_tasks names (tasks_bound kinds d.tasks)
+  pub tasks_said : task_words names d (constants names d) known callables dw ≡ words_of_tasks names (tasks_bound kinds d.tasks)
   tasks_said = sym (task_words_are names kinds d.tasks)
 
-  actions_said : action_words names d (constants names d) known callables dw ≡ words_of_actions names (actions_bound known d.actions)
+  pub actions_said : action_words names d (constants names d) known callables dw ≡ words_of_actions names (actions_bound known d.actions)
   actions_said = sym (action_words_are names known d.actions)
 
-  domain_types : AreBoundTypes dw names (map (named names) (map name_of kinds.types)) parents d.types
+  pub domain_types : AreBoundTypes dw names (map (named names) (map name_of kinds.types)) parents d.types
   domain_types =
       subst (λ ws. AreBoundTypes dw names ws parents d.types) (sym (type_words_are names kinds.types))
       (has_bound_types names object d dw kinds in_types x.are_kinds.types is.domain.types (λ at c. no_domain at 12 (HasDomainFault.type_cycle c)))
 
-  domain_bound : IsBoundDomain names d (hddl_domain value constant_objects)
+  pub domain_bound : IsBoundDomain names d (hddl_domain value constant_objects)
   domain_bound = record {
     types = domain_types;
     constants = schemas.constants;
@@ -214,7 +214,7 @@ module _ (before left : Names) (d : RawDomain) (p : RawProblem) (is : AreInOrder
         (subst (λ hs. Together (IsBoundMethod dw names (task_words names d (constants names d) known callables dw) hs) d.methods value.methods) actions_said schemas.methods);
   }
 
-  problem_bound : IsBoundProblem names pw (words_of_tasks names (tasks_bound kinds d.tasks)) (words_of_actions names (actions_bound known d.actions)) p (record { objects = own; init = value.init; goal = value.goal }) value.top
+  pub problem_bound : IsBoundProblem names pw (words_of_tasks names (tasks_bound kinds d.tasks)) (words_of_actions names (actions_bound known d.actions)) p (record { objects = own; init = value.init; goal = value.goal }) value.top
   problem_bound = record {
     objects = parts.own_objects;
     init = parts.init;

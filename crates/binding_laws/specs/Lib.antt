@@ -22,3 +22,4 @@ pub mod WholeValues
 pub mod SoundSchemas
 pub mod SoundNetworks
 pub mod SeenBound
+pub mod SoundValues

@@ -1,0 +1,14 @@
+pub mod Acyclic
+pub mod GoodNetworks
+pub mod Ordered
+pub mod GoodUnions
+pub mod TypePairs
+pub mod PlainWords
+pub mod CalledHeads
+pub mod Whole
+pub mod ShortLists
+pub mod FewTypes
+pub mod Limits
+pub mod FewUnions
+pub mod ReadValues
+pub mod FewWords

@@ -1,0 +1,38 @@
+-- The value of two texts that were read and bound, and that spell it, is sound.
+use Rattle.std.proofs.Common.{arith}
+use Rattle.hddl_reader.specs.Definitions.{IsDomainRead, IsProblemRead}
+use Rattle.hddl_reader.specs.declared.sections.Language.TheVariants.{Hddl as language}
+use Rattle.form_spellings.specs.InOrder.{DomainIsInOrder, IsProblemInOrder}
+use Rattle.form_spellings.specs.Places.{IsDomainAt, IsProblemAt}
+use Rattle.form_spellings.specs.ReadOf.{OfEachWhole}
+use Rattle.hddl_bind.specs.WholeProblems.{with_start}
+use Rattle.binding_laws.specs.SoundValues.{AreOfTexts, ReadValuesAreSound}
+use Rattle.binding_laws.specs.WholeFaults.{AreInOrder}
+use Rattle.binding_laws.proofs.sound.FewUnions.{has_few_unions}
+use Rattle.binding_laws.proofs.sound.Limits.{is_sound_both}
+use Rattle.binding_laws.proofs.sound.Ordered.{is_ordered_both}
+
+pub read_values : OfEachWhole (IsDomainRead language) IsDomainAt → OfEachWhole (IsProblemRead language) IsProblemAt
+    → OfEachWhole (IsDomainRead language) (λ text. DomainIsInOrder) → OfEachWhole (IsProblemRead language) (λ text. IsProblemInOrder) → ReadValuesAreSound
+read_values domains_at problems_at domains_in_order problems_in_order domain problem h is of = (
+  is_sound_both is.before is.left is.d is.p is.b h in_order is.domain_bound is.problem_bound of_texts is.few_words (let l = has_few_unions domain problem h of in let a = is.domain_short in let c = is.problem_short in omega arith),
+  is_ordered_both is.before is.left is.d is.p is.b h in_order is.domain_bound is.problem_bound,
+)
+  where
+    in_order : AreInOrder is.before (with_start is.left) is.d is.p
+    in_order = record {
+      differ = is.differ;
+      keeps = is.keeps;
+      domain = domains_in_order domain is.read.before_domain (with_start is.left) (is.d, is.read.behind_domain) is.read.domain_read is.read.keeps_domain is.differ;
+      problem = problems_in_order problem is.read.before_problem (with_start is.left) (is.p, is.read.behind_problem) is.read.problem_read is.read.keeps_problem;
+    }
+
+    of_texts : AreOfTexts (with_start is.left) is.d is.p
+    of_texts = record {
+      domain = domain;
+      problem = problem;
+      domain_at = domains_at domain is.read.before_domain (with_start is.left) (is.d, is.read.behind_domain) is.read.domain_read is.read.keeps_domain;
+      problem_at = problems_at problem is.read.before_problem (with_start is.left) (is.p, is.read.behind_problem) is.read.problem_read is.read.keeps_problem;
+      domain_short = is.domain_short;
+      problem_short = is.problem_short;
+    }

@@ -1,0 +1,30 @@
+// Laws of what is asked of the value of a whole domain and a whole problem.
+ghost use Rattle.binding_laws.specs.SoundValues.{HasFewUnions, IsOrderedBoth, IsSoundBoth};
+ghost use Rattle.binding_laws.specs.SoundValues.{ReadValuesAreSound, TablesAreFew};
+ghost use Rattle.binding_laws.specs.WholeValues.{OfAllBound};
+
+use form_spellings::{places_are_those_of_tokens, what_is_read_is_in_order};
+use gd_reader::at_most_one_word_is_added_for_each_token;
+
+/// The value that is bound of a domain and a problem that were read of two short texts is sound, and its networks have no cycle. It
+/// has no more unions than the texts have bytes.
+pub fn bound_values_are_sound()
+    ensures ordered { OfAllBound IsOrderedBoth }
+    ensures sound { OfAllBound IsSoundBoth }
+    ensures unions { HasFewUnions }
+{}
+
+/// The value of two texts that were read and bound, and that spell it, is sound, and its networks have no cycle.
+pub fn read_values_are_sound()
+    ensures { ReadValuesAreSound }
+{
+    places_are_those_of_tokens();
+    what_is_read_is_in_order();
+}
+
+/// A table that began empty has fewer than 67,108,864 words when two short texts were read into it.
+pub fn tables_of_texts_are_few()
+    ensures { TablesAreFew }
+{
+    at_most_one_word_is_added_for_each_token();
+}
