@@ -1,5 +1,5 @@
 -- A problem that was read over a domain that is bound: what it is refused for is its least fault, and its value is that of both texts.
-use Rattle.std.proofs.Common.{ℕ, ◌≡◌, inl, inr, List, [], ◌∷◌, ◌++◌, Bool, true, false, cond, codes, sym, ◌∙◌, refl, subst, Some, None, Contains, true≢false}
+use Rattle.std.proofs.Common.{ℕ, ◌≡◌, ◌≤◌, ◌+◌, length, arith, inl, inr, List, [], ◌∷◌, ◌++◌, Bool, true, false, cond, codes, sym, ◌∙◌, refl, subst, Some, None, Contains, true≢false}
 use Rattle.std.specs.Str.{bytes_eq}
 use Rattle.std.specs.List.{list_any}
 use Rattle.std.proofs.lemmas.List.Folds.{list_any_at}
@@ -13,6 +13,7 @@ use Rattle.gd_reader.proofs.Keeping.{keeps_same, keeps_then, keeps_word}
 use Rattle.hddl_reader.specs.declared.sections.Language.TheVariants.{Hddl}
 use Rattle.hddl_reader.specs.declared.sections.RawProblem.{RawProblem}
 use Rattle.form_spellings.specs.ReadTexts.{AreRead}
+use Rattle.form_spellings.proofs.PlacesWhole.{domains_placed, problems_placed}
 use Rattle.form_spellings.proofs.order.Whole.{domains_in_order, problems_in_order}
 use Rattle.plan_model.specs.declared.values.Hddl.{Hddl as Value}
 use Rattle.plan_texts.specs.FirstSeen.{IsHddlOf}
@@ -25,7 +26,9 @@ use Rattle.hddl_bind.specs.WholeProblems.{ProblemBinding, IsProblemBound, IsProb
 use Rattle.hddl_bind.specs.WholeProblems as problem
 use Rattle.binding_laws.specs.WholeFaults.{AreInOrder}
 use Rattle.binding_laws.proofs.WholeFaults.{domain_none, problem_least, problem_none}
+use Rattle.binding_laws.specs.SoundValues.{IsBoundOf}
 use Rattle.binding_laws.proofs.seen.Bound.{is_of_texts}
+use Rattle.binding_laws.proofs.sound.ReadValues.{read_values}
 use Rattle.sexpr_text.specs.declared.read_error.ReadError.{ReadError}
 use Rattle.hddl_values.specs.Reading.{ReadsProblem, RefusesOver, IsBoundText, read_error}
 use Rattle.hddl_values.specs.Values.{IsValueOf}
@@ -107,8 +110,32 @@ module _ (domain text : List ℕ) (table later : Names) (b : BoundDomain) (bound
       let apart = differ_with later (codes "htn_start") differ in
       is_of_texts table later bound.d p domain text (are_read last stays apart) bound.tokens is.tokens b h (in_order last stays apart) bound.bound value
 
-  pub value_of : (h : Value) → IsProblemBound b p later h → IsValueOf domain text h
-  value_of h value = record {
-    faultless = record { table = later; d = bound.d; p = p; domain_is = good_domain; problem_is = good_problem h value };
-    spelled = spelled h value;
-  }
+  bound_of : length text ≤ 16777216 → length later ≤ length table + length text → (h : Value) → IsProblemBound b p later h → IsBoundOf domain text h
+  bound_of short more h value =
+      let stays = keeps_word later (codes "htn_start") in
+      let few = bound.few in
+      record {
+        domain_short = bound.short;
+        problem_short = short;
+        d = bound.d;
+        p = p;
+        before = table;
+        left = later;
+        read = are_read last stays (differ_with later (codes "htn_start") differ);
+        differ = differ_with later (codes "htn_start") differ;
+        keeps = keeps_then table later last keeps stays;
+        few_words = omega arith;
+        b = b;
+        domain_bound = bound.bound;
+        problem_bound = value;
+      }
+
+  pub value_of : length text ≤ 16777216 → length later ≤ length table + length text → (h : Value) → IsProblemBound b p later h → IsValueOf domain text h
+  value_of short more h value =
+      let sound = read_values (domains_placed Hddl) (problems_placed Hddl) (domains_in_order Hddl) (problems_in_order Hddl) domain text h (bound_of short more h value) (spelled h value) in
+      record {
+        faultless = record { table = later; d = bound.d; p = p; domain_is = good_domain; problem_is = good_problem h value };
+        spelled = spelled h value;
+        sound = sound.0;
+        ordered = sound.1;
+      }
