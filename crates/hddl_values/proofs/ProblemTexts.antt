@@ -13,7 +13,6 @@ use Rattle.gd_reader.proofs.Keeping.{keeps_same, keeps_then, keeps_word}
 use Rattle.hddl_reader.specs.declared.sections.Language.TheVariants.{Hddl}
 use Rattle.hddl_reader.specs.declared.sections.RawProblem.{RawProblem}
 use Rattle.form_spellings.specs.ReadTexts.{AreRead}
-use Rattle.form_spellings.proofs.PlacesWhole.{domains_placed, problems_placed}
 use Rattle.form_spellings.proofs.order.Whole.{domains_in_order, problems_in_order}
 use Rattle.plan_model.specs.declared.values.Hddl.{Hddl as Value}
 use Rattle.plan_texts.specs.FirstSeen.{IsHddlOf}
@@ -26,9 +25,8 @@ use Rattle.hddl_bind.specs.WholeProblems.{ProblemBinding, IsProblemBound, IsProb
 use Rattle.hddl_bind.specs.WholeProblems as problem
 use Rattle.binding_laws.specs.WholeFaults.{AreInOrder}
 use Rattle.binding_laws.proofs.WholeFaults.{domain_none, problem_least, problem_none}
-use Rattle.binding_laws.specs.SoundValues.{IsBoundOf}
+use Rattle.binding_laws.specs.SoundValues.{IsBoundOf, ReadValuesAreSound}
 use Rattle.binding_laws.proofs.seen.Bound.{is_of_texts}
-use Rattle.binding_laws.proofs.sound.ReadValues.{read_values}
 use Rattle.sexpr_text.specs.declared.read_error.ReadError.{ReadError}
 use Rattle.hddl_values.specs.Reading.{ReadsProblem, RefusesOver, IsBoundText, read_error}
 use Rattle.hddl_values.specs.Values.{IsValueOf}
@@ -130,9 +128,9 @@ module _ (domain text : List ℕ) (table later : Names) (b : BoundDomain) (bound
         problem_bound = value;
       }
 
-  pub value_of : length text ≤ 16777216 → length later ≤ length table + length text → (h : Value) → IsProblemBound b p later h → IsValueOf domain text h
-  value_of short more h value =
-      let sound = read_values (domains_placed Hddl) (problems_placed Hddl) (domains_in_order Hddl) (problems_in_order Hddl) domain text h (bound_of short more h value) (spelled h value) in
+  pub value_of : ReadValuesAreSound → length text ≤ 16777216 → length later ≤ length table + length text → (h : Value) → IsProblemBound b p later h → IsValueOf domain text h
+  value_of are_sound short more h value =
+      let sound = are_sound domain text h (bound_of short more h value) (spelled h value) in
       record {
         faultless = record { table = later; d = bound.d; p = p; domain_is = good_domain; problem_is = good_problem h value };
         spelled = spelled h value;

@@ -3,6 +3,7 @@ ghost use Rattle.hddl_values.specs.Reading.{IsValueOver, RefusesProblem};
 
 use crate::domains::read_error;
 use crate::reading::read_problem;
+use binding_laws::read_values_are_sound;
 use hddl_bind::{BoundDomain, bind_problem};
 use htn_base::NameTable;
 use plan_model::Hddl;
@@ -20,6 +21,8 @@ pub(crate) fn value_over(
     ensures value { IfOk result (IsValueOver names domain text.now) }
     ensures refused { IfErr result (RefusesProblem names domain text.now) }
 {
+    // a law, which does nothing
+    read_values_are_sound();
     let mut names = names;
     match read_problem(alloc, text, &mut names) {
         Ok(problem) => match bind_problem(alloc, names, domain, problem) {
