@@ -16,17 +16,17 @@ use Rattle.htn_cli.specs.declared.refusal.Refusal.{Refusal}
 use Rattle.htn_cli.specs.declared.refusal.Refusal.TheVariants as refused
 
 -- a file of which so few bytes were read is read whole
-whole_list : (all bytes : List ℕ) → take 65537 all ≡ bytes → length bytes ≤ 65536 → all ≡ bytes
+whole_list : (all bytes : List ℕ) → take 16777217 all ≡ bytes → length bytes ≤ 16777216 → all ≡ bytes
 whole_list all bytes e short =
     let counted = ap length e in
-    let few : length all ≤ 65537 = omega (arith, length-take 65537 all, counted, short) in
-    sym (take_all 65537 all few) ∙ e
+    let few : length all ≤ 16777217 = omega (arith, length-take 16777217 all, counted, short) in
+    sym (take_all 16777217 all few) ∙ e
 
-whole_file : (file : Option (List ℕ)) (bytes : List ℕ) → option_map (take 65537) file ≡ Some bytes → length bytes ≤ 65536 → file ≡ Some bytes
+whole_file : (file : Option (List ℕ)) (bytes : List ℕ) → option_map (take 16777217) file ≡ Some bytes → length bytes ≤ 16777216 → file ≡ Some bytes
 whole_file None bytes e short = absurd (cc)
-whole_file (Some all) bytes e short = let f : take 65537 all ≡ bytes = cc in ap Some (whole_list all bytes f short)
+whole_file (Some all) bytes e short = let f : take 16777217 all ≡ bytes = cc in ap Some (whole_list all bytes f short)
 
-whole_read : (held : Option Folder) (lenient : Bool) (name bytes : List ℕ) → IfSome held (λ folder. option_map (take 65537) (file_of lenient folder name) ≡ Some bytes) → length bytes ≤ 65536
+whole_read : (held : Option Folder) (lenient : Bool) (name bytes : List ℕ) → IfSome held (λ folder. option_map (take 16777217) (file_of lenient folder name) ≡ Some bytes) → length bytes ≤ 16777216
     → IfSome held (λ folder. file_of lenient folder name ≡ Some bytes)
 whole_read None lenient name bytes first short = tt
 whole_read (Some folder) lenient name bytes first short = whole_file (file_of lenient folder name) bytes first short
@@ -46,14 +46,14 @@ Leaves-get names manner name old mid new out refused.CannotWriteOutput input sam
 Leaves-get names manner name old mid new out refused.NoMemory input same stops = inl (stops ∙ same, refl)
 
 -- both inputs were read
-module _ (names : Names) (manner : Manner) (domain problem : List ℕ) (old mid now : FilesState) (one : GetGives old mid names.domain 65537 domain) (two : GetGives mid now names.problem 65537 problem) where
+module _ (names : Names) (manner : Manner) (domain problem : List ℕ) (old mid now : FilesState) (one : GetGives old mid names.domain 16777217 domain) (two : GetGives mid now names.problem 16777217 problem) where
   same : now ≡ old
   same = two.unchanged ∙ one.unchanged
 
-  first_read : length domain ≤ 65536 → Reads old names.domain domain
+  first_read : length domain ≤ 16777216 → Reads old names.domain domain
   first_read short = whole_read old.held old.lenient names.domain domain one.first short
 
-  second_read : length problem ≤ 65536 → Reads old names.problem problem
+  second_read : length problem ≤ 16777216 → Reads old names.problem problem
   second_read short = subst (λ z. Reads z names.problem problem) one.unchanged (whole_read mid.held mid.lenient names.problem problem two.first short)
 
   defined : (texts : Texts) → AreShort domain problem → AreTranslated domain problem manner texts → AreDefined names manner old texts

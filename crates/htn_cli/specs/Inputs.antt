@@ -8,7 +8,7 @@ use Rattle.htn_cli.specs.declared.manner.Manner.{Manner}
 
 -- the greatest length of an input text that is of the form, in bytes
 abbrev pub longest_input : ℕ
-longest_input = 65536
+longest_input = 16777216
 
 -- a name reads as these bytes, where that is told
 abbrev pub Reads : FilesState → Word → List ℕ → Type 0

@@ -9,16 +9,17 @@ ghost use Rattle.htn_cli.specs.Built.{ComesTo};
 ghost use Rattle.htn_cli.specs.Printing.{Prints, Becomes, IsFirstPast};
 
 use crate::manner::Manner;
+use hddl_values::hddl_of;
 use htn_base::Memory;
 use method_precs::compile;
 use plan_model::{Compiled, Hddl};
 use problem_texts::{Texts, texts_of};
+use sexpr_text::ReadError;
 use slot_encoder::Sizes;
-use small_reader::small;
 use std::alloc::Global;
 
 /// The greatest length of an input text, in bytes.
-const LONGEST_INPUT: usize = 65_536;
+const LONGEST_INPUT: usize = 16_777_216;
 
 /// The greatest length of a printed text, in bytes.
 const LONGEST: u64 = 268_435_456;
@@ -47,9 +48,10 @@ pub(crate) fn build(
     if domain.len() > LONGEST_INPUT || problem.len() > LONGEST_INPUT {
         return Ok(Built::NotOfForm);
     }
-    match small(alloc, domain, problem)? {
-        Some(read) => translated(alloc, read, manner),
-        None => Ok(Built::NotOfForm),
+    match hddl_of(alloc, domain, problem) {
+        Ok(read) => translated(alloc, read, manner),
+        Err(ReadError::Bad(_)) => Ok(Built::NotOfForm),
+        Err(ReadError::Memory) => Err(Memory),
     }
 }
 

@@ -17,7 +17,7 @@ use problem_texts::Texts;
 use std::alloc::Global;
 
 /// A get asks for one byte more than a text may have.
-const ASKED_BYTES: u64 = 65_537;
+const ASKED_BYTES: u64 = 16_777_217;
 
 /// Translates in the manner that is asked for. Both texts are complete before the first put.
 pub(crate) fn translate<'a, F: Files, O: Sink>(
