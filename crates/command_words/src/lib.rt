@@ -12,7 +12,7 @@ mod settings;
 mod words;
 
 pub use asking::{Asked, Bounding, Translation};
-pub use bounds::{Bound, bound_of};
+pub use bounds::{Bound, bound_of, comes_to};
 pub use commands::Command;
 pub use names::Named;
 pub use words::{asked, command};
