@@ -3,7 +3,7 @@ ghost use Rattle.plan_meaning.specs.Schemas.{schema_of, subschemas_of, task};
 ghost use Rattle.plan_meaning.specs.Strata.{source, target, target_by};
 ghost use Rattle.stratifier.specs.CycleWords as spec;
 ghost use Rattle.stratifier.specs.Listed.{edge_of};
-ghost use Rattle.problem_bound.specs.NoBound.{edge_words, spaced};
+ghost use Rattle.problem_bound.specs.NoBound.{begun, edge_words, spaced};
 
 use htn_base::{Memory, Name, Text};
 use plan_model::{Compiled, Head, MethodPlan};
@@ -16,12 +16,23 @@ pub fn cycle_words(alloc: Global, c: &Compiled, edges: &[Edge]) -> Result<Text, 
     ensures words { IfOk result (λ text.
         text ≡ spaced (spec.cycle_words c.now (map edge_of edges.now))) }
 {
+    let mut text = words_of_edges(alloc, c, edges)?;
+    match edges.last() {
+        Some(edge) => {
+            push_word(&mut text, target_word(c, edge))?;
+            Ok(text)
+        }
+        None => Ok(text),
+    }
+}
+
+/// The words of the edges' tasks and methods.
+fn words_of_edges(alloc: Global, c: &Compiled, edges: &[Edge]) -> Result<Text, Memory>
+    ensures words { IfOk result (λ text. text ≡ spaced (begun c.now edges.now)) }
+{
     let mut text = Text::new(alloc);
     for edge in edges {
         push_edge(&mut text, c, edge)?;
-    }
-    if let Some(edge) = edges.last() {
-        push_word(&mut text, target_word(c, edge))?;
     }
     Ok(text)
 }
@@ -74,7 +85,8 @@ fn target_word<'a>(c: &'a Compiled, edge: &Edge) -> &'a [u8]
 
 fn child_word<'a>(c: &'a Compiled, plan: &MethodPlan, child: u32) -> &'a [u8]
     ensures { (m : ℕ) → result.now
-        ≡ spec.task_word c.now (target_by (slice_get (subschemas_of m plan.now) child)) }
+        ≡ spec.task_word c.now
+        (target_by c.now (slice_get (subschemas_of m plan.now) child)) }
 {
     match plan.schema.children.get(child as usize) {
         Some(child) => head_word(c, &child.head),
@@ -105,5 +117,8 @@ fn task_word(c: &Compiled, number: u32) -> &[u8]
 fn written(c: &Compiled, name: Name) -> &[u8]
     ensures { result.now ≡ spec.written c.now name.number }
 {
-    c.hddl.names.text(name).unwrap_or(b"")
+    match c.hddl.names.text(name) {
+        Some(word) => word,
+        None => b"",
+    }
 }
