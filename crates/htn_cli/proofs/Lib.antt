@@ -1,7 +1,10 @@
 pub mod Results
 pub mod Texts
-pub mod Buildings
+pub mod Inputs
+pub mod Printed
 pub mod Leavings
+pub mod SameBounds
+pub mod SameProblems
 pub mod Headlines
 pub mod Endings
 pub mod examples

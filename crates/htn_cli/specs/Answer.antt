@@ -54,7 +54,7 @@ module _ (request : TranslationRequest) (files : FilesState) where
   pub record AreWritten (texts : Texts) (slots : ℕ) : Type 0 where
     pub compiled : Compiled
     pub source : IsForSlots compiled slots
-    pub translated : AreTranslated source.problem.problem compiled (manner_with slots) texts
+    pub translated : AreTranslated source.problem.value compiled (manner_with slots) texts
 
   -- the refusals of a translation, each with what comes before it
   abbrev pub RefusesTranslation : Refusal → Type 0

@@ -66,9 +66,9 @@ module _ (files : FilesState) (domain problem : Word) where
       pub problem_text : List ℕ
       pub domain_is : IsInput files domain domain_text
       pub problem_is : IsInput files problem problem_text
-      pub problem : Hddl
-      pub read : IsRead domain_text problem_text problem
-      pub compiled_is : IsCompiled problem checks compiled
+      pub value : Hddl
+      pub read : IsRead domain_text problem_text value
+      pub compiled_is : IsCompiled value checks compiled
 
     -- they spell a problem with this bound
     abbrev pub HaveBound : ℕ → Type 0

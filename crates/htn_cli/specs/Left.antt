@@ -99,5 +99,5 @@ module _ (request : Request) (old new : FilesState) (out out' : SinkState) where
   Leaves (refused.CannotWrite name) =
       (names : Names) × (texts : Texts) × (slots : ℕ) × IsAnswer request old (writes names texts slots) × LeavesUnwritten names texts name.now old new × (out' ≡ out)
   Leaves refused.CannotWriteOutput = (answer : Answer) × IsAnswer request old answer × StandsUpTo TakesThenFails answer old new out out'
-  Leaves refused.NoMemory = LeavesStarved
+  Leaves refused.NoMemory = IsWithin request old × LeavesStarved
   Leaves refusal = IsAnswer request old (refuses refusal) × (new ≡ old) × (out' ≡ out)

@@ -20,8 +20,9 @@ pub(crate) fn print_bound<'a, F: Files, O: Sink>(
     files: &mut F,
     out: &mut O,
 ) -> Result<(), Refusal<'a>>
-    ensures done { OnOk result (Achieves (words.to_bound (words.bound_of asked.now))
-        (F.state files.old) (F.state files.new) (O.state out.old) (O.state out.new)) }
+    ensures done { OnOk result (Achieves
+        (F.state files.old) (F.state files.new) (O.state out.old) (O.state out.new)
+        (words.to_bound (words.bound_of asked.now))) }
     ensures refused { IfErr result (Leaves (words.to_bound (words.bound_of asked.now))
         (F.state files.old) (F.state files.new) (O.state out.old) (O.state out.new)) }
 {

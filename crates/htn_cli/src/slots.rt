@@ -13,8 +13,8 @@ use std::alloc::Global;
 /// The number of slots of a numeral, where one is given.
 pub(crate) fn given_slots<'a>(numeral: Option<&'a str>) -> Result<Option<u32>, Refusal<'a>>
     requires { IfSome (option_copied numeral) IsNumeral }
-    ensures given { IfOk result (IsGiven (option_copied numeral)) }
-    ensures refused { IfErr result (StopsGiven (option_copied numeral)) }
+    ensures given { IfOk result (IsGiven (option_copied numeral.entry)) }
+    ensures refused { IfErr result (StopsGiven (option_copied numeral.entry)) }
 {
     match numeral {
         Some(numeral) => {

@@ -32,8 +32,9 @@ pub(crate) fn translate<'a, F: Files, O: Sink>(
 ) -> Result<(), Refusal<'a>>
     requires numeral { IfSome (translation_of asked.now).numeral IsNumeral }
     requires apart { AreApart (translation_of asked.now).names }
-    ensures done { OnOk result (Achieves (to_translate (translation_of asked.now))
-        (F.state files.old) (F.state files.new) (O.state out.old) (O.state out.new)) }
+    ensures done { OnOk result (Achieves
+        (F.state files.old) (F.state files.new) (O.state out.old) (O.state out.new)
+        (to_translate (translation_of asked.now))) }
     ensures refused { IfErr result (Leaves (to_translate (translation_of asked.now))
         (F.state files.old) (F.state files.new) (O.state out.old) (O.state out.new)) }
 {
