@@ -1,9 +1,10 @@
 -- Words ask for one request at most.
-use Rattle.std.proofs.Common.{◌≡◌, List, [], get_or, drop, codes, unwrap_or, sym, ap, ◌∙◌, subst, arith}
+use Rattle.std.proofs.Common.{◌≡◌, List, [], ◌∷◌, IfSome, inl, inr, get_or, drop, codes, unwrap_or, sym, ap, ◌∙◌, subst, arith}
 use Rattle.plan_model.specs.declared.options.Style.TheVariants.{Adl}
 use Rattle.plan_model.specs.declared.options.Checks.TheVariants.{Leaf}
 use Rattle.command_words.specs.Names.{Word, Names, AreApart}
-use Rattle.command_words.specs.Options.{Chosen, nothing_chosen, SetsChecksAlone, Choose}
+use Rattle.command_words.specs.Bounds.{IsNumeral}
+use Rattle.command_words.specs.Options.{Chosen, nothing_chosen, SetsChecksAlone, Sets, Choose}
 use Rattle.command_words.specs.Words.{TranslationRequest, BoundRequest, Request, to_translate, to_bound, translation_words, bound_words, AsksTranslation, AsksBound, Asks, AreOfAForm}
 use Rattle.command_words.proofs.Choices.{choose_one}
 
@@ -51,6 +52,20 @@ one_request words (to_translate r) (to_translate s) a b = ap to_translate (one_t
 one_request words (to_translate r) (to_bound s) a b = absurd (not_both words r s a b)
 one_request words (to_bound r) (to_translate s) a b = absurd (not_both words s r b a)
 one_request words (to_bound r) (to_bound s) a b = ap to_bound (one_bound words r s a b)
+
+-- a numeral that is asked for is one
+sets_numeral : (option value : Word) (before after : Chosen) → Sets option value before after → IfSome before.bound IsNumeral → IfSome after.bound IsNumeral
+sets_numeral option value before after (inl (e, (n, none, is))) b = subst (λ (z : Chosen). IfSome z.bound IsNumeral) (sym is) n
+sets_numeral option value before after (inr (inl (e, x))) b = subst (λ (z : Chosen). IfSome z.bound IsNumeral) (sym x.3) b
+sets_numeral option value before after (inr (inr (e, x))) b = subst (λ (z : Chosen). IfSome z.bound IsNumeral) (sym x.3) b
+
+choose_numeral : (words : List Word) (before after : Chosen) → Choose words before after → IfSome before.bound IsNumeral → IfSome after.bound IsNumeral
+choose_numeral [] before after chooses b = subst (λ (z : Chosen). IfSome z.bound IsNumeral) (sym chooses) b
+choose_numeral (option ∷ []) before after chooses b = absurd chooses
+choose_numeral (option ∷ value ∷ words) before after (next, sets, more) b = choose_numeral words next after more (sets_numeral option value before next sets b)
+
+pub numeral_is : (words : List Word) (r : TranslationRequest) → AsksTranslation words r → IfSome r.numeral IsNumeral
+numeral_is words r a = subst (λ z. IfSome z IsNumeral) (sym a.numeral) (choose_numeral a.options nothing_chosen a.chosen a.chosen_by tt)
 
 -- words that ask for nothing
 pub no_form : (words : List Word) → ((r : TranslationRequest) → AsksTranslation words r → ⊥) → ((r : BoundRequest) → AsksBound words r → ⊥) → AreOfAForm words → ⊥

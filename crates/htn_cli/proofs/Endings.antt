@@ -1,19 +1,19 @@
 -- How runs end, by their refusals.
-use Rattle.std.proofs.Common.{ℕ, ◌≡◌, ◌<◌, ◌≤◌, ◌^◌, ◌⊎◌, ◌↔◌, List, [], Option, Some, None, IfSome, refl, sym, ap, ◌∙◌, subst, inl, inr, arith}
+use Rattle.std.proofs.Common.{ℕ, ◌≡◌, ◌<◌, ◌≤◌, ◌^◌, ◌⊎◌, List, [], Option, Some, None, IfSome, refl, sym, ap, ◌∙◌, subst, inl, inr, arith}
 use Rattle.outside_io.specs.Count.{HasRisen}
 use Rattle.outside_io.specs.Files.{FilesState}
 use Rattle.outside_io.specs.Sink.{SinkState}
 use Rattle.plan_model.specs.declared.values.Compiled.{Compiled}
 use Rattle.command_words.specs.Names.{Word, Names}
 use Rattle.command_words.specs.Bounds.{most_slots}
-use Rattle.command_words.specs.Words.{TranslationRequest, BoundRequest, Request, to_translate, to_bound, number_of, Asks, AreOfAForm}
+use Rattle.command_words.specs.Words.{TranslationRequest, Request, to_translate, number_of, Asks}
 use Rattle.command_words.proofs.Requests.{one_request}
 use Rattle.htn_cli.specs.Texts.{Texts}
 use Rattle.htn_cli.specs.Refusal.{status_of, line_of}
-use Rattle.htn_cli.specs.Sent.{Told, TakesWhole, TakesThenFails, TakesThenStarves}
+use Rattle.htn_cli.specs.Sent.{Told, TakesWhole, TakesThenFails}
 use Rattle.htn_cli.specs.Answer.{Answer, refuses, writes, tells, IsGivenWithin, AreAskedFor, AreSlotsOf, IsForSlots, IsAnswer}
-use Rattle.htn_cli.specs.Left.{StandsUpTo, Gives, LeavesUnwritten, Leaves, slots_line, bound_line}
-use Rattle.htn_cli.specs.Ending.{Achieves, status_by, line_by, IsOfAnAnswer, IsRefused, IsRefusedFor, IsDone, AskForSlots, AskForBound, IsAnswered, IsBeforePuts, IsUntouched}
+use Rattle.htn_cli.specs.Left.{StandsUpTo, Gives, LeavesUnwritten, Leaves}
+use Rattle.htn_cli.specs.Ending.{Achieves, status_by, line_by, IsOfAnAnswer, IsRefused, IsRefusedFor, IsDone, AskForSlots, IsAnswered}
 use Rattle.htn_cli.specs.declared.status.Status.{Status}
 use Rattle.htn_cli.specs.declared.status.Status.TheVariants as status
 use Rattle.htn_cli.specs.declared.refusal.Refusal.{Refusal}
@@ -81,54 +81,6 @@ module _ (words : List Word) (old new : FilesState) (out out' : SinkState) where
   asked_left : (request : Request) (refusal : Refusal) → Asks words request → IsRefused words old new out out' refusal → Leaves request old new out out' refusal
   asked_left request refusal asked (inl w) = absurd (w.formless (request, asked))
   asked_left request refusal asked (inr t) = subst (λ r. Leaves r old new out out' refusal) (one_request words t.request request t.asked asked) t.left
-
-  -- before the first put nothing changes
-  untouched_left : (request : Request) (refusal : Refusal) → IsBeforePuts (status_of refusal) → Leaves request old new out out' refusal → IsUntouched old new out out'
-  untouched_left request refused.Words before left = record { held = ap (λ (z : FilesState). z.held) left.1; written = left.2 }
-  untouched_left request refused.BoundLimit before left = record { held = ap (λ (z : FilesState). z.held) left.1; written = left.2 }
-  untouched_left request (refused.SlotsLimit n) before left = record { held = ap (λ (z : FilesState). z.held) left.1; written = left.2 }
-  untouched_left request (refused.BytesLimit word) before left = record { held = ap (λ (z : FilesState). z.held) left.1; written = left.2 }
-  untouched_left request (refused.NotBuilt word) before left = record { held = ap (λ (z : FilesState). z.held) left.1; written = left.2 }
-  untouched_left request (refused.NotTailRecursive words) before left = record { held = ap (λ (z : FilesState). z.held) left.1; written = left.2 }
-  untouched_left request (refused.OutputLimit n) before left = record { held = ap (λ (z : FilesState). z.held) left.1; written = left.2 }
-  untouched_left request (refused.CannotRead word) before left = record { held = left.1.1.held; written = left.2 }
-  untouched_left request (refused.CannotWrite word) before left = absurd before
-  untouched_left request refused.CannotWriteOutput before left = absurd before
-  untouched_left request refused.NoMemory before left = absurd before
-
-  pub untouched_refused : (refusal : Refusal) → IsRefused words old new out out' refusal → IsBeforePuts (status_of refusal) → IsUntouched old new out out'
-  untouched_refused refusal (inl w) before = record { held = ap (λ (z : FilesState). z.held) w.files_stay; written = w.out_stays }
-  untouched_refused refusal (inr t) before = untouched_left t.request refusal before t.left
-
--- A bound never changes what the files hold.
-module _ (r : BoundRequest) (old new : FilesState) (out out' : SinkState) where
-  kept_up_to : (Takes : List ℕ → SinkState → SinkState → Type 0) (answer : Answer) → IsAnswer (to_bound r) old answer → StandsUpTo Takes answer old new out out' → new.held ≡ old.held
-  kept_up_to Takes (refuses refusal) is stands = absurd stands
-  kept_up_to Takes (writes names texts slots) is stands = absurd is
-  kept_up_to Takes (tells n) is stands = ap (λ (z : FilesState). z.held) stands.0
-
-  kept_left : (refusal : Refusal) → Leaves (to_bound r) old new out out' refusal → new.held ≡ old.held
-  kept_left refused.Words left = absurd left.0
-  kept_left refused.BoundLimit left = ap (λ (z : FilesState). z.held) left.1
-  kept_left (refused.SlotsLimit n) left = absurd left.0
-  kept_left (refused.BytesLimit word) left = ap (λ (z : FilesState). z.held) left.1
-  kept_left (refused.NotBuilt word) left = ap (λ (z : FilesState). z.held) left.1
-  kept_left (refused.NotTailRecursive words) left = ap (λ (z : FilesState). z.held) left.1
-  kept_left (refused.OutputLimit n) left = absurd left.0
-  kept_left (refused.CannotRead word) left = left.1.1.held
-  kept_left (refused.CannotWrite word) (names, texts, slots, is, left, stays) = absurd is
-  kept_left refused.CannotWriteOutput (answer, is, stands) = kept_up_to TakesThenFails answer is stands
-  kept_left refused.NoMemory (within, inl stays) = ap (λ (z : FilesState). z.held) stays.0
-  kept_left refused.NoMemory (within, inr (inl (names, texts, slots, is, first, stays))) = absurd is
-  kept_left refused.NoMemory (within, inr (inr (answer, is, stands))) = kept_up_to TakesThenStarves answer is stands
-
-  pub kept_refused : (words : List Word) (refusal : Refusal) → IsRefused words old new out out' refusal → Asks words (to_bound r) → new.held ≡ old.held
-  kept_refused words refusal is asked = kept_left refusal (asked_left words old new out out' (to_bound r) refusal asked is)
-
-  pub kept_done : (words : List Word) → IsDone words old new out out' → Asks words (to_bound r) → new.held ≡ old.held
-  kept_done words done asked =
-      let achieved = subst (λ z. Achieves old new out out' z) (one_request words done.request (to_bound r) done.asked asked) done.achieved in
-      kept_up_to TakesWhole achieved.answer achieved.is achieved.given
 
 -- A given number of slots that is past a limit.
 module _ (words : List Word) (old new : FilesState) (out out' : SinkState) where
@@ -262,93 +214,3 @@ calm status.WriteFault read write = absurd (write refl)
 calm status.NoMemory read write = inl refl
 calm status.Finding read write = inr tt
 calm status.Limit read write = inr tt
-
--- Counts that rose show in the status.
-record Shows (old new : FilesState) (out out' : SinkState) (ended : Status) : Type 0 where
-  gets : (new.get_faults ≡ old.get_faults) ⊎ (ended ≡ status.ReadFault)
-  puts : (new.put_faults ≡ old.put_faults) ⊎ (ended ≡ status.WriteFault)
-  writes : (out'.faults ≡ out.faults) ⊎ (ended ≡ status.WriteFault)
-
-module _ (old new : FilesState) (out out' : SinkState) where
-  staying : (ended : Status) → new ≡ old → out' ≡ out → Shows old new out out' ended
-  staying ended e f = record { gets = inl (ap (λ (z : FilesState). z.get_faults) e); puts = inl (ap (λ (z : FilesState). z.put_faults) e); writes = inl (ap (λ (z : SinkState). z.faults) f) }
-
-  -- of what stands before standard output is written
-  stands_shows : (Takes : List ℕ → SinkState → SinkState → Type 0) (ended : Status) → ((line : List ℕ) → Takes line out out' → (out'.faults ≡ out.faults) ⊎ (ended ≡ status.WriteFault))
-      → (answer : Answer) → StandsUpTo Takes answer old new out out' → Shows old new out out' ended
-  stands_shows Takes ended line (refuses refusal) stands = absurd stands
-  stands_shows Takes ended line (writes names texts slots) stands = record { gets = inl stands.0.faults.get_faults; puts = inl stands.0.faults.put_faults; writes = line (slots_line slots) stands.1 }
-  stands_shows Takes ended line (tells n) stands = record { gets = inl (ap (λ (z : FilesState). z.get_faults) stands.0); puts = inl (ap (λ (z : FilesState). z.put_faults) stands.0); writes = line (bound_line n) stands.1 }
-
-  unwritten_shows : (names : Names) (texts : Texts) (name : Word) → LeavesUnwritten names texts name old new → out' ≡ out → Shows old new out out' status.WriteFault
-  unwritten_shows names texts name (inl (e, fails)) stays = record { gets = inl fails.get_faults; puts = inr refl; writes = inr refl }
-  unwritten_shows names texts name (inr (e, fails)) stays = record { gets = inl fails.get_faults; puts = inr refl; writes = inr refl }
-
-  shows_left : (request : Request) (refusal : Refusal) → Leaves request old new out out' refusal → Shows old new out out' (status_of refusal)
-  shows_left request refused.Words left = staying status.Words left.1 left.2
-  shows_left request refused.BoundLimit left = staying status.Limit left.1 left.2
-  shows_left request (refused.SlotsLimit n) left = staying status.Limit left.1 left.2
-  shows_left request (refused.BytesLimit word) left = staying status.Limit left.1 left.2
-  shows_left request (refused.NotBuilt word) left = staying status.TextFault left.1 left.2
-  shows_left request (refused.NotTailRecursive words) left = staying status.Finding left.1 left.2
-  shows_left request (refused.OutputLimit n) left = staying status.Limit left.1 left.2
-  shows_left request (refused.CannotRead word) left = record { gets = inr refl; puts = inl left.1.1.put_faults; writes = inl (ap (λ (z : SinkState). z.faults) left.2) }
-  shows_left request (refused.CannotWrite word) (names, texts, slots, is, left, stays) = unwritten_shows names texts word.now left stays
-  shows_left request refused.CannotWriteOutput (answer, is, stands) = stands_shows TakesThenFails status.WriteFault (λ line takes. inr refl) answer stands
-  shows_left request refused.NoMemory (within, inl stays) = staying status.NoMemory stays.0 stays.1
-  shows_left request refused.NoMemory (within, inr (inl (names, texts, slots, is, first, stays))) = record { gets = inl first.faults.get_faults; puts = inl first.faults.put_faults; writes = inl (ap (λ (z : SinkState). z.faults) stays) }
-  shows_left request refused.NoMemory (within, inr (inr (answer, is, stands))) = stands_shows TakesThenStarves status.NoMemory (λ line takes. inl takes.faults) answer stands
-
-  shows_refused : (words : List Word) (refusal : Refusal) → IsRefused words old new out out' refusal → Shows old new out out' (status_of refusal)
-  shows_refused words refusal (inl w) = staying (status_of refusal) w.files_stay w.out_stays
-  shows_refused words refusal (inr t) = shows_left t.request refusal t.left
-
-  shows_done : (words : List Word) → IsDone words old new out out' → Shows old new out out' status.Done
-  shows_done words done = stands_shows TakesWhole status.Done (λ line takes. inl takes.faults) done.achieved.answer done.achieved.given
-
-  risen : (a b : ℕ) {P : Type 0} → (b ≡ a) ⊎ P → a < b → P
-  risen a b (inl e) l = absurd (omega arith)
-  risen a b (inr p) l = p
-
-  module _ (words : List Word) (ended : Status) (refusal : Refusal) (e : ended ≡ status_of refusal) (left : IsRefused words old new out out' refusal) where
-    pub failed_get : old.get_faults < new.get_faults → ended ≡ status.ReadFault
-    failed_get l = e ∙ risen old.get_faults new.get_faults (shows_refused words refusal left).gets l
-
-    pub failed_put : old.put_faults < new.put_faults → ended ≡ status.WriteFault
-    failed_put l = e ∙ risen old.put_faults new.put_faults (shows_refused words refusal left).puts l
-
-    pub failed_write : out.faults < out'.faults → ended ≡ status.WriteFault
-    failed_write l = e ∙ risen out.faults out'.faults (shows_refused words refusal left).writes l
-
-  module _ (words : List Word) (done : IsDone words old new out out') where
-    pub done_get : old.get_faults < new.get_faults → status.Done ≡ status.ReadFault
-    done_get l = risen old.get_faults new.get_faults (shows_done words done).gets l
-
-    pub done_put : old.put_faults < new.put_faults → status.Done ≡ status.WriteFault
-    done_put l = risen old.put_faults new.put_faults (shows_done words done).puts l
-
-    pub done_write : out.faults < out'.faults → status.Done ≡ status.WriteFault
-    done_write l = risen out.faults out'.faults (shows_done words done).writes l
-
--- the status of words that are of no form
-module _ (words : List Word) (old new : FilesState) (out out' : SinkState) where
-  words_left : (request : Request) (refusal : Refusal) → Leaves request old new out out' refusal → status_of refusal ≡ status.Words → ⊥
-  words_left (to_translate r) refused.Words left e = left.0
-  words_left (to_bound r) refused.Words left e = left.0
-  words_left request refused.BoundLimit left e = cc
-  words_left request (refused.SlotsLimit n) left e = cc
-  words_left request (refused.BytesLimit word) left e = cc
-  words_left request (refused.NotBuilt word) left e = cc
-  words_left request (refused.NotTailRecursive words) left e = cc
-  words_left request (refused.OutputLimit n) left e = cc
-  words_left request (refused.CannotRead word) left e = cc
-  words_left request (refused.CannotWrite word) left e = cc
-  words_left request refused.CannotWriteOutput left e = cc
-  words_left request refused.NoMemory left e = cc
-
-  pub words_refused : (refusal : Refusal) → IsRefused words old new out out' refusal → (status_of refusal ≡ status.Words) ↔ (AreOfAForm words → ⊥)
-  words_refused refusal (inl w) = ((λ e. w.formless), (λ n. ap status_of w.refusal_is))
-  words_refused refusal (inr t) = ((λ e. absurd (words_left t.request refusal t.left e)), (λ n. absurd (n (t.request, t.asked))))
-
-  pub words_done : IsDone words old new out out' → (status.Done ≡ status.Words) ↔ (AreOfAForm words → ⊥)
-  words_done done = ((λ e. absurd (cc)), (λ n. absurd (n (done.request, done.asked))))

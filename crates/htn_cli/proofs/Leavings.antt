@@ -4,7 +4,11 @@ use Rattle.outside_io.specs.Files.{FilesState}
 use Rattle.outside_io.specs.Sink.{SinkState}
 use Rattle.plan_model.specs.declared.options.Checks.{Checks}
 use Rattle.plan_model.specs.declared.values.Compiled.{Compiled}
+use Rattle.task_networks.specs.Bound.{itself}
+use Rattle.plan_meaning.specs.Network.{top_task}
+use Rattle.plan_meaning.specs.Schemas.{task}
 use Rattle.plan_meaning.specs.Bound.{IsBound}
+use Rattle.problem_bound.specs.Soundly.{IsSoundlyCompiled}
 use Rattle.command_words.specs.Names.{Word, Names}
 use Rattle.command_words.specs.Bounds.{most_slots}
 use Rattle.command_words.specs.Words.{TranslationRequest, BoundRequest, Request, to_translate, to_bound, number_of}
@@ -19,6 +23,14 @@ use Rattle.htn_cli.specs.declared.translation.Made.{Made}
 use Rattle.htn_cli.specs.declared.refusal.Refusal.{Refusal}
 use Rattle.htn_cli.specs.declared.refusal.Refusal.TheVariants as refused
 use Rattle.htn_cli.proofs.Printed.{translated}
+
+-- a bound is at least 1
+pub positive : (c : Compiled) (n : ℕ) → IsBound c n → 1 ≤ n
+positive c n b = subst (λ z. 1 ≤ z) b.is (b.numbers.positive (task (top_task c)) itself)
+
+-- what was read is ready for its bound
+pub soundly : (files : FilesState) (domain problem : Word) (checks : Checks) (c : Compiled) → HaveProblem files domain problem checks c → IsSoundlyCompiled c
+soundly files domain problem checks c p = record { problem = p.value; checks = checks; sound = p.read.sound; ordered = p.read.ordered; compiled = p.compiled_is }
 
 -- The problem was not read.
 module _ (request : Request) (old new : FilesState) (out : SinkState) (within : IsWithin request old) where

@@ -13,9 +13,7 @@ use Rattle.slot_encoding.proofs.existence.Encoded.{has_encoded_value}
 use Rattle.printed_sizes.specs.declared.lengths.Sizes.{Sizes}
 use Rattle.printed_sizes.specs.AreSizes.{AreSizesOf}
 use Rattle.printed_sizes.specs.Capped.{capped}
-use Rattle.problem_texts.specs.ArePrinted.{ArePrinted}
-use Rattle.problem_texts.specs.declared.printing.Texts.{Texts as Printed}
-use Rattle.htn_cli.specs.Texts.{Texts, longest, texts_of, IsFirstTooLong, AreTranslated, AreTooLong}
+use Rattle.htn_cli.specs.Texts.{Texts, longest, IsFirstTooLong, AreTranslated, AreTooLong}
 use Rattle.htn_cli.specs.Printing.{IsFirstPast, AreWhole}
 use Rattle.htn_cli.specs.declared.manner.Manner.{Manner}
 
@@ -41,14 +39,6 @@ module _ (compiled : Compiled) (manner : Manner) (sizes : Sizes) (sized : AreSiz
   -- the first that is too great is that of the first text that is too long
   pub past_is_long : (n : ℕ) → IsFirstPast sizes n → AreTooLong compiled manner n
   past_is_long n past = record { encoded = has_encoded_value compiled manner.slots manner.style; too_long = λ value encoded words. too_long value encoded words n past }
-
-  pub whole_prints : (texts : Printed) → ArePrinted compiled manner.slots manner.style texts.domain texts.problem
-      → sizes.domain ≤ longest → sizes.problem ≤ longest → AreWhole compiled manner (texts_of texts)
-  whole_prints texts printed few_d few_p = record {
-    printed = printed;
-    domain_fits = let e = ap length printed.domain_is in omega (arith, e, domain_fits printed.value printed.encoded printed.words few_d);
-    problem_fits = let e = ap length printed.problem_is in omega (arith, e, problem_fits printed.value printed.encoded printed.words few_p);
-  }
 
 -- the texts of a sound problem
 pub translated : (read : Hddl) (compiled : Compiled) (manner : Manner) (texts : Texts) → IsSoundProblem read → IsCompiled read manner.checks compiled → 1 ≤ manner.slots → AreWhole compiled manner texts

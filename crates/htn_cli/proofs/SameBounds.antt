@@ -141,8 +141,8 @@ module _ (c d : Compiled) (same : AreSameBare c d) where
   task_word_same (check m) = refl
   task_word_same (task t) =
       go (slice_get c.hddl.tasks t) (slice_get d.hddl.tasks t) (
-        sym (slice_get-map (λ (s : TaskSchema). written c s.name.number) c.hddl.tasks t) ∙ ap (λ z. slice_get z t) same.task_words ∙ slice_get-map (λ (s : TaskSchema). written d s.name.number) d.hddl.tasks t
-        )
+      sym (slice_get-map (λ (s : TaskSchema). written c s.name.number) c.hddl.tasks t) ∙ ap (λ z. slice_get z t) same.task_words ∙ slice_get-map (λ (s : TaskSchema). written d s.name.number) d.hddl.tasks t
+      )
     where
       go : (o p : Option TaskSchema) → option_map (λ (s : TaskSchema). written c s.name.number) o ≡ option_map (λ (s : TaskSchema). written d s.name.number) p → task_by c o ≡ task_by d p
       go None None e = refl
@@ -153,8 +153,8 @@ module _ (c d : Compiled) (same : AreSameBare c d) where
   method_word_same : (m : ℕ) → method_word c m ≡ method_word d m
   method_word_same m =
       go (slice_get c.methods m) (slice_get d.methods m) (
-        sym (slice_get-map (λ (p : MethodPlan). written c p.schema.name.number) c.methods m) ∙ ap (λ z. slice_get z m) same.method_words ∙ slice_get-map (λ (p : MethodPlan). written d p.schema.name.number) d.methods m
-        )
+      sym (slice_get-map (λ (p : MethodPlan). written c p.schema.name.number) c.methods m) ∙ ap (λ z. slice_get z m) same.method_words ∙ slice_get-map (λ (p : MethodPlan). written d p.schema.name.number) d.methods m
+      )
     where
       go : (o p : Option MethodPlan) → option_map (λ (p : MethodPlan). written c p.schema.name.number) o ≡ option_map (λ (p : MethodPlan). written d p.schema.name.number) p → method_by c o ≡ method_by d p
       go None None e = refl

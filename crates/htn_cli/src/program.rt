@@ -31,8 +31,8 @@ pub fn run<F: Files, O: Sink, E: Sink>(
         (Seen F.state PutHasFailed files.old files.new → ⊥) →
         (Seen O.state WriteHasFailed out.old out.new → ⊥) →
         (result ≡ Status.NoMemory) ⊎ IsAnswered (words_of words.now)
-            (F.state files.old) (F.state files.new) (O.state out.old) (O.state out.new)
-            result (E.state err.old) (E.state err.new) }
+        (F.state files.old) (F.state files.new) (O.state out.old) (O.state out.new)
+        result (E.state err.old) (E.state err.new) }
     ensures answered { IsOfAnAnswer result → IsAnswered (words_of words.now)
         (F.state files.old) (F.state files.new) (O.state out.old) (O.state out.new)
         result (E.state err.old) (E.state err.new) }

@@ -15,11 +15,7 @@ pub(crate) enum Unread {
 }
 
 /// The problem that two texts spell. It is the one call of a reader.
-pub(crate) fn read_problem(
-    alloc: Global,
-    domain: &[u8],
-    problem: &[u8],
-) -> Result<Hddl, Unread>
+pub(crate) fn read_problem(alloc: Global, domain: &[u8], problem: &[u8]) -> Result<Hddl, Unread>
     ensures read { IfOk result (IsRead domain.now problem.now) }
     ensures refused { IfErr result (IsUnread domain.now problem.now) }
 {

@@ -79,7 +79,11 @@ impl Refusal<'_> {
             Refusal::SlotsLimit(slots) => ("limit slots ", Middle::Number(*slots), "\n"),
             Refusal::BytesLimit(name) => ("limit bytes ", Middle::Words(name.as_bytes()), "\n"),
             Refusal::NotBuilt(domain) => {
-                ("", Middle::Words(domain.as_bytes()), ":0: fault 40 NotBuilt\n")
+                (
+                    "",
+                    Middle::Words(domain.as_bytes()),
+                    ":0: fault 40 NotBuilt\n",
+                )
             }
             Refusal::NotTailRecursive(words) => {
                 ("not tail-recursive:", Middle::Words(words.as_slice()), "\n")

@@ -26,7 +26,11 @@ pub(crate) fn given_slots<'a>(numeral: Option<&'a str>) -> Result<Option<u32>, R
 }
 
 /// The given number of slots, or else the bound of the problem.
-pub(crate) fn slots_for<'a>(alloc: Global, compiled: &Compiled, given: Option<u32>) -> Result<u32, Refusal<'a>>
+pub(crate) fn slots_for<'a>(
+    alloc: Global,
+    compiled: &Compiled,
+    given: Option<u32>,
+) -> Result<u32, Refusal<'a>>
     requires soundly { IsSoundlyCompiled compiled.now }
     ensures slots { IfOk result (IsChosen compiled.now given) }
     ensures refused { IfErr result (StopsChosen compiled.now given) }

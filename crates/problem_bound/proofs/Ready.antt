@@ -49,7 +49,7 @@ module _ (c : Compiled) (soundly : IsSoundlyCompiled c) where
   task_within s i = elim (head_or_tail h.top h.methods s i) [
     | inl e ↦ (let f : s.task ≡ h.top.task = ap (λ (z : MethodSchema). z.task) (sym e) in let g = soundly.sound.value.top_task in omega arith)
     | inr j ↦ (let (t, is, n) = each-contains (λ (z : MethodSchema). IsSoundHead h (Task z.task) (length z.task_args)) h.methods soundly.sound.value.method_tasks s j in
-               let l = slice_get_within h.tasks s.task t is in omega arith)
+        let l = slice_get_within h.tasks s.task t is in omega arith)
   ]
 
   sound_method : (s : MethodSchema) → Contains (h.top ∷ h.methods) s → IsSoundMethod h s
@@ -73,14 +73,16 @@ module _ (c : Compiled) (soundly : IsSoundlyCompiled c) where
       let top : length c.hddl.tasks ≡ length h.tasks = ap (λ (z : Hddl). length z.tasks) soundly.compiled.hddl in
       let kids : p.schema.children ≡ children p.checked s = ap (λ (z : MethodSchema). z.children) is.schema in
       let same : p.schema.task ≡ s.task = ap (λ (z : MethodSchema). z.task) is.schema in
-      let pairs = ap (λ (z : MethodSchema). length z.pairs) is.schema in
-      (record {
-        task = let l = task_within s i in omega arith;
-        subtasks = λ t k. let l = subtask_within s i p.checked t (subst (λ z. IsSubtask z t) kids k) in omega arith;
-      }, record {
-        children = let e = ap length kids in let l = children_few s (fit s i) p.checked in omega arith;
-        pairs = let l = pairs_few s (fit s i) p.checked in omega arith;
-      })
+      let pairs = ap (λ (z : MethodSchema). length z.pairs) is.schema in (
+        record {
+          task = let l = task_within s i in omega arith;
+          subtasks = λ t k. let l = subtask_within s i p.checked t (subst (λ z. IsSubtask z t) kids k) in omega arith;
+        },
+        record {
+          children = let e = ap length kids in let l = children_few s (fit s i) p.checked in omega arith;
+          pairs = let l = pairs_few s (fit s i) p.checked in omega arith;
+        },
+      )
 
   plan_is : (k : ℕ) (d : MethodPlan) → k < length c.methods → IsNumbered (top_task c) (get_or c.methods k d) × IsSmallMethod (get_or c.methods k d)
   plan_is k d l =

@@ -1,10 +1,8 @@
-use Rattle.std.proofs.Common.{◌≡◌, [], sym, ◌∙◌, subst, inl, inr, ⊎_elim, arith}
+use Rattle.std.proofs.Common.{sym, ◌∙◌, inl, inr, ⊎_elim, arith}
 use Rattle.command_words.specs.Names.{words_of}
-use Rattle.command_words.specs.Words.{to_bound}
-use Rattle.htn_cli.specs.Ending.{IsBeforePuts}
 use Rattle.htn_cli.proofs.Texts.{Told-nothing}
 use Rattle.htn_cli.proofs.Headlines.{headline_done, bound_done, finding_refused}
-use Rattle.htn_cli.proofs.Endings.{never_done, answered_refused, answered_done, untouched_refused, kept_refused, kept_done, past_all, past_slots, past_not_done, refused_for, write_fault, read_fault, calm, failed_get, failed_put, failed_write, done_get, done_put, done_write, words_refused, words_done}
+use Rattle.htn_cli.proofs.Endings.{never_done, answered_refused, answered_done, past_all, past_slots, past_not_done, refused_for, write_fault, read_fault, calm}
 use Rattle.htn_cli.proofs.program.run.Goals as goal
 
 -- what was asked for was done
@@ -21,92 +19,42 @@ returns-in-Ok-clause-headline g c = λ _. headline_done _ _ _ _ _ c.in-Ok.ensure
 pub returns-in-Ok-clause-bound : goal.returns-in-Ok-clause-bound
 returns-in-Ok-clause-bound g c = λ _. bound_done _ _ _ _ _ c.in-Ok.ensures.done
 
-pub returns-in-Ok-clause-bound_reads : goal.returns-in-Ok-clause-bound_reads
-returns-in-Ok-clause-bound_reads g c = λ asks. kept_done asks.0 _ _ _ _ _ c.in-Ok.ensures.done asks.1
-
-pub returns-in-Ok-clause-words : goal.returns-in-Ok-clause-words
-returns-in-Ok-clause-words g c = words_done _ _ _ _ _ c.in-Ok.ensures.done
-
 pub returns-in-Ok-clause-past_all : goal.returns-in-Ok-clause-past_all
 returns-in-Ok-clause-past_all g c = λ n asks past. absurd (past_not_done _ _ _ _ _ n c.in-Ok.ensures.done asks (omega (arith, past)))
 
 pub returns-in-Ok-clause-past_slots : goal.returns-in-Ok-clause-past_slots
 returns-in-Ok-clause-past_slots g c = λ n asks past few. absurd (past_not_done _ _ _ _ _ n c.in-Ok.ensures.done asks past)
 
-pub returns-in-Ok-clause-failed_get : goal.returns-in-Ok-clause-failed_get
-returns-in-Ok-clause-failed_get g c = λ rose. done_get _ _ _ _ _ c.in-Ok.ensures.done rose
-
-pub returns-in-Ok-clause-failed_put : goal.returns-in-Ok-clause-failed_put
-returns-in-Ok-clause-failed_put g c = λ rose. done_put _ _ _ _ _ c.in-Ok.ensures.done rose
-
-pub returns-in-Ok-clause-failed_write : goal.returns-in-Ok-clause-failed_write
-returns-in-Ok-clause-failed_write g c = λ rose. done_write _ _ _ _ _ c.in-Ok.ensures.done rose
-
 -- it was refused
 
 pub returns-in-Err-clause-answer : goal.returns-in-Err-clause-answer
 returns-in-Err-clause-answer g c =
     λ gets puts writes.
-    ⊎_elim inl (λ of. inr (answered_refused (words_of c.args.words.now) (g.F.Files.state c.args.files.now) (g.F.Files.state c.act.new.files) (g.O.Sink.state c.args.out.now) (g.O.Sink.state c.act.new.out) _ c.in-Err.refusal _ _ c.status.ensures c.in-Err.ensures.refused c.tell.ensures.told of))
+    ⊎_elim inl (λ of. inr (answered_refused (words_of c.args.words.now) (g.F.Files.state c.args.files.now) (g.F.Files.state c.act.new.files) (g.O.Sink.state c.args.out.now) (g.O.Sink.state c.act.new.out) _ c.in-Err.refusal _ _ c.status-status.ensures c.in-Err.ensures.refused c.tell.ensures.told of))
     (calm _
-    (λ e. gets (read_fault (g.F.Files.state c.args.files.now) (g.F.Files.state c.act.new.files) (g.O.Sink.state c.args.out.now) (g.O.Sink.state c.act.new.out) (words_of c.args.words.now) c.in-Err.refusal c.in-Err.ensures.refused (sym c.status.ensures ∙ e)))
-    (λ e. ⊎_elim puts writes (write_fault (g.F.Files.state c.args.files.now) (g.F.Files.state c.act.new.files) (g.O.Sink.state c.args.out.now) (g.O.Sink.state c.act.new.out) (words_of c.args.words.now) c.in-Err.refusal c.in-Err.ensures.refused (sym c.status.ensures ∙ e))))
+    (λ e. gets (read_fault (g.F.Files.state c.args.files.now) (g.F.Files.state c.act.new.files) (g.O.Sink.state c.args.out.now) (g.O.Sink.state c.act.new.out) (words_of c.args.words.now) c.in-Err.refusal c.in-Err.ensures.refused (sym c.status-status.ensures ∙ e)))
+    (λ e. ⊎_elim puts writes (write_fault (g.F.Files.state c.args.files.now) (g.F.Files.state c.act.new.files) (g.O.Sink.state c.args.out.now) (g.O.Sink.state c.act.new.out) (words_of c.args.words.now) c.in-Err.refusal c.in-Err.ensures.refused (sym c.status-status.ensures ∙ e))))
 
 pub returns-in-Err-clause-answered : goal.returns-in-Err-clause-answered
 returns-in-Err-clause-answered g c =
-    λ of. answered_refused (words_of c.args.words.now) (g.F.Files.state c.args.files.now) (g.F.Files.state c.act.new.files) (g.O.Sink.state c.args.out.now) (g.O.Sink.state c.act.new.out) _ c.in-Err.refusal _ _ c.status.ensures c.in-Err.ensures.refused c.tell.ensures.told of
-
-pub returns-in-Err-clause-headline : goal.returns-in-Err-clause-headline
-returns-in-Err-clause-headline g c = λ e. absurd (never_done c.in-Err.refusal (sym c.status.ensures ∙ e))
-
-pub returns-in-Err-clause-bound : goal.returns-in-Err-clause-bound
-returns-in-Err-clause-bound g c = λ e. absurd (never_done c.in-Err.refusal (sym c.status.ensures ∙ e))
+    λ of. answered_refused (words_of c.args.words.now) (g.F.Files.state c.args.files.now) (g.F.Files.state c.act.new.files) (g.O.Sink.state c.args.out.now) (g.O.Sink.state c.act.new.out) _ c.in-Err.refusal _ _ c.status-status.ensures c.in-Err.ensures.refused c.tell.ensures.told of
 
 pub returns-in-Err-clause-finding : goal.returns-in-Err-clause-finding
 returns-in-Err-clause-finding g c =
-    λ e. finding_refused (words_of c.args.words.now) (g.F.Files.state c.args.files.now) (g.F.Files.state c.act.new.files) (g.O.Sink.state c.args.out.now) (g.O.Sink.state c.act.new.out) c.in-Err.refusal c.in-Err.ensures.refused (sym c.status.ensures ∙ e) _ _ c.tell.ensures.told
-
-pub returns-in-Err-clause-untouched : goal.returns-in-Err-clause-untouched
-returns-in-Err-clause-untouched g c =
-    λ before. untouched_refused (words_of c.args.words.now) (g.F.Files.state c.args.files.now) (g.F.Files.state c.act.new.files) (g.O.Sink.state c.args.out.now) (g.O.Sink.state c.act.new.out) c.in-Err.refusal c.in-Err.ensures.refused (subst IsBeforePuts c.status.ensures before)
-
-pub returns-in-Err-clause-bound_reads : goal.returns-in-Err-clause-bound_reads
-returns-in-Err-clause-bound_reads g c =
-    λ asks. kept_refused asks.0 (g.F.Files.state c.args.files.now) (g.F.Files.state c.act.new.files) (g.O.Sink.state c.args.out.now) (g.O.Sink.state c.act.new.out) (words_of c.args.words.now) c.in-Err.refusal c.in-Err.ensures.refused asks.1
-
-pub returns-in-Err-clause-words : goal.returns-in-Err-clause-words
-returns-in-Err-clause-words g c =
-    let w = words_refused (words_of c.args.words.now) (g.F.Files.state c.args.files.now) (g.F.Files.state c.act.new.files) (g.O.Sink.state c.args.out.now) (g.O.Sink.state c.act.new.out) c.in-Err.refusal c.in-Err.ensures.refused in
-    ((λ e. w.0 (sym c.status.ensures ∙ e)), (λ n. c.status.ensures ∙ w.1 n))
+    λ e. finding_refused (words_of c.args.words.now) (g.F.Files.state c.args.files.now) (g.F.Files.state c.act.new.files) (g.O.Sink.state c.args.out.now) (g.O.Sink.state c.act.new.out) c.in-Err.refusal c.in-Err.ensures.refused (sym c.status-status.ensures ∙ e) _ _ c.tell.ensures.told
 
 pub returns-in-Err-clause-past_all : goal.returns-in-Err-clause-past_all
 returns-in-Err-clause-past_all g c =
     λ n asks past.
     let x = past_all (words_of c.args.words.now) (g.F.Files.state c.args.files.now) (g.F.Files.state c.act.new.files) (g.O.Sink.state c.args.out.now) (g.O.Sink.state c.act.new.out) n c.in-Err.refusal c.in-Err.ensures.refused asks past in
-    refused_for _ _ _ _ _ _ _ _ _ c.status.ensures x.0 x.1 c.tell.ensures.told
+    refused_for _ _ _ _ _ _ _ _ _ c.status-status.ensures x.0 x.1 c.tell.ensures.told
 
 pub returns-in-Err-clause-past_slots : goal.returns-in-Err-clause-past_slots
 returns-in-Err-clause-past_slots g c =
     λ n asks past few.
     let x = past_slots (words_of c.args.words.now) (g.F.Files.state c.args.files.now) (g.F.Files.state c.act.new.files) (g.O.Sink.state c.args.out.now) (g.O.Sink.state c.act.new.out) n c.in-Err.refusal c.in-Err.ensures.refused asks past few in
-    refused_for _ _ _ _ _ _ _ _ _ c.status.ensures x.0 x.1 c.tell.ensures.told
-
-pub returns-in-Err-clause-read_fault : goal.returns-in-Err-clause-read_fault
-returns-in-Err-clause-read_fault g c =
-    λ e. read_fault (g.F.Files.state c.args.files.now) (g.F.Files.state c.act.new.files) (g.O.Sink.state c.args.out.now) (g.O.Sink.state c.act.new.out) (words_of c.args.words.now) c.in-Err.refusal c.in-Err.ensures.refused (sym c.status.ensures ∙ e)
+    refused_for _ _ _ _ _ _ _ _ _ c.status-status.ensures x.0 x.1 c.tell.ensures.told
 
 pub returns-in-Err-clause-write_fault : goal.returns-in-Err-clause-write_fault
 returns-in-Err-clause-write_fault g c =
-    λ e. write_fault (g.F.Files.state c.args.files.now) (g.F.Files.state c.act.new.files) (g.O.Sink.state c.args.out.now) (g.O.Sink.state c.act.new.out) (words_of c.args.words.now) c.in-Err.refusal c.in-Err.ensures.refused (sym c.status.ensures ∙ e)
-
-pub returns-in-Err-clause-failed_get : goal.returns-in-Err-clause-failed_get
-returns-in-Err-clause-failed_get g c =
-    λ rose. failed_get (g.F.Files.state c.args.files.now) (g.F.Files.state c.act.new.files) (g.O.Sink.state c.args.out.now) (g.O.Sink.state c.act.new.out) (words_of c.args.words.now) _ c.in-Err.refusal c.status.ensures c.in-Err.ensures.refused rose
-
-pub returns-in-Err-clause-failed_put : goal.returns-in-Err-clause-failed_put
-returns-in-Err-clause-failed_put g c =
-    λ rose. failed_put (g.F.Files.state c.args.files.now) (g.F.Files.state c.act.new.files) (g.O.Sink.state c.args.out.now) (g.O.Sink.state c.act.new.out) (words_of c.args.words.now) _ c.in-Err.refusal c.status.ensures c.in-Err.ensures.refused rose
-
-pub returns-in-Err-clause-failed_write : goal.returns-in-Err-clause-failed_write
-returns-in-Err-clause-failed_write g c =
-    λ rose. failed_write (g.F.Files.state c.args.files.now) (g.F.Files.state c.act.new.files) (g.O.Sink.state c.args.out.now) (g.O.Sink.state c.act.new.out) (words_of c.args.words.now) _ c.in-Err.refusal c.status.ensures c.in-Err.ensures.refused rose
+    λ e. write_fault (g.F.Files.state c.args.files.now) (g.F.Files.state c.act.new.files) (g.O.Sink.state c.args.out.now) (g.O.Sink.state c.act.new.out) (words_of c.args.words.now) c.in-Err.refusal c.in-Err.ensures.refused (sym c.status-status.ensures ∙ e)
