@@ -4,5 +4,9 @@ pub mod SectionLemmas
 pub mod ParentsLemmas
 pub mod TooManyLemmas
 pub mod TooManyNoted
+pub mod PairLemmas
+pub mod CycleLemmas
+pub mod KnownLemmas
+pub mod SectionNoted
 pub mod UnionsLemmas
 pub mod examples

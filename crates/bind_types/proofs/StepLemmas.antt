@@ -23,6 +23,18 @@ module _ {A : Type 0} (xs : List A) (i : ℕ) (d x : A) (below : i < length xs) 
   pub map-read : {B : Type 0} (f : A → B) → map f (take (i + 1) xs) ≡ map f (take i xs) ++ f x ∷ []
   map-read f = ap (map f) take-read ∙ map-push f (take i xs) x
 
+  -- what one more gives, behind the others
+  pub flat-behind : {B : Type 0} (f : A → List B) (old now then : List B) → now ≡ old ++ flat_map f (take i xs) → then ≡ now ++ f x → then ≡ old ++ flat_map f (take (i + 1) xs)
+  flat-behind f old now then before more =
+      more ∙ ap (λ ys. ys ++ f x) before ∙ append_assoc old (flat_map f (take i xs)) (f x)
+      ∙ ap (λ ys. old ++ ys) (sym (flat_map-push f (take i xs) x) ∙ ap (flat_map f) (sym take-read))
+
+  -- and what is made of that
+  pub flat-made : {B C : Type 0} (f : A → List B) (g : B → C) (old now then : List C) → now ≡ old ++ map g (flat_map f (take i xs)) → then ≡ now ++ map g (f x) → then ≡ old ++ map g (flat_map f (take (i + 1) xs))
+  flat-made f g old now then before more =
+      more ∙ ap (λ ys. ys ++ map g (f x)) before ∙ append_assoc old (map g (flat_map f (take i xs))) (map g (f x))
+      ∙ ap (λ ys. old ++ ys) (sym (map-append g (flat_map f (take i xs)) (f x)) ∙ ap (map g) (sym (flat_map-push f (take i xs) x) ∙ ap (flat_map f) (sym take-read)))
+
   -- the faults of one more
   pub noted-read : (f : A → List Spot) (least now then : Option Spot)
       → now ≡ noted least (flat_map f (take i xs)) → then ≡ noted now (f x) → then ≡ noted least (flat_map f (take (i + 1) xs))

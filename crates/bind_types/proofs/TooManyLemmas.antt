@@ -119,7 +119,7 @@ module _ (most object : ℕ) (xs : List RawParam) (words : List RawTerm) (order 
   abbrev pub seen_in : List RawTerm → List ℕ
   seen_in ws = first_seen (object ∷ []) (numbers_of ws)
 
-  seen-in : (ws : List RawTerm) (m : RawTerm) → Contains ws m → m.name.number ≢ object → Contains (seen_in ws) m.name.number
+  pub seen-in : (ws : List RawTerm) (m : RawTerm) → Contains ws m → m.name.number ≢ object → Contains (seen_in ws) m.name.number
   seen-in ws m c d =
       among-Contains m.name.number (seen_in ws)
       (among-first_seen m.name.number (object ∷ []) (numbers_of ws) ∙ rw (ne_eqb m.name.number object d) (among-numbers m ws c))

@@ -51,7 +51,7 @@ module _ (most object : ℕ) (xs : List RawParam) (words : List RawTerm) (order 
         ∙ ap (λ ws. numbers_of ws ++ numbers_of (drop (f.index + 1) words)) (take-read words f.index f.word f.word f.below f.read)
         ∙ ap (λ ns. ns ++ numbers_of (drop (f.index + 1) words)) (map-push (λ (v : RawTerm). v.name.number) (take f.index words) f.word)
 
-    most_seen : length (first_seen (object ∷ []) (numbers_of (take f.index words))) ≡ most
+    pub most_seen : length (first_seen (object ∷ []) (numbers_of (take f.index words))) ≡ most
     most_seen =
         let n = f.word.name.number in
         let ns = numbers_of (take f.index words) in
@@ -85,7 +85,7 @@ module _ (most object : ℕ) (xs : List RawParam) (words : List RawTerm) (order 
   types-different : AreDifferent (types_in_order object words)
   types-different = (λ c. (seen-out most object xs words order one words object c).0 refl, first_seen-different (object ∷ []) (numbers_of words))
 
-  room : NoneIsOfType (types_in_order object words) (most + 1) words → length (first_seen (object ∷ []) (numbers_of words)) ≤ most
+  pub room : NoneIsOfType (types_in_order object words) (most + 1) words → length (first_seen (object ∷ []) (numbers_of words)) ≤ most
   room none = elim (cases_lt most (length (first_seen (object ∷ []) (numbers_of words)))) [
     | inl over ↦
         let types = types_in_order object words in

@@ -4,4 +4,7 @@ pub mod Typed
 pub mod Mentions
 pub mod Parents
 pub mod TooMany
+pub mod Cycle
+pub mod PairsAmong
 pub mod Unions
+pub mod Listed

@@ -7,14 +7,17 @@
 //! numbered by the offsets of their first words, each once (`TypeTable::add_unions`).
 #![tactic(auto)]
 
+mod cycle;
+mod listed;
 mod parents;
 mod section;
 mod table;
 mod typed;
 mod unions;
 
+pub use listed::types_of;
 pub use parents::parents_of;
-pub use section::types_in_order;
+pub use section::section_of;
 pub use table::TypeTable;
 pub use typed::{objects_of, params_of};
 pub use unions::{Either, put_union, put_unions, put_unions_of_effect, put_unions_of_formula};

@@ -1,33 +1,48 @@
 ghost use Rattle.std.specs.Prelude.{◌≡◌, ◌≤◌, MatchOption, IfOk, OnOk};
-ghost use Rattle.bind_types.specs.TooMany.{HaveOneWordAPlace, IsTooManyTypes, NotesLeast, NoneIsOfType, IsFirstOfType};
+ghost use Rattle.name_numbers.specs.Spots.{noted};
+ghost use Rattle.bind_types.specs.Cycle.{IsSection, IsSectionFault};
 ghost use Rattle.bind_types.specs.Mentions.{mentioned, AreInTextOrder, AreTypesOf, types_in_order};
+ghost use Rattle.bind_types.specs.PairsAmong.{if_at};
+ghost use Rattle.bind_types.specs.TooMany.{NotesLeast, NoneIsOfType, IsFirstOfType};
 
+use crate::cycle::cycle_among;
 use gd_reader::{RawParam, RawTerm};
 use htn_base::{List, Memory, Name};
 use name_numbers::{Faults, Places};
 use std::alloc::Global;
 
 /// `object`, and the types of a section of types in the order in which the text first names them, be it as a parent alone. The
-/// first word of the type that is one more than `most` other than `object` is a fault of code 22.
-pub fn types_in_order(
+/// first word of the type that is one more than `most` other than `object` is a fault of code 22. The child of the first pair that
+/// closes a cycle with the earlier ones is one of code 12; `object` with a parent always is.
+pub fn section_of(
     alloc: Global,
     object: Name,
     most: u32,
     listed: &List<RawParam>,
     faults: &mut Faults,
 ) -> Result<Places, Memory>
-    requires few { most ≤ 4096 }
-    requires words { HaveOneWordAPlace (mentioned listed.now) }
+    requires few { most ≤ 4095 }
+    requires section { IsSection listed.now }
     ensures types { IfOk result (AreTypesOf object.number listed.now) }
-    ensures faults { OnOk result (NotesLeast (IsTooManyTypes most object.number listed.now)
+    ensures faults { OnOk result (NotesLeast (IsSectionFault most object.number listed.now)
         faults.old.least faults.new.least) }
 {
     let words = words_in_order(alloc, listed)?;
     let types = declared(alloc, object, words.as_slice())?;
-    if let Some(at) = first_of_type(&types, most + 1, words.as_slice()) {
-        faults.note(at, 22);
-    }
+    let limit = first_of_type(&types, most + 1, words.as_slice());
+    let cycle = cycle_among(alloc, &types, most + 2, listed)?;
+    note_if(limit, 22, faults);
+    note_if(cycle, 12, faults);
     Ok(types)
+}
+
+/// Notes the fault at this place, if there is one.
+fn note_if(at: Option<u32>, code: u16, faults: &mut Faults)
+    ensures noted { faults.new.least ≡ noted faults.old.least (if_at code at) }
+{
+    if let Some(at) = at {
+        faults.note(at, code);
+    }
 }
 
 /// The words of a section of types in the order of the text.

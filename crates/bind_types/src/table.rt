@@ -1,16 +1,19 @@
 ghost use Rattle.std.specs.Prelude.{◌≡◌, [], ◌∷◌, map, length, IfOk, OnOk, unwrap_or};
 ghost use Rattle.std.specs.List.{fold};
 ghost use Rattle.std.specs.List.Sorted.{IsPermutation, IsNonDecreasingBy};
-ghost use Rattle.htn_base.specs.Table.{with_word};
+ghost use Rattle.htn_base.specs.Table.{with_word, words_of};
 ghost use Rattle.name_numbers.specs.Spots.{noted};
+ghost use Rattle.bind_types.specs.Parents.{pairs_in_order};
 ghost use Rattle.bind_types.specs.Unions.{members_of, AreWith};
 ghost use Rattle.bind_types.specs.Kinds.{type_number, type_faults, union_number, kind_by, members_written, kind_bound, kind_faults};
 
+use crate::parents::parents_of;
 use crate::unions::Either;
-use gd_reader::RawTerm;
+use gd_reader::{RawParam, RawTerm};
 use htn_base::{List, Memory, number};
 use indexmap::IndexSet;
 use name_numbers::{Faults, Places, found_or_noted};
+use plan_model::Parent;
 use std::alloc::Global;
 use std::marker::Model;
 
@@ -48,6 +51,28 @@ impl TypeTable {
         ensures length { result ≡ length self.now.types }
     {
         self.types.len()
+    }
+
+    /// The numbers of the names of the types, `object` first.
+    pub fn numbers(&self) -> &[u32]
+        ensures numbers { result.now ≡ self.now.types }
+    {
+        self.types.numbers()
+    }
+
+    /// The pairs of types and parents of a section of these types.
+    pub fn parents_of(&self, alloc: Global, listed: &List<RawParam>) -> Result<List<Parent>, Memory>
+        ensures pairs { IfOk result
+            (λ pairs. pairs ≡ pairs_in_order self.now.types listed.now) }
+    {
+        parents_of(alloc, &self.types, listed)
+    }
+
+    /// The unions, each the list of its types' numbers.
+    pub fn unions_of(&self, alloc: Global) -> Result<List<List<u32>>, Memory>
+        ensures unions { IfOk result (λ unions. unions ≡ self.now.unions) }
+    {
+        lists_of(alloc, self.unions.as_slice())
     }
 
     /// The number of a type as it is written: 0 where none is, the type's own where there is one, and where there are two or more
@@ -163,6 +188,18 @@ impl TypeTable {
             None => Ok(0),
         }
     }
+}
+
+/// These lists of numbers.
+fn lists_of(alloc: Global, stored: &[Vec<u32>]) -> Result<List<List<u32>>, Memory>
+    ensures same { IfOk result (λ lists. lists ≡ words_of stored.now) }
+{
+    let mut lists = List::new(alloc);
+    for numbers in stored {
+        let list = listed(alloc, numbers.as_slice())?;
+        lists.push(list)?;
+    }
+    Ok(lists)
 }
 
 /// These numbers in a list of their own.

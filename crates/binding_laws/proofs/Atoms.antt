@@ -65,15 +65,15 @@ module _ (names : Names) (d : RawDomain) (objects : List Word) (known : Known) (
       (wrong_back names of.types.differ a.head.name.number is d.predicates of.predicates.words_in (rising d.predicates of.predicates.in_order) a.head.at (length a.args) code at
       (declared a.head.name.number (map head_of d.predicates)) refl h)
 
-  abbrev TermsAt : Scope → List RawTerm → Scope → Use → Type 0
+  abbrev pub TermsAt : Scope → List RawTerm → Scope → Use → Type 0
   TermsAt outer ts here u = (here ≡ outer) × One (λ t. u ≡ refers t) ts
 
-  args_there : (scope : List ℕ) (ts : List RawTerm) (code at : ℕ) → AreKnown names scope → AreTermsIn names ts → One (λ t. Has (term_faults known.objects scope t) (spot at code)) ts → Somewhere (Here code at) (TermsAt (words_of names scope) ts)
+  pub args_there : (scope : List ℕ) (ts : List RawTerm) (code at : ℕ) → AreKnown names scope → AreTermsIn names ts → One (λ t. Has (term_faults known.objects scope t) (spot at code)) ts → Somewhere (Here code at) (TermsAt (words_of names scope) ts)
   args_there scope [] code at k is h = absurd h
   args_there scope (t ∷ ts) code at k is (inl h) = (words_of names scope, refers t, (refl, inl refl), term_there scope t code at k is.0 h)
   args_there scope (t ∷ ts) code at k is (inr h) = let g = args_there scope ts code at k is.1 h in (g.0, g.1, (g.2.0, inr g.2.1), g.3)
 
-  args_back : (scope : List ℕ) (ts : List RawTerm) (code at : ℕ) → AreKnown names scope → AreTermsIn names ts → Somewhere (Here code at) (TermsAt (words_of names scope) ts) → One (λ t. Has (term_faults known.objects scope t) (spot at code)) ts
+  pub args_back : (scope : List ℕ) (ts : List RawTerm) (code at : ℕ) → AreKnown names scope → AreTermsIn names ts → Somewhere (Here code at) (TermsAt (words_of names scope) ts) → One (λ t. Has (term_faults known.objects scope t) (spot at code)) ts
   args_back scope [] code at k is (here, u, (e, p), q) = absurd p
   args_back scope (t ∷ ts) code at k is (here, u, (e, inl p), q) = inl (term_back scope t code at k is.0 (at_use (Here code at) (words_of names scope) here u (refers t) e p q))
   args_back scope (t ∷ ts) code at k is (here, u, (e, inr p), q) = inr (args_back scope ts code at k is.1 (here, u, (e, p), q))
@@ -100,7 +100,7 @@ module _ (names : Names) (d : RawDomain) (objects : List Word) (known : Known) (
     pub term_is : (scope : List ℕ) (t : RawTerm) → AreKnown names scope → IsIn names t.name → term_faults known.objects scope t ≡ [] → IsBoundTerm v names (words_of names scope) t (term_bound known.objects scope t)
     term_is scope t k is e = is_term_bound names known.objects scope v t (of_table scope k) is has.objects e
 
-    args_are : (scope : List ℕ) (ts : List RawTerm) → AreKnown names scope → AreTermsIn names ts → terms_faults known.objects scope ts ≡ [] → Together (IsBoundTerm v names (words_of names scope)) ts (terms_bound known.objects scope ts)
+    pub args_are : (scope : List ℕ) (ts : List RawTerm) → AreKnown names scope → AreTermsIn names ts → terms_faults known.objects scope ts ≡ [] → Together (IsBoundTerm v names (words_of names scope)) ts (terms_bound known.objects scope ts)
     args_are scope [] k is e = tt
     args_are scope (t ∷ ts) k is e = (
       term_is scope t k is.0 (none_left (term_faults known.objects scope t) (terms_faults known.objects scope ts) e),

@@ -17,10 +17,11 @@ use Rattle.bind_networks.specs.declared.callables.Callable.{Callable}
 use Rattle.bind_networks.specs.Callables.{heads, callable, callables_from, first_called, sooner_called}
 use Rattle.bind_networks.specs.Calls.{called, head_called, call_faults}
 use Rattle.binding_laws.specs.Calls.{IsCallBound, OfAllCallables}
-use Rattle.binding_laws.proofs.CallWords.{none_called, some_called, has_one, has_right, ins, inh, upt, uph}
+use Rattle.binding_laws.proofs.CallWords.{none_called, some_called, has_right, ins, inh, upt, uph}
 use Rattle.binding_laws.proofs.Heads.{AreRising}
 use Rattle.binding_laws.proofs.Lists.{lacks_first}
 use Rattle.binding_laws.proofs.Numbered.{has_contains, has_of_map, has_to_map}
+use Rattle.binding_laws.proofs.Ones.{has_one}
 use Rattle.binding_laws.proofs.Places.{same_word}
 
 module _ (names : Names) (differ : AreDifferent names) (n : ℕ) (known : n < length names) where
@@ -75,6 +76,6 @@ module _ (names : Names) (differ : AreDifferent names) (n : ℕ) (known : n < le
 
 pub is_call_bound : OfAllCallables IsCallBound
 is_call_bound names d known a of is differ none =
-    bound_to names of.differ a.head.name.number is d.tasks (heads d.actions) a (ins names d known of a is) (inh names d known of a is) (upt names d known of a is) (uph names d known of a is) differ
+    bound_to names of.differ a.head.name.number is d.tasks (heads d.actions) a (ins names d known of) (inh names d known of) (upt names d known of) (uph names d known of) differ
     (first_called a.head.name.number (callables_from Task 0 d.tasks)) (first_called a.head.name.number (callables_from Action 0 (heads d.actions))) refl refl (ap (λ k. call_faults (called k a) a) (sym of.are) ∙ none)
     ∙ ap (λ k. Some (head_called (called k a))) (sym of.are)

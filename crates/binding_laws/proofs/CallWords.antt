@@ -23,18 +23,9 @@ use Rattle.binding_laws.specs.Calls.{offsets, AreCallablesOf, HasCallFaults, Has
 use Rattle.binding_laws.specs.Uses.{HasUseFault}
 use Rattle.binding_laws.proofs.Heads.{IsOf, IsFirstAmong, of_number, to_number, AreRising, rising, one_map}
 use Rattle.binding_laws.proofs.Numbered.{has_contains}
+use Rattle.binding_laws.proofs.Ones.{one_has, has_one, one_either, each_front, each_back}
 
-one_has : {X : Type 0} (P : X → Type 0) (xs : List X) → One P xs → (x : X) × Has xs x × P x
-one_has P [] o = absurd o
-one_has P (x ∷ xs) (inl p) = (x, inl refl, p)
-one_has P (x ∷ xs) (inr o) = let g = one_has P xs o in (g.0, inr g.1, g.2)
-
-pub has_one : {X : Type 0} (P : X → Type 0) (xs : List X) (x : X) → Has xs x → P x → One P xs
-has_one P [] x h p = absurd h
-has_one P (y ∷ xs) x (inl e) p = inl (subst P (sym e) p)
-has_one P (y ∷ xs) x (inr h) p = inr (has_one P xs x h p)
-
-each_at : {X : Type 0} (P : X → Type 0) (xs : List X) (x : X) → Each P xs → Has xs x → P x
+pub each_at : {X : Type 0} (P : X → Type 0) (xs : List X) (x : X) → Each P xs → Has xs x → P x
 each_at P [] x e h = absurd h
 each_at P (y ∷ xs) x e (inl g) = subst P g e.0
 each_at P (y ∷ xs) x e (inr h) = each_at P xs x e.1 h
@@ -51,12 +42,7 @@ each_both : {X : Type 0} (P : X → Type 0) (xs ys : List X) → Each P xs → E
 each_both P [] ys e f = f
 each_both P (x ∷ xs) ys e f = (e.0, each_both P xs ys e.1 f)
 
-one_either : {X : Type 0} (P : X → Type 0) (xs ys : List X) → One P (xs ++ ys) → One P xs ⊎ One P ys
-one_either P [] ys o = inr o
-one_either P (x ∷ xs) ys (inl o) = inl (inl o)
-one_either P (x ∷ xs) ys (inr o) = elim (one_either P xs ys o) [ inl i ↦ inl (inr i) | inr i ↦ inr i ]
-
-has_left : {X : Type 0} (xs ys : List X) (x : X) → Has xs x → Has (xs ++ ys) x
+pub has_left : {X : Type 0} (xs ys : List X) (x : X) → Has xs x → Has (xs ++ ys) x
 has_left [] ys x h = absurd h
 has_left (z ∷ xs) ys x (inl e) = inl e
 has_left (z ∷ xs) ys x (inr h) = inr (has_left xs ys x h)
@@ -144,27 +130,27 @@ module _ (names : Names) (differ : AreDifferent names) (n : ℕ) (known : n < le
           }
 
   module _ (ts hs : List RawHead) (ins : EachIs (λ (h : RawHead). IsIn names h.name.name) ts) (inh : EachIs (λ (h : RawHead). IsIn names h.name.name) hs) (upt : AreRising ts) (uph : AreRising hs) (apart : AreDifferent (offsets (ts ++ hs))) where
-    abbrev First : RawHead → Type 0
+    abbrev pub First : RawHead → Type 0
     First = IsFirstAmong names differ n known (ts ++ hs)
 
-    abbrev Stands : (ℕ → Head) → List RawHead → Callable → Type 0
-    Stands head among z = (h : RawHead) × Has among h × First h × (length h.params ≡ z.arity) × ((j : ℕ) × (z.head ≡ head j))
+    abbrev pub Stands : (ℕ → Head) → List RawHead → Callable → Type 0
+    Stands head among z = (h : RawHead) × Has among h × First h × (length h.params ≡ z.arity) × ((j : ℕ) × (z.head ≡ head j)) × (h.name.at ≡ z.at)
 
-    abbrev Answer : Option Callable → Type 0
+    abbrev pub Answer : Option Callable → Type 0
     Answer None = One Of (ts ++ hs) → ⊥
     Answer (Some z) = Stands Task ts z ⊎ Stands Action hs z
 
     of_tasks : (x : Callable) (r : IsCalled Task ts x) → Each (NoEarlier r.declaration) hs → Answer (Some x)
-    of_tasks x r e = inl (r.declaration, r.member, (r.is, each_both (NoEarlier r.declaration) ts hs r.first e), r.arity, (r.number, r.is_head))
+    of_tasks x r e = inl (r.declaration, r.member, (r.is, each_both (NoEarlier r.declaration) ts hs r.first e), r.arity, (r.number, r.is_head), r.place)
 
     of_actions : (x : Callable) (r : IsCalled Action hs x) → Each (NoEarlier r.declaration) ts → Answer (Some x)
-    of_actions x r e = inr (r.declaration, r.member, (r.is, each_both (NoEarlier r.declaration) ts hs e r.first), r.arity, (r.number, r.is_head))
+    of_actions x r e = inr (r.declaration, r.member, (r.is, each_both (NoEarlier r.declaration) ts hs e r.first), r.arity, (r.number, r.is_head), r.place)
 
     sooner : (x y : Callable) (r : IsCalled Task ts x) (s : IsCalled Action hs y) (b : Bool) → nat_lt y.at x.at ≡ b → Answer (cond b (Some y) (Some x))
     sooner x y r s true e = of_actions y s (each_by (NoEarlier r.declaration) (NoEarlier s.declaration) ts (λ g l w. let m = l w in let p = r.place in let q = s.place in let f = ltb-true y.at x.at e in omega arith) r.first)
     sooner x y r s false e = of_tasks x r (each_by (NoEarlier s.declaration) (NoEarlier r.declaration) hs (λ g l w. let m = l w in let p = r.place in let q = s.place in let f = ltb-false y.at x.at e in omega arith) s.first)
 
-    answer : (o p : Option Callable) → found Task 0 ts ≡ o → found Action 0 hs ≡ p → Answer (sooner_called o p)
+    pub answer : (o p : Option Callable) → found Task 0 ts ≡ o → found Action 0 hs ≡ p → Answer (sooner_called o p)
     answer None None e f = λ o. elim (one_either Of ts hs o) [ inl i ↦ none_called Task 0 ts ins e i | inr i ↦ none_called Action 0 hs inh f i ]
     answer None (Some y) e f = of_actions y (some_called Action 0 hs y inh uph f) (each_none Of (λ g. (some_called Action 0 hs y inh uph f).declaration.name.at ≤ g.name.at) ts (none_called Task 0 ts ins e))
     answer (Some x) None e f = of_tasks x (some_called Task 0 ts x ins upt e) (each_none Of (λ g. (some_called Task 0 ts x ins upt e).declaration.name.at ≤ g.name.at) hs (none_called Action 0 hs inh f))
@@ -242,26 +228,18 @@ module _ (names : Names) (differ : AreDifferent names) (n : ℕ) (known : n < le
     meets_task None w = λ o. let g = one_has First ts o in w (has_one Of (ts ++ hs) g.0 (has_left ts hs g.0 g.1) g.2.0)
     meets_task (Some z) w = by_head z z.head refl w
 
-module _ (names : Names) (d : RawDomain) (known : Declared) (of : AreCallablesOf names d known) (a : RawAtom) (is : IsIn names a.head.name) where
+module _ (names : Names) (d : RawDomain) (known : Declared) (of : AreCallablesOf names d known) where
   abbrev ts : List RawHead
   ts = d.tasks
 
   abbrev hs : List RawHead
   hs = heads d.actions
 
-  front_in : (xs ys : List RawHead) → EachIs (λ (h : RawHead). IsIn names h.name.name) (xs ++ ys) → EachIs (λ (h : RawHead). IsIn names h.name.name) xs
-  front_in [] ys e = tt
-  front_in (x ∷ xs) ys e = (e.0, front_in xs ys e.1)
-
-  back_in : (xs ys : List RawHead) → EachIs (λ (h : RawHead). IsIn names h.name.name) (xs ++ ys) → EachIs (λ (h : RawHead). IsIn names h.name.name) ys
-  back_in [] ys e = e
-  back_in (x ∷ xs) ys e = back_in xs ys e.1
-
   pub ins : EachIs (λ (h : RawHead). IsIn names h.name.name) ts
-  ins = front_in ts hs of.words_in
+  ins = each_front (λ (h : RawHead). IsIn names h.name.name) ts hs of.words_in
 
   pub inh : EachIs (λ (h : RawHead). IsIn names h.name.name) hs
-  inh = back_in ts hs of.words_in
+  inh = each_back (λ (h : RawHead). IsIn names h.name.name) ts hs of.words_in
 
   pub upt : AreRising ts
   upt = rising ts of.tasks_in_order
@@ -269,21 +247,22 @@ module _ (names : Names) (d : RawDomain) (known : Declared) (of : AreCallablesOf
   pub uph : AreRising hs
   uph = rising hs of.actions_in_order
 
-  answered : Answer names of.differ a.head.name.number is ts hs ins inh upt uph of.apart (stands_for (declared d.tasks d.actions) a.head.name.number)
-  answered = answer names of.differ a.head.name.number is ts hs ins inh upt uph of.apart (first_called a.head.name.number (callables_from Task 0 ts)) (first_called a.head.name.number (callables_from Action 0 hs)) refl refl
+module _ (names : Names) (d : RawDomain) (known : Declared) (of : AreCallablesOf names d known) (a : RawAtom) (is : IsIn names a.head.name) where
+  answered : Answer names of.differ a.head.name.number is d.tasks (heads d.actions) (ins names d known of) (inh names d known of) (upt names d known of) (uph names d known of) of.apart (stands_for (declared d.tasks d.actions) a.head.name.number)
+  answered = answer names of.differ a.head.name.number is d.tasks (heads d.actions) (ins names d known of) (inh names d known of) (upt names d known of) (uph names d known of) of.apart (first_called a.head.name.number (callables_from Task 0 d.tasks)) (first_called a.head.name.number (callables_from Action 0 (heads d.actions))) refl refl
 
   call_has : (objects : List Word) (here : Scope) (code at : ℕ) → Has (call_faults (called (declared d.tasks d.actions) a) a) (spot at code) ↔ HasUseFault names d objects here (applies subtask a) code at
   call_has objects here code at =
-      let m = meets names of.differ a.head.name.number is ts hs ins inh upt uph of.apart (stands_for (declared d.tasks d.actions) a.head.name.number) answered in (
-        wrong_there names of.differ a.head.name.number is ts hs ins inh upt uph of.apart (ts ++ hs) (λ h l. l) a code at (stands_for (declared d.tasks d.actions) a.head.name.number) m,
-        wrong_back names of.differ a.head.name.number is ts hs ins inh upt uph of.apart (ts ++ hs) (λ h l. l) a code at (stands_for (declared d.tasks d.actions) a.head.name.number) m,
+      let m = meets names of.differ a.head.name.number is d.tasks (heads d.actions) (ins names d known of) (inh names d known of) (upt names d known of) (uph names d known of) of.apart (stands_for (declared d.tasks d.actions) a.head.name.number) answered in (
+        wrong_there names of.differ a.head.name.number is d.tasks (heads d.actions) (ins names d known of) (inh names d known of) (upt names d known of) (uph names d known of) of.apart (d.tasks ++ (heads d.actions)) (λ h l. l) a code at (stands_for (declared d.tasks d.actions) a.head.name.number) m,
+        wrong_back names of.differ a.head.name.number is d.tasks (heads d.actions) (ins names d known of) (inh names d known of) (upt names d known of) (uph names d known of) of.apart (d.tasks ++ (heads d.actions)) (λ h l. l) a code at (stands_for (declared d.tasks d.actions) a.head.name.number) m,
       )
 
   task_has : (objects : List Word) (here : Scope) (code at : ℕ) → Has (call_faults (method_task (declared d.tasks d.actions) a) a) (spot at code) ↔ HasUseFault names d objects here (applies task a) code at
   task_has objects here code at =
-      let m = meets_task names of.differ a.head.name.number is ts hs ins inh upt uph of.apart (stands_for (declared d.tasks d.actions) a.head.name.number) answered in (
-        wrong_there names of.differ a.head.name.number is ts hs ins inh upt uph of.apart ts (has_left ts hs) a code at (if_task (stands_for (declared d.tasks d.actions) a.head.name.number)) m,
-        wrong_back names of.differ a.head.name.number is ts hs ins inh upt uph of.apart ts (has_left ts hs) a code at (if_task (stands_for (declared d.tasks d.actions) a.head.name.number)) m,
+      let m = meets_task names of.differ a.head.name.number is d.tasks (heads d.actions) (ins names d known of) (inh names d known of) (upt names d known of) (uph names d known of) of.apart (stands_for (declared d.tasks d.actions) a.head.name.number) answered in (
+        wrong_there names of.differ a.head.name.number is d.tasks (heads d.actions) (ins names d known of) (inh names d known of) (upt names d known of) (uph names d known of) of.apart d.tasks (has_left d.tasks (heads d.actions)) a code at (if_task (stands_for (declared d.tasks d.actions) a.head.name.number)) m,
+        wrong_back names of.differ a.head.name.number is d.tasks (heads d.actions) (ins names d known of) (inh names d known of) (upt names d known of) (uph names d known of) of.apart d.tasks (has_left d.tasks (heads d.actions)) a code at (if_task (stands_for (declared d.tasks d.actions) a.head.name.number)) m,
       )
 
 pub has_call_faults : OfAllCallables HasCallFaults

@@ -45,7 +45,7 @@ module _ (names : Names) (d : RawDomain) (objects : List Word) (known : Known) (
   pub params_are : (xs : List RawParam) → AreParamsIn names xs → ((x : RawParam) → IsDeclared xs (declares x) → IsNumbered names known.types x.ty) → params_faults known.types xs ≡ [] → Together (IsBoundParam v names) xs (params_bound known.types xs)
   params_are xs is n e = are_params_bound names d known.types v xs of.types is has.kinds (numbered_each xs n) e
 
-  variables_are : (xs : List RawParam) → map (variable v) (params_bound known.types xs) ≡ variables names xs
+  pub variables_are : (xs : List RawParam) → map (variable v) (params_bound known.types xs) ≡ variables names xs
   variables_are [] = refl
   variables_are (x ∷ xs) = λ i. word_at (has.kinds.table i) x.name.number ∷ variables_are xs i
 

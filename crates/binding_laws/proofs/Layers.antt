@@ -42,14 +42,14 @@ module _ (names : Names) where
   effect_in x is = subst (λ (z : Type 0). z) (rec-roll-RawEffect (Type 0) (λ X u k layer. effect_of_step (IsNameIn names) k layer) effect_natural x) is
 
   -- the variables in force behind those that a list declares
-  declared_words : (xs : List RawParam) → words_of names (variables_of xs) ≡ variables names xs
+  pub declared_words : (xs : List RawParam) → words_of names (variables_of xs) ≡ variables names xs
   declared_words [] = refl
   declared_words (x ∷ xs) = ap (λ ws. word_at names x.name.number ∷ ws) (declared_words xs)
 
   pub inner_words : (scope : List ℕ) (xs : List RawParam) → words_of names (scope ++ variables_of xs) ≡ words_of names scope ++ variables names xs
   inner_words scope xs = map-append (word_at names) scope (variables_of xs) ∙ ap (λ ws. words_of names scope ++ ws) (declared_words xs)
 
-  declared_in : (xs : List RawParam) → AreParamsIn names xs → AreKnown names (variables_of xs)
+  pub declared_in : (xs : List RawParam) → AreParamsIn names xs → AreKnown names (variables_of xs)
   declared_in [] is = tt
   declared_in (x ∷ xs) is = (is.0.0, declared_in xs is.1)
 

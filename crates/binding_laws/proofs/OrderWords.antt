@@ -23,9 +23,10 @@ use Rattle.bind_networks.specs.Pairs.{pair_faults}
 use Rattle.bind_networks.specs.Cycle as numbers
 use Rattle.binding_laws.specs.Orders.{AreIdsIn, HasUnknownIds, HasCycle, HasLimit, OfAllNetworks}
 use Rattle.binding_laws.proofs.Lists.{append_there, append_left, append_right, flat_there, flat_back, unless_has}
+use Rattle.binding_laws.proofs.Ones.{each_front, each_back}
 use Rattle.binding_laws.proofs.Places.{same_number}
 
-abbrev AreIn : Names → List RawSub → Type 0
+abbrev pub AreIn : Names → List RawSub → Type 0
 AreIn names ss = EachIs (λ (s : RawSub). IfSome s.id (λ (t : RawTerm). IsIn names t.name)) ss
 
 module _ (names : Names) (differ : AreDifferent names) (n : ℕ) (known : n < length names) where
@@ -176,27 +177,19 @@ module _ (names : Names) (net : RawNet) (of : AreIdsIn names net) where
   closes_back xs x k l (i, j, p, inl e) = (i, j, pair_back x i j l p, inl e)
   closes_back xs x k l (i, j, p, inr q) = (i, j, pair_back x i j l p, inr (precedes_by (words.IsOrdered names net xs) (numbers.IsOrdered net xs) (ordered_back xs k) j i q))
 
-front_each : {X : Type 0} (K : X → Type 0) (xs ys : List X) → EachIs K (xs ++ ys) → EachIs K xs
-front_each K [] ys e = tt
-front_each K (x ∷ xs) ys e = (e.0, front_each K xs ys e.1)
-
-back_each : {X : Type 0} (K : X → Type 0) (xs ys : List X) → EachIs K (xs ++ ys) → EachIs K ys
-back_each K [] ys e = e
-back_each K (x ∷ xs) ys e = back_each K xs ys e.1
-
 -- the first for which the one holds is the first for which the other does
-first_by : {X : Type 0} (K : X → Type 0) (P Q : List X → X → Type 0) (xs : List X) (x : X) → EachIs K xs → ((ys : List X) (y : X) → EachIs K ys → K y → P ys y → Q ys y) → ((ys : List X) (y : X) → EachIs K ys → K y → Q ys y → P ys y) → IsFirst P xs x → IsFirst Q xs x
+pub first_by : {X : Type 0} (K : X → Type 0) (P Q : List X → X → Type 0) (xs : List X) (x : X) → EachIs K xs → ((ys : List X) (y : X) → EachIs K ys → K y → P ys y → Q ys y) → ((ys : List X) (y : X) → EachIs K ys → K y → Q ys y → P ys y) → IsFirst P xs x → IsFirst Q xs x
 first_by K P Q xs x k there back first =
     let all = subst (EachIs K) first.parts k in
-    let front = front_each K first.front (x ∷ first.rest) all in
+    let front = each_front K first.front (x ∷ first.rest) all in
     record {
       front = first.front;
       rest = first.rest;
       parts = first.parts;
-      is = there first.front x front (back_each K first.front (x ∷ first.rest) all).0 first.is;
+      is = there first.front x front (each_back K first.front (x ∷ first.rest) all).0 first.is;
       none_before = λ before behind y e q.
           let within = subst (EachIs K) e front in
-          first.none_before before behind y e (back before y (front_each K before (y ∷ behind) within) (back_each K before (y ∷ behind) within).0 q);
+          first.none_before before behind y e (back before y (each_front K before (y ∷ behind) within) (each_back K before (y ∷ behind) within).0 q);
     }
 
 pub has_unknown_ids : OfAllNetworks HasUnknownIds

@@ -26,7 +26,7 @@ AreRisingAt (x ∷ xs) = Each (λ (y : WordAt). x.at < y.at) xs × AreRisingAt x
 abbrev words_at : List WordAt → List Word
 words_at xs = map (λ (x : WordAt). x.word) xs
 
-has_at : (ws : List Word) (k : ℕ) → k < length ws → Has ws (word_at ws k)
+pub has_at : (ws : List Word) (k : ℕ) → k < length ws → Has ws (word_at ws k)
 has_at [] k l = absurd (omega arith)
 has_at (w ∷ ws) zero l = inl refl
 has_at (w ∷ ws) (suc k) l = inr (has_at ws k (omega arith))

@@ -1,5 +1,5 @@
 -- Written types by numbers and in words.
-use Rattle.std.proofs.Common.{ℕ, ◌≡◌, ◌<◌, ◌+◌, inl, inr, List, [], ◌∷◌, ◌++◌, map, length, get_or, refl, sym, ap, subst, ◌∙◌, arith}
+use Rattle.std.proofs.Common.{ℕ, zero, suc, ◌≡◌, ◌<◌, ◌+◌, inl, inr, List, [], ◌∷◌, ◌++◌, map, length, get_or, refl, sym, ap, subst, ◌∙◌, arith}
 use Rattle.std.specs.Prelude.{unwrap_or, option_map, position, codes}
 use Rattle.std.specs.Str.{bytes_eq}
 use Rattle.std.proofs.lemmas.List.{get_or-map, length-map}
@@ -33,6 +33,12 @@ pub none_right : {X : Type 0} (xs ys : List X) → xs ++ ys ≡ [] → ys ≡ []
 none_right [] ys e = e
 none_right (x ∷ xs) ys e = absurd (cc)
 
+-- what stands in front stays there
+front_at : {X : Type 0} (us vs : List (List X)) (k : ℕ) → k < length us → get_or (us ++ vs) k [] ≡ get_or us k []
+front_at [] vs k l = absurd (omega arith)
+front_at (u ∷ us) vs zero l = refl
+front_at (u ∷ us) vs (suc k) l = front_at us vs k (omega arith)
+
 module _ (names : Names) (d : RawDomain) (kinds : Kinds) (of : AreTypesOf names d kinds) where
   first : (t : RawTerm) → IsIn names t.name → words.first_place (term_word names t) (words_of names kinds.types) ≡ numbers.first_place t.name.number kinds.types
   first t is = (have_one_place names t.name.number kinds.types of.differ is of.known).0
@@ -58,12 +64,12 @@ module _ (names : Names) (d : RawDomain) (kinds : Kinds) (of : AreTypesOf names 
   kinds_back (t ∷ ts) code at is c (inr h) = inr (kinds_back ts code at is.1 c h)
 
   -- a type without a fault stands at its number
-  type_is : (t : RawTerm) → IsIn names t.name → type_faults kinds t ≡ [] → (type_number kinds t < length (words_of names kinds.types)) × (word_at (words_of names kinds.types) (type_number kinds t) ≡ term_word names t)
+  pub type_is : (t : RawTerm) → IsIn names t.name → type_faults kinds t ≡ [] → (type_number kinds t < length (words_of names kinds.types)) × (word_at (words_of names kinds.types) (type_number kinds t) ≡ term_word names t)
   type_is t is e =
       first_is (term_word names t) (words_of names kinds.types) (type_number kinds t)
       (first t is ∙ found_at 11 t.at (numbers.first_place t.name.number kinds.types) e)
 
-  types_are : (ts : List RawTerm) → AreTermsIn names ts → kind_faults kinds ts ≡ [] → map (word_at (words_of names kinds.types)) (map (type_number kinds) ts) ≡ map (term_word names) ts
+  pub types_are : (ts : List RawTerm) → AreTermsIn names ts → kind_faults kinds ts ≡ [] → map (word_at (words_of names kinds.types)) (map (type_number kinds) ts) ≡ map (term_word names) ts
   types_are [] is e = refl
   types_are (t ∷ ts) is e = λ i.
       (type_is t is.0 (none_left (type_faults kinds t) (kind_faults kinds ts) e)).1 i
@@ -86,7 +92,7 @@ module _ (names : Names) (d : RawDomain) (kinds : Kinds) (of : AreTypesOf names 
         numbers_differ ts is.1 g n.1,
       )
 
-  members_are : (ts : List RawTerm) → AreTermsIn names ts → kind_faults kinds ts ≡ [] → AreDifferent (map (term_word names) ts) → members_written kinds ts ≡ map (type_number kinds) ts
+  pub members_are : (ts : List RawTerm) → AreTermsIn names ts → kind_faults kinds ts ≡ [] → AreDifferent (map (term_word names) ts) → members_written kinds ts ≡ map (type_number kinds) ts
   members_are ts is e n = seen_once [] (map (type_number kinds) ts) (numbers_differ ts is e n) (λ m h g. g)
 
   module _ (v : Declared) (has : HasKinds v names kinds) where
@@ -106,6 +112,7 @@ module _ (names : Names) (d : RawDomain) (kinds : Kinds) (of : AreTypesOf names 
         ap (kind_by kinds) e ∙ ap (λ ms. unwrap_or (option_map (λ k. length kinds.types + k) (position (bytes_eq ms) kinds.unions)) 0) (sym e)
         ∙ ap (λ o. unwrap_or (option_map (λ k. length kinds.types + k) o) 0) p.1 ∙ ap (λ k. k + p.0) (sym (ap length has.types ∙ length-map kinds.types (word_at names))) in
         ap (kind_at v) is ∙ kind_union v.types v.unions p.0 ∙ ap (λ us. get_or us p.0 []) has.unions
+        ∙ front_at (map (map (word_at v.types)) kinds.unions) has.more p.0 (subst (λ n. p.0 < n) (sym (length-map kinds.unions (map (word_at v.types)))) p.2)
         ∙ get_or-map (map (word_at v.types)) kinds.unions p.0 [] [] p.2 ∙ ap (map (word_at v.types)) p.3
 
     kind_is : (ts : List RawTerm) → AreTermsIn names ts → IsNumbered names kinds ts → kind_faults kinds ts ≡ [] → kind_at v (kind_bound kinds ts) ≡ bound.types_of v names ts

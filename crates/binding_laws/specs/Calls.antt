@@ -12,9 +12,9 @@ use Rattle.plan_texts.specs.Types.{EachIs}
 use Rattle.form_spellings.specs.InTable.{IsIn}
 use Rattle.name_faults.specs.Lists.{Has}
 use Rattle.name_faults.specs.Uses.{Scope, applies, subtask, task}
-use Rattle.name_faults.specs.Words.{callables, term_word}
+use Rattle.name_faults.specs.Words.{callables, term_word, head_at, IsSecond}
 use Rattle.name_numbers.specs.Spots.{spot, IsInTextOrder}
-use Rattle.bind_networks.specs.Callables.{Declared, declared, heads}
+use Rattle.bind_networks.specs.Callables.{Declared, declared, heads, second_callables}
 use Rattle.bind_networks.specs.Calls.{called, method_task, head_called, call_faults}
 use Rattle.binding_laws.specs.Uses.{HasUseFault}
 
@@ -39,6 +39,11 @@ module _ (names : Names) (d : RawDomain) (known : Declared) where
   abbrev pub HasTaskFaults : Type 0
   HasTaskFaults = (objects : List Word) (here : Scope) (a : RawAtom) (code at : ℕ) → AreCallablesOf names d known → IsIn names a.head.name
       → Has (call_faults (method_task known a) a) (spot at code) ↔ HasUseFault names d objects here (applies task a) code at
+
+  -- 10 at each task and each action that stands behind another of its word
+  abbrev pub HasSecondCallables : Type 0
+  HasSecondCallables = (code at : ℕ) → AreCallablesOf names d known
+      → Has (second_callables known) (spot at code) ↔ ((code ≡ 10) × IsSecond [] (map (head_at names) (callables d)) at)
 
   abbrev pub called_words : List RawHead → List Word
   called_words hs = map (λ (h : RawHead). term_word names h.name) hs

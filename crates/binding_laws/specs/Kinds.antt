@@ -1,6 +1,6 @@
 -- What binding says of written types by numbers, in words: their faults, and the type that they are bound to.
 -- Source: this project's.
-use Rattle.std.specs.Prelude.{ℕ, ◌≡◌, ◌≤◌, ◌↔◌, List, [], map, length, codes, Some}
+use Rattle.std.specs.Prelude.{ℕ, ◌≡◌, ◌≤◌, ◌↔◌, List, [], ◌++◌, map, length, codes, Some}
 use Rattle.htn_base.specs.Different.{AreDifferent}
 use Rattle.text_forms.specs.Words.{Word, word_at, first_place}
 use Rattle.gd_reader.specs.declared.term.RawTerm.{RawTerm}
@@ -24,11 +24,12 @@ pub record AreTypesOf (names : Names) (d : RawDomain) (kinds : Kinds) : Type 0 w
   pub known : AreKnown names kinds.types
   pub words : (w : Word) → Has (words_of names kinds.types) w ↔ IsType names d w
 
--- The words in use have these types, object first, and these unions.
+-- The words in use have these types, object first, and these unions with perhaps more behind them.
 pub record HasKinds (v : Declared) (names : Names) (kinds : Kinds) : Type 0 where
   pub table : v.names ≡ names
   pub types : v.types ≡ words_of names kinds.types
-  pub unions : v.unions ≡ map (map (word_at v.types)) kinds.unions
+  pub more : List (List Word)
+  pub unions : v.unions ≡ map (map (word_at v.types)) kinds.unions ++ more
   pub object_first : first_place (codes "object") v.types ≡ Some 0
 
 module _ (names : Names) where

@@ -9,3 +9,16 @@ pub mod Seconds
 pub mod Orders
 pub mod Calls
 pub mod WholeNetworks
+pub mod EachList
+pub mod InOrder
+pub mod NetworkValues
+pub mod TypeWords
+pub mod Schemas
+pub mod SchemaValues
+pub mod TypeCycles
+pub mod WholeFaults
+pub mod BoundTypes
+pub mod WholeValues
+pub mod SoundSchemas
+pub mod SoundNetworks
+pub mod SeenBound

@@ -47,6 +47,12 @@ pub reads_by : {X Y : Type 0} (P : Y → Names → Type 0) (names : Names) (r : 
 reads_by P names (Ok x) f a = a x
 reads_by P names (Err e) f a = tt
 
+-- a name that is due, and what is read behind it
+pub due_then : {X Y Z : Type 0} (P : X → Names → Type 0) (Q : Y → Names → Type 0) (names : Names) (q : Z) (r : Result (X × Names) Stop) (g : (X × Z) × Names → Result (Y × Names) Stop)
+    → Reads names r P → ((a : X × Names) → Reads a.1 (g ((a.0, q), a.1)) (λ y table. P a.0 table → Q y table)) → Reads names ((r >>= (λ a. Ok ((a.0, q), a.1))) >>= g) Q
+due_then P Q names q (Ok x) g a b = reads_then (λ (n : Names). n) P Q names (Ok x) (λ a. g ((a.0, q), a.1)) a b
+due_then P Q names q (Err e) g a b = tt
+
 -- the end of the list behind it
 pub reads_end : {X : Type 0} (Q : X → Names → Type 0) (q : Placed) (x : X × Names) → (parts_of q ≡ nothing → (table : Names) → Q x.0 table) → Reads x.1 (end_due q >>= (λ _. Ok x)) Q
 unfolding end_due

@@ -65,4 +65,6 @@ mod TextsExact
 mod NetworksRead
 mod SchemasRead
 mod TextsRead
+pub mod order
+pub mod seen
 pub mod examples

@@ -21,10 +21,10 @@ pub stands : {X : Type 0} (P : X → Names → Type 0) (names now : Names) (r : 
 stands P names now r x e h = (subst (λ r. Reads names r P) e h).1
 
 -- wherever they are
-abbrev anywhere : Facts
+abbrev pub anywhere : Facts
 anywhere = record { Seen = λ at w. Unit {0}; Opens = λ place at w. Unit {0}; Is = IsNameIn; holds = λ names table variable at w k s. name_stands names w table k }
 
-all_seen : (p : Placed) → AllSeen anywhere p
+pub all_seen : (p : Placed) → AllSeen anywhere p
 all_seen cut = tt
 all_seen (close at) = tt
 all_seen (word at w p) = (tt, all_seen p)

@@ -1,11 +1,10 @@
 -- What holds of the names and places of subtasks, orderings and constraints.
-use Rattle.std.proofs.Common.{◌≡◌, ◌∙◌, ℕ, inl, inr, Bool, true, false, if◌then◌else◌, codes, Ok, Err, Result, List, [], ◌∷◌, Option, Some, None, IfSome, refl, sym, ap, subst}
+use Rattle.std.proofs.Common.{◌≡◌, ◌∙◌, ℕ, inl, inr, Bool, true, false, if◌then◌else◌, codes, Ok, Err, List, [], ◌∷◌, Option, Some, None, IfSome, refl, sym, ap, subst}
 use Rattle.std.specs.Option.{unwrap_or}
 use Rattle.plan_texts.proofs.Basics.{bytes_eq-true}
 use Rattle.text_forms.specs.Placed.{Placed, cut, close, word, list}
 use Rattle.text_forms.specs.Words.{Word}
 use Rattle.plan_texts.specs.Types.{EachIs}
-use Rattle.gd_reader.specs.declared.stop.Stop.{Stop}
 use Rattle.gd_reader.specs.declared.stop.Stop.TheVariants.{Departs}
 use Rattle.gd_reader.specs.declared.term.RawTerm.{RawTerm}
 use Rattle.gd_reader.specs.declared.term.RawAtom.{RawAtom}
@@ -21,7 +20,7 @@ use Rattle.hddl_reader.specs.declared.networks.RawCon.{RawCon}
 use Rattle.hddl_reader.specs.Networks.{is_word, declared_by, declared, behind_name, sub_headed, sign_due, name_due, then_due, pair_headed, con_of, equation, con_headed, Headed, one_of, all_of, some_of}
 use Rattle.form_spellings.specs.EachPart.{OpensTerm, OfSub, OfPair, OfCon}
 use Rattle.form_spellings.proofs.Facts.{Facts, Fronted, AllSeen}
-use Rattle.form_spellings.proofs.KeptWords.{Reads, reads_then, reads_map, reads_weaken, reads_end}
+use Rattle.form_spellings.proofs.KeptWords.{Reads, reads_then, reads_map, reads_weaken, reads_end, due_then}
 use Rattle.form_spellings.proofs.TermsIn.{TermIn, TermsIn, AtomIn, PairIn, same, raw_in, terms_in, applied_in, two_in}
 
 module _ (F : Facts) where
@@ -83,12 +82,6 @@ module _ (F : Facts) where
       reads_then same (NameFrom at) SubIn names (declared 8 names at w) (λ h. behind_name h.0 h.1 p >>= (λ x. Ok (record { id = x.0.0; atom = x.0.1; at = place }, x.1))) (declared_in 8 names at w seen)
       (λ h. reads_map (BehindIn h.0) (λ x table. NameFrom at h.0 table → SubIn x table) h.1 (behind_name h.0 h.1 p) (λ x. record { id = x.0; atom = x.1; at = place }) (behind_in p h.0 h.1 s)
       (λ x table is one. let y = is one.0 in record { id = y.0; atom = y.1; place = opens_term place at w (unwrap_or x.0 x.1.head) opens (ap (λ (t : RawTerm). t.at) y.2 ∙ one.1) }))
-
-  -- a name that is due, and what is read behind it
-  due_then : {Y : Type 0} (P : RawTerm → Names → Type 0) (Q : Y → Names → Type 0) (names : Names) (q : Placed) (r : Result (RawTerm × Names) Stop) (g : (RawTerm × Placed) × Names → Result (Y × Names) Stop)
-      → Reads names r P → ((a : RawTerm × Names) → Reads a.1 (g ((a.0, q), a.1)) (λ y table. P a.0 table → Q y table)) → Reads names ((r >>= (λ a. Ok ((a.0, q), a.1))) >>= g) Q
-  due_then P Q names q (Ok x) g a b = reads_then same P Q names (Ok x) (λ a. g ((a.0, q), a.1)) a b
-  due_then P Q names q (Err e) g a b = tt
 
   -- the two names, once the place of the parenthesis is known
   abbrev ThenIn : RawTerm → ℕ → RawPair → Names → Type 0

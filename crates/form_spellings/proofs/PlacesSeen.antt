@@ -23,7 +23,7 @@ From all n xs = (i : ℕ) → slice_get all (n + i) ≡ slice_get xs i
 from_next : {X : Type 0} (all : List X) (n : ℕ) (x : X) (xs : List X) → From all n (x ∷ xs) → From all (suc n) xs
 from_next all n x xs h i = let e : suc n + i ≡ n + suc i = omega arith in ap (slice_get all) e ∙ h (suc i)
 
-from_drop : {X : Type 0} (n : ℕ) (all : List X) → From all n (drop n all)
+pub from_drop : {X : Type 0} (n : ℕ) (all : List X) → From all n (drop n all)
 from_drop zero all i = let e : 0 + i ≡ i = omega arith in ap (slice_get all) e
 from_drop (suc n) [] i = let e : suc n + i ≡ suc (n + i) = omega arith in ap (slice_get []) e
 from_drop (suc n) (x ∷ all) i = let e : suc n + i ≡ suc (n + i) = omega arith in ap (slice_get (x ∷ all)) e ∙ from_drop n all i

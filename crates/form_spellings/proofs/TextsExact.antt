@@ -53,10 +53,10 @@ name_exact (word at w p) names =
     (λ _. (keeps_same h.1, λ table k one u e. one.0 ∙ name_is (front_is e))))
 
 -- what is defined, and its name
-abbrev IsTitled : Parts → Name → Names → Type 0
+abbrev pub IsTitled : Parts → Name → Names → Type 0
 IsTitled ps n table = (k w : Word) → ps ≡ part (name k) (part (name w) nothing) → named table n ≡ w
 
-title_exact : (p : Placed) (d : Definition) (names : Names) → Reads names (title d names p) (IsTitled (parts_of p))
+pub title_exact : (p : Placed) (d : Definition) (names : Names) → Reads names (title d names p) (IsTitled (parts_of p))
 unfolding title
 title_exact p d names =
     behind_key (IsTitled (parts_of p)) (definition_word d) names (λ q. coded 5 (word_due q) >>= (λ v. declared 5 names v.0 v.1 >>= (λ h. coded 5 (end_due v.2) >>= (λ _. Ok (h.0.name, h.1))))) p

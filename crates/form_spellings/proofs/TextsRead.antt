@@ -148,7 +148,7 @@ module _ (d : Definition) (kind : Word) (text : List ℕ) (names left later : Na
   known : DefinitionIs (parts_at text 0) x later
   known = stands (DefinitionIs (parts_at text 0)) names left (definition_read language.Hddl d names (parts_at text 0)) x is.gives (definition_exact (parts_at text 0) language.Hddl d names) later keeps
 
-  read_of : (w : Word) (ss : Parts) → IsDefinition kind text w ss → IsHeaded w ss x later
+  pub read_of : (w : Word) (ss : Parts) → IsDefinition kind text w ss → IsHeaded w ss x later
   read_of w ss i = known kind w ss ((says_as_placed text (Text w ss)).0 i.is)
 
   headed_of : {Are : Parts → Type 0} (s : IsDefined kind Are (parts_at text 0)) → IsHeaded s.0 s.1 x later

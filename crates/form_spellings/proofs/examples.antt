@@ -2,3 +2,4 @@ pub mod Forms
 mod Places
 mod Definitions
 mod Texts
+mod Seen

@@ -20,3 +20,12 @@ pub mod BoundTexts
 pub mod ReadNetworks
 pub mod ReadSchemas
 pub mod ReadTexts
+pub mod OneWord
+pub mod Rising
+pub mod EachList
+pub mod Arguments
+pub mod InOrder
+pub mod Written
+pub mod SeenInOrder
+pub mod TypeOrder
+pub mod HddlInOrder

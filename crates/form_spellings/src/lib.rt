@@ -7,18 +7,24 @@
 //! once its names are bound, is spelled by the parts from which it was read (`what_is_read_is_spelled`), and these parts spell nothing
 //! else (`what_is_spelled_is_read`); the same holds of the parts of networks (`networks_spell_what_is_bound`), of schemas
 //! (`schemas_spell_what_is_bound`) and of the whole texts of an HDDL domain and problem (`texts_spell_what_is_bound`); its names
-//! stand in the name table (`names_stand_in_the_table`), and its offsets are those of tokens (`places_are_those_of_tokens`).
+//! stand in the name table (`names_stand_in_the_table`), its offsets are those of tokens (`places_are_those_of_tokens`), one word at
+//! each (`one_word_stands_at_one_offset`), and its lists stand in the order of the text (`what_is_read_is_in_order`); the texts
+//! first name types, pairs and unions in the order of its offsets, so what is read, bound in this order, is the HDDL value of its
+//! texts (`offsets_tell_what_is_first_seen`).
 #![tactic(auto)]
 
 mod bound;
+mod first_seen;
 mod laws;
 mod names;
 mod places;
 mod read;
+mod rising;
 
 pub use bound::{
     networks_spell_what_is_bound, schemas_spell_what_is_bound, texts_spell_what_is_bound,
 };
+pub use first_seen::offsets_tell_what_is_first_seen;
 pub use laws::{
     spelled_definitions_are_whole, whole_definitions, whole_effects, whole_formulas, whole_lists,
     whole_networks, whole_schemas,
@@ -26,3 +32,4 @@ pub use laws::{
 pub use names::names_stand_in_the_table;
 pub use places::places_are_those_of_tokens;
 pub use read::{what_is_read_is_spelled, what_is_spelled_is_read};
+pub use rising::{one_word_stands_at_one_offset, what_is_read_is_in_order};

@@ -1,2 +1,3 @@
 pub mod MethodsNoted
+pub mod WholeTexts
 mod examples

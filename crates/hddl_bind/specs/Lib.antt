@@ -6,3 +6,6 @@ pub mod DomainSchemas
 pub mod Facts
 pub mod ProblemParts
 pub mod Judged
+pub mod WholeUnions
+pub mod WholeDomains
+pub mod WholeProblems

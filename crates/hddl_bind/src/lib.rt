@@ -5,11 +5,13 @@
 //! actions, methods and facts are bound to what stands for them, and the faults of their names are noted (`predicates_of`,
 //! `tasks_of`, `actions_of`, `methods_of`, `facts_of`), and so are all that a domain declares but its types (`schemas_of`) and what
 //! a problem says beyond its domain (`parts_of`); names that are declared again are noted where the tables of names are made
-//! (`names_of`); and what was bound is handed out exactly where no fault was noted, else the least is (`judged`). The whole domain
-//! and the whole problem are to stand on these.
+//! (`names_of`); and what was bound is handed out exactly where no fault was noted, else the least is (`judged`). On these stand the
+//! whole domain and the whole problem (`bind_domain`, `bind_problem`).
 #![tactic(auto)]
 
 mod actions;
+mod bound_domain;
+mod bound_problem;
 mod declared;
 mod domain_names;
 mod domain_schemas;
@@ -18,8 +20,11 @@ mod facts;
 mod heads;
 mod methods;
 mod problem_parts;
+mod whole_unions;
 
 pub use actions::actions_of;
+pub use bound_domain::{BoundDomain, bind_domain};
+pub use bound_problem::bind_problem;
 pub use domain_names::{DomainNames, names_of};
 pub use domain_schemas::{DomainSchemas, schemas_of};
 pub use errors::{BindError, judged};

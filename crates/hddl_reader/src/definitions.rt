@@ -1,4 +1,4 @@
-ghost use Rattle.std.specs.Prelude.{◌≡◌, IfOk, IfErr};
+ghost use Rattle.std.specs.Prelude.{◌≡◌, IfOk, IfErr, OnErr};
 ghost use Rattle.htn_base.specs.Words.{folded};
 ghost use Rattle.text_forms.specs.Placed.{parts_at};
 ghost use Rattle.gd_reader.specs.Added.{AddsOf, Says};
@@ -232,6 +232,7 @@ fn refusal(failure: Failure, file: u8, end: u32) -> ReadError
 /// token with which the tokens no longer begin a domain: code 5 in the header, 6 at a keyword of another place, 7
 /// at a repeated one, 9 where a reserved word is declared, 18 at a repeated parameter or variable, else 8. A text
 /// without tokens has code 5 at its length. Where a definition ends, code 8 is for a missing `:task`.
+/// On an error no word is added.
 pub fn domain(
     alloc: Global,
     s: &Sexprs<'_>,
@@ -241,12 +242,17 @@ pub fn domain(
 ) -> Result<RawDomain, ReadError>
     ensures read { IfOk result (λ d. IsDomainRead language names.old s.now (d, names.new)) }
     ensures refused { IfErr result (Refuses language definition.Domain s.now file) }
+    ensures unchanged { OnErr result (names.new ≡ names.old) }
     ensures keeps { Keeps names.old names.new }
     ensures adds { AddsOf s.now names.old names.new }
 {
+    let known = names.len();
     match definition_of(alloc, s, language, Definition::Domain, names) {
         Ok((name, sections)) => Ok(sections.into_domain(alloc, name)),
-        Err(failure) => Err(refusal(failure, file, s.text_len())),
+        Err(failure) => {
+            names.truncate(known);
+            Err(refusal(failure, file, s.text_len()))
+        }
     }
 }
 
@@ -260,11 +266,16 @@ pub fn problem(
 ) -> Result<RawProblem, ReadError>
     ensures read { IfOk result (λ p. IsProblemRead language names.old s.now (p, names.new)) }
     ensures refused { IfErr result (Refuses language definition.Problem s.now file) }
+    ensures unchanged { OnErr result (names.new ≡ names.old) }
     ensures keeps { Keeps names.old names.new }
     ensures adds { AddsOf s.now names.old names.new }
 {
+    let known = names.len();
     match definition_of(alloc, s, language, Definition::Problem, names) {
         Ok((name, sections)) => Ok(sections.into_problem(alloc, name)),
-        Err(failure) => Err(refusal(failure, file, s.text_len())),
+        Err(failure) => {
+            names.truncate(known);
+            Err(refusal(failure, file, s.text_len()))
+        }
     }
 }

@@ -44,6 +44,13 @@ impl Places {
         self.numbers.len()
     }
 
+    /// The numbers of the names, in the order in which they were declared.
+    pub fn numbers(&self) -> &[u32]
+        ensures same { result.now ≡ self.now }
+    {
+        self.numbers.as_slice()
+    }
+
     /// The place of the name's first declaration.
     pub fn get(&self, name: Name) -> Option<u32>
         ensures place { result ≡ first_place name.number self.now }

@@ -1,5 +1,5 @@
 -- The last child, the children with which pairs begin, and the places of the line at which it is cut.
-use Rattle.std.proofs.Common.{ℕ, ◌≡◌, ◌≢◌, ◌+◌, ◌<◌, ◌≤◌, ◌↔◌, min, inl, inr, List, [], ◌∷◌, ◌++◌, length, Bool, true, false, IsTrue, Contains, take, get_or, set, sym, subst, ap, ◌∙◌, arith, length-set, get_or-set_same, get_or-set_other}
+use Rattle.std.proofs.Common.{ℕ, ◌≡◌, ◌≢◌, ◌+◌, ◌<◌, ◌≤◌, ◌↔◌, inl, inr, List, [], ◌∷◌, ◌++◌, length, Bool, true, false, IsTrue, Contains, take, get_or, set, sym, subst, ap, ◌∙◌, arith, length-take, get_or-take, length-set, get_or-set_same, get_or-set_other}
 use Rattle.std.proofs.lemmas.List.{take_more, get_or_read}
 use Rattle.std.proofs.lemmas.List.Elements.{Contains-append_left, Contains-push, Contains-push_cases}
 use Rattle.std.proofs.lemmas.Bool.{cases_lt, cases_eq, both_ways}
@@ -50,23 +50,32 @@ module _ (before : List (List Bool)) (line : List ℕ) where
   pub reach_none : IsReach before line (length line) (length line)
   reach_none = record { within = omega arith; all = λ p q a b c. absurd (omega arith); ends = λ l. absurd (omega arith) }
 
-  pub reach_more : (k reach n : ℕ) → k < length line → IsReach before line (k + 1) reach → IsCovered line (get_or before (get_or line k 0) []) n → IsReach before line k (min reach n)
-  reach_more k reach n l h c = elim (cases_lt n reach) [
-    | inl a ↦ subst (IsReach before line k) (let e : n ≡ min reach n = omega arith in e) (less a)
-    | inr a ↦ subst (IsReach before line k) (let e : reach ≡ min reach n = omega arith in e) (same a)
-  ]
+  pub reach_more : (k reach n : ℕ) → k < length line → IsReach before line (k + 1) reach → IsCovered (take reach line) (get_or before (get_or line k 0) []) n → IsReach before line k n
+  reach_more k reach n l h c = record { within = (let m = h.within in omega (arith, far)); all = both; ends = ends }
     where
-      both : (p q : ℕ) → p < reach → p < n → k ≤ q → q < length line → Marked before (get_or line p 0) (get_or line q 0)
-      both p q a b d e = elim (cases_eq q k) [
-        | inl f ↦ subst (λ x. Marked before (get_or line p 0) (get_or line x 0)) (sym f) (c.inside p b)
-        | inr f ↦ h.all p q a (omega arith) e
+      row : List Bool
+      row = get_or before (get_or line k 0) []
+
+      far : n ≤ reach
+      far = let e = length-take reach line in let m = c.within in omega arith
+
+      read : (p : ℕ) → p < reach → get_or (take reach line) p 0 ≡ get_or line p 0
+      read p a = get_or-take reach line p 0 a
+
+      both : (p q : ℕ) → p < n → k ≤ q → q < length line → Marked before (get_or line p 0) (get_or line q 0)
+      both p q a d e = elim (cases_eq q k) [
+        | inl f ↦ subst (λ x. Marked before (get_or line p 0) (get_or line x 0)) (sym f) (subst (λ i. IsTrue (has row i)) (read p (omega (arith, far))) (c.inside p a))
+        | inr f ↦ h.all p q (omega (arith, far)) (omega arith) e
       ]
 
-      less : n < reach → IsReach before line k n
-      less a = record { within = c.within; all = λ p q b d e. both p q (omega arith) b d e; ends = λ b. (k, omega arith, l, c.outside b) }
+      Ends : Type 0
+      Ends = (q : ℕ) × (k ≤ q) × (q < length line) × (marked before (get_or line n 0) (get_or line q 0) ≡ false)
 
-      same : reach ≤ n → IsReach before line k reach
-      same a = record { within = h.within; all = λ p q b d e. both p q b (omega arith) d e; ends = λ b. (let x = h.ends b in let y = x.1 in (x.0, omega arith, x.2, x.3)) }
+      ends : n < length line → Ends
+      ends b = elim (cases_lt n reach) [
+        | inl a ↦ (k, omega arith, l, subst (λ i. has row i ≡ false) (read n a) (c.outside (let e = length-take reach line in omega arith)))
+        | inr a ↦ (let e : reach ≡ n = omega (arith, far) in let x = h.ends (omega (arith, far)) in let y = x.1 in (x.0, omega arith, x.2, subst (λ r. marked before (get_or line r 0) (get_or line x.0 0) ≡ false) e x.3))
+      ]
 
   pub cut_at_reach : (k reach : ℕ) → k < length line → IsReach before line k reach → (k ≤ reach) ↔ IsMarkedCut before line k
   cut_at_reach k reach l h = ((λ a p q b d e. h.all p q (omega arith) d e), back)

@@ -2,6 +2,7 @@ pub mod Chains
 pub mod Closures
 pub mod Lines
 pub mod Ends
+pub mod Lasts
 pub mod Whole
 pub mod Meanings
 pub mod Adding

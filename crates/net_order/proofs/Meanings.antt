@@ -1,7 +1,6 @@
 -- What was found means the order that the pairs generate.
 use Rattle.std.proofs.Common.{ℕ, ◌≡◌, ◌+◌, ◌-◌, ◌<◌, ◌≤◌, ◌↔◌, ◌⊎◌, inl, inr, List, [], ◌∷◌, ◌++◌, length, Bool, false, not, IsTrue, Contains, Option, Some, None, MatchOption, slice_get, take, drop, get_or, refl, sym, subst, ap, ◌∙◌, arith, get_or-take, get_or-drop, length-take, length-drop}
-use Rattle.std.proofs.lemmas.List.{get_or_past, length_push, get_or_default, get_or_at}
-use Rattle.std.proofs.lemmas.Option.{slice_get-get_or}
+use Rattle.std.proofs.lemmas.List.{get_or_past, get_or_default}
 use Rattle.std.proofs.lemmas.Bool.{cases_lt, both_ways, not-true, not_from_false, false_from_ne_true}
 use Rattle.plan_model.specs.declared.networks.Pair.{Pair}
 use Rattle.task_networks.specs.Order.{Precedes, direct, through, ArePairsOf, IsNext, IsLine, IsHeir, IsLast, IsMaximal, IsCut}
@@ -12,6 +11,7 @@ use Rattle.net_order.specs.Meaning.{AreBelow, IsOrderOf}
 use Rattle.plan_model.specs.Pairs.{pair, Pairs}
 use Rattle.net_order.specs.Closure.{IsClosure, AreFirsts}
 use Rattle.net_order.proofs.Chains.{chain_map, pairs_of}
+use Rattle.net_order.proofs.Lasts.{slice_get-last}
 use Rattle.net_order.proofs.Whole as whole
 
 pub marked_within : (count : ℕ) (before : List (List Bool)) → IsSquare count before → ArePairsOf (Marked before) count
@@ -48,8 +48,7 @@ heir_is_last P count line is e = elim (last_cases line) [
   where
     some : (ys : List ℕ) (y : ℕ) → line ≡ ys ++ y ∷ [] → MatchOption (slice_get line (length line - 1)) (count ≡ 0) (IsHeir P count)
     some ys y f =
-        let n : length line ≡ length ys + 1 = ap length f ∙ length_push ys y in
-        let at : slice_get line (length line - 1) ≡ Some y = slice_get-get_or line (length line - 1) 0 (omega arith) ∙ ap Some (subst (λ k. get_or line k 0 ≡ y) (let m : length ys ≡ length line - 1 = omega arith in m) (subst (λ xs. get_or xs (length ys) 0 ≡ y) (sym f) (get_or_at ys y [] 0 (length ys) refl))) in
+        let at : slice_get line (length line - 1) ≡ Some y = subst (λ xs. slice_get xs (length xs - 1) ≡ Some y) (sym f) (slice_get-last ys y) in
         subst (λ o. MatchOption o (count ≡ 0) (IsHeir P count)) (sym at) (ys, subst (IsLine P count) f is)
 
 module _ (count : ℕ) (pairs : List Pair) (before : List (List Bool)) (below : AreBelow count pairs) (closure : IsClosure count pairs before) where
@@ -90,6 +89,13 @@ module _ (count : ℕ) (pairs : List Pair) (before : List (List Bool)) (below : 
             let x : get_or (take k line) p i ≡ i = get_or-take k line p i a ∙ get_or_default line p i 0 (omega arith) in
             let y : get_or (drop k line) (q - k) j ≡ j = get_or-drop k line (q - k) j ∙ (ap (λ r. get_or line r j) s ∙ get_or_default line q j 0 c) in
             marks i j (f i j (p, omega arith, x) (q - k, omega arith, y))
+
+  -- the marks have the line of the pairs
+  pub line_by_marks : (line : List ℕ) → IsLine (Pairs pairs) count line → IsLine (Marked before) (length before) line
+  line_by_marks line is = record {
+    whole = λ i l. is.whole i (omega (arith, sets));
+    each = λ listed rest i e. next_like count (length before) (sym sets) from to listed i (is.each listed rest i e);
+  }
 
   pub is_last : (last : Option ℕ) → MatchOption last ((i : ℕ) → IsMarkedLast before i → ⊥) (IsMarkedLast before) → MatchOption last ((i : ℕ) → IsLast (Pairs pairs) count i → ⊥) (IsLast (Pairs pairs) count)
   is_last None f = λ i m. f i (omega (arith, sets, m.0), λ j l d. marks j i (m.1 j (omega (arith, sets)) d))

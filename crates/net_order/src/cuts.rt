@@ -1,4 +1,4 @@
-ghost use Rattle.std.specs.Prelude.{◌≡◌, ◌<◌, All, min, length, IfOk};
+ghost use Rattle.std.specs.Prelude.{◌≡◌, ◌<◌, All, length, IfOk};
 ghost use Rattle.net_order.specs.Marks.{IsSquare, AreMarkedCuts, IsCovered};
 
 use crate::child_set::ChildSet;
@@ -15,7 +15,7 @@ pub fn cuts_of(alloc: Global, before: &[ChildSet], line: &[u32]) -> Result<Child
     let mut cuts = ChildSet::new(alloc, line.len())?;
     let mut reach = line.len();
     for k in (0..line.len()).rev() {
-        reach = shorter(reach, covered(line, &before[line[k] as usize]));
+        reach = covered(&line[..reach], &before[line[k] as usize]);
         if k <= reach {
             cuts.insert(k);
         }
@@ -34,10 +34,4 @@ fn covered(line: &[u32], set: &ChildSet) -> usize
         }
     }
     line.len()
-}
-
-fn shorter(a: usize, b: usize) -> usize
-    ensures { result ≡ min a b }
-{
-    a.min(b)
 }

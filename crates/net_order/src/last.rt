@@ -1,18 +1,18 @@
-ghost use Rattle.std.specs.Prelude.{◌<◌, ◌^◌, ◌↔◌, length, IsTrue};
-ghost use Rattle.net_order.specs.Marks.{IsSquare, HasAllBut, IsMarkedLastOrNone};
+ghost use Rattle.std.specs.Prelude.{◌<◌, ◌↔◌, length, IsTrue};
+ghost use Rattle.task_networks.specs.Order.{IsLine};
+ghost use Rattle.net_order.specs.Marks.{Marked, IsSquare, HasAllBut, IsMarkedLastOrNone};
 
 use crate::child_set::ChildSet;
 
-/// The child that all others precede. `None` exactly where there is none.
-pub fn last_of(before: &[ChildSet]) -> Option<u32>
+/// The child that all others precede: no other than the last of the line. `None` exactly where there is none.
+pub fn last_of(before: &[ChildSet], line: &[u32]) -> Option<u32>
     requires square { IsSquare (length before.now) before.now }
-    requires small { length before.now < 2 ^ 32 }
+    requires line { IsLine (Marked before.now) (length before.now) line.now }
     ensures last { IsMarkedLastOrNone before.now result }
 {
-    for (i, set) in before.iter().enumerate() {
-        if has_all_but(set, i) {
-            return Some(i as u32);
-        }
+    let child = line.last().copied()?;
+    if has_all_but(&before[child as usize], child as usize) {
+        return Some(child);
     }
     None
 }

@@ -75,7 +75,7 @@ impl Order {
         let (before, line) = sorted(alloc, n as usize, pairs)?;
         let begins = firsts_of(alloc, n as usize, pairs)?;
         let cuts = cuts_of(alloc, before.as_slice(), line.as_slice())?;
-        let last = last_of(before.as_slice());
+        let last = last_of(before.as_slice(), line.as_slice());
         Ok(Order {
             before,
             line,

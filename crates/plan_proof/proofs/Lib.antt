@@ -3,3 +3,4 @@ pub mod examples
 pub mod machine
 pub mod values
 pub mod rows
+pub mod one

@@ -13,3 +13,4 @@ pub mod SmallestWords
 mod CheckOfTop
 mod WideNumbers
 pub mod RenamedRow
+mod WithoutWords

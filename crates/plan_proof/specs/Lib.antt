@@ -5,3 +5,5 @@ pub mod Faithful
 pub mod Same
 pub mod Problems
 pub mod Plans
+pub mod OneText
+pub mod OneGraph

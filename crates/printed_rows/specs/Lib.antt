@@ -1,3 +1,1 @@
-pub mod Fit
 pub mod Ready
-pub mod Shown

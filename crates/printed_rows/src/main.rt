@@ -2,8 +2,8 @@
 //! in both modes of preconditions; and then a line each for some problems, with the blocks of its network and its bound,
 //! or the bad cycle that is named.
 //!
-//! Stands on the reader, the compiler and what prints its problem, and compares with the encoder and the printer by themselves;
-//! and on the strata and the bound. `data/` has the problems, and `stdout` the texts that are due, byte for byte. Two programs
+//! Stands on the reader of the two texts, the compiler and what prints its problem, and compares with the encoder and the printer
+//! by themselves; and on the strata and the bound. `data/` has the problems, and `stdout` the texts that are due, byte for byte. Two programs
 //! that share nothing with this one, nor with each other, made each PDDL text from the same problems, into a file of its own,
 //! and agree on every byte. A script then put these files one after the other, by name, each behind a line with its name. The
 //! lines with bounds were worked out by hand from the definitions, as comments in `data/` and at the cases say. Nothing that this program
@@ -12,8 +12,6 @@
 
 mod bounds;
 mod cases;
-mod checks;
-mod reader;
 mod ready;
 mod rows;
 mod running;

@@ -1,15 +1,18 @@
 ghost use Rattle.std.specs.Prelude.{IfOk};
 ghost use Rattle.plan_model.specs.Parts.{AreListed};
+ghost use Rattle.plan_texts.specs.SoundProblem.{IsSoundProblem};
+ghost use Rattle.plan_meaning.specs.Laws.{AreOrdered};
 ghost use Rattle.problem_texts.specs.ArePrinted.{IsCompiledProblem};
 
-use crate::checks::compiled;
-use crate::reader::hddl;
 use crate::rows::{ROWS, Row};
+use hddl_values::hddl_of;
 use htn_base::{Memory, Text};
+use method_precs::compile;
 use outside_io::{DiskFiles, Files, GetError};
 use pddl_printer::{print_domain, print_problem};
-use plan_model::{Checks, Compiled, Style};
+use plan_model::{Checks, Compiled, Hddl, Style};
 use problem_texts::{Texts, texts_of};
+use sexpr_text::ReadError;
 use slot_encoder::{Sizes, encode, sizes};
 use std::alloc::{AllocError, Global};
 use std::io::{self, Write};
@@ -17,12 +20,15 @@ use std::io::{self, Write};
 /// More bytes than a text of `data/` has.
 const LIMIT: u64 = 65536;
 
+/// The most bytes that are read.
+const MOST_BYTES: usize = 16_777_216;
+
 /// Why a row isn't printed.
 #[derive(Debug, Drop)]
 pub enum Failure {
     /// A file was not read.
     File,
-    /// The texts are no domain and problem, or have a network without an order.
+    /// The texts have a fault.
     Form,
     /// The two ways to print don't give the same texts.
     Difference,
@@ -150,12 +156,23 @@ pub fn compiled_source(alloc: Global, source: &Source, checks: Checks) -> Result
     ensures listed { IfOk result (λ c. AreListed c.hddl.types) }
     ensures compiled { IfOk result IsCompiledProblem }
 {
-    match hddl(alloc, source.domain.as_slice(), source.problem.as_slice())? {
-        None => Err(Failure::Form),
-        Some(problem) => match compiled(alloc, problem, checks)? {
-            None => Err(Failure::Form),
-            Some(compiled) => Ok(compiled),
-        },
+    let problem = problem_of(alloc, source)?;
+    Ok(compile(alloc, problem, &checks)?)
+}
+
+fn problem_of(alloc: Global, source: &Source) -> Result<Hddl, Failure>
+    ensures sound { IfOk result IsSoundProblem }
+    ensures ordered { IfOk result AreOrdered }
+{
+    let domain = source.domain.as_slice();
+    let problem = source.problem.as_slice();
+    if domain.len() > MOST_BYTES || problem.len() > MOST_BYTES {
+        return Err(Failure::Form);
+    }
+    match hddl_of(alloc, domain, problem) {
+        Ok(value) => Ok(value),
+        Err(ReadError::Bad(_)) => Err(Failure::Form),
+        Err(ReadError::Memory) => Err(Failure::Memory),
     }
 }
 

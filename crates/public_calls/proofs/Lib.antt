@@ -1,2 +1,1 @@
 pub mod Risings
-pub mod Numbers

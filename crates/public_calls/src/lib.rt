@@ -21,11 +21,7 @@ mod orders;
 #[cfg(test)]
 mod readings;
 #[cfg(test)]
-mod runs;
-#[cfg(test)]
 mod scopes;
-#[cfg(test)]
-mod states;
 #[cfg(test)]
 mod tokens;
 #[cfg(test)]

@@ -2,3 +2,5 @@ mod Depth
 mod Found
 mod Numbered
 mod Passed
+mod Indexed
+mod Entries

@@ -2,6 +2,8 @@
 use Rattle.std.proofs.Common.{◌≡◌, ℕ, zero, suc, ◌+◌, ◌-◌, ◌*◌, ◌%◌, ◌<◌, ◌≤◌, length, drop, Option, Some, None, List, [], ◌∷◌, ◌++◌, refl, sym, ap, ◌∙◌, subst, arith}
 use Rattle.std.proofs.lemmas.List.{length-append, drop-drop}
 use Rattle.std.proofs.lemmas.Nat.{div-add-mod'}
+use Rattle.std.proofs.lemmas.Option.{slice_get_past}
+use Rattle.std.specs.Option.{option_map}
 use Rattle.std.specs.Prelude.{slice_get}
 use Rattle.text_forms.specs.Closing.{close_by, close_after, close_of, closings, flattened, close_at}
 use Rattle.text_forms.specs.Tokens.{Kind, start, stop, word, Token, tokens, token_count}
@@ -10,8 +12,9 @@ use Rattle.text_forms.proofs.Shown.{closes_get}
 use Rattle.sexpr_text.specs.declared.marks.Place.{Place}
 use Rattle.sexpr_text.specs.declared.tokens.Kind.{Kind as Kinds}
 use Rattle.sexpr_text.specs.declared.tokens.Kind.TheVariants.{Start, Stop, Word}
-use Rattle.sexpr_text.specs.Places.{tokens_at, deeper, depth_at, IsPlace, AreMarks, IsFarther}
-use Rattle.sexpr_text.specs.Seen.{kind_seen}
+use Rattle.sexpr_text.specs.declared.tokens.Piece.{Piece}
+use Rattle.sexpr_text.specs.Places.{tokens_at, tokens_by, deeper, depth_at, IsPlace, AreMarks, IsFarther}
+use Rattle.sexpr_text.specs.Seen.{kind_seen, piece_seen}
 
 -- the first of what is left of a list
 pub drop_next : {A : Type 0} (n : ℕ) (xs ys : List A) (x : A) → drop n xs ≡ x ∷ ys → (n < length xs) × (drop (suc n) xs ≡ ys) × (slice_get xs n ≡ Some x)
@@ -66,7 +69,7 @@ pub place_depth : (text : List ℕ) (n : ℕ) (p : Place) → IsPlace text n p �
 place_depth text n p i = let same = i.depth in let few = depth_few n 0 (tokens text) in omega (arith, same, few)
 
 -- of all of a list and one element more
-pushed : {A : Type 0} (P : ℕ → A → Type 0) (xs : List A) (x : A) → ((k : ℕ) (y : A) → slice_get xs k ≡ Some y → P k y) → P (length xs) x → (k : ℕ) (y : A) → slice_get (xs ++ x ∷ []) k ≡ Some y → P k y
+pub pushed : {A : Type 0} (P : ℕ → A → Type 0) (xs : List A) (x : A) → ((k : ℕ) (y : A) → slice_get xs k ≡ Some y → P k y) → P (length xs) x → (k : ℕ) (y : A) → slice_get (xs ++ x ∷ []) k ≡ Some y → P k y
 pushed P [] x h at zero y e = let same : x ≡ y = cc in subst (P 0) same at
 pushed P [] x h at (suc k) y e = cc
 pushed P (a ∷ xs) x h at zero y e = h zero y e
@@ -151,12 +154,20 @@ over_marks text i base p q h b l more =
 pub token_here : (text : List ℕ) (i at : ℕ) (p : Place) (t : Token) → IsPlace text i p → tokens_at text p.at ≡ t ∷ tokens_at text at → slice_get (tokens text) i ≡ Some t
 token_here text i at p t h e = (drop_next i (tokens text) (tokens_at text at) t (h.here ∙ e)).2
 
+-- the piece that is cut out at a place
+pub piece_here : (text : List ℕ) (i : ℕ) (p : Place) (o : Option Piece) → IsPlace text i p → tokens_at text p.at ≡ tokens_by text o → option_map piece_seen o ≡ slice_get (tokens text) i
+piece_here text i p None h e = let all = place_end text i p h e in sym (slice_get_past (tokens text) i (omega arith))
+piece_here text i p (Some q) h e = sym (token_here text i q.span.end p (piece_seen q) h e)
+
 -- what a token closes, by its kind
-pub close_of_place : (text : List ℕ) (i at : ℕ) (p : Place) (t : Token) → IsPlace text i p → tokens_at text p.at ≡ t ∷ tokens_at text at → close_at text i ≡ close_of t.kind i (tokens_at text at)
-close_of_place text i at p t h e =
-    let next = drop_next i (tokens text) (tokens_at text at) t (h.here ∙ e) in
+pub close_of_here : (text : List ℕ) (i : ℕ) (t : Token) (behind : List Token) → drop i (tokens text) ≡ t ∷ behind → close_at text i ≡ close_of t.kind i behind
+close_of_here text i t behind e =
+    let next = drop_next i (tokens text) behind t e in
     let none : 0 + i ≡ i = omega arith in
     closes_get (tokens text) 0 i t next.2 ∙ (λ k. close_of t.kind (none k) (next.1 k))
+
+pub close_of_place : (text : List ℕ) (i at : ℕ) (p : Place) (t : Token) → IsPlace text i p → tokens_at text p.at ≡ t ∷ tokens_at text at → close_at text i ≡ close_of t.kind i (tokens_at text at)
+close_of_place text i at p t h e = close_of_here text i t (tokens_at text at) (h.here ∙ e)
 
 pub closes_none : (k : Kinds) (i : ℕ) (behind : List Token) → (k ≡ Start → ⊥) → close_of (kind_seen k) i behind ≡ None
 closes_none Start i behind h = absurd (h refl)

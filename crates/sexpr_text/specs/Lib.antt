@@ -2,3 +2,4 @@ pub mod Seen
 pub mod Refused
 pub mod Places
 pub mod Kept
+pub mod Index

@@ -1,15 +1,28 @@
-ghost use Rattle.std.specs.Prelude.{◌≡◌, ◌≤◌, ◌<◌, slice_get, IfSome, MatchOption};
+ghost use Rattle.std.specs.Prelude.{◌≡◌, ◌≤◌, ◌<◌, length, slice_get, IfSome, MatchOption};
+ghost use Rattle.std.specs.Option.{option_map};
 ghost use Rattle.text_forms.specs.Closing.{close_at, close_after};
-ghost use Rattle.text_forms.specs.Tokens.{token_count};
+ghost use Rattle.text_forms.specs.Tokens.{tokens, token_count};
 ghost use Rattle.sexpr_text.specs.Kept.{IsReadFrom};
 ghost use Rattle.sexpr_text.specs.Places.{tokens_at, IsPlace, IsFarther};
+ghost use Rattle.sexpr_text.specs.Seen.{piece_seen};
 
 use crate::marks::{EACH, Marks, Place};
-use crate::tokens::{Kind, deeper, next_piece};
+use crate::tokens::{Kind, Piece, deeper, next_piece};
 
 impl Marks {
-    /// Where the token with a number stands, or `None` past the last.
-    pub fn place_of(&self, source: &[u8], i: u32) -> Option<Place>
+    /// The token with a number, or `None` past the last. It is cut out anew, with at most seven tokens in front of it.
+    pub fn piece(&self, source: &[u8], i: u32) -> Option<Piece>
+        requires read { IsReadFrom source.now self.now }
+        ensures piece { option_map piece_seen result ≡ slice_get (tokens source.now) i }
+        ensures order { IfSome result (λ p. p.span.start < p.span.end) }
+        ensures within { IfSome result (λ p. p.span.end ≤ length source.now) }
+    {
+        let place = self.place_of(source, i)?;
+        next_piece(source, place.at)
+    }
+
+    // Where the token with a number stands, or `None` past the last.
+    fn place_of(&self, source: &[u8], i: u32) -> Option<Place>
         requires read { IsReadFrom source.now self.now }
         ensures place { MatchOption result (token_count source.now ≤ i) (IsPlace source.now i) }
     {

@@ -113,8 +113,8 @@ fn pass(open_lists: &mut Vec<u32>, count: u32, class: Class) -> u32
     }
 }
 
-// Takes the innermost list.
-fn leave(open_lists: &mut Vec<u32>) -> Option<u32>
+/// Takes the innermost list.
+pub fn leave(open_lists: &mut Vec<u32>) -> Option<u32>
     ensures innermost { result ≡ innermost (opened open_lists.old) }
     ensures others { opened open_lists.new ≡ but_innermost (opened open_lists.old) }
 {

@@ -9,6 +9,7 @@ mod classes;
 mod closings;
 mod ends;
 mod faults;
+mod index;
 mod marks;
 mod read_error;
 mod sexprs;

@@ -1,16 +1,17 @@
-ghost use Rattle.std.specs.Prelude.{◌≡◌, ◌≤◌, ◌↔◌, length, slice_get, IfOk, IfErr, IfSome, IsSome};
+ghost use Rattle.std.specs.Prelude.{◌≡◌, ◌≤◌, ◌<◌, ◌↔◌, length, slice_get, IfOk, IfErr, IfSome, IsSome};
 ghost use Rattle.std.specs.Option.{option_map};
 ghost use Rattle.text_forms.specs.Closing.{close_at, OpensList};
 ghost use Rattle.text_forms.specs.Faults.{IsFaultless};
 ghost use Rattle.text_forms.specs.Tokens.{tokens, token_count};
 ghost use Rattle.sexpr_text.specs.Refused.{IsRefusal};
-ghost use Rattle.sexpr_text.specs.Seen.{bytes_at, token_seen};
+ghost use Rattle.sexpr_text.specs.Seen.{bytes_at, piece_seen, token_seen};
 
 use crate::faults::first_fault;
+use crate::index::{Index, index_of};
 use crate::marks::{Marks, marks_of};
 use crate::read_error::ReadError;
-use crate::tokens::{Token, next_piece};
-use htn_base::Span;
+use crate::tokens::{Piece, Token};
+use htn_base::{Memory, Span};
 use std::alloc::Global;
 use std::marker::Model;
 
@@ -19,17 +20,18 @@ use std::marker::Model;
 pub struct Sexprs<'a> {
     source: &'a [u8],
     marks: Marks,
+    index: Option<Index>,
 }
 
 impl<'a> Model for Sexprs<'a> {
     ghost use Rattle.std.specs.Prelude.{List, ℕ};
-    ghost use Rattle.sexpr_text.specs.Kept.{IsReadFrom};
+    ghost use Rattle.sexpr_text.specs.Index.{IsKeptOf};
 
     ghost Value = { List ℕ };
 
     ghost view = { λ s. s.source.now };
 
-    ghost invariant = { λ s. IsReadFrom s.source.now s.marks };
+    ghost invariant = { λ s. IsKeptOf s.source.now s.marks s.index };
 }
 
 /// Cuts a text of at most 16,777,216 bytes into its tokens. `file` is its place among the command's inputs.
@@ -42,7 +44,11 @@ pub fn read<'a>(alloc: Global, source: &'a [u8], file: u8) -> Result<Sexprs<'a>,
     ensures refused { IfErr result (IsRefusal source.now file) }
 {
     if let Some(marks) = marks_of(alloc, source)? {
-        return Ok(Sexprs { source, marks });
+        return Ok(Sexprs {
+            source,
+            marks,
+            index: None,
+        });
     }
     // Only a text that has a fault is read again, for its least one.
     match first_fault(alloc, source, file)? {
@@ -61,14 +67,22 @@ impl<'a> Sexprs<'a> {
         self.marks.count
     }
 
-    /// The token with number `i` from 0, or `None` past the last. It is cut out anew each time, with at most seven tokens
-    /// in front of it.
+    /// Makes an index of the text in one pass: 8 bytes for each token. Behind it `token` and `close_of` look up what they answer.
+    pub fn index(&mut self, alloc: Global) -> Result<(), Memory>
+        ensures same { self.new ≡ self.old }
+    {
+        let index = index_of(alloc, self.source, self.marks.count)?;
+        self.index = Some(index);
+        Ok(())
+    }
+
+    /// The token with number `i` from 0, or `None` past the last. Without an index it is cut out anew each time, with at
+    /// most seven tokens in front of it.
     pub fn token(&self, i: u32) -> Option<Token<'a>>
         ensures token { option_map token_seen result ≡ slice_get (tokens self.now) i }
         ensures word { IfSome result (λ t. t.word.now ≡ bytes_at self.now t.span) }
     {
-        let place = self.marks.place_of(self.source, i)?;
-        let piece = next_piece(self.source, place.at)?;
+        let piece = self.piece(i)?;
         Some(Token {
             kind: piece.kind,
             word: part(self.source, piece.span),
@@ -76,13 +90,27 @@ impl<'a> Sexprs<'a> {
         })
     }
 
-    /// The number of the token that closes the list that token `i` opens, or `None` where it opens none. It is looked for
-    /// from the list's first token on.
+    /// The number of the token that closes the list that token `i` opens, or `None` where it opens none. Without an index
+    /// it is looked for from the list's first token on.
     pub fn close_of(&self, i: u32) -> Option<u32>
         ensures close { result ≡ close_at self.now i }
         ensures opens { IsSome result ↔ OpensList self.now i }
     {
-        self.marks.closing_of(self.source, i)
+        match &self.index {
+            Some(index) => index.closing_of(self.source, i),
+            None => self.marks.closing_of(self.source, i),
+        }
+    }
+
+    fn piece(&self, i: u32) -> Option<Piece>
+        ensures piece { option_map piece_seen result ≡ slice_get (tokens self.now) i }
+        ensures order { IfSome result (λ p. p.span.start < p.span.end) }
+        ensures within { IfSome result (λ p. p.span.end ≤ length self.now) }
+    {
+        match &self.index {
+            Some(index) => index.piece(self.source, i),
+            None => self.marks.piece(self.source, i),
+        }
     }
 
     /// The number of bytes of the source, at most 16,777,216.

@@ -34,6 +34,7 @@ pub struct Piece {
 pub fn next_piece(source: &[u8], from: u32) -> Option<Piece>
     requires short { length source.now ≤ 16777216 }
     ensures tokens { tokens_at source.now from ≡ tokens_by source.now result }
+    ensures later { IfSome result (λ p. from ≤ p.span.start) }
     ensures order { IfSome result (λ p. p.span.start < p.span.end) }
     ensures within { IfSome result (λ p. p.span.end ≤ length source.now) }
 {
@@ -50,7 +51,7 @@ pub fn next_piece(source: &[u8], from: u32) -> Option<Piece>
 }
 
 impl Piece {
-    fn new(kind: Kind, start: usize, end: usize) -> Piece
+    pub fn new(kind: Kind, start: usize, end: usize) -> Piece
         requires start { start < 2 ^ 32 }
         requires end { end < 2 ^ 32 }
         ensures kind { result.kind ≡ kind }

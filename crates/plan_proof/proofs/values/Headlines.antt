@@ -25,6 +25,7 @@ use Rattle.plan_meaning.specs.Compilation.{AreMethodPlans, IsCompiled}
 use Rattle.plan_model.specs.Pairs.{Pairs}
 use Rattle.plan_meaning.specs.Laws.{AreOrdered}
 use Rattle.plan_proof.specs.Headline.{Headline, HeadlineAtBound}
+use Rattle.slot_encoding.specs.EncodedValue.{IsEncoded}
 use Rattle.slot_encoding.specs.Printed.{IsPrinted}
 use Rattle.plan_proof.proofs.machine.Bounds.{loses_nothing}
 use Rattle.plan_proof.proofs.machine.PrintedMeans.{printed_faithful, faithful_texts}
@@ -35,6 +36,7 @@ use Rattle.plan_proof.proofs.values.Pairing.{contains-each}
 use Rattle.plan_proof.proofs.values.TypeNumbers.{AreApart, word-within, word-once, unions-apart, plain-some}
 use Rattle.plan_proof.proofs.values.SameSound.{sound_too}
 use Rattle.plan_proof.proofs.values.SamePlans.{plans-both}
+use Rattle.plan_proof.proofs.values.SameActions.{Alike}
 use Rattle.plan_proof.proofs.values.SameValue.{encoded_too}
 
 -- numbers of words that differ, by the words
@@ -70,7 +72,7 @@ module _ (domain problem : List ℕ) (c d : Hddl) (hc : IsHddlOf domain problem 
         unions = lists-same (hddl_types d) sound.words.types sound.words.types_differ c.types.unions d.types.unions (ap (λ z. map (map (word_at z)) c.types.unions) (sym types) ∙ unions) (subst (λ n. EachIs (EachIs (λ t. t < n)) d.types.unions) count sound.unions);
       }
 
-  unions_apart : AreApart (hddl_words d).unions
+  pub unions_apart : AreApart (hddl_words d).unions
   unions_apart = subst AreApart (sym hd.ordered.unions) (unions-apart [] _).1
 
 -- its networks are ordered where those of the other are
@@ -92,24 +94,39 @@ module _ (c d : Hddl) (same : AreSameButNames c d) where
           let n = maps-length (child_said (hddl_words c)) (child_said (hddl_words d)) s.children t.children (ap (λ z. z.4.1) e) in
           subst (λ (z : Type 0). z) (sym (λ i. ArePairsOf (Pairs (e i).4.2) (n i) × IsAcyclic (Pairs (e i).4.2))) k
 
--- what is printed for the one is printed for the other, where no two unions have the same words
+-- what is compiled of the one and of the other is alike, where no two unions have the same words
+module _ (h h' : Hddl) (mode : Checks) (c c' : Compiled) (same : AreSameButNames h' h) (apart : AreApart (hddl_words h).unions) (sound : IsSoundHddl h) (compiled : IsCompiled h mode c) (compiled' : IsCompiled h' mode c') where
+  pub same_here : AreSameButNames c'.hddl c.hddl
+  same_here = subst (λ z. AreSameButNames z c.hddl) (sym compiled'.hddl) (subst (AreSameButNames h') (sym compiled.hddl) same)
+
+  pub apart_here : AreApart (hddl_words c.hddl).unions
+  apart_here = subst (λ z. AreApart (hddl_words z).unions) (sym compiled.hddl) apart
+
+  pub sound_here : IsSoundHddl c.hddl
+  sound_here = subst IsSoundHddl (sym compiled.hddl) sound
+
+  pub sound_there : IsSoundHddl c'.hddl
+  sound_there = sound_too c'.hddl c.hddl same_here sound_here
+
+  pub plans_here : Together (Alike c' c same_here sound_there sound_here apart_here) c'.methods c.methods
+  plans_here =
+      let ps = subst (λ (z : Hddl). AreMethodPlans z mode (z.top ∷ z.methods) c.methods) (sym compiled.hddl) compiled.methods in
+      let ps' = subst (λ (z : Hddl). AreMethodPlans z mode (z.top ∷ z.methods) c'.methods) (sym compiled'.hddl) compiled'.methods in
+      plans-both c'.hddl c.hddl same_here sound_there sound_here apart_here mode (c'.hddl.top ∷ c'.hddl.methods) (c.hddl.top ∷ c.hddl.methods) (all_same c'.hddl c.hddl same_here) (sound_there.top, sound_there.methods) (sound_here.top, sound_here.methods) c'.methods c.methods ps' ps
+
+  -- so what is encoded for the one is encoded for the other
+  pub encoded_by : (b : ℕ) (style : Style) (p : Pddl) → IsEncoded c b style p → IsEncoded c' b style p
+  encoded_by b style p = encoded_too c' c same_here sound_there sound_here apart_here plans_here b style p
+
+-- and so what is printed
 module _ (h h' : Hddl) (mode : Checks) (c c' : Compiled) (b : ℕ) (style : Style) (p : Pddl) (same : AreSameButNames h' h) (apart : AreApart (hddl_words h).unions) (printed : IsPrinted h mode c b style p) (compiled' : IsCompiled h' mode c') where
   pub printed_by : IsPrinted h' mode c' b style p
-  printed_by =
-      let e = sym printed.compiled.hddl in let e' = sym compiled'.hddl in
-      let s = subst (λ z. AreSameButNames z c.hddl) e' (subst (AreSameButNames h') e same) in
-      let a = subst (λ z. AreApart (hddl_words z).unions) e apart in
-      let sc = subst IsSoundHddl e printed.sound in
-      let sc' = sound_too c'.hddl c.hddl s sc in
-      let ps = subst (λ (z : Hddl). AreMethodPlans z mode (z.top ∷ z.methods) c.methods) e printed.compiled.methods in
-      let ps' = subst (λ (z : Hddl). AreMethodPlans z mode (z.top ∷ z.methods) c'.methods) e' compiled'.methods in
-      let plans = plans-both c'.hddl c.hddl s sc' sc a mode (c'.hddl.top ∷ c'.hddl.methods) (c.hddl.top ∷ c.hddl.methods) (all_same c'.hddl c.hddl s) (sc'.top, sc'.methods) (sc.top, sc.methods) c'.methods c.methods ps' ps in
-      record {
-        sound = sound_too h' h same printed.sound;
-        compiled = compiled';
-        printable = printed.printable;
-        encoded = encoded_too c' c s sc' sc a plans b style p printed.encoded;
-      }
+  printed_by = record {
+    sound = sound_too h' h same printed.sound;
+    compiled = compiled';
+    printable = printed.printable;
+    encoded = encoded_by h h' mode c c' same apart printed.sound printed.compiled compiled' b style p printed.encoded;
+  }
 
 -- for two values of the same texts
 module _ (domain problem : List ℕ) (h h' : Hddl) (mode : Checks) (c c' : Compiled) (b : ℕ) (style : Style) (p : Pddl) (spelled : IsHddlOf domain problem h) (spelled' : IsHddlOf domain problem h') (printed : IsPrinted h mode c b style p) (compiled' : IsCompiled h' mode c') where

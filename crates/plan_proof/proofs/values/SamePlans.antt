@@ -38,7 +38,7 @@ use Rattle.plan_proof.proofs.values.TypeNumbers.{AreApart}
 use Rattle.plan_proof.proofs.values.SameSound.{params-length}
 use Rattle.plan_proof.proofs.values.SameTypes.{is_a-same, in_same, counts, types-of}
 
-bool_same : (a b : Bool) → (IsTrue a → IsTrue b) → (IsTrue b → IsTrue a) → a ≡ b
+pub bool_same : (a b : Bool) → (IsTrue a → IsTrue b) → (IsTrue b → IsTrue a) → a ≡ b
 bool_same true true f g = refl
 bool_same false false f g = refl
 bool_same true false f g = sym (f refl)
@@ -59,7 +59,7 @@ module _ {A : Type 0} (P Q : A → Type 0) (to : (x : A) → P x → Q x) (from 
   keeps-more (x ∷ xs) ks (inr (n, k)) = inr (λ q. n (from x q), keeps-more xs ks k)
 
 -- the line of a list of children
-line-same : (Pair : ℕ → ℕ → Type 0) (xs : List Child) (line other : List ℕ) → IsLine Pair (length xs) line → IsLine Pair (length xs) other → line ≡ other
+pub line-same : (Pair : ℕ → ℕ → Type 0) (xs : List Child) (line other : List ℕ) → IsLine Pair (length xs) line → IsLine Pair (length xs) other → line ≡ other
 line-same Pair xs line other a b = line_is_the_only_one net tt line other a b
   where
     net : Net
@@ -70,6 +70,7 @@ pub record ArePlansAlike (v w : Declared) (p q : MethodPlan) : Type 0 where
   pub schema : method_said v p.schema ≡ method_said w q.schema
   pub checked : p.checked ≡ q.checked
   pub tested : p.tested ≡ q.tested
+  pub line : p.line ≡ q.line
   pub heir : p.heir ≡ q.heir
   pub copiers : p.copiers ≡ q.copiers
   pub guards : p.guards ≡ q.guards
@@ -230,7 +231,7 @@ module _ (c d : Hddl) (same : AreSameButNames c d) (sc : IsSoundHddl c) (sd : Is
         }
 
     pub plans_alike : ArePlansAlike v w p q
-    plans_alike = record { schema = schema_said; checked = same_checked; tested = same_tested; heir = same_heir; copiers = same_copiers; guards = same_guards }
+    plans_alike = record { schema = schema_said; checked = same_checked; tested = same_tested; line = same_line; heir = same_heir; copiers = same_copiers; guards = same_guards }
 
   pub plans-both : (mode : Checks) (ss ts : List MethodSchema) → Together (λ s t. method_said v s ≡ method_said w t) ss ts → EachIs (IsSoundMethod c) ss → EachIs (IsSoundMethod d) ts → (ps qs : List MethodPlan) → AreMethodPlans c mode ss ps → AreMethodPlans d mode ts qs
       → Together (λ p q. ArePlansAlike v w p q × (IsSoundPlan c p × IsSoundPlan d q)) ps qs

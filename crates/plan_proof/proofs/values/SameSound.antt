@@ -51,7 +51,7 @@ module _ (c d : Hddl) (same : AreSameButNames c d) where
   pub predicates-same : v.predicates ≡ w.predicates
   predicates-same = map-map (predicate_said v) (λ t. t.0) c.predicates ∙ ap (map (λ t. t.0)) same.alike.predicates ∙ sym (map-map (predicate_said w) (λ t. t.0) d.predicates)
 
-  task-words-same : task_words c ≡ task_words d
+  pub task-words-same : task_words c ≡ task_words d
   task-words-same = map-map (task_said v) (λ t. t.0) c.tasks ∙ ap (map (λ t. t.0)) same.alike.tasks ∙ sym (map-map (task_said w) (λ t. t.0) d.tasks)
 
   pub action-words-same : action_words c ≡ action_words d

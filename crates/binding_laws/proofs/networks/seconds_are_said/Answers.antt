@@ -1,3 +1,4 @@
+use Rattle.binding_laws.proofs.SecondCallables.{has_second_callables}
 use Rattle.binding_laws.proofs.SecondWords.{has_seconds}
 use Rattle.binding_laws.proofs.networks.seconds_are_said.Goals as goal
 
@@ -7,4 +8,5 @@ returns c = record {
   params = has_seconds (λ x. x.name.number) (λ x. x.at);
   heads = has_seconds (λ h. h.name.name.number) (λ h. h.name.at);
   methods = has_seconds (λ m. m.head.name.name.number) (λ m. m.head.name.at);
+  callables = has_second_callables;
 }

@@ -1,14 +1,17 @@
-use Rattle.std.proofs.Common.{subst, inl, inr, arith}
-use Rattle.std.proofs.lemmas.Bool.{cases_eq, false≢true}
+use Rattle.std.proofs.Common.{◌≡◌, ◌-◌, length, Some, slice_get, subst, sym, ◌∙◌}
+use Rattle.std.proofs.lemmas.Bool.{false≢true}
 use Rattle.net_order.specs.Marks.{IsMarkedLast}
 use Rattle.net_order.proofs.Ends.{not_last}
+use Rattle.net_order.proofs.Lasts.{last_child, last_is}
 use Rattle.net_order.proofs.last.last_of.Goals as goal
 
-pub loop-i-preserved : goal.loop-i-preserved
-loop-i-preserved c j l m = elim (cases_eq j c.loop-i.i) [
-  | inl e ↦ not_last c.args.before.now c.loop-i.i c.index-before-i.result c.requires.square c.loop-i-test.true c.index-before-i.is (λ f. false≢true (c.if-has_all_but.ensures.all.1 f)) (subst (IsMarkedLast c.args.before.now) e m)
-  | inr d ↦ c.loop-i.invariant j (omega arith) m
-]
-
 pub returns : goal.returns
-returns c = record { last = λ i m. c.loop-i.invariant i (let h = m.0 in omega arith) m }
+returns c =
+    let before = c.args.before.now in
+    let line = c.args.line.now in
+    let e : slice_get line (length line - 1) ≡ Some c.in_ok-child.child = sym (c.in_ok-child.ensures ∙ c.last.ensures.value) in
+    let l = last_child before line c.requires.line c.in_ok-child.child e in
+    record {
+      last = λ i m. not_last before c.in_ok-child.child c.index-before-child.result c.requires.square l c.index-before-child.is (λ f. false≢true (c.if-has_all_but.ensures.all.1 f))
+          (subst (IsMarkedLast before) (last_is before line c.requires.line c.in_ok-child.child e i m) m);
+    }

@@ -1,4 +1,4 @@
-use Rattle.std.proofs.Common.{◌≡◌, ◌-◌, length}
+use Rattle.std.proofs.Common.{◌≡◌, ◌≤◌, ◌-◌, length}
 use Rattle.sexpr_text.specs.Places.{tokens_at}
 use Rattle.sexpr_text.proofs.tokens.next_piece.Given as goal
 
@@ -6,4 +6,4 @@ abbrev pub decreases-loop-at : goal.decreases-loop-at
 decreases-loop-at l = length l.source - l.at
 
 abbrev pub invariant-loop-at : goal.invariant-loop-at
-invariant-loop-at l = tokens_at l.source l.from ≡ tokens_at l.source l.at
+invariant-loop-at l = record { later : l.from ≤ l.at; tokens : tokens_at l.source l.from ≡ tokens_at l.source l.at }

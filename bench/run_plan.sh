@@ -1,0 +1,113 @@
+#!/usr/bin/env bash
+# Times `run_plan` on a plan of 1,000,000 steps of a printed transport problem, compiled: writes a program into a temporary
+# copy of the crates that it stands on, and proves, builds and runs it there; what those crates have proved and built is
+# copied along. Prints the least microseconds of some runs, and the kilobytes that a run takes beyond the plan itself.
+set -e
+top=$(cd "$(dirname "$0")/.." && pwd)
+copy=$(mktemp -d)
+trap 'rm -rf "$copy"' EXIT
+bench="$copy/crates/run_bench"
+mkdir -p "$bench/src" "$bench/specs" "$bench/proofs"
+for crate in htn_base task_networks plan_model plan_meaning ground_state; do
+    cp -a "$top/crates/$crate" "$copy/crates/"
+    grep "^$crate:" "$top/crates.txt" >>"$copy/crates.txt"
+done
+echo "run_bench: htn_base task_networks plan_model plan_meaning ground_state" >>"$copy/crates.txt"
+cp "$top/HANDLES" "$copy/"
+# the problem and the plan of the tests serve here too
+tests="$top/crates/public_runs"
+cp "$tests/src/builders.rt" "$tests/src/transport.rt" "$bench/src/"
+cp -r "$tests/specs" "$bench/"
+mkdir -p "$bench/proofs"
+cp -r "$tests/proofs/Lib.antt" "$tests/proofs/Numbers.antt" "$tests/proofs/builders" "$bench/proofs/"
+find "$bench" -type f -exec sed -i 's/public_runs\./run_bench./' {} +
+cat >"$bench/src/main.rt" <<'R'
+#![tactic(auto)]
+
+ghost use Rattle.std.specs.Prelude.{◌≤◌, length, IfOk};
+ghost use Rattle.ground_state.specs.Runs.{IsRunnable};
+
+mod builders;
+mod transport;
+
+use crate::transport::{drives, transport};
+use ground_state::{Verdict, run_plan};
+use htn_base::Memory;
+use plan_model::{GroundAction, Pddl};
+use std::alloc::Global;
+use std::rt::Clock;
+use std::time::Instant;
+use std::{env, io};
+
+/// The microseconds of one run, or the greatest number where it is no plan.
+fn micros<R: Clock>(rt: &R, alloc: Global, p: &Pddl, plan: &[GroundAction]) -> io::Result<u128>
+    requires runnable { IsRunnable p.now }
+    requires few { length plan.now ≤ 1000000 }
+{
+    let start = Instant::now(rt)?;
+    let made = run_plan(alloc, p, plan);
+    let taken = start.elapsed(rt)?;
+    match made {
+        Ok(Verdict::Plan) => Ok(taken.as_micros()),
+        _ => Ok(u128::MAX),
+    }
+}
+
+/// The least microseconds of so many runs.
+fn least<R: Clock>(
+    rt: &R,
+    alloc: Global,
+    p: &Pddl,
+    plan: &[GroundAction],
+    runs: u32,
+) -> io::Result<u128>
+    requires runnable { IsRunnable p.now }
+{
+    let mut least = u128::MAX;
+    if plan.len() <= 1_000_000 {
+        for _ in 0..runs {
+            least = least.min(micros(rt, alloc, p, plan)?);
+        }
+    }
+    Ok(least)
+}
+
+fn time<R: Clock>(rt: &R, alloc: Global, made: Result<Pddl, Memory>, runs: u32) -> io::Result<u128>
+    requires runnable { IfOk made IsRunnable }
+{
+    let Ok(p) = made else {
+        return Ok(0);
+    };
+    let Ok(plan) = drives(alloc, 499_999) else {
+        drop(p);
+        return Ok(0);
+    };
+    let spent = least(rt, alloc, &p, plan.as_slice(), runs);
+    drop(plan);
+    drop(p);
+    spent
+}
+
+fn runs(rt: HostRuntime) -> io::Result<u32> {
+    let words = env::args(&rt)?.skip(1).collect::<Vec<String>>(rt.alloc())?;
+    match words.get(0) {
+        Some(word) => Ok(word.parse::<u32>().unwrap_or(0)),
+        None => Ok(0),
+    }
+}
+
+fn main(rt: HostRuntime) -> io::Result<()> {
+    let runs = runs(rt)?;
+    let spent = time(&rt, rt.alloc(), transport(rt.alloc()), runs)?;
+    println!(rt; "{spent}")
+}
+R
+cd "$bench"
+rt run >"$copy/log" 2>&1 || { cat "$copy/log"; exit 1; }
+spent() {
+    /usr/bin/time -f '%M' -o "$copy/spent" ./out/run_bench "$1"
+}
+spent 0 >/dev/null
+plan=$(cat "$copy/spent")
+least=$(spent 5)
+echo "1,000,000 steps: $least us, $(($(cat "$copy/spent") - plan)) KB beyond the plan's $plan KB"

@@ -1,0 +1,17 @@
+pub mod Adding
+pub mod Erased
+pub mod Terms
+pub mod Lists
+pub mod Formulas
+pub mod Effects
+pub mod Networks
+pub mod Parts
+pub mod TypeWords
+pub mod Sorted
+pub mod Heads
+pub mod Sections
+pub mod Definitions
+pub mod Theorem
+pub mod Mapped
+pub mod TypeLists
+pub mod Bound

@@ -1,0 +1,154 @@
+ghost use Rattle.std.specs.Prelude.{◌≡◌, codes, Some, IfOk, IfErr, OnOk};
+ghost use Rattle.htn_base.specs.Table.{number_of, with_word};
+ghost use Rattle.gd_reader.specs.Terms.{Keeps};
+ghost use Rattle.bind_types.specs.Cycle.{IsSection};
+ghost use Rattle.bind_types.specs.Listed.{types_bound};
+ghost use Rattle.bind_types.specs.Parents.{pairs_in_order};
+ghost use Rattle.hddl_bind.specs.DomainSchemas.{schemas_bound, AreSchemasNoted};
+ghost use Rattle.hddl_bind.specs.WholeDomains as spec;
+
+use crate::domain_names::{DomainNames, names_of};
+use crate::domain_schemas::{DomainSchemas, schemas_of};
+use crate::errors::{BindError, judged};
+use crate::whole_unions::unions_of_domain;
+use bind_types::{TypeTable, section_of, types_of};
+use hddl_reader::RawDomain;
+use htn_base::{List, Memory, Name, NameTable};
+use name_numbers::Faults;
+use plan_model::{ActionSchema, MethodSchema, Object, Predicate, TaskSchema, Types};
+use std::alloc::Global;
+
+/// So many types other than `object` a domain may have.
+const MOST_TYPES: u32 = 1000;
+
+/// A domain with its names bound, and the names by which its problems are bound. The objects are its constants.
+#[derive(Drop)]
+pub struct BoundDomain {
+    pub domain: Name,
+    pub types: Types,
+    pub objects: List<Object>,
+    pub predicates: List<Predicate>,
+    pub tasks: List<TaskSchema>,
+    pub actions: List<ActionSchema>,
+    pub methods: List<MethodSchema>,
+    pub names: DomainNames,
+}
+
+/// The domain for which an HDDL domain stands that was read, or its least fault, by offset and then by code: 10 to 17 or 19 to 22.
+/// The table gets the word `object`.
+pub fn bind_domain(
+    alloc: Global,
+    names: &mut NameTable,
+    d: RawDomain,
+) -> Result<BoundDomain, BindError>
+    requires section { IsSection d.types }
+    ensures bound { IfOk result (spec.IsDomainBound names.new d) }
+    ensures refused { IfErr result (spec.IsDomainRefused names.new d) }
+    ensures keeps { Keeps names.old names.new }
+    ensures words { OnOk result (names.new ≡ with_word names.old (codes "object")) }
+{
+    let bound = domain_of(alloc, names, &d);
+    drop(d);
+    bound
+}
+
+#[tactic(auto, using(gd_reader::proofs::Keeping::keeps_same, gd_reader::proofs::Keeping::keeps_word))]
+fn domain_of(alloc: Global, names: &mut NameTable, d: &RawDomain) -> Result<BoundDomain, BindError>
+    requires section { IsSection d.now.types }
+    ensures bound { IfOk result (spec.IsDomainBound names.new d.now) }
+    ensures refused { IfErr result (spec.IsDomainRefused names.new d.now) }
+    ensures keeps { Keeps names.old names.new }
+    ensures words { OnOk result (names.new ≡ with_word names.old (codes "object")) }
+{
+    let object = names.intern(b"object")?;
+    let mut faults = Faults::new();
+    match noted_domain(alloc, object, d, &mut faults) {
+        Ok(bound) => judged(bound, faults, 0),
+        Err(_) => Err(BindError::Memory),
+    }
+}
+
+/// The domain whose faults are noted. Where one is, the domain is not used.
+fn noted_domain(
+    alloc: Global,
+    object: Name,
+    d: &RawDomain,
+    faults: &mut Faults,
+) -> Result<BoundDomain, Memory>
+    requires section { IsSection d.now.types }
+    ensures bound { IfOk result
+        (spec.IsDomainNoted object.number d.now faults.old.least faults.new.least) }
+{
+    let types = types_known(alloc, object, d, faults)?;
+    let names = names_of(alloc, types, d, faults)?;
+    match parts_of(alloc, &names, d, faults) {
+        Ok((types, schemas)) => Ok(together(d.name, types, schemas, names)),
+        Err(memory) => {
+            drop(names);
+            Err(memory)
+        }
+    }
+}
+
+/// The types of the section and the unions of the domain.
+fn types_known(
+    alloc: Global,
+    object: Name,
+    d: &RawDomain,
+    faults: &mut Faults,
+) -> Result<TypeTable, Memory>
+    requires section { IsSection d.now.types }
+    ensures kinds { IfOk result (spec.AreKindsOf object.number d.now) }
+    ensures faults { OnOk result
+        (spec.IsSectionNoted object.number d.now faults.old.least faults.new.least) }
+{
+    let types = section_of(alloc, object, MOST_TYPES, &d.types, faults)?;
+    let mut table = TypeTable::new(alloc, types);
+    let found = unions_of_domain(alloc, &table, d)?;
+    table.add_unions(alloc, found)?;
+    Ok(table)
+}
+
+fn parts_of(
+    alloc: Global,
+    names: &DomainNames,
+    d: &RawDomain,
+    faults: &mut Faults,
+) -> Result<(Types, DomainSchemas), Memory>
+    ensures bound { IfOk result (λ made. (made.0
+        ≡ types_bound names.now.known.types (pairs_in_order names.now.known.types.types d.now.types))
+        × (made.1 ≡ schemas_bound names.now.known names.now.callables d.now)) }
+    ensures faults { OnOk result (AreSchemasNoted names.now.known names.now.callables d.now
+        faults.old.least faults.new.least) }
+{
+    let types = types_of(alloc, &names.known.types, &d.types)?;
+    match schemas_of(alloc, &names.known, &names.callables, d, faults) {
+        Ok(schemas) => Ok((types, schemas)),
+        Err(memory) => {
+            drop(types);
+            Err(memory)
+        }
+    }
+}
+
+fn together(domain: Name, types: Types, schemas: DomainSchemas, names: DomainNames) -> BoundDomain
+    ensures together { result ≡ spec.with_schemas domain types schemas names }
+{
+    let DomainSchemas {
+        objects,
+        predicates,
+        tasks,
+        actions,
+        methods,
+    } = schemas;
+    BoundDomain {
+        domain,
+        types,
+        objects,
+        predicates,
+        tasks,
+        actions,
+        methods,
+        names,
+    }
+}

@@ -1,0 +1,147 @@
+ghost use Rattle.std.specs.Prelude.{◌≡◌, ◌++◌, codes, Some, IfOk, IfErr, OnOk};
+ghost use Rattle.name_numbers.specs.Spots.{noted};
+ghost use Rattle.bind_types.specs.Unions.{AreWith};
+ghost use Rattle.hddl_bind.specs.DeclaredNames.{second_objects};
+ghost use Rattle.hddl_bind.specs.WholeProblems as spec;
+ghost use Rattle.hddl_bind.specs.WholeUnions.{problem_unions};
+
+use crate::bound_domain::BoundDomain;
+use crate::domain_names::DomainNames;
+use crate::errors::{BindError, judged};
+use crate::problem_parts::{ProblemParts, parts_of};
+use crate::whole_unions::unions_of_problem;
+use bind_networks::seconds_of;
+use hddl_reader::RawProblem;
+use htn_base::{List, Memory, Name, NameTable, number};
+use name_numbers::Faults;
+use plan_model::{Hddl, Object};
+use std::alloc::Global;
+
+/// The value for which a domain stands with an HDDL problem that was read, or the problem's least fault, by offset and then by code:
+/// 10, 11, 13 to 17 or 19 to 21. The table gets the word `htn_start`, the name of the top method.
+pub fn bind_problem(
+    alloc: Global,
+    names: NameTable,
+    d: BoundDomain,
+    p: RawProblem,
+) -> Result<Hddl, BindError>
+    ensures bound { IfOk result (spec.IsProblemBound d p names) }
+    ensures refused { IfErr result (spec.IsProblemRefused d p) }
+{
+    let mut names = names;
+    let mut d = d;
+    let mut faults = Faults::new();
+    let noted = noted_problem(alloc, &mut names, &mut d, &p, &mut faults);
+    let problem = p.name;
+    drop(p);
+    match noted {
+        Ok(parts) => judged(together(names, d, problem, parts), faults, 1),
+        Err(_) => {
+            drop(names);
+            drop(d);
+            Err(BindError::Memory)
+        }
+    }
+}
+
+/// What a problem says, with its faults noted. The domain gets its objects, its unions and its names.
+fn noted_problem(
+    alloc: Global,
+    names: &mut NameTable,
+    d: &mut BoundDomain,
+    p: &RawProblem,
+    faults: &mut Faults,
+) -> Result<ProblemParts, Memory>
+    ensures words { OnOk result (names.new ≡ spec.with_start names.old) }
+    ensures noted { IfOk result (spec.IsNotedWithStart d.old p.now names.new
+        faults.old.least faults.new.least d.new) }
+{
+    let start = names.intern(b"htn_start")?;
+    let task = number(d.tasks.len())?;
+    add_names(alloc, &mut d.names, p, faults)?;
+    d.types.unions = d.names.known.types.unions_of(alloc)?;
+    let parts = parts_of(
+        alloc,
+        &d.names.known,
+        &d.names.callables,
+        start,
+        task,
+        p,
+        faults,
+    )?;
+    match add_objects(&mut d.objects, parts.objects.as_slice()) {
+        Ok(()) => Ok(parts),
+        Err(memory) => {
+            drop(parts);
+            Err(memory)
+        }
+    }
+}
+
+/// Puts the names of a problem to those of its domain: its objects behind the constants, and its unions behind the others.
+fn add_names(
+    alloc: Global,
+    names: &mut DomainNames,
+    p: &RawProblem,
+    faults: &mut Faults,
+) -> Result<(), Memory>
+    ensures unions { OnOk result (AreWith (problem_unions names.old.known.types p.now)
+        names.old.known.types.unions names.new.known.types.unions) }
+    ensures names { OnOk result (names.new.known
+        ≡ spec.known_with names.old.known names.new.known.types.unions p.now) }
+    ensures callables { names.new.callables ≡ names.old.callables }
+    ensures faults { OnOk result (faults.new.least
+        ≡ noted faults.old.least (second_objects names.old.known.objects p.now.objects)) }
+{
+    seconds_of(&mut names.known.objects, p.objects.as_slice(), faults)?;
+    let found = unions_of_problem(alloc, &names.known.types, p)?;
+    names.known.types.add_unions(alloc, found)
+}
+
+/// Puts objects behind the others.
+fn add_objects(into: &mut List<Object>, objects: &[Object]) -> Result<(), Memory>
+    ensures added { OnOk result (into.new ≡ into.old ++ objects.now) }
+{
+    for object in objects {
+        into.push(*object)?;
+    }
+    Ok(())
+}
+
+/// The value of a domain and a problem.
+fn together(names: NameTable, d: BoundDomain, problem: Name, parts: ProblemParts) -> Hddl
+    ensures together { result ≡ spec.together names d problem parts }
+{
+    let BoundDomain {
+        domain,
+        types,
+        objects,
+        predicates,
+        tasks,
+        actions,
+        methods,
+        names: bound,
+    } = d;
+    drop(bound);
+    let ProblemParts {
+        objects: own,
+        init,
+        goal,
+        top,
+    } = parts;
+    drop(own);
+    Hddl {
+        names,
+        domain,
+        problem,
+        types,
+        objects,
+        predicates,
+        tasks,
+        actions,
+        methods,
+        top,
+        init,
+        goal,
+    }
+}

@@ -1,0 +1,4 @@
+pub mod TextFaults
+pub mod Values
+pub mod Reading
+pub mod FaultWords

@@ -1,0 +1,23 @@
+-- The value of two HDDL texts.
+-- Source: this project's.
+use Rattle.std.specs.Prelude.{ℕ, List}
+use Rattle.plan_model.specs.declared.values.Hddl.{Hddl}
+use Rattle.plan_texts.specs.FirstSeen.{IsHddlOf}
+use Rattle.plan_texts.specs.SoundProblem.{IsSoundProblem}
+use Rattle.plan_meaning.specs.Laws.{AreOrdered}
+use Rattle.sexpr_text.specs.declared.read_error.ReadError.{ReadError}
+use Rattle.sexpr_text.specs.declared.read_error.ReadError.TheVariants as errors
+use Rattle.hddl_values.specs.TextFaults.{IsLeastFault, HaveNoFault}
+
+module _ (domain problem : List ℕ) where
+  -- The texts have no fault and spell the value, which is sound and whose networks have no cycle.
+  pub record IsValueOf (h : Hddl) : Type 0 where
+    pub faultless : HaveNoFault domain problem
+    pub spelled : IsHddlOf domain problem h
+    pub sound : IsSoundProblem h
+    pub ordered : AreOrdered h
+
+  -- the least fault of the two texts; or memory ran out
+  abbrev pub IsRefusal : ReadError → Type 0
+  IsRefusal errors.Memory = Unit {0}
+  IsRefusal (errors.Bad f) = IsLeastFault domain problem f.file f.code f.at

@@ -1,0 +1,35 @@
+ghost use Rattle.std.specs.Prelude.{◌≤◌, length, IfOk, IfErr};
+ghost use Rattle.hddl_values.specs.Reading.{IsValueOver, RefusesProblem};
+
+use crate::domains::read_error;
+use crate::reading::read_problem;
+use hddl_bind::{BoundDomain, bind_problem};
+use htn_base::NameTable;
+use plan_model::Hddl;
+use sexpr_text::ReadError;
+use std::alloc::Global;
+
+/// The value of a problem's text over a domain, or the text's least fault, by phase, offset and code.
+pub(crate) fn value_over(
+    alloc: Global,
+    names: NameTable,
+    domain: BoundDomain,
+    text: &[u8],
+) -> Result<Hddl, ReadError>
+    requires short { length text.now ≤ 16777216 }
+    ensures value { IfOk result (IsValueOver names domain text.now) }
+    ensures refused { IfErr result (RefusesProblem names domain text.now) }
+{
+    let mut names = names;
+    match read_problem(alloc, text, &mut names) {
+        Ok(problem) => match bind_problem(alloc, names, domain, problem) {
+            Ok(value) => Ok(value),
+            Err(error) => Err(read_error(error)),
+        },
+        Err(error) => {
+            drop(names);
+            drop(domain);
+            Err(error)
+        }
+    }
+}

@@ -1,0 +1,24 @@
+ghost use Rattle.std.specs.Prelude.{◌≤◌, length, IfOk, IfErr};
+ghost use Rattle.hddl_values.specs.Values.{IsValueOf, IsRefusal};
+
+use crate::domains::bound_domain;
+use crate::problems::value_over;
+use htn_base::NameTable;
+use plan_model::Hddl;
+use sexpr_text::ReadError;
+use std::alloc::Global;
+
+/// The value that two HDDL texts spell, a domain's and a problem's, each of at most 16,777,216 bytes. `Bad` has their least fault,
+/// by file (0 for the domain, 1 for the problem), phase (tokens, form, names), offset in bytes and code.
+pub fn hddl_of(alloc: Global, domain: &[u8], problem: &[u8]) -> Result<Hddl, ReadError>
+    requires domain_short { length domain.now ≤ 16777216 }
+    requires problem_short { length problem.now ≤ 16777216 }
+    ensures value { IfOk result (IsValueOf domain.now problem.now) }
+    ensures refused { IfErr result (IsRefusal domain.now problem.now) }
+{
+    let mut names = NameTable::new(alloc);
+    match bound_domain(alloc, domain, &mut names) {
+        Ok(bound) => value_over(alloc, names, bound, problem),
+        Err(error) => Err(error),
+    }
+}

@@ -1,5 +1,0 @@
-use Rattle.ground_state.proofs.RoomEquations.{fits-Delete}
-use Rattle.public_calls.proofs.states.gone.Goals as goal
-
-pub returns : goal.returns
-returns c env = fits-Delete env (record { predicate = 0; args = c.push.new.self })

@@ -1,6 +1,0 @@
-use Rattle.plan_model.specs.declared.terms.Term.TheVariants.{Var, Obj}
-use Rattle.ground_state.proofs.RoomEquations.{fits-Equal}
-use Rattle.public_calls.proofs.states.same.Goals as goal
-
-pub returns : goal.returns
-returns c env = fits-Equal env (Var 0) (Obj 0)
