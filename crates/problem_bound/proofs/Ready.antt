@@ -1,9 +1,8 @@
 -- What is compiled of a sound problem is ready for its strata and its bound.
-use Rattle.std.proofs.Common.{ℕ, suc, refl, ◌≡◌, ◌<◌, ◌≤◌, ◌^◌, List, [], ◌∷◌, length, get_or, Contains, Bool, true, false, Some, slice_get, ap, sym, subst, ◌∙◌, arith, inl, inr}
+use Rattle.std.proofs.Common.{ℕ, suc, refl, ◌≡◌, ◌<◌, ◌≤◌, List, [], ◌∷◌, length, get_or, Contains, Bool, true, false, ap, sym, subst, ◌∙◌, arith, inl, inr}
 use Rattle.std.proofs.lemmas.Option.{slice_get-get_or, slice_get_within}
 use Rattle.task_networks.proofs.Lists.{head_or_tail}
 use Rattle.plan_model.specs.declared.options.Checks.{Checks}
-use Rattle.plan_model.specs.declared.networks.Head.{Head}
 use Rattle.plan_model.specs.declared.networks.Head.TheVariants.{Task}
 use Rattle.plan_model.specs.declared.networks.Child.{Child}
 use Rattle.plan_model.specs.declared.schemas.MethodSchema.{MethodSchema}
@@ -55,17 +54,17 @@ module _ (c : Compiled) (soundly : IsSoundlyCompiled c) where
   sound_method : (s : MethodSchema) → Contains (h.top ∷ h.methods) s → IsSoundMethod h s
   sound_method s i = each-contains (IsSoundMethod h) (h.top ∷ h.methods) (soundly.sound.value.top, soundly.sound.value.methods) s i
 
+  written_within : (s : MethodSchema) → Contains (h.top ∷ h.methods) s → (t : ℕ) (child : Child) → Contains s.children child → child.head ≡ Task t → t ≤ length h.tasks
+  written_within s i t child k is =
+      let x = (each-contains (IsSoundChild h (scope_of h s.params)) s.children (sound_method s i).children child k).0 in
+      let (z, at, n) = subst (λ f. IsSoundHead h f (length child.args)) is x in
+      let l = slice_get_within h.tasks t z at in omega arith
+
   subtask_within : (s : MethodSchema) → Contains (h.top ∷ h.methods) s → (b : Bool) (t : ℕ) → IsSubtask (children b s) t → t ≤ length h.tasks
-  subtask_within s i false t (child, k, is) = written child k is
-    where
-      written : (child : Child) → Contains s.children child → child.head ≡ Task t → t ≤ length h.tasks
-      written child k is =
-          let x = (each-contains (IsSoundChild h (scope_of h s.params)) s.children (sound_method s i).children child k).0 in
-          let (z, at, n) = subst (λ f. IsSoundHead h f (length child.args)) is x in
-          let l = slice_get_within h.tasks t z at in omega arith
+  subtask_within s i false t (child, k, is) = written_within s i t child k is
   subtask_within s i true t (child, k, is) = elim (head_or_tail (check_child s) s.children child k) [
     | inl e ↦ (let f : (check_child s).head ≡ Task t = ap (λ (z : Child). z.head) e ∙ is in absurd (cc))
-    | inr j ↦ subtask_within s i false t (child, j, is)
+    | inr j ↦ written_within s i t child j is
   ]
 
   numbered : (s : MethodSchema) → Contains (h.top ∷ h.methods) s → (p : MethodPlan) → IsMethodPlan h soundly.checks s p → IsNumbered (top_task c) p × IsSmallMethod p

@@ -1,5 +1,5 @@
-use Rattle.std.proofs.Common.{sym, ◌∙◌}
-use Rattle.problem_bound.proofs.Cycles.{joined, nothing}
+use Rattle.std.proofs.Common.{sym}
+use Rattle.problem_bound.proofs.Cycles.{joined}
 use Rattle.problem_bound.proofs.cycle.cycle_words.Goals as goal
 
 pub returns-in_ok-push_word-in-Some : goal.returns-in_ok-push_word-in-Some
