@@ -13,6 +13,8 @@ use Rattle.plan_meaning.specs.Bound.{IsBound}
 use Rattle.plan_proof.specs.Headline.{Headline, HeadlineAtBound}
 use Rattle.plan_proof.proofs.values.Headlines.{printed_too, headline_of, headline_at_bound_of}
 use Rattle.plan_proof.proofs.machine.Bounds.{loses_nothing}
+use Rattle.plan_proof.specs.OneGraph.{HaveOneGraph}
+use Rattle.plan_proof.proofs.one.OneGraph.{one_graph}
 use Rattle.problem_bound.specs.NoBound.{NamesCycle, spaced}
 use Rattle.stratifier.specs.CycleWords.{cycle_words}
 use Rattle.command_words.specs.Names.{Word}
@@ -29,8 +31,7 @@ use Rattle.htn_cli.specs.Refusal.{status_of, line_of}
 use Rattle.htn_cli.specs.declared.status.Status.TheVariants as status
 use Rattle.htn_cli.specs.declared.refusal.Refusal.{Refusal}
 use Rattle.htn_cli.specs.declared.refusal.Refusal.TheVariants as refused
-use Rattle.htn_cli.proofs.SameBounds.{named_too, words_too, bound_too, same_back}
-use Rattle.htn_cli.proofs.SameProblems.{same_bare}
+use Rattle.htn_cli.proofs.SameCycles.{named_back, words_same}
 
 -- what is told of a name is what it reads as, and what it holds
 read_there : (held : Option Folder) (lenient : Bool) (name bytes told : List ℕ) → IfSome held (λ folder. file_of lenient folder name ≡ Some bytes)
@@ -53,16 +54,18 @@ module _ (files : FilesState) (domain problem : Word) (checks : Checks) (c : Com
   pub spelled : IsHddlOf d p source.value
   spelled = subst (λ (z : Type 0). z) (λ i. IsHddlOf (domain_is i) (problem_is i) source.value) source.read.spelled
 
+  graph : (h : Hddl) (c' : Compiled) → IsHddlOf d p h → IsCompiled h checks c' → HaveOneGraph c' c
+  graph h c' s k = one_graph d p source.value h checks c c' spelled s source.read.sound.value source.compiled_is k
+
   -- each problem that they spell has the same bound
   pub bound_of_each : (n : ℕ) → IsBound c n → (h : Hddl) (c' : Compiled) → IsHddlOf d p h → IsCompiled h checks c' → IsBound c' n
-  bound_of_each n bound h c' s k = bound_too c c' (same_back c' c (same_bare d p source.value h checks c c' spelled s source.read.sound.value source.compiled_is k)) n bound
+  bound_of_each n bound h c' s k = ((graph h c' s k).bound n).1 bound
 
   -- and the same named cycle
   pub cycle_of_each : (words : List ℕ) → NamesCycle c words → (err err' : SinkState) → Told (line_of (refused.NotTailRecursive words)) err err' → TellsCycle checks d p err err'
   cycle_of_each words (edges, named, is) err err' told h c' s k =
-      let same = same_back c' c (same_bare d p source.value h checks c c' spelled s source.read.sound.value source.compiled_is k) in
-      let line = is ∙ ap spaced (words_too c c' same edges) in
-      (edges, named_too c c' same edges named, subst (λ z. Told (codes "not tail-recursive:" ++ z ++ codes "\n") err err') line told)
+      let line = is ∙ ap spaced (sym (words_same c' c (graph h c' s k) edges)) in
+      (edges, named_back c' c (graph h c' s k) edges named, subst (λ z. Told (codes "not tail-recursive:" ++ z ++ codes "\n") err err') line told)
 
 -- A translation that was done.
 module _ (request : TranslationRequest) (files files' : FilesState) (out out' : SinkState) (d p od op : List ℕ) (domain_read : IsToldToRead files request.names.domain d) (problem_read : IsToldToRead files request.names.problem p)
@@ -159,8 +162,8 @@ module _ (words : List Word) (files files' : FilesState) (out out' : SinkState) 
 module _ (words : List Word) (files files' : FilesState) (out out' : SinkState) (cycle : List ℕ) where
   cycle_by : (request : Request) (d p : List ℕ) → AreToldInputs words files files' request d p → Leaves request files files' out out' (refused.NotTailRecursive cycle) → (err err' : SinkState) → Told (line_of (refused.NotTailRecursive cycle)) err err'
       → TellsCycle (checks_of request) d p err err'
-  cycle_by (to_translate r) d p told (is, stays) err err' line = let (c, source, names) = is.1 in cycle_of_each files r.names.domain r.names.problem r.checks c source d p told.domain_read told.problem_read cycle names err err' line
-  cycle_by (to_bound r) d p told (is, stays) err err' line = let (c, source, names) = is in cycle_of_each files r.domain r.problem r.checks c source d p told.domain_read told.problem_read cycle names err err' line
+  cycle_by (to_translate r) d p told left err err' line = let (c, source, names) = left.0.1 in cycle_of_each files r.names.domain r.names.problem r.checks c source d p told.domain_read told.problem_read cycle names err err' line
+  cycle_by (to_bound r) d p told left err err' line = let (c, source, names) = left.0 in cycle_of_each files r.domain r.problem r.checks c source d p told.domain_read told.problem_read cycle names err err' line
 
   finding_here : IsRefused words files files' out out' (refused.NotTailRecursive cycle) → (err err' : SinkState) → Told (line_of (refused.NotTailRecursive cycle)) err err' → HasFinding words files files' err err'
   finding_here (inl w) err err' line request d p told = absurd (w.formless (request, told.asked))

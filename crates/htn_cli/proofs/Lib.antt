@@ -3,8 +3,7 @@ pub mod Texts
 pub mod Inputs
 pub mod Printed
 pub mod Leavings
-pub mod SameBounds
-pub mod SameProblems
+pub mod SameCycles
 pub mod Headlines
 pub mod Endings
 pub mod examples

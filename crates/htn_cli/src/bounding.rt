@@ -1,4 +1,4 @@
-ghost use Rattle.std.specs.Prelude.{IfErr, OnOk};
+ghost use Rattle.std.specs.Prelude.{◌<◌, ◌^◌, IfErr, OnOk};
 ghost use Rattle.outside_io.specs.Seen.{Seen};
 ghost use Rattle.command_words.specs.Words as words;
 ghost use Rattle.htn_cli.specs.Ending.{Achieves};
@@ -33,6 +33,7 @@ pub(crate) fn print_bound<'a, F: Files, O: Sink>(
 }
 
 fn print<'a, O: Sink>(out: &mut O, bound: u128) -> Result<(), Refusal<'a>>
+    ensures small { bound < 2 ^ 128 }
     ensures written { OnOk result (Seen O.state (TakesWhole (bound_line bound)) out.old out.new) }
     ensures refused { IfErr result (Seen O.state (StopsPrint (bound_line bound)) out.old out.new) }
 {
