@@ -40,7 +40,7 @@ sets_checks_one value before s t x y =
     x.3 ∙ ap (λ (checks : Checks). record before { checks = Some checks }) e ∙ sym y.3
 
 sets_one : (option value : Word) (before s t : Chosen) → Sets option value before s → Sets option value before t → s ≡ t
-sets_one option value before s t (inl (e, x)) (inl (f, y)) = x.1 ∙ sym y.1
+sets_one option value before s t (inl (e, x)) (inl (f, y)) = x.2 ∙ sym y.2
 sets_one option value before s t (inl (e, x)) (inr (inl (f, y))) = absurd (bound_style option e f)
 sets_one option value before s t (inl (e, x)) (inr (inr (f, y))) = absurd (bound_checks option e f)
 sets_one option value before s t (inr (inl (e, x))) (inl (f, y)) = absurd (bound_style option f e)

@@ -28,9 +28,9 @@ CannotAdd Choice before = (after : Chosen) → Choice (chosen_of before) after �
 abbrev pub nothing_chosen : Chosen
 nothing_chosen = record { bound = None; style = None; checks = None }
 
--- the bound that was set is this numeral
-abbrev pub HasNumeral : Chosen → Word → Type 0
-HasNumeral chosen numeral = (chosen.bound ≡ Some numeral) × IsNumeral numeral
+-- no option but the checks was set
+abbrev pub SetsChecksAlone : Chosen → Type 0
+SetsChecksAlone chosen = (chosen.bound ≡ None) × (chosen.style ≡ None)
 
 abbrev pub style_word : Style → Word
 style_word Adl = codes "adl"
@@ -43,7 +43,7 @@ checks_word AtOnce = codes "atonce"
 -- The value of an option sets what was not set before.
 
 abbrev pub SetsBound : Word → Chosen → Chosen → Type 0
-SetsBound value before after = (before.bound ≡ None) × (after ≡ record before { bound = Some value })
+SetsBound value before after = IsNumeral value × (before.bound ≡ None) × (after ≡ record before { bound = Some value })
 
 abbrev pub SetsStyle : Word → Chosen → Chosen → Type 0
 SetsStyle value before after =

@@ -51,12 +51,13 @@ pub fn bound_of(word: &str) -> Bound
     ensures { ComesTo (digits_value 10 word.now) result }
 {
     match word.parse::<u128>() {
-        Ok(number) => within(number),
+        Ok(number) => comes_to(number),
         Err(_) => Bound::PastAll,
     }
 }
 
-fn within(number: u128) -> Bound
+/// What a number comes to.
+pub fn comes_to(number: u128) -> Bound
     requires { 1 ≤ number }
     ensures { ComesTo number result }
 {

@@ -13,4 +13,10 @@ pub enum Command<'a> {
         style: Style,
         checks: Checks,
     },
+    /// Read the HDDL domain `d` and problem `p`, and print their bound.
+    Bound {
+        d: &'a str,
+        p: &'a str,
+        checks: Checks,
+    },
 }

@@ -1,16 +1,18 @@
 //! The words of the command line: the command that they ask for, and the number of slots in it.
 //!
-//! Stands on `plan_model`. The contract used above: `command` answers exactly the command that the
-//! words ask for, and `None` exactly where they are of no command's form.
+//! Stands on `plan_model`. The contract used above: `asked` answers exactly what the words ask for,
+//! and `None` exactly where they are of no command's form; `command` gives it as a command.
 #![tactic(auto)]
 
+mod asking;
 mod bounds;
 mod commands;
 mod names;
 mod settings;
 mod words;
 
-pub use bounds::{Bound, bound_of};
+pub use asking::{Asked, Bounding, Translation};
+pub use bounds::{Bound, bound_of, comes_to};
 pub use commands::Command;
 pub use names::Named;
-pub use words::{Translation, asked, command};
+pub use words::{asked, command};

@@ -1,6 +1,6 @@
 ghost use Rattle.std.specs.Prelude.{◌≡◌, ◌↔◌, ◌<◌, ◌≤◌, ◌∷◌, length, IsTrue, IfSome, IfNone};
-ghost use Rattle.command_words.specs.Names.{Word, words_of};
-ghost use Rattle.command_words.specs.Options.{Adds, CannotAdd, Choose, Chosen, HasNumeral, Sets, SetsBound, SetsChecks, SetsStyle, checks_word, chosen_of, nothing_chosen, style_word};
+ghost use Rattle.command_words.specs.Names.{words_of};
+ghost use Rattle.command_words.specs.Options.{Adds, CannotAdd, Choose, Chosen, Sets, SetsBound, SetsChecks, SetsChecksAlone, SetsStyle, checks_word, chosen_of, nothing_chosen, style_word};
 
 use crate::bounds::is_numeral;
 use plan_model::{Checks, Style};
@@ -58,20 +58,18 @@ impl<'a> Settings<'a> {
         }
     }
 
-    /// The value of `--bound` that was set, where it is a numeral.
-    pub(crate) fn numeral(&self) -> Option<&'a str>
-        ensures set { IfSome result (λ word. HasNumeral (chosen_of self.now) word.now) }
-        ensures other { IfNone result ((word : Word) → HasNumeral (chosen_of self.now) word → ⊥) }
+    /// Whether no option but `--checks` was set.
+    pub(crate) fn are_of_checks(&self) -> bool
+        ensures { IsTrue result ↔ SetsChecksAlone (chosen_of self.now) }
     {
-        let word = self.bound?;
-        if is_numeral(word) { Some(word) } else { None }
+        self.bound.is_none() && self.style.is_none()
     }
 
     fn with_bound(self, value: &'a str) -> Option<Settings<'a>>
         ensures set { IfSome result (Adds (SetsBound value.now) self.entry) }
         ensures other { IfNone result (CannotAdd (SetsBound value.now) self.entry) }
     {
-        if self.bound.is_some() {
+        if self.bound.is_some() || !is_numeral(value) {
             return None;
         }
         Some(Settings {

@@ -1,7 +1,8 @@
 ghost use Rattle.std.specs.Prelude.{◌≡◌, ◌↔◌, List, string_bytes, IfSome, IfNone, IsTrue};
 ghost use Rattle.command_words.specs.Names.{Word, Names, names_of, words_of};
-ghost use Rattle.command_words.specs.Words.{AreOfAForm, AskFor, Asks, request_of, translation_words};
+ghost use Rattle.command_words.specs.Words.{AreOfAForm, AskFor, Asks, AsksBound, AsksTranslation, BoundRequest, TranslationRequest, bound_of, bound_words, request_of, translation_of, translation_words};
 
+use crate::asking::{Asked, Bounding, Translation};
 use crate::commands::Command;
 use crate::names::{Named, are_apart};
 use crate::settings::settings_of;
@@ -10,51 +11,79 @@ use plan_model::{Checks, Style};
 /// The command that the words ask for; `None` exactly where the words are of no command's form.
 /// It takes no memory.
 ///
-/// The one form is `translate D P OD OP` with its options, where OD and OP differ and neither is D
-/// or P. The option `--bound N` is required; `--style adl|flat` and `--checks leaf|atonce` may be
-/// left out, and then are `adl` and `leaf`.
+/// The forms are `translate D P OD OP` with the options `--bound N`, `--style adl|flat` and
+/// `--checks leaf|atonce`, where OD and OP differ and neither is D or P, and `bound D P` with the
+/// option `--checks leaf|atonce`. Options come in any order and may be left out: the style is then
+/// `adl`, and the checks are `leaf`.
 pub fn command(words: &[String]) -> Option<Command<'_>>
     ensures asked { IfSome result (AskFor (words_of words.now)) }
     ensures formless { IfNone result (AreOfAForm (words_of words.now) → ⊥) }
 {
-    let asked = asked(words)?;
-    Some(Command::Translate {
-        d: asked.names.d,
-        p: asked.names.p,
-        od: asked.names.od,
-        op: asked.names.op,
-        bound: Some(asked.numeral),
-        style: asked.style,
-        checks: asked.checks,
-    })
+    match asked(words)? {
+        Asked::Translation(asked) => Some(Command::Translate {
+            d: asked.names.d,
+            p: asked.names.p,
+            od: asked.names.od,
+            op: asked.names.op,
+            bound: asked.numeral,
+            style: asked.style,
+            checks: asked.checks,
+        }),
+        Asked::Bound(asked) => Some(Command::Bound {
+            d: asked.d,
+            p: asked.p,
+            checks: asked.checks,
+        }),
+    }
 }
 
-/// A translation that is asked for: its files, the numeral of its slots, its style and its checks
-/// of preconditions.
-#[derive(Clone, Copy)]
-pub struct Translation<'a> {
-    pub names: Named<'a>,
-    pub numeral: &'a str,
-    pub style: Style,
-    pub checks: Checks,
-}
-
-/// The translation that the words ask for; `None` exactly where the words are of no command's form.
-/// It takes no memory.
-pub fn asked(words: &[String]) -> Option<Translation<'_>>
+/// What the words ask for; `None` exactly where the words are of no command's form. It takes no
+/// memory.
+pub fn asked(words: &[String]) -> Option<Asked<'_>>
     ensures asked { IfSome result (λ asked. Asks (words_of words.now) (request_of asked)) }
     ensures formless { IfNone result (AreOfAForm (words_of words.now) → ⊥) }
+{
+    match asked_translation(words) {
+        Some(asked) => Some(Asked::Translation(asked)),
+        None => {
+            let asked = asked_bound(words)?;
+            Some(Asked::Bound(asked))
+        }
+    }
+}
+
+fn asked_translation(words: &[String]) -> Option<Translation<'_>>
+    ensures asked { IfSome result (λ asked.
+        AsksTranslation (words_of words.now) (translation_of asked)) }
+    ensures other { IfNone result ((request : TranslationRequest) →
+        AsksTranslation (words_of words.now) request → ⊥) }
 {
     let parts = parts_of(words)?;
     if !are_apart(&parts.names) {
         return None;
     }
     let settings = settings_of(parts.options)?;
-    let numeral = settings.numeral()?;
     Some(Translation {
         names: parts.names,
-        numeral,
+        numeral: settings.bound,
         style: settings.style.unwrap_or(Style::Adl),
+        checks: settings.checks.unwrap_or(Checks::Leaf),
+    })
+}
+
+fn asked_bound(words: &[String]) -> Option<Bounding<'_>>
+    ensures asked { IfSome result (λ asked. AsksBound (words_of words.now) (bound_of asked)) }
+    ensures other { IfNone result ((request : BoundRequest) →
+        AsksBound (words_of words.now) request → ⊥) }
+{
+    let inputs = inputs_of(words)?;
+    let settings = settings_of(inputs.options)?;
+    if !settings.are_of_checks() {
+        return None;
+    }
+    Some(Bounding {
+        d: inputs.d,
+        p: inputs.p,
         checks: settings.checks.unwrap_or(Checks::Leaf),
     })
 }
@@ -81,6 +110,33 @@ fn parts_of(words: &[String]) -> Option<Parts<'_>>
     let (d, p, od, op) = (d.as_str(), p.as_str(), od.as_str(), op.as_str());
     let names = Named { d, p, od, op };
     Some(Parts { names, options })
+}
+
+/// The words of a bound: the files that are read, and the words behind them.
+#[derive(Clone, Copy)]
+struct Inputs<'a> {
+    d: &'a str,
+    p: &'a str,
+    options: &'a [String],
+}
+
+fn inputs_of(words: &[String]) -> Option<Inputs<'_>>
+    ensures spelled { IfSome result (λ inputs. words_of words.now
+        ≡ bound_words inputs.d.now inputs.p.now (words_of inputs.options.now)) }
+    ensures other { IfNone result ((d p : Word) (options : List Word) → words_of words.now
+        ≡ bound_words d p options → ⊥) }
+{
+    let [first, d, p, options @ ..] = words else {
+        return None;
+    };
+    if !is_word(first, "bound") {
+        return None;
+    }
+    Some(Inputs {
+        d: d.as_str(),
+        p: p.as_str(),
+        options,
+    })
 }
 
 fn is_word(word: &String, text: &str) -> bool

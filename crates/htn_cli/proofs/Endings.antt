@@ -1,133 +1,154 @@
 -- How runs end, by their refusals.
-use Rattle.std.proofs.Common.{ℕ, ◌≡◌, ◌<◌, ◌≤◌, ◌^◌, ◌⊎◌, List, refl, sym, ap, ◌∙◌, subst, inl, inr, arith}
+use Rattle.std.proofs.Common.{ℕ, ◌≡◌, ◌<◌, ◌≤◌, ◌^◌, ◌⊎◌, List, [], Option, Some, None, IfSome, refl, sym, ap, ◌∙◌, subst, inl, inr, arith}
 use Rattle.outside_io.specs.Count.{HasRisen}
 use Rattle.outside_io.specs.Files.{FilesState}
 use Rattle.outside_io.specs.Sink.{SinkState}
+use Rattle.plan_model.specs.declared.values.Compiled.{Compiled}
 use Rattle.command_words.specs.Names.{Word, Names}
-use Rattle.command_words.specs.Bounds.{most_slots, ComesTo}
-use Rattle.command_words.specs.Words.{Request, slots_of, Asks}
-use Rattle.command_words.specs.declared.bounds.Bound.TheVariants.{Slots}
+use Rattle.command_words.specs.Bounds.{most_slots}
+use Rattle.command_words.specs.Words.{TranslationRequest, Request, to_translate, number_of, Asks}
 use Rattle.command_words.proofs.Requests.{one_request}
 use Rattle.htn_cli.specs.Texts.{Texts}
-use Rattle.htn_cli.specs.Inputs.{AreDefined}
 use Rattle.htn_cli.specs.Refusal.{status_of, line_of}
-use Rattle.htn_cli.specs.Sent.{Told}
-use Rattle.htn_cli.specs.Left.{Leaves, LeavesDone, LeavesUnwritten}
-use Rattle.htn_cli.specs.Ending.{manner_of, Achieves, RefusesRequest, RefusesTranslation, IsRefused, IsRefusedFor, IsDone, AskForSlots, IsPastLimit, Answers}
-use Rattle.htn_cli.specs.declared.manner.Manner.{Manner}
+use Rattle.htn_cli.specs.Sent.{Told, TakesWhole, TakesThenFails}
+use Rattle.htn_cli.specs.Answer.{Answer, refuses, writes, tells, IsGivenWithin, AreAskedFor, AreSlotsOf, IsForSlots, IsAnswer}
+use Rattle.htn_cli.specs.Left.{StandsUpTo, Gives, LeavesUnwritten, Leaves}
+use Rattle.htn_cli.specs.Ending.{Achieves, status_by, line_by, IsOfAnAnswer, IsRefused, IsRefusedFor, IsDone, AskForSlots, IsAnswered}
 use Rattle.htn_cli.specs.declared.status.Status.{Status}
 use Rattle.htn_cli.specs.declared.status.Status.TheVariants as status
 use Rattle.htn_cli.specs.declared.refusal.Refusal.{Refusal}
 use Rattle.htn_cli.specs.declared.refusal.Refusal.TheVariants as refused
-
--- the manner of a request, with so many slots
-abbrev manner_at : Request → ℕ → Manner
-manner_at request n = record { slots = n; style = request.style; checks = request.checks }
-
-module _ (request : Request) (slots : ℕ) (old new : FilesState) (out out' : SinkState) (holds : ComesTo (slots_of request) (Slots slots)) where
-  pub achieves : (texts : Texts) × AreDefined request.names (manner_at request slots) old texts × LeavesDone request.names (manner_at request slots) texts old new out out' → Achieves old new out out' request
-  achieves (texts, defined, left) =
-      record {
-        texts = texts;
-        few = holds.2;
-        defined = subst (λ n. AreDefined request.names (manner_at request n) old texts) holds.0 defined;
-        left = subst (λ n. LeavesDone request.names (manner_at request n) texts old new out out') holds.0 left;
-      }
-
-  left_there : (refusal : Refusal) → Leaves request.names (manner_at request slots) refusal old new out out' → Leaves request.names (manner_of request) refusal old new out out'
-  left_there refusal left = subst (λ n. Leaves request.names (manner_at request n) refusal old new out out') holds.0 left
-
-  pub refuses : (refusal : Refusal) → Leaves request.names (manner_at request slots) refusal old new out out' → RefusesRequest old new out out' request refusal
-  refuses refused.Words left = absurd left
-  refuses refused.BoundLimit left = absurd left
-  refuses (refused.SlotsLimit n) left = absurd left
-  refuses (refused.NotBuilt word) left = (holds.2, left_there (refused.NotBuilt word) left)
-  refuses (refused.OutputLimit n) left = (holds.2, left_there (refused.OutputLimit n) left)
-  refuses (refused.CannotRead word) left = (holds.2, left_there (refused.CannotRead word) left)
-  refuses (refused.CannotWrite word) left = (holds.2, left_there (refused.CannotWrite word) left)
-  refuses refused.CannotWriteOutput left = (holds.2, left_there refused.CannotWriteOutput left)
-  refuses refused.NoMemory left = (holds.2, left_there refused.NoMemory left)
 
 -- no refusal ends as a run that was done
 pub never_done : (refusal : Refusal) → status_of refusal ≡ status.Done → ⊥
 never_done refused.Words e = cc
 never_done refused.BoundLimit e = cc
 never_done (refused.SlotsLimit n) e = cc
+never_done (refused.BytesLimit word) e = cc
 never_done (refused.NotBuilt word) e = cc
+never_done (refused.NotTailRecursive words) e = cc
 never_done (refused.OutputLimit n) e = cc
 never_done (refused.CannotRead word) e = cc
 never_done (refused.CannotWrite word) e = cc
 never_done refused.CannotWriteOutput e = cc
 never_done refused.NoMemory e = cc
 
--- Refusals for the number of slots.
-module _ (old new : FilesState) (out out' : SinkState) where
+-- What a refusal leaves that is part of an answer.
+abbrev IsOfRefusal : Refusal → Type 0
+IsOfRefusal refusal = IsOfAnAnswer (status_of refusal)
+
+module _ (words : List Word) (old new : FilesState) (out out' : SinkState) where
   abbrev Stays : Type 0
   Stays = (new ≡ old) × (out' ≡ out)
 
-  past_all_by : (request : Request) (refusal : Refusal) → RefusesRequest old new out out' request refusal → 2 ^ 128 ≤ slots_of request → (refusal ≡ refused.BoundLimit) × Stays
-  past_all_by request refused.Words left past = absurd left.1
-  past_all_by request refused.BoundLimit left past = (refl, (left.1, left.2))
-  past_all_by request (refused.SlotsLimit n) left past = absurd (omega (arith, left.0, left.2, past))
-  past_all_by request (refused.NotBuilt word) left past = absurd (omega (arith, left.0, past))
-  past_all_by request (refused.OutputLimit n) left past = absurd (omega (arith, left.0, past))
-  past_all_by request (refused.CannotRead word) left past = absurd (omega (arith, left.0, past))
-  past_all_by request (refused.CannotWrite word) left past = absurd (omega (arith, left.0, past))
-  past_all_by request refused.CannotWriteOutput left past = absurd (omega (arith, left.0, past))
-  past_all_by request refused.NoMemory left past = absurd (omega (arith, left.0, past))
+  -- a refusal before anything was written is the answer to the request
+  answer_left : (request : Request) (refusal : Refusal) → IsOfRefusal refusal → Leaves request old new out out' refusal → IsAnswer request old (refuses refusal) × Stays
+  answer_left request refused.Words of left = (left.0, (left.1, left.2))
+  answer_left request refused.BoundLimit of left = (left.0, (left.1, left.2))
+  answer_left request (refused.SlotsLimit n) of left = (left.0, (left.1, left.2))
+  answer_left request (refused.BytesLimit word) of left = (left.0, (left.1, left.2))
+  answer_left request (refused.NotBuilt word) of left = (left.0, (left.1, left.2))
+  answer_left request (refused.NotTailRecursive words) of left = (left.0, (left.1, left.2))
+  answer_left request (refused.OutputLimit n) of left = (left.0, (left.1, left.2))
+  answer_left request (refused.CannotRead word) of left = absurd of
+  answer_left request (refused.CannotWrite word) of left = absurd of
+  answer_left request refused.CannotWriteOutput of left = absurd of
+  answer_left request refused.NoMemory of left = absurd of
 
-  past_slots_by : (request : Request) (refusal : Refusal) → RefusesRequest old new out out' request refusal → most_slots < slots_of request → slots_of request < 2 ^ 128
-      → (refusal ≡ refused.SlotsLimit (slots_of request)) × Stays
-  past_slots_by request refused.Words left past few = absurd left.1
-  past_slots_by request refused.BoundLimit left past few = absurd (omega (arith, left.0, few))
-  past_slots_by request (refused.SlotsLimit n) left past few = (ap refused.SlotsLimit left.0, (left.3, left.4))
-  past_slots_by request (refused.NotBuilt word) left past few = absurd (omega (arith, left.0, past))
-  past_slots_by request (refused.OutputLimit n) left past few = absurd (omega (arith, left.0, past))
-  past_slots_by request (refused.CannotRead word) left past few = absurd (omega (arith, left.0, past))
-  past_slots_by request (refused.CannotWrite word) left past few = absurd (omega (arith, left.0, past))
-  past_slots_by request refused.CannotWriteOutput left past few = absurd (omega (arith, left.0, past))
-  past_slots_by request refused.NoMemory left past few = absurd (omega (arith, left.0, past))
+  pub answered_refused : (ended : Status) (refusal : Refusal) (err err' : SinkState) → ended ≡ status_of refusal → IsRefused words old new out out' refusal → Told (line_of refusal) err err' → IsOfAnAnswer ended
+      → IsAnswered words old new out out' ended err err'
+  answered_refused ended refusal err err' is (inl w) told of = record {
+    answer = refuses refusal;
+    is = inl (w.formless, ap refuses w.refusal_is);
+    status_is = is;
+    given = (w.files_stay, w.out_stays);
+    told = told;
+  }
+  answered_refused ended refusal err err' is (inr t) told of =
+      let a = answer_left t.request refusal (subst IsOfAnAnswer is of) t.left in
+      record { answer = refuses refusal; is = inr (t.request, t.asked, a.0); status_is = is; given = a.1; told = told }
 
+  done_answer : (request : Request) (answer : Answer) → IsAnswer request old answer → StandsUpTo TakesWhole answer old new out out' → (status.Done ≡ status_by answer) × Gives answer old new out out' × (line_by answer ≡ [])
+  done_answer request (refuses refusal) is given = absurd given
+  done_answer request (writes names texts slots) is given = (refl, given, refl)
+  done_answer request (tells n) is given = (refl, given, refl)
+
+  pub answered_done : (err err' : SinkState) → IsDone words old new out out' → Told [] err err' → IsAnswered words old new out out' status.Done err err'
+  answered_done err err' done quiet =
+      let a = done_answer done.request done.achieved.answer done.achieved.is done.achieved.given in
+      record { answer = done.achieved.answer; is = inr (done.request, done.asked, done.achieved.is); status_is = a.0; given = a.1; told = subst (λ z. Told z err err') (sym a.2) quiet }
+
+  asked_left : (request : Request) (refusal : Refusal) → Asks words request → IsRefused words old new out out' refusal → Leaves request old new out out' refusal
+  asked_left request refusal asked (inl w) = absurd (w.formless (request, asked))
+  asked_left request refusal asked (inr t) = subst (λ r. Leaves r old new out out' refusal) (one_request words t.request request t.asked asked) t.left
+
+-- A given number of slots that is past a limit.
 module _ (words : List Word) (old new : FilesState) (out out' : SinkState) where
-  asked_left : (request : Request) (refusal : Refusal) → Asks words request → RefusesTranslation words old new out out' refusal → RefusesRequest old new out out' request refusal
-  asked_left request refusal asked t =
-      subst (λ r. RefusesRequest old new out out' r refusal) (one_request words t.request request t.asked asked) t.left
+  module _ (n : ℕ) (r : TranslationRequest) (numeral : Word) (asked : Asks words (to_translate r)) (e : r.numeral ≡ Some numeral) (is : n ≡ number_of numeral) where
+    given_few : (o : Option Word) → o ≡ Some numeral → IfSome o (λ word. number_of word ≤ most_slots) → n ≤ most_slots
+    given_few None e few = absurd (cc)
+    given_few (Some word) e few = let f : word ≡ numeral = cc in let g = ap number_of f in omega arith
 
-  -- a number of slots past all limits
+    within_few : IsGivenWithin r old → n ≤ most_slots
+    within_few few = given_few r.numeral e few
+
+    asked_is : (o : Option Word) (m : ℕ) → o ≡ Some numeral → AreAskedFor r old o m → m ≡ n
+    asked_is None m e a = absurd (cc)
+    asked_is (Some word) m e a = let f : word ≡ numeral = cc in a ∙ ap number_of f ∙ sym is
+
+    not_none : r.numeral ≡ None → ⊥
+    not_none f = let g : None ≡ Some numeral = sym f ∙ e in cc
+
+    for_few : (c : Compiled) (slots : ℕ) → IsForSlots r old c slots → n ≤ most_slots
+    for_few c slots s = let l = s.few in let k = go r.numeral e s.slots_are in omega arith
+      where
+        go : (o : Option Word) → o ≡ Some numeral → AreSlotsOf r old c o slots → slots ≡ n
+        go None e a = absurd (cc)
+        go (Some word) e a = let f : word ≡ numeral = cc in a ∙ ap number_of f ∙ sym is
+
+    answer_few : (answer : Answer) → IsAnswer (to_translate r) old answer → (Takes : List ℕ → SinkState → SinkState → Type 0) → StandsUpTo Takes answer old new out out' → n ≤ most_slots
+    answer_few (refuses refusal) is Takes stands = absurd stands
+    answer_few (writes names texts slots) is Takes stands = for_few is.1.compiled slots is.1.source
+    answer_few (tells m) is Takes stands = absurd is
+
+    past_all_left : (refusal : Refusal) → Leaves (to_translate r) old new out out' refusal → 2 ^ 128 ≤ n → (refusal ≡ refused.BoundLimit) × ((new ≡ old) × (out' ≡ out))
+    past_all_left refused.Words left past = absurd left.0
+    past_all_left refused.BoundLimit left past = (refl, (left.1, left.2))
+    past_all_left (refused.SlotsLimit m) left past = let k = asked_is r.numeral m e left.0.0 in let l = left.0.2 in absurd (omega arith)
+    past_all_left (refused.BytesLimit word) left past = let k = within_few left.0.0 in absurd (omega arith)
+    past_all_left (refused.NotBuilt word) left past = let k = within_few left.0.0 in absurd (omega arith)
+    past_all_left (refused.NotTailRecursive words) left past = absurd (not_none left.0.0)
+    past_all_left (refused.OutputLimit m) left past = let k = for_few left.0.0 left.0.1 left.0.2 in absurd (omega arith)
+    past_all_left (refused.CannotRead word) left past = let k = within_few left.0 in absurd (omega arith)
+    past_all_left (refused.CannotWrite word) (names, texts, slots, is, left, stays) past = let k = for_few is.1.compiled slots is.1.source in absurd (omega arith)
+    past_all_left refused.CannotWriteOutput (answer, is, stands) past = let k = answer_few answer is TakesThenFails stands in absurd (omega arith)
+    past_all_left refused.NoMemory left past = let k = within_few left.0 in absurd (omega arith)
+
+    past_slots_left : (refusal : Refusal) → Leaves (to_translate r) old new out out' refusal → most_slots < n → n < 2 ^ 128 → (refusal ≡ refused.SlotsLimit n) × ((new ≡ old) × (out' ≡ out))
+    past_slots_left refused.Words left past few = absurd left.0
+    past_slots_left refused.BoundLimit left past few = let k = asked_is r.numeral left.0.0 e left.0.1 in let l = left.0.2 in absurd (omega arith)
+    past_slots_left (refused.SlotsLimit m) left past few = (ap refused.SlotsLimit (asked_is r.numeral m e left.0.0), (left.1, left.2))
+    past_slots_left (refused.BytesLimit word) left past few = let k = within_few left.0.0 in absurd (omega arith)
+    past_slots_left (refused.NotBuilt word) left past few = let k = within_few left.0.0 in absurd (omega arith)
+    past_slots_left (refused.NotTailRecursive words) left past few = absurd (not_none left.0.0)
+    past_slots_left (refused.OutputLimit m) left past few = let k = for_few left.0.0 left.0.1 left.0.2 in absurd (omega arith)
+    past_slots_left (refused.CannotRead word) left past few = let k = within_few left.0 in absurd (omega arith)
+    past_slots_left (refused.CannotWrite word) (names, texts, slots, is, left, stays) past few = let k = for_few is.1.compiled slots is.1.source in absurd (omega arith)
+    past_slots_left refused.CannotWriteOutput (answer, is, stands) past few = let k = answer_few answer is TakesThenFails stands in absurd (omega arith)
+    past_slots_left refused.NoMemory left past few = let k = within_few left.0 in absurd (omega arith)
+
   pub past_all : (n : ℕ) (refusal : Refusal) → IsRefused words old new out out' refusal → AskForSlots words n → 2 ^ 128 ≤ n → (refusal ≡ refused.BoundLimit) × ((new ≡ old) × (out' ≡ out))
-  past_all n refusal (inl w) (request, asked, is) past = absurd (w.formless (request, asked))
-  past_all n refusal (inr t) (request, asked, is) past = past_all_by old new out out' request refusal (asked_left request refusal asked t) (omega (arith, is, past))
+  past_all n refusal left (r, numeral, asked, e, is) past = past_all_left n r numeral asked e is refusal (asked_left words old new out out' (to_translate r) refusal asked left) past
 
-  pub past_slots : (n : ℕ) (refusal : Refusal) → IsRefused words old new out out' refusal → AskForSlots words n → most_slots < n → n < 2 ^ 128
-      → (refusal ≡ refused.SlotsLimit n) × ((new ≡ old) × (out' ≡ out))
-  past_slots n refusal (inl w) (request, asked, is) past few = absurd (w.formless (request, asked))
-  past_slots n refusal (inr t) (request, asked, is) past few =
-      let x = past_slots_by old new out out' request refusal (asked_left request refusal asked t) (omega (arith, is, past)) (omega (arith, is, few)) in
-      (x.0 ∙ ap refused.SlotsLimit (sym is), x.1)
+  pub past_slots : (n : ℕ) (refusal : Refusal) → IsRefused words old new out out' refusal → AskForSlots words n → most_slots < n → n < 2 ^ 128 → (refusal ≡ refused.SlotsLimit n) × ((new ≡ old) × (out' ≡ out))
+  past_slots n refusal left (r, numeral, asked, e, is) past few = past_slots_left n r numeral asked e is refusal (asked_left words old new out out' (to_translate r) refusal asked left) past few
 
   -- a request past a limit is not done
   pub past_not_done : (n : ℕ) → IsDone words old new out out' → AskForSlots words n → most_slots < n → ⊥
-  past_not_done n done (request, asked, is) past =
-      let few = subst (λ r. slots_of r ≤ most_slots) (one_request words done.request request done.asked asked) done.achieved.few in
-      omega (arith, few, is, past)
-
-  past_output_by : (n : ℕ) (request : Request) (refusal : Refusal) → Asks words request → n ≡ slots_of request → RefusesRequest old new out out' request refusal → n ≤ most_slots → status_of refusal ≡ status.Limit
-      → (size : ℕ) × IsPastLimit words old size × (refusal ≡ refused.OutputLimit size) × ((new ≡ old) × (out' ≡ out))
-  past_output_by n request refused.Words asked is left few e = absurd left.1
-  past_output_by n request refused.BoundLimit asked is left few e = absurd (omega (arith, left.0, is, few))
-  past_output_by n request (refused.SlotsLimit m) asked is left few e = absurd (omega (arith, left.0, left.1, is, few))
-  past_output_by n request (refused.NotBuilt word) asked is left few e = absurd (cc)
-  past_output_by n request (refused.OutputLimit size) asked is left few e = (size, (request, asked, left.1.0), refl, (left.1.1, left.1.2))
-  past_output_by n request (refused.CannotRead word) asked is left few e = absurd (cc)
-  past_output_by n request (refused.CannotWrite word) asked is left few e = absurd (cc)
-  past_output_by n request refused.CannotWriteOutput asked is left few e = absurd (cc)
-  past_output_by n request refused.NoMemory asked is left few e = absurd (cc)
-
-  -- a printed text past the limit
-  pub past_output : (n : ℕ) (refusal : Refusal) → IsRefused words old new out out' refusal → AskForSlots words n → n ≤ most_slots → status_of refusal ≡ status.Limit
-      → (size : ℕ) × IsPastLimit words old size × (refusal ≡ refused.OutputLimit size) × ((new ≡ old) × (out' ≡ out))
-  past_output n refusal (inl w) (request, asked, is) few e = absurd (w.formless (request, asked))
-  past_output n refusal (inr t) (request, asked, is) few e = past_output_by n request refusal asked is (asked_left request refusal asked t) few e
+  past_not_done n done (r, numeral, asked, e, is) past =
+      let achieved = subst (λ z. Achieves old new out out' z) (one_request words done.request (to_translate r) done.asked asked) done.achieved in
+      let few = answer_few n r numeral asked e is achieved.answer achieved.is TakesWhole achieved.given in
+      omega arith
 
 -- what is told of a refusal that is this one
 pub refused_for : (old new : FilesState) (out out' err err' : SinkState) (ended : Status) (refusal other : Refusal) → ended ≡ status_of refusal → refusal ≡ other → (new ≡ old) × (out' ≡ out) → Told (line_of refusal) err err'
@@ -135,7 +156,7 @@ pub refused_for : (old new : FilesState) (out out' err err' : SinkState) (ended 
 refused_for old new out out' err err' ended refusal other is e stays told =
     record { status_is = is ∙ ap status_of e; told = subst (λ r. Told (line_of r) err err') e told; files_stay = stays.0; out_stays = stays.1 }
 
--- a write fault is one of the files or of standard output
+-- Faults of reading and writing come where a count rose.
 module _ (old new : FilesState) (out out' : SinkState) where
   abbrev WriteHasFailed : Type 0
   WriteHasFailed = HasRisen old.put_faults new.put_faults ⊎ HasRisen out.faults out'.faults
@@ -144,38 +165,52 @@ module _ (old new : FilesState) (out out' : SinkState) where
   unwritten names texts name (inl (e, fails)) = inl fails.put_faults.has_risen
   unwritten names texts name (inr (e, fails)) = inl fails.put_faults.has_risen
 
-  write_fault_by : (request : Request) (refusal : Refusal) → RefusesRequest old new out out' request refusal → status_of refusal ≡ status.WriteFault → WriteHasFailed
-  write_fault_by request refused.Words left e = absurd (cc)
-  write_fault_by request refused.BoundLimit left e = absurd (cc)
-  write_fault_by request (refused.SlotsLimit n) left e = absurd (cc)
-  write_fault_by request (refused.NotBuilt word) left e = absurd (cc)
-  write_fault_by request (refused.OutputLimit n) left e = absurd (cc)
-  write_fault_by request (refused.CannotRead word) left e = absurd (cc)
-  write_fault_by request (refused.CannotWrite word) (few, leaves) e = unwritten request.names leaves.0 word.now leaves.2
-  write_fault_by request refused.CannotWriteOutput (few, leaves) e = inr leaves.3.faults.has_risen
-  write_fault_by request refused.NoMemory left e = absurd (cc)
+  untold : (answer : Answer) → StandsUpTo TakesThenFails answer old new out out' → WriteHasFailed
+  untold (refuses refusal) stands = absurd stands
+  untold (writes names texts slots) stands = inr stands.1.faults.has_risen
+  untold (tells n) stands = inr stands.1.faults.has_risen
 
-  pub write_fault_here : (words : List Word) (refusal : Refusal) → IsRefused words old new out out' refusal → status_of refusal ≡ status.WriteFault → WriteHasFailed
-  write_fault_here words refusal (inl w) e = absurd (let f = sym (ap status_of w.refusal_is) ∙ e in cc)
-  write_fault_here words refusal (inr t) e = write_fault_by t.request refusal t.left e
+  write_fault_left : (request : Request) (refusal : Refusal) → Leaves request old new out out' refusal → status_of refusal ≡ status.WriteFault → WriteHasFailed
+  write_fault_left request refused.Words left e = absurd (cc)
+  write_fault_left request refused.BoundLimit left e = absurd (cc)
+  write_fault_left request (refused.SlotsLimit n) left e = absurd (cc)
+  write_fault_left request (refused.BytesLimit word) left e = absurd (cc)
+  write_fault_left request (refused.NotBuilt word) left e = absurd (cc)
+  write_fault_left request (refused.NotTailRecursive words) left e = absurd (cc)
+  write_fault_left request (refused.OutputLimit n) left e = absurd (cc)
+  write_fault_left request (refused.CannotRead word) left e = absurd (cc)
+  write_fault_left request (refused.CannotWrite word) (names, texts, slots, is, left, stays) e = unwritten names texts word.now left
+  write_fault_left request refused.CannotWriteOutput (answer, is, stands) e = untold answer stands
+  write_fault_left request refused.NoMemory left e = absurd (cc)
 
-pub write_fault : (words : List Word) (old new : FilesState) (out out' : SinkState) (refusal : Refusal) → IsRefused words old new out out' refusal → status_of refusal ≡ status.WriteFault
-    → HasRisen old.put_faults new.put_faults ⊎ HasRisen out.faults out'.faults
-write_fault words old new out out' = write_fault_here old new out out' words
+  pub write_fault : (words : List Word) (refusal : Refusal) → IsRefused words old new out out' refusal → status_of refusal ≡ status.WriteFault → WriteHasFailed
+  write_fault words refusal (inl w) e = absurd (let f = sym (ap status_of w.refusal_is) ∙ e in cc)
+  write_fault words refusal (inr t) e = write_fault_left t.request refusal t.left e
 
--- where nothing outside failed, the status is that of the answer
-module _ (words : List Word) (old new : FilesState) (out out' : SinkState) (read : HasRisen old.get_faults new.get_faults → ⊥) (written : HasRisen old.put_faults new.put_faults ⊎ HasRisen out.faults out'.faults → ⊥) where
-  answers_by : (request : Request) (refusal : Refusal) → Asks words request → RefusesRequest old new out out' request refusal → Answers words old (status_of refusal)
-  answers_by request refused.Words asked left = absurd left.1
-  answers_by request refused.BoundLimit asked left = (request, asked, inl (omega (arith, left.0)))
-  answers_by request (refused.SlotsLimit n) asked left = (request, asked, inl (omega (arith, left.0, left.1)))
-  answers_by request (refused.NotBuilt word) asked left = (request, asked, left.0)
-  answers_by request (refused.OutputLimit n) asked left = (request, asked, inr (n, left.1.0))
-  answers_by request (refused.CannotRead word) asked left = absurd (read left.1.1.get_faults.has_risen)
-  answers_by request (refused.CannotWrite word) asked left = absurd (written (write_fault_by old new out out' request (refused.CannotWrite word) left refl))
-  answers_by request refused.CannotWriteOutput asked left = absurd (written (write_fault_by old new out out' request refused.CannotWriteOutput left refl))
-  answers_by request refused.NoMemory asked left = tt
+  read_fault_left : (request : Request) (refusal : Refusal) → Leaves request old new out out' refusal → status_of refusal ≡ status.ReadFault → HasRisen old.get_faults new.get_faults
+  read_fault_left request refused.Words left e = absurd (cc)
+  read_fault_left request refused.BoundLimit left e = absurd (cc)
+  read_fault_left request (refused.SlotsLimit n) left e = absurd (cc)
+  read_fault_left request (refused.BytesLimit word) left e = absurd (cc)
+  read_fault_left request (refused.NotBuilt word) left e = absurd (cc)
+  read_fault_left request (refused.NotTailRecursive words) left e = absurd (cc)
+  read_fault_left request (refused.OutputLimit n) left e = absurd (cc)
+  read_fault_left request (refused.CannotRead word) left e = left.1.1.get_faults.has_risen
+  read_fault_left request (refused.CannotWrite word) left e = absurd (cc)
+  read_fault_left request refused.CannotWriteOutput left e = absurd (cc)
+  read_fault_left request refused.NoMemory left e = absurd (cc)
 
-  pub answers : (refusal : Refusal) → IsRefused words old new out out' refusal → Answers words old (status_of refusal)
-  answers refusal (inl w) = subst (λ r. Answers words old (status_of r)) (sym w.refusal_is) w.formless
-  answers refusal (inr t) = answers_by t.request refusal t.asked t.left
+  pub read_fault : (words : List Word) (refusal : Refusal) → IsRefused words old new out out' refusal → status_of refusal ≡ status.ReadFault → HasRisen old.get_faults new.get_faults
+  read_fault words refusal (inl w) e = absurd (let f = sym (ap status_of w.refusal_is) ∙ e in cc)
+  read_fault words refusal (inr t) e = read_fault_left t.request refusal t.left e
+
+-- where nothing failed, a status is that of an answer, or of want of memory
+pub calm : (ended : Status) → (ended ≡ status.ReadFault → ⊥) → (ended ≡ status.WriteFault → ⊥) → (ended ≡ status.NoMemory) ⊎ IsOfAnAnswer ended
+calm status.Done read write = inr tt
+calm status.TextFault read write = inr tt
+calm status.Words read write = inr tt
+calm status.ReadFault read write = absurd (read refl)
+calm status.WriteFault read write = absurd (write refl)
+calm status.NoMemory read write = inl refl
+calm status.Finding read write = inr tt
+calm status.Limit read write = inr tt

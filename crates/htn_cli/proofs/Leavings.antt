@@ -1,96 +1,209 @@
--- What a translation leaves, from what its steps leave.
-use Rattle.std.proofs.Common.{ℕ, ◌≡◌, ◌≤◌, ◌⊎◌, Bool, List, length, take, take_all, Option, Some, None, IfSome, option_map, refl, sym, ap, ◌∙◌, subst, inl, inr, ⊎_elim, arith}
-use Rattle.std.proofs.lemmas.List.{length-take}
-use Rattle.outside_io.specs.Folder.{Folder, file_of}
-use Rattle.outside_io.specs.Files.{FilesState, GetGives}
+-- What a run leaves, from what its steps leave.
+use Rattle.std.proofs.Common.{ℕ, ◌≡◌, ◌<◌, ◌≤◌, ◌^◌, ◌⊎◌, List, Option, Some, None, IfSome, refl, sym, ap, ◌∙◌, subst, inl, inr, arith}
+use Rattle.outside_io.specs.Files.{FilesState}
 use Rattle.outside_io.specs.Sink.{SinkState}
+use Rattle.plan_model.specs.declared.options.Checks.{Checks}
+use Rattle.plan_model.specs.declared.values.Compiled.{Compiled}
+use Rattle.task_networks.specs.Bound.{itself}
+use Rattle.plan_meaning.specs.Network.{top_task}
+use Rattle.plan_meaning.specs.Schemas.{task}
+use Rattle.plan_meaning.specs.Bound.{IsBound}
+use Rattle.problem_bound.specs.Soundly.{IsSoundlyCompiled}
 use Rattle.command_words.specs.Names.{Word, Names}
-use Rattle.htn_cli.specs.Texts.{Texts, AreTranslated}
-use Rattle.htn_cli.specs.Inputs.{Reads, AreDefined}
-use Rattle.htn_cli.specs.Built.{AreShort}
+use Rattle.command_words.specs.Bounds.{most_slots}
+use Rattle.command_words.specs.Words.{TranslationRequest, BoundRequest, Request, to_translate, to_bound, number_of}
+use Rattle.htn_cli.specs.Texts.{Texts, texts_of}
+use Rattle.htn_cli.specs.Inputs.{HaveProblem}
+use Rattle.htn_cli.specs.Answer.{Answer, writes, tells, IsGivenWithin, AreAskedFor, AreSlotsOf, IsForSlots, AreWritten, IsAnswer}
 use Rattle.htn_cli.specs.Sent.{TakesWhole}
-use Rattle.htn_cli.specs.Left.{BothStand, Leaves, LeavesDone, slots_line}
-use Rattle.htn_cli.specs.Stops.{StopsGet, StopsBuild, StopsDelivery}
-use Rattle.htn_cli.specs.declared.manner.Manner.{Manner}
+use Rattle.htn_cli.specs.Left.{BothStand, IsWithin, domain_of, problem_of, Leaves, slots_line, bound_line}
+use Rattle.htn_cli.specs.Stops.{GivesProblem, StopsProblem, StopsBound, StopsSlots, AreSlots, IsGiven, StopsGiven, IsComputed, StopsComputed, IsChosen, StopsChosen, IsMade, StopsMade, StopsPrint, StopsDelivery}
+use Rattle.htn_cli.specs.Ending.{Achieves}
+use Rattle.htn_cli.specs.declared.translation.Made.{Made}
 use Rattle.htn_cli.specs.declared.refusal.Refusal.{Refusal}
 use Rattle.htn_cli.specs.declared.refusal.Refusal.TheVariants as refused
+use Rattle.htn_cli.proofs.Printed.{translated}
 
--- a file of which so few bytes were read is read whole
-whole_list : (all bytes : List ℕ) → take 16777217 all ≡ bytes → length bytes ≤ 16777216 → all ≡ bytes
-whole_list all bytes e short =
-    let counted = ap length e in
-    let few : length all ≤ 16777217 = omega (arith, length-take 16777217 all, counted, short) in
-    sym (take_all 16777217 all few) ∙ e
+-- a bound is at least 1
+pub positive : (c : Compiled) (n : ℕ) → IsBound c n → 1 ≤ n
+positive c n b = subst (λ z. 1 ≤ z) b.is (b.numbers.positive (task (top_task c)) itself)
 
-whole_file : (file : Option (List ℕ)) (bytes : List ℕ) → option_map (take 16777217) file ≡ Some bytes → length bytes ≤ 16777216 → file ≡ Some bytes
-whole_file None bytes e short = absurd (cc)
-whole_file (Some all) bytes e short = let f : take 16777217 all ≡ bytes = cc in ap Some (whole_list all bytes f short)
+-- what was read is ready for its bound
+pub soundly : (files : FilesState) (domain problem : Word) (checks : Checks) (c : Compiled) → HaveProblem files domain problem checks c → IsSoundlyCompiled c
+soundly files domain problem checks c p = record { problem = p.value; checks = checks; sound = p.read.sound; ordered = p.read.ordered; compiled = p.compiled_is }
 
-whole_read : (held : Option Folder) (lenient : Bool) (name bytes : List ℕ) → IfSome held (λ folder. option_map (take 16777217) (file_of lenient folder name) ≡ Some bytes) → length bytes ≤ 16777216
-    → IfSome held (λ folder. file_of lenient folder name ≡ Some bytes)
-whole_read None lenient name bytes first short = tt
-whole_read (Some folder) lenient name bytes first short = whole_file (file_of lenient folder name) bytes first short
+-- The problem was not read.
+module _ (request : Request) (old new : FilesState) (out : SinkState) (within : IsWithin request old) where
+  in_request : (refusal : Refusal) → StopsProblem (domain_of request) (problem_of request) old new refusal → Leaves request old new out out refusal
+  in_request refused.Words stops = absurd stops
+  in_request refused.BoundLimit stops = absurd stops
+  in_request (refused.SlotsLimit n) stops = absurd stops
+  in_request (refused.BytesLimit word) stops = go request within stops
+    where
+      go : (r : Request) → IsWithin r old → StopsProblem (domain_of r) (problem_of r) old new (refused.BytesLimit word) → Leaves r old new out out (refused.BytesLimit word)
+      go (to_translate r) within stops = ((within, stops.0), stops.1, refl)
+      go (to_bound r) within stops = (stops.0, stops.1, refl)
+  in_request (refused.NotBuilt word) stops = go request within stops
+    where
+      go : (r : Request) → IsWithin r old → StopsProblem (domain_of r) (problem_of r) old new (refused.NotBuilt word) → Leaves r old new out out (refused.NotBuilt word)
+      go (to_translate r) within stops = ((within, stops.1, stops.0), stops.2, refl)
+      go (to_bound r) within stops = ((stops.1, stops.0), stops.2, refl)
+  in_request (refused.NotTailRecursive words) stops = absurd stops
+  in_request (refused.OutputLimit n) stops = absurd stops
+  in_request (refused.CannotRead word) stops = (within, stops, refl)
+  in_request (refused.CannotWrite word) stops = absurd stops
+  in_request refused.CannotWriteOutput stops = absurd stops
+  in_request refused.NoMemory stops = (within, inl (stops, refl))
 
--- what a refused get leaves
-pub Leaves-get : (names : Names) (manner : Manner) (name : Word) (old mid new : FilesState) (out : SinkState) (refusal : Refusal)
-    → (name ≡ names.domain) ⊎ (name ≡ names.problem) → mid ≡ old → StopsGet name mid new refusal → Leaves names manner refusal old new out out
-Leaves-get names manner name old mid new out refused.Words input same stops = absurd stops
-Leaves-get names manner name old mid new out refused.BoundLimit input same stops = absurd stops
-Leaves-get names manner name old mid new out (refused.SlotsLimit n) input same stops = absurd stops
-Leaves-get names manner name old mid new out (refused.NotBuilt domain) input same stops = absurd stops
-Leaves-get names manner name old mid new out (refused.OutputLimit n) input same stops = absurd stops
-Leaves-get names manner name old mid new out (refused.CannotRead word) input same stops =
-    (⊎_elim (λ e. inl (stops.0 ∙ e)) (λ e. inr (stops.0 ∙ e)) input, rw (← same, stops.0) stops.1, refl)
-Leaves-get names manner name old mid new out (refused.CannotWrite word) input same stops = absurd stops
-Leaves-get names manner name old mid new out refused.CannotWriteOutput input same stops = absurd stops
-Leaves-get names manner name old mid new out refused.NoMemory input same stops = inl (stops ∙ same, refl)
+  pub leaves_problem : (refusal : Refusal) → StopsProblem (domain_of request) (problem_of request) old new refusal → Leaves request old new out out refusal
+  leaves_problem = in_request
 
--- both inputs were read
-module _ (names : Names) (manner : Manner) (domain problem : List ℕ) (old mid now : FilesState) (one : GetGives old mid names.domain 16777217 domain) (two : GetGives mid now names.problem 16777217 problem) where
-  same : now ≡ old
-  same = two.unchanged ∙ one.unchanged
+-- A translation.
+module _ (r : TranslationRequest) (old : FilesState) where
+  given_within : (numeral : Option Word) (given : Option ℕ) → IsGiven numeral given → IfSome numeral (λ word. number_of word ≤ most_slots)
+  given_within None given is = tt
+  given_within (Some word) None is = absurd is
+  given_within (Some word) (Some slots) is = let e = is.same in let l = is.few in omega arith
 
-  first_read : length domain ≤ 16777216 → Reads old names.domain domain
-  first_read short = whole_read old.held old.lenient names.domain domain one.first short
+  pub is_within : (given : Option ℕ) → IsGiven r.numeral given → IsWithin (to_translate r) old
+  is_within given is = given_within r.numeral given is
 
-  second_read : length problem ≤ 16777216 → Reads old names.problem problem
-  second_read short = subst (λ z. Reads z names.problem problem) one.unchanged (whole_read mid.held mid.lenient names.problem problem two.first short)
+  module _ (out : SinkState) where
+    -- the given number of slots is too great
+    slots_here : (n : ℕ) → AreAskedFor r old r.numeral n → (new : FilesState) → new ≡ old → (refusal : Refusal) → StopsSlots n refusal → Leaves (to_translate r) old new out out refusal
+    slots_here n asked new same refused.Words stops = absurd stops
+    slots_here n asked new same refused.BoundLimit stops = ((n, asked, stops), same, refl)
+    slots_here n asked new same (refused.SlotsLimit m) stops = ((subst (AreAskedFor r old r.numeral) (sym stops.0) asked, subst (λ z. most_slots < z) (sym stops.0) stops.1, subst (λ z. z < 2 ^ 128) (sym stops.0) stops.2), same, refl)
+    slots_here n asked new same (refused.BytesLimit word) stops = absurd stops
+    slots_here n asked new same (refused.NotBuilt word) stops = absurd stops
+    slots_here n asked new same (refused.NotTailRecursive words) stops = absurd stops
+    slots_here n asked new same (refused.OutputLimit m) stops = absurd stops
+    slots_here n asked new same (refused.CannotRead word) stops = absurd stops
+    slots_here n asked new same (refused.CannotWrite word) stops = absurd stops
+    slots_here n asked new same refused.CannotWriteOutput stops = absurd stops
+    slots_here n asked new same refused.NoMemory stops = absurd stops
 
-  defined : (texts : Texts) → AreShort domain problem → AreTranslated domain problem manner texts → AreDefined names manner old texts
-  defined texts short translated =
-      record { domain = domain; problem = problem; domain_read = first_read short.0; problem_read = second_read short.1; translated = translated }
+    pub leaves_given : (refusal : Refusal) → StopsGiven r.numeral refusal → Leaves (to_translate r) old old out out refusal
+    leaves_given refusal stops = go r.numeral refl stops
+      where
+        go : (o : Option Word) → r.numeral ≡ o → StopsGiven o refusal → Leaves (to_translate r) old old out out refusal
+        go None e stops = absurd stops
+        go (Some word) e stops = slots_here (number_of word) (subst (λ z. AreAskedFor r old z (number_of word)) (sym e) refl) old refl refusal stops
 
-  -- the texts were not made
-  pub Leaves-build : (out : SinkState) (refusal : Refusal) → StopsBuild domain problem manner names.domain refusal → Leaves names manner refusal old now out out
-  Leaves-build out refused.Words stops = absurd stops
-  Leaves-build out refused.BoundLimit stops = absurd stops
-  Leaves-build out (refused.SlotsLimit n) stops = absurd stops
-  Leaves-build out (refused.NotBuilt word) stops = (stops, same, refl)
-  Leaves-build out (refused.OutputLimit n) stops =
-      (record { domain = domain; problem = problem; domain_read = first_read stops.0.0; problem_read = second_read stops.0.1; too_long = stops.1 }, same, refl)
-  Leaves-build out (refused.CannotRead word) stops = absurd stops
-  Leaves-build out (refused.CannotWrite word) stops = absurd stops
-  Leaves-build out refused.CannotWriteOutput stops = absurd stops
-  Leaves-build out refused.NoMemory stops = inl (same, refl)
+    module _ (compiled : Compiled) (mid : FilesState) (gives : GivesProblem r.names.domain r.names.problem r.checks old mid compiled) where
+      for_slots : (given : Option ℕ) → IsGiven r.numeral given → (slots : ℕ) → IsChosen compiled given slots → IsForSlots r old compiled slots
+      for_slots given is slots chosen = go r.numeral given is chosen refl
+        where
+          go : (o : Option Word) (g : Option ℕ) → IsGiven o g → IsChosen compiled g slots → r.numeral ≡ o → IsForSlots r old compiled slots
+          go None None is (n, bound, are) e =
+              record { problem = gives.problem_is; slots_are = subst (λ z. AreSlotsOf r old compiled z slots) (sym e) (subst (IsBound compiled) (sym are.same) bound); some = are.some; few = are.few }
+          go None (Some g) is chosen e = absurd is
+          go (Some word) None is chosen e = absurd is
+          go (Some word) (Some g) is chosen e =
+              record { problem = gives.problem_is; slots_are = subst (λ z. AreSlotsOf r old compiled z slots) (sym e) (chosen ∙ is.same); some = subst (λ z. 1 ≤ z) (sym chosen) is.some; few = subst (λ z. z ≤ most_slots) (sym chosen) is.few }
 
-  module _ (texts : Texts) (new : FilesState) (out out' : SinkState) (short : AreShort domain problem) (translated : AreTranslated domain problem manner texts) where
-    -- both texts were written, and the number of slots told
-    pub Leaves-done : BothStand names texts now new → TakesWhole (slots_line manner.slots) out out' → (ts : Texts) × AreDefined names manner old ts × LeavesDone names manner ts old new out out'
-    Leaves-done stand told = (texts, defined texts short translated, (subst (λ z. BothStand names texts z new) same stand, told))
+      computed_within : r.numeral ≡ None → IsGivenWithin r old
+      computed_within none = subst (λ z. IfSome z (λ word. number_of word ≤ most_slots)) (sym none) tt
 
-    delivered : (refusal : Refusal) → StopsDelivery names manner.slots texts old new out out' refusal → Leaves names manner refusal old new out out'
-    delivered refused.Words stops = absurd stops
-    delivered refused.BoundLimit stops = absurd stops
-    delivered (refused.SlotsLimit n) stops = absurd stops
-    delivered (refused.NotBuilt word) stops = absurd stops
-    delivered (refused.OutputLimit n) stops = absurd stops
-    delivered (refused.CannotRead word) stops = absurd stops
-    delivered (refused.CannotWrite word) stops = (texts, defined texts short translated, stops.0, stops.1)
-    delivered refused.CannotWriteOutput stops = (texts, defined texts short translated, stops.0, stops.1)
-    delivered refused.NoMemory (inl stops) = inl stops
-    delivered refused.NoMemory (inr (inl stops)) = inr (inl (texts, defined texts short translated, stops.0, stops.1))
-    delivered refused.NoMemory (inr (inr stops)) = inr (inr (texts, defined texts short translated, stops.0, stops.1))
+      computed_here : r.numeral ≡ None → (refusal : Refusal) → StopsBound compiled refusal → Leaves (to_translate r) old mid out out refusal
+      computed_here none refused.Words stops = absurd stops
+      computed_here none refused.BoundLimit stops = ((stops.0, subst (λ z. AreAskedFor r old z stops.0) (sym none) (compiled, gives.problem_is, stops.1), stops.2), gives.same, refl)
+      computed_here none (refused.SlotsLimit n) stops = absurd stops
+      computed_here none (refused.BytesLimit word) stops = absurd stops
+      computed_here none (refused.NotBuilt word) stops = absurd stops
+      computed_here none (refused.NotTailRecursive words) stops = ((none, (compiled, gives.problem_is, stops)), gives.same, refl)
+      computed_here none (refused.OutputLimit n) stops = absurd stops
+      computed_here none (refused.CannotRead word) stops = absurd stops
+      computed_here none (refused.CannotWrite word) stops = absurd stops
+      computed_here none refused.CannotWriteOutput stops = absurd stops
+      computed_here none refused.NoMemory stops = (computed_within none, inl (gives.same, refl))
 
-    -- they were not all written, or the number of slots was not told
-    pub Leaves-delivery : (refusal : Refusal) → StopsDelivery names manner.slots texts now new out out' refusal → Leaves names manner refusal old new out out'
-    Leaves-delivery refusal stops = delivered refusal (subst (λ z. StopsDelivery names manner.slots texts z new out out' refusal) same stops)
+      chosen_here : (given : Option ℕ) → IsGiven r.numeral given → (refusal : Refusal) → StopsChosen compiled given refusal → Leaves (to_translate r) old mid out out refusal
+      chosen_here given is refusal stops = go r.numeral given is stops refl
+        where
+          go : (o : Option Word) (g : Option ℕ) → IsGiven o g → StopsChosen compiled g refusal → r.numeral ≡ o → Leaves (to_translate r) old mid out out refusal
+          go o (Some g) is stops e = absurd stops
+          go (Some word) None is stops e = absurd is
+          go None None is (inl stops) e = computed_here e refusal stops
+          go None None is (inr (n, bound, stops)) e = slots_here n (subst (λ z. AreAskedFor r old z n) (sym e) (compiled, gives.problem_is, bound)) mid gives.same refusal stops
+
+      pub leaves_made : (given : Option ℕ) → IsGiven r.numeral given → (refusal : Refusal) → StopsMade compiled given r.style r.checks refusal → Leaves (to_translate r) old mid out out refusal
+      leaves_made given is refusal (inl stops) = chosen_here given is refusal stops
+      leaves_made given is refused.Words (inr (slots, chosen, stops)) = absurd stops
+      leaves_made given is refused.BoundLimit (inr (slots, chosen, stops)) = absurd stops
+      leaves_made given is (refused.SlotsLimit n) (inr (slots, chosen, stops)) = absurd stops
+      leaves_made given is (refused.BytesLimit word) (inr (slots, chosen, stops)) = absurd stops
+      leaves_made given is (refused.NotBuilt word) (inr (slots, chosen, stops)) = absurd stops
+      leaves_made given is (refused.NotTailRecursive words) (inr (slots, chosen, stops)) = absurd stops
+      leaves_made given is (refused.OutputLimit n) (inr (slots, chosen, stops)) = ((compiled, slots, for_slots given is slots chosen, stops), gives.same, refl)
+      leaves_made given is (refused.CannotRead word) (inr (slots, chosen, stops)) = absurd stops
+      leaves_made given is (refused.CannotWrite word) (inr (slots, chosen, stops)) = absurd stops
+      leaves_made given is refused.CannotWriteOutput (inr (slots, chosen, stops)) = absurd stops
+      leaves_made given is refused.NoMemory (inr (slots, chosen, stops)) = (is_within given is, inl (gives.same, refl))
+
+      module _ (given : Option ℕ) (is : IsGiven r.numeral given) (made : Made) (made_is : IsMade compiled given r.style r.checks made) where
+        abbrev texts : Texts
+        texts = texts_of made.texts
+
+        -- what was made is the answer
+        answers : IsAnswer (to_translate r) old (writes r.names texts made.slots)
+        answers =
+            let source = for_slots given is made.slots made_is.chosen in
+            (refl, record { compiled = compiled; source = source; translated = translated source.problem.value compiled (record { slots = made.slots; style = r.style; checks = r.checks }) texts source.problem.read.sound source.problem.compiled_is source.some made_is.whole })
+
+        module _ (new : FilesState) (out' : SinkState) where
+          pub achieves : BothStand r.names texts mid new → TakesWhole (slots_line made.slots) out out' → Achieves old new out out' (to_translate r)
+          achieves stand told = record { answer = writes r.names texts made.slots; is = answers; given = (subst (λ z. BothStand r.names texts z new) gives.same stand, told) }
+
+          delivered : (refusal : Refusal) → StopsDelivery r.names made.slots texts old new out out' refusal → Leaves (to_translate r) old new out out' refusal
+          delivered refused.Words stops = absurd stops
+          delivered refused.BoundLimit stops = absurd stops
+          delivered (refused.SlotsLimit n) stops = absurd stops
+          delivered (refused.BytesLimit word) stops = absurd stops
+          delivered (refused.NotBuilt word) stops = absurd stops
+          delivered (refused.NotTailRecursive words) stops = absurd stops
+          delivered (refused.OutputLimit n) stops = absurd stops
+          delivered (refused.CannotRead word) stops = absurd stops
+          delivered (refused.CannotWrite word) stops = (r.names, texts, made.slots, answers, stops.0, stops.1)
+          delivered refused.CannotWriteOutput stops = (writes r.names texts made.slots, answers, stops)
+          delivered refused.NoMemory (inl stops) = (is_within given is, inl stops)
+          delivered refused.NoMemory (inr (inl stops)) = (is_within given is, inr (inl (r.names, texts, made.slots, answers, stops.0, stops.1)))
+          delivered refused.NoMemory (inr (inr stops)) = (is_within given is, inr (inr (writes r.names texts made.slots, answers, stops)))
+
+          pub leaves_delivery : (refusal : Refusal) → StopsDelivery r.names made.slots texts mid new out out' refusal → Leaves (to_translate r) old new out out' refusal
+          leaves_delivery refusal stops = delivered refusal (subst (λ z. StopsDelivery r.names made.slots texts z new out out' refusal) gives.same stops)
+
+-- A bound.
+module _ (r : BoundRequest) (old mid : FilesState) (out : SinkState) (compiled : Compiled) (gives : GivesProblem r.domain r.problem r.checks old mid compiled) where
+  pub leaves_bound : (refusal : Refusal) → StopsBound compiled refusal → Leaves (to_bound r) old mid out out refusal
+  leaves_bound refused.Words stops = absurd stops
+  leaves_bound refused.BoundLimit stops = ((stops.0, (compiled, gives.problem_is, stops.1), stops.2), gives.same, refl)
+  leaves_bound (refused.SlotsLimit n) stops = absurd stops
+  leaves_bound (refused.BytesLimit word) stops = absurd stops
+  leaves_bound (refused.NotBuilt word) stops = absurd stops
+  leaves_bound (refused.NotTailRecursive words) stops = ((compiled, gives.problem_is, stops), gives.same, refl)
+  leaves_bound (refused.OutputLimit n) stops = absurd stops
+  leaves_bound (refused.CannotRead word) stops = absurd stops
+  leaves_bound (refused.CannotWrite word) stops = absurd stops
+  leaves_bound refused.CannotWriteOutput stops = absurd stops
+  leaves_bound refused.NoMemory stops = (tt, inl (gives.same, refl))
+
+  module _ (n : ℕ) (bound : IsBound compiled n) (small : n < 2 ^ 128) (out' : SinkState) where
+    told : IsAnswer (to_bound r) old (tells n)
+    told = ((compiled, gives.problem_is, bound), small)
+
+    pub achieves_bound : TakesWhole (bound_line n) out out' → Achieves old mid out out' (to_bound r)
+    achieves_bound takes = record { answer = tells n; is = told; given = (gives.same, takes) }
+
+    pub leaves_print : (refusal : Refusal) → StopsPrint (bound_line n) out out' refusal → Leaves (to_bound r) old mid out out' refusal
+    leaves_print refused.Words stops = absurd stops
+    leaves_print refused.BoundLimit stops = absurd stops
+    leaves_print (refused.SlotsLimit m) stops = absurd stops
+    leaves_print (refused.BytesLimit word) stops = absurd stops
+    leaves_print (refused.NotBuilt word) stops = absurd stops
+    leaves_print (refused.NotTailRecursive words) stops = absurd stops
+    leaves_print (refused.OutputLimit m) stops = absurd stops
+    leaves_print (refused.CannotRead word) stops = absurd stops
+    leaves_print (refused.CannotWrite word) stops = absurd stops
+    leaves_print refused.CannotWriteOutput stops = (tells n, told, (gives.same, stops))
+    leaves_print refused.NoMemory stops = (tt, inr (inr (tells n, told, (gives.same, stops))))

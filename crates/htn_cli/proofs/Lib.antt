@@ -1,7 +1,9 @@
 pub mod Results
 pub mod Texts
-pub mod Buildings
+pub mod Inputs
+pub mod Printed
 pub mod Leavings
+pub mod SameCycles
 pub mod Headlines
 pub mod Endings
 pub mod examples

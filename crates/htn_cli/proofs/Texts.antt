@@ -91,3 +91,6 @@ Told-whole line old new whole =
 pub Told-stops : (line : List ℕ) (old new : SinkState) (error : WriteError) → StopsAt line old new error → Told line old new
 Told-stops line old new Failed stops = record { part = stops.part; whole = λ calm _. absurd (calm stops.faults.has_risen) }
 Told-stops line old new Memory stops = record { part = stops.part; whole = λ _ calm. absurd (calm stops.refused.has_risen) }
+
+pub Told-nothing : (sink : SinkState) → Told [] sink sink
+Told-nothing sink = Told-whole [] sink sink (record { written = sym (with_more-nil sink.written); faults = refl; refused = refl })

@@ -1,39 +1,41 @@
 -- How a run ends.
-use Rattle.std.specs.Prelude.{ℕ, ◌≡◌, ◌<◌, ◌≤◌, ◌^◌, ◌⊎◌, List}
+-- Source: this project's.
+use Rattle.std.specs.Prelude.{ℕ, ◌≡◌, ◌⊎◌, List, [], Some}
 use Rattle.outside_io.specs.Files.{FilesState}
 use Rattle.outside_io.specs.Sink.{SinkState}
 use Rattle.command_words.specs.Names.{Word}
-use Rattle.command_words.specs.Bounds.{most_slots}
-use Rattle.command_words.specs.Words.{Request, slots_of, Asks, AreOfAForm}
-use Rattle.plan_proof.specs.Headline.{Headline, HeadlineAtBound}
-use Rattle.htn_cli.specs.Texts.{Texts}
-use Rattle.htn_cli.specs.Inputs.{AreDefined, IsPastOutput, IsToldToRead, IsToldToHold}
+use Rattle.command_words.specs.Words.{TranslationRequest, BoundRequest, Request, number_of, AsksTranslation, AsksBound, Asks, AreOfAForm}
+use Rattle.htn_cli.specs.Answer.{Answer, refuses, writes, tells, IsAnswer, IsAnswerTo}
 use Rattle.htn_cli.specs.Refusal.{status_of, line_of}
-use Rattle.htn_cli.specs.Sent.{Told}
-use Rattle.htn_cli.specs.Left.{Leaves, LeavesDone}
-use Rattle.htn_cli.specs.declared.manner.Manner.{Manner}
+use Rattle.htn_cli.specs.Sent.{TakesWhole, Told}
+use Rattle.htn_cli.specs.Left.{StandsUpTo, Gives, Leaves}
 use Rattle.htn_cli.specs.declared.status.Status.{Status}
 use Rattle.htn_cli.specs.declared.status.Status.TheVariants as status
 use Rattle.htn_cli.specs.declared.refusal.Refusal.{Refusal}
 use Rattle.htn_cli.specs.declared.refusal.Refusal.TheVariants as refused
 
--- the manner that is asked for
-abbrev pub manner_of : Request → Manner
-manner_of request = record { slots = slots_of request; style = request.style; checks = request.checks }
+-- the status of an answer, and the line that standard error is told
+abbrev pub status_by : Answer → Status
+status_by (refuses refusal) = status_of refusal
+status_by _ = status.Done
+
+abbrev pub line_by : Answer → List ℕ
+line_by (refuses refusal) = line_of refusal
+line_by _ = []
+
+-- the statuses with which an answer may end: with the others memory was refused, or something outside failed
+abbrev pub IsOfAnAnswer : Status → Type 0
+IsOfAnAnswer status.ReadFault = ⊥
+IsOfAnAnswer status.WriteFault = ⊥
+IsOfAnAnswer status.NoMemory = ⊥
+IsOfAnAnswer _ = Unit {0}
 
 module _ (files files' : FilesState) (out out' : SinkState) where
-  -- the translation that was asked for was done
+  -- what was asked for was done
   pub record Achieves (request : Request) : Type 0 where
-    pub texts : Texts
-    pub few : slots_of request ≤ most_slots
-    pub defined : AreDefined request.names (manner_of request) files texts
-    pub left : LeavesDone request.names (manner_of request) texts files files' out out'
-
-  -- how a translation is refused: for its number of slots before any file is read, and else for what it meets
-  abbrev pub RefusesRequest : Request → Refusal → Type 0
-  RefusesRequest request refused.BoundLimit = (2 ^ 128 ≤ slots_of request) × (files' ≡ files) × (out' ≡ out)
-  RefusesRequest request (refused.SlotsLimit n) = (n ≡ slots_of request) × (most_slots < n) × (n < 2 ^ 128) × (files' ≡ files) × (out' ≡ out)
-  RefusesRequest request refusal = (slots_of request ≤ most_slots) × Leaves request.names (manner_of request) refusal files files' out out'
+    pub answer : Answer
+    pub is : IsAnswer request files answer
+    pub given : StandsUpTo TakesWhole answer files files' out out'
 
   -- nothing changed but standard error, which was told the line of this refusal
   pub record IsRefusedFor (refusal : Refusal) (ended : Status) (err err' : SinkState) : Type 0 where
@@ -43,7 +45,7 @@ module _ (files files' : FilesState) (out out' : SinkState) where
     pub out_stays : out' ≡ out
 
 module _ (words : List Word) (files files' : FilesState) (out out' : SinkState) where
-  -- the words ask for a translation, and it was done
+  -- the words ask for something, and it was done
   pub record IsDone : Type 0 where
     pub request : Request
     pub asked : Asks words request
@@ -56,14 +58,14 @@ module _ (words : List Word) (files files' : FilesState) (out out' : SinkState) 
     pub files_stay : files' ≡ files
     pub out_stays : out' ≡ out
 
-  -- the words ask for a translation, and it was refused
-  pub record RefusesTranslation (refusal : Refusal) : Type 0 where
+  -- the words ask for something, and it was refused
+  pub record RefusesRequest (refusal : Refusal) : Type 0 where
     pub request : Request
     pub asked : Asks words request
-    pub left : RefusesRequest files files' out out' request refusal
+    pub left : Leaves request files files' out out' refusal
 
   abbrev pub IsRefused : Refusal → Type 0
-  IsRefused refusal = RefusesWords refusal ⊎ RefusesTranslation refusal
+  IsRefused refusal = RefusesWords refusal ⊎ RefusesRequest refusal
 
   -- a run that ended with a refusal: its status, what it left, and the line that it told
   pub record Ends (ended : Status) (err err' : SinkState) : Type 0 where
@@ -72,32 +74,28 @@ module _ (words : List Word) (files files' : FilesState) (out out' : SinkState) 
     pub left : IsRefused refusal
     pub told : Told (line_of refusal) err err'
 
--- the words ask for so many slots
+  -- a run that ended with the answer to its words
+  pub record IsAnswered (ended : Status) (err err' : SinkState) : Type 0 where
+    pub answer : Answer
+    pub is : IsAnswerTo words files answer
+    pub status_is : ended ≡ status_by answer
+    pub given : Gives answer files files' out out'
+    pub told : Told (line_by answer) err err'
+
+-- the words ask for a translation with so many slots
 abbrev pub AskForSlots : List Word → ℕ → Type 0
-AskForSlots words n = (request : Request) × Asks words request × (n ≡ slots_of request)
+AskForSlots words n = (request : TranslationRequest) × (numeral : Word) × AsksTranslation words request × (request.numeral ≡ Some numeral) × (n ≡ number_of numeral)
 
--- the words ask for a translation, and the first of its texts that is too long has this length
-abbrev pub IsPastLimit : List Word → FilesState → ℕ → Type 0
-IsPastLimit words files n = (request : Request) × Asks words request × IsPastOutput request.names (manner_of request) files n
-
--- What the words and the files come to, where nothing outside fails: the translation, or its refusal, or want of memory.
-abbrev pub Answers : List Word → FilesState → Status → Type 0
-Answers words files status.Done =
-    (request : Request) × Asks words request × (slots_of request ≤ most_slots) × (texts : Texts) × AreDefined request.names (manner_of request) files texts
-Answers words files status.Words = AreOfAForm words → ⊥
-Answers words files status.Limit =
-    (request : Request) × Asks words request × ((most_slots < slots_of request) ⊎ ((size : ℕ) × IsPastOutput request.names (manner_of request) files size))
-Answers words files status.TextFault = (request : Request) × Asks words request × (slots_of request ≤ most_slots)
-Answers words files status.NoMemory = Unit {0}
-Answers words files status.ReadFault = ⊥
-Answers words files status.WriteFault = ⊥
-Answers words files status.Finding = ⊥
+-- the words ask for a bound
+abbrev pub AskForBound : List Word → Type 0
+AskForBound words = (request : BoundRequest) × AsksBound words request
 
 -- the statuses of a run that was refused before its first put
 abbrev pub IsBeforePuts : Status → Type 0
 IsBeforePuts status.TextFault = Unit {0}
 IsBeforePuts status.Words = Unit {0}
 IsBeforePuts status.ReadFault = Unit {0}
+IsBeforePuts status.Finding = Unit {0}
 IsBeforePuts status.Limit = Unit {0}
 IsBeforePuts _ = ⊥
 
@@ -105,18 +103,3 @@ IsBeforePuts _ = ⊥
 pub record IsUntouched (files files' : FilesState) (out out' : SinkState) : Type 0 where
   pub held : files'.held ≡ files.held
   pub written : out' ≡ out
-
--- For a translation that the words ask for, and all that the files tell of its inputs before and of its outputs after.
-module _ (words : List Word) (files files' : FilesState) where
-  pub record IsTold (request : Request) (domain problem printed_domain printed_problem : List ℕ) : Type 0 where
-    pub asked : Asks words request
-    pub domain_read : IsToldToRead files request.names.domain domain
-    pub problem_read : IsToldToRead files request.names.problem problem
-    pub domain_held : IsToldToHold files' request.names.printed_domain printed_domain
-    pub problem_held : IsToldToHold files' request.names.printed_problem printed_problem
-
-  abbrev pub HasHeadline : Type 0
-  HasHeadline = (request : Request) (d p od op : List ℕ) → IsTold request d p od op → Headline d p request.checks (slots_of request) od op
-
-  abbrev pub HasHeadlineAtBound : Type 0
-  HasHeadlineAtBound = (request : Request) (d p od op : List ℕ) → IsTold request d p od op → HeadlineAtBound d p request.checks (slots_of request) od op

@@ -1,12 +1,18 @@
--- What the files of a translation hold, and the texts that are defined for it.
-use Rattle.std.specs.Prelude.{ℕ, ◌≡◌, List, Some, IfSome, length, option_map}
+-- What the files hold of the two inputs of a command, and the problem that they are.
+-- Source: this project's.
+use Rattle.std.specs.Prelude.{ℕ, ◌≡◌, ◌<◌, ◌≤◌, ◌⊎◌, List, Some, IfSome, length, option_map}
 use Rattle.outside_io.specs.Folder.{file_of, told_of}
-use Rattle.outside_io.specs.Files.{FilesState}
-use Rattle.command_words.specs.Names.{Word, Names}
-use Rattle.htn_cli.specs.Texts.{Texts, AreTranslated, AreTooLong}
-use Rattle.htn_cli.specs.declared.manner.Manner.{Manner}
+use Rattle.outside_io.specs.Files.{FilesState, GetFails}
+use Rattle.plan_model.specs.declared.options.Checks.{Checks}
+use Rattle.plan_model.specs.declared.values.Hddl.{Hddl}
+use Rattle.plan_model.specs.declared.values.Compiled.{Compiled}
+use Rattle.plan_meaning.specs.Bound.{IsBound}
+use Rattle.plan_meaning.specs.Compilation.{IsCompiled}
+use Rattle.problem_bound.specs.NoBound.{NamesCycle}
+use Rattle.command_words.specs.Names.{Word}
+use Rattle.htn_cli.specs.Reading.{IsRead, AreRefused}
 
--- the greatest length of an input text that is of the form, in bytes
+-- the greatest length of an input text, in bytes
 abbrev pub longest_input : ℕ
 longest_input = 16777216
 
@@ -22,19 +28,52 @@ IsToldToRead files name bytes = option_map (λ folder. file_of files.lenient fol
 abbrev pub IsToldToHold : FilesState → Word → List ℕ → Type 0
 IsToldToHold files name bytes = told_of files.held name ≡ Some (Some bytes)
 
-module _ (names : Names) (manner : Manner) (files : FilesState) where
-  -- the texts that are defined for what the two inputs hold
-  pub record AreDefined (texts : Texts) : Type 0 where
-    pub domain : List ℕ
-    pub problem : List ℕ
-    pub domain_read : Reads files names.domain domain
-    pub problem_read : Reads files names.problem problem
-    pub translated : AreTranslated domain problem manner texts
+-- a name reads as these bytes, which are not too many
+pub record IsInput (files : FilesState) (name : Word) (bytes : List ℕ) : Type 0 where
+  pub read : Reads files name bytes
+  pub short : length bytes ≤ longest_input
 
-  -- one of the texts that are defined for it is too long; n is the length of the first such
-  pub record IsPastOutput (n : ℕ) : Type 0 where
-    pub domain : List ℕ
-    pub problem : List ℕ
-    pub domain_read : Reads files names.domain domain
-    pub problem_read : Reads files names.problem problem
-    pub too_long : AreTooLong domain problem manner n
+-- a name reads as too many bytes
+abbrev pub IsTooLarge : FilesState → Word → Type 0
+IsTooLarge files name = (bytes : List ℕ) × Reads files name bytes × (longest_input < length bytes)
+
+-- of an input whose domain and problem have these names
+module _ (files : FilesState) (domain problem : Word) where
+  -- this one is read first, or after the other, which was not too large
+  abbrev pub IsReached : Word → Type 0
+  IsReached name = (name ≡ domain) ⊎ ((name ≡ problem) × (bytes : List ℕ) × IsInput files domain bytes)
+
+  -- this one is the first that is too large
+  abbrev pub IsFirstTooLarge : Word → Type 0
+  IsFirstTooLarge name = IsReached name × IsTooLarge files name
+
+  -- this one was not read
+  abbrev pub FailsToRead : FilesState → Word → Type 0
+  FailsToRead new name = IsReached name × GetFails files new name
+
+  -- both are read as texts that are refused
+  pub record HaveRefusedTexts : Type 0 where
+    pub domain_text : List ℕ
+    pub problem_text : List ℕ
+    pub domain_is : IsInput files domain domain_text
+    pub problem_is : IsInput files problem problem_text
+    pub refused : AreRefused domain_text problem_text
+
+  module _ (checks : Checks) where
+    -- both are read as texts that spell a problem, of which this is the compiled value
+    pub record HaveProblem (compiled : Compiled) : Type 0 where
+      pub domain_text : List ℕ
+      pub problem_text : List ℕ
+      pub domain_is : IsInput files domain domain_text
+      pub problem_is : IsInput files problem problem_text
+      pub value : Hddl
+      pub read : IsRead domain_text problem_text value
+      pub compiled_is : IsCompiled value checks compiled
+
+    -- they spell a problem with this bound
+    abbrev pub HaveBound : ℕ → Type 0
+    HaveBound n = (compiled : Compiled) × HaveProblem compiled × IsBound compiled n
+
+    -- they spell a problem whose bad cycle that is named has these words
+    abbrev pub HaveCycle : List ℕ → Type 0
+    HaveCycle words = (compiled : Compiled) × HaveProblem compiled × NamesCycle compiled words

@@ -1,20 +1,24 @@
--- What a translation leaves of its files and of standard output.
+-- What a run leaves of its files and of standard output.
 use Rattle.std.specs.Prelude.{◌≡◌, ◌≢◌, ◌⊎◌, ℕ, ◌++◌, List, Some, IfSome, codes, decimal, option_map}
 use Rattle.outside_io.specs.Count.{Rises}
 use Rattle.outside_io.specs.Folder.{told_of, KeepsOthers}
-use Rattle.outside_io.specs.Files.{FilesState, GetFails, PutFails}
+use Rattle.outside_io.specs.Files.{FilesState, PutFails}
 use Rattle.outside_io.specs.Sink.{SinkState}
 use Rattle.command_words.specs.Names.{Word, Names}
 use Rattle.htn_cli.specs.Texts.{Texts}
-use Rattle.htn_cli.specs.Inputs.{AreDefined, IsPastOutput}
+use Rattle.command_words.specs.Words.{Request, to_translate, to_bound}
+use Rattle.htn_cli.specs.Inputs.{FailsToRead}
+use Rattle.htn_cli.specs.Answer.{Answer, refuses, writes, tells, IsGivenWithin, IsAnswer}
 use Rattle.htn_cli.specs.Sent.{TakesWhole, TakesThenFails, TakesThenStarves}
-use Rattle.htn_cli.specs.declared.manner.Manner.{Manner}
 use Rattle.htn_cli.specs.declared.refusal.Refusal.{Refusal}
 use Rattle.htn_cli.specs.declared.refusal.Refusal.TheVariants as refused
 
--- what standard output gets: the number of slots
+-- what standard output gets: the number of slots, or the bound
 abbrev pub slots_line : ℕ → List ℕ
 slots_line slots = codes "slots " ++ decimal slots ++ codes "\n"
+
+abbrev pub bound_line : ℕ → List ℕ
+bound_line bound = decimal bound ++ codes "\n"
 
 -- the name holds this text, where that is told
 abbrev pub HoldsText : FilesState → FilesState → Word → List ℕ → Type 0
@@ -56,33 +60,44 @@ LeavesUnwritten names texts name old new =
     ((name ≡ names.printed_domain) × PutFails old new names.printed_domain)
     ⊎ ((name ≡ names.printed_problem) × SecondFails names texts old new)
 
-module _ (names : Names) (manner : Manner) where
-  -- what a translation leaves that was done
-  abbrev pub LeavesDone : Texts → FilesState → FilesState → SinkState → SinkState → Type 0
-  LeavesDone texts old new out out' = BothStand names texts old new × TakesWhole (slots_line manner.slots) out out'
+-- what stands of an answer before standard output is written, and what standard output takes of its line
+abbrev pub StandsUpTo : (List ℕ → SinkState → SinkState → Type 0) → Answer → FilesState → FilesState → SinkState → SinkState → Type 0
+StandsUpTo Takes (refuses refusal) old new out out' = ⊥
+StandsUpTo Takes (writes names texts slots) old new out out' = BothStand names texts old new × Takes (slots_line slots) out out'
+StandsUpTo Takes (tells bound) old new out out' = (new ≡ old) × Takes (bound_line bound) out out'
 
-  -- the texts that are defined were written
-  abbrev pub IsTranslated : FilesState → FilesState → SinkState → SinkState → Type 0
-  IsTranslated old new out out' = (texts : Texts) × AreDefined names manner old texts × LeavesDone texts old new out out'
+-- what a run leaves that ends with its answer
+abbrev pub Gives : Answer → FilesState → FilesState → SinkState → SinkState → Type 0
+Gives (refuses refusal) old new out out' = (new ≡ old) × (out' ≡ out)
+Gives answer old new out out' = StandsUpTo TakesWhole answer old new out out'
 
-  -- memory was refused before the first put, before the second, or when the number of slots was told
-  abbrev pub LeavesStarved : FilesState → FilesState → SinkState → SinkState → Type 0
-  LeavesStarved old new out out' =
+-- the inputs of a request
+abbrev pub domain_of : Request → Word
+domain_of (to_translate request) = request.names.domain
+domain_of (to_bound request) = request.domain
+
+abbrev pub problem_of : Request → Word
+problem_of (to_translate request) = request.names.problem
+problem_of (to_bound request) = request.problem
+
+-- its number of slots, where one is given, is one that is printed
+abbrev pub IsWithin : Request → FilesState → Type 0
+IsWithin (to_translate request) files = IsGivenWithin request files
+IsWithin (to_bound request) files = Unit {0}
+
+module _ (request : Request) (old new : FilesState) (out out' : SinkState) where
+  -- memory was refused before anything was written, before the second output, or when standard output was told
+  abbrev pub LeavesStarved : Type 0
+  LeavesStarved =
       ((new ≡ old) × (out' ≡ out))
-      ⊎ ((texts : Texts) × AreDefined names manner old texts × FirstStands names texts old new × (out' ≡ out))
-      ⊎ ((texts : Texts) × AreDefined names manner old texts × BothStand names texts old new × TakesThenStarves (slots_line manner.slots) out out')
+      ⊎ ((names : Names) × (texts : Texts) × (slots : ℕ) × IsAnswer request old (writes names texts slots) × FirstStands names texts old new × (out' ≡ out))
+      ⊎ ((answer : Answer) × IsAnswer request old answer × StandsUpTo TakesThenStarves answer old new out out')
 
-  -- what a translation leaves that ended with a refusal
-  abbrev pub Leaves : Refusal → FilesState → FilesState → SinkState → SinkState → Type 0
-  Leaves refused.Words old new out out' = ⊥
-  Leaves refused.BoundLimit old new out out' = ⊥
-  Leaves (refused.SlotsLimit n) old new out out' = ⊥
-  Leaves (refused.NotBuilt domain) old new out out' = (domain.now ≡ names.domain) × (new ≡ old) × (out' ≡ out)
-  Leaves (refused.OutputLimit n) old new out out' = IsPastOutput names manner old n × (new ≡ old) × (out' ≡ out)
-  Leaves (refused.CannotRead name) old new out out' =
-      ((name.now ≡ names.domain) ⊎ (name.now ≡ names.problem)) × GetFails old new name.now × (out' ≡ out)
-  Leaves (refused.CannotWrite name) old new out out' =
-      (texts : Texts) × AreDefined names manner old texts × LeavesUnwritten names texts name.now old new × (out' ≡ out)
-  Leaves refused.CannotWriteOutput old new out out' =
-      (texts : Texts) × AreDefined names manner old texts × BothStand names texts old new × TakesThenFails (slots_line manner.slots) out out'
-  Leaves refused.NoMemory old new out out' = LeavesStarved old new out out'
+  -- what a run leaves that ends with a refusal: where something failed, what stands of its answer
+  abbrev pub Leaves : Refusal → Type 0
+  Leaves (refused.CannotRead name) = IsWithin request old × FailsToRead old (domain_of request) (problem_of request) new name.now × (out' ≡ out)
+  Leaves (refused.CannotWrite name) =
+      (names : Names) × (texts : Texts) × (slots : ℕ) × IsAnswer request old (writes names texts slots) × LeavesUnwritten names texts name.now old new × (out' ≡ out)
+  Leaves refused.CannotWriteOutput = (answer : Answer) × IsAnswer request old answer × StandsUpTo TakesThenFails answer old new out out'
+  Leaves refused.NoMemory = IsWithin request old × LeavesStarved
+  Leaves refusal = IsAnswer request old (refuses refusal) × (new ≡ old) × (out' ≡ out)

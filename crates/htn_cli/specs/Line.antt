@@ -2,10 +2,10 @@
 use Rattle.std.specs.Prelude.{ℕ, List, ◌++◌, decimal}
 use Rattle.htn_cli.specs.declared.refusal.Line.{Line}
 use Rattle.htn_cli.specs.declared.refusal.Middle.{Middle}
-use Rattle.htn_cli.specs.declared.refusal.Middle.TheVariants.{Word, Number}
+use Rattle.htn_cli.specs.declared.refusal.Middle.TheVariants.{Words, Number}
 
 abbrev pub middle_text : Middle → List ℕ
-middle_text (Word word) = word.now
+middle_text (Words words) = words.now
 middle_text (Number number) = decimal number
 
 abbrev pub line_text : Line → List ℕ

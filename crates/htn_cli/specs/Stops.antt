@@ -1,22 +1,129 @@
--- How one step of a translation is refused: what it leaves, and with which refusal it ends the run.
-use Rattle.std.specs.Prelude.{◌≡◌, ◌⊎◌, ℕ, List}
+-- How one step of a run is refused: what it leaves, and with which refusal it ends the run.
+use Rattle.std.specs.Prelude.{◌≡◌, ◌<◌, ◌≤◌, ◌^◌, ◌⊎◌, ℕ, List, Option, Some, None}
 use Rattle.outside_io.specs.Files.{FilesState, GetFails, PutFails}
 use Rattle.outside_io.specs.Sink.{SinkState}
-use Rattle.command_words.specs.Names.{Word}
-use Rattle.command_words.specs.Names.{Names}
-use Rattle.htn_cli.specs.Texts.{Texts, AreTooLong}
-use Rattle.htn_cli.specs.Built.{AreShort}
+use Rattle.plan_model.specs.declared.options.Checks.{Checks}
+use Rattle.plan_model.specs.declared.options.Style.{Style}
+use Rattle.plan_model.specs.declared.values.Hddl.{Hddl}
+use Rattle.plan_model.specs.declared.values.Compiled.{Compiled}
+use Rattle.plan_meaning.specs.Bound.{IsBound}
+use Rattle.plan_meaning.specs.Compilation.{IsCompiled}
+use Rattle.problem_bound.specs.NoBound.{NamesCycle}
+use Rattle.command_words.specs.Names.{Word, Names}
+use Rattle.command_words.specs.Bounds.{most_slots}
+use Rattle.command_words.specs.Words.{number_of}
+use Rattle.htn_cli.specs.Texts.{Texts, AreTooLong, texts_of}
+use Rattle.htn_cli.specs.Printing.{AreWhole}
+use Rattle.htn_cli.specs.declared.translation.Made.{Made}
+use Rattle.htn_cli.specs.Reading.{IsRead, AreRefused}
+use Rattle.htn_cli.specs.Inputs.{IsInput, IsTooLarge, IsFirstTooLarge, FailsToRead, HaveRefusedTexts, HaveProblem}
 use Rattle.htn_cli.specs.Left.{FirstStands, BothStand, LeavesUnwritten, slots_line}
 use Rattle.htn_cli.specs.declared.manner.Manner.{Manner}
 use Rattle.htn_cli.specs.Sent.{TakesThenFails, TakesThenStarves}
 use Rattle.htn_cli.specs.declared.refusal.Refusal.{Refusal}
 use Rattle.htn_cli.specs.declared.refusal.Refusal.TheVariants as refused
 
--- a get that was refused
-abbrev pub StopsGet : Word → FilesState → FilesState → Refusal → Type 0
-StopsGet name old new (refused.CannotRead word) = (word.now ≡ name) × GetFails old new name
-StopsGet name old new refused.NoMemory = new ≡ old
-StopsGet name old new _ = ⊥
+-- an input that was read, with all its bytes
+pub record GivesInput (name : Word) (old new : FilesState) (bytes : List ℕ) : Type 0 where
+  pub same : new ≡ old
+  pub input : IsInput old name bytes
+
+-- an input that was not read, or is too large
+abbrev pub StopsInput : Word → FilesState → FilesState → Refusal → Type 0
+StopsInput name old new (refused.CannotRead word) = (word.now ≡ name) × GetFails old new name
+StopsInput name old new (refused.BytesLimit word) = (word.now ≡ name) × IsTooLarge old name × (new ≡ old)
+StopsInput name old new refused.NoMemory = new ≡ old
+StopsInput name old new _ = ⊥
+
+-- the texts that spell a problem, of which this is the compiled value
+pub record GivesTexts (domain problem : List ℕ) (checks : Checks) (compiled : Compiled) : Type 0 where
+  pub spelled : Hddl
+  pub read : IsRead domain problem spelled
+  pub compiled_is : IsCompiled spelled checks compiled
+
+-- the texts that are no problem
+abbrev pub StopsTexts : (domain problem : List ℕ) → Word → Refusal → Type 0
+StopsTexts domain problem name (refused.NotBuilt word) = (word.now ≡ name) × AreRefused domain problem
+StopsTexts domain problem name refused.NoMemory = Unit {0}
+StopsTexts domain problem name _ = ⊥
+
+module _ (domain problem : Word) where
+  -- the problem that was read and compiled
+  pub record GivesProblem (checks : Checks) (old new : FilesState) (compiled : Compiled) : Type 0 where
+    pub same : new ≡ old
+    pub problem_is : HaveProblem old domain problem checks compiled
+
+  -- the problem that was not read
+  abbrev pub StopsProblem : FilesState → FilesState → Refusal → Type 0
+  StopsProblem old new (refused.CannotRead word) = FailsToRead old domain problem new word.now
+  StopsProblem old new (refused.BytesLimit word) = IsFirstTooLarge old domain problem word.now × (new ≡ old)
+  StopsProblem old new (refused.NotBuilt word) = (word.now ≡ domain) × HaveRefusedTexts old domain problem × (new ≡ old)
+  StopsProblem old new refused.NoMemory = new ≡ old
+  StopsProblem old new _ = ⊥
+
+-- a bound that was not computed
+abbrev pub StopsBound : Compiled → Refusal → Type 0
+StopsBound compiled (refused.NotTailRecursive words) = NamesCycle compiled words
+StopsBound compiled refused.BoundLimit = (n : ℕ) × IsBound compiled n × (2 ^ 128 ≤ n)
+StopsBound compiled refused.NoMemory = Unit {0}
+StopsBound compiled _ = ⊥
+
+-- a number of slots that is too great
+abbrev pub StopsSlots : ℕ → Refusal → Type 0
+StopsSlots n (refused.SlotsLimit slots) = (slots ≡ n) × (most_slots < n) × (n < 2 ^ 128)
+StopsSlots n refused.BoundLimit = 2 ^ 128 ≤ n
+StopsSlots n _ = ⊥
+
+-- so many slots, which are printed
+pub record AreSlots (n slots : ℕ) : Type 0 where
+  pub same : slots ≡ n
+  pub some : 1 ≤ slots
+  pub few : slots ≤ most_slots
+
+-- the given number, where one is given
+abbrev pub IsGiven : Option Word → Option ℕ → Type 0
+IsGiven (Some numeral) (Some slots) = AreSlots (number_of numeral) slots
+IsGiven None None = Unit {0}
+IsGiven (Some numeral) None = ⊥
+IsGiven None (Some slots) = ⊥
+
+abbrev pub StopsGiven : Option Word → Refusal → Type 0
+StopsGiven (Some numeral) refusal = StopsSlots (number_of numeral) refusal
+StopsGiven None refusal = ⊥
+
+-- the bound of the problem, as a number of slots
+abbrev pub IsComputed : Compiled → ℕ → Type 0
+IsComputed compiled slots = (n : ℕ) × IsBound compiled n × AreSlots n slots
+
+abbrev pub StopsComputed : Compiled → Refusal → Type 0
+StopsComputed compiled refusal = StopsBound compiled refusal ⊎ ((n : ℕ) × IsBound compiled n × StopsSlots n refusal)
+
+-- a text that was not made
+abbrev pub StopsPrinted : Compiled → Manner → Refusal → Type 0
+StopsPrinted compiled manner (refused.OutputLimit n) = AreTooLong compiled manner n
+StopsPrinted compiled manner refused.NoMemory = Unit {0}
+StopsPrinted compiled manner _ = ⊥
+
+-- the number of slots, given or computed
+abbrev pub IsChosen : Compiled → Option ℕ → ℕ → Type 0
+IsChosen compiled (Some given) slots = slots ≡ given
+IsChosen compiled None slots = IsComputed compiled slots
+
+abbrev pub StopsChosen : Compiled → Option ℕ → Refusal → Type 0
+StopsChosen compiled (Some given) refusal = ⊥
+StopsChosen compiled None refusal = StopsComputed compiled refusal
+
+module _ (compiled : Compiled) (given : Option ℕ) (style : Style) (checks : Checks) where
+  abbrev pub manner_at : ℕ → Manner
+  manner_at slots = record { slots = slots; style = style; checks = checks }
+
+  -- the number of slots and the texts
+  pub record IsMade (made : Made) : Type 0 where
+    pub chosen : IsChosen compiled given made.slots
+    pub whole : AreWhole compiled (manner_at made.slots) (texts_of made.texts)
+
+  abbrev pub StopsMade : Refusal → Type 0
+  StopsMade refusal = StopsChosen compiled given refusal ⊎ ((slots : ℕ) × IsChosen compiled given slots × StopsPrinted compiled (manner_at slots) refusal)
 
 -- a put that was refused
 abbrev pub StopsPut : Word → FilesState → FilesState → Refusal → Type 0
@@ -29,13 +136,6 @@ abbrev pub StopsPrint : List ℕ → SinkState → SinkState → Refusal → Typ
 StopsPrint text old new refused.CannotWriteOutput = TakesThenFails text old new
 StopsPrint text old new refused.NoMemory = TakesThenStarves text old new
 StopsPrint text old new _ = ⊥
-
--- the making of the texts that was refused; `name` is the domain's file
-abbrev pub StopsBuild : List ℕ → List ℕ → Manner → Word → Refusal → Type 0
-StopsBuild domain problem manner name (refused.NotBuilt word) = word.now ≡ name
-StopsBuild domain problem manner name (refused.OutputLimit n) = AreShort domain problem × AreTooLong domain problem manner n
-StopsBuild domain problem manner name refused.NoMemory = Unit {0}
-StopsBuild domain problem manner name _ = ⊥
 
 -- the writing of these texts that was refused
 abbrev pub StopsDelivery : Names → ℕ → Texts → FilesState → FilesState → SinkState → SinkState → Refusal → Type 0

@@ -3,11 +3,15 @@
 //! Stands on all crates below. The contract that carries what is promised to a user is that of `run`.
 #![tactic(auto)]
 
+mod bounding;
 mod building;
 mod manner;
+mod problem;
 mod program;
+mod reading;
 mod refusal;
 mod sending;
+mod slots;
 mod status;
 mod telling;
 #[cfg(test)]

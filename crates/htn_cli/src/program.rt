@@ -2,17 +2,18 @@ ghost use Rattle.std.specs.Prelude.{ℕ, ◌≡◌, ◌≢◌, ◌↔◌, ◌⊎
 ghost use Rattle.outside_io.specs.Seen.{Seen};
 ghost use Rattle.outside_io.specs.Files.{GetHasFailed, PutHasFailed};
 ghost use Rattle.outside_io.specs.Sink.{WriteHasFailed};
-ghost use Rattle.command_words.specs.Names.{AreApart, words_of};
-ghost use Rattle.command_words.specs.Bounds.{IsNumeral, most_slots};
-ghost use Rattle.command_words.specs.Words.{AreOfAForm, request_of};
-ghost use Rattle.htn_cli.specs.Ending.{Achieves, Answers, AskForSlots, Ends, HasHeadline, HasHeadlineAtBound, IsBeforePuts, IsDone, IsPastLimit, IsRefused, IsRefusedFor, IsUntouched, RefusesRequest};
+ghost use Rattle.command_words.specs.Names.{words_of};
+ghost use Rattle.command_words.specs.Bounds.{most_slots};
+ghost use Rattle.command_words.specs.Words.{AreOfAForm};
+ghost use Rattle.htn_cli.specs.Ending.{AskForBound, AskForSlots, Ends, IsAnswered, IsBeforePuts, IsDone, IsOfAnAnswer, IsRefused, IsRefusedFor, IsUntouched};
+ghost use Rattle.htn_cli.specs.Promise.{HasBound, HasFinding, HasHeadline};
 
-use crate::manner::Manner;
+use crate::bounding::print_bound;
 use crate::refusal::Refusal;
 use crate::status::Status;
 use crate::telling::tell;
 use crate::translation::translate;
-use command_words::{Bound, Translation, asked, bound_of};
+use command_words::{Asked, asked};
 use outside_io::{Files, Sink};
 use std::alloc::Global;
 
@@ -24,23 +25,38 @@ pub fn run<F: Files, O: Sink, E: Sink>(
     out: &mut O,
     err: &mut E,
 ) -> Status
-    ensures done { result ≡ Status.Done → IsDone (words_of words.now)
-        (F.state files.old) (F.state files.new) (O.state out.old) (O.state out.new) }
-    ensures headline { result ≡ Status.Done →
-        Seen F.state (HasHeadline (words_of words.now)) files.old files.new }
-    ensures at_bound { result ≡ Status.Done →
-        Seen F.state (HasHeadlineAtBound (words_of words.now)) files.old files.new }
-    ensures quiet { result ≡ Status.Done → E.state err.new ≡ E.state err.old }
+    // Where nothing outside fails, a run ends with the answer to its words, or wants memory. And
+    // each status but those of failures and of memory is that of the answer, whatever fails.
+    ensures answer { (Seen F.state GetHasFailed files.old files.new → ⊥) →
+        (Seen F.state PutHasFailed files.old files.new → ⊥) →
+        (Seen O.state WriteHasFailed out.old out.new → ⊥) →
+        (result ≡ Status.NoMemory) ⊎ IsAnswered (words_of words.now)
+        (F.state files.old) (F.state files.new) (O.state out.old) (O.state out.new)
+        result (E.state err.old) (E.state err.new) }
+    ensures answered { IsOfAnAnswer result → IsAnswered (words_of words.now)
+        (F.state files.old) (F.state files.new) (O.state out.old) (O.state out.new)
+        result (E.state err.old) (E.state err.new) }
     ensures refused { result ≢ Status.Done → Ends (words_of words.now)
         (F.state files.old) (F.state files.new) (O.state out.old) (O.state out.new)
         result (E.state err.old) (E.state err.new) }
 
+    // What was written and told is true of the problem that the inputs spell.
+    ensures headline { result ≡ Status.Done → HasHeadline (words_of words.now)
+        (F.state files.old) (F.state files.new) (O.state out.old) (O.state out.new) }
+    ensures bound { result ≡ Status.Done → HasBound (words_of words.now)
+        (F.state files.old) (F.state files.new) (O.state out.old) (O.state out.new) }
+    ensures finding { result ≡ Status.Finding → HasFinding (words_of words.now)
+        (F.state files.old) (F.state files.new) (E.state err.old) (E.state err.new) }
+
+    ensures quiet { result ≡ Status.Done → E.state err.new ≡ E.state err.old }
     ensures untouched { IsBeforePuts result →
         IsUntouched (F.state files.old) (F.state files.new) (O.state out.old) (O.state out.new) }
+    ensures bound_reads { AskForBound (words_of words.now) →
+        (F.state files.new).held ≡ (F.state files.old).held }
     ensures words { (result ≡ Status.Words) ↔ (AreOfAForm (words_of words.now) → ⊥) }
 
-    // A number of slots that is past a limit is refused before any file is read, and takes no
-    // memory.
+    // A number of slots that is given and past a limit is refused before any file is read, and
+    // takes no memory.
     ensures past_all { (n : ℕ) → AskForSlots (words_of words.now) n → 2 ^ 128 ≤ n → IsRefusedFor
         (F.state files.old) (F.state files.new) (O.state out.old) (O.state out.new)
         Refusal.BoundLimit result (E.state err.old) (E.state err.new) }
@@ -48,23 +64,12 @@ pub fn run<F: Files, O: Sink, E: Sink>(
         most_slots < n → n < 2 ^ 128 → IsRefusedFor
         (F.state files.old) (F.state files.new) (O.state out.old) (O.state out.new)
         (Refusal.SlotsLimit n) result (E.state err.old) (E.state err.new) }
-    ensures past_output { (n : ℕ) → AskForSlots (words_of words.now) n →
-        n ≤ most_slots → result ≡ Status.Limit →
-        (size : ℕ) × IsPastLimit (words_of words.now) (F.state files.old) size × IsRefusedFor
-        (F.state files.old) (F.state files.new) (O.state out.old) (O.state out.new)
-        (Refusal.OutputLimit size) result (E.state err.old) (E.state err.new) }
 
-    ensures answer { (Seen F.state GetHasFailed files.old files.new → ⊥) →
-        (Seen F.state PutHasFailed files.old files.new → ⊥) →
-        (Seen O.state WriteHasFailed out.old out.new → ⊥) →
-        Answers (words_of words.now) (F.state files.old) result }
-
+    // A fault of reading or writing comes only where a count rose, and a count that rose shows.
     ensures read_fault { result ≡ Status.ReadFault → Seen F.state GetHasFailed files.old files.new }
     ensures write_fault { result ≡ Status.WriteFault →
         Seen F.state PutHasFailed files.old files.new
         ⊎ Seen O.state WriteHasFailed out.old out.new }
-
-    // And a count that rose shows in the status.
     ensures failed_get { (F.state files.old).get_faults < (F.state files.new).get_faults →
         result ≡ Status.ReadFault }
     ensures failed_put { (F.state files.old).put_faults < (F.state files.new).put_faults →
@@ -76,7 +81,9 @@ pub fn run<F: Files, O: Sink, E: Sink>(
         Ok(()) => Status::Done,
         Err(refusal) => {
             tell(err, &refusal);
-            refusal.status()
+            let status = refusal.status();
+            drop(refusal);
+            status
         }
     }
 }
@@ -94,35 +101,7 @@ fn act<'a, F: Files, O: Sink>(
 {
     match asked(words) {
         None => Err(Refusal::Words),
-        Some(asked) => obey(alloc, &asked, files, out),
-    }
-}
-
-fn obey<'a, F: Files, O: Sink>(
-    alloc: Global,
-    asked: &Translation<'a>,
-    files: &mut F,
-    out: &mut O,
-) -> Result<(), Refusal<'a>>
-    requires number { IsNumeral (request_of asked.now).numeral }
-    requires apart { AreApart (request_of asked.now).names }
-    ensures done { OnOk result (Achieves
-        (F.state files.old) (F.state files.new) (O.state out.old) (O.state out.new)
-        (request_of asked.now)) }
-    ensures refused { IfErr result (RefusesRequest
-        (F.state files.old) (F.state files.new) (O.state out.old) (O.state out.new)
-        (request_of asked.now)) }
-{
-    match bound_of(asked.numeral) {
-        Bound::Slots(slots) => {
-            let manner = Manner {
-                slots,
-                style: asked.style,
-                checks: asked.checks,
-            };
-            translate(alloc, &asked.names, &manner, files, out)
-        }
-        Bound::TooMany(slots) => Err(Refusal::SlotsLimit(slots)),
-        Bound::PastAll => Err(Refusal::BoundLimit),
+        Some(Asked::Translation(asked)) => translate(alloc, &asked, files, out),
+        Some(Asked::Bound(asked)) => print_bound(alloc, &asked, files, out),
     }
 }

@@ -3,18 +3,23 @@ ghost use Rattle.htn_cli.specs.Refusal.{status_of, line_of};
 ghost use Rattle.htn_cli.specs.Line.{line_text};
 
 use crate::status::Status;
+use htn_base::Text;
 
 /// Why a run ends before its outputs stand. Files are named by their words.
-#[derive(Clone, Copy, Debug)]
+#[derive(Drop)]
 pub enum Refusal<'a> {
     /// The words are of no command's form.
     Words,
-    /// The number of slots is 2^128 or more.
+    /// The number of slots, or the bound, is 2^128 or more.
     BoundLimit,
     /// There are more slots than are printed: so many.
     SlotsLimit(u128),
-    /// The texts are of no form that is translated today; the domain's word is carried.
+    /// An input text has too many bytes.
+    BytesLimit(&'a str),
+    /// The texts are of no form that is read today; the domain's word is carried.
     NotBuilt(&'a str),
+    /// The problem is not tail-recursive: the words of the named bad cycle, each behind a space.
+    NotTailRecursive(Text),
     /// A printed text is too long: so many bytes.
     OutputLimit(u64),
     /// A get failed.
@@ -38,21 +43,25 @@ pub(crate) struct Line<'a> {
 /// What stands in the middle of a line.
 #[derive(Clone, Copy)]
 pub(crate) enum Middle<'a> {
-    /// The word of a file, or nothing.
-    Word(&'a str),
+    /// The word of a file, words that are each behind a space, or nothing.
+    Words(&'a [u8]),
     /// A number, in decimal.
     Number(u128),
 }
 
-impl<'a> Refusal<'a> {
+impl Refusal<'_> {
     /// The status of a run that ends so.
     pub(crate) fn status(&self) -> Status
         ensures { result ≡ status_of self.now }
     {
         match self {
             Refusal::Words => Status::Words,
-            Refusal::BoundLimit | Refusal::SlotsLimit(_) | Refusal::OutputLimit(_) => Status::Limit,
+            Refusal::BoundLimit
+            | Refusal::SlotsLimit(_)
+            | Refusal::BytesLimit(_)
+            | Refusal::OutputLimit(_) => Status::Limit,
             Refusal::NotBuilt(_) => Status::TextFault,
+            Refusal::NotTailRecursive(_) => Status::Finding,
             Refusal::CannotRead(_) => Status::ReadFault,
             Refusal::CannotWrite(_) | Refusal::CannotWriteOutput => Status::WriteFault,
             Refusal::NoMemory => Status::NoMemory,
@@ -60,21 +69,30 @@ impl<'a> Refusal<'a> {
     }
 
     /// The line that is told on standard error.
-    pub(crate) fn line(&self) -> Line<'a>
+    pub(crate) fn line(&self) -> Line<'_>
         ensures { line_text result ≡ line_of self.now }
     {
-        let (before, middle, after) = match *self {
-            Refusal::Words => ("words refused\n", Middle::Word(""), ""),
-            Refusal::BoundLimit => ("limit bound\n", Middle::Word(""), ""),
-            Refusal::SlotsLimit(slots) => ("limit slots ", Middle::Number(slots), "\n"),
-            Refusal::NotBuilt(domain) => ("", Middle::Word(domain), ":0: fault 40 NotBuilt\n"),
-            Refusal::OutputLimit(size) => ("limit output ", Middle::Number(size as u128), "\n"),
-            Refusal::CannotRead(name) => ("cannot read ", Middle::Word(name), "\n"),
-            Refusal::CannotWrite(name) => ("cannot write ", Middle::Word(name), "\n"),
-            Refusal::CannotWriteOutput => {
-                ("cannot write standard output\n", Middle::Word(""), "")
+        let nothing = Middle::Words(b"");
+        let (before, middle, after) = match self {
+            Refusal::Words => ("words refused\n", nothing, ""),
+            Refusal::BoundLimit => ("limit bound\n", nothing, ""),
+            Refusal::SlotsLimit(slots) => ("limit slots ", Middle::Number(*slots), "\n"),
+            Refusal::BytesLimit(name) => ("limit bytes ", Middle::Words(name.as_bytes()), "\n"),
+            Refusal::NotBuilt(domain) => {
+                (
+                    "",
+                    Middle::Words(domain.as_bytes()),
+                    ":0: fault 40 NotBuilt\n",
+                )
             }
-            Refusal::NoMemory => ("out of memory\n", Middle::Word(""), ""),
+            Refusal::NotTailRecursive(words) => {
+                ("not tail-recursive:", Middle::Words(words.as_slice()), "\n")
+            }
+            Refusal::OutputLimit(size) => ("limit output ", Middle::Number(*size as u128), "\n"),
+            Refusal::CannotRead(name) => ("cannot read ", Middle::Words(name.as_bytes()), "\n"),
+            Refusal::CannotWrite(name) => ("cannot write ", Middle::Words(name.as_bytes()), "\n"),
+            Refusal::CannotWriteOutput => ("cannot write standard output\n", nothing, ""),
+            Refusal::NoMemory => ("out of memory\n", nothing, ""),
         };
         Line {
             before,

@@ -2,7 +2,7 @@ ghost use Rattle.std.specs.Prelude.{◌++◌, IfErr, OnOk};
 ghost use Rattle.outside_io.specs.Seen.{Seen};
 ghost use Rattle.htn_cli.specs.Refusal.{line_of};
 ghost use Rattle.htn_cli.specs.Line.{line_text};
-ghost use Rattle.htn_cli.specs.Left.{slots_line};
+ghost use Rattle.htn_cli.specs.Left.{bound_line, slots_line};
 ghost use Rattle.htn_cli.specs.Sent.{StopsAt, TakesWhole, Told};
 
 use crate::refusal::{Line, Middle, Refusal};
@@ -27,13 +27,22 @@ pub(crate) fn tell_slots<O: Sink>(out: &mut O, slots: u32) -> Result<(), WriteEr
     send_parts(out, b"slots ", buffer.format(slots).as_bytes(), b"\n")
 }
 
+/// Writes the text of a bound.
+pub(crate) fn tell_bound<O: Sink>(out: &mut O, bound: u128) -> Result<(), WriteError>
+    ensures whole { OnOk result (Seen O.state (TakesWhole (bound_line bound)) out.old out.new) }
+    ensures part { IfErr result (Seen O.state (StopsAt (bound_line bound)) out.old out.new) }
+{
+    let mut buffer = Buffer::new();
+    send_two(out, buffer.format(bound).as_bytes(), b"\n")
+}
+
 fn send_line<E: Sink>(err: &mut E, line: &Line<'_>) -> Result<(), WriteError>
     ensures whole { OnOk result (Seen E.state (TakesWhole (line_text line.now)) err.old err.new) }
     ensures part { IfErr result (Seen E.state (StopsAt (line_text line.now)) err.old err.new) }
 {
     let (before, after) = (line.before.as_bytes(), line.after.as_bytes());
     match line.middle {
-        Middle::Word(word) => send_parts(err, before, word.as_bytes(), after),
+        Middle::Words(words) => send_parts(err, before, words, after),
         Middle::Number(number) => {
             let mut buffer = Buffer::new();
             send_parts(err, before, buffer.format(number).as_bytes(), after)

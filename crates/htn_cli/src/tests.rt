@@ -138,6 +138,26 @@ fn the_smallest_problem(rt: HostRuntime) -> Result<(), Fail> {
     Ok(())
 }
 
+/// Without a bound the printed texts are those of the computed one, which is 1 here.
+#[test]
+fn the_smallest_problem_without_a_bound(rt: HostRuntime) -> Result<(), Fail> {
+    let one_slot = Row {
+        options: &[],
+        ..one_slot_adl()
+    };
+    prints(&rt, rt.alloc(), one_slot)
+}
+
+#[test]
+fn a_bound(rt: HostRuntime) -> Result<(), Fail> {
+    let mut outside = Outside::new(rt.alloc(), domain(), problem())?;
+    let ended = outside.run(&["bound", "d.hddl", "p.hddl", "--checks", "atonce"])?;
+    assert_eq!(&rt; ended, Status::Done);
+    outside.told(&rt, "1\n", "");
+    outside.lacks(&rt, "od.pddl");
+    Ok(())
+}
+
 #[test]
 fn an_empty_network(rt: HostRuntime) -> Result<(), Fail> {
     let problem = "(define (problem p) (:domain d) (:htn :subtasks ()))";
@@ -248,13 +268,15 @@ fn words_of_no_form(rt: HostRuntime) -> Result<(), Fail> {
     refuses_words(&rt, alloc, &["decode", d, p, od, op, "--bound", "1"])?;
     refuses_words(&rt, alloc, &["translate", d, p, d, op, "--bound", "1"])?;
     refuses_words(&rt, alloc, &["translate", d, p, od, od, "--bound", "1"])?;
+    refuses_words(&rt, alloc, &["bound", d])?;
+    refuses_words(&rt, alloc, &["bound", d, p, "--bound", "1"])?;
+    refuses_words(&rt, alloc, &["bound", d, p, "--style", "adl"])?;
     Ok(())
 }
 
 #[test]
 fn options_of_no_form(rt: HostRuntime) -> Result<(), Fail> {
     let alloc = rt.alloc();
-    refuses_options(&rt, alloc, &[])?;
     refuses_options(&rt, alloc, &["--bound"])?;
     refuses_options(&rt, alloc, &["--bound", "0"])?;
     refuses_options(&rt, alloc, &["--bound", "+1"])?;
@@ -265,7 +287,7 @@ fn options_of_no_form(rt: HostRuntime) -> Result<(), Fail> {
         &["--bound", "0000000000000000000000000000000000000001"],
     )?;
     refuses_options(&rt, alloc, &["--bound", "1", "--bound", "1"])?;
-    refuses_options(&rt, alloc, &["--style", "flat"])?;
+    refuses_options(&rt, alloc, &["--style", "flat", "--style", "flat"])?;
     refuses_options(&rt, alloc, &["--bound", "1", "--style", "strips"])?;
     refuses_options(&rt, alloc, &["--bound", "1", "--slots", "1"])?;
     Ok(())

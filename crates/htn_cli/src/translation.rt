@@ -1,75 +1,77 @@
-ghost use Rattle.std.specs.Prelude.{◌≢◌, ◌≤◌, IfOk, IfErr, OnOk};
-ghost use Rattle.outside_io.specs.Files.{GetGives, PutGives};
+ghost use Rattle.std.specs.Prelude.{◌≢◌, IfSome, IfOk, IfErr, OnOk};
+ghost use Rattle.outside_io.specs.Files.{PutGives};
 ghost use Rattle.outside_io.specs.Seen.{Seen};
-ghost use Rattle.command_words.specs.Names.{names_of};
-ghost use Rattle.htn_cli.specs.Built.{ComesTo, texts_of};
-ghost use Rattle.htn_cli.specs.Left.{BothStand, IsTranslated, Leaves, slots_line};
-ghost use Rattle.htn_cli.specs.Stops.{StopsBuild, StopsDelivery, StopsGet, StopsPrint, StopsPut};
+ghost use Rattle.command_words.specs.Names.{AreApart, names_of};
+ghost use Rattle.command_words.specs.Bounds.{IsNumeral};
+ghost use Rattle.command_words.specs.Words.{to_translate, translation_of};
+ghost use Rattle.problem_bound.specs.Soundly.{IsSoundlyCompiled};
+ghost use Rattle.htn_cli.specs.Ending.{Achieves};
+ghost use Rattle.htn_cli.specs.Left.{BothStand, Leaves, slots_line};
 ghost use Rattle.htn_cli.specs.Sent.{TakesWhole};
+ghost use Rattle.htn_cli.specs.Stops.{IsGiven, IsMade, StopsDelivery, StopsMade, StopsPrint, StopsPut};
+ghost use Rattle.htn_cli.specs.Texts.{texts_of};
 
-use crate::building::{Built, build};
+use crate::building::printed;
 use crate::manner::Manner;
+use crate::problem::problem_from;
 use crate::refusal::Refusal;
+use crate::slots::{given_slots, slots_for};
 use crate::telling::tell_slots;
-use command_words::Named;
-use outside_io::{Files, GetError, PutError, Sink, WriteError};
+use command_words::{Named, Translation};
+use outside_io::{Files, PutError, Sink, WriteError};
+use plan_model::Compiled;
 use problem_texts::Texts;
 use std::alloc::Global;
 
-/// A get asks for one byte more than a text may have.
-const ASKED_BYTES: u64 = 16_777_217;
-
-/// Translates in the manner that is asked for. Both texts are complete before the first put.
+/// Translates as it is asked for. Both texts are complete before the first put.
 pub(crate) fn translate<'a, F: Files, O: Sink>(
     alloc: Global,
-    names: &Named<'a>,
-    manner: &Manner,
+    asked: &Translation<'a>,
     files: &mut F,
     out: &mut O,
 ) -> Result<(), Refusal<'a>>
-    requires apart { names.now.od.now ≢ names.now.op.now }
-    requires some { 1 ≤ manner.now.slots }
-    ensures done { OnOk result (IsTranslated (names_of names.now) manner.now
-        (F.state files.old) (F.state files.new) (O.state out.old) (O.state out.new)) }
-    ensures refused { IfErr result (λ refusal. Leaves (names_of names.now) manner.now refusal
+    requires numeral { IfSome (translation_of asked.now).numeral IsNumeral }
+    requires apart { AreApart (translation_of asked.now).names }
+    ensures done { OnOk result (Achieves
+        (F.state files.old) (F.state files.new) (O.state out.old) (O.state out.new)
+        (to_translate (translation_of asked.now))) }
+    ensures refused { IfErr result (Leaves (to_translate (translation_of asked.now))
         (F.state files.old) (F.state files.new) (O.state out.old) (O.state out.new)) }
 {
-    let domain = read(alloc, files, names.d)?;
-    let problem = read(alloc, files, names.p)?;
-    let texts = texts_for(alloc, names, manner, domain.as_slice(), problem.as_slice())?;
-    deliver(names, manner.slots, &texts, files, out)
+    let given = given_slots(asked.numeral)?;
+    let compiled = problem_from(alloc, files, asked.names.d, asked.names.p, &asked.checks)?;
+    let made = made_of(alloc, &compiled, asked, given);
+    drop(compiled);
+    let made = made?;
+    deliver(&asked.names, made.slots, &made.texts, files, out)
 }
 
-fn texts_for<'a>(
+/// The two texts of a translation, and the number of their slots.
+#[derive(Drop)]
+struct Made {
+    slots: u32,
+    texts: Texts,
+}
+
+fn made_of<'a>(
     alloc: Global,
-    names: &Named<'a>,
-    manner: &Manner,
-    domain: &[u8],
-    problem: &[u8],
-) -> Result<Texts, Refusal<'a>>
-    requires { 1 ≤ manner.now.slots }
-    ensures whole { IfOk result (λ texts.
-        ComesTo domain.now problem.now manner.now (Built.Whole texts)) }
-    ensures refused { IfErr result (StopsBuild domain.now problem.now manner.now names.now.d.now) }
+    compiled: &Compiled,
+    asked: &Translation<'a>,
+    given: Option<u32>,
+) -> Result<Made, Refusal<'a>>
+    requires soundly { IsSoundlyCompiled compiled.now }
+    requires given { IsGiven (translation_of asked.now).numeral given }
+    ensures made { IfOk result (IsMade compiled.now given asked.now.style asked.now.checks) }
+    ensures refused { IfErr result (StopsMade compiled.now given asked.now.style asked.now.checks) }
 {
-    match build(alloc, domain, problem, manner) {
-        Ok(Built::Whole(texts)) => Ok(texts),
-        Ok(Built::NotOfForm) => Err(Refusal::NotBuilt(names.d)),
-        Ok(Built::TooLong(size)) => Err(Refusal::OutputLimit(size)),
-        Err(_) => Err(Refusal::NoMemory),
-    }
-}
-
-fn read<'a, F: Files>(alloc: Global, files: &mut F, name: &'a str) -> Result<Vec<u8>, Refusal<'a>>
-    ensures read { IfOk result (λ v.
-        Seen F.state GetGives files.old files.new name.now ASKED_BYTES v.items) }
-    ensures refused { IfErr result (Seen F.state (StopsGet name.now) files.old files.new) }
-{
-    match files.get(alloc, name, ASKED_BYTES) {
-        Ok(bytes) => Ok(bytes),
-        Err(GetError::Failed) => Err(Refusal::CannotRead(name)),
-        Err(GetError::Memory) => Err(Refusal::NoMemory),
-    }
+    let slots = slots_for(alloc, compiled, given)?;
+    let manner = Manner {
+        slots,
+        style: asked.style,
+        checks: asked.checks,
+    };
+    let texts = printed(alloc, compiled, &manner)?;
+    Ok(Made { slots, texts })
 }
 
 /// Writes the two outputs, and then the number of slots.

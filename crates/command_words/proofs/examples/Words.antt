@@ -1,8 +1,8 @@
 -- Worked words of the command line.
-use Rattle.std.proofs.Common.{List, [], ◌∷◌, Some, codes, refl, arith, inl}
+use Rattle.std.proofs.Common.{List, [], ◌∷◌, Some, codes, refl, arith, lit≤, inl}
 use Rattle.command_words.specs.Names.{Word, Names, AreApart}
 use Rattle.command_words.specs.Options.{nothing_chosen, Choose}
-use Rattle.command_words.specs.Words.{AreOfAForm}
+use Rattle.command_words.specs.Words.{to_translate, to_bound, AreOfAForm}
 
 abbrev files : Names
 files = record { domain = codes "d.hddl"; problem = codes "p.hddl"; printed_domain = codes "od.pddl"; printed_problem = codes "op.pddl" }
@@ -13,7 +13,7 @@ files_apart =
 
 -- a bound alone
 one_slot : Choose (codes "--bound" ∷ codes "1" ∷ []) nothing_chosen record nothing_chosen { bound = Some (codes "1") }
-one_slot = (record nothing_chosen { bound = Some (codes "1") }, inl (refl, (refl, refl)), refl)
+one_slot = (record nothing_chosen { bound = Some (codes "1") }, inl (refl, (record { digits = refl; some = lit≤ tt; few = lit≤ tt; above_zero = lit≤ tt }, refl, refl)), refl)
 
 -- an option without a value
 no_value : Choose (codes "--bound" ∷ []) nothing_chosen nothing_chosen → ⊥
@@ -21,7 +21,9 @@ no_value chooses = chooses
 
 -- an output that is an input is refused
 same_name : (options : List Word) → AreOfAForm (codes "translate" ∷ codes "d.hddl" ∷ codes "p.hddl" ∷ codes "d.hddl" ∷ codes "op.pddl" ∷ options) → ⊥
-same_name options (request, asks) = let e = asks.spelled in asks.apart.domain.0 (grind (arith, e))
+same_name options (to_translate request, asks) = let e = asks.spelled in asks.apart.domain.0 (grind (arith, e))
+same_name options (to_bound request, asks) = let e = asks.spelled in absurd (grind (arith, e))
 
 no_words : AreOfAForm [] → ⊥
-no_words (request, asks) = let e = asks.spelled in cc
+no_words (to_translate request, asks) = let e = asks.spelled in cc
+no_words (to_bound request, asks) = let e = asks.spelled in cc

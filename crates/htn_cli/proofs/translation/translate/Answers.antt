@@ -1,25 +1,33 @@
 use Rattle.std.proofs.lemmas.Result.{err_from_is_err_and}
-use Rattle.command_words.specs.Names.{names_of}
-use Rattle.htn_cli.specs.Built.{texts_of}
+use Rattle.command_words.specs.Words.{to_translate, translation_of}
 use Rattle.htn_cli.proofs.Results.{on_ok_both, if_err_too}
-use Rattle.htn_cli.proofs.Leavings.{Leaves-build, Leaves-done, Leaves-delivery}
+use Rattle.htn_cli.proofs.Leavings.{soundly, leaves_given, leaves_made, achieves, leaves_delivery}
 use Rattle.htn_cli.proofs.translation.translate.Goals as goal
 
-pub returns-in_err-texts-clause-refused : goal.returns-in_err-texts-clause-refused
-returns-in_err-texts-clause-refused g c =
-    let p = err_from_is_err_and c.from_residual-in_err-texts.result c.from_residual-in_err-texts.ensures.1 in
-    rw (p.1, p.2) (Leaves-build (names_of c.args.names.now) c.args.manner.now c.as_slice.result.now c.as_slice-2.result.now _ _ _ (rw (← c.as_slice.ensures.value) at c.in_ok-domain.ensures.read) (rw (← c.as_slice-2.ensures.value) at c.in_ok-problem.ensures.read) _ _ c.in_err-texts.ensures.refused)
+pub returns-in_err-given-clause-refused : goal.returns-in_err-given-clause-refused
+returns-in_err-given-clause-refused g c =
+    let p = err_from_is_err_and c.from_residual.result c.from_residual.ensures.1 in
+    rw (p.1, p.2) (leaves_given (translation_of c.args.asked.now) (g.F.Files.state c.args.files.now) (g.O.Sink.state c.args.out.now) _ c.in_err-given.ensures.refused)
+
+pub made_of-made-requires-clause-soundly : goal.made_of-made-requires-clause-soundly
+made_of-made-requires-clause-soundly g c =
+    let r = translation_of c.args.asked.now in
+    soundly (g.F.Files.state c.args.files.now) r.names.domain r.names.problem r.checks c.in_ok-compiled.compiled c.in_ok-compiled.ensures.problem.problem_is
+
+pub returns-in_err-made-clause-refused : goal.returns-in_err-made-clause-refused
+returns-in_err-made-clause-refused g c =
+    let p = err_from_is_err_and c.from_residual-in_err-made.result c.from_residual-in_err-made.ensures.1 in
+    rw (p.1, p.2)
+    (leaves_made (translation_of c.args.asked.now) (g.F.Files.state c.args.files.now) (g.O.Sink.state c.args.out.now) c.in_ok-compiled.compiled (g.F.Files.state c.problem_from.new.files) c.in_ok-compiled.ensures.problem c.in_ok-given.given c.in_ok-given.ensures.given _ c.in_err-made.ensures.refused)
 
 pub returns-clause-done : goal.returns-clause-done
 returns-clause-done g c =
-    let whole = c.in_ok-texts.ensures.whole in
     on_ok_both c.deliver.result
-    (Leaves-done (names_of c.args.names.now) c.args.manner.now c.as_slice.result.now c.as_slice-2.result.now _ _ _ (rw (← c.as_slice.ensures.value) at c.in_ok-domain.ensures.read) (rw (← c.as_slice-2.ensures.value) at c.in_ok-problem.ensures.read) (texts_of c.in_ok-texts.texts) _ _ _ whole.0 whole.1)
+    (achieves (translation_of c.args.asked.now) (g.F.Files.state c.args.files.now) (g.O.Sink.state c.args.out.now) c.in_ok-compiled.compiled (g.F.Files.state c.problem_from.new.files) c.in_ok-compiled.ensures.problem c.in_ok-given.given c.in_ok-given.ensures.given c.in_ok-made.made c.in_ok-made.ensures.made (g.F.Files.state c.deliver.new.files) (g.O.Sink.state c.deliver.new.out))
     c.deliver.ensures.stand c.deliver.ensures.told
 
 pub returns-clause-refused : goal.returns-clause-refused
 returns-clause-refused g c =
-    let whole = c.in_ok-texts.ensures.whole in
     if_err_too c.deliver.result
-    (Leaves-delivery (names_of c.args.names.now) c.args.manner.now c.as_slice.result.now c.as_slice-2.result.now _ _ _ (rw (← c.as_slice.ensures.value) at c.in_ok-domain.ensures.read) (rw (← c.as_slice-2.ensures.value) at c.in_ok-problem.ensures.read) (texts_of c.in_ok-texts.texts) _ _ _ whole.0 whole.1)
+    (leaves_delivery (translation_of c.args.asked.now) (g.F.Files.state c.args.files.now) (g.O.Sink.state c.args.out.now) c.in_ok-compiled.compiled (g.F.Files.state c.problem_from.new.files) c.in_ok-compiled.ensures.problem c.in_ok-given.given c.in_ok-given.ensures.given c.in_ok-made.made c.in_ok-made.ensures.made (g.F.Files.state c.deliver.new.files) (g.O.Sink.state c.deliver.new.out))
     c.deliver.ensures.refused
