@@ -1,10 +1,11 @@
 -- What the two input texts of a command are read as.
 -- Source: this project's.
-use Rattle.std.specs.Prelude.{ℕ, List}
+use Rattle.std.specs.Prelude.{ℕ, ◌≤◌, List, length}
 use Rattle.plan_model.specs.declared.values.Hddl.{Hddl}
 use Rattle.plan_texts.specs.FirstSeen.{IsHddlOf}
 use Rattle.plan_texts.specs.SoundProblem.{IsSoundProblem}
 use Rattle.plan_meaning.specs.Laws.{AreOrdered}
+use Rattle.hddl_values.specs.TextFaults.{IsLeastFault}
 use Rattle.htn_cli.specs.declared.reading.Unread.{Unread}
 use Rattle.htn_cli.specs.declared.reading.Unread.TheVariants.{NotOfForm, Memory}
 
@@ -15,9 +16,9 @@ module _ (domain problem : List ℕ) where
     pub sound : IsSoundProblem read
     pub ordered : AreOrdered read
 
-  -- the two texts are refused: of a pair that is not of the form that is read today nothing is said
+  -- the two texts, of at most 16,777,216 bytes each, have a fault: this is their least one
   abbrev pub AreRefused : Type 0
-  AreRefused = Unit {0}
+  AreRefused = length domain ≤ 16777216 → length problem ≤ 16777216 → (file : ℕ) × (code : ℕ) × (at : ℕ) × IsLeastFault domain problem file code at
 
   -- why no problem is answered
   abbrev pub IsUnread : Unread → Type 0
