@@ -19,6 +19,7 @@ mod index;
 mod kinds;
 mod need;
 mod notes;
+mod numbers;
 mod places;
 mod run;
 mod state;

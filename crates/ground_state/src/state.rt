@@ -4,6 +4,7 @@ ghost use Rattle.ground_state.specs.States as spec;
 
 use crate::atom_list::AtomList;
 use crate::notes::Notes;
+use crate::numbers::Numbers;
 use htn_base::{List, Memory};
 use plan_model::GroundAtom;
 use std::alloc::Global;
@@ -11,13 +12,18 @@ use std::alloc::Global;
 /// More predicates than these count as want of memory: no text of at most 16 megabytes declares so many.
 const MOST_PREDICATES: u32 = 1 << 24;
 
+/// Of the atoms of so many predicates, the first ones, those of few and small objects have numbers. This bounds the memory
+/// that a state of few atoms takes to some 30 megabytes.
+const NUMBERED_PREDICATES: usize = 128;
+
 /// A set of ground atoms, those that are true. `facts` has what is noted of each predicate, at its number: an atom that is
 /// noted as false is one that a step makes true or has made false.
 ///
-/// `adds` and `deletes`: what the last step touched, kept for their room alone.
+/// `most`: the greatest object of the first state. `adds` and `deletes`: what the last step touched, kept for their room alone.
 #[derive(Drop)]
 pub struct State {
     facts: Vec<Notes>,
+    most: u32,
     pub(crate) adds: AtomList,
     pub(crate) deletes: AtomList,
 }
@@ -29,6 +35,7 @@ impl State {
     {
         let mut state = State {
             facts: Vec::new(alloc),
+            most: greatest(atoms),
             adds: AtomList::new(alloc),
             deletes: AtomList::new(alloc),
         };
@@ -87,8 +94,14 @@ impl State {
     fn widen(&mut self, alloc: Global, predicate: u32) -> Result<(), Memory>
         ensures { spec.HasSameNotes self.old self.new }
     {
-        for _ in self.facts.len()..predicate as usize + 1 {
-            self.facts.push(Notes::new(alloc))?;
+        for number in self.facts.len()..predicate as usize + 1 {
+            let room = if number < NUMBERED_PREDICATES {
+                u16::MAX
+            } else {
+                0
+            };
+            let notes = Notes::new(alloc, Numbers::new(self.most, room));
+            self.facts.push(notes)?;
         }
         Ok(())
     }
@@ -120,4 +133,15 @@ impl State {
             notes.remove(args);
         }
     }
+}
+
+/// The greatest object of the atoms.
+fn greatest(atoms: &List<GroundAtom>) -> u32 {
+    let mut most = 0;
+    for atom in atoms.as_slice() {
+        for object in atom.args.as_slice() {
+            most = most.max(*object);
+        }
+    }
+    most
 }
