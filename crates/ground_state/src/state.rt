@@ -2,7 +2,7 @@ ghost use Rattle.std.specs.Prelude.{◌≡◌, ◌↔◌, false, IsTrue, Contain
 ghost use Rattle.std.specs.Bool.{OnTrue};
 ghost use Rattle.ground_state.specs.States as spec;
 
-use crate::atom_list::AtomList;
+use crate::atom_list::AtomLists;
 use crate::notes::Notes;
 use crate::numbers::Numbers;
 use htn_base::{List, Memory};
@@ -19,13 +19,12 @@ const NUMBERED_PREDICATES: usize = 128;
 /// A set of ground atoms, those that are true. `facts` has what is noted of each predicate, at its number: an atom that is
 /// noted as false is one that a step makes true or has made false.
 ///
-/// `most`: the greatest object of the first state. `adds` and `deletes`: what the last step touched, kept for their room alone.
+/// `most`: the greatest object of the first state. `touched`: what the last step touched, kept for its room alone.
 #[derive(Drop)]
 pub struct State {
     facts: Vec<Notes>,
     most: u32,
-    pub(crate) adds: AtomList,
-    pub(crate) deletes: AtomList,
+    pub(crate) touched: AtomLists,
 }
 
 impl State {
@@ -36,8 +35,7 @@ impl State {
         let mut state = State {
             facts: Vec::new(alloc),
             most: greatest(atoms),
-            adds: AtomList::new(alloc),
-            deletes: AtomList::new(alloc),
+            touched: AtomLists::new(alloc),
         };
         for atom in atoms.as_slice() {
             state.insert(alloc, atom.predicate, atom.args.as_slice(), true)?;
