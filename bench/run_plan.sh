@@ -1,7 +1,8 @@
 #!/usr/bin/env bash
 # Times `run_plan` on a plan of 1,000,000 steps of a printed transport problem, compiled: writes a program into a temporary
 # copy of the crates that it stands on, and proves, builds and runs it there; what those crates have proved and built is
-# copied along. Prints the least microseconds of some runs, and the kilobytes that a run takes beyond the plan itself.
+# copied along. Prints the least microseconds of some runs, the kilobytes that a run takes beyond the plan itself, and the
+# load of the machine; and where valgrind is at hand, the instructions of a step, counted over 100,000 steps.
 set -e
 top=$(cd "$(dirname "$0")/.." && pwd)
 copy=$(mktemp -d)
@@ -72,42 +73,68 @@ fn least<R: Clock>(
     Ok(least)
 }
 
-fn time<R: Clock>(rt: &R, alloc: Global, made: Result<Pddl, Memory>, runs: u32) -> io::Result<u128>
+/// What is asked for: so many runs of a plan of so many drives.
+#[derive(Clone, Copy)]
+struct Asked {
+    runs: u32,
+    drives: u32,
+}
+
+fn time<R: Clock>(
+    rt: &R,
+    alloc: Global,
+    made: Result<Pddl, Memory>,
+    asked: Asked,
+) -> io::Result<u128>
     requires runnable { IfOk made IsRunnable }
 {
     let Ok(p) = made else {
         return Ok(0);
     };
-    let Ok(plan) = drives(alloc, 499_999) else {
+    let Ok(plan) = drives(alloc, asked.drives) else {
         drop(p);
         return Ok(0);
     };
-    let spent = least(rt, alloc, &p, plan.as_slice(), runs);
+    let spent = least(rt, alloc, &p, plan.as_slice(), asked.runs);
     drop(plan);
     drop(p);
     spent
 }
 
-fn runs(rt: HostRuntime) -> io::Result<u32> {
-    let words = env::args(&rt)?.skip(1).collect::<Vec<String>>(rt.alloc())?;
-    match words.get(0) {
-        Some(word) => Ok(word.parse::<u32>().unwrap_or(0)),
-        None => Ok(0),
+fn number(words: &[String], place: usize) -> u32 {
+    match words.get(place) {
+        Some(word) => word.parse::<u32>().unwrap_or(0),
+        None => 0,
     }
 }
 
+fn asked(rt: HostRuntime) -> io::Result<Asked> {
+    let words = env::args(&rt)?.skip(1).collect::<Vec<String>>(rt.alloc())?;
+    let runs = number(words.as_slice(), 0);
+    let drives = number(words.as_slice(), 1);
+    Ok(Asked { runs, drives })
+}
+
 fn main(rt: HostRuntime) -> io::Result<()> {
-    let runs = runs(rt)?;
-    let spent = time(&rt, rt.alloc(), transport(rt.alloc()), runs)?;
+    let asked = asked(rt)?;
+    let spent = time(&rt, rt.alloc(), transport(rt.alloc()), asked)?;
     println!(rt; "{spent}")
 }
 R
 cd "$bench"
 rt run >"$copy/log" 2>&1 || { cat "$copy/log"; exit 1; }
+# a plan of so many drives has two steps for each, and two more
 spent() {
-    /usr/bin/time -f '%M' -o "$copy/spent" ./out/run_bench "$1"
+    /usr/bin/time -f '%M' -o "$copy/spent" ./out/run_bench "$1" 499999
 }
 spent 0 >/dev/null
 plan=$(cat "$copy/spent")
 least=$(spent 5)
-echo "1,000,000 steps: $least us, $(($(cat "$copy/spent") - plan)) KB beyond the plan's $plan KB"
+echo "1,000,000 steps: $least us, $(($(cat "$copy/spent") - plan)) KB beyond the plan's $plan KB, load $(cut -d' ' -f1 /proc/loadavg)"
+if command -v valgrind >/dev/null; then
+    counted() {
+        valgrind --tool=callgrind --callgrind-out-file="$copy/counts" ./out/run_bench "$1" 49999 2>&1 | sed -n 's/.*Collected : //p'
+    }
+    plan=$(counted 0)
+    echo "$((($(counted 1) - plan) / 100000)) instructions a step"
+fi

@@ -1,5 +1,5 @@
 -- What an effect adds and deletes, by the kinds of effects, as it is gathered.
-use Rattle.std.proofs.Common.{ℕ, ◌≡◌, ◌+◌, ◌<◌, ◌↔◌, ◌⊎◌, inl, inr, Bool, true, false, List, [], ◌∷◌, ◌++◌, length, get_or, take, Contains, ap, sym, subst, ◌∙◌, append_assoc, append-nil, true≢false, arith}
+use Rattle.std.proofs.Common.{ℕ, ◌≡◌, ◌+◌, ◌<◌, ◌↔◌, ◌⊎◌, inl, inr, Bool, true, false, List, [], ◌∷◌, ◌++◌, length, get_or, take, Contains, refl, ap, sym, subst, ◌∙◌, append_assoc, append-nil, true≢false, arith}
 use Rattle.std.proofs.lemmas.Bool.{cases_lt}
 use Rattle.std.proofs.lemmas.List.{take_more}
 use Rattle.std.proofs.lemmas.List.Elements.{Contains-push, Contains-push_cases, Contains-append_left}
@@ -12,7 +12,8 @@ use Rattle.plan_model.specs.declared.effects.Effect.{Effect}
 use Rattle.plan_model.specs.declared.effects.Effect.TheVariants as E
 use Rattle.plan_meaning.specs.Truth.{State, ground, OneTrue, AreTyped, IsTrueIn, Adds, Deletes, after}
 use Rattle.plan_meaning.proofs.EffectEquations.{adds-Add, adds-Delete, adds-And, adds-Forall, adds-When, deletes-Add, deletes-Delete, deletes-And, deletes-Forall, deletes-When}
-use Rattle.ground_state.specs.Search.{Gathers, Touches, OneTouches, TouchesWithin}
+use Rattle.ground_state.specs.declared.atom_list.AtomLists.{AtomLists}
+use Rattle.ground_state.specs.Search.{Gathers, Touches, OneTouches, TouchesWithin, side}
 
 pub gathers-same : (P Q : State) (old new : List GroundAtom) → ((g : GroundAtom) → P g ↔ Q g) → Gathers P old new → Gathers Q old new
 gathers-same P Q old new s h g = (
@@ -64,21 +65,30 @@ module _ (InType : ℕ → ℕ → Type 0) (S : State) where
     deletes-as : (e d : Effect) (P : List ℕ → State) → e ≡ d → Deletes InType S d ≡ P → Deletes InType S e v ≡ P v
     deletes-as e d P q p = ap (λ x. Deletes InType S x v) q ∙ ap (λ (k : List ℕ → State). k v) p
 
-    pub touches-Add : (adds : Bool) (e : Effect) (a : Atom) → e ≡ E.Add a → adds ≡ true → (g : GroundAtom) → (g ≡ ground v a) ↔ Touches InType S adds e v g
+    touches-Add : (adds : Bool) (e : Effect) (a : Atom) → e ≡ E.Add a → adds ≡ true → (g : GroundAtom) → (g ≡ ground v a) ↔ Touches InType S adds e v g
     touches-Add true e a q t g = is-same (Adds InType S e v) (λ g. g ≡ ground v a) (adds-as e (E.Add a) _ q (adds-Add InType S a)) g
     touches-Add false e a q t g = absurd (true≢false (sym t))
 
-    pub touches-Add-not : (adds : Bool) (e : Effect) (a : Atom) → e ≡ E.Add a → adds ≡ false → (g : GroundAtom) → Touches InType S adds e v g → ⊥
+    touches-Add-not : (adds : Bool) (e : Effect) (a : Atom) → e ≡ E.Add a → adds ≡ false → (g : GroundAtom) → Touches InType S adds e v g → ⊥
     touches-Add-not true e a q t g = absurd (true≢false t)
     touches-Add-not false e a q t g = (is-same (Deletes InType S e v) (λ g. ⊥) (deletes-as e (E.Add a) _ q (deletes-Add InType S a)) g).1
 
-    pub touches-Delete : (adds : Bool) (e : Effect) (a : Atom) → e ≡ E.Delete a → adds ≡ false → (g : GroundAtom) → (g ≡ ground v a) ↔ Touches InType S adds e v g
+    touches-Delete : (adds : Bool) (e : Effect) (a : Atom) → e ≡ E.Delete a → adds ≡ false → (g : GroundAtom) → (g ≡ ground v a) ↔ Touches InType S adds e v g
     touches-Delete true e a q t g = absurd (true≢false t)
     touches-Delete false e a q t g = is-same (Deletes InType S e v) (λ g. g ≡ ground v a) (deletes-as e (E.Delete a) _ q (deletes-Delete InType S a)) g
 
-    pub touches-Delete-not : (adds : Bool) (e : Effect) (a : Atom) → e ≡ E.Delete a → adds ≡ true → (g : GroundAtom) → Touches InType S adds e v g → ⊥
+    touches-Delete-not : (adds : Bool) (e : Effect) (a : Atom) → e ≡ E.Delete a → adds ≡ true → (g : GroundAtom) → Touches InType S adds e v g → ⊥
     touches-Delete-not true e a q t g = (is-same (Adds InType S e v) (λ g. ⊥) (adds-as e (E.Delete a) _ q (adds-Delete InType S a)) g).1
     touches-Delete-not false e a q t g = absurd (true≢false (sym t))
+
+    -- what an atom that is added, or deleted, does to the lists
+    pub gathers-Add : (e : Effect) (a : Atom) → e ≡ E.Add a → (old new : AtomLists) → new.adds ≡ old.adds ++ ground v a ∷ [] → new.deletes ≡ old.deletes → (b : Bool) → Gathers (Touches InType S b e v) (side b old) (side b new)
+    gathers-Add e a q old new p d true = gathers-same (λ g. g ≡ ground v a) (Touches InType S true e v) old.adds new.adds (touches-Add true e a q refl) (gathers-push old.adds new.adds (ground v a) p)
+    gathers-Add e a q old new p d false = subst (Gathers (Touches InType S false e v) old.deletes) (sym d) (gathers-none (Touches InType S false e v) old.deletes (touches-Add-not false e a q refl))
+
+    pub gathers-Delete : (e : Effect) (a : Atom) → e ≡ E.Delete a → (old new : AtomLists) → new.deletes ≡ old.deletes ++ ground v a ∷ [] → new.adds ≡ old.adds → (b : Bool) → Gathers (Touches InType S b e v) (side b old) (side b new)
+    gathers-Delete e a q old new p d false = gathers-same (λ g. g ≡ ground v a) (Touches InType S false e v) old.deletes new.deletes (touches-Delete false e a q refl) (gathers-push old.deletes new.deletes (ground v a) p)
+    gathers-Delete e a q old new p d true = subst (Gathers (Touches InType S true e v) old.adds) (sym d) (gathers-none (Touches InType S true e v) old.adds (touches-Delete-not true e a q refl))
 
     pub touches-And : (adds : Bool) (e : Effect) (ps xs : List Effect) → e ≡ E.And ps → xs ≡ ps → (g : GroundAtom) → OneTouches InType S adds xs v g ↔ Touches InType S adds e v g
     touches-And true e ps xs q d g = subst (λ ys. OneTouches InType S true ys v g ↔ Touches InType S true e v g) (sym d) (is-same (Adds InType S e v) (OneTouches InType S true ps v) (adds-as e (E.And ps) _ q (adds-And InType S ps)) g)
@@ -148,6 +158,11 @@ pub below-none : (R : ℕ → Type 0) (i : ℕ) → (R i → ⊥) → ((o : ℕ)
 below-none R i n =
     let m = below-more R ⊥ i (n, λ b. absurd b) in
     (λ t. m.1 (inl t), λ t. elim (m.0 t) [ inl x ↦ x | inr x ↦ absurd x ])
+
+-- from empty lists on
+pub from-empty : (P : Bool → State) (old new : AtomLists) → old.adds ≡ [] → old.deletes ≡ [] → ((b : Bool) → Gathers (P b) (side b old) (side b new)) → (b : Bool) → Gathers (P b) [] (side b new)
+from-empty P old new d e h true = subst (λ xs. Gathers (P true) xs new.adds) d (h true)
+from-empty P old new d e h false = subst (λ xs. Gathers (P false) xs new.deletes) e (h false)
 
 -- from no atoms on
 pub gathered : (P : State) (new : List GroundAtom) → Gathers P [] new → (g : GroundAtom) → Contains new g ↔ P g

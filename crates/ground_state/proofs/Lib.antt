@@ -4,6 +4,7 @@ pub mod RoomEquations
 pub mod TruthCases
 pub mod Found
 pub mod Lists
+pub mod NumberLaws
 pub mod StateLaws
 pub mod EffectSizes
 pub mod GatherCases

@@ -4,17 +4,17 @@ use Rattle.std.specs.Prelude.{Bool, List, []}
 use Rattle.plan_model.specs.declared.types.Types.{Types}
 use Rattle.plan_model.specs.declared.types.Object.{Object}
 use Rattle.plan_model.specs.declared.terms.Param.{Param}
-use Rattle.plan_model.specs.declared.terms.GroundAtom.{GroundAtom}
 use Rattle.plan_model.specs.declared.formulas.Formula.{Formula}
 use Rattle.plan_model.specs.declared.effects.Effect.{Effect}
 use Rattle.plan_model.specs.Typing.{InType}
 use Rattle.plan_meaning.specs.Truth.{IsTrueIn, after}
 use Rattle.ground_state.specs.declared.env.Env.{Env}
 use Rattle.ground_state.specs.declared.gather.World.{World}
+use Rattle.ground_state.specs.declared.atom_list.AtomLists.{AtomLists}
 use Rattle.ground_state.specs.declared.state.State.{State}
 use Rattle.ground_state.specs.Frames.{frame}
 use Rattle.ground_state.specs.States.{atoms, Has}
-use Rattle.ground_state.specs.Search.{IsAmongParts, IsFound, Gathers, Touches, Reads, ReadsEach, ReadsWithin}
+use Rattle.ground_state.specs.Search.{IsAmongParts, IsFound, Gathers, Touches, Reads, ReadsEach, ReadsWithin, side}
 
 module _ (types : Types) (objects : List Object) where
   -- the formula is true in the state
@@ -33,17 +33,17 @@ module _ (types : Types) (objects : List Object) where
   abbrev pub After : State → Effect → Env → State → Type 0
   After old e env new = Has new (after (InType types objects) (atoms old) e (frame env).objects)
 
-  -- these are the atoms that the effect adds, or deletes
-  abbrev pub Touched : State → Bool → Effect → Env → List GroundAtom → Type 0
-  Touched s adds e env = Gathers (Touches (InType types objects) (atoms s) adds e (frame env).objects) []
+  -- these are the atoms that the effect adds, and those that it deletes
+  abbrev pub Touched : State → Effect → Env → AtomLists → Type 0
+  Touched s e env lists = (adds : Bool) → Gathers (Touches (InType types objects) (atoms s) adds e (frame env).objects) [] (side adds lists)
 
--- what is added, or deleted, by an effect, by effects, and by one with more variables, stands behind the old list
-module _ (world : World) (adds : Bool) where
-  abbrev pub Gets : Effect → Env → List GroundAtom → List GroundAtom → Type 0
-  Gets e env = Gathers (Reads world adds e (frame env))
+-- what is added, and what is deleted, by an effect, by effects, and by one with more variables, stands behind the old lists
+module _ (world : World) where
+  abbrev pub Gets : Effect → Env → AtomLists → AtomLists → Type 0
+  Gets e env old new = (adds : Bool) → Gathers (Reads world adds e (frame env)) (side adds old) (side adds new)
 
-  abbrev pub GetsEach : List Effect → Env → List GroundAtom → List GroundAtom → Type 0
-  GetsEach es env = Gathers (ReadsEach world adds es (frame env))
+  abbrev pub GetsEach : List Effect → Env → AtomLists → AtomLists → Type 0
+  GetsEach es env old new = (adds : Bool) → Gathers (ReadsEach world adds es (frame env)) (side adds old) (side adds new)
 
-  abbrev pub GetsWithin : List Param → Effect → Env → List GroundAtom → List GroundAtom → Type 0
-  GetsWithin ps e env = Gathers (ReadsWithin world adds ps e (frame env))
+  abbrev pub GetsWithin : List Param → Effect → Env → AtomLists → AtomLists → Type 0
+  GetsWithin ps e env old new = (adds : Bool) → Gathers (ReadsWithin world adds ps e (frame env)) (side adds old) (side adds new)

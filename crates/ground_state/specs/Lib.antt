@@ -1,5 +1,6 @@
 pub mod Frames
 pub mod Room
+pub mod Numbers
 pub mod Notes
 pub mod States
 pub mod Search

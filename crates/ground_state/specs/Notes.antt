@@ -1,14 +1,20 @@
 -- What is noted of lists of objects.
 -- Source: this project's.
-use Rattle.std.specs.Prelude.{ℕ, ◌≡◌, Bool, List, Option, None}
+use Rattle.std.specs.Prelude.{ℕ, ◌≡◌, Bool, List, Option, Some, None, slice_index_or}
 use Rattle.std.specs.Option.{option_map}
 use Rattle.std.specs.Ordering.{nat_cmp}
 use Rattle.std.specs.Cmp.Lexicographic.{slice_cmp}
 use Rattle.std.specs.BTreeMap as tree
 use Rattle.ground_state.specs.declared.notes.Notes.{Notes}
+use Rattle.ground_state.specs.Numbers.{number_of}
+
+-- what is noted at the number, or of a list that has none
+abbrev pub noted_at : Notes → List ℕ → Option ℕ → Option Bool
+noted_at notes args (Some n) = slice_index_or notes.near.items n None
+noted_at notes args None = tree.get_by (λ list. slice_cmp nat_cmp args list.items) notes.far
 
 abbrev pub noted : Notes → List ℕ → Option Bool
-noted notes args = tree.get_by (λ list. slice_cmp nat_cmp args list.items) notes.truths
+noted notes args = noted_at notes args (number_of notes.numbers args)
 
 -- nothing is noted
 abbrev pub AreNone : Notes → Type 0

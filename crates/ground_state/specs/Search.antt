@@ -9,6 +9,7 @@ use Rattle.plan_model.specs.Typing.{InType}
 use Rattle.plan_model.specs.Parts.{AreListed}
 use Rattle.plan_meaning.specs.Truth.{State, AreTyped, IsTrueIn, OneTrue, Adds, Deletes}
 use Rattle.ground_state.specs.declared.gather.World.{World}
+use Rattle.ground_state.specs.declared.atom_list.AtomLists.{AtomLists}
 use Rattle.ground_state.specs.Frames.{Frame}
 use Rattle.ground_state.specs.States.{atoms}
 
@@ -33,6 +34,11 @@ module _ (Typed : ℕ → ℕ → Type 0) (S : State) (wanted : Bool) where
 -- the new list has the atoms of the old one and those that are as P says
 abbrev pub Gathers : State → List GroundAtom → List GroundAtom → Type 0
 Gathers P old new = (g : GroundAtom) → Contains new g ↔ (Contains old g ⊎ P g)
+
+-- the atoms that are added, or those that are deleted
+abbrev pub side : Bool → AtomLists → List GroundAtom
+side true lists = lists.adds
+side false lists = lists.deletes
 
 module _ (Typed : ℕ → ℕ → Type 0) (S : State) where
   -- what the effect adds, or deletes

@@ -116,3 +116,20 @@ impl AtomList {
         Ok(())
     }
 }
+
+/// The atoms that an effect adds, and those that it deletes.
+#[derive(Drop)]
+pub struct AtomLists {
+    pub(crate) adds: AtomList,
+    pub(crate) deletes: AtomList,
+}
+
+impl AtomLists {
+    /// No atoms. It takes no memory yet.
+    pub(crate) fn new(alloc: Global) -> AtomLists {
+        AtomLists {
+            adds: AtomList::new(alloc),
+            deletes: AtomList::new(alloc),
+        }
+    }
+}

@@ -4,7 +4,7 @@ ghost use Rattle.ground_state.specs.Room.{EffectFits, AllEffectsFit, EffectFitsW
 ghost use Rattle.ground_state.specs.Search.{IsWorld};
 ghost use Rattle.ground_state.specs.Clauses.{Gets, GetsEach, GetsWithin};
 
-use crate::atom_list::AtomList;
+use crate::atom_list::AtomLists;
 use crate::env::Env;
 use crate::kinds::has_object;
 use crate::state::State;
@@ -21,41 +21,30 @@ pub(crate) struct World<'a> {
     pub objects: &'a List<Object>,
 }
 
-/// Puts the atoms that the effect adds, or those that it deletes, at the end of the list.
+/// Puts the atoms that the effect adds, and those that it deletes, at the ends of the lists.
 #[cycle(gather)]
 pub(crate) fn gather(
     alloc: Global,
-    adds: bool,
     eff: &Effect,
     env: &mut Env,
     world: &World<'_>,
-    into: &mut AtomList,
+    into: &mut AtomLists,
 ) -> Result<(), Memory>
     requires world { IsWorld world.now }
     requires room { EffectFits (frame env.old) eff.now }
-    ensures gathered { OnOk result (Gets world.now adds eff.now env.old into.old into.new) }
+    ensures gathered { OnOk result (Gets world.now eff.now env.old into.old into.new) }
     ensures kept { frame env.new ≡ frame env.old }
 {
     match eff {
-        Effect::Add(atom) => {
-            if adds {
-                return into.put(alloc, env, atom);
-            }
-            Ok(())
-        }
-        Effect::Delete(atom) => {
-            if !adds {
-                return into.put(alloc, env, atom);
-            }
-            Ok(())
-        }
-        Effect::And(parts) => gather_each(alloc, adds, parts.as_slice(), env, world, into),
+        Effect::Add(atom) => into.adds.put(alloc, env, atom),
+        Effect::Delete(atom) => into.deletes.put(alloc, env, atom),
+        Effect::And(parts) => gather_each(alloc, parts.as_slice(), env, world, into),
         Effect::Forall(params, body) => {
-            gather_within(alloc, adds, params.as_slice(), body.get(), env, world, into)
+            gather_within(alloc, params.as_slice(), body.get(), env, world, into)
         }
         Effect::When(condition, body) => {
             if holds(condition, env, world.state, world.types, world.objects) {
-                return gather(alloc, adds, body.get(), env, world, into);
+                return gather(alloc, body.get(), env, world, into);
             }
             Ok(())
         }
@@ -66,19 +55,18 @@ pub(crate) fn gather(
 #[cycle(gather)]
 fn gather_each(
     alloc: Global,
-    adds: bool,
     parts: &[Effect],
     env: &mut Env,
     world: &World<'_>,
-    into: &mut AtomList,
+    into: &mut AtomLists,
 ) -> Result<(), Memory>
     requires world { IsWorld world.now }
     requires room { AllEffectsFit (frame env.old) parts.now }
-    ensures gathered { OnOk result (GetsEach world.now adds parts.now env.old into.old into.new) }
+    ensures gathered { OnOk result (GetsEach world.now parts.now env.old into.old into.new) }
     ensures kept { frame env.new ≡ frame env.old }
 {
     for part in parts {
-        gather(alloc, adds, part, env, world, into)?;
+        gather(alloc, part, env, world, into)?;
     }
     Ok(())
 }
@@ -87,27 +75,26 @@ fn gather_each(
 #[cycle(gather)]
 fn gather_within(
     alloc: Global,
-    adds: bool,
     params: &[Param],
     body: &Effect,
     env: &mut Env,
     world: &World<'_>,
-    into: &mut AtomList,
+    into: &mut AtomLists,
 ) -> Result<(), Memory>
     requires world { IsWorld world.now }
     requires room { EffectFitsWithin (frame env.old) params.now body.now }
     ensures gathered { OnOk result
-        (GetsWithin world.now adds params.now body.now env.old into.old into.new) }
+        (GetsWithin world.now params.now body.now env.old into.old into.new) }
     ensures kept { frame env.new ≡ frame env.old }
 {
     let Some((param, rest)) = params.split_first() else {
-        return gather(alloc, adds, body, env, world, into);
+        return gather(alloc, body, env, world, into);
     };
     let parts = Parts::new(world.types, param.ty);
     for object in 0..world.objects.len() as u32 {
         if has_object(&parts, world.objects, object) {
             env.push(object);
-            let gathered = gather_within(alloc, adds, rest, body, env, world, into);
+            let gathered = gather_within(alloc, rest, body, env, world, into);
             env.pop();
             gathered?;
         }

@@ -5,14 +5,16 @@ ghost use Rattle.ground_state.specs.Runs as spec;
 
 use crate::env::Env;
 use crate::kinds::Kinds;
+use crate::marks::Marks;
 use crate::places::{Places, action_names, object_names};
 use htn_base::{Memory, Text};
 use plan_model::{ActionSchema, GroundAction, Param, Pddl};
 use std::alloc::Global;
 
-/// Where the actions and the objects of a problem stand, by their words, and the parts of its types.
+/// Where the actions and the objects of a problem stand, by their words, and the parts of its types. `marks`: of its words.
 #[derive(Drop)]
 pub struct Index {
+    marks: Marks,
     actions: Places,
     objects: Places,
     kinds: Kinds,
@@ -24,10 +26,12 @@ impl Index {
         requires runnable { spec.IsRunnable p.now }
         ensures index { IfOk result (spec.IsIndex p.now) }
     {
+        let marks = Marks::new(alloc, &p.names)?;
         let actions = action_places(alloc, p)?;
         let objects = object_places(alloc, p)?;
         let kinds = Kinds::new(alloc, &p.types)?;
         Ok(Index {
+            marks,
             actions,
             objects,
             kinds,
@@ -39,7 +43,9 @@ impl Index {
         requires index { spec.IsIndex p.now self.now }
         ensures { spec.IsTheAction p.now step.now (option_copied result) }
     {
-        let place = self.actions.find(&p.names, step.name.as_slice())?;
+        let place = self
+            .actions
+            .find(&self.marks, &p.names, step.name.as_slice())?;
         p.actions.get(place as usize)
     }
 
@@ -49,7 +55,7 @@ impl Index {
         requires index { spec.IsIndex p.now self.now }
         ensures { spec.IsTheArgument p.now word.now ty result }
     {
-        let object = self.objects.find(&p.names, word)?;
+        let object = self.objects.find(&self.marks, &p.names, word)?;
         if self.kinds.have(&p.types, &p.objects, object, ty) {
             return Some(object);
         }

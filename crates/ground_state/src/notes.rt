@@ -1,28 +1,35 @@
-ghost use Rattle.std.specs.Prelude.{◌≡◌, false, Some, None, OnOk, OnErr};
+ghost use Rattle.std.specs.Prelude.{◌≡◌, ◌<◌, ◌^◌, false, Some, None, OnOk, OnErr};
 ghost use Rattle.std.specs.Bool.{OnTrue};
 ghost use Rattle.ground_state.specs.Notes as spec;
 
+use crate::numbers::Numbers;
 use htn_base::Memory;
 use std::alloc::Global;
 use std::collections::BTreeMap;
 
-/// Where more notes than these are kept of a predicate, those are taken away that a step leaves false.
+/// Where more notes than these are kept of lists without numbers, those are taken away that a step leaves false.
 const MANY: usize = 4096;
 
 /// Of lists of objects, in order, whether one predicate is true of them. A list of which nothing is noted is one of
 /// which it is not true.
+///
+/// `near`: what is noted of the lists that have numbers, at these. `far`: what is noted of the others.
 #[derive(Drop)]
 pub struct Notes {
-    truths: BTreeMap<Vec<u32>, bool>,
+    numbers: Numbers,
+    near: Vec<Option<bool>>,
+    far: BTreeMap<Vec<u32>, bool>,
 }
 
 impl Notes {
     /// No notes. It takes no memory yet.
-    pub(crate) fn new(alloc: Global) -> Notes
+    pub(crate) fn new(alloc: Global, numbers: Numbers) -> Notes
         ensures { spec.AreNone result }
     {
         Notes {
-            truths: BTreeMap::new(alloc),
+            numbers,
+            near: Vec::new(alloc),
+            far: BTreeMap::new(alloc),
         }
     }
 
@@ -30,7 +37,13 @@ impl Notes {
     pub(crate) fn get(&self, args: &[u32]) -> Option<bool>
         ensures { result ≡ spec.noted self.now args.now }
     {
-        self.truths.get(args).copied()
+        match self.numbers.of(args) {
+            Some(number) => match self.near.get(number) {
+                Some(note) => *note,
+                None => None,
+            },
+            None => self.far.get(args).copied(),
+        }
     }
 
     /// Notes this of these objects. After `Memory` the notes are as they were.
@@ -38,8 +51,15 @@ impl Notes {
         ensures inserted { OnOk result (spec.IsNoted self.old args.now (Some truth) self.new) }
         ensures unchanged { OnErr result (spec.AreSame self.old self.new) }
     {
-        let args = Vec::from_slice(alloc, args)?;
-        self.truths.insert(args, truth)?;
+        let Some(number) = self.numbers.of(args) else {
+            let args = Vec::from_slice(alloc, args)?;
+            self.far.insert(args, truth)?;
+            return Ok(());
+        };
+        if number >= self.near.len() {
+            self.near.resize(number + 1, None)?;
+        }
+        self.near[number] = Some(truth);
         Ok(())
     }
 
@@ -47,8 +67,14 @@ impl Notes {
     pub(crate) fn set(&mut self, args: &[u32], truth: bool)
         ensures { spec.IsSet self.old args.now truth self.new }
     {
-        if let Some(noted) = self.truths.get_mut(args) {
-            *noted = truth;
+        let Some(number) = self.numbers.of(args) else {
+            if let Some(noted) = self.far.get_mut(args) {
+                *noted = truth;
+            }
+            return;
+        };
+        if number < self.near.len() && self.near[number].is_some() {
+            self.near[number] = Some(truth);
         }
     }
 
@@ -56,13 +82,22 @@ impl Notes {
     pub(crate) fn is_spare(&self, args: &[u32]) -> bool
         ensures { OnTrue result (spec.noted self.now args.now ≡ Some false) }
     {
-        self.truths.len() > MANY && matches!(self.get(args), Some(false))
+        self.far.len() > MANY && matches!(self.get(args), Some(false))
     }
 
     /// Takes away what is noted of these objects.
     pub(crate) fn remove(&mut self, args: &[u32])
         ensures { spec.IsNoted self.old args.now None self.new }
     {
-        self.truths.remove(args);
+        match self.numbers.of(args) {
+            Some(number) => {
+                if number < self.near.len() {
+                    self.near[number] = None;
+                }
+            }
+            None => {
+                self.far.remove(args);
+            }
+        }
     }
 }

@@ -3,6 +3,7 @@ ghost use Rattle.plan_model.specs.declared.schemas.ActionSchema.{ActionSchema as
 ghost use Rattle.plan_model.specs.declared.types.Object.{Object as Thing};
 ghost use Rattle.ground_state.specs.Places as spec;
 
+use crate::marks::Marks;
 use htn_base::{Memory, Name, NameTable};
 use plan_model::{ActionSchema, Object};
 use std::alloc::Global;
@@ -30,10 +31,10 @@ impl Places {
     }
 
     /// A place of what has the word.
-    pub(crate) fn find(&self, table: &NameTable, word: &[u8]) -> Option<u32>
+    pub(crate) fn find(&self, marks: &Marks, table: &NameTable, word: &[u8]) -> Option<u32>
         ensures { spec.Finds table.now self.now.by_name.items word.now result }
     {
-        let name = table.find(word)?;
+        let name = marks.find(table, word)?;
         match self.by_name.get(name.number as usize) {
             Some(place) => *place,
             None => None,

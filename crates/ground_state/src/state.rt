@@ -2,8 +2,9 @@ ghost use Rattle.std.specs.Prelude.{◌≡◌, ◌↔◌, false, IsTrue, Contain
 ghost use Rattle.std.specs.Bool.{OnTrue};
 ghost use Rattle.ground_state.specs.States as spec;
 
-use crate::atom_list::AtomList;
+use crate::atom_list::AtomLists;
 use crate::notes::Notes;
+use crate::numbers::Numbers;
 use htn_base::{List, Memory};
 use plan_model::GroundAtom;
 use std::alloc::Global;
@@ -11,15 +12,19 @@ use std::alloc::Global;
 /// More predicates than these count as want of memory: no text of at most 16 megabytes declares so many.
 const MOST_PREDICATES: u32 = 1 << 24;
 
+/// Of the atoms of so many predicates, the first ones, those of few and small objects have numbers. This bounds the memory
+/// that a state of few atoms takes to some 30 megabytes.
+const NUMBERED_PREDICATES: usize = 128;
+
 /// A set of ground atoms, those that are true. `facts` has what is noted of each predicate, at its number: an atom that is
 /// noted as false is one that a step makes true or has made false.
 ///
-/// `adds` and `deletes`: what the last step touched, kept for their room alone.
+/// `most`: the greatest object of the first state. `touched`: what the last step touched, kept for its room alone.
 #[derive(Drop)]
 pub struct State {
     facts: Vec<Notes>,
-    pub(crate) adds: AtomList,
-    pub(crate) deletes: AtomList,
+    most: u32,
+    pub(crate) touched: AtomLists,
 }
 
 impl State {
@@ -29,8 +34,8 @@ impl State {
     {
         let mut state = State {
             facts: Vec::new(alloc),
-            adds: AtomList::new(alloc),
-            deletes: AtomList::new(alloc),
+            most: greatest(atoms),
+            touched: AtomLists::new(alloc),
         };
         for atom in atoms.as_slice() {
             state.insert(alloc, atom.predicate, atom.args.as_slice(), true)?;
@@ -87,8 +92,14 @@ impl State {
     fn widen(&mut self, alloc: Global, predicate: u32) -> Result<(), Memory>
         ensures { spec.HasSameNotes self.old self.new }
     {
-        for _ in self.facts.len()..predicate as usize + 1 {
-            self.facts.push(Notes::new(alloc))?;
+        for number in self.facts.len()..predicate as usize + 1 {
+            let room = if number < NUMBERED_PREDICATES {
+                u16::MAX
+            } else {
+                0
+            };
+            let notes = Notes::new(alloc, Numbers::new(self.most, room));
+            self.facts.push(notes)?;
         }
         Ok(())
     }
@@ -120,4 +131,15 @@ impl State {
             notes.remove(args);
         }
     }
+}
+
+/// The greatest object of the atoms.
+fn greatest(atoms: &List<GroundAtom>) -> u32 {
+    let mut most = 0;
+    for atom in atoms.as_slice() {
+        for object in atom.args.as_slice() {
+            most = most.max(*object);
+        }
+    }
+    most
 }

@@ -5,7 +5,7 @@ ghost use Rattle.ground_state.specs.Room.{EffectFits};
 ghost use Rattle.ground_state.specs.States.{IsSame};
 ghost use Rattle.ground_state.specs.Clauses.{After, Touched};
 
-use crate::atom_list::AtomList;
+use crate::atom_list::AtomLists;
 use crate::env::Env;
 use crate::gather::{World, gather};
 use crate::state::State;
@@ -32,11 +32,9 @@ impl State {
         ensures unchanged { OnErr result (IsSame self.old self.new) }
         ensures kept { frame env.new ≡ frame env.old }
     {
-        let mut adds = mem::replace(&mut self.adds, AtomList::new(alloc));
-        let mut deletes = mem::replace(&mut self.deletes, AtomList::new(alloc));
-        let stepped = self.step(alloc, types, objects, eff, env, &mut adds, &mut deletes);
-        self.adds = adds;
-        self.deletes = deletes;
+        let mut lists = mem::replace(&mut self.touched, AtomLists::new(alloc));
+        let stepped = self.step(alloc, types, objects, eff, env, &mut lists);
+        self.touched = lists;
         stepped
     }
 
@@ -48,8 +46,7 @@ impl State {
         objects: &List<Object>,
         eff: &Effect,
         env: &mut Env,
-        adds: &mut AtomList,
-        deletes: &mut AtomList,
+        lists: &mut AtomLists,
     ) -> Result<(), Memory>
         requires listed { AreListed types.now }
         requires few { length objects.now < 2 ^ 32 }
@@ -58,28 +55,26 @@ impl State {
         ensures unchanged { OnErr result (IsSame self.old self.new) }
         ensures kept { frame env.new ≡ frame env.old }
     {
-        touched(alloc, true, eff, env, self, types, objects, adds)?;
-        touched(alloc, false, eff, env, self, types, objects, deletes)?;
-        self.change(alloc, adds, deletes)
+        touched(alloc, eff, env, self, types, objects, lists)?;
+        self.change(alloc, &lists.adds, &lists.deletes)
     }
 }
 
-/// Puts down the atoms that the effect adds, or those that it deletes.
+/// Puts down the atoms that the effect adds, and those that it deletes.
 fn touched(
     alloc: Global,
-    adds: bool,
     eff: &Effect,
     env: &mut Env,
     state: &State,
     types: &Types,
     objects: &List<Object>,
-    into: &mut AtomList,
+    into: &mut AtomLists,
 ) -> Result<(), Memory>
     requires listed { AreListed types.now }
     requires few { length objects.now < 2 ^ 32 }
     requires room { EffectFits (frame env.old) eff.now }
     ensures touched { OnOk result
-        (Touched types.now objects.now state.now adds eff.now env.old into.new) }
+        (Touched types.now objects.now state.now eff.now env.old into.new) }
     ensures kept { frame env.new ≡ frame env.old }
 {
     let world = World {
@@ -87,6 +82,7 @@ fn touched(
         types,
         objects,
     };
-    into.clear();
-    gather(alloc, adds, eff, env, &world, into)
+    into.adds.clear();
+    into.deletes.clear();
+    gather(alloc, eff, env, &world, into)
 }

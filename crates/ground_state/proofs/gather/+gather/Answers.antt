@@ -1,43 +1,34 @@
-use Rattle.std.proofs.Common.{◌↔◌, ℕ, ◌≡◌, ◌+◌, ◌<◌, ◌++◌, [], ◌∷◌, length, take, sym, subst, ap, ◌∙◌, true≢false, arith}
+use Rattle.std.proofs.Common.{◌↔◌, ℕ, ◌≡◌, ◌+◌, ◌<◌, ◌++◌, [], ◌∷◌, Bool, length, take, refl, sym, subst, ap, ◌∙◌, true≢false, arith}
 use Rattle.std.proofs.lemmas.List.{take_all}
 use Rattle.std.proofs.lemmas.Result.{on_ok_weaker}
 use Rattle.plan_model.specs.declared.terms.GroundAtom.{GroundAtom}
 use Rattle.plan_model.specs.Typing.{InType}
 use Rattle.plan_model.proofs.PartsOf.{in_type_within}
 use Rattle.ground_state.proofs.KindLaws.{in_type_by_parts}
-use Rattle.plan_meaning.specs.Truth.{State, ground}
+use Rattle.plan_meaning.specs.Truth.{State}
 use Rattle.ground_state.specs.Frames.{Frame, frame}
 use Rattle.ground_state.specs.Room.{effect_fits, EffectFits}
 use Rattle.ground_state.specs.Kinds.{IsOfParts}
 use Rattle.ground_state.specs.States.{atoms}
-use Rattle.ground_state.specs.Search.{Gathers, Touches, OneTouches, TouchesWithin}
+use Rattle.ground_state.specs.declared.atom_list.AtomLists.{AtomLists}
+use Rattle.ground_state.specs.Search.{Gathers, Touches, OneTouches, TouchesWithin, side}
 use Rattle.ground_state.proofs.EffectSizes as sizes
 use Rattle.ground_state.proofs.RoomEquations as room
 use Rattle.ground_state.proofs.GatherCases as cases
 use Rattle.ground_state.proofs.gather.+gather.Goals as goal
 use Rattle.ground_state.proofs.gather.+gather.Goals.{gather_within-then-has_object+in_ok-gathered, gather_within-else-has_object}
 
-pub gather-returns-then-adds-clause-gathered : goal.gather-returns-then-adds-clause-gathered
-gather-returns-then-adds-clause-gathered t c =
+pub gather-returns-in-Add-clause-gathered : goal.gather-returns-in-Add-clause-gathered
+gather-returns-in-Add-clause-gathered t c =
     let I = InType c.args.world.now.types.now c.args.world.now.objects.now in
     let S = atoms c.args.world.now.state.now in
-    let v = c.args.env.now.values.items in
-    let a = ground v c.in-Add.atom in
-    on_ok_weaker c.put.result (λ p.
-    cases.gathers-same (λ g. g ≡ ground c.args.env.now.values.items c.in-Add.atom) (Touches I S c.args.adds c.args.eff.now v) c.args.into.now c.put.new.self (cases.touches-Add I S v c.args.adds c.args.eff.now c.in-Add.atom c.in-Add.is c.if-adds.true)
-    (cases.gathers-push c.args.into.now c.put.new.self a p)
-    ) c.put.ensures.put
+    on_ok_weaker c.put.result (λ p. cases.gathers-Add I S c.args.env.now.values.items c.args.eff.now c.in-Add.atom c.in-Add.is c.args.into.now (record { adds = c.put.new.self; deletes = c.args.into.now.deletes }) p refl) c.put.ensures.put
 
-pub gather-returns-then-not-adds-clause-gathered : goal.gather-returns-then-not-adds-clause-gathered
-gather-returns-then-not-adds-clause-gathered t c =
+pub gather-returns-in-Delete-clause-gathered : goal.gather-returns-in-Delete-clause-gathered
+gather-returns-in-Delete-clause-gathered t c =
     let I = InType c.args.world.now.types.now c.args.world.now.objects.now in
     let S = atoms c.args.world.now.state.now in
-    let v = c.args.env.now.values.items in
-    let a = ground v c.in-Delete.atom in
-    on_ok_weaker c.put-then-not-adds.result (λ p.
-    cases.gathers-same (λ g. g ≡ ground c.args.env.now.values.items c.in-Delete.atom) (Touches I S c.args.adds c.args.eff.now v) c.args.into.now c.put-then-not-adds.new.self (cases.touches-Delete I S v c.args.adds c.args.eff.now c.in-Delete.atom c.in-Delete.is c.if-not-adds.true)
-    (cases.gathers-push c.args.into.now c.put-then-not-adds.new.self a p)
-    ) c.put-then-not-adds.ensures.put
+    on_ok_weaker c.put-in-Delete.result (λ p. cases.gathers-Delete I S c.args.env.now.values.items c.args.eff.now c.in-Delete.atom c.in-Delete.is c.args.into.now (record { adds = c.args.into.now.adds; deletes = c.put-in-Delete.new.self }) p refl) c.put-in-Delete.ensures.put
 
 pub gather-gather_each-requires : goal.gather-gather_each-requires
 gather-gather_each-requires t c = (
@@ -72,34 +63,20 @@ gather-returns-then-holds-clause-gathered t c =
     let S = atoms c.args.world.now.state.now in
     let v = c.args.env.now.values.items in
     let x = c.get-then-holds.result.now in
-    on_ok_weaker c.gather.result (λ h.
-    cases.gathers-same (Touches I S c.args.adds x v) (Touches I S c.args.adds c.args.eff.now v) c.args.into.now c.gather.new.into
-    (cases.touches-When I S v c.args.adds c.args.eff.now c.in-When.condition c.in-When.body x c.in-When.is c.get-then-holds.ensures.value (c.holds.ensures.truth.0 c.if-holds.true))
-    (subst (λ (e : Frame). Gathers (Touches I S c.args.adds x e.objects) c.args.into.now c.gather.new.into) c.holds.ensures.kept h)
+    on_ok_weaker c.gather.result (λ h adds.
+    cases.gathers-same (Touches I S adds x v) (Touches I S adds c.args.eff.now v) (side adds c.args.into.now) (side adds c.gather.new.into)
+    (cases.touches-When I S v adds c.args.eff.now c.in-When.condition c.in-When.body x c.in-When.is c.get-then-holds.ensures.value (c.holds.ensures.truth.0 c.if-holds.true))
+    (subst (λ (e : Frame). Gathers (Touches I S adds x e.objects) (side adds c.args.into.now) (side adds c.gather.new.into)) c.holds.ensures.kept (h adds))
     ) c.gather.ensures.gathered
-
-pub gather-returns-else-adds-clause-gathered : goal.gather-returns-else-adds-clause-gathered
-gather-returns-else-adds-clause-gathered t c =
-    let I = InType c.args.world.now.types.now c.args.world.now.objects.now in
-    let S = atoms c.args.world.now.state.now in
-    let v = c.args.env.now.values.items in
-    cases.gathers-none (Touches I S c.args.adds c.args.eff.now v) c.args.into.now (cases.touches-Add-not I S v c.args.adds c.args.eff.now c.in-Add.atom c.in-Add.is c.if-adds.false)
-
-pub gather-returns-else-not-adds-clause-gathered : goal.gather-returns-else-not-adds-clause-gathered
-gather-returns-else-not-adds-clause-gathered t c =
-    let I = InType c.args.world.now.types.now c.args.world.now.objects.now in
-    let S = atoms c.args.world.now.state.now in
-    let v = c.args.env.now.values.items in
-    cases.gathers-none (Touches I S c.args.adds c.args.eff.now v) c.args.into.now (cases.touches-Delete-not I S v c.args.adds c.args.eff.now c.in-Delete.atom c.in-Delete.is c.if-not-adds.false)
 
 pub gather-returns-in-And-clause-gathered : goal.gather-returns-in-And-clause-gathered
 gather-returns-in-And-clause-gathered t c =
     let I = InType c.args.world.now.types.now c.args.world.now.objects.now in
     let S = atoms c.args.world.now.state.now in
     let v = c.args.env.now.values.items in
-    on_ok_weaker c.gather_each.result (
-    cases.gathers-same (OneTouches I S c.args.adds c.as_slice.result.now v) (Touches I S c.args.adds c.args.eff.now v) c.args.into.now c.gather_each.new.into
-    (cases.touches-And I S v c.args.adds c.args.eff.now c.in-And.parts c.as_slice.result.now c.in-And.is c.as_slice.ensures.items)
+    on_ok_weaker c.gather_each.result (λ h adds.
+    cases.gathers-same (OneTouches I S adds c.as_slice.result.now v) (Touches I S adds c.args.eff.now v) (side adds c.args.into.now) (side adds c.gather_each.new.into)
+    (cases.touches-And I S v adds c.args.eff.now c.in-And.parts c.as_slice.result.now c.in-And.is c.as_slice.ensures.items) (h adds)
     ) c.gather_each.ensures.gathered
 
 pub gather-returns-in-Forall-clause-gathered : goal.gather-returns-in-Forall-clause-gathered
@@ -107,18 +84,18 @@ gather-returns-in-Forall-clause-gathered t c =
     let I = InType c.args.world.now.types.now c.args.world.now.objects.now in
     let S = atoms c.args.world.now.state.now in
     let v = c.args.env.now.values.items in
-    on_ok_weaker c.gather_within.result (
-    cases.gathers-same (TouchesWithin I S c.args.adds c.as_slice-in-Forall.result.now c.get.result.now v) (Touches I S c.args.adds c.args.eff.now v) c.args.into.now c.gather_within.new.into
-    (cases.touches-Forall I S v c.args.adds c.args.eff.now c.in-Forall.params c.as_slice-in-Forall.result.now c.in-Forall.body c.get.result.now c.in-Forall.is c.as_slice-in-Forall.ensures.items c.get.ensures.value)
+    on_ok_weaker c.gather_within.result (λ h adds.
+    cases.gathers-same (TouchesWithin I S adds c.as_slice-in-Forall.result.now c.get.result.now v) (Touches I S adds c.args.eff.now v) (side adds c.args.into.now) (side adds c.gather_within.new.into)
+    (cases.touches-Forall I S v adds c.args.eff.now c.in-Forall.params c.as_slice-in-Forall.result.now c.in-Forall.body c.get.result.now c.in-Forall.is c.as_slice-in-Forall.ensures.items c.get.ensures.value) (h adds)
     ) c.gather_within.ensures.gathered
 
 pub gather-returns-else-holds-clause-gathered : goal.gather-returns-else-holds-clause-gathered
-gather-returns-else-holds-clause-gathered t c =
+gather-returns-else-holds-clause-gathered t c adds =
     let I = InType c.args.world.now.types.now c.args.world.now.objects.now in
     let S = atoms c.args.world.now.state.now in
     let v = c.args.env.now.values.items in
-    cases.gathers-none (Touches I S c.args.adds c.args.eff.now v) c.args.into.now
-    (cases.touches-When-not I S v c.args.adds c.args.eff.now c.in-When.condition c.in-When.body c.in-When.is (λ u. true≢false (sym (c.holds.ensures.truth.1 u) ∙ c.if-holds.false)))
+    cases.gathers-none (Touches I S adds c.args.eff.now v) (side adds c.args.into.now)
+    (cases.touches-When-not I S v adds c.args.eff.now c.in-When.condition c.in-When.body c.in-When.is (λ u. true≢false (sym (c.holds.ensures.truth.1 u) ∙ c.if-holds.false)))
 
 pub gather_each-gather-requires : goal.gather_each-gather-requires
 gather_each-gather-requires t c = (
@@ -141,25 +118,25 @@ gather_each-loop-part-preserved t c =
     let i = c.loop-part.part-index in
     let e = c.part-item.result in (
       c.in_ok-gather.ensures.kept ∙ c.loop-part.invariant.0,
-      cases.gathers-then (OneTouches I S c.args.adds (take i c.args.parts.now) v) (Touches I S c.args.adds e v) (OneTouches I S c.args.adds (take (i + 1) c.args.parts.now) v) c.args.into.now c.loop-part.into c.gather.new.into
-          (cases.touches-next I S v c.args.adds c.args.parts.now i e c.loop-part-test.true c.part-item.is) c.loop-part.invariant.1
-          (subst (λ (f : Frame). Gathers (Touches I S c.args.adds e f.objects) c.loop-part.into c.gather.new.into) c.loop-part.invariant.0 c.in_ok-gather.ensures.gathered),
+      λ adds. cases.gathers-then (OneTouches I S adds (take i c.args.parts.now) v) (Touches I S adds e v) (OneTouches I S adds (take (i + 1) c.args.parts.now) v) (side adds c.args.into.now) (side adds c.loop-part.into) (side adds c.gather.new.into)
+          (cases.touches-next I S v adds c.args.parts.now i e c.loop-part-test.true c.part-item.is) (c.loop-part.invariant.1 adds)
+          (subst (λ (f : Frame). Gathers (Touches I S adds e f.objects) (side adds c.loop-part.into) (side adds c.gather.new.into)) c.loop-part.invariant.0 (c.in_ok-gather.ensures.gathered adds)),
     )
 
 pub gather_each-returns-clause-gathered : goal.gather_each-returns-clause-gathered
-gather_each-returns-clause-gathered t c =
+gather_each-returns-clause-gathered t c adds =
     let I = InType c.args.world.now.types.now c.args.world.now.objects.now in
     let S = atoms c.args.world.now.state.now in
-    subst (λ es. Gathers (OneTouches I S c.args.adds es c.args.env.now.values.items) c.args.into.now c.loop-part.into) (take_all c.loop-part.part-index c.args.parts.now c.loop-part-test.false) c.loop-part.invariant.1
+    subst (λ es. Gathers (OneTouches I S adds es c.args.env.now.values.items) (side adds c.args.into.now) (side adds c.loop-part.into)) (take_all c.loop-part.part-index c.args.parts.now c.loop-part-test.false) (c.loop-part.invariant.1 adds)
 
 pub gather_within-returns-in_default-clause-gathered : goal.gather_within-returns-in_default-clause-gathered
 gather_within-returns-in_default-clause-gathered t c =
     let I = InType c.args.world.now.types.now c.args.world.now.objects.now in
     let S = atoms c.args.world.now.state.now in
     let v = c.args.env.now.values.items in
-    on_ok_weaker c.gather.result (
-    cases.gathers-same (Touches I S c.args.adds c.args.body.now v) (TouchesWithin I S c.args.adds c.args.params.now c.args.body.now v) c.args.into.now c.gather.new.into
-    (cases.within-none I S v c.args.adds c.args.params.now c.args.body.now c.in_default.ensures.cases)
+    on_ok_weaker c.gather.result (λ h adds.
+    cases.gathers-same (Touches I S adds c.args.body.now v) (TouchesWithin I S adds c.args.params.now c.args.body.now v) (side adds c.args.into.now) (side adds c.gather.new.into)
+    (cases.within-none I S v adds c.args.params.now c.args.body.now c.in_default.ensures.cases) (h adds)
     ) c.gather.ensures.gathered
 
 pub gather_within-returns-in_err-gathered-clause-kept : goal.gather_within-returns-in_err-gathered-clause-kept
@@ -171,28 +148,28 @@ gather_within-loop-object-preserved t c =
     let S = atoms c.args.world.now.state.now in
     let v = c.args.env.now.values.items in
     let i = c.loop-object.object in
-    let R : GroundAtom → ℕ → Type 0 = λ g o. IsOfParts c.new-parts.result c.args.world.now.objects.now o × TouchesWithin I S c.args.adds c.in-Some.rest.now c.args.body.now (v ++ o ∷ []) g in
-    let P : State = λ g. (o : ℕ) × (o < c.loop-object.object) × R g o in
-    let N : State = λ g. (o : ℕ) × (o < c.loop-object.object + 1) × R g o in
-    let Q : State = TouchesWithin I S c.args.adds c.in-Some.rest.now c.args.body.now (v ++ i ∷ []) in
+    let R : Bool → GroundAtom → ℕ → Type 0 = λ adds g o. IsOfParts c.new-parts.result c.args.world.now.objects.now o × TouchesWithin I S adds c.in-Some.rest.now c.args.body.now (v ++ o ∷ []) g in
+    let P : Bool → State = λ adds g. (o : ℕ) × (o < c.loop-object.object) × R adds g o in
+    let N : Bool → State = λ adds g. (o : ℕ) × (o < c.loop-object.object + 1) × R adds g o in
+    let Q : Bool → State = λ adds. TouchesWithin I S adds c.in-Some.rest.now c.args.body.now (v ++ i ∷ []) in
     elim c.if-has_object.branch [
       | gather_within-then-has_object+in_ok-gathered w ↦ (
           let typed : IsOfParts c.new-parts.result c.args.world.now.objects.now c.loop-object.object = c.has_object.ensures.0 w.if-has_object.true in
           let objects : w.push.new.self.values.items ≡ v ++ c.loop-object.object ∷ [] = ap (λ (f : Frame). f.objects) w.push.ensures ∙ ap (λ (f : Frame). f.objects ++ c.loop-object.object ∷ []) c.loop-object.invariant.0 in
-          let more : Gathers Q c.loop-object.into w.gather_within-gathered.new.into = subst (λ u. Gathers (TouchesWithin I S c.args.adds c.in-Some.rest.now c.args.body.now u) c.loop-object.into w.gather_within-gathered.new.into) objects w.in_ok-gathered.ensures.gathered in
+          let more : (adds : Bool) → Gathers (Q adds) (side adds c.loop-object.into) (side adds w.gather_within-gathered.new.into) = λ adds. subst (λ u. Gathers (TouchesWithin I S adds c.in-Some.rest.now c.args.body.now u) (side adds c.loop-object.into) (side adds w.gather_within-gathered.new.into)) objects (w.in_ok-gathered.ensures.gathered adds) in
           let kept : frame w.pop.new.self ≡ frame c.args.env.now = w.pop.ensures (frame c.loop-object.env) c.loop-object.object (w.gather_within-gathered.ensures.kept ∙ w.push.ensures) ∙ c.loop-object.invariant.0 in
-          let all : Gathers N c.args.into.now w.gather_within-gathered.new.into = cases.gathers-then P Q N c.args.into.now c.loop-object.into w.gather_within-gathered.new.into (λ g. cases.below-more (R g) (Q g) i (λ r. r.1, λ q. (typed, q))) c.loop-object.invariant.1 more in
-          (ap frame w.env-is ∙ kept, subst (Gathers N c.args.into.now) (sym w.into-is) all)
+          let all : (adds : Bool) → Gathers (N adds) (side adds c.args.into.now) (side adds w.gather_within-gathered.new.into) = λ adds. cases.gathers-then (P adds) (Q adds) (N adds) (side adds c.args.into.now) (side adds c.loop-object.into) (side adds w.gather_within-gathered.new.into) (λ g. cases.below-more (R adds g) (Q adds g) i (λ r. r.1, λ q. (typed, q))) (c.loop-object.invariant.1 adds) (more adds) in
+          (ap frame w.env-is ∙ kept, subst (λ (into : AtomLists). (adds : Bool) → Gathers (N adds) (side adds c.args.into.now) (side adds into)) (sym w.into-is) all)
           )
       | gather_within-else-has_object w ↦ (
-          let none : (g : GroundAtom) → R g c.loop-object.object → ⊥ = λ g r. true≢false (sym (c.has_object.ensures.1 r.0) ∙ w.if-has_object.false) in
-          let all : Gathers N c.args.into.now c.loop-object.into = cases.gathers-same P N c.args.into.now c.loop-object.into (λ g. cases.below-none (R g) i (none g)) c.loop-object.invariant.1 in
-          (ap frame w.env-is ∙ c.loop-object.invariant.0, subst (Gathers N c.args.into.now) (sym w.into-is) all)
+          let none : (adds : Bool) (g : GroundAtom) → R adds g c.loop-object.object → ⊥ = λ adds g r. true≢false (sym (c.has_object.ensures.1 r.0) ∙ w.if-has_object.false) in
+          let all : (adds : Bool) → Gathers (N adds) (side adds c.args.into.now) (side adds c.loop-object.into) = λ adds. cases.gathers-same (P adds) (N adds) (side adds c.args.into.now) (side adds c.loop-object.into) (λ g. cases.below-none (R adds g) i (none adds g)) (c.loop-object.invariant.1 adds) in
+          (ap frame w.env-is ∙ c.loop-object.invariant.0, subst (λ (into : AtomLists). (adds : Bool) → Gathers (N adds) (side adds c.args.into.now) (side adds into)) (sym w.into-is) all)
           )
     ]
 
 pub gather_within-returns-clause-gathered : goal.gather_within-returns-clause-gathered
-gather_within-returns-clause-gathered t c =
+gather_within-returns-clause-gathered t c adds =
     let I = InType c.args.world.now.types.now c.args.world.now.objects.now in
     let S = atoms c.args.world.now.state.now in
     let v = c.args.env.now.values.items in
@@ -201,6 +178,6 @@ gather_within-returns-clause-gathered t c =
     λ o i. (let l = in_type_within c.args.world.now.types.now c.args.world.now.objects.now c.in-Some.param.now.ty o i in let e = c.loop-object-test.false in let n = c.len-object-end.ensures.length in omega arith) in
     let typed : (o : ℕ) → IsOfParts c.new-parts.result c.args.world.now.objects.now o ↔ InType c.args.world.now.types.now c.args.world.now.objects.now o c.in-Some.param.now.ty =
     λ o. in_type_by_parts c.args.world.now.types.now c.args.world.now.objects.now c.new-parts.result o c.in-Some.param.now.ty c.new-parts.ensures in
-    let all = cases.within-all I S v c.args.adds p c.in-Some.rest.now c.args.params.now c.args.body.now c.loop-object.object c.in-Some.ensures.cases.0 below in
-    cases.gathers-same (λ g. (o : ℕ) × (o < c.loop-object.object) × (IsOfParts c.new-parts.result c.args.world.now.objects.now o × TouchesWithin I S c.args.adds c.in-Some.rest.now c.args.body.now (v ++ o ∷ []) g)) (TouchesWithin I S c.args.adds c.args.params.now c.args.body.now v) c.args.into.now c.loop-object.into
-    (λ g. (λ t. (all g).0 (t.0, t.1, ((typed t.0).0 t.2.0, t.2.1)), λ t. (let u = (all g).1 t in (u.0, u.1, ((typed u.0).1 u.2.0, u.2.1))))) c.loop-object.invariant.1
+    let all = cases.within-all I S v adds p c.in-Some.rest.now c.args.params.now c.args.body.now c.loop-object.object c.in-Some.ensures.cases.0 below in
+    cases.gathers-same (λ g. (o : ℕ) × (o < c.loop-object.object) × (IsOfParts c.new-parts.result c.args.world.now.objects.now o × TouchesWithin I S adds c.in-Some.rest.now c.args.body.now (v ++ o ∷ []) g)) (TouchesWithin I S adds c.args.params.now c.args.body.now v) (side adds c.args.into.now) (side adds c.loop-object.into)
+    (λ g. (λ t. (all g).0 (t.0, t.1, ((typed t.0).0 t.2.0, t.2.1)), λ t. (let u = (all g).1 t in (u.0, u.1, ((typed u.0).1 u.2.0, u.2.1))))) (c.loop-object.invariant.1 adds)

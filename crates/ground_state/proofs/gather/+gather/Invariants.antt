@@ -1,9 +1,9 @@
-use Rattle.std.proofs.Common.{ℕ, ◌≡◌, ◌+◌, ◌<◌, ◌++◌, [], ◌∷◌, length, take}
+use Rattle.std.proofs.Common.{ℕ, ◌≡◌, ◌+◌, ◌<◌, ◌++◌, [], ◌∷◌, Bool, length, take}
 use Rattle.plan_model.specs.Typing.{InType}
 use Rattle.ground_state.specs.Frames.{frame}
 use Rattle.ground_state.specs.Kinds.{IsOfParts}
 use Rattle.ground_state.specs.States.{atoms}
-use Rattle.ground_state.specs.Search.{Gathers, OneTouches, TouchesWithin}
+use Rattle.ground_state.specs.Search.{Gathers, OneTouches, TouchesWithin, side}
 use Rattle.ground_state.proofs.EffectSizes.{size, sizes}
 use Rattle.ground_state.proofs.gather.+gather.Given as goal
 
@@ -18,9 +18,10 @@ decreases-gather_within l = 1 + length l.params.now + size l.body.now
 
 -- what the effects so far touch is gathered
 abbrev pub invariant-gather_each-loop-part : goal.invariant-gather_each-loop-part
-invariant-gather_each-loop-part l = (frame l.env ≡ frame l.fn.env) × Gathers (OneTouches (InType l.world.types.now l.world.objects.now) (atoms l.world.state.now) l.adds (take l.part-index l.parts) l.fn.env.values.items) l.fn.into l.into
+invariant-gather_each-loop-part l = (frame l.env ≡ frame l.fn.env)
+    × ((adds : Bool) → Gathers (OneTouches (InType l.world.types.now l.world.objects.now) (atoms l.world.state.now) adds (take l.part-index l.parts) l.fn.env.values.items) (side adds l.fn.into) (side adds l.into))
 
 -- what the effect touches with the objects so far is gathered
 abbrev pub invariant-gather_within-loop-object : goal.invariant-gather_within-loop-object
 invariant-gather_within-loop-object l = (frame l.env ≡ frame l.fn.env)
-    × Gathers (λ g. (o : ℕ) × (o < l.object) × (IsOfParts l.parts l.world.objects.now o × TouchesWithin (InType l.world.types.now l.world.objects.now) (atoms l.world.state.now) l.adds l.rest l.body (l.fn.env.values.items ++ o ∷ []) g)) l.fn.into l.into
+    × ((adds : Bool) → Gathers (λ g. (o : ℕ) × (o < l.object) × (IsOfParts l.parts l.world.objects.now o × TouchesWithin (InType l.world.types.now l.world.objects.now) (atoms l.world.state.now) adds l.rest l.body (l.fn.env.values.items ++ o ∷ []) g)) (side adds l.fn.into) (side adds l.into))

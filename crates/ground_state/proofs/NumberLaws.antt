@@ -1,0 +1,92 @@
+-- Numbers of lists: lists with numbers have different ones, and a list is numbered from its last object to its first.
+use Rattle.std.proofs.Common.{ℕ, zero, suc, ◌≡◌, ◌+◌, ◌*◌, ◌%◌, ◌/◌, ◌<◌, ◌≤◌, ◌^◌, ◌&&◌, Bool, true, false, List, [], ◌∷◌, length, get_or, drop, Option, Some, None, refl, ap, sym, subst, ◌∙◌, arith}
+use Rattle.std.specs.Prelude.{nat_lt, cond}
+use Rattle.std.specs.Option.{option_and_then}
+use Rattle.std.proofs.lemmas.Bool.{ltb-true, le-ltb}
+use Rattle.std.proofs.lemmas.Nat.{mod-mul-add, div-mul-add}
+use Rattle.std.proofs.Math.Nat.{le-mul_of_pos_right}
+use Rattle.std.proofs.lemmas.List.{drop_more}
+use Rattle.ground_state.specs.Numbers.{with_digit, number}
+
+module _ (most room : ℕ) where
+  -- the number that a digit is put behind
+  abbrev IsPutBehind : ℕ → ℕ → ℕ → Type 0
+  IsPutBehind x n k = (x < most + 1) × (n * (most + 2) + x < room) × (k ≡ n * (most + 2) + x)
+
+  put_behind : (x n k : ℕ) → with_digit most room x n ≡ Some k → IsPutBehind x n k
+  put_behind x n k e = by (nat_lt x (most + 1)) (nat_lt (n * (most + 2) + x) room) refl refl e
+    where
+      by : (b c : Bool) → nat_lt x (most + 1) ≡ b → nat_lt (n * (most + 2) + x) room ≡ c → cond (b && c) (Some (n * (most + 2) + x)) None ≡ Some k → IsPutBehind x n k
+      by true true d f g = (ltb-true x (most + 1) d, ltb-true (n * (most + 2) + x) room f, cc)
+      by true false d f g = absurd cc
+      by false c d f g = absurd cc
+
+  -- the number of the rest, and what is put behind it
+  pub parts_of : (x : ℕ) (xs : List ℕ) (k : ℕ) → number most room (x ∷ xs) ≡ Some k → (n : ℕ) × (number most room xs ≡ Some n) × IsPutBehind x n k
+  parts_of x xs k e = by (number most room xs) refl e
+    where
+      by : (o : Option ℕ) → number most room xs ≡ o → option_and_then (with_digit most room x) o ≡ Some k → (n : ℕ) × (number most room xs ≡ Some n) × IsPutBehind x n k
+      by (Some n) d f = (n, d, put_behind x n k f)
+      by None d f = absurd cc
+
+  is_positive : (xs : List ℕ) (n : ℕ) → number most room xs ≡ Some n → 0 < n
+  is_positive [] n e = let d : 1 ≡ n = cc in omega (arith, d)
+  is_positive (x ∷ xs) n e =
+      let p = parts_of x xs n e in
+      let m = is_positive xs p.0 p.1 in
+      let l : p.0 ≤ p.0 * (most + 2) = le-mul_of_pos_right p.0 (omega arith) in
+      let k = p.2.2 in
+      omega (arith, l, m, k)
+
+  more_than_one : (x : ℕ) (xs : List ℕ) → number most room (x ∷ xs) ≡ Some 1 → ⊥
+  more_than_one x xs e =
+      let p = parts_of x xs 1 e in
+      let m = is_positive xs p.0 p.1 in
+      more p.0 x m p.2.2
+    where
+      more : (n x : ℕ) → 0 < n → 1 ≡ n * (most + 2) + x → ⊥
+      more zero x m k = omega (arith, m)
+      more (suc n) x m k = omega (arith, k)
+
+  -- lists with one number are one list
+  pub same_number : (xs ys : List ℕ) (n : ℕ) → number most room xs ≡ Some n → number most room ys ≡ Some n → xs ≡ ys
+  same_number [] [] n e f = refl
+  same_number [] (y ∷ ys) n e f = absurd (more_than_one y ys (f ∙ sym e))
+  same_number (x ∷ xs) [] n e f = absurd (more_than_one x xs (e ∙ sym f))
+  same_number (x ∷ xs) (y ∷ ys) n e f =
+      let p = parts_of x xs n e in
+      let q = parts_of y ys n f in
+      let l : x < most + 2 = (let i = p.2.0 in omega (arith, i)) in
+      let k : y < most + 2 = (let i = q.2.0 in omega (arith, i)) in
+      let one : p.0 * (most + 2) + x ≡ q.0 * (most + 2) + y = sym p.2.2 ∙ q.2.2 in
+      let digit : x ≡ y = sym (mod-mul-add p.0 (most + 2) x l) ∙ ap (λ i. i % (most + 2)) one ∙ mod-mul-add q.0 (most + 2) y k in
+      let front : p.0 ≡ q.0 = sym (div-mul-add p.0 (most + 2) x l) ∙ ap (λ i. i / (most + 2)) one ∙ div-mul-add q.0 (most + 2) y k in
+      let rest : xs ≡ ys = same_number xs ys p.0 p.1 (q.1 ∙ ap (λ i. Some i) (sym front)) in
+      ap (λ z. z ∷ xs) digit ∙ ap (λ zs. y ∷ zs) rest
+
+  -- from one place of the list on, where it has the number
+  pub number_from : (xs : List ℕ) (i x n : ℕ) → i < length xs → number most room (drop (i + 1) xs) ≡ Some n → number most room (drop i xs) ≡ with_digit most room (get_or xs i x) n
+  number_from xs i x n l e = ap (number most room) (drop_more xs i x l) ∙ ap (option_and_then (with_digit most room (get_or xs i x))) e
+
+  -- where a part at the end has none, the whole has none
+  pub no_number : (xs : List ℕ) (i : ℕ) → number most room (drop i xs) ≡ None → number most room xs ≡ None
+  no_number xs zero e = e
+  no_number [] (suc i) e = e
+  no_number (x ∷ xs) (suc i) e = ap (option_and_then (with_digit most room x)) (no_number xs i e)
+
+  -- where an object is too great, or its number, the list has none
+  pub too_great : (xs : List ℕ) (i n : ℕ) → i < length xs → number most room (drop (i + 1) xs) ≡ Some n → most < get_or xs i 0 → None ≡ number most room xs
+  too_great xs i n l e g =
+      let x = get_or xs i 0 in
+      let none : with_digit most room (get_or xs i 0) n ≡ None = ap (λ b. cond (b && nat_lt (n * (most + 2) + x) room) (Some (n * (most + 2) + x)) None) (le-ltb x (most + 1) (omega (arith, g))) in
+      sym (no_number xs i (number_from xs i 0 n l e ∙ none))
+
+  pub no_room : (xs : List ℕ) (i n : ℕ) → i < length xs → number most room (drop (i + 1) xs) ≡ Some n → room ≤ n * (most + 2) + get_or xs i 0 → None ≡ number most room xs
+  no_room xs i n l e g =
+      let x = get_or xs i 0 in
+      let none : with_digit most room (get_or xs i 0) n ≡ None = ap (λ b. cond (nat_lt x (most + 1) && b) (Some (n * (most + 2) + x)) None) (le-ltb (n * (most + 2) + x) room g) ∙ by (nat_lt x (most + 1)) (n * (most + 2) + x) in
+      sym (no_number xs i (number_from xs i 0 n l e ∙ none))
+    where
+      by : (b : Bool) (k : ℕ) → cond (b && false) (Some k) None ≡ None
+      by true k = refl
+      by false k = refl
