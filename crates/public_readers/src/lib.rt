@@ -5,6 +5,8 @@
 #![tactic(auto)]
 
 #[cfg(test)]
+mod classical_plans;
+#[cfg(test)]
 mod definitions;
 #[cfg(test)]
 mod forms;

@@ -1,0 +1,11 @@
+pub mod Appended
+pub mod Exactly
+pub mod Flat
+pub mod Folded
+pub mod Forms
+pub mod Marks
+pub mod PlansRead
+pub mod PrintedParts
+pub mod StepByStep
+pub mod Whole
+pub mod examples

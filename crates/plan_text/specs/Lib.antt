@@ -1,0 +1,4 @@
+pub mod Reading
+pub mod Laws
+pub mod Wrote
+pub mod Printing
