@@ -7,6 +7,8 @@
 #[cfg(test)]
 mod definitions;
 #[cfg(test)]
+mod faults;
+#[cfg(test)]
 mod forms;
 #[cfg(test)]
 mod readings;
