@@ -2,6 +2,7 @@ pub mod Seen
 pub mod Kinds
 pub mod Typed
 pub mod Mentions
+pub mod Noted
 pub mod Parents
 pub mod TooMany
 pub mod Cycle

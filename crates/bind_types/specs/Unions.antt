@@ -1,6 +1,6 @@
 -- The unions that typed lists, formulas and effects write, in the order of the raw values.
 -- Source: PDDL 2.1 (Fox and Long, JAIR 20, 2003, level 1) for `either`; which types a union has is this project's.
-use Rattle.std.specs.Prelude.{ℕ, ◌++◌, List, [], ◌∷◌, flat_map, map, fold, ◌≡◌}
+use Rattle.std.specs.Prelude.{ℕ, ◌++◌, List, [], ◌∷◌, flat_map, map, fold, ◌≡◌, Option, Some, None}
 use Rattle.std.specs.List.Sorted.{IsPermutation, IsNonDecreasingBy}
 use Rattle.htn_base.specs.Table.{with_word}
 use Rattle.gd_reader.specs.declared.term.RawTerm.{RawTerm}
@@ -67,3 +67,8 @@ pub record AreWith (found : List Either) (old new : List (List ℕ)) : Type 0 wh
   pub same : IsPermutation found sorted
   pub rise : IsNonDecreasingBy (λ e. e.at) sorted
   pub unions : new ≡ fold with_word old (map members_of sorted)
+
+-- putting this one to the unions changes nothing
+abbrev pub IsThere : List (List ℕ) → Option Either → Type 0
+IsThere unions None = Unit {0}
+IsThere unions (Some e) = with_word unions e.members ≡ unions

@@ -1,10 +1,11 @@
 ghost use Rattle.std.specs.Prelude.{◌≡◌, [], ◌∷◌, map, length, IfOk, OnOk, unwrap_or};
 ghost use Rattle.std.specs.List.{fold};
+ghost use Rattle.std.specs.Option.{option_copied};
 ghost use Rattle.std.specs.List.Sorted.{IsPermutation, IsNonDecreasingBy};
 ghost use Rattle.htn_base.specs.Table.{with_word, words_of};
 ghost use Rattle.name_numbers.specs.Spots.{noted};
 ghost use Rattle.bind_types.specs.Parents.{pairs_in_order};
-ghost use Rattle.bind_types.specs.Unions.{members_of, AreWith};
+ghost use Rattle.bind_types.specs.Unions.{members_of, AreWith, IsThere};
 ghost use Rattle.bind_types.specs.Kinds.{type_number, type_faults, union_number, kind_by, members_written, kind_bound, kind_faults};
 
 use crate::parents::parents_of;
@@ -141,10 +142,29 @@ impl TypeTable {
             (self.new.unions ≡ fold with_word self.old.unions (map members_of sorted.now)) }
         ensures types { self.new.types ≡ self.old.types }
     {
+        let mut before = None;
         for either in sorted {
-            self.add_union(alloc, either.members.as_slice())?;
+            self.add_behind(alloc, before, either.members.as_slice())?;
+            before = Some(either);
         }
         Ok(())
+    }
+
+    /// Puts a union behind the others, unless it is there, as the one before it is.
+    fn add_behind(
+        &mut self,
+        alloc: Global,
+        before: Option<&Either>,
+        members: &[u32],
+    ) -> Result<(), Memory>
+        requires there { IsThere self.old.unions (option_copied before) }
+        ensures union { OnOk result (self.new.unions ≡ with_word self.old.unions members.now) }
+        ensures types { self.new.types ≡ self.old.types }
+    {
+        match before {
+            Some(either) if either.members.as_slice() == members => Ok(()),
+            _ => self.add_union(alloc, members),
+        }
     }
 
     fn add_union(&mut self, alloc: Global, members: &[u32]) -> Result<(), Memory>

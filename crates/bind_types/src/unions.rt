@@ -1,6 +1,9 @@
-ghost use Rattle.std.specs.Prelude.{◌≡◌, ◌++◌, map, OnOk};
+ghost use Rattle.std.specs.Prelude.{◌≡◌, ◌++◌, map, IfOk, OnOk};
+ghost use Rattle.bind_types.specs.Kinds.{members_written};
 ghost use Rattle.bind_types.specs.Unions.{joined, union_at, unions_said, params_unions, formula_unions, effect_unions};
 
+use crate::members::Members;
+use crate::same::are_same;
 use crate::table::TypeTable;
 use gd_reader::{RawEffect, RawFormula, RawParam, RawTerm};
 use htn_base::{List, Memory};
@@ -10,37 +13,7 @@ use std::alloc::Global;
 #[derive(Drop)]
 pub struct Either {
     pub at: u32,
-    pub members: List<u32>,
-}
-
-/// Puts the union that these types make behind the others, where there are two or more different ones.
-pub fn put_union(
-    alloc: Global,
-    table: &TypeTable,
-    types: &[RawTerm],
-    into: &mut Vec<Either>,
-) -> Result<(), Memory>
-    ensures put { OnOk result (into.new.items ≡ into.old.items ++ unions_said table.now types.now) }
-{
-    match types {
-        [] => Ok(()),
-        [first, ..] => {
-            let members = table.members(alloc, types)?;
-            put_members(first.at, members, into)
-        }
-    }
-}
-
-fn put_members(at: u32, members: List<u32>, into: &mut Vec<Either>) -> Result<(), Memory>
-    ensures put { OnOk result (into.new.items ≡ into.old.items ++ union_at at members) }
-{
-    match members.as_slice() {
-        [] | [_] => Ok(()),
-        _ => {
-            into.push(Either { at, members })?;
-            Ok(())
-        }
-    }
+    pub members: Members,
 }
 
 /// Puts the unions of a typed list behind the others.
@@ -53,10 +26,69 @@ pub fn put_unions(
     ensures put { OnOk result
         (into.new.items ≡ into.old.items ++ params_unions table.now params.now) }
 {
+    let mut written: &[RawTerm] = &[];
+    let mut members = Members::none();
     for param in params.as_slice() {
-        put_union(alloc, table, param.ty.as_slice(), into)?;
+        let types = param.ty.as_slice();
+        members = put_union(alloc, table, written, members, types, into)?;
+        written = types;
     }
     Ok(())
+}
+
+/// Puts the union that these types make behind the others, where there are two or more different ones, and gives their numbers.
+/// Those of the types that are written for the word in front are known.
+fn put_union(
+    alloc: Global,
+    table: &TypeTable,
+    written: &[RawTerm],
+    known: Members,
+    types: &[RawTerm],
+    into: &mut Vec<Either>,
+) -> Result<Members, Memory>
+    requires known { known ≡ members_written table.now written.now }
+    ensures members { IfOk result (λ members. members ≡ members_written table.now types.now) }
+    ensures put { OnOk result (into.new.items ≡ into.old.items ++ unions_said table.now types.now) }
+{
+    let members = members_by(alloc, table, written, known, types)?;
+    match types {
+        [] => {}
+        [first, ..] => put_members(first.at, &members, into)?,
+    }
+    Ok(members)
+}
+
+/// The numbers of these types, each once: those of the types that are written for the word in front, where they are the same.
+fn members_by(
+    alloc: Global,
+    table: &TypeTable,
+    written: &[RawTerm],
+    known: Members,
+    types: &[RawTerm],
+) -> Result<Members, Memory>
+    requires known { known ≡ members_written table.now written.now }
+    ensures members { IfOk result (λ members. members ≡ members_written table.now types.now) }
+{
+    if are_same(written, types) {
+        return Ok(known);
+    }
+    drop(known);
+    let members = table.members(alloc, types)?;
+    Members::new(alloc, members)
+}
+
+fn put_members(at: u32, members: &Members, into: &mut Vec<Either>) -> Result<(), Memory>
+    ensures put { OnOk result
+        (into.new.items ≡ into.old.items ++ union_at at members.now) }
+{
+    match members.as_slice() {
+        [] | [_] => Ok(()),
+        _ => {
+            let members = members.share()?;
+            into.push(Either { at, members })?;
+            Ok(())
+        }
+    }
 }
 
 /// Puts the unions of a formula's quantifiers behind the others.

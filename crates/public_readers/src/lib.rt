@@ -9,6 +9,8 @@ mod classical_plans;
 #[cfg(test)]
 mod definitions;
 #[cfg(test)]
+mod faults;
+#[cfg(test)]
 mod forms;
 #[cfg(test)]
 mod readings;
