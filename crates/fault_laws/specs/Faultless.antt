@@ -7,21 +7,22 @@ use Rattle.plan_texts.specs.FirstSeen.{IsHddlOf}
 use Rattle.plan_texts.specs.SoundProblem.{IsSoundProblem}
 use Rattle.plan_meaning.specs.Laws.{AreOrdered}
 use Rattle.gd_reader.specs.Terms.{Names}
+use Rattle.hddl_reader.specs.declared.sections.Language.{Language}
 use Rattle.hddl_reader.specs.declared.sections.Language.TheVariants as language
 use Rattle.hddl_reader.specs.declared.sections.RawDomain.{RawDomain}
 use Rattle.hddl_reader.specs.declared.sections.RawProblem.{RawProblem}
 use Rattle.name_faults.specs.Faults.{HasDomainFault, HasProblemFault, HasNoFault}
 use Rattle.form_spellings.specs.ReadTexts.{AreRead}
 
--- The texts have no fault of tokens, are read as a domain and a problem, and their names have no fault.
-pub record AreFaultless (domain problem : List ℕ) : Type 0 where
+-- The texts of a language have no fault of tokens, are read as a domain and a problem, and their names have no fault.
+pub record AreFaultless (l : Language) (domain problem : List ℕ) : Type 0 where
   pub domain_tokens : IsFaultless domain
   pub problem_tokens : IsFaultless problem
   pub table : Names
   pub d : RawDomain
   pub p : RawProblem
-  pub read : AreRead domain problem table d p
-  pub domain_names : HasNoFault (HasDomainFault language.Hddl table d)
+  pub read : AreRead l domain problem table d p
+  pub domain_names : HasNoFault (HasDomainFault l table d)
   pub problem_names : HasNoFault (HasProblemFault table d p)
 
 -- object, and at most 1,000 other types
@@ -30,4 +31,4 @@ HasFewTypes h = length h.types.names ≤ 1001
 
 -- what spells a sound value whose networks have no cycle and that has few types is faultless
 abbrev pub SpelledTextsAreFaultless : Type 0
-SpelledTextsAreFaultless = (domain problem : List ℕ) (h : Hddl) → IsHddlOf domain problem h → IsSoundProblem h → AreOrdered h → HasFewTypes h → AreFaultless domain problem
+SpelledTextsAreFaultless = (domain problem : List ℕ) (h : Hddl) → IsHddlOf domain problem h → IsSoundProblem h → AreOrdered h → HasFewTypes h → AreFaultless language.Hddl domain problem

@@ -6,6 +6,7 @@ use Rattle.plan_texts.specs.FirstSeen.{first_unions, IsHddlOf}
 use Rattle.plan_texts.specs.SpellsHddl.{hddl_types, hddl_unions}
 use Rattle.plan_model.specs.declared.values.Hddl.{Hddl}
 use Rattle.gd_reader.specs.Terms.{Names}
+use Rattle.hddl_reader.specs.declared.sections.Language.TheVariants as language
 use Rattle.hddl_reader.specs.declared.sections.RawDomain.{RawDomain}
 use Rattle.hddl_reader.specs.declared.sections.RawProblem.{RawProblem}
 use Rattle.form_spellings.specs.BoundTexts.{IsBoundHddl}
@@ -27,5 +28,5 @@ pub record IsBoundInOrder (table : Names) (d : RawDomain) (p : RawProblem) (h : 
 
 abbrev pub BoundHddlIsOfTexts : Type 0
 BoundHddlIsOfTexts =
-    (domain problem : List ℕ) (table : Names) (d : RawDomain) (p : RawProblem) → AreRead domain problem table d p
+    (domain problem : List ℕ) (table : Names) (d : RawDomain) (p : RawProblem) → AreRead language.Hddl domain problem table d p
     → IsFaultless domain → IsFaultless problem → (h : Hddl) → IsBoundHddl table d p h → IsBoundInOrder table d p h → IsHddlOf domain problem h

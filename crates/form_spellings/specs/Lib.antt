@@ -29,3 +29,4 @@ pub mod Written
 pub mod SeenInOrder
 pub mod TypeOrder
 pub mod HddlInOrder
+pub mod PddlTexts

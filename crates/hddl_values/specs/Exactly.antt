@@ -1,6 +1,7 @@
 -- Two texts that spell a sound value have no fault.
 -- Source: this project's.
 use Rattle.std.specs.Prelude.{ℕ, List}
+use Rattle.hddl_reader.specs.declared.sections.Language.TheVariants as language
 use Rattle.plan_model.specs.declared.values.Hddl.{Hddl}
 use Rattle.plan_texts.specs.FirstSeen.{IsHddlOf}
 use Rattle.plan_texts.specs.SoundProblem.{IsSoundProblem}
@@ -10,4 +11,4 @@ use Rattle.hddl_values.specs.TextFaults.{HaveNoFault}
 
 -- whatever value they spell, where it is sound, its networks have no cycle, and it has at most 1,000 types beside object
 abbrev pub SpelledHaveNoFault : Type 0
-SpelledHaveNoFault = (domain problem : List ℕ) (h : Hddl) → IsHddlOf domain problem h → IsSoundProblem h → AreOrdered h → HasFewTypes h → HaveNoFault domain problem
+SpelledHaveNoFault = (domain problem : List ℕ) (h : Hddl) → IsHddlOf domain problem h → IsSoundProblem h → AreOrdered h → HasFewTypes h → HaveNoFault language.Hddl domain problem
