@@ -4,7 +4,8 @@ use Rattle.std.specs.Prelude.{ℕ, List}
 use Rattle.text_forms.specs.Faults.{IsFaultless}
 use Rattle.hddl_reader.specs.declared.sections.Language.TheVariants as language
 use Rattle.plan_model.specs.declared.values.Hddl.{Hddl}
-use Rattle.form_spellings.specs.PddlTexts.{IsPddlOf, IsSoundPddl, without_tasks}
+use Rattle.form_spellings.specs.PddlTexts.{IsPddlOf, without_tasks}
+use Rattle.form_spellings.specs.SoundPddl.{IsSoundPddl}
 use Rattle.binding_laws.specs.SoundValues.{IsBoundOf}
 
 -- of texts without a bad byte: what is bound, without the tasks, methods and network that it lacks

@@ -30,3 +30,4 @@ pub mod SeenInOrder
 pub mod TypeOrder
 pub mod HddlInOrder
 pub mod PddlTexts
+pub mod SoundPddl

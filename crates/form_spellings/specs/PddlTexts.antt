@@ -1,14 +1,12 @@
 -- The value of two PDDL texts: types, pairs and unions in the order in which the texts first name them.
 -- Source: this project's.
-use Rattle.std.specs.Prelude.{ℕ, ◌≡◌, true, List, map, codes}
+use Rattle.std.specs.Prelude.{ℕ, ◌≡◌, List, codes}
 use Rattle.text_forms.specs.Faults.{IsFaultless}
 use Rattle.text_forms.specs.Lists.{Parts}
 use Rattle.plan_texts.specs.Declared.{union_words}
 use Rattle.plan_texts.specs.FirstSeen.{types_in_order, pairs_in_order, unions_in_order}
-use Rattle.plan_texts.specs.PrintableValue.{IsPrintable}
 use Rattle.plan_texts.specs.Sections.{section, parts_in}
 use Rattle.plan_texts.specs.SpellsPddl.{pddl_types, SpellsPddl}
-use Rattle.plan_model.specs.declared.types.Object.{Object}
 use Rattle.plan_model.specs.declared.values.Hddl.{Hddl}
 use Rattle.plan_model.specs.declared.values.Pddl.{Pddl}
 
@@ -23,27 +21,6 @@ pub record IsPddlOf (domain problem : List ℕ) (c : Pddl) : Type 0 where
   pub problem_faultless : IsFaultless problem
   pub spelled : SpellsPddl domain problem c
   pub ordered : IsPddlInOrder c spelled.domain_sections spelled.problem_sections
-
-abbrev pub as_constant : Object → Object
-as_constant x = record { name = x.name; ty = x.ty; constant = true }
-
--- the same value, with all objects declared in its domain
-abbrev pub with_constants : Pddl → Pddl
-with_constants c = record {
-  names = c.names;
-  domain = c.domain;
-  problem = c.problem;
-  types = c.types;
-  objects = map as_constant c.objects;
-  predicates = c.predicates;
-  actions = c.actions;
-  init = c.init;
-  goal = c.goal;
-}
-
--- What is asked of a PDDL value that was read: it can be printed once its objects are constants, as all objects of a printed value are.
-abbrev pub IsSoundPddl : Pddl → Type 0
-IsSoundPddl c = IsPrintable (with_constants c)
 
 -- what a value says without its tasks and methods
 abbrev pub without_tasks : Hddl → Pddl

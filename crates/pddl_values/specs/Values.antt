@@ -3,7 +3,8 @@
 use Rattle.std.specs.Prelude.{ℕ, List}
 use Rattle.hddl_reader.specs.declared.sections.Language.TheVariants as language
 use Rattle.plan_model.specs.declared.values.Pddl.{Pddl}
-use Rattle.form_spellings.specs.PddlTexts.{IsPddlOf, IsSoundPddl}
+use Rattle.form_spellings.specs.PddlTexts.{IsPddlOf}
+use Rattle.form_spellings.specs.SoundPddl.{IsSoundPddl}
 use Rattle.sexpr_text.specs.declared.read_error.ReadError.{ReadError}
 use Rattle.hddl_values.specs.TextFaults.{HaveNoFault}
 use Rattle.hddl_values.specs.Values as texts
