@@ -5,6 +5,8 @@
 #![tactic(auto)]
 
 #[cfg(test)]
+mod classical_texts;
+#[cfg(test)]
 mod definitions;
 #[cfg(test)]
 mod files_and_sinks;
