@@ -62,6 +62,7 @@ mod SchemasExact
 mod FactsExact
 mod SectionsExact
 mod TextsExact
+mod NoSections
 mod NetworksRead
 mod SchemasRead
 mod TextsRead

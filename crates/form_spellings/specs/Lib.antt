@@ -31,3 +31,4 @@ pub mod TypeOrder
 pub mod HddlInOrder
 pub mod PddlTexts
 pub mod SoundPddl
+pub mod PddlInOrder
