@@ -1,11 +1,13 @@
 -- Texts without a fault of tokens, of form or of names, in the words of the least fault.
 use Rattle.std.proofs.Common.{ℕ, List}
+use Rattle.hddl_reader.specs.declared.sections.Language.{Language}
+use Rattle.hddl_reader.specs.declared.sections.Language.TheVariants.{Hddl}
 use Rattle.fault_laws.specs.Faultless.{AreFaultless, SpelledTextsAreFaultless}
 use Rattle.hddl_values.specs.TextFaults.{HaveNoFault}
 use Rattle.hddl_values.specs.Exactly.{SpelledHaveNoFault}
 
-have_none : (domain problem : List ℕ) → AreFaultless domain problem → HaveNoFault domain problem
-have_none domain problem f = let r = f.read in record {
+pub have_none : (l : Language) (domain problem : List ℕ) → AreFaultless l domain problem → HaveNoFault l domain problem
+have_none l domain problem f = let r = f.read in record {
   table = f.table;
   d = f.d;
   p = f.p;
@@ -14,4 +16,4 @@ have_none domain problem f = let r = f.read in record {
 }
 
 pub spelled_have_none : SpelledTextsAreFaultless → SpelledHaveNoFault
-spelled_have_none law domain problem h i s ordered few = have_none domain problem (law domain problem h i s ordered few)
+spelled_have_none law domain problem h i s ordered few = have_none Hddl domain problem (law domain problem h i s ordered few)

@@ -15,8 +15,8 @@ use Rattle.binding_laws.proofs.sound.Ordered.{is_ordered_both}
 pub read_values : OfEachWhole (IsDomainRead language) IsDomainAt → OfEachWhole (IsProblemRead language) IsProblemAt
     → OfEachWhole (IsDomainRead language) (λ text. DomainIsInOrder) → OfEachWhole (IsProblemRead language) (λ text. IsProblemInOrder) → ReadValuesAreSound
 read_values domains_at problems_at domains_in_order problems_in_order domain problem h is of = (
-  is_sound_both is.before is.left is.d is.p is.b h in_order is.domain_bound is.problem_bound of_texts is.few_words (let l = has_few_unions domain problem h of in let a = is.domain_short in let c = is.problem_short in omega arith),
-  is_ordered_both is.before is.left is.d is.p is.b h in_order is.domain_bound is.problem_bound,
+  is_sound_both is.before is.left is.d is.p language is.b h in_order is.domain_bound is.problem_bound of_texts is.few_words (let l = has_few_unions domain problem h of in let a = is.domain_short in let c = is.problem_short in omega arith),
+  is_ordered_both is.before is.left is.d is.p language is.b h in_order is.domain_bound is.problem_bound,
 )
   where
     in_order : AreInOrder is.before (with_start is.left) is.d is.p
