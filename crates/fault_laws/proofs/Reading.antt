@@ -51,6 +51,8 @@ use Rattle.form_spellings.specs.SpelledWhole.{HddlDomainsAreWhole, HddlProblemsA
 use Rattle.form_spellings.specs.SpellsSomeSections.{IsDefined}
 use Rattle.form_spellings.proofs.order.Definitions.{domain_types, whole_in_order}
 use Rattle.form_spellings.proofs.order.Lists.{typed_names}
+use Rattle.form_spellings.proofs.TextsRead.{read_of, domain_from, pddl_domain_from}
+use Rattle.name_faults.specs.Faults.{HasDomainFault, HasProblemFault, HasNoFault}
 use Rattle.fault_laws.specs.Faultless.{AreFaultless, HasFewTypes, SpelledHddlIsFaultless, SpelledPddlIsFaultless}
 use Rattle.fault_laws.proofs.Domains.{HasNamedPairs, AreBoundParts, domain_faultless, problem_faultless}
 use Rattle.fault_laws.proofs.Filled.{pairs_named}
@@ -77,71 +79,100 @@ module _ (l : Language) where
   IsWhole d text = Whole (definition_form (language_of l) (kind_of d) (parts_at text 0))
 
   -- what is whole is read, from any table of words
-  read_of : (d : Definition) (names : Names) (text : List ℕ) → IsWhole d text → (x : Name × RawSections) × (left : Names) × IsRead l d names text x left
-  read_of d names text w = go (definition_read l d names (parts_at text 0)) refl (subst Whole (sym (definition_said l d names (parts_at text 0))) w)
+  read_whole : (d : Definition) (names : Names) (text : List ℕ) → IsWhole d text → (x : Name × RawSections) × (left : Names) × IsRead l d names text x left
+  read_whole d names text w = go (definition_read l d names (parts_at text 0)) refl (subst Whole (sym (definition_said l d names (parts_at text 0))) w)
     where
       go : (r : Result ((Name × RawSections) × Names) Stop) → definition_read l d names (parts_at text 0) ≡ r → Whole (said r) → (x : Name × RawSections) × (left : Names) × IsRead l d names text x left
       go (Ok x) e k = (x.0, x.1, is_read l names text d x.0 x.1 e)
       go (Err Ends) e k = absurd k
       go (Err (Departs code at)) e k = absurd k
 
-  module _ (problems_keep : KeepsWords (IsProblemRead l)) (domains_at : OfEachWhole (IsDomainRead l) IsDomainAt) (problems_at : OfEachWhole (IsProblemRead l) IsProblemAt) where
-    -- two whole texts are faultless where what is read of them is bound to a sound value
-    whole_are_faultless : (domain problem : List ℕ) → IsFaultless domain → IsFaultless problem → IsWhole definition.Domain domain → IsWhole definition.Problem problem
-        → (h : Hddl) → IsSoundAtAnyLength h → HasFewTypes l h.types → ((table : Names) (d : RawDomain) (p : RawProblem) → AreRead l domain problem table d p → AreBoundTo table d p h)
+  module _ (domains_at : OfEachWhole (IsDomainRead l) IsDomainAt) (problems_at : OfEachWhole (IsProblemRead l) IsProblemAt) (h : Hddl) (s : IsSoundAtAnyLength h) (few : HasFewTypes l h.types) where
+    -- a domain that was read of a text, in a table that keeps its words
+    module _ (text : List ℕ) (before behind table : Names) (d : RawDomain) (r : IsDomainRead l before text (d, behind)) (keeps : Keeps behind table) where
+      one_type : EachIs HasOneType d.types
+      one_type =
+          let types = typed_names table list_kind.Types (domain_of r.0).types refl (domain_types r.0 table (whole_in_order l definition.Domain text before behind table r.0 r.2 keeps)) in
+          subst (λ (d : RawDomain). EachIs HasOneType d.types) (sym r.1) (each_more (IsTypedName table) HasOneType (domain_of r.0).types (λ x t. t.one_type) types)
+
+      named_pairs : EachIs (λ (m : RawMethod). HasNamedPairs table m.net) d.methods
+      named_pairs =
+          let placed = domains_at text before table (d, behind) r keeps in
+          each_more (OfMethod (IsNameAt text table) (OpensWith text)) (λ (m : RawMethod). HasNamedPairs table m.net) d.methods (λ m o. pairs_named text table m.net o.3) placed.methods
+
+      domain_named : (cs others : List Object) → h.objects ≡ cs ++ others → IsBoundDomain table d (hddl_domain h cs) → HasNoFault (HasDomainFault l table d)
+      domain_named cs others objects b = domain_faultless table d h cs b s others objects l few one_type named_pairs
+
+    problem_named : (domain problem : List ℕ) (table : Names) (d : RawDomain) (p : RawProblem) → AreRead l domain problem table d p → AreBoundTo table d p h → HasNoFault (HasProblemFault table d p)
+    problem_named domain problem table d p r b =
+        let placed = problems_at problem r.before_problem table (p, r.behind_problem) r.problem_read r.keeps_problem in
+        problem_faultless table d h b.constants b.in_domain s b.others b.objects l few
+        (one_type domain r.before_domain r.behind_domain table d r.domain_read r.keeps_domain) (named_pairs domain r.before_domain r.behind_domain table d r.domain_read r.keeps_domain)
+        p b.in_problem (pairs_named problem table p.net placed.net)
+
+    -- two whole texts are faultless where what is read of them is bound to the value
+    whole_are_faultless : KeepsWords (IsProblemRead l) → (domain problem : List ℕ) → IsFaultless domain → IsFaultless problem → IsWhole definition.Domain domain → IsWhole definition.Problem problem
+        → (cs others : List Object) → h.objects ≡ cs ++ others
+        → ((before behind table : Names) (d : RawDomain) → IsDomainRead l before domain (d, behind) → Keeps behind table → IsBoundDomain table d (hddl_domain h cs))
+        → ((table : Names) (d : RawDomain) (p : RawProblem) → AreRead l domain problem table d p → AreBoundTo table d p h)
         → AreFaultless l domain problem
-    whole_are_faultless domain problem domain_tokens problem_tokens dw pw h s few bound =
-        let dr = read_of definition.Domain [] domain dw in
-        let pr = read_of definition.Problem dr.1 problem pw in
-        let table = pr.1 in
-        let d = domain_of dr.0 in
+    whole_are_faultless problems_keep domain problem domain_tokens problem_tokens dw pw cs others objects domain_bound bound =
+        let dr = read_whole definition.Domain [] domain dw in
+        let pr = read_whole definition.Problem dr.1 problem pw in
         let p = problem_of pr.0 in
-        let was_read : IsDomainRead l [] domain (d, dr.1) = (dr.0, refl, dr.2) in
         let then_read : IsProblemRead l dr.1 problem (p, pr.1) = (pr.0, refl, pr.2) in
-        let keeps : Keeps dr.1 table = problems_keep problem dr.1 (p, pr.1) then_read in
-        let read : AreRead l domain problem table d p = record { before_domain = []; behind_domain = dr.1; domain_read = was_read; keeps_domain = keeps; before_problem = dr.1; behind_problem = pr.1; problem_read = then_read; keeps_problem = keeps_same table } in
-        let b = bound table d p read in
-        let types = typed_names table list_kind.Types d.types refl (domain_types dr.0 table (whole_in_order l definition.Domain domain [] dr.1 table dr.0 dr.2 keeps)) in
-        let one : EachIs HasOneType d.types = each_more (IsTypedName table) HasOneType d.types (λ x t. t.one_type) types in
-        let placed = domains_at domain [] table (d, dr.1) was_read keeps in
-        let pairs : EachIs (λ (m : RawMethod). HasNamedPairs table m.net) d.methods = each_more (OfMethod (IsNameAt domain table) (OpensWith domain)) (λ (m : RawMethod). HasNamedPairs table m.net) d.methods (λ m o. pairs_named domain table m.net o.3) placed.methods in
-        let placed_problem = problems_at problem dr.1 table (p, pr.1) then_read (keeps_same table) in
         record {
           domain_tokens = domain_tokens;
           problem_tokens = problem_tokens;
-          table = table;
-          d = d;
+          table = pr.1;
+          d = domain_of dr.0;
           p = p;
-          read = read;
-          domain_names = domain_faultless table d h b.constants b.in_domain s b.others b.objects l few one pairs;
-          problem_names = problem_faultless table d h b.constants b.in_domain s b.others b.objects l few one pairs p b.in_problem (pairs_named problem table p.net placed_problem.net);
+          read = record {
+            before_domain = [];
+            behind_domain = dr.1;
+            domain_read = (dr.0, refl, dr.2);
+            keeps_domain = problems_keep problem dr.1 (p, pr.1) then_read;
+            before_problem = dr.1;
+            behind_problem = pr.1;
+            problem_read = then_read;
+            keeps_problem = keeps_same pr.1;
+          };
+          domain_names = λ before behind table d r keeps. domain_named domain before behind table d r keeps cs others objects (domain_bound before behind table d r keeps);
+          problem_names = λ table d p r. problem_named domain problem table d p r (bound table d p r);
         }
 
 module _ (whole_domains : HddlDomainsAreWhole) (whole_problems : HddlProblemsAreWhole) (bound : SpelledHddlIsBound) (problems_keep : KeepsWords (IsProblemRead language.Hddl))
     (domains_at : OfEachWhole (IsDomainRead language.Hddl) IsDomainAt) (problems_at : OfEachWhole (IsProblemRead language.Hddl) IsProblemAt) where
   pub hddl_faultless : SpelledHddlIsFaultless
-  hddl_faultless domain problem h c shallow_domain shallow_problem sound ordered few =
+  hddl_faultless domain problem h i shallow_domain shallow_problem sound ordered few =
       let s = sound_hddl h sound ordered in
-      let texts = c.texts in
-      let in_domain = c.sections.in_domain in
-      let in_problem = c.sections.in_problem in
-      let cs = c.sections.constants in
-      let others = c.sections.others in
-      let dw = whole_domains (hddl_domain h cs) (parts_at domain 0) (declares_once h s cs) (defined_of (codes "domain") domain (named h.names h.domain) texts.domain_sections _ texts.domain_text in_domain) in
-      let pw = whole_problems (hddl_words h) (task_words h) (action_words h) (hddl_problem h others) h.top (parts_at problem 0) (formula_fresh (hddl_words h) (hddl_words h) refl (arities h) h.goal [] s.value.goal)
-      s.value.top.params.1 (defined_of (codes "problem") problem (named h.names h.problem) texts.problem_sections _ texts.problem_text in_problem) in
-      whole_are_faultless language.Hddl problems_keep domains_at problems_at domain problem
-      (definition_faultless (codes "domain") domain (named h.names h.domain) texts.domain_sections texts.domain_text shallow_domain)
-      (definition_faultless (codes "problem") problem (named h.names h.problem) texts.problem_sections texts.problem_text shallow_problem) dw pw h s few
+      let texts = i.texts in
+      let dt = texts.domain_text in
+      let pt = texts.problem_text in
+      let dw = named h.names h.domain in
+      let pw = named h.names h.problem in
+      let in_domain = i.sections.in_domain in
+      let cs = i.sections.constants in
+      let others = i.sections.others in
+      let x = hddl_domain h cs in
+      whole_are_faultless language.Hddl domains_at problems_at h s few problems_keep domain problem
+      (definition_faultless (codes "domain") domain dw texts.domain_sections dt shallow_domain)
+      (definition_faultless (codes "problem") problem pw texts.problem_sections pt shallow_problem)
+      (whole_domains x (parts_at domain 0) (declares_once h s cs) (defined_of (codes "domain") domain dw texts.domain_sections _ dt in_domain))
+      (whole_problems (hddl_words h) (task_words h) (action_words h) (hddl_problem h others) h.top (parts_at problem 0) (formula_fresh (hddl_words h) (hddl_words h) refl (arities h) h.goal [] s.value.goal)
+      s.value.top.params.1 (defined_of (codes "problem") problem pw texts.problem_sections _ pt i.sections.in_problem)) cs others i.sections.objects
+      (λ before behind table d r keeps.
+        let hd = read_of language.Hddl definition.Domain (codes "domain") domain before behind table r.0 r.2 keeps dw texts.domain_sections dt in
+        subst (λ d. IsBoundDomain table d x) (sym r.1) (domain_from r.0.0 r.0.1 texts.domain_sections table hd.1 x in_domain))
       (λ table d p read.
-        let b = bound domain problem table d p read h c in
-        let i = b.in_problem in
+        let b = bound domain problem table d p read h i in
+        let k = b.in_problem in
         record {
           constants = b.constants;
           others = b.others;
           objects = b.objects;
           in_domain = b.in_domain;
-          in_problem = record { objects = i.objects; init = i.init; goal = i.goal; params = i.top.params_bound; network = i.top.network };
+          in_problem = record { objects = k.objects; init = k.init; goal = k.goal; params = k.top.params_bound; network = k.top.network };
         })
 
 module _ (whole_domains : PddlDomainsAreWhole) (whole_problems : PddlProblemsAreWhole) (bound : SpelledPddlIsBound) (problems_keep : KeepsWords (IsProblemRead language.Pddl))
@@ -151,16 +182,23 @@ module _ (whole_domains : PddlDomainsAreWhole) (whole_problems : PddlProblemsAre
       let h = as_hddl c in
       let s = sound_pddl c sound in
       let texts = i.texts in
+      let dt = texts.domain_text in
+      let pt = texts.problem_text in
+      let dw = named c.names c.domain in
+      let pw = named c.names c.problem in
       let in_domain = i.sections.in_domain in
-      let in_problem = i.sections.in_problem in
       let cs = i.sections.constants in
       let others = i.sections.others in
-      let dw = whole_domains (pddl_domain c cs) (parts_at domain 0) (declares_once h s cs) (defined_of (codes "domain") domain (named c.names c.domain) texts.domain_sections _ texts.domain_text in_domain) in
-      let pw = whole_problems (pddl_words c) (pddl_problem c others) (parts_at problem 0) (formula_fresh (pddl_words c) (pddl_words c) refl (arities h) c.goal [] s.value.goal)
-      (defined_of (codes "problem") problem (named c.names c.problem) texts.problem_sections _ texts.problem_text in_problem) in
-      whole_are_faultless language.Pddl problems_keep domains_at problems_at domain problem
-      (definition_faultless (codes "domain") domain (named c.names c.domain) texts.domain_sections texts.domain_text shallow_domain)
-      (definition_faultless (codes "problem") problem (named c.names c.problem) texts.problem_sections texts.problem_text shallow_problem) dw pw h s few
+      let x = pddl_domain c cs in
+      whole_are_faultless language.Pddl domains_at problems_at h s few problems_keep domain problem
+      (definition_faultless (codes "domain") domain dw texts.domain_sections dt shallow_domain)
+      (definition_faultless (codes "problem") problem pw texts.problem_sections pt shallow_problem)
+      (whole_domains x (parts_at domain 0) (declares_once h s cs) (defined_of (codes "domain") domain dw texts.domain_sections _ dt in_domain))
+      (whole_problems (pddl_words c) (pddl_problem c others) (parts_at problem 0) (formula_fresh (pddl_words c) (pddl_words c) refl (arities h) c.goal [] s.value.goal)
+      (defined_of (codes "problem") problem pw texts.problem_sections _ pt i.sections.in_problem)) cs others i.sections.objects
+      (λ before behind table d r keeps.
+        let hd = read_of language.Pddl definition.Domain (codes "domain") domain before behind table r.0 r.2 keeps dw texts.domain_sections dt in
+        subst (λ d. IsBoundDomain table d x) (sym r.1) (pddl_domain_from r.0.0 r.0.1 texts.domain_sections table hd.1 c cs in_domain))
       (λ table d p read.
         let b = bound domain problem table d p read c i in
         let k = b.in_problem in

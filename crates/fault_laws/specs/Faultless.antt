@@ -9,17 +9,19 @@ use Rattle.plan_texts.specs.SoundProblem.{IsSoundProblem}
 use Rattle.plan_texts.specs.SpellsHddl.{SpellsHddl}
 use Rattle.plan_texts.specs.SpellsPddl.{SpellsPddl}
 use Rattle.plan_meaning.specs.Laws.{AreOrdered}
-use Rattle.gd_reader.specs.Terms.{Names}
+use Rattle.gd_reader.specs.Terms.{Names, Keeps}
 use Rattle.hddl_reader.specs.declared.sections.Language.{Language}
 use Rattle.hddl_reader.specs.declared.sections.Language.TheVariants as language
 use Rattle.hddl_reader.specs.declared.sections.RawDomain.{RawDomain}
 use Rattle.hddl_reader.specs.declared.sections.RawProblem.{RawProblem}
+use Rattle.hddl_reader.specs.Definitions.{IsDomainRead}
 use Rattle.name_faults.specs.Faults.{HasDomainFault, HasProblemFault, HasNoFault}
 use Rattle.name_faults.specs.Types.{most_types}
 use Rattle.form_spellings.specs.ReadTexts.{AreRead}
 use Rattle.form_spellings.specs.SoundPddl.{IsSoundPddl}
 
--- The texts have no fault of tokens, are read as a domain and a problem, and their names have no fault.
+-- The texts have no fault of tokens and are read as a domain and a problem, whose names have no fault, in whatever table of words they
+-- are read.
 pub record AreFaultless (l : Language) (domain problem : List ℕ) : Type 0 where
   pub domain_tokens : IsFaultless domain
   pub problem_tokens : IsFaultless problem
@@ -27,8 +29,8 @@ pub record AreFaultless (l : Language) (domain problem : List ℕ) : Type 0 wher
   pub d : RawDomain
   pub p : RawProblem
   pub read : AreRead l domain problem table d p
-  pub domain_names : HasNoFault (HasDomainFault l table d)
-  pub problem_names : HasNoFault (HasProblemFault table d p)
+  pub domain_names : (before behind table : Names) (d : RawDomain) → IsDomainRead l before domain (d, behind) → Keeps behind table → HasNoFault (HasDomainFault l table d)
+  pub problem_names : (table : Names) (d : RawDomain) (p : RawProblem) → AreRead l domain problem table d p → HasNoFault (HasProblemFault table d p)
 
 -- object, and at most so many other types as a domain of the language may have
 abbrev pub HasFewTypes : Language → Types → Type 0
