@@ -1,4 +1,4 @@
--- What is asked of a PDDL value that was read: all that lets it be printed, but that its objects are constants; and its limits.
+-- What is asked of a PDDL value that was read.
 -- Source: this project's.
 use Rattle.std.specs.Prelude.{ℕ, ◌≡◌, ◌<◌, ◌≤◌, ◌^◌, [], map, length, codes}
 use Rattle.htn_base.specs.Different.{AreDifferent}
@@ -18,17 +18,7 @@ use Rattle.plan_model.specs.declared.types.Object.{Object}
 use Rattle.plan_model.specs.declared.types.Parent.{Parent}
 use Rattle.plan_model.specs.declared.values.Pddl.{Pddl}
 
-pub record IsWithinLimits (c : Pddl) : Type 0 where
-  pub names : length c.names ≤ 2 ^ 26
-  pub types : length c.types.names ≤ 1003
-  pub unions : IsShort c.types.unions
-  pub objects : IsShort c.objects
-  pub predicates : IsShort c.predicates
-  pub actions : IsShort c.actions
-  pub init : IsShort c.init
-  pub predicate_params : EachIs (λ (d : Predicate). IsShort d.params) c.predicates
-  pub action_params : EachIs (λ (a : ActionSchema). IsShort a.params) c.actions
-
+-- all that lets the value be printed, but that its objects are constants
 pub record IsSoundPddl (c : Pddl) : Type 0 where
   pub domain : IsPlain (named c.names c.domain)
   pub problem : IsPlain (named c.names c.problem)
@@ -46,4 +36,19 @@ pub record IsSoundPddl (c : Pddl) : Type 0 where
   pub eff : EachIs (λ (a : ActionSchema). IsSoundEffect (pddl_words c) (arities_of c) a.eff (map (variable (pddl_words c)) a.params)) c.actions
   pub init : EachIs (λ (g : GroundAtom). IsSoundAtom (pddl_words c) (arities_of c) [] g.predicate (map Obj g.args)) c.init
   pub goal : IsSound (pddl_words c) (arities_of c) c.goal []
+
+pub record IsWithinLimits (c : Pddl) : Type 0 where
+  pub names : length c.names ≤ 2 ^ 26
+  pub types : length c.types.names ≤ 1003
+  pub unions : IsShort c.types.unions
+  pub objects : IsShort c.objects
+  pub predicates : IsShort c.predicates
+  pub actions : IsShort c.actions
+  pub init : IsShort c.init
+  pub predicate_params : EachIs (λ (d : Predicate). IsShort d.params) c.predicates
+  pub action_params : EachIs (λ (a : ActionSchema). IsShort a.params) c.actions
+
+-- and it is within limits
+pub record IsSoundClassical (c : Pddl) : Type 0 where
+  pub value : IsSoundPddl c
   pub limits : IsWithinLimits c
