@@ -1,6 +1,6 @@
 #!/usr/bin/env bash
 # Times the whole program on the smallest problem at growing numbers of slots, in both styles and both modes of checks, and on a domain
-# with so many actions that a text is long, or too long. Wants ./htn, as examples/first/run leaves it. A line each: what the program
+# with so many actions that a text is long, or too long. Wants ./htn, as examples/transport/run leaves it. A line each: what the program
 # told, seconds, kilobytes of memory at most, bytes of the two texts.
 set -euo pipefail
 top=$(cd "$(dirname "$0")/.." && pwd)

@@ -1,13 +1,14 @@
 -- Sets that are closed child by child along the line.
-use Rattle.std.proofs.Common.{ℕ, ◌≡◌, ◌+◌, ◌<◌, ◌≤◌, ◌↔◌, ◌⊎◌, ◌||◌, inl, inr, List, [], ◌∷◌, ◌++◌, length, Bool, true, false, IsTrue, Contains, take, drop, get_or, set, refl, sym, subst, ap, ◌∙◌, arith, take-append-drop, append_assoc}
+use Rattle.std.proofs.Common.{ℕ, ◌≡◌, ◌+◌, ◌<◌, ◌≤◌, ◌↔◌, ◌⊎◌, ◌||◌, inl, inr, List, [], ◌∷◌, ◌++◌, length, Bool, true, false, IsTrue, Contains, take, drop, get_or, set, refl, sym, subst, ap, ◌∙◌, arith, take-append-drop, append_assoc, get_or-take, length-take-le}
 use Rattle.std.proofs.lemmas.List.{take_more, drop_more, take_all, get_or_default}
 use Rattle.std.proofs.lemmas.List.Elements.{Contains-get_or, Contains-append_left, Contains-push, Contains-push_cases}
-use Rattle.std.proofs.lemmas.Bool.{cases_eq, true≢false, or_cases, or_left, or_right}
+use Rattle.std.proofs.lemmas.Bool.{cases_eq, cases_lt, true≢false, or_cases, or_left, or_right}
 use Rattle.task_networks.specs.Order.{Precedes, direct, through, IsNext, IsLine}
 use Rattle.task_networks.proofs.Orders.{precedes_then, last_pair}
 use Rattle.task_networks.proofs.Lists.{not-in_empty}
 use Rattle.net_order.specs.Marks.{has, marked, Marked, IsSquare, IsClosedOn, IsGathered}
 use Rattle.net_order.specs.Line.{IsClosed}
+use Rattle.net_order.specs.Outside.{AreWithinFrom}
 use Rattle.net_order.proofs.Closures.{has_added}
 use Rattle.net_order.proofs.Lines.{listed_before}
 use Rattle.net_order.proofs.Adding.{set_at, set_apart, square_set}
@@ -37,6 +38,20 @@ module _ (before : List (List Bool)) (earlier : List ℕ) (child : ℕ) where
           let t : IsTrue (has s i) = subst (λ y. IsTrue (has s y)) f (h.done r (omega arith) l (subst (λ y. Marked before y child) (sym f) m)) in
           elim x [ inl g ↦ subst (λ y. IsTrue (has s y)) (sym g) t | inr g ↦ h.down a i t g ]
 
+  -- where none of the first n from place m on is left
+  pub gathered_from : (n m : ℕ) (s : List Bool) → n ≤ length earlier → IsGatheredFrom before earlier child n s → AreWithinFrom m (take n earlier) (get_or before child []) s → IsGatheredFrom before earlier child m s
+  gathered_from n m s k h within = record { room = h.room; sound = h.sound; down = h.down; done = done }
+    where
+      done : (r : ℕ) → m ≤ r → r < length earlier → Marked before (get_or earlier r 0) child → IsTrue (has s (get_or earlier r 0))
+      done r a b t = elim (cases_lt r n) [
+        | inl l ↦ (
+            let e = get_or-take n earlier r 0 l in
+            let f = length-take-le n earlier k in
+            subst (λ x. IsTrue (has s x)) e (within r a (omega (arith, f)) (subst (λ x. Marked before x child) (sym e) t))
+            )
+        | inr l ↦ h.done r l b t
+      ]
+
   module _ (p : ℕ) (l : p < length earlier) (s : List Bool) (h : IsGatheredFrom before earlier child (p + 1) s) where
     abbrev other : ℕ
     other = get_or earlier p 0
@@ -47,9 +62,6 @@ module _ (before : List (List Bool)) (earlier : List ℕ) (child : ℕ) where
       | inl e ↦ subst (λ x. Marked before (get_or earlier x 0) child → IsTrue (has s' (get_or earlier x 0))) (sym e) f m
       | inr d ↦ keeps (get_or earlier r 0) (h.done r (omega arith) b m)
     ]
-
-    pub gathered_left : (Marked before other child → IsTrue (has s other)) → IsGatheredFrom before earlier child p s
-    gathered_left f = record { room = h.room; sound = h.sound; down = h.down; done = done_more s (λ a t. t) f }
 
     pub gathered_more : IsClosedOn before earlier → Marked before other child → (s' : List Bool) → length s' ≡ length before
         → ((a : ℕ) → IsTrue (has s' a) ↔ ((a ≡ other) ⊎ (IsTrue (has s a) ⊎ Marked before a other))) → IsGatheredFrom before earlier child p s'

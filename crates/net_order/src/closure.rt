@@ -2,6 +2,7 @@ ghost use Rattle.std.specs.Prelude.{◌≡◌, ℕ, ◌<◌, All, length, IfOk, 
 ghost use Rattle.task_networks.specs.Order.{IsLine};
 ghost use Rattle.net_order.specs.Marks.{Marked, IsSquare, IsClosedOn, IsGathered};
 ghost use Rattle.net_order.specs.Line.{IsClosed};
+ghost use Rattle.net_order.specs.Outside.{IsLastOutsideOrNone};
 
 use crate::child_set::ChildSet;
 use htn_base::Memory;
@@ -37,12 +38,29 @@ fn gather(
     ensures gathered { IfOk result (IsGathered before.now earlier.now child) }
 {
     let mut set = ChildSet::new(alloc, before.len())?;
-    for p in (0..earlier.len()).rev() {
+    let mut end = earlier.len();
+    while let Some(p) = last_outside(&before[child], &set, &earlier[..end]) {
         let other = earlier[p] as usize;
-        if before[child].contains(other) && !set.contains(other) {
-            set.insert_all(&before[other]);
-            set.insert(other);
-        }
+        set.insert_all(&before[other]);
+        set.insert(other);
+        end = p;
     }
     Ok(set)
+}
+
+/// The last place whose child is in the set of direct predecessors and not in the other one. `None` where there is
+/// none; where no direct predecessor is outside, no place is looked at.
+fn last_outside(direct: &ChildSet, set: &ChildSet, children: &[u32]) -> Option<usize>
+    requires room { length set.now ≡ length direct.now }
+    requires children { All (λ i. i < length direct.now) children.now }
+    ensures last { IsLastOutsideOrNone direct.now set.now children.now result }
+{
+    direct.first_outside(set, 0)?;
+    for p in (0..children.len()).rev() {
+        let child = children[p] as usize;
+        if direct.contains(child) && !set.contains(child) {
+            return Some(p);
+        }
+    }
+    None
 }

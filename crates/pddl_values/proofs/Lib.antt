@@ -1,1 +1,2 @@
 mod PddlTexts
+mod Exactly

@@ -5,6 +5,8 @@
 //! and it is sound. Else it answers their least fault, by file, phase, offset and code.
 #![tactic(auto)]
 
+mod laws;
 mod values;
 
+pub use laws::{printed_texts_are_read_again, spelled_pddl_has_no_fault};
 pub use values::pddl_of;

@@ -1,17 +1,11 @@
-//! Tests of calls that crates make public: each call that may want memory is made once with ample memory, and its answer compared
-//! with one that is known from outside of the program.
+//! Tests of calls that crates make public, but those that read texts: each call that may want memory is made once with ample memory,
+//! and its answer compared with one that is known from outside of the program.
 //!
 //! It stands on the crates that it tests, a file for each, and nothing stands on it. A test here costs no crate below a second proof.
 #![tactic(auto)]
 
 #[cfg(test)]
-mod classical_texts;
-#[cfg(test)]
-mod definitions;
-#[cfg(test)]
 mod files_and_sinks;
-#[cfg(test)]
-mod forms;
 #[cfg(test)]
 mod methods;
 #[cfg(test)]
@@ -21,10 +15,6 @@ mod order_formulas;
 #[cfg(test)]
 mod orders;
 #[cfg(test)]
-mod readings;
-#[cfg(test)]
 mod scopes;
-#[cfg(test)]
-mod tokens;
 #[cfg(test)]
 mod values;

@@ -1,0 +1,72 @@
+#!/usr/bin/env bash
+# Times the whole program from files to files on large texts, each beside a copy of the bytes that it wrote: a problem of Transport with
+# 2,000 packages at 4,096 slots, in style adl; one whose printed texts are long, in style flat; a problem text of 16 MiB of facts; and a
+# domain of 500 methods with 40 subtasks each. Wants ./htn, as examples/transport/run leaves it. A line each: what the program told,
+# seconds of the best of five runs, kilobytes of memory at most, bytes read and written, and seconds of a copy of what was written.
+set -euo pipefail
+top=$(cd "$(dirname "$0")/.." && pwd)
+work=$(mktemp -d)
+trap 'rm -rf "$work"' EXIT
+domain=$top/examples/transport/domain.hddl
+
+packages() {
+    echo "(define (problem many) (:domain transport)"
+    echo " (:objects l0 l1 l2 - location v1 v2 - vehicle"
+    for ((k = 0; k < $1; k++)); do echo "  p$k"; done
+    echo "  - package)"
+    echo " (:htn :parameters () :subtasks (and"
+    for ((k = 0; k < $1; k++)); do echo "  (deliver p$k l1)"; done
+    echo "  ))"
+    echo " (:init (road l0 l1) (road l1 l0) (road l1 l2) (road l2 l1) (at v1 l0) (at v2 l2)"
+    for ((k = 0; k < $1; k++)); do echo "  (at p$k l0)"; done
+    echo " ))"
+}
+
+facts() {
+    echo "(define (problem facts) (:domain transport)"
+    echo " (:objects l0 l1 l2 - location v1 v2 - vehicle p1 - package)"
+    echo " (:htn :parameters () :subtasks (deliver p1 l1))"
+    echo " (:init"
+    yes "  (at p1 l0) (at v1 l0) (at v2 l2) (road l0 l1) (road l1 l0) (road l1 l2) (road l2 l1)" | head -n "$1" || true
+    echo " ))"
+}
+
+methods() {
+    echo "(define (domain d) (:predicates (q ?x)) (:action a :parameters (?x) :precondition (q ?x) :effect (not (q ?x)))"
+    for ((k = 0; k < 500; k++)); do
+        echo " (:task t$k :parameters (?x))"
+        echo " (:method m$k :parameters (?x) :task (t$k ?x) :subtasks (and"
+        for ((j = 0; j < 39; j++)); do echo "  (a ?x)"; done
+        if ((k > 0)); then echo "  (t$((k - 1)) ?x)"; else echo "  (a ?x)"; fi
+        echo "  ))"
+    done
+    echo ")"
+}
+
+timed() {
+    local name=$1 best=1000 kilobytes=0
+    shift
+    for run in 1 2 3 4 5; do
+        rm -f "$work/od" "$work/op"
+        /usr/bin/time -o "$work/time" -f "%e %M" "$top/htn" translate "$@" >"$work/told" 2>&1 || true
+        read -r seconds memory < <(tail -n 1 "$work/time")
+        if [ "$(echo "$seconds < $best" | bc)" = 1 ]; then best=$seconds; fi
+        if ((memory > kilobytes)); then kilobytes=$memory; fi
+    done
+    local from to
+    from=$(($(stat -c %s "$1") + $(stat -c %s "$2")))
+    to=$(cat "$work/od" "$work/op" 2>/dev/null | wc -c)
+    cat "$work/od" "$work/op" >"$work/whole" 2>/dev/null || true
+    /usr/bin/time -o "$work/time" -f "%e" cp "$work/whole" "$work/copy"
+    echo "$name: $(cat "$work/told"), $best s, $kilobytes KB, $from bytes read, $to written; a copy $(tail -n 1 "$work/time") s"
+}
+
+packages 2000 >"$work/p2000"
+packages "${FLAT_PACKAGES:-1000}" >"$work/flat"
+facts 187000 >"$work/init"
+methods >"$work/methods"
+echo "(define (problem p) (:domain d) (:objects o) (:htn :subtasks (t499 o)) (:init (q o)))" >"$work/one"
+timed "2,000 packages, adl" "$domain" "$work/p2000" "$work/od" "$work/op" --bound 4096
+timed "flat" "$domain" "$work/flat" "$work/od" "$work/op" --bound "${FLAT_SLOTS:-65536}" --style flat
+timed "facts" "$domain" "$work/init" "$work/od" "$work/op"
+timed "500 methods of 40 subtasks" "$work/methods" "$work/one" "$work/od" "$work/op" --bound 4096
