@@ -3,7 +3,7 @@ use Rattle.std.proofs.Common.{ℕ, ◌≡◌, ◌<◌, false, inl, inr, List, []
 use Rattle.std.specs.Prelude.{◌⊎◌, ◌↔◌}
 use Rattle.gd_reader.specs.Terms.{Names}
 use Rattle.gd_reader.specs.declared.typed_lists.RawParam.{RawParam}
-use Rattle.hddl_reader.specs.declared.sections.Language.TheVariants as language
+use Rattle.hddl_reader.specs.declared.sections.Language.{Language}
 use Rattle.hddl_reader.specs.declared.sections.RawDomain.{RawDomain}
 use Rattle.hddl_reader.specs.declared.sections.RawHead.{RawHead}
 use Rattle.hddl_reader.specs.declared.sections.RawMethod.{RawMethod}
@@ -46,9 +46,9 @@ pub to_each : {X : Type 0} (P Q : X → Type 0) (xs : List X) → ((x : X) → P
 to_each P Q [] f e = tt
 to_each P Q (x ∷ xs) f e = (f x e.0, to_each P Q xs f e.1)
 
-module _ (names : Names) (object : ℕ) (d : RawDomain) (is : IsDomainInOrder names d) (types_in : AreTypesIn names object d.types) (kinds : Kinds) (types : numbers.AreTypesOf object d.types kinds.types) (cycles : List (Option ℕ)) (right : Together IsCycleOf d.methods cycles) (at : ℕ) where
+module _ (l : Language) (names : Names) (object : ℕ) (d : RawDomain) (is : IsDomainInOrder names d) (types_in : AreTypesIn names object d.types) (kinds : Kinds) (types : numbers.AreTypesOf object d.types kinds.types) (cycles : List (Option ℕ)) (right : Together IsCycleOf d.methods cycles) (at : ℕ) where
   abbrev Fault : ℕ → Type 0
-  Fault code = HasDomainFault language.Hddl names d at code
+  Fault code = HasDomainFault l names d at code
 
   of_types : AreTypesOf names d kinds
   of_types = (has_types names object d kinds types_in types).0
@@ -130,12 +130,12 @@ module _ (names : Names) (object : ℕ) (d : RawDomain) (is : IsDomainInOrder na
   schemas_has code = has_schema_faults names d (constants names d) (known_in kinds d) (declared d.tasks d.actions) cycles code at (known_of names types_in.differ d is kinds of_types) (callables_of names types_in.differ d is) is right
 
   abbrev Section : ℕ → Type 0
-  Section code = IsSectionFault (most_types language.Hddl) object d.types (spot at code)
+  Section code = IsSectionFault (most_types l) object d.types (spot at code)
 
-  section_has : (code : ℕ) → Section code ↔ (((code ≡ 22) × TooManyTypes language.Hddl names d at) ⊎ ((code ≡ 12) × TypeCycle names d at))
-  section_has code = has_section_faults names object d language.Hddl code at types_in
+  section_has : (code : ℕ) → Section code ↔ (((code ≡ 22) × TooManyTypes l names d at) ⊎ ((code ≡ 12) × TypeCycle names d at))
+  section_has code = has_section_faults names object d l code at types_in
 
-  section_there : (code : ℕ) → ((code ≡ 22) × TooManyTypes language.Hddl names d at) ⊎ ((code ≡ 12) × TypeCycle names d at) → Fault code
+  section_there : (code : ℕ) → ((code ≡ 22) × TooManyTypes l names d at) ⊎ ((code ≡ 12) × TypeCycle names d at) → Fault code
   section_there code (inl (c, s)) = subst Fault (sym c) (HasDomainFault.too_many_types s)
   section_there code (inr (c, s)) = subst Fault (sym c) (HasDomainFault.type_cycle s)
 

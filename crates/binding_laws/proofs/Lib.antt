@@ -58,3 +58,4 @@ pub mod MethodSound
 pub mod NetworkSound
 pub mod seen
 pub mod sound
+pub mod PddlValues

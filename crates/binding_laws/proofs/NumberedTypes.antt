@@ -9,7 +9,7 @@ use Rattle.gd_reader.specs.declared.typed_lists.RawParam.{RawParam}
 use Rattle.hddl_reader.specs.declared.networks.RawCon.{RawCon}
 use Rattle.hddl_reader.specs.declared.networks.RawNet.{RawNet}
 use Rattle.hddl_reader.specs.declared.networks.RawSub.{RawSub}
-use Rattle.hddl_reader.specs.declared.sections.Language.TheVariants as language
+use Rattle.hddl_reader.specs.declared.sections.Language.{Language}
 use Rattle.hddl_reader.specs.declared.sections.RawAction.{RawAction}
 use Rattle.hddl_reader.specs.declared.sections.RawDomain.{RawDomain}
 use Rattle.hddl_reader.specs.declared.sections.RawHead.{RawHead}
@@ -159,8 +159,8 @@ module _ (names : Names) (d : RawDomain) (kinds : Kinds) (of : AreTypesOf names 
   terms_in x (inr s) = s.0
 
   -- in a domain without faults
-  pub numbered_in_domain : HasNoFault (HasDomainFault language.Hddl names d) → ((here : Scope) (x : RawParam) → InDomain names d here (declares x) → IsWritten names of_types found x ⊎ (AreTermsIn names x.ty × (length x.ty ≤ 1))) → AreNumberedIn names kinds (InDomain names d)
-  numbered_in_domain none written here x s =
+  pub numbered_in_domain : (l : Language) → HasNoFault (HasDomainFault l names d) → ((here : Scope) (x : RawParam) → InDomain names d here (declares x) → IsWritten names of_types found x ⊎ (AreTermsIn names x.ty × (length x.ty ≤ 1))) → AreNumberedIn names kinds (InDomain names d)
+  numbered_in_domain l none written here x s =
       let w = written here x s in
       numbered_by x w (no_spot (kind_faults kinds x.ty) (λ code at h. none at 11 (HasDomainFault.unknown_type (here, x, s, ((has_kind_faults names d kinds x.ty code at of (terms_in x w)).0 h).1))))
 

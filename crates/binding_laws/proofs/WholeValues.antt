@@ -6,7 +6,7 @@ use Rattle.htn_base.specs.Different.{AreDifferent}
 use Rattle.text_forms.specs.Words.{Word}
 use Rattle.gd_reader.specs.Terms.{Names}
 use Rattle.gd_reader.specs.declared.typed_lists.RawParam.{RawParam}
-use Rattle.hddl_reader.specs.declared.sections.Language.TheVariants as language
+use Rattle.hddl_reader.specs.declared.sections.Language.{Language}
 use Rattle.hddl_reader.specs.declared.sections.RawAction.{RawAction}
 use Rattle.hddl_reader.specs.declared.sections.RawDomain.{RawDomain}
 use Rattle.hddl_reader.specs.declared.sections.RawHead.{RawHead}
@@ -79,8 +79,8 @@ words_are : (names : Names) (hs : List RawHead) → map word_of (map (head_at na
 words_are names [] = refl
 words_are names (h ∷ hs) = ap (λ ws. term_word names h.name ∷ ws) (words_are names hs)
 
-module _ (before left : Names) (d : RawDomain) (p : RawProblem) (is : AreInOrder before (with_start left) d p) (object : ℕ) (of_object : IsObject before object) (x : DomainBinding object d) (ex : faults_by object d x ≡ [])
-    (start : ℕ) (of_start : IsStart (with_start left) start) (y : ProblemBinding (bound_by object d x) p) (ey : problem.faults_by (bound_by object d x) p y ≡ []) where
+module _ (before left : Names) (d : RawDomain) (p : RawProblem) (is : AreInOrder before (with_start left) d p) (object : ℕ) (of_object : IsObject before object) (l : Language) (x : DomainBinding l object d) (ex : faults_by l object d x ≡ [])
+    (start : ℕ) (of_start : IsStart (with_start left) start) (y : ProblemBinding (bound_by l object d x) p) (ey : problem.faults_by (bound_by l object d x) p y ≡ []) where
   abbrev pub names : Names
   names = with_start left
 
@@ -104,7 +104,7 @@ module _ (before left : Names) (d : RawDomain) (p : RawProblem) (is : AreInOrder
   parents = pairs_in_order kinds.types d.types
 
   abbrev pub value : Hddl
-  value = hddl_bound (bound_by object d x) y.unions p left start
+  value = hddl_bound (bound_by l object d x) y.unions p left start
 
   abbrev pub own : List Object
   own = objects_bound all_kinds false p.objects
@@ -122,13 +122,13 @@ module _ (before left : Names) (d : RawDomain) (p : RawProblem) (is : AreInOrder
   in_types = types_in before names d p is object of_object
 
   pub of : AreTypesOf names d kinds
-  of = types_are before names d p is object of_object x
+  of = types_are before names d p is object of_object l x
 
-  pub no_domain : HasNoFault (HasDomainFault language.Hddl names d)
-  no_domain = domain_none before names d p is object of_object x ex
+  pub no_domain : HasNoFault (HasDomainFault l names d)
+  no_domain = domain_none before names d p is object of_object l x ex
 
   pub no_problem : HasNoFault (HasProblemFault names d p)
-  no_problem = problem_none before names d p is object of_object x y ey
+  no_problem = problem_none before names d p is object of_object l x y ey
 
   abbrev pub rest : List Word
   rest = first_seen (codes "object" ∷ []) (map (term_word names) x.are_kinds.types.0)
@@ -142,7 +142,7 @@ module _ (before left : Names) (d : RawDomain) (p : RawProblem) (is : AreInOrder
   pub numbered : AreNumberedIn names kinds (InDomain names d)
   numbered =
       numbered_in_domain names d kinds of [] (domain_unions (record { types = kinds.types; unions = [] }) d)
-      (found_stands (domain_unions (record { types = kinds.types; unions = [] }) d) [] kinds.unions x.are_kinds.unions) no_domain (in_domain names (record { types = kinds.types; unions = [] }) d is.domain)
+      (found_stands (domain_unions (record { types = kinds.types; unions = [] }) d) [] kinds.unions x.are_kinds.unions) l no_domain (in_domain names (record { types = kinds.types; unions = [] }) d is.domain)
 
   pub of_all : AreTypesOf names d all_kinds
   of_all = record { differ = of.differ; known = of.known; words = of.words }
@@ -235,6 +235,6 @@ module _ (before left : Names) (d : RawDomain) (p : RawProblem) (is : AreInOrder
   }
 
 pub is_bound_both : OfAllBound IsBoundBoth
-is_bound_both before left d p b h is (object, of_object, (x, ex, same)) (start, of_start, (y, ey, is_value)) =
+is_bound_both before left d p l b h is (object, of_object, (x, ex, same)) (start, of_start, (y, ey, is_value)) =
     let r = subst (λ b. (y : ProblemBinding b p) × (problem.faults_by b p y ≡ []) × (h ≡ hddl_bound b y.unions p left start)) same (y, ey, is_value) in
-    subst (IsBoundHddl (with_start left) d p) (sym r.2) (both_bound before left d p is object of_object x ex start of_start r.0 r.1)
+    subst (IsBoundHddl (with_start left) d p) (sym r.2) (both_bound before left d p is object of_object l x ex start of_start r.0 r.1)

@@ -23,3 +23,4 @@ pub mod SoundSchemas
 pub mod SoundNetworks
 pub mod SeenBound
 pub mod SoundValues
+pub mod PddlValues

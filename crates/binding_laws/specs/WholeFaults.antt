@@ -1,9 +1,9 @@
--- What is refused of a whole domain and a whole problem by the numbers of names is the least fault in words; what is bound has none.
+-- In each language: what is refused of a whole domain and a whole problem by the numbers of names is the least fault in words; what is bound has none.
 -- Source: this project's.
 use Rattle.htn_base.specs.Different.{AreDifferent}
 use Rattle.htn_base.specs.declared.fault.Fault.{Fault}
 use Rattle.gd_reader.specs.Terms.{Names, Keeps}
-use Rattle.hddl_reader.specs.declared.sections.Language.TheVariants as language
+use Rattle.hddl_reader.specs.declared.sections.Language.{Language}
 use Rattle.hddl_reader.specs.declared.sections.RawDomain.{RawDomain}
 use Rattle.hddl_reader.specs.declared.sections.RawProblem.{RawProblem}
 use Rattle.plan_model.specs.declared.values.Hddl.{Hddl}
@@ -24,20 +24,20 @@ pub record AreInOrder (before names : Names) (d : RawDomain) (p : RawProblem) : 
 module _ (before names : Names) (d : RawDomain) (p : RawProblem) where
   -- a domain that is refused, with whatever problem
   abbrev pub IsLeastOfDomain : Type 0
-  IsLeastOfDomain = (f : Fault) → AreInOrder before names d p → IsDomainRefused before d (Bad f) → IsLeastNameFault language.Hddl names d p f.file f.code f.at
+  IsLeastOfDomain = (l : Language) (f : Fault) → AreInOrder before names d p → IsDomainRefused l before d (Bad f) → IsLeastNameFault l names d p f.file f.code f.at
 
   -- a domain that is bound, with whatever problem
   abbrev pub DomainHasNone : Type 0
-  DomainHasNone = (b : BoundDomain) → AreInOrder before names d p → IsDomainBound before d b → HasNoFault (HasDomainFault language.Hddl names d)
+  DomainHasNone = (l : Language) (b : BoundDomain) → AreInOrder before names d p → IsDomainBound l before d b → HasNoFault (HasDomainFault l names d)
 
   -- a problem that is refused, over a domain that is bound
   abbrev pub IsLeastOfProblem : Type 0
-  IsLeastOfProblem = (b : BoundDomain) (f : Fault) → AreInOrder before names d p → IsDomainBound before d b → IsProblemRefused b p (Bad f)
-      → IsLeastNameFault language.Hddl names d p f.file f.code f.at
+  IsLeastOfProblem = (l : Language) (b : BoundDomain) (f : Fault) → AreInOrder before names d p → IsDomainBound l before d b → IsProblemRefused b p (Bad f)
+      → IsLeastNameFault l names d p f.file f.code f.at
 
   -- both are bound
   abbrev pub BothHaveNone : Type 0
-  BothHaveNone = (b : BoundDomain) (left : Names) (h : Hddl) → AreInOrder before names d p → IsDomainBound before d b → IsProblemBound b p left h → HasNoNameFault language.Hddl names d p
+  BothHaveNone = (l : Language) (b : BoundDomain) (left : Names) (h : Hddl) → AreInOrder before names d p → IsDomainBound l before d b → IsProblemBound b p left h → HasNoNameFault l names d p
 
 abbrev pub OfAllInOrder : (Names → Names → RawDomain → RawProblem → Type 0) → Type 0
 OfAllInOrder P = (before names : Names) (d : RawDomain) (p : RawProblem) → P before names d p

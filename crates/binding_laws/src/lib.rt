@@ -5,7 +5,8 @@
 //! above, for a domain and a problem that were read (`specs/InOrder`): what is refused is the least fault, and what is bound has none
 //! (`whole_texts_are_judged`); the value that is bound is what the two stand for (`whole_texts_are_bound`), in the order in which the
 //! texts name it, so that it is the HDDL value of the texts (`what_is_bound_is_of_its_texts`); of two texts that spell it, it is
-//! sound, and its networks have no cycle (`read_values_are_sound`, over `bound_values_are_sound` and `tables_of_texts_are_few`).
+//! sound, and its networks have no cycle (`read_values_are_sound`, over `bound_values_are_sound` and `tables_of_texts_are_few`); what
+//! is read of two PDDL texts and bound is their value, and sound (`read_pddl_is_its_value`).
 //!
 //! Below them, in reading order: the place of a number is that of its word (`numbers_are_words`); the faults of terms, written types
 //! and typed lists are the sentences on their words, and those of atoms, formulas and effects are the faults of what is declared and
@@ -37,4 +38,6 @@ pub use networks::{
 pub use schemas::{schemas_are_bound, schemas_are_said, schemas_are_sound};
 pub use texts::{whole_texts_are_bound, whole_texts_are_judged};
 pub use types::{domain_types_are_bound, domain_types_are_said};
-pub use values::{bound_values_are_sound, read_values_are_sound, tables_of_texts_are_few};
+pub use values::{
+    bound_values_are_sound, read_pddl_is_its_value, read_values_are_sound, tables_of_texts_are_few,
+};

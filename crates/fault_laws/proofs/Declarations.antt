@@ -22,7 +22,6 @@ use Rattle.plan_texts.specs.Declared.{Declared, named, words_with}
 use Rattle.plan_texts.specs.Domains.{domain_words}
 use Rattle.plan_texts.specs.Networks.{head_of}
 use Rattle.plan_texts.specs.Printable.{IsUnion}
-use Rattle.plan_texts.specs.SoundProblem.{IsSoundProblem}
 use Rattle.plan_texts.specs.SoundValue.{arities, method_words, IsSoundHead}
 use Rattle.plan_texts.specs.SpellsHddl.{hddl_types, hddl_words, hddl_domain, task_words, action_words}
 use Rattle.plan_texts.specs.Types.{EachIs}
@@ -41,6 +40,7 @@ use Rattle.fault_laws.proofs.Seconds.{word}
 use Rattle.fault_laws.proofs.Uses.{head_word, IsApplicable, applicable}
 use Rattle.fault_laws.proofs.Parts.{HasWordsOf, each_more}
 use Rattle.fault_laws.proofs.NetworkUses.{HasCallsOf}
+use Rattle.fault_laws.proofs.Sound.{IsSoundAtAnyLength}
 use Rattle.fault_laws.proofs.Types.{is_type}
 
 index_mapped : {X : Type 0} (f : X → ℕ) (xs : List X) (n : ℕ) (x : X) → slice_get xs n ≡ Some x → get_or (map f xs) n 0 ≡ f x
@@ -48,7 +48,7 @@ index_mapped f [] n x e = absurd (cc)
 index_mapped f (y ∷ xs) zero x e = ap f (cc)
 index_mapped f (y ∷ xs) (suc n) x e = index_mapped f xs n x e
 
-module _ (names : Names) (d : RawDomain) (h : Hddl) (cs : List Object) (b : IsBoundDomain names d (hddl_domain h cs)) (s : IsSoundProblem h) where
+module _ (names : Names) (d : RawDomain) (h : Hddl) (cs : List Object) (b : IsBoundDomain names d (hddl_domain h cs)) (s : IsSoundAtAnyLength h) where
   abbrev Own : Declared
   Own = domain_words (hddl_domain h cs)
 

@@ -4,7 +4,7 @@ use Rattle.htn_base.specs.Different.{AreDifferent}
 use Rattle.text_forms.specs.Words.{Word}
 use Rattle.gd_reader.specs.Terms.{Names}
 use Rattle.hddl_reader.specs.declared.networks.RawNet.{RawNet}
-use Rattle.hddl_reader.specs.declared.sections.Language.TheVariants as language
+use Rattle.hddl_reader.specs.declared.sections.Language.{Language}
 use Rattle.hddl_reader.specs.declared.sections.RawAction.{RawAction}
 use Rattle.hddl_reader.specs.declared.sections.RawDomain.{RawDomain}
 use Rattle.hddl_reader.specs.declared.sections.RawHead.{RawHead}
@@ -18,26 +18,27 @@ use Rattle.plan_model.specs.declared.terms.Term.TheVariants.{Obj}
 use Rattle.plan_model.specs.declared.types.Object.{Object}
 use Rattle.plan_model.specs.declared.types.Parent.{Parent}
 use Rattle.plan_model.specs.declared.values.Hddl.{Hddl}
-use Rattle.plan_meaning.specs.Laws.{AreOrdered}
 use Rattle.plan_texts.specs.Declared.{Declared, named, variable, words_with}
-use Rattle.plan_texts.specs.Domains.{domain_words}
+use Rattle.plan_texts.specs.Domains.{domain_words, Problem}
 use Rattle.plan_texts.specs.Printable.{IsSound, IsSoundEffect, IsSoundAtom}
-use Rattle.plan_texts.specs.SoundProblem.{IsSmallMethod, IsSoundNetwork, IsSoundProblem, all_methods}
+use Rattle.plan_texts.specs.SoundProblem.{IsSmallMethod, IsSoundNetwork, all_methods}
 use Rattle.plan_texts.specs.SoundValue.{arities, scope_of, IsSoundHead, IsSoundMethod}
 use Rattle.plan_texts.specs.SpellsHddl.{hddl_types, hddl_words, hddl_domain, hddl_problem, task_words, action_words}
+use Rattle.plan_texts.specs.Together.{Together}
 use Rattle.plan_texts.specs.Types.{EachIs}
 use Rattle.plan_texts.specs.Types as value
 use Rattle.plan_texts.proofs.Members.{each-has, has-contains, length-map}
 use Rattle.plan_texts.proofs.Unique.{map-map}
 use Rattle.plan_texts.proofs.Together.{together-maps}
-use Rattle.form_spellings.specs.Bound.{IsBoundObject, IsBoundFormula, IsBoundEffect}
+use Rattle.form_spellings.specs.Bound.{IsBoundObject, IsBoundParam, IsBoundFormula, IsBoundEffect}
 use Rattle.form_spellings.specs.BoundNetworks.{IsBoundNetwork}
 use Rattle.form_spellings.specs.BoundSchemas.{IsBoundPredicate, IsBoundTask, IsBoundAction, IsBoundHead, IsBoundMethod, IsBoundFact}
-use Rattle.form_spellings.specs.BoundTexts.{IsBoundDomain, IsBoundProblem}
+use Rattle.form_spellings.specs.BoundTexts.{IsBoundDomain}
 use Rattle.name_faults.specs.Faults.{HasDomainFault, HasProblemFault, DuplicateInDomain, DuplicateInProblem, constants, objects, HasNoFault}
 use Rattle.name_faults.specs.Lists.{One}
 use Rattle.name_faults.specs.Networks.{ids, UnknownSubtaskId, CyclicOrder, TooManySubtasks}
 use Rattle.name_faults.specs.Standing.{InMethod, InAction, InDomain, InProblem}
+use Rattle.name_faults.specs.Types.{most_types}
 use Rattle.name_faults.specs.Uses.{Scope, Use, predicate, subtask, task, IsDeclared, IsOfAtom, variables}
 use Rattle.name_faults.specs.Words.{callables, param_word, head_at, param_at, IsSecond}
 use Rattle.fault_laws.specs.Faultless.{HasFewTypes}
@@ -49,6 +50,7 @@ use Rattle.fault_laws.proofs.Formulas.{formula_good}
 use Rattle.fault_laws.proofs.Effects.{effect_good}
 use Rattle.fault_laws.proofs.Networks.{IsPairNamed, no_second_id, no_unknown_id, no_cycle, not_too_many}
 use Rattle.fault_laws.proofs.NetworkUses.{HasCallsOf, head_good, network_good}
+use Rattle.fault_laws.proofs.Sound.{IsSoundAtAnyLength}
 use Rattle.fault_laws.proofs.Types.{HasOneType}
 use Rattle.fault_laws.proofs.Types as types
 use Rattle.fault_laws.proofs.Declarations.{constant_words, callables_apart, predicates_apart, methods_apart, constants_apart, object_words, objects_differ, words_are, calls_are}
@@ -57,6 +59,14 @@ use Rattle.fault_laws.proofs.Declarations.{constant_words, callables_apart, pred
 abbrev pub HasNamedPairs : Names → RawNet → Type 0
 HasNamedPairs names n = EachIs (IsPairNamed names) n.pairs
 
+-- What was read of a problem is bound to these parts and to a network: its own, or none.
+pub record AreBoundParts (names : Names) (v : Declared) (tasks actions : List Word) (r : RawProblem) (p : Problem) (top : MethodSchema) : Type 0 where
+  pub objects : Together (IsBoundObject v names false) r.objects p.objects
+  pub init : Together (IsBoundFact v names) r.init p.init
+  pub goal : IsBoundFormula v names r.goal [] p.goal
+  pub params : Together (IsBoundParam v names) r.params top.params
+  pub network : IsBoundNetwork v names tasks actions (map (variable v) top.params) r.net top.children top.pairs top.constraints
+
 -- The faults that a network may have, and has not.
 record IsFaultlessNetwork (names : Names) (n : RawNet) : Type 0 where
   pub second : (at : ℕ) → IsSecond [] (ids names n.subs) at → ⊥
@@ -64,14 +74,14 @@ record IsFaultlessNetwork (names : Names) (n : RawNet) : Type 0 where
   pub cycle : (at : ℕ) → CyclicOrder names n at → ⊥
   pub many : (at : ℕ) → TooManySubtasks n at → ⊥
 
-module _ (names : Names) (d : RawDomain) (h : Hddl) (s : IsSoundProblem h) (ordered : AreOrdered h) (tasks actions : List Word) where
+module _ (names : Names) (d : RawDomain) (h : Hddl) (s : IsSoundAtAnyLength h) (tasks actions : List Word) where
   network_faultless : (known : List Object) (scope : Scope) (n : RawNet) (m : MethodSchema) → value.Has (all_methods h) m → HasNamedPairs names n
       → IsBoundNetwork (words_with h.names h.types h.predicates known) names tasks actions scope n m.children m.pairs m.constraints → IsFaultlessNetwork names n
   network_faultless known scope n m in_value pairs b =
       let v = words_with h.names h.types h.predicates known in
       let sound = each-has (IsSoundNetwork h.names) (all_methods h) m s.networks in_value in
-      let small = each-has IsSmallMethod (all_methods h) m s.limits.networks in_value in
-      let order = ordered m (has-contains (all_methods h) m in_value) in
+      let small = each-has IsSmallMethod (all_methods h) m s.small in_value in
+      let order = s.ordered m (has-contains (all_methods h) m in_value) in
       record {
         second = λ at o. no_second_id names v tasks actions scope n m.children m.pairs m.constraints b at sound.ids_differ o;
         unknown = λ at o. no_unknown_id names v tasks actions scope n m.children m.pairs m.constraints b pairs at o;
@@ -79,7 +89,7 @@ module _ (names : Names) (d : RawDomain) (h : Hddl) (s : IsSoundProblem h) (orde
         many = λ at o. not_too_many names v tasks actions scope n m.children m.pairs m.constraints b at small.subtasks o;
       }
 
-module _ (names : Names) (d : RawDomain) (h : Hddl) (cs : List Object) (b : IsBoundDomain names d (hddl_domain h cs)) (s : IsSoundProblem h) where
+module _ (names : Names) (d : RawDomain) (h : Hddl) (cs : List Object) (b : IsBoundDomain names d (hddl_domain h cs)) (s : IsSoundAtAnyLength h) where
   abbrev Own : Declared
   Own = domain_words (hddl_domain h cs)
 
@@ -87,7 +97,7 @@ module _ (names : Names) (d : RawDomain) (h : Hddl) (cs : List Object) (b : IsBo
   typed [] e = tt
   typed (x ∷ xs) e = (let n = length-map (named h.names) h.types.names in let l = e.0 in omega (arith, l, n), typed xs e.1)
 
-  module _ (others : List Object) (all : h.objects ≡ cs ++ others) (few : HasFewTypes h) (ordered : AreOrdered h) (one : EachIs HasOneType d.types) (pairs : EachIs (λ (m : RawMethod). HasNamedPairs names m.net) d.methods) where
+  module _ (others : List Object) (all : h.objects ≡ cs ++ others) (l : Language) (few : HasFewTypes l h.types) (one : EachIs HasOneType d.types) (pairs : EachIs (λ (m : RawMethod). HasNamedPairs names m.net) d.methods) where
     sound_objects : EachIs (λ (x : Object). x.ty < length (hddl_types h)) (cs ++ others)
     sound_objects = subst (EachIs (λ (x : Object). x.ty < length (hddl_types h))) all (typed h.objects s.value.objects)
 
@@ -149,7 +159,7 @@ module _ (names : Names) (d : RawDomain) (h : Hddl) (cs : List Object) (b : IsBo
         let m = g.0 in
         let x = g.1 in
         let c = g.4 in
-        none m.net (network_faultless names d h s ordered (task_words h) (action_words h) cs (map (variable Own) x.params) m.net x (inr g.3) (each-has (λ (m : RawMethod). HasNamedPairs names m.net) d.methods m pairs g.2) c.network) g.5
+        none m.net (network_faultless names d h s (task_words h) (action_words h) cs (map (variable Own) x.params) m.net x (inr g.3) (each-has (λ (m : RawMethod). HasNamedPairs names m.net) d.methods m pairs g.2) c.network) g.5
 
     no_duplicate : (at : ℕ) → DuplicateInDomain names d at → ⊥
     no_duplicate at (DuplicateInDomain.task_or_action i) = no_second [] (map (head_at names) (callables d)) at (callables_apart names d h cs b s) i
@@ -165,7 +175,7 @@ module _ (names : Names) (d : RawDomain) (h : Hddl) (cs : List Object) (b : IsBo
     parents_inside [] e = tt
     parents_inside (x ∷ xs) e = (let n = length-map (named h.names) h.types.names in let l = e.0.0 in let m = e.0.1 in (omega (arith, l, n), omega (arith, m, n), e.0.2), parents_inside xs e.1)
 
-    pub domain_faultless : HasNoFault (HasDomainFault language.Hddl names d)
+    pub domain_faultless : HasNoFault (HasDomainFault l names d)
     domain_faultless at code (HasDomainFault.duplicate_name f) = no_duplicate at f
     domain_faultless at code (HasDomainFault.unknown_type f) = no_type names d (constants names d) (InDomain names d) domain_good at f
     domain_faultless at code (HasDomainFault.type_cycle f) = types.no_cycle names Own (hddl_types h) h.types.parents d b.types one (parents_inside h.types.parents s.value.parents) s.value.no_cycle at f
@@ -178,10 +188,10 @@ module _ (names : Names) (d : RawDomain) (h : Hddl) (cs : List Object) (b : IsBo
     domain_faultless at code (HasDomainFault.unknown_subtask_id o) = of_networks (λ n. UnknownSubtaskId names n at) (λ n f. f.unknown at) o
     domain_faultless at code (HasDomainFault.cyclic_order o) = of_networks (λ n. CyclicOrder names n at) (λ n f. f.cycle at) o
     domain_faultless at code (HasDomainFault.too_many_subtasks o) = of_networks (λ n. TooManySubtasks n at) (λ n f. f.many at) o
-    domain_faultless at code (HasDomainFault.too_many_types f) = types.not_too_many names Own (hddl_types h) h.types.parents d b.types one 1000 at (let n = length-map (named h.names) h.types.names in omega (arith, few, n)) f
+    domain_faultless at code (HasDomainFault.too_many_types f) = types.not_too_many names Own (hddl_types h) h.types.parents d b.types one (most_types l) at (let n = length-map (named h.names) h.types.names in omega (arith, few, n)) f
 
     -- the problem beside it
-    module _ (p : RawProblem) (c : IsBoundProblem names (hddl_words h) (task_words h) (action_words h) p (hddl_problem h others) h.top) (top_pairs : HasNamedPairs names p.net) where
+    module _ (p : RawProblem) (c : AreBoundParts names (hddl_words h) (task_words h) (action_words h) p (hddl_problem h others) h.top) (top_pairs : HasNamedPairs names p.net) where
       other_words : map (param_word names) p.objects ≡ map (λ (x : Object). named h.names x.name) others
       other_words = together-maps (param_word names) (λ (x : Object). named h.names x.name) (IsBoundObject (hddl_words h) names false) (λ r x i. sym i.0) p.objects others c.objects
 
@@ -195,14 +205,14 @@ module _ (names : Names) (d : RawDomain) (h : Hddl) (cs : List Object) (b : IsBo
       GoodIn = IsGood names d All
 
       top_scope : map (variable (hddl_words h)) h.top.params ≡ variables names p.params
-      top_scope = same_variables names d All (hddl_words h) (arities h) both p.params h.top.params c.top.params_bound
+      top_scope = same_variables names d All (hddl_words h) (arities h) both p.params h.top.params c.params
 
       problem_good : (here : Scope) (u : Use) → InProblem names p here u → GoodIn here u
       problem_good here u (InProblem.object o) = objects_good names d All (hddl_words h) (arities h) both false p.objects others here u c.objects (each_back (λ (x : Object). x.ty < length (hddl_types h)) cs others sound_objects) o
-      problem_good here u (InProblem.parameter o) = params_good names d All (hddl_words h) (arities h) both p.params h.top.params here u c.top.params_bound o
+      problem_good here u (InProblem.parameter o) = params_good names d All (hddl_words h) (arities h) both p.params h.top.params here u c.params o
       problem_good here u (InProblem.network e o) =
           subst (λ here. GoodIn here u) (sym e) (network_good names d All (hddl_words h) (arities h) both h (task_words h) (action_words h) calls (variables names p.params) (scope_of h h.top.params) p.net h.top.children h.top.pairs h.top.constraints u
-          (subst (λ scope. IsBoundNetwork (hddl_words h) names (task_words h) (action_words h) scope p.net h.top.children h.top.pairs h.top.constraints) top_scope c.top.network) s.value.top.children o)
+          (subst (λ scope. IsBoundNetwork (hddl_words h) names (task_words h) (action_words h) scope p.net h.top.children h.top.pairs h.top.constraints) top_scope c.network) s.value.top.children o)
       problem_good here u (InProblem.fact e o) =
           let g = beside (IsBoundFact (hddl_words h) names) (λ a. IsOfAtom predicate a u) p.init h.init c.init o in
           let x = g.1 in
@@ -211,7 +221,7 @@ module _ (names : Names) (d : RawDomain) (h : Hddl) (cs : List Object) (b : IsBo
       problem_good here u (InProblem.goal o) = formula_good names d All (hddl_words h) (arities h) both (hddl_words h) p.goal h.goal [] [] here u c.goal s.value.goal o
 
       top_faultless : IsFaultlessNetwork names p.net
-      top_faultless = network_faultless names d h s ordered (task_words h) (action_words h) h.objects (map (variable (hddl_words h)) h.top.params) p.net h.top (inl refl) top_pairs c.top.network
+      top_faultless = network_faultless names d h s (task_words h) (action_words h) h.objects (map (variable (hddl_words h)) h.top.params) p.net h.top (inl refl) top_pairs c.network
 
       others_apart : AreDifferent (constants names d ++ map word (map (param_at names) p.objects))
       others_apart = subst (λ ws. AreDifferent (constants names d ++ ws)) (sym other_words ∙ map-map (param_at names) word p.objects) (objects_differ names d h cs b s others all)

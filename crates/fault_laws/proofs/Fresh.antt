@@ -17,7 +17,6 @@ use Rattle.plan_model.specs.declared.values.Hddl.{Hddl}
 use Rattle.plan_texts.specs.Declared.{Declared, named, variable}
 use Rattle.plan_texts.specs.Domains.{domain_words}
 use Rattle.plan_texts.specs.Printable.{AreSoundParams, sound_step, IsSound, sound_effect_step, IsSoundEffect}
-use Rattle.plan_texts.specs.SoundProblem.{IsSoundProblem}
 use Rattle.plan_texts.specs.SoundValue.{arities, scope_of, IsSoundMethod}
 use Rattle.plan_texts.specs.SpellsHddl.{hddl_words, hddl_domain}
 use Rattle.plan_texts.specs.Types.{EachIs}
@@ -26,6 +25,7 @@ use Rattle.plan_texts.proofs.SpelledEffects.{sound_roll as sound_effect_roll}
 use Rattle.form_spellings.specs.DeclaresOnce.{DeclaresOnce, TaskDeclaresOnce, MethodDeclaresOnce, ActionDeclaresOnce}
 use Rattle.form_spellings.specs.Fresh.{fresh_step, AreFresh, fresh_effect_step, AreFreshEffects}
 use Rattle.fault_laws.proofs.Parts.{each_more}
+use Rattle.fault_laws.proofs.Sound.{IsSoundAtAnyLength}
 
 module _ (v : Declared) where
   natural : (X : Type 0) (u : X → Formula) (k : Formula → Type 0) (x : Formula-F X) → fresh_step v (λ p. k (u p)) x ≡ fresh_step v k (map-Formula X Formula u x)
@@ -111,7 +111,7 @@ module _ (v : Declared) where
         claim : (x : Effect-F Effect) → ((scope : List Word) → sound_effect_step w arities (IsSoundEffect w arities) x scope → fresh_effect_step v (AreFreshEffects v) x) → EffectClaim (roll-Effect x)
         claim x h scope s = fresh_effect_roll x (h scope (subst (λ (z : List Word → Type 0). z scope) (sound_effect_roll w arities x) s))
 
-module _ (h : Hddl) (s : IsSoundProblem h) (cs : List Object) where
+module _ (h : Hddl) (s : IsSoundAtAnyLength h) (cs : List Object) where
   abbrev Own : Declared
   Own = domain_words (hddl_domain h cs)
 

@@ -7,8 +7,10 @@ mod Effects
 mod Networks
 mod NetworkUses
 mod Types
+mod Sound
 mod Declarations
 mod Domains
 mod Fresh
 mod Filled
+mod Tokens
 mod Reading

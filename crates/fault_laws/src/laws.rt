@@ -1,15 +1,17 @@
 // Texts that spell a value have no fault.
-ghost use Rattle.fault_laws.specs.Faultless.{SpelledTextsAreFaultless};
+ghost use Rattle.fault_laws.specs.Faultless.{SpelledHddlIsFaultless, SpelledPddlIsFaultless};
 
 use form_spellings::{
     names_stand_in_the_table, places_are_those_of_tokens, spelled_definitions_are_whole,
     texts_spell_what_is_bound,
 };
 
-/// Two texts that spell a sound value whose networks have no cycle, with at most 1,000 types beside object, have no fault of tokens
-/// and are read as a domain and a problem, whose names have no fault.
+/// Two texts in which at most 200 lists are open at a time, and that spell a sound value, have no fault of tokens and are read as
+/// a domain and a problem, whose names have no fault: of HDDL, where the networks have no cycle and at most 1,000 types stand
+/// beside object, and of PDDL with at most 1,002. The types may stand in any order.
 pub fn spelled_texts_are_faultless()
-    ensures { SpelledTextsAreFaultless }
+    ensures hddl { SpelledHddlIsFaultless }
+    ensures pddl { SpelledPddlIsFaultless }
 {
     spelled_definitions_are_whole();
     texts_spell_what_is_bound();

@@ -62,9 +62,10 @@ mod SchemasExact
 mod FactsExact
 mod SectionsExact
 mod TextsExact
+mod NoSections
 mod NetworksRead
 mod SchemasRead
-mod TextsRead
+pub mod TextsRead
 pub mod order
 pub mod seen
 pub mod examples

@@ -64,9 +64,9 @@ ObjectsSay table s o = AllObjectsExact (parts_in s) (or_none o) table
 abbrev PredicatesSay : Names → Option Parts → Option (List RawHead) → Type 0
 PredicatesSay table s o = ListExact IsPredicate IsReadPredicate (parts_in s) (or_none o) table
 
--- a network that stands is the one that was read
+-- a network that stands is the one that was read, and where none stands none was read
 abbrev pub NetworkSays : Names → Option Parts → Option RawParts → Type 0
-NetworkSays table None o = Unit {0}
+NetworkSays table None o = o ≡ None
 NetworkSays table (Some ps) None = ⊥
 NetworkSays table (Some ps) (Some y) = PartsKnown parted.Network ps y table
 
@@ -105,7 +105,7 @@ none_left st table = record {
   constants = field_ends (ObjectsSay table None) (no_objects table) st.constants;
   predicates = field_ends (PredicatesSay table None) (none_exact IsPredicate IsReadPredicate table) st.predicates;
   objects = field_ends (ObjectsSay table None) (no_objects table) st.objects;
-  network = field_ends (NetworkSays table None) tt st.network;
+  network = field_ends (NetworkSays table None) refl st.network;
   init = field_ends (InitSays table None) (no_facts table) st.init;
   goal = field_ends (GoalSays table None) (no_formula table) st.goal;
   tasks = grows_none (TasksSay table nothing) (none_exact IsTask IsReadTask table) st.tasks;

@@ -2,4 +2,5 @@ pub mod Forms
 mod Places
 mod Definitions
 mod Texts
+mod PddlTexts
 mod Seen

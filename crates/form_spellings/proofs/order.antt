@@ -14,6 +14,3 @@ pub mod Sections
 pub mod Definitions
 pub mod OneWord
 pub mod Whole
-pub mod Merged
-pub mod TypeWords
-pub mod TypesSeen

@@ -1,4 +1,4 @@
--- The domain, the problem and the whole HDDL value that something read stands for, once its names are bound.
+-- The domain, the problem and the whole value, of HDDL or of PDDL, that something read stands for, once its names are bound.
 -- Source: this project's.
 use Rattle.std.specs.Prelude.{◌≡◌, ◌⊎◌, ◌↔◌, true, false, ◌++◌, List, [], codes}
 use Rattle.htn_base.specs.Different.{AreDifferent}
@@ -6,14 +6,17 @@ use Rattle.text_forms.specs.Words.{Word, word_at}
 use Rattle.plan_texts.specs.Declared.{Declared, named, type_words}
 use Rattle.plan_texts.specs.Domains.{Domain, domain_words, Problem}
 use Rattle.plan_texts.specs.SpellsHddl.{words_of_tasks, words_of_actions, hddl_words, task_words, action_words, hddl_domain, hddl_problem}
+use Rattle.plan_texts.specs.SpellsPddl.{pddl_words, pddl_domain, pddl_problem}
 use Rattle.plan_texts.specs.Together.{Together}
 use Rattle.plan_texts.specs.Types.{Has, TypeItem, Mentions, IsPairSaid, IsPairOf}
 use Rattle.plan_model.specs.declared.schemas.MethodSchema.{MethodSchema}
 use Rattle.plan_model.specs.declared.types.Object.{Object}
 use Rattle.plan_model.specs.declared.types.Parent.{Parent}
 use Rattle.plan_model.specs.declared.values.Hddl.{Hddl}
+use Rattle.plan_model.specs.declared.values.Pddl.{Pddl}
 use Rattle.gd_reader.specs.declared.typed_lists.RawParam.{RawParam}
 use Rattle.gd_reader.specs.Terms.{Names}
+use Rattle.hddl_reader.specs.declared.networks.RawNet.{RawNet}
 use Rattle.hddl_reader.specs.declared.sections.RawDomain.{RawDomain}
 use Rattle.hddl_reader.specs.declared.sections.RawProblem.{RawProblem}
 use Rattle.form_spellings.specs.Bound.{IsBoundObject, IsBoundFormula, IsBoundType}
@@ -54,3 +57,24 @@ pub record IsBoundHddl (table : Names) (d : RawDomain) (p : RawProblem) (h : Hdd
   pub objects : h.objects ≡ constants ++ others
   pub in_domain : IsBoundDomain table d (hddl_domain h constants)
   pub in_problem : IsBoundProblem table (hddl_words h) (task_words h) (action_words h) p (hddl_problem h others) h.top
+
+abbrev pub no_network : RawNet
+no_network = record { subs = []; ordered = false; pairs = []; constraints = [] }
+
+-- a problem of PDDL, which has no network
+pub record IsBoundPddlProblem (table : Names) (v : Declared) (r : RawProblem) (p : Problem) : Type 0 where
+  pub objects : Together (IsBoundObject v table false) r.objects p.objects
+  pub init : Together (IsBoundFact v table) r.init p.init
+  pub goal : IsBoundFormula v table r.goal [] p.goal
+  pub params : r.params ≡ []
+  pub net : r.net ≡ no_network
+
+-- likewise of PDDL, where the domain has no tasks and no methods
+pub record IsBoundPddl (table : Names) (d : RawDomain) (p : RawProblem) (c : Pddl) : Type 0 where
+  pub domain_name : named c.names c.domain ≡ named table d.name
+  pub problem_name : named c.names c.problem ≡ named table p.name
+  pub constants : List Object
+  pub others : List Object
+  pub objects : c.objects ≡ constants ++ others
+  pub in_domain : IsBoundDomain table d (pddl_domain c constants)
+  pub in_problem : IsBoundPddlProblem table (pddl_words c) p (pddl_problem c others)

@@ -2,30 +2,37 @@
 use Rattle.std.specs.Prelude.{ℕ, ◌≡◌, ◌++◌, List, [], map}
 use Rattle.text_forms.specs.Faults.{IsFaultless}
 use Rattle.text_forms.specs.Words.{Word}
+use Rattle.plan_texts.specs.Declared.{type_words, union_words}
 use Rattle.plan_texts.specs.FirstSeen.{first_unions, IsHddlOf}
-use Rattle.plan_texts.specs.SpellsHddl.{hddl_types, hddl_unions}
+use Rattle.plan_model.specs.declared.types.Types.{Types}
 use Rattle.plan_model.specs.declared.values.Hddl.{Hddl}
 use Rattle.gd_reader.specs.Terms.{Names}
+use Rattle.hddl_reader.specs.declared.sections.Language.TheVariants.{Hddl as language}
 use Rattle.hddl_reader.specs.declared.sections.RawDomain.{RawDomain}
 use Rattle.hddl_reader.specs.declared.sections.RawProblem.{RawProblem}
 use Rattle.form_spellings.specs.BoundTexts.{IsBoundHddl}
 use Rattle.form_spellings.specs.ReadTexts.{AreRead}
 use Rattle.form_spellings.specs.SeenInOrder.{AreSorted, types_of, pairs_of}
-use Rattle.form_spellings.specs.Written.{Written, Union, all_written, type_words, item_written, domain_unions, problem_unions}
+use Rattle.form_spellings.specs.Written.{Written, Union, all_written, item_written, domain_unions, problem_unions}
+use Rattle.form_spellings.specs.Written as written
 
--- The types, pairs and unions of the value are those that were read, by the offsets of their words.
-pub record IsBoundInOrder (table : Names) (d : RawDomain) (p : RawProblem) (h : Hddl) : Type 0 where
+-- The types, pairs and unions, of these words, are those that were read, by the offsets of their words.
+pub record AreBoundInOrder (table : Names) (d : RawDomain) (p : RawProblem) (names : List Word) (t : Types) : Type 0 where
   pub words : List (Written Word)
-  pub words_sorted : AreSorted (type_words table d.types) words
-  pub types : hddl_types h ≡ types_of (all_written words)
-  pub pairs : h.types.parents ≡ pairs_of (hddl_types h) (map (item_written table) d.types)
+  pub words_sorted : AreSorted (written.type_words table d.types) words
+  pub types : type_words names t ≡ types_of (all_written words)
+  pub pairs : t.parents ≡ pairs_of (type_words names t) (map (item_written table) d.types)
   pub of_domain : List Union
   pub of_domain_sorted : AreSorted (domain_unions table d) of_domain
   pub of_problem : List Union
   pub of_problem_sorted : AreSorted (problem_unions table p) of_problem
-  pub unions : hddl_unions h ≡ first_unions [] (all_written of_domain ++ all_written of_problem)
+  pub unions : union_words names t ≡ first_unions [] (all_written of_domain ++ all_written of_problem)
+
+-- those of the value
+abbrev pub IsBoundInOrder : Names → RawDomain → RawProblem → Hddl → Type 0
+IsBoundInOrder table d p h = AreBoundInOrder table d p h.names h.types
 
 abbrev pub BoundHddlIsOfTexts : Type 0
 BoundHddlIsOfTexts =
-    (domain problem : List ℕ) (table : Names) (d : RawDomain) (p : RawProblem) → AreRead domain problem table d p
+    (domain problem : List ℕ) (table : Names) (d : RawDomain) (p : RawProblem) → AreRead language domain problem table d p
     → IsFaultless domain → IsFaultless problem → (h : Hddl) → IsBoundHddl table d p h → IsBoundInOrder table d p h → IsHddlOf domain problem h

@@ -29,3 +29,6 @@ pub mod Written
 pub mod SeenInOrder
 pub mod TypeOrder
 pub mod HddlInOrder
+pub mod PddlTexts
+pub mod SoundPddl
+pub mod PddlInOrder

@@ -12,6 +12,7 @@ use Rattle.plan_texts.specs.TypedLists.{first_seen}
 use Rattle.plan_texts.specs.Types.{TypeItem}
 use Rattle.plan_model.specs.declared.types.Parent.{Parent}
 use Rattle.gd_reader.specs.Terms.{Names}
+use Rattle.hddl_reader.specs.declared.sections.Language.{Language}
 use Rattle.hddl_reader.specs.declared.sections.RawDomain.{RawDomain}
 use Rattle.hddl_reader.specs.declared.sections.RawProblem.{RawProblem}
 use Rattle.form_spellings.specs.ReadTexts.{AreRead}
@@ -71,6 +72,6 @@ pub record AreSeen (table : Names) (d : RawDomain) (p : RawProblem) (domain prob
 -- of all texts of which a domain and a problem were read, by the sections that their tokens show
 abbrev pub AllAreSeen : Type 0
 AllAreSeen =
-    (domain problem : List ℕ) (table : Names) (d : RawDomain) (p : RawProblem) → AreRead domain problem table d p
+    (l : Language) (domain problem : List ℕ) (table : Names) (d : RawDomain) (p : RawProblem) → AreRead l domain problem table d p
     → (domain_word problem_word : Word) (texts : AreDefinitions domain problem domain_word problem_word)
     → AreSeen table d p texts.domain_sections texts.problem_sections

@@ -1,12 +1,17 @@
 // What was read is bound to exactly what is spelled.
 ghost use Rattle.hddl_reader.specs.declared.parts.Parted.TheVariants.{Task, Method, Action, Network};
+ghost use Rattle.hddl_reader.specs.declared.sections.Language.TheVariants.{Pddl};
+ghost use Rattle.hddl_reader.specs.Definitions.{IsDomainRead, IsProblemRead};
 ghost use Rattle.hddl_reader.specs.Networks.{sub_headed, pair_headed, con_headed, one_of, some_of};
 ghost use Rattle.hddl_reader.specs.Parts.{no_parts, parts};
 ghost use Rattle.hddl_reader.specs.Sections.{predicate_headed, named_parts};
 ghost use Rattle.form_spellings.specs.OfAllRead.{OfAllRead, OfAllOpened};
 ghost use Rattle.form_spellings.specs.ReadNetworks.{AreReadSubtasks, AreReadPairs, AreReadConstraints};
 ghost use Rattle.form_spellings.specs.ReadSchemas.{IsReadPredicate, IsReadTask, IsReadAction, IsReadMethod, IsReadTop};
+ghost use Rattle.form_spellings.specs.ReadOf.{OfEachWhole};
 ghost use Rattle.form_spellings.specs.ReadTexts.{BoundHddlIsSpelled, SpelledHddlIsBound};
+ghost use Rattle.form_spellings.specs.ReadTexts.{BoundPddlIsSpelled, SpelledPddlIsBound};
+ghost use Rattle.form_spellings.specs.ReadTexts.{HasNoTasks, HasNoNetwork};
 
 /// What stands behind a network's keyword spells exactly the subtasks, pairs or constraints to which what was read of it is bound,
 /// over all declared words, tasks, actions, variables and ids.
@@ -26,8 +31,17 @@ pub fn schemas_spell_what_is_bound()
     ensures tops { OfAllRead (parts Network no_parts) IsReadTop }
 {}
 
-/// Two texts of which a domain and a problem were read spell an HDDL value exactly where what was read is bound to it.
+/// Two texts of which a domain and a problem were read, both as HDDL or both as PDDL, spell a value of their language exactly where
+/// what was read is bound to it.
 pub fn texts_spell_what_is_bound()
     ensures spelled { BoundHddlIsSpelled }
     ensures bound { SpelledHddlIsBound }
+    ensures pddl_spelled { BoundPddlIsSpelled }
+    ensures pddl_bound { SpelledPddlIsBound }
+{}
+
+/// What is read of a PDDL domain has no tasks and no methods, and what is read of a PDDL problem has no network.
+pub fn pddl_texts_have_no_networks()
+    ensures domains { OfEachWhole (IsDomainRead Pddl) (λ text table. HasNoTasks) }
+    ensures problems { OfEachWhole (IsProblemRead Pddl) (λ text table. HasNoNetwork) }
 {}

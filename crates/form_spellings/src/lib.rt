@@ -6,11 +6,12 @@
 //! `whole_definitions`), so also where it spells a domain or a problem as declared (`spelled_definitions_are_whole`); what is read,
 //! once its names are bound, is spelled by the parts from which it was read (`what_is_read_is_spelled`), and these parts spell nothing
 //! else (`what_is_spelled_is_read`); the same holds of the parts of networks (`networks_spell_what_is_bound`), of schemas
-//! (`schemas_spell_what_is_bound`) and of the whole texts of an HDDL domain and problem (`texts_spell_what_is_bound`); its names
-//! stand in the name table (`names_stand_in_the_table`), its offsets are those of tokens (`places_are_those_of_tokens`), one word at
-//! each (`one_word_stands_at_one_offset`), and its lists stand in the order of the text (`what_is_read_is_in_order`); the texts
-//! first name types, pairs and unions in the order of its offsets, so what is read, bound in this order, is the HDDL value of its
-//! texts (`offsets_tell_what_is_first_seen`).
+//! (`schemas_spell_what_is_bound`) and of the whole texts of a domain and a problem, of HDDL or of PDDL
+//! (`texts_spell_what_is_bound`), where what is read of PDDL has no networks (`pddl_texts_have_no_networks`); its names stand in the
+//! name table (`names_stand_in_the_table`), its offsets are those of tokens (`places_are_those_of_tokens`), one word at each
+//! (`one_word_stands_at_one_offset`), and its lists stand in the order of the text (`what_is_read_is_in_order`); the texts first name
+//! types, pairs and unions in the order of its offsets, so what is read, bound in this order, is the value of its texts, of either
+//! language (`offsets_tell_what_is_first_seen`).
 #![tactic(auto)]
 
 mod bound;
@@ -22,7 +23,8 @@ mod read;
 mod rising;
 
 pub use bound::{
-    networks_spell_what_is_bound, schemas_spell_what_is_bound, texts_spell_what_is_bound,
+    networks_spell_what_is_bound, pddl_texts_have_no_networks, schemas_spell_what_is_bound,
+    texts_spell_what_is_bound,
 };
 pub use first_seen::offsets_tell_what_is_first_seen;
 pub use laws::{

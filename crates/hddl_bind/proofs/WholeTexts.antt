@@ -4,6 +4,7 @@ use Rattle.name_numbers.specs.Spots.{noted}
 use Rattle.name_numbers.specs.declared.faults.Spot.{Spot}
 use Rattle.name_numbers.proofs.Least.{none_is_noted}
 use Rattle.gd_reader.specs.Terms.{Names}
+use Rattle.hddl_reader.specs.declared.sections.Language.{Language}
 use Rattle.hddl_reader.specs.declared.sections.RawDomain.{RawDomain}
 use Rattle.hddl_reader.specs.declared.sections.RawProblem.{RawProblem}
 use Rattle.plan_model.specs.declared.types.Types.{Types}
@@ -28,15 +29,15 @@ use Rattle.hddl_bind.specs.WholeDomains.{AreKindsOf, with_schemas, IsSectionNote
 use Rattle.hddl_bind.specs.WholeProblems.{known_with, known_by, parts_by, extended, with_start, together, IsStart, IsProblemNoted, IsNotedWithStart, IsProblemBound, IsProblemRefused}
 use Rattle.hddl_bind.specs.WholeUnions.{problem_unions}
 
-module _ (object : ℕ) (d : RawDomain) (kinds : Kinds) (are : AreKindsOf object d kinds) where
+module _ (l : Language) (object : ℕ) (d : RawDomain) (kinds : Kinds) (are : AreKindsOf object d kinds) where
   pub domain_noted : (old one two new : Option Spot) (names : DomainNames) (types : Types) (schemas : DomainSchemas) (b : BoundDomain)
-      → IsSectionNoted object d old one → two ≡ noted one (second_names d)
+      → IsSectionNoted l object d old one → two ≡ noted one (second_names d)
       → names.known ≡ known_in kinds d → names.callables ≡ declared d.tasks d.actions
       → types ≡ types_bound names.known.types (pairs_in_order names.known.types.types d.types)
       → schemas ≡ schemas_bound names.known names.callables d
       → AreSchemasNoted names.known names.callables d two new
       → b ≡ with_schemas d.name types schemas names
-      → IsDomainNoted object d old new b
+      → IsDomainNoted l object d old new b
   domain_noted old one two new names types schemas b (spots, least, first) second known called listed bound (cycles, are_cycles, third) made =
       let typed : types ≡ types_bound kinds (pairs_in_order kinds.types d.types) = listed ∙ ap (λ (k : Known). types_bound k.types (pairs_in_order k.types.types d.types)) known in
       let parts : schemas ≡ schemas_bound (known_in kinds d) (declared d.tasks d.actions) d = bound ∙ (λ i. schemas_bound (known i) (called i) d) in
@@ -47,14 +48,14 @@ module _ (object : ℕ) (d : RawDomain) (kinds : Kinds) (are : AreKindsOf object
       )
 
 -- a domain that is noted is judged
-module _ (names : Names) (d : RawDomain) (object : ℕ) (is : IsObject names object) (b : BoundDomain) where
-  pub domain_bound_if : (least : Option Spot) → IsDomainNoted object d None least b → (r : Result BoundDomain BindError) → r ≡ judged_by 0 b least → IfOk r (IsDomainBound names d)
-  domain_bound_if None (x, all, made) r e = subst (λ s. IfOk s (IsDomainBound names d)) (sym e) (object, is, (x, none_is_noted _ (sym all), made))
-  domain_bound_if (Some s) n r e = subst (λ t. IfOk t (IsDomainBound names d)) (sym e) tt
+module _ (l : Language) (names : Names) (d : RawDomain) (object : ℕ) (is : IsObject names object) (b : BoundDomain) where
+  pub domain_bound_if : (least : Option Spot) → IsDomainNoted l object d None least b → (r : Result BoundDomain BindError) → r ≡ judged_by 0 b least → IfOk r (IsDomainBound l names d)
+  domain_bound_if None (x, all, made) r e = subst (λ s. IfOk s (IsDomainBound l names d)) (sym e) (object, is, (x, none_is_noted _ (sym all), made))
+  domain_bound_if (Some s) n r e = subst (λ t. IfOk t (IsDomainBound l names d)) (sym e) tt
 
-  pub domain_refused_if : (least : Option Spot) → IsDomainNoted object d None least b → (r : Result BoundDomain BindError) → r ≡ judged_by 0 b least → IfErr r (IsDomainRefused names d)
-  domain_refused_if None n r e = subst (λ s. IfErr s (IsDomainRefused names d)) (sym e) tt
-  domain_refused_if (Some s) (x, all, made) r e = subst (λ t. IfErr t (IsDomainRefused names d)) (sym e) (refl, (object, is, (x, sym all)))
+  pub domain_refused_if : (least : Option Spot) → IsDomainNoted l object d None least b → (r : Result BoundDomain BindError) → r ≡ judged_by 0 b least → IfErr r (IsDomainRefused l names d)
+  domain_refused_if None n r e = subst (λ s. IfErr s (IsDomainRefused l names d)) (sym e) tt
+  domain_refused_if (Some s) (x, all, made) r e = subst (λ t. IfErr t (IsDomainRefused l names d)) (sym e) (refl, (object, is, (x, sym all)))
 
 module _ (d : BoundDomain) (p : RawProblem) where
   pub problem_noted : (start : ℕ) (old one new : Option Spot) (names : DomainNames) (parts : ProblemParts) (more : BoundDomain)

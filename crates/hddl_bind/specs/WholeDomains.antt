@@ -8,7 +8,7 @@ use Rattle.name_faults.specs.Types.{most_types}
 use Rattle.name_numbers.specs.Spots.{spot, noted, AreLeastOf}
 use Rattle.name_numbers.specs.declared.faults.Spot.{Spot}
 use Rattle.gd_reader.specs.Terms.{Names}
-use Rattle.hddl_reader.specs.declared.sections.Language.TheVariants.{Hddl}
+use Rattle.hddl_reader.specs.declared.sections.Language.{Language}
 use Rattle.hddl_reader.specs.declared.sections.RawDomain.{RawDomain}
 use Rattle.bind_types.specs.Cycle.{IsSectionFault}
 use Rattle.bind_types.specs.Kinds.{Kinds}
@@ -62,38 +62,39 @@ module _ (kinds : Kinds) (d : RawDomain) where
   abbrev pub domain_faults : List Spot → List (Option ℕ) → List Spot
   domain_faults types cycles = types ++ (second_names d ++ schemas_faults (known_in kinds d) (declared d.tasks d.actions) d cycles)
 
--- By what a domain is bound, where object has this number: the types and unions, the faults of the types, the cycles of the methods.
-pub record DomainBinding (object : ℕ) (d : RawDomain) : Type 0 where
+-- By what a domain of a language is bound, where object has this number: the types and unions, the faults of the types, the cycles of
+-- the methods.
+pub record DomainBinding (l : Language) (object : ℕ) (d : RawDomain) : Type 0 where
   pub kinds : Kinds
   pub are_kinds : AreKindsOf object d kinds
   pub types : List Spot
-  pub are_of_types : AreLeastOf (IsSectionFault (most_types Hddl) object d.types) types
+  pub are_of_types : AreLeastOf (IsSectionFault (most_types l) object d.types) types
   pub cycles : List (Option ℕ)
   pub are_cycles : Together IsCycleOf d.methods cycles
 
-module _ (object : ℕ) (d : RawDomain) where
-  abbrev pub faults_by : DomainBinding object d → List Spot
+module _ (l : Language) (object : ℕ) (d : RawDomain) where
+  abbrev pub faults_by : DomainBinding l object d → List Spot
   faults_by x = domain_faults x.kinds d x.types x.cycles
 
-  abbrev pub bound_by : DomainBinding object d → BoundDomain
+  abbrev pub bound_by : DomainBinding l object d → BoundDomain
   bound_by x = domain_bound x.kinds d
 
   abbrev pub IsSectionNoted : Option Spot → Option Spot → Type 0
-  IsSectionNoted old new = NotesLeast (IsSectionFault (most_types Hddl) object d.types) old new
+  IsSectionNoted old new = NotesLeast (IsSectionFault (most_types l) object d.types) old new
 
   -- the domain is bound, and its faults are noted
   abbrev pub IsDomainNoted : Option Spot → Option Spot → BoundDomain → Type 0
-  IsDomainNoted old new b = (x : DomainBinding object d) × (new ≡ noted old (faults_by x)) × (b ≡ bound_by x)
+  IsDomainNoted old new b = (x : DomainBinding l object d) × (new ≡ noted old (faults_by x)) × (b ≡ bound_by x)
 
 abbrev pub IsObject : Names → ℕ → Type 0
 IsObject names object = number_of names (codes "object") ≡ Some object
 
-module _ (names : Names) (d : RawDomain) where
+module _ (l : Language) (names : Names) (d : RawDomain) where
   -- the domain has no fault, and this is what it is bound to
   abbrev pub IsDomainBound : BoundDomain → Type 0
-  IsDomainBound b = (object : ℕ) × IsObject names object × ((x : DomainBinding object d) × (faults_by object d x ≡ []) × (b ≡ bound_by object d x))
+  IsDomainBound b = (object : ℕ) × IsObject names object × ((x : DomainBinding l object d) × (faults_by l object d x ≡ []) × (b ≡ bound_by l object d x))
 
   -- this is the least of its faults, by offset and then by code, in the first file; or memory ran out
   abbrev pub IsDomainRefused : BindError → Type 0
-  IsDomainRefused (Bad f) = (f.file ≡ 0) × ((object : ℕ) × IsObject names object × ((x : DomainBinding object d) × (noted None (faults_by object d x) ≡ Some (spot f.at f.code))))
+  IsDomainRefused (Bad f) = (f.file ≡ 0) × ((object : ℕ) × IsObject names object × ((x : DomainBinding l object d) × (noted None (faults_by l object d x) ≡ Some (spot f.at f.code))))
   IsDomainRefused Memory = Unit {0}

@@ -4,6 +4,7 @@ ghost use Rattle.gd_reader.specs.Terms.{Keeps};
 ghost use Rattle.bind_types.specs.Cycle.{IsSection};
 ghost use Rattle.bind_types.specs.Listed.{types_bound};
 ghost use Rattle.bind_types.specs.Parents.{pairs_in_order};
+ghost use Rattle.name_faults.specs.Types.{most_types};
 ghost use Rattle.hddl_bind.specs.DomainSchemas.{schemas_bound, AreSchemasNoted};
 ghost use Rattle.hddl_bind.specs.WholeDomains as spec;
 
@@ -12,14 +13,11 @@ use crate::domain_schemas::{DomainSchemas, schemas_of};
 use crate::errors::{BindError, judged};
 use crate::whole_unions::unions_of_domain;
 use bind_types::{TypeTable, section_of, types_of};
-use hddl_reader::RawDomain;
+use hddl_reader::{Language, RawDomain};
 use htn_base::{List, Memory, Name, NameTable};
 use name_numbers::Faults;
 use plan_model::{ActionSchema, MethodSchema, Object, Predicate, TaskSchema, Types};
 use std::alloc::Global;
-
-/// So many types other than `object` a domain may have.
-const MOST_TYPES: u32 = 1000;
 
 /// A domain with its names bound, and the names by which its problems are bound. The objects are its constants.
 #[derive(Drop)]
@@ -34,35 +32,41 @@ pub struct BoundDomain {
     pub names: DomainNames,
 }
 
-/// The domain for which an HDDL domain stands that was read, or its least fault, by offset and then by code: 10 to 17 or 19 to 22.
-/// The table gets the word `object`.
+/// The domain for which a domain of this language stands that was read, or its least fault, by offset and then by code: 10 to 17 or
+/// 19 to 22. The table gets the word `object`.
 pub fn bind_domain(
     alloc: Global,
+    language: Language,
     names: &mut NameTable,
     d: RawDomain,
 ) -> Result<BoundDomain, BindError>
     requires section { IsSection d.types }
-    ensures bound { IfOk result (spec.IsDomainBound names.new d) }
-    ensures refused { IfErr result (spec.IsDomainRefused names.new d) }
+    ensures bound { IfOk result (spec.IsDomainBound language names.new d) }
+    ensures refused { IfErr result (spec.IsDomainRefused language names.new d) }
     ensures keeps { Keeps names.old names.new }
     ensures words { OnOk result (names.new ≡ with_word names.old (codes "object")) }
 {
-    let bound = domain_of(alloc, names, &d);
+    let bound = domain_of(alloc, language, names, &d);
     drop(d);
     bound
 }
 
 #[tactic(auto, using(gd_reader::proofs::Keeping::keeps_same, gd_reader::proofs::Keeping::keeps_word))]
-fn domain_of(alloc: Global, names: &mut NameTable, d: &RawDomain) -> Result<BoundDomain, BindError>
+fn domain_of(
+    alloc: Global,
+    language: Language,
+    names: &mut NameTable,
+    d: &RawDomain,
+) -> Result<BoundDomain, BindError>
     requires section { IsSection d.now.types }
-    ensures bound { IfOk result (spec.IsDomainBound names.new d.now) }
-    ensures refused { IfErr result (spec.IsDomainRefused names.new d.now) }
+    ensures bound { IfOk result (spec.IsDomainBound language names.new d.now) }
+    ensures refused { IfErr result (spec.IsDomainRefused language names.new d.now) }
     ensures keeps { Keeps names.old names.new }
     ensures words { OnOk result (names.new ≡ with_word names.old (codes "object")) }
 {
     let object = names.intern(b"object")?;
     let mut faults = Faults::new();
-    match noted_domain(alloc, object, d, &mut faults) {
+    match noted_domain(alloc, language, object, d, &mut faults) {
         Ok(bound) => judged(bound, faults, 0),
         Err(_) => Err(BindError::Memory),
     }
@@ -71,15 +75,16 @@ fn domain_of(alloc: Global, names: &mut NameTable, d: &RawDomain) -> Result<Boun
 /// The domain whose faults are noted. Where one is, the domain is not used.
 fn noted_domain(
     alloc: Global,
+    language: Language,
     object: Name,
     d: &RawDomain,
     faults: &mut Faults,
 ) -> Result<BoundDomain, Memory>
     requires section { IsSection d.now.types }
     ensures bound { IfOk result
-        (spec.IsDomainNoted object.number d.now faults.old.least faults.new.least) }
+        (spec.IsDomainNoted language object.number d.now faults.old.least faults.new.least) }
 {
-    let types = types_known(alloc, object, d, faults)?;
+    let types = types_known(alloc, language, object, d, faults)?;
     let names = names_of(alloc, types, d, faults)?;
     match parts_of(alloc, &names, d, faults) {
         Ok((types, schemas)) => Ok(together(d.name, types, schemas, names)),
@@ -93,6 +98,7 @@ fn noted_domain(
 /// The types of the section and the unions of the domain.
 fn types_known(
     alloc: Global,
+    language: Language,
     object: Name,
     d: &RawDomain,
     faults: &mut Faults,
@@ -100,13 +106,23 @@ fn types_known(
     requires section { IsSection d.now.types }
     ensures kinds { IfOk result (spec.AreKindsOf object.number d.now) }
     ensures faults { OnOk result
-        (spec.IsSectionNoted object.number d.now faults.old.least faults.new.least) }
+        (spec.IsSectionNoted language object.number d.now faults.old.least faults.new.least) }
 {
-    let types = section_of(alloc, object, MOST_TYPES, &d.types, faults)?;
+    let types = section_of(alloc, object, most_types(language), &d.types, faults)?;
     let mut table = TypeTable::new(alloc, types);
     let found = unions_of_domain(alloc, &table, d)?;
     table.add_unions(alloc, found)?;
     Ok(table)
+}
+
+/// So many types other than `object` a domain may have.
+fn most_types(language: Language) -> u32
+    ensures most { result ≡ most_types language }
+{
+    match language {
+        Language::Hddl => 1000,
+        Language::Pddl => 1002,
+    }
 }
 
 fn parts_of(

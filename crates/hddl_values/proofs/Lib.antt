@@ -1,4 +1,5 @@
 pub mod DomainTexts
 pub mod ProblemTexts
 pub mod Refusals
-mod Spelled
+mod HddlTexts
+pub mod Spelled

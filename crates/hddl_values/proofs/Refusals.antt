@@ -2,6 +2,7 @@
 use Rattle.std.proofs.Common.{ℕ, ◌≡◌, List, sym, subst, Result, Ok, Err}
 use Rattle.std.specs.Prelude.{IfErr}
 use Rattle.gd_reader.specs.Terms.{Names}
+use Rattle.hddl_reader.specs.declared.sections.Language.{Language}
 use Rattle.plan_model.specs.declared.values.Hddl.{Hddl}
 use Rattle.hddl_bind.specs.declared.bound_domain.BoundDomain.{BoundDomain}
 use Rattle.sexpr_text.specs.declared.read_error.ReadError.{ReadError}
@@ -11,17 +12,17 @@ use Rattle.hddl_values.specs.Reading.{RefusesDomain, RefusesOver, RefusesProblem
 use Rattle.hddl_values.specs.Values.{IsRefusal}
 use Rattle.hddl_values.proofs.DomainTexts.{good_domain}
 
-module _ (domain problem : List ℕ) where
-  pub domain_refused : (e : ReadError) → RefusesDomain domain e → IsRefusal domain problem e
+module _ (l : Language) (domain problem : List ℕ) where
+  pub domain_refused : (e : ReadError) → RefusesDomain l domain e → IsRefusal domain problem l e
   domain_refused errors.Memory h = tt
-  domain_refused (errors.Bad f) (file, least) = subst (λ n. IsLeastFault domain problem n f.code f.at) (sym file) (in_domain least)
+  domain_refused (errors.Bad f) (file, least) = subst (λ n. IsLeastFault l domain problem n f.code f.at) (sym file) (in_domain least)
 
-  refused : (table : Names) (b : BoundDomain) → IsBoundText domain table b → (e : ReadError) → RefusesOver domain problem e → IsRefusal domain problem e
+  refused : (table : Names) (b : BoundDomain) → IsBoundText l domain table b → (e : ReadError) → RefusesOver l domain problem e → IsRefusal domain problem l e
   refused table b bound errors.Memory h = tt
   refused table b bound (errors.Bad f) (file, least) =
-      subst (λ n. IsLeastFault domain problem n f.code f.at) (sym file) (in_problem table bound.d (good_domain domain table b bound) least)
+      subst (λ n. IsLeastFault l domain problem n f.code f.at) (sym file) (in_problem table bound.d (good_domain l domain table b bound) least)
 
-  pub problem_refused : (table : Names) (b : BoundDomain) → IsBoundText domain table b → (r : Result Hddl ReadError)
-      → IfErr r (RefusesProblem table b problem) → IfErr r (IsRefusal domain problem)
+  pub problem_refused : (table : Names) (b : BoundDomain) → IsBoundText l domain table b → (r : Result Hddl ReadError)
+      → IfErr r (RefusesProblem l table b problem) → IfErr r (IsRefusal domain problem l)
   problem_refused table b bound (Ok h) is = tt
   problem_refused table b bound (Err e) is = refused table b bound e (is domain bound)

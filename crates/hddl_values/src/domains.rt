@@ -7,7 +7,7 @@ ghost use Rattle.hddl_values.specs.Reading.{IsBoundText, RefusesDomain, RefusesN
 
 use crate::reading::{differ, read_domain};
 use hddl_bind::{BindError, BoundDomain, bind_domain};
-use hddl_reader::RawDomain;
+use hddl_reader::{Language, RawDomain};
 use htn_base::NameTable;
 use sexpr_text::ReadError;
 use std::alloc::Global;
@@ -15,16 +15,17 @@ use std::alloc::Global;
 /// The domain of a text with its names bound, or its least fault, by phase, offset and code.
 pub(crate) fn bound_domain(
     alloc: Global,
+    language: Language,
     text: &[u8],
     names: &mut NameTable,
 ) -> Result<BoundDomain, ReadError>
     requires short { length text.now ≤ 16777216 }
     requires empty { names.old ≡ [] }
-    ensures bound { IfOk result (IsBoundText text.now names.new) }
-    ensures refused { IfErr result (RefusesDomain text.now) }
+    ensures bound { IfOk result (IsBoundText language text.now names.new) }
+    ensures refused { IfErr result (RefusesDomain language text.now) }
 {
-    match read_domain(alloc, text, names) {
-        Ok(domain) => bound_names(alloc, domain, names),
+    match read_domain(alloc, language, text, names) {
+        Ok(domain) => bound_names(alloc, language, domain, names),
         Err(error) => Err(error),
     }
 }
@@ -32,17 +33,18 @@ pub(crate) fn bound_domain(
 /// The same of a domain that was read.
 fn bound_names(
     alloc: Global,
+    language: Language,
     domain: RawDomain,
     names: &mut NameTable,
 ) -> Result<BoundDomain, ReadError>
     requires section { IsSection domain.types }
-    ensures bound { IfOk result (IsDomainBound names.new domain) }
-    ensures refused { IfErr result (RefusesNames names.new domain) }
+    ensures bound { IfOk result (IsDomainBound language names.new domain) }
+    ensures refused { IfErr result (RefusesNames language names.new domain) }
     ensures differ { AreDifferent names.new }
     ensures few { OnOk result (length names.new ≤ length names.old + 1) }
     ensures keeps { Keeps names.old names.new }
 {
-    let bound = bind_domain(alloc, names, domain);
+    let bound = bind_domain(alloc, language, names, domain);
     differ(names);
     match bound {
         Ok(bound) => Ok(bound),

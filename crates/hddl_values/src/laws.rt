@@ -3,8 +3,8 @@ ghost use Rattle.hddl_values.specs.Exactly.{SpelledHaveNoFault};
 
 use fault_laws::spelled_texts_are_faultless;
 
-/// Two texts have no fault of any phase where they spell a sound value whose networks have no cycle, with at most 1,000 types
-/// beside object.
+/// Two texts have no fault of any phase, and none can be told of them, where they spell a sound value whose networks have no cycle,
+/// with at most 1,000 types beside object, and at most 200 lists are open at a time in them.
 pub fn spelled_texts_have_no_fault()
     ensures { SpelledHaveNoFault }
 {

@@ -1,9 +1,9 @@
-//! The value of two HDDL texts, or their least fault.
+//! The value of two HDDL texts, or their least fault; and what two texts of either language are read as.
 //!
 //! Stands on `sexpr_text` for tokens, `hddl_reader` for forms and `hddl_bind` for names, and on the laws of `form_spellings` and
 //! `binding_laws`, which say in words what those say by numbers. The contract used above: `hddl_of` answers a value exactly where
 //! the texts have no fault; they then spell it, it is sound, and no network of it has a cycle. Else it answers their least fault, by
-//! file, phase, offset and code.
+//! file, phase, offset and code. Both stand on `read_as`, on which `pddl_values` stands too.
 #![tactic(auto)]
 
 mod domains;
@@ -13,4 +13,4 @@ mod reading;
 mod values;
 
 pub use laws::spelled_texts_have_no_fault;
-pub use values::hddl_of;
+pub use values::{hddl_of, read_as};

@@ -1,30 +1,29 @@
 ghost use Rattle.std.specs.Prelude.{◌≤◌, length, IfOk, IfErr};
-ghost use Rattle.hddl_values.specs.Reading.{IsValueOver, RefusesProblem};
+ghost use Rattle.hddl_values.specs.Reading.{IsReadOver, RefusesProblem};
 
 use crate::domains::read_error;
 use crate::reading::read_problem;
-use binding_laws::read_values_are_sound;
 use hddl_bind::{BoundDomain, bind_problem};
+use hddl_reader::Language;
 use htn_base::NameTable;
 use plan_model::Hddl;
 use sexpr_text::ReadError;
 use std::alloc::Global;
 
-/// The value of a problem's text over a domain, or the text's least fault, by phase, offset and code.
+/// What is read of a problem's text over a domain and bound, or the text's least fault, by phase, offset and code.
 pub(crate) fn value_over(
     alloc: Global,
+    language: Language,
     names: NameTable,
     domain: BoundDomain,
     text: &[u8],
 ) -> Result<Hddl, ReadError>
     requires short { length text.now ≤ 16777216 }
-    ensures value { IfOk result (IsValueOver names domain text.now) }
-    ensures refused { IfErr result (RefusesProblem names domain text.now) }
+    ensures value { IfOk result (IsReadOver language names domain text.now) }
+    ensures refused { IfErr result (RefusesProblem language names domain text.now) }
 {
-    // a law, which does nothing
-    read_values_are_sound();
     let mut names = names;
-    match read_problem(alloc, text, &mut names) {
+    match read_problem(alloc, language, text, &mut names) {
         Ok(problem) => match bind_problem(alloc, names, domain, problem) {
             Ok(value) => Ok(value),
             Err(error) => Err(read_error(error)),

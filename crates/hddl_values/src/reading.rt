@@ -14,31 +14,37 @@ use std::alloc::Global;
 /// The domain as it is written, or its fault of tokens or of form.
 pub(crate) fn read_domain(
     alloc: Global,
+    language: Language,
     text: &[u8],
     names: &mut NameTable,
 ) -> Result<RawDomain, ReadError>
     requires short { length text.now ≤ 16777216 }
-    ensures read { IfOk result (ReadsDomain text.now names.old names.new) }
-    ensures refused { IfErr result (RefusesForm grammar.domain 0 text.now) }
+    ensures read { IfOk result (ReadsDomain language text.now names.old names.new) }
+    ensures refused { IfErr result (RefusesForm language grammar.domain 0 text.now) }
     ensures differ { OnOk result (AreDifferent names.new) }
     ensures few { OnOk result (length names.new ≤ length names.old + length text.now) }
     ensures keeps { OnOk result (Keeps names.old names.new) }
 {
     match tokens(alloc, text, 0) {
-        Ok(s) => domain_of(alloc, &s, names),
+        Ok(s) => domain_of(alloc, language, &s, names),
         Err(error) => Err(error),
     }
 }
 
-fn domain_of(alloc: Global, s: &Sexprs<'_>, names: &mut NameTable) -> Result<RawDomain, ReadError>
+fn domain_of(
+    alloc: Global,
+    language: Language,
+    s: &Sexprs<'_>,
+    names: &mut NameTable,
+) -> Result<RawDomain, ReadError>
     requires faultless { IsFaultless s.now }
-    ensures read { IfOk result (ReadsDomain s.now names.old names.new) }
-    ensures refused { IfErr result (RefusesForm grammar.domain 0 s.now) }
+    ensures read { IfOk result (ReadsDomain language s.now names.old names.new) }
+    ensures refused { IfErr result (RefusesForm language grammar.domain 0 s.now) }
     ensures differ { AreDifferent names.new }
     ensures few { length names.new ≤ length names.old + length s.now }
     ensures keeps { Keeps names.old names.new }
 {
-    let domain = domain(alloc, s, 0, Language::Hddl, names);
+    let domain = domain(alloc, s, 0, language, names);
     differ(names);
     domain
 }
@@ -46,31 +52,37 @@ fn domain_of(alloc: Global, s: &Sexprs<'_>, names: &mut NameTable) -> Result<Raw
 /// The problem as it is written, or its fault of tokens or of form.
 pub(crate) fn read_problem(
     alloc: Global,
+    language: Language,
     text: &[u8],
     names: &mut NameTable,
 ) -> Result<RawProblem, ReadError>
     requires short { length text.now ≤ 16777216 }
-    ensures read { IfOk result (ReadsProblem text.now names.old names.new) }
-    ensures refused { IfErr result (RefusesForm grammar.problem 1 text.now) }
+    ensures read { IfOk result (ReadsProblem language text.now names.old names.new) }
+    ensures refused { IfErr result (RefusesForm language grammar.problem 1 text.now) }
     ensures differ { OnOk result (AreDifferent names.new) }
     ensures few { OnOk result (length names.new ≤ length names.old + length text.now) }
     ensures keeps { OnOk result (Keeps names.old names.new) }
 {
     match tokens(alloc, text, 1) {
-        Ok(s) => problem_of(alloc, &s, names),
+        Ok(s) => problem_of(alloc, language, &s, names),
         Err(error) => Err(error),
     }
 }
 
-fn problem_of(alloc: Global, s: &Sexprs<'_>, names: &mut NameTable) -> Result<RawProblem, ReadError>
+fn problem_of(
+    alloc: Global,
+    language: Language,
+    s: &Sexprs<'_>,
+    names: &mut NameTable,
+) -> Result<RawProblem, ReadError>
     requires faultless { IsFaultless s.now }
-    ensures read { IfOk result (ReadsProblem s.now names.old names.new) }
-    ensures refused { IfErr result (RefusesForm grammar.problem 1 s.now) }
+    ensures read { IfOk result (ReadsProblem language s.now names.old names.new) }
+    ensures refused { IfErr result (RefusesForm language grammar.problem 1 s.now) }
     ensures differ { AreDifferent names.new }
     ensures few { length names.new ≤ length names.old + length s.now }
     ensures keeps { Keeps names.old names.new }
 {
-    let problem = problem(alloc, s, 1, Language::Hddl, names);
+    let problem = problem(alloc, s, 1, language, names);
     differ(names);
     problem
 }

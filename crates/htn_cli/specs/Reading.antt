@@ -5,6 +5,7 @@ use Rattle.plan_model.specs.declared.values.Hddl.{Hddl}
 use Rattle.plan_texts.specs.FirstSeen.{IsHddlOf}
 use Rattle.plan_texts.specs.SoundProblem.{IsSoundProblem}
 use Rattle.plan_meaning.specs.Laws.{AreOrdered}
+use Rattle.hddl_reader.specs.declared.sections.Language.TheVariants as language
 use Rattle.hddl_values.specs.TextFaults.{IsLeastFault}
 use Rattle.htn_cli.specs.declared.reading.Unread.{Unread}
 use Rattle.htn_cli.specs.declared.reading.Unread.TheVariants.{NotOfForm, Memory}
@@ -18,7 +19,7 @@ module _ (domain problem : List ℕ) where
 
   -- the two texts, of at most 16,777,216 bytes each, have a fault: this is their least one
   abbrev pub AreRefused : Type 0
-  AreRefused = length domain ≤ 16777216 → length problem ≤ 16777216 → (file : ℕ) × (code : ℕ) × (at : ℕ) × IsLeastFault domain problem file code at
+  AreRefused = length domain ≤ 16777216 → length problem ≤ 16777216 → (file : ℕ) × (code : ℕ) × (at : ℕ) × IsLeastFault language.Hddl domain problem file code at
 
   -- why no problem is answered
   abbrev pub IsUnread : Unread → Type 0

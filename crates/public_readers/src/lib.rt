@@ -7,6 +7,8 @@
 #[cfg(test)]
 mod classical_plans;
 #[cfg(test)]
+mod classical_texts;
+#[cfg(test)]
 mod definitions;
 #[cfg(test)]
 mod faults;

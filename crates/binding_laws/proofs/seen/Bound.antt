@@ -13,6 +13,7 @@ use Rattle.text_forms.specs.Words as words
 use Rattle.gd_reader.specs.Terms.{Names}
 use Rattle.gd_reader.specs.declared.term.RawTerm.{RawTerm}
 use Rattle.gd_reader.specs.declared.typed_lists.RawParam.{RawParam}
+use Rattle.hddl_reader.specs.declared.sections.Language.{Language}
 use Rattle.hddl_reader.specs.declared.sections.Language.TheVariants as language
 use Rattle.hddl_reader.specs.declared.sections.RawDomain.{RawDomain}
 use Rattle.hddl_reader.specs.declared.sections.RawProblem.{RawProblem}
@@ -75,8 +76,8 @@ zero_or : (o : Option ℕ) → place_or_zero o ≡ unwrap_or o 0
 zero_or None = refl
 zero_or (Some k) = refl
 
-module _ (before left : Names) (d : RawDomain) (p : RawProblem) (is : AreInOrder before (with_start left) d p) (object : ℕ) (of_object : IsObject before object) (x : DomainBinding object d) (ex : faults_by object d x ≡ [])
-    (start : ℕ) (y : ProblemBinding (bound_by object d x) p) (ey : problem.faults_by (bound_by object d x) p y ≡ []) where
+module _ (before left : Names) (d : RawDomain) (p : RawProblem) (is : AreInOrder before (with_start left) d p) (object : ℕ) (of_object : IsObject before object) (l : Language) (x : DomainBinding l object d) (ex : faults_by l object d x ≡ [])
+    (start : ℕ) (y : ProblemBinding (bound_by l object d x) p) (ey : problem.faults_by (bound_by l object d x) p y ≡ []) where
   abbrev names : Names
   names = with_start left
 
@@ -88,7 +89,7 @@ module _ (before left : Names) (d : RawDomain) (p : RawProblem) (is : AreInOrder
   types_alone = record { types = kinds.types; unions = [] }
 
   abbrev value : Hddl
-  value = hddl_bound (bound_by object d x) y.unions p left start
+  value = hddl_bound (bound_by l object d x) y.unions p left start
 
   abbrev W : List Word
   W = words_of names kinds.types
@@ -105,11 +106,11 @@ module _ (before left : Names) (d : RawDomain) (p : RawProblem) (is : AreInOrder
   of_alone : AreTypesOf names d types_alone
   of_alone = let of = are_types.0 in record { differ = of.differ; known = of.known; words = of.words }
 
-  no_domain : HasNoFault (HasDomainFault language.Hddl names d)
-  no_domain = domain_none before names d p is object of_object x ex
+  no_domain : HasNoFault (HasDomainFault l names d)
+  no_domain = domain_none before names d p is object of_object l x ex
 
   no_problem : HasNoFault (HasProblemFault names d p)
-  no_problem = problem_none before names d p is object of_object x y ey
+  no_problem = problem_none before names d p is object of_object l x y ey
 
   abbrev rest : List Word
   rest = first_seen (codes "object" ∷ []) (map (term_word names) texts)
@@ -227,10 +228,10 @@ module _ (before left : Names) (d : RawDomain) (p : RawProblem) (is : AreInOrder
   }
 
 pub is_in_seen_order : OfAllBound IsInSeenOrder
-is_in_seen_order before left d p b h is (object, of_object, (x, ex, same)) (start, of_start, (y, ey, is_value)) =
+is_in_seen_order before left d p l b h is (object, of_object, (x, ex, same)) (start, of_start, (y, ey, is_value)) =
     let r = subst (λ b. (y : ProblemBinding b p) × (problem.faults_by b p y ≡ []) × (h ≡ hddl_bound b y.unions p left start)) same (y, ey, is_value) in
-    subst (IsBoundInOrder (with_start left) d p) (sym r.2) (in_order before left d p is object of_object x ex start r.0 r.1)
+    subst (IsBoundInOrder (with_start left) d p) (sym r.2) (in_order before left d p is object of_object l x ex start r.0 r.1)
 
 pub is_of_texts : OfAllBound IsOfTexts
 is_of_texts before left d p domain text r u v b h is db pb =
-    bound_is_of_texts domain text (with_start left) d p r u v h (is_bound_both before left d p b h is db pb) (is_in_seen_order before left d p b h is db pb)
+    bound_is_of_texts domain text (with_start left) d p r u v h (is_bound_both before left d p language.Hddl b h is db pb) (is_in_seen_order before left d p language.Hddl b h is db pb)

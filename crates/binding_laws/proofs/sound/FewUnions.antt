@@ -10,8 +10,10 @@ use Rattle.text_forms.specs.Printing.{headed, definition}
 use Rattle.text_forms.specs.Tokens.{right, symbol, symbols, lexeme, lexemes, tokens}
 use Rattle.text_forms.specs.Words.{Word, is_among}
 use Rattle.text_forms.proofs.Lists.{few_tokens}
-use Rattle.plan_texts.specs.FirstSeen.{union_of, without_types, unions_in, unions_in_all, first_unions}
-use Rattle.plan_texts.specs.Declared.{type_words}
+use Rattle.plan_texts.specs.Declared.{named, type_words, union_words}
+use Rattle.plan_texts.specs.Domains.{AreDefinitions}
+use Rattle.plan_texts.specs.FirstSeen.{union_of, without_types, unions_in, unions_in_all, first_unions, unions_in_order}
+use Rattle.plan_model.specs.declared.types.Types.{Types}
 use Rattle.plan_texts.specs.TypedLists.{first_seen, words_in}
 use Rattle.text_forms.specs.Words.{word_at}
 use Rattle.binding_laws.specs.SoundValues.{HasFewUnions}
@@ -79,13 +81,17 @@ sections_few kind w text sections is =
     let g = length-append (written (headed kind (part (name w) nothing))) (written_all sections) in
     omega arith
 
-pub has_few_unions : HasFewUnions
-has_few_unions domain problem h is =
-    let texts = is.spelled.texts in
-    let a = sections_few (codes "domain") _ domain texts.domain_sections texts.domain_is in
-    let b = sections_few (codes "problem") _ problem texts.problem_sections texts.problem_is in
+-- the unions of both texts, each once
+pub few_unions : (domain problem : List ℕ) (w u : Word) (texts : AreDefinitions domain problem w u) (names : List Word) (t : Types) → union_words names t ≡ unions_in_order texts.domain_sections texts.problem_sections
+    → length t.unions ≤ length domain + length problem
+few_unions domain problem w u texts names t same =
+    let a = sections_few (codes "domain") w domain texts.domain_sections texts.domain_is in
+    let b = sections_few (codes "problem") u problem texts.problem_sections texts.problem_is in
     let c = first_few [] (unions_in_all texts.domain_sections ++ unions_in_all texts.problem_sections) in
     let d = length-append (unions_in_all texts.domain_sections) (unions_in_all texts.problem_sections) in
-    let e = ap length is.ordered.unions in
-    let f = length-map h.types.unions (map (word_at (type_words h.names h.types))) in
+    let e = ap length same in
+    let f = length-map t.unions (map (word_at (type_words names t))) in
     omega arith
+
+pub has_few_unions : HasFewUnions
+has_few_unions domain problem h is = few_unions domain problem (named h.names h.domain) (named h.names h.problem) is.spelled.texts h.names h.types is.ordered.unions

@@ -9,6 +9,7 @@ use Rattle.htn_base.specs.Table.{with_word}
 use Rattle.gd_reader.specs.Terms.{Names}
 use Rattle.gd_reader.specs.declared.term.RawAtom.{RawAtom}
 use Rattle.gd_reader.specs.declared.typed_lists.RawParam.{RawParam}
+use Rattle.hddl_reader.specs.declared.sections.Language.{Language}
 use Rattle.hddl_reader.specs.declared.sections.Language.TheVariants as language
 use Rattle.hddl_reader.specs.declared.sections.RawAction.{RawAction}
 use Rattle.hddl_reader.specs.declared.sections.RawDomain.{RawDomain}
@@ -28,6 +29,7 @@ use Rattle.form_spellings.specs.EachPart.{OfHead, OfMethod, OfAction}
 use Rattle.form_spellings.specs.Places.{IsNameAt, OpensWith, as_written}
 use Rattle.form_spellings.specs.Rising.{Rise, param_offsets, head_offsets}
 use Rattle.name_faults.specs.Faults.{HasDomainFault}
+use Rattle.name_faults.specs.Types.{most_types}
 use Rattle.bind_types.specs.Kinds.{Kinds}
 use Rattle.bind_types.specs.Listed.{name_of}
 use Rattle.bind_types.specs.TooMany.{HaveOneWordAPlace}
@@ -108,33 +110,39 @@ module _ (text : List ℕ) (names : Names) (few : length text ≤ 2 ^ 24) where
   method_params known callables [] at o = tt
   method_params known callables (m ∷ ms) at o = (bound_short known.types m.head.params at.0.0.1 o.0.head.params.variables.in_order, method_params known callables ms at.1 o.1)
 
+-- in either language
+most_few : (l : Language) → most_types l ≤ 1002
+most_few language.Hddl = omega arith
+most_few language.Pddl = omega arith
+
 small : (names : Names) (m : MethodSchema) → IsGoodNetwork names m × IsShort m.params → IsSmallMethod m
 small names m (good, short) = record { subtasks = good.few; params = omega (arith, short) }
 
-module _ (before left : Names) (d : RawDomain) (p : RawProblem) (is : AreInOrder before (with_start left) d p) (object : ℕ) (of_object : IsObject before object) (x : DomainBinding object d) (ex : faults_by object d x ≡ [])
-    (start : ℕ) (of_start : IsStart (with_start left) start) (y : ProblemBinding (bound_by object d x) p) (ey : problem.faults_by (bound_by object d x) p y ≡ []) (of : AreOfTexts (with_start left) d p) (room : length left < 2 ^ 26) where
+module _ (before left : Names) (d : RawDomain) (p : RawProblem) (is : AreInOrder before (with_start left) d p) (object : ℕ) (of_object : IsObject before object) (l : Language) (x : DomainBinding l object d) (ex : faults_by l object d x ≡ [])
+    (start : ℕ) (of_start : IsStart (with_start left) start) (y : ProblemBinding (bound_by l object d x) p) (ey : problem.faults_by (bound_by l object d x) p y ≡ []) (of : AreOfTexts (with_start left) d p) (room : length left < 2 ^ 26) where
   abbrev names : Names
   names = with_start left
 
   abbrev value : Hddl
-  value = hddl_bound (bound_by object d x) y.unions p left start
+  value = hddl_bound (bound_by l object d x) y.unions p left start
 
   abbrev all_kinds : Kinds
   all_kinds = record { types = x.kinds.types; unions = y.unions }
 
   abbrev known : Known
-  known = whole.known before left d p is object of_object x ex start of_start y ey
+  known = whole.known before left d p is object of_object l x ex start of_start y ey
 
   abbrev more_known : Known
-  more_known = whole.more_known before left d p is object of_object x ex start of_start y ey
+  more_known = whole.more_known before left d p is object of_object l x ex start of_start y ey
 
   abbrev callables : Declared
-  callables = whole.callables before left d p is object of_object x ex start of_start y ey
+  callables = whole.callables before left d p is object of_object l x ex start of_start y ey
 
   types_few : length value.types.names ≤ 1003
   types_few =
-      let few = few_types object d.types x.are_kinds.types.0 x.are_kinds.types.1 (subst HaveOneWordAPlace (same_mentioned d.types) is.domain.types_at_places)
-      (λ at f. whole.no_domain before left d p is object of_object x ex start of_start y ey at 22 (HasDomainFault.too_many_types ((has_too_many_types names object d language.Hddl at (whole.in_types before left d p is object of_object x ex start of_start y ey)).0 f))) in
+      let few = few_types (most_types l) object d.types x.are_kinds.types.0 x.are_kinds.types.1 (subst HaveOneWordAPlace (same_mentioned d.types) is.domain.types_at_places)
+      (λ at f. whole.no_domain before left d p is object of_object l x ex start of_start y ey at 22 (HasDomainFault.too_many_types ((has_too_many_types names object d l at (whole.in_types before left d p is object of_object l x ex start of_start y ey)).0 f))) in
+      let most = most_few l in
       let e = length-map x.kinds.types name_of in
       let f = ap length x.are_kinds.types.2 in
       omega arith
@@ -170,15 +178,15 @@ module _ (before left : Names) (d : RawDomain) (p : RawProblem) (is : AreInOrder
     action_params = action_params of.domain names of.domain_short known d.actions of.domain_at.actions is.domain.actions;
     method_params = params_short;
     networks = each_wider (λ (m : MethodSchema). IsGoodNetwork names m × IsShort m.params) IsSmallMethod (all_methods value) (small names)
-        (both_each (IsGoodNetwork names) (λ (m : MethodSchema). IsShort m.params) (all_methods value) (all_good before left d p is object of_object x ex start of_start y ey) params_short);
+        (both_each (IsGoodNetwork names) (λ (m : MethodSchema). IsShort m.params) (all_methods value) (all_good before left d p is object of_object l x ex start of_start y ey) params_short);
   }
 
 pub is_sound_both : OfAllBound IsSoundBoth
-is_sound_both before left d p b h is (object, of_object, (x, ex, same)) (start, of_start, (y, ey, is_value)) of room short =
+is_sound_both before left d p l b h is (object, of_object, (x, ex, same)) (start, of_start, (y, ey, is_value)) of room short =
     let r = subst (λ b. (y : ProblemBinding b p) × (problem.faults_by b p y ≡ []) × (h ≡ hddl_bound b y.unions p left start)) same (y, ey, is_value) in
     go r.0 r.1 r.2
   where
-    go : (y : ProblemBinding (bound_by object d x) p) → problem.faults_by (bound_by object d x) p y ≡ [] → h ≡ hddl_bound (bound_by object d x) y.unions p left start → IsSoundProblem h
+    go : (y : ProblemBinding (bound_by l object d x) p) → problem.faults_by (bound_by l object d x) p y ≡ [] → h ≡ hddl_bound (bound_by l object d x) y.unions p left start → IsSoundProblem h
     go y ey e =
-        subst IsSoundProblem (sym e) (problem_sound before left d p is object of_object x ex start of_start y ey
-        (within_limits before left d p is object of_object x ex start of_start y ey of room (subst (λ (h : Hddl). IsShort h.types.unions) e short)))
+        subst IsSoundProblem (sym e) (problem_sound before left d p is object of_object l x ex start of_start y ey
+        (within_limits before left d p is object of_object l x ex start of_start y ey of room (subst (λ (h : Hddl). IsShort h.types.unions) e short)))

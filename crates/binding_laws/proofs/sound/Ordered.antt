@@ -1,6 +1,7 @@
 -- The networks of the value of a domain and a problem without faults: sound, and without a cycle.
 use Rattle.std.proofs.Common.{ℕ, ◌≡◌, [], ◌++◌, length, refl, sym, subst}
 use Rattle.gd_reader.specs.Terms.{Names}
+use Rattle.hddl_reader.specs.declared.sections.Language.{Language}
 use Rattle.hddl_reader.specs.declared.sections.RawDomain.{RawDomain}
 use Rattle.hddl_reader.specs.declared.sections.RawProblem.{RawProblem}
 use Rattle.plan_meaning.specs.Laws.{AreOrdered}
@@ -31,19 +32,19 @@ use Rattle.binding_laws.proofs.WholeValues as whole
 use Rattle.binding_laws.proofs.Written.{none_right}
 use Rattle.binding_laws.proofs.sound.GoodNetworks.{IsGoodNetwork, network_good, methods_good}
 
-module _ (before left : Names) (d : RawDomain) (p : RawProblem) (is : AreInOrder before (with_start left) d p) (object : ℕ) (of_object : IsObject before object) (x : DomainBinding object d) (ex : faults_by object d x ≡ [])
-    (start : ℕ) (of_start : IsStart (with_start left) start) (y : ProblemBinding (bound_by object d x) p) (ey : problem.faults_by (bound_by object d x) p y ≡ []) where
+module _ (before left : Names) (d : RawDomain) (p : RawProblem) (is : AreInOrder before (with_start left) d p) (object : ℕ) (of_object : IsObject before object) (l : Language) (x : DomainBinding l object d) (ex : faults_by l object d x ≡ [])
+    (start : ℕ) (of_start : IsStart (with_start left) start) (y : ProblemBinding (bound_by l object d x) p) (ey : problem.faults_by (bound_by l object d x) p y ≡ []) where
   abbrev value : Hddl
-  value = hddl_bound (bound_by object d x) y.unions p left start
+  value = hddl_bound (bound_by l object d x) y.unions p left start
 
   abbrev known : Known
-  known = whole.known before left d p is object of_object x ex start of_start y ey
+  known = whole.known before left d p is object of_object l x ex start of_start y ey
 
   abbrev more_known : Known
-  more_known = whole.more_known before left d p is object of_object x ex start of_start y ey
+  more_known = whole.more_known before left d p is object of_object l x ex start of_start y ey
 
   abbrev callables : Declared
-  callables = whole.callables before left d p is object of_object x ex start of_start y ey
+  callables = whole.callables before left d p is object of_object l x ex start of_start y ey
 
   pub parts_none : parts_faults more_known callables p y.cycle ≡ []
   parts_none = none_right (second_objects (objects_declared d.constants) p.objects) (parts_faults more_known callables p y.cycle) ey
@@ -60,7 +61,7 @@ module _ (before left : Names) (d : RawDomain) (p : RawProblem) (is : AreInOrder
 
   pub methods_none : methods_faults known callables d.methods x.cycles ≡ []
   methods_none =
-      let none = whole.schemas_none before left d p is object of_object x ex start of_start y ey in
+      let none = whole.schemas_none before left d p is object of_object l x ex start of_start y ey in
       none_right (actions_faults known d.actions) (methods_faults known callables d.methods x.cycles) (none_right (typed_faults known.types d) (actions_faults known d.actions ++ methods_faults known callables d.methods x.cycles) none)
 
   pub all_good : EachIs (IsGoodNetwork (with_start left)) (all_methods value)
@@ -72,6 +73,6 @@ module _ (before left : Names) (d : RawDomain) (p : RawProblem) (is : AreInOrder
       (λ i j h. each-contains (NamesSubtasks (length s.children)) s.pairs good.sound.pairs (pair i j) h, good.acyclic)
 
 pub is_ordered_both : OfAllBound IsOrderedBoth
-is_ordered_both before left d p b h is (object, of_object, (x, ex, same)) (start, of_start, (y, ey, is_value)) =
+is_ordered_both before left d p l b h is (object, of_object, (x, ex, same)) (start, of_start, (y, ey, is_value)) =
     let r = subst (λ b. (y : ProblemBinding b p) × (problem.faults_by b p y ≡ []) × (h ≡ hddl_bound b y.unions p left start)) same (y, ey, is_value) in
-    subst AreOrdered (sym r.2) (ordered before left d p is object of_object x ex start of_start r.0 r.1)
+    subst AreOrdered (sym r.2) (ordered before left d p is object of_object l x ex start of_start r.0 r.1)

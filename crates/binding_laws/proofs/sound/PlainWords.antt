@@ -5,7 +5,7 @@ use Rattle.text_forms.specs.Words.{Word}
 use Rattle.gd_reader.specs.Terms.{Names}
 use Rattle.gd_reader.specs.declared.term.RawTerm.{RawTerm}
 use Rattle.gd_reader.specs.declared.typed_lists.RawParam.{RawParam}
-use Rattle.hddl_reader.specs.declared.sections.Language.TheVariants as language
+use Rattle.hddl_reader.specs.declared.sections.Language.{Language}
 use Rattle.hddl_reader.specs.declared.sections.RawAction.{RawAction}
 use Rattle.hddl_reader.specs.declared.sections.RawDomain.{RawDomain}
 use Rattle.hddl_reader.specs.declared.sections.RawHead.{RawHead}
@@ -56,7 +56,7 @@ module _ {X : Type 0} (says : X → WordAt) (earlier : List Word) (xs : List X) 
       let x = one_has (λ (z : WordAt). z.word ≡ w) (map says xs) (has_of_map word_of (map says xs) w (subst (λ ws. Has ws w) (sym (words_are xs)) i)) in
       new earlier (map says xs) none x.0 x.1 (subst (Has earlier) (sym x.2) h)
 
-module _ (names : Names) (d : RawDomain) (is : IsDomainInOrder names d) (none : HasNoFault (HasDomainFault language.Hddl names d)) where
+module _ (l : Language) (names : Names) (d : RawDomain) (is : IsDomainInOrder names d) (none : HasNoFault (HasDomainFault l names d)) where
   again : (at : ℕ) → DuplicateInDomain names d at → ⊥
   again at x = none at 10 (HasDomainFault.duplicate_name x)
 

@@ -7,7 +7,7 @@ use Rattle.text_forms.specs.Words.{Word, word_at}
 use Rattle.gd_reader.specs.Terms.{Names}
 use Rattle.gd_reader.specs.declared.term.RawTerm.{RawTerm}
 use Rattle.gd_reader.specs.declared.typed_lists.RawParam.{RawParam}
-use Rattle.hddl_reader.specs.declared.sections.Language.TheVariants as language
+use Rattle.hddl_reader.specs.declared.sections.Language.{Language}
 use Rattle.hddl_reader.specs.declared.sections.RawDomain.{RawDomain}
 use Rattle.hddl_reader.specs.declared.sections.RawHead.{RawHead}
 use Rattle.hddl_reader.specs.declared.sections.RawMethod.{RawMethod}
@@ -128,13 +128,13 @@ whole_methods : (h : Hddl) (ms : List MethodSchema) → EachIs (IsSoundBody (hdd
 whole_methods h [] e f = tt
 whole_methods h (m ∷ ms) e f = (whole_method h m e.0 f.0, whole_methods h ms e.1 f.1)
 
-module _ (before left : Names) (d : RawDomain) (p : RawProblem) (is : AreInOrder before (with_start left) d p) (object : ℕ) (of_object : IsObject before object) (x : DomainBinding object d) (ex : faults_by object d x ≡ [])
-    (start : ℕ) (of_start : IsStart (with_start left) start) (y : ProblemBinding (bound_by object d x) p) (ey : problem.faults_by (bound_by object d x) p y ≡ []) where
+module _ (before left : Names) (d : RawDomain) (p : RawProblem) (is : AreInOrder before (with_start left) d p) (object : ℕ) (of_object : IsObject before object) (l : Language) (x : DomainBinding l object d) (ex : faults_by l object d x ≡ [])
+    (start : ℕ) (of_start : IsStart (with_start left) start) (y : ProblemBinding (bound_by l object d x) p) (ey : problem.faults_by (bound_by l object d x) p y ≡ []) where
   abbrev names : Names
   names = with_start left
 
   abbrev value : Hddl
-  value = hddl_bound (bound_by object d x) y.unions p left start
+  value = hddl_bound (bound_by l object d x) y.unions p left start
 
   abbrev kinds : Kinds
   kinds = x.kinds
@@ -143,13 +143,13 @@ module _ (before left : Names) (d : RawDomain) (p : RawProblem) (is : AreInOrder
   all_kinds = record { types = kinds.types; unions = y.unions }
 
   abbrev known : Known
-  known = whole.known before left d p is object of_object x ex start of_start y ey
+  known = whole.known before left d p is object of_object l x ex start of_start y ey
 
   abbrev more_known : Known
-  more_known = whole.more_known before left d p is object of_object x ex start of_start y ey
+  more_known = whole.more_known before left d p is object of_object l x ex start of_start y ey
 
   abbrev callables : Declared
-  callables = whole.callables before left d p is object of_object x ex start of_start y ey
+  callables = whole.callables before left d p is object of_object l x ex start of_start y ey
 
   abbrev W : List Word
   W = words_of names kinds.types
@@ -157,8 +157,8 @@ module _ (before left : Names) (d : RawDomain) (p : RawProblem) (is : AreInOrder
   abbrev v : words.Declared
   v = hddl_words value
 
-  first : W ≡ codes "object" ∷ whole.rest before left d p is object of_object x ex start of_start y ey
-  first = whole.first before left d p is object of_object x ex start of_start y ey
+  first : W ≡ codes "object" ∷ whole.rest before left d p is object of_object l x ex start of_start y ey
+  first = whole.first before left d p is object of_object l x ex start of_start y ey
 
   some : 0 < length kinds.types
   some = let e = ap length first in let f = length-map kinds.types (word_at names) in omega arith
@@ -170,19 +170,19 @@ module _ (before left : Names) (d : RawDomain) (p : RawProblem) (is : AreInOrder
   same_types = length-map kinds.types name_of
 
   types_differ : AreDifferent W
-  types_differ = (has_types names object d kinds (whole.in_types before left d p is object of_object x ex start of_start y ey) x.are_kinds.types).1
+  types_differ = (has_types names object d kinds (whole.in_types before left d p is object of_object l x ex start of_start y ey) x.are_kinds.types).1
 
-  none_domain : HasNoFault (HasDomainFault language.Hddl names d)
-  none_domain = whole.no_domain before left d p is object of_object x ex start of_start y ey
+  none_domain : HasNoFault (HasDomainFault l names d)
+  none_domain = whole.no_domain before left d p is object of_object l x ex start of_start y ey
 
   none_problem : HasNoFault (HasProblemFault names d p)
-  none_problem = whole.no_problem before left d p is object of_object x ex start of_start y ey
+  none_problem = whole.no_problem before left d p is object of_object l x ex start of_start y ey
 
   no_type_cycle : (at : ℕ) → TypeCycle names d at → ⊥
   no_type_cycle at c = none_domain at 12 (HasDomainFault.type_cycle c)
 
   of : AreTypesOf names d kinds
-  of = whole.of before left d p is object of_object x ex start of_start y ey
+  of = whole.of before left d p is object of_object l x ex start of_start y ey
 
   types_plain : EachIs IsPlain W
   types_plain = has_each IsPlain W (λ w h. type_plain names d is.domain.types w ((of.words w).0 h))
@@ -213,8 +213,8 @@ module _ (before left : Names) (d : RawDomain) (p : RawProblem) (is : AreInOrder
         (each_wider (IsGood (length kinds.types)) (λ ms. IsUnion v (arities value) (map (word_at v.types) ms)) y.unions (λ ms g. union_is v (arities value) ms v_types (subst (λ n. IsGood n ms) (sym as_many) g)) unions_good);
     objects = subst (EachIs IsPlain) (sym objects_are) (each_both IsPlain (map (param_word names) d.constants) (map (param_word names) p.objects) (typed_plain names d.constants is.domain.constants) (typed_plain names p.objects is.problem.objects));
     predicates = subst (EachIs IsPlain) (sym (predicate_words names kinds d.predicates)) (predicates_plain names d.predicates is.domain.predicates);
-    objects_differ = subst AreDifferent (sym objects_are) (objects_differ names d is.domain none_domain p is.problem none_problem);
-    predicates_differ = subst AreDifferent (sym (predicate_words names kinds d.predicates)) (predicates_differ names d is.domain none_domain);
+    objects_differ = subst AreDifferent (sym objects_are) (objects_differ l names d is.domain none_domain p is.problem none_problem);
+    predicates_differ = subst AreDifferent (sym (predicate_words names kinds d.predicates)) (predicates_differ l names d is.domain none_domain);
   }
 
   calls_are : task_words value ++ action_words value ≡ map (λ (h : RawHead). term_word names h.name) (d.tasks ++ heads d.actions)
@@ -231,30 +231,30 @@ module _ (before left : Names) (d : RawDomain) (p : RawProblem) (is : AreInOrder
 
   schemas : AreSchemasSound v (arities value) (schemas_bound known callables d)
   schemas =
-      has_sound_schemas names d (constants names d) known callables (whole.dw before left d p is object of_object x ex start of_start y ey) (arities value) v.objects x.cycles
-      (whole.up before left d p is object of_object x ex start of_start y ey) (arities_are kinds d.predicates) fewer is.domain
-      (whole.numbered before left d p is object of_object x ex start of_start y ey) x.are_cycles (whole.schemas_none before left d p is object of_object x ex start of_start y ey)
+      has_sound_schemas names d (constants names d) known callables (whole.dw before left d p is object of_object l x ex start of_start y ey) (arities value) v.objects x.cycles
+      (whole.up before left d p is object of_object l x ex start of_start y ey) (arities_are kinds d.predicates) fewer is.domain
+      (whole.numbered before left d p is object of_object l x ex start of_start y ey) x.are_cycles (whole.schemas_none before left d p is object of_object l x ex start of_start y ey)
 
   parts : ArePartsSound v (arities value) (parts_bound more_known callables (name_of start) (length (tasks_bound kinds d.tasks)) p)
   parts =
       has_sound_parts names d (objects names d p) more_known callables v (arities value) (name_of start) (length (tasks_bound kinds d.tasks)) p y.cycle
-      (whole.up_all before left d p is object of_object x ex start of_start y ey) (arities_are kinds d.predicates) is.problem
-      (whole.all_numbered before left d p is object of_object x ex start of_start y ey) (whole.named_start before left d p is object of_object x ex start of_start y ey) (length-map d.tasks (task_bound kinds))
-      (parts_none before left d p is object of_object x ex start of_start y ey)
+      (whole.up_all before left d p is object of_object l x ex start of_start y ey) (arities_are kinds d.predicates) is.problem
+      (whole.all_numbered before left d p is object of_object l x ex start of_start y ey) (whole.named_start before left d p is object of_object l x ex start of_start y ey) (length-map d.tasks (task_bound kinds))
+      (parts_none before left d p is object of_object l x ex start of_start y ey)
 
   calls : EachIs (CallsSound value d known refl refl) value.methods
-  calls = methods_calls value d known refl refl d.methods x.cycles (methods_none before left d p is object of_object x ex start of_start y ey) x.are_cycles
+  calls = methods_calls value d known refl refl d.methods x.cycles (methods_none before left d p is object of_object l x ex start of_start y ey) x.are_cycles
 
   top_calls : EachIs (λ (c : Child). IsSoundHead value c.head (length c.args)) value.top.children
   top_calls =
-      let uses = none_right (order_faults p.net y.cycle) (flat_map (child_faults callables more_known.objects (top_scope p)) p.net.subs ++ flat_map (constraint_faults more_known.objects (top_scope p)) p.net.constraints) (top_none before left d p is object of_object x ex start of_start y ey) in
+      let uses = none_right (order_faults p.net y.cycle) (flat_map (child_faults callables more_known.objects (top_scope p)) p.net.subs ++ flat_map (constraint_faults more_known.objects (top_scope p)) p.net.constraints) (top_none before left d p is object of_object l x ex start of_start y ey) in
       children_sound value d known refl refl more_known.objects (top_scope p) p.net.subs (none_left (flat_map (child_faults callables more_known.objects (top_scope p)) p.net.subs) (flat_map (constraint_faults more_known.objects (top_scope p)) p.net.constraints) uses)
 
   abbrev place_own : (x : RawParam) → Has d.types x → word_at W (own_place kinds.types d.types x) ≡ param_word names x
-  place_own z h = (own_at names object d v kinds (whole.in_types before left d p is object of_object x ex start of_start y ey) of types_differ (whole.rest before left d p is object of_object x ex start of_start y ey) first is.domain.types no_type_cycle z h).1
+  place_own z h = (own_at names object d v kinds (whole.in_types before left d p is object of_object l x ex start of_start y ey) of types_differ (whole.rest before left d p is object of_object l x ex start of_start y ey) first is.domain.types no_type_cycle z h).1
 
   abbrev place_parent : (x : RawParam) (t : RawTerm) → Has d.types x → Has x.ty t → word_at W (place_of kinds.types t) ≡ term_word names t
-  place_parent z t h i = (parent_at names object d v kinds (whole.in_types before left d p is object of_object x ex start of_start y ey) of types_differ (whole.rest before left d p is object of_object x ex start of_start y ey) first is.domain.types no_type_cycle z t h i).1
+  place_parent z t h i = (parent_at names object d v kinds (whole.in_types before left d p is object of_object l x ex start of_start y ey) of types_differ (whole.rest before left d p is object of_object l x ex start of_start y ey) first is.domain.types no_type_cycle z t h i).1
 
   types_object : word_at (hddl_types value) 0 ≡ codes "object"
   types_object = ap (λ ws. word_at ws 0) (type_words ∙ first)
@@ -277,9 +277,9 @@ module _ (before left : Names) (d : RawDomain) (p : RawProblem) (is : AreInOrder
         (objects_within names kinds true some d.constants is.domain.constants) (objects_within names all_kinds false some p.objects is.problem.objects));
     predicates = schemas.predicates;
     calls_named = subst (EachIs IsPlain) (sym calls_are) (heads_plain names (d.tasks ++ heads d.actions) (each_both (IsHeadInOrder names) d.tasks (heads d.actions) is.domain.tasks (action_heads names d.actions is.domain.actions)));
-    calls_differ = subst AreDifferent (sym calls_are) (whole.apart before left d p is object of_object x ex start of_start y ey);
+    calls_differ = subst AreDifferent (sym calls_are) (whole.apart before left d p is object of_object l x ex start of_start y ey);
     methods_named = subst (EachIs IsPlain) (sym (method_words_are names known callables d.methods)) (methods_plain names d.methods is.domain.methods);
-    methods_differ = subst AreDifferent (sym (method_words_are names known callables d.methods)) (methods_differ names d is.domain none_domain);
+    methods_differ = subst AreDifferent (sym (method_words_are names known callables d.methods)) (methods_differ l names d is.domain none_domain);
     task_params = schemas.task_params;
     action_params = schemas.action_params;
     pre = schemas.pre;
@@ -298,6 +298,6 @@ module _ (before left : Names) (d : RawDomain) (p : RawProblem) (is : AreInOrder
   problem_sound within = record {
     value = value_sound;
     no_condition = refl;
-    networks = each_wider (IsGoodNetwork names) (IsSoundNetwork names) (all_methods value) (λ m g. g.sound) (all_good before left d p is object of_object x ex start of_start y ey);
+    networks = each_wider (IsGoodNetwork names) (IsSoundNetwork names) (all_methods value) (λ m g. g.sound) (all_good before left d p is object of_object l x ex start of_start y ey);
     limits = within;
   }

@@ -76,7 +76,7 @@ row_problem : IsProblemRead language.Hddl (codes "d" ∷ codes "a" ∷ []) probl
 unfolding definition_read definition_inside title sections section_inside section_of has_section section_read may_end parts parts_from part_of stands part_read parts_end some_of sub_headed behind_name declared word_due list_due end_due sort_of
 row_problem = (_, refl, record { whole = tt; gives = refl })
 
-row_read : AreRead domain problem table raw_domain raw_problem
+row_read : AreRead language.Hddl domain problem table raw_domain raw_problem
 row_read = record {
   before_domain = [];
   behind_domain = codes "d" ∷ codes "a" ∷ [];
@@ -114,11 +114,11 @@ value = record {
   goal = formula.And [];
 }
 
-true_bound : (v : Declared) (scope : List Word) → IsBoundFormula v table (raw_formula.And []) scope (formula.And [])
-true_bound v scope = bound_roll v table (RawFormula-F.And []) (raw_formula.And []) (rolls-And []) scope (formula.And []) ([], refl, tt)
+pub true_bound : (v : Declared) (table : Names) (scope : List Word) → IsBoundFormula v table (raw_formula.And []) scope (formula.And [])
+true_bound v table scope = bound_roll v table (RawFormula-F.And []) (raw_formula.And []) (rolls-And []) scope (formula.And []) ([], refl, tt)
 
-nothing_bound : (v : Declared) (scope : List Word) → IsBoundEffect v table (raw_effect.And []) scope (effect.And [])
-nothing_bound v scope = effect_bound v table (RawEffect-F.And []) (raw_effect.And []) (rolls-Both []) scope (effect.And []) ([], refl, tt)
+pub nothing_bound : (v : Declared) (table : Names) (scope : List Word) → IsBoundEffect v table (raw_effect.And []) scope (effect.And [])
+nothing_bound v table scope = effect_bound v table (RawEffect-F.And []) (raw_effect.And []) (rolls-Both []) scope (effect.And []) ([], refl, tt)
 
 no_type : (w : Word) → Mentions [] w → ⊥
 no_type w (inl m) = m.1
@@ -128,8 +128,8 @@ no_pair : (c q : Word) → IsPairSaid [] c q → ⊥
 no_pair c q (inl p) = p
 no_pair c q (inr p) = no_type c p.2
 
-row_types : AreBoundTypes (domain_words (hddl_domain value [])) table (codes "object" ∷ []) [] []
-row_types = record {
+pub no_types : (v : Declared) (table : Names) → AreBoundTypes v table (codes "object" ∷ []) [] []
+no_types v table = record {
   items = [];
   bound = tt;
   first = refl;
@@ -157,17 +157,17 @@ row_bound = record {
   others = [];
   objects = refl;
   in_domain = record {
-    types = row_types;
+    types = no_types (domain_words (hddl_domain value [])) table;
     constants = tt;
     predicates = tt;
     tasks = tt;
-    actions = (record { name = refl; params = tt; pre = true_bound (domain_words (hddl_domain value [])) []; eff = nothing_bound (domain_words (hddl_domain value [])) [] }, tt);
+    actions = (record { name = refl; params = tt; pre = true_bound (domain_words (hddl_domain value [])) table []; eff = nothing_bound (domain_words (hddl_domain value [])) table [] }, tt);
     methods = tt;
   };
   in_problem = record {
     objects = tt;
     init = tt;
-    goal = true_bound (hddl_words value) [];
+    goal = true_bound (hddl_words value) table [];
     top = record { name = refl; task = refl; task_args = refl; pre = refl; params_bound = tt; network = record { subtasks = ((tt, (refl, tt)), tt); written = []; pairs_are = refl; ordering = tt; limits = tt } };
   };
 }

@@ -16,7 +16,7 @@ use Rattle.plan_texts.proofs.Members.{contains-has, has-contains}
 use Rattle.gd_reader.specs.Terms.{Names, Keeps}
 use Rattle.hddl_reader.specs.declared.parts.RawParts.{RawParts}
 use Rattle.hddl_reader.specs.declared.sections.Definition.TheVariants as definition
-use Rattle.hddl_reader.specs.declared.sections.Language.TheVariants as language
+use Rattle.hddl_reader.specs.declared.sections.Language.{Language}
 use Rattle.hddl_reader.specs.declared.sections.RawDomain.{RawDomain}
 use Rattle.hddl_reader.specs.declared.sections.RawHead.{RawHead}
 use Rattle.hddl_reader.specs.declared.sections.RawProblem.{RawProblem}
@@ -135,16 +135,16 @@ module _ (table : Names) (d : RawDomain) (p : RawProblem) (domain problem : Part
   }
 
 -- the items of the section of types
-text_items : (text : List ℕ) (names left later : Names) (x : Name × RawSections) → IsRead language.Hddl definition.Domain names text x left → Keeps left later → (w : Word) (ss : Parts) → IsDefinition (codes "domain") text w ss
+text_items : (l : Language) (text : List ℕ) (names left later : Names) (x : Name × RawSections) → IsRead l definition.Domain names text x left → Keeps left later → (w : Word) (ss : Parts) → IsDefinition (codes "domain") text w ss
     → type_items (type_parts ss) ≡ map (item_written later) (domain_of x).types
-text_items text names left later x is keeps w ss i = items_seen (type_parts ss) (domain_of x).types later (read_of definition.Domain (codes "domain") text names left later x is keeps w ss i).1.types
+text_items l text names left later x is keeps w ss i = items_seen (type_parts ss) (domain_of x).types later (read_of l definition.Domain (codes "domain") text names left later x is keeps w ss i).1.types
 
 pub texts_seen : AllAreSeen
-texts_seen domain problem table d p r u v t =
+texts_seen l domain problem table d p r u v t =
     let dr = r.domain_read in
     let pr = r.problem_read in
-    let ds = text_seen language.Hddl definition.Domain (codes "domain") domain r.before_domain r.behind_domain table dr.0 dr.2 r.keeps_domain u t.domain_sections t.domain_text in
-    let ps = text_seen language.Hddl definition.Problem (codes "problem") problem r.before_problem r.behind_problem table pr.0 pr.2 r.keeps_problem v t.problem_sections t.problem_text in
-    let items = text_items domain r.before_domain r.behind_domain table dr.0 dr.2 r.keeps_domain u t.domain_sections t.domain_text in
+    let ds = text_seen l definition.Domain (codes "domain") domain r.before_domain r.behind_domain table dr.0 dr.2 r.keeps_domain u t.domain_sections t.domain_text in
+    let ps = text_seen l definition.Problem (codes "problem") problem r.before_problem r.behind_problem table pr.0 pr.2 r.keeps_problem v t.problem_sections t.problem_text in
+    let items = text_items l domain r.before_domain r.behind_domain table dr.0 dr.2 r.keeps_domain u t.domain_sections t.domain_text in
     subst (λ d. AreSeen table d p t.domain_sections t.problem_sections) (sym dr.1) (subst (λ p. AreSeen table (domain_of dr.0) p t.domain_sections t.problem_sections) (sym pr.1)
     (all_seen table (domain_of dr.0) (problem_of pr.0) t.domain_sections t.problem_sections (types_shown dr.0 table t.domain_sections ds) items (domain_shown dr.0 table t.domain_sections ds) (problem_shown pr.0 table t.problem_sections ps)))

@@ -6,15 +6,17 @@ use Rattle.hddl_bind.proofs.bound_domain.domain_of.Goals as goal
 pub returns-in-Ok-clause-bound : goal.returns-in-Ok-clause-bound
 returns-in-Ok-clause-bound c =
     let object = c.in_ok-object.object.number in
+    let l = c.args.language in
     let d = c.args.d.now in
     let least = c.noted_domain.new.faults.least in
-    let from_none = subst (λ old. IsDomainNoted object d old least c.in-Ok.bound) c.new-faults.ensures.none c.in-Ok.ensures.bound in
-    domain_bound_if c.intern.new.self d object c.in_ok-object.ensures.number c.in-Ok.bound least from_none c.judged.result c.judged.ensures.judged
+    let from_none = subst (λ old. IsDomainNoted l object d old least c.in-Ok.bound) c.new-faults.ensures.none c.in-Ok.ensures.bound in
+    domain_bound_if l c.intern.new.self d object c.in_ok-object.ensures.number c.in-Ok.bound least from_none c.judged.result c.judged.ensures.judged
 
 pub returns-in-Ok-clause-refused : goal.returns-in-Ok-clause-refused
 returns-in-Ok-clause-refused c =
     let object = c.in_ok-object.object.number in
+    let l = c.args.language in
     let d = c.args.d.now in
     let least = c.noted_domain.new.faults.least in
-    let from_none = subst (λ old. IsDomainNoted object d old least c.in-Ok.bound) c.new-faults.ensures.none c.in-Ok.ensures.bound in
-    domain_refused_if c.intern.new.self d object c.in_ok-object.ensures.number c.in-Ok.bound least from_none c.judged.result c.judged.ensures.judged
+    let from_none = subst (λ old. IsDomainNoted l object d old least c.in-Ok.bound) c.new-faults.ensures.none c.in-Ok.ensures.bound in
+    domain_refused_if l c.intern.new.self d object c.in_ok-object.ensures.number c.in-Ok.bound least from_none c.judged.result c.judged.ensures.judged

@@ -14,7 +14,7 @@ returns-in-Ok c =
     let schemas : c.in-Ok.schemas ≡ schemas_bound names.known names.callables d = cc (c.in-Ok.ensures.bound.1) in
     record {
       bound =
-          domain_noted c.args.object.number d c.in_ok-types.types c.in_ok-types.ensures.kinds c.args.faults.now.least c.types_known.new.faults.least c.names_of.new.faults.least
+          domain_noted c.args.language c.args.object.number d c.in_ok-types.types c.in_ok-types.ensures.kinds c.args.faults.now.least c.types_known.new.faults.least c.names_of.new.faults.least
           c.parts_of.new.faults.least names c.in-Ok.types c.in-Ok.schemas c.together.result c.in_ok-types.ensures.faults c.in_ok-names.ensures.faults
           c.in_ok-names.ensures.known c.in_ok-names.ensures.callables listed schemas c.in-Ok.ensures.faults c.together.ensures.together;
     }

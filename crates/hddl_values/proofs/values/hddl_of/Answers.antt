@@ -1,15 +1,15 @@
-use Rattle.std.proofs.Common.{ℕ, ◌≡◌, List, sym, subst, Result, Ok, Err}
-use Rattle.std.specs.Prelude.{IfErr}
+use Rattle.std.proofs.Common.{Result, Ok, Err}
+use Rattle.std.specs.Prelude.{IfOk}
+use Rattle.hddl_reader.specs.declared.sections.Language.TheVariants.{Hddl as language}
 use Rattle.plan_model.specs.declared.values.Hddl.{Hddl}
 use Rattle.sexpr_text.specs.declared.read_error.ReadError.{ReadError}
-use Rattle.hddl_values.specs.Reading.{RefusesProblem}
-use Rattle.hddl_values.specs.Values.{IsRefusal}
-use Rattle.hddl_values.proofs.Refusals.{domain_refused, problem_refused}
+use Rattle.hddl_values.specs.Values.{AreReadAs, IsValueOf}
+use Rattle.hddl_values.proofs.HddlTexts.{value_of}
 use Rattle.hddl_values.proofs.values.hddl_of.Goals as goal
 
-pub returns-in-Ok-clause-refused : goal.returns-in-Ok-clause-refused
-returns-in-Ok-clause-refused c =
-    problem_refused c.args.domain.now c.args.problem.now c.bound_domain.new.names c.in-Ok.bound c.in-Ok.ensures.bound c.value_over.result c.value_over.ensures.refused
-
-pub returns-in-Err-clause-refused : goal.returns-in-Err-clause-refused
-returns-in-Err-clause-refused c = domain_refused c.args.domain.now c.args.problem.now c.in-Err.error c.in-Err.ensures.refused
+pub returns-clause-value : goal.returns-clause-value
+returns-clause-value c = go c.read_as.result c.read_as.ensures.read
+  where
+    go : (r : Result Hddl ReadError) → IfOk r (AreReadAs c.args.domain.now c.args.problem.now language) → IfOk r (IsValueOf c.args.domain.now c.args.problem.now)
+    go (Ok h) is = value_of c.args.domain.now c.args.problem.now h is c.read_values_are_sound.ensures
+    go (Err e) is = tt

@@ -1,0 +1,2 @@
+mod PddlTexts
+mod Exactly
