@@ -10,7 +10,6 @@ use Rattle.text_forms.specs.Words.{Word}
 use Rattle.text_forms.proofs.Levels.{says_as_placed}
 use Rattle.form_grammar.specs.Codes.{Whole}
 use Rattle.form_grammar.specs.Definitions.{definition_form}
-use Rattle.form_grammar.specs.Sections as grammar
 use Rattle.form_faults.specs.Said.{said}
 use Rattle.gd_reader.specs.declared.stop.Stop.{Stop}
 use Rattle.gd_reader.specs.declared.stop.Stop.TheVariants.{Ends, Departs}
@@ -32,6 +31,7 @@ use Rattle.hddl_reader.proofs.DefinitionsSaid.{definition_said}
 use Rattle.hddl_reader.proofs.Refusals.{is_read}
 use Rattle.plan_model.specs.declared.types.Object.{Object}
 use Rattle.plan_model.specs.declared.values.Hddl.{Hddl}
+use Rattle.plan_model.specs.declared.values.Pddl.{Pddl}
 use Rattle.plan_texts.specs.Declared.{named}
 use Rattle.plan_texts.specs.Domains.{IsDefinition}
 use Rattle.plan_texts.specs.SoundValue.{arities}
@@ -41,7 +41,7 @@ use Rattle.plan_texts.specs.Together.{Together}
 use Rattle.plan_texts.specs.Types.{EachIs}
 use Rattle.form_spellings.specs.Bound.{IsBoundParam}
 use Rattle.form_spellings.specs.BoundNetworks.{IsBoundNetwork}
-use Rattle.form_spellings.specs.BoundTexts.{IsBoundDomain, IsBoundProblem, IsBoundPddlProblem}
+use Rattle.form_spellings.specs.BoundTexts.{IsBoundDomain, IsBoundHddl, IsBoundPddl}
 use Rattle.form_spellings.specs.EachPart.{OfMethod}
 use Rattle.form_spellings.specs.InOrder.{IsTypedName}
 use Rattle.form_spellings.specs.Places.{IsDomainAt, IsProblemAt, OpensWith, IsNameAt}
@@ -141,6 +141,31 @@ module _ (l : Language) where
           problem_names = λ table d p r. problem_named domain problem table d p r (bound table d p r);
         }
 
+-- what HDDL texts are bound to, and PDDL texts, in these words
+of_hddl : (table : Names) (d : RawDomain) (p : RawProblem) (h : Hddl) → IsBoundHddl table d p h → AreBoundTo table d p h
+of_hddl table d p h b = let k = b.in_problem in record {
+  constants = b.constants;
+  others = b.others;
+  objects = b.objects;
+  in_domain = b.in_domain;
+  in_problem = record { objects = k.objects; init = k.init; goal = k.goal; params = k.top.params_bound; network = k.top.network };
+}
+
+of_pddl : (table : Names) (d : RawDomain) (p : RawProblem) (c : Pddl) → IsBoundPddl table d p c → AreBoundTo table d p (as_hddl c)
+of_pddl table d p c b = let k = b.in_problem in record {
+  constants = b.constants;
+  others = b.others;
+  objects = b.objects;
+  in_domain = b.in_domain;
+  in_problem = record {
+    objects = k.objects;
+    init = k.init;
+    goal = k.goal;
+    params = subst (λ (rs : List RawParam). Together (IsBoundParam (pddl_words c) table) rs []) (sym k.params) tt;
+    network = subst (λ (n : RawNet). IsBoundNetwork (pddl_words c) table [] (action_words (as_hddl c)) [] n [] [] []) (sym k.net) (record { subtasks = tt; written = []; pairs_are = refl; ordering = tt; limits = tt });
+  };
+}
+
 module _ (whole_domains : HddlDomainsAreWhole) (whole_problems : HddlProblemsAreWhole) (bound : SpelledHddlIsBound) (problems_keep : KeepsWords (IsProblemRead language.Hddl))
     (domains_at : OfEachWhole (IsDomainRead language.Hddl) IsDomainAt) (problems_at : OfEachWhole (IsProblemRead language.Hddl) IsProblemAt) where
   pub hddl_faultless : SpelledHddlIsFaultless
@@ -151,29 +176,17 @@ module _ (whole_domains : HddlDomainsAreWhole) (whole_problems : HddlProblemsAre
       let pt = texts.problem_text in
       let dw = named h.names h.domain in
       let pw = named h.names h.problem in
-      let in_domain = i.sections.in_domain in
-      let cs = i.sections.constants in
-      let others = i.sections.others in
-      let x = hddl_domain h cs in
-      whole_are_faultless language.Hddl domains_at problems_at h s few problems_keep domain problem
-      (definition_faultless (codes "domain") domain dw texts.domain_sections dt shallow_domain)
-      (definition_faultless (codes "problem") problem pw texts.problem_sections pt shallow_problem)
-      (whole_domains x (parts_at domain 0) (declares_once h s cs) (defined_of (codes "domain") domain dw texts.domain_sections _ dt in_domain))
-      (whole_problems (hddl_words h) (task_words h) (action_words h) (hddl_problem h others) h.top (parts_at problem 0) (formula_fresh (hddl_words h) (hddl_words h) refl (arities h) h.goal [] s.value.goal)
-      s.value.top.params.1 (defined_of (codes "problem") problem pw texts.problem_sections _ pt i.sections.in_problem)) cs others i.sections.objects
-      (λ before behind table d r keeps.
-        let hd = read_of language.Hddl definition.Domain (codes "domain") domain before behind table r.0 r.2 keeps dw texts.domain_sections dt in
-        subst (λ d. IsBoundDomain table d x) (sym r.1) (domain_from r.0.0 r.0.1 texts.domain_sections table hd.1 x in_domain))
-      (λ table d p read.
-        let b = bound domain problem table d p read h i in
-        let k = b.in_problem in
-        record {
-          constants = b.constants;
-          others = b.others;
-          objects = b.objects;
-          in_domain = b.in_domain;
-          in_problem = record { objects = k.objects; init = k.init; goal = k.goal; params = k.top.params_bound; network = k.top.network };
-        })
+      let sections = i.sections in
+      let x = hddl_domain h sections.constants in
+      let own : (before behind table : Names) (d : RawDomain) → IsDomainRead language.Hddl before domain (d, behind) → Keeps behind table → IsBoundDomain table d x = λ before behind table d r keeps. (
+      let headed = read_of language.Hddl definition.Domain (codes "domain") domain before behind table r.0 r.2 keeps dw texts.domain_sections dt in
+      subst (λ d. IsBoundDomain table d x) (sym r.1) (domain_from r.0.0 r.0.1 texts.domain_sections table headed.1 x sections.in_domain)) in
+      let whole_domain = whole_domains x (parts_at domain 0) (declares_once h s sections.constants) (defined_of (codes "domain") domain dw texts.domain_sections _ dt sections.in_domain) in
+      let fresh = formula_fresh (hddl_words h) (hddl_words h) refl (arities h) h.goal [] s.value.goal in
+      let whole_problem = whole_problems (hddl_words h) (task_words h) (action_words h) (hddl_problem h sections.others) h.top (parts_at problem 0) fresh s.value.top.params.1 (defined_of (codes "problem") problem pw texts.problem_sections _ pt sections.in_problem) in
+      whole_are_faultless language.Hddl domains_at problems_at h s few problems_keep domain problem (definition_faultless (codes "domain") domain dw texts.domain_sections dt shallow_domain)
+      (definition_faultless (codes "problem") problem pw texts.problem_sections pt shallow_problem) whole_domain whole_problem sections.constants sections.others sections.objects own
+      (λ table d p read. of_hddl table d p h (bound domain problem table d p read h i))
 
 module _ (whole_domains : PddlDomainsAreWhole) (whole_problems : PddlProblemsAreWhole) (bound : SpelledPddlIsBound) (problems_keep : KeepsWords (IsProblemRead language.Pddl))
     (domains_at : OfEachWhole (IsDomainRead language.Pddl) IsDomainAt) (problems_at : OfEachWhole (IsProblemRead language.Pddl) IsProblemAt) where
@@ -186,32 +199,14 @@ module _ (whole_domains : PddlDomainsAreWhole) (whole_problems : PddlProblemsAre
       let pt = texts.problem_text in
       let dw = named c.names c.domain in
       let pw = named c.names c.problem in
-      let in_domain = i.sections.in_domain in
-      let cs = i.sections.constants in
-      let others = i.sections.others in
-      let x = pddl_domain c cs in
-      whole_are_faultless language.Pddl domains_at problems_at h s few problems_keep domain problem
-      (definition_faultless (codes "domain") domain dw texts.domain_sections dt shallow_domain)
-      (definition_faultless (codes "problem") problem pw texts.problem_sections pt shallow_problem)
-      (whole_domains x (parts_at domain 0) (declares_once h s cs) (defined_of (codes "domain") domain dw texts.domain_sections _ dt in_domain))
-      (whole_problems (pddl_words c) (pddl_problem c others) (parts_at problem 0) (formula_fresh (pddl_words c) (pddl_words c) refl (arities h) c.goal [] s.value.goal)
-      (defined_of (codes "problem") problem pw texts.problem_sections _ pt i.sections.in_problem)) cs others i.sections.objects
-      (λ before behind table d r keeps.
-        let hd = read_of language.Pddl definition.Domain (codes "domain") domain before behind table r.0 r.2 keeps dw texts.domain_sections dt in
-        subst (λ d. IsBoundDomain table d x) (sym r.1) (pddl_domain_from r.0.0 r.0.1 texts.domain_sections table hd.1 c cs in_domain))
-      (λ table d p read.
-        let b = bound domain problem table d p read c i in
-        let k = b.in_problem in
-        record {
-          constants = b.constants;
-          others = b.others;
-          objects = b.objects;
-          in_domain = b.in_domain;
-          in_problem = record {
-            objects = k.objects;
-            init = k.init;
-            goal = k.goal;
-            params = subst (λ (rs : List RawParam). Together (IsBoundParam (pddl_words c) table) rs []) (sym k.params) tt;
-            network = subst (λ (n : RawNet). IsBoundNetwork (pddl_words c) table [] (action_words h) [] n [] [] []) (sym k.net) (record { subtasks = tt; written = []; pairs_are = refl; ordering = tt; limits = tt });
-          };
-        })
+      let sections = i.sections in
+      let x = pddl_domain c sections.constants in
+      let own : (before behind table : Names) (d : RawDomain) → IsDomainRead language.Pddl before domain (d, behind) → Keeps behind table → IsBoundDomain table d x = λ before behind table d r keeps. (
+      let headed = read_of language.Pddl definition.Domain (codes "domain") domain before behind table r.0 r.2 keeps dw texts.domain_sections dt in
+      subst (λ d. IsBoundDomain table d x) (sym r.1) (pddl_domain_from r.0.0 r.0.1 texts.domain_sections table headed.1 c sections.constants sections.in_domain)) in
+      let whole_domain = whole_domains x (parts_at domain 0) (declares_once h s sections.constants) (defined_of (codes "domain") domain dw texts.domain_sections _ dt sections.in_domain) in
+      let fresh = formula_fresh (pddl_words c) (pddl_words c) refl (arities h) c.goal [] s.value.goal in
+      let whole_problem = whole_problems (pddl_words c) (pddl_problem c sections.others) (parts_at problem 0) fresh (defined_of (codes "problem") problem pw texts.problem_sections _ pt sections.in_problem) in
+      whole_are_faultless language.Pddl domains_at problems_at h s few problems_keep domain problem (definition_faultless (codes "domain") domain dw texts.domain_sections dt shallow_domain)
+      (definition_faultless (codes "problem") problem pw texts.problem_sections pt shallow_problem) whole_domain whole_problem sections.constants sections.others sections.objects own
+      (λ table d p read. of_pddl table d p c (bound domain problem table d p read c i))

@@ -65,7 +65,7 @@ mod TextsExact
 mod NoSections
 mod NetworksRead
 mod SchemasRead
-mod TextsRead
+pub mod TextsRead
 mod OnePddlOrder
 pub mod order
 pub mod seen
