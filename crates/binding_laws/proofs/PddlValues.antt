@@ -1,5 +1,5 @@
 -- What is read of two PDDL texts and bound is the value that they spell, and sound.
-use Rattle.std.proofs.Common.{◌≡◌, ℕ, List, [], map, sym, subst}
+use Rattle.std.proofs.Common.{◌≡◌, ℕ, List, [], sym, subst}
 use Rattle.htn_base.proofs.DifferentLemmas.{different-right}
 use Rattle.text_forms.specs.Faults.{IsFaultless}
 use Rattle.plan_model.specs.declared.values.Hddl.{Hddl}

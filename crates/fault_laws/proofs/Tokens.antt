@@ -10,7 +10,7 @@ use Rattle.text_forms.specs.Words.{Word}
 use Rattle.text_forms.proofs.Matched.{matched_are_lists}
 use Rattle.text_forms.proofs.MatchedFaults.{matched_are_faultless}
 use Rattle.plan_texts.specs.Domains.{IsDefinition}
-use Rattle.fault_laws.specs.Faultless.{IsShallow}
+use Rattle.fault_laws.specs.Depth.{IsShallow}
 
 -- a list without an end or a stray parenthesis, or a list too deep
 abbrev IsOfLists : Fault → Type 0

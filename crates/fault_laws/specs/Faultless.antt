@@ -1,7 +1,7 @@
 -- Two texts that spell a sound value have no fault: of tokens, of form, or of names.
 -- Source: this project's.
 use Rattle.std.specs.Prelude.{ℕ, ◌+◌, ◌≤◌, List, length}
-use Rattle.text_forms.specs.Faults.{fault, IsFault, IsFaultless}
+use Rattle.text_forms.specs.Faults.{IsFaultless}
 use Rattle.plan_model.specs.declared.types.Types.{Types}
 use Rattle.plan_model.specs.declared.values.Hddl.{Hddl}
 use Rattle.plan_model.specs.declared.values.Pddl.{Pddl}
@@ -19,6 +19,7 @@ use Rattle.name_faults.specs.Faults.{HasDomainFault, HasProblemFault, HasNoFault
 use Rattle.name_faults.specs.Types.{most_types}
 use Rattle.form_spellings.specs.ReadTexts.{AreRead}
 use Rattle.form_spellings.specs.SoundPddl.{IsSoundPddl}
+use Rattle.fault_laws.specs.Depth.{IsShallow}
 
 -- The texts have no fault of tokens and are read as a domain and a problem, whose names have no fault, in whatever table of words they
 -- are read.
@@ -35,10 +36,6 @@ pub record AreFaultless (l : Language) (domain problem : List ℕ) : Type 0 wher
 -- object, and at most so many other types as a domain of the language may have
 abbrev pub HasFewTypes : Language → Types → Type 0
 HasFewTypes l types = length types.names ≤ most_types l + 1
-
--- no list of the text stands too deep
-abbrev pub IsShallow : List ℕ → Type 0
-IsShallow text = (at : ℕ) → IsFault text (fault 4 at) → ⊥
 
 -- What spells a sound value of HDDL whose networks have no cycle and that has few types is faultless, if no list stands too deep.
 abbrev pub SpelledHddlIsFaultless : Type 0

@@ -1,4 +1,5 @@
 // Texts that spell a value have no fault.
+ghost use Rattle.fault_laws.specs.Depth.{DepthIsThatOfLists};
 ghost use Rattle.fault_laws.specs.Faultless.{SpelledHddlIsFaultless, SpelledPddlIsFaultless};
 
 use form_spellings::{
@@ -18,3 +19,8 @@ pub fn spelled_texts_are_faultless()
     names_stand_in_the_table();
     places_are_those_of_tokens();
 }
+
+/// In a text that says one list no list stands too deep exactly where at most 200 of its lists stand in one another.
+pub fn depth_is_that_of_lists()
+    ensures { DepthIsThatOfLists }
+{}

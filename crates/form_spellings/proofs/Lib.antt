@@ -66,6 +66,7 @@ mod NoSections
 mod NetworksRead
 mod SchemasRead
 pub mod TextsRead
+mod OnePddlOrder
 pub mod order
 pub mod seen
 pub mod examples

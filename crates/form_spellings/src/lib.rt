@@ -11,7 +11,7 @@
 //! name table (`names_stand_in_the_table`), its offsets are those of tokens (`places_are_those_of_tokens`), one word at each
 //! (`one_word_stands_at_one_offset`), and its lists stand in the order of the text (`what_is_read_is_in_order`); the texts first name
 //! types, pairs and unions in the order of its offsets, so what is read, bound in this order, is the value of its texts, of either
-//! language (`offsets_tell_what_is_first_seen`).
+//! language (`offsets_tell_what_is_first_seen`), and values of the same PDDL texts have one order (`pddl_values_have_one_order`).
 #![tactic(auto)]
 
 mod bound;
@@ -26,7 +26,7 @@ pub use bound::{
     networks_spell_what_is_bound, pddl_texts_have_no_networks, schemas_spell_what_is_bound,
     texts_spell_what_is_bound,
 };
-pub use first_seen::offsets_tell_what_is_first_seen;
+pub use first_seen::{offsets_tell_what_is_first_seen, pddl_values_have_one_order};
 pub use laws::{
     spelled_definitions_are_whole, whole_definitions, whole_effects, whole_formulas, whole_lists,
     whole_networks, whole_schemas,

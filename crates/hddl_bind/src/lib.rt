@@ -6,7 +6,8 @@
 //! `tasks_of`, `actions_of`, `methods_of`, `facts_of`), and so are all that a domain declares but its types (`schemas_of`) and what
 //! a problem says beyond its domain (`parts_of`); names that are declared again are noted where the tables of names are made
 //! (`names_of`); and what was bound is handed out exactly where no fault was noted, else the least is (`judged`). On these stand the
-//! whole domain and the whole problem (`bind_domain`, `bind_problem`).
+//! whole domain and the whole problem (`bind_domain`, `bind_problem`), of HDDL or of PDDL: the languages differ in how many types a
+//! domain may have.
 #![tactic(auto)]
 
 mod actions;

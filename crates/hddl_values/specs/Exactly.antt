@@ -7,7 +7,8 @@ use Rattle.plan_model.specs.declared.values.Hddl.{Hddl}
 use Rattle.plan_texts.specs.SoundProblem.{IsSoundProblem}
 use Rattle.plan_texts.specs.SpellsHddl.{SpellsHddl}
 use Rattle.plan_meaning.specs.Laws.{AreOrdered}
-use Rattle.fault_laws.specs.Faultless.{IsShallow, HasFewTypes}
+use Rattle.fault_laws.specs.Depth.{IsShallow}
+use Rattle.fault_laws.specs.Faultless.{HasFewTypes}
 use Rattle.hddl_values.specs.TextFaults.{IsLeastFault, HaveNoFault}
 
 -- the texts have no fault, and none can be told of them
