@@ -1,4 +1,4 @@
-use Rattle.std.proofs.Common.{◌≡◌, ◌<◌, ◌≤◌, length, refl, ◌∙◌, arith}
+use Rattle.std.proofs.Common.{◌<◌, ◌≤◌, length, refl, ◌∙◌, arith}
 use Rattle.ground_state.proofs.NumberLaws.{next_number, ends_there}
 use Rattle.ground_state.proofs.numbers.Numbers.of.Goals as goal
 
