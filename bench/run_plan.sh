@@ -108,7 +108,7 @@ fn number(words: &[String], place: usize) -> u32 {
     }
 }
 
-fn asked(rt: HostRuntime) -> io::Result<Asked> {
+fn read_words(rt: HostRuntime) -> io::Result<Asked> {
     let words = env::args(&rt)?.skip(1).collect::<Vec<String>>(rt.alloc())?;
     let runs = number(words.as_slice(), 0);
     let drives = number(words.as_slice(), 1);
@@ -116,7 +116,7 @@ fn asked(rt: HostRuntime) -> io::Result<Asked> {
 }
 
 fn main(rt: HostRuntime) -> io::Result<()> {
-    let asked = asked(rt)?;
+    let asked = read_words(rt)?;
     let spent = time(&rt, rt.alloc(), transport(rt.alloc()), asked)?;
     println!(rt; "{spent}")
 }

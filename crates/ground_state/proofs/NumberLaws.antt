@@ -1,8 +1,8 @@
 -- Numbers of lists: lists with numbers have different ones, and a list is numbered from its last object to its first.
-use Rattle.std.proofs.Common.{ℕ, zero, suc, ◌≡◌, ◌+◌, ◌*◌, ◌%◌, ◌/◌, ◌<◌, ◌≤◌, ◌^◌, ◌&&◌, Bool, true, false, List, [], ◌∷◌, length, get_or, drop, Option, Some, None, refl, ap, sym, subst, ◌∙◌, arith}
+use Rattle.std.proofs.Common.{ℕ, zero, suc, ◌≡◌, ◌+◌, ◌-◌, ◌*◌, ◌%◌, ◌/◌, ◌<◌, ◌≤◌, ◌&&◌, Bool, true, false, List, [], ◌∷◌, length, get_or, drop, Option, Some, None, refl, ap, sym, subst, ◌∙◌, arith}
 use Rattle.std.specs.Prelude.{nat_lt, cond}
 use Rattle.std.specs.Option.{option_and_then}
-use Rattle.std.proofs.lemmas.Bool.{ltb-true, le-ltb}
+use Rattle.std.proofs.lemmas.Bool.{ltb-true}
 use Rattle.std.proofs.lemmas.Nat.{mod-mul-add, div-mul-add}
 use Rattle.std.proofs.Math.Nat.{le-mul_of_pos_right}
 use Rattle.std.proofs.lemmas.List.{drop_more}
@@ -74,19 +74,16 @@ module _ (most room : ℕ) where
   no_number [] (suc i) e = e
   no_number (x ∷ xs) (suc i) e = ap (option_and_then (with_digit most room x)) (no_number xs i e)
 
-  -- where an object is too great, or its number, the list has none
-  pub too_great : (xs : List ℕ) (i n : ℕ) → i < length xs → number most room (drop (i + 1) xs) ≡ Some n → most < get_or xs i 0 → None ≡ number most room xs
-  too_great xs i n l e g =
-      let x = get_or xs i 0 in
-      let none : with_digit most room (get_or xs i 0) n ≡ None = ap (λ b. cond (b && nat_lt (n * (most + 2) + x) room) (Some (n * (most + 2) + x)) None) (le-ltb x (most + 1) (omega (arith, g))) in
-      sym (no_number xs i (number_from xs i 0 n l e ∙ none))
+  module _ (xs : List ℕ) (i x n : ℕ) (l : 0 < i) (m : i ≤ length xs) (at : x ≡ get_or xs (i - 1) 0) (e : number most room (drop i xs) ≡ Some n) where
+    one_more : number most room (drop (i - 1) xs) ≡ with_digit most room x n
+    one_more =
+        let next : i ≡ i - 1 + 1 = omega (arith, l) in
+        number_from xs (i - 1) 0 n (omega (arith, l, m)) (subst (λ k. number most room (drop k xs) ≡ Some n) next e) ∙ ap (λ y. with_digit most room y n) (sym at)
 
-  pub no_room : (xs : List ℕ) (i n : ℕ) → i < length xs → number most room (drop (i + 1) xs) ≡ Some n → room ≤ n * (most + 2) + get_or xs i 0 → None ≡ number most room xs
-  no_room xs i n l e g =
-      let x = get_or xs i 0 in
-      let none : with_digit most room (get_or xs i 0) n ≡ None = ap (λ b. cond (nat_lt x (most + 1) && b) (Some (n * (most + 2) + x)) None) (le-ltb (n * (most + 2) + x) room g) ∙ by (nat_lt x (most + 1)) (n * (most + 2) + x) in
-      sym (no_number xs i (number_from xs i 0 n l e ∙ none))
-    where
-      by : (b : Bool) (k : ℕ) → cond (b && false) (Some k) None ≡ None
-      by true k = refl
-      by false k = refl
+    -- with the object before that place
+    pub next_number : (k : ℕ) → Some k ≡ with_digit most room x n → number most room (drop (i - 1) xs) ≡ Some k
+    next_number k d = one_more ∙ sym d
+
+    -- where there is no such number, the list has none
+    pub ends_there : None ≡ with_digit most room x n → None ≡ number most room xs
+    ends_there d = sym (no_number xs (i - 1) (one_more ∙ sym d))

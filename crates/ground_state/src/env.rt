@@ -1,7 +1,9 @@
 ghost use Rattle.std.specs.Prelude.{ℕ, ◌≡◌, ◌≤◌, ◌<◌, length, IfOk, OnOk};
 ghost use Rattle.plan_meaning.specs.Truth.{value_of, values_of};
 ghost use Rattle.ground_state.specs.Frames.{Frame, frame, pushed, cleared};
+ghost use Rattle.ground_state.specs.Numbers.{number_of};
 
+use crate::numbers::Numbers;
 use htn_base::{List, Memory};
 use plan_model::Term;
 use std::alloc::Global;
@@ -87,6 +89,17 @@ impl Env {
             let value = self.value(*term);
             self.args.push_reserved(value);
         }
+    }
+
+    /// The number of the objects that the terms stand for.
+    pub(crate) fn number(&self, terms: &[Term], numbers: Numbers) -> Option<usize>
+        ensures { result ≡ number_of numbers (values_of (frame self.now).objects terms.now) }
+    {
+        let mut number = 1;
+        for i in (0..terms.len()).rev() {
+            number = numbers.with(number, self.value(terms[i]))?;
+        }
+        Some(number as usize)
     }
 
     /// The arguments that were filled in last.

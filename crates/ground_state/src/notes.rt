@@ -1,9 +1,13 @@
-ghost use Rattle.std.specs.Prelude.{◌≡◌, ◌<◌, ◌^◌, false, Some, None, OnOk, OnErr};
+ghost use Rattle.std.specs.Prelude.{◌≡◌, ◌≤◌, false, Some, None, length, OnOk, OnErr};
 ghost use Rattle.std.specs.Bool.{OnTrue};
+ghost use Rattle.plan_meaning.specs.Truth.{values_of};
+ghost use Rattle.ground_state.specs.Frames.{frame};
 ghost use Rattle.ground_state.specs.Notes as spec;
 
+use crate::env::Env;
 use crate::numbers::Numbers;
 use htn_base::Memory;
+use plan_model::Term;
 use std::alloc::Global;
 use std::collections::BTreeMap;
 
@@ -43,6 +47,24 @@ impl Notes {
                 None => None,
             },
             None => self.far.get(args).copied(),
+        }
+    }
+
+    /// What is noted of the objects that the terms stand for. It takes no memory.
+    pub(crate) fn of_terms(&self, env: &mut Env, terms: &[Term]) -> Option<bool>
+        requires room { length terms.now ≤ (frame env.old).arity }
+        ensures noted { result ≡ spec.noted self.now (values_of (frame env.old).objects terms.now) }
+        ensures kept { frame env.new ≡ frame env.old }
+    {
+        match env.number(terms, self.numbers) {
+            Some(number) => match self.near.get(number) {
+                Some(note) => *note,
+                None => None,
+            },
+            None => {
+                env.fill(terms);
+                self.far.get(env.args()).copied()
+            }
         }
     }
 

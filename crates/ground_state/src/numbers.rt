@@ -15,22 +15,30 @@ impl Numbers {
         Numbers { most, room }
     }
 
+    /// The number with one digit more behind it, where there is one.
+    pub(crate) fn with(self, number: u64, object: u32) -> Option<u64>
+        requires { number < 2 ^ 16 }
+        ensures number { result ≡ spec.with_digit self.most self.room object number }
+        ensures small { IfSome result (λ n. n < 2 ^ 16) }
+    {
+        if object > self.most {
+            return None;
+        }
+        let number = number * (self.most as u64 + 2) + object as u64;
+        if number >= self.room as u64 {
+            return None;
+        }
+        Some(number)
+    }
+
     /// The number of the list. Two lists with numbers have different ones.
     pub(crate) fn of(self, objects: &[u32]) -> Option<usize>
         ensures number { result ≡ spec.number_of self objects.now }
         ensures small { IfSome result (λ n. n < 2 ^ 16) }
     {
-        let base = self.most as u64 + 2;
-        let mut number: u64 = 1;
+        let mut number = 1;
         for i in (0..objects.len()).rev() {
-            let object = objects[i];
-            if object > self.most {
-                return None;
-            }
-            number = number * base + object as u64;
-            if number >= self.room as u64 {
-                return None;
-            }
+            number = self.with(number, objects[i])?;
         }
         Some(number as usize)
     }

@@ -1,12 +1,15 @@
-ghost use Rattle.std.specs.Prelude.{◌≡◌, ◌↔◌, false, IsTrue, Contains, Some, None, IfOk, OnOk, OnErr};
+ghost use Rattle.std.specs.Prelude.{◌≡◌, ◌≤◌, ◌↔◌, false, length, IsTrue, Contains, Some, None, IfOk, OnOk, OnErr};
 ghost use Rattle.std.specs.Bool.{OnTrue};
+ghost use Rattle.plan_meaning.specs.Truth.{values_of};
+ghost use Rattle.ground_state.specs.Frames.{frame};
 ghost use Rattle.ground_state.specs.States as spec;
 
 use crate::atom_list::AtomLists;
+use crate::env::Env;
 use crate::notes::Notes;
 use crate::numbers::Numbers;
 use htn_base::{List, Memory};
-use plan_model::GroundAtom;
+use plan_model::{GroundAtom, Term};
 use std::alloc::Global;
 
 /// More predicates than these count as want of memory: no text of at most 16 megabytes declares so many.
@@ -55,6 +58,18 @@ impl State {
         ensures { result ≡ spec.has self.now predicate args.now }
     {
         self.note(predicate, args).unwrap_or(false)
+    }
+
+    /// Whether the predicate is true of the objects that the terms stand for. It takes no memory.
+    pub(crate) fn has_terms(&self, predicate: u32, env: &mut Env, terms: &[Term]) -> bool
+        requires room { length terms.now ≤ (frame env.old).arity }
+        ensures truth { result ≡ spec.has self.now predicate (values_of (frame env.old).objects terms.now) }
+        ensures kept { frame env.new ≡ frame env.old }
+    {
+        match self.facts.get(predicate as usize) {
+            Some(notes) => notes.of_terms(env, terms).unwrap_or(false),
+            None => false,
+        }
     }
 
     /// What is noted of the predicate and these objects.

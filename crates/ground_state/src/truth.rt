@@ -49,8 +49,7 @@ fn has_atom(atom: &Atom, env: &mut Env, s: &State) -> bool
     ensures truth { IsTrue result ↔ atoms s.now (ground (frame env.old).objects atom.now) }
     ensures kept { frame env.new ≡ frame env.old }
 {
-    env.fill(atom.args.as_slice());
-    s.has_args(atom.predicate, env.args())
+    s.has_terms(atom.predicate, env, atom.args.as_slice())
 }
 
 /// Whether one of the formulas is true, or one is false, as wanted.

@@ -20,8 +20,8 @@ returns-clause-inserted c =
     elim c.if-number-len.branch [
       | then-number-len+in_ok-resize w ↦
           let same = with-room c.args.self.now.near w.resize.new.self (n + 1) (let l = w.if-number-len.true in let e = c.len.ensures in let k = old.near.ok.0 in omega (arith, l, e, k)) (sym w.resize.new.self.ok.0 ∙ w.in_ok-resize.ensures.len)
-              (λ k d l m. w.in_ok-resize.ensures.by_index.0 k d l (let e = old.near.ok.0 in omega (arith, m, e)))
-              (λ k d l m. w.in_ok-resize.ensures.by_index.1 k d refl (let e = old.near.ok.0 in omega (arith, l, e)) m) in
+          (λ k d l m. w.in_ok-resize.ensures.by_index.0 k d l (let e = old.near.ok.0 in omega (arith, m, e)))
+          (λ k d l m. w.in_ok-resize.ensures.by_index.1 k d refl (let e = old.near.ok.0 in omega (arith, l, e)) m) in
           subst P (sym w.self-is) (near-set old w.resize.new.self c.args.args.now n (Some c.args.truth) (sym c.in-Some.ensures.number) same (let l = w.in_ok-resize.ensures.len in let k = w.resize.new.self.ok.0 in omega (arith, l, k)))
       | else-number-len w ↦
           subst P (sym w.self-is) (near-set old c.args.self.now.near c.args.args.now n (Some c.args.truth) (sym c.in-Some.ensures.number) (λ k. refl) (let l = w.if-number-len.false in let e = c.len.ensures in let k = old.near.ok.0 in omega (arith, l, e, k)))

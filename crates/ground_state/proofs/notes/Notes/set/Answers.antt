@@ -1,9 +1,8 @@
-use Rattle.std.proofs.Common.{ℕ, ◌≡◌, Bool, Option, Some, List, Vec, Global, get_or, ap, refl, sym, subst, ◌∙◌, arith}
-use Rattle.std.specs.Vec.{with_item}
+use Rattle.std.proofs.Common.{Bool, Option, Some, ap, refl, sym, subst, ◌∙◌, arith}
 use Rattle.std.specs.Option.{IsSome, option_map}
 use Rattle.ground_state.specs.declared.notes.Notes.{Notes}
-use Rattle.ground_state.specs.Notes.{noted, noted_at, IsNoted}
-use Rattle.ground_state.proofs.Lists.{far-noted, near-set, set-at}
+use Rattle.ground_state.specs.Notes.{noted_at, IsNoted}
+use Rattle.ground_state.proofs.Lists.{far-noted, set-at}
 use Rattle.ground_state.proofs.notes.Notes.set.Goals as goal
 
 pub returns-in-Some-get_mut : goal.returns-in-Some-get_mut
