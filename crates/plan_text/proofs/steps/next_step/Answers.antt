@@ -1,4 +1,4 @@
-use Rattle.std.proofs.Common.{◌+◌, sym, ◌∙◌, arith}
+use Rattle.std.proofs.Common.{rules, ◌+◌, sym, ◌∙◌, arith}
 use Rattle.htn_base.specs.Words.{folded}
 use Rattle.text_forms.specs.Placed.{parts_at}
 use Rattle.plan_text.proofs.StepByStep.{comes-list, comes-marked}
@@ -20,3 +20,6 @@ returns-in-Ok c =
     let b = s.order in
     let marked = sym c.is_mark.ensures ∙ c.if-is_mark.true in
     (comes-marked (parts_at c.args.s.now c.args.i) (parts_at c.args.s.now (c.args.i + 1)) (parts_at c.args.s.now c.in-Ok.list.0) (parts_at c.args.s.now c.in-Ok.list.1) c.in-Word.at l.0 (folded c.in-Word.word.now) w.parts s.parts marked, s.whole, omega arith, s.within)
+
+pub returns-in-Err : goal.returns-in-Err
+returns-in-Err c = search rules
