@@ -2,16 +2,12 @@
 use Rattle.std.proofs.Common.{ℕ, ◌≡◌, ◌≤◌, List, [], length, Result, Ok, Err}
 use Rattle.std.specs.Prelude.{IfOk, IfErr, OnOk}
 use Rattle.htn_base.specs.Different.{AreDifferent}
-use Rattle.htn_base.specs.declared.fault.Fault.{Fault}
-use Rattle.text_forms.specs.Faults.{IsFaultless}
 use Rattle.gd_reader.specs.Terms.{Names, Keeps}
-use Rattle.gd_reader.proofs.Keeping.{keeps_same, keeps_then}
+use Rattle.gd_reader.proofs.Keeping.{keeps_same}
 use Rattle.hddl_reader.specs.declared.sections.Language.{Language}
 use Rattle.hddl_reader.specs.declared.sections.RawDomain.{RawDomain}
-use Rattle.hddl_reader.specs.Definitions.{IsDomainRead}
 use Rattle.form_spellings.specs.InOrder.{IsDomainInOrder}
 use Rattle.form_spellings.proofs.order.Whole.{domains_in_order}
-use Rattle.name_faults.specs.Faults.{HasDomainFault, IsLeast, HasNoFault}
 use Rattle.bind_types.specs.Cycle.{IsSection}
 use Rattle.hddl_bind.specs.declared.bound_domain.BoundDomain.{BoundDomain}
 use Rattle.hddl_bind.specs.declared.errors.BindError.{BindError}

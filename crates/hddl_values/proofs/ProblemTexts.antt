@@ -1,6 +1,6 @@
 -- A problem that was read over a domain that is bound: what it is refused for is its least fault, and what both texts are
 -- read as.
-use Rattle.std.proofs.Common.{ℕ, ◌≡◌, ◌≤◌, ◌+◌, length, arith, inl, inr, List, [], ◌∷◌, ◌++◌, Bool, true, false, cond, codes, sym, ◌∙◌, refl, subst, Some, None, Contains, true≢false}
+use Rattle.std.proofs.Common.{ℕ, ◌≡◌, ◌≤◌, ◌+◌, length, arith, List, [], ◌∷◌, ◌++◌, Bool, true, false, cond, codes, sym, ◌∙◌, refl, subst, Some, None, Contains, true≢false}
 use Rattle.std.specs.Str.{bytes_eq}
 use Rattle.std.specs.List.{list_any}
 use Rattle.std.proofs.lemmas.List.Folds.{list_any_at}
@@ -8,7 +8,6 @@ use Rattle.std.proofs.lemmas.Slice.Eq.{bytes_eq-Decides}
 use Rattle.htn_base.specs.Different.{AreDifferent}
 use Rattle.htn_base.specs.Table.{with_word}
 use Rattle.htn_base.proofs.DifferentLemmas.{different-push}
-use Rattle.text_forms.specs.Faults.{IsFaultless}
 use Rattle.gd_reader.specs.Terms.{Names, Keeps}
 use Rattle.gd_reader.proofs.Keeping.{keeps_same, keeps_then, keeps_word}
 use Rattle.hddl_reader.specs.declared.sections.Language.{Language}
@@ -16,7 +15,6 @@ use Rattle.hddl_reader.specs.declared.sections.RawProblem.{RawProblem}
 use Rattle.form_spellings.specs.ReadTexts.{AreRead}
 use Rattle.form_spellings.proofs.order.Whole.{domains_in_order, problems_in_order}
 use Rattle.plan_model.specs.declared.values.Hddl.{Hddl as Value}
-use Rattle.name_faults.specs.Faults.{HasDomainFault, HasProblemFault, IsLeast, HasNoFault}
 use Rattle.name_numbers.specs.Spots.{spot, noted}
 use Rattle.hddl_bind.specs.declared.bound_domain.BoundDomain.{BoundDomain}
 use Rattle.hddl_bind.specs.declared.errors.BindError.{BindError}
@@ -26,10 +24,9 @@ use Rattle.hddl_bind.specs.WholeProblems as problem
 use Rattle.binding_laws.specs.WholeFaults.{AreInOrder}
 use Rattle.binding_laws.proofs.WholeFaults.{domain_none, problem_least, problem_none}
 use Rattle.binding_laws.specs.SoundValues.{IsBoundOf}
-use Rattle.sexpr_text.specs.declared.read_error.ReadError.{ReadError}
 use Rattle.hddl_values.specs.Reading.{ReadsProblem, RefusesOver, IsBoundText, read_error}
 use Rattle.hddl_values.specs.Values.{AreReadAs}
-use Rattle.hddl_values.specs.TextFaults.{IsDomainOf, IsProblemOf, IsGoodDomain, IsGoodProblem, problem_names, HaveNoFault}
+use Rattle.hddl_values.specs.TextFaults.{IsProblemOf, IsGoodDomain, IsGoodProblem, problem_names}
 
 -- a word more keeps words apart
 pub differ_with : (words : Names) (w : List ℕ) → AreDifferent words → AreDifferent (with_word words w)
@@ -98,6 +95,9 @@ module _ (l : Language) (domain text : List ℕ) (table later : Names) (b : Boun
       record { tokens = is.tokens; read = problem_of; names = problem_none table later bound.d p here object of_object l x r.0 r.1 }
 
   -- in the table that has the word of the top method too
+  abbrev last : Names
+  last = with_start later
+
   bound_of : length text ≤ 16777216 → length later ≤ length table + length text → (h : Value) → IsProblemBound b p later h → IsBoundOf l domain text h
   bound_of short more h value =
       let stays = keeps_word later (codes "htn_start") in
