@@ -6,7 +6,7 @@ use Rattle.form_grammar.specs.Codes.{Whole, complete}
 use Rattle.form_grammar.specs.Plans.{steps_form}
 use Rattle.plan_model.specs.declared.steps.GroundAction.{GroundAction}
 use Rattle.plan_texts.specs.PlanText.{AreSteps}
-use Rattle.plan_text.specs.Reading.{IsPlanRead}
+use Rattle.plan_text.specs.Plans.{IsPlanRead}
 use Rattle.plan_text.proofs.Exactly.{spelled}
 use Rattle.plan_text.proofs.Folded.{printable}
 

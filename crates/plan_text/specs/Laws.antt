@@ -1,4 +1,5 @@
 -- What holds of plans as texts.
+-- Source: this project's.
 use Rattle.std.specs.Prelude.{ℕ, ◌≡◌, ◌↔◌, List, None}
 use Rattle.text_forms.specs.Faults.{IsFaultless}
 use Rattle.form_grammar.specs.Plans.{steps_fault}

@@ -1,3 +1,4 @@
+pub mod Plans
 pub mod Reading
 pub mod Laws
 pub mod Wrote

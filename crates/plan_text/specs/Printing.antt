@@ -1,4 +1,5 @@
 -- The text of each part of a plan.
+-- Source: this project's.
 use Rattle.std.specs.Prelude.{ℕ, List, [], ◌∷◌, ◌++◌, map}
 use Rattle.text_forms.specs.Lists.{name}
 use Rattle.text_forms.specs.Printing.{bytes, bytes_behind}

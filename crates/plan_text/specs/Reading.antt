@@ -1,38 +1,23 @@
--- What reading a plan answers: what its tokens spell where they are of its form, and else the fault.
-use Rattle.std.specs.Prelude.{ℕ, ◌≡◌, ◌≤◌, ◌<◌, ◌⊎◌, true, List, Option, Some, None, Result, Ok, Err}
-use Rattle.text_forms.specs.Faults.{Fault, fault, IsLeast, IsFaultless}
+-- What each step of reading a plan answers: what the tokens spell where they are of a form, and else the token that departs.
+-- Source: this project's.
+use Rattle.std.specs.Prelude.{ℕ, ◌≡◌, ◌≤◌, ◌<◌, true, List, Option, Some, None, Result, Ok, Err}
+use Rattle.text_forms.specs.Faults.{Fault, fault}
 use Rattle.text_forms.specs.Lists.{group}
 use Rattle.text_forms.specs.Placed.{Placed, cut, close, word, list, parts_at, parts_of, IsWhole}
 use Rattle.text_forms.specs.StepWords.{is_mark}
 use Rattle.text_forms.specs.Tokens.{token_count}
 use Rattle.text_forms.specs.Words.{Word}
-use Rattle.form_grammar.specs.Codes.{Form, complete, wrong, Whole}
+use Rattle.form_grammar.specs.Codes.{Form, complete, wrong}
 use Rattle.form_grammar.specs.Plans.{step, args, step_rows, steps_form, steps_fault}
 use Rattle.form_grammar.specs.Rows.{form}
 use Rattle.form_grammar.specs.Texts.{text_form, marked_lists, behind_mark, fault_or, last_word}
 use Rattle.gd_reader.specs.Shown.{IsListTo}
 use Rattle.plan_model.specs.declared.steps.GroundAction.{GroundAction}
-use Rattle.plan_texts.specs.PlanText.{AreArgs, IsStep, AreSteps, SpellsPlan, ArePrintableSteps}
+use Rattle.plan_texts.specs.PlanText.{AreArgs, IsStep, AreSteps}
 use Rattle.sexpr_text.specs.declared.read_error.ReadError.{ReadError}
 use Rattle.sexpr_text.specs.declared.read_error.ReadError.TheVariants as errors
 use Rattle.plan_text.specs.declared.steps.Stop.{Stop}
 use Rattle.plan_text.specs.declared.steps.Stop.TheVariants.{Memory, At}
-
--- The text has no fault of tokens, its tokens are a whole plan, and it spells these steps, whose words are folded names.
-pub record IsPlanRead (text : List ℕ) (steps : List GroundAction) : Type 0 where
-  pub tokens : IsFaultless text
-  pub whole : Whole (steps_form (parts_at text 0))
-  pub spelled : SpellsPlan text steps
-  pub folded : ArePrintableSteps steps
-
--- the least fault of a text as a plan: that of its tokens, and else the one of its form
-abbrev pub IsPlanFault : List ℕ → Fault → Type 0
-IsPlanFault text f = IsLeast text f ⊎ (IsFaultless text × (f.code ≡ 8) × (steps_fault text ≡ Some f))
-
--- why a text isn't read as a plan; or memory ran out
-abbrev pub RefusesPlan : ℕ → List ℕ → ReadError → Type 0
-RefusesPlan file text errors.Memory = Unit {0}
-RefusesPlan file text (errors.Bad f) = (f.file ≡ file) × IsPlanFault text (fault f.code f.at)
 
 -- The tokens are a whole text of the form, and so is the value; or the token at an offset departs; or memory ran out.
 abbrev pub Tells : {A : Type 0} → Form → (A → Type 0) → Result A Stop → Type 0

@@ -1,7 +1,8 @@
 ghost use Rattle.std.specs.Prelude.{◌≡◌, ◌≤◌, length, IfOk, IfErr, OnOk};
 ghost use Rattle.text_forms.specs.Faults.{IsFaultless};
 ghost use Rattle.sexpr_text.specs.Refused.{IsRefusal};
-ghost use Rattle.plan_text.specs.Reading.{IsPlanRead, RefusesPlan, refusal};
+ghost use Rattle.plan_text.specs.Plans.{IsPlanRead, RefusesPlan};
+ghost use Rattle.plan_text.specs.Reading.{refusal};
 
 use crate::steps::{Stop, steps_of};
 use htn_base::{Fault, List, Memory};

@@ -8,7 +8,7 @@ use Rattle.form_grammar.specs.Codes.{Whole}
 use Rattle.plan_model.specs.declared.steps.GroundAction.{GroundAction}
 use Rattle.plan_texts.specs.PlanText.{SpellsPlan, plan_text}
 use Rattle.plan_text.specs.Laws.{IsReadBack}
-use Rattle.plan_text.specs.Reading.{IsPlanRead, IsPlanFault}
+use Rattle.plan_text.specs.Plans.{IsPlanRead, IsPlanFault}
 use Rattle.plan_text.proofs.Exactly.{read-back}
 use Rattle.plan_text.proofs.Flat.{faultless}
 use Rattle.plan_text.proofs.Folded.{printable}
