@@ -1,12 +1,12 @@
 #!/usr/bin/env bash
 # Times `hddl_of` from bytes to the value, compiled, against `sexpr_text::read` with each token asked for, on texts of names: `:init` atoms of
 # up to 16,777,216 bytes, a million variables and a million objects, each used once, 1,000 types with 100,000 pairs, a method of 4,096
-# subtasks with 100,000 written pairs, a million atoms in 190 quantifiers, and a million variables under one union of 1,000 types. Writes a program into
-# a temporary copy of the crates that it stands on, and proves, builds and runs it there; what those crates have proved and built is copied
-# along. Where valgrind is at hand, a line a text for an eighth of its size and for a quarter: the instructions of the value, how many times
-# those of the tokens, and how many times as many the second size takes. Then a line for the whole size: bytes, tokens, the milliseconds of the
-# tokens and of the value, how many times as long the value takes, and the most memory in kilobytes. Each figure is the least of three runs.
-# The load is that of the machine over the last minute. An argument names the texts that are tried, all with none.
+# subtasks with 100,000 written pairs, a million atoms in 190 quantifiers, and a million variables under one union of 1,000 types. Writes a
+# program into a temporary copy of the crates that it stands on, and proves, builds and runs it there; what those crates have proved and
+# built is copied along. Where valgrind is at hand, a line a text for an eighth of its size: the instructions of the value, how many times
+# those of the tokens, and how many times as many the double size takes. Then a line for the whole size: bytes, tokens, the milliseconds of
+# the tokens and of the value, how many times as long the value takes, the most memory in kilobytes, and the load of the machine over the
+# last minute. Each figure is the least of three runs. Arguments name the texts that are tried, all where there are none.
 set -euo pipefail
 top=$(cd "$(dirname "$0")/.." && pwd)
 work=$(mktemp -d)
