@@ -5,7 +5,8 @@
 # valgrind is at hand, two lines more: the instructions of one call in each case, of the strata and of the bound.
 #
 # Measured, in the order of the cases: the strata 5.4, 3.8 and 192 million instructions, the bound 21, 81 and 256
-# million; on four processors at a load of 15 the strata 0.9, 0.4 and 96 milliseconds, the bound 2.4, 23 and 98.
+# million; on four processors at a load of 15 the strata 0.9, 0.4 and 96 milliseconds, the bound 2.4, 23 and 98, and
+# at a load of 6 the second case 0.6 and 18.
 set -e
 top=$(cd "$(dirname "$0")/.." && pwd)
 copy=$(mktemp -d)
