@@ -1,5 +1,5 @@
 -- A place and a fault, written piece by piece with what stands around them.
-use Rattle.std.proofs.Common.{◌≡◌, ℕ, List, ◌++◌, codes, decimal, refl, sym, ap, ◌∙◌, subst, append_assoc}
+use Rattle.std.proofs.Common.{◌≡◌, ℕ, List, ◌++◌, codes, decimal, refl, subst, append_assoc}
 use Rattle.outside_io.specs.Sink.{SinkState}
 use Rattle.outside_io.specs.declared.sink.WriteError.{WriteError}
 use Rattle.htn_cli.specs.Faults.{fault_word, place_text, fault_text}

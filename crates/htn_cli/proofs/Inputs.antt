@@ -1,5 +1,5 @@
 -- The two inputs of a command, from what is read of them.
-use Rattle.std.proofs.Common.{ℕ, ◌≡◌, ◌<◌, ◌≤◌, ◌⊎◌, Bool, List, length, take, take_all, Option, Some, None, IfSome, option_map, refl, sym, ap, ◌∙◌, subst, inl, inr, arith}
+use Rattle.std.proofs.Common.{ℕ, ◌≡◌, ◌<◌, ◌≤◌, Bool, List, length, take, take_all, Option, Some, None, IfSome, option_map, refl, sym, ap, ◌∙◌, subst, arith}
 use Rattle.std.proofs.lemmas.List.{length-take}
 use Rattle.outside_io.specs.Folder.{Folder, file_of}
 use Rattle.outside_io.specs.Files.{FilesState, GetGives, GetFails}
@@ -7,7 +7,7 @@ use Rattle.plan_model.specs.declared.options.Checks.{Checks}
 use Rattle.plan_model.specs.declared.values.Compiled.{Compiled}
 use Rattle.command_words.specs.Names.{Word}
 use Rattle.htn_cli.specs.Faults.{limit_code, HaveLeastFault}
-use Rattle.htn_cli.specs.Inputs.{longest_input, Reads, IsInput, IsTooLarge, IsReached, FailsToRead, HaveFault}
+use Rattle.htn_cli.specs.Inputs.{longest_input, IsInput, IsTooLarge, IsReached, FailsToRead, HaveFault}
 use Rattle.htn_cli.specs.Stops.{GivesInput, StopsInput, GivesTexts, StopsTexts, GivesProblem, StopsProblem}
 use Rattle.htn_cli.specs.declared.faults.Place.{Place}
 use Rattle.htn_cli.specs.declared.refusal.Refusal.{Refusal}

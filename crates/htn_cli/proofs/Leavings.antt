@@ -1,5 +1,5 @@
 -- What a run leaves, from what its steps leave.
-use Rattle.std.proofs.Common.{ℕ, ◌≡◌, ◌<◌, ◌≤◌, ◌^◌, ◌⊎◌, List, Option, Some, None, IfSome, refl, sym, ap, ◌∙◌, subst, inl, inr, arith}
+use Rattle.std.proofs.Common.{ℕ, ◌≡◌, ◌<◌, ◌≤◌, ◌^◌, Option, Some, None, IfSome, refl, sym, ◌∙◌, subst, inl, inr, arith}
 use Rattle.outside_io.specs.Files.{FilesState}
 use Rattle.outside_io.specs.Sink.{SinkState}
 use Rattle.plan_model.specs.declared.options.Checks.{Checks}
@@ -9,15 +9,15 @@ use Rattle.plan_meaning.specs.Network.{top_task}
 use Rattle.plan_meaning.specs.Schemas.{task}
 use Rattle.plan_meaning.specs.Bound.{IsBound}
 use Rattle.problem_bound.specs.Soundly.{IsSoundlyCompiled}
-use Rattle.command_words.specs.Names.{Word, Names}
+use Rattle.command_words.specs.Names.{Word}
 use Rattle.command_words.specs.Bounds.{most_slots}
 use Rattle.command_words.specs.Words.{TranslationRequest, BoundRequest, Request, to_translate, to_bound, number_of}
 use Rattle.htn_cli.specs.Texts.{Texts, texts_of}
 use Rattle.htn_cli.specs.Inputs.{HaveProblem}
-use Rattle.htn_cli.specs.Answer.{Answer, writes, tells, IsGivenWithin, AreAskedFor, AreSlotsOf, IsForSlots, AreWritten, IsAnswer}
+use Rattle.htn_cli.specs.Answer.{writes, tells, IsGivenWithin, AreAskedFor, AreSlotsOf, IsForSlots, IsAnswer}
 use Rattle.htn_cli.specs.Sent.{TakesWhole}
 use Rattle.htn_cli.specs.Left.{BothStand, IsWithin, domain_of, problem_of, Leaves, slots_line, bound_line}
-use Rattle.htn_cli.specs.Stops.{GivesProblem, StopsProblem, StopsBound, StopsSlots, AreSlots, IsGiven, StopsGiven, IsComputed, StopsComputed, IsChosen, StopsChosen, IsMade, StopsMade, StopsPrint, StopsDelivery}
+use Rattle.htn_cli.specs.Stops.{GivesProblem, StopsProblem, StopsBound, StopsSlots, IsGiven, StopsGiven, IsChosen, StopsChosen, IsMade, StopsMade, StopsPrint, StopsDelivery}
 use Rattle.htn_cli.specs.Ending.{Achieves}
 use Rattle.htn_cli.specs.declared.translation.Made.{Made}
 use Rattle.htn_cli.specs.declared.refusal.Refusal.{Refusal}

@@ -1,7 +1,7 @@
 -- The answer of a run, from its words and from what the files hold: the first refusal that applies, in the order of refusals, or else what
 -- it writes and tells. Where the files don't tell what they hold, any bytes may be what they hold.
 -- Source: this project's.
-use Rattle.std.specs.Prelude.{ℕ, ◌≡◌, ◌<◌, ◌≤◌, ◌^◌, ◌⊎◌, List, [], Option, Some, None, IfSome}
+use Rattle.std.specs.Prelude.{ℕ, ◌≡◌, ◌<◌, ◌≤◌, ◌^◌, ◌⊎◌, List, Option, Some, None, IfSome}
 use Rattle.outside_io.specs.Files.{FilesState}
 use Rattle.plan_model.specs.declared.values.Compiled.{Compiled}
 use Rattle.plan_meaning.specs.Bound.{IsBound}
