@@ -25,7 +25,8 @@ never_done refused.Words e = cc
 never_done refused.BoundLimit e = cc
 never_done (refused.SlotsLimit n) e = cc
 never_done (refused.BytesLimit word) e = cc
-never_done (refused.NotBuilt word) e = cc
+never_done (refused.TextFault place code) e = cc
+never_done (refused.TextLimit counted place) e = cc
 never_done (refused.NotTailRecursive words) e = cc
 never_done (refused.OutputLimit n) e = cc
 never_done (refused.CannotRead word) e = cc
@@ -47,7 +48,8 @@ module _ (words : List Word) (old new : FilesState) (out out' : SinkState) where
   answer_left request refused.BoundLimit of left = (left.0, (left.1, left.2))
   answer_left request (refused.SlotsLimit n) of left = (left.0, (left.1, left.2))
   answer_left request (refused.BytesLimit word) of left = (left.0, (left.1, left.2))
-  answer_left request (refused.NotBuilt word) of left = (left.0, (left.1, left.2))
+  answer_left request (refused.TextFault place code) of left = (left.0, (left.1, left.2))
+  answer_left request (refused.TextLimit counted place) of left = (left.0, (left.1, left.2))
   answer_left request (refused.NotTailRecursive words) of left = (left.0, (left.1, left.2))
   answer_left request (refused.OutputLimit n) of left = (left.0, (left.1, left.2))
   answer_left request (refused.CannotRead word) of left = absurd of
@@ -116,7 +118,8 @@ module _ (words : List Word) (old new : FilesState) (out out' : SinkState) where
     past_all_left refused.BoundLimit left past = (refl, (left.1, left.2))
     past_all_left (refused.SlotsLimit m) left past = let k = asked_is r.numeral m e left.0.0 in let l = left.0.2 in absurd (omega arith)
     past_all_left (refused.BytesLimit word) left past = let k = within_few left.0.0 in absurd (omega arith)
-    past_all_left (refused.NotBuilt word) left past = let k = within_few left.0.0 in absurd (omega arith)
+    past_all_left (refused.TextFault place code) left past = let k = within_few left.0.0 in absurd (omega arith)
+    past_all_left (refused.TextLimit counted place) left past = let k = within_few left.0.0 in absurd (omega arith)
     past_all_left (refused.NotTailRecursive words) left past = absurd (not_none left.0.0)
     past_all_left (refused.OutputLimit m) left past = let k = for_few left.0.0 left.0.1 left.0.2 in absurd (omega arith)
     past_all_left (refused.CannotRead word) left past = let k = within_few left.0 in absurd (omega arith)
@@ -129,7 +132,8 @@ module _ (words : List Word) (old new : FilesState) (out out' : SinkState) where
     past_slots_left refused.BoundLimit left past few = let k = asked_is r.numeral left.0.0 e left.0.1 in let l = left.0.2 in absurd (omega arith)
     past_slots_left (refused.SlotsLimit m) left past few = (ap refused.SlotsLimit (asked_is r.numeral m e left.0.0), (left.1, left.2))
     past_slots_left (refused.BytesLimit word) left past few = let k = within_few left.0.0 in absurd (omega arith)
-    past_slots_left (refused.NotBuilt word) left past few = let k = within_few left.0.0 in absurd (omega arith)
+    past_slots_left (refused.TextFault place code) left past few = let k = within_few left.0.0 in absurd (omega arith)
+    past_slots_left (refused.TextLimit counted place) left past few = let k = within_few left.0.0 in absurd (omega arith)
     past_slots_left (refused.NotTailRecursive words) left past few = absurd (not_none left.0.0)
     past_slots_left (refused.OutputLimit m) left past few = let k = for_few left.0.0 left.0.1 left.0.2 in absurd (omega arith)
     past_slots_left (refused.CannotRead word) left past few = let k = within_few left.0 in absurd (omega arith)
@@ -175,7 +179,8 @@ module _ (old new : FilesState) (out out' : SinkState) where
   write_fault_left request refused.BoundLimit left e = absurd (cc)
   write_fault_left request (refused.SlotsLimit n) left e = absurd (cc)
   write_fault_left request (refused.BytesLimit word) left e = absurd (cc)
-  write_fault_left request (refused.NotBuilt word) left e = absurd (cc)
+  write_fault_left request (refused.TextFault place code) left e = absurd (cc)
+  write_fault_left request (refused.TextLimit counted place) left e = absurd (cc)
   write_fault_left request (refused.NotTailRecursive words) left e = absurd (cc)
   write_fault_left request (refused.OutputLimit n) left e = absurd (cc)
   write_fault_left request (refused.CannotRead word) left e = absurd (cc)
@@ -192,7 +197,8 @@ module _ (old new : FilesState) (out out' : SinkState) where
   read_fault_left request refused.BoundLimit left e = absurd (cc)
   read_fault_left request (refused.SlotsLimit n) left e = absurd (cc)
   read_fault_left request (refused.BytesLimit word) left e = absurd (cc)
-  read_fault_left request (refused.NotBuilt word) left e = absurd (cc)
+  read_fault_left request (refused.TextFault place code) left e = absurd (cc)
+  read_fault_left request (refused.TextLimit counted place) left e = absurd (cc)
   read_fault_left request (refused.NotTailRecursive words) left e = absurd (cc)
   read_fault_left request (refused.OutputLimit n) left e = absurd (cc)
   read_fault_left request (refused.CannotRead word) left e = left.1.1.get_faults.has_risen

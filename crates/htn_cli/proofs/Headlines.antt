@@ -1,5 +1,5 @@
 -- What a run promises of the problem that its inputs spell, from what it wrote and told.
-use Rattle.std.proofs.Common.{ℕ, ◌≡◌, ◌≤◌, ◌++◌, Bool, List, Option, Some, None, IfSome, option_map, codes, refl, sym, ap, ◌∙◌, subst, inl, inr, arith}
+use Rattle.std.proofs.Common.{ℕ, ◌≡◌, ◌++◌, Bool, List, Option, Some, None, IfSome, option_map, codes, sym, ap, ◌∙◌, subst, inl, inr, arith}
 use Rattle.outside_io.specs.Folder.{Folder, file_of}
 use Rattle.outside_io.specs.Files.{FilesState}
 use Rattle.outside_io.specs.Sink.{SinkState}
@@ -16,7 +16,6 @@ use Rattle.plan_proof.proofs.machine.Bounds.{loses_nothing}
 use Rattle.plan_proof.specs.OneGraph.{HaveOneGraph}
 use Rattle.plan_proof.proofs.one.OneGraph.{one_graph}
 use Rattle.problem_bound.specs.NoBound.{NamesCycle, spaced}
-use Rattle.stratifier.specs.CycleWords.{cycle_words}
 use Rattle.command_words.specs.Names.{Word}
 use Rattle.command_words.specs.Words.{TranslationRequest, BoundRequest, Request, to_translate, to_bound, number_of, Asks}
 use Rattle.command_words.proofs.Requests.{one_request}
@@ -26,7 +25,7 @@ use Rattle.htn_cli.specs.Answer.{Answer, refuses, writes, tells, AreSlotsOf, Are
 use Rattle.htn_cli.specs.Left.{BothStand, StandsUpTo, Leaves, slots_line, bound_line}
 use Rattle.htn_cli.specs.Sent.{TakesWhole, Told}
 use Rattle.htn_cli.specs.Ending.{Achieves, IsDone, IsRefused}
-use Rattle.htn_cli.specs.Promise.{IsTold, AreToldInputs, KeepsPlans, TellsBound, TellsCycle, HasHeadline, HasBound, HasFinding, checks_of}
+use Rattle.htn_cli.specs.Promise.{AreToldInputs, KeepsPlans, TellsBound, TellsCycle, HasHeadline, HasBound, HasFinding, checks_of}
 use Rattle.htn_cli.specs.Refusal.{status_of, line_of}
 use Rattle.htn_cli.specs.declared.status.Status.TheVariants as status
 use Rattle.htn_cli.specs.declared.refusal.Refusal.{Refusal}
@@ -177,7 +176,8 @@ finding_refused words files files' out out' refused.Words left e err err' told =
 finding_refused words files files' out out' refused.BoundLimit left e err err' told = absurd (cc)
 finding_refused words files files' out out' (refused.SlotsLimit n) left e err err' told = absurd (cc)
 finding_refused words files files' out out' (refused.BytesLimit word) left e err err' told = absurd (cc)
-finding_refused words files files' out out' (refused.NotBuilt word) left e err err' told = absurd (cc)
+finding_refused words files files' out out' (refused.TextFault place code) left e err err' told = absurd (cc)
+finding_refused words files files' out out' (refused.TextLimit counted place) left e err err' told = absurd (cc)
 finding_refused words files files' out out' (refused.NotTailRecursive cycle) left e err err' told = finding_here words files files' out out' cycle left err err' told
 finding_refused words files files' out out' (refused.OutputLimit n) left e err err' told = absurd (cc)
 finding_refused words files files' out out' (refused.CannotRead word) left e err err' told = absurd (cc)

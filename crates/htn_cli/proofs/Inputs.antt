@@ -1,13 +1,15 @@
 -- The two inputs of a command, from what is read of them.
-use Rattle.std.proofs.Common.{ℕ, ◌≡◌, ◌<◌, ◌≤◌, ◌⊎◌, Bool, List, length, take, take_all, Option, Some, None, IfSome, option_map, refl, sym, ap, ◌∙◌, subst, inl, inr, arith}
+use Rattle.std.proofs.Common.{ℕ, ◌≡◌, ◌<◌, ◌≤◌, Bool, List, length, take, take_all, Option, Some, None, IfSome, option_map, refl, sym, ap, ◌∙◌, subst, arith}
 use Rattle.std.proofs.lemmas.List.{length-take}
 use Rattle.outside_io.specs.Folder.{Folder, file_of}
 use Rattle.outside_io.specs.Files.{FilesState, GetGives, GetFails}
 use Rattle.plan_model.specs.declared.options.Checks.{Checks}
 use Rattle.plan_model.specs.declared.values.Compiled.{Compiled}
 use Rattle.command_words.specs.Names.{Word}
-use Rattle.htn_cli.specs.Inputs.{longest_input, Reads, IsInput, IsTooLarge, IsReached, FailsToRead}
+use Rattle.htn_cli.specs.Faults.{limit_code, HaveLeastFault}
+use Rattle.htn_cli.specs.Inputs.{longest_input, IsInput, IsTooLarge, IsReached, FailsToRead, HaveFault}
 use Rattle.htn_cli.specs.Stops.{GivesInput, StopsInput, GivesTexts, StopsTexts, GivesProblem, StopsProblem}
+use Rattle.htn_cli.specs.declared.faults.Place.{Place}
 use Rattle.htn_cli.specs.declared.refusal.Refusal.{Refusal}
 use Rattle.htn_cli.specs.declared.refusal.Refusal.TheVariants as refused
 
@@ -59,7 +61,8 @@ module _ (domain problem : Word) where
     subst (λ (z : Word). IsReached old domain problem z × IsTooLarge old z) (sym stops.0) (reached, subst (λ z. IsTooLarge z name) same stops.1),
     stops.2 ∙ same,
   )
-  stops_input name old mid new (refused.NotBuilt word) same reached stops = absurd stops
+  stops_input name old mid new (refused.TextFault place code) same reached stops = absurd stops
+  stops_input name old mid new (refused.TextLimit counted place) same reached stops = absurd stops
   stops_input name old mid new (refused.NotTailRecursive words) same reached stops = absurd stops
   stops_input name old mid new (refused.OutputLimit n) same reached stops = absurd stops
   stops_input name old mid new (refused.CannotRead word) same reached stops = reached_not_read old new name word.now reached stops.0 (subst (λ z. GetFails z new name) same stops.1)
@@ -81,12 +84,16 @@ module _ (domain problem : Word) where
       problem_is = record { domain_text = d; problem_text = p; domain_is = one.input; problem_is = second; value = gives.spelled; read = gives.read; compiled_is = gives.compiled_is };
     }
 
-    pub stops_texts : (refusal : Refusal) → StopsTexts d p domain refusal → StopsProblem domain problem old now refusal
+    have_fault : (place : Place) (code : ℕ) → HaveLeastFault domain problem d p place code → HaveFault old domain problem place code
+    have_fault place code fault = record { domain_text = d; problem_text = p; domain_is = one.input; problem_is = second; fault = fault }
+
+    pub stops_texts : (refusal : Refusal) → StopsTexts d p domain problem refusal → StopsProblem domain problem old now refusal
     stops_texts refused.Words stops = absurd stops
     stops_texts refused.BoundLimit stops = absurd stops
     stops_texts (refused.SlotsLimit n) stops = absurd stops
     stops_texts (refused.BytesLimit word) stops = absurd stops
-    stops_texts (refused.NotBuilt word) stops = (stops.0, record { domain_text = d; problem_text = p; domain_is = one.input; problem_is = second; refused = stops.1 }, unchanged)
+    stops_texts (refused.TextFault place code) stops = (have_fault place code stops.0, stops.1, unchanged)
+    stops_texts (refused.TextLimit counted place) stops = (have_fault place (limit_code counted) stops, unchanged)
     stops_texts (refused.NotTailRecursive words) stops = absurd stops
     stops_texts (refused.OutputLimit n) stops = absurd stops
     stops_texts (refused.CannotRead word) stops = absurd stops

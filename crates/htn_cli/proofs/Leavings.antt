@@ -1,5 +1,5 @@
 -- What a run leaves, from what its steps leave.
-use Rattle.std.proofs.Common.{ℕ, ◌≡◌, ◌<◌, ◌≤◌, ◌^◌, ◌⊎◌, List, Option, Some, None, IfSome, refl, sym, ap, ◌∙◌, subst, inl, inr, arith}
+use Rattle.std.proofs.Common.{ℕ, ◌≡◌, ◌<◌, ◌≤◌, ◌^◌, Option, Some, None, IfSome, refl, sym, ◌∙◌, subst, inl, inr, arith}
 use Rattle.outside_io.specs.Files.{FilesState}
 use Rattle.outside_io.specs.Sink.{SinkState}
 use Rattle.plan_model.specs.declared.options.Checks.{Checks}
@@ -9,15 +9,15 @@ use Rattle.plan_meaning.specs.Network.{top_task}
 use Rattle.plan_meaning.specs.Schemas.{task}
 use Rattle.plan_meaning.specs.Bound.{IsBound}
 use Rattle.problem_bound.specs.Soundly.{IsSoundlyCompiled}
-use Rattle.command_words.specs.Names.{Word, Names}
+use Rattle.command_words.specs.Names.{Word}
 use Rattle.command_words.specs.Bounds.{most_slots}
 use Rattle.command_words.specs.Words.{TranslationRequest, BoundRequest, Request, to_translate, to_bound, number_of}
 use Rattle.htn_cli.specs.Texts.{Texts, texts_of}
 use Rattle.htn_cli.specs.Inputs.{HaveProblem}
-use Rattle.htn_cli.specs.Answer.{Answer, writes, tells, IsGivenWithin, AreAskedFor, AreSlotsOf, IsForSlots, AreWritten, IsAnswer}
+use Rattle.htn_cli.specs.Answer.{writes, tells, IsGivenWithin, AreAskedFor, AreSlotsOf, IsForSlots, IsAnswer}
 use Rattle.htn_cli.specs.Sent.{TakesWhole}
 use Rattle.htn_cli.specs.Left.{BothStand, IsWithin, domain_of, problem_of, Leaves, slots_line, bound_line}
-use Rattle.htn_cli.specs.Stops.{GivesProblem, StopsProblem, StopsBound, StopsSlots, AreSlots, IsGiven, StopsGiven, IsComputed, StopsComputed, IsChosen, StopsChosen, IsMade, StopsMade, StopsPrint, StopsDelivery}
+use Rattle.htn_cli.specs.Stops.{GivesProblem, StopsProblem, StopsBound, StopsSlots, IsGiven, StopsGiven, IsChosen, StopsChosen, IsMade, StopsMade, StopsPrint, StopsDelivery}
 use Rattle.htn_cli.specs.Ending.{Achieves}
 use Rattle.htn_cli.specs.declared.translation.Made.{Made}
 use Rattle.htn_cli.specs.declared.refusal.Refusal.{Refusal}
@@ -43,11 +43,16 @@ module _ (request : Request) (old new : FilesState) (out : SinkState) (within : 
       go : (r : Request) → IsWithin r old → StopsProblem (domain_of r) (problem_of r) old new (refused.BytesLimit word) → Leaves r old new out out (refused.BytesLimit word)
       go (to_translate r) within stops = ((within, stops.0), stops.1, refl)
       go (to_bound r) within stops = (stops.0, stops.1, refl)
-  in_request (refused.NotBuilt word) stops = go request within stops
+  in_request (refused.TextFault place code) stops = go request within stops
     where
-      go : (r : Request) → IsWithin r old → StopsProblem (domain_of r) (problem_of r) old new (refused.NotBuilt word) → Leaves r old new out out (refused.NotBuilt word)
-      go (to_translate r) within stops = ((within, stops.1, stops.0), stops.2, refl)
-      go (to_bound r) within stops = ((stops.1, stops.0), stops.2, refl)
+      go : (r : Request) → IsWithin r old → StopsProblem (domain_of r) (problem_of r) old new (refused.TextFault place code) → Leaves r old new out out (refused.TextFault place code)
+      go (to_translate r) within stops = ((within, stops.0, stops.1), stops.2, refl)
+      go (to_bound r) within stops = ((stops.0, stops.1), stops.2, refl)
+  in_request (refused.TextLimit counted place) stops = go request within stops
+    where
+      go : (r : Request) → IsWithin r old → StopsProblem (domain_of r) (problem_of r) old new (refused.TextLimit counted place) → Leaves r old new out out (refused.TextLimit counted place)
+      go (to_translate r) within stops = ((within, stops.0), stops.1, refl)
+      go (to_bound r) within stops = (stops.0, stops.1, refl)
   in_request (refused.NotTailRecursive words) stops = absurd stops
   in_request (refused.OutputLimit n) stops = absurd stops
   in_request (refused.CannotRead word) stops = (within, stops, refl)
@@ -75,7 +80,8 @@ module _ (r : TranslationRequest) (old : FilesState) where
     slots_here n asked new same refused.BoundLimit stops = ((n, asked, stops), same, refl)
     slots_here n asked new same (refused.SlotsLimit m) stops = ((subst (AreAskedFor r old r.numeral) (sym stops.0) asked, subst (λ z. most_slots < z) (sym stops.0) stops.1, subst (λ z. z < 2 ^ 128) (sym stops.0) stops.2), same, refl)
     slots_here n asked new same (refused.BytesLimit word) stops = absurd stops
-    slots_here n asked new same (refused.NotBuilt word) stops = absurd stops
+    slots_here n asked new same (refused.TextFault place code) stops = absurd stops
+    slots_here n asked new same (refused.TextLimit counted place) stops = absurd stops
     slots_here n asked new same (refused.NotTailRecursive words) stops = absurd stops
     slots_here n asked new same (refused.OutputLimit m) stops = absurd stops
     slots_here n asked new same (refused.CannotRead word) stops = absurd stops
@@ -110,7 +116,8 @@ module _ (r : TranslationRequest) (old : FilesState) where
       computed_here none refused.BoundLimit stops = ((stops.0, subst (λ z. AreAskedFor r old z stops.0) (sym none) (compiled, gives.problem_is, stops.1), stops.2), gives.same, refl)
       computed_here none (refused.SlotsLimit n) stops = absurd stops
       computed_here none (refused.BytesLimit word) stops = absurd stops
-      computed_here none (refused.NotBuilt word) stops = absurd stops
+      computed_here none (refused.TextFault place code) stops = absurd stops
+      computed_here none (refused.TextLimit counted place) stops = absurd stops
       computed_here none (refused.NotTailRecursive words) stops = ((none, (compiled, gives.problem_is, stops)), gives.same, refl)
       computed_here none (refused.OutputLimit n) stops = absurd stops
       computed_here none (refused.CannotRead word) stops = absurd stops
@@ -133,7 +140,8 @@ module _ (r : TranslationRequest) (old : FilesState) where
       leaves_made given is refused.BoundLimit (inr (slots, chosen, stops)) = absurd stops
       leaves_made given is (refused.SlotsLimit n) (inr (slots, chosen, stops)) = absurd stops
       leaves_made given is (refused.BytesLimit word) (inr (slots, chosen, stops)) = absurd stops
-      leaves_made given is (refused.NotBuilt word) (inr (slots, chosen, stops)) = absurd stops
+      leaves_made given is (refused.TextFault place code) (inr (slots, chosen, stops)) = absurd stops
+      leaves_made given is (refused.TextLimit counted place) (inr (slots, chosen, stops)) = absurd stops
       leaves_made given is (refused.NotTailRecursive words) (inr (slots, chosen, stops)) = absurd stops
       leaves_made given is (refused.OutputLimit n) (inr (slots, chosen, stops)) = ((compiled, slots, for_slots given is slots chosen, stops), gives.same, refl)
       leaves_made given is (refused.CannotRead word) (inr (slots, chosen, stops)) = absurd stops
@@ -160,7 +168,8 @@ module _ (r : TranslationRequest) (old : FilesState) where
           delivered refused.BoundLimit stops = absurd stops
           delivered (refused.SlotsLimit n) stops = absurd stops
           delivered (refused.BytesLimit word) stops = absurd stops
-          delivered (refused.NotBuilt word) stops = absurd stops
+          delivered (refused.TextFault place code) stops = absurd stops
+          delivered (refused.TextLimit counted place) stops = absurd stops
           delivered (refused.NotTailRecursive words) stops = absurd stops
           delivered (refused.OutputLimit n) stops = absurd stops
           delivered (refused.CannotRead word) stops = absurd stops
@@ -180,7 +189,8 @@ module _ (r : BoundRequest) (old mid : FilesState) (out : SinkState) (compiled :
   leaves_bound refused.BoundLimit stops = ((stops.0, (compiled, gives.problem_is, stops.1), stops.2), gives.same, refl)
   leaves_bound (refused.SlotsLimit n) stops = absurd stops
   leaves_bound (refused.BytesLimit word) stops = absurd stops
-  leaves_bound (refused.NotBuilt word) stops = absurd stops
+  leaves_bound (refused.TextFault place code) stops = absurd stops
+  leaves_bound (refused.TextLimit counted place) stops = absurd stops
   leaves_bound (refused.NotTailRecursive words) stops = ((compiled, gives.problem_is, stops), gives.same, refl)
   leaves_bound (refused.OutputLimit n) stops = absurd stops
   leaves_bound (refused.CannotRead word) stops = absurd stops
@@ -200,7 +210,8 @@ module _ (r : BoundRequest) (old mid : FilesState) (out : SinkState) (compiled :
     leaves_print refused.BoundLimit stops = absurd stops
     leaves_print (refused.SlotsLimit m) stops = absurd stops
     leaves_print (refused.BytesLimit word) stops = absurd stops
-    leaves_print (refused.NotBuilt word) stops = absurd stops
+    leaves_print (refused.TextFault place code) stops = absurd stops
+    leaves_print (refused.TextLimit counted place) stops = absurd stops
     leaves_print (refused.NotTailRecursive words) stops = absurd stops
     leaves_print (refused.OutputLimit m) stops = absurd stops
     leaves_print (refused.CannotRead word) stops = absurd stops

@@ -1,5 +1,6 @@
 pub mod Results
 pub mod Texts
+pub mod FaultTexts
 pub mod Inputs
 pub mod Printed
 pub mod Leavings

@@ -1,7 +1,7 @@
 -- The answer of a run, from its words and from what the files hold: the first refusal that applies, in the order of refusals, or else what
 -- it writes and tells. Where the files don't tell what they hold, any bytes may be what they hold.
 -- Source: this project's.
-use Rattle.std.specs.Prelude.{ℕ, ◌≡◌, ◌<◌, ◌≤◌, ◌^◌, ◌⊎◌, List, [], Option, Some, None, IfSome}
+use Rattle.std.specs.Prelude.{ℕ, ◌≡◌, ◌<◌, ◌≤◌, ◌^◌, ◌⊎◌, List, Option, Some, None, IfSome}
 use Rattle.outside_io.specs.Files.{FilesState}
 use Rattle.plan_model.specs.declared.values.Compiled.{Compiled}
 use Rattle.plan_meaning.specs.Bound.{IsBound}
@@ -9,7 +9,8 @@ use Rattle.command_words.specs.Names.{Word, Names}
 use Rattle.command_words.specs.Bounds.{most_slots}
 use Rattle.command_words.specs.Words.{TranslationRequest, BoundRequest, Request, to_translate, to_bound, number_of, Asks, AreOfAForm}
 use Rattle.htn_cli.specs.Texts.{Texts, AreTranslated, AreTooLong}
-use Rattle.htn_cli.specs.Inputs.{IsFirstTooLarge, HaveRefusedTexts, HaveProblem, HaveBound, HaveCycle}
+use Rattle.htn_cli.specs.Faults.{IsNoLimit, limit_code}
+use Rattle.htn_cli.specs.Inputs.{IsFirstTooLarge, HaveFault, HaveProblem, HaveBound, HaveCycle}
 use Rattle.htn_cli.specs.declared.manner.Manner.{Manner}
 use Rattle.htn_cli.specs.declared.refusal.Refusal.{Refusal}
 use Rattle.htn_cli.specs.declared.refusal.Refusal.TheVariants as refused
@@ -61,7 +62,8 @@ module _ (request : TranslationRequest) (files : FilesState) where
   RefusesTranslation refused.BoundLimit = (n : ℕ) × AreAskedFor request.numeral n × (2 ^ 128 ≤ n)
   RefusesTranslation (refused.SlotsLimit n) = AreAskedFor request.numeral n × (most_slots < n) × (n < 2 ^ 128)
   RefusesTranslation (refused.BytesLimit name) = IsGivenWithin × IsFirstTooLarge files request.names.domain request.names.problem name.now
-  RefusesTranslation (refused.NotBuilt name) = IsGivenWithin × HaveRefusedTexts files request.names.domain request.names.problem × (name.now ≡ request.names.domain)
+  RefusesTranslation (refused.TextFault place code) = IsGivenWithin × HaveFault files request.names.domain request.names.problem place code × IsNoLimit code
+  RefusesTranslation (refused.TextLimit counted place) = IsGivenWithin × HaveFault files request.names.domain request.names.problem place (limit_code counted)
   RefusesTranslation (refused.NotTailRecursive words) = (request.numeral ≡ None) × HaveCycle files request.names.domain request.names.problem request.checks words
   RefusesTranslation (refused.OutputLimit n) = (compiled : Compiled) × (slots : ℕ) × IsForSlots compiled slots × AreTooLong compiled (manner_with slots) n
   RefusesTranslation _ = ⊥
@@ -71,7 +73,8 @@ module _ (request : BoundRequest) (files : FilesState) where
   abbrev pub RefusesBound : Refusal → Type 0
   RefusesBound refused.BoundLimit = (n : ℕ) × HaveBound files request.domain request.problem request.checks n × (2 ^ 128 ≤ n)
   RefusesBound (refused.BytesLimit name) = IsFirstTooLarge files request.domain request.problem name.now
-  RefusesBound (refused.NotBuilt name) = HaveRefusedTexts files request.domain request.problem × (name.now ≡ request.domain)
+  RefusesBound (refused.TextFault place code) = HaveFault files request.domain request.problem place code × IsNoLimit code
+  RefusesBound (refused.TextLimit counted place) = HaveFault files request.domain request.problem place (limit_code counted)
   RefusesBound (refused.NotTailRecursive words) = HaveCycle files request.domain request.problem request.checks words
   RefusesBound _ = ⊥
 

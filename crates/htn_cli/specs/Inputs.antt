@@ -10,7 +10,9 @@ use Rattle.plan_meaning.specs.Bound.{IsBound}
 use Rattle.plan_meaning.specs.Compilation.{IsCompiled}
 use Rattle.problem_bound.specs.NoBound.{NamesCycle}
 use Rattle.command_words.specs.Names.{Word}
-use Rattle.htn_cli.specs.Reading.{IsRead, AreRefused}
+use Rattle.hddl_values.specs.Values.{IsValueOf}
+use Rattle.htn_cli.specs.Faults.{HaveLeastFault}
+use Rattle.htn_cli.specs.declared.faults.Place.{Place}
 
 -- the greatest length of an input text, in bytes
 abbrev pub longest_input : ℕ
@@ -51,23 +53,23 @@ module _ (files : FilesState) (domain problem : Word) where
   abbrev pub FailsToRead : FilesState → Word → Type 0
   FailsToRead new name = IsReached name × GetFails files new name
 
-  -- both are read as texts that are refused
-  pub record HaveRefusedTexts : Type 0 where
+  -- both are read as texts with a fault: their least one has this place and this code
+  pub record HaveFault (place : Place) (code : ℕ) : Type 0 where
     pub domain_text : List ℕ
     pub problem_text : List ℕ
     pub domain_is : IsInput files domain domain_text
     pub problem_is : IsInput files problem problem_text
-    pub refused : AreRefused domain_text problem_text
+    pub fault : HaveLeastFault domain problem domain_text problem_text place code
 
   module _ (checks : Checks) where
-    -- both are read as texts that spell a problem, of which this is the compiled value
+    -- both are read as texts without a fault, which spell a problem: this is its compiled value
     pub record HaveProblem (compiled : Compiled) : Type 0 where
       pub domain_text : List ℕ
       pub problem_text : List ℕ
       pub domain_is : IsInput files domain domain_text
       pub problem_is : IsInput files problem problem_text
       pub value : Hddl
-      pub read : IsRead domain_text problem_text value
+      pub read : IsValueOf domain_text problem_text value
       pub compiled_is : IsCompiled value checks compiled
 
     -- they spell a problem with this bound

@@ -1,4 +1,4 @@
-pub mod Reading
+pub mod Faults
 pub mod Inputs
 pub mod Texts
 pub mod Answer

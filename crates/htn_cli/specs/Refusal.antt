@@ -2,7 +2,8 @@ use Rattle.std.specs.Prelude.{ℕ, List, ◌++◌, codes, decimal}
 use Rattle.htn_cli.specs.declared.status.Status.{Status}
 use Rattle.htn_cli.specs.declared.status.Status.TheVariants as status
 use Rattle.htn_cli.specs.declared.refusal.Refusal.{Refusal}
-use Rattle.htn_cli.specs.declared.refusal.Refusal.TheVariants.{Words, BoundLimit, SlotsLimit, BytesLimit, NotBuilt, NotTailRecursive, OutputLimit, CannotRead, CannotWrite, CannotWriteOutput, NoMemory}
+use Rattle.htn_cli.specs.Faults.{limit_word, place_text, fault_text}
+use Rattle.htn_cli.specs.declared.refusal.Refusal.TheVariants.{Words, BoundLimit, SlotsLimit, BytesLimit, TextFault, TextLimit, NotTailRecursive, OutputLimit, CannotRead, CannotWrite, CannotWriteOutput, NoMemory}
 
 -- the number with which the program ends
 abbrev pub code_of : Status → ℕ
@@ -21,7 +22,8 @@ status_of Words = status.Words
 status_of BoundLimit = status.Limit
 status_of (SlotsLimit n) = status.Limit
 status_of (BytesLimit name) = status.Limit
-status_of (NotBuilt domain) = status.TextFault
+status_of (TextFault place code) = status.TextFault
+status_of (TextLimit counted place) = status.Limit
 status_of (NotTailRecursive words) = status.Finding
 status_of (OutputLimit n) = status.Limit
 status_of (CannotRead name) = status.ReadFault
@@ -35,7 +37,8 @@ line_of Words = codes "words refused\n"
 line_of BoundLimit = codes "limit bound\n"
 line_of (SlotsLimit n) = codes "limit slots " ++ decimal n ++ codes "\n"
 line_of (BytesLimit name) = codes "limit bytes " ++ name.now ++ codes "\n"
-line_of (NotBuilt domain) = domain.now ++ codes ":0: fault 40 NotBuilt\n"
+line_of (TextFault place code) = fault_text place code ++ codes "\n"
+line_of (TextLimit counted place) = codes "limit " ++ limit_word counted ++ codes " " ++ place_text place ++ codes "\n"
 line_of (NotTailRecursive words) = codes "not tail-recursive:" ++ words ++ codes "\n"
 line_of (OutputLimit n) = codes "limit output " ++ decimal n ++ codes "\n"
 line_of (CannotRead name) = codes "cannot read " ++ name.now ++ codes "\n"

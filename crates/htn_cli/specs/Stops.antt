@@ -15,8 +15,9 @@ use Rattle.command_words.specs.Words.{number_of}
 use Rattle.htn_cli.specs.Texts.{Texts, AreTooLong, texts_of}
 use Rattle.htn_cli.specs.Printing.{AreWhole}
 use Rattle.htn_cli.specs.declared.translation.Made.{Made}
-use Rattle.htn_cli.specs.Reading.{IsRead, AreRefused}
-use Rattle.htn_cli.specs.Inputs.{IsInput, IsTooLarge, IsFirstTooLarge, FailsToRead, HaveRefusedTexts, HaveProblem}
+use Rattle.hddl_values.specs.Values.{IsValueOf}
+use Rattle.htn_cli.specs.Faults.{HaveLeastFault, IsNoLimit, limit_code}
+use Rattle.htn_cli.specs.Inputs.{IsInput, IsTooLarge, IsFirstTooLarge, FailsToRead, HaveFault, HaveProblem}
 use Rattle.htn_cli.specs.Left.{FirstStands, BothStand, LeavesUnwritten, slots_line}
 use Rattle.htn_cli.specs.declared.manner.Manner.{Manner}
 use Rattle.htn_cli.specs.Sent.{TakesThenFails, TakesThenStarves}
@@ -38,14 +39,15 @@ StopsInput name old new _ = ⊥
 -- the texts that spell a problem, of which this is the compiled value
 pub record GivesTexts (domain problem : List ℕ) (checks : Checks) (compiled : Compiled) : Type 0 where
   pub spelled : Hddl
-  pub read : IsRead domain problem spelled
+  pub read : IsValueOf domain problem spelled
   pub compiled_is : IsCompiled spelled checks compiled
 
--- the texts that are no problem
-abbrev pub StopsTexts : (domain problem : List ℕ) → Word → Refusal → Type 0
-StopsTexts domain problem name (refused.NotBuilt word) = (word.now ≡ name) × AreRefused domain problem
-StopsTexts domain problem name refused.NoMemory = Unit {0}
-StopsTexts domain problem name _ = ⊥
+-- the texts with a fault, of files with these names
+abbrev pub StopsTexts : (domain_text problem_text : List ℕ) → (domain problem : Word) → Refusal → Type 0
+StopsTexts domain_text problem_text domain problem (refused.TextFault place code) = HaveLeastFault domain problem domain_text problem_text place code × IsNoLimit code
+StopsTexts domain_text problem_text domain problem (refused.TextLimit counted place) = HaveLeastFault domain problem domain_text problem_text place (limit_code counted)
+StopsTexts domain_text problem_text domain problem refused.NoMemory = Unit {0}
+StopsTexts domain_text problem_text domain problem _ = ⊥
 
 module _ (domain problem : Word) where
   -- the problem that was read and compiled
@@ -57,7 +59,8 @@ module _ (domain problem : Word) where
   abbrev pub StopsProblem : FilesState → FilesState → Refusal → Type 0
   StopsProblem old new (refused.CannotRead word) = FailsToRead old domain problem new word.now
   StopsProblem old new (refused.BytesLimit word) = IsFirstTooLarge old domain problem word.now × (new ≡ old)
-  StopsProblem old new (refused.NotBuilt word) = (word.now ≡ domain) × HaveRefusedTexts old domain problem × (new ≡ old)
+  StopsProblem old new (refused.TextFault place code) = HaveFault old domain problem place code × IsNoLimit code × (new ≡ old)
+  StopsProblem old new (refused.TextLimit counted place) = HaveFault old domain problem place (limit_code counted) × (new ≡ old)
   StopsProblem old new refused.NoMemory = new ≡ old
   StopsProblem old new _ = ⊥
 

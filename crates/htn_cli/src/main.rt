@@ -5,10 +5,10 @@
 
 mod bounding;
 mod building;
+mod faults;
 mod manner;
 mod problem;
 mod program;
-mod reading;
 mod refusal;
 mod sending;
 mod slots;

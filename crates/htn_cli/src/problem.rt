@@ -1,15 +1,20 @@
-ghost use Rattle.std.specs.Prelude.{IfOk, IfErr};
+ghost use Rattle.std.specs.Prelude.{ℕ, ◌≤◌, List, length, IfOk, IfErr};
 ghost use Rattle.outside_io.specs.Seen.{Seen};
 ghost use Rattle.plan_meaning.specs.Bound.{IsBound};
 ghost use Rattle.problem_bound.specs.Soundly.{IsSoundlyCompiled};
+ghost use Rattle.hddl_values.specs.TextFaults.{IsLeastFault};
+ghost use Rattle.htn_cli.specs.Inputs.{longest_input};
 ghost use Rattle.htn_cli.specs.Stops.{GivesInput, GivesProblem, GivesTexts, StopsBound, StopsInput, StopsProblem, StopsTexts};
 
-use crate::reading::{Unread, read_problem};
+use crate::faults::{Place, limit_of, name_of};
 use crate::refusal::Refusal;
+use hddl_values::hddl_of;
+use htn_base::Fault;
 use method_precs::compile;
 use outside_io::{Files, GetError};
 use plan_model::{Checks, Compiled};
 use problem_bound::{NoBound, problem_bound};
+use sexpr_text::ReadError;
 use std::alloc::Global;
 
 /// The greatest length of an input text, in bytes.
@@ -33,7 +38,7 @@ pub(crate) fn problem_from<'a, F: Files>(
 {
     let domain = read(alloc, files, d)?;
     let problem = read(alloc, files, p)?;
-    compiled_from(alloc, domain.as_slice(), problem.as_slice(), checks, d)
+    compiled_from(alloc, domain.as_slice(), problem.as_slice(), checks, d, p)
 }
 
 fn read<'a, F: Files>(alloc: Global, files: &mut F, name: &'a str) -> Result<Vec<u8>, Refusal<'a>>
@@ -55,24 +60,43 @@ fn read<'a, F: Files>(alloc: Global, files: &mut F, name: &'a str) -> Result<Vec
     }
 }
 
-/// The problem that two texts spell, compiled; `name` is the domain's file.
+/// The problem that two texts of the files `d` and `p` spell, compiled.
 fn compiled_from<'a>(
     alloc: Global,
     domain: &[u8],
     problem: &[u8],
     checks: &Checks,
-    name: &'a str,
+    d: &'a str,
+    p: &'a str,
 ) -> Result<Compiled, Refusal<'a>>
+    requires domain_short { length domain.now ≤ longest_input }
+    requires problem_short { length problem.now ≤ longest_input }
     ensures compiled { IfOk result (GivesTexts domain.now problem.now checks.now) }
-    ensures refused { IfErr result (StopsTexts domain.now problem.now name.now) }
+    ensures refused { IfErr result (StopsTexts domain.now problem.now d.now p.now) }
 {
-    match read_problem(alloc, domain, problem) {
+    match hddl_of(alloc, domain, problem) {
         Ok(read) => match compile(alloc, read, checks) {
             Ok(compiled) => Ok(compiled),
             Err(_) => Err(Refusal::NoMemory),
         },
-        Err(Unread::NotOfForm) => Err(Refusal::NotBuilt(name)),
-        Err(Unread::Memory) => Err(Refusal::NoMemory),
+        Err(ReadError::Bad(fault)) => Err(refusal_for(fault, d, p)),
+        Err(ReadError::Memory) => Err(Refusal::NoMemory),
+    }
+}
+
+/// The refusal of two texts of the files `d` and `p` for their least fault.
+fn refusal_for<'a>(fault: Fault, d: &'a str, p: &'a str) -> Refusal<'a>
+    ensures { (domain problem : List ℕ) →
+        IsLeastFault domain problem fault.file fault.code fault.at →
+        StopsTexts domain problem d.now p.now result }
+{
+    let place = Place {
+        name: name_of(fault.file, d, p),
+        at: fault.at,
+    };
+    match limit_of(fault.code) {
+        Some(counted) => Refusal::TextLimit(counted, place),
+        None => Refusal::TextFault(place, fault.code),
     }
 }
 

@@ -1,7 +1,9 @@
-ghost use Rattle.std.specs.Prelude.{◌≡◌};
+ghost use Rattle.std.specs.Prelude.{◌≡◌, ◌++◌, codes};
+ghost use Rattle.htn_cli.specs.Faults.{limit_word};
 ghost use Rattle.htn_cli.specs.Refusal.{status_of, line_of};
 ghost use Rattle.htn_cli.specs.Line.{line_text};
 
+use crate::faults::{Counted, Place};
 use crate::status::Status;
 use htn_base::Text;
 
@@ -16,8 +18,10 @@ pub enum Refusal<'a> {
     SlotsLimit(u128),
     /// An input text has too many bytes.
     BytesLimit(&'a str),
-    /// The texts are of no form that is read today; the domain's word is carried.
-    NotBuilt(&'a str),
+    /// A text has a fault that is no limit: its place and its code.
+    TextFault(Place<'a>, u16),
+    /// A text has too much of what is counted: from this place on.
+    TextLimit(Counted, Place<'a>),
     /// The problem is not tail-recursive: the words of the named bad cycle, each behind a space.
     NotTailRecursive(Text),
     /// A printed text is too long: so many bytes.
@@ -47,6 +51,10 @@ pub(crate) enum Middle<'a> {
     Words(&'a [u8]),
     /// A number, in decimal.
     Number(u128),
+    /// A place.
+    Place(Place<'a>),
+    /// The fault with this code, and its place.
+    Fault(Place<'a>, u16),
 }
 
 impl Refusal<'_> {
@@ -59,8 +67,9 @@ impl Refusal<'_> {
             Refusal::BoundLimit
             | Refusal::SlotsLimit(_)
             | Refusal::BytesLimit(_)
+            | Refusal::TextLimit(_, _)
             | Refusal::OutputLimit(_) => Status::Limit,
-            Refusal::NotBuilt(_) => Status::TextFault,
+            Refusal::TextFault(_, _) => Status::TextFault,
             Refusal::NotTailRecursive(_) => Status::Finding,
             Refusal::CannotRead(_) => Status::ReadFault,
             Refusal::CannotWrite(_) | Refusal::CannotWriteOutput => Status::WriteFault,
@@ -78,13 +87,12 @@ impl Refusal<'_> {
             Refusal::BoundLimit => ("limit bound\n", nothing, ""),
             Refusal::SlotsLimit(slots) => ("limit slots ", Middle::Number(*slots), "\n"),
             Refusal::BytesLimit(name) => ("limit bytes ", Middle::Words(name.as_bytes()), "\n"),
-            Refusal::NotBuilt(domain) => {
-                (
-                    "",
-                    Middle::Words(domain.as_bytes()),
-                    ":0: fault 40 NotBuilt\n",
-                )
-            }
+            Refusal::TextFault(place, code) => ("", Middle::Fault(*place, *code), "\n"),
+            Refusal::TextLimit(counted, place) => (
+                limit_start(*counted),
+                Middle::Place(*place),
+                "\n",
+            ),
             Refusal::NotTailRecursive(words) => {
                 ("not tail-recursive:", Middle::Words(words.as_slice()), "\n")
             }
@@ -99,5 +107,16 @@ impl Refusal<'_> {
             middle,
             after,
         }
+    }
+}
+
+/// The line of a limit up to the place.
+fn limit_start(counted: Counted) -> &'static str
+    ensures { result.now ≡ codes "limit " ++ limit_word counted ++ codes " " }
+{
+    match counted {
+        Counted::Depth => "limit depth ",
+        Counted::Subtasks => "limit subtasks ",
+        Counted::Types => "limit types ",
     }
 }

@@ -5,10 +5,13 @@ use std::alloc::{AllocError, Global};
 use std::process::Abort;
 use std::test::Fail;
 
+mod refused;
+mod rows;
 mod texts;
 
+use rows::{COSTS_DOMAIN, COSTS_PROBLEM};
 use texts::{
-    Row, domain, empty_network, one_slot_adl, one_slot_flat, problem, two_slots_adl, two_slots_flat,
+    DOMAIN, PROBLEM, Row, empty_network, one_slot_adl, one_slot_flat, two_slots_adl, two_slots_flat,
 };
 
 /// All that a run can reach, in memory. Standard output takes three bytes at a time, and standard error one.
@@ -60,6 +63,10 @@ impl Outside {
         self.run(words.as_slice())
     }
 
+    fn bound(&mut self) -> Result<Status, AllocError> {
+        self.run(&["bound", "d.hddl", "p.hddl"])
+    }
+
     /// A translation with one slot ends with this status, and these texts on the two streams.
     fn ends(
         &mut self,
@@ -101,9 +108,9 @@ impl Outside {
 }
 
 fn prints(rt: &impl Abort, alloc: Global, row: Row) -> Result<(), Fail> {
-    prints_as(rt, alloc, problem(), row, &[])?;
-    prints_as(rt, alloc, problem(), row, &["--checks", "leaf"])?;
-    prints_as(rt, alloc, problem(), row, &["--checks", "atonce"])?;
+    prints_as(rt, alloc, PROBLEM, row, &[])?;
+    prints_as(rt, alloc, PROBLEM, row, &["--checks", "leaf"])?;
+    prints_as(rt, alloc, PROBLEM, row, &["--checks", "atonce"])?;
     Ok(())
 }
 
@@ -122,7 +129,7 @@ fn prints_as(
     for option in more {
         options.push(*option)?;
     }
-    let mut outside = Outside::new(alloc, domain(), problem)?;
+    let mut outside = Outside::new(alloc, DOMAIN, problem)?;
     outside.ends_with(rt, options.as_slice(), Status::Done, row.told, "")?;
     outside.holds(rt, "od.pddl", row.domain);
     outside.holds(rt, "op.pddl", row.problem);
@@ -150,7 +157,7 @@ fn the_smallest_problem_without_a_bound(rt: HostRuntime) -> Result<(), Fail> {
 
 #[test]
 fn a_bound(rt: HostRuntime) -> Result<(), Fail> {
-    let mut outside = Outside::new(rt.alloc(), domain(), problem())?;
+    let mut outside = Outside::new(rt.alloc(), DOMAIN, PROBLEM)?;
     let ended = outside.run(&["bound", "d.hddl", "p.hddl", "--checks", "atonce"])?;
     assert_eq!(&rt; ended, Status::Done);
     outside.told(&rt, "1\n", "");
@@ -162,6 +169,16 @@ fn a_bound(rt: HostRuntime) -> Result<(), Fail> {
 fn an_empty_network(rt: HostRuntime) -> Result<(), Fail> {
     let problem = "(define (problem p) (:domain d) (:htn :subtasks ()))";
     prints_as(&rt, rt.alloc(), problem, empty_network(), &[])?;
+    Ok(())
+}
+
+#[test]
+fn costs_are_dropped(rt: HostRuntime) -> Result<(), Fail> {
+    let row = one_slot_adl();
+    let mut outside = Outside::new(rt.alloc(), COSTS_DOMAIN, COSTS_PROBLEM)?;
+    outside.ends(&rt, Status::Done, row.told, "")?;
+    outside.holds(&rt, "od.pddl", row.domain);
+    outside.holds(&rt, "op.pddl", row.problem);
     Ok(())
 }
 
@@ -178,7 +195,7 @@ fn is_done(
     for option in more {
         options.push(*option)?;
     }
-    let mut outside = Outside::new(alloc, domain(), problem())?;
+    let mut outside = Outside::new(alloc, DOMAIN, PROBLEM)?;
     outside.ends_with(rt, options.as_slice(), Status::Done, told, "")?;
     Ok(())
 }
@@ -213,7 +230,7 @@ fn as_many_slots_as_there_may_be(rt: HostRuntime) -> Result<(), Fail> {
 }
 
 fn is_past(rt: &impl Abort, alloc: Global, bound: &str, line: &str) -> Result<(), Fail> {
-    let mut outside = Outside::new(alloc, domain(), problem())?;
+    let mut outside = Outside::new(alloc, DOMAIN, PROBLEM)?;
     outside.files = MemFiles::new(alloc);
     outside.ends_with(rt, &["--bound", bound], Status::Limit, "", line)?;
     Ok(())
@@ -245,7 +262,7 @@ fn bounds_past_a_limit(rt: HostRuntime) -> Result<(), Fail> {
 }
 
 fn refuses_words(rt: &impl Abort, alloc: Global, words: &[&str]) -> Result<(), Fail> {
-    let mut outside = Outside::new(alloc, domain(), problem())?;
+    let mut outside = Outside::new(alloc, DOMAIN, PROBLEM)?;
     let ended = outside.run(words)?;
     assert_eq!(rt; ended, Status::Words);
     outside.told(rt, "", "words refused\n");
@@ -255,7 +272,7 @@ fn refuses_words(rt: &impl Abort, alloc: Global, words: &[&str]) -> Result<(), F
 }
 
 fn refuses_options(rt: &impl Abort, alloc: Global, options: &[&str]) -> Result<(), Fail> {
-    let mut outside = Outside::new(alloc, domain(), problem())?;
+    let mut outside = Outside::new(alloc, DOMAIN, PROBLEM)?;
     outside.ends_with(rt, options, Status::Words, "", "words refused\n")?;
     Ok(())
 }
@@ -293,64 +310,61 @@ fn options_of_no_form(rt: HostRuntime) -> Result<(), Fail> {
     Ok(())
 }
 
-fn is_not_built(rt: &impl Abort, alloc: Global, domain: &str, problem: &str) -> Result<(), Fail> {
-    let mut outside = Outside::new(alloc, domain, problem)?;
-    outside.ends(rt, Status::TextFault, "", "d.hddl:0: fault 40 NotBuilt\n")?;
-    outside.lacks(rt, "od.pddl");
-    outside.lacks(rt, "op.pddl");
+/// Both commands end with this status and this line, and write nothing.
+fn refuses(
+    rt: &impl Abort,
+    alloc: Global,
+    domain: &str,
+    problem: &str,
+    status: Status,
+    line: &str,
+) -> Result<(), Fail> {
+    let mut translation = Outside::new(alloc, domain, problem)?;
+    translation.ends_with(rt, &[], status, "", line)?;
+    translation.lacks(rt, "od.pddl");
+    translation.lacks(rt, "op.pddl");
+    let mut bounding = Outside::new(alloc, domain, problem)?;
+    let ended = bounding.bound()?;
+    assert_eq!(rt; ended, status);
+    bounding.told(rt, "", line);
     Ok(())
 }
 
-#[test]
-fn texts_of_no_form(rt: HostRuntime) -> Result<(), Fail> {
-    let alloc = rt.alloc();
-    for length in 0..domain().len() {
-        let cut = domain().get(..length).expect(&rt, "a text");
-        is_not_built(&rt, alloc, cut, problem())?;
-    }
-    for length in 0..problem().len() {
-        let cut = problem().get(..length).expect(&rt, "a text");
-        is_not_built(&rt, alloc, domain(), cut)?;
-    }
-    let reserved = "(define (domain d) (:action when :parameters ()))";
-    is_not_built(&rt, alloc, reserved, problem())?;
-    let twice = "(define (domain d) (:task t :parameters ()) (:action t :parameters ()))";
-    is_not_built(&rt, alloc, twice, problem())?;
-    let unknown = "(define (problem p) (:domain d) (:htn :subtasks (u)))";
-    is_not_built(&rt, alloc, domain(), unknown)?;
-    Ok(())
-}
-
-fn is_not_read(rt: &impl Abort, mut outside: Outside, line: &str) -> Result<(), Fail> {
-    outside.ends(rt, Status::ReadFault, "", line)?;
-    outside.lacks(rt, "od.pddl");
-    outside.lacks(rt, "op.pddl");
+/// Neither command reads its files, the get of this number failing.
+fn is_not_read(rt: &impl Abort, alloc: Global, get: u32, line: &str) -> Result<(), Fail> {
+    let mut translation = Outside::new(alloc, DOMAIN, PROBLEM)?;
+    translation.files.fail_get(get)?;
+    translation.ends(rt, Status::ReadFault, "", line)?;
+    translation.lacks(rt, "od.pddl");
+    translation.lacks(rt, "op.pddl");
+    let mut bounding = Outside::new(alloc, DOMAIN, PROBLEM)?;
+    bounding.files.fail_get(get)?;
+    let ended = bounding.bound()?;
+    assert_eq!(rt; ended, Status::ReadFault);
+    bounding.told(rt, "", line);
     Ok(())
 }
 
 #[test]
 fn a_file_that_is_not_read(rt: HostRuntime) -> Result<(), Fail> {
-    let mut first = Outside::new(rt.alloc(), domain(), problem())?;
-    first.files.fail_get(0)?;
-    is_not_read(&rt, first, "cannot read d.hddl\n")?;
-    let mut second = Outside::new(rt.alloc(), domain(), problem())?;
-    second.files.fail_get(1)?;
-    is_not_read(&rt, second, "cannot read p.hddl\n")?;
-    let mut missing = Outside::new(rt.alloc(), domain(), problem())?;
+    is_not_read(&rt, rt.alloc(), 0, "cannot read d.hddl\n")?;
+    is_not_read(&rt, rt.alloc(), 1, "cannot read p.hddl\n")?;
+    let mut missing = Outside::new(rt.alloc(), DOMAIN, PROBLEM)?;
     missing.files = MemFiles::new(rt.alloc());
-    missing.files.add("d.hddl", domain().as_bytes())?;
-    is_not_read(&rt, missing, "cannot read p.hddl\n")?;
+    missing.files.add("d.hddl", DOMAIN.as_bytes())?;
+    missing.ends(&rt, Status::ReadFault, "", "cannot read p.hddl\n")?;
+    missing.lacks(&rt, "od.pddl");
     Ok(())
 }
 
 #[test]
 fn an_output_that_is_not_written(rt: HostRuntime) -> Result<(), Fail> {
-    let mut first = Outside::new(rt.alloc(), domain(), problem())?;
+    let mut first = Outside::new(rt.alloc(), DOMAIN, PROBLEM)?;
     first.files.fail_put(0)?;
     first.ends(&rt, Status::WriteFault, "", "cannot write od.pddl\n")?;
     first.lacks(&rt, "od.pddl");
     first.lacks(&rt, "op.pddl");
-    let mut second = Outside::new(rt.alloc(), domain(), problem())?;
+    let mut second = Outside::new(rt.alloc(), DOMAIN, PROBLEM)?;
     second.files.fail_put(1)?;
     second.ends(&rt, Status::WriteFault, "", "cannot write op.pddl\n")?;
     second.holds(&rt, "od.pddl", one_slot_adl().domain);
@@ -359,7 +373,7 @@ fn an_output_that_is_not_written(rt: HostRuntime) -> Result<(), Fail> {
 }
 
 fn cuts_output(rt: &impl Abort, alloc: Global, write: u32, taken: &str) -> Result<(), Fail> {
-    let mut outside = Outside::new(alloc, domain(), problem())?;
+    let mut outside = Outside::new(alloc, DOMAIN, PROBLEM)?;
     outside.out.fail_write(write)?;
     outside.ends(
         rt,
@@ -377,8 +391,13 @@ fn streams_that_fail(rt: HostRuntime) -> Result<(), Fail> {
     cuts_output(&rt, rt.alloc(), 0, "")?;
     cuts_output(&rt, rt.alloc(), 1, "slo")?;
     cuts_output(&rt, rt.alloc(), 2, "slots ")?;
-    let mut error = Outside::new(rt.alloc(), domain(), "")?;
+    let mut bounding = Outside::new(rt.alloc(), DOMAIN, PROBLEM)?;
+    bounding.out.fail_write(0)?;
+    let ended = bounding.bound()?;
+    assert_eq!(&rt; ended, Status::WriteFault);
+    bounding.told(&rt, "", "cannot write standard output\n");
+    let mut error = Outside::new(rt.alloc(), DOMAIN, "")?;
     error.err.fail_write(3)?;
-    error.ends(&rt, Status::TextFault, "", "d.h")?;
+    error.ends(&rt, Status::TextFault, "", "p.h")?;
     Ok(())
 }

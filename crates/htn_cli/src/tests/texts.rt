@@ -1,13 +1,10 @@
 //! The smallest problem: one task, one method, one action. Its printed texts were made by two programs that share nothing with this
 //! one.
 
-pub(super) fn domain() -> &'static str {
-    "(define (domain d) (:task t :parameters ()) (:method m :parameters () :task (t) :subtasks (a)) (:action a :parameters ()))"
-}
+pub(super) const DOMAIN: &str =
+    "(define (domain d) (:task t :parameters ()) (:method m :parameters () :task (t) :subtasks (a)) (:action a :parameters ()))";
 
-pub(super) fn problem() -> &'static str {
-    "(define (problem p) (:domain d) (:htn :subtasks (t)))"
-}
+pub(super) const PROBLEM: &str = "(define (problem p) (:domain d) (:htn :subtasks (t)))";
 
 /// The printed texts with so many slots in one style.
 #[derive(Clone, Copy)]

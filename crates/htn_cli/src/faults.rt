@@ -1,0 +1,73 @@
+ghost use Rattle.std.specs.Prelude.{◌≡◌, MatchOption};
+ghost use Rattle.htn_cli.specs.Faults.{IsNoLimit, fault_word, limit_code, name_of};
+
+/// A place in a text: the word of its file, and the offset in bytes from 0.
+#[derive(Clone, Copy)]
+pub struct Place<'a> {
+    pub name: &'a str,
+    pub at: u32,
+}
+
+/// What is counted in a text. Past its limit the text has a fault.
+#[derive(Clone, Copy)]
+pub enum Counted {
+    /// The lists that are open at once: 200.
+    Depth,
+    /// The subtasks of one network: 4,096.
+    Subtasks,
+    /// The types of a domain beside `object`: 1,000.
+    Types,
+}
+
+/// What is counted, where a fault with this code is a limit.
+pub(crate) fn limit_of(code: u16) -> Option<Counted>
+    ensures { MatchOption result (IsNoLimit code) (λ counted. code ≡ limit_code counted) }
+{
+    match code {
+        4 => Some(Counted::Depth),
+        21 => Some(Counted::Subtasks),
+        22 => Some(Counted::Types),
+        _ => None,
+    }
+}
+
+/// The word of a fault's code, from 1 to 22; any other code has none.
+pub(crate) fn fault_word(code: u16) -> &'static str
+    ensures { result.now ≡ fault_word code }
+{
+    match code {
+        1 => "BadByte",
+        2 => "UnclosedParen",
+        3 => "StrayClose",
+        4 => "TooDeep",
+        5 => "NotADefine",
+        6 => "UnknownSection",
+        7 => "RepeatedSection",
+        8 => "BadForm",
+        9 => "ReservedName",
+        10 => "DuplicateName",
+        11 => "UnknownType",
+        12 => "TypeCycle",
+        13 => "UnknownPredicate",
+        14 => "UnknownTask",
+        15 => "UnknownObject",
+        16 => "UnknownVariable",
+        17 => "WrongArity",
+        18 => "DuplicateVariable",
+        19 => "UnknownSubtaskId",
+        20 => "CyclicOrder",
+        21 => "TooManySubtasks",
+        22 => "TooManyTypes",
+        0 | 23.. => "",
+    }
+}
+
+/// Of the words of two files the one of the file with this number.
+pub(crate) fn name_of<'a>(file: u8, domain: &'a str, problem: &'a str) -> &'a str
+    ensures { result.now ≡ name_of domain.now problem.now file }
+{
+    match file {
+        0 => domain,
+        _ => problem,
+    }
+}

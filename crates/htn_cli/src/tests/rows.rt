@@ -1,0 +1,201 @@
+//! Texts as they are refused or bounded. Each line was found by hand, from the rules for faults and bounds.
+use super::texts::{DOMAIN, PROBLEM};
+use crate::Status;
+
+/// Two texts; `translate` without options and `bound` end with this status and this line.
+#[derive(Clone, Copy)]
+pub(super) struct Refused {
+    pub(super) domain: &'static str,
+    pub(super) problem: &'static str,
+    pub(super) status: Status,
+    pub(super) line: &'static str,
+}
+
+const RESERVED: &str = "(define (domain d) (:action when :parameters ()))";
+
+const TWICE: &str = "(define (domain d) (:task t :parameters ()) (:action t :parameters ()))";
+
+pub(super) const REFUSED: [Refused; 12] = [
+    // tokens, forms, names
+    Refused {
+        domain: "",
+        problem: PROBLEM,
+        status: Status::TextFault,
+        line: "d.hddl:0: fault 5 NotADefine\n",
+    },
+    Refused {
+        domain: RESERVED,
+        problem: PROBLEM,
+        status: Status::TextFault,
+        line: "d.hddl:28: fault 9 ReservedName\n",
+    },
+    Refused {
+        domain: TWICE,
+        problem: PROBLEM,
+        status: Status::TextFault,
+        line: "d.hddl:53: fault 10 DuplicateName\n",
+    },
+    Refused {
+        domain: "(define (domain d) (:task t :parameters ()) (:method m :parameters () :task (t) :subtasks (and (x (a)) (y (a))) :ORDERING (and (x < y) (< y x))) (:action a :parameters ()))",
+        problem: PROBLEM,
+        status: Status::TextFault,
+        line: "d.hddl:135: fault 20 CyclicOrder\n",
+    },
+    // the form's fault comes before that of a name, which stands before it
+    Refused {
+        domain: "(define (domain d) (:task t :parameters (?x - nowhere)) (:action when :parameters ()))",
+        problem: PROBLEM,
+        status: Status::TextFault,
+        line: "d.hddl:65: fault 9 ReservedName\n",
+    },
+    // the problem's faults
+    Refused {
+        domain: DOMAIN,
+        problem: "",
+        status: Status::TextFault,
+        line: "p.hddl:0: fault 5 NotADefine\n",
+    },
+    Refused {
+        domain: DOMAIN,
+        problem: "(define (problem p) (:domain d) (:htn :subtasks (t)))\"",
+        status: Status::TextFault,
+        line: "p.hddl:53: fault 1 BadByte\n",
+    },
+    Refused {
+        domain: DOMAIN,
+        problem: "(define (problem p) (:domain d) (:htn :subtasks (u)))",
+        status: Status::TextFault,
+        line: "p.hddl:49: fault 14 UnknownTask\n",
+    },
+    // faults in both
+    Refused {
+        domain: RESERVED,
+        problem: ")",
+        status: Status::TextFault,
+        line: "d.hddl:28: fault 9 ReservedName\n",
+    },
+    Refused {
+        domain: TWICE,
+        problem: "",
+        status: Status::TextFault,
+        line: "d.hddl:53: fault 10 DuplicateName\n",
+    },
+    // texts without a fault
+    Refused {
+        domain: "(define (domain d) (:task t :parameters ()) (:method m :parameters () :task (t) :ordered-subtasks (and (t) (a))) (:action a :parameters ()))",
+        problem: PROBLEM,
+        status: Status::Finding,
+        line: "not tail-recursive: t m t\n",
+    },
+    Refused {
+        domain: "(define (domain d) (:task t :parameters ()) (:task u :parameters ()) (:method m :parameters () :task (t) :ordered-subtasks (and (u) (a))) (:method n :parameters () :task (u) :subtasks (t)) (:action a :parameters ()))",
+        problem: PROBLEM,
+        status: Status::Finding,
+        line: "not tail-recursive: t m u n t\n",
+    },
+];
+
+/// A domain that is cut: with so many bytes, from `first` to `last`, it has this line.
+#[derive(Clone, Copy)]
+pub(super) struct Cut {
+    pub(super) first: usize,
+    pub(super) last: usize,
+    pub(super) line: &'static str,
+}
+
+pub(super) const CUT_DOMAIN: &str = "(define (domain d) (:action a :parameters ()))";
+
+/// The innermost list that is open at the end is named.
+pub(super) const CUTS: [Cut; 8] = [
+    Cut {
+        first: 0,
+        last: 0,
+        line: "d.hddl:0: fault 5 NotADefine\n",
+    },
+    Cut {
+        first: 1,
+        last: 8,
+        line: "d.hddl:0: fault 2 UnclosedParen\n",
+    },
+    Cut {
+        first: 9,
+        last: 17,
+        line: "d.hddl:8: fault 2 UnclosedParen\n",
+    },
+    Cut {
+        first: 18,
+        last: 19,
+        line: "d.hddl:0: fault 2 UnclosedParen\n",
+    },
+    Cut {
+        first: 20,
+        last: 42,
+        line: "d.hddl:19: fault 2 UnclosedParen\n",
+    },
+    Cut {
+        first: 43,
+        last: 43,
+        line: "d.hddl:42: fault 2 UnclosedParen\n",
+    },
+    Cut {
+        first: 44,
+        last: 44,
+        line: "d.hddl:19: fault 2 UnclosedParen\n",
+    },
+    Cut {
+        first: 45,
+        last: 45,
+        line: "d.hddl:0: fault 2 UnclosedParen\n",
+    },
+];
+
+/// Two texts, and their bound.
+#[derive(Clone, Copy)]
+pub(super) struct Bounded {
+    pub(super) domain: &'static str,
+    pub(super) problem: &'static str,
+    pub(super) bound: &'static str,
+}
+
+const BLOCKS: &str =
+    "(define (domain d) (:task x :parameters ()) (:method m :parameters () :task (x) :subtasks (and (a) (b))) (:action a :parameters ()) (:action b :parameters ()))";
+
+pub(super) const BOUNDED: [Bounded; 6] = [
+    Bounded {
+        domain: DOMAIN,
+        problem: "(define (problem p) (:domain d) (:htn :subtasks ()))",
+        bound: "1\n",
+    },
+    Bounded {
+        domain: "(define (domain d) (:task t :parameters ()) (:method m1 :parameters () :task (t) :ordered-subtasks (and (a) (t))) (:method m0 :parameters () :task (t) :subtasks ()) (:action a :parameters ()))",
+        problem: PROBLEM,
+        bound: "2\n",
+    },
+    Bounded {
+        domain: BLOCKS,
+        problem: "(define (problem p) (:domain d) (:htn :subtasks (and (x) (x))))",
+        bound: "4\n",
+    },
+    Bounded {
+        domain: BLOCKS,
+        problem: "(define (problem p) (:domain d) (:htn :ordered-subtasks (and (x) (x))))",
+        bound: "3\n",
+    },
+    Bounded {
+        domain: "(define (domain d) (:task x :parameters ()) (:method mx :parameters () :task (x) :subtasks (and (p) (q))) (:action p :parameters ()) (:action q :parameters ()) (:action y :parameters ()))",
+        problem: "(define (problem p) (:domain d) (:htn :ordered-subtasks (and (x) (y))))",
+        bound: "3\n",
+    },
+    Bounded {
+        domain: "(define (domain d) (:predicates (ready)) (:task t :parameters ()) (:method m :parameters () :task (t) :precondition (ready) :subtasks (a)) (:action a :parameters ()) (:action u :parameters () :effect (ready)))",
+        problem: "(define (problem p) (:domain d) (:htn :subtasks (and (t) (u))))",
+        bound: "3\n",
+    },
+];
+
+/// The smallest problem with costs, which are read and dropped.
+pub(super) const COSTS_DOMAIN: &str =
+    "(define (domain d) (:functions (total-cost)) (:task t :parameters ()) (:method m :parameters () :task (t) :subtasks (a)) (:action a :parameters () :effect (increase (total-cost) 3)))";
+
+pub(super) const COSTS_PROBLEM: &str =
+    "(define (problem p) (:domain d) (:htn :subtasks (t)) (:init (= (total-cost) 0)) (:metric minimize (total-cost)))";
