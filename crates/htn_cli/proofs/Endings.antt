@@ -11,7 +11,7 @@ use Rattle.command_words.proofs.Requests.{one_request}
 use Rattle.htn_cli.specs.Texts.{Texts}
 use Rattle.htn_cli.specs.Refusal.{status_of, line_of}
 use Rattle.htn_cli.specs.Sent.{Told, TakesWhole, TakesThenFails}
-use Rattle.htn_cli.specs.Answer.{Answer, refuses, writes, tells, IsGivenWithin, AreAskedFor, AreSlotsOf, IsForSlots, IsAnswer}
+use Rattle.htn_cli.specs.Answer.{Answer, refuses, writes, tells, confirms, IsGivenWithin, AreAskedFor, AreSlotsOf, IsForSlots, IsAnswer}
 use Rattle.htn_cli.specs.Left.{StandsUpTo, Gives, LeavesUnwritten, Leaves}
 use Rattle.htn_cli.specs.Ending.{Achieves, status_by, line_by, IsOfAnAnswer, IsRefused, IsRefusedFor, IsDone, AskForSlots, IsAnswered}
 use Rattle.htn_cli.specs.declared.status.Status.{Status}
@@ -27,6 +27,8 @@ never_done (refused.SlotsLimit n) e = cc
 never_done (refused.BytesLimit word) e = cc
 never_done (refused.TextFault place code) e = cc
 never_done (refused.TextLimit counted place) e = cc
+never_done (refused.StepsLimit steps) e = cc
+never_done (refused.NotAPlan step why) e = cc
 never_done (refused.NotTailRecursive words) e = cc
 never_done (refused.OutputLimit n) e = cc
 never_done (refused.CannotRead word) e = cc
@@ -50,6 +52,8 @@ module _ (words : List Word) (old new : FilesState) (out out' : SinkState) where
   answer_left request (refused.BytesLimit word) of left = (left.0, (left.1, left.2))
   answer_left request (refused.TextFault place code) of left = (left.0, (left.1, left.2))
   answer_left request (refused.TextLimit counted place) of left = (left.0, (left.1, left.2))
+  answer_left request (refused.StepsLimit steps) of left = (left.0, (left.1, left.2))
+  answer_left request (refused.NotAPlan step why) of left = (left.0, (left.1, left.2))
   answer_left request (refused.NotTailRecursive words) of left = (left.0, (left.1, left.2))
   answer_left request (refused.OutputLimit n) of left = (left.0, (left.1, left.2))
   answer_left request (refused.CannotRead word) of left = absurd of
@@ -74,6 +78,7 @@ module _ (words : List Word) (old new : FilesState) (out out' : SinkState) where
   done_answer request (refuses refusal) is given = absurd given
   done_answer request (writes names texts slots) is given = (refl, given, refl)
   done_answer request (tells n) is given = (refl, given, refl)
+  done_answer request confirms is given = (refl, given, refl)
 
   pub answered_done : (err err' : SinkState) → IsDone words old new out out' → Told [] err err' → IsAnswered words old new out out' status.Done err err'
   answered_done err err' done quiet =
@@ -112,6 +117,7 @@ module _ (words : List Word) (old new : FilesState) (out out' : SinkState) where
     answer_few (refuses refusal) is Takes stands = absurd stands
     answer_few (writes names texts slots) is Takes stands = for_few is.1.compiled slots is.1.source
     answer_few (tells m) is Takes stands = absurd is
+    answer_few confirms is Takes stands = absurd is
 
     past_all_left : (refusal : Refusal) → Leaves (to_translate r) old new out out' refusal → 2 ^ 128 ≤ n → (refusal ≡ refused.BoundLimit) × ((new ≡ old) × (out' ≡ out))
     past_all_left refused.Words left past = absurd left.0
@@ -120,6 +126,8 @@ module _ (words : List Word) (old new : FilesState) (out out' : SinkState) where
     past_all_left (refused.BytesLimit word) left past = let k = within_few left.0.0 in absurd (omega arith)
     past_all_left (refused.TextFault place code) left past = let k = within_few left.0.0 in absurd (omega arith)
     past_all_left (refused.TextLimit counted place) left past = let k = within_few left.0.0 in absurd (omega arith)
+    past_all_left (refused.StepsLimit steps) left past = absurd left.0
+    past_all_left (refused.NotAPlan step why) left past = absurd left.0
     past_all_left (refused.NotTailRecursive words) left past = absurd (not_none left.0.0)
     past_all_left (refused.OutputLimit m) left past = let k = for_few left.0.0 left.0.1 left.0.2 in absurd (omega arith)
     past_all_left (refused.CannotRead word) left past = let k = within_few left.0 in absurd (omega arith)
@@ -134,6 +142,8 @@ module _ (words : List Word) (old new : FilesState) (out out' : SinkState) where
     past_slots_left (refused.BytesLimit word) left past few = let k = within_few left.0.0 in absurd (omega arith)
     past_slots_left (refused.TextFault place code) left past few = let k = within_few left.0.0 in absurd (omega arith)
     past_slots_left (refused.TextLimit counted place) left past few = let k = within_few left.0.0 in absurd (omega arith)
+    past_slots_left (refused.StepsLimit steps) left past few = absurd left.0
+    past_slots_left (refused.NotAPlan step why) left past few = absurd left.0
     past_slots_left (refused.NotTailRecursive words) left past few = absurd (not_none left.0.0)
     past_slots_left (refused.OutputLimit m) left past few = let k = for_few left.0.0 left.0.1 left.0.2 in absurd (omega arith)
     past_slots_left (refused.CannotRead word) left past few = let k = within_few left.0 in absurd (omega arith)
@@ -173,6 +183,7 @@ module _ (old new : FilesState) (out out' : SinkState) where
   untold (refuses refusal) stands = absurd stands
   untold (writes names texts slots) stands = inr stands.1.faults.has_risen
   untold (tells n) stands = inr stands.1.faults.has_risen
+  untold confirms stands = inr stands.1.faults.has_risen
 
   write_fault_left : (request : Request) (refusal : Refusal) → Leaves request old new out out' refusal → status_of refusal ≡ status.WriteFault → WriteHasFailed
   write_fault_left request refused.Words left e = absurd (cc)
@@ -181,6 +192,8 @@ module _ (old new : FilesState) (out out' : SinkState) where
   write_fault_left request (refused.BytesLimit word) left e = absurd (cc)
   write_fault_left request (refused.TextFault place code) left e = absurd (cc)
   write_fault_left request (refused.TextLimit counted place) left e = absurd (cc)
+  write_fault_left request (refused.StepsLimit steps) left e = absurd (cc)
+  write_fault_left request (refused.NotAPlan step why) left e = absurd (cc)
   write_fault_left request (refused.NotTailRecursive words) left e = absurd (cc)
   write_fault_left request (refused.OutputLimit n) left e = absurd (cc)
   write_fault_left request (refused.CannotRead word) left e = absurd (cc)
@@ -199,6 +212,8 @@ module _ (old new : FilesState) (out out' : SinkState) where
   read_fault_left request (refused.BytesLimit word) left e = absurd (cc)
   read_fault_left request (refused.TextFault place code) left e = absurd (cc)
   read_fault_left request (refused.TextLimit counted place) left e = absurd (cc)
+  read_fault_left request (refused.StepsLimit steps) left e = absurd (cc)
+  read_fault_left request (refused.NotAPlan step why) left e = absurd (cc)
   read_fault_left request (refused.NotTailRecursive words) left e = absurd (cc)
   read_fault_left request (refused.OutputLimit n) left e = absurd (cc)
   read_fault_left request (refused.CannotRead word) left e = left.1.1.get_faults.has_risen

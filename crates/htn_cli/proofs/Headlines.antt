@@ -1,5 +1,5 @@
 -- What a run promises of the problem that its inputs spell, from what it wrote and told.
-use Rattle.std.proofs.Common.{ℕ, ◌≡◌, ◌++◌, Bool, List, Option, Some, None, IfSome, option_map, codes, sym, ap, ◌∙◌, subst, inl, inr, arith}
+use Rattle.std.proofs.Common.{ℕ, ◌≡◌, ◌≤◌, ◌++◌, Bool, List, [], ◌∷◌, Option, Some, None, IfSome, option_map, codes, refl, sym, ap, ◌∙◌, subst, inl, inr, arith}
 use Rattle.outside_io.specs.Folder.{Folder, file_of}
 use Rattle.outside_io.specs.Files.{FilesState}
 use Rattle.outside_io.specs.Sink.{SinkState}
@@ -10,26 +10,32 @@ use Rattle.plan_texts.specs.FirstSeen.{IsHddlOf}
 use Rattle.plan_texts.specs.PrintedTexts.{domain_text, problem_text}
 use Rattle.plan_meaning.specs.Compilation.{IsCompiled}
 use Rattle.plan_meaning.specs.Bound.{IsBound}
+use Rattle.plan_meaning.proofs.FailingLaws.{each_is_plan_or_fails}
+use Rattle.ground_state.specs.Runs.{cause}
+use Rattle.ground_state.specs.declared.verdict.FailWhy.{FailWhy}
 use Rattle.plan_proof.specs.Headline.{Headline, HeadlineAtBound}
+use Rattle.plan_proof.proofs.texts.SamePlans.{spelled-plans}
 use Rattle.plan_proof.proofs.values.Headlines.{printed_too, headline_of, headline_at_bound_of}
 use Rattle.plan_proof.proofs.machine.Bounds.{loses_nothing}
 use Rattle.plan_proof.specs.OneGraph.{HaveOneGraph}
 use Rattle.plan_proof.proofs.one.OneGraph.{one_graph}
 use Rattle.problem_bound.specs.NoBound.{NamesCycle, spaced}
 use Rattle.command_words.specs.Names.{Word}
-use Rattle.command_words.specs.Words.{TranslationRequest, BoundRequest, Request, to_translate, to_bound, number_of, Asks}
+use Rattle.command_words.specs.Words.{TranslationRequest, BoundRequest, ValidationRequest, Request, to_translate, to_bound, to_validate, number_of, Asks}
 use Rattle.command_words.proofs.Requests.{one_request}
 use Rattle.htn_cli.specs.Texts.{Texts}
-use Rattle.htn_cli.specs.Inputs.{IsToldToRead, IsToldToHold, HaveProblem}
-use Rattle.htn_cli.specs.Answer.{Answer, refuses, writes, tells, AreSlotsOf, AreWritten, IsAnswer}
-use Rattle.htn_cli.specs.Left.{BothStand, StandsUpTo, Leaves, slots_line, bound_line}
+use Rattle.htn_cli.specs.Inputs.{IsToldToRead, IsToldToHold, AreToldToRead, HaveProblem}
+use Rattle.htn_cli.specs.Validation.{HaveTexts, AreConfirmed, RefuseTexts, validation_inputs}
+use Rattle.htn_cli.specs.Answer.{Answer, refuses, writes, tells, confirms, AreSlotsOf, AreWritten, IsAnswer}
+use Rattle.htn_cli.specs.Left.{BothStand, StandsUpTo, Leaves, inputs_of, slots_line, bound_line, valid_line}
 use Rattle.htn_cli.specs.Sent.{TakesWhole, Told}
 use Rattle.htn_cli.specs.Ending.{Achieves, IsDone, IsRefused}
-use Rattle.htn_cli.specs.Promise.{AreToldInputs, KeepsPlans, TellsBound, TellsCycle, HasHeadline, HasBound, HasFinding, checks_of}
+use Rattle.htn_cli.specs.Promise.{IsTold, AreToldInputs, KeepsPlans, TellsBound, TellsCycle, TellsPlan, TellsFailure, TellsFinding, HasHeadline, HasBound, HasPlan, HasFinding}
 use Rattle.htn_cli.specs.Refusal.{status_of, line_of}
 use Rattle.htn_cli.specs.declared.status.Status.TheVariants as status
 use Rattle.htn_cli.specs.declared.refusal.Refusal.{Refusal}
 use Rattle.htn_cli.specs.declared.refusal.Refusal.TheVariants as refused
+use Rattle.htn_cli.proofs.Validations.{sound_apart}
 use Rattle.htn_cli.proofs.SameCycles.{named_back, words_same}
 
 -- what is told of a name is what it reads as, and what it holds
@@ -117,6 +123,7 @@ module _ (request : TranslationRequest) (files files' : FilesState) (out out' : 
   keeps_by (refuses refusal) is given = absurd given
   keeps_by (writes names texts slots) is given = keeps texts slots is.1 (subst (λ z. BothStand z texts files files') is.0 given.0) given.1
   keeps_by (tells n) is given = absurd is
+  keeps_by confirms is given = absurd is
 
 -- A bound that was told.
 module _ (request : BoundRequest) (files files' : FilesState) (out out' : SinkState) (d p : List ℕ) (domain_read : IsToldToRead files request.domain d) (problem_read : IsToldToRead files request.problem p) where
@@ -141,6 +148,29 @@ module _ (request : BoundRequest) (files files' : FilesState) (out out' : SinkSt
   bound_by (refuses refusal) is given = absurd given
   bound_by (writes names texts slots) is given = absurd is
   bound_by (tells n) ((c, source, bound), small) given = bound_here n c source bound given.1
+  bound_by confirms is given = absurd is
+
+-- The texts of a validation, where they are told.
+module _ (request : ValidationRequest) (files : FilesState) (Are : (domain problem plan : List ℕ) → Type 0) (have : HaveTexts request files Are) (pd pp plan : List ℕ)
+    (read : AreToldToRead files (validation_inputs request) (pd ∷ pp ∷ plan ∷ [])) where
+  pub are_told : Are pd pp plan
+  are_told =
+      let d = read_there files.held files.lenient request.domain have.domain_text pd have.domain_is.read read.0 in
+      let p = read_there files.held files.lenient request.problem have.problem_text pp have.problem_is.read read.1.0 in
+      let l = read_there files.held files.lenient request.plan have.plan_text plan have.plan_is.read read.1.1.0 in
+      subst (λ (z : Type 0). z) (λ i. Are (d i) (p i) (l i)) have.are
+
+-- A list that was called a plan.
+module _ (request : ValidationRequest) (files files' : FilesState) (out out' : SinkState) (pd pp plan : List ℕ) (read : AreToldToRead files (validation_inputs request) (pd ∷ pp ∷ plan ∷ [])) where
+  plan_here : AreConfirmed pd pp plan → TakesWhole valid_line out out' → TellsPlan pd pp plan out out'
+  plan_here (c, steps, spell, is) told =
+      record { told = told; steps = steps; spelled = spell.spelled.list.spelled; is_plan = (c, spell.spelled.value.spelled.spelled, is) }
+
+  plan_by : (answer : Answer) → IsAnswer (to_validate request) files answer → StandsUpTo TakesWhole answer files files' out out' → TellsPlan pd pp plan out out'
+  plan_by (refuses refusal) is given = absurd given
+  plan_by (writes names texts slots) is given = absurd is
+  plan_by (tells n) is given = absurd is
+  plan_by confirms is given = plan_here (are_told request files AreConfirmed is pd pp plan read) given.1
 
 -- The words ask for one request alone.
 module _ (words : List Word) (files files' : FilesState) (out out' : SinkState) (done : IsDone words files files' out out') where
@@ -155,19 +185,62 @@ module _ (words : List Word) (files files' : FilesState) (out out' : SinkState) 
   pub bound_done : HasBound words files files' out out'
   bound_done request d p told =
       let achieved = achieved_by (to_bound request) told.asked in
-      bound_by request files files' out out' d p told.domain_read told.problem_read achieved.answer achieved.is achieved.given
+      bound_by request files files' out out' d p told.read.0 told.read.1.0 achieved.answer achieved.is achieved.given
 
--- The problem is not tail-recursive.
-module _ (words : List Word) (files files' : FilesState) (out out' : SinkState) (cycle : List ℕ) where
-  cycle_by : (request : Request) (d p : List ℕ) → AreToldInputs words files files' request d p → Leaves request files files' out out' (refused.NotTailRecursive cycle) → (err err' : SinkState) → Told (line_of (refused.NotTailRecursive cycle)) err err'
-      → TellsCycle (checks_of request) d p err err'
-  cycle_by (to_translate r) d p told left err err' line = let (c, source, names) = left.0.1 in cycle_of_each files r.names.domain r.names.problem r.checks c source d p told.domain_read told.problem_read cycle names err err' line
-  cycle_by (to_bound r) d p told left err err' line = let (c, source, names) = left.0 in cycle_of_each files r.domain r.problem r.checks c source d p told.domain_read told.problem_read cycle names err err' line
+  pub plan_done : HasPlan words files files' out out'
+  plan_done request pd pp plan told =
+      let achieved = achieved_by (to_validate request) told.asked in
+      plan_by request files files' out out' pd pp plan told.read achieved.answer achieved.is achieved.given
 
-  finding_here : IsRefused words files files' out out' (refused.NotTailRecursive cycle) → (err err' : SinkState) → Told (line_of (refused.NotTailRecursive cycle)) err err' → HasFinding words files files' err err'
-  finding_here (inl w) err err' line request d p told = absurd (w.formless (request, told.asked))
-  finding_here (inr t) err err' line request d p told =
-      cycle_by request d p told (subst (λ z. Leaves z files files' out out' (refused.NotTailRecursive cycle)) (one_request words t.request request t.asked told.asked) t.left) err err' line
+-- A refusal of the request that the words ask for.
+module _ (words : List Word) (files files' : FilesState) (out out' : SinkState) (refusal : Refusal) (err err' : SinkState) where
+  found : ((request : Request) (texts : List (List ℕ)) → AreToldToRead files (inputs_of request) texts → Leaves request files files' out out' refusal → TellsFinding request texts err err') → IsRefused words files files' out out' refusal
+      → HasFinding words files files' err err'
+  found by (inl w) request texts told = absurd (w.formless (request, told.asked))
+  found by (inr t) request texts told = by request texts told.read (subst (λ z. Leaves z files files' out out' refusal) (one_request words t.request request t.asked told.asked) t.left)
+
+module _ (files files' : FilesState) (out out' err err' : SinkState) where
+  -- the problem is not tail-recursive
+  cycle_by : (cycle : List ℕ) → Told (line_of (refused.NotTailRecursive cycle)) err err' → (request : Request) (texts : List (List ℕ)) → AreToldToRead files (inputs_of request) texts
+      → Leaves request files files' out out' (refused.NotTailRecursive cycle) → TellsFinding request texts err err'
+  cycle_by cycle line (to_translate r) [] read left = absurd read
+  cycle_by cycle line (to_translate r) (d ∷ []) read left = absurd read.1
+  cycle_by cycle line (to_translate r) (d ∷ p ∷ []) read left = let (c, source, names) = left.0.1 in cycle_of_each files r.names.domain r.names.problem r.checks c source d p read.0 read.1.0 cycle names err err' line
+  cycle_by cycle line (to_translate r) (d ∷ p ∷ q ∷ texts) read left = absurd read.1.1
+  cycle_by cycle line (to_bound r) [] read left = absurd read
+  cycle_by cycle line (to_bound r) (d ∷ []) read left = absurd read.1
+  cycle_by cycle line (to_bound r) (d ∷ p ∷ []) read left = let (c, source, names) = left.0 in cycle_of_each files r.domain r.problem r.checks c source d p read.0 read.1.0 cycle names err err' line
+  cycle_by cycle line (to_bound r) (d ∷ p ∷ q ∷ texts) read left = absurd read.1.1
+  cycle_by cycle line (to_validate r) texts read left = absurd left.0.are
+
+  -- the list is no plan
+  failure_here : (step : ℕ) (why : FailWhy) → Told (line_of (refused.NotAPlan step why)) err err' → (pd pp plan : List ℕ) (names : List Word) → RefuseTexts pd pp plan names (refused.NotAPlan step why) → TellsFailure pd pp plan err err'
+  failure_here step why line pd pp plan names (c, steps, spell, fails) = record {
+    steps = steps;
+    step = step;
+    why = why;
+    value = c;
+    told = line;
+    spelled = spell.spelled.list.spelled;
+    value_is = spell.spelled.value.spelled.spelled;
+    fails = fails;
+    no_plan = λ other. (
+        let plan_too = (spelled-plans other.0 c pd pp other.1 spell.spelled.value.spelled.spelled steps).0 other.2 in
+        (each_is_plan_or_fails c (sound_apart c spell.spelled.value.sound) steps).not_both step (cause why) plan_too fails
+        );
+  }
+
+  failure_by : (step : ℕ) (why : FailWhy) → Told (line_of (refused.NotAPlan step why)) err err' → (request : Request) (texts : List (List ℕ)) → AreToldToRead files (inputs_of request) texts
+      → Leaves request files files' out out' (refused.NotAPlan step why) → TellsFinding request texts err err'
+  failure_by step why line (to_translate r) texts read left = absurd left.0
+  failure_by step why line (to_bound r) texts read left = absurd left.0
+  failure_by step why line (to_validate r) [] read left = absurd read
+  failure_by step why line (to_validate r) (pd ∷ []) read left = absurd read.1
+  failure_by step why line (to_validate r) (pd ∷ pp ∷ []) read left = absurd read.1.1
+  failure_by step why line (to_validate r) (pd ∷ pp ∷ plan ∷ []) read left =
+      let names = validation_inputs r in
+      failure_here step why line pd pp plan names (are_told r files (λ a b c. RefuseTexts a b c names (refused.NotAPlan step why)) left.0 pd pp plan read)
+  failure_by step why line (to_validate r) (pd ∷ pp ∷ plan ∷ q ∷ texts) read left = absurd read.1.1.1
 
 -- and no other refusal has this status
 pub finding_refused : (words : List Word) (files files' : FilesState) (out out' : SinkState) (refusal : Refusal) → IsRefused words files files' out out' refusal → status_of refusal ≡ status.Finding → (err err' : SinkState) → Told (line_of refusal) err err'
@@ -178,7 +251,9 @@ finding_refused words files files' out out' (refused.SlotsLimit n) left e err er
 finding_refused words files files' out out' (refused.BytesLimit word) left e err err' told = absurd (cc)
 finding_refused words files files' out out' (refused.TextFault place code) left e err err' told = absurd (cc)
 finding_refused words files files' out out' (refused.TextLimit counted place) left e err err' told = absurd (cc)
-finding_refused words files files' out out' (refused.NotTailRecursive cycle) left e err err' told = finding_here words files files' out out' cycle left err err' told
+finding_refused words files files' out out' (refused.StepsLimit steps) left e err err' told = absurd (cc)
+finding_refused words files files' out out' (refused.NotAPlan step why) left e err err' told = found words files files' out out' (refused.NotAPlan step why) err err' (failure_by files files' out out' err err' step why told) left
+finding_refused words files files' out out' (refused.NotTailRecursive cycle) left e err err' told = found words files files' out out' (refused.NotTailRecursive cycle) err err' (cycle_by files files' out out' err err' cycle told) left
 finding_refused words files files' out out' (refused.OutputLimit n) left e err err' told = absurd (cc)
 finding_refused words files files' out out' (refused.CannotRead word) left e err err' told = absurd (cc)
 finding_refused words files files' out out' (refused.CannotWrite word) left e err err' told = absurd (cc)

@@ -11,13 +11,13 @@ use Rattle.plan_meaning.specs.Bound.{IsBound}
 use Rattle.problem_bound.specs.Soundly.{IsSoundlyCompiled}
 use Rattle.command_words.specs.Names.{Word}
 use Rattle.command_words.specs.Bounds.{most_slots}
-use Rattle.command_words.specs.Words.{TranslationRequest, BoundRequest, Request, to_translate, to_bound, number_of}
+use Rattle.command_words.specs.Words.{TranslationRequest, BoundRequest, ValidationRequest, to_translate, to_bound, to_validate, number_of}
 use Rattle.htn_cli.specs.Texts.{Texts, texts_of}
 use Rattle.htn_cli.specs.Inputs.{HaveProblem}
-use Rattle.htn_cli.specs.Answer.{writes, tells, IsGivenWithin, AreAskedFor, AreSlotsOf, IsForSlots, IsAnswer}
+use Rattle.htn_cli.specs.Answer.{Answer, writes, tells, confirms, IsGivenWithin, AreAskedFor, AreSlotsOf, IsForSlots, AreWritten, IsAnswer}
 use Rattle.htn_cli.specs.Sent.{TakesWhole}
-use Rattle.htn_cli.specs.Left.{BothStand, IsWithin, domain_of, problem_of, Leaves, slots_line, bound_line}
-use Rattle.htn_cli.specs.Stops.{GivesProblem, StopsProblem, StopsBound, StopsSlots, IsGiven, StopsGiven, IsChosen, StopsChosen, IsMade, StopsMade, StopsPrint, StopsDelivery}
+use Rattle.htn_cli.specs.Left.{BothStand, IsWithin, Leaves, slots_line, bound_line, valid_line}
+use Rattle.htn_cli.specs.Stops.{GivesProblem, StopsProblem, GivesPlan, StopsPlan, StopsBound, StopsSlots, AreSlots, IsGiven, StopsGiven, IsComputed, StopsComputed, IsChosen, StopsChosen, IsMade, StopsMade, StopsPrint, StopsDelivery}
 use Rattle.htn_cli.specs.Ending.{Achieves}
 use Rattle.htn_cli.specs.declared.translation.Made.{Made}
 use Rattle.htn_cli.specs.declared.refusal.Refusal.{Refusal}
@@ -33,35 +33,55 @@ pub soundly : (files : FilesState) (domain problem : Word) (checks : Checks) (c 
 soundly files domain problem checks c p = record { problem = p.value; checks = checks; sound = p.read.sound; ordered = p.read.ordered; compiled = p.compiled_is }
 
 -- The problem was not read.
-module _ (request : Request) (old new : FilesState) (out : SinkState) (within : IsWithin request old) where
-  in_request : (refusal : Refusal) → StopsProblem (domain_of request) (problem_of request) old new refusal → Leaves request old new out out refusal
-  in_request refused.Words stops = absurd stops
-  in_request refused.BoundLimit stops = absurd stops
-  in_request (refused.SlotsLimit n) stops = absurd stops
-  in_request (refused.BytesLimit word) stops = go request within stops
-    where
-      go : (r : Request) → IsWithin r old → StopsProblem (domain_of r) (problem_of r) old new (refused.BytesLimit word) → Leaves r old new out out (refused.BytesLimit word)
-      go (to_translate r) within stops = ((within, stops.0), stops.1, refl)
-      go (to_bound r) within stops = (stops.0, stops.1, refl)
-  in_request (refused.TextFault place code) stops = go request within stops
-    where
-      go : (r : Request) → IsWithin r old → StopsProblem (domain_of r) (problem_of r) old new (refused.TextFault place code) → Leaves r old new out out (refused.TextFault place code)
-      go (to_translate r) within stops = ((within, stops.0, stops.1), stops.2, refl)
-      go (to_bound r) within stops = ((stops.0, stops.1), stops.2, refl)
-  in_request (refused.TextLimit counted place) stops = go request within stops
-    where
-      go : (r : Request) → IsWithin r old → StopsProblem (domain_of r) (problem_of r) old new (refused.TextLimit counted place) → Leaves r old new out out (refused.TextLimit counted place)
-      go (to_translate r) within stops = ((within, stops.0), stops.1, refl)
-      go (to_bound r) within stops = (stops.0, stops.1, refl)
-  in_request (refused.NotTailRecursive words) stops = absurd stops
-  in_request (refused.OutputLimit n) stops = absurd stops
-  in_request (refused.CannotRead word) stops = (within, stops, refl)
-  in_request (refused.CannotWrite word) stops = absurd stops
-  in_request refused.CannotWriteOutput stops = absurd stops
-  in_request refused.NoMemory stops = (within, inl (stops, refl))
+module _ (old new : FilesState) (out : SinkState) where
+  pub leaves_unread : (r : TranslationRequest) → IsWithin (to_translate r) old → (refusal : Refusal) → StopsProblem r.names.domain r.names.problem old new refusal → Leaves (to_translate r) old new out out refusal
+  leaves_unread r within refused.Words stops = absurd stops
+  leaves_unread r within refused.BoundLimit stops = absurd stops
+  leaves_unread r within (refused.SlotsLimit n) stops = absurd stops
+  leaves_unread r within (refused.BytesLimit word) stops = ((within, stops.0), stops.1, refl)
+  leaves_unread r within (refused.TextFault place code) stops = ((within, stops.0, stops.1), stops.2, refl)
+  leaves_unread r within (refused.TextLimit counted place) stops = ((within, stops.0), stops.1, refl)
+  leaves_unread r within (refused.StepsLimit steps) stops = absurd stops
+  leaves_unread r within (refused.NotTailRecursive words) stops = absurd stops
+  leaves_unread r within (refused.NotAPlan step why) stops = absurd stops
+  leaves_unread r within (refused.OutputLimit n) stops = absurd stops
+  leaves_unread r within (refused.CannotRead word) stops = (within, stops, refl)
+  leaves_unread r within (refused.CannotWrite word) stops = absurd stops
+  leaves_unread r within refused.CannotWriteOutput stops = absurd stops
+  leaves_unread r within refused.NoMemory stops = (within, inl (stops, refl))
 
-  pub leaves_problem : (refusal : Refusal) → StopsProblem (domain_of request) (problem_of request) old new refusal → Leaves request old new out out refusal
-  leaves_problem = in_request
+  pub leaves_unread_bound : (r : BoundRequest) (refusal : Refusal) → StopsProblem r.domain r.problem old new refusal → Leaves (to_bound r) old new out out refusal
+  leaves_unread_bound r refused.Words stops = absurd stops
+  leaves_unread_bound r refused.BoundLimit stops = absurd stops
+  leaves_unread_bound r (refused.SlotsLimit n) stops = absurd stops
+  leaves_unread_bound r (refused.BytesLimit word) stops = (stops.0, stops.1, refl)
+  leaves_unread_bound r (refused.TextFault place code) stops = ((stops.0, stops.1), stops.2, refl)
+  leaves_unread_bound r (refused.TextLimit counted place) stops = (stops.0, stops.1, refl)
+  leaves_unread_bound r (refused.StepsLimit steps) stops = absurd stops
+  leaves_unread_bound r (refused.NotTailRecursive words) stops = absurd stops
+  leaves_unread_bound r (refused.NotAPlan step why) stops = absurd stops
+  leaves_unread_bound r (refused.OutputLimit n) stops = absurd stops
+  leaves_unread_bound r (refused.CannotRead word) stops = (tt, stops, refl)
+  leaves_unread_bound r (refused.CannotWrite word) stops = absurd stops
+  leaves_unread_bound r refused.CannotWriteOutput stops = absurd stops
+  leaves_unread_bound r refused.NoMemory stops = (tt, inl (stops, refl))
+
+  -- nor a plan
+  pub leaves_unconfirmed : (r : ValidationRequest) (refusal : Refusal) → StopsPlan r old new refusal → Leaves (to_validate r) old new out out refusal
+  leaves_unconfirmed r refused.Words stops = (stops.0, stops.1, refl)
+  leaves_unconfirmed r refused.BoundLimit stops = (stops.0, stops.1, refl)
+  leaves_unconfirmed r (refused.SlotsLimit n) stops = (stops.0, stops.1, refl)
+  leaves_unconfirmed r (refused.BytesLimit word) stops = (stops.0, stops.1, refl)
+  leaves_unconfirmed r (refused.TextFault place code) stops = (stops.0, stops.1, refl)
+  leaves_unconfirmed r (refused.TextLimit counted place) stops = (stops.0, stops.1, refl)
+  leaves_unconfirmed r (refused.StepsLimit steps) stops = (stops.0, stops.1, refl)
+  leaves_unconfirmed r (refused.NotTailRecursive words) stops = (stops.0, stops.1, refl)
+  leaves_unconfirmed r (refused.NotAPlan step why) stops = (stops.0, stops.1, refl)
+  leaves_unconfirmed r (refused.OutputLimit n) stops = (stops.0, stops.1, refl)
+  leaves_unconfirmed r (refused.CannotRead word) stops = (tt, stops, refl)
+  leaves_unconfirmed r (refused.CannotWrite word) stops = absurd stops.0.are
+  leaves_unconfirmed r refused.CannotWriteOutput stops = absurd stops.0.are
+  leaves_unconfirmed r refused.NoMemory stops = (tt, inl (stops, refl))
 
 -- A translation.
 module _ (r : TranslationRequest) (old : FilesState) where
@@ -82,6 +102,8 @@ module _ (r : TranslationRequest) (old : FilesState) where
     slots_here n asked new same (refused.BytesLimit word) stops = absurd stops
     slots_here n asked new same (refused.TextFault place code) stops = absurd stops
     slots_here n asked new same (refused.TextLimit counted place) stops = absurd stops
+    slots_here n asked new same (refused.StepsLimit steps) stops = absurd stops
+    slots_here n asked new same (refused.NotAPlan step why) stops = absurd stops
     slots_here n asked new same (refused.NotTailRecursive words) stops = absurd stops
     slots_here n asked new same (refused.OutputLimit m) stops = absurd stops
     slots_here n asked new same (refused.CannotRead word) stops = absurd stops
@@ -118,6 +140,8 @@ module _ (r : TranslationRequest) (old : FilesState) where
       computed_here none (refused.BytesLimit word) stops = absurd stops
       computed_here none (refused.TextFault place code) stops = absurd stops
       computed_here none (refused.TextLimit counted place) stops = absurd stops
+      computed_here none (refused.StepsLimit steps) stops = absurd stops
+      computed_here none (refused.NotAPlan step why) stops = absurd stops
       computed_here none (refused.NotTailRecursive words) stops = ((none, (compiled, gives.problem_is, stops)), gives.same, refl)
       computed_here none (refused.OutputLimit n) stops = absurd stops
       computed_here none (refused.CannotRead word) stops = absurd stops
@@ -142,6 +166,8 @@ module _ (r : TranslationRequest) (old : FilesState) where
       leaves_made given is (refused.BytesLimit word) (inr (slots, chosen, stops)) = absurd stops
       leaves_made given is (refused.TextFault place code) (inr (slots, chosen, stops)) = absurd stops
       leaves_made given is (refused.TextLimit counted place) (inr (slots, chosen, stops)) = absurd stops
+      leaves_made given is (refused.StepsLimit steps) (inr (slots, chosen, stops)) = absurd stops
+      leaves_made given is (refused.NotAPlan step why) (inr (slots, chosen, stops)) = absurd stops
       leaves_made given is (refused.NotTailRecursive words) (inr (slots, chosen, stops)) = absurd stops
       leaves_made given is (refused.OutputLimit n) (inr (slots, chosen, stops)) = ((compiled, slots, for_slots given is slots chosen, stops), gives.same, refl)
       leaves_made given is (refused.CannotRead word) (inr (slots, chosen, stops)) = absurd stops
@@ -170,6 +196,8 @@ module _ (r : TranslationRequest) (old : FilesState) where
           delivered (refused.BytesLimit word) stops = absurd stops
           delivered (refused.TextFault place code) stops = absurd stops
           delivered (refused.TextLimit counted place) stops = absurd stops
+          delivered (refused.StepsLimit steps) stops = absurd stops
+          delivered (refused.NotAPlan step why) stops = absurd stops
           delivered (refused.NotTailRecursive words) stops = absurd stops
           delivered (refused.OutputLimit n) stops = absurd stops
           delivered (refused.CannotRead word) stops = absurd stops
@@ -191,6 +219,8 @@ module _ (r : BoundRequest) (old mid : FilesState) (out : SinkState) (compiled :
   leaves_bound (refused.BytesLimit word) stops = absurd stops
   leaves_bound (refused.TextFault place code) stops = absurd stops
   leaves_bound (refused.TextLimit counted place) stops = absurd stops
+  leaves_bound (refused.StepsLimit steps) stops = absurd stops
+  leaves_bound (refused.NotAPlan step why) stops = absurd stops
   leaves_bound (refused.NotTailRecursive words) stops = ((compiled, gives.problem_is, stops), gives.same, refl)
   leaves_bound (refused.OutputLimit n) stops = absurd stops
   leaves_bound (refused.CannotRead word) stops = absurd stops
@@ -212,9 +242,32 @@ module _ (r : BoundRequest) (old mid : FilesState) (out : SinkState) (compiled :
     leaves_print (refused.BytesLimit word) stops = absurd stops
     leaves_print (refused.TextFault place code) stops = absurd stops
     leaves_print (refused.TextLimit counted place) stops = absurd stops
+    leaves_print (refused.StepsLimit steps) stops = absurd stops
+    leaves_print (refused.NotAPlan step why) stops = absurd stops
     leaves_print (refused.NotTailRecursive words) stops = absurd stops
     leaves_print (refused.OutputLimit m) stops = absurd stops
     leaves_print (refused.CannotRead word) stops = absurd stops
     leaves_print (refused.CannotWrite word) stops = absurd stops
     leaves_print refused.CannotWriteOutput stops = (tells n, told, (gives.same, stops))
     leaves_print refused.NoMemory stops = (tt, inr (inr (tells n, told, (gives.same, stops))))
+
+-- A validation.
+module _ (r : ValidationRequest) (old mid : FilesState) (out : SinkState) (gives : GivesPlan r old mid) (out' : SinkState) where
+  pub achieves_plan : TakesWhole valid_line out out' → Achieves old mid out out' (to_validate r)
+  achieves_plan takes = record { answer = confirms; is = gives.1; given = (gives.0, takes) }
+
+  pub leaves_valid : (refusal : Refusal) → StopsPrint valid_line out out' refusal → Leaves (to_validate r) old mid out out' refusal
+  leaves_valid refused.Words stops = absurd stops
+  leaves_valid refused.BoundLimit stops = absurd stops
+  leaves_valid (refused.SlotsLimit m) stops = absurd stops
+  leaves_valid (refused.BytesLimit word) stops = absurd stops
+  leaves_valid (refused.TextFault place code) stops = absurd stops
+  leaves_valid (refused.TextLimit counted place) stops = absurd stops
+  leaves_valid (refused.StepsLimit steps) stops = absurd stops
+  leaves_valid (refused.NotTailRecursive words) stops = absurd stops
+  leaves_valid (refused.NotAPlan step why) stops = absurd stops
+  leaves_valid (refused.OutputLimit m) stops = absurd stops
+  leaves_valid (refused.CannotRead word) stops = absurd stops
+  leaves_valid (refused.CannotWrite word) stops = absurd stops
+  leaves_valid refused.CannotWriteOutput stops = (confirms, gives.1, (gives.0, stops))
+  leaves_valid refused.NoMemory stops = (tt, inr (inr (confirms, gives.1, (gives.0, stops))))

@@ -4,6 +4,7 @@ pub mod FaultTexts
 pub mod Inputs
 pub mod Printed
 pub mod Leavings
+pub mod Validations
 pub mod SameCycles
 pub mod Headlines
 pub mod Endings

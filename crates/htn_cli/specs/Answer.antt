@@ -1,16 +1,17 @@
 -- The answer of a run, from its words and from what the files hold: the first refusal that applies, in the order of refusals, or else what
 -- it writes and tells. Where the files don't tell what they hold, any bytes may be what they hold.
 -- Source: this project's.
-use Rattle.std.specs.Prelude.{ℕ, ◌≡◌, ◌<◌, ◌≤◌, ◌^◌, ◌⊎◌, List, Option, Some, None, IfSome}
+use Rattle.std.specs.Prelude.{ℕ, ◌≡◌, ◌<◌, ◌≤◌, ◌^◌, ◌⊎◌, List, [], ◌∷◌, Option, Some, None, IfSome}
 use Rattle.outside_io.specs.Files.{FilesState}
 use Rattle.plan_model.specs.declared.values.Compiled.{Compiled}
 use Rattle.plan_meaning.specs.Bound.{IsBound}
 use Rattle.command_words.specs.Names.{Word, Names}
 use Rattle.command_words.specs.Bounds.{most_slots}
-use Rattle.command_words.specs.Words.{TranslationRequest, BoundRequest, Request, to_translate, to_bound, number_of, Asks, AreOfAForm}
+use Rattle.command_words.specs.Words.{TranslationRequest, BoundRequest, Request, to_translate, to_bound, to_validate, number_of, Asks, AreOfAForm}
 use Rattle.htn_cli.specs.Texts.{Texts, AreTranslated, AreTooLong}
 use Rattle.htn_cli.specs.Faults.{IsNoLimit, limit_code}
 use Rattle.htn_cli.specs.Inputs.{IsFirstTooLarge, HaveFault, HaveProblem, HaveBound, HaveCycle}
+use Rattle.htn_cli.specs.Validation.{HavePlan, RefusesValidation}
 use Rattle.htn_cli.specs.declared.manner.Manner.{Manner}
 use Rattle.htn_cli.specs.declared.refusal.Refusal.{Refusal}
 use Rattle.htn_cli.specs.declared.refusal.Refusal.TheVariants as refused
@@ -22,6 +23,8 @@ pub data Answer : Type 0 where
   writes : Names → Texts → (slots : ℕ) → Answer
   -- the bound for standard output
   tells : (bound : ℕ) → Answer
+  -- that the list is a plan, for standard output
+  confirms : Answer
 
 module _ (request : TranslationRequest) (files : FilesState) where
   -- a number of slots that is given is one that is printed
@@ -61,7 +64,7 @@ module _ (request : TranslationRequest) (files : FilesState) where
   abbrev pub RefusesTranslation : Refusal → Type 0
   RefusesTranslation refused.BoundLimit = (n : ℕ) × AreAskedFor request.numeral n × (2 ^ 128 ≤ n)
   RefusesTranslation (refused.SlotsLimit n) = AreAskedFor request.numeral n × (most_slots < n) × (n < 2 ^ 128)
-  RefusesTranslation (refused.BytesLimit name) = IsGivenWithin × IsFirstTooLarge files request.names.domain request.names.problem name.now
+  RefusesTranslation (refused.BytesLimit name) = IsGivenWithin × IsFirstTooLarge files (request.names.domain ∷ request.names.problem ∷ []) name.now
   RefusesTranslation (refused.TextFault place code) = IsGivenWithin × HaveFault files request.names.domain request.names.problem place code × IsNoLimit code
   RefusesTranslation (refused.TextLimit counted place) = IsGivenWithin × HaveFault files request.names.domain request.names.problem place (limit_code counted)
   RefusesTranslation (refused.NotTailRecursive words) = (request.numeral ≡ None) × HaveCycle files request.names.domain request.names.problem request.checks words
@@ -72,7 +75,7 @@ module _ (request : BoundRequest) (files : FilesState) where
   -- the refusals of a bound, each with what comes before it
   abbrev pub RefusesBound : Refusal → Type 0
   RefusesBound refused.BoundLimit = (n : ℕ) × HaveBound files request.domain request.problem request.checks n × (2 ^ 128 ≤ n)
-  RefusesBound (refused.BytesLimit name) = IsFirstTooLarge files request.domain request.problem name.now
+  RefusesBound (refused.BytesLimit name) = IsFirstTooLarge files (request.domain ∷ request.problem ∷ []) name.now
   RefusesBound (refused.TextFault place code) = HaveFault files request.domain request.problem place code × IsNoLimit code
   RefusesBound (refused.TextLimit counted place) = HaveFault files request.domain request.problem place (limit_code counted)
   RefusesBound (refused.NotTailRecursive words) = HaveCycle files request.domain request.problem request.checks words
@@ -83,9 +86,15 @@ abbrev pub IsAnswer : Request → FilesState → Answer → Type 0
 IsAnswer (to_translate request) files (refuses refusal) = RefusesTranslation request files refusal
 IsAnswer (to_translate request) files (writes names texts slots) = (names ≡ request.names) × AreWritten request files texts slots
 IsAnswer (to_translate request) files (tells n) = ⊥
+IsAnswer (to_translate request) files confirms = ⊥
 IsAnswer (to_bound request) files (refuses refusal) = RefusesBound request files refusal
 IsAnswer (to_bound request) files (writes names texts slots) = ⊥
 IsAnswer (to_bound request) files (tells n) = HaveBound files request.domain request.problem request.checks n × (n < 2 ^ 128)
+IsAnswer (to_bound request) files confirms = ⊥
+IsAnswer (to_validate request) files (refuses refusal) = RefusesValidation request files refusal
+IsAnswer (to_validate request) files (writes names texts slots) = ⊥
+IsAnswer (to_validate request) files (tells n) = ⊥
+IsAnswer (to_validate request) files confirms = HavePlan request files
 
 -- the answer to words
 abbrev pub IsAnswerTo : List Word → FilesState → Answer → Type 0

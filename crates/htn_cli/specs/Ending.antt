@@ -4,8 +4,8 @@ use Rattle.std.specs.Prelude.{ℕ, ◌≡◌, ◌⊎◌, List, [], Some}
 use Rattle.outside_io.specs.Files.{FilesState}
 use Rattle.outside_io.specs.Sink.{SinkState}
 use Rattle.command_words.specs.Names.{Word}
-use Rattle.command_words.specs.Words.{TranslationRequest, BoundRequest, Request, number_of, AsksTranslation, AsksBound, Asks, AreOfAForm}
-use Rattle.htn_cli.specs.Answer.{Answer, refuses, IsAnswer, IsAnswerTo}
+use Rattle.command_words.specs.Words.{TranslationRequest, BoundRequest, ValidationRequest, Request, number_of, AsksTranslation, AsksBound, AsksValidation, Asks, AreOfAForm}
+use Rattle.htn_cli.specs.Answer.{Answer, refuses, writes, tells, IsAnswer, IsAnswerTo}
 use Rattle.htn_cli.specs.Refusal.{status_of, line_of}
 use Rattle.htn_cli.specs.Sent.{TakesWhole, Told}
 use Rattle.htn_cli.specs.Left.{StandsUpTo, Gives, Leaves}
@@ -89,6 +89,10 @@ AskForSlots words n = (request : TranslationRequest) × (numeral : Word) × Asks
 -- the words ask for a bound
 abbrev pub AskForBound : List Word → Type 0
 AskForBound words = (request : BoundRequest) × AsksBound words request
+
+-- the words ask for a validation
+abbrev pub AskForValidation : List Word → Type 0
+AskForValidation words = (request : ValidationRequest) × AsksValidation words request
 
 -- the statuses of a run that was refused before its first put
 abbrev pub IsBeforePuts : Status → Type 0

@@ -1,6 +1,7 @@
 -- The least fault of the two texts of a command, as a run names it: in which file, where, and by which word. Three faults are limits.
 -- Source: this project's.
 use Rattle.std.specs.Prelude.{ℕ, zero, suc, ◌≡◌, ◌≢◌, List, [], ◌∷◌, ◌++◌, codes, decimal, slice_index_or}
+use Rattle.hddl_reader.specs.declared.sections.Language.TheVariants.{Hddl}
 use Rattle.hddl_values.specs.TextFaults.{IsLeastFault}
 use Rattle.command_words.specs.Names.{Word}
 use Rattle.htn_cli.specs.declared.faults.Place.{Place}
@@ -69,4 +70,4 @@ name_of domain problem (suc n) = problem
 pub record HaveLeastFault (domain problem : Word) (domain_text problem_text : List ℕ) (place : Place) (code : ℕ) : Type 0 where
   pub file : ℕ
   pub name_is : place.name.now ≡ name_of domain problem file
-  pub least : IsLeastFault domain_text problem_text file code place.at
+  pub least : IsLeastFault Hddl domain_text problem_text file code place.at

@@ -1,6 +1,6 @@
 -- What the files hold of the two inputs of a command, and the problem that they are.
 -- Source: this project's.
-use Rattle.std.specs.Prelude.{ℕ, ◌≡◌, ◌<◌, ◌≤◌, ◌⊎◌, List, Some, IfSome, length, option_map}
+use Rattle.std.specs.Prelude.{ℕ, ◌≡◌, ◌<◌, ◌≤◌, ◌⊎◌, List, [], ◌∷◌, Some, IfSome, length, option_map}
 use Rattle.outside_io.specs.Folder.{file_of, told_of}
 use Rattle.outside_io.specs.Files.{FilesState, GetFails}
 use Rattle.plan_model.specs.declared.options.Checks.{Checks}
@@ -26,6 +26,13 @@ Reads files name bytes = IfSome files.held (λ folder. file_of files.lenient fol
 abbrev pub IsToldToRead : FilesState → Word → List ℕ → Type 0
 IsToldToRead files name bytes = option_map (λ folder. file_of files.lenient folder name) files.held ≡ Some (Some bytes)
 
+-- and that these names read so, one by one
+abbrev pub AreToldToRead : FilesState → List Word → List (List ℕ) → Type 0
+AreToldToRead files [] [] = Unit {0}
+AreToldToRead files [] (text ∷ texts) = ⊥
+AreToldToRead files (name ∷ names) [] = ⊥
+AreToldToRead files (name ∷ names) (text ∷ texts) = IsToldToRead files name text × AreToldToRead files names texts
+
 -- it is told that a name holds these bytes
 abbrev pub IsToldToHold : FilesState → Word → List ℕ → Type 0
 IsToldToHold files name bytes = told_of files.held name ≡ Some (Some bytes)
@@ -39,20 +46,23 @@ pub record IsInput (files : FilesState) (name : Word) (bytes : List ℕ) : Type 
 abbrev pub IsTooLarge : FilesState → Word → Type 0
 IsTooLarge files name = (bytes : List ℕ) × Reads files name bytes × (longest_input < length bytes)
 
--- of an input whose domain and problem have these names
-module _ (files : FilesState) (domain problem : Word) where
-  -- this one is read first, or after the other, which was not too large
-  abbrev pub IsReached : Word → Type 0
-  IsReached name = (name ≡ domain) ⊎ ((name ≡ problem) × (bytes : List ℕ) × IsInput files domain bytes)
+-- of inputs with these names, which are read in this order
+module _ (files : FilesState) where
+  -- this one is read: the first, or one of the others, where the first was not too large
+  abbrev pub IsReached : List Word → Word → Type 0
+  IsReached [] name = ⊥
+  IsReached (first ∷ others) name = (name ≡ first) ⊎ ((bytes : List ℕ) × IsInput files first bytes × IsReached others name)
 
   -- this one is the first that is too large
-  abbrev pub IsFirstTooLarge : Word → Type 0
-  IsFirstTooLarge name = IsReached name × IsTooLarge files name
+  abbrev pub IsFirstTooLarge : List Word → Word → Type 0
+  IsFirstTooLarge names name = IsReached names name × IsTooLarge files name
 
   -- this one was not read
-  abbrev pub FailsToRead : FilesState → Word → Type 0
-  FailsToRead new name = IsReached name × GetFails files new name
+  abbrev pub FailsToRead : List Word → FilesState → Word → Type 0
+  FailsToRead names new name = IsReached names name × GetFails files new name
 
+-- of a domain and a problem with these names
+module _ (files : FilesState) (domain problem : Word) where
   -- both are read as texts with a fault: their least one has this place and this code
   pub record HaveFault (place : Place) (code : ℕ) : Type 0 where
     pub domain_text : List ℕ

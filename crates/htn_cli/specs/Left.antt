@@ -1,24 +1,28 @@
 -- What a run leaves of its files and of standard output.
-use Rattle.std.specs.Prelude.{◌≡◌, ◌≢◌, ◌⊎◌, ℕ, ◌++◌, List, Some, IfSome, codes, decimal, option_map}
+use Rattle.std.specs.Prelude.{◌≡◌, ◌≢◌, ◌⊎◌, ℕ, ◌++◌, List, [], ◌∷◌, Some, IfSome, codes, decimal, option_map}
 use Rattle.outside_io.specs.Count.{Rises}
 use Rattle.outside_io.specs.Folder.{told_of, KeepsOthers}
 use Rattle.outside_io.specs.Files.{FilesState, PutFails}
 use Rattle.outside_io.specs.Sink.{SinkState}
 use Rattle.command_words.specs.Names.{Word, Names}
 use Rattle.htn_cli.specs.Texts.{Texts}
-use Rattle.command_words.specs.Words.{Request, to_translate, to_bound}
+use Rattle.command_words.specs.Words.{Request, to_translate, to_bound, to_validate}
 use Rattle.htn_cli.specs.Inputs.{FailsToRead}
-use Rattle.htn_cli.specs.Answer.{Answer, refuses, writes, tells, IsGivenWithin, IsAnswer}
+use Rattle.htn_cli.specs.Answer.{Answer, refuses, writes, tells, confirms, IsGivenWithin, IsAnswer}
+use Rattle.htn_cli.specs.Validation.{validation_inputs}
 use Rattle.htn_cli.specs.Sent.{TakesWhole, TakesThenFails, TakesThenStarves}
 use Rattle.htn_cli.specs.declared.refusal.Refusal.{Refusal}
 use Rattle.htn_cli.specs.declared.refusal.Refusal.TheVariants as refused
 
--- what standard output gets: the number of slots, or the bound
+-- what standard output gets: the number of slots, or the bound, or that the list is a plan
 abbrev pub slots_line : ℕ → List ℕ
 slots_line slots = codes "slots " ++ decimal slots ++ codes "\n"
 
 abbrev pub bound_line : ℕ → List ℕ
 bound_line bound = decimal bound ++ codes "\n"
+
+abbrev pub valid_line : List ℕ
+valid_line = codes "valid\n"
 
 -- the name holds this text, where that is told
 abbrev pub HoldsText : FilesState → FilesState → Word → List ℕ → Type 0
@@ -65,25 +69,24 @@ abbrev pub StandsUpTo : (List ℕ → SinkState → SinkState → Type 0) → An
 StandsUpTo Takes (refuses refusal) old new out out' = ⊥
 StandsUpTo Takes (writes names texts slots) old new out out' = BothStand names texts old new × Takes (slots_line slots) out out'
 StandsUpTo Takes (tells bound) old new out out' = (new ≡ old) × Takes (bound_line bound) out out'
+StandsUpTo Takes confirms old new out out' = (new ≡ old) × Takes valid_line out out'
 
 -- what a run leaves that ends with its answer
 abbrev pub Gives : Answer → FilesState → FilesState → SinkState → SinkState → Type 0
 Gives (refuses refusal) old new out out' = (new ≡ old) × (out' ≡ out)
 Gives answer old new out out' = StandsUpTo TakesWhole answer old new out out'
 
--- the inputs of a request
-abbrev pub domain_of : Request → Word
-domain_of (to_translate request) = request.names.domain
-domain_of (to_bound request) = request.domain
-
-abbrev pub problem_of : Request → Word
-problem_of (to_translate request) = request.names.problem
-problem_of (to_bound request) = request.problem
+-- the inputs of a request, in the order in which they are read
+abbrev pub inputs_of : Request → List Word
+inputs_of (to_translate request) = request.names.domain ∷ request.names.problem ∷ []
+inputs_of (to_bound request) = request.domain ∷ request.problem ∷ []
+inputs_of (to_validate request) = validation_inputs request
 
 -- its number of slots, where one is given, is one that is printed
 abbrev pub IsWithin : Request → FilesState → Type 0
 IsWithin (to_translate request) files = IsGivenWithin request files
 IsWithin (to_bound request) files = Unit {0}
+IsWithin (to_validate request) files = Unit {0}
 
 module _ (request : Request) (old new : FilesState) (out out' : SinkState) where
   -- memory was refused before anything was written, before the second output, or when standard output was told
@@ -95,7 +98,7 @@ module _ (request : Request) (old new : FilesState) (out out' : SinkState) where
 
   -- what a run leaves that ends with a refusal: where something failed, what stands of its answer
   abbrev pub Leaves : Refusal → Type 0
-  Leaves (refused.CannotRead name) = IsWithin request old × FailsToRead old (domain_of request) (problem_of request) new name.now × (out' ≡ out)
+  Leaves (refused.CannotRead name) = IsWithin request old × FailsToRead old (inputs_of request) new name.now × (out' ≡ out)
   Leaves (refused.CannotWrite name) =
       (names : Names) × (texts : Texts) × (slots : ℕ) × IsAnswer request old (writes names texts slots) × LeavesUnwritten names texts name.now old new × (out' ≡ out)
   Leaves refused.CannotWriteOutput = (answer : Answer) × IsAnswer request old answer × StandsUpTo TakesThenFails answer old new out out'

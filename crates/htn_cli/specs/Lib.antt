@@ -1,5 +1,6 @@
 pub mod Faults
 pub mod Inputs
+pub mod Validation
 pub mod Texts
 pub mod Answer
 pub mod Sent

@@ -1,6 +1,6 @@
 -- What a run promises of the problem that its inputs spell, for all that the files tell of the inputs before, and of the outputs after.
 -- Source: this project's, after the translation of Alford et al., "Bound to Plan", ICAPS 2016.
-use Rattle.std.specs.Prelude.{ℕ, ◌≡◌, ◌≤◌, List, None, IfSome}
+use Rattle.std.specs.Prelude.{ℕ, ◌≡◌, ◌≤◌, List, [], ◌∷◌, None, IfSome}
 use Rattle.outside_io.specs.Files.{FilesState}
 use Rattle.outside_io.specs.Sink.{SinkState}
 use Rattle.plan_model.specs.declared.options.Checks.{Checks}
@@ -8,20 +8,29 @@ use Rattle.plan_model.specs.declared.options.Style.{Style}
 use Rattle.plan_model.specs.declared.values.Hddl.{Hddl}
 use Rattle.plan_model.specs.declared.values.Compiled.{Compiled}
 use Rattle.plan_model.specs.declared.values.Pddl.{Pddl}
+use Rattle.plan_model.specs.declared.steps.GroundAction.{GroundAction}
 use Rattle.plan_texts.specs.FirstSeen.{IsHddlOf}
+use Rattle.plan_texts.specs.PlanText.{SpellsPlan}
+use Rattle.plan_texts.specs.SpellsPddl.{SpellsPddl}
 use Rattle.plan_texts.specs.PrintedTexts.{domain_text, problem_text}
 use Rattle.plan_meaning.specs.Compilation.{IsCompiled}
 use Rattle.plan_meaning.specs.Strata.{Edge}
 use Rattle.plan_meaning.specs.Bound.{IsBound}
+use Rattle.plan_meaning.specs.FailingStep.{Fails}
+use Rattle.ground_state.specs.Runs.{cause}
+use Rattle.ground_state.specs.declared.verdict.FailWhy.{FailWhy}
 use Rattle.slot_encoding.specs.Printed.{IsPrinted}
+use Rattle.plan_proof.specs.TextPlans.{IsPlanOf}
 use Rattle.plan_proof.specs.Headline.{Headline, HeadlineAtBound, LosesNothing}
 use Rattle.stratifier.specs.NamedCycle.{IsNamed}
 use Rattle.stratifier.specs.CycleWords.{cycle_line}
 use Rattle.command_words.specs.Names.{Word}
-use Rattle.command_words.specs.Words.{TranslationRequest, BoundRequest, Request, to_translate, to_bound, number_of, AsksTranslation, Asks}
-use Rattle.htn_cli.specs.Inputs.{IsToldToRead, IsToldToHold}
-use Rattle.htn_cli.specs.Left.{slots_line, bound_line, domain_of, problem_of}
+use Rattle.command_words.specs.Words.{TranslationRequest, BoundRequest, ValidationRequest, Request, to_translate, to_bound, to_validate, number_of, AsksTranslation, Asks}
+use Rattle.htn_cli.specs.Inputs.{IsToldToRead, IsToldToHold, AreToldToRead}
+use Rattle.htn_cli.specs.Left.{slots_line, bound_line, valid_line, inputs_of}
 use Rattle.htn_cli.specs.Sent.{TakesWhole, Told}
+use Rattle.htn_cli.specs.Refusal.{line_of}
+use Rattle.htn_cli.specs.declared.refusal.Refusal.TheVariants as refused
 
 -- for each problem that two HDDL texts spell, with its compiled value
 abbrev pub ForEach : (d p : List ℕ) → Checks → (Hddl → Compiled → Type 0) → Type 0
@@ -49,9 +58,32 @@ pub record TellsBound (request : BoundRequest) (d p : List ℕ) (out out' : Sink
 abbrev pub TellsCycle : (checks : Checks) (d p : List ℕ) → SinkState → SinkState → Type 0
 TellsCycle checks d p err err' = ForEach d p checks (λ h c. (edges : List Edge) × IsNamed c edges × Told (cycle_line c edges) err err')
 
-abbrev pub checks_of : Request → Checks
-checks_of (to_translate request) = request.checks
-checks_of (to_bound request) = request.checks
+-- a list that was called a plan: it is the list that the third text spells, and a plan of the two others
+pub record TellsPlan (pd pp plan : List ℕ) (out out' : SinkState) : Type 0 where
+  pub told : TakesWhole valid_line out out'
+  pub steps : List GroundAction
+  pub spelled : SpellsPlan plan steps
+  pub is_plan : IsPlanOf pd pp steps
+
+-- a list that was called none: it is the list that the third text spells, and no plan of the two others; the line tells the first step that
+-- fails in a value that these spell, and its first cause
+pub record TellsFailure (pd pp plan : List ℕ) (err err' : SinkState) : Type 0 where
+  pub steps : List GroundAction
+  pub step : ℕ
+  pub why : FailWhy
+  pub value : Pddl
+  pub told : Told (line_of (refused.NotAPlan step why)) err err'
+  pub spelled : SpellsPlan plan steps
+  pub value_is : SpellsPddl pd pp value
+  pub fails : Fails value steps step (cause why)
+  pub no_plan : IsPlanOf pd pp steps → ⊥
+
+-- what was found, and told, of a request whose inputs have these texts
+abbrev pub TellsFinding : Request → List (List ℕ) → SinkState → SinkState → Type 0
+TellsFinding (to_translate request) (d ∷ p ∷ []) err err' = TellsCycle request.checks d p err err'
+TellsFinding (to_bound request) (d ∷ p ∷ []) err err' = TellsCycle request.checks d p err err'
+TellsFinding (to_validate request) (pd ∷ pp ∷ plan ∷ []) err err' = TellsFailure pd pp plan err err'
+TellsFinding _ _ err err' = Unit {0}
 
 module _ (words : List Word) (files files' : FilesState) where
   -- all that is told of the files of a translation
@@ -62,18 +94,20 @@ module _ (words : List Word) (files files' : FilesState) where
     pub domain_held : IsToldToHold files' request.names.printed_domain od
     pub problem_held : IsToldToHold files' request.names.printed_problem op
 
-  -- and of the inputs of a request
-  pub record AreToldInputs (request : Request) (d p : List ℕ) : Type 0 where
+  -- and of the inputs of a request, which have these texts
+  pub record AreToldInputs (request : Request) (texts : List (List ℕ)) : Type 0 where
     pub asked : Asks words request
-    pub domain_read : IsToldToRead files (domain_of request) d
-    pub problem_read : IsToldToRead files (problem_of request) p
+    pub read : AreToldToRead files (inputs_of request) texts
 
   module _ (out out' : SinkState) where
     abbrev pub HasHeadline : Type 0
     HasHeadline = (request : TranslationRequest) (d p od op : List ℕ) → IsTold request d p od op → KeepsPlans request d p od op out out'
 
     abbrev pub HasBound : Type 0
-    HasBound = (request : BoundRequest) (d p : List ℕ) → AreToldInputs (to_bound request) d p → TellsBound request d p out out'
+    HasBound = (request : BoundRequest) (d p : List ℕ) → AreToldInputs (to_bound request) (d ∷ p ∷ []) → TellsBound request d p out out'
+
+    abbrev pub HasPlan : Type 0
+    HasPlan = (request : ValidationRequest) (pd pp plan : List ℕ) → AreToldInputs (to_validate request) (pd ∷ pp ∷ plan ∷ []) → TellsPlan pd pp plan out out'
 
     abbrev pub HasFinding : Type 0
-    HasFinding = (request : Request) (d p : List ℕ) → AreToldInputs request d p → TellsCycle (checks_of request) d p out out'
+    HasFinding = (request : Request) (texts : List (List ℕ)) → AreToldInputs request texts → TellsFinding request texts out out'

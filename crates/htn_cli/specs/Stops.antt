@@ -1,23 +1,30 @@
 -- How one step of a run is refused: what it leaves, and with which refusal it ends the run.
-use Rattle.std.specs.Prelude.{◌≡◌, ◌<◌, ◌≤◌, ◌^◌, ◌⊎◌, ℕ, List, Option, Some, None}
+use Rattle.std.specs.Prelude.{◌≡◌, ◌<◌, ◌≤◌, ◌^◌, ◌⊎◌, ℕ, List, [], ◌∷◌, length, Option, Some, None}
 use Rattle.outside_io.specs.Files.{FilesState, GetFails, PutFails}
 use Rattle.outside_io.specs.Sink.{SinkState}
 use Rattle.plan_model.specs.declared.options.Checks.{Checks}
 use Rattle.plan_model.specs.declared.options.Style.{Style}
 use Rattle.plan_model.specs.declared.values.Hddl.{Hddl}
 use Rattle.plan_model.specs.declared.values.Compiled.{Compiled}
+use Rattle.plan_model.specs.declared.steps.GroundAction.{GroundAction}
+use Rattle.plan_model.specs.declared.values.Pddl.{Pddl}
 use Rattle.plan_meaning.specs.Bound.{IsBound}
+use Rattle.plan_meaning.specs.ClassicalPlan.{IsPlan}
+use Rattle.plan_meaning.specs.FailingStep.{Fails}
+use Rattle.ground_state.specs.Runs.{cause}
+use Rattle.pddl_values.specs.Values as pddl
 use Rattle.plan_meaning.specs.Compilation.{IsCompiled}
 use Rattle.problem_bound.specs.NoBound.{NamesCycle}
 use Rattle.command_words.specs.Names.{Word, Names}
 use Rattle.command_words.specs.Bounds.{most_slots}
-use Rattle.command_words.specs.Words.{number_of}
+use Rattle.command_words.specs.Words.{ValidationRequest, number_of}
 use Rattle.htn_cli.specs.Texts.{Texts, AreTooLong, texts_of}
 use Rattle.htn_cli.specs.Printing.{AreWhole}
 use Rattle.htn_cli.specs.declared.translation.Made.{Made}
 use Rattle.hddl_values.specs.Values.{IsValueOf}
 use Rattle.htn_cli.specs.Faults.{HaveLeastFault, IsNoLimit, limit_code}
 use Rattle.htn_cli.specs.Inputs.{IsInput, IsTooLarge, IsFirstTooLarge, FailsToRead, HaveFault, HaveProblem}
+use Rattle.htn_cli.specs.Validation.{most_steps, AreConfirmed, HavePlan, RefuseTexts, RefusesValidation, validation_inputs}
 use Rattle.htn_cli.specs.Left.{FirstStands, BothStand, LeavesUnwritten, slots_line}
 use Rattle.htn_cli.specs.declared.manner.Manner.{Manner}
 use Rattle.htn_cli.specs.Sent.{TakesThenFails, TakesThenStarves}
@@ -57,12 +64,45 @@ module _ (domain problem : Word) where
 
   -- the problem that was not read
   abbrev pub StopsProblem : FilesState → FilesState → Refusal → Type 0
-  StopsProblem old new (refused.CannotRead word) = FailsToRead old domain problem new word.now
-  StopsProblem old new (refused.BytesLimit word) = IsFirstTooLarge old domain problem word.now × (new ≡ old)
+  StopsProblem old new (refused.CannotRead word) = FailsToRead old (domain ∷ problem ∷ []) new word.now
+  StopsProblem old new (refused.BytesLimit word) = IsFirstTooLarge old (domain ∷ problem ∷ []) word.now × (new ≡ old)
   StopsProblem old new (refused.TextFault place code) = HaveFault old domain problem place code × IsNoLimit code × (new ≡ old)
   StopsProblem old new (refused.TextLimit counted place) = HaveFault old domain problem place (limit_code counted) × (new ≡ old)
   StopsProblem old new refused.NoMemory = new ≡ old
   StopsProblem old new _ = ⊥
+
+-- the three texts of a validation, a plan among them
+abbrev pub GivesPlan : ValidationRequest → FilesState → FilesState → Type 0
+GivesPlan request old new = (new ≡ old) × HavePlan request old
+
+-- and a list that is none, or could not be read
+abbrev pub StopsPlan : ValidationRequest → FilesState → FilesState → Refusal → Type 0
+StopsPlan request old new (refused.CannotRead word) = FailsToRead old (validation_inputs request) new word.now
+StopsPlan request old new refused.NoMemory = new ≡ old
+StopsPlan request old new refusal = RefusesValidation request old refusal × (new ≡ old)
+
+-- three texts of files with these names that hold no plan; or memory ran out
+abbrev pub StopsTextsOf : List Word → (domain problem plan : List ℕ) → Refusal → Type 0
+StopsTextsOf names domain problem plan refused.NoMemory = Unit {0}
+StopsTextsOf names domain problem plan refusal = RefuseTexts domain problem plan names refusal
+
+-- of steps that are a plan of a value, and few enough
+abbrev pub IsFewPlan : Pddl → List GroundAction → Type 0
+IsFewPlan value steps = (length steps ≤ most_steps) × IsPlan value steps
+
+-- and of steps that are too many, or fail; or memory ran out
+abbrev pub StopsSteps : Pddl → List GroundAction → Refusal → Type 0
+StopsSteps value steps (refused.StepsLimit n) = (n ≡ length steps) × (most_steps < n)
+StopsSteps value steps (refused.NotAPlan step why) = (length steps ≤ most_steps) × Fails value steps step (cause why)
+StopsSteps value steps refused.NoMemory = Unit {0}
+StopsSteps value steps _ = ⊥
+
+-- the same of a text of steps, over each two texts with this value
+abbrev pub IsConfirmedFor : Pddl → List ℕ → Type 0
+IsConfirmedFor value plan = (domain problem : List ℕ) → pddl.IsValueOf domain problem value → AreConfirmed domain problem plan
+
+abbrev pub StopsFor : List Word → Pddl → List ℕ → Refusal → Type 0
+StopsFor names value plan refusal = (domain problem : List ℕ) → pddl.IsValueOf domain problem value → StopsTextsOf names domain problem plan refusal
 
 -- a bound that was not computed
 abbrev pub StopsBound : Compiled → Refusal → Type 0

@@ -17,6 +17,7 @@ mod telling;
 #[cfg(test)]
 mod tests;
 mod translation;
+mod validation;
 
 pub use command_words::{Command, command};
 use outside_io::{DiskFiles, StdSink};

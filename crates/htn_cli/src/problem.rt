@@ -2,6 +2,7 @@ ghost use Rattle.std.specs.Prelude.{ℕ, ◌≤◌, List, length, IfOk, IfErr};
 ghost use Rattle.outside_io.specs.Seen.{Seen};
 ghost use Rattle.plan_meaning.specs.Bound.{IsBound};
 ghost use Rattle.problem_bound.specs.Soundly.{IsSoundlyCompiled};
+ghost use Rattle.hddl_reader.specs.declared.sections.Language.TheVariants as language;
 ghost use Rattle.hddl_values.specs.TextFaults.{IsLeastFault};
 ghost use Rattle.htn_cli.specs.Inputs.{longest_input};
 ghost use Rattle.htn_cli.specs.Stops.{GivesInput, GivesProblem, GivesTexts, StopsBound, StopsInput, StopsProblem, StopsTexts};
@@ -41,7 +42,12 @@ pub(crate) fn problem_from<'a, F: Files>(
     compiled_from(alloc, domain.as_slice(), problem.as_slice(), checks, d, p)
 }
 
-fn read<'a, F: Files>(alloc: Global, files: &mut F, name: &'a str) -> Result<Vec<u8>, Refusal<'a>>
+/// All bytes of the file with this name, at most 16,777,216.
+pub(crate) fn read<'a, F: Files>(
+    alloc: Global,
+    files: &mut F,
+    name: &'a str,
+) -> Result<Vec<u8>, Refusal<'a>>
     ensures read { IfOk result (λ v.
         Seen F.state (GivesInput name.now) files.old files.new v.items) }
     ensures refused { IfErr result (Seen F.state (StopsInput name.now) files.old files.new) }
@@ -87,7 +93,7 @@ fn compiled_from<'a>(
 /// The refusal of two texts of the files `d` and `p` for their least fault.
 fn refusal_for<'a>(fault: Fault, d: &'a str, p: &'a str) -> Refusal<'a>
     ensures { (domain problem : List ℕ) →
-        IsLeastFault domain problem fault.file fault.code fault.at →
+        IsLeastFault language.Hddl domain problem fault.file fault.code fault.at →
         StopsTexts domain problem d.now p.now result }
 {
     let place = Place {

@@ -5,14 +5,15 @@ ghost use Rattle.outside_io.specs.Sink.{WriteHasFailed};
 ghost use Rattle.command_words.specs.Names.{words_of};
 ghost use Rattle.command_words.specs.Bounds.{most_slots};
 ghost use Rattle.command_words.specs.Words.{AreOfAForm};
-ghost use Rattle.htn_cli.specs.Ending.{AskForBound, AskForSlots, Ends, IsAnswered, IsBeforePuts, IsDone, IsOfAnAnswer, IsRefused, IsRefusedFor, IsUntouched};
-ghost use Rattle.htn_cli.specs.Promise.{HasBound, HasFinding, HasHeadline};
+ghost use Rattle.htn_cli.specs.Ending.{AskForBound, AskForSlots, AskForValidation, Ends, IsAnswered, IsBeforePuts, IsDone, IsOfAnAnswer, IsRefused, IsRefusedFor, IsUntouched};
+ghost use Rattle.htn_cli.specs.Promise.{HasBound, HasFinding, HasHeadline, HasPlan};
 
 use crate::bounding::print_bound;
 use crate::refusal::Refusal;
 use crate::status::Status;
 use crate::telling::tell;
 use crate::translation::translate;
+use crate::validation::validate;
 use command_words::{Asked, asked};
 use outside_io::{Files, Sink};
 use std::alloc::Global;
@@ -45,6 +46,8 @@ pub fn run<F: Files, O: Sink, E: Sink>(
         (F.state files.old) (F.state files.new) (O.state out.old) (O.state out.new) }
     ensures bound { result ≡ Status.Done → HasBound (words_of words.now)
         (F.state files.old) (F.state files.new) (O.state out.old) (O.state out.new) }
+    ensures plan { result ≡ Status.Done → HasPlan (words_of words.now)
+        (F.state files.old) (F.state files.new) (O.state out.old) (O.state out.new) }
     ensures finding { result ≡ Status.Finding → HasFinding (words_of words.now)
         (F.state files.old) (F.state files.new) (E.state err.old) (E.state err.new) }
 
@@ -52,6 +55,8 @@ pub fn run<F: Files, O: Sink, E: Sink>(
     ensures untouched { IsBeforePuts result →
         IsUntouched (F.state files.old) (F.state files.new) (O.state out.old) (O.state out.new) }
     ensures bound_reads { AskForBound (words_of words.now) →
+        (F.state files.new).held ≡ (F.state files.old).held }
+    ensures validate_reads { AskForValidation (words_of words.now) →
         (F.state files.new).held ≡ (F.state files.old).held }
     ensures words { (result ≡ Status.Words) ↔ (AreOfAForm (words_of words.now) → ⊥) }
 
@@ -103,5 +108,6 @@ fn act<'a, F: Files, O: Sink>(
         None => Err(Refusal::Words),
         Some(Asked::Translation(asked)) => translate(alloc, &asked, files, out),
         Some(Asked::Bound(asked)) => print_bound(alloc, &asked, files, out),
+        Some(Asked::Validation(asked)) => validate(alloc, &asked, files, out),
     }
 }

@@ -1,10 +1,11 @@
 ghost use Rattle.std.specs.Prelude.{◌≡◌, ◌++◌, codes};
 ghost use Rattle.htn_cli.specs.Faults.{limit_word};
-ghost use Rattle.htn_cli.specs.Refusal.{status_of, line_of};
+ghost use Rattle.htn_cli.specs.Refusal.{cause_word, status_of, line_of};
 ghost use Rattle.htn_cli.specs.Line.{line_text};
 
 use crate::faults::{Counted, Place};
 use crate::status::Status;
+use ground_state::FailWhy;
 use htn_base::Text;
 
 /// Why a run ends before its outputs stand. Files are named by their words.
@@ -22,8 +23,12 @@ pub enum Refusal<'a> {
     TextFault(Place<'a>, u16),
     /// A text has too much of what is counted: from this place on.
     TextLimit(Counted, Place<'a>),
+    /// A plan has too many steps: so many.
+    StepsLimit(usize),
     /// The problem is not tail-recursive: the words of the named bad cycle, each behind a space.
     NotTailRecursive(Text),
+    /// The list is no plan: the first step that fails, counted from 1, and its first cause.
+    NotAPlan(u32, FailWhy),
     /// A printed text is too long: so many bytes.
     OutputLimit(u64),
     /// A get failed.
@@ -68,9 +73,10 @@ impl Refusal<'_> {
             | Refusal::SlotsLimit(_)
             | Refusal::BytesLimit(_)
             | Refusal::TextLimit(_, _)
+            | Refusal::StepsLimit(_)
             | Refusal::OutputLimit(_) => Status::Limit,
             Refusal::TextFault(_, _) => Status::TextFault,
-            Refusal::NotTailRecursive(_) => Status::Finding,
+            Refusal::NotTailRecursive(_) | Refusal::NotAPlan(_, _) => Status::Finding,
             Refusal::CannotRead(_) => Status::ReadFault,
             Refusal::CannotWrite(_) | Refusal::CannotWriteOutput => Status::WriteFault,
             Refusal::NoMemory => Status::NoMemory,
@@ -93,8 +99,16 @@ impl Refusal<'_> {
                 Middle::Place(*place),
                 "\n",
             ),
+            Refusal::StepsLimit(steps) => ("limit steps ", Middle::Number(*steps as u128), "\n"),
             Refusal::NotTailRecursive(words) => {
                 ("not tail-recursive:", Middle::Words(words.as_slice()), "\n")
+            }
+            Refusal::NotAPlan(step, why) => {
+                (
+                    "not a plan: step ",
+                    Middle::Number(*step as u128),
+                    failure_end(*why),
+                )
             }
             Refusal::OutputLimit(size) => ("limit output ", Middle::Number(*size as u128), "\n"),
             Refusal::CannotRead(name) => ("cannot read ", Middle::Words(name.as_bytes()), "\n"),
@@ -118,5 +132,17 @@ fn limit_start(counted: Counted) -> &'static str
         Counted::Depth => "limit depth ",
         Counted::Subtasks => "limit subtasks ",
         Counted::Types => "limit types ",
+    }
+}
+
+/// The line of a list that is no plan, behind the number of the step.
+fn failure_end(why: FailWhy) -> &'static str
+    ensures { result.now ≡ codes " " ++ cause_word why ++ codes "\n" }
+{
+    match why {
+        FailWhy::UnknownAction => " UnknownAction\n",
+        FailWhy::Arguments => " Arguments\n",
+        FailWhy::Condition => " Condition\n",
+        FailWhy::GoalFalse => " GoalFalse\n",
     }
 }

@@ -8,6 +8,7 @@ use std::test::Fail;
 mod refused;
 mod rows;
 mod texts;
+mod validations;
 
 use rows::{COSTS_DOMAIN, COSTS_PROBLEM};
 use texts::{

@@ -1,0 +1,122 @@
+-- What a sound PDDL value gives to the run of a plan, and which file a fault of three texts is in.
+use Rattle.std.proofs.Common.{ℕ, zero, suc, ◌≡◌, ◌<◌, ◌≤◌, ◌^◌, ◌⊎◌, true, List, [], ◌∷◌, map, length, get_or, slice_get, slice_index_or, Option, Some, None, All, Contains, refl, sym, ap, ◌∙◌, subst, inl, inr, arith}
+use Rattle.htn_base.specs.Different.{AreDifferent}
+use Rattle.text_forms.specs.Words.{Word, word_at}
+use Rattle.plan_texts.specs.Declared.{named, type_words}
+use Rattle.plan_texts.specs.Printable.{IsPlain, IsUnion}
+use Rattle.plan_texts.specs.PrintableValue.{arities_of}
+use Rattle.plan_texts.specs.SpellsPddl.{pddl_types, pddl_words}
+use Rattle.plan_texts.specs.Types.{Has, EachIs}
+use Rattle.plan_texts.proofs.Members.{each-has}
+use Rattle.plan_texts.proofs.SoundProblems.{each-all, each-more}
+use Rattle.plan_model.specs.Parts.{AreListed}
+use Rattle.plan_model.specs.declared.schemas.ActionSchema.{ActionSchema}
+use Rattle.plan_model.specs.declared.types.Object.{Object}
+use Rattle.plan_model.specs.declared.types.Parent.{Parent}
+use Rattle.plan_model.specs.declared.values.Pddl.{Pddl}
+use Rattle.plan_meaning.specs.FailingStep.{AreNamedApart}
+use Rattle.ground_state.specs.Runs.{IsRunnable}
+use Rattle.form_spellings.specs.SoundPddl.{IsSoundClassical}
+
+-- things with different words are told apart by their words
+module _ {X : Type 0} (word : X → Word) where
+  has_word : (xs : List X) (x : X) → Contains xs x → Contains (map word xs) (word x)
+  has_word [] x c = let l = c.1 in absurd (omega arith)
+  has_word (y ∷ ys) x (zero, l, e) = (zero, omega arith, ap word e)
+  has_word (y ∷ ys) x (suc k, l, e) = let m = has_word ys x (k, omega arith, e) in let n = m.1 in (suc m.0, omega arith, m.2)
+
+  pub one_of_a_word : (xs : List X) → AreDifferent (map word xs) → (x y : X) → Contains xs x → Contains xs y → word x ≡ word y → x ≡ y
+  one_of_a_word [] d x y c e same = let l = c.1 in absurd (omega arith)
+  one_of_a_word (z ∷ zs) d x y (zero, l, e) (zero, m, f) same = sym e ∙ f
+  one_of_a_word (z ∷ zs) d x y (zero, l, e) (suc k, m, f) same = absurd (d.0 (subst (Contains (map word zs)) (sym same ∙ ap word (sym e)) (has_word zs y (k, omega arith, f))))
+  one_of_a_word (z ∷ zs) d x y (suc j, l, e) (zero, m, f) same = absurd (d.0 (subst (Contains (map word zs)) (same ∙ ap word (sym f)) (has_word zs x (j, omega arith, e))))
+  one_of_a_word (z ∷ zs) d x y (suc j, l, e) (suc k, m, f) same = one_of_a_word zs d.1 x y (j, omega arith, e) (k, omega arith, f) same
+
+  pub one_place_of_a_word : (xs : List X) → AreDifferent (map word xs) → (j k : ℕ) (x y : X) → slice_get xs j ≡ Some x → slice_get xs k ≡ Some y → word x ≡ word y → j ≡ k
+  one_place_of_a_word [] d j k x y e f same = absurd (cc)
+  one_place_of_a_word (z ∷ zs) d zero zero x y e f same = refl
+  one_place_of_a_word (z ∷ zs) d zero (suc k) x y e f same =
+      let g : z ≡ x = cc in
+      absurd (d.0 (subst (Contains (map word zs)) (sym same ∙ ap word (sym g)) (has_word zs y (there zs k y f))))
+    where
+      there : (ys : List X) (n : ℕ) (v : X) → slice_get ys n ≡ Some v → Contains ys v
+      there [] n v e = absurd (cc)
+      there (w ∷ ws) zero v e = let g : w ≡ v = cc in (zero, omega arith, g)
+      there (w ∷ ws) (suc n) v e = let m = there ws n v e in let l = m.1 in (suc m.0, omega arith, m.2)
+  one_place_of_a_word (z ∷ zs) d (suc j) zero x y e f same = sym (one_place_of_a_word (z ∷ zs) d zero (suc j) y x f e (sym same))
+  one_place_of_a_word (z ∷ zs) d (suc j) (suc k) x y e f same = ap suc (one_place_of_a_word zs d.1 j k x y e f same)
+
+-- the word with this number
+word_there : (names : List Word) (n : ℕ) (word : Word) → slice_get names n ≡ Some word → word_at names n ≡ word
+word_there [] n word e = absurd (cc)
+word_there (w ∷ ws) zero word e = cc
+word_there (w ∷ ws) (suc n) word e = word_there ws n word e
+
+module _ (c : Pddl) (sound : IsSoundClassical c) where
+  abbrev action_word : ActionSchema → Word
+  action_word a = named c.names a.name
+
+  abbrev object_word : Object → Word
+  object_word x = named c.names x.name
+
+  pub sound_apart : AreNamedApart c
+  sound_apart = record {
+    actions = λ a b step one other. (
+        one_of_a_word action_word c.actions sound.value.actions_differ a b one.action other.action
+        (word_there c.names a.name.number step.name one.name ∙ sym (word_there c.names b.name.number step.name other.name))
+        );
+    objects = λ x y word one other. (
+        one_place_of_a_word object_word c.objects sound.value.words.objects_differ x y one.0 other.0 one.1 other.1
+        (word_there c.names one.0.name.number word one.2 ∙ sym (word_there c.names other.0.name.number word other.2))
+        );
+  }
+
+  -- a plain word is not empty, so it stands at a place of the list
+  not_plain : IsPlain [] → ⊥
+  not_plain p = let e = p.1 in cc
+
+  within : (words : List Word) (n : ℕ) → (word_at words n ≡ [] → ⊥) → n < length words
+  within [] n full = absurd (full refl)
+  within (w ∷ ws) zero full = omega arith
+  within (w ∷ ws) (suc n) full = let l = within ws n full in omega arith
+
+  length_map : {A B : Type 0} (f : A → B) (xs : List A) → length (map f xs) ≡ length xs
+  length_map f [] = refl
+  length_map f (x ∷ xs) = ap suc (length_map f xs)
+
+  member_within : (n : ℕ) → Has (pddl_types c) (word_at (pddl_types c) n) → n < length c.types.names
+  member_within n has =
+      let plain = each-has IsPlain (pddl_types c) (word_at (pddl_types c) n) sound.value.words.types has in
+      let l = within (pddl_types c) n (λ e. not_plain (subst IsPlain e plain)) in
+      let k = length_map (named c.names) c.types.names in
+      omega arith
+
+  members_within : (members : List ℕ) → EachIs (Has (pddl_types c)) (map (word_at (pddl_types c)) members) → EachIs (λ n. n < length c.types.names) members
+  members_within [] each = tt
+  members_within (n ∷ ns) each = (member_within n each.0, members_within ns each.1)
+
+  unions_within : (unions : List (List ℕ)) → EachIs (IsUnion (pddl_words c) (arities_of c)) (map (map (word_at (pddl_types c))) unions) → EachIs (EachIs (λ n. n < length c.types.names)) unions
+  unions_within [] each = tt
+  unions_within (u ∷ us) each = (members_within u each.0.1.0, unions_within us each.1)
+
+  pub sound_listed : AreListed c.types
+  sound_listed = record {
+    few = sound.limits.types;
+    parents = each-all (λ (p : Parent). (p.child < length c.types.names) × (p.parent < length c.types.names)) c.types.parents (
+        each-more
+        (λ (p : Parent). (p.child < length c.types.names) × (p.parent < length c.types.names) × (0 < p.child))
+        (λ (p : Parent). (p.child < length c.types.names) × (p.parent < length c.types.names))
+        c.types.parents
+        (λ p q. (q.0, q.1))
+        sound.value.parents
+        );
+    unions = each-all (All (λ t. t < length c.types.names)) c.types.unions (
+        each-more (EachIs (λ t. t < length c.types.names)) (All (λ t. t < length c.types.names)) c.types.unions (each-all (λ t. t < length c.types.names)) (unions_within c.types.unions sound.value.words.unions)
+        );
+  }
+
+  pub sound_runnable : IsRunnable c
+  sound_runnable =
+      let o = sound.limits.objects in
+      let a = sound.limits.actions in
+      record { listed = sound_listed; objects = omega (arith, o); actions = omega (arith, a); apart = sound_apart }
