@@ -5,7 +5,7 @@ use Rattle.plan_model.specs.declared.options.Checks.TheVariants.{Leaf}
 use Rattle.command_words.specs.Names.{Word, Names, AreApart}
 use Rattle.command_words.specs.Bounds.{IsNumeral}
 use Rattle.command_words.specs.Options.{Chosen, nothing_chosen, SetsChecksAlone, Sets, Choose}
-use Rattle.command_words.specs.Words.{TranslationRequest, BoundRequest, Request, to_translate, to_bound, translation_words, bound_words, AsksTranslation, AsksBound, Asks, AreOfAForm}
+use Rattle.command_words.specs.Words.{TranslationRequest, BoundRequest, ValidationRequest, Request, to_translate, to_bound, to_validate, translation_words, bound_words, validation_words, AsksTranslation, AsksBound, AsksValidation, Asks, AreOfAForm}
 use Rattle.command_words.proofs.Choices.{choose_one}
 
 same_names : (n m : Names) (os ps : List Word) → translation_words n os ≡ translation_words m ps → n ≡ m
@@ -43,15 +43,31 @@ one_bound words r s a b =
     let checks = a.checks ∙ ap (λ (z : Chosen). unwrap_or z.checks Leaf) chosen ∙ sym b.checks in
     λ i. record { domain = domain i; problem = problem i; checks = checks i }
 
--- no words ask for both
+pub one_validation : (words : List Word) (r s : ValidationRequest) → AsksValidation words r → AsksValidation words s → r ≡ s
+one_validation words r s a b =
+    let e : validation_words r.domain r.problem r.plan ≡ validation_words s.domain s.problem s.plan = sym a ∙ b in
+    λ i. record { domain = get_or (e i) 1 []; problem = get_or (e i) 2 []; plan = get_or (e i) 3 [] }
+
+-- no words ask for two of them
 pub not_both : (words : List Word) (r : TranslationRequest) (s : BoundRequest) → AsksTranslation words r → AsksBound words s → ⊥
 not_both words r s a b = let e : codes "translate" ≡ codes "bound" = ap (λ z. get_or z 0 []) (sym a.spelled ∙ b.spelled) in grind (arith, e)
+
+not_a_translation : (words : List Word) (r : TranslationRequest) (s : ValidationRequest) → AsksTranslation words r → AsksValidation words s → ⊥
+not_a_translation words r s a b = let e : codes "translate" ≡ codes "validate" = ap (λ z. get_or z 0 []) (sym a.spelled ∙ b) in grind (arith, e)
+
+not_a_bound : (words : List Word) (r : BoundRequest) (s : ValidationRequest) → AsksBound words r → AsksValidation words s → ⊥
+not_a_bound words r s a b = let e : codes "bound" ≡ codes "validate" = ap (λ z. get_or z 0 []) (sym a.spelled ∙ b) in grind (arith, e)
 
 pub one_request : (words : List Word) (r s : Request) → Asks words r → Asks words s → r ≡ s
 one_request words (to_translate r) (to_translate s) a b = ap to_translate (one_translation words r s a b)
 one_request words (to_translate r) (to_bound s) a b = absurd (not_both words r s a b)
 one_request words (to_bound r) (to_translate s) a b = absurd (not_both words s r b a)
 one_request words (to_bound r) (to_bound s) a b = ap to_bound (one_bound words r s a b)
+one_request words (to_validate r) (to_validate s) a b = ap to_validate (one_validation words r s a b)
+one_request words (to_translate r) (to_validate s) a b = absurd (not_a_translation words r s a b)
+one_request words (to_validate r) (to_translate s) a b = absurd (not_a_translation words s r b a)
+one_request words (to_bound r) (to_validate s) a b = absurd (not_a_bound words r s a b)
+one_request words (to_validate r) (to_bound s) a b = absurd (not_a_bound words s r b a)
 
 -- a numeral that is asked for is one
 sets_numeral : (option value : Word) (before after : Chosen) → Sets option value before after → IfSome before.bound IsNumeral → IfSome after.bound IsNumeral
@@ -68,9 +84,11 @@ pub numeral_is : (words : List Word) (r : TranslationRequest) → AsksTranslatio
 numeral_is words r a = subst (λ z. IfSome z IsNumeral) (sym a.numeral) (choose_numeral a.options nothing_chosen a.chosen a.chosen_by tt)
 
 -- words that ask for nothing
-pub no_form : (words : List Word) → ((r : TranslationRequest) → AsksTranslation words r → ⊥) → ((r : BoundRequest) → AsksBound words r → ⊥) → AreOfAForm words → ⊥
-no_form words first second (to_translate r, asks) = first r asks
-no_form words first second (to_bound r, asks) = second r asks
+pub no_form : (words : List Word) → ((r : TranslationRequest) → AsksTranslation words r → ⊥) → ((r : BoundRequest) → AsksBound words r → ⊥)
+    → ((r : ValidationRequest) → AsksValidation words r → ⊥) → AreOfAForm words → ⊥
+no_form words first second third (to_translate r, asks) = first r asks
+no_form words first second third (to_bound r, asks) = second r asks
+no_form words first second third (to_validate r, asks) = third r asks
 
 module _ (words : List Word) (request : TranslationRequest) (asks : AsksTranslation words request) where
   pub not_spelled : ((names : Names) (options : List Word) → words ≡ translation_words names options → ⊥) → ⊥

@@ -6,6 +6,7 @@ use plan_model::{Checks, Style};
 pub enum Asked<'a> {
     Translation(Translation<'a>),
     Bound(Bounding<'a>),
+    Validation(Validation<'a>),
 }
 
 /// A translation that is asked for: its files, the numeral of its slots where one is given, its
@@ -24,4 +25,12 @@ pub struct Bounding<'a> {
     pub d: &'a str,
     pub p: &'a str,
     pub checks: Checks,
+}
+
+/// A validation that is asked for: the PDDL domain and problem, and the plan, which are read.
+#[derive(Clone, Copy)]
+pub struct Validation<'a> {
+    pub pd: &'a str,
+    pub pp: &'a str,
+    pub plan: &'a str,
 }

@@ -19,4 +19,11 @@ pub enum Command<'a> {
         p: &'a str,
         checks: Checks,
     },
+    /// Read the PDDL domain `pd` and problem `pp`, and tell whether the list in `plan` is a plan
+    /// of them.
+    Validate {
+        pd: &'a str,
+        pp: &'a str,
+        plan: &'a str,
+    },
 }

@@ -11,7 +11,7 @@ mod names;
 mod settings;
 mod words;
 
-pub use asking::{Asked, Bounding, Translation};
+pub use asking::{Asked, Bounding, Translation, Validation};
 pub use bounds::{Bound, bound_of, comes_to};
 pub use commands::Command;
 pub use names::Named;

@@ -1,8 +1,8 @@
 ghost use Rattle.std.specs.Prelude.{◌≡◌, ◌↔◌, List, string_bytes, IfSome, IfNone, IsTrue};
 ghost use Rattle.command_words.specs.Names.{Word, Names, names_of, words_of};
-ghost use Rattle.command_words.specs.Words.{AreOfAForm, AskFor, Asks, AsksBound, AsksTranslation, BoundRequest, TranslationRequest, bound_of, bound_words, request_of, translation_of, translation_words};
+ghost use Rattle.command_words.specs.Words.{AreOfAForm, AskFor, Asks, AsksBound, AsksTranslation, AsksValidation, BoundRequest, TranslationRequest, ValidationRequest, bound_of, bound_words, request_of, translation_of, translation_words, validation_of};
 
-use crate::asking::{Asked, Bounding, Translation};
+use crate::asking::{Asked, Bounding, Translation, Validation};
 use crate::commands::Command;
 use crate::names::{Named, are_apart};
 use crate::settings::settings_of;
@@ -12,8 +12,8 @@ use plan_model::{Checks, Style};
 /// It takes no memory.
 ///
 /// The forms are `translate D P OD OP` with the options `--bound N`, `--style adl|flat` and
-/// `--checks leaf|atonce`, where OD and OP differ and neither is D or P, and `bound D P` with the
-/// option `--checks leaf|atonce`. Options come in any order and may be left out: the style is then
+/// `--checks leaf|atonce`, where OD and OP differ and neither is D or P, `bound D P` with the
+/// option `--checks leaf|atonce`, and `validate PD PP PLAN`. Options come in any order and may be left out: the style is then
 /// `adl`, and the checks are `leaf`.
 pub fn command(words: &[String]) -> Option<Command<'_>>
     ensures asked { IfSome result (AskFor (words_of words.now)) }
@@ -34,6 +34,11 @@ pub fn command(words: &[String]) -> Option<Command<'_>>
             p: asked.p,
             checks: asked.checks,
         }),
+        Asked::Validation(asked) => Some(Command::Validate {
+            pd: asked.pd,
+            pp: asked.pp,
+            plan: asked.plan,
+        }),
     }
 }
 
@@ -43,13 +48,14 @@ pub fn asked(words: &[String]) -> Option<Asked<'_>>
     ensures asked { IfSome result (λ asked. Asks (words_of words.now) (request_of asked)) }
     ensures formless { IfNone result (AreOfAForm (words_of words.now) → ⊥) }
 {
-    match asked_translation(words) {
-        Some(asked) => Some(Asked::Translation(asked)),
-        None => {
-            let asked = asked_bound(words)?;
-            Some(Asked::Bound(asked))
-        }
+    if let Some(asked) = asked_translation(words) {
+        return Some(Asked::Translation(asked));
     }
+    if let Some(asked) = asked_bound(words) {
+        return Some(Asked::Bound(asked));
+    }
+    let asked = asked_validation(words)?;
+    Some(Asked::Validation(asked))
 }
 
 fn asked_translation(words: &[String]) -> Option<Translation<'_>>
@@ -85,6 +91,25 @@ fn asked_bound(words: &[String]) -> Option<Bounding<'_>>
         d: inputs.d,
         p: inputs.p,
         checks: settings.checks.unwrap_or(Checks::Leaf),
+    })
+}
+
+fn asked_validation(words: &[String]) -> Option<Validation<'_>>
+    ensures asked { IfSome result (λ asked.
+        AsksValidation (words_of words.now) (validation_of asked)) }
+    ensures other { IfNone result ((request : ValidationRequest) →
+        AsksValidation (words_of words.now) request → ⊥) }
+{
+    let [first, pd, pp, plan] = words else {
+        return None;
+    };
+    if !is_word(first, "validate") {
+        return None;
+    }
+    Some(Validation {
+        pd: pd.as_str(),
+        pp: pp.as_str(),
+        plan: plan.as_str(),
     })
 }
 

@@ -2,7 +2,7 @@
 use Rattle.std.proofs.Common.{List, [], ◌∷◌, Some, codes, refl, arith, lit≤, inl}
 use Rattle.command_words.specs.Names.{Word, Names, AreApart}
 use Rattle.command_words.specs.Options.{nothing_chosen, Choose}
-use Rattle.command_words.specs.Words.{to_translate, to_bound, AreOfAForm}
+use Rattle.command_words.specs.Words.{to_translate, to_bound, to_validate, AreOfAForm}
 
 abbrev files : Names
 files = record { domain = codes "d.hddl"; problem = codes "p.hddl"; printed_domain = codes "od.pddl"; printed_problem = codes "op.pddl" }
@@ -23,7 +23,9 @@ no_value chooses = chooses
 same_name : (options : List Word) → AreOfAForm (codes "translate" ∷ codes "d.hddl" ∷ codes "p.hddl" ∷ codes "d.hddl" ∷ codes "op.pddl" ∷ options) → ⊥
 same_name options (to_translate request, asks) = let e = asks.spelled in asks.apart.domain.0 (grind (arith, e))
 same_name options (to_bound request, asks) = let e = asks.spelled in absurd (grind (arith, e))
+same_name options (to_validate request, asks) = let e = asks in absurd (grind (arith, e))
 
 no_words : AreOfAForm [] → ⊥
 no_words (to_translate request, asks) = let e = asks.spelled in cc
 no_words (to_bound request, asks) = let e = asks.spelled in cc
+no_words (to_validate request, asks) = let e = asks in cc
