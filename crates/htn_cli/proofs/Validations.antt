@@ -11,12 +11,22 @@ use Rattle.plan_texts.proofs.Members.{each-has}
 use Rattle.plan_texts.proofs.SoundProblems.{each-all, each-more}
 use Rattle.plan_model.specs.Parts.{AreListed}
 use Rattle.plan_model.specs.declared.schemas.ActionSchema.{ActionSchema}
+use Rattle.plan_model.specs.declared.steps.GroundAction.{GroundAction}
 use Rattle.plan_model.specs.declared.types.Object.{Object}
 use Rattle.plan_model.specs.declared.types.Parent.{Parent}
 use Rattle.plan_model.specs.declared.values.Pddl.{Pddl}
 use Rattle.plan_meaning.specs.FailingStep.{AreNamedApart}
 use Rattle.ground_state.specs.Runs.{IsRunnable}
 use Rattle.form_spellings.specs.SoundPddl.{IsSoundClassical}
+use Rattle.text_forms.specs.Faults.{fault}
+use Rattle.hddl_reader.specs.declared.sections.Language.TheVariants as language
+use Rattle.hddl_values.specs.TextFaults.{HaveNoFault}
+use Rattle.pddl_values.specs.Values.{IsValueOf}
+use Rattle.plan_text.specs.Plans.{IsPlanFault, IsPlanRead}
+use Rattle.htn_cli.specs.Validation.{Spell, IsLeastOfThree, of_plan}
+use Rattle.htn_cli.specs.Stops.{IsFewPlan, IsConfirmedFor, StopsSteps, StopsFor}
+use Rattle.htn_cli.specs.declared.refusal.Refusal.{Refusal}
+use Rattle.htn_cli.specs.declared.refusal.Refusal.TheVariants as refused
 
 -- things with different words are told apart by their words
 module _ {X : Type 0} (word : X → Word) where
@@ -32,18 +42,20 @@ module _ {X : Type 0} (word : X → Word) where
   one_of_a_word (z ∷ zs) d x y (suc j, l, e) (zero, m, f) same = absurd (d.0 (subst (Contains (map word zs)) (same ∙ ap word (sym f)) (has_word zs x (j, omega arith, e))))
   one_of_a_word (z ∷ zs) d x y (suc j, l, e) (suc k, m, f) same = one_of_a_word zs d.1 x y (j, omega arith, e) (k, omega arith, f) same
 
+  there : (xs : List X) (n : ℕ) (x : X) → slice_get xs n ≡ Some x → Contains xs x
+  there [] n x e = absurd (cc)
+  there (y ∷ ys) zero x e = let f : y ≡ x = cc in (zero, omega arith, f)
+  there (y ∷ ys) (suc n) x e = let m = there ys n x e in let l = m.1 in (suc m.0, omega arith, m.2)
+
   pub one_place_of_a_word : (xs : List X) → AreDifferent (map word xs) → (j k : ℕ) (x y : X) → slice_get xs j ≡ Some x → slice_get xs k ≡ Some y → word x ≡ word y → j ≡ k
   one_place_of_a_word [] d j k x y e f same = absurd (cc)
   one_place_of_a_word (z ∷ zs) d zero zero x y e f same = refl
   one_place_of_a_word (z ∷ zs) d zero (suc k) x y e f same =
       let g : z ≡ x = cc in
       absurd (d.0 (subst (Contains (map word zs)) (sym same ∙ ap word (sym g)) (has_word zs y (there zs k y f))))
-    where
-      there : (ys : List X) (n : ℕ) (v : X) → slice_get ys n ≡ Some v → Contains ys v
-      there [] n v e = absurd (cc)
-      there (w ∷ ws) zero v e = let g : w ≡ v = cc in (zero, omega arith, g)
-      there (w ∷ ws) (suc n) v e = let m = there ws n v e in let l = m.1 in (suc m.0, omega arith, m.2)
-  one_place_of_a_word (z ∷ zs) d (suc j) zero x y e f same = sym (one_place_of_a_word (z ∷ zs) d zero (suc j) y x f e (sym same))
+  one_place_of_a_word (z ∷ zs) d (suc j) zero x y e f same =
+      let g : z ≡ y = cc in
+      absurd (d.0 (subst (Contains (map word zs)) (same ∙ ap word (sym g)) (has_word zs x (there zs j x e))))
   one_place_of_a_word (z ∷ zs) d (suc j) (suc k) x y e f same = ap suc (one_place_of_a_word zs d.1 j k x y e f same)
 
 -- the word with this number
@@ -97,7 +109,7 @@ module _ (c : Pddl) (sound : IsSoundClassical c) where
 
   unions_within : (unions : List (List ℕ)) → EachIs (IsUnion (pddl_words c) (arities_of c)) (map (map (word_at (pddl_types c))) unions) → EachIs (EachIs (λ n. n < length c.types.names)) unions
   unions_within [] each = tt
-  unions_within (u ∷ us) each = (members_within u each.0.1.0, unions_within us each.1)
+  unions_within (u ∷ us) each = (members_within u each.0.1, unions_within us each.1)
 
   pub sound_listed : AreListed c.types
   sound_listed = record {
@@ -120,3 +132,31 @@ module _ (c : Pddl) (sound : IsSoundClassical c) where
       let o = sound.limits.objects in
       let a = sound.limits.actions in
       record { listed = sound_listed; objects = omega (arith, o); actions = omega (arith, a); apart = sound_apart }
+
+-- a text of steps over two texts with a value
+module _ (value : Pddl) (plan : List ℕ) (steps : List GroundAction) (read : IsPlanRead plan steps) where
+  spell : (domain problem : List ℕ) → IsValueOf domain problem value → Spell domain problem plan value steps
+  spell domain problem is = record { value = is; list = read }
+
+  pub confirmed_for : IsFewPlan value steps → IsConfirmedFor value plan
+  confirmed_for few domain problem is = (value, steps, record { spelled = spell domain problem is; few = few.0 }, few.1)
+
+  pub stops_for : (names : List Word) (refusal : Refusal) → StopsSteps value steps refusal → StopsFor names value plan refusal
+  stops_for names refused.Words stops = absurd stops
+  stops_for names refused.BoundLimit stops = absurd stops
+  stops_for names (refused.SlotsLimit n) stops = absurd stops
+  stops_for names (refused.BytesLimit word) stops = absurd stops
+  stops_for names (refused.TextFault place code) stops = absurd stops
+  stops_for names (refused.TextLimit counted place) stops = absurd stops
+  stops_for names (refused.StepsLimit n) stops = λ domain problem is. (value, steps, spell domain problem is, stops.0, stops.1)
+  stops_for names (refused.NotTailRecursive words) stops = absurd stops
+  stops_for names (refused.NotAPlan step why) stops = λ domain problem is. (value, steps, record { spelled = spell domain problem is; few = stops.0 }, stops.1)
+  stops_for names (refused.OutputLimit n) stops = absurd stops
+  stops_for names (refused.CannotRead word) stops = absurd stops
+  stops_for names (refused.CannotWrite word) stops = absurd stops
+  stops_for names refused.CannotWriteOutput stops = absurd stops
+  stops_for names refused.NoMemory stops = λ domain problem is. tt
+
+-- the fault of a plan's text is the least of three texts, where the two others have none
+pub least_of_plan : (domain problem plan : List ℕ) (file code at : ℕ) → HaveNoFault language.Pddl domain problem → (file ≡ 2) × IsPlanFault plan (fault code at) → IsLeastOfThree domain problem plan file code at
+least_of_plan domain problem plan file code at none is = subst (λ z. IsLeastOfThree domain problem plan z code at) (sym is.0) (of_plan none is.1)

@@ -1,7 +1,7 @@
 use Rattle.std.proofs.Common.{sym, ◌∙◌, inl, inr, ⊎_elim, arith}
 use Rattle.command_words.specs.Names.{words_of}
 use Rattle.htn_cli.proofs.Texts.{Told-nothing}
-use Rattle.htn_cli.proofs.Headlines.{headline_done, bound_done, finding_refused}
+use Rattle.htn_cli.proofs.Headlines.{headline_done, bound_done, plan_done, finding_refused}
 use Rattle.htn_cli.proofs.Endings.{answered_refused, answered_done, past_all, past_slots, past_not_done, refused_for, write_fault, read_fault, calm}
 use Rattle.htn_cli.proofs.program.run.Goals as goal
 
@@ -18,6 +18,9 @@ returns-in-Ok-clause-headline g c = λ _. headline_done _ _ _ _ _ c.in-Ok.ensure
 
 pub returns-in-Ok-clause-bound : goal.returns-in-Ok-clause-bound
 returns-in-Ok-clause-bound g c = λ _. bound_done _ _ _ _ _ c.in-Ok.ensures.done
+
+pub returns-in-Ok-clause-plan : goal.returns-in-Ok-clause-plan
+returns-in-Ok-clause-plan g c = λ _. plan_done _ _ _ _ _ c.in-Ok.ensures.done
 
 pub returns-in-Ok-clause-past_all : goal.returns-in-Ok-clause-past_all
 returns-in-Ok-clause-past_all g c = λ n asks past. absurd (past_not_done _ _ _ _ _ n c.in-Ok.ensures.done asks (omega (arith, past)))
