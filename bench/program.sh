@@ -1,8 +1,8 @@
 #!/usr/bin/env bash
 # Times the whole program from files to files on large texts, each beside a copy of the bytes that it wrote: a problem of Transport with
-# 2,000 packages at 4,096 slots, in style adl; one whose printed texts are long, in style flat; a problem text of 16 MiB of facts; and a
-# domain of 500 methods with 40 subtasks each. Wants ./htn, as examples/transport/run leaves it. A line each: what the program told,
-# seconds of the best of five runs, kilobytes of memory at most, bytes read and written, and seconds of a copy of what was written.
+# 2,000 packages at 4,096 slots, in style adl; 54 actions at 65,536 slots, in style flat, whose texts have 250 MB; a problem text of 16
+# MiB of facts; and a domain of 500 methods with 40 subtasks each. Wants ./htn, as examples/transport/run leaves it. A line each: what the program told,
+# seconds of the best of five runs and its processor seconds (user and system), kilobytes of memory at most, bytes read and written, and seconds of a copy of what was written.
 set -euo pipefail
 top=$(cd "$(dirname "$0")/.." && pwd)
 work=$(mktemp -d)
@@ -43,30 +43,37 @@ methods() {
     echo ")"
 }
 
+actions() {
+    echo "(define (domain d) (:task t :parameters ()) (:method m :parameters () :task (t) :subtasks (a0))"
+    for ((k = 0; k < 54; k++)); do echo " (:action a$k :parameters ())"; done
+    echo ")"
+}
+
 timed() {
-    local name=$1 best=1000 kilobytes=0
+    local name=$1 best=1000 kilobytes=0 took
     shift
     for run in 1 2 3 4 5; do
         rm -f "$work/od" "$work/op"
-        /usr/bin/time -o "$work/time" -f "%e %M" "$top/htn" translate "$@" >"$work/told" 2>&1 || true
-        read -r seconds memory < <(tail -n 1 "$work/time")
-        if [ "$(echo "$seconds < $best" | bc)" = 1 ]; then best=$seconds; fi
+        /usr/bin/time -o "$work/time" -f "%e %M %U %S" "$top/htn" translate "$@" >"$work/told" 2>&1 || true
+        read -r seconds memory user system < <(tail -n 1 "$work/time")
+        if [ "$(echo "$seconds < $best" | bc)" = 1 ]; then best=$seconds; took="$user + $system"; fi
         if ((memory > kilobytes)); then kilobytes=$memory; fi
     done
     local from to
     from=$(($(stat -c %s "$1") + $(stat -c %s "$2")))
-    to=$(cat "$work/od" "$work/op" 2>/dev/null | wc -c)
     cat "$work/od" "$work/op" >"$work/whole" 2>/dev/null || true
+    to=$(stat -c %s "$work/whole")
     /usr/bin/time -o "$work/time" -f "%e" cp "$work/whole" "$work/copy"
-    echo "$name: $(cat "$work/told"), $best s, $kilobytes KB, $from bytes read, $to written; a copy $(tail -n 1 "$work/time") s"
+    echo "$name: $(cat "$work/told"), $best s (processor: $took s), $kilobytes KB, $from bytes read, $to written; a copy $(tail -n 1 "$work/time") s"
 }
 
 packages 2000 >"$work/p2000"
-packages "${FLAT_PACKAGES:-1000}" >"$work/flat"
+actions >"$work/actions"
+echo "(define (problem p) (:domain d) (:htn :subtasks (t)))" >"$work/task"
 facts 187000 >"$work/init"
 methods >"$work/methods"
 echo "(define (problem p) (:domain d) (:objects o) (:htn :subtasks (t499 o)) (:init (q o)))" >"$work/one"
 timed "2,000 packages, adl" "$domain" "$work/p2000" "$work/od" "$work/op" --bound 4096
-timed "flat" "$domain" "$work/flat" "$work/od" "$work/op" --bound "${FLAT_SLOTS:-65536}" --style flat
+timed "54 actions, flat" "$work/actions" "$work/task" "$work/od" "$work/op" --bound 65536 --style flat
 timed "facts" "$domain" "$work/init" "$work/od" "$work/op"
 timed "500 methods of 40 subtasks" "$work/methods" "$work/one" "$work/od" "$work/op" --bound 4096
