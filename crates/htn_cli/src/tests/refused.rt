@@ -27,7 +27,7 @@ fn texts_that_are_cut(rt: HostRuntime) -> Result<(), Fail> {
     Ok(())
 }
 
-fn repeated(alloc: Global, piece: &str, count: u32) -> Result<String, Fail> {
+pub(super) fn repeated(alloc: Global, piece: &str, count: u32) -> Result<String, Fail> {
     let mut text = String::new(alloc);
     for _ in 0..count {
         text.push_str(piece)?;

@@ -1,5 +1,6 @@
 //! Lists that are plans, or none, of two PDDL texts. Each line was found by hand, from the rules for plans and for faults.
 use super::Outside;
+use super::refused::repeated;
 use super::texts::one_slot_adl;
 use crate::Status;
 use htn_base::Memory;
@@ -9,46 +10,70 @@ use std::test::Fail;
 
 const PLAN: &str = "(htn_start htn_s1) (htn_m_m htn_s1) (a htn_s1)";
 
-/// A list of steps for two texts; the run ends with this status, and these texts on the two streams.
+/// A list of steps for the printed texts of the smallest problem: the run ends with this status and this line.
+#[derive(Clone, Copy)]
+struct Listed {
+    plan: &'static str,
+    status: Status,
+    err: &'static str,
+}
+
+const OF_THE_SMALLEST: [Listed; 9] = [
+    Listed {
+        plan: PLAN,
+        status: Status::Done,
+        err: "",
+    },
+    Listed {
+        plan: "; cost = 3 (unit cost)\n0: (HTN_START HTN_S1)\n1: (HTN_M_M HTN_S1)\n2: (A HTN_S1)\n",
+        status: Status::Done,
+        err: "",
+    },
+    Listed {
+        plan: "",
+        status: Status::Finding,
+        err: "not a plan: step 1 GoalFalse\n",
+    },
+    Listed {
+        plan: "(htn_start htn_s1) (htn_m_m htn_s1)",
+        status: Status::Finding,
+        err: "not a plan: step 3 GoalFalse\n",
+    },
+    Listed {
+        plan: "(and or)",
+        status: Status::Finding,
+        err: "not a plan: step 1 UnknownAction\n",
+    },
+    Listed {
+        plan: "(htn_start)",
+        status: Status::Finding,
+        err: "not a plan: step 1 Arguments\n",
+    },
+    Listed {
+        plan: "(htn_start htn_s2)",
+        status: Status::Finding,
+        err: "not a plan: step 1 Arguments\n",
+    },
+    Listed {
+        plan: "(htn_start htn_s1 htn_s1)",
+        status: Status::Finding,
+        err: "not a plan: step 1 Arguments\n",
+    },
+    Listed {
+        plan: "(htn_start htn_s1) (a htn_s1) (b)",
+        status: Status::Finding,
+        err: "not a plan: step 2 Condition\n",
+    },
+];
+
+/// The same for two texts of its own.
 #[derive(Clone, Copy)]
 struct Judged {
     domain: &'static str,
     problem: &'static str,
     plan: &'static str,
     status: Status,
-    out: &'static str,
     err: &'static str,
-}
-
-/// A row for the printed texts of the smallest problem.
-fn of_the_smallest(plan: &'static str, err: &'static str) -> Judged {
-    let texts = one_slot_adl();
-    row_of(texts.domain, texts.problem, plan, err)
-}
-
-/// Without a line the list is a plan; a line of a step is a finding, and of a fault a fault.
-fn row_of(
-    domain: &'static str,
-    problem: &'static str,
-    plan: &'static str,
-    err: &'static str,
-) -> Judged {
-    let status = if err.is_empty() {
-        Status::Done
-    } else if err.starts_with("not") {
-        Status::Finding
-    } else {
-        Status::TextFault
-    };
-    let out = if err.is_empty() { "valid\n" } else { "" };
-    Judged {
-        domain,
-        problem,
-        plan,
-        status,
-        out,
-        err,
-    }
 }
 
 const COSTS: &str =
@@ -61,122 +86,189 @@ const TYPED: &str =
 
 const SEEN: &str = "(define (problem p) (:init (seen b) (seen r)) (:goal (not (seen r))))";
 
-fn rows() -> [Judged; 26] {
-    [
-        of_the_smallest(PLAN, ""),
-        of_the_smallest(
-            "; cost = 3 (unit cost)\n0: (HTN_START HTN_S1)\n1: (HTN_M_M HTN_S1)\n2: (A HTN_S1)\n",
-            "",
-        ),
-        of_the_smallest("", "not a plan: step 1 GoalFalse\n"),
-        of_the_smallest(
-            "(htn_start htn_s1) (htn_m_m htn_s1)",
-            "not a plan: step 3 GoalFalse\n",
-        ),
-        of_the_smallest("(and or)", "not a plan: step 1 UnknownAction\n"),
-        of_the_smallest("(htn_start)", "not a plan: step 1 Arguments\n"),
-        of_the_smallest("(htn_start htn_s2)", "not a plan: step 1 Arguments\n"),
-        of_the_smallest(
-            "(htn_start htn_s1 htn_s1)",
-            "not a plan: step 1 Arguments\n",
-        ),
-        of_the_smallest(
-            "(htn_start htn_s1) (a htn_s1) (b)",
-            "not a plan: step 2 Condition\n",
-        ),
-        // all objects, and those of a type
-        row_of(TYPED, SEEN, "(paint r)", ""),
-        row_of(TYPED, SEEN, "(paint b)", "not a plan: step 1 Arguments\n"),
-        row_of(
-            TYPED,
-            SEEN,
-            "(paint r) (paint r)",
-            "not a plan: step 2 Condition\n",
-        ),
-        // what is read and dropped, and the name of a domain, which isn't compared
-        row_of(
-            COSTS,
-            "(define (problem p) (:domain other) (:metric minimize (total-cost)))",
-            "(a)",
-            "",
-        ),
-        // faults, the domain's first, then the problem's, then the plan's
-        row_of("", NOTHING, "(a)", "pd:0: fault 5 NotADefine\n"),
-        row_of(
-            "(define (domain d) (:task t :parameters ()))",
-            NOTHING,
-            "(a)",
-            "pd:20: fault 6 UnknownSection\n",
-        ),
-        row_of(
-            "(define (domain d) (:constants c))",
-            "(define (problem p) (:objects c))",
-            "(",
-            "pp:30: fault 10 DuplicateName\n",
-        ),
-        row_of(
-            COSTS,
-            "(define (problem p) (:htn))",
-            "(",
-            "pp:21: fault 6 UnknownSection\n",
-        ),
-        row_of(COSTS, NOTHING, "(a", "plan:0: fault 2 UnclosedParen\n"),
-        row_of(COSTS, NOTHING, "(a) 3:", "plan:4: fault 8 BadForm\n"),
-        row_of(COSTS, NOTHING, "1: 2: (a)", "plan:3: fault 8 BadForm\n"),
-        row_of(COSTS, NOTHING, "()", "plan:1: fault 8 BadForm\n"),
-        row_of(COSTS, NOTHING, "(a (b))", "plan:3: fault 8 BadForm\n"),
-        row_of(COSTS, NOTHING, "(a ?b)", "plan:3: fault 8 BadForm\n"),
-        row_of(COSTS, NOTHING, "a", "plan:0: fault 8 BadForm\n"),
-        row_of(COSTS, NOTHING, "(a) \"", "plan:4: fault 1 BadByte\n"),
-        row_of(COSTS, NOTHING, "(a))", "plan:3: fault 3 StrayClose\n"),
-    ]
-}
+/// All objects and those of a type; what is dropped, and a domain's name, which isn't compared; and faults: the domain's first, then
+/// the problem's, then the plan's.
+const JUDGED: [Judged; 17] = [
+    Judged {
+        domain: TYPED,
+        problem: SEEN,
+        plan: "(paint r)",
+        status: Status::Done,
+        err: "",
+    },
+    Judged {
+        domain: TYPED,
+        problem: SEEN,
+        plan: "(paint b)",
+        status: Status::Finding,
+        err: "not a plan: step 1 Arguments\n",
+    },
+    Judged {
+        domain: TYPED,
+        problem: SEEN,
+        plan: "(paint r) (paint r)",
+        status: Status::Finding,
+        err: "not a plan: step 2 Condition\n",
+    },
+    Judged {
+        domain: COSTS,
+        problem: "(define (problem p) (:domain other) (:metric minimize (total-cost)))",
+        plan: "(a)",
+        status: Status::Done,
+        err: "",
+    },
+    Judged {
+        domain: "",
+        problem: NOTHING,
+        plan: "(a)",
+        status: Status::TextFault,
+        err: "pd:0: fault 5 NotADefine\n",
+    },
+    Judged {
+        domain: "(define (domain d) (:task t :parameters ()))",
+        problem: NOTHING,
+        plan: "(a)",
+        status: Status::TextFault,
+        err: "pd:20: fault 6 UnknownSection\n",
+    },
+    Judged {
+        domain: "(define (domain d) (:constants c))",
+        problem: "(define (problem p) (:objects c))",
+        plan: "(",
+        status: Status::TextFault,
+        err: "pp:30: fault 10 DuplicateName\n",
+    },
+    Judged {
+        domain: COSTS,
+        problem: "(define (problem p) (:htn))",
+        plan: "(",
+        status: Status::TextFault,
+        err: "pp:21: fault 6 UnknownSection\n",
+    },
+    Judged {
+        domain: COSTS,
+        problem: NOTHING,
+        plan: "(a",
+        status: Status::TextFault,
+        err: "plan:0: fault 2 UnclosedParen\n",
+    },
+    Judged {
+        domain: COSTS,
+        problem: NOTHING,
+        plan: "(a) 3:",
+        status: Status::TextFault,
+        err: "plan:4: fault 8 BadForm\n",
+    },
+    Judged {
+        domain: COSTS,
+        problem: NOTHING,
+        plan: "1: 2: (a)",
+        status: Status::TextFault,
+        err: "plan:3: fault 8 BadForm\n",
+    },
+    Judged {
+        domain: COSTS,
+        problem: NOTHING,
+        plan: "()",
+        status: Status::TextFault,
+        err: "plan:1: fault 8 BadForm\n",
+    },
+    Judged {
+        domain: COSTS,
+        problem: NOTHING,
+        plan: "(a (b))",
+        status: Status::TextFault,
+        err: "plan:3: fault 8 BadForm\n",
+    },
+    Judged {
+        domain: COSTS,
+        problem: NOTHING,
+        plan: "(a ?b)",
+        status: Status::TextFault,
+        err: "plan:3: fault 8 BadForm\n",
+    },
+    Judged {
+        domain: COSTS,
+        problem: NOTHING,
+        plan: "a",
+        status: Status::TextFault,
+        err: "plan:0: fault 8 BadForm\n",
+    },
+    Judged {
+        domain: COSTS,
+        problem: NOTHING,
+        plan: "(a) \"",
+        status: Status::TextFault,
+        err: "plan:4: fault 1 BadByte\n",
+    },
+    Judged {
+        domain: COSTS,
+        problem: NOTHING,
+        plan: "(a))",
+        status: Status::TextFault,
+        err: "plan:3: fault 3 StrayClose\n",
+    },
+];
 
-fn with_texts(alloc: Global, domain: &str, problem: &str, plan: &[u8]) -> Result<Outside, Memory> {
+fn with_texts(alloc: Global, domain: &str, problem: &str, plan: &str) -> Result<Outside, Memory> {
     let mut outside = Outside::new(alloc, "", "")?;
     outside.files.add("pd", domain.as_bytes())?;
     outside.files.add("pp", problem.as_bytes())?;
-    outside.files.add("plan", plan)?;
+    outside.files.add("plan", plan.as_bytes())?;
     Ok(outside)
 }
 
-#[test]
-fn lists_that_are_plans_or_none(rt: HostRuntime) -> Result<(), Fail> {
-    for row in rows() {
-        let mut outside = with_texts(rt.alloc(), row.domain, row.problem, row.plan.as_bytes())?;
-        let ended = outside.run(&["validate", "pd", "pp", "plan"])?;
-        assert_eq!(&rt; ended, row.status);
-        outside.told(&rt, row.out, row.err);
-        outside.holds(&rt, "plan", row.plan);
-    }
+/// A validation ends with this status and this line, and leaves the plan as it is.
+fn ends(rt: &impl Abort, alloc: Global, row: Judged) -> Result<(), Fail> {
+    let mut outside = with_texts(alloc, row.domain, row.problem, row.plan)?;
+    let ended = outside.run(&["validate", "pd", "pp", "plan"])?;
+    assert_eq!(rt; ended, row.status);
+    let out = match row.status {
+        Status::Done => "valid\n",
+        _ => "",
+    };
+    outside.told(rt, out, row.err);
+    outside.holds(rt, "plan", row.plan);
     Ok(())
 }
 
-/// A plan that has too many steps, and as many as it may have.
 #[test]
-fn a_million_steps(rt: HostRuntime) -> Result<(), Fail> {
-    let alloc = rt.alloc();
-    for (count, status, out, err) in [
-        (1_000_000, Status::Done, "valid\n", ""),
-        (1_000_001, Status::Limit, "", "limit steps 1000001\n"),
-    ] {
-        let mut plan = Vec::new(alloc);
-        for _ in 0..count {
-            for byte in b"(a)" {
-                plan.push(*byte)?;
-            }
-        }
-        let mut outside = with_texts(alloc, COSTS, NOTHING, plan.as_slice())?;
-        let ended = outside.run(&["validate", "pd", "pp", "plan"])?;
-        assert_eq!(&rt; ended, status);
-        outside.told(&rt, out, err);
-    }
-    Ok(())
-}
-
-fn is_not_read(rt: &impl Abort, alloc: Global, get: u32, line: &str) -> Result<(), Fail> {
+fn lists_for_the_smallest_problem(rt: HostRuntime) -> Result<(), Fail> {
     let texts = one_slot_adl();
-    let mut outside = with_texts(alloc, texts.domain, texts.problem, PLAN.as_bytes())?;
+    for row in OF_THE_SMALLEST {
+        let judged = Judged {
+            domain: texts.domain,
+            problem: texts.problem,
+            plan: row.plan,
+            status: row.status,
+            err: row.err,
+        };
+        ends(&rt, rt.alloc(), judged)?;
+    }
+    Ok(())
+}
+
+#[test]
+fn lists_for_other_texts(rt: HostRuntime) -> Result<(), Fail> {
+    for row in JUDGED {
+        ends(&rt, rt.alloc(), row)?;
+    }
+    Ok(())
+}
+
+#[test]
+fn too_many_steps(rt: HostRuntime) -> Result<(), Fail> {
+    let plan = repeated(rt.alloc(), "(a)", 1_000_001)?;
+    let mut outside = with_texts(rt.alloc(), COSTS, NOTHING, plan.as_str())?;
+    let ended = outside.run(&["validate", "pd", "pp", "plan"])?;
+    assert_eq!(&rt; ended, Status::Limit);
+    outside.told(&rt, "", "limit steps 1000001\n");
+    Ok(())
+}
+
+/// The get of this number fails.
+fn is_not_read(rt: &impl Abort, alloc: Global, get: u32, line: &str) -> Result<(), Fail> {
+    let mut outside = with_texts(alloc, COSTS, NOTHING, "(a)")?;
     outside.files.fail_get(get)?;
     let ended = outside.run(&["validate", "pd", "pp", "plan"])?;
     assert_eq!(rt; ended, Status::ReadFault);
@@ -189,15 +281,10 @@ fn a_validation_that_fails_outside(rt: HostRuntime) -> Result<(), Fail> {
     is_not_read(&rt, rt.alloc(), 0, "cannot read pd\n")?;
     is_not_read(&rt, rt.alloc(), 1, "cannot read pp\n")?;
     is_not_read(&rt, rt.alloc(), 2, "cannot read plan\n")?;
-    let texts = one_slot_adl();
-    let mut outside = with_texts(rt.alloc(), texts.domain, texts.problem, PLAN.as_bytes())?;
+    let mut outside = with_texts(rt.alloc(), COSTS, NOTHING, "(a)")?;
     outside.out.fail_write(1)?;
     let ended = outside.run(&["validate", "pd", "pp", "plan"])?;
     assert_eq!(&rt; ended, Status::WriteFault);
     outside.told(&rt, "val", "cannot write standard output\n");
-    let mut other = with_texts(rt.alloc(), texts.domain, texts.problem, PLAN.as_bytes())?;
-    let ended = other.run(&["validate", "pd", "pp", "plan", "--bound", "1"])?;
-    assert_eq!(&rt; ended, Status::Words);
-    other.told(&rt, "", "words refused\n");
     Ok(())
 }
