@@ -2,9 +2,9 @@
 use Rattle.std.proofs.Common.{◌≡◌, ◌∷◌, ◌++◌, refl, ap, ◌∙◌, append_assoc}
 use Rattle.text_forms.specs.Lists.{Parts, nothing, part, joined}
 use Rattle.text_forms.specs.Printing.{bytes, lines}
-use Rattle.pddl_printer.specs.Wrote.{Wrote}
-use Rattle.pddl_printer.specs.declared.sheet.Sheet.{Sheet}
-use Rattle.pddl_printer.proofs.Appended.{wrote-as, wrote-then}
+use Rattle.sheets.specs.Sheets.{Wrote}
+use Rattle.sheets.specs.declared.sheet.Sheet.{Sheet}
+use Rattle.sheets.proofs.Written.{wrote-as, wrote-then}
 
 lines-joined : (ps qs : Parts) → lines ps ++ lines qs ≡ lines (joined ps qs)
 lines-joined nothing qs = refl

@@ -1,4 +1,3 @@
-pub mod Appended
 pub mod Places
 pub mod Each
 pub mod Groups

@@ -5,9 +5,9 @@ use Rattle.text_forms.specs.Lists.{Parts, name, nothing, part}
 use Rattle.text_forms.specs.Words.{Word}
 use Rattle.text_forms.specs.Printing.{bytes_behind, lines, headed, page}
 use Rattle.pddl_printer.specs.Behind.{line}
-use Rattle.pddl_printer.specs.Wrote.{Wrote}
-use Rattle.pddl_printer.specs.declared.sheet.Sheet.{Sheet}
-use Rattle.pddl_printer.proofs.Appended.{wrote-as, wrote-then}
+use Rattle.sheets.specs.Sheets.{Wrote}
+use Rattle.sheets.specs.declared.sheet.Sheet.{Sheet}
+use Rattle.sheets.proofs.Written.{wrote-as, wrote-then}
 
 lines-headed : (k b l : List ℕ) → (32 ∷ 40 ∷ k) ++ (b ++ (41 ∷ 10 ∷ l)) ≡ 32 ∷ ((40 ∷ (k ++ (b ++ 41 ∷ []))) ++ (10 ∷ l))
 lines-headed k b l = simp append_assoc

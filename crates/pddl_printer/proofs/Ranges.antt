@@ -7,9 +7,9 @@ use Rattle.task_networks.specs.Spelling.{numbers}
 use Rattle.plan_texts.specs.Printed.{all_parts}
 use Rattle.pddl_printer.specs.Behind.{behind, of_each}
 use Rattle.pddl_printer.specs.WrittenOut.{joined}
-use Rattle.pddl_printer.specs.Wrote.{Wrote}
-use Rattle.pddl_printer.specs.declared.sheet.Sheet.{Sheet}
-use Rattle.pddl_printer.proofs.Appended.{wrote-as, wrote-then}
+use Rattle.sheets.specs.Sheets.{Wrote}
+use Rattle.sheets.specs.declared.sheet.Sheet.{Sheet}
+use Rattle.sheets.proofs.Written.{wrote-as, wrote-then}
 use Rattle.pddl_printer.proofs.Each.{of_each-append, behind-each}
 
 numbers-next : (i n : ℕ) → numbers i (suc n) ≡ numbers i n ++ (i + n) ∷ []

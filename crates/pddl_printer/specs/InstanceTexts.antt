@@ -33,4 +33,4 @@ module _ (p : Pddl) (scope : Scope) where
 
   -- the literal for each object
   abbrev pub literals_text : Instances → Literal → List ℕ
-  literals_text of l = bytes_behind (all_parts (each of.range of.depth (literal_part (pddl_words p) (words_in_force p scope) of.depth l)))
+  literals_text of l = bytes_behind (all_parts (each of.written.range of.depth (literal_part (pddl_words p) (words_in_force p scope) of.depth l)))

@@ -1,12 +1,13 @@
 pub mod WrittenOut
 pub mod InForm
-pub mod AppendsPrefix
-pub mod Wrote
 pub mod Scopes
 pub mod Behind
 pub mod Literals
 pub mod Heads
 pub mod Texts
+pub mod Measured
+pub mod Splits
+pub mod Pages
 pub mod InstanceTexts
 pub mod ConditionTexts
 pub mod EffectTexts

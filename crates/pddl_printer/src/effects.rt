@@ -1,11 +1,11 @@
 ghost use Rattle.pddl_printer.specs.Texts.{effect_text, effects_text, effect_within};
-ghost use Rattle.pddl_printer.specs.Wrote.{Wrote};
+ghost use Rattle.sheets.specs.Sheets.{Wrote};
 
 use crate::formulas::put_formula;
-use crate::sheet::Sheet;
 use crate::terms::put_atom;
 use crate::typed_lists::put_variables;
 use plan_model::{Effect, Param, Pddl, Scope};
+use sheets::Sheet;
 
 /// Puts an effect behind a space.
 #[cycle(effects)]

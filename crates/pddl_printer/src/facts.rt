@@ -1,10 +1,10 @@
 ghost use Rattle.pddl_printer.specs.Texts.{args_text, fact_text};
-ghost use Rattle.pddl_printer.specs.Wrote.{Wrote};
+ghost use Rattle.sheets.specs.Sheets.{Wrote};
 
 use crate::items::Item;
-use crate::sheet::Sheet;
 use crate::words::{put_object, put_predicate};
 use plan_model::{GroundAtom, Pddl};
+use sheets::Sheet;
 
 /// Puts the words of objects, each behind a space.
 fn put_objects(p: &Pddl, objects: &[u32], sheet: &mut Sheet<'_>)

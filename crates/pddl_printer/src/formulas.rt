@@ -1,10 +1,10 @@
 ghost use Rattle.pddl_printer.specs.Texts.{formula_text, formulas_text, formula_within};
-ghost use Rattle.pddl_printer.specs.Wrote.{Wrote};
+ghost use Rattle.sheets.specs.Sheets.{Wrote};
 
-use crate::sheet::Sheet;
 use crate::terms::{put_atom, put_term};
 use crate::typed_lists::put_variables;
 use plan_model::{Formula, Param, Pddl, Scope};
+use sheets::Sheet;
 
 /// Puts a formula behind a space.
 #[cycle(formulas)]

@@ -1,11 +1,11 @@
 ghost use Rattle.plan_model.specs.declared.terms.Term.TheVariants.{Var};
 ghost use Rattle.pddl_printer.specs.InstanceTexts.{placed_text, all_placed_text, inside_text, literal_text};
-ghost use Rattle.pddl_printer.specs.Wrote.{Wrote};
+ghost use Rattle.sheets.specs.Sheets.{Wrote};
 
-use crate::sheet::Sheet;
 use crate::terms::put_term;
 use crate::words::{put_object, put_predicate};
 use plan_model::{Atom, Pddl, Scope, Term};
+use sheets::Sheet;
 
 /// What a quantifier that is written out says of its variable.
 #[derive(Clone, Copy)]

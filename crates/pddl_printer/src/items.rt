@@ -1,10 +1,10 @@
 ghost use Rattle.std.specs.Prelude.{ℕ, List};
 ghost use Rattle.plan_model.specs.declared.values.Pddl.{Pddl};
 ghost use Rattle.pddl_printer.specs.Behind.{of_each};
-ghost use Rattle.pddl_printer.specs.Wrote.{Wrote};
+ghost use Rattle.sheets.specs.Sheets.{Wrote};
 
-use crate::sheet::Sheet;
 use plan_model::Pddl;
+use sheets::Sheet;
 
 /// What may stand in a list.
 pub(crate) trait Item {

@@ -1,26 +1,37 @@
+ghost use Rattle.std.specs.Prelude.{IfSome};
 ghost use Rattle.text_forms.specs.Printing.{lines};
 ghost use Rattle.plan_texts.specs.PrintedTexts.{domain_text, problem_text};
 ghost use Rattle.pddl_printer.specs.Heads.{domain_head, problem_head};
 ghost use Rattle.pddl_printer.specs.InForm.{value_in};
-ghost use Rattle.pddl_printer.specs.Wrote.{Wrote};
+ghost use Rattle.pddl_printer.specs.Measured.{IsMeasured, range_of};
+ghost use Rattle.pddl_printer.specs.Pages.{domain_start};
+ghost use Rattle.sheets.specs.Sheets.{Wrote};
 
 use crate::items::put_items;
-use crate::object_range::Range;
 use crate::schemas::{put_actions, put_condition};
-use crate::sheet::Sheet;
 use crate::words::put_name;
+use crate::written::Written;
 use plan_model::{Pddl, Scope};
+use sheets::Sheet;
 
 /// Puts the domain, each section on a line of its own.
-pub(crate) fn put_domain(p: &Pddl, range: Option<Range>, sheet: &mut Sheet<'_>)
-    ensures { Wrote (domain_text (value_in range p.now)) sheet.old sheet.new }
+pub(crate) fn put_domain(p: &Pddl, written: Option<Written>, sheet: &mut Sheet<'_>)
+    requires measured { IfSome written (IsMeasured p.now) }
+    ensures { Wrote (domain_text (value_in (range_of written) p.now)) sheet.old sheet.new }
+{
+    put_domain_start(p, sheet);
+    put_actions(p, written, p.actions.as_slice(), sheet);
+    sheet.put(b")\n");
+}
+
+/// Puts the line with the domain's name, and the sections before the actions.
+pub fn put_domain_start(p: &Pddl, sheet: &mut Sheet<'_>)
+    ensures put { Wrote (domain_start p.now) sheet.old sheet.new }
 {
     sheet.put(b"(define (domain ");
     put_name(p, p.domain, sheet);
     sheet.put(b")\n");
     put_domain_head(p, sheet);
-    put_actions(p, range, p.actions.as_slice(), sheet);
-    sheet.put(b")\n");
 }
 
 /// Puts the sections before the actions.
@@ -39,16 +50,18 @@ fn put_domain_head(p: &Pddl, sheet: &mut Sheet<'_>)
     sheet.put(b")\n");
 }
 
-/// Puts the problem, each section on a line of its own.
-pub(crate) fn put_problem(p: &Pddl, range: Option<Range>, sheet: &mut Sheet<'_>)
-    ensures { Wrote (problem_text (value_in range p.now)) sheet.old sheet.new }
+/// Puts the problem, each section on a line of its own, with the quantifiers over the range in the goal as they are or written
+/// out.
+pub fn put_problem(p: &Pddl, written: Option<Written>, sheet: &mut Sheet<'_>)
+    requires measured { IfSome written (IsMeasured p.now) }
+    ensures put { Wrote (problem_text (value_in (range_of written) p.now)) sheet.old sheet.new }
 {
     sheet.put(b"(define (problem ");
     put_name(p, p.problem, sheet);
     sheet.put(b")\n");
     put_problem_head(p, sheet);
     sheet.put(b" (:goal");
-    put_condition(p, &Scope::Empty, range, 0, &p.goal, sheet);
+    put_condition(p, &Scope::Empty, written, 0, &p.goal, sheet);
     sheet.put(b")\n");
     sheet.put(b")\n");
 }

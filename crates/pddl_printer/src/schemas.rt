@@ -1,17 +1,19 @@
+ghost use Rattle.std.specs.Prelude.{IfSome};
+ghost use Rattle.pddl_printer.specs.Measured.{IsMeasured, range_of};
 ghost use Rattle.pddl_printer.specs.Texts.{predicate_text, condition_text, change_text, action_text, actions_text};
-ghost use Rattle.pddl_printer.specs.Wrote.{Wrote};
+ghost use Rattle.sheets.specs.Sheets.{Wrote};
 
 use crate::each_object::Instances;
 use crate::effects::put_effect;
 use crate::formulas::put_formula;
 use crate::items::{Item, put_items};
-use crate::object_range::Range;
-use crate::sheet::Sheet;
 use crate::typed_lists::put_variables;
 use crate::words::put_name;
+use crate::written::Written;
 use crate::written_conditions::put_written_condition;
 use crate::written_effects::put_written_effect;
 use plan_model::{ActionSchema, Effect, Formula, Pddl, Predicate, Scope};
+use sheets::Sheet;
 
 impl Item for Predicate {
     ghost text = { predicate_text };
@@ -28,16 +30,17 @@ impl Item for Predicate {
 pub(crate) fn put_condition(
     p: &Pddl,
     scope: &Scope<'_>,
-    range: Option<Range>,
+    written: Option<Written>,
     depth: usize,
     formula: &Formula,
     sheet: &mut Sheet<'_>,
 )
-    ensures { Wrote (condition_text p.now scope.now range depth formula.now) sheet.old sheet.new }
+    requires measured { IfSome written (IsMeasured p.now) }
+    ensures { Wrote (condition_text p.now scope.now (range_of written) depth formula.now) sheet.old sheet.new }
 {
-    match range {
-        Some(range) => {
-            put_written_condition(p, scope, Instances { range, depth }, formula, sheet);
+    match written {
+        Some(written) => {
+            put_written_condition(p, scope, Instances { written, depth }, formula, sheet);
         }
         None => put_formula(p, scope, formula, sheet),
     }
@@ -47,24 +50,26 @@ pub(crate) fn put_condition(
 fn put_change(
     p: &Pddl,
     scope: &Scope<'_>,
-    range: Option<Range>,
+    written: Option<Written>,
     depth: usize,
     effect: &Effect,
     sheet: &mut Sheet<'_>,
 )
-    ensures { Wrote (change_text p.now scope.now range depth effect.now) sheet.old sheet.new }
+    requires measured { IfSome written (IsMeasured p.now) }
+    ensures { Wrote (change_text p.now scope.now (range_of written) depth effect.now) sheet.old sheet.new }
 {
-    match range {
-        Some(range) => {
-            put_written_effect(p, scope, Instances { range, depth }, effect, sheet);
+    match written {
+        Some(written) => {
+            put_written_effect(p, scope, Instances { written, depth }, effect, sheet);
         }
         None => put_effect(p, scope, effect, sheet),
     }
 }
 
-/// Puts an action on a line of its own.
-fn put_action(p: &Pddl, range: Option<Range>, action: &ActionSchema, sheet: &mut Sheet<'_>)
-    ensures { Wrote (action_text p.now range action.now) sheet.old sheet.new }
+/// Puts an action on a line of its own, as it is or with its quantifiers over the range written out.
+pub fn put_action(p: &Pddl, written: Option<Written>, action: &ActionSchema, sheet: &mut Sheet<'_>)
+    requires measured { IfSome written (IsMeasured p.now) }
+    ensures put { Wrote (action_text p.now (range_of written) action.now) sheet.old sheet.new }
 {
     let scope = Scope::Within(&Scope::Empty, action.params.as_slice());
     let depth = action.params.len();
@@ -73,22 +78,23 @@ fn put_action(p: &Pddl, range: Option<Range>, action: &ActionSchema, sheet: &mut
     sheet.put(b" :parameters");
     put_variables(p, action.params.as_slice(), sheet);
     sheet.put(b" :precondition");
-    put_condition(p, &scope, range, depth, &action.pre, sheet);
+    put_condition(p, &scope, written, depth, &action.pre, sheet);
     sheet.put(b" :effect");
-    put_change(p, &scope, range, depth, &action.eff, sheet);
+    put_change(p, &scope, written, depth, &action.eff, sheet);
     sheet.put(b")\n");
 }
 
 /// Puts actions, each on a line of its own.
 pub(crate) fn put_actions(
     p: &Pddl,
-    range: Option<Range>,
+    written: Option<Written>,
     actions: &[ActionSchema],
     sheet: &mut Sheet<'_>,
 )
-    ensures { Wrote (actions_text p.now range actions.now) sheet.old sheet.new }
+    requires measured { IfSome written (IsMeasured p.now) }
+    ensures { Wrote (actions_text p.now (range_of written) actions.now) sheet.old sheet.new }
 {
     for action in actions {
-        put_action(p, range, action, sheet);
+        put_action(p, written, action, sheet);
     }
 }

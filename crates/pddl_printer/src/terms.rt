@@ -1,11 +1,11 @@
 ghost use Rattle.text_forms.specs.Words.{word_at};
 ghost use Rattle.pddl_printer.specs.Scopes.{words_in_force};
 ghost use Rattle.pddl_printer.specs.Texts.{term_text, terms_text, atom_text};
-ghost use Rattle.pddl_printer.specs.Wrote.{Wrote};
+ghost use Rattle.sheets.specs.Sheets.{Wrote};
 
-use crate::sheet::Sheet;
 use crate::words::{put_name, put_object, put_predicate};
 use plan_model::{Atom, Pddl, Scope, Term};
+use sheets::Sheet;
 
 /// Puts the word of the k-th variable in force.
 fn put_variable(p: &Pddl, scope: &Scope<'_>, k: u32, sheet: &mut Sheet<'_>)

@@ -1,11 +1,11 @@
 ghost use Rattle.pddl_printer.specs.Texts.{types_text, union_text, kind_text, parent_text, object_text};
 ghost use Rattle.pddl_printer.specs.Texts.{param_text, spaced_param_text, between_text, variables_text};
-ghost use Rattle.pddl_printer.specs.Wrote.{Wrote};
+ghost use Rattle.sheets.specs.Sheets.{Wrote};
 
 use crate::items::{Item, put_items};
-use crate::sheet::Sheet;
 use crate::words::{put_name, put_type};
 use plan_model::{Object, Param, Parent, Pddl};
+use sheets::Sheet;
 
 /// Puts the words of types, each behind a space.
 fn put_types(p: &Pddl, types: &[u32], sheet: &mut Sheet<'_>)

@@ -1,11 +1,11 @@
 ghost use Rattle.text_forms.specs.Words.{word_at};
 ghost use Rattle.plan_texts.specs.Declared.{named};
 ghost use Rattle.plan_texts.specs.SpellsPddl.{pddl_types, pddl_words};
-ghost use Rattle.pddl_printer.specs.Wrote.{Wrote};
+ghost use Rattle.sheets.specs.Sheets.{Wrote};
 
-use crate::sheet::Sheet;
 use htn_base::Name;
 use plan_model::Pddl;
+use sheets::Sheet;
 
 /// Puts the word of a name; of a number that no word has, nothing.
 pub(crate) fn put_name(p: &Pddl, name: Name, sheet: &mut Sheet<'_>)

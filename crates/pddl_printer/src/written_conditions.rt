@@ -1,11 +1,12 @@
 ghost use Rattle.pddl_printer.specs.ConditionTexts.{written_text, parts_text, part_text, quantified_text, body_text, negated_text};
-ghost use Rattle.pddl_printer.specs.Wrote.{Wrote};
+ghost use Rattle.pddl_printer.specs.Measured.{IsMeasured};
+ghost use Rattle.sheets.specs.Sheets.{Wrote};
 
 use crate::each_object::{Instances, is_over, put_each};
 use crate::formulas::put_formula;
 use crate::instances::Literal;
-use crate::sheet::Sheet;
 use plan_model::{Formula, Param, Pddl, Scope};
+use sheets::Sheet;
 
 /// Puts a condition behind a space, with its quantifiers over the range written out.
 pub(crate) fn put_written_condition(
@@ -15,6 +16,7 @@ pub(crate) fn put_written_condition(
     formula: &Formula,
     sheet: &mut Sheet<'_>,
 )
+    requires measured { IsMeasured p.now of.written }
     ensures { Wrote (written_text p.now scope.now of formula.now) sheet.old sheet.new }
 {
     match formula {
@@ -34,6 +36,7 @@ fn put_condition_parts(
     parts: &[Formula],
     sheet: &mut Sheet<'_>,
 )
+    requires measured { IsMeasured p.now of.written }
     ensures { Wrote (parts_text p.now scope.now of parts.now) sheet.old sheet.new }
 {
     for part in parts {
@@ -48,6 +51,7 @@ fn put_condition_part(
     whole: &Formula,
     sheet: &mut Sheet<'_>,
 )
+    requires measured { IsMeasured p.now of.written }
     ensures { Wrote (part_text p.now scope.now of whole.now) sheet.old sheet.new }
 {
     match whole {
@@ -68,10 +72,11 @@ fn put_quantified(
     body: &Formula,
     sheet: &mut Sheet<'_>,
 )
+    requires measured { IsMeasured p.now of.written }
     ensures { Wrote (quantified_text p.now scope.now of whole.now params.now body.now)
         sheet.old sheet.new }
 {
-    if is_over(of.range, params) {
+    if is_over(of.written.range, params) {
         put_literal(p, scope, of, whole, body, sheet);
     } else {
         put_formula(p, scope, whole, sheet);
@@ -86,6 +91,7 @@ fn put_literal(
     body: &Formula,
     sheet: &mut Sheet<'_>,
 )
+    requires measured { IsMeasured p.now of.written }
     ensures { Wrote (body_text p.now scope.now of whole.now body.now) sheet.old sheet.new }
 {
     match body {
@@ -103,6 +109,7 @@ fn put_negated_literal(
     part: &Formula,
     sheet: &mut Sheet<'_>,
 )
+    requires measured { IsMeasured p.now of.written }
     ensures { Wrote (negated_text p.now scope.now of whole.now part.now) sheet.old sheet.new }
 {
     match part {

@@ -1,11 +1,12 @@
 ghost use Rattle.pddl_printer.specs.EffectTexts.{written_text, parts_text, part_text, quantified_text, body_text, when_text, add_text};
-ghost use Rattle.pddl_printer.specs.Wrote.{Wrote};
+ghost use Rattle.pddl_printer.specs.Measured.{IsMeasured};
+ghost use Rattle.sheets.specs.Sheets.{Wrote};
 
 use crate::each_object::{Instances, is_over, put_each};
 use crate::effects::put_effect;
 use crate::instances::Literal;
-use crate::sheet::Sheet;
 use plan_model::{Atom, Effect, Formula, Param, Pddl, Scope};
+use sheets::Sheet;
 
 /// Puts an effect behind a space, with its quantifiers over the range written out.
 pub(crate) fn put_written_effect(
@@ -15,6 +16,7 @@ pub(crate) fn put_written_effect(
     whole: &Effect,
     sheet: &mut Sheet<'_>,
 )
+    requires measured { IsMeasured p.now of.written }
     ensures { Wrote (written_text p.now scope.now of whole.now) sheet.old sheet.new }
 {
     match whole {
@@ -34,6 +36,7 @@ fn put_effect_parts(
     parts: &[Effect],
     sheet: &mut Sheet<'_>,
 )
+    requires measured { IsMeasured p.now of.written }
     ensures { Wrote (parts_text p.now scope.now of parts.now) sheet.old sheet.new }
 {
     for part in parts {
@@ -48,6 +51,7 @@ fn put_effect_part(
     whole: &Effect,
     sheet: &mut Sheet<'_>,
 )
+    requires measured { IsMeasured p.now of.written }
     ensures { Wrote (part_text p.now scope.now of whole.now) sheet.old sheet.new }
 {
     match whole {
@@ -68,10 +72,11 @@ fn put_quantified_change(
     body: &Effect,
     sheet: &mut Sheet<'_>,
 )
+    requires measured { IsMeasured p.now of.written }
     ensures { Wrote (quantified_text p.now scope.now of whole.now params.now body.now)
         sheet.old sheet.new }
 {
-    if is_over(of.range, params) {
+    if is_over(of.written.range, params) {
         put_change(p, scope, of, whole, body, sheet);
     } else {
         put_effect(p, scope, whole, sheet);
@@ -86,6 +91,7 @@ fn put_change(
     body: &Effect,
     sheet: &mut Sheet<'_>,
 )
+    requires measured { IsMeasured p.now of.written }
     ensures { Wrote (body_text p.now scope.now of whole.now body.now) sheet.old sheet.new }
 {
     match body {
@@ -106,6 +112,7 @@ fn put_conditional_add(
     change: &Effect,
     sheet: &mut Sheet<'_>,
 )
+    requires measured { IsMeasured p.now of.written }
     ensures { Wrote (when_text p.now scope.now of whole.now condition.now change.now)
         sheet.old sheet.new }
 {
@@ -125,6 +132,7 @@ fn put_add(
     change: &Effect,
     sheet: &mut Sheet<'_>,
 )
+    requires measured { IsMeasured p.now of.written }
     ensures { Wrote (add_text p.now scope.now of whole.now condition.now change.now)
         sheet.old sheet.new }
 {

@@ -2,3 +2,4 @@ pub mod Frames
 pub mod Pieces
 pub mod Made
 pub mod Vocabulary
+pub mod Encodings

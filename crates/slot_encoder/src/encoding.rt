@@ -15,6 +15,7 @@ use crate::initial::encoded_initial;
 use crate::numbers::{numbers_of, plus};
 use crate::objects::encoded_objects;
 use crate::predicates::encoded_predicates;
+use crate::split_action::SplitAction;
 use crate::types::encoded_types;
 use crate::vocabulary::vocabulary;
 use crate::words::{name_of, renamed};
@@ -25,6 +26,47 @@ use plan_model::{
 };
 use printed_sizes::guard_types;
 use std::alloc::Global;
+
+/// The printed problem with so many slots, ready to be taken part by part: `head` has all but the actions, with all words in
+/// its table, and `action` makes one action at a time.
+#[derive(Drop)]
+pub struct Encoding {
+    pub head: Pddl,
+    pub slots: u32,
+    pub style: Style,
+}
+
+impl Encoding {
+    ghost use Rattle.std.specs.Prelude.{slice_index};
+    ghost use Rattle.slot_encoder.specs.Encodings.{IsEncoding, all_actions, whole};
+
+    /// That of a compiled problem. The source's types are few and their parents and unions are listed.
+    pub fn new(alloc: Global, c: &Compiled, slots: u32, style: &Style) -> Result<Encoding, Memory>
+        requires listed { AreListed c.now.hddl.types }
+        ensures encoding { IfOk result (IsEncoding c.now) }
+        ensures slots { IfOk result (λ e. e.slots ≡ slots) }
+        ensures style { IfOk result (λ e. e.style ≡ style.now) }
+    {
+        Err(Memory)
+    }
+
+    /// How many actions there are.
+    pub fn count(&self, c: &Compiled) -> u32
+        requires encoding { IsEncoding c.now self.now }
+        ensures count { result ≡ length (all_actions c.now self.now) }
+    {
+        0
+    }
+
+    /// Action `k`, from 0: those of the methods come first, the top method's before all, then those of the checks, then the source's.
+    pub fn action(&self, alloc: Global, c: &Compiled, k: u32) -> Result<SplitAction, Memory>
+        requires encoding { IsEncoding c.now self.now }
+        requires some { k < length (all_actions c.now self.now) }
+        ensures action { IfOk result (λ a. whole a ≡ slice_index (all_actions c.now self.now) k) }
+    {
+        Err(Memory)
+    }
+}
 
 /// The printed problem with so many slots, with all its words in its table. The source's types are few and their parents
 /// and unions are listed.

@@ -23,6 +23,7 @@ mod predicates;
 mod quantified;
 mod schema_words;
 mod single;
+mod split_action;
 mod splitting;
 mod terms;
 mod types;
@@ -31,5 +32,6 @@ mod vocabulary;
 mod words;
 mod works;
 
-pub use encoding::encode;
+pub use encoding::{Encoding, encode};
 pub use printed_sizes::{Sizes, sizes};
+pub use split_action::SplitAction;

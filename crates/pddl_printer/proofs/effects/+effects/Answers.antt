@@ -6,7 +6,7 @@ use Rattle.plan_texts.specs.SpellsPddl.{pddl_words}
 use Rattle.plan_texts.specs.Printed.{all_parts, applied_part, params_parts, formula_part, effect_part}
 use Rattle.pddl_printer.specs.Behind.{behind}
 use Rattle.pddl_printer.specs.Scopes.{words_in_force, words_within}
-use Rattle.pddl_printer.proofs.Appended.{wrote-as}
+use Rattle.sheets.proofs.Written.{wrote-as}
 use Rattle.pddl_printer.proofs.Each.{each-next, each-done, behind-each}
 use Rattle.pddl_printer.proofs.Groups.{wrote-at, wrote-one, wrote-two, wrote-headed}
 use Rattle.plan_texts.specs.Declared.{Declared}

@@ -3,7 +3,7 @@ use Rattle.plan_texts.specs.SpellsPddl.{pddl_words}
 use Rattle.plan_texts.specs.Printed.{effect_part}
 use Rattle.pddl_printer.specs.Behind.{behind, of_each}
 use Rattle.pddl_printer.specs.Scopes.{words_in_force}
-use Rattle.pddl_printer.specs.Wrote.{Wrote}
+use Rattle.sheets.specs.Sheets.{Wrote}
 use Rattle.pddl_printer.proofs.effects.+effects.Given as goal
 
 abbrev pub invariant-put_effects-loop-effect : goal.invariant-put_effects-loop-effect

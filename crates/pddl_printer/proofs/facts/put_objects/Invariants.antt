@@ -3,7 +3,7 @@ use Rattle.plan_texts.specs.SpellsPddl.{pddl_words}
 use Rattle.plan_texts.specs.Printed.{term_part}
 use Rattle.plan_model.specs.declared.terms.Term.TheVariants.{Obj}
 use Rattle.pddl_printer.specs.Behind.{behind, of_each}
-use Rattle.pddl_printer.specs.Wrote.{Wrote}
+use Rattle.sheets.specs.Sheets.{Wrote}
 use Rattle.pddl_printer.proofs.facts.put_objects.Given as goal
 
 abbrev pub invariant-loop-object : goal.invariant-loop-object

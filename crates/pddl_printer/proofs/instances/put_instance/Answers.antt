@@ -4,7 +4,7 @@ use Rattle.pddl_printer.specs.WrittenOut.{placed_atom}
 use Rattle.pddl_printer.specs.Behind.{behind}
 use Rattle.pddl_printer.specs.Literals.{literal_part}
 use Rattle.pddl_printer.specs.Scopes.{words_in_force}
-use Rattle.pddl_printer.proofs.Appended.{wrote-as, wrote-then}
+use Rattle.sheets.proofs.Written.{wrote-as, wrote-then}
 use Rattle.pddl_printer.proofs.Groups.{wrote-at}
 use Rattle.pddl_printer.proofs.LiteralBytes.{held-bytes, denied-bytes, conditional-bytes}
 use Rattle.pddl_printer.proofs.instances.put_instance.Goals as goal

@@ -3,7 +3,7 @@ use Rattle.plan_texts.specs.Printed.{term_part}
 use Rattle.pddl_printer.specs.WrittenOut.{placed}
 use Rattle.pddl_printer.specs.Behind.{behind}
 use Rattle.pddl_printer.specs.Scopes.{words_in_force}
-use Rattle.pddl_printer.proofs.Appended.{wrote-as}
+use Rattle.sheets.proofs.Written.{wrote-as}
 use Rattle.pddl_printer.proofs.Each.{each-at, each-done, behind-each-made}
 use Rattle.pddl_printer.proofs.instances.put_placed_terms.Goals as goal
 

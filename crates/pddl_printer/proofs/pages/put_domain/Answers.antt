@@ -3,7 +3,7 @@ use Rattle.text_forms.specs.Lists.{joined}
 use Rattle.text_forms.specs.Printing.{lines}
 use Rattle.plan_texts.specs.Declared.{named}
 use Rattle.pddl_printer.specs.Heads.{domain_head}
-use Rattle.pddl_printer.proofs.Appended.{wrote-as}
+use Rattle.sheets.proofs.Written.{wrote-as}
 use Rattle.pddl_printer.proofs.Groups.{wrote-at}
 use Rattle.pddl_printer.proofs.Heads.{wrote-head}
 use Rattle.pddl_printer.proofs.Lines.{wrote-page}

@@ -5,7 +5,7 @@ use Rattle.plan_texts.specs.Declared.{named}
 use Rattle.plan_texts.specs.SpellsPddl.{pddl_words}
 use Rattle.plan_texts.specs.Printed.{all_parts}
 use Rattle.plan_texts.specs.PrintedTexts.{fact_part}
-use Rattle.pddl_printer.proofs.Appended.{wrote-as, wrote-nothing, wrote-then}
+use Rattle.sheets.proofs.Written.{wrote-as, wrote-nothing, wrote-then}
 use Rattle.pddl_printer.proofs.Each.{behind-each}
 use Rattle.pddl_printer.proofs.Groups.{wrote-at}
 use Rattle.pddl_printer.proofs.Lines.{wrote-line, wrote-named-line}

@@ -6,7 +6,7 @@ use Rattle.plan_texts.specs.SpellsPddl.{pddl_words}
 use Rattle.plan_texts.specs.Printed.{params_parts, formula_part, effect_part}
 use Rattle.pddl_printer.specs.InForm.{condition_in, effect_in}
 use Rattle.pddl_printer.specs.Behind.{behind}
-use Rattle.pddl_printer.proofs.Appended.{wrote-as, wrote-then}
+use Rattle.sheets.proofs.Written.{wrote-as, wrote-then}
 use Rattle.pddl_printer.proofs.Groups.{wrote-at, wrote-one}
 use Rattle.pddl_printer.proofs.Lines.{wrote-named}
 use Rattle.pddl_printer.proofs.schemas.put_action.Goals as goal

@@ -2,7 +2,7 @@ use Rattle.plan_texts.specs.SpellsPddl.{pddl_words}
 use Rattle.plan_texts.specs.PrintedTexts.{action_part}
 use Rattle.pddl_printer.specs.InForm.{action_in}
 use Rattle.pddl_printer.specs.Behind.{line}
-use Rattle.pddl_printer.proofs.Appended.{wrote-as}
+use Rattle.sheets.proofs.Written.{wrote-as}
 use Rattle.pddl_printer.proofs.Each.{each-next, each-done, lines-each-made}
 use Rattle.pddl_printer.proofs.schemas.put_actions.Goals as goal
 

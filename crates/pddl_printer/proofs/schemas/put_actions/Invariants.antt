@@ -3,7 +3,7 @@ use Rattle.plan_texts.specs.SpellsPddl.{pddl_words}
 use Rattle.plan_texts.specs.PrintedTexts.{action_part}
 use Rattle.pddl_printer.specs.Behind.{line, of_each}
 use Rattle.pddl_printer.specs.InForm.{action_in}
-use Rattle.pddl_printer.specs.Wrote.{Wrote}
+use Rattle.sheets.specs.Sheets.{Wrote}
 use Rattle.pddl_printer.proofs.schemas.put_actions.Given as goal
 
 abbrev pub invariant-loop-action : goal.invariant-loop-action

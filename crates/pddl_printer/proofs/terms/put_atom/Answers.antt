@@ -6,7 +6,7 @@ use Rattle.plan_texts.specs.SpellsPddl.{pddl_words}
 use Rattle.plan_texts.specs.Printed.{all_parts, term_part}
 use Rattle.plan_model.specs.declared.terms.Term.{Term}
 use Rattle.pddl_printer.specs.Scopes.{words_in_force}
-use Rattle.pddl_printer.proofs.Appended.{wrote-then}
+use Rattle.sheets.proofs.Written.{wrote-then}
 use Rattle.pddl_printer.proofs.Groups.{wrote-at, wrote-headed}
 use Rattle.pddl_printer.proofs.terms.put_atom.Goals as goal
 

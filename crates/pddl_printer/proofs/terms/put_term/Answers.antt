@@ -3,7 +3,7 @@ use Rattle.plan_texts.specs.SpellsPddl.{pddl_words}
 use Rattle.plan_texts.specs.Printed.{term_part}
 use Rattle.pddl_printer.specs.Behind.{behind}
 use Rattle.pddl_printer.specs.Scopes.{words_in_force}
-use Rattle.pddl_printer.proofs.Appended.{wrote-then}
+use Rattle.sheets.proofs.Written.{wrote-then}
 use Rattle.pddl_printer.proofs.Groups.{wrote-at}
 use Rattle.pddl_printer.proofs.terms.put_term.Goals as goal
 

@@ -2,7 +2,7 @@ use Rattle.plan_texts.specs.SpellsPddl.{pddl_words}
 use Rattle.plan_texts.specs.Printed.{term_part}
 use Rattle.pddl_printer.specs.Behind.{behind}
 use Rattle.pddl_printer.specs.Scopes.{words_in_force}
-use Rattle.pddl_printer.proofs.Appended.{wrote-as}
+use Rattle.sheets.proofs.Written.{wrote-as}
 use Rattle.pddl_printer.proofs.Each.{each-at, each-done, behind-each}
 use Rattle.pddl_printer.proofs.terms.put_terms.Goals as goal
 

@@ -4,7 +4,7 @@ use Rattle.text_forms.specs.Printing.{bytes_behind}
 use Rattle.plan_texts.specs.SpellsPddl.{pddl_words}
 use Rattle.plan_texts.specs.Printed.{param_words, params_parts, typed_parts}
 use Rattle.pddl_printer.specs.Behind.{between, typed}
-use Rattle.pddl_printer.proofs.Appended.{wrote-as, wrote-then}
+use Rattle.sheets.proofs.Written.{wrote-as, wrote-then}
 use Rattle.pddl_printer.proofs.Each.{typed-each}
 use Rattle.pddl_printer.proofs.typed_lists.put_between.Goals as goal
 use Rattle.std.proofs.Common.{append_assoc}

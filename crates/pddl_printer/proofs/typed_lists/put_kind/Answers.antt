@@ -3,7 +3,7 @@ use Rattle.text_forms.specs.Words.{word_at}
 use Rattle.text_forms.specs.Printing.{bytes}
 use Rattle.plan_texts.specs.SpellsPddl.{pddl_types}
 use Rattle.plan_texts.specs.Printed.{kind_part}
-use Rattle.pddl_printer.proofs.Appended.{wrote-as}
+use Rattle.sheets.proofs.Written.{wrote-as}
 use Rattle.pddl_printer.proofs.typed_lists.put_kind.Goals as goal
 use Rattle.pddl_printer.proofs.Typed.{kind-none, kind-union}
 

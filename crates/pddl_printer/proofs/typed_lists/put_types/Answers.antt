@@ -2,7 +2,7 @@ use Rattle.text_forms.specs.Lists.{name}
 use Rattle.text_forms.specs.Words.{word_at}
 use Rattle.plan_texts.specs.SpellsPddl.{pddl_types}
 use Rattle.pddl_printer.specs.Behind.{behind}
-use Rattle.pddl_printer.proofs.Appended.{wrote-as, wrote-then}
+use Rattle.sheets.proofs.Written.{wrote-as, wrote-then}
 use Rattle.pddl_printer.proofs.Each.{each-at, each-done, behind-each-made}
 use Rattle.pddl_printer.proofs.typed_lists.put_types.Goals as goal
 

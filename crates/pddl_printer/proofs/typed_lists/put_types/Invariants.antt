@@ -3,7 +3,7 @@ use Rattle.plan_texts.specs.SpellsPddl.{pddl_types}
 use Rattle.text_forms.specs.Lists.{name}
 use Rattle.text_forms.specs.Words.{word_at}
 use Rattle.pddl_printer.specs.Behind.{behind, of_each}
-use Rattle.pddl_printer.specs.Wrote.{Wrote}
+use Rattle.sheets.specs.Sheets.{Wrote}
 use Rattle.pddl_printer.proofs.typed_lists.put_types.Given as goal
 
 abbrev pub invariant-loop-ty : goal.invariant-loop-ty

@@ -1,7 +1,7 @@
 use Rattle.std.proofs.Common.{map}
 use Rattle.text_forms.specs.Words.{word_at}
 use Rattle.plan_texts.specs.SpellsPddl.{pddl_types}
-use Rattle.pddl_printer.proofs.Appended.{wrote-as, wrote-then}
+use Rattle.sheets.proofs.Written.{wrote-as, wrote-then}
 use Rattle.pddl_printer.proofs.typed_lists.put_union.Goals as goal
 use Rattle.std.proofs.Common.{arith}
 use Rattle.std.proofs.lemmas.List.{length-map}

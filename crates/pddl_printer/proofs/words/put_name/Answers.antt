@@ -1,5 +1,5 @@
 use Rattle.std.proofs.Common.{sym}
-use Rattle.pddl_printer.proofs.Appended.{wrote-as, wrote-nothing}
+use Rattle.sheets.proofs.Written.{wrote-as, wrote-nothing}
 use Rattle.pddl_printer.proofs.Places.{word-none}
 use Rattle.pddl_printer.proofs.words.put_name.Goals as goal
 

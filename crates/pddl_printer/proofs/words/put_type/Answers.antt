@@ -1,6 +1,6 @@
 use Rattle.std.proofs.Common.{sym}
 use Rattle.plan_texts.specs.Declared.{named}
-use Rattle.pddl_printer.proofs.Appended.{wrote-as, wrote-nothing}
+use Rattle.sheets.proofs.Written.{wrote-as, wrote-nothing}
 use Rattle.pddl_printer.proofs.Places.{at-none}
 use Rattle.pddl_printer.proofs.words.put_type.Goals as goal
 

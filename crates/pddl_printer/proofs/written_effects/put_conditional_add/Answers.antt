@@ -15,7 +15,7 @@ pub returns-in-Holds : goal.returns-in-Holds
 returns-in-Holds c =
     let v = pddl_words c.args.p.now in
     let s = words_in_force c.args.p.now c.args.scope.now in
-    let r = c.args.of.range in
+    let r = c.args.of.written.range in
     let d = c.args.of.depth in
     wrote-at (λ x. effects_behind v s (conditional_add r d c.args.whole.now x (out-Effect c.args.change.now))) (sym (ap out-Formula c.in-Holds.is ∙ out-Holds c.in-Holds.atom)) c.put_add.ensures
 
@@ -23,6 +23,6 @@ pub returns-in_default : goal.returns-in_default
 returns-in_default c =
     let v = pddl_words c.args.p.now in
     let s = words_in_force c.args.p.now c.args.scope.now in
-    let r = c.args.of.range in
+    let r = c.args.of.written.range in
     let d = c.args.of.depth in
     wrote-at (effects_behind v s) (sym (if-other r d c.args.whole.now (out-Effect c.args.change.now) c.args.condition.now c.in_default.not-Holds)) (wrote-one (effect_part v c.args.whole.now s) c.put_effect.ensures)

@@ -11,7 +11,7 @@ pub returns-then-is_over : goal.returns-then-is_over
 returns-then-is_over c =
     let v = pddl_words c.args.p.now in
     let s = words_in_force c.args.p.now c.args.scope.now in
-    let r = c.args.of.range in
+    let r = c.args.of.written.range in
     let d = c.args.of.depth in
     wrote-at (effects_behind v s) (sym (change-over r d c.args.whole.now c.args.params.now c.args.body.now (sym c.is_over.ensures ∙ c.if-is_over.true))) c.put_change.ensures
 
@@ -19,6 +19,6 @@ pub returns-else-is_over : goal.returns-else-is_over
 returns-else-is_over c =
     let v = pddl_words c.args.p.now in
     let s = words_in_force c.args.p.now c.args.scope.now in
-    let r = c.args.of.range in
+    let r = c.args.of.written.range in
     let d = c.args.of.depth in
     wrote-at (effects_behind v s) (sym (change-not_over r d c.args.whole.now c.args.params.now c.args.body.now (sym c.is_over.ensures ∙ c.if-is_over.false))) (wrote-one (effect_part v c.args.whole.now s) c.put_effect.ensures)

@@ -15,7 +15,7 @@ pub returns-in-And : goal.returns-in-And
 returns-in-And c =
     let v = pddl_words c.args.p.now in
     let s = words_in_force c.args.p.now c.args.scope.now in
-    let r = c.args.of.range in
+    let r = c.args.of.written.range in
     let d = c.args.of.depth in
     let parts = joined (map (effect_parts r d) c.in-And.parts) in
     wrote-at behind (sym (ap (λ e. effect_part v (effect r d e) s) c.in-And.is ∙ ap (λ e. effect_part v e s) (written.effect-And r d c.in-And.parts) ∙ printed.effect-And v parts s))
@@ -25,6 +25,6 @@ pub returns-in_default : goal.returns-in_default
 returns-in_default c =
     let v = pddl_words c.args.p.now in
     let s = words_in_force c.args.p.now c.args.scope.now in
-    let r = c.args.of.range in
+    let r = c.args.of.written.range in
     let d = c.args.of.depth in
     wrote-at (λ e. behind (effect_part v e s)) (sym (effect_of-other r d c.args.whole.now c.args.whole.now c.in_default.not-And)) c.put_effect.ensures

@@ -4,7 +4,7 @@ use Rattle.text_forms.specs.Printing.{bytes_behind}
 use Rattle.plan_texts.specs.SpellsPddl.{pddl_words}
 use Rattle.plan_texts.specs.Printed.{all_parts, term_part}
 use Rattle.plan_model.specs.declared.terms.Term.TheVariants.{Obj}
-use Rattle.pddl_printer.proofs.Appended.{wrote-then}
+use Rattle.sheets.proofs.Written.{wrote-then}
 use Rattle.pddl_printer.proofs.Groups.{wrote-at, wrote-headed}
 use Rattle.pddl_printer.proofs.facts.GroundAtomItem.put.Goals as goal
 

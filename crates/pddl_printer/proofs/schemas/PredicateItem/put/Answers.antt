@@ -2,7 +2,7 @@ use Rattle.text_forms.specs.Printing.{bytes_behind}
 use Rattle.plan_texts.specs.Declared.{named}
 use Rattle.plan_texts.specs.SpellsPddl.{pddl_words}
 use Rattle.plan_texts.specs.Printed.{param_words, params_parts}
-use Rattle.pddl_printer.proofs.Appended.{wrote-as, wrote-then}
+use Rattle.sheets.proofs.Written.{wrote-as, wrote-then}
 use Rattle.pddl_printer.proofs.Each.{typed-each}
 use Rattle.pddl_printer.proofs.Groups.{wrote-at, wrote-headed}
 use Rattle.pddl_printer.proofs.schemas.PredicateItem.put.Goals as goal

@@ -1,4 +1,4 @@
-use Rattle.pddl_printer.proofs.Appended.{wrote-then}
+use Rattle.sheets.proofs.Written.{wrote-then}
 use Rattle.pddl_printer.proofs.typed_lists.ParamItem.put.Goals as goal
 
 pub returns : goal.returns
