@@ -1,2 +1,3 @@
 pub mod Slots
 pub mod ArePrinted
+pub mod Lengths

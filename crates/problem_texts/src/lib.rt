@@ -12,4 +12,4 @@ mod printing;
 mod ranges;
 
 pub use flat_laws::flat_is_written_out;
-pub use printing::{Texts, texts_of};
+pub use printing::{Printed, Sizes, Texts, sizes, texts_of};
