@@ -9,3 +9,10 @@ pub mod SameCycles
 pub mod Headlines
 pub mod Endings
 pub mod examples
+pub mod OneInput
+pub mod OneStage
+pub mod OneProblem
+pub mod OneTranslation
+pub mod OneBound
+pub mod OneValidation
+pub mod OneAnswers

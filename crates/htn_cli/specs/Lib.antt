@@ -11,3 +11,4 @@ pub mod Promise
 pub mod Line
 pub mod Printing
 pub mod Stops
+pub mod OneAnswer

@@ -6,6 +6,7 @@
 mod bounding;
 mod building;
 mod faults;
+mod laws;
 mod manner;
 mod problem;
 mod program;
@@ -20,6 +21,7 @@ mod translation;
 mod validation;
 
 pub use command_words::{Command, command};
+pub use laws::one_answer;
 use outside_io::{DiskFiles, StdSink};
 pub use program::run;
 pub use status::Status;

@@ -3,4 +3,5 @@ pub mod Changes
 pub mod SpelledSound
 pub mod TypeWords
 pub mod SamePlans
+pub mod SameFailures
 pub mod PrintedPlans

@@ -28,7 +28,7 @@ use Rattle.plan_proof.proofs.texts.TypeWords.{InWords, by_words, words-alike}
 use Rattle.plan_proof.proofs.texts.SpelledSound.{spelled-sound}
 
 -- a name of one table is that of the same word in another
-same-name : (ns ms : List Word) (n m : Name) (w : Word) → named ns n ≡ named ms m → is_name (named ms m) ≡ true → slice_get ns n.number ≡ Some w → slice_get ms m.number ≡ Some w
+pub same-name : (ns ms : List Word) (n m : Name) (w : Word) → named ns n ≡ named ms m → is_name (named ms m) ≡ true → slice_get ns n.number ≡ Some w → slice_get ms m.number ≡ Some w
 same-name ns ms n m w e i f = word-get ms m.number (in_range ms m.number i) ∙ ap Some (sym e ∙ get-word ns n.number w f)
 
 module _ (c d : Pddl) (hc : HasSoundWords c) (hd : HasSoundWords d) (alike : AreAlikePddl c d) where
@@ -44,12 +44,12 @@ module _ (c d : Pddl) (hc : HasSoundWords c) (hd : HasSoundWords d) (alike : Are
       (λ x. words-alike d c hd hc (pddl_symmetric c d alike) o _ (e.0 x), λ x. e.1 (words-alike c d hc hd alike o _ x))
 
   module _ (S S' : State) (same : (g : GroundAtom) → S g ↔ S' g) where
-    same-truth : (f f' : Formula) → said v f ≡ said w f' → (values : List ℕ) → IsTrueIn (InTypeOf c) S f values → IsTrueIn (InTypeOf d) S' f' values
+    pub same-truth : (f f' : Formula) → said v f ≡ said w f' → (values : List ℕ) → IsTrueIn (InTypeOf c) S f values → IsTrueIn (InTypeOf d) S' f' values
     same-truth f f' e values x =
         (truth-said w (InTypeOf d) (InWords c) in-words S' S' (λ g. (λ y. y, λ y. y)) f' values).1
         (subst (λ s. TrueSaid (InWords c) S' s values) e ((truth-said v (InTypeOf c) (InWords c) (by_words c hc) S S' same f values).0 x))
 
-    same-typed : (xs ys : List Param) → map (typed v) xs ≡ map (typed w) ys → (os : List ℕ) → AreTyped (InTypeOf c) xs os → AreTyped (InTypeOf d) ys os
+    pub same-typed : (xs ys : List Param) → map (typed v) xs ≡ map (typed w) ys → (os : List ℕ) → AreTyped (InTypeOf c) xs os → AreTyped (InTypeOf d) ys os
     same-typed xs ys e os x =
         (typed-said w (InTypeOf d) (InWords c) in-words S' S' (λ g. (λ y. y, λ y. y)) ys os).1
         (subst (λ s. AreTypedSaid (InWords c) S' s os) e ((typed-said v (InTypeOf c) (InWords c) (by_words c hc) S S' same xs os).0 x))
@@ -76,13 +76,13 @@ module _ (c d : Pddl) (hc : HasSoundWords c) (hd : HasSoundWords d) (alike : Are
       let s = same-at (object_said v) (object_said w) c.objects d.objects o e.0 alike.objects e.1 in
       (s.0, s.1, same-name c.names d.names e.0.name s.0.name u (ap (λ z. z.0) s.2) (each-at-some _ d.objects o s.0 hd.objects_named s.1) e.2)
 
-  same-objects : (os : List ℕ) (us : List Word) → AreObjects c os us → AreObjects d os us
+  pub same-objects : (os : List ℕ) (us : List Word) → AreObjects c os us → AreObjects d os us
   same-objects [] [] e = tt
   same-objects [] (u ∷ us) e = absurd e
   same-objects (o ∷ os) [] e = absurd e
   same-objects (o ∷ os) (u ∷ us) e = (same-object o u e.0, same-objects os us e.1)
 
-  same-leads : (P P' : State → Type 0) → ((S S' : State) → ((g : GroundAtom) → S g ↔ S' g) → P S → P' S') → (ss : List GroundAction) (S S' : State) → ((g : GroundAtom) → S g ↔ S' g) → EndsIn c P S ss → EndsIn d P' S' ss
+  pub same-leads : (P P' : State → Type 0) → ((S S' : State) → ((g : GroundAtom) → S g ↔ S' g) → P S → P' S') → (ss : List GroundAction) (S S' : State) → ((g : GroundAtom) → S g ↔ S' g) → EndsIn c P S ss → EndsIn d P' S' ss
   same-leads P P' goal [] S S' same e = goal S S' same e
   same-leads P P' goal (s ∷ ss) S S' same e =
       let a = e.2 in

@@ -1,0 +1,5 @@
+use Rattle.htn_cli.proofs.OneAnswers.{each_has_one_answer}
+use Rattle.htn_cli.proofs.laws.one_answer.Goals as goal
+
+pub returns : goal.returns
+returns c = each_has_one_answer

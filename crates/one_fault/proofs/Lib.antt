@@ -1,0 +1,14 @@
+mod Alike
+mod Pairs
+mod TermPairs
+mod ListPairs
+mod FormulaPairs
+mod EffectPairs
+mod NetworkPairs
+mod PartPairs
+mod SectionPairs
+mod DefinitionPairs
+mod Lists
+mod Uses
+mod NameFaults
+pub mod OneFault
