@@ -56,13 +56,15 @@ pub comes-word : (text : List ℕ) (from at end : ℕ) → IsFolded text → Goe
 comes-word text from at end lower g le lt e later within ends clean =
     let n = classes-next text at letter false lt (class-letter (get_or text at 0) e) (no-semicolon (get_or text at 0) e) in
     let t : tokens_at text at ≡ token word at end ∷ tokens_at text end = ap (tokens_from None at) n ∙ ends at in
-    let w = range-folded text at end lower in
-    (record {
-      said = says text from at g ∙ ap (λ ts. map symbol (map (lexeme text) ts)) t ∙ ap (λ w. said w ∷ said_at text end) w;
-      clean = g.clean ∙ ap are_good n ∙ clean;
-      later = omega arith;
-      within = within;
-    }, w)
+    let w = range-folded text at end lower in (
+      record {
+        said = says text from at g ∙ ap (λ ts. map symbol (map (lexeme text) ts)) t ∙ ap (λ w. said w ∷ said_at text end) w;
+        clean = g.clean ∙ ap are_good n ∙ clean;
+        later = omega arith;
+        within = within;
+      },
+      w,
+    )
 
 pub bad-byte : (text : List ℕ) (from at : ℕ) (comment : Bool) → GoesOn text from at → at < length text → class_of (get_or text at 0) ≡ bad → (get_or text at 0 == 59) ≡ comment → is_clean_at text from ≡ false
 bad-byte text from at comment g lt e f = g.clean ∙ ap are_good (classes-next text at bad comment lt e f)

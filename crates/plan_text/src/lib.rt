@@ -7,18 +7,18 @@
 #![tactic(auto)]
 
 mod coming;
+mod departing;
 mod laws;
 mod plan;
 mod printing;
 mod reading;
 mod sheet;
 mod step;
-mod steps;
 mod tokens;
 mod words;
 
-pub use plan::{Plan, Steps};
-pub use step::Step;
 pub use laws::{faultless_texts_spell_plans, printed_plans_are_read_back};
+pub use plan::{Plan, Steps};
 pub use printing::print;
 pub use reading::read;
+pub use step::Step;
