@@ -1,5 +1,5 @@
 -- The smallest problem, m: t -> a with t on top, at one slot: a table with all its words, and what is asked of it holds.
-use Rattle.std.proofs.Common.{◌≡◌, List, [], ◌∷◌, ◌++◌, codes, refl, subst, Contains, arith}
+use Rattle.std.proofs.Common.{List, [], ◌∷◌, ◌++◌, codes, refl, subst, Contains, arith}
 use Rattle.text_forms.specs.Words.{Word}
 use Rattle.plan_model.specs.declared.options.Checks.{Checks}
 use Rattle.plan_model.specs.declared.options.Style.{Style}
