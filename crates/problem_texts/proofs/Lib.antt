@@ -1,3 +1,4 @@
-mod Printed
+mod Styles
+mod Splits
 pub mod flat
 pub mod examples

@@ -8,8 +8,11 @@
 #![tactic(auto)]
 
 mod flat_laws;
+mod lengths;
+mod pages;
 mod printing;
 mod ranges;
 
 pub use flat_laws::flat_is_written_out;
-pub use printing::{Printed, Sizes, Texts, sizes, texts_of};
+pub use lengths::Sizes;
+pub use printing::{Printed, Texts, sizes, texts_of};
