@@ -16,9 +16,8 @@ use Rattle.plan_model.specs.declared.schemas.Predicate.{Predicate}
 use Rattle.plan_model.specs.declared.schemas.ActionSchema.{ActionSchema}
 use Rattle.plan_model.specs.declared.terms.GroundAtom.{GroundAtom}
 use Rattle.plan_model.specs.declared.values.Pddl.{Pddl}
-use Rattle.plan_proof.proofs.values.SaidFormulas.{bare, words_of, words-typed}
-use Rattle.plan_proof.proofs.one.SaidParts.{put_params, put, put_done, params-put, formula-put, effect-put}
-use Rattle.plan_proof.specs.OneText.{SayTheSame}
+use Rattle.encoded_texts.proofs.SaidParts.{bare, words_of, words-typed, put_params, put, put_done, params-put, formula-put, effect-put}
+use Rattle.encoded_texts.specs.FullyEncoded.{SayTheSame}
 
 -- what is printed for what is said
 abbrev put_object : Word × Word × Bool → Word × List Word

@@ -34,8 +34,8 @@ use Rattle.slot_encoding.proofs.words.KnownWords.{known_types, known_objects, kn
 use Rattle.slot_encoding.proofs.words.PrintedWords.{printed_words}
 use Rattle.slot_encoding.proofs.words.PredicatePlaces.{printed_predicate, of_slot, of_pair, held_task, held_action, held_check, guarding, first_group, task_group, action_group, check_group, guard_group}
 use Rattle.slot_encoding.proofs.words.TypeWords.{types-named}
-use Rattle.plan_proof.proofs.one.SaidAlike.{together-made, together-join, SameParam, SameFormula, SameEffect, params-same, same-Holds, same-Not, same-Forall, same-Add, same-Delete, same-Each_one, same-When}
-use Rattle.plan_proof.proofs.one.SourceSaid.{word-same, param-same, source_params-same}
+use Rattle.encoded_texts.proofs.SaidAlike.{together-made, together-join, SameParam, SameFormula, SameEffect, params-same, same-Holds, same-Not, same-Forall, same-Add, same-Delete, same-Each_one, same-When}
+use Rattle.encoded_texts.proofs.SourceSaid.{word-same, param-same, source_params-same}
 
 module _ (c : Compiled) (b : ℕ) (names names' : List Word) (has : HasEncodedWords c b names) (has' : HasEncodedWords c b names') where
   abbrev pub v : Declared

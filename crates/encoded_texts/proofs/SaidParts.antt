@@ -17,7 +17,17 @@ use Rattle.plan_model.specs.declared.formulas.Formula.TheOpen.{Formula-F}
 use Rattle.plan_model.specs.declared.effects.Effect.{Effect, roll-Effect}
 use Rattle.plan_model.specs.declared.effects.Effect.TheFolds.{map-Effect, ind-Effect}
 use Rattle.plan_model.specs.declared.effects.Effect.TheOpen.{Effect-F}
-use Rattle.plan_proof.proofs.values.SaidFormulas.{bare, words_of, words-typed}
+
+-- the words of objects and predicates alone
+abbrev pub bare : List Word → List Word → Declared
+bare objects predicates = record { names = []; types = []; unions = []; objects = objects; predicates = predicates }
+
+abbrev pub words_of : List Typed → List Word
+words_of xs = map (λ (x : Typed). x.0) xs
+
+pub words-typed : (v : Declared) (xs : List Param) → map (variable v) xs ≡ words_of (map (typed v) xs)
+words-typed v [] = refl
+words-typed v (x ∷ xs) = ap (λ z. variable v x ∷ z) (words-typed v xs)
 
 -- a variable with its type
 abbrev pub marked : Typed → Word × List Word

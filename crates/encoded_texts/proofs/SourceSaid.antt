@@ -19,7 +19,7 @@ use Rattle.slot_encoding.specs.EncodedNames.{joined}
 use Rattle.slot_encoding.specs.EncodedWords.{param_words, formula_words_step, formula_words, effect_words_step, effect_words}
 use Rattle.slot_encoding.proofs.words.Lists.{each-left, each-right}
 use Rattle.slot_encoding.proofs.words.TableWords.{named-name}
-use Rattle.plan_proof.proofs.one.SaidAlike.{SameParam, params-same}
+use Rattle.encoded_texts.proofs.SaidAlike.{SameParam, params-same}
 
 -- v and w have types in one order; each has its own table of names
 module _ (v w : Declared) (same_kinds : kinds v ≡ kinds w) where

@@ -36,9 +36,9 @@ use Rattle.slot_encoding.proofs.words.Lists.{each-left, each-right}
 use Rattle.slot_encoding.proofs.words.KnownMethods.{IsKnownMethod, of_first}
 use Rattle.slot_encoding.proofs.words.KnownWords.{known_goal, known_methods, known_checks, known_source_actions}
 use Rattle.slot_encoding.proofs.words.PrintedWords.{printed_words}
-use Rattle.plan_proof.proofs.one.SaidAlike.{together-made, together-join, together-cond, SameParam, SameFormula, SameEffect, params-same, same-Holds, same-Equal, same-Not, same-And, same-Add, same-Delete, same-Both}
-use Rattle.plan_proof.proofs.one.SourceSaid.{source_params-same, formula-same, effect-same}
-use Rattle.plan_proof.proofs.one.EncodedParts.{kinds-same, word, slot_h, numbered-same, waits-same, clears-same, copies-same, frees-same}
+use Rattle.encoded_texts.proofs.SaidAlike.{together-made, together-join, together-cond, SameParam, SameFormula, SameEffect, params-same, same-Holds, same-Equal, same-Not, same-And, same-Add, same-Delete, same-Both}
+use Rattle.encoded_texts.proofs.SourceSaid.{source_params-same, formula-same, effect-same}
+use Rattle.encoded_texts.proofs.EncodedParts.{kinds-same, word, slot_h, numbered-same, waits-same, clears-same, copies-same, frees-same}
 
 module _ (c : Compiled) (b : ℕ) (style : Style) (names names' : List Word) (has : HasEncodedWords c b names) (has' : HasEncodedWords c b names') where
   abbrev v : Declared
