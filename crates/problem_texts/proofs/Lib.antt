@@ -1,4 +1,5 @@
+mod Ended
+mod Putting
 mod Styles
-mod Splits
 pub mod flat
 pub mod examples

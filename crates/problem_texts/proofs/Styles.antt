@@ -1,6 +1,6 @@
 -- What is encoded in style adl is encoded in each style, as it is or with the slots written out, and so what is printed of it is printed
 -- of each encoded value in that style.
-use Rattle.std.proofs.Common.{ℕ, ◌≡◌, ◌<◌, ◌≤◌, ◌^◌, List, length, Result, Ok, Err, IfOk, ap, sym, subst, ◌∙◌}
+use Rattle.std.proofs.Common.{ℕ, ◌≡◌, ◌<◌, ◌≤◌, ◌^◌, List, length, Result, Ok, Err, IfOk, refl, ap, sym, subst, ◌∙◌}
 use Rattle.sheets.specs.Sheets.{capped}
 use Rattle.plan_model.specs.declared.options.Style.{Style}
 use Rattle.plan_model.specs.declared.options.Style.TheVariants.{Adl, Flat}
@@ -37,7 +37,7 @@ module _ (c : Compiled) (is : IsCompiledProblem c) (slots : ℕ) (e : Encoding) 
   names-in Flat = refl
 
   module _ (style : Style) where
-    value : Pddl
+    abbrev value : Pddl
     value = encoded_in style c e
 
     words-in : HasEncodedWords c slots value.names

@@ -1,10 +1,9 @@
-ghost use Rattle.std.specs.Prelude.{◌≡◌, ◌<◌, length, slice_index, IfOk, IfSome, OnOk};
+ghost use Rattle.std.specs.Prelude.{◌≡◌, ◌<◌, length, IfOk, IfSome, OnOk};
 ghost use Rattle.plan_texts.specs.PrintedTexts.{domain_text, problem_text};
 ghost use Rattle.pddl_printer.specs.Measured.{IsMeasured, range_of};
-ghost use Rattle.pddl_printer.specs.Texts.{action_text, actions_text};
 ghost use Rattle.sheets.specs.Sheets.{Wrote};
-ghost use Rattle.slot_encoder.specs.Encodings.{IsEncoding, all_actions};
-ghost use Rattle.problem_texts.specs.Pages.{ArePages, IsAppended, encoded_in, printed, range_in};
+ghost use Rattle.slot_encoder.specs.Encodings.{IsEncoding};
+ghost use Rattle.problem_texts.specs.Pages.{ArePages, IsAppended, PutsAction, actions, actions_in, encoded_in, printed, range_in};
 
 use crate::ranges::slots_of;
 use htn_base::{Memory, Text};
@@ -100,8 +99,7 @@ impl Pages<'_> {
 
     fn put_actions(&self, alloc: Global, sheet: &mut Sheet<'_>) -> Result<(), Memory>
         requires pages { ArePages self.now }
-        ensures { OnOk result (Wrote (actions_text self.now.encoding.now.head (range_of self.now.written)
-            (all_actions self.now.compiled.now self.now.encoding.now)) sheet.old sheet.new) }
+        ensures { OnOk result (Wrote (actions_in self.now (actions self.now)) sheet.old sheet.new) }
     {
         for k in 0..self.encoding.count(self.compiled) {
             self.put_action(alloc, k, sheet)?;
@@ -112,9 +110,8 @@ impl Pages<'_> {
     /// Makes action `k`, puts it and lets it go.
     fn put_action(&self, alloc: Global, k: u32, sheet: &mut Sheet<'_>) -> Result<(), Memory>
         requires pages { ArePages self.now }
-        requires some { k < length (all_actions self.now.compiled.now self.now.encoding.now) }
-        ensures { OnOk result (Wrote (action_text self.now.encoding.now.head (range_of self.now.written)
-            (slice_index (all_actions self.now.compiled.now self.now.encoding.now) k)) sheet.old sheet.new) }
+        requires some { k < length (actions self.now) }
+        ensures { OnOk result (PutsAction self.now k sheet.old sheet.new) }
     {
         let action = self.encoding.action(alloc, self.compiled, k)?;
         let split = Split {
