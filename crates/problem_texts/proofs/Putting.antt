@@ -21,7 +21,7 @@ use Rattle.pddl_printer.specs.declared.object_range.Range.{Range}
 use Rattle.pddl_printer.proofs.Each.{each-next, each-done, lines-each-made}
 use Rattle.slot_encoder.specs.Encodings.{whole, with_actions}
 use Rattle.slot_encoder.specs.declared.split_action.SplitAction.{SplitAction}
-use Rattle.problem_texts.specs.Pages.{PutsAction, actions, actions_in, printed}
+use Rattle.problem_texts.specs.Pages.{PutsAction, actions, actions_in, value_of}
 use Rattle.problem_texts.specs.declared.pages.Pages.{Pages}
 
 differ-alike : (vs : List ℕ) → all_differ vs ≡ differ vs
@@ -39,7 +39,7 @@ problem-alike None p actions = refl
 problem-alike (Some r) p actions = refl
 
 module _ (pages : Pages) where
-  pub problem-is : problem_text (value_in (range_of pages.written) pages.encoding.now.head) ≡ problem_text (printed pages)
+  pub problem-is : problem_text (value_in (range_of pages.written) pages.encoding.now.head) ≡ problem_text (value_of pages)
   problem-is = problem-alike (range_of pages.written) pages.encoding.now.head (actions pages)
 
   abbrev line_of : ActionSchema → List ℕ

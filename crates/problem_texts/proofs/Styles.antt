@@ -14,7 +14,7 @@ use Rattle.encoded_texts.proofs.SameTexts.{encoded_texts-same}
 use Rattle.slot_encoder.specs.declared.encoding.Encoding.{Encoding}
 use Rattle.slot_encoder.specs.Encodings.{IsEncoding}
 use Rattle.problem_texts.proofs.flat.Values.{flat_is_written_out}
-use Rattle.problem_texts.specs.declared.lengths.Sizes.{Sizes}
+use Rattle.problem_texts.specs.declared.printing.Sizes.{Sizes}
 use Rattle.problem_texts.specs.declared.printing.Printed.{Printed}
 use Rattle.problem_texts.specs.declared.printing.Printed.TheVariants.{Whole, TooLong}
 use Rattle.problem_texts.specs.ArePrinted.{ArePrinted, IsCompiledProblem}
@@ -25,20 +25,20 @@ module _ (c : Compiled) (is : IsCompiledProblem c) (slots : ℕ) (e : Encoding) 
   encoded-adl : IsEncoded c slots Adl (encoded c e)
   encoded-adl = subst (λ n. IsEncoded c n Adl (encoded c e)) so_many (subst (λ s. IsEncoded c e.slots s (encoded c e)) adl made.encoded)
 
-  encoded-flat : IsEncoded c slots Flat (encoded_in Flat c e)
-  encoded-flat = subst (λ n. IsEncoded c n Flat (encoded_in Flat c e)) so_many (flat_is_written_out is.0 is.1 c e.slots (encoded c e) is.2 (subst (λ s. IsEncoded c e.slots s (encoded c e)) adl made.encoded))
+  encoded-flat : IsEncoded c slots Flat (encoded_in c e Flat)
+  encoded-flat = subst (λ n. IsEncoded c n Flat (encoded_in c e Flat)) so_many (flat_is_written_out is.0 is.1 c e.slots (encoded c e) is.2 (subst (λ s. IsEncoded c e.slots s (encoded c e)) adl made.encoded))
 
-  encoded-in : (style : Style) → IsEncoded c slots style (encoded_in style c e)
+  encoded-in : (style : Style) → IsEncoded c slots style (encoded_in c e style)
   encoded-in Adl = encoded-adl
   encoded-in Flat = encoded-flat
 
-  names-in : (style : Style) → (encoded_in style c e).names ≡ e.head.names
+  names-in : (style : Style) → (encoded_in c e style).names ≡ e.head.names
   names-in Adl = refl
   names-in Flat = refl
 
   module _ (style : Style) where
     abbrev value : Pddl
-    value = encoded_in style c e
+    value = encoded_in c e style
 
     words-in : HasEncodedWords c slots value.names
     words-in = subst (HasEncodedWords c slots) (sym (names-in style)) (subst (λ n. HasEncodedWords c n e.head.names) so_many made.words)

@@ -11,7 +11,7 @@ use Rattle.slot_encoding.specs.EncodedWords.{HasEncodedWords}
 use Rattle.problem_texts.specs.ArePrinted.{ArePrinted}
 use Rattle.problem_texts.specs.declared.printing.Printed.{Printed}
 use Rattle.problem_texts.specs.declared.printing.Printed.TheVariants.{Whole, TooLong}
-use Rattle.problem_texts.specs.declared.lengths.Sizes.{Sizes}
+use Rattle.problem_texts.specs.declared.printing.Sizes.{Sizes}
 
 -- the first of two texts that is longer than the limit; n is its length, as far as 64 bits go
 abbrev pub IsFirstPast : (limit : ℕ) (domain problem : List ℕ) (n : ℕ) → Type 0

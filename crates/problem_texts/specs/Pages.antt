@@ -19,7 +19,7 @@ use Rattle.slot_encoder.specs.Encodings.{IsEncoding, all_actions, with_actions}
 use Rattle.plan_texts.specs.PrintedTexts.{domain_text, problem_text}
 use Rattle.problem_texts.specs.Slots.{slots_of}
 use Rattle.problem_texts.specs.Lengths.{IsFirstPast}
-use Rattle.problem_texts.specs.declared.lengths.Sizes.{Sizes}
+use Rattle.problem_texts.specs.declared.printing.Sizes.{Sizes}
 use Rattle.problem_texts.specs.declared.printing.Printed.{Printed}
 use Rattle.problem_texts.specs.declared.printing.Printed.TheVariants as P
 use Rattle.problem_texts.specs.declared.pages.Pages.{Pages}
@@ -34,12 +34,12 @@ abbrev pub encoded : Compiled → Encoding → Pddl
 encoded c e = with_actions e.head (all_actions c e)
 
 -- the same in this style
-abbrev pub encoded_in : Style → Compiled → Encoding → Pddl
-encoded_in style c e = value_in (range_in c e.slots style) (encoded c e)
+abbrev pub encoded_in : Compiled → Encoding → Style → Pddl
+encoded_in c e style = value_in (range_in c e.slots style) (encoded c e)
 
 -- the value whose texts the pages are
-abbrev pub printed : Pages → Pddl
-printed pages = value_in (range_of pages.written) (encoded pages.compiled.now pages.encoding.now)
+abbrev pub value_of : Pages → Pddl
+value_of pages = value_in (range_of pages.written) (encoded pages.compiled.now pages.encoding.now)
 
 -- the actions, and the lines of some of them
 abbrev pub actions : Pages → List ActionSchema

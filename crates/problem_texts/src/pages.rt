@@ -3,7 +3,7 @@ ghost use Rattle.plan_texts.specs.PrintedTexts.{domain_text, problem_text};
 ghost use Rattle.pddl_printer.specs.Measured.{IsMeasured, range_of};
 ghost use Rattle.sheets.specs.Sheets.{Wrote};
 ghost use Rattle.slot_encoder.specs.Encodings.{IsEncoding};
-ghost use Rattle.problem_texts.specs.Pages.{ArePages, IsAppended, PutsAction, actions, actions_in, encoded_in, printed, range_in};
+ghost use Rattle.problem_texts.specs.Pages.{ArePages, IsAppended, PutsAction, actions, actions_in, encoded_in, range_in, value_of};
 
 use crate::ranges::slots_of;
 use htn_base::{Memory, Text};
@@ -31,8 +31,8 @@ impl<'a> Pages<'a> {
     ) -> Result<Pages<'a>, Memory>
         requires encoding { IsEncoding c.now encoding.now }
         ensures pages { IfOk result ArePages }
-        ensures printed { IfOk result
-            (λ pages. printed pages ≡ encoded_in style.now c.now encoding.now) }
+        ensures value { IfOk result
+            (λ pages. value_of pages ≡ encoded_in c.now encoding.now style.now) }
     {
         let written = written_in(c, encoding, style)?;
         Ok(Pages {
@@ -69,7 +69,7 @@ impl Pages<'_> {
     ) -> Result<Ended, Memory>
         requires pages { ArePages self.now }
         ensures { IfOk result
-            (IsAppended (domain_text (printed self.now)) limit into.old into.new) }
+            (IsAppended (domain_text (value_of self.now)) limit into.old into.new) }
     {
         let mut sheet = Sheet::new(into, limit);
         self.put_domain(alloc, &mut sheet)?;
@@ -80,7 +80,7 @@ impl Pages<'_> {
     pub(crate) fn append_problem(&self, limit: u64, into: &mut Text) -> Result<Ended, Memory>
         requires pages { ArePages self.now }
         ensures { IfOk result
-            (IsAppended (problem_text (printed self.now)) limit into.old into.new) }
+            (IsAppended (problem_text (value_of self.now)) limit into.old into.new) }
     {
         let mut sheet = Sheet::new(into, limit);
         put_problem(&self.encoding.head, self.written, &mut sheet);
@@ -89,7 +89,7 @@ impl Pages<'_> {
 
     fn put_domain(&self, alloc: Global, sheet: &mut Sheet<'_>) -> Result<(), Memory>
         requires pages { ArePages self.now }
-        ensures { OnOk result (Wrote (domain_text (printed self.now)) sheet.old sheet.new) }
+        ensures { OnOk result (Wrote (domain_text (value_of self.now)) sheet.old sheet.new) }
     {
         put_domain_start(&self.encoding.head, sheet);
         self.put_actions(alloc, sheet)?;

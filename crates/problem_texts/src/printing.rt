@@ -1,13 +1,12 @@
-ghost use Rattle.std.specs.Prelude.{ℕ, ◌≡◌, ◌≤◌, IfOk, List, length};
+ghost use Rattle.std.specs.Prelude.{◌≡◌, ◌≤◌, IfOk, length};
 ghost use Rattle.plan_model.specs.Parts.{AreListed};
 ghost use Rattle.plan_texts.specs.PrintedTexts.{domain_text};
 ghost use Rattle.sheets.specs.Sheets.{capped};
 ghost use Rattle.slot_encoder.specs.Encodings.{IsEncoding};
 ghost use Rattle.problem_texts.specs.ArePrinted.{IsCompiledProblem};
-ghost use Rattle.problem_texts.specs.Lengths.{ArePrintedWithin, AreSizesOf};
-ghost use Rattle.problem_texts.specs.Pages.{ArePages, AreLengthsOf, AreTextsWithin, IsAppended, encoded_in, printed as printed_value};
+ghost use Rattle.problem_texts.specs.Lengths.{ArePrintedWithin};
+ghost use Rattle.problem_texts.specs.Pages.{ArePages, AreTextsWithin, encoded_in, value_of};
 
-use crate::lengths::Sizes;
 use crate::pages::Pages;
 use htn_base::{Memory, Text};
 use plan_model::{Compiled, Style};
@@ -31,6 +30,13 @@ pub enum Printed {
     TooLong(u64),
 }
 
+/// The lengths in bytes of the two texts; a length past 2^64 - 1 counts as 2^64 - 1.
+#[derive(Clone, Copy)]
+pub struct Sizes {
+    pub domain: u64,
+    pub problem: u64,
+}
+
 /// The two texts with so many slots, if neither is longer than the limit: what is printed is counted, so a text past the limit is not
 /// kept, and its length is known without it. The problem is one that was compiled; its types are few, and their parents and unions are
 /// listed.
@@ -51,18 +57,6 @@ pub fn texts_of(
     printed
 }
 
-/// The lengths of the two texts with so many slots: the same printing, of which nothing is kept.
-pub fn sizes(alloc: Global, c: &Compiled, slots: u32, style: &Style) -> Result<Sizes, Memory>
-    requires compiled { IsCompiledProblem c.now }
-    requires listed { AreListed c.now.hddl.types }
-    ensures sized { IfOk result (AreSizesOf c.now slots style.now) }
-{
-    let encoding = Encoding::new(alloc, c, slots, &Style::Adl)?;
-    let lengths = lengths_of(alloc, c, &encoding, style);
-    drop(encoding);
-    lengths
-}
-
 fn texts_within(
     alloc: Global,
     c: &Compiled,
@@ -71,7 +65,7 @@ fn texts_within(
     limit: u64,
 ) -> Result<Printed, Memory>
     requires encoding { IsEncoding c.now encoding.now }
-    ensures { IfOk result (AreTextsWithin (encoded_in style.now c.now encoding.now) limit) }
+    ensures { IfOk result (AreTextsWithin (encoded_in c.now encoding.now style.now) limit) }
 {
     let pages = Pages::new(c, encoding, style)?;
     let mut domain = Text::new(alloc);
@@ -88,43 +82,14 @@ fn with_problem(
     limit: u64,
     domain: Text,
 ) -> Result<Printed, Memory>
-    requires domain { domain ≡ domain_text (printed_value pages.now) }
-    requires fits { capped (length (domain_text (printed_value pages.now))) ≤ limit }
     requires pages { ArePages pages.now }
-    ensures { IfOk result (AreTextsWithin (printed_value pages.now) limit) }
+    requires domain { domain ≡ domain_text (value_of pages.now) }
+    requires fits { capped (length (domain_text (value_of pages.now))) ≤ limit }
+    ensures { IfOk result (AreTextsWithin (value_of pages.now) limit) }
 {
     let mut problem = Text::new(alloc);
     match pages.append_problem(limit, &mut problem)? {
         Ended::Whole => Ok(Printed::Whole(Texts { domain, problem })),
         Ended::TooLong(length) => Ok(Printed::TooLong(length)),
-    }
-}
-
-fn lengths_of(
-    alloc: Global,
-    c: &Compiled,
-    encoding: &Encoding,
-    style: &Style,
-) -> Result<Sizes, Memory>
-    requires encoding { IsEncoding c.now encoding.now }
-    ensures { IfOk result (AreLengthsOf (encoded_in style.now c.now encoding.now)) }
-{
-    let pages = Pages::new(c, encoding, style)?;
-    let mut nothing = Text::new(alloc);
-    let domain = pages.append_domain(alloc, 0, &mut nothing)?;
-    let problem = pages.append_problem(0, &mut nothing)?;
-    Ok(Sizes {
-        domain: length_of(domain),
-        problem: length_of(problem),
-    })
-}
-
-/// How many bytes were put within a limit of 0.
-fn length_of(ended: Ended) -> u64
-    ensures { (bytes old new : List ℕ) → IsAppended bytes 0 old new ended → result ≡ capped (length bytes) }
-{
-    match ended {
-        Ended::Whole => 0,
-        Ended::TooLong(length) => length,
     }
 }
