@@ -7,6 +7,7 @@ pub mod Ranges
 pub mod LiteralBytes
 pub mod Heads
 pub mod Forms
+pub mod DomainPages
 pub mod WrittenLiterals
 pub mod OtherConditions
 pub mod OtherEffects

@@ -32,7 +32,7 @@ named-line k n b =
 pub wrote-named : (k n : Word) (ps : Parts) {s t u v w : Sheet} → Wrote (32 ∷ 40 ∷ (k ++ 32 ∷ [])) s t → Wrote n t u → Wrote (bytes_behind ps) u v → Wrote (41 ∷ 10 ∷ []) v w → Wrote (line (headed k (part (name n) ps))) s w
 wrote-named k n ps a b c d = wrote-as (named-line k n (bytes_behind ps)) (wrote-then a (wrote-then b (wrote-then c d)))
 
-page-is : (d k w l z : List ℕ) → (d ++ (40 ∷ (k ++ 32 ∷ []))) ++ (w ++ ((41 ∷ 10 ∷ []) ++ (l ++ z))) ≡ d ++ ((40 ∷ (k ++ ((32 ∷ (w ++ [])) ++ 41 ∷ []))) ++ (10 ∷ (l ++ z)))
+pub page-is : (d k w l z : List ℕ) → (d ++ (40 ∷ (k ++ 32 ∷ []))) ++ (w ++ ((41 ∷ 10 ∷ []) ++ (l ++ z))) ≡ d ++ ((40 ∷ (k ++ ((32 ∷ (w ++ [])) ++ 41 ∷ []))) ++ (10 ∷ (l ++ z)))
 page-is d k w l z =
     let e : (d ++ (40 ∷ (k ++ 32 ∷ []))) ++ (w ++ ((41 ∷ 10 ∷ []) ++ (l ++ z))) ≡ d ++ ((40 ∷ (k ++ ((32 ∷ w) ++ 41 ∷ []))) ++ (10 ∷ (l ++ z))) = simp append_assoc in
     e ∙ ap (λ u. d ++ ((40 ∷ (k ++ ((32 ∷ u) ++ 41 ∷ []))) ++ (10 ∷ (l ++ z)))) (sym (append-nil w))

@@ -1,3 +1,4 @@
+ghost use Rattle.std.specs.Prelude.{◌≡◌, length};
 ghost use Rattle.text_forms.specs.Words.{word_at};
 ghost use Rattle.plan_texts.specs.Declared.{named};
 ghost use Rattle.plan_texts.specs.SpellsPddl.{pddl_types, pddl_words};
@@ -40,5 +41,25 @@ pub(crate) fn put_predicate(p: &Pddl, predicate: u32, sheet: &mut Sheet<'_>)
 {
     if let Some(declared) = p.predicates.get(predicate as usize) {
         put_name(p, declared.name, sheet);
+    }
+}
+
+/// How many bytes the word of a name has; of a number that no word has, none.
+pub(crate) fn name_length(p: &Pddl, name: Name) -> u64
+    ensures { result ≡ length (named p.now.names name) }
+{
+    match p.names.text(name) {
+        Some(word) => word.len() as u64,
+        None => 0,
+    }
+}
+
+/// How many bytes the word of an object has.
+pub(crate) fn object_length(p: &Pddl, object: usize) -> u64
+    ensures { result ≡ length (word_at (pddl_words p.now).objects object) }
+{
+    match p.objects.get(object) {
+        Some(declared) => name_length(p, declared.name),
+        None => 0,
     }
 }
