@@ -8,7 +8,7 @@ use Rattle.form_grammar.specs.Codes.{complete, wrong, ◌followed_by◌}
 use Rattle.form_grammar.specs.Plans.{step, args, step_rows, steps_form}
 use Rattle.form_grammar.specs.Rows.{form}
 use Rattle.form_grammar.specs.Texts.{fault_or, last_word}
-use Rattle.plan_text.specs.Departing.{Tells, StepComes, rest_fault, marked_fault}
+use Rattle.plan_text.specs.Departing.{StepComes, rest_fault, marked_fault}
 use Rattle.plan_text.proofs.Forms.{head-name, head-wrong, arg-name, arg-wrong, mark-form, mark-wrong, no-fault}
 
 -- Names were passed over up to p.

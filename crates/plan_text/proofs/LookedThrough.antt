@@ -1,5 +1,5 @@
 -- A text whose steps were counted in lower case.
-use Rattle.std.proofs.Common.{◌≡◌, ◌∙◌, ℕ, ◌≤◌, Some, None, Option, List, length, refl, sym, ap, subst, arith}
+use Rattle.std.proofs.Common.{◌≡◌, ◌∙◌, ℕ, Some, None, Option, List, length, sym, ap, subst, arith}
 use Rattle.htn_base.specs.Words.{folded}
 use Rattle.htn_base.proofs.TableLemmas.{IsFolded-folded}
 use Rattle.text_forms.specs.Faults.{IsFaultless}

@@ -1,11 +1,11 @@
 -- What stands at a place of a text, byte by byte.
-use Rattle.std.proofs.Common.{◌≡◌, ◌∙◌, ℕ, ◌+◌, ◌-◌, ◌≤◌, ◌<◌, ◌==◌, Bool, true, false, Some, None, Option, List, [], ◌∷◌, ◌++◌, map, drop, length, get_or, refl, sym, ap, ap₂, subst, arith}
+use Rattle.std.proofs.Common.{◌≡◌, ◌∙◌, ℕ, ◌+◌, ◌≤◌, ◌<◌, ◌==◌, Bool, true, false, None, List, [], ◌∷◌, map, drop, length, get_or, refl, ap, ap₂, arith}
 use Rattle.std.specs.List.{slice_range}
 use Rattle.std.proofs.lemmas.List.{at_drop_more, at_drop_all}
-use Rattle.htn_base.specs.Words.{folded, IsFolded}
+use Rattle.htn_base.specs.Words.{IsFolded}
 use Rattle.text_forms.specs.Bytes.{Class, letter, opening, closing, blank, bad, is_letter, class_of, classes_from, are_good}
-use Rattle.text_forms.specs.Tokens.{start, stop, word, token, tokens_from, made, under_way_after, lexeme, lexeme_by, symbol, Symbol, left, right, said}
-use Rattle.sexpr_text.specs.Places.{classes_at, comment_at, tokens_at, comment_tokens_at, EndsWord}
+use Rattle.text_forms.specs.Tokens.{word, token, tokens_from, lexeme, symbol, left, right, said}
+use Rattle.sexpr_text.specs.Places.{classes_at, tokens_at, comment_tokens_at, EndsWord}
 use Rattle.plan_text.specs.Coming.{said_at, is_clean_at, is_comment_clean_at, Comes}
 use Rattle.plan_text.proofs.Lowered.{range-folded, class-letter}
 
