@@ -1,6 +1,6 @@
 -- What a run of a list of ground actions stands on, what it does at a step, and what it answers.
 -- Source: this project's; a plan and a failing step as in plan_meaning.
-use Rattle.std.specs.Prelude.{ℕ, ◌≡◌, ◌<◌, ◌^◌, Bool, MatchBool, MatchOption, List, map, length, Option}
+use Rattle.std.specs.Prelude.{ℕ, ◌≡◌, ◌+◌, ◌<◌, ◌^◌, Bool, MatchBool, MatchOption, List, [], ◌∷◌, ◌++◌, map, length, Contains, Option}
 use Rattle.plan_model.specs.declared.types.Object.{Object}
 use Rattle.plan_model.specs.declared.terms.Param.{Param}
 use Rattle.plan_model.specs.declared.schemas.ActionSchema.{ActionSchema}
@@ -8,7 +8,7 @@ use Rattle.plan_model.specs.declared.steps.GroundAction.{GroundAction}
 use Rattle.plan_model.specs.declared.values.Pddl.{Pddl}
 use Rattle.plan_model.specs.Parts.{AreListed}
 use Rattle.plan_meaning.specs.Truth.{AreTyped, after}
-use Rattle.plan_meaning.specs.ClassicalPlan.{HasWord, AreObjects, InTypeOf, IsApplicable, IsPlan}
+use Rattle.plan_meaning.specs.ClassicalPlan.{HasWord, AreObjects, InTypeOf, IsApplicable, EndsIn, IsPlan}
 use Rattle.plan_meaning.specs.FailingStep.{Cause, unknown_action, arguments, condition, goal_false, IsNamed, NamesAction, FailsIn, Fails, AreNamedApart}
 use Rattle.ground_state.specs.declared.verdict.FailWhy.{FailWhy}
 use Rattle.ground_state.specs.declared.verdict.FailWhy.TheVariants as why
@@ -17,7 +17,8 @@ use Rattle.ground_state.specs.declared.verdict.Verdict.TheVariants as verdict
 use Rattle.ground_state.specs.declared.index.Index.{Index}
 use Rattle.ground_state.specs.declared.places.Places.{Places}
 use Rattle.ground_state.specs.declared.state.State.{State}
-use Rattle.ground_state.specs.Frames.{Frame}
+use Rattle.ground_state.specs.declared.run.Run.{Run}
+use Rattle.ground_state.specs.Frames.{Frame, frame}
 use Rattle.ground_state.specs.States.{atoms, Has}
 use Rattle.ground_state.specs.Kinds.{AreKinds}
 use Rattle.ground_state.specs.Needs.{HasRoomForAll}
@@ -87,3 +88,31 @@ IsTaken p step old new = (a : ActionSchema) × (objects : List ℕ) × IsApplica
 -- it is taken, or it fails for this cause
 abbrev pub IsStepped : Pddl → GroundAction → State → State → Option FailWhy → Type 0
 IsStepped p step old new failed = MatchOption failed (IsTaken p step old new) (λ w. FailsIn p step (cause w) (atoms old))
+
+-- what a run holds beside its state is its problem's
+pub record IsReady (run : Run) : Type 0 where
+  pub runnable : IsRunnable run.p.now
+  pub index : IsIndex run.p.now run.index
+  pub room : HasRoomIn run.p.now (frame run.env)
+
+-- the run is one of the problem, and has taken these steps from the problem's first state on
+pub record HasTaken (p : Pddl) (taken : List GroundAction) (run : Run) : Type 0 where
+  pub problem : run.p.now ≡ p
+  pub ready : IsReady run
+  pub ends : EndsIn p (Has run.state) (Contains p.init) taken
+
+-- each list that goes on with the step behind those taken fails there for this cause
+abbrev pub FailsAt : Pddl → List GroundAction → GroundAction → FailWhy → Type 0
+FailsAt p taken step w = (rest : List GroundAction) → Fails p (taken ++ step ∷ rest) (length taken + 1) (cause w)
+
+-- whatever was taken before: now the step too, or it fails there
+abbrev pub Takes : GroundAction → Run → Run → Option FailWhy → Type 0
+Takes step old new failed = (p : Pddl) (taken : List GroundAction) → HasTaken p taken old → MatchOption failed (HasTaken p (taken ++ step ∷ []) new) (FailsAt p taken step)
+
+-- whatever was taken: it is a plan, or only the goal is false
+abbrev pub Reaches : Run → Bool → Type 0
+Reaches run found = (p : Pddl) (taken : List GroundAction) → HasTaken p taken run → MatchBool found (IsPlan p taken) (Fails p taken (length taken + 1) goal_false)
+
+-- whatever was taken is what is taken
+abbrev pub KeepsTaken : Run → Run → Type 0
+KeepsTaken old new = (p : Pddl) (taken : List GroundAction) → HasTaken p taken old → HasTaken p taken new

@@ -29,7 +29,7 @@ mod truth;
 mod verdict;
 
 pub use env::Env;
-pub use run::run_plan;
+pub use run::{Run, run_plan};
 pub use state::State;
 pub use truth::holds;
 pub use verdict::{FailWhy, Verdict};

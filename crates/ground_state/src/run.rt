@@ -1,4 +1,4 @@
-ghost use Rattle.std.specs.Prelude.{◌≤◌, length, IfOk};
+ghost use Rattle.std.specs.Prelude.{◌≡◌, ◌≤◌, [], length, IfOk, OnOk};
 ghost use Rattle.ground_state.specs.Frames.{frame};
 ghost use Rattle.ground_state.specs.Runs as spec;
 
@@ -12,25 +12,72 @@ use htn_base::{List, Memory};
 use plan_model::{GroundAction, Pddl};
 use std::alloc::Global;
 
-/// Whether the list is a plan of the problem; else the first step that fails, counted from 1, and its first cause. A
-/// step costs what its condition and its effect touch, times the logarithm of the state.
+/// A run of steps over a problem, from its first state on. So a plan can be checked that is read step by step.
+#[derive(Drop)]
+pub struct Run<'p> {
+    p: &'p Pddl,
+    index: Index,
+    env: Env,
+    state: State,
+}
+
+impl<'p> Run<'p> {
+    /// A run that has taken no step yet.
+    pub fn new(alloc: Global, p: &'p Pddl) -> Result<Run<'p>, Memory>
+        requires runnable { spec.IsRunnable p.now }
+        ensures fresh { IfOk result (spec.HasTaken p.now []) }
+    {
+        let index = Index::new(alloc, p)?;
+        let need = Need::of(p)?;
+        let env = Env::new(alloc, &List::new(alloc), need.depth, need.arity)?;
+        let state = State::new(alloc, &p.init)?;
+        Ok(Run {
+            p,
+            index,
+            env,
+            state,
+        })
+    }
+
+    /// Takes the step, or says why it can't be taken.
+    pub fn take(&mut self, alloc: Global, step: &GroundAction) -> Result<Option<FailWhy>, Memory>
+        requires ready { spec.IsReady self.old }
+        ensures taken { IfOk result (spec.Takes step.now self.old self.new) }
+    {
+        take_step(alloc, self.p, &self.index, step, &mut self.env, &mut self.state)
+    }
+
+    /// Whether the goal is true at the end of the steps taken. It takes no memory.
+    pub fn reaches_goal(&mut self) -> bool
+        requires ready { spec.IsReady self.old }
+        ensures goal { spec.Reaches self.old result }
+        ensures kept { spec.KeepsTaken self.old self.new }
+    {
+        self.env.clear();
+        holds(
+            &self.p.goal,
+            &mut self.env,
+            &self.state,
+            &self.p.types,
+            &self.p.objects,
+        )
+    }
+}
+
+/// Whether the list is a plan of the problem; else the first step that fails, counted from 1, and its first cause.
 pub fn run_plan(alloc: Global, p: &Pddl, plan: &[GroundAction]) -> Result<Verdict, Memory>
     requires runnable { spec.IsRunnable p.now }
     requires few { length plan.now ≤ 1000000 }
     ensures verdict { IfOk result (spec.IsVerdict p.now plan.now) }
 {
-    let index = Index::new(alloc, p)?;
-    let need = Need::of(p)?;
-    let mut env = Env::new(alloc, &List::new(alloc), need.depth, need.arity)?;
-    let mut state = State::new(alloc, &p.init)?;
+    let mut run = Run::new(alloc, p)?;
     for (i, step) in plan.iter().enumerate() {
-        if let Some(why) = take_step(alloc, p, &index, step, &mut env, &mut state)? {
+        if let Some(why) = run.take(alloc, step)? {
             let step = i as u32 + 1;
             return Ok(Verdict::Fails { step, why });
         }
     }
-    env.clear();
-    if holds(&p.goal, &mut env, &state, &p.types, &p.objects) {
+    if run.reaches_goal() {
         return Ok(Verdict::Plan);
     }
     Ok(Verdict::Fails {
