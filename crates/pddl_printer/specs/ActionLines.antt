@@ -17,7 +17,8 @@ use Rattle.pddl_printer.specs.InForm.{condition_in, effect_in}
 -- its variables: xs
 module _ (p : Pddl) (xs : List Param) where
   abbrev pub action_start : Name → List ℕ
-  action_start n = codes " (:action " ++ (named p.names n ++ (codes " :parameters" ++ (behind (group (params_parts (pddl_words p) xs)) ++ codes " :precondition")))
+  action_start n =
+      codes " (:action " ++ (named p.names n ++ (codes " :parameters" ++ (behind (group (params_parts (pddl_words p) xs)) ++ codes " :precondition")))
 
   -- with the quantifiers over the range written out, if there is one
   module _ (range : Option Range) where
@@ -25,4 +26,5 @@ module _ (p : Pddl) (xs : List Param) where
     action_condition f = behind (formula_part (pddl_words p) (condition_in range (length xs) f) (map (variable (pddl_words p)) xs))
 
     abbrev pub action_end : Effect → List ℕ
-    action_end e = codes " :effect" ++ (behind (effect_part (pddl_words p) (effect_in range (length xs) e) (map (variable (pddl_words p)) xs)) ++ codes ")\n")
+    action_end e =
+        codes " :effect" ++ (behind (effect_part (pddl_words p) (effect_in range (length xs) e) (map (variable (pddl_words p)) xs)) ++ codes ")\n")
