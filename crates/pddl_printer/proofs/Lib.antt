@@ -5,6 +5,8 @@ pub mod Typed
 pub mod Lines
 pub mod Ranges
 pub mod LiteralBytes
+pub mod LiteralLengths
+pub mod CountedSheets
 pub mod Heads
 pub mod Forms
 pub mod DomainPages

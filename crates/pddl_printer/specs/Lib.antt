@@ -3,6 +3,7 @@ pub mod InForm
 pub mod Scopes
 pub mod Behind
 pub mod Literals
+pub mod Holes
 pub mod Heads
 pub mod Texts
 pub mod Measured

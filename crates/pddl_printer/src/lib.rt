@@ -10,6 +10,7 @@ mod each_object;
 mod effects;
 mod facts;
 mod formulas;
+mod holes;
 mod instances;
 mod items;
 mod object_range;

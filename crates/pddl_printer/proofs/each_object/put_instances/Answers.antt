@@ -5,7 +5,7 @@ use Rattle.pddl_printer.specs.Literals.{literal_part}
 use Rattle.pddl_printer.specs.Scopes.{words_in_force}
 use Rattle.sheets.proofs.Written.{wrote-as}
 use Rattle.pddl_printer.proofs.Ranges.{range-next, range-done}
-use Rattle.pddl_printer.proofs.each_object.put_each.Goals as goal
+use Rattle.pddl_printer.proofs.each_object.put_instances.Goals as goal
 
 pub loop-k-preserved : goal.loop-k-preserved
 loop-k-preserved c =
