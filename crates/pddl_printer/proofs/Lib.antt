@@ -9,6 +9,9 @@ pub mod LiteralLengths
 pub mod CountedSheets
 pub mod Heads
 pub mod Forms
+pub mod ActionLines
+pub mod PairBytes
+pub mod Conjunctions
 pub mod DomainPages
 pub mod WrittenLiterals
 pub mod OtherConditions

@@ -23,7 +23,7 @@ named-headed k w l =
 pub wrote-named-line : (k w : Word) (qs : Parts) {s t u v x : Sheet} → Wrote (32 ∷ 40 ∷ (k ++ 32 ∷ [])) s t → Wrote w t u → Wrote (41 ∷ 10 ∷ []) u v → Wrote (lines qs) v x → Wrote (lines (part (headed k (part (name w) nothing)) qs)) s x
 wrote-named-line k w qs a b c d = wrote-as (named-headed k w (lines qs)) (wrote-then a (wrote-then b (wrote-then c d)))
 
-named-line : (k n b : List ℕ) → (32 ∷ 40 ∷ (k ++ 32 ∷ [])) ++ (n ++ (b ++ (41 ∷ 10 ∷ []))) ≡ (32 ∷ (40 ∷ (k ++ ((32 ∷ (n ++ b)) ++ 41 ∷ [])))) ++ 10 ∷ []
+pub named-line : (k n b : List ℕ) → (32 ∷ 40 ∷ (k ++ 32 ∷ [])) ++ (n ++ (b ++ (41 ∷ 10 ∷ []))) ≡ (32 ∷ (40 ∷ (k ++ ((32 ∷ (n ++ b)) ++ 41 ∷ [])))) ++ 10 ∷ []
 named-line k n b =
     let e : (32 ∷ 40 ∷ (k ++ 32 ∷ [])) ++ (n ++ (b ++ (41 ∷ 10 ∷ []))) ≡ (32 ∷ (40 ∷ (k ++ (32 ∷ (n ++ (b ++ 41 ∷ [])))))) ++ 10 ∷ [] = simp append_assoc in
     e ∙ ap (λ z. (32 ∷ (40 ∷ (k ++ (32 ∷ z)))) ++ 10 ∷ []) (sym (append_assoc n b (41 ∷ [])))

@@ -7,6 +7,7 @@ pub mod Holes
 pub mod Heads
 pub mod Texts
 pub mod Measured
+pub mod ActionLines
 pub mod Splits
 pub mod Pages
 pub mod InstanceTexts

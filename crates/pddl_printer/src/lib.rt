@@ -15,6 +15,7 @@ mod instances;
 mod items;
 mod object_range;
 mod pages;
+mod pairs;
 mod schemas;
 mod splits;
 mod terms;
