@@ -1,5 +1,5 @@
 -- The line of an action from its start, its condition and its end.
-use Rattle.std.proofs.Common.{ℕ, ◌≡◌, List, [], ◌∷◌, ◌++◌, Option, map, length, codes, ap, sym, ◌∙◌, append_assoc}
+use Rattle.std.proofs.Common.{ℕ, ◌≡◌, List, [], ◌++◌, Option, map, length, codes, ap, sym, ◌∙◌, append_assoc}
 use Rattle.std.proofs.lemmas.List.{append-nil}
 use Rattle.text_forms.specs.Lists.{name, group, nothing, part}
 use Rattle.text_forms.specs.Printing.{bytes_behind}

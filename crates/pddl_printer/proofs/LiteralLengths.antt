@@ -1,6 +1,6 @@
 -- How long a literal is with an object in place of its variable: as long as with a thing that has no word, and for each place of the
 -- variable as long as the word.
-use Rattle.std.proofs.Common.{ℕ, zero, suc, ◌≡◌, ◌+◌, ◌*◌, Bool, true, false, cond, List, [], ◌∷◌, ◌++◌, map, length, codes, refl, ap, sym, ◌∙◌, arith}
+use Rattle.std.proofs.Common.{ℕ, ◌≡◌, ◌+◌, ◌*◌, Bool, true, false, cond, List, [], ◌∷◌, ◌++◌, map, length, codes, ap, sym, ◌∙◌, arith}
 use Rattle.std.specs.Prelude.{◌==◌, sum_by}
 use Rattle.std.proofs.lemmas.List.{length-append}
 use Rattle.std.proofs.lemmas.List.Sums.{sum_by-cons}
@@ -17,7 +17,7 @@ use Rattle.pddl_printer.specs.declared.instances.Literal.{Literal}
 use Rattle.pddl_printer.specs.declared.instances.Literal.TheVariants.{Held, Denied, Conditional}
 use Rattle.pddl_printer.specs.WrittenOut.{placed, placed_atom}
 use Rattle.pddl_printer.specs.Behind.{behind}
-use Rattle.pddl_printer.specs.Literals.{atom_part, inside, denied_part, conditional_part, literal_part}
+use Rattle.pddl_printer.specs.Literals.{inside, literal_part}
 use Rattle.pddl_printer.specs.Holes.{is_hole, holes_among, holes}
 use Rattle.pddl_printer.proofs.LiteralBytes.{held-bytes, denied-bytes, conditional-bytes}
 

@@ -1,17 +1,16 @@
 -- That each two of some variables differ: the bytes of one pair, the rows of all, and how long they are.
-use Rattle.std.proofs.Common.{ℕ, zero, suc, ◌≡◌, ◌+◌, ◌-◌, ◌*◌, ◌^◌, ◌<◌, ◌≤◌, inl, inr, List, [], ◌∷◌, ◌++◌, codes, map, length, refl, ap, sym, ◌∙◌, append_assoc, arith}
+use Rattle.std.proofs.Common.{ℕ, zero, suc, ◌≡◌, ◌+◌, ◌-◌, ◌*◌, ◌^◌, List, [], ◌∷◌, ◌++◌, codes, map, length, refl, ap, sym, ◌∙◌, append_assoc, arith}
 use Rattle.std.specs.Prelude.{sum_by, min}
 use Rattle.std.proofs.lemmas.List.{append-nil, length-append}
 use Rattle.std.proofs.lemmas.List.Sums.{sum_by-cons}
 use Rattle.std.proofs.Math.Nat.{suc-mul, mul-suc, mul-add, mul_comm}
 use Rattle.text_forms.specs.Lists.{Part, name, nothing, part}
 use Rattle.text_forms.specs.Words.{Word, word_at}
-use Rattle.text_forms.specs.Printing.{bytes, bytes_behind, headed}
+use Rattle.text_forms.specs.Printing.{bytes, headed}
 use Rattle.task_networks.specs.Spelling.{numbers}
 use Rattle.plan_texts.specs.Declared.{Declared}
-use Rattle.plan_texts.specs.Printed.{all_parts, term_part, formula_part}
+use Rattle.plan_texts.specs.Printed.{formula_part}
 use Rattle.plan_texts.proofs.Equations.{part-Not, part-Equal}
-use Rattle.plan_model.specs.declared.formulas.Formula.{Formula}
 use Rattle.plan_model.specs.declared.formulas.Formula.TheVariants.{Equal}
 use Rattle.plan_model.specs.declared.terms.Term.TheVariants.{Var}
 use Rattle.pddl_printer.specs.Behind.{behind, of_each}

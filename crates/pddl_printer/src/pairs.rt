@@ -44,7 +44,11 @@ fn count_all_differ(p: &Pddl, params: &[Param], first: u32, count: u32, sheet: &
     let letters = letters_of(p, params, first, count);
     let count = u64::from(count);
     let others = count.saturating_sub(1);
-    sheet.skip((count * others).saturating_mul(7).saturating_add(others.saturating_mul(letters)));
+    sheet.skip(
+        (count * others)
+            .saturating_mul(7)
+            .saturating_add(others.saturating_mul(letters)),
+    );
 }
 
 /// How many bytes the words of so many variables have together.

@@ -1,4 +1,4 @@
-use Rattle.std.proofs.Common.{◌≡◌, map, length, ap, sym, ◌∙◌, arith}
+use Rattle.std.proofs.Common.{◌≡◌, map, length, ap, ◌∙◌, arith}
 use Rattle.text_forms.specs.Words.{word_at}
 use Rattle.task_networks.specs.Spelling.{numbers}
 use Rattle.plan_texts.specs.Declared.{variable}

@@ -1,4 +1,4 @@
-use Rattle.std.proofs.Common.{◌≡◌, ◌+◌, map, refl, arith}
+use Rattle.std.proofs.Common.{◌+◌, map, refl, arith}
 use Rattle.task_networks.specs.Spelling.{numbers}
 use Rattle.plan_texts.specs.Declared.{variable}
 use Rattle.plan_texts.specs.SpellsPddl.{pddl_words}

@@ -12,5 +12,5 @@ returns c =
     let range = range_of c.args.written in
     record {
       put = wrote-as (ap (λ xs. action_start p xs a.name ++ (action_condition p xs range a.pre ++ action_end p xs range a.eff)) c.as_slice-params.ensures.items ∙ action-is p range a)
-      (wrote-then c.put_action_start.ensures (wrote-then c.put_condition.ensures c.put_action_end.ensures));
+          (wrote-then c.put_action_start.ensures (wrote-then c.put_condition.ensures c.put_action_end.ensures));
     }
