@@ -1,6 +1,7 @@
 -- Steps of a run: why one fails, and where the steps so far lead.
 use Rattle.std.proofs.Common.{ℕ, ◌≡◌, ◌+◌, ◌<◌, ◌≤◌, ◌↔◌, ◌++◌, inl, inr, Bool, true, false, IsTrue, List, [], ◌∷◌, length, get_or, take, drop, Contains, Option, None, Some, MatchBool, refl, ap, sym, subst, ◌∙◌, true≢false, arith, append_assoc, take-append-drop, length-take-le}
 use Rattle.std.proofs.lemmas.List.{take_more, take_all}
+use Rattle.std.specs.Borrow.{Bor}
 use Rattle.plan_model.specs.declared.terms.GroundAtom.{GroundAtom}
 use Rattle.plan_model.specs.declared.terms.Param.{Param}
 use Rattle.plan_model.specs.declared.schemas.ActionSchema.{ActionSchema}
@@ -20,7 +21,7 @@ use Rattle.ground_state.specs.Frames.{Frame, frame}
 use Rattle.ground_state.specs.Room.{fits, effect_fits, Fits, EffectFits}
 use Rattle.ground_state.specs.Needs.{HasRoomForAll}
 use Rattle.ground_state.specs.States.{atoms, Has}
-use Rattle.ground_state.specs.Runs.{cause, AreArguments, IsRunnable, IsIndex, HasRoomIn, IsAsRoomy, IsTaken, IsStepped, IsReady, HasTaken, FailsAt, Takes, Reaches}
+use Rattle.ground_state.specs.Runs.{cause, texts, words_step, AreArguments, IsRunnable, IsIndex, HasRoomIn, IsAsRoomy, IsTaken, HasTaken, FailsAt, Reaches}
 use Rattle.ground_state.proofs.IndexLaws.{typed_length}
 
 pub same_arguments : (p : Pddl) (ps qs : List Param) (ws vs : List (List ℕ)) (os : List ℕ) → ps ≡ qs → ws ≡ vs → AreArguments p ps ws os → AreArguments p qs vs os
@@ -91,23 +92,30 @@ module _ (p : Pddl) where
   run_goal_fails state taken h n =
       inr (refl, refl, ends_weaker p (Has state) (λ U. IsTrueIn (InTypeOf p) U p.goal [] → ⊥) (λ U u x. n ((same_truth (InTypeOf p) (atoms state) U u p.goal []).1 x)) I taken h)
 
--- what a run does, whatever it has taken
-module _ (old new : Run) (problem : new.p.now ≡ old.p.now) (index : new.index ≡ old.index) (roomy : IsAsRoomy (frame old.env) (frame new.env)) where
-  still_ready : IsReady old → IsReady new
-  still_ready r = record {
-    runnable = subst IsRunnable (sym problem) r.runnable;
-    index = subst (λ q. IsIndex q new.index) (sym problem) (subst (IsIndex old.p.now) (sym index) r.index);
-    room = subst (λ q. HasRoomIn q (frame new.env)) (sym problem) (still_roomy old.p.now (frame old.env) (frame new.env) roomy r.room);
-  }
+-- a step that fails, whatever was taken before
+pub fails : (run : Run) (step : GroundAction) (w : FailWhy) → FailsIn run.p.now step (cause w) (atoms run.state) → (p : Pddl) (taken : List GroundAction) → HasTaken p taken run → FailsAt p taken step w
+fails run step w f p taken h rest = run_fails p run.state taken rest step (cause w) h.ends (subst (λ q. FailsIn q step (cause w) (atoms run.state)) h.problem f)
 
-  pub takes : (step : GroundAction) (failed : Option FailWhy) → IsStepped old.p.now step old.state new.state failed → Takes step old new failed
-  takes step None t p taken h =
-      record { problem = problem ∙ h.problem; ready = still_ready h.ready; ends = run_next p old.state new.state taken step h.ends (subst (λ q. IsTaken q step old.state new.state) h.problem t) }
-  takes step (Some w) f p taken h = λ rest. run_fails p old.state taken rest step (cause w) h.ends (subst (λ q. FailsIn q step (cause w) (atoms old.state)) h.problem f)
+-- and one that is taken
+pub takes : (old new : Run) → new.p.now ≡ old.p.now → new.index ≡ old.index → IsAsRoomy (frame old.env) (frame new.env) → (step : GroundAction) → IsTaken old.p.now step old.state new.state
+    → (p : Pddl) (taken : List GroundAction) → HasTaken p taken old → HasTaken p (taken ++ step ∷ []) new
+takes old new problem index roomy step t p taken h = record {
+  problem = problem ∙ h.problem;
+  ready = record {
+    runnable = subst IsRunnable (sym problem) h.ready.runnable;
+    index = subst (λ q. IsIndex q new.index) (sym problem) (subst (IsIndex old.p.now) (sym index) h.ready.index);
+    room = subst (λ q. HasRoomIn q (frame new.env)) (sym problem) (still_roomy old.p.now (frame old.env) (frame new.env) roomy h.ready.room);
+  };
+  ends = run_next p old.state new.state taken step h.ends (subst (λ q. IsTaken q step old.state new.state) h.problem t);
+}
 
 pub reaches : (run : Run) (found : Bool) → IsTrue found ↔ IsTrueIn (InTypeOf run.p.now) (atoms run.state) run.p.now.goal [] → Reaches run found
 reaches run true t p taken h = run_plan_found p run.state taken h.ends (subst (λ (q : Pddl). IsTrueIn (InTypeOf q) (atoms run.state) q.goal []) h.problem (t.0 refl))
 reaches run false t p taken h = run_goal_fails p run.state taken h.ends (λ x. true≢false (sym (t.1 (subst (λ (q : Pddl). IsTrueIn (InTypeOf q) (atoms run.state) q.goal []) (sym h.problem) x))))
+
+-- the words are those of the step
+pub same_step : (step : GroundAction) (name : List ℕ) (words : List (Bor (List ℕ))) → name ≡ step.name → texts words ≡ step.args → words_step name words ≡ step
+same_step step name words e f = λ i. record { name = e i; args = f i }
 
 -- over a list of steps: one more of them
 module _ (p : Pddl) (steps : List GroundAction) (i : ℕ) (step : GroundAction) (l : i < length steps) (e : step ≡ get_or steps i step) where

@@ -1,6 +1,7 @@
 -- What a run of a list of ground actions stands on, what it does at a step, and what it answers.
 -- Source: this project's; a plan and a failing step as in plan_meaning.
 use Rattle.std.specs.Prelude.{ℕ, ◌≡◌, ◌+◌, ◌<◌, ◌^◌, Bool, MatchBool, MatchOption, List, [], ◌∷◌, ◌++◌, map, length, Contains, Option}
+use Rattle.std.specs.Borrow.{Bor}
 use Rattle.plan_model.specs.declared.types.Object.{Object}
 use Rattle.plan_model.specs.declared.terms.Param.{Param}
 use Rattle.plan_model.specs.declared.schemas.ActionSchema.{ActionSchema}
@@ -62,9 +63,21 @@ HasRoomIn p env = HasRoomForAll p env.room env.arity
 abbrev pub IsAsRoomy : Frame → Frame → Type 0
 IsAsRoomy old new = (new.room ≡ old.room) × (new.arity ≡ old.arity)
 
+-- words that are read in place
+abbrev pub texts : List (Bor (List ℕ)) → List (List ℕ)
+texts words = map (λ (w : Bor (List ℕ)). w.now) words
+
+-- the step of these words
+abbrev pub words_step : List ℕ → List (Bor (List ℕ)) → GroundAction
+words_step name args = record { name = name; args = texts args }
+
 -- the action that the step names, or that it names none
 abbrev pub IsTheAction : Pddl → GroundAction → Option ActionSchema → Type 0
 IsTheAction p step found = MatchOption found (NamesAction p step → ⊥) (IsNamed p step)
+
+-- the same of each step with the name
+abbrev pub HasTheName : Pddl → List ℕ → Option ActionSchema → Type 0
+HasTheName p name found = (args : List (List ℕ)) → IsTheAction p (record { name = name; args = args }) found
 
 -- the object has the word, and is in the type
 abbrev pub IsArgument : Pddl → List ℕ → ℕ → ℕ → Type 0
@@ -84,10 +97,6 @@ IsFilled p params words found env = MatchBool found (AreArguments p params words
 -- the step is taken from the old state to the new one
 abbrev pub IsTaken : Pddl → GroundAction → State → State → Type 0
 IsTaken p step old new = (a : ActionSchema) × (objects : List ℕ) × IsApplicable p (atoms old) step a objects × Has new (after (InTypeOf p) (atoms old) a.eff objects)
-
--- it is taken, or it fails for this cause
-abbrev pub IsStepped : Pddl → GroundAction → State → State → Option FailWhy → Type 0
-IsStepped p step old new failed = MatchOption failed (IsTaken p step old new) (λ w. FailsIn p step (cause w) (atoms old))
 
 -- what a run holds beside its state is its problem's
 pub record IsReady (run : Run) : Type 0 where

@@ -8,7 +8,7 @@ use crate::need::Need;
 use crate::state::State;
 use crate::truth::holds;
 use crate::verdict::{FailWhy, Verdict};
-use htn_base::{List, Memory};
+use htn_base::{List, Memory, Text};
 use plan_model::{GroundAction, Pddl};
 use std::alloc::Global;
 
@@ -39,12 +39,30 @@ impl<'p> Run<'p> {
         })
     }
 
-    /// Takes the step, or says why it can't be taken.
-    pub fn take(&mut self, alloc: Global, step: &GroundAction) -> Result<Option<FailWhy>, Memory>
+    /// Takes the step of these words, or says why it can't be taken.
+    pub fn take(
+        &mut self,
+        alloc: Global,
+        name: &[u8],
+        args: &[&[u8]],
+    ) -> Result<Option<FailWhy>, Memory>
         requires ready { spec.IsReady self.old }
-        ensures taken { IfOk result (spec.Takes step.now self.old self.new) }
+        ensures taken { IfOk result (spec.Takes (spec.words_step name.now args.now) self.old self.new) }
     {
-        take_step(alloc, self.p, &self.index, step, &mut self.env, &mut self.state)
+        let Some(action) = self.index.action(self.p, name) else {
+            return Ok(Some(FailWhy::UnknownAction));
+        };
+        let params = action.params.as_slice();
+        if !self.index.fill(self.p, params, args, &mut self.env) {
+            return Ok(Some(FailWhy::Arguments));
+        }
+        let (types, objects) = (&self.p.types, &self.p.objects);
+        if !holds(&action.pre, &mut self.env, &self.state, types, objects) {
+            return Ok(Some(FailWhy::Condition));
+        }
+        self.state
+            .apply(alloc, types, objects, &action.eff, &mut self.env)?;
+        Ok(None)
     }
 
     /// Whether the goal is true at the end of the steps taken. It takes no memory.
@@ -71,8 +89,10 @@ pub fn run_plan(alloc: Global, p: &Pddl, plan: &[GroundAction]) -> Result<Verdic
     ensures verdict { IfOk result (spec.IsVerdict p.now plan.now) }
 {
     let mut run = Run::new(alloc, p)?;
+    let mut args = Vec::new(alloc);
     for (i, step) in plan.iter().enumerate() {
-        if let Some(why) = run.take(alloc, step)? {
+        write(step.args.as_slice(), &mut args)?;
+        if let Some(why) = run.take(alloc, step.name.as_slice(), args.as_slice())? {
             let step = i as u32 + 1;
             return Ok(Verdict::Fails { step, why });
         }
@@ -86,30 +106,13 @@ pub fn run_plan(alloc: Global, p: &Pddl, plan: &[GroundAction]) -> Result<Verdic
     })
 }
 
-/// Takes the step, or says why it can't be taken.
-fn take_step(
-    alloc: Global,
-    p: &Pddl,
-    index: &Index,
-    step: &GroundAction,
-    env: &mut Env,
-    state: &mut State,
-) -> Result<Option<FailWhy>, Memory>
-    requires runnable { spec.IsRunnable p.now }
-    requires index { spec.IsIndex p.now index.now }
-    requires room { spec.HasRoomIn p.now (frame env.old) }
-    ensures stepped { IfOk result (spec.IsStepped p.now step.now state.old state.new) }
-    ensures room { spec.IsAsRoomy (frame env.old) (frame env.new) }
+/// Writes down where the words stand, in place of what was written there.
+fn write<'p>(words: &'p [Text], into: &mut Vec<&'p [u8]>) -> Result<(), Memory>
+    ensures { OnOk result (spec.texts into.new.items ≡ words.now) }
 {
-    let Some(action) = index.action(p, step) else {
-        return Ok(Some(FailWhy::UnknownAction));
-    };
-    if !index.fill(p, action.params.as_slice(), step.args.as_slice(), env) {
-        return Ok(Some(FailWhy::Arguments));
+    into.clear();
+    for word in words {
+        into.push(word.as_slice())?;
     }
-    if !holds(&action.pre, env, state, &p.types, &p.objects) {
-        return Ok(Some(FailWhy::Condition));
-    }
-    state.apply(alloc, &p.types, &p.objects, &action.eff, env)?;
-    Ok(None)
+    Ok(())
 }
