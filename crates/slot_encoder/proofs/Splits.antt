@@ -61,7 +61,3 @@ module _ (f : Frame) (i : ℕ) (plan : MethodPlan) where
 pub same_action : (n n' : Name) (ps ps' : List Param) (f f' : Formula) (e e' : Effect) → n ≡ n' → ps ≡ ps' → f ≡ f' → e ≡ e'
     → ◌≡◌ {A = ActionSchema} (record { name = n; params = ps; pre = f; eff = e }) (record { name = n'; params = ps'; pre = f'; eff = e' })
 same_action n n' ps ps' f f' e e' a b c d = λ i. record { name = a i; params = b i; pre = c i; eff = d i }
-
--- a work has no new slots, so its condition is all that stands before
-pub work_pre-is : (before parts : List Formula) → before ≡ parts → before ++ (spec.differ (numbers 1 0) ++ []) ≡ parts
-work_pre-is before parts e = append-nil before ∙ e
