@@ -1,8 +1,8 @@
 use Rattle.std.proofs.Common.{rules, ◌+◌, sym, ◌∙◌, arith}
 use Rattle.htn_base.specs.Words.{folded}
 use Rattle.text_forms.specs.Placed.{parts_at}
-use Rattle.plan_text.proofs.StepByStep.{comes-list, comes-marked}
-use Rattle.plan_text.proofs.steps.next_step.Goals as goal
+use Rattle.plan_text.proofs.FormByForm.{comes-list, comes-marked}
+use Rattle.plan_text.proofs.departing.next_list.Goals as goal
 
 pub returns-in-List : goal.returns-in-List
 returns-in-List c =
