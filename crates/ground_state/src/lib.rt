@@ -17,6 +17,7 @@ mod env;
 mod gather;
 mod index;
 mod kinds;
+mod literals;
 mod marks;
 mod need;
 mod notes;

@@ -1,5 +1,5 @@
 -- The domain text of a value in either form: its start, the lines of its actions, and its end.
-use Rattle.std.proofs.Common.{ℕ, ◌≡◌, List, [], ◌∷◌, ◌++◌, Option, codes, ap, sym, ◌∙◌, append_assoc}
+use Rattle.std.proofs.Common.{ℕ, ◌≡◌, List, ◌++◌, Option, codes, ap, sym, ◌∙◌, append_assoc}
 use Rattle.text_forms.specs.Lists.{joined}
 use Rattle.text_forms.specs.Printing.{lines}
 use Rattle.plan_texts.specs.Declared.{named}

@@ -36,7 +36,7 @@ pub behind-made : {X : Type 0} (g : X → Part) (h : ℕ → X) (f : ℕ → Par
 behind-made g h f e [] = refl
 behind-made g h f e (n ∷ ns) = ap (λ p. behind p ++ bytes_behind (all_parts (map f ns))) (e n) ∙ ap (λ z. behind (g (h n)) ++ z) (behind-made g h f e ns)
 
-behind-append : {Y : Type 0} (g : Y → Part) (xs ys : List Y) → bytes_behind (all_parts (map g (xs ++ ys))) ≡ bytes_behind (all_parts (map g xs)) ++ bytes_behind (all_parts (map g ys))
+pub behind-append : {Y : Type 0} (g : Y → Part) (xs ys : List Y) → bytes_behind (all_parts (map g (xs ++ ys))) ≡ bytes_behind (all_parts (map g xs)) ++ bytes_behind (all_parts (map g ys))
 behind-append g [] ys = refl
 behind-append g (x ∷ xs) ys = ap (λ z. behind (g x) ++ z) (behind-append g xs ys) ∙ sym (append_assoc (behind (g x)) (bytes_behind (all_parts (map g xs))) (bytes_behind (all_parts (map g ys))))
 

@@ -1,9 +1,9 @@
 -- What stands on a text when all was put on a sheet over it.
-use Rattle.std.proofs.Common.{ℕ, ◌≡◌, ◌^◌, ◌<◌, ◌≤◌, List, length, Result, Ok, Err, IfOk, inl, refl, subst, ◌∙◌, arith}
+use Rattle.std.proofs.Common.{ℕ, ◌≡◌, ◌^◌, ◌<◌, List, Result, Ok, Err, IfOk, inl, refl, subst, ◌∙◌, arith}
 use Rattle.htn_base.specs.declared.memory.Memory.{Memory}
 use Rattle.plan_texts.specs.PrintedTexts.{domain_text, problem_text}
 use Rattle.plan_model.specs.declared.values.Pddl.{Pddl}
-use Rattle.sheets.specs.Sheets.{Wrote, IsFresh, EndsAs, capped}
+use Rattle.sheets.specs.Sheets.{Wrote, IsFresh, EndsAs}
 use Rattle.sheets.specs.declared.sheet.Sheet.{Sheet}
 use Rattle.sheets.specs.declared.sheet.Ended.{Ended}
 use Rattle.sheets.specs.declared.sheet.Ended.TheVariants.{Whole, TooLong}

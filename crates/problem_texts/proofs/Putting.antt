@@ -1,5 +1,5 @@
 -- What is put of the actions one after another, and of the domain.
-use Rattle.std.proofs.Common.{ℕ, ◌≡◌, ◌<◌, ◌+◌, Option, None, Some, List, [], ◌∷◌, ◌++◌, map, length, take, get_or, slice_get, refl, ap, sym, ◌∙◌}
+use Rattle.std.proofs.Common.{ℕ, ◌≡◌, ◌<◌, ◌+◌, Option, None, Some, List, [], ◌∷◌, ◌++◌, map, length, take, refl, ap, sym}
 use Rattle.std.proofs.lemmas.Option.{get_or_from_slice_get}
 use Rattle.plan_model.specs.declared.terms.Param.{Param}
 use Rattle.plan_model.specs.declared.formulas.Formula.{Formula}
@@ -18,7 +18,7 @@ use Rattle.pddl_printer.specs.InForm.{action_in, value_in}
 use Rattle.pddl_printer.specs.Measured.{range_of}
 use Rattle.pddl_printer.specs.Splits.{unequal, all_differ}
 use Rattle.pddl_printer.specs.declared.object_range.Range.{Range}
-use Rattle.pddl_printer.proofs.Each.{each-next, each-done, lines-each-made}
+use Rattle.pddl_printer.proofs.Each.{each-next, lines-each-made}
 use Rattle.slot_encoder.specs.Encodings.{whole, with_actions}
 use Rattle.slot_encoder.specs.declared.split_action.SplitAction.{SplitAction}
 use Rattle.problem_texts.specs.Pages.{PutsAction, actions, actions_in, value_of}
