@@ -1,4 +1,4 @@
-ghost use Rattle.std.specs.Prelude.{◌≡◌, ◌++◌, true, false, OnOk, OnErr, IfSome};
+ghost use Rattle.std.specs.Prelude.{◌≡◌, ◌++◌, OnOk, OnErr, IfSome};
 ghost use Rattle.plan_texts.specs.PrintedTexts.{domain_text, problem_text};
 ghost use Rattle.plan_texts.specs.PrintableValue.{IsPrintable};
 ghost use Rattle.plan_texts.specs.SpellsPddl.{SpellsPddl};
@@ -12,7 +12,7 @@ use crate::pages::{put_domain, put_problem};
 use crate::written::Written;
 use htn_base::{Memory, Text};
 use plan_model::Pddl;
-use sheets::{Ended, Sheet};
+use sheets::Sheet;
 
 /// Appends the domain text of the value, a line for each section.
 pub fn print_domain(p: &Pddl, into: &mut Text) -> Result<(), Memory>
@@ -62,7 +62,7 @@ fn domain_in_form(p: &Pddl, written: Option<Written>, into: &mut Text) -> Result
 {
     let mut sheet = Sheet::new(into, u64::MAX);
     put_domain(p, written, &mut sheet);
-    all_of(&sheet)
+    sheet.complete()
 }
 
 /// The same with the problem text.
@@ -75,16 +75,5 @@ fn problem_in_form(p: &Pddl, written: Option<Written>, into: &mut Text) -> Resul
 {
     let mut sheet = Sheet::new(into, u64::MAX);
     put_problem(p, written, &mut sheet);
-    all_of(&sheet)
-}
-
-/// Whether the text took all that was put: it has no limit, so only memory may have been wanting.
-fn all_of(sheet: &Sheet<'_>) -> Result<(), Memory>
-    ensures whole { OnOk result (sheet.now.whole ≡ true) }
-    ensures wanting { OnErr result (sheet.now.whole ≡ false) }
-{
-    match sheet.answer()? {
-        Ended::Whole => Ok(()),
-        Ended::TooLong(_) => Err(Memory),
-    }
+    sheet.complete()
 }

@@ -1,4 +1,3 @@
-pub mod Appended
 pub mod NextSteps
 pub mod Listed
 pub mod Counted

@@ -3,5 +3,4 @@ pub mod Departing
 pub mod Coming
 pub mod Lowered
 pub mod Laws
-pub mod Wrote
 pub mod Printing

@@ -14,7 +14,6 @@ mod laws;
 mod plan;
 mod printing;
 mod reading;
-mod sheet;
 mod step;
 mod tokens;
 mod words;
