@@ -8,54 +8,47 @@ copy=$(mktemp -d)
 trap 'rm -rf "$copy"' EXIT
 tar -C "$top" --exclude=out -c crates crates.txt HANDLES | tar -C "$copy" -x
 cd "$copy/crates/printed_rows"
-rm -rf src/rows.rt src/running.rt proofs/rows proofs/running stdout must-fail
+rm -rf src/bounds.rt src/cases.rt src/ready.rt specs proofs/ready proofs/Readiness.antt stdout must-fail
+echo -n >proofs/Lib.antt
 cat >src/main.rt <<'E2'
-//! Makes the two texts of the problem in `d.hddl` and `p.hddl` in style flat, with so many slots as its argument says, and prints how
-//! many bytes they have.
+//! Makes the two texts of the problem in `many.d.hddl` and `many.p.hddl` in style flat, with so many slots as its argument says, and
+//! prints how many bytes they have.
 #![tactic(auto)]
 
 ghost use Rattle.plan_model.specs.Parts.{AreListed};
 ghost use Rattle.problem_texts.specs.ArePrinted.{IsCompiledProblem};
 
-mod checks;
-mod reader;
+mod rows;
+mod running;
 
-use crate::checks::compiled;
-use crate::reader::hddl;
+use crate::running::{Failure, compiled_source, source_of};
 use htn_base::Memory;
-use outside_io::{DiskFiles, Files};
+use outside_io::DiskFiles;
 use plan_model::{Checks, Compiled, Style};
-use problem_texts::texts_of;
-use slot_encoder::sizes;
+use problem_texts::{Printed, texts_of};
 use std::alloc::Global;
 use std::{env, io};
 
-/// More bytes than a text has.
-const LIMIT: u64 = 65536;
+/// The greatest length of a printed text, in bytes.
+const LONGEST: u64 = 268_435_456;
 
-/// The bytes of the two texts of a compiled problem.
-fn bytes_of(alloc: Global, compiled: &Compiled, slots: u32) -> Result<usize, Memory>
+/// The bytes of the two texts of a compiled problem; of texts that are too long, those of the first such.
+fn bytes_of(alloc: Global, compiled: &Compiled, slots: u32) -> Result<u64, Memory>
     requires listed { AreListed compiled.now.hddl.types }
     requires compiled { IsCompiledProblem compiled.now }
 {
-    let sizes = sizes(alloc, compiled, slots, &Style::Flat)?;
-    let texts = texts_of(alloc, compiled, slots, &Style::Flat, &sizes)?;
-    Ok(texts.domain.len().saturating_add(texts.problem.len()))
-}
-
-/// Those of two HDDL texts, if they are a problem.
-fn printed(alloc: Global, domain: &[u8], problem: &[u8], slots: u32) -> Option<usize> {
-    let read = hddl(alloc, domain, problem).ok()??;
-    match compiled(alloc, read, Checks::Leaf) {
-        Ok(Some(compiled)) => bytes_of(alloc, &compiled, slots).ok(),
-        _ => None,
+    match texts_of(alloc, compiled, slots, &Style::Flat, LONGEST)? {
+        Printed::Whole(texts) => {
+            Ok((texts.domain.len() as u64).saturating_add(texts.problem.len() as u64))
+        }
+        Printed::TooLong(length) => Ok(length),
     }
 }
 
-fn read(alloc: Global, files: &mut DiskFiles, slots: u32) -> Option<usize> {
-    let domain = files.get(alloc, "d.hddl", LIMIT).ok()?;
-    let problem = files.get(alloc, "p.hddl", LIMIT).ok()?;
-    printed(alloc, domain.as_slice(), problem.as_slice(), slots)
+fn printed(alloc: Global, files: &mut DiskFiles, slots: u32) -> Result<u64, Failure> {
+    let source = source_of(alloc, files, "many", "many")?;
+    let compiled = compiled_source(alloc, &source, Checks::Leaf)?;
+    Ok(bytes_of(alloc, &compiled, slots)?)
 }
 
 fn slots(rt: HostRuntime) -> io::Result<u32> {
@@ -69,14 +62,14 @@ fn slots(rt: HostRuntime) -> io::Result<u32> {
 fn main(rt: HostRuntime) -> io::Result<()> {
     let slots = slots(rt)?;
     let mut files = DiskFiles::new(rt);
-    match read(rt.alloc(), &mut files, slots) {
-        Some(bytes) => println!(rt; "{bytes} bytes"),
-        None => println!(rt; "not printed"),
+    match printed(rt.alloc(), &mut files, slots) {
+        Ok(bytes) => println!(rt; "{bytes} bytes"),
+        Err(failure) => println!(rt; "{failure:?}"),
     }
 }
 E2
 rt run >"$copy/log" 2>&1 || { cat "$copy/log"; exit 1; }
-cp data/transport.d.hddl d.hddl
+cp data/transport.d.hddl many.d.hddl
 problem() {
     python3 - "$1" <<'E3'
 import sys
@@ -90,7 +83,7 @@ print(f"  {' '.join(f'(at {p} l0)' for p in packages)}))")
 E3
 }
 for packages in 3 103; do
-    problem "$packages" >p.hddl
+    problem "$packages" >many.p.hddl
     for slots in 100 4096 32768; do
         /usr/bin/time -f '%e s, %M KB' -o "$copy/spent" ./out/printed_rows "$slots" >"$copy/told"
         echo "$packages packages, $slots slots: $(cat "$copy/told"), $(cat "$copy/spent")"

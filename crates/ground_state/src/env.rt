@@ -1,4 +1,5 @@
 ghost use Rattle.std.specs.Prelude.{ℕ, ◌≡◌, ◌≤◌, ◌<◌, length, IfOk, OnOk};
+ghost use Rattle.std.specs.Bool.{OnTrue};
 ghost use Rattle.plan_meaning.specs.Truth.{value_of, values_of};
 ghost use Rattle.ground_state.specs.Frames.{Frame, frame, pushed, cleared};
 ghost use Rattle.ground_state.specs.Numbers.{number_of};
@@ -78,6 +79,13 @@ impl Env {
         Ok(())
     }
 
+    /// Whether there is room for as many arguments as there are terms.
+    pub(crate) fn has_room(&self, terms: &[Term]) -> bool
+        ensures { OnTrue result (length terms.now ≤ (frame self.now).arity) }
+    {
+        terms.len() <= self.args.capacity()
+    }
+
     /// Fills in the arguments that the terms stand for.
     pub(crate) fn fill(&mut self, terms: &[Term])
         requires { length terms.now ≤ (frame self.old).arity }
@@ -92,6 +100,7 @@ impl Env {
     }
 
     /// The number of the objects that the terms stand for.
+    #[inline(always)]
     pub(crate) fn number(&self, terms: &[Term], numbers: Numbers) -> Option<usize>
         ensures { result ≡ number_of numbers (values_of (frame self.now).objects terms.now) }
     {

@@ -1,44 +1,35 @@
--- What is printed of a compiled problem whose sizes are known.
-use Rattle.std.proofs.Common.{ℕ, ◌≡◌, ◌<◌, ◌≤◌, ◌^◌, length, inl, inr, ap, ◌∙◌, arith}
+-- What is printed of a compiled problem, where neither text is too long, or one is.
+use Rattle.std.proofs.Common.{ℕ, ◌<◌, ◌≤◌, ◌^◌, List, length, inl, inr, ap, ◌∙◌, arith}
 use Rattle.plan_model.specs.declared.values.Hddl.{Hddl}
 use Rattle.plan_model.specs.declared.values.Compiled.{Compiled}
-use Rattle.plan_model.specs.declared.values.Pddl.{Pddl}
 use Rattle.plan_texts.specs.PrintedTexts.{domain_text, problem_text}
 use Rattle.plan_texts.specs.SoundProblem.{IsSoundProblem}
 use Rattle.plan_texts.proofs.SoundProblems.{few_unions}
 use Rattle.plan_meaning.specs.Compilation.{IsCompiled}
-use Rattle.slot_encoding.specs.EncodedValue.{IsEncoded}
-use Rattle.slot_encoding.specs.EncodedWords.{HasEncodedWords}
+use Rattle.sheets.specs.Sheets.{capped}
 use Rattle.slot_encoding.proofs.existence.Encoded.{has_encoded_value}
-use Rattle.printed_sizes.specs.declared.lengths.Sizes.{Sizes}
-use Rattle.printed_sizes.specs.AreSizes.{AreSizesOf}
-use Rattle.printed_sizes.specs.Capped.{capped}
+use Rattle.problem_texts.specs.declared.printing.Printed.TheVariants.{TooLong}
+use Rattle.problem_texts.specs.Lengths.{IsFirstPast, ArePrintedWithin}
 use Rattle.htn_cli.specs.Texts.{Texts, longest, IsFirstTooLong, AreTranslated, AreTooLong}
-use Rattle.htn_cli.specs.Printing.{IsFirstPast, AreWhole}
+use Rattle.htn_cli.specs.Printing.{AreWhole}
 use Rattle.htn_cli.specs.declared.manner.Manner.{Manner}
 
--- the texts of a value whose sizes are known
-module _ (compiled : Compiled) (manner : Manner) (sizes : Sizes) (sized : AreSizesOf compiled manner.slots manner.style sizes) where
-  module _ (value : Pddl) (encoded : IsEncoded compiled manner.slots manner.style value) (words : HasEncodedWords compiled manner.slots value.names) where
-    domain_size : sizes.domain ≡ capped (length (domain_text value))
-    domain_size = (sized value encoded words).0
+-- a length that is told as far as 64 bits go is past the limit exactly where the whole length is
+short : (n : ℕ) → capped n ≤ longest → n ≤ longest
+short n few = omega (arith, few)
 
-    problem_size : sizes.problem ≡ capped (length (problem_text value))
-    problem_size = (sized value encoded words).1
+long : (n : ℕ) → longest < capped n → longest < n
+long n past = omega (arith, past)
 
-    domain_fits : sizes.domain ≤ longest → length (domain_text value) ≤ longest
-    domain_fits few = let e = domain_size in omega (arith, e, few)
+-- the first text past the limit is the first that is too long
+module _ (compiled : Compiled) (manner : Manner) where
+  first_too_long : (domain problem : List ℕ) (n : ℕ) → IsFirstPast compiled manner.slots manner.style longest domain problem n → IsFirstTooLong domain problem n
+  first_too_long domain problem n (inl (past, is)) = inl (long (length domain) past, is)
+  first_too_long domain problem n (inr (few, past, is)) = inr (short (length domain) few, long (length problem) past, is)
 
-    problem_fits : sizes.problem ≤ longest → length (problem_text value) ≤ longest
-    problem_fits few = let e = problem_size in omega (arith, e, few)
-
-    too_long : (n : ℕ) → IsFirstPast sizes n → IsFirstTooLong (domain_text value) (problem_text value) n
-    too_long n (inl (past, is)) = let e = domain_size in inl (omega (arith, e, past), is ∙ e)
-    too_long n (inr (few, past, is)) = let e = problem_size in inr (domain_fits few, omega (arith, e, past), is ∙ e)
-
-  -- the first that is too great is that of the first text that is too long
-  pub past_is_long : (n : ℕ) → IsFirstPast sizes n → AreTooLong compiled manner n
-  past_is_long n past = record { encoded = has_encoded_value compiled manner.slots manner.style; too_long = λ value encoded words. too_long value encoded words n past }
+  pub past_is_long : (n : ℕ) → ArePrintedWithin compiled manner.slots manner.style longest (TooLong n) → AreTooLong compiled manner n
+  past_is_long n past =
+      record { encoded = has_encoded_value compiled manner.slots manner.style; too_long = λ value encoded words. first_too_long (domain_text value) (problem_text value) n (past value encoded words) }
 
 -- the texts of a sound problem
 pub translated : (read : Hddl) (compiled : Compiled) (manner : Manner) (texts : Texts) → IsSoundProblem read → IsCompiled read manner.checks compiled → 1 ≤ manner.slots → AreWhole compiled manner texts

@@ -1,4 +1,5 @@
--- The line of a refusal in three parts.
+-- A line in three parts, of a refusal or of what was done.
+-- Source: this project's.
 use Rattle.std.specs.Prelude.{ℕ, List, ◌++◌, decimal}
 use Rattle.htn_cli.specs.declared.refusal.Line.{Line}
 use Rattle.htn_cli.specs.declared.refusal.Middle.{Middle}

@@ -41,7 +41,7 @@ pub enum Refusal<'a> {
     NoMemory,
 }
 
-/// The line of a refusal in three parts.
+/// A line in three parts: of a refusal, or of what was done.
 #[derive(Clone, Copy)]
 pub(crate) struct Line<'a> {
     pub(crate) before: &'static str,

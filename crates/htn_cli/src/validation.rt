@@ -4,26 +4,25 @@ ghost use Rattle.command_words.specs.Words as words;
 ghost use Rattle.form_spellings.specs.SoundPddl.{IsSoundClassical};
 ghost use Rattle.htn_cli.specs.Ending.{Achieves};
 ghost use Rattle.htn_cli.specs.Inputs.{longest_input};
-ghost use Rattle.htn_cli.specs.Left.{Leaves, valid_line};
-ghost use Rattle.htn_cli.specs.Sent.{TakesWhole};
-ghost use Rattle.htn_cli.specs.Stops.{GivesPlan, IsConfirmedFor, IsFewPlan, StopsFor, StopsPlan, StopsPrint, StopsSteps, StopsTextsOf};
+ghost use Rattle.htn_cli.specs.Left.{Leaves};
+ghost use Rattle.htn_cli.specs.Stops.{GivesPlan, IsConfirmedFor, StopsFor, StopsPlan, StopsTextsOf};
 ghost use Rattle.htn_cli.specs.Validation.{AreConfirmed, IsLeastOfThree, validation_inputs};
 
 use crate::faults::{Place, limit_of};
 use crate::problem::read;
-use crate::refusal::Refusal;
-use crate::sending::send;
+use crate::refusal::{Line, Middle, Refusal};
+use crate::telling::print;
 use command_words::Validation;
-use ground_state::{Verdict, run_plan};
 use htn_base::Fault;
-use outside_io::{Files, Sink, WriteError};
+use outside_io::{Files, Sink};
 use pddl_values::pddl_of;
-use plan_model::{GroundAction, Pddl};
+use plan_check::{Checked, check};
+use plan_model::Pddl;
 use sexpr_text::ReadError;
 use std::alloc::Global;
 
 /// The greatest number of steps of a plan.
-const MOST_STEPS: usize = 1_000_000;
+const MOST_STEPS: u32 = 1_000_000;
 
 /// The number of the plan's file among the three that are read.
 const PLAN_FILE: u8 = 2;
@@ -42,7 +41,12 @@ pub(crate) fn validate<'a, F: Files, O: Sink>(
         (F.state files.old) (F.state files.new) (O.state out.old) (O.state out.new)) }
 {
     confirm(alloc, asked, files)?;
-    print(out)
+    let line = Line {
+        before: "valid\n",
+        middle: Middle::Words(b""),
+        after: "",
+    };
+    print(out, &line)
 }
 
 /// Whether the three files hold two PDDL texts and a plan of them.
@@ -108,30 +112,12 @@ fn confirm_plan<'a>(
     ensures refused { IfErr result
         (StopsFor (validation_inputs (words.validation_of asked.now)) value.now plan.now) }
 {
-    match plan_text::read(alloc, plan, PLAN_FILE) {
-        Ok(steps) => {
-            let confirmed = confirm_steps(alloc, value, steps.as_slice());
-            drop(steps);
-            confirmed
-        }
+    match check(alloc, value, plan, PLAN_FILE, MOST_STEPS) {
+        Ok(Checked::Plan) => Ok(()),
+        Ok(Checked::TooMany(count)) => Err(Refusal::StepsLimit(count)),
+        Ok(Checked::Fails { step, why }) => Err(Refusal::NotAPlan(step, why)),
         Err(ReadError::Bad(fault)) => Err(refusal_for(fault, asked)),
         Err(ReadError::Memory) => Err(Refusal::NoMemory),
-    }
-}
-
-/// Whether the steps are a plan of the value.
-fn confirm_steps<'a>(alloc: Global, value: &Pddl, steps: &[GroundAction]) -> Result<(), Refusal<'a>>
-    requires sound { IsSoundClassical value.now }
-    ensures plan { OnOk result (IsFewPlan value.now steps.now) }
-    ensures refused { IfErr result (StopsSteps value.now steps.now) }
-{
-    if steps.len() > MOST_STEPS {
-        return Err(Refusal::StepsLimit(steps.len()));
-    }
-    match run_plan(alloc, value, steps) {
-        Ok(Verdict::Plan) => Ok(()),
-        Ok(Verdict::Fails { step, why }) => Err(Refusal::NotAPlan(step, why)),
-        Err(_) => Err(Refusal::NoMemory),
     }
 }
 
@@ -161,16 +147,5 @@ fn name_of<'a>(file: u8, asked: &Validation<'a>) -> &'a str
         0 => asked.pd,
         1 => asked.pp,
         _ => asked.plan,
-    }
-}
-
-fn print<'a, O: Sink>(out: &mut O) -> Result<(), Refusal<'a>>
-    ensures written { OnOk result (Seen O.state (TakesWhole valid_line) out.old out.new) }
-    ensures refused { IfErr result (Seen O.state (StopsPrint valid_line) out.old out.new) }
-{
-    match send(out, b"valid\n") {
-        Ok(()) => Ok(()),
-        Err(WriteError::Failed) => Err(Refusal::CannotWriteOutput),
-        Err(WriteError::Memory) => Err(Refusal::NoMemory),
     }
 }

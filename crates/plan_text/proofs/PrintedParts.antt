@@ -6,9 +6,9 @@ use Rattle.text_forms.specs.Words.{Word}
 use Rattle.plan_model.specs.declared.steps.GroundAction.{GroundAction}
 use Rattle.plan_texts.specs.PlanText.{step_part, plan_text}
 use Rattle.plan_text.specs.Printing.{args_text, line_text}
-use Rattle.plan_text.specs.Wrote.{Wrote}
-use Rattle.plan_text.specs.declared.sheet.Sheet.{Sheet}
-use Rattle.plan_text.proofs.Appended.{wrote-as, wrote-then}
+use Rattle.sheets.specs.Sheets.{Wrote}
+use Rattle.sheets.specs.declared.sheet.Sheet.{Sheet}
+use Rattle.sheets.proofs.Written.{wrote-as, wrote-then}
 
 args-push : (ws : List Word) (w : Word) → args_text (ws ++ w ∷ []) ≡ args_text ws ++ 32 ∷ w
 args-push [] w = ap (λ z. 32 ∷ z) (append-nil w)

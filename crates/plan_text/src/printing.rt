@@ -1,11 +1,11 @@
 ghost use Rattle.std.specs.Prelude.{◌≡◌, ◌++◌, OnOk, OnErr};
 ghost use Rattle.plan_texts.specs.PlanText.{plan_text, ArePrintableSteps, SpellsPlan};
 ghost use Rattle.plan_text.specs.Printing.{args_text, line_text};
-ghost use Rattle.plan_text.specs.Wrote.{Wrote, AppendsPrefix};
+ghost use Rattle.sheets.specs.Sheets.{Wrote, AppendsPrefix};
 
-use crate::sheet::Sheet;
 use htn_base::{Memory, Text};
 use plan_model::GroundAction;
+use sheets::Sheet;
 
 // Puts arguments, each behind a space.
 fn put_args(args: &[Text], sheet: &mut Sheet<'_>)
@@ -43,7 +43,7 @@ pub fn print(plan: &[GroundAction], into: &mut Text) -> Result<(), Memory>
     ensures prefix { OnErr result (AppendsPrefix (plan_text plan.now) into.old into.new) }
     ensures spelled { ArePrintableSteps plan.now → SpellsPlan (plan_text plan.now) plan.now }
 {
-    let mut sheet = Sheet { into, whole: true };
+    let mut sheet = Sheet::new(into, u64::MAX);
     put_steps(plan, &mut sheet);
-    sheet.answer()
+    sheet.complete()
 }

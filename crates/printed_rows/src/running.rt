@@ -11,14 +11,17 @@ use method_precs::compile;
 use outside_io::{DiskFiles, Files, GetError};
 use pddl_printer::{print_domain, print_problem};
 use plan_model::{Checks, Compiled, Hddl, Style};
-use problem_texts::{Texts, texts_of};
+use problem_texts::{Printed, Sizes, Texts, sizes, texts_of};
 use sexpr_text::ReadError;
-use slot_encoder::{Sizes, encode, sizes};
+use slot_encoder::encode;
 use std::alloc::{AllocError, Global};
 use std::io::{self, Write};
 
 /// More bytes than a text of `data/` has.
 const LIMIT: u64 = 65536;
+
+/// More bytes than a printed text of a row has.
+const MOST_PRINTED: u64 = 65536;
 
 /// The most bytes that are read.
 const MOST_BYTES: usize = 16_777_216;
@@ -30,8 +33,10 @@ pub enum Failure {
     File,
     /// The texts have a fault.
     Form,
-    /// The two ways to print don't give the same texts.
+    /// The two ways to print don't give the same texts, or their lengths are not those that are said.
     Difference,
+    /// A printed text is too long.
+    Length,
     Memory,
     /// Standard output took no more.
     Output,
@@ -110,7 +115,8 @@ fn print_styles(
     Ok(())
 }
 
-/// The two texts, as the program prints them, and the same as those that are printed of the printed problem's value.
+/// The two texts, as the program prints them, and the same as those that are printed of the printed problem's value. The domain's length
+/// is told where the text is too long.
 fn printed(
     alloc: Global,
     source: &Source,
@@ -119,17 +125,18 @@ fn printed(
     checks: Checks,
 ) -> Result<Texts, Failure> {
     let compiled = compiled_source(alloc, source, checks)?;
-    let texts = texts_in_room(alloc, &compiled, slots, style)?;
+    let texts = texts_as_long(alloc, &compiled, slots, style)?;
+    let told = is_told(alloc, &compiled, slots, style, texts.domain.len() as u64)?;
     let whole = texts_of_value(alloc, &compiled, slots, style)?;
-    if are_same(&texts, &whole) {
+    if told && are_same(&texts, &whole) {
         Ok(texts)
     } else {
         Err(Failure::Difference)
     }
 }
 
-/// The two texts, which are as long as is said before.
-fn texts_in_room(
+/// The two texts, which are as long as is said of them.
+fn texts_as_long(
     alloc: Global,
     compiled: &Compiled,
     slots: u32,
@@ -139,11 +146,32 @@ fn texts_in_room(
     requires compiled { IsCompiledProblem compiled.now }
 {
     let sizes = sizes(alloc, compiled, slots, &style)?;
-    let texts = texts_of(alloc, compiled, slots, &style, &sizes)?;
-    if are_as_long(&texts, &sizes) {
-        Ok(texts)
-    } else {
-        Err(Failure::Difference)
+    match texts_of(alloc, compiled, slots, &style, MOST_PRINTED)? {
+        Printed::Whole(texts) => {
+            if are_as_long(&texts, &sizes) {
+                Ok(texts)
+            } else {
+                Err(Failure::Difference)
+            }
+        }
+        Printed::TooLong(_) => Err(Failure::Length),
+    }
+}
+
+/// Whether a domain text of this length is told by it where the limit is one byte less.
+fn is_told(
+    alloc: Global,
+    compiled: &Compiled,
+    slots: u32,
+    style: Style,
+    length: u64,
+) -> Result<bool, Memory>
+    requires listed { AreListed compiled.now.hddl.types }
+    requires compiled { IsCompiledProblem compiled.now }
+{
+    match texts_of(alloc, compiled, slots, &style, length.saturating_sub(1))? {
+        Printed::Whole(_) => Ok(false),
+        Printed::TooLong(told) => Ok(told == length),
     }
 }
 

@@ -1,4 +1,4 @@
-ghost use Rattle.std.specs.Prelude.{◌≡◌, true, false};
+ghost use Rattle.std.specs.Prelude.{◌≡◌, true, false, OnOk, OnErr};
 ghost use Rattle.sheets.specs.Sheets.{EndsAs, IsFresh};
 
 use htn_base::{Memory, Text};
@@ -85,6 +85,14 @@ impl Sheet<'_> {
         ensures counted { Counts bytes self.old self.new }
     {
         self.count = self.count.saturating_add(bytes);
+    }
+
+    /// Whether the text has all that was put. Where the limit is 2^64 - 1, only memory may have been wanting.
+    pub fn complete(&self) -> Result<(), Memory>
+        ensures whole { OnOk result (self.now.whole ≡ true) }
+        ensures wanting { OnErr result (self.now.whole ≡ false) }
+    {
+        if self.whole { Ok(()) } else { Err(Memory) }
     }
 
     /// What stands on the text, or want of memory.

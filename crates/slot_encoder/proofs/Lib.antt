@@ -1,7 +1,12 @@
 pub mod Appended
 pub mod Numbered
+pub mod CheckedMethods
+pub mod ActionPlaces
+pub mod GuardTypes
 pub mod GuardAtoms
 pub mod Splits
+pub mod KeptNumbers
+pub mod SeenAtoms
 pub mod SingleAtoms
 pub mod PredicateParts
 pub mod FoldedWords

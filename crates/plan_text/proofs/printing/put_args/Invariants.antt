@@ -1,6 +1,6 @@
 use Rattle.std.proofs.Common.{take}
 use Rattle.plan_text.specs.Printing.{args_text}
-use Rattle.plan_text.specs.Wrote.{Wrote}
+use Rattle.sheets.specs.Sheets.{Wrote}
 use Rattle.plan_text.proofs.printing.put_args.Given as goal
 
 abbrev pub invariant-loop-arg : goal.invariant-loop-arg

@@ -1,6 +1,6 @@
 use Rattle.std.proofs.Common.{ap}
 use Rattle.plan_text.specs.Printing.{line_text}
-use Rattle.plan_text.proofs.Appended.{wrote-as}
+use Rattle.sheets.proofs.Written.{wrote-as}
 use Rattle.plan_text.proofs.PrintedParts.{steps-next, steps-done}
 use Rattle.plan_text.proofs.printing.put_steps.Goals as goal
 

@@ -1,6 +1,6 @@
 use Rattle.std.proofs.Common.{take}
 use Rattle.plan_texts.specs.PlanText.{plan_text}
-use Rattle.plan_text.specs.Wrote.{Wrote}
+use Rattle.sheets.specs.Sheets.{Wrote}
 use Rattle.plan_text.proofs.printing.put_steps.Given as goal
 
 abbrev pub invariant-loop-step : goal.invariant-loop-step
