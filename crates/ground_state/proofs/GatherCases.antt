@@ -42,7 +42,7 @@ gathers-then P Q R old mid new s h k g = (
   ]),
 )
 
-one-push : {X : Type 0} (k : X → List ℕ → Type 0) (xs : List X) (x : X) (v : List ℕ) → OneTrue k (xs ++ x ∷ []) v ↔ (OneTrue k xs v ⊎ k x v)
+pub one-push : {X : Type 0} (k : X → List ℕ → Type 0) (xs : List X) (x : X) (v : List ℕ) → OneTrue k (xs ++ x ∷ []) v ↔ (OneTrue k xs v ⊎ k x v)
 one-push k [] x v = (λ o. elim o [ inl y ↦ inr y | inr y ↦ absurd y ], λ o. elim o [ inl y ↦ absurd y | inr y ↦ inl y ])
 one-push k (y ∷ xs) x v =
     let r = one-push k xs x v in (
@@ -65,19 +65,19 @@ module _ (InType : ℕ → ℕ → Type 0) (S : State) where
     deletes-as : (e d : Effect) (P : List ℕ → State) → e ≡ d → Deletes InType S d ≡ P → Deletes InType S e v ≡ P v
     deletes-as e d P q p = ap (λ x. Deletes InType S x v) q ∙ ap (λ (k : List ℕ → State). k v) p
 
-    touches-Add : (adds : Bool) (e : Effect) (a : Atom) → e ≡ E.Add a → adds ≡ true → (g : GroundAtom) → (g ≡ ground v a) ↔ Touches InType S adds e v g
+    pub touches-Add : (adds : Bool) (e : Effect) (a : Atom) → e ≡ E.Add a → adds ≡ true → (g : GroundAtom) → (g ≡ ground v a) ↔ Touches InType S adds e v g
     touches-Add true e a q t g = is-same (Adds InType S e v) (λ g. g ≡ ground v a) (adds-as e (E.Add a) _ q (adds-Add InType S a)) g
     touches-Add false e a q t g = absurd (true≢false (sym t))
 
-    touches-Add-not : (adds : Bool) (e : Effect) (a : Atom) → e ≡ E.Add a → adds ≡ false → (g : GroundAtom) → Touches InType S adds e v g → ⊥
+    pub touches-Add-not : (adds : Bool) (e : Effect) (a : Atom) → e ≡ E.Add a → adds ≡ false → (g : GroundAtom) → Touches InType S adds e v g → ⊥
     touches-Add-not true e a q t g = absurd (true≢false t)
     touches-Add-not false e a q t g = (is-same (Deletes InType S e v) (λ g. ⊥) (deletes-as e (E.Add a) _ q (deletes-Add InType S a)) g).1
 
-    touches-Delete : (adds : Bool) (e : Effect) (a : Atom) → e ≡ E.Delete a → adds ≡ false → (g : GroundAtom) → (g ≡ ground v a) ↔ Touches InType S adds e v g
+    pub touches-Delete : (adds : Bool) (e : Effect) (a : Atom) → e ≡ E.Delete a → adds ≡ false → (g : GroundAtom) → (g ≡ ground v a) ↔ Touches InType S adds e v g
     touches-Delete true e a q t g = absurd (true≢false t)
     touches-Delete false e a q t g = is-same (Deletes InType S e v) (λ g. g ≡ ground v a) (deletes-as e (E.Delete a) _ q (deletes-Delete InType S a)) g
 
-    touches-Delete-not : (adds : Bool) (e : Effect) (a : Atom) → e ≡ E.Delete a → adds ≡ true → (g : GroundAtom) → Touches InType S adds e v g → ⊥
+    pub touches-Delete-not : (adds : Bool) (e : Effect) (a : Atom) → e ≡ E.Delete a → adds ≡ true → (g : GroundAtom) → Touches InType S adds e v g → ⊥
     touches-Delete-not true e a q t g = (is-same (Adds InType S e v) (λ g. ⊥) (adds-as e (E.Delete a) _ q (adds-Delete InType S a)) g).1
     touches-Delete-not false e a q t g = absurd (true≢false (sym t))
 

@@ -8,6 +8,7 @@ pub mod NumberLaws
 pub mod StateLaws
 pub mod EffectSizes
 pub mod GatherCases
+pub mod LiteralLaws
 pub mod KindLaws
 pub mod NeedLaws
 pub mod PlaceLaws

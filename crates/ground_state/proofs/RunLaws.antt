@@ -1,6 +1,7 @@
 -- Steps of a run: why one fails, and where the steps so far lead.
-use Rattle.std.proofs.Common.{ℕ, ◌≡◌, ◌+◌, ◌<◌, ◌≤◌, ◌↔◌, ◌++◌, inl, inr, List, [], ◌∷◌, length, get_or, take, drop, Contains, refl, ap, sym, subst, ◌∙◌, arith, append_assoc, take-append-drop, length-take-le}
+use Rattle.std.proofs.Common.{ℕ, ◌≡◌, ◌+◌, ◌<◌, ◌≤◌, ◌↔◌, ◌++◌, inl, inr, Bool, true, false, IsTrue, List, [], ◌∷◌, length, get_or, take, drop, Contains, Option, None, Some, MatchBool, refl, ap, sym, subst, ◌∙◌, true≢false, arith, append_assoc, take-append-drop, length-take-le}
 use Rattle.std.proofs.lemmas.List.{take_more, take_all}
+use Rattle.std.specs.Borrow.{Bor}
 use Rattle.plan_model.specs.declared.terms.GroundAtom.{GroundAtom}
 use Rattle.plan_model.specs.declared.terms.Param.{Param}
 use Rattle.plan_model.specs.declared.schemas.ActionSchema.{ActionSchema}
@@ -12,12 +13,15 @@ use Rattle.plan_meaning.specs.ClassicalPlan.{InTypeOf, IsApplicable, EndsIn, IsP
 use Rattle.plan_meaning.specs.FailingStep.{Cause, unknown_action, arguments, condition, goal_false, IsNamed, IsInstance, FailsIn, Fails, AreNamedApart}
 use Rattle.plan_meaning.proofs.SameStates.{same_truth, same_after}
 use Rattle.plan_meaning.proofs.FailingLaws.{ends_weaker, ends_joined, same_objects}
+use Rattle.ground_state.specs.declared.verdict.FailWhy.{FailWhy}
+use Rattle.ground_state.specs.declared.index.Index.{Index}
+use Rattle.ground_state.specs.declared.run.Run.{Run}
 use Rattle.ground_state.specs.declared.state.State.{State}
-use Rattle.ground_state.specs.Frames.{Frame}
+use Rattle.ground_state.specs.Frames.{Frame, frame}
 use Rattle.ground_state.specs.Room.{fits, effect_fits, Fits, EffectFits}
 use Rattle.ground_state.specs.Needs.{HasRoomForAll}
 use Rattle.ground_state.specs.States.{atoms, Has}
-use Rattle.ground_state.specs.Runs.{AreArguments, HasRoomIn, IsAsRoomy, IsTaken}
+use Rattle.ground_state.specs.Runs.{cause, texts, words_step, AreArguments, IsRunnable, IsIndex, HasRoomIn, IsAsRoomy, IsTaken, HasTaken, FailsAt, Reaches}
 use Rattle.ground_state.proofs.IndexLaws.{typed_length}
 
 pub same_arguments : (p : Pddl) (ps qs : List Param) (ws vs : List (List ℕ)) (os : List ℕ) → ps ≡ qs → ws ≡ vs → AreArguments p ps ws os → AreArguments p qs vs os
@@ -67,32 +71,67 @@ module _ (p : Pddl) where
   fails_too S T same step goal_false f = f
 
   -- one step more
-  pub run_next : (old new : State) (steps : List GroundAction) (i : ℕ) (step : GroundAction) → i < length steps → step ≡ get_or steps i step
-      → EndsIn p (Has old) I (take i steps) → IsTaken p step old new → EndsIn p (Has new) I (take (i + 1) steps)
-  run_next old new steps i step l e h (a, os, can, has) =
-      let more : take (i + 1) steps ≡ take i steps ++ step ∷ [] = take_more steps i step l ∙ ap (λ s. take i steps ++ s ∷ []) (sym e) in
-      subst (EndsIn p (Has new) I) (sym more) (ends_joined p (Has new) I (take i steps) (step ∷ []) (ends_weaker p (Has old) (λ U. EndsIn p (Has new) U (step ∷ [])) (λ U u. (
-        a,
-        os,
-        applicable_too (atoms old) U u step a os can,
-        λ g. (let s = same_after (InTypeOf p) (atoms old) U u a.eff os g in (λ x. s.0 ((has g).0 x), λ x. (has g).1 (s.1 x))),
-      )) I (take i steps) h))
+  run_next : (old new : State) (taken : List GroundAction) (step : GroundAction) → EndsIn p (Has old) I taken → IsTaken p step old new → EndsIn p (Has new) I (taken ++ step ∷ [])
+  run_next old new taken step h (a, os, can, has) = ends_joined p (Has new) I taken (step ∷ []) (ends_weaker p (Has old) (λ U. EndsIn p (Has new) U (step ∷ [])) (λ U u. (
+    a,
+    os,
+    applicable_too (atoms old) U u step a os can,
+    λ g. (let s = same_after (InTypeOf p) (atoms old) U u a.eff os g in (λ x. s.0 ((has g).0 x), λ x. (has g).1 (s.1 x))),
+  )) I taken h)
 
   -- the first step that fails
-  pub run_fails : (state : State) (steps : List GroundAction) (i : ℕ) (step : GroundAction) (why : Cause) → i < length steps → step ≡ get_or steps i step
-      → EndsIn p (Has state) I (take i steps) → FailsIn p step why (atoms state) → Fails p steps (i + 1) why
-  run_fails state steps i step why l e h f =
-      let more : take (i + 1) steps ≡ take i steps ++ step ∷ [] = take_more steps i step l ∙ ap (λ s. take i steps ++ s ∷ []) (sym e) in
-      let all : steps ≡ take i steps ++ step ∷ drop (i + 1) steps =
-      sym (take-append-drop (i + 1) steps) ∙ ap (λ t. t ++ drop (i + 1) steps) more ∙ append_assoc (take i steps) (step ∷ []) (drop (i + 1) steps) in
-      let k : length (take i steps) ≡ i = length-take-le i steps (omega arith) in
-      inl (take i steps, drop (i + 1) steps, step, all, ap (λ n. n + 1) (sym k), ends_weaker p (Has state) (FailsIn p step why) (λ U u. fails_too (atoms state) U u step why f) I (take i steps) h)
+  run_fails : (state : State) (taken rest : List GroundAction) (step : GroundAction) (why : Cause) → EndsIn p (Has state) I taken → FailsIn p step why (atoms state) → Fails p (taken ++ step ∷ rest) (length taken + 1) why
+  run_fails state taken rest step why h f =
+      inl (taken, rest, step, refl, refl, ends_weaker p (Has state) (FailsIn p step why) (λ U u. fails_too (atoms state) U u step why f) I taken h)
 
   -- at the end
-  pub run_plan_found : (state : State) (steps : List GroundAction) (i : ℕ) → length steps ≤ i → EndsIn p (Has state) I (take i steps) → IsTrueIn (InTypeOf p) (atoms state) p.goal [] → IsPlan p steps
-  run_plan_found state steps i l h t =
-      ends_weaker p (Has state) (λ U. IsTrueIn (InTypeOf p) U p.goal []) (λ U u. (same_truth (InTypeOf p) (atoms state) U u p.goal []).0 t) I steps (subst (EndsIn p (Has state) I) (take_all i steps l) h)
+  run_plan_found : (state : State) (taken : List GroundAction) → EndsIn p (Has state) I taken → IsTrueIn (InTypeOf p) (atoms state) p.goal [] → IsPlan p taken
+  run_plan_found state taken h t = ends_weaker p (Has state) (λ U. IsTrueIn (InTypeOf p) U p.goal []) (λ U u. (same_truth (InTypeOf p) (atoms state) U u p.goal []).0 t) I taken h
 
-  pub run_goal_fails : (state : State) (steps : List GroundAction) (i : ℕ) → length steps ≤ i → EndsIn p (Has state) I (take i steps) → (IsTrueIn (InTypeOf p) (atoms state) p.goal [] → ⊥) → Fails p steps (length steps + 1) goal_false
-  run_goal_fails state steps i l h n =
-      inr (refl, refl, ends_weaker p (Has state) (λ U. IsTrueIn (InTypeOf p) U p.goal [] → ⊥) (λ U u x. n ((same_truth (InTypeOf p) (atoms state) U u p.goal []).1 x)) I steps (subst (EndsIn p (Has state) I) (take_all i steps l) h))
+  run_goal_fails : (state : State) (taken : List GroundAction) → EndsIn p (Has state) I taken → (IsTrueIn (InTypeOf p) (atoms state) p.goal [] → ⊥) → Fails p taken (length taken + 1) goal_false
+  run_goal_fails state taken h n =
+      inr (refl, refl, ends_weaker p (Has state) (λ U. IsTrueIn (InTypeOf p) U p.goal [] → ⊥) (λ U u x. n ((same_truth (InTypeOf p) (atoms state) U u p.goal []).1 x)) I taken h)
+
+-- a step that fails, whatever was taken before
+pub fails : (run : Run) (step : GroundAction) (w : FailWhy) → FailsIn run.p.now step (cause w) (atoms run.state) → (p : Pddl) (taken : List GroundAction) → HasTaken p taken run → FailsAt p taken step w
+fails run step w f p taken h rest = run_fails p run.state taken rest step (cause w) h.ends (subst (λ q. FailsIn q step (cause w) (atoms run.state)) h.problem f)
+
+-- and one that is taken
+pub takes : (old new : Run) → new.p.now ≡ old.p.now → new.index ≡ old.index → IsAsRoomy (frame old.env) (frame new.env) → (step : GroundAction) → IsTaken old.p.now step old.state new.state
+    → (p : Pddl) (taken : List GroundAction) → HasTaken p taken old → HasTaken p (taken ++ step ∷ []) new
+takes old new problem index roomy step t p taken h = record {
+  problem = problem ∙ h.problem;
+  ready = record {
+    runnable = subst IsRunnable (sym problem) h.ready.runnable;
+    index = subst (λ q. IsIndex q new.index) (sym problem) (subst (IsIndex old.p.now) (sym index) h.ready.index);
+    room = subst (λ q. HasRoomIn q (frame new.env)) (sym problem) (still_roomy old.p.now (frame old.env) (frame new.env) roomy h.ready.room);
+  };
+  ends = run_next p old.state new.state taken step h.ends (subst (λ q. IsTaken q step old.state new.state) h.problem t);
+}
+
+pub reaches : (run : Run) (found : Bool) → IsTrue found ↔ IsTrueIn (InTypeOf run.p.now) (atoms run.state) run.p.now.goal [] → Reaches run found
+reaches run true t p taken h = run_plan_found p run.state taken h.ends (subst (λ (q : Pddl). IsTrueIn (InTypeOf q) (atoms run.state) q.goal []) h.problem (t.0 refl))
+reaches run false t p taken h = run_goal_fails p run.state taken h.ends (λ x. true≢false (sym (t.1 (subst (λ (q : Pddl). IsTrueIn (InTypeOf q) (atoms run.state) q.goal []) (sym h.problem) x))))
+
+-- the words are those of the step
+pub same_step : (step : GroundAction) (name : List ℕ) (words : List (Bor (List ℕ))) → name ≡ step.name → texts words ≡ step.args → words_step name words ≡ step
+same_step step name words e f = λ i. record { name = e i; args = f i }
+
+-- over a list of steps: one more of them
+module _ (p : Pddl) (steps : List GroundAction) (i : ℕ) (step : GroundAction) (l : i < length steps) (e : step ≡ get_or steps i step) where
+  more : take (i + 1) steps ≡ take i steps ++ step ∷ []
+  more = take_more steps i step l ∙ ap (λ s. take i steps ++ s ∷ []) (sym e)
+
+  pub taken_more : (run : Run) → HasTaken p (take i steps ++ step ∷ []) run → HasTaken p (take (i + 1) steps) run
+  taken_more run h = subst (λ s. HasTaken p s run) (sym more) h
+
+  pub fails_there : (w : FailWhy) → FailsAt p (take i steps) step w → Fails p steps (i + 1) (cause w)
+  fails_there w f =
+      let all : take i steps ++ step ∷ drop (i + 1) steps ≡ steps =
+      sym (append_assoc (take i steps) (step ∷ []) (drop (i + 1) steps)) ∙ ap (λ t. t ++ drop (i + 1) steps) (sym more) ∙ take-append-drop (i + 1) steps in
+      let k : length (take i steps) ≡ i = length-take-le i steps (omega arith) in
+      subst (λ n. Fails p steps (n + 1) (cause w)) k (subst (λ s. Fails p s (length (take i steps) + 1) (cause w)) all (f (drop (i + 1) steps)))
+
+-- and all of them
+pub taken_all : (p : Pddl) (steps : List GroundAction) (i : ℕ) (run : Run) → length steps ≤ i → HasTaken p (take i steps) run → HasTaken p steps run
+taken_all p steps i run l h = subst (λ s. HasTaken p s run) (take_all i steps l) h

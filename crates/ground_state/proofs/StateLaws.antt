@@ -85,7 +85,7 @@ module _ (s t : State) (a : GroundAtom) (b : Bool) (n : IsNoted s a (option_map 
   set-keeps = keeps-notes s t a (option_map (λ _. b) (note_of s a)) n (λ i. subst IsSome (sym (set-Some b (note_of s a) i)) refl)
 
 -- one item more of a list
-pub taken-next : (xs : List GroundAtom) (i : ℕ) (a : GroundAtom) → i < length xs → a ≡ get_or xs i a → (g : GroundAtom) → Contains (take (i + 1) xs) g ↔ (Contains (take i xs) g ⊎ (g ≡ a))
+pub taken-next : {X : Type 0} (xs : List X) (i : ℕ) (a : X) → i < length xs → a ≡ get_or xs i a → (g : X) → Contains (take (i + 1) xs) g ↔ (Contains (take i xs) g ⊎ (g ≡ a))
 taken-next xs i a l e g =
     let more : take (i + 1) xs ≡ take i xs ++ a ∷ [] = take_more xs i a l ∙ ap (λ b. take i xs ++ b ∷ []) (sym e) in (
       λ h. elim (Contains-push_cases (take i xs) a g (subst (λ ys. Contains ys g) more h)) [ inl c ↦ inl c | inr d ↦ inr (sym d) ],
@@ -100,30 +100,34 @@ new-next xs i a s t l e h w g =
       λ x. (w g).1 (elim (more.0 x) [ inl y ↦ inl ((h g).1 y) | inr y ↦ inr y ]),
     )
 
--- the first atoms of a list put in, and one more
+-- atoms put in, and one more
+pub with-more : (old s t : State) (P Q : GroundAtom → Type 0) (a : GroundAtom) → ((g : GroundAtom) → Q g ↔ (P g ⊎ (g ≡ a))) → Has s (λ g. atoms old g ⊎ P g) → Has t (With s a) → Has t (λ g. atoms old g ⊎ Q g)
+with-more old s t P Q a more h w g = (
+  λ x. elim ((w g).0 x) [
+    | inl y ↦ elim ((h g).0 y) [ inl z ↦ inl z | inr z ↦ inr ((more g).1 (inl z)) ]
+    | inr y ↦ inr ((more g).1 (inr y))
+  ],
+  λ x. (w g).1 (elim x [
+    | inl y ↦ inl ((h g).1 (inl y))
+    | inr y ↦ elim ((more g).0 y) [ inl z ↦ inl ((h g).1 (inr z)) | inr z ↦ inr z ]
+  ]),
+)
+
 pub with-next : (old s t : State) (xs : List GroundAtom) (i : ℕ) (a : GroundAtom) → i < length xs → a ≡ get_or xs i a → Has s (WithAll old (take i xs)) → Has t (With s a) → Has t (WithAll old (take (i + 1) xs))
-with-next old s t xs i a l e h w g =
-    let more = taken-next xs i a l e g in (
-      λ x. elim ((w g).0 x) [
-        | inl y ↦ elim ((h g).0 y) [ inl z ↦ inl z | inr z ↦ inr (more.1 (inl z)) ]
-        | inr y ↦ inr (more.1 (inr y))
-      ],
-      λ x. (w g).1 (elim x [
-        | inl y ↦ inl ((h g).1 (inl y))
-        | inr y ↦ elim (more.0 y) [ inl z ↦ inl ((h g).1 (inr z)) | inr z ↦ inr z ]
-      ]),
-    )
+with-next old s t xs i a l e = with-more old s t (Contains (take i xs)) (Contains (take (i + 1) xs)) a (taken-next xs i a l e)
 
 -- and taken out
+pub without-more : (old s t : State) (P Q : GroundAtom → Type 0) (a : GroundAtom) → ((g : GroundAtom) → Q g ↔ (P g ⊎ (g ≡ a))) → Has s (λ g. atoms old g × (P g → ⊥)) → Has t (Without s a) → Has t (λ g. atoms old g × (Q g → ⊥))
+without-more old s t P Q a more h w g = (
+  λ x.
+      let y = (w g).0 x in
+      let z = (h g).0 y.0 in
+      (z.0, λ c. elim ((more g).0 c) [ inl u ↦ z.1 u | inr u ↦ y.1 u ]),
+  λ x. (w g).1 ((h g).1 (x.0, λ c. x.1 ((more g).1 (inl c))), λ d. x.1 ((more g).1 (inr d))),
+)
+
 pub without-next : (old s t : State) (xs : List GroundAtom) (i : ℕ) (a : GroundAtom) → i < length xs → a ≡ get_or xs i a → Has s (WithoutAll old (take i xs)) → Has t (Without s a) → Has t (WithoutAll old (take (i + 1) xs))
-without-next old s t xs i a l e h w g =
-    let more = taken-next xs i a l e g in (
-      λ x.
-          let y = (w g).0 x in
-          let z = (h g).0 y.0 in
-          (z.0, λ c. elim (more.0 c) [ inl u ↦ z.1 u | inr u ↦ y.1 u ]),
-      λ x. (w g).1 ((h g).1 (x.0, λ c. x.1 (more.1 (inl c))), λ d. x.1 (more.1 (inr d))),
-    )
+without-next old s t xs i a l e = without-more old s t (Contains (take i xs)) (Contains (take (i + 1) xs)) a (taken-next xs i a l e)
 
 -- one atom more of those of which something is noted
 pub noted-next : (xs : List GroundAtom) (i : ℕ) (a : GroundAtom) (s t : State) → i < length xs → a ≡ get_or xs i a → AreNoted (take i xs) s → KeepsNotes s t → IsSome (note_of t a) → AreNoted (take (i + 1) xs) t
@@ -133,7 +137,7 @@ noted-next xs i a s t l e h k n g c = elim ((taken-next xs i a l e g).0 c) [
 ]
 
 -- the atom at the place is one of the list
-pub item-of : (xs : List GroundAtom) (i : ℕ) (a : GroundAtom) → i < length xs → a ≡ get_or xs i a → Contains xs a
+pub item-of : {X : Type 0} (xs : List X) (i : ℕ) (a : X) → i < length xs → a ≡ get_or xs i a → Contains xs a
 item-of xs i a l e = (i, l, sym e)
 
 -- where nothing was noted of the atom, it is now noted as false

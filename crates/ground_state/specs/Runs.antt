@@ -1,6 +1,7 @@
 -- What a run of a list of ground actions stands on, what it does at a step, and what it answers.
 -- Source: this project's; a plan and a failing step as in plan_meaning.
-use Rattle.std.specs.Prelude.{ℕ, ◌≡◌, ◌<◌, ◌^◌, Bool, MatchBool, MatchOption, List, map, length, Option}
+use Rattle.std.specs.Prelude.{ℕ, ◌≡◌, ◌+◌, ◌<◌, ◌^◌, Bool, MatchBool, MatchOption, List, [], ◌∷◌, ◌++◌, map, length, Contains, Option}
+use Rattle.std.specs.Borrow.{Bor}
 use Rattle.plan_model.specs.declared.types.Object.{Object}
 use Rattle.plan_model.specs.declared.terms.Param.{Param}
 use Rattle.plan_model.specs.declared.schemas.ActionSchema.{ActionSchema}
@@ -8,7 +9,7 @@ use Rattle.plan_model.specs.declared.steps.GroundAction.{GroundAction}
 use Rattle.plan_model.specs.declared.values.Pddl.{Pddl}
 use Rattle.plan_model.specs.Parts.{AreListed}
 use Rattle.plan_meaning.specs.Truth.{AreTyped, after}
-use Rattle.plan_meaning.specs.ClassicalPlan.{HasWord, AreObjects, InTypeOf, IsApplicable, IsPlan}
+use Rattle.plan_meaning.specs.ClassicalPlan.{HasWord, AreObjects, InTypeOf, IsApplicable, EndsIn, IsPlan}
 use Rattle.plan_meaning.specs.FailingStep.{Cause, unknown_action, arguments, condition, goal_false, IsNamed, NamesAction, FailsIn, Fails, AreNamedApart}
 use Rattle.ground_state.specs.declared.verdict.FailWhy.{FailWhy}
 use Rattle.ground_state.specs.declared.verdict.FailWhy.TheVariants as why
@@ -17,7 +18,8 @@ use Rattle.ground_state.specs.declared.verdict.Verdict.TheVariants as verdict
 use Rattle.ground_state.specs.declared.index.Index.{Index}
 use Rattle.ground_state.specs.declared.places.Places.{Places}
 use Rattle.ground_state.specs.declared.state.State.{State}
-use Rattle.ground_state.specs.Frames.{Frame}
+use Rattle.ground_state.specs.declared.run.Run.{Run}
+use Rattle.ground_state.specs.Frames.{Frame, frame}
 use Rattle.ground_state.specs.States.{atoms, Has}
 use Rattle.ground_state.specs.Kinds.{AreKinds}
 use Rattle.ground_state.specs.Needs.{HasRoomForAll}
@@ -61,9 +63,21 @@ HasRoomIn p env = HasRoomForAll p env.room env.arity
 abbrev pub IsAsRoomy : Frame → Frame → Type 0
 IsAsRoomy old new = (new.room ≡ old.room) × (new.arity ≡ old.arity)
 
+-- words that are read in place
+abbrev pub texts : List (Bor (List ℕ)) → List (List ℕ)
+texts words = map (λ (w : Bor (List ℕ)). w.now) words
+
+-- the step of these words
+abbrev pub words_step : List ℕ → List (Bor (List ℕ)) → GroundAction
+words_step name args = record { name = name; args = texts args }
+
 -- the action that the step names, or that it names none
 abbrev pub IsTheAction : Pddl → GroundAction → Option ActionSchema → Type 0
 IsTheAction p step found = MatchOption found (NamesAction p step → ⊥) (IsNamed p step)
+
+-- the same of each step with the name
+abbrev pub HasTheName : Pddl → List ℕ → Option ActionSchema → Type 0
+HasTheName p name found = (args : List (List ℕ)) → IsTheAction p (record { name = name; args = args }) found
 
 -- the object has the word, and is in the type
 abbrev pub IsArgument : Pddl → List ℕ → ℕ → ℕ → Type 0
@@ -84,6 +98,30 @@ IsFilled p params words found env = MatchBool found (AreArguments p params words
 abbrev pub IsTaken : Pddl → GroundAction → State → State → Type 0
 IsTaken p step old new = (a : ActionSchema) × (objects : List ℕ) × IsApplicable p (atoms old) step a objects × Has new (after (InTypeOf p) (atoms old) a.eff objects)
 
--- it is taken, or it fails for this cause
-abbrev pub IsStepped : Pddl → GroundAction → State → State → Option FailWhy → Type 0
-IsStepped p step old new failed = MatchOption failed (IsTaken p step old new) (λ w. FailsIn p step (cause w) (atoms old))
+-- what a run holds beside its state is its problem's
+pub record IsReady (run : Run) : Type 0 where
+  pub runnable : IsRunnable run.p.now
+  pub index : IsIndex run.p.now run.index
+  pub room : HasRoomIn run.p.now (frame run.env)
+
+-- the run is one of the problem, and has taken these steps from the problem's first state on
+pub record HasTaken (p : Pddl) (taken : List GroundAction) (run : Run) : Type 0 where
+  pub problem : run.p.now ≡ p
+  pub ready : IsReady run
+  pub ends : EndsIn p (Has run.state) (Contains p.init) taken
+
+-- each list that goes on with the step behind those taken fails there for this cause
+abbrev pub FailsAt : Pddl → List GroundAction → GroundAction → FailWhy → Type 0
+FailsAt p taken step w = (rest : List GroundAction) → Fails p (taken ++ step ∷ rest) (length taken + 1) (cause w)
+
+-- whatever was taken before: now the step too, or it fails there
+abbrev pub Takes : GroundAction → Run → Run → Option FailWhy → Type 0
+Takes step old new failed = (p : Pddl) (taken : List GroundAction) → HasTaken p taken old → MatchOption failed (HasTaken p (taken ++ step ∷ []) new) (FailsAt p taken step)
+
+-- whatever was taken: it is a plan, or only the goal is false
+abbrev pub Reaches : Run → Bool → Type 0
+Reaches run found = (p : Pddl) (taken : List GroundAction) → HasTaken p taken run → MatchBool found (IsPlan p taken) (Fails p taken (length taken + 1) goal_false)
+
+-- whatever was taken is what is taken
+abbrev pub KeepsTaken : Run → Run → Type 0
+KeepsTaken old new = (p : Pddl) (taken : List GroundAction) → HasTaken p taken old → HasTaken p taken new

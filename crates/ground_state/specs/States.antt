@@ -55,6 +55,10 @@ AreNoted list s = (g : GroundAtom) → Contains list g → IsSome (note_of s g)
 abbrev pub KeepsNotes : State → State → Type 0
 KeepsNotes old new = (g : GroundAtom) → IsSome (note_of old g) → IsSome (note_of new g)
 
+-- the atom is one of which something is noted now
+abbrev pub IsEntered : State → GroundAtom → State → Type 0
+IsEntered old a new = KeepsNotes old new × IsSome (note_of new a)
+
 -- those of the set, and one
 abbrev pub With : State → GroundAtom → truth.State
 With s a g = atoms s g ⊎ (g ≡ a)

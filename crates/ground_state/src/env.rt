@@ -1,4 +1,5 @@
 ghost use Rattle.std.specs.Prelude.{ℕ, ◌≡◌, ◌≤◌, ◌<◌, length, IfOk, OnOk};
+ghost use Rattle.std.specs.Bool.{OnTrue};
 ghost use Rattle.plan_meaning.specs.Truth.{value_of, values_of};
 ghost use Rattle.ground_state.specs.Frames.{Frame, frame, pushed, cleared};
 ghost use Rattle.ground_state.specs.Numbers.{number_of};
@@ -76,6 +77,13 @@ impl Env {
             into.push(self.value(*term))?;
         }
         Ok(())
+    }
+
+    /// Whether there is room for as many arguments as there are terms.
+    pub(crate) fn has_room(&self, terms: &[Term]) -> bool
+        ensures { OnTrue result (length terms.now ≤ (frame self.now).arity) }
+    {
+        terms.len() <= self.args.capacity()
     }
 
     /// Fills in the arguments that the terms stand for.

@@ -7,8 +7,8 @@ use crate::env::Env;
 use crate::kinds::Kinds;
 use crate::marks::Marks;
 use crate::places::{Places, action_names, object_names};
-use htn_base::{Memory, Text};
-use plan_model::{ActionSchema, GroundAction, Param, Pddl};
+use htn_base::Memory;
+use plan_model::{ActionSchema, Param, Pddl};
 use std::alloc::Global;
 
 /// Where the actions and the objects of a problem stand, by their words, and the parts of its types. `marks`: of its words.
@@ -38,14 +38,12 @@ impl Index {
         })
     }
 
-    /// The action that the step names.
-    pub(crate) fn action<'p>(&self, p: &'p Pddl, step: &GroundAction) -> Option<&'p ActionSchema>
+    /// The action that has the name.
+    pub(crate) fn action<'p>(&self, p: &'p Pddl, name: &[u8]) -> Option<&'p ActionSchema>
         requires index { spec.IsIndex p.now self.now }
-        ensures { spec.IsTheAction p.now step.now (option_copied result) }
+        ensures { spec.HasTheName p.now name.now (option_copied result) }
     {
-        let place = self
-            .actions
-            .find(&self.marks, &p.names, step.name.as_slice())?;
+        let place = self.actions.find(&self.marks, &p.names, name)?;
         p.actions.get(place as usize)
     }
 
@@ -64,11 +62,11 @@ impl Index {
 
     /// Puts the objects that have these words in force, where they are as many as the parameters and each is in its
     /// parameter's type.
-    pub(crate) fn fill(&self, p: &Pddl, params: &[Param], words: &[Text], env: &mut Env) -> bool
+    pub(crate) fn fill(&self, p: &Pddl, params: &[Param], words: &[&[u8]], env: &mut Env) -> bool
         requires runnable { spec.IsRunnable p.now }
         requires index { spec.IsIndex p.now self.now }
         requires room { length params.now ≤ (frame env.old).room }
-        ensures filled { spec.IsFilled p.now params.now words.now result (frame env.new) }
+        ensures filled { spec.IsFilled p.now params.now (spec.texts words.now) result (frame env.new) }
         ensures room { spec.IsAsRoomy (frame env.old) (frame env.new) }
     {
         env.clear();
@@ -76,7 +74,7 @@ impl Index {
             return false;
         }
         for (i, param) in params.iter().enumerate() {
-            match self.object(p, words[i].as_slice(), param.ty) {
+            match self.object(p, words[i], param.ty) {
                 Some(object) => env.push(object),
                 None => return false,
             }

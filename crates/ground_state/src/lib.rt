@@ -17,6 +17,7 @@ mod env;
 mod gather;
 mod index;
 mod kinds;
+mod literals;
 mod marks;
 mod need;
 mod notes;
@@ -29,7 +30,7 @@ mod truth;
 mod verdict;
 
 pub use env::Env;
-pub use run::run_plan;
+pub use run::{Run, run_plan};
 pub use state::State;
 pub use truth::holds;
 pub use verdict::{FailWhy, Verdict};

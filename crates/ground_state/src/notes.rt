@@ -100,11 +100,32 @@ impl Notes {
         }
     }
 
+    /// Notes this of the objects that the terms stand for, where something is noted of them. It takes no memory.
+    pub(crate) fn set_terms(&mut self, env: &mut Env, terms: &[Term], truth: bool)
+        requires room { length terms.now ≤ (frame env.old).arity }
+        ensures set { spec.IsSet self.old (values_of (frame env.old).objects terms.now) truth self.new }
+        ensures kept { frame env.new ≡ frame env.old }
+    {
+        let Some(number) = env.number(terms, self.numbers) else {
+            env.fill(terms);
+            self.set(env.args(), truth);
+            return;
+        };
+        if number < self.near.len() && self.near[number].is_some() {
+            self.near[number] = Some(truth);
+        }
+    }
+
+    /// Whether so many notes are kept of lists without numbers that spare ones are taken away.
+    pub(crate) fn are_many(&self) -> bool {
+        self.far.len() > MANY
+    }
+
     /// Whether the predicate is noted as not true of these objects, among many notes. It is then as if nothing were noted.
     pub(crate) fn is_spare(&self, args: &[u32]) -> bool
         ensures { OnTrue result (spec.noted self.now args.now ≡ Some false) }
     {
-        self.far.len() > MANY && matches!(self.get(args), Some(false))
+        self.are_many() && matches!(self.get(args), Some(false))
     }
 
     /// Takes away what is noted of these objects.

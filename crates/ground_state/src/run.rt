@@ -1,4 +1,4 @@
-ghost use Rattle.std.specs.Prelude.{◌≤◌, length, IfOk};
+ghost use Rattle.std.specs.Prelude.{◌≡◌, ◌≤◌, [], length, IfOk, OnOk};
 ghost use Rattle.ground_state.specs.Frames.{frame};
 ghost use Rattle.ground_state.specs.Runs as spec;
 
@@ -8,29 +8,96 @@ use crate::need::Need;
 use crate::state::State;
 use crate::truth::holds;
 use crate::verdict::{FailWhy, Verdict};
-use htn_base::{List, Memory};
+use htn_base::{List, Memory, Text};
 use plan_model::{GroundAction, Pddl};
 use std::alloc::Global;
 
-/// Whether the list is a plan of the problem; else the first step that fails, counted from 1, and its first cause. A
-/// step costs what its condition and its effect touch, times the logarithm of the state.
+/// A run of steps over a problem, from its first state on. So a plan can be checked that is read step by step.
+#[derive(Drop)]
+pub struct Run<'p> {
+    p: &'p Pddl,
+    index: Index,
+    env: Env,
+    state: State,
+}
+
+impl<'p> Run<'p> {
+    /// A run that has taken no step yet.
+    pub fn new(alloc: Global, p: &'p Pddl) -> Result<Run<'p>, Memory>
+        requires runnable { spec.IsRunnable p.now }
+        ensures fresh { IfOk result (spec.HasTaken p.now []) }
+    {
+        let index = Index::new(alloc, p)?;
+        let need = Need::of(p)?;
+        let env = Env::new(alloc, &List::new(alloc), need.depth, need.arity)?;
+        let state = State::new(alloc, &p.init)?;
+        Ok(Run {
+            p,
+            index,
+            env,
+            state,
+        })
+    }
+
+    /// Takes the step of these words, or says why it can't be taken.
+    pub fn take(
+        &mut self,
+        alloc: Global,
+        name: &[u8],
+        args: &[&[u8]],
+    ) -> Result<Option<FailWhy>, Memory>
+        requires ready { spec.IsReady self.old }
+        ensures taken { IfOk result (spec.Takes (spec.words_step name.now args.now) self.old self.new) }
+    {
+        let Some(action) = self.index.action(self.p, name) else {
+            return Ok(Some(FailWhy::UnknownAction));
+        };
+        let params = action.params.as_slice();
+        if !self.index.fill(self.p, params, args, &mut self.env) {
+            return Ok(Some(FailWhy::Arguments));
+        }
+        let (types, objects) = (&self.p.types, &self.p.objects);
+        if !holds(&action.pre, &mut self.env, &self.state, types, objects) {
+            return Ok(Some(FailWhy::Condition));
+        }
+        self.state
+            .apply(alloc, types, objects, &action.eff, &mut self.env)?;
+        Ok(None)
+    }
+
+    /// Whether the goal is true at the end of the steps taken. It takes no memory.
+    pub fn reaches_goal(&mut self) -> bool
+        requires ready { spec.IsReady self.old }
+        ensures goal { spec.Reaches self.old result }
+        ensures kept { spec.KeepsTaken self.old self.new }
+    {
+        self.env.clear();
+        holds(
+            &self.p.goal,
+            &mut self.env,
+            &self.state,
+            &self.p.types,
+            &self.p.objects,
+        )
+    }
+}
+
+/// Whether the list is a plan of the problem; else the first step that fails, counted from 1, and its first cause.
 pub fn run_plan(alloc: Global, p: &Pddl, plan: &[GroundAction]) -> Result<Verdict, Memory>
     requires runnable { spec.IsRunnable p.now }
     requires few { length plan.now ≤ 1000000 }
     ensures verdict { IfOk result (spec.IsVerdict p.now plan.now) }
 {
-    let index = Index::new(alloc, p)?;
-    let need = Need::of(p)?;
-    let mut env = Env::new(alloc, &List::new(alloc), need.depth, need.arity)?;
-    let mut state = State::new(alloc, &p.init)?;
+    let mut run = Run::new(alloc, p)?;
+    let mut args = Vec::new(alloc);
     for (i, step) in plan.iter().enumerate() {
-        if let Some(why) = take_step(alloc, p, &index, step, &mut env, &mut state)? {
+        write(step.args.as_slice(), &mut args)?;
+        if let Some(why) = run.take(alloc, step.name.as_slice(), args.as_slice())? {
             let step = i as u32 + 1;
             return Ok(Verdict::Fails { step, why });
         }
     }
-    env.clear();
-    if holds(&p.goal, &mut env, &state, &p.types, &p.objects) {
+    if run.reaches_goal() {
         return Ok(Verdict::Plan);
     }
     Ok(Verdict::Fails {
@@ -39,30 +106,13 @@ pub fn run_plan(alloc: Global, p: &Pddl, plan: &[GroundAction]) -> Result<Verdic
     })
 }
 
-/// Takes the step, or says why it can't be taken.
-fn take_step(
-    alloc: Global,
-    p: &Pddl,
-    index: &Index,
-    step: &GroundAction,
-    env: &mut Env,
-    state: &mut State,
-) -> Result<Option<FailWhy>, Memory>
-    requires runnable { spec.IsRunnable p.now }
-    requires index { spec.IsIndex p.now index.now }
-    requires room { spec.HasRoomIn p.now (frame env.old) }
-    ensures stepped { IfOk result (spec.IsStepped p.now step.now state.old state.new) }
-    ensures room { spec.IsAsRoomy (frame env.old) (frame env.new) }
+/// Writes down where the words stand, in place of what was written there.
+fn write<'p>(words: &'p [Text], into: &mut Vec<&'p [u8]>) -> Result<(), Memory>
+    ensures { OnOk result (spec.texts into.new.items ≡ words.now) }
 {
-    let Some(action) = index.action(p, step) else {
-        return Ok(Some(FailWhy::UnknownAction));
-    };
-    if !index.fill(p, action.params.as_slice(), step.args.as_slice(), env) {
-        return Ok(Some(FailWhy::Arguments));
+    into.clear();
+    for word in words {
+        into.push(word.as_slice())?;
     }
-    if !holds(&action.pre, env, state, &p.types, &p.objects) {
-        return Ok(Some(FailWhy::Condition));
-    }
-    state.apply(alloc, &p.types, &p.objects, &action.eff, env)?;
-    Ok(None)
+    Ok(())
 }

@@ -1,6 +1,6 @@
 ghost use Rattle.std.specs.Prelude.{◌≡◌, ◌≤◌, ◌↔◌, false, length, IsTrue, Contains, Some, None, IfOk, OnOk, OnErr};
 ghost use Rattle.std.specs.Bool.{OnTrue};
-ghost use Rattle.plan_meaning.specs.Truth.{values_of};
+ghost use Rattle.plan_meaning.specs.Truth.{ground, values_of};
 ghost use Rattle.ground_state.specs.Frames.{frame};
 ghost use Rattle.ground_state.specs.States as spec;
 
@@ -9,7 +9,7 @@ use crate::env::Env;
 use crate::notes::Notes;
 use crate::numbers::Numbers;
 use htn_base::{List, Memory};
-use plan_model::{GroundAtom, Term};
+use plan_model::{Atom, GroundAtom, Term};
 use std::alloc::Global;
 
 /// More predicates than these count as want of memory: no text of at most 16 megabytes declares so many.
@@ -66,9 +66,18 @@ impl State {
         ensures truth { result ≡ spec.has self.now predicate (values_of (frame env.old).objects terms.now) }
         ensures kept { frame env.new ≡ frame env.old }
     {
+        self.note_terms(predicate, env, terms).unwrap_or(false)
+    }
+
+    /// What is noted of the predicate and the objects that the terms stand for.
+    fn note_terms(&self, predicate: u32, env: &mut Env, terms: &[Term]) -> Option<bool>
+        requires room { length terms.now ≤ (frame env.old).arity }
+        ensures note { result ≡ spec.note self.now predicate (values_of (frame env.old).objects terms.now) }
+        ensures kept { frame env.new ≡ frame env.old }
+    {
         match self.facts.get(predicate as usize) {
-            Some(notes) => notes.of_terms(env, terms).unwrap_or(false),
-            None => false,
+            Some(notes) => notes.of_terms(env, terms),
+            None => None,
         }
     }
 
@@ -125,6 +134,60 @@ impl State {
     {
         if let Some(notes) = self.facts.get_mut(predicate as usize) {
             notes.set(args, truth);
+        }
+    }
+
+    /// Notes this of what the atom stands for, where something is noted of it. It takes no memory.
+    pub(crate) fn set_atom(&mut self, env: &mut Env, atom: &Atom, truth: bool)
+        requires room { length atom.now.args ≤ (frame env.old).arity }
+        ensures set { spec.IsSet self.old (ground (frame env.old).objects atom.now) truth self.new }
+        ensures kept { frame env.new ≡ frame env.old }
+    {
+        if let Some(notes) = self.facts.get_mut(atom.predicate as usize) {
+            notes.set_terms(env, atom.args.as_slice(), truth);
+        }
+    }
+
+    /// Notes what the atom stands for as false, where nothing is noted of it.
+    pub(crate) fn enter_atom(
+        &mut self,
+        alloc: Global,
+        env: &mut Env,
+        atom: &Atom,
+    ) -> Result<(), Memory>
+        requires room { length atom.now.args ≤ (frame env.old).arity }
+        ensures same { spec.IsSame self.old self.new }
+        ensures noted { OnOk result (spec.IsEntered self.old (ground (frame env.old).objects atom.now) self.new) }
+        ensures kept { frame env.new ≡ frame env.old }
+    {
+        let terms = atom.args.as_slice();
+        if self.note_terms(atom.predicate, env, terms).is_none() {
+            env.fill(terms);
+            self.insert(alloc, atom.predicate, env.args(), false)?;
+        }
+        Ok(())
+    }
+
+    /// Takes away what is noted of what the atom stands for, where it is noted as false, among many notes of its
+    /// predicate.
+    pub(crate) fn forget_atom(&mut self, env: &mut Env, atom: &Atom)
+        requires room { length atom.now.args ≤ (frame env.old).arity }
+        ensures same { spec.IsSame self.old self.new }
+        ensures kept { frame env.new ≡ frame env.old }
+    {
+        if self.are_many(atom.predicate) {
+            env.fill(atom.args.as_slice());
+            if self.is_spare(atom.predicate, env.args()) {
+                self.remove(atom.predicate, env.args());
+            }
+        }
+    }
+
+    /// Whether many notes are kept of lists without numbers.
+    fn are_many(&self, predicate: u32) -> bool {
+        match self.facts.get(predicate as usize) {
+            Some(notes) => notes.are_many(),
+            None => false,
         }
     }
 

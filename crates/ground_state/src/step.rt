@@ -32,6 +32,15 @@ impl State {
         ensures unchanged { OnErr result (IsSame self.old self.new) }
         ensures kept { frame env.new ≡ frame env.old }
     {
+        if let Effect::And(parts) = eff {
+            let parts = parts.as_slice();
+            if self.enter_adds(alloc, parts, env)? {
+                self.deny_deletes(parts, env);
+                self.affirm_adds(parts, env);
+                self.forget_deletes(parts, env);
+                return Ok(());
+            }
+        }
         let mut lists = mem::replace(&mut self.touched, AtomLists::new(alloc));
         let stepped = self.step(alloc, types, objects, eff, env, &mut lists);
         self.touched = lists;

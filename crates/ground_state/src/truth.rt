@@ -52,6 +52,26 @@ fn has_atom(atom: &Atom, env: &mut Env, s: &State) -> bool
     s.has_terms(atom.predicate, env, atom.args.as_slice())
 }
 
+/// The same. Of a literal, as most parts of conditions are, it is told without a further call.
+#[cycle(holds)]
+fn is_true(f: &Formula, env: &mut Env, s: &State, types: &Types, objects: &List<Object>) -> bool
+    requires listed { AreListed types.now }
+    requires few { length objects.now < 2 ^ 32 }
+    requires room { Fits (frame env.old) f.now }
+    ensures truth { IsTrue result ↔ IsTrueBy types.now objects.now s.now f.now env.old }
+    ensures kept { frame env.new ≡ frame env.old }
+{
+    if let Formula::Holds(atom) = f {
+        return has_atom(atom, env, s);
+    }
+    if let Formula::Not(part) = f {
+        if let Formula::Holds(atom) = part.get() {
+            return !has_atom(atom, env, s);
+        }
+    }
+    holds(f, env, s, types, objects)
+}
+
 /// Whether one of the formulas is true, or one is false, as wanted.
 #[cycle(holds)]
 fn is_among(
@@ -69,7 +89,7 @@ fn is_among(
     ensures kept { frame env.new ≡ frame env.old }
 {
     for part in parts {
-        if holds(part, env, s, types, objects) == wanted {
+        if is_true(part, env, s, types, objects) == wanted {
             return true;
         }
     }

@@ -6,7 +6,7 @@ use Rattle.sheets.specs.Sheets.{Wrote}
 use Rattle.sheets.specs.declared.sheet.Sheet.{Sheet}
 use Rattle.sheets.proofs.Written.{wrote-as, wrote-then}
 
-lines-joined : (ps qs : Parts) → lines ps ++ lines qs ≡ lines (joined ps qs)
+pub lines-joined : (ps qs : Parts) → lines ps ++ lines qs ≡ lines (joined ps qs)
 lines-joined nothing qs = refl
 lines-joined (part p ps) qs = ap (λ z. 32 ∷ z) (append_assoc (bytes p) (10 ∷ lines ps) (lines qs) ∙ ap (λ z. bytes p ++ (10 ∷ z)) (lines-joined ps qs))
 

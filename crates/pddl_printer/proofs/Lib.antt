@@ -5,8 +5,14 @@ pub mod Typed
 pub mod Lines
 pub mod Ranges
 pub mod LiteralBytes
+pub mod LiteralLengths
+pub mod CountedSheets
 pub mod Heads
 pub mod Forms
+pub mod ActionLines
+pub mod PairBytes
+pub mod Conjunctions
+pub mod DomainPages
 pub mod WrittenLiterals
 pub mod OtherConditions
 pub mod OtherEffects

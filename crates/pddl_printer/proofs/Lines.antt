@@ -4,7 +4,6 @@ use Rattle.std.proofs.lemmas.List.{append-nil}
 use Rattle.text_forms.specs.Lists.{Parts, name, nothing, part}
 use Rattle.text_forms.specs.Words.{Word}
 use Rattle.text_forms.specs.Printing.{bytes_behind, lines, headed, page}
-use Rattle.pddl_printer.specs.Behind.{line}
 use Rattle.sheets.specs.Sheets.{Wrote}
 use Rattle.sheets.specs.declared.sheet.Sheet.{Sheet}
 use Rattle.sheets.proofs.Written.{wrote-as, wrote-then}
@@ -23,16 +22,13 @@ named-headed k w l =
 pub wrote-named-line : (k w : Word) (qs : Parts) {s t u v x : Sheet} → Wrote (32 ∷ 40 ∷ (k ++ 32 ∷ [])) s t → Wrote w t u → Wrote (41 ∷ 10 ∷ []) u v → Wrote (lines qs) v x → Wrote (lines (part (headed k (part (name w) nothing)) qs)) s x
 wrote-named-line k w qs a b c d = wrote-as (named-headed k w (lines qs)) (wrote-then a (wrote-then b (wrote-then c d)))
 
-named-line : (k n b : List ℕ) → (32 ∷ 40 ∷ (k ++ 32 ∷ [])) ++ (n ++ (b ++ (41 ∷ 10 ∷ []))) ≡ (32 ∷ (40 ∷ (k ++ ((32 ∷ (n ++ b)) ++ 41 ∷ [])))) ++ 10 ∷ []
+-- the line of a list that begins with two words
+pub named-line : (k n b : List ℕ) → (32 ∷ 40 ∷ (k ++ 32 ∷ [])) ++ (n ++ (b ++ (41 ∷ 10 ∷ []))) ≡ (32 ∷ (40 ∷ (k ++ ((32 ∷ (n ++ b)) ++ 41 ∷ [])))) ++ 10 ∷ []
 named-line k n b =
     let e : (32 ∷ 40 ∷ (k ++ 32 ∷ [])) ++ (n ++ (b ++ (41 ∷ 10 ∷ []))) ≡ (32 ∷ (40 ∷ (k ++ (32 ∷ (n ++ (b ++ 41 ∷ [])))))) ++ 10 ∷ [] = simp append_assoc in
     e ∙ ap (λ z. (32 ∷ (40 ∷ (k ++ (32 ∷ z)))) ++ 10 ∷ []) (sym (append_assoc n b (41 ∷ [])))
 
--- the line of a list that begins with two words
-pub wrote-named : (k n : Word) (ps : Parts) {s t u v w : Sheet} → Wrote (32 ∷ 40 ∷ (k ++ 32 ∷ [])) s t → Wrote n t u → Wrote (bytes_behind ps) u v → Wrote (41 ∷ 10 ∷ []) v w → Wrote (line (headed k (part (name n) ps))) s w
-wrote-named k n ps a b c d = wrote-as (named-line k n (bytes_behind ps)) (wrote-then a (wrote-then b (wrote-then c d)))
-
-page-is : (d k w l z : List ℕ) → (d ++ (40 ∷ (k ++ 32 ∷ []))) ++ (w ++ ((41 ∷ 10 ∷ []) ++ (l ++ z))) ≡ d ++ ((40 ∷ (k ++ ((32 ∷ (w ++ [])) ++ 41 ∷ []))) ++ (10 ∷ (l ++ z)))
+pub page-is : (d k w l z : List ℕ) → (d ++ (40 ∷ (k ++ 32 ∷ []))) ++ (w ++ ((41 ∷ 10 ∷ []) ++ (l ++ z))) ≡ d ++ ((40 ∷ (k ++ ((32 ∷ (w ++ [])) ++ 41 ∷ []))) ++ (10 ∷ (l ++ z)))
 page-is d k w l z =
     let e : (d ++ (40 ∷ (k ++ 32 ∷ []))) ++ (w ++ ((41 ∷ 10 ∷ []) ++ (l ++ z))) ≡ d ++ ((40 ∷ (k ++ ((32 ∷ w) ++ 41 ∷ []))) ++ (10 ∷ (l ++ z))) = simp append_assoc in
     e ∙ ap (λ u. d ++ ((40 ∷ (k ++ ((32 ∷ u) ++ 41 ∷ []))) ++ (10 ∷ (l ++ z)))) (sym (append-nil w))

@@ -1,5 +1,5 @@
 -- Past the end of a list of words stands the empty word.
-use Rattle.std.proofs.Common.{ℕ, zero, suc, ◌≡◌, List, [], ◌∷◌, map, slice_get, None, refl}
+use Rattle.std.proofs.Common.{ℕ, zero, suc, ◌≡◌, List, [], ◌∷◌, map, length, slice_get, None, refl}
 use Rattle.text_forms.specs.Words.{Word, word_at}
 
 pub word-none : (ws : List Word) (n : ℕ) → None ≡ slice_get ws n → word_at ws n ≡ []
@@ -11,3 +11,7 @@ pub at-none : {X : Type 0} (f : X → Word) (xs : List X) (n : ℕ) → None ≡
 at-none f [] n e = refl
 at-none f (y ∷ ys) zero e = absurd (cc)
 at-none f (y ∷ ys) (suc n) e = at-none f ys n e
+
+pub past-end : {X : Type 0} (f : X → Word) (xs : List X) → word_at (map f xs) (length xs) ≡ []
+past-end f [] = refl
+past-end f (x ∷ xs) = past-end f xs

@@ -1,6 +1,8 @@
 -- What is put on a sheet for each number of a range, and for lists that are joined.
 use Rattle.std.proofs.Common.{ℕ, zero, suc, ◌≡◌, ◌+◌, List, [], ◌∷◌, ◌++◌, map, refl, ap, sym, ◌∙◌, append_assoc, arith}
 use Rattle.std.proofs.lemmas.List.{append-nil}
+use Rattle.std.specs.List.{sum_by}
+use Rattle.std.proofs.lemmas.List.Sums.{sum_by_push}
 use Rattle.text_forms.specs.Lists.{Part}
 use Rattle.text_forms.specs.Printing.{bytes_behind}
 use Rattle.task_networks.specs.Spelling.{numbers}
@@ -15,6 +17,9 @@ use Rattle.pddl_printer.proofs.Each.{of_each-append, behind-each}
 numbers-next : (i n : ℕ) → numbers i (suc n) ≡ numbers i n ++ (i + n) ∷ []
 numbers-next i zero = ap (λ x. x ∷ []) (let e : i ≡ i + 0 = omega arith in e)
 numbers-next i (suc n) = ap (λ xs. i ∷ xs) (numbers-next (suc i) n) ∙ ap (λ x. i ∷ (numbers (suc i) n ++ x ∷ [])) (let e : suc i + n ≡ i + suc n = omega arith in e)
+
+pub sum-next : (f : ℕ → ℕ) (i n : ℕ) → sum_by f (numbers i (n + 1)) ≡ sum_by f (numbers i n) + f (i + n)
+sum-next f i n = let k : n + 1 ≡ suc n = omega arith in ap (λ m. sum_by f (numbers i m)) k ∙ ap (sum_by f) (numbers-next i n) ∙ sum_by_push f (numbers i n) (i + n)
 
 -- one number more
 pub range-next : (f : ℕ → List ℕ) (i n : ℕ) {s t u : Sheet} → Wrote (of_each f (numbers i n)) s t → Wrote (f (i + n)) t u → Wrote (of_each f (numbers i (n + 1))) s u
@@ -31,7 +36,7 @@ pub behind-made : {X : Type 0} (g : X → Part) (h : ℕ → X) (f : ℕ → Par
 behind-made g h f e [] = refl
 behind-made g h f e (n ∷ ns) = ap (λ p. behind p ++ bytes_behind (all_parts (map f ns))) (e n) ∙ ap (λ z. behind (g (h n)) ++ z) (behind-made g h f e ns)
 
-behind-append : {Y : Type 0} (g : Y → Part) (xs ys : List Y) → bytes_behind (all_parts (map g (xs ++ ys))) ≡ bytes_behind (all_parts (map g xs)) ++ bytes_behind (all_parts (map g ys))
+pub behind-append : {Y : Type 0} (g : Y → Part) (xs ys : List Y) → bytes_behind (all_parts (map g (xs ++ ys))) ≡ bytes_behind (all_parts (map g xs)) ++ bytes_behind (all_parts (map g ys))
 behind-append g [] ys = refl
 behind-append g (x ∷ xs) ys = ap (λ z. behind (g x) ++ z) (behind-append g xs ys) ∙ sym (append_assoc (behind (g x)) (bytes_behind (all_parts (map g xs))) (bytes_behind (all_parts (map g ys))))
 

@@ -3,9 +3,11 @@ pub mod InForm
 pub mod Scopes
 pub mod Behind
 pub mod Literals
+pub mod Holes
 pub mod Heads
 pub mod Texts
 pub mod Measured
+pub mod ActionLines
 pub mod Splits
 pub mod Pages
 pub mod InstanceTexts

@@ -1,6 +1,6 @@
 -- How long the words of the objects of a range are together.
 -- Source: this project's.
-use Rattle.std.specs.Prelude.{ℕ, ◌≡◌, Option, None, Some, length, sum_by}
+use Rattle.std.specs.Prelude.{◌≡◌, Option, None, Some, length, sum_by}
 use Rattle.text_forms.specs.Words.{word_at}
 use Rattle.task_networks.specs.Spelling.{numbers}
 use Rattle.plan_texts.specs.SpellsPddl.{pddl_words}

@@ -1,6 +1,6 @@
 -- A domain text is its start, the lines of its actions, and its end.
 -- Source: this project's.
-use Rattle.std.specs.Prelude.{ℕ, List, ◌∷◌, [], ◌++◌, codes}
+use Rattle.std.specs.Prelude.{ℕ, List, ◌++◌, codes}
 use Rattle.text_forms.specs.Printing.{lines}
 use Rattle.plan_texts.specs.Declared.{named}
 use Rattle.plan_model.specs.declared.values.Pddl.{Pddl}

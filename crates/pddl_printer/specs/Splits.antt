@@ -1,12 +1,18 @@
 -- An action of whose variables some differ, each two of them.
 -- Source: this project's.
-use Rattle.std.specs.Prelude.{ℕ, List, [], ◌∷◌, ◌++◌, map}
+use Rattle.std.specs.Prelude.{ℕ, List, [], ◌∷◌, ◌++◌, map, length, sum_by}
+use Rattle.text_forms.specs.Words.{word_at}
+use Rattle.plan_texts.specs.Declared.{variable}
+use Rattle.plan_texts.specs.SpellsPddl.{pddl_words}
+use Rattle.plan_model.specs.declared.terms.Param.{Param}
+use Rattle.plan_model.specs.declared.values.Pddl.{Pddl}
 use Rattle.task_networks.specs.Spelling.{numbers}
 use Rattle.plan_model.specs.declared.terms.Term.TheVariants.{Var}
 use Rattle.plan_model.specs.declared.formulas.Formula.{Formula}
 use Rattle.plan_model.specs.declared.formulas.Formula.TheVariants.{Equal, Not, And}
 use Rattle.plan_model.specs.declared.schemas.ActionSchema.{ActionSchema}
 use Rattle.pddl_printer.specs.declared.splits.Split.{Split}
+use Rattle.pddl_printer.specs.Literals.{conditions_behind}
 
 -- two variables differ
 abbrev pub unequal : ℕ → ℕ → Formula
@@ -24,3 +30,16 @@ split_action s = record {
   pre = And (s.before.now ++ (all_differ (numbers 1 s.spare) ++ s.behind.now));
   eff = s.eff.now;
 }
+
+-- the text of conditions on these variables, each behind a space
+module _ (p : Pddl) (xs : List Param) where
+  -- a variable differs from each of these
+  abbrev pub row_text : ℕ → List ℕ → List ℕ
+  row_text v us = conditions_behind (pddl_words p) (map (variable (pddl_words p)) xs) (map (unequal v) us)
+
+  abbrev pub differ_text : List ℕ → List ℕ
+  differ_text vs = conditions_behind (pddl_words p) (map (variable (pddl_words p)) xs) (all_differ vs)
+
+  -- how long the words of these variables are together
+  abbrev pub letters : List ℕ → ℕ
+  letters vs = sum_by (λ k. length (word_at (map (variable (pddl_words p)) xs) k)) vs

@@ -22,7 +22,7 @@ use Rattle.plan_model.specs.declared.values.Pddl.{Pddl}
 use Rattle.pddl_printer.specs.declared.object_range.Range.{Range}
 use Rattle.plan_model.specs.declared.scope.Scope.{Scope}
 use Rattle.pddl_printer.specs.Behind.{behind, between, line, typed}
-use Rattle.pddl_printer.specs.InForm.{action_in, condition_in, effect_in}
+use Rattle.pddl_printer.specs.InForm.{action_in, condition_in, parts_in, effect_in}
 use Rattle.pddl_printer.specs.Scopes.{words_in_force, words_within}
 
 module _ (p : Pddl) where
@@ -114,6 +114,9 @@ module _ (p : Pddl) where
     module _ (range : Option Range) (depth : ℕ) where
       abbrev pub condition_text : Formula → List ℕ
       condition_text f = formula_text (condition_in range depth f)
+
+      abbrev pub parts_text : List Formula → List ℕ
+      parts_text fs = formulas_text (parts_in range depth fs)
 
       abbrev pub change_text : Effect → List ℕ
       change_text e = effect_text (effect_in range depth e)

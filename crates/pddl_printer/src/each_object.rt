@@ -1,9 +1,10 @@
-ghost use Rattle.std.specs.Prelude.{◌≡◌, ◌+◌};
+ghost use Rattle.std.specs.Prelude.{◌≡◌, ◌+◌, ◌<◌, false, length};
 ghost use Rattle.pddl_printer.specs.Literals.{is_over as over};
 ghost use Rattle.pddl_printer.specs.InstanceTexts.{literals_text};
 ghost use Rattle.pddl_printer.specs.Measured.{IsMeasured};
 ghost use Rattle.sheets.specs.Sheets.{Wrote};
 
+use crate::holes::holes;
 use crate::instances::{Instance, Literal, put_instance};
 use crate::object_range::Range;
 use crate::written::Written;
@@ -28,6 +29,17 @@ impl Instances {
             object: self.written.range.first as usize + k as usize,
         }
     }
+
+    /// That of no object: its number is past the last one, so it has no word.
+    fn at_none(self, p: &Pddl) -> Instance
+        ensures depth { result.depth ≡ self.depth }
+        ensures object { result.object ≡ length p.now.objects }
+    {
+        Instance {
+            depth: self.depth,
+            object: p.objects.len(),
+        }
+    }
 }
 
 /// Whether this is one variable of the type whose objects are written out.
@@ -40,7 +52,7 @@ pub(crate) fn is_over(range: Range, params: &[Param]) -> bool
     }
 }
 
-/// Puts the literal for each object, each behind a space.
+/// Puts the literal for each object, each behind a space. Where the sheet takes nothing more they are counted all at once.
 pub(crate) fn put_each(
     p: &Pddl,
     scope: &Scope<'_>,
@@ -51,7 +63,45 @@ pub(crate) fn put_each(
     requires measured { IsMeasured p.now of.written }
     ensures { Wrote (literals_text p.now scope.now of literal.now) sheet.old sheet.new }
 {
+    if sheet.is_whole() {
+        put_instances(p, scope, of, literal, sheet);
+    } else if of.written.range.count > 0 {
+        count_instances(p, scope, of, literal, sheet);
+    }
+}
+
+fn put_instances(
+    p: &Pddl,
+    scope: &Scope<'_>,
+    of: Instances,
+    literal: &Literal<'_>,
+    sheet: &mut Sheet<'_>,
+)
+    ensures { Wrote (literals_text p.now scope.now of literal.now) sheet.old sheet.new }
+{
     for k in 0..of.written.range.count {
         put_instance(p, scope, of.at(k), literal, sheet);
     }
+}
+
+/// Counts them, of which there is one at least: each has its own bytes, which are those of an instance at no object, and for
+/// each place of the variable the letters of its object.
+fn count_instances(
+    p: &Pddl,
+    scope: &Scope<'_>,
+    of: Instances,
+    literal: &Literal<'_>,
+    sheet: &mut Sheet<'_>,
+)
+    requires measured { IsMeasured p.now of.written }
+    requires some { 0 < of.written.range.count }
+    requires over { sheet.old.whole ≡ false }
+    ensures { Wrote (literals_text p.now scope.now of literal.now) sheet.old sheet.new }
+{
+    let before = sheet.counted();
+    put_instance(p, scope, of.at_none(p), literal, sheet);
+    let own = sheet.counted() - before;
+    let others = u64::from(of.written.range.count - 1);
+    let letters = holes(literal, of.depth).saturating_mul(of.written.letters);
+    sheet.skip(others.saturating_mul(own).saturating_add(letters));
 }

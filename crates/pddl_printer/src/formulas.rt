@@ -57,7 +57,7 @@ pub(crate) fn put_formula(p: &Pddl, scope: &Scope<'_>, formula: &Formula, sheet:
 
 /// Puts formulas, each behind a space.
 #[cycle(formulas)]
-fn put_formulas(p: &Pddl, scope: &Scope<'_>, formulas: &[Formula], sheet: &mut Sheet<'_>)
+pub(crate) fn put_formulas(p: &Pddl, scope: &Scope<'_>, formulas: &[Formula], sheet: &mut Sheet<'_>)
     ensures { Wrote (formulas_text p.now scope.now formulas.now) sheet.old sheet.new }
 {
     for formula in formulas {

@@ -1,4 +1,5 @@
 ghost use Rattle.std.specs.Prelude.{IfSome};
+ghost use Rattle.pddl_printer.specs.ActionLines.{action_start, action_end};
 ghost use Rattle.pddl_printer.specs.Measured.{IsMeasured, range_of};
 ghost use Rattle.pddl_printer.specs.Texts.{predicate_text, condition_text, change_text, action_text, actions_text};
 ghost use Rattle.sheets.specs.Sheets.{Wrote};
@@ -12,7 +13,8 @@ use crate::words::put_name;
 use crate::written::Written;
 use crate::written_conditions::put_written_condition;
 use crate::written_effects::put_written_effect;
-use plan_model::{ActionSchema, Effect, Formula, Pddl, Predicate, Scope};
+use htn_base::Name;
+use plan_model::{ActionSchema, Effect, Formula, Param, Pddl, Predicate, Scope};
 use sheets::Sheet;
 
 impl Item for Predicate {
@@ -71,16 +73,38 @@ pub fn put_action(p: &Pddl, written: Option<Written>, action: &ActionSchema, she
     requires measured { IfSome written (IsMeasured p.now) }
     ensures put { Wrote (action_text p.now (range_of written) action.now) sheet.old sheet.new }
 {
-    let scope = Scope::Within(&Scope::Empty, action.params.as_slice());
-    let depth = action.params.len();
+    let params = action.params.as_slice();
+    let scope = Scope::Within(&Scope::Empty, params);
+    put_action_start(p, action.name, params, sheet);
+    put_condition(p, &scope, written, params.len(), &action.pre, sheet);
+    put_action_end(p, written, params, &action.eff, sheet);
+}
+
+/// Puts the part of an action's line before its condition.
+pub(crate) fn put_action_start(p: &Pddl, name: Name, params: &[Param], sheet: &mut Sheet<'_>)
+    ensures { Wrote (action_start p.now params.now name) sheet.old sheet.new }
+{
     sheet.put(b" (:action ");
-    put_name(p, action.name, sheet);
+    put_name(p, name, sheet);
     sheet.put(b" :parameters");
-    put_variables(p, action.params.as_slice(), sheet);
+    put_variables(p, params, sheet);
     sheet.put(b" :precondition");
-    put_condition(p, &scope, written, depth, &action.pre, sheet);
+}
+
+/// Puts the part of an action's line behind its condition.
+pub(crate) fn put_action_end(
+    p: &Pddl,
+    written: Option<Written>,
+    params: &[Param],
+    effect: &Effect,
+    sheet: &mut Sheet<'_>,
+)
+    requires measured { IfSome written (IsMeasured p.now) }
+    ensures { Wrote (action_end p.now params.now (range_of written) effect.now) sheet.old sheet.new }
+{
+    let scope = Scope::Within(&Scope::Empty, &*params);
     sheet.put(b" :effect");
-    put_change(p, &scope, written, depth, &action.eff, sheet);
+    put_change(p, &scope, written, params.len(), effect, sheet);
     sheet.put(b")\n");
 }
 

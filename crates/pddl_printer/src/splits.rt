@@ -1,12 +1,18 @@
 ghost use Rattle.std.specs.Prelude.{IfSome};
+ghost use Rattle.pddl_printer.specs.ActionLines.{action_condition};
 ghost use Rattle.pddl_printer.specs.Measured.{IsMeasured, range_of};
 ghost use Rattle.pddl_printer.specs.Splits.{split_action};
-ghost use Rattle.pddl_printer.specs.Texts.{action_text};
+ghost use Rattle.pddl_printer.specs.Texts.{action_text, parts_text};
 ghost use Rattle.sheets.specs.Sheets.{Wrote};
 
+use crate::each_object::Instances;
+use crate::formulas::put_formulas;
+use crate::pairs::put_all_differ;
+use crate::schemas::{put_action_end, put_action_start};
 use crate::written::Written;
+use crate::written_conditions::put_condition_parts;
 use htn_base::Name;
-use plan_model::{Effect, Formula, Param, Pddl};
+use plan_model::{Effect, Formula, Param, Pddl, Scope};
 use sheets::Sheet;
 
 /// An action whose condition is a conjunction: of some parts, of one part for each two of its variables 1 to `spare`, that they
@@ -26,4 +32,44 @@ pub fn put_split(p: &Pddl, written: Option<Written>, split: &Split<'_>, sheet: &
     requires measured { IfSome written (IsMeasured p.now) }
     ensures put { Wrote (action_text p.now (range_of written) (split_action split.now))
         sheet.old sheet.new }
-{}
+{
+    put_action_start(p, split.name, split.params, sheet);
+    put_conjunction(p, written, split, sheet);
+    put_action_end(p, written, split.params, split.eff, sheet);
+}
+
+/// Puts the condition behind a space.
+fn put_conjunction(p: &Pddl, written: Option<Written>, split: &Split<'_>, sheet: &mut Sheet<'_>)
+    requires measured { IfSome written (IsMeasured p.now) }
+    ensures { Wrote
+        (action_condition p.now split.now.params.now (range_of written) (split_action split.now).pre)
+        sheet.old sheet.new }
+{
+    let scope = Scope::Within(&Scope::Empty, split.params);
+    let depth = split.params.len();
+    sheet.put(b" (and");
+    put_parts(p, &scope, written, depth, split.before, sheet);
+    put_all_differ(p, split.params, split.spare, sheet);
+    put_parts(p, &scope, written, depth, split.behind, sheet);
+    sheet.put(b")");
+}
+
+/// Puts parts of a conjunction, each behind a space, as they are or with their quantifiers over the range written out.
+fn put_parts(
+    p: &Pddl,
+    scope: &Scope<'_>,
+    written: Option<Written>,
+    depth: usize,
+    parts: &[Formula],
+    sheet: &mut Sheet<'_>,
+)
+    requires measured { IfSome written (IsMeasured p.now) }
+    ensures { Wrote (parts_text p.now scope.now (range_of written) depth parts.now) sheet.old sheet.new }
+{
+    match written {
+        Some(written) => {
+            put_condition_parts(p, scope, Instances { written, depth }, parts, sheet);
+        }
+        None => put_formulas(p, scope, parts, sheet),
+    }
+}

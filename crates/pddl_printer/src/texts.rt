@@ -1,7 +1,9 @@
-ghost use Rattle.std.specs.Prelude.{◌≡◌, ◌++◌, true, false, OnOk, OnErr};
+ghost use Rattle.std.specs.Prelude.{◌≡◌, ◌++◌, true, false, OnOk, OnErr, IfSome};
 ghost use Rattle.plan_texts.specs.PrintedTexts.{domain_text, problem_text};
 ghost use Rattle.plan_texts.specs.PrintableValue.{IsPrintable};
 ghost use Rattle.plan_texts.specs.SpellsPddl.{SpellsPddl};
+ghost use Rattle.pddl_printer.specs.InForm.{value_in};
+ghost use Rattle.pddl_printer.specs.Measured.{IsMeasured, range_of};
 ghost use Rattle.pddl_printer.specs.WrittenOut.{written_out as out};
 ghost use Rattle.sheets.specs.Sheets.{AppendsPrefix};
 
@@ -10,7 +12,7 @@ use crate::pages::{put_domain, put_problem};
 use crate::written::Written;
 use htn_base::{Memory, Text};
 use plan_model::Pddl;
-use sheets::{Ended, Sheet, Sheet};
+use sheets::{Ended, Sheet};
 
 /// Appends the domain text of the value, a line for each section.
 pub fn print_domain(p: &Pddl, into: &mut Text) -> Result<(), Memory>
@@ -19,9 +21,7 @@ pub fn print_domain(p: &Pddl, into: &mut Text) -> Result<(), Memory>
     ensures spelled { IsPrintable p.now →
         SpellsPddl (domain_text p.now) (problem_text p.now) p.now }
 {
-    let mut sheet = Sheet::new(into, u64::MAX);
-    put_domain(p, None, &mut sheet);
-    all_of(&sheet)
+    domain_in_form(p, None, into)
 }
 
 /// Appends the problem text of the value, a line for each section.
@@ -31,9 +31,7 @@ pub fn print_problem(p: &Pddl, into: &mut Text) -> Result<(), Memory>
     ensures spelled { IsPrintable p.now →
         SpellsPddl (domain_text p.now) (problem_text p.now) p.now }
 {
-    let mut sheet = Sheet::new(into, u64::MAX);
-    put_problem(p, None, &mut sheet);
-    all_of(&sheet)
+    problem_in_form(p, None, into)
 }
 
 /// Appends the domain text of the value in which the quantifiers over the range are written out, without making it.
@@ -42,9 +40,7 @@ pub fn print_written_out_domain(p: &Pddl, r: &Range, into: &mut Text) -> Result<
     ensures prefix { OnErr result
         (AppendsPrefix (domain_text (out r.now p.now)) into.old into.new) }
 {
-    let mut sheet = Sheet::new(into, u64::MAX);
-    put_domain(p, Some(Written::new(p, *r)), &mut sheet);
-    all_of(&sheet)
+    domain_in_form(p, Some(Written::new(p, *r)), into)
 }
 
 /// Appends the problem text of the value in which the quantifiers over the range are written out, without making it.
@@ -53,8 +49,32 @@ pub fn print_written_out_problem(p: &Pddl, r: &Range, into: &mut Text) -> Result
     ensures prefix { OnErr result
         (AppendsPrefix (problem_text (out r.now p.now)) into.old into.new) }
 {
+    problem_in_form(p, Some(Written::new(p, *r)), into)
+}
+
+/// Appends the domain text of the value as it is or with its quantifiers over the range written out.
+fn domain_in_form(p: &Pddl, written: Option<Written>, into: &mut Text) -> Result<(), Memory>
+    requires measured { IfSome written (IsMeasured p.now) }
+    ensures printed { OnOk result
+        (into.new ≡ into.old ++ domain_text (value_in (range_of written) p.now)) }
+    ensures prefix { OnErr result
+        (AppendsPrefix (domain_text (value_in (range_of written) p.now)) into.old into.new) }
+{
     let mut sheet = Sheet::new(into, u64::MAX);
-    put_problem(p, Some(Written::new(p, *r)), &mut sheet);
+    put_domain(p, written, &mut sheet);
+    all_of(&sheet)
+}
+
+/// The same with the problem text.
+fn problem_in_form(p: &Pddl, written: Option<Written>, into: &mut Text) -> Result<(), Memory>
+    requires measured { IfSome written (IsMeasured p.now) }
+    ensures printed { OnOk result
+        (into.new ≡ into.old ++ problem_text (value_in (range_of written) p.now)) }
+    ensures prefix { OnErr result
+        (AppendsPrefix (problem_text (value_in (range_of written) p.now)) into.old into.new) }
+{
+    let mut sheet = Sheet::new(into, u64::MAX);
+    put_problem(p, written, &mut sheet);
     all_of(&sheet)
 }
 

@@ -1,19 +1,55 @@
+ghost use Rattle.std.specs.Prelude.{◌≡◌, map, length};
 ghost use Rattle.text_forms.specs.Words.{word_at};
-ghost use Rattle.plan_texts.specs.Declared.{named};
+ghost use Rattle.plan_texts.specs.Declared.{named, variable};
 ghost use Rattle.plan_texts.specs.SpellsPddl.{pddl_types, pddl_words};
 ghost use Rattle.sheets.specs.Sheets.{Wrote};
 
 use htn_base::Name;
-use plan_model::Pddl;
+use plan_model::{Param, Pddl};
 use sheets::Sheet;
 
-/// Puts the word of a name; of a number that no word has, nothing.
+/// The word of a name; of a number that no word has, the empty one.
+fn name_word(p: &Pddl, name: Name) -> &[u8]
+    ensures { result.now ≡ named p.now.names name }
+{
+    match p.names.text(name) {
+        Some(word) => word,
+        None => b"",
+    }
+}
+
+/// The word of an object.
+fn object_word(p: &Pddl, object: usize) -> &[u8]
+    ensures { result.now ≡ word_at (pddl_words p.now).objects object }
+{
+    match p.objects.get(object) {
+        Some(declared) => name_word(p, declared.name),
+        None => b"",
+    }
+}
+
+/// How many bytes it has.
+pub(crate) fn object_length(p: &Pddl, object: usize) -> u64
+    ensures { result ≡ length (word_at (pddl_words p.now).objects object) }
+{
+    object_word(p, object).len() as u64
+}
+
+/// The word of the k-th of these variables.
+pub(crate) fn variable_word<'a>(p: &'a Pddl, params: &[Param], k: usize) -> &'a [u8]
+    ensures { result.now ≡ word_at (map (variable (pddl_words p.now)) params.now) k }
+{
+    match params.get(k) {
+        Some(param) => name_word(p, param.name),
+        None => b"",
+    }
+}
+
+/// Puts the word of a name.
 pub(crate) fn put_name(p: &Pddl, name: Name, sheet: &mut Sheet<'_>)
     ensures { Wrote (named p.now.names name) sheet.old sheet.new }
 {
-    if let Some(word) = p.names.text(name) {
-        sheet.put(word);
-    }
+    sheet.put(name_word(p, name));
 }
 
 /// Puts the word of a type that is no union.
@@ -29,9 +65,7 @@ pub(crate) fn put_type(p: &Pddl, ty: u32, sheet: &mut Sheet<'_>)
 pub(crate) fn put_object(p: &Pddl, object: usize, sheet: &mut Sheet<'_>)
     ensures { Wrote (word_at (pddl_words p.now).objects object) sheet.old sheet.new }
 {
-    if let Some(declared) = p.objects.get(object) {
-        put_name(p, declared.name, sheet);
-    }
+    sheet.put(object_word(p, object));
 }
 
 /// Puts the word of a predicate.

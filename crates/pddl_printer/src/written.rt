@@ -2,6 +2,7 @@ ghost use Rattle.std.specs.Prelude.{◌≡◌};
 ghost use Rattle.pddl_printer.specs.Measured.{IsMeasured};
 
 use crate::object_range::Range;
+use crate::words::object_length;
 use plan_model::Pddl;
 
 /// The objects of a range for whose quantifiers instances are written out, and how long their words are together.
@@ -17,6 +18,11 @@ impl Written {
         ensures range { result.range ≡ range }
         ensures measured { IsMeasured p.now result }
     {
-        Written { range, letters: 0 }
+        let mut letters: u64 = 0;
+        for k in 0..range.count {
+            let object = range.first as usize + k as usize;
+            letters = letters.saturating_add(object_length(p, object));
+        }
+        Written { range, letters }
     }
 }

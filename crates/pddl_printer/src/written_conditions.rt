@@ -29,7 +29,8 @@ pub(crate) fn put_written_condition(
     }
 }
 
-fn put_condition_parts(
+/// Puts the parts of a conjunction, each behind a space.
+pub(crate) fn put_condition_parts(
     p: &Pddl,
     scope: &Scope<'_>,
     of: Instances,

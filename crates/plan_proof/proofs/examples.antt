@@ -13,4 +13,3 @@ pub mod SmallestWords
 mod CheckOfTop
 mod WideNumbers
 pub mod RenamedRow
-mod WithoutWords

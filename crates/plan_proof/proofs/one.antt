@@ -1,11 +1,3 @@
--- What is printed for what is said.
-pub mod SaidParts
-pub mod SaidTexts
--- What is encoded over two tables says the same.
-pub mod SaidAlike
-pub mod SourceSaid
-pub mod EncodedParts
-pub mod EncodedActions
 -- One compiled value, and there is one.
 pub mod OneCompiled
 pub mod SomeLine

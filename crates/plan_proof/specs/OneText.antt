@@ -1,16 +1,11 @@
 -- That the printed texts are fixed: one compiled value of a problem, one pair of printed texts of a pair of source texts.
 -- Source: this project's.
-use Rattle.std.specs.Prelude.{ℕ, ◌≡◌, List, map}
-use Rattle.plan_texts.specs.Declared.{named}
-use Rattle.plan_texts.specs.SpellsPddl.{pddl_types, pddl_words}
-use Rattle.plan_texts.specs.Said.{said}
-use Rattle.plan_texts.specs.Alike.{object_said, predicate_said, action_said}
+use Rattle.std.specs.Prelude.{ℕ, ◌≡◌, List}
 use Rattle.plan_texts.specs.FirstSeen.{IsHddlOf}
 use Rattle.plan_texts.specs.SoundValue.{IsSoundHddl}
 use Rattle.plan_texts.specs.PrintedTexts.{domain_text, problem_text}
 use Rattle.plan_meaning.specs.Compilation.{IsCompiled}
-use Rattle.slot_encoding.specs.EncodedValue.{IsEncoded}
-use Rattle.slot_encoding.specs.EncodedWords.{HasEncodedWords}
+use Rattle.encoded_texts.specs.FullyEncoded.{IsFullyEncoded}
 use Rattle.plan_model.specs.declared.options.Checks.{Checks}
 use Rattle.plan_model.specs.declared.options.Style.{Style}
 use Rattle.plan_model.specs.declared.values.Hddl.{Hddl}
@@ -20,23 +15,6 @@ use Rattle.plan_model.specs.declared.values.Pddl.{Pddl}
 -- one compiled value in this mode, and no other
 abbrev pub HasOneCompiled : Hddl → Checks → Type 0
 HasOneCompiled h mode = (c : Compiled) × IsCompiled h mode c × ((d : Compiled) → IsCompiled h mode d → d ≡ c)
-
--- Two PDDL values that say the same in one order: all is equal once each number of a name or a type is replaced by its words.
-pub record SayTheSame (p q : Pddl) : Type 0 where
-  pub domains : named p.names p.domain ≡ named q.names q.domain
-  pub problems : named p.names p.problem ≡ named q.names q.problem
-  pub types : pddl_types p ≡ pddl_types q
-  pub parents : p.types.parents ≡ q.types.parents
-  pub objects : map (object_said (pddl_words p)) p.objects ≡ map (object_said (pddl_words q)) q.objects
-  pub predicates : map (predicate_said (pddl_words p)) p.predicates ≡ map (predicate_said (pddl_words q)) q.predicates
-  pub actions : map (action_said (pddl_words p)) p.actions ≡ map (action_said (pddl_words q)) q.actions
-  pub init : p.init ≡ q.init
-  pub goal : said (pddl_words p) p.goal ≡ said (pddl_words q) q.goal
-
--- what is encoded of the compiled value over a table with all its words
-pub record IsFullyEncoded (c : Compiled) (b : ℕ) (style : Style) (p : Pddl) : Type 0 where
-  pub encoded : IsEncoded c b style p
-  pub words : HasEncodedWords c b p.names
 
 -- The two printed texts of two source texts: of some sound value that they spell, with preconditions checked in this mode, b slots
 -- and this style.

@@ -5,9 +5,9 @@
 //! of the two source texts (`value_laws`); two source texts have one pair of printed texts, and one bound or one named cycle, whatever
 //! they are read as (`print_laws`); and, of two small problems, which plans they have (`row_laws`).
 //!
-//! It stands on the printed problem of `slot_encoding`, on the laws of `slot_machine` and on the spelling of `plan_texts`, and has no
-//! code but laws; no code but the run stands on it. The contracts used above: `headline`, `headline_at_bound`; and that the answer of a
-//! run is one: `one_pair_of_texts`, `some_pair_of_texts`, `one_bound_or_cycle_of_texts`.
+//! It stands on the printed problem of `slot_encoding` and its one pair of texts (`encoded_texts`), on the laws of `slot_machine` and on
+//! the spelling of `plan_texts`, and has no code but laws; no code but the run stands on it. The contracts used above: `headline`,
+//! `headline_at_bound`; and that the answer of a run is one: `one_pair_of_texts`, `some_pair_of_texts`, `one_bound_or_cycle_of_texts`.
 #![tactic(auto)]
 
 mod plan_laws;
@@ -21,9 +21,8 @@ pub use plan_laws::{
     texts_lose_nothing, value_is_faithful,
 };
 pub use print_laws::{
-    encoded_values_say_the_same, every_problem_has_one_compiled_value, one_bound_or_cycle_of_texts,
-    one_compiled_value, one_pair_of_texts, printed_texts_are_the_pair, some_pair_of_texts,
-    texts_are_what_is_said,
+    every_problem_has_one_compiled_value, one_bound_or_cycle_of_texts, one_compiled_value,
+    one_pair_of_texts, printed_texts_are_the_pair, some_pair_of_texts,
 };
 pub use row_laws::{calls_itself_has_no_plan, smallest_has_one_plan};
 pub use text_laws::{

@@ -3,14 +3,13 @@
 //! `slots` is the number of slots, whatever it is; style and mode of checks are those of the words of a run.
 
 ghost use Rattle.std.specs.Prelude.{◌≡◌};
-ghost use Rattle.plan_texts.specs.PrintedTexts.{domain_text, problem_text};
 ghost use Rattle.plan_meaning.specs.Compilation.{IsCompiled};
 ghost use Rattle.plan_texts.specs.FirstSeen.{IsHddlOf};
 ghost use Rattle.plan_texts.specs.SoundValue.{IsSoundHddl};
 ghost use Rattle.plan_meaning.specs.Laws.{AreOrdered};
 ghost use Rattle.slot_encoding.specs.Printed.{IsPrinted};
 ghost use Rattle.slot_encoding.specs.EncodedWords.{HasEncodedWords};
-ghost use Rattle.plan_proof.specs.OneText.{HasOneCompiled, SayTheSame, IsFullyEncoded, PrintedAreTextsFor, HaveTexts, HaveOnePairOfTexts};
+ghost use Rattle.plan_proof.specs.OneText.{HasOneCompiled, PrintedAreTextsFor, HaveTexts, HaveOnePairOfTexts};
 ghost use Rattle.plan_proof.specs.OneGraph.{HaveOneGraph, HaveOneBound, HaveOneNamedCycle};
 
 use plan_model::{Checks, Compiled, Hddl, Pddl, Style};
@@ -27,29 +26,6 @@ pub fn one_compiled_value(problem: &Hddl, checks: &Checks, one: &Compiled, other
 pub fn every_problem_has_one_compiled_value(problem: &Hddl, checks: &Checks)
     requires ordered { AreOrdered problem.now }
     ensures { HasOneCompiled problem.now checks.now }
-{}
-
-/// Two PDDL values that say the same in one order have the same two texts.
-pub fn texts_are_what_is_said(one: &Pddl, other: &Pddl)
-    requires { SayTheSame one.now other.now }
-    ensures domain { domain_text one.now ≡ domain_text other.now }
-    ensures problem { problem_text one.now ≡ problem_text other.now }
-{}
-
-/// All encoded values of a compiled problem over tables that have all their words say the same, so they have the same two
-/// texts.
-pub fn encoded_values_say_the_same(
-    compiled: &Compiled,
-    slots: u32,
-    style: &Style,
-    one: &Pddl,
-    other: &Pddl,
-)
-    requires one { IsFullyEncoded compiled.now slots style.now one.now }
-    requires other { IsFullyEncoded compiled.now slots style.now other.now }
-    ensures said { SayTheSame one.now other.now }
-    ensures domain { domain_text one.now ≡ domain_text other.now }
-    ensures problem { problem_text one.now ≡ problem_text other.now }
 {}
 
 /// Two source texts have one pair of printed texts at most, in each mode of checks, at each number of slots and in each

@@ -1,4 +1,10 @@
 pub mod Appended
+pub mod NextSteps
+pub mod Listed
+pub mod Counted
+pub mod Lowered
+pub mod LookedThrough
+pub mod Scanned
 pub mod Exactly
 pub mod Flat
 pub mod Folded

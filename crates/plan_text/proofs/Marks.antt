@@ -8,7 +8,7 @@ use Rattle.htn_base.specs.Words.{folded}
 use Rattle.text_forms.specs.StepWords.{is_digit, ends_mark, is_mark}
 
 -- folding changes letters alone
-lower-other : (test : ℕ → Bool) → ((b : ℕ) → 65 ≤ b → b ≤ 90 → test (b + 32) ≡ test b) → (b : ℕ) → test (to_ascii_lowercase b) ≡ test b
+pub lower-other : {A : Type 0} (test : ℕ → A) → ((b : ℕ) → 65 ≤ b → b ≤ 90 → test (b + 32) ≡ test b) → (b : ℕ) → test (to_ascii_lowercase b) ≡ test b
 lower-other test h b = go (cases_lt b 65) (cases_lt 90 b)
   where
     go : (b < 65) ⊎ (65 ≤ b) → (90 < b) ⊎ (b ≤ 90) → test (to_ascii_lowercase b) ≡ test b

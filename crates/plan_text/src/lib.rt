@@ -6,13 +6,19 @@
 //! of memory a prefix of it stands. What is printed is read back as it was (`printed_plans_are_read_back`).
 #![tactic(auto)]
 
+mod coming;
 mod laws;
+mod plan;
 mod printing;
 mod reading;
 mod sheet;
+mod step;
 mod steps;
+mod tokens;
 mod words;
 
+pub use plan::{Plan, Steps};
+pub use step::Step;
 pub use laws::{faultless_texts_spell_plans, printed_plans_are_read_back};
 pub use printing::print;
 pub use reading::read;

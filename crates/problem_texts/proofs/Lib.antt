@@ -1,3 +1,5 @@
-mod Printed
+mod Ended
+mod Putting
+mod Styles
 pub mod flat
 pub mod examples

@@ -13,16 +13,16 @@ use Rattle.problem_texts.specs.declared.printing.Printed.{Printed}
 use Rattle.problem_texts.specs.declared.printing.Printed.TheVariants.{Whole, TooLong}
 use Rattle.problem_texts.specs.declared.printing.Sizes.{Sizes}
 
+-- the first of two texts that is longer than the limit; n is its length, as far as 64 bits go
+abbrev pub IsFirstPast : (limit : ℕ) (domain problem : List ℕ) (n : ℕ) → Type 0
+IsFirstPast limit domain problem n =
+    ((limit < capped (length domain)) × (n ≡ capped (length domain)))
+    ⊎ ((capped (length domain) ≤ limit) × (limit < capped (length problem)) × (n ≡ capped (length problem)))
+
 module _ (c : Compiled) (b : ℕ) (style : Style) where
   -- for each encoded value, over a table that has all its words
   abbrev pub AreSizesOf : Sizes → Type 0
   AreSizesOf s = (p : Pddl) → IsEncoded c b style p → HasEncodedWords c b p.names → (s.domain ≡ capped (length (domain_text p))) × (s.problem ≡ capped (length (problem_text p)))
-
-  -- the first of two texts that is longer than the limit; n is its length, as far as 64 bits go
-  abbrev pub IsFirstPast : (limit : ℕ) (domain problem : List ℕ) (n : ℕ) → Type 0
-  IsFirstPast limit domain problem n =
-      ((limit < capped (length domain)) × (n ≡ capped (length domain)))
-      ⊎ ((capped (length domain) ≤ limit) × (limit < capped (length problem)) × (n ≡ capped (length problem)))
 
   -- the two texts, neither longer than the limit; or the length of the first that is
   abbrev pub ArePrintedWithin : (limit : ℕ) → Printed → Type 0

@@ -1,3 +1,4 @@
 pub mod Slots
 pub mod ArePrinted
 pub mod Lengths
+pub mod Pages

@@ -1,16 +1,17 @@
-ghost use Rattle.std.specs.Prelude.{◌≡◌, [], IfOk};
+ghost use Rattle.std.specs.Prelude.{◌≡◌, ◌≤◌, IfOk, length};
 ghost use Rattle.plan_model.specs.Parts.{AreListed};
-ghost use Rattle.pddl_printer.specs.WrittenOut.{written_out};
-ghost use Rattle.problem_texts.specs.ArePrinted.{AreTextsOf, IsCompiledProblem, in_style};
-ghost use Rattle.problem_texts.specs.Lengths.{ArePrintedWithin, AreSizesOf};
+ghost use Rattle.plan_texts.specs.PrintedTexts.{domain_text};
+ghost use Rattle.sheets.specs.Sheets.{capped};
+ghost use Rattle.slot_encoder.specs.Encodings.{IsEncoding};
+ghost use Rattle.problem_texts.specs.ArePrinted.{IsCompiledProblem};
+ghost use Rattle.problem_texts.specs.Lengths.{ArePrintedWithin};
+ghost use Rattle.problem_texts.specs.Pages.{ArePages, AreTextsWithin, encoded_in, value_of};
 
-use crate::ranges::slots_of;
+use crate::pages::Pages;
 use htn_base::{Memory, Text};
-use pddl_printer::{
-    Range, print_domain, print_problem, print_written_out_domain, print_written_out_problem,
-};
-use plan_model::{Compiled, Pddl, Style};
-use slot_encoder::{Sizes, encode};
+use plan_model::{Compiled, Style};
+use sheets::Ended;
+use slot_encoder::Encoding;
 use std::alloc::Global;
 
 /// The texts of the printed domain and the printed problem.
@@ -50,14 +51,45 @@ pub fn texts_of(
     requires listed { AreListed c.now.hddl.types }
     ensures printed { IfOk result (ArePrintedWithin c.now slots style.now limit) }
 {
-    Err(Memory)
+    let encoding = Encoding::new(alloc, c, slots, &Style::Adl)?;
+    let printed = texts_within(alloc, c, &encoding, style, limit);
+    drop(encoding);
+    printed
 }
 
-/// The lengths of the two texts with so many slots: the same printing, of which nothing is kept.
-pub fn sizes(alloc: Global, c: &Compiled, slots: u32, style: &Style) -> Result<Sizes, Memory>
-    requires compiled { IsCompiledProblem c.now }
-    requires listed { AreListed c.now.hddl.types }
-    ensures sized { IfOk result (AreSizesOf c.now slots style.now) }
+fn texts_within(
+    alloc: Global,
+    c: &Compiled,
+    encoding: &Encoding,
+    style: &Style,
+    limit: u64,
+) -> Result<Printed, Memory>
+    requires encoding { IsEncoding c.now encoding.now }
+    ensures { IfOk result (AreTextsWithin (encoded_in c.now encoding.now style.now) limit) }
 {
-    Err(Memory)
+    let pages = Pages::new(c, encoding, style)?;
+    let mut domain = Text::new(alloc);
+    match pages.append_domain(alloc, limit, &mut domain)? {
+        Ended::Whole => with_problem(alloc, &pages, limit, domain),
+        Ended::TooLong(length) => Ok(Printed::TooLong(length)),
+    }
+}
+
+/// The text of the problem beside that of the domain.
+fn with_problem(
+    alloc: Global,
+    pages: &Pages<'_>,
+    limit: u64,
+    domain: Text,
+) -> Result<Printed, Memory>
+    requires pages { ArePages pages.now }
+    requires domain { domain ≡ domain_text (value_of pages.now) }
+    requires fits { capped (length (domain_text (value_of pages.now))) ≤ limit }
+    ensures { IfOk result (AreTextsWithin (value_of pages.now) limit) }
+{
+    let mut problem = Text::new(alloc);
+    match pages.append_problem(limit, &mut problem)? {
+        Ended::Whole => Ok(Printed::Whole(Texts { domain, problem })),
+        Ended::TooLong(length) => Ok(Printed::TooLong(length)),
+    }
 }

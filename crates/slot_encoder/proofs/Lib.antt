@@ -1,7 +1,11 @@
 pub mod Appended
 pub mod Numbered
+pub mod CheckNumbers
+pub mod GuardTypes
 pub mod GuardAtoms
 pub mod Splits
+pub mod KeptNumbers
+pub mod SeenAtoms
 pub mod SingleAtoms
 pub mod PredicateParts
 pub mod FoldedWords

@@ -1,5 +1,6 @@
 pub mod Frames
 pub mod Pieces
+pub mod Guards
 pub mod Made
 pub mod Vocabulary
 pub mod Encodings

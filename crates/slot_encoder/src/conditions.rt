@@ -1,4 +1,5 @@
 ghost use Rattle.std.specs.Prelude.{◌≡◌, ◌++◌, OnOk};
+ghost use Rattle.slot_encoding.specs.EncodedActions as encoded;
 ghost use Rattle.slot_encoder.specs.Frames.{IsFrame};
 ghost use Rattle.slot_encoder.specs.Made as made;
 
@@ -8,8 +9,36 @@ use crate::frame::Frame;
 use htn_base::{List, Memory};
 use order_encoder::{push_clearing, push_waiting};
 use plan_model::{Effect, Formula, Term};
-use printed_sizes::{is_empty, is_empty_effect};
 use std::alloc::Global;
+
+/// Whether a condition is the empty conjunction.
+fn is_empty(condition: &Formula) -> bool
+    ensures { result ≡ encoded.is_empty condition.now }
+{
+    match condition {
+        Formula::And(parts) => parts.len() == 0,
+        Formula::Holds(_) => false,
+        Formula::Equal(_, _) => false,
+        Formula::Not(_) => false,
+        Formula::Or(_) => false,
+        Formula::Imply(_, _) => false,
+        Formula::Forall(_, _) => false,
+        Formula::Exists(_, _) => false,
+    }
+}
+
+/// Whether an effect is the empty conjunction.
+fn is_empty_effect(effect: &Effect) -> bool
+    ensures { result ≡ encoded.is_empty_effect effect.now }
+{
+    match effect {
+        Effect::And(parts) => parts.len() == 0,
+        Effect::Add(_) => false,
+        Effect::Delete(_) => false,
+        Effect::Forall(_, _) => false,
+        Effect::When(_, _) => false,
+    }
+}
 
 /// Puts a source condition at the end, but no empty conjunction.
 pub(crate) fn push_condition(

@@ -11,6 +11,7 @@ ghost use Rattle.slot_encoder.specs.Vocabulary.{IsPrintableWhereSound};
 use crate::actions::encoded_actions;
 use crate::frame::Frame;
 use crate::goals::goal_of;
+use crate::guards::guard_types;
 use crate::initial::encoded_initial;
 use crate::numbers::{numbers_of, plus};
 use crate::objects::encoded_objects;
@@ -24,7 +25,6 @@ use order_encoder::OrderNames;
 use plan_model::{
     ActionSchema, Compiled, Formula, GroundAtom, Object, Pddl, Predicate, Style, Types,
 };
-use printed_sizes::guard_types;
 use std::alloc::Global;
 
 /// The printed problem with so many slots, ready to be taken part by part: `head` has all but the actions, with all words in

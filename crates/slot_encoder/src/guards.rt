@@ -1,14 +1,58 @@
-ghost use Rattle.std.specs.Prelude.{◌≡◌, ◌==◌, [], unwrap_or, position, slice_index_or, IfOk};
+ghost use Rattle.std.specs.Prelude.{◌≡◌, ◌==◌, [], unwrap_or, position, slice_index_or, IfOk, OnOk};
 ghost use Rattle.slot_encoding.specs.EncodedNames as spec;
 ghost use Rattle.slot_encoder.specs.Frames.{IsFrame};
+ghost use Rattle.slot_encoder.specs.Guards.{with_type, with_types, with_all_types};
 ghost use Rattle.slot_encoder.specs.Made as made;
 
 use crate::frame::Frame;
 use crate::numbers::plus;
 use crate::words::{named, numbered_word, prefixed_word};
-use htn_base::{Memory, Name, Text, number};
-use plan_model::Compiled;
+use htn_base::{List, Memory, Name, Text, number};
+use plan_model::{Compiled, Guard, MethodPlan};
 use std::alloc::Global;
+
+/// The types of the guards of all methods, each once, in order of first use; or want of memory.
+pub fn guard_types(alloc: Global, c: &Compiled) -> Result<List<u32>, Memory>
+    ensures { IfOk result (λ types. types ≡ spec.guard_types c.now) }
+{
+    all_types(alloc, c.methods.as_slice())
+}
+
+fn all_types(alloc: Global, methods: &[MethodPlan]) -> Result<List<u32>, Memory>
+    ensures { IfOk result (λ types. types ≡ with_all_types [] methods.now) }
+{
+    let mut types = List::new(alloc);
+    push_all(methods, &mut types)?;
+    Ok(types)
+}
+
+fn push_all(methods: &[MethodPlan], types: &mut List<u32>) -> Result<(), Memory>
+    ensures { OnOk result (types.new ≡ with_all_types types.old methods.now) }
+{
+    for plan in methods {
+        push_types(plan.guards.as_slice(), types)?;
+    }
+    Ok(())
+}
+
+fn push_types(guards: &[Guard], types: &mut List<u32>) -> Result<(), Memory>
+    ensures { OnOk result (types.new ≡ with_types types.old guards.now) }
+{
+    for guard in guards {
+        push_type(guard.ty, types)?;
+    }
+    Ok(())
+}
+
+fn push_type(ty: u32, types: &mut List<u32>) -> Result<(), Memory>
+    ensures { OnOk result (types.new ≡ with_type types.old ty) }
+{
+    if types.as_slice().contains(&ty) {
+        Ok(())
+    } else {
+        types.push(ty)
+    }
+}
 
 /// The name of a guard's predicate.
 pub(crate) fn guard_name(alloc: Global, frame: &Frame<'_>, ty: u32) -> Result<Name, Memory>

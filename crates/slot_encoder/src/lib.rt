@@ -2,7 +2,7 @@
 //!
 //! It stands on the values of `plan_model`, on the order formulas of `order_encoder` and on the definitions of `slot_encoding`.
 //! The contract used above: `encode` gives exactly the defined value, over a table that has all its words, so that it can be printed
-//! wherever the problem is sound. `sizes`, of `printed_sizes`, says how long its two texts are without the value.
+//! wherever the problem is sound.
 #![tactic(auto)]
 
 mod actions;
@@ -33,5 +33,5 @@ mod words;
 mod works;
 
 pub use encoding::{Encoding, encode};
-pub use printed_sizes::{Sizes, sizes};
+pub use guards::guard_types;
 pub use split_action::SplitAction;

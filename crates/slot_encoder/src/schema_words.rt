@@ -10,12 +10,11 @@ ghost use Rattle.slot_encoder.specs.Vocabulary.{words_if_checked, words_of_check
 ghost use Rattle.slot_encoder.specs.Vocabulary.{words_of_method, words_of_methods};
 ghost use Rattle.slot_encoder.specs.Vocabulary.{words_of_action, words_of_actions};
 
-use crate::guards::guard_word;
+use crate::guards::{guard_types, guard_word};
 use crate::quantified::{put_effect, put_formula};
 use crate::vocabulary::{put, put_numbered, put_own, put_params, put_prefixed};
 use htn_base::{Memory, Name, NameTable, number};
 use plan_model::{ActionSchema, Compiled, MethodPlan, Param, Predicate, TaskSchema};
-use printed_sizes::guard_types;
 use std::alloc::Global;
 
 /// Puts the words of all predicates into the table.

@@ -8,8 +8,9 @@ use Rattle.plan_model.specs.declared.values.Compiled.{Compiled}
 use Rattle.plan_model.specs.Pairs.{Pairs}
 use Rattle.task_networks.specs.Order.{IsLine, IsMaximal}
 use Rattle.plan_meaning.specs.Compilation.{once, same_guard, children, pairs, last_of, all_placed, IsGuard, IsMethodPlan, AreMethodPlans, IsCompiled}
+use Rattle.encoded_texts.proofs.KeptSame.{keeps-same}
 use Rattle.plan_proof.proofs.values.Pairing.{increasing-same}
-use Rattle.plan_proof.proofs.values.SamePlans.{bool_same, keeps-same, line-same}
+use Rattle.plan_proof.proofs.values.SamePlans.{bool_same, line-same}
 
 module _ (h : Hddl) (mode : Checks) where
   module _ (s : MethodSchema) (p q : MethodPlan) (hp : IsMethodPlan h mode s p) (hq : IsMethodPlan h mode s q) where

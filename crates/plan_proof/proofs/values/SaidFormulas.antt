@@ -17,6 +17,7 @@ use Rattle.plan_model.specs.declared.formulas.Formula.TheOpen.{Formula-F}
 use Rattle.plan_model.specs.declared.formulas.Formula.TheVariants.{And, rolls-And}
 use Rattle.slot_encoding.specs.SourceParts.{name, retyped, moved, source_param, formula_layer, source_formula}
 use Rattle.slot_encoding.specs.EncodedActions.{no_part, is_empty}
+use Rattle.encoded_texts.proofs.SaidParts.{bare, words_of, words-typed}
 use Rattle.plan_proof.proofs.values.TypeNumbers.{kind-within}
 
 -- what is printed: names are the words of the printed problem, number tells a type's number from its words
@@ -78,19 +79,13 @@ module _ (names : List (List ℕ)) (number : List Word → ℕ) (v : Declared) (
             ∙ h scope (subst (λ (z : List Word → Type 0). z scope) (sound_roll v arities x) e)
             ∙ ap (put names number front) (sym (said_roll v x))
 
--- the words of objects and predicates alone, of which soundness asks how many there are
-abbrev pub bare : List Word → List Word → Declared
-bare objects predicates = record { names = []; types = []; unions = []; objects = objects; predicates = predicates }
-
 abbrev pub SoundTyped : Typed → Type 0
 SoundTyped x = IsPlainVariable x.0 × (x.1 ≡ [] → ⊥)
-
-abbrev pub words_of : List Typed → List Word
-words_of xs = map (λ (x : Typed). x.0) xs
 
 abbrev pub AreSoundTyped : List Typed → Type 0
 AreSoundTyped xs = EachIs SoundTyped xs × AreDifferent (words_of xs)
 
+-- of objects and predicates soundness asks only how many there are
 module _ (objects predicates : List Word) (arities : List ℕ) where
   abbrev pub InForce : List Word → Term → Type 0
   InForce = IsInForce (bare objects predicates) arities
@@ -112,10 +107,6 @@ module _ (objects predicates : List Word) (arities : List ℕ) where
     pub SoundSaids : Saids → List Word → Type 0
     SoundSaids none scope = Unit {0}
     SoundSaids (more f fs) scope = SoundSaid f scope × SoundSaids fs scope
-
-pub words-typed : (v : Declared) (xs : List Param) → map (variable v) xs ≡ words_of (map (typed v) xs)
-words-typed v [] = refl
-words-typed v (x ∷ xs) = ap (λ z. variable v x ∷ z) (words-typed v xs)
 
 module _ (v : Declared) (arities : List ℕ) (some_words : (t : ℕ) → t < length (kinds v) → kind_at v t ≡ [] → ⊥) where
   pub each-typed : (xs : List Param) → EachIs (IsSoundParam v arities) xs ↔ EachIs SoundTyped (map (typed v) xs)

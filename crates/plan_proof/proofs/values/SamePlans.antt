@@ -33,6 +33,7 @@ use Rattle.plan_model.specs.Pairs.{pair, Pairs}
 use Rattle.plan_proof.specs.Same.{AreSameButNames}
 use Rattle.plan_texts.specs.Together.{Together}
 use Rattle.plan_texts.proofs.Together.{maps-length, together-of_maps, together-maps, together-and}
+use Rattle.encoded_texts.proofs.KeptSame.{keeps-same}
 use Rattle.plan_proof.proofs.values.Pairing.{increasing-same}
 use Rattle.plan_proof.proofs.values.TypeNumbers.{AreApart}
 use Rattle.plan_proof.proofs.values.SameSound.{params-length}
@@ -46,13 +47,6 @@ bool_same false true f g = g refl
 
 -- what is kept by two tests that tell the same
 module _ {A : Type 0} (P Q : A → Type 0) (to : (x : A) → P x → Q x) (from : (x : A) → Q x → P x) where
-  pub keeps-same : (xs ks ls : List A) → Keeps P xs ks → Keeps Q xs ls → ks ≡ ls
-  keeps-same [] ks ls k l = k ∙ sym l
-  keeps-same (x ∷ xs) ks ls (inl (h, r, e, k)) (inl (g, s, f, l)) = e ∙ ap (λ z. x ∷ z) (keeps-same xs r s k l) ∙ sym f
-  keeps-same (x ∷ xs) ks ls (inl (h, r, e, k)) (inr (n, l)) = absurd (n (to x h))
-  keeps-same (x ∷ xs) ks ls (inr (n, k)) (inl (g, s, f, l)) = absurd (n (from x g))
-  keeps-same (x ∷ xs) ks ls (inr (n, k)) (inr (m, l)) = keeps-same xs ks ls k l
-
   pub keeps-more : (xs ks : List A) → Keeps P xs ks → Keeps Q xs ks
   keeps-more [] ks k = k
   keeps-more (x ∷ xs) ks (inl (h, r, e, k)) = inl (to x h, r, e, keeps-more xs r k)

@@ -35,7 +35,8 @@ use Rattle.plan_texts.specs.Together.{Together}
 use Rattle.plan_texts.proofs.Together.{maps-length, together-of_maps, together-maps, together-each}
 use Rattle.plan_proof.proofs.values.Pairing.{got}
 use Rattle.plan_proof.proofs.values.TypeNumbers.{word-within, kind-has, plain-some}
-use Rattle.plan_proof.proofs.values.SaidFormulas.{SoundTyped, AreSoundTyped, InForce, SoundAtom, SoundSaid, words-typed, words_of, each-typed, params-sound, formula-sound}
+use Rattle.encoded_texts.proofs.SaidParts.{words_of, words-typed}
+use Rattle.plan_proof.proofs.values.SaidFormulas.{SoundTyped, AreSoundTyped, InForce, SoundAtom, SoundSaid, each-typed, params-sound, formula-sound}
 use Rattle.plan_proof.proofs.values.SaidEffects.{SoundDone, effect-sound}
 
 module _ (c d : Hddl) (same : AreSameButNames c d) where

@@ -1,42 +1,32 @@
-use Rattle.std.proofs.Common.{ap, sym, subst, ◌∙◌, true≢false}
-use Rattle.plan_meaning.specs.Truth.{IsTrueIn}
-use Rattle.plan_meaning.specs.ClassicalPlan.{InTypeOf}
-use Rattle.ground_state.specs.Frames.{Frame, frame}
-use Rattle.ground_state.specs.States.{atoms}
+use Rattle.std.proofs.Common.{take, subst, ap, ◌∙◌}
+use Rattle.plan_model.specs.declared.steps.GroundAction.{GroundAction}
 use Rattle.ground_state.specs.Runs as spec
-use Rattle.ground_state.proofs.RunLaws as laws
+use Rattle.ground_state.proofs.RunLaws.{same_step, taken_more, fails_there, taken_all}
 use Rattle.ground_state.proofs.run.run_plan.Goals as goal
 
 pub returns-in-Some : goal.returns-in-Some
 returns-in-Some c =
-    let p = c.args.p.now in
+    let plan = c.args.plan.now in
     let step = c.index-plan-i.result in
-    let failed = subst (spec.IsStepped p step c.loop-i.state c.take_step.new.state) c.in-Some.is c.in_ok-why.ensures.stepped in
-    record { verdict = laws.run_fails p c.loop-i.state c.args.plan.now c.loop-i.i step (spec.cause c.in-Some.why) c.loop-i-test.true c.index-plan-i.is c.loop-i.invariant.0 failed }
+    let i = c.loop-i.i in
+    let same = same_step step c.as_slice-in-loop-i.result.now c.as_slice-in-loop-i-2.result.now c.as_slice-in-loop-i.ensures.bytes (ap spec.texts c.as_slice-in-loop-i-2.ensures.value ∙ c.in_ok-write.ensures ∙ c.as_slice.ensures.items) in
+    let takes = subst (λ (s : GroundAction). spec.Takes s c.loop-i.run c.take.new.self c.in_ok-why.field-0) same c.in_ok-why.ensures.taken in
+    let fails = subst (spec.Takes step c.loop-i.run c.take.new.self) c.in-Some.is takes in
+    record { verdict = fails_there c.args.p.now plan i step c.loop-i-test.true c.index-plan-i.is c.in-Some.why (fails c.args.p.now (take i plan) c.loop-i.invariant) }
 
 pub loop-i-preserved : goal.loop-i-preserved
 loop-i-preserved c =
-    let p = c.args.p.now in
+    let plan = c.args.plan.now in
     let step = c.index-plan-i.result in
-    let taken = subst (spec.IsStepped p step c.loop-i.state c.take_step.new.state) c.in_default.is c.in_ok-why.ensures.stepped in (
-      laws.run_next p c.loop-i.state c.take_step.new.state c.args.plan.now c.loop-i.i step c.loop-i-test.true c.index-plan-i.is c.loop-i.invariant.0 taken,
-      laws.still_roomy p (frame c.loop-i.env) (frame c.take_step.new.env) c.in_ok-why.ensures.room c.loop-i.invariant.1,
-    )
-
-pub returns-then-holds : goal.returns-then-holds
-returns-then-holds c =
-    let p = c.args.p.now in
-    let none = ap (λ (f : Frame). f.objects) c.clear.ensures in
-    record {
-      verdict = laws.run_plan_found p c.loop-i.state c.args.plan.now c.loop-i.i c.loop-i-test.false c.loop-i.invariant.0
-          (subst (IsTrueIn (InTypeOf p) (atoms c.loop-i.state) c.args.p.now.goal) none (c.holds.ensures.truth.0 c.if-holds.true));
-    }
+    let i = c.loop-i.i in
+    let same = same_step step c.as_slice-in-loop-i.result.now c.as_slice-in-loop-i-2.result.now c.as_slice-in-loop-i.ensures.bytes (ap spec.texts c.as_slice-in-loop-i-2.ensures.value ∙ c.in_ok-write.ensures ∙ c.as_slice.ensures.items) in
+    let takes = subst (λ (s : GroundAction). spec.Takes s c.loop-i.run c.take.new.self c.in_ok-why.field-0) same c.in_ok-why.ensures.taken in
+    let taken = subst (spec.Takes step c.loop-i.run c.take.new.self) c.in_default.is takes in
+    taken_more c.args.p.now plan i step c.loop-i-test.true c.index-plan-i.is c.take.new.self (taken c.args.p.now (take i plan) c.loop-i.invariant)
 
 pub returns : goal.returns
 returns c =
     let p = c.args.p.now in
-    let none = ap (λ (f : Frame). f.objects) c.clear.ensures in
-    record {
-      verdict = laws.run_goal_fails p c.loop-i.state c.args.plan.now c.loop-i.i c.loop-i-test.false c.loop-i.invariant.0
-          (λ t. true≢false (sym (c.holds.ensures.truth.1 (subst (IsTrueIn (InTypeOf p) (atoms c.loop-i.state) c.args.p.now.goal) (sym none) t)) ∙ c.if-holds.false));
-    }
+    let plan = c.args.plan.now in
+    let reaches = subst (spec.Reaches c.loop-i.run) c.if-reaches_goal.false c.reaches_goal.ensures.goal in
+    record { verdict = reaches p plan (taken_all p plan c.loop-i.i c.loop-i.run c.loop-i-test.false c.loop-i.invariant) }

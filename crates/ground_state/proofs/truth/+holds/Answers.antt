@@ -109,8 +109,8 @@ holds-returns-in-Exists-clause-truth t c =
     truth.is-Exists (InType c.args.types.now c.args.objects.now) (atoms c.args.s.now) c.args.env.now.values.items c.args.f.now c.in-Exists.params c.as_slice-in-Exists.result.now c.in-Exists.body c.get-in-Exists.result.now c.is_found-in-Exists.result
     c.in-Exists.is c.as_slice-in-Exists.ensures.items c.get-in-Exists.ensures.value c.is_found-in-Exists.ensures.answer
 
-pub is_among-holds-requires : goal.is_among-holds-requires
-is_among-holds-requires t c = (
+pub is_among-is_true-requires : goal.is_among-is_true-requires
+is_among-is_true-requires t c = (
   (let d = c.decreases in let l = sizes.falls-part c.args.parts.now c.loop-part.part-index c.part-item.result c.part-item.result c.loop-part-test.true c.part-item.is in omega (arith, d, l)),
   (
     c.requires.listed,
@@ -171,3 +171,22 @@ is_found-returns-clause-answer t c =
     let each : (o : ℕ) (os : List ℕ) → I o c.in-Some.param.now.ty → AreTyped I c.in-Some.rest.now os → P ((c.args.env.now.values.items ++ o ∷ []) ++ os) =
     λ o os i a. c.loop-object.invariant.1 o os (let l = in_type_within c.args.types.now c.args.objects.now c.in-Some.param.now.ty o i in let e = c.loop-object-test.false in let n = c.len-object-end.ensures.length in omega arith) ((typed o).1 i) a in
     λ os a. each-typed I P c.in-Some.param.now c.in-Some.rest.now c.args.env.now.values.items each os (subst (λ ps. AreTyped I ps os) first a)
+
+pub is_true-has_atom-requires : goal.is_true-has_atom-requires
+is_true-has_atom-requires t c = room.fits-Holds (frame c.args.env.now) c.args.f.now c.in-Holds.atom c.in-Holds.is c.requires.room
+
+pub is_true-returns-in-Holds-clause-truth : goal.is_true-returns-in-Holds-clause-truth
+is_true-returns-in-Holds-clause-truth t c = truth.is-Holds (InType c.args.types.now c.args.objects.now) (atoms c.args.s.now) c.args.env.now.values.items c.args.f.now c.in-Holds.atom c.has_atom.result c.in-Holds.is c.has_atom.ensures.truth
+
+pub is_true-has_atom-requires-in-Holds-get : goal.is_true-has_atom-requires-in-Holds-get
+is_true-has_atom-requires-in-Holds-get t c =
+    let env = frame c.args.env.now in
+    room.fits-Holds env c.get.result.now c.in-Holds-get.atom c.in-Holds-get.is (room.fits-Not env c.args.f.now c.in-Not.part c.get.result.now c.in-Not.is c.get.ensures.value c.requires.room)
+
+pub is_true-returns-in-Holds-get : goal.is_true-returns-in-Holds-get
+is_true-returns-in-Holds-get t c =
+    let I = InType c.args.types.now c.args.objects.now in
+    let S = atoms c.args.s.now in
+    let v = c.args.env.now.values.items in
+    let inside = truth.is-Holds I S v c.get.result.now c.in-Holds-get.atom c.has_atom-in-Holds-get.result c.in-Holds-get.is c.has_atom-in-Holds-get.ensures.truth in
+    record { truth = truth.is-Not I S v c.args.f.now c.in-Not.part c.get.result.now c.has_atom-in-Holds-get.result c.in-Not.is c.get.ensures.value inside; kept = c.has_atom-in-Holds-get.ensures.kept }

@@ -1,4 +1,4 @@
-use Rattle.std.proofs.Common.{ℕ, ◌≡◌, ◌+◌, ◌<◌, ◌++◌, not, List, [], ◌∷◌, length, get_or}
+use Rattle.std.proofs.Common.{ℕ, ◌≡◌, ◌+◌, ◌*◌, ◌<◌, ◌++◌, not, List, [], ◌∷◌, length, get_or}
 use Rattle.plan_model.specs.declared.formulas.Formula.{Formula}
 use Rattle.plan_model.specs.Typing.{InType}
 use Rattle.plan_meaning.specs.Truth.{IsTrueIn, AreTyped}
@@ -10,13 +10,16 @@ use Rattle.ground_state.proofs.Sizes.{size, sizes}
 use Rattle.ground_state.proofs.truth.+holds.Given as goal
 
 abbrev pub decreases-holds : goal.decreases-holds
-decreases-holds l = size l.f.now
+decreases-holds l = 2 * size l.f.now
+
+abbrev pub decreases-is_true : goal.decreases-is_true
+decreases-is_true l = 1 + 2 * size l.f.now
 
 abbrev pub decreases-is_among : goal.decreases-is_among
-decreases-is_among l = 1 + sizes l.parts.now
+decreases-is_among l = 2 + 2 * sizes l.parts.now
 
 abbrev pub decreases-is_found : goal.decreases-is_found
-decreases-is_found l = 1 + length l.params.now + size l.body.now
+decreases-is_found l = 1 + 2 * length l.params.now + 2 * size l.body.now
 
 -- the parts so far are not as wanted
 abbrev pub invariant-is_among-loop-part : goal.invariant-is_among-loop-part

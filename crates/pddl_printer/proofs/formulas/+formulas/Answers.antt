@@ -30,7 +30,7 @@ put_formula-returns-in-Equal t c =
     let l = term_part v s c.in-Equal.left in
     let r = term_part v s c.in-Equal.right in
     wrote-at behind (sym (ap (λ f. formula_part v f s) c.in-Equal.is ∙ part-Equal v c.in-Equal.left c.in-Equal.right s))
-    (wrote-headed (codes "=") (part l (part r nothing)) c.put.ensures (wrote-two l r c.put_term.ensures c.put_term-in-Equal.ensures) c.put-in-Equal.ensures)
+    (wrote-headed (codes "=") (part l (part r nothing)) c.put.ensures.wrote (wrote-two l r c.put_term.ensures c.put_term-in-Equal.ensures) c.put-in-Equal.ensures.wrote)
 
 pub put_formula-returns-in-Not : goal.put_formula-returns-in-Not
 put_formula-returns-in-Not t c =
@@ -38,21 +38,21 @@ put_formula-returns-in-Not t c =
     let s : List Word = words_in_force c.args.p.now c.args.scope.now in
     let q = formula_part v c.in-Not.part s in
     wrote-at behind (sym (ap (λ f. formula_part v f s) c.in-Not.is ∙ part-Not v c.in-Not.part s))
-    (wrote-headed (codes "not") (part q nothing) c.put-in-Not.ensures (wrote-one q (wrote-at (λ f. behind (formula_part v f s)) c.get.ensures.value c.put_formula.ensures)) c.put-in-Not-2.ensures)
+    (wrote-headed (codes "not") (part q nothing) c.put-in-Not.ensures.wrote (wrote-one q (wrote-at (λ f. behind (formula_part v f s)) c.get.ensures.value c.put_formula.ensures)) c.put-in-Not-2.ensures.wrote)
 
 pub put_formula-returns-in-And : goal.put_formula-returns-in-And
 put_formula-returns-in-And t c =
     let v = pddl_words c.args.p.now in
     let s : List Word = words_in_force c.args.p.now c.args.scope.now in
     wrote-at behind (sym (ap (λ f. formula_part v f s) c.in-And.is ∙ part-And v c.in-And.parts s))
-    (wrote-headed (codes "and") (all v s c.in-And.parts) c.put-in-And.ensures (wrote-at (λ fs. bytes_behind (all v s fs)) c.as_slice.ensures.items c.put_formulas.ensures) c.put-in-And-2.ensures)
+    (wrote-headed (codes "and") (all v s c.in-And.parts) c.put-in-And.ensures.wrote (wrote-at (λ fs. bytes_behind (all v s fs)) c.as_slice.ensures.items c.put_formulas.ensures) c.put-in-And-2.ensures.wrote)
 
 pub put_formula-returns-in-Or : goal.put_formula-returns-in-Or
 put_formula-returns-in-Or t c =
     let v = pddl_words c.args.p.now in
     let s : List Word = words_in_force c.args.p.now c.args.scope.now in
     wrote-at behind (sym (ap (λ f. formula_part v f s) c.in-Or.is ∙ part-Or v c.in-Or.parts s))
-    (wrote-headed (codes "or") (all v s c.in-Or.parts) c.put-in-Or.ensures (wrote-at (λ fs. bytes_behind (all v s fs)) c.as_slice-in-Or.ensures.items c.put_formulas-in-Or.ensures) c.put-in-Or-2.ensures)
+    (wrote-headed (codes "or") (all v s c.in-Or.parts) c.put-in-Or.ensures.wrote (wrote-at (λ fs. bytes_behind (all v s fs)) c.as_slice-in-Or.ensures.items c.put_formulas-in-Or.ensures) c.put-in-Or-2.ensures.wrote)
 
 pub put_formula-returns-in-Imply : goal.put_formula-returns-in-Imply
 put_formula-returns-in-Imply t c =
@@ -61,9 +61,9 @@ put_formula-returns-in-Imply t c =
     let q = formula_part v c.in-Imply.premise s in
     let r = formula_part v c.in-Imply.conclusion s in
     wrote-at behind (sym (ap (λ f. formula_part v f s) c.in-Imply.is ∙ part-Imply v c.in-Imply.premise c.in-Imply.conclusion s))
-    (wrote-headed (codes "imply") (part q (part r nothing)) c.put-in-Imply.ensures
+    (wrote-headed (codes "imply") (part q (part r nothing)) c.put-in-Imply.ensures.wrote
     (wrote-two q r (wrote-at (λ f. behind (formula_part v f s)) c.get-in-Imply.ensures.value c.put_formula-in-Imply.ensures) (wrote-at (λ f. behind (formula_part v f s)) c.get-in-Imply-2.ensures.value c.put_formula-in-Imply-2.ensures))
-    c.put-in-Imply-2.ensures)
+    c.put-in-Imply-2.ensures.wrote)
 
 pub put_formula-returns-in-Forall : goal.put_formula-returns-in-Forall
 put_formula-returns-in-Forall t c =
@@ -72,10 +72,10 @@ put_formula-returns-in-Forall t c =
     let g = group (params_parts v c.in-Forall.params) in
     let q = formula_part v c.in-Forall.body (words_within c.args.p.now c.args.scope.now c.in-Forall.params) in
     wrote-at behind (sym (ap (λ f. formula_part v f s) c.in-Forall.is ∙ part-Forall v c.in-Forall.params c.in-Forall.body s))
-    (wrote-headed (codes "forall") (part g (part q nothing)) c.put-in-Forall.ensures
+    (wrote-headed (codes "forall") (part g (part q nothing)) c.put-in-Forall.ensures.wrote
     (wrote-two g q (wrote-at (listed v) c.as_slice-in-Forall.ensures.items c.put_variables.ensures)
     (wrote-as (λ i. behind (formula_part v (c.get-in-Forall.ensures.value i) (words_within c.args.p.now c.args.scope.now (c.as_slice-in-Forall-2.ensures.items i)))) c.put_within.ensures))
-    c.put-in-Forall-2.ensures)
+    c.put-in-Forall-2.ensures.wrote)
 
 pub put_formula-returns-in-Exists : goal.put_formula-returns-in-Exists
 put_formula-returns-in-Exists t c =
@@ -84,10 +84,10 @@ put_formula-returns-in-Exists t c =
     let g = group (params_parts v c.in-Exists.params) in
     let q = formula_part v c.in-Exists.body (words_within c.args.p.now c.args.scope.now c.in-Exists.params) in
     wrote-at behind (sym (ap (λ f. formula_part v f s) c.in-Exists.is ∙ part-Exists v c.in-Exists.params c.in-Exists.body s))
-    (wrote-headed (codes "exists") (part g (part q nothing)) c.put-in-Exists.ensures
+    (wrote-headed (codes "exists") (part g (part q nothing)) c.put-in-Exists.ensures.wrote
     (wrote-two g q (wrote-at (listed v) c.as_slice-in-Exists.ensures.items c.put_variables-in-Exists.ensures)
     (wrote-as (λ i. behind (formula_part v (c.get-in-Exists.ensures.value i) (words_within c.args.p.now c.args.scope.now (c.as_slice-in-Exists-2.ensures.items i)))) c.put_within-in-Exists.ensures))
-    c.put-in-Exists-2.ensures)
+    c.put-in-Exists-2.ensures.wrote)
 
 pub put_formulas-loop-formula-preserved : goal.put_formulas-loop-formula-preserved
 put_formulas-loop-formula-preserved t c = each-next (λ f. behind (formula_part (pddl_words c.args.p.now) f (words_in_force c.args.p.now c.args.scope.now))) c.args.formulas.now c.loop-formula.formula-index c.formula-item.result c.loop-formula-test.true c.formula-item.is c.loop-formula.invariant c.put_formula.ensures

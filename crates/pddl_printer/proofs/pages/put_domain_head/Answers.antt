@@ -16,6 +16,6 @@ returns c =
     let types = typed_parts (map (parent_words v) c.args.p.now.types.parents) in
     let constants = typed_parts (map (object_words v) c.args.p.now.objects) in
     let predicates = all_parts (map (predicate_part v) c.args.p.now.predicates) in
-    let three = wrote-line (codes ":predicates") predicates nothing c.put-6.ensures (wrote-at (λ ds. bytes_behind (all_parts (map (predicate_part v) ds))) c.as_slice-3.ensures.items (wrote-as (behind-each (predicate_part v) c.as_slice-3.result.now) c.put_items-3.ensures)) c.put-7.ensures (wrote-nothing c.put-7.new.self) in
-    let two = wrote-line (codes ":constants") constants (part (headed (codes ":predicates") predicates) nothing) c.put-4.ensures (wrote-at (λ xs. bytes_behind (typed_parts (map (object_words v) xs))) c.as_slice-2.ensures.items (wrote-as (typed-each (object_words v) c.as_slice-2.result.now) c.put_items-2.ensures)) c.put-5.ensures three in
-    wrote-then c.put.ensures (wrote-line (codes ":types") types (part (headed (codes ":constants") constants) (part (headed (codes ":predicates") predicates) nothing)) c.put-2.ensures (wrote-at (λ xs. bytes_behind (typed_parts (map (parent_words v) xs))) c.as_slice.ensures.items (wrote-as (typed-each (parent_words v) c.as_slice.result.now) c.put_items.ensures)) c.put-3.ensures two)
+    let three = wrote-line (codes ":predicates") predicates nothing c.put-6.ensures.wrote (wrote-at (λ ds. bytes_behind (all_parts (map (predicate_part v) ds))) c.as_slice-3.ensures.items (wrote-as (behind-each (predicate_part v) c.as_slice-3.result.now) c.put_items-3.ensures)) c.put-7.ensures.wrote (wrote-nothing c.put-7.new.self) in
+    let two = wrote-line (codes ":constants") constants (part (headed (codes ":predicates") predicates) nothing) c.put-4.ensures.wrote (wrote-at (λ xs. bytes_behind (typed_parts (map (object_words v) xs))) c.as_slice-2.ensures.items (wrote-as (typed-each (object_words v) c.as_slice-2.result.now) c.put_items-2.ensures)) c.put-5.ensures.wrote three in
+    wrote-then c.put.ensures.wrote (wrote-line (codes ":types") types (part (headed (codes ":constants") constants) (part (headed (codes ":predicates") predicates) nothing)) c.put-2.ensures.wrote (wrote-at (λ xs. bytes_behind (typed_parts (map (parent_words v) xs))) c.as_slice.ensures.items (wrote-as (typed-each (parent_words v) c.as_slice.result.now) c.put_items.ensures)) c.put-3.ensures.wrote two)

@@ -3,6 +3,7 @@ use Rattle.text_forms.specs.Lists.{nothing, part, joined}
 use Rattle.plan_texts.specs.Declared.{named}
 use Rattle.plan_texts.specs.SpellsPddl.{pddl_words}
 use Rattle.plan_texts.specs.Printed.{formula_part}
+use Rattle.pddl_printer.specs.Measured.{range_of}
 use Rattle.pddl_printer.specs.InForm.{condition_in}
 use Rattle.pddl_printer.specs.Heads.{problem_head}
 use Rattle.sheets.proofs.Written.{wrote-as, wrote-nothing}
@@ -15,9 +16,11 @@ use Rattle.pddl_printer.proofs.pages.put_problem.Goals as goal
 pub returns : goal.returns
 returns c =
     let p = c.args.p.now in
-    let wanted = formula_part (pddl_words p) (condition_in c.args.range 0 p.goal) [] in
-    let line = wrote-line (codes ":goal") (part wanted nothing) nothing c.put-3.ensures (wrote-one wanted c.put_condition.ensures) c.put-4.ensures (wrote-nothing c.put-4.new.self) in
-    wrote-as (problem-in c.args.range p)
-    (wrote-page (codes "problem") (named p.names p.problem) (joined (problem_head p) (goal_parts c.args.range p)) c.put.ensures c.put_name.ensures c.put-2.ensures
-    (wrote-head (problem_head p) (goal_parts c.args.range p) c.put_problem_head.ensures line)
-    c.put-5.ensures)
+    let wanted = formula_part (pddl_words p) (condition_in (range_of c.args.written) 0 p.goal) [] in
+    let line = wrote-line (codes ":goal") (part wanted nothing) nothing c.put-3.ensures.wrote (wrote-one wanted c.put_condition.ensures) c.put-4.ensures.wrote (wrote-nothing c.put-4.new.self) in
+    record {
+      put = wrote-as (problem-in (range_of c.args.written) p)
+          (wrote-page (codes "problem") (named p.names p.problem) (joined (problem_head p) (goal_parts (range_of c.args.written) p)) c.put.ensures.wrote c.put_name.ensures c.put-2.ensures.wrote
+          (wrote-head (problem_head p) (goal_parts (range_of c.args.written) p) c.put_problem_head.ensures line)
+          c.put-5.ensures.wrote);
+    }

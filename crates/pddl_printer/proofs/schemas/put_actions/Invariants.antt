@@ -2,9 +2,10 @@ use Rattle.std.proofs.Common.{take}
 use Rattle.plan_texts.specs.SpellsPddl.{pddl_words}
 use Rattle.plan_texts.specs.PrintedTexts.{action_part}
 use Rattle.pddl_printer.specs.Behind.{line, of_each}
+use Rattle.pddl_printer.specs.Measured.{range_of}
 use Rattle.pddl_printer.specs.InForm.{action_in}
 use Rattle.sheets.specs.Sheets.{Wrote}
 use Rattle.pddl_printer.proofs.schemas.put_actions.Given as goal
 
 abbrev pub invariant-loop-action : goal.invariant-loop-action
-invariant-loop-action l = Wrote (of_each (λ a. line (action_part (pddl_words l.p) (action_in l.range a))) (take l.action-index l.actions)) l.fn.sheet l.sheet
+invariant-loop-action l = Wrote (of_each (λ a. line (action_part (pddl_words l.p) (action_in (range_of l.written) a))) (take l.action-index l.actions)) l.fn.sheet l.sheet

@@ -13,4 +13,4 @@ use Rattle.pddl_printer.proofs.terms.put_atom.Goals as goal
 pub returns : goal.returns
 returns c =
     let parts : List Term → Parts = λ ts. all_parts (map (term_part (pddl_words c.args.p.now) (words_in_force c.args.p.now c.args.scope.now)) ts) in
-    wrote-headed (word_at (pddl_words c.args.p.now).predicates c.args.atom.now.predicate) (parts c.args.atom.now.args) (wrote-then c.put.ensures c.put_predicate.ensures) (wrote-at (λ ts. bytes_behind (parts ts)) c.as_slice.ensures.items c.put_terms.ensures) c.put-2.ensures
+    wrote-headed (word_at (pddl_words c.args.p.now).predicates c.args.atom.now.predicate) (parts c.args.atom.now.args) (wrote-then c.put.ensures.wrote c.put_predicate.ensures) (wrote-at (λ ts. bytes_behind (parts ts)) c.as_slice.ensures.items c.put_terms.ensures) c.put-2.ensures.wrote

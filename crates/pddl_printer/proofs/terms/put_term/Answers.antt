@@ -8,7 +8,7 @@ use Rattle.pddl_printer.proofs.Groups.{wrote-at}
 use Rattle.pddl_printer.proofs.terms.put_term.Goals as goal
 
 pub returns-in-Var : goal.returns-in-Var
-returns-in-Var c = wrote-at (λ t. behind (term_part (pddl_words c.args.p.now) (words_in_force c.args.p.now c.args.scope.now) t)) (sym c.in-Var.is) (wrote-then c.put.ensures c.put_variable.ensures)
+returns-in-Var c = wrote-at (λ t. behind (term_part (pddl_words c.args.p.now) (words_in_force c.args.p.now c.args.scope.now) t)) (sym c.in-Var.is) (wrote-then c.put.ensures.wrote c.put_variable.ensures)
 
 pub returns-in-Obj : goal.returns-in-Obj
-returns-in-Obj c = wrote-at (λ t. behind (term_part (pddl_words c.args.p.now) (words_in_force c.args.p.now c.args.scope.now) t)) (sym c.in-Obj.is) (wrote-then c.put-in-Obj.ensures c.put_object.ensures)
+returns-in-Obj c = wrote-at (λ t. behind (term_part (pddl_words c.args.p.now) (words_in_force c.args.p.now c.args.scope.now) t)) (sym c.in-Obj.is) (wrote-then c.put-in-Obj.ensures.wrote c.put_object.ensures)

@@ -9,4 +9,4 @@ use Rattle.pddl_printer.proofs.Typed.{either-bytes}
 
 pub returns-in_default : goal.returns-in_default
 returns-in_default c =
-    wrote-as (either-bytes (map (word_at (pddl_types c.args.p.now)) c.args.types.now) (let l = c.in_default.len_at_least in let m = length-map c.args.types.now (word_at (pddl_types c.args.p.now)) in omega arith)) (wrote-then c.put.ensures (wrote-then c.put_types.ensures c.put-in_default.ensures))
+    wrote-as (either-bytes (map (word_at (pddl_types c.args.p.now)) c.args.types.now) (let l = c.in_default.len_at_least in let m = length-map c.args.types.now (word_at (pddl_types c.args.p.now)) in omega arith)) (wrote-then c.put.ensures.wrote (wrote-then c.put_types.ensures c.put-in_default.ensures.wrote))

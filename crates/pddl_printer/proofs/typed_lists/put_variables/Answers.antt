@@ -4,4 +4,4 @@ use Rattle.pddl_printer.proofs.Groups.{wrote-group}
 use Rattle.pddl_printer.proofs.typed_lists.put_variables.Goals as goal
 
 pub returns : goal.returns
-returns c = wrote-group (params_parts (pddl_words c.args.p.now) c.args.params.now) c.put.ensures c.put_between.ensures c.put-2.ensures
+returns c = wrote-group (params_parts (pddl_words c.args.p.now) c.args.params.now) c.put.ensures.wrote c.put_between.ensures c.put-2.ensures.wrote

@@ -19,7 +19,7 @@ returns-in-And c =
     let d = c.args.of.depth in
     let parts = joined (map (condition_parts r d) c.in-And.parts) in
     wrote-at behind (sym (ap (λ f. formula_part v (condition r d f) s) c.in-And.is ∙ ap (λ f. formula_part v f s) (condition-And r d c.in-And.parts) ∙ part-And v parts s))
-    (wrote-headed (codes "and") (all_parts (map (λ f. formula_part v f s) parts)) c.put.ensures (wrote-at (λ fs. conditions_behind v s (joined (map (condition_parts r d) fs))) c.as_slice.ensures.items c.put_condition_parts.ensures) c.put-in-And.ensures)
+    (wrote-headed (codes "and") (all_parts (map (λ f. formula_part v f s) parts)) c.put.ensures.wrote (wrote-at (λ fs. conditions_behind v s (joined (map (condition_parts r d) fs))) c.as_slice.ensures.items c.put_condition_parts.ensures) c.put-in-And.ensures.wrote)
 
 pub returns-in_default : goal.returns-in_default
 returns-in_default c =

@@ -19,7 +19,7 @@ returns-in-And c =
     let d = c.args.of.depth in
     let parts = joined (map (effect_parts r d) c.in-And.parts) in
     wrote-at behind (sym (ap (λ e. effect_part v (effect r d e) s) c.in-And.is ∙ ap (λ e. effect_part v e s) (written.effect-And r d c.in-And.parts) ∙ printed.effect-And v parts s))
-    (wrote-headed (codes "and") (all_parts (map (λ e. effect_part v e s) parts)) c.put.ensures (wrote-at (λ es. effects_behind v s (joined (map (effect_parts r d) es))) c.as_slice.ensures.items c.put_effect_parts.ensures) c.put-in-And.ensures)
+    (wrote-headed (codes "and") (all_parts (map (λ e. effect_part v e s) parts)) c.put.ensures.wrote (wrote-at (λ es. effects_behind v s (joined (map (effect_parts r d) es))) c.as_slice.ensures.items c.put_effect_parts.ensures) c.put-in-And.ensures.wrote)
 
 pub returns-in_default : goal.returns-in_default
 returns-in_default c =

@@ -1,5 +1,5 @@
-use Rattle.problem_texts.proofs.Printed.{printed_in_style}
+use Rattle.problem_texts.proofs.Styles.{if-printed}
 use Rattle.problem_texts.proofs.printing.texts_of.Goals as goal
 
 pub returns : goal.returns
-returns c = record { printed = printed_in_style c.args.c.now c.requires.compiled c.args.slots c.args.style.now c.in_ok-value.value c.in_ok-value.ensures.encoded c.in_ok-value.ensures.words c.in_ok-value.ensures.short c.texts_in_style-texts.result c.texts_in_style-texts.ensures }
+returns c = record { printed = if-printed c.args.c.now c.requires.compiled c.args.slots c.in_ok-encoding.encoding c.in_ok-encoding.ensures.encoding c.in_ok-encoding.ensures.slots c.in_ok-encoding.ensures.style c.args.style.now c.args.limit c.texts_within-printed.result c.texts_within-printed.ensures }

@@ -2,7 +2,7 @@ use Rattle.std.proofs.Common.{◌++◌, [], ◌∷◌, refl, ap, ◌∙◌, arit
 use Rattle.slot_encoding.specs.EncodedValue as spec
 use Rattle.slot_encoding.specs.EncodedNames.{first_check}
 use Rattle.order_encoder.proofs.NextSlot.{put_is}
-use Rattle.printed_sizes.proofs.MethodCounts.{check_next}
+use Rattle.slot_encoder.proofs.CheckNumbers.{check_next}
 use Rattle.slot_encoder.proofs.Numbered.{along_next}
 use Rattle.slot_encoder.specs.Made as made
 use Rattle.slot_encoder.proofs.actions.push_methods.Goals as goal

@@ -2,7 +2,7 @@ use Rattle.std.proofs.Common.{◌++◌, map, length, ap, ◌∙◌}
 use Rattle.plan_model.proofs.PartsOf.{in_type_within}
 use Rattle.plan_meaning.specs.Network.{InTypeOf}
 use Rattle.slot_encoding.specs.EncodedValue.{atom}
-use Rattle.printed_sizes.proofs.KeptNumbers.{keeps_members}
+use Rattle.slot_encoder.proofs.KeptNumbers.{keeps_members}
 use Rattle.slot_encoder.proofs.initial.push_members.Goals as goal
 
 pub returns : goal.returns

@@ -1,5 +1,5 @@
 use Rattle.std.specs.HashSet.{contains}
-use Rattle.printed_sizes.proofs.SeenAtoms.{same_key, seen_more}
+use Rattle.slot_encoder.proofs.SeenAtoms.{same_key, seen_more}
 use Rattle.slot_encoder.proofs.SingleAtoms.{single_next}
 use Rattle.slot_encoder.proofs.single.push_single.Goals as goal
 

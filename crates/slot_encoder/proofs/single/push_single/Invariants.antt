@@ -5,7 +5,7 @@ use Rattle.plan_model.specs.declared.terms.GroundAtom.{GroundAtom}
 use Rattle.plan_meaning.specs.Compilation.{once}
 use Rattle.slot_encoding.specs.EncodedValue.{same_atom}
 use Rattle.plan_meaning.proofs.Once.{has}
-use Rattle.printed_sizes.proofs.SeenAtoms.{same_key}
+use Rattle.slot_encoder.proofs.SeenAtoms.{same_key}
 use Rattle.slot_encoder.proofs.single.push_single.Given as goal
 
 abbrev pub invariant-loop-atom : goal.invariant-loop-atom

@@ -10,5 +10,5 @@ use Rattle.pddl_printer.proofs.facts.GroundAtomItem.put.Goals as goal
 
 pub returns : goal.returns
 returns c =
-    wrote-headed (word_at (pddl_words c.args.p.now).predicates c.args.self.now.predicate) (all_parts (map (term_part (pddl_words c.args.p.now) []) (map (λ x. Obj x) c.args.self.now.args))) (wrote-then c.put.ensures c.put_predicate.ensures)
-    (wrote-at (λ os. bytes_behind (all_parts (map (term_part (pddl_words c.args.p.now) []) (map (λ x. Obj x) os)))) c.as_slice.ensures.items c.put_objects.ensures) c.put-2.ensures
+    wrote-headed (word_at (pddl_words c.args.p.now).predicates c.args.self.now.predicate) (all_parts (map (term_part (pddl_words c.args.p.now) []) (map (λ x. Obj x) c.args.self.now.args))) (wrote-then c.put.ensures.wrote c.put_predicate.ensures)
+    (wrote-at (λ os. bytes_behind (all_parts (map (term_part (pddl_words c.args.p.now) []) (map (λ x. Obj x) os)))) c.as_slice.ensures.items c.put_objects.ensures) c.put-2.ensures.wrote

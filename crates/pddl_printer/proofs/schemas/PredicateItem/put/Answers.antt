@@ -8,4 +8,4 @@ use Rattle.pddl_printer.proofs.Groups.{wrote-at, wrote-headed}
 use Rattle.pddl_printer.proofs.schemas.PredicateItem.put.Goals as goal
 
 pub returns : goal.returns
-returns c = wrote-headed (named c.args.p.now.names c.args.self.now.name) (params_parts (pddl_words c.args.p.now) c.args.self.now.params) (wrote-then c.put.ensures c.put_name.ensures) (wrote-at (λ xs. bytes_behind (params_parts (pddl_words c.args.p.now) xs)) c.as_slice.ensures.items (wrote-as (typed-each (param_words (pddl_words c.args.p.now)) c.as_slice.result.now) c.put_items.ensures)) c.put-2.ensures
+returns c = wrote-headed (named c.args.p.now.names c.args.self.now.name) (params_parts (pddl_words c.args.p.now) c.args.self.now.params) (wrote-then c.put.ensures.wrote c.put_name.ensures) (wrote-at (λ xs. bytes_behind (params_parts (pddl_words c.args.p.now) xs)) c.as_slice.ensures.items (wrote-as (typed-each (param_words (pddl_words c.args.p.now)) c.as_slice.result.now) c.put_items.ensures)) c.put-2.ensures.wrote

@@ -1,0 +1,3 @@
+pub mod AllWords
+-- Why the conditions are there.
+mod WithoutWords

@@ -1,0 +1,55 @@
+-- A conjunction with the quantifiers over a range written out, if there is one: what stands in place of its parts.
+use Rattle.std.proofs.Common.{ℕ, ◌≡◌, List, [], ◌∷◌, ◌++◌, Option, None, Some, map, codes, refl, ap, sym, ◌∙◌, append_assoc}
+use Rattle.text_forms.specs.Words.{Word}
+use Rattle.text_forms.specs.Printing.{headed}
+use Rattle.plan_texts.specs.Declared.{Declared}
+use Rattle.plan_texts.specs.Printed.{all_parts, formula_part}
+use Rattle.plan_texts.proofs.Equations.{part-And}
+use Rattle.plan_model.specs.declared.formulas.Formula.{Formula}
+use Rattle.plan_model.specs.declared.formulas.Formula.TheVariants.{Equal, And}
+use Rattle.plan_model.specs.declared.terms.Term.TheVariants.{Var}
+use Rattle.pddl_printer.specs.declared.object_range.Range.{Range}
+use Rattle.pddl_printer.specs.WrittenOut.{joined, condition_parts, quantified}
+use Rattle.pddl_printer.specs.InForm.{condition_in, parts_in}
+use Rattle.pddl_printer.specs.Literals.{conditions_behind}
+use Rattle.pddl_printer.specs.Splits.{unequal, all_differ}
+use Rattle.pddl_printer.proofs.Ranges.{behind-append}
+use Rattle.pddl_printer.proofs.written_out.Equations.{out-Not, condition-And}
+
+conjunction-in : (range : Option Range) (depth : ℕ) (fs : List Formula) → condition_in range depth (And fs) ≡ And (parts_in range depth fs)
+conjunction-in None depth fs = refl
+conjunction-in (Some r) depth fs = condition-And r depth fs
+
+pub conjunction-part : (v : Declared) (s : List Word) (range : Option Range) (depth : ℕ) (fs : List Formula) → headed (codes "and") (all_parts (map (λ f. formula_part v f s) (parts_in range depth fs))) ≡ formula_part v (condition_in range depth (And fs)) s
+conjunction-part v s range depth fs = sym (ap (λ f. formula_part v f s) (conjunction-in range depth fs) ∙ part-And v (parts_in range depth fs) s)
+
+module _ (r : Range) (depth : ℕ) where
+  stays : (a b : ℕ) → condition_parts r depth (unequal a b) ≡ unequal a b ∷ []
+  stays a b = ap (quantified r depth (unequal a b)) (out-Not (Equal (Var a) (Var b)))
+
+  row-stays : (a : ℕ) (bs : List ℕ) (fs : List Formula) → joined (map (condition_parts r depth) (map (unequal a) bs ++ fs)) ≡ map (unequal a) bs ++ joined (map (condition_parts r depth) fs)
+  row-stays a [] fs = refl
+  row-stays a (b ∷ bs) fs = (λ i. stays a b i ++ row-stays a bs fs i)
+
+  differ-stay : (vs : List ℕ) (fs : List Formula) → joined (map (condition_parts r depth) (all_differ vs ++ fs)) ≡ all_differ vs ++ joined (map (condition_parts r depth) fs)
+  differ-stay [] fs = refl
+  differ-stay (v ∷ vs) fs =
+      ap (λ z. joined (map (condition_parts r depth) z)) (append_assoc (map (unequal v) vs) (all_differ vs) fs) ∙ row-stays v vs (all_differ vs ++ fs)
+      ∙ ap (λ z. map (unequal v) vs ++ z) (differ-stay vs fs) ∙ sym (append_assoc (map (unequal v) vs) (all_differ vs) (joined (map (condition_parts r depth) fs)))
+
+  joined-behind : (fs gs : List Formula) → joined (map (condition_parts r depth) (fs ++ gs)) ≡ joined (map (condition_parts r depth) fs) ++ joined (map (condition_parts r depth) gs)
+  joined-behind [] gs = refl
+  joined-behind (f ∷ fs) gs = ap (λ z. condition_parts r depth f ++ z) (joined-behind fs gs) ∙ sym (append_assoc (condition_parts r depth f) (joined (map (condition_parts r depth) fs)) (joined (map (condition_parts r depth) gs)))
+
+split-in : (range : Option Range) (depth : ℕ) (before : List Formula) (vs : List ℕ) (after : List Formula) → parts_in range depth (before ++ (all_differ vs ++ after)) ≡ parts_in range depth before ++ (all_differ vs ++ parts_in range depth after)
+split-in None depth before vs after = refl
+split-in (Some r) depth before vs after = joined-behind r depth before (all_differ vs ++ after) ∙ ap (λ z. joined (map (condition_parts r depth) before) ++ z) (differ-stay r depth vs after)
+
+-- the bytes of the three together
+pub split-bytes : (v : Declared) (s : List Word) (range : Option Range) (depth : ℕ) (before : List Formula) (vs : List ℕ) (after : List Formula)
+    → conditions_behind v s (parts_in range depth before) ++ (conditions_behind v s (all_differ vs) ++ conditions_behind v s (parts_in range depth after)) ≡ conditions_behind v s (parts_in range depth (before ++ (all_differ vs ++ after)))
+split-bytes v s range depth before vs after =
+    let g = λ (f : Formula). formula_part v f s in
+    let a = parts_in range depth before in
+    let z = parts_in range depth after in
+    sym (ap (conditions_behind v s) (split-in range depth before vs after) ∙ behind-append g a (all_differ vs ++ z) ∙ ap (λ y. conditions_behind v s a ++ y) (behind-append g (all_differ vs) z))

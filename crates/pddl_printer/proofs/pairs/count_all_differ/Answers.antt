@@ -1,0 +1,28 @@
+use Rattle.std.proofs.Common.{◌≡◌, ◌+◌, ◌-◌, ◌*◌, ◌^◌, map, length, ap, sym, ◌∙◌}
+use Rattle.std.specs.Prelude.{min}
+use Rattle.task_networks.specs.Spelling.{numbers}
+use Rattle.task_networks.proofs.Numbers.{length-numbers}
+use Rattle.plan_texts.specs.Declared.{variable}
+use Rattle.plan_texts.specs.SpellsPddl.{pddl_words}
+use Rattle.pddl_printer.specs.Splits.{differ_text, letters}
+use Rattle.sheets.specs.Sheets.{capped}
+use Rattle.sheets.proofs.Written.{wrote-counted}
+use Rattle.pddl_printer.proofs.PairBytes.{differ-length, differ-counted}
+use Rattle.pddl_printer.proofs.pairs.count_all_differ.Goals as goal
+
+pub returns : goal.returns
+returns c =
+    let p = c.args.p.now in
+    let xs = c.args.params.now in
+    let v = pddl_words p in
+    let n = c.args.count in
+    let vs = numbers c.args.first n in
+    let l = letters p xs vs in
+    let long : length (differ_text p xs vs) ≡ 7 * (n * (n - 1)) + (n - 1) * l =
+    differ-length v (map (variable v) xs) vs ∙ ap (λ m. 7 * (m * (m - 1)) + (m - 1) * l) (length-numbers c.args.first n) in
+    let others : c.saturating_sub-others.result ≡ n - 1 = c.saturating_sub-others.ensures ∙ ap (λ m. m - 1) c.from-count.ensures in
+    let made : c.saturating_add.result ≡ capped (min (n * (n - 1) * 7) (2 ^ 64 - 1) + min ((n - 1) * capped l) (2 ^ 64 - 1)) =
+    let x : c.saturating_mul.result ≡ min (n * (n - 1) * 7) (2 ^ 64 - 1) = c.saturating_mul.ensures ∙ (λ i. min (c.from-count.ensures i * others i * 7) (2 ^ 64 - 1)) in
+    let y : c.saturating_mul-2.result ≡ min ((n - 1) * capped l) (2 ^ 64 - 1) = c.saturating_mul-2.ensures ∙ (λ i. min (others i * c.letters_of-letters.ensures i) (2 ^ 64 - 1)) in
+    c.saturating_add.ensures ∙ (λ i. capped (x i + y i)) in
+    wrote-counted (differ_text p xs vs) c.saturating_add.result c.requires.over (made ∙ differ-counted n l ∙ ap capped (sym long)) c.skip.ensures.counted

@@ -1,0 +1,8 @@
+use Rattle.std.proofs.Common.{◌≡◌}
+use Rattle.task_networks.specs.Spelling.{numbers}
+use Rattle.sheets.specs.Sheets.{capped}
+use Rattle.pddl_printer.specs.Splits.{letters}
+use Rattle.pddl_printer.proofs.pairs.letters_of.Given as goal
+
+abbrev pub invariant-loop-k : goal.invariant-loop-k
+invariant-loop-k l = l.letters ≡ capped (letters l.p l.params (numbers l.first l.k))

@@ -1,0 +1,42 @@
+ghost use Rattle.std.specs.Prelude.{◌≡◌};
+ghost use Rattle.pddl_printer.specs.Holes.{is_hole as hole, holes_among, holes as holes_of};
+ghost use Rattle.sheets.specs.Sheets.{capped};
+
+use crate::instances::Literal;
+use plan_model::Term;
+
+/// Whether this is the variable of this number.
+fn is_hole(term: Term, depth: usize) -> bool
+    ensures { result ≡ hole depth term }
+{
+    match term {
+        Term::Var(k) => k as usize == depth,
+        Term::Obj(_) => false,
+    }
+}
+
+/// How many times the variable of this number stands among terms.
+fn holes_in(terms: &[Term], depth: usize) -> u64
+    ensures { result ≡ holes_among depth terms.now }
+{
+    let mut count = 0;
+    for term in terms {
+        if is_hole(*term, depth) {
+            count += 1;
+        }
+    }
+    count
+}
+
+/// The same of a literal.
+pub(crate) fn holes(literal: &Literal<'_>, depth: usize) -> u64
+    ensures { result ≡ capped (holes_of depth literal.now) }
+{
+    match literal {
+        Literal::Held(atom) | Literal::Denied(atom) => holes_in(atom.args.as_slice(), depth),
+        Literal::Conditional(condition, added) => {
+            let among_added = holes_in(added.args.as_slice(), depth);
+            holes_in(condition.args.as_slice(), depth).saturating_add(among_added)
+        }
+    }
+}

@@ -1,0 +1,64 @@
+ghost use Rattle.std.specs.Prelude.{◌≡◌, ◌+◌, false};
+ghost use Rattle.task_networks.specs.Spelling.{numbers};
+ghost use Rattle.pddl_printer.specs.Splits.{row_text, differ_text, letters};
+ghost use Rattle.sheets.specs.Sheets.{Wrote, capped};
+
+use crate::words::variable_word;
+use plan_model::{Param, Pddl};
+use sheets::Sheet;
+
+/// Puts for each two of the variables 1 to `spare` that they differ, each behind a space. Where the sheet takes nothing more the rest
+/// is counted all at once.
+pub(crate) fn put_all_differ(p: &Pddl, params: &[Param], spare: u32, sheet: &mut Sheet<'_>)
+    ensures { Wrote (differ_text p.now params.now (numbers 1 spare)) sheet.old sheet.new }
+{
+    for k in 0..spare {
+        if !sheet.is_whole() {
+            return count_all_differ(p, params, k + 1, spare - k, sheet);
+        }
+        put_row(p, params, k + 1, spare - (k + 1), sheet);
+    }
+}
+
+/// Puts that a variable differs from each of so many behind it.
+fn put_row(p: &Pddl, params: &[Param], variable: u32, count: u32, sheet: &mut Sheet<'_>)
+    ensures { Wrote (row_text p.now params.now variable (numbers (variable + 1) count))
+        sheet.old sheet.new }
+{
+    let next = variable as usize + 1;
+    let word = variable_word(p, params, variable as usize);
+    for k in 0..count {
+        sheet.put(b" (not (= ?");
+        sheet.put(word);
+        sheet.put(b" ?");
+        sheet.put(variable_word(p, params, next + k as usize));
+        sheet.put(b"))");
+    }
+}
+
+/// Counts for each two of so many variables that they differ: 14 bytes and the two words, so each word as often as there are others.
+fn count_all_differ(p: &Pddl, params: &[Param], first: u32, count: u32, sheet: &mut Sheet<'_>)
+    requires over { sheet.old.whole ≡ false }
+    ensures { Wrote (differ_text p.now params.now (numbers first count)) sheet.old sheet.new }
+{
+    let letters = letters_of(p, params, first, count);
+    let count = u64::from(count);
+    let others = count.saturating_sub(1);
+    sheet.skip(
+        (count * others)
+            .saturating_mul(7)
+            .saturating_add(others.saturating_mul(letters)),
+    );
+}
+
+/// How many bytes the words of so many variables have together.
+fn letters_of(p: &Pddl, params: &[Param], first: u32, count: u32) -> u64
+    ensures { result ≡ capped (letters p.now params.now (numbers first count)) }
+{
+    let mut letters: u64 = 0;
+    for k in 0..count {
+        let word = variable_word(p, params, first as usize + k as usize);
+        letters = letters.saturating_add(word.len() as u64);
+    }
+    letters
+}

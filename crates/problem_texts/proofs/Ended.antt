@@ -1,0 +1,25 @@
+-- What stands on a text when all was put on a sheet over it.
+use Rattle.std.proofs.Common.{ℕ, ◌≡◌, ◌^◌, ◌<◌, List, Result, Ok, Err, IfOk, inl, refl, subst, ◌∙◌, arith}
+use Rattle.htn_base.specs.declared.memory.Memory.{Memory}
+use Rattle.plan_texts.specs.PrintedTexts.{domain_text, problem_text}
+use Rattle.plan_model.specs.declared.values.Pddl.{Pddl}
+use Rattle.sheets.specs.Sheets.{Wrote, IsFresh, EndsAs}
+use Rattle.sheets.specs.declared.sheet.Sheet.{Sheet}
+use Rattle.sheets.specs.declared.sheet.Ended.{Ended}
+use Rattle.sheets.specs.declared.sheet.Ended.TheVariants.{Whole, TooLong}
+use Rattle.sheets.proofs.Written.{whole-has, whole-fits, long-counts, long-is-long}
+use Rattle.problem_texts.specs.Lengths.{IsFirstPast}
+use Rattle.problem_texts.specs.Pages.{IsAppended}
+
+-- the text is as the sheet has it in the end
+module _ {bytes old : List ℕ} {limit : ℕ} {s t : Sheet} (fresh : IsFresh old limit s) (w : Wrote bytes s t) (new : List ℕ) (same : new ≡ t.into.now) where
+  pub is-appended : (r : Result Ended Memory) → ((n : ℕ) → r ≡ Ok (TooLong n) → n < 2 ^ 64) → EndsAs t r → IfOk r (IsAppended bytes limit old new)
+  is-appended (Ok Whole) fits e = (same ∙ whole-has fresh w e, whole-fits fresh w e)
+  is-appended (Ok (TooLong n)) fits e =
+      (long-is-long fresh w e.0 e.1, (let counts = long-counts fresh w in let n_is = e.2 in let small = fits n refl in omega (arith, counts, n_is, small)))
+  is-appended (Err m) fits e = tt
+
+-- the domain is the first that is too long
+pub past-domain : (limit : ℕ) (old new : List ℕ) (p q : Pddl) (ended : Ended) (n : ℕ) → p ≡ q → ended ≡ TooLong n → IsAppended (domain_text p) limit old new ended → IsFirstPast limit (domain_text q) (problem_text q) n
+past-domain limit old new p q ended n same is past =
+    subst (λ r. IsFirstPast limit (domain_text r) (problem_text r) n) same (inl (subst (IsAppended (domain_text p) limit old new) is past))
