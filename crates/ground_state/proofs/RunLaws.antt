@@ -20,8 +20,8 @@ use Rattle.ground_state.specs.declared.state.State.{State}
 use Rattle.ground_state.specs.Frames.{Frame, frame}
 use Rattle.ground_state.specs.Room.{fits, effect_fits, Fits, EffectFits}
 use Rattle.ground_state.specs.Needs.{HasRoomForAll}
-use Rattle.ground_state.specs.States.{atoms, Has}
-use Rattle.ground_state.specs.Runs.{cause, texts, words_step, AreArguments, IsRunnable, IsIndex, HasRoomIn, IsAsRoomy, IsTaken, HasTaken, FailsAt, Reaches}
+use Rattle.ground_state.specs.States.{atoms, Has, IsSame}
+use Rattle.ground_state.specs.Runs.{cause, texts, words_step, AreArguments, IsRunnable, IsIndex, HasRoomIn, IsAsRoomy, IsTaken, IsReady, HasTaken, FailsAt, Reaches, KeepsTaken}
 use Rattle.ground_state.proofs.IndexLaws.{typed_length}
 
 pub same_arguments : (p : Pddl) (ps qs : List Param) (ws vs : List (List ℕ)) (os : List ℕ) → ps ≡ qs → ws ≡ vs → AreArguments p ps ws os → AreArguments p qs vs os
@@ -96,18 +96,27 @@ module _ (p : Pddl) where
 pub fails : (run : Run) (step : GroundAction) (w : FailWhy) → FailsIn run.p.now step (cause w) (atoms run.state) → (p : Pddl) (taken : List GroundAction) → HasTaken p taken run → FailsAt p taken step w
 fails run step w f p taken h rest = run_fails p run.state taken rest step (cause w) h.ends (subst (λ q. FailsIn q step (cause w) (atoms run.state)) h.problem f)
 
--- and one that is taken
-pub takes : (old new : Run) → new.p.now ≡ old.p.now → new.index ≡ old.index → IsAsRoomy (frame old.env) (frame new.env) → (step : GroundAction) → IsTaken old.p.now step old.state new.state
-    → (p : Pddl) (taken : List GroundAction) → HasTaken p taken old → HasTaken p (taken ++ step ∷ []) new
-takes old new problem index roomy step t p taken h = record {
-  problem = problem ∙ h.problem;
-  ready = record {
-    runnable = subst IsRunnable (sym problem) h.ready.runnable;
-    index = subst (λ q. IsIndex q new.index) (sym problem) (subst (IsIndex old.p.now) (sym index) h.ready.index);
-    room = subst (λ q. HasRoomIn q (frame new.env)) (sym problem) (still_roomy old.p.now (frame old.env) (frame new.env) roomy h.ready.room);
-  };
-  ends = run_next p old.state new.state taken step h.ends (subst (λ q. IsTaken q step old.state new.state) h.problem t);
-}
+-- what a run holds beside its state stays its problem's
+module _ (old new : Run) (problem : new.p.now ≡ old.p.now) (index : new.index ≡ old.index) (roomy : IsAsRoomy (frame old.env) (frame new.env)) where
+  still_ready : IsReady old → IsReady new
+  still_ready r = record {
+    runnable = subst IsRunnable (sym problem) r.runnable;
+    index = subst (λ q. IsIndex q new.index) (sym problem) (subst (IsIndex old.p.now) (sym index) r.index);
+    room = subst (λ q. HasRoomIn q (frame new.env)) (sym problem) (still_roomy old.p.now (frame old.env) (frame new.env) roomy r.room);
+  }
+
+  -- a step that is taken
+  pub takes : (step : GroundAction) → IsTaken old.p.now step old.state new.state → (p : Pddl) (taken : List GroundAction) → HasTaken p taken old → HasTaken p (taken ++ step ∷ []) new
+  takes step t p taken h =
+      record { problem = problem ∙ h.problem; ready = still_ready h.ready; ends = run_next p old.state new.state taken step h.ends (subst (λ q. IsTaken q step old.state new.state) h.problem t) }
+
+  -- and none
+  pub keeps_taken : IsSame old.state new.state → KeepsTaken old new
+  keeps_taken same p taken h = record {
+    problem = problem ∙ h.problem;
+    ready = still_ready h.ready;
+    ends = ends_weaker p (Has old.state) (Has new.state) (λ U u g. (λ x. (u g).0 ((same g).0 x), λ x. (same g).1 ((u g).1 x))) (Contains p.init) taken h.ends;
+  }
 
 pub reaches : (run : Run) (found : Bool) → IsTrue found ↔ IsTrueIn (InTypeOf run.p.now) (atoms run.state) run.p.now.goal [] → Reaches run found
 reaches run true t p taken h = run_plan_found p run.state taken h.ends (subst (λ (q : Pddl). IsTrueIn (InTypeOf q) (atoms run.state) q.goal []) h.problem (t.0 refl))

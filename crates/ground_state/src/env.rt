@@ -100,6 +100,7 @@ impl Env {
     }
 
     /// The number of the objects that the terms stand for.
+    #[inline(always)]
     pub(crate) fn number(&self, terms: &[Term], numbers: Numbers) -> Option<usize>
         ensures { result ≡ number_of numbers (values_of (frame self.now).objects terms.now) }
     {

@@ -51,6 +51,7 @@ impl Notes {
     }
 
     /// What is noted of the objects that the terms stand for. It takes no memory.
+    #[inline(always)]
     pub(crate) fn of_terms(&self, env: &mut Env, terms: &[Term]) -> Option<bool>
         requires room { length terms.now ≤ (frame env.old).arity }
         ensures noted { result ≡ spec.noted self.now (values_of (frame env.old).objects terms.now) }
@@ -61,11 +62,20 @@ impl Notes {
                 Some(note) => *note,
                 None => None,
             },
-            None => {
-                env.fill(terms);
-                self.far.get(env.args()).copied()
-            }
+            None => self.filled(env, terms),
         }
+    }
+
+    /// The same, by way of a list of the objects. It keeps what is seldom wanted out of the way of the rest.
+    #[cold]
+    #[inline(never)]
+    fn filled(&self, env: &mut Env, terms: &[Term]) -> Option<bool>
+        requires room { length terms.now ≤ (frame env.old).arity }
+        ensures noted { result ≡ spec.noted self.now (values_of (frame env.old).objects terms.now) }
+        ensures kept { frame env.new ≡ frame env.old }
+    {
+        env.fill(terms);
+        self.get(env.args())
     }
 
     /// Notes this of these objects. After `Memory` the notes are as they were.
@@ -101,19 +111,31 @@ impl Notes {
     }
 
     /// Notes this of the objects that the terms stand for, where something is noted of them. It takes no memory.
+    #[inline(always)]
     pub(crate) fn set_terms(&mut self, env: &mut Env, terms: &[Term], truth: bool)
         requires room { length terms.now ≤ (frame env.old).arity }
         ensures set { spec.IsSet self.old (values_of (frame env.old).objects terms.now) truth self.new }
         ensures kept { frame env.new ≡ frame env.old }
     {
         let Some(number) = env.number(terms, self.numbers) else {
-            env.fill(terms);
-            self.set(env.args(), truth);
+            self.set_filled(env, terms, truth);
             return;
         };
         if number < self.near.len() && self.near[number].is_some() {
             self.near[number] = Some(truth);
         }
+    }
+
+    /// The same, by way of a list of the objects.
+    #[cold]
+    #[inline(never)]
+    fn set_filled(&mut self, env: &mut Env, terms: &[Term], truth: bool)
+        requires room { length terms.now ≤ (frame env.old).arity }
+        ensures set { spec.IsSet self.old (values_of (frame env.old).objects terms.now) truth self.new }
+        ensures kept { frame env.new ≡ frame env.old }
+    {
+        env.fill(terms);
+        self.set(env.args(), truth);
     }
 
     /// Whether so many notes are kept of lists without numbers that spare ones are taken away.

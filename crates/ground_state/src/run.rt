@@ -1,4 +1,4 @@
-ghost use Rattle.std.specs.Prelude.{◌≡◌, ◌≤◌, [], length, IfOk, OnOk};
+ghost use Rattle.std.specs.Prelude.{◌≡◌, ◌≤◌, [], length, IfOk, OnOk, OnErr};
 ghost use Rattle.ground_state.specs.Frames.{frame};
 ghost use Rattle.ground_state.specs.Runs as spec;
 
@@ -39,7 +39,9 @@ impl<'p> Run<'p> {
         })
     }
 
-    /// Takes the step of these words, or says why it can't be taken.
+    /// Takes the step of these words, or says why it can't be taken. After `Memory` what was taken is as it was. What is
+    /// noted of a predicate may stand in an array, which grows to the place that a step notes: so a single step may cost
+    /// more than what it touches, up to 65536 places for each atom that it adds.
     pub fn take(
         &mut self,
         alloc: Global,
@@ -48,6 +50,7 @@ impl<'p> Run<'p> {
     ) -> Result<Option<FailWhy>, Memory>
         requires ready { spec.IsReady self.old }
         ensures taken { IfOk result (spec.Takes (spec.words_step name.now args.now) self.old self.new) }
+        ensures unchanged { OnErr result (spec.KeepsTaken self.old self.new) }
     {
         let Some(action) = self.index.action(self.p, name) else {
             return Ok(Some(FailWhy::UnknownAction));
@@ -82,7 +85,8 @@ impl<'p> Run<'p> {
     }
 }
 
-/// Whether the list is a plan of the problem; else the first step that fails, counted from 1, and its first cause.
+/// Whether the list is a plan of the problem; else the first step that fails, counted from 1, and its first cause. A step
+/// costs what its condition and its effect touch, and where arrays of notes grow what `Run::take` says.
 pub fn run_plan(alloc: Global, p: &Pddl, plan: &[GroundAction]) -> Result<Verdict, Memory>
     requires runnable { spec.IsRunnable p.now }
     requires few { length plan.now ≤ 1000000 }

@@ -61,6 +61,7 @@ impl State {
     }
 
     /// Whether the predicate is true of the objects that the terms stand for. It takes no memory.
+    #[inline(always)]
     pub(crate) fn has_terms(&self, predicate: u32, env: &mut Env, terms: &[Term]) -> bool
         requires room { length terms.now ≤ (frame env.old).arity }
         ensures truth { result ≡ spec.has self.now predicate (values_of (frame env.old).objects terms.now) }
@@ -70,6 +71,7 @@ impl State {
     }
 
     /// What is noted of the predicate and the objects that the terms stand for.
+    #[inline(always)]
     fn note_terms(&self, predicate: u32, env: &mut Env, terms: &[Term]) -> Option<bool>
         requires room { length terms.now ≤ (frame env.old).arity }
         ensures note { result ≡ spec.note self.now predicate (values_of (frame env.old).objects terms.now) }
@@ -138,6 +140,7 @@ impl State {
     }
 
     /// Notes this of what the atom stands for, where something is noted of it. It takes no memory.
+    #[inline(always)]
     pub(crate) fn set_atom(&mut self, env: &mut Env, atom: &Atom, truth: bool)
         requires room { length atom.now.args ≤ (frame env.old).arity }
         ensures set { spec.IsSet self.old (ground (frame env.old).objects atom.now) truth self.new }

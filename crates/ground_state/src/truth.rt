@@ -44,6 +44,7 @@ pub fn holds(f: &Formula, env: &mut Env, s: &State, types: &Types, objects: &Lis
 }
 
 /// Whether the atom that this one stands for is in the state.
+#[inline(always)]
 fn has_atom(atom: &Atom, env: &mut Env, s: &State) -> bool
     requires { length atom.now.args ≤ (frame env.old).arity }
     ensures truth { IsTrue result ↔ atoms s.now (ground (frame env.old).objects atom.now) }
@@ -54,6 +55,7 @@ fn has_atom(atom: &Atom, env: &mut Env, s: &State) -> bool
 
 /// The same. Of a literal, as most parts of conditions are, it is told without a further call.
 #[cycle(holds)]
+#[inline(always)]
 fn is_true(f: &Formula, env: &mut Env, s: &State, types: &Types, objects: &List<Object>) -> bool
     requires listed { AreListed types.now }
     requires few { length objects.now < 2 ^ 32 }

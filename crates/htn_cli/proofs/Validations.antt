@@ -17,15 +17,17 @@ use Rattle.plan_model.specs.declared.types.Parent.{Parent}
 use Rattle.plan_model.specs.declared.values.Pddl.{Pddl}
 use Rattle.plan_meaning.specs.FailingStep.{AreNamedApart}
 use Rattle.ground_state.specs.Runs.{IsRunnable}
+use Rattle.ground_state.specs.declared.verdict.FailWhy.{FailWhy}
 use Rattle.form_spellings.specs.SoundPddl.{IsSoundClassical}
 use Rattle.text_forms.specs.Faults.{fault}
 use Rattle.hddl_reader.specs.declared.sections.Language.TheVariants as language
 use Rattle.hddl_values.specs.TextFaults.{HaveNoFault}
 use Rattle.pddl_values.specs.Values.{IsValueOf}
 use Rattle.plan_text.specs.Plans.{IsPlanFault, IsPlanRead}
-use Rattle.htn_cli.specs.Validation.{Spell, IsLeastOfThree, of_plan}
-use Rattle.htn_cli.specs.Stops.{IsFewPlan, IsConfirmedFor, StopsSteps, StopsFor}
-use Rattle.htn_cli.specs.declared.refusal.Refusal.{Refusal}
+use Rattle.plan_check.specs.declared.checked.Checked.TheVariants as checked
+use Rattle.plan_check.specs.Checks.{IsChecked}
+use Rattle.htn_cli.specs.Validation.{Spell, IsLeastOfThree, of_plan, most_steps}
+use Rattle.htn_cli.specs.Stops.{IsConfirmedFor, StopsFor}
 use Rattle.htn_cli.specs.declared.refusal.Refusal.TheVariants as refused
 
 -- things with different words are told apart by their words
@@ -134,28 +136,19 @@ module _ (c : Pddl) (sound : IsSoundClassical c) where
       record { listed = sound_listed; objects = omega (arith, o); actions = omega (arith, a); apart = sound_apart }
 
 -- a text of steps over two texts with a value
-module _ (value : Pddl) (plan : List ℕ) (steps : List GroundAction) (read : IsPlanRead plan steps) where
-  spell : (domain problem : List ℕ) → IsValueOf domain problem value → Spell domain problem plan value steps
-  spell domain problem is = record { value = is; list = read }
+module _ (value : Pddl) (plan : List ℕ) where
+  spell : (domain problem : List ℕ) → IsValueOf domain problem value → (steps : List GroundAction) → IsPlanRead plan steps → Spell domain problem plan value steps
+  spell domain problem is steps read = record { value = is; list = read }
 
-  pub confirmed_for : IsFewPlan value steps → IsConfirmedFor value plan
-  confirmed_for few domain problem is = (value, steps, record { spelled = spell domain problem is; few = few.0 }, few.1)
+  pub confirmed_for : IsChecked value plan most_steps checked.Plan → IsConfirmedFor value plan
+  confirmed_for c domain problem is = (value, c.0, record { spelled = spell domain problem is c.0 c.1; few = c.2.0 }, c.2.1)
 
-  pub stops_for : (names : List Word) (refusal : Refusal) → StopsSteps value steps refusal → StopsFor names value plan refusal
-  stops_for names refused.Words stops = absurd stops
-  stops_for names refused.BoundLimit stops = absurd stops
-  stops_for names (refused.SlotsLimit n) stops = absurd stops
-  stops_for names (refused.BytesLimit word) stops = absurd stops
-  stops_for names (refused.TextFault place code) stops = absurd stops
-  stops_for names (refused.TextLimit counted place) stops = absurd stops
-  stops_for names (refused.StepsLimit n) stops = λ domain problem is. (value, steps, spell domain problem is, stops.0, stops.1)
-  stops_for names (refused.NotTailRecursive words) stops = absurd stops
-  stops_for names (refused.NotAPlan step why) stops = λ domain problem is. (value, steps, record { spelled = spell domain problem is; few = stops.0 }, stops.1)
-  stops_for names (refused.OutputLimit n) stops = absurd stops
-  stops_for names (refused.CannotRead word) stops = absurd stops
-  stops_for names (refused.CannotWrite word) stops = absurd stops
-  stops_for names refused.CannotWriteOutput stops = absurd stops
-  stops_for names refused.NoMemory stops = λ domain problem is. tt
+  module _ (names : List Word) where
+    pub too_many_for : (n : ℕ) → IsChecked value plan most_steps (checked.TooMany n) → StopsFor names value plan (refused.StepsLimit n)
+    too_many_for n c domain problem is = (value, c.0, spell domain problem is c.0 c.1, c.2.0, c.2.1)
+
+    pub fails_for : (step : ℕ) (why : FailWhy) → IsChecked value plan most_steps (checked.Fails step why) → StopsFor names value plan (refused.NotAPlan step why)
+    fails_for step why c domain problem is = (value, c.0, record { spelled = spell domain problem is c.0 c.1; few = c.2.0 }, c.2.1)
 
 -- the fault of a plan's text is the least of three texts, where the two others have none
 pub least_of_plan : (domain problem plan : List ℕ) (file code at : ℕ) → HaveNoFault language.Pddl domain problem → (file ≡ 2) × IsPlanFault plan (fault code at) → IsLeastOfThree domain problem plan file code at

@@ -6,12 +6,8 @@ use Rattle.plan_model.specs.declared.options.Checks.{Checks}
 use Rattle.plan_model.specs.declared.options.Style.{Style}
 use Rattle.plan_model.specs.declared.values.Hddl.{Hddl}
 use Rattle.plan_model.specs.declared.values.Compiled.{Compiled}
-use Rattle.plan_model.specs.declared.steps.GroundAction.{GroundAction}
 use Rattle.plan_model.specs.declared.values.Pddl.{Pddl}
 use Rattle.plan_meaning.specs.Bound.{IsBound}
-use Rattle.plan_meaning.specs.ClassicalPlan.{IsPlan}
-use Rattle.plan_meaning.specs.FailingStep.{Fails}
-use Rattle.ground_state.specs.Runs.{cause}
 use Rattle.pddl_values.specs.Values as pddl
 use Rattle.plan_meaning.specs.Compilation.{IsCompiled}
 use Rattle.problem_bound.specs.NoBound.{NamesCycle}
@@ -24,7 +20,7 @@ use Rattle.htn_cli.specs.declared.translation.Made.{Made}
 use Rattle.hddl_values.specs.Values.{IsValueOf}
 use Rattle.htn_cli.specs.Faults.{HaveLeastFault, IsNoLimit, limit_code}
 use Rattle.htn_cli.specs.Inputs.{IsInput, IsTooLarge, IsFirstTooLarge, FailsToRead, HaveFault, HaveProblem}
-use Rattle.htn_cli.specs.Validation.{most_steps, AreConfirmed, HavePlan, RefuseTexts, RefusesValidation, validation_inputs}
+use Rattle.htn_cli.specs.Validation.{AreConfirmed, HavePlan, RefuseTexts, RefusesValidation, validation_inputs}
 use Rattle.htn_cli.specs.Left.{FirstStands, BothStand, LeavesUnwritten, slots_line}
 use Rattle.htn_cli.specs.declared.manner.Manner.{Manner}
 use Rattle.htn_cli.specs.Sent.{TakesThenFails, TakesThenStarves}
@@ -86,21 +82,11 @@ abbrev pub StopsTextsOf : List Word → (domain problem plan : List ℕ) → Ref
 StopsTextsOf names domain problem plan refused.NoMemory = Unit {0}
 StopsTextsOf names domain problem plan refusal = RefuseTexts domain problem plan names refusal
 
--- of steps that are a plan of a value, and few enough
-abbrev pub IsFewPlan : Pddl → List GroundAction → Type 0
-IsFewPlan value steps = (length steps ≤ most_steps) × IsPlan value steps
-
--- and of steps that are too many, or fail; or memory ran out
-abbrev pub StopsSteps : Pddl → List GroundAction → Refusal → Type 0
-StopsSteps value steps (refused.StepsLimit n) = (n ≡ length steps) × (most_steps < n)
-StopsSteps value steps (refused.NotAPlan step why) = (length steps ≤ most_steps) × Fails value steps step (cause why)
-StopsSteps value steps refused.NoMemory = Unit {0}
-StopsSteps value steps _ = ⊥
-
--- the same of a text of steps, over each two texts with this value
+-- a text of steps that are a plan of a value, over each two texts with this value
 abbrev pub IsConfirmedFor : Pddl → List ℕ → Type 0
 IsConfirmedFor value plan = (domain problem : List ℕ) → pddl.IsValueOf domain problem value → AreConfirmed domain problem plan
 
+-- and one that holds no plan of it
 abbrev pub StopsFor : List Word → Pddl → List ℕ → Refusal → Type 0
 StopsFor names value plan refusal = (domain problem : List ℕ) → pddl.IsValueOf domain problem value → StopsTextsOf names domain problem plan refusal
 

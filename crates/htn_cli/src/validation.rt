@@ -5,7 +5,7 @@ ghost use Rattle.form_spellings.specs.SoundPddl.{IsSoundClassical};
 ghost use Rattle.htn_cli.specs.Ending.{Achieves};
 ghost use Rattle.htn_cli.specs.Inputs.{longest_input};
 ghost use Rattle.htn_cli.specs.Left.{Leaves};
-ghost use Rattle.htn_cli.specs.Stops.{GivesPlan, IsConfirmedFor, IsFewPlan, StopsFor, StopsPlan, StopsSteps, StopsTextsOf};
+ghost use Rattle.htn_cli.specs.Stops.{GivesPlan, IsConfirmedFor, StopsFor, StopsPlan, StopsTextsOf};
 ghost use Rattle.htn_cli.specs.Validation.{AreConfirmed, IsLeastOfThree, validation_inputs};
 
 use crate::faults::{Place, limit_of};
@@ -13,16 +13,16 @@ use crate::problem::read;
 use crate::refusal::{Line, Middle, Refusal};
 use crate::telling::print;
 use command_words::Validation;
-use ground_state::{Verdict, run_plan};
 use htn_base::Fault;
 use outside_io::{Files, Sink};
 use pddl_values::pddl_of;
-use plan_model::{GroundAction, Pddl};
+use plan_check::{Checked, check};
+use plan_model::Pddl;
 use sexpr_text::ReadError;
 use std::alloc::Global;
 
 /// The greatest number of steps of a plan.
-const MOST_STEPS: usize = 1_000_000;
+const MOST_STEPS: u32 = 1_000_000;
 
 /// The number of the plan's file among the three that are read.
 const PLAN_FILE: u8 = 2;
@@ -112,30 +112,12 @@ fn confirm_plan<'a>(
     ensures refused { IfErr result
         (StopsFor (validation_inputs (words.validation_of asked.now)) value.now plan.now) }
 {
-    match plan_text::read(alloc, plan, PLAN_FILE) {
-        Ok(steps) => {
-            let confirmed = confirm_steps(alloc, value, steps.as_slice());
-            drop(steps);
-            confirmed
-        }
+    match check(alloc, value, plan, PLAN_FILE, MOST_STEPS) {
+        Ok(Checked::Plan) => Ok(()),
+        Ok(Checked::TooMany(count)) => Err(Refusal::StepsLimit(count)),
+        Ok(Checked::Fails { step, why }) => Err(Refusal::NotAPlan(step, why)),
         Err(ReadError::Bad(fault)) => Err(refusal_for(fault, asked)),
         Err(ReadError::Memory) => Err(Refusal::NoMemory),
-    }
-}
-
-/// Whether the steps are a plan of the value.
-fn confirm_steps<'a>(alloc: Global, value: &Pddl, steps: &[GroundAction]) -> Result<(), Refusal<'a>>
-    requires sound { IsSoundClassical value.now }
-    ensures plan { OnOk result (IsFewPlan value.now steps.now) }
-    ensures refused { IfErr result (StopsSteps value.now steps.now) }
-{
-    if steps.len() > MOST_STEPS {
-        return Err(Refusal::StepsLimit(steps.len()));
-    }
-    match run_plan(alloc, value, steps) {
-        Ok(Verdict::Plan) => Ok(()),
-        Ok(Verdict::Fails { step, why }) => Err(Refusal::NotAPlan(step, why)),
-        Err(_) => Err(Refusal::NoMemory),
     }
 }
 

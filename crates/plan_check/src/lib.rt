@@ -5,8 +5,8 @@
 //! refuses a text as `plan_text` does. No list of the steps is kept.
 #![tactic(auto)]
 
-mod check;
 mod checked;
+mod checking;
 
-pub use check::check;
 pub use checked::Checked;
+pub use checking::check;

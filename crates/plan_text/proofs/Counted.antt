@@ -1,10 +1,10 @@
 -- Steps that are counted one after another.
-use Rattle.std.proofs.Common.{◌≡◌, ◌∙◌, ℕ, suc, ◌+◌, ◌<◌, ◌≤◌, true, false, List, [], ◌∷◌, length, refl, sym, ap, subst, arith}
+use Rattle.std.proofs.Common.{◌≡◌, ◌∙◌, ℕ, ◌+◌, ◌≤◌, true, List, [], ◌∷◌, length, refl, sym, ap, subst, arith}
 use Rattle.text_forms.specs.Words.{Word}
 use Rattle.plan_model.specs.declared.steps.GroundAction.{GroundAction}
 use Rattle.plan_text.specs.declared.coming.Next.{Next}
 use Rattle.plan_text.specs.declared.coming.Next.TheVariants as next
-use Rattle.plan_text.specs.Coming.{TellsNext, said_at, is_clean_at, step_of, ends, comes, departs, coming, IsStepTo, SaySteps, SpellsFrom, steps_in, IsSpelledFrom}
+use Rattle.plan_text.specs.Coming.{TellsNext, said_at, is_clean_at, ends, comes, departs, coming, IsStepTo, SpellsFrom, steps_in, IsSpelledFrom}
 use Rattle.plan_text.proofs.NextSteps.{AreComing, goes-on, at-end, said-coming, are-said}
 
 module _ (text : List ℕ) (at : ℕ) where

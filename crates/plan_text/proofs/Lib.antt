@@ -10,8 +10,7 @@ pub mod Flat
 pub mod Folded
 pub mod Forms
 pub mod Marks
-pub mod PlansRead
 pub mod PrintedParts
-pub mod StepByStep
+pub mod FormByForm
 pub mod Whole
 pub mod examples

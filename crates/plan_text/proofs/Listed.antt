@@ -1,13 +1,12 @@
 -- The words of a list, read one after another, and what comes next.
-use Rattle.std.proofs.Common.{◌≡◌, ◌∙◌, ℕ, ◌<◌, ◌≤◌, Bool, true, false, Option, Some, None, List, [], ◌∷◌, ◌++◌, length, refl, sym, ap, ap₂, subst, append_assoc, arith}
-use Rattle.std.specs.Prelude.{Result, Ok, Err, IfOk}
+use Rattle.std.proofs.Common.{◌≡◌, ◌∙◌, ℕ, ◌<◌, ◌≤◌, true, false, Option, Some, None, List, [], ◌∷◌, ◌++◌, length, refl, sym, ap, append_assoc, arith}
 use Rattle.std.proofs.lemmas.List.{append-nil}
 use Rattle.text_forms.specs.StepWords.{is_step_name, is_mark}
 use Rattle.text_forms.specs.Tokens.{Symbol, left, right, said}
 use Rattle.text_forms.specs.Words.{Word}
 use Rattle.plan_text.specs.declared.coming.Next.{Next}
 use Rattle.plan_text.specs.declared.coming.Next.TheVariants as next
-use Rattle.plan_text.specs.Coming.{said_at, is_clean_at, Comes, step_of, if_name, names_in, ends, comes, departs, if_named, if_mark, coming, IsStepTo, TellsStep, TellsNext}
+use Rattle.plan_text.specs.Coming.{said_at, is_clean_at, Comes, step_of, if_name, names_in, comes, departs, if_named, if_mark, coming, IsStepTo, TellsStep, TellsNext}
 
 -- with these words in front
 abbrev pub behind_words : List Word → Option (List Word × List Symbol) → Option (List Word × List Symbol)

@@ -1,19 +1,23 @@
 -- A text whose steps were counted in lower case.
-use Rattle.std.proofs.Common.{◌≡◌, ◌∙◌, ℕ, ◌≤◌, Some, None, Option, List, length, refl, sym, ap, subst, arith}
+use Rattle.std.proofs.Common.{◌≡◌, ◌∙◌, ℕ, Some, None, Option, List, length, sym, ap, subst, arith}
 use Rattle.htn_base.specs.Words.{folded}
 use Rattle.htn_base.proofs.TableLemmas.{IsFolded-folded}
+use Rattle.text_forms.specs.Faults.{IsFaultless}
+use Rattle.text_forms.specs.Placed.{parts_at}
 use Rattle.text_forms.specs.Tokens.{symbols}
-use Rattle.form_grammar.specs.Codes.{Whole}
+use Rattle.form_grammar.specs.Codes.{Whole, complete}
+use Rattle.form_grammar.specs.Plans.{steps_form}
 use Rattle.plan_model.specs.declared.steps.GroundAction.{GroundAction}
 use Rattle.plan_texts.specs.PlanText.{SpellsPlan}
 use Rattle.plan_text.specs.Coming.{said_at, TellsCount, steps_in, IsSpelledFrom}
 use Rattle.plan_text.specs.Lowered.{IsInLowerCase, IsNoPlan, IsLookedThrough}
 use Rattle.plan_text.specs.Plans.{IsPlanRead}
+use Rattle.plan_text.proofs.Exactly.{spelled}
 use Rattle.plan_text.proofs.Flat.{faultless}
 use Rattle.plan_text.proofs.Folded.{printable}
 use Rattle.plan_text.proofs.Lowered.{symbols-lower, spelled-lower, lower-spelled}
 use Rattle.plan_text.proofs.NextSteps.{are-said}
-use Rattle.plan_text.proofs.Whole.{spelled-whole}
+use Rattle.plan_text.proofs.Whole.{steps-are, spelled-whole}
 
 spelled-in : (text : List ℕ) (steps : List GroundAction) → SpellsPlan text steps → steps_in (symbols text) ≡ steps
 spelled-in text steps s = are-said (symbols text) steps (s.parts, s.is, s.spelled)
@@ -41,3 +45,10 @@ steps-begin text lower n l = record { lower = IsFolded-folded text; within = ome
 
 pub same-steps : (text : List ℕ) → steps_in (said_at (folded text) 0) ≡ steps_in (symbols text)
 same-steps text = ap steps_in (symbols-lower text)
+
+-- a text without faults whose tokens are a whole plan spells one
+pub spells-one : (text s : List ℕ) → s ≡ text → IsFaultless text → steps_form (parts_at s 0) ≡ complete → IsNoPlan text → ⊥
+spells-one text s e f w none =
+    let h = ap (λ t. steps_form (parts_at t 0)) (sym e) ∙ w in
+    let steps = steps-are (parts_at text 0) h in
+    none steps.0 (spelled text steps.0 f h steps.1)

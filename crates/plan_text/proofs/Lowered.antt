@@ -1,11 +1,11 @@
 -- A text says the same in lower case.
-use Rattle.std.proofs.Common.{◌≡◌, ◌∙◌, ℕ, ◌+◌, ◌-◌, ◌≤◌, ◌==◌, ◌||◌, Bool, true, false, if◌then◌else◌, not, Some, None, Option, List, [], ◌∷◌, map, take, drop, length, refl, sym, ap, ap₂, subst, arith}
+use Rattle.std.proofs.Common.{◌≡◌, ◌∙◌, ℕ, ◌+◌, ◌-◌, ◌≤◌, ◌==◌, ◌||◌, Bool, true, false, if◌then◌else◌, not, None, List, [], ◌∷◌, map, take, drop, refl, sym, ap, ap₂, arith}
 use Rattle.std.specs.Char.{to_ascii_lowercase}
 use Rattle.std.specs.List.{slice_range}
 use Rattle.std.proofs.lemmas.List.{take-map, drop-map}
 use Rattle.htn_base.specs.Words.{folded, IsFolded}
 use Rattle.htn_base.proofs.TableLemmas.{IsFolded-folded}
-use Rattle.text_forms.specs.Bytes.{Class, letter, opening, closing, blank, bad, is_letter, is_white, class_of, class_in, comment_after, classes_from, classes, are_good}
+use Rattle.text_forms.specs.Bytes.{letter, opening, closing, blank, bad, is_letter, is_white, class_of, classes_from, classes, are_good}
 use Rattle.text_forms.specs.Tokens.{Token, tokens, tokens_from, lexeme, lexeme_by, symbol, symbols}
 use Rattle.plan_model.specs.declared.steps.GroundAction.{GroundAction}
 use Rattle.plan_texts.specs.PlanText.{SpellsPlan}

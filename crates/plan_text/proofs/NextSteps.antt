@@ -1,6 +1,6 @@
 -- What comes next decides which steps are said.
-use Rattle.std.proofs.Common.{◌≡◌, ◌∙◌, ℕ, Bool, true, false, Option, Some, None, List, [], ◌∷◌, ◌++◌, refl, sym, ap, ap₂, subst, append_assoc}
-use Rattle.text_forms.specs.Lists.{Part, Parts, name, group, nothing, part, written_all}
+use Rattle.std.proofs.Common.{◌≡◌, ◌∙◌, Bool, true, false, Option, Some, None, List, [], ◌∷◌, ◌++◌, refl, sym, ap, ap₂, subst, append_assoc}
+use Rattle.text_forms.specs.Lists.{Parts, name, group, nothing, part, written_all}
 use Rattle.text_forms.specs.StepWords.{is_step_name, is_mark}
 use Rattle.text_forms.specs.Tokens.{Symbol, left, right, said}
 use Rattle.text_forms.specs.Words.{Word}

@@ -1,11 +1,11 @@
 -- What stands at a place of a text, byte by byte.
-use Rattle.std.proofs.Common.{◌≡◌, ◌∙◌, ℕ, ◌+◌, ◌-◌, ◌≤◌, ◌<◌, ◌==◌, Bool, true, false, Some, None, Option, List, [], ◌∷◌, ◌++◌, map, drop, length, get_or, refl, sym, ap, ap₂, subst, arith}
+use Rattle.std.proofs.Common.{◌≡◌, ◌∙◌, ℕ, ◌+◌, ◌≤◌, ◌<◌, ◌==◌, Bool, true, false, None, List, [], ◌∷◌, map, drop, length, get_or, refl, ap, ap₂, arith}
 use Rattle.std.specs.List.{slice_range}
 use Rattle.std.proofs.lemmas.List.{at_drop_more, at_drop_all}
-use Rattle.htn_base.specs.Words.{folded, IsFolded}
+use Rattle.htn_base.specs.Words.{IsFolded}
 use Rattle.text_forms.specs.Bytes.{Class, letter, opening, closing, blank, bad, is_letter, class_of, classes_from, are_good}
-use Rattle.text_forms.specs.Tokens.{start, stop, word, token, tokens_from, made, under_way_after, lexeme, lexeme_by, symbol, Symbol, left, right, said}
-use Rattle.sexpr_text.specs.Places.{classes_at, comment_at, tokens_at, comment_tokens_at, EndsWord}
+use Rattle.text_forms.specs.Tokens.{word, token, tokens_from, lexeme, symbol, left, right, said}
+use Rattle.sexpr_text.specs.Places.{classes_at, tokens_at, comment_tokens_at, EndsWord}
 use Rattle.plan_text.specs.Coming.{said_at, is_clean_at, is_comment_clean_at, Comes}
 use Rattle.plan_text.proofs.Lowered.{range-folded, class-letter}
 
@@ -56,13 +56,15 @@ pub comes-word : (text : List ℕ) (from at end : ℕ) → IsFolded text → Goe
 comes-word text from at end lower g le lt e later within ends clean =
     let n = classes-next text at letter false lt (class-letter (get_or text at 0) e) (no-semicolon (get_or text at 0) e) in
     let t : tokens_at text at ≡ token word at end ∷ tokens_at text end = ap (tokens_from None at) n ∙ ends at in
-    let w = range-folded text at end lower in
-    (record {
-      said = says text from at g ∙ ap (λ ts. map symbol (map (lexeme text) ts)) t ∙ ap (λ w. said w ∷ said_at text end) w;
-      clean = g.clean ∙ ap are_good n ∙ clean;
-      later = omega arith;
-      within = within;
-    }, w)
+    let w = range-folded text at end lower in (
+      record {
+        said = says text from at g ∙ ap (λ ts. map symbol (map (lexeme text) ts)) t ∙ ap (λ w. said w ∷ said_at text end) w;
+        clean = g.clean ∙ ap are_good n ∙ clean;
+        later = omega arith;
+        within = within;
+      },
+      w,
+    )
 
 pub bad-byte : (text : List ℕ) (from at : ℕ) (comment : Bool) → GoesOn text from at → at < length text → class_of (get_or text at 0) ≡ bad → (get_or text at 0 == 59) ≡ comment → is_clean_at text from ≡ false
 bad-byte text from at comment g lt e f = g.clean ∙ ap are_good (classes-next text at bad comment lt e f)

@@ -1,11 +1,11 @@
 -- What a plan's text says from a place on, and which step comes next there.
 -- Source: this project's; a plan as plan_texts has it.
 use Rattle.std.specs.Prelude.{ℕ, ◌≡◌, ◌<◌, ◌≤◌, Bool, true, false, List, [], ◌∷◌, map, length, Option, Some, None, MatchOption}
-use Rattle.htn_base.specs.Words.{folded, IsFolded}
+use Rattle.htn_base.specs.Words.{IsFolded}
 use Rattle.text_forms.specs.Bytes.{are_good}
 use Rattle.text_forms.specs.Lists.{Parts, written_all}
 use Rattle.text_forms.specs.StepWords.{is_step_name, is_mark}
-use Rattle.text_forms.specs.Tokens.{lexeme, Symbol, left, right, said, symbol, symbols}
+use Rattle.text_forms.specs.Tokens.{lexeme, Symbol, left, right, said, symbol}
 use Rattle.text_forms.specs.Words.{Word}
 use Rattle.sexpr_text.specs.Places.{classes_at, comment_at, tokens_at}
 use Rattle.plan_model.specs.declared.steps.GroundAction.{GroundAction}

@@ -1,5 +1,5 @@
 pub mod Plans
-pub mod Reading
+pub mod Departing
 pub mod Coming
 pub mod Lowered
 pub mod Laws

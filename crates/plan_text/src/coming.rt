@@ -16,11 +16,7 @@ pub(crate) enum Next {
 }
 
 // The step whose list is entered at a place, with its words.
-fn step_from<'t>(
-    text: &'t [u8],
-    inside: usize,
-    words: &mut Vec<&'t [u8]>,
-) -> Result<Next, Memory>
+fn step_from<'t>(text: &'t [u8], inside: usize, words: &mut Vec<&'t [u8]>) -> Result<Next, Memory>
     requires folded { IsFolded text.now }
     requires within { inside ≤ length text.now }
     ensures step { IfOk result
@@ -35,11 +31,8 @@ fn step_from<'t>(
                 at = behind;
             }
             Token::Close(behind) if !words.is_empty() => return Ok(Next::Step(behind)),
-            Token::End
-            | Token::Open(_)
-            | Token::Close(_)
-            | Token::Word(_, _)
-            | Token::Bad => return Ok(Next::Other),
+            Token::End | Token::Open(_) | Token::Close(_) | Token::Word(_, _) | Token::Bad =>
+                return Ok(Next::Other),
         }
     }
 }

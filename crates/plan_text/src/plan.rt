@@ -4,10 +4,10 @@ ghost use Rattle.plan_text.specs.Plans.{IsPlanRead, RefusesPlan};
 ghost use Rattle.plan_text.specs.Lowered.{IsInLowerCase, IsNoPlan};
 
 use crate::coming::{Next, count, next_step};
-use crate::reading::read;
+use crate::departing::departs_at;
 use crate::step::Step;
 use crate::words::in_lower_case;
-use htn_base::{Memory, Text};
+use htn_base::{Fault, Memory, Text};
 use sexpr_text::ReadError;
 use std::alloc::Global;
 use std::marker::Model;
@@ -149,8 +149,11 @@ fn refusal(alloc: Global, text: &[u8], file: u8) -> ReadError
     requires none { IsNoPlan text.now }
     ensures { RefusesPlan file text.now result }
 {
-    match read(alloc, text, file) {
-        Ok(_) => unreachable!(),
+    match sexpr_text::read(alloc, text, file) {
+        Ok(s) => match departs_at(&s) {
+            Some(at) => ReadError::Bad(Fault { code: 8, file, at }),
+            None => unreachable!(),
+        },
         Err(error) => error,
     }
 }

@@ -1,5 +1,7 @@
-ghost use Rattle.std.specs.Prelude.{◌≡◌, map};
+ghost use Rattle.std.specs.Prelude.{◌≡◌, map, IfOk};
 
+use htn_base::{List, Memory, Text};
+use plan_model::GroundAction;
 use std::alloc::Global;
 use std::marker::Model;
 
@@ -45,5 +47,16 @@ impl<'t> Step<'t> {
             [] => &[],
             [_, args @ ..] => args,
         }
+    }
+    /// The step with words of its own.
+    pub(crate) fn copy(&self, alloc: Global) -> Result<GroundAction, Memory>
+        ensures equal { IfOk result (λ step. step ≡ self.now) }
+    {
+        let mut args = List::new(alloc);
+        for arg in self.args() {
+            args.put(Text::from_slice(alloc, arg))?;
+        }
+        let name = Text::from_slice(alloc, self.name())?;
+        Ok(GroundAction { name, args })
     }
 }

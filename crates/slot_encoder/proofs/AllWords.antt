@@ -1,5 +1,5 @@
 -- The words put in are all of the printed problem, and so the value over their table is printable.
-use Rattle.std.proofs.Common.{ℕ, zero, suc, ◌≡◌, ◌-◌, ◌<◌, ◌^◌, Bool, true, false, cond, List, [], ◌∷◌, ◌++◌, map, filter, length, codes, refl, ap}
+use Rattle.std.proofs.Common.{ℕ, zero, suc, ◌≡◌, ◌-◌, Bool, true, false, cond, List, [], ◌∷◌, ◌++◌, map, filter, length, codes, refl, ap, sym, subst}
 use Rattle.text_forms.specs.Words.{Word}
 use Rattle.plan_model.specs.declared.options.Style.{Style}
 use Rattle.htn_base.specs.declared.name.Name.{Name}
@@ -10,13 +10,16 @@ use Rattle.plan_texts.specs.Types.{Has, EachIs}
 use Rattle.plan_texts.proofs.Members.{each-has, has-contains, contains-has}
 use Rattle.plan_texts.proofs.Places.{each-join}
 use Rattle.slot_encoding.specs.EncodedNames.{joined, checked_methods, guard_types, guard_word}
-use Rattle.slot_encoding.specs.EncodedValue.{IsEncoded}
+use Rattle.plan_model.specs.declared.schemas.ActionSchema.{ActionSchema}
+use Rattle.slot_encoding.specs.EncodedValue.{IsEncoded, encoded_actions}
 use Rattle.slot_encoding.specs.EncodedWords.{own_word, own_types, param_words, formula_words, numbered, type_words, object_words, slot_variables, predicate_words, method_word, method_words, encoded_words, HasEncodedWords}
 use Rattle.slot_encoding.proofs.words.Lists.{each-left, each-right}
 use Rattle.slot_encoding.proofs.words.EncodedIsPrintable.{encoded_printable}
 use Rattle.slot_encoder.specs.Frames.{AreEncoded}
 use Rattle.slot_encoder.specs.Vocabulary.{words_of_predicate, words_of_task, words_of_held_action, words_of_held_check, words_if_checked, words_of_method, words_of_action, IsPrintableWhereSound}
+use Rattle.slot_encoder.specs.Encodings.{with_actions, all_actions, IsEncoding}
 use Rattle.slot_encoder.specs.declared.encoding.Encoded.{Encoded}
+use Rattle.slot_encoder.specs.declared.encoding.Encoding.{Encoding}
 
 -- the methods that have no check add no words
 pub checked-words : (c : Compiled) (plans : List MethodPlan) → joined (map (words_if_checked c) plans) ≡ joined (map (words_of_held_check c) (filter (λ (plan : MethodPlan). plan.checked) plans))
@@ -104,33 +107,39 @@ module _ (c : Compiled) (names : List Word) where
     pub has-all : Known (encoded_words c b) → HasEncodedWords c b names
     has-all h w m = has-contains names w (each-has (Has names) (encoded_words c b) w h (contains-has (encoded_words c b) w m))
 
--- the value of these words and parts
+-- the value of these words, parts and actions
 module _ (c : Compiled) (names : List Word) (b : ℕ) (style : Style) (v : Encoded) (are : AreEncoded c names b style v) where
-  abbrev pub value : Pddl
-  value = record {
+  -- without its actions
+  abbrev pub head : Pddl
+  head = record {
     names = names;
     domain = v.domain;
     problem = v.problem;
     types = v.declarations.types;
     objects = v.declarations.objects;
     predicates = v.declarations.predicates;
-    actions = v.behaviour.actions;
+    actions = [];
     init = v.behaviour.init;
     goal = v.behaviour.goal;
   }
 
-  pub encoded : IsEncoded c b style value
-  encoded = record {
+  pub head-encoded : IsEncoded c b style (with_actions head (encoded_actions c names b style))
+  head-encoded = record {
     domain = are.domain;
     problem = are.problem;
     types = are.declarations.types;
     objects = are.declarations.objects;
     predicates = are.declarations.predicates;
-    actions = are.behaviour.actions;
+    actions = refl;
     init = are.behaviour.init;
     goal = are.behaviour.goal;
   }
 
-  pub value-printable : HasEncodedWords c b names → length names < 2 ^ 32 → IsPrintableWhereSound c b value
-  value-printable words short h mode sound compiled top some unions =
-      encoded_printable h mode c b style value sound compiled encoded words (record { top = top; some_slot = some; short = short; unions = unions })
+-- the finished value
+module _ (c : Compiled) (e : Encoding) (is : IsEncoding c e) (actions : List ActionSchema) (all : actions ≡ all_actions c e) where
+  pub value-encoded : IsEncoded c e.slots e.style (with_actions e.head actions)
+  value-encoded = subst (λ xs. IsEncoded c e.slots e.style (with_actions e.head xs)) (sym all) is.encoded
+
+  pub value-printable : IsPrintableWhereSound c e.slots (with_actions e.head actions)
+  value-printable h mode sound compiled top some unions =
+      encoded_printable h mode c e.slots e.style (with_actions e.head actions) sound compiled value-encoded is.words (record { top = top; some_slot = some; short = is.short; unions = unions })

@@ -1,6 +1,7 @@
 pub mod Appended
 pub mod Numbered
-pub mod CheckNumbers
+pub mod CheckedMethods
+pub mod ActionPlaces
 pub mod GuardTypes
 pub mod GuardAtoms
 pub mod Splits

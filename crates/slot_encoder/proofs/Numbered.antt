@@ -6,27 +6,11 @@ use Rattle.plan_model.specs.declared.formulas.Formula.{Formula}
 use Rattle.slot_encoding.specs.EncodedActions.{slot_vars, differ}
 use Rattle.slot_encoder.specs.Pieces.{unequal_to}
 
-drop_next : {X : Type 0} (xs : List X) (i : ℕ) (d : X) → i < length xs → drop i xs ≡ get_or xs i d ∷ drop (i + 1) xs
-drop_next [] i d l = absurd (omega arith)
-drop_next (x ∷ xs) zero d l = refl
-drop_next (x ∷ xs) (suc i) d l = drop_next xs i d (omega arith) ∙ ap (λ k. get_or xs i d ∷ drop k (x ∷ xs)) (let e : suc (i + 1) ≡ suc i + 1 = omega arith in e)
-
 pub drop_past : {X : Type 0} (xs : List X) (i : ℕ) → length xs ≤ i → drop i xs ≡ []
 drop_past [] zero l = refl
 drop_past [] (suc i) l = refl
 drop_past (x ∷ xs) zero l = absurd (omega arith)
 drop_past (x ∷ xs) (suc i) l = drop_past xs i (omega arith)
-
--- F makes a list from the number of the first item and the items; h gives the part of one item
-module _ {X Y : Type 0} (F : ℕ → List X → List Y) (h : ℕ → X → List Y) (first : (m : ℕ) (x : X) (xs : List X) → F m (x ∷ xs) ≡ h m x ++ F (suc m) xs) (none : (m : ℕ) → F m [] ≡ []) where
-  pub along_next : (xs : List X) (i : ℕ) (d : X) (old now new : List Y) → i < length xs → now ++ F i (drop i xs) ≡ old → new ≡ now ++ h i (get_or xs i d) → new ++ F (i + 1) (drop (i + 1) xs) ≡ old
-  along_next xs i d old now new l e g =
-      ap (λ z. z ++ F (i + 1) (drop (i + 1) xs)) g ∙ append_assoc now (h i (get_or xs i d)) (F (i + 1) (drop (i + 1) xs))
-      ∙ ap (λ k. now ++ (h i (get_or xs i d) ++ F k (drop (i + 1) xs))) (let k : i + 1 ≡ suc i = omega arith in k)
-      ∙ ap (λ z. now ++ z) (sym (first i (get_or xs i d) (drop (i + 1) xs))) ∙ ap (λ z. now ++ F i z) (sym (drop_next xs i d l)) ∙ e
-
-  pub along_all : (xs : List X) (i : ℕ) (old now : List Y) → length xs ≤ i → now ++ F i (drop i xs) ≡ old → now ≡ old
-  along_all xs i old now l e = sym (append-nil now) ∙ ap (λ z. now ++ z) (sym (ap (F i) (drop_past xs i l) ∙ none i)) ∙ e
 
 -- the slots of the children from number i on, k of them
 slots_step : (heir : Option ℕ) (i new k : ℕ) → slot_vars heir i new (suc k) ≡ cond (is_heir heir i) 0 new ∷ slot_vars heir (i + 1) (cond (is_heir heir i) new (new + 1)) k

@@ -1,9 +1,11 @@
 -- The pieces of a method's effects, put together, are the defined effects.
-use Rattle.std.proofs.Common.{ℕ, zero, suc, ◌≡◌, ◌<◌, ◌≤◌, List, [], ◌∷◌, ◌++◌, map, drop, length, codes, refl, ap, sym, ◌∙◌, arith}
+use Rattle.std.proofs.Common.{ℕ, zero, suc, ◌≡◌, ◌+◌, ◌-◌, ◌<◌, ◌≤◌, List, [], ◌∷◌, ◌++◌, map, drop, length, codes, refl, ap, sym, ◌∙◌, append_assoc, arith}
 use Rattle.std.proofs.lemmas.List.{append-nil}
 use Rattle.htn_base.specs.declared.name.Name.{Name}
 use Rattle.plan_model.specs.declared.terms.Param.{Param}
+use Rattle.task_networks.specs.Spelling.{numbers}
 use Rattle.plan_model.specs.declared.formulas.Formula.{Formula}
+use Rattle.plan_model.specs.declared.formulas.Formula.TheVariants as F
 use Rattle.plan_model.specs.declared.schemas.ActionSchema.{ActionSchema}
 use Rattle.plan_model.specs.declared.effects.Effect.TheVariants as E
 use Rattle.slot_encoding.specs.SourceParts.{source_word}
@@ -23,6 +25,16 @@ module _ (f : Frame) (m : ℕ) (plan : MethodPlan) where
   method_change-is : (children : List Child) → made.method_change f (check_predicate f.compiled.now m) plan children ≡ spec.method_eff f.compiled.now f.printed.now f.slots f.style m plan children
   method_change-is [] = refl
   method_change-is (child ∷ children) = split-is
+
+  -- the new slots differ between what stands before and what stands behind
+  pub method_pre-is : (before behind : List Formula) (spare front : ℕ) → before ≡ made.method_before f plan → spare ≡ length plan.schema.children - 1 → front ≡ suc (length plan.schema.children - 1)
+      → behind ≡ made.method_behind f front plan → before ++ (spec.differ (numbers 1 spare) ++ behind) ≡ spec.method_pre f.compiled.now f.printed.now f.slots f.style m plan
+  method_pre-is before behind spare front e s t g =
+      let n = length plan.schema.children - 1 in
+      ap (λ z. z ++ (spec.differ (numbers 1 spare) ++ behind)) e
+      ∙ ap (λ k. made.method_before f plan ++ (spec.differ (numbers 1 k) ++ behind)) s
+      ∙ ap (λ z. made.method_before f plan ++ (spec.differ (numbers 1 n) ++ z)) (g ∙ ap (λ k. made.method_behind f k plan) t)
+      ∙ append_assoc (F.Holds (made.method_task f (suc n) plan) ∷ made.waiting f (suc n + length plan.schema.params)) (made.new_slots_free f n) (spec.differ (numbers 1 n) ++ made.method_behind f (suc n) plan)
 
   -- at the predicate of the method's check
   pub method_change-at : (check : ℕ) (children : List Child) → check ≡ check_predicate f.compiled.now m → made.method_change f check plan children ≡ spec.method_eff f.compiled.now f.printed.now f.slots f.style m plan children

@@ -1,6 +1,6 @@
 -- The printed problem, taken part by part: all but its actions as one value, and the actions one at a time.
 -- Source: this project's encoding, after Alford et al., "Bound to Plan", ICAPS 2016.
-use Rattle.std.specs.Prelude.{ℕ, ◌≡◌, ◌<◌, ◌^◌, List, [], ◌++◌, length}
+use Rattle.std.specs.Prelude.{◌≡◌, ◌<◌, ◌^◌, List, [], ◌++◌, length}
 use Rattle.task_networks.specs.Spelling.{numbers}
 use Rattle.plan_model.specs.declared.formulas.Formula.TheVariants.{And}
 use Rattle.plan_model.specs.declared.schemas.ActionSchema.{ActionSchema}
@@ -9,6 +9,7 @@ use Rattle.plan_model.specs.declared.values.Pddl.{Pddl}
 use Rattle.slot_encoding.specs.EncodedActions.{differ}
 use Rattle.slot_encoding.specs.EncodedValue.{IsEncoded, encoded_actions}
 use Rattle.slot_encoding.specs.EncodedWords.{HasEncodedWords}
+use Rattle.slot_encoder.specs.Frames.{IsBasis}
 use Rattle.slot_encoder.specs.declared.encoding.Encoding.{Encoding}
 use Rattle.slot_encoder.specs.declared.split_action.SplitAction.{SplitAction}
 
@@ -40,3 +41,4 @@ pub record IsEncoding (c : Compiled) (e : Encoding) : Type 0 where
   pub no_actions : e.head.actions ≡ []
   pub words : HasEncodedWords c e.slots e.head.names
   pub short : length e.head.names < 2 ^ 32
+  pub basis : IsBasis c e.head.names e.slots e.basis

@@ -1,6 +1,6 @@
 -- What all parts of the printed problem are made from.
 -- Source: this project's encoding, after Alford et al., "Bound to Plan", ICAPS 2016.
-use Rattle.std.specs.Prelude.{ℕ, suc, ◌+◌, ◌-◌, ◌<◌, ◌^◌, ◌≡◌, List, length}
+use Rattle.std.specs.Prelude.{ℕ, suc, ◌+◌, ◌-◌, ◌<◌, ◌^◌, ◌≡◌, List, map, length}
 use Rattle.plan_model.specs.declared.values.Compiled.{Compiled}
 use Rattle.plan_model.specs.declared.schemas.MethodPlan.{MethodPlan}
 use Rattle.slot_encoding.specs.EncodedNames as spec
@@ -8,8 +8,11 @@ use Rattle.slot_encoding.specs.EncodedActions.{slot_vars}
 use Rattle.order_encoder.specs.Orders as orders
 use Rattle.plan_model.specs.declared.options.Style.{Style}
 use Rattle.slot_encoding.specs.SourceParts.{renamed}
-use Rattle.slot_encoding.specs.EncodedValue.{encoded_actions, IsInitial}
-use Rattle.slot_encoder.specs.Pieces.{encoded_goal}
+use Rattle.slot_encoding.specs.EncodedValue.{IsInitial}
+use Rattle.task_networks.specs.Spelling.{numbers}
+use Rattle.slot_encoder.specs.Pieces.{checked, checked_from, checks_before, encoded_goal}
+use Rattle.slot_encoder.specs.declared.basis.Basis.{Basis}
+use Rattle.slot_encoder.specs.declared.basis.Checks.{Checks}
 use Rattle.slot_encoder.specs.declared.encoding.Behaviour.{Behaviour}
 use Rattle.slot_encoder.specs.declared.encoding.Declarations.{Declarations}
 use Rattle.slot_encoder.specs.declared.encoding.Encoded.{Encoded}
@@ -17,7 +20,7 @@ use Rattle.slot_encoder.specs.declared.frame.Frame.{Frame}
 use Rattle.slot_encoder.specs.declared.numbers.Numbers.{Numbers}
 use Rattle.slot_encoder.specs.declared.variables.Variables.{Variables}
 
--- the numbers of the generated predicates
+-- the numbers of the generated predicates; the actions are few enough to have numbers too
 pub record AreNumbers (c : Compiled) (n : Numbers) : Type 0 where
   pub top : n.top ≡ spec.top_predicate c
   pub free : n.free ≡ spec.free_predicate c
@@ -26,12 +29,23 @@ pub record AreNumbers (c : Compiled) (n : Numbers) : Type 0 where
   pub first_action : n.first_action ≡ spec.first_action c
   pub first_check : n.first_check ≡ spec.first_check c
   pub first_guard : n.first_guard ≡ spec.first_guard c
+  pub few : length c.methods + length (checked c.methods) + length c.hddl.actions < 2 ^ 32
 
-pub record IsFrame (f : Frame) : Type 0 where
-  pub numbers : AreNumbers f.compiled.now f.numbers
-  pub guard_types : f.guard_types.now ≡ spec.guard_types f.compiled.now
-  pub order : orders.numbers f.order ≡ spec.order_numbers f.compiled.now f.printed.now f.slots
-  pub room : f.order.first_slot + f.slots < 2 ^ 32
+-- the methods that have checks, and how many there are before each method
+pub record AreChecks (plans : List MethodPlan) (v : Checks) : Type 0 where
+  pub methods : v.methods ≡ checked_from 0 plans
+  pub before : v.before ≡ map (checks_before plans) (numbers 0 (length plans))
+
+-- what is worked out once, at these words and so many slots
+pub record IsBasis (c : Compiled) (names : List (List ℕ)) (b : ℕ) (v : Basis) : Type 0 where
+  pub numbers : AreNumbers c v.numbers
+  pub order : orders.numbers v.order ≡ spec.order_numbers c names b
+  pub room : v.order.first_slot + b < 2 ^ 32
+  pub guard_types : v.guard_types ≡ spec.guard_types c
+  pub checks : AreChecks c.methods v.checks
+
+abbrev pub IsFrame : Frame → Type 0
+IsFrame f = IsBasis f.compiled.now f.printed.now f.slots f.basis.now
 
 -- the new slots of a method's action, the variables before its parameters, all its variables, and the slots of its children
 pub record AreVariables (plan : MethodPlan) (v : Variables) : Type 0 where
@@ -48,7 +62,6 @@ module _ (c : Compiled) (names : List (List ℕ)) (b : ℕ) where
     pub predicates : v.predicates ≡ spec.encoded_predicates c names b
 
   pub record IsBehaviour (style : Style) (v : Behaviour) : Type 0 where
-    pub actions : v.actions ≡ encoded_actions c names b style
     pub init : IsInitial c names b style v.init
     pub goal : v.goal ≡ encoded_goal c names b style
 

@@ -207,9 +207,6 @@ module _ (f : Frame) where
   abbrev pub method_params : MethodPlan → List Param
   method_params plan = slot_param (codes "htn_h") ∷ map new_slot (numbers 1 (length plan.schema.children - 1)) ++ map param plan.schema.params
 
-  abbrev pub method_pre : MethodPlan → List Formula
-  method_pre = actions.method_pre c words b style 0
-
   -- the method's task, in the first slot
   abbrev pub method_task : ℕ → MethodPlan → Atom
   method_task front plan = held_atom (encoded.task_predicate c plan.schema.task) 0 front plan.schema.task_args
@@ -232,6 +229,13 @@ module _ (f : Frame) where
   -- the precondition where it is tested at once
   abbrev pub tested : ℕ → MethodPlan → List Formula
   tested front plan = cond plan.tested (condition front plan.schema.pre) []
+
+  -- a method's condition: what stands before that the new slots differ, and what stands behind
+  abbrev pub method_before : MethodPlan → List Formula
+  method_before plan = Holds (actions.held_task c words b style 0 plan) ∷ waiting (actions.depth c words b style 0 plan) ++ new_slots_free (actions.spare c words b style 0 plan)
+
+  abbrev pub method_behind : ℕ → MethodPlan → List Formula
+  method_behind front plan = constraints front plan.schema.constraints ++ (guards front plan.guards ++ tested front plan)
 
   abbrev pub new_slots_taken : ℕ → List Effect
   new_slots_taken spare = map (λ v. E.Delete (is_free v)) (numbers 1 spare)
@@ -282,10 +286,6 @@ module _ (f : Frame) where
 
   abbrev pub check_action : ℕ → MethodPlan → ActionSchema
   check_action check plan = actions.work_action c words b style (codes "htn_c_" ++ source.source_word own plan.schema.name) check plan.schema.params plan.schema.pre []
-
-  -- its check's action, if the method has one
-  abbrev pub checking_action : ℕ → MethodPlan → List ActionSchema
-  checking_action check plan = if_checked plan (check_action check plan)
 
   -- of the source
   abbrev pub source_actions : List ActionSchema → List ActionSchema

@@ -1,6 +1,6 @@
 -- Pieces of the printed problem that are made without a frame.
 -- Source: this project's encoding, after Alford et al., "Bound to Plan", ICAPS 2016.
-use Rattle.std.specs.Prelude.{ℕ, suc, ◌+◌, Option, cond, List, [], ◌∷◌, ◌++◌, map, filter}
+use Rattle.std.specs.Prelude.{ℕ, suc, ◌+◌, Option, cond, List, [], ◌∷◌, ◌++◌, map, filter, take, length}
 use Rattle.plan_model.specs.declared.options.Style.{Style}
 use Rattle.plan_model.specs.declared.terms.Term.TheVariants.{Var}
 use Rattle.plan_model.specs.declared.terms.Atom.{Atom}
@@ -25,9 +25,14 @@ printed_parents ps = record { child = slot_type; parent = 0 } ∷ record { child
 abbrev pub checked : List MethodPlan → List MethodPlan
 checked plans = filter (λ (plan : MethodPlan). plan.checked) plans
 
--- one more where the method has a check
-abbrev pub with_check : MethodPlan → ℕ → ℕ
-with_check plan count = cond plan.checked (count + 1) count
+-- the numbers of the methods that have a check, the first method having number m
+abbrev pub checked_from : ℕ → List MethodPlan → List ℕ
+checked_from m [] = []
+checked_from m (plan ∷ plans) = cond plan.checked (m ∷ checked_from (suc m) plans) (checked_from (suc m) plans)
+
+-- how many of the first m methods have a check
+abbrev pub checks_before : List MethodPlan → ℕ → ℕ
+checks_before plans m = length (checked (take m plans))
 
 -- an item where the method has a check
 abbrev pub if_checked : {A : Type 0} → MethodPlan → A → List A

@@ -1,104 +1,75 @@
-ghost use Rattle.std.specs.Prelude.{◌≡◌, ◌++◌, IfOk, OnOk};
+ghost use Rattle.std.specs.Prelude.{◌≡◌, ◌<◌, Some, length, slice_get, IfOk};
+ghost use Rattle.slot_encoding.specs.EncodedNames as names;
+ghost use Rattle.slot_encoder.specs.Encodings.{whole};
 ghost use Rattle.slot_encoder.specs.Frames.{IsFrame};
 ghost use Rattle.slot_encoder.specs.Made as made;
 
 use crate::frame::Frame;
 use crate::methods::encoded_method;
-use crate::numbers::{after, plus};
+use crate::numbers::plus;
+use crate::split_action::SplitAction;
 use crate::works::{encoded_action, encoded_check};
-use htn_base::{List, Memory};
-use plan_model::{ActionSchema, MethodPlan};
+use htn_base::Memory;
 use std::alloc::Global;
 
-/// The actions: of the methods, the top method first, of the checks, of the source actions.
-pub(crate) fn encoded_actions(
-    alloc: Global,
-    frame: &Frame<'_>,
-) -> Result<List<ActionSchema>, Memory>
-    requires { IsFrame frame.now }
-    ensures { IfOk result (λ actions. actions ≡ made.all_actions frame.now) }
-{
-    let methods = frame.compiled.methods.as_slice();
-    let mut into = List::new(alloc);
-    push_methods(alloc, frame, methods, &mut into)?;
-    push_checks(alloc, frame, methods, &mut into)?;
-    push_source(
-        alloc,
-        frame,
-        frame.compiled.hddl.actions.as_slice(),
-        &mut into,
-    )?;
-    Ok(into)
-}
-
-fn push_methods(
-    alloc: Global,
-    frame: &Frame<'_>,
-    methods: &[MethodPlan],
-    into: &mut List<ActionSchema>,
-) -> Result<(), Memory>
+/// Action `k`, from 0: those of the methods come first, the top method's before all, then those of the checks, then the
+/// source's.
+pub(crate) fn action_at(alloc: Global, frame: &Frame<'_>, k: u32) -> Result<SplitAction, Memory>
     requires frame { IsFrame frame.now }
-    requires methods { methods.now ≡ frame.now.compiled.now.methods }
-    ensures { OnOk result (into.new ≡ into.old ++ made.method_actions frame.now methods.now) }
+    requires some { k < length (made.all_actions frame.now) }
+    ensures { IfOk result (λ a. slice_get (made.all_actions frame.now) k ≡ Some (whole a)) }
 {
-    let mut m: u32 = 0;
-    let mut check = frame.numbers.first_check;
-    for plan in methods {
-        into.put(encoded_method(alloc, frame, m, check, plan))?;
-        m = plus(m, 1)?;
-        check = after(plan, check)?;
-    }
-    Ok(())
-}
-
-fn push_checks(
-    alloc: Global,
-    frame: &Frame<'_>,
-    methods: &[MethodPlan],
-    into: &mut List<ActionSchema>,
-) -> Result<(), Memory>
-    requires frame { IsFrame frame.now }
-    requires methods { methods.now ≡ frame.now.compiled.now.methods }
-    ensures { OnOk result (into.new ≡ into.old ++ made.check_actions frame.now methods.now) }
-{
-    let mut check = frame.numbers.first_check;
-    for plan in methods {
-        push_check(alloc, frame, check, plan, into)?;
-        check = after(plan, check)?;
-    }
-    Ok(())
-}
-
-fn push_check(
-    alloc: Global,
-    frame: &Frame<'_>,
-    check: u32,
-    plan: &MethodPlan,
-    into: &mut List<ActionSchema>,
-) -> Result<(), Memory>
-    requires { IsFrame frame.now }
-    ensures { OnOk result (into.new ≡ into.old ++ made.checking_action frame.now check plan.now) }
-{
-    if plan.checked {
-        into.put(encoded_check(alloc, frame, check, plan))
+    let methods = frame.compiled.methods.len() as u32;
+    let checks = frame.basis.checks.methods.len() as u32;
+    if k < methods {
+        method_at(alloc, frame, k)
+    } else if k - methods < checks {
+        check_at(alloc, frame, k - methods)
     } else {
-        Ok(())
+        source_at(alloc, frame, k - methods - checks)
     }
 }
 
-fn push_source(
-    alloc: Global,
-    frame: &Frame<'_>,
-    actions: &[ActionSchema],
-    into: &mut List<ActionSchema>,
-) -> Result<(), Memory>
-    requires { IsFrame frame.now }
-    ensures { OnOk result (into.new ≡ into.old ++ made.source_actions frame.now actions.now) }
+fn method_at(alloc: Global, frame: &Frame<'_>, m: u32) -> Result<SplitAction, Memory>
+    requires frame { IsFrame frame.now }
+    requires some { m < length frame.now.compiled.now.methods }
+    ensures { IfOk result (λ a.
+        slice_get (made.method_actions frame.now frame.now.compiled.now.methods) m ≡ Some (whole a)) }
 {
-    let mut a: u32 = 0;
-    for action in actions {
-        into.put(encoded_action(alloc, frame, a, action))?;
-        a = plus(a, 1)?;
-    }
-    Ok(())
+    let check = check_predicate(frame, m)?;
+    let plan = &frame.compiled.methods.as_slice()[m as usize];
+    encoded_method(alloc, frame, m, check, plan)
+}
+
+/// The action of check `j`.
+fn check_at(alloc: Global, frame: &Frame<'_>, j: u32) -> Result<SplitAction, Memory>
+    requires frame { IsFrame frame.now }
+    requires some { j < length frame.now.basis.now.checks.methods }
+    ensures { IfOk result (λ a.
+        slice_get (made.check_actions frame.now frame.now.compiled.now.methods) j ≡ Some (whole a)) }
+{
+    let m = frame.basis.checks.methods.as_slice()[j as usize];
+    let check = check_predicate(frame, m)?;
+    let plan = &frame.compiled.methods.as_slice()[m as usize];
+    encoded_check(alloc, frame, check, plan)
+}
+
+/// The predicate of method `m`'s check.
+fn check_predicate(frame: &Frame<'_>, m: u32) -> Result<u32, Memory>
+    requires frame { IsFrame frame.now }
+    requires some { m < length frame.now.compiled.now.methods }
+    ensures { IfOk result (λ p. p ≡ names.check_predicate frame.now.compiled.now m) }
+{
+    let before = frame.basis.checks.before.as_slice()[m as usize];
+    plus(frame.basis.numbers.first_check, before)
+}
+
+fn source_at(alloc: Global, frame: &Frame<'_>, a: u32) -> Result<SplitAction, Memory>
+    requires frame { IsFrame frame.now }
+    requires some { a < length frame.now.compiled.now.hddl.actions }
+    ensures { IfOk result (λ s.
+        slice_get (made.source_actions frame.now frame.now.compiled.now.hddl.actions) a ≡ Some (whole s)) }
+{
+    let action = &frame.compiled.hddl.actions.as_slice()[a as usize];
+    encoded_action(alloc, frame, a, action)
 }

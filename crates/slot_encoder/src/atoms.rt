@@ -19,7 +19,7 @@ pub(crate) fn is_free(alloc: Global, frame: &Frame<'_>, slot: u32) -> Result<Ato
     let mut args = List::new(alloc);
     args.push(Term::Var(slot))?;
     Ok(Atom {
-        predicate: frame.numbers.free,
+        predicate: frame.basis.numbers.free,
         args,
     })
 }
@@ -38,7 +38,7 @@ pub(crate) fn comes_before(
     args.push(Term::Var(first))?;
     args.push(Term::Var(then))?;
     Ok(Atom {
-        predicate: frame.numbers.before,
+        predicate: frame.basis.numbers.before,
         args,
     })
 }

@@ -86,7 +86,7 @@ pub(crate) fn push_waits(
 {
     push_waiting(
         alloc,
-        &frame.order,
+        &frame.basis.order,
         frame.slots,
         &frame.style,
         Term::Var(0),
@@ -107,7 +107,7 @@ pub(crate) fn push_clears(
 {
     push_clearing(
         alloc,
-        &frame.order,
+        &frame.basis.order,
         frame.slots,
         &frame.style,
         Term::Var(0),

@@ -1,27 +1,23 @@
 ghost use Rattle.std.specs.Prelude.{◌≡◌, ◌<◌, ◌^◌, length, IfOk};
 ghost use Rattle.plan_model.specs.Parts.{AreListed};
-ghost use Rattle.slot_encoding.specs.EncodedNames as names;
 ghost use Rattle.slot_encoding.specs.EncodedValue.{IsEncoded};
-ghost use Rattle.order_encoder.specs.Orders as orders;
 ghost use Rattle.slot_encoding.specs.EncodedWords.{HasEncodedWords};
-ghost use Rattle.slot_encoder.specs.Frames.{IsFrame, AreEncoded};
+ghost use Rattle.slot_encoder.specs.Frames.{IsFrame};
 ghost use Rattle.slot_encoder.specs.Made as made;
 ghost use Rattle.slot_encoder.specs.Vocabulary.{IsPrintableWhereSound};
 
-use crate::actions::encoded_actions;
+use crate::actions::action_at;
+use crate::basis::{Basis, basis_of};
 use crate::frame::Frame;
 use crate::goals::goal_of;
-use crate::guards::guard_types;
 use crate::initial::encoded_initial;
-use crate::numbers::{numbers_of, plus};
 use crate::objects::encoded_objects;
 use crate::predicates::encoded_predicates;
 use crate::split_action::SplitAction;
 use crate::types::encoded_types;
 use crate::vocabulary::vocabulary;
-use crate::words::{name_of, renamed};
-use htn_base::{List, Memory, Name, NameTable, number};
-use order_encoder::OrderNames;
+use crate::words::renamed;
+use htn_base::{List, Memory, Name};
 use plan_model::{
     ActionSchema, Compiled, Formula, GroundAtom, Object, Pddl, Predicate, Style, Types,
 };
@@ -34,10 +30,11 @@ pub struct Encoding {
     pub head: Pddl,
     pub slots: u32,
     pub style: Style,
+    basis: Basis,
 }
 
 impl Encoding {
-    ghost use Rattle.std.specs.Prelude.{slice_index};
+    ghost use Rattle.std.specs.Prelude.{Some, slice_get};
     ghost use Rattle.slot_encoder.specs.Encodings.{IsEncoding, all_actions, whole};
 
     /// That of a compiled problem. The source's types are few and their parents and unions are listed.
@@ -47,7 +44,38 @@ impl Encoding {
         ensures slots { IfOk result (λ e. e.slots ≡ slots) }
         ensures style { IfOk result (λ e. e.style ≡ style.now) }
     {
-        Err(Memory)
+        let names = vocabulary(alloc, c, slots)?;
+        let basis = basis_of(alloc, c, &names, slots)?;
+        let frame = Frame {
+            compiled: c,
+            printed: &names,
+            slots,
+            style: *style,
+            basis: &basis,
+        };
+        match parts_of(alloc, &frame) {
+            Ok(parts) => Ok(Encoding {
+                head: Pddl {
+                    names,
+                    domain: parts.domain,
+                    problem: parts.problem,
+                    types: parts.declarations.types,
+                    objects: parts.declarations.objects,
+                    predicates: parts.declarations.predicates,
+                    actions: List::new(alloc),
+                    init: parts.behaviour.init,
+                    goal: parts.behaviour.goal,
+                },
+                slots,
+                style: *style,
+                basis,
+            }),
+            Err(memory) => {
+                drop(names);
+                drop(basis);
+                Err(memory)
+            }
+        }
     }
 
     /// How many actions there are.
@@ -55,16 +83,42 @@ impl Encoding {
         requires encoding { IsEncoding c.now self.now }
         ensures count { result ≡ length (all_actions c.now self.now) }
     {
-        0
+        (c.methods.len() + self.basis.checks.methods.len() + c.hddl.actions.len()) as u32
     }
 
     /// Action `k`, from 0: those of the methods come first, the top method's before all, then those of the checks, then the source's.
     pub fn action(&self, alloc: Global, c: &Compiled, k: u32) -> Result<SplitAction, Memory>
         requires encoding { IsEncoding c.now self.now }
         requires some { k < length (all_actions c.now self.now) }
-        ensures action { IfOk result (λ a. whole a ≡ slice_index (all_actions c.now self.now) k) }
+        ensures action { IfOk result (λ a. slice_get (all_actions c.now self.now) k ≡ Some (whole a)) }
     {
-        Err(Memory)
+        let frame = Frame {
+            compiled: c,
+            printed: &self.head.names,
+            slots: self.slots,
+            style: self.style,
+            basis: &self.basis,
+        };
+        action_at(alloc, &frame, k)
+    }
+
+    fn actions(&self, alloc: Global, c: &Compiled) -> Result<List<ActionSchema>, Memory>
+        requires encoding { IsEncoding c.now self.now }
+        ensures { IfOk result (λ actions. actions ≡ all_actions c.now self.now) }
+    {
+        let mut into = List::new(alloc);
+        for k in 0..self.count(c) {
+            into.put(self.whole_action(alloc, c, k))?;
+        }
+        Ok(into)
+    }
+
+    fn whole_action(&self, alloc: Global, c: &Compiled, k: u32) -> Result<ActionSchema, Memory>
+        requires encoding { IsEncoding c.now self.now }
+        requires some { k < length (all_actions c.now self.now) }
+        ensures { IfOk result (λ a. slice_get (all_actions c.now self.now) k ≡ Some a) }
+    {
+        self.action(alloc, c, k)?.whole(alloc)
     }
 }
 
@@ -77,22 +131,21 @@ pub fn encode(alloc: Global, c: &Compiled, slots: u32, style: &Style) -> Result<
     ensures short { IfOk result (λ p. length p.names < 2 ^ 32) }
     ensures printable { IfOk result (IsPrintableWhereSound c.now slots) }
 {
-    let names = vocabulary(alloc, c, slots)?;
-    let value = value_of(alloc, c, &names, slots, style)?;
-    Ok(Pddl {
-        names,
-        domain: value.domain,
-        problem: value.problem,
-        types: value.declarations.types,
-        objects: value.declarations.objects,
-        predicates: value.declarations.predicates,
-        actions: value.behaviour.actions,
-        init: value.behaviour.init,
-        goal: value.behaviour.goal,
-    })
+    let encoding = Encoding::new(alloc, c, slots, style)?;
+    match encoding.actions(alloc, c) {
+        Ok(actions) => {
+            let mut value = encoding.head;
+            value.actions = actions;
+            Ok(value)
+        }
+        Err(memory) => {
+            drop(encoding);
+            Err(memory)
+        }
+    }
 }
 
-/// The printed problem without its words.
+/// All of the printed problem but its words and its actions.
 #[derive(Drop)]
 pub(crate) struct Encoded {
     pub domain: Name,
@@ -109,50 +162,11 @@ pub(crate) struct Declarations {
     pub predicates: List<Predicate>,
 }
 
-/// What may happen in the printed problem, where it starts and what is wanted.
+/// Where the printed problem starts and what is wanted.
 #[derive(Drop)]
 pub(crate) struct Behaviour {
-    pub actions: List<ActionSchema>,
     pub init: List<GroundAtom>,
     pub goal: Formula,
-}
-
-fn value_of(
-    alloc: Global,
-    c: &Compiled,
-    printed: &NameTable,
-    slots: u32,
-    style: &Style,
-) -> Result<Encoded, Memory>
-    requires listed { AreListed c.now.hddl.types }
-    ensures { IfOk result (AreEncoded c.now printed.now slots style.now) }
-{
-    let numbers = numbers_of(c)?;
-    let order = order_of(c, printed, numbers.before)?;
-    plus(order.first_slot, slots)?;
-    let guard_types = guard_types(alloc, c)?;
-    let frame = Frame {
-        compiled: c,
-        printed,
-        slots,
-        style: *style,
-        numbers,
-        order,
-        guard_types: &guard_types,
-    };
-    parts_of(alloc, &frame)
-}
-
-fn order_of(c: &Compiled, printed: &NameTable, before: u32) -> Result<OrderNames, Memory>
-    requires { before ≡ names.before_predicate c.now }
-    ensures { IfOk result (λ o. orders.numbers o ≡ names.order_numbers c.now printed.now 0) }
-{
-    Ok(OrderNames {
-        before,
-        slot_type: 1,
-        x: name_of(printed, b"htn_x"),
-        first_slot: number(c.hddl.objects.len())?,
-    })
 }
 
 fn parts_of(alloc: Global, frame: &Frame<'_>) -> Result<Encoded, Memory>
@@ -196,10 +210,8 @@ fn behaviour_of(alloc: Global, frame: &Frame<'_>) -> Result<Behaviour, Memory>
     requires listed { AreListed frame.now.compiled.now.hddl.types }
     ensures { IfOk result (made.IsBehaviour frame.now) }
 {
-    let actions = encoded_actions(alloc, frame)?;
     let init = encoded_initial(alloc, frame)?;
     Ok(Behaviour {
-        actions,
         init,
         goal: goal_of(alloc, frame)?,
     })

@@ -26,7 +26,13 @@ fn push_all_free(alloc: Global, frame: &Frame<'_>, into: &mut List<Formula>) -> 
 {
     match frame.style {
         Style::Adl => into.put(any_free(alloc, frame)),
-        Style::Flat => push_each_free(alloc, frame, frame.order.first_slot, frame.slots, into),
+        Style::Flat => push_each_free(
+            alloc,
+            frame,
+            frame.basis.order.first_slot,
+            frame.slots,
+            into,
+        ),
     }
 }
 
@@ -35,7 +41,7 @@ fn any_free(alloc: Global, frame: &Frame<'_>) -> Result<Formula, Memory>
     ensures { IfOk result (λ f. f ≡ made.any_slot_free frame.now) }
 {
     let mut params = List::new(alloc);
-    params.push(slot_param(frame.order.x))?;
+    params.push(slot_param(frame.basis.order.x))?;
     let free = free(alloc, frame, Term::Var(0))?;
     Ok(Formula::Forall(params, Boxed::new(alloc, free)?))
 }
@@ -64,7 +70,7 @@ fn free(alloc: Global, frame: &Frame<'_>, slot: Term) -> Result<Formula, Memory>
     let mut args = List::new(alloc);
     args.push(slot)?;
     Ok(Formula::Holds(Atom {
-        predicate: frame.numbers.free,
+        predicate: frame.basis.numbers.free,
         args,
     }))
 }

@@ -89,8 +89,8 @@ pub(crate) fn guard_predicate(frame: &Frame<'_>, ty: u32) -> Result<u32, Memory>
     requires { IsFrame frame.now }
     ensures { IfOk result (λ p. p ≡ spec.guard_predicate frame.now.compiled.now ty) }
 {
-    let place = place_of(frame.guard_types.as_slice(), ty);
-    plus(frame.numbers.first_guard, number(place)?)
+    let place = place_of(frame.basis.guard_types.as_slice(), ty);
+    plus(frame.basis.numbers.first_guard, number(place)?)
 }
 
 fn place_of(types: &[u32], ty: u32) -> usize

@@ -20,7 +20,7 @@ pub(crate) fn encoded_initial(alloc: Global, frame: &Frame<'_>) -> Result<List<G
     ensures { IfOk result (made.IsInitial frame.now) }
 {
     let mut into = first_atoms(alloc, frame)?;
-    push_guards(alloc, frame, frame.guard_types.as_slice(), &mut into)?;
+    push_guards(alloc, frame, frame.basis.guard_types.as_slice(), &mut into)?;
     Ok(into)
 }
 
@@ -29,7 +29,7 @@ fn first_atoms(alloc: Global, frame: &Frame<'_>) -> Result<List<GroundAtom>, Mem
     ensures { IfOk result (λ atoms. atoms ≡ made.first_atoms frame.now) }
 {
     let mut into = List::new(alloc);
-    into.put(atom(alloc, frame.numbers.top, frame.order.first_slot))?;
+    into.put(atom(alloc, frame.basis.numbers.top, frame.basis.order.first_slot))?;
     push_free(alloc, frame, frame.slots.saturating_sub(1), &mut into)?;
     push_single(alloc, frame.compiled.hddl.init.as_slice(), &mut into)?;
     Ok(into)
@@ -62,8 +62,8 @@ fn free(alloc: Global, frame: &Frame<'_>, k: u32) -> Result<GroundAtom, Memory>
     requires { IsFrame frame.now }
     ensures { IfOk result (λ a. a ≡ made.slot_atom frame.now k) }
 {
-    let slot = plus(frame.order.first_slot, k)?;
-    atom(alloc, frame.numbers.free, slot)
+    let slot = plus(frame.basis.order.first_slot, k)?;
+    atom(alloc, frame.basis.numbers.free, slot)
 }
 
 fn push_guards(

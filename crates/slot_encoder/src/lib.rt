@@ -7,6 +7,7 @@
 
 mod actions;
 mod atoms;
+mod basis;
 mod conditions;
 mod differing;
 mod effects;

@@ -1,22 +1,23 @@
 ghost use Rattle.std.specs.Prelude.{◌≡◌, ◌++◌, map, IfOk, OnOk};
 ghost use Rattle.task_networks.specs.Spelling.{numbers};
 ghost use Rattle.slot_encoding.specs.EncodedNames as names;
+ghost use Rattle.slot_encoder.specs.Encodings.{whole};
 ghost use Rattle.slot_encoder.specs.Frames.{IsFrame, AreVariables};
 ghost use Rattle.slot_encoder.specs.Made as made;
 
 use crate::atoms::{held, is_free};
 use crate::conditions::{push_condition, push_waits};
-use crate::differing::push_differing;
 use crate::frame::Frame;
 use crate::guards::guard_predicate;
 use crate::numbers::task_predicate;
 use crate::predicates::slot_param;
+use crate::split_action::SplitAction;
 use crate::splitting::method_effects;
 use crate::terms::{moved, push_params};
 use crate::variables::{Variables, variables_of};
 use crate::words::{named, numbered, prefixed};
 use htn_base::{Boxed, List, Memory, Name};
-use plan_model::{ActionSchema, Atom, Constraint, Effect, Formula, Guard, MethodPlan, Param};
+use plan_model::{Atom, Constraint, Effect, Formula, Guard, MethodPlan, Param};
 use std::alloc::Global;
 
 /// The action of method `m`, the top method being number 0. `check` is the predicate of its check.
@@ -26,20 +27,23 @@ pub(crate) fn encoded_method(
     m: u32,
     check: u32,
     plan: &MethodPlan,
-) -> Result<ActionSchema, Memory>
+) -> Result<SplitAction, Memory>
     requires frame { IsFrame frame.now }
     requires check { check ≡ names.check_predicate frame.now.compiled.now m }
-    ensures { IfOk result (λ a. a ≡ made.method_action frame.now m plan.now) }
+    ensures { IfOk result (λ a. whole a ≡ made.method_action frame.now m plan.now) }
 {
     let name = method_name(alloc, frame, m, plan)?;
     let variables = variables_of(alloc, plan)?;
     let params = method_params(alloc, frame, plan, &variables)?;
-    let conditions = method_conditions(alloc, frame, plan, &variables)?;
+    let before = conditions_before(alloc, frame, plan, &variables)?;
+    let behind = conditions_behind(alloc, frame, variables.front, plan)?;
     let effects = method_effects(alloc, frame, check, plan, &variables)?;
-    Ok(ActionSchema {
+    Ok(SplitAction {
         name,
         params,
-        pre: Formula::And(conditions),
+        before,
+        spare: variables.spare,
+        behind,
         eff: Effect::And(effects),
     })
 }
@@ -84,9 +88,8 @@ fn push_new_slots(
     Ok(())
 }
 
-/// What a method asks for: its task in the first slot with nothing before it, free slots that differ, the constraints, the
-/// guards, and the precondition where it is tested at once.
-fn method_conditions(
+/// What a method asks for first: its task in the first slot with nothing before it, and free slots.
+fn conditions_before(
     alloc: Global,
     frame: &Frame<'_>,
     plan: &MethodPlan,
@@ -94,14 +97,27 @@ fn method_conditions(
 ) -> Result<List<Formula>, Memory>
     requires frame { IsFrame frame.now }
     requires variables { AreVariables plan.now variables.now }
-    ensures { IfOk result (λ fs. fs ≡ made.method_pre frame.now plan.now) }
+    ensures { IfOk result (λ fs. fs ≡ made.method_before frame.now plan.now) }
 {
-    let front = variables.front;
     let mut into = List::new(alloc);
-    into.push(Formula::Holds(held_task(alloc, frame, plan, front)?))?;
+    into.push(Formula::Holds(held_task(alloc, frame, plan, variables.front)?))?;
     push_waits(alloc, frame, variables.depth, &mut into)?;
     push_free(alloc, frame, variables.spare, &mut into)?;
-    push_differing(alloc, variables.spare, &mut into)?;
+    Ok(into)
+}
+
+/// What it asks for besides, the free slots being different: the constraints, the guards, and the precondition where it is
+/// tested at once.
+fn conditions_behind(
+    alloc: Global,
+    frame: &Frame<'_>,
+    front: u32,
+    plan: &MethodPlan,
+) -> Result<List<Formula>, Memory>
+    requires { IsFrame frame.now }
+    ensures { IfOk result (λ fs. fs ≡ made.method_behind frame.now front plan.now) }
+{
+    let mut into = List::new(alloc);
     push_constraints(
         alloc,
         frame,
@@ -124,7 +140,7 @@ pub(crate) fn held_task(
     requires { IsFrame frame.now }
     ensures { IfOk result (λ a. a ≡ made.method_task frame.now front plan.now) }
 {
-    let predicate = task_predicate(frame.compiled, &frame.numbers, plan.schema.task)?;
+    let predicate = task_predicate(frame.compiled, &frame.basis.numbers, plan.schema.task)?;
     held(
         alloc,
         frame,

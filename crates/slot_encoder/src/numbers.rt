@@ -1,10 +1,10 @@
-ghost use Rattle.std.specs.Prelude.{◌≡◌, ◌+◌, ◌==◌, ◌<◌, length, IfOk};
+ghost use Rattle.std.specs.Prelude.{◌≡◌, ◌+◌, length, IfOk};
 ghost use Rattle.slot_encoding.specs.EncodedNames as spec;
 ghost use Rattle.slot_encoder.specs.Frames.{AreNumbers};
-ghost use Rattle.slot_encoder.specs.Pieces.{checked, with_check};
+ghost use Rattle.slot_encoder.specs.Pieces.{checked};
 
 use htn_base::{Memory, number};
-use plan_model::{Compiled, MethodPlan};
+use plan_model::Compiled;
 
 /// The numbers of the generated predicates, after those of the source: three of the slots, and the first ones of the tasks,
 /// the actions, the checks and the guards.
@@ -29,17 +29,19 @@ pub(crate) fn plus(a: u32, b: u32) -> Result<u32, Memory>
     }
 }
 
-pub(crate) fn numbers_of(c: &Compiled) -> Result<Numbers, Memory>
+/// The numbers in a problem with so many checks.
+pub(crate) fn numbers_of(c: &Compiled, checks: u32) -> Result<Numbers, Memory>
+    requires { checks ≡ length (checked c.now.methods) }
     ensures { IfOk result (AreNumbers c.now) }
 {
     let top = number(c.hddl.predicates.len())?;
     let tasks = number(c.hddl.tasks.len())?;
     let actions = number(c.hddl.actions.len())?;
-    let checks = checks(c.methods.as_slice())?;
     let all = top as u64 + 3 + tasks as u64 + actions as u64 + checks as u64;
     if all > 0xffff_ffff {
         return Err(Memory);
     }
+    plus(plus(number(c.methods.len())?, checks)?, actions)?;
     let first_task = top + 3;
     let first_action = first_task + tasks;
     let first_check = first_action + actions;
@@ -52,28 +54,6 @@ pub(crate) fn numbers_of(c: &Compiled) -> Result<Numbers, Memory>
         first_check,
         first_guard: first_check + checks,
     })
-}
-
-/// How many of the methods have a check.
-fn checks(methods: &[MethodPlan]) -> Result<u32, Memory>
-    ensures { IfOk result (λ n. n ≡ length (checked methods.now)) }
-{
-    let mut count: u32 = 0;
-    for plan in methods {
-        count = after(plan, count)?;
-    }
-    Ok(count)
-}
-
-/// One more where the method has a check.
-pub(crate) fn after(plan: &MethodPlan, count: u32) -> Result<u32, Memory>
-    ensures { IfOk result (λ n. n ≡ with_check plan.now count) }
-{
-    if plan.checked {
-        plus(count, 1)
-    } else {
-        Ok(count)
-    }
 }
 
 /// The predicate of a task. The top task is the one after the last.

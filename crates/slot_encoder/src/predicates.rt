@@ -39,7 +39,7 @@ fn push_predicates(
     push_tasks(alloc, frame, c.hddl.tasks.as_slice(), into)?;
     push_actions(alloc, frame, c.hddl.actions.as_slice(), into)?;
     push_checks(alloc, frame, c.methods.as_slice(), into)?;
-    push_guards(alloc, frame, frame.guard_types.as_slice(), into)?;
+    push_guards(alloc, frame, frame.basis.guard_types.as_slice(), into)?;
     Ok(())
 }
 

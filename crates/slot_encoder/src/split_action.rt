@@ -1,6 +1,9 @@
-ghost use Rattle.std.specs.Prelude.{◌≡◌, IfOk};
+ghost use Rattle.std.specs.Prelude.{◌≡◌, ◌++◌, IfOk, OnOk};
+ghost use Rattle.task_networks.specs.Spelling.{numbers};
+ghost use Rattle.slot_encoding.specs.EncodedActions.{differ};
 ghost use Rattle.slot_encoder.specs.Encodings.{whole};
 
+use crate::differing::push_differing;
 use htn_base::{List, Memory, Name};
 use plan_model::{ActionSchema, Effect, Formula, Param};
 use std::alloc::Global;
@@ -23,6 +26,36 @@ impl SplitAction {
     pub fn whole(self, alloc: Global) -> Result<ActionSchema, Memory>
         ensures { IfOk result (λ a. a ≡ whole self) }
     {
-        Err(Memory)
+        let mut parts = self.before;
+        match push_others(alloc, self.spare, self.behind.as_slice(), &mut parts) {
+            Ok(()) => Ok(ActionSchema {
+                name: self.name,
+                params: self.params,
+                pre: Formula::And(parts),
+                eff: self.eff,
+            }),
+            Err(memory) => Err(memory),
+        }
     }
+}
+
+fn push_others(
+    alloc: Global,
+    spare: u32,
+    behind: &[Formula],
+    into: &mut List<Formula>,
+) -> Result<(), Memory>
+    ensures { OnOk result (into.new ≡ into.old ++ (differ (numbers 1 spare) ++ behind.now)) }
+{
+    push_differing(alloc, spare, into)?;
+    push_copies(alloc, behind, into)
+}
+
+fn push_copies(alloc: Global, formulas: &[Formula], into: &mut List<Formula>) -> Result<(), Memory>
+    ensures { OnOk result (into.new ≡ into.old ++ formulas.now) }
+{
+    for formula in formulas {
+        into.put(formula.copy(alloc))?;
+    }
+    Ok(())
 }

@@ -146,11 +146,11 @@ fn placed(
     let args = child.args.as_slice();
     match child.head {
         Head::Task(task) => {
-            let predicate = task_predicate(frame.compiled, &frame.numbers, task)?;
+            let predicate = task_predicate(frame.compiled, &frame.basis.numbers, task)?;
             held(alloc, frame, predicate, slot, front, args)
         }
         Head::Action(action) => {
-            let predicate = plus(frame.numbers.first_action, action)?;
+            let predicate = plus(frame.basis.numbers.first_action, action)?;
             held(alloc, frame, predicate, slot, front, args)
         }
         Head::Check => held(alloc, frame, check, slot, front, args),
@@ -215,7 +215,7 @@ fn push_copied(
     let slot = Term::Var(slot_of(slots, child));
     push_copying(
         alloc,
-        &frame.order,
+        &frame.basis.order,
         frame.slots,
         &frame.style,
         Term::Var(0),

@@ -1,4 +1,5 @@
 ghost use Rattle.std.specs.Prelude.{◌≡◌, IfOk};
+ghost use Rattle.slot_encoder.specs.Encodings.{whole};
 ghost use Rattle.slot_encoder.specs.Frames.{IsFrame};
 ghost use Rattle.slot_encoder.specs.Made as made;
 
@@ -7,6 +8,7 @@ use crate::conditions::{push_change, push_condition, push_waits};
 use crate::frame::Frame;
 use crate::numbers::plus;
 use crate::predicates::slot_param;
+use crate::split_action::SplitAction;
 use crate::splitting::freeing;
 use crate::terms::push_params;
 use crate::words::{named, prefixed, renamed};
@@ -20,21 +22,23 @@ pub(crate) fn encoded_action(
     frame: &Frame<'_>,
     a: u32,
     action: &ActionSchema,
-) -> Result<ActionSchema, Memory>
+) -> Result<SplitAction, Memory>
     requires { IsFrame frame.now }
-    ensures { IfOk result (λ s. s ≡ made.source_action frame.now a action.now) }
+    ensures { IfOk result (λ s. whole s ≡ made.source_action frame.now a action.now) }
 {
-    let predicate = plus(frame.numbers.first_action, a)?;
+    let predicate = plus(frame.basis.numbers.first_action, a)?;
     let count = number(action.params.len())?;
     let name = renamed(alloc, frame, action.name)?;
     let params = work_params(alloc, frame, action.params.as_slice())?;
-    let conditions = work_conditions(alloc, frame, predicate, count, &action.pre)?;
+    let before = work_conditions(alloc, frame, predicate, count, &action.pre)?;
     let mut effects = work_effects(alloc, frame, predicate, count)?;
     push_change(alloc, frame, 1, &action.eff, &mut effects)?;
-    Ok(ActionSchema {
+    Ok(SplitAction {
         name,
         params,
-        pre: Formula::And(conditions),
+        before,
+        spare: 0,
+        behind: List::new(alloc),
         eff: Effect::And(effects),
     })
 }
@@ -45,20 +49,22 @@ pub(crate) fn encoded_check(
     frame: &Frame<'_>,
     check: u32,
     plan: &MethodPlan,
-) -> Result<ActionSchema, Memory>
+) -> Result<SplitAction, Memory>
     requires { IsFrame frame.now }
-    ensures { IfOk result (λ s. s ≡ made.check_action frame.now check plan.now) }
+    ensures { IfOk result (λ s. whole s ≡ made.check_action frame.now check plan.now) }
 {
     let schema = &plan.schema;
     let count = number(schema.params.len())?;
     let name = prefixed(alloc, frame, b"htn_c_", schema.name)?;
     let params = work_params(alloc, frame, schema.params.as_slice())?;
-    let conditions = work_conditions(alloc, frame, check, count, &schema.pre)?;
+    let before = work_conditions(alloc, frame, check, count, &schema.pre)?;
     let effects = work_effects(alloc, frame, check, count)?;
-    Ok(ActionSchema {
+    Ok(SplitAction {
         name,
         params,
-        pre: Formula::And(conditions),
+        before,
+        spare: 0,
+        behind: List::new(alloc),
         eff: Effect::And(effects),
     })
 }

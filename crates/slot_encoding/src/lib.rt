@@ -1,10 +1,10 @@
 //! The printed problem, as it is defined: its names, its formulas on order pairs, its actions, its words.
 //!
-//! The code above (`order_encoder`, `printed_sizes`, `slot_encoder`, `problem_texts`) and the proof about plans (`plan_proof`) both
-//! stand on these definitions, and on nothing of each other. It stands on the compiled problem of `plan_meaning` and on the printable
-//! values of `plan_texts`, and has no code but laws. The contracts used above: the encoded value of a sound problem, over a table that
-//! has all its words, can be printed (`encoded_is_printable`); each compiled problem has an encoded value
-//! (`every_problem_has_an_encoded_value`).
+//! The code above (`order_encoder`, `slot_encoder`, `problem_texts`) and the proof about plans (`plan_proof`) both stand on these
+//! definitions, and on nothing of each other; what both use of their texts is in `encoded_texts`. It stands on the compiled problem of
+//! `plan_meaning` and on the printable values of `plan_texts`, and has no code but laws. The contracts used above: the encoded value of
+//! a sound problem, over a table that has all its words, can be printed (`encoded_is_printable`); each compiled problem has an encoded
+//! value (`every_problem_has_an_encoded_value`).
 #![tactic(auto)]
 
 mod value_laws;

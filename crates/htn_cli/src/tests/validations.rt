@@ -88,7 +88,7 @@ const SEEN: &str = "(define (problem p) (:init (seen b) (seen r)) (:goal (not (s
 
 /// All objects and those of a type; what is dropped, and a domain's name, which isn't compared; and faults: the domain's first, then
 /// the problem's, then the plan's.
-const JUDGED: [Judged; 17] = [
+const JUDGED: [Judged; 19] = [
     Judged {
         domain: TYPED,
         problem: SEEN,
@@ -116,6 +116,20 @@ const JUDGED: [Judged; 17] = [
         plan: "(a)",
         status: Status::Done,
         err: "",
+    },
+    Judged {
+        domain: COSTS,
+        problem: NOTHING,
+        plan: "1: (A ; (b) ?c\n)",
+        status: Status::Done,
+        err: "",
+    },
+    Judged {
+        domain: COSTS,
+        problem: NOTHING,
+        plan: "(b) (a ?b)",
+        status: Status::TextFault,
+        err: "plan:7: fault 8 BadForm\n",
     },
     Judged {
         domain: "",

@@ -3,22 +3,26 @@ use Rattle.htn_base.specs.declared.fault.Fault.{Fault}
 use Rattle.sexpr_text.specs.declared.read_error.ReadError.TheVariants.{Bad}
 use Rattle.plan_text.specs.Plans.{RefusesPlan}
 use Rattle.command_words.specs.Words as words
-use Rattle.htn_cli.specs.Validation.{IsLeastOfThree, validation_inputs}
-use Rattle.htn_cli.proofs.Results.{on_ok_too, if_err_too}
-use Rattle.htn_cli.proofs.Validations.{confirmed_for, stops_for, least_of_plan}
+use Rattle.plan_check.specs.Checks.{IsChecked}
+use Rattle.htn_cli.specs.Validation.{IsLeastOfThree, most_steps, validation_inputs}
+use Rattle.htn_cli.proofs.Validations.{sound_runnable, confirmed_for, too_many_for, fails_for, least_of_plan}
 use Rattle.htn_cli.proofs.validation.confirm_plan.Goals as goal
 
-pub returns-in-Ok-clause-plan : goal.returns-in-Ok-clause-plan
-returns-in-Ok-clause-plan c =
-    on_ok_too c.confirm_steps-confirmed.result
-    (confirmed_for c.args.value.now c.args.plan.now c.as_slice.result.now (rw (← c.as_slice.ensures.items) at c.in-Ok.ensures.read))
-    c.confirm_steps-confirmed.ensures.plan
+pub check-requires-clause-runnable : goal.check-requires-clause-runnable
+check-requires-clause-runnable c = sound_runnable c.args.value.now c.requires.sound
 
-pub returns-in-Ok-clause-refused : goal.returns-in-Ok-clause-refused
-returns-in-Ok-clause-refused c =
-    if_err_too c.confirm_steps-confirmed.result
-    (stops_for c.args.value.now c.args.plan.now c.as_slice.result.now (rw (← c.as_slice.ensures.items) at c.in-Ok.ensures.read) (validation_inputs (words.validation_of c.args.asked.now)))
-    c.confirm_steps-confirmed.ensures.refused
+pub returns-in-Ok-Plan-clause-plan : goal.returns-in-Ok-Plan-clause-plan
+returns-in-Ok-Plan-clause-plan c = confirmed_for c.args.value.now c.args.plan.now (subst (IsChecked c.args.value.now c.args.plan.now most_steps) c.in-Ok-Plan.field-0-is c.in-Ok-Plan.ensures.checked)
+
+pub returns-in-Ok-TooMany-clause-refused : goal.returns-in-Ok-TooMany-clause-refused
+returns-in-Ok-TooMany-clause-refused c =
+    too_many_for c.args.value.now c.args.plan.now (validation_inputs (words.validation_of c.args.asked.now)) c.in-Ok-TooMany.count
+    (subst (IsChecked c.args.value.now c.args.plan.now most_steps) c.in-Ok-TooMany.field-0-is c.in-Ok-TooMany.ensures.checked)
+
+pub returns-in-Ok-Fails-clause-refused : goal.returns-in-Ok-Fails-clause-refused
+returns-in-Ok-Fails-clause-refused c =
+    fails_for c.args.value.now c.args.plan.now (validation_inputs (words.validation_of c.args.asked.now)) c.in-Ok-Fails.step c.in-Ok-Fails.why
+    (subst (IsChecked c.args.value.now c.args.plan.now most_steps) c.in-Ok-Fails.field-0-is c.in-Ok-Fails.ensures.checked)
 
 pub returns-in-Err-Bad-clause-refused : goal.returns-in-Err-Bad-clause-refused
 returns-in-Err-Bad-clause-refused c =

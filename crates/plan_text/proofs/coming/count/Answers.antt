@@ -1,5 +1,4 @@
-use Rattle.std.proofs.Common.{map, ◌+◌, [], length, sym, ◌∙◌, arith}
-use Rattle.plan_text.specs.Coming.{step_of, TellsNext}
+use Rattle.std.proofs.Common.{[], arith}
 use Rattle.plan_text.proofs.Counted.{one-more, at-its-end, never}
 use Rattle.plan_text.proofs.coming.count.Goals as goal
 

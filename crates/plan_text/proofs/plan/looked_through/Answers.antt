@@ -1,5 +1,5 @@
 use Rattle.std.proofs.Common.{Some, None, sym, subst}
-use Rattle.htn_base.specs.Words.{folded, IsFolded}
+use Rattle.htn_base.specs.Words.{IsFolded}
 use Rattle.htn_base.proofs.TableLemmas.{IsFolded-folded}
 use Rattle.plan_text.specs.Coming.{TellsCount}
 use Rattle.plan_text.proofs.LookedThrough.{looked-through, plan-is-read, no-plan}

@@ -1,4 +1,4 @@
-use Rattle.std.proofs.Common.{◌≡◌, ℕ, Some, List}
+use Rattle.std.proofs.Common.{◌≡◌, ℕ, Some}
 use Rattle.text_forms.specs.Tokens.{tokens_from}
 use Rattle.sexpr_text.specs.Places.{classes_at}
 use Rattle.plan_text.specs.Coming.{is_clean_at}

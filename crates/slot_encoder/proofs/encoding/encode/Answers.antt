@@ -1,8 +1,24 @@
-use Rattle.slot_encoder.proofs.AllWords.{encoded, value-printable}
+use Rattle.std.proofs.Common.{ℕ, subst}
+use Rattle.plan_model.specs.declared.options.Style.{Style}
+use Rattle.slot_encoding.specs.EncodedValue.{IsEncoded}
+use Rattle.slot_encoding.specs.EncodedWords.{HasEncodedWords}
+use Rattle.slot_encoder.specs.Encodings.{with_actions}
+use Rattle.slot_encoder.specs.Vocabulary.{IsPrintableWhereSound}
+use Rattle.slot_encoder.proofs.AllWords.{value-encoded, value-printable}
 use Rattle.slot_encoder.proofs.encoding.encode.Goals as goal
 
-pub returns-clause-encoded : goal.returns-clause-encoded
-returns-clause-encoded c = encoded c.args.c.now c.in_ok-names.names c.args.slots c.args.style.now c.in_ok-value.value c.in_ok-value.ensures
+pub returns-in-Ok-clause-encoded : goal.returns-in-Ok-clause-encoded
+returns-in-Ok-clause-encoded c =
+    let e = c.in_ok-encoding.encoding in
+    let v = with_actions e.head c.in-Ok.actions in
+    subst (λ (s : Style). IsEncoded c.args.c.now c.args.slots s v) c.in_ok-encoding.ensures.style
+    (subst (λ (b : ℕ). IsEncoded c.args.c.now b e.style v) c.in_ok-encoding.ensures.slots (value-encoded c.args.c.now e c.in_ok-encoding.ensures.encoding c.in-Ok.actions c.in-Ok.ensures))
 
-pub returns-clause-printable : goal.returns-clause-printable
-returns-clause-printable c = value-printable c.args.c.now c.in_ok-names.names c.args.slots c.args.style.now c.in_ok-value.value c.in_ok-value.ensures c.in_ok-names.ensures.words c.in_ok-names.ensures.short
+pub returns-in-Ok-clause-words : goal.returns-in-Ok-clause-words
+returns-in-Ok-clause-words c =
+    subst (λ (b : ℕ). HasEncodedWords c.args.c.now b c.in_ok-encoding.encoding.head.names) c.in_ok-encoding.ensures.slots c.in_ok-encoding.ensures.encoding.words
+
+pub returns-in-Ok-clause-printable : goal.returns-in-Ok-clause-printable
+returns-in-Ok-clause-printable c =
+    let e = c.in_ok-encoding.encoding in
+    subst (λ (b : ℕ). IsPrintableWhereSound c.args.c.now b (with_actions e.head c.in-Ok.actions)) c.in_ok-encoding.ensures.slots (value-printable c.args.c.now e c.in_ok-encoding.ensures.encoding c.in-Ok.actions c.in-Ok.ensures)

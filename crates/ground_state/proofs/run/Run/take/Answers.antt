@@ -1,4 +1,6 @@
-use Rattle.std.proofs.Common.{◌≤◌, List, length, refl, sym, subst, ◌∙◌, true≢false}
+use Rattle.std.proofs.Common.{Result, Ok, Err, ◌≤◌, List, length, refl, sym, subst, ◌∙◌, true≢false}
+use Rattle.std.specs.Result.{OnErr}
+use Rattle.std.proofs.lemmas.Result.{IfOk-from_err}
 use Rattle.std.specs.Vec.{vec_capacity}
 use Rattle.plan_model.specs.declared.terms.Param.{Param}
 use Rattle.plan_meaning.specs.Truth.{after}
@@ -11,26 +13,24 @@ use Rattle.ground_state.specs.Runs.{texts, words_step, IsAsRoomy}
 use Rattle.ground_state.proofs.RunLaws as laws
 use Rattle.ground_state.proofs.run.Run.take.Goals as goal
 
-pub returns-in_default : goal.returns-in_default
-returns-in_default c = record { taken = laws.fails c.args.self.now (words_step c.args.name.now c.args.args.now) why.UnknownAction (c.in_default.ensures (texts c.args.args.now)) }
+pub returns-in_default-clause-taken : goal.returns-in_default-clause-taken
+returns-in_default-clause-taken c = laws.fails c.args.self.now (words_step c.args.name.now c.args.args.now) why.UnknownAction (c.in_default.ensures (texts c.args.args.now))
 
 pub fill-requires-clause-room : goal.fill-requires-clause-room
 fill-requires-clause-room c =
     let named = c.in-Some.ensures (texts c.args.args.now) in
     subst (λ (ps : List Param). length ps ≤ vec_capacity c.args.self.now.env.values) (sym c.as_slice-params.ensures.items) (c.requires.ready.room.actions c.in-Some.action.now named.action).params
 
-pub returns-then-not-fill : goal.returns-then-not-fill
-returns-then-not-fill c =
+pub returns-then-not-fill-clause-taken : goal.returns-then-not-fill-clause-taken
+returns-then-not-fill-clause-taken c =
     let old = c.args.self.now in
     let p = old.p.now in
     let a = c.in-Some.action.now in
     let words = texts c.args.args.now in
     let step = words_step c.args.name.now c.args.args.now in
-    record {
-      taken = laws.fails old step why.Arguments
-          (laws.arguments_fail p step a (c.in-Some.ensures words) c.requires.ready.runnable.apart (atoms old.state)
-          (λ os args. c.if-not-fill.ensures.filled os (laws.same_arguments p a.params c.as_slice-params.result.now words words os (sym c.as_slice-params.ensures.items) refl args)));
-    }
+    laws.fails old step why.Arguments
+    (laws.arguments_fail p step a (c.in-Some.ensures words) c.requires.ready.runnable.apart (atoms old.state)
+    (λ os args. c.if-not-fill.ensures.filled os (laws.same_arguments p a.params c.as_slice-params.result.now words words os (sym c.as_slice-params.ensures.items) refl args)))
 
 pub holds-requires-clause-room : goal.holds-requires-clause-room
 holds-requires-clause-room c =
@@ -41,18 +41,16 @@ holds-requires-clause-room c =
     let args = laws.same_arguments p c.as_slice-params.result.now a.params words words c.fill.new.env.values.items c.as_slice-params.ensures.items refl c.if-not-fill.ensures.filled in
     laws.room_for_pre p (words_step c.args.name.now c.args.args.now) a (c.in-Some.ensures words) (frame c.fill.new.env) (laws.still_roomy p (frame old.env) (frame c.fill.new.env) c.fill.ensures.room c.requires.ready.room) args.1
 
-pub returns-then-not-holds : goal.returns-then-not-holds
-returns-then-not-holds c =
+pub returns-then-not-holds-clause-taken : goal.returns-then-not-holds-clause-taken
+returns-then-not-holds-clause-taken c =
     let old = c.args.self.now in
     let p = old.p.now in
     let a = c.in-Some.action.now in
     let words = texts c.args.args.now in
     let step = words_step c.args.name.now c.args.args.now in
     let args = laws.same_arguments p c.as_slice-params.result.now a.params words words c.fill.new.env.values.items c.as_slice-params.ensures.items refl c.if-not-fill.ensures.filled in
-    record {
-      taken = laws.fails old step why.Condition
-          (laws.condition_fails p step a (c.in-Some.ensures words) c.requires.ready.runnable.apart (atoms old.state) c.fill.new.env.values.items args (λ t. true≢false (sym (c.holds.ensures.truth.1 t) ∙ c.if-not-holds.true)));
-    }
+    laws.fails old step why.Condition
+    (laws.condition_fails p step a (c.in-Some.ensures words) c.requires.ready.runnable.apart (atoms old.state) c.fill.new.env.values.items args (λ t. true≢false (sym (c.holds.ensures.truth.1 t) ∙ c.if-not-holds.true)))
 
 pub apply-requires-clause-room : goal.apply-requires-clause-room
 apply-requires-clause-room c =
@@ -64,8 +62,8 @@ apply-requires-clause-room c =
     subst (λ e. EffectFits e c.in-Some.action.now.eff) (sym c.holds.ensures.kept)
     (laws.room_for_eff p (words_step c.args.name.now c.args.args.now) a (c.in-Some.ensures words) (frame c.fill.new.env) (laws.still_roomy p (frame old.env) (frame c.fill.new.env) c.fill.ensures.room c.requires.ready.room) args.1)
 
-pub returns : goal.returns
-returns c =
+pub returns-clause-taken : goal.returns-clause-taken
+returns-clause-taken c =
     let old = c.args.self.now in
     let p = old.p.now in
     let a = c.in-Some.action.now in
@@ -75,11 +73,23 @@ returns c =
     let args = laws.same_arguments p c.as_slice-params.result.now a.params words words os c.as_slice-params.ensures.items refl c.if-not-fill.ensures.filled in
     let same = c.apply.ensures.kept ∙ c.holds.ensures.kept in
     let roomy = subst (IsAsRoomy (frame c.args.self.now.env)) (sym same) c.fill.ensures.room in
+    laws.takes old _ refl refl roomy step (
+      a,
+      os,
+      laws.applicable p step a (c.in-Some.ensures words) (atoms old.state) os args (c.holds.ensures.truth.0 c.if-not-holds.false),
+      subst (λ (e : Frame). Has c.apply.new.self (after (InTypeOf c.args.self.now.p.now) (atoms c.args.self.now.state) c.in-Some.action.now.eff e.objects)) c.holds.ensures.kept c.in_ok-apply.ensures.after,
+    )
+
+on_error : {T E : Type 0} (r : Result T E) (P : Type 0) → P → OnErr r P
+on_error (Ok x) P h = tt
+on_error (Err e) P h = h
+
+pub returns-in_err-apply : goal.returns-in_err-apply
+returns-in_err-apply c =
+    let old = c.args.self.now in
+    let same = c.apply.ensures.kept ∙ c.holds.ensures.kept in
+    let roomy = subst (IsAsRoomy (frame c.args.self.now.env)) (sym same) c.fill.ensures.room in
     record {
-      taken = laws.takes old _ refl refl roomy step (
-        a,
-        os,
-        laws.applicable p step a (c.in-Some.ensures words) (atoms old.state) os args (c.holds.ensures.truth.0 c.if-not-holds.false),
-        subst (λ (e : Frame). Has c.apply.new.self (after (InTypeOf c.args.self.now.p.now) (atoms c.args.self.now.state) c.in-Some.action.now.eff e.objects)) c.holds.ensures.kept c.in_ok-apply.ensures.after,
-      );
+      taken = IfOk-from_err c.from_residual.result _ c.from_residual.ensures.0;
+      unchanged = on_error c.from_residual.result _ (laws.keeps_taken old _ refl refl roomy c.in_err-apply.ensures.unchanged);
     }

@@ -1,0 +1,39 @@
+use Rattle.std.proofs.Common.{◌≡◌, ◌+◌, ◌-◌, length, ap, arith}
+use Rattle.slot_encoder.specs.Made as made
+use Rattle.slot_encoder.proofs.CheckedMethods.{checks-count}
+use Rattle.slot_encoder.proofs.ActionPlaces.{actions-length, at-method, at-check, at-source, placed_among}
+use Rattle.slot_encoder.proofs.actions.action_at.Goals as goal
+
+pub overflow_cast-checks : goal.overflow_cast-checks
+overflow_cast-checks c =
+    let f = c.args.frame.now in
+    omega (arith, c.len-checks.ensures.length, checks-count f.compiled.now.methods f.basis.now.checks c.requires.frame.checks, c.requires.frame.numbers.few)
+
+pub source_at-requires-clause-some : goal.source_at-requires-clause-some
+source_at-requires-clause-some c =
+    let f = c.args.frame.now in
+    omega (arith, c.requires.some, actions-length f.compiled.now f.printed.now f.slots f.style, ap length c.requires.frame.checks.methods, c.len-methods.ensures.length, c.len-checks.ensures.length, c.if-k-methods.false, c.if-k-methods-2.false)
+
+pub returns-then-k-methods : goal.returns-then-k-methods
+returns-then-k-methods c =
+    let f = c.args.frame.now in
+    placed_among c.method_at.result (made.all_actions f) (made.method_actions f f.compiled.now.methods) c.args.k c.args.k
+    (at-method f.compiled.now f.printed.now f.slots f.style c.args.k (omega (arith, c.len-methods.ensures.length, c.if-k-methods.true)))
+    c.method_at.ensures
+
+pub returns-then-k-methods-2 : goal.returns-then-k-methods-2
+returns-then-k-methods-2 c =
+    let f = c.args.frame.now in
+    let j = c.args.k - c.len-methods.result in
+    let e : c.args.k ≡ length f.compiled.now.methods + j = omega (arith, c.len-methods.ensures.length, c.if-k-methods.false) in
+    placed_among c.check_at.result (made.all_actions f) (made.check_actions f f.compiled.now.methods) c.args.k j
+    (at-check f.compiled.now f.printed.now f.slots f.style j c.args.k e (omega (arith, c.if-k-methods-2.true, c.len-checks.ensures.length, ap length c.requires.frame.checks.methods)))
+    c.check_at.ensures
+
+pub returns-else-k-methods-2 : goal.returns-else-k-methods-2
+returns-else-k-methods-2 c =
+    let f = c.args.frame.now in
+    let a = c.args.k - c.len-methods.result - c.len-checks.result in
+    placed_among c.source_at.result (made.all_actions f) (made.source_actions f f.compiled.now.hddl.actions) c.args.k a
+    (at-source f.compiled.now f.printed.now f.slots f.style a c.args.k (omega (arith, ap length c.requires.frame.checks.methods, c.len-methods.ensures.length, c.len-checks.ensures.length, c.if-k-methods.false, c.if-k-methods-2.false)))
+    c.source_at.ensures

@@ -1,0 +1,11 @@
+use Rattle.slot_encoder.proofs.AllWords.{head-encoded}
+use Rattle.slot_encoder.proofs.encoding.Encoding.new.Goals as goal
+
+pub returns-in-Ok-clause-encoding : goal.returns-in-Ok-clause-encoding
+returns-in-Ok-clause-encoding c = record {
+  encoded = head-encoded c.args.c.now c.in_ok-names.names c.args.slots c.args.style.now c.in-Ok.parts c.in-Ok.ensures;
+  no_actions = c.new.ensures.empty;
+  words = c.in_ok-names.ensures.words;
+  short = c.in_ok-names.ensures.short;
+  basis = c.in_ok-basis.ensures;
+}
