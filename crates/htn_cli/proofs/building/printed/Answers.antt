@@ -10,5 +10,5 @@ returns-in-Ok-TooLong-clause-refused c =
     let compiled = c.args.compiled.now in
     let manner = c.args.manner.now in
     let within : ArePrintedWithin compiled manner.slots manner.style longest (TooLong c.in-Ok-TooLong.size) =
-        subst (ArePrintedWithin compiled manner.slots manner.style longest) c.in-Ok-TooLong.field-0-is c.in-Ok-TooLong.ensures.printed in
+    subst (ArePrintedWithin compiled manner.slots manner.style longest) c.in-Ok-TooLong.field-0-is c.in-Ok-TooLong.ensures.printed in
     past_is_long compiled manner c.in-Ok-TooLong.size within
