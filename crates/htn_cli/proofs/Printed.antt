@@ -22,14 +22,13 @@ long : (n : ℕ) → longest < capped n → longest < n
 long n past = omega (arith, past)
 
 -- the first text past the limit is the first that is too long
-module _ (compiled : Compiled) (manner : Manner) where
-  first_too_long : (domain problem : List ℕ) (n : ℕ) → IsFirstPast compiled manner.slots manner.style longest domain problem n → IsFirstTooLong domain problem n
-  first_too_long domain problem n (inl (past, is)) = inl (long (length domain) past, is)
-  first_too_long domain problem n (inr (few, past, is)) = inr (short (length domain) few, long (length problem) past, is)
+first_too_long : (domain problem : List ℕ) (n : ℕ) → IsFirstPast longest domain problem n → IsFirstTooLong domain problem n
+first_too_long domain problem n (inl (past, is)) = inl (long (length domain) past, is)
+first_too_long domain problem n (inr (few, past, is)) = inr (short (length domain) few, long (length problem) past, is)
 
-  pub past_is_long : (n : ℕ) → ArePrintedWithin compiled manner.slots manner.style longest (TooLong n) → AreTooLong compiled manner n
-  past_is_long n past =
-      record { encoded = has_encoded_value compiled manner.slots manner.style; too_long = λ value encoded words. first_too_long (domain_text value) (problem_text value) n (past value encoded words) }
+pub past_is_long : (compiled : Compiled) (manner : Manner) (n : ℕ) → ArePrintedWithin compiled manner.slots manner.style longest (TooLong n) → AreTooLong compiled manner n
+past_is_long compiled manner n past =
+    record { encoded = has_encoded_value compiled manner.slots manner.style; too_long = λ value encoded words. first_too_long (domain_text value) (problem_text value) n (past value encoded words) }
 
 -- the texts of a sound problem
 pub translated : (read : Hddl) (compiled : Compiled) (manner : Manner) (texts : Texts) → IsSoundProblem read → IsCompiled read manner.checks compiled → 1 ≤ manner.slots → AreWhole compiled manner texts

@@ -1,4 +1,4 @@
--- A line in three parts, of a refusal or of what was done.
+-- The line of a refusal in three parts.
 -- Source: this project's.
 use Rattle.std.specs.Prelude.{ℕ, List, ◌++◌, decimal}
 use Rattle.htn_cli.specs.declared.refusal.Line.{Line}

@@ -41,7 +41,7 @@ pub enum Refusal<'a> {
     NoMemory,
 }
 
-/// A line in three parts: of a refusal, or of what was done.
+/// The line of a refusal in three parts.
 #[derive(Clone, Copy)]
 pub(crate) struct Line<'a> {
     pub(crate) before: &'static str,

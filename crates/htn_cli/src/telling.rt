@@ -3,8 +3,8 @@ ghost use Rattle.outside_io.specs.Seen.{Seen};
 ghost use Rattle.htn_cli.specs.Faults.{place_text, fault_text};
 ghost use Rattle.htn_cli.specs.Refusal.{line_of};
 ghost use Rattle.htn_cli.specs.Line.{line_text};
+ghost use Rattle.htn_cli.specs.Left.{bound_line, slots_line};
 ghost use Rattle.htn_cli.specs.Sent.{StopsAt, TakesWhole, Told};
-ghost use Rattle.htn_cli.specs.Stops.{StopsPrint};
 
 use crate::faults::{Place, fault_word};
 use crate::refusal::{Line, Middle, Refusal};
@@ -20,32 +20,37 @@ pub(crate) fn tell<E: Sink>(err: &mut E, refusal: &Refusal<'_>)
     let _ = send_line(err, &line);
 }
 
-/// Writes a line on standard output.
-pub(crate) fn print<'a, O: Sink>(out: &mut O, line: &Line<'_>) -> Result<(), Refusal<'a>>
-    ensures written { OnOk result (Seen O.state (TakesWhole (line_text line.now)) out.old out.new) }
-    ensures refused { IfErr result
-        (Seen O.state (StopsPrint (line_text line.now)) out.old out.new) }
+/// Writes the text of a number of slots.
+pub(crate) fn tell_slots<O: Sink>(out: &mut O, slots: u32) -> Result<(), WriteError>
+    ensures whole { OnOk result (Seen O.state (TakesWhole (slots_line slots)) out.old out.new) }
+    ensures part { IfErr result (Seen O.state (StopsAt (slots_line slots)) out.old out.new) }
 {
-    match send_line(out, line) {
-        Ok(()) => Ok(()),
-        Err(WriteError::Failed) => Err(Refusal::CannotWriteOutput),
-        Err(WriteError::Memory) => Err(Refusal::NoMemory),
-    }
+    let mut buffer = Buffer::new();
+    send_parts(out, b"slots ", buffer.format(slots).as_bytes(), b"\n")
 }
 
-fn send_line<S: Sink>(sink: &mut S, line: &Line<'_>) -> Result<(), WriteError>
-    ensures whole { OnOk result (Seen S.state (TakesWhole (line_text line.now)) sink.old sink.new) }
-    ensures part { IfErr result (Seen S.state (StopsAt (line_text line.now)) sink.old sink.new) }
+/// Writes the text of a bound.
+pub(crate) fn tell_bound<O: Sink>(out: &mut O, bound: u128) -> Result<(), WriteError>
+    ensures whole { OnOk result (Seen O.state (TakesWhole (bound_line bound)) out.old out.new) }
+    ensures part { IfErr result (Seen O.state (StopsAt (bound_line bound)) out.old out.new) }
+{
+    let mut buffer = Buffer::new();
+    send_two(out, buffer.format(bound).as_bytes(), b"\n")
+}
+
+fn send_line<E: Sink>(err: &mut E, line: &Line<'_>) -> Result<(), WriteError>
+    ensures whole { OnOk result (Seen E.state (TakesWhole (line_text line.now)) err.old err.new) }
+    ensures part { IfErr result (Seen E.state (StopsAt (line_text line.now)) err.old err.new) }
 {
     let (before, after) = (line.before.as_bytes(), line.after.as_bytes());
     match line.middle {
-        Middle::Words(words) => send_parts(sink, before, words, after),
+        Middle::Words(words) => send_parts(err, before, words, after),
         Middle::Number(number) => {
             let mut buffer = Buffer::new();
-            send_parts(sink, before, buffer.format(number).as_bytes(), after)
+            send_parts(err, before, buffer.format(number).as_bytes(), after)
         }
-        Middle::Place(place) => send_place(sink, before, place, after),
-        Middle::Fault(place, code) => send_fault(sink, before, place, code, after),
+        Middle::Place(place) => send_place(err, before, place, after),
+        Middle::Fault(place, code) => send_fault(err, before, place, code, after),
     }
 }
 

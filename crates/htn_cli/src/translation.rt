@@ -8,17 +8,17 @@ ghost use Rattle.problem_bound.specs.Soundly.{IsSoundlyCompiled};
 ghost use Rattle.htn_cli.specs.Ending.{Achieves};
 ghost use Rattle.htn_cli.specs.Left.{BothStand, Leaves, slots_line};
 ghost use Rattle.htn_cli.specs.Sent.{TakesWhole};
-ghost use Rattle.htn_cli.specs.Stops.{IsGiven, IsMade, StopsDelivery, StopsMade, StopsPut};
+ghost use Rattle.htn_cli.specs.Stops.{IsGiven, IsMade, StopsDelivery, StopsMade, StopsPrint, StopsPut};
 ghost use Rattle.htn_cli.specs.Texts.{texts_of};
 
 use crate::building::printed;
 use crate::manner::Manner;
 use crate::problem::problem_from;
-use crate::refusal::{Line, Middle, Refusal};
+use crate::refusal::Refusal;
 use crate::slots::{given_slots, slots_for};
-use crate::telling::print;
+use crate::telling::tell_slots;
 use command_words::{Named, Translation};
-use outside_io::{Files, PutError, Sink};
+use outside_io::{Files, PutError, Sink, WriteError};
 use plan_model::Compiled;
 use problem_texts::Texts;
 use std::alloc::Global;
@@ -91,12 +91,7 @@ fn deliver<'a, F: Files, O: Sink>(
 {
     put(files, names.od, texts.domain.as_slice())?;
     put(files, names.op, texts.problem.as_slice())?;
-    let line = Line {
-        before: "slots ",
-        middle: Middle::Number(slots as u128),
-        after: "\n",
-    };
-    print(out, &line)
+    print(out, slots)
 }
 
 fn put<'a, F: Files>(files: &mut F, name: &'a str, text: &[u8]) -> Result<(), Refusal<'a>>
@@ -107,5 +102,16 @@ fn put<'a, F: Files>(files: &mut F, name: &'a str, text: &[u8]) -> Result<(), Re
         Ok(()) => Ok(()),
         Err(PutError::Failed) => Err(Refusal::CannotWrite(name)),
         Err(PutError::Memory) => Err(Refusal::NoMemory),
+    }
+}
+
+fn print<'a, O: Sink>(out: &mut O, slots: u32) -> Result<(), Refusal<'a>>
+    ensures written { OnOk result (Seen O.state (TakesWhole (slots_line slots)) out.old out.new) }
+    ensures refused { IfErr result (Seen O.state (StopsPrint (slots_line slots)) out.old out.new) }
+{
+    match tell_slots(out, slots) {
+        Ok(()) => Ok(()),
+        Err(WriteError::Failed) => Err(Refusal::CannotWriteOutput),
+        Err(WriteError::Memory) => Err(Refusal::NoMemory),
     }
 }

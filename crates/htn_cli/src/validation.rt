@@ -4,17 +4,18 @@ ghost use Rattle.command_words.specs.Words as words;
 ghost use Rattle.form_spellings.specs.SoundPddl.{IsSoundClassical};
 ghost use Rattle.htn_cli.specs.Ending.{Achieves};
 ghost use Rattle.htn_cli.specs.Inputs.{longest_input};
-ghost use Rattle.htn_cli.specs.Left.{Leaves};
-ghost use Rattle.htn_cli.specs.Stops.{GivesPlan, IsConfirmedFor, StopsFor, StopsPlan, StopsTextsOf};
+ghost use Rattle.htn_cli.specs.Left.{Leaves, valid_line};
+ghost use Rattle.htn_cli.specs.Sent.{TakesWhole};
+ghost use Rattle.htn_cli.specs.Stops.{GivesPlan, IsConfirmedFor, StopsFor, StopsPlan, StopsPrint, StopsTextsOf};
 ghost use Rattle.htn_cli.specs.Validation.{AreConfirmed, IsLeastOfThree, validation_inputs};
 
 use crate::faults::{Place, limit_of};
 use crate::problem::read;
-use crate::refusal::{Line, Middle, Refusal};
-use crate::telling::print;
+use crate::refusal::Refusal;
+use crate::sending::send;
 use command_words::Validation;
 use htn_base::Fault;
-use outside_io::{Files, Sink};
+use outside_io::{Files, Sink, WriteError};
 use pddl_values::pddl_of;
 use plan_check::{Checked, check};
 use plan_model::Pddl;
@@ -41,12 +42,7 @@ pub(crate) fn validate<'a, F: Files, O: Sink>(
         (F.state files.old) (F.state files.new) (O.state out.old) (O.state out.new)) }
 {
     confirm(alloc, asked, files)?;
-    let line = Line {
-        before: "valid\n",
-        middle: Middle::Words(b""),
-        after: "",
-    };
-    print(out, &line)
+    print(out)
 }
 
 /// Whether the three files hold two PDDL texts and a plan of them.
@@ -147,5 +143,16 @@ fn name_of<'a>(file: u8, asked: &Validation<'a>) -> &'a str
         0 => asked.pd,
         1 => asked.pp,
         _ => asked.plan,
+    }
+}
+
+fn print<'a, O: Sink>(out: &mut O) -> Result<(), Refusal<'a>>
+    ensures written { OnOk result (Seen O.state (TakesWhole valid_line) out.old out.new) }
+    ensures refused { IfErr result (Seen O.state (StopsPrint valid_line) out.old out.new) }
+{
+    match send(out, b"valid\n") {
+        Ok(()) => Ok(()),
+        Err(WriteError::Failed) => Err(Refusal::CannotWriteOutput),
+        Err(WriteError::Memory) => Err(Refusal::NoMemory),
     }
 }

@@ -158,7 +158,7 @@ fn texts_as_long(
     }
 }
 
-/// Whether a domain text of this length is told by it where the limit is one byte less.
+/// Whether the length of the domain text is told where the limit is one byte less.
 fn is_told(
     alloc: Global,
     compiled: &Compiled,

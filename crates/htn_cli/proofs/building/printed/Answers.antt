@@ -1,5 +1,14 @@
+use Rattle.std.proofs.Common.{subst}
+use Rattle.problem_texts.specs.declared.printing.Printed.TheVariants.{TooLong}
+use Rattle.problem_texts.specs.Lengths.{ArePrintedWithin}
+use Rattle.htn_cli.specs.Texts.{longest}
 use Rattle.htn_cli.proofs.Printed.{past_is_long}
 use Rattle.htn_cli.proofs.building.printed.Goals as goal
 
 pub returns-in-Ok-TooLong-clause-refused : goal.returns-in-Ok-TooLong-clause-refused
-returns-in-Ok-TooLong-clause-refused c = past_is_long c.args.compiled.now c.args.manner.now c.in-Ok-TooLong.size c.in-Ok-TooLong.ensures.printed
+returns-in-Ok-TooLong-clause-refused c =
+    let compiled = c.args.compiled.now in
+    let manner = c.args.manner.now in
+    let within : ArePrintedWithin compiled manner.slots manner.style longest (TooLong c.in-Ok-TooLong.size) =
+    subst (ArePrintedWithin compiled manner.slots manner.style longest) c.in-Ok-TooLong.field-0-is c.in-Ok-TooLong.ensures.printed in
+    past_is_long compiled manner c.in-Ok-TooLong.size within
