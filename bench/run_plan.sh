@@ -5,12 +5,12 @@
 # load of the machine; and where valgrind is at hand, the instructions of a step, counted over 100,000 steps.
 #
 # Counted by the same program: 4,309 instructions a step (over 1,000,000) with each look-up in the ordered set and in the
-# name table; 3,247 (over 20,000) with numbers of atoms, marks of words and one walk over an effect. That a condition's atom is looked up by the number
-# of its terms' objects came later, and isn't counted yet. Of the 3,247: conditions 983, putting an effect's atoms into the
-# lists 513, arguments and what they are looked up for (but their words) 512, words 486, making atoms true or false 386, the
-# walk over the effect 275, taking spare notes away 86. 1,000,000 steps took 0.81 to 1.04 s then, where the first form took
-# 1.13 to 1.60 s, both on a machine of 4 processors at a load of 16 to 18; no memory beyond the plan's 392 MB was seen.
-# The problem has 9 objects: the more objects, the more atoms of four or more arguments have no number.
+# name table; 3,100 (over 20,000) with numbers of atoms, marks of words and one walk over an effect into lists; 2,166 since
+# effects that are literals are gone over without lists, and conditions' literals and all look-ups by number are told in
+# place. Of these: the literals of conditions 610, what remains is effects, arguments and words; some 100 are for
+# `run_plan`'s own list of a step's words, which a caller of `Run::take` doesn't need.
+# No memory beyond the plan's 392 MB was seen. The problem has 9 objects: the more objects, the more atoms of four or more
+# arguments have no number.
 set -e
 top=$(cd "$(dirname "$0")/.." && pwd)
 copy=$(mktemp -d)

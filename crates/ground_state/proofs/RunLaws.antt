@@ -1,5 +1,5 @@
 -- Steps of a run: why one fails, and where the steps so far lead.
-use Rattle.std.proofs.Common.{ℕ, ◌≡◌, ◌+◌, ◌<◌, ◌≤◌, ◌↔◌, ◌++◌, inl, inr, Bool, true, false, IsTrue, List, [], ◌∷◌, length, get_or, take, drop, Contains, Option, None, Some, MatchBool, refl, ap, sym, subst, ◌∙◌, true≢false, arith, append_assoc, take-append-drop, length-take-le}
+use Rattle.std.proofs.Common.{ℕ, ◌≡◌, ◌+◌, ◌<◌, ◌≤◌, ◌↔◌, ◌++◌, inl, inr, Bool, true, false, IsTrue, List, [], ◌∷◌, length, get_or, take, drop, Contains, refl, ap, sym, subst, ◌∙◌, true≢false, arith, append_assoc, take-append-drop, length-take-le}
 use Rattle.std.proofs.lemmas.List.{take_more, take_all}
 use Rattle.std.specs.Borrow.{Bor}
 use Rattle.plan_model.specs.declared.terms.GroundAtom.{GroundAtom}
@@ -14,7 +14,6 @@ use Rattle.plan_meaning.specs.FailingStep.{Cause, unknown_action, arguments, con
 use Rattle.plan_meaning.proofs.SameStates.{same_truth, same_after}
 use Rattle.plan_meaning.proofs.FailingLaws.{ends_weaker, ends_joined, same_objects}
 use Rattle.ground_state.specs.declared.verdict.FailWhy.{FailWhy}
-use Rattle.ground_state.specs.declared.index.Index.{Index}
 use Rattle.ground_state.specs.declared.run.Run.{Run}
 use Rattle.ground_state.specs.declared.state.State.{State}
 use Rattle.ground_state.specs.Frames.{Frame, frame}

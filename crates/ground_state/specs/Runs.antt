@@ -10,7 +10,7 @@ use Rattle.plan_model.specs.declared.values.Pddl.{Pddl}
 use Rattle.plan_model.specs.Parts.{AreListed}
 use Rattle.plan_meaning.specs.Truth.{AreTyped, after}
 use Rattle.plan_meaning.specs.ClassicalPlan.{HasWord, AreObjects, InTypeOf, IsApplicable, EndsIn, IsPlan}
-use Rattle.plan_meaning.specs.FailingStep.{Cause, unknown_action, arguments, condition, goal_false, IsNamed, NamesAction, FailsIn, Fails, AreNamedApart}
+use Rattle.plan_meaning.specs.FailingStep.{Cause, unknown_action, arguments, condition, goal_false, IsNamed, NamesAction, Fails, AreNamedApart}
 use Rattle.ground_state.specs.declared.verdict.FailWhy.{FailWhy}
 use Rattle.ground_state.specs.declared.verdict.FailWhy.TheVariants as why
 use Rattle.ground_state.specs.declared.verdict.Verdict.{Verdict}

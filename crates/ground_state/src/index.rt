@@ -48,6 +48,7 @@ impl Index {
     }
 
     /// The object that has the word, where it is in the type.
+    #[inline(always)]
     fn object(&self, p: &Pddl, word: &[u8], ty: u32) -> Option<u32>
         requires runnable { spec.IsRunnable p.now }
         requires index { spec.IsIndex p.now self.now }

@@ -31,6 +31,7 @@ impl Kinds {
     }
 
     /// Whether the object of this number is in the type.
+    #[inline(always)]
     pub(crate) fn have(&self, types: &Types, objects: &List<Object>, object: u32, ty: u32) -> bool
         requires listed { AreListed types.now }
         requires kinds { AreKinds types.now self.now }

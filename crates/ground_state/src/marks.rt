@@ -45,6 +45,7 @@ impl Marks {
     }
 
     /// The name of the word in the table, whatever the marks are.
+    #[inline(always)]
     pub(crate) fn find(&self, table: &NameTable, word: &[u8]) -> Option<Name>
         ensures number { option_map (λ name. name.number) result ≡ number_of table.now word.now }
         ensures sound { IsTable table.now }

@@ -31,6 +31,7 @@ impl Places {
     }
 
     /// A place of what has the word.
+    #[inline(always)]
     pub(crate) fn find(&self, marks: &Marks, table: &NameTable, word: &[u8]) -> Option<u32>
         ensures { spec.Finds table.now self.now.by_name.items word.now result }
     {

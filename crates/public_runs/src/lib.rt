@@ -10,6 +10,8 @@ mod effects;
 #[cfg(test)]
 mod long_plans;
 #[cfg(test)]
+mod memory;
+#[cfg(test)]
 mod plans;
 #[cfg(test)]
 mod states;

@@ -1,4 +1,4 @@
-use Rattle.std.proofs.Common.{◌+◌, ◌≤◌, List, length, true, refl, inl, ap, sym, subst, take, ◌∙◌}
+use Rattle.std.proofs.Common.{◌+◌, ◌≤◌, length, true, refl, ap, sym, subst, take, ◌∙◌}
 use Rattle.plan_model.specs.declared.terms.GroundAtom.{GroundAtom}
 use Rattle.plan_meaning.specs.Truth.{ground}
 use Rattle.ground_state.specs.declared.env.Env.{Env}

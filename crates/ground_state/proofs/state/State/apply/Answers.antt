@@ -1,9 +1,8 @@
-use Rattle.std.proofs.Common.{◌≡◌, List, ℕ, ap, sym, subst, ◌∙◌}
+use Rattle.std.proofs.Common.{◌≡◌, ap, sym, subst, ◌∙◌}
 use Rattle.std.proofs.lemmas.Result.{on_ok_weaker}
 use Rattle.plan_model.specs.Typing.{InType}
 use Rattle.plan_meaning.specs.Truth.{after}
 use Rattle.ground_state.specs.declared.env.Env.{Env}
-use Rattle.ground_state.specs.declared.state.State.{State}
 use Rattle.ground_state.specs.Frames.{Frame, frame}
 use Rattle.ground_state.specs.States.{atoms, Has, IsSame}
 use Rattle.ground_state.specs.Literals.{AreLiterals, AreEntered, WithoutDeletes, WithAdds}

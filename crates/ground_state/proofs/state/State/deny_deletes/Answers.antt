@@ -1,6 +1,5 @@
-use Rattle.std.proofs.Common.{◌+◌, ◌≤◌, List, length, false, ap, sym, subst, take, ◌∙◌}
+use Rattle.std.proofs.Common.{◌+◌, ◌≤◌, length, false, ap, sym, subst, take, ◌∙◌}
 use Rattle.std.specs.Option.{option_map}
-use Rattle.std.proofs.lemmas.List.{take_all}
 use Rattle.plan_model.specs.declared.terms.GroundAtom.{GroundAtom}
 use Rattle.plan_meaning.specs.Truth.{ground}
 use Rattle.ground_state.specs.declared.env.Env.{Env}
