@@ -1,6 +1,5 @@
 -- Lists that are made along numbers, or along a list and numbers at once.
-use Rattle.std.proofs.Common.{ℕ, zero, suc, ◌≡◌, ◌+◌, ◌-◌, ◌<◌, ◌≤◌, Bool, true, false, cond, List, [], ◌∷◌, ◌++◌, map, drop, length, get_or, refl, ap, sym, ◌∙◌, arith, append_assoc, Option}
-use Rattle.std.proofs.lemmas.List.{append-nil}
+use Rattle.std.proofs.Common.{ℕ, zero, suc, ◌≡◌, ◌+◌, ◌-◌, ◌<◌, ◌≤◌, Bool, true, false, cond, List, [], ◌∷◌, ◌++◌, map, drop, length, refl, ap, sym, ◌∙◌, arith, append_assoc, Option}
 use Rattle.task_networks.specs.Spelling.{numbers, is_heir}
 use Rattle.plan_model.specs.declared.formulas.Formula.{Formula}
 use Rattle.slot_encoding.specs.EncodedActions.{slot_vars, differ}

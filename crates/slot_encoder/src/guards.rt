@@ -1,4 +1,4 @@
-ghost use Rattle.std.specs.Prelude.{◌≡◌, ◌==◌, [], unwrap_or, position, slice_index_or, IfOk, OnOk};
+ghost use Rattle.std.specs.Prelude.{◌≡◌, ◌==◌, [], position, slice_index_or, IfOk, OnOk};
 ghost use Rattle.slot_encoding.specs.EncodedNames as spec;
 ghost use Rattle.slot_encoder.specs.Frames.{IsFrame};
 ghost use Rattle.slot_encoder.specs.Guards.{with_type, with_types, with_all_types};
@@ -15,24 +15,12 @@ use std::alloc::Global;
 pub fn guard_types(alloc: Global, c: &Compiled) -> Result<List<u32>, Memory>
     ensures { IfOk result (λ types. types ≡ spec.guard_types c.now) }
 {
-    all_types(alloc, c.methods.as_slice())
-}
-
-fn all_types(alloc: Global, methods: &[MethodPlan]) -> Result<List<u32>, Memory>
-    ensures { IfOk result (λ types. types ≡ with_all_types [] methods.now) }
-{
+    let methods = c.methods.as_slice();
     let mut types = List::new(alloc);
-    push_all(methods, &mut types)?;
-    Ok(types)
-}
-
-fn push_all(methods: &[MethodPlan], types: &mut List<u32>) -> Result<(), Memory>
-    ensures { OnOk result (types.new ≡ with_all_types types.old methods.now) }
-{
     for plan in methods {
-        push_types(plan.guards.as_slice(), types)?;
+        push_types(plan.guards.as_slice(), &mut types)?;
     }
-    Ok(())
+    Ok(types)
 }
 
 fn push_types(guards: &[Guard], types: &mut List<u32>) -> Result<(), Memory>
@@ -89,20 +77,11 @@ pub(crate) fn guard_predicate(frame: &Frame<'_>, ty: u32) -> Result<u32, Memory>
     requires { IsFrame frame.now }
     ensures { IfOk result (λ p. p ≡ spec.guard_predicate frame.now.compiled.now ty) }
 {
-    let place = place_of(frame.basis.guard_types.as_slice(), ty);
+    let place = place_of(frame.basis.guard_types.as_slice(), ty).unwrap_or(0);
     plus(frame.basis.numbers.first_guard, number(place)?)
 }
 
-fn place_of(types: &[u32], ty: u32) -> usize
-    ensures { result ≡ unwrap_or (position (λ u. u == ty) types.now) 0 }
-{
-    match found(types, ty) {
-        Some(place) => place,
-        None => 0,
-    }
-}
-
-fn found(types: &[u32], ty: u32) -> Option<usize>
+fn place_of(types: &[u32], ty: u32) -> Option<usize>
     ensures { result ≡ position (λ u. u == ty) types.now }
 {
     types.iter().position(|u| *u == ty)

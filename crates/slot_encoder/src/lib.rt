@@ -1,8 +1,10 @@
 //! The printed problem as a PDDL value: slots that hold what is pending, and actions that process it.
 //!
 //! It stands on the values of `plan_model`, on the order formulas of `order_encoder` and on the definitions of `slot_encoding`.
-//! The contract used above: `encode` gives exactly the defined value, over a table that has all its words, so that it can be printed
-//! wherever the problem is sound.
+//! The contracts used above: `Encoding` gives the defined value part by part, over a table that has all its words: all but the
+//! actions at once, and then one action at a time (`action`), so that no more than one need be there. A method's action is as long
+//! as the square of its new slots, so it comes in parts (`SplitAction`), and `whole` joins them. `encode` gives the whole value,
+//! which can be printed wherever the problem is sound.
 #![tactic(auto)]
 
 mod actions;

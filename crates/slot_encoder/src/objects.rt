@@ -33,19 +33,13 @@ fn push_objects(
     ensures { OnOk result (into.new ≡ into.old ++ map (made.object frame.now) objects.now) }
 {
     for object in objects {
-        into.put(printed(alloc, frame, object))?;
+        into.push(Object {
+            name: renamed(alloc, frame, object.name)?,
+            ty: retyped(object.ty)?,
+            constant: true,
+        })?;
     }
     Ok(())
-}
-
-fn printed(alloc: Global, frame: &Frame<'_>, object: &Object) -> Result<Object, Memory>
-    ensures { IfOk result (λ o. o ≡ made.object frame.now object.now) }
-{
-    Ok(Object {
-        name: renamed(alloc, frame, object.name)?,
-        ty: retyped(object.ty)?,
-        constant: true,
-    })
 }
 
 fn push_slots(

@@ -20,27 +20,15 @@ pub(crate) fn encoded_predicates(
     requires { IsFrame frame.now }
     ensures { IfOk result (λ ps. ps ≡ made.predicates frame.now) }
 {
-    let mut into = List::new(alloc);
-    push_predicates(alloc, frame, &mut into)?;
-    Ok(into)
-}
-
-fn push_predicates(
-    alloc: Global,
-    frame: &Frame<'_>,
-    into: &mut List<Predicate>,
-) -> Result<(), Memory>
-    requires { IsFrame frame.now }
-    ensures { OnOk result (into.new ≡ into.old ++ made.predicates frame.now) }
-{
     let c = frame.compiled;
-    push_source(alloc, frame, c.hddl.predicates.as_slice(), into)?;
-    push_generated(alloc, frame, into)?;
-    push_tasks(alloc, frame, c.hddl.tasks.as_slice(), into)?;
-    push_actions(alloc, frame, c.hddl.actions.as_slice(), into)?;
-    push_checks(alloc, frame, c.methods.as_slice(), into)?;
-    push_guards(alloc, frame, frame.basis.guard_types.as_slice(), into)?;
-    Ok(())
+    let mut into = List::new(alloc);
+    push_source(alloc, frame, c.hddl.predicates.as_slice(), &mut into)?;
+    push_generated(alloc, frame, &mut into)?;
+    push_tasks(alloc, frame, c.hddl.tasks.as_slice(), &mut into)?;
+    push_actions(alloc, frame, c.hddl.actions.as_slice(), &mut into)?;
+    push_checks(alloc, frame, c.methods.as_slice(), &mut into)?;
+    push_guards(alloc, frame, frame.basis.guard_types.as_slice(), &mut into)?;
+    Ok(into)
 }
 
 fn push_source(
@@ -194,18 +182,12 @@ fn push_arguments(
     ensures { OnOk result (into.new ≡ into.old ++ map (made.argument frame.now) (numbers 1 count)) }
 {
     for k in 0..count {
-        into.put(one_argument(alloc, frame, 1 + k))?;
+        into.push(Param {
+            name: numbered(alloc, frame, b"htn_a", 1 + k)?,
+            ty: 2,
+        })?;
     }
     Ok(())
-}
-
-fn one_argument(alloc: Global, frame: &Frame<'_>, k: u32) -> Result<Param, Memory>
-    ensures { IfOk result (λ p. p ≡ made.argument frame.now k) }
-{
-    Ok(Param {
-        name: numbered(alloc, frame, b"htn_a", k)?,
-        ty: 2,
-    })
 }
 
 fn push_guards(

@@ -42,21 +42,10 @@ fn put_declared(
     ensures { OnOk result (Gains (words_of_predicates c.now predicates.now) names.old names.new) }
 {
     for predicate in predicates {
-        put_predicate(alloc, c, predicate, names)?;
+        put_own(alloc, &c.hddl.names, predicate.name, names)?;
+        put_params(alloc, &c.hddl.names, predicate.params.as_slice(), names)?;
     }
     Ok(())
-}
-
-fn put_predicate(
-    alloc: Global,
-    c: &Compiled,
-    predicate: &Predicate,
-    names: &mut NameTable,
-) -> Result<(), Memory>
-    ensures { OnOk result (Gains (words_of_predicate c.now predicate.now) names.old names.new) }
-{
-    put_own(alloc, &c.hddl.names, predicate.name, names)?;
-    put_params(alloc, &c.hddl.names, predicate.params.as_slice(), names)
 }
 
 /// Puts the names of the three predicates of the slots into the table.
@@ -181,16 +170,10 @@ fn put_guard_words(
     ensures { OnOk result (Gains (words_of_guards c.now types.now) names.old names.new) }
 {
     for ty in types {
-        put_guard(alloc, c, *ty, names)?;
+        let word = guard_word(alloc, c, *ty)?;
+        put(word.as_slice(), names)?;
     }
     Ok(())
-}
-
-fn put_guard(alloc: Global, c: &Compiled, ty: u32, names: &mut NameTable) -> Result<(), Memory>
-    ensures { OnOk result (Gains (encoded.guard_word c.now [] 0 ty ∷ []) names.old names.new) }
-{
-    let word = guard_word(alloc, c, ty)?;
-    put(word.as_slice(), names)
 }
 
 /// Puts the words of the methods' actions into the table, the top method first.
@@ -230,19 +213,11 @@ fn put_method(
     ensures { OnOk result (Gains (words_of_method c.now plan.now) names.old names.new) }
 {
     let schema = &plan.schema;
-    let spare = spare_slots(plan)?;
+    let children = number(schema.children.len())?;
     put_prefixed(alloc, &c.hddl.names, b"htn_m_", schema.name, names)?;
-    put_numbered(alloc, b"htn_h", spare, names)?;
+    put_numbered(alloc, b"htn_h", children.saturating_sub(1), names)?;
     put_params(alloc, &c.hddl.names, schema.params.as_slice(), names)?;
     put_formula(alloc, &c.hddl.names, &schema.pre, names)
-}
-
-/// How many new slots a method's action has.
-fn spare_slots(plan: &MethodPlan) -> Result<u32, Memory>
-    ensures { IfOk result (λ n. n ≡ length plan.now.schema.children - 1) }
-{
-    let count = number(plan.schema.children.len())?;
-    Ok(count.saturating_sub(1))
 }
 
 /// Puts the words of the source's actions into the table.
@@ -255,21 +230,10 @@ pub(crate) fn put_actions(
     ensures { OnOk result (Gains (words_of_actions c.now actions.now) names.old names.new) }
 {
     for action in actions {
-        put_action(alloc, c, action, names)?;
+        put_own(alloc, &c.hddl.names, action.name, names)?;
+        put_params(alloc, &c.hddl.names, action.params.as_slice(), names)?;
+        put_formula(alloc, &c.hddl.names, &action.pre, names)?;
+        put_effect(alloc, &c.hddl.names, &action.eff, names)?;
     }
     Ok(())
-}
-
-fn put_action(
-    alloc: Global,
-    c: &Compiled,
-    action: &ActionSchema,
-    names: &mut NameTable,
-) -> Result<(), Memory>
-    ensures { OnOk result (Gains (words_of_action c.now action.now) names.old names.new) }
-{
-    put_own(alloc, &c.hddl.names, action.name, names)?;
-    put_params(alloc, &c.hddl.names, action.params.as_slice(), names)?;
-    put_formula(alloc, &c.hddl.names, &action.pre, names)?;
-    put_effect(alloc, &c.hddl.names, &action.eff, names)
 }

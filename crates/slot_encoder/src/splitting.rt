@@ -168,18 +168,11 @@ fn push_pairs(
     ensures { OnOk result (into.new ≡ into.old ++ made.added_pairs frame.now slots.now pairs.now) }
 {
     for pair in pairs {
-        into.put(added(alloc, frame, slots, pair))?;
+        let first = slot_of(slots, pair.first);
+        let then = slot_of(slots, pair.then);
+        into.push(Effect::Add(comes_before(alloc, frame, first, then)?))?;
     }
     Ok(())
-}
-
-fn added(alloc: Global, frame: &Frame<'_>, slots: &[u32], pair: &Pair) -> Result<Effect, Memory>
-    requires { IsFrame frame.now }
-    ensures { IfOk result (λ e. e ≡ made.added_pair frame.now slots.now pair.now) }
-{
-    let first = slot_of(slots, pair.first);
-    let then = slot_of(slots, pair.then);
-    Ok(Effect::Add(comes_before(alloc, frame, first, then)?))
 }
 
 /// Puts at the end that what waits for the task waits for each of these children.

@@ -69,18 +69,12 @@ fn push_parents(pairs: &[Parent], into: &mut List<Parent>) -> Result<(), Memory>
     ensures { OnOk result (into.new ≡ into.old ++ map printed_parent pairs.now) }
 {
     for pair in pairs {
-        into.put(parent(pair))?;
+        into.push(Parent {
+            child: retyped(pair.child)?,
+            parent: retyped(pair.parent)?,
+        })?;
     }
     Ok(())
-}
-
-fn parent(pair: &Parent) -> Result<Parent, Memory>
-    ensures { IfOk result (λ p. p ≡ printed_parent pair.now) }
-{
-    Ok(Parent {
-        child: retyped(pair.child)?,
-        parent: retyped(pair.parent)?,
-    })
 }
 
 fn unions(alloc: Global, unions: &[List<u32>]) -> Result<List<List<u32>>, Memory>

@@ -1,5 +1,4 @@
 ghost use Rattle.std.specs.Prelude.{◌≡◌, [], ◌∷◌, ◌++◌, slice_index, IfOk, OnOk};
-ghost use Rattle.task_networks.specs.Spelling as spelling;
 ghost use Rattle.slot_encoding.specs.EncodedActions.{slot_vars};
 ghost use Rattle.slot_encoder.specs.Frames.{AreVariables};
 ghost use Rattle.slot_encoder.specs.Pieces.{child_slot, next_new};
@@ -52,21 +51,12 @@ fn push_slot(heir: Option<u32>, i: u32, new: u32, into: &mut List<u32>) -> Resul
     ensures pushed { OnOk result (into.new ≡ into.old ++ child_slot heir i new ∷ []) }
     ensures next { IfOk result (λ next. next ≡ next_new heir i new) }
 {
-    if is_heir(heir, i) {
+    if matches!(heir, Some(k) if k == i) {
         into.push(0)?;
         Ok(new)
     } else {
         into.push(new)?;
         plus(new, 1)
-    }
-}
-
-fn is_heir(heir: Option<u32>, i: u32) -> bool
-    ensures { result ≡ spelling.is_heir heir i }
-{
-    match heir {
-        Some(k) => k == i,
-        None => false,
     }
 }
 

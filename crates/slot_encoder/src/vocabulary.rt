@@ -85,17 +85,10 @@ pub(crate) fn put_numbered(
     ensures { OnOk result (Gains (spec.numbered prefix.now count) names.old names.new) }
 {
     for k in 0..count {
-        put_number(alloc, prefix, 1 + k, names)?;
+        let word = numbered_word(alloc, prefix, 1 + k)?;
+        put(word.as_slice(), names)?;
     }
     Ok(())
-}
-
-fn put_number(alloc: Global, prefix: &[u8], k: u32, names: &mut NameTable) -> Result<(), Memory>
-    requires { IsFolded prefix.now }
-    ensures { OnOk result (Gains ((prefix.now ++ decimal k) ∷ []) names.old names.new) }
-{
-    let word = numbered_word(alloc, prefix, k)?;
-    put(word.as_slice(), names)
 }
 
 pub(crate) fn put_params(
@@ -161,16 +154,10 @@ fn put_slots(alloc: Global, slots: u32, names: &mut NameTable) -> Result<(), Mem
     ensures { OnOk result (Gains (map escapes.slot_word (numbers 1 slots)) names.old names.new) }
 {
     for k in 0..slots {
-        put_slot(alloc, 1 + k, names)?;
+        let word = slot_name(alloc, 1 + k)?;
+        put(word.as_slice(), names)?;
     }
     Ok(())
-}
-
-fn put_slot(alloc: Global, k: u32, names: &mut NameTable) -> Result<(), Memory>
-    ensures { OnOk result (Gains (escapes.slot_word k ∷ []) names.old names.new) }
-{
-    let word = slot_name(alloc, k)?;
-    put(word.as_slice(), names)
 }
 
 /// Puts the variables of the generated predicates and of the slots of actions into the table.

@@ -19,15 +19,9 @@ pub(crate) fn name_of(printed: &NameTable, word: &[u8]) -> Name
 {
     match printed.find(word) {
         Some(name) => name,
-        None => past_the_end(printed),
-    }
-}
-
-fn past_the_end(names: &NameTable) -> Name
-    ensures { result.number ≡ length names.now }
-{
-    Name {
-        number: names.len() as u32,
+        None => Name {
+            number: printed.len() as u32,
+        },
     }
 }
 
