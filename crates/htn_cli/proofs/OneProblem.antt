@@ -14,7 +14,8 @@ use Rattle.plan_meaning.specs.Strata.{Edge}
 use Rattle.bound_laws.proofs.BoundedProblem.{bounded_is_tail_recursive}
 use Rattle.bound_laws.proofs.OrCycle.{not_both}
 use Rattle.plan_proof.specs.OneGraph.{HaveOneGraph, HaveOneBound, HaveOneNamedCycle}
-use Rattle.plan_proof.specs.OneText.{IsFullyEncoded, AreTextsFor}
+use Rattle.encoded_texts.specs.FullyEncoded.{IsFullyEncoded}
+use Rattle.plan_proof.specs.OneText.{AreTextsFor}
 use Rattle.plan_proof.proofs.one.OneGraph.{one_graph, one_bound, one_cycle}
 use Rattle.plan_proof.proofs.one.OneText.{texts-same}
 use Rattle.stratifier.specs.NamedCycle.{IsNamed}

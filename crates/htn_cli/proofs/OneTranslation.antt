@@ -5,7 +5,7 @@ use Rattle.plan_model.specs.declared.values.Compiled.{Compiled}
 use Rattle.plan_model.specs.declared.values.Pddl.{Pddl}
 use Rattle.plan_texts.specs.PrintedTexts.{domain_text, problem_text}
 use Rattle.plan_meaning.specs.Bound.{IsBound}
-use Rattle.plan_proof.specs.OneText.{IsFullyEncoded}
+use Rattle.encoded_texts.specs.FullyEncoded.{IsFullyEncoded}
 use Rattle.problem_bound.specs.NoBound.{NamesCycle}
 use Rattle.command_words.specs.Names.{Word, Names}
 use Rattle.command_words.specs.Bounds.{most_slots}
