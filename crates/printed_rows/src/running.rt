@@ -115,8 +115,7 @@ fn print_styles(
     Ok(())
 }
 
-/// The two texts, as the program prints them, and the same as those that are printed of the printed problem's value. The domain's length
-/// is told where the text is too long.
+/// The two texts, as the program prints them.
 fn printed(
     alloc: Global,
     source: &Source,
@@ -125,13 +124,45 @@ fn printed(
     checks: Checks,
 ) -> Result<Texts, Failure> {
     let compiled = compiled_source(alloc, source, checks)?;
-    let texts = texts_as_long(alloc, &compiled, slots, style)?;
-    let told = is_told(alloc, &compiled, slots, style, texts.domain.len() as u64)?;
-    let whole = texts_of_value(alloc, &compiled, slots, style)?;
-    if told && are_same(&texts, &whole) {
-        Ok(texts)
+    let texts = texts_compared(alloc, &compiled, slots, style);
+    drop(compiled);
+    texts
+}
+
+/// The two texts, which are the same as those that are printed of the printed problem's value. The domain's length is told where the
+/// text is too long.
+fn texts_compared(
+    alloc: Global,
+    compiled: &Compiled,
+    slots: u32,
+    style: Style,
+) -> Result<Texts, Failure>
+    requires listed { AreListed compiled.now.hddl.types }
+    requires compiled { IsCompiledProblem compiled.now }
+{
+    let texts = texts_as_long(alloc, compiled, slots, style)?;
+    match are_right(alloc, compiled, slots, style, &texts) {
+        Ok(true) => Ok(texts),
+        Ok(false) => Err(Failure::Difference),
+        Err(_) => Err(Failure::Memory),
+    }
+}
+
+fn are_right(
+    alloc: Global,
+    compiled: &Compiled,
+    slots: u32,
+    style: Style,
+    texts: &Texts,
+) -> Result<bool, Memory>
+    requires listed { AreListed compiled.now.hddl.types }
+    requires compiled { IsCompiledProblem compiled.now }
+{
+    if is_told(alloc, compiled, slots, style, texts.domain.len() as u64)? {
+        let whole = texts_of_value(alloc, compiled, slots, style)?;
+        Ok(are_same(texts, &whole))
     } else {
-        Err(Failure::Difference)
+        Ok(false)
     }
 }
 
