@@ -1,5 +1,4 @@
-use crate::fault_words::fault_word;
-use hddl_values::hddl_of;
+use hddl_values::{fault_word, hddl_of};
 use htn_base::Fault;
 use outside_io::{DiskFiles, Files, GetError};
 use sexpr_text::ReadError;

@@ -5,7 +5,6 @@
 //! nothing with this one, nor with each other, made each line, and agree on all. Nothing that this program prints was put in.
 #![tactic(auto)]
 
-mod fault_words;
 mod lines;
 
 use crate::lines::{Failure, print_all};

@@ -2,3 +2,4 @@ pub mod TextFaults
 pub mod Values
 pub mod Reading
 pub mod Exactly
+pub mod FaultWords

@@ -8,10 +8,12 @@
 #![tactic(auto)]
 
 mod domains;
+mod fault_words;
 mod laws;
 mod problems;
 mod reading;
 mod values;
 
+pub use fault_words::fault_word;
 pub use laws::spelled_texts_have_no_fault;
 pub use values::{hddl_of, read_as};

@@ -1,44 +1,13 @@
 -- The least fault of the two texts of a command, as a run names it: in which file, where, and by which word. Three faults are limits.
 -- Source: this project's.
-use Rattle.std.specs.Prelude.{ℕ, zero, suc, ◌≡◌, ◌≢◌, List, [], ◌∷◌, ◌++◌, codes, decimal, slice_index_or}
+use Rattle.std.specs.Prelude.{ℕ, zero, suc, ◌≡◌, ◌≢◌, List, ◌++◌, codes, decimal}
 use Rattle.hddl_reader.specs.declared.sections.Language.TheVariants.{Hddl}
 use Rattle.hddl_values.specs.TextFaults.{IsLeastFault}
+use Rattle.hddl_values.specs.FaultWords.{fault_word}
 use Rattle.command_words.specs.Names.{Word}
 use Rattle.htn_cli.specs.declared.faults.Place.{Place}
 use Rattle.htn_cli.specs.declared.faults.Counted.{Counted}
 use Rattle.htn_cli.specs.declared.faults.Counted.TheVariants.{Depth, Subtasks, Types}
-
--- the words of the codes, from 0 on
-abbrev pub fault_words : List (List ℕ)
-fault_words =
-    []
-    ∷ codes "BadByte"
-    ∷ codes "UnclosedParen"
-    ∷ codes "StrayClose"
-    ∷ codes "TooDeep"
-    ∷ codes "NotADefine"
-    ∷ codes "UnknownSection"
-    ∷ codes "RepeatedSection"
-    ∷ codes "BadForm"
-    ∷ codes "ReservedName"
-    ∷ codes "DuplicateName"
-    ∷ codes "UnknownType"
-    ∷ codes "TypeCycle"
-    ∷ codes "UnknownPredicate"
-    ∷ codes "UnknownTask"
-    ∷ codes "UnknownObject"
-    ∷ codes "UnknownVariable"
-    ∷ codes "WrongArity"
-    ∷ codes "DuplicateVariable"
-    ∷ codes "UnknownSubtaskId"
-    ∷ codes "CyclicOrder"
-    ∷ codes "TooManySubtasks"
-    ∷ codes "TooManyTypes"
-    ∷ []
-
--- a code past the last has none
-abbrev pub fault_word : ℕ → List ℕ
-fault_word code = slice_index_or fault_words code []
 
 -- the fault that comes where there is too much of what is counted
 abbrev pub limit_code : Counted → ℕ

@@ -1,5 +1,5 @@
 ghost use Rattle.std.specs.Prelude.{◌≡◌, MatchOption};
-ghost use Rattle.htn_cli.specs.Faults.{IsNoLimit, fault_word, limit_code, name_of};
+ghost use Rattle.htn_cli.specs.Faults.{IsNoLimit, limit_code, name_of};
 
 /// A place in a text: the word of its file, and the offset in bytes from 0.
 #[derive(Clone, Copy)]
@@ -28,37 +28,6 @@ pub(crate) fn limit_of(code: u16) -> Option<Counted>
         21 => Some(Counted::Subtasks),
         22 => Some(Counted::Types),
         _ => None,
-    }
-}
-
-/// The word of a fault's code, from 1 to 22; any other code has none.
-pub(crate) fn fault_word(code: u16) -> &'static str
-    ensures { result.now ≡ fault_word code }
-{
-    match code {
-        1 => "BadByte",
-        2 => "UnclosedParen",
-        3 => "StrayClose",
-        4 => "TooDeep",
-        5 => "NotADefine",
-        6 => "UnknownSection",
-        7 => "RepeatedSection",
-        8 => "BadForm",
-        9 => "ReservedName",
-        10 => "DuplicateName",
-        11 => "UnknownType",
-        12 => "TypeCycle",
-        13 => "UnknownPredicate",
-        14 => "UnknownTask",
-        15 => "UnknownObject",
-        16 => "UnknownVariable",
-        17 => "WrongArity",
-        18 => "DuplicateVariable",
-        19 => "UnknownSubtaskId",
-        20 => "CyclicOrder",
-        21 => "TooManySubtasks",
-        22 => "TooManyTypes",
-        0 | 23.. => "",
     }
 }
 

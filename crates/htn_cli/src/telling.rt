@@ -6,9 +6,10 @@ ghost use Rattle.htn_cli.specs.Line.{line_text};
 ghost use Rattle.htn_cli.specs.Left.{bound_line, slots_line};
 ghost use Rattle.htn_cli.specs.Sent.{StopsAt, TakesWhole, Told};
 
-use crate::faults::{Place, fault_word};
+use crate::faults::Place;
 use crate::refusal::{Line, Middle, Refusal};
 use crate::sending::send;
+use hddl_values::fault_word;
 use itoa::Buffer;
 use outside_io::{Sink, WriteError};
 

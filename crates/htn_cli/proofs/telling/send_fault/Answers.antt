@@ -18,11 +18,11 @@ returns-in_err-send_two-clause-part g c =
 pub returns-clause-whole : goal.returns-clause-whole
 returns-clause-whole g c =
     on_ok_too c.send_two-2.result
-    (fault_told c.args.before.now c.args.place c.args.code c.args.after.now c.as_bytes.result.now (c.as_bytes.ensures.value ∙ c.format.ensures.text) _ _ c.in_ok-send_place.ensures.whole c.as_bytes-2.result.now (c.as_bytes-2.ensures.value ∙ c.fault_word.ensures) _ c.in_ok-send_two.ensures.whole _)
+    (fault_told c.args.before.now c.args.place c.args.code c.args.after.now c.as_bytes.result.now (c.as_bytes.ensures.value ∙ c.format.ensures.text) _ _ c.in_ok-send_place.ensures.whole c.as_bytes-2.result.now (c.as_bytes-2.ensures.value ∙ c.fault_word.ensures.word) _ c.in_ok-send_two.ensures.whole _)
     c.send_two-2.ensures.whole
 
 pub returns-clause-part : goal.returns-clause-part
 returns-clause-part g c =
     if_err_too c.send_two-2.result
-    (stops_in_word c.args.before.now c.args.place c.args.code c.args.after.now c.as_bytes.result.now (c.as_bytes.ensures.value ∙ c.format.ensures.text) _ _ c.in_ok-send_place.ensures.whole c.as_bytes-2.result.now (c.as_bytes-2.ensures.value ∙ c.fault_word.ensures) _ c.in_ok-send_two.ensures.whole _)
+    (stops_in_word c.args.before.now c.args.place c.args.code c.args.after.now c.as_bytes.result.now (c.as_bytes.ensures.value ∙ c.format.ensures.text) _ _ c.in_ok-send_place.ensures.whole c.as_bytes-2.result.now (c.as_bytes-2.ensures.value ∙ c.fault_word.ensures.word) _ c.in_ok-send_two.ensures.whole _)
     c.send_two-2.ensures.part

@@ -1,5 +1,10 @@
-/// The word of a fault's code, from 1 to 22; no other code has one.
-pub fn fault_word(code: u16) -> &'static str {
+ghost use Rattle.std.specs.Prelude.{◌≡◌};
+ghost use Rattle.hddl_values.specs.FaultWords.{fault_word};
+
+/// The word of a fault's code, from 1 to 22, as a line that names the fault has it; any other code has none.
+pub fn fault_word(code: u16) -> &'static str
+    ensures word { result.now ≡ fault_word code }
+{
     match code {
         1 => "BadByte",
         2 => "UnclosedParen",
@@ -23,6 +28,6 @@ pub fn fault_word(code: u16) -> &'static str {
         20 => "CyclicOrder",
         21 => "TooManySubtasks",
         22 => "TooManyTypes",
-        _ => "",
+        0 | 23.. => "",
     }
 }
