@@ -48,6 +48,7 @@ impl<'t> Step<'t> {
             [_, args @ ..] => args,
         }
     }
+
     /// The step with words of its own.
     pub(crate) fn copy(&self, alloc: Global) -> Result<GroundAction, Memory>
         ensures equal { IfOk result (λ step. step ≡ self.now) }

@@ -8,7 +8,8 @@ use htn_base::{Memory, Text};
 pub enum Ended {
     /// The text has all bytes.
     Whole,
-    /// There are so many bytes, which are more than the text may take; past 2^64 - 1 they count as 2^64 - 1. The text has only the first ones.
+    /// There are so many bytes, which are more than the text may take; past 2^64 - 1 they count as 2^64 - 1. The text has
+    /// only the first ones.
     TooLong(u64),
 }
 
