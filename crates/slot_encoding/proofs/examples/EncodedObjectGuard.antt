@@ -1,8 +1,9 @@
 -- Guards on objects, printed, in both modes of checks. Blocks, some of them red; b1 is a block, r1 is red, and paint takes red ones.
--- The method m of t paints b1, r1 and b1 in this order, behind a precondition:
+-- The method m of t paints b1, r1 and b1 in this order, under a constraint and behind a precondition:
 --
 --   (:constants b1 - block r1 - red) (:predicates (ready)) (:task t :parameters ()) (:action paint :parameters (?r - red))
---   (:method m :parameters () :task (t) :precondition (ready) :ordered-subtasks (and (paint b1) (paint r1) (paint b1)))
+--   (:method m :parameters () :task (t) :precondition (ready) :constraints (not (= b1 r1))
+--    :ordered-subtasks (and (paint b1) (paint r1) (paint b1)))
 use Rattle.std.proofs.Common.{ℕ, ◌≡◌, true, false, inl, inr, List, [], ◌∷◌, ◌++◌, Some, None, codes, refl, sym, subst, arith}
 use Rattle.plan_model.specs.declared.options.Checks.TheVariants.{Leaf, AtOnce}
 use Rattle.plan_model.specs.declared.options.Style.TheVariants.{Adl}
@@ -58,7 +59,9 @@ abbrev pair : ℕ → ℕ → Pair
 pair i j = record { first = i; then = j }
 
 abbrev method : MethodSchema
-method = method_schema 9 0 (Holds ready) (painted 0 ∷ painted 1 ∷ painted 0 ∷ []) (pair 0 1 ∷ pair 1 2 ∷ [])
+method = record (method_schema 9 0 (Holds ready) (painted 0 ∷ painted 1 ∷ painted 0 ∷ []) (pair 0 1 ∷ pair 1 2 ∷ [])) {
+  constraints = record { equal = false; left = Obj 0; right = Obj 1 } ∷ [];
+}
 
 abbrev top_plan : MethodPlan
 top_plan = method_plan (method_schema 3 1 always (child (Task 0) ∷ []) []) false (0 ∷ []) (Some 0) []
@@ -160,11 +163,12 @@ leaf_declared = simp (digit_1, digit_2, digit_3, digit_4)
 at_once_declared : declared at_once words 4 ≡ v []
 at_once_declared = simp (digit_1, digit_2, digit_3, digit_4)
 
--- the last child, which has the method's slot, is the second b1; the guard stands once, behind the conditions on slots
+-- the last child, which has the method's slot, is the second b1; the guard stands once, behind the constraint
 leaf_row : action_texts (v (codes "htn_c_m" ∷ [])) (encoded_method leaf words 4 Adl 1 checked) ≡
     codes "htn_m_m" ∷ codes "(?htn_h - htn_slot ?htn_h1 - htn_slot ?htn_h2 - htn_slot ?htn_h3 - htn_slot)"
     ∷ codes "and" ∷ codes "(htn_t_t ?htn_h)" ∷ waits ∷ codes "(htn_free ?htn_h1)" ∷ codes "(htn_free ?htn_h2)" ∷ codes "(htn_free ?htn_h3)"
-    ∷ codes "(not (= ?htn_h1 ?htn_h2))" ∷ codes "(not (= ?htn_h1 ?htn_h3))" ∷ codes "(not (= ?htn_h2 ?htn_h3))" ∷ codes "(htn_is_red b1)"
+    ∷ codes "(not (= ?htn_h1 ?htn_h2))" ∷ codes "(not (= ?htn_h1 ?htn_h3))" ∷ codes "(not (= ?htn_h2 ?htn_h3))"
+    ∷ codes "(not (= b1 r1))" ∷ codes "(htn_is_red b1)"
     ∷ codes "and" ∷ codes "(not (htn_t_t ?htn_h))" ∷ codes "(not (htn_free ?htn_h1))" ∷ codes "(not (htn_free ?htn_h2))"
     ∷ codes "(not (htn_free ?htn_h3))"
     ∷ codes "(htn_c_m ?htn_h1)" ∷ codes "(htn_a_paint ?htn_h2 b1)" ∷ codes "(htn_a_paint ?htn_h3 r1)" ∷ codes "(htn_a_paint ?htn_h b1)"
@@ -176,7 +180,8 @@ leaf_row = simp (digit_1, digit_2, digit_3, part-And, part-Holds, part-Equal, pa
 at_once_row : action_texts (v []) (encoded_method at_once words 4 Adl 1 tested) ≡
     codes "htn_m_m" ∷ codes "(?htn_h - htn_slot ?htn_h1 - htn_slot ?htn_h2 - htn_slot)"
     ∷ codes "and" ∷ codes "(htn_t_t ?htn_h)" ∷ waits ∷ codes "(htn_free ?htn_h1)" ∷ codes "(htn_free ?htn_h2)"
-    ∷ codes "(not (= ?htn_h1 ?htn_h2))" ∷ codes "(htn_is_red b1)" ∷ codes "(ready)"
+    ∷ codes "(not (= ?htn_h1 ?htn_h2))"
+    ∷ codes "(not (= b1 r1))" ∷ codes "(htn_is_red b1)" ∷ codes "(ready)"
     ∷ codes "and" ∷ codes "(not (htn_t_t ?htn_h))" ∷ codes "(not (htn_free ?htn_h1))" ∷ codes "(not (htn_free ?htn_h2))"
     ∷ codes "(htn_a_paint ?htn_h1 b1)" ∷ codes "(htn_a_paint ?htn_h2 r1)" ∷ codes "(htn_a_paint ?htn_h b1)"
     ∷ codes "(htn_before ?htn_h1 ?htn_h2)" ∷ codes "(htn_before ?htn_h2 ?htn_h)" ∷ []
