@@ -3,18 +3,15 @@ use Rattle.std.proofs.Common.{ℕ, ◌≡◌, List, [], ◌∷◌, ◌++◌, map
 use Rattle.text_forms.specs.Words.{Word}
 use Rattle.plan_model.specs.declared.options.Style.{Style}
 use Rattle.plan_model.specs.declared.terms.GroundAtom.{GroundAtom}
-use Rattle.plan_model.specs.declared.formulas.Formula.TheVariants.{And}
 use Rattle.plan_model.specs.declared.values.Compiled.{Compiled}
 use Rattle.plan_model.specs.declared.values.Pddl.{Pddl}
 use Rattle.task_networks.specs.Spelling.{numbers}
 use Rattle.plan_texts.specs.PrintedTexts.{domain_text, problem_text}
 use Rattle.plan_meaning.specs.Network.{InTypeOf}
-use Rattle.slot_encoding.specs.SourceParts.{renamed}
-use Rattle.slot_encoding.specs.OrderFormulas.{free_parts}
-use Rattle.slot_encoding.specs.EncodedNames.{guard_types, guard_predicate, free_predicate, encoded_types, encoded_objects, encoded_predicates, order_numbers}
-use Rattle.slot_encoding.specs.EncodedActions.{source_condition}
-use Rattle.slot_encoding.specs.EncodedValue.{atom, first_atoms, encoded_actions, AreGuardAtoms, IsInitial, IsEncoded}
+use Rattle.slot_encoding.specs.EncodedNames.{guard_types, guard_predicate}
+use Rattle.slot_encoding.specs.EncodedValue.{atom, first_atoms, AreGuardAtoms, IsInitial, IsEncoded}
 use Rattle.slot_encoding.specs.EncodedWords.{own_word, HasEncodedWords}
+use Rattle.slot_encoding.proofs.ValueOver.{over, is_over, over_is_encoded}
 use Rattle.slot_encoding.proofs.existence.Kept.{some_guard_atoms}
 use Rattle.slot_encoding.proofs.words.KnownWords.{known_domain, known_problem}
 use Rattle.encoded_texts.specs.FullyEncoded.{SayTheSame, IsFullyEncoded}
@@ -24,33 +21,6 @@ use Rattle.encoded_texts.proofs.EncodedParts.{types-same, word, objects-said, pr
 use Rattle.encoded_texts.proofs.EncodedActions.{actions-said, goal-said}
 
 module _ (c : Compiled) (b : ℕ) (style : Style) where
-  -- the encoded value over this table, with these initial atoms
-  abbrev pub over : List Word → List GroundAtom → Pddl
-  over names init = record {
-    names = names;
-    domain = renamed names c.hddl.names c.hddl.domain;
-    problem = renamed names c.hddl.names c.hddl.problem;
-    types = encoded_types c names b;
-    objects = encoded_objects c names b;
-    predicates = encoded_predicates c names b;
-    actions = encoded_actions c names b style;
-    init = init;
-    goal = And (source_condition c names b style 0 c.hddl.goal ++ free_parts (order_numbers c names b) b 0 style (free_predicate c));
-  }
-
-  is_over : (p : Pddl) → IsEncoded c b style p → p ≡ over p.names p.init
-  is_over p e = λ i. record {
-    names = p.names;
-    domain = e.domain i;
-    problem = e.problem i;
-    types = e.types i;
-    objects = e.objects i;
-    predicates = e.predicates i;
-    actions = e.actions i;
-    init = p.init;
-    goal = e.goal i;
-  }
-
   -- the initial atoms are the same, whatever the table
   guard_atoms-same : (names names' : List Word) (tys : List ℕ) (atoms atoms' : List GroundAtom) → AreGuardAtoms c names b style tys atoms → AreGuardAtoms c names' b style tys atoms' → atoms ≡ atoms'
   guard_atoms-same names names' [] atoms atoms' e f = e ∙ sym f
@@ -63,7 +33,7 @@ module _ (c : Compiled) (b : ℕ) (style : Style) where
   init-same names names' init init' (guards, g, e) (guards', g', e') =
       e ∙ ap (λ z. first_atoms c names b style ++ z) (guard_atoms-same names names' (guard_types c) guards guards' g g') ∙ sym e'
 
-  over-same : (names names' : List Word) (init init' : List GroundAtom) → HasEncodedWords c b names → HasEncodedWords c b names' → init ≡ init' → SayTheSame (over names init) (over names' init')
+  over-same : (names names' : List Word) (init init' : List GroundAtom) → HasEncodedWords c b names → HasEncodedWords c b names' → init ≡ init' → SayTheSame (over c b style names init) (over c b style names' init')
   over-same names names' init init' has has' e = record {
     domains = word c b names names' has has' (own_word c c.hddl.domain) (known_domain c b names has) (known_domain c b names' has');
     problems = word c b names names' has has' (own_word c c.hddl.problem) (known_problem c b names has) (known_problem c b names' has');
@@ -79,15 +49,12 @@ module _ (c : Compiled) (b : ℕ) (style : Style) where
   pub encoded-same : (p q : Pddl) → IsFullyEncoded c b style p → IsFullyEncoded c b style q → SayTheSame p q
   encoded-same p q e f =
       let i = init-same p.names q.names p.init q.init e.encoded.init f.encoded.init in
-      subst (λ z. SayTheSame z q) (sym (is_over p e.encoded)) (subst (SayTheSame (over p.names p.init)) (sym (is_over q f.encoded)) (over-same p.names q.names p.init q.init e.words f.words i))
+      subst (λ z. SayTheSame z q) (sym (is_over c b style p e.encoded)) (subst (SayTheSame (over c b style p.names p.init)) (sym (is_over c b style q f.encoded)) (over-same p.names q.names p.init q.init e.words f.words i))
 
   -- the two texts of the one are those of the other
   pub encoded_texts-same : (p q : Pddl) → IsFullyEncoded c b style p → IsFullyEncoded c b style q → (domain_text p ≡ domain_text q) × (problem_text p ≡ problem_text q)
   encoded_texts-same p q e f = let same = encoded-same p q e f in (domain-same p q same, problem-same p q same)
 
   -- over any table there is an encoded value
-  pub over_is_encoded : (names : List Word) (guards : List GroundAtom) → AreGuardAtoms c names b style (guard_types c) guards → IsEncoded c b style (over names (first_atoms c names b style ++ guards))
-  over_is_encoded names guards a = record { domain = refl; problem = refl; types = refl; objects = refl; predicates = refl; actions = refl; init = (guards, a, refl); goal = refl }
-
   pub some_encoded : (names : List Word) → (p : Pddl) × (p.names ≡ names) × IsEncoded c b style p
-  some_encoded names = let (guards, a) = some_guard_atoms c names b style (guard_types c) in (over names (first_atoms c names b style ++ guards), refl, over_is_encoded names guards a)
+  some_encoded names = let (guards, a) = some_guard_atoms c names b style (guard_types c) in (over c b style names (first_atoms c names b style ++ guards), refl, over_is_encoded c b style names guards a)

@@ -1,3 +1,4 @@
+pub mod ValueOver
 pub mod Pieces
 pub mod OrderParts
 pub mod examples

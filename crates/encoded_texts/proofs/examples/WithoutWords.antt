@@ -7,7 +7,7 @@ use Rattle.plan_model.specs.declared.values.Pddl.{Pddl}
 use Rattle.plan_meaning.proofs.examples.SmallestRow.{smallest}
 use Rattle.slot_encoding.specs.EncodedValue.{first_atoms, IsEncoded}
 use Rattle.encoded_texts.specs.FullyEncoded.{IsFullyEncoded}
-use Rattle.encoded_texts.proofs.SameTexts.{over, over_is_encoded}
+use Rattle.slot_encoding.proofs.ValueOver.{over, over_is_encoded}
 use Rattle.encoded_texts.proofs.examples.AllWords.{all_words, smallest_words}
 
 abbrev over_table : List (List ℕ) → Pddl

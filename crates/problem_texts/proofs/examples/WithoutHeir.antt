@@ -7,7 +7,7 @@ use Rattle.plan_model.specs.declared.terms.Term.{Term}
 use Rattle.plan_model.specs.declared.terms.Term.TheVariants.{Var, Obj}
 use Rattle.plan_model.specs.declared.terms.Atom.{Atom}
 use Rattle.plan_model.specs.declared.terms.Param.{Param}
-use Rattle.plan_model.specs.declared.formulas.Formula.TheVariants.{Holds, And}
+use Rattle.plan_model.specs.declared.formulas.Formula.TheVariants.{Holds}
 use Rattle.plan_model.specs.declared.effects.Effect.{Effect, out-Effect}
 use Rattle.plan_model.specs.declared.effects.Effect.TheOpen.{Effect-F}
 use Rattle.plan_model.specs.declared.effects.Effect.TheVariants as E
@@ -15,11 +15,8 @@ use Rattle.plan_model.specs.declared.schemas.ActionSchema.{ActionSchema}
 use Rattle.plan_model.specs.declared.schemas.MethodSchema.{MethodSchema}
 use Rattle.plan_model.specs.declared.values.Compiled.{Compiled}
 use Rattle.plan_model.specs.declared.values.Pddl.{Pddl}
-use Rattle.slot_encoding.specs.SourceParts.{renamed}
-use Rattle.slot_encoding.specs.OrderFormulas.{free_parts}
-use Rattle.slot_encoding.specs.EncodedNames.{free_predicate, encoded_types, encoded_objects, encoded_predicates, order_numbers}
-use Rattle.slot_encoding.specs.EncodedActions.{source_condition}
-use Rattle.slot_encoding.specs.EncodedValue.{first_atoms, encoded_actions, IsEncoded}
+use Rattle.slot_encoding.specs.EncodedValue.{first_atoms, IsEncoded}
+use Rattle.slot_encoding.proofs.ValueOver.{over, over_is_encoded}
 use Rattle.plan_meaning.proofs.examples.RowValues.{child, always, problem, method_schema, method_plan, task_schema}
 use Rattle.pddl_printer.specs.WrittenOut.{effect, written_out}
 use Rattle.pddl_printer.proofs.written_out.Equations.{out-Add, out-Both, out-When, effect-And, parts-Each, change-When}
@@ -35,29 +32,10 @@ abbrev headless : Compiled
 headless = record { hddl = problem [] [] (task_schema 0 ∷ []) [] [] top; methods = method_plan top false (0 ∷ []) None (0 ∷ []) ∷ [] }
 
 abbrev value : Pddl
-value = record {
-  names = [];
-  domain = renamed [] [] headless.hddl.domain;
-  problem = renamed [] [] headless.hddl.problem;
-  types = encoded_types headless [] 1;
-  objects = encoded_objects headless [] 1;
-  predicates = encoded_predicates headless [] 1;
-  actions = encoded_actions headless [] 1 Adl;
-  init = first_atoms headless [] 1 Adl;
-  goal = And (source_condition headless [] 1 Adl 0 always ++ free_parts (order_numbers headless [] 1) 1 0 Adl (free_predicate headless));
-}
+value = over headless 1 Adl [] (first_atoms headless [] 1 Adl ++ [])
 
 is_encoded : IsEncoded headless 1 Adl value
-is_encoded = record {
-  domain = refl;
-  problem = refl;
-  types = refl;
-  objects = refl;
-  predicates = refl;
-  actions = refl;
-  init = ([], refl, refl);
-  goal = refl;
-}
+is_encoded = over_is_encoded headless 1 Adl [] [] refl
 
 abbrev before : Term → Term → Atom
 before s t = record { predicate = 2; args = s ∷ t ∷ [] }

@@ -1,5 +1,5 @@
 -- The printed problem of the smallest one, m: t -> a with t on top, in one slot and in both styles, written out by hand.
-use Rattle.std.proofs.Common.{ℕ, ◌≡◌, Bool, true, cond, List, [], ◌∷◌, ◌++◌, refl, ap, sym, ◌∙◌}
+use Rattle.std.proofs.Common.{ℕ, ◌≡◌, true, cond, List, [], ◌∷◌, ◌++◌, refl, ap, sym}
 use Rattle.std.specs.Prelude.{codes}
 use Rattle.plan_model.specs.declared.options.Style.TheVariants.{Adl, Flat}
 use Rattle.plan_model.specs.declared.options.Style.{Style}
@@ -10,12 +10,8 @@ use Rattle.plan_model.specs.declared.terms.Param.{Param}
 use Rattle.plan_model.specs.declared.types.Types.{Types}
 use Rattle.plan_model.specs.declared.types.Object.{Object}
 use Rattle.plan_model.specs.declared.formulas.Formula.{Formula}
-use Rattle.plan_model.specs.declared.formulas.Formula.TheFolds.{fold-roll-Formula}
-use Rattle.plan_model.specs.declared.formulas.Formula.TheOpen.{Formula-F}
-use Rattle.plan_model.specs.declared.formulas.Formula.TheVariants.{Holds, Not, And, Forall, rolls-And}
+use Rattle.plan_model.specs.declared.formulas.Formula.TheVariants.{Holds, Not, And, Forall}
 use Rattle.plan_model.specs.declared.effects.Effect.{Effect}
-use Rattle.plan_model.specs.declared.effects.Effect.TheFolds.{fold-roll-Effect}
-use Rattle.plan_model.specs.declared.effects.Effect.TheOpen.{Effect-F}
 use Rattle.plan_model.specs.declared.effects.Effect.TheVariants as E
 use Rattle.plan_model.specs.declared.schemas.Predicate.{Predicate}
 use Rattle.plan_model.specs.declared.schemas.ActionSchema.{ActionSchema}
@@ -23,8 +19,9 @@ use Rattle.plan_model.specs.declared.values.Pddl.{Pddl}
 use Rattle.slot_encoding.specs.SourceParts.{name, source_formula, source_effect}
 use Rattle.slot_encoding.specs.EncodedNames.{encoded_objects, order_numbers, free_predicate}
 use Rattle.slot_encoding.specs.OrderFormulas.{free_parts}
-use Rattle.slot_encoding.specs.EncodedActions.{no_part, is_empty, no_effect, is_empty_effect, source_condition, source_change}
+use Rattle.slot_encoding.specs.EncodedActions.{source_condition, source_change}
 use Rattle.slot_encoding.specs.EncodedValue.{encoded_actions, IsEncoded}
+use Rattle.slot_encoding.proofs.examples.RowTexts.{empty_condition, empty_effect}
 use Rattle.plan_meaning.proofs.examples.RowValues.{always, nothing}
 use Rattle.plan_meaning.proofs.examples.RowWords.{slot_1}
 use Rattle.plan_meaning.proofs.examples.SmallestRow.{smallest, smallest_names}
@@ -113,10 +110,10 @@ printed style = record {
 
 -- an empty conjunction is no part of a condition
 no_condition : (style : Style) (front : ℕ) → source_condition smallest words 1 style front always ≡ []
-no_condition style front = ap (λ b. cond b [] (source_formula words smallest_names front always ∷ [])) (ap is_empty (sym (rolls-And [])) ∙ fold-roll-Formula Bool no_part (Formula-F.And []))
+no_condition style front = ap (λ b. cond b [] (source_formula words smallest_names front always ∷ [])) empty_condition
 
 no_change : (style : Style) → source_change smallest words 1 style 1 nothing ≡ []
-no_change style = ap (λ b. cond b [] (source_effect words smallest_names 1 nothing ∷ [])) (ap is_empty_effect (sym (E.rolls-And [])) ∙ fold-roll-Effect Bool no_effect (Effect-F.And []))
+no_change style = ap (λ b. cond b [] (source_effect words smallest_names 1 nothing ∷ [])) empty_effect
 
 objects_are : slot_object ∷ [] ≡ encoded_objects smallest words 1
 objects_are = λ i. record { name = name words (sym slot_1 i); ty = 1; constant = true } ∷ []

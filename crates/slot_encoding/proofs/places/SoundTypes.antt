@@ -1,5 +1,5 @@
 -- The types of a sound problem: each is a part of object, a part of a part is a part, and being of a type is decided.
-use Rattle.std.proofs.Common.{ℕ, zero, suc, ◌≡◌, ◌<◌, ◌≤◌, inl, inr, List, [], ◌∷◌, length, slice_get, Option, Some, None, refl, ap, sym, subst, ◌∙◌, Contains, arith}
+use Rattle.std.proofs.Common.{ℕ, ◌≡◌, ◌<◌, ◌≤◌, inl, inr, List, [], ◌∷◌, length, slice_get, Option, Some, None, refl, ap, sym, subst, ◌∙◌, Contains, arith}
 use Rattle.std.specs.Prelude.{All, Any, MatchOption}
 use Rattle.std.proofs.str.Laws.{order}
 use Rattle.std.proofs.Math.Decide.{ℕ_discrete}
@@ -16,6 +16,7 @@ use Rattle.slot_encoding.proofs.places.Places.{any-has, has-any, in_range, each-
 use Rattle.slot_encoding.proofs.places.TypeChains.{first_pair, leads_on, leads_to_object, from_object, leads_decided}
 use Rattle.slot_encoding.proofs.places.PrintedTypes.{union_none}
 use Rattle.plan_texts.specs.Declared.{named}
+use Rattle.plan_texts.proofs.SoundProblems.{each-all as all-each}
 use Rattle.text_forms.specs.Words.{is_name}
 
 module _ (h : Hddl) (sound : IsSoundHddl h) where
@@ -120,11 +121,6 @@ module _ (h : Hddl) (sound : IsSoundHddl h) where
       go (yes p) (yes q) = yes (p, q)
       go (yes p) (no q) = no (λ h. q h.1)
       go (no p) q = no (λ h. p h.0)
-
-  all-each : {X : Type 0} (P : X → Type 0) (xs : List X) → EachIs P xs → All P xs
-  all-each P [] e k d l = absurd (omega arith)
-  all-each P (x ∷ xs) e zero d l = e.0
-  all-each P (x ∷ xs) e (suc k) d l = all-each P xs e.1 k d (omega arith)
 
   each-all : {X : Type 0} (P : X → Type 0) (xs : List X) → All P xs → EachIs P xs
   each-all P xs all = each-from_has P xs (λ x m. all-has P xs all x m)

@@ -1,10 +1,9 @@
 -- The encoded value of a sound problem, over a table that has all its words, is printable.
-use Rattle.std.proofs.Common.{ℕ, ◌≡◌, List, ◌++◌, map, sym, subst}
+use Rattle.std.proofs.Common.{ℕ, List, map, sym, subst}
 use Rattle.text_forms.specs.Words.{Word}
 use Rattle.plan_model.specs.declared.options.Style.{Style}
 use Rattle.plan_model.specs.declared.options.Checks.{Checks}
 use Rattle.plan_model.specs.declared.terms.GroundAtom.{GroundAtom}
-use Rattle.plan_model.specs.declared.formulas.Formula.TheVariants.{And}
 use Rattle.plan_model.specs.declared.schemas.ActionSchema.{ActionSchema}
 use Rattle.plan_model.specs.declared.values.Hddl.{Hddl}
 use Rattle.plan_model.specs.declared.values.Compiled.{Compiled}
@@ -15,13 +14,10 @@ use Rattle.plan_texts.specs.Printable.{IsPlain, AreSoundParams, IsSound, IsSound
 use Rattle.plan_texts.specs.SoundValue.{IsSoundHddl}
 use Rattle.plan_texts.specs.PrintableValue.{IsPrintable}
 use Rattle.plan_meaning.specs.Compilation.{IsCompiled}
-use Rattle.slot_encoding.specs.SourceParts.{renamed}
-use Rattle.slot_encoding.specs.OrderFormulas.{free_parts}
-use Rattle.slot_encoding.specs.EncodedNames.{free_predicate, encoded_types, encoded_objects, encoded_predicates, order_numbers}
-use Rattle.slot_encoding.specs.EncodedActions.{source_condition}
 use Rattle.slot_encoding.specs.EncodedValue.{encoded_actions, IsInitial, IsEncoded}
 use Rattle.slot_encoding.specs.EncodedWords.{own_word, type_words, object_words, HasEncodedWords}
 use Rattle.slot_encoding.specs.Numberable.{IsNumberable}
+use Rattle.slot_encoding.proofs.ValueOver.{over, is_over}
 use Rattle.slot_encoding.proofs.words.Lists.{each-weaker}
 use Rattle.slot_encoding.proofs.words.PlainWords.{plain-escaped}
 use Rattle.slot_encoding.proofs.words.TableWords.{named-name}
@@ -40,17 +36,7 @@ module _ (mode : Checks) (c : Compiled) (b : ℕ) (style : Style) (names : List 
     (sound : IsSoundHddl c.hddl) (compiled : IsCompiled c.hddl mode c) (initial : IsInitial c names b style init) (has : HasEncodedWords c b names) (few : IsNumberable c b names) where
   -- the encoded value over this table
   abbrev pub value : Pddl
-  value = record {
-    names = names;
-    domain = renamed names c.hddl.names c.hddl.domain;
-    problem = renamed names c.hddl.names c.hddl.problem;
-    types = encoded_types c names b;
-    objects = encoded_objects c names b;
-    predicates = encoded_predicates c names b;
-    actions = encoded_actions c names b style;
-    init = init;
-    goal = And (source_condition c names b style 0 c.hddl.goal ++ free_parts (order_numbers c names b) b 0 style (free_predicate c));
-  }
+  value = over c b style names init
 
   actions : EachIs (IsSoundAction (printed_words c names b) (printed_arities c names b)) (encoded_actions c names b style)
   actions = actions_sound c names b style sound has mode compiled (few_children c b names has few.short)
@@ -95,17 +81,4 @@ module _ (mode : Checks) (c : Compiled) (b : ℕ) (style : Style) (names : List 
 pub encoded_printable : (h : Hddl) (mode : Checks) (c : Compiled) (b : ℕ) (style : Style) (p : Pddl)
     → IsSoundHddl h → IsCompiled h mode c → IsEncoded c b style p → HasEncodedWords c b p.names → IsNumberable c b p.names → IsPrintable p
 encoded_printable h mode c b style p sound compiled encoded has few =
-    subst IsPrintable (sym same) (value_printable mode c b style p.names p.init (subst IsSoundHddl (sym compiled.hddl) sound) (subst (λ z. IsCompiled z mode c) (sym compiled.hddl) compiled) encoded.init has few)
-  where
-    same : p ≡ value mode c b style p.names p.init (subst IsSoundHddl (sym compiled.hddl) sound) (subst (λ z. IsCompiled z mode c) (sym compiled.hddl) compiled) encoded.init has few
-    same i = record {
-      names = p.names;
-      domain = encoded.domain i;
-      problem = encoded.problem i;
-      types = encoded.types i;
-      objects = encoded.objects i;
-      predicates = encoded.predicates i;
-      actions = encoded.actions i;
-      init = p.init;
-      goal = encoded.goal i;
-    }
+    subst IsPrintable (sym (is_over c b style p encoded)) (value_printable mode c b style p.names p.init (subst IsSoundHddl (sym compiled.hddl) sound) (subst (λ z. IsCompiled z mode c) (sym compiled.hddl) compiled) encoded.init has few)
