@@ -131,12 +131,40 @@ impl State {
         for object in 0..objects.len() as u32 {
             if kind.has(objects, object) {
                 env.push(object);
-                let passed = self.pass_over_within(pass, alloc, rest, body, env, types, objects);
+                let passed = self.pass_over_rest(pass, alloc, rest, body, env, types, objects);
                 env.pop();
                 passed?;
             }
         }
         Ok(())
+    }
+
+    /// The same. Where no types are left, the pass is made without a further call.
+    #[cycle(pass_over)]
+    #[inline(always)]
+    fn pass_over_rest(
+        &mut self,
+        pass: Pass,
+        alloc: Global,
+        params: &[Param],
+        body: &Effect,
+        env: &mut Env,
+        types: &Types,
+        objects: &List<Object>,
+    ) -> Result<(), Memory>
+        requires listed { AreListed types.now }
+        requires few { length objects.now < 2 ^ 32 }
+        requires room { EffectFitsWithin (frame env.old) params.now body.now }
+        requires plain { spec.IsPlain (frame env.old) body.now }
+        ensures passed { OnOk result
+            (HasPassedWithin types.now objects.now pass params.now body.now env.old self.old self.new) }
+        ensures unchanged { OnErr result (spec.HasOnlyEntered pass self.old self.new) }
+        ensures kept { frame env.new ≡ frame env.old }
+    {
+        if params.is_empty() {
+            return self.pass_over(pass, alloc, body, env, types, objects);
+        }
+        self.pass_over_within(pass, alloc, params, body, env, types, objects)
     }
 
     /// Makes the pass over an atom that is added, or deleted.

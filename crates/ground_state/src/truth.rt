@@ -122,7 +122,7 @@ fn is_found(
     for object in 0..objects.len() as u32 {
         if kind.has(objects, object) {
             env.push(object);
-            let found = is_found(wanted, rest, body, env, s, types, objects);
+            let found = is_rest_found(wanted, rest, body, env, s, types, objects);
             env.pop();
             if found {
                 return true;
@@ -130,4 +130,28 @@ fn is_found(
         }
     }
     false
+}
+
+/// The same. Where no types are left, it is told without a further call.
+#[cycle(holds)]
+#[inline(always)]
+fn is_rest_found(
+    wanted: bool,
+    params: &[Param],
+    body: &Formula,
+    env: &mut Env,
+    s: &State,
+    types: &Types,
+    objects: &List<Object>,
+) -> bool
+    requires listed { AreListed types.now }
+    requires few { length objects.now < 2 ^ 32 }
+    requires room { FitsWithin (frame env.old) params.now body.now }
+    ensures answer { Finds types.now objects.now s.now wanted result params.now body.now env.old }
+    ensures kept { frame env.new ≡ frame env.old }
+{
+    if params.is_empty() {
+        return is_true(body, env, s, types, objects) == wanted;
+    }
+    is_found(wanted, params, body, env, s, types, objects)
 }

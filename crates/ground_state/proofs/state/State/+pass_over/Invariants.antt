@@ -1,4 +1,4 @@
-use Rattle.std.proofs.Common.{ℕ, ◌≡◌, ◌+◌, ◌<◌, ◌++◌, [], ◌∷◌, length, take}
+use Rattle.std.proofs.Common.{ℕ, ◌≡◌, ◌+◌, ◌*◌, ◌<◌, ◌++◌, [], ◌∷◌, length, take}
 use Rattle.plan_model.specs.Typing.{InType}
 use Rattle.ground_state.specs.declared.state.State.{State}
 use Rattle.ground_state.specs.Frames.{frame}
@@ -10,13 +10,16 @@ use Rattle.ground_state.proofs.EffectSizes.{size, sizes}
 use Rattle.ground_state.proofs.state.State.+pass_over.Given as goal
 
 abbrev pub decreases-pass_over : goal.decreases-pass_over
-decreases-pass_over l = size l.eff.now
+decreases-pass_over l = 2 * size l.eff.now
 
 abbrev pub decreases-pass_over_each : goal.decreases-pass_over_each
-decreases-pass_over_each l = 1 + sizes l.parts.now
+decreases-pass_over_each l = 1 + 2 * sizes l.parts.now
 
 abbrev pub decreases-pass_over_within : goal.decreases-pass_over_within
-decreases-pass_over_within l = 1 + length l.params.now + size l.body.now
+decreases-pass_over_within l = 1 + 2 * length l.params.now + 2 * size l.body.now
+
+abbrev pub decreases-pass_over_rest : goal.decreases-pass_over_rest
+decreases-pass_over_rest l = 2 + 2 * length l.params.now + 2 * size l.body.now
 
 -- the pass has been made over what the effects so far touch
 abbrev pub invariant-pass_over_each-loop-part : goal.invariant-pass_over_each-loop-part
