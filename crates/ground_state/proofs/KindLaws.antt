@@ -8,7 +8,7 @@ use Rattle.std.proofs.lemmas.List.{get_or_append_left, length-append}
 use Rattle.plan_model.specs.declared.types.Types.{Types}
 use Rattle.plan_model.specs.declared.types.Object.{Object}
 use Rattle.plan_model.specs.declared.types.Parent.{Parent}
-use Rattle.plan_model.specs.Typing.{Leads, stay, climb, IsPart, InType}
+use Rattle.plan_model.specs.Typing.{Leads, stay, climb, InType}
 use Rattle.ground_state.specs.declared.kinds.Kind.{Kind}
 use Rattle.ground_state.specs.declared.kinds.Kind.TheVariants as kind
 use Rattle.ground_state.specs.Kinds.{IsKindOf, IsAlone, AreInOrder, IsOfKind}

@@ -1,7 +1,6 @@
 -- Effects without conditions, part by part, and what passes over them do to a state.
 use Rattle.std.proofs.Common.{ℕ, ◌≡◌, ◌≤◌, ◌↔◌, ◌⊎◌, inl, inr, Bool, true, false, not, List, ◌++◌, length, Result, Ok, Err, refl, ap, sym, subst, ◌∙◌, true≢false}
 use Rattle.std.specs.Result.{OnErr}
-use Rattle.std.specs.Option.{IsSome}
 use Rattle.plan_model.specs.declared.terms.Atom.{Atom}
 use Rattle.plan_model.specs.declared.terms.GroundAtom.{GroundAtom}
 use Rattle.plan_model.specs.declared.terms.Param.{Param}
@@ -11,18 +10,17 @@ use Rattle.plan_model.specs.declared.effects.Effect.TheFolds.{rec-roll-Effect, m
 use Rattle.plan_model.specs.declared.effects.Effect.TheOpen.{Effect-F}
 use Rattle.plan_model.specs.declared.effects.Effect.TheVariants as E
 use Rattle.plan_meaning.specs.Truth as truth
-use Rattle.plan_meaning.specs.Truth.{ground, AreTyped, after}
-use Rattle.plan_meaning.proofs.SameStates.{same_after}
+use Rattle.plan_meaning.specs.Truth.{ground, after}
 use Rattle.ground_state.specs.declared.state.State.{State}
 use Rattle.ground_state.specs.declared.passes.Pass.{Pass}
 use Rattle.ground_state.specs.declared.passes.Pass.TheVariants as passes
 use Rattle.ground_state.specs.Frames.{Frame}
-use Rattle.ground_state.specs.States.{note_of, atoms, Has, IsSame, KeepsNotes}
-use Rattle.ground_state.specs.Search.{Touches, OneTouches, TouchesWithin}
-use Rattle.ground_state.specs.Passes.{plain_step, plain, IsPlain, ArePlain, literal, of_adds, IsIdle, AreAllNoted, Passes, HasOnlyEntered}
+use Rattle.ground_state.specs.States.{atoms, Has}
+use Rattle.ground_state.specs.Search.{Touches}
+use Rattle.ground_state.specs.Passes.{plain_step, plain, IsPlain, ArePlain, literal, of_adds, IsIdle, Passes, HasOnlyEntered}
 use Rattle.ground_state.proofs.StateLaws.{same-twice}
 use Rattle.ground_state.proofs.RoomEquations.{each-map}
-use Rattle.ground_state.proofs.GatherCases.{touches-Add, touches-Add-not, touches-Delete, touches-Delete-not, touches-And, touches-Forall}
+use Rattle.ground_state.proofs.GatherCases.{touches-Add, touches-Add-not, touches-Delete, touches-Delete-not, touches-Forall}
 
 plain-natural : (X : Type 0) (v : X → Effect) (k : Effect → ℕ → Type 0) (x : Effect-F X) → plain_step (λ p. k (v p)) x ≡ plain_step k (map-Effect X Effect v x)
 plain-natural X v k (Effect-F.Add a) = refl
@@ -144,7 +142,6 @@ passes-then passes.Forget P Q R s m t e h k = same-twice s m t h k
 pub only-entered : (p : Pass) (P : truth.State) (s m t : State) → Passes p P s m → HasOnlyEntered p m t → HasOnlyEntered p s t
 only-entered p P s m t h k = (k.0, same-twice s m t (subst (λ q. Passes q P s m) k.0 h).0 k.1)
 
-
 module _ (InType : ℕ → ℕ → Type 0) (S : truth.State) where
   -- what a literal touches
   pub touches-literal : (adds b : Bool) (e : Effect) (a : Atom) (v : List ℕ) → e ≡ literal b a → (g : GroundAtom) → ((b ≡ adds) × (g ≡ ground v a)) ↔ Touches InType S adds e v g
@@ -162,9 +159,9 @@ module _ (InType : ℕ → ℕ → Type 0) (S : truth.State) where
   passes-idle p e x ps xs y v s q d k i = elim i [
     | inl f ↦ passes-Forget p (Touches InType S (of_adds p) e v) s f
     | inr l ↦ passes-nothing p (Touches InType S (of_adds p) e v) s (λ g t.
-      let w = (touches-Forall InType S v (of_adds p) e ps xs x y q d k g).1 t in
-      not-same (of_adds p) ((touches-literal (of_adds p) (not (of_adds p)) y l.0 (v ++ w.0) l.1 g).1 w.2).0
-      )
+        let w = (touches-Forall InType S v (of_adds p) e ps xs x y q d k g).1 t in
+        not-same (of_adds p) ((touches-literal (of_adds p) (not (of_adds p)) y l.0 (v ++ w.0) l.1 g).1 w.2).0
+        )
   ]
 
 -- the state after the passes in their order

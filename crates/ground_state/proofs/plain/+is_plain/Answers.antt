@@ -1,4 +1,4 @@
-use Rattle.std.proofs.Common.{◌≤◌, List, length, subst, sym, arith}
+use Rattle.std.proofs.Common.{◌≤◌, List, length, subst, arith}
 use Rattle.std.proofs.lemmas.Bool.{OnTrue_at, OnTrue_from}
 use Rattle.plan_model.specs.declared.terms.Term.{Term}
 use Rattle.ground_state.specs.Frames.{frame}

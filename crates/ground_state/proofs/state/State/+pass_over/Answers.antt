@@ -7,7 +7,6 @@ use Rattle.plan_model.specs.Typing.{InType}
 use Rattle.plan_model.proofs.PartsOf.{in_type_within}
 use Rattle.plan_meaning.specs.Truth as truth
 use Rattle.plan_meaning.specs.Truth.{ground}
-use Rattle.ground_state.specs.declared.env.Env.{Env}
 use Rattle.ground_state.specs.declared.state.State.{State}
 use Rattle.ground_state.specs.Frames.{Frame, frame}
 use Rattle.ground_state.specs.Room.{effect_fits, EffectFits}
