@@ -1,5 +1,5 @@
 -- A measure of effects that falls at each part, and at each quantified variable.
-use Rattle.std.proofs.Common.{ℕ, zero, suc, ◌≡◌, ◌+◌, ◌<◌, ◌≤◌, List, [], ◌∷◌, length, map, get_or, ap, sym, ◌∙◌, arith}
+use Rattle.std.proofs.Common.{ℕ, zero, suc, ◌≡◌, ◌+◌, ◌<◌, ◌≤◌, List, [], ◌∷◌, length, map, get_or, refl, ap, sym, ◌∙◌, arith}
 use Rattle.plan_model.specs.declared.terms.Param.{Param}
 use Rattle.plan_model.specs.declared.formulas.Formula.{Formula}
 use Rattle.plan_model.specs.declared.effects.Effect.{Effect, roll-Effect}
@@ -52,3 +52,6 @@ falls-When e f p x d g = let a = ap size d ∙ size-When f p in let b = ap size 
 
 pub falls-part : (es : List Effect) (i : ℕ) (d x : Effect) → i < length es → x ≡ get_or es i d → size x < 1 + sizes es
 falls-part es i d x l e = let a = part-size es i d l in let b = ap size e in omega arith
+
+pub falls-body : (e : Effect) (ps : List Param) (p x : Effect) → e ≡ E.Forall ps p → x ≡ p → size x < size e
+falls-body e ps p x d k = let f = falls-Forall e ps ps p x d refl k in omega arith

@@ -8,7 +8,7 @@ pub mod NumberLaws
 pub mod StateLaws
 pub mod EffectSizes
 pub mod GatherCases
-pub mod LiteralLaws
+pub mod PassLaws
 pub mod KindLaws
 pub mod NeedLaws
 pub mod PlaceLaws

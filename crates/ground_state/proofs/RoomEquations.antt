@@ -14,7 +14,7 @@ use Rattle.plan_model.specs.declared.effects.Effect.TheVariants as E
 use Rattle.ground_state.specs.Frames.{Frame}
 use Rattle.ground_state.specs.Room.{EachFits, fits_step, fits, Fits, AllFit, FitsWithin, effect_fits_step, effect_fits, EffectFits, AllEffectsFit, EffectFitsWithin}
 
-each-map : (X Y : Type 0) (v : X → Y) (k : Y → ℕ → Type 0) (xs : List X) (n : ℕ) → EachFits (λ x. k (v x)) xs n ≡ EachFits k (map v xs) n
+pub each-map : (X Y : Type 0) (v : X → Y) (k : Y → ℕ → Type 0) (xs : List X) (n : ℕ) → EachFits (λ x. k (v x)) xs n ≡ EachFits k (map v xs) n
 each-map X Y v k [] n = refl
 each-map X Y v k (x ∷ xs) n = ap (λ t. k (v x) n × t) (each-map X Y v k xs n)
 

@@ -12,9 +12,11 @@ use Rattle.ground_state.specs.declared.env.Env.{Env}
 use Rattle.ground_state.specs.declared.gather.World.{World}
 use Rattle.ground_state.specs.declared.atom_list.AtomLists.{AtomLists}
 use Rattle.ground_state.specs.declared.state.State.{State}
+use Rattle.ground_state.specs.declared.passes.Pass.{Pass}
 use Rattle.ground_state.specs.Frames.{frame}
+use Rattle.ground_state.specs.Passes.{of_adds, Passes}
 use Rattle.ground_state.specs.States.{atoms, Has}
-use Rattle.ground_state.specs.Search.{IsAmongParts, IsFound, Gathers, Touches, Reads, ReadsEach, ReadsWithin, side}
+use Rattle.ground_state.specs.Search.{IsAmongParts, IsFound, Gathers, Touches, OneTouches, TouchesWithin, Reads, ReadsEach, ReadsWithin, side}
 
 module _ (types : Types) (objects : List Object) where
   -- the formula is true in the state
@@ -36,6 +38,17 @@ module _ (types : Types) (objects : List Object) where
   -- these are the atoms that the effect adds, and those that it deletes
   abbrev pub Touched : State → Effect → Env → AtomLists → Type 0
   Touched s e env lists = (adds : Bool) → Gathers (Touches (InType types objects) (atoms s) adds e (frame env).objects) [] (side adds lists)
+
+  -- the pass has been made over what an effect touches, over what effects touch, and over what one does with more variables;
+  -- no condition is tested, so that any state will do
+  abbrev pub HasPassed : Pass → Effect → Env → State → State → Type 0
+  HasPassed pass e env old new = (s : State) → Passes pass (Touches (InType types objects) (atoms s) (of_adds pass) e (frame env).objects) old new
+
+  abbrev pub HasPassedEach : Pass → List Effect → Env → State → State → Type 0
+  HasPassedEach pass es env old new = (s : State) → Passes pass (OneTouches (InType types objects) (atoms s) (of_adds pass) es (frame env).objects) old new
+
+  abbrev pub HasPassedWithin : Pass → List Param → Effect → Env → State → State → Type 0
+  HasPassedWithin pass ps e env old new = (s : State) → Passes pass (TouchesWithin (InType types objects) (atoms s) (of_adds pass) ps e (frame env).objects) old new
 
 -- what is added, and what is deleted, by an effect, by effects, and by one with more variables, stands behind the old lists
 module _ (world : World) where

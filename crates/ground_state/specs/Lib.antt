@@ -4,7 +4,7 @@ pub mod Numbers
 pub mod Notes
 pub mod States
 pub mod Search
-pub mod Literals
+pub mod Passes
 pub mod Clauses
 pub mod Kinds
 pub mod Needs

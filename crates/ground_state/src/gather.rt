@@ -6,11 +6,11 @@ ghost use Rattle.ground_state.specs.Clauses.{Gets, GetsEach, GetsWithin};
 
 use crate::atom_list::AtomLists;
 use crate::env::Env;
-use crate::kinds::has_object;
+use crate::kinds::Kind;
 use crate::state::State;
 use crate::truth::holds;
 use htn_base::{List, Memory};
-use plan_model::{Effect, Object, Param, Parts, Types};
+use plan_model::{Effect, Object, Param, Types};
 use std::alloc::Global;
 
 /// What an effect is read in: the state before it, the types and the objects.
@@ -90,9 +90,9 @@ fn gather_within(
     let Some((param, rest)) = params.split_first() else {
         return gather(alloc, body, env, world, into);
     };
-    let parts = Parts::new(world.types, param.ty);
+    let kind = Kind::new(world.types, param.ty);
     for object in 0..world.objects.len() as u32 {
-        if has_object(&parts, world.objects, object) {
+        if kind.has(world.objects, object) {
             env.push(object);
             let gathered = gather_within(alloc, rest, body, env, world, into);
             env.pop();

@@ -187,7 +187,7 @@ impl State {
     }
 
     /// Whether many notes are kept of lists without numbers.
-    fn are_many(&self, predicate: u32) -> bool {
+    pub(crate) fn are_many(&self, predicate: u32) -> bool {
         match self.facts.get(predicate as usize) {
             Some(notes) => notes.are_many(),
             None => false,

@@ -3,11 +3,14 @@ ghost use Rattle.plan_model.specs.Parts.{AreListed};
 ghost use Rattle.ground_state.specs.Frames.{frame};
 ghost use Rattle.ground_state.specs.Room.{EffectFits};
 ghost use Rattle.ground_state.specs.States.{IsSame};
+ghost use Rattle.ground_state.specs.Passes.{IsPlain};
 ghost use Rattle.ground_state.specs.Clauses.{After, Touched};
 
 use crate::atom_list::AtomLists;
 use crate::env::Env;
 use crate::gather::{World, gather};
+use crate::passes::Pass;
+use crate::plain::is_plain;
 use crate::state::State;
 use htn_base::{List, Memory};
 use plan_model::{Effect, Object, Types};
@@ -32,19 +35,36 @@ impl State {
         ensures unchanged { OnErr result (IsSame self.old self.new) }
         ensures kept { frame env.new ≡ frame env.old }
     {
-        if let Effect::And(parts) = eff {
-            let parts = parts.as_slice();
-            if self.enter_adds(alloc, parts, env)? {
-                self.deny_deletes(parts, env);
-                self.affirm_adds(parts, env);
-                self.forget_deletes(parts, env);
-                return Ok(());
-            }
+        if is_plain(eff, env) {
+            return self.apply_plain(alloc, types, objects, eff, env);
         }
         let mut lists = mem::replace(&mut self.touched, AtomLists::new(alloc));
         let stepped = self.step(alloc, types, objects, eff, env, &mut lists);
         self.touched = lists;
         stepped
+    }
+
+    /// The same, of an effect without conditions, of which no lists are made.
+    fn apply_plain(
+        &mut self,
+        alloc: Global,
+        types: &Types,
+        objects: &List<Object>,
+        eff: &Effect,
+        env: &mut Env,
+    ) -> Result<(), Memory>
+        requires listed { AreListed types.now }
+        requires few { length objects.now < 2 ^ 32 }
+        requires room { EffectFits (frame env.old) eff.now }
+        requires plain { IsPlain (frame env.old) eff.now }
+        ensures after { OnOk result (After types.now objects.now self.old eff.now env.old self.new) }
+        ensures unchanged { OnErr result (IsSame self.old self.new) }
+        ensures kept { frame env.new ≡ frame env.old }
+    {
+        self.pass_over(Pass::Enter, alloc, eff, env, types, objects)?;
+        self.pass_over(Pass::Deny, alloc, eff, env, types, objects)?;
+        self.pass_over(Pass::Affirm, alloc, eff, env, types, objects)?;
+        self.pass_over(Pass::Forget, alloc, eff, env, types, objects)
     }
 
     /// The same, where what the effect adds and deletes is put into these lists.

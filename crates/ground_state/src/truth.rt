@@ -7,10 +7,10 @@ ghost use Rattle.ground_state.specs.States.{atoms};
 ghost use Rattle.ground_state.specs.Clauses.{IsTrueBy, IsAmong, Finds};
 
 use crate::env::Env;
-use crate::kinds::has_object;
+use crate::kinds::Kind;
 use crate::state::State;
 use htn_base::List;
-use plan_model::{Atom, Formula, Object, Param, Parts, Types};
+use plan_model::{Atom, Formula, Object, Param, Types};
 
 /// Whether the formula is true in the state, where the environment has the objects of the variables in force. It takes
 /// no memory and leaves the environment as it was. A conjunction stops at its first false part.
@@ -116,13 +116,13 @@ fn is_found(
     ensures kept { frame env.new ≡ frame env.old }
 {
     let Some((param, rest)) = params.split_first() else {
-        return holds(body, env, s, types, objects) == wanted;
+        return is_true(body, env, s, types, objects) == wanted;
     };
-    let parts = Parts::new(types, param.ty);
+    let kind = Kind::new(types, param.ty);
     for object in 0..objects.len() as u32 {
-        if has_object(&parts, objects, object) {
+        if kind.has(objects, object) {
             env.push(object);
-            let found = is_found(wanted, rest, body, env, s, types, objects);
+            let found = is_rest_found(wanted, rest, body, env, s, types, objects);
             env.pop();
             if found {
                 return true;
@@ -130,4 +130,28 @@ fn is_found(
         }
     }
     false
+}
+
+/// The same. Where no types are left, it is told without a further call.
+#[cycle(holds)]
+#[inline(always)]
+fn is_rest_found(
+    wanted: bool,
+    params: &[Param],
+    body: &Formula,
+    env: &mut Env,
+    s: &State,
+    types: &Types,
+    objects: &List<Object>,
+) -> bool
+    requires listed { AreListed types.now }
+    requires few { length objects.now < 2 ^ 32 }
+    requires room { FitsWithin (frame env.old) params.now body.now }
+    ensures answer { Finds types.now objects.now s.now wanted result params.now body.now env.old }
+    ensures kept { frame env.new ≡ frame env.old }
+{
+    if params.is_empty() {
+        return is_true(body, env, s, types, objects) == wanted;
+    }
+    is_found(wanted, params, body, env, s, types, objects)
 }

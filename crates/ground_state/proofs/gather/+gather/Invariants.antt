@@ -1,7 +1,7 @@
 use Rattle.std.proofs.Common.{ℕ, ◌≡◌, ◌+◌, ◌<◌, ◌++◌, [], ◌∷◌, Bool, length, take}
 use Rattle.plan_model.specs.Typing.{InType}
 use Rattle.ground_state.specs.Frames.{frame}
-use Rattle.ground_state.specs.Kinds.{IsOfParts}
+use Rattle.ground_state.specs.Kinds.{IsOfKind}
 use Rattle.ground_state.specs.States.{atoms}
 use Rattle.ground_state.specs.Search.{Gathers, OneTouches, TouchesWithin, side}
 use Rattle.ground_state.proofs.EffectSizes.{size, sizes}
@@ -24,4 +24,4 @@ invariant-gather_each-loop-part l = (frame l.env ≡ frame l.fn.env)
 -- what the effect touches with the objects so far is gathered
 abbrev pub invariant-gather_within-loop-object : goal.invariant-gather_within-loop-object
 invariant-gather_within-loop-object l = (frame l.env ≡ frame l.fn.env)
-    × ((adds : Bool) → Gathers (λ g. (o : ℕ) × (o < l.object) × (IsOfParts l.parts l.world.objects.now o × TouchesWithin (InType l.world.types.now l.world.objects.now) (atoms l.world.state.now) adds l.rest l.body (l.fn.env.values.items ++ o ∷ []) g)) (side adds l.fn.into) (side adds l.into))
+    × ((adds : Bool) → Gathers (λ g. (o : ℕ) × (o < l.object) × (IsOfKind l.kind l.world.objects.now o × TouchesWithin (InType l.world.types.now l.world.objects.now) (atoms l.world.state.now) adds l.rest l.body (l.fn.env.values.items ++ o ∷ []) g)) (side adds l.fn.into) (side adds l.into))

@@ -5,15 +5,15 @@ use Rattle.plan_meaning.specs.Truth.{IsTrueIn, AreTyped}
 use Rattle.ground_state.specs.Frames.{Frame, frame}
 use Rattle.ground_state.specs.Room.{fits, Fits}
 use Rattle.ground_state.specs.Search.{Is}
-use Rattle.ground_state.proofs.KindLaws.{in_type_by_parts}
+use Rattle.ground_state.proofs.KindLaws.{in_type_by_kind}
 use Rattle.ground_state.proofs.Found.{below-next, each-typed}
-use Rattle.ground_state.specs.Kinds.{IsOfParts}
+use Rattle.ground_state.specs.Kinds.{IsOfKind}
 use Rattle.ground_state.specs.States.{atoms}
 use Rattle.ground_state.proofs.Sizes as sizes
 use Rattle.ground_state.proofs.RoomEquations as room
 use Rattle.ground_state.proofs.TruthCases as truth
 use Rattle.ground_state.proofs.truth.+holds.Goals as goal
-use Rattle.ground_state.proofs.truth.+holds.Goals.{is_found-then-has_object+else-found, is_found-else-has_object}
+use Rattle.ground_state.proofs.truth.+holds.Goals.{is_found-then-has+else-found, is_found-else-has}
 
 pub holds-has_atom-requires : goal.holds-has_atom-requires
 holds-has_atom-requires t c = room.fits-Holds (frame c.args.env.now) c.args.f.now c.in-Holds.atom c.in-Holds.is c.requires.room
@@ -124,7 +124,7 @@ is_among-is_true-requires t c = (
 )
 
 pub is_found-returns-then-found-clause-kept : goal.is_found-returns-then-found-clause-kept
-is_found-returns-then-found-clause-kept t c = c.pop.ensures (frame c.loop-object.env) c.loop-object.object (c.is_found-found.ensures.kept ∙ c.push.ensures) ∙ c.loop-object.invariant.0
+is_found-returns-then-found-clause-kept t c = c.pop.ensures (frame c.loop-object.env) c.loop-object.object (c.is_rest_found-found.ensures.kept ∙ c.push.ensures) ∙ c.loop-object.invariant.0
 
 pub is_found-returns-then-found-clause-answer : goal.is_found-returns-then-found-clause-answer
 is_found-returns-then-found-clause-answer t c =
@@ -134,7 +134,7 @@ is_found-returns-then-found-clause-answer t c =
     let o = c.loop-object.object in
     let found = c.if-found.ensures.answer in
     let first : c.args.params.now ≡ c.in-Some.param.now ∷ c.in-Some.rest.now = c.in-Some.ensures.cases.0 in
-    let typed = (in_type_by_parts c.args.types.now c.args.objects.now c.new-parts.result o c.in-Some.param.now.ty c.new-parts.ensures).0 (c.has_object.ensures.0 c.if-has_object.true) in
+    let typed = (in_type_by_kind c.args.types.now c.args.objects.now c.new-kind.result o c.in-Some.param.now.ty c.new-kind.ensures).0 (c.has.ensures.0 c.if-has.true) in
     let objects : c.push.new.self.values.items ≡ c.args.env.now.values.items ++ c.loop-object.object ∷ [] = ap (λ (f : Frame). f.objects) c.push.ensures ∙ ap (λ (f : Frame). f.objects ++ c.loop-object.object ∷ []) c.loop-object.invariant.0 in (
       o ∷ found.0,
       subst (λ ps. AreTyped I ps (o ∷ found.0)) (sym first) (typed, found.1),
@@ -145,17 +145,17 @@ pub is_found-loop-object-preserved : goal.is_found-loop-object-preserved
 is_found-loop-object-preserved t c =
     let I = InType c.args.types.now c.args.objects.now in
     let S = atoms c.args.s.now in
-    let P : ℕ → Type 0 = λ o. (os : List ℕ) → IsOfParts c.new-parts.result c.args.objects.now o → AreTyped I c.in-Some.rest.now os → Is (not c.args.wanted) (IsTrueIn I S c.args.body.now ((c.args.env.now.values.items ++ o ∷ []) ++ os)) in
+    let P : ℕ → Type 0 = λ o. (os : List ℕ) → IsOfKind c.new-kind.result c.args.objects.now o → AreTyped I c.in-Some.rest.now os → Is (not c.args.wanted) (IsTrueIn I S c.args.body.now ((c.args.env.now.values.items ++ o ∷ []) ++ os)) in
     let before : (o : ℕ) → o < c.loop-object.object → P o = λ o l os i a. c.loop-object.invariant.1 o os l i a in
-    elim c.if-has_object.branch [
-      | is_found-then-has_object+else-found w ↦ (
-          let kept : frame w.pop.new.self ≡ frame c.args.env.now = w.pop.ensures (frame c.loop-object.env) c.loop-object.object (w.is_found-found.ensures.kept ∙ w.push.ensures) ∙ c.loop-object.invariant.0 in
+    elim c.if-has.branch [
+      | is_found-then-has+else-found w ↦ (
+          let kept : frame w.pop.new.self ≡ frame c.args.env.now = w.pop.ensures (frame c.loop-object.env) c.loop-object.object (w.is_rest_found-found.ensures.kept ∙ w.push.ensures) ∙ c.loop-object.invariant.0 in
           let objects : w.push.new.self.values.items ≡ c.args.env.now.values.items ++ c.loop-object.object ∷ [] = ap (λ (f : Frame). f.objects) w.push.ensures ∙ ap (λ (f : Frame). f.objects ++ c.loop-object.object ∷ []) c.loop-object.invariant.0 in
           let last : P c.loop-object.object = λ os i a. subst (λ v. Is (not c.args.wanted) (IsTrueIn I S c.args.body.now (v ++ os))) objects (w.if-found.ensures.answer os a) in
           (ap frame w.env-is ∙ kept, λ o os l i a. below-next P c.loop-object.object before last o l os i a)
           )
-      | is_found-else-has_object w ↦ (
-          let last : P c.loop-object.object = λ os i a. absurd (true≢false (sym (c.has_object.ensures.1 i) ∙ w.if-has_object.false)) in
+      | is_found-else-has w ↦ (
+          let last : P c.loop-object.object = λ os i a. absurd (true≢false (sym (c.has.ensures.1 i) ∙ w.if-has.false)) in
           (ap frame w.env-is ∙ c.loop-object.invariant.0, λ o os l i a. below-next P c.loop-object.object before last o l os i a)
           )
     ]
@@ -165,8 +165,8 @@ is_found-returns-clause-answer t c =
     let I = InType c.args.types.now c.args.objects.now in
     let S = atoms c.args.s.now in
     let P : List ℕ → Type 0 = λ v. Is (not c.args.wanted) (IsTrueIn I S c.args.body.now v) in
-    let typed : (o : ℕ) → IsOfParts c.new-parts.result c.args.objects.now o ↔ InType c.args.types.now c.args.objects.now o c.in-Some.param.now.ty =
-    λ o. in_type_by_parts c.args.types.now c.args.objects.now c.new-parts.result o c.in-Some.param.now.ty c.new-parts.ensures in
+    let typed : (o : ℕ) → IsOfKind c.new-kind.result c.args.objects.now o ↔ InType c.args.types.now c.args.objects.now o c.in-Some.param.now.ty =
+    λ o. in_type_by_kind c.args.types.now c.args.objects.now c.new-kind.result o c.in-Some.param.now.ty c.new-kind.ensures in
     let first : c.args.params.now ≡ c.in-Some.param.now ∷ c.in-Some.rest.now = c.in-Some.ensures.cases.0 in
     let each : (o : ℕ) (os : List ℕ) → I o c.in-Some.param.now.ty → AreTyped I c.in-Some.rest.now os → P ((c.args.env.now.values.items ++ o ∷ []) ++ os) =
     λ o os i a. c.loop-object.invariant.1 o os (let l = in_type_within c.args.types.now c.args.objects.now c.in-Some.param.now.ty o i in let e = c.loop-object-test.false in let n = c.len-object-end.ensures.length in omega arith) ((typed o).1 i) a in

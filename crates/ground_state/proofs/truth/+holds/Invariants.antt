@@ -3,7 +3,7 @@ use Rattle.plan_model.specs.declared.formulas.Formula.{Formula}
 use Rattle.plan_model.specs.Typing.{InType}
 use Rattle.plan_meaning.specs.Truth.{IsTrueIn, AreTyped}
 use Rattle.ground_state.specs.Frames.{frame}
-use Rattle.ground_state.specs.Kinds.{IsOfParts}
+use Rattle.ground_state.specs.Kinds.{IsOfKind}
 use Rattle.ground_state.specs.States.{atoms}
 use Rattle.ground_state.specs.Search.{Is}
 use Rattle.ground_state.proofs.Sizes.{size, sizes}
@@ -19,7 +19,10 @@ abbrev pub decreases-is_among : goal.decreases-is_among
 decreases-is_among l = 2 + 2 * sizes l.parts.now
 
 abbrev pub decreases-is_found : goal.decreases-is_found
-decreases-is_found l = 1 + 2 * length l.params.now + 2 * size l.body.now
+decreases-is_found l = 2 + 2 * length l.params.now + 2 * size l.body.now
+
+abbrev pub decreases-is_rest_found : goal.decreases-is_rest_found
+decreases-is_rest_found l = 3 + 2 * length l.params.now + 2 * size l.body.now
 
 -- the parts so far are not as wanted
 abbrev pub invariant-is_among-loop-part : goal.invariant-is_among-loop-part
@@ -28,4 +31,4 @@ invariant-is_among-loop-part l = (frame l.env ≡ frame l.fn.env) × ((k : ℕ) 
 -- with the objects so far the body is not as wanted
 abbrev pub invariant-is_found-loop-object : goal.invariant-is_found-loop-object
 invariant-is_found-loop-object l = (frame l.env ≡ frame l.fn.env)
-    × ((o : ℕ) (os : List ℕ) → o < l.object → IsOfParts l.parts l.objects o → AreTyped (InType l.types l.objects) l.rest os → Is (not l.wanted) (IsTrueIn (InType l.types l.objects) (atoms l.s) l.body ((l.fn.env.values.items ++ o ∷ []) ++ os)))
+    × ((o : ℕ) (os : List ℕ) → o < l.object → IsOfKind l.kind l.objects o → AreTyped (InType l.types l.objects) l.rest os → Is (not l.wanted) (IsTrueIn (InType l.types l.objects) (atoms l.s) l.body ((l.fn.env.values.items ++ o ∷ []) ++ os)))

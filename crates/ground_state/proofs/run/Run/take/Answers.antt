@@ -1,5 +1,4 @@
-use Rattle.std.proofs.Common.{Result, Ok, Err, ◌≤◌, List, length, refl, sym, subst, ◌∙◌, true≢false}
-use Rattle.std.specs.Result.{OnErr}
+use Rattle.std.proofs.Common.{◌≤◌, List, length, refl, sym, subst, ◌∙◌, true≢false}
 use Rattle.std.proofs.lemmas.Result.{IfOk-from_err}
 use Rattle.std.specs.Vec.{vec_capacity}
 use Rattle.plan_model.specs.declared.terms.Param.{Param}
@@ -10,6 +9,7 @@ use Rattle.ground_state.specs.Frames.{Frame, frame}
 use Rattle.ground_state.specs.Room.{EffectFits}
 use Rattle.ground_state.specs.States.{atoms, Has}
 use Rattle.ground_state.specs.Runs.{texts, words_step, IsAsRoomy}
+use Rattle.ground_state.proofs.PassLaws.{on_error}
 use Rattle.ground_state.proofs.RunLaws as laws
 use Rattle.ground_state.proofs.run.Run.take.Goals as goal
 
@@ -79,10 +79,6 @@ returns-clause-taken c =
       laws.applicable p step a (c.in-Some.ensures words) (atoms old.state) os args (c.holds.ensures.truth.0 c.if-not-holds.false),
       subst (λ (e : Frame). Has c.apply.new.self (after (InTypeOf c.args.self.now.p.now) (atoms c.args.self.now.state) c.in-Some.action.now.eff e.objects)) c.holds.ensures.kept c.in_ok-apply.ensures.after,
     )
-
-on_error : {T E : Type 0} (r : Result T E) (P : Type 0) → P → OnErr r P
-on_error (Ok x) P h = tt
-on_error (Err e) P h = h
 
 pub returns-in_err-apply : goal.returns-in_err-apply
 returns-in_err-apply c =

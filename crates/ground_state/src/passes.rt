@@ -1,0 +1,218 @@
+ghost use Rattle.std.specs.Prelude.{◌≡◌, ◌≤◌, ◌<◌, ◌^◌, length, OnOk, OnErr};
+ghost use Rattle.std.specs.Bool.{OnTrue};
+ghost use Rattle.plan_model.specs.Parts.{AreListed};
+ghost use Rattle.plan_meaning.specs.Truth.{ground};
+ghost use Rattle.ground_state.specs.Frames.{frame};
+ghost use Rattle.ground_state.specs.Room.{EffectFits, AllEffectsFit, EffectFitsWithin};
+ghost use Rattle.ground_state.specs.Passes as spec;
+ghost use Rattle.ground_state.specs.Clauses.{HasPassed, HasPassedEach, HasPassedWithin};
+
+use crate::env::Env;
+use crate::kinds::Kind;
+use crate::state::State;
+use htn_base::{List, Memory};
+use plan_model::{Atom, Effect, Object, Param, Types};
+use std::alloc::Global;
+
+/// A pass over an effect without conditions, of which no list is made: what it adds is noted as false where nothing is
+/// noted of it, what it deletes becomes false, what it adds becomes true, and spare notes of what it deletes are taken away.
+#[derive(Clone, Copy)]
+pub enum Pass {
+    Enter,
+    Deny,
+    Affirm,
+    Forget,
+}
+
+impl Pass {
+    /// Whether it is over what is added, and not over what is deleted.
+    #[inline(always)]
+    fn is_of_adds(self) -> bool
+        ensures { result ≡ spec.of_adds self }
+    {
+        match self {
+            Pass::Enter => true,
+            Pass::Deny => false,
+            Pass::Affirm => true,
+            Pass::Forget => false,
+        }
+    }
+}
+
+// Only the pass that enters takes memory.
+impl State {
+    /// Makes the pass over what the effect touches, with the objects of the environment.
+    #[cycle(pass_over)]
+    #[inline(always)]
+    pub(crate) fn pass_over(
+        &mut self,
+        pass: Pass,
+        alloc: Global,
+        eff: &Effect,
+        env: &mut Env,
+        types: &Types,
+        objects: &List<Object>,
+    ) -> Result<(), Memory>
+        requires listed { AreListed types.now }
+        requires few { length objects.now < 2 ^ 32 }
+        requires room { EffectFits (frame env.old) eff.now }
+        requires plain { spec.IsPlain (frame env.old) eff.now }
+        ensures passed { OnOk result (HasPassed types.now objects.now pass eff.now env.old self.old self.new) }
+        ensures unchanged { OnErr result (spec.HasOnlyEntered pass self.old self.new) }
+        ensures kept { frame env.new ≡ frame env.old }
+    {
+        match eff {
+            Effect::Add(atom) => self.visit(pass, true, alloc, env, atom),
+            Effect::Delete(atom) => self.visit(pass, false, alloc, env, atom),
+            Effect::And(parts) => {
+                self.pass_over_each(pass, alloc, parts.as_slice(), env, types, objects)
+            }
+            Effect::Forall(params, body) => {
+                if self.is_idle(pass, body.get()) {
+                    return Ok(());
+                }
+                let params = params.as_slice();
+                self.pass_over_within(pass, alloc, params, body.get(), env, types, objects)
+            }
+            Effect::When(_, _) => Ok(()),
+        }
+    }
+
+    /// The same, of each of the effects.
+    #[cycle(pass_over)]
+    fn pass_over_each(
+        &mut self,
+        pass: Pass,
+        alloc: Global,
+        parts: &[Effect],
+        env: &mut Env,
+        types: &Types,
+        objects: &List<Object>,
+    ) -> Result<(), Memory>
+        requires listed { AreListed types.now }
+        requires few { length objects.now < 2 ^ 32 }
+        requires room { AllEffectsFit (frame env.old) parts.now }
+        requires plain { spec.ArePlain (frame env.old) parts.now }
+        ensures passed { OnOk result (HasPassedEach types.now objects.now pass parts.now env.old self.old self.new) }
+        ensures unchanged { OnErr result (spec.HasOnlyEntered pass self.old self.new) }
+        ensures kept { frame env.new ≡ frame env.old }
+    {
+        for part in parts {
+            self.pass_over(pass, alloc, part, env, types, objects)?;
+        }
+        Ok(())
+    }
+
+    /// The same, of the effect with all objects of these types.
+    #[cycle(pass_over)]
+    fn pass_over_within(
+        &mut self,
+        pass: Pass,
+        alloc: Global,
+        params: &[Param],
+        body: &Effect,
+        env: &mut Env,
+        types: &Types,
+        objects: &List<Object>,
+    ) -> Result<(), Memory>
+        requires listed { AreListed types.now }
+        requires few { length objects.now < 2 ^ 32 }
+        requires room { EffectFitsWithin (frame env.old) params.now body.now }
+        requires plain { spec.IsPlain (frame env.old) body.now }
+        ensures passed { OnOk result
+            (HasPassedWithin types.now objects.now pass params.now body.now env.old self.old self.new) }
+        ensures unchanged { OnErr result (spec.HasOnlyEntered pass self.old self.new) }
+        ensures kept { frame env.new ≡ frame env.old }
+    {
+        let Some((param, rest)) = params.split_first() else {
+            return self.pass_over(pass, alloc, body, env, types, objects);
+        };
+        let kind = Kind::new(types, param.ty);
+        for object in 0..objects.len() as u32 {
+            if kind.has(objects, object) {
+                env.push(object);
+                let passed = self.pass_over_rest(pass, alloc, rest, body, env, types, objects);
+                env.pop();
+                passed?;
+            }
+        }
+        Ok(())
+    }
+
+    /// The same. Where no types are left, the pass is made without a further call.
+    #[cycle(pass_over)]
+    #[inline(always)]
+    fn pass_over_rest(
+        &mut self,
+        pass: Pass,
+        alloc: Global,
+        params: &[Param],
+        body: &Effect,
+        env: &mut Env,
+        types: &Types,
+        objects: &List<Object>,
+    ) -> Result<(), Memory>
+        requires listed { AreListed types.now }
+        requires few { length objects.now < 2 ^ 32 }
+        requires room { EffectFitsWithin (frame env.old) params.now body.now }
+        requires plain { spec.IsPlain (frame env.old) body.now }
+        ensures passed { OnOk result
+            (HasPassedWithin types.now objects.now pass params.now body.now env.old self.old self.new) }
+        ensures unchanged { OnErr result (spec.HasOnlyEntered pass self.old self.new) }
+        ensures kept { frame env.new ≡ frame env.old }
+    {
+        if params.is_empty() {
+            return self.pass_over(pass, alloc, body, env, types, objects);
+        }
+        self.pass_over_within(pass, alloc, params, body, env, types, objects)
+    }
+
+    /// Makes the pass over an atom that is added, or deleted.
+    #[inline(always)]
+    fn visit(
+        &mut self,
+        pass: Pass,
+        adds: bool,
+        alloc: Global,
+        env: &mut Env,
+        atom: &Atom,
+    ) -> Result<(), Memory>
+        requires room { length atom.now.args ≤ (frame env.old).arity }
+        ensures passed { OnOk result
+            (spec.Passes pass (λ g. (adds ≡ spec.of_adds pass) × (g ≡ ground (frame env.old).objects atom.now)) self.old self.new) }
+        ensures unchanged { OnErr result (spec.HasOnlyEntered pass self.old self.new) }
+        ensures kept { frame env.new ≡ frame env.old }
+    {
+        if pass.is_of_adds() != adds {
+            return Ok(());
+        }
+        match pass {
+            Pass::Enter => self.enter_atom(alloc, env, atom),
+            Pass::Deny => {
+                self.set_atom(env, atom, false);
+                Ok(())
+            }
+            Pass::Affirm => {
+                self.set_atom(env, atom, true);
+                Ok(())
+            }
+            Pass::Forget => {
+                self.forget_atom(env, atom);
+                Ok(())
+            }
+        }
+    }
+
+    /// Whether the pass does nothing with what the effect touches, whatever the objects are.
+    fn is_idle(&self, pass: Pass, eff: &Effect) -> bool
+        ensures { OnTrue result (spec.IsIdle pass eff.now) }
+    {
+        match eff {
+            Effect::Add(_) => !pass.is_of_adds(),
+            Effect::Delete(atom) => {
+                pass.is_of_adds() || matches!(pass, Pass::Forget) && !self.are_many(atom.predicate)
+            }
+            _ => false,
+        }
+    }
+}
