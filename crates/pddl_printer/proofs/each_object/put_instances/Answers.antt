@@ -1,18 +1,13 @@
-use Rattle.std.proofs.Common.{arith}
+use Rattle.std.proofs.Common.{ap, ◌∙◌, arith}
 use Rattle.plan_texts.specs.SpellsPddl.{pddl_words}
 use Rattle.pddl_printer.specs.Behind.{behind}
+use Rattle.pddl_printer.specs.InstanceTexts.{literal_with}
 use Rattle.pddl_printer.specs.Literals.{literal_part}
 use Rattle.pddl_printer.specs.Scopes.{words_in_force}
 use Rattle.sheets.proofs.Written.{wrote-as}
+use Rattle.pddl_printer.proofs.InstanceBytes.{instance-is}
 use Rattle.pddl_printer.proofs.Ranges.{range-next, range-done}
 use Rattle.pddl_printer.proofs.each_object.put_instances.Goals as goal
-
-pub loop-k-preserved : goal.loop-k-preserved
-loop-k-preserved c =
-    let v = pddl_words c.args.p.now in
-    let s = words_in_force c.args.p.now c.args.scope.now in
-    range-next (λ o. behind (literal_part v s c.args.of.depth c.args.literal.now o)) c.args.of.written.range.first c.loop-k.k c.loop-k.invariant
-    (wrote-as (λ i. behind (literal_part v s (c.at.ensures.depth i) c.args.literal.now (c.at.ensures.object i))) c.put_instance.ensures)
 
 pub returns : goal.returns
 returns c =
