@@ -55,7 +55,7 @@ impl Pen for Stencil {
 
     ghost nothing = { λ word s. shows-nothing s };
 
-    ghost composes = { λ f g word s t u v w. shows-both v w };
+    ghost composes = { λ f g word s t u v w. shows-both f g s t u v w };
 
     fn draw(&mut self, bytes: &[u8]) {
         if self.behind.try_extend_from_slice(bytes).is_err() {

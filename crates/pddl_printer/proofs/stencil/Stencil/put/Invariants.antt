@@ -4,4 +4,4 @@ use Rattle.sheets.specs.Sheets.{Wrote}
 use Rattle.pddl_printer.proofs.stencil.Stencil.put.Given as goal
 
 abbrev pub invariant-loop-piece : goal.invariant-loop-piece
-invariant-loop-piece l = Wrote (of_each (λ piece. piece.items ++ l.word) (take l.piece-index l.self.before.items)) l.fn.sheet l.sheet
+invariant-loop-piece l = Wrote (of_each (λ piece. piece.items ++ l.word) (take l.piece-index l.piece-items)) l.fn.sheet l.sheet
