@@ -1,6 +1,6 @@
 -- The laws of what is drawn on a stencil.
 -- Source: this project's.
-use Rattle.std.proofs.Common.{ℕ, ◌≡◌, true, List, [], ◌++◌, ap, sym, ◌∙◌, append_assoc}
+use Rattle.std.proofs.Common.{ℕ, List, [], ◌++◌, ap, sym, ◌∙◌, append_assoc}
 use Rattle.std.proofs.lemmas.List.{append-nil}
 use Rattle.pddl_printer.specs.declared.stencil.Stencil.{Stencil}
 use Rattle.pddl_printer.specs.Drawings.{shown, Shows}

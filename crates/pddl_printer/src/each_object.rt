@@ -60,7 +60,13 @@ fn put_instances(
 {
     let depth = of.depth;
     let mut stencil = Stencil::new();
-    draw_instance(p, scope, Instance { depth, word: b"" }, literal, &mut stencil);
+    draw_instance(
+        p,
+        scope,
+        Instance { depth, word: b"" },
+        literal,
+        &mut stencil,
+    );
     for k in 0..of.written.range.count {
         let word = object_word(p, of.written.range.first as usize + k as usize);
         if stencil.fits {

@@ -48,13 +48,7 @@ fn draw_term<P: Pen>(p: &Pddl, scope: &Scope<'_>, at: Instance<'_>, term: Term, 
     }
 }
 
-fn draw_terms<P: Pen>(
-    p: &Pddl,
-    scope: &Scope<'_>,
-    at: Instance<'_>,
-    terms: &[Term],
-    pen: &mut P,
-)
+fn draw_terms<P: Pen>(p: &Pddl, scope: &Scope<'_>, at: Instance<'_>, terms: &[Term], pen: &mut P)
     ensures { P.draws (λ w. terms_with p.now scope.now at.entry.depth w terms.now) at.entry.word.now pen.old pen.new }
 {
     for term in terms {
