@@ -18,9 +18,12 @@ of_each-append f (x ∷ xs) ys = ap (λ z. f x ++ z) (of_each-append f xs ys) �
 take-next : {X : Type 0} (xs : List X) (n : ℕ) (x : X) → n < length xs → x ≡ get_or xs n x → take (n + 1) xs ≡ take n xs ++ x ∷ []
 take-next xs n x l e = let k : n + 1 ≡ suc n = omega arith in ap (λ m. take m xs) k ∙ take-suc xs n x l ∙ ap (λ y. take n xs ++ y ∷ []) (sym e)
 
+pub each-more : {X : Type 0} (f : X → List ℕ) (xs : List X) (n : ℕ) (x : X) → n < length xs → x ≡ get_or xs n x → of_each f (take n xs) ++ f x ≡ of_each f (take (n + 1) xs)
+each-more f xs n x l e = sym (ap (of_each f) (take-next xs n x l e) ∙ of_each-append f (take n xs) (x ∷ []) ∙ ap (λ z. of_each f (take n xs) ++ z) (append-nil (f x)))
+
 -- one item more
 pub each-next : {X : Type 0} (f : X → List ℕ) (xs : List X) (n : ℕ) (x : X) {s t u : Sheet} → n < length xs → x ≡ get_or xs n x → Wrote (of_each f (take n xs)) s t → Wrote (f x) t u → Wrote (of_each f (take (n + 1) xs)) s u
-each-next f xs n x l e v w = wrote-as (sym (ap (of_each f) (take-next xs n x l e) ∙ of_each-append f (take n xs) (x ∷ []) ∙ ap (λ z. of_each f (take n xs) ++ z) (append-nil (f x)))) (wrote-then v w)
+each-next f xs n x l e v w = wrote-as (each-more f xs n x l e) (wrote-then v w)
 
 take-all : {X : Type 0} (xs : List X) (n : ℕ) → length xs ≤ n → take n xs ≡ xs
 take-all [] zero l = refl
@@ -37,9 +40,15 @@ item (x ∷ xs) (suc n) d e l = item xs n d e (omega arith)
 pub each-at : {X : Type 0} (f : X → List ℕ) (xs : List X) (n : ℕ) (d : X) {s t u : Sheet} → n < length xs → Wrote (of_each f (take n xs)) s t → Wrote (f (get_or xs n d)) t u → Wrote (of_each f (take (n + 1) xs)) s u
 each-at f xs n d l v w = each-next f xs n (get_or xs n d) l (item xs n d (get_or xs n d) l) v w
 
+pub each-more-at : {X : Type 0} (f : X → List ℕ) (xs : List X) (n : ℕ) (d : X) → n < length xs → of_each f (take n xs) ++ f (get_or xs n d) ≡ of_each f (take (n + 1) xs)
+each-more-at f xs n d l = each-more f xs n (get_or xs n d) l (item xs n d (get_or xs n d) l)
+
 -- all items
+pub each-all : {X : Type 0} (f : X → List ℕ) (xs : List X) (n : ℕ) → length xs ≤ n → of_each f (take n xs) ≡ of_each f xs
+each-all f xs n l = ap (of_each f) (take-all xs n l)
+
 pub each-done : {X : Type 0} (f : X → List ℕ) (xs : List X) (n : ℕ) {s t : Sheet} → length xs ≤ n → Wrote (of_each f (take n xs)) s t → Wrote (of_each f xs) s t
-each-done f xs n l w = wrote-as (ap (of_each f) (take-all xs n l)) w
+each-done f xs n l w = wrote-as (each-all f xs n l) w
 
 pub behind-each : {X : Type 0} (f : X → Part) (xs : List X) → of_each (λ x. behind (f x)) xs ≡ bytes_behind (all_parts (map f xs))
 behind-each f [] = refl

@@ -14,6 +14,8 @@ pub mod PairBytes
 pub mod Conjunctions
 pub mod DomainPages
 pub mod WrittenLiterals
+pub mod InstanceBytes
+pub mod Drawn
 pub mod OtherConditions
 pub mod OtherEffects
 pub mod written_out

@@ -15,13 +15,13 @@ use Rattle.plan_model.specs.declared.formulas.Formula.TheVariants.{Equal}
 use Rattle.plan_model.specs.declared.terms.Term.TheVariants.{Var}
 use Rattle.pddl_printer.specs.Behind.{behind, of_each}
 use Rattle.pddl_printer.specs.Literals.{conditions_behind}
-use Rattle.pddl_printer.specs.Splits.{unequal, all_differ}
+use Rattle.pddl_printer.specs.Splits.{unequal, all_differ, pair_with}
 use Rattle.sheets.specs.Sheets.{capped}
 use Rattle.pddl_printer.proofs.CountedSheets.{times_capped}
 use Rattle.pddl_printer.proofs.LiteralLengths.{behind-length}
 use Rattle.pddl_printer.proofs.Ranges.{behind-made, behind-append}
 
-pair-bytes : (a b : List ℕ) → codes " (not (= ?" ++ (a ++ (codes " ?" ++ (b ++ codes "))"))) ≡ 32 ∷ bytes (headed (codes "not") (part (headed (codes "=") (part (name (63 ∷ a)) (part (name (63 ∷ b)) nothing))) nothing))
+pair-bytes : (a b : List ℕ) → pair_with a b ≡ 32 ∷ bytes (headed (codes "not") (part (headed (codes "=") (part (name (63 ∷ a)) (part (name (63 ∷ b)) nothing))) nothing))
 pair-bytes a b =
     let e : codes " (not (= ?" ++ (a ++ (codes " ?" ++ (b ++ codes "))"))) ≡ 32 ∷ 40 ∷ (codes "not" ++ ((32 ∷ 40 ∷ (codes "=" ++ (((32 ∷ 63 ∷ a) ++ (32 ∷ 63 ∷ b)) ++ 41 ∷ []))) ++ 41 ∷ [])) = simp append_assoc in
     e ∙ ap (λ z. 32 ∷ 40 ∷ (codes "not" ++ ((32 ∷ 40 ∷ (codes "=" ++ (((32 ∷ 63 ∷ a) ++ z) ++ 41 ∷ []))) ++ 41 ∷ []))) (sym (append-nil (32 ∷ 63 ∷ b)))
@@ -40,7 +40,7 @@ module _ (v : Declared) (s : List Word) where
   abbrev pub pair : ℕ → ℕ → Part
   pair a b = formula_part v (unequal a b) s
 
-  pub pair-is : (a b : ℕ) → codes " (not (= ?" ++ (word_at s a ++ (codes " ?" ++ (word_at s b ++ codes "))"))) ≡ behind (pair a b)
+  pub pair-is : (a b : ℕ) → pair_with (word_at s a) (word_at s b) ≡ behind (pair a b)
   pair-is a b =
       pair-bytes (word_at s a) (word_at s b)
       ∙ ap behind (sym (part-Not v (Equal (Var a) (Var b)) s ∙ ap (λ p. headed (codes "not") (part p nothing)) (part-Equal v (Var a) (Var b) s)))

@@ -1,4 +1,5 @@
 -- The bytes of one part of a list or of a page.
+-- Source: this project's.
 use Rattle.std.specs.Prelude.{ℕ, List, [], ◌∷◌, ◌++◌, codes}
 use Rattle.text_forms.specs.Lists.{Part, Parts, nothing, part}
 use Rattle.text_forms.specs.Words.{Word}

@@ -1,4 +1,5 @@
 -- The text of a condition with its quantifiers over the objects of a range written out, layer by layer.
+-- Source: this project's.
 use Rattle.std.specs.Prelude.{ℕ, List, map}
 use Rattle.plan_model.specs.declared.terms.Param.{Param}
 use Rattle.plan_model.specs.declared.formulas.Formula.{Formula, out-Formula}

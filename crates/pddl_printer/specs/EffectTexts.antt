@@ -1,4 +1,5 @@
 -- The text of an effect with its quantifiers over the objects of a range written out, layer by layer.
+-- Source: this project's.
 use Rattle.std.specs.Prelude.{ℕ, List, map}
 use Rattle.plan_model.specs.declared.terms.Atom.{Atom}
 use Rattle.plan_model.specs.declared.terms.Param.{Param}

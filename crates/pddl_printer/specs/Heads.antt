@@ -1,4 +1,5 @@
 -- The sections that a value has in common with the one in which its quantifiers are written out.
+-- Source: appendix A (grammar) of Fox and Long, "PDDL2.1", JAIR 20, 2003, level 1; the layout is this project's.
 use Rattle.std.specs.Prelude.{map, codes}
 use Rattle.text_forms.specs.Lists.{Parts, name, nothing, part}
 use Rattle.text_forms.specs.Printing.{headed}

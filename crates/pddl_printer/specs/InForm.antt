@@ -1,4 +1,5 @@
 -- A value as it is, or with the quantifiers over the objects of a range written out.
+-- Source: this project's.
 use Rattle.std.specs.Prelude.{ℕ, Option, None, Some, List, map, length}
 use Rattle.plan_model.specs.declared.formulas.Formula.{Formula}
 use Rattle.plan_model.specs.declared.effects.Effect.{Effect}

@@ -10,6 +10,8 @@ pub mod Measured
 pub mod ActionLines
 pub mod Splits
 pub mod Pages
+pub mod Drawings
+pub mod StencilLaws
 pub mod InstanceTexts
 pub mod ConditionTexts
 pub mod EffectTexts

@@ -1,4 +1,5 @@
 -- What is printed for conditions and effects that are written out, with these words of variables in force.
+-- Source: appendix A (grammar) of Fox and Long, "PDDL2.1", JAIR 20, 2003, level 1; the layout is this project's.
 use Rattle.std.specs.Prelude.{ℕ, ◌==◌, Bool, false, List, [], ◌∷◌, ◌++◌, map, codes}
 use Rattle.text_forms.specs.Lists.{Part, nothing, part}
 use Rattle.text_forms.specs.Words.{Word, word_at}

@@ -1,4 +1,5 @@
 -- The words of the variables in force.
+-- Source: scopes as in PDDL 2.1 (Fox and Long, JAIR 20, 2003, level 1): a quantifier's variables are in force in its part.
 use Rattle.std.specs.Prelude.{List, ◌++◌, map}
 use Rattle.text_forms.specs.Words.{Word}
 use Rattle.plan_texts.specs.Declared.{variable}

@@ -1,7 +1,7 @@
 -- An action of whose variables some differ, each two of them.
 -- Source: this project's.
-use Rattle.std.specs.Prelude.{ℕ, List, [], ◌∷◌, ◌++◌, map, length, sum_by}
-use Rattle.text_forms.specs.Words.{word_at}
+use Rattle.std.specs.Prelude.{ℕ, List, [], ◌∷◌, ◌++◌, map, length, sum_by, codes}
+use Rattle.text_forms.specs.Words.{Word, word_at}
 use Rattle.plan_texts.specs.Declared.{variable}
 use Rattle.plan_texts.specs.SpellsPddl.{pddl_words}
 use Rattle.plan_model.specs.declared.terms.Param.{Param}
@@ -30,6 +30,10 @@ split_action s = record {
   pre = And (s.before.now ++ (all_differ (numbers 1 s.spare) ++ s.behind.now));
   eff = s.eff.now;
 }
+
+-- the text that words of variables differ, behind a space
+abbrev pub pair_with : Word → Word → List ℕ
+pair_with v u = codes " (not (= ?" ++ (v ++ (codes " ?" ++ (u ++ codes "))")))
 
 -- the text of conditions on these variables, each behind a space
 module _ (p : Pddl) (xs : List Param) where

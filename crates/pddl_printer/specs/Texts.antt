@@ -1,4 +1,5 @@
 -- The text of each part of a value p. One part stands behind a space, and of several each does, where no other place is named.
+-- Source: appendix A (grammar) of Fox and Long, "PDDL2.1", JAIR 20, 2003, level 1; the layout is this project's.
 use Rattle.std.specs.Prelude.{ℕ, Option, List, [], ◌∷◌, map}
 use Rattle.text_forms.specs.Lists.{name, group}
 use Rattle.text_forms.specs.Words.{word_at}

@@ -1,12 +1,14 @@
-ghost use Rattle.std.specs.Prelude.{◌≡◌, ◌+◌, ◌<◌, false, length};
+ghost use Rattle.std.specs.Prelude.{◌≡◌, ◌<◌, false};
 ghost use Rattle.pddl_printer.specs.Literals.{is_over as over};
 ghost use Rattle.pddl_printer.specs.InstanceTexts.{literals_text};
 ghost use Rattle.pddl_printer.specs.Measured.{IsMeasured};
 ghost use Rattle.sheets.specs.Sheets.{Wrote};
 
 use crate::holes::holes;
-use crate::instances::{Instance, Literal, put_instance};
+use crate::instances::{Instance, Literal, draw_instance};
 use crate::object_range::Range;
+use crate::stencil::Stencil;
+use crate::words::object_word;
 use crate::written::Written;
 use plan_model::{Param, Pddl, Scope};
 use sheets::Sheet;
@@ -16,30 +18,6 @@ use sheets::Sheet;
 pub(crate) struct Instances {
     pub(crate) written: Written,
     pub(crate) depth: usize,
-}
-
-impl Instances {
-    /// That of the k-th object.
-    fn at(self, k: u32) -> Instance
-        ensures depth { result.depth ≡ self.depth }
-        ensures object { result.object ≡ self.written.range.first + k }
-    {
-        Instance {
-            depth: self.depth,
-            object: self.written.range.first as usize + k as usize,
-        }
-    }
-
-    /// That of no object: its number is past the last one, so it has no word.
-    fn at_none(self, p: &Pddl) -> Instance
-        ensures depth { result.depth ≡ self.depth }
-        ensures object { result.object ≡ length p.now.objects }
-    {
-        Instance {
-            depth: self.depth,
-            object: p.objects.len(),
-        }
-    }
 }
 
 /// Whether this is one variable of the type whose objects are written out.
@@ -70,6 +48,7 @@ pub(crate) fn put_each(
     }
 }
 
+/// Puts them from one stencil, or draws each anew where the stencil would be too large.
 fn put_instances(
     p: &Pddl,
     scope: &Scope<'_>,
@@ -79,13 +58,27 @@ fn put_instances(
 )
     ensures { Wrote (literals_text p.now scope.now of literal.now) sheet.old sheet.new }
 {
+    let depth = of.depth;
+    let mut stencil = Stencil::new();
+    draw_instance(
+        p,
+        scope,
+        Instance { depth, word: b"" },
+        literal,
+        &mut stencil,
+    );
     for k in 0..of.written.range.count {
-        put_instance(p, scope, of.at(k), literal, sheet);
+        let word = object_word(p, of.written.range.first as usize + k as usize);
+        if stencil.fits {
+            stencil.put(word, sheet);
+        } else {
+            draw_instance(p, scope, Instance { depth, word }, literal, sheet);
+        }
     }
 }
 
-/// Counts them, of which there is one at least: each has its own bytes, which are those of an instance at no object, and for
-/// each place of the variable the letters of its object.
+/// Counts them, of which there is one at least: each has its own bytes, which are those of an instance with no letter
+/// in place of the variable, and for each such place the letters of its object.
 fn count_instances(
     p: &Pddl,
     scope: &Scope<'_>,
@@ -99,7 +92,11 @@ fn count_instances(
     ensures { Wrote (literals_text p.now scope.now of literal.now) sheet.old sheet.new }
 {
     let before = sheet.counted();
-    put_instance(p, scope, of.at_none(p), literal, sheet);
+    let nothing = Instance {
+        depth: of.depth,
+        word: b"",
+    };
+    draw_instance(p, scope, nothing, literal, sheet);
     let own = sheet.counted() - before;
     let others = u64::from(of.written.range.count - 1);
     let letters = holes(literal, of.depth).saturating_mul(of.written.letters);

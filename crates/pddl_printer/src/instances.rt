@@ -1,11 +1,9 @@
-ghost use Rattle.plan_model.specs.declared.terms.Term.TheVariants.{Var};
-ghost use Rattle.pddl_printer.specs.InstanceTexts.{placed_text, all_placed_text, inside_text, literal_text};
-ghost use Rattle.sheets.specs.Sheets.{Wrote};
+ghost use Rattle.pddl_printer.specs.InstanceTexts.{variable_with, term_with, terms_with, inside_with, literal_with};
 
-use crate::terms::put_term;
-use crate::words::{put_object, put_predicate};
+use crate::pen::Pen;
+use crate::terms::word_in_force;
+use crate::words::{object_word, predicate_word};
 use plan_model::{Atom, Pddl, Scope, Term};
-use sheets::Sheet;
 
 /// What a quantifier that is written out says of its variable.
 #[derive(Clone, Copy)]
@@ -18,83 +16,81 @@ pub(crate) enum Literal<'a> {
     Conditional(&'a Atom, &'a Atom),
 }
 
-/// An object that stands in place of the variable of this number.
+/// The word that stands in place of the variable of this number.
 #[derive(Clone, Copy)]
-pub(crate) struct Instance {
+pub(crate) struct Instance<'a> {
     pub(crate) depth: usize,
-    pub(crate) object: usize,
+    pub(crate) word: &'a [u8],
 }
 
-/// Puts a variable behind a space, or the object in its place.
-fn put_variable(p: &Pddl, scope: &Scope<'_>, at: Instance, k: u32, sheet: &mut Sheet<'_>)
-    ensures { Wrote (placed_text p.now scope.now at (Var k)) sheet.old sheet.new }
+/// Draws a variable behind a space, or the word in its place.
+fn draw_variable<P: Pen>(p: &Pddl, scope: &Scope<'_>, at: Instance<'_>, k: u32, pen: &mut P)
+    ensures { P.draws (λ w. variable_with p.now scope.now at.entry.depth w k) at.entry.word.now pen.old pen.new }
 {
     if k as usize == at.depth {
-        sheet.put(b" ");
-        put_object(p, at.object, sheet);
+        pen.draw(b" ");
+        pen.place(at.word);
     } else {
-        put_term(p, scope, Term::Var(k), sheet);
+        pen.draw(b" ?");
+        pen.draw(word_in_force(p, scope, k));
     }
 }
 
-fn put_placed_term(p: &Pddl, scope: &Scope<'_>, at: Instance, term: Term, sheet: &mut Sheet<'_>)
-    ensures { Wrote (placed_text p.now scope.now at term) sheet.old sheet.new }
+fn draw_term<P: Pen>(p: &Pddl, scope: &Scope<'_>, at: Instance<'_>, term: Term, pen: &mut P)
+    ensures { P.draws (λ w. term_with p.now scope.now at.entry.depth w term) at.entry.word.now pen.old pen.new }
 {
     match term {
-        Term::Var(k) => put_variable(p, scope, at, k, sheet),
-        Term::Obj(_) => put_term(p, scope, term, sheet),
+        Term::Var(k) => draw_variable(p, scope, at, k, pen),
+        Term::Obj(object) => {
+            pen.draw(b" ");
+            pen.draw(object_word(p, object as usize));
+        }
     }
 }
 
-fn put_placed_terms(
-    p: &Pddl,
-    scope: &Scope<'_>,
-    at: Instance,
-    terms: &[Term],
-    sheet: &mut Sheet<'_>,
-)
-    ensures { Wrote (all_placed_text p.now scope.now at terms.now) sheet.old sheet.new }
+fn draw_terms<P: Pen>(p: &Pddl, scope: &Scope<'_>, at: Instance<'_>, terms: &[Term], pen: &mut P)
+    ensures { P.draws (λ w. terms_with p.now scope.now at.entry.depth w terms.now) at.entry.word.now pen.old pen.new }
 {
     for term in terms {
-        put_placed_term(p, scope, at, *term, sheet);
+        draw_term(p, scope, at, *term, pen);
     }
 }
 
-/// Puts an instance of an atom without the parentheses around it.
-fn put_inside(p: &Pddl, scope: &Scope<'_>, at: Instance, atom: &Atom, sheet: &mut Sheet<'_>)
-    ensures { Wrote (inside_text p.now scope.now at atom.now) sheet.old sheet.new }
+/// Draws an instance of an atom without the parentheses around it.
+fn draw_inside<P: Pen>(p: &Pddl, scope: &Scope<'_>, at: Instance<'_>, atom: &Atom, pen: &mut P)
+    ensures { P.draws (λ w. inside_with p.now scope.now at.entry.depth w atom.now) at.entry.word.now pen.old pen.new }
 {
-    put_predicate(p, atom.predicate, sheet);
-    put_placed_terms(p, scope, at, atom.args.as_slice(), sheet);
+    pen.draw(predicate_word(p, atom.predicate));
+    draw_terms(p, scope, at, atom.args.as_slice(), pen);
 }
 
-/// Puts a literal with the object in place of the variable, behind a space.
-pub(crate) fn put_instance(
+/// Draws a literal with the word in place of the variable, behind a space.
+pub(crate) fn draw_instance<P: Pen>(
     p: &Pddl,
     scope: &Scope<'_>,
-    at: Instance,
+    at: Instance<'_>,
     literal: &Literal<'_>,
-    sheet: &mut Sheet<'_>,
+    pen: &mut P,
 )
-    ensures { Wrote (literal_text p.now scope.now at literal.now) sheet.old sheet.new }
+    ensures { P.draws (λ w. literal_with p.now scope.now at.entry.depth w literal.now) at.entry.word.now pen.old pen.new }
 {
     match literal {
         Literal::Held(atom) => {
-            sheet.put(b" (");
-            put_inside(p, scope, at, atom, sheet);
-            sheet.put(b")");
+            pen.draw(b" (");
+            draw_inside(p, scope, at, atom, pen);
+            pen.draw(b")");
         }
         Literal::Denied(atom) => {
-            sheet.put(b" (not (");
-            put_inside(p, scope, at, atom, sheet);
-            sheet.put(b"))");
+            pen.draw(b" (not (");
+            draw_inside(p, scope, at, atom, pen);
+            pen.draw(b"))");
         }
         Literal::Conditional(condition, added) => {
-            sheet.put(b" (when (");
-            put_inside(p, scope, at, condition, sheet);
-            sheet.put(b") (");
-            put_inside(p, scope, at, added, sheet);
-            sheet.put(b"))");
+            pen.draw(b" (when (");
+            draw_inside(p, scope, at, condition, pen);
+            pen.draw(b") (");
+            draw_inside(p, scope, at, added, pen);
+            pen.draw(b"))");
         }
     }
 }

@@ -3,9 +3,10 @@
 //! Stands on `htn_base`, `sheets` and `plan_model`, and on the definitions of `text_forms`, `task_networks` and `plan_texts`. The
 //! contract used above: what is put on a sheet is exactly the defined text, of the value or of the one in which the
 //! quantifiers over a range of objects are written out: the two pages, or the domain in parts, which are its start, the
-//! line of each action, and its end. On a sheet that takes nothing more, what such a quantifier says of each object, and
-//! that each two of some variables differ, is counted all at once. Two calls append a value's texts, which spell it where
-//! it is printable, and two those with the quantifiers written out; after want of memory a prefix of the text stands.
+//! line of each action, and its end. What such a quantifier says of each object, and that a variable differs from each of
+//! others, is drawn once, with places for the word, and put from there. On a sheet that takes nothing more it is counted all
+//! at once. Two calls append a value's texts, which spell it where it is printable, and two those with the quantifiers written
+//! out; after want of memory a prefix of the text stands.
 #![tactic(auto)]
 
 mod each_object;
@@ -18,8 +19,10 @@ mod items;
 mod object_range;
 mod pages;
 mod pairs;
+mod pen;
 mod schemas;
 mod splits;
+mod stencil;
 mod terms;
 mod texts;
 mod typed_lists;

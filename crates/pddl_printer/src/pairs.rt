@@ -1,8 +1,10 @@
 ghost use Rattle.std.specs.Prelude.{◌≡◌, ◌+◌, false};
 ghost use Rattle.task_networks.specs.Spelling.{numbers};
-ghost use Rattle.pddl_printer.specs.Splits.{row_text, differ_text, letters};
+ghost use Rattle.pddl_printer.specs.Splits.{row_text, differ_text, letters, pair_with};
 ghost use Rattle.sheets.specs.Sheets.{Wrote, capped};
 
+use crate::pen::Pen;
+use crate::stencil::Stencil;
 use crate::words::variable_word;
 use plan_model::{Param, Pddl};
 use sheets::Sheet;
@@ -20,20 +22,34 @@ pub(crate) fn put_all_differ(p: &Pddl, params: &[Param], spare: u32, sheet: &mut
     }
 }
 
-/// Puts that a variable differs from each of so many behind it.
+/// Puts that a variable differs from each of so many behind it, from one stencil where it is not too large.
 fn put_row(p: &Pddl, params: &[Param], variable: u32, count: u32, sheet: &mut Sheet<'_>)
     ensures { Wrote (row_text p.now params.now variable (numbers (variable + 1) count))
         sheet.old sheet.new }
 {
     let next = variable as usize + 1;
     let word = variable_word(p, params, variable as usize);
+    let mut stencil = Stencil::new();
+    draw_pair(word, b"", &mut stencil);
     for k in 0..count {
-        sheet.put(b" (not (= ?");
-        sheet.put(word);
-        sheet.put(b" ?");
-        sheet.put(variable_word(p, params, next + k as usize));
-        sheet.put(b"))");
+        let other = variable_word(p, params, next + k as usize);
+        if stencil.fits {
+            stencil.put(other, sheet);
+        } else {
+            draw_pair(word, other, sheet);
+        }
     }
+}
+
+/// Draws that two variables of these words differ, with a place for the second word.
+fn draw_pair<P: Pen>(word: &[u8], other: &[u8], pen: &mut P)
+    ensures { P.draws (pair_with word.now) other.now pen.old pen.new }
+{
+    pen.draw(b" (not (= ?");
+    pen.draw(word);
+    pen.draw(b" ?");
+    pen.place(other);
+    pen.draw(b"))");
 }
 
 /// Counts for each two of so many variables that they differ: 14 bytes and the two words, so each word as often as there are others.

@@ -1,18 +1,20 @@
+ghost use Rattle.std.specs.Prelude.{◌≡◌};
 ghost use Rattle.text_forms.specs.Words.{word_at};
 ghost use Rattle.pddl_printer.specs.Scopes.{words_in_force};
 ghost use Rattle.pddl_printer.specs.Texts.{term_text, terms_text, atom_text};
 ghost use Rattle.sheets.specs.Sheets.{Wrote};
 
-use crate::words::{put_name, put_object, put_predicate};
+use crate::words::{name_word, put_object, put_predicate};
 use plan_model::{Atom, Pddl, Scope, Term};
 use sheets::Sheet;
 
-/// Puts the word of the k-th variable in force.
-fn put_variable(p: &Pddl, scope: &Scope<'_>, k: u32, sheet: &mut Sheet<'_>)
-    ensures { Wrote (word_at (words_in_force p.now scope.now) k) sheet.old sheet.new }
+/// The word of the k-th variable in force.
+pub(crate) fn word_in_force<'a>(p: &'a Pddl, scope: &Scope<'_>, k: u32) -> &'a [u8]
+    ensures { result.now ≡ word_at (words_in_force p.now scope.now) k }
 {
-    if let Ok(param) = scope.find(k as usize) {
-        put_name(p, param.name, sheet);
+    match scope.find(k as usize) {
+        Ok(param) => name_word(p, param.name),
+        Err(_) => b"",
     }
 }
 
@@ -23,7 +25,7 @@ pub(crate) fn put_term(p: &Pddl, scope: &Scope<'_>, term: Term, sheet: &mut Shee
     match term {
         Term::Var(k) => {
             sheet.put(b" ?");
-            put_variable(p, scope, k, sheet);
+            sheet.put(word_in_force(p, scope, k));
         }
         Term::Obj(object) => {
             sheet.put(b" ");

@@ -9,7 +9,7 @@ use plan_model::{Param, Pddl};
 use sheets::Sheet;
 
 /// The word of a name; of a number that no word has, the empty one.
-fn name_word(p: &Pddl, name: Name) -> &[u8]
+pub(crate) fn name_word(p: &Pddl, name: Name) -> &[u8]
     ensures { result.now ≡ named p.now.names name }
 {
     match p.names.text(name) {
@@ -19,7 +19,7 @@ fn name_word(p: &Pddl, name: Name) -> &[u8]
 }
 
 /// The word of an object.
-fn object_word(p: &Pddl, object: usize) -> &[u8]
+pub(crate) fn object_word(p: &Pddl, object: usize) -> &[u8]
     ensures { result.now ≡ word_at (pddl_words p.now).objects object }
 {
     match p.objects.get(object) {
@@ -28,7 +28,17 @@ fn object_word(p: &Pddl, object: usize) -> &[u8]
     }
 }
 
-/// How many bytes it has.
+/// The word of a predicate.
+pub(crate) fn predicate_word(p: &Pddl, predicate: u32) -> &[u8]
+    ensures { result.now ≡ word_at (pddl_words p.now).predicates predicate }
+{
+    match p.predicates.get(predicate as usize) {
+        Some(declared) => name_word(p, declared.name),
+        None => b"",
+    }
+}
+
+/// How many bytes the word of an object has.
 pub(crate) fn object_length(p: &Pddl, object: usize) -> u64
     ensures { result ≡ length (word_at (pddl_words p.now).objects object) }
 {
@@ -72,7 +82,5 @@ pub(crate) fn put_object(p: &Pddl, object: usize, sheet: &mut Sheet<'_>)
 pub(crate) fn put_predicate(p: &Pddl, predicate: u32, sheet: &mut Sheet<'_>)
     ensures { Wrote (word_at (pddl_words p.now).predicates predicate) sheet.old sheet.new }
 {
-    if let Some(declared) = p.predicates.get(predicate as usize) {
-        put_name(p, declared.name, sheet);
-    }
+    sheet.put(predicate_word(p, predicate));
 }

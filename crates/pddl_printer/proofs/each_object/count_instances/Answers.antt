@@ -8,11 +8,12 @@ use Rattle.plan_texts.specs.SpellsPddl.{pddl_words}
 use Rattle.plan_model.specs.declared.types.Object.{Object}
 use Rattle.pddl_printer.specs.Behind.{behind}
 use Rattle.pddl_printer.specs.Holes.{holes}
-use Rattle.pddl_printer.specs.InstanceTexts.{literals_text}
+use Rattle.pddl_printer.specs.InstanceTexts.{literal_with, literals_text}
 use Rattle.pddl_printer.specs.Literals.{literal_part}
 use Rattle.pddl_printer.specs.Scopes.{words_in_force}
 use Rattle.sheets.specs.Sheets.{capped}
 use Rattle.sheets.proofs.Written.{wrote-as}
+use Rattle.pddl_printer.proofs.InstanceBytes.{instance-is}
 use Rattle.pddl_printer.proofs.CountedSheets.{wrote-skipped, all-counted}
 use Rattle.pddl_printer.proofs.LiteralLengths.{literal-length, behind-length}
 use Rattle.pddl_printer.proofs.Places.{past-end}
@@ -31,10 +32,10 @@ returns c =
     let own = length (behind (literal_part v s d l none)) in
     let letters = sum_by word (numbers r.first r.count) in
     let no = past-end (λ (x : Object). named p.names x.name) p.objects in
-    let first = wrote-as (λ i. behind (literal_part v s (c.at_none.ensures.depth i) l (c.at_none.ensures.object i))) c.put_instance.ensures in
+    let first = wrote-as (ap (λ w. literal_with p c.args.scope.now d w l) (sym no) ∙ instance-is p c.args.scope.now d none l) c.draw_instance.ensures in
     let all = behind-length (literal_part v s d l) own (holes d l) word (λ o. literal-length v s d none o no l) (numbers r.first r.count) ∙ ap (λ n. n * own + holes d l * letters) (length-numbers r.first r.count) in
     let before = c.args.sheet.now.count in
-    let after = c.put_instance.new.sheet.count in
+    let after = c.draw_instance.new.pen.count in
     let a = c.counted-before.ensures.counted in
     let b = c.counted.ensures.counted in
     let below : before < 2 ^ 64 = let e = c.counted-before.type_inv in omega (arith, a, e) in

@@ -1,18 +1,34 @@
-use Rattle.std.proofs.Common.{arith}
+use Rattle.std.proofs.Common.{◌+◌, ◌++◌, ap, sym, subst, ◌∙◌, arith}
 use Rattle.plan_texts.specs.SpellsPddl.{pddl_words}
 use Rattle.pddl_printer.specs.Behind.{behind}
+use Rattle.pddl_printer.specs.InstanceTexts.{literal_with}
 use Rattle.pddl_printer.specs.Literals.{literal_part}
 use Rattle.pddl_printer.specs.Scopes.{words_in_force}
+use Rattle.sheets.specs.Sheets.{Wrote}
 use Rattle.sheets.proofs.Written.{wrote-as}
+use Rattle.pddl_printer.proofs.InstanceBytes.{instance-is}
 use Rattle.pddl_printer.proofs.Ranges.{range-next, range-done}
+use Rattle.pddl_printer.proofs.each_object.put_instances.Goals.{then-stencil, else-stencil}
 use Rattle.pddl_printer.proofs.each_object.put_instances.Goals as goal
 
 pub loop-k-preserved : goal.loop-k-preserved
 loop-k-preserved c =
-    let v = pddl_words c.args.p.now in
-    let s = words_in_force c.args.p.now c.args.scope.now in
-    range-next (λ o. behind (literal_part v s c.args.of.depth c.args.literal.now o)) c.args.of.written.range.first c.loop-k.k c.loop-k.invariant
-    (wrote-as (λ i. behind (literal_part v s (c.at.ensures.depth i) c.args.literal.now (c.at.ensures.object i))) c.put_instance.ensures)
+    let p = c.args.p.now in
+    let scope = c.args.scope.now in
+    let d = c.args.of.depth in
+    let l = c.args.literal.now in
+    let first = c.args.of.written.range.first in
+    let k = c.loop-k.k in
+    let word = c.object_word-word.result.now in
+    let drawn = ap (λ w. literal_with p scope d w l) c.object_word-word.ensures ∙ instance-is p scope d (first + k) l in
+    range-next (λ o. behind (literal_part (pddl_words p) (words_in_force p scope) d l o)) first k c.loop-k.invariant
+    (elim c.if-stencil.branch [
+      | then-stencil w ↦
+          let stands = (c.draw_instance.ensures w.if-stencil.true).1 word ∙ ap (λ z. z ++ literal_with p scope d word l) (c.new-stencil.ensures.empty word) in
+          subst (λ z. Wrote (behind (literal_part (pddl_words p) (words_in_force p scope) d l (first + k))) c.loop-k.sheet z) (sym w.sheet-is) (wrote-as (stands ∙ drawn) w.put.ensures)
+      | else-stencil w ↦
+          subst (λ z. Wrote (behind (literal_part (pddl_words p) (words_in_force p scope) d l (first + k))) c.loop-k.sheet z) (sym w.sheet-is) (wrote-as drawn w.draw_instance-else-stencil.ensures)
+    ])
 
 pub returns : goal.returns
 returns c =

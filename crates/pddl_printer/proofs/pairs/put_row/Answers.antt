@@ -1,13 +1,15 @@
-use Rattle.std.proofs.Common.{◌+◌, map, refl, arith}
+use Rattle.std.proofs.Common.{◌+◌, ◌++◌, map, refl, ap, sym, subst, ◌∙◌, arith}
 use Rattle.task_networks.specs.Spelling.{numbers}
 use Rattle.plan_texts.specs.Declared.{variable}
 use Rattle.plan_texts.specs.SpellsPddl.{pddl_words}
 use Rattle.plan_texts.specs.Printed.{formula_part}
 use Rattle.pddl_printer.specs.Behind.{behind}
-use Rattle.pddl_printer.specs.Splits.{unequal}
-use Rattle.sheets.proofs.Written.{wrote-as, wrote-then}
+use Rattle.pddl_printer.specs.Splits.{unequal, pair_with}
+use Rattle.sheets.specs.Sheets.{Wrote}
+use Rattle.sheets.proofs.Written.{wrote-as}
 use Rattle.pddl_printer.proofs.PairBytes.{pair, pair-is}
 use Rattle.pddl_printer.proofs.Ranges.{range-next, range-done, behind-made}
+use Rattle.pddl_printer.proofs.pairs.put_row.Goals.{then-stencil, else-stencil}
 use Rattle.pddl_printer.proofs.pairs.put_row.Goals as goal
 
 pub loop-k-preserved : goal.loop-k-preserved
@@ -15,9 +17,18 @@ loop-k-preserved c =
     let v = pddl_words c.args.p.now in
     let s = map (variable v) c.args.params.now in
     let a = c.args.variable in
+    let b = a + 1 + c.loop-k.k in
+    let word = c.variable_word-word.result.now in
+    let other = c.variable_word-other.result.now in
+    let drawn = (λ i. pair_with (c.variable_word-word.ensures i) (c.variable_word-other.ensures i)) ∙ pair-is v s a b in
     range-next (λ u. behind (pair v s a u)) (a + 1) c.loop-k.k c.loop-k.invariant
-    (wrote-as (pair-is v s a (a + 1 + c.loop-k.k)) (wrote-then c.put.ensures.wrote (wrote-then (wrote-as c.variable_word-word.ensures c.put-in-loop-k.ensures.wrote)
-    (wrote-then c.put-in-loop-k-2.ensures.wrote (wrote-then (wrote-as c.variable_word.ensures c.put-in-loop-k-3.ensures.wrote) c.put-in-loop-k-4.ensures.wrote)))))
+    (elim c.if-stencil.branch [
+      | then-stencil w ↦
+          let stands = (c.draw_pair.ensures w.if-stencil.true).1 other ∙ ap (λ z. z ++ pair_with word other) (c.new-stencil.ensures.empty other) in
+          subst (λ z. Wrote (behind (pair v s a b)) c.loop-k.sheet z) (sym w.sheet-is) (wrote-as (stands ∙ drawn) w.put.ensures)
+      | else-stencil w ↦
+          subst (λ z. Wrote (behind (pair v s a b)) c.loop-k.sheet z) (sym w.sheet-is) (wrote-as drawn w.draw_pair-else-stencil.ensures)
+    ])
 
 pub returns : goal.returns
 returns c =

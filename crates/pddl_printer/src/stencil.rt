@@ -1,0 +1,72 @@
+ghost use Rattle.std.specs.Prelude.{◌≡◌, true, [], List, ℕ};
+ghost use Rattle.pddl_printer.specs.Drawings.{shown, Shows};
+ghost use Rattle.sheets.specs.Sheets.{Wrote};
+
+use crate::pen::Pen;
+use arrayvec::ArrayVec;
+use sheets::Sheet;
+
+/// The most bytes between two places.
+const MOST_BYTES: usize = 128;
+
+/// The most places.
+const MOST_PLACES: usize = 4;
+
+/// An instance in bytes, with places for the object's word, so that it is drawn once for all objects.
+#[derive(Drop)]
+pub(crate) struct Stencil {
+    /// What stands before each place.
+    before: ArrayVec<ArrayVec<u8, MOST_BYTES>, MOST_PLACES>,
+    /// What stands behind the last place.
+    behind: ArrayVec<u8, MOST_BYTES>,
+    /// Whether all that was drawn stands here.
+    pub(crate) fits: bool,
+}
+
+impl Stencil {
+    /// One on which nothing was drawn.
+    pub(crate) fn new() -> Stencil
+        ensures fits { result.fits ≡ true }
+        ensures empty { (word : List ℕ) → shown result word ≡ [] }
+    {
+        Stencil {
+            before: ArrayVec::new(),
+            behind: ArrayVec::new(),
+            fits: true,
+        }
+    }
+
+    /// Puts what is drawn, with the word in each place.
+    pub(crate) fn put(&self, word: &[u8], sheet: &mut Sheet<'_>)
+        ensures { Wrote (shown self.now word.now) sheet.old sheet.new }
+    {
+        for piece in self.before.as_slice() {
+            sheet.put(piece.as_slice());
+            sheet.put(word);
+        }
+        sheet.put(self.behind.as_slice());
+    }
+}
+
+impl Pen for Stencil {
+    ghost use Rattle.pddl_printer.specs.StencilLaws.{shows-nothing, shows-both};
+
+    ghost draws = { λ text word old new. Shows text old new };
+
+    ghost nothing = { λ word s. shows-nothing s };
+
+    ghost composes = { λ f g word s t u v w. shows-both f g s t u v w };
+
+    fn draw(&mut self, bytes: &[u8]) {
+        if self.behind.try_extend_from_slice(bytes).is_err() {
+            self.fits = false;
+        }
+    }
+
+    fn place(&mut self, word: &[u8]) {
+        let piece = std::mem::replace(&mut self.behind, ArrayVec::new());
+        if self.before.try_push(piece).is_err() {
+            self.fits = false;
+        }
+    }
+}
