@@ -204,9 +204,11 @@ module _ (c : Compiled) (b : ℕ) (names : List Word) (own : (n : Name) → Has 
       let each : ActionSchema → List Word = λ (s : ActionSchema). own_word c s.name ∷ param_words source s.params ++ formula_words source s.pre ++ effect_words source s.eff in
       let of_methods = known_methods 0 c.methods has_methods (each-most (λ (plan : MethodPlan). length plan.schema.children) c.methods) in
       let of_checks = each-map (Has names) (check_word source) (checked_methods c) (λ plan h. each-has (λ plan. Has names (check_word source plan)) (checked_methods c) plan has_checks h) in
-      let of_source = each-joined (Has names) each c.hddl.actions (λ s h. (own s.name,
-      each-join (Has names) (param_words source s.params ++ formula_words source s.pre) (effect_words source s.eff)
-      (each-join (Has names) (param_words source s.params) (formula_words source s.pre) (own-params source names own s.params) (own-formula source names own s.pre)) (own-effect source names own s.eff))) in
+      let of_source = each-joined (Has names) each c.hddl.actions (λ s h. (
+        own s.name,
+        each-join (Has names) (param_words source s.params ++ formula_words source s.pre) (effect_words source s.eff)
+            (each-join (Has names) (param_words source s.params) (formula_words source s.pre) (own-params source names own s.params) (own-formula source names own s.pre)) (own-effect source names own s.eff),
+      )) in
       each-join (Has names) (methods ++ checks) (joined (map each c.hddl.actions)) (each-join (Has names) methods checks of_methods of_checks) of_source
 
   known_all : Known (encoded_words c b)

@@ -1,5 +1,5 @@
 -- The printed words of the source's names, put into a table one after another, have the numbers of the names.
-use Rattle.std.proofs.Common.{ℕ, zero, suc, ◌≡◌, ◌+◌, ◌<◌, ◌^◌, ◌||◌, Bool, true, false, not, cond, nat_lt, List, [], ◌∷◌, ◌++◌, map, take, length, codes, Some, None, Contains, ap, sym, subst, refl, ◌∙◌, arith}
+use Rattle.std.proofs.Common.{ℕ, zero, suc, ◌≡◌, ◌+◌, ◌<◌, ◌≤◌, ◌||◌, unwrap_or, Bool, true, false, not, cond, nat_lt, List, [], ◌∷◌, ◌++◌, map, take, length, codes, Some, None, Contains, ap, sym, subst, refl, ◌∙◌, arith}
 use Rattle.std.specs.List.{list_any, position_or_len}
 use Rattle.std.specs.Str.{bytes_eq}
 use Rattle.std.proofs.lemmas.Bool.{lt-ltb, ltb-true, ltb-false}
@@ -13,7 +13,7 @@ use Rattle.text_forms.specs.Words.{Word, word_at}
 use Rattle.plan_texts.specs.Types.{Has}
 use Rattle.plan_texts.proofs.Basics.{bytes_eq-refl, bytes_eq-other}
 use Rattle.plan_texts.proofs.Members.{has-at, has-to_map}
-use Rattle.slot_encoding.specs.SourceParts.{source_word}
+use Rattle.slot_encoding.specs.SourceParts.{name, renamed, source_word}
 use Rattle.slot_encoder.specs.Frames.{HasSourceWords}
 use Rattle.slot_encoder.specs.Vocabulary.{Gains}
 
@@ -68,3 +68,10 @@ source-kept source g h = record {
   words = λ n. g.kept (source_word source n) (h.words n);
   short = g.short h.short;
 }
+
+-- so a name of the source keeps its number, and any other is that of the empty word
+pub renamed-source : (source names : List Word) → HasSourceWords source names → (n : Name) → n.number < length source → n ≡ renamed names source n
+renamed-source source names h n l = λ i. record { number = unwrap_or (sym (h.numbers n l) i) (length names) }
+
+pub renamed-other : (source names : List Word) (n : Name) → length source ≤ n.number → name names (codes "htn_u_") ≡ renamed names source n
+renamed-other source names n l = ap (λ w. name names (escaped w)) (sym (get_or_past source n.number [] l))

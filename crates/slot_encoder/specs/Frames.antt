@@ -46,8 +46,9 @@ pub record HasSourceWords (source names : List Word) : Type 0 where
   pub words : (n : Name) → Has names (source_word source n)
   pub short : length names < 2 ^ 32
 
--- what is worked out once, at these words and so many slots
+-- what is worked out once, at these words, which begin with the source's, and so many slots
 pub record IsBasis (c : Compiled) (names : List (List ℕ)) (b : ℕ) (v : Basis) : Type 0 where
+  pub source : HasSourceWords c.hddl.names names
   pub numbers : AreNumbers c v.numbers
   pub order : orders.numbers v.order ≡ spec.order_numbers c names b
   pub room : v.order.first_slot + b < 2 ^ 32

@@ -73,11 +73,7 @@ fn put_check(
 }
 
 /// Puts the words of the guards' predicates into the table.
-pub(crate) fn put_guards(
-    alloc: Global,
-    c: &Compiled,
-    names: &mut NameTable,
-) -> Result<(), Memory>
+pub(crate) fn put_guards(alloc: Global, c: &Compiled, names: &mut NameTable) -> Result<(), Memory>
     ensures { OnOk result
         (Gains (map (guard_word c.now [] 0) (guard_types c.now)) names.old names.new) }
 {
@@ -101,11 +97,7 @@ fn put_guard_words(
 }
 
 /// Puts the variables of parameters and of new slots into the table, as many as any schema needs.
-pub(crate) fn put_numbers(
-    alloc: Global,
-    c: &Compiled,
-    names: &mut NameTable,
-) -> Result<(), Memory>
+pub(crate) fn put_numbers(alloc: Global, c: &Compiled, names: &mut NameTable) -> Result<(), Memory>
     ensures { OnOk result (Gains (spec.numbered_words c.now) names.old names.new) }
 {
     let params = number(most_params(c))?;
