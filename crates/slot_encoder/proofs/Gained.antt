@@ -1,10 +1,11 @@
 -- Words put into a table one after another.
-use Rattle.std.proofs.Common.{ℕ, ◌≡◌, ◌+◌, ◌<◌, ◌≤◌, ◌^◌, ◌||◌, inl, inr, Bool, true, false, cond, List, [], ◌∷◌, ◌++◌, map, take, length, get_or, Result, OnOk, refl, ap, sym, subst, ◌∙◌, append_assoc, true≢false}
-use Rattle.std.specs.List.{list_any}
+use Rattle.std.proofs.Common.{ℕ, suc, ◌≡◌, ◌+◌, ◌<◌, ◌≤◌, ◌^◌, ◌||◌, inl, inr, Bool, true, false, not, cond, nat_lt, List, [], ◌∷◌, ◌++◌, map, take, length, length-append, get_or, position, Some, None, Result, OnOk, refl, ap, sym, subst, ◌∙◌, append_assoc, true≢false, arith}
+use Rattle.std.specs.List.{list_any, position_or_len}
 use Rattle.std.specs.Str.{bytes_eq}
+use Rattle.std.proofs.lemmas.Bool.{lt-ltb, ltb-true}
 use Rattle.std.proofs.lemmas.List.{append-nil, take_more, take_all, map_more}
 use Rattle.std.proofs.lemmas.Result.{on_ok_weaker}
-use Rattle.htn_base.specs.Table.{with_word}
+use Rattle.htn_base.specs.Table.{with_word, number_of}
 use Rattle.text_forms.specs.Words.{Word}
 use Rattle.plan_texts.specs.Types.{Has, EachIs}
 use Rattle.plan_texts.proofs.Basics.{bytes_eq-true}
@@ -32,31 +33,50 @@ has-last : (ws : List Word) (w : Word) → Has (ws ++ w ∷ []) w
 has-last [] w = inl refl
 has-last (x ∷ ws) w = inr (has-last ws w)
 
+-- what is found in a list is found at the same place where more stands behind it
+module _ {X : Type 0} (p : X → Bool) where
+  place-more : (xs more : List X) → position_or_len p xs < length xs → position_or_len p (xs ++ more) ≡ position_or_len p xs
+  place-more [] more l = absurd (omega arith)
+  place-more (x ∷ xs) more l = by (p x) l (place-more xs more)
+    where
+      by : (t : Bool) → cond (not t) (1 + position_or_len p xs) 0 < suc (length xs) → (position_or_len p xs < length xs → position_or_len p (xs ++ more) ≡ position_or_len p xs)
+          → cond (not t) (1 + position_or_len p (xs ++ more)) 0 ≡ cond (not t) (1 + position_or_len p xs) 0
+      by true l r = refl
+      by false l r = ap (λ k. 1 + k) (r (omega arith))
+
+  position-more : (xs more : List X) (k : ℕ) → position p xs ≡ Some k → position p (xs ++ more) ≡ Some k
+  position-more xs more k = by (nat_lt (position_or_len p xs) (length xs)) refl
+    where
+      by : (t : Bool) → nat_lt (position_or_len p xs) (length xs) ≡ t → cond t (Some (position_or_len p xs)) None ≡ Some k → position p (xs ++ more) ≡ Some k
+      by true e f =
+          let l = ltb-true (position_or_len p xs) (length xs) e in
+          let n = length-append xs more in
+          ap (λ j. cond (nat_lt j (length (xs ++ more))) (Some j) None) (place-more xs more l)
+          ∙ ap (λ t. cond t (Some (position_or_len p xs)) None) (lt-ltb (position_or_len p xs) (length (xs ++ more)) (omega (arith, l, n))) ∙ f
+      by false e f = absurd cc
+
 -- one word
 pub gains-word : (w : Word) (old new : List Word) → new ≡ with_word old w → length new < 2 ^ 32 → Gains (w ∷ []) old new
 gains-word w old new e l = by (list_any (bytes_eq w) old) refl e
   where
     by : (t : Bool) → list_any (bytes_eq w) old ≡ t → new ≡ cond t old (old ++ w ∷ []) → Gains (w ∷ []) old new
-    by true f e = record { gained = (subst (λ ws. Has ws w) (sym e) (any-has w old f), tt); kept = λ u h. subst (λ ws. Has ws u) (sym e) h; short = λ _. l }
-    by false f e = record { gained = (subst (λ ws. Has ws w) (sym e) (has-last old w), tt); kept = λ u h. subst (λ ws. Has ws u) (sym e) (has-before old w u h); short = λ _. l }
+    by true f e = record { gained = (subst (λ ws. Has ws w) (sym e) (any-has w old f), tt); kept = λ u h. subst (λ ws. Has ws u) (sym e) h; numbers = λ u k h. subst (λ ws. number_of ws u ≡ Some k) (sym e) h; short = λ _. l }
+    by false f e = record { gained = (subst (λ ws. Has ws w) (sym e) (has-last old w), tt); kept = λ u h. subst (λ ws. Has ws u) (sym e) (has-before old w u h); numbers = λ u k h. subst (λ ws. number_of ws u ≡ Some k) (sym e) (position-more (bytes_eq u) old (w ∷ []) k h); short = λ _. l }
 
 pub gains-none : (old : List Word) → Gains [] old old
-gains-none old = record { gained = tt; kept = λ w h. h; short = λ l. l }
+gains-none old = record { gained = tt; kept = λ w h. h; numbers = λ w k h. h; short = λ l. l }
 
 pub gains-join : {a b old mid new : List Word} → Gains a old mid → Gains b mid new → Gains (a ++ b) old new
 gains-join {a = a} {b = b} {old = old} {mid = mid} {new = new} g h = record {
   gained = each-join (Has new) a b (each-weaker (Has mid) (Has new) a (λ w k. h.kept w k) g.gained) h.gained;
   kept = λ w k. h.kept w (g.kept w k);
+  numbers = λ w k e. h.numbers w k (g.numbers w k e);
   short = λ l. h.short (g.short l);
 }
 
 -- of the same words
 pub gains-of : {a b old new : List Word} → a ≡ b → Gains a old new → Gains b old new
 gains-of {old = old} {new = new} e g = subst (λ ws. Gains ws old new) e g
-
--- of words that a table has with these
-pub gains-other : {a b old new : List Word} → (EachIs (Has new) a → EachIs (Has new) b) → Gains a old new → Gains b old new
-gains-other f g = record { gained = f g.gained; kept = g.kept; short = g.short }
 
 -- the same where a call succeeds
 module _ {T E : Type 0} (r : Result T E) where
@@ -65,9 +85,6 @@ module _ {T E : Type 0} (r : Result T E) where
 
   pub ok-join : (a b old mid new : List Word) → Gains a old mid → OnOk r (Gains b mid new) → OnOk r (Gains (a ++ b) old new)
   ok-join a b old mid new g h = on_ok_weaker {P = Gains b mid new} {Q = Gains (a ++ b) old new} r (λ k. gains-join g k) h
-
-  pub ok-other : (a b old new : List Word) → (EachIs (Has new) a → EachIs (Has new) b) → OnOk r (Gains a old new) → OnOk r (Gains b old new)
-  ok-other a b old new f h = on_ok_weaker {P = Gains a old new} {Q = Gains b old new} r (λ g. gains-other f g) h
 
 joined-push : {X : Type 0} (f : X → List Word) (xs : List X) (x : X) → joined (map f (xs ++ x ∷ [])) ≡ joined (map f xs) ++ f x
 joined-push f [] x = append-nil (f x)

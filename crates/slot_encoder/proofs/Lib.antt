@@ -11,5 +11,7 @@ pub mod SingleAtoms
 pub mod PredicateParts
 pub mod FoldedWords
 pub mod Gained
-pub mod WordEquations
+pub mod SourceWords
+pub mod OwnWords
+pub mod Greatest
 pub mod AllWords

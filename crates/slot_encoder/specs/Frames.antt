@@ -1,13 +1,17 @@
 -- What all parts of the printed problem are made from.
 -- Source: this project's encoding, after Alford et al., "Bound to Plan", ICAPS 2016.
-use Rattle.std.specs.Prelude.{ℕ, suc, ◌+◌, ◌-◌, ◌<◌, ◌^◌, ◌≡◌, List, map, length}
+use Rattle.std.specs.Prelude.{ℕ, suc, ◌+◌, ◌-◌, ◌<◌, ◌^◌, ◌≡◌, List, map, length, Some}
+use Rattle.htn_base.specs.Table.{number_of}
+use Rattle.htn_base.specs.declared.name.Name.{Name}
+use Rattle.text_forms.specs.Words.{Word}
+use Rattle.plan_texts.specs.Types.{Has}
 use Rattle.plan_model.specs.declared.values.Compiled.{Compiled}
 use Rattle.plan_model.specs.declared.schemas.MethodPlan.{MethodPlan}
 use Rattle.slot_encoding.specs.EncodedNames as spec
 use Rattle.slot_encoding.specs.EncodedActions.{slot_vars}
 use Rattle.order_encoder.specs.Orders as orders
 use Rattle.plan_model.specs.declared.options.Style.{Style}
-use Rattle.slot_encoding.specs.SourceParts.{renamed}
+use Rattle.slot_encoding.specs.SourceParts.{renamed, source_word}
 use Rattle.slot_encoding.specs.EncodedValue.{IsInitial}
 use Rattle.task_networks.specs.Spelling.{numbers}
 use Rattle.slot_encoder.specs.Pieces.{checked, checked_from, checks_before, encoded_goal}
@@ -36,8 +40,15 @@ pub record AreChecks (plans : List MethodPlan) (v : Checks) : Type 0 where
   pub methods : v.methods ≡ checked_from 0 plans
   pub before : v.before ≡ map (checks_before plans) (numbers 0 (length plans))
 
--- what is worked out once, at these words and so many slots
+-- the printed words begin with those of the source's names: each has its name's number, and those of other names are there too
+pub record HasSourceWords (source names : List Word) : Type 0 where
+  pub numbers : (n : Name) → n.number < length source → number_of names (source_word source n) ≡ Some n.number
+  pub words : (n : Name) → Has names (source_word source n)
+  pub short : length names < 2 ^ 32
+
+-- what is worked out once, at these words, which begin with the source's, and so many slots
 pub record IsBasis (c : Compiled) (names : List (List ℕ)) (b : ℕ) (v : Basis) : Type 0 where
+  pub source : HasSourceWords c.hddl.names names
   pub numbers : AreNumbers c v.numbers
   pub order : orders.numbers v.order ≡ spec.order_numbers c names b
   pub room : v.order.first_slot + b < 2 ^ 32

@@ -1,7 +1,7 @@
 ghost use Rattle.std.specs.Prelude.{◌≡◌, ◌∷◌, [], ◌++◌, length, IfOk, OnOk};
 ghost use Rattle.slot_encoding.specs.EncodedNames as names;
 ghost use Rattle.order_encoder.specs.Orders as orders;
-ghost use Rattle.slot_encoder.specs.Frames.{IsBasis, AreChecks};
+ghost use Rattle.slot_encoder.specs.Frames.{HasSourceWords, IsBasis, AreChecks};
 ghost use Rattle.slot_encoder.specs.Pieces.{if_checked};
 
 use crate::guards::guard_types;
@@ -35,6 +35,7 @@ pub(crate) fn basis_of(
     printed: &NameTable,
     slots: u32,
 ) -> Result<Basis, Memory>
+    requires { HasSourceWords c.now.hddl.names printed.now }
     ensures { IfOk result (IsBasis c.now printed.now slots) }
 {
     let checks = checks_of(alloc, c.methods.as_slice())?;

@@ -48,6 +48,7 @@ pub(crate) fn push_condition(
     condition: &Formula,
     into: &mut List<Formula>,
 ) -> Result<(), Memory>
+    requires { IsFrame frame.now }
     ensures { OnOk result (into.new ≡ into.old ++ made.condition frame.now front condition.now) }
 {
     if is_empty(condition) {
@@ -65,6 +66,7 @@ pub(crate) fn push_change(
     effect: &Effect,
     into: &mut List<Effect>,
 ) -> Result<(), Memory>
+    requires { IsFrame frame.now }
     ensures { OnOk result (into.new ≡ into.old ++ made.change frame.now front effect.now) }
 {
     if is_empty_effect(effect) {

@@ -1,4 +1,5 @@
 ghost use Rattle.std.specs.Prelude.{◌≡◌, map, IfOk};
+ghost use Rattle.slot_encoder.specs.Frames.{IsFrame};
 ghost use Rattle.slot_encoder.specs.Made as made;
 
 use crate::formulas::source_formula;
@@ -16,6 +17,7 @@ pub(crate) fn source_effect(
     front: u32,
     effect: &Effect,
 ) -> Result<Effect, Memory>
+    requires { IsFrame frame.now }
     ensures { IfOk result (λ e. e ≡ made.effect frame.now front effect.now) }
 {
     match effect {
@@ -40,6 +42,7 @@ fn boxed(
     front: u32,
     effect: &Boxed<Effect>,
 ) -> Result<Boxed<Effect>, Memory>
+    requires { IsFrame frame.now }
     ensures { IfOk result (λ e. e ≡ made.effect frame.now front effect.now) }
 {
     let part = source_effect(alloc, frame, front, effect.get())?;
@@ -53,6 +56,7 @@ fn listed(
     front: u32,
     effects: &List<Effect>,
 ) -> Result<List<Effect>, Memory>
+    requires { IsFrame frame.now }
     ensures { IfOk result (λ es. es ≡ map (made.effect frame.now front) effects.now) }
 {
     let parts = effects.as_slice();

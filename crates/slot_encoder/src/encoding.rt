@@ -175,8 +175,8 @@ fn parts_of(alloc: Global, frame: &Frame<'_>) -> Result<Encoded, Memory>
     ensures { IfOk result (made.AreEncoded frame.now) }
 {
     let hddl = &frame.compiled.hddl;
-    let domain = renamed(alloc, frame, hddl.domain)?;
-    let problem = renamed(alloc, frame, hddl.problem)?;
+    let domain = renamed(frame, hddl.domain);
+    let problem = renamed(frame, hddl.problem);
     let declarations = declarations_of(alloc, frame)?;
     match behaviour_of(alloc, frame) {
         Ok(behaviour) => Ok(Encoded {

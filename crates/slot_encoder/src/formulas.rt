@@ -1,4 +1,5 @@
 ghost use Rattle.std.specs.Prelude.{◌≡◌, map, IfOk};
+ghost use Rattle.slot_encoder.specs.Frames.{IsFrame};
 ghost use Rattle.slot_encoder.specs.Made as made;
 
 use crate::frame::Frame;
@@ -15,6 +16,7 @@ pub(crate) fn source_formula(
     front: u32,
     formula: &Formula,
 ) -> Result<Formula, Memory>
+    requires { IsFrame frame.now }
     ensures { IfOk result (λ f. f ≡ made.formula frame.now front formula.now) }
 {
     match formula {
@@ -48,6 +50,7 @@ fn boxed(
     front: u32,
     formula: &Boxed<Formula>,
 ) -> Result<Boxed<Formula>, Memory>
+    requires { IsFrame frame.now }
     ensures { IfOk result (λ f. f ≡ made.formula frame.now front formula.now) }
 {
     let part = source_formula(alloc, frame, front, formula.get())?;
@@ -61,6 +64,7 @@ fn listed(
     front: u32,
     formulas: &List<Formula>,
 ) -> Result<List<Formula>, Memory>
+    requires { IsFrame frame.now }
     ensures { IfOk result (λ fs. fs ≡ map (made.formula frame.now front) formulas.now) }
 {
     let parts = formulas.as_slice();

@@ -23,7 +23,6 @@ mod methods;
 mod numbers;
 mod objects;
 mod predicates;
-mod quantified;
 mod schema_words;
 mod single;
 mod split_action;

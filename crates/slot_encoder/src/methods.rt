@@ -64,13 +64,14 @@ fn method_params(
     plan: &MethodPlan,
     variables: &Variables,
 ) -> Result<List<Param>, Memory>
-    requires { AreVariables plan.now variables.now }
+    requires frame { IsFrame frame.now }
+    requires variables { AreVariables plan.now variables.now }
     ensures { IfOk result (λ ps. ps ≡ made.method_params frame.now plan.now) }
 {
     let mut into = List::new(alloc);
     into.push(slot_param(named(frame, b"htn_h")))?;
     push_new_slots(alloc, frame, variables.spare, &mut into)?;
-    push_params(alloc, frame, plan.schema.params.as_slice(), &mut into)?;
+    push_params(frame, plan.schema.params.as_slice(), &mut into)?;
     Ok(into)
 }
 
@@ -232,6 +233,7 @@ fn push_tested(
     plan: &MethodPlan,
     into: &mut List<Formula>,
 ) -> Result<(), Memory>
+    requires { IsFrame frame.now }
     ensures { OnOk result (into.new ≡ into.old ++ made.tested frame.now front plan.now) }
 {
     if plan.tested {

@@ -1,5 +1,6 @@
 ghost use Rattle.std.specs.Prelude.{◌≡◌, ◌++◌, map, IfOk, OnOk};
 ghost use Rattle.task_networks.specs.Spelling.{numbers};
+ghost use Rattle.slot_encoder.specs.Frames.{IsFrame};
 ghost use Rattle.slot_encoder.specs.Made as made;
 
 use crate::frame::Frame;
@@ -11,30 +12,26 @@ use std::alloc::Global;
 
 /// The source objects, and then the slots.
 pub(crate) fn encoded_objects(alloc: Global, frame: &Frame<'_>) -> Result<List<Object>, Memory>
+    requires { IsFrame frame.now }
     ensures { IfOk result (λ os. os ≡ made.objects frame.now) }
 {
     let mut into = List::new(alloc);
-    push_objects(
-        alloc,
-        frame,
-        frame.compiled.hddl.objects.as_slice(),
-        &mut into,
-    )?;
+    push_objects(frame, frame.compiled.hddl.objects.as_slice(), &mut into)?;
     push_slots(alloc, frame, frame.slots, &mut into)?;
     Ok(into)
 }
 
 fn push_objects(
-    alloc: Global,
     frame: &Frame<'_>,
     objects: &[Object],
     into: &mut List<Object>,
 ) -> Result<(), Memory>
+    requires { IsFrame frame.now }
     ensures { OnOk result (into.new ≡ into.old ++ map (made.object frame.now) objects.now) }
 {
     for object in objects {
         into.push(Object {
-            name: renamed(alloc, frame, object.name)?,
+            name: renamed(frame, object.name),
             ty: retyped(object.ty)?,
             constant: true,
         })?;

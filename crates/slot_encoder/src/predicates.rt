@@ -37,6 +37,7 @@ fn push_source(
     predicates: &[Predicate],
     into: &mut List<Predicate>,
 ) -> Result<(), Memory>
+    requires { IsFrame frame.now }
     ensures { OnOk result (into.new ≡ into.old ++ map (made.predicate frame.now) predicates.now) }
 {
     for predicate in predicates {
@@ -46,10 +47,11 @@ fn push_source(
 }
 
 fn source(alloc: Global, frame: &Frame<'_>, predicate: &Predicate) -> Result<Predicate, Memory>
+    requires { IsFrame frame.now }
     ensures { IfOk result (λ p. p ≡ made.predicate frame.now predicate.now) }
 {
     Ok(Predicate {
-        name: renamed(alloc, frame, predicate.name)?,
+        name: renamed(frame, predicate.name),
         params: source_params(alloc, frame, predicate.params.as_slice())?,
     })
 }

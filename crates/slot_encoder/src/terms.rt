@@ -1,5 +1,6 @@
 ghost use Rattle.std.specs.Prelude.{◌≡◌, ◌++◌, map, IfOk, OnOk};
 ghost use Rattle.slot_encoding.specs.SourceParts as spec;
+ghost use Rattle.slot_encoder.specs.Frames.{IsFrame};
 ghost use Rattle.slot_encoder.specs.Made as made;
 
 use crate::frame::Frame;
@@ -19,11 +20,12 @@ pub(crate) fn retyped(ty: u32) -> Result<u32, Memory>
     }
 }
 
-pub(crate) fn source_param(alloc: Global, frame: &Frame<'_>, param: &Param) -> Result<Param, Memory>
+fn source_param(frame: &Frame<'_>, param: &Param) -> Result<Param, Memory>
+    requires { IsFrame frame.now }
     ensures { IfOk result (λ p. p ≡ made.param frame.now param.now) }
 {
     Ok(Param {
-        name: renamed(alloc, frame, param.name)?,
+        name: renamed(frame, param.name),
         ty: retyped(param.ty)?,
     })
 }
@@ -33,24 +35,25 @@ pub(crate) fn source_params(
     frame: &Frame<'_>,
     params: &[Param],
 ) -> Result<List<Param>, Memory>
+    requires { IsFrame frame.now }
     ensures { IfOk result (λ ps. ps ≡ map (made.param frame.now) params.now) }
 {
     let mut into = List::new(alloc);
-    push_params(alloc, frame, params, &mut into)?;
+    push_params(frame, params, &mut into)?;
     Ok(into)
 }
 
 /// Puts these variables of the source at the end.
 pub(crate) fn push_params(
-    alloc: Global,
     frame: &Frame<'_>,
     params: &[Param],
     into: &mut List<Param>,
 ) -> Result<(), Memory>
+    requires { IsFrame frame.now }
     ensures { OnOk result (into.new ≡ into.old ++ map (made.param frame.now) params.now) }
 {
     for param in params {
-        into.put(source_param(alloc, frame, param))?;
+        into.put(source_param(frame, param))?;
     }
     Ok(())
 }

@@ -1,6 +1,7 @@
 ghost use Rattle.std.specs.Prelude.{◌≡◌, ◌++◌, map, IfOk, OnOk};
 ghost use Rattle.slot_encoding.specs.SourceParts as parts;
 ghost use Rattle.slot_encoder.specs.Pieces.{printed_parent, printed_parents};
+ghost use Rattle.slot_encoder.specs.Frames.{IsFrame};
 ghost use Rattle.slot_encoder.specs.Made as made;
 
 use crate::frame::Frame;
@@ -12,6 +13,7 @@ use std::alloc::Global;
 
 /// The types of the printed problem: `object`, slots, what was `object`, and the source's types.
 pub(crate) fn encoded_types(alloc: Global, frame: &Frame<'_>) -> Result<Types, Memory>
+    requires { IsFrame frame.now }
     ensures { IfOk result (λ types. types ≡ made.types frame.now) }
 {
     let types = &frame.compiled.hddl.types;
@@ -23,6 +25,7 @@ pub(crate) fn encoded_types(alloc: Global, frame: &Frame<'_>) -> Result<Types, M
 }
 
 fn type_names(alloc: Global, frame: &Frame<'_>, names: &[Name]) -> Result<List<Name>, Memory>
+    requires { IsFrame frame.now }
     ensures { IfOk result (λ ns. ns ≡ made.type_names frame.now names.now) }
 {
     let mut into = List::new(alloc);
@@ -30,21 +33,17 @@ fn type_names(alloc: Global, frame: &Frame<'_>, names: &[Name]) -> Result<List<N
     into.push(named(frame, b"htn_slot"))?;
     into.push(named(frame, b"htn_object"))?;
     if !names.is_empty() {
-        push_names(alloc, frame, &names[1..], &mut into)?;
+        push_names(frame, &names[1..], &mut into)?;
     }
     Ok(into)
 }
 
-fn push_names(
-    alloc: Global,
-    frame: &Frame<'_>,
-    names: &[Name],
-    into: &mut List<Name>,
-) -> Result<(), Memory>
+fn push_names(frame: &Frame<'_>, names: &[Name], into: &mut List<Name>) -> Result<(), Memory>
+    requires { IsFrame frame.now }
     ensures { OnOk result (into.new ≡ into.old ++ map (made.renamed frame.now) names.now) }
 {
     for name in names {
-        into.put(renamed(alloc, frame, *name))?;
+        into.push(renamed(frame, *name))?;
     }
     Ok(())
 }

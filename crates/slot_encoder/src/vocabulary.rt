@@ -1,40 +1,56 @@
-ghost use Rattle.std.specs.Prelude.{◌<◌, ◌^◌, [], ◌∷◌, ◌++◌, map, decimal, length, IfOk, OnOk};
+ghost use Rattle.std.specs.Prelude.{◌≡◌, [], ◌∷◌, ◌++◌, map, IfOk, OnOk};
+ghost use Rattle.htn_base.specs.Table.{with_word};
 ghost use Rattle.htn_base.specs.Words.{folded, IsFolded};
 ghost use Rattle.htn_base.specs.Escapes as escapes;
 ghost use Rattle.task_networks.specs.Spelling.{numbers};
 ghost use Rattle.slot_encoding.specs.SourceParts as parts;
 ghost use Rattle.slot_encoding.specs.EncodedWords as spec;
-ghost use Rattle.slot_encoder.specs.Vocabulary.{Gains, words_of_objects, words_of_variables};
+ghost use Rattle.slot_encoder.specs.Frames.{HasSourceWords};
+ghost use Rattle.slot_encoder.specs.Vocabulary.{Gains, generated_words, single_words};
+ghost use Rattle.slot_encoder.specs.Vocabulary.{words_of_types, words_of_variables, words_of_slots};
 
-use crate::quantified::put_formula;
-use crate::schema_words::{put_actions, put_methods, put_predicates};
+use crate::schema_words::{put_actions, put_guards, put_methods, put_numbers, put_tasks};
 use crate::words::{numbered_word, own_word, prefixed_word};
-use htn_base::{Memory, Name, NameTable, slot_name};
-use plan_model::{Compiled, Object, Param};
+use htn_base::{Memory, Name, NameTable, number, slot_name};
+use plan_model::Compiled;
 use std::alloc::Global;
 
-/// The words of the printed problem with so many slots, in a table of their own.
+/// The words of the printed problem with so many slots, in a table of their own: first those of the source's names, each with
+/// the number that the name has, and behind them the generated ones.
 pub(crate) fn vocabulary(alloc: Global, c: &Compiled, slots: u32) -> Result<NameTable, Memory>
     ensures words { IfOk result (spec.HasEncodedWords c.now slots) }
-    ensures short { IfOk result (λ names. length names < 2 ^ 32) }
+    ensures source { IfOk result (HasSourceWords c.now.hddl.names) }
 {
-    let mut names = NameTable::new(alloc);
-    put_words(alloc, c, slots, &mut names)?;
+    let mut names = source_words(alloc, &c.hddl.names)?;
+    put_generated(alloc, c, slots, &mut names)?;
     Ok(names)
 }
 
-fn put_words(alloc: Global, c: &Compiled, slots: u32, names: &mut NameTable) -> Result<(), Memory>
-    ensures { OnOk result (Gains (spec.encoded_words c.now slots) names.old names.new) }
+/// The printed words of all names of the source, in their order, and that of any other name.
+fn source_words(alloc: Global, source: &NameTable) -> Result<NameTable, Memory>
+    ensures { IfOk result (HasSourceWords source.now) }
 {
-    put_own(alloc, &c.hddl.names, c.hddl.domain, names)?;
-    put_own(alloc, &c.hddl.names, c.hddl.problem, names)?;
-    put_types(alloc, c, names)?;
-    put_objects(alloc, c, slots, names)?;
-    put_variables(names)?;
-    put_predicates(alloc, c, names)?;
-    put_methods(alloc, c, c.methods.as_slice(), names)?;
-    put_actions(alloc, c, c.hddl.actions.as_slice(), names)?;
-    put_formula(alloc, &c.hddl.names, &c.hddl.goal, names)
+    let count = number(source.len())?;
+    let mut names = NameTable::new(alloc);
+    for k in 0..count {
+        put_own(alloc, source, Name { number: k }, &mut names)?;
+    }
+    put(b"htn_u_", &mut names)?;
+    Ok(names)
+}
+
+/// Puts the printed word of a source name into the table.
+fn put_own(
+    alloc: Global,
+    source: &NameTable,
+    name: Name,
+    names: &mut NameTable,
+) -> Result<(), Memory>
+    ensures { OnOk result (names.new ≡ with_word names.old (parts.source_word source.now name)) }
+{
+    let word = own_word(alloc, source, name)?;
+    names.intern(word.as_slice())?;
+    Ok(())
 }
 
 /// Puts a word into the table. A full table is answered as want of memory.
@@ -43,19 +59,6 @@ pub(crate) fn put(word: &[u8], names: &mut NameTable) -> Result<(), Memory>
 {
     names.intern(word)?;
     Ok(())
-}
-
-/// Puts the printed word of a source name into the table.
-pub(crate) fn put_own(
-    alloc: Global,
-    source: &NameTable,
-    name: Name,
-    names: &mut NameTable,
-) -> Result<(), Memory>
-    ensures { OnOk result (Gains (parts.source_word source.now name ∷ []) names.old names.new) }
-{
-    let word = own_word(alloc, source, name)?;
-    put(word.as_slice(), names)
 }
 
 /// Puts the printed word of a source name behind a generated one into the table.
@@ -91,63 +94,59 @@ pub(crate) fn put_numbered(
     Ok(())
 }
 
-pub(crate) fn put_params(
+/// Puts the generated words into the table.
+fn put_generated(
     alloc: Global,
-    source: &NameTable,
-    params: &[Param],
+    c: &Compiled,
+    slots: u32,
     names: &mut NameTable,
 ) -> Result<(), Memory>
-    ensures { OnOk result (Gains (spec.param_words source.now params.now) names.old names.new) }
+    ensures { OnOk result (Gains (generated_words c.now slots) names.old names.new) }
 {
-    for param in params {
-        put_own(alloc, source, param.name, names)?;
-    }
-    Ok(())
+    let source = &c.hddl.names;
+    put_single(names)?;
+    put_slots(alloc, slots, names)?;
+    put_tasks(alloc, source, c.hddl.tasks.as_slice(), names)?;
+    put_actions(alloc, source, c.hddl.actions.as_slice(), names)?;
+    put_methods(alloc, source, c.methods.as_slice(), names)?;
+    put_guards(alloc, c, names)?;
+    put_numbers(alloc, c, names)
 }
 
-/// Puts the words of the types into the table. The source's own begin with `object`, which is there by then.
-fn put_types(alloc: Global, c: &Compiled, names: &mut NameTable) -> Result<(), Memory>
-    ensures { OnOk result (Gains (spec.type_words c.now) names.old names.new) }
+/// Puts the words that every printed problem has into the table.
+fn put_single(names: &mut NameTable) -> Result<(), Memory>
+    ensures { OnOk result (Gains single_words names.old names.new) }
+{
+    put_types(names)?;
+    put_variables(names)?;
+    put_of_slots(names)
+}
+
+fn put_types(names: &mut NameTable) -> Result<(), Memory>
+    ensures { OnOk result (Gains words_of_types names.old names.new) }
 {
     put(b"object", names)?;
     put(b"htn_slot", names)?;
-    put(b"htn_object", names)?;
-    put_names(alloc, c, c.hddl.types.names.as_slice(), names)
+    put(b"htn_object", names)
 }
 
-fn put_names(
-    alloc: Global,
-    c: &Compiled,
-    listed: &[Name],
-    names: &mut NameTable,
-) -> Result<(), Memory>
-    ensures { OnOk result (Gains (map (spec.own_word c.now) listed.now) names.old names.new) }
+/// Puts the variables of the generated predicates and of the slots of actions into the table.
+fn put_variables(names: &mut NameTable) -> Result<(), Memory>
+    ensures { OnOk result (Gains words_of_variables names.old names.new) }
 {
-    for name in listed {
-        put_own(alloc, &c.hddl.names, *name, names)?;
-    }
-    Ok(())
+    put(b"htn_h", names)?;
+    put(b"htn_x", names)?;
+    put(b"htn_a1", names)
 }
 
-fn put_objects(alloc: Global, c: &Compiled, slots: u32, names: &mut NameTable) -> Result<(), Memory>
-    ensures { OnOk result (Gains (spec.object_words c.now slots) names.old names.new) }
+/// Puts the three predicates of slots and the top method's action into the table.
+fn put_of_slots(names: &mut NameTable) -> Result<(), Memory>
+    ensures { OnOk result (Gains words_of_slots names.old names.new) }
 {
-    put_source_objects(alloc, c, c.hddl.objects.as_slice(), names)?;
-    put_slots(alloc, slots, names)
-}
-
-fn put_source_objects(
-    alloc: Global,
-    c: &Compiled,
-    objects: &[Object],
-    names: &mut NameTable,
-) -> Result<(), Memory>
-    ensures { OnOk result (Gains (words_of_objects c.now objects.now) names.old names.new) }
-{
-    for object in objects {
-        put_own(alloc, &c.hddl.names, object.name, names)?;
-    }
-    Ok(())
+    put(b"htn_top", names)?;
+    put(b"htn_free", names)?;
+    put(b"htn_before", names)?;
+    put(b"htn_start", names)
 }
 
 fn put_slots(alloc: Global, slots: u32, names: &mut NameTable) -> Result<(), Memory>
@@ -158,13 +157,4 @@ fn put_slots(alloc: Global, slots: u32, names: &mut NameTable) -> Result<(), Mem
         put(word.as_slice(), names)?;
     }
     Ok(())
-}
-
-/// Puts the variables of the generated predicates and of the slots of actions into the table.
-fn put_variables(names: &mut NameTable) -> Result<(), Memory>
-    ensures { OnOk result (Gains words_of_variables names.old names.new) }
-{
-    put(b"htn_h", names)?;
-    put(b"htn_x", names)?;
-    put(b"htn_a1", names)
 }

@@ -1,5 +1,6 @@
 ghost use Rattle.std.specs.Prelude.{◌≡◌, ◌++◌, decimal, length, IfOk};
 ghost use Rattle.slot_encoding.specs.SourceParts as spec;
+ghost use Rattle.slot_encoder.specs.Frames.{IsFrame};
 ghost use Rattle.slot_encoder.specs.Made as made;
 
 use crate::frame::Frame;
@@ -35,12 +36,17 @@ pub(crate) fn own_word(alloc: Global, source: &NameTable, name: Name) -> Result<
     }
 }
 
-/// The name of a source name's printed word.
-pub(crate) fn renamed(alloc: Global, frame: &Frame<'_>, name: Name) -> Result<Name, Memory>
-    ensures { IfOk result (λ n. n ≡ made.renamed frame.now name) }
+/// The name of a source name's printed word. The printed words begin with those of the source, so that a name of the source
+/// keeps its number; any other stands for the empty word.
+pub(crate) fn renamed(frame: &Frame<'_>, name: Name) -> Name
+    requires { IsFrame frame.now }
+    ensures { result ≡ made.renamed frame.now name }
 {
-    let word = own_word(alloc, &frame.compiled.hddl.names, name)?;
-    Ok(named(frame, word.as_slice()))
+    if (name.number as usize) < frame.compiled.hddl.names.len() {
+        name
+    } else {
+        named(frame, b"htn_u_")
+    }
 }
 
 /// The name of a source name's printed word behind a generated one.

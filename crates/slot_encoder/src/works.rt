@@ -28,7 +28,7 @@ pub(crate) fn encoded_action(
 {
     let predicate = plus(frame.basis.numbers.first_action, a)?;
     let count = number(action.params.len())?;
-    let name = renamed(alloc, frame, action.name)?;
+    let name = renamed(frame, action.name);
     let params = work_params(alloc, frame, action.params.as_slice())?;
     let before = work_conditions(alloc, frame, predicate, count, &action.pre)?;
     let mut effects = work_effects(alloc, frame, predicate, count)?;
@@ -71,11 +71,12 @@ pub(crate) fn encoded_check(
 
 /// The slot, and then the parameters.
 fn work_params(alloc: Global, frame: &Frame<'_>, params: &[Param]) -> Result<List<Param>, Memory>
+    requires { IsFrame frame.now }
     ensures { IfOk result (λ ps. ps ≡ made.work_params frame.now params.now) }
 {
     let mut into = List::new(alloc);
     into.push(slot_param(named(frame, b"htn_h")))?;
-    push_params(alloc, frame, params, &mut into)?;
+    push_params(frame, params, &mut into)?;
     Ok(into)
 }
 

@@ -1,11 +1,11 @@
-use Rattle.std.proofs.Common.{ℕ, List, [], ◌∷◌, ap, ◌∙◌}
+use Rattle.std.proofs.Common.{ℕ, List, ap, ◌∙◌}
 use Rattle.htn_base.specs.Words.{folded}
+use Rattle.htn_base.specs.Table.{with_word}
 use Rattle.slot_encoder.proofs.FoldedWords.{own-folded}
-use Rattle.slot_encoder.proofs.Gained.{ok-of}
 use Rattle.slot_encoder.proofs.vocabulary.put_own.Goals as goal
 
 pub returns : goal.returns
 returns c =
-    ok-of c.put.result _ _ c.args.names.now c.put.new.names
-    (ap (λ (w : List ℕ). folded w ∷ []) (c.as_slice.ensures.bytes ∙ c.in_ok-word.ensures) ∙ ap (λ (w : List ℕ). w ∷ []) (own-folded c.args.source.now c.args.name))
-    c.put.ensures
+    c.in_ok-intern.ensures.words
+    ∙ ap (λ (w : List ℕ). with_word c.args.names.now (folded w)) (c.as_slice.ensures.bytes ∙ c.in_ok-word.ensures)
+    ∙ ap (with_word c.args.names.now) (own-folded c.args.source.now c.args.name)

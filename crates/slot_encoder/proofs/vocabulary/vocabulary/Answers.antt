@@ -1,9 +1,11 @@
-use Rattle.std.proofs.Common.{length, ap, arith}
-use Rattle.slot_encoder.proofs.AllWords.{has-all}
+use Rattle.slot_encoder.proofs.AllWords.{has-encoded_words}
+use Rattle.slot_encoder.proofs.SourceWords.{source-kept}
 use Rattle.slot_encoder.proofs.vocabulary.vocabulary.Goals as goal
 
 pub returns-clause-words : goal.returns-clause-words
-returns-clause-words c = has-all c.args.c.now c.put_words.new.names c.args.slots c.in_ok-put_words.ensures.gained
+returns-clause-words c =
+    let g = c.in_ok-put_generated.ensures in
+    has-encoded_words c.args.c.now c.args.slots c.put_generated.new.names (source-kept c.args.c.now.hddl.names g c.in_ok-names.ensures).words g.gained
 
-pub returns-clause-short : goal.returns-clause-short
-returns-clause-short c = c.in_ok-put_words.ensures.short (let e = ap length c.new-names.ensures.empty in omega arith)
+pub returns-clause-source : goal.returns-clause-source
+returns-clause-source c = source-kept c.args.c.now.hddl.names c.in_ok-put_generated.ensures c.in_ok-names.ensures

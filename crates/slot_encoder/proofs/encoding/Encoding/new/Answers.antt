@@ -6,6 +6,6 @@ returns-in-Ok-clause-encoding c = record {
   encoded = head-encoded c.args.c.now c.in_ok-names.names c.args.slots c.args.style.now c.in-Ok.parts c.in-Ok.ensures;
   no_actions = c.new.ensures.empty;
   words = c.in_ok-names.ensures.words;
-  short = c.in_ok-names.ensures.short;
+  short = c.in_ok-names.ensures.source.short;
   basis = c.in_ok-basis.ensures;
 }
