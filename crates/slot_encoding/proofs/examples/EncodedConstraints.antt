@@ -98,14 +98,37 @@ leaf_is_compiled = record {
   hddl = refl;
   methods = (
     plain hddl Leaf _ _ refl refl refl (record {
-      schema = refl; up = tt; line = refl; heir = refl; copiers = refl; rising = none_rise; guards = ([], refl, refl);
+      schema = refl;
+      up = tt;
+      line = refl;
+      heir = refl;
+      copiers = refl;
+      rising = none_rise;
+      guards = ([], refl, refl);
     }),
-    (with_check hddl _ _ (asks asked (is_imply _ _)) refl refl (record {
-      schema = refl; up = (omega arith, tt); line = refl; heir = refl; copiers = refl; rising = none_rise; guards = ([], refl, refl);
-    }),
-    (with_check hddl _ _ (asks asked (is_imply _ _)) refl refl (record {
-      schema = refl; up = tt; line = refl; heir = refl; copiers = refl; rising = none_rise; guards = ([], refl, refl);
-    }), tt)),
+    (
+      with_check hddl _ _ (asks asked (is_imply _ _)) refl refl (record {
+        schema = refl;
+        up = (omega arith, tt);
+        line = refl;
+        heir = refl;
+        copiers = refl;
+        rising = none_rise;
+        guards = ([], refl, refl);
+      }),
+      (
+        with_check hddl _ _ (asks asked (is_imply _ _)) refl refl (record {
+          schema = refl;
+          up = tt;
+          line = refl;
+          heir = refl;
+          copiers = refl;
+          rising = none_rise;
+          guards = ([], refl, refl);
+        }),
+        tt,
+      ),
+    ),
   );
 }
 
@@ -114,14 +137,37 @@ at_once_is_compiled = record {
   hddl = refl;
   methods = (
     plain hddl AtOnce _ _ refl refl refl (record {
-      schema = refl; up = tt; line = refl; heir = refl; copiers = refl; rising = none_rise; guards = ([], refl, refl);
+      schema = refl;
+      up = tt;
+      line = refl;
+      heir = refl;
+      copiers = refl;
+      rising = none_rise;
+      guards = ([], refl, refl);
     }),
-    (when_applied hddl _ _ (asks asked (is_imply _ _)) refl refl (record {
-      schema = refl; up = tt; line = refl; heir = refl; copiers = refl; rising = none_rise; guards = ([], refl, refl);
-    }),
-    (when_applied hddl _ _ (asks asked (is_imply _ _)) refl refl (record {
-      schema = refl; up = tt; line = refl; heir = refl; copiers = refl; rising = none_rise; guards = ([], refl, refl);
-    }), tt)),
+    (
+      when_applied hddl _ _ (asks asked (is_imply _ _)) refl refl (record {
+        schema = refl;
+        up = tt;
+        line = refl;
+        heir = refl;
+        copiers = refl;
+        rising = none_rise;
+        guards = ([], refl, refl);
+      }),
+      (
+        when_applied hddl _ _ (asks asked (is_imply _ _)) refl refl (record {
+          schema = refl;
+          up = tt;
+          line = refl;
+          heir = refl;
+          copiers = refl;
+          rising = none_rise;
+          guards = ([], refl, refl);
+        }),
+        tt,
+      ),
+    ),
   );
 }
 
@@ -183,8 +229,20 @@ m_check : action_texts in_leaf (encoded_check leaf words 2 Adl 1 m_checked) ≡
     codes "htn_c_m" ∷ codes "(?htn_h - htn_slot ?x - block ?y - block)"
     ∷ codes "and" ∷ codes "(htn_c_m ?htn_h ?x ?y)" ∷ waits ∷ codes "(imply (= ?y b2) (not (= ?y ?x)))"
     ∷ codes "and" ∷ codes "(not (htn_c_m ?htn_h ?x ?y))" ∷ codes "(htn_free ?htn_h)" ∷ clears ∷ []
-m_check = simp (is_imply, asked_behind, part-And, part-Holds, part-Equal, part-Imply, part-Forall, part-Not,
-    effect-And, effect-Delete, effect-Add, effect-Forall)
+m_check = simp (
+  is_imply,
+  asked_behind,
+  part-And,
+  part-Holds,
+  part-Equal,
+  part-Imply,
+  part-Forall,
+  part-Not,
+  effect-And,
+  effect-Delete,
+  effect-Add,
+  effect-Forall,
+)
 
 -- at once: a method's action asks the constraints and then the precondition
 m_at_once : action_texts when_at_once (encoded_method at_once words 2 Adl 1 m_tested) ≡
@@ -192,8 +250,19 @@ m_at_once : action_texts when_at_once (encoded_method at_once words 2 Adl 1 m_te
     ∷ codes "and" ∷ codes "(htn_t_t ?htn_h)" ∷ waits ∷ codes "(= ?x b1)" ∷ codes "(not (= ?x ?y))"
     ∷ codes "(imply (= ?y b2) (not (= ?y ?x)))"
     ∷ codes "and" ∷ codes "(not (htn_t_t ?htn_h))" ∷ codes "(htn_a_a ?htn_h)" ∷ []
-m_at_once = simp (is_imply, asked_behind, part-And, part-Holds, part-Equal, part-Imply, part-Forall, part-Not,
-    effect-And, effect-Delete, effect-Add)
+m_at_once = simp (
+  is_imply,
+  asked_behind,
+  part-And,
+  part-Holds,
+  part-Equal,
+  part-Imply,
+  part-Forall,
+  part-Not,
+  effect-And,
+  effect-Delete,
+  effect-Add,
+)
 
 -- without children the slot is free then
 n_at_once : action_texts when_at_once (encoded_method at_once words 2 Adl 2 n_tested) ≡
@@ -201,5 +270,17 @@ n_at_once : action_texts when_at_once (encoded_method at_once words 2 Adl 2 n_te
     ∷ codes "and" ∷ codes "(htn_t_t ?htn_h)" ∷ waits ∷ codes "(= ?x b1)" ∷ codes "(not (= ?x ?y))"
     ∷ codes "(imply (= ?y b2) (not (= ?y ?x)))"
     ∷ codes "and" ∷ codes "(not (htn_t_t ?htn_h))" ∷ codes "(htn_free ?htn_h)" ∷ clears ∷ []
-n_at_once = simp (is_imply, asked_behind, part-And, part-Holds, part-Equal, part-Imply, part-Forall, part-Not,
-    effect-And, effect-Delete, effect-Add, effect-Forall)
+n_at_once = simp (
+  is_imply,
+  asked_behind,
+  part-And,
+  part-Holds,
+  part-Equal,
+  part-Imply,
+  part-Forall,
+  part-Not,
+  effect-And,
+  effect-Delete,
+  effect-Add,
+  effect-Forall,
+)

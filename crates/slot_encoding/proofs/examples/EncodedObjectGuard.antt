@@ -114,12 +114,26 @@ leaf_is_compiled = record {
   hddl = refl;
   methods = (
     plain hddl Leaf _ _ refl refl refl (record {
-      schema = refl; up = tt; line = refl; heir = refl; copiers = refl; rising = none_rise; guards = ([], refl, refl);
+      schema = refl;
+      up = tt;
+      line = refl;
+      heir = refl;
+      copiers = refl;
+      rising = none_rise;
+      guards = ([], refl, refl);
     }),
-    (with_check hddl _ _ (holds_counts ready) refl refl (record {
-      schema = refl; up = (omega arith, (omega arith, (omega arith, (omega arith, (omega arith, tt)))));
-      line = refl; heir = refl; copiers = refl; rising = none_rise; guards = are_guards;
-    }), tt),
+    (
+      with_check hddl _ _ (holds_counts ready) refl refl (record {
+        schema = refl;
+        up = (omega arith, (omega arith, (omega arith, (omega arith, (omega arith, tt)))));
+        line = refl;
+        heir = refl;
+        copiers = refl;
+        rising = none_rise;
+        guards = are_guards;
+      }),
+      tt,
+    ),
   );
 }
 
@@ -128,12 +142,26 @@ at_once_is_compiled = record {
   hddl = refl;
   methods = (
     plain hddl AtOnce _ _ refl refl refl (record {
-      schema = refl; up = tt; line = refl; heir = refl; copiers = refl; rising = none_rise; guards = ([], refl, refl);
+      schema = refl;
+      up = tt;
+      line = refl;
+      heir = refl;
+      copiers = refl;
+      rising = none_rise;
+      guards = ([], refl, refl);
     }),
-    (when_applied hddl _ _ (holds_counts ready) refl refl (record {
-      schema = refl; up = (omega arith, (omega arith, tt));
-      line = refl; heir = refl; copiers = refl; rising = none_rise; guards = are_guards;
-    }), tt),
+    (
+      when_applied hddl _ _ (holds_counts ready) refl refl (record {
+        schema = refl;
+        up = (omega arith, (omega arith, tt));
+        line = refl;
+        heir = refl;
+        copiers = refl;
+        rising = none_rise;
+        guards = are_guards;
+      }),
+      tt,
+    ),
   );
 }
 
@@ -185,8 +213,20 @@ at_once_row : action_texts (v []) (encoded_method at_once words 4 Adl 1 tested) 
     ∷ codes "and" ∷ codes "(not (htn_t_t ?htn_h))" ∷ codes "(not (htn_free ?htn_h1))" ∷ codes "(not (htn_free ?htn_h2))"
     ∷ codes "(htn_a_paint ?htn_h1 b1)" ∷ codes "(htn_a_paint ?htn_h2 r1)" ∷ codes "(htn_a_paint ?htn_h b1)"
     ∷ codes "(htn_before ?htn_h1 ?htn_h2)" ∷ codes "(htn_before ?htn_h2 ?htn_h)" ∷ []
-at_once_row = simp (digit_1, digit_2, is_atom, source-Holds, part-And, part-Holds, part-Equal, part-Forall, part-Not,
-    effect-And, effect-Delete, effect-Add)
+at_once_row = simp (
+  digit_1,
+  digit_2,
+  is_atom,
+  source-Holds,
+  part-And,
+  part-Holds,
+  part-Equal,
+  part-Forall,
+  part-Not,
+  effect-And,
+  effect-Delete,
+  effect-Add,
+)
 
 -- the first slot is object 2; the guard's predicate is behind those of actions and checks
 abbrev fact : ℕ → List ℕ → GroundAtom

@@ -131,16 +131,37 @@ compiled mode = record {
   hddl = refl;
   methods = (
     plain hddl mode _ _ refl refl refl (record {
-      schema = refl; up = tt; line = refl; heir = refl; copiers = refl; rising = none_rise; guards = ([], refl, refl);
+      schema = refl;
+      up = tt;
+      line = refl;
+      heir = refl;
+      copiers = refl;
+      rising = none_rise;
+      guards = ([], refl, refl);
     }),
-    (plain hddl mode _ _ refl refl refl (record {
-      schema = refl; up = tt;
-      line = refl; heir = refl; copiers = refl; rising = none_rise; guards = (any_plan.guards, inl (object_is_not_united, [], refl, refl), refl);
-    }),
-    (plain hddl mode _ _ refl refl refl (record {
-      schema = refl; up = tt;
-      line = refl; heir = refl; copiers = refl; rising = none_rise; guards = ([], inr ((λ no. no union_is_united), refl), refl);
-    }), tt)),
+    (
+      plain hddl mode _ _ refl refl refl (record {
+        schema = refl;
+        up = tt;
+        line = refl;
+        heir = refl;
+        copiers = refl;
+        rising = none_rise;
+        guards = (any_plan.guards, inl (object_is_not_united, [], refl, refl), refl);
+      }),
+      (
+        plain hddl mode _ _ refl refl refl (record {
+          schema = refl;
+          up = tt;
+          line = refl;
+          heir = refl;
+          copiers = refl;
+          rising = none_rise;
+          guards = ([], inr ((λ no. no union_is_united), refl), refl);
+        }),
+        tt,
+      ),
+    ),
   );
 }
 
@@ -170,8 +191,18 @@ paint_row : action_texts v (encoded_action united words 1 Adl 0 paint) ≡
     codes "paint" ∷ codes "(?htn_h - htn_slot ?r - (either a b))"
     ∷ codes "and" ∷ codes "(htn_a_paint ?htn_h ?r)" ∷ waits
     ∷ codes "and" ∷ codes "(not (htn_a_paint ?htn_h ?r))" ∷ codes "(htn_free ?htn_h)" ∷ clears ∷ []
-paint_row = simp (empty_condition, empty_effect, part-And, part-Holds, part-Forall, part-Not, effect-And, effect-Delete, effect-Add,
-    effect-Forall)
+paint_row = simp (
+  empty_condition,
+  empty_effect,
+  part-And,
+  part-Holds,
+  part-Forall,
+  part-Not,
+  effect-And,
+  effect-Delete,
+  effect-Add,
+  effect-Forall,
+)
 
 -- m asks that ?x is in the first union
 any_row : action_texts v (encoded_method united words 1 Adl 1 any_plan) ≡
@@ -203,10 +234,27 @@ abbrev init : List GroundAtom
 init = atom 1 3 ∷ atom 6 0 ∷ atom 6 1 ∷ []
 
 is_initial : IsInitial united words 1 Adl init
-is_initial = (atom 6 0 ∷ atom 6 1 ∷ [], (0 ∷ 1 ∷ [], [],
-    inl ((_, refl, a_is_united), 1 ∷ [], refl,
-    inl ((_, refl, b_is_united), [], refl,
-    inr (o3_is_not_united, refl))), refl, refl), refl)
+is_initial = (
+  atom 6 0 ∷ atom 6 1 ∷ [],
+  (
+    0 ∷ 1 ∷ [],
+    [],
+    inl (
+      (_, refl, a_is_united),
+      1 ∷ [],
+      refl,
+      inl (
+        (_, refl, b_is_united),
+        [],
+        refl,
+        inr (o3_is_not_united, refl),
+      ),
+    ),
+    refl,
+    refl,
+  ),
+  refl,
+)
 
 init_row : fact_texts v init ≡ codes "(htn_top htn_s1)" ∷ codes "(htn_in_1 o1)" ∷ codes "(htn_in_1 o2)" ∷ []
 init_row = refl
