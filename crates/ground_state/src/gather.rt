@@ -8,7 +8,7 @@ use crate::atom_list::AtomLists;
 use crate::env::Env;
 use crate::kinds::Kind;
 use crate::state::State;
-use crate::truth::holds;
+use crate::truth::is_true;
 use htn_base::{List, Memory};
 use plan_model::{Effect, Object, Param, Types};
 use std::alloc::Global;
@@ -23,6 +23,7 @@ pub(crate) struct World<'a> {
 
 /// Puts the atoms that the effect adds, and those that it deletes, at the ends of the lists.
 #[cycle(gather)]
+#[inline(always)]
 pub(crate) fn gather(
     alloc: Global,
     eff: &Effect,
@@ -43,7 +44,7 @@ pub(crate) fn gather(
             gather_within(alloc, params.as_slice(), body.get(), env, world, into)
         }
         Effect::When(condition, body) => {
-            if holds(condition, env, world.state, world.types, world.objects) {
+            if is_true(condition, env, world.state, world.types, world.objects) {
                 return gather(alloc, body.get(), env, world, into);
             }
             Ok(())
@@ -94,10 +95,33 @@ fn gather_within(
     for object in 0..world.objects.len() as u32 {
         if kind.has(world.objects, object) {
             env.push(object);
-            let gathered = gather_within(alloc, rest, body, env, world, into);
+            let gathered = gather_rest(alloc, rest, body, env, world, into);
             env.pop();
             gathered?;
         }
     }
     Ok(())
+}
+
+/// The same. Where no types are left, without a further call.
+#[cycle(gather)]
+#[inline(always)]
+fn gather_rest(
+    alloc: Global,
+    params: &[Param],
+    body: &Effect,
+    env: &mut Env,
+    world: &World<'_>,
+    into: &mut AtomLists,
+) -> Result<(), Memory>
+    requires world { IsWorld world.now }
+    requires room { EffectFitsWithin (frame env.old) params.now body.now }
+    ensures gathered { OnOk result
+        (GetsWithin world.now params.now body.now env.old into.old into.new) }
+    ensures kept { frame env.new ≡ frame env.old }
+{
+    if params.is_empty() {
+        return gather(alloc, body, env, world, into);
+    }
+    gather_within(alloc, params, body, env, world, into)
 }

@@ -56,7 +56,13 @@ fn has_atom(atom: &Atom, env: &mut Env, s: &State) -> bool
 /// The same. Of a literal, as most parts of conditions are, it is told without a further call.
 #[cycle(holds)]
 #[inline(always)]
-fn is_true(f: &Formula, env: &mut Env, s: &State, types: &Types, objects: &List<Object>) -> bool
+pub(crate) fn is_true(
+    f: &Formula,
+    env: &mut Env,
+    s: &State,
+    types: &Types,
+    objects: &List<Object>,
+) -> bool
     requires listed { AreListed types.now }
     requires few { length objects.now < 2 ^ 32 }
     requires room { Fits (frame env.old) f.now }

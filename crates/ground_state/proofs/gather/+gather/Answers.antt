@@ -1,4 +1,5 @@
 use Rattle.std.proofs.Common.{◌↔◌, ℕ, ◌≡◌, ◌+◌, ◌<◌, ◌++◌, [], ◌∷◌, Bool, length, take, refl, sym, subst, ap, ◌∙◌, true≢false, arith}
+use Rattle.std.proofs.lemmas.Bool.{eqb-true}
 use Rattle.std.proofs.lemmas.List.{take_all}
 use Rattle.std.proofs.lemmas.Result.{on_ok_weaker}
 use Rattle.plan_model.specs.declared.terms.GroundAtom.{GroundAtom}
@@ -46,27 +47,27 @@ gather-gather_within-requires t c = (
   (c.requires.world, room.fits-Each (frame c.args.env.now) c.args.eff.now c.in-Forall.params c.as_slice-in-Forall.result.now c.in-Forall.body c.get.result.now c.in-Forall.is c.as_slice-in-Forall.ensures.items c.get.ensures.value c.requires.room),
 )
 
-pub gather-holds-requires-clause-room : goal.gather-holds-requires-clause-room
-gather-holds-requires-clause-room t c = room.fits-condition (frame c.args.env.now) c.args.eff.now c.in-When.condition c.in-When.body c.in-When.is c.requires.room
+pub gather-is_true-requires-clause-room : goal.gather-is_true-requires-clause-room
+gather-is_true-requires-clause-room t c = room.fits-condition (frame c.args.env.now) c.args.eff.now c.in-When.condition c.in-When.body c.in-When.is c.requires.room
 
 pub gather-gather-requires : goal.gather-gather-requires
 gather-gather-requires t c = (
   let d = c.decreases in
-      let l = sizes.falls-When c.args.eff.now c.in-When.condition c.in-When.body c.get-then-holds.result.now c.in-When.is c.get-then-holds.ensures.value in
+      let l = sizes.falls-When c.args.eff.now c.in-When.condition c.in-When.body c.get-then-is_true.result.now c.in-When.is c.get-then-is_true.ensures.value in
       omega (arith, d, l),
-  (c.requires.world, subst (λ e. EffectFits e c.get-then-holds.result.now) (sym c.holds.ensures.kept) (room.fits-When (frame c.args.env.now) c.args.eff.now c.in-When.condition c.in-When.body c.get-then-holds.result.now c.in-When.is c.get-then-holds.ensures.value c.requires.room)),
+  (c.requires.world, subst (λ e. EffectFits e c.get-then-is_true.result.now) (sym c.is_true.ensures.kept) (room.fits-When (frame c.args.env.now) c.args.eff.now c.in-When.condition c.in-When.body c.get-then-is_true.result.now c.in-When.is c.get-then-is_true.ensures.value c.requires.room)),
 )
 
-pub gather-returns-then-holds-clause-gathered : goal.gather-returns-then-holds-clause-gathered
-gather-returns-then-holds-clause-gathered t c =
+pub gather-returns-then-is_true-clause-gathered : goal.gather-returns-then-is_true-clause-gathered
+gather-returns-then-is_true-clause-gathered t c =
     let I = InType c.args.world.now.types.now c.args.world.now.objects.now in
     let S = atoms c.args.world.now.state.now in
     let v = c.args.env.now.values.items in
-    let x = c.get-then-holds.result.now in
+    let x = c.get-then-is_true.result.now in
     on_ok_weaker c.gather.result (λ h adds.
     cases.gathers-same (Touches I S adds x v) (Touches I S adds c.args.eff.now v) (side adds c.args.into.now) (side adds c.gather.new.into)
-    (cases.touches-When I S v adds c.args.eff.now c.in-When.condition c.in-When.body x c.in-When.is c.get-then-holds.ensures.value (c.holds.ensures.truth.0 c.if-holds.true))
-    (subst (λ (e : Frame). Gathers (Touches I S adds x e.objects) (side adds c.args.into.now) (side adds c.gather.new.into)) c.holds.ensures.kept (h adds))
+    (cases.touches-When I S v adds c.args.eff.now c.in-When.condition c.in-When.body x c.in-When.is c.get-then-is_true.ensures.value (c.is_true.ensures.truth.0 c.if-is_true.true))
+    (subst (λ (e : Frame). Gathers (Touches I S adds x e.objects) (side adds c.args.into.now) (side adds c.gather.new.into)) c.is_true.ensures.kept (h adds))
     ) c.gather.ensures.gathered
 
 pub gather-returns-in-And-clause-gathered : goal.gather-returns-in-And-clause-gathered
@@ -89,13 +90,13 @@ gather-returns-in-Forall-clause-gathered t c =
     (cases.touches-Forall I S v adds c.args.eff.now c.in-Forall.params c.as_slice-in-Forall.result.now c.in-Forall.body c.get.result.now c.in-Forall.is c.as_slice-in-Forall.ensures.items c.get.ensures.value) (h adds)
     ) c.gather_within.ensures.gathered
 
-pub gather-returns-else-holds-clause-gathered : goal.gather-returns-else-holds-clause-gathered
-gather-returns-else-holds-clause-gathered t c adds =
+pub gather-returns-else-is_true-clause-gathered : goal.gather-returns-else-is_true-clause-gathered
+gather-returns-else-is_true-clause-gathered t c adds =
     let I = InType c.args.world.now.types.now c.args.world.now.objects.now in
     let S = atoms c.args.world.now.state.now in
     let v = c.args.env.now.values.items in
     cases.gathers-none (Touches I S adds c.args.eff.now v) (side adds c.args.into.now)
-    (cases.touches-When-not I S v adds c.args.eff.now c.in-When.condition c.in-When.body c.in-When.is (λ u. true≢false (sym (c.holds.ensures.truth.1 u) ∙ c.if-holds.false)))
+    (cases.touches-When-not I S v adds c.args.eff.now c.in-When.condition c.in-When.body c.in-When.is (λ u. true≢false (sym (c.is_true.ensures.truth.1 u) ∙ c.if-is_true.false)))
 
 pub gather_each-gather-requires : goal.gather_each-gather-requires
 gather_each-gather-requires t c = (
@@ -139,8 +140,19 @@ gather_within-returns-in_default-clause-gathered t c =
     (cases.within-none I S v adds c.args.params.now c.args.body.now c.in_default.ensures.cases) (h adds)
     ) c.gather.ensures.gathered
 
+pub gather_rest-returns-then-is_empty-clause-gathered : goal.gather_rest-returns-then-is_empty-clause-gathered
+gather_rest-returns-then-is_empty-clause-gathered t c =
+    let I = InType c.args.world.now.types.now c.args.world.now.objects.now in
+    let S = atoms c.args.world.now.state.now in
+    let v = c.args.env.now.values.items in
+    let empty : length c.args.params.now ≡ 0 = eqb-true (length c.args.params.now) 0 (sym c.is_empty.ensures ∙ c.if-is_empty.true) in
+    on_ok_weaker c.gather.result (λ h adds.
+    cases.gathers-same (Touches I S adds c.args.body.now v) (TouchesWithin I S adds c.args.params.now c.args.body.now v) (side adds c.args.into.now) (side adds c.gather.new.into)
+    (cases.within-none I S v adds c.args.params.now c.args.body.now empty) (h adds)
+    ) c.gather.ensures.gathered
+
 pub gather_within-returns-in_err-gathered-clause-kept : goal.gather_within-returns-in_err-gathered-clause-kept
-gather_within-returns-in_err-gathered-clause-kept t c = c.pop.ensures (frame c.loop-object.env) c.loop-object.object (c.gather_within-gathered.ensures.kept ∙ c.push.ensures) ∙ c.loop-object.invariant.0
+gather_within-returns-in_err-gathered-clause-kept t c = c.pop.ensures (frame c.loop-object.env) c.loop-object.object (c.gather_rest-gathered.ensures.kept ∙ c.push.ensures) ∙ c.loop-object.invariant.0
 
 pub gather_within-loop-object-preserved : goal.gather_within-loop-object-preserved
 gather_within-loop-object-preserved t c =
@@ -156,9 +168,9 @@ gather_within-loop-object-preserved t c =
       | gather_within-then-has+in_ok-gathered w ↦ (
           let typed : IsOfKind c.new-kind.result c.args.world.now.objects.now c.loop-object.object = c.has.ensures.0 w.if-has.true in
           let objects : w.push.new.self.values.items ≡ v ++ c.loop-object.object ∷ [] = ap (λ (f : Frame). f.objects) w.push.ensures ∙ ap (λ (f : Frame). f.objects ++ c.loop-object.object ∷ []) c.loop-object.invariant.0 in
-          let more : (adds : Bool) → Gathers (Q adds) (side adds c.loop-object.into) (side adds w.gather_within-gathered.new.into) = λ adds. subst (λ u. Gathers (TouchesWithin I S adds c.in-Some.rest.now c.args.body.now u) (side adds c.loop-object.into) (side adds w.gather_within-gathered.new.into)) objects (w.in_ok-gathered.ensures.gathered adds) in
-          let kept : frame w.pop.new.self ≡ frame c.args.env.now = w.pop.ensures (frame c.loop-object.env) c.loop-object.object (w.gather_within-gathered.ensures.kept ∙ w.push.ensures) ∙ c.loop-object.invariant.0 in
-          let all : (adds : Bool) → Gathers (N adds) (side adds c.args.into.now) (side adds w.gather_within-gathered.new.into) = λ adds. cases.gathers-then (P adds) (Q adds) (N adds) (side adds c.args.into.now) (side adds c.loop-object.into) (side adds w.gather_within-gathered.new.into) (λ g. cases.below-more (R adds g) (Q adds g) i (λ r. r.1, λ q. (typed, q))) (c.loop-object.invariant.1 adds) (more adds) in
+          let more : (adds : Bool) → Gathers (Q adds) (side adds c.loop-object.into) (side adds w.gather_rest-gathered.new.into) = λ adds. subst (λ u. Gathers (TouchesWithin I S adds c.in-Some.rest.now c.args.body.now u) (side adds c.loop-object.into) (side adds w.gather_rest-gathered.new.into)) objects (w.in_ok-gathered.ensures.gathered adds) in
+          let kept : frame w.pop.new.self ≡ frame c.args.env.now = w.pop.ensures (frame c.loop-object.env) c.loop-object.object (w.gather_rest-gathered.ensures.kept ∙ w.push.ensures) ∙ c.loop-object.invariant.0 in
+          let all : (adds : Bool) → Gathers (N adds) (side adds c.args.into.now) (side adds w.gather_rest-gathered.new.into) = λ adds. cases.gathers-then (P adds) (Q adds) (N adds) (side adds c.args.into.now) (side adds c.loop-object.into) (side adds w.gather_rest-gathered.new.into) (λ g. cases.below-more (R adds g) (Q adds g) i (λ r. r.1, λ q. (typed, q))) (c.loop-object.invariant.1 adds) (more adds) in
           (ap frame w.env-is ∙ kept, subst (λ (into : AtomLists). (adds : Bool) → Gathers (N adds) (side adds c.args.into.now) (side adds into)) (sym w.into-is) all)
           )
       | gather_within-else-has w ↦ (

@@ -1,4 +1,4 @@
-use Rattle.std.proofs.Common.{ℕ, ◌≡◌, ◌+◌, ◌<◌, ◌++◌, [], ◌∷◌, Bool, length, take}
+use Rattle.std.proofs.Common.{ℕ, ◌≡◌, ◌+◌, ◌*◌, ◌<◌, ◌++◌, [], ◌∷◌, Bool, length, take}
 use Rattle.plan_model.specs.Typing.{InType}
 use Rattle.ground_state.specs.Frames.{frame}
 use Rattle.ground_state.specs.Kinds.{IsOfKind}
@@ -8,13 +8,16 @@ use Rattle.ground_state.proofs.EffectSizes.{size, sizes}
 use Rattle.ground_state.proofs.gather.+gather.Given as goal
 
 abbrev pub decreases-gather : goal.decreases-gather
-decreases-gather l = size l.eff.now
+decreases-gather l = 2 * size l.eff.now
 
 abbrev pub decreases-gather_each : goal.decreases-gather_each
-decreases-gather_each l = 1 + sizes l.parts.now
+decreases-gather_each l = 1 + 2 * sizes l.parts.now
 
 abbrev pub decreases-gather_within : goal.decreases-gather_within
-decreases-gather_within l = 1 + length l.params.now + size l.body.now
+decreases-gather_within l = 1 + 2 * length l.params.now + 2 * size l.body.now
+
+abbrev pub decreases-gather_rest : goal.decreases-gather_rest
+decreases-gather_rest l = 2 + 2 * length l.params.now + 2 * size l.body.now
 
 -- what the effects so far touch is gathered
 abbrev pub invariant-gather_each-loop-part : goal.invariant-gather_each-loop-part
