@@ -4,8 +4,9 @@
 # MiB of facts; and a domain of 500 methods with 40 subtasks each. Wants ./htn, as examples/transport/run leaves it. A line each: what the program told,
 # seconds of the best of five runs and its processor seconds (user and system), kilobytes of memory at most, bytes read and written, and seconds of a copy of what was written.
 #
-# Measured on a quiet machine of four processors, seconds and kilobytes in the order of the cases: 0.17 and 65,540; 1.15 and 274,624; 0.99 and 232,308;
-# 0.12 and 22,200; the copies took 0.02, 0.23, 0.07 and 0.01. Before what prints also counted, at a load of 11: 0.47, 1.09, 0.75 to 1.28, and 0.22.
+# Measured on a quiet machine of four processors, seconds and kilobytes in the order of the cases: 0.21 and 65,476; 0.48 and 274,636 (0.20 of it
+# the program's own, the rest the system's for pages and writing); 0.87 and 232,376; 0.07 and 22,328; the copies took 0.03, 0.26, 0.60 and 0.01.
+# Before instances were drawn once and source names kept their numbers: 0.17, 1.15, 0.99 and 0.12.
 set -euo pipefail
 top=$(cd "$(dirname "$0")/.." && pwd)
 work=$(mktemp -d)
