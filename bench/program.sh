@@ -5,7 +5,7 @@
 # seconds of the best of five runs and its processor seconds (user and system), kilobytes of memory at most, bytes read and written, and seconds of a copy of what was written.
 #
 # Measured on a quiet machine of four processors, seconds and kilobytes in the order of the cases: 0.21 and 65,476; 0.48 and 274,636 (0.20 of it
-# the program's own, the rest the system's for pages and writing); 0.87 and 232,376; 0.07 and 22,328; the copies took 0.03, 0.26, 0.60 and 0.01.
+# the program's own, the rest the system's for pages and writing); 0.87 and 232,376; 0.07 and 22,328; copies of the two long texts took 0.03 and 0.26.
 # Before instances were drawn once and source names kept their numbers: 0.17, 1.15, 0.99 and 0.12.
 set -euo pipefail
 top=$(cd "$(dirname "$0")/.." && pwd)
