@@ -7,6 +7,7 @@ pub mod Items
 pub mod Steps
 pub mod EffectSteps
 pub mod ListSteps
+pub mod Marking
 pub mod UnionSteps
 pub mod Exact
 pub mod TermExact

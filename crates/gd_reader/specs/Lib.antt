@@ -6,6 +6,7 @@ pub mod Shown
 pub mod Terms
 pub mod Added
 pub mod TypedLists
+pub mod TypedAsBefore
 pub mod Formulas
 pub mod Effects
 pub mod TermGrammar

@@ -8,9 +8,10 @@ ghost use Rattle.gd_reader.specs.Words.{effect_head_of};
 
 use crate::cursor::{end_due, list_due, list_or_end, pass, word_or_end};
 use crate::formulas::{RawFormula, inside_of};
+use crate::raw_params::RawParams;
 use crate::stop::{Failure, Stop};
 use crate::term::{RawAtom, applied_of, atom_of};
-use crate::typed_lists::{ListKind, RawParam, params_of};
+use crate::typed_lists::{ListKind, params_of};
 use crate::words::{EffectHead, effect_head_of};
 use htn_base::{Boxed, List, NameTable};
 use sexpr_text::Sexprs;
@@ -22,7 +23,7 @@ pub enum RawEffect {
     Add(RawAtom),
     Delete(RawAtom),
     And(List<RawEffect>),
-    Forall(List<RawParam>, Boxed<RawEffect>),
+    Forall(RawParams, Boxed<RawEffect>),
     When(RawFormula, Boxed<RawEffect>),
 }
 
@@ -159,7 +160,7 @@ fn bound_effect_of(
     s: &Sexprs<'_>,
     i: u32,
     names: &mut NameTable,
-) -> Result<(List<RawParam>, Boxed<RawEffect>), Failure>
+) -> Result<(RawParams, Boxed<RawEffect>), Failure>
     ensures keeps { Keeps names.old names.new }
     ensures adds { AddsOf s.now names.old names.new }
     ensures gives { GivesWith names.new result (bound_effect names.old (parts_at s.now i)) }

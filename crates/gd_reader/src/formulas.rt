@@ -7,9 +7,10 @@ ghost use Rattle.gd_reader.specs.Terms.{Keeps};
 ghost use Rattle.gd_reader.specs.Words.{head_of};
 
 use crate::cursor::{end_due, list_due, list_or_end, word_or_end};
+use crate::raw_params::RawParams;
 use crate::stop::{Failure, Stop};
 use crate::term::{RawAtom, RawTerm, atom_of, two_terms_of};
-use crate::typed_lists::{ListKind, RawParam, params_of};
+use crate::typed_lists::{ListKind, params_of};
 use crate::words::{Head, head_of};
 use htn_base::{Boxed, List, NameTable};
 use sexpr_text::Sexprs;
@@ -24,8 +25,8 @@ pub enum RawFormula {
     And(List<RawFormula>),
     Or(List<RawFormula>),
     Imply(Boxed<RawFormula>, Boxed<RawFormula>),
-    Forall(List<RawParam>, Boxed<RawFormula>),
-    Exists(List<RawParam>, Boxed<RawFormula>),
+    Forall(RawParams, Boxed<RawFormula>),
+    Exists(RawParams, Boxed<RawFormula>),
 }
 
 /// What stands in the parentheses of a formula, from token `i` on.
@@ -168,7 +169,7 @@ fn bound_of(
     s: &Sexprs<'_>,
     i: u32,
     names: &mut NameTable,
-) -> Result<(List<RawParam>, Boxed<RawFormula>), Failure>
+) -> Result<(RawParams, Boxed<RawFormula>), Failure>
     ensures keeps { Keeps names.old names.new }
     ensures adds { AddsOf s.now names.old names.new }
     ensures gives { GivesWith names.new result (bound names.old (parts_at s.now i)) }

@@ -15,6 +15,7 @@ mod effects;
 mod formulas;
 mod kind;
 mod laws;
+mod raw_params;
 mod raw_types;
 mod reading;
 mod stop;
@@ -26,6 +27,7 @@ pub use cursor::{Item, end_due, item_at, list_due, list_or_end, pass, word_due, 
 pub use effects::{RawEffect, effect_inside_of};
 pub use formulas::{RawFormula, inside_of};
 pub use laws::at_most_one_word_is_added_for_each_token;
+pub use raw_params::RawParams;
 pub use raw_types::RawTypes;
 pub use reading::{Got, effect, formula, refusal, typed_list};
 pub use stop::{Failure, Stop};

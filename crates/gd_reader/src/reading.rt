@@ -14,9 +14,10 @@ ghost use Rattle.gd_reader.specs.Terms.{Keeps};
 use crate::cursor::list_due;
 use crate::effects::{RawEffect, effect_inside_of};
 use crate::formulas::{RawFormula, inside_of};
+use crate::raw_params::RawParams;
 use crate::stop::{Failure, Stop};
-use crate::typed_lists::{ListKind, RawParam, params_of};
-use htn_base::{Fault, List, NameTable};
+use crate::typed_lists::{ListKind, params_of};
+use htn_base::{Fault, NameTable};
 use sexpr_text::{ReadError, Sexprs};
 use std::alloc::Global;
 
@@ -138,7 +139,7 @@ pub fn typed_list(
     file: u8,
     kind: ListKind,
     names: &mut NameTable,
-) -> Result<Got<List<RawParam>>, ReadError>
+) -> Result<Got<RawParams>, ReadError>
     requires stands { StandsInList s.now at }
     ensures read { IfOk result (λ got. IsListRead kind names.old s.now at (got.value, names.new)) }
     ensures next { IfOk result (λ got. parts_at s.now got.next ≡ end_of (parts_at s.now at)) }

@@ -1,19 +1,20 @@
-ghost use Rattle.std.specs.Prelude.{◌≡◌, ◌++◌, [], map, IfOk, OnOk};
+ghost use Rattle.std.specs.Prelude.{◌≡◌, IfOk};
 ghost use Rattle.htn_base.specs.Words.{folded};
 ghost use Rattle.text_forms.specs.Placed.{parts_at};
 ghost use Rattle.gd_reader.specs.Added.{AddsOf, AddsWord, bare};
 ghost use Rattle.gd_reader.specs.Answers.{Gives, GivesWith};
 ghost use Rattle.gd_reader.specs.Ends.{end_of};
 ghost use Rattle.gd_reader.specs.Terms.{Keeps};
-ghost use Rattle.gd_reader.specs.TypedLists.{declares, variable_by, param_due, with_type, listed, hyphen_due, is_parameters, are_variables};
+ghost use Rattle.gd_reader.specs.TypedLists.{declares, variable_by, param_due, listed, hyphen_due, is_parameters, are_variables};
 
 use crate::cursor::word_or_end;
 use crate::kind::kind_of;
+use crate::raw_params::RawParams;
 use crate::raw_types::RawTypes;
 use crate::stop::{Failure, Stop};
-use crate::term::{RawTerm, name_of, see};
+use crate::term::{name_of, see};
 use crate::words::{Sort, is_hyphen, rest, sort_of};
-use htn_base::{List, Memory, Name, NameTable, is_reserved_in_any_case};
+use htn_base::{List, Name, NameTable, is_reserved_in_any_case};
 use sexpr_text::Sexprs;
 use std::alloc::Global;
 
@@ -147,40 +148,6 @@ fn param_of(
     }
 }
 
-// The words that wait for their type.
-fn settle(
-    alloc: Global,
-    done: &mut List<RawParam>,
-    pending: &List<RawParam>,
-    types: List<RawTerm>,
-) -> Result<(), Memory>
-    ensures settled { OnOk result (done.new ≡ done.old ++ map (with_type types) pending.now) }
-{
-    let ty = RawTypes::new(alloc, types)?;
-    for p in pending.as_slice() {
-        done.push(RawParam {
-            name: p.name,
-            ty: ty.share()?,
-            at: p.at,
-        })?;
-    }
-    Ok(())
-}
-
-// The words behind which no type is written.
-fn leave(done: &mut List<RawParam>, pending: &List<RawParam>) -> Result<(), Memory>
-    ensures left { OnOk result (done.new ≡ done.old ++ map (with_type []) pending.now) }
-{
-    for p in pending.as_slice() {
-        done.push(RawParam {
-            name: p.name,
-            ty: RawTypes::none(),
-            at: p.at,
-        })?;
-    }
-    Ok(())
-}
-
 fn is_hyphen_due(pending: &List<RawParam>, word: &[u8]) -> bool
     ensures due { result ≡ hyphen_due pending.now (folded word.now) }
 {
@@ -198,7 +165,7 @@ pub fn params_of(
     mut i: u32,
     kind: ListKind,
     names: &mut NameTable,
-) -> Result<(List<RawParam>, u32), Failure>
+) -> Result<(RawParams, u32), Failure>
     ensures keeps { Keeps names.old names.new }
     ensures adds { AddsOf s.now names.old names.new }
     ensures gives { Gives (λ x. (x.0, names.new)) result
@@ -206,12 +173,13 @@ pub fn params_of(
     ensures closed { IfOk result (λ x. parts_at s.now x.1 ≡ end_of (parts_at s.now i)) }
 {
     let mut seen = NameTable::new(alloc);
-    let mut done = List::new(alloc);
+    let mut done = RawParams::new(alloc);
     let mut pending = List::new(alloc);
     while let Some((at, word, behind)) = word_or_end(s, i)? {
         if is_hyphen_due(&pending, word) {
             let (ty, next) = kind_of(alloc, s, behind, kind, names)?;
-            settle(alloc, &mut done, &pending, ty)?;
+            let types = RawTypes::new(alloc, ty)?;
+            done = done.with_words(&pending, types)?;
             pending = List::new(alloc);
             i = next;
         } else {
@@ -221,6 +189,6 @@ pub fn params_of(
         }
     }
     drop(seen);
-    leave(&mut done, &pending)?;
+    let done = done.with_words(&pending, RawTypes::none())?;
     Ok((done, i))
 }

@@ -43,13 +43,14 @@ pub loop-pending-preserved-then-is_hyphen_due : goal.loop-pending-preserved-then
 loop-pending-preserved-then-is_hyphen_due c =
     let d = (goal.at.loop-pending-preserved-then-is_hyphen_due c).In-Some in
     let h : hyphen_due c.loop-pending.pending (folded c.in-Some.word.now) ≡ true = (let a = c.if-is_hyphen_due.true in let b = c.is_hyphen_due.ensures.due in cc) in
-    let settled = c.in_ok-settle.ensures.settled in
+    let settled = c.in_ok-done.ensures.words in
+    let types = c.in_ok-types.ensures.types in
     let empty = c.new-pending-then-is_hyphen_due.ensures.empty in
     record {
       adds = λ all h old. c.in_ok-ty.ensures.adds all h (c.loop-pending.invariant.adds all h old);
       keeps = keeps_then c.args.names.now c.loop-pending.names c.kind_of.new.names c.loop-pending.invariant.keeps c.in_ok-ty.ensures.keeps;
       closed = c.in_ok-ty.ensures.closed ∙ same_end d;
-      rest = rw (settled, empty)
+      rest = rw (settled, types, empty)
           (step_type c.args.kind c.loop-pending.done c.loop-pending.pending (c.loop-pending.names, c.loop-pending.seen) c.in-Some.at (folded c.in-Some.word.now) (parts_at c.args.s.now c.in-Some.behind) c.in_ok-ty.ty (parts_at c.args.s.now c.in_ok-ty.next) c.kind_of.new.names h c.in_ok-ty.ensures.gives
           ∙ met d);
     }
@@ -82,8 +83,9 @@ pub returns-clause-gives : goal.returns-clause-gives
 returns-clause-gives c =
     let gives = c.in_ok-at.ensures.gives in
     let never = c.in_default.not-Some in
-    let left = c.in_ok-leave.ensures.left in
-    rw left (sym c.loop-pending.invariant.rest ∙ list_end c.args.kind c.loop-pending.done c.loop-pending.pending (c.loop-pending.names, c.loop-pending.seen) (parts_at c.args.s.now c.loop-pending.i) (rw (is_none c.in_ok-at.field-0 never) at gives))
+    let left = c.in_ok-done-2.ensures.words in
+    let none = c.none.ensures.none in
+    rw (left, none) (sym c.loop-pending.invariant.rest ∙ list_end c.args.kind c.loop-pending.done c.loop-pending.pending (c.loop-pending.names, c.loop-pending.seen) (parts_at c.args.s.now c.loop-pending.i) (rw (is_none c.in_ok-at.field-0 never) at gives))
 
 pub returns-clause-closed : goal.returns-clause-closed
 returns-clause-closed c =
