@@ -10,7 +10,7 @@ use Rattle.plan_texts.specs.PrintedTexts.{domain_text, problem_text}
 use Rattle.plan_meaning.specs.Compilation.{IsCompiled}
 use Rattle.slot_encoding.specs.EncodedValue.{IsEncoded}
 use Rattle.slot_encoding.specs.EncodedWords.{HasEncodedWords}
-use Rattle.slot_encoder.specs.Vocabulary.{IsPrintableWhereSound}
+use Rattle.slot_encoder.specs.Encodings.{IsPrintableWhereSound}
 
 -- it is compiled of some problem, in either mode of preconditions
 abbrev pub IsCompiledProblem : Compiled → Type 0

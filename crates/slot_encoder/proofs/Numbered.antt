@@ -1,15 +1,9 @@
 -- Lists that are made along numbers, or along a list and numbers at once.
-use Rattle.std.proofs.Common.{ℕ, zero, suc, ◌≡◌, ◌+◌, ◌-◌, ◌<◌, ◌≤◌, Bool, true, false, cond, List, [], ◌∷◌, ◌++◌, map, drop, length, refl, ap, sym, ◌∙◌, arith, append_assoc, Option}
+use Rattle.std.proofs.Common.{ℕ, suc, ◌≡◌, ◌+◌, ◌-◌, ◌<◌, Bool, true, false, cond, List, [], ◌∷◌, ◌++◌, map, ap, sym, ◌∙◌, arith, append_assoc, Option}
 use Rattle.task_networks.specs.Spelling.{numbers, is_heir}
 use Rattle.plan_model.specs.declared.formulas.Formula.{Formula}
 use Rattle.slot_encoding.specs.EncodedActions.{slot_vars, differ}
 use Rattle.slot_encoder.specs.Pieces.{unequal_to}
-
-pub drop_past : {X : Type 0} (xs : List X) (i : ℕ) → length xs ≤ i → drop i xs ≡ []
-drop_past [] zero l = refl
-drop_past [] (suc i) l = refl
-drop_past (x ∷ xs) zero l = absurd (omega arith)
-drop_past (x ∷ xs) (suc i) l = drop_past xs i (omega arith)
 
 -- the slots of the children from number i on, k of them
 slots_step : (heir : Option ℕ) (i new k : ℕ) → slot_vars heir i new (suc k) ≡ cond (is_heir heir i) 0 new ∷ slot_vars heir (i + 1) (cond (is_heir heir i) new (new + 1)) k

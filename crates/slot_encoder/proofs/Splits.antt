@@ -1,6 +1,7 @@
 -- The pieces of a method's effects, put together, are the defined effects.
-use Rattle.std.proofs.Common.{ℕ, zero, suc, ◌≡◌, ◌+◌, ◌-◌, ◌<◌, ◌≤◌, List, [], ◌∷◌, ◌++◌, map, drop, length, codes, refl, ap, sym, ◌∙◌, append_assoc, arith}
-use Rattle.std.proofs.lemmas.List.{append-nil}
+use Rattle.std.proofs.Common.{ℕ, zero, suc, ◌≡◌, ◌+◌, ◌-◌, ◌<◌, ◌≤◌, List, [], ◌∷◌, ◌++◌, map, take, drop, length, get_or, codes, refl, ap, sym, ◌∙◌, append_assoc, arith}
+use Rattle.std.proofs.lemmas.List.{append-nil, take_more, drop_all}
+use Rattle.std.specs.List.{flat_map}
 use Rattle.htn_base.specs.declared.name.Name.{Name}
 use Rattle.plan_model.specs.declared.terms.Param.{Param}
 use Rattle.task_networks.specs.Spelling.{numbers}
@@ -9,14 +10,13 @@ use Rattle.plan_model.specs.declared.formulas.Formula.TheVariants as F
 use Rattle.plan_model.specs.declared.schemas.ActionSchema.{ActionSchema}
 use Rattle.plan_model.specs.declared.effects.Effect.TheVariants as E
 use Rattle.slot_encoding.specs.SourceParts.{source_word}
-use Rattle.slot_encoder.proofs.Numbered.{drop_past}
 use Rattle.plan_model.specs.declared.networks.Child.{Child}
 use Rattle.plan_model.specs.declared.effects.Effect.{Effect}
 use Rattle.plan_model.specs.declared.schemas.MethodPlan.{MethodPlan}
 use Rattle.slot_encoding.specs.EncodedNames.{check_predicate}
 use Rattle.slot_encoding.specs.EncodedActions as spec
 use Rattle.slot_encoder.specs.Made as made
-use Rattle.slot_encoder.specs.declared.frame.Frame.{Frame}
+use Rattle.slot_declarations.specs.declared.frame.Frame.{Frame}
 
 module _ (f : Frame) (m : ℕ) (plan : MethodPlan) where
   split-is : made.split f (check_predicate f.compiled.now m) plan ≡ spec.splitting f.compiled.now f.printed.now f.slots f.style m plan
@@ -44,7 +44,7 @@ module _ (f : Frame) (m : ℕ) (plan : MethodPlan) where
 pub children_done : (f : Frame) (front check : ℕ) (slots : List ℕ) (children : List Child) (i : ℕ) (now old : List Effect) → length children ≤ i
     → now ++ map E.Add (made.child_atoms f front check (drop i slots) (drop i children)) ≡ old → now ≡ old
 children_done f front check slots children i now old l e =
-    sym (append-nil now) ∙ ap (λ z. now ++ map E.Add z) (sym (ap (made.child_atoms f front check (drop i slots)) (drop_past children i l) ∙ none (drop i slots))) ∙ e
+    sym (append-nil now) ∙ ap (λ z. now ++ map E.Add z) (sym (ap (made.child_atoms f front check (drop i slots)) (drop_all i children l) ∙ none (drop i slots))) ∙ e
   where
     none : (vs : List ℕ) → made.child_atoms f front check vs [] ≡ []
     none [] = refl
@@ -61,3 +61,14 @@ module _ (f : Frame) (i : ℕ) (plan : MethodPlan) where
 pub same_action : (n n' : Name) (ps ps' : List Param) (f f' : Formula) (e e' : Effect) → n ≡ n' → ps ≡ ps' → f ≡ f' → e ≡ e'
     → ◌≡◌ {A = ActionSchema} (record { name = n; params = ps; pre = f; eff = e }) (record { name = n'; params = ps'; pre = f'; eff = e' })
 same_action n n' ps ps' f f' e e' a b c d = λ i. record { name = a i; params = b i; pre = c i; eff = d i }
+
+flat_map-push : {X Y : Type 0} (f : X → List Y) (xs : List X) (x : X) → flat_map f (xs ++ x ∷ []) ≡ flat_map f xs ++ f x
+flat_map-push f [] x = append-nil (f x)
+flat_map-push f (z ∷ xs) x = ap (λ ys. f z ++ ys) (flat_map-push f xs x) ∙ sym (append_assoc (f z) (flat_map f xs) (f x))
+
+-- behind old, now has the lists of the first i items, and new has the next one's too
+pub flat_next : {X Y : Type 0} (f : X → List Y) (xs : List X) (i : ℕ) (d : X) (old now new : List Y)
+    → i < length xs → now ≡ old ++ flat_map f (take i xs) → new ≡ now ++ f (get_or xs i d) → new ≡ old ++ flat_map f (take (i + 1) xs)
+flat_next f xs i d old now new l e g =
+    g ∙ ap (λ z. z ++ f (get_or xs i d)) e ∙ append_assoc old (flat_map f (take i xs)) (f (get_or xs i d))
+    ∙ ap (λ z. old ++ z) (sym (ap (flat_map f) (take_more xs i d l) ∙ flat_map-push f (take i xs) (get_or xs i d)))

@@ -1,7 +1,12 @@
 -- The printed problem, taken part by part: all but its actions as one value, and the actions one at a time.
 -- Source: this project's encoding, after Alford et al., "Bound to Plan", ICAPS 2016.
-use Rattle.std.specs.Prelude.{◌≡◌, ◌<◌, ◌^◌, List, [], ◌++◌, length}
+use Rattle.std.specs.Prelude.{ℕ, ◌≡◌, ◌<◌, ◌≤◌, ◌^◌, List, [], ◌++◌, length}
 use Rattle.task_networks.specs.Spelling.{numbers}
+use Rattle.plan_texts.specs.SoundValue.{IsSoundHddl}
+use Rattle.plan_texts.specs.PrintableValue.{IsPrintable}
+use Rattle.plan_model.specs.declared.options.Checks.{Checks}
+use Rattle.plan_model.specs.declared.values.Hddl.{Hddl}
+use Rattle.plan_meaning.specs.Compilation.{IsCompiled}
 use Rattle.plan_model.specs.declared.formulas.Formula.TheVariants.{And}
 use Rattle.plan_model.specs.declared.schemas.ActionSchema.{ActionSchema}
 use Rattle.plan_model.specs.declared.values.Compiled.{Compiled}
@@ -9,7 +14,7 @@ use Rattle.plan_model.specs.declared.values.Pddl.{Pddl}
 use Rattle.slot_encoding.specs.EncodedActions.{differ}
 use Rattle.slot_encoding.specs.EncodedValue.{IsEncoded, encoded_actions}
 use Rattle.slot_encoding.specs.EncodedWords.{HasEncodedWords}
-use Rattle.slot_encoder.specs.Frames.{IsBasis}
+use Rattle.slot_declarations.specs.Frames.{IsBasis}
 use Rattle.slot_encoder.specs.declared.encoding.Encoding.{Encoding}
 use Rattle.slot_encoder.specs.declared.split_action.SplitAction.{SplitAction}
 
@@ -42,3 +47,9 @@ pub record IsEncoding (c : Compiled) (e : Encoding) : Type 0 where
   pub words : HasEncodedWords c e.slots e.head.names
   pub short : length e.head.names < 2 ^ 32
   pub basis : IsBasis c e.head.names e.slots e.basis
+
+-- the printed problem can be printed and read again, wherever the compiled problem with b slots is that of a sound problem
+abbrev pub IsPrintableWhereSound : Compiled → ℕ → Pddl → Type 0
+IsPrintableWhereSound c b p =
+    (h : Hddl) (mode : Checks) → IsSoundHddl h → IsCompiled h mode c
+    → c.hddl.top.pre ≡ And [] → 1 ≤ b → length c.hddl.types.unions < 2 ^ 64 → IsPrintable p

@@ -1,6 +1,4 @@
-pub mod Frames
+pub mod Parts
 pub mod Pieces
-pub mod Guards
 pub mod Made
-pub mod Vocabulary
 pub mod Encodings

@@ -1,12 +1,9 @@
--- The parts of the printed problem, each as it is made from the frame.
+-- What is true at the start, the goal and the actions of the printed problem, each part as it is made from the frame.
 -- Source: this project's encoding, after Alford et al., "Bound to Plan", ICAPS 2016.
-use Rattle.std.specs.Prelude.{ℕ, suc, true, ◌≡◌, ◌+◌, ◌-◌, cond, List, [], ◌∷◌, ◌++◌, map, drop, length, slice_index, codes, decimal}
+use Rattle.std.specs.Prelude.{ℕ, suc, ◌≡◌, ◌+◌, ◌-◌, cond, List, [], ◌∷◌, ◌++◌, map, length, slice_index, codes, decimal}
 use Rattle.std.specs.List.{flat_map}
-use Rattle.htn_base.specs.Escapes.{slot_word}
 use Rattle.htn_base.specs.declared.name.Name.{Name}
 use Rattle.plan_model.specs.declared.options.Style.{Style}
-use Rattle.plan_model.specs.declared.types.Types.{Types}
-use Rattle.plan_model.specs.declared.types.Object.{Object}
 use Rattle.plan_model.specs.declared.terms.Param.{Param}
 use Rattle.plan_model.specs.declared.terms.Term.{Term}
 use Rattle.plan_model.specs.declared.terms.Term.TheVariants.{Var, Obj}
@@ -22,8 +19,6 @@ use Rattle.plan_model.specs.declared.networks.Child.{Child}
 use Rattle.plan_model.specs.declared.networks.Constraint.{Constraint}
 use Rattle.plan_model.specs.declared.networks.Guard.{Guard}
 use Rattle.plan_model.specs.declared.networks.Pair.{Pair}
-use Rattle.plan_model.specs.declared.schemas.Predicate.{Predicate}
-use Rattle.plan_model.specs.declared.schemas.TaskSchema.{TaskSchema}
 use Rattle.plan_model.specs.declared.schemas.ActionSchema.{ActionSchema}
 use Rattle.plan_model.specs.declared.schemas.MethodPlan.{MethodPlan}
 use Rattle.plan_model.specs.declared.values.Compiled.{Compiled}
@@ -35,12 +30,12 @@ use Rattle.slot_encoding.specs.OrderFormulas as order
 use Rattle.slot_encoding.specs.EncodedNames as encoded
 use Rattle.slot_encoding.specs.EncodedActions as actions
 use Rattle.slot_encoding.specs.EncodedValue as value
-use Rattle.slot_encoder.specs.Pieces.{checked, if_checked, encoded_goal}
-use Rattle.slot_encoder.specs.Frames as frames
+use Rattle.slot_encoder.specs.Pieces.{encoded_goal}
+use Rattle.slot_encoder.specs.Parts as parts
+use Rattle.slot_declarations.specs.Made as declarations
 use Rattle.slot_encoder.specs.declared.encoding.Behaviour.{Behaviour}
-use Rattle.slot_encoder.specs.declared.encoding.Declarations.{Declarations}
 use Rattle.slot_encoder.specs.declared.encoding.Encoded.{Encoded}
-use Rattle.slot_encoder.specs.declared.frame.Frame.{Frame}
+use Rattle.slot_declarations.specs.declared.frame.Frame.{Frame}
 
 module _ (f : Frame) where
   abbrev c : Compiled
@@ -62,20 +57,7 @@ module _ (f : Frame) where
   abbrev pairs : order.OrderNumbers
   pairs = encoded.order_numbers c words b
 
-  -- names
-  abbrev pub renamed : Name → Name
-  renamed = source.renamed words own
-
-  abbrev pub prefixed : List ℕ → Name → Name
-  prefixed prefix n = source.name words (prefix ++ source.source_word own n)
-
-  abbrev pub guard_name : ℕ → Name
-  guard_name ty = source.name words (encoded.guard_word c words 0 ty)
-
   -- what stands in the source, with the names, types and variables of the printed problem
-  abbrev pub param : Param → Param
-  param = source.source_param words own
-
   abbrev pub term : ℕ → Term → Term
   term = source.moved words own
 
@@ -94,77 +76,6 @@ module _ (f : Frame) where
 
   abbrev pub change : ℕ → Effect → List Effect
   change = actions.source_change c words b style
-
-  -- types
-  abbrev pub types : Types
-  types = encoded.encoded_types c words b
-
-  -- of the source's types, the first of which is `object`
-  abbrev pub type_names : List Name → List Name
-  type_names names =
-      source.name words (codes "object")
-      ∷ source.name words (codes "htn_slot")
-      ∷ source.name words (codes "htn_object")
-      ∷ map renamed (drop 1 names)
-
-  -- objects
-  abbrev pub objects : List Object
-  objects = encoded.encoded_objects c words b
-
-  abbrev pub object : Object → Object
-  object x = record { name = renamed x.name; ty = source.retyped x.ty; constant = true }
-
-  abbrev pub slot : ℕ → Object
-  slot k = record { name = source.name words (slot_word k); ty = encoded.slot_type; constant = true }
-
-  -- predicates
-  abbrev pub predicates : List Predicate
-  predicates = encoded.encoded_predicates c words b
-
-  abbrev pub predicate : Predicate → Predicate
-  predicate p = record { name = renamed p.name; params = map param p.params }
-
-  abbrev pub slot_param : List ℕ → Param
-  slot_param = encoded.slot_param c words 0
-
-  abbrev pub slot_predicate : List ℕ → Predicate
-  slot_predicate word = record { name = source.name words word; params = slot_param (codes "htn_h") ∷ [] }
-
-  abbrev pub order_predicate : Predicate
-  order_predicate = record {
-    name = source.name words (codes "htn_before");
-    params = slot_param (codes "htn_x") ∷ slot_param (codes "htn_h") ∷ [];
-  }
-
-  -- the three predicates of the slots
-  abbrev pub slot_predicates : List Predicate
-  slot_predicates = slot_predicate (codes "htn_top") ∷ slot_predicate (codes "htn_free") ∷ order_predicate ∷ []
-
-  -- a slot holds what has so many parameters
-  abbrev pub held : List ℕ → Name → ℕ → Predicate
-  held prefix n count = record { name = prefixed prefix n; params = encoded.held_params c words 0 count }
-
-  abbrev pub task_held : TaskSchema → Predicate
-  task_held s = held (codes "htn_t_") s.name (length s.params)
-
-  abbrev pub action_held : ActionSchema → Predicate
-  action_held s = held (codes "htn_a_") s.name (length s.params)
-
-  abbrev pub check_held : MethodPlan → Predicate
-  check_held plan = held (codes "htn_c_") plan.schema.name (length plan.schema.params)
-
-  abbrev pub checks_held : List MethodPlan → List Predicate
-  checks_held methods = map check_held (checked methods)
-
-  -- the one of the method's check, if it has one
-  abbrev pub checking_held : MethodPlan → List Predicate
-  checking_held plan = if_checked plan (check_held plan)
-
-  abbrev pub argument : ℕ → Param
-  argument k = record { name = source.name words (codes "htn_a" ++ decimal k); ty = encoded.object_type }
-
-  abbrev pub guard_tested : ℕ → Predicate
-  guard_tested ty = record { name = guard_name ty; params = record { name = source.name words (codes "htn_a1"); ty = encoded.object_type } ∷ [] }
 
   -- atoms, conditions and effects of slots
   abbrev pub is_free : ℕ → Atom
@@ -201,11 +112,11 @@ module _ (f : Frame) where
   method_name m plan = source.name words (actions.method_word c words b style m plan m)
 
   abbrev pub new_slot : ℕ → Param
-  new_slot k = slot_param (codes "htn_h" ++ decimal k)
+  new_slot k = declarations.slot_param f (codes "htn_h" ++ decimal k)
 
   -- the task's slot, the new slots, and the method's own parameters
   abbrev pub method_params : MethodPlan → List Param
-  method_params plan = slot_param (codes "htn_h") ∷ map new_slot (numbers 1 (length plan.schema.children - 1)) ++ map param plan.schema.params
+  method_params plan = declarations.slot_param f (codes "htn_h") ∷ map new_slot (numbers 1 (length plan.schema.children - 1)) ++ map (declarations.param f) plan.schema.params
 
   -- the method's task, in the first slot
   abbrev pub method_task : ℕ → MethodPlan → Atom
@@ -296,7 +207,7 @@ module _ (f : Frame) where
 
   -- of a source action or a check: the slot, and then the parameters
   abbrev pub work_params : List Param → List Param
-  work_params params = slot_param (codes "htn_h") ∷ map param params
+  work_params params = declarations.slot_param f (codes "htn_h") ∷ map (declarations.param f) params
 
   abbrev pub work_atom : ℕ → ℕ → Atom
   work_atom = actions.held_work c words b style
@@ -350,12 +261,9 @@ module _ (f : Frame) where
   abbrev pub slots_free : List Formula
   slots_free = order.free_parts pairs b 0 style (encoded.free_predicate c)
 
-  -- the whole, and its halves
-  abbrev pub AreDeclarations : Declarations → Type 0
-  AreDeclarations = frames.AreDeclarations c words b
-
+  -- the whole, and what it does
   abbrev pub IsBehaviour : Behaviour → Type 0
-  IsBehaviour = frames.IsBehaviour c words b style
+  IsBehaviour = parts.IsBehaviour c words b style
 
   abbrev pub AreEncoded : Encoded → Type 0
-  AreEncoded = frames.AreEncoded c words b style
+  AreEncoded = parts.AreEncoded c words b style

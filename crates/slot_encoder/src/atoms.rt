@@ -1,14 +1,14 @@
 ghost use Rattle.std.specs.Prelude.{◌≡◌, ◌++◌, map, IfOk, OnOk};
 ghost use Rattle.plan_model.specs.declared.terms.Term.TheVariants as T;
 ghost use Rattle.task_networks.specs.Spelling.{numbers};
-ghost use Rattle.slot_encoder.specs.Frames.{IsFrame};
+ghost use Rattle.slot_declarations.specs.Frames.{IsFrame};
 ghost use Rattle.slot_encoder.specs.Pieces.{held_work};
 ghost use Rattle.slot_encoder.specs.Made as made;
 
-use crate::frame::Frame;
 use crate::terms::push_moved;
 use htn_base::{List, Memory};
 use plan_model::{Atom, Term};
+use slot_declarations::Frame;
 use std::alloc::Global;
 
 /// The atom that the slot is free.

@@ -3,9 +3,9 @@ ghost use Rattle.task_networks.specs.Spelling.{numbers};
 ghost use Rattle.slot_encoding.specs.EncodedActions.{differ};
 ghost use Rattle.slot_encoder.specs.Pieces.{unequal_to};
 
-use crate::numbers::plus;
 use htn_base::{Boxed, List, Memory};
 use plan_model::{Formula, Term};
+use slot_declarations::plus;
 use std::alloc::Global;
 
 /// Puts at the end that each two of the new slots differ.

@@ -2,24 +2,18 @@ ghost use Rattle.std.specs.Prelude.{◌≡◌, ◌<◌, ◌^◌, length, IfOk};
 ghost use Rattle.plan_model.specs.Parts.{AreListed};
 ghost use Rattle.slot_encoding.specs.EncodedValue.{IsEncoded};
 ghost use Rattle.slot_encoding.specs.EncodedWords.{HasEncodedWords};
-ghost use Rattle.slot_encoder.specs.Frames.{IsFrame};
+ghost use Rattle.slot_declarations.specs.Frames.{IsFrame};
 ghost use Rattle.slot_encoder.specs.Made as made;
-ghost use Rattle.slot_encoder.specs.Vocabulary.{IsPrintableWhereSound};
+ghost use Rattle.slot_encoder.specs.Encodings.{IsPrintableWhereSound};
 
 use crate::actions::action_at;
-use crate::basis::{Basis, basis_of};
-use crate::frame::Frame;
 use crate::goals::goal_of;
 use crate::initial::encoded_initial;
-use crate::objects::encoded_objects;
-use crate::predicates::encoded_predicates;
 use crate::split_action::SplitAction;
-use crate::types::encoded_types;
-use crate::vocabulary::vocabulary;
-use crate::words::renamed;
 use htn_base::{List, Memory, Name};
-use plan_model::{
-    ActionSchema, Compiled, Formula, GroundAtom, Object, Pddl, Predicate, Style, Types,
+use plan_model::{ActionSchema, Compiled, Formula, GroundAtom, Pddl, Style};
+use slot_declarations::{
+    Basis, Declarations, Frame, basis_of, declarations_of, renamed, vocabulary_of,
 };
 use std::alloc::Global;
 
@@ -44,7 +38,7 @@ impl Encoding {
         ensures slots { IfOk result (λ e. e.slots ≡ slots) }
         ensures style { IfOk result (λ e. e.style ≡ style.now) }
     {
-        let names = vocabulary(alloc, c, slots)?;
+        let names = vocabulary_of(alloc, c, slots)?;
         let basis = basis_of(alloc, c, &names, slots)?;
         let frame = Frame {
             compiled: c,
@@ -154,14 +148,6 @@ pub(crate) struct Encoded {
     pub behaviour: Behaviour,
 }
 
-/// What the printed problem declares.
-#[derive(Drop)]
-pub(crate) struct Declarations {
-    pub types: Types,
-    pub objects: List<Object>,
-    pub predicates: List<Predicate>,
-}
-
 /// Where the printed problem starts and what is wanted.
 #[derive(Drop)]
 pub(crate) struct Behaviour {
@@ -190,19 +176,6 @@ fn parts_of(alloc: Global, frame: &Frame<'_>) -> Result<Encoded, Memory>
             Err(memory)
         }
     }
-}
-
-fn declarations_of(alloc: Global, frame: &Frame<'_>) -> Result<Declarations, Memory>
-    requires { IsFrame frame.now }
-    ensures { IfOk result (made.AreDeclarations frame.now) }
-{
-    let objects = encoded_objects(alloc, frame)?;
-    let predicates = encoded_predicates(alloc, frame)?;
-    Ok(Declarations {
-        types: encoded_types(alloc, frame)?,
-        objects,
-        predicates,
-    })
 }
 
 fn behaviour_of(alloc: Global, frame: &Frame<'_>) -> Result<Behaviour, Memory>

@@ -1,12 +1,11 @@
 ghost use Rattle.std.specs.Prelude.{◌≡◌, ◌+◌, ◌++◌, ◌≤◌, ◌^◌, IfOk, OnOk};
-ghost use Rattle.slot_encoder.specs.Frames.{IsFrame};
+ghost use Rattle.slot_declarations.specs.Frames.{IsFrame};
 ghost use Rattle.slot_encoder.specs.Made as made;
 
 use crate::conditions::push_condition;
-use crate::frame::Frame;
-use crate::predicates::slot_param;
 use htn_base::{Boxed, List, Memory};
 use plan_model::{Atom, Formula, Style, Term};
+use slot_declarations::{Frame, slot_param};
 use std::alloc::Global;
 
 /// The source goal, and every slot free.

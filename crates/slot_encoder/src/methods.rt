@@ -2,22 +2,21 @@ ghost use Rattle.std.specs.Prelude.{◌≡◌, ◌++◌, map, IfOk, OnOk};
 ghost use Rattle.task_networks.specs.Spelling.{numbers};
 ghost use Rattle.slot_encoding.specs.EncodedNames as names;
 ghost use Rattle.slot_encoder.specs.Encodings.{whole};
-ghost use Rattle.slot_encoder.specs.Frames.{IsFrame, AreVariables};
+ghost use Rattle.slot_declarations.specs.Frames.{IsFrame};
+ghost use Rattle.slot_encoder.specs.Parts.{AreVariables};
 ghost use Rattle.slot_encoder.specs.Made as made;
 
 use crate::atoms::{held, is_free};
 use crate::conditions::{push_condition, push_waits};
-use crate::frame::Frame;
-use crate::guards::guard_predicate;
-use crate::numbers::task_predicate;
-use crate::predicates::slot_param;
 use crate::split_action::SplitAction;
 use crate::splitting::method_effects;
-use crate::terms::{moved, push_params};
+use crate::terms::moved;
 use crate::variables::{Variables, variables_of};
-use crate::words::{named, numbered, prefixed};
 use htn_base::{Boxed, List, Memory, Name};
 use plan_model::{Atom, Constraint, Effect, Formula, Guard, MethodPlan, Param};
+use slot_declarations::{
+    Frame, guard_predicate, named, numbered, prefixed, push_params, slot_param, task_predicate,
+};
 use std::alloc::Global;
 
 /// The action of method `m`, the top method being number 0. `check` is the predicate of its check.

@@ -1,18 +1,18 @@
 ghost use Rattle.std.specs.Prelude.{◌≡◌, ◌++◌, map, IfOk, OnOk};
 ghost use Rattle.std.specs.List.{flat_map};
 ghost use Rattle.plan_model.specs.declared.effects.Effect.TheVariants as E;
-ghost use Rattle.slot_encoder.specs.Frames.{IsFrame, AreVariables};
+ghost use Rattle.slot_declarations.specs.Frames.{IsFrame};
+ghost use Rattle.slot_encoder.specs.Parts.{AreVariables};
 ghost use Rattle.slot_encoder.specs.Made as made;
 
 use crate::atoms::{comes_before, held, is_free};
 use crate::conditions::push_clears;
-use crate::frame::Frame;
 use crate::methods::held_task;
-use crate::numbers::{plus, task_predicate};
 use crate::variables::{Variables, slot_of};
 use htn_base::{List, Memory};
 use order_encoder::push_copying;
 use plan_model::{Atom, Child, Effect, Head, MethodPlan, Pair, Term};
+use slot_declarations::{Frame, plus, task_predicate};
 use std::alloc::Global;
 
 /// What a method does: a childless one frees the task's slot, another one puts its children into slots.

@@ -1,11 +1,11 @@
 ghost use Rattle.std.specs.Prelude.{◌≡◌, [], ◌∷◌, ◌++◌, slice_index, IfOk, OnOk};
 ghost use Rattle.slot_encoding.specs.EncodedActions.{slot_vars};
-ghost use Rattle.slot_encoder.specs.Frames.{AreVariables};
+ghost use Rattle.slot_encoder.specs.Parts.{AreVariables};
 ghost use Rattle.slot_encoder.specs.Pieces.{child_slot, next_new};
 
-use crate::numbers::plus;
 use htn_base::{List, Memory, number};
 use plan_model::MethodPlan;
+use slot_declarations::plus;
 use std::alloc::Global;
 
 /// How the variables of a method's action stand: the task's slot, so many new slots, then the parameters, which `front`

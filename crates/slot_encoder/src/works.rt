@@ -1,19 +1,15 @@
 ghost use Rattle.std.specs.Prelude.{◌≡◌, IfOk};
 ghost use Rattle.slot_encoder.specs.Encodings.{whole};
-ghost use Rattle.slot_encoder.specs.Frames.{IsFrame};
+ghost use Rattle.slot_declarations.specs.Frames.{IsFrame};
 ghost use Rattle.slot_encoder.specs.Made as made;
 
 use crate::atoms::held_work;
 use crate::conditions::{push_change, push_condition, push_waits};
-use crate::frame::Frame;
-use crate::numbers::plus;
-use crate::predicates::slot_param;
 use crate::split_action::SplitAction;
 use crate::splitting::freeing;
-use crate::terms::push_params;
-use crate::words::{named, prefixed, renamed};
 use htn_base::{List, Memory, number};
 use plan_model::{ActionSchema, Effect, Formula, MethodPlan, Param};
+use slot_declarations::{Frame, named, plus, prefixed, push_params, renamed, slot_param};
 use std::alloc::Global;
 
 /// The action of source action `a`.

@@ -3,7 +3,7 @@ use Rattle.std.proofs.lemmas.List.{length-map}
 use Rattle.task_networks.specs.Spelling.{numbers}
 use Rattle.task_networks.proofs.Numbers.{length-numbers}
 use Rattle.slot_encoding.specs.EncodedNames as names
-use Rattle.slot_encoder.specs.Pieces.{checks_before}
+use Rattle.slot_declarations.specs.Pieces.{checks_before}
 use Rattle.slot_encoder.proofs.ActionPlaces.{map_numbers-at}
 use Rattle.slot_encoder.proofs.actions.check_predicate.Goals as goal
 

@@ -3,8 +3,8 @@ use Rattle.plan_model.specs.declared.options.Style.{Style}
 use Rattle.slot_encoding.specs.EncodedValue.{IsEncoded}
 use Rattle.slot_encoding.specs.EncodedWords.{HasEncodedWords}
 use Rattle.slot_encoder.specs.Encodings.{with_actions}
-use Rattle.slot_encoder.specs.Vocabulary.{IsPrintableWhereSound}
-use Rattle.slot_encoder.proofs.AllWords.{value-encoded, value-printable}
+use Rattle.slot_encoder.specs.Encodings.{IsPrintableWhereSound}
+use Rattle.slot_encoder.proofs.WholeValues.{value-encoded, value-printable}
 use Rattle.slot_encoder.proofs.encoding.encode.Goals as goal
 
 pub returns-in-Ok-clause-encoded : goal.returns-in-Ok-clause-encoded

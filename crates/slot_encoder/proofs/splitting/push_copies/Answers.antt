@@ -1,5 +1,5 @@
 use Rattle.slot_encoder.specs.Made as made
-use Rattle.slot_encoder.proofs.Appended.{flat_next}
+use Rattle.slot_encoder.proofs.Splits.{flat_next}
 use Rattle.slot_encoder.proofs.splitting.push_copies.Goals as goal
 
 pub loop-child-preserved : goal.loop-child-preserved

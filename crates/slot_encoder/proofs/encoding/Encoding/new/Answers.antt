@@ -1,4 +1,4 @@
-use Rattle.slot_encoder.proofs.AllWords.{head-encoded}
+use Rattle.slot_encoder.proofs.WholeValues.{head-encoded}
 use Rattle.slot_encoder.proofs.encoding.Encoding.new.Goals as goal
 
 pub returns-in-Ok-clause-encoding : goal.returns-in-Ok-clause-encoding

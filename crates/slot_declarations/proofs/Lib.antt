@@ -1,0 +1,10 @@
+pub mod Appended
+pub mod CheckedMethods
+pub mod GuardTypes
+pub mod PredicateParts
+pub mod FoldedWords
+pub mod Gained
+pub mod SourceWords
+pub mod OwnWords
+pub mod Greatest
+pub mod AllWords

@@ -1,0 +1,10 @@
+use Rattle.std.proofs.Common.{◌≡◌, map, take}
+use Rattle.task_networks.specs.Spelling.{numbers}
+use Rattle.slot_declarations.specs.Pieces.{checked_from, checks_before}
+use Rattle.slot_declarations.proofs.basis.checks_of.Given as goal
+
+abbrev pub invariant-loop-plan : goal.invariant-loop-plan
+invariant-loop-plan l = record {
+  methods : l.checks.methods ≡ checked_from 0 (take l.plan-index l.methods);
+  before : l.checks.before ≡ map (checks_before l.methods) (numbers 0 l.plan-index);
+}

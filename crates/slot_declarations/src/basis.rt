@@ -1,0 +1,92 @@
+ghost use Rattle.std.specs.Prelude.{◌≡◌, ◌∷◌, [], ◌++◌, length, IfOk, OnOk};
+ghost use Rattle.slot_encoding.specs.EncodedNames as names;
+ghost use Rattle.order_encoder.specs.Orders as orders;
+ghost use Rattle.slot_declarations.specs.Frames.{HasSourceWords, IsBasis, AreChecks};
+ghost use Rattle.slot_declarations.specs.Pieces.{if_checked};
+
+use crate::guards::guard_types;
+use crate::numbers::{Numbers, numbers_of, plus};
+use crate::words::name_of;
+use htn_base::{List, Memory, NameTable, number};
+use order_encoder::OrderNames;
+use plan_model::{Compiled, MethodPlan};
+use std::alloc::Global;
+
+/// What is worked out once for all parts of the printed problem: the numbers of predicates, the names of order pairs, the
+/// types of guards, and the checks.
+#[derive(Drop)]
+pub struct Basis {
+    pub numbers: Numbers,
+    pub order: OrderNames,
+    pub guard_types: List<u32>,
+    pub checks: Checks,
+}
+
+/// The numbers of the methods that have checks, and for each method how many before it have one.
+#[derive(Drop)]
+pub struct Checks {
+    pub methods: List<u32>,
+    pub before: List<u32>,
+}
+
+/// That of a compiled problem with so many slots, whose printed words begin with those of the source; or want of memory.
+pub fn basis_of(
+    alloc: Global,
+    c: &Compiled,
+    printed: &NameTable,
+    slots: u32,
+) -> Result<Basis, Memory>
+    requires { HasSourceWords c.now.hddl.names printed.now }
+    ensures { IfOk result (IsBasis c.now printed.now slots) }
+{
+    let checks = checks_of(alloc, c.methods.as_slice())?;
+    let numbers = numbers_of(c, number(checks.methods.len())?)?;
+    let order = order_of(c, printed, numbers.before)?;
+    plus(order.first_slot, slots)?;
+    Ok(Basis {
+        numbers,
+        order,
+        guard_types: guard_types(alloc, c)?,
+        checks,
+    })
+}
+
+fn checks_of(alloc: Global, methods: &[MethodPlan]) -> Result<Checks, Memory>
+    ensures { IfOk result (AreChecks methods.now) }
+{
+    let mut checks = Checks {
+        methods: List::new(alloc),
+        before: List::new(alloc),
+    };
+    for plan in methods {
+        push_method(plan, &mut checks)?;
+    }
+    Ok(checks)
+}
+
+fn push_method(plan: &MethodPlan, checks: &mut Checks) -> Result<(), Memory>
+    ensures before { OnOk result
+        (checks.new.before ≡ checks.old.before ++ length checks.old.methods ∷ []) }
+    ensures methods { OnOk result
+        (checks.new.methods ≡ checks.old.methods ++ if_checked plan.now (length checks.old.before)) }
+{
+    let m = number(checks.before.len())?;
+    checks.before.put(number(checks.methods.len()))?;
+    if plan.checked {
+        checks.methods.push(m)
+    } else {
+        Ok(())
+    }
+}
+
+fn order_of(c: &Compiled, printed: &NameTable, before: u32) -> Result<OrderNames, Memory>
+    requires { before ≡ names.before_predicate c.now }
+    ensures { IfOk result (λ o. orders.numbers o ≡ names.order_numbers c.now printed.now 0) }
+{
+    Ok(OrderNames {
+        before,
+        slot_type: 1,
+        x: name_of(printed, b"htn_x"),
+        first_slot: number(c.hddl.objects.len())?,
+    })
+}

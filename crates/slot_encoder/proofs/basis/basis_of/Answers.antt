@@ -1,9 +1,0 @@
-use Rattle.std.proofs.Common.{length, ap, ◌∙◌}
-use Rattle.slot_encoder.specs.Pieces.{checked_from}
-use Rattle.slot_encoder.proofs.CheckedMethods.{checked_from-length}
-use Rattle.slot_encoder.proofs.basis.basis_of.Goals as goal
-
-pub numbers_of-requires : goal.numbers_of-requires
-numbers_of-requires c =
-    c.in_ok-number.ensures.same ∙ c.len.ensures.length ∙ ap length (c.in_ok-checks.ensures.methods ∙ ap (checked_from 0) c.as_slice.ensures.items)
-    ∙ checked_from-length 0 c.args.c.now.methods
