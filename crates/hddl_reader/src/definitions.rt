@@ -11,7 +11,9 @@ ghost use Rattle.hddl_reader.specs.Definitions.{coded, key_due, definition_word,
 use crate::networks::{RawNet, declared_of};
 use crate::parts::RawParts;
 use crate::section_bodies::sections_of;
-use crate::sections::{Definition, Language, RawDomain, RawProblem, RawSections, or_none, or_true};
+use crate::sections::{
+    Definition, Language, RawDomain, RawProblem, RawSections, or_none, or_true, params_or_none,
+};
 use gd_reader::{Failure, Item, Stop, is_word, item_at};
 use htn_base::{Fault, Name, NameTable};
 use sexpr_text::{ReadError, Sexprs};
@@ -45,8 +47,8 @@ impl RawSections {
     {
         RawDomain {
             name,
-            types: or_none(alloc, self.types),
-            constants: or_none(alloc, self.constants),
+            types: params_or_none(alloc, self.types),
+            constants: params_or_none(alloc, self.constants),
             predicates: or_none(alloc, self.predicates),
             tasks: self.tasks,
             methods: self.methods,
@@ -67,8 +69,8 @@ impl RawSections {
         };
         RawProblem {
             name,
-            objects: or_none(alloc, self.objects),
-            params: or_none(alloc, network.params),
+            objects: params_or_none(alloc, self.objects),
+            params: params_or_none(alloc, network.params),
             net,
             init: or_none(alloc, self.init),
             goal: or_true(alloc, self.goal),

@@ -13,7 +13,7 @@ use crate::items::some_of;
 use crate::networks::{RawCon, RawPair, RawSub};
 use crate::opened::opened_due;
 use gd_reader::{
-    Failure, Item, ListKind, RawAtom, RawEffect, RawFormula, RawParam, Stop, applied_of,
+    Failure, Item, ListKind, RawAtom, RawEffect, RawFormula, RawParams, Stop, applied_of,
     effect_inside_of, end_due, inside_of, is_word, item_at, params_of,
 };
 use htn_base::{List, NameTable};
@@ -23,7 +23,7 @@ use std::alloc::Global;
 /// The parts of a task, a method, an action or the initial network: each that is written.
 #[derive(Drop)]
 pub struct RawParts {
-    pub params: Option<List<RawParam>>,
+    pub params: Option<RawParams>,
     pub task: Option<RawAtom>,
     pub pre: Option<RawFormula>,
     pub eff: Option<RawEffect>,

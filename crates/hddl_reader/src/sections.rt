@@ -13,7 +13,7 @@ use crate::items::Item;
 use crate::networks::{RawNet, declared_of};
 use crate::parts::{RawParts, unknown};
 use gd_reader::{
-    Failure, Item as Shown, ListKind, RawAtom, RawEffect, RawFormula, RawParam, RawTerm, Stop,
+    Failure, Item as Shown, ListKind, RawAtom, RawEffect, RawFormula, RawParams, RawTerm, Stop,
     is_word, item_at, params_of,
 };
 use htn_base::{List, Name, NameTable};
@@ -38,7 +38,7 @@ pub enum Definition {
 #[derive(Drop)]
 pub struct RawHead {
     pub name: RawTerm,
-    pub params: List<RawParam>,
+    pub params: RawParams,
 }
 
 #[derive(Drop)]
@@ -79,15 +79,15 @@ pub enum Section {
 #[derive(Drop)]
 pub struct RawSections {
     pub requirements: bool,
-    pub types: Option<List<RawParam>>,
-    pub constants: Option<List<RawParam>>,
+    pub types: Option<RawParams>,
+    pub constants: Option<RawParams>,
     pub predicates: Option<List<RawHead>>,
     pub functions: bool,
     pub tasks: List<RawHead>,
     pub methods: List<RawMethod>,
     pub actions: List<RawAction>,
     pub domain: bool,
-    pub objects: Option<List<RawParam>>,
+    pub objects: Option<RawParams>,
     pub network: Option<RawParts>,
     pub init: Option<List<RawAtom>>,
     pub goal: Option<RawFormula>,
@@ -98,8 +98,8 @@ pub struct RawSections {
 #[derive(Drop)]
 pub struct RawDomain {
     pub name: Name,
-    pub types: List<RawParam>,
-    pub constants: List<RawParam>,
+    pub types: RawParams,
+    pub constants: RawParams,
     pub predicates: List<RawHead>,
     pub tasks: List<RawHead>,
     pub methods: List<RawMethod>,
@@ -110,8 +110,8 @@ pub struct RawDomain {
 #[derive(Drop)]
 pub struct RawProblem {
     pub name: Name,
-    pub objects: List<RawParam>,
-    pub params: List<RawParam>,
+    pub objects: RawParams,
+    pub params: RawParams,
     pub net: RawNet,
     pub init: List<RawAtom>,
     pub goal: RawFormula,
@@ -123,6 +123,15 @@ pub(crate) fn or_none<T>(alloc: Global, list: Option<List<T>>) -> List<T>
     match list {
         None => List::new(alloc),
         Some(list) => list,
+    }
+}
+
+pub(crate) fn params_or_none(alloc: Global, params: Option<RawParams>) -> RawParams
+    ensures { result ≡ or_none params }
+{
+    match params {
+        None => RawParams::new(alloc),
+        Some(params) => params,
     }
 }
 
@@ -151,7 +160,7 @@ impl RawParts {
     {
         RawHead {
             name,
-            params: or_none(alloc, self.params),
+            params: params_or_none(alloc, self.params),
         }
     }
 
@@ -159,7 +168,7 @@ impl RawParts {
     pub(crate) fn into_action(self, alloc: Global, name: RawTerm) -> RawAction
         ensures { result ≡ action_of name self }
     {
-        let params = or_none(alloc, self.params);
+        let params = params_or_none(alloc, self.params);
         RawAction {
             head: RawHead { name, params },
             pre: or_true(alloc, self.pre),
@@ -172,7 +181,7 @@ impl RawParts {
         ensures { result ≡ method_of name self }
     {
         let task = self.task?;
-        let params = or_none(alloc, self.params);
+        let params = params_or_none(alloc, self.params);
         let net = RawNet {
             subs: or_none(alloc, self.subs),
             ordered: self.ordered,
