@@ -1,23 +1,27 @@
-ghost use Rattle.std.specs.Prelude.{◌≡◌, ◌≤◌, ◌↔◌, false, length, IsTrue, Contains, Some, None, IfOk, OnOk, OnErr};
+ghost use Rattle.std.specs.Prelude.{ℕ, ◌≡◌, ◌<◌, ◌^◌, ◌++◌, ◌∷◌, [], ◌≤◌, ◌↔◌, false, length, IsTrue, Contains, Some, None, IfSome, IfOk, OnOk, OnErr};
 ghost use Rattle.std.specs.Bool.{OnTrue};
 ghost use Rattle.plan_meaning.specs.Truth.{ground, values_of};
 ghost use Rattle.ground_state.specs.Frames.{frame};
+ghost use Rattle.ground_state.specs.Kinds.{IsWithSome};
 ghost use Rattle.ground_state.specs.States as spec;
 
 use crate::atom_list::AtomLists;
 use crate::env::Env;
+use crate::kinds::Kind;
 use crate::notes::Notes;
 use crate::numbers::Numbers;
 use htn_base::{List, Memory};
-use plan_model::{Atom, GroundAtom, Term};
+use plan_model::{Atom, GroundAtom, Object, Term};
 use std::alloc::Global;
 
 /// More predicates than these count as want of memory: no text of at most 16 megabytes declares so many.
 const MOST_PREDICATES: u32 = 1 << 24;
 
-/// Of the atoms of so many predicates, the first ones, those of few and small objects have numbers. This bounds the memory
-/// that a state of few atoms takes to some 30 megabytes.
+/// Of the atoms of so many predicates, the first ones, those of few and small objects have numbers, which are less than
+/// 2^16; those of the first `ROOMY_PREDICATES` have numbers that are less than 2^20. This bounds the memory that a state of
+/// few atoms takes to some 100 megabytes.
 const NUMBERED_PREDICATES: usize = 128;
+const ROOMY_PREDICATES: usize = 32;
 
 /// A set of ground atoms, those that are true. `facts` has what is noted of each predicate, at its number: an atom that is
 /// noted as false is one that a step makes true or has made false.
@@ -70,6 +74,25 @@ impl State {
         self.note_terms(predicate, env, terms).unwrap_or(false)
     }
 
+    /// Whether with some object of the kind for one more variable what the atom stands for is true, or not, as wanted: told
+    /// only where that takes no look-up of whole atoms.
+    #[inline(always)]
+    pub(crate) fn finds(
+        &self,
+        wanted: bool,
+        kind: &Kind,
+        objects: &List<Object>,
+        env: &Env,
+        atom: &Atom,
+    ) -> Option<bool>
+        requires few { length objects.now < 2 ^ 32 }
+        ensures { IfSome result (IsWithSome kind.now objects.now
+            (λ x. spec.has_ground self.now (ground ((frame env.now).objects ++ x ∷ []) atom.now)) wanted) }
+    {
+        let notes = self.facts.get(atom.predicate as usize)?;
+        notes.finds(wanted, kind, objects, env, atom.args.as_slice())
+    }
+
     /// What is noted of the predicate and the objects that the terms stand for.
     #[inline(always)]
     fn note_terms(&self, predicate: u32, env: &mut Env, terms: &[Term]) -> Option<bool>
@@ -119,10 +142,10 @@ impl State {
         ensures { spec.HasSameNotes self.old self.new }
     {
         for number in self.facts.len()..predicate as usize + 1 {
-            let room = if number < NUMBERED_PREDICATES {
-                u16::MAX
-            } else {
-                0
+            let room = match number {
+                ..ROOMY_PREDICATES => 1 << 20,
+                ..NUMBERED_PREDICATES => 1 << 16,
+                _ => 0,
             };
             let notes = Notes::new(alloc, Numbers::new(self.most, room));
             self.facts.push(notes)?;

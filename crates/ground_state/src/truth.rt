@@ -1,9 +1,10 @@
-ghost use Rattle.std.specs.Prelude.{◌≡◌, ◌≤◌, ◌<◌, ◌^◌, ◌↔◌, IsTrue, length};
+ghost use Rattle.std.specs.Prelude.{◌≡◌, ◌≤◌, ◌<◌, ◌^◌, ◌↔◌, IsTrue, IfSome, length};
 ghost use Rattle.plan_model.specs.Parts.{AreListed};
 ghost use Rattle.plan_meaning.specs.Truth.{ground};
 ghost use Rattle.ground_state.specs.Frames.{frame};
 ghost use Rattle.ground_state.specs.Room.{Fits, AllFit, FitsWithin};
 ghost use Rattle.ground_state.specs.States.{atoms};
+ghost use Rattle.ground_state.specs.Search.{IsLiteralFound};
 ghost use Rattle.ground_state.specs.Clauses.{IsTrueBy, IsAmong, Finds};
 
 use crate::env::Env;
@@ -125,10 +126,15 @@ fn is_found(
         return is_true(body, env, s, types, objects) == wanted;
     };
     let kind = Kind::new(types, param.ty);
+    if rest.is_empty() {
+        if let Some(found) = is_literal_found(wanted, &kind, body, env, s, objects) {
+            return found;
+        }
+    }
     for object in 0..objects.len() as u32 {
         if kind.has(objects, object) {
             env.push(object);
-            let found = is_rest_found(wanted, rest, body, env, s, types, objects);
+            let found = is_found(wanted, rest, body, env, s, types, objects);
             env.pop();
             if found {
                 return true;
@@ -138,26 +144,27 @@ fn is_found(
     false
 }
 
-/// The same. Where no types are left, it is told without a further call.
-#[cycle(holds)]
+/// Whether for some object of the kind the formula is true, or false, as wanted. It is told only of a literal, where that
+/// takes no look-up of whole atoms.
 #[inline(always)]
-fn is_rest_found(
+fn is_literal_found(
     wanted: bool,
-    params: &[Param],
+    kind: &Kind,
     body: &Formula,
-    env: &mut Env,
+    env: &Env,
     s: &State,
-    types: &Types,
     objects: &List<Object>,
-) -> bool
-    requires listed { AreListed types.now }
+) -> Option<bool>
     requires few { length objects.now < 2 ^ 32 }
-    requires room { FitsWithin (frame env.old) params.now body.now }
-    ensures answer { Finds types.now objects.now s.now wanted result params.now body.now env.old }
-    ensures kept { frame env.new ≡ frame env.old }
+    ensures { IfSome result
+        (IsLiteralFound kind.now objects.now s.now wanted body.now (frame env.now).objects) }
 {
-    if params.is_empty() {
-        return is_true(body, env, s, types, objects) == wanted;
+    match body {
+        Formula::Holds(atom) => s.finds(wanted, kind, objects, env, atom),
+        Formula::Not(part) => match part.get() {
+            Formula::Holds(atom) => s.finds(!wanted, kind, objects, env, atom),
+            _ => None,
+        },
+        _ => None,
     }
-    is_found(wanted, params, body, env, s, types, objects)
 }

@@ -124,7 +124,7 @@ is_among-is_true-requires t c = (
 )
 
 pub is_found-returns-then-found-clause-kept : goal.is_found-returns-then-found-clause-kept
-is_found-returns-then-found-clause-kept t c = c.pop.ensures (frame c.loop-object.env) c.loop-object.object (c.is_rest_found-found.ensures.kept ∙ c.push.ensures) ∙ c.loop-object.invariant.0
+is_found-returns-then-found-clause-kept t c = c.pop.ensures (frame c.loop-object.env) c.loop-object.object (c.is_found-found.ensures.kept ∙ c.push.ensures) ∙ c.loop-object.invariant.0
 
 pub is_found-returns-then-found-clause-answer : goal.is_found-returns-then-found-clause-answer
 is_found-returns-then-found-clause-answer t c =
@@ -149,7 +149,7 @@ is_found-loop-object-preserved t c =
     let before : (o : ℕ) → o < c.loop-object.object → P o = λ o l os i a. c.loop-object.invariant.1 o os l i a in
     elim c.if-has.branch [
       | is_found-then-has+else-found w ↦ (
-          let kept : frame w.pop.new.self ≡ frame c.args.env.now = w.pop.ensures (frame c.loop-object.env) c.loop-object.object (w.is_rest_found-found.ensures.kept ∙ w.push.ensures) ∙ c.loop-object.invariant.0 in
+          let kept : frame w.pop.new.self ≡ frame c.args.env.now = w.pop.ensures (frame c.loop-object.env) c.loop-object.object (w.is_found-found.ensures.kept ∙ w.push.ensures) ∙ c.loop-object.invariant.0 in
           let objects : w.push.new.self.values.items ≡ c.args.env.now.values.items ++ c.loop-object.object ∷ [] = ap (λ (f : Frame). f.objects) w.push.ensures ∙ ap (λ (f : Frame). f.objects ++ c.loop-object.object ∷ []) c.loop-object.invariant.0 in
           let last : P c.loop-object.object = λ os i a. subst (λ v. Is (not c.args.wanted) (IsTrueIn I S c.args.body.now (v ++ os))) objects (w.if-found.ensures.answer os a) in
           (ap frame w.env-is ∙ kept, λ o os l i a. below-next P c.loop-object.object before last o l os i a)
