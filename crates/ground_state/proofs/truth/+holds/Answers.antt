@@ -1,4 +1,5 @@
 use Rattle.std.proofs.Common.{ℕ, ◌≡◌, ◌<◌, ◌↔◌, ◌++◌, not, IsTrue, List, [], ◌∷◌, length, sym, subst, ap, ◌∙◌, append_assoc, true≢false, arith}
+use Rattle.std.proofs.lemmas.Bool.{eqb-true}
 use Rattle.plan_model.specs.Typing.{InType}
 use Rattle.plan_model.proofs.PartsOf.{in_type_within}
 use Rattle.plan_meaning.specs.Truth.{IsTrueIn, AreTyped}
@@ -140,6 +141,12 @@ is_found-returns-then-found-clause-answer t c =
       subst (λ ps. AreTyped I ps (o ∷ found.0)) (sym first) (typed, found.1),
       subst (λ u. Is c.args.wanted (IsTrueIn I S c.args.body.now u)) (ap (λ w. w ++ found.0) objects ∙ append_assoc v (o ∷ []) found.0) found.2,
     )
+
+pub is_found-returns-in-Some-is_literal_found-clause-answer : goal.is_found-returns-in-Some-is_literal_found-clause-answer
+is_found-returns-in-Some-is_literal_found-clause-answer t c =
+    let one = truth.only-one c.args.params.now c.in-Some.param.now c.in-Some.rest.now c.in-Some.ensures.cases.0 (eqb-true (length c.in-Some.rest.now) 0 (sym c.is_empty.ensures ∙ c.if-is_empty.true)) in
+    truth.is-found-literal (InType c.args.types.now c.args.objects.now) c.new-kind.result c.args.objects.now c.args.s.now c.args.wanted c.args.body.now c.args.env.now.values.items c.in-Some-is_literal_found.found c.in-Some.param.now c.args.params.now one
+    (λ o. in_type_by_kind c.args.types.now c.args.objects.now c.new-kind.result o c.in-Some.param.now.ty c.new-kind.ensures) c.in-Some-is_literal_found.ensures
 
 pub is_found-loop-object-preserved : goal.is_found-loop-object-preserved
 is_found-loop-object-preserved t c =
