@@ -97,6 +97,9 @@ module _ (InType : ℕ → ℕ → Type 0) (S : State) (v : List ℕ) where
       by true h = (λ i. h, λ o. refl)
       by false h = (λ i. absurd (true-is-not-false i), λ o. absurd (h o.0 o.1 o.2))
 
+pub as-has : {b c : Bool} → b ≡ c → IsTrue b ↔ IsTrue c
+as-has e = (λ x. sym e ∙ x, λ x. e ∙ x)
+
 -- truth of a literal, as the state has its atom
 module _ (InType : ℕ → ℕ → Type 0) (s : computed.State) (a : Atom) (v : List ℕ) where
   holds-as : IsTrue (has_ground s (ground v a)) ↔ IsTrueIn InType (atoms s) (F.Holds a) v

@@ -111,8 +111,8 @@ impl Env {
         Some(number as usize)
     }
 
-    /// The numbers of the objects that the terms stand for, with each of the first `count` objects for one more variable,
-    /// where each of them has one.
+    /// The numbers of the objects that the terms stand for, with each of the first `count` objects for
+    /// one more variable, where each has one.
     pub(crate) fn row(&self, terms: &[Term], numbers: Numbers, count: u32) -> Option<Row>
         ensures { IfSome result (HasRow numbers (frame self.now).objects terms.now count) }
     {
@@ -133,7 +133,8 @@ impl Env {
         Some(Row { first, step })
     }
 
-    /// The object that the term stands for, with each object for one more variable.
+    /// The object that the term stands for, with each object for one more variable: that object itself,
+    /// or always the same.
     fn digit(&self, term: Term) -> Row
         ensures value { (x : ℕ) → value_of ((frame self.now).objects ++ x ∷ []) term ≡ result.first + result.step * x }
         ensures first { result.first < 2 ^ 32 }

@@ -1,4 +1,4 @@
-ghost use Rattle.std.specs.Prelude.{ℕ, ◌≡◌, ◌<◌, ◌^◌, ◌++◌, ◌∷◌, [], ◌≤◌, false, Some, None, length, slice_index_or, IfSome, OnOk, OnErr};
+ghost use Rattle.std.specs.Prelude.{◌≡◌, ◌<◌, ◌^◌, ◌++◌, ◌∷◌, [], ◌≤◌, false, Some, None, length, slice_index_or, IfSome, OnOk, OnErr};
 ghost use Rattle.std.specs.Bool.{OnTrue};
 ghost use Rattle.plan_meaning.specs.Truth.{values_of};
 ghost use Rattle.ground_state.specs.Frames.{frame};
@@ -85,8 +85,9 @@ impl Notes {
         }
     }
 
-    /// Whether with some object of the kind for one more variable the objects that the terms stand for are noted as true,
-    /// or not, as wanted. It is told from number to number, where there is one with each object.
+    /// Whether with some object of the kind for one more variable the objects that the terms stand for
+    /// are noted as true, or not, as wanted. It is told from number to number, where there is one with
+    /// each object.
     pub(crate) fn finds(
         &self,
         wanted: bool,

@@ -10,8 +10,7 @@ pub struct Numbers {
     pub(crate) room: u32,
 }
 
-/// The numbers of lists that differ in one object, which stands for itself or not at all: with object 0 the number is
-/// `first`, and with each next one it is `step` more.
+/// A row of numbers, one for each object: `first` for object 0, and `step` more for each next one.
 #[derive(Clone, Copy)]
 pub struct Row {
     pub(crate) first: u64,
@@ -19,10 +18,6 @@ pub struct Row {
 }
 
 impl Numbers {
-    pub(crate) fn new(most: u32, room: u32) -> Numbers {
-        Numbers { most, room }
-    }
-
     /// The number with one digit more behind it, where there is one.
     pub(crate) fn with(self, number: u64, object: u32) -> Option<u64>
         requires { number + 1 < 2 ^ 32 }

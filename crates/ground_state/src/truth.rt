@@ -1,9 +1,7 @@
-ghost use Rattle.std.specs.Prelude.{◌≡◌, ◌≤◌, ◌<◌, ◌^◌, ◌↔◌, IsTrue, IfSome, length};
+ghost use Rattle.std.specs.Prelude.{◌≡◌, ◌<◌, ◌^◌, ◌↔◌, IsTrue, IfSome, length};
 ghost use Rattle.plan_model.specs.Parts.{AreListed};
-ghost use Rattle.plan_meaning.specs.Truth.{ground};
 ghost use Rattle.ground_state.specs.Frames.{frame};
 ghost use Rattle.ground_state.specs.Room.{Fits, AllFit, FitsWithin};
-ghost use Rattle.ground_state.specs.States.{atoms};
 ghost use Rattle.ground_state.specs.Search.{IsLiteralFound};
 ghost use Rattle.ground_state.specs.Clauses.{IsTrueBy, IsAmong, Finds};
 
@@ -24,7 +22,7 @@ pub fn holds(f: &Formula, env: &mut Env, s: &State, types: &Types, objects: &Lis
     ensures kept { frame env.new ≡ frame env.old }
 {
     match f {
-        Formula::Holds(atom) => has_atom(atom, env, s),
+        Formula::Holds(atom) => s.has_atom(env, atom),
         Formula::Equal(left, right) => env.value(*left) == env.value(*right),
         Formula::Not(part) => !holds(part.get(), env, s, types, objects),
         Formula::And(parts) => !is_among(false, parts.as_slice(), env, s, types, objects),
@@ -44,16 +42,6 @@ pub fn holds(f: &Formula, env: &mut Env, s: &State, types: &Types, objects: &Lis
     }
 }
 
-/// Whether the atom that this one stands for is in the state.
-#[inline(always)]
-fn has_atom(atom: &Atom, env: &mut Env, s: &State) -> bool
-    requires { length atom.now.args ≤ (frame env.old).arity }
-    ensures truth { IsTrue result ↔ atoms s.now (ground (frame env.old).objects atom.now) }
-    ensures kept { frame env.new ≡ frame env.old }
-{
-    s.has_terms(atom.predicate, env, atom.args.as_slice())
-}
-
 /// The same. Of a literal, as most parts of conditions are, it is told without a further call.
 #[cycle(holds)]
 #[inline(always)]
@@ -71,11 +59,11 @@ pub(crate) fn is_true(
     ensures kept { frame env.new ≡ frame env.old }
 {
     if let Formula::Holds(atom) = f {
-        return has_atom(atom, env, s);
+        return s.has_atom(env, atom);
     }
     if let Formula::Not(part) = f {
         if let Formula::Holds(atom) = part.get() {
-            return !has_atom(atom, env, s);
+            return !s.has_atom(env, atom);
         }
     }
     holds(f, env, s, types, objects)
@@ -144,8 +132,8 @@ fn is_found(
     false
 }
 
-/// Whether for some object of the kind the formula is true, or false, as wanted. It is told only of a literal, where that
-/// takes no look-up of whole atoms.
+/// Whether for some object of the kind the formula is true, or false, as wanted. It is told only of
+/// a literal, where that takes no look-up of whole atoms.
 #[inline(always)]
 fn is_literal_found(
     wanted: bool,

@@ -78,7 +78,7 @@ holds-is_found-requires-in-Exists t c = (
 )
 
 pub holds-returns-in-Holds-clause-truth : goal.holds-returns-in-Holds-clause-truth
-holds-returns-in-Holds-clause-truth t c = truth.is-Holds (InType c.args.types.now c.args.objects.now) (atoms c.args.s.now) c.args.env.now.values.items c.args.f.now c.in-Holds.atom c.has_atom.result c.in-Holds.is c.has_atom.ensures.truth
+holds-returns-in-Holds-clause-truth t c = truth.is-Holds (InType c.args.types.now c.args.objects.now) (atoms c.args.s.now) c.args.env.now.values.items c.args.f.now c.in-Holds.atom c.has_atom.result c.in-Holds.is (truth.as-has c.has_atom.ensures.truth)
 
 pub holds-returns-in-Equal-clause-truth : goal.holds-returns-in-Equal-clause-truth
 holds-returns-in-Equal-clause-truth t c =
@@ -183,7 +183,7 @@ pub is_true-has_atom-requires : goal.is_true-has_atom-requires
 is_true-has_atom-requires t c = room.fits-Holds (frame c.args.env.now) c.args.f.now c.in-Holds.atom c.in-Holds.is c.requires.room
 
 pub is_true-returns-in-Holds-clause-truth : goal.is_true-returns-in-Holds-clause-truth
-is_true-returns-in-Holds-clause-truth t c = truth.is-Holds (InType c.args.types.now c.args.objects.now) (atoms c.args.s.now) c.args.env.now.values.items c.args.f.now c.in-Holds.atom c.has_atom.result c.in-Holds.is c.has_atom.ensures.truth
+is_true-returns-in-Holds-clause-truth t c = truth.is-Holds (InType c.args.types.now c.args.objects.now) (atoms c.args.s.now) c.args.env.now.values.items c.args.f.now c.in-Holds.atom c.has_atom.result c.in-Holds.is (truth.as-has c.has_atom.ensures.truth)
 
 pub is_true-has_atom-requires-in-Holds-get : goal.is_true-has_atom-requires-in-Holds-get
 is_true-has_atom-requires-in-Holds-get t c =
@@ -195,5 +195,5 @@ is_true-returns-in-Holds-get t c =
     let I = InType c.args.types.now c.args.objects.now in
     let S = atoms c.args.s.now in
     let v = c.args.env.now.values.items in
-    let inside = truth.is-Holds I S v c.get.result.now c.in-Holds-get.atom c.has_atom-in-Holds-get.result c.in-Holds-get.is c.has_atom-in-Holds-get.ensures.truth in
+    let inside = truth.is-Holds I S v c.get.result.now c.in-Holds-get.atom c.has_atom-in-Holds-get.result c.in-Holds-get.is (truth.as-has c.has_atom-in-Holds-get.ensures.truth) in
     record { truth = truth.is-Not I S v c.args.f.now c.in-Not.part c.get.result.now c.has_atom-in-Holds-get.result c.in-Not.is c.get.ensures.value inside; kept = c.has_atom-in-Holds-get.ensures.kept }

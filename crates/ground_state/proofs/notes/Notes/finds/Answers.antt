@@ -1,4 +1,4 @@
-use Rattle.std.proofs.Common.{ℕ, ◌≡◌, ◌+◌, ◌*◌, ◌<◌, ◌++◌, not, Bool, true, false, [], ◌∷◌, refl, ap, sym, ◌∙◌, true≢false, arith}
+use Rattle.std.proofs.Common.{ℕ, ◌≡◌, ◌++◌, not, Bool, true, false, [], ◌∷◌, refl, ap, sym, ◌∙◌, true≢false, arith}
 use Rattle.std.specs.Prelude.{slice_index_or, None, unwrap_or}
 use Rattle.std.specs.Cmp.{booleans_Decides}
 use Rattle.std.proofs.lemmas.Bool.Decides.{not_from_Decides}
@@ -18,11 +18,9 @@ other false false n = absurd (n refl)
 
 pub loop-object-preserved : goal.loop-object-preserved
 loop-object-preserved c =
-    let row = c.in_ok-row.row in
     let o = c.loop-object.object in
     let notes = c.args.self.now in
     let P : ℕ → Type 0 = λ x. IsOfKind c.args.kind.now c.args.objects.now x → holds c.args.self.now (values_of (c.args.env.now.values.items ++ x ∷ []) c.args.terms.now) ≡ not c.args.wanted in
-    let args = values_of (c.args.env.now.values.items ++ c.loop-object.object ∷ []) c.args.terms.now in
     let is : holds c.args.self.now (values_of (c.args.env.now.values.items ++ c.loop-object.object ∷ []) c.args.terms.now) ≡ c.unwrap_or-truth.result =
     ap (λ n. unwrap_or (noted_at notes args n) false) (c.in_ok-row.ensures.at o (let t = c.loop-object-test.true in omega (arith, t)))
     ∙ ap (λ n. unwrap_or (slice_index_or notes.near.items n None) false) (sym c.loop-object.invariant.0)
