@@ -2,9 +2,9 @@
 use Rattle.std.proofs.Common.{ℕ, zero, suc, ◌≡◌, ◌+◌, ◌-◌, ◌*◌, ◌%◌, ◌/◌, ◌<◌, ◌≤◌, ◌&&◌, Bool, true, false, List, [], ◌∷◌, length, get_or, drop, Option, Some, None, refl, ap, sym, subst, ◌∙◌, arith}
 use Rattle.std.specs.Prelude.{nat_lt, cond}
 use Rattle.std.specs.Option.{option_and_then}
-use Rattle.std.proofs.lemmas.Bool.{ltb-true}
+use Rattle.std.proofs.lemmas.Bool.{ltb-true, lt-ltb}
 use Rattle.std.proofs.lemmas.Nat.{mod-mul-add, div-mul-add}
-use Rattle.std.proofs.Math.Nat.{le-mul_of_pos_right}
+use Rattle.std.proofs.Math.Nat.{le-mul_of_pos_right, mul-le-mul_left}
 use Rattle.std.proofs.lemmas.List.{drop_more}
 use Rattle.ground_state.specs.Numbers.{with_digit, number}
 
@@ -87,3 +87,20 @@ module _ (most room : ℕ) where
     -- where there is no such number, the list has none
     pub ends_there : None ≡ with_digit most room x n → None ≡ number most room xs
     ends_there d = sym (no_number xs (i - 1) (one_more ∙ sym d))
+
+  is_put : (x n k : ℕ) → x < most + 1 → n * (most + 2) + x < room → n * (most + 2) + x ≡ k → Some k ≡ with_digit most room x n
+  is_put x n k l m e =
+      sym (ap (λ b. cond (b && nat_lt (n * (most + 2) + x) room) (Some (n * (most + 2) + x)) None) (lt-ltb x (most + 1) l)
+      ∙ ap (λ b. cond b (Some (n * (most + 2) + x)) None) (lt-ltb (n * (most + 2) + x) room m)
+      ∙ ap (λ i. Some i) e)
+
+  -- the same for lists that differ in the object x, and whose numbers are a first one and steps
+  pub next_in_row : (xs : List ℕ) (i x count first step a b : ℕ) → 0 < i → i ≤ length xs → x < count → a + b * x ≡ get_or xs (i - 1) 0 → a + b * count ≤ most + b
+      → first * (most + 2) + a + (step * (most + 2) + b) * count < room → number most room (drop i xs) ≡ Some (first + step * x)
+      → number most room (drop (i - 1) xs) ≡ Some (first * (most + 2) + a + (step * (most + 2) + b) * x)
+  next_in_row xs i x count first step a b l m k at digits fits e =
+      let below : b * (x + 1) ≤ b * count = mul-le-mul_left b (omega (arith, k)) in
+      let steps : (step * (most + 2) + b) * x ≤ (step * (most + 2) + b) * count = mul-le-mul_left (step * (most + 2) + b) (omega (arith, k)) in
+      let same : (first + step * x) * (most + 2) + (a + b * x) ≡ first * (most + 2) + a + (step * (most + 2) + b) * x = omega arith in
+      let small : a + b * x < most + 1 = omega (arith, below, digits) in
+      next_number xs i (a + b * x) (first + step * x) l m at e _ (is_put (a + b * x) (first + step * x) _ small (omega (arith, steps, fits, same)) same)

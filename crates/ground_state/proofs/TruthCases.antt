@@ -1,5 +1,6 @@
 -- Truth, by the kinds of formulas, as it is computed.
-use Rattle.std.proofs.Common.{ℕ, zero, suc, ◌≡◌, ◌<◌, ◌↔◌, inl, inr, Bool, true, false, not, IsTrue, List, [], ◌∷◌, ◌++◌, length, get_or, Contains, nat_eq, refl, ap, sym, subst, ◌∙◌, true≢false, arith}
+use Rattle.std.proofs.Common.{ℕ, zero, suc, ◌≡◌, ◌<◌, ◌↔◌, inl, inr, Bool, true, false, not, IsTrue, List, [], ◌∷◌, ◌++◌, length, get_or, Contains, nat_eq, Option, Some, None, IfSome, refl, ap, sym, subst, ◌∙◌, true≢false, arith}
+use Rattle.std.specs.Bool.{beq}
 use Rattle.std.proofs.lemmas.Bool.{eqb-true, eq-eqb}
 use Rattle.plan_model.specs.declared.terms.Term.{Term}
 use Rattle.plan_model.specs.declared.terms.Atom.{Atom}
@@ -9,7 +10,12 @@ use Rattle.plan_model.specs.declared.formulas.Formula.TheVariants as F
 use Rattle.plan_meaning.specs.Truth.{State, ground, value_of, EachTrue, OneTrue, AreTyped, IsTrueIn}
 use Rattle.plan_meaning.proofs.TruthEquations.{truth-Holds, truth-Equal, truth-Not, truth-And, truth-Or, truth-Imply, truth-Forall, truth-Exists}
 use Rattle.task_networks.proofs.Lists.{Contains-here, Contains-later}
-use Rattle.ground_state.specs.Search.{IsAmongParts, IsFound}
+use Rattle.plan_model.specs.declared.types.Object.{Object}
+use Rattle.ground_state.specs.declared.kinds.Kind.{Kind}
+use Rattle.ground_state.specs.declared.state.State as computed
+use Rattle.ground_state.specs.Kinds.{IsOfKind, IsWithSome}
+use Rattle.ground_state.specs.States.{atoms, has_ground}
+use Rattle.ground_state.specs.Search.{Is, literal, IsAmongParts, IsFound, IsLiteralFound}
 
 true-is-not-false : IsTrue false → ⊥
 true-is-not-false e = true≢false (sym e)
@@ -90,3 +96,64 @@ module _ (InType : ℕ → ℕ → Type 0) (S : State) (v : List ℕ) where
       by : (found : Bool) → IsFound InType S true found ps p v → IsTrue found ↔ ((os : List ℕ) × AreTyped InType ps os × IsTrueIn InType S p (v ++ os))
       by true h = (λ i. h, λ o. refl)
       by false h = (λ i. absurd (true-is-not-false i), λ o. absurd (h o.0 o.1 o.2))
+
+pub as-has : {b c : Bool} → b ≡ c → IsTrue b ↔ IsTrue c
+as-has e = (λ x. sym e ∙ x, λ x. e ∙ x)
+
+-- truth of a literal, as the state has its atom
+module _ (InType : ℕ → ℕ → Type 0) (s : computed.State) (a : Atom) (v : List ℕ) where
+  holds-as : IsTrue (has_ground s (ground v a)) ↔ IsTrueIn InType (atoms s) (F.Holds a) v
+  holds-as = is-Holds InType (atoms s) v (F.Holds a) a (has_ground s (ground v a)) refl (λ x. x, λ x. x)
+
+  not-as : IsTrue (not (has_ground s (ground v a))) ↔ IsTrueIn InType (atoms s) (F.Not (F.Holds a)) v
+  not-as = is-Not InType (atoms s) v (F.Not (F.Holds a)) (F.Holds a) (F.Holds a) (has_ground s (ground v a)) refl refl holds-as
+
+  pub is-literal : (sign wanted : Bool) → has_ground s (ground v a) ≡ beq wanted sign → Is wanted (IsTrueIn InType (atoms s) (literal sign a) v)
+  is-literal true true e = holds-as.0 e
+  is-literal true false e = λ t. true≢false (sym (holds-as.1 t) ∙ e)
+  is-literal false true e = not-as.0 (ap not e)
+  is-literal false false e = λ t. true≢false (sym (not-as.1 t) ∙ ap not e)
+
+not-wanted : (wanted sign : Bool) → not (beq wanted sign) ≡ beq (not wanted) sign
+not-wanted true true = refl
+not-wanted true false = refl
+not-wanted false true = refl
+not-wanted false false = refl
+
+-- what is found of the atom is found of the literal
+pub literal-is-found : (k : Kind) (objects : List Object) (s : computed.State) (wanted w : Bool) (f : Formula) (sign : Bool) (a : Atom) (v : List ℕ) (found : Option Bool) → f ≡ literal sign a → w ≡ beq wanted sign
+    → IfSome found (IsWithSome k objects (λ x. has_ground s (ground (v ++ x ∷ []) a)) w) → IfSome found (IsLiteralFound k objects s wanted f v)
+literal-is-found k objects s wanted w f sign a v (Some b) e d h = (sign, a, e, subst (λ u. IsWithSome k objects (λ x. has_ground s (ground (v ++ x ∷ []) a)) u b) d h)
+literal-is-found k objects s wanted w f sign a v None e d h = h
+
+pub same-as-true : (b : Bool) → b ≡ beq b true
+same-as-true true = refl
+same-as-true false = refl
+
+pub not-as-false : (b : Bool) → not b ≡ beq b false
+not-as-false true = refl
+not-as-false false = refl
+
+empty : {X : Type 0} (xs : List X) → length xs ≡ 0 → xs ≡ []
+empty [] e = refl
+empty (x ∷ xs) e = absurd (omega (arith, e))
+
+pub only-one : {X : Type 0} (ps : List X) (p : X) (rest : List X) → ps ≡ p ∷ rest → length rest ≡ 0 → ps ≡ p ∷ []
+only-one ps p rest e n = e ∙ ap (λ xs. p ∷ xs) (empty rest n)
+
+-- what is found of a literal is found with objects of the one type
+pub is-found-literal : (InType : ℕ → ℕ → Type 0) (k : Kind) (objects : List Object) (s : computed.State) (wanted : Bool) (f : Formula) (v : List ℕ) (found : Bool) (p : Param) (ps : List Param)
+    → ps ≡ p ∷ [] → ((x : ℕ) → IsOfKind k objects x ↔ InType x p.ty) → IsLiteralFound k objects s wanted f v found → IsFound InType (atoms s) wanted found ps f v
+is-found-literal InType k objects s wanted f v found p ps one typed (sign, a, e, h) = subst (λ qs. IsFound InType (atoms s) wanted found qs f v) (sym one) (by found h)
+  where
+    at : (w : Bool) (x : ℕ) → has_ground s (ground (v ++ x ∷ []) a) ≡ beq w sign → Is w (IsTrueIn InType (atoms s) f (v ++ x ∷ []))
+    at w x d = subst (λ g. Is w (IsTrueIn InType (atoms s) g (v ++ x ∷ []))) (sym e) (is-literal InType s a (v ++ x ∷ []) sign w d)
+
+    by : (found : Bool) → IsWithSome k objects (λ x. has_ground s (ground (v ++ x ∷ []) a)) (beq wanted sign) found → IsFound InType (atoms s) wanted found (p ∷ []) f v
+    by true (x, i, d) = (x ∷ [], ((typed x).0 i, tt), at wanted x d)
+    by false n = each
+      where
+        each : (os : List ℕ) → AreTyped InType (p ∷ []) os → Is (not wanted) (IsTrueIn InType (atoms s) f (v ++ os))
+        each [] t = absurd t
+        each (x ∷ []) t = at (not wanted) x (n x ((typed x).1 t.0) ∙ not-wanted wanted sign)
+        each (x ∷ (y ∷ os)) t = absurd t.1

@@ -1,6 +1,6 @@
 -- The kinds of types, each found once, and which objects are in a type by its kind.
 -- Source: this project's; a part as in Typing.
-use Rattle.std.specs.Prelude.{ℕ, ◌≡◌, ◌≢◌, ◌==◌, ◌↔◌, not, All, Bool, IsTrue, List, slice_get, Some, None}
+use Rattle.std.specs.Prelude.{ℕ, ◌≡◌, ◌≢◌, ◌==◌, ◌↔◌, not, All, Bool, IsTrue, MatchBool, List, slice_get, Some, None}
 use Rattle.plan_model.specs.declared.types.Types.{Types}
 use Rattle.plan_model.specs.declared.types.Parent.{Parent}
 use Rattle.plan_model.specs.declared.types.Object.{Object}
@@ -33,3 +33,9 @@ AreKinds types kinds = AreInOrder types kinds.kinds.items
 -- object x is declared of a type of the kind
 abbrev pub IsOfKind : Kind → List Object → ℕ → Type 0
 IsOfKind k objects x = (object : Object) × (slice_get objects x ≡ Some object) × IsTrue (takes k object.ty)
+
+-- with some object of the kind the answer is the one that is wanted, or with none
+abbrev pub IsWithSome : Kind → List Object → (ℕ → Bool) → Bool → Bool → Type 0
+IsWithSome k objects answer wanted found = MatchBool found
+    ((x : ℕ) × IsOfKind k objects x × (answer x ≡ wanted))
+    ((x : ℕ) → IsOfKind k objects x → answer x ≡ not wanted)

@@ -3,10 +3,10 @@ pub mod Room
 pub mod Numbers
 pub mod Notes
 pub mod States
+pub mod Kinds
 pub mod Search
 pub mod Passes
 pub mod Clauses
-pub mod Kinds
 pub mod Needs
 pub mod Places
 pub mod Runs

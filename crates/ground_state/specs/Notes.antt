@@ -1,6 +1,6 @@
 -- What is noted of lists of objects.
 -- Source: this project's.
-use Rattle.std.specs.Prelude.{ℕ, ◌≡◌, Bool, List, Option, Some, None, slice_index_or}
+use Rattle.std.specs.Prelude.{ℕ, ◌≡◌, Bool, false, List, Option, Some, None, slice_index_or, unwrap_or}
 use Rattle.std.specs.Option.{option_map}
 use Rattle.std.specs.Ordering.{nat_cmp}
 use Rattle.std.specs.Cmp.Lexicographic.{slice_cmp}
@@ -15,6 +15,10 @@ noted_at notes args None = tree.get_by (λ list. slice_cmp nat_cmp args list.ite
 
 abbrev pub noted : Notes → List ℕ → Option Bool
 noted notes args = noted_at notes args (number_of notes.numbers args)
+
+-- whether they are noted as true
+abbrev pub holds : Notes → List ℕ → Bool
+holds notes args = unwrap_or (noted notes args) false
 
 -- nothing is noted
 abbrev pub AreNone : Notes → Type 0

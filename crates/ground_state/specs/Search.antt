@@ -1,17 +1,24 @@
 -- What a search for a part, or for objects, comes to, and what is gathered from an effect.
 -- Source: this project's.
-use Rattle.std.specs.Prelude.{ℕ, ◌<◌, ◌^◌, Bool, true, false, not, List, ◌++◌, ◌⊎◌, ◌↔◌, Contains, MatchBool, length}
+use Rattle.std.specs.Prelude.{ℕ, ◌≡◌, ◌<◌, ◌^◌, Bool, true, false, not, List, [], ◌∷◌, ◌++◌, ◌⊎◌, ◌↔◌, Contains, MatchBool, length}
+use Rattle.std.specs.Bool.{beq}
 use Rattle.plan_model.specs.declared.terms.Param.{Param}
+use Rattle.plan_model.specs.declared.terms.Atom.{Atom}
 use Rattle.plan_model.specs.declared.terms.GroundAtom.{GroundAtom}
 use Rattle.plan_model.specs.declared.formulas.Formula.{Formula}
+use Rattle.plan_model.specs.declared.formulas.Formula.TheVariants as F
 use Rattle.plan_model.specs.declared.effects.Effect.{Effect}
 use Rattle.plan_model.specs.Typing.{InType}
 use Rattle.plan_model.specs.Parts.{AreListed}
-use Rattle.plan_meaning.specs.Truth.{State, AreTyped, IsTrueIn, OneTrue, Adds, Deletes}
+use Rattle.plan_meaning.specs.Truth.{State, ground, AreTyped, IsTrueIn, OneTrue, Adds, Deletes}
+use Rattle.plan_model.specs.declared.types.Object.{Object}
+use Rattle.ground_state.specs.declared.kinds.Kind.{Kind}
+use Rattle.ground_state.specs.Kinds.{IsWithSome}
 use Rattle.ground_state.specs.declared.gather.World.{World}
 use Rattle.ground_state.specs.declared.atom_list.AtomLists.{AtomLists}
 use Rattle.ground_state.specs.Frames.{Frame}
-use Rattle.ground_state.specs.States.{atoms}
+use Rattle.ground_state.specs.declared.state.State as computed
+use Rattle.ground_state.specs.States.{atoms, has_ground}
 
 -- the statement is true, or it is not, as wanted
 abbrev pub Is : Bool → Type 0 → Type 0
@@ -30,6 +37,16 @@ module _ (Typed : ℕ → ℕ → Type 0) (S : State) (wanted : Bool) where
   IsFound found ps f values = MatchBool found
       ((os : List ℕ) × AreTyped Typed ps os × Is wanted (IsTrueIn Typed S f (values ++ os)))
       ((os : List ℕ) → AreTyped Typed ps os → Is (not wanted) (IsTrueIn Typed S f (values ++ os)))
+
+-- the atom is true, or it is not
+abbrev pub literal : Bool → Atom → Formula
+literal true a = F.Holds a
+literal false a = F.Not (F.Holds a)
+
+-- the formula is a literal, and with some object of the kind for one more variable it is as wanted, or with none
+abbrev pub IsLiteralFound : Kind → List Object → computed.State → Bool → Formula → List ℕ → Bool → Type 0
+IsLiteralFound k objects s wanted f values found = (sign : Bool) × (a : Atom) × (f ≡ literal sign a)
+    × IsWithSome k objects (λ x. has_ground s (ground (values ++ x ∷ []) a)) (beq wanted sign) found
 
 -- the new list has the atoms of the old one and those that are as P says
 abbrev pub Gathers : State → List GroundAtom → List GroundAtom → Type 0

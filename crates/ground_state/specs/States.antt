@@ -22,9 +22,12 @@ note_of s g = note s g.predicate g.args
 abbrev pub has : State → ℕ → List ℕ → Bool
 has s predicate args = unwrap_or (note s predicate args) false
 
+abbrev pub has_ground : State → GroundAtom → Bool
+has_ground s g = has s g.predicate g.args
+
 -- the atoms that the set has
 abbrev pub atoms : State → truth.State
-atoms s g = IsTrue (has s g.predicate g.args)
+atoms s g = IsTrue (has_ground s g)
 
 -- the atoms of the set are those that are as P says
 abbrev pub Has : State → truth.State → Type 0

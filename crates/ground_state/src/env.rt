@@ -1,10 +1,10 @@
-ghost use Rattle.std.specs.Prelude.{ℕ, ◌≡◌, ◌≤◌, ◌<◌, length, IfOk, OnOk};
+ghost use Rattle.std.specs.Prelude.{ℕ, ◌≡◌, ◌+◌, ◌*◌, ◌^◌, ◌≤◌, ◌<◌, ◌++◌, ◌∷◌, [], length, IfSome, IfOk, OnOk};
 ghost use Rattle.std.specs.Bool.{OnTrue};
 ghost use Rattle.plan_meaning.specs.Truth.{value_of, values_of};
 ghost use Rattle.ground_state.specs.Frames.{Frame, frame, pushed, cleared};
-ghost use Rattle.ground_state.specs.Numbers.{number_of};
+ghost use Rattle.ground_state.specs.Numbers.{number_of, HasRow};
 
-use crate::numbers::Numbers;
+use crate::numbers::{Numbers, Row};
 use htn_base::{List, Memory};
 use plan_model::Term;
 use std::alloc::Global;
@@ -109,6 +109,47 @@ impl Env {
             number = numbers.with(number, self.value(terms[i]))?;
         }
         Some(number as usize)
+    }
+
+    /// The numbers of the objects that the terms stand for, with each of the first `count` objects for
+    /// one more variable, where each has one.
+    pub(crate) fn row(&self, terms: &[Term], numbers: Numbers, count: u32) -> Option<Row>
+        ensures { IfSome result (HasRow numbers (frame self.now).objects terms.now count) }
+    {
+        let (room, width) = (numbers.room as u64, numbers.most as u64 + 2);
+        let mut first = 1;
+        let mut step = 0;
+        for i in (0..terms.len()).rev() {
+            let digit = self.digit(terms[i]);
+            if digit.first + digit.step * count as u64 > numbers.most as u64 + digit.step {
+                return None;
+            }
+            first = first * width + digit.first;
+            step = step * width + digit.step;
+            if first >= room || step >= room || first + step * count as u64 >= room {
+                return None;
+            }
+        }
+        Some(Row { first, step })
+    }
+
+    /// The object that the term stands for, with each object for one more variable: that object itself,
+    /// or always the same.
+    fn digit(&self, term: Term) -> Row
+        ensures value { (x : ℕ) → value_of ((frame self.now).objects ++ x ∷ []) term ≡ result.first + result.step * x }
+        ensures first { result.first < 2 ^ 32 }
+        ensures step { result.step ≤ 1 }
+    {
+        if let Term::Var(k) = term {
+            if k as usize == self.values.len() {
+                return Row { first: 0, step: 1 };
+            }
+        }
+        let object = self.value(term);
+        Row {
+            first: object as u64,
+            step: 0,
+        }
     }
 
     /// The arguments that were filled in last.

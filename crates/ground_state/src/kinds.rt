@@ -1,12 +1,11 @@
-ghost use Rattle.std.specs.Prelude.{◌≡◌, ◌↔◌, ◌==◌, not, All, IsTrue, IfOk};
+ghost use Rattle.std.specs.Prelude.{◌↔◌, IsTrue, IfOk};
 ghost use Rattle.std.specs.Bool.{OnTrue};
-ghost use Rattle.plan_model.specs.declared.types.Parent.{Parent as Pair};
 ghost use Rattle.plan_model.specs.Typing.{InType};
 ghost use Rattle.plan_model.specs.Parts.{AreListed};
 ghost use Rattle.ground_state.specs.Kinds as spec;
 
 use htn_base::{List, Memory};
-use plan_model::{Object, Parent, Parts, Types, in_type};
+use plan_model::{Object, Parts, Types, in_type};
 use std::alloc::Global;
 
 /// The kinds of this many types are kept. All named types are among them.
@@ -71,19 +70,11 @@ impl Kind {
         ensures { IsTrue result ↔ spec.IsOfKind self.now objects.now object }
     {
         match objects.get(object as usize) {
-            Some(declared) => self.takes(declared.ty),
+            Some(declared) => match self {
+                Kind::Alone(only) => declared.ty == *only,
+                Kind::Parts(parts) => parts.have(declared.ty),
+            },
             None => false,
-        }
-    }
-
-    /// Whether objects that are declared of the type are of the kind.
-    #[inline(always)]
-    fn takes(&self, ty: u32) -> bool
-        ensures { result ≡ spec.takes self.now ty }
-    {
-        match self {
-            Kind::Alone(only) => ty == *only,
-            Kind::Parts(parts) => parts.have(ty),
         }
     }
 }
@@ -95,12 +86,9 @@ fn is_alone(types: &Types, ty: u32) -> bool
     if ty == 0 || types.union_at(ty).is_some() {
         return false;
     }
-    has_no_child(types.parents.as_slice(), ty)
-}
-
-/// Whether the type is not the parent of a pair.
-fn has_no_child(parents: &[Parent], ty: u32) -> bool
-    ensures { IsTrue result ↔ All (λ (pair : Pair). IsTrue (not (pair.parent == ty))) parents.now }
-{
-    parents.iter().all(|pair| pair.parent != ty)
+    types
+        .parents
+        .as_slice()
+        .iter()
+        .all(|pair| pair.parent != ty)
 }

@@ -1,13 +1,15 @@
-ghost use Rattle.std.specs.Prelude.{◌≡◌, ◌≤◌, false, Some, None, length, OnOk, OnErr};
+ghost use Rattle.std.specs.Prelude.{◌≡◌, ◌<◌, ◌^◌, ◌++◌, ◌∷◌, [], ◌≤◌, false, Some, None, length, slice_index_or, IfSome, OnOk, OnErr};
 ghost use Rattle.std.specs.Bool.{OnTrue};
 ghost use Rattle.plan_meaning.specs.Truth.{values_of};
 ghost use Rattle.ground_state.specs.Frames.{frame};
+ghost use Rattle.ground_state.specs.Kinds.{IsWithSome};
 ghost use Rattle.ground_state.specs.Notes as spec;
 
 use crate::env::Env;
+use crate::kinds::Kind;
 use crate::numbers::Numbers;
-use htn_base::Memory;
-use plan_model::Term;
+use htn_base::{List, Memory};
+use plan_model::{Object, Term};
 use std::alloc::Global;
 use std::collections::BTreeMap;
 
@@ -42,10 +44,7 @@ impl Notes {
         ensures { result ≡ spec.noted self.now args.now }
     {
         match self.numbers.of(args) {
-            Some(number) => match self.near.get(number) {
-                Some(note) => *note,
-                None => None,
-            },
+            Some(number) => self.at(number),
             None => self.far.get(args).copied(),
         }
     }
@@ -58,10 +57,7 @@ impl Notes {
         ensures kept { frame env.new ≡ frame env.old }
     {
         match env.number(terms, self.numbers) {
-            Some(number) => match self.near.get(number) {
-                Some(note) => *note,
-                None => None,
-            },
+            Some(number) => self.at(number),
             None => self.filled(env, terms),
         }
     }
@@ -76,6 +72,45 @@ impl Notes {
     {
         env.fill(terms);
         self.get(env.args())
+    }
+
+    /// What is noted at the number.
+    #[inline(always)]
+    fn at(&self, number: usize) -> Option<bool>
+        ensures { result ≡ slice_index_or self.now.near.items number None }
+    {
+        match self.near.get(number) {
+            Some(note) => *note,
+            None => None,
+        }
+    }
+
+    /// Whether with some object of the kind for one more variable the objects that the terms stand for
+    /// are noted as true, or not, as wanted. It is told from number to number, where there is one with
+    /// each object.
+    pub(crate) fn finds(
+        &self,
+        wanted: bool,
+        kind: &Kind,
+        objects: &List<Object>,
+        env: &Env,
+        terms: &[Term],
+    ) -> Option<bool>
+        requires few { length objects.now < 2 ^ 32 }
+        ensures { IfSome result (IsWithSome kind.now objects.now
+            (λ x. spec.holds self.now (values_of ((frame env.now).objects ++ x ∷ []) terms.now)) wanted) }
+    {
+        let count = objects.len() as u32;
+        let row = env.row(terms, self.numbers, count)?;
+        let mut number = row.first;
+        for object in 0..count {
+            let truth = self.at(number as usize).unwrap_or(false);
+            if truth == wanted && kind.has(objects, object) {
+                return Some(true);
+            }
+            number += row.step;
+        }
+        Some(false)
     }
 
     /// Notes this of these objects. After `Memory` the notes are as they were.

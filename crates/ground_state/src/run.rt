@@ -41,7 +41,7 @@ impl<'p> Run<'p> {
 
     /// Takes the step of these words, or says why it can't be taken. After `Memory` what was taken is as it was. What is
     /// noted of a predicate may stand in an array, which grows to the place that a step notes: so a single step may cost
-    /// more than what it touches, up to 65536 places for each atom that it adds.
+    /// more than what it touches, up to 1048576 places for each atom that it adds.
     pub fn take(
         &mut self,
         alloc: Global,

@@ -1,23 +1,28 @@
-ghost use Rattle.std.specs.Prelude.{◌≡◌, ◌≤◌, ◌↔◌, false, length, IsTrue, Contains, Some, None, IfOk, OnOk, OnErr};
+ghost use Rattle.std.specs.Prelude.{◌≡◌, ◌<◌, ◌^◌, ◌++◌, ◌∷◌, [], ◌≤◌, ◌↔◌, false, length, IsTrue, Contains, Some, None, IfSome, IfOk, OnOk, OnErr};
 ghost use Rattle.std.specs.Bool.{OnTrue};
-ghost use Rattle.plan_meaning.specs.Truth.{ground, values_of};
+ghost use Rattle.plan_meaning.specs.Truth.{ground};
 ghost use Rattle.ground_state.specs.Frames.{frame};
+ghost use Rattle.ground_state.specs.Kinds.{IsWithSome};
 ghost use Rattle.ground_state.specs.States as spec;
 
 use crate::atom_list::AtomLists;
 use crate::env::Env;
+use crate::kinds::Kind;
 use crate::notes::Notes;
 use crate::numbers::Numbers;
 use htn_base::{List, Memory};
-use plan_model::{Atom, GroundAtom, Term};
+use plan_model::{Atom, GroundAtom, Object};
 use std::alloc::Global;
 
 /// More predicates than these count as want of memory: no text of at most 16 megabytes declares so many.
 const MOST_PREDICATES: u32 = 1 << 24;
 
-/// Of the atoms of so many predicates, the first ones, those of few and small objects have numbers. This bounds the memory
-/// that a state of few atoms takes to some 30 megabytes.
+/// Of the atoms of so many predicates, the first ones, those of few and small objects have numbers less
+/// than 2^16, and of the first `ROOMY_PREDICATES` less than 2^20. This bounds the memory that a state of
+/// few atoms takes to some 100 megabytes.
 const NUMBERED_PREDICATES: usize = 128;
+
+const ROOMY_PREDICATES: usize = 32;
 
 /// A set of ground atoms, those that are true. `facts` has what is noted of each predicate, at its number: an atom that is
 /// noted as false is one that a step makes true or has made false.
@@ -50,35 +55,47 @@ impl State {
     pub fn has(&self, a: &GroundAtom) -> bool
         ensures { IsTrue result ↔ spec.atoms self.now a.now }
     {
-        self.has_args(a.predicate, a.args.as_slice())
+        self.note(a.predicate, a.args.as_slice()).unwrap_or(false)
     }
 
-    /// Whether the predicate is true of these objects.
-    pub(crate) fn has_args(&self, predicate: u32, args: &[u32]) -> bool
-        ensures { result ≡ spec.has self.now predicate args.now }
-    {
-        self.note(predicate, args).unwrap_or(false)
-    }
-
-    /// Whether the predicate is true of the objects that the terms stand for. It takes no memory.
+    /// Whether what the atom stands for is one of the set. It takes no memory.
     #[inline(always)]
-    pub(crate) fn has_terms(&self, predicate: u32, env: &mut Env, terms: &[Term]) -> bool
-        requires room { length terms.now ≤ (frame env.old).arity }
-        ensures truth { result ≡ spec.has self.now predicate (values_of (frame env.old).objects terms.now) }
+    pub(crate) fn has_atom(&self, env: &mut Env, atom: &Atom) -> bool
+        requires { length atom.now.args ≤ (frame env.old).arity }
+        ensures truth { result ≡ spec.has_ground self.now (ground (frame env.old).objects atom.now) }
         ensures kept { frame env.new ≡ frame env.old }
     {
-        self.note_terms(predicate, env, terms).unwrap_or(false)
+        self.note_atom(env, atom).unwrap_or(false)
     }
 
-    /// What is noted of the predicate and the objects that the terms stand for.
+    /// Whether with some object of the kind for one more variable what the atom stands for is true, or
+    /// not, as wanted. It is told only where that takes no look-up of whole atoms.
     #[inline(always)]
-    fn note_terms(&self, predicate: u32, env: &mut Env, terms: &[Term]) -> Option<bool>
-        requires room { length terms.now ≤ (frame env.old).arity }
-        ensures note { result ≡ spec.note self.now predicate (values_of (frame env.old).objects terms.now) }
+    pub(crate) fn finds(
+        &self,
+        wanted: bool,
+        kind: &Kind,
+        objects: &List<Object>,
+        env: &Env,
+        atom: &Atom,
+    ) -> Option<bool>
+        requires few { length objects.now < 2 ^ 32 }
+        ensures { IfSome result (IsWithSome kind.now objects.now
+            (λ x. spec.has_ground self.now (ground ((frame env.now).objects ++ x ∷ []) atom.now)) wanted) }
+    {
+        let notes = self.facts.get(atom.predicate as usize)?;
+        notes.finds(wanted, kind, objects, env, atom.args.as_slice())
+    }
+
+    /// What is noted of what the atom stands for.
+    #[inline(always)]
+    fn note_atom(&self, env: &mut Env, atom: &Atom) -> Option<bool>
+        requires room { length atom.now.args ≤ (frame env.old).arity }
+        ensures note { result ≡ spec.note_of self.now (ground (frame env.old).objects atom.now) }
         ensures kept { frame env.new ≡ frame env.old }
     {
-        match self.facts.get(predicate as usize) {
-            Some(notes) => notes.of_terms(env, terms),
+        match self.facts.get(atom.predicate as usize) {
+            Some(notes) => notes.of_terms(env, atom.args.as_slice()),
             None => None,
         }
     }
@@ -119,12 +136,13 @@ impl State {
         ensures { spec.HasSameNotes self.old self.new }
     {
         for number in self.facts.len()..predicate as usize + 1 {
-            let room = if number < NUMBERED_PREDICATES {
-                u16::MAX
-            } else {
-                0
+            let room = match number {
+                ..ROOMY_PREDICATES => 1 << 20,
+                ..NUMBERED_PREDICATES => 1 << 16,
+                _ => 0,
             };
-            let notes = Notes::new(alloc, Numbers::new(self.most, room));
+            let most = self.most;
+            let notes = Notes::new(alloc, Numbers { most, room });
             self.facts.push(notes)?;
         }
         Ok(())
@@ -163,9 +181,8 @@ impl State {
         ensures noted { OnOk result (spec.IsEntered self.old (ground (frame env.old).objects atom.now) self.new) }
         ensures kept { frame env.new ≡ frame env.old }
     {
-        let terms = atom.args.as_slice();
-        if self.note_terms(atom.predicate, env, terms).is_none() {
-            env.fill(terms);
+        if self.note_atom(env, atom).is_none() {
+            env.fill(atom.args.as_slice());
             self.insert(alloc, atom.predicate, env.args(), false)?;
         }
         Ok(())

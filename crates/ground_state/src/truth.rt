@@ -1,9 +1,8 @@
-ghost use Rattle.std.specs.Prelude.{◌≡◌, ◌≤◌, ◌<◌, ◌^◌, ◌↔◌, IsTrue, length};
+ghost use Rattle.std.specs.Prelude.{◌≡◌, ◌<◌, ◌^◌, ◌↔◌, IsTrue, IfSome, length};
 ghost use Rattle.plan_model.specs.Parts.{AreListed};
-ghost use Rattle.plan_meaning.specs.Truth.{ground};
 ghost use Rattle.ground_state.specs.Frames.{frame};
 ghost use Rattle.ground_state.specs.Room.{Fits, AllFit, FitsWithin};
-ghost use Rattle.ground_state.specs.States.{atoms};
+ghost use Rattle.ground_state.specs.Search.{IsLiteralFound};
 ghost use Rattle.ground_state.specs.Clauses.{IsTrueBy, IsAmong, Finds};
 
 use crate::env::Env;
@@ -23,7 +22,7 @@ pub fn holds(f: &Formula, env: &mut Env, s: &State, types: &Types, objects: &Lis
     ensures kept { frame env.new ≡ frame env.old }
 {
     match f {
-        Formula::Holds(atom) => has_atom(atom, env, s),
+        Formula::Holds(atom) => s.has_atom(env, atom),
         Formula::Equal(left, right) => env.value(*left) == env.value(*right),
         Formula::Not(part) => !holds(part.get(), env, s, types, objects),
         Formula::And(parts) => !is_among(false, parts.as_slice(), env, s, types, objects),
@@ -43,16 +42,6 @@ pub fn holds(f: &Formula, env: &mut Env, s: &State, types: &Types, objects: &Lis
     }
 }
 
-/// Whether the atom that this one stands for is in the state.
-#[inline(always)]
-fn has_atom(atom: &Atom, env: &mut Env, s: &State) -> bool
-    requires { length atom.now.args ≤ (frame env.old).arity }
-    ensures truth { IsTrue result ↔ atoms s.now (ground (frame env.old).objects atom.now) }
-    ensures kept { frame env.new ≡ frame env.old }
-{
-    s.has_terms(atom.predicate, env, atom.args.as_slice())
-}
-
 /// The same. Of a literal, as most parts of conditions are, it is told without a further call.
 #[cycle(holds)]
 #[inline(always)]
@@ -70,11 +59,11 @@ pub(crate) fn is_true(
     ensures kept { frame env.new ≡ frame env.old }
 {
     if let Formula::Holds(atom) = f {
-        return has_atom(atom, env, s);
+        return s.has_atom(env, atom);
     }
     if let Formula::Not(part) = f {
         if let Formula::Holds(atom) = part.get() {
-            return !has_atom(atom, env, s);
+            return !s.has_atom(env, atom);
         }
     }
     holds(f, env, s, types, objects)
@@ -125,10 +114,15 @@ fn is_found(
         return is_true(body, env, s, types, objects) == wanted;
     };
     let kind = Kind::new(types, param.ty);
+    if rest.is_empty() {
+        if let Some(found) = is_literal_found(wanted, &kind, body, env, s, objects) {
+            return found;
+        }
+    }
     for object in 0..objects.len() as u32 {
         if kind.has(objects, object) {
             env.push(object);
-            let found = is_rest_found(wanted, rest, body, env, s, types, objects);
+            let found = is_found(wanted, rest, body, env, s, types, objects);
             env.pop();
             if found {
                 return true;
@@ -138,26 +132,27 @@ fn is_found(
     false
 }
 
-/// The same. Where no types are left, it is told without a further call.
-#[cycle(holds)]
+/// Whether for some object of the kind the formula is true, or false, as wanted. It is told only of
+/// a literal, where that takes no look-up of whole atoms.
 #[inline(always)]
-fn is_rest_found(
+fn is_literal_found(
     wanted: bool,
-    params: &[Param],
+    kind: &Kind,
     body: &Formula,
-    env: &mut Env,
+    env: &Env,
     s: &State,
-    types: &Types,
     objects: &List<Object>,
-) -> bool
-    requires listed { AreListed types.now }
+) -> Option<bool>
     requires few { length objects.now < 2 ^ 32 }
-    requires room { FitsWithin (frame env.old) params.now body.now }
-    ensures answer { Finds types.now objects.now s.now wanted result params.now body.now env.old }
-    ensures kept { frame env.new ≡ frame env.old }
+    ensures { IfSome result
+        (IsLiteralFound kind.now objects.now s.now wanted body.now (frame env.now).objects) }
 {
-    if params.is_empty() {
-        return is_true(body, env, s, types, objects) == wanted;
+    match body {
+        Formula::Holds(atom) => s.finds(wanted, kind, objects, env, atom),
+        Formula::Not(part) => match part.get() {
+            Formula::Holds(atom) => s.finds(!wanted, kind, objects, env, atom),
+            _ => None,
+        },
+        _ => None,
     }
-    is_found(wanted, params, body, env, s, types, objects)
 }

@@ -1,4 +1,5 @@
 use Rattle.std.proofs.Common.{ℕ, ◌≡◌, ◌<◌, ◌↔◌, ◌++◌, not, IsTrue, List, [], ◌∷◌, length, sym, subst, ap, ◌∙◌, append_assoc, true≢false, arith}
+use Rattle.std.proofs.lemmas.Bool.{eqb-true}
 use Rattle.plan_model.specs.Typing.{InType}
 use Rattle.plan_model.proofs.PartsOf.{in_type_within}
 use Rattle.plan_meaning.specs.Truth.{IsTrueIn, AreTyped}
@@ -77,7 +78,7 @@ holds-is_found-requires-in-Exists t c = (
 )
 
 pub holds-returns-in-Holds-clause-truth : goal.holds-returns-in-Holds-clause-truth
-holds-returns-in-Holds-clause-truth t c = truth.is-Holds (InType c.args.types.now c.args.objects.now) (atoms c.args.s.now) c.args.env.now.values.items c.args.f.now c.in-Holds.atom c.has_atom.result c.in-Holds.is c.has_atom.ensures.truth
+holds-returns-in-Holds-clause-truth t c = truth.is-Holds (InType c.args.types.now c.args.objects.now) (atoms c.args.s.now) c.args.env.now.values.items c.args.f.now c.in-Holds.atom c.has_atom.result c.in-Holds.is (truth.as-has c.has_atom.ensures.truth)
 
 pub holds-returns-in-Equal-clause-truth : goal.holds-returns-in-Equal-clause-truth
 holds-returns-in-Equal-clause-truth t c =
@@ -124,7 +125,7 @@ is_among-is_true-requires t c = (
 )
 
 pub is_found-returns-then-found-clause-kept : goal.is_found-returns-then-found-clause-kept
-is_found-returns-then-found-clause-kept t c = c.pop.ensures (frame c.loop-object.env) c.loop-object.object (c.is_rest_found-found.ensures.kept ∙ c.push.ensures) ∙ c.loop-object.invariant.0
+is_found-returns-then-found-clause-kept t c = c.pop.ensures (frame c.loop-object.env) c.loop-object.object (c.is_found-found.ensures.kept ∙ c.push.ensures) ∙ c.loop-object.invariant.0
 
 pub is_found-returns-then-found-clause-answer : goal.is_found-returns-then-found-clause-answer
 is_found-returns-then-found-clause-answer t c =
@@ -141,6 +142,12 @@ is_found-returns-then-found-clause-answer t c =
       subst (λ u. Is c.args.wanted (IsTrueIn I S c.args.body.now u)) (ap (λ w. w ++ found.0) objects ∙ append_assoc v (o ∷ []) found.0) found.2,
     )
 
+pub is_found-returns-in-Some-is_literal_found-clause-answer : goal.is_found-returns-in-Some-is_literal_found-clause-answer
+is_found-returns-in-Some-is_literal_found-clause-answer t c =
+    let one = truth.only-one c.args.params.now c.in-Some.param.now c.in-Some.rest.now c.in-Some.ensures.cases.0 (eqb-true (length c.in-Some.rest.now) 0 (sym c.is_empty.ensures ∙ c.if-is_empty.true)) in
+    truth.is-found-literal (InType c.args.types.now c.args.objects.now) c.new-kind.result c.args.objects.now c.args.s.now c.args.wanted c.args.body.now c.args.env.now.values.items c.in-Some-is_literal_found.found c.in-Some.param.now c.args.params.now one
+    (λ o. in_type_by_kind c.args.types.now c.args.objects.now c.new-kind.result o c.in-Some.param.now.ty c.new-kind.ensures) c.in-Some-is_literal_found.ensures
+
 pub is_found-loop-object-preserved : goal.is_found-loop-object-preserved
 is_found-loop-object-preserved t c =
     let I = InType c.args.types.now c.args.objects.now in
@@ -149,7 +156,7 @@ is_found-loop-object-preserved t c =
     let before : (o : ℕ) → o < c.loop-object.object → P o = λ o l os i a. c.loop-object.invariant.1 o os l i a in
     elim c.if-has.branch [
       | is_found-then-has+else-found w ↦ (
-          let kept : frame w.pop.new.self ≡ frame c.args.env.now = w.pop.ensures (frame c.loop-object.env) c.loop-object.object (w.is_rest_found-found.ensures.kept ∙ w.push.ensures) ∙ c.loop-object.invariant.0 in
+          let kept : frame w.pop.new.self ≡ frame c.args.env.now = w.pop.ensures (frame c.loop-object.env) c.loop-object.object (w.is_found-found.ensures.kept ∙ w.push.ensures) ∙ c.loop-object.invariant.0 in
           let objects : w.push.new.self.values.items ≡ c.args.env.now.values.items ++ c.loop-object.object ∷ [] = ap (λ (f : Frame). f.objects) w.push.ensures ∙ ap (λ (f : Frame). f.objects ++ c.loop-object.object ∷ []) c.loop-object.invariant.0 in
           let last : P c.loop-object.object = λ os i a. subst (λ v. Is (not c.args.wanted) (IsTrueIn I S c.args.body.now (v ++ os))) objects (w.if-found.ensures.answer os a) in
           (ap frame w.env-is ∙ kept, λ o os l i a. below-next P c.loop-object.object before last o l os i a)
@@ -176,7 +183,7 @@ pub is_true-has_atom-requires : goal.is_true-has_atom-requires
 is_true-has_atom-requires t c = room.fits-Holds (frame c.args.env.now) c.args.f.now c.in-Holds.atom c.in-Holds.is c.requires.room
 
 pub is_true-returns-in-Holds-clause-truth : goal.is_true-returns-in-Holds-clause-truth
-is_true-returns-in-Holds-clause-truth t c = truth.is-Holds (InType c.args.types.now c.args.objects.now) (atoms c.args.s.now) c.args.env.now.values.items c.args.f.now c.in-Holds.atom c.has_atom.result c.in-Holds.is c.has_atom.ensures.truth
+is_true-returns-in-Holds-clause-truth t c = truth.is-Holds (InType c.args.types.now c.args.objects.now) (atoms c.args.s.now) c.args.env.now.values.items c.args.f.now c.in-Holds.atom c.has_atom.result c.in-Holds.is (truth.as-has c.has_atom.ensures.truth)
 
 pub is_true-has_atom-requires-in-Holds-get : goal.is_true-has_atom-requires-in-Holds-get
 is_true-has_atom-requires-in-Holds-get t c =
@@ -188,5 +195,5 @@ is_true-returns-in-Holds-get t c =
     let I = InType c.args.types.now c.args.objects.now in
     let S = atoms c.args.s.now in
     let v = c.args.env.now.values.items in
-    let inside = truth.is-Holds I S v c.get.result.now c.in-Holds-get.atom c.has_atom-in-Holds-get.result c.in-Holds-get.is c.has_atom-in-Holds-get.ensures.truth in
+    let inside = truth.is-Holds I S v c.get.result.now c.in-Holds-get.atom c.has_atom-in-Holds-get.result c.in-Holds-get.is (truth.as-has c.has_atom-in-Holds-get.ensures.truth) in
     record { truth = truth.is-Not I S v c.args.f.now c.in-Not.part c.get.result.now c.has_atom-in-Holds-get.result c.in-Not.is c.get.ensures.value inside; kept = c.has_atom-in-Holds-get.ensures.kept }

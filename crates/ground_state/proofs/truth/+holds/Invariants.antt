@@ -21,9 +21,6 @@ decreases-is_among l = 2 + 2 * sizes l.parts.now
 abbrev pub decreases-is_found : goal.decreases-is_found
 decreases-is_found l = 2 + 2 * length l.params.now + 2 * size l.body.now
 
-abbrev pub decreases-is_rest_found : goal.decreases-is_rest_found
-decreases-is_rest_found l = 3 + 2 * length l.params.now + 2 * size l.body.now
-
 -- the parts so far are not as wanted
 abbrev pub invariant-is_among-loop-part : goal.invariant-is_among-loop-part
 invariant-is_among-loop-part l = (frame l.env ≡ frame l.fn.env) × ((k : ℕ) (d : Formula) → k < l.part-index → Is (not l.wanted) (IsTrueIn (InType l.types l.objects) (atoms l.s) (get_or l.parts k d) l.fn.env.values.items))
