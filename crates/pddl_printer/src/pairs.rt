@@ -3,6 +3,7 @@ ghost use Rattle.task_networks.specs.Spelling.{numbers};
 ghost use Rattle.pddl_printer.specs.Splits.{row_text, differ_text, letters, pair_with};
 ghost use Rattle.sheets.specs.Sheets.{Wrote, capped};
 
+use crate::batch::Batch;
 use crate::pen::Pen;
 use crate::stencil::Stencil;
 use crate::words::variable_word;
@@ -31,14 +32,17 @@ fn put_row(p: &Pddl, params: &[Param], variable: u32, count: u32, sheet: &mut Sh
     let word = variable_word(p, params, variable as usize);
     let mut stencil = Stencil::new();
     draw_pair(word, b"", &mut stencil);
+    let mut batch = Batch::new();
     for k in 0..count {
         let other = variable_word(p, params, next + k as usize);
         if stencil.fits {
-            stencil.put(other, sheet);
+            stencil.add(other, &mut batch, sheet);
         } else {
+            batch.put(sheet);
             draw_pair(word, other, sheet);
         }
     }
+    batch.put(sheet);
 }
 
 /// Draws that two variables of these words differ, with a place for the second word.

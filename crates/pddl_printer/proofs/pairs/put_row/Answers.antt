@@ -1,14 +1,14 @@
-use Rattle.std.proofs.Common.{◌+◌, ◌++◌, map, refl, ap, sym, subst, ◌∙◌, arith}
+use Rattle.std.proofs.Common.{◌+◌, ◌++◌, map, refl, ap, sym, ◌∙◌, arith}
 use Rattle.task_networks.specs.Spelling.{numbers}
 use Rattle.plan_texts.specs.Declared.{variable}
 use Rattle.plan_texts.specs.SpellsPddl.{pddl_words}
 use Rattle.plan_texts.specs.Printed.{formula_part}
 use Rattle.pddl_printer.specs.Behind.{behind}
 use Rattle.pddl_printer.specs.Splits.{unequal, pair_with}
-use Rattle.sheets.specs.Sheets.{Wrote}
 use Rattle.sheets.proofs.Written.{wrote-as}
+use Rattle.pddl_printer.proofs.Batches.{added-as, added-at, added-put, added-all, range-added}
 use Rattle.pddl_printer.proofs.PairBytes.{pair, pair-is}
-use Rattle.pddl_printer.proofs.Ranges.{range-next, range-done, behind-made}
+use Rattle.pddl_printer.proofs.Ranges.{range-done, behind-made}
 use Rattle.pddl_printer.proofs.pairs.put_row.Goals.{then-stencil, else-stencil}
 use Rattle.pddl_printer.proofs.pairs.put_row.Goals as goal
 
@@ -21,13 +21,13 @@ loop-k-preserved c =
     let word = c.variable_word-word.result.now in
     let other = c.variable_word-other.result.now in
     let drawn = (λ i. pair_with (c.variable_word-word.ensures i) (c.variable_word-other.ensures i)) ∙ pair-is v s a b in
-    range-next (λ u. behind (pair v s a u)) (a + 1) c.loop-k.k c.loop-k.invariant
+    range-added (λ u. behind (pair v s a u)) (a + 1) c.loop-k.k c.loop-k.invariant
     (elim c.if-stencil.branch [
       | then-stencil w ↦
           let stands = (c.draw_pair.ensures w.if-stencil.true).1 other ∙ ap (λ z. z ++ pair_with word other) (c.new-stencil.ensures.empty other) in
-          subst (λ z. Wrote (behind (pair v s a b)) c.loop-k.sheet z) (sym w.sheet-is) (wrote-as (stands ∙ drawn) w.put.ensures)
+          added-at (sym w.batch-is) (sym w.sheet-is) (added-as (stands ∙ drawn) w.add.ensures)
       | else-stencil w ↦
-          subst (λ z. Wrote (behind (pair v s a b)) c.loop-k.sheet z) (sym w.sheet-is) (wrote-as drawn w.draw_pair-else-stencil.ensures)
+          added-at (sym w.batch-is) (sym w.sheet-is) (added-put w.put.ensures.empty w.put.ensures.wrote (wrote-as drawn w.draw_pair-else-stencil.ensures))
     ])
 
 pub returns : goal.returns
@@ -36,4 +36,4 @@ returns c =
     let s = map (variable v) c.args.params.now in
     let a = c.args.variable in
     wrote-as (behind-made (λ f. formula_part v f s) (unequal a) (pair v s a) (λ b. refl) (numbers (a + 1) c.args.count))
-    (range-done (pair v s a) (a + 1) c.loop-k.k c.args.count (let l = c.loop-k-test.false in let h = c.loop-k.auto.k-end in omega arith) c.loop-k.invariant)
+    (range-done (pair v s a) (a + 1) c.loop-k.k c.args.count (let l = c.loop-k-test.false in let h = c.loop-k.auto.k-end in omega arith) (added-all c.new-batch.ensures c.loop-k.invariant c.put-2.ensures.wrote))
