@@ -45,7 +45,9 @@ impl Stencil {
             batch.add(piece.as_slice(), sheet);
             batch.add(word, sheet);
         }
-        batch.add(self.behind.as_slice(), sheet);
+        if !self.behind.is_empty() {
+            batch.add(self.behind.as_slice(), sheet);
+        }
     }
 }
 
