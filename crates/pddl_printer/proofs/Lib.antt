@@ -16,6 +16,7 @@ pub mod DomainPages
 pub mod WrittenLiterals
 pub mod InstanceBytes
 pub mod Drawn
+pub mod Batches
 pub mod OtherConditions
 pub mod OtherEffects
 pub mod written_out

@@ -15,7 +15,7 @@ use Rattle.plan_model.specs.declared.formulas.Formula.TheVariants.{Equal}
 use Rattle.plan_model.specs.declared.terms.Term.TheVariants.{Var}
 use Rattle.pddl_printer.specs.Behind.{behind, of_each}
 use Rattle.pddl_printer.specs.Literals.{conditions_behind}
-use Rattle.pddl_printer.specs.Splits.{unequal, all_differ, pair_with}
+use Rattle.pddl_printer.specs.Splits.{unequal, all_differ, pair_with, open_with, next_with}
 use Rattle.sheets.specs.Sheets.{capped}
 use Rattle.pddl_printer.proofs.CountedSheets.{times_capped}
 use Rattle.pddl_printer.proofs.LiteralLengths.{behind-length}
@@ -26,6 +26,12 @@ pair-bytes a b =
     let e : codes " (not (= ?" ++ (a ++ (codes " ?" ++ (b ++ codes "))"))) ≡ 32 ∷ 40 ∷ (codes "not" ++ ((32 ∷ 40 ∷ (codes "=" ++ (((32 ∷ 63 ∷ a) ++ (32 ∷ 63 ∷ b)) ++ 41 ∷ []))) ++ 41 ∷ [])) = simp append_assoc in
     e ∙ ap (λ z. 32 ∷ 40 ∷ (codes "not" ++ ((32 ∷ 40 ∷ (codes "=" ++ (((32 ∷ 63 ∷ a) ++ z) ++ 41 ∷ []))) ++ 41 ∷ []))) (sym (append-nil (32 ∷ 63 ∷ b)))
     ∙ ap (λ z. 32 ∷ 40 ∷ (codes "not" ++ ((32 ∷ z) ++ 41 ∷ []))) (sym (append-nil (40 ∷ (codes "=" ++ (((32 ∷ 63 ∷ a) ++ ((32 ∷ 63 ∷ b) ++ [])) ++ 41 ∷ [])))))
+
+pub closed : (a b : List ℕ) → open_with a b ++ codes "))" ≡ pair_with a b
+closed a b = simp append_assoc
+
+pub closed-next : (t a b : List ℕ) → (t ++ next_with a b) ++ codes "))" ≡ (t ++ codes "))") ++ pair_with a b
+closed-next t a b = simp append_assoc
 
 one-more : (n m k w l r d : ℕ) → n ≡ suc m → k ≡ suc n → r ≡ n * (14 + w) + 1 * l → d ≡ 7 * (n * m) + m * l → r + d ≡ 7 * (k * n) + n * (w + l)
 one-more n m k w l r d e f x y =

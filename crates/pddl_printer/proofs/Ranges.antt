@@ -22,10 +22,13 @@ pub sum-next : (f : ℕ → ℕ) (i n : ℕ) → sum_by f (numbers i (n + 1)) �
 sum-next f i n = let k : n + 1 ≡ suc n = omega arith in ap (λ m. sum_by f (numbers i m)) k ∙ ap (sum_by f) (numbers-next i n) ∙ sum_by_push f (numbers i n) (i + n)
 
 -- one number more
-pub range-next : (f : ℕ → List ℕ) (i n : ℕ) {s t u : Sheet} → Wrote (of_each f (numbers i n)) s t → Wrote (f (i + n)) t u → Wrote (of_each f (numbers i (n + 1))) s u
-range-next f i n v w =
+pub range-more : (f : ℕ → List ℕ) (i n : ℕ) → of_each f (numbers i n) ++ f (i + n) ≡ of_each f (numbers i (n + 1))
+range-more f i n =
     let k : n + 1 ≡ suc n = omega arith in
-    wrote-as (sym (ap (λ m. of_each f (numbers i m)) k ∙ ap (of_each f) (numbers-next i n) ∙ of_each-append f (numbers i n) ((i + n) ∷ []) ∙ ap (λ z. of_each f (numbers i n) ++ z) (append-nil (f (i + n))))) (wrote-then v w)
+    sym (ap (λ m. of_each f (numbers i m)) k ∙ ap (of_each f) (numbers-next i n) ∙ of_each-append f (numbers i n) ((i + n) ∷ []) ∙ ap (λ z. of_each f (numbers i n) ++ z) (append-nil (f (i + n))))
+
+pub range-next : (f : ℕ → List ℕ) (i n : ℕ) {s t u : Sheet} → Wrote (of_each f (numbers i n)) s t → Wrote (f (i + n)) t u → Wrote (of_each f (numbers i (n + 1))) s u
+range-next f i n v w = wrote-as (range-more f i n) (wrote-then v w)
 
 -- all of them
 pub range-done : (f : ℕ → Part) (i n m : ℕ) {s t : Sheet} → n ≡ m → Wrote (of_each (λ o. behind (f o)) (numbers i n)) s t → Wrote (bytes_behind (all_parts (map f (numbers i m)))) s t

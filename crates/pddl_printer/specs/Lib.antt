@@ -11,6 +11,7 @@ pub mod ActionLines
 pub mod Splits
 pub mod Pages
 pub mod Drawings
+pub mod Batches
 pub mod StencilLaws
 pub mod InstanceTexts
 pub mod ConditionTexts

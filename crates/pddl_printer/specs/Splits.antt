@@ -31,9 +31,15 @@ split_action s = record {
   eff = s.eff.now;
 }
 
--- the text that words of variables differ, behind a space
+-- the text that words of variables differ, behind a space; without its end; and such a one behind the end of another
 abbrev pub pair_with : Word → Word → List ℕ
 pair_with v u = codes " (not (= ?" ++ (v ++ (codes " ?" ++ (u ++ codes "))")))
+
+abbrev pub open_with : Word → Word → List ℕ
+open_with v u = codes " (not (= ?" ++ (v ++ (codes " ?" ++ u))
+
+abbrev pub next_with : Word → Word → List ℕ
+next_with v u = codes "))" ++ open_with v u
 
 -- the text of conditions on these variables, each behind a space
 module _ (p : Pddl) (xs : List Param) where

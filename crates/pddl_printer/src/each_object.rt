@@ -4,6 +4,7 @@ ghost use Rattle.pddl_printer.specs.InstanceTexts.{literals_text};
 ghost use Rattle.pddl_printer.specs.Measured.{IsMeasured};
 ghost use Rattle.sheets.specs.Sheets.{Wrote};
 
+use crate::batch::Batch;
 use crate::holes::holes;
 use crate::instances::{Instance, Literal, draw_instance};
 use crate::object_range::Range;
@@ -67,14 +68,17 @@ fn put_instances(
         literal,
         &mut stencil,
     );
+    let mut batch = Batch::new();
     for k in 0..of.written.range.count {
         let word = object_word(p, of.written.range.first as usize + k as usize);
         if stencil.fits {
-            stencil.put(word, sheet);
+            stencil.add(word, &mut batch, sheet);
         } else {
+            batch.put(sheet);
             draw_instance(p, scope, Instance { depth, word }, literal, sheet);
         }
     }
+    batch.put(sheet);
 }
 
 /// Counts them, of which there is one at least: each has its own bytes, which are those of an instance with no letter

@@ -9,6 +9,7 @@
 //! out; after want of memory a prefix of the text stands.
 #![tactic(auto)]
 
+mod batch;
 mod each_object;
 mod effects;
 mod facts;

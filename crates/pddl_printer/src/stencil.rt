@@ -1,7 +1,8 @@
 ghost use Rattle.std.specs.Prelude.{◌≡◌, true, [], List, ℕ};
 ghost use Rattle.pddl_printer.specs.Drawings.{shown, Shows};
-ghost use Rattle.sheets.specs.Sheets.{Wrote};
+ghost use Rattle.pddl_printer.specs.Batches.{Added};
 
+use crate::batch::Batch;
 use crate::pen::Pen;
 use arrayvec::ArrayVec;
 use sheets::Sheet;
@@ -36,15 +37,17 @@ impl Stencil {
         }
     }
 
-    /// Puts what is drawn, with the word in each place.
-    pub(crate) fn put(&self, word: &[u8], sheet: &mut Sheet<'_>)
-        ensures { Wrote (shown self.now word.now) sheet.old sheet.new }
+    /// Adds what is drawn, with the word in each place, to a batch.
+    pub(crate) fn add(&self, word: &[u8], batch: &mut Batch, sheet: &mut Sheet<'_>)
+        ensures { Added (shown self.now word.now) batch.old batch.new sheet.old sheet.new }
     {
         for piece in self.before.as_slice() {
-            sheet.put(piece.as_slice());
-            sheet.put(word);
+            batch.add(piece.as_slice(), sheet);
+            batch.add(word, sheet);
         }
-        sheet.put(self.behind.as_slice());
+        if !self.behind.is_empty() {
+            batch.add(self.behind.as_slice(), sheet);
+        }
     }
 }
 

@@ -1,13 +1,13 @@
-use Rattle.std.proofs.Common.{◌+◌, ◌++◌, ap, sym, subst, ◌∙◌, arith}
+use Rattle.std.proofs.Common.{◌+◌, ◌++◌, ap, sym, ◌∙◌, arith}
 use Rattle.plan_texts.specs.SpellsPddl.{pddl_words}
 use Rattle.pddl_printer.specs.Behind.{behind}
 use Rattle.pddl_printer.specs.InstanceTexts.{literal_with}
 use Rattle.pddl_printer.specs.Literals.{literal_part}
 use Rattle.pddl_printer.specs.Scopes.{words_in_force}
-use Rattle.sheets.specs.Sheets.{Wrote}
 use Rattle.sheets.proofs.Written.{wrote-as}
+use Rattle.pddl_printer.proofs.Batches.{added-as, added-at, added-put, added-all, range-added}
 use Rattle.pddl_printer.proofs.InstanceBytes.{instance-is}
-use Rattle.pddl_printer.proofs.Ranges.{range-next, range-done}
+use Rattle.pddl_printer.proofs.Ranges.{range-done}
 use Rattle.pddl_printer.proofs.each_object.put_instances.Goals.{then-stencil, else-stencil}
 use Rattle.pddl_printer.proofs.each_object.put_instances.Goals as goal
 
@@ -21,16 +21,16 @@ loop-k-preserved c =
     let k = c.loop-k.k in
     let word = c.object_word-word.result.now in
     let drawn = ap (λ w. literal_with p scope d w l) c.object_word-word.ensures ∙ instance-is p scope d (first + k) l in
-    range-next (λ o. behind (literal_part (pddl_words p) (words_in_force p scope) d l o)) first k c.loop-k.invariant
+    range-added (λ o. behind (literal_part (pddl_words p) (words_in_force p scope) d l o)) first k c.loop-k.invariant
     (elim c.if-stencil.branch [
       | then-stencil w ↦
           let stands = (c.draw_instance.ensures w.if-stencil.true).1 word ∙ ap (λ z. z ++ literal_with p scope d word l) (c.new-stencil.ensures.empty word) in
-          subst (λ z. Wrote (behind (literal_part (pddl_words p) (words_in_force p scope) d l (first + k))) c.loop-k.sheet z) (sym w.sheet-is) (wrote-as (stands ∙ drawn) w.put.ensures)
+          added-at (sym w.batch-is) (sym w.sheet-is) (added-as (stands ∙ drawn) w.add.ensures)
       | else-stencil w ↦
-          subst (λ z. Wrote (behind (literal_part (pddl_words p) (words_in_force p scope) d l (first + k))) c.loop-k.sheet z) (sym w.sheet-is) (wrote-as drawn w.draw_instance-else-stencil.ensures)
+          added-at (sym w.batch-is) (sym w.sheet-is) (added-put w.put.ensures.empty w.put.ensures.wrote (wrote-as drawn w.draw_instance-else-stencil.ensures))
     ])
 
 pub returns : goal.returns
 returns c =
     range-done (literal_part (pddl_words c.args.p.now) (words_in_force c.args.p.now c.args.scope.now) c.args.of.depth c.args.literal.now) c.args.of.written.range.first c.loop-k.k c.args.of.written.range.count
-    (let l = c.loop-k-test.false in let h = c.loop-k.auto.k-end in omega arith) c.loop-k.invariant
+    (let l = c.loop-k-test.false in let h = c.loop-k.auto.k-end in omega arith) (added-all c.new-batch.ensures c.loop-k.invariant c.put-2.ensures.wrote)

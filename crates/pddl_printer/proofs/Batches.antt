@@ -1,0 +1,51 @@
+-- Bytes that are added to a batch one after another, and what comes of them.
+use Rattle.std.proofs.Common.{ℕ, ◌≡◌, ◌+◌, ◌<◌, ◌≤◌, List, [], ◌++◌, length, take, get_or, ap, sym, subst, ◌∙◌, append_assoc}
+use Rattle.std.proofs.lemmas.List.{append-nil}
+use Rattle.task_networks.specs.Spelling.{numbers}
+use Rattle.sheets.specs.Sheets.{Wrote}
+use Rattle.sheets.specs.declared.sheet.Sheet.{Sheet}
+use Rattle.sheets.proofs.Written.{wrote-as, wrote-then}
+use Rattle.pddl_printer.specs.declared.batch.Batch.{Batch}
+use Rattle.pddl_printer.specs.Batches.{Added}
+use Rattle.pddl_printer.specs.Behind.{of_each}
+use Rattle.pddl_printer.proofs.Each.{each-more, each-all}
+use Rattle.pddl_printer.proofs.Ranges.{range-more}
+
+pub added-as : {a b : List ℕ} {x y : Batch} {s t : Sheet} → a ≡ b → Added a x y s t → Added b x y s t
+added-as {x = x} e d = record { first = d.first; rest = sym (ap (λ z. x.bytes.items ++ z) e) ∙ d.rest; wrote = d.wrote }
+
+pub added-at : {a : List ℕ} {x y z : Batch} {s t u : Sheet} → y ≡ z → t ≡ u → Added a x y s t → Added a x z s u
+added-at {a = a} {x = x} {z = z} {s = s} {t = t} e f d = subst (λ v. Added a x z s v) f (subst (λ w. Added a x w s t) e d)
+
+pub added-then : {a b : List ℕ} {x y z : Batch} {s t u : Sheet} → Added a x y s t → Added b y z t u → Added (a ++ b) x z s u
+added-then {a = a} {b = b} {x = x} {y = y} {z = z} d e = record {
+  first = d.first ++ e.first;
+  rest =
+      sym (append_assoc x.bytes.items a b) ∙ ap (λ w. w ++ b) d.rest ∙ append_assoc d.first y.bytes.items b ∙ ap (λ w. d.first ++ w) e.rest
+      ∙ sym (append_assoc d.first e.first z.bytes.items);
+  wrote = wrote-then d.wrote e.wrote;
+}
+
+-- bytes that are put on the sheet where nothing waits any more
+pub added-put : {a : List ℕ} {x y : Batch} {s t u : Sheet} → y.bytes.items ≡ [] → Wrote x.bytes.items s t → Wrote a t u → Added a x y s u
+added-put {a = a} {x = x} {y = y} e v w = record {
+  first = x.bytes.items ++ a;
+  rest = sym (ap (λ z. (x.bytes.items ++ a) ++ z) e ∙ append-nil (x.bytes.items ++ a));
+  wrote = wrote-then v w;
+}
+
+-- all that was added since nothing waited, once the rest was put
+pub added-all : {a : List ℕ} {x y : Batch} {s t u : Sheet} → x.bytes.items ≡ [] → Added a x y s t → Wrote y.bytes.items t u → Wrote a s u
+added-all {a = a} e d w = wrote-as (sym d.rest ∙ ap (λ z. z ++ a) e) (wrote-then d.wrote w)
+
+-- one item more
+pub each-added : {X : Type 0} (f : X → List ℕ) (xs : List X) (n : ℕ) (i : X) {x y z : Batch} {s t u : Sheet} → n < length xs → i ≡ get_or xs n i → Added (of_each f (take n xs)) x y s t → Added (f i) y z t u → Added (of_each f (take (n + 1) xs)) x z s u
+each-added f xs n i l e d g = added-as (each-more f xs n i l e) (added-then d g)
+
+-- all items
+pub each-added-all : {X : Type 0} (f : X → List ℕ) (xs : List X) {ys : List X} (n : ℕ) {x y : Batch} {s t : Sheet} → length xs ≤ n → xs ≡ ys → Added (of_each f (take n xs)) x y s t → Added (of_each f ys) x y s t
+each-added-all f xs n l e d = added-as (each-all f xs n l ∙ ap (of_each f) e) d
+
+-- one number more
+pub range-added : (f : ℕ → List ℕ) (i n : ℕ) {x y z : Batch} {s t u : Sheet} → Added (of_each f (numbers i n)) x y s t → Added (f (i + n)) y z t u → Added (of_each f (numbers i (n + 1))) x z s u
+range-added f i n d g = added-as (range-more f i n) (added-then d g)

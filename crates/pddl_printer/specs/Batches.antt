@@ -1,0 +1,12 @@
+-- Bytes that wait to be put on a sheet, behind those that stand on it.
+-- Source: this project's.
+use Rattle.std.specs.Prelude.{ℕ, ◌≡◌, List, ◌++◌}
+use Rattle.sheets.specs.Sheets.{Wrote}
+use Rattle.sheets.specs.declared.sheet.Sheet.{Sheet}
+use Rattle.pddl_printer.specs.declared.batch.Batch.{Batch}
+
+-- Of the bytes that waited and these behind them, the first were put on the sheet, and the rest waits.
+pub record Added (bytes : List ℕ) (waited waits : Batch) (old new : Sheet) : Type 0 where
+  pub first : List ℕ
+  pub rest : waited.bytes.items ++ bytes ≡ first ++ waits.bytes.items
+  pub wrote : Wrote first old new
