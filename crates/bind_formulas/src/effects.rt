@@ -8,7 +8,7 @@ use crate::atoms::atom_of;
 use crate::formulas::formula_of;
 use crate::known::Known;
 use bind_types::params_of;
-use gd_reader::{RawEffect, RawParam};
+use gd_reader::{RawEffect, RawParams};
 use htn_base::{Boxed, List, Memory};
 use name_numbers::{Faults, Variables};
 use plan_model::{Effect, Param};
@@ -89,7 +89,7 @@ fn quantified_of(
     alloc: Global,
     known: &Known,
     scope: &mut Variables,
-    vars: &List<RawParam>,
+    vars: &RawParams,
     part: &Boxed<RawEffect>,
     faults: &mut Faults,
 ) -> Result<(List<Param>, Boxed<Effect>), Memory>

@@ -7,7 +7,7 @@ ghost use Rattle.bind_formulas.specs.Formulas.{formula_bound, formulas_bound, fo
 use crate::atoms::atom_of;
 use crate::known::Known;
 use bind_types::params_of;
-use gd_reader::{RawFormula, RawParam};
+use gd_reader::{RawFormula, RawParams};
 use htn_base::{Boxed, List, Memory};
 use name_numbers::{Faults, Variables, term_of};
 use plan_model::{Formula, Param};
@@ -98,7 +98,7 @@ fn quantified_of(
     alloc: Global,
     known: &Known,
     scope: &mut Variables,
-    vars: &List<RawParam>,
+    vars: &RawParams,
     part: &Boxed<RawFormula>,
     faults: &mut Faults,
 ) -> Result<(List<Param>, Boxed<Formula>), Memory>

@@ -1,7 +1,7 @@
 ghost use Rattle.std.specs.Prelude.{◌≡◌, ◌≤◌, ◌++◌, flat_map, map, IfOk, OnOk};
 ghost use Rattle.bind_types.specs.PairsAmong as spec;
 
-use gd_reader::{RawParam, RawTerm};
+use gd_reader::{RawParam, RawParams, RawTerm};
 use htn_base::{List, Memory, Name, number};
 use name_numbers::Places;
 use net_order::{Order, OrderError};
@@ -14,7 +14,7 @@ pub(crate) fn cycle_among(
     alloc: Global,
     types: &Places,
     count: u32,
-    listed: &List<RawParam>,
+    listed: &RawParams,
 ) -> Result<Option<u32>, Memory>
     requires few { count ≤ 4097 }
     ensures cycle { IfOk result (spec.IsCycleAmong types.now count listed.now) }
@@ -47,7 +47,7 @@ fn pairs_among(
     alloc: Global,
     types: &Places,
     count: u32,
-    listed: &List<RawParam>,
+    listed: &RawParams,
 ) -> Result<ParentPairs, Memory>
     ensures pairs { IfOk result
         (λ written. written.pairs ≡ spec.pairs_among types.now count listed.now) }

@@ -4,15 +4,14 @@
 //! of a section in the order in which the text first names them, and the least fault of too many (`types_in_order`); their pairs
 //! (`parents_of`); the number of types as they are written, or the faults of their names (`TypeTable::kind_of`), and so for the words
 //! of a typed list (`params_of`, `objects_of`); the unions that typed lists, formulas and effects write (`put_unions` and its kin),
-//! numbered by the offsets of their first words, each once (`TypeTable::add_unions`). Words one behind another that have the same
-//! types are bound once, and keep one union.
+//! numbered by the offsets of their first words, each once (`TypeTable::add_unions`). The types that words of a typed list have in
+//! common are bound once, and the words keep one union.
 #![tactic(auto)]
 
 mod cycle;
 mod listed;
 mod members;
 mod parents;
-mod same;
 mod section;
 mod table;
 mod typed;

@@ -3,13 +3,13 @@ ghost use Rattle.bind_types.specs.Listed.{name_of, types_bound};
 ghost use Rattle.bind_types.specs.Parents.{pairs_in_order};
 
 use crate::table::TypeTable;
-use gd_reader::RawParam;
+use gd_reader::RawParams;
 use htn_base::{List, Memory, Name};
 use plan_model::Types;
 use std::alloc::Global;
 
 /// The types of a table as a part of a value, with the pairs of this section of types.
-pub fn types_of(alloc: Global, table: &TypeTable, listed: &List<RawParam>) -> Result<Types, Memory>
+pub fn types_of(alloc: Global, table: &TypeTable, listed: &RawParams) -> Result<Types, Memory>
     ensures types { IfOk result (λ types.
         types ≡ types_bound table.now (pairs_in_order table.now.types listed.now)) }
 {

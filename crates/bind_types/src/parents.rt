@@ -2,7 +2,7 @@ ghost use Rattle.std.specs.Prelude.{◌≡◌, ◌++◌, [], map, length, All, I
 ghost use Rattle.indexmap.specs.IndexSet.{insert_all};
 ghost use Rattle.bind_types.specs.Parents.{pairs_for, place_of, pairs_in_order, AreParentsOf};
 
-use gd_reader::{RawParam, RawTerm};
+use gd_reader::{RawParams, RawTerm};
 use htn_base::{List, Memory, number};
 use indexmap::IndexSet;
 use name_numbers::Places;
@@ -11,11 +11,7 @@ use std::alloc::Global;
 
 /// The pairs of types and parents of a section, by the child's number and then in text order, each once; a type for which none
 /// is written has the one pair with `object`.
-pub fn parents_of(
-    alloc: Global,
-    types: &Places,
-    listed: &List<RawParam>,
-) -> Result<List<Parent>, Memory>
+pub fn parents_of(alloc: Global, types: &Places, listed: &RawParams) -> Result<List<Parent>, Memory>
     ensures pairs { IfOk result (λ pairs. pairs ≡ pairs_in_order types.now listed.now) }
 {
     let parents = parents_by_child(alloc, types, listed)?;
@@ -30,7 +26,7 @@ pub fn parents_of(
 fn parents_by_child(
     alloc: Global,
     types: &Places,
-    listed: &List<RawParam>,
+    listed: &RawParams,
 ) -> Result<Vec<IndexSet<u32>>, Memory>
     ensures parents { IfOk result (λ parents. AreParentsOf types.now listed.now parents.items) }
 {

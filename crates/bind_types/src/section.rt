@@ -6,8 +6,8 @@ ghost use Rattle.bind_types.specs.PairsAmong.{if_at};
 ghost use Rattle.bind_types.specs.TooMany.{NotesLeast, NoneIsOfType, IsFirstOfType};
 
 use crate::cycle::cycle_among;
-use gd_reader::{RawParam, RawTerm};
-use htn_base::{List, Memory, Name};
+use gd_reader::{RawParams, RawTerm};
+use htn_base::{Memory, Name};
 use name_numbers::{Faults, Places};
 use std::alloc::Global;
 
@@ -18,7 +18,7 @@ pub fn section_of(
     alloc: Global,
     object: Name,
     most: u32,
-    listed: &List<RawParam>,
+    listed: &RawParams,
     faults: &mut Faults,
 ) -> Result<Places, Memory>
     requires few { most ≤ 4095 }
@@ -46,7 +46,7 @@ fn note_if(at: Option<u32>, code: u16, faults: &mut Faults)
 }
 
 /// The words of a section of types in the order of the text.
-fn words_in_order(alloc: Global, listed: &List<RawParam>) -> Result<Vec<RawTerm>, Memory>
+fn words_in_order(alloc: Global, listed: &RawParams) -> Result<Vec<RawTerm>, Memory>
     ensures words { IfOk result (λ words. AreInTextOrder listed.now words.items) }
 {
     let mut words = words_of(alloc, listed)?;
@@ -55,7 +55,7 @@ fn words_in_order(alloc: Global, listed: &List<RawParam>) -> Result<Vec<RawTerm>
 }
 
 /// Each word of a section of types.
-fn words_of(alloc: Global, listed: &List<RawParam>) -> Result<Vec<RawTerm>, Memory>
+fn words_of(alloc: Global, listed: &RawParams) -> Result<Vec<RawTerm>, Memory>
     ensures words { IfOk result (λ words. words.items ≡ mentioned listed.now) }
 {
     let mut words = Vec::new(alloc);

@@ -10,7 +10,7 @@ ghost use Rattle.bind_types.specs.Kinds.{type_number, type_faults, union_number,
 
 use crate::parents::parents_of;
 use crate::unions::Either;
-use gd_reader::{RawParam, RawTerm};
+use gd_reader::{RawParams, RawTerm};
 use htn_base::{List, Memory, number};
 use indexmap::IndexSet;
 use name_numbers::{Faults, Places, found_or_noted};
@@ -62,7 +62,7 @@ impl TypeTable {
     }
 
     /// The pairs of types and parents of a section of these types.
-    pub fn parents_of(&self, alloc: Global, listed: &List<RawParam>) -> Result<List<Parent>, Memory>
+    pub fn parents_of(&self, alloc: Global, listed: &RawParams) -> Result<List<Parent>, Memory>
         ensures pairs { IfOk result
             (λ pairs. pairs ≡ pairs_in_order self.now.types listed.now) }
     {

@@ -1,12 +1,11 @@
-ghost use Rattle.std.specs.Prelude.{◌≡◌, IfOk, OnOk};
+ghost use Rattle.std.specs.Prelude.{◌≡◌, IfOk, IsTrue, OnOk};
 ghost use Rattle.name_numbers.specs.Spots.{noted};
 ghost use Rattle.bind_types.specs.Kinds.{kind_bound, kind_faults};
 ghost use Rattle.bind_types.specs.Noted.{IsKindNoted};
 ghost use Rattle.bind_types.specs.Typed.{param_bound, params_bound, object_bound, objects_bound, typed_faults, params_faults};
 
-use crate::same::are_same;
 use crate::table::TypeTable;
-use gd_reader::{RawParam, RawTerm};
+use gd_reader::{RawParams, RawTerm};
 use htn_base::{List, Memory};
 use name_numbers::Faults;
 use plan_model::{Object, Param};
@@ -16,7 +15,7 @@ use std::alloc::Global;
 pub fn params_of(
     alloc: Global,
     table: &TypeTable,
-    params: &List<RawParam>,
+    params: &RawParams,
     faults: &mut Faults,
 ) -> Result<List<Param>, Memory>
     ensures bound { IfOk result (λ bound. bound ≡ params_bound table.now params.now) }
@@ -24,12 +23,12 @@ pub fn params_of(
         (faults.new.least ≡ noted faults.old.least (params_faults table.now params.now)) }
 {
     let mut bound = List::new(alloc);
-    let mut written: &[RawTerm] = &[];
     let mut ty = 0;
-    for param in params.as_slice() {
+    let words = params.as_slice();
+    for (i, param) in words.iter().enumerate() {
         let types = param.ty.as_slice();
-        ty = kind_by(alloc, table, written, ty, types, faults)?;
-        written = types;
+        let same = params.is_typed_as_before(i);
+        ty = kind_by(alloc, table, same, ty, types, faults)?;
         bound.push(Param {
             name: param.name,
             ty,
@@ -38,22 +37,22 @@ pub fn params_of(
     Ok(bound)
 }
 
-/// The number of these types: that of the types that are written for the word in front, whose faults are noted, where they are the
-/// same.
+/// The number of these types: where they are those of the word before, that of these, whose faults are
+/// noted.
 fn kind_by(
     alloc: Global,
     table: &TypeTable,
-    written: &[RawTerm],
+    same: bool,
     kind: u32,
     types: &[RawTerm],
     faults: &mut Faults,
 ) -> Result<u32, Memory>
-    requires known { IsKindNoted table.now written.now kind faults.old.least }
+    requires known { IsTrue same → IsKindNoted table.now types.now kind faults.old.least }
     ensures bound { IfOk result (λ kind. kind ≡ kind_bound table.now types.now) }
     ensures faults { OnOk result
         (faults.new.least ≡ noted faults.old.least (kind_faults table.now types.now)) }
 {
-    if are_same(written, types) {
+    if same {
         Ok(kind)
     } else {
         table.kind_of(alloc, types, faults)
@@ -64,7 +63,7 @@ fn kind_by(
 pub fn objects_of(
     alloc: Global,
     table: &TypeTable,
-    listed: &List<RawParam>,
+    listed: &RawParams,
     constant: bool,
     faults: &mut Faults,
 ) -> Result<List<Object>, Memory>

@@ -1,11 +1,10 @@
-ghost use Rattle.std.specs.Prelude.{◌≡◌, ◌++◌, map, IfOk, OnOk};
+ghost use Rattle.std.specs.Prelude.{◌≡◌, ◌++◌, map, IfOk, IsTrue, OnOk};
 ghost use Rattle.bind_types.specs.Kinds.{members_written};
 ghost use Rattle.bind_types.specs.Unions.{joined, union_at, unions_said, params_unions, formula_unions, effect_unions};
 
 use crate::members::Members;
-use crate::same::are_same;
 use crate::table::TypeTable;
-use gd_reader::{RawEffect, RawFormula, RawParam, RawTerm};
+use gd_reader::{RawEffect, RawFormula, RawParams, RawTerm};
 use htn_base::{List, Memory};
 use std::alloc::Global;
 
@@ -20,37 +19,37 @@ pub struct Either {
 pub fn put_unions(
     alloc: Global,
     table: &TypeTable,
-    params: &List<RawParam>,
+    params: &RawParams,
     into: &mut Vec<Either>,
 ) -> Result<(), Memory>
     ensures put { OnOk result
         (into.new.items ≡ into.old.items ++ params_unions table.now params.now) }
 {
-    let mut written: &[RawTerm] = &[];
     let mut members = Members::none();
-    for param in params.as_slice() {
+    let words = params.as_slice();
+    for (i, param) in words.iter().enumerate() {
         let types = param.ty.as_slice();
-        members = put_union(alloc, table, written, members, types, into)?;
-        written = types;
+        let same = params.is_typed_as_before(i);
+        members = put_union(alloc, table, same, members, types, into)?;
     }
     Ok(())
 }
 
 /// Puts the union that these types make behind the others, where there are two or more different ones, and gives their numbers.
-/// Those of the types that are written for the word in front are known.
+/// Where they are the types of the word before, their numbers are known.
 fn put_union(
     alloc: Global,
     table: &TypeTable,
-    written: &[RawTerm],
+    same: bool,
     known: Members,
     types: &[RawTerm],
     into: &mut Vec<Either>,
 ) -> Result<Members, Memory>
-    requires known { known ≡ members_written table.now written.now }
+    requires known { IsTrue same → known ≡ members_written table.now types.now }
     ensures members { IfOk result (λ members. members ≡ members_written table.now types.now) }
     ensures put { OnOk result (into.new.items ≡ into.old.items ++ unions_said table.now types.now) }
 {
-    let members = members_by(alloc, table, written, known, types)?;
+    let members = members_by(alloc, table, same, known, types)?;
     match types {
         [] => {}
         [first, ..] => put_members(first.at, &members, into)?,
@@ -58,18 +57,18 @@ fn put_union(
     Ok(members)
 }
 
-/// The numbers of these types, each once: those of the types that are written for the word in front, where they are the same.
+/// The numbers of these types, each once. Where they are the types of the word before, they are known.
 fn members_by(
     alloc: Global,
     table: &TypeTable,
-    written: &[RawTerm],
+    same: bool,
     known: Members,
     types: &[RawTerm],
 ) -> Result<Members, Memory>
-    requires known { known ≡ members_written table.now written.now }
+    requires known { IsTrue same → known ≡ members_written table.now types.now }
     ensures members { IfOk result (λ members. members ≡ members_written table.now types.now) }
 {
-    if are_same(written, types) {
+    if same {
         return Ok(known);
     }
     drop(known);

@@ -153,7 +153,7 @@ fn list_with_a_union(rt: HostRuntime) {
     let got = typed_list(rt.alloc(), &s, 1, 0, ListKind::Parameters, &mut names);
     let got = got.expect(&rt, "a list");
     assert_eq!(rt; (got.next, names.len()), (9, 3));
-    match got.value.get(0) {
+    match got.value.as_slice().first() {
         Some(param) => assert_eq!(rt; (param.at, param.ty.len()), (1, 2)),
         None => panic!(rt; "an empty list"),
     }
