@@ -57,5 +57,5 @@ quantified_of-returns-clause-faults t c =
     let vars = c.args.vars.now in
     let part = c.args.part.now in
     let mid = c.params_of.new.faults.least in
-    let scope = c.in_ok-enter_all.ensures.entered ∙ ap (λ xs. c.args.scope.now ++ variables_of xs) c.as_slice.ensures.items in
+    let scope = c.in_ok-enter_all.ensures.entered ∙ ap (λ xs. c.args.scope.now ++ variables_of xs) c.as_slice.ensures.words in
     noted_both c.args.faults.now.least mid c.part_of-bound.new.faults.least (params_faults known.types vars) (formula_faults known (c.args.scope.now ++ variables_of vars) part) c.in_ok-params.ensures.faults (c.in_ok-bound.ensures.faults ∙ ap (λ s. noted mid (formula_faults known s part)) scope)

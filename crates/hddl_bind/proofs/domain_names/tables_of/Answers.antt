@@ -8,7 +8,7 @@ use Rattle.hddl_bind.proofs.domain_names.tables_of.Goals as goal
 pub returns-clause-objects : goal.returns-clause-objects
 returns-clause-objects c =
     c.in_ok-seconds_of.ensures.declared ∙ ap (λ before. before ++ objects_declared c.as_slice-2.result.now) c.new-objects.ensures.none
-    ∙ ap objects_declared c.as_slice-2.ensures.items
+    ∙ ap objects_declared c.as_slice-2.ensures.words
 
 pub returns-clause-faults : goal.returns-clause-faults
 returns-clause-faults c =
@@ -16,7 +16,7 @@ returns-clause-faults c =
     let methods = c.in_ok-note_seconds.ensures.faults ∙ ap (λ xs. noted c.args.faults.now.least (second_methods xs)) c.as_slice.ensures.items in
     let objects =
     c.in_ok-seconds_of.ensures.faults ∙ ap (λ before. noted c.note_seconds.new.faults.least (second_objects before c.as_slice-2.result.now)) c.new-objects.ensures.none
-    ∙ ap (λ xs. noted c.note_seconds.new.faults.least (second_objects [] xs)) c.as_slice-2.ensures.items in
+    ∙ ap (λ xs. noted c.note_seconds.new.faults.least (second_objects [] xs)) c.as_slice-2.ensures.words in
     let predicates = c.in_ok-predicates.ensures.faults ∙ ap (λ xs. noted c.seconds_of.new.faults.least (second_heads xs)) c.as_slice-3.ensures.items in
     let callables =
     c.seconds.ensures.faults ∙ ap (λ ds. noted c.predicates_declared.new.faults.least (second_callables ds))

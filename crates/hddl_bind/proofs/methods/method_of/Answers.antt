@@ -13,6 +13,6 @@ returns-clause-faults c =
     let callables = c.args.callables.now in
     let m = c.args.method.now in
     let net = c.in_ok-net.ensures.faults in
-    let entered = c.in_ok-front.ensures.kept ∙ c.in_ok-enter_alone.ensures.entered ∙ ap variables_of c.as_slice.ensures.items in
+    let entered = c.in_ok-front.ensures.kept ∙ c.in_ok-enter_alone.ensures.entered ∙ ap variables_of c.as_slice.ensures.words in
     let behind = net.2 ∙ ap (λ s. noted c.front_of.new.faults.least (network_faults callables known.objects s m.net net.0)) entered in
     (net.0, net.1, noted_two _ _ _ (front_faults known callables m) (network_faults callables known.objects (scope_of m.head) m.net net.0) c.in_ok-front.ensures.faults behind)

@@ -13,6 +13,6 @@ returns-clause-faults c =
     let callables = c.args.callables.now in
     let p = c.args.p.now in
     let net = c.in_ok-net.ensures.faults in
-    let entered = c.in_ok-enter_alone.ensures.entered ∙ ap variables_of c.as_slice.ensures.items in
+    let entered = c.in_ok-enter_alone.ensures.entered ∙ ap variables_of c.as_slice.ensures.words in
     let behind = net.2 ∙ ap (λ s. noted c.params_of.new.faults.least (network_faults callables known.objects s p.net net.0)) entered in
     (net.0, net.1, noted_two _ _ _ (params_faults known.types p.params) (network_faults callables known.objects (top_scope p) p.net net.0) c.in_ok-params.ensures.faults behind)
