@@ -20,6 +20,7 @@ pub loop-object-preserved : goal.loop-object-preserved
 loop-object-preserved c =
     let o = c.loop-object.object in
     let notes = c.args.self.now in
+    let args = values_of (c.args.env.now.values.items ++ c.loop-object.object ∷ []) c.args.terms.now in
     let P : ℕ → Type 0 = λ x. IsOfKind c.args.kind.now c.args.objects.now x → holds c.args.self.now (values_of (c.args.env.now.values.items ++ x ∷ []) c.args.terms.now) ≡ not c.args.wanted in
     let is : holds c.args.self.now (values_of (c.args.env.now.values.items ++ c.loop-object.object ∷ []) c.args.terms.now) ≡ c.unwrap_or-truth.result =
     ap (λ n. unwrap_or (noted_at notes args n) false) (c.in_ok-row.ensures.at o (let t = c.loop-object-test.true in omega (arith, t)))
