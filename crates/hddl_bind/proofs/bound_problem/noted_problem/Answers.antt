@@ -12,7 +12,7 @@ returns-in-Ok-clause-noted c =
     let parts = c.in_ok-parts.parts in
     let unions = c.in_ok-d.ensures.unions in
     let called = c.add_names.ensures.callables in
-    let objects = c.in-Ok.ensures.added ∙ ap (λ own. d.objects ++ own) c.as_slice.ensures.words in
+    let objects = c.in-Ok.ensures.added ∙ ap (λ own. d.objects ++ own) c.as_slice.ensures.items in
     let made = c.in_ok-parts.ensures.bound ∙ ap (λ task. parts_bound names.known names.callables start task p) (c.in_ok-task.ensures.same ∙ c.len.ensures.length) in (
       start.number,
       c.in_ok-start.ensures.number,
