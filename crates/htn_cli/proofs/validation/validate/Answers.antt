@@ -1,7 +1,13 @@
 use Rattle.command_words.specs.Words.{validation_of}
-use Rattle.htn_cli.proofs.Results.{if_err_too}
-use Rattle.htn_cli.proofs.Leavings.{leaves_valid}
+use Rattle.htn_cli.proofs.Results.{on_ok_too, if_err_too}
+use Rattle.htn_cli.proofs.Leavings.{achieves_plan, leaves_valid}
 use Rattle.htn_cli.proofs.validation.validate.Goals as goal
+
+pub returns-clause-done : goal.returns-clause-done
+returns-clause-done g c =
+    on_ok_too c.print.result
+    (achieves_plan (validation_of c.args.asked.now) (g.F.Files.state c.args.files.now) (g.F.Files.state c.confirm.new.files) (g.O.Sink.state c.args.out.now) c.in_ok-confirm.ensures.plan (g.O.Sink.state c.print.new.out))
+    c.print.ensures.written
 
 pub returns-clause-refused : goal.returns-clause-refused
 returns-clause-refused g c =
