@@ -12,8 +12,10 @@
 # short init 1.83 and 1.99, bare init 1.31 and 1.99, variables 3.08 and 1.99, objects 3.02 and 1.98, types 2.73 and 1.83, network 3.55 and 1.23,
 # quantifiers 2.09 and 1.98, union 71.6 and 2.00. Milliseconds of the tokens and of the value, on a machine at loads of 5 to 8: init 124 and 266,
 # short init 199 and 648, bare init 286 and 1,111, variables 1,098 and 9,585, objects 459 and 6,953, types 101 and 644, network 182 and 253,
-# quantifiers 689 and 2,656, union 91 and 22,761: words that have one written list of types are compared with it one by one, so a list
-# costs its words times its types. The most memory: bare init, 427,556 kilobytes.
+# quantifiers 689 and 2,656, union 91 and 22,761, when words that have
+# one written list of types were compared with it one by one. Since they are marked as they are read, `htn bound` takes 1.45 s from the files
+# of the case union, and 0.01, 0.02, 0.04 and 0.63 s to tell the fault of 10, 20, 40 and 400 thousand variables under as many undeclared
+# names (the first three before: 0.31, 1.16 and 4.67). The most memory: bare init, 427,556 kilobytes.
 set -euo pipefail
 top=$(cd "$(dirname "$0")/.." && pwd)
 work=$(mktemp -d)

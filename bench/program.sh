@@ -4,9 +4,11 @@
 # MiB of facts; and a domain of 500 methods with 40 subtasks each. Wants ./htn, as examples/transport/run leaves it. A line each: what the program told,
 # seconds of the best of five runs and its processor seconds (user and system), kilobytes of memory at most, bytes read and written, and seconds of a copy of what was written.
 #
-# Measured on a quiet machine of four processors, seconds and kilobytes in the order of the cases: 0.21 and 65,476; 0.48 and 274,636 (0.20 of it
-# the program's own, the rest the system's for pages and writing); 0.87 and 232,376; 0.07 and 22,328; copies of the two long texts took 0.03 and 0.26.
-# Before instances were drawn once and source names kept their numbers: 0.17, 1.15, 0.99 and 0.12.
+# Measured with the provers of the machine stopped, four processors, seconds and kilobytes in the order of the cases: 0.10 and 65,440; 0.52
+# and 274,628 (0.25 of it the program's own, the rest the system's for pages and writing); 1.08 and 232,320; 0.10 and 22,284; copies of the
+# two long texts took 0.02 and 0.27. The day before, on a machine that took a fifth less for what has not changed since: 0.21, 0.48, 0.87 and
+# 0.07; since then pairs of new slots are put in batches. Before instances were drawn once and source names kept their numbers: 0.17, 1.15,
+# 0.99 and 0.12.
 set -euo pipefail
 top=$(cd "$(dirname "$0")/.." && pwd)
 work=$(mktemp -d)

@@ -4,9 +4,9 @@
 # the plan keeps within 16 MiB. Wants ./htn, as examples/transport/run leaves it. A line: what the program told, seconds of the best of five runs
 # and its processor seconds (user and system), kilobytes of memory at most, and the bytes of the three texts.
 #
-# Measured on a quiet machine: 0.92 s, 15,636 kilobytes, 14,005,419 bytes read; before effects without conditions were passed over in place 1.71 s.
-# Counted over 20,000 of these steps: 7,386 instructions a step, reading included, more than in bench/run_plan.sh, since a printed action's
-# quantifiers range over 15 slots.
+# Measured with the provers of the machine stopped: 0.64 s, 18,008 kilobytes, 14,005,419 bytes read. Before literals under a quantifier were
+# looked for from number to number 0.92 s and 15,636 kilobytes, and before effects without conditions were passed over in place 1.71 s.
+# A printed action's quantifiers range over 15 slots.
 set -euo pipefail
 top=$(cd "$(dirname "$0")/.." && pwd)
 work=$(mktemp -d)
