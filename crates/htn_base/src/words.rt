@@ -88,12 +88,17 @@ pub fn esc(alloc: Global, word: &[u8]) -> Result<Text, Memory>
     Ok(text)
 }
 
+/// The most bytes of a slot's word.
+const LONGEST_SLOT: usize = 15;
+
 /// The word of slot k. The printed texts count slots from 1.
 pub fn slot_name(alloc: Global, k: u32) -> Result<Text, Memory>
     ensures slot { IfOk result (λ text. text ≡ spec.slot_word k) }
 {
     let mut digits = Buffer::new();
-    let mut text = Text::from_slice(alloc, b"htn_s")?;
+    let mut text = Text::new(alloc);
+    text.reserve(LONGEST_SLOT)?;
+    text.push_all(b"htn_s")?;
     text.push_all(digits.format(k).as_bytes())?;
     Ok(text)
 }
