@@ -70,8 +70,8 @@ fn slot(alloc: Global, frame: &Frame<'_>, k: u32, expected: Name) -> Result<Obje
     })
 }
 
-/// The name of a slot's word. The words of slots were put into the table one behind another, so it is the expected one, and
-/// then nothing is spelled or looked up.
+/// The name of a slot's word. The words of slots are put into a table one behind another: where the expected name is that of
+/// this word, nothing is spelled or looked up.
 fn name_of_slot(alloc: Global, frame: &Frame<'_>, k: u32, expected: Name) -> Result<Name, Memory>
     ensures { IfOk result (λ n. n ≡ parts.name frame.now.printed.now (slot_word k)) }
 {
