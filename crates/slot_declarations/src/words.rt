@@ -94,7 +94,8 @@ pub(crate) fn numbered_word(alloc: Global, prefix: &[u8], k: u32) -> Result<Text
     ensures { IfOk result (λ text. text ≡ prefix.now ++ decimal k) }
 {
     let mut digits = Buffer::new();
-    let mut text = Text::from_slice(alloc, prefix)?;
+    let mut text = Text::new(alloc);
+    text.push_all(prefix)?;
     text.push_all(digits.format(k).as_bytes())?;
     Ok(text)
 }
