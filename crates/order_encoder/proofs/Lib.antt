@@ -1,2 +1,1 @@
-pub mod NextSlot
 pub mod Meanings

@@ -9,10 +9,6 @@ use Rattle.plan_model.specs.declared.formulas.Formula.TheVariants.{And}
 use Rattle.plan_model.specs.declared.effects.Effect.{Effect}
 use Rattle.plan_model.specs.declared.effects.Effect.TheVariants as E
 use Rattle.slot_encoding.specs.OrderFormulas.{OrderNumbers, wait_parts, clear_parts, copy_parts}
-use Rattle.order_encoder.specs.declared.names.OrderNames.{OrderNames}
-
-abbrev pub numbers : OrderNames → OrderNumbers
-numbers n = record { before = n.before; slot_type = n.slot_type; x = n.x; first_slot = n.first_slot }
 
 abbrev pub one_formula : Style → List Formula → Formula
 one_formula Flat parts = And parts

@@ -3,8 +3,9 @@
 ghost use Rattle.std.specs.Prelude.{◌≡◌};
 
 use htn_base::Name;
-use order_encoder::{OrderNames, clearing, copying, waiting};
+use order_encoder::{clearing, copying, waiting};
 use plan_model::{Effect, Formula, Style, Term};
+use slot_encoding::OrderNames;
 use std::test::Fail;
 
 /// The pairs' predicate is number 2, and the one slot is object 5.

@@ -1,7 +1,7 @@
 -- Lists put behind one another.
 use Rattle.std.proofs.Common.{ℕ, ◌≡◌, ◌+◌, ◌<◌, List, [], ◌∷◌, ◌++◌, map, take, length, get_or, Result, IfOk, IsOkAnd, refl, ap, sym, ◌∙◌, append_assoc}
 use Rattle.std.proofs.lemmas.List.{map_more}
-use Rattle.order_encoder.proofs.NextSlot.{put_is}
+use Rattle.slot_encoding.proofs.NextSlot.{put_is}
 
 module _ {A : Type 0} where
   pub append_two : (o m n a b : List A) → m ≡ o ++ a → n ≡ m ++ b → n ≡ o ++ (a ++ b)

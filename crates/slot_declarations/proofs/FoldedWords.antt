@@ -6,7 +6,7 @@ use Rattle.std.proofs.lemmas.Bool.{and_parts, eqb-true}
 use Rattle.std.proofs.lemmas.Bool.Decides.{nat_tests}
 use Rattle.std.proofs.lemmas.List.{map-append}
 use Rattle.htn_base.specs.Words.{IsFolded}
-use Rattle.htn_base.specs.Escapes.{is_plain_word, hex_digit, hex, escaped, slot_word}
+use Rattle.htn_base.specs.Escapes.{is_plain_word, hex_digit, hex, escaped}
 use Rattle.htn_base.specs.declared.name.Name.{Name}
 use Rattle.text_forms.specs.Words.{Word}
 use Rattle.text_forms.specs.Printing.{are_folded}
@@ -50,9 +50,6 @@ own-folded source n = escaped-folded (slice_index_or source n.number [])
 
 pub decimal-folded : (n : ℕ) → IsFolded (decimal n)
 decimal-folded n = letters-folded (decimal n) (folded-decimal n)
-
-pub slot-folded : (k : ℕ) → IsFolded (slot_word k)
-slot-folded k = join-folded (codes "htn_s") (decimal k) refl (decimal-folded k)
 
 pub guard-folded : (c : Compiled) (ty : ℕ) → IsFolded (guard_word c [] 0 ty)
 guard-folded c ty = by (nat_lt ty (length c.hddl.types.names))

@@ -12,7 +12,7 @@ use Rattle.plan_texts.proofs.Basics.{bytes_eq-true}
 use Rattle.plan_texts.proofs.Places.{each-join}
 use Rattle.task_networks.specs.Spelling.{numbers}
 use Rattle.slot_encoding.specs.EncodedNames.{joined}
-use Rattle.order_encoder.proofs.NextSlot.{push_next}
+use Rattle.slot_encoding.proofs.NextSlot.{push_next}
 use Rattle.slot_encoding.proofs.words.Lists.{each-weaker}
 use Rattle.slot_declarations.specs.Vocabulary.{Gains}
 

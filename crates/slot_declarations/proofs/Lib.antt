@@ -4,6 +4,7 @@ pub mod GuardTypes
 pub mod PredicateParts
 pub mod FoldedWords
 pub mod Gained
+pub mod TableNumbers
 pub mod SourceWords
 pub mod OwnWords
 pub mod Greatest

@@ -8,7 +8,7 @@ use Rattle.plan_texts.specs.Types.{Has}
 use Rattle.plan_model.specs.declared.values.Compiled.{Compiled}
 use Rattle.plan_model.specs.declared.schemas.MethodPlan.{MethodPlan}
 use Rattle.slot_encoding.specs.EncodedNames as spec
-use Rattle.order_encoder.specs.Orders as orders
+use Rattle.slot_encoding.specs.OrderNames as orders
 use Rattle.slot_encoding.specs.SourceParts.{source_word}
 use Rattle.task_networks.specs.Spelling.{numbers}
 use Rattle.slot_declarations.specs.Pieces.{checked, checked_from, checks_before}

@@ -10,7 +10,6 @@ use Rattle.plan_model.specs.declared.schemas.Predicate.{Predicate}
 use Rattle.plan_model.specs.declared.schemas.TaskSchema.{TaskSchema}
 use Rattle.plan_model.specs.declared.schemas.ActionSchema.{ActionSchema}
 use Rattle.plan_model.specs.declared.schemas.MethodPlan.{MethodPlan}
-use Rattle.plan_model.specs.declared.values.Compiled.{Compiled}
 use Rattle.slot_encoding.specs.SourceParts as source
 use Rattle.slot_encoding.specs.EncodedNames as encoded
 use Rattle.slot_declarations.specs.Pieces.{checked, if_checked}
@@ -19,18 +18,8 @@ use Rattle.slot_declarations.specs.declared.declarations.Declarations.{Declarati
 use Rattle.slot_declarations.specs.declared.frame.Frame.{Frame}
 
 module _ (f : Frame) where
-  abbrev c : Compiled
-  c = f.compiled.now
-
-  -- the words of the printed problem, and of the source
-  abbrev words : List (List ℕ)
-  words = f.printed.now
-
-  abbrev own : List (List ℕ)
-  own = f.compiled.now.hddl.names
-
-  abbrev b : ℕ
-  b = f.slots
+  -- the compiled problem, the words of the source and of the printed problem, the number of slots
+  open f use {compiled.{now as c, now.{hddl.{names as own}}}, printed.{now as words}, slots as b}
 
   -- names
   abbrev pub renamed : Name → Name

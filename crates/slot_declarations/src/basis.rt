@@ -1,6 +1,6 @@
 ghost use Rattle.std.specs.Prelude.{◌≡◌, ◌∷◌, [], ◌++◌, length, IfOk, OnOk};
 ghost use Rattle.slot_encoding.specs.EncodedNames as names;
-ghost use Rattle.order_encoder.specs.Orders as orders;
+ghost use Rattle.slot_encoding.specs.OrderNames as orders;
 ghost use Rattle.slot_declarations.specs.Frames.{HasSourceWords, IsBasis, AreChecks};
 ghost use Rattle.slot_declarations.specs.Pieces.{if_checked};
 
@@ -8,8 +8,8 @@ use crate::guards::guard_types;
 use crate::numbers::{Numbers, numbers_of, plus};
 use crate::words::name_of;
 use htn_base::{List, Memory, NameTable, number};
-use order_encoder::OrderNames;
 use plan_model::{Compiled, MethodPlan};
+use slot_encoding::OrderNames;
 use std::alloc::Global;
 
 /// What is worked out once for all parts of the printed problem: the numbers of predicates, the names of order pairs, the

@@ -1,9 +1,9 @@
 //! What the printed problem declares: its words, types, objects and predicates, and the numbers by which the other parts name them.
 //!
-//! It stands on the values of `plan_model`, on the order pairs of `order_encoder` and on the definitions of `slot_encoding`. The
-//! contracts used above: `vocabulary_of` is a table with all words of the printed problem, which begins with the source's, so that a
-//! source name keeps its number (`renamed`); `basis_of` gives the numbers of predicates and slots; a `Frame` holds both, and from it
-//! all parts are made, the declarations here (`declarations_of`), and the names, parameters and predicates that the others ask for.
+//! It stands on the values of `plan_model` and on the definitions of `slot_encoding`. The contracts used above: `vocabulary_of` is a
+//! table with all words of the printed problem, which begins with the source's, so that a source name keeps its number (`renamed`);
+//! `basis_of` gives the numbers of predicates and slots; a `Frame` holds both, and from it all parts are made, the declarations here
+//! (`declarations_of`), and the names, parameters and predicates that the others ask for.
 #![tactic(auto)]
 
 mod basis;

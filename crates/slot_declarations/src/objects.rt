@@ -1,12 +1,15 @@
-ghost use Rattle.std.specs.Prelude.{◌≡◌, ◌++◌, map, IfOk, OnOk};
+ghost use Rattle.std.specs.Prelude.{◌≡◌, ◌++◌, true, map, IfOk, OnOk};
+ghost use Rattle.htn_base.specs.Escapes.{slot_word};
 ghost use Rattle.task_networks.specs.Spelling.{numbers};
+ghost use Rattle.slot_encoding.specs.SourceParts as parts;
 ghost use Rattle.slot_declarations.specs.Frames.{IsFrame};
 ghost use Rattle.slot_declarations.specs.Made as made;
 
 use crate::frame::Frame;
 use crate::types::retyped;
 use crate::words::{named, renamed};
-use htn_base::{List, Memory, slot_name};
+use htn_base::{List, Memory, Name, NameTable, slot_name};
+use itoa::Buffer;
 use plan_model::Object;
 use std::alloc::Global;
 
@@ -47,19 +50,52 @@ fn push_slots(
 ) -> Result<(), Memory>
     ensures { OnOk result (into.new ≡ into.old ++ map (made.slot frame.now) (numbers 1 slots)) }
 {
+    let first = named(frame, b"htn_s1").number;
     for k in 0..slots {
-        into.put(slot(alloc, frame, 1 + k))?;
+        let expected = Name {
+            number: first.saturating_add(k),
+        };
+        into.put(slot(alloc, frame, 1 + k, expected))?;
     }
     Ok(())
 }
 
-fn slot(alloc: Global, frame: &Frame<'_>, k: u32) -> Result<Object, Memory>
+fn slot(alloc: Global, frame: &Frame<'_>, k: u32, expected: Name) -> Result<Object, Memory>
     ensures { IfOk result (λ o. o ≡ made.slot frame.now k) }
 {
-    let word = slot_name(alloc, k)?;
     Ok(Object {
-        name: named(frame, word.as_slice()),
+        name: name_of_slot(alloc, frame, k, expected)?,
         ty: 1,
         constant: true,
     })
+}
+
+/// The name of a slot's word. The words of slots are put into a table one behind another: where the expected name is that of
+/// this word, nothing is spelled or looked up.
+fn name_of_slot(alloc: Global, frame: &Frame<'_>, k: u32, expected: Name) -> Result<Name, Memory>
+    ensures { IfOk result (λ n. n ≡ parts.name frame.now.printed.now (slot_word k)) }
+{
+    if is_name_of_slot(frame.printed, expected, k) {
+        return Ok(expected);
+    }
+    let word = slot_name(alloc, k)?;
+    Ok(named(frame, word.as_slice()))
+}
+
+fn is_name_of_slot(printed: &NameTable, name: Name, k: u32) -> bool
+    ensures { result ≡ true → name ≡ parts.name printed.now (slot_word k) }
+{
+    match printed.text(name) {
+        Some(word) => is_word_of_slot(word, k),
+        None => false,
+    }
+}
+
+fn is_word_of_slot(word: &[u8], k: u32) -> bool
+    ensures { result ≡ true → word.now ≡ slot_word k }
+{
+    match word.strip_prefix(b"htn_s") {
+        Some(digits) => Buffer::new().format(k).as_bytes() == digits,
+        None => false,
+    }
 }

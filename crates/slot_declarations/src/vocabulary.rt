@@ -1,16 +1,14 @@
-ghost use Rattle.std.specs.Prelude.{◌≡◌, [], ◌∷◌, ◌++◌, map, IfOk, OnOk};
+ghost use Rattle.std.specs.Prelude.{◌≡◌, [], ◌∷◌, ◌++◌, IfOk, OnOk};
 ghost use Rattle.htn_base.specs.Table.{with_word};
 ghost use Rattle.htn_base.specs.Words.{folded, IsFolded};
-ghost use Rattle.htn_base.specs.Escapes as escapes;
-ghost use Rattle.task_networks.specs.Spelling.{numbers};
 ghost use Rattle.slot_encoding.specs.SourceParts as parts;
 ghost use Rattle.slot_encoding.specs.EncodedWords as spec;
 ghost use Rattle.slot_declarations.specs.Frames.{HasSourceWords};
 ghost use Rattle.slot_declarations.specs.Vocabulary.{Gains, generated_words, single_words};
 
 use crate::schema_words::{put_actions, put_guards, put_methods, put_numbers, put_tasks};
-use crate::words::{numbered_word, own_word, prefixed_word};
-use htn_base::{Memory, Name, NameTable, number, slot_name};
+use crate::words::{own_word, prefixed_word, spell_numbered};
+use htn_base::{Memory, Name, NameTable, number};
 use plan_model::Compiled;
 use std::alloc::Global;
 
@@ -86,8 +84,9 @@ pub(crate) fn put_numbered(
     requires { IsFolded prefix.now }
     ensures { OnOk result (Gains (spec.numbered prefix.now count) names.old names.new) }
 {
+    let mut word = Vec::new(alloc);
     for k in 0..count {
-        let word = numbered_word(alloc, prefix, 1 + k)?;
+        spell_numbered(prefix, 1 + k, &mut word)?;
         put(word.as_slice(), names)?;
     }
     Ok(())
@@ -104,7 +103,7 @@ fn put_generated(
 {
     let source = &c.hddl.names;
     put_single(names)?;
-    put_slots(alloc, slots, names)?;
+    put_numbered(alloc, b"htn_s", slots, names)?;
     put_tasks(alloc, source, c.hddl.tasks.as_slice(), names)?;
     put_actions(alloc, source, c.hddl.actions.as_slice(), names)?;
     put_methods(alloc, source, c.methods.as_slice(), names)?;
@@ -127,14 +126,4 @@ fn put_single(names: &mut NameTable) -> Result<(), Memory>
     put(b"htn_free", names)?;
     put(b"htn_before", names)?;
     put(b"htn_start", names)
-}
-
-fn put_slots(alloc: Global, slots: u32, names: &mut NameTable) -> Result<(), Memory>
-    ensures { OnOk result (Gains (map escapes.slot_word (numbers 1 slots)) names.old names.new) }
-{
-    for k in 0..slots {
-        let word = slot_name(alloc, 1 + k)?;
-        put(word.as_slice(), names)?;
-    }
-    Ok(())
 }

@@ -1,4 +1,4 @@
-ghost use Rattle.std.specs.Prelude.{◌≡◌, ◌++◌, decimal, IfOk};
+ghost use Rattle.std.specs.Prelude.{◌≡◌, ◌++◌, decimal, IfOk, OnOk};
 ghost use Rattle.slot_encoding.specs.SourceParts as spec;
 ghost use Rattle.slot_declarations.specs.Frames.{IsFrame};
 ghost use Rattle.slot_declarations.specs.Made as made;
@@ -79,11 +79,23 @@ pub fn numbered(alloc: Global, frame: &Frame<'_>, prefix: &[u8], k: u32) -> Resu
     Ok(named(frame, word.as_slice()))
 }
 
+/// Makes this the generated word with a number behind it.
+pub(crate) fn spell_numbered(prefix: &[u8], k: u32, word: &mut Vec<u8>) -> Result<(), Memory>
+    ensures { OnOk result (word.new.items ≡ prefix.now ++ decimal k) }
+{
+    let mut digits = Buffer::new();
+    word.clear();
+    word.extend_from_slice(prefix)?;
+    word.extend_from_slice(digits.format(k).as_bytes())?;
+    Ok(())
+}
+
 pub(crate) fn numbered_word(alloc: Global, prefix: &[u8], k: u32) -> Result<Text, Memory>
     ensures { IfOk result (λ text. text ≡ prefix.now ++ decimal k) }
 {
     let mut digits = Buffer::new();
-    let mut text = Text::from_slice(alloc, prefix)?;
+    let mut text = Text::new(alloc);
+    text.push_all(prefix)?;
     text.push_all(digits.format(k).as_bytes())?;
     Ok(text)
 }

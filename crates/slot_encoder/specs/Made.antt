@@ -3,7 +3,6 @@
 use Rattle.std.specs.Prelude.{ℕ, suc, ◌≡◌, ◌+◌, ◌-◌, cond, List, [], ◌∷◌, ◌++◌, map, length, slice_index, codes, decimal}
 use Rattle.std.specs.List.{flat_map}
 use Rattle.htn_base.specs.declared.name.Name.{Name}
-use Rattle.plan_model.specs.declared.options.Style.{Style}
 use Rattle.plan_model.specs.declared.terms.Param.{Param}
 use Rattle.plan_model.specs.declared.terms.Term.{Term}
 use Rattle.plan_model.specs.declared.terms.Term.TheVariants.{Var, Obj}
@@ -21,7 +20,6 @@ use Rattle.plan_model.specs.declared.networks.Guard.{Guard}
 use Rattle.plan_model.specs.declared.networks.Pair.{Pair}
 use Rattle.plan_model.specs.declared.schemas.ActionSchema.{ActionSchema}
 use Rattle.plan_model.specs.declared.schemas.MethodPlan.{MethodPlan}
-use Rattle.plan_model.specs.declared.values.Compiled.{Compiled}
 use Rattle.plan_meaning.specs.Network.{InTypeOf}
 use Rattle.plan_meaning.specs.Compilation.{Keeps}
 use Rattle.task_networks.specs.Spelling.{numbers}
@@ -38,21 +36,8 @@ use Rattle.slot_encoder.specs.declared.encoding.Encoded.{Encoded}
 use Rattle.slot_declarations.specs.declared.frame.Frame.{Frame}
 
 module _ (f : Frame) where
-  abbrev c : Compiled
-  c = f.compiled.now
-
-  -- the words of the printed problem, and of the source
-  abbrev words : List (List ℕ)
-  words = f.printed.now
-
-  abbrev own : List (List ℕ)
-  own = f.compiled.now.hddl.names
-
-  abbrev b : ℕ
-  b = f.slots
-
-  abbrev style : Style
-  style = f.style
+  -- the compiled problem, the words of the source and of the printed problem, the number of slots, the style
+  open f use {compiled.{now as c, now.{hddl.{names as own}}}, printed.{now as words}, slots as b, style}
 
   abbrev pairs : order.OrderNumbers
   pairs = encoded.order_numbers c words b

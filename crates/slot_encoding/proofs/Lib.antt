@@ -1,6 +1,7 @@
 pub mod ValueOver
 pub mod Pieces
 pub mod OrderParts
+pub mod NextSlot
 pub mod examples
 pub mod places
 pub mod words

@@ -1,5 +1,6 @@
 pub mod SourceParts
 pub mod OrderFormulas
+pub mod OrderNames
 pub mod OrderMeaning
 pub mod EncodedNames
 pub mod EncodedActions

@@ -1,14 +1,17 @@
 //! The printed problem, as it is defined: its names, its formulas on order pairs, its actions, its words.
 //!
-//! The code above (`order_encoder`, `slot_encoder`, `problem_texts`) and the proof about plans (`plan_proof`) both stand on these
-//! definitions, and on nothing of each other; what both use of their texts is in `encoded_texts`. It stands on the compiled problem of
-//! `plan_meaning` and on the printable values of `plan_texts`, and has no code but laws. The contracts used above: the encoded value of
-//! a sound problem, over a table that has all its words, can be printed (`encoded_is_printable`); each compiled problem has an encoded
-//! value (`every_problem_has_an_encoded_value`).
+//! The code above (`order_encoder`, `slot_declarations`, `slot_encoder`, `problem_texts`) and the proof about plans (`plan_proof`)
+//! both stand on these definitions, and on nothing of each other; what both use of their texts is in `encoded_texts`. It stands on
+//! the compiled problem of `plan_meaning` and on the printable values of `plan_texts`, and has no code but laws, and what the crates
+//! above call the order pairs by (`OrderNames`). The contracts used above: the encoded value of a sound problem, over a table that has
+//! all its words, can be printed (`encoded_is_printable`); each compiled problem has an encoded value
+//! (`every_problem_has_an_encoded_value`).
 #![tactic(auto)]
 
+mod order_names;
 mod value_laws;
 mod word_laws;
 
+pub use order_names::OrderNames;
 pub use value_laws::every_problem_has_an_encoded_value;
 pub use word_laws::{encoded_is_printable, printed_words_differ};

@@ -2,7 +2,7 @@ use Rattle.std.proofs.Common.{◌≡◌, ◌+◌, length, take, [], ap, sym, ◌
 use Rattle.std.proofs.lemmas.List.{length-map, length-take-le}
 use Rattle.task_networks.proofs.Numbers.{length-numbers}
 use Rattle.task_networks.specs.Spelling.{numbers}
-use Rattle.order_encoder.proofs.NextSlot.{push_next}
+use Rattle.slot_encoding.proofs.NextSlot.{push_next}
 use Rattle.slot_declarations.specs.Pieces.{checks_before}
 use Rattle.slot_declarations.proofs.CheckedMethods.{checked_from-length, checked_next}
 use Rattle.slot_declarations.proofs.basis.checks_of.Goals as goal

@@ -1,4 +1,4 @@
-use Rattle.order_encoder.proofs.NextSlot.{put_next}
+use Rattle.slot_encoding.proofs.NextSlot.{put_next}
 use Rattle.slot_declarations.specs.Made as made
 use Rattle.slot_declarations.proofs.objects.push_slots.Goals as goal
 

@@ -1,6 +1,6 @@
 use Rattle.std.proofs.Common.{ap}
 use Rattle.htn_base.specs.declared.name.Name.{Name}
-use Rattle.order_encoder.proofs.NextSlot.{push_next}
+use Rattle.slot_encoding.proofs.NextSlot.{push_next}
 use Rattle.slot_encoding.specs.EncodedNames.{object_type}
 use Rattle.slot_declarations.specs.Made as made
 use Rattle.slot_declarations.proofs.predicates.push_arguments.Goals as goal

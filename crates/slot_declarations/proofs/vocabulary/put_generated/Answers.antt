@@ -16,5 +16,5 @@ returns c =
     let methods = gains-of (ap (λ (xs : List MethodPlan). joined (map (words_of_method own) xs)) c.as_slice-3.ensures.items) c.in_ok-put_methods.ensures in
     let front = single_words ++ map slot_word (numbers 1 c.args.slots) ++ map (task_word own) s.hddl.tasks ++ map (action_word own) s.hddl.actions ++ joined (map (words_of_method own) s.methods)
     ++ map (guard_word s [] 0) (guard_types s) in
-    let g = gains-join (gains-join (gains-join (gains-join (gains-join c.in_ok-put_single.ensures c.in_ok-put_slots.ensures) tasks) actions) methods) c.in_ok-put_guards.ensures in
+    let g = gains-join (gains-join (gains-join (gains-join (gains-join c.in_ok-put_single.ensures c.in_ok-put_numbered.ensures) tasks) actions) methods) c.in_ok-put_guards.ensures in
     ok-join c.put_numbers.result front (numbered_words s) c.args.names.now c.put_guards.new.names c.put_numbers.new.names g c.put_numbers.ensures

@@ -11,7 +11,7 @@ pub loop-k-preserved : goal.loop-k-preserved
 loop-k-preserved c =
     let k = 1 + c.loop-k.k in
     gains-next_number (λ (j : ℕ). c.args.prefix.now ++ decimal j) c.loop-k.k c.loop-k.invariant
-    (gains-of (ap (λ (w : List ℕ). folded w ∷ []) (c.as_slice.ensures.bytes ∙ c.in_ok-word.ensures) ∙ ap (λ (w : List ℕ). w ∷ []) (join-folded c.args.prefix.now (decimal k) c.requires (decimal-folded k))) c.in_ok-put.ensures)
+    (gains-of (ap (λ (w : List ℕ). folded w ∷ []) (c.as_slice.ensures.value ∙ c.in_ok-spell_numbered.ensures) ∙ ap (λ (w : List ℕ). w ∷ []) (join-folded c.args.prefix.now (decimal k) c.requires (decimal-folded k))) c.in_ok-put.ensures)
 
 pub returns : goal.returns
 returns c = gains-all_numbers (λ (j : ℕ). c.args.prefix.now ++ decimal j) c.loop-k.k c.args.count (omega arith) c.loop-k.invariant
