@@ -4,7 +4,7 @@ ghost use Rattle.pddl_printer.specs.Scopes.{words_in_force};
 ghost use Rattle.pddl_printer.specs.Texts.{term_text, terms_text, atom_text};
 ghost use Rattle.sheets.specs.Sheets.{Wrote};
 
-use crate::words::{name_word, put_object, put_predicate};
+use crate::words::{name_word, object_word, predicate_word};
 use plan_model::{Atom, Pddl, Scope, Term};
 use sheets::Sheet;
 
@@ -29,7 +29,7 @@ pub(crate) fn put_term(p: &Pddl, scope: &Scope<'_>, term: Term, sheet: &mut Shee
         }
         Term::Obj(object) => {
             sheet.put(b" ");
-            put_object(p, object as usize, sheet);
+            sheet.put(object_word(p, object as usize));
         }
     }
 }
@@ -48,7 +48,7 @@ pub(crate) fn put_atom(p: &Pddl, scope: &Scope<'_>, atom: &Atom, sheet: &mut She
     ensures { Wrote (atom_text p.now scope.now atom.now) sheet.old sheet.new }
 {
     sheet.put(b" (");
-    put_predicate(p, atom.predicate, sheet);
+    sheet.put(predicate_word(p, atom.predicate));
     put_terms(p, scope, atom.args.as_slice(), sheet);
     sheet.put(b")");
 }

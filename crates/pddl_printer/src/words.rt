@@ -38,6 +38,16 @@ pub(crate) fn predicate_word(p: &Pddl, predicate: u32) -> &[u8]
     }
 }
 
+/// The word of a type that is no union.
+pub(crate) fn type_word(p: &Pddl, ty: u32) -> &[u8]
+    ensures { result.now ≡ word_at (pddl_types p.now) ty }
+{
+    match p.types.names.get(ty as usize) {
+        Some(name) => name_word(p, *name),
+        None => b"",
+    }
+}
+
 /// How many bytes the word of an object has.
 pub(crate) fn object_length(p: &Pddl, object: usize) -> u64
     ensures { result ≡ length (word_at (pddl_words p.now).objects object) }
@@ -60,27 +70,4 @@ pub(crate) fn put_name(p: &Pddl, name: Name, sheet: &mut Sheet<'_>)
     ensures { Wrote (named p.now.names name) sheet.old sheet.new }
 {
     sheet.put(name_word(p, name));
-}
-
-/// Puts the word of a type that is no union.
-pub(crate) fn put_type(p: &Pddl, ty: u32, sheet: &mut Sheet<'_>)
-    ensures { Wrote (word_at (pddl_types p.now) ty) sheet.old sheet.new }
-{
-    if let Some(name) = p.types.names.get(ty as usize) {
-        put_name(p, *name, sheet);
-    }
-}
-
-/// Puts the word of an object.
-pub(crate) fn put_object(p: &Pddl, object: usize, sheet: &mut Sheet<'_>)
-    ensures { Wrote (word_at (pddl_words p.now).objects object) sheet.old sheet.new }
-{
-    sheet.put(object_word(p, object));
-}
-
-/// Puts the word of a predicate.
-pub(crate) fn put_predicate(p: &Pddl, predicate: u32, sheet: &mut Sheet<'_>)
-    ensures { Wrote (word_at (pddl_words p.now).predicates predicate) sheet.old sheet.new }
-{
-    sheet.put(predicate_word(p, predicate));
 }

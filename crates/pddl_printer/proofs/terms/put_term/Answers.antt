@@ -11,4 +11,4 @@ pub returns-in-Var : goal.returns-in-Var
 returns-in-Var c = wrote-at (λ t. behind (term_part (pddl_words c.args.p.now) (words_in_force c.args.p.now c.args.scope.now) t)) (sym c.in-Var.is) (wrote-then c.put.ensures.wrote (wrote-as c.word_in_force.ensures c.put-in-Var.ensures.wrote))
 
 pub returns-in-Obj : goal.returns-in-Obj
-returns-in-Obj c = wrote-at (λ t. behind (term_part (pddl_words c.args.p.now) (words_in_force c.args.p.now c.args.scope.now) t)) (sym c.in-Obj.is) (wrote-then c.put-in-Obj.ensures.wrote c.put_object.ensures)
+returns-in-Obj c = wrote-at (λ t. behind (term_part (pddl_words c.args.p.now) (words_in_force c.args.p.now c.args.scope.now) t)) (sym c.in-Obj.is) (wrote-then c.put-in-Obj.ensures.wrote (wrote-as c.object_word.ensures c.put-in-Obj-2.ensures.wrote))
