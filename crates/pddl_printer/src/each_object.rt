@@ -1,6 +1,8 @@
-ghost use Rattle.std.specs.Prelude.{◌≡◌, ◌<◌, false};
+ghost use Rattle.std.specs.Prelude.{◌≡◌, ◌<◌, ◌++◌, false};
+ghost use Rattle.task_networks.specs.Spelling.{numbers};
+ghost use Rattle.pddl_printer.specs.Behind.{of_each};
 ghost use Rattle.pddl_printer.specs.Literals.{is_over as over};
-ghost use Rattle.pddl_printer.specs.InstanceTexts.{literals_text};
+ghost use Rattle.pddl_printer.specs.InstanceTexts.{literals_text, word_between};
 ghost use Rattle.pddl_printer.specs.Measured.{IsMeasured};
 ghost use Rattle.sheets.specs.Sheets.{Wrote};
 
@@ -8,7 +10,7 @@ use crate::batch::Batch;
 use crate::holes::holes;
 use crate::instances::{Instance, Literal, draw_instance};
 use crate::object_range::Range;
-use crate::stencil::Stencil;
+use crate::stencil::{Piece, Stencil, joined};
 use crate::words::object_word;
 use crate::written::Written;
 use plan_model::{Param, Pddl, Scope};
@@ -68,6 +70,11 @@ fn put_instances(
         literal,
         &mut stencil,
     );
+    if let Some((before, behind)) = stencil.sides() {
+        if let Some(between) = joined(behind, before) {
+            return put_around(p, of.written.range, before, &between, behind, sheet);
+        }
+    }
     let mut batch = Batch::new();
     for k in 0..of.written.range.count {
         let word = object_word(p, of.written.range.first as usize + k as usize);
@@ -79,6 +86,35 @@ fn put_instances(
         }
     }
     batch.put(sheet);
+}
+
+/// Puts the word of each object between the same two texts, of which the one behind a word is put together with the one before the
+/// next.
+fn put_around(
+    p: &Pddl,
+    range: Range,
+    before: &[u8],
+    between: &Piece,
+    behind: &[u8],
+    sheet: &mut Sheet<'_>,
+)
+    requires between { between.now.items ≡ behind.now ++ before.now }
+    ensures { Wrote (of_each (word_between p.now before.now behind.now) (numbers range.first range.count))
+        sheet.old sheet.new }
+{
+    if range.count == 0 {
+        return;
+    }
+    let first = range.first as usize;
+    sheet.put(before);
+    sheet.put(object_word(p, first));
+    let mut batch = Batch::new();
+    for k in 1..range.count {
+        batch.add(between.as_slice(), sheet);
+        batch.add(object_word(p, first + k as usize), sheet);
+    }
+    batch.put(sheet);
+    sheet.put(behind);
 }
 
 /// Counts them, of which there is one at least: each has its own bytes, which are those of an instance with no letter

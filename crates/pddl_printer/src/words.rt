@@ -1,4 +1,4 @@
-ghost use Rattle.std.specs.Prelude.{◌≡◌, map, length};
+ghost use Rattle.std.specs.Prelude.{◌≡◌, map};
 ghost use Rattle.text_forms.specs.Words.{word_at};
 ghost use Rattle.plan_texts.specs.Declared.{named, variable};
 ghost use Rattle.plan_texts.specs.SpellsPddl.{pddl_types, pddl_words};
@@ -46,13 +46,6 @@ pub(crate) fn type_word(p: &Pddl, ty: u32) -> &[u8]
         Some(name) => name_word(p, *name),
         None => b"",
     }
-}
-
-/// How many bytes the word of an object has.
-pub(crate) fn object_length(p: &Pddl, object: usize) -> u64
-    ensures { result ≡ length (word_at (pddl_words p.now).objects object) }
-{
-    object_word(p, object).len() as u64
 }
 
 /// The word of the k-th of these variables.
