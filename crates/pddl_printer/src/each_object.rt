@@ -1,5 +1,6 @@
 ghost use Rattle.std.specs.Prelude.{◌≡◌, ◌<◌, ◌++◌, false};
 ghost use Rattle.task_networks.specs.Spelling.{numbers};
+ghost use Rattle.pddl_printer.specs.Batches.{Added};
 ghost use Rattle.pddl_printer.specs.Behind.{of_each};
 ghost use Rattle.pddl_printer.specs.Literals.{is_over as over};
 ghost use Rattle.pddl_printer.specs.InstanceTexts.{literals_text, word_between};
@@ -62,6 +63,7 @@ fn put_instances(
     ensures { Wrote (literals_text p.now scope.now of literal.now) sheet.old sheet.new }
 {
     let depth = of.depth;
+    let mut batch = Batch::new();
     let mut stencil = Stencil::new();
     draw_instance(
         p,
@@ -72,10 +74,18 @@ fn put_instances(
     );
     if let Some((before, behind)) = stencil.sides() {
         if let Some(between) = joined(behind, before) {
-            return put_around(p, of.written.range, before, &between, behind, sheet);
+            add_around(
+                p,
+                of.written.range,
+                before,
+                &between,
+                behind,
+                &mut batch,
+                sheet,
+            );
+            return batch.put(sheet);
         }
     }
-    let mut batch = Batch::new();
     for k in 0..of.written.range.count {
         let word = object_word(p, of.written.range.first as usize + k as usize);
         if stencil.fits {
@@ -88,33 +98,31 @@ fn put_instances(
     batch.put(sheet);
 }
 
-/// Puts the word of each object between the same two texts, of which the one behind a word is put together with the one before the
-/// next.
-fn put_around(
+/// Adds the word of each object between the same two texts to a batch; the one behind a word together with the one before the next.
+fn add_around(
     p: &Pddl,
     range: Range,
     before: &[u8],
     between: &Piece,
     behind: &[u8],
+    batch: &mut Batch,
     sheet: &mut Sheet<'_>,
 )
     requires between { between.now.items ≡ behind.now ++ before.now }
-    ensures { Wrote (of_each (word_between p.now before.now behind.now) (numbers range.first range.count))
-        sheet.old sheet.new }
+    ensures { Added (of_each (word_between p.now before.now behind.now) (numbers range.first range.count))
+        batch.old batch.new sheet.old sheet.new }
 {
     if range.count == 0 {
         return;
     }
     let first = range.first as usize;
-    sheet.put(before);
-    sheet.put(object_word(p, first));
-    let mut batch = Batch::new();
+    batch.add(before, sheet);
+    batch.add(object_word(p, first), sheet);
     for k in 1..range.count {
         batch.add(between.as_slice(), sheet);
         batch.add(object_word(p, first + k as usize), sheet);
     }
-    batch.put(sheet);
-    sheet.put(behind);
+    batch.add(behind, sheet);
 }
 
 /// Counts them, of which there is one at least: each has its own bytes, which are those of an instance with no letter

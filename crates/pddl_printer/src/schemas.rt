@@ -10,7 +10,7 @@ use crate::effects::put_effect;
 use crate::formulas::put_formula;
 use crate::items::{Item, add_items};
 use crate::typed_lists::put_variables;
-use crate::words::{name_word, put_name};
+use crate::words::name_word;
 use crate::written::Written;
 use crate::written_conditions::put_written_condition;
 use crate::written_effects::put_written_effect;
@@ -86,7 +86,7 @@ pub(crate) fn put_action_start(p: &Pddl, name: Name, params: &[Param], sheet: &m
     ensures { Wrote (action_start p.now params.now name) sheet.old sheet.new }
 {
     sheet.put(b" (:action ");
-    put_name(p, name, sheet);
+    sheet.put(name_word(p, name));
     sheet.put(b" :parameters");
     put_variables(p, params, sheet);
     sheet.put(b" :precondition");

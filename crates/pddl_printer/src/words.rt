@@ -2,11 +2,9 @@ ghost use Rattle.std.specs.Prelude.{◌≡◌, map};
 ghost use Rattle.text_forms.specs.Words.{word_at};
 ghost use Rattle.plan_texts.specs.Declared.{named, variable};
 ghost use Rattle.plan_texts.specs.SpellsPddl.{pddl_types, pddl_words};
-ghost use Rattle.sheets.specs.Sheets.{Wrote};
 
 use htn_base::Name;
 use plan_model::{Param, Pddl};
-use sheets::Sheet;
 
 /// The word of a name; of a number that no word has, the empty one.
 pub(crate) fn name_word(p: &Pddl, name: Name) -> &[u8]
@@ -56,11 +54,4 @@ pub(crate) fn variable_word<'a>(p: &'a Pddl, params: &[Param], k: usize) -> &'a 
         Some(param) => name_word(p, param.name),
         None => b"",
     }
-}
-
-/// Puts the word of a name.
-pub(crate) fn put_name(p: &Pddl, name: Name, sheet: &mut Sheet<'_>)
-    ensures { Wrote (named p.now.names name) sheet.old sheet.new }
-{
-    sheet.put(name_word(p, name));
 }

@@ -30,7 +30,7 @@ loop-k-preserved c =
           let stands = (c.draw_instance.ensures w.if-stencil.true).1 word ∙ ap (λ z. z ++ literal_with p scope d word l) (c.new-stencil.ensures.empty word) in
           added-at (sym w.batch-is) (sym w.sheet-is) (added-as (stands ∙ drawn) w.add.ensures)
       | else-stencil w ↦
-          added-at (sym w.batch-is) (sym w.sheet-is) (added-put w.put.ensures.empty w.put.ensures.wrote (wrote-as drawn w.draw_instance-else-stencil.ensures))
+          added-at (sym w.batch-is) (sym w.sheet-is) (added-put w.put-else-stencil.ensures.empty w.put-else-stencil.ensures.wrote (wrote-as drawn w.draw_instance-else-stencil.ensures))
     ])
 
 pub returns : goal.returns
@@ -48,4 +48,6 @@ returns-in-Some-joined c =
     let drawn : (o : ℕ) → word_between p c.in-Some.before.now c.in-Some.behind.now o ≡ behind (literal_part (pddl_words p) (words_in_force p scope) d l o) = λ o.
     let word = word_at (pddl_words p).objects o in
     sym (c.in-Some.ensures.around word) ∙ (c.draw_instance.ensures c.in-Some.ensures.fits).1 word ∙ ap (λ z. z ++ literal_with p scope d word l) (c.new-stencil.ensures.empty word) ∙ instance-is p scope d o l in
-    wrote-as ((λ i. of_each (λ o. drawn o i) (numbers r.first r.count)) ∙ behind-each (literal_part (pddl_words p) (words_in_force p scope) d l) (numbers r.first r.count)) c.put_around.ensures
+    added-all c.new-batch.ensures
+    (added-as ((λ i. of_each (λ o. drawn o i) (numbers r.first r.count)) ∙ behind-each (literal_part (pddl_words p) (words_in_force p scope) d l) (numbers r.first r.count)) c.add_around.ensures)
+    c.put.ensures.wrote

@@ -3,10 +3,9 @@ use Rattle.std.proofs.lemmas.List.{append-nil}
 use Rattle.task_networks.specs.Spelling.{numbers}
 use Rattle.pddl_printer.specs.Behind.{of_each}
 use Rattle.pddl_printer.specs.InstanceTexts.{word_between}
-use Rattle.sheets.proofs.Written.{wrote-as, wrote-nothing, wrote-then}
-use Rattle.pddl_printer.proofs.Batches.{added-as, added-put, added-all, added-then}
+use Rattle.pddl_printer.proofs.Batches.{added-as, added-then}
 use Rattle.pddl_printer.proofs.Ranges.{range-more}
-use Rattle.pddl_printer.proofs.each_object.put_around.Goals as goal
+use Rattle.pddl_printer.proofs.each_object.add_around.Goals as goal
 
 one-more : (text before word behind : List ℕ) → (text ++ ((behind ++ before) ++ word)) ++ behind ≡ (text ++ behind) ++ (before ++ (word ++ behind))
 one-more text before word behind = simp append_assoc
@@ -19,7 +18,7 @@ loop-k-init c =
     let f = word_between c.args.p.now before behind in (
       before ++ word,
       append_assoc before word behind ∙ ap (λ w. before ++ (w ++ behind)) c.object_word.ensures ∙ sym (append-nil (f c.args.range.first)),
-      added-put c.new-batch.ensures (wrote-as (sym c.new-batch.ensures) (wrote-nothing c.args.sheet.now)) (wrote-then c.put.ensures.wrote c.put-2.ensures.wrote),
+      added-then c.add.ensures c.add-2.ensures,
     )
 
 pub loop-k-preserved : goal.loop-k-preserved
@@ -33,7 +32,7 @@ loop-k-preserved c =
     let f = word_between c.args.p.now before behind in (
       so_far.0 ++ ((behind ++ before) ++ word),
       one-more so_far.0 before word behind ∙ (λ i. so_far.1 i ++ (before ++ (c.object_word-in-loop-k.ensures i ++ behind))) ∙ range-more f first k,
-      added-then so_far.2 (added-then (added-as (c.as_slice.ensures.value ∙ c.requires.between) c.add.ensures) c.add-in-loop-k.ensures),
+      added-then so_far.2 (added-then (added-as (c.as_slice.ensures.value ∙ c.requires.between) c.add-in-loop-k.ensures) c.add-in-loop-k-2.ensures),
     )
 
 pub returns : goal.returns
@@ -41,4 +40,4 @@ returns c =
     let f = word_between c.args.p.now c.args.before.now c.args.behind.now in
     let so_far = c.loop-k.invariant in
     let all : c.loop-k.k ≡ c.args.range.count = let l = c.loop-k-test.false in let z = c.if-range-eq0.false in let h = c.loop-k.auto.k-end (omega (arith, z)) in omega (arith, l, h) in
-    wrote-as (so_far.1 ∙ ap (λ n. of_each f (numbers c.args.range.first n)) all) (wrote-then (added-all c.new-batch.ensures so_far.2 c.put-3.ensures.wrote) c.put-4.ensures.wrote)
+    added-as (so_far.1 ∙ ap (λ n. of_each f (numbers c.args.range.first n)) all) (added-then so_far.2 c.add-3.ensures)
