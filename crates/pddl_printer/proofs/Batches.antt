@@ -1,14 +1,18 @@
 -- Bytes that are added to a batch one after another, and what comes of them.
-use Rattle.std.proofs.Common.{ℕ, ◌≡◌, ◌+◌, ◌<◌, ◌≤◌, List, [], ◌++◌, length, take, get_or, ap, sym, subst, ◌∙◌, append_assoc}
+use Rattle.std.proofs.Common.{ℕ, ◌≡◌, ◌+◌, ◌<◌, ◌≤◌, List, [], ◌∷◌, ◌++◌, length, take, get_or, ap, sym, subst, ◌∙◌, append_assoc}
 use Rattle.std.proofs.lemmas.List.{append-nil}
 use Rattle.task_networks.specs.Spelling.{numbers}
 use Rattle.sheets.specs.Sheets.{Wrote}
 use Rattle.sheets.specs.declared.sheet.Sheet.{Sheet}
-use Rattle.sheets.proofs.Written.{wrote-as, wrote-then}
+use Rattle.sheets.proofs.Written.{wrote-as, wrote-nothing, wrote-then}
+use Rattle.text_forms.specs.Lists.{Parts, group}
+use Rattle.text_forms.specs.Words.{Word}
+use Rattle.text_forms.specs.Printing.{bytes_behind, headed}
 use Rattle.pddl_printer.specs.declared.batch.Batch.{Batch}
 use Rattle.pddl_printer.specs.Batches.{Added}
-use Rattle.pddl_printer.specs.Behind.{of_each}
-use Rattle.pddl_printer.proofs.Each.{each-more, each-all}
+use Rattle.pddl_printer.specs.Behind.{behind, between, of_each}
+use Rattle.pddl_printer.proofs.Each.{each-more, each-more-at, each-all}
+use Rattle.pddl_printer.proofs.Groups.{closed}
 use Rattle.pddl_printer.proofs.Ranges.{range-more}
 
 pub added-as : {a b : List ℕ} {x y : Batch} {s t : Sheet} → a ≡ b → Added a x y s t → Added b x y s t
@@ -26,6 +30,20 @@ added-then {a = a} {b = b} {x = x} {y = y} {z = z} d e = record {
   wrote = wrote-then d.wrote e.wrote;
 }
 
+pub added-nothing : (x : Batch) (s : Sheet) → Added [] x x s s
+added-nothing x s = record { first = []; rest = append-nil x.bytes.items; wrote = wrote-nothing s }
+
+-- the bytes of equal values
+pub added-of : {X : Type 0} (f : X → List ℕ) {i j : X} {x y : Batch} {s t : Sheet} → i ≡ j → Added (f i) x y s t → Added (f j) x y s t
+added-of f e d = added-as (ap f e) d
+
+-- a list behind a space: what opens it, its parts, and what closes it
+pub added-headed : (k : Word) (ps : Parts) {x y z w : Batch} {s t u v : Sheet} → Added (32 ∷ 40 ∷ k) x y s t → Added (bytes_behind ps) y z t u → Added (41 ∷ []) z w u v → Added (behind (headed k ps)) x w s v
+added-headed k ps a b c = added-as (append_assoc (32 ∷ 40 ∷ k) (bytes_behind ps) (41 ∷ [])) (added-then (added-then a b) c)
+
+pub added-group : (ps : Parts) {x y z w : Batch} {s t u v : Sheet} → Added (32 ∷ 40 ∷ []) x y s t → Added (between ps) y z t u → Added (41 ∷ []) z w u v → Added (behind (group ps)) x w s v
+added-group ps a b c = added-as (closed ps) (added-then a (added-then b c))
+
 -- bytes that are put on the sheet where nothing waits any more
 pub added-put : {a : List ℕ} {x y : Batch} {s t u : Sheet} → y.bytes.items ≡ [] → Wrote x.bytes.items s t → Wrote a t u → Added a x y s u
 added-put {a = a} {x = x} {y = y} e v w = record {
@@ -41,6 +59,10 @@ added-all {a = a} e d w = wrote-as (sym d.rest ∙ ap (λ z. z ++ a) e) (wrote-t
 -- one item more
 pub each-added : {X : Type 0} (f : X → List ℕ) (xs : List X) (n : ℕ) (i : X) {x y z : Batch} {s t u : Sheet} → n < length xs → i ≡ get_or xs n i → Added (of_each f (take n xs)) x y s t → Added (f i) y z t u → Added (of_each f (take (n + 1) xs)) x z s u
 each-added f xs n i l e d g = added-as (each-more f xs n i l e) (added-then d g)
+
+-- the same where the item is read with a default
+pub each-added-at : {X : Type 0} (f : X → List ℕ) (xs : List X) (n : ℕ) (i : X) {x y z : Batch} {s t u : Sheet} → n < length xs → Added (of_each f (take n xs)) x y s t → Added (f (get_or xs n i)) y z t u → Added (of_each f (take (n + 1) xs)) x z s u
+each-added-at f xs n i l d g = added-as (each-more-at f xs n i l) (added-then d g)
 
 -- all items
 pub each-added-all : {X : Type 0} (f : X → List ℕ) (xs : List X) {ys : List X} (n : ℕ) {x y : Batch} {s t : Sheet} → length xs ≤ n → xs ≡ ys → Added (of_each f (take n xs)) x y s t → Added (of_each f ys) x y s t

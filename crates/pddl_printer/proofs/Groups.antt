@@ -22,7 +22,7 @@ wrote-two p q v w = wrote-then v (wrote-one q w)
 pub wrote-headed : (k : Word) (ps : Parts) {s t u v : Sheet} → Wrote (32 ∷ 40 ∷ k) s t → Wrote (bytes_behind ps) t u → Wrote (41 ∷ []) u v → Wrote (behind (headed k ps)) s v
 wrote-headed k ps a b c = wrote-as (append_assoc (32 ∷ 40 ∷ k) (bytes_behind ps) (41 ∷ [])) (wrote-then (wrote-then a b) c)
 
-closed : (ps : Parts) → (32 ∷ 40 ∷ []) ++ (between ps ++ 41 ∷ []) ≡ behind (group ps)
+pub closed : (ps : Parts) → (32 ∷ 40 ∷ []) ++ (between ps ++ 41 ∷ []) ≡ behind (group ps)
 closed nothing = refl
 closed (part p ps) = ap (λ z. 32 ∷ 40 ∷ z) (append_assoc (bytes p) (bytes_behind ps) (41 ∷ []))
 

@@ -16,6 +16,11 @@ Composes {S} draws = (f g : List ℕ → List ℕ) (word : List ℕ) (s t u : S)
 abbrev pub shown : Stencil → List ℕ → List ℕ
 shown s word = of_each (λ piece. piece.items ++ word) s.before.items ++ s.behind.items
 
+-- all that was drawn stands on a stencil, with one place: this before it, and that behind
+pub record AreSides (s : Stencil) (before behind : List ℕ) : Type 0 where
+  pub fits : s.fits ≡ true
+  pub around : (word : List ℕ) → shown s word ≡ before ++ (word ++ behind)
+
 -- a text is drawn on a stencil; or it does not fit
 abbrev pub Shows : (List ℕ → List ℕ) → Stencil → Stencil → Type 0
 Shows text old new = new.fits ≡ true → (old.fits ≡ true) × ((word : List ℕ) → shown new word ≡ shown old word ++ text word)

@@ -19,6 +19,10 @@ use Rattle.pddl_printer.specs.Literals.{literal_part}
 use Rattle.pddl_printer.specs.Scopes.{words_in_force}
 use Rattle.pddl_printer.specs.Texts.{term_text}
 
+-- the word of an object between two texts
+abbrev pub word_between : Pddl → List ℕ → List ℕ → ℕ → List ℕ
+word_between p before behind o = before ++ (word_at (pddl_words p).objects o ++ behind)
+
 module _ (p : Pddl) (scope : Scope) where
   -- depth: the number of the variable; w: the word
   module _ (depth : ℕ) (w : Word) where

@@ -2,8 +2,8 @@
 -- Source: appendix A (grammar) of Fox and Long, "PDDL2.1", JAIR 20, 2003, level 1; the layout is this project's.
 use Rattle.std.specs.Prelude.{ℕ, Option, List, [], ◌∷◌, map}
 use Rattle.text_forms.specs.Lists.{name, group}
-use Rattle.text_forms.specs.Words.{word_at}
-use Rattle.text_forms.specs.Printing.{bytes, bytes_behind, lines}
+use Rattle.text_forms.specs.Words.{Word, word_at}
+use Rattle.text_forms.specs.Printing.{bytes, bytes_behind, headed, lines}
 use Rattle.plan_texts.specs.Declared.{kind_at}
 use Rattle.plan_texts.specs.SpellsPddl.{pddl_types, pddl_words}
 use Rattle.plan_texts.specs.Printed.{all_parts, kind_part, param_words, params_parts, term_part, applied_part, formula_part, effect_part}
@@ -87,6 +87,10 @@ module _ (p : Pddl) where
 
     abbrev pub terms_text : List Term → List ℕ
     terms_text ts = bytes_behind (all_parts (map (term_part (pddl_words p) (words_in_force p scope)) ts))
+
+    -- a word with terms
+    abbrev pub applied_text : Word → List Term → List ℕ
+    applied_text w ts = behind (headed w (all_parts (map (term_part (pddl_words p) (words_in_force p scope)) ts)))
 
     abbrev pub atom_text : Atom → List ℕ
     atom_text a = behind (applied_part (pddl_words p) (words_in_force p scope) a.predicate a.args)

@@ -1,6 +1,9 @@
-ghost use Rattle.std.specs.Prelude.{◌≡◌, ◌<◌, false};
+ghost use Rattle.std.specs.Prelude.{◌≡◌, ◌<◌, ◌++◌, false};
+ghost use Rattle.task_networks.specs.Spelling.{numbers};
+ghost use Rattle.pddl_printer.specs.Batches.{Added};
+ghost use Rattle.pddl_printer.specs.Behind.{of_each};
 ghost use Rattle.pddl_printer.specs.Literals.{is_over as over};
-ghost use Rattle.pddl_printer.specs.InstanceTexts.{literals_text};
+ghost use Rattle.pddl_printer.specs.InstanceTexts.{literals_text, word_between};
 ghost use Rattle.pddl_printer.specs.Measured.{IsMeasured};
 ghost use Rattle.sheets.specs.Sheets.{Wrote};
 
@@ -8,7 +11,7 @@ use crate::batch::Batch;
 use crate::holes::holes;
 use crate::instances::{Instance, Literal, draw_instance};
 use crate::object_range::Range;
-use crate::stencil::Stencil;
+use crate::stencil::{Piece, Stencil, joined};
 use crate::words::object_word;
 use crate::written::Written;
 use plan_model::{Param, Pddl, Scope};
@@ -60,6 +63,7 @@ fn put_instances(
     ensures { Wrote (literals_text p.now scope.now of literal.now) sheet.old sheet.new }
 {
     let depth = of.depth;
+    let mut batch = Batch::new();
     let mut stencil = Stencil::new();
     draw_instance(
         p,
@@ -68,7 +72,20 @@ fn put_instances(
         literal,
         &mut stencil,
     );
-    let mut batch = Batch::new();
+    if let Some((before, behind)) = stencil.sides() {
+        if let Some(between) = joined(behind, before) {
+            add_around(
+                p,
+                of.written.range,
+                before,
+                &between,
+                behind,
+                &mut batch,
+                sheet,
+            );
+            return batch.put(sheet);
+        }
+    }
     for k in 0..of.written.range.count {
         let word = object_word(p, of.written.range.first as usize + k as usize);
         if stencil.fits {
@@ -79,6 +96,33 @@ fn put_instances(
         }
     }
     batch.put(sheet);
+}
+
+/// Adds the word of each object between the same two texts to a batch; the one behind a word together with the one before the next.
+fn add_around(
+    p: &Pddl,
+    range: Range,
+    before: &[u8],
+    between: &Piece,
+    behind: &[u8],
+    batch: &mut Batch,
+    sheet: &mut Sheet<'_>,
+)
+    requires between { between.now.items ≡ behind.now ++ before.now }
+    ensures { Added (of_each (word_between p.now before.now behind.now) (numbers range.first range.count))
+        batch.old batch.new sheet.old sheet.new }
+{
+    if range.count == 0 {
+        return;
+    }
+    let first = range.first as usize;
+    batch.add(before, sheet);
+    batch.add(object_word(p, first), sheet);
+    for k in 1..range.count {
+        batch.add(between.as_slice(), sheet);
+        batch.add(object_word(p, first + k as usize), sheet);
+    }
+    batch.add(behind, sheet);
 }
 
 /// Counts them, of which there is one at least: each has its own bytes, which are those of an instance with no letter

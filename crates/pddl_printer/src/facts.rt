@@ -1,28 +1,29 @@
+ghost use Rattle.pddl_printer.specs.Batches.{Added};
 ghost use Rattle.pddl_printer.specs.Texts.{args_text, fact_text};
-ghost use Rattle.sheets.specs.Sheets.{Wrote};
 
+use crate::batch::Batch;
 use crate::items::Item;
-use crate::words::{put_object, put_predicate};
+use crate::words::{object_word, predicate_word};
 use plan_model::{GroundAtom, Pddl};
 use sheets::Sheet;
 
-/// Puts the words of objects, each behind a space.
-fn put_objects(p: &Pddl, objects: &[u32], sheet: &mut Sheet<'_>)
-    ensures { Wrote (args_text p.now objects.now) sheet.old sheet.new }
+/// Adds the words of objects to a batch, each behind a space.
+fn add_objects(p: &Pddl, objects: &[u32], batch: &mut Batch, sheet: &mut Sheet<'_>)
+    ensures { Added (args_text p.now objects.now) batch.old batch.new sheet.old sheet.new }
 {
     for object in objects {
-        sheet.put(b" ");
-        put_object(p, *object as usize, sheet);
+        batch.add(b" ", sheet);
+        batch.add(object_word(p, *object as usize), sheet);
     }
 }
 
 impl Item for GroundAtom {
     ghost text = { fact_text };
 
-    fn put(&self, p: &Pddl, sheet: &mut Sheet<'_>) {
-        sheet.put(b" (");
-        put_predicate(p, self.predicate, sheet);
-        put_objects(p, self.args.as_slice(), sheet);
-        sheet.put(b")");
+    fn add(&self, p: &Pddl, batch: &mut Batch, sheet: &mut Sheet<'_>) {
+        batch.add(b" (", sheet);
+        batch.add(predicate_word(p, self.predicate), sheet);
+        add_objects(p, self.args.as_slice(), batch, sheet);
+        batch.add(b")", sheet);
     }
 }

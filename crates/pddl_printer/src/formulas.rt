@@ -1,7 +1,7 @@
 ghost use Rattle.pddl_printer.specs.Texts.{formula_text, formulas_text, formula_within};
 ghost use Rattle.sheets.specs.Sheets.{Wrote};
 
-use crate::terms::{put_atom, put_term};
+use crate::terms::{put_applied, put_atom};
 use crate::typed_lists::put_variables;
 use plan_model::{Formula, Param, Pddl, Scope};
 use sheets::Sheet;
@@ -14,10 +14,7 @@ pub(crate) fn put_formula(p: &Pddl, scope: &Scope<'_>, formula: &Formula, sheet:
     match formula {
         Formula::Holds(atom) => put_atom(p, scope, atom, sheet),
         Formula::Equal(left, right) => {
-            sheet.put(b" (=");
-            put_term(p, scope, *left, sheet);
-            put_term(p, scope, *right, sheet);
-            sheet.put(b")");
+            put_applied(p, scope, b"=", &[*left, *right], sheet);
         }
         Formula::Not(part) => {
             sheet.put(b" (not");

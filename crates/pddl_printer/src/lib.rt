@@ -5,8 +5,9 @@
 //! quantifiers over a range of objects are written out: the two pages, or the domain in parts, which are its start, the
 //! line of each action, and its end. What such a quantifier says of each object, and that a variable differs from each of
 //! others, is drawn once, with places for the word, and put from there. On a sheet that takes nothing more it is counted all
-//! at once. Two calls append a value's texts, which spell it where it is printable, and two those with the quantifiers written
-//! out; after want of memory a prefix of the text stands.
+//! at once. Small pieces, as those of a list's items or of an atom, wait in a batch and are put together. Two calls append a
+//! value's texts, which spell it where it is printable, and two those with the quantifiers written out; after want of memory a
+//! prefix of the text stands.
 #![tactic(auto)]
 
 mod batch;

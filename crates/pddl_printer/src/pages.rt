@@ -9,7 +9,7 @@ ghost use Rattle.sheets.specs.Sheets.{Wrote};
 
 use crate::items::put_items;
 use crate::schemas::{put_actions, put_condition};
-use crate::words::put_name;
+use crate::words::name_word;
 use crate::written::Written;
 use plan_model::{Pddl, Scope};
 use sheets::Sheet;
@@ -29,7 +29,7 @@ pub fn put_domain_start(p: &Pddl, sheet: &mut Sheet<'_>)
     ensures put { Wrote (domain_start p.now) sheet.old sheet.new }
 {
     sheet.put(b"(define (domain ");
-    put_name(p, p.domain, sheet);
+    sheet.put(name_word(p, p.domain));
     sheet.put(b")\n");
     put_domain_head(p, sheet);
 }
@@ -57,7 +57,7 @@ pub fn put_problem(p: &Pddl, written: Option<Written>, sheet: &mut Sheet<'_>)
     ensures put { Wrote (problem_text (value_in (range_of written) p.now)) sheet.old sheet.new }
 {
     sheet.put(b"(define (problem ");
-    put_name(p, p.problem, sheet);
+    sheet.put(name_word(p, p.problem));
     sheet.put(b")\n");
     put_problem_head(p, sheet);
     sheet.put(b" (:goal");
@@ -71,7 +71,7 @@ fn put_problem_head(p: &Pddl, sheet: &mut Sheet<'_>)
     ensures { Wrote (lines (problem_head p.now)) sheet.old sheet.new }
 {
     sheet.put(b" (:domain ");
-    put_name(p, p.domain, sheet);
+    sheet.put(name_word(p, p.domain));
     sheet.put(b")\n");
     sheet.put(b" (:objects)\n");
     sheet.put(b" (:init");

@@ -4,12 +4,13 @@ ghost use Rattle.pddl_printer.specs.Measured.{IsMeasured, range_of};
 ghost use Rattle.pddl_printer.specs.Texts.{predicate_text, condition_text, change_text, action_text, actions_text};
 ghost use Rattle.sheets.specs.Sheets.{Wrote};
 
+use crate::batch::Batch;
 use crate::each_object::Instances;
 use crate::effects::put_effect;
 use crate::formulas::put_formula;
-use crate::items::{Item, put_items};
+use crate::items::{Item, add_items};
 use crate::typed_lists::put_variables;
-use crate::words::put_name;
+use crate::words::name_word;
 use crate::written::Written;
 use crate::written_conditions::put_written_condition;
 use crate::written_effects::put_written_effect;
@@ -20,11 +21,11 @@ use sheets::Sheet;
 impl Item for Predicate {
     ghost text = { predicate_text };
 
-    fn put(&self, p: &Pddl, sheet: &mut Sheet<'_>) {
-        sheet.put(b" (");
-        put_name(p, self.name, sheet);
-        put_items(p, self.params.as_slice(), sheet);
-        sheet.put(b")");
+    fn add(&self, p: &Pddl, batch: &mut Batch, sheet: &mut Sheet<'_>) {
+        batch.add(b" (", sheet);
+        batch.add(name_word(p, self.name), sheet);
+        add_items(p, self.params.as_slice(), batch, sheet);
+        batch.add(b")", sheet);
     }
 }
 
@@ -85,7 +86,7 @@ pub(crate) fn put_action_start(p: &Pddl, name: Name, params: &[Param], sheet: &m
     ensures { Wrote (action_start p.now params.now name) sheet.old sheet.new }
 {
     sheet.put(b" (:action ");
-    put_name(p, name, sheet);
+    sheet.put(name_word(p, name));
     sheet.put(b" :parameters");
     put_variables(p, params, sheet);
     sheet.put(b" :precondition");

@@ -1,5 +1,5 @@
-ghost use Rattle.std.specs.Prelude.{◌≡◌, true, [], List, ℕ};
-ghost use Rattle.pddl_printer.specs.Drawings.{shown, Shows};
+ghost use Rattle.std.specs.Prelude.{◌≡◌, ◌++◌, true, [], List, ℕ, IfSome};
+ghost use Rattle.pddl_printer.specs.Drawings.{shown, Shows, AreSides};
 ghost use Rattle.pddl_printer.specs.Batches.{Added};
 
 use crate::batch::Batch;
@@ -13,13 +13,30 @@ const MOST_BYTES: usize = 128;
 /// The most places.
 const MOST_PLACES: usize = 4;
 
+/// Bytes that stand between two places.
+pub(crate) type Piece = ArrayVec<u8, MOST_BYTES>;
+
+/// Both texts in one piece, if that is not too large.
+pub(crate) fn joined(first: &[u8], second: &[u8]) -> Option<Piece>
+    ensures { IfSome result (λ piece. piece.items ≡ first.now ++ second.now) }
+{
+    let mut piece: Piece = ArrayVec::new();
+    if piece.try_extend_from_slice(first).is_err() {
+        return None;
+    }
+    if piece.try_extend_from_slice(second).is_err() {
+        return None;
+    }
+    Some(piece)
+}
+
 /// An instance in bytes, with places for the object's word, so that it is drawn once for all objects.
 #[derive(Drop)]
 pub(crate) struct Stencil {
     /// What stands before each place.
-    before: ArrayVec<ArrayVec<u8, MOST_BYTES>, MOST_PLACES>,
+    before: ArrayVec<Piece, MOST_PLACES>,
     /// What stands behind the last place.
-    behind: ArrayVec<u8, MOST_BYTES>,
+    behind: Piece,
     /// Whether all that was drawn stands here.
     pub(crate) fits: bool,
 }
@@ -34,6 +51,19 @@ impl Stencil {
             before: ArrayVec::new(),
             behind: ArrayVec::new(),
             fits: true,
+        }
+    }
+
+    /// What stands before the place and behind it, if all that was drawn stands here, with one place.
+    pub(crate) fn sides(&self) -> Option<(&[u8], &[u8])>
+        ensures { IfSome result (λ sides. AreSides self.now sides.0.now sides.1.now) }
+    {
+        if !self.fits {
+            return None;
+        }
+        match self.before.as_slice() {
+            [before] => Some((before.as_slice(), self.behind.as_slice())),
+            _ => None,
         }
     }
 

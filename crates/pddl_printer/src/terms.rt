@@ -1,10 +1,12 @@
 ghost use Rattle.std.specs.Prelude.{◌≡◌};
 ghost use Rattle.text_forms.specs.Words.{word_at};
+ghost use Rattle.pddl_printer.specs.Batches.{Added};
 ghost use Rattle.pddl_printer.specs.Scopes.{words_in_force};
-ghost use Rattle.pddl_printer.specs.Texts.{term_text, terms_text, atom_text};
+ghost use Rattle.pddl_printer.specs.Texts.{term_text, terms_text, applied_text, atom_text};
 ghost use Rattle.sheets.specs.Sheets.{Wrote};
 
-use crate::words::{name_word, put_object, put_predicate};
+use crate::batch::Batch;
+use crate::words::{name_word, object_word, predicate_word};
 use plan_model::{Atom, Pddl, Scope, Term};
 use sheets::Sheet;
 
@@ -18,37 +20,53 @@ pub(crate) fn word_in_force<'a>(p: &'a Pddl, scope: &Scope<'_>, k: u32) -> &'a [
     }
 }
 
-/// Puts a term behind a space.
-pub(crate) fn put_term(p: &Pddl, scope: &Scope<'_>, term: Term, sheet: &mut Sheet<'_>)
-    ensures { Wrote (term_text p.now scope.now term) sheet.old sheet.new }
+/// Adds a term to a batch, behind a space.
+fn add_term(p: &Pddl, scope: &Scope<'_>, term: Term, batch: &mut Batch, sheet: &mut Sheet<'_>)
+    ensures { Added (term_text p.now scope.now term) batch.old batch.new sheet.old sheet.new }
 {
     match term {
         Term::Var(k) => {
-            sheet.put(b" ?");
-            sheet.put(word_in_force(p, scope, k));
+            batch.add(b" ?", sheet);
+            batch.add(word_in_force(p, scope, k), sheet);
         }
         Term::Obj(object) => {
-            sheet.put(b" ");
-            put_object(p, object as usize, sheet);
+            batch.add(b" ", sheet);
+            batch.add(object_word(p, object as usize), sheet);
         }
     }
 }
 
-/// Puts terms, each behind a space.
-fn put_terms(p: &Pddl, scope: &Scope<'_>, terms: &[Term], sheet: &mut Sheet<'_>)
-    ensures { Wrote (terms_text p.now scope.now terms.now) sheet.old sheet.new }
+/// Adds terms to a batch, each behind a space.
+fn add_terms(p: &Pddl, scope: &Scope<'_>, terms: &[Term], batch: &mut Batch, sheet: &mut Sheet<'_>)
+    ensures { Added (terms_text p.now scope.now terms.now) batch.old batch.new sheet.old sheet.new }
 {
     for term in terms {
-        put_term(p, scope, *term, sheet);
+        add_term(p, scope, *term, batch, sheet);
     }
+}
+
+/// Puts a word with terms behind a space, as `(= ?x ?y)`.
+pub(crate) fn put_applied(
+    p: &Pddl,
+    scope: &Scope<'_>,
+    word: &[u8],
+    terms: &[Term],
+    sheet: &mut Sheet<'_>,
+)
+    ensures { Wrote (applied_text p.now scope.now word.now terms.now) sheet.old sheet.new }
+{
+    let mut batch = Batch::new();
+    batch.add(b" (", sheet);
+    batch.add(word, sheet);
+    add_terms(p, scope, terms, &mut batch, sheet);
+    batch.add(b")", sheet);
+    batch.put(sheet);
 }
 
 /// Puts a predicate with its terms behind a space.
 pub(crate) fn put_atom(p: &Pddl, scope: &Scope<'_>, atom: &Atom, sheet: &mut Sheet<'_>)
     ensures { Wrote (atom_text p.now scope.now atom.now) sheet.old sheet.new }
 {
-    sheet.put(b" (");
-    put_predicate(p, atom.predicate, sheet);
-    put_terms(p, scope, atom.args.as_slice(), sheet);
-    sheet.put(b")");
+    let predicate = predicate_word(p, atom.predicate);
+    put_applied(p, scope, predicate, atom.args.as_slice(), sheet);
 }

@@ -1,73 +1,75 @@
+ghost use Rattle.pddl_printer.specs.Batches.{Added};
 ghost use Rattle.pddl_printer.specs.Texts.{types_text, union_text, kind_text, parent_text, object_text};
 ghost use Rattle.pddl_printer.specs.Texts.{param_text, spaced_param_text, between_text, variables_text};
 ghost use Rattle.sheets.specs.Sheets.{Wrote};
 
-use crate::items::{Item, put_items};
-use crate::words::{put_name, put_type};
+use crate::batch::Batch;
+use crate::items::{Item, add_items};
+use crate::words::{name_word, type_word};
 use plan_model::{Object, Param, Parent, Pddl};
 use sheets::Sheet;
 
-/// Puts the words of types, each behind a space.
-fn put_types(p: &Pddl, types: &[u32], sheet: &mut Sheet<'_>)
-    ensures { Wrote (types_text p.now types.now) sheet.old sheet.new }
+/// Adds the words of types to a batch, each behind a space.
+fn add_types(p: &Pddl, types: &[u32], batch: &mut Batch, sheet: &mut Sheet<'_>)
+    ensures { Added (types_text p.now types.now) batch.old batch.new sheet.old sheet.new }
 {
     for ty in types {
-        sheet.put(b" ");
-        put_type(p, *ty, sheet);
+        batch.add(b" ", sheet);
+        batch.add(type_word(p, *ty), sheet);
     }
 }
 
-/// Puts a union of types: of one type its word, of more `(either A B ..)`.
-fn put_union(p: &Pddl, types: &[u32], sheet: &mut Sheet<'_>)
-    ensures { Wrote (union_text p.now types.now) sheet.old sheet.new }
+/// Adds a union of types: of one type its word, of more `(either A B ..)`.
+fn add_union(p: &Pddl, types: &[u32], batch: &mut Batch, sheet: &mut Sheet<'_>)
+    ensures { Added (union_text p.now types.now) batch.old batch.new sheet.old sheet.new }
 {
     match types {
         [] => {}
-        [ty] => put_type(p, *ty, sheet),
+        [ty] => batch.add(type_word(p, *ty), sheet),
         _ => {
-            sheet.put(b"(either");
-            put_types(p, types, sheet);
-            sheet.put(b")");
+            batch.add(b"(either", sheet);
+            add_types(p, types, batch, sheet);
+            batch.add(b")", sheet);
         }
     }
 }
 
-/// Puts a type, which may be a union.
-fn put_kind(p: &Pddl, ty: u32, sheet: &mut Sheet<'_>)
-    ensures { Wrote (kind_text p.now ty) sheet.old sheet.new }
+/// Adds a type, which may be a union.
+fn add_kind(p: &Pddl, ty: u32, batch: &mut Batch, sheet: &mut Sheet<'_>)
+    ensures { Added (kind_text p.now ty) batch.old batch.new sheet.old sheet.new }
 {
     match p.types.union_at(ty) {
-        Some(types) => put_union(p, types.as_slice(), sheet),
-        None => put_type(p, ty, sheet),
+        Some(types) => add_union(p, types.as_slice(), batch, sheet),
+        None => batch.add(type_word(p, ty), sheet),
     }
 }
 
-/// Puts a variable with its type, as `?x - T`.
-fn put_param(p: &Pddl, param: Param, sheet: &mut Sheet<'_>)
-    ensures { Wrote (param_text p.now param) sheet.old sheet.new }
+/// Adds a variable with its type, as `?x - T`.
+fn add_param(p: &Pddl, param: Param, batch: &mut Batch, sheet: &mut Sheet<'_>)
+    ensures { Added (param_text p.now param) batch.old batch.new sheet.old sheet.new }
 {
-    sheet.put(b"?");
-    put_name(p, param.name, sheet);
-    sheet.put(b" - ");
-    put_kind(p, param.ty, sheet);
+    batch.add(b"?", sheet);
+    batch.add(name_word(p, param.name), sheet);
+    batch.add(b" - ", sheet);
+    add_kind(p, param.ty, batch, sheet);
 }
 
 impl Item for Param {
     ghost text = { spaced_param_text };
 
-    fn put(&self, p: &Pddl, sheet: &mut Sheet<'_>) {
-        sheet.put(b" ");
-        put_param(p, *self, sheet);
+    fn add(&self, p: &Pddl, batch: &mut Batch, sheet: &mut Sheet<'_>) {
+        batch.add(b" ", sheet);
+        add_param(p, *self, batch, sheet);
     }
 }
 
-/// Puts variables with their types, a space between two.
-fn put_between(p: &Pddl, params: &[Param], sheet: &mut Sheet<'_>)
-    ensures { Wrote (between_text p.now params.now) sheet.old sheet.new }
+/// Adds variables with their types, a space between two.
+fn add_between(p: &Pddl, params: &[Param], batch: &mut Batch, sheet: &mut Sheet<'_>)
+    ensures { Added (between_text p.now params.now) batch.old batch.new sheet.old sheet.new }
 {
     if let Some((first, rest)) = params.split_first() {
-        put_param(p, *first, sheet);
-        put_items(p, rest, sheet);
+        add_param(p, *first, batch, sheet);
+        add_items(p, rest, batch, sheet);
     }
 }
 
@@ -75,29 +77,31 @@ fn put_between(p: &Pddl, params: &[Param], sheet: &mut Sheet<'_>)
 pub(crate) fn put_variables(p: &Pddl, params: &[Param], sheet: &mut Sheet<'_>)
     ensures { Wrote (variables_text p.now params.now) sheet.old sheet.new }
 {
-    sheet.put(b" (");
-    put_between(p, params, sheet);
-    sheet.put(b")");
+    let mut batch = Batch::new();
+    batch.add(b" (", sheet);
+    add_between(p, params, &mut batch, sheet);
+    batch.add(b")", sheet);
+    batch.put(sheet);
 }
 
 impl Item for Parent {
     ghost text = { parent_text };
 
-    fn put(&self, p: &Pddl, sheet: &mut Sheet<'_>) {
-        sheet.put(b" ");
-        put_type(p, self.child, sheet);
-        sheet.put(b" - ");
-        put_type(p, self.parent, sheet);
+    fn add(&self, p: &Pddl, batch: &mut Batch, sheet: &mut Sheet<'_>) {
+        batch.add(b" ", sheet);
+        batch.add(type_word(p, self.child), sheet);
+        batch.add(b" - ", sheet);
+        batch.add(type_word(p, self.parent), sheet);
     }
 }
 
 impl Item for Object {
     ghost text = { object_text };
 
-    fn put(&self, p: &Pddl, sheet: &mut Sheet<'_>) {
-        sheet.put(b" ");
-        put_name(p, self.name, sheet);
-        sheet.put(b" - ");
-        put_type(p, self.ty, sheet);
+    fn add(&self, p: &Pddl, batch: &mut Batch, sheet: &mut Sheet<'_>) {
+        batch.add(b" ", sheet);
+        batch.add(name_word(p, self.name), sheet);
+        batch.add(b" - ", sheet);
+        batch.add(type_word(p, self.ty), sheet);
     }
 }

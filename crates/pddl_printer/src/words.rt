@@ -1,12 +1,10 @@
-ghost use Rattle.std.specs.Prelude.{◌≡◌, map, length};
+ghost use Rattle.std.specs.Prelude.{◌≡◌, map};
 ghost use Rattle.text_forms.specs.Words.{word_at};
 ghost use Rattle.plan_texts.specs.Declared.{named, variable};
 ghost use Rattle.plan_texts.specs.SpellsPddl.{pddl_types, pddl_words};
-ghost use Rattle.sheets.specs.Sheets.{Wrote};
 
 use htn_base::Name;
 use plan_model::{Param, Pddl};
-use sheets::Sheet;
 
 /// The word of a name; of a number that no word has, the empty one.
 pub(crate) fn name_word(p: &Pddl, name: Name) -> &[u8]
@@ -38,11 +36,14 @@ pub(crate) fn predicate_word(p: &Pddl, predicate: u32) -> &[u8]
     }
 }
 
-/// How many bytes the word of an object has.
-pub(crate) fn object_length(p: &Pddl, object: usize) -> u64
-    ensures { result ≡ length (word_at (pddl_words p.now).objects object) }
+/// The word of a type that is no union.
+pub(crate) fn type_word(p: &Pddl, ty: u32) -> &[u8]
+    ensures { result.now ≡ word_at (pddl_types p.now) ty }
 {
-    object_word(p, object).len() as u64
+    match p.types.names.get(ty as usize) {
+        Some(name) => name_word(p, *name),
+        None => b"",
+    }
 }
 
 /// The word of the k-th of these variables.
@@ -53,34 +54,4 @@ pub(crate) fn variable_word<'a>(p: &'a Pddl, params: &[Param], k: usize) -> &'a 
         Some(param) => name_word(p, param.name),
         None => b"",
     }
-}
-
-/// Puts the word of a name.
-pub(crate) fn put_name(p: &Pddl, name: Name, sheet: &mut Sheet<'_>)
-    ensures { Wrote (named p.now.names name) sheet.old sheet.new }
-{
-    sheet.put(name_word(p, name));
-}
-
-/// Puts the word of a type that is no union.
-pub(crate) fn put_type(p: &Pddl, ty: u32, sheet: &mut Sheet<'_>)
-    ensures { Wrote (word_at (pddl_types p.now) ty) sheet.old sheet.new }
-{
-    if let Some(name) = p.types.names.get(ty as usize) {
-        put_name(p, *name, sheet);
-    }
-}
-
-/// Puts the word of an object.
-pub(crate) fn put_object(p: &Pddl, object: usize, sheet: &mut Sheet<'_>)
-    ensures { Wrote (word_at (pddl_words p.now).objects object) sheet.old sheet.new }
-{
-    sheet.put(object_word(p, object));
-}
-
-/// Puts the word of a predicate.
-pub(crate) fn put_predicate(p: &Pddl, predicate: u32, sheet: &mut Sheet<'_>)
-    ensures { Wrote (word_at (pddl_words p.now).predicates predicate) sheet.old sheet.new }
-{
-    sheet.put(predicate_word(p, predicate));
 }

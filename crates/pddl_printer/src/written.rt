@@ -2,7 +2,7 @@ ghost use Rattle.std.specs.Prelude.{◌≡◌};
 ghost use Rattle.pddl_printer.specs.Measured.{IsMeasured};
 
 use crate::object_range::Range;
-use crate::words::object_length;
+use crate::words::object_word;
 use plan_model::Pddl;
 
 /// The objects of a range for whose quantifiers instances are written out, and how long their words are together.
@@ -20,8 +20,8 @@ impl Written {
     {
         let mut letters: u64 = 0;
         for k in 0..range.count {
-            let object = range.first as usize + k as usize;
-            letters = letters.saturating_add(object_length(p, object));
+            let word = object_word(p, range.first as usize + k as usize);
+            letters = letters.saturating_add(word.len() as u64);
         }
         Written { range, letters }
     }

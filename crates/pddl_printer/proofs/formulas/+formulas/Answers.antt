@@ -3,7 +3,7 @@ use Rattle.text_forms.specs.Lists.{Parts, group, nothing, part}
 use Rattle.text_forms.specs.Words.{Word}
 use Rattle.text_forms.specs.Printing.{bytes_behind}
 use Rattle.plan_texts.specs.SpellsPddl.{pddl_words}
-use Rattle.plan_texts.specs.Printed.{all_parts, term_part, params_parts, formula_part}
+use Rattle.plan_texts.specs.Printed.{all_parts, params_parts, formula_part}
 use Rattle.plan_model.specs.declared.terms.Param.{Param}
 use Rattle.pddl_printer.specs.Behind.{behind}
 use Rattle.pddl_printer.specs.Scopes.{words_in_force, words_within}
@@ -27,10 +27,8 @@ pub put_formula-returns-in-Equal : goal.put_formula-returns-in-Equal
 put_formula-returns-in-Equal t c =
     let v = pddl_words c.args.p.now in
     let s : List Word = words_in_force c.args.p.now c.args.scope.now in
-    let l = term_part v s c.in-Equal.left in
-    let r = term_part v s c.in-Equal.right in
     wrote-at behind (sym (ap (λ f. formula_part v f s) c.in-Equal.is ∙ part-Equal v c.in-Equal.left c.in-Equal.right s))
-    (wrote-headed (codes "=") (part l (part r nothing)) c.put.ensures.wrote (wrote-two l r c.put_term.ensures c.put_term-in-Equal.ensures) c.put-in-Equal.ensures.wrote)
+    c.put_applied.ensures
 
 pub put_formula-returns-in-Not : goal.put_formula-returns-in-Not
 put_formula-returns-in-Not t c =
@@ -38,7 +36,7 @@ put_formula-returns-in-Not t c =
     let s : List Word = words_in_force c.args.p.now c.args.scope.now in
     let q = formula_part v c.in-Not.part s in
     wrote-at behind (sym (ap (λ f. formula_part v f s) c.in-Not.is ∙ part-Not v c.in-Not.part s))
-    (wrote-headed (codes "not") (part q nothing) c.put-in-Not.ensures.wrote (wrote-one q (wrote-at (λ f. behind (formula_part v f s)) c.get.ensures.value c.put_formula.ensures)) c.put-in-Not-2.ensures.wrote)
+    (wrote-headed (codes "not") (part q nothing) c.put.ensures.wrote (wrote-one q (wrote-at (λ f. behind (formula_part v f s)) c.get.ensures.value c.put_formula.ensures)) c.put-in-Not.ensures.wrote)
 
 pub put_formula-returns-in-And : goal.put_formula-returns-in-And
 put_formula-returns-in-And t c =

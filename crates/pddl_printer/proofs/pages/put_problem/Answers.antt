@@ -17,10 +17,10 @@ pub returns : goal.returns
 returns c =
     let p = c.args.p.now in
     let wanted = formula_part (pddl_words p) (condition_in (range_of c.args.written) 0 p.goal) [] in
-    let line = wrote-line (codes ":goal") (part wanted nothing) nothing c.put-3.ensures.wrote (wrote-one wanted c.put_condition.ensures) c.put-4.ensures.wrote (wrote-nothing c.put-4.new.self) in
+    let line = wrote-line (codes ":goal") (part wanted nothing) nothing c.put-4.ensures.wrote (wrote-one wanted c.put_condition.ensures) c.put-5.ensures.wrote (wrote-nothing c.put-5.new.self) in
     record {
       put = wrote-as (problem-in (range_of c.args.written) p)
-          (wrote-page (codes "problem") (named p.names p.problem) (joined (problem_head p) (goal_parts (range_of c.args.written) p)) c.put.ensures.wrote c.put_name.ensures c.put-2.ensures.wrote
+          (wrote-page (codes "problem") (named p.names p.problem) (joined (problem_head p) (goal_parts (range_of c.args.written) p)) c.put.ensures.wrote (wrote-as c.name_word.ensures c.put-2.ensures.wrote) c.put-3.ensures.wrote
           (wrote-head (problem_head p) (goal_parts (range_of c.args.written) p) c.put_problem_head.ensures line)
-          c.put-5.ensures.wrote);
+          c.put-6.ensures.wrote);
     }

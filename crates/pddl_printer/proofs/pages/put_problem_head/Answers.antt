@@ -15,5 +15,5 @@ pub returns : goal.returns
 returns c =
     let v = pddl_words c.args.p.now in
     let facts = all_parts (map (fact_part v) c.args.p.now.init) in
-    let three = wrote-line (codes ":init") facts nothing c.put-4.ensures.wrote (wrote-at (λ gs. bytes_behind (all_parts (map (fact_part v) gs))) c.as_slice.ensures.items (wrote-as (behind-each (fact_part v) c.as_slice.result.now) c.put_items.ensures)) c.put-5.ensures.wrote (wrote-nothing c.put-5.new.self) in
-    wrote-named-line (codes ":domain") (named c.args.p.now.names c.args.p.now.domain) (part (headed (codes ":objects") nothing) (part (headed (codes ":init") facts) nothing)) c.put.ensures.wrote c.put_name.ensures c.put-2.ensures.wrote (wrote-then c.put-3.ensures.wrote three)
+    let three = wrote-line (codes ":init") facts nothing c.put-5.ensures.wrote (wrote-at (λ gs. bytes_behind (all_parts (map (fact_part v) gs))) c.as_slice.ensures.items (wrote-as (behind-each (fact_part v) c.as_slice.result.now) c.put_items.ensures)) c.put-6.ensures.wrote (wrote-nothing c.put-6.new.self) in
+    wrote-named-line (codes ":domain") (named c.args.p.now.names c.args.p.now.domain) (part (headed (codes ":objects") nothing) (part (headed (codes ":init") facts) nothing)) c.put.ensures.wrote (wrote-as c.name_word.ensures c.put-2.ensures.wrote) c.put-3.ensures.wrote (wrote-then c.put-4.ensures.wrote three)

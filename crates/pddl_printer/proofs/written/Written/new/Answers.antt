@@ -11,7 +11,7 @@ pub loop-k-preserved : goal.loop-k-preserved
 loop-k-preserved c =
     let e = sum-next (λ o. length (word_at (pddl_words c.args.p.now).objects o)) c.args.range.first c.loop-k.k in
     let a = c.loop-k.invariant in
-    let b = c.object_length.ensures in
+    let b = ap length c.object_word-word.ensures in
     let d = c.saturating_add-letters.ensures in
     omega (arith, a, b, d, e)
 

@@ -1,0 +1,10 @@
+use Rattle.std.proofs.Common.{take, []}
+use Rattle.plan_texts.specs.SpellsPddl.{pddl_words}
+use Rattle.plan_texts.specs.Printed.{term_part}
+use Rattle.plan_model.specs.declared.terms.Term.TheVariants.{Obj}
+use Rattle.pddl_printer.specs.Behind.{behind, of_each}
+use Rattle.pddl_printer.specs.Batches.{Added}
+use Rattle.pddl_printer.proofs.facts.add_objects.Given as goal
+
+abbrev pub invariant-loop-object : goal.invariant-loop-object
+invariant-loop-object l = Added (of_each (λ o. behind (term_part (pddl_words l.p) [] (Obj o))) (take l.object-index l.objects)) l.fn.batch l.batch l.fn.sheet l.sheet
