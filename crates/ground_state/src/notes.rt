@@ -1,4 +1,4 @@
-ghost use Rattle.std.specs.Prelude.{◌≡◌, ◌<◌, ◌^◌, ◌++◌, ◌∷◌, [], ◌≤◌, false, Some, None, length, slice_index_or, IfSome, OnOk, OnErr};
+ghost use Rattle.std.specs.Prelude.{◌≡◌, ◌<◌, ◌^◌, ◌++◌, ◌∷◌, [], ◌≤◌, false, Some, None, length, slice_index_or, MatchBool, IfSome, OnOk, OnErr};
 ghost use Rattle.std.specs.Bool.{OnTrue};
 ghost use Rattle.plan_meaning.specs.Truth.{values_of};
 ghost use Rattle.ground_state.specs.Frames.{frame};
@@ -111,6 +111,36 @@ impl Notes {
             number += row.step;
         }
         Some(false)
+    }
+
+    /// Notes as false what is noted as true of the objects that the terms stand for, with each object of the
+    /// kind for one more variable. It goes from number to number, where there is one with each object. Else
+    /// nothing is done, and the answer is no.
+    pub(crate) fn deny_each(
+        &mut self,
+        kind: &Kind,
+        objects: &List<Object>,
+        env: &Env,
+        terms: &[Term],
+    ) -> bool
+        requires few { length objects.now < 2 ^ 32 }
+        ensures { MatchBool result
+            (spec.AreDenied self.old (spec.IsWithOne kind.now objects.now (frame env.now).objects terms.now) self.new)
+            (spec.AreSame self.old self.new) }
+    {
+        let count = objects.len() as u32;
+        let Some(row) = env.row(terms, self.numbers, count) else {
+            return false;
+        };
+        let mut number = row.first;
+        for object in 0..count {
+            let truth = self.at(number as usize).unwrap_or(false);
+            if truth && kind.has(objects, object) {
+                self.near[number as usize] = Some(false);
+            }
+            number += row.step;
+        }
+        true
     }
 
     /// Notes this of these objects. After `Memory` the notes are as they were.

@@ -1,9 +1,10 @@
-ghost use Rattle.std.specs.Prelude.{◌≡◌, ◌≤◌, ◌<◌, ◌^◌, length, OnOk, OnErr};
+ghost use Rattle.std.specs.Prelude.{◌≡◌, ◌≤◌, ◌<◌, ◌^◌, length, MatchBool, OnOk, OnErr};
 ghost use Rattle.std.specs.Bool.{OnTrue};
 ghost use Rattle.plan_model.specs.Parts.{AreListed};
 ghost use Rattle.plan_meaning.specs.Truth.{ground};
 ghost use Rattle.ground_state.specs.Frames.{frame};
 ghost use Rattle.ground_state.specs.Room.{EffectFits, AllEffectsFit, EffectFitsWithin};
+ghost use Rattle.ground_state.specs.States.{HasSameNotes};
 ghost use Rattle.ground_state.specs.Passes as spec;
 ghost use Rattle.ground_state.specs.Clauses.{HasPassed, HasPassedEach, HasPassedWithin};
 
@@ -128,6 +129,9 @@ impl State {
             return self.pass_over(pass, alloc, body, env, types, objects);
         };
         let kind = Kind::new(types, param.ty);
+        if rest.is_empty() && self.deny_each(pass, &kind, objects, env, body) {
+            return Ok(());
+        }
         for object in 0..objects.len() as u32 {
             if kind.has(objects, object) {
                 env.push(object);
@@ -165,6 +169,31 @@ impl State {
             return self.pass_over(pass, alloc, body, env, types, objects);
         }
         self.pass_over_within(pass, alloc, params, body, env, types, objects)
+    }
+
+    /// Where an atom is to become false with each object of the kind for one more variable, it is made so without
+    /// a look-up of whole atoms, if that can be. Else nothing is done, and the answer is no.
+    #[inline(always)]
+    fn deny_each(
+        &mut self,
+        pass: Pass,
+        kind: &Kind,
+        objects: &List<Object>,
+        env: &Env,
+        eff: &Effect,
+    ) -> bool
+        requires few { length objects.now < 2 ^ 32 }
+        ensures { MatchBool result
+            (spec.HasDenied pass kind.now objects.now eff.now (frame env.now).objects self.old self.new)
+            (HasSameNotes self.old self.new) }
+    {
+        let (Pass::Deny, Effect::Delete(atom)) = (pass, eff) else {
+            return false;
+        };
+        match self.facts.get_mut(atom.predicate as usize) {
+            Some(notes) => notes.deny_each(kind, objects, env, atom.args.as_slice()),
+            None => false,
+        }
     }
 
     /// Makes the pass over an atom that is added, or deleted.

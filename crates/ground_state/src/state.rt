@@ -30,7 +30,7 @@ const ROOMY_PREDICATES: usize = 32;
 /// `most`: the greatest object of the first state. `touched`: what the last step touched, kept for its room alone.
 #[derive(Drop)]
 pub struct State {
-    facts: Vec<Notes>,
+    pub(crate) facts: Vec<Notes>,
     most: u32,
     pub(crate) touched: AtomLists,
 }

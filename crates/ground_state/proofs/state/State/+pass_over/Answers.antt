@@ -17,6 +17,8 @@ use Rattle.ground_state.specs.Passes.{plain, IsPlain, of_adds, Passes}
 use Rattle.ground_state.proofs.EffectSizes as sizes
 use Rattle.ground_state.proofs.RoomEquations as room
 use Rattle.ground_state.proofs.KindLaws.{in_type_by_kind}
+use Rattle.ground_state.proofs.TruthCases.{only-one}
+use Rattle.ground_state.proofs.Denials.{denied-within}
 use Rattle.ground_state.proofs.GatherCases as cases
 use Rattle.ground_state.proofs.PassLaws as laws
 use Rattle.ground_state.proofs.state.State.+pass_over.Goals as goal
@@ -187,6 +189,14 @@ pass_over_rest-returns-then-is_empty-clause-passed t c =
     laws.passes-same p (Touches I (atoms s) (of_adds p) c.args.body.now v) (TouchesWithin I (atoms s) (of_adds p) c.args.params.now c.args.body.now v) c.args.self.now c.pass_over.new.self
     (cases.within-none I (atoms s) v (of_adds p) c.args.params.now c.args.body.now empty) (h s)
     ) c.pass_over.ensures.passed
+
+pub pass_over_within-returns-then-deny_each-clause-passed : goal.pass_over_within-returns-then-deny_each-clause-passed
+pass_over_within-returns-then-deny_each-clause-passed t c s =
+    let first = c.in-Some.param.now in
+    let rest = c.in-Some.rest.now in
+    let one = only-one c.args.params.now first rest c.in-Some.ensures.cases.0 (eqb-true (length c.in-Some.rest.now) 0 (sym c.is_empty.ensures ∙ c.if-is_empty.true)) in
+    denied-within (InType c.args.types.now c.args.objects.now) (atoms s) c.args.pass c.new-kind.result c.args.objects.now c.args.body.now c.args.env.now.values.items first c.args.params.now c.args.self.now c.deny_each.new.self one
+    (λ o. in_type_by_kind c.args.types.now c.args.objects.now c.new-kind.result o c.in-Some.param.now.ty c.new-kind.ensures) c.if-deny_each.ensures
 
 pub pass_over_within-returns-in_err-passed-clause-unchanged : goal.pass_over_within-returns-in_err-passed-clause-unchanged
 pass_over_within-returns-in_err-passed-clause-unchanged t c =
