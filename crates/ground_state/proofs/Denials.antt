@@ -123,7 +123,7 @@ set_other (y ∷ xs) (suc i) (suc j) x n = set_other xs i j x (λ e. n (ap suc e
 -- a state in which what is noted of one predicate is something else
 module _ (s : State) (p : ℕ) (old new : Notes) (at : slice_get s.facts.items p ≡ Some old) where
   abbrev t : State
-  t = record { facts = with_item s.facts p new; most = s.most; touched = s.touched }
+  t = record { facts = with_item s.facts p new; most = s.most; crowded = s.crowded; touched = s.touched }
 
   as_before : (args : List ℕ) → note s p args ≡ noted old args
   as_before args = ap (option_and_then (λ lists. noted lists args)) at

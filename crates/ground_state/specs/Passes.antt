@@ -48,9 +48,9 @@ of_adds passes.Deny = false
 of_adds passes.Affirm = true
 of_adds passes.Forget = false
 
--- it does nothing with what the effect touches: it only takes away what is spare, or the effect is a literal of the other sort
+-- it does nothing with what the effect touches: the effect is a literal of the other sort
 abbrev pub IsIdle : Pass → Effect → Type 0
-IsIdle pass e = (pass ≡ passes.Forget) ⊎ ((a : Atom) × (e ≡ literal (not (of_adds pass)) a))
+IsIdle pass e = (a : Atom) × (e ≡ literal (not (of_adds pass)) a)
 
 -- something is noted of each atom that is as P says
 abbrev pub AreAllNoted : truth.State → State → Type 0

@@ -38,6 +38,17 @@ impl Pass {
             Pass::Forget => false,
         }
     }
+
+    /// Whether it does nothing with what the effect touches, whatever the objects are.
+    fn is_idle(self, eff: &Effect) -> bool
+        ensures { OnTrue result (spec.IsIdle self eff.now) }
+    {
+        match eff {
+            Effect::Add(_) => !self.is_of_adds(),
+            Effect::Delete(_) => self.is_of_adds(),
+            _ => false,
+        }
+    }
 }
 
 // Only the pass that enters takes memory.
@@ -69,7 +80,7 @@ impl State {
                 self.pass_over_each(pass, alloc, parts.as_slice(), env, types, objects)
             }
             Effect::Forall(params, body) => {
-                if self.is_idle(pass, body.get()) {
+                if pass.is_idle(body.get()) {
                     return Ok(());
                 }
                 let params = params.as_slice();
@@ -135,40 +146,12 @@ impl State {
         for object in 0..objects.len() as u32 {
             if kind.has(objects, object) {
                 env.push(object);
-                let passed = self.pass_over_rest(pass, alloc, rest, body, env, types, objects);
+                let passed = self.pass_over_within(pass, alloc, rest, body, env, types, objects);
                 env.pop();
                 passed?;
             }
         }
         Ok(())
-    }
-
-    /// The same. Where no types are left, the pass is made without a further call.
-    #[cycle(pass_over)]
-    #[inline(always)]
-    fn pass_over_rest(
-        &mut self,
-        pass: Pass,
-        alloc: Global,
-        params: &[Param],
-        body: &Effect,
-        env: &mut Env,
-        types: &Types,
-        objects: &List<Object>,
-    ) -> Result<(), Memory>
-        requires listed { AreListed types.now }
-        requires few { length objects.now < 2 ^ 32 }
-        requires room { EffectFitsWithin (frame env.old) params.now body.now }
-        requires plain { spec.IsPlain (frame env.old) body.now }
-        ensures passed { OnOk result
-            (HasPassedWithin types.now objects.now pass params.now body.now env.old self.old self.new) }
-        ensures unchanged { OnErr result (spec.HasOnlyEntered pass self.old self.new) }
-        ensures kept { frame env.new ≡ frame env.old }
-    {
-        if params.is_empty() {
-            return self.pass_over(pass, alloc, body, env, types, objects);
-        }
-        self.pass_over_within(pass, alloc, params, body, env, types, objects)
     }
 
     /// Where an atom is to become false with each object of the kind for one more variable, it is made so without
@@ -229,19 +212,6 @@ impl State {
                 self.forget_atom(env, atom);
                 Ok(())
             }
-        }
-    }
-
-    /// Whether the pass does nothing with what the effect touches, whatever the objects are.
-    fn is_idle(&self, pass: Pass, eff: &Effect) -> bool
-        ensures { OnTrue result (spec.IsIdle pass eff.now) }
-    {
-        match eff {
-            Effect::Add(_) => !pass.is_of_adds(),
-            Effect::Delete(atom) => {
-                pass.is_of_adds() || matches!(pass, Pass::Forget) && !self.are_many(atom.predicate)
-            }
-            _ => false,
         }
     }
 }

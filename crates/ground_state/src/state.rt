@@ -27,11 +27,13 @@ const ROOMY_PREDICATES: usize = 32;
 /// A set of ground atoms, those that are true. `facts` has what is noted of each predicate, at its number: an atom that is
 /// noted as false is one that a step makes true or has made false.
 ///
-/// `most`: the greatest object of the first state. `touched`: what the last step touched, kept for its room alone.
+/// `most`: the greatest object of the first state. `crowded`: whether there were ever so many notes of one predicate that
+/// spare ones are taken away. `touched`: what the last step touched, kept for its room alone.
 #[derive(Drop)]
 pub struct State {
     pub(crate) facts: Vec<Notes>,
     most: u32,
+    pub(crate) crowded: bool,
     pub(crate) touched: AtomLists,
 }
 
@@ -43,6 +45,7 @@ impl State {
         let mut state = State {
             facts: Vec::new(alloc),
             most: greatest(atoms),
+            crowded: false,
             touched: AtomLists::new(alloc),
         };
         for atom in atoms.as_slice() {
@@ -126,7 +129,11 @@ impl State {
             self.widen(alloc, predicate)?;
         }
         match self.facts.get_mut(predicate as usize) {
-            Some(notes) => notes.insert(alloc, args, truth),
+            Some(notes) => {
+                notes.insert(alloc, args, truth)?;
+                self.crowded = self.crowded || notes.are_many();
+                Ok(())
+            }
             None => Err(Memory),
         }
     }
@@ -195,19 +202,9 @@ impl State {
         ensures same { spec.IsSame self.old self.new }
         ensures kept { frame env.new ≡ frame env.old }
     {
-        if self.are_many(atom.predicate) {
-            env.fill(atom.args.as_slice());
-            if self.is_spare(atom.predicate, env.args()) {
-                self.remove(atom.predicate, env.args());
-            }
-        }
-    }
-
-    /// Whether many notes are kept of lists without numbers.
-    pub(crate) fn are_many(&self, predicate: u32) -> bool {
-        match self.facts.get(predicate as usize) {
-            Some(notes) => notes.are_many(),
-            None => false,
+        env.fill(atom.args.as_slice());
+        if self.is_spare(atom.predicate, env.args()) {
+            self.remove(atom.predicate, env.args());
         }
     }
 
