@@ -26,7 +26,7 @@ use Rattle.ground_state.specs.declared.passes.Pass.TheVariants as passes
 use Rattle.ground_state.specs.Kinds.{IsOfKind}
 use Rattle.ground_state.specs.Numbers.{number_of}
 use Rattle.ground_state.specs.Notes as notes
-use Rattle.ground_state.specs.Notes.{noted_at, noted, holds, IsNoted, IsSet, AreSame, AreDenied}
+use Rattle.ground_state.specs.Notes.{noted_at, noted, holds, IsNoted, IsSet, AreSame, HoldSame, AreDenied}
 use Rattle.ground_state.specs.States.{note, has, has_ground, HasSameNotes}
 use Rattle.ground_state.specs.Search.{Touches, TouchesWithin}
 use Rattle.ground_state.specs.Passes.{of_adds, Passes, IsWithOne, HasDenied}
@@ -88,6 +88,13 @@ denied-one K s t args k n = record {
     | inr d ↦ subst IsSome (sym (n.others list d)) i
   ];
 }
+
+-- where it was noted as false, nothing is noted
+pub hold_same : (s t : Notes) (args : List ℕ) → IsNoted s args None t → noted s args ≡ Some false → HoldSame s t
+hold_same s t args n e list = elim (same-or-not list args) [
+  | inl d ↦ subst (λ l. holds t l ≡ holds s l) (sym d) (ap is_true n.here ∙ sym (ap is_true e))
+  | inr d ↦ ap is_true (n.others list d)
+]
 
 true-at : (o : Option Bool) → unwrap_or o false ≡ true → o ≡ Some true
 true-at (Some true) e = refl

@@ -33,6 +33,10 @@ AreNone notes = (args : List ℕ) → noted notes args ≡ None
 abbrev pub AreSame : Notes → Notes → Type 0
 AreSame old new = (args : List ℕ) → noted new args ≡ noted old args
 
+-- the same lists are noted as true
+abbrev pub HoldSame : Notes → Notes → Type 0
+HoldSame old new = (args : List ℕ) → holds new args ≡ holds old args
+
 -- w is noted of this list now, and of others what was noted before
 pub record IsNoted (old : Notes) (args : List ℕ) (w : Option Bool) (new : Notes) : Type 0 where
   pub here : noted new args ≡ w

@@ -1,5 +1,4 @@
 ghost use Rattle.std.specs.Prelude.{◌≡◌, ◌<◌, ◌^◌, ◌++◌, ◌∷◌, [], ◌≤◌, false, Some, None, length, slice_index_or, MatchBool, IfSome, OnOk, OnErr};
-ghost use Rattle.std.specs.Bool.{OnTrue};
 ghost use Rattle.plan_meaning.specs.Truth.{values_of};
 ghost use Rattle.ground_state.specs.Frames.{frame};
 ghost use Rattle.ground_state.specs.Kinds.{IsWithSome};
@@ -208,24 +207,13 @@ impl Notes {
         self.far.len() > MANY
     }
 
-    /// Whether the predicate is noted as not true of these objects, among many notes. It is then as if nothing were noted.
-    pub(crate) fn is_spare(&self, args: &[u32]) -> bool
-        ensures { OnTrue result (spec.noted self.now args.now ≡ Some false) }
+    /// Takes away what is noted of these objects, where they have no number and are noted as false, among many notes.
+    /// It is then as if nothing were noted.
+    pub(crate) fn forget(&mut self, args: &[u32])
+        ensures { spec.HoldSame self.old self.new }
     {
-        self.are_many() && matches!(self.get(args), Some(false))
-    }
-
-    /// Takes away what is noted of these objects.
-    pub(crate) fn remove(&mut self, args: &[u32])
-        ensures { spec.IsNoted self.old args.now None self.new }
-    {
-        match self.numbers.of(args) {
-            Some(number) => {
-                if number < self.near.len() {
-                    self.near[number] = None;
-                }
-            }
-            None => {
+        if self.are_many() && self.numbers.of(args).is_none() {
+            if let Some(false) = self.get(args) {
                 self.far.remove(args);
             }
         }

@@ -1,5 +1,4 @@
 ghost use Rattle.std.specs.Prelude.{◌≡◌, ◌<◌, ◌^◌, ◌++◌, ◌∷◌, [], ◌≤◌, ◌↔◌, false, length, IsTrue, Contains, Some, None, IfSome, IfOk, OnOk, OnErr};
-ghost use Rattle.std.specs.Bool.{OnTrue};
 ghost use Rattle.plan_meaning.specs.Truth.{ground};
 ghost use Rattle.ground_state.specs.Frames.{frame};
 ghost use Rattle.ground_state.specs.Kinds.{IsWithSome};
@@ -203,27 +202,15 @@ impl State {
         ensures kept { frame env.new ≡ frame env.old }
     {
         env.fill(atom.args.as_slice());
-        if self.is_spare(atom.predicate, env.args()) {
-            self.remove(atom.predicate, env.args());
-        }
+        self.forget_spare(atom.predicate, env.args());
     }
 
-    /// Whether the atom is noted as false, among many notes of its predicate. It is then as if nothing were noted.
-    pub(crate) fn is_spare(&self, predicate: u32, args: &[u32]) -> bool
-        ensures { OnTrue result (spec.note self.now predicate args.now ≡ Some false) }
-    {
-        match self.facts.get(predicate as usize) {
-            Some(notes) => notes.is_spare(args),
-            None => false,
-        }
-    }
-
-    /// Takes away what is noted of the atom.
-    pub(crate) fn remove(&mut self, predicate: u32, args: &[u32])
-        ensures { spec.IsNoted self.old (spec.atom predicate args.now) None self.new }
+    /// The same, of the predicate and these objects.
+    pub(crate) fn forget_spare(&mut self, predicate: u32, args: &[u32])
+        ensures { spec.IsSame self.old self.new }
     {
         if let Some(notes) = self.facts.get_mut(predicate as usize) {
-            notes.remove(args);
+            notes.forget(args);
         }
     }
 }
