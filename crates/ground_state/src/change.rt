@@ -66,7 +66,7 @@ impl State {
         ensures { spec.IsSame self.old self.new }
     {
         for atom in atoms {
-            self.forget_spare(atom.predicate(), atom.objects());
+            self.forget_atom(atom.predicate(), atom.objects());
         }
     }
 }

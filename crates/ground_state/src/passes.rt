@@ -209,7 +209,8 @@ impl State {
                 Ok(())
             }
             Pass::Forget => {
-                self.forget_atom(env, atom);
+                env.fill(atom.args.as_slice());
+                self.forget_atom(atom.predicate, env.args());
                 Ok(())
             }
         }

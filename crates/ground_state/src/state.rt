@@ -194,19 +194,9 @@ impl State {
         Ok(())
     }
 
-    /// Takes away what is noted of what the atom stands for, where it is noted as false, among many notes of its
+    /// Takes away what is noted of the predicate and these objects, where it is noted as false, among many notes of the
     /// predicate.
-    pub(crate) fn forget_atom(&mut self, env: &mut Env, atom: &Atom)
-        requires room { length atom.now.args ≤ (frame env.old).arity }
-        ensures same { spec.IsSame self.old self.new }
-        ensures kept { frame env.new ≡ frame env.old }
-    {
-        env.fill(atom.args.as_slice());
-        self.forget_spare(atom.predicate, env.args());
-    }
-
-    /// The same, of the predicate and these objects.
-    pub(crate) fn forget_spare(&mut self, predicate: u32, args: &[u32])
+    pub(crate) fn forget_atom(&mut self, predicate: u32, args: &[u32])
         ensures { spec.IsSame self.old self.new }
     {
         if let Some(notes) = self.facts.get_mut(predicate as usize) {
