@@ -6,6 +6,7 @@ pub mod Found
 pub mod Lists
 pub mod NumberLaws
 pub mod StateLaws
+pub mod Denials
 pub mod EffectSizes
 pub mod GatherCases
 pub mod PassLaws

@@ -85,9 +85,6 @@ passes-nothing passes.Deny P s n = (λ g. (λ x. (x, n g), λ x. x.0), λ g i. i
 passes-nothing passes.Affirm P s n = (λ h g. (λ x. inl x, λ x. elim x [ inl y ↦ y | inr y ↦ absurd (n g y) ]), λ g i. i)
 passes-nothing passes.Forget P s n = λ g. (λ x. x, λ x. x)
 
-pub passes-Forget : (p : Pass) (P : truth.State) (s : State) → p ≡ passes.Forget → Passes p P s s
-passes-Forget p P s e = subst (λ q. Passes q P s s) (sym e) (λ g. (λ x. x, λ x. x))
-
 -- over the same atoms
 pub passes-same : (p : Pass) (P Q : truth.State) (s t : State) → ((g : GroundAtom) → P g ↔ Q g) → Passes p P s t → Passes p Q s t
 passes-same passes.Enter P Q s t e h = (h.0, (h.1.0, λ g q. h.1.1 g ((e g).1 q)))
@@ -156,13 +153,10 @@ module _ (InType : ℕ → ℕ → Type 0) (S : truth.State) where
 
   -- nothing is done where the pass is idle
   pub passes-idle : (p : Pass) (e x : Effect) (ps xs : List Param) (y : Effect) (v : List ℕ) (s : State) → e ≡ E.Forall ps x → xs ≡ ps → y ≡ x → IsIdle p y → Passes p (Touches InType S (of_adds p) e v) s s
-  passes-idle p e x ps xs y v s q d k i = elim i [
-    | inl f ↦ passes-Forget p (Touches InType S (of_adds p) e v) s f
-    | inr l ↦ passes-nothing p (Touches InType S (of_adds p) e v) s (λ g t.
-        let w = (touches-Forall InType S v (of_adds p) e ps xs x y q d k g).1 t in
-        not-same (of_adds p) ((touches-literal (of_adds p) (not (of_adds p)) y l.0 (v ++ w.0) l.1 g).1 w.2).0
-        )
-  ]
+  passes-idle p e x ps xs y v s q d k i = passes-nothing p (Touches InType S (of_adds p) e v) s (λ g t.
+      let w = (touches-Forall InType S v (of_adds p) e ps xs x y q d k g).1 t in
+      not-same (of_adds p) ((touches-literal (of_adds p) (not (of_adds p)) y i.0 (v ++ w.0) i.1 g).1 w.2).0
+      )
 
 -- the state after the passes in their order
 pub changed : (InType : ℕ → ℕ → Type 0) (old entered denied affirmed new : State) (e : Effect) (v : List ℕ)

@@ -68,7 +68,7 @@ module _ (s t : State) (a : GroundAtom) (v : Option Bool) (n : IsNoted s a v t) 
     | inr d ↦ subst IsSome (sym (n.others g d)) i
   ]
 
-set-Some : (b : Bool) (o : Option Bool) → IsSome o → option_map (λ _. b) o ≡ Some b
+pub set-Some : (b : Bool) (o : Option Bool) → IsSome o → option_map (λ _. b) o ≡ Some b
 set-Some b (Some x) i = refl
 set-Some b None i = absurd (true≢false (sym i))
 

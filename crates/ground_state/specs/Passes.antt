@@ -1,6 +1,7 @@
 -- Effects without conditions, and what a pass over what one adds, or deletes, does to a state.
 -- Source: this project's; an effect as in Truth.
-use Rattle.std.specs.Prelude.{ℕ, ◌≡◌, ◌≤◌, ◌⊎◌, Bool, true, false, not, IsSome, List, length}
+use Rattle.std.specs.Prelude.{ℕ, ◌≡◌, ◌≤◌, ◌⊎◌, ◌++◌, ◌∷◌, [], Bool, true, false, not, IsSome, List, length}
+use Rattle.plan_model.specs.declared.types.Object.{Object}
 use Rattle.plan_model.specs.declared.terms.Atom.{Atom}
 use Rattle.plan_model.specs.declared.terms.GroundAtom.{GroundAtom}
 use Rattle.plan_model.specs.declared.effects.Effect.{Effect}
@@ -8,10 +9,12 @@ use Rattle.plan_model.specs.declared.effects.Effect.TheFolds.{rec-Effect}
 use Rattle.plan_model.specs.declared.effects.Effect.TheOpen.{Effect-F}
 use Rattle.plan_model.specs.declared.effects.Effect.TheVariants as E
 use Rattle.plan_meaning.specs.Truth as truth
+use Rattle.ground_state.specs.declared.kinds.Kind.{Kind}
 use Rattle.ground_state.specs.declared.state.State.{State}
 use Rattle.ground_state.specs.declared.passes.Pass.{Pass}
 use Rattle.ground_state.specs.declared.passes.Pass.TheVariants as passes
 use Rattle.ground_state.specs.Frames.{Frame}
+use Rattle.ground_state.specs.Kinds.{IsOfKind}
 use Rattle.ground_state.specs.Room.{EachFits}
 use Rattle.ground_state.specs.States.{note_of, atoms, Has, IsSame, KeepsNotes}
 
@@ -45,9 +48,9 @@ of_adds passes.Deny = false
 of_adds passes.Affirm = true
 of_adds passes.Forget = false
 
--- it does nothing with what the effect touches: it only takes away what is spare, or the effect is a literal of the other sort
+-- it does nothing with what the effect touches: the effect is a literal of the other sort
 abbrev pub IsIdle : Pass → Effect → Type 0
-IsIdle pass e = (pass ≡ passes.Forget) ⊎ ((a : Atom) × (e ≡ literal (not (of_adds pass)) a))
+IsIdle pass e = (a : Atom) × (e ≡ literal (not (of_adds pass)) a)
 
 -- something is noted of each atom that is as P says
 abbrev pub AreAllNoted : truth.State → State → Type 0
@@ -63,3 +66,11 @@ Passes passes.Forget P old new = IsSame old new
 -- it is the pass that needs memory, and the state is as it was
 abbrev pub HasOnlyEntered : Pass → State → State → Type 0
 HasOnlyEntered pass old new = (pass ≡ passes.Enter) × IsSame old new
+
+-- the atom, with some object of the kind for one more variable
+abbrev pub IsWithOne : Kind → List Object → Atom → List ℕ → truth.State
+IsWithOne k objects a values g = (x : ℕ) × IsOfKind k objects x × (g ≡ truth.ground (values ++ x ∷ []) a)
+
+-- the effect deletes an atom, and what it deletes with an object of the kind for one more variable has become false
+abbrev pub HasDenied : Pass → Kind → List Object → Effect → List ℕ → State → State → Type 0
+HasDenied pass k objects e values old new = (pass ≡ passes.Deny) × ((a : Atom) × (e ≡ literal false a) × Passes passes.Deny (IsWithOne k objects a values) old new)

@@ -66,9 +66,7 @@ impl State {
         ensures { spec.IsSame self.old self.new }
     {
         for atom in atoms {
-            if self.is_spare(atom.predicate(), atom.objects()) {
-                self.remove(atom.predicate(), atom.objects());
-            }
+            self.forget_atom(atom.predicate(), atom.objects());
         }
     }
 }

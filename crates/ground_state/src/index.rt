@@ -6,7 +6,7 @@ ghost use Rattle.ground_state.specs.Runs as spec;
 use crate::env::Env;
 use crate::kinds::Kinds;
 use crate::marks::Marks;
-use crate::places::{Places, action_names, object_names};
+use crate::places::Places;
 use htn_base::Memory;
 use plan_model::{ActionSchema, Param, Pddl};
 use std::alloc::Global;
@@ -89,7 +89,10 @@ fn action_places(alloc: Global, p: &Pddl) -> Result<Places, Memory>
     requires runnable { spec.IsRunnable p.now }
     ensures places { IfOk result (spec.AreActionPlaces p.now) }
 {
-    let names = action_names(alloc, p.actions.as_slice())?;
+    let mut names = Vec::new(alloc);
+    for action in p.actions.as_slice() {
+        names.push(action.name)?;
+    }
     Places::new(alloc, p.names.len(), names.as_slice())
 }
 
@@ -98,6 +101,9 @@ fn object_places(alloc: Global, p: &Pddl) -> Result<Places, Memory>
     requires runnable { spec.IsRunnable p.now }
     ensures places { IfOk result (spec.AreObjectPlaces p.now) }
 {
-    let names = object_names(alloc, p.objects.as_slice())?;
+    let mut names = Vec::new(alloc);
+    for object in p.objects.as_slice() {
+        names.push(object.name)?;
+    }
     Places::new(alloc, p.names.len(), names.as_slice())
 }

@@ -61,6 +61,16 @@ impl Kind {
         if is_alone(types, ty) {
             return Kind::Alone(ty);
         }
+        Kind::of_parts(types, ty)
+    }
+
+    /// The same, of a type of which others may be parts. It keeps the room for their marks out of the way of the rest.
+    #[cold]
+    #[inline(never)]
+    fn of_parts(types: &Types, ty: u32) -> Kind
+        requires listed { AreListed types.now }
+        ensures { spec.IsKindOf types.now ty result }
+    {
         Kind::Parts(Parts::new(types, ty))
     }
 

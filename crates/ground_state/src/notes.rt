@@ -1,5 +1,4 @@
-ghost use Rattle.std.specs.Prelude.{◌≡◌, ◌<◌, ◌^◌, ◌++◌, ◌∷◌, [], ◌≤◌, false, Some, None, length, slice_index_or, IfSome, OnOk, OnErr};
-ghost use Rattle.std.specs.Bool.{OnTrue};
+ghost use Rattle.std.specs.Prelude.{◌≡◌, ◌<◌, ◌^◌, ◌++◌, ◌∷◌, [], ◌≤◌, false, Some, None, length, slice_index_or, MatchBool, IfSome, OnOk, OnErr};
 ghost use Rattle.plan_meaning.specs.Truth.{values_of};
 ghost use Rattle.ground_state.specs.Frames.{frame};
 ghost use Rattle.ground_state.specs.Kinds.{IsWithSome};
@@ -113,6 +112,36 @@ impl Notes {
         Some(false)
     }
 
+    /// Notes as false what is noted as true of the objects that the terms stand for, with each object of the
+    /// kind for one more variable. It goes from number to number, where there is one with each object. Else
+    /// nothing is done, and the answer is no.
+    pub(crate) fn deny_each(
+        &mut self,
+        kind: &Kind,
+        objects: &List<Object>,
+        env: &Env,
+        terms: &[Term],
+    ) -> bool
+        requires few { length objects.now < 2 ^ 32 }
+        ensures { MatchBool result
+            (spec.AreDenied self.old (spec.IsWithOne kind.now objects.now (frame env.now).objects terms.now) self.new)
+            (spec.AreSame self.old self.new) }
+    {
+        let count = objects.len() as u32;
+        let Some(row) = env.row(terms, self.numbers, count) else {
+            return false;
+        };
+        let mut number = row.first;
+        for object in 0..count {
+            let truth = self.at(number as usize).unwrap_or(false);
+            if truth && kind.has(objects, object) {
+                self.near[number as usize] = Some(false);
+            }
+            number += row.step;
+        }
+        true
+    }
+
     /// Notes this of these objects. After `Memory` the notes are as they were.
     pub(crate) fn insert(&mut self, alloc: Global, args: &[u32], truth: bool) -> Result<(), Memory>
         ensures inserted { OnOk result (spec.IsNoted self.old args.now (Some truth) self.new) }
@@ -178,24 +207,13 @@ impl Notes {
         self.far.len() > MANY
     }
 
-    /// Whether the predicate is noted as not true of these objects, among many notes. It is then as if nothing were noted.
-    pub(crate) fn is_spare(&self, args: &[u32]) -> bool
-        ensures { OnTrue result (spec.noted self.now args.now ≡ Some false) }
+    /// Takes away what is noted of these objects, where they have no number and are noted as false, among many notes.
+    /// It is then as if nothing were noted.
+    pub(crate) fn forget(&mut self, args: &[u32])
+        ensures { spec.HoldSame self.old self.new }
     {
-        self.are_many() && matches!(self.get(args), Some(false))
-    }
-
-    /// Takes away what is noted of these objects.
-    pub(crate) fn remove(&mut self, args: &[u32])
-        ensures { spec.IsNoted self.old args.now None self.new }
-    {
-        match self.numbers.of(args) {
-            Some(number) => {
-                if number < self.near.len() {
-                    self.near[number] = None;
-                }
-            }
-            None => {
+        if self.are_many() && self.numbers.of(args).is_none() {
+            if let Some(false) = self.get(args) {
                 self.far.remove(args);
             }
         }

@@ -1,9 +1,10 @@
-ghost use Rattle.std.specs.Prelude.{◌≡◌, ◌≤◌, ◌<◌, ◌^◌, length, OnOk, OnErr};
+ghost use Rattle.std.specs.Prelude.{◌≡◌, ◌≤◌, ◌<◌, ◌^◌, length, MatchBool, OnOk, OnErr};
 ghost use Rattle.std.specs.Bool.{OnTrue};
 ghost use Rattle.plan_model.specs.Parts.{AreListed};
 ghost use Rattle.plan_meaning.specs.Truth.{ground};
 ghost use Rattle.ground_state.specs.Frames.{frame};
 ghost use Rattle.ground_state.specs.Room.{EffectFits, AllEffectsFit, EffectFitsWithin};
+ghost use Rattle.ground_state.specs.States.{HasSameNotes};
 ghost use Rattle.ground_state.specs.Passes as spec;
 ghost use Rattle.ground_state.specs.Clauses.{HasPassed, HasPassedEach, HasPassedWithin};
 
@@ -37,6 +38,17 @@ impl Pass {
             Pass::Forget => false,
         }
     }
+
+    /// Whether it does nothing with what the effect touches, whatever the objects are.
+    fn is_idle(self, eff: &Effect) -> bool
+        ensures { OnTrue result (spec.IsIdle self eff.now) }
+    {
+        match eff {
+            Effect::Add(_) => !self.is_of_adds(),
+            Effect::Delete(_) => self.is_of_adds(),
+            _ => false,
+        }
+    }
 }
 
 // Only the pass that enters takes memory.
@@ -68,7 +80,7 @@ impl State {
                 self.pass_over_each(pass, alloc, parts.as_slice(), env, types, objects)
             }
             Effect::Forall(params, body) => {
-                if self.is_idle(pass, body.get()) {
+                if pass.is_idle(body.get()) {
                     return Ok(());
                 }
                 let params = params.as_slice();
@@ -128,10 +140,13 @@ impl State {
             return self.pass_over(pass, alloc, body, env, types, objects);
         };
         let kind = Kind::new(types, param.ty);
+        if rest.is_empty() && self.deny_each(pass, &kind, objects, env, body) {
+            return Ok(());
+        }
         for object in 0..objects.len() as u32 {
             if kind.has(objects, object) {
                 env.push(object);
-                let passed = self.pass_over_rest(pass, alloc, rest, body, env, types, objects);
+                let passed = self.pass_over_within(pass, alloc, rest, body, env, types, objects);
                 env.pop();
                 passed?;
             }
@@ -139,32 +154,29 @@ impl State {
         Ok(())
     }
 
-    /// The same. Where no types are left, the pass is made without a further call.
-    #[cycle(pass_over)]
+    /// Where an atom is to become false with each object of the kind for one more variable, it is made so without
+    /// a look-up of whole atoms, if that can be. Else nothing is done, and the answer is no.
     #[inline(always)]
-    fn pass_over_rest(
+    fn deny_each(
         &mut self,
         pass: Pass,
-        alloc: Global,
-        params: &[Param],
-        body: &Effect,
-        env: &mut Env,
-        types: &Types,
+        kind: &Kind,
         objects: &List<Object>,
-    ) -> Result<(), Memory>
-        requires listed { AreListed types.now }
+        env: &Env,
+        eff: &Effect,
+    ) -> bool
         requires few { length objects.now < 2 ^ 32 }
-        requires room { EffectFitsWithin (frame env.old) params.now body.now }
-        requires plain { spec.IsPlain (frame env.old) body.now }
-        ensures passed { OnOk result
-            (HasPassedWithin types.now objects.now pass params.now body.now env.old self.old self.new) }
-        ensures unchanged { OnErr result (spec.HasOnlyEntered pass self.old self.new) }
-        ensures kept { frame env.new ≡ frame env.old }
+        ensures { MatchBool result
+            (spec.HasDenied pass kind.now objects.now eff.now (frame env.now).objects self.old self.new)
+            (HasSameNotes self.old self.new) }
     {
-        if params.is_empty() {
-            return self.pass_over(pass, alloc, body, env, types, objects);
+        let (Pass::Deny, Effect::Delete(atom)) = (pass, eff) else {
+            return false;
+        };
+        match self.facts.get_mut(atom.predicate as usize) {
+            Some(notes) => notes.deny_each(kind, objects, env, atom.args.as_slice()),
+            None => false,
         }
-        self.pass_over_within(pass, alloc, params, body, env, types, objects)
     }
 
     /// Makes the pass over an atom that is added, or deleted.
@@ -197,22 +209,10 @@ impl State {
                 Ok(())
             }
             Pass::Forget => {
-                self.forget_atom(env, atom);
+                env.fill(atom.args.as_slice());
+                self.forget_atom(atom.predicate, env.args());
                 Ok(())
             }
-        }
-    }
-
-    /// Whether the pass does nothing with what the effect touches, whatever the objects are.
-    fn is_idle(&self, pass: Pass, eff: &Effect) -> bool
-        ensures { OnTrue result (spec.IsIdle pass eff.now) }
-    {
-        match eff {
-            Effect::Add(_) => !pass.is_of_adds(),
-            Effect::Delete(atom) => {
-                pass.is_of_adds() || matches!(pass, Pass::Forget) && !self.are_many(atom.predicate)
-            }
-            _ => false,
         }
     }
 }

@@ -1,11 +1,8 @@
-ghost use Rattle.std.specs.Prelude.{◌≡◌, ◌<◌, ◌^◌, length, map, IfOk};
-ghost use Rattle.plan_model.specs.declared.schemas.ActionSchema.{ActionSchema as Action};
-ghost use Rattle.plan_model.specs.declared.types.Object.{Object as Thing};
+ghost use Rattle.std.specs.Prelude.{◌≡◌, ◌<◌, ◌^◌, length, IfOk};
 ghost use Rattle.ground_state.specs.Places as spec;
 
 use crate::marks::Marks;
 use htn_base::{Memory, Name, NameTable};
-use plan_model::{ActionSchema, Object};
 use std::alloc::Global;
 
 /// The places of named things, by the numbers of their names.
@@ -41,23 +38,4 @@ impl Places {
             None => None,
         }
     }
-}
-
-/// The names of the actions.
-pub(crate) fn action_names(alloc: Global, actions: &[ActionSchema]) -> Result<Vec<Name>, Memory>
-    ensures { IfOk result (λ names. names.items ≡ map (λ (a : Action). a.name) actions.now) }
-{
-    let mut names = Vec::new(alloc);
-    for action in actions {
-        names.push(action.name)?;
-    }
-    Ok(names)
-}
-
-/// The names of the objects.
-pub(crate) fn object_names(alloc: Global, objects: &[Object]) -> Result<Vec<Name>, Memory>
-    ensures { IfOk result (λ names. names.items ≡ map (λ (x : Thing). x.name) objects.now) }
-{
-    let names = objects.iter().map(|object| object.name).collect(alloc)?;
-    Ok(names)
 }

@@ -1,5 +1,4 @@
 ghost use Rattle.std.specs.Prelude.{◌≡◌, ◌<◌, ◌^◌, ◌++◌, ◌∷◌, [], ◌≤◌, ◌↔◌, false, length, IsTrue, Contains, Some, None, IfSome, IfOk, OnOk, OnErr};
-ghost use Rattle.std.specs.Bool.{OnTrue};
 ghost use Rattle.plan_meaning.specs.Truth.{ground};
 ghost use Rattle.ground_state.specs.Frames.{frame};
 ghost use Rattle.ground_state.specs.Kinds.{IsWithSome};
@@ -27,11 +26,13 @@ const ROOMY_PREDICATES: usize = 32;
 /// A set of ground atoms, those that are true. `facts` has what is noted of each predicate, at its number: an atom that is
 /// noted as false is one that a step makes true or has made false.
 ///
-/// `most`: the greatest object of the first state. `touched`: what the last step touched, kept for its room alone.
+/// `most`: the greatest object of the first state. `crowded`: whether there were ever so many notes of one predicate that
+/// spare ones are taken away. `touched`: what the last step touched, kept for its room alone.
 #[derive(Drop)]
 pub struct State {
-    facts: Vec<Notes>,
+    pub(crate) facts: Vec<Notes>,
     most: u32,
+    pub(crate) crowded: bool,
     pub(crate) touched: AtomLists,
 }
 
@@ -43,6 +44,7 @@ impl State {
         let mut state = State {
             facts: Vec::new(alloc),
             most: greatest(atoms),
+            crowded: false,
             touched: AtomLists::new(alloc),
         };
         for atom in atoms.as_slice() {
@@ -126,7 +128,11 @@ impl State {
             self.widen(alloc, predicate)?;
         }
         match self.facts.get_mut(predicate as usize) {
-            Some(notes) => notes.insert(alloc, args, truth),
+            Some(notes) => {
+                notes.insert(alloc, args, truth)?;
+                self.crowded = self.crowded || notes.are_many();
+                Ok(())
+            }
             None => Err(Memory),
         }
     }
@@ -188,45 +194,13 @@ impl State {
         Ok(())
     }
 
-    /// Takes away what is noted of what the atom stands for, where it is noted as false, among many notes of its
+    /// Takes away what is noted of the predicate and these objects, where it is noted as false, among many notes of the
     /// predicate.
-    pub(crate) fn forget_atom(&mut self, env: &mut Env, atom: &Atom)
-        requires room { length atom.now.args ≤ (frame env.old).arity }
-        ensures same { spec.IsSame self.old self.new }
-        ensures kept { frame env.new ≡ frame env.old }
-    {
-        if self.are_many(atom.predicate) {
-            env.fill(atom.args.as_slice());
-            if self.is_spare(atom.predicate, env.args()) {
-                self.remove(atom.predicate, env.args());
-            }
-        }
-    }
-
-    /// Whether many notes are kept of lists without numbers.
-    pub(crate) fn are_many(&self, predicate: u32) -> bool {
-        match self.facts.get(predicate as usize) {
-            Some(notes) => notes.are_many(),
-            None => false,
-        }
-    }
-
-    /// Whether the atom is noted as false, among many notes of its predicate. It is then as if nothing were noted.
-    pub(crate) fn is_spare(&self, predicate: u32, args: &[u32]) -> bool
-        ensures { OnTrue result (spec.note self.now predicate args.now ≡ Some false) }
-    {
-        match self.facts.get(predicate as usize) {
-            Some(notes) => notes.is_spare(args),
-            None => false,
-        }
-    }
-
-    /// Takes away what is noted of the atom.
-    pub(crate) fn remove(&mut self, predicate: u32, args: &[u32])
-        ensures { spec.IsNoted self.old (spec.atom predicate args.now) None self.new }
+    pub(crate) fn forget_atom(&mut self, predicate: u32, args: &[u32])
+        ensures { spec.IsSame self.old self.new }
     {
         if let Some(notes) = self.facts.get_mut(predicate as usize) {
-            notes.remove(args);
+            notes.forget(args);
         }
     }
 }

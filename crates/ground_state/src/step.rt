@@ -64,6 +64,9 @@ impl State {
         self.pass_over(Pass::Enter, alloc, eff, env, types, objects)?;
         self.pass_over(Pass::Deny, alloc, eff, env, types, objects)?;
         self.pass_over(Pass::Affirm, alloc, eff, env, types, objects)?;
+        if !self.crowded {
+            return Ok(());
+        }
         self.pass_over(Pass::Forget, alloc, eff, env, types, objects)
     }
 

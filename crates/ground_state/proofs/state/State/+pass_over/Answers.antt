@@ -17,6 +17,8 @@ use Rattle.ground_state.specs.Passes.{plain, IsPlain, of_adds, Passes}
 use Rattle.ground_state.proofs.EffectSizes as sizes
 use Rattle.ground_state.proofs.RoomEquations as room
 use Rattle.ground_state.proofs.KindLaws.{in_type_by_kind}
+use Rattle.ground_state.proofs.TruthCases.{only-one}
+use Rattle.ground_state.proofs.Denials.{denied-within}
 use Rattle.ground_state.proofs.GatherCases as cases
 use Rattle.ground_state.proofs.PassLaws as laws
 use Rattle.ground_state.proofs.state.State.+pass_over.Goals as goal
@@ -177,16 +179,13 @@ pass_over_within-returns-in_default-clause-passed t c =
     (cases.within-none I (atoms s) v (of_adds p) c.args.params.now c.args.body.now c.in_default.ensures.cases) (h s)
     ) c.pass_over.ensures.passed
 
-pub pass_over_rest-returns-then-is_empty-clause-passed : goal.pass_over_rest-returns-then-is_empty-clause-passed
-pass_over_rest-returns-then-is_empty-clause-passed t c =
-    let I = InType c.args.types.now c.args.objects.now in
-    let v = c.args.env.now.values.items in
-    let p = c.args.pass in
-    let empty : length c.args.params.now ≡ 0 = eqb-true (length c.args.params.now) 0 (sym c.is_empty.ensures ∙ c.if-is_empty.true) in
-    on_ok_weaker c.pass_over.result (λ h s.
-    laws.passes-same p (Touches I (atoms s) (of_adds p) c.args.body.now v) (TouchesWithin I (atoms s) (of_adds p) c.args.params.now c.args.body.now v) c.args.self.now c.pass_over.new.self
-    (cases.within-none I (atoms s) v (of_adds p) c.args.params.now c.args.body.now empty) (h s)
-    ) c.pass_over.ensures.passed
+pub pass_over_within-returns-then-deny_each-clause-passed : goal.pass_over_within-returns-then-deny_each-clause-passed
+pass_over_within-returns-then-deny_each-clause-passed t c s =
+    let first = c.in-Some.param.now in
+    let rest = c.in-Some.rest.now in
+    let one = only-one c.args.params.now first rest c.in-Some.ensures.cases.0 (eqb-true (length c.in-Some.rest.now) 0 (sym c.is_empty.ensures ∙ c.if-is_empty.true)) in
+    denied-within (InType c.args.types.now c.args.objects.now) (atoms s) c.args.pass c.new-kind.result c.args.objects.now c.args.body.now c.args.env.now.values.items first c.args.params.now c.args.self.now c.deny_each.new.self one
+    (λ o. in_type_by_kind c.args.types.now c.args.objects.now c.new-kind.result o c.in-Some.param.now.ty c.new-kind.ensures) c.if-deny_each.ensures
 
 pub pass_over_within-returns-in_err-passed-clause-unchanged : goal.pass_over_within-returns-in_err-passed-clause-unchanged
 pass_over_within-returns-in_err-passed-clause-unchanged t c =
@@ -194,10 +193,10 @@ pass_over_within-returns-in_err-passed-clause-unchanged t c =
     let p = c.args.pass in
     let v = c.args.env.now.values.items in
     let P : truth.State = λ g. (o : ℕ) × (o < c.loop-object.object) × (IsOfKind c.new-kind.result c.args.objects.now o × TouchesWithin I (atoms c.args.self.now) (of_adds p) c.in-Some.rest.now c.args.body.now (v ++ o ∷ []) g) in
-    laws.on_error c.from_residual.result _ (laws.only-entered p P c.args.self.now c.loop-object.self c.pass_over_rest-passed.new.self (c.loop-object.invariant.1 c.args.self.now) c.in_err-passed.ensures.unchanged)
+    laws.on_error c.from_residual.result _ (laws.only-entered p P c.args.self.now c.loop-object.self c.pass_over_within-passed.new.self (c.loop-object.invariant.1 c.args.self.now) c.in_err-passed.ensures.unchanged)
 
 pub pass_over_within-returns-in_err-passed-clause-kept : goal.pass_over_within-returns-in_err-passed-clause-kept
-pass_over_within-returns-in_err-passed-clause-kept t c = c.pop.ensures (frame c.loop-object.env) c.loop-object.object (c.pass_over_rest-passed.ensures.kept ∙ c.push.ensures) ∙ c.loop-object.invariant.0
+pass_over_within-returns-in_err-passed-clause-kept t c = c.pop.ensures (frame c.loop-object.env) c.loop-object.object (c.pass_over_within-passed.ensures.kept ∙ c.push.ensures) ∙ c.loop-object.invariant.0
 
 pub pass_over_within-loop-object-preserved : goal.pass_over_within-loop-object-preserved
 pass_over_within-loop-object-preserved t c =
@@ -213,9 +212,9 @@ pass_over_within-loop-object-preserved t c =
       | pass_over_within-then-has+in_ok-passed w ↦ (
           let typed : IsOfKind c.new-kind.result c.args.objects.now c.loop-object.object = c.has.ensures.0 w.if-has.true in
           let objects : w.push.new.self.values.items ≡ v ++ c.loop-object.object ∷ [] = ap (λ (f : Frame). f.objects) w.push.ensures ∙ ap (λ (f : Frame). f.objects ++ c.loop-object.object ∷ []) c.loop-object.invariant.0 in
-          let more : (s : State) → Passes p (Q s) c.loop-object.self w.pass_over_rest-passed.new.self = λ s. subst (λ u. Passes p (TouchesWithin I (atoms s) (of_adds p) c.in-Some.rest.now c.args.body.now u) c.loop-object.self w.pass_over_rest-passed.new.self) objects (w.in_ok-passed.ensures.passed s) in
-          let kept : frame w.pop.new.self ≡ frame c.args.env.now = w.pop.ensures (frame c.loop-object.env) c.loop-object.object (w.pass_over_rest-passed.ensures.kept ∙ w.push.ensures) ∙ c.loop-object.invariant.0 in
-          let all : (s : State) → Passes p (N s) c.args.self.now w.pass_over_rest-passed.new.self = λ s. laws.passes-then p (P s) (Q s) (N s) c.args.self.now c.loop-object.self w.pass_over_rest-passed.new.self (λ g. cases.below-more (R s g) (Q s g) i (λ r. r.1, λ q. (typed, q))) (c.loop-object.invariant.1 s) (more s) in
+          let more : (s : State) → Passes p (Q s) c.loop-object.self w.pass_over_within-passed.new.self = λ s. subst (λ u. Passes p (TouchesWithin I (atoms s) (of_adds p) c.in-Some.rest.now c.args.body.now u) c.loop-object.self w.pass_over_within-passed.new.self) objects (w.in_ok-passed.ensures.passed s) in
+          let kept : frame w.pop.new.self ≡ frame c.args.env.now = w.pop.ensures (frame c.loop-object.env) c.loop-object.object (w.pass_over_within-passed.ensures.kept ∙ w.push.ensures) ∙ c.loop-object.invariant.0 in
+          let all : (s : State) → Passes p (N s) c.args.self.now w.pass_over_within-passed.new.self = λ s. laws.passes-then p (P s) (Q s) (N s) c.args.self.now c.loop-object.self w.pass_over_within-passed.new.self (λ g. cases.below-more (R s g) (Q s g) i (λ r. r.1, λ q. (typed, q))) (c.loop-object.invariant.1 s) (more s) in
           (ap frame w.env-is ∙ kept, subst (λ (u : State). (s : State) → Passes p (N s) c.args.self.now u) (sym w.self-is) all)
           )
       | pass_over_within-else-has w ↦ (

@@ -18,9 +18,6 @@ decreases-pass_over_each l = 1 + 2 * sizes l.parts.now
 abbrev pub decreases-pass_over_within : goal.decreases-pass_over_within
 decreases-pass_over_within l = 1 + 2 * length l.params.now + 2 * size l.body.now
 
-abbrev pub decreases-pass_over_rest : goal.decreases-pass_over_rest
-decreases-pass_over_rest l = 2 + 2 * length l.params.now + 2 * size l.body.now
-
 -- the pass has been made over what the effects so far touch
 abbrev pub invariant-pass_over_each-loop-part : goal.invariant-pass_over_each-loop-part
 invariant-pass_over_each-loop-part l = (frame l.env ≡ frame l.fn.env)

@@ -26,3 +26,17 @@ returns-clause-after c =
     (subst (λ (f : Frame). Passes passes.Affirm (Touches I (atoms old) true e f.objects) denied affirmed) twice (c.in_ok-pass_over-3.ensures.passed old))
     (subst (λ (f : Frame). Passes passes.Forget (Touches I (atoms old) false e f.objects) affirmed c.pass_over-4.new.self) thrice (h old))
     ) c.pass_over-4.ensures.passed
+
+pub returns-then-not-self-clause-after : goal.returns-then-not-self-clause-after
+returns-then-not-self-clause-after c =
+    let I = InType c.args.types.now c.args.objects.now in
+    let old = c.args.self.now in
+    let e = c.args.eff.now in
+    let entered = c.pass_over.new.self in
+    let denied = c.pass_over-2.new.self in
+    let affirmed = c.pass_over-3.new.self in
+    let once = c.pass_over.ensures.kept in
+    let twice = c.pass_over-2.ensures.kept ∙ once in
+    changed I old entered denied affirmed affirmed e c.args.env.now.values.items (c.in_ok-pass_over.ensures.passed old)
+    (subst (λ (f : Frame). Passes passes.Deny (Touches I (atoms old) false e f.objects) entered denied) once (c.in_ok-pass_over-2.ensures.passed old))
+    (subst (λ (f : Frame). Passes passes.Affirm (Touches I (atoms old) true e f.objects) denied affirmed) twice (c.in_ok-pass_over-3.ensures.passed old)) (λ g. (λ x. x, λ x. x))
