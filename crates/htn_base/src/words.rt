@@ -1,4 +1,4 @@
-ghost use Rattle.std.specs.Prelude.{◌≡◌, ◌↔◌, ◌<◌, ◌^◌, ℕ, List, Some, [], ◌∷◌, length, codes, decimal, nat_eq, IfOk};
+ghost use Rattle.std.specs.Prelude.{◌≡◌, ◌↔◌, ◌<◌, ◌^◌, ℕ, Some, [], ◌∷◌, codes, decimal, nat_eq, IfOk};
 ghost use Rattle.std.specs.Str.{bytes_eq};
 ghost use Rattle.std.specs.List.{list_all, list_any, starts_with};
 ghost use Rattle.htn_base.specs.Escapes as spec;
@@ -18,31 +18,29 @@ pub fn is_plain(word: &[u8]) -> bool
     begins_with_letter(word) && has_plain_bytes(word) && !is_generated(word)
 }
 
-/// The words of this length that have a meaning of their own in a domain or a problem.
-fn reserved_of(bytes: usize) -> &'static [&'static [u8]]
-    ensures reserved { (word : List ℕ) → length word ≡ bytes
-        → list_any (λ one. bytes_eq word one.now) result.now ≡ words.is_reserved word }
-    ensures folded { (word : List ℕ) → length word ≡ bytes
-        → list_any (λ one. bytes_eq word (folded one.now)) result.now ≡ words.is_reserved word }
-{
-    match bytes {
-        1 => &[b"-", b"=", b"<"],
-        2 => &[b"->", b"or"],
-        3 => &[b"and", b"not"],
-        4 => &[b"when"],
-        5 => &[b"imply"],
-        6 => &[b"forall", b"exists", b"either"],
-        8 => &[b"increase"],
-        _ => &[],
-    }
-}
+/// The words that have a meaning of their own in a domain or a problem.
+const RESERVED: [&[u8]; 13] = [
+    b"-",
+    b"->",
+    b"=",
+    b"<",
+    b"and",
+    b"or",
+    b"not",
+    b"imply",
+    b"forall",
+    b"exists",
+    b"when",
+    b"increase",
+    b"either",
+];
 
 /// Whether the word has a meaning of its own in a domain or a problem, so that nothing may be named by it. Folded words
 /// are asked for: an upper-case letter makes a word that isn't reserved.
 pub fn is_reserved(word: &[u8]) -> bool
     ensures reserved { result ≡ words.is_reserved word.now }
 {
-    is_among(word, reserved_of(word.len()))
+    is_among(word, &RESERVED)
 }
 
 fn is_among(word: &[u8], listed: &[&[u8]]) -> bool
@@ -55,7 +53,7 @@ fn is_among(word: &[u8], listed: &[&[u8]]) -> bool
 pub fn is_reserved_in_any_case(word: &[u8]) -> bool
     ensures reserved { result ≡ words.is_reserved (words.folded word.now) }
 {
-    is_among_in_any_case(word, reserved_of(word.len()))
+    is_among_in_any_case(word, &RESERVED)
 }
 
 fn is_among_in_any_case(word: &[u8], listed: &[&[u8]]) -> bool
@@ -90,17 +88,12 @@ pub fn esc(alloc: Global, word: &[u8]) -> Result<Text, Memory>
     Ok(text)
 }
 
-/// The most bytes of a slot's word.
-const LONGEST_SLOT: usize = 15;
-
 /// The word of slot k. The printed texts count slots from 1.
 pub fn slot_name(alloc: Global, k: u32) -> Result<Text, Memory>
     ensures slot { IfOk result (λ text. text ≡ spec.slot_word k) }
 {
     let mut digits = Buffer::new();
-    let mut text = Text::new(alloc);
-    text.reserve(LONGEST_SLOT)?;
-    text.push_all(b"htn_s")?;
+    let mut text = Text::from_slice(alloc, b"htn_s")?;
     text.push_all(digits.format(k).as_bytes())?;
     Ok(text)
 }
