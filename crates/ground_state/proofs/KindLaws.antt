@@ -10,7 +10,7 @@ use Rattle.plan_model.specs.declared.types.Object.{Object}
 use Rattle.plan_model.specs.declared.types.Parent.{Parent}
 use Rattle.plan_model.specs.declared.parts.Parts.{Parts}
 use Rattle.plan_model.specs.Parts.{has}
-use Rattle.plan_model.specs.Typing.{Leads, stay, climb, InType}
+use Rattle.plan_model.specs.Typing.{Leads, stay, climb, IsPart, InType}
 use Rattle.ground_state.specs.declared.kinds.Kind.{Kind}
 use Rattle.ground_state.specs.declared.kinds.Kind.TheVariants as kind
 use Rattle.ground_state.specs.Kinds.{IsKindOf, IsAlone, ArePartsOf, AreInOrder, IsOfKind}
@@ -36,8 +36,16 @@ kinds_more types list n d l p h k parts e = elim (push_cases list d parts k e) [
 pub in_type_by_kind : (types : Types) (objects : List Object) (k : Kind) (x ty : ℕ) → IsKindOf types ty k → IsOfKind k objects x ↔ InType types objects x ty
 in_type_by_kind types objects k x ty p = (λ t. (t.0, t.1, (p t.0.ty).0 t.2), λ t. (t.0, t.1, (p t.0.ty).1 t.2))
 
-pub in_type_by_parts : (types : Types) (objects : List Object) (parts : Parts) (x ty : ℕ) → ArePartsOf types ty parts → ((object : Object) × (slice_get objects x ≡ Some object) × IsTrue (has parts object.ty)) ↔ InType types objects x ty
-in_type_by_parts types objects parts x ty p = (λ t. (t.0, t.1, (p t.0.ty).0 t.2), λ t. (t.0, t.1, (p t.0.ty).1 t.2))
+-- an object is in a type where its declared type is one of the parts
+pub in_type_at : (types : Types) (objects : List Object) (parts : Parts) (x ty : ℕ) (object : Object) → ArePartsOf types ty parts → slice_get objects x ≡ Some object → IsTrue (has parts object.ty) ↔ InType types objects x ty
+in_type_at types objects parts x ty object p at = (λ t. (object, at, (p object.ty).0 t), λ i. (p object.ty).1 (subst (λ (o : Object). IsPart types o.ty ty) (same (sym i.1 ∙ at)) i.2))
+  where
+    same : {a b : Object} → Some a ≡ Some b → a ≡ b
+    same e = cc
+
+-- as where it is the type itself
+pub is_part : (types : Types) (parts : Parts) (i ty : ℕ) → ArePartsOf types ty parts → i ≡ ty → IsTrue (has parts i)
+is_part types parts i ty p e = (p i).1 (inl (inr (subst (Leads types.parents i) e stay)))
 
 no_pair : (pairs : List Parent) (ty : ℕ) (pair : Parent) → All (λ (pair : Parent). IsTrue (not (pair.parent == ty))) pairs → Contains pairs pair → pair.parent ≡ ty → ⊥
 no_pair pairs ty pair h c e = by (All-contains (λ (pair : Parent). IsTrue (not (pair.parent == ty))) pairs pair h c) (eq-eqb pair.parent ty e)

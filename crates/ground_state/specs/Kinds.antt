@@ -1,4 +1,4 @@
--- The kinds of types, each found once, and which objects are in a type by its kind.
+-- The parts of types, each found once, the kind of a type, and which objects are in a type by its kind.
 -- Source: this project's; a part as in Typing.
 use Rattle.std.specs.Prelude.{ℕ, ◌≡◌, ◌≢◌, ◌==◌, ◌↔◌, not, All, Bool, IsTrue, MatchBool, List, slice_get, Some, None}
 use Rattle.plan_model.specs.declared.types.Types.{Types}

@@ -122,7 +122,7 @@ fn gather_in_parts(
     gather_of(alloc, &kind, param, rest, body, env, world, into)
 }
 
-/// The same, where the kind is that of the first type.
+/// The same, where the kind is that of the type of `param`.
 #[cycle(gather)]
 #[inline(always)]
 fn gather_of(

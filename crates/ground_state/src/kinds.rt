@@ -39,7 +39,10 @@ impl Kinds {
         ensures { IsTrue result ↔ InType types.now objects.now object ty }
     {
         match self.parts.get(ty as usize) {
-            Some(parts) => Kind::Parts(parts).has(objects, object),
+            Some(parts) => match objects.get(object as usize) {
+                Some(declared) => declared.ty == ty || parts.have(declared.ty),
+                None => false,
+            },
             None => in_type(types, objects, object, ty),
         }
     }

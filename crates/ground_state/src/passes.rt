@@ -178,7 +178,7 @@ impl State {
         self.pass_over_of(pass, &kind, alloc, param, rest, body, env, types, objects)
     }
 
-    /// The same, where the kind is that of the first type.
+    /// The same, where the kind is that of the type of `param`.
     #[cycle(pass_over)]
     #[inline(always)]
     fn pass_over_of(

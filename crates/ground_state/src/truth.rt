@@ -145,7 +145,7 @@ fn is_found_in_parts(
     is_found_of(wanted, &kind, param, rest, body, env, s, types, objects)
 }
 
-/// The same, where the kind is that of the first type.
+/// The same, where the kind is that of the type of `param`.
 #[cycle(holds)]
 #[inline(always)]
 fn is_found_of(
