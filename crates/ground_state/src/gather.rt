@@ -1,9 +1,8 @@
 ghost use Rattle.std.specs.Prelude.{◌≡◌, ◌∷◌, OnOk};
 ghost use Rattle.ground_state.specs.Frames.{frame};
-ghost use Rattle.ground_state.specs.Kinds.{IsKindOf};
-ghost use Rattle.ground_state.specs.Room.{EffectFits, AllEffectsFit, EffectFitsWithin};
+ghost use Rattle.ground_state.specs.Room.{EffectFits, AllEffectsFit, EffectFitsWithin, EffectFitsWithOne};
 ghost use Rattle.ground_state.specs.Search.{IsWorld};
-ghost use Rattle.ground_state.specs.Clauses.{Gets, GetsEach, GetsWithin};
+ghost use Rattle.ground_state.specs.Clauses.{Gets, GetsEach, GetsWithin, GetsOf};
 
 use crate::atom_list::AtomLists;
 use crate::env::Env;
@@ -93,7 +92,7 @@ fn gather_within(
         return gather(alloc, body, env, world, into);
     };
     match Kind::alone(world.types, param.ty) {
-        Some(kind) => gather_of(alloc, &kind, param, rest, body, env, world, into),
+        Some(kind) => gather_of(alloc, &kind, rest, body, env, world, into),
         None => gather_in_parts(alloc, param, rest, body, env, world, into),
     }
 }
@@ -119,16 +118,15 @@ fn gather_in_parts(
 {
     let parts = Parts::new(world.types, param.ty);
     let kind = Kind::Parts(&parts);
-    gather_of(alloc, &kind, param, rest, body, env, world, into)
+    gather_of(alloc, &kind, rest, body, env, world, into)
 }
 
-/// The same, where the kind is that of the type of `param`.
+/// The same, with one more variable before the rest, which stands for the objects of the kind.
 #[cycle(gather)]
 #[inline(always)]
 fn gather_of(
     alloc: Global,
     kind: &Kind<'_>,
-    param: &Param,
     rest: &[Param],
     body: &Effect,
     env: &mut Env,
@@ -136,10 +134,9 @@ fn gather_of(
     into: &mut AtomLists,
 ) -> Result<(), Memory>
     requires world { IsWorld world.now }
-    requires kind { IsKindOf world.now.types.now param.now.ty kind.now }
-    requires room { EffectFitsWithin (frame env.old) (param.now ∷ rest.now) body.now }
+    requires room { EffectFitsWithOne (frame env.old) rest.now body.now }
     ensures gathered { OnOk result
-        (GetsWithin world.now (param.now ∷ rest.now) body.now env.old into.old into.new) }
+        (GetsOf world.now kind.now rest.now body.now env.old into.old into.new) }
     ensures kept { frame env.new ≡ frame env.old }
 {
     for object in 0..world.objects.len() as u32 {

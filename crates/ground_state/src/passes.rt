@@ -3,11 +3,10 @@ ghost use Rattle.std.specs.Bool.{OnTrue};
 ghost use Rattle.plan_model.specs.Parts.{AreListed};
 ghost use Rattle.plan_meaning.specs.Truth.{ground};
 ghost use Rattle.ground_state.specs.Frames.{frame};
-ghost use Rattle.ground_state.specs.Kinds.{IsKindOf};
-ghost use Rattle.ground_state.specs.Room.{EffectFits, AllEffectsFit, EffectFitsWithin};
+ghost use Rattle.ground_state.specs.Room.{EffectFits, AllEffectsFit, EffectFitsWithin, EffectFitsWithOne};
 ghost use Rattle.ground_state.specs.States.{HasSameNotes};
 ghost use Rattle.ground_state.specs.Passes as spec;
-ghost use Rattle.ground_state.specs.Clauses.{HasPassed, HasPassedEach, HasPassedWithin};
+ghost use Rattle.ground_state.specs.Clauses.{HasPassed, HasPassedEach, HasPassedWithin, HasPassedOf};
 
 use crate::env::Env;
 use crate::kinds::Kind;
@@ -141,9 +140,7 @@ impl State {
             return self.pass_over(pass, alloc, body, env, types, objects);
         };
         match Kind::alone(types, param.ty) {
-            Some(kind) => {
-                self.pass_over_of(pass, &kind, alloc, param, rest, body, env, types, objects)
-            }
+            Some(kind) => self.pass_over_of(pass, &kind, alloc, rest, body, env, types, objects),
             None => self.pass_over_in_parts(pass, alloc, param, rest, body, env, types, objects),
         }
     }
@@ -175,10 +172,10 @@ impl State {
     {
         let parts = Parts::new(types, param.ty);
         let kind = Kind::Parts(&parts);
-        self.pass_over_of(pass, &kind, alloc, param, rest, body, env, types, objects)
+        self.pass_over_of(pass, &kind, alloc, rest, body, env, types, objects)
     }
 
-    /// The same, where the kind is that of the type of `param`.
+    /// The same, with one more variable before the rest, which stands for the objects of the kind.
     #[cycle(pass_over)]
     #[inline(always)]
     fn pass_over_of(
@@ -186,7 +183,6 @@ impl State {
         pass: Pass,
         kind: &Kind<'_>,
         alloc: Global,
-        param: &Param,
         rest: &[Param],
         body: &Effect,
         env: &mut Env,
@@ -195,11 +191,10 @@ impl State {
     ) -> Result<(), Memory>
         requires listed { AreListed types.now }
         requires few { length objects.now < 2 ^ 32 }
-        requires kind { IsKindOf types.now param.now.ty kind.now }
-        requires room { EffectFitsWithin (frame env.old) (param.now ∷ rest.now) body.now }
+        requires room { EffectFitsWithOne (frame env.old) rest.now body.now }
         requires plain { spec.IsPlain (frame env.old) body.now }
         ensures passed { OnOk result
-            (HasPassedWithin types.now objects.now pass (param.now ∷ rest.now) body.now env.old self.old self.new) }
+            (HasPassedOf types.now objects.now pass kind.now rest.now body.now env.old self.old self.new) }
         ensures unchanged { OnErr result (spec.HasOnlyEntered pass self.old self.new) }
         ensures kept { frame env.new ≡ frame env.old }
     {

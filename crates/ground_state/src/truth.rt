@@ -1,10 +1,9 @@
 ghost use Rattle.std.specs.Prelude.{◌≡◌, ◌<◌, ◌^◌, ◌∷◌, ◌↔◌, IsTrue, IfSome, length};
 ghost use Rattle.plan_model.specs.Parts.{AreListed};
 ghost use Rattle.ground_state.specs.Frames.{frame};
-ghost use Rattle.ground_state.specs.Kinds.{IsKindOf};
-ghost use Rattle.ground_state.specs.Room.{Fits, AllFit, FitsWithin};
+ghost use Rattle.ground_state.specs.Room.{Fits, AllFit, FitsWithin, FitsWithOne};
 ghost use Rattle.ground_state.specs.Search.{IsLiteralFound};
-ghost use Rattle.ground_state.specs.Clauses.{IsTrueBy, IsAmong, Finds};
+ghost use Rattle.ground_state.specs.Clauses.{IsTrueBy, IsAmong, Finds, FindsOf};
 
 use crate::env::Env;
 use crate::kinds::Kind;
@@ -115,7 +114,7 @@ fn is_found(
         return is_true(body, env, s, types, objects) == wanted;
     };
     match Kind::alone(types, param.ty) {
-        Some(kind) => is_found_of(wanted, &kind, param, rest, body, env, s, types, objects),
+        Some(kind) => is_found_of(wanted, &kind, rest, body, env, s, types, objects),
         None => is_found_in_parts(wanted, param, rest, body, env, s, types, objects),
     }
 }
@@ -142,16 +141,15 @@ fn is_found_in_parts(
 {
     let parts = Parts::new(types, param.ty);
     let kind = Kind::Parts(&parts);
-    is_found_of(wanted, &kind, param, rest, body, env, s, types, objects)
+    is_found_of(wanted, &kind, rest, body, env, s, types, objects)
 }
 
-/// The same, where the kind is that of the type of `param`.
+/// The same, with one more variable before the rest, which stands for the objects of the kind.
 #[cycle(holds)]
 #[inline(always)]
 fn is_found_of(
     wanted: bool,
     kind: &Kind<'_>,
-    param: &Param,
     rest: &[Param],
     body: &Formula,
     env: &mut Env,
@@ -161,9 +159,8 @@ fn is_found_of(
 ) -> bool
     requires listed { AreListed types.now }
     requires few { length objects.now < 2 ^ 32 }
-    requires kind { IsKindOf types.now param.now.ty kind.now }
-    requires room { FitsWithin (frame env.old) (param.now ∷ rest.now) body.now }
-    ensures answer { Finds types.now objects.now s.now wanted result (param.now ∷ rest.now) body.now env.old }
+    requires room { FitsWithOne (frame env.old) rest.now body.now }
+    ensures answer { FindsOf types.now objects.now s.now wanted result kind.now rest.now body.now env.old }
     ensures kept { frame env.new ≡ frame env.old }
 {
     if rest.is_empty() {

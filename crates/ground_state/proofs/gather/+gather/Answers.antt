@@ -6,8 +6,8 @@ use Rattle.plan_model.specs.Typing.{InType}
 use Rattle.plan_model.proofs.PartsOf.{in_type_within}
 use Rattle.ground_state.proofs.KindLaws.{in_type_by_kind}
 use Rattle.plan_meaning.specs.Truth.{State}
-use Rattle.ground_state.specs.Frames.{Frame, frame}
-use Rattle.ground_state.specs.Room.{effect_fits, EffectFits}
+use Rattle.ground_state.specs.Frames.{Frame, frame, pushed}
+use Rattle.ground_state.specs.Room.{effect_fits, EffectFits, EffectFitsWithin}
 use Rattle.ground_state.specs.Kinds.{IsOfKind}
 use Rattle.ground_state.specs.States.{atoms}
 use Rattle.ground_state.specs.declared.atom_list.AtomLists.{AtomLists}
@@ -141,13 +141,25 @@ gather_within-returns-in_default-clause-gathered t c =
     ) c.gather.ensures.gathered
 
 pub gather_within-returns-in-Some-alone-clause-gathered : goal.gather_within-returns-in-Some-alone-clause-gathered
-gather_within-returns-in-Some-alone-clause-gathered t c = subst (λ ps. OnOk c.gather_of.result (GetsWithin c.args.world.now ps c.args.body.now c.args.env.now c.args.into.now c.gather_of.new.into)) (sym c.in-Some.ensures.cases.0) c.gather_of.ensures.gathered
+gather_within-returns-in-Some-alone-clause-gathered t c = subst (λ ps. OnOk c.gather_of.result (GetsWithin c.args.world.now ps c.args.body.now c.args.env.now c.args.into.now c.gather_of.new.into)) (sym c.in-Some.ensures.cases.0) (on_ok_weaker c.gather_of.result (λ h. h c.in-Some.param.now c.in-Some-alone.ensures) c.gather_of.ensures.gathered)
 
 pub gather_within-returns-in-None-clause-gathered : goal.gather_within-returns-in-None-clause-gathered
 gather_within-returns-in-None-clause-gathered t c = subst (λ ps. OnOk c.gather_in_parts.result (GetsWithin c.args.world.now ps c.args.body.now c.args.env.now c.args.into.now c.gather_in_parts.new.into)) (sym c.in-Some.ensures.cases.0) c.gather_in_parts.ensures.gathered
 
+pub gather_in_parts-returns-clause-gathered : goal.gather_in_parts-returns-clause-gathered
+gather_in_parts-returns-clause-gathered t c = on_ok_weaker c.gather_of.result (λ h. h c.args.param.now c.new-parts.ensures) c.gather_of.ensures.gathered
+
 pub gather_of-returns-in_err-gathered-clause-kept : goal.gather_of-returns-in_err-gathered-clause-kept
 gather_of-returns-in_err-gathered-clause-kept t c = c.pop.ensures (frame c.loop-object.env) c.loop-object.object (c.gather_within-gathered.ensures.kept ∙ c.push.ensures) ∙ c.loop-object.invariant.0
+
+pub gather_of-push-requires : goal.gather_of-push-requires
+gather_of-push-requires t c = subst (λ (e : Frame). length e.objects < e.room) (sym c.loop-object.invariant.0) (room.room-for-one-effect (frame c.args.env.now) c.args.rest.now c.args.body.now c.requires.room)
+
+pub gather_of-gather_within-gathered-requires : goal.gather_of-gather_within-gathered-requires
+gather_of-gather_within-gathered-requires t c =
+    let same : frame c.push.new.self ≡ pushed (frame c.args.env.now) c.loop-object.object = c.push.ensures ∙ ap (λ (e : Frame). pushed e c.loop-object.object) c.loop-object.invariant.0 in
+    let fits : EffectFitsWithin (frame c.push.new.self) c.args.rest.now c.args.body.now = subst (λ (e : Frame). EffectFitsWithin e c.args.rest.now c.args.body.now) (sym same) (room.effect-fits-one (frame c.args.env.now) c.loop-object.object c.args.rest.now c.args.body.now c.requires.room) in
+    ((let d = c.decreases in omega (arith, d)), (c.requires.world, fits))
 
 pub gather_of-loop-object-preserved : goal.gather_of-loop-object-preserved
 gather_of-loop-object-preserved t c =
@@ -176,15 +188,15 @@ gather_of-loop-object-preserved t c =
     ]
 
 pub gather_of-returns-clause-gathered : goal.gather_of-returns-clause-gathered
-gather_of-returns-clause-gathered t c adds =
+gather_of-returns-clause-gathered t c q k adds =
     let I = InType c.args.world.now.types.now c.args.world.now.objects.now in
     let S = atoms c.args.world.now.state.now in
     let v = c.args.env.now.values.items in
-    let p = c.args.param.now in
-    let below : (o : ℕ) → I o c.args.param.now.ty → o < c.loop-object.object =
-    λ o i. (let l = in_type_within c.args.world.now.types.now c.args.world.now.objects.now c.args.param.now.ty o i in let e = c.loop-object-test.false in let n = c.len-object-end.ensures.length in omega arith) in
-    let typed : (o : ℕ) → IsOfKind c.args.kind.now c.args.world.now.objects.now o ↔ InType c.args.world.now.types.now c.args.world.now.objects.now o c.args.param.now.ty =
-    λ o. in_type_by_kind c.args.world.now.types.now c.args.world.now.objects.now c.args.kind.now o c.args.param.now.ty c.requires.kind in
-    let all = cases.within-all I S v adds p c.args.rest.now (c.args.param.now ∷ c.args.rest.now) c.args.body.now c.loop-object.object refl below in
-    cases.gathers-same (λ g. (o : ℕ) × (o < c.loop-object.object) × (IsOfKind c.args.kind.now c.args.world.now.objects.now o × TouchesWithin I S adds c.args.rest.now c.args.body.now (v ++ o ∷ []) g)) (TouchesWithin I S adds (c.args.param.now ∷ c.args.rest.now) c.args.body.now v) (side adds c.args.into.now) (side adds c.loop-object.into)
+    let p = q in
+    let below : (o : ℕ) → I o q.ty → o < c.loop-object.object =
+    λ o i. (let l = in_type_within c.args.world.now.types.now c.args.world.now.objects.now q.ty o i in let e = c.loop-object-test.false in let n = c.len-object-end.ensures.length in omega arith) in
+    let typed : (o : ℕ) → IsOfKind c.args.kind.now c.args.world.now.objects.now o ↔ InType c.args.world.now.types.now c.args.world.now.objects.now o q.ty =
+    λ o. in_type_by_kind c.args.world.now.types.now c.args.world.now.objects.now c.args.kind.now o q.ty k in
+    let all = cases.within-all I S v adds p c.args.rest.now (q ∷ c.args.rest.now) c.args.body.now c.loop-object.object refl below in
+    cases.gathers-same (λ g. (o : ℕ) × (o < c.loop-object.object) × (IsOfKind c.args.kind.now c.args.world.now.objects.now o × TouchesWithin I S adds c.args.rest.now c.args.body.now (v ++ o ∷ []) g)) (TouchesWithin I S adds (q ∷ c.args.rest.now) c.args.body.now v) (side adds c.args.into.now) (side adds c.loop-object.into)
     (λ g. (λ t. (all g).0 (t.0, t.1, ((typed t.0).0 t.2.0, t.2.1)), λ t. (let u = (all g).1 t in (u.0, u.1, ((typed u.0).1 u.2.0, u.2.1))))) (c.loop-object.invariant.1 adds)

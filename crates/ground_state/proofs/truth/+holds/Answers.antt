@@ -3,8 +3,8 @@ use Rattle.std.proofs.lemmas.Bool.{eqb-true}
 use Rattle.plan_model.specs.Typing.{InType}
 use Rattle.plan_model.proofs.PartsOf.{in_type_within}
 use Rattle.plan_meaning.specs.Truth.{IsTrueIn, AreTyped}
-use Rattle.ground_state.specs.Frames.{Frame, frame}
-use Rattle.ground_state.specs.Room.{fits, Fits}
+use Rattle.ground_state.specs.Frames.{Frame, frame, pushed}
+use Rattle.ground_state.specs.Room.{fits, Fits, FitsWithin}
 use Rattle.ground_state.specs.Search.{Is}
 use Rattle.ground_state.proofs.KindLaws.{in_type_by_kind}
 use Rattle.ground_state.proofs.Found.{below-next, each-typed}
@@ -128,13 +128,13 @@ pub is_found_of-returns-then-found-clause-kept : goal.is_found_of-returns-then-f
 is_found_of-returns-then-found-clause-kept t c = c.pop.ensures (frame c.loop-object.env) c.loop-object.object (c.is_found-found.ensures.kept ∙ c.push.ensures) ∙ c.loop-object.invariant.0
 
 pub is_found_of-returns-then-found-clause-answer : goal.is_found_of-returns-then-found-clause-answer
-is_found_of-returns-then-found-clause-answer t c =
+is_found_of-returns-then-found-clause-answer t c p k =
     let I = InType c.args.types.now c.args.objects.now in
     let S = atoms c.args.s.now in
     let v = c.args.env.now.values.items in
     let o = c.loop-object.object in
     let found = c.if-found.ensures.answer in
-    let typed = (in_type_by_kind c.args.types.now c.args.objects.now c.args.kind.now o c.args.param.now.ty c.requires.kind).0 (c.has.ensures.0 c.if-has.true) in
+    let typed = (in_type_by_kind c.args.types.now c.args.objects.now c.args.kind.now o p.ty k).0 (c.has.ensures.0 c.if-has.true) in
     let objects : c.push.new.self.values.items ≡ c.args.env.now.values.items ++ c.loop-object.object ∷ [] = ap (λ (f : Frame). f.objects) c.push.ensures ∙ ap (λ (f : Frame). f.objects ++ c.loop-object.object ∷ []) c.loop-object.invariant.0 in (
       o ∷ found.0,
       (typed, found.1),
@@ -142,10 +142,19 @@ is_found_of-returns-then-found-clause-answer t c =
     )
 
 pub is_found_of-returns-in-Some-clause-answer : goal.is_found_of-returns-in-Some-clause-answer
-is_found_of-returns-in-Some-clause-answer t c =
-    let one = truth.only-one (c.args.param.now ∷ c.args.rest.now) c.args.param.now c.args.rest.now refl (eqb-true (length c.args.rest.now) 0 (sym c.is_empty.ensures ∙ c.if-is_empty.true)) in
-    truth.is-found-literal (InType c.args.types.now c.args.objects.now) c.args.kind.now c.args.objects.now c.args.s.now c.args.wanted c.args.body.now c.args.env.now.values.items c.in-Some.found c.args.param.now (c.args.param.now ∷ c.args.rest.now) one
-    (λ o. in_type_by_kind c.args.types.now c.args.objects.now c.args.kind.now o c.args.param.now.ty c.requires.kind) c.in-Some.ensures
+is_found_of-returns-in-Some-clause-answer t c p k =
+    let one = truth.only-one (p ∷ c.args.rest.now) p c.args.rest.now refl (eqb-true (length c.args.rest.now) 0 (sym c.is_empty.ensures ∙ c.if-is_empty.true)) in
+    truth.is-found-literal (InType c.args.types.now c.args.objects.now) c.args.kind.now c.args.objects.now c.args.s.now c.args.wanted c.args.body.now c.args.env.now.values.items c.in-Some.found p (p ∷ c.args.rest.now) one
+    (λ o. in_type_by_kind c.args.types.now c.args.objects.now c.args.kind.now o p.ty k) c.in-Some.ensures
+
+pub is_found_of-push-requires : goal.is_found_of-push-requires
+is_found_of-push-requires t c = subst (λ (e : Frame). length e.objects < e.room) (sym c.loop-object.invariant.0) (room.room-for-one (frame c.args.env.now) c.args.rest.now c.args.body.now c.requires.room)
+
+pub is_found_of-is_found-found-requires : goal.is_found_of-is_found-found-requires
+is_found_of-is_found-found-requires t c =
+    let same : frame c.push.new.self ≡ pushed (frame c.args.env.now) c.loop-object.object = c.push.ensures ∙ ap (λ (e : Frame). pushed e c.loop-object.object) c.loop-object.invariant.0 in
+    let fits : FitsWithin (frame c.push.new.self) c.args.rest.now c.args.body.now = subst (λ (e : Frame). FitsWithin e c.args.rest.now c.args.body.now) (sym same) (room.fits-one (frame c.args.env.now) c.loop-object.object c.args.rest.now c.args.body.now c.requires.room) in
+    ((let d = c.decreases in omega (arith, d)), (c.requires.listed, (c.requires.few, fits)))
 
 pub is_found_of-loop-object-preserved : goal.is_found_of-loop-object-preserved
 is_found_of-loop-object-preserved t c =
@@ -167,15 +176,15 @@ is_found_of-loop-object-preserved t c =
     ]
 
 pub is_found_of-returns-clause-answer : goal.is_found_of-returns-clause-answer
-is_found_of-returns-clause-answer t c =
+is_found_of-returns-clause-answer t c p k =
     let I = InType c.args.types.now c.args.objects.now in
     let S = atoms c.args.s.now in
     let P : List ℕ → Type 0 = λ v. Is (not c.args.wanted) (IsTrueIn I S c.args.body.now v) in
-    let typed : (o : ℕ) → IsOfKind c.args.kind.now c.args.objects.now o ↔ InType c.args.types.now c.args.objects.now o c.args.param.now.ty =
-    λ o. in_type_by_kind c.args.types.now c.args.objects.now c.args.kind.now o c.args.param.now.ty c.requires.kind in
-    let each : (o : ℕ) (os : List ℕ) → I o c.args.param.now.ty → AreTyped I c.args.rest.now os → P ((c.args.env.now.values.items ++ o ∷ []) ++ os) =
-    λ o os i a. c.loop-object.invariant.1 o os (let l = in_type_within c.args.types.now c.args.objects.now c.args.param.now.ty o i in let e = c.loop-object-test.false in let n = c.len-object-end.ensures.length in omega arith) ((typed o).1 i) a in
-    λ os a. each-typed I P c.args.param.now c.args.rest.now c.args.env.now.values.items each os a
+    let typed : (o : ℕ) → IsOfKind c.args.kind.now c.args.objects.now o ↔ InType c.args.types.now c.args.objects.now o p.ty =
+    λ o. in_type_by_kind c.args.types.now c.args.objects.now c.args.kind.now o p.ty k in
+    let each : (o : ℕ) (os : List ℕ) → I o p.ty → AreTyped I c.args.rest.now os → P ((c.args.env.now.values.items ++ o ∷ []) ++ os) =
+    λ o os i a. c.loop-object.invariant.1 o os (let l = in_type_within c.args.types.now c.args.objects.now p.ty o i in let e = c.loop-object-test.false in let n = c.len-object-end.ensures.length in omega arith) ((typed o).1 i) a in
+    λ os a. each-typed I P p c.args.rest.now c.args.env.now.values.items each os a
 
 pub is_true-has_atom-requires : goal.is_true-has_atom-requires
 is_true-has_atom-requires t c = room.fits-Holds (frame c.args.env.now) c.args.f.now c.in-Holds.atom c.in-Holds.is c.requires.room

@@ -8,8 +8,8 @@ use Rattle.plan_model.proofs.PartsOf.{in_type_within}
 use Rattle.plan_meaning.specs.Truth as truth
 use Rattle.plan_meaning.specs.Truth.{ground}
 use Rattle.ground_state.specs.declared.state.State.{State}
-use Rattle.ground_state.specs.Frames.{Frame, frame}
-use Rattle.ground_state.specs.Room.{effect_fits, EffectFits}
+use Rattle.ground_state.specs.Frames.{Frame, frame, pushed}
+use Rattle.ground_state.specs.Room.{effect_fits, EffectFits, EffectFitsWithin}
 use Rattle.ground_state.specs.Kinds.{IsOfKind}
 use Rattle.ground_state.specs.States.{atoms}
 use Rattle.ground_state.specs.Search.{Touches, OneTouches, TouchesWithin}
@@ -180,12 +180,12 @@ pass_over_within-returns-in_default-clause-passed t c =
     ) c.pass_over.ensures.passed
 
 pub pass_over_of-returns-then-deny_each-clause-passed : goal.pass_over_of-returns-then-deny_each-clause-passed
-pass_over_of-returns-then-deny_each-clause-passed t c s =
-    let first = c.args.param.now in
+pass_over_of-returns-then-deny_each-clause-passed t c q k s =
+    let first = q in
     let rest = c.args.rest.now in
-    let one = only-one (c.args.param.now ∷ c.args.rest.now) first rest refl (eqb-true (length c.args.rest.now) 0 (sym c.is_empty.ensures ∙ c.if-is_empty.true)) in
-    denied-within (InType c.args.types.now c.args.objects.now) (atoms s) c.args.pass c.args.kind.now c.args.objects.now c.args.body.now c.args.env.now.values.items first (c.args.param.now ∷ c.args.rest.now) c.args.self.now c.deny_each.new.self one
-    (λ o. in_type_by_kind c.args.types.now c.args.objects.now c.args.kind.now o c.args.param.now.ty c.requires.kind) c.if-deny_each.ensures
+    let one = only-one (q ∷ c.args.rest.now) first rest refl (eqb-true (length c.args.rest.now) 0 (sym c.is_empty.ensures ∙ c.if-is_empty.true)) in
+    denied-within (InType c.args.types.now c.args.objects.now) (atoms s) c.args.pass c.args.kind.now c.args.objects.now c.args.body.now c.args.env.now.values.items first (q ∷ c.args.rest.now) c.args.self.now c.deny_each.new.self one
+    (λ o. in_type_by_kind c.args.types.now c.args.objects.now c.args.kind.now o q.ty k) c.if-deny_each.ensures
 
 pub pass_over_of-returns-in_err-passed-clause-unchanged : goal.pass_over_of-returns-in_err-passed-clause-unchanged
 pass_over_of-returns-in_err-passed-clause-unchanged t c =
@@ -197,6 +197,15 @@ pass_over_of-returns-in_err-passed-clause-unchanged t c =
 
 pub pass_over_of-returns-in_err-passed-clause-kept : goal.pass_over_of-returns-in_err-passed-clause-kept
 pass_over_of-returns-in_err-passed-clause-kept t c = c.pop.ensures (frame c.loop-object.env) c.loop-object.object (c.pass_over_within-passed.ensures.kept ∙ c.push.ensures) ∙ c.loop-object.invariant.0
+
+pub pass_over_of-push-requires : goal.pass_over_of-push-requires
+pass_over_of-push-requires t c = subst (λ (e : Frame). length e.objects < e.room) (sym c.loop-object.invariant.0) (room.room-for-one-effect (frame c.args.env.now) c.args.rest.now c.args.body.now c.requires.room)
+
+pub pass_over_of-pass_over_within-passed-requires : goal.pass_over_of-pass_over_within-passed-requires
+pass_over_of-pass_over_within-passed-requires t c =
+    let same : frame c.push.new.self ≡ pushed (frame c.args.env.now) c.loop-object.object = c.push.ensures ∙ ap (λ (e : Frame). pushed e c.loop-object.object) c.loop-object.invariant.0 in
+    let fits : EffectFitsWithin (frame c.push.new.self) c.args.rest.now c.args.body.now = subst (λ (e : Frame). EffectFitsWithin e c.args.rest.now c.args.body.now) (sym same) (room.effect-fits-one (frame c.args.env.now) c.loop-object.object c.args.rest.now c.args.body.now c.requires.room) in
+    ((let d = c.decreases in omega (arith, d)), (c.requires.listed, (c.requires.few, (fits, subst (λ (e : Frame). IsPlain e c.args.body.now) (sym same) c.requires.plain))))
 
 pub pass_over_of-loop-object-preserved : goal.pass_over_of-loop-object-preserved
 pass_over_of-loop-object-preserved t c =
@@ -225,16 +234,16 @@ pass_over_of-loop-object-preserved t c =
     ]
 
 pub pass_over_of-returns-clause-passed : goal.pass_over_of-returns-clause-passed
-pass_over_of-returns-clause-passed t c s =
+pass_over_of-returns-clause-passed t c q k s =
     let I = InType c.args.types.now c.args.objects.now in
     let v = c.args.env.now.values.items in
     let p = c.args.pass in
-    let first = c.args.param.now in
-    let below : (o : ℕ) → I o c.args.param.now.ty → o < c.loop-object.object =
-    λ o i. (let l = in_type_within c.args.types.now c.args.objects.now c.args.param.now.ty o i in let e = c.loop-object-test.false in let n = c.len-object-end.ensures.length in omega arith) in
-    let typed : (o : ℕ) → IsOfKind c.args.kind.now c.args.objects.now o ↔ InType c.args.types.now c.args.objects.now o c.args.param.now.ty =
-    λ o. in_type_by_kind c.args.types.now c.args.objects.now c.args.kind.now o c.args.param.now.ty c.requires.kind in
-    let all = cases.within-all I (atoms s) v (of_adds p) first c.args.rest.now (c.args.param.now ∷ c.args.rest.now) c.args.body.now c.loop-object.object refl below in
+    let first = q in
+    let below : (o : ℕ) → I o q.ty → o < c.loop-object.object =
+    λ o i. (let l = in_type_within c.args.types.now c.args.objects.now q.ty o i in let e = c.loop-object-test.false in let n = c.len-object-end.ensures.length in omega arith) in
+    let typed : (o : ℕ) → IsOfKind c.args.kind.now c.args.objects.now o ↔ InType c.args.types.now c.args.objects.now o q.ty =
+    λ o. in_type_by_kind c.args.types.now c.args.objects.now c.args.kind.now o q.ty k in
+    let all = cases.within-all I (atoms s) v (of_adds p) first c.args.rest.now (q ∷ c.args.rest.now) c.args.body.now c.loop-object.object refl below in
     laws.passes-same p (λ g. (o : ℕ) × (o < c.loop-object.object) × (IsOfKind c.args.kind.now c.args.objects.now o × TouchesWithin I (atoms s) (of_adds p) c.args.rest.now c.args.body.now (v ++ o ∷ []) g))
-    (TouchesWithin I (atoms s) (of_adds p) (c.args.param.now ∷ c.args.rest.now) c.args.body.now v) c.args.self.now c.loop-object.self
+    (TouchesWithin I (atoms s) (of_adds p) (q ∷ c.args.rest.now) c.args.body.now v) c.args.self.now c.loop-object.self
     (λ g. (λ t. (all g).0 (t.0, t.1, ((typed t.0).0 t.2.0, t.2.1)), λ t. (let u = (all g).1 t in (u.0, u.1, ((typed u.0).1 u.2.0, u.2.1))))) (c.loop-object.invariant.1 s)
