@@ -8,10 +8,12 @@ use Rattle.std.proofs.lemmas.List.{get_or_append_left, length-append}
 use Rattle.plan_model.specs.declared.types.Types.{Types}
 use Rattle.plan_model.specs.declared.types.Object.{Object}
 use Rattle.plan_model.specs.declared.types.Parent.{Parent}
-use Rattle.plan_model.specs.Typing.{Leads, stay, climb, InType}
+use Rattle.plan_model.specs.declared.parts.Parts.{Parts}
+use Rattle.plan_model.specs.Parts.{has}
+use Rattle.plan_model.specs.Typing.{Leads, stay, climb, IsPart, InType}
 use Rattle.ground_state.specs.declared.kinds.Kind.{Kind}
 use Rattle.ground_state.specs.declared.kinds.Kind.TheVariants as kind
-use Rattle.ground_state.specs.Kinds.{IsKindOf, IsAlone, AreInOrder, IsOfKind}
+use Rattle.ground_state.specs.Kinds.{IsKindOf, IsAlone, ArePartsOf, AreInOrder, IsOfKind}
 
 -- an item of a list with one more is an old one, or the new one
 pub push_cases : {X : Type 0} (xs : List X) (y x : X) (k : ℕ) → slice_get (xs ++ y ∷ []) k ≡ Some x → ((k < length xs) × (slice_get xs k ≡ Some x)) ⊎ ((k ≡ length xs) × (y ≡ x))
@@ -25,14 +27,25 @@ push_cases xs y x k e =
     ]
 
 -- with that of one more type
-pub kinds_more : (types : Types) (list : List Kind) (n : ℕ) (d : Kind) → length list ≡ n → IsKindOf types n d → AreInOrder types list → AreInOrder types (list ++ d ∷ [])
-kinds_more types list n d l p h k kind e = elim (push_cases list d kind k e) [
-  | inl m ↦ h k kind m.1
-  | inr m ↦ (let at : n ≡ k = omega (arith, l, m.0) in subst (IsKindOf types k) m.1 (subst (λ j. IsKindOf types j d) at p))
+pub kinds_more : (types : Types) (list : List Parts) (n : ℕ) (d : Parts) → length list ≡ n → ArePartsOf types n d → AreInOrder types list → AreInOrder types (list ++ d ∷ [])
+kinds_more types list n d l p h k parts e = elim (push_cases list d parts k e) [
+  | inl m ↦ h k parts m.1
+  | inr m ↦ (let at : n ≡ k = omega (arith, l, m.0) in subst (ArePartsOf types k) m.1 (subst (λ j. ArePartsOf types j d) at p))
 ]
 
 pub in_type_by_kind : (types : Types) (objects : List Object) (k : Kind) (x ty : ℕ) → IsKindOf types ty k → IsOfKind k objects x ↔ InType types objects x ty
 in_type_by_kind types objects k x ty p = (λ t. (t.0, t.1, (p t.0.ty).0 t.2), λ t. (t.0, t.1, (p t.0.ty).1 t.2))
+
+-- an object is in a type where its declared type is one of the parts
+pub in_type_at : (types : Types) (objects : List Object) (parts : Parts) (x ty : ℕ) (object : Object) → ArePartsOf types ty parts → slice_get objects x ≡ Some object → IsTrue (has parts object.ty) ↔ InType types objects x ty
+in_type_at types objects parts x ty object p at = (λ t. (object, at, (p object.ty).0 t), λ i. (p object.ty).1 (subst (λ (o : Object). IsPart types o.ty ty) (same (sym i.1 ∙ at)) i.2))
+  where
+    same : {a b : Object} → Some a ≡ Some b → a ≡ b
+    same e = cc
+
+-- as where it is the type itself
+pub is_part : (types : Types) (parts : Parts) (i ty : ℕ) → ArePartsOf types ty parts → i ≡ ty → IsTrue (has parts i)
+is_part types parts i ty p e = (p i).1 (inl (inr (subst (Leads types.parents i) e stay)))
 
 no_pair : (pairs : List Parent) (ty : ℕ) (pair : Parent) → All (λ (pair : Parent). IsTrue (not (pair.parent == ty))) pairs → Contains pairs pair → pair.parent ≡ ty → ⊥
 no_pair pairs ty pair h c e = by (All-contains (λ (pair : Parent). IsTrue (not (pair.parent == ty))) pairs pair h c) (eq-eqb pair.parent ty e)

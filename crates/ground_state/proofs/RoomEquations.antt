@@ -1,5 +1,6 @@
 -- The room for a formula goes down the formula, and that for an effect down the effect.
-use Rattle.std.proofs.Common.{ℕ, zero, suc, ◌≡◌, ◌<◌, ◌≤◌, List, [], ◌∷◌, length, map, get_or, refl, ap, sym, subst, ◌∙◌, arith}
+use Rattle.std.proofs.Common.{ℕ, zero, suc, ◌+◌, ◌≡◌, ◌<◌, ◌≤◌, ◌++◌, List, [], ◌∷◌, length, map, get_or, refl, ap, sym, subst, ◌∙◌, arith}
+use Rattle.std.proofs.lemmas.List.{length-append}
 use Rattle.plan_model.specs.declared.terms.Term.{Term}
 use Rattle.plan_model.specs.declared.terms.Atom.{Atom}
 use Rattle.plan_model.specs.declared.terms.Param.{Param}
@@ -11,8 +12,8 @@ use Rattle.plan_model.specs.declared.effects.Effect.{Effect, roll-Effect}
 use Rattle.plan_model.specs.declared.effects.Effect.TheFolds.{rec-roll-Effect, map-Effect}
 use Rattle.plan_model.specs.declared.effects.Effect.TheOpen.{Effect-F}
 use Rattle.plan_model.specs.declared.effects.Effect.TheVariants as E
-use Rattle.ground_state.specs.Frames.{Frame}
-use Rattle.ground_state.specs.Room.{EachFits, fits_step, fits, Fits, AllFit, FitsWithin, effect_fits_step, effect_fits, EffectFits, AllEffectsFit, EffectFitsWithin}
+use Rattle.ground_state.specs.Frames.{Frame, pushed}
+use Rattle.ground_state.specs.Room.{EachFits, fits_step, fits, Fits, AllFit, FitsWithin, FitsWithOne, effect_fits_step, effect_fits, EffectFits, AllEffectsFit, EffectFitsWithin, EffectFitsWithOne}
 
 pub each-map : (X Y : Type 0) (v : X → Y) (k : Y → ℕ → Type 0) (xs : List X) (n : ℕ) → EachFits (λ x. k (v x)) xs n ≡ EachFits k (map v xs) n
 each-map X Y v k [] n = refl
@@ -98,3 +99,23 @@ fits-Equal env s t = subst (λ (P : ℕ → Type 0). P (length env.objects)) (sy
 
 pub fits-Delete : (env : Frame) (a : Atom) → EffectFits env (E.Delete a)
 fits-Delete env a = subst (λ (P : ℕ → Type 0). P (length env.objects)) (sym (ap (effect_fits env.room env.arity) (sym (E.rolls-Delete a)) ∙ effect-roll env.room env.arity (Effect-F.Delete a))) tt
+
+-- some variable
+abbrev one : Param
+one = record { name = record { number = 0 }; ty = 0 }
+
+one-more : (objects : List ℕ) (o : ℕ) (ps : List Param) → length objects + length (one ∷ ps) ≡ length (objects ++ o ∷ []) + length ps
+one-more objects o ps = let l = length-append objects (o ∷ []) in omega (arith, l)
+
+-- where there is room for one more variable, it can be put in force, and there is room for the others
+pub room-for-one : (env : Frame) (ps : List Param) (f : Formula) → FitsWithOne env ps f → length env.objects < env.room
+room-for-one env ps f h = let l = (h one).0 in omega (arith, l)
+
+pub fits-one : (env : Frame) (o : ℕ) (ps : List Param) (f : Formula) → FitsWithOne env ps f → FitsWithin (pushed env o) ps f
+fits-one env o ps f h = subst (λ n. (n ≤ env.room) × fits env.room env.arity f n) (one-more env.objects o ps) (h one)
+
+pub room-for-one-effect : (env : Frame) (ps : List Param) (e : Effect) → EffectFitsWithOne env ps e → length env.objects < env.room
+room-for-one-effect env ps e h = let l = (h one).0 in omega (arith, l)
+
+pub effect-fits-one : (env : Frame) (o : ℕ) (ps : List Param) (e : Effect) → EffectFitsWithOne env ps e → EffectFitsWithin (pushed env o) ps e
+effect-fits-one env o ps e h = subst (λ n. (n ≤ env.room) × effect_fits env.room env.arity e n) (one-more env.objects o ps) (h one)

@@ -1,8 +1,8 @@
-ghost use Rattle.std.specs.Prelude.{◌≡◌, ◌<◌, ◌^◌, length, OnOk};
+ghost use Rattle.std.specs.Prelude.{◌≡◌, ◌∷◌, OnOk};
 ghost use Rattle.ground_state.specs.Frames.{frame};
-ghost use Rattle.ground_state.specs.Room.{EffectFits, AllEffectsFit, EffectFitsWithin};
+ghost use Rattle.ground_state.specs.Room.{EffectFits, AllEffectsFit, EffectFitsWithin, EffectFitsWithOne};
 ghost use Rattle.ground_state.specs.Search.{IsWorld};
-ghost use Rattle.ground_state.specs.Clauses.{Gets, GetsEach, GetsWithin};
+ghost use Rattle.ground_state.specs.Clauses.{Gets, GetsEach, GetsWithin, GetsOf};
 
 use crate::atom_list::AtomLists;
 use crate::env::Env;
@@ -10,7 +10,7 @@ use crate::kinds::Kind;
 use crate::state::State;
 use crate::truth::is_true;
 use htn_base::{List, Memory};
-use plan_model::{Effect, Object, Param, Types};
+use plan_model::{Effect, Object, Param, Parts, Types};
 use std::alloc::Global;
 
 /// What an effect is read in: the state before it, the types and the objects.
@@ -91,37 +91,61 @@ fn gather_within(
     let Some((param, rest)) = params.split_first() else {
         return gather(alloc, body, env, world, into);
     };
-    let kind = Kind::new(world.types, param.ty);
-    for object in 0..world.objects.len() as u32 {
-        if kind.has(world.objects, object) {
-            env.push(object);
-            let gathered = gather_rest(alloc, rest, body, env, world, into);
-            env.pop();
-            gathered?;
-        }
+    match Kind::alone(world.types, param.ty) {
+        Some(kind) => gather_of(alloc, &kind, rest, body, env, world, into),
+        None => gather_in_parts(alloc, param, rest, body, env, world, into),
     }
-    Ok(())
 }
 
-/// The same. Where no types are left, without a further call.
+/// The same, where other types may be parts of the first one. It keeps the room for their marks out of the way of the rest.
 #[cycle(gather)]
-#[inline(always)]
-fn gather_rest(
+#[cold]
+#[inline(never)]
+fn gather_in_parts(
     alloc: Global,
-    params: &[Param],
+    param: &Param,
+    rest: &[Param],
     body: &Effect,
     env: &mut Env,
     world: &World<'_>,
     into: &mut AtomLists,
 ) -> Result<(), Memory>
     requires world { IsWorld world.now }
-    requires room { EffectFitsWithin (frame env.old) params.now body.now }
+    requires room { EffectFitsWithin (frame env.old) (param.now ∷ rest.now) body.now }
     ensures gathered { OnOk result
-        (GetsWithin world.now params.now body.now env.old into.old into.new) }
+        (GetsWithin world.now (param.now ∷ rest.now) body.now env.old into.old into.new) }
     ensures kept { frame env.new ≡ frame env.old }
 {
-    if params.is_empty() {
-        return gather(alloc, body, env, world, into);
+    let parts = Parts::new(world.types, param.ty);
+    let kind = Kind::Parts(&parts);
+    gather_of(alloc, &kind, rest, body, env, world, into)
+}
+
+/// The same, with one more variable before the rest, which stands for the objects of the kind.
+#[cycle(gather)]
+#[inline(always)]
+fn gather_of(
+    alloc: Global,
+    kind: &Kind<'_>,
+    rest: &[Param],
+    body: &Effect,
+    env: &mut Env,
+    world: &World<'_>,
+    into: &mut AtomLists,
+) -> Result<(), Memory>
+    requires world { IsWorld world.now }
+    requires room { EffectFitsWithOne (frame env.old) rest.now body.now }
+    ensures gathered { OnOk result
+        (GetsOf world.now kind.now rest.now body.now env.old into.old into.new) }
+    ensures kept { frame env.new ≡ frame env.old }
+{
+    for object in 0..world.objects.len() as u32 {
+        if kind.has(world.objects, object) {
+            env.push(object);
+            let gathered = gather_within(alloc, rest, body, env, world, into);
+            env.pop();
+            gathered?;
+        }
     }
-    gather_within(alloc, params, body, env, world, into)
+    Ok(())
 }

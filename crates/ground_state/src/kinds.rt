@@ -1,4 +1,4 @@
-ghost use Rattle.std.specs.Prelude.{◌↔◌, IsTrue, IfOk};
+ghost use Rattle.std.specs.Prelude.{◌↔◌, IsTrue, IfSome, IfOk};
 ghost use Rattle.std.specs.Bool.{OnTrue};
 ghost use Rattle.plan_model.specs.Typing.{InType};
 ghost use Rattle.plan_model.specs.Parts.{AreListed};
@@ -8,27 +8,27 @@ use htn_base::{List, Memory};
 use plan_model::{Object, Parts, Types, in_type};
 use std::alloc::Global;
 
-/// The kinds of this many types are kept. All named types are among them.
+/// The parts of this many types are kept. All named types are among them.
 const MOST_KINDS: usize = 4096;
 
-/// The kinds of the types, each found once.
+/// The parts of the types, of each type found once.
 #[derive(Drop)]
 pub struct Kinds {
-    kinds: Vec<Kind>,
+    parts: Vec<Parts>,
 }
 
 impl Kinds {
-    /// Finds the kind of each of the types.
+    /// Finds the parts of each of the types.
     pub(crate) fn new(alloc: Global, types: &Types) -> Result<Kinds, Memory>
         requires listed { AreListed types.now }
         ensures kinds { IfOk result (spec.AreKinds types.now) }
     {
         let count = types.names.len().saturating_add(types.unions.len());
-        let mut kinds = Vec::new(alloc);
+        let mut parts = Vec::new(alloc);
         for ty in 0..count.min(MOST_KINDS) {
-            kinds.push(Kind::new(types, ty as u32))?;
+            parts.push(Parts::new(types, ty as u32))?;
         }
-        Ok(Kinds { kinds })
+        Ok(Kinds { parts })
     }
 
     /// Whether the object of this number is in the type.
@@ -38,40 +38,32 @@ impl Kinds {
         requires kinds { spec.AreKinds types.now self.now }
         ensures { IsTrue result ↔ InType types.now objects.now object ty }
     {
-        match self.kinds.get(ty as usize) {
-            Some(kind) => kind.has(objects, object),
+        match self.parts.get(ty as usize) {
+            Some(parts) => match objects.get(object as usize) {
+                Some(declared) => declared.ty == ty || parts.have(declared.ty),
+                None => false,
+            },
             None => in_type(types, objects, object, ty),
         }
     }
 }
 
 /// Which declared types the objects of one type have: that one alone, where no other is a part of it, or each of its parts.
-#[derive(Drop)]
-pub enum Kind {
+#[derive(Clone, Copy)]
+pub enum Kind<'a> {
     Alone(u32),
-    Parts(Parts),
+    Parts(&'a Parts),
 }
 
-impl Kind {
-    /// The kind of the type of this number. It takes no memory.
-    pub(crate) fn new(types: &Types, ty: u32) -> Kind
-        requires listed { AreListed types.now }
-        ensures { spec.IsKindOf types.now ty result }
+impl<'a> Kind<'a> {
+    /// The kind of the type of this number, where no other type is a part of it.
+    pub(crate) fn alone(types: &Types, ty: u32) -> Option<Kind<'a>>
+        ensures { IfSome result (spec.IsKindOf types.now ty) }
     {
         if is_alone(types, ty) {
-            return Kind::Alone(ty);
+            return Some(Kind::Alone(ty));
         }
-        Kind::of_parts(types, ty)
-    }
-
-    /// The same, of a type of which others may be parts. It keeps the room for their marks out of the way of the rest.
-    #[cold]
-    #[inline(never)]
-    fn of_parts(types: &Types, ty: u32) -> Kind
-        requires listed { AreListed types.now }
-        ensures { spec.IsKindOf types.now ty result }
-    {
-        Kind::Parts(Parts::new(types, ty))
+        None
     }
 
     /// Whether the object of this number is of the kind.

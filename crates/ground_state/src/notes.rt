@@ -90,7 +90,7 @@ impl Notes {
     pub(crate) fn finds(
         &self,
         wanted: bool,
-        kind: &Kind,
+        kind: &Kind<'_>,
         objects: &List<Object>,
         env: &Env,
         terms: &[Term],
@@ -117,7 +117,7 @@ impl Notes {
     /// nothing is done, and the answer is no.
     pub(crate) fn deny_each(
         &mut self,
-        kind: &Kind,
+        kind: &Kind<'_>,
         objects: &List<Object>,
         env: &Env,
         terms: &[Term],

@@ -1,18 +1,18 @@
-ghost use Rattle.std.specs.Prelude.{◌≡◌, ◌≤◌, ◌<◌, ◌^◌, length, MatchBool, OnOk, OnErr};
+ghost use Rattle.std.specs.Prelude.{◌≡◌, ◌≤◌, ◌<◌, ◌^◌, ◌∷◌, length, MatchBool, OnOk, OnErr};
 ghost use Rattle.std.specs.Bool.{OnTrue};
 ghost use Rattle.plan_model.specs.Parts.{AreListed};
 ghost use Rattle.plan_meaning.specs.Truth.{ground};
 ghost use Rattle.ground_state.specs.Frames.{frame};
-ghost use Rattle.ground_state.specs.Room.{EffectFits, AllEffectsFit, EffectFitsWithin};
+ghost use Rattle.ground_state.specs.Room.{EffectFits, AllEffectsFit, EffectFitsWithin, EffectFitsWithOne};
 ghost use Rattle.ground_state.specs.States.{HasSameNotes};
 ghost use Rattle.ground_state.specs.Passes as spec;
-ghost use Rattle.ground_state.specs.Clauses.{HasPassed, HasPassedEach, HasPassedWithin};
+ghost use Rattle.ground_state.specs.Clauses.{HasPassed, HasPassedEach, HasPassedWithin, HasPassedOf};
 
 use crate::env::Env;
 use crate::kinds::Kind;
 use crate::state::State;
 use htn_base::{List, Memory};
-use plan_model::{Atom, Effect, Object, Param, Types};
+use plan_model::{Atom, Effect, Object, Param, Parts, Types};
 use std::alloc::Global;
 
 /// A pass over an effect without conditions, of which no list is made: what it adds is noted as false where nothing is
@@ -139,8 +139,66 @@ impl State {
         let Some((param, rest)) = params.split_first() else {
             return self.pass_over(pass, alloc, body, env, types, objects);
         };
-        let kind = Kind::new(types, param.ty);
-        if rest.is_empty() && self.deny_each(pass, &kind, objects, env, body) {
+        match Kind::alone(types, param.ty) {
+            Some(kind) => self.pass_over_of(pass, &kind, alloc, rest, body, env, types, objects),
+            None => self.pass_over_in_parts(pass, alloc, param, rest, body, env, types, objects),
+        }
+    }
+
+    /// The same, where other types may be parts of the first one. It keeps the room for their marks out of the way of the
+    /// rest.
+    #[cycle(pass_over)]
+    #[cold]
+    #[inline(never)]
+    fn pass_over_in_parts(
+        &mut self,
+        pass: Pass,
+        alloc: Global,
+        param: &Param,
+        rest: &[Param],
+        body: &Effect,
+        env: &mut Env,
+        types: &Types,
+        objects: &List<Object>,
+    ) -> Result<(), Memory>
+        requires listed { AreListed types.now }
+        requires few { length objects.now < 2 ^ 32 }
+        requires room { EffectFitsWithin (frame env.old) (param.now ∷ rest.now) body.now }
+        requires plain { spec.IsPlain (frame env.old) body.now }
+        ensures passed { OnOk result
+            (HasPassedWithin types.now objects.now pass (param.now ∷ rest.now) body.now env.old self.old self.new) }
+        ensures unchanged { OnErr result (spec.HasOnlyEntered pass self.old self.new) }
+        ensures kept { frame env.new ≡ frame env.old }
+    {
+        let parts = Parts::new(types, param.ty);
+        let kind = Kind::Parts(&parts);
+        self.pass_over_of(pass, &kind, alloc, rest, body, env, types, objects)
+    }
+
+    /// The same, with one more variable before the rest, which stands for the objects of the kind.
+    #[cycle(pass_over)]
+    #[inline(always)]
+    fn pass_over_of(
+        &mut self,
+        pass: Pass,
+        kind: &Kind<'_>,
+        alloc: Global,
+        rest: &[Param],
+        body: &Effect,
+        env: &mut Env,
+        types: &Types,
+        objects: &List<Object>,
+    ) -> Result<(), Memory>
+        requires listed { AreListed types.now }
+        requires few { length objects.now < 2 ^ 32 }
+        requires room { EffectFitsWithOne (frame env.old) rest.now body.now }
+        requires plain { spec.IsPlain (frame env.old) body.now }
+        ensures passed { OnOk result
+            (HasPassedOf types.now objects.now pass kind.now rest.now body.now env.old self.old self.new) }
+        ensures unchanged { OnErr result (spec.HasOnlyEntered pass self.old self.new) }
+        ensures kept { frame env.new ≡ frame env.old }
+    {
+        if rest.is_empty() && self.deny_each(pass, kind, objects, env, body) {
             return Ok(());
         }
         for object in 0..objects.len() as u32 {
@@ -160,7 +218,7 @@ impl State {
     fn deny_each(
         &mut self,
         pass: Pass,
-        kind: &Kind,
+        kind: &Kind<'_>,
         objects: &List<Object>,
         env: &Env,
         eff: &Effect,

@@ -76,7 +76,7 @@ impl State {
     pub(crate) fn finds(
         &self,
         wanted: bool,
-        kind: &Kind,
+        kind: &Kind<'_>,
         objects: &List<Object>,
         env: &Env,
         atom: &Atom,

@@ -1,15 +1,15 @@
-ghost use Rattle.std.specs.Prelude.{◌≡◌, ◌<◌, ◌^◌, ◌↔◌, IsTrue, IfSome, length};
+ghost use Rattle.std.specs.Prelude.{◌≡◌, ◌<◌, ◌^◌, ◌∷◌, ◌↔◌, IsTrue, IfSome, length};
 ghost use Rattle.plan_model.specs.Parts.{AreListed};
 ghost use Rattle.ground_state.specs.Frames.{frame};
-ghost use Rattle.ground_state.specs.Room.{Fits, AllFit, FitsWithin};
+ghost use Rattle.ground_state.specs.Room.{Fits, AllFit, FitsWithin, FitsWithOne};
 ghost use Rattle.ground_state.specs.Search.{IsLiteralFound};
-ghost use Rattle.ground_state.specs.Clauses.{IsTrueBy, IsAmong, Finds};
+ghost use Rattle.ground_state.specs.Clauses.{IsTrueBy, IsAmong, Finds, FindsOf};
 
 use crate::env::Env;
 use crate::kinds::Kind;
 use crate::state::State;
 use htn_base::List;
-use plan_model::{Atom, Formula, Object, Param, Types};
+use plan_model::{Formula, Object, Param, Parts, Types};
 
 /// Whether the formula is true in the state, where the environment has the objects of the variables in force. It takes
 /// no memory and leaves the environment as it was. A conjunction stops at its first false part.
@@ -113,9 +113,58 @@ fn is_found(
     let Some((param, rest)) = params.split_first() else {
         return is_true(body, env, s, types, objects) == wanted;
     };
-    let kind = Kind::new(types, param.ty);
+    match Kind::alone(types, param.ty) {
+        Some(kind) => is_found_of(wanted, &kind, rest, body, env, s, types, objects),
+        None => is_found_in_parts(wanted, param, rest, body, env, s, types, objects),
+    }
+}
+
+/// The same, where other types may be parts of the first one. It keeps the room for their marks out of the way of the rest.
+#[cycle(holds)]
+#[cold]
+#[inline(never)]
+fn is_found_in_parts(
+    wanted: bool,
+    param: &Param,
+    rest: &[Param],
+    body: &Formula,
+    env: &mut Env,
+    s: &State,
+    types: &Types,
+    objects: &List<Object>,
+) -> bool
+    requires listed { AreListed types.now }
+    requires few { length objects.now < 2 ^ 32 }
+    requires room { FitsWithin (frame env.old) (param.now ∷ rest.now) body.now }
+    ensures answer { Finds types.now objects.now s.now wanted result (param.now ∷ rest.now) body.now env.old }
+    ensures kept { frame env.new ≡ frame env.old }
+{
+    let parts = Parts::new(types, param.ty);
+    let kind = Kind::Parts(&parts);
+    is_found_of(wanted, &kind, rest, body, env, s, types, objects)
+}
+
+/// The same, with one more variable before the rest, which stands for the objects of the kind.
+#[cycle(holds)]
+#[inline(always)]
+fn is_found_of(
+    wanted: bool,
+    kind: &Kind<'_>,
+    rest: &[Param],
+    body: &Formula,
+    env: &mut Env,
+    s: &State,
+    types: &Types,
+    objects: &List<Object>,
+) -> bool
+    requires listed { AreListed types.now }
+    requires few { length objects.now < 2 ^ 32 }
+    requires room { FitsWithOne (frame env.old) rest.now body.now }
+    ensures answer { FindsOf types.now objects.now s.now wanted result kind.now rest.now body.now env.old }
+    ensures kept { frame env.new ≡ frame env.old }
+{
     if rest.is_empty() {
-        if let Some(found) = is_literal_found(wanted, &kind, body, env, s, objects) {
+        if let Some(found) = is_literal_found(wanted, kind, body, env, s, objects) {
             return found;
         }
     }
@@ -137,7 +186,7 @@ fn is_found(
 #[inline(always)]
 fn is_literal_found(
     wanted: bool,
-    kind: &Kind,
+    kind: &Kind<'_>,
     body: &Formula,
     env: &Env,
     s: &State,

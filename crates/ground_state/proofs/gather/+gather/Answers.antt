@@ -1,5 +1,4 @@
-use Rattle.std.proofs.Common.{◌↔◌, ℕ, ◌≡◌, ◌+◌, ◌<◌, ◌++◌, [], ◌∷◌, Bool, length, take, refl, sym, subst, ap, ◌∙◌, true≢false, arith}
-use Rattle.std.proofs.lemmas.Bool.{eqb-true}
+use Rattle.std.proofs.Common.{◌↔◌, ℕ, ◌≡◌, ◌+◌, ◌<◌, ◌++◌, [], ◌∷◌, Bool, length, take, refl, OnOk, sym, subst, ap, ◌∙◌, true≢false, arith}
 use Rattle.std.proofs.lemmas.List.{take_all}
 use Rattle.std.proofs.lemmas.Result.{on_ok_weaker}
 use Rattle.plan_model.specs.declared.terms.GroundAtom.{GroundAtom}
@@ -7,17 +6,18 @@ use Rattle.plan_model.specs.Typing.{InType}
 use Rattle.plan_model.proofs.PartsOf.{in_type_within}
 use Rattle.ground_state.proofs.KindLaws.{in_type_by_kind}
 use Rattle.plan_meaning.specs.Truth.{State}
-use Rattle.ground_state.specs.Frames.{Frame, frame}
-use Rattle.ground_state.specs.Room.{effect_fits, EffectFits}
+use Rattle.ground_state.specs.Frames.{Frame, frame, pushed}
+use Rattle.ground_state.specs.Room.{effect_fits, EffectFits, EffectFitsWithin}
 use Rattle.ground_state.specs.Kinds.{IsOfKind}
 use Rattle.ground_state.specs.States.{atoms}
 use Rattle.ground_state.specs.declared.atom_list.AtomLists.{AtomLists}
+use Rattle.ground_state.specs.Clauses.{GetsWithin}
 use Rattle.ground_state.specs.Search.{Gathers, Touches, OneTouches, TouchesWithin, side}
 use Rattle.ground_state.proofs.EffectSizes as sizes
 use Rattle.ground_state.proofs.RoomEquations as room
 use Rattle.ground_state.proofs.GatherCases as cases
 use Rattle.ground_state.proofs.gather.+gather.Goals as goal
-use Rattle.ground_state.proofs.gather.+gather.Goals.{gather_within-then-has+in_ok-gathered, gather_within-else-has}
+use Rattle.ground_state.proofs.gather.+gather.Goals.{gather_of-then-has+in_ok-gathered, gather_of-else-has}
 
 pub gather-returns-in-Add-clause-gathered : goal.gather-returns-in-Add-clause-gathered
 gather-returns-in-Add-clause-gathered t c =
@@ -140,56 +140,63 @@ gather_within-returns-in_default-clause-gathered t c =
     (cases.within-none I S v adds c.args.params.now c.args.body.now c.in_default.ensures.cases) (h adds)
     ) c.gather.ensures.gathered
 
-pub gather_rest-returns-then-is_empty-clause-gathered : goal.gather_rest-returns-then-is_empty-clause-gathered
-gather_rest-returns-then-is_empty-clause-gathered t c =
-    let I = InType c.args.world.now.types.now c.args.world.now.objects.now in
-    let S = atoms c.args.world.now.state.now in
-    let v = c.args.env.now.values.items in
-    let empty : length c.args.params.now ≡ 0 = eqb-true (length c.args.params.now) 0 (sym c.is_empty.ensures ∙ c.if-is_empty.true) in
-    on_ok_weaker c.gather.result (λ h adds.
-    cases.gathers-same (Touches I S adds c.args.body.now v) (TouchesWithin I S adds c.args.params.now c.args.body.now v) (side adds c.args.into.now) (side adds c.gather.new.into)
-    (cases.within-none I S v adds c.args.params.now c.args.body.now empty) (h adds)
-    ) c.gather.ensures.gathered
+pub gather_within-returns-in-Some-alone-clause-gathered : goal.gather_within-returns-in-Some-alone-clause-gathered
+gather_within-returns-in-Some-alone-clause-gathered t c = subst (λ ps. OnOk c.gather_of.result (GetsWithin c.args.world.now ps c.args.body.now c.args.env.now c.args.into.now c.gather_of.new.into)) (sym c.in-Some.ensures.cases.0) (on_ok_weaker c.gather_of.result (λ h. h c.in-Some.param.now c.in-Some-alone.ensures) c.gather_of.ensures.gathered)
 
-pub gather_within-returns-in_err-gathered-clause-kept : goal.gather_within-returns-in_err-gathered-clause-kept
-gather_within-returns-in_err-gathered-clause-kept t c = c.pop.ensures (frame c.loop-object.env) c.loop-object.object (c.gather_rest-gathered.ensures.kept ∙ c.push.ensures) ∙ c.loop-object.invariant.0
+pub gather_within-returns-in-None-clause-gathered : goal.gather_within-returns-in-None-clause-gathered
+gather_within-returns-in-None-clause-gathered t c = subst (λ ps. OnOk c.gather_in_parts.result (GetsWithin c.args.world.now ps c.args.body.now c.args.env.now c.args.into.now c.gather_in_parts.new.into)) (sym c.in-Some.ensures.cases.0) c.gather_in_parts.ensures.gathered
 
-pub gather_within-loop-object-preserved : goal.gather_within-loop-object-preserved
-gather_within-loop-object-preserved t c =
+pub gather_in_parts-returns-clause-gathered : goal.gather_in_parts-returns-clause-gathered
+gather_in_parts-returns-clause-gathered t c = on_ok_weaker c.gather_of.result (λ h. h c.args.param.now c.new-parts.ensures) c.gather_of.ensures.gathered
+
+pub gather_of-returns-in_err-gathered-clause-kept : goal.gather_of-returns-in_err-gathered-clause-kept
+gather_of-returns-in_err-gathered-clause-kept t c = c.pop.ensures (frame c.loop-object.env) c.loop-object.object (c.gather_within-gathered.ensures.kept ∙ c.push.ensures) ∙ c.loop-object.invariant.0
+
+pub gather_of-push-requires : goal.gather_of-push-requires
+gather_of-push-requires t c = subst (λ (e : Frame). length e.objects < e.room) (sym c.loop-object.invariant.0) (room.room-for-one-effect (frame c.args.env.now) c.args.rest.now c.args.body.now c.requires.room)
+
+pub gather_of-gather_within-gathered-requires : goal.gather_of-gather_within-gathered-requires
+gather_of-gather_within-gathered-requires t c =
+    let same : frame c.push.new.self ≡ pushed (frame c.args.env.now) c.loop-object.object = c.push.ensures ∙ ap (λ (e : Frame). pushed e c.loop-object.object) c.loop-object.invariant.0 in
+    let fits : EffectFitsWithin (frame c.push.new.self) c.args.rest.now c.args.body.now = subst (λ (e : Frame). EffectFitsWithin e c.args.rest.now c.args.body.now) (sym same) (room.effect-fits-one (frame c.args.env.now) c.loop-object.object c.args.rest.now c.args.body.now c.requires.room) in
+    ((let d = c.decreases in omega (arith, d)), (c.requires.world, fits))
+
+pub gather_of-loop-object-preserved : goal.gather_of-loop-object-preserved
+gather_of-loop-object-preserved t c =
     let I = InType c.args.world.now.types.now c.args.world.now.objects.now in
     let S = atoms c.args.world.now.state.now in
     let v = c.args.env.now.values.items in
     let i = c.loop-object.object in
-    let R : Bool → GroundAtom → ℕ → Type 0 = λ adds g o. IsOfKind c.new-kind.result c.args.world.now.objects.now o × TouchesWithin I S adds c.in-Some.rest.now c.args.body.now (v ++ o ∷ []) g in
+    let R : Bool → GroundAtom → ℕ → Type 0 = λ adds g o. IsOfKind c.args.kind.now c.args.world.now.objects.now o × TouchesWithin I S adds c.args.rest.now c.args.body.now (v ++ o ∷ []) g in
     let P : Bool → State = λ adds g. (o : ℕ) × (o < c.loop-object.object) × R adds g o in
     let N : Bool → State = λ adds g. (o : ℕ) × (o < c.loop-object.object + 1) × R adds g o in
-    let Q : Bool → State = λ adds. TouchesWithin I S adds c.in-Some.rest.now c.args.body.now (v ++ i ∷ []) in
+    let Q : Bool → State = λ adds. TouchesWithin I S adds c.args.rest.now c.args.body.now (v ++ i ∷ []) in
     elim c.if-has.branch [
-      | gather_within-then-has+in_ok-gathered w ↦ (
-          let typed : IsOfKind c.new-kind.result c.args.world.now.objects.now c.loop-object.object = c.has.ensures.0 w.if-has.true in
+      | gather_of-then-has+in_ok-gathered w ↦ (
+          let typed : IsOfKind c.args.kind.now c.args.world.now.objects.now c.loop-object.object = c.has.ensures.0 w.if-has.true in
           let objects : w.push.new.self.values.items ≡ v ++ c.loop-object.object ∷ [] = ap (λ (f : Frame). f.objects) w.push.ensures ∙ ap (λ (f : Frame). f.objects ++ c.loop-object.object ∷ []) c.loop-object.invariant.0 in
-          let more : (adds : Bool) → Gathers (Q adds) (side adds c.loop-object.into) (side adds w.gather_rest-gathered.new.into) = λ adds. subst (λ u. Gathers (TouchesWithin I S adds c.in-Some.rest.now c.args.body.now u) (side adds c.loop-object.into) (side adds w.gather_rest-gathered.new.into)) objects (w.in_ok-gathered.ensures.gathered adds) in
-          let kept : frame w.pop.new.self ≡ frame c.args.env.now = w.pop.ensures (frame c.loop-object.env) c.loop-object.object (w.gather_rest-gathered.ensures.kept ∙ w.push.ensures) ∙ c.loop-object.invariant.0 in
-          let all : (adds : Bool) → Gathers (N adds) (side adds c.args.into.now) (side adds w.gather_rest-gathered.new.into) = λ adds. cases.gathers-then (P adds) (Q adds) (N adds) (side adds c.args.into.now) (side adds c.loop-object.into) (side adds w.gather_rest-gathered.new.into) (λ g. cases.below-more (R adds g) (Q adds g) i (λ r. r.1, λ q. (typed, q))) (c.loop-object.invariant.1 adds) (more adds) in
+          let more : (adds : Bool) → Gathers (Q adds) (side adds c.loop-object.into) (side adds w.gather_within-gathered.new.into) = λ adds. subst (λ u. Gathers (TouchesWithin I S adds c.args.rest.now c.args.body.now u) (side adds c.loop-object.into) (side adds w.gather_within-gathered.new.into)) objects (w.in_ok-gathered.ensures.gathered adds) in
+          let kept : frame w.pop.new.self ≡ frame c.args.env.now = w.pop.ensures (frame c.loop-object.env) c.loop-object.object (w.gather_within-gathered.ensures.kept ∙ w.push.ensures) ∙ c.loop-object.invariant.0 in
+          let all : (adds : Bool) → Gathers (N adds) (side adds c.args.into.now) (side adds w.gather_within-gathered.new.into) = λ adds. cases.gathers-then (P adds) (Q adds) (N adds) (side adds c.args.into.now) (side adds c.loop-object.into) (side adds w.gather_within-gathered.new.into) (λ g. cases.below-more (R adds g) (Q adds g) i (λ r. r.1, λ q. (typed, q))) (c.loop-object.invariant.1 adds) (more adds) in
           (ap frame w.env-is ∙ kept, subst (λ (into : AtomLists). (adds : Bool) → Gathers (N adds) (side adds c.args.into.now) (side adds into)) (sym w.into-is) all)
           )
-      | gather_within-else-has w ↦ (
+      | gather_of-else-has w ↦ (
           let none : (adds : Bool) (g : GroundAtom) → R adds g c.loop-object.object → ⊥ = λ adds g r. true≢false (sym (c.has.ensures.1 r.0) ∙ w.if-has.false) in
           let all : (adds : Bool) → Gathers (N adds) (side adds c.args.into.now) (side adds c.loop-object.into) = λ adds. cases.gathers-same (P adds) (N adds) (side adds c.args.into.now) (side adds c.loop-object.into) (λ g. cases.below-none (R adds g) i (none adds g)) (c.loop-object.invariant.1 adds) in
           (ap frame w.env-is ∙ c.loop-object.invariant.0, subst (λ (into : AtomLists). (adds : Bool) → Gathers (N adds) (side adds c.args.into.now) (side adds into)) (sym w.into-is) all)
           )
     ]
 
-pub gather_within-returns-clause-gathered : goal.gather_within-returns-clause-gathered
-gather_within-returns-clause-gathered t c adds =
+pub gather_of-returns-clause-gathered : goal.gather_of-returns-clause-gathered
+gather_of-returns-clause-gathered t c q k adds =
     let I = InType c.args.world.now.types.now c.args.world.now.objects.now in
     let S = atoms c.args.world.now.state.now in
     let v = c.args.env.now.values.items in
-    let p = c.in-Some.param.now in
-    let below : (o : ℕ) → I o c.in-Some.param.now.ty → o < c.loop-object.object =
-    λ o i. (let l = in_type_within c.args.world.now.types.now c.args.world.now.objects.now c.in-Some.param.now.ty o i in let e = c.loop-object-test.false in let n = c.len-object-end.ensures.length in omega arith) in
-    let typed : (o : ℕ) → IsOfKind c.new-kind.result c.args.world.now.objects.now o ↔ InType c.args.world.now.types.now c.args.world.now.objects.now o c.in-Some.param.now.ty =
-    λ o. in_type_by_kind c.args.world.now.types.now c.args.world.now.objects.now c.new-kind.result o c.in-Some.param.now.ty c.new-kind.ensures in
-    let all = cases.within-all I S v adds p c.in-Some.rest.now c.args.params.now c.args.body.now c.loop-object.object c.in-Some.ensures.cases.0 below in
-    cases.gathers-same (λ g. (o : ℕ) × (o < c.loop-object.object) × (IsOfKind c.new-kind.result c.args.world.now.objects.now o × TouchesWithin I S adds c.in-Some.rest.now c.args.body.now (v ++ o ∷ []) g)) (TouchesWithin I S adds c.args.params.now c.args.body.now v) (side adds c.args.into.now) (side adds c.loop-object.into)
+    let p = q in
+    let below : (o : ℕ) → I o q.ty → o < c.loop-object.object =
+    λ o i. (let l = in_type_within c.args.world.now.types.now c.args.world.now.objects.now q.ty o i in let e = c.loop-object-test.false in let n = c.len-object-end.ensures.length in omega arith) in
+    let typed : (o : ℕ) → IsOfKind c.args.kind.now c.args.world.now.objects.now o ↔ InType c.args.world.now.types.now c.args.world.now.objects.now o q.ty =
+    λ o. in_type_by_kind c.args.world.now.types.now c.args.world.now.objects.now c.args.kind.now o q.ty k in
+    let all = cases.within-all I S v adds p c.args.rest.now (q ∷ c.args.rest.now) c.args.body.now c.loop-object.object refl below in
+    cases.gathers-same (λ g. (o : ℕ) × (o < c.loop-object.object) × (IsOfKind c.args.kind.now c.args.world.now.objects.now o × TouchesWithin I S adds c.args.rest.now c.args.body.now (v ++ o ∷ []) g)) (TouchesWithin I S adds (q ∷ c.args.rest.now) c.args.body.now v) (side adds c.args.into.now) (side adds c.loop-object.into)
     (λ g. (λ t. (all g).0 (t.0, t.1, ((typed t.0).0 t.2.0, t.2.1)), λ t. (let u = (all g).1 t in (u.0, u.1, ((typed u.0).1 u.2.0, u.2.1))))) (c.loop-object.invariant.1 adds)

@@ -8,16 +8,19 @@ use Rattle.ground_state.proofs.EffectSizes.{size, sizes}
 use Rattle.ground_state.proofs.gather.+gather.Given as goal
 
 abbrev pub decreases-gather : goal.decreases-gather
-decreases-gather l = 2 * size l.eff.now
+decreases-gather l = 3 * size l.eff.now
 
 abbrev pub decreases-gather_each : goal.decreases-gather_each
-decreases-gather_each l = 1 + 2 * sizes l.parts.now
+decreases-gather_each l = 1 + 3 * sizes l.parts.now
 
 abbrev pub decreases-gather_within : goal.decreases-gather_within
-decreases-gather_within l = 1 + 2 * length l.params.now + 2 * size l.body.now
+decreases-gather_within l = 1 + 3 * length l.params.now + 3 * size l.body.now
 
-abbrev pub decreases-gather_rest : goal.decreases-gather_rest
-decreases-gather_rest l = 2 + 2 * length l.params.now + 2 * size l.body.now
+abbrev pub decreases-gather_in_parts : goal.decreases-gather_in_parts
+decreases-gather_in_parts l = 3 + 3 * length l.rest.now + 3 * size l.body.now
+
+abbrev pub decreases-gather_of : goal.decreases-gather_of
+decreases-gather_of l = 2 + 3 * length l.rest.now + 3 * size l.body.now
 
 -- what the effects so far touch is gathered
 abbrev pub invariant-gather_each-loop-part : goal.invariant-gather_each-loop-part
@@ -25,6 +28,6 @@ invariant-gather_each-loop-part l = (frame l.env ≡ frame l.fn.env)
     × ((adds : Bool) → Gathers (OneTouches (InType l.world.types.now l.world.objects.now) (atoms l.world.state.now) adds (take l.part-index l.parts) l.fn.env.values.items) (side adds l.fn.into) (side adds l.into))
 
 -- what the effect touches with the objects so far is gathered
-abbrev pub invariant-gather_within-loop-object : goal.invariant-gather_within-loop-object
-invariant-gather_within-loop-object l = (frame l.env ≡ frame l.fn.env)
+abbrev pub invariant-gather_of-loop-object : goal.invariant-gather_of-loop-object
+invariant-gather_of-loop-object l = (frame l.env ≡ frame l.fn.env)
     × ((adds : Bool) → Gathers (λ g. (o : ℕ) × (o < l.object) × (IsOfKind l.kind l.world.objects.now o × TouchesWithin (InType l.world.types.now l.world.objects.now) (atoms l.world.state.now) adds l.rest l.body (l.fn.env.values.items ++ o ∷ []) g)) (side adds l.fn.into) (side adds l.into))

@@ -1,10 +1,10 @@
-use Rattle.std.proofs.Common.{ℕ, ◌≡◌, ◌<◌, ◌↔◌, ◌++◌, not, IsTrue, List, [], ◌∷◌, length, sym, subst, ap, ◌∙◌, append_assoc, true≢false, arith}
+use Rattle.std.proofs.Common.{ℕ, ◌≡◌, ◌<◌, ◌↔◌, ◌++◌, not, IsTrue, List, [], ◌∷◌, length, refl, sym, subst, ap, ◌∙◌, append_assoc, true≢false, arith}
 use Rattle.std.proofs.lemmas.Bool.{eqb-true}
 use Rattle.plan_model.specs.Typing.{InType}
 use Rattle.plan_model.proofs.PartsOf.{in_type_within}
 use Rattle.plan_meaning.specs.Truth.{IsTrueIn, AreTyped}
-use Rattle.ground_state.specs.Frames.{Frame, frame}
-use Rattle.ground_state.specs.Room.{fits, Fits}
+use Rattle.ground_state.specs.Frames.{Frame, frame, pushed}
+use Rattle.ground_state.specs.Room.{fits, Fits, FitsWithin}
 use Rattle.ground_state.specs.Search.{Is}
 use Rattle.ground_state.proofs.KindLaws.{in_type_by_kind}
 use Rattle.ground_state.proofs.Found.{below-next, each-typed}
@@ -14,7 +14,7 @@ use Rattle.ground_state.proofs.Sizes as sizes
 use Rattle.ground_state.proofs.RoomEquations as room
 use Rattle.ground_state.proofs.TruthCases as truth
 use Rattle.ground_state.proofs.truth.+holds.Goals as goal
-use Rattle.ground_state.proofs.truth.+holds.Goals.{is_found-then-has+else-found, is_found-else-has}
+use Rattle.ground_state.proofs.truth.+holds.Goals.{is_found_of-then-has+else-found, is_found_of-else-has}
 
 pub holds-has_atom-requires : goal.holds-has_atom-requires
 holds-has_atom-requires t c = room.fits-Holds (frame c.args.env.now) c.args.f.now c.in-Holds.atom c.in-Holds.is c.requires.room
@@ -124,60 +124,67 @@ is_among-is_true-requires t c = (
   ),
 )
 
-pub is_found-returns-then-found-clause-kept : goal.is_found-returns-then-found-clause-kept
-is_found-returns-then-found-clause-kept t c = c.pop.ensures (frame c.loop-object.env) c.loop-object.object (c.is_found-found.ensures.kept ∙ c.push.ensures) ∙ c.loop-object.invariant.0
+pub is_found_of-returns-then-found-clause-kept : goal.is_found_of-returns-then-found-clause-kept
+is_found_of-returns-then-found-clause-kept t c = c.pop.ensures (frame c.loop-object.env) c.loop-object.object (c.is_found-found.ensures.kept ∙ c.push.ensures) ∙ c.loop-object.invariant.0
 
-pub is_found-returns-then-found-clause-answer : goal.is_found-returns-then-found-clause-answer
-is_found-returns-then-found-clause-answer t c =
+pub is_found_of-returns-then-found-clause-answer : goal.is_found_of-returns-then-found-clause-answer
+is_found_of-returns-then-found-clause-answer t c p k =
     let I = InType c.args.types.now c.args.objects.now in
     let S = atoms c.args.s.now in
     let v = c.args.env.now.values.items in
     let o = c.loop-object.object in
     let found = c.if-found.ensures.answer in
-    let first : c.args.params.now ≡ c.in-Some.param.now ∷ c.in-Some.rest.now = c.in-Some.ensures.cases.0 in
-    let typed = (in_type_by_kind c.args.types.now c.args.objects.now c.new-kind.result o c.in-Some.param.now.ty c.new-kind.ensures).0 (c.has.ensures.0 c.if-has.true) in
+    let typed = (in_type_by_kind c.args.types.now c.args.objects.now c.args.kind.now o p.ty k).0 (c.has.ensures.0 c.if-has.true) in
     let objects : c.push.new.self.values.items ≡ c.args.env.now.values.items ++ c.loop-object.object ∷ [] = ap (λ (f : Frame). f.objects) c.push.ensures ∙ ap (λ (f : Frame). f.objects ++ c.loop-object.object ∷ []) c.loop-object.invariant.0 in (
       o ∷ found.0,
-      subst (λ ps. AreTyped I ps (o ∷ found.0)) (sym first) (typed, found.1),
+      (typed, found.1),
       subst (λ u. Is c.args.wanted (IsTrueIn I S c.args.body.now u)) (ap (λ w. w ++ found.0) objects ∙ append_assoc v (o ∷ []) found.0) found.2,
     )
 
-pub is_found-returns-in-Some-is_literal_found-clause-answer : goal.is_found-returns-in-Some-is_literal_found-clause-answer
-is_found-returns-in-Some-is_literal_found-clause-answer t c =
-    let one = truth.only-one c.args.params.now c.in-Some.param.now c.in-Some.rest.now c.in-Some.ensures.cases.0 (eqb-true (length c.in-Some.rest.now) 0 (sym c.is_empty.ensures ∙ c.if-is_empty.true)) in
-    truth.is-found-literal (InType c.args.types.now c.args.objects.now) c.new-kind.result c.args.objects.now c.args.s.now c.args.wanted c.args.body.now c.args.env.now.values.items c.in-Some-is_literal_found.found c.in-Some.param.now c.args.params.now one
-    (λ o. in_type_by_kind c.args.types.now c.args.objects.now c.new-kind.result o c.in-Some.param.now.ty c.new-kind.ensures) c.in-Some-is_literal_found.ensures
+pub is_found_of-returns-in-Some-clause-answer : goal.is_found_of-returns-in-Some-clause-answer
+is_found_of-returns-in-Some-clause-answer t c p k =
+    let one = truth.only-one (p ∷ c.args.rest.now) p c.args.rest.now refl (eqb-true (length c.args.rest.now) 0 (sym c.is_empty.ensures ∙ c.if-is_empty.true)) in
+    truth.is-found-literal (InType c.args.types.now c.args.objects.now) c.args.kind.now c.args.objects.now c.args.s.now c.args.wanted c.args.body.now c.args.env.now.values.items c.in-Some.found p (p ∷ c.args.rest.now) one
+    (λ o. in_type_by_kind c.args.types.now c.args.objects.now c.args.kind.now o p.ty k) c.in-Some.ensures
 
-pub is_found-loop-object-preserved : goal.is_found-loop-object-preserved
-is_found-loop-object-preserved t c =
+pub is_found_of-push-requires : goal.is_found_of-push-requires
+is_found_of-push-requires t c = subst (λ (e : Frame). length e.objects < e.room) (sym c.loop-object.invariant.0) (room.room-for-one (frame c.args.env.now) c.args.rest.now c.args.body.now c.requires.room)
+
+pub is_found_of-is_found-found-requires : goal.is_found_of-is_found-found-requires
+is_found_of-is_found-found-requires t c =
+    let same : frame c.push.new.self ≡ pushed (frame c.args.env.now) c.loop-object.object = c.push.ensures ∙ ap (λ (e : Frame). pushed e c.loop-object.object) c.loop-object.invariant.0 in
+    let fits : FitsWithin (frame c.push.new.self) c.args.rest.now c.args.body.now = subst (λ (e : Frame). FitsWithin e c.args.rest.now c.args.body.now) (sym same) (room.fits-one (frame c.args.env.now) c.loop-object.object c.args.rest.now c.args.body.now c.requires.room) in
+    ((let d = c.decreases in omega (arith, d)), (c.requires.listed, (c.requires.few, fits)))
+
+pub is_found_of-loop-object-preserved : goal.is_found_of-loop-object-preserved
+is_found_of-loop-object-preserved t c =
     let I = InType c.args.types.now c.args.objects.now in
     let S = atoms c.args.s.now in
-    let P : ℕ → Type 0 = λ o. (os : List ℕ) → IsOfKind c.new-kind.result c.args.objects.now o → AreTyped I c.in-Some.rest.now os → Is (not c.args.wanted) (IsTrueIn I S c.args.body.now ((c.args.env.now.values.items ++ o ∷ []) ++ os)) in
+    let P : ℕ → Type 0 = λ o. (os : List ℕ) → IsOfKind c.args.kind.now c.args.objects.now o → AreTyped I c.args.rest.now os → Is (not c.args.wanted) (IsTrueIn I S c.args.body.now ((c.args.env.now.values.items ++ o ∷ []) ++ os)) in
     let before : (o : ℕ) → o < c.loop-object.object → P o = λ o l os i a. c.loop-object.invariant.1 o os l i a in
     elim c.if-has.branch [
-      | is_found-then-has+else-found w ↦ (
+      | is_found_of-then-has+else-found w ↦ (
           let kept : frame w.pop.new.self ≡ frame c.args.env.now = w.pop.ensures (frame c.loop-object.env) c.loop-object.object (w.is_found-found.ensures.kept ∙ w.push.ensures) ∙ c.loop-object.invariant.0 in
           let objects : w.push.new.self.values.items ≡ c.args.env.now.values.items ++ c.loop-object.object ∷ [] = ap (λ (f : Frame). f.objects) w.push.ensures ∙ ap (λ (f : Frame). f.objects ++ c.loop-object.object ∷ []) c.loop-object.invariant.0 in
           let last : P c.loop-object.object = λ os i a. subst (λ v. Is (not c.args.wanted) (IsTrueIn I S c.args.body.now (v ++ os))) objects (w.if-found.ensures.answer os a) in
           (ap frame w.env-is ∙ kept, λ o os l i a. below-next P c.loop-object.object before last o l os i a)
           )
-      | is_found-else-has w ↦ (
+      | is_found_of-else-has w ↦ (
           let last : P c.loop-object.object = λ os i a. absurd (true≢false (sym (c.has.ensures.1 i) ∙ w.if-has.false)) in
           (ap frame w.env-is ∙ c.loop-object.invariant.0, λ o os l i a. below-next P c.loop-object.object before last o l os i a)
           )
     ]
 
-pub is_found-returns-clause-answer : goal.is_found-returns-clause-answer
-is_found-returns-clause-answer t c =
+pub is_found_of-returns-clause-answer : goal.is_found_of-returns-clause-answer
+is_found_of-returns-clause-answer t c p k =
     let I = InType c.args.types.now c.args.objects.now in
     let S = atoms c.args.s.now in
     let P : List ℕ → Type 0 = λ v. Is (not c.args.wanted) (IsTrueIn I S c.args.body.now v) in
-    let typed : (o : ℕ) → IsOfKind c.new-kind.result c.args.objects.now o ↔ InType c.args.types.now c.args.objects.now o c.in-Some.param.now.ty =
-    λ o. in_type_by_kind c.args.types.now c.args.objects.now c.new-kind.result o c.in-Some.param.now.ty c.new-kind.ensures in
-    let first : c.args.params.now ≡ c.in-Some.param.now ∷ c.in-Some.rest.now = c.in-Some.ensures.cases.0 in
-    let each : (o : ℕ) (os : List ℕ) → I o c.in-Some.param.now.ty → AreTyped I c.in-Some.rest.now os → P ((c.args.env.now.values.items ++ o ∷ []) ++ os) =
-    λ o os i a. c.loop-object.invariant.1 o os (let l = in_type_within c.args.types.now c.args.objects.now c.in-Some.param.now.ty o i in let e = c.loop-object-test.false in let n = c.len-object-end.ensures.length in omega arith) ((typed o).1 i) a in
-    λ os a. each-typed I P c.in-Some.param.now c.in-Some.rest.now c.args.env.now.values.items each os (subst (λ ps. AreTyped I ps os) first a)
+    let typed : (o : ℕ) → IsOfKind c.args.kind.now c.args.objects.now o ↔ InType c.args.types.now c.args.objects.now o p.ty =
+    λ o. in_type_by_kind c.args.types.now c.args.objects.now c.args.kind.now o p.ty k in
+    let each : (o : ℕ) (os : List ℕ) → I o p.ty → AreTyped I c.args.rest.now os → P ((c.args.env.now.values.items ++ o ∷ []) ++ os) =
+    λ o os i a. c.loop-object.invariant.1 o os (let l = in_type_within c.args.types.now c.args.objects.now p.ty o i in let e = c.loop-object-test.false in let n = c.len-object-end.ensures.length in omega arith) ((typed o).1 i) a in
+    λ os a. each-typed I P p c.args.rest.now c.args.env.now.values.items each os a
 
 pub is_true-has_atom-requires : goal.is_true-has_atom-requires
 is_true-has_atom-requires t c = room.fits-Holds (frame c.args.env.now) c.args.f.now c.in-Holds.atom c.in-Holds.is c.requires.room

@@ -10,22 +10,28 @@ use Rattle.ground_state.proofs.Sizes.{size, sizes}
 use Rattle.ground_state.proofs.truth.+holds.Given as goal
 
 abbrev pub decreases-holds : goal.decreases-holds
-decreases-holds l = 2 * size l.f.now
+decreases-holds l = 3 * size l.f.now
 
 abbrev pub decreases-is_true : goal.decreases-is_true
-decreases-is_true l = 1 + 2 * size l.f.now
+decreases-is_true l = 1 + 3 * size l.f.now
 
 abbrev pub decreases-is_among : goal.decreases-is_among
-decreases-is_among l = 2 + 2 * sizes l.parts.now
+decreases-is_among l = 2 + 3 * sizes l.parts.now
 
 abbrev pub decreases-is_found : goal.decreases-is_found
-decreases-is_found l = 2 + 2 * length l.params.now + 2 * size l.body.now
+decreases-is_found l = 2 + 3 * length l.params.now + 3 * size l.body.now
+
+abbrev pub decreases-is_found_in_parts : goal.decreases-is_found_in_parts
+decreases-is_found_in_parts l = 4 + 3 * length l.rest.now + 3 * size l.body.now
+
+abbrev pub decreases-is_found_of : goal.decreases-is_found_of
+decreases-is_found_of l = 3 + 3 * length l.rest.now + 3 * size l.body.now
 
 -- the parts so far are not as wanted
 abbrev pub invariant-is_among-loop-part : goal.invariant-is_among-loop-part
 invariant-is_among-loop-part l = (frame l.env ≡ frame l.fn.env) × ((k : ℕ) (d : Formula) → k < l.part-index → Is (not l.wanted) (IsTrueIn (InType l.types l.objects) (atoms l.s) (get_or l.parts k d) l.fn.env.values.items))
 
 -- with the objects so far the body is not as wanted
-abbrev pub invariant-is_found-loop-object : goal.invariant-is_found-loop-object
-invariant-is_found-loop-object l = (frame l.env ≡ frame l.fn.env)
+abbrev pub invariant-is_found_of-loop-object : goal.invariant-is_found_of-loop-object
+invariant-is_found_of-loop-object l = (frame l.env ≡ frame l.fn.env)
     × ((o : ℕ) (os : List ℕ) → o < l.object → IsOfKind l.kind l.objects o → AreTyped (InType l.types l.objects) l.rest os → Is (not l.wanted) (IsTrueIn (InType l.types l.objects) (atoms l.s) l.body ((l.fn.env.values.items ++ o ∷ []) ++ os)))

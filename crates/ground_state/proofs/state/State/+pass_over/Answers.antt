@@ -8,8 +8,8 @@ use Rattle.plan_model.proofs.PartsOf.{in_type_within}
 use Rattle.plan_meaning.specs.Truth as truth
 use Rattle.plan_meaning.specs.Truth.{ground}
 use Rattle.ground_state.specs.declared.state.State.{State}
-use Rattle.ground_state.specs.Frames.{Frame, frame}
-use Rattle.ground_state.specs.Room.{effect_fits, EffectFits}
+use Rattle.ground_state.specs.Frames.{Frame, frame, pushed}
+use Rattle.ground_state.specs.Room.{effect_fits, EffectFits, EffectFitsWithin}
 use Rattle.ground_state.specs.Kinds.{IsOfKind}
 use Rattle.ground_state.specs.States.{atoms}
 use Rattle.ground_state.specs.Search.{Touches, OneTouches, TouchesWithin}
@@ -22,7 +22,7 @@ use Rattle.ground_state.proofs.Denials.{denied-within}
 use Rattle.ground_state.proofs.GatherCases as cases
 use Rattle.ground_state.proofs.PassLaws as laws
 use Rattle.ground_state.proofs.state.State.+pass_over.Goals as goal
-use Rattle.ground_state.proofs.state.State.+pass_over.Goals.{pass_over_within-then-has+in_ok-passed, pass_over_within-else-has}
+use Rattle.ground_state.proofs.state.State.+pass_over.Goals.{pass_over_of-then-has+in_ok-passed, pass_over_of-else-has}
 
 pub pass_over-visit-requires : goal.pass_over-visit-requires
 pass_over-visit-requires t c = record { room = laws.plain-Add (frame c.args.env.now) c.args.eff.now c.in-Add.atom c.in-Add.is c.requires.plain }
@@ -179,62 +179,71 @@ pass_over_within-returns-in_default-clause-passed t c =
     (cases.within-none I (atoms s) v (of_adds p) c.args.params.now c.args.body.now c.in_default.ensures.cases) (h s)
     ) c.pass_over.ensures.passed
 
-pub pass_over_within-returns-then-deny_each-clause-passed : goal.pass_over_within-returns-then-deny_each-clause-passed
-pass_over_within-returns-then-deny_each-clause-passed t c s =
-    let first = c.in-Some.param.now in
-    let rest = c.in-Some.rest.now in
-    let one = only-one c.args.params.now first rest c.in-Some.ensures.cases.0 (eqb-true (length c.in-Some.rest.now) 0 (sym c.is_empty.ensures ∙ c.if-is_empty.true)) in
-    denied-within (InType c.args.types.now c.args.objects.now) (atoms s) c.args.pass c.new-kind.result c.args.objects.now c.args.body.now c.args.env.now.values.items first c.args.params.now c.args.self.now c.deny_each.new.self one
-    (λ o. in_type_by_kind c.args.types.now c.args.objects.now c.new-kind.result o c.in-Some.param.now.ty c.new-kind.ensures) c.if-deny_each.ensures
+pub pass_over_of-returns-then-deny_each-clause-passed : goal.pass_over_of-returns-then-deny_each-clause-passed
+pass_over_of-returns-then-deny_each-clause-passed t c q k s =
+    let first = q in
+    let rest = c.args.rest.now in
+    let one = only-one (q ∷ c.args.rest.now) first rest refl (eqb-true (length c.args.rest.now) 0 (sym c.is_empty.ensures ∙ c.if-is_empty.true)) in
+    denied-within (InType c.args.types.now c.args.objects.now) (atoms s) c.args.pass c.args.kind.now c.args.objects.now c.args.body.now c.args.env.now.values.items first (q ∷ c.args.rest.now) c.args.self.now c.deny_each.new.self one
+    (λ o. in_type_by_kind c.args.types.now c.args.objects.now c.args.kind.now o q.ty k) c.if-deny_each.ensures
 
-pub pass_over_within-returns-in_err-passed-clause-unchanged : goal.pass_over_within-returns-in_err-passed-clause-unchanged
-pass_over_within-returns-in_err-passed-clause-unchanged t c =
+pub pass_over_of-returns-in_err-passed-clause-unchanged : goal.pass_over_of-returns-in_err-passed-clause-unchanged
+pass_over_of-returns-in_err-passed-clause-unchanged t c =
     let I = InType c.args.types.now c.args.objects.now in
     let p = c.args.pass in
     let v = c.args.env.now.values.items in
-    let P : truth.State = λ g. (o : ℕ) × (o < c.loop-object.object) × (IsOfKind c.new-kind.result c.args.objects.now o × TouchesWithin I (atoms c.args.self.now) (of_adds p) c.in-Some.rest.now c.args.body.now (v ++ o ∷ []) g) in
+    let P : truth.State = λ g. (o : ℕ) × (o < c.loop-object.object) × (IsOfKind c.args.kind.now c.args.objects.now o × TouchesWithin I (atoms c.args.self.now) (of_adds p) c.args.rest.now c.args.body.now (v ++ o ∷ []) g) in
     laws.on_error c.from_residual.result _ (laws.only-entered p P c.args.self.now c.loop-object.self c.pass_over_within-passed.new.self (c.loop-object.invariant.1 c.args.self.now) c.in_err-passed.ensures.unchanged)
 
-pub pass_over_within-returns-in_err-passed-clause-kept : goal.pass_over_within-returns-in_err-passed-clause-kept
-pass_over_within-returns-in_err-passed-clause-kept t c = c.pop.ensures (frame c.loop-object.env) c.loop-object.object (c.pass_over_within-passed.ensures.kept ∙ c.push.ensures) ∙ c.loop-object.invariant.0
+pub pass_over_of-returns-in_err-passed-clause-kept : goal.pass_over_of-returns-in_err-passed-clause-kept
+pass_over_of-returns-in_err-passed-clause-kept t c = c.pop.ensures (frame c.loop-object.env) c.loop-object.object (c.pass_over_within-passed.ensures.kept ∙ c.push.ensures) ∙ c.loop-object.invariant.0
 
-pub pass_over_within-loop-object-preserved : goal.pass_over_within-loop-object-preserved
-pass_over_within-loop-object-preserved t c =
+pub pass_over_of-push-requires : goal.pass_over_of-push-requires
+pass_over_of-push-requires t c = subst (λ (e : Frame). length e.objects < e.room) (sym c.loop-object.invariant.0) (room.room-for-one-effect (frame c.args.env.now) c.args.rest.now c.args.body.now c.requires.room)
+
+pub pass_over_of-pass_over_within-passed-requires : goal.pass_over_of-pass_over_within-passed-requires
+pass_over_of-pass_over_within-passed-requires t c =
+    let same : frame c.push.new.self ≡ pushed (frame c.args.env.now) c.loop-object.object = c.push.ensures ∙ ap (λ (e : Frame). pushed e c.loop-object.object) c.loop-object.invariant.0 in
+    let fits : EffectFitsWithin (frame c.push.new.self) c.args.rest.now c.args.body.now = subst (λ (e : Frame). EffectFitsWithin e c.args.rest.now c.args.body.now) (sym same) (room.effect-fits-one (frame c.args.env.now) c.loop-object.object c.args.rest.now c.args.body.now c.requires.room) in
+    ((let d = c.decreases in omega (arith, d)), (c.requires.listed, (c.requires.few, (fits, subst (λ (e : Frame). IsPlain e c.args.body.now) (sym same) c.requires.plain))))
+
+pub pass_over_of-loop-object-preserved : goal.pass_over_of-loop-object-preserved
+pass_over_of-loop-object-preserved t c =
     let I = InType c.args.types.now c.args.objects.now in
     let v = c.args.env.now.values.items in
     let p = c.args.pass in
     let i = c.loop-object.object in
-    let R : State → GroundAtom → ℕ → Type 0 = λ s g o. IsOfKind c.new-kind.result c.args.objects.now o × TouchesWithin I (atoms s) (of_adds p) c.in-Some.rest.now c.args.body.now (v ++ o ∷ []) g in
+    let R : State → GroundAtom → ℕ → Type 0 = λ s g o. IsOfKind c.args.kind.now c.args.objects.now o × TouchesWithin I (atoms s) (of_adds p) c.args.rest.now c.args.body.now (v ++ o ∷ []) g in
     let P : State → truth.State = λ s g. (o : ℕ) × (o < c.loop-object.object) × R s g o in
     let N : State → truth.State = λ s g. (o : ℕ) × (o < c.loop-object.object + 1) × R s g o in
-    let Q : State → truth.State = λ s. TouchesWithin I (atoms s) (of_adds p) c.in-Some.rest.now c.args.body.now (v ++ i ∷ []) in
+    let Q : State → truth.State = λ s. TouchesWithin I (atoms s) (of_adds p) c.args.rest.now c.args.body.now (v ++ i ∷ []) in
     elim c.if-has.branch [
-      | pass_over_within-then-has+in_ok-passed w ↦ (
-          let typed : IsOfKind c.new-kind.result c.args.objects.now c.loop-object.object = c.has.ensures.0 w.if-has.true in
+      | pass_over_of-then-has+in_ok-passed w ↦ (
+          let typed : IsOfKind c.args.kind.now c.args.objects.now c.loop-object.object = c.has.ensures.0 w.if-has.true in
           let objects : w.push.new.self.values.items ≡ v ++ c.loop-object.object ∷ [] = ap (λ (f : Frame). f.objects) w.push.ensures ∙ ap (λ (f : Frame). f.objects ++ c.loop-object.object ∷ []) c.loop-object.invariant.0 in
-          let more : (s : State) → Passes p (Q s) c.loop-object.self w.pass_over_within-passed.new.self = λ s. subst (λ u. Passes p (TouchesWithin I (atoms s) (of_adds p) c.in-Some.rest.now c.args.body.now u) c.loop-object.self w.pass_over_within-passed.new.self) objects (w.in_ok-passed.ensures.passed s) in
+          let more : (s : State) → Passes p (Q s) c.loop-object.self w.pass_over_within-passed.new.self = λ s. subst (λ u. Passes p (TouchesWithin I (atoms s) (of_adds p) c.args.rest.now c.args.body.now u) c.loop-object.self w.pass_over_within-passed.new.self) objects (w.in_ok-passed.ensures.passed s) in
           let kept : frame w.pop.new.self ≡ frame c.args.env.now = w.pop.ensures (frame c.loop-object.env) c.loop-object.object (w.pass_over_within-passed.ensures.kept ∙ w.push.ensures) ∙ c.loop-object.invariant.0 in
           let all : (s : State) → Passes p (N s) c.args.self.now w.pass_over_within-passed.new.self = λ s. laws.passes-then p (P s) (Q s) (N s) c.args.self.now c.loop-object.self w.pass_over_within-passed.new.self (λ g. cases.below-more (R s g) (Q s g) i (λ r. r.1, λ q. (typed, q))) (c.loop-object.invariant.1 s) (more s) in
           (ap frame w.env-is ∙ kept, subst (λ (u : State). (s : State) → Passes p (N s) c.args.self.now u) (sym w.self-is) all)
           )
-      | pass_over_within-else-has w ↦ (
+      | pass_over_of-else-has w ↦ (
           let none : (s : State) (g : GroundAtom) → R s g c.loop-object.object → ⊥ = λ s g r. true≢false (sym (c.has.ensures.1 r.0) ∙ w.if-has.false) in
           let all : (s : State) → Passes p (N s) c.args.self.now c.loop-object.self = λ s. laws.passes-same p (P s) (N s) c.args.self.now c.loop-object.self (λ g. cases.below-none (R s g) i (none s g)) (c.loop-object.invariant.1 s) in
           (ap frame w.env-is ∙ c.loop-object.invariant.0, subst (λ (u : State). (s : State) → Passes p (N s) c.args.self.now u) (sym w.self-is) all)
           )
     ]
 
-pub pass_over_within-returns-clause-passed : goal.pass_over_within-returns-clause-passed
-pass_over_within-returns-clause-passed t c s =
+pub pass_over_of-returns-clause-passed : goal.pass_over_of-returns-clause-passed
+pass_over_of-returns-clause-passed t c q k s =
     let I = InType c.args.types.now c.args.objects.now in
     let v = c.args.env.now.values.items in
     let p = c.args.pass in
-    let first = c.in-Some.param.now in
-    let below : (o : ℕ) → I o c.in-Some.param.now.ty → o < c.loop-object.object =
-    λ o i. (let l = in_type_within c.args.types.now c.args.objects.now c.in-Some.param.now.ty o i in let e = c.loop-object-test.false in let n = c.len-object-end.ensures.length in omega arith) in
-    let typed : (o : ℕ) → IsOfKind c.new-kind.result c.args.objects.now o ↔ InType c.args.types.now c.args.objects.now o c.in-Some.param.now.ty =
-    λ o. in_type_by_kind c.args.types.now c.args.objects.now c.new-kind.result o c.in-Some.param.now.ty c.new-kind.ensures in
-    let all = cases.within-all I (atoms s) v (of_adds p) first c.in-Some.rest.now c.args.params.now c.args.body.now c.loop-object.object c.in-Some.ensures.cases.0 below in
-    laws.passes-same p (λ g. (o : ℕ) × (o < c.loop-object.object) × (IsOfKind c.new-kind.result c.args.objects.now o × TouchesWithin I (atoms s) (of_adds p) c.in-Some.rest.now c.args.body.now (v ++ o ∷ []) g))
-    (TouchesWithin I (atoms s) (of_adds p) c.args.params.now c.args.body.now v) c.args.self.now c.loop-object.self
+    let first = q in
+    let below : (o : ℕ) → I o q.ty → o < c.loop-object.object =
+    λ o i. (let l = in_type_within c.args.types.now c.args.objects.now q.ty o i in let e = c.loop-object-test.false in let n = c.len-object-end.ensures.length in omega arith) in
+    let typed : (o : ℕ) → IsOfKind c.args.kind.now c.args.objects.now o ↔ InType c.args.types.now c.args.objects.now o q.ty =
+    λ o. in_type_by_kind c.args.types.now c.args.objects.now c.args.kind.now o q.ty k in
+    let all = cases.within-all I (atoms s) v (of_adds p) first c.args.rest.now (q ∷ c.args.rest.now) c.args.body.now c.loop-object.object refl below in
+    laws.passes-same p (λ g. (o : ℕ) × (o < c.loop-object.object) × (IsOfKind c.args.kind.now c.args.objects.now o × TouchesWithin I (atoms s) (of_adds p) c.args.rest.now c.args.body.now (v ++ o ∷ []) g))
+    (TouchesWithin I (atoms s) (of_adds p) (q ∷ c.args.rest.now) c.args.body.now v) c.args.self.now c.loop-object.self
     (λ g. (λ t. (all g).0 (t.0, t.1, ((typed t.0).0 t.2.0, t.2.1)), λ t. (let u = (all g).1 t in (u.0, u.1, ((typed u.0).1 u.2.0, u.2.1))))) (c.loop-object.invariant.1 s)
