@@ -4,8 +4,9 @@
 # the plan keeps within 16 MiB. Wants ./htn, as examples/transport/run leaves it. A line: what the program told, seconds of the best of five runs
 # and its processor seconds (user and system), kilobytes of memory at most, and the bytes of the three texts.
 #
-# Measured with the provers of the machine stopped: 0.64 s, 18,008 kilobytes, 14,005,419 bytes read. Before literals under a quantifier were
-# looked for from number to number 0.92 s and 15,636 kilobytes, and before effects without conditions were passed over in place 1.71 s.
+# Measured with the provers of the machine stopped: 0.27 s, 17,964 kilobytes, 14,005,419 bytes read; in the same minutes the program took 0.35
+# before deletions under a quantifier went from number to number. On another day's machine that program took 0.64, 0.92 before literals were
+# looked for from number to number, and 1.71 before effects without conditions were passed over in place. bench/counted.sh has instructions.
 # A printed action's quantifiers range over 15 slots.
 set -euo pipefail
 top=$(cd "$(dirname "$0")/.." && pwd)

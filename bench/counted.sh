@@ -1,0 +1,92 @@
+#!/usr/bin/env bash
+# Counts the instructions of the whole program, which no load of the machine disturbs, from files to files: 400 tasks, methods and actions at
+# one slot; the smallest problem at 65,536 slots in style adl; 54 actions at 65,536 slots in style flat; Transport with 2,000 packages at
+# 4,096 slots; 500 methods of 40 subtasks; 140,000 facts; and `validate` of 50,000 steps (bench/validate.sh has the same with a million). Wants
+# ./htn, as examples/transport/run leaves it, and valgrind. A line each: the instructions.
+#
+# Counted, in the order of the cases, millions: 21.5, 120.4, 688.5, 389.3, 340.8, 403.0, 210.6. Before names of slots were expected, items of lists
+# were put in batches and deletions went from number to number: 21.4, 190.6, 1,608.1, 394.9, 347.0, 403.0, 292.5. Of the second, a quarter is
+# `NameTable::intern` and a third allocating and freeing; of the facts, 30% are allocating and freeing and 21% tokens.
+set -euo pipefail
+top=$(cd "$(dirname "$0")/.." && pwd)
+work=$(mktemp -d)
+trap 'rm -rf "$work"' EXIT
+transport=$top/examples/transport
+
+counted() {
+    local name=$1
+    shift
+    rm -f "$work/od" "$work/op"
+    valgrind --tool=callgrind --callgrind-out-file=/dev/null "$top/htn" "$@" >"$work/log" 2>&1 || true
+    echo "$name: $(sed -n 's/.*Collected : //p' "$work/log")"
+}
+
+{
+    echo "(define (domain d)"
+    for ((k = 0; k < 400; k++)); do
+        echo " (:task t$k :parameters ()) (:method m$k :parameters () :task (t$k) :subtasks (a$k)) (:action a$k :parameters ())"
+    done
+    echo ")"
+} >"$work/tasks"
+echo "(define (problem p) (:domain d) (:htn :subtasks (t0)))" >"$work/first_task"
+{
+    echo "(define (domain d) (:task t :parameters ()) (:method m :parameters () :task (t) :subtasks (a0))"
+    for ((k = 0; k < 54; k++)); do echo " (:action a$k :parameters ())"; done
+    echo ")"
+} >"$work/actions"
+echo "(define (problem p) (:domain d) (:htn :subtasks (t)))" >"$work/task"
+{
+    echo "(define (problem many) (:domain transport)"
+    echo " (:objects l0 l1 l2 - location v1 v2 - vehicle"
+    for ((k = 0; k < 2000; k++)); do echo "  p$k"; done
+    echo "  - package)"
+    echo " (:htn :parameters () :subtasks (and"
+    for ((k = 0; k < 2000; k++)); do echo "  (deliver p$k l1)"; done
+    echo "  ))"
+    echo " (:init (road l0 l1) (road l1 l0) (road l1 l2) (road l2 l1) (at v1 l0) (at v2 l2)"
+    for ((k = 0; k < 2000; k++)); do echo "  (at p$k l0)"; done
+    echo " ))"
+} >"$work/packages"
+{
+    echo "(define (domain d) (:predicates (q ?x)) (:action a :parameters (?x) :precondition (q ?x) :effect (not (q ?x)))"
+    for ((k = 0; k < 500; k++)); do
+        echo " (:task t$k :parameters (?x))"
+        echo " (:method m$k :parameters (?x) :task (t$k ?x) :subtasks (and"
+        for ((j = 0; j < 39; j++)); do echo "  (a ?x)"; done
+        if ((k > 0)); then echo "  (t$((k - 1)) ?x)"; else echo "  (a ?x)"; fi
+        echo "  ))"
+    done
+    echo ")"
+} >"$work/methods"
+echo "(define (problem p) (:domain d) (:objects o) (:htn :subtasks (t499 o)) (:init (q o)))" >"$work/last_task"
+{
+    echo "(define (problem facts) (:domain transport)"
+    echo " (:objects l0 l1 l2 - location v1 v2 - vehicle p1 - package)"
+    echo " (:htn :parameters () :subtasks (deliver p1 l1))"
+    echo " (:init"
+    yes "  (at p1 l0) (at v1 l0) (at v2 l2) (road l0 l1) (road l1 l0) (road l1 l2) (road l2 l1)" | head -n 20000 || true
+    echo " ))"
+} >"$work/facts"
+
+shortened() {
+    perl -pe 's/htn_s(\d+)(?![\w-])/$1/g; s/(?<![?\w-])htn_m_m-via(?![\w-])/m/g; s/(?<![?\w-])drive(?![\w-])/d/g; s/(?<![?\w-])l0(?![\w-])/k/g; s/(?<![?\w-])l1(?![\w-])/l/g; s/(?<![?\w-])v1(?![\w-])/v/g' "$1"
+}
+shortened "$transport/expected/domain.pddl" >"$work/domain"
+shortened "$transport/expected/problem.pddl" >"$work/problem"
+shortened "$transport/plan" >"$work/short"
+{
+    head -n 13 "$work/short"
+    yes '(m 6 4 v k l l)
+(d 4 v k l)
+(m 6 4 v l k l)
+(d 4 v l k)' | head -n 50000 || true
+    tail -n +14 "$work/short"
+} >"$work/plan"
+
+counted "400 tasks at one slot" translate "$work/tasks" "$work/first_task" "$work/od" "$work/op" --bound 1
+counted "smallest at 65,536 slots, adl" translate "$top/examples/first/domain.hddl" "$top/examples/first/problem.hddl" "$work/od" "$work/op" --bound 65536
+counted "54 actions at 65,536 slots, flat" translate "$work/actions" "$work/task" "$work/od" "$work/op" --bound 65536 --style flat
+counted "2,000 packages" translate "$transport/domain.hddl" "$work/packages" "$work/od" "$work/op" --bound 4096
+counted "500 methods of 40 subtasks" translate "$work/methods" "$work/last_task" "$work/od" "$work/op" --bound 4096
+counted "140,000 facts" translate "$transport/domain.hddl" "$work/facts" "$work/od" "$work/op"
+counted "validate of 50,000 steps" validate "$work/domain" "$work/problem" "$work/plan"
