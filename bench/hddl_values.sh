@@ -16,6 +16,9 @@
 # one written list of types were compared with it one by one. Since they are marked as they are read, `htn bound` takes 1.45 s from the files
 # of the case union, and 0.01, 0.02, 0.04 and 0.63 s to tell the fault of 10, 20, 40 and 400 thousand variables under as many undeclared
 # names (the first three before: 0.31, 1.16 and 4.67). The most memory: bare init, 427,556 kilobytes.
+# On a quiet machine since, milliseconds of the tokens and of the value: init 75 and 206 (2.75 times), short init 154 and 570 (3.70), bare init 225
+# and 876 (3.89); in instructions 1.26, 1.83 and 1.31 times. The last two take
+# 254,864 and 427,612 kilobytes, and touching these for the first time is a good part of their time.
 set -euo pipefail
 top=$(cd "$(dirname "$0")/.." && pwd)
 work=$(mktemp -d)
