@@ -9,8 +9,9 @@
 # effects that are literals are gone over without lists, and conditions' literals and all look-ups by number are told in
 # place. Of these: the literals of conditions 610, what remains is effects, arguments and words; some 100 are for
 # `run_plan`'s own list of a step's words, which a caller of `Run::take` doesn't need.
-# Counted anew since effects are passed over four times in place of two lists, and deletions go from number to number: 2,580 instructions a step
-# (of this problem, whose actions have few quantifiers), 0.26 s for the million at a load of 9, 168 kilobytes beyond the plan.
+# Counted anew since effects are passed over up to four times in place of two lists: 2,580 instructions a step, more than the 2,166, since this
+# problem has conjunctions of literals alone, which the quicker ways of quantifiers do not touch; 0.26 s for the million at a load of 9, 168
+# kilobytes beyond the plan.
 # No memory beyond the plan's 392 MB was seen. The problem has 9 objects: the more objects, the more atoms of four or more
 # arguments have no number.
 set -e
