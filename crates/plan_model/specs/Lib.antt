@@ -2,3 +2,4 @@ pub mod Typing
 pub mod Parts
 pub mod Pairs
 pub mod Scopes
+pub mod Facts

@@ -9,6 +9,7 @@
 #![tactic(auto)]
 
 mod effects;
+mod facts;
 mod formulas;
 mod membership;
 mod networks;
@@ -22,6 +23,7 @@ mod types;
 mod values;
 
 pub use effects::Effect;
+pub use facts::{Fact, Facts};
 pub use formulas::Formula;
 pub use membership::{in_type, members};
 pub use networks::{Child, Constraint, Guard, Head, Pair};
