@@ -10,7 +10,7 @@ use crate::kinds::Kind;
 use crate::notes::Notes;
 use crate::numbers::Numbers;
 use htn_base::{List, Memory};
-use plan_model::{Atom, GroundAtom, Object};
+use plan_model::{Atom, Facts, GroundAtom, Object};
 use std::alloc::Global;
 
 /// More predicates than these count as want of memory: no text of at most 16 megabytes declares so many.
@@ -38,7 +38,7 @@ pub struct State {
 
 impl State {
     /// The state in which these atoms are true, and no others.
-    pub fn new(alloc: Global, atoms: &List<GroundAtom>) -> Result<State, Memory>
+    pub fn new(alloc: Global, atoms: &Facts) -> Result<State, Memory>
         ensures atoms { IfOk result (λ s. spec.Has s (Contains atoms.now)) }
     {
         let mut state = State {
@@ -47,8 +47,10 @@ impl State {
             crowded: false,
             touched: AtomLists::new(alloc),
         };
-        for atom in atoms.as_slice() {
-            state.insert(alloc, atom.predicate, atom.args.as_slice(), true)?;
+        for i in 0..atoms.len() {
+            if let Some(atom) = atoms.get(i) {
+                state.insert(alloc, atom.predicate, atom.args, true)?;
+            }
         }
         Ok(state)
     }
@@ -206,11 +208,13 @@ impl State {
 }
 
 /// The greatest object of the atoms.
-fn greatest(atoms: &List<GroundAtom>) -> u32 {
+fn greatest(atoms: &Facts) -> u32 {
     let mut most = 0;
-    for atom in atoms.as_slice() {
-        for object in atom.args.as_slice() {
-            most = most.max(*object);
+    for i in 0..atoms.len() {
+        if let Some(atom) = atoms.get(i) {
+            for object in atom.args {
+                most = most.max(*object);
+            }
         }
     }
     most

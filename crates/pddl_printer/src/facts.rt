@@ -1,10 +1,12 @@
+ghost use Rattle.plan_model.specs.Facts.{fact_seen};
 ghost use Rattle.pddl_printer.specs.Batches.{Added};
+ghost use Rattle.pddl_printer.specs.Behind.{of_each};
 ghost use Rattle.pddl_printer.specs.Texts.{args_text, fact_text};
+ghost use Rattle.sheets.specs.Sheets.{Wrote};
 
 use crate::batch::Batch;
-use crate::items::Item;
 use crate::words::{object_word, predicate_word};
-use plan_model::{GroundAtom, Pddl};
+use plan_model::{Fact, Facts, Pddl};
 use sheets::Sheet;
 
 /// Adds the words of objects to a batch, each behind a space.
@@ -17,13 +19,32 @@ fn add_objects(p: &Pddl, objects: &[u32], batch: &mut Batch, sheet: &mut Sheet<'
     }
 }
 
-impl Item for GroundAtom {
-    ghost text = { fact_text };
+/// Adds a fact to a batch, behind a space.
+fn add_fact(p: &Pddl, fact: Fact<'_>, batch: &mut Batch, sheet: &mut Sheet<'_>)
+    ensures { Added (fact_text p.now (fact_seen fact.entry)) batch.old batch.new sheet.old sheet.new }
+{
+    batch.add(b" (", sheet);
+    batch.add(predicate_word(p, fact.predicate), sheet);
+    add_objects(p, fact.args, batch, sheet);
+    batch.add(b")", sheet);
+}
 
-    fn add(&self, p: &Pddl, batch: &mut Batch, sheet: &mut Sheet<'_>) {
-        batch.add(b" (", sheet);
-        batch.add(predicate_word(p, self.predicate), sheet);
-        add_objects(p, self.args.as_slice(), batch, sheet);
-        batch.add(b")", sheet);
+/// Adds facts to a batch, each behind a space.
+fn add_facts(p: &Pddl, facts: &Facts, batch: &mut Batch, sheet: &mut Sheet<'_>)
+    ensures { Added (of_each (fact_text p.now) facts.now) batch.old batch.new sheet.old sheet.new }
+{
+    for i in 0..facts.len() {
+        if let Some(fact) = facts.get(i) {
+            add_fact(p, fact, batch, sheet);
+        }
     }
+}
+
+/// Puts facts, each behind a space.
+pub(crate) fn put_facts(p: &Pddl, facts: &Facts, sheet: &mut Sheet<'_>)
+    ensures { Wrote (of_each (fact_text p.now) facts.now) sheet.old sheet.new }
+{
+    let mut batch = Batch::new();
+    add_facts(p, facts, &mut batch, sheet);
+    batch.put(sheet);
 }

@@ -7,6 +7,7 @@ ghost use Rattle.pddl_printer.specs.Measured.{IsMeasured, range_of};
 ghost use Rattle.pddl_printer.specs.Pages.{domain_start};
 ghost use Rattle.sheets.specs.Sheets.{Wrote};
 
+use crate::facts::put_facts;
 use crate::items::put_items;
 use crate::schemas::{put_actions, put_condition};
 use crate::words::name_word;
@@ -75,6 +76,6 @@ fn put_problem_head(p: &Pddl, sheet: &mut Sheet<'_>)
     sheet.put(b")\n");
     sheet.put(b" (:objects)\n");
     sheet.put(b" (:init");
-    put_items(p, p.init.as_slice(), sheet);
+    put_facts(p, &p.init, sheet);
     sheet.put(b")\n");
 }

@@ -3,3 +3,4 @@ pub mod Marks
 pub mod PartsOf
 pub mod Numbers
 pub mod FactsGrown
+pub mod ReadAt

@@ -43,15 +43,3 @@ pub struct GroundAtom {
     pub predicate: u32,
     pub args: List<u32>,
 }
-
-impl GroundAtom {
-    /// An equal ground atom.
-    pub fn copy(&self, alloc: Global) -> Result<GroundAtom, Memory>
-        ensures equal { IfOk result (λ copy. copy ≡ self.now) }
-    {
-        Ok(GroundAtom {
-            predicate: self.predicate,
-            args: self.args.copy(alloc)?,
-        })
-    }
-}

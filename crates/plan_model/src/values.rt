@@ -1,6 +1,6 @@
+use crate::facts::Facts;
 use crate::formulas::Formula;
 use crate::schemas::{ActionSchema, MethodPlan, MethodSchema, Predicate, TaskSchema};
-use crate::terms::GroundAtom;
 use crate::types::{Object, Types};
 use htn_base::{List, Name, NameTable};
 
@@ -18,7 +18,7 @@ pub struct Hddl {
     pub actions: List<ActionSchema>,
     pub methods: List<MethodSchema>,
     pub top: MethodSchema,
-    pub init: List<GroundAtom>,
+    pub init: Facts,
     pub goal: Formula,
 }
 
@@ -40,6 +40,6 @@ pub struct Pddl {
     pub objects: List<Object>,
     pub predicates: List<Predicate>,
     pub actions: List<ActionSchema>,
-    pub init: List<GroundAtom>,
+    pub init: Facts,
     pub goal: Formula,
 }

@@ -11,7 +11,7 @@ use crate::goals::goal_of;
 use crate::initial::encoded_initial;
 use crate::split_action::SplitAction;
 use htn_base::{List, Memory, Name};
-use plan_model::{ActionSchema, Compiled, Formula, GroundAtom, Pddl, Style};
+use plan_model::{ActionSchema, Compiled, Facts, Formula, Pddl, Style};
 use slot_declarations::{
     Basis, Declarations, Frame, basis_of, declarations_of, renamed, vocabulary_of,
 };
@@ -151,7 +151,7 @@ pub(crate) struct Encoded {
 /// Where the printed problem starts and what is wanted.
 #[derive(Drop)]
 pub(crate) struct Behaviour {
-    pub init: List<GroundAtom>,
+    pub init: Facts,
     pub goal: Formula,
 }
 

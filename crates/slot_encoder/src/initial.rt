@@ -5,14 +5,14 @@ ghost use Rattle.slot_declarations.specs.Frames.{IsFrame};
 ghost use Rattle.slot_encoder.specs.Made as made;
 
 use crate::single::push_single;
-use htn_base::{List, Memory};
-use plan_model::{GroundAtom, members};
+use htn_base::Memory;
+use plan_model::{Facts, members};
 use slot_declarations::{Frame, guard_predicate, plus};
 use std::alloc::Global;
 
 /// What is true at the start: the first slot holds the top task, the others are free, the source's atoms, each once, and
 /// for each type of a guard its objects.
-pub(crate) fn encoded_initial(alloc: Global, frame: &Frame<'_>) -> Result<List<GroundAtom>, Memory>
+pub(crate) fn encoded_initial(alloc: Global, frame: &Frame<'_>) -> Result<Facts, Memory>
     requires frame { IsFrame frame.now }
     requires listed { AreListed frame.now.compiled.now.hddl.types }
     ensures { IfOk result (made.IsInitial frame.now) }
@@ -22,53 +22,33 @@ pub(crate) fn encoded_initial(alloc: Global, frame: &Frame<'_>) -> Result<List<G
     Ok(into)
 }
 
-fn first_atoms(alloc: Global, frame: &Frame<'_>) -> Result<List<GroundAtom>, Memory>
+fn first_atoms(alloc: Global, frame: &Frame<'_>) -> Result<Facts, Memory>
     requires { IsFrame frame.now }
     ensures { IfOk result (λ atoms. atoms ≡ made.first_atoms frame.now) }
 {
-    let mut into = List::new(alloc);
-    into.put(atom(alloc, frame.basis.numbers.top, frame.basis.order.first_slot))?;
-    push_free(alloc, frame, frame.slots.saturating_sub(1), &mut into)?;
-    push_single(alloc, frame.compiled.hddl.init.as_slice(), &mut into)?;
+    let mut into = Facts::new(alloc);
+    into.push(frame.basis.numbers.top, &[frame.basis.order.first_slot])?;
+    push_free(frame, frame.slots.saturating_sub(1), &mut into)?;
+    push_single(alloc, &frame.compiled.hddl.init, &mut into)?;
     Ok(into)
 }
 
-fn atom(alloc: Global, predicate: u32, object: u32) -> Result<GroundAtom, Memory>
-    ensures { IfOk result (λ a. a ≡ spec.atom predicate object) }
-{
-    let mut args = List::new(alloc);
-    args.push(object)?;
-    Ok(GroundAtom { predicate, args })
-}
-
-fn push_free(
-    alloc: Global,
-    frame: &Frame<'_>,
-    count: u32,
-    into: &mut List<GroundAtom>,
-) -> Result<(), Memory>
+fn push_free(frame: &Frame<'_>, count: u32, into: &mut Facts) -> Result<(), Memory>
     requires { IsFrame frame.now }
     ensures { OnOk result (into.new ≡ into.old ++ made.free_atoms frame.now count) }
 {
     for k in 0..count {
-        into.put(free(alloc, frame, 1 + k))?;
+        let slot = plus(frame.basis.order.first_slot, 1 + k)?;
+        into.push(frame.basis.numbers.free, &[slot])?;
     }
     Ok(())
-}
-
-fn free(alloc: Global, frame: &Frame<'_>, k: u32) -> Result<GroundAtom, Memory>
-    requires { IsFrame frame.now }
-    ensures { IfOk result (λ a. a ≡ made.slot_atom frame.now k) }
-{
-    let slot = plus(frame.basis.order.first_slot, k)?;
-    atom(alloc, frame.basis.numbers.free, slot)
 }
 
 fn push_guards(
     alloc: Global,
     frame: &Frame<'_>,
     types: &[u32],
-    into: &mut List<GroundAtom>,
+    into: &mut Facts,
 ) -> Result<(), Memory>
     requires frame { IsFrame frame.now }
     requires listed { AreListed frame.now.compiled.now.hddl.types }
@@ -81,12 +61,7 @@ fn push_guards(
 }
 
 /// Puts at the end the guard's atoms of the objects in the type.
-fn push_members(
-    alloc: Global,
-    frame: &Frame<'_>,
-    ty: u32,
-    into: &mut List<GroundAtom>,
-) -> Result<(), Memory>
+fn push_members(alloc: Global, frame: &Frame<'_>, ty: u32, into: &mut Facts) -> Result<(), Memory>
     requires frame { IsFrame frame.now }
     requires listed { AreListed frame.now.compiled.now.hddl.types }
     ensures { OnOk result (made.AddsMembers frame.now ty into.old into.new) }
@@ -94,20 +69,15 @@ fn push_members(
     let hddl = &frame.compiled.hddl;
     let predicate = guard_predicate(frame, ty)?;
     let listed = members(alloc, &hddl.types, &hddl.objects, ty)?;
-    push_atoms(alloc, predicate, listed.as_slice(), into)?;
+    push_atoms(predicate, listed.as_slice(), into)?;
     Ok(())
 }
 
-fn push_atoms(
-    alloc: Global,
-    predicate: u32,
-    objects: &[u32],
-    into: &mut List<GroundAtom>,
-) -> Result<(), Memory>
+fn push_atoms(predicate: u32, objects: &[u32], into: &mut Facts) -> Result<(), Memory>
     ensures { OnOk result (into.new ≡ into.old ++ map (spec.atom predicate) objects.now) }
 {
     for object in objects {
-        into.put(atom(alloc, predicate, *object))?;
+        into.push(predicate, &[*object])?;
     }
     Ok(())
 }

@@ -1,5 +1,4 @@
-use Rattle.std.proofs.Common.{rules, ◌≡◌, ◌++◌, ◌∷◌, [], length}
-use Rattle.plan_model.specs.Facts.{atom_of, facts}
+use Rattle.std.proofs.Common.{rules}
 use Rattle.plan_model.proofs.FactsGrown.{facts_pushed}
 use Rattle.plan_model.proofs.facts.Facts.push.Goals as goal
 
@@ -7,5 +6,7 @@ use Rattle.plan_model.proofs.facts.Facts.push.Goals as goal
 pub returns : goal.returns
 returns c =
     let inside = c.self.inside in
-    record { pushed = rw (c.in_ok-push.ensures.items, c.in_ok-extend_from_slice.ensures.items, ← c.self.view_is)
-        (facts_pushed inside.objects.items c.args.args.now inside.cuts.items _ c.self.invariant (search rules) (search rules)) }
+    record {
+      pushed = rw (c.in_ok-push.ensures.items, c.in_ok-extend_from_slice.ensures.items, ← c.self.view_is)
+          (facts_pushed inside.objects.items c.args.args.now inside.cuts.items _ c.self.invariant (search rules) (search rules));
+    }
