@@ -8,8 +8,8 @@ use Rattle.plan_meaning.proofs.Once.{has}
 use Rattle.slot_encoder.proofs.SeenAtoms.{same_key}
 use Rattle.slot_encoder.proofs.single.push_single.Given as goal
 
-abbrev pub invariant-loop-atom : goal.invariant-loop-atom
-invariant-loop-atom l = record {
-  seen : (g : GroundAtom) (v : Vec ℕ _) → v.items ≡ g.predicate ∷ g.args → contains same_key l.seen v ≡ has same_atom g (take l.atom-index l.atoms);
-  into : l.into ≡ l.initial.into ++ once same_atom (take l.atom-index l.atoms);
+abbrev pub invariant-loop-i : goal.invariant-loop-i
+invariant-loop-i l = record {
+  seen : (g : GroundAtom) (v : Vec ℕ _) → v.items ≡ g.predicate ∷ g.args → contains same_key l.seen v ≡ has same_atom g (take l.i l.facts);
+  into : l.into ≡ l.initial.into ++ once same_atom (take l.i l.facts);
 }
