@@ -1,20 +1,29 @@
-use Rattle.std.proofs.Common.{◌≡◌, ◌<◌, take, Contains, ◌∙◌, true, List, Some, length, get_or, ap, refl, subst}
+use Rattle.std.proofs.Common.{rules, ◌+◌, ◌<◌, sym, ◌≤◌, take, Contains, true, List, Some, length, refl, subst}
 use Rattle.std.proofs.lemmas.List.{take_all}
 use Rattle.plan_model.specs.declared.terms.GroundAtom.{GroundAtom}
-use Rattle.ground_state.specs.States.{Has, IsNoted}
-use Rattle.ground_state.proofs.StateLaws.{of-atom, new-next, made-true}
+use Rattle.plan_model.specs.Facts.{fact_seen}
+use Rattle.plan_model.proofs.ReadAt.{read_is, none_read}
+use Rattle.ground_state.specs.declared.state.State.{State}
+use Rattle.ground_state.specs.States.{Has}
+use Rattle.ground_state.proofs.StateLaws.{new-next, made-true}
 use Rattle.ground_state.proofs.state.State.new.Goals as goal
+use Rattle.ground_state.proofs.state.State.new.Goals.{in-Some+in_ok-insert, in_default}
 
-pub loop-atom-preserved : goal.loop-atom-preserved
-loop-atom-preserved c =
-    let i = c.loop-atom.atom-index in
-    let items = c.as_slice-atom-items.ensures.items in
-    new-next c.args.atoms.now i c.atom-item.result c.loop-atom.state c.insert.new.self (subst (λ (xs : List GroundAtom). c.loop-atom.atom-index < length xs) items c.loop-atom-test.true)
-    (c.atom-item.is ∙ ap (λ (xs : List GroundAtom). get_or xs c.loop-atom.atom-index c.atom-item.result) items) c.loop-atom.invariant
-    (made-true c.loop-atom.state c.insert.new.self c.atom-item.result (Some true) (of-atom (λ (x : GroundAtom). IsNoted c.loop-atom.state x (Some true) c.insert.new.self) c.atom-item.result.predicate c.as_slice.result.now c.atom-item.result refl c.as_slice.ensures.items c.in_ok-insert.ensures.inserted) refl)
+pub loop-i-preserved : goal.loop-i-preserved
+loop-i-preserved c =
+    let xs = c.args.atoms.now in
+    let i = c.loop-i.i in
+    let within = subst (λ n. i < n) c.len-i-end.ensures.length c.loop-i-test.true in
+    elim c.match-get.branch [
+      in-Some+in_ok-insert w ↦
+        let x = fact_seen w.in-Some.atom in
+        let is = read_is fact_seen xs i c.get.result w.in-Some.atom c.get.ensures.fact w.in-Some.is in
+        subst (λ (s : State). Has s (Contains (take (i + 1) xs))) (sym w.state-is)
+        (new-next xs i x c.loop-i.state w.insert.new.self within is c.loop-i.invariant
+        (made-true c.loop-i.state w.insert.new.self x (Some true) w.in_ok-insert.ensures.inserted refl))
+    | in_default w ↦ absurd (none_read fact_seen xs i c.get.result within c.get.ensures.fact w.in_default.is) ]
 
 pub returns : goal.returns
 returns c =
-    let i = c.loop-atom.atom-index in
-    let whole = subst (λ (xs : List GroundAtom). take i xs ≡ xs) c.as_slice-atom-items.ensures.items (take_all i c.as_slice-atom-items.result.now c.loop-atom-test.false) in
-    record { atoms = subst (λ (xs : List GroundAtom). Has c.loop-atom.state (Contains xs)) whole c.loop-atom.invariant }
+    let past : length c.args.atoms.now ≤ c.loop-i.i = search rules in
+    record { atoms = subst (λ (xs : List GroundAtom). Has c.loop-i.state (Contains xs)) (take_all c.loop-i.i c.args.atoms.now past) c.loop-i.invariant }
