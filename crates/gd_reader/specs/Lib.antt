@@ -5,6 +5,7 @@ pub mod Ends
 pub mod Shown
 pub mod Terms
 pub mod Added
+pub mod Cuts
 pub mod TypedLists
 pub mod TypedAsBefore
 pub mod Formulas

@@ -1,4 +1,5 @@
-//! Formulas, effects and typed lists as they are written, with a number for each word and places for faults.
+//! Formulas, effects and typed lists as they are written, with a number for each word and places for faults, and
+//! a list of atoms that takes little memory for each.
 //!
 //! Stands on `sexpr_text` and `htn_base`, and on the definitions of `text_forms`. The contract used above:
 //! each call answers a value exactly where a whole form begins at the token, and else the fault of the
@@ -15,6 +16,7 @@ mod effects;
 mod formulas;
 mod kind;
 mod laws;
+mod raw_facts;
 mod raw_params;
 mod raw_types;
 mod reading;
@@ -27,6 +29,7 @@ pub use cursor::{Item, end_due, item_at, list_due, list_or_end, pass, word_due, 
 pub use effects::{RawEffect, effect_inside_of};
 pub use formulas::{RawFormula, inside_of};
 pub use laws::at_most_one_word_is_added_for_each_token;
+pub use raw_facts::{RawFact, RawFacts};
 pub use raw_params::RawParams;
 pub use raw_types::RawTypes;
 pub use reading::{Got, effect, formula, refusal, typed_list};
