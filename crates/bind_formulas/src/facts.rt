@@ -1,34 +1,35 @@
 ghost use Rattle.std.specs.Prelude.{◌≡◌, [], IfOk, OnOk};
 ghost use Rattle.name_numbers.specs.Spots.{noted};
 ghost use Rattle.name_numbers.specs.Terms.{term_faults};
+ghost use Rattle.plan_model.specs.Facts.{atom_of};
 ghost use Rattle.bind_formulas.specs.Atoms.{atom_faults};
 ghost use Rattle.bind_formulas.specs.Facts.{object_bound, fact_bound};
 
 use crate::atoms::predicate_of;
 use crate::known::Known;
-use gd_reader::{RawAtom, RawTerm};
-use htn_base::{List, Memory};
+use gd_reader::{RawFact, RawTerm};
+use htn_base::Memory;
 use name_numbers::{Faults, Places, found_or_noted};
-use plan_model::GroundAtom;
-use std::alloc::Global;
 
-/// What a fact stands for, where no variable is in force. Faults: those of the atom, so 16 at each variable.
+/// What a fact stands for, where no variable is in force: its predicate, and its objects in place of what stood in `args`. Faults:
+/// those of the atom, so 16 at each variable.
 pub fn fact_of(
-    alloc: Global,
     known: &Known,
-    fact: &RawAtom,
+    fact: &RawFact<'_>,
+    args: &mut Vec<u32>,
     faults: &mut Faults,
-) -> Result<GroundAtom, Memory>
-    ensures bound { IfOk result (λ bound. bound ≡ fact_bound known.now fact.now) }
+) -> Result<u32, Memory>
+    ensures bound { IfOk result
+        (λ predicate. atom_of predicate args.new.items ≡ fact_bound known.now fact.now) }
     ensures faults { OnOk result
         (faults.new.least ≡ noted faults.old.least (atom_faults known.now [] fact.now)) }
 {
     let predicate = predicate_of(&known.predicates, fact.head, fact.args.len(), faults);
-    let mut args = List::new(alloc);
-    for term in fact.args.as_slice() {
+    args.clear();
+    for term in fact.args {
         args.push(object_of(&known.objects, *term, faults))?;
     }
-    Ok(GroundAtom { predicate, args })
+    Ok(predicate)
 }
 
 /// The object of this name.

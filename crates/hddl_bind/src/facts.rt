@@ -3,10 +3,10 @@ ghost use Rattle.name_numbers.specs.Spots.{noted};
 ghost use Rattle.hddl_bind.specs.Facts.{facts_bound, facts_faults};
 
 use bind_formulas::{Known, fact_of};
-use gd_reader::RawAtom;
-use htn_base::{List, Memory};
+use gd_reader::RawFacts;
+use htn_base::Memory;
 use name_numbers::Faults;
-use plan_model::GroundAtom;
+use plan_model::Facts;
 use std::alloc::Global;
 
 /// The facts of a problem, in the same order, repeats too. Faults: 13 and 17 at a predicate's name, 15 at an object's, 16 at a
@@ -14,16 +14,20 @@ use std::alloc::Global;
 pub fn facts_of(
     alloc: Global,
     known: &Known,
-    facts: &[RawAtom],
+    facts: &RawFacts,
     faults: &mut Faults,
-) -> Result<List<GroundAtom>, Memory>
+) -> Result<Facts, Memory>
     ensures bound { IfOk result (λ bound. bound ≡ facts_bound known.now facts.now) }
     ensures faults { OnOk result
         (faults.new.least ≡ noted faults.old.least (facts_faults known.now facts.now)) }
 {
-    let mut bound = List::new(alloc);
-    for fact in facts {
-        bound.put(fact_of(alloc, known, fact, faults))?;
+    let mut bound = Facts::new(alloc);
+    let mut args = Vec::new(alloc);
+    for i in 0..facts.len() {
+        if let Some(fact) = facts.get(i) {
+            let predicate = fact_of(known, &fact, &mut args, faults)?;
+            bound.push(predicate, args.as_slice())?;
+        }
     }
     Ok(bound)
 }

@@ -10,14 +10,14 @@ use bind_types::{objects_of, params_of};
 use hddl_reader::RawProblem;
 use htn_base::{List, Memory, Name};
 use name_numbers::{Faults, Places, Variables};
-use plan_model::{Formula, GroundAtom, MethodSchema, Object};
+use plan_model::{Facts, Formula, MethodSchema, Object};
 use std::alloc::Global;
 
 /// What a problem says beyond its domain. `objects` are its own, without the constants; `top` is the method of its initial network.
 #[derive(Drop)]
 pub struct ProblemParts {
     pub objects: List<Object>,
-    pub init: List<GroundAtom>,
+    pub init: Facts,
     pub goal: Formula,
     pub top: MethodSchema,
 }
@@ -39,7 +39,7 @@ pub fn parts_of(
         faults.old.least faults.new.least) }
 {
     let objects = objects_of(alloc, &known.types, &p.objects, false, faults)?;
-    let init = facts_of(alloc, known, p.init.as_slice(), faults)?;
+    let init = facts_of(alloc, known, &p.init, faults)?;
     let mut none = Variables::new(alloc);
     let goal = formula_of(alloc, known, &mut none, &p.goal, faults)?;
     let top = top_of(alloc, known, callables, name, task, p, faults)?;

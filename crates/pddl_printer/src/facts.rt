@@ -1,4 +1,3 @@
-ghost use Rattle.plan_model.specs.Facts.{fact_seen};
 ghost use Rattle.pddl_printer.specs.Batches.{Added};
 ghost use Rattle.pddl_printer.specs.Behind.{of_each};
 ghost use Rattle.pddl_printer.specs.Texts.{args_text, fact_text};
@@ -21,7 +20,7 @@ fn add_objects(p: &Pddl, objects: &[u32], batch: &mut Batch, sheet: &mut Sheet<'
 
 /// Adds a fact to a batch, behind a space.
 fn add_fact(p: &Pddl, fact: Fact<'_>, batch: &mut Batch, sheet: &mut Sheet<'_>)
-    ensures { Added (fact_text p.now (fact_seen fact.entry)) batch.old batch.new sheet.old sheet.new }
+    ensures { Added (fact_text p.now fact) batch.old batch.new sheet.old sheet.new }
 {
     batch.add(b" (", sheet);
     batch.add(predicate_word(p, fact.predicate), sheet);

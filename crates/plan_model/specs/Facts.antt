@@ -3,15 +3,10 @@
 use Rattle.std.specs.Prelude.{ℕ, ◌≤◌, List, All, map, length, slice_range}
 use Rattle.plan_model.specs.declared.terms.GroundAtom.{GroundAtom}
 use Rattle.plan_model.specs.declared.facts.Cut.{Cut}
-use Rattle.plan_model.specs.declared.facts.Fact.{Fact}
 
 -- the ground atom of a predicate and objects
 abbrev pub atom_of : ℕ → List ℕ → GroundAtom
 atom_of predicate objects = record { predicate = predicate; args = objects }
-
--- what a fact stands for
-abbrev pub fact_seen : Fact → GroundAtom
-fact_seen f = atom_of f.predicate f.args.now
 
 abbrev pub cut_out : List ℕ → Cut → GroundAtom
 cut_out objects c = atom_of c.predicate (slice_range objects c.start c.end)

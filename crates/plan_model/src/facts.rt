@@ -1,19 +1,26 @@
 ghost use Rattle.std.specs.Prelude.{◌≡◌, ◌++◌, ◌∷◌, [], length, slice_get, IfOk, OnOk};
-ghost use Rattle.std.specs.Option.{option_map};
-ghost use Rattle.plan_model.specs.Facts.{fact_seen};
 
 use htn_base::{Memory, number};
 use std::alloc::Global;
 use std::marker::Model;
 
-/// A ground atom of a list of facts: a predicate with objects, as many as it has parameters.
-#[derive(Clone, Copy)]
+/// A ground atom of a list of facts: a predicate with objects, as many as it has parameters. Contracts see the ground
+/// atom.
+#[derive(Drop)]
 pub struct Fact<'a> {
     pub predicate: u32,
     pub args: &'a [u32],
 }
 
-/// A predicate, and where its objects stand among those of all facts.
+impl<'a> Model for Fact<'a> {
+    ghost use Rattle.plan_model.specs.declared.terms.GroundAtom.{GroundAtom};
+
+    ghost Value = { GroundAtom };
+
+    ghost view = { λ f. record { predicate = f.predicate; args = f.args.now } };
+}
+
+/// A predicate, and where its objects stand among those of all facts: from place `start` up to place `end`, from 0.
 #[derive(Clone, Copy)]
 struct Cut {
     predicate: u32,
@@ -72,12 +79,13 @@ impl Facts {
 
     /// The fact at place `i` from 0, or `None` past the end.
     pub fn get(&self, i: usize) -> Option<Fact<'_>>
-        ensures fact { option_map fact_seen result ≡ slice_get self.now i }
+        ensures fact { result ≡ slice_get self.now i }
     {
         let cut = self.cuts.get(i)?;
+        let args = &self.objects[cut.start as usize..cut.end as usize];
         Some(Fact {
             predicate: cut.predicate,
-            args: &self.objects[cut.start as usize..cut.end as usize],
+            args,
         })
     }
 

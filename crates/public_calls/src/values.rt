@@ -5,7 +5,7 @@ ghost use Rattle.plan_model.specs.Parts.{AreListed};
 
 use htn_base::{Boxed, List, Memory, Name};
 use plan_model::{
-    Atom, Child, Formula, GroundAtom, Head, Object, Parent, Term, Types, in_type, members,
+    Atom, Child, Facts, Formula, Head, Object, Parent, Term, Types, in_type, members,
 };
 use std::alloc::Global;
 use std::test::Fail;
@@ -24,8 +24,20 @@ fn atoms(rt: HostRuntime) -> Result<(), Fail> {
     let predicate = 3;
     let args = List::new(rt.alloc());
     assert!(rt; Atom { predicate, args }.copy(rt.alloc()).is_ok());
-    let args = List::new(rt.alloc());
-    assert!(rt; GroundAtom { predicate, args }.copy(rt.alloc()).is_ok());
+    Ok(())
+}
+
+#[test]
+fn facts(rt: HostRuntime) -> Result<(), Fail> {
+    let mut facts = Facts::with_room(rt.alloc(), 2, 3)?;
+    facts.push(7, &[4, 5])?;
+    facts.push(8, &[6])?;
+    assert_eq!(rt; facts.len(), 2);
+    assert!(rt; match facts.get(1) {
+        Some(fact) => fact.predicate == 8 && fact.args == [6],
+        None => false,
+    });
+    assert!(rt; facts.get(2).is_none());
     Ok(())
 }
 

@@ -8,7 +8,7 @@ ghost use Rattle.public_runs.specs.Numbered.{AreFewObjects, AreFewActions};
 
 use htn_base::{Boxed, List, Memory, Name, NameTable, Text};
 use plan_model::{
-    ActionSchema, Atom, Effect, Formula, GroundAction, GroundAtom, Object, Param, Parent, Pddl,
+    ActionSchema, Atom, Effect, Facts, Formula, GroundAction, Object, Param, Parent, Pddl,
     Term, Types,
 };
 use std::alloc::Global;
@@ -96,18 +96,10 @@ pub fn action(
     })
 }
 
-pub fn fact(alloc: Global, predicate: u32, objects: &[u32]) -> Result<GroundAtom, Memory> {
-    let mut args = List::new(alloc);
-    for object in objects {
-        args.push(*object)?;
-    }
-    Ok(GroundAtom { predicate, args })
-}
-
-pub fn facts(alloc: Global, written: &[(u32, &[u32])]) -> Result<List<GroundAtom>, Memory> {
-    let mut facts = List::new(alloc);
+pub fn facts(alloc: Global, written: &[(u32, &[u32])]) -> Result<Facts, Memory> {
+    let mut facts = Facts::new(alloc);
     for (predicate, objects) in written {
-        facts.put(fact(alloc, *predicate, objects))?;
+        facts.push(*predicate, objects)?;
     }
     Ok(facts)
 }
@@ -168,7 +160,7 @@ pub fn problem(
     types: Types,
     objects: List<Object>,
     actions: List<ActionSchema>,
-    init: List<GroundAtom>,
+    init: Facts,
     goal: Formula,
 ) -> Pddl
     requires names { IsTable names }

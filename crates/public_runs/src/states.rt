@@ -7,7 +7,7 @@ ghost use Rattle.ground_state.specs.Room.{Fits, EffectFits};
 
 use ground_state::{Env, State, holds};
 use htn_base::{List, Memory};
-use plan_model::{Atom, Effect, Formula, GroundAtom, Term, Types};
+use plan_model::{Atom, Effect, Facts, Formula, GroundAtom, Term, Types};
 use std::alloc::Global;
 use std::test::Fail;
 
@@ -47,8 +47,8 @@ fn same() -> Formula
 #[test]
 fn states(rt: HostRuntime) -> Result<(), Fail> {
     let fact = fact(rt.alloc())?;
-    let mut atoms = List::new(rt.alloc());
-    atoms.push(fact.copy(rt.alloc())?)?;
+    let mut atoms = Facts::new(rt.alloc());
+    atoms.push(fact.predicate, fact.args.as_slice())?;
     let mut state = State::new(rt.alloc(), &atoms)?;
     let mut env = Env::new(rt.alloc(), &fact.args, 1, 1)?;
     let types = no_types(rt.alloc());

@@ -1,6 +1,5 @@
 ghost use Rattle.std.specs.Prelude.{◌≡◌, [], ◌∷◌, ◌++◌, cond, IfOk, OnOk};
 ghost use Rattle.plan_meaning.specs.Compilation.{once};
-ghost use Rattle.plan_model.specs.Facts.{fact_seen};
 ghost use Rattle.slot_encoding.specs.EncodedValue.{same_atom};
 
 use htn_base::Memory;
@@ -15,7 +14,7 @@ pub(crate) fn push_single(alloc: Global, facts: &Facts, into: &mut Facts) -> Res
     let mut seen = HashSet::new(alloc);
     for i in 0..facts.len() {
         if let Some(fact) = facts.get(i) {
-            let new = seen.insert(key(alloc, fact)?)?;
+            let new = seen.insert(key(alloc, &fact)?)?;
             push_new(new, fact, into)?;
         }
     }
@@ -23,7 +22,7 @@ pub(crate) fn push_single(alloc: Global, facts: &Facts, into: &mut Facts) -> Res
 }
 
 fn push_new(new: bool, fact: Fact<'_>, into: &mut Facts) -> Result<(), Memory>
-    ensures { OnOk result (into.new ≡ into.old ++ cond new (fact_seen fact.entry ∷ []) []) }
+    ensures { OnOk result (into.new ≡ into.old ++ cond new (fact ∷ []) []) }
 {
     if new {
         into.push(fact.predicate, fact.args)
@@ -33,8 +32,8 @@ fn push_new(new: bool, fact: Fact<'_>, into: &mut Facts) -> Result<(), Memory>
 }
 
 /// What tells a fact from others: its predicate and its objects, in one list.
-fn key(alloc: Global, fact: Fact<'_>) -> Result<Vec<u32>, Memory>
-    ensures { IfOk result (λ key. key.items ≡ fact.entry.predicate ∷ fact.entry.args.now) }
+fn key(alloc: Global, fact: &Fact<'_>) -> Result<Vec<u32>, Memory>
+    ensures { IfOk result (λ key. key.items ≡ fact.now.predicate ∷ fact.now.args) }
 {
     let mut key = Vec::with_capacity(alloc, fact.args.len() + 1)?;
     key.push(fact.predicate)?;

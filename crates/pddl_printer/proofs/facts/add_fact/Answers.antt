@@ -9,7 +9,7 @@ use Rattle.pddl_printer.proofs.facts.add_fact.Goals as goal
 
 pub returns : goal.returns
 returns c =
-    added-headed (word_at (pddl_words c.args.p.now).predicates c.args.fact.predicate) (all_parts (map (term_part (pddl_words c.args.p.now) []) (map (λ x. Obj x) c.args.fact.args.now)))
+    added-headed (word_at (pddl_words c.args.p.now).predicates c.args.fact.predicate) (all_parts (map (term_part (pddl_words c.args.p.now) []) (map (λ x. Obj x) c.args.fact.args)))
     (added-then c.add.ensures (added-as c.predicate_word.ensures c.add-2.ensures))
     c.add_objects.ensures
     c.add-3.ensures

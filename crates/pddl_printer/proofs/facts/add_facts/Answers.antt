@@ -1,5 +1,4 @@
 use Rattle.std.proofs.Common.{rules, refl, subst, ◌<◌}
-use Rattle.plan_model.specs.Facts.{fact_seen}
 use Rattle.plan_model.proofs.ReadAt.{read_is, none_read}
 use Rattle.pddl_printer.specs.Texts.{fact_text}
 use Rattle.pddl_printer.proofs.Batches.{each-added, each-added-all}
@@ -12,9 +11,9 @@ loop-i-preserved c =
     let i = c.loop-i.i in
     let within = subst (λ n. i < n) c.len-i-end.ensures.length c.loop-i-test.true in
     elim c.match-get.branch [
-      in-Some w ↦ rw (w.batch-is, w.sheet-is) (each-added (fact_text c.args.p.now) facts i (fact_seen w.in-Some.fact) within
-          (read_is fact_seen facts i c.get.result w.in-Some.fact c.get.ensures.fact w.in-Some.is) c.loop-i.invariant w.add_fact.ensures)
-    | in_default w ↦ absurd (none_read fact_seen facts i c.get.result within c.get.ensures.fact w.in_default.is) ]
+      in-Some w ↦ rw (w.batch-is, w.sheet-is) (each-added (fact_text c.args.p.now) facts i w.in-Some.fact within
+          (read_is facts i c.get.result c.get.ensures.fact w.in-Some.fact w.in-Some.is) c.loop-i.invariant w.add_fact.ensures)
+    | in_default w ↦ absurd (none_read facts i c.get.result c.get.ensures.fact within w.in_default.is) ]
 
 pub returns : goal.returns
 returns c = each-added-all (fact_text c.args.p.now) c.args.facts.now c.loop-i.i (search rules) refl c.loop-i.invariant

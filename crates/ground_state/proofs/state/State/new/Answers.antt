@@ -1,7 +1,6 @@
 use Rattle.std.proofs.Common.{rules, ◌+◌, ◌<◌, sym, ◌≤◌, take, Contains, true, List, Some, length, refl, subst}
 use Rattle.std.proofs.lemmas.List.{take_all}
 use Rattle.plan_model.specs.declared.terms.GroundAtom.{GroundAtom}
-use Rattle.plan_model.specs.Facts.{fact_seen}
 use Rattle.plan_model.proofs.ReadAt.{read_is, none_read}
 use Rattle.ground_state.specs.declared.state.State.{State}
 use Rattle.ground_state.specs.States.{Has}
@@ -16,12 +15,12 @@ loop-i-preserved c =
     let within = subst (λ n. i < n) c.len-i-end.ensures.length c.loop-i-test.true in
     elim c.match-get.branch [
       in-Some+in_ok-insert w ↦
-        let x = fact_seen w.in-Some.atom in
-        let is = read_is fact_seen xs i c.get.result w.in-Some.atom c.get.ensures.fact w.in-Some.is in
+        let x = w.in-Some.atom in
+        let is = read_is xs i c.get.result c.get.ensures.fact x w.in-Some.is in
         subst (λ (s : State). Has s (Contains (take (i + 1) xs))) (sym w.state-is)
         (new-next xs i x c.loop-i.state w.insert.new.self within is c.loop-i.invariant
         (made-true c.loop-i.state w.insert.new.self x (Some true) w.in_ok-insert.ensures.inserted refl))
-    | in_default w ↦ absurd (none_read fact_seen xs i c.get.result within c.get.ensures.fact w.in_default.is) ]
+    | in_default w ↦ absurd (none_read xs i c.get.result c.get.ensures.fact within w.in_default.is) ]
 
 pub returns : goal.returns
 returns c =
