@@ -160,6 +160,9 @@ used_names names (word at w p) = used names at w >>= (λ x. used_names x.1 p >>=
 unfoldable pub assignment : Placed → Result (Unit {0}) Stop
 assignment p = list_due p >>= (λ g. passed g.0 >>= (λ _. word_due g.1 >>= (λ v. end_due v.2)))
 
+abbrev pub applied_to : List RawTerm → RawTerm → RawAtom
+applied_to args head = record { head = head; args = args }
+
 -- an element of :init in its parentheses: an atom, or an assignment, of which nothing is kept
 unfoldable pub fact : Names → Placed → Result (Option RawAtom × Names) Stop
 fact names p = word_due p >>= (λ v.

@@ -12,7 +12,8 @@ use crate::networks::{RawNet, declared_of};
 use crate::parts::RawParts;
 use crate::section_bodies::sections_of;
 use crate::sections::{
-    Definition, Language, RawDomain, RawProblem, RawSections, or_none, or_true, params_or_none,
+    Definition, Language, RawDomain, RawProblem, RawSections, facts_or_none, or_none, or_true,
+    params_or_none,
 };
 use gd_reader::{Failure, Item, Stop, is_word, item_at};
 use htn_base::{Fault, Name, NameTable};
@@ -72,7 +73,7 @@ impl RawSections {
             objects: params_or_none(alloc, self.objects),
             params: params_or_none(alloc, network.params),
             net,
-            init: or_none(alloc, self.init),
+            init: facts_or_none(alloc, self.init),
             goal: or_true(alloc, self.goal),
         }
     }

@@ -1,15 +1,16 @@
+ghost use Rattle.std.specs.Option.{option_map};
 ghost use Rattle.htn_base.specs.Words.{folded};
 ghost use Rattle.text_forms.specs.Placed.{parts_at};
 ghost use Rattle.gd_reader.specs.Added.{AddsOf};
 ghost use Rattle.gd_reader.specs.Answers.{Gives, GivesWith};
 ghost use Rattle.gd_reader.specs.Terms.{Keeps};
-ghost use Rattle.hddl_reader.specs.Sections.{words, dropped_name, used_names, assignment, fact, facts, goal};
+ghost use Rattle.hddl_reader.specs.Sections.{words, dropped_name, used_names, assignment, applied_to, fact, facts, goal};
 
 use gd_reader::{
-    Failure, Item, RawAtom, RawFormula, RawTerm, Sort, Stop, end_due, inside_of, is_word, item_at,
+    Failure, Item, RawFacts, RawFormula, RawTerm, Sort, Stop, end_due, inside_of, is_word, item_at,
     list_due, list_or_end, pass, sort_of, used_of, word_due, word_or_end,
 };
-use htn_base::{List, NameTable};
+use htn_base::NameTable;
 use sexpr_text::Sexprs;
 use std::alloc::Global;
 
@@ -40,25 +41,26 @@ pub(crate) fn dropped_name(s: &Sexprs<'_>, i: u32) -> Result<(), Failure>
     }
 }
 
-// Names that are used, from token `i` up to the end of their list.
+// Names that are used, from token `i` up to the end of their list. They come in the place of those that stood in `used`.
 #[tactic(auto, using(gd_reader::proofs::Keeping::keeps_same, gd_reader::proofs::Keeping::keeps_then))]
 fn used_names_of(
-    alloc: Global,
     s: &Sexprs<'_>,
     mut i: u32,
     names: &mut NameTable,
-) -> Result<List<RawTerm>, Failure>
+    used: &mut Vec<RawTerm>,
+) -> Result<(), Failure>
     ensures keeps { Keeps names.old names.new }
     ensures adds { AddsOf s.now names.old names.new }
-    ensures gives { GivesWith names.new result (used_names names.old (parts_at s.now i)) }
+    ensures gives { Gives (λ _. (used.new.items, names.new)) result
+        (used_names names.old (parts_at s.now i)) }
 {
-    let mut used = List::new(alloc);
+    used.clear();
     while let Some((at, word, behind)) = word_or_end(s, i)? {
         let name = used_of(names, at, word)?;
         used.push(name)?;
         i = behind;
     }
-    Ok(used)
+    Ok(())
 }
 
 // Behind the sign of an assignment: a list, a word, and the end, all dropped.
@@ -72,17 +74,19 @@ fn assignment(s: &Sexprs<'_>, i: u32) -> Result<(), Failure>
     end_due(s, behind)
 }
 
-// What stands in the parentheses of an element of `:init`: an atom, or an assignment, of which nothing is kept.
+// What stands in the parentheses of an element of `:init`: an atom, as its head, and its names in `args`; or an
+// assignment, of which nothing is kept.
 #[tactic(auto, unfolding(crate::specs::Sections::fact), using(gd_reader::proofs::Keeping::keeps_same, gd_reader::proofs::Keeping::keeps_then))]
 fn fact_of(
-    alloc: Global,
     s: &Sexprs<'_>,
     i: u32,
     names: &mut NameTable,
-) -> Result<Option<RawAtom>, Failure>
+    args: &mut Vec<RawTerm>,
+) -> Result<Option<RawTerm>, Failure>
     ensures keeps { Keeps names.old names.new }
     ensures adds { AddsOf s.now names.old names.new }
-    ensures gives { GivesWith names.new result (fact names.old (parts_at s.now i)) }
+    ensures gives { Gives (λ head. (option_map (applied_to args.new.items) head, names.new)) result
+        (fact names.old (parts_at s.now i)) }
 {
     let (at, word, i) = word_due(s, i)?;
     if is_word(word, b"=") {
@@ -90,10 +94,13 @@ fn fact_of(
         Ok(None)
     } else {
         let head = used_of(names, at, word)?;
-        let args = used_names_of(alloc, s, i, names)?;
-        Ok(Some(RawAtom { head, args }))
+        used_names_of(s, i, names, args)?;
+        Ok(Some(head))
     }
 }
+
+// The fewest tokens of an atom: its two parentheses and its head.
+const FEWEST_TOKENS: usize = 3;
 
 /// The atoms of `:init` from token `i` up to the end of the section.
 #[tactic(auto, using(gd_reader::proofs::Keeping::keeps_same, gd_reader::proofs::Keeping::keeps_then))]
@@ -102,15 +109,17 @@ pub(crate) fn facts_of(
     s: &Sexprs<'_>,
     mut i: u32,
     names: &mut NameTable,
-) -> Result<List<RawAtom>, Failure>
+) -> Result<RawFacts, Failure>
     ensures keeps { Keeps names.old names.new }
     ensures adds { AddsOf s.now names.old names.new }
     ensures gives { GivesWith names.new result (facts names.old (parts_at s.now i)) }
 {
-    let mut facts = List::new(alloc);
+    let tokens = s.len().saturating_sub(i) as usize;
+    let mut facts = RawFacts::with_room(alloc, tokens / FEWEST_TOKENS, tokens)?;
+    let mut args = Vec::new(alloc);
     while let Some((inside, behind)) = list_or_end(s, i)? {
-        if let Some(fact) = fact_of(alloc, s, inside, names)? {
-            facts.push(fact)?;
+        if let Some(head) = fact_of(s, inside, names, &mut args)? {
+            facts.push(head, args.as_slice())?;
         }
         i = behind;
     }

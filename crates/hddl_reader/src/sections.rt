@@ -13,8 +13,8 @@ use crate::items::Item;
 use crate::networks::{RawNet, declared_of};
 use crate::parts::{RawParts, unknown};
 use gd_reader::{
-    Failure, Item as Shown, ListKind, RawAtom, RawEffect, RawFormula, RawParams, RawTerm, Stop,
-    is_word, item_at, params_of,
+    Failure, Item as Shown, ListKind, RawAtom, RawEffect, RawFacts, RawFormula, RawParams, RawTerm,
+    Stop, is_word, item_at, params_of,
 };
 use htn_base::{List, Name, NameTable};
 use sexpr_text::Sexprs;
@@ -89,7 +89,7 @@ pub struct RawSections {
     pub domain: bool,
     pub objects: Option<RawParams>,
     pub network: Option<RawParts>,
-    pub init: Option<List<RawAtom>>,
+    pub init: Option<RawFacts>,
     pub goal: Option<RawFormula>,
     pub metric: bool,
 }
@@ -113,7 +113,7 @@ pub struct RawProblem {
     pub objects: RawParams,
     pub params: RawParams,
     pub net: RawNet,
-    pub init: List<RawAtom>,
+    pub init: RawFacts,
     pub goal: RawFormula,
 }
 
@@ -132,6 +132,15 @@ pub(crate) fn params_or_none(alloc: Global, params: Option<RawParams>) -> RawPar
     match params {
         None => RawParams::new(alloc),
         Some(params) => params,
+    }
+}
+
+pub(crate) fn facts_or_none(alloc: Global, facts: Option<RawFacts>) -> RawFacts
+    ensures { result ≡ or_none facts }
+{
+    match facts {
+        None => RawFacts::new(alloc),
+        Some(facts) => facts,
     }
 }
 

@@ -2,8 +2,8 @@
 
 ghost use Rattle.std.specs.Prelude.{◌≤◌, length};
 
-use gd_reader::{ListKind, RawEffect, RawFormula, effect, formula, typed_list};
-use htn_base::{Fault, NameTable};
+use gd_reader::{ListKind, RawEffect, RawFacts, RawFormula, RawTerm, effect, formula, typed_list};
+use htn_base::{Fault, Name, NameTable};
 use sexpr_text::{ReadError, read};
 use std::alloc::Global;
 use std::process::Abort;
@@ -157,4 +157,36 @@ fn list_with_a_union(rt: HostRuntime) {
         Some(param) => assert_eq!(rt; (param.at, param.ty.len()), (1, 2)),
         None => panic!(rt; "an empty list"),
     }
+}
+
+fn named(number: u32) -> RawTerm {
+    RawTerm {
+        name: Name { number },
+        variable: false,
+        at: number,
+    }
+}
+
+// The offset of the head, the number of the terms, and the offset of the last one.
+fn seen(facts: &RawFacts, i: usize) -> Option<(u32, usize, Option<u32>)> {
+    let fact = facts.get(i)?;
+    let last = match fact.args.last() {
+        Some(term) => Some(term.at),
+        None => None,
+    };
+    Some((fact.head.at, fact.args.len(), last))
+}
+
+#[test]
+fn facts_with_their_terms(rt: HostRuntime) {
+    let mut facts = RawFacts::with_room(rt.alloc(), 1, 1).expect(&rt, "room");
+    let rows: [(u32, &[RawTerm]); 3] = [(0, &[named(1), named(2)]), (3, &[]), (4, &[named(5)])];
+    for (head, terms) in rows {
+        facts.push(named(head), terms).expect(&rt, "a fact");
+    }
+    assert_eq!(rt; (facts.len(), RawFacts::new(rt.alloc()).len()), (3, 0));
+    assert_eq!(rt; seen(&facts, 0), Some((0, 2, Some(2))));
+    assert_eq!(rt; seen(&facts, 1), Some((3, 0, None)));
+    assert_eq!(rt; seen(&facts, 2), Some((4, 1, Some(5))));
+    assert_eq!(rt; seen(&facts, 3), None);
 }

@@ -7,12 +7,12 @@ use Rattle.gd_reader.specs.Terms.{Keeps}
 use Rattle.hddl_reader.specs.Sections.{facts}
 use Rattle.hddl_reader.proofs.facts.facts_of.Given as goal
 
-abbrev pub invariant-loop-facts : goal.invariant-loop-facts
-invariant-loop-facts l = record {
+abbrev pub invariant-loop-args : goal.invariant-loop-args
+invariant-loop-args l = record {
   keeps : Keeps l.initial.names l.names;
   adds : AddsOf l.s l.initial.names l.names;
   rest : with_front l.facts (facts l.names (parts_at l.s l.i)) ≡ facts l.initial.names (parts_at l.s l.initial.i);
 }
 
-abbrev pub decreases-loop-facts : goal.decreases-loop-facts
-decreases-loop-facts l = token_count l.s - l.i
+abbrev pub decreases-loop-args : goal.decreases-loop-args
+decreases-loop-args l = token_count l.s - l.i

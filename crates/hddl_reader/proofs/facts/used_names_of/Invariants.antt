@@ -7,12 +7,12 @@ use Rattle.gd_reader.specs.Terms.{Keeps}
 use Rattle.hddl_reader.specs.Sections.{used_names}
 use Rattle.hddl_reader.proofs.facts.used_names_of.Given as goal
 
-abbrev pub invariant-loop-used : goal.invariant-loop-used
-invariant-loop-used l = record {
+abbrev pub invariant-loop-at : goal.invariant-loop-at
+invariant-loop-at l = record {
   keeps : Keeps l.initial.names l.names;
   adds : AddsOf l.s l.initial.names l.names;
-  rest : with_front l.used (used_names l.names (parts_at l.s l.i)) ≡ used_names l.initial.names (parts_at l.s l.initial.i);
+  rest : with_front l.used.items (used_names l.names (parts_at l.s l.i)) ≡ used_names l.initial.names (parts_at l.s l.initial.i);
 }
 
-abbrev pub decreases-loop-used : goal.decreases-loop-used
-decreases-loop-used l = token_count l.s - l.i
+abbrev pub decreases-loop-at : goal.decreases-loop-at
+decreases-loop-at l = token_count l.s - l.i
