@@ -19,8 +19,8 @@ fn add_objects(p: &Pddl, objects: &[u32], batch: &mut Batch, sheet: &mut Sheet<'
 }
 
 /// Adds a fact to a batch, behind a space.
-fn add_fact(p: &Pddl, fact: Fact<'_>, batch: &mut Batch, sheet: &mut Sheet<'_>)
-    ensures { Added (fact_text p.now fact) batch.old batch.new sheet.old sheet.new }
+fn add_fact(p: &Pddl, fact: &Fact<'_>, batch: &mut Batch, sheet: &mut Sheet<'_>)
+    ensures { Added (fact_text p.now fact.now) batch.old batch.new sheet.old sheet.new }
 {
     batch.add(b" (", sheet);
     batch.add(predicate_word(p, fact.predicate), sheet);
@@ -34,7 +34,7 @@ fn add_facts(p: &Pddl, facts: &Facts, batch: &mut Batch, sheet: &mut Sheet<'_>)
 {
     for i in 0..facts.len() {
         if let Some(fact) = facts.get(i) {
-            add_fact(p, fact, batch, sheet);
+            add_fact(p, &fact, batch, sheet);
         }
     }
 }

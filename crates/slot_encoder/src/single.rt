@@ -15,14 +15,14 @@ pub(crate) fn push_single(alloc: Global, facts: &Facts, into: &mut Facts) -> Res
     for i in 0..facts.len() {
         if let Some(fact) = facts.get(i) {
             let new = seen.insert(key(alloc, &fact)?)?;
-            push_new(new, fact, into)?;
+            push_new(new, &fact, into)?;
         }
     }
     Ok(())
 }
 
-fn push_new(new: bool, fact: Fact<'_>, into: &mut Facts) -> Result<(), Memory>
-    ensures { OnOk result (into.new ≡ into.old ++ cond new (fact ∷ []) []) }
+fn push_new(new: bool, fact: &Fact<'_>, into: &mut Facts) -> Result<(), Memory>
+    ensures { OnOk result (into.new ≡ into.old ++ cond new (fact.now ∷ []) []) }
 {
     if new {
         into.push(fact.predicate, fact.args)

@@ -1,18 +1,20 @@
-use Rattle.std.proofs.Common.{[]}
+use Rattle.std.proofs.Common.{rules, ◌≡◌, ◌<◌, ◌≤◌, [], length, subst}
+use Rattle.plan_model.proofs.ReadAt.{read_is, none_read}
 use Rattle.bind_formulas.specs.Atoms.{atom_faults}
 use Rattle.bind_formulas.specs.Facts.{fact_bound}
-use Rattle.bind_networks.proofs.Steps.{noted_step, map_step, put_is, if_put}
+use Rattle.bind_networks.proofs.Steps.{noted_step, map_step}
 use Rattle.hddl_bind.proofs.facts.facts_of.Goals as goal
+use Rattle.hddl_bind.proofs.facts.facts_of.Goals.{in-Some+in_ok-predicate+in_ok-push, in_default}
 
-pub loop-fact-preserved : goal.loop-fact-preserved
-loop-fact-preserved c =
+pub loop-i-preserved : goal.loop-i-preserved
+loop-i-preserved c =
     let xs = c.args.facts.now in
-    let i = c.loop-fact.fact-index in
-    let x = c.fact-item.result in
-    let l = c.loop-fact-test.true in
+    let i = c.loop-i.i in
     let known = c.args.known.now in
-    let made = c.fact_of.result in
-    record {
-      bound = map_step xs i x x l c.fact-item.is (fact_bound known) _ _ c.loop-fact.invariant.bound (put_is made _ _ _ c.fact_of.ensures.bound c.in_ok-put.ensures.put);
-      faults = noted_step xs i x x l c.fact-item.is (atom_faults known []) _ _ _ c.loop-fact.invariant.faults (if_put made _ c.fact_of.ensures.faults c.in_ok-put.ensures.put);
-    }
+    let within = subst (λ n. i < n) c.len-i-end.ensures.length c.loop-i-test.true in
+    elim c.match-get.branch [
+      in-Some+in_ok-predicate+in_ok-push w ↦
+        let x = w.in-Some.fact in
+        let is = read_is xs i c.get.result c.get.ensures.fact x w.in-Some.is in
+        ?
+    | in_default w ↦ absurd (none_read xs i c.get.result c.get.ensures.fact within w.in_default.is) ]

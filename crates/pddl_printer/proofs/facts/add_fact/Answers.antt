@@ -9,7 +9,9 @@ use Rattle.pddl_printer.proofs.facts.add_fact.Goals as goal
 
 pub returns : goal.returns
 returns c =
-    added-headed (word_at (pddl_words c.args.p.now).predicates c.args.fact.predicate) (all_parts (map (term_part (pddl_words c.args.p.now) []) (map (λ x. Obj x) c.args.fact.args)))
+    let words = pddl_words c.args.p.now in
+    let inside = c.fact.inside in
+    rw (← c.fact.view_is) (added-headed (word_at words.predicates inside.predicate) (all_parts (map (term_part words []) (map (λ x. Obj x) inside.args.now)))
     (added-then c.add.ensures (added-as c.predicate_word.ensures c.add-2.ensures))
     c.add_objects.ensures
-    c.add-3.ensures
+    c.add-3.ensures)

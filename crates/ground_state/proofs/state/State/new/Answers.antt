@@ -3,7 +3,7 @@ use Rattle.std.proofs.lemmas.List.{take_all}
 use Rattle.plan_model.specs.declared.terms.GroundAtom.{GroundAtom}
 use Rattle.plan_model.proofs.ReadAt.{read_is, none_read}
 use Rattle.ground_state.specs.declared.state.State.{State}
-use Rattle.ground_state.specs.States.{Has}
+use Rattle.ground_state.specs.States.{Has, IsNoted}
 use Rattle.ground_state.proofs.StateLaws.{new-next, made-true}
 use Rattle.ground_state.proofs.state.State.new.Goals as goal
 use Rattle.ground_state.proofs.state.State.new.Goals.{in-Some+in_ok-insert, in_default}
@@ -19,7 +19,7 @@ loop-i-preserved c =
         let is = read_is xs i c.get.result c.get.ensures.fact x w.in-Some.is in
         subst (λ (s : State). Has s (Contains (take (i + 1) xs))) (sym w.state-is)
         (new-next xs i x c.loop-i.state w.insert.new.self within is c.loop-i.invariant
-        (made-true c.loop-i.state w.insert.new.self x (Some true) w.in_ok-insert.ensures.inserted refl))
+        (made-true c.loop-i.state w.insert.new.self x (Some true) (subst (λ (a : GroundAtom). IsNoted c.loop-i.state a (Some true) w.insert.new.self) w.atom.view_is w.in_ok-insert.ensures.inserted) refl))
     | in_default w ↦ absurd (none_read xs i c.get.result c.get.ensures.fact within w.in_default.is) ]
 
 pub returns : goal.returns
