@@ -20,7 +20,7 @@ copy=$(mktemp -d)
 trap 'rm -rf "$copy"' EXIT
 bench="$copy/crates/run_bench"
 mkdir -p "$bench/src" "$bench/specs" "$bench/proofs"
-for crate in htn_base task_networks plan_model plan_meaning ground_state; do
+for crate in htn_base task_networks plan_model plan_meaning problem_index ground_state; do
     cp -a "$top/crates/$crate" "$copy/crates/"
     grep "^$crate:" "$top/crates.txt" >>"$copy/crates.txt"
 done

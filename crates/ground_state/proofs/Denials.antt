@@ -9,7 +9,6 @@ use Rattle.std.specs.Ordering.{nat_cmp, is_eq}
 use Rattle.std.proofs.lemmas.Bool.{cases_lt, cases_eq}
 use Rattle.std.proofs.lemmas.List.{get_or_past}
 use Rattle.std.proofs.lemmas.Option.{slice_get_within}
-use Rattle.plan_model.specs.declared.types.Object.{Object}
 use Rattle.plan_model.specs.declared.terms.Term.{Term}
 use Rattle.plan_model.specs.declared.terms.Atom.{Atom}
 use Rattle.plan_model.specs.declared.terms.GroundAtom.{GroundAtom}
@@ -18,12 +17,12 @@ use Rattle.plan_model.specs.declared.effects.Effect.{Effect}
 use Rattle.plan_model.specs.declared.effects.Effect.TheVariants as E
 use Rattle.plan_meaning.specs.Truth as truth
 use Rattle.plan_meaning.specs.Truth.{ground, values_of, AreTyped}
-use Rattle.ground_state.specs.declared.kinds.Kind.{Kind}
+use Rattle.problem_index.specs.declared.domain.Domain.{Domain}
+use Rattle.problem_index.specs.Domains.{IsIn}
 use Rattle.ground_state.specs.declared.notes.Notes.{Notes}
 use Rattle.ground_state.specs.declared.state.State.{State}
 use Rattle.ground_state.specs.declared.passes.Pass.{Pass}
 use Rattle.ground_state.specs.declared.passes.Pass.TheVariants as passes
-use Rattle.ground_state.specs.Kinds.{IsOfKind}
 use Rattle.ground_state.specs.Numbers.{number_of}
 use Rattle.ground_state.specs.Notes as notes
 use Rattle.ground_state.specs.Notes.{noted_at, noted, holds, IsNoted, IsSet, AreSame, HoldSame, AreDenied}
@@ -168,16 +167,16 @@ module _ (s : State) (p : ℕ) (old new : Notes) (at : slice_get s.facts.items p
     ],
   )
 
-  -- the atom is made false with each object of the kind
-  pub denied : (pass : Pass) (k : Kind) (objects : List Object) (e : Effect) (a : Atom) (terms : List Term) (values : List ℕ) (found : Bool) → pass ≡ passes.Deny → e ≡ E.Delete a → a.predicate ≡ p → terms ≡ a.args
-      → MatchBool found (AreDenied old (notes.IsWithOne k objects values terms) new) (AreSame old new) → MatchBool found (HasDenied pass k objects e values s t) (HasSameNotes s t)
-  denied pass k objects e a terms values false d f q r h = same_notes h
-  denied pass k objects e a terms values true d f q r h = (
+  -- the atom is made false with each object of the domain
+  pub denied : (pass : Pass) (k : Domain) (e : Effect) (a : Atom) (terms : List Term) (values : List ℕ) (found : Bool) → pass ≡ passes.Deny → e ≡ E.Delete a → a.predicate ≡ p → terms ≡ a.args
+      → MatchBool found (AreDenied old (notes.AreOf k values terms) new) (AreSame old new) → MatchBool found (HasDenied pass k e values s t) (HasSameNotes s t)
+  denied pass k e a terms values false d f q r h = same_notes h
+  denied pass k e a terms values true d f q r h = (
     d,
     (
       a,
       f,
-      passes_denied (notes.IsWithOne k objects values terms) (IsWithOne k objects a values) (λ g. (
+      passes_denied (notes.AreOf k values terms) (IsWithOne k a values) (λ g. (
         λ x. (ap (λ (b : GroundAtom). b.predicate) x.2 ∙ q, (x.0, x.1, ap (λ (b : GroundAtom). b.args) x.2 ∙ ap (values_of (values ++ x.0 ∷ [])) (sym r))),
         λ x. (x.1.0, x.1.1, same-atoms g (ground (values ++ x.1.0 ∷ []) a) (x.0 ∙ sym q) (x.1.2 ∙ ap (values_of (values ++ x.1.0 ∷ [])) r)),
       )) h,
@@ -185,19 +184,19 @@ module _ (s : State) (p : ℕ) (old new : Notes) (at : slice_get s.facts.items p
   )
 
 -- with each object of the one type the pass has been made
-pub denied-within : (InType : ℕ → ℕ → Type 0) (S : truth.State) (pass : Pass) (k : Kind) (objects : List Object) (e : Effect) (v : List ℕ) (p : Param) (ps : List Param) (old new : State)
-    → ps ≡ p ∷ [] → ((x : ℕ) → IsOfKind k objects x ↔ InType x p.ty) → HasDenied pass k objects e v old new → Passes pass (TouchesWithin InType S (of_adds pass) ps e v) old new
-denied-within InType S pass k objects e v p ps old new one typed (d, (a, q, h)) =
+pub denied-within : (InType : ℕ → ℕ → Type 0) (S : truth.State) (pass : Pass) (k : Domain) (e : Effect) (v : List ℕ) (p : Param) (ps : List Param) (old new : State)
+    → ps ≡ p ∷ [] → ((x : ℕ) → IsIn k x ↔ InType x p.ty) → HasDenied pass k e v old new → Passes pass (TouchesWithin InType S (of_adds pass) ps e v) old new
+denied-within InType S pass k e v p ps old new one typed (d, (a, q, h)) =
     subst (λ r. Passes r (TouchesWithin InType S (of_adds r) ps e v) old new) (sym d)
-    (subst (λ qs. Passes passes.Deny (TouchesWithin InType S false qs e v) old new) (sym one) (passes-same passes.Deny (IsWithOne k objects a v) (TouchesWithin InType S false (p ∷ []) e v) old new same h))
+    (subst (λ qs. Passes passes.Deny (TouchesWithin InType S false qs e v) old new) (sym one) (passes-same passes.Deny (IsWithOne k a v) (TouchesWithin InType S false (p ∷ []) e v) old new same h))
   where
     deletes : (os : List ℕ) (g : GroundAtom) → (g ≡ ground (v ++ os) a) ↔ Touches InType S false e (v ++ os) g
     deletes os = touches-Delete InType S (v ++ os) false e a q refl
 
-    of-one : (g : GroundAtom) (os : List ℕ) → AreTyped InType (p ∷ []) os → Touches InType S false e (v ++ os) g → IsWithOne k objects a v g
+    of-one : (g : GroundAtom) (os : List ℕ) → AreTyped InType (p ∷ []) os → Touches InType S false e (v ++ os) g → IsWithOne k a v g
     of-one g [] t h = absurd t
     of-one g (x ∷ []) t h = (x, (typed x).1 t.0, (deletes (x ∷ []) g).1 h)
     of-one g (x ∷ (y ∷ os)) t h = absurd t.1
 
-    same : (g : GroundAtom) → IsWithOne k objects a v g ↔ TouchesWithin InType S false (p ∷ []) e v g
+    same : (g : GroundAtom) → IsWithOne k a v g ↔ TouchesWithin InType S false (p ∷ []) e v g
     same g = (λ x. (x.0 ∷ [], ((typed x.0).0 x.1, tt), (deletes (x.0 ∷ []) g).0 x.2), λ t. of-one g t.0 t.1 t.2)

@@ -10,8 +10,8 @@ pub mod Denials
 pub mod EffectSizes
 pub mod GatherCases
 pub mod PassLaws
-pub mod KindLaws
+pub mod DomainLaws
 pub mod NeedLaws
-pub mod PlaceLaws
-pub mod IndexLaws
+pub mod ArgumentLaws
 pub mod RunLaws
+pub mod DomainCases

@@ -1,5 +1,5 @@
 -- Numbers of lists: lists with numbers have different ones, and a list is numbered from its last object to its first.
-use Rattle.std.proofs.Common.{ℕ, zero, suc, ◌≡◌, ◌+◌, ◌-◌, ◌*◌, ◌%◌, ◌/◌, ◌<◌, ◌≤◌, ◌&&◌, Bool, true, false, List, [], ◌∷◌, length, get_or, drop, Option, Some, None, refl, ap, sym, subst, ◌∙◌, arith}
+use Rattle.std.proofs.Common.{ℕ, zero, suc, ◌≡◌, ◌+◌, ◌-◌, ◌*◌, ◌%◌, ◌/◌, ◌<◌, ◌≤◌, ◌^◌, ◌&&◌, Bool, true, false, List, [], ◌∷◌, length, get_or, drop, Option, Some, None, refl, ap, sym, subst, ◌∙◌, arith}
 use Rattle.std.specs.Prelude.{nat_lt, cond}
 use Rattle.std.specs.Option.{option_and_then}
 use Rattle.std.proofs.lemmas.Bool.{ltb-true, lt-ltb}
@@ -104,3 +104,7 @@ module _ (most room : ℕ) where
       let same : (first + step * x) * (most + 2) + (a + b * x) ≡ first * (most + 2) + a + (step * (most + 2) + b) * x = omega arith in
       let small : a + b * x < most + 1 = omega (arith, below, digits) in
       next_number xs i (a + b * x) (first + step * x) l m at e _ (is_put (a + b * x) (first + step * x) _ small (omega (arith, steps, fits, same)) same)
+
+-- the number of a row at one of the first objects is small
+pub row_within : (first step x count : ℕ) → x < count → first + step * count < 2 ^ 32 → first + step * x < 2 ^ 32
+row_within first step x count l s = let m : step * x ≤ step * count = mul-le-mul_left step (omega (arith, l)) in omega (arith, m, s)

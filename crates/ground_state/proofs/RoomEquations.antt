@@ -13,7 +13,7 @@ use Rattle.plan_model.specs.declared.effects.Effect.TheFolds.{rec-roll-Effect, m
 use Rattle.plan_model.specs.declared.effects.Effect.TheOpen.{Effect-F}
 use Rattle.plan_model.specs.declared.effects.Effect.TheVariants as E
 use Rattle.ground_state.specs.Frames.{Frame, pushed}
-use Rattle.ground_state.specs.Room.{EachFits, fits_step, fits, Fits, AllFit, FitsWithin, FitsWithOne, effect_fits_step, effect_fits, EffectFits, AllEffectsFit, EffectFitsWithin, EffectFitsWithOne}
+use Rattle.ground_state.specs.Room.{EachFits, fits_step, fits, Fits, AllFit, FitsWithin, effect_fits_step, effect_fits, EffectFits, AllEffectsFit, EffectFitsWithin}
 
 pub each-map : (X Y : Type 0) (v : X → Y) (k : Y → ℕ → Type 0) (xs : List X) (n : ℕ) → EachFits (λ x. k (v x)) xs n ≡ EachFits k (map v xs) n
 each-map X Y v k [] n = refl
@@ -100,22 +100,18 @@ fits-Equal env s t = subst (λ (P : ℕ → Type 0). P (length env.objects)) (sy
 pub fits-Delete : (env : Frame) (a : Atom) → EffectFits env (E.Delete a)
 fits-Delete env a = subst (λ (P : ℕ → Type 0). P (length env.objects)) (sym (ap (effect_fits env.room env.arity) (sym (E.rolls-Delete a)) ∙ effect-roll env.room env.arity (Effect-F.Delete a))) tt
 
--- some variable
-abbrev one : Param
-one = record { name = record { number = 0 }; ty = 0 }
-
-one-more : (objects : List ℕ) (o : ℕ) (ps : List Param) → length objects + length (one ∷ ps) ≡ length (objects ++ o ∷ []) + length ps
-one-more objects o ps = let l = length-append objects (o ∷ []) in omega (arith, l)
+one-more : (objects : List ℕ) (o n : ℕ) → length objects + suc n ≡ length (objects ++ o ∷ []) + n
+one-more objects o n = let l = length-append objects (o ∷ []) in omega (arith, l)
 
 -- where there is room for one more variable, it can be put in force, and there is room for the others
-pub room-for-one : (env : Frame) (ps : List Param) (f : Formula) → FitsWithOne env ps f → length env.objects < env.room
-room-for-one env ps f h = let l = (h one).0 in omega (arith, l)
+pub room-for-one : (env : Frame) (p : Param) (ps : List Param) (f : Formula) → FitsWithin env (p ∷ ps) f → length env.objects < env.room
+room-for-one env p ps f h = let l = h.0 in omega (arith, l)
 
-pub fits-one : (env : Frame) (o : ℕ) (ps : List Param) (f : Formula) → FitsWithOne env ps f → FitsWithin (pushed env o) ps f
-fits-one env o ps f h = subst (λ n. (n ≤ env.room) × fits env.room env.arity f n) (one-more env.objects o ps) (h one)
+pub fits-one : (env : Frame) (o : ℕ) (p : Param) (ps : List Param) (f : Formula) → FitsWithin env (p ∷ ps) f → FitsWithin (pushed env o) ps f
+fits-one env o p ps f h = subst (λ n. (n ≤ env.room) × fits env.room env.arity f n) (one-more env.objects o (length ps)) h
 
-pub room-for-one-effect : (env : Frame) (ps : List Param) (e : Effect) → EffectFitsWithOne env ps e → length env.objects < env.room
-room-for-one-effect env ps e h = let l = (h one).0 in omega (arith, l)
+pub room-for-one-effect : (env : Frame) (p : Param) (ps : List Param) (e : Effect) → EffectFitsWithin env (p ∷ ps) e → length env.objects < env.room
+room-for-one-effect env p ps e h = let l = h.0 in omega (arith, l)
 
-pub effect-fits-one : (env : Frame) (o : ℕ) (ps : List Param) (e : Effect) → EffectFitsWithOne env ps e → EffectFitsWithin (pushed env o) ps e
-effect-fits-one env o ps e h = subst (λ n. (n ≤ env.room) × effect_fits env.room env.arity e n) (one-more env.objects o ps) (h one)
+pub effect-fits-one : (env : Frame) (o : ℕ) (p : Param) (ps : List Param) (e : Effect) → EffectFitsWithin env (p ∷ ps) e → EffectFitsWithin (pushed env o) ps e
+effect-fits-one env o p ps e h = subst (λ n. (n ≤ env.room) × effect_fits env.room env.arity e n) (one-more env.objects o (length ps)) h

@@ -13,6 +13,7 @@ use Rattle.plan_meaning.specs.ClassicalPlan.{InTypeOf, IsApplicable, EndsIn, IsP
 use Rattle.plan_meaning.specs.FailingStep.{Cause, unknown_action, arguments, condition, goal_false, IsNamed, IsInstance, FailsIn, Fails, AreNamedApart}
 use Rattle.plan_meaning.proofs.SameStates.{same_truth, same_after}
 use Rattle.plan_meaning.proofs.FailingLaws.{ends_weaker, ends_joined, same_objects}
+use Rattle.problem_index.specs.Index.{IsIndex}
 use Rattle.ground_state.specs.declared.verdict.FailWhy.{FailWhy}
 use Rattle.ground_state.specs.declared.run.Run.{Run}
 use Rattle.ground_state.specs.declared.state.State.{State}
@@ -20,8 +21,8 @@ use Rattle.ground_state.specs.Frames.{Frame, frame}
 use Rattle.ground_state.specs.Room.{fits, effect_fits, Fits, EffectFits}
 use Rattle.ground_state.specs.Needs.{HasRoomForAll}
 use Rattle.ground_state.specs.States.{atoms, Has, IsSame}
-use Rattle.ground_state.specs.Runs.{cause, texts, words_step, AreArguments, IsRunnable, IsIndex, HasRoomIn, IsAsRoomy, IsTaken, IsReady, HasTaken, FailsAt, Reaches, KeepsTaken}
-use Rattle.ground_state.proofs.IndexLaws.{typed_length}
+use Rattle.ground_state.specs.Runs.{cause, texts, words_step, AreArguments, IsRunnable, HasRoomIn, IsAsRoomy, IsTaken, IsReady, HasTaken, FailsAt, Reaches, KeepsTaken}
+use Rattle.ground_state.proofs.ArgumentLaws.{typed_length}
 
 pub same_arguments : (p : Pddl) (ps qs : List Param) (ws vs : List (List ℕ)) (os : List ℕ) → ps ≡ qs → ws ≡ vs → AreArguments p ps ws os → AreArguments p qs vs os
 same_arguments p ps qs ws vs os e f a = subst (λ us. AreArguments p qs us os) f (subst (λ xs. AreArguments p xs ws os) e a)

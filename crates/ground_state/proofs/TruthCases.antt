@@ -10,10 +10,9 @@ use Rattle.plan_model.specs.declared.formulas.Formula.TheVariants as F
 use Rattle.plan_meaning.specs.Truth.{State, ground, value_of, EachTrue, OneTrue, AreTyped, IsTrueIn}
 use Rattle.plan_meaning.proofs.TruthEquations.{truth-Holds, truth-Equal, truth-Not, truth-And, truth-Or, truth-Imply, truth-Forall, truth-Exists}
 use Rattle.task_networks.proofs.Lists.{Contains-here, Contains-later}
-use Rattle.plan_model.specs.declared.types.Object.{Object}
-use Rattle.ground_state.specs.declared.kinds.Kind.{Kind}
+use Rattle.problem_index.specs.declared.domain.Domain.{Domain}
 use Rattle.ground_state.specs.declared.state.State as computed
-use Rattle.ground_state.specs.Kinds.{IsOfKind, IsWithSome}
+use Rattle.problem_index.specs.Domains.{IsIn, IsWithSome}
 use Rattle.ground_state.specs.States.{atoms, has_ground}
 use Rattle.ground_state.specs.Search.{Is, literal, IsAmongParts, IsFound, IsLiteralFound}
 
@@ -121,10 +120,10 @@ not-wanted false true = refl
 not-wanted false false = refl
 
 -- what is found of the atom is found of the literal
-pub literal-is-found : (k : Kind) (objects : List Object) (s : computed.State) (wanted w : Bool) (f : Formula) (sign : Bool) (a : Atom) (v : List ℕ) (found : Option Bool) → f ≡ literal sign a → w ≡ beq wanted sign
-    → IfSome found (IsWithSome k objects (λ x. has_ground s (ground (v ++ x ∷ []) a)) w) → IfSome found (IsLiteralFound k objects s wanted f v)
-literal-is-found k objects s wanted w f sign a v (Some b) e d h = (sign, a, e, subst (λ u. IsWithSome k objects (λ x. has_ground s (ground (v ++ x ∷ []) a)) u b) d h)
-literal-is-found k objects s wanted w f sign a v None e d h = h
+pub literal-is-found : (k : Domain) (s : computed.State) (wanted w : Bool) (f : Formula) (sign : Bool) (a : Atom) (v : List ℕ) (found : Option Bool) → f ≡ literal sign a → w ≡ beq wanted sign
+    → IfSome found (IsWithSome k (λ x. has_ground s (ground (v ++ x ∷ []) a)) w) → IfSome found (IsLiteralFound k s wanted f v)
+literal-is-found k s wanted w f sign a v (Some b) e d h = (sign, a, e, subst (λ u. IsWithSome k (λ x. has_ground s (ground (v ++ x ∷ []) a)) u b) d h)
+literal-is-found k s wanted w f sign a v None e d h = h
 
 pub same-as-true : (b : Bool) → b ≡ beq b true
 same-as-true true = refl
@@ -142,14 +141,14 @@ pub only-one : {X : Type 0} (ps : List X) (p : X) (rest : List X) → ps ≡ p �
 only-one ps p rest e n = e ∙ ap (λ xs. p ∷ xs) (empty rest n)
 
 -- what is found of a literal is found with objects of the one type
-pub is-found-literal : (InType : ℕ → ℕ → Type 0) (k : Kind) (objects : List Object) (s : computed.State) (wanted : Bool) (f : Formula) (v : List ℕ) (found : Bool) (p : Param) (ps : List Param)
-    → ps ≡ p ∷ [] → ((x : ℕ) → IsOfKind k objects x ↔ InType x p.ty) → IsLiteralFound k objects s wanted f v found → IsFound InType (atoms s) wanted found ps f v
-is-found-literal InType k objects s wanted f v found p ps one typed (sign, a, e, h) = subst (λ qs. IsFound InType (atoms s) wanted found qs f v) (sym one) (by found h)
+pub is-found-literal : (InType : ℕ → ℕ → Type 0) (k : Domain) (s : computed.State) (wanted : Bool) (f : Formula) (v : List ℕ) (found : Bool) (p : Param) (ps : List Param)
+    → ps ≡ p ∷ [] → ((x : ℕ) → IsIn k x ↔ InType x p.ty) → IsLiteralFound k s wanted f v found → IsFound InType (atoms s) wanted found ps f v
+is-found-literal InType k s wanted f v found p ps one typed (sign, a, e, h) = subst (λ qs. IsFound InType (atoms s) wanted found qs f v) (sym one) (by found h)
   where
     at : (w : Bool) (x : ℕ) → has_ground s (ground (v ++ x ∷ []) a) ≡ beq w sign → Is w (IsTrueIn InType (atoms s) f (v ++ x ∷ []))
     at w x d = subst (λ g. Is w (IsTrueIn InType (atoms s) g (v ++ x ∷ []))) (sym e) (is-literal InType s a (v ++ x ∷ []) sign w d)
 
-    by : (found : Bool) → IsWithSome k objects (λ x. has_ground s (ground (v ++ x ∷ []) a)) (beq wanted sign) found → IsFound InType (atoms s) wanted found (p ∷ []) f v
+    by : (found : Bool) → IsWithSome k (λ x. has_ground s (ground (v ++ x ∷ []) a)) (beq wanted sign) found → IsFound InType (atoms s) wanted found (p ∷ []) f v
     by true (x, i, d) = (x ∷ [], ((typed x).0 i, tt), at wanted x d)
     by false n = each
       where

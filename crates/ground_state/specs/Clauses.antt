@@ -1,6 +1,6 @@
 -- What the calls answer, where an environment has the objects of the variables in force.
 -- Source: this project's; truth and the state after an effect as in plan_meaning.
-use Rattle.std.specs.Prelude.{Bool, List, [], ◌∷◌}
+use Rattle.std.specs.Prelude.{Bool, List, []}
 use Rattle.plan_model.specs.declared.types.Types.{Types}
 use Rattle.plan_model.specs.declared.types.Object.{Object}
 use Rattle.plan_model.specs.declared.terms.Param.{Param}
@@ -9,16 +9,13 @@ use Rattle.plan_model.specs.declared.effects.Effect.{Effect}
 use Rattle.plan_model.specs.Typing.{InType}
 use Rattle.plan_meaning.specs.Truth.{IsTrueIn, after}
 use Rattle.ground_state.specs.declared.env.Env.{Env}
-use Rattle.ground_state.specs.declared.gather.World.{World}
 use Rattle.ground_state.specs.declared.atom_list.AtomLists.{AtomLists}
 use Rattle.ground_state.specs.declared.state.State.{State}
 use Rattle.ground_state.specs.declared.passes.Pass.{Pass}
-use Rattle.ground_state.specs.declared.kinds.Kind.{Kind}
-use Rattle.ground_state.specs.Kinds.{IsKindOf}
 use Rattle.ground_state.specs.Frames.{frame}
 use Rattle.ground_state.specs.Passes.{of_adds, Passes}
 use Rattle.ground_state.specs.States.{atoms, Has}
-use Rattle.ground_state.specs.Search.{IsAmongParts, IsFound, Gathers, Touches, OneTouches, TouchesWithin, Reads, ReadsEach, ReadsWithin, side}
+use Rattle.ground_state.specs.Search.{IsAmongParts, IsFound, Gathers, Touches, OneTouches, TouchesWithin, side}
 
 module _ (types : Types) (objects : List Object) where
   -- the formula is true in the state
@@ -32,10 +29,6 @@ module _ (types : Types) (objects : List Object) where
   -- for some objects of the types the formula is as wanted, or for each it is not
   abbrev pub Finds : State → Bool → Bool → List Param → Formula → Env → Type 0
   Finds s wanted found ps f env = IsFound (InType types objects) (atoms s) wanted found ps f (frame env).objects
-
-  -- the same, with one more type before these, of which the kind is this one
-  abbrev pub FindsOf : State → Bool → Bool → Kind → List Param → Formula → Env → Type 0
-  FindsOf s wanted found k ps f env = (p : Param) → IsKindOf types p.ty k → Finds s wanted found (p ∷ ps) f env
 
   -- the new state is the one after the effect
   abbrev pub After : State → Effect → Env → State → Type 0
@@ -56,21 +49,12 @@ module _ (types : Types) (objects : List Object) where
   abbrev pub HasPassedWithin : Pass → List Param → Effect → Env → State → State → Type 0
   HasPassedWithin pass ps e env old new = (s : State) → Passes pass (TouchesWithin (InType types objects) (atoms s) (of_adds pass) ps e (frame env).objects) old new
 
-  -- the same, with one more variable before these, of whose type the kind is this one
-  abbrev pub HasPassedOf : Pass → Kind → List Param → Effect → Env → State → State → Type 0
-  HasPassedOf pass k ps e env old new = (p : Param) → IsKindOf types p.ty k → HasPassedWithin pass (p ∷ ps) e env old new
+  -- what is added, and what is deleted, by an effect, by effects, and by one with more variables, stands behind the old lists
+  abbrev pub Gets : State → Effect → Env → AtomLists → AtomLists → Type 0
+  Gets s e env old new = (adds : Bool) → Gathers (Touches (InType types objects) (atoms s) adds e (frame env).objects) (side adds old) (side adds new)
 
--- what is added, and what is deleted, by an effect, by effects, and by one with more variables, stands behind the old lists
-module _ (world : World) where
-  abbrev pub Gets : Effect → Env → AtomLists → AtomLists → Type 0
-  Gets e env old new = (adds : Bool) → Gathers (Reads world adds e (frame env)) (side adds old) (side adds new)
+  abbrev pub GetsEach : State → List Effect → Env → AtomLists → AtomLists → Type 0
+  GetsEach s es env old new = (adds : Bool) → Gathers (OneTouches (InType types objects) (atoms s) adds es (frame env).objects) (side adds old) (side adds new)
 
-  abbrev pub GetsEach : List Effect → Env → AtomLists → AtomLists → Type 0
-  GetsEach es env old new = (adds : Bool) → Gathers (ReadsEach world adds es (frame env)) (side adds old) (side adds new)
-
-  abbrev pub GetsWithin : List Param → Effect → Env → AtomLists → AtomLists → Type 0
-  GetsWithin ps e env old new = (adds : Bool) → Gathers (ReadsWithin world adds ps e (frame env)) (side adds old) (side adds new)
-
-  -- the same, with one more variable before these, of whose type the kind is this one
-  abbrev pub GetsOf : Kind → List Param → Effect → Env → AtomLists → AtomLists → Type 0
-  GetsOf k ps e env old new = (p : Param) → IsKindOf world.types.now p.ty k → GetsWithin (p ∷ ps) e env old new
+  abbrev pub GetsWithin : State → List Param → Effect → Env → AtomLists → AtomLists → Type 0
+  GetsWithin s ps e env old new = (adds : Bool) → Gathers (TouchesWithin (InType types objects) (atoms s) adds ps e (frame env).objects) (side adds old) (side adds new)

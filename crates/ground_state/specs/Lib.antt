@@ -3,10 +3,8 @@ pub mod Room
 pub mod Numbers
 pub mod Notes
 pub mod States
-pub mod Kinds
 pub mod Search
 pub mod Passes
 pub mod Clauses
 pub mod Needs
-pub mod Places
 pub mod Runs

@@ -5,12 +5,11 @@ use Rattle.std.specs.Option.{option_map}
 use Rattle.std.specs.Ordering.{nat_cmp}
 use Rattle.std.specs.Cmp.Lexicographic.{slice_cmp}
 use Rattle.std.specs.BTreeMap as tree
-use Rattle.plan_model.specs.declared.types.Object.{Object}
 use Rattle.plan_model.specs.declared.terms.Term.{Term}
 use Rattle.plan_meaning.specs.Truth.{values_of}
-use Rattle.ground_state.specs.declared.kinds.Kind.{Kind}
+use Rattle.problem_index.specs.declared.domain.Domain.{Domain}
+use Rattle.problem_index.specs.Domains.{IsIn}
 use Rattle.ground_state.specs.declared.notes.Notes.{Notes}
-use Rattle.ground_state.specs.Kinds.{IsOfKind}
 use Rattle.ground_state.specs.Numbers.{number_of}
 
 -- what is noted at the number, or of a list that has none
@@ -51,6 +50,6 @@ pub record AreDenied (old : Notes) (P : List ℕ → Type 0) (new : Notes) : Typ
   pub without : (list : List ℕ) → IsTrue (holds new list) ↔ (IsTrue (holds old list) × (P list → ⊥))
   pub kept : (list : List ℕ) → IsSome (noted old list) → IsSome (noted new list)
 
--- what the terms stand for, with some object of the kind for one more variable
-abbrev pub IsWithOne : Kind → List Object → List ℕ → List Term → List ℕ → Type 0
-IsWithOne k objects values terms list = (x : ℕ) × IsOfKind k objects x × (list ≡ values_of (values ++ x ∷ []) terms)
+-- what the terms stand for, with some object of the domain for one more variable
+abbrev pub AreOf : Domain → List ℕ → List Term → List ℕ → Type 0
+AreOf d values terms list = (x : ℕ) × IsIn d x × (list ≡ values_of (values ++ x ∷ []) terms)

@@ -1,7 +1,6 @@
 -- Effects without conditions, and what a pass over what one adds, or deletes, does to a state.
 -- Source: this project's; an effect as in Truth.
 use Rattle.std.specs.Prelude.{ℕ, ◌≡◌, ◌≤◌, ◌⊎◌, ◌++◌, ◌∷◌, [], Bool, true, false, not, IsSome, List, length}
-use Rattle.plan_model.specs.declared.types.Object.{Object}
 use Rattle.plan_model.specs.declared.terms.Atom.{Atom}
 use Rattle.plan_model.specs.declared.terms.GroundAtom.{GroundAtom}
 use Rattle.plan_model.specs.declared.effects.Effect.{Effect}
@@ -9,12 +8,12 @@ use Rattle.plan_model.specs.declared.effects.Effect.TheFolds.{rec-Effect}
 use Rattle.plan_model.specs.declared.effects.Effect.TheOpen.{Effect-F}
 use Rattle.plan_model.specs.declared.effects.Effect.TheVariants as E
 use Rattle.plan_meaning.specs.Truth as truth
-use Rattle.ground_state.specs.declared.kinds.Kind.{Kind}
+use Rattle.problem_index.specs.declared.domain.Domain.{Domain}
+use Rattle.problem_index.specs.Domains.{IsIn}
 use Rattle.ground_state.specs.declared.state.State.{State}
 use Rattle.ground_state.specs.declared.passes.Pass.{Pass}
 use Rattle.ground_state.specs.declared.passes.Pass.TheVariants as passes
 use Rattle.ground_state.specs.Frames.{Frame}
-use Rattle.ground_state.specs.Kinds.{IsOfKind}
 use Rattle.ground_state.specs.Room.{EachFits}
 use Rattle.ground_state.specs.States.{note_of, atoms, Has, IsSame, KeepsNotes}
 
@@ -67,10 +66,10 @@ Passes passes.Forget P old new = IsSame old new
 abbrev pub HasOnlyEntered : Pass → State → State → Type 0
 HasOnlyEntered pass old new = (pass ≡ passes.Enter) × IsSame old new
 
--- the atom, with some object of the kind for one more variable
-abbrev pub IsWithOne : Kind → List Object → Atom → List ℕ → truth.State
-IsWithOne k objects a values g = (x : ℕ) × IsOfKind k objects x × (g ≡ truth.ground (values ++ x ∷ []) a)
+-- the atom, with some object of the domain for one more variable
+abbrev pub IsWithOne : Domain → Atom → List ℕ → truth.State
+IsWithOne d a values g = (x : ℕ) × IsIn d x × (g ≡ truth.ground (values ++ x ∷ []) a)
 
--- the effect deletes an atom, and what it deletes with an object of the kind for one more variable has become false
-abbrev pub HasDenied : Pass → Kind → List Object → Effect → List ℕ → State → State → Type 0
-HasDenied pass k objects e values old new = (pass ≡ passes.Deny) × ((a : Atom) × (e ≡ literal false a) × Passes passes.Deny (IsWithOne k objects a values) old new)
+-- the effect deletes an atom, and what it deletes with an object of the domain for one more variable has become false
+abbrev pub HasDenied : Pass → Domain → Effect → List ℕ → State → State → Type 0
+HasDenied pass d e values old new = (pass ≡ passes.Deny) × ((a : Atom) × (e ≡ literal false a) × Passes passes.Deny (IsWithOne d a values) old new)

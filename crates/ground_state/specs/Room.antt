@@ -53,10 +53,6 @@ AllFit env fs = EachFits (fits env.room env.arity) fs (length env.objects)
 abbrev pub FitsWithin : Frame → List Param → Formula → Type 0
 FitsWithin env ps f = (length env.objects + length ps ≤ env.room) × fits env.room env.arity f (length env.objects + length ps)
 
--- and with one more before these
-abbrev pub FitsWithOne : Frame → List Param → Formula → Type 0
-FitsWithOne env ps f = (p : Param) → FitsWithin env (p ∷ ps) f
-
 -- the same, of effects
 abbrev pub EffectFits : Frame → Effect → Type 0
 EffectFits env e = effect_fits env.room env.arity e (length env.objects)
@@ -66,6 +62,3 @@ AllEffectsFit env es = EachFits (effect_fits env.room env.arity) es (length env.
 
 abbrev pub EffectFitsWithin : Frame → List Param → Effect → Type 0
 EffectFitsWithin env ps e = (length env.objects + length ps ≤ env.room) × effect_fits env.room env.arity e (length env.objects + length ps)
-
-abbrev pub EffectFitsWithOne : Frame → List Param → Effect → Type 0
-EffectFitsWithOne env ps e = (p : Param) → EffectFitsWithin env (p ∷ ps) e

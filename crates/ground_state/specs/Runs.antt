@@ -2,28 +2,24 @@
 -- Source: this project's; a plan and a failing step as in plan_meaning.
 use Rattle.std.specs.Prelude.{ℕ, ◌≡◌, ◌+◌, ◌<◌, ◌^◌, Bool, MatchBool, MatchOption, List, [], ◌∷◌, ◌++◌, map, length, Contains, Option}
 use Rattle.std.specs.Borrow.{Bor}
-use Rattle.plan_model.specs.declared.types.Object.{Object}
 use Rattle.plan_model.specs.declared.terms.Param.{Param}
 use Rattle.plan_model.specs.declared.schemas.ActionSchema.{ActionSchema}
 use Rattle.plan_model.specs.declared.steps.GroundAction.{GroundAction}
 use Rattle.plan_model.specs.declared.values.Pddl.{Pddl}
 use Rattle.plan_model.specs.Parts.{AreListed}
 use Rattle.plan_meaning.specs.Truth.{AreTyped, after}
-use Rattle.plan_meaning.specs.ClassicalPlan.{HasWord, AreObjects, InTypeOf, IsApplicable, EndsIn, IsPlan}
-use Rattle.plan_meaning.specs.FailingStep.{Cause, unknown_action, arguments, condition, goal_false, IsNamed, NamesAction, Fails, AreNamedApart}
+use Rattle.plan_meaning.specs.ClassicalPlan.{AreObjects, InTypeOf, IsApplicable, EndsIn, IsPlan}
+use Rattle.plan_meaning.specs.FailingStep.{Cause, unknown_action, arguments, condition, goal_false, Fails, AreNamedApart}
 use Rattle.ground_state.specs.declared.verdict.FailWhy.{FailWhy}
 use Rattle.ground_state.specs.declared.verdict.FailWhy.TheVariants as why
 use Rattle.ground_state.specs.declared.verdict.Verdict.{Verdict}
 use Rattle.ground_state.specs.declared.verdict.Verdict.TheVariants as verdict
-use Rattle.ground_state.specs.declared.index.Index.{Index}
-use Rattle.ground_state.specs.declared.places.Places.{Places}
 use Rattle.ground_state.specs.declared.state.State.{State}
 use Rattle.ground_state.specs.declared.run.Run.{Run}
 use Rattle.ground_state.specs.Frames.{Frame, frame}
 use Rattle.ground_state.specs.States.{atoms, Has}
-use Rattle.ground_state.specs.Kinds.{AreKinds}
 use Rattle.ground_state.specs.Needs.{HasRoomForAll}
-use Rattle.ground_state.specs.Places.{ArePlaces}
+use Rattle.problem_index.specs.Index.{IsIndex}
 
 abbrev pub cause : FailWhy → Cause
 cause why.UnknownAction = unknown_action
@@ -43,18 +39,6 @@ pub record IsRunnable (p : Pddl) : Type 0 where
   pub actions : length p.actions < 2 ^ 32
   pub apart : AreNamedApart p
 
--- where the problem's actions stand, and its objects
-abbrev pub AreActionPlaces : Pddl → Places → Type 0
-AreActionPlaces p places = ArePlaces (length p.names) (map (λ (a : ActionSchema). a.name) p.actions) places.by_name.items
-
-abbrev pub AreObjectPlaces : Pddl → Places → Type 0
-AreObjectPlaces p places = ArePlaces (length p.names) (map (λ (x : Object). x.name) p.objects) places.by_name.items
-
-pub record IsIndex (p : Pddl) (index : Index) : Type 0 where
-  pub actions : AreActionPlaces p index.actions
-  pub objects : AreObjectPlaces p index.objects
-  pub kinds : AreKinds p.types index.kinds
-
 -- each action and the goal have room
 abbrev pub HasRoomIn : Pddl → Frame → Type 0
 HasRoomIn p env = HasRoomForAll p env.room env.arity
@@ -70,21 +54,6 @@ texts words = map (λ (w : Bor (List ℕ)). w.now) words
 -- the step of these words
 abbrev pub words_step : List ℕ → List (Bor (List ℕ)) → GroundAction
 words_step name args = record { name = name; args = texts args }
-
--- the action that the step names, or that it names none
-abbrev pub IsTheAction : Pddl → GroundAction → Option ActionSchema → Type 0
-IsTheAction p step found = MatchOption found (NamesAction p step → ⊥) (IsNamed p step)
-
--- the same of each step with the name
-abbrev pub HasTheName : Pddl → List ℕ → Option ActionSchema → Type 0
-HasTheName p name found = (args : List (List ℕ)) → IsTheAction p (record { name = name; args = args }) found
-
--- the object has the word, and is in the type
-abbrev pub IsArgument : Pddl → List ℕ → ℕ → ℕ → Type 0
-IsArgument p word ty x = HasWord p x word × InTypeOf p x ty
-
-abbrev pub IsTheArgument : Pddl → List ℕ → ℕ → Option ℕ → Type 0
-IsTheArgument p word ty found = MatchOption found ((x : ℕ) → IsArgument p word ty x → ⊥) (IsArgument p word ty)
 
 -- the objects have the words, and each is in its parameter's type
 abbrev pub AreArguments : Pddl → List Param → List (List ℕ) → List ℕ → Type 0

@@ -1,6 +1,6 @@
 -- What a search for a part, or for objects, comes to, and what is gathered from an effect.
 -- Source: this project's.
-use Rattle.std.specs.Prelude.{ℕ, ◌≡◌, ◌<◌, ◌^◌, Bool, true, false, not, List, [], ◌∷◌, ◌++◌, ◌⊎◌, ◌↔◌, Contains, MatchBool, length}
+use Rattle.std.specs.Prelude.{ℕ, ◌≡◌, Bool, true, false, not, List, [], ◌∷◌, ◌++◌, ◌⊎◌, ◌↔◌, Contains, MatchBool}
 use Rattle.std.specs.Bool.{beq}
 use Rattle.plan_model.specs.declared.terms.Param.{Param}
 use Rattle.plan_model.specs.declared.terms.Atom.{Atom}
@@ -8,17 +8,12 @@ use Rattle.plan_model.specs.declared.terms.GroundAtom.{GroundAtom}
 use Rattle.plan_model.specs.declared.formulas.Formula.{Formula}
 use Rattle.plan_model.specs.declared.formulas.Formula.TheVariants as F
 use Rattle.plan_model.specs.declared.effects.Effect.{Effect}
-use Rattle.plan_model.specs.Typing.{InType}
-use Rattle.plan_model.specs.Parts.{AreListed}
 use Rattle.plan_meaning.specs.Truth.{State, ground, AreTyped, IsTrueIn, OneTrue, Adds, Deletes}
-use Rattle.plan_model.specs.declared.types.Object.{Object}
-use Rattle.ground_state.specs.declared.kinds.Kind.{Kind}
-use Rattle.ground_state.specs.Kinds.{IsWithSome}
-use Rattle.ground_state.specs.declared.gather.World.{World}
+use Rattle.problem_index.specs.declared.domain.Domain.{Domain}
+use Rattle.problem_index.specs.Domains.{IsWithSome}
 use Rattle.ground_state.specs.declared.atom_list.AtomLists.{AtomLists}
-use Rattle.ground_state.specs.Frames.{Frame}
 use Rattle.ground_state.specs.declared.state.State as computed
-use Rattle.ground_state.specs.States.{atoms, has_ground}
+use Rattle.ground_state.specs.States.{has_ground}
 
 -- the statement is true, or it is not, as wanted
 abbrev pub Is : Bool → Type 0 → Type 0
@@ -43,10 +38,10 @@ abbrev pub literal : Bool → Atom → Formula
 literal true a = F.Holds a
 literal false a = F.Not (F.Holds a)
 
--- the formula is a literal, and with some object of the kind for one more variable it is as wanted, or with none
-abbrev pub IsLiteralFound : Kind → List Object → computed.State → Bool → Formula → List ℕ → Bool → Type 0
-IsLiteralFound k objects s wanted f values found = (sign : Bool) × (a : Atom) × (f ≡ literal sign a)
-    × IsWithSome k objects (λ x. has_ground s (ground (values ++ x ∷ []) a)) (beq wanted sign) found
+-- the formula is a literal, and with some object of the domain for one more variable it is as wanted, or with none
+abbrev pub IsLiteralFound : Domain → computed.State → Bool → Formula → List ℕ → Bool → Type 0
+IsLiteralFound d s wanted f values found = (sign : Bool) × (a : Atom) × (f ≡ literal sign a)
+    × IsWithSome d (λ x. has_ground s (ground (values ++ x ∷ []) a)) (beq wanted sign) found
 
 -- the new list has the atoms of the old one and those that are as P says
 abbrev pub Gathers : State → List GroundAtom → List GroundAtom → Type 0
@@ -69,22 +64,3 @@ module _ (Typed : ℕ → ℕ → Type 0) (S : State) where
 
   abbrev pub TouchesWithin : Bool → List Param → Effect → List ℕ → State
   TouchesWithin adds ps e values g = (os : List ℕ) × AreTyped Typed ps os × Touches adds e (values ++ os) g
-
-module _ (world : World) where
-  abbrev pub InTypeOf : ℕ → ℕ → Type 0
-  InTypeOf = InType world.types.now world.objects.now
-
-  -- what is added, or deleted, by an effect, by effects, and by one with more variables
-  abbrev pub Reads : Bool → Effect → Frame → State
-  Reads adds e env = Touches InTypeOf (atoms world.state.now) adds e env.objects
-
-  abbrev pub ReadsEach : Bool → List Effect → Frame → State
-  ReadsEach adds es env = OneTouches InTypeOf (atoms world.state.now) adds es env.objects
-
-  abbrev pub ReadsWithin : Bool → List Param → Effect → Frame → State
-  ReadsWithin adds ps e env = TouchesWithin InTypeOf (atoms world.state.now) adds ps e env.objects
-
--- the types are listed, and objects have numbers of 32 bits
-pub record IsWorld (world : World) : Type 0 where
-  pub listed : AreListed world.types.now
-  pub few : length world.objects.now < 2 ^ 32

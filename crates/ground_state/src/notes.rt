@@ -1,14 +1,15 @@
-ghost use Rattle.std.specs.Prelude.{◌≡◌, ◌<◌, ◌^◌, ◌++◌, ◌∷◌, [], ◌≤◌, false, Some, None, length, slice_index_or, MatchBool, IfSome, OnOk, OnErr};
+ghost use Rattle.std.specs.Prelude.{◌≡◌, ◌++◌, ◌∷◌, [], ◌≤◌, false, Some, None, length, slice_index_or};
+ghost use Rattle.std.specs.Prelude.{MatchBool, IfSome, OnOk, OnErr};
 ghost use Rattle.plan_meaning.specs.Truth.{values_of};
+ghost use Rattle.problem_index.specs.Domains.{IsBelow, IsWithSome};
 ghost use Rattle.ground_state.specs.Frames.{frame};
-ghost use Rattle.ground_state.specs.Kinds.{IsWithSome};
 ghost use Rattle.ground_state.specs.Notes as spec;
 
 use crate::env::Env;
-use crate::kinds::Kind;
 use crate::numbers::Numbers;
-use htn_base::{List, Memory};
-use plan_model::{Object, Term};
+use htn_base::Memory;
+use plan_model::Term;
+use problem_index::Domain;
 use std::alloc::Global;
 use std::collections::BTreeMap;
 
@@ -84,60 +85,58 @@ impl Notes {
         }
     }
 
-    /// Whether with some object of the kind for one more variable the objects that the terms stand for
+    /// Whether with some object of the domain for one more variable the objects that the terms stand for
     /// are noted as true, or not, as wanted. It is told from number to number, where there is one with
-    /// each object.
+    /// each of the first `count` objects.
     pub(crate) fn finds(
         &self,
         wanted: bool,
-        kind: &Kind<'_>,
-        objects: &List<Object>,
+        domain: &Domain<'_>,
+        count: u32,
         env: &Env,
         terms: &[Term],
     ) -> Option<bool>
-        requires few { length objects.now < 2 ^ 32 }
-        ensures { IfSome result (IsWithSome kind.now objects.now
+        requires below { IsBelow count domain.now }
+        ensures { IfSome result (IsWithSome domain.now
             (λ x. spec.holds self.now (values_of ((frame env.now).objects ++ x ∷ []) terms.now)) wanted) }
     {
-        let count = objects.len() as u32;
         let row = env.row(terms, self.numbers, count)?;
-        let mut number = row.first;
-        for object in 0..count {
-            let truth = self.at(number as usize).unwrap_or(false);
-            if truth == wanted && kind.has(objects, object) {
-                return Some(true);
+        for place in 0..domain.len() {
+            if let Some(object) = domain.at(place) {
+                let truth = self.at(row.at(object)).unwrap_or(false);
+                if truth == wanted {
+                    return Some(true);
+                }
             }
-            number += row.step;
         }
         Some(false)
     }
 
     /// Notes as false what is noted as true of the objects that the terms stand for, with each object of the
-    /// kind for one more variable. It goes from number to number, where there is one with each object. Else
-    /// nothing is done, and the answer is no.
+    /// domain for one more variable. It goes from number to number, where there is one with each of the first
+    /// `count` objects. Else nothing is done, and the answer is no.
     pub(crate) fn deny_each(
         &mut self,
-        kind: &Kind<'_>,
-        objects: &List<Object>,
+        domain: &Domain<'_>,
+        count: u32,
         env: &Env,
         terms: &[Term],
     ) -> bool
-        requires few { length objects.now < 2 ^ 32 }
+        requires below { IsBelow count domain.now }
         ensures { MatchBool result
-            (spec.AreDenied self.old (spec.IsWithOne kind.now objects.now (frame env.now).objects terms.now) self.new)
+            (spec.AreDenied self.old (spec.AreOf domain.now (frame env.now).objects terms.now) self.new)
             (spec.AreSame self.old self.new) }
     {
-        let count = objects.len() as u32;
         let Some(row) = env.row(terms, self.numbers, count) else {
             return false;
         };
-        let mut number = row.first;
-        for object in 0..count {
-            let truth = self.at(number as usize).unwrap_or(false);
-            if truth && kind.has(objects, object) {
-                self.near[number as usize] = Some(false);
+        for place in 0..domain.len() {
+            if let Some(object) = domain.at(place) {
+                let number = row.at(object);
+                if self.at(number).unwrap_or(false) {
+                    self.near[number] = Some(false);
+                }
             }
-            number += row.step;
         }
         true
     }

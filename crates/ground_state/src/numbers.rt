@@ -1,4 +1,4 @@
-ghost use Rattle.std.specs.Prelude.{◌≡◌, ◌+◌, ◌<◌, ◌^◌, IfSome};
+ghost use Rattle.std.specs.Prelude.{◌≡◌, ◌+◌, ◌*◌, ◌<◌, ◌^◌, IfSome};
 ghost use Rattle.ground_state.specs.Numbers as spec;
 
 /// What numbers lists of objects: where the objects are small, and the list has few, it has a small number of its own.
@@ -15,6 +15,17 @@ pub struct Numbers {
 pub struct Row {
     pub(crate) first: u64,
     pub(crate) step: u64,
+}
+
+impl Row {
+    /// The number at this object.
+    #[inline(always)]
+    pub(crate) fn at(self, object: u32) -> usize
+        requires { self.first + self.step * object < 2 ^ 32 }
+        ensures { result ≡ self.first + self.step * object }
+    {
+        (self.first + self.step * object as u64) as usize
+    }
 }
 
 impl Numbers {

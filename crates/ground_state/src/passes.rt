@@ -1,18 +1,19 @@
-ghost use Rattle.std.specs.Prelude.{◌≡◌, ◌≤◌, ◌<◌, ◌^◌, ◌∷◌, length, MatchBool, OnOk, OnErr};
+ghost use Rattle.std.specs.Prelude.{◌≡◌, ◌≤◌, ◌∷◌, length, MatchBool, OnOk, OnErr};
 ghost use Rattle.std.specs.Bool.{OnTrue};
-ghost use Rattle.plan_model.specs.Parts.{AreListed};
+ghost use Rattle.problem_index.specs.Domains.{IsBelow, IsDomainOf};
+ghost use Rattle.problem_index.specs.Kinds.{IsWorld};
 ghost use Rattle.plan_meaning.specs.Truth.{ground};
 ghost use Rattle.ground_state.specs.Frames.{frame};
-ghost use Rattle.ground_state.specs.Room.{EffectFits, AllEffectsFit, EffectFitsWithin, EffectFitsWithOne};
+ghost use Rattle.ground_state.specs.Room.{EffectFits, AllEffectsFit, EffectFitsWithin};
 ghost use Rattle.ground_state.specs.States.{HasSameNotes};
 ghost use Rattle.ground_state.specs.Passes as spec;
-ghost use Rattle.ground_state.specs.Clauses.{HasPassed, HasPassedEach, HasPassedWithin, HasPassedOf};
+ghost use Rattle.ground_state.specs.Clauses.{HasPassed, HasPassedEach, HasPassedWithin};
 
 use crate::env::Env;
-use crate::kinds::Kind;
 use crate::state::State;
-use htn_base::{List, Memory};
-use plan_model::{Atom, Effect, Object, Param, Parts, Types};
+use htn_base::Memory;
+use plan_model::{Atom, Effect, Param, Parts};
+use problem_index::{Domain, World};
 use std::alloc::Global;
 
 /// A pass over an effect without conditions, of which no list is made: what it adds is noted as false where nothing is
@@ -62,29 +63,25 @@ impl State {
         alloc: Global,
         eff: &Effect,
         env: &mut Env,
-        types: &Types,
-        objects: &List<Object>,
+        world: &World<'_>,
     ) -> Result<(), Memory>
-        requires listed { AreListed types.now }
-        requires few { length objects.now < 2 ^ 32 }
+        requires world { IsWorld world.now }
         requires room { EffectFits (frame env.old) eff.now }
         requires plain { spec.IsPlain (frame env.old) eff.now }
-        ensures passed { OnOk result (HasPassed types.now objects.now pass eff.now env.old self.old self.new) }
+        ensures passed { OnOk result (HasPassed world.now.types.now world.now.objects.now pass eff.now env.old self.old self.new) }
         ensures unchanged { OnErr result (spec.HasOnlyEntered pass self.old self.new) }
         ensures kept { frame env.new ≡ frame env.old }
     {
         match eff {
             Effect::Add(atom) => self.visit(pass, true, alloc, env, atom),
             Effect::Delete(atom) => self.visit(pass, false, alloc, env, atom),
-            Effect::And(parts) => {
-                self.pass_over_each(pass, alloc, parts.as_slice(), env, types, objects)
-            }
+            Effect::And(parts) => { self.pass_over_each(pass, alloc, parts.as_slice(), env, world) }
             Effect::Forall(params, body) => {
                 if pass.is_idle(body.get()) {
                     return Ok(());
                 }
                 let params = params.as_slice();
-                self.pass_over_within(pass, alloc, params, body.get(), env, types, objects)
+                self.pass_over_within(pass, alloc, params, body.get(), env, world)
             }
             Effect::When(_, _) => Ok(()),
         }
@@ -98,19 +95,17 @@ impl State {
         alloc: Global,
         parts: &[Effect],
         env: &mut Env,
-        types: &Types,
-        objects: &List<Object>,
+        world: &World<'_>,
     ) -> Result<(), Memory>
-        requires listed { AreListed types.now }
-        requires few { length objects.now < 2 ^ 32 }
+        requires world { IsWorld world.now }
         requires room { AllEffectsFit (frame env.old) parts.now }
         requires plain { spec.ArePlain (frame env.old) parts.now }
-        ensures passed { OnOk result (HasPassedEach types.now objects.now pass parts.now env.old self.old self.new) }
+        ensures passed { OnOk result (HasPassedEach world.now.types.now world.now.objects.now pass parts.now env.old self.old self.new) }
         ensures unchanged { OnErr result (spec.HasOnlyEntered pass self.old self.new) }
         ensures kept { frame env.new ≡ frame env.old }
     {
         for part in parts {
-            self.pass_over(pass, alloc, part, env, types, objects)?;
+            self.pass_over(pass, alloc, part, env, world)?;
         }
         Ok(())
     }
@@ -124,29 +119,27 @@ impl State {
         params: &[Param],
         body: &Effect,
         env: &mut Env,
-        types: &Types,
-        objects: &List<Object>,
+        world: &World<'_>,
     ) -> Result<(), Memory>
-        requires listed { AreListed types.now }
-        requires few { length objects.now < 2 ^ 32 }
+        requires world { IsWorld world.now }
         requires room { EffectFitsWithin (frame env.old) params.now body.now }
         requires plain { spec.IsPlain (frame env.old) body.now }
         ensures passed { OnOk result
-            (HasPassedWithin types.now objects.now pass params.now body.now env.old self.old self.new) }
+            (HasPassedWithin world.now.types.now world.now.objects.now pass params.now body.now env.old self.old self.new) }
         ensures unchanged { OnErr result (spec.HasOnlyEntered pass self.old self.new) }
         ensures kept { frame env.new ≡ frame env.old }
     {
         let Some((param, rest)) = params.split_first() else {
-            return self.pass_over(pass, alloc, body, env, types, objects);
+            return self.pass_over(pass, alloc, body, env, world);
         };
-        match Kind::alone(types, param.ty) {
-            Some(kind) => self.pass_over_of(pass, &kind, alloc, rest, body, env, types, objects),
-            None => self.pass_over_in_parts(pass, alloc, param, rest, body, env, types, objects),
+        match world.domain(param.ty) {
+            Some(domain) => self.pass_over_of(pass, &domain, alloc, param, rest, body, env, world),
+            None => self.pass_over_in_parts(pass, alloc, param, rest, body, env, world),
         }
     }
 
-    /// The same, where other types may be parts of the first one. It keeps the room for their marks out of the way of the
-    /// rest.
+    /// The same, where nothing is known of the first type beforehand. It keeps the room for the marks of its parts out of
+    /// the way of the rest.
     #[cycle(pass_over)]
     #[cold]
     #[inline(never)]
@@ -158,53 +151,52 @@ impl State {
         rest: &[Param],
         body: &Effect,
         env: &mut Env,
-        types: &Types,
-        objects: &List<Object>,
+        world: &World<'_>,
     ) -> Result<(), Memory>
-        requires listed { AreListed types.now }
-        requires few { length objects.now < 2 ^ 32 }
+        requires world { IsWorld world.now }
         requires room { EffectFitsWithin (frame env.old) (param.now ∷ rest.now) body.now }
         requires plain { spec.IsPlain (frame env.old) body.now }
         ensures passed { OnOk result
-            (HasPassedWithin types.now objects.now pass (param.now ∷ rest.now) body.now env.old self.old self.new) }
+            (HasPassedWithin world.now.types.now world.now.objects.now pass (param.now ∷ rest.now) body.now env.old self.old self.new) }
         ensures unchanged { OnErr result (spec.HasOnlyEntered pass self.old self.new) }
         ensures kept { frame env.new ≡ frame env.old }
     {
-        let parts = Parts::new(types, param.ty);
-        let kind = Kind::Parts(&parts);
-        self.pass_over_of(pass, &kind, alloc, rest, body, env, types, objects)
+        let parts = Parts::new(world.types, param.ty);
+        let domain = Domain::among(world.objects, &parts);
+        self.pass_over_of(pass, &domain, alloc, param, rest, body, env, world)
     }
 
-    /// The same, with one more variable before the rest, which stands for the objects of the kind.
+    /// The same, where the domain has the objects of the first type.
     #[cycle(pass_over)]
     #[inline(always)]
     fn pass_over_of(
         &mut self,
         pass: Pass,
-        kind: &Kind<'_>,
+        domain: &Domain<'_>,
         alloc: Global,
+        param: &Param,
         rest: &[Param],
         body: &Effect,
         env: &mut Env,
-        types: &Types,
-        objects: &List<Object>,
+        world: &World<'_>,
     ) -> Result<(), Memory>
-        requires listed { AreListed types.now }
-        requires few { length objects.now < 2 ^ 32 }
-        requires room { EffectFitsWithOne (frame env.old) rest.now body.now }
+        requires world { IsWorld world.now }
+        requires domain { IsDomainOf world.now.types.now world.now.objects.now param.now.ty domain.now }
+        requires room { EffectFitsWithin (frame env.old) (param.now ∷ rest.now) body.now }
         requires plain { spec.IsPlain (frame env.old) body.now }
         ensures passed { OnOk result
-            (HasPassedOf types.now objects.now pass kind.now rest.now body.now env.old self.old self.new) }
+            (HasPassedWithin world.now.types.now world.now.objects.now pass (param.now ∷ rest.now) body.now env.old self.old self.new) }
         ensures unchanged { OnErr result (spec.HasOnlyEntered pass self.old self.new) }
         ensures kept { frame env.new ≡ frame env.old }
     {
-        if rest.is_empty() && self.deny_each(pass, kind, objects, env, body) {
+        let count = world.objects.len() as u32;
+        if rest.is_empty() && self.deny_each(pass, domain, count, env, body) {
             return Ok(());
         }
-        for object in 0..objects.len() as u32 {
-            if kind.has(objects, object) {
+        for place in 0..domain.len() {
+            if let Some(object) = domain.at(place) {
                 env.push(object);
-                let passed = self.pass_over_within(pass, alloc, rest, body, env, types, objects);
+                let passed = self.pass_over_within(pass, alloc, rest, body, env, world);
                 env.pop();
                 passed?;
             }
@@ -212,27 +204,28 @@ impl State {
         Ok(())
     }
 
-    /// Where an atom is to become false with each object of the kind for one more variable, it is made so without
-    /// a look-up of whole atoms, if that can be. Else nothing is done, and the answer is no.
+    /// Where an atom is to become false with each object of the domain for one more variable, it is made so without
+    /// a look-up of whole atoms, if that can be. Else nothing is done, and the answer is no. `count`: the number of all
+    /// objects.
     #[inline(always)]
     fn deny_each(
         &mut self,
         pass: Pass,
-        kind: &Kind<'_>,
-        objects: &List<Object>,
+        domain: &Domain<'_>,
+        count: u32,
         env: &Env,
         eff: &Effect,
     ) -> bool
-        requires few { length objects.now < 2 ^ 32 }
+        requires below { IsBelow count domain.now }
         ensures { MatchBool result
-            (spec.HasDenied pass kind.now objects.now eff.now (frame env.now).objects self.old self.new)
+            (spec.HasDenied pass domain.now eff.now (frame env.now).objects self.old self.new)
             (HasSameNotes self.old self.new) }
     {
         let (Pass::Deny, Effect::Delete(atom)) = (pass, eff) else {
             return false;
         };
         match self.facts.get_mut(atom.predicate as usize) {
-            Some(notes) => notes.deny_each(kind, objects, env, atom.args.as_slice()),
+            Some(notes) => notes.deny_each(domain, count, env, atom.args.as_slice()),
             None => false,
         }
     }

@@ -2,14 +2,15 @@ ghost use Rattle.std.specs.Prelude.{◌≡◌, ◌≤◌, [], length, IfOk, OnOk
 ghost use Rattle.ground_state.specs.Frames.{frame};
 ghost use Rattle.ground_state.specs.Runs as spec;
 
+use crate::arguments::fill;
 use crate::env::Env;
-use crate::index::Index;
 use crate::need::Need;
 use crate::state::State;
-use crate::truth::holds;
+use crate::truth::is_true;
 use crate::verdict::{FailWhy, Verdict};
 use htn_base::{List, Memory, Text};
 use plan_model::{GroundAction, Pddl};
+use problem_index::Index;
 use std::alloc::Global;
 
 /// A run of steps over a problem, from its first state on. So a plan can be checked that is read step by step.
@@ -39,9 +40,10 @@ impl<'p> Run<'p> {
         })
     }
 
-    /// Takes the step of these words, or says why it can't be taken. After `Memory` what was taken is as it was. What is
-    /// noted of a predicate may stand in an array, which grows to the place that a step notes: so a single step may cost
-    /// more than what it touches, up to 1048576 places for each atom that it adds.
+    /// Takes the step of these words, or says why it can't be taken. After `Memory` what was taken is as it was. A
+    /// quantifier goes over the objects of its type alone, but for a type whose objects are not listed (`problem_index`).
+    /// What is noted of a predicate may stand in an array, which grows to the place that a step notes: so a single step may
+    /// cost more than what it touches, up to 1048576 places for each atom that it adds.
     pub fn take(
         &mut self,
         alloc: Global,
@@ -56,15 +58,15 @@ impl<'p> Run<'p> {
             return Ok(Some(FailWhy::UnknownAction));
         };
         let params = action.params.as_slice();
-        if !self.index.fill(self.p, params, args, &mut self.env) {
+        if !fill(&self.index, self.p, params, args, &mut self.env) {
             return Ok(Some(FailWhy::Arguments));
         }
-        let (types, objects) = (&self.p.types, &self.p.objects);
-        if !holds(&action.pre, &mut self.env, &self.state, types, objects) {
+        let world = self.index.world(self.p);
+        if !is_true(&action.pre, &mut self.env, &self.state, &world) {
             return Ok(Some(FailWhy::Condition));
         }
         self.state
-            .apply(alloc, types, objects, &action.eff, &mut self.env)?;
+            .apply_in(alloc, &world, &action.eff, &mut self.env)?;
         Ok(None)
     }
 
@@ -75,18 +77,14 @@ impl<'p> Run<'p> {
         ensures kept { spec.KeepsTaken self.old self.new }
     {
         self.env.clear();
-        holds(
-            &self.p.goal,
-            &mut self.env,
-            &self.state,
-            &self.p.types,
-            &self.p.objects,
-        )
+        let world = self.index.world(self.p);
+        is_true(&self.p.goal, &mut self.env, &self.state, &world)
     }
 }
 
 /// Whether the list is a plan of the problem; else the first step that fails, counted from 1, and its first cause. A step
-/// costs what its condition and its effect touch, and where arrays of notes grow what `Run::take` says.
+/// costs what its condition and its effect touch, a quantifier as much as its type has objects; what may cost more
+/// `Run::take` says.
 pub fn run_plan(alloc: Global, p: &Pddl, plan: &[GroundAction]) -> Result<Verdict, Memory>
     requires runnable { spec.IsRunnable p.now }
     requires few { length plan.now ≤ 1000000 }

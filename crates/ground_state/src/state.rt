@@ -1,16 +1,17 @@
-ghost use Rattle.std.specs.Prelude.{◌≡◌, ◌<◌, ◌^◌, ◌++◌, ◌∷◌, [], ◌≤◌, ◌↔◌, false, length, IsTrue, Contains, Some, None, IfSome, IfOk, OnOk, OnErr};
+ghost use Rattle.std.specs.Prelude.{◌≡◌, ◌++◌, ◌∷◌, [], ◌≤◌, ◌↔◌, false, length, IsTrue, Contains, Some, None};
+ghost use Rattle.std.specs.Prelude.{IfSome, IfOk, OnOk, OnErr};
 ghost use Rattle.plan_meaning.specs.Truth.{ground};
+ghost use Rattle.problem_index.specs.Domains.{IsBelow, IsWithSome};
 ghost use Rattle.ground_state.specs.Frames.{frame};
-ghost use Rattle.ground_state.specs.Kinds.{IsWithSome};
 ghost use Rattle.ground_state.specs.States as spec;
 
 use crate::atom_list::AtomLists;
 use crate::env::Env;
-use crate::kinds::Kind;
 use crate::notes::Notes;
 use crate::numbers::Numbers;
 use htn_base::{List, Memory};
-use plan_model::{Atom, Facts, GroundAtom, Object};
+use plan_model::{Atom, Facts, GroundAtom};
+use problem_index::Domain;
 use std::alloc::Global;
 
 /// More predicates than these count as want of memory: no text of at most 16 megabytes declares so many.
@@ -72,23 +73,23 @@ impl State {
         self.note_atom(env, atom).unwrap_or(false)
     }
 
-    /// Whether with some object of the kind for one more variable what the atom stands for is true, or
-    /// not, as wanted. It is told only where that takes no look-up of whole atoms.
+    /// Whether with some object of the domain for one more variable what the atom stands for is true, or
+    /// not, as wanted. It is told only where that takes no look-up of whole atoms. `count`: the number of all objects.
     #[inline(always)]
     pub(crate) fn finds(
         &self,
         wanted: bool,
-        kind: &Kind<'_>,
-        objects: &List<Object>,
+        domain: &Domain<'_>,
+        count: u32,
         env: &Env,
         atom: &Atom,
     ) -> Option<bool>
-        requires few { length objects.now < 2 ^ 32 }
-        ensures { IfSome result (IsWithSome kind.now objects.now
+        requires below { IsBelow count domain.now }
+        ensures { IfSome result (IsWithSome domain.now
             (λ x. spec.has_ground self.now (ground ((frame env.now).objects ++ x ∷ []) atom.now)) wanted) }
     {
         let notes = self.facts.get(atom.predicate as usize)?;
-        notes.finds(wanted, kind, objects, env, atom.args.as_slice())
+        notes.finds(wanted, domain, count, env, atom.args.as_slice())
     }
 
     /// What is noted of what the atom stands for.

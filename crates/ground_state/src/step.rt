@@ -1,5 +1,6 @@
 ghost use Rattle.std.specs.Prelude.{◌≡◌, ◌<◌, ◌^◌, length, OnOk, OnErr};
 ghost use Rattle.plan_model.specs.Parts.{AreListed};
+ghost use Rattle.problem_index.specs.Kinds.{IsWorld};
 ghost use Rattle.ground_state.specs.Frames.{frame};
 ghost use Rattle.ground_state.specs.Room.{EffectFits};
 ghost use Rattle.ground_state.specs.States.{IsSame};
@@ -8,23 +9,25 @@ ghost use Rattle.ground_state.specs.Clauses.{After, Touched};
 
 use crate::atom_list::AtomLists;
 use crate::env::Env;
-use crate::gather::{World, gather};
+use crate::gather::gather;
 use crate::passes::Pass;
 use crate::plain::is_plain;
 use crate::state::State;
 use htn_base::{List, Memory};
 use plan_model::{Effect, Object, Types};
+use problem_index::World;
 use std::alloc::Global;
 use std::mem;
 
 impl State {
     /// Goes to the state after the effect, where the environment has the objects of the variables in force: each
-    /// condition is tested in the old state, and an add wins over a delete. After `Memory` the state is as it was.
-    pub fn apply(
+    /// condition is tested in the old state, and an add wins over a delete. After `Memory` the state is as it was. A
+    /// quantifier goes past all objects; in a `Run` it goes over those of its type.
+    pub fn apply<'a>(
         &mut self,
         alloc: Global,
-        types: &Types,
-        objects: &List<Object>,
+        types: &'a Types,
+        objects: &'a List<Object>,
         eff: &Effect,
         env: &mut Env,
     ) -> Result<(), Memory>
@@ -35,11 +38,34 @@ impl State {
         ensures unchanged { OnErr result (IsSame self.old self.new) }
         ensures kept { frame env.new ≡ frame env.old }
     {
+        let world = World {
+            types,
+            objects,
+            kinds: None,
+        };
+        self.apply_in(alloc, &world, eff, env)
+    }
+
+    /// The same, in a world.
+    pub(crate) fn apply_in(
+        &mut self,
+        alloc: Global,
+        world: &World<'_>,
+        eff: &Effect,
+        env: &mut Env,
+    ) -> Result<(), Memory>
+        requires world { IsWorld world.now }
+        requires room { EffectFits (frame env.old) eff.now }
+        ensures after { OnOk result
+            (After world.now.types.now world.now.objects.now self.old eff.now env.old self.new) }
+        ensures unchanged { OnErr result (IsSame self.old self.new) }
+        ensures kept { frame env.new ≡ frame env.old }
+    {
         if is_plain(eff, env) {
-            return self.apply_plain(alloc, types, objects, eff, env);
+            return self.apply_plain(alloc, world, eff, env);
         }
         let mut lists = mem::replace(&mut self.touched, AtomLists::new(alloc));
-        let stepped = self.step(alloc, types, objects, eff, env, &mut lists);
+        let stepped = self.step(alloc, world, eff, env, &mut lists);
         self.touched = lists;
         stepped
     }
@@ -48,46 +74,44 @@ impl State {
     fn apply_plain(
         &mut self,
         alloc: Global,
-        types: &Types,
-        objects: &List<Object>,
+        world: &World<'_>,
         eff: &Effect,
         env: &mut Env,
     ) -> Result<(), Memory>
-        requires listed { AreListed types.now }
-        requires few { length objects.now < 2 ^ 32 }
+        requires world { IsWorld world.now }
         requires room { EffectFits (frame env.old) eff.now }
         requires plain { IsPlain (frame env.old) eff.now }
-        ensures after { OnOk result (After types.now objects.now self.old eff.now env.old self.new) }
+        ensures after { OnOk result
+            (After world.now.types.now world.now.objects.now self.old eff.now env.old self.new) }
         ensures unchanged { OnErr result (IsSame self.old self.new) }
         ensures kept { frame env.new ≡ frame env.old }
     {
-        self.pass_over(Pass::Enter, alloc, eff, env, types, objects)?;
-        self.pass_over(Pass::Deny, alloc, eff, env, types, objects)?;
-        self.pass_over(Pass::Affirm, alloc, eff, env, types, objects)?;
+        self.pass_over(Pass::Enter, alloc, eff, env, world)?;
+        self.pass_over(Pass::Deny, alloc, eff, env, world)?;
+        self.pass_over(Pass::Affirm, alloc, eff, env, world)?;
         if !self.crowded {
             return Ok(());
         }
-        self.pass_over(Pass::Forget, alloc, eff, env, types, objects)
+        self.pass_over(Pass::Forget, alloc, eff, env, world)
     }
 
     /// The same, where what the effect adds and deletes is put into these lists.
     fn step(
         &mut self,
         alloc: Global,
-        types: &Types,
-        objects: &List<Object>,
+        world: &World<'_>,
         eff: &Effect,
         env: &mut Env,
         lists: &mut AtomLists,
     ) -> Result<(), Memory>
-        requires listed { AreListed types.now }
-        requires few { length objects.now < 2 ^ 32 }
+        requires world { IsWorld world.now }
         requires room { EffectFits (frame env.old) eff.now }
-        ensures after { OnOk result (After types.now objects.now self.old eff.now env.old self.new) }
+        ensures after { OnOk result
+            (After world.now.types.now world.now.objects.now self.old eff.now env.old self.new) }
         ensures unchanged { OnErr result (IsSame self.old self.new) }
         ensures kept { frame env.new ≡ frame env.old }
     {
-        touched(alloc, eff, env, self, types, objects, lists)?;
+        touched(alloc, eff, env, self, world, lists)?;
         self.change(alloc, &lists.adds, &lists.deletes)
     }
 }
@@ -97,24 +121,17 @@ fn touched(
     alloc: Global,
     eff: &Effect,
     env: &mut Env,
-    state: &State,
-    types: &Types,
-    objects: &List<Object>,
+    s: &State,
+    world: &World<'_>,
     into: &mut AtomLists,
 ) -> Result<(), Memory>
-    requires listed { AreListed types.now }
-    requires few { length objects.now < 2 ^ 32 }
+    requires world { IsWorld world.now }
     requires room { EffectFits (frame env.old) eff.now }
     ensures touched { OnOk result
-        (Touched types.now objects.now state.now eff.now env.old into.new) }
+        (Touched world.now.types.now world.now.objects.now s.now eff.now env.old into.new) }
     ensures kept { frame env.new ≡ frame env.old }
 {
-    let world = World {
-        state,
-        types,
-        objects,
-    };
     into.adds.clear();
     into.deletes.clear();
-    gather(alloc, eff, env, &world, into)
+    gather(alloc, eff, env, s, world, into)
 }

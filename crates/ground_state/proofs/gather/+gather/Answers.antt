@@ -1,14 +1,14 @@
-use Rattle.std.proofs.Common.{◌↔◌, ℕ, ◌≡◌, ◌+◌, ◌<◌, ◌++◌, [], ◌∷◌, Bool, length, take, refl, OnOk, sym, subst, ap, ◌∙◌, true≢false, arith}
+use Rattle.std.proofs.Common.{ℕ, ◌≡◌, ◌+◌, ◌<◌, ◌++◌, [], ◌∷◌, Bool, length, take, refl, OnOk, sym, subst, ap, ◌∙◌, true≢false, arith}
 use Rattle.std.proofs.lemmas.List.{take_all}
 use Rattle.std.proofs.lemmas.Result.{on_ok_weaker}
 use Rattle.plan_model.specs.declared.terms.GroundAtom.{GroundAtom}
 use Rattle.plan_model.specs.Typing.{InType}
 use Rattle.plan_model.proofs.PartsOf.{in_type_within}
-use Rattle.ground_state.proofs.KindLaws.{in_type_by_kind}
+use Rattle.ground_state.proofs.DomainLaws.{AtPlace, at_one, at_none}
 use Rattle.plan_meaning.specs.Truth.{State}
+use Rattle.problem_index.specs.Domains.{places}
 use Rattle.ground_state.specs.Frames.{Frame, frame, pushed}
 use Rattle.ground_state.specs.Room.{effect_fits, EffectFits, EffectFitsWithin}
-use Rattle.ground_state.specs.Kinds.{IsOfKind}
 use Rattle.ground_state.specs.States.{atoms}
 use Rattle.ground_state.specs.declared.atom_list.AtomLists.{AtomLists}
 use Rattle.ground_state.specs.Clauses.{GetsWithin}
@@ -16,19 +16,20 @@ use Rattle.ground_state.specs.Search.{Gathers, Touches, OneTouches, TouchesWithi
 use Rattle.ground_state.proofs.EffectSizes as sizes
 use Rattle.ground_state.proofs.RoomEquations as room
 use Rattle.ground_state.proofs.GatherCases as cases
+use Rattle.ground_state.proofs.DomainCases.{within-domain}
 use Rattle.ground_state.proofs.gather.+gather.Goals as goal
-use Rattle.ground_state.proofs.gather.+gather.Goals.{gather_of-then-has+in_ok-gathered, gather_of-else-has}
+use Rattle.ground_state.proofs.gather.+gather.Goals.{gather_of-in-Some+in_ok-gathered, gather_of-in_default}
 
 pub gather-returns-in-Add-clause-gathered : goal.gather-returns-in-Add-clause-gathered
 gather-returns-in-Add-clause-gathered t c =
     let I = InType c.args.world.now.types.now c.args.world.now.objects.now in
-    let S = atoms c.args.world.now.state.now in
+    let S = atoms c.args.s.now in
     on_ok_weaker c.put.result (λ p. cases.gathers-Add I S c.args.env.now.values.items c.args.eff.now c.in-Add.atom c.in-Add.is c.args.into.now (record { adds = c.put.new.self; deletes = c.args.into.now.deletes }) p refl) c.put.ensures.put
 
 pub gather-returns-in-Delete-clause-gathered : goal.gather-returns-in-Delete-clause-gathered
 gather-returns-in-Delete-clause-gathered t c =
     let I = InType c.args.world.now.types.now c.args.world.now.objects.now in
-    let S = atoms c.args.world.now.state.now in
+    let S = atoms c.args.s.now in
     on_ok_weaker c.put-in-Delete.result (λ p. cases.gathers-Delete I S c.args.env.now.values.items c.args.eff.now c.in-Delete.atom c.in-Delete.is c.args.into.now (record { adds = c.args.into.now.adds; deletes = c.put-in-Delete.new.self }) p refl) c.put-in-Delete.ensures.put
 
 pub gather-gather_each-requires : goal.gather-gather_each-requires
@@ -61,7 +62,7 @@ gather-gather-requires t c = (
 pub gather-returns-then-is_true-clause-gathered : goal.gather-returns-then-is_true-clause-gathered
 gather-returns-then-is_true-clause-gathered t c =
     let I = InType c.args.world.now.types.now c.args.world.now.objects.now in
-    let S = atoms c.args.world.now.state.now in
+    let S = atoms c.args.s.now in
     let v = c.args.env.now.values.items in
     let x = c.get-then-is_true.result.now in
     on_ok_weaker c.gather.result (λ h adds.
@@ -73,7 +74,7 @@ gather-returns-then-is_true-clause-gathered t c =
 pub gather-returns-in-And-clause-gathered : goal.gather-returns-in-And-clause-gathered
 gather-returns-in-And-clause-gathered t c =
     let I = InType c.args.world.now.types.now c.args.world.now.objects.now in
-    let S = atoms c.args.world.now.state.now in
+    let S = atoms c.args.s.now in
     let v = c.args.env.now.values.items in
     on_ok_weaker c.gather_each.result (λ h adds.
     cases.gathers-same (OneTouches I S adds c.as_slice.result.now v) (Touches I S adds c.args.eff.now v) (side adds c.args.into.now) (side adds c.gather_each.new.into)
@@ -83,7 +84,7 @@ gather-returns-in-And-clause-gathered t c =
 pub gather-returns-in-Forall-clause-gathered : goal.gather-returns-in-Forall-clause-gathered
 gather-returns-in-Forall-clause-gathered t c =
     let I = InType c.args.world.now.types.now c.args.world.now.objects.now in
-    let S = atoms c.args.world.now.state.now in
+    let S = atoms c.args.s.now in
     let v = c.args.env.now.values.items in
     on_ok_weaker c.gather_within.result (λ h adds.
     cases.gathers-same (TouchesWithin I S adds c.as_slice-in-Forall.result.now c.get.result.now v) (Touches I S adds c.args.eff.now v) (side adds c.args.into.now) (side adds c.gather_within.new.into)
@@ -93,7 +94,7 @@ gather-returns-in-Forall-clause-gathered t c =
 pub gather-returns-else-is_true-clause-gathered : goal.gather-returns-else-is_true-clause-gathered
 gather-returns-else-is_true-clause-gathered t c adds =
     let I = InType c.args.world.now.types.now c.args.world.now.objects.now in
-    let S = atoms c.args.world.now.state.now in
+    let S = atoms c.args.s.now in
     let v = c.args.env.now.values.items in
     cases.gathers-none (Touches I S adds c.args.eff.now v) (side adds c.args.into.now)
     (cases.touches-When-not I S v adds c.args.eff.now c.in-When.condition c.in-When.body c.in-When.is (λ u. true≢false (sym (c.is_true.ensures.truth.1 u) ∙ c.if-is_true.false)))
@@ -114,7 +115,7 @@ gather_each-gather-requires t c = (
 pub gather_each-loop-part-preserved : goal.gather_each-loop-part-preserved
 gather_each-loop-part-preserved t c =
     let I = InType c.args.world.now.types.now c.args.world.now.objects.now in
-    let S = atoms c.args.world.now.state.now in
+    let S = atoms c.args.s.now in
     let v = c.args.env.now.values.items in
     let i = c.loop-part.part-index in
     let e = c.part-item.result in (
@@ -127,76 +128,78 @@ gather_each-loop-part-preserved t c =
 pub gather_each-returns-clause-gathered : goal.gather_each-returns-clause-gathered
 gather_each-returns-clause-gathered t c adds =
     let I = InType c.args.world.now.types.now c.args.world.now.objects.now in
-    let S = atoms c.args.world.now.state.now in
+    let S = atoms c.args.s.now in
     subst (λ es. Gathers (OneTouches I S adds es c.args.env.now.values.items) (side adds c.args.into.now) (side adds c.loop-part.into)) (take_all c.loop-part.part-index c.args.parts.now c.loop-part-test.false) (c.loop-part.invariant.1 adds)
 
 pub gather_within-returns-in_default-clause-gathered : goal.gather_within-returns-in_default-clause-gathered
 gather_within-returns-in_default-clause-gathered t c =
     let I = InType c.args.world.now.types.now c.args.world.now.objects.now in
-    let S = atoms c.args.world.now.state.now in
+    let S = atoms c.args.s.now in
     let v = c.args.env.now.values.items in
     on_ok_weaker c.gather.result (λ h adds.
     cases.gathers-same (Touches I S adds c.args.body.now v) (TouchesWithin I S adds c.args.params.now c.args.body.now v) (side adds c.args.into.now) (side adds c.gather.new.into)
     (cases.within-none I S v adds c.args.params.now c.args.body.now c.in_default.ensures.cases) (h adds)
     ) c.gather.ensures.gathered
 
-pub gather_within-returns-in-Some-alone-clause-gathered : goal.gather_within-returns-in-Some-alone-clause-gathered
-gather_within-returns-in-Some-alone-clause-gathered t c = subst (λ ps. OnOk c.gather_of.result (GetsWithin c.args.world.now ps c.args.body.now c.args.env.now c.args.into.now c.gather_of.new.into)) (sym c.in-Some.ensures.cases.0) (on_ok_weaker c.gather_of.result (λ h. h c.in-Some.param.now c.in-Some-alone.ensures) c.gather_of.ensures.gathered)
+pub gather_within-returns-in-Some-domain-clause-gathered : goal.gather_within-returns-in-Some-domain-clause-gathered
+gather_within-returns-in-Some-domain-clause-gathered t c = subst (λ ps. OnOk c.gather_of.result (GetsWithin c.args.world.now.types.now c.args.world.now.objects.now c.args.s.now ps c.args.body.now c.args.env.now c.args.into.now c.gather_of.new.into)) (sym c.in-Some.ensures.cases.0) c.gather_of.ensures.gathered
 
 pub gather_within-returns-in-None-clause-gathered : goal.gather_within-returns-in-None-clause-gathered
-gather_within-returns-in-None-clause-gathered t c = subst (λ ps. OnOk c.gather_in_parts.result (GetsWithin c.args.world.now ps c.args.body.now c.args.env.now c.args.into.now c.gather_in_parts.new.into)) (sym c.in-Some.ensures.cases.0) c.gather_in_parts.ensures.gathered
+gather_within-returns-in-None-clause-gathered t c = subst (λ ps. OnOk c.gather_in_parts.result (GetsWithin c.args.world.now.types.now c.args.world.now.objects.now c.args.s.now ps c.args.body.now c.args.env.now c.args.into.now c.gather_in_parts.new.into)) (sym c.in-Some.ensures.cases.0) c.gather_in_parts.ensures.gathered
 
-pub gather_in_parts-returns-clause-gathered : goal.gather_in_parts-returns-clause-gathered
-gather_in_parts-returns-clause-gathered t c = on_ok_weaker c.gather_of.result (λ h. h c.args.param.now c.new-parts.ensures) c.gather_of.ensures.gathered
+pub gather_in_parts-gather_of-requires : goal.gather_in_parts-gather_of-requires
+gather_in_parts-gather_of-requires t c = ((let d = c.decreases in omega (arith, d)), (c.requires.world, (c.among-domain.ensures c.args.world.now.types.now c.args.param.now.ty c.new-parts.ensures, c.requires.room)))
 
 pub gather_of-returns-in_err-gathered-clause-kept : goal.gather_of-returns-in_err-gathered-clause-kept
-gather_of-returns-in_err-gathered-clause-kept t c = c.pop.ensures (frame c.loop-object.env) c.loop-object.object (c.gather_within-gathered.ensures.kept ∙ c.push.ensures) ∙ c.loop-object.invariant.0
+gather_of-returns-in_err-gathered-clause-kept t c = c.pop.ensures (frame c.loop-place.env) c.in-Some.object (c.gather_within-gathered.ensures.kept ∙ c.push.ensures) ∙ c.loop-place.invariant.0
 
 pub gather_of-push-requires : goal.gather_of-push-requires
-gather_of-push-requires t c = subst (λ (e : Frame). length e.objects < e.room) (sym c.loop-object.invariant.0) (room.room-for-one-effect (frame c.args.env.now) c.args.rest.now c.args.body.now c.requires.room)
+gather_of-push-requires t c = subst (λ (e : Frame). length e.objects < e.room) (sym c.loop-place.invariant.0) (room.room-for-one-effect (frame c.args.env.now) c.args.param.now c.args.rest.now c.args.body.now c.requires.room)
 
 pub gather_of-gather_within-gathered-requires : goal.gather_of-gather_within-gathered-requires
 gather_of-gather_within-gathered-requires t c =
-    let same : frame c.push.new.self ≡ pushed (frame c.args.env.now) c.loop-object.object = c.push.ensures ∙ ap (λ (e : Frame). pushed e c.loop-object.object) c.loop-object.invariant.0 in
-    let fits : EffectFitsWithin (frame c.push.new.self) c.args.rest.now c.args.body.now = subst (λ (e : Frame). EffectFitsWithin e c.args.rest.now c.args.body.now) (sym same) (room.effect-fits-one (frame c.args.env.now) c.loop-object.object c.args.rest.now c.args.body.now c.requires.room) in
+    let same : frame c.push.new.self ≡ pushed (frame c.args.env.now) c.in-Some.object = c.push.ensures ∙ ap (λ (e : Frame). pushed e c.in-Some.object) c.loop-place.invariant.0 in
+    let fits : EffectFitsWithin (frame c.push.new.self) c.args.rest.now c.args.body.now = subst (λ (e : Frame). EffectFitsWithin e c.args.rest.now c.args.body.now) (sym same) (room.effect-fits-one (frame c.args.env.now) c.in-Some.object c.args.param.now c.args.rest.now c.args.body.now c.requires.room) in
     ((let d = c.decreases in omega (arith, d)), (c.requires.world, fits))
 
-pub gather_of-loop-object-preserved : goal.gather_of-loop-object-preserved
-gather_of-loop-object-preserved t c =
+pub gather_of-loop-place-preserved : goal.gather_of-loop-place-preserved
+gather_of-loop-place-preserved t c =
     let I = InType c.args.world.now.types.now c.args.world.now.objects.now in
-    let S = atoms c.args.world.now.state.now in
+    let S = atoms c.args.s.now in
     let v = c.args.env.now.values.items in
-    let i = c.loop-object.object in
-    let R : Bool → GroundAtom → ℕ → Type 0 = λ adds g o. IsOfKind c.args.kind.now c.args.world.now.objects.now o × TouchesWithin I S adds c.args.rest.now c.args.body.now (v ++ o ∷ []) g in
-    let P : Bool → State = λ adds g. (o : ℕ) × (o < c.loop-object.object) × R adds g o in
-    let N : Bool → State = λ adds g. (o : ℕ) × (o < c.loop-object.object + 1) × R adds g o in
-    let Q : Bool → State = λ adds. TouchesWithin I S adds c.args.rest.now c.args.body.now (v ++ i ∷ []) in
-    elim c.if-has.branch [
-      | gather_of-then-has+in_ok-gathered w ↦ (
-          let typed : IsOfKind c.args.kind.now c.args.world.now.objects.now c.loop-object.object = c.has.ensures.0 w.if-has.true in
-          let objects : w.push.new.self.values.items ≡ v ++ c.loop-object.object ∷ [] = ap (λ (f : Frame). f.objects) w.push.ensures ∙ ap (λ (f : Frame). f.objects ++ c.loop-object.object ∷ []) c.loop-object.invariant.0 in
-          let more : (adds : Bool) → Gathers (Q adds) (side adds c.loop-object.into) (side adds w.gather_within-gathered.new.into) = λ adds. subst (λ u. Gathers (TouchesWithin I S adds c.args.rest.now c.args.body.now u) (side adds c.loop-object.into) (side adds w.gather_within-gathered.new.into)) objects (w.in_ok-gathered.ensures.gathered adds) in
-          let kept : frame w.pop.new.self ≡ frame c.args.env.now = w.pop.ensures (frame c.loop-object.env) c.loop-object.object (w.gather_within-gathered.ensures.kept ∙ w.push.ensures) ∙ c.loop-object.invariant.0 in
-          let all : (adds : Bool) → Gathers (N adds) (side adds c.args.into.now) (side adds w.gather_within-gathered.new.into) = λ adds. cases.gathers-then (P adds) (Q adds) (N adds) (side adds c.args.into.now) (side adds c.loop-object.into) (side adds w.gather_within-gathered.new.into) (λ g. cases.below-more (R adds g) (Q adds g) i (λ r. r.1, λ q. (typed, q))) (c.loop-object.invariant.1 adds) (more adds) in
+    let D = c.args.domain.now in
+    let i = c.loop-place.place in
+    let T : Bool → GroundAtom → ℕ → Type 0 = λ adds g o. TouchesWithin I S adds c.args.rest.now c.args.body.now (v ++ o ∷ []) g in
+    let R : Bool → GroundAtom → ℕ → Type 0 = λ adds g. AtPlace c.args.domain.now (T adds g) in
+    let P : Bool → State = λ adds g. (j : ℕ) × (j < c.loop-place.place) × R adds g j in
+    let N : Bool → State = λ adds g. (j : ℕ) × (j < c.loop-place.place + 1) × R adds g j in
+    elim c.match-at.branch [
+      | gather_of-in-Some+in_ok-gathered w ↦ (
+          let o = w.in-Some.object in
+          let Q : Bool → State = λ adds g. T adds g w.in-Some.object in
+          let objects : w.push.new.self.values.items ≡ v ++ w.in-Some.object ∷ [] = ap (λ (f : Frame). f.objects) w.push.ensures ∙ ap (λ (f : Frame). f.objects ++ w.in-Some.object ∷ []) c.loop-place.invariant.0 in
+          let more : (adds : Bool) → Gathers (Q adds) (side adds c.loop-place.into) (side adds w.gather_within-gathered.new.into) = λ adds. subst (λ u. Gathers (TouchesWithin I S adds c.args.rest.now c.args.body.now u) (side adds c.loop-place.into) (side adds w.gather_within-gathered.new.into)) objects (w.in_ok-gathered.ensures.gathered adds) in
+          let kept : frame w.pop.new.self ≡ frame c.args.env.now = w.pop.ensures (frame c.loop-place.env) w.in-Some.object (w.gather_within-gathered.ensures.kept ∙ w.push.ensures) ∙ c.loop-place.invariant.0 in
+          let all : (adds : Bool) → Gathers (N adds) (side adds c.args.into.now) (side adds w.gather_within-gathered.new.into) = λ adds. cases.gathers-then (P adds) (Q adds) (N adds) (side adds c.args.into.now) (side adds c.loop-place.into) (side adds w.gather_within-gathered.new.into) (λ g. cases.below-more (R adds g) (Q adds g) i (at_one D (T adds g) i o (sym c.at.ensures ∙ w.in-Some.is))) (c.loop-place.invariant.1 adds) (more adds) in
           (ap frame w.env-is ∙ kept, subst (λ (into : AtomLists). (adds : Bool) → Gathers (N adds) (side adds c.args.into.now) (side adds into)) (sym w.into-is) all)
           )
-      | gather_of-else-has w ↦ (
-          let none : (adds : Bool) (g : GroundAtom) → R adds g c.loop-object.object → ⊥ = λ adds g r. true≢false (sym (c.has.ensures.1 r.0) ∙ w.if-has.false) in
-          let all : (adds : Bool) → Gathers (N adds) (side adds c.args.into.now) (side adds c.loop-object.into) = λ adds. cases.gathers-same (P adds) (N adds) (side adds c.args.into.now) (side adds c.loop-object.into) (λ g. cases.below-none (R adds g) i (none adds g)) (c.loop-object.invariant.1 adds) in
-          (ap frame w.env-is ∙ c.loop-object.invariant.0, subst (λ (into : AtomLists). (adds : Bool) → Gathers (N adds) (side adds c.args.into.now) (side adds into)) (sym w.into-is) all)
+      | gather_of-in_default w ↦ (
+          let none : (adds : Bool) (g : GroundAtom) → R adds g c.loop-place.place → ⊥ = λ adds g. at_none D (T adds g) i (sym c.at.ensures ∙ w.in_default.is) in
+          let all : (adds : Bool) → Gathers (N adds) (side adds c.args.into.now) (side adds c.loop-place.into) = λ adds. cases.gathers-same (P adds) (N adds) (side adds c.args.into.now) (side adds c.loop-place.into) (λ g. cases.below-none (R adds g) i (none adds g)) (c.loop-place.invariant.1 adds) in
+          (ap frame w.env-is ∙ c.loop-place.invariant.0, subst (λ (into : AtomLists). (adds : Bool) → Gathers (N adds) (side adds c.args.into.now) (side adds into)) (sym w.into-is) all)
           )
     ]
 
 pub gather_of-returns-clause-gathered : goal.gather_of-returns-clause-gathered
-gather_of-returns-clause-gathered t c q k adds =
+gather_of-returns-clause-gathered t c adds =
+    let types = c.args.world.now.types.now in
+    let objects = c.args.world.now.objects.now in
     let I = InType c.args.world.now.types.now c.args.world.now.objects.now in
-    let S = atoms c.args.world.now.state.now in
+    let S = atoms c.args.s.now in
     let v = c.args.env.now.values.items in
-    let p = q in
-    let below : (o : ℕ) → I o q.ty → o < c.loop-object.object =
-    λ o i. (let l = in_type_within c.args.world.now.types.now c.args.world.now.objects.now q.ty o i in let e = c.loop-object-test.false in let n = c.len-object-end.ensures.length in omega arith) in
-    let typed : (o : ℕ) → IsOfKind c.args.kind.now c.args.world.now.objects.now o ↔ InType c.args.world.now.types.now c.args.world.now.objects.now o q.ty =
-    λ o. in_type_by_kind c.args.world.now.types.now c.args.world.now.objects.now c.args.kind.now o q.ty k in
-    let all = cases.within-all I S v adds p c.args.rest.now (q ∷ c.args.rest.now) c.args.body.now c.loop-object.object refl below in
-    cases.gathers-same (λ g. (o : ℕ) × (o < c.loop-object.object) × (IsOfKind c.args.kind.now c.args.world.now.objects.now o × TouchesWithin I S adds c.args.rest.now c.args.body.now (v ++ o ∷ []) g)) (TouchesWithin I S adds (q ∷ c.args.rest.now) c.args.body.now v) (side adds c.args.into.now) (side adds c.loop-object.into)
-    (λ g. (λ t. (all g).0 (t.0, t.1, ((typed t.0).0 t.2.0, t.2.1)), λ t. (let u = (all g).1 t in (u.0, u.1, ((typed u.0).1 u.2.0, u.2.1))))) (c.loop-object.invariant.1 adds)
+    let p = c.args.param.now in
+    let rest = c.args.rest.now in
+    let T : GroundAtom → ℕ → Type 0 = λ g o. TouchesWithin I S adds c.args.rest.now c.args.body.now (v ++ o ∷ []) g in
+    let end : c.loop-place.place ≡ places c.args.domain.now = (let e = c.loop-place-test.false in let l = c.loop-place.auto.place-end in let n = c.len-place-end.ensures in omega (arith, e, l, n)) in
+    cases.gathers-same (λ g. (i : ℕ) × (i < c.loop-place.place) × AtPlace c.args.domain.now (T g) i) (TouchesWithin I S adds (p ∷ c.args.rest.now) c.args.body.now v) (side adds c.args.into.now) (side adds c.loop-place.into)
+    (λ g. within-domain I S v adds p rest c.args.body.now c.args.domain.now c.loop-place.place (length objects) end c.requires.domain (λ o i. in_type_within types objects p.ty o i) g) (c.loop-place.invariant.1 adds)

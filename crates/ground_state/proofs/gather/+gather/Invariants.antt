@@ -1,10 +1,10 @@
 use Rattle.std.proofs.Common.{ℕ, ◌≡◌, ◌+◌, ◌*◌, ◌<◌, ◌++◌, [], ◌∷◌, Bool, length, take}
 use Rattle.plan_model.specs.Typing.{InType}
 use Rattle.ground_state.specs.Frames.{frame}
-use Rattle.ground_state.specs.Kinds.{IsOfKind}
 use Rattle.ground_state.specs.States.{atoms}
 use Rattle.ground_state.specs.Search.{Gathers, OneTouches, TouchesWithin, side}
 use Rattle.ground_state.proofs.EffectSizes.{size, sizes}
+use Rattle.ground_state.proofs.DomainLaws.{AtPlace}
 use Rattle.ground_state.proofs.gather.+gather.Given as goal
 
 abbrev pub decreases-gather : goal.decreases-gather
@@ -25,9 +25,9 @@ decreases-gather_of l = 2 + 3 * length l.rest.now + 3 * size l.body.now
 -- what the effects so far touch is gathered
 abbrev pub invariant-gather_each-loop-part : goal.invariant-gather_each-loop-part
 invariant-gather_each-loop-part l = (frame l.env ≡ frame l.fn.env)
-    × ((adds : Bool) → Gathers (OneTouches (InType l.world.types.now l.world.objects.now) (atoms l.world.state.now) adds (take l.part-index l.parts) l.fn.env.values.items) (side adds l.fn.into) (side adds l.into))
+    × ((adds : Bool) → Gathers (OneTouches (InType l.world.types.now l.world.objects.now) (atoms l.s) adds (take l.part-index l.parts) l.fn.env.values.items) (side adds l.fn.into) (side adds l.into))
 
 -- what the effect touches with the objects so far is gathered
-abbrev pub invariant-gather_of-loop-object : goal.invariant-gather_of-loop-object
-invariant-gather_of-loop-object l = (frame l.env ≡ frame l.fn.env)
-    × ((adds : Bool) → Gathers (λ g. (o : ℕ) × (o < l.object) × (IsOfKind l.kind l.world.objects.now o × TouchesWithin (InType l.world.types.now l.world.objects.now) (atoms l.world.state.now) adds l.rest l.body (l.fn.env.values.items ++ o ∷ []) g)) (side adds l.fn.into) (side adds l.into))
+abbrev pub invariant-gather_of-loop-place : goal.invariant-gather_of-loop-place
+invariant-gather_of-loop-place l = (frame l.env ≡ frame l.fn.env)
+    × ((adds : Bool) → Gathers (λ g. (i : ℕ) × (i < l.place) × AtPlace l.domain (λ o. TouchesWithin (InType l.world.types.now l.world.objects.now) (atoms l.s) adds l.rest l.body (l.fn.env.values.items ++ o ∷ []) g) i) (side adds l.fn.into) (side adds l.into))

@@ -7,5 +7,5 @@ use Rattle.ground_state.proofs.step.touched.Goals as goal
 
 pub returns-clause-touched : goal.returns-clause-touched
 returns-clause-touched c =
-    on_ok_weaker c.gather.result (from-empty (λ adds. Touches (InType c.args.types.now c.args.objects.now) (atoms c.args.state.now) adds c.args.eff.now c.args.env.now.values.items)
+    on_ok_weaker c.gather.result (from-empty (λ adds. Touches (InType c.args.world.now.types.now c.args.world.now.objects.now) (atoms c.args.s.now) adds c.args.eff.now c.args.env.now.values.items)
     (record { adds = c.clear.new.self; deletes = c.clear-2.new.self }) c.gather.new.into c.clear.ensures c.clear-2.ensures) c.gather.ensures.gathered

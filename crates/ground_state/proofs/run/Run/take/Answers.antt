@@ -1,8 +1,11 @@
-use Rattle.std.proofs.Common.{◌≤◌, List, length, refl, sym, subst, ◌∙◌, true≢false}
+use Rattle.std.proofs.Common.{◌≤◌, ◌↔◌, IsTrue, List, length, refl, sym, subst, ◌∙◌, true≢false}
 use Rattle.std.proofs.lemmas.Result.{IfOk-from_err}
 use Rattle.std.specs.Vec.{vec_capacity}
+use Rattle.plan_model.specs.declared.types.Types.{Types}
+use Rattle.plan_model.specs.declared.types.Object.{Object}
 use Rattle.plan_model.specs.declared.terms.Param.{Param}
-use Rattle.plan_meaning.specs.Truth.{after}
+use Rattle.plan_model.specs.Typing.{InType}
+use Rattle.plan_meaning.specs.Truth.{IsTrueIn, after}
 use Rattle.plan_meaning.specs.ClassicalPlan.{InTypeOf}
 use Rattle.ground_state.specs.declared.verdict.FailWhy.TheVariants as why
 use Rattle.ground_state.specs.Frames.{Frame, frame}
@@ -32,8 +35,8 @@ returns-then-not-fill-clause-taken c =
     (laws.arguments_fail p step a (c.in-Some.ensures words) c.requires.ready.runnable.apart (atoms old.state)
     (λ os args. c.if-not-fill.ensures.filled os (laws.same_arguments p a.params c.as_slice-params.result.now words words os (sym c.as_slice-params.ensures.items) refl args)))
 
-pub holds-requires-clause-room : goal.holds-requires-clause-room
-holds-requires-clause-room c =
+pub is_true-requires-clause-room : goal.is_true-requires-clause-room
+is_true-requires-clause-room c =
     let old = c.args.self.now in
     let p = old.p.now in
     let a = c.in-Some.action.now in
@@ -41,8 +44,10 @@ holds-requires-clause-room c =
     let args = laws.same_arguments p c.as_slice-params.result.now a.params words words c.fill.new.env.values.items c.as_slice-params.ensures.items refl c.if-not-fill.ensures.filled in
     laws.room_for_pre p (words_step c.args.name.now c.args.args.now) a (c.in-Some.ensures words) (frame c.fill.new.env) (laws.still_roomy p (frame old.env) (frame c.fill.new.env) c.fill.ensures.room c.requires.ready.room) args.1
 
-pub returns-then-not-holds-clause-taken : goal.returns-then-not-holds-clause-taken
-returns-then-not-holds-clause-taken c =
+pub returns-then-not-is_true-clause-taken : goal.returns-then-not-is_true-clause-taken
+returns-then-not-is_true-clause-taken c =
+    let truth : IsTrue c.is_true.result ↔ IsTrueIn (InTypeOf c.args.self.now.p.now) (atoms c.args.self.now.state) c.in-Some.action.now.pre c.fill.new.env.values.items = subst (λ (xs : List Object). IsTrue c.is_true.result ↔ IsTrueIn (InType c.args.self.now.p.now.types xs) (atoms c.args.self.now.state) c.in-Some.action.now.pre c.fill.new.env.values.items) c.world-world.ensures.objects
+    (subst (λ (types : Types). IsTrue c.is_true.result ↔ IsTrueIn (InType types c.world-world.result.objects.now) (atoms c.args.self.now.state) c.in-Some.action.now.pre c.fill.new.env.values.items) c.world-world.ensures.types c.is_true.ensures.truth) in
     let old = c.args.self.now in
     let p = old.p.now in
     let a = c.in-Some.action.now in
@@ -50,20 +55,24 @@ returns-then-not-holds-clause-taken c =
     let step = words_step c.args.name.now c.args.args.now in
     let args = laws.same_arguments p c.as_slice-params.result.now a.params words words c.fill.new.env.values.items c.as_slice-params.ensures.items refl c.if-not-fill.ensures.filled in
     laws.fails old step why.Condition
-    (laws.condition_fails p step a (c.in-Some.ensures words) c.requires.ready.runnable.apart (atoms old.state) c.fill.new.env.values.items args (λ t. true≢false (sym (c.holds.ensures.truth.1 t) ∙ c.if-not-holds.true)))
+    (laws.condition_fails p step a (c.in-Some.ensures words) c.requires.ready.runnable.apart (atoms old.state) c.fill.new.env.values.items args (λ t. true≢false (sym (truth.1 t) ∙ c.if-not-is_true.true)))
 
-pub apply-requires-clause-room : goal.apply-requires-clause-room
-apply-requires-clause-room c =
+pub apply_in-requires-clause-room : goal.apply_in-requires-clause-room
+apply_in-requires-clause-room c =
     let old = c.args.self.now in
     let p = old.p.now in
     let a = c.in-Some.action.now in
     let words = texts c.args.args.now in
     let args = laws.same_arguments p c.as_slice-params.result.now a.params words words c.fill.new.env.values.items c.as_slice-params.ensures.items refl c.if-not-fill.ensures.filled in
-    subst (λ e. EffectFits e c.in-Some.action.now.eff) (sym c.holds.ensures.kept)
+    subst (λ e. EffectFits e c.in-Some.action.now.eff) (sym c.is_true.ensures.kept)
     (laws.room_for_eff p (words_step c.args.name.now c.args.args.now) a (c.in-Some.ensures words) (frame c.fill.new.env) (laws.still_roomy p (frame old.env) (frame c.fill.new.env) c.fill.ensures.room c.requires.ready.room) args.1)
 
 pub returns-clause-taken : goal.returns-clause-taken
 returns-clause-taken c =
+    let truth : IsTrue c.is_true.result ↔ IsTrueIn (InTypeOf c.args.self.now.p.now) (atoms c.args.self.now.state) c.in-Some.action.now.pre c.fill.new.env.values.items = subst (λ (xs : List Object). IsTrue c.is_true.result ↔ IsTrueIn (InType c.args.self.now.p.now.types xs) (atoms c.args.self.now.state) c.in-Some.action.now.pre c.fill.new.env.values.items) c.world-world.ensures.objects
+    (subst (λ (types : Types). IsTrue c.is_true.result ↔ IsTrueIn (InType types c.world-world.result.objects.now) (atoms c.args.self.now.state) c.in-Some.action.now.pre c.fill.new.env.values.items) c.world-world.ensures.types c.is_true.ensures.truth) in
+    let ended : Has c.apply_in.new.self (after (InTypeOf c.args.self.now.p.now) (atoms c.args.self.now.state) c.in-Some.action.now.eff c.is_true.new.env.values.items) = subst (λ (xs : List Object). Has c.apply_in.new.self (after (InType c.args.self.now.p.now.types xs) (atoms c.args.self.now.state) c.in-Some.action.now.eff c.is_true.new.env.values.items)) c.world-world.ensures.objects
+    (subst (λ (types : Types). Has c.apply_in.new.self (after (InType types c.world-world.result.objects.now) (atoms c.args.self.now.state) c.in-Some.action.now.eff c.is_true.new.env.values.items)) c.world-world.ensures.types c.in_ok-apply_in.ensures.after) in
     let old = c.args.self.now in
     let p = old.p.now in
     let a = c.in-Some.action.now in
@@ -71,21 +80,21 @@ returns-clause-taken c =
     let step = words_step c.args.name.now c.args.args.now in
     let os = c.fill.new.env.values.items in
     let args = laws.same_arguments p c.as_slice-params.result.now a.params words words os c.as_slice-params.ensures.items refl c.if-not-fill.ensures.filled in
-    let same = c.apply.ensures.kept ∙ c.holds.ensures.kept in
+    let same = c.apply_in.ensures.kept ∙ c.is_true.ensures.kept in
     let roomy = subst (IsAsRoomy (frame c.args.self.now.env)) (sym same) c.fill.ensures.room in
     laws.takes old _ refl refl roomy step (
       a,
       os,
-      laws.applicable p step a (c.in-Some.ensures words) (atoms old.state) os args (c.holds.ensures.truth.0 c.if-not-holds.false),
-      subst (λ (e : Frame). Has c.apply.new.self (after (InTypeOf c.args.self.now.p.now) (atoms c.args.self.now.state) c.in-Some.action.now.eff e.objects)) c.holds.ensures.kept c.in_ok-apply.ensures.after,
+      laws.applicable p step a (c.in-Some.ensures words) (atoms old.state) os args (truth.0 c.if-not-is_true.false),
+      subst (λ (e : Frame). Has c.apply_in.new.self (after (InTypeOf c.args.self.now.p.now) (atoms c.args.self.now.state) c.in-Some.action.now.eff e.objects)) c.is_true.ensures.kept ended,
     )
 
-pub returns-in_err-apply : goal.returns-in_err-apply
-returns-in_err-apply c =
+pub returns-in_err-apply_in : goal.returns-in_err-apply_in
+returns-in_err-apply_in c =
     let old = c.args.self.now in
-    let same = c.apply.ensures.kept ∙ c.holds.ensures.kept in
+    let same = c.apply_in.ensures.kept ∙ c.is_true.ensures.kept in
     let roomy = subst (IsAsRoomy (frame c.args.self.now.env)) (sym same) c.fill.ensures.room in
     record {
       taken = IfOk-from_err c.from_residual.result _ c.from_residual.ensures.0;
-      unchanged = on_error c.from_residual.result _ (laws.keeps_taken old _ refl refl roomy c.in_err-apply.ensures.unchanged);
+      unchanged = on_error c.from_residual.result _ (laws.keeps_taken old _ refl refl roomy c.in_err-apply_in.ensures.unchanged);
     }

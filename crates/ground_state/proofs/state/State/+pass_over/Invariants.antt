@@ -2,11 +2,11 @@ use Rattle.std.proofs.Common.{ℕ, ◌≡◌, ◌+◌, ◌*◌, ◌<◌, ◌++�
 use Rattle.plan_model.specs.Typing.{InType}
 use Rattle.ground_state.specs.declared.state.State.{State}
 use Rattle.ground_state.specs.Frames.{frame}
-use Rattle.ground_state.specs.Kinds.{IsOfKind}
 use Rattle.ground_state.specs.States.{atoms}
 use Rattle.ground_state.specs.Search.{OneTouches, TouchesWithin}
 use Rattle.ground_state.specs.Passes.{of_adds, Passes}
 use Rattle.ground_state.proofs.EffectSizes.{size, sizes}
+use Rattle.ground_state.proofs.DomainLaws.{AtPlace}
 use Rattle.ground_state.proofs.state.State.+pass_over.Given as goal
 
 abbrev pub decreases-pass_over : goal.decreases-pass_over
@@ -27,9 +27,9 @@ decreases-pass_over_of l = 2 + 3 * length l.rest.now + 3 * size l.body.now
 -- the pass has been made over what the effects so far touch
 abbrev pub invariant-pass_over_each-loop-part : goal.invariant-pass_over_each-loop-part
 invariant-pass_over_each-loop-part l = (frame l.env ≡ frame l.fn.env)
-    × ((s : State) → Passes l.pass (OneTouches (InType l.types l.objects) (atoms s) (of_adds l.pass) (take l.part-index l.parts) l.fn.env.values.items) l.fn.self l.self)
+    × ((s : State) → Passes l.pass (OneTouches (InType l.world.types.now l.world.objects.now) (atoms s) (of_adds l.pass) (take l.part-index l.parts) l.fn.env.values.items) l.fn.self l.self)
 
 -- and over what the effect touches with the objects so far
-abbrev pub invariant-pass_over_of-loop-object : goal.invariant-pass_over_of-loop-object
-invariant-pass_over_of-loop-object l = (frame l.env ≡ frame l.fn.env)
-    × ((s : State) → Passes l.pass (λ g. (o : ℕ) × (o < l.object) × (IsOfKind l.kind l.objects o × TouchesWithin (InType l.types l.objects) (atoms s) (of_adds l.pass) l.rest l.body (l.fn.env.values.items ++ o ∷ []) g)) l.fn.self l.self)
+abbrev pub invariant-pass_over_of-loop-place : goal.invariant-pass_over_of-loop-place
+invariant-pass_over_of-loop-place l = (frame l.env ≡ frame l.fn.env)
+    × ((s : State) → Passes l.pass (λ g. (i : ℕ) × (i < l.place) × AtPlace l.domain (λ o. TouchesWithin (InType l.world.types.now l.world.objects.now) (atoms s) (of_adds l.pass) l.rest l.body (l.fn.env.values.items ++ o ∷ []) g) i) l.fn.self l.self)

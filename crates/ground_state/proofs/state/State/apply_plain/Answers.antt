@@ -11,7 +11,7 @@ use Rattle.ground_state.proofs.state.State.apply_plain.Goals as goal
 
 pub returns-clause-after : goal.returns-clause-after
 returns-clause-after c =
-    let I = InType c.args.types.now c.args.objects.now in
+    let I = InType c.args.world.now.types.now c.args.world.now.objects.now in
     let old = c.args.self.now in
     let e = c.args.eff.now in
     let entered = c.pass_over.new.self in
@@ -29,7 +29,7 @@ returns-clause-after c =
 
 pub returns-then-not-self-clause-after : goal.returns-then-not-self-clause-after
 returns-then-not-self-clause-after c =
-    let I = InType c.args.types.now c.args.objects.now in
+    let I = InType c.args.world.now.types.now c.args.world.now.objects.now in
     let old = c.args.self.now in
     let e = c.args.eff.now in
     let entered = c.pass_over.new.self in

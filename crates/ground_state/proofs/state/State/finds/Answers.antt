@@ -4,7 +4,7 @@ use Rattle.std.specs.Option.{option_and_then}
 use Rattle.std.proofs.lemmas.Option.{slice_get_read}
 use Rattle.plan_meaning.specs.Truth.{values_of}
 use Rattle.ground_state.specs.declared.notes.Notes.{Notes}
-use Rattle.ground_state.specs.Kinds.{IsWithSome}
+use Rattle.problem_index.specs.Domains.{IsWithSome}
 use Rattle.ground_state.specs.Notes.{noted}
 use Rattle.ground_state.proofs.state.State.finds.Goals as goal
 
@@ -14,5 +14,5 @@ returns c =
     let v = c.args.env.now.values.items in
     let is = slice_get_read c.deref.result.now _ c.args.atom.now.predicate notes refl c.in_ok-notes.ensures.lookup.3.0 c.in_ok-notes.ensures.lookup.1 in
     let here : slice_get c.args.self.now.facts.items c.args.atom.now.predicate ≡ Some c.in_ok-notes.notes.now = subst (λ (xs : List Notes). slice_get xs c.args.atom.now.predicate ≡ Some c.in_ok-notes.notes.now) c.deref.ensures.value is in
-    subst (λ (o : Option Notes). IfSome c.finds.result (IsWithSome c.args.kind.now c.args.objects.now (λ x. unwrap_or (option_and_then (λ lists. noted lists (values_of (c.args.env.now.values.items ++ x ∷ []) c.args.atom.now.args)) o) false) c.args.wanted)) (sym here)
-    (subst (λ terms. IfSome c.finds.result (IsWithSome c.args.kind.now c.args.objects.now (λ x. unwrap_or (noted c.in_ok-notes.notes.now (values_of (c.args.env.now.values.items ++ x ∷ []) terms)) false) c.args.wanted)) c.as_slice.ensures.items c.finds.ensures)
+    subst (λ (o : Option Notes). IfSome c.finds.result (IsWithSome c.args.domain.now (λ x. unwrap_or (option_and_then (λ lists. noted lists (values_of (c.args.env.now.values.items ++ x ∷ []) c.args.atom.now.args)) o) false) c.args.wanted)) (sym here)
+    (subst (λ terms. IfSome c.finds.result (IsWithSome c.args.domain.now (λ x. unwrap_or (noted c.in_ok-notes.notes.now (values_of (c.args.env.now.values.items ++ x ∷ []) terms)) false) c.args.wanted)) c.as_slice.ensures.items c.finds.ensures)

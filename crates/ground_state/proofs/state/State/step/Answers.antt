@@ -7,7 +7,7 @@ use Rattle.ground_state.proofs.state.State.step.Goals as goal
 
 pub returns-clause-after : goal.returns-clause-after
 returns-clause-after c =
-    let I = InType c.args.types.now c.args.objects.now in
+    let I = InType c.args.world.now.types.now c.args.world.now.objects.now in
     let S = atoms c.args.self.now in
     let lists = c.touched.new.into in
     on_ok_weaker c.change.result (λ h g.

@@ -1,0 +1,23 @@
+use Rattle.std.proofs.Common.{◌≡◌, ◌∙◌, sym, subst, map, true≢false}
+use Rattle.plan_model.specs.declared.types.Object.{Object}
+use Rattle.plan_meaning.specs.ClassicalPlan.{InTypeOf}
+use Rattle.problem_index.specs.Index.{IsTheArgument}
+use Rattle.problem_index.proofs.IndexLaws.{no_object, the_object}
+use Rattle.problem_index.proofs.index.Index.object.Goals as goal
+
+pub returns-in_err-object : goal.returns-in_err-object
+returns-in_err-object c =
+    let p = c.args.p.now in
+    subst (IsTheArgument p c.args.word.now c.args.ty) (sym c.from_residual.ensures) (λ x t. no_object p c.args.word.now (c.in_err-object.ensures (map (λ (x : Object). x.name) p.objects) c.requires.index.objects) x t.0)
+
+pub returns-then-have : goal.returns-then-have
+returns-then-have c =
+    let p = c.args.p.now in
+    (the_object p c.args.word.now c.in_ok-object.object (c.in_ok-object.ensures (map (λ (x : Object). x.name) p.objects) c.requires.index.objects), c.have.ensures.0 c.if-have.true)
+
+pub returns : goal.returns
+returns c x t =
+    let p = c.args.p.now in
+    let is = the_object p c.args.word.now c.in_ok-object.object (c.in_ok-object.ensures (map (λ (x : Object). x.name) p.objects) c.requires.index.objects) in
+    let same : x ≡ c.in_ok-object.object = c.requires.apart.objects x c.in_ok-object.object c.args.word.now t.0 is in
+    true≢false (sym (c.have.ensures.1 (subst (λ o. InTypeOf c.args.p.now o c.args.ty) same t.1)) ∙ c.if-have.false)

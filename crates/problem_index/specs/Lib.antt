@@ -1,0 +1,4 @@
+pub mod Places
+pub mod Domains
+pub mod Kinds
+pub mod Index

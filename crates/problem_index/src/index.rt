@@ -1,0 +1,109 @@
+ghost use Rattle.std.specs.Prelude.{◌≡◌, ◌<◌, ◌^◌, length, IfOk};
+ghost use Rattle.std.specs.Option.{option_copied};
+ghost use Rattle.plan_model.specs.Parts.{AreListed};
+ghost use Rattle.plan_meaning.specs.FailingStep.{AreNamedApart};
+ghost use Rattle.problem_index.specs.Kinds.{IsWorld};
+ghost use Rattle.problem_index.specs.Index as spec;
+
+use crate::kinds::Kinds;
+use crate::marks::Marks;
+use crate::places::Places;
+use crate::world::World;
+use htn_base::Memory;
+use plan_model::{ActionSchema, Pddl};
+use std::alloc::Global;
+
+/// Where the actions and the objects of a problem stand, by their words, and what is known of its types. `marks`: of its words.
+#[derive(Drop)]
+pub struct Index {
+    marks: Marks,
+    actions: Places,
+    objects: Places,
+    kinds: Kinds,
+}
+
+impl Index {
+    /// The index of the problem.
+    pub fn new(alloc: Global, p: &Pddl) -> Result<Index, Memory>
+        requires listed { AreListed p.now.types }
+        requires few_objects { length p.now.objects < 2 ^ 32 }
+        requires few_actions { length p.now.actions < 2 ^ 32 }
+        ensures index { IfOk result (spec.IsIndex p.now) }
+    {
+        let marks = Marks::new(alloc, &p.names)?;
+        let actions = action_places(alloc, p)?;
+        let objects = object_places(alloc, p)?;
+        let kinds = Kinds::new(alloc, &p.types, &p.objects)?;
+        Ok(Index {
+            marks,
+            actions,
+            objects,
+            kinds,
+        })
+    }
+
+    /// The action that has the name.
+    pub fn action<'p>(&self, p: &'p Pddl, name: &[u8]) -> Option<&'p ActionSchema>
+        requires index { spec.IsIndex p.now self.now }
+        ensures { spec.HasTheName p.now name.now (option_copied result) }
+    {
+        let place = self.actions.find(&self.marks, &p.names, name)?;
+        p.actions.get(place as usize)
+    }
+
+    /// The object that has the word, where it is in the type.
+    #[inline(always)]
+    pub fn object(&self, p: &Pddl, word: &[u8], ty: u32) -> Option<u32>
+        requires listed { AreListed p.now.types }
+        requires apart { AreNamedApart p.now }
+        requires index { spec.IsIndex p.now self.now }
+        ensures { spec.IsTheArgument p.now word.now ty result }
+    {
+        let object = self.objects.find(&self.marks, &p.names, word)?;
+        if self.kinds.have(&p.types, &p.objects, object, ty) {
+            return Some(object);
+        }
+        None
+    }
+
+    /// The types and the objects of the problem, with what is known of the types.
+    #[inline(always)]
+    pub fn world<'a>(&'a self, p: &'a Pddl) -> World<'a>
+        requires listed { AreListed p.now.types }
+        requires few { length p.now.objects < 2 ^ 32 }
+        requires index { spec.IsIndex p.now self.now }
+        ensures world { IsWorld result }
+        ensures types { result.types.now ≡ p.now.types }
+        ensures objects { result.objects.now ≡ p.now.objects }
+    {
+        World {
+            types: &p.types,
+            objects: &p.objects,
+            kinds: Some(&self.kinds),
+        }
+    }
+}
+
+/// The places of the actions, by the numbers of their names.
+fn action_places(alloc: Global, p: &Pddl) -> Result<Places, Memory>
+    requires few { length p.now.actions < 2 ^ 32 }
+    ensures places { IfOk result (spec.AreActionPlaces p.now) }
+{
+    let mut names = Vec::new(alloc);
+    for action in p.actions.as_slice() {
+        names.push(action.name)?;
+    }
+    Places::new(alloc, p.names.len(), names.as_slice())
+}
+
+/// The places of the objects, by the numbers of their names.
+fn object_places(alloc: Global, p: &Pddl) -> Result<Places, Memory>
+    requires few { length p.now.objects < 2 ^ 32 }
+    ensures places { IfOk result (spec.AreObjectPlaces p.now) }
+{
+    let mut names = Vec::new(alloc);
+    for object in p.objects.as_slice() {
+        names.push(object.name)?;
+    }
+    Places::new(alloc, p.names.len(), names.as_slice())
+}
