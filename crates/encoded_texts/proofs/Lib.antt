@@ -9,4 +9,6 @@ pub mod EncodedActions
 pub mod KeptSame
 -- So it has one pair of texts.
 pub mod SameTexts
+-- How its texts grow with the number of slots.
+pub mod growth
 pub mod examples

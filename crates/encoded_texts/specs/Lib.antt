@@ -1,1 +1,3 @@
 pub mod FullyEncoded
+pub mod NamedObjects
+pub mod Growth

@@ -1,5 +1,8 @@
 mod Ended
 mod Putting
 mod Styles
+mod FewSlots
+mod Greatest
+mod OnLine
 pub mod flat
 pub mod examples

@@ -1,4 +1,5 @@
 pub mod Slots
 pub mod ArePrinted
 pub mod Lengths
+pub mod FewSlots
 pub mod Pages

@@ -1,11 +1,15 @@
+ghost use Rattle.std.specs.Bool.{OnTrue};
 ghost use Rattle.std.specs.Prelude.{ℕ, ◌≡◌, IfOk, List, length};
 ghost use Rattle.plan_model.specs.Parts.{AreListed};
 ghost use Rattle.sheets.specs.Sheets.{capped};
 ghost use Rattle.slot_encoder.specs.Encodings.{IsEncoding};
 ghost use Rattle.problem_texts.specs.ArePrinted.{IsCompiledProblem};
+ghost use Rattle.problem_texts.specs.FewSlots.{GrowsEvenly};
 ghost use Rattle.problem_texts.specs.Lengths.{AreSizesOf};
 ghost use Rattle.problem_texts.specs.Pages.{AreLengthsOf, IsAppended, encoded_in};
 
+use crate::growth::FewSlots;
+use crate::named_objects::named_objects;
 use crate::pages::Pages;
 use crate::printing::Sizes;
 use htn_base::{Memory, Text};
@@ -14,8 +18,55 @@ use sheets::Ended;
 use slot_encoder::Encoding;
 use std::alloc::Global;
 
-/// The lengths of the two texts with so many slots: the same printing, of which nothing is kept.
+/// The lengths of the two texts with so many slots. Those with many slots are worked out from those with few.
 pub fn sizes(alloc: Global, c: &Compiled, slots: u32, style: &Style) -> Result<Sizes, Memory>
+    requires compiled { IsCompiledProblem c.now }
+    requires listed { AreListed c.now.hddl.types }
+    ensures sized { IfOk result (AreSizesOf c.now slots style.now) }
+{
+    if grows_evenly(c, slots) {
+        sizes_from_few(alloc, c, slots, style)
+    } else {
+        counted(alloc, c, slots, style)
+    }
+}
+
+/// Whether the slots are many, beside the names and the facts of the source, and the source names no slot.
+fn grows_evenly(c: &Compiled, slots: u32) -> bool
+    ensures { OnTrue result (GrowsEvenly c.now slots) }
+{
+    let own = c.hddl.names.len().saturating_add(c.hddl.init.len());
+    slots > 10 && slots as usize / 2 > own && named_objects(c) <= c.hddl.objects.len() as u64
+}
+
+/// Those with one slot, with two and with ten tell all.
+fn sizes_from_few(alloc: Global, c: &Compiled, slots: u32, style: &Style) -> Result<Sizes, Memory>
+    requires compiled { IsCompiledProblem c.now }
+    requires listed { AreListed c.now.hddl.types }
+    requires evenly { GrowsEvenly c.now slots }
+    ensures sized { IfOk result (AreSizesOf c.now slots style.now) }
+{
+    let one = counted(alloc, c, 1, style)?;
+    let two = counted(alloc, c, 2, style)?;
+    let ten = counted(alloc, c, 10, style)?;
+    let domain = FewSlots {
+        one: one.domain,
+        two: two.domain,
+        ten: ten.domain,
+    };
+    let problem = FewSlots {
+        one: one.problem,
+        two: two.problem,
+        ten: ten.problem,
+    };
+    Ok(Sizes {
+        domain: domain.length_with(slots),
+        problem: problem.length_with(slots),
+    })
+}
+
+/// The lengths by the same printing, of which nothing is kept.
+fn counted(alloc: Global, c: &Compiled, slots: u32, style: &Style) -> Result<Sizes, Memory>
     requires compiled { IsCompiledProblem c.now }
     requires listed { AreListed c.now.hddl.types }
     ensures sized { IfOk result (AreSizesOf c.now slots style.now) }

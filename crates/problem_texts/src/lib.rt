@@ -9,7 +9,9 @@
 #![tactic(auto)]
 
 mod flat_laws;
+mod growth;
 mod lengths;
+mod named_objects;
 mod pages;
 mod printing;
 mod ranges;

@@ -1,0 +1,6 @@
+use Rattle.std.proofs.Common.{◌≡◌, map, take}
+use Rattle.encoded_texts.specs.NamedObjects.{greatest}
+use Rattle.problem_texts.proofs.named_objects.named_by_all.Given as goal
+
+abbrev pub invariant-loop-item : goal.invariant-loop-item
+invariant-loop-item g l = l.most ≡ greatest (map g.T.NamesObjects.named (take l.item-index l.items))

@@ -1,0 +1,19 @@
+-- The lengths of a text with few slots, as they are counted, and when they tell those with more.
+-- Source: this project's.
+use Rattle.std.specs.Prelude.{ℕ, ◌≡◌, ◌<◌, ◌≤◌}
+use Rattle.plan_model.specs.declared.values.Compiled.{Compiled}
+use Rattle.slot_encoding.specs.EncodedNames.{first_slot}
+use Rattle.encoded_texts.specs.NamedObjects.{of_compiled}
+use Rattle.sheets.specs.Sheets.{capped}
+use Rattle.problem_texts.specs.declared.growth.FewSlots.{FewSlots}
+
+-- as far as 64 bits go
+pub record AreCapped (one two ten : ℕ) (counted : FewSlots) : Type 0 where
+  pub one_is : counted.one ≡ capped one
+  pub two_is : counted.two ≡ capped two
+  pub ten_is : counted.ten ≡ capped ten
+
+-- slots past the tenth, and the source names no object past its own, such as a slot
+pub record GrowsEvenly (c : Compiled) (slots : ℕ) : Type 0 where
+  pub many : 10 < slots
+  pub declared : of_compiled c ≤ first_slot c
