@@ -3,7 +3,7 @@ ghost use Rattle.encoded_texts.specs.NamedObjects as spec;
 ghost use Rattle.encoded_texts.specs.NamedObjects.{greatest};
 
 use plan_model::{
-    ActionSchema, Child, Compiled, Constraint, Effect, Formula, GroundAtom, Guard, MethodPlan, Term,
+    ActionSchema, Child, Compiled, Constraint, Effect, Facts, Formula, Guard, MethodPlan, Term,
 };
 
 /// What may name objects.
@@ -26,13 +26,26 @@ fn named_by_all<T: NamesObjects>(items: &[T]) -> u64
     most
 }
 
+/// The same of all facts.
+fn named_by_facts(facts: &Facts) -> u64
+    ensures { result ≡ greatest (map spec.of_fact facts.now) }
+{
+    let mut most: u64 = 0;
+    for i in 0..facts.len() {
+        if let Some(fact) = facts.get(i) {
+            most = most.max(named_by_all(fact.args));
+        }
+    }
+    most
+}
+
 /// The same of a compiled problem.
 pub(crate) fn named_objects(c: &Compiled) -> u64
     ensures { result ≡ spec.of_compiled c.now }
 {
     let methods = named_by_all(c.methods.as_slice());
     let actions = named_by_all(c.hddl.actions.as_slice());
-    let facts = named_by_all(c.hddl.init.as_slice());
+    let facts = named_by_facts(&c.hddl.init);
     let goal = by_formula(&c.hddl.goal);
     methods.max(actions).max(facts.max(goal))
 }
@@ -53,14 +66,6 @@ impl NamesObjects for u32 {
 
     fn named(&self) -> u64 {
         u64::from(*self) + 1
-    }
-}
-
-impl NamesObjects for GroundAtom {
-    ghost named = { spec.of_fact };
-
-    fn named(&self) -> u64 {
-        named_by_all(self.args.as_slice())
     }
 }
 
