@@ -41,7 +41,7 @@ pub(crate) fn dropped_name(s: &Sexprs<'_>, i: u32) -> Result<(), Failure>
     }
 }
 
-// Names that are used, from token `i` up to the end of their list. They come in the place of those that stood in `used`.
+// Names that are used, from token `i` up to the end of their list. They come in the place of those that `used` had.
 #[tactic(auto, using(gd_reader::proofs::Keeping::keeps_same, gd_reader::proofs::Keeping::keeps_then))]
 fn used_names_of(
     s: &Sexprs<'_>,
@@ -114,6 +114,7 @@ pub(crate) fn facts_of(
     ensures adds { AddsOf s.now names.old names.new }
     ensures gives { GivesWith names.new result (facts names.old (parts_at s.now i)) }
 {
+    // Room for as many facts as the text may still have. Memory that is never touched costs nothing.
     let tokens = s.len().saturating_sub(i) as usize;
     let mut facts = RawFacts::with_room(alloc, tokens / FEWEST_TOKENS, tokens)?;
     let mut args = Vec::new(alloc);

@@ -1,5 +1,5 @@
 -- A name table keeps each word in a vector of its own: what the set says of the vectors, said of the words.
-use Rattle.std.proofs.Common.{◌≡◌, ℕ, ◌+◌, ◌-◌, ◌<◌, ◌^◌, List, [], ◌∷◌, ◌++◌, length, map, Bool, true, false, cond, not, ◌||◌, Some, None, position, nat_lt, nat_eq, refl, sym, ap, subst, Contains, ◌∙◌, arith, true≢false, take, get_or}
+use Rattle.std.proofs.Common.{◌≡◌, ℕ, ◌+◌, ◌-◌, ◌<◌, ◌^◌, List, [], ◌∷◌, ◌++◌, length, map, Bool, true, false, cond, not, ◌||◌, Some, None, position, nat_lt, nat_eq, refl, sym, ap, subst, Contains, ◌∙◌, arith, true≢false, take, get_or, slice_get}
 use Rattle.std.specs.List.{list_any, position_or_len, prefix_len}
 use Rattle.std.specs.Str.{bytes_eq}
 use Rattle.std.specs.declared.vec.Vec.{Vec}
@@ -10,13 +10,15 @@ use Rattle.std.proofs.Math.Nat.{min-le_right}
 use Rattle.std.proofs.lemmas.List.Elements.{All-push, All-take, All-get_or}
 use Rattle.std.proofs.lemmas.List.Quantifiers.{position-Some}
 use Rattle.std.proofs.lemmas.List.Folds.{list_any_at}
-use Rattle.std.proofs.lemmas.List.Sums.{prefix_len-le-length}
+use Rattle.std.proofs.lemmas.List.Sums.{prefix_len-le-length, position_or_len_is}
+use Rattle.std.proofs.lemmas.Option.{slice_get_within, get_or_from_slice_get}
 use Rattle.std.proofs.lemmas.Slice.Eq.{bytes_eq-Decides}
 use Rattle.std.proofs.lemmas.Str.Ascii.{lowercase-lowercase}
 use Rattle.indexmap.specs.IndexSet.{insert_key}
 use Rattle.htn_base.specs.Words.{folded, IsFolded}
+use Rattle.htn_base.specs.Different.{AreDifferent}
 use Rattle.htn_base.specs.Table.{words_of, number_of, with_word, IsTable}
-use Rattle.htn_base.proofs.DifferentLemmas.{different-push, different-take}
+use Rattle.htn_base.proofs.DifferentLemmas.{different-push, different-take, different-places}
 
 module _ {X Y : Type 0} (view : X → Y) (test : Y → Bool) where
   list_any-map : (xs : List X) → list_any test (map view xs) ≡ list_any (λ x. test (view x)) xs
@@ -95,6 +97,22 @@ module _ (words : List (List ℕ)) (word : List ℕ) (table : IsTable words) (n 
   pub known-same : with_word words (folded word) ≡ words
   known-same = ap (with_word words) known-folded ∙ ap (λ there. cond there words (words ++ word ∷ []))
       (list_any_at (bytes_eq word) words n word stands.0 ((bytes_eq-Decides word _).1 stands.1))
+
+-- the number at which a word of a table stands is its own
+pub number_there : (words : List (List ℕ)) (word : List ℕ) (n : ℕ) → AreDifferent words → slice_get words n ≡ Some word → number_of words word ≡ Some n
+number_there words word n differ e =
+    let below = slice_get_within words n word e in
+    let is : get_or words n [] ≡ word = get_or_from_slice_get words n word [] e in
+    let first = position_or_len_is (bytes_eq word) words n [] (omega arith) earlier (λ _. (bytes_eq-Decides word (get_or words n [])).1 (sym is)) in
+    position-at (bytes_eq word) word ((bytes_eq-Decides word word).1 refl) words (subst (λ k. k < length words) (sym first) below) ∙ ap Some first
+  where
+    earlier : (k : ℕ) → k < n → bytes_eq word (get_or words k []) ≡ false
+    earlier k less = by (bytes_eq word (get_or words k [])) refl
+      where
+        by : (same : Bool) → bytes_eq word (get_or words k []) ≡ same → bytes_eq word (get_or words k []) ≡ false
+        by false f = f
+        by true f = absurd (different-places words differ k n [] less (slice_get_within words n word e)
+            (sym ((bytes_eq-Decides word (get_or words k [])).0 f) ∙ sym (get_or_from_slice_get words n word [] e)))
 
 -- the first words of a table are a table
 pub IsTable-take : (n : ℕ) (words : List (List ℕ)) → IsTable words → IsTable (take n words)

@@ -2,6 +2,7 @@ ghost use Rattle.std.specs.Prelude.{◌≡◌, [], length, slice_get, take, IfOk
 ghost use Rattle.std.specs.Option.{option_copied, option_map};
 ghost use Rattle.htn_base.specs.Words.{folded};
 
+use crate::marks::Marks;
 use crate::memory::Memory;
 use indexmap::IndexSet;
 use std::alloc::Global;
@@ -73,6 +74,32 @@ impl NameTable {
         Ok(Name {
             number: place as u32,
         })
+    }
+
+    /// As `intern`. A word that the marks know is found without a search. They may be those of any table.
+    pub fn intern_marked(&mut self, word: &[u8], marks: &mut Marks) -> Result<Name, Memory>
+        ensures words { OnOk result (self.new ≡ with_word self.old (folded word.now)) }
+        ensures number { IfOk result (λ n. number_of self.new (folded word.now) ≡ Some n.number) }
+        ensures unchanged { OnErr result (self.new ≡ self.old) }
+        ensures sound { IsTable self.new }
+    {
+        let _ = &self.words;
+        if let Some(name) = self.marked(word, marks) {
+            return Ok(name);
+        }
+        let name = self.intern(word)?;
+        marks.set(word, name);
+        Ok(name)
+    }
+
+    // The name that the marks have for a word, if it is the word's own.
+    #[inline(always)]
+    fn marked(&self, word: &[u8], marks: &Marks) -> Option<Name>
+        ensures known { IfSome result (λ n. IsKnown self.now word.now n.number) }
+    {
+        let name = marks.get(word)?;
+        let marked = self.text(name)?;
+        if marked == word { Some(name) } else { None }
     }
 
     // The name of a word that is there, if it is written in lower case: nothing is copied for it.
