@@ -4,7 +4,6 @@ pub mod RoomEquations
 pub mod TruthCases
 pub mod Found
 pub mod Lists
-pub mod NumberLaws
 pub mod StateLaws
 pub mod Denials
 pub mod EffectSizes

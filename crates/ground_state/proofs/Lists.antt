@@ -17,7 +17,7 @@ use Rattle.std.proofs.lemmas.Cmp.{nat_list_cmp_total}
 use Rattle.ground_state.specs.declared.notes.Notes.{Notes}
 use Rattle.ground_state.specs.Notes.{noted_at, noted, IsNoted}
 use Rattle.ground_state.specs.Numbers.{number_of}
-use Rattle.ground_state.proofs.NumberLaws.{same_number}
+use Rattle.plan_model.proofs.NumberLaws.{same_number}
 
 pub self-Equal : {K : Type 0} (R : K → K → Ordering) → IsTotalOrder R → (x : K) → R x x ≡ Equal
 self-Equal R o x = by (R x x) (o.antisymm x x)

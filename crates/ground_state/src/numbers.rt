@@ -1,4 +1,5 @@
 ghost use Rattle.std.specs.Prelude.{◌≡◌, ◌+◌, ◌*◌, ◌<◌, ◌^◌, IfSome};
+ghost use Rattle.plan_model.specs.Numbers.{with_digit};
 ghost use Rattle.ground_state.specs.Numbers as spec;
 
 /// What numbers lists of objects: where the objects are small, and the list has few, it has a small number of its own.
@@ -32,7 +33,7 @@ impl Numbers {
     /// The number with one digit more behind it, where there is one.
     pub(crate) fn with(self, number: u64, object: u32) -> Option<u64>
         requires { number + 1 < 2 ^ 32 }
-        ensures number { result ≡ spec.with_digit self.most self.room object number }
+        ensures number { result ≡ with_digit self.most self.room object number }
         ensures small { IfSome result (λ n. n + 1 < 2 ^ 32) }
     {
         if object > self.most {

@@ -4,3 +4,4 @@ pub mod PartsOf
 pub mod Numbers
 pub mod FactsGrown
 pub mod ReadAt
+pub mod NumberLaws

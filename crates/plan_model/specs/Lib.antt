@@ -3,3 +3,4 @@ pub mod Parts
 pub mod Pairs
 pub mod Scopes
 pub mod Facts
+pub mod Numbers

@@ -1,7 +1,7 @@
 use Rattle.std.proofs.Common.{◌≡◌, ◌-◌, ◌<◌, ◌≤◌, length, get_or, sym, ◌∙◌, arith}
 use Rattle.std.proofs.lemmas.List.{get_or-map, length-map}
 use Rattle.plan_meaning.specs.Truth.{value_of, values_of}
-use Rattle.ground_state.proofs.NumberLaws.{next_number, ends_there}
+use Rattle.plan_model.proofs.NumberLaws.{next_number, ends_there}
 use Rattle.ground_state.proofs.env.Env.number.Goals as goal
 
 pub returns-in_err-number : goal.returns-in_err-number

@@ -1,7 +1,7 @@
 use Rattle.std.proofs.Common.{rules, ◌^◌, ℕ, ◌≡◌, ◌+◌, ◌*◌, ◌-◌, ◌<◌, ◌≤◌, ◌++◌, [], ◌∷◌, length, get_or, sym, ◌∙◌, arith}
 use Rattle.std.proofs.lemmas.List.{get_or-map, length-map}
 use Rattle.plan_meaning.specs.Truth.{value_of, values_of}
-use Rattle.ground_state.proofs.NumberLaws.{next_in_row}
+use Rattle.plan_model.proofs.NumberLaws.{next_in_row}
 use Rattle.ground_state.proofs.env.Env.row.Goals as goal
 
 pub loop-i-preserved : goal.loop-i-preserved

@@ -7,7 +7,7 @@ use Rattle.ground_state.specs.Numbers.{number_of}
 use Rattle.ground_state.specs.Notes.{noted_at, holds, AreDenied, AreOf}
 use Rattle.ground_state.proofs.GatherCases as cases
 use Rattle.ground_state.proofs.DomainLaws.{AtPlace, at_one, at_none, at_some_place}
-use Rattle.ground_state.proofs.NumberLaws.{row_within}
+use Rattle.plan_model.proofs.NumberLaws.{row_within}
 use Rattle.ground_state.proofs.Denials.{denied-same, denied-then, denied-none, denied-one, set-there}
 use Rattle.ground_state.proofs.notes.Notes.deny_each.Goals as goal
 use Rattle.ground_state.proofs.notes.Notes.deny_each.Goals.{in-Some-at+then-unwrap_or, in-Some-at+else-unwrap_or, in_default-at}

@@ -7,7 +7,7 @@ use Rattle.problem_index.specs.Domains.{places, at}
 use Rattle.ground_state.specs.Notes.{noted_at, holds}
 use Rattle.ground_state.proofs.Found.{below-next}
 use Rattle.ground_state.proofs.DomainLaws.{same_object, at_none}
-use Rattle.ground_state.proofs.NumberLaws.{row_within}
+use Rattle.plan_model.proofs.NumberLaws.{row_within}
 use Rattle.ground_state.proofs.notes.Notes.finds.Goals as goal
 use Rattle.ground_state.proofs.notes.Notes.finds.Goals.{in-Some+else-truth-wanted, in_default}
 

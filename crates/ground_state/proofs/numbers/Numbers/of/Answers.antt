@@ -1,5 +1,5 @@
 use Rattle.std.proofs.Common.{◌<◌, ◌≤◌, length, refl, ◌∙◌, arith}
-use Rattle.ground_state.proofs.NumberLaws.{next_number, ends_there}
+use Rattle.plan_model.proofs.NumberLaws.{next_number, ends_there}
 use Rattle.ground_state.proofs.numbers.Numbers.of.Goals as goal
 
 pub returns-in_err-number-clause-number : goal.returns-in_err-number-clause-number

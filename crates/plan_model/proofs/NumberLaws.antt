@@ -6,7 +6,7 @@ use Rattle.std.proofs.lemmas.Bool.{ltb-true, lt-ltb}
 use Rattle.std.proofs.lemmas.Nat.{mod-mul-add, div-mul-add}
 use Rattle.std.proofs.Math.Nat.{le-mul_of_pos_right, mul-le-mul_left}
 use Rattle.std.proofs.lemmas.List.{drop_more}
-use Rattle.ground_state.specs.Numbers.{with_digit, number}
+use Rattle.plan_model.specs.Numbers.{with_digit, number}
 
 module _ (most room : ℕ) where
   -- the number that a digit is put behind
