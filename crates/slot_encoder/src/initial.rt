@@ -26,10 +26,12 @@ fn first_atoms(alloc: Global, frame: &Frame<'_>) -> Result<Facts, Memory>
     requires { IsFrame frame.now }
     ensures { IfOk result (λ atoms. atoms ≡ made.first_atoms frame.now) }
 {
+    let hddl = &frame.compiled.hddl;
     let mut into = Facts::new(alloc);
     into.push(frame.basis.numbers.top, &[frame.basis.order.first_slot])?;
     push_free(frame, frame.slots.saturating_sub(1), &mut into)?;
-    push_single(alloc, &frame.compiled.hddl.init, &mut into)?;
+    let most = hddl.objects.len().max(hddl.predicates.len()) as u32;
+    push_single(alloc, &hddl.init, most, &mut into)?;
     Ok(into)
 }
 

@@ -1,20 +1,32 @@
-ghost use Rattle.std.specs.Prelude.{◌≡◌, [], ◌∷◌, ◌++◌, cond, IfOk, OnOk};
+ghost use Rattle.std.specs.Prelude.{◌≡◌, ◌<◌, ◌^◌, [], ◌∷◌, ◌++◌, cond, IfOk, OnOk};
+ghost use Rattle.plan_model.specs.Numbers as spec;
 ghost use Rattle.plan_meaning.specs.Compilation.{once};
 ghost use Rattle.slot_encoding.specs.EncodedValue.{same_atom};
+ghost use Rattle.slot_encoder.specs.SeenFacts.{Meets};
 
 use htn_base::Memory;
 use plan_model::{Fact, Facts};
 use std::alloc::Global;
 use std::collections::HashSet;
 
-/// Puts each of the facts at the end, at its first place alone.
-pub(crate) fn push_single(alloc: Global, facts: &Facts, into: &mut Facts) -> Result<(), Memory>
+/// Puts each of the facts at the end, at its first place alone. It takes less memory and time for facts of which no predicate
+/// and no object is greater than `most`.
+pub(crate) fn push_single(
+    alloc: Global,
+    facts: &Facts,
+    most: u32,
+    into: &mut Facts,
+) -> Result<(), Memory>
     ensures { OnOk result (into.new ≡ into.old ++ once same_atom facts.now) }
 {
-    let mut seen = HashSet::new(alloc);
+    let mut seen = Seen {
+        most,
+        numbers: HashSet::new(alloc),
+        keys: HashSet::new(alloc),
+    };
     for i in 0..facts.len() {
         if let Some(fact) = facts.get(i) {
-            let new = seen.insert(key(alloc, &fact)?)?;
+            let new = seen.insert(alloc, &fact)?;
             push_new(new, &fact, into)?;
         }
     }
@@ -29,6 +41,47 @@ fn push_new(new: bool, fact: &Fact<'_>, into: &mut Facts) -> Result<(), Memory>
     } else {
         Ok(())
     }
+}
+
+/// The facts that were met: the numbers of those that have one, and the keys of the others.
+#[derive(Drop)]
+pub struct Seen {
+    most: u32,
+    numbers: HashSet<u64>,
+    keys: HashSet<Vec<u32>>,
+}
+
+impl Seen {
+    /// Puts a fact to the others, and tells whether it is new.
+    fn insert(&mut self, alloc: Global, fact: &Fact<'_>) -> Result<bool, Memory>
+        ensures { IfOk result (Meets self.old fact.now self.new) }
+    {
+        match number_of(fact, self.most) {
+            Some(number) => Ok(self.numbers.insert(number)?),
+            None => Ok(self.keys.insert(key(alloc, fact)?)?),
+        }
+    }
+}
+
+/// The number of the fact, where it has one: facts with numbers have different ones.
+fn number_of(fact: &Fact<'_>, most: u32) -> Option<u64>
+    ensures { result ≡ spec.number most (2 ^ 64) (fact.now.predicate ∷ fact.now.args) }
+{
+    let mut number = 1;
+    for i in (0..fact.args.len()).rev() {
+        number = with_digit(number, fact.args[i], most)?;
+    }
+    with_digit(number, fact.predicate, most)
+}
+
+fn with_digit(number: u64, digit: u32, most: u32) -> Option<u64>
+    ensures { result ≡ spec.with_digit most (2 ^ 64) digit number }
+{
+    if digit > most {
+        return None;
+    }
+    let front = number.checked_mul(most as u64 + 2)?;
+    front.checked_add(digit as u64)
 }
 
 /// What tells a fact from others: its predicate and its objects, in one list.
