@@ -24,23 +24,30 @@ pub fn sizes(alloc: Global, c: &Compiled, slots: u32, style: &Style) -> Result<S
     requires listed { AreListed c.now.hddl.types }
     ensures sized { IfOk result (AreSizesOf c.now slots style.now) }
 {
-    if grows_evenly(c, slots) {
+    if grows_evenly(c, slots, 2) {
         sizes_from_few(alloc, c, slots, style)
     } else {
         counted(alloc, c, slots, style)
     }
 }
 
-/// Whether the slots are many, beside the names and the facts of the source, and the source names no slot.
-fn grows_evenly(c: &Compiled, slots: u32) -> bool
+/// Whether there are so many times more slots than names and facts of the source, which names no slot.
+pub(crate) fn grows_evenly(c: &Compiled, slots: u32, times: usize) -> bool
     ensures { OnTrue result (GrowsEvenly c.now slots) }
 {
     let own = c.hddl.names.len().saturating_add(c.hddl.init.len());
-    slots > 10 && slots as usize / 2 > own && named_objects(c) <= c.hddl.objects.len() as u64
+    slots > 10
+        && slots as usize > own.saturating_mul(times)
+        && named_objects(c) <= c.hddl.objects.len() as u64
 }
 
 /// Those with one slot, with two and with ten tell all.
-fn sizes_from_few(alloc: Global, c: &Compiled, slots: u32, style: &Style) -> Result<Sizes, Memory>
+pub(crate) fn sizes_from_few(
+    alloc: Global,
+    c: &Compiled,
+    slots: u32,
+    style: &Style,
+) -> Result<Sizes, Memory>
     requires compiled { IsCompiledProblem c.now }
     requires listed { AreListed c.now.hddl.types }
     requires evenly { GrowsEvenly c.now slots }

@@ -1,12 +1,13 @@
-ghost use Rattle.std.specs.Prelude.{◌≡◌, ◌≤◌, IfOk, length};
+ghost use Rattle.std.specs.Prelude.{ℕ, ◌≡◌, ◌≤◌, IfOk, IfSome, List, length};
 ghost use Rattle.plan_model.specs.Parts.{AreListed};
 ghost use Rattle.plan_texts.specs.PrintedTexts.{domain_text};
 ghost use Rattle.sheets.specs.Sheets.{capped};
 ghost use Rattle.slot_encoder.specs.Encodings.{IsEncoding};
 ghost use Rattle.problem_texts.specs.ArePrinted.{IsCompiledProblem};
-ghost use Rattle.problem_texts.specs.Lengths.{ArePrintedWithin};
+ghost use Rattle.problem_texts.specs.Lengths.{AreKnownTooLong, ArePrintedWithin, IsFirstPast};
 ghost use Rattle.problem_texts.specs.Pages.{ArePages, AreTextsWithin, encoded_in, value_of};
 
+use crate::lengths::{grows_evenly, sizes_from_few};
 use crate::pages::Pages;
 use htn_base::{Memory, Text};
 use plan_model::{Compiled, Style};
@@ -41,6 +42,61 @@ pub struct Sizes {
 /// kept, and its length is known without it. The problem is one that was compiled; its types are few, and their parents and unions are
 /// listed.
 pub fn texts_of(
+    alloc: Global,
+    c: &Compiled,
+    slots: u32,
+    style: &Style,
+    limit: u64,
+) -> Result<Printed, Memory>
+    requires compiled { IsCompiledProblem c.now }
+    requires listed { AreListed c.now.hddl.types }
+    ensures printed { IfOk result (ArePrintedWithin c.now slots style.now limit) }
+{
+    match known_too_long(alloc, c, slots, style, limit)? {
+        Some(length) => Ok(Printed::TooLong(length)),
+        None => printed_within(alloc, c, slots, style, limit),
+    }
+}
+
+/// The length of the first text that is longer than the limit, where it is known before anything is printed: of many slots beside the
+/// names and facts of the source, so that this takes little of the time of printing.
+fn known_too_long(
+    alloc: Global,
+    c: &Compiled,
+    slots: u32,
+    style: &Style,
+    limit: u64,
+) -> Result<Option<u64>, Memory>
+    requires compiled { IsCompiledProblem c.now }
+    requires listed { AreListed c.now.hddl.types }
+    ensures long { IfOk result (AreKnownTooLong c.now slots style.now limit) }
+{
+    if grows_evenly(c, slots, 32) {
+        let sizes = sizes_from_few(alloc, c, slots, style)?;
+        Ok(sizes.first_past(limit))
+    } else {
+        Ok(None)
+    }
+}
+
+impl Sizes {
+    /// The length of the first text that is longer than the limit.
+    fn first_past(self, limit: u64) -> Option<u64>
+        ensures { (domain problem : List ℕ) → self.domain ≡ capped (length domain)
+            → self.problem ≡ capped (length problem) → IfSome result (IsFirstPast limit domain problem) }
+    {
+        if self.domain > limit {
+            Some(self.domain)
+        } else if self.problem > limit {
+            Some(self.problem)
+        } else {
+            None
+        }
+    }
+}
+
+/// What is printed of the whole head, and of one action at a time.
+fn printed_within(
     alloc: Global,
     c: &Compiled,
     slots: u32,
