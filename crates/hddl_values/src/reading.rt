@@ -2,13 +2,12 @@ ghost use Rattle.std.specs.Prelude.{◌≡◌, ◌≤◌, ◌+◌, length, IfOk,
 ghost use Rattle.htn_base.specs.Different.{AreDifferent};
 ghost use Rattle.text_forms.specs.Faults.{IsFaultless};
 ghost use Rattle.form_grammar.specs.Sections as grammar;
-ghost use Rattle.sexpr_text.specs.Refused.{IsRefusal};
 ghost use Rattle.gd_reader.specs.Terms.{Keeps};
 ghost use Rattle.hddl_values.specs.Reading.{ReadsDomain, ReadsProblem, RefusesForm};
 
 use hddl_reader::{Language, RawDomain, RawProblem, domain, problem};
-use htn_base::{Memory, NameTable};
-use sexpr_text::{ReadError, Sexprs, read};
+use htn_base::NameTable;
+use sexpr_text::{ReadError, Sexprs, read_with_index};
 use std::alloc::Global;
 
 /// The domain as it is written, or its fault of tokens or of form.
@@ -25,7 +24,7 @@ pub(crate) fn read_domain(
     ensures few { OnOk result (length names.new ≤ length names.old + length text.now) }
     ensures keeps { OnOk result (Keeps names.old names.new) }
 {
-    match tokens(alloc, text, 0) {
+    match read_with_index(alloc, text, 0) {
         Ok(s) => domain_of(alloc, language, &s, names),
         Err(error) => Err(error),
     }
@@ -63,7 +62,7 @@ pub(crate) fn read_problem(
     ensures few { OnOk result (length names.new ≤ length names.old + length text.now) }
     ensures keeps { OnOk result (Keeps names.old names.new) }
 {
-    match tokens(alloc, text, 1) {
+    match read_with_index(alloc, text, 1) {
         Ok(s) => problem_of(alloc, language, &s, names),
         Err(error) => Err(error),
     }
@@ -92,23 +91,4 @@ pub(crate) fn differ(names: &NameTable)
     ensures { AreDifferent names.now }
 {
     let _count = names.len();
-}
-
-/// The tokens of a text, with an index of them.
-fn tokens<'a>(alloc: Global, text: &'a [u8], file: u8) -> Result<Sexprs<'a>, ReadError>
-    requires short { length text.now ≤ 16777216 }
-    ensures text { IfOk result (λ s. s ≡ text.now) }
-    ensures faultless { OnOk result (IsFaultless text.now) }
-    ensures refused { IfErr result (IsRefusal text.now file) }
-{
-    match read(alloc, text, file) {
-        Ok(mut s) => match s.index(alloc) {
-            Ok(()) => Ok(s),
-            Err(Memory) => {
-                drop(s);
-                Err(ReadError::Memory)
-            }
-        },
-        Err(error) => Err(error),
-    }
 }

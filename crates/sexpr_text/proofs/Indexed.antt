@@ -1,18 +1,20 @@
 -- The index of a text, token by token.
-use Rattle.std.proofs.Common.{◌≡◌, ℕ, zero, suc, ◌+◌, ◌<◌, ◌≤◌, ◌⊎◌, inl, inr, length, drop, get_or, slice_set, Some, None, List, [], ◌∷◌, ◌++◌, refl, sym, ap, ◌∙◌, subst, arith}
+use Rattle.std.proofs.Common.{false, ◌≡◌, ℕ, zero, suc, ◌+◌, ◌<◌, ◌≤◌, ◌⊎◌, inl, inr, length, drop, get_or, slice_set, Some, None, List, [], ◌∷◌, ◌++◌, refl, sym, ap, ◌∙◌, subst, arith}
 use Rattle.std.proofs.lemmas.List.{length_push}
-use Rattle.std.specs.Prelude.{slice_get, IfSome}
+use Rattle.std.specs.Prelude.{◌==◌, slice_get, IfSome}
 use Rattle.text_forms.specs.Closing.{close_of, close_at}
-use Rattle.text_forms.specs.Faults.{innermost, but_innermost}
+use Rattle.text_forms.specs.Bytes.{Class, blank, opening, closing, letter, bad}
+use Rattle.text_forms.specs.Faults.{innermost, but_innermost, open_after}
 use Rattle.text_forms.specs.Tokens.{Kind, start, stop, word, Token, token, tokens, token_count}
 use Rattle.sexpr_text.specs.declared.index.Entry.{Entry}
 use Rattle.sexpr_text.specs.declared.index.Index.{Index}
 use Rattle.sexpr_text.specs.declared.tokens.Piece.{Piece}
-use Rattle.sexpr_text.specs.Index.{IsEntry, IsIndexOf, IsEarlyEntry, IsIndexedTo, GoesOnIndexing, AreBelow, AreOpen, IsOneOf, ended, closed}
-use Rattle.sexpr_text.specs.Places.{tokens_at}
+use Rattle.sexpr_text.specs.Index.{IsEntry, IsIndexOf, IsEarlyEntry, IsIndexedTo, IsEnteredTo, GoesOnIndexing, AreBelow, AreOpen, IsOneOf, ended, closed}
+use Rattle.sexpr_text.specs.Places.{tokens_at, begun, deeper, IsGoodAt, IsPassed}
 use Rattle.sexpr_text.specs.Seen.{kind_seen, piece_seen}
 use Rattle.text_forms.proofs.Shown.{closes_get}
 use Rattle.sexpr_text.proofs.Numbered.{drop_next, drop_nil, pushed, close_of_here}
+use Rattle.sexpr_text.proofs.Passed.{deep_passed, closes_one}
 
 below_more : (n : ℕ) (js : List ℕ) → AreBelow n js → AreBelow (n + 1) js
 below_more n [] b = tt
@@ -206,3 +208,37 @@ ended_set (x ∷ es) (suc j) i e l g = ap (λ ys. x ∷ ys) (ended_set es j i e 
 pub below_innermost : (n : ℕ) (js : List ℕ) → AreBelow n js → IfSome (innermost js) (λ j. j < n + 1)
 below_innermost n [] b = tt
 below_innermost n (j ∷ js) b = let l = b.0 in omega arith
+
+-- how many lists are open behind a token
+pub one_out : (opens : List ℕ) → length (but_innermost opens) ≡ deeper stop (length opens)
+one_out [] = refl
+one_out (o ∷ opens) = refl
+
+abbrev first_kind : List Token → Kind
+first_kind [] = word
+first_kind (t ∷ ts) = t.kind
+
+as_deep : (k : Class) (q : Kind) (at end : ℕ) → begun k at end ≡ token q at end ∷ [] → (opens : List ℕ) (d : ℕ) → length opens ≡ d → length (open_after opens at k) ≡ deeper q d
+as_deep opening q at end b opens d l = let same : start ≡ q = ap first_kind b in ap suc l ∙ ap (λ x. deeper x d) same
+as_deep closing q at end b opens d l = let same : stop ≡ q = ap first_kind b in closes_one opens at d l ∙ ap (λ x. deeper x d) same
+as_deep letter q at end b opens d l = let same : word ≡ q = ap first_kind b in l ∙ ap (λ x. deeper x d) same
+as_deep blank q at end b opens d l = cc
+as_deep bad q at end b opens d l = cc
+
+-- over one token more, in front of which the text has no fault
+module _ (text : List ℕ) (at end : ℕ) (k : Class) (q : Kind) (p : Piece) (es next : List Entry) (opens next_opens : List ℕ) where
+  pub enter_more : IsEnteredTo text es opens at → IsPassed text at end k → begun k at end ≡ token q at end ∷ [] → p.span.start ≡ at → p.span.end ≡ end → kind_seen p.kind ≡ q → IsGoodAt (length opens) k → GoesOnIndexing p es opens next next_opens → length next_opens ≡ deeper (kind_seen p.kind) (length opens) → IsEnteredTo text next next_opens p.span.end
+  enter_more h s b first last kind good goes deep =
+      let f = sym first in let l = sym last in let m = sym kind in
+      let there : IsPassed text at p.span.end k = subst (λ e. IsPassed text at e k) l s in
+      let begins : begun k at p.span.end ≡ piece_seen p ∷ [] = ap (begun k at) last ∙ b ∙ (λ i. token (m i) (f i) (l i) ∷ []) in
+      record {
+        within = there.within;
+        indexed = goes text at (there.tokens ∙ ap (λ ts. ts ++ tokens_at text p.span.end) begins) h.indexed;
+        deep = deep_passed text (record { at = at; depth = length opens }) (record { at = p.span.end; depth = length next_opens }) k there good
+            (λ os e. as_deep k q at end b os (length opens) e ∙ ap (λ x. deeper x (length opens)) m ∙ sym deep) h.deep;
+      }
+
+pub not_none : (n : ℕ) → (n == 0) ≡ false → 0 < n
+not_none zero e = cc
+not_none (suc n) e = omega arith

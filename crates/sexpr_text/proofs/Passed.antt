@@ -46,14 +46,14 @@ passed_word text at end l e later within tokens faults =
       faults = λ opens good. ap (least opens at) one ∙ faults opens;
     }
 
-deep_passed : (text : List ℕ) (p q : Place) (class : Class) → IsPassed text p.at q.at class → ((opens : List ℕ) → length opens ≡ p.depth → code_at opens class ≡ None) → ((opens : List ℕ) → length opens ≡ p.depth → length (open_after opens p.at class) ≡ q.depth) → IsAsDeep text p.depth p.at (classes_at text p.at) → IsAsDeep text q.depth q.at (classes_at text q.at)
+pub deep_passed : (text : List ℕ) (p q : Place) (class : Class) → IsPassed text p.at q.at class → ((opens : List ℕ) → length opens ≡ p.depth → code_at opens class ≡ None) → ((opens : List ℕ) → length opens ≡ p.depth → length (open_after opens p.at class) ≡ q.depth) → IsAsDeep text p.depth p.at (classes_at text p.at) → IsAsDeep text q.depth q.at (classes_at text q.at)
 deep_passed text p q class s good deep d = record {
   open_lists = open_after d.open_lists p.at class;
   deep = deep d.open_lists d.deep;
   same = sym (s.faults d.open_lists (good d.open_lists d.deep)) ∙ d.same;
 }
 
-closes_one : (opens : List ℕ) (at d : ℕ) → length opens ≡ d → length (open_after opens at closing) ≡ deeper stop d
+pub closes_one : (opens : List ℕ) (at d : ℕ) → length opens ≡ d → length (open_after opens at closing) ≡ deeper stop d
 closes_one [] at zero e = refl
 closes_one [] at (suc d) e = absurd (omega arith)
 closes_one (o ∷ opens) at zero e = absurd (omega arith)

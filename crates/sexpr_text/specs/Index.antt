@@ -2,13 +2,15 @@
 use Rattle.std.specs.Prelude.{◌≡◌, ℕ, zero, suc, ◌+◌, ◌<◌, ◌≤◌, ◌⊎◌, Option, Some, None, List, [], ◌∷◌, drop, length, slice_get}
 use Rattle.text_forms.specs.Bytes.{Class, blank, opening, closing, letter, bad}
 use Rattle.text_forms.specs.Closing.{close_at, close_after}
+use Rattle.text_forms.specs.Faults.{IsFaultless}
 use Rattle.text_forms.specs.Tokens.{start, stop, word, Token, token, tokens, token_count}
 use Rattle.sexpr_text.specs.declared.index.Entry.{Entry}
 use Rattle.sexpr_text.specs.declared.index.Index.{Index}
-use Rattle.sexpr_text.specs.declared.marks.Marks.{Marks}
+use Rattle.sexpr_text.specs.declared.sexprs.Kept.{Kept}
+use Rattle.sexpr_text.specs.declared.sexprs.Kept.TheVariants as kept
 use Rattle.sexpr_text.specs.declared.tokens.Piece.{Piece}
 use Rattle.sexpr_text.specs.Kept.{IsReadFrom}
-use Rattle.sexpr_text.specs.Places.{tokens_at, tokens_by}
+use Rattle.sexpr_text.specs.Places.{classes_at, tokens_at, tokens_by, IsAsDeep}
 
 -- an entry is that of token i: a word ends with its last byte, and a list with the token that closes it
 pub record IsEntry (text : List ℕ) (i : ℕ) (e : Entry) : Type 0 where
@@ -23,15 +25,16 @@ pub record IsIndexOf (text : List ℕ) (index : Index) : Type 0 where
   pub count : length index.entries.items ≡ token_count text
   pub each : (i : ℕ) (e : Entry) → slice_get index.entries.items i ≡ Some e → IsEntry text i e
 
--- where there is an index, it is that of the text
-abbrev pub HasIndexOf : List ℕ → Option Index → Type 0
-HasIndexOf text None = Unit {0}
-HasIndexOf text (Some index) = IsIndexOf text index
+-- the marks of its tokens, or their index
+abbrev pub KeepsTokens : List ℕ → Kept → Type 0
+KeepsTokens text (kept.Marks marks) = IsReadFrom text marks
+KeepsTokens text (kept.Index index) = IsIndexOf text index
 
--- marks and, where there is one, an index
-pub record IsKeptOf (text : List ℕ) (marks : Marks) (index : Option Index) : Type 0 where
-  pub read : IsReadFrom text marks
-  pub indexed : HasIndexOf text index
+-- what is kept of a text that was read, which has no fault
+pub record IsKeptOf (text : List ℕ) (kept : Kept) : Type 0 where
+  pub short : length text ≤ 16777216
+  pub faultless : IsFaultless text
+  pub tokens : KeepsTokens text kept
 
 -- the token that an entry keeps: its first byte tells its kind
 abbrev pub cut : Class → Entry → Token
@@ -82,6 +85,12 @@ pub record IsIndexedTo (text : List ℕ) (at : ℕ) (es : List Entry) (opens : L
   pub each : (i : ℕ) (e : Entry) → slice_get es i ≡ Some e → IsEarlyEntry text opens i e
   pub below : AreBelow (length es) opens
   pub still_open : AreOpen text 0 (length es) (tokens_at text at) opens
+
+-- The same, where the text has no fault in front of the place.
+pub record IsEnteredTo (text : List ℕ) (es : List Entry) (opens : List ℕ) (at : ℕ) : Type 0 where
+  pub within : at ≤ length text
+  pub indexed : IsIndexedTo text at es opens
+  pub deep : IsAsDeep text (length opens) at (classes_at text at)
 
 -- with one more token, which comes next, what was indexed of any text is indexed again
 abbrev pub GoesOnIndexing : Piece → List Entry → List ℕ → List Entry → List ℕ → Type 0

@@ -19,7 +19,7 @@ const STRAY_CLOSE: u16 = 3;
 const TOO_DEEP: u16 = 4;
 
 // At most so many lists are open at a time.
-const DEEPEST: u32 = 200;
+const DEEPEST: usize = 200;
 
 /// The fault of a text that comes first, by place and then code. A byte's fault does not end the pass: a
 /// list in front of it that is left open at the end comes before it.
@@ -42,7 +42,7 @@ pub fn first_fault(alloc: Global, source: &[u8], file: u8) -> Result<Option<Faul
 }
 
 /// Whether a byte is a fault where so many lists are open in front of it.
-pub fn is_fault(class: Class, depth: u32) -> bool
+pub fn is_fault(class: Class, depth: usize) -> bool
     ensures fault { TellsFault result depth (class_seen class) }
 {
     match class {
@@ -63,7 +63,7 @@ fn enter(open_lists: &mut Vec<u32>, at: u32, class: Class) -> Result<Option<u16>
         Class::Blank | Class::Letter => Ok(None),
         Class::Bad => Ok(Some(BAD_BYTE)),
         Class::Opening => {
-            let deep = open_lists.len() >= DEEPEST as usize;
+            let deep = open_lists.len() >= DEEPEST;
             open_lists.push(at)?;
             if deep { Ok(Some(TOO_DEEP)) } else { Ok(None) }
         }

@@ -1,15 +1,17 @@
-ghost use Rattle.std.specs.Prelude.{◌≡◌, ◌≤◌, ◌<◌, length, get_or, slice_get, IfOk, OnOk, IfSome};
+ghost use Rattle.std.specs.Prelude.{◌≡◌, ◌≤◌, ◌<◌, ◌↔◌, length, get_or, slice_get, IfOk, OnOk, IfSome, IsSome};
 ghost use Rattle.std.specs.Option.{option_map};
 ghost use Rattle.text_forms.specs.Bytes.{class_of};
 ghost use Rattle.text_forms.specs.Closing.{close_at};
 ghost use Rattle.text_forms.specs.Faults.{IsFaultless};
 ghost use Rattle.text_forms.specs.Tokens.{tokens};
-ghost use Rattle.sexpr_text.specs.Index.{IsIndexOf, GoesOnIndexing, AreBelow, cut, closed};
-ghost use Rattle.sexpr_text.specs.Seen.{opened, piece_seen};
+ghost use Rattle.sexpr_text.specs.Index.{IsIndexOf, IsEnteredTo, GoesOnIndexing, AreBelow, cut, closed};
+ghost use Rattle.sexpr_text.specs.Places.{deeper, IsGoodAt};
+ghost use Rattle.sexpr_text.specs.Seen.{class_seen, kind_seen, opened, piece_seen};
 
 use crate::classes::{Class, class_of};
-use crate::faults::leave;
-use crate::tokens::{Kind, Piece, next_piece};
+use crate::ends::{blank_end, word_end};
+use crate::faults::{is_fault, leave};
+use crate::tokens::{Kind, Piece};
 use htn_base::Memory;
 use std::alloc::Global;
 
@@ -27,21 +29,30 @@ pub struct Index {
     pub entries: Vec<Entry>,
 }
 
-/// The index of a text with so many tokens, in one pass.
-pub fn index_of(alloc: Global, source: &[u8], count: u32) -> Result<Index, Memory>
+/// The index of a text without faults, in one pass, or `None` where the text has a fault. It starts with room for a token
+/// in four bytes, which is enough for most texts.
+pub fn index_of(alloc: Global, source: &[u8]) -> Result<Option<Index>, Memory>
     requires short { length source.now ≤ 16777216 }
-    ensures index { IfOk result (IsIndexOf source.now) }
+    ensures index { IfOk result (λ found. IfSome found (IsIndexOf source.now)) }
+    ensures faultless { IfOk result (λ found. IsSome found ↔ IsFaultless source.now) }
 {
     let mut index = Index {
-        entries: Vec::with_capacity(alloc, count as usize)?,
+        entries: Vec::with_capacity(alloc, source.len() / 4)?,
     };
     let mut open_lists: Vec<u32> = Vec::new(alloc);
     let mut at = 0;
-    while let Some(piece) = next_piece(source, at) {
-        index.enter(&mut open_lists, piece)?;
-        at = piece.span.end;
+    while at < source.len() {
+        let class = class_of(source[at]);
+        if is_fault(class, open_lists.len()) {
+            return Ok(None);
+        }
+        at = index.pass_over(&mut open_lists, source, at, class)?;
     }
-    Ok(index)
+    if open_lists.is_empty() {
+        Ok(Some(index))
+    } else {
+        Ok(None)
+    }
 }
 
 impl Index {
@@ -76,6 +87,33 @@ impl Index {
         self.entries.get(i as usize).copied()
     }
 
+    // Passes over what begins at a place, in front of which these lists are open, and enters it where it is a token.
+    fn pass_over(
+        &mut self,
+        open_lists: &mut Vec<u32>,
+        source: &[u8],
+        at: usize,
+        class: Class,
+    ) -> Result<usize, Memory>
+        requires short { length source.now ≤ 16777216 }
+        requires within { at < length source.now }
+        requires class { class_seen class ≡ class_of (get_or source.now at 0) }
+        requires good { IsGoodAt (length open_lists.old.items) (class_seen class) }
+        requires read { IsEnteredTo source.now self.old.entries.items (opened open_lists.old) at }
+        ensures later { IfOk result (λ next. at < next) }
+        ensures read { IfOk result
+            (IsEnteredTo source.now self.new.entries.items (opened open_lists.new)) }
+    {
+        let piece = match class {
+            Class::Opening => Piece::new(Kind::Start, at, at + 1),
+            Class::Closing => Piece::new(Kind::Stop, at, at + 1),
+            Class::Letter => Piece::new(Kind::Word, at, word_end(source, at + 1)),
+            Class::Blank | Class::Bad => return Ok(blank_end(source, at)),
+        };
+        self.enter(open_lists, piece)?;
+        Ok(piece.span.end as usize)
+    }
+
     // One more token, where these lists are open in front of it.
     fn enter(&mut self, open_lists: &mut Vec<u32>, piece: Piece) -> Result<(), Memory>
         requires few { length self.old.entries.items ≤ 16777216 }
@@ -83,6 +121,8 @@ impl Index {
         ensures entered { OnOk result
             (GoesOnIndexing piece self.old.entries.items (opened open_lists.old)
             self.new.entries.items (opened open_lists.new)) }
+        ensures deep { OnOk result (length (opened open_lists.new)
+            ≡ deeper (kind_seen piece.kind) (length (opened open_lists.old))) }
     {
         let i = self.entries.len() as u32;
         self.entries.push(Entry {

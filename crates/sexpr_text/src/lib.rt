@@ -1,8 +1,8 @@
 //! The tokens of a text: parentheses and words with their places, and the list that each parenthesis closes.
 //!
-//! Stands on `htn_base` and on the definitions of `text_forms`. The contract used above: `read` answers a
-//! text exactly where it has none of the faults 1 to 4, else the least of them; its tokens are the defined
-//! ones, and each word is the source at its span.
+//! Stands on `htn_base` and on the definitions of `text_forms`. The contract used above: `read` and
+//! `read_with_index` answer a text exactly where it has none of the faults 1 to 4, else the least of them; its
+//! tokens are the defined ones, and each word is the source at its span.
 #![tactic(auto)]
 
 mod classes;
@@ -16,5 +16,5 @@ mod sexprs;
 mod tokens;
 
 pub use read_error::ReadError;
-pub use sexprs::{Sexprs, read};
+pub use sexprs::{Sexprs, read, read_with_index};
 pub use tokens::{Kind, Token};

@@ -43,7 +43,7 @@ pub fn marks_of(alloc: Global, source: &[u8]) -> Result<Option<Marks>, Memory>
     let mut place = Place { at: 0, depth: 0 };
     while (place.at as usize) < source.len() {
         let class = class_of(source[place.at as usize]);
-        if is_fault(class, place.depth) {
+        if is_fault(class, place.depth as usize) {
             return Ok(None);
         }
         place = marks.pass_over(source, place, class)?;

@@ -19,8 +19,14 @@ use std::marker::Model;
 #[derive(Drop)]
 pub struct Sexprs<'a> {
     source: &'a [u8],
-    marks: Marks,
-    index: Option<Index>,
+    kept: Kept,
+}
+
+/// What is kept of the tokens: the number of them and where every eighth begins, or an entry for each.
+#[derive(Drop)]
+pub enum Kept {
+    Marks(Marks),
+    Index(Index),
 }
 
 impl<'a> Model for Sexprs<'a> {
@@ -31,7 +37,7 @@ impl<'a> Model for Sexprs<'a> {
 
     ghost view = { λ s. s.source.now };
 
-    ghost invariant = { λ s. IsKeptOf s.source.now s.marks s.index };
+    ghost invariant = { λ s. IsKeptOf s.source.now s.kept };
 }
 
 /// Cuts a text of at most 16,777,216 bytes into its tokens. `file` is its place among the command's inputs.
@@ -43,17 +49,46 @@ pub fn read<'a>(alloc: Global, source: &'a [u8], file: u8) -> Result<Sexprs<'a>,
     ensures faultless { IfOk result (λ _. IsFaultless source.now) }
     ensures refused { IfErr result (IsRefusal source.now file) }
 {
-    if let Some(marks) = marks_of(alloc, source)? {
-        return Ok(Sexprs {
+    match marks_of(alloc, source)? {
+        Some(marks) => Ok(Sexprs {
             source,
-            marks,
-            index: None,
-        });
+            kept: Kept::Marks(marks),
+        }),
+        None => Err(refusal(alloc, source, file)),
     }
-    // Only a text that has a fault is read again, for its least one.
-    match first_fault(alloc, source, file)? {
-        Some(fault) => Err(ReadError::Bad(fault)),
-        None => unreachable!(),
+}
+
+/// The same with an index: 8 bytes for each token, and `token` and `close_of` look up what they answer. For a text whose
+/// tokens are asked for more than once.
+pub fn read_with_index<'a>(
+    alloc: Global,
+    source: &'a [u8],
+    file: u8,
+) -> Result<Sexprs<'a>, ReadError>
+    requires short { length source.now ≤ 16777216 }
+    ensures text { IfOk result (λ s. s ≡ source.now) }
+    ensures faultless { IfOk result (λ _. IsFaultless source.now) }
+    ensures refused { IfErr result (IsRefusal source.now file) }
+{
+    match index_of(alloc, source)? {
+        Some(index) => Ok(Sexprs {
+            source,
+            kept: Kept::Index(index),
+        }),
+        None => Err(refusal(alloc, source, file)),
+    }
+}
+
+// Why a text that has a fault isn't read. Only such a text is read again, for its least fault.
+fn refusal(alloc: Global, source: &[u8], file: u8) -> ReadError
+    requires short { length source.now ≤ 16777216 }
+    requires faulty { IsFaultless source.now → ⊥ }
+    ensures refused { IsRefusal source.now file result }
+{
+    match first_fault(alloc, source, file) {
+        Ok(Some(fault)) => ReadError::Bad(fault),
+        Ok(None) => unreachable!(),
+        Err(Memory) => ReadError::Memory,
     }
 }
 
@@ -64,16 +99,10 @@ impl<'a> Sexprs<'a> {
         ensures few { result ≤ length self.now }
         ensures faultless { IsFaultless self.now }
     {
-        self.marks.count
-    }
-
-    /// Makes an index of the text in one pass: 8 bytes for each token. Behind it `token` and `close_of` look up what they answer.
-    pub fn index(&mut self, alloc: Global) -> Result<(), Memory>
-        ensures same { self.new ≡ self.old }
-    {
-        let index = index_of(alloc, self.source, self.marks.count)?;
-        self.index = Some(index);
-        Ok(())
+        match &self.kept {
+            Kept::Marks(marks) => marks.count,
+            Kept::Index(index) => index.entries.len() as u32,
+        }
     }
 
     /// The token with number `i` from 0, or `None` past the last. Without an index it is cut out anew each time, with at
@@ -96,9 +125,9 @@ impl<'a> Sexprs<'a> {
         ensures close { result ≡ close_at self.now i }
         ensures opens { IsSome result ↔ OpensList self.now i }
     {
-        match &self.index {
-            Some(index) => index.closing_of(self.source, i),
-            None => self.marks.closing_of(self.source, i),
+        match &self.kept {
+            Kept::Marks(marks) => marks.closing_of(self.source, i),
+            Kept::Index(index) => index.closing_of(self.source, i),
         }
     }
 
@@ -107,9 +136,9 @@ impl<'a> Sexprs<'a> {
         ensures order { IfSome result (λ p. p.span.start < p.span.end) }
         ensures within { IfSome result (λ p. p.span.end ≤ length self.now) }
     {
-        match &self.index {
-            Some(index) => index.piece(self.source, i),
-            None => self.marks.piece(self.source, i),
+        match &self.kept {
+            Kept::Marks(marks) => marks.piece(self.source, i),
+            Kept::Index(index) => index.piece(self.source, i),
         }
     }
 

@@ -1,8 +1,9 @@
 use Rattle.std.proofs.Common.{◌≡◌, ◌∷◌, ◌++◌, [], ap, sym, ◌∙◌, subst, length, reverse, arith}
 use Rattle.std.proofs.lemmas.List.{reverse-append}
 use Rattle.sexpr_text.specs.Index.{GoesOnIndexing, closed}
+use Rattle.sexpr_text.specs.Places.{deeper}
 use Rattle.sexpr_text.specs.Seen.{kind_seen, opened}
-use Rattle.sexpr_text.proofs.Indexed.{entry_of, enter_start, enter_stop, enter_word}
+use Rattle.sexpr_text.proofs.Indexed.{entry_of, enter_start, enter_stop, enter_word, one_out}
 use Rattle.sexpr_text.proofs.index.Index.enter.Goals as goal
 
 pub returns-in_ok-push-in-Start : goal.returns-in_ok-push-in-Start
@@ -14,6 +15,7 @@ returns-in_ok-push-in-Start c =
     record {
       entered = subst (λ xs. GoesOnIndexing p es js xs (opened c.push-in-Start.new.self)) (sym items)
           (subst (GoesOnIndexing p es js (es ++ entry_of p ∷ [])) (sym lists) (enter_start p es js (ap kind_seen c.in-Start.is)));
+      deep = ap length lists ∙ sym (ap (λ k. deeper k (length js)) (ap kind_seen c.in-Start.is));
     }
 
 pub returns-in-Stop : goal.returns-in-Stop
@@ -26,9 +28,13 @@ returns-in-Stop c =
     record {
       entered = subst (λ xs. GoesOnIndexing p es js xs (opened c.leave.new.open_lists)) (sym (made ∙ ap (λ o. closed o (length es) (es ++ entry_of p ∷ [])) c.leave.ensures.innermost))
           (subst (GoesOnIndexing p es js _) (sym c.leave.ensures.others) (enter_stop p es js (ap kind_seen c.in-Stop.is)));
+      deep = ap length c.leave.ensures.others ∙ one_out js ∙ sym (ap (λ k. deeper k (length js)) (ap kind_seen c.in-Stop.is));
     }
 
 pub returns-in-Word : goal.returns-in-Word
 returns-in-Word c =
     let p = c.args.piece in let es = c.args.self.now.entries.items in let js = opened c.args.open_lists.now in
-    record { entered = subst (λ xs. GoesOnIndexing p es js xs js) (sym c.in_ok-push.ensures.items) (enter_word p es js (ap kind_seen c.in-Word.is)) }
+    record {
+      entered = subst (λ xs. GoesOnIndexing p es js xs js) (sym c.in_ok-push.ensures.items) (enter_word p es js (ap kind_seen c.in-Word.is));
+      deep = sym (ap (λ k. deeper k (length js)) (ap kind_seen c.in-Word.is));
+    }
