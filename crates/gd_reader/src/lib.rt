@@ -35,7 +35,8 @@ pub use raw_types::RawTypes;
 pub use reading::{Got, effect, formula, refusal, typed_list};
 pub use stop::{Failure, Stop};
 pub use term::{
-    RawAtom, RawTerm, applied_of, atom_of, name_of, see, term_of, terms_of, two_terms_of, used_of,
+    RawAtom, RawTerm, applied_of, atom_of, marked_used_of, name_of, see, term_of, terms_of,
+    two_terms_of, used_of,
 };
 pub use typed_lists::{ListKind, RawParam, params_of};
 pub use words::{Sort, is_word, rest, sort_of};

@@ -10,7 +10,7 @@ ghost use Rattle.gd_reader.specs.Terms.{Keeps, name_in, term, used, terms, two_t
 use crate::cursor::{end_due, word_due, word_or_end};
 use crate::stop::{Failure, Stop};
 use crate::words::{Sort, rest, sort_of};
-use htn_base::{List, Name, NameTable};
+use htn_base::{List, Marks, Name, NameTable};
 use sexpr_text::Sexprs;
 use std::alloc::Global;
 
@@ -39,6 +39,21 @@ pub fn name_of(names: &mut NameTable, word: &[u8]) -> Result<Name, Failure>
     ensures adds { AddsWord (folded word.now) names.old names.new }
 {
     match names.intern(word) {
+        Ok(name) => Ok(name),
+        Err(_) => Err(Failure::Memory),
+    }
+}
+
+/// As `name_of`. A word that the marks know is found without a search.
+#[tactic(auto, using(crate::proofs::Keeping::keeps_same, crate::proofs::Keeping::keeps_word, crate::proofs::Keeping::name_found, crate::proofs::Adding::adds_word))]
+fn marked_name_of(names: &mut NameTable, word: &[u8], marks: &mut Marks) -> Result<Name, Failure>
+    ensures name { IfOk result (λ n. n ≡ name_in names.old (folded word.now)) }
+    ensures table { OnOk result (names.new ≡ with_word names.old (folded word.now)) }
+    ensures memory { IfErr result (λ e. e ≡ Failure.Memory) }
+    ensures keeps { Keeps names.old names.new }
+    ensures adds { AddsWord (folded word.now) names.old names.new }
+{
+    match names.intern_marked(word, marks) {
         Ok(name) => Ok(name),
         Err(_) => Err(Failure::Memory),
     }
@@ -101,6 +116,31 @@ pub fn used_of(names: &mut NameTable, at: u32, word: &[u8]) -> Result<RawTerm, F
             })
         }
         Sort::Variable | Sort::Other => Err(Failure::At(Stop::Departs(8, at))),
+    }
+}
+
+/// As `used_of`. A name that the marks know is found without a search.
+#[tactic(auto, unfolding(crate::specs::Terms::used), using(crate::proofs::Adding::bare_name, crate::proofs::Keeping::keeps_same))]
+pub fn marked_used_of(
+    names: &mut NameTable,
+    at: u32,
+    word: &[u8],
+    marks: &mut Marks,
+) -> Result<RawTerm, Failure>
+    ensures keeps { Keeps names.old names.new }
+    ensures adds { AddsWord (bare (folded word.now)) names.old names.new }
+    ensures gives { GivesWith names.new result (used names.old at (folded word.now)) }
+{
+    match sort_of(word) {
+        Sort::Name => {
+            let name = marked_name_of(names, word, marks)?;
+            Ok(RawTerm {
+                name,
+                variable: false,
+                at,
+            })
+        }
+        Sort::Other | Sort::Variable => Err(Failure::At(Stop::Departs(8, at))),
     }
 }
 
