@@ -30,14 +30,14 @@ pub struct Index {
 }
 
 /// The index of a text without faults, in one pass, or `None` where the text has a fault. It starts with room for a token
-/// in four bytes, which is enough for most texts.
+/// in two bytes, which is enough for most texts: room that is never touched costs no memory, and growing copies.
 pub fn index_of(alloc: Global, source: &[u8]) -> Result<Option<Index>, Memory>
     requires short { length source.now ≤ 16777216 }
     ensures index { IfOk result (λ found. IfSome found (IsIndexOf source.now)) }
     ensures faultless { IfOk result (λ found. IsSome found ↔ IsFaultless source.now) }
 {
     let mut index = Index {
-        entries: Vec::with_capacity(alloc, source.len() / 4)?,
+        entries: Vec::with_capacity(alloc, source.len() / 2)?,
     };
     let mut open_lists: Vec<u32> = Vec::new(alloc);
     let mut at = 0;
