@@ -33,10 +33,12 @@ fn facts(rt: HostRuntime) -> Result<(), Fail> {
     facts.push(7, &[4, 5])?;
     facts.push(8, &[6])?;
     assert_eq!(rt; facts.len(), 2);
-    assert!(rt; match facts.get(1) {
-        Some(fact) => fact.predicate == 8 && fact.args == [6],
-        None => false,
-    });
+    assert!(rt;
+        match facts.get(1) {
+            Some(fact) => fact.predicate == 8 && fact.args == [6],
+            None => false,
+        }
+    );
     assert!(rt; facts.get(2).is_none());
     Ok(())
 }

@@ -8,8 +8,8 @@ ghost use Rattle.public_runs.specs.Numbered.{AreFewObjects, AreFewActions};
 
 use htn_base::{Boxed, List, Memory, Name, NameTable, Text};
 use plan_model::{
-    ActionSchema, Atom, Effect, Facts, Formula, GroundAction, Object, Param, Parent, Pddl,
-    Term, Types,
+    ActionSchema, Atom, Effect, Facts, Formula, GroundAction, Object, Param, Parent, Pddl, Term,
+    Types,
 };
 use std::alloc::Global;
 

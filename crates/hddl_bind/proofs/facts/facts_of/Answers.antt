@@ -14,13 +14,14 @@ loop-i-preserved c =
     let known = c.args.known.now in
     let within = subst (λ n. i < n) c.len-i-end.ensures.length c.loop-i-test.true in
     elim c.match-get.branch [
-      in-Some+in_ok-predicate+in_ok-push w ↦
-        let x = w.in-Some.fact in
-        let is = read_is xs i c.get.result c.get.ensures.fact x w.in-Some.is in
-        let bound = c.loop-i.bound in
-        let put = w.in_ok-push.ensures.pushed ∙ ap (λ objects. bound ++ atom_of w.in_ok-predicate.predicate objects ∷ []) w.as_slice.ensures.value ∙ ap (λ g. bound ++ g ∷ []) w.in_ok-predicate.ensures.bound in
-        record {
-          bound = w.bound-is ∙ map_step xs i x x within is (fact_bound known) bound w.push.new.self c.loop-i.invariant.bound put;
-          faults = rw w.faults-is (noted_step xs i x x within is (atom_faults known []) _ _ _ c.loop-i.invariant.faults w.in_ok-predicate.ensures.faults);
-        }
-    | in_default w ↦ absurd (none_read xs i c.get.result c.get.ensures.fact within w.in_default.is) ]
+      | in-Some+in_ok-predicate+in_ok-push w ↦
+          let x = w.in-Some.fact in
+          let is = read_is xs i c.get.result c.get.ensures.fact x w.in-Some.is in
+          let bound = c.loop-i.bound in
+          let put = w.in_ok-push.ensures.pushed ∙ ap (λ objects. bound ++ atom_of w.in_ok-predicate.predicate objects ∷ []) w.as_slice.ensures.value ∙ ap (λ g. bound ++ g ∷ []) w.in_ok-predicate.ensures.bound in
+          record {
+            bound = w.bound-is ∙ map_step xs i x x within is (fact_bound known) bound w.push.new.self c.loop-i.invariant.bound put;
+            faults = rw w.faults-is (noted_step xs i x x within is (atom_faults known []) _ _ _ c.loop-i.invariant.faults w.in_ok-predicate.ensures.faults);
+          }
+      | in_default w ↦ absurd (none_read xs i c.get.result c.get.ensures.fact within w.in_default.is)
+    ]

@@ -11,9 +11,10 @@ loop-i-preserved c =
     let i = c.loop-i.i in
     let within = subst (λ n. i < n) c.len-i-end.ensures.length c.loop-i-test.true in
     elim c.match-get.branch [
-      in-Some w ↦ rw (w.batch-is, w.sheet-is) (each-added (fact_text c.args.p.now) facts i w.in-Some.fact within
+      | in-Some w ↦ rw (w.batch-is, w.sheet-is) (each-added (fact_text c.args.p.now) facts i w.in-Some.fact within
           (read_is facts i c.get.result c.get.ensures.fact w.in-Some.fact w.in-Some.is) c.loop-i.invariant w.add_fact.ensures)
-    | in_default w ↦ absurd (none_read facts i c.get.result c.get.ensures.fact within w.in_default.is) ]
+      | in_default w ↦ absurd (none_read facts i c.get.result c.get.ensures.fact within w.in_default.is)
+    ]
 
 pub returns : goal.returns
 returns c = each-added-all (fact_text c.args.p.now) c.args.facts.now c.loop-i.i (search rules) refl c.loop-i.invariant

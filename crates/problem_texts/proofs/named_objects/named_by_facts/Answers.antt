@@ -12,12 +12,13 @@ loop-i-preserved c =
     let i = c.loop-i.i in
     let within = subst (λ n. i < n) c.len-i-end.ensures.length c.loop-i-test.true in
     elim c.match-get.branch [
-      in-Some w ↦
-        let x = w.in-Some.fact in
-        let next = greatest-next of_fact facts i x within (read_is facts i c.get.result c.get.ensures.fact x w.in-Some.is) in
-        let before = c.loop-i.invariant in
-        let it : w.named_by_all.result ≡ of_fact x = w.named_by_all.ensures ∙ ap (λ (g : GroundAtom). greatest (map of_object g.args)) w.fact.view_is in
-        let most = w.max-most.ensures in
-        let is = w.most-is in
-        omega (arith, next, before, it, most, is)
-    | in_default w ↦ absurd (none_read facts i c.get.result c.get.ensures.fact within w.in_default.is) ]
+      | in-Some w ↦
+          let x = w.in-Some.fact in
+          let next = greatest-next of_fact facts i x within (read_is facts i c.get.result c.get.ensures.fact x w.in-Some.is) in
+          let before = c.loop-i.invariant in
+          let it : w.named_by_all.result ≡ of_fact x = w.named_by_all.ensures ∙ ap (λ (g : GroundAtom). greatest (map of_object g.args)) w.fact.view_is in
+          let most = w.max-most.ensures in
+          let is = w.most-is in
+          omega (arith, next, before, it, most, is)
+      | in_default w ↦ absurd (none_read facts i c.get.result c.get.ensures.fact within w.in_default.is)
+    ]

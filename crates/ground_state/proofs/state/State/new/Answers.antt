@@ -14,13 +14,14 @@ loop-i-preserved c =
     let i = c.loop-i.i in
     let within = subst (λ n. i < n) c.len-i-end.ensures.length c.loop-i-test.true in
     elim c.match-get.branch [
-      in-Some+in_ok-insert w ↦
-        let x = w.in-Some.atom in
-        let is = read_is xs i c.get.result c.get.ensures.fact x w.in-Some.is in
-        subst (λ (s : State). Has s (Contains (take (i + 1) xs))) (sym w.state-is)
-        (new-next xs i x c.loop-i.state w.insert.new.self within is c.loop-i.invariant
-        (made-true c.loop-i.state w.insert.new.self x (Some true) (subst (λ (a : GroundAtom). IsNoted c.loop-i.state a (Some true) w.insert.new.self) w.atom.view_is w.in_ok-insert.ensures.inserted) refl))
-    | in_default w ↦ absurd (none_read xs i c.get.result c.get.ensures.fact within w.in_default.is) ]
+      | in-Some+in_ok-insert w ↦
+          let x = w.in-Some.atom in
+          let is = read_is xs i c.get.result c.get.ensures.fact x w.in-Some.is in
+          subst (λ (s : State). Has s (Contains (take (i + 1) xs))) (sym w.state-is)
+          (new-next xs i x c.loop-i.state w.insert.new.self within is c.loop-i.invariant
+          (made-true c.loop-i.state w.insert.new.self x (Some true) (subst (λ (a : GroundAtom). IsNoted c.loop-i.state a (Some true) w.insert.new.self) w.atom.view_is w.in_ok-insert.ensures.inserted) refl))
+      | in_default w ↦ absurd (none_read xs i c.get.result c.get.ensures.fact within w.in_default.is)
+    ]
 
 pub returns : goal.returns
 returns c =
