@@ -24,7 +24,7 @@ for crate in htn_base task_networks plan_model plan_meaning problem_index ground
     cp -a "$top/crates/$crate" "$copy/crates/"
     grep "^$crate:" "$top/crates.txt" >>"$copy/crates.txt"
 done
-echo "run_bench: htn_base task_networks plan_model plan_meaning ground_state" >>"$copy/crates.txt"
+echo "run_bench: htn_base task_networks plan_model plan_meaning problem_index ground_state" >>"$copy/crates.txt"
 cp "$top/HANDLES" "$copy/"
 # the problem and the plan of the tests serve here too
 tests="$top/crates/public_runs"

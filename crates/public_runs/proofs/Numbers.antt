@@ -8,7 +8,7 @@ use Rattle.plan_model.specs.declared.values.Pddl.{Pddl}
 use Rattle.plan_meaning.specs.ClassicalPlan.{HasWord}
 use Rattle.plan_meaning.specs.FailingStep.{IsNamed}
 use Rattle.ground_state.specs.Runs.{IsRunnable}
-use Rattle.ground_state.proofs.PlaceLaws.{one_place}
+use Rattle.problem_index.proofs.PlaceLaws.{one_place}
 use Rattle.public_runs.specs.Numbered.{AreNumbered, IsNumbered}
 
 -- one more item, with the next number
