@@ -8,9 +8,9 @@ ghost use Rattle.hddl_reader.specs.Sections.{words, dropped_name, used_names, as
 
 use gd_reader::{
     Failure, Item, RawFacts, RawFormula, RawTerm, Sort, Stop, end_due, inside_of, is_word, item_at,
-    list_due, list_or_end, pass, sort_of, used_of, word_due, word_or_end,
+    list_due, list_or_end, marked_used_of, pass, sort_of, word_due, word_or_end,
 };
-use htn_base::NameTable;
+use htn_base::{Marks, NameTable};
 use sexpr_text::Sexprs;
 use std::alloc::Global;
 
@@ -47,6 +47,7 @@ fn used_names_of(
     s: &Sexprs<'_>,
     mut i: u32,
     names: &mut NameTable,
+    marks: &mut Marks,
     used: &mut Vec<RawTerm>,
 ) -> Result<(), Failure>
     ensures keeps { Keeps names.old names.new }
@@ -56,7 +57,7 @@ fn used_names_of(
 {
     used.clear();
     while let Some((at, word, behind)) = word_or_end(s, i)? {
-        let name = used_of(names, at, word)?;
+        let name = marked_used_of(names, at, word, marks)?;
         used.push(name)?;
         i = behind;
     }
@@ -81,6 +82,7 @@ fn fact_of(
     s: &Sexprs<'_>,
     i: u32,
     names: &mut NameTable,
+    marks: &mut Marks,
     args: &mut Vec<RawTerm>,
 ) -> Result<Option<RawTerm>, Failure>
     ensures keeps { Keeps names.old names.new }
@@ -93,8 +95,8 @@ fn fact_of(
         assignment(s, i)?;
         Ok(None)
     } else {
-        let head = used_of(names, at, word)?;
-        used_names_of(s, i, names, args)?;
+        let head = marked_used_of(names, at, word, marks)?;
+        used_names_of(s, i, names, marks, args)?;
         Ok(Some(head))
     }
 }
@@ -117,9 +119,10 @@ pub(crate) fn facts_of(
     // Room for as many facts as the text may still have. Memory that is never touched costs nothing.
     let tokens = s.len().saturating_sub(i) as usize;
     let mut facts = RawFacts::with_room(alloc, tokens / FEWEST_TOKENS, tokens)?;
+    let mut marks = Marks::new(alloc)?;
     let mut args = Vec::new(alloc);
     while let Some((inside, behind)) = list_or_end(s, i)? {
-        if let Some(head) = fact_of(s, inside, names, &mut args)? {
+        if let Some(head) = fact_of(s, inside, names, &mut marks, &mut args)? {
             facts.push(head, args.as_slice())?;
         }
         i = behind;

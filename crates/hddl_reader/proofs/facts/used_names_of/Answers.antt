@@ -29,8 +29,8 @@ loop-at-preserved c =
     let says = rw is at said in
     record {
       adds = λ all h old. c.in_ok-name.ensures.adds all (says all h) (c.loop-at.invariant.adds all h old);
-      keeps = keeps_then c.args.names.now c.loop-at.names c.used_of.new.names c.loop-at.invariant.keeps c.in_ok-name.ensures.keeps;
-      rest = rw pushed (all_next word_or_end met_behind used_met used_names used_names_is c.loop-at.used.items c.loop-at.names (parts_at c.args.s.now c.loop-at.i) (used_names c.args.names.now (parts_at c.args.s.now c.args.i)) c.loop-at.invariant.rest (c.in-Some.at, folded c.in-Some.word.now, parts_at c.args.s.now c.in-Some.behind) c.in_ok-name.name c.used_of.new.names (rw is at gives) c.in_ok-name.ensures.gives);
+      keeps = keeps_then c.args.names.now c.loop-at.names c.marked_used_of.new.names c.loop-at.invariant.keeps c.in_ok-name.ensures.keeps;
+      rest = rw pushed (all_next word_or_end met_behind used_met used_names used_names_is c.loop-at.used.items c.loop-at.names (parts_at c.args.s.now c.loop-at.i) (used_names c.args.names.now (parts_at c.args.s.now c.args.i)) c.loop-at.invariant.rest (c.in-Some.at, folded c.in-Some.word.now, parts_at c.args.s.now c.in-Some.behind) c.in_ok-name.name c.marked_used_of.new.names (rw is at gives) c.in_ok-name.ensures.gives);
     }
 
 pub returns-clause-gives : goal.returns-clause-gives
