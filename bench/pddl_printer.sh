@@ -19,7 +19,7 @@ cat >"$copy/crates/printer_bench/src/main.rt" <<'E'
 
 use htn_base::{List, Memory, Name, NameTable, Text};
 use pddl_printer::print_domain;
-use plan_model::{ActionSchema, Atom, Effect, Formula, Object, Param, Parent, Pddl, Predicate, Term, Types};
+use plan_model::{ActionSchema, Atom, Effect, Facts, Formula, Object, Param, Parent, Pddl, Predicate, Term, Types};
 use std::alloc::Global;
 use std::io;
 use std::rt::Clock;
@@ -118,7 +118,7 @@ fn value(alloc: Global) -> Result<Pddl, Memory> {
         objects: objects(alloc)?,
         predicates: predicates(alloc)?,
         actions: actions(alloc)?,
-        init: List::new(alloc),
+        init: Facts::new(alloc),
         goal: Formula::And(List::new(alloc)),
     })
 }

@@ -39,7 +39,7 @@ use crate::ready::are_ready;
 use bound_calc::bound;
 use htn_base::{List, Memory, Name, NameTable};
 use plan_model::{
-    Child, Compiled, Formula, Hddl, Head, MethodPlan, MethodSchema, Pair, TaskSchema, Types,
+    Child, Compiled, Facts, Formula, Hddl, Head, MethodPlan, MethodSchema, Pair, TaskSchema, Types,
 };
 use std::alloc::Global;
 use std::io;
@@ -94,7 +94,7 @@ fn problem(alloc: Global, tasks: List<TaskSchema>, methods: List<MethodPlan>) ->
         actions: List::new(alloc),
         methods: List::new(alloc),
         top: schema(alloc, 0, List::new(alloc), List::new(alloc)),
-        init: List::new(alloc),
+        init: Facts::new(alloc),
         goal: Formula::And(List::new(alloc)),
     };
     Compiled { hddl, methods }

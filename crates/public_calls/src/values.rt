@@ -35,7 +35,7 @@ fn facts(rt: HostRuntime) -> Result<(), Fail> {
     assert_eq!(rt; facts.len(), 2);
     assert!(rt;
         match facts.get(1) {
-            Some(fact) => fact.predicate == 8 && fact.args == [6],
+            Some(fact) => fact.predicate == 8 && fact.args == [6].as_slice(),
             None => false,
         }
     );

@@ -7,8 +7,8 @@ ghost use Rattle.public_calls.specs.Rising.{AreRising, IsRising};
 use htn_base::{List, Memory, Name, NameTable};
 use method_precs::compile;
 use plan_model::{
-    ActionSchema, Checks, Child, Compiled, Effect, Formula, Hddl, Head, MethodSchema, Pair, Param,
-    Parent, TaskSchema, Term, Types,
+    ActionSchema, Checks, Child, Compiled, Effect, Facts, Formula, Hddl, Head, MethodSchema, Pair,
+    Param, Parent, TaskSchema, Term, Types,
 };
 use std::alloc::Global;
 
@@ -46,7 +46,7 @@ pub fn problem(
         actions,
         methods,
         top,
-        init: List::new(alloc),
+        init: Facts::new(alloc),
         goal: always(alloc),
     }
 }
