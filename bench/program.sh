@@ -4,11 +4,11 @@
 # MiB of facts; and a domain of 500 methods with 40 subtasks each. Wants ./htn, as examples/transport/run leaves it. A line each: what the program told,
 # seconds of the best of five runs and its processor seconds (user and system), kilobytes of memory at most, bytes read and written, and seconds of a copy of what was written.
 #
-# Measured with the provers of the machine stopped, four processors, seconds and kilobytes in the order of the cases: 0.07 to 0.09 and 65,496;
-# 0.29 and 274,708 (0.10 of it the program's own, the rest the system's for pages and writing); 0.50 and 232,268; 0.04 and 22,476; copies of the
-# two long texts took 0.01 and 0.14. The program of the day before, in the same minutes: 0.07, 0.35, 0.52 and 0.04; on that day's machine, which
-# took twice as long for what has not changed, 0.10, 0.52, 1.08 and 0.10. Figures of different days are not alike: bench/counted.sh has
-# instructions.
+# Measured with the provers of the machine stopped, four processors, seconds and kilobytes in the order of the cases: 0.08 and 65,384; 0.32 and
+# 271,712 (0.07 of it the program's own, the rest the system's for pages and writing); 0.23 and 125,032; 0.05 and 22,368; copies of the two long
+# texts took 0.01 and 0.09. On the machine of the day before, which took a tenth less for what has not changed: 0.07 to 0.09 and 65,496; 0.29
+# and 274,708; 0.04 and 22,476; and 0.50 s and 232,268 for the facts, before they stood in two flat lists. Figures of different days are not
+# alike: bench/counted.sh has instructions.
 set -euo pipefail
 top=$(cd "$(dirname "$0")/.." && pwd)
 work=$(mktemp -d)
