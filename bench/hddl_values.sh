@@ -19,8 +19,9 @@
 # On a quiet machine since, milliseconds of the tokens and of the value: init 75 and 206 (2.75 times), short init 154 and 570 (3.70), bare init 225
 # and 876 (3.89); in instructions 1.26, 1.83 and 1.31 times. The last two take
 # 254,864 and 427,612 kilobytes, and touching these for the first time is a good part of their time.
-# Since facts stand in two flat lists and a text is read with its index in one pass, `htn bound` takes 124, 240 and 468 milliseconds from the files of
-# these three cases to its line, on a quiet machine that takes a tenth longer for what has not changed; the value alone was not timed anew.
+# Since facts stand in two flat lists and a text is read with its index in one pass, `htn bound` takes 124, 240 and 432 to 468 milliseconds from the
+# files of these three cases to its line, on a quiet machine on which the tokens take 103, 159 and 270 (the program of bench/tokens): 1.2, 1.5 and
+# at most 1.8 times as long, with all that the program does beside. The value alone was not timed anew.
 set -euo pipefail
 top=$(cd "$(dirname "$0")/.." && pwd)
 work=$(mktemp -d)
