@@ -17,7 +17,8 @@ use stratifier::{Edge, Ranks, StratError, stratify};
 
 /// Prints a line for each problem.
 pub fn print_bounds(rt: &HostRuntime, alloc: Global, files: &mut DiskFiles) -> Result<(), Failure> {
-    for (domain, problem) in CASES {
+    for case in CASES {
+        let (domain, problem) = *case;
         let source = source_of(alloc, files, domain, problem)?;
         let compiled = compiled_source(alloc, &source, Checks::Leaf)?;
         print!(rt; "{domain} {problem} [")?;

@@ -1,6 +1,6 @@
 /// The problems whose bounds are printed, each by the name of its domain and its own, in the order in which they are
 /// printed. How a bound comes about is said here, or in the comments of `data/`.
-pub const CASES: [(&str, &str); 34] = [
+pub const CASES: &[(&str, &str)] = &[
     // t has 1, the block of a, and so has the top task
     ("smallest", "smallest"),
     ("smallest", "empty"),

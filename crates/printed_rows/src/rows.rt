@@ -14,7 +14,7 @@ const LEAF: &[Checks] = &[Checks::Leaf];
 const BOTH: &[Checks] = &[Checks::AtOnce, Checks::Leaf];
 
 /// All rows in the order in which they are printed.
-pub const ROWS: [Row; 11] = [
+pub const ROWS: &[Row] = &[
     Row {
         name: "all-objects",
         slots: 1,

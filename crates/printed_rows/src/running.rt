@@ -80,7 +80,7 @@ pub struct Source {
 pub fn print_all(rt: &HostRuntime, alloc: Global, files: &mut DiskFiles) -> Result<(), Failure> {
     for row in ROWS {
         let source = source_of(alloc, files, row.name, row.name)?;
-        print_styles(rt, alloc, &row, &source)?;
+        print_styles(rt, alloc, row, &source)?;
     }
     Ok(())
 }
@@ -106,10 +106,10 @@ fn print_styles(
     row: &Row,
     source: &Source,
 ) -> Result<(), Failure> {
-    for style in [Style::Adl, Style::Flat] {
+    for style in &[Style::Adl, Style::Flat] {
         for checks in row.modes {
-            let printed = printed(alloc, source, row.slots, style, *checks)?;
-            print_texts(rt, row, style, *checks, &printed)?;
+            let printed = printed(alloc, source, row.slots, *style, *checks)?;
+            print_texts(rt, row, *style, *checks, &printed)?;
         }
     }
     Ok(())

@@ -66,7 +66,7 @@ fn limits_of_texts(rt: HostRuntime) -> Result<(), Fail> {
     let long = with_subtasks(alloc, 4097)?;
     let (open, deep) = (open.as_str(), deep.as_str());
     let (fault, limit) = (Status::TextFault, Status::Limit);
-    for (domain, problem, status, line) in [
+    for (domain, problem, status, line) in &[
         (deep, PROBLEM, limit, "limit depth d.hddl:200\n"),
         (DOMAIN, deep, limit, "limit depth p.hddl:200\n"),
         (open, PROBLEM, fault, "d.hddl:200: fault 2 UnclosedParen\n"),
@@ -78,7 +78,7 @@ fn limits_of_texts(rt: HostRuntime) -> Result<(), Fail> {
             "limit subtasks d.hddl:16479\n",
         ),
     ] {
-        refuses(&rt, alloc, domain, problem, status, line)?;
+        refuses(&rt, alloc, domain, problem, *status, line)?;
     }
     Ok(())
 }

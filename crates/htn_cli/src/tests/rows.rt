@@ -15,7 +15,7 @@ const RESERVED: &str = "(define (domain d) (:action when :parameters ()))";
 
 const TWICE: &str = "(define (domain d) (:task t :parameters ()) (:action t :parameters ()))";
 
-pub(super) const REFUSED: [Refused; 12] = [
+pub(super) const REFUSED: &[Refused] = &[
     // tokens, forms, names
     Refused {
         domain: "",
@@ -106,7 +106,7 @@ pub(super) struct Cut {
 pub(super) const CUT_DOMAIN: &str = "(define (domain d) (:action a :parameters ()))";
 
 /// The innermost list that is open at the end is named.
-pub(super) const CUTS: [Cut; 8] = [
+pub(super) const CUTS: &[Cut] = &[
     Cut {
         first: 0,
         last: 0,
@@ -160,7 +160,7 @@ pub(super) struct Bounded {
 const BLOCKS: &str =
     "(define (domain d) (:task x :parameters ()) (:method m :parameters () :task (x) :subtasks (and (a) (b))) (:action a :parameters ()) (:action b :parameters ()))";
 
-pub(super) const BOUNDED: [Bounded; 6] = [
+pub(super) const BOUNDED: &[Bounded] = &[
     Bounded {
         domain: DOMAIN,
         problem: "(define (problem p) (:domain d) (:htn :subtasks ()))",

@@ -18,7 +18,7 @@ struct Listed {
     err: &'static str,
 }
 
-const OF_THE_SMALLEST: [Listed; 9] = [
+const OF_THE_SMALLEST: &[Listed] = &[
     Listed {
         plan: PLAN,
         status: Status::Done,
@@ -88,7 +88,7 @@ const SEEN: &str = "(define (problem p) (:init (seen b) (seen r)) (:goal (not (s
 
 /// All objects and those of a type; what is dropped, and a domain's name, which isn't compared; and faults: the domain's first, then
 /// the problem's, then the plan's.
-const JUDGED: [Judged; 19] = [
+const JUDGED: &[Judged] = &[
     Judged {
         domain: TYPED,
         problem: SEEN,
@@ -233,7 +233,7 @@ fn with_texts(alloc: Global, domain: &str, problem: &str, plan: &str) -> Result<
 }
 
 /// A validation ends with this status and this line, and leaves the plan as it is.
-fn ends(rt: &impl Abort, alloc: Global, row: Judged) -> Result<(), Fail> {
+fn ends(rt: &impl Abort, alloc: Global, row: &Judged) -> Result<(), Fail> {
     let mut outside = with_texts(alloc, row.domain, row.problem, row.plan)?;
     let ended = outside.run(&["validate", "pd", "pp", "plan"])?;
     assert_eq!(rt; ended, row.status);
@@ -257,7 +257,7 @@ fn lists_for_the_smallest_problem(rt: HostRuntime) -> Result<(), Fail> {
             status: row.status,
             err: row.err,
         };
-        ends(&rt, rt.alloc(), judged)?;
+        ends(&rt, rt.alloc(), &judged)?;
     }
     Ok(())
 }
