@@ -1,4 +1,5 @@
 pub mod DifferentLemmas
 pub mod TableLemmas
 pub mod EscapeLemmas
+pub mod PackedLemmas
 pub mod examples

@@ -1,0 +1,113 @@
+-- Numbers read one after the other, and rows in three lists: which row stands where, and one more row.
+use Rattle.std.proofs.Common.{ℕ, zero, suc, ◌≡◌, ◌≤◌, ◌-◌, ◌+◌, List, [], ◌∷◌, ◌++◌, length, take, drop, Option, Some, None, slice_get}
+use Rattle.std.proofs.Common.{refl, sym, ap, ◌∙◌, arith, length-append}
+use Rattle.std.specs.Prelude.{slice_range}
+use Rattle.std.proofs.lemmas.List.{take-append-le, drop-append-le, length-drop, take_more}
+use Rattle.std.proofs.lemmas.Option.{slice_get_within, get_or_from_slice_get, slice_get_past}
+use Rattle.std.proofs.Math.Seq.{drop-append_seam, take-length}
+use Rattle.htn_base.specs.Packed.{Row, row_of, rows_from, EndsFrom, AreRows}
+
+-- a list and the next item that was read
+module _ (xs : List ℕ) (i : ℕ) (read : Option ℕ) (e : read ≡ slice_get xs i) where
+  pub next_read : (x : ℕ) → read ≡ Some x → take (i + 1) xs ≡ take i xs ++ x ∷ []
+  next_read x is =
+      let there = sym e ∙ is in
+      take_more xs i x (slice_get_within xs i x there) ∙ ap (λ y. take i xs ++ y ∷ []) (get_or_from_slice_get xs i x x there)
+
+  pub none_read : read ≡ None → length xs ≤ i
+  none_read is = none xs i (sym e ∙ is)
+    where
+      none : (xs : List ℕ) (i : ℕ) → slice_get xs i ≡ None → length xs ≤ i
+      none [] i e = omega arith
+      none (x ∷ xs) zero e = absurd (cc e)
+      none (x ∷ xs) (suc i) e = let rest = none xs i e in omega (arith, rest)
+
+-- a part stays as it is where more comes behind
+part_kept : (xs ys : List ℕ) (start end : ℕ) → start ≤ end → end ≤ length xs → slice_range (xs ++ ys) start end ≡ slice_range xs start end
+part_kept xs ys start end up within =
+    let long = length-drop start xs in
+    ap (take (end - start)) (drop-append-le start xs ys (omega (arith, up, within)))
+    ∙ take-append-le (end - start) (drop start xs) ys (omega (arith, up, within, long))
+
+-- the last part
+part_last : (xs ys : List ℕ) → slice_range (xs ++ ys) (length xs) (length (xs ++ ys)) ≡ ys
+part_last xs ys =
+    let long = length-append xs ys in
+    let count : length (xs ++ ys) - length xs ≡ length ys = omega (arith, long) in
+    rw (count, drop-append_seam xs ys) (take-length ys)
+
+-- the ends are within the numbers
+ends_within : (start : ℕ) (ends : List ℕ) (length : ℕ) → EndsFrom start ends length → start ≤ length
+ends_within start [] length h = omega (arith, h)
+ends_within start (end ∷ ends) length h = let rest = ends_within end ends length h.1 in omega (arith, rest, h.0)
+
+-- one more row, whose numbers come last
+pub row_pushed : (start : ℕ) (heads ends numbers : List ℕ) (head : ℕ) (rest : List ℕ)
+    → length heads ≡ length ends → EndsFrom start ends (length numbers)
+    → rows_from start (heads ++ head ∷ []) (ends ++ length (numbers ++ rest) ∷ []) (numbers ++ rest)
+    ≡ rows_from start heads ends numbers ++ row_of head rest ∷ []
+row_pushed start [] [] numbers head rest paired rising =
+    ap (λ r. row_of head r ∷ []) (ap (λ s. slice_range (numbers ++ rest) s (length (numbers ++ rest))) rising ∙ part_last numbers rest)
+row_pushed start [] (end ∷ ends) numbers head rest paired rising = absurd (omega (arith, paired))
+row_pushed start (first ∷ heads) [] numbers head rest paired rising = absurd (omega (arith, paired))
+row_pushed start (first ∷ heads) (end ∷ ends) numbers head rest paired rising =
+    let within = ends_within end ends (length numbers) rising.1 in
+    let here = part_kept numbers rest start end rising.0 within in
+    let later = row_pushed end heads ends numbers head rest (omega (arith, paired)) rising.1 in
+    ap (λ r. row_of first r ∷ rows_from end (heads ++ head ∷ []) (ends ++ length (numbers ++ rest) ∷ []) (numbers ++ rest)) here
+    ∙ ap (λ rows. row_of first (slice_range numbers start end) ∷ rows) later
+
+-- the ends with the end of one more row
+pub ends_pushed : (start : ℕ) (ends : List ℕ) (before after : ℕ) → before ≤ after → EndsFrom start ends before
+    → EndsFrom start (ends ++ after ∷ []) after
+ends_pushed start [] before after up h = (omega (arith, up, h), refl)
+ends_pushed start (end ∷ ends) before after up h = (h.0, ends_pushed end ends before after up h.1)
+
+-- the row of a number: its head, and the numbers from the end of the row before to its own
+pub row_read : (start : ℕ) (heads ends numbers : List ℕ) (k head from end : ℕ)
+    → slice_get heads k ≡ Some head → slice_get (start ∷ ends) k ≡ Some from → slice_get ends k ≡ Some end
+    → slice_get (rows_from start heads ends numbers) k ≡ Some (row_of head (slice_range numbers from end))
+row_read start [] ends numbers k head from end h f e = absurd (cc h)
+row_read start (first ∷ heads) [] numbers k head from end h f e = absurd (cc e)
+row_read start (first ∷ heads) (to ∷ ends) numbers zero head from end h f e = cc
+row_read start (first ∷ heads) (to ∷ ends) numbers (suc k) head from end h f e = row_read to heads ends numbers k head from end h f e
+
+-- and it stands within the numbers
+pub row_within : (start : ℕ) (ends : List ℕ) (length k from end : ℕ)
+    → EndsFrom start ends length → slice_get (start ∷ ends) k ≡ Some from → slice_get ends k ≡ Some end
+    → (from ≤ end) × (end ≤ length)
+row_within start [] length k from end h f e = absurd (cc e)
+row_within start (to ∷ ends) length zero from end h f e =
+    let within = ends_within to ends length h.1 in
+    let is : start ≡ from = cc f in
+    let ends_at : to ≡ end = cc e in
+    (omega (arith, h.0, is, ends_at), omega (arith, within, ends_at))
+row_within start (to ∷ ends) length (suc k) from end h f e = row_within to ends length k from end h.1 f e
+
+-- as many rows as heads
+pub length-rows : (start : ℕ) (heads ends numbers : List ℕ) → length heads ≡ length ends
+    → length heads ≡ length (rows_from start heads ends numbers)
+length-rows start [] ends numbers paired = refl
+length-rows start (head ∷ heads) [] numbers paired = absurd (omega (arith, paired))
+length-rows start (head ∷ heads) (end ∷ ends) numbers paired =
+    let rest = length-rows end heads ends numbers (omega (arith, paired)) in ap (λ n. suc n) rest
+
+-- and none past the heads
+pub no_row : (heads ends numbers : List ℕ) (rows : List Row) (k : ℕ)
+    → length heads ≡ length ends → rows_from 0 heads ends numbers ≡ rows → length heads ≤ k → None ≡ slice_get rows k
+no_row heads ends numbers rows k paired are past =
+    let long = length-rows 0 heads ends numbers paired ∙ ap (λ all. length all) are in
+    sym (slice_get_past rows k (omega (arith, past, long)))
+
+-- the three lists with one more row
+pub rows_pushed : (heads ends numbers : List ℕ) (head : ℕ) (rest : List ℕ) → AreRows heads ends numbers
+    → AreRows (heads ++ head ∷ []) (ends ++ length (numbers ++ rest) ∷ []) (numbers ++ rest)
+rows_pushed heads ends numbers head rest are =
+    let long = length-append numbers rest in
+    let paired = are.paired in
+    let one = length-append heads (head ∷ []) in
+    let other = length-append ends (length (numbers ++ rest) ∷ []) in
+    record {
+      paired = omega (arith, paired, one, other);
+      rising = ends_pushed 0 ends (length numbers) (length (numbers ++ rest)) (omega (arith, long)) are.rising;
+    }

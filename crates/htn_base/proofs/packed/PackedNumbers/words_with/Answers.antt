@@ -1,0 +1,16 @@
+use Rattle.std.proofs.Common.{◌<◌, refl, subst, arith}
+use Rattle.htn_base.proofs.PackedLemmas.{next_read, none_read}
+use Rattle.htn_base.proofs.packed.PackedNumbers.words_with.Goals as goal
+use Rattle.htn_base.proofs.packed.PackedNumbers.words_with.Goals.{in-Some+in_ok-push, in_default}
+
+pub loop-i-preserved : goal.loop-i-preserved
+loop-i-preserved c =
+    let xs = c.args.self.now in
+    let i = c.loop-i.i in
+    let within = subst (λ n. i < n) c.len-i-end.ensures.length c.loop-i-test.true in
+    elim c.match-get.branch [
+      | in-Some+in_ok-push w ↦
+          let next = next_read xs i c.get.result c.get.ensures.number w.in-Some.number w.in-Some.is in
+          rw (w.words-is, w.in_ok-push.ensures.items, c.loop-i.invariant, next) refl
+      | in_default w ↦ absurd (let past = none_read xs i c.get.result c.get.ensures.number w.in_default.is in omega (arith, past, within))
+    ]

@@ -1,0 +1,35 @@
+-- Numbers in as few bytes as they take, and rows of such numbers in three lists.
+-- Source: this project's.
+use Rattle.std.specs.Prelude.{ℕ, ◌≡◌, ◌≤◌, List, [], ◌∷◌, length, slice_range}
+use Rattle.htn_base.specs.declared.packed.Numbers.{Numbers}
+use Rattle.htn_base.specs.declared.packed.Numbers.TheVariants.{Bytes, Halves, Words}
+
+-- the numbers, however many bytes each takes
+abbrev pub numbers_of : Numbers → List ℕ
+numbers_of (Bytes numbers) = numbers.items
+numbers_of (Halves numbers) = numbers.items
+numbers_of (Words numbers) = numbers.items
+
+-- A head and further numbers.
+pub record Row : Type 0 where
+  pub head : ℕ
+  pub rest : List ℕ
+
+abbrev pub row_of : ℕ → List ℕ → Row
+row_of head rest = record { head = head; rest = rest }
+
+-- the rows of these heads: the rest of the first goes from the start to the first end, that of each further one from the end before
+abbrev pub rows_from : ℕ → List ℕ → List ℕ → List ℕ → List Row
+rows_from start [] ends numbers = []
+rows_from start (head ∷ heads) [] numbers = []
+rows_from start (head ∷ heads) (end ∷ ends) numbers = row_of head (slice_range numbers start end) ∷ rows_from end heads ends numbers
+
+-- the ends ascend from the start, and the last of them is the length
+abbrev pub EndsFrom : ℕ → List ℕ → ℕ → Type 0
+EndsFrom start [] length = start ≡ length
+EndsFrom start (end ∷ ends) length = (start ≤ end) × EndsFrom end ends length
+
+-- What holds of the three lists of rows: an end for each head, and no number in no row.
+pub record AreRows (heads ends numbers : List ℕ) : Type 0 where
+  pub paired : length heads ≡ length ends
+  pub rising : EndsFrom 0 ends (length numbers)
