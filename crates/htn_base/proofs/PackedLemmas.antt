@@ -8,8 +8,8 @@ use Rattle.std.proofs.Math.Seq.{drop-append_seam, take-length}
 use Rattle.htn_base.specs.Packed.{Row, row_of, rows_from, EndsFrom, AreRows}
 
 -- a list and the next item that was read
-module _ (xs : List ℕ) (i : ℕ) (read : Option ℕ) (e : read ≡ slice_get xs i) where
-  pub next_read : (x : ℕ) → read ≡ Some x → take (i + 1) xs ≡ take i xs ++ x ∷ []
+module _ {X : Type 0} (xs : List X) (i : ℕ) (read : Option X) (e : read ≡ slice_get xs i) where
+  pub next_read : (x : X) → read ≡ Some x → take (i + 1) xs ≡ take i xs ++ x ∷ []
   next_read x is =
       let there = sym e ∙ is in
       take_more xs i x (slice_get_within xs i x there) ∙ ap (λ y. take i xs ++ y ∷ []) (get_or_from_slice_get xs i x x there)
@@ -17,7 +17,7 @@ module _ (xs : List ℕ) (i : ℕ) (read : Option ℕ) (e : read ≡ slice_get x
   pub none_read : read ≡ None → length xs ≤ i
   none_read is = none xs i (sym e ∙ is)
     where
-      none : (xs : List ℕ) (i : ℕ) → slice_get xs i ≡ None → length xs ≤ i
+      none : (xs : List X) (i : ℕ) → slice_get xs i ≡ None → length xs ≤ i
       none [] i e = omega arith
       none (x ∷ xs) zero e = absurd (cc e)
       none (x ∷ xs) (suc i) e = let rest = none xs i e in omega (arith, rest)

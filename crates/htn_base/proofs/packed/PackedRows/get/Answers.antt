@@ -6,7 +6,8 @@ pub returns-in_err-head : goal.returns-in_err-head
 returns-in_err-head c =
     let rows = c.self.inside in
     let past = none_read rows.heads c.args.k c.get.result c.get.ensures.number c.in_err-head.was in
-    rw c.from_residual.ensures (record { row = no_row rows.heads rows.ends rows.rest c.args.self.now c.args.k c.self.invariant.paired c.self.view_is past })
+    rw c.from_residual.ensures
+    (record { row = no_row rows.heads rows.ends rows.rest c.args.self.now c.args.k c.self.invariant.paired c.self.view_is past })
 
 pub returns-in_err-start : goal.returns-in_err-start
 returns-in_err-start c =
