@@ -1,15 +1,15 @@
 ghost use Rattle.std.specs.Prelude.{◌<◌, ◌^◌};
 
 use crate::memory::Memory;
-use crate::name::Name;
+use crate::name::{Name, NameTable};
 use std::alloc::Global;
 
 /// The number of marks.
-const MARKS: usize = 1 << 12;
+const MARKS: usize = 1 << 14;
 
 /// A sum of some bytes of the word: words that look alike seldom have the same one.
 fn mark(word: &[u8]) -> usize
-    ensures { result < 2 ^ 12 }
+    ensures { result < 2 ^ 14 }
 {
     let sum = match word {
         [first, .., a, b, c] => {
@@ -30,10 +30,22 @@ pub struct Marks {
 }
 
 impl Marks {
-    /// Marks of no words. They take 16 KiB.
+    /// Marks of no words. They take 64 KiB.
     pub fn new(alloc: Global) -> Result<Marks, Memory> {
         let numbers = vec![in alloc; 0; MARKS]?;
         Ok(Marks { numbers })
+    }
+
+    /// Marks of the first words of a table.
+    pub fn of(alloc: Global, table: &NameTable) -> Result<Marks, Memory> {
+        let mut marks = Marks::new(alloc)?;
+        for number in 0..table.len().min(MARKS) as u32 {
+            let name = Name { number };
+            if let Some(word) = table.text(name) {
+                marks.set(word, name);
+            }
+        }
+        Ok(marks)
     }
 
     /// The name that was last kept at the mark of the word.

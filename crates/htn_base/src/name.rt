@@ -83,7 +83,6 @@ impl NameTable {
         ensures unchanged { OnErr result (self.new ≡ self.old) }
         ensures sound { IsTable self.new }
     {
-        let _ = &self.words;
         if let Some(name) = self.marked(word, marks) {
             return Ok(name);
         }
@@ -96,7 +95,11 @@ impl NameTable {
     #[inline(always)]
     fn marked(&self, word: &[u8], marks: &Marks) -> Option<Name>
         ensures known { IfSome result (λ n. IsKnown self.now word.now n.number) }
+        ensures number { IfSome result (λ n. number_of self.now word.now ≡ Some n.number) }
+        ensures sound { IsTable self.now }
     {
+        // opens the table, so that its invariant is known where the marks have nothing
+        let _ = &self.words;
         let name = marks.get(word)?;
         let marked = self.text(name)?;
         if marked == word { Some(name) } else { None }
@@ -126,6 +129,18 @@ impl NameTable {
         Some(Name {
             number: found as u32,
         })
+    }
+
+    /// As `find`. A word that the marks know is found without a search. They may be those of any table.
+    #[inline(always)]
+    pub fn find_marked(&self, word: &[u8], marks: &Marks) -> Option<Name>
+        ensures number { option_map (λ name. name.number) result ≡ number_of self.now word.now }
+        ensures sound { IsTable self.now }
+    {
+        match self.marked(word, marks) {
+            Some(name) => Some(name),
+            None => self.find(word),
+        }
     }
 
     /// The word of the name. `None` exactly for a number that is not given out.

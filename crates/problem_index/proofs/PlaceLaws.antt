@@ -91,12 +91,6 @@ one_place table word n m differ e f =
       ]
     ]
 
--- the number at which a word stands is its number
-pub number_there : (table : List (List ℕ)) (word : List ℕ) (n : ℕ) → AreDifferent table → slice_get table n ≡ Some word → number_of table word ≡ Some n
-number_there table word n differ e =
-    let is = word_numbered table word n e in
-    is ∙ ap (λ k. Some k) (one_place table word (position_or_len (bytes_eq word) table) n differ (word_there table word (position_or_len (bytes_eq word) table) is) e)
-
 -- where the word has no number, nothing has the word
 pub finds_none : (table : List (List ℕ)) (places : List (Option ℕ)) (word : List ℕ) → number_of table word ≡ None → Finds table places word None
 finds_none table places word e names are k (x, f, g) = not_numbered table word x.number e g

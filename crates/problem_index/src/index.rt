@@ -6,10 +6,9 @@ ghost use Rattle.problem_index.specs.Kinds.{IsWorld};
 ghost use Rattle.problem_index.specs.Index as spec;
 
 use crate::kinds::Kinds;
-use crate::marks::Marks;
 use crate::places::Places;
 use crate::world::World;
-use htn_base::Memory;
+use htn_base::{Marks, Memory};
 use plan_model::{ActionSchema, Pddl};
 use std::alloc::Global;
 
@@ -30,7 +29,7 @@ impl Index {
         requires few_actions { length p.now.actions < 2 ^ 32 }
         ensures index { IfOk result (spec.IsIndex p.now) }
     {
-        let marks = Marks::new(alloc, &p.names)?;
+        let marks = Marks::of(alloc, &p.names)?;
         let actions = action_places(alloc, p)?;
         let objects = object_places(alloc, p)?;
         let kinds = Kinds::new(alloc, &p.types, &p.objects)?;

@@ -9,7 +9,6 @@ mod by_type;
 mod domain;
 mod index;
 mod kinds;
-mod marks;
 mod places;
 mod world;
 

@@ -1,8 +1,7 @@
 ghost use Rattle.std.specs.Prelude.{◌≡◌, ◌<◌, ◌^◌, length, IfOk};
 ghost use Rattle.problem_index.specs.Places as spec;
 
-use crate::marks::Marks;
-use htn_base::{Memory, Name, NameTable};
+use htn_base::{Marks, Memory, Name, NameTable};
 use std::alloc::Global;
 
 /// The places of named things, by the numbers of their names.
@@ -32,7 +31,7 @@ impl Places {
     pub(crate) fn find(&self, marks: &Marks, table: &NameTable, word: &[u8]) -> Option<u32>
         ensures { spec.Finds table.now self.now.by_name.items word.now result }
     {
-        let name = marks.find(table, word)?;
+        let name = table.find_marked(word, marks)?;
         match self.by_name.get(name.number as usize) {
             Some(place) => *place,
             None => None,

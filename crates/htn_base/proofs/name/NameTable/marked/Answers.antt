@@ -14,4 +14,6 @@ returns-then-eq c =
         number = known-number c.args.self.now c.args.word.now c.text.ensures.sound c.in_ok-name.name.number number;
         same = known-same c.args.self.now c.args.word.now c.text.ensures.sound c.in_ok-name.name.number number;
       };
+      number = number;
+      sound = c.text.ensures.sound;
     }
