@@ -2,6 +2,5 @@ pub mod examples
 pub mod Marks
 pub mod PartsOf
 pub mod Numbers
-pub mod FactsGrown
 pub mod ReadAt
 pub mod NumberLaws

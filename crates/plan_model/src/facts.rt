@@ -1,6 +1,6 @@
 ghost use Rattle.std.specs.Prelude.{◌≡◌, ◌++◌, ◌∷◌, [], length, slice_get, IfOk, OnOk};
 
-use htn_base::{Memory, number};
+use htn_base::{Memory, PackedPart, PackedRows};
 use std::alloc::Global;
 use std::marker::Model;
 
@@ -9,7 +9,7 @@ use std::marker::Model;
 #[derive(Drop)]
 pub struct Fact<'a> {
     pub predicate: u32,
-    pub args: &'a [u32],
+    pub args: PackedPart<'a>,
 }
 
 impl<'a> Model for Fact<'a> {
@@ -17,35 +17,24 @@ impl<'a> Model for Fact<'a> {
 
     ghost Value = { GroundAtom };
 
-    ghost view = { λ f. record { predicate = f.predicate; args = f.args.now } };
+    ghost view = { λ f. record { predicate = f.predicate; args = f.args } };
 }
 
-/// A predicate, and where its objects stand among those of all facts: from place `start` up to place `end`, from 0.
-#[derive(Clone, Copy)]
-struct Cut {
-    predicate: u32,
-    start: u32,
-    end: u32,
-}
-
-/// Ground atoms in order, repeats too. The objects of all of them stand in one list, so that none takes memory of its
-/// own. Contracts see the list of the ground atoms.
+/// Ground atoms in order, repeats too. Each is a row: its predicate with its objects. Contracts see the list of the ground
+/// atoms.
 #[derive(Drop)]
 pub struct Facts {
-    cuts: Vec<Cut>,
-    objects: Vec<u32>,
+    rows: PackedRows,
 }
 
 impl Model for Facts {
     ghost use Rattle.std.specs.Prelude.{List};
     ghost use Rattle.plan_model.specs.declared.terms.GroundAtom.{GroundAtom};
-    ghost use Rattle.plan_model.specs.Facts.{facts, AreWithin};
+    ghost use Rattle.plan_model.specs.Facts.{facts};
 
     ghost Value = { List GroundAtom };
 
-    ghost view = { λ f. facts f.objects.items f.cuts.items };
-
-    ghost invariant = { λ f. AreWithin f.objects.items f.cuts.items };
+    ghost view = { λ f. facts f.rows };
 }
 
 impl Facts {
@@ -56,51 +45,40 @@ impl Facts {
         ensures none { result ≡ [] }
     {
         Facts {
-            cuts: Vec::new(alloc),
-            objects: Vec::new(alloc),
+            rows: PackedRows::new(alloc),
         }
     }
 
-    /// No facts, with room for so many, and for so many objects of all together.
+    /// No facts, with room for so many, and for so many objects of all together, of a byte each.
     pub fn with_room(alloc: Global, facts: usize, objects: usize) -> Result<Facts, Memory>
         ensures none { IfOk result (λ facts. facts ≡ []) }
     {
-        let cuts = Vec::with_capacity(alloc, facts)?;
-        let objects = Vec::with_capacity(alloc, objects)?;
-        Ok(Facts { cuts, objects })
+        let rows = PackedRows::with_room(alloc, facts, objects)?;
+        Ok(Facts { rows })
     }
 
     /// The number of facts.
     pub fn len(&self) -> usize
         ensures length { result ≡ length self.now }
     {
-        self.cuts.len()
+        self.rows.len()
     }
 
     /// The fact at place `i` from 0, or `None` past the end.
     pub fn get(&self, i: usize) -> Option<Fact<'_>>
         ensures fact { result ≡ slice_get self.now i }
     {
-        let cut = self.cuts.get(i)?;
-        let args = &self.objects[cut.start as usize..cut.end as usize];
+        let row = self.rows.get(i)?;
         Some(Fact {
-            predicate: cut.predicate,
-            args,
+            predicate: row.head,
+            args: row.rest,
         })
     }
 
-    /// Puts a fact at the end. More than 2^32 objects in all want memory.
+    /// Puts a fact at the end. More than 4,294,967,295 objects in all want memory.
     pub fn push(&mut self, predicate: u32, args: &[u32]) -> Result<(), Memory>
         ensures pushed { OnOk result (self.new ≡ self.old ++ atom_of predicate args.now ∷ []) }
     {
-        let start = number(self.objects.len())?;
-        self.objects.extend_from_slice(args)?;
-        let end = number(self.objects.len())?;
-        self.cuts.push(Cut {
-            predicate,
-            start,
-            end,
-        })?;
-        Ok(())
+        self.rows.push(predicate, args)
     }
 }
