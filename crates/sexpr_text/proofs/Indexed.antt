@@ -53,6 +53,7 @@ finish text at index opens e h = record {
       token = y.token;
       stands = y.stands;
       begins = y.begins;
+      here = y.here;
       word_ends = y.word_ends;
       list_ends = by y.list_ends;
     }
@@ -86,7 +87,7 @@ abbrev pub entry_of : Piece → Entry
 entry_of p = record { at = p.span.start; end = p.span.end }
 
 -- one token more
-module _ (text : List ℕ) (at : ℕ) (p : Piece) (es : List Entry) (opens : List ℕ) (next : tokens_at text at ≡ piece_seen p ∷ tokens_at text p.span.end) (h : IsIndexedTo text at es opens) where
+module _ (text : List ℕ) (at : ℕ) (p : Piece) (es : List Entry) (opens : List ℕ) (first : at ≡ p.span.start) (next : tokens_at text at ≡ piece_seen p ∷ tokens_at text p.span.end) (h : IsIndexedTo text at es opens) where
   here : drop (length es) (tokens text) ≡ piece_seen p ∷ tokens_at text p.span.end
   here = h.here ∙ next
 
@@ -105,6 +106,7 @@ module _ (text : List ℕ) (at : ℕ) (p : Piece) (es : List Entry) (opens : Lis
     token = piece_seen p;
     stands = (drop_next (length es) (tokens text) (tokens_at text p.span.end) (piece_seen p) here).2;
     begins = refl;
+    here = h.here ∙ ap (tokens_at text) first;
     word_ends = λ w. refl;
     list_ends = ends;
   }
@@ -140,33 +142,33 @@ module _ (text : List ℕ) (at : ℕ) (p : Piece) (es : List Entry) (opens : Lis
   }
     where
       further : (i : ℕ) (e : Entry) → IsEarlyEntry text opens i e → IsEarlyEntry text (length es ∷ opens) i e
-      further i e y = record { token = y.token; stands = y.stands; begins = y.begins; word_ends = y.word_ends; list_ends = by y.list_ends }
+      further i e y = record { token = y.token; stands = y.stands; begins = y.begins; here = y.here; word_ends = y.word_ends; list_ends = by y.list_ends }
         where
           by : ((j : ℕ) → close_at text i ≡ Some j → e.end ≡ j) ⊎ IsOneOf i opens → ((j : ℕ) → close_at text i ≡ Some j → e.end ≡ j) ⊎ IsOneOf i (length es ∷ opens)
           by (inl l) = inl l
           by (inr o) = inr (inr o)
 
 pub enter_word : (p : Piece) (es : List Entry) (opens : List ℕ) → kind_seen p.kind ≡ word → GoesOnIndexing p es opens (es ++ entry_of p ∷ []) opens
-enter_word p es opens is text at next h = word_more text at p es opens next h is
+enter_word p es opens is text at first next h = word_more text at p es opens first next h is
 
 pub enter_start : (p : Piece) (es : List Entry) (opens : List ℕ) → kind_seen p.kind ≡ start → GoesOnIndexing p es opens (es ++ entry_of p ∷ []) (length es ∷ opens)
-enter_start p es opens is text at next h = start_more text at p es opens next h is
+enter_start p es opens is text at first next h = start_more text at p es opens first next h is
 
 pub enter_stop : (p : Piece) (es : List Entry) (opens : List ℕ) → kind_seen p.kind ≡ stop → GoesOnIndexing p es opens (closed (innermost opens) (length es) (es ++ entry_of p ∷ [])) (but_innermost opens)
-enter_stop p es [] is text at next h = record {
-  number = number text at p es [] next h;
-  here = behind text at p es [] next h;
-  each = plain text at p es [] next h (close text at p es [] next h stop is);
+enter_stop p es [] is text at first next h = record {
+  number = number text at p es [] first next h;
+  here = behind text at p es [] first next h;
+  each = plain text at p es [] first next h (close text at p es [] first next h stop is);
   below = tt;
   still_open = tt;
 }
-enter_stop p es (j ∷ js) is text at next h = record {
-  number = subst (λ n. n ≤ token_count text) (sym same) (number text at p es (j ∷ js) next h);
-  here = ap (λ n. drop n (tokens text)) same ∙ behind text at p es (j ∷ js) next h;
+enter_stop p es (j ∷ js) is text at first next h = record {
+  number = subst (λ n. n ≤ token_count text) (sym same) (number text at p es (j ∷ js) first next h);
+  here = ap (λ n. drop n (tokens text)) same ∙ behind text at p es (j ∷ js) first next h;
   each = λ i e g. by i e (ended_get j (length es) more i e g);
-  below = subst (λ n. AreBelow n js) (sym same) (below text at p es (j ∷ js) next h).1;
+  below = subst (λ n. AreBelow n js) (sym same) (below text at p es (j ∷ js) first next h).1;
   still_open = subst (λ n. AreOpen text 0 n (tokens_at text p.span.end) js) (sym (same ∙ length_push es (entry_of p)))
-      (open_stop text 0 (length es) p.span.start p.span.end (tokens_at text p.span.end) js (front text at p es (j ∷ js) next h stop is).1);
+      (open_stop text 0 (length es) p.span.start p.span.end (tokens_at text p.span.end) js (front text at p es (j ∷ js) first next h stop is).1);
 }
   where
     more : List Entry
@@ -176,10 +178,10 @@ enter_stop p es (j ∷ js) is text at next h = record {
     same = ended_length j (length es) more
 
     here_closed : close_at text j ≡ Some (length es)
-    here_closed = (front text at p es (j ∷ js) next h stop is).0
+    here_closed = (front text at p es (j ∷ js) first next h stop is).0
 
     early : (i : ℕ) (e : Entry) → slice_get more i ≡ Some e → IsEarlyEntry text (j ∷ js) i e
-    early = plain text at p es (j ∷ js) next h (close text at p es (j ∷ js) next h stop is)
+    early = plain text at p es (j ∷ js) first next h (close text at p es (j ∷ js) first next h stop is)
 
     by : (i : ℕ) (e : Entry) → ((i ≡ j) × (x : Entry) × (slice_get more i ≡ Some x) × (e.at ≡ x.at) × (e.end ≡ length es)) ⊎ ((i ≡ j → ⊥) × (slice_get more i ≡ Some e)) → IsEarlyEntry text js i e
     by i e (inl g) =
@@ -189,10 +191,11 @@ enter_stop p es (j ∷ js) is text at next h = record {
           token = y.token;
           stands = y.stands;
           begins = g.3 ∙ y.begins;
+          here = y.here ∙ ap (tokens_at text) (sym g.3);
           word_ends = λ w. absurd (no_word text i (length es) y.token y.stands w c);
           list_ends = inl (λ l d. let n = g.4 in cc);
         }
-    by i e (inr g) = let y = early i e g.1 in record { token = y.token; stands = y.stands; begins = y.begins; word_ends = y.word_ends; list_ends = other y.list_ends }
+    by i e (inr g) = let y = early i e g.1 in record { token = y.token; stands = y.stands; begins = y.begins; here = y.here; word_ends = y.word_ends; list_ends = other y.list_ends }
       where
         other : ((l : ℕ) → close_at text i ≡ Some l → e.end ≡ l) ⊎ IsOneOf i (j ∷ js) → ((l : ℕ) → close_at text i ≡ Some l → e.end ≡ l) ⊎ IsOneOf i js
         other (inl l) = inl l
@@ -234,7 +237,7 @@ module _ (text : List ℕ) (at end : ℕ) (k : Class) (q : Kind) (p : Piece) (es
       let begins : begun k at p.span.end ≡ piece_seen p ∷ [] = ap (begun k at) last ∙ b ∙ (λ i. token (m i) (f i) (l i) ∷ []) in
       record {
         within = there.within;
-        indexed = goes text at (there.tokens ∙ ap (λ ts. ts ++ tokens_at text p.span.end) begins) h.indexed;
+        indexed = goes text at f (there.tokens ∙ ap (λ ts. ts ++ tokens_at text p.span.end) begins) h.indexed;
         deep = deep_passed text (record { at = at; depth = length opens }) (record { at = p.span.end; depth = length next_opens }) k there good
             (λ os e. as_deep k q at end b os (length opens) e ∙ ap (λ x. deeper x (length opens)) m ∙ sym deep) h.deep;
       }

@@ -4,3 +4,4 @@ mod Numbered
 mod Passed
 mod Indexed
 mod Entries
+mod FromPosition

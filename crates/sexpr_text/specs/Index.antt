@@ -17,6 +17,7 @@ pub record IsEntry (text : List ℕ) (i : ℕ) (e : Entry) : Type 0 where
   pub token : Token
   pub stands : slice_get (tokens text) i ≡ Some token
   pub begins : e.at ≡ token.first
+  pub here : drop i (tokens text) ≡ tokens_at text e.at
   pub word_ends : token.kind ≡ word → e.end ≡ token.behind
   pub list_ends : (j : ℕ) → close_at text i ≡ Some j → e.end ≡ j
 
@@ -75,6 +76,7 @@ pub record IsEarlyEntry (text : List ℕ) (opens : List ℕ) (i : ℕ) (e : Entr
   pub token : Token
   pub stands : slice_get (tokens text) i ≡ Some token
   pub begins : e.at ≡ token.first
+  pub here : drop i (tokens text) ≡ tokens_at text e.at
   pub word_ends : token.kind ≡ word → e.end ≡ token.behind
   pub list_ends : ((j : ℕ) → close_at text i ≡ Some j → e.end ≡ j) ⊎ IsOneOf i opens
 
@@ -92,6 +94,6 @@ pub record IsEnteredTo (text : List ℕ) (es : List Entry) (opens : List ℕ) (a
   pub indexed : IsIndexedTo text at es opens
   pub deep : IsAsDeep text (length opens) at (classes_at text at)
 
--- with one more token, which comes next, what was indexed of any text is indexed again
+-- with one more token, which stands here, what was indexed of any text is indexed again
 abbrev pub GoesOnIndexing : Piece → List Entry → List ℕ → List Entry → List ℕ → Type 0
-GoesOnIndexing p es opens next next_opens = (text : List ℕ) (at : ℕ) → tokens_at text at ≡ tokens_by text (Some p) → IsIndexedTo text at es opens → IsIndexedTo text p.span.end next next_opens
+GoesOnIndexing p es opens next next_opens = (text : List ℕ) (at : ℕ) → at ≡ p.span.start → tokens_at text at ≡ tokens_by text (Some p) → IsIndexedTo text at es opens → IsIndexedTo text p.span.end next next_opens

@@ -3,3 +3,4 @@ pub mod Refused
 pub mod Places
 pub mod Kept
 pub mod Index
+pub mod Positions

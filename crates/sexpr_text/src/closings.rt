@@ -21,8 +21,8 @@ impl Marks {
         next_piece(source, place.at)
     }
 
-    // Where the token with a number stands, or `None` past the last.
-    fn place_of(&self, source: &[u8], i: u32) -> Option<Place>
+    /// Where the token with a number stands, or `None` past the last.
+    pub fn place_of(&self, source: &[u8], i: u32) -> Option<Place>
         requires read { IsReadFrom source.now self.now }
         ensures place { MatchOption result (token_count source.now ≤ i) (IsPlace source.now i) }
     {

@@ -81,7 +81,7 @@ impl Index {
         }
     }
 
-    fn entry(&self, i: u32) -> Option<Entry>
+    pub fn entry(&self, i: u32) -> Option<Entry>
         ensures entry { result ≡ slice_get self.now.entries.items i }
     {
         self.entries.get(i as usize).copied()

@@ -1,16 +1,18 @@
-ghost use Rattle.std.specs.Prelude.{◌≡◌, ◌≤◌, ◌<◌, ◌↔◌, length, slice_get, IfOk, IfErr, IfSome, IsSome};
+ghost use Rattle.std.specs.Prelude.{◌≡◌, ◌≤◌, ◌<◌, ◌+◌, ◌↔◌, length, slice_get, IfOk, IfErr, IfSome, IsSome};
 ghost use Rattle.std.specs.Option.{option_map};
 ghost use Rattle.text_forms.specs.Closing.{close_at, OpensList};
 ghost use Rattle.text_forms.specs.Faults.{IsFaultless};
 ghost use Rattle.text_forms.specs.Tokens.{tokens, token_count};
+ghost use Rattle.sexpr_text.specs.Positions.{IsPosition, IsPositionOf, IsBehindList, EndsList};
 ghost use Rattle.sexpr_text.specs.Refused.{IsRefusal};
 ghost use Rattle.sexpr_text.specs.Seen.{bytes_at, piece_seen, token_seen};
 
 use crate::faults::first_fault;
 use crate::index::{Index, index_of};
 use crate::marks::{Marks, marks_of};
+use crate::positions::{self, Position};
 use crate::read_error::ReadError;
-use crate::tokens::{Piece, Token};
+use crate::tokens::{Kind, Piece, Token, next_piece};
 use htn_base::{Memory, Span};
 use std::alloc::Global;
 use std::marker::Model;
@@ -40,7 +42,8 @@ impl<'a> Model for Sexprs<'a> {
     ghost invariant = { λ s. IsKeptOf s.source.now s.kept };
 }
 
-/// Cuts a text of at most 16,777,216 bytes into its tokens. `file` is its place among the command's inputs.
+/// Cuts a text of at most 16,777,216 bytes into its tokens. `file` is its place among the command's inputs. It keeps 8 bytes
+/// for every eighth token: for a text whose tokens are read one after another, or that is long.
 /// `Bad` has the least fault by offset, then code: a bad byte (1), a list without an end (2), a `)` while no
 /// list is open (3), a `(` while 200 lists are open (4).
 pub fn read<'a>(alloc: Global, source: &'a [u8], file: u8) -> Result<Sexprs<'a>, ReadError>
@@ -59,7 +62,7 @@ pub fn read<'a>(alloc: Global, source: &'a [u8], file: u8) -> Result<Sexprs<'a>,
 }
 
 /// The same with an index: 8 bytes for each token, and `token` and `close_of` look up what they answer. For a text whose
-/// tokens are asked for more than once.
+/// tokens are asked for by their numbers, and that is short enough for an index of some three times its length.
 pub fn read_with_index<'a>(
     alloc: Global,
     source: &'a [u8],
@@ -129,6 +132,83 @@ impl<'a> Sexprs<'a> {
             Kept::Marks(marks) => marks.closing_of(self.source, i),
             Kept::Index(index) => index.closing_of(self.source, i),
         }
+    }
+
+    /// The position of token `i`, from which on tokens are read one after another.
+    pub fn position(&self, i: u32) -> Position
+        ensures position { IsPositionOf self.now i result }
+    {
+        match &self.kept {
+            Kept::Marks(marks) => match marks.place_of(self.source, i) {
+                Some(place) => Position {
+                    token: i,
+                    at: place.at,
+                },
+                None => self.past(i),
+            },
+            Kept::Index(index) => match index.entry(i) {
+                Some(entry) => Position {
+                    token: i,
+                    at: entry.at,
+                },
+                None => self.past(i),
+            },
+        }
+    }
+
+    // The position of a number that no token has.
+    fn past(&self, i: u32) -> Position
+        requires none { token_count self.now ≤ i }
+        ensures position { IsPositionOf self.now i result }
+    {
+        Position {
+            token: i,
+            at: self.source.len() as u32,
+        }
+    }
+
+    /// The token at a position, and the position of the next one; or `None` past the last.
+    pub fn token_from(&self, p: Position) -> Option<(Token<'a>, Position)>
+        requires position { IsPosition self.now p }
+        ensures token { option_map (λ x. token_seen x.0) result
+            ≡ slice_get (tokens self.now) p.token }
+        ensures word { IfSome result (λ x. x.0.word.now ≡ bytes_at self.now x.0.span) }
+        ensures next { IfSome result (λ x. IsPositionOf self.now (p.token + 1) x.1) }
+    {
+        let piece = next_piece(self.source, p.at)?;
+        let token = Token {
+            kind: piece.kind,
+            word: part(self.source, piece.span),
+            span: piece.span,
+        };
+        let next = Position {
+            token: p.token + 1,
+            at: piece.span.end,
+        };
+        Some((token, next))
+    }
+
+    /// The position of the first token in the list that the token at a position opens, and of the one behind that list;
+    /// or `None` where the token opens none.
+    pub fn list_from(&self, p: Position) -> Option<(Position, Position)>
+        requires position { IsPosition self.now p }
+        ensures inside { IfSome result (λ x. IsPositionOf self.now (p.token + 1) x.0) }
+        ensures behind { IfSome result (λ x. IsBehindList self.now p.token x.1) }
+        ensures opens { IsSome result ↔ OpensList self.now p.token }
+    {
+        let (token, inside) = self.token_from(p)?;
+        match token.kind {
+            Kind::Start => Some((inside, self.list_end(inside)?)),
+            _ => None,
+        }
+    }
+
+    /// The position behind the list in which the token at a position comes first, in a text that is read never `None`.
+    pub fn list_end(&self, inside: Position) -> Option<Position>
+        requires position { IsPosition self.now inside }
+        ensures end { EndsList self.now inside result }
+    {
+        positions::list_end(self.source, inside)
     }
 
     fn piece(&self, i: u32) -> Option<Piece>
