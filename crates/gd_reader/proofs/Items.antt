@@ -5,6 +5,8 @@ use Rattle.std.proofs.lemmas.List.{drop-map}
 use Rattle.htn_base.specs.Words.{folded}
 use Rattle.sexpr_text.specs.declared.tokens.Kind.TheVariants.{Start, Stop, Word}
 use Rattle.sexpr_text.specs.declared.tokens.Token.{Token as Read}
+use Rattle.sexpr_text.specs.declared.positions.Position.{Position}
+use Rattle.sexpr_text.specs.Positions.{IsPositionOf, IsBehindList}
 use Rattle.sexpr_text.specs.Seen.{kind_seen, token_seen}
 use Rattle.text_forms.specs.Closing.{close_of, closings, flattened, close_at, OpensBy, OpensList}
 use Rattle.text_forms.specs.Laws.{ShowsToken, ShowsBy}
@@ -13,7 +15,9 @@ use Rattle.text_forms.specs.Tokens.{Kind, Token, tokens, token_count, lexeme, le
 use Rattle.text_forms.specs.Tokens as kinds
 use Rattle.text_forms.proofs.Shown.{shown, drop_get, closes_get}
 use Rattle.gd_reader.specs.declared.cursor.Item.TheVariants as items
+use Rattle.gd_reader.specs.declared.positions.ItemFrom.TheVariants as items_from
 use Rattle.gd_reader.specs.Shown.{IsList, Shows}
+use Rattle.gd_reader.specs.ShownFrom.{ShowsFrom}
 use Rattle.gd_reader.proofs.Adding.{says}
 use Rattle.gd_reader.proofs.Passing.{whole_levels}
 
@@ -66,10 +70,14 @@ module _ (text : List ℕ) (i : ℕ) (t : Read) (here : slice_get (tokens text) 
   pub shows_close : t.kind ≡ Stop → parts_at text i ≡ close t.span.start
   shows_close is = subst (λ k. ShowsToken text i (token_seen t) (kind_seen k)) is shows
 
+  word_parts : t.kind ≡ Word → t.word.now ≡ slice_range text t.span.start t.span.end → parts_at text i ≡ placed_word t.span.start (folded t.word.now) (parts_at text (i + 1))
+  word_parts is letters =
+      let s : ShowsToken text i (token_seen t) kinds.word = subst (λ k. ShowsToken text i (token_seen t) (kind_seen k)) is shows in
+      subst (λ w. parts_at text i ≡ placed_word t.span.start (folded w) (parts_at text (i + 1))) (sym letters) s
+
   pub shows_word : t.kind ≡ Word → t.word.now ≡ slice_range text t.span.start t.span.end → token_count text < 2 ^ 32 → Shows text i (items.Word t.span.start t.word)
   shows_word is letters few =
-      let s : ShowsToken text i (token_seen t) kinds.word = subst (λ k. ShowsToken text i (token_seen t) (kind_seen k)) is shows in
-      let parts : parts_at text i ≡ placed_word t.span.start (folded t.word.now) (parts_at text (i + 1)) = subst (λ w. parts_at text i ≡ placed_word t.span.start (folded w) (parts_at text (i + 1))) (sym letters) s in
+      let parts = word_parts is letters in
       record {
         parts = parts;
         within = within;
@@ -94,6 +102,30 @@ module _ (text : List ℕ) (i : ℕ) (t : Read) (here : slice_get (tokens text) 
         next = refl;
       }
 
+  pub opens_list : t.kind ≡ Start → OpensList text i
+  opens_list is = subst OpensBy (sym here) (ap kind_seen is)
+
+  -- the same, where the tokens have positions
+  pub shows_word_from : t.kind ≡ Word → t.word.now ≡ slice_range text t.span.start t.span.end → (next : Position) → IsPositionOf text (i + 1) next
+      → ShowsFrom text i (items_from.Word t.span.start t.word next)
+  shows_word_from is letters next h =
+      let parts = word_parts is letters in
+      record {
+        parts = parts ∙ ap (λ k. placed_word t.span.start (folded t.word.now) (parts_at text k)) (sym h.number);
+        within = within;
+        said = says text i t.span.start (folded t.word.now) (parts_at text (i + 1)) parts;
+        position = h;
+      }
+
+  pub shows_list_from : t.kind ≡ Start → (inside behind : Position) → IsPositionOf text (i + 1) inside → IsBehindList text i behind
+      → ShowsFrom text i (items_from.List t.span.start inside behind)
+  shows_list_from is inside behind f b = record {
+    list = subst (λ j. IsList text i t.span.start j behind.token) (sym f.number)
+        (subst (IsList text i t.span.start (i + 1)) (sym b.behind.number) (shows_list is b.closing b.closed));
+    first = f.position;
+    next = b.behind.position;
+  }
+
   -- an opening parenthesis has a closing one
   pub never : (o : Option ℕ) → t.kind ≡ Start → o ≡ None → IsSome o ↔ OpensList text i → Shows text i items.End
-  never o is e opens = let none : IsSome {T = ℕ} None = subst IsSome e (opens.1 (subst OpensBy (sym here) (ap kind_seen is))) in cc
+  never o is e opens = let none : IsSome {T = ℕ} None = subst IsSome e (opens.1 (opens_list is)) in cc

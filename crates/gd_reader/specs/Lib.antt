@@ -3,6 +3,7 @@ pub mod Words
 pub mod Answers
 pub mod Ends
 pub mod Shown
+pub mod ShownFrom
 pub mod Terms
 pub mod Added
 pub mod Cuts

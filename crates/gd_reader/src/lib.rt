@@ -6,9 +6,9 @@
 //! first token with which the tokens no longer begin the form; old names keep their numbers, and each further
 //! one is of a word of the text, on an error too.
 //!
-//! A reader of forms that hold these stands on the steps too: what stands at a token (`cursor`), words,
-//! terms and atoms, typed lists, and what stands in the parentheses of a formula or an effect. A step
-//! answers what its definition answers of the tokens from `i` on, or where it stops.
+//! A reader of forms that hold these stands on the steps too: what stands at a token (`cursor`) or at
+//! a position (`positions`), words, terms and atoms, typed lists, and what stands in the parentheses of a formula
+//! or an effect. A step answers what its definition answers of the tokens from `i` on, or where it stops.
 #![tactic(auto)]
 
 mod cursor;
@@ -16,6 +16,7 @@ mod effects;
 mod formulas;
 mod kind;
 mod laws;
+mod positions;
 mod raw_facts;
 mod raw_params;
 mod raw_types;
@@ -29,6 +30,7 @@ pub use cursor::{Item, end_due, item_at, list_due, list_or_end, pass, word_due, 
 pub use effects::{RawEffect, effect_inside_of};
 pub use formulas::{RawFormula, inside_of};
 pub use laws::at_most_one_word_is_added_for_each_token;
+pub use positions::{ItemFrom, item_from, list_or_end_from, word_due_from, word_or_end_from};
 pub use raw_facts::{RawFact, RawFacts};
 pub use raw_params::RawParams;
 pub use raw_types::RawTypes;
