@@ -1,6 +1,7 @@
 ghost use Rattle.std.specs.Option.{option_map};
 ghost use Rattle.htn_base.specs.Words.{folded};
 ghost use Rattle.text_forms.specs.Placed.{parts_at};
+ghost use Rattle.sexpr_text.specs.Positions.{IsPosition};
 ghost use Rattle.gd_reader.specs.Added.{AddsOf};
 ghost use Rattle.gd_reader.specs.Answers.{Gives, GivesWith};
 ghost use Rattle.gd_reader.specs.Terms.{Keeps};
@@ -8,10 +9,11 @@ ghost use Rattle.hddl_reader.specs.Sections.{words, dropped_name, used_names, as
 
 use gd_reader::{
     Failure, Item, RawFacts, RawFormula, RawTerm, Sort, Stop, end_due, inside_of, is_word, item_at,
-    list_due, list_or_end, marked_used_of, pass, sort_of, word_due, word_or_end,
+    list_due, list_or_end_from, marked_used_of, pass, sort_of, word_due, word_due_from,
+    word_or_end_from,
 };
 use htn_base::{Marks, NameTable};
-use sexpr_text::Sexprs;
+use sexpr_text::{Position, Sexprs};
 use std::alloc::Global;
 
 /// Passes over words from token `i` up to the end of their list.
@@ -41,25 +43,26 @@ pub(crate) fn dropped_name(s: &Sexprs<'_>, i: u32) -> Result<(), Failure>
     }
 }
 
-// Names that are used, from token `i` up to the end of their list. They come in the place of those that `used` had.
+// Names that are used, from a position up to the end of their list. They come in the place of those that `used` had.
 #[tactic(auto, using(gd_reader::proofs::Keeping::keeps_same, gd_reader::proofs::Keeping::keeps_then))]
 fn used_names_of(
     s: &Sexprs<'_>,
-    mut i: u32,
+    mut p: Position,
     names: &mut NameTable,
     marks: &mut Marks,
     used: &mut Vec<RawTerm>,
 ) -> Result<(), Failure>
+    requires position { IsPosition s.now p }
     ensures keeps { Keeps names.old names.new }
     ensures adds { AddsOf s.now names.old names.new }
     ensures gives { Gives (λ _. (used.new.items, names.new)) result
-        (used_names names.old (parts_at s.now i)) }
+        (used_names names.old (parts_at s.now p.token)) }
 {
     used.clear();
-    while let Some((at, word, behind)) = word_or_end(s, i)? {
+    while let Some((at, word, next)) = word_or_end_from(s, p)? {
         let name = marked_used_of(names, at, word, marks)?;
         used.push(name)?;
-        i = behind;
+        p = next;
     }
     Ok(())
 }
@@ -80,23 +83,24 @@ fn assignment(s: &Sexprs<'_>, i: u32) -> Result<(), Failure>
 #[tactic(auto, unfolding(crate::specs::Sections::fact), using(gd_reader::proofs::Keeping::keeps_same, gd_reader::proofs::Keeping::keeps_then))]
 fn fact_of(
     s: &Sexprs<'_>,
-    i: u32,
+    p: Position,
     names: &mut NameTable,
     marks: &mut Marks,
     args: &mut Vec<RawTerm>,
 ) -> Result<Option<RawTerm>, Failure>
+    requires position { IsPosition s.now p }
     ensures keeps { Keeps names.old names.new }
     ensures adds { AddsOf s.now names.old names.new }
     ensures gives { Gives (λ head. (option_map (applied_to args.new.items) head, names.new)) result
-        (fact names.old (parts_at s.now i)) }
+        (fact names.old (parts_at s.now p.token)) }
 {
-    let (at, word, i) = word_due(s, i)?;
+    let (at, word, next) = word_due_from(s, p)?;
     if is_word(word, b"=") {
-        assignment(s, i)?;
+        assignment(s, next.token)?;
         Ok(None)
     } else {
         let head = marked_used_of(names, at, word, marks)?;
-        used_names_of(s, i, names, marks, args)?;
+        used_names_of(s, next, names, marks, args)?;
         Ok(Some(head))
     }
 }
@@ -104,12 +108,13 @@ fn fact_of(
 // The fewest tokens of an atom: its two parentheses and its head.
 const FEWEST_TOKENS: usize = 3;
 
-/// The atoms of `:init` from token `i` up to the end of the section.
+/// The atoms of `:init` from token `i` up to the end of the section. They are read by positions, and only an assignment by
+/// the numbers of its tokens.
 #[tactic(auto, using(gd_reader::proofs::Keeping::keeps_same, gd_reader::proofs::Keeping::keeps_then))]
 pub(crate) fn facts_of(
     alloc: Global,
     s: &Sexprs<'_>,
-    mut i: u32,
+    i: u32,
     names: &mut NameTable,
 ) -> Result<RawFacts, Failure>
     ensures keeps { Keeps names.old names.new }
@@ -121,11 +126,12 @@ pub(crate) fn facts_of(
     let mut facts = RawFacts::with_room(alloc, tokens / FEWEST_TOKENS, tokens)?;
     let mut marks = Marks::new(alloc)?;
     let mut args = Vec::new(alloc);
-    while let Some((inside, behind)) = list_or_end(s, i)? {
+    let mut p = s.position(i);
+    while let Some((inside, behind)) = list_or_end_from(s, p)? {
         if let Some(head) = fact_of(s, inside, names, &mut marks, &mut args)? {
             facts.push(head, args.as_slice())?;
         }
-        i = behind;
+        p = behind;
     }
     Ok(facts)
 }

@@ -3,12 +3,31 @@ ghost use Rattle.htn_base.specs.Different.{AreDifferent};
 ghost use Rattle.text_forms.specs.Faults.{IsFaultless};
 ghost use Rattle.form_grammar.specs.Sections as grammar;
 ghost use Rattle.gd_reader.specs.Terms.{Keeps};
+ghost use Rattle.sexpr_text.specs.Refused.{IsRefusal};
 ghost use Rattle.hddl_values.specs.Reading.{ReadsDomain, ReadsProblem, RefusesForm};
 
 use hddl_reader::{Language, RawDomain, RawProblem, domain, problem};
 use htn_base::NameTable;
-use sexpr_text::{ReadError, Sexprs, read_with_index};
+use sexpr_text::{ReadError, Sexprs, read, read_with_index};
 use std::alloc::Global;
+
+// A text of at most so many bytes is read with an index of its tokens. That takes 8 bytes a token, some three times the
+// length of the text, so of a longer one only the place of every eighth token is kept: most of it are facts, which are
+// read from first to last.
+const MOST_BYTES_WITH_INDEX: usize = 1_048_576;
+
+fn tokens_of<'a>(alloc: Global, text: &'a [u8], file: u8) -> Result<Sexprs<'a>, ReadError>
+    requires short { length text.now ≤ 16777216 }
+    ensures text { IfOk result (λ s. s ≡ text.now) }
+    ensures faultless { IfOk result (λ _. IsFaultless text.now) }
+    ensures refused { IfErr result (IsRefusal text.now file) }
+{
+    if text.len() <= MOST_BYTES_WITH_INDEX {
+        read_with_index(alloc, text, file)
+    } else {
+        read(alloc, text, file)
+    }
+}
 
 /// The domain as it is written, or its fault of tokens or of form.
 pub(crate) fn read_domain(
@@ -24,7 +43,7 @@ pub(crate) fn read_domain(
     ensures few { OnOk result (length names.new ≤ length names.old + length text.now) }
     ensures keeps { OnOk result (Keeps names.old names.new) }
 {
-    match read_with_index(alloc, text, 0) {
+    match tokens_of(alloc, text, 0) {
         Ok(s) => domain_of(alloc, language, &s, names),
         Err(error) => Err(error),
     }
@@ -62,7 +81,7 @@ pub(crate) fn read_problem(
     ensures few { OnOk result (length names.new ≤ length names.old + length text.now) }
     ensures keeps { OnOk result (Keeps names.old names.new) }
 {
-    match read_with_index(alloc, text, 1) {
+    match tokens_of(alloc, text, 1) {
         Ok(s) => problem_of(alloc, language, &s, names),
         Err(error) => Err(error),
     }

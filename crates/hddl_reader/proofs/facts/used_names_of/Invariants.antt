@@ -1,6 +1,7 @@
 use Rattle.std.proofs.Common.{◌≡◌, ◌-◌}
 use Rattle.text_forms.specs.Placed.{parts_at}
 use Rattle.text_forms.specs.Tokens.{token_count}
+use Rattle.sexpr_text.specs.Positions.{IsPosition}
 use Rattle.gd_reader.specs.Added.{AddsOf}
 use Rattle.gd_reader.specs.Answers.{with_front}
 use Rattle.gd_reader.specs.Terms.{Keeps}
@@ -9,10 +10,11 @@ use Rattle.hddl_reader.proofs.facts.used_names_of.Given as goal
 
 abbrev pub invariant-loop-at : goal.invariant-loop-at
 invariant-loop-at l = record {
+  here : IsPosition l.s l.p;
   keeps : Keeps l.initial.names l.names;
   adds : AddsOf l.s l.initial.names l.names;
-  rest : with_front l.used.items (used_names l.names (parts_at l.s l.i)) ≡ used_names l.initial.names (parts_at l.s l.initial.i);
+  rest : with_front l.used.items (used_names l.names (parts_at l.s l.p.token)) ≡ used_names l.initial.names (parts_at l.s l.initial.p.token);
 }
 
 abbrev pub decreases-loop-at : goal.decreases-loop-at
-decreases-loop-at l = token_count l.s - l.i
+decreases-loop-at l = token_count l.s - l.p.token
