@@ -7,8 +7,8 @@ ghost use Rattle.gd_reader.specs.Ends.{end_of};
 ghost use Rattle.gd_reader.specs.Terms.{Keeps};
 ghost use Rattle.gd_reader.specs.TypedLists.{declares, variable_by, param_due, listed, hyphen_due, is_parameters, are_variables};
 
-use crate::cursor::word_or_end;
 use crate::kind::kind_of;
+use crate::positions::word_or_end_from;
 use crate::raw_params::RawParams;
 use crate::raw_types::RawTypes;
 use crate::stop::{Failure, Stop};
@@ -157,12 +157,13 @@ fn is_hyphen_due(pending: &List<RawParam>, word: &[u8]) -> bool
     }
 }
 
-/// A typed list from token `i` up to its end, and the number of the token that closes it.
+/// A typed list from token `i` up to its end, and the number of the token that closes it. Its words are read by positions,
+/// and the types by the numbers of their tokens.
 #[tactic(auto, using(crate::proofs::Keeping::keeps_same, crate::proofs::Keeping::keeps_then))]
 pub fn params_of(
     alloc: Global,
     s: &Sexprs<'_>,
-    mut i: u32,
+    i: u32,
     kind: ListKind,
     names: &mut NameTable,
 ) -> Result<(RawParams, u32), Failure>
@@ -175,20 +176,21 @@ pub fn params_of(
     let mut seen = NameTable::new(alloc);
     let mut done = RawParams::new(alloc);
     let mut pending = List::new(alloc);
-    while let Some((at, word, behind)) = word_or_end(s, i)? {
+    let mut p = s.position(i);
+    while let Some((at, word, next)) = word_or_end_from(s, p)? {
         if is_hyphen_due(&pending, word) {
-            let (ty, next) = kind_of(alloc, s, behind, kind, names)?;
+            let (ty, behind) = kind_of(alloc, s, next.token, kind, names)?;
             let types = RawTypes::new(alloc, ty)?;
             done = done.with_words(&pending, types)?;
             pending = List::new(alloc);
-            i = next;
+            p = s.position(behind);
         } else {
             let param = param_of(kind, names, &mut seen, at, word)?;
             pending.push(param)?;
-            i = behind;
+            p = next;
         }
     }
     drop(seen);
     let done = done.with_words(&pending, RawTypes::none())?;
-    Ok((done, i))
+    Ok((done, p.token))
 }
