@@ -1,13 +1,13 @@
 -- What is added to a name table, word by word.
-use Rattle.std.proofs.Common.{◌≡◌, ℕ, zero, suc, ◌≤◌, ◌<◌, ◌+◌, true, false, Bool, if◌then◌else◌, List, [], ◌∷◌, ◌++◌, drop, length, map, All, Contains, refl, sym, ap, subst, arith}
-use Rattle.std.proofs.lemmas.List.Elements.{All-append, All-nil, All-cons, All-contains, All-contains_itself, Contains-append_left, Contains-append_right}
+use Rattle.std.proofs.Common.{◌≡◌, ℕ, zero, suc, true, false, Bool, if◌then◌else◌, List, [], ◌∷◌, ◌++◌, drop, All, Contains, refl, ap, subst, arith}
+use Rattle.std.proofs.lemmas.List.Elements.{All-append, All-nil, All-cons, All-contains}
 use Rattle.std.specs.List.{list_any}
 use Rattle.std.specs.Str.{bytes_eq}
 use Rattle.htn_base.specs.Table.{with_word}
-use Rattle.text_forms.specs.Placed.{Placed, cut, close, word, list, level, parts_at}
+use Rattle.text_forms.specs.Placed.{Placed, word, level, parts_at}
 use Rattle.text_forms.specs.Tokens.{Lexeme, opens, closes, spells, lexemes}
 use Rattle.text_forms.specs.Words.{Word}
-use Rattle.gd_reader.specs.Added.{Has, HasAll, AddsWord, Says, bare, bare_by, bare_words, words_in}
+use Rattle.gd_reader.specs.Added.{Has, HasAll, Says, bare, bare_by, bare_words, words_in}
 use Rattle.gd_reader.specs.Terms.{Names}
 use Rattle.gd_reader.specs.Words.{sort_of, head_of, plain_by, effect_head_of, plain_effect_by}
 use Rattle.gd_reader.specs.declared.words.EffectHead.TheVariants as effect

@@ -1,5 +1,5 @@
 -- How many words are added to a name table.
-use Rattle.std.proofs.Common.{◌≡◌, ℕ, ◌≤◌, ◌+◌, List, [], ◌∷◌, ◌++◌, length, map, All, Contains, ap, ◌∙◌, arith}
+use Rattle.std.proofs.Common.{◌≡◌, ◌≤◌, List, [], ◌∷◌, ◌++◌, length, All, Contains, arith}
 use Rattle.std.proofs.lemmas.List.{length-append, length-map}
 use Rattle.std.proofs.lemmas.List.Elements.{All-weaker, All-contains, All-contains_itself, Contains-append_left, Contains-append_right}
 use Rattle.std.proofs.lemmas.Map.Made.{length-le_from_is_member, IsDistinct-from_AllPairs}
@@ -8,8 +8,7 @@ use Rattle.std.proofs.lemmas.Slice.Eq.{bytes_eq-Decides}
 use Rattle.std.specs.Cmp.Lexicographic.{nat_list_eq_equiv}
 use Rattle.htn_base.proofs.DifferentLemmas.{different-places}
 use Rattle.text_forms.specs.Tokens.{Lexeme, opens, closes, spells, tokens, token_count, lexeme, lexemes}
-use Rattle.gd_reader.specs.Added.{HasAll, AddsOf, AtMostOneForEachToken, bare, bare_words, words_in}
-use Rattle.gd_reader.specs.Terms.{Names}
+use Rattle.gd_reader.specs.Added.{HasAll, AtMostOneForEachToken, bare_words, words_in}
 
 few_words : (ts : List Lexeme) → length (bare_words ts) ≤ length ts
 few_words [] = omega arith

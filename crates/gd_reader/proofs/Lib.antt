@@ -8,7 +8,7 @@ pub mod Steps
 pub mod EffectSteps
 pub mod ListSteps
 pub mod Marking
-pub mod Cutting
+pub mod Coding
 pub mod UnionSteps
 pub mod Exact
 pub mod TermExact

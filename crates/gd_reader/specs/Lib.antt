@@ -6,7 +6,7 @@ pub mod Shown
 pub mod ShownFrom
 pub mod Terms
 pub mod Added
-pub mod Cuts
+pub mod RawRows
 pub mod TypedLists
 pub mod TypedAsBefore
 pub mod Formulas

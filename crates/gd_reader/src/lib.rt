@@ -31,7 +31,7 @@ pub use effects::{RawEffect, effect_inside_of};
 pub use formulas::{RawFormula, inside_of};
 pub use laws::at_most_one_word_is_added_for_each_token;
 pub use positions::{ItemFrom, item_from, list_or_end_from, word_due_from, word_or_end_from};
-pub use raw_facts::{RawFact, RawFacts};
+pub use raw_facts::RawFacts;
 pub use raw_params::RawParams;
 pub use raw_types::RawTypes;
 pub use reading::{Got, effect, formula, refusal, typed_list};
