@@ -1,11 +1,12 @@
 ghost use Rattle.std.specs.Prelude.{◌≡◌, ◌<◌, ◌^◌, [], ◌∷◌, ◌++◌, cond, IfOk, OnOk};
+ghost use Rattle.plan_model.specs.Facts.{atom_of};
 ghost use Rattle.plan_model.specs.Numbers as spec;
 ghost use Rattle.plan_meaning.specs.Compilation.{once};
 ghost use Rattle.slot_encoding.specs.EncodedValue.{same_atom};
 ghost use Rattle.slot_encoder.specs.SeenFacts.{Meets};
 
 use htn_base::Memory;
-use plan_model::{Fact, Facts};
+use plan_model::Facts;
 use std::alloc::Global;
 use std::collections::HashSet;
 
@@ -24,20 +25,22 @@ pub(crate) fn push_single(
         numbers: HashSet::new(alloc),
         keys: HashSet::new(alloc),
     };
+    let mut args = Vec::new(alloc);
     for i in 0..facts.len() {
         if let Some(fact) = facts.get(i) {
-            let new = seen.insert(alloc, &fact)?;
-            push_new(new, &fact, into)?;
+            fact.args.copy_into(&mut args)?;
+            let new = seen.insert(alloc, fact.predicate, args.as_slice())?;
+            push_new(new, fact.predicate, args.as_slice(), into)?;
         }
     }
     Ok(())
 }
 
-fn push_new(new: bool, fact: &Fact<'_>, into: &mut Facts) -> Result<(), Memory>
-    ensures { OnOk result (into.new ≡ into.old ++ cond new (fact.now ∷ []) []) }
+fn push_new(new: bool, predicate: u32, args: &[u32], into: &mut Facts) -> Result<(), Memory>
+    ensures { OnOk result (into.new ≡ into.old ++ cond new (atom_of predicate args.now ∷ []) []) }
 {
     if new {
-        into.push(fact.predicate, fact.args)
+        into.push(predicate, args)
     } else {
         Ok(())
     }
@@ -53,25 +56,25 @@ pub struct Seen {
 
 impl Seen {
     /// Puts a fact to the others, and tells whether it is new.
-    fn insert(&mut self, alloc: Global, fact: &Fact<'_>) -> Result<bool, Memory>
-        ensures { IfOk result (Meets self.old fact.now self.new) }
+    fn insert(&mut self, alloc: Global, predicate: u32, args: &[u32]) -> Result<bool, Memory>
+        ensures { IfOk result (Meets self.old (atom_of predicate args.now) self.new) }
     {
-        match number_of(fact, self.most) {
+        match number_of(predicate, args, self.most) {
             Some(number) => Ok(self.numbers.insert(number)?),
-            None => Ok(self.keys.insert(key(alloc, fact)?)?),
+            None => Ok(self.keys.insert(key(alloc, predicate, args)?)?),
         }
     }
 }
 
 /// The number of the fact, where it has one: facts with numbers have different ones.
-fn number_of(fact: &Fact<'_>, most: u32) -> Option<u64>
-    ensures { result ≡ spec.number most (2 ^ 64) (fact.now.predicate ∷ fact.now.args) }
+fn number_of(predicate: u32, args: &[u32], most: u32) -> Option<u64>
+    ensures { result ≡ spec.number most (2 ^ 64) (predicate ∷ args.now) }
 {
     let mut number = 1;
-    for i in (0..fact.args.len()).rev() {
-        number = with_digit(number, fact.args[i], most)?;
+    for i in (0..args.len()).rev() {
+        number = with_digit(number, args[i], most)?;
     }
-    with_digit(number, fact.predicate, most)
+    with_digit(number, predicate, most)
 }
 
 fn with_digit(number: u64, digit: u32, most: u32) -> Option<u64>
@@ -85,11 +88,11 @@ fn with_digit(number: u64, digit: u32, most: u32) -> Option<u64>
 }
 
 /// What tells a fact from others: its predicate and its objects, in one list.
-fn key(alloc: Global, fact: &Fact<'_>) -> Result<Vec<u32>, Memory>
-    ensures { IfOk result (λ key. key.items ≡ fact.now.predicate ∷ fact.now.args) }
+fn key(alloc: Global, predicate: u32, args: &[u32]) -> Result<Vec<u32>, Memory>
+    ensures { IfOk result (λ key. key.items ≡ predicate ∷ args.now) }
 {
-    let mut key = Vec::with_capacity(alloc, fact.args.len() + 1)?;
-    key.push(fact.predicate)?;
-    key.extend_from_slice(fact.args)?;
+    let mut key = Vec::with_capacity(alloc, args.len() + 1)?;
+    key.push(predicate)?;
+    key.extend_from_slice(args)?;
     Ok(key)
 }

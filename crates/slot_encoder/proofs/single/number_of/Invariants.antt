@@ -4,4 +4,4 @@ use Rattle.slot_encoder.proofs.single.number_of.Given as goal
 
 -- the number of the objects from here on
 abbrev pub invariant-loop-i : goal.invariant-loop-i
-invariant-loop-i l = number l.most (2 ^ 64) (drop l.i l.fact.args) ≡ Some l.number
+invariant-loop-i l = number l.most (2 ^ 64) (drop l.i l.args) ≡ Some l.number

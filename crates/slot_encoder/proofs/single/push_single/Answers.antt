@@ -1,13 +1,14 @@
-use Rattle.std.proofs.Common.{rules, ◌≡◌, ◌+◌, ◌++◌, ◌∷◌, [], ◌<◌, ◌≤◌, List, length, take, refl, subst, sym, ap, ◌∙◌}
+use Rattle.std.proofs.Common.{rules, cond, ◌≡◌, ◌+◌, ◌++◌, ◌∷◌, [], ◌<◌, ◌≤◌, List, length, take, refl, subst, sym, ap, ◌∙◌}
 use Rattle.std.proofs.lemmas.List.{take_all, take_more}
 use Rattle.plan_model.specs.declared.terms.GroundAtom.{GroundAtom}
+use Rattle.plan_model.specs.Facts.{atom_of}
 use Rattle.plan_model.proofs.ReadAt.{read_is, none_read}
 use Rattle.plan_meaning.specs.Compilation.{once}
 use Rattle.slot_encoding.specs.EncodedValue.{same_atom}
-use Rattle.slot_encoder.specs.SeenFacts.{HasMet, is_among}
+use Rattle.slot_encoder.specs.SeenFacts.{HasMet, Meets, is_among}
 use Rattle.slot_encoder.proofs.SingleAtoms.{single_next}
 use Rattle.slot_encoder.proofs.single.push_single.Goals as goal
-use Rattle.slot_encoder.proofs.single.push_single.Goals.{in-Some+in_ok-new+in_ok-push_new, in_default}
+use Rattle.slot_encoder.proofs.single.push_single.Goals.{in-Some+in_ok-copy_into+in_ok-new+in_ok-push_new, in_default}
 
 pub loop-i-preserved : goal.loop-i-preserved
 loop-i-preserved c =
@@ -15,14 +16,23 @@ loop-i-preserved c =
     let i = c.loop-i.i in
     let within = subst (λ n. i < n) c.len-i-end.ensures.length c.loop-i-test.true in
     elim c.match-get.branch [
-      | in-Some+in_ok-new+in_ok-push_new w ↦
+      | in-Some+in_ok-copy_into+in_ok-new+in_ok-push_new w ↦
           let x = w.in-Some.fact in
           let is = read_is xs i c.get.result c.get.ensures.fact x w.in-Some.is in
-          let met = w.in_ok-new.ensures (take i xs) c.loop-i.invariant.seen in
+          let of = atom_of w.fact.inside.predicate in
+          let copied = w.in_ok-copy_into.ensures.copied in
+          let asked : of w.as_slice.result.now ≡ x = ap of (w.as_slice.ensures.value ∙ copied) ∙ w.fact.view_is in
+          let put : of w.as_slice-in-Some.result.now ≡ x = ap of (w.as_slice-in-Some.ensures.value ∙ copied) ∙ w.fact.view_is in
+          let meets = subst (λ a. Meets c.loop-i.seen a w.insert.new.self w.in_ok-new.new) asked w.in_ok-new.ensures in
+          let met = meets (take i xs) c.loop-i.invariant.seen in
+          let pushed =
+              subst (λ a. w.push_new.new.into ≡ c.loop-i.into ++ cond w.in_ok-new.new (a ∷ []) []) put w.in_ok-push_new.ensures in
           let more : take i xs ++ x ∷ [] ≡ take (i + 1) xs = ap (λ y. take i xs ++ y ∷ []) is ∙ sym (take_more xs i x within) in
           record {
             seen = rw w.seen-is (subst (HasMet w.insert.new.self) more met.1);
-            into = w.into-is ∙ single_next xs i x within is c.args.into.now c.loop-i.into w.push_new.new.into (is_among x (take i xs)) w.in_ok-new.new c.loop-i.invariant.into refl met.0 w.in_ok-push_new.ensures;
+            into =
+                w.into-is ∙ single_next xs i x within is c.args.into.now c.loop-i.into w.push_new.new.into (is_among x (take i xs))
+                    w.in_ok-new.new c.loop-i.invariant.into refl met.0 pushed;
           }
       | in_default w ↦ absurd (none_read xs i c.get.result c.get.ensures.fact within w.in_default.is)
     ]
