@@ -5,16 +5,19 @@ ghost use Rattle.sheets.specs.Sheets.{Wrote};
 
 use crate::batch::Batch;
 use crate::words::{object_word, predicate_word};
+use htn_base::PackedPart;
 use plan_model::{Fact, Facts, Pddl};
 use sheets::Sheet;
 
 /// Adds the words of objects to a batch, each behind a space.
-fn add_objects(p: &Pddl, objects: &[u32], batch: &mut Batch, sheet: &mut Sheet<'_>)
+fn add_objects(p: &Pddl, objects: &PackedPart<'_>, batch: &mut Batch, sheet: &mut Sheet<'_>)
     ensures { Added (args_text p.now objects.now) batch.old batch.new sheet.old sheet.new }
 {
-    for object in objects {
-        batch.add(b" ", sheet);
-        batch.add(object_word(p, *object as usize), sheet);
+    for j in 0..objects.len() {
+        if let Some(object) = objects.get(j) {
+            batch.add(b" ", sheet);
+            batch.add(object_word(p, object as usize), sheet);
+        }
     }
 }
 
@@ -24,7 +27,7 @@ fn add_fact(p: &Pddl, fact: &Fact<'_>, batch: &mut Batch, sheet: &mut Sheet<'_>)
 {
     batch.add(b" (", sheet);
     batch.add(predicate_word(p, fact.predicate), sheet);
-    add_objects(p, fact.args, batch, sheet);
+    add_objects(p, &fact.args, batch, sheet);
     batch.add(b")", sheet);
 }
 

@@ -11,7 +11,7 @@ pub returns : goal.returns
 returns c =
     let words = pddl_words c.args.p.now in
     let inside = c.fact.inside in
-    rw (← c.fact.view_is) (added-headed (word_at words.predicates inside.predicate) (all_parts (map (term_part words []) (map (λ x. Obj x) inside.args.now)))
+    rw (← c.fact.view_is) (added-headed (word_at words.predicates inside.predicate) (all_parts (map (term_part words []) (map (λ x. Obj x) inside.args)))
     (added-then c.add.ensures (added-as c.predicate_word.ensures c.add-2.ensures))
     c.add_objects.ensures
     c.add-3.ensures)
