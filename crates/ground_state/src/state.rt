@@ -48,9 +48,11 @@ impl State {
             crowded: false,
             touched: AtomLists::new(alloc),
         };
+        let mut args = Vec::new(alloc);
         for i in 0..atoms.len() {
             if let Some(atom) = atoms.get(i) {
-                state.insert(alloc, atom.predicate, atom.args, true)?;
+                atom.args.copy_into(&mut args)?;
+                state.insert(alloc, atom.predicate, args.as_slice(), true)?;
             }
         }
         Ok(state)
@@ -213,8 +215,10 @@ fn greatest(atoms: &Facts) -> u32 {
     let mut most = 0;
     for i in 0..atoms.len() {
         if let Some(atom) = atoms.get(i) {
-            for object in atom.args {
-                most = most.max(*object);
+            for j in 0..atom.args.len() {
+                if let Some(object) = atom.args.get(j) {
+                    most = most.max(object);
+                }
             }
         }
     }
