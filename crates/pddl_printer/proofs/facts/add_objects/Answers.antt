@@ -1,7 +1,8 @@
-use Rattle.std.proofs.Common.{[], ◌<◌, refl, subst, rules}
+use Rattle.std.proofs.Common.{ℕ, List, [], ◌<◌, refl, subst, rules}
 use Rattle.plan_texts.specs.SpellsPddl.{pddl_words}
 use Rattle.plan_texts.specs.Printed.{term_part}
 use Rattle.plan_model.specs.declared.terms.Term.TheVariants.{Obj}
+use Rattle.plan_model.specs.declared.values.Pddl.{Pddl}
 use Rattle.plan_model.proofs.ReadAt.{read_is, none_read}
 use Rattle.pddl_printer.specs.Behind.{behind}
 use Rattle.pddl_printer.proofs.Batches.{added-as, added-then, each-added, each-added-all}
@@ -9,13 +10,16 @@ use Rattle.pddl_printer.proofs.Each.{behind-each-made}
 use Rattle.pddl_printer.proofs.facts.add_objects.Goals as goal
 use Rattle.pddl_printer.proofs.facts.add_objects.Goals.{in-Some, in_default}
 
+abbrev object_text : Pddl → ℕ → List ℕ
+object_text p o = behind (term_part (pddl_words p) [] (Obj o))
+
 pub loop-j-preserved : goal.loop-j-preserved
 loop-j-preserved c =
     let objects = c.args.objects.now in
     let j = c.loop-j.j in
     let within = subst (λ n. j < n) c.len-j-end.ensures.length c.loop-j-test.true in
     elim c.match-get.branch [
-      | in-Some w ↦ rw (w.batch-is, w.sheet-is) (each-added (λ o. behind (term_part (pddl_words c.args.p.now) [] (Obj o))) objects j w.in-Some.object within
+      | in-Some w ↦ rw (w.batch-is, w.sheet-is) (each-added (object_text c.args.p.now) objects j w.in-Some.object within
           (read_is objects j c.get.result c.get.ensures.number w.in-Some.object w.in-Some.is) c.loop-j.invariant
           (added-then w.add.ensures (added-as w.object_word.ensures w.add-in-Some.ensures)))
       | in_default w ↦ absurd (none_read objects j c.get.result c.get.ensures.number within w.in_default.is)
@@ -24,4 +28,4 @@ loop-j-preserved c =
 pub returns : goal.returns
 returns c =
     added-as (behind-each-made (term_part (pddl_words c.args.p.now) []) (λ x. Obj x) c.args.objects.now)
-    (each-added-all (λ o. behind (term_part (pddl_words c.args.p.now) [] (Obj o))) c.args.objects.now c.loop-j.j (search rules) refl c.loop-j.invariant)
+    (each-added-all (object_text c.args.p.now) c.args.objects.now c.loop-j.j (search rules) refl c.loop-j.invariant)

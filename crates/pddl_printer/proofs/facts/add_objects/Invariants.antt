@@ -7,4 +7,5 @@ use Rattle.pddl_printer.specs.Batches.{Added}
 use Rattle.pddl_printer.proofs.facts.add_objects.Given as goal
 
 abbrev pub invariant-loop-j : goal.invariant-loop-j
-invariant-loop-j l = Added (of_each (λ o. behind (term_part (pddl_words l.p) [] (Obj o))) (take l.j l.objects)) l.fn.batch l.batch l.fn.sheet l.sheet
+invariant-loop-j l =
+    Added (of_each (λ o. behind (term_part (pddl_words l.p) [] (Obj o))) (take l.j l.objects)) l.fn.batch l.batch l.fn.sheet l.sheet
