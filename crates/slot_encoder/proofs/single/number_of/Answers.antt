@@ -1,4 +1,4 @@
-use Rattle.std.proofs.Common.{◌-◌, ◌<◌, ◌≤◌, ◌^◌, length, ap, refl, ◌∙◌, arith}
+use Rattle.std.proofs.Common.{◌<◌, ◌≤◌, ◌^◌, length, ap, refl, ◌∙◌, arith}
 use Rattle.std.specs.Option.{option_and_then}
 use Rattle.plan_model.specs.Numbers.{with_digit}
 use Rattle.plan_model.proofs.NumberLaws.{ends_there}

@@ -26,13 +26,13 @@ loop-i-preserved c =
           let meets = subst (λ a. Meets c.loop-i.seen a w.insert.new.self w.in_ok-new.new) asked w.in_ok-new.ensures in
           let met = meets (take i xs) c.loop-i.invariant.seen in
           let pushed =
-              subst (λ a. w.push_new.new.into ≡ c.loop-i.into ++ cond w.in_ok-new.new (a ∷ []) []) put w.in_ok-push_new.ensures in
+          subst (λ a. w.push_new.new.into ≡ c.loop-i.into ++ cond w.in_ok-new.new (a ∷ []) []) put w.in_ok-push_new.ensures in
           let more : take i xs ++ x ∷ [] ≡ take (i + 1) xs = ap (λ y. take i xs ++ y ∷ []) is ∙ sym (take_more xs i x within) in
           record {
             seen = rw w.seen-is (subst (HasMet w.insert.new.self) more met.1);
             into =
                 w.into-is ∙ single_next xs i x within is c.args.into.now c.loop-i.into w.push_new.new.into (is_among x (take i xs))
-                    w.in_ok-new.new c.loop-i.invariant.into refl met.0 pushed;
+                w.in_ok-new.new c.loop-i.invariant.into refl met.0 pushed;
           }
       | in_default w ↦ absurd (none_read xs i c.get.result c.get.ensures.fact within w.in_default.is)
     ]
