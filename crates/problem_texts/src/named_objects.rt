@@ -2,6 +2,7 @@ ghost use Rattle.std.specs.Prelude.{ℕ, ◌≡◌, map};
 ghost use Rattle.encoded_texts.specs.NamedObjects as spec;
 ghost use Rattle.encoded_texts.specs.NamedObjects.{greatest};
 
+use htn_base::PackedPart;
 use plan_model::{
     ActionSchema, Child, Compiled, Constraint, Effect, Facts, Formula, Guard, MethodPlan, Term,
 };
@@ -26,6 +27,19 @@ fn named_by_all<T: NamesObjects>(items: &[T]) -> u64
     most
 }
 
+/// The same of objects.
+fn named_by_objects(objects: &PackedPart<'_>) -> u64
+    ensures { result ≡ greatest (map spec.of_object objects.now) }
+{
+    let mut most: u64 = 0;
+    for j in 0..objects.len() {
+        if let Some(object) = objects.get(j) {
+            most = most.max(u64::from(object) + 1);
+        }
+    }
+    most
+}
+
 /// The same of all facts.
 fn named_by_facts(facts: &Facts) -> u64
     ensures { result ≡ greatest (map spec.of_fact facts.now) }
@@ -33,7 +47,7 @@ fn named_by_facts(facts: &Facts) -> u64
     let mut most: u64 = 0;
     for i in 0..facts.len() {
         if let Some(fact) = facts.get(i) {
-            most = most.max(named_by_all(fact.args));
+            most = most.max(named_by_objects(&fact.args));
         }
     }
     most
@@ -58,14 +72,6 @@ impl NamesObjects for Term {
             Term::Var(_) => 0,
             Term::Obj(object) => u64::from(*object) + 1,
         }
-    }
-}
-
-impl NamesObjects for u32 {
-    ghost named = { spec.of_object };
-
-    fn named(&self) -> u64 {
-        u64::from(*self) + 1
     }
 }
 

@@ -16,7 +16,8 @@ loop-i-preserved c =
           let x = w.in-Some.fact in
           let next = greatest-next of_fact facts i x within (read_is facts i c.get.result c.get.ensures.fact x w.in-Some.is) in
           let before = c.loop-i.invariant in
-          let it : w.named_by_all.result ≡ of_fact x = w.named_by_all.ensures ∙ ap (λ (g : GroundAtom). greatest (map of_object g.args)) w.fact.view_is in
+          let it : w.named_by_objects.result ≡ of_fact x =
+          w.named_by_objects.ensures ∙ ap (λ (g : GroundAtom). greatest (map of_object g.args)) w.fact.view_is in
           let most = w.max-most.ensures in
           let is = w.most-is in
           omega (arith, next, before, it, most, is)

@@ -1,0 +1,6 @@
+use Rattle.std.proofs.Common.{◌≡◌, map, take}
+use Rattle.encoded_texts.specs.NamedObjects.{greatest, of_object}
+use Rattle.problem_texts.proofs.named_objects.named_by_objects.Given as goal
+
+abbrev pub invariant-loop-j : goal.invariant-loop-j
+invariant-loop-j l = l.most ≡ greatest (map of_object (take l.j l.objects))
