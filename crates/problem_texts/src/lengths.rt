@@ -13,7 +13,7 @@ use crate::named_objects::named_objects;
 use crate::pages::Pages;
 use crate::printing::Sizes;
 use htn_base::{Memory, Text};
-use plan_model::{Compiled, Style};
+use plan_model::{Compiled, Hddl, Style};
 use sheets::Ended;
 use slot_encoder::Encoding;
 use std::alloc::Global;
@@ -31,14 +31,34 @@ pub fn sizes(alloc: Global, c: &Compiled, slots: u32, style: &Style) -> Result<S
     }
 }
 
-/// Whether there are so many times more slots than names and facts of the source, which names no slot.
+/// Whether there are so many times more slots than names and facts of the source, than parts of what it declares, and than parts of
+/// its schemas and its goal, and it names no slot.
 pub(crate) fn grows_evenly(c: &Compiled, slots: u32, times: usize) -> bool
     ensures { OnTrue result (GrowsEvenly c.now slots) }
 {
-    let own = c.hddl.names.len().saturating_add(c.hddl.init.len());
-    slots > 10
-        && slots as usize > own.saturating_mul(times)
-        && named_objects(c) <= c.hddl.objects.len() as u64
+    let names = c.hddl.names.len().saturating_add(c.hddl.init.len());
+    let own = names.saturating_add(declared_parts(&c.hddl));
+    if slots <= 10 || slots as usize <= own.saturating_mul(times) {
+        return false;
+    }
+    let mut passed: u64 = 0;
+    let named = named_objects(c, &mut passed);
+    u64::from(slots) > passed.saturating_mul(times as u64) && named <= c.hddl.objects.len() as u64
+}
+
+/// How many parents and members of unions are written, and parameters of predicates and tasks.
+fn declared_parts(h: &Hddl) -> usize {
+    let mut parts = h.types.parents.len();
+    for union in h.types.unions.as_slice() {
+        parts = parts.saturating_add(union.len());
+    }
+    for predicate in h.predicates.as_slice() {
+        parts = parts.saturating_add(predicate.params.len());
+    }
+    for task in h.tasks.as_slice() {
+        parts = parts.saturating_add(task.params.len());
+    }
+    parts
 }
 
 /// Those with one slot, with two and with ten tell all.

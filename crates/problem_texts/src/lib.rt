@@ -6,7 +6,7 @@
 //! The law behind that: the printed problem in style flat is the one in style adl with the slots written out (`flat_is_written_out`).
 //! The lengths with many slots are worked out from those with one slot, two and ten, by the law of `encoded_texts` on how the texts grow,
 //! which holds where the source names no object past its own; so `sizes` takes no more time for more slots, and a text that is too long is
-//! refused before it is made. Where the source's names and facts are not few beside the slots, all is counted as it is printed.
+//! refused before it is made. Where what the source writes is not little beside the slots, all is counted as it is printed.
 //! The contract used above: `texts_of` gives the two texts of an encoded value that has all its words and can be printed wherever the
 //! problem is sound, if neither is longer than the limit; else the length of the first that is, which is that of each encoded value.
 #![tactic(auto)]

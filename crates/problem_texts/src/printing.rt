@@ -58,8 +58,8 @@ pub fn texts_of(
     }
 }
 
-/// The length of the first text that is longer than the limit, where it is known before anything is printed: of many slots beside the
-/// names and facts of the source, so that this takes little of the time of printing.
+/// The length of the first text that is longer than the limit, where it is known before anything is printed: of 32 times more slots
+/// than what the source writes, so that this takes little of the time of printing.
 fn known_too_long(
     alloc: Global,
     c: &Compiled,
