@@ -35,7 +35,9 @@ fn facts(rt: HostRuntime) -> Result<(), Fail> {
     assert_eq!(rt; facts.len(), 2);
     assert!(rt;
         match facts.get(1) {
-            Some(fact) => fact.predicate == 8 && fact.args == [6].as_slice(),
+            Some(fact) => {
+                fact.predicate == 8 && fact.args.len() == 1 && fact.args.get(0) == Some(6)
+            }
             None => false,
         }
     );
