@@ -1,11 +1,11 @@
 -- Words by their first letters.
-use Rattle.std.proofs.Common.{◌≡◌, ℕ, ◌<◌, ◌≤◌, ◌==◌, ◌&&◌, Bool, true, false, not, if◌then◌else◌, length, get_or, drop, List, [], ◌∷◌, refl, arith}
+use Rattle.std.proofs.Common.{◌≡◌, ℕ, ◌<◌, ◌≤◌, ◌==◌, ◌&&◌, ◌||◌, Bool, true, false, not, if◌then◌else◌, length, get_or, drop, List, [], ◌∷◌, refl, sym, arith}
 use Rattle.std.specs.Char.{to_ascii_lowercase}
 use Rattle.htn_base.specs.Words.{folded, is_reserved}
 use Rattle.text_forms.specs.Words.{Word, is_name}
 use Rattle.gd_reader.specs.declared.words.Sort.TheVariants.{Variable, Name, Other}
 use Rattle.gd_reader.specs.TermGrammar.{is_name_sort}
-use Rattle.gd_reader.specs.Words.{sort_of, sort_of_one, sort_of_more}
+use Rattle.gd_reader.specs.Words.{sort_of, sort_of_one, sort_of_more, begins_reserved}
 
 pub sort_len0 : (w : List ℕ) → length w < 1 → sort_of (folded w) ≡ Other
 unfolding sort_of
@@ -43,3 +43,29 @@ name_test (b ∷ c ∷ w) = two (b == 63) (not (b == 58) && not (is_reserved (b 
     two true y = refl
     two false true = refl
     two false false = refl
+
+pub kept_len0 : (w : List ℕ) → length w < 1 → is_reserved (folded w) ≡ false
+kept_len0 [] h = refl
+kept_len0 (b ∷ w) h = absurd (omega arith)
+
+or-false : (x : Bool) {y : Bool} → x || y ≡ false → (x ≡ false) × (y ≡ false)
+or-false true e = absurd (cc e)
+or-false false e = (refl, e)
+
+-- a word that begins with another letter is not reserved
+not_reserved : (b : ℕ) (w : List ℕ) → begins_reserved b ≡ false → is_reserved (b ∷ w) ≡ false
+not_reserved b w none =
+    let e0 = or-false (b == 45) none in
+    let e1 = or-false (b == 60) e0.1 in
+    let e2 = or-false (b == 61) e1.1 in
+    let e3 = or-false (b == 97) e2.1 in
+    let e4 = or-false (b == 101) e3.1 in
+    let e5 = or-false (b == 102) e4.1 in
+    let e6 = or-false (b == 105) e5.1 in
+    let e7 = or-false (b == 110) e6.1 in
+    let e8 = or-false (b == 111) e7.1 in
+    rw (e0.0, e1.0, e2.0, e3.0, e4.0, e5.0, e6.0, e7.0, e8.0, e8.1) refl
+
+pub kept_by_first : (w : List ℕ) → 1 ≤ length w → begins_reserved (to_ascii_lowercase (get_or w 0 0)) ≡ false → is_reserved (folded w) ≡ false
+kept_by_first [] h none = absurd (omega arith)
+kept_by_first (b ∷ w) h none = not_reserved (to_ascii_lowercase b) (folded w) none

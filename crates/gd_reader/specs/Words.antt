@@ -1,6 +1,6 @@
 -- What a word is by its letters, and what it begins at the front of a list. Words are in lower case here.
 -- Source: appendix A (grammar) of Fox and Long, "PDDL2.1", JAIR 20, 2003, level 1.
-use Rattle.std.specs.Prelude.{ℕ, Bool, not, ◌&&◌, ◌==◌, if◌then◌else◌, [], ◌∷◌, codes}
+use Rattle.std.specs.Prelude.{ℕ, Bool, not, ◌&&◌, ◌||◌, ◌==◌, if◌then◌else◌, [], ◌∷◌, codes}
 use Rattle.std.specs.Str.{bytes_eq}
 use Rattle.htn_base.specs.Words.{is_reserved}
 use Rattle.text_forms.specs.Words.{Word}
@@ -23,6 +23,10 @@ abbrev pub sort_by : Word → Bool → Sort
 sort_by [] reserved = Other
 sort_by (b ∷ []) reserved = sort_of_one b reserved
 sort_by (b ∷ c ∷ w) reserved = sort_of_more b reserved
+
+-- a letter with which some reserved word begins
+abbrev pub begins_reserved : ℕ → Bool
+begins_reserved b = b == 45 || (b == 60 || (b == 61 || (b == 97 || (b == 101 || (b == 102 || (b == 105 || (b == 110 || (b == 111 || b == 119))))))))
 
 -- a variable is a question mark and one or more letters; a name starts with neither ? nor : and isn't reserved
 unfoldable pub sort_of : Word → Sort

@@ -1,7 +1,8 @@
 ghost use Rattle.std.specs.Prelude.{◌≡◌, drop};
 ghost use Rattle.std.specs.Str.{bytes_eq};
 ghost use Rattle.htn_base.specs.Words.{folded};
-ghost use Rattle.gd_reader.specs.Words.{head_of, effect_head_of, sort_of, sort_of_one, sort_of_more, is_hyphen, is_either};
+ghost use Rattle.htn_base.specs.Words.{is_reserved};
+ghost use Rattle.gd_reader.specs.Words.{head_of, effect_head_of, sort_of, sort_of_one, sort_of_more, is_hyphen, is_either, begins_reserved};
 
 use htn_base::is_reserved_in_any_case;
 
@@ -51,12 +52,38 @@ pub fn is_word(word: &[u8], key: &[u8]) -> bool
 pub fn sort_of(w: &[u8]) -> Sort
     ensures sort { result ≡ sort_of (folded w.now) }
 {
-    let reserved = is_reserved_in_any_case(w);
+    let reserved = is_reserved_word(w);
     match w {
         [] => Sort::Other,
         [b] => sort_of_one(b.to_ascii_lowercase(), reserved),
         [b, _, ..] => sort_of_more(b.to_ascii_lowercase(), reserved),
     }
+}
+
+// Whether a word is reserved, in any case of its letters. Most words begin with a letter that begins no such word.
+fn is_reserved_word(w: &[u8]) -> bool
+    ensures { result ≡ is_reserved (folded w.now) }
+{
+    match w {
+        [] => false,
+        [b, ..] => begins_reserved(b.to_ascii_lowercase()) && is_reserved_in_any_case(w),
+    }
+}
+
+// Whether some reserved word begins with the letter.
+fn begins_reserved(b: u8) -> bool
+    ensures { result ≡ begins_reserved b }
+{
+    b == b'-'
+        || b == b'<'
+        || b == b'='
+        || b == b'a'
+        || b == b'e'
+        || b == b'f'
+        || b == b'i'
+        || b == b'n'
+        || b == b'o'
+        || b == b'w'
 }
 
 fn sort_of_one(b: u8, reserved: bool) -> Sort
