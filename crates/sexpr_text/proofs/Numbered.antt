@@ -1,5 +1,6 @@
 -- Tokens by their numbers: places, marks, and closing tokens.
-use Rattle.std.proofs.Common.{◌≡◌, ℕ, zero, suc, ◌+◌, ◌-◌, ◌*◌, ◌%◌, ◌<◌, ◌≤◌, length, drop, Option, Some, None, List, [], ◌∷◌, ◌++◌, refl, sym, ap, ◌∙◌, subst, arith}
+use Rattle.std.proofs.Common.{◌≡◌, ℕ, zero, suc, ◌+◌, ◌-◌, ◌*◌, ◌%◌, ◌<◌, ◌≤◌, ◌⊎◌, inl, inr, length, drop, Option, Some, None, List, [], ◌∷◌, ◌++◌, refl, sym, ap, ◌∙◌, subst, arith}
+use Rattle.std.proofs.Math.Nat.{le-suc_iff}
 use Rattle.std.proofs.lemmas.List.{length-append, drop-drop}
 use Rattle.std.proofs.lemmas.Nat.{div-add-mod'}
 use Rattle.std.proofs.lemmas.Option.{slice_get_past}
@@ -9,11 +10,12 @@ use Rattle.text_forms.specs.Closing.{close_by, close_after, close_of, closings, 
 use Rattle.text_forms.specs.Tokens.{Kind, start, stop, word, Token, tokens, token_count}
 use Rattle.text_forms.proofs.Lists.{few_tokens}
 use Rattle.text_forms.proofs.Shown.{closes_get}
+use Rattle.sexpr_text.specs.declared.marks.Marks.{Marks}
 use Rattle.sexpr_text.specs.declared.marks.Place.{Place}
 use Rattle.sexpr_text.specs.declared.tokens.Kind.{Kind as Kinds}
 use Rattle.sexpr_text.specs.declared.tokens.Kind.TheVariants.{Start, Stop, Word}
 use Rattle.sexpr_text.specs.declared.tokens.Piece.{Piece}
-use Rattle.sexpr_text.specs.Places.{tokens_at, tokens_by, deeper, depth_at, IsPlace, AreMarks, IsFarther}
+use Rattle.sexpr_text.specs.Places.{tokens_at, tokens_by, deeper, depth_at, IsPlace, StayOpen, AreMarks, IsFarther}
 use Rattle.sexpr_text.specs.Seen.{kind_seen, piece_seen}
 
 -- the first of what is left of a list
@@ -76,26 +78,53 @@ pushed P (a ∷ xs) x h at zero y e = h zero y e
 pushed P (a ∷ xs) x h at (suc k) y e = pushed (λ n. P (suc n)) xs x (λ n. h (suc n)) at k y e
 
 -- one token more, which is marked where its number is an eighth one
-pub marks_more : (text : List ℕ) (n : ℕ) (ps : List Place) (p : Place) → n % 8 ≡ 0 → IsPlace text n p → AreMarks text n ps → AreMarks text (n + 1) (ps ++ p ∷ [])
-marks_more text n ps p e i m =
-    let enough = m.enough in
-    let few = m.few in
-    let number : n ≡ length ps * 8 = omega (arith, div-add-mod' n 8) in
-    record {
-      places = pushed (λ k q. IsPlace text (k * 8) q) ps p m.places (subst (λ k. IsPlace text k p) number i);
-      enough = omega (arith, length-append ps (p ∷ []));
-      few = omega (arith, length-append ps (p ∷ []));
-    }
+module _ (text : List ℕ) (old new : Marks) (p q : Place) (here : IsPlace text old.count p) (behind : IsPlace text (old.count + 1) q) (m : AreMarks text old) (one : new.count ≡ old.count + 1) where
+  pub marks_more : (lists : ℕ) → old.count % 8 ≡ 0 → new.places.items ≡ old.places.items ++ p ∷ [] → new.least.items ≡ old.least.items ++ lists ∷ [] → lists ≤ old.low → new.low ≡ q.depth → AreMarks text new
+  marks_more lists e places least le low =
+      let enough = m.enough in
+      let few = m.few in
+      let as_many = m.as_many in
+      let number : old.count ≡ length old.places.items * 8 = omega (arith, div-add-mod' old.count 8) in
+      let longer : length new.places.items ≡ length old.places.items + 1 = ap length places ∙ length-append old.places.items (p ∷ []) in
+      let longer_too : length new.least.items ≡ length old.least.items + 1 = ap length least ∙ length-append old.least.items (lists ∷ []) in
+      record {
+        places = λ k r s. pushed (λ k q. IsPlace text (k * 8) q) old.places.items p m.places (subst (λ k. IsPlace text k p) number here) k r (sym (ap (λ ps. slice_get ps k) places) ∙ s);
+        least = λ k n s.
+            pushed (λ k n. StayOpen text n (k * 8) (k * 8)) old.least.items lists m.least
+            (λ i le_i near. let low = m.low i (omega (arith, le_i)) (omega (arith, near)) in omega (arith, low)) k n (sym (ap (λ ns. slice_get ns k) least) ∙ s);
+        low = λ i le_i near.
+            let last : i ≡ old.count + 1 = omega (arith, le_i, near) in
+            subst (λ n. n ≤ depth_at i 0 (tokens text)) (sym low) (subst (λ k. q.depth ≤ depth_at k 0 (tokens text)) (sym last) (let deep = behind.depth in omega arith));
+        as_many = omega arith;
+        enough = omega arith;
+        few = omega arith;
+      }
 
-pub marks_as_before : (text : List ℕ) (n : ℕ) (ps : List Place) → (n % 8 ≡ 0 → ⊥) → AreMarks text n ps → AreMarks text (n + 1) ps
-marks_as_before text n ps e m =
-    let enough = m.enough in
-    let few = m.few in
-    record { places = m.places; enough = enough_by (n % 8) refl; few = omega arith }
-  where
-    enough_by : (r : ℕ) → n % 8 ≡ r → n + 1 ≤ length ps * 8
-    enough_by zero z = absurd (e z)
-    enough_by (suc r) z = let enough = m.enough in omega (arith, div-add-mod' n 8)
+  pub marks_as_before : (old.count % 8 ≡ 0 → ⊥) → new.places.items ≡ old.places.items → new.least.items ≡ old.least.items → new.low ≤ old.low → new.low ≤ q.depth → AreMarks text new
+  marks_as_before e places least low deeper =
+      let few = m.few in
+      let as_many = m.as_many in
+      let as_long : length new.places.items ≡ length old.places.items = ap length places in
+      let as_long_too : length new.least.items ≡ length old.least.items = ap length least in
+      record {
+        places = λ k r s. m.places k r (sym (ap (λ ps. slice_get ps k) places) ∙ s);
+        least = λ k n s. m.least k n (sym (ap (λ ns. slice_get ns k) least) ∙ s);
+        low = λ i le near. low_by i (omega (arith, near, as_long)) (le-suc_iff.0 (omega (arith, le)));
+        as_many = omega arith;
+        enough = omega (arith, enough_by (old.count % 8) refl);
+        few = omega arith;
+      }
+    where
+      enough_by : (r : ℕ) → old.count % 8 ≡ r → old.count + 1 ≤ length old.places.items * 8
+      enough_by zero z = absurd (e z)
+      enough_by (suc r) z = let enough = m.enough in omega (arith, div-add-mod' old.count 8)
+
+      low_by : (i : ℕ) → length old.places.items * 8 < i + 8 → (i ≤ old.count) ⊎ (i ≡ suc old.count) → new.low ≤ depth_at i 0 (tokens text)
+      low_by i near (inl le) = let before = m.low i le near in omega (arith, low, before)
+      low_by i near (inr is) =
+          let last : old.count + 1 ≡ i = omega arith in
+          let deep = behind.depth in
+          subst (λ k. new.low ≤ depth_at k 0 (tokens text)) last (omega (arith, deeper, deep))
 
 -- no token past the end closes one
 pub close_past : (ts : List Token) (j i : ℕ) → length ts ≤ i → flattened (slice_get (closings j ts) i) ≡ None
@@ -103,29 +132,22 @@ close_past [] j i le = refl
 close_past (a ∷ ts) j zero le = absurd (omega arith)
 close_past (a ∷ ts) j (suc i) le = close_past ts (j + 1) i (omega (arith, le))
 
--- over a token that doesn't close so many lists
-over_by : (k : Kind) (n e base : ℕ) → suc n ≤ e → (f : ℕ) × (n ≤ f) × (deeper k (e + base) ≡ f + base) × ((j : ℕ) (next : ℕ → Option ℕ) → close_by k e j next ≡ next f)
-over_by start n e base l = (suc e, omega arith, omega arith, λ j next. refl)
-over_by stop n zero base l = absurd (omega arith)
-over_by stop n (suc e) base l = (e, omega arith, let one : suc e + base ≡ suc (e + base) = omega arith in ap (deeper stop) one, λ j next. refl)
-over_by word n e base l = (e, omega arith, refl, λ j next. refl)
-
--- over as many tokens as lists are open at the least
-over : (n e base j : ℕ) (ts : List Token) → n ≤ e → (f : ℕ) × (depth_at n (e + base) ts ≡ f + base) × (close_after e j ts ≡ close_after f (j + n) (drop n ts))
-over zero e base j ts l = let at : j ≡ j + 0 = omega arith in (e, refl, ap (λ k. close_after e k ts) at)
-over (suc n) e base j [] l = (e, refl, refl)
-over (suc n) e base j (t ∷ ts) l =
-    let s = over_by t.kind n e base l in
-    let r = over n s.0 base (j + 1) ts s.1 in
-    let at : j + 1 + n ≡ j + suc n = omega arith in
-    (r.0, ap (λ d. depth_at n d ts) s.2 ∙ r.1, s.3 j (λ d. close_after d (j + 1) ts) ∙ r.2 ∙ ap (λ k. close_after r.0 k (drop n ts)) at)
-
 -- a list goes on behind a token that does not close it
 pub goes_on : (k : Kind) (depth base j : ℕ) (next : ℕ → Option ℕ) → 0 < base → base ≤ depth → base ≤ deeper k depth → close_by k (depth - base) j next ≡ next (deeper k depth - base)
 goes_on start depth base j next z l b = let one : suc (depth - base) ≡ suc depth - base = omega arith in ap next one
 goes_on stop zero base j next z l b = absurd (omega arith)
 goes_on stop (suc d) base j next z l b = let one : suc d - base ≡ suc (d - base) = omega arith in ap (λ n. close_by stop n j next) one
 goes_on word depth base j next z l b = refl
+
+-- over so many tokens, none of which closes it
+over : (n depth base j : ℕ) (ts : List Token) → 0 < base → ((m : ℕ) → m ≤ n → base ≤ depth_at m depth ts) → close_after (depth - base) j ts ≡ close_after (depth_at n depth ts - base) (j + n) (drop n ts)
+over zero depth base j ts z b = let at : j ≡ j + 0 = omega arith in ap (λ k. close_after (depth - base) k ts) at
+over (suc n) depth base j [] z b = refl
+over (suc n) depth base j (t ∷ ts) z b =
+    let at : j + 1 + n ≡ j + suc n = omega arith in
+    goes_on t.kind depth base j (λ d. close_after d (j + 1) ts) z (b 0 (omega arith)) (b 1 (omega arith))
+    ∙ over n (deeper t.kind depth) base (j + 1) ts z (λ m le. b (suc m) (omega (arith, le)))
+    ∙ ap (λ k. close_after (depth_at n (deeper t.kind depth) ts - base) k (drop n ts)) at
 
 depth_none : (n d : ℕ) → depth_at n d [] ≡ d
 depth_none zero d = refl
@@ -136,20 +158,35 @@ depth_sum zero m d ts = let none : 0 + m ≡ m = omega arith in ap (λ k. depth_
 depth_sum (suc n) m d [] = depth_none (suc n + m) d ∙ sym (depth_none m d)
 depth_sum (suc n) m d (t ∷ ts) = let one : suc n + m ≡ suc (n + m) = omega arith in ap (λ k. depth_at k d (t ∷ ts)) one ∙ depth_sum n m (deeper t.kind d) ts
 
--- the next mark
-pub farther_place : (text : List ℕ) (n i : ℕ) (ps : List Place) (q : Place) → AreMarks text n ps → IsFarther i ps q → IsPlace text (i + 8) q
-farther_place text n i ps q m f = let here = f.here in let at : (f.mark + 1) * 8 ≡ i + 8 = omega arith in subst (λ k. IsPlace text k q) at (m.places (f.mark + 1) q f.next)
+-- the next mark, up to which no token closes a list that is open in front of the tokens between
+module _ (text : List ℕ) (i base : ℕ) (m : Marks) (p q : Place) (marks : AreMarks text m) (f : IsFarther i base m q) where
+  pub farther_place : IsPlace text (i + 8) q
+  farther_place = let here = f.here in let at : (f.mark + 1) * 8 ≡ i + 8 = omega arith in subst (λ k. IsPlace text k q) at (marks.places (f.mark + 1) q f.next)
 
-pub over_marks : (text : List ℕ) (i base : ℕ) (p q : Place) → IsPlace text i p → IsPlace text (i + 8) q → base ≤ p.depth → 8 ≤ p.depth - base → (base ≤ q.depth) × (close_after (p.depth - base) i (tokens_at text p.at) ≡ close_after (q.depth - base) (i + 8) (tokens_at text q.at))
-over_marks text i base p q h b l more =
-    let all = tokens text in
-    let r = over 8 (p.depth - base) base i (tokens_at text p.at) more in
-    let whole : p.depth - base + base ≡ depth_at i 0 all = let same = h.depth in omega arith in
-    let deep : q.depth ≡ r.0 + base =
-    b.depth ∙ depth_sum i 8 0 all ∙ ap (λ d. depth_at 8 d (drop i all)) (sym whole) ∙ ap (depth_at 8 (p.depth - base + base)) h.here ∙ r.1 in
-    let left : r.0 ≡ q.depth - base = omega arith in
-    let rest : drop 8 (tokens_at text p.at) ≡ tokens_at text q.at = ap (drop 8) (sym h.here) ∙ drop-drop 8 i all ∙ b.here in
-    (omega arith, r.2 ∙ ap (λ d. close_after d (i + 8) (drop 8 (tokens_at text p.at))) left ∙ ap (close_after (q.depth - base) (i + 8)) rest)
+  stay_open : (n : ℕ) → 0 < n → n ≤ 8 → base ≤ depth_at (i + n) 0 (tokens text)
+  stay_open n more le =
+      let here = f.here in
+      let deep = f.deep in
+      let least = marks.least (f.mark + 1) f.lists f.least (i + n) (omega (arith, here, le)) (omega (arith, here, more)) in
+      omega (arith, deep, least)
+
+  pub over_marks : IsPlace text i p → 0 < base → base ≤ p.depth → (base ≤ q.depth) × (close_after (p.depth - base) i (tokens_at text p.at) ≡ close_after (q.depth - base) (i + 8) (tokens_at text q.at))
+  over_marks h z l =
+      let all = tokens text in
+      let b = farther_place in
+      let same : (n : ℕ) → depth_at (i + n) 0 all ≡ depth_at n p.depth (tokens_at text p.at) =
+      λ n. depth_sum i n 0 all ∙ ap (λ d. depth_at n d (drop i all)) (sym h.depth) ∙ ap (depth_at n p.depth) h.here in
+      let deep : q.depth ≡ depth_at 8 p.depth (tokens_at text p.at) = b.depth ∙ same 8 in
+      let rest : drop 8 (tokens_at text p.at) ≡ tokens_at text q.at = ap (drop 8) (sym h.here) ∙ drop-drop 8 i all ∙ b.here in
+      let last = stay_open 8 (omega arith) (omega arith) in (
+        let depth = b.depth in omega (arith, depth, last),
+        over 8 p.depth base i (tokens_at text p.at) z (deep_by same)
+            ∙ ap (λ d. close_after (d - base) (i + 8) (drop 8 (tokens_at text p.at))) (sym deep) ∙ ap (close_after (q.depth - base) (i + 8)) rest,
+      )
+    where
+      deep_by : ((n : ℕ) → depth_at (i + n) 0 (tokens text) ≡ depth_at n p.depth (tokens_at text p.at)) → (n : ℕ) → n ≤ 8 → base ≤ depth_at n p.depth (tokens_at text p.at)
+      deep_by same zero le = l
+      deep_by same (suc n) le = subst (λ d. base ≤ d) (same (suc n)) (stay_open (suc n) (omega arith) le)
 
 pub token_here : (text : List ℕ) (i at : ℕ) (p : Place) (t : Token) → IsPlace text i p → tokens_at text p.at ≡ t ∷ tokens_at text at → slice_get (tokens text) i ≡ Some t
 token_here text i at p t h e = (drop_next i (tokens text) (tokens_at text at) t (h.here ∙ e)).2

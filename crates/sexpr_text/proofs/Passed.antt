@@ -1,13 +1,15 @@
 -- What is passed over in a text, and what is known behind it.
-use Rattle.std.proofs.Common.{◌≡◌, ℕ, zero, suc, ◌+◌, ◌-◌, ◌≤◌, ◌<◌, Bool, true, false, length, get_or, Some, None, List, [], ◌∷◌, ◌++◌, refl, sym, ap, ◌∙◌, arith}
+use Rattle.std.proofs.Common.{◌≡◌, ℕ, zero, suc, ◌+◌, ◌-◌, ◌≤◌, ◌<◌, Bool, true, false, length, get_or, Some, None, Result, Ok, Err, IfOk, OnOk, List, [], ◌∷◌, ◌++◌, refl, sym, ap, ◌∙◌, subst, arith}
 use Rattle.std.proofs.lemmas.Bool.{eqb-true}
 use Rattle.std.specs.Prelude.{◌==◌}
 use Rattle.text_forms.specs.Bytes.{Class, blank, opening, closing, letter, class_of}
 use Rattle.text_forms.specs.Faults.{open_after, code_at}
 use Rattle.text_forms.specs.Least.{least, least_by, left_open}
 use Rattle.text_forms.specs.Tokens.{start, stop, word, token, tokens_from}
+use Rattle.sexpr_text.specs.declared.marks.Marks.{Marks}
 use Rattle.sexpr_text.specs.declared.marks.Place.{Place}
-use Rattle.sexpr_text.specs.Places.{classes_at, tokens_at, begun, deeper, IsPassed, AreMarks, IsAsDeep, IsReadTo}
+use Rattle.sexpr_text.specs.Kept.{GoesOnMarking}
+use Rattle.sexpr_text.specs.Places.{classes_at, tokens_at, begun, deeper, IsPassed, IsPlace, IsAsDeep, IsReadTo}
 use Rattle.sexpr_text.proofs.Depth.{classes_next}
 use Rattle.sexpr_text.proofs.Numbered.{place_next}
 
@@ -63,25 +65,31 @@ pub one_less : (d : ℕ) → d - 1 ≡ deeper stop d
 one_less zero = refl
 one_less (suc d) = omega arith
 
+-- what a call that hands the next place back tells where it has an answer
+pub marked : {A B E : Type 0} (text : List ℕ) (new : Marks) (q : Place) (r : Result Place E) → IfOk r (λ p. p ≡ q) → OnOk r A → OnOk r B → (A → B → IsReadTo text new q) → IfOk r (IsReadTo text new)
+marked text new q (Ok p) same a b read = subst (IsReadTo text new) (sym same) (read a b)
+marked text new q (Err e) same a b read = same
+
 -- what is known behind a token
-module _ (text : List ℕ) (n : ℕ) (ps qs : List Place) (p q : Place) (read : IsReadTo text n ps p) (marks : AreMarks text (n + 1) qs) where
-  pub read_opening : IsPassed text p.at q.at opening → ((opens : List ℕ) → length opens ≡ p.depth → code_at opens opening ≡ None) → q.depth ≡ p.depth + 1 → IsReadTo text (n + 1) qs q
-  read_opening s good e = record {
-    place = place_next text n p q (token start p.at q.at) read.place s.tokens s.within (omega arith);
-    marks = marks;
-    deep = deep_passed text p q opening s good (λ opens l. omega arith) read.deep;
+module _ (text : List ℕ) (old new : Marks) (p q : Place) (read : IsReadTo text old p) (one : new.count ≡ old.count + 1) (on : GoesOnMarking p q old new) where
+  read_on : IsPlace text (old.count + 1) q → IsAsDeep text q.depth q.at (classes_at text q.at) → IsReadTo text new q
+  read_on next deep = record {
+    place = subst (λ n. IsPlace text n q) (sym one) next;
+    marks = on text read.place next read.marks;
+    deep = deep;
   }
 
-  pub read_closing : IsPassed text p.at q.at closing → ((opens : List ℕ) → length opens ≡ p.depth → code_at opens closing ≡ None) → q.depth ≡ deeper stop p.depth → IsReadTo text (n + 1) qs q
-  read_closing s good e = record {
-    place = place_next text n p q (token stop p.at q.at) read.place s.tokens s.within e;
-    marks = marks;
-    deep = deep_passed text p q closing s good (λ opens l. closes_one opens p.at p.depth l ∙ sym e) read.deep;
-  }
+  pub read_opening : IsPassed text p.at q.at opening → ((opens : List ℕ) → length opens ≡ p.depth → code_at opens opening ≡ None) → q.depth ≡ p.depth + 1 → IsReadTo text new q
+  read_opening s good e = read_on
+      (place_next text old.count p q (token start p.at q.at) read.place s.tokens s.within (omega arith))
+      (deep_passed text p q opening s good (λ opens l. omega arith) read.deep)
 
-  pub read_word : IsPassed text p.at q.at letter → q.depth ≡ p.depth → IsReadTo text (n + 1) qs q
-  read_word s e = record {
-    place = place_next text n p q (token word p.at q.at) read.place s.tokens s.within e;
-    marks = marks;
-    deep = deep_passed text p q letter s (λ opens l. refl) (λ opens l. l ∙ sym e) read.deep;
-  }
+  pub read_closing : IsPassed text p.at q.at closing → ((opens : List ℕ) → length opens ≡ p.depth → code_at opens closing ≡ None) → q.depth ≡ deeper stop p.depth → IsReadTo text new q
+  read_closing s good e = read_on
+      (place_next text old.count p q (token stop p.at q.at) read.place s.tokens s.within e)
+      (deep_passed text p q closing s good (λ opens l. closes_one opens p.at p.depth l ∙ sym e) read.deep)
+
+  pub read_word : IsPassed text p.at q.at letter → q.depth ≡ p.depth → IsReadTo text new q
+  read_word s e = read_on
+      (place_next text old.count p q (token word p.at q.at) read.place s.tokens s.within e)
+      (deep_passed text p q letter s (λ opens l. refl) (λ opens l. l ∙ sym e) read.deep)

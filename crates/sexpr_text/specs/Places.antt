@@ -4,6 +4,7 @@ use Rattle.text_forms.specs.Bytes.{Class, blank, opening, closing, letter, bad, 
 use Rattle.text_forms.specs.Faults.{open_after, code_at}
 use Rattle.text_forms.specs.Least.{least, least_fault}
 use Rattle.text_forms.specs.Tokens.{Kind, start, stop, word, Token, token, tokens_from, tokens}
+use Rattle.sexpr_text.specs.declared.marks.Marks.{Marks}
 use Rattle.sexpr_text.specs.declared.marks.Place.{Place}
 use Rattle.sexpr_text.specs.declared.tokens.Piece.{Piece}
 use Rattle.sexpr_text.specs.Seen.{piece_seen}
@@ -79,11 +80,18 @@ pub record IsPlace (text : List ℕ) (n : ℕ) (p : Place) : Type 0 where
   pub here : drop n (tokens text) ≡ tokens_at text p.at
   pub depth : p.depth ≡ depth_at n 0 (tokens text)
 
--- the places of every eighth one of so many tokens
-pub record AreMarks (text : List ℕ) (count : ℕ) (ps : List Place) : Type 0 where
-  pub places : (k : ℕ) (p : Place) → slice_get ps k ≡ Some p → IsPlace text (k * 8) p
-  pub enough : count ≤ length ps * 8
-  pub few : length ps * 8 < count + 8
+-- At least so many lists are open in front of token n, and of each before it that stands less than eight tokens in front of a mark.
+abbrev pub StayOpen : List ℕ → ℕ → ℕ → ℕ → Type 0
+StayOpen text lists mark n = (i : ℕ) → i ≤ n → mark < i + 8 → lists ≤ depth_at i 0 (tokens text)
+
+-- Every eighth token is marked by its place, and by how many lists at least are open behind each token since the mark before.
+pub record AreMarks (text : List ℕ) (m : Marks) : Type 0 where
+  pub places : (k : ℕ) (p : Place) → slice_get m.places.items k ≡ Some p → IsPlace text (k * 8) p
+  pub least : (k lists : ℕ) → slice_get m.least.items k ≡ Some lists → StayOpen text lists (k * 8) (k * 8)
+  pub low : StayOpen text m.low (length m.places.items * 8) m.count
+  pub as_many : length m.least.items ≡ length m.places.items
+  pub enough : m.count ≤ length m.places.items * 8
+  pub few : length m.places.items * 8 < m.count + 8
 
 -- From a place on, where so many lists are open, the least fault is that of the text.
 pub record IsAsDeep (text : List ℕ) (depth at : ℕ) (cs : List Class) : Type 0 where
@@ -95,14 +103,17 @@ pub record IsAsDeep (text : List ℕ) (depth at : ℕ) (cs : List Class) : Type 
 abbrev pub IsGoodAt : ℕ → Class → Type 0
 IsGoodAt depth class = (opens : List ℕ) → length opens ≡ depth → code_at opens class ≡ None
 
--- A text has been read up to a place, in front of which it has no fault and so many tokens begin.
-pub record IsReadTo (text : List ℕ) (count : ℕ) (ps : List Place) (p : Place) : Type 0 where
-  pub place : IsPlace text count p
-  pub marks : AreMarks text count ps
+-- A text has been read up to a place, in front of which it has no fault and the tokens that are marked begin.
+pub record IsReadTo (text : List ℕ) (m : Marks) (p : Place) : Type 0 where
+  pub place : IsPlace text m.count p
+  pub marks : AreMarks text m
   pub deep : IsAsDeep text p.depth p.at (classes_at text p.at)
 
--- token i is an eighth one, and so is the one whose place this is, which comes next
-pub record IsFarther (i : ℕ) (ps : List Place) (p : Place) : Type 0 where
+-- Token i is marked, and the next mark has the place. At least so many lists are open behind each token from i up to there.
+pub record IsFarther (i depth : ℕ) (m : Marks) (p : Place) : Type 0 where
   pub mark : ℕ
   pub here : i ≡ mark * 8
-  pub next : slice_get ps (mark + 1) ≡ Some p
+  pub next : slice_get m.places.items (mark + 1) ≡ Some p
+  pub lists : ℕ
+  pub least : slice_get m.least.items (mark + 1) ≡ Some lists
+  pub deep : depth ≤ lists

@@ -68,7 +68,7 @@ impl Marks {
     {
         let depth = place.depth;
         while i < self.count {
-            if let Some(farther) = self.farther(i, place.depth - depth) {
+            if let Some(farther) = self.farther(i, depth) {
                 place = farther;
                 i += EACH;
                 continue;
@@ -87,14 +87,19 @@ impl Marks {
         None
     }
 
-    // The next place that is marked, where token `i` is marked too and the tokens between can't close so many lists.
-    fn farther(&self, i: u32, lists: u32) -> Option<Place>
-        ensures farther { IfSome result (λ p. (8 ≤ lists) × IsFarther i self.now.places.items p) }
+    // The next place that is marked, where token `i` is marked too and so many lists at least are open up to there.
+    fn farther(&self, i: u32, depth: u32) -> Option<Place>
+        ensures farther { IfSome result (IsFarther i depth self.now) }
     {
-        if lists < EACH || i % EACH != 0 {
+        if i % EACH != 0 {
             return None;
         }
-        self.mark_at(i / EACH + 1)
+        let next = i / EACH + 1;
+        let least = self.least.get(next as usize)?;
+        if u32::from(*least) < depth {
+            return None;
+        }
+        self.mark_at(next)
     }
 
     fn mark_at(&self, k: u32) -> Option<Place>

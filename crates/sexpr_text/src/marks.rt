@@ -1,8 +1,8 @@
 ghost use Rattle.std.specs.Prelude.{◌≡◌, ◌≤◌, ◌<◌, ◌+◌, ◌↔◌, length, get_or, IfOk, OnOk, IfSome, IsSome};
 ghost use Rattle.text_forms.specs.Bytes.{class_of};
 ghost use Rattle.text_forms.specs.Faults.{IsFaultless};
-ghost use Rattle.sexpr_text.specs.Kept.{CountsTokens, MarksTokens, GoesOnMarking};
-ghost use Rattle.sexpr_text.specs.Places.{IsGoodAt, IsReadTo};
+ghost use Rattle.sexpr_text.specs.Kept.{CountsTokens, GoesOnMarking};
+ghost use Rattle.sexpr_text.specs.Places.{IsGoodAt, IsReadTo, AreMarks};
 ghost use Rattle.sexpr_text.specs.Seen.{class_seen};
 
 use crate::classes::{Class, class_of};
@@ -22,23 +22,28 @@ pub struct Place {
     pub depth: u32,
 }
 
-/// The number of tokens, and the place of every eighth.
+/// The number of tokens, and the place of every eighth. Beside each place stands how many lists at least are open behind
+/// any token since the place before it, and in `low` the same since the last place.
 #[derive(Drop)]
 pub struct Marks {
     pub count: u32,
     pub places: Vec<Place>,
+    pub least: Vec<u8>,
+    pub low: u32,
 }
 
 /// The marks of a text without faults, in one pass, or `None` where the text has a fault.
 pub fn marks_of(alloc: Global, source: &[u8]) -> Result<Option<Marks>, Memory>
     requires short { length source.now ≤ 16777216 }
     ensures count { IfOk result (λ found. IfSome found (CountsTokens source.now)) }
-    ensures marks { IfOk result (λ found. IfSome found (MarksTokens source.now)) }
+    ensures marks { IfOk result (λ found. IfSome found (AreMarks source.now)) }
     ensures faultless { IfOk result (λ found. IsSome found ↔ IsFaultless source.now) }
 {
     let mut marks = Marks {
         count: 0,
         places: Vec::new(alloc),
+        least: Vec::new(alloc),
+        low: 0,
     };
     let mut place = Place { at: 0, depth: 0 };
     while (place.at as usize) < source.len() {
@@ -61,33 +66,33 @@ impl Marks {
         requires within { place.at < length source.now }
         requires class { class_seen class ≡ class_of (get_or source.now place.at 0) }
         requires good { IsGoodAt place.depth (class_seen class) }
-        requires read { IsReadTo source.now self.old.count self.old.places.items place }
+        requires read { IsReadTo source.now self.old place }
         ensures later { IfOk result (λ next. place.at < next.at) }
-        ensures read { IfOk result (IsReadTo source.now self.new.count self.new.places.items) }
+        ensures read { IfOk result (IsReadTo source.now self.new) }
     {
         let Place { at, depth } = place;
         match class {
-            Class::Opening => {
-                self.mark(place)?;
-                Ok(Place {
+            Class::Opening => self.mark(
+                place,
+                Place {
                     at: at + 1,
                     depth: depth + 1,
-                })
-            }
-            Class::Closing => {
-                self.mark(place)?;
-                Ok(Place {
+                },
+            ),
+            Class::Closing => self.mark(
+                place,
+                Place {
                     at: at + 1,
                     depth: depth.saturating_sub(1),
-                })
-            }
-            Class::Letter => {
-                self.mark(place)?;
-                Ok(Place {
+                },
+            ),
+            Class::Letter => self.mark(
+                place,
+                Place {
                     at: word_end(source, at as usize + 1) as u32,
                     depth,
-                })
-            }
+                },
+            ),
             Class::Blank | Class::Bad => Ok(Place {
                 at: blank_end(source, at as usize) as u32,
                 depth,
@@ -95,16 +100,22 @@ impl Marks {
         }
     }
 
-    // One more token.
-    fn mark(&mut self, place: Place) -> Result<(), Memory>
+    // One more token, between two places. The next is handed back.
+    fn mark(&mut self, place: Place, next: Place) -> Result<Place, Memory>
         requires few { self.old.count ≤ 16777216 }
+        ensures next { IfOk result (λ p. p ≡ next) }
         ensures count { OnOk result (self.new.count ≡ self.old.count + 1) }
-        ensures marks { OnOk result (GoesOnMarking place self.old self.new) }
+        ensures marks { OnOk result (GoesOnMarking place next self.old self.new) }
     {
         if self.count % EACH == 0 {
             self.places.push(place)?;
+            // At most 200 lists are open, so it is a byte.
+            self.least.push(self.low.min(255) as u8)?;
+            self.low = next.depth;
+        } else {
+            self.low = self.low.min(next.depth);
         }
         self.count += 1;
-        Ok(())
+        Ok(next)
     }
 }

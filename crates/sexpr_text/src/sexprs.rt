@@ -42,7 +42,7 @@ impl<'a> Model for Sexprs<'a> {
     ghost invariant = { λ s. IsKeptOf s.source.now s.kept };
 }
 
-/// Cuts a text of at most 16,777,216 bytes into its tokens. `file` is its place among the command's inputs. It keeps 8 bytes
+/// Cuts a text of at most 16,777,216 bytes into its tokens. `file` is its place among the command's inputs. It keeps 9 bytes
 /// for every eighth token: for a text whose tokens are read one after another, or that is long.
 /// `Bad` has the least fault by offset, then code: a bad byte (1), a list without an end (2), a `)` while no
 /// list is open (3), a `(` while 200 lists are open (4).
@@ -123,7 +123,7 @@ impl<'a> Sexprs<'a> {
     }
 
     /// The number of the token that closes the list that token `i` opens, or `None` where it opens none. Without an index
-    /// it is looked for from the list's first token on.
+    /// it is looked for from the list's first token on, eight tokens at a time.
     pub fn close_of(&self, i: u32) -> Option<u32>
         ensures close { result ≡ close_at self.now i }
         ensures opens { IsSome result ↔ OpensList self.now i }

@@ -8,15 +8,20 @@ use Rattle.sexpr_text.proofs.marks.Marks.closing_from.Goals as goal
 pub overflow_add-i : goal.overflow_add-i
 overflow_add-i c =
     let text = c.args.source.now in
-    let less = place_number text (c.loop-i.i + 8) c.in-Some.farther (farther_place text c.args.self.now.count c.loop-i.i c.args.self.now.places.items c.in-Some.farther c.requires.read.marks c.in-Some.ensures.farther.1) in
+    let farther = c.in-Some.farther in
+    let there = farther_place text c.loop-i.i c.args.place.depth c.args.self.now c.loop-i.place farther c.requires.read.marks c.in-Some.ensures.farther in
+    let less = place_number text (c.loop-i.i + 8) farther there in
     let short = c.requires.read.short in
     omega arith
 
 pub loop-i-preserved-in-Some : goal.loop-i-preserved-in-Some
 loop-i-preserved-in-Some c =
     let text = c.args.source.now in
-    let there = farther_place text c.args.self.now.count c.loop-i.i c.args.self.now.places.items c.in-Some.farther c.requires.read.marks c.in-Some.ensures.farther.1 in
-    let over = over_marks text c.loop-i.i c.args.place.depth c.loop-i.place c.in-Some.farther c.loop-i.invariant.place there c.loop-i.invariant.depth c.in-Some.ensures.farther.0 in
+    let base = c.args.place.depth in
+    let there = farther_place text c.loop-i.i base c.args.self.now c.loop-i.place c.in-Some.farther c.requires.read.marks c.in-Some.ensures.farther in
+    let over =
+    over_marks text c.loop-i.i base c.args.self.now c.loop-i.place c.in-Some.farther c.requires.read.marks c.in-Some.ensures.farther
+    c.loop-i.invariant.place c.requires.inside c.loop-i.invariant.depth in
     record { place = there; depth = over.0; rest = c.loop-i.invariant.rest ∙ over.1 }
 
 pub deeper-behind-requires : goal.deeper-behind-requires
