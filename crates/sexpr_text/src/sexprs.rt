@@ -3,16 +3,16 @@ ghost use Rattle.std.specs.Option.{option_map};
 ghost use Rattle.text_forms.specs.Closing.{close_at, OpensList};
 ghost use Rattle.text_forms.specs.Faults.{IsFaultless};
 ghost use Rattle.text_forms.specs.Tokens.{tokens, token_count};
-ghost use Rattle.sexpr_text.specs.Positions.{IsPosition, IsPositionOf, IsBehindList, EndsList};
+ghost use Rattle.sexpr_text.specs.Positions.{IsPosition, IsPositionOf};
 ghost use Rattle.sexpr_text.specs.Refused.{IsRefusal};
 ghost use Rattle.sexpr_text.specs.Seen.{bytes_at, piece_seen, token_seen};
 
 use crate::faults::first_fault;
 use crate::index::{Index, index_of};
 use crate::marks::{Marks, marks_of};
-use crate::positions::{self, Position};
+use crate::positions::Position;
 use crate::read_error::ReadError;
-use crate::tokens::{Kind, Piece, Token, next_piece};
+use crate::tokens::{Piece, Token, next_piece};
 use htn_base::{Memory, Span};
 use std::alloc::Global;
 use std::marker::Model;
@@ -168,6 +168,7 @@ impl<'a> Sexprs<'a> {
     }
 
     /// The token at a position, and the position of the next one; or `None` past the last.
+    #[inline]
     pub fn token_from(&self, p: Position) -> Option<(Token<'a>, Position)>
         requires position { IsPosition self.now p }
         ensures token { option_map (λ x. token_seen x.0) result
@@ -186,29 +187,6 @@ impl<'a> Sexprs<'a> {
             at: piece.span.end,
         };
         Some((token, next))
-    }
-
-    /// The position of the first token in the list that the token at a position opens, and of the one behind that list;
-    /// or `None` where the token opens none.
-    pub fn list_from(&self, p: Position) -> Option<(Position, Position)>
-        requires position { IsPosition self.now p }
-        ensures inside { IfSome result (λ x. IsPositionOf self.now (p.token + 1) x.0) }
-        ensures behind { IfSome result (λ x. IsBehindList self.now p.token x.1) }
-        ensures opens { IsSome result ↔ OpensList self.now p.token }
-    {
-        let (token, inside) = self.token_from(p)?;
-        match token.kind {
-            Kind::Start => Some((inside, self.list_end(inside)?)),
-            _ => None,
-        }
-    }
-
-    /// The position behind the list in which the token at a position comes first, in a text that is read never `None`.
-    pub fn list_end(&self, inside: Position) -> Option<Position>
-        requires position { IsPosition self.now inside }
-        ensures end { EndsList self.now inside result }
-    {
-        positions::list_end(self.source, inside)
     }
 
     fn piece(&self, i: u32) -> Option<Piece>
