@@ -39,10 +39,12 @@ pub fn marks_of(alloc: Global, source: &[u8]) -> Result<Option<Marks>, Memory>
     ensures marks { IfOk result (λ found. IfSome found (AreMarks source.now)) }
     ensures faultless { IfOk result (λ found. IsSome found ↔ IsFaultless source.now) }
 {
+    // Room for a mark in sixteen bytes, which is enough for most texts: growing copies.
+    let room = source.len() / 16;
     let mut marks = Marks {
         count: 0,
-        places: Vec::new(alloc),
-        least: Vec::new(alloc),
+        places: Vec::with_capacity(alloc, room)?,
+        least: Vec::with_capacity(alloc, room)?,
         low: 0,
     };
     let mut place = Place { at: 0, depth: 0 };

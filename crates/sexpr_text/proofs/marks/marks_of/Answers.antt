@@ -6,7 +6,7 @@ use Rattle.text_forms.specs.Tokens.{tokens_from}
 use Rattle.sexpr_text.specs.Places.{classes_at}
 use Rattle.sexpr_text.specs.Seen.{class_seen}
 use Rattle.sexpr_text.proofs.Depth.{has_fault, has_open_list, has_none, classes_next, classes_end}
-use Rattle.sexpr_text.proofs.Numbered.{place_end}
+use Rattle.sexpr_text.proofs.Numbered.{place_end, place_number, place_depth}
 use Rattle.sexpr_text.proofs.marks.marks_of.Goals as goal
 
 pub returns-then-is_fault-clause-faultless : goal.returns-then-is_fault-clause-faultless
@@ -37,3 +37,11 @@ pub returns-clause-faultless : goal.returns-clause-faultless
 returns-clause-faultless c =
     let text = c.args.source.now in let p = c.loop-place.place in
     (λ _. has_none text p.depth p.at (classes_at text p.at) c.loop-place.invariant.deep (classes_end text false p.at (omega arith)) (omega arith), λ _. refl)
+
+pub overflow_cast-place-in-loop-place-2 : goal.overflow_cast-place-in-loop-place-2
+overflow_cast-place-in-loop-place-2 c =
+    let text = c.args.source.now in let p = c.loop-place.place in let n = c.loop-place.marks.count in
+    let few = place_depth text n p c.loop-place.invariant.place in
+    let less = place_number text n p c.loop-place.invariant.place in
+    let short = c.requires.short in
+    omega arith
