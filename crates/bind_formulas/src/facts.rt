@@ -7,26 +7,27 @@ ghost use Rattle.bind_formulas.specs.Facts.{object_bound, fact_bound};
 
 use crate::atoms::predicate_of;
 use crate::known::Known;
-use gd_reader::{RawFact, RawTerm};
+use gd_reader::RawTerm;
 use htn_base::Memory;
 use name_numbers::{Faults, Places, found_or_noted};
 
-/// What a fact stands for, where no variable is in force: its predicate, and its objects in place of what stood in `args`. Faults:
-/// those of the atom, so 16 at each variable.
+/// What a fact of this name and these terms stands for, where no variable is in force: its predicate, and its objects in place of
+/// what stood in `args`. Faults: those of the atom, so 16 at each variable.
 pub fn fact_of(
     known: &Known,
-    fact: &RawFact<'_>,
+    head: RawTerm,
+    terms: &[RawTerm],
     args: &mut Vec<u32>,
     faults: &mut Faults,
 ) -> Result<u32, Memory>
-    ensures bound { IfOk result
-        (λ predicate. atom_of predicate args.new.items ≡ fact_bound known.now fact.now) }
-    ensures faults { OnOk result
-        (faults.new.least ≡ noted faults.old.least (atom_faults known.now [] fact.now)) }
+    ensures bound { IfOk result (λ predicate. atom_of predicate args.new.items
+        ≡ fact_bound known.now (record { head = head; args = terms.now })) }
+    ensures faults { OnOk result (faults.new.least
+        ≡ noted faults.old.least (atom_faults known.now [] (record { head = head; args = terms.now }))) }
 {
-    let predicate = predicate_of(&known.predicates, fact.head, fact.args.len(), faults);
+    let predicate = predicate_of(&known.predicates, head, terms.len(), faults);
     args.clear();
-    for term in fact.args {
+    for term in terms {
         args.push(object_of(&known.objects, *term, faults))?;
     }
     Ok(predicate)

@@ -1,6 +1,5 @@
-use Rattle.std.proofs.Common.{[], false, ap, sym}
+use Rattle.std.proofs.Common.{[], false, sym}
 use Rattle.std.proofs.lemmas.List.{map_more}
-use Rattle.gd_reader.specs.declared.term.RawAtom.{RawAtom}
 use Rattle.gd_reader.specs.declared.term.RawTerm.{RawTerm}
 use Rattle.name_numbers.specs.Terms.{term_faults}
 use Rattle.name_numbers.proofs.Noted.{noted_more}
@@ -13,13 +12,11 @@ none = record { name = record { number = 0 }; variable = false; at = 0 }
 pub loop-term-preserved : goal.loop-term-preserved
 loop-term-preserved c =
     let n = c.loop-term.term-index in
-    let terms = c.args.fact.now.args in
-    let items = ap (λ (a : RawAtom). a.args) c.fact.view_is in
+    let terms = c.args.terms.now in
     let within = c.loop-term-test.true in
-    let within = rw items at within in
     record {
       bound =
-          rw (c.in_ok-push.ensures.items, c.loop-term.invariant.bound, c.object_of.ensures.bound, items) (sym (map_more (object_bound c.args.known.now.objects) terms n none within));
+          rw (c.in_ok-push.ensures.items, c.loop-term.invariant.bound, c.object_of.ensures.bound) (sym (map_more (object_bound c.args.known.now.objects) terms n none within));
       faults =
-          rw (c.object_of.ensures.faults, c.loop-term.invariant.faults, items) (sym (noted_more (term_faults c.args.known.now.objects []) c.predicate_of-predicate.new.faults.least terms n none within));
+          rw (c.object_of.ensures.faults, c.loop-term.invariant.faults) (sym (noted_more (term_faults c.args.known.now.objects []) c.predicate_of-predicate.new.faults.least terms n none within));
     }

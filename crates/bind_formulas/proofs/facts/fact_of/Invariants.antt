@@ -7,6 +7,6 @@ use Rattle.bind_formulas.proofs.facts.fact_of.Given as goal
 
 abbrev pub invariant-loop-term : goal.invariant-loop-term
 invariant-loop-term l = record {
-  bound : l.args.items ≡ map (object_bound l.known.objects) (take l.term-index l.fact.args);
-  faults : l.faults.least ≡ noted l.initial.faults.least (flat_map (term_faults l.known.objects []) (take l.term-index l.fact.args));
+  bound : l.args.items ≡ map (object_bound l.known.objects) (take l.term-index l.terms);
+  faults : l.faults.least ≡ noted l.initial.faults.least (flat_map (term_faults l.known.objects []) (take l.term-index l.terms));
 }
