@@ -22,10 +22,11 @@ pub fn facts_of(
         (faults.new.least ≡ noted faults.old.least (facts_faults known.now facts.now)) }
 {
     let mut bound = Facts::new(alloc);
+    let mut terms = Vec::new(alloc);
     let mut args = Vec::new(alloc);
     for i in 0..facts.len() {
-        if let Some(fact) = facts.get(i) {
-            let predicate = fact_of(known, &fact, &mut args, faults)?;
+        if let Some(head) = facts.read(i, &mut terms)? {
+            let predicate = fact_of(known, head, terms.as_slice(), &mut args, faults)?;
             bound.push(predicate, args.as_slice())?;
         }
     }

@@ -3,7 +3,7 @@
 ghost use Rattle.std.specs.Prelude.{◌≤◌, length};
 
 use gd_reader::{ListKind, RawEffect, RawFacts, RawFormula, RawTerm, effect, formula, typed_list};
-use htn_base::{Fault, Name, NameTable};
+use htn_base::{Fault, Memory, Name, NameTable};
 use sexpr_text::{ReadError, read};
 use std::alloc::Global;
 use std::process::Abort;
@@ -168,25 +168,44 @@ fn named(number: u32) -> RawTerm {
 }
 
 // The offset of the head, the number of the terms, and the offset of the last one.
-fn seen(facts: &RawFacts, i: usize) -> Option<(u32, usize, Option<u32>)> {
-    let fact = facts.get(i)?;
-    let last = match fact.args.last() {
+fn seen_at(
+    facts: &RawFacts,
+    i: usize,
+    args: &mut Vec<RawTerm>,
+) -> Result<Option<(u32, usize, Option<u32>)>, Memory> {
+    let Some(head) = facts.read(i, args)? else {
+        return Ok(None);
+    };
+    let last = match args.last() {
         Some(term) => Some(term.at),
         None => None,
     };
-    Some((fact.head.at, fact.args.len(), last))
+    Ok(Some((head.at, args.len(), last)))
 }
 
 #[test]
 fn facts_with_their_terms(rt: HostRuntime) {
     let mut facts = RawFacts::with_room(rt.alloc(), 1, 1).expect(&rt, "room");
-    let rows: [(u32, &[RawTerm]); 3] = [(0, &[named(1), named(2)]), (3, &[]), (4, &[named(5)])];
+    let mut args = Vec::new(rt.alloc());
+    let rows: [(u32, &[RawTerm]); 4] = [
+        (0, &[named(1), named(2)]),
+        (3, &[]),
+        (4, &[named(5)]),
+        (70_000, &[named(6), named(300)]),
+    ];
     for (head, terms) in rows {
         facts.push(named(head), terms).expect(&rt, "a fact");
     }
-    assert_eq!(rt; (facts.len(), RawFacts::new(rt.alloc()).len()), (3, 0));
-    assert_eq!(rt; seen(&facts, 0), Some((0, 2, Some(2))));
-    assert_eq!(rt; seen(&facts, 1), Some((3, 0, None)));
-    assert_eq!(rt; seen(&facts, 2), Some((4, 1, Some(5))));
-    assert_eq!(rt; seen(&facts, 3), None);
+    assert_eq!(rt; (facts.len(), RawFacts::new(rt.alloc()).len()), (4, 0));
+    let seen = [
+        Some((0, 2, Some(2))),
+        Some((3, 0, None)),
+        Some((4, 1, Some(5))),
+        Some((70_000, 2, Some(300))),
+        None,
+    ];
+    for (i, row) in seen.iter().enumerate() {
+        let read = seen_at(&facts, i, &mut args).expect(&rt, "room for terms");
+        assert_eq!(rt; read, *row);
+    }
 }

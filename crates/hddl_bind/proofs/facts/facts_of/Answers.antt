@@ -1,6 +1,10 @@
-use Rattle.std.proofs.Common.{◌≡◌, ◌<◌, ◌++◌, ◌∷◌, [], length, ap, subst, ◌∙◌}
+use Rattle.std.proofs.Common.{◌<◌, ◌++◌, ◌∷◌, [], ap, subst, ◌∙◌}
+use Rattle.std.specs.Option.{option_map}
+use Rattle.gd_reader.specs.declared.term.RawAtom.{RawAtom}
+use Rattle.gd_reader.specs.declared.term.RawTerm.{RawTerm}
 use Rattle.plan_model.specs.Facts.{atom_of}
 use Rattle.plan_model.proofs.ReadAt.{read_is, none_read}
+use Rattle.name_numbers.specs.Spots.{noted}
 use Rattle.bind_formulas.specs.Atoms.{atom_faults}
 use Rattle.bind_formulas.specs.Facts.{fact_bound}
 use Rattle.bind_networks.proofs.Steps.{noted_step, map_step}
@@ -13,15 +17,24 @@ loop-i-preserved c =
     let i = c.loop-i.i in
     let known = c.args.known.now in
     let within = subst (λ n. i < n) c.len-i-end.ensures.length c.loop-i-test.true in
-    elim c.match-get.branch [
+    let atom : RawTerm → RawAtom = λ head. record { head = head; args = c.read.new.args.items } in
+    let read = option_map atom c.in_ok-head.field-0 in
+    let e = c.in_ok-head.ensures.fact in
+    elim c.match-branch-2.branch [
       | in-Some+in_ok-predicate+in_ok-push w ↦
-          let x = w.in-Some.fact in
-          let is = read_is xs i c.get.result c.get.ensures.fact x w.in-Some.is in
+          let x = atom w.in-Some.head in
+          let is = read_is xs i read e x (ap (option_map atom) w.in-Some.is) in
           let bound = c.loop-i.bound in
-          let put = w.in_ok-push.ensures.pushed ∙ ap (λ objects. bound ++ atom_of w.in_ok-predicate.predicate objects ∷ []) w.as_slice.ensures.value ∙ ap (λ g. bound ++ g ∷ []) w.in_ok-predicate.ensures.bound in
+          let predicate = w.in_ok-predicate.predicate in
+          let given = w.as_slice.ensures.value in
+          let of = w.in_ok-predicate.ensures.bound ∙ ap (λ terms. fact_bound known (record { head = w.in-Some.head; args = terms })) given in
+          let faults = w.in_ok-predicate.ensures.faults
+          ∙ ap (λ terms. noted c.loop-i.faults.least (atom_faults known [] (record { head = w.in-Some.head; args = terms }))) given in
+          let put = w.in_ok-push.ensures.pushed ∙ ap (λ objects. bound ++ atom_of predicate objects ∷ []) w.as_slice-in-Some.ensures.value
+          ∙ ap (λ g. bound ++ g ∷ []) of in
           record {
             bound = w.bound-is ∙ map_step xs i x x within is (fact_bound known) bound w.push.new.self c.loop-i.invariant.bound put;
-            faults = rw w.faults-is (noted_step xs i x x within is (atom_faults known []) _ _ _ c.loop-i.invariant.faults w.in_ok-predicate.ensures.faults);
+            faults = rw w.faults-is (noted_step xs i x x within is (atom_faults known []) _ _ _ c.loop-i.invariant.faults faults);
           }
-      | in_default w ↦ absurd (none_read xs i c.get.result c.get.ensures.fact within w.in_default.is)
+      | in_default w ↦ absurd (none_read xs i read e within (ap (option_map atom) w.in_default.is))
     ]
