@@ -21,7 +21,8 @@ pub fn facts_of(
     ensures faults { OnOk result
         (faults.new.least ≡ noted faults.old.least (facts_faults known.now facts.now)) }
 {
-    let mut bound = Facts::new(alloc);
+    // Room for two objects each, which is enough for most: memory that is never touched costs nothing, and growing copies.
+    let mut bound = Facts::with_room(alloc, facts.len(), facts.len().saturating_mul(2))?;
     let mut terms = Vec::new(alloc);
     let mut args = Vec::new(alloc);
     for i in 0..facts.len() {
