@@ -21,7 +21,8 @@ terms_push from (a ∷ b ∷ numbers) (suc k) away code even =
 
 -- the numbers of an atom and of one more term
 pub atom_push : (from : ℕ) (numbers : List ℕ) (k away code : ℕ) (head term : RawTerm) (args : List RawTerm)
-    → length numbers ≡ k * 2 + 1 → atom_coded (row_of from numbers) ≡ atom head args → (from + away) % 2 ^ 32 ≡ term.at → term_coded term.at code ≡ term
+    → length numbers ≡ k * 2 + 1 → atom_coded (row_of from numbers) ≡ atom head args
+    → (from + away) % 2 ^ 32 ≡ term.at → term_coded term.at code ≡ term
     → atom_coded (row_of from ((numbers ++ away ∷ []) ++ code ∷ [])) ≡ atom head (args ++ term ∷ [])
 atom_push from [] k away code head term args odd is at coded = absurd (omega (arith, odd))
 atom_push from (first ∷ numbers) k away code head term args odd is at coded =
@@ -43,7 +44,8 @@ pub no_term : (from : ℕ) (numbers : List ℕ) (j : ℕ) → length numbers ≤
 no_term from [] j past = refl
 no_term from (first ∷ numbers) j past = term_missing from numbers j (omega (arith, past))
 
-term_there : (from : ℕ) (numbers : List ℕ) (j k away code : ℕ) → k ≡ j * 2 → slice_get numbers k ≡ Some away → slice_get numbers (suc k) ≡ Some code
+term_there : (from : ℕ) (numbers : List ℕ) (j k away code : ℕ) → k ≡ j * 2
+    → slice_get numbers k ≡ Some away → slice_get numbers (suc k) ≡ Some code
     → Some (term_coded ((from + away) % 2 ^ 32) code) ≡ slice_get (terms_coded from numbers) j
 term_there from [] j k away code is a c = absurd (cc a)
 term_there from (x ∷ []) j zero away code is a c = absurd (cc c)
@@ -55,7 +57,8 @@ term_there from (x ∷ y ∷ numbers) (suc j) (suc zero) away code is a c = absu
 term_there from (x ∷ y ∷ numbers) (suc j) (suc (suc k)) away code is a c = term_there from numbers j k away code (omega (arith, is)) a c
 
 -- the term of two numbers of a row
-pub term_read : (from : ℕ) (numbers : List ℕ) (j away code : ℕ) → slice_get numbers (j * 2 + 1) ≡ Some away → slice_get numbers (j * 2 + 2) ≡ Some code
+pub term_read : (from : ℕ) (numbers : List ℕ) (j away code : ℕ)
+    → slice_get numbers (j * 2 + 1) ≡ Some away → slice_get numbers (j * 2 + 2) ≡ Some code
     → Some (term_coded ((from + away) % 2 ^ 32) code) ≡ slice_get (terms_coded from (drop 1 numbers)) j
 term_read from [] j away code a c = absurd (cc a)
 term_read from (first ∷ numbers) j away code a c =

@@ -16,7 +16,9 @@ loop-term-preserved c =
     let within = c.loop-term-test.true in
     record {
       bound =
-          rw (c.in_ok-push.ensures.items, c.loop-term.invariant.bound, c.object_of.ensures.bound) (sym (map_more (object_bound c.args.known.now.objects) terms n none within));
+          rw (c.in_ok-push.ensures.items, c.loop-term.invariant.bound, c.object_of.ensures.bound)
+          (sym (map_more (object_bound c.args.known.now.objects) terms n none within));
       faults =
-          rw (c.object_of.ensures.faults, c.loop-term.invariant.faults) (sym (noted_more (term_faults c.args.known.now.objects []) c.predicate_of-predicate.new.faults.least terms n none within));
+          rw (c.object_of.ensures.faults, c.loop-term.invariant.faults)
+          (sym (noted_more (term_faults c.args.known.now.objects []) c.predicate_of-predicate.new.faults.least terms n none within));
     }

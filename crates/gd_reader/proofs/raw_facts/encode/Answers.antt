@@ -22,5 +22,6 @@ loop-term-preserved c =
     let more : take (k + 1) terms ≡ take k terms ++ term ∷ [] = take_more terms k none c.loop-term-test.true in
     rw (two, more) (record {
       odd = omega (arith, long, longer, odd);
-      atom = atom_push c.args.head.at old k away code c.args.head term (take k terms) odd c.loop-term.invariant.atom c.away.ensures c.in_ok-code_of-2.ensures;
+      atom = atom_push c.args.head.at old k away code c.args.head term (take k terms) odd c.loop-term.invariant.atom
+          c.away.ensures c.in_ok-code_of-2.ensures;
     })

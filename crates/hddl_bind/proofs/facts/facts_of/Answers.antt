@@ -27,7 +27,8 @@ loop-i-preserved c =
           let bound = c.loop-i.bound in
           let predicate = w.in_ok-predicate.predicate in
           let given = w.as_slice.ensures.value in
-          let of = w.in_ok-predicate.ensures.bound ∙ ap (λ terms. fact_bound known (record { head = w.in-Some.head; args = terms })) given in
+          let of = w.in_ok-predicate.ensures.bound
+          ∙ ap (λ terms. fact_bound known (record { head = w.in-Some.head; args = terms })) given in
           let faults = w.in_ok-predicate.ensures.faults
           ∙ ap (λ terms. noted c.loop-i.faults.least (atom_faults known [] (record { head = w.in-Some.head; args = terms }))) given in
           let put = w.in_ok-push.ensures.pushed ∙ ap (λ objects. bound ++ atom_of predicate objects ∷ []) w.as_slice-in-Some.ensures.value

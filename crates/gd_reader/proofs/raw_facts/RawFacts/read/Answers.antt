@@ -35,7 +35,8 @@ returns c =
     let args : c.loop-j.args.items ≡ terms = c.loop-j.invariant ∙ take_all c.loop-j.j terms (omega (arith, few, long, ended)) in
     let code = c.unwrap_or-code.ensures ∙ ap (λ first. unwrap_or first 0) c.get-2.ensures.number ∙ unwrap_or-slice_get row.rest 0 0 in
     let head : c.decoded.result ≡ term_coded row.head (get_or row.rest 0 0) = c.decoded.ensures ∙ ap (term_coded row.head) code in
-    let read : slice_get c.self.inside.rows c.args.i ≡ Some row = sym c.get.ensures.row ∙ c.in-Some.is ∙ ap (λ r. Some r) (sym c.row.view_is) in
+    let read : slice_get c.self.inside.rows c.args.i ≡ Some row =
+    sym c.get.ensures.row ∙ c.in-Some.is ∙ ap (λ r. Some r) (sym c.row.view_is) in
     let there : slice_get c.args.self.now c.args.i ≡ Some (atom_coded row) =
     ap (λ atoms. slice_get atoms c.args.i) (sym c.self.view_is) ∙ slice_get-map atom_coded c.self.inside.rows c.args.i
     ∙ ap (option_map atom_coded) read in
