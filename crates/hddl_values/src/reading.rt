@@ -11,7 +11,7 @@ use htn_base::NameTable;
 use sexpr_text::{ReadError, Sexprs, read, read_with_index};
 use std::alloc::Global;
 
-// A text of at most so many bytes is read with an index of its tokens. That takes 8 bytes a token, some three times the
+// A text of at most so many bytes is read with an index of its tokens. That takes 8 bytes a token, up to eight times the
 // length of the text, so of a longer one only the place of every eighth token is kept: most of it are facts, which are
 // read from first to last.
 const MOST_BYTES_WITH_INDEX: usize = 1_048_576;

@@ -62,7 +62,7 @@ pub fn read<'a>(alloc: Global, source: &'a [u8], file: u8) -> Result<Sexprs<'a>,
 }
 
 /// The same with an index: 8 bytes for each token, and `token` and `close_of` look up what they answer. For a text whose
-/// tokens are asked for by their numbers, and that is short enough for an index of some three times its length.
+/// tokens are asked for by their numbers, and that is short enough for an index of up to eight times its length.
 pub fn read_with_index<'a>(
     alloc: Global,
     source: &'a [u8],
