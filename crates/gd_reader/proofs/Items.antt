@@ -6,18 +6,20 @@ use Rattle.htn_base.specs.Words.{folded}
 use Rattle.sexpr_text.specs.declared.tokens.Kind.TheVariants.{Start, Stop, Word}
 use Rattle.sexpr_text.specs.declared.tokens.Token.{Token as Read}
 use Rattle.sexpr_text.specs.declared.positions.Position.{Position}
-use Rattle.sexpr_text.specs.Positions.{IsPositionOf, IsBehindList}
+use Rattle.sexpr_text.specs.Positions.{IsPositionOf}
 use Rattle.sexpr_text.specs.Seen.{kind_seen, token_seen}
 use Rattle.text_forms.specs.Closing.{close_of, closings, flattened, close_at, OpensBy, OpensList}
 use Rattle.text_forms.specs.Laws.{ShowsToken, ShowsBy}
 use Rattle.text_forms.specs.Placed.{cut, close, word as placed_word, level, IsWhole, parts_at}
-use Rattle.text_forms.specs.Tokens.{Kind, Token, tokens, token_count, lexeme, lexemes}
+use Rattle.text_forms.specs.Tokens.{Kind, Token, tokens, token_count, lexeme_by, letters_of, lexeme, lexemes}
 use Rattle.text_forms.specs.Tokens as kinds
 use Rattle.text_forms.proofs.Shown.{shown, drop_get, closes_get}
 use Rattle.gd_reader.specs.declared.cursor.Item.TheVariants as items
 use Rattle.gd_reader.specs.declared.positions.ItemFrom.TheVariants as items_from
+use Rattle.gd_reader.specs.declared.positions.WordOrEnd.{WordOrEnd}
+use Rattle.gd_reader.specs.declared.positions.WordOrEnd.TheVariants as met
 use Rattle.gd_reader.specs.Shown.{IsList, Shows}
-use Rattle.gd_reader.specs.ShownFrom.{ShowsFrom}
+use Rattle.gd_reader.specs.ShownFrom.{ShowsFrom, word_met}
 use Rattle.gd_reader.proofs.Adding.{says}
 use Rattle.gd_reader.proofs.Passing.{whole_levels}
 
@@ -102,30 +104,52 @@ module _ (text : List ℕ) (i : ℕ) (t : Read) (here : slice_get (tokens text) 
         next = refl;
       }
 
-  pub opens_list : t.kind ≡ Start → OpensList text i
+  opens_list : t.kind ≡ Start → OpensList text i
   opens_list is = subst OpensBy (sym here) (ap kind_seen is)
 
   -- the same, where the tokens have positions
-  pub shows_word_from : t.kind ≡ Word → t.word.now ≡ slice_range text t.span.start t.span.end → (next : Position) → IsPositionOf text (i + 1) next
-      → ShowsFrom text i (items_from.Word t.span.start t.word next)
-  shows_word_from is letters next h =
-      let parts = word_parts is letters in
-      record {
-        parts = parts ∙ ap (λ k. placed_word t.span.start (folded t.word.now) (parts_at text k)) (sym h.number);
-        within = within;
-        said = says text i t.span.start (folded t.word.now) (parts_at text (i + 1)) parts;
-        position = h;
-      }
+  module _ (next : Position) (h : IsPositionOf text (i + 1) next) where
+    -- the lexeme of token i, and those behind it
+    lexemes_here : (k : Kind) → kind_seen t.kind ≡ k
+        → drop i (lexemes text) ≡ lexeme_by k t.span.start (letters_of text (token_seen t)) ∷ drop next.token (lexemes text)
+    lexemes_here k is =
+        let n : suc i ≡ next.token = (let number = h.number in omega arith) in
+        (drop_get (lexeme text) (tokens text) i (token_seen t) here).1
+        ∙ (λ j. lexeme_by (is j) t.span.start (letters_of text (token_seen t)) ∷ drop (n j) (lexemes text))
 
-  pub shows_list_from : t.kind ≡ Start → (inside behind : Position) → IsPositionOf text (i + 1) inside → IsBehindList text i behind
-      → ShowsFrom text i (items_from.List t.span.start inside behind)
-  shows_list_from is inside behind f b = record {
-    list = subst (λ j. IsList text i t.span.start j behind.token) (sym f.number)
-        (subst (IsList text i t.span.start (i + 1)) (sym b.behind.number) (shows_list is b.closing b.closed));
-    first = f.position;
-    next = b.behind.position;
-  }
+    pub shows_close_from : t.kind ≡ Stop → ShowsFrom text i (items_from.Close t.span.start next)
+    shows_close_from is = record {
+      parts = shows_close is;
+      behind = sym (ap (level 1) (lexemes_here kinds.stop (ap kind_seen is)));
+      within = within;
+      position = h;
+    }
+
+    pub shows_word_from : t.kind ≡ Word → t.word.now ≡ slice_range text t.span.start t.span.end
+        → ShowsFrom text i (items_from.Word t.span.start t.word next)
+    shows_word_from is letters =
+        let parts = word_parts is letters in
+        record {
+          parts = parts ∙ ap (λ k. placed_word t.span.start (folded t.word.now) (parts_at text k)) (sym h.number);
+          behind = sym (ap (level 1) (lexemes_here kinds.word (ap kind_seen is)));
+          within = within;
+          said = says text i t.span.start (folded t.word.now) (parts_at text (i + 1)) parts;
+          position = h;
+        }
+
+    pub shows_list_from : t.kind ≡ Start → ShowsFrom text i (items_from.List t.span.start next)
+    shows_list_from is = record {
+      parts = ap (level 0) (lexemes_here kinds.start (ap kind_seen is));
+      within = within;
+      position = h;
+    }
 
   -- an opening parenthesis has a closing one
   pub never : (o : Option ℕ) → t.kind ≡ Start → o ≡ None → IsSome o ↔ OpensList text i → Shows text i items.End
   never o is e opens = let none : IsSome {T = ℕ} None = subst IsSome e (opens.1 (opens_list is)) in cc
+
+-- what is no word is the end
+pub no_word : (text : List ℕ) (x : WordOrEnd) → ((at : ℕ) (w : _) (next : Position) → x ≡ met.Word at w next → ⊥)
+    → word_met text x ≡ None
+no_word text (met.Word at w next) never = absurd (never at w next refl)
+no_word text (met.End behind) never = refl

@@ -4,6 +4,7 @@ pub mod Counted
 pub mod Sorts
 pub mod Passing
 pub mod Items
+pub mod Behind
 pub mod Steps
 pub mod EffectSteps
 pub mod ListSteps

@@ -30,7 +30,10 @@ pub use cursor::{Item, end_due, item_at, list_due, list_or_end, pass, word_due, 
 pub use effects::{RawEffect, effect_inside_of};
 pub use formulas::{RawFormula, inside_of};
 pub use laws::at_most_one_word_is_added_for_each_token;
-pub use positions::{ItemFrom, item_from, list_or_end_from, word_due_from, word_or_end_from};
+pub use positions::{
+    ItemFrom, WordOrEnd, end_due_from, item_from, opened_or_end_from, word_due_from,
+    word_or_end_from,
+};
 pub use raw_facts::RawFacts;
 pub use raw_params::RawParams;
 pub use raw_types::RawTypes;

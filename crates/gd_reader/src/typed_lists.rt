@@ -8,7 +8,7 @@ ghost use Rattle.gd_reader.specs.Terms.{Keeps};
 ghost use Rattle.gd_reader.specs.TypedLists.{declares, variable_by, param_due, listed, hyphen_due, is_parameters, are_variables};
 
 use crate::kind::kind_of;
-use crate::positions::word_or_end_from;
+use crate::positions::{WordOrEnd, word_or_end_from};
 use crate::raw_params::RawParams;
 use crate::raw_types::RawTypes;
 use crate::stop::{Failure, Stop};
@@ -177,7 +177,7 @@ pub fn params_of(
     let mut done = RawParams::new(alloc);
     let mut pending = List::new(alloc);
     let mut p = s.position(i);
-    while let Some((at, word, next)) = word_or_end_from(s, p)? {
+    while let WordOrEnd::Word(at, word, next) = word_or_end_from(s, p)? {
         if is_hyphen_due(&pending, word) {
             let (ty, behind) = kind_of(alloc, s, next.token, kind, names)?;
             let types = RawTypes::new(alloc, ty)?;
