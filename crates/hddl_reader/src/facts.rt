@@ -1,16 +1,19 @@
+ghost use Rattle.std.specs.Prelude.{◌≡◌, ◌<◌, ◌≤◌, IfOk};
 ghost use Rattle.std.specs.Option.{option_map};
 ghost use Rattle.htn_base.specs.Words.{folded};
 ghost use Rattle.text_forms.specs.Placed.{parts_at};
+ghost use Rattle.text_forms.specs.Tokens.{token_count};
 ghost use Rattle.sexpr_text.specs.Positions.{IsPosition};
 ghost use Rattle.gd_reader.specs.Added.{AddsOf};
 ghost use Rattle.gd_reader.specs.Answers.{Gives, GivesWith};
+ghost use Rattle.gd_reader.specs.ShownFrom.{behind_at};
 ghost use Rattle.gd_reader.specs.Terms.{Keeps};
 ghost use Rattle.hddl_reader.specs.Sections.{words, dropped_name, used_names, assignment, applied_to, fact, facts, goal};
 
 use gd_reader::{
-    Failure, Item, RawFacts, RawFormula, RawTerm, Sort, Stop, end_due, inside_of, is_word, item_at,
-    list_due, list_or_end_from, marked_used_of, pass, sort_of, word_due, word_due_from,
-    word_or_end_from,
+    Failure, Item, RawFacts, RawFormula, RawTerm, Sort, Stop, WordOrEnd, end_due, end_due_from,
+    inside_of, is_word, item_at, list_due, marked_used_of, opened_or_end_from, pass, sort_of,
+    word_due, word_due_from, word_or_end_from,
 };
 use htn_base::{Marks, NameTable};
 use sexpr_text::{Position, Sexprs};
@@ -43,7 +46,8 @@ pub(crate) fn dropped_name(s: &Sexprs<'_>, i: u32) -> Result<(), Failure>
     }
 }
 
-// Names that are used, from a position up to the end of their list. They come in the place of those that `used` had.
+// Names that are used, from a position up to the end of their list, and the position behind this list. They come in the
+// place of those that `used` had.
 #[tactic(auto, using(gd_reader::proofs::Keeping::keeps_same, gd_reader::proofs::Keeping::keeps_then))]
 fn used_names_of(
     s: &Sexprs<'_>,
@@ -51,35 +55,45 @@ fn used_names_of(
     names: &mut NameTable,
     marks: &mut Marks,
     used: &mut Vec<RawTerm>,
-) -> Result<(), Failure>
+) -> Result<Position, Failure>
     requires position { IsPosition s.now p }
     ensures keeps { Keeps names.old names.new }
     ensures adds { AddsOf s.now names.old names.new }
     ensures gives { Gives (λ _. (used.new.items, names.new)) result
         (used_names names.old (parts_at s.now p.token)) }
+    ensures position { IfOk result (IsPosition s.now) }
+    ensures later { IfOk result (λ x. (p.token < x.token) × (x.token ≤ token_count s.now)) }
+    ensures behind { IfOk result (λ x. parts_at s.now x.token ≡ behind_at s.now p.token) }
 {
     used.clear();
-    while let Some((at, word, next)) = word_or_end_from(s, p)? {
-        let name = marked_used_of(names, at, word, marks)?;
-        used.push(name)?;
-        p = next;
+    loop {
+        match word_or_end_from(s, p)? {
+            WordOrEnd::Word(at, word, next) => {
+                let name = marked_used_of(names, at, word, marks)?;
+                used.push(name)?;
+                p = next;
+            }
+            WordOrEnd::End(behind) => return Ok(behind),
+        }
     }
-    Ok(())
 }
 
-// Behind the sign of an assignment: a list, a word, and the end, all dropped.
+// Behind the sign of an assignment: a list, a word, and the end, all dropped; and the position behind that end.
 #[tactic(auto, unfolding(crate::specs::Sections::assignment))]
-fn assignment(s: &Sexprs<'_>, i: u32) -> Result<(), Failure>
+fn assignment(s: &Sexprs<'_>, i: u32) -> Result<Position, Failure>
     ensures gives { Gives (λ _. tt) result (assignment (parts_at s.now i)) }
+    ensures position { IfOk result (IsPosition s.now) }
+    ensures later { IfOk result (λ x. (i < x.token) × (x.token ≤ token_count s.now)) }
+    ensures behind { IfOk result (λ x. parts_at s.now x.token ≡ behind_at s.now i) }
 {
     let (inside, behind) = list_due(s, i)?;
     pass(s, inside)?;
-    let (_, _, behind) = word_due(s, behind)?;
-    end_due(s, behind)
+    let (_, _, next) = word_due_from(s, s.position(behind))?;
+    end_due_from(s, next)
 }
 
 // What stands in the parentheses of an element of `:init`: an atom, as its head, and its names in `args`; or an
-// assignment, of which nothing is kept.
+// assignment, of which nothing is kept. Reading it ends at the position behind it.
 #[tactic(auto, unfolding(crate::specs::Sections::fact), using(gd_reader::proofs::Keeping::keeps_same, gd_reader::proofs::Keeping::keeps_then))]
 fn fact_of(
     s: &Sexprs<'_>,
@@ -87,29 +101,32 @@ fn fact_of(
     names: &mut NameTable,
     marks: &mut Marks,
     args: &mut Vec<RawTerm>,
-) -> Result<Option<RawTerm>, Failure>
+) -> Result<(Option<RawTerm>, Position), Failure>
     requires position { IsPosition s.now p }
     ensures keeps { Keeps names.old names.new }
     ensures adds { AddsOf s.now names.old names.new }
-    ensures gives { Gives (λ head. (option_map (applied_to args.new.items) head, names.new)) result
+    ensures gives { Gives (λ x. (option_map (applied_to args.new.items) x.0, names.new)) result
         (fact names.old (parts_at s.now p.token)) }
+    ensures position { IfOk result (λ x. IsPosition s.now x.1) }
+    ensures later { IfOk result (λ x. (p.token < x.1.token) × (x.1.token ≤ token_count s.now)) }
+    ensures behind { IfOk result (λ x. parts_at s.now x.1.token ≡ behind_at s.now p.token) }
 {
     let (at, word, next) = word_due_from(s, p)?;
     if is_word(word, b"=") {
-        assignment(s, next.token)?;
-        Ok(None)
+        let behind = assignment(s, next.token)?;
+        Ok((None, behind))
     } else {
         let head = marked_used_of(names, at, word, marks)?;
-        used_names_of(s, next, names, marks, args)?;
-        Ok(Some(head))
+        let behind = used_names_of(s, next, names, marks, args)?;
+        Ok((Some(head), behind))
     }
 }
 
 // The fewest tokens of an atom: its two parentheses and its head.
 const FEWEST_TOKENS: usize = 3;
 
-/// The atoms of `:init` from token `i` up to the end of the section. They are read by positions, and only an assignment by
-/// the numbers of its tokens.
+/// The atoms of `:init` from token `i` up to the end of the section. They are read by positions, so that the end of a fact is
+/// where reading it ends, and only an assignment by the numbers of its tokens.
 #[tactic(auto, using(gd_reader::proofs::Keeping::keeps_same, gd_reader::proofs::Keeping::keeps_then))]
 pub(crate) fn facts_of(
     alloc: Global,
@@ -127,8 +144,9 @@ pub(crate) fn facts_of(
     let mut marks = Marks::new(alloc)?;
     let mut args = Vec::new(alloc);
     let mut p = s.position(i);
-    while let Some((inside, behind)) = list_or_end_from(s, p)? {
-        if let Some(head) = fact_of(s, inside, names, &mut marks, &mut args)? {
+    while let Some(inside) = opened_or_end_from(s, p)? {
+        let (head, behind) = fact_of(s, inside, names, &mut marks, &mut args)?;
+        if let Some(head) = head {
             facts.push(head, args.as_slice())?;
         }
         p = behind;
