@@ -1,4 +1,4 @@
-ghost use Rattle.std.specs.Prelude.{◌≡◌, [], ◌∷◌, ◌++◌, length, slice_get, IfOk, OnOk};
+ghost use Rattle.std.specs.Prelude.{◌≡◌, [], ◌∷◌, ◌++◌, cond, length, slice_get, IfOk, OnOk};
 ghost use Rattle.htn_base.specs.Packed.{numbers_of, row_of};
 
 use crate::lengths::number;
@@ -151,11 +151,34 @@ impl PackedNumbers {
     pub fn extend(&mut self, numbers: &[u32]) -> Result<(), Memory>
         ensures put { OnOk result (self.new ≡ self.old ++ numbers.now) }
     {
+        if let Numbers::Bytes(bytes) = &mut self.numbers {
+            if put_few(bytes, numbers)? {
+                return Ok(());
+            }
+        }
         for n in numbers {
             self.push(*n)?;
         }
         Ok(())
     }
+}
+
+// Puts the numbers at the end all at once, if they are few and each is a byte.
+fn put_few(bytes: &mut Vec<u8>, numbers: &[u32]) -> Result<bool, Memory>
+    ensures { IfOk result (λ put. bytes.new.items ≡ bytes.old.items ++ cond put numbers.now []) }
+{
+    let mut few = [0_u8; 16];
+    if numbers.len() > few.len() {
+        return Ok(false);
+    }
+    for (i, n) in numbers.iter().enumerate() {
+        match u8::try_from(*n) {
+            Ok(byte) => few[i] = byte,
+            Err(_) => return Ok(false),
+        }
+    }
+    bytes.extend_from_slice(&few[..numbers.len()])?;
+    Ok(true)
 }
 
 // The bytes and one more number in two bytes each, with room for as many as there was room for.
