@@ -20,7 +20,7 @@ loop-i-preserved c =
     let atom : RawTerm → RawAtom = λ head. record { head = head; args = c.read.new.args.items } in
     let read = option_map atom c.in_ok-head.field-0 in
     let e = c.in_ok-head.ensures.fact in
-    elim c.match-branch-2.branch [
+    elim c.match-branch-3.branch [
       | in-Some+in_ok-predicate+in_ok-push w ↦
           let x = atom w.in-Some.head in
           let is = read_is xs i read e x (ap (option_map atom) w.in-Some.is) in
