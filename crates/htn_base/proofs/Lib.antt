@@ -2,4 +2,5 @@ pub mod DifferentLemmas
 pub mod TableLemmas
 pub mod EscapeLemmas
 pub mod PackedLemmas
+pub mod ReadAt
 pub mod examples

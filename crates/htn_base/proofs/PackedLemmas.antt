@@ -1,26 +1,11 @@
--- Numbers read one after the other, and rows in three lists: which row stands where, and one more row.
-use Rattle.std.proofs.Common.{ℕ, zero, suc, ◌≡◌, ◌≤◌, ◌-◌, ◌+◌, List, [], ◌∷◌, ◌++◌, length, take, drop, Option, Some, None, slice_get}
+-- Rows in three lists: which row stands where, and one more row.
+use Rattle.std.proofs.Common.{ℕ, zero, suc, ◌≡◌, ◌≤◌, ◌-◌, List, [], ◌∷◌, ◌++◌, length, take, drop, Some, None, slice_get}
 use Rattle.std.proofs.Common.{refl, sym, ap, ◌∙◌, arith, length-append}
 use Rattle.std.specs.Prelude.{slice_range}
-use Rattle.std.proofs.lemmas.List.{take-append-le, drop-append-le, length-drop, take_more}
-use Rattle.std.proofs.lemmas.Option.{slice_get_within, get_or_from_slice_get, slice_get_past}
+use Rattle.std.proofs.lemmas.List.{take-append-le, drop-append-le, length-drop}
+use Rattle.std.proofs.lemmas.Option.{slice_get_past}
 use Rattle.std.proofs.Math.Seq.{drop-append_seam, take-length}
 use Rattle.htn_base.specs.Packed.{Row, row_of, rows_from, EndsFrom, AreRows}
-
--- a list and the next item that was read
-module _ {X : Type 0} (xs : List X) (i : ℕ) (read : Option X) (e : read ≡ slice_get xs i) where
-  pub next_read : (x : X) → read ≡ Some x → take (i + 1) xs ≡ take i xs ++ x ∷ []
-  next_read x is =
-      let there = sym e ∙ is in
-      take_more xs i x (slice_get_within xs i x there) ∙ ap (λ y. take i xs ++ y ∷ []) (get_or_from_slice_get xs i x x there)
-
-  pub none_read : read ≡ None → length xs ≤ i
-  none_read is = none xs i (sym e ∙ is)
-    where
-      none : (xs : List X) (i : ℕ) → slice_get xs i ≡ None → length xs ≤ i
-      none [] i e = omega arith
-      none (x ∷ xs) zero e = absurd (cc e)
-      none (x ∷ xs) (suc i) e = let rest = none xs i e in omega (arith, rest)
 
 -- a part stays as it is where more comes behind
 part_kept : (xs ys : List ℕ) (start end : ℕ) → start ≤ end → end ≤ length xs → slice_range (xs ++ ys) start end ≡ slice_range xs start end

@@ -1,6 +1,8 @@
 -- Numbers in as few bytes as they take, and rows of such numbers in three lists.
 -- Source: this project's.
-use Rattle.std.specs.Prelude.{ℕ, ◌≡◌, ◌≤◌, List, [], ◌∷◌, length, slice_range}
+use Rattle.std.specs.Prelude.{ℕ, ◌≡◌, ◌≤◌, List, [], ◌∷◌, length, slice_range, Option, Some, None}
+use Rattle.std.specs.declared.alloc.Global.{Global}
+use Rattle.std.specs.declared.boxed.Box.{Box}
 use Rattle.htn_base.specs.declared.packed.Numbers.{Numbers}
 use Rattle.htn_base.specs.declared.packed.Numbers.TheVariants.{Bytes, Halves, Words}
 
@@ -28,6 +30,11 @@ rows_from start (head ∷ heads) (end ∷ ends) numbers = row_of head (slice_ran
 abbrev pub EndsFrom : ℕ → List ℕ → ℕ → Type 0
 EndsFrom start [] length = start ≡ length
 EndsFrom start (end ∷ ends) length = (start ≤ end) × EndsFrom end ends length
+
+-- the rows, where there are any
+abbrev pub rows_or_none : Option (Box (List Row) Global) → List Row
+rows_or_none None = []
+rows_or_none (Some rows) = rows.value
 
 -- What holds of the three lists of rows: an end for each head, and no number in no row.
 pub record AreRows (heads ends numbers : List ℕ) : Type 0 where

@@ -263,10 +263,10 @@ impl<'a> Model for PackedRow<'a> {
     ghost view = { λ row. row_of row.head row.rest };
 }
 
-/// Rows in order, each a head and further numbers. The numbers of all stand in one list, so that no row takes memory of
-/// its own. Contracts see the list of the rows. After want of memory there are none.
+// Rows in order. The numbers of all stand in one list, so that no row takes memory of its own. After want of memory there
+// are none.
 #[derive(Drop)]
-pub struct PackedRows {
+struct Rows {
     alloc: Global,
     heads: PackedNumbers,
     // where the numbers of each row end among those of all
@@ -274,7 +274,7 @@ pub struct PackedRows {
     rest: PackedNumbers,
 }
 
-impl Model for PackedRows {
+impl Model for Rows {
     ghost use Rattle.std.specs.Prelude.{List};
     ghost use Rattle.htn_base.specs.Packed.{Row, rows_from, AreRows};
 
@@ -285,12 +285,12 @@ impl Model for PackedRows {
     ghost invariant = { λ rows. AreRows rows.heads rows.ends rows.rest };
 }
 
-impl PackedRows {
-    /// No rows. They take no memory yet.
-    pub fn new(alloc: Global) -> PackedRows
+impl Rows {
+    // No rows. They take no memory yet.
+    fn new(alloc: Global) -> Rows
         ensures none { result ≡ [] }
     {
-        PackedRows {
+        Rows {
             alloc,
             heads: PackedNumbers::new(alloc),
             ends: PackedNumbers::new(alloc),
@@ -298,11 +298,11 @@ impl PackedRows {
         }
     }
 
-    /// No rows, with room for so many, and for so many further numbers of all together, of a byte each.
-    pub fn with_room(alloc: Global, rows: usize, numbers: usize) -> Result<PackedRows, Memory>
+    // No rows, with room for so many, and for so many further numbers of all together, of a byte each.
+    fn with_room(alloc: Global, rows: usize, numbers: usize) -> Result<Rows, Memory>
         ensures none { IfOk result (λ rows. rows ≡ []) }
     {
-        Ok(PackedRows {
+        Ok(Rows {
             alloc,
             heads: PackedNumbers::with_room(alloc, rows)?,
             ends: PackedNumbers::with_room(alloc, rows)?,
@@ -310,17 +310,17 @@ impl PackedRows {
         })
     }
 
-    /// The number of rows.
+    // The number of rows.
     #[inline]
-    pub fn len(&self) -> usize
+    fn len(&self) -> usize
         ensures length { result ≡ length self.now }
     {
         self.heads.len()
     }
 
-    /// The row at place `k` from 0, or `None` past the end.
+    // The row at place `k` from 0, or `None` past the end.
     #[inline]
-    pub fn get(&self, k: usize) -> Option<PackedRow<'_>>
+    fn get(&self, k: usize) -> Option<PackedRow<'_>>
         ensures row { result ≡ slice_get self.now k }
     {
         let head = self.heads.get(k)?;
@@ -334,20 +334,103 @@ impl PackedRows {
         Some(PackedRow { head, rest })
     }
 
-    /// Puts a row at the end. More than 4,294,967,295 further numbers in all want memory.
+    // Puts a row at the end. More than 4,294,967,295 further numbers in all want memory.
     #[inline]
-    pub fn push(&mut self, head: u32, rest: &[u32]) -> Result<(), Memory>
+    fn push(&mut self, head: u32, rest: &[u32]) -> Result<(), Memory>
         ensures pushed { OnOk result (self.new ≡ self.old ++ row_of head rest.now ∷ []) }
     {
         let put = put_row(&mut self.heads, &mut self.ends, &mut self.rest, head, rest);
         match put {
             Ok(()) => Ok(()),
             Err(Memory) => {
-                *self = PackedRows::new(self.alloc);
+                *self = Rows::new(self.alloc);
                 Err(Memory)
             }
         }
     }
+}
+
+/// Rows in order, each a head and further numbers. The numbers of all stand in one list, so that no row takes memory of
+/// its own. Contracts see the list of the rows. After want of memory there are none, or those that there were.
+#[derive(Drop)]
+pub struct PackedRows {
+    alloc: Global,
+    // on the heap, so that what owns rows owns one thing
+    rows: Option<Box<Rows>>,
+}
+
+impl Model for PackedRows {
+    ghost use Rattle.std.specs.Prelude.{List};
+    ghost use Rattle.htn_base.specs.Packed.{Row, rows_or_none};
+
+    ghost Value = { List Row };
+
+    ghost view = { λ packed. rows_or_none packed.rows };
+}
+
+impl PackedRows {
+    /// No rows. They take no memory yet.
+    pub fn new(alloc: Global) -> PackedRows
+        ensures none { result ≡ [] }
+    {
+        PackedRows { alloc, rows: None }
+    }
+
+    /// No rows, with room for so many, and for so many further numbers of all together, of a byte each.
+    pub fn with_room(alloc: Global, rows: usize, numbers: usize) -> Result<PackedRows, Memory>
+        ensures none { IfOk result (λ rows. rows ≡ []) }
+    {
+        let rows = Box::new(alloc, Rows::with_room(alloc, rows, numbers)?)?;
+        Ok(PackedRows {
+            alloc,
+            rows: Some(rows),
+        })
+    }
+
+    /// The number of rows.
+    #[inline]
+    pub fn len(&self) -> usize
+        ensures length { result ≡ length self.now }
+    {
+        match &self.rows {
+            None => 0,
+            Some(rows) => rows.len(),
+        }
+    }
+
+    /// The row at place `k` from 0, or `None` past the end.
+    #[inline]
+    pub fn get(&self, k: usize) -> Option<PackedRow<'_>>
+        ensures row { result ≡ slice_get self.now k }
+    {
+        match &self.rows {
+            None => None,
+            Some(rows) => rows.get(k),
+        }
+    }
+
+    /// Puts a row at the end. More than 4,294,967,295 further numbers in all want memory.
+    #[inline]
+    pub fn push(&mut self, head: u32, rest: &[u32]) -> Result<(), Memory>
+        ensures pushed { OnOk result (self.new ≡ self.old ++ row_of head rest.now ∷ []) }
+    {
+        match &mut self.rows {
+            Some(rows) => rows.push(head, rest),
+            None => {
+                self.rows = Some(first_row(self.alloc, head, rest)?);
+                Ok(())
+            }
+        }
+    }
+}
+
+// One row.
+fn first_row(alloc: Global, head: u32, rest: &[u32]) -> Result<Box<Rows>, Memory>
+    ensures { IfOk result (λ rows. rows.value ≡ row_of head rest.now ∷ []) }
+{
+    let mut rows = Rows::new(alloc);
+    rows.push(head, rest)?;
+    Ok(Box::new(alloc, rows)?)
 }
 
 // Puts a row at the end of the lists of rows: the head, the numbers behind those of all, and where they end.

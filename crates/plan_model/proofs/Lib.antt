@@ -2,5 +2,4 @@ pub mod examples
 pub mod Marks
 pub mod PartsOf
 pub mod Numbers
-pub mod ReadAt
 pub mod NumberLaws

@@ -3,7 +3,7 @@ use Rattle.std.specs.Option.{option_map}
 use Rattle.gd_reader.specs.declared.term.RawAtom.{RawAtom}
 use Rattle.gd_reader.specs.declared.term.RawTerm.{RawTerm}
 use Rattle.plan_model.specs.Facts.{atom_of}
-use Rattle.plan_model.proofs.ReadAt.{read_is, none_read}
+use Rattle.htn_base.proofs.ReadAt.{read_is, none_read}
 use Rattle.name_numbers.specs.Spots.{noted}
 use Rattle.bind_formulas.specs.Atoms.{atom_faults}
 use Rattle.bind_formulas.specs.Facts.{fact_bound}

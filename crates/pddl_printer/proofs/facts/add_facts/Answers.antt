@@ -1,5 +1,5 @@
 use Rattle.std.proofs.Common.{rules, refl, subst, ◌<◌}
-use Rattle.plan_model.proofs.ReadAt.{read_is, none_read}
+use Rattle.htn_base.proofs.ReadAt.{read_is, none_read}
 use Rattle.pddl_printer.specs.Texts.{fact_text}
 use Rattle.pddl_printer.proofs.Batches.{each-added, each-added-all}
 use Rattle.pddl_printer.proofs.facts.add_facts.Goals as goal

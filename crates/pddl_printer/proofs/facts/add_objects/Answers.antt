@@ -3,7 +3,7 @@ use Rattle.plan_texts.specs.SpellsPddl.{pddl_words}
 use Rattle.plan_texts.specs.Printed.{term_part}
 use Rattle.plan_model.specs.declared.terms.Term.TheVariants.{Obj}
 use Rattle.plan_model.specs.declared.values.Pddl.{Pddl}
-use Rattle.plan_model.proofs.ReadAt.{read_is, none_read}
+use Rattle.htn_base.proofs.ReadAt.{read_is, none_read}
 use Rattle.pddl_printer.specs.Behind.{behind}
 use Rattle.pddl_printer.proofs.Batches.{added-as, added-then, each-added, each-added-all}
 use Rattle.pddl_printer.proofs.Each.{behind-each-made}

@@ -1,6 +1,6 @@
 use Rattle.std.proofs.Common.{◌≡◌, ◌<◌, length, map, arith, ap, subst, ◌∙◌}
 use Rattle.plan_model.specs.declared.terms.GroundAtom.{GroundAtom}
-use Rattle.plan_model.proofs.ReadAt.{read_is, none_read}
+use Rattle.htn_base.proofs.ReadAt.{read_is, none_read}
 use Rattle.encoded_texts.specs.NamedObjects.{greatest, of_object, of_fact}
 use Rattle.problem_texts.proofs.Greatest.{greatest-next}
 use Rattle.problem_texts.proofs.named_objects.named_by_facts.Goals as goal

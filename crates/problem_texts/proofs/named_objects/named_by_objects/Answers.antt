@@ -1,5 +1,5 @@
 use Rattle.std.proofs.Common.{◌<◌, arith, subst}
-use Rattle.plan_model.proofs.ReadAt.{read_is, none_read}
+use Rattle.htn_base.proofs.ReadAt.{read_is, none_read}
 use Rattle.encoded_texts.specs.NamedObjects.{of_object}
 use Rattle.problem_texts.proofs.Greatest.{greatest-next}
 use Rattle.problem_texts.proofs.named_objects.named_by_objects.Goals as goal

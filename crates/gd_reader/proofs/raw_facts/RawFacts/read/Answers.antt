@@ -3,7 +3,7 @@ use Rattle.std.specs.Option.{option_map, unwrap_or}
 use Rattle.std.proofs.lemmas.List.{take_all}
 use Rattle.std.proofs.lemmas.Option.{slice_get-map, unwrap_or-slice_get}
 use Rattle.htn_base.specs.Packed.{Row, row_of}
-use Rattle.htn_base.proofs.PackedLemmas.{next_read, none_read}
+use Rattle.htn_base.proofs.ReadAt.{next_read, past_read}
 use Rattle.gd_reader.specs.RawRows.{term_coded, terms_coded, atom_coded}
 use Rattle.gd_reader.proofs.Coding.{few_terms, take_past}
 use Rattle.gd_reader.proofs.raw_facts.RawFacts.read.Goals as goal
@@ -22,7 +22,7 @@ loop-j-preserved c =
           let next = next_read terms j read is w.in-Some-term_of_row.term w.in-Some-term_of_row.is in
           rw (w.args-is, w.in_ok-push.ensures.items, c.loop-j.invariant, next) refl
       | in_default-term_of_row w ↦
-          rw (w.args-is, c.loop-j.invariant) (sym (take_past terms j (none_read terms j read is w.in_default-term_of_row.is)))
+          rw (w.args-is, c.loop-j.invariant) (sym (take_past terms j (past_read terms j read is w.in_default-term_of_row.is)))
     ]
 
 pub returns : goal.returns

@@ -2,7 +2,7 @@ use Rattle.std.proofs.Common.{rules, ◌≡◌, ◌+◌, ◌<◌, sym, ◌≤◌
 use Rattle.std.proofs.lemmas.List.{take_all}
 use Rattle.plan_model.specs.declared.terms.GroundAtom.{GroundAtom}
 use Rattle.plan_model.specs.Facts.{atom_of}
-use Rattle.plan_model.proofs.ReadAt.{read_is, none_read}
+use Rattle.htn_base.proofs.ReadAt.{read_is, none_read}
 use Rattle.ground_state.specs.declared.state.State.{State}
 use Rattle.ground_state.specs.States.{Has, IsNoted}
 use Rattle.ground_state.proofs.StateLaws.{new-next, made-true}

@@ -1,18 +1,19 @@
 use Rattle.std.proofs.Common.{◌∷◌, length, slice_get, ap, sym, ◌∙◌, arith}
-use Rattle.htn_base.proofs.PackedLemmas.{none_read, no_row, row_read, row_within}
-use Rattle.htn_base.proofs.packed.PackedRows.get.Goals as goal
+use Rattle.htn_base.proofs.PackedLemmas.{no_row, row_read, row_within}
+use Rattle.htn_base.proofs.ReadAt.{past_read}
+use Rattle.htn_base.proofs.packed.Rows.get.Goals as goal
 
 pub returns-in_err-head : goal.returns-in_err-head
 returns-in_err-head c =
     let rows = c.self.inside in
-    let past = none_read rows.heads c.args.k c.get.result c.get.ensures.number c.in_err-head.was in
+    let past = past_read rows.heads c.args.k c.get.result c.get.ensures.number c.in_err-head.was in
     rw c.from_residual.ensures
     (record { row = no_row rows.heads rows.ends rows.rest c.args.self.now c.args.k c.self.invariant.paired c.self.view_is past })
 
 pub returns-in_err-start : goal.returns-in_err-start
 returns-in_err-start c =
     let rows = c.self.inside in
-    let past = none_read (0 ∷ rows.ends) c.args.k c.start_of.result c.start_of.ensures c.in_err-start.was in
+    let past = past_read (0 ∷ rows.ends) c.args.k c.start_of.result c.start_of.ensures c.in_err-start.was in
     let paired = c.self.invariant.paired in
     rw c.from_residual-in_err-start.ensures
     (record { row = no_row rows.heads rows.ends rows.rest c.args.self.now c.args.k paired c.self.view_is (omega (arith, past, paired)) })
@@ -20,7 +21,7 @@ returns-in_err-start c =
 pub returns-in_err-end : goal.returns-in_err-end
 returns-in_err-end c =
     let rows = c.self.inside in
-    let past = none_read rows.ends c.args.k c.get-2.result c.get-2.ensures.number c.in_err-end.was in
+    let past = past_read rows.ends c.args.k c.get-2.result c.get-2.ensures.number c.in_err-end.was in
     let paired = c.self.invariant.paired in
     rw c.from_residual-in_err-end.ensures
     (record { row = no_row rows.heads rows.ends rows.rest c.args.self.now c.args.k paired c.self.view_is (omega (arith, past, paired)) })
