@@ -5,9 +5,9 @@ use Rattle.task_networks.specs.Spelling.{numbers}
 use Rattle.sheets.specs.Sheets.{Wrote}
 use Rattle.sheets.specs.declared.sheet.Sheet.{Sheet}
 use Rattle.sheets.proofs.Written.{wrote-as, wrote-nothing, wrote-then}
-use Rattle.text_forms.specs.Lists.{Parts, group}
+use Rattle.text_forms.specs.Lists.{Part, Parts, group, nothing, part}
 use Rattle.text_forms.specs.Words.{Word}
-use Rattle.text_forms.specs.Printing.{bytes_behind, headed}
+use Rattle.text_forms.specs.Printing.{bytes, bytes_behind, headed}
 use Rattle.pddl_printer.specs.declared.batch.Batch.{Batch}
 use Rattle.pddl_printer.specs.Batches.{Added}
 use Rattle.pddl_printer.specs.Behind.{behind, between, of_each}
@@ -36,6 +36,13 @@ added-nothing x s = record { first = []; rest = append-nil x.bytes.items; wrote 
 -- the bytes of equal values
 pub added-of : {X : Type 0} (f : X → List ℕ) {i j : X} {x y : Batch} {s t : Sheet} → i ≡ j → Added (f i) x y s t → Added (f j) x y s t
 added-of f e d = added-as (ap f e) d
+
+-- one part behind a space, and two
+pub added-one : (p : Part) {x y : Batch} {s t : Sheet} → Added (behind p) x y s t → Added (bytes_behind (part p nothing)) x y s t
+added-one p d = added-as (ap (λ z. 32 ∷ z) (sym (append-nil (bytes p)))) d
+
+pub added-two : (p q : Part) {x y z : Batch} {s t u : Sheet} → Added (behind p) x y s t → Added (behind q) y z t u → Added (bytes_behind (part p (part q nothing))) x z s u
+added-two p q d e = added-then d (added-one q e)
 
 -- a list behind a space: what opens it, its parts, and what closes it
 pub added-headed : (k : Word) (ps : Parts) {x y z w : Batch} {s t u v : Sheet} → Added (32 ∷ 40 ∷ k) x y s t → Added (bytes_behind ps) y z t u → Added (41 ∷ []) z w u v → Added (behind (headed k ps)) x w s v

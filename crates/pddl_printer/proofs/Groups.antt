@@ -16,15 +16,9 @@ wrote-at f e w = wrote-as (ap f e) w
 pub wrote-one : (p : Part) {s t : Sheet} → Wrote (behind p) s t → Wrote (bytes_behind (part p nothing)) s t
 wrote-one p v = wrote-as (ap (λ z. 32 ∷ z) (sym (append-nil (bytes p)))) v
 
-pub wrote-two : (p q : Part) {s t u : Sheet} → Wrote (behind p) s t → Wrote (behind q) t u → Wrote (bytes_behind (part p (part q nothing))) s u
-wrote-two p q v w = wrote-then v (wrote-one q w)
-
 pub wrote-headed : (k : Word) (ps : Parts) {s t u v : Sheet} → Wrote (32 ∷ 40 ∷ k) s t → Wrote (bytes_behind ps) t u → Wrote (41 ∷ []) u v → Wrote (behind (headed k ps)) s v
 wrote-headed k ps a b c = wrote-as (append_assoc (32 ∷ 40 ∷ k) (bytes_behind ps) (41 ∷ [])) (wrote-then (wrote-then a b) c)
 
 pub closed : (ps : Parts) → (32 ∷ 40 ∷ []) ++ (between ps ++ 41 ∷ []) ≡ behind (group ps)
 closed nothing = refl
 closed (part p ps) = ap (λ z. 32 ∷ 40 ∷ z) (append_assoc (bytes p) (bytes_behind ps) (41 ∷ []))
-
-pub wrote-group : (ps : Parts) {s t u v : Sheet} → Wrote (32 ∷ 40 ∷ []) s t → Wrote (between ps) t u → Wrote (41 ∷ []) u v → Wrote (behind (group ps)) s v
-wrote-group ps a b c = wrote-as (closed ps) (wrote-then a (wrote-then b c))

@@ -1,59 +1,89 @@
 ghost use Rattle.pddl_printer.specs.Texts.{effect_text, effects_text, effect_within};
+ghost use Rattle.pddl_printer.specs.Batches.{Added};
 ghost use Rattle.sheets.specs.Sheets.{Wrote};
 
-use crate::formulas::put_formula;
-use crate::terms::put_atom;
-use crate::typed_lists::put_variables;
+use crate::batch::Batch;
+use crate::formulas::add_formula;
+use crate::terms::add_atom;
+use crate::typed_lists::add_variables;
 use plan_model::{Effect, Param, Pddl, Scope};
 use sheets::Sheet;
 
 /// Puts an effect behind a space.
-#[cycle(effects)]
 pub(crate) fn put_effect(p: &Pddl, scope: &Scope<'_>, effect: &Effect, sheet: &mut Sheet<'_>)
     ensures { Wrote (effect_text p.now scope.now effect.now) sheet.old sheet.new }
 {
+    let mut batch = Batch::new();
+    add_effect(p, scope, effect, &mut batch, sheet);
+    batch.put(sheet);
+}
+
+/// Adds an effect to a batch, behind a space.
+#[cycle(effects)]
+fn add_effect(
+    p: &Pddl,
+    scope: &Scope<'_>,
+    effect: &Effect,
+    batch: &mut Batch,
+    sheet: &mut Sheet<'_>,
+)
+    ensures { Added (effect_text p.now scope.now effect.now) batch.old batch.new sheet.old sheet.new }
+{
     match effect {
-        Effect::Add(atom) => put_atom(p, scope, atom, sheet),
+        Effect::Add(atom) => add_atom(p, scope, atom, batch, sheet),
         Effect::Delete(atom) => {
-            sheet.put(b" (not");
-            put_atom(p, scope, atom, sheet);
-            sheet.put(b")");
+            batch.add(b" (not", sheet);
+            add_atom(p, scope, atom, batch, sheet);
+            batch.add(b")", sheet);
         }
         Effect::And(parts) => {
-            sheet.put(b" (and");
-            put_effects(p, scope, parts.as_slice(), sheet);
-            sheet.put(b")");
+            batch.add(b" (and", sheet);
+            add_effects(p, scope, parts.as_slice(), batch, sheet);
+            batch.add(b")", sheet);
         }
         Effect::Forall(params, body) => {
-            sheet.put(b" (forall");
-            put_variables(p, params.as_slice(), sheet);
-            put_within(p, scope, params.as_slice(), body.get(), sheet);
-            sheet.put(b")");
+            batch.add(b" (forall", sheet);
+            add_variables(p, params.as_slice(), batch, sheet);
+            add_within(p, scope, params.as_slice(), body.get(), batch, sheet);
+            batch.add(b")", sheet);
         }
         Effect::When(condition, body) => {
-            sheet.put(b" (when");
-            put_formula(p, scope, condition, sheet);
-            put_effect(p, scope, body.get(), sheet);
-            sheet.put(b")");
+            batch.add(b" (when", sheet);
+            add_formula(p, scope, condition, batch, sheet);
+            add_effect(p, scope, body.get(), batch, sheet);
+            batch.add(b")", sheet);
         }
     }
 }
 
-/// Puts effects, each behind a space.
+/// Adds effects to a batch, each behind a space.
 #[cycle(effects)]
-fn put_effects(p: &Pddl, scope: &Scope<'_>, effects: &[Effect], sheet: &mut Sheet<'_>)
-    ensures { Wrote (effects_text p.now scope.now effects.now) sheet.old sheet.new }
+fn add_effects(
+    p: &Pddl,
+    scope: &Scope<'_>,
+    effects: &[Effect],
+    batch: &mut Batch,
+    sheet: &mut Sheet<'_>,
+)
+    ensures { Added (effects_text p.now scope.now effects.now) batch.old batch.new sheet.old sheet.new }
 {
     for effect in effects {
-        put_effect(p, scope, effect, sheet);
+        add_effect(p, scope, effect, batch, sheet);
     }
 }
 
-/// Puts an effect behind a space, with these variables in force too.
+/// Adds an effect to a batch, behind a space, with these variables in force too.
 #[cycle(effects)]
-fn put_within(p: &Pddl, scope: &Scope<'_>, params: &[Param], effect: &Effect, sheet: &mut Sheet<'_>)
-    ensures { Wrote (effect_within p.now scope.now params.now effect.now) sheet.old sheet.new }
+fn add_within(
+    p: &Pddl,
+    scope: &Scope<'_>,
+    params: &[Param],
+    effect: &Effect,
+    batch: &mut Batch,
+    sheet: &mut Sheet<'_>,
+)
+    ensures { Added (effect_within p.now scope.now params.now effect.now) batch.old batch.new sheet.old sheet.new }
 {
     let within = Scope::Within(&*scope, &*params);
-    put_effect(p, &within, effect, sheet);
+    add_effect(p, &within, effect, batch, sheet);
 }

@@ -1,78 +1,111 @@
 ghost use Rattle.pddl_printer.specs.Texts.{formula_text, formulas_text, formula_within};
+ghost use Rattle.pddl_printer.specs.Batches.{Added};
 ghost use Rattle.sheets.specs.Sheets.{Wrote};
 
-use crate::terms::{put_applied, put_atom};
-use crate::typed_lists::put_variables;
+use crate::batch::Batch;
+use crate::terms::{add_applied, add_atom};
+use crate::typed_lists::add_variables;
 use plan_model::{Formula, Param, Pddl, Scope};
 use sheets::Sheet;
 
 /// Puts a formula behind a space.
-#[cycle(formulas)]
 pub(crate) fn put_formula(p: &Pddl, scope: &Scope<'_>, formula: &Formula, sheet: &mut Sheet<'_>)
     ensures { Wrote (formula_text p.now scope.now formula.now) sheet.old sheet.new }
 {
-    match formula {
-        Formula::Holds(atom) => put_atom(p, scope, atom, sheet),
-        Formula::Equal(left, right) => {
-            put_applied(p, scope, b"=", &[*left, *right], sheet);
-        }
-        Formula::Not(part) => {
-            sheet.put(b" (not");
-            put_formula(p, scope, part.get(), sheet);
-            sheet.put(b")");
-        }
-        Formula::And(parts) => {
-            sheet.put(b" (and");
-            put_formulas(p, scope, parts.as_slice(), sheet);
-            sheet.put(b")");
-        }
-        Formula::Or(parts) => {
-            sheet.put(b" (or");
-            put_formulas(p, scope, parts.as_slice(), sheet);
-            sheet.put(b")");
-        }
-        Formula::Imply(premise, conclusion) => {
-            sheet.put(b" (imply");
-            put_formula(p, scope, premise.get(), sheet);
-            put_formula(p, scope, conclusion.get(), sheet);
-            sheet.put(b")");
-        }
-        Formula::Forall(params, body) => {
-            sheet.put(b" (forall");
-            put_variables(p, params.as_slice(), sheet);
-            put_within(p, scope, params.as_slice(), body.get(), sheet);
-            sheet.put(b")");
-        }
-        Formula::Exists(params, body) => {
-            sheet.put(b" (exists");
-            put_variables(p, params.as_slice(), sheet);
-            put_within(p, scope, params.as_slice(), body.get(), sheet);
-            sheet.put(b")");
-        }
-    }
+    let mut batch = Batch::new();
+    add_formula(p, scope, formula, &mut batch, sheet);
+    batch.put(sheet);
 }
 
 /// Puts formulas, each behind a space.
-#[cycle(formulas)]
 pub(crate) fn put_formulas(p: &Pddl, scope: &Scope<'_>, formulas: &[Formula], sheet: &mut Sheet<'_>)
     ensures { Wrote (formulas_text p.now scope.now formulas.now) sheet.old sheet.new }
 {
-    for formula in formulas {
-        put_formula(p, scope, formula, sheet);
+    let mut batch = Batch::new();
+    add_formulas(p, scope, formulas, &mut batch, sheet);
+    batch.put(sheet);
+}
+
+/// Adds a formula to a batch, behind a space.
+#[cycle(formulas)]
+pub(crate) fn add_formula(
+    p: &Pddl,
+    scope: &Scope<'_>,
+    formula: &Formula,
+    batch: &mut Batch,
+    sheet: &mut Sheet<'_>,
+)
+    ensures { Added (formula_text p.now scope.now formula.now) batch.old batch.new sheet.old sheet.new }
+{
+    match formula {
+        Formula::Holds(atom) => add_atom(p, scope, atom, batch, sheet),
+        Formula::Equal(left, right) => {
+            add_applied(p, scope, b"=", &[*left, *right], batch, sheet);
+        }
+        Formula::Not(part) => {
+            batch.add(b" (not", sheet);
+            add_formula(p, scope, part.get(), batch, sheet);
+            batch.add(b")", sheet);
+        }
+        Formula::And(parts) => {
+            batch.add(b" (and", sheet);
+            add_formulas(p, scope, parts.as_slice(), batch, sheet);
+            batch.add(b")", sheet);
+        }
+        Formula::Or(parts) => {
+            batch.add(b" (or", sheet);
+            add_formulas(p, scope, parts.as_slice(), batch, sheet);
+            batch.add(b")", sheet);
+        }
+        Formula::Imply(premise, conclusion) => {
+            batch.add(b" (imply", sheet);
+            add_formula(p, scope, premise.get(), batch, sheet);
+            add_formula(p, scope, conclusion.get(), batch, sheet);
+            batch.add(b")", sheet);
+        }
+        Formula::Forall(params, body) => {
+            batch.add(b" (forall", sheet);
+            add_variables(p, params.as_slice(), batch, sheet);
+            add_within(p, scope, params.as_slice(), body.get(), batch, sheet);
+            batch.add(b")", sheet);
+        }
+        Formula::Exists(params, body) => {
+            batch.add(b" (exists", sheet);
+            add_variables(p, params.as_slice(), batch, sheet);
+            add_within(p, scope, params.as_slice(), body.get(), batch, sheet);
+            batch.add(b")", sheet);
+        }
     }
 }
 
-/// Puts a formula behind a space, with these variables in force too.
+/// Adds formulas to a batch, each behind a space.
 #[cycle(formulas)]
-fn put_within(
+fn add_formulas(
+    p: &Pddl,
+    scope: &Scope<'_>,
+    formulas: &[Formula],
+    batch: &mut Batch,
+    sheet: &mut Sheet<'_>,
+)
+    ensures { Added (formulas_text p.now scope.now formulas.now) batch.old batch.new sheet.old sheet.new }
+{
+    for formula in formulas {
+        add_formula(p, scope, formula, batch, sheet);
+    }
+}
+
+/// Adds a formula to a batch, behind a space, with these variables in force too.
+#[cycle(formulas)]
+fn add_within(
     p: &Pddl,
     scope: &Scope<'_>,
     params: &[Param],
     formula: &Formula,
+    batch: &mut Batch,
     sheet: &mut Sheet<'_>,
 )
-    ensures { Wrote (formula_within p.now scope.now params.now formula.now) sheet.old sheet.new }
+    ensures { Added (formula_within p.now scope.now params.now formula.now) batch.old batch.new sheet.old sheet.new }
 {
     let within = Scope::Within(&*scope, &*params);
-    put_formula(p, &within, formula, sheet);
+    add_formula(p, &within, formula, batch, sheet);
 }

@@ -3,7 +3,6 @@ ghost use Rattle.text_forms.specs.Words.{word_at};
 ghost use Rattle.pddl_printer.specs.Batches.{Added};
 ghost use Rattle.pddl_printer.specs.Scopes.{words_in_force};
 ghost use Rattle.pddl_printer.specs.Texts.{term_text, terms_text, applied_text, atom_text};
-ghost use Rattle.sheets.specs.Sheets.{Wrote};
 
 use crate::batch::Batch;
 use crate::words::{name_word, object_word, predicate_word};
@@ -45,28 +44,33 @@ fn add_terms(p: &Pddl, scope: &Scope<'_>, terms: &[Term], batch: &mut Batch, she
     }
 }
 
-/// Puts a word with terms behind a space, as `(= ?x ?y)`.
-pub(crate) fn put_applied(
+/// Adds a word with terms to a batch, behind a space, as `(= ?x ?y)`.
+pub(crate) fn add_applied(
     p: &Pddl,
     scope: &Scope<'_>,
     word: &[u8],
     terms: &[Term],
+    batch: &mut Batch,
     sheet: &mut Sheet<'_>,
 )
-    ensures { Wrote (applied_text p.now scope.now word.now terms.now) sheet.old sheet.new }
+    ensures { Added (applied_text p.now scope.now word.now terms.now) batch.old batch.new sheet.old sheet.new }
 {
-    let mut batch = Batch::new();
     batch.add(b" (", sheet);
     batch.add(word, sheet);
-    add_terms(p, scope, terms, &mut batch, sheet);
+    add_terms(p, scope, terms, batch, sheet);
     batch.add(b")", sheet);
-    batch.put(sheet);
 }
 
-/// Puts a predicate with its terms behind a space.
-pub(crate) fn put_atom(p: &Pddl, scope: &Scope<'_>, atom: &Atom, sheet: &mut Sheet<'_>)
-    ensures { Wrote (atom_text p.now scope.now atom.now) sheet.old sheet.new }
+/// Adds a predicate with its terms to a batch, behind a space.
+pub(crate) fn add_atom(
+    p: &Pddl,
+    scope: &Scope<'_>,
+    atom: &Atom,
+    batch: &mut Batch,
+    sheet: &mut Sheet<'_>,
+)
+    ensures { Added (atom_text p.now scope.now atom.now) batch.old batch.new sheet.old sheet.new }
 {
     let predicate = predicate_word(p, atom.predicate);
-    put_applied(p, scope, predicate, atom.args.as_slice(), sheet);
+    add_applied(p, scope, predicate, atom.args.as_slice(), batch, sheet);
 }

@@ -73,14 +73,21 @@ fn add_between(p: &Pddl, params: &[Param], batch: &mut Batch, sheet: &mut Sheet<
     }
 }
 
+/// Adds a list of variables with their types to a batch, behind a space.
+pub(crate) fn add_variables(p: &Pddl, params: &[Param], batch: &mut Batch, sheet: &mut Sheet<'_>)
+    ensures { Added (variables_text p.now params.now) batch.old batch.new sheet.old sheet.new }
+{
+    batch.add(b" (", sheet);
+    add_between(p, params, batch, sheet);
+    batch.add(b")", sheet);
+}
+
 /// Puts a list of variables with their types behind a space.
 pub(crate) fn put_variables(p: &Pddl, params: &[Param], sheet: &mut Sheet<'_>)
     ensures { Wrote (variables_text p.now params.now) sheet.old sheet.new }
 {
     let mut batch = Batch::new();
-    batch.add(b" (", sheet);
-    add_between(p, params, &mut batch, sheet);
-    batch.add(b")", sheet);
+    add_variables(p, params, &mut batch, sheet);
     batch.put(sheet);
 }
 

@@ -1,4 +1,4 @@
-use Rattle.std.proofs.Common.{ℕ, List, map, codes, ap, sym, ◌∙◌}
+use Rattle.std.proofs.Common.{refl, ℕ, List, map, codes, ap, sym, ◌∙◌}
 use Rattle.text_forms.specs.Lists.{Parts, group, nothing, part}
 use Rattle.text_forms.specs.Words.{Word}
 use Rattle.text_forms.specs.Printing.{bytes_behind}
@@ -7,9 +7,8 @@ use Rattle.plan_texts.specs.Printed.{all_parts, params_parts, formula_part}
 use Rattle.plan_model.specs.declared.terms.Param.{Param}
 use Rattle.pddl_printer.specs.Behind.{behind}
 use Rattle.pddl_printer.specs.Scopes.{words_in_force, words_within}
-use Rattle.sheets.proofs.Written.{wrote-as}
-use Rattle.pddl_printer.proofs.Each.{each-next, each-done, behind-each}
-use Rattle.pddl_printer.proofs.Groups.{wrote-at, wrote-one, wrote-two, wrote-headed}
+use Rattle.pddl_printer.proofs.Each.{behind-each}
+use Rattle.pddl_printer.proofs.Batches.{added-as, added-of, added-one, added-two, added-headed, each-added, each-added-all}
 use Rattle.plan_texts.specs.Declared.{Declared}
 use Rattle.plan_model.specs.declared.formulas.Formula.{Formula}
 use Rattle.plan_texts.proofs.Equations.{part-Equal, part-Not, part-And, part-Or, part-Imply, part-Forall, part-Exists}
@@ -23,72 +22,72 @@ all v s fs = all_parts (map (λ f. formula_part v f s) fs)
 abbrev listed : Declared → List Param → List ℕ
 listed v xs = behind (group (params_parts v xs))
 
-pub put_formula-returns-in-Equal : goal.put_formula-returns-in-Equal
-put_formula-returns-in-Equal t c =
+pub add_formula-returns-in-Equal : goal.add_formula-returns-in-Equal
+add_formula-returns-in-Equal t c =
     let v = pddl_words c.args.p.now in
     let s : List Word = words_in_force c.args.p.now c.args.scope.now in
-    wrote-at behind (sym (ap (λ f. formula_part v f s) c.in-Equal.is ∙ part-Equal v c.in-Equal.left c.in-Equal.right s))
-    c.put_applied.ensures
+    added-of behind (sym (ap (λ f. formula_part v f s) c.in-Equal.is ∙ part-Equal v c.in-Equal.left c.in-Equal.right s))
+    c.add_applied.ensures
 
-pub put_formula-returns-in-Not : goal.put_formula-returns-in-Not
-put_formula-returns-in-Not t c =
+pub add_formula-returns-in-Not : goal.add_formula-returns-in-Not
+add_formula-returns-in-Not t c =
     let v = pddl_words c.args.p.now in
     let s : List Word = words_in_force c.args.p.now c.args.scope.now in
     let q = formula_part v c.in-Not.part s in
-    wrote-at behind (sym (ap (λ f. formula_part v f s) c.in-Not.is ∙ part-Not v c.in-Not.part s))
-    (wrote-headed (codes "not") (part q nothing) c.put.ensures.wrote (wrote-one q (wrote-at (λ f. behind (formula_part v f s)) c.get.ensures.value c.put_formula.ensures)) c.put-in-Not.ensures.wrote)
+    added-of behind (sym (ap (λ f. formula_part v f s) c.in-Not.is ∙ part-Not v c.in-Not.part s))
+    (added-headed (codes "not") (part q nothing) c.add.ensures (added-one q (added-of (λ f. behind (formula_part v f s)) c.get.ensures.value c.add_formula.ensures)) c.add-in-Not.ensures)
 
-pub put_formula-returns-in-And : goal.put_formula-returns-in-And
-put_formula-returns-in-And t c =
+pub add_formula-returns-in-And : goal.add_formula-returns-in-And
+add_formula-returns-in-And t c =
     let v = pddl_words c.args.p.now in
     let s : List Word = words_in_force c.args.p.now c.args.scope.now in
-    wrote-at behind (sym (ap (λ f. formula_part v f s) c.in-And.is ∙ part-And v c.in-And.parts s))
-    (wrote-headed (codes "and") (all v s c.in-And.parts) c.put-in-And.ensures.wrote (wrote-at (λ fs. bytes_behind (all v s fs)) c.as_slice.ensures.items c.put_formulas.ensures) c.put-in-And-2.ensures.wrote)
+    added-of behind (sym (ap (λ f. formula_part v f s) c.in-And.is ∙ part-And v c.in-And.parts s))
+    (added-headed (codes "and") (all v s c.in-And.parts) c.add-in-And.ensures (added-of (λ fs. bytes_behind (all v s fs)) c.as_slice.ensures.items c.add_formulas.ensures) c.add-in-And-2.ensures)
 
-pub put_formula-returns-in-Or : goal.put_formula-returns-in-Or
-put_formula-returns-in-Or t c =
+pub add_formula-returns-in-Or : goal.add_formula-returns-in-Or
+add_formula-returns-in-Or t c =
     let v = pddl_words c.args.p.now in
     let s : List Word = words_in_force c.args.p.now c.args.scope.now in
-    wrote-at behind (sym (ap (λ f. formula_part v f s) c.in-Or.is ∙ part-Or v c.in-Or.parts s))
-    (wrote-headed (codes "or") (all v s c.in-Or.parts) c.put-in-Or.ensures.wrote (wrote-at (λ fs. bytes_behind (all v s fs)) c.as_slice-in-Or.ensures.items c.put_formulas-in-Or.ensures) c.put-in-Or-2.ensures.wrote)
+    added-of behind (sym (ap (λ f. formula_part v f s) c.in-Or.is ∙ part-Or v c.in-Or.parts s))
+    (added-headed (codes "or") (all v s c.in-Or.parts) c.add-in-Or.ensures (added-of (λ fs. bytes_behind (all v s fs)) c.as_slice-in-Or.ensures.items c.add_formulas-in-Or.ensures) c.add-in-Or-2.ensures)
 
-pub put_formula-returns-in-Imply : goal.put_formula-returns-in-Imply
-put_formula-returns-in-Imply t c =
+pub add_formula-returns-in-Imply : goal.add_formula-returns-in-Imply
+add_formula-returns-in-Imply t c =
     let v = pddl_words c.args.p.now in
     let s : List Word = words_in_force c.args.p.now c.args.scope.now in
     let q = formula_part v c.in-Imply.premise s in
     let r = formula_part v c.in-Imply.conclusion s in
-    wrote-at behind (sym (ap (λ f. formula_part v f s) c.in-Imply.is ∙ part-Imply v c.in-Imply.premise c.in-Imply.conclusion s))
-    (wrote-headed (codes "imply") (part q (part r nothing)) c.put-in-Imply.ensures.wrote
-    (wrote-two q r (wrote-at (λ f. behind (formula_part v f s)) c.get-in-Imply.ensures.value c.put_formula-in-Imply.ensures) (wrote-at (λ f. behind (formula_part v f s)) c.get-in-Imply-2.ensures.value c.put_formula-in-Imply-2.ensures))
-    c.put-in-Imply-2.ensures.wrote)
+    added-of behind (sym (ap (λ f. formula_part v f s) c.in-Imply.is ∙ part-Imply v c.in-Imply.premise c.in-Imply.conclusion s))
+    (added-headed (codes "imply") (part q (part r nothing)) c.add-in-Imply.ensures
+    (added-two q r (added-of (λ f. behind (formula_part v f s)) c.get-in-Imply.ensures.value c.add_formula-in-Imply.ensures) (added-of (λ f. behind (formula_part v f s)) c.get-in-Imply-2.ensures.value c.add_formula-in-Imply-2.ensures))
+    c.add-in-Imply-2.ensures)
 
-pub put_formula-returns-in-Forall : goal.put_formula-returns-in-Forall
-put_formula-returns-in-Forall t c =
+pub add_formula-returns-in-Forall : goal.add_formula-returns-in-Forall
+add_formula-returns-in-Forall t c =
     let v = pddl_words c.args.p.now in
     let s : List Word = words_in_force c.args.p.now c.args.scope.now in
     let g = group (params_parts v c.in-Forall.params) in
     let q = formula_part v c.in-Forall.body (words_within c.args.p.now c.args.scope.now c.in-Forall.params) in
-    wrote-at behind (sym (ap (λ f. formula_part v f s) c.in-Forall.is ∙ part-Forall v c.in-Forall.params c.in-Forall.body s))
-    (wrote-headed (codes "forall") (part g (part q nothing)) c.put-in-Forall.ensures.wrote
-    (wrote-two g q (wrote-at (listed v) c.as_slice-in-Forall.ensures.items c.put_variables.ensures)
-    (wrote-as (λ i. behind (formula_part v (c.get-in-Forall.ensures.value i) (words_within c.args.p.now c.args.scope.now (c.as_slice-in-Forall-2.ensures.items i)))) c.put_within.ensures))
-    c.put-in-Forall-2.ensures.wrote)
+    added-of behind (sym (ap (λ f. formula_part v f s) c.in-Forall.is ∙ part-Forall v c.in-Forall.params c.in-Forall.body s))
+    (added-headed (codes "forall") (part g (part q nothing)) c.add-in-Forall.ensures
+    (added-two g q (added-of (listed v) c.as_slice-in-Forall.ensures.items c.add_variables.ensures)
+    (added-as (λ i. behind (formula_part v (c.get-in-Forall.ensures.value i) (words_within c.args.p.now c.args.scope.now (c.as_slice-in-Forall-2.ensures.items i)))) c.add_within.ensures))
+    c.add-in-Forall-2.ensures)
 
-pub put_formula-returns-in-Exists : goal.put_formula-returns-in-Exists
-put_formula-returns-in-Exists t c =
+pub add_formula-returns-in-Exists : goal.add_formula-returns-in-Exists
+add_formula-returns-in-Exists t c =
     let v = pddl_words c.args.p.now in
     let s : List Word = words_in_force c.args.p.now c.args.scope.now in
     let g = group (params_parts v c.in-Exists.params) in
     let q = formula_part v c.in-Exists.body (words_within c.args.p.now c.args.scope.now c.in-Exists.params) in
-    wrote-at behind (sym (ap (λ f. formula_part v f s) c.in-Exists.is ∙ part-Exists v c.in-Exists.params c.in-Exists.body s))
-    (wrote-headed (codes "exists") (part g (part q nothing)) c.put-in-Exists.ensures.wrote
-    (wrote-two g q (wrote-at (listed v) c.as_slice-in-Exists.ensures.items c.put_variables-in-Exists.ensures)
-    (wrote-as (λ i. behind (formula_part v (c.get-in-Exists.ensures.value i) (words_within c.args.p.now c.args.scope.now (c.as_slice-in-Exists-2.ensures.items i)))) c.put_within-in-Exists.ensures))
-    c.put-in-Exists-2.ensures.wrote)
+    added-of behind (sym (ap (λ f. formula_part v f s) c.in-Exists.is ∙ part-Exists v c.in-Exists.params c.in-Exists.body s))
+    (added-headed (codes "exists") (part g (part q nothing)) c.add-in-Exists.ensures
+    (added-two g q (added-of (listed v) c.as_slice-in-Exists.ensures.items c.add_variables-in-Exists.ensures)
+    (added-as (λ i. behind (formula_part v (c.get-in-Exists.ensures.value i) (words_within c.args.p.now c.args.scope.now (c.as_slice-in-Exists-2.ensures.items i)))) c.add_within-in-Exists.ensures))
+    c.add-in-Exists-2.ensures)
 
-pub put_formulas-loop-formula-preserved : goal.put_formulas-loop-formula-preserved
-put_formulas-loop-formula-preserved t c = each-next (λ f. behind (formula_part (pddl_words c.args.p.now) f (words_in_force c.args.p.now c.args.scope.now))) c.args.formulas.now c.loop-formula.formula-index c.formula-item.result c.loop-formula-test.true c.formula-item.is c.loop-formula.invariant c.put_formula.ensures
+pub add_formulas-loop-formula-preserved : goal.add_formulas-loop-formula-preserved
+add_formulas-loop-formula-preserved t c = each-added (λ f. behind (formula_part (pddl_words c.args.p.now) f (words_in_force c.args.p.now c.args.scope.now))) c.args.formulas.now c.loop-formula.formula-index c.formula-item.result c.loop-formula-test.true c.formula-item.is c.loop-formula.invariant c.add_formula.ensures
 
-pub put_formulas-returns : goal.put_formulas-returns
-put_formulas-returns t c = wrote-as (behind-each (λ f. formula_part (pddl_words c.args.p.now) f (words_in_force c.args.p.now c.args.scope.now)) c.args.formulas.now) (each-done (λ f. behind (formula_part (pddl_words c.args.p.now) f (words_in_force c.args.p.now c.args.scope.now))) c.args.formulas.now c.loop-formula.formula-index c.loop-formula-test.false c.loop-formula.invariant)
+pub add_formulas-returns : goal.add_formulas-returns
+add_formulas-returns t c = added-as (behind-each (λ f. formula_part (pddl_words c.args.p.now) f (words_in_force c.args.p.now c.args.scope.now)) c.args.formulas.now) (each-added-all (λ f. behind (formula_part (pddl_words c.args.p.now) f (words_in_force c.args.p.now c.args.scope.now))) c.args.formulas.now c.loop-formula.formula-index c.loop-formula-test.false refl c.loop-formula.invariant)

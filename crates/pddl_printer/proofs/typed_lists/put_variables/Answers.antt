@@ -1,7 +1,5 @@
-use Rattle.plan_texts.specs.SpellsPddl.{pddl_words}
-use Rattle.plan_texts.specs.Printed.{params_parts}
-use Rattle.pddl_printer.proofs.Batches.{added-all, added-group}
+use Rattle.pddl_printer.proofs.Batches.{added-all}
 use Rattle.pddl_printer.proofs.typed_lists.put_variables.Goals as goal
 
 pub returns : goal.returns
-returns c = added-all c.new-batch.ensures (added-group (params_parts (pddl_words c.args.p.now) c.args.params.now) c.add.ensures c.add_between.ensures c.add-2.ensures) c.put.ensures.wrote
+returns c = added-all c.new-batch.ensures c.add_variables.ensures c.put.ensures.wrote

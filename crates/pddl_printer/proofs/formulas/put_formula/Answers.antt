@@ -1,0 +1,5 @@
+use Rattle.pddl_printer.proofs.Batches.{added-all}
+use Rattle.pddl_printer.proofs.formulas.put_formula.Goals as goal
+
+pub returns : goal.returns
+returns c = added-all c.new-batch.ensures c.add_formula.ensures c.put.ensures.wrote
