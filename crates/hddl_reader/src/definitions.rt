@@ -8,13 +8,11 @@ ghost use Rattle.gd_reader.specs.Terms.{Keeps};
 ghost use Rattle.hddl_reader.specs.declared.sections.Definition.TheVariants as definition;
 ghost use Rattle.hddl_reader.specs.Definitions.{coded, key_due, definition_word, title, definition_inside, nothing_due, definition_read, domain_of, or_empty, problem_of, refusal, Refuses, IsDomainRead, IsProblemRead};
 
-use crate::networks::{RawNet, declared_of};
+use crate::networks::declared_of;
 use crate::parts::RawParts;
 use crate::section_bodies::sections_of;
-use crate::sections::{
-    Definition, Language, RawDomain, RawProblem, RawSections, facts_or_none, or_none, or_true,
-    params_or_none,
-};
+use crate::sections::{Definition, Language, RawDomain, RawProblem, RawSections};
+use crate::wholes::{facts_or_none, or_none, or_true, params_or_none};
 use gd_reader::{Failure, Item, Stop, is_word, item_at};
 use htn_base::{Fault, Name, NameTable};
 use sexpr_text::{ReadError, Sexprs};
@@ -46,6 +44,10 @@ impl RawSections {
     fn into_domain(self, alloc: Global, name: Name) -> RawDomain
         ensures { result ≡ domain_of (name, self) }
     {
+        drop(self.objects);
+        drop(self.network);
+        drop(self.init);
+        drop(self.goal);
         RawDomain {
             name,
             types: params_or_none(alloc, self.types),
@@ -61,17 +63,17 @@ impl RawSections {
     fn into_problem(self, alloc: Global, name: Name) -> RawProblem
         ensures { result ≡ problem_of (name, self) }
     {
-        let network = or_empty(self.network);
-        let net = RawNet {
-            subs: or_none(alloc, network.subs),
-            ordered: network.ordered,
-            pairs: or_none(alloc, network.pairs),
-            constraints: or_none(alloc, network.constraints),
-        };
+        drop(self.types);
+        drop(self.constants);
+        drop(self.predicates);
+        drop(self.tasks);
+        drop(self.methods);
+        drop(self.actions);
+        let (params, net) = or_empty(self.network).into_network(alloc);
         RawProblem {
             name,
             objects: params_or_none(alloc, self.objects),
-            params: params_or_none(alloc, network.params),
+            params,
             net,
             init: facts_or_none(alloc, self.init),
             goal: or_true(alloc, self.goal),

@@ -5,7 +5,7 @@ ghost use Rattle.text_forms.specs.Placed.{parts_at};
 ghost use Rattle.text_forms.specs.Tokens.{token_count};
 ghost use Rattle.sexpr_text.specs.Positions.{IsPosition};
 ghost use Rattle.gd_reader.specs.Added.{AddsOf};
-ghost use Rattle.gd_reader.specs.Answers.{Gives, GivesWith};
+ghost use Rattle.gd_reader.specs.Answers.{Gives, GivesWith, with_front};
 ghost use Rattle.gd_reader.specs.ShownFrom.{behind_at};
 ghost use Rattle.gd_reader.specs.Terms.{Keeps};
 ghost use Rattle.hddl_reader.specs.Sections.{words, dropped_name, used_names, assignment, applied_to, fact, facts, goal};
@@ -46,8 +46,8 @@ pub(crate) fn dropped_name(s: &Sexprs<'_>, i: u32) -> Result<(), Failure>
     }
 }
 
-// Names that are used, from a position up to the end of their list, and the position behind this list. They come in the
-// place of those that `used` had.
+// Names that are used, from a position up to the end of their list, and the position behind this list. They come in
+// the place of those that `used` had.
 #[tactic(auto, using(gd_reader::proofs::Keeping::keeps_same, gd_reader::proofs::Keeping::keeps_then))]
 fn used_names_of(
     s: &Sexprs<'_>,
@@ -125,9 +125,57 @@ fn fact_of(
 // The fewest tokens of an atom: its two parentheses and its head.
 const FEWEST_TOKENS: usize = 3;
 
-/// The atoms of `:init` from token `i` up to the end of the section. They are read by positions, so that the end of a fact is
-/// where reading it ends, and only an assignment by the numbers of its tokens.
+// Puts the atoms of `:init` from a position up to the end of the section, by memory that is kept from fact to fact. They are
+// read by positions, so that the end of a fact is where reading it ends, and only an assignment by the numbers of its tokens.
 #[tactic(auto, using(gd_reader::proofs::Keeping::keeps_same, gd_reader::proofs::Keeping::keeps_then))]
+fn put_each(
+    s: &Sexprs<'_>,
+    mut p: Position,
+    names: &mut NameTable,
+    marks: &mut Marks,
+    args: &mut Vec<RawTerm>,
+    into: &mut RawFacts,
+) -> Result<(), Failure>
+    requires position { IsPosition s.now p }
+    ensures keeps { Keeps names.old names.new }
+    ensures adds { AddsOf s.now names.old names.new }
+    ensures gives { Gives (λ _. (into.new, names.new)) result
+        (with_front into.old (facts names.old (parts_at s.now p.token))) }
+{
+    while let Some(inside) = opened_or_end_from(s, p)? {
+        let (head, behind) = fact_of(s, inside, names, marks, args)?;
+        if let Some(head) = head {
+            into.push(head, args.as_slice())?;
+        }
+        p = behind;
+    }
+    Ok(())
+}
+
+// The same from token `i` on.
+#[tactic(auto, using(gd_reader::proofs::Keeping::keeps_same))]
+fn put_facts(
+    alloc: Global,
+    s: &Sexprs<'_>,
+    i: u32,
+    names: &mut NameTable,
+    into: &mut RawFacts,
+) -> Result<(), Failure>
+    ensures keeps { Keeps names.old names.new }
+    ensures adds { AddsOf s.now names.old names.new }
+    ensures gives { Gives (λ _. (into.new, names.new)) result
+        (with_front into.old (facts names.old (parts_at s.now i))) }
+{
+    let mut marks = Marks::new(alloc)?;
+    let mut args = Vec::new(alloc);
+    let read = put_each(s, s.position(i), names, &mut marks, &mut args, into);
+    drop(args);
+    drop(marks);
+    read
+}
+
+/// The atoms of `:init` from token `i` up to the end of the section.
+#[tactic(auto, using(gd_reader::proofs::Keeping::keeps_same, gd_reader::proofs::Steps::front_none))]
 pub(crate) fn facts_of(
     alloc: Global,
     s: &Sexprs<'_>,
@@ -141,17 +189,13 @@ pub(crate) fn facts_of(
     // Room for as many facts as the text may still have. Memory that is never touched costs nothing.
     let tokens = s.len().saturating_sub(i) as usize;
     let mut facts = RawFacts::with_room(alloc, tokens / FEWEST_TOKENS, tokens)?;
-    let mut marks = Marks::new(alloc)?;
-    let mut args = Vec::new(alloc);
-    let mut p = s.position(i);
-    while let Some(inside) = opened_or_end_from(s, p)? {
-        let (head, behind) = fact_of(s, inside, names, &mut marks, &mut args)?;
-        if let Some(head) = head {
-            facts.push(head, args.as_slice())?;
+    match put_facts(alloc, s, i, names, &mut facts) {
+        Ok(()) => Ok(facts),
+        Err(failure) => {
+            drop(facts);
+            Err(failure)
         }
-        p = behind;
     }
-    Ok(facts)
 }
 
 /// A goal in its parentheses, and the end of its section.

@@ -14,6 +14,7 @@ mod opened;
 mod parts;
 mod section_bodies;
 mod sections;
+mod wholes;
 
 pub use definitions::{domain, problem};
 pub use networks::{RawCon, RawNet, RawPair, RawSub};

@@ -9,7 +9,7 @@ ghost use Rattle.hddl_reader.specs.Sections.{no_sections, named_parts, section_r
 use crate::facts::{dropped_name, facts_of, goal_of, words_of};
 use crate::items::all_of;
 use crate::networks::declared_of;
-use crate::parts::{Parted, RawParts, parts_of};
+use crate::parts::{Parted, RawParts, parts_of, put};
 use crate::sections::{Definition, Language, RawSections, Section};
 use gd_reader::{Failure, ListKind, RawTerm, params_of, pass, word_due};
 use htn_base::NameTable;
@@ -52,8 +52,7 @@ impl RawSections {
             (section_read section.Types self.old names.old (parts_at s.now i)) }
     {
         let (types, _) = params_of(alloc, s, i, ListKind::Types, names)?;
-        self.types = Some(types);
-        Ok(())
+        put(Ok(types), &mut self.types)
     }
 
     // Constants.
@@ -71,8 +70,7 @@ impl RawSections {
             (section_read section.Constants self.old names.old (parts_at s.now i)) }
     {
         let (constants, _) = params_of(alloc, s, i, ListKind::Objects, names)?;
-        self.constants = Some(constants);
-        Ok(())
+        put(Ok(constants), &mut self.constants)
     }
 
     // Objects.
@@ -90,8 +88,7 @@ impl RawSections {
             (section_read section.Objects self.old names.old (parts_at s.now i)) }
     {
         let (objects, _) = params_of(alloc, s, i, ListKind::Objects, names)?;
-        self.objects = Some(objects);
-        Ok(())
+        put(Ok(objects), &mut self.objects)
     }
 
     // Predicates.
@@ -108,8 +105,7 @@ impl RawSections {
         ensures gives { Gives (λ _. (self.new, names.new)) result
             (section_read section.Predicates self.old names.old (parts_at s.now i)) }
     {
-        self.predicates = Some(all_of(alloc, s, i, names)?);
-        Ok(())
+        put(all_of(alloc, s, i, names), &mut self.predicates)
     }
 
     // One task more.
@@ -185,8 +181,10 @@ impl RawSections {
         ensures gives { Gives (λ _. (self.new, names.new)) result
             (section_read section.Network self.old names.old (parts_at s.now i)) }
     {
-        self.network = Some(parts_of(alloc, s, i, Parted::Network, names)?);
-        Ok(())
+        put(
+            parts_of(alloc, s, i, Parted::Network, names),
+            &mut self.network,
+        )
     }
 
     // The initial state.
@@ -203,8 +201,7 @@ impl RawSections {
         ensures gives { Gives (λ _. (self.new, names.new)) result
             (section_read section.Init self.old names.old (parts_at s.now i)) }
     {
-        self.init = Some(facts_of(alloc, s, i, names)?);
-        Ok(())
+        put(facts_of(alloc, s, i, names), &mut self.init)
     }
 
     // The goal.
@@ -221,8 +218,7 @@ impl RawSections {
         ensures gives { Gives (λ _. (self.new, names.new)) result
             (section_read section.Goal self.old names.old (parts_at s.now i)) }
     {
-        self.goal = Some(goal_of(alloc, s, i, names)?);
-        Ok(())
+        put(goal_of(alloc, s, i, names), &mut self.goal)
     }
 
     // A section by its keyword.

@@ -7,7 +7,7 @@ ghost use Rattle.gd_reader.specs.Answers.{Gives};
 ghost use Rattle.gd_reader.specs.Shown.{AreLater, parts_at_both};
 ghost use Rattle.hddl_reader.specs.Parts.{keyword_by};
 ghost use Rattle.hddl_reader.specs.declared.sections.Language.TheVariants as language;
-ghost use Rattle.hddl_reader.specs.Sections.{or_none, or_true, or_nothing, head_of, network_of, action_of, method_of, plain_table, hierarchy_table, section_of, no_sections, has_section, may_end, predicate_headed, section_due};
+ghost use Rattle.hddl_reader.specs.Sections.{plain_table, hierarchy_table, section_of, no_sections, has_section, may_end, predicate_headed, section_due};
 
 use crate::items::Item;
 use crate::networks::{RawNet, declared_of};
@@ -115,95 +115,6 @@ pub struct RawProblem {
     pub net: RawNet,
     pub init: RawFacts,
     pub goal: RawFormula,
-}
-
-pub(crate) fn or_none<T>(alloc: Global, list: Option<List<T>>) -> List<T>
-    ensures { result ≡ or_none list }
-{
-    match list {
-        None => List::new(alloc),
-        Some(list) => list,
-    }
-}
-
-pub(crate) fn params_or_none(alloc: Global, params: Option<RawParams>) -> RawParams
-    ensures { result ≡ or_none params }
-{
-    match params {
-        None => RawParams::new(alloc),
-        Some(params) => params,
-    }
-}
-
-pub(crate) fn facts_or_none(alloc: Global, facts: Option<RawFacts>) -> RawFacts
-    ensures { result ≡ or_none facts }
-{
-    match facts {
-        None => RawFacts::new(alloc),
-        Some(facts) => facts,
-    }
-}
-
-pub(crate) fn or_true(alloc: Global, formula: Option<RawFormula>) -> RawFormula
-    ensures { result ≡ or_true formula }
-{
-    match formula {
-        None => RawFormula::And(List::new(alloc)),
-        Some(formula) => formula,
-    }
-}
-
-fn or_nothing(alloc: Global, effect: Option<RawEffect>) -> RawEffect
-    ensures { result ≡ or_nothing effect }
-{
-    match effect {
-        None => RawEffect::And(List::new(alloc)),
-        Some(effect) => effect,
-    }
-}
-
-impl RawParts {
-    /// A declared name with these parameters.
-    pub(crate) fn into_head(self, alloc: Global, name: RawTerm) -> RawHead
-        ensures { result ≡ head_of name self }
-    {
-        RawHead {
-            name,
-            params: params_or_none(alloc, self.params),
-        }
-    }
-
-    /// An action of this name with these parts.
-    pub(crate) fn into_action(self, alloc: Global, name: RawTerm) -> RawAction
-        ensures { result ≡ action_of name self }
-    {
-        let params = params_or_none(alloc, self.params);
-        RawAction {
-            head: RawHead { name, params },
-            pre: or_true(alloc, self.pre),
-            eff: or_nothing(alloc, self.eff),
-        }
-    }
-
-    /// A method of this name with these parts, where its task is among them.
-    pub(crate) fn into_method(self, alloc: Global, name: RawTerm) -> Option<RawMethod>
-        ensures { result ≡ method_of name self }
-    {
-        let task = self.task?;
-        let params = params_or_none(alloc, self.params);
-        let net = RawNet {
-            subs: or_none(alloc, self.subs),
-            ordered: self.ordered,
-            pairs: or_none(alloc, self.pairs),
-            constraints: or_none(alloc, self.constraints),
-        };
-        Some(RawMethod {
-            head: RawHead { name, params },
-            task,
-            pre: or_true(alloc, self.pre),
-            net,
-        })
-    }
 }
 
 /// A predicate.

@@ -6,15 +6,15 @@ use Rattle.gd_reader.specs.Added.{AddsOf}
 use Rattle.gd_reader.specs.Answers.{with_front}
 use Rattle.gd_reader.specs.Terms.{Keeps}
 use Rattle.hddl_reader.specs.Sections.{facts}
-use Rattle.hddl_reader.proofs.facts.facts_of.Given as goal
+use Rattle.hddl_reader.proofs.facts.put_each.Given as goal
 
-abbrev pub invariant-loop-args : goal.invariant-loop-args
-invariant-loop-args l = record {
+abbrev pub invariant-loop-inside : goal.invariant-loop-inside
+invariant-loop-inside l = record {
   here : IsPosition l.s l.p;
   keeps : Keeps l.initial.names l.names;
   adds : AddsOf l.s l.initial.names l.names;
-  rest : with_front l.facts (facts l.names (parts_at l.s l.p.token)) ≡ facts l.initial.names (parts_at l.s l.i);
+  rest : with_front l.into (facts l.names (parts_at l.s l.p.token)) ≡ with_front l.initial.into (facts l.initial.names (parts_at l.s l.initial.p.token));
 }
 
-abbrev pub decreases-loop-args : goal.decreases-loop-args
-decreases-loop-args l = token_count l.s - l.p.token
+abbrev pub decreases-loop-inside : goal.decreases-loop-inside
+decreases-loop-inside l = token_count l.s - l.p.token
