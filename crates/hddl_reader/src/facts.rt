@@ -125,8 +125,9 @@ fn fact_of(
 // The fewest tokens of an atom: its two parentheses and its head.
 const FEWEST_TOKENS: usize = 3;
 
-// Puts the atoms of `:init` from a position up to the end of the section, by memory that is kept from fact to fact. They are
-// read by positions, so that the end of a fact is where reading it ends, and only an assignment by the numbers of its tokens.
+// Puts the atoms of `:init` from a position up to the end of the section, by memory that is kept from fact to fact.
+// They are read by positions, so that the end of a fact is where reading it ends, and only an assignment by the numbers
+// of its tokens.
 #[tactic(auto, using(gd_reader::proofs::Keeping::keeps_same, gd_reader::proofs::Keeping::keeps_then))]
 fn put_each(
     s: &Sexprs<'_>,
