@@ -12,7 +12,7 @@ use Rattle.hddl_reader.proofs.facts.put_each.Goals as goal
 
 pub returns-in_err-inside-clause-gives : goal.returns-in_err-inside-clause-gives
 returns-in_err-inside-clause-gives c =
-    let p = err_from_is_err_and c.from_residual-in_err-inside.result c.from_residual-in_err-inside.ensures.1 in
+    let p = err_from_is_err_and c.from_residual.result c.from_residual.ensures.1 in
     rw (p.1, p.2) (facts_stuck c.loop-inside.into c.loop-inside.names
     (parts_at c.args.s.now c.loop-inside.p.token) (with_front c.args.into.now (facts c.args.names.now (parts_at c.args.s.now c.args.p.token)))
     c.loop-inside.invariant.rest c.in_err-inside.field-0.0 c.in_err-inside.ensures.gives)
