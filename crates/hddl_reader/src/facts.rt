@@ -213,6 +213,11 @@ pub(crate) fn goal_of(
 {
     let (inside, behind) = list_due(s, i)?;
     let formula = inside_of(alloc, s, inside, names)?;
-    end_due(s, behind)?;
-    Ok(formula)
+    match end_due(s, behind) {
+        Ok(()) => Ok(formula),
+        Err(failure) => {
+            drop(formula);
+            Err(failure)
+        }
+    }
 }

@@ -91,8 +91,8 @@ pub(crate) fn some_of<T: Item>(
             if is_word(word, b"and") {
                 all_of(alloc, s, behind, names)
             } else {
-                let mut items = List::new(alloc);
                 let item = T::headed_of(alloc, s, place, at, word, behind, names)?;
+                let mut items = List::new(alloc);
                 items.push(item)?;
                 Ok(items)
             }
