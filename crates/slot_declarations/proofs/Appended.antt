@@ -1,6 +1,7 @@
 -- Lists put behind one another.
-use Rattle.std.proofs.Common.{ℕ, ◌≡◌, ◌+◌, ◌<◌, List, [], ◌∷◌, ◌++◌, map, take, length, get_or, Result, IfOk, IsOkAnd, refl, ap, sym, ◌∙◌, append_assoc}
+use Rattle.std.proofs.Common.{ℕ, ◌≡◌, ◌+◌, ◌<◌, List, [], ◌∷◌, ◌++◌, map, take, length, get_or, Result, IfOk, IsOkAnd, OnOk, refl, ap, sym, ◌∙◌, append_assoc}
 use Rattle.std.proofs.lemmas.List.{map_more}
+use Rattle.std.proofs.lemmas.Result.{on_ok_weaker}
 use Rattle.slot_encoding.proofs.NextSlot.{put_is}
 
 module _ {A : Type 0} where
@@ -10,14 +11,9 @@ module _ {A : Type 0} where
   pub append_three : (o m n p a b c : List A) → m ≡ o ++ a → n ≡ m ++ b → p ≡ n ++ c → p ≡ o ++ (a ++ (b ++ c))
   append_three o m n p a b c g h i = append_two o m p a (b ++ c) g (append_two m n p b c h i)
 
-  pub append_four : (o m n p q a b c d : List A) → m ≡ o ++ a → n ≡ m ++ b → p ≡ n ++ c → q ≡ p ++ d → q ≡ o ++ (a ++ (b ++ (c ++ d)))
-  append_four o m n p q a b c d g h i j = append_two o m q a (b ++ (c ++ d)) g (append_three m n p q b c d h i j)
-
-  pub append_five : (o m n p q r a b c d e : List A) → m ≡ o ++ a → n ≡ m ++ b → p ≡ n ++ c → q ≡ p ++ d → r ≡ q ++ e → r ≡ o ++ (a ++ (b ++ (c ++ (d ++ e))))
-  append_five o m n p q r a b c d e g h i j k = append_two o m r a (b ++ (c ++ (d ++ e))) g (append_four m n p q r b c d e h i j k)
-
-  pub append_six : (o m n p q r s a b c d e f : List A) → m ≡ o ++ a → n ≡ m ++ b → p ≡ n ++ c → q ≡ p ++ d → r ≡ q ++ e → s ≡ r ++ f → s ≡ o ++ (a ++ (b ++ (c ++ (d ++ (e ++ f)))))
-  append_six o m n p q r s a b c d e f g h i j k l = append_two o m s a (b ++ (c ++ (d ++ (e ++ f)))) g (append_five m n p q r s b c d e f h i j k l)
+  -- two parts of a list, where the call that puts the second one succeeds
+  pub ok_two : {T E : Type 0} (r : Result T E) (o m n a b all : List A) → a ++ b ≡ all → m ≡ o ++ a → OnOk r (n ≡ m ++ b) → OnOk r (n ≡ o ++ all)
+  ok_two r o m n a b all e g h = on_ok_weaker {P = n ≡ m ++ b} {Q = n ≡ o ++ all} r (λ k. append_two o m n a b g k ∙ ap (λ z. o ++ z) e) h
 
 -- behind old, now has the first i items, and new has the next one's too
 pub map_next : {X Y : Type 0} (f : X → Y) (xs : List X) (i : ℕ) (d : X) (old now new : List Y) (y : Y)

@@ -4,12 +4,11 @@ use Rattle.slot_encoding.specs.EncodedNames.{guard_types}
 use Rattle.slot_declarations.specs.Made as made
 use Rattle.slot_declarations.specs.declared.frame.Frame.{Frame}
 
-left_nested : {A : Type 0} (p t a k g : List A) → p ++ (t ++ (a ++ (k ++ g))) ≡ (((p ++ t) ++ a) ++ k) ++ g
-left_nested p t a k g = sym (append_assoc ((p ++ t) ++ a) k g ∙ append_assoc (p ++ t) a (k ++ g) ∙ append_assoc p t (a ++ (k ++ g)))
+halves : {A : Type 0} (p t a k g : List A) → (p ++ t) ++ (a ++ (k ++ g)) ≡ (((p ++ t) ++ a) ++ k) ++ g
+halves p t a k g = sym (append_assoc ((p ++ t) ++ a) k g ∙ append_assoc (p ++ t) a (k ++ g))
 
 module _ (f : Frame) where
-  pub predicates-is : map (made.predicate f) f.compiled.now.hddl.predicates ++ (made.slot_predicates f ++ (map (made.task_held f) f.compiled.now.hddl.tasks ++ (map (made.action_held f) f.compiled.now.hddl.actions
-      ++ (made.checks_held f f.compiled.now.methods ++ map (made.guard_tested f) (guard_types f.compiled.now))))) ≡ made.predicates f
+  pub predicates-is : made.front_predicates f ++ made.work_predicates f ≡ made.predicates f
   predicates-is =
-      left_nested (map (made.predicate f) f.compiled.now.hddl.predicates) (made.slot_predicates f ++ map (made.task_held f) f.compiled.now.hddl.tasks) (map (made.action_held f) f.compiled.now.hddl.actions)
+      halves (map (made.predicate f) f.compiled.now.hddl.predicates) (made.slot_predicates f ++ map (made.task_held f) f.compiled.now.hddl.tasks) (map (made.action_held f) f.compiled.now.hddl.actions)
       (made.checks_held f f.compiled.now.methods) (map (made.guard_tested f) (guard_types f.compiled.now))

@@ -106,6 +106,13 @@ module _ (f : Frame) where
   abbrev pub guard_tested : ℕ → Predicate
   guard_tested ty = record { name = guard_name ty; params = record { name = source.name words (codes "htn_a1"); ty = encoded.object_type } ∷ [] }
 
+  -- the first and the other half of the predicates
+  abbrev pub front_predicates : List Predicate
+  front_predicates = map predicate c.hddl.predicates ++ (slot_predicates ++ map task_held c.hddl.tasks)
+
+  abbrev pub work_predicates : List Predicate
+  work_predicates = map action_held c.hddl.actions ++ (checks_held c.methods ++ map guard_tested (encoded.guard_types c))
+
   -- types, objects and predicates
   abbrev pub AreDeclarations : Declarations → Type 0
   AreDeclarations = frames.AreDeclarations c words b

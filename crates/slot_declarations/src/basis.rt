@@ -1,8 +1,8 @@
-ghost use Rattle.std.specs.Prelude.{◌≡◌, ◌∷◌, [], ◌++◌, length, IfOk, OnOk};
+ghost use Rattle.std.specs.Prelude.{◌≡◌, ◌<◌, ◌+◌, ◌^◌, ◌∷◌, [], ◌++◌, length, IfOk, OnOk};
 ghost use Rattle.slot_encoding.specs.EncodedNames as names;
 ghost use Rattle.slot_encoding.specs.OrderNames as orders;
-ghost use Rattle.slot_declarations.specs.Frames.{HasSourceWords, IsBasis, AreChecks};
-ghost use Rattle.slot_declarations.specs.Pieces.{if_checked};
+ghost use Rattle.slot_declarations.specs.Frames.{HasSourceWords, IsBasis, AreChecks, AreNumbers};
+ghost use Rattle.slot_declarations.specs.Pieces.{checked, if_checked};
 
 use crate::guards::guard_types;
 use crate::numbers::{Numbers, numbers_of, plus};
@@ -40,14 +40,48 @@ pub fn basis_of(
     ensures { IfOk result (IsBasis c.now printed.now slots) }
 {
     let checks = checks_of(alloc, c.methods.as_slice())?;
-    let numbers = numbers_of(c, number(checks.methods.len())?)?;
-    let order = order_of(c, printed, numbers.before)?;
-    plus(order.first_slot, slots)?;
-    Ok(Basis {
+    match numbering_of(alloc, c, printed, slots, checks.methods.len()) {
+        Ok(numbering) => Ok(Basis {
+            numbers: numbering.numbers,
+            order: numbering.order,
+            guard_types: numbering.guard_types,
+            checks,
+        }),
+        Err(memory) => {
+            drop(checks);
+            Err(memory)
+        }
+    }
+}
+
+/// What is worked out once but the checks.
+#[derive(Drop)]
+struct Numbering {
+    numbers: Numbers,
+    order: OrderNames,
+    guard_types: List<u32>,
+}
+
+fn numbering_of(
+    alloc: Global,
+    c: &Compiled,
+    printed: &NameTable,
+    slots: u32,
+    checks: usize,
+) -> Result<Numbering, Memory>
+    requires { checks ≡ length (checked c.now.methods) }
+    ensures numbers { IfOk result (λ n. AreNumbers c.now n.numbers) }
+    ensures order { IfOk result (λ n.
+        orders.numbers n.order ≡ names.order_numbers c.now printed.now 0) }
+    ensures room { IfOk result (λ n. n.order.first_slot + slots < 2 ^ 32) }
+    ensures guard_types { IfOk result (λ n. n.guard_types ≡ names.guard_types c.now) }
+{
+    let numbers = numbers_of(c, checks)?;
+    let order = order_of(c, printed, numbers.before, slots)?;
+    Ok(Numbering {
         numbers,
         order,
         guard_types: guard_types(alloc, c)?,
-        checks,
     })
 }
 
@@ -79,14 +113,22 @@ fn push_method(plan: &MethodPlan, checks: &mut Checks) -> Result<(), Memory>
     }
 }
 
-fn order_of(c: &Compiled, printed: &NameTable, before: u32) -> Result<OrderNames, Memory>
+fn order_of(
+    c: &Compiled,
+    printed: &NameTable,
+    before: u32,
+    slots: u32,
+) -> Result<OrderNames, Memory>
     requires { before ≡ names.before_predicate c.now }
-    ensures { IfOk result (λ o. orders.numbers o ≡ names.order_numbers c.now printed.now 0) }
+    ensures order { IfOk result (λ o. orders.numbers o ≡ names.order_numbers c.now printed.now 0) }
+    ensures room { IfOk result (λ o. o.first_slot + slots < 2 ^ 32) }
 {
+    let first_slot = number(c.hddl.objects.len())?;
+    plus(first_slot, slots)?;
     Ok(OrderNames {
         before,
         slot_type: 1,
         x: name_of(printed, b"htn_x"),
-        first_slot: number(c.hddl.objects.len())?,
+        first_slot,
     })
 }

@@ -1,9 +1,9 @@
-ghost use Rattle.std.specs.Prelude.{◌≡◌, ◌+◌, length, IfOk};
+ghost use Rattle.std.specs.Prelude.{◌≡◌, ◌+◌, true, length, IfOk};
 ghost use Rattle.slot_encoding.specs.EncodedNames as spec;
-ghost use Rattle.slot_declarations.specs.Frames.{AreNumbers};
+ghost use Rattle.slot_declarations.specs.Frames.{AreNumbers, AreFew};
 ghost use Rattle.slot_declarations.specs.Pieces.{checked};
 
-use htn_base::{Memory, number};
+use htn_base::Memory;
 use plan_model::Compiled;
 
 /// The numbers of the generated predicates, after those of the source: three of the slots, and the first ones of the tasks,
@@ -30,30 +30,46 @@ pub fn plus(a: u32, b: u32) -> Result<u32, Memory>
 }
 
 /// The numbers in a problem with so many checks.
-pub(crate) fn numbers_of(c: &Compiled, checks: u32) -> Result<Numbers, Memory>
+pub(crate) fn numbers_of(c: &Compiled, checks: usize) -> Result<Numbers, Memory>
     requires { checks ≡ length (checked c.now.methods) }
     ensures { IfOk result (AreNumbers c.now) }
 {
-    let top = number(c.hddl.predicates.len())?;
-    let tasks = number(c.hddl.tasks.len())?;
-    let actions = number(c.hddl.actions.len())?;
-    let all = top as u64 + 3 + tasks as u64 + actions as u64 + checks as u64;
-    if all > 0xffff_ffff {
-        return Err(Memory);
+    if are_few(c, checks) {
+        Ok(few_numbers(c, checks))
+    } else {
+        Err(Memory)
     }
-    plus(plus(number(c.methods.len())?, checks)?, actions)?;
+}
+
+/// Whether the predicates are few enough to have numbers, and the actions too.
+fn are_few(c: &Compiled, checks: usize) -> bool
+    ensures { result ≡ true → AreFew c.now checks }
+{
+    let works = c.hddl.actions.len().saturating_add(checks);
+    let tasks = c.hddl.predicates.len().saturating_add(c.hddl.tasks.len());
+    let most = 0xffff_ffff;
+    tasks.saturating_add(3).saturating_add(works) <= most
+        && c.methods.len().saturating_add(works) <= most
+}
+
+fn few_numbers(c: &Compiled, checks: usize) -> Numbers
+    requires checks { checks ≡ length (checked c.now.methods) }
+    requires few { AreFew c.now checks }
+    ensures { AreNumbers c.now result }
+{
+    let top = c.hddl.predicates.len() as u32;
     let first_task = top + 3;
-    let first_action = first_task + tasks;
-    let first_check = first_action + actions;
-    Ok(Numbers {
+    let first_action = first_task + c.hddl.tasks.len() as u32;
+    let first_check = first_action + c.hddl.actions.len() as u32;
+    Numbers {
         top,
         free: top + 1,
         before: top + 2,
         first_task,
         first_action,
         first_check,
-        first_guard: first_check + checks,
-    })
+        first_guard: first_check + checks as u32,
+    }
 }
 
 /// The predicate of a task. The top task is the one after the last.

@@ -20,15 +20,43 @@ pub(crate) fn encoded_predicates(
     requires { IsFrame frame.now }
     ensures { IfOk result (λ ps. ps ≡ made.predicates frame.now) }
 {
-    let c = frame.compiled;
     let mut into = List::new(alloc);
-    push_source(alloc, frame, c.hddl.predicates.as_slice(), &mut into)?;
-    push_generated(alloc, frame, &mut into)?;
-    push_tasks(alloc, frame, c.hddl.tasks.as_slice(), &mut into)?;
-    push_actions(alloc, frame, c.hddl.actions.as_slice(), &mut into)?;
-    push_checks(alloc, frame, c.methods.as_slice(), &mut into)?;
-    push_guards(alloc, frame, frame.basis.guard_types.as_slice(), &mut into)?;
+    push_predicates(alloc, frame, &mut into)?;
     Ok(into)
+}
+
+fn push_predicates(
+    alloc: Global,
+    frame: &Frame<'_>,
+    into: &mut List<Predicate>,
+) -> Result<(), Memory>
+    requires { IsFrame frame.now }
+    ensures { OnOk result (into.new ≡ into.old ++ made.predicates frame.now) }
+{
+    push_front(alloc, frame, into)?;
+    push_works(alloc, frame, into)
+}
+
+/// Puts the source's predicates at the end, those of the slots and those of the tasks.
+fn push_front(alloc: Global, frame: &Frame<'_>, into: &mut List<Predicate>) -> Result<(), Memory>
+    requires { IsFrame frame.now }
+    ensures { OnOk result (into.new ≡ into.old ++ made.front_predicates frame.now) }
+{
+    let hddl = &frame.compiled.hddl;
+    push_source(alloc, frame, hddl.predicates.as_slice(), into)?;
+    push_generated(alloc, frame, into)?;
+    push_tasks(alloc, frame, hddl.tasks.as_slice(), into)
+}
+
+/// Puts the predicates of actions, checks and guards at the end.
+fn push_works(alloc: Global, frame: &Frame<'_>, into: &mut List<Predicate>) -> Result<(), Memory>
+    requires { IsFrame frame.now }
+    ensures { OnOk result (into.new ≡ into.old ++ made.work_predicates frame.now) }
+{
+    let c = frame.compiled;
+    push_actions(alloc, frame, c.hddl.actions.as_slice(), into)?;
+    push_checks(alloc, frame, c.methods.as_slice(), into)?;
+    push_guards(alloc, frame, frame.basis.guard_types.as_slice(), into)
 }
 
 fn push_source(
@@ -65,8 +93,7 @@ fn push_generated(
 {
     into.put(of_slot(alloc, frame, b"htn_top"))?;
     into.put(of_slot(alloc, frame, b"htn_free"))?;
-    into.put(of_pair(alloc, frame))?;
-    Ok(())
+    into.put(of_pair(alloc, frame))
 }
 
 fn of_slot(alloc: Global, frame: &Frame<'_>, word: &[u8]) -> Result<Predicate, Memory>

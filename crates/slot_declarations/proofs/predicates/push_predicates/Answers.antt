@@ -1,0 +1,11 @@
+use Rattle.std.proofs.Common.{◌++◌, ap, ◌∙◌}
+use Rattle.slot_declarations.specs.Made as made
+use Rattle.slot_declarations.proofs.Appended.{ok_two}
+use Rattle.slot_declarations.proofs.PredicateParts.{predicates-is}
+use Rattle.slot_declarations.proofs.predicates.push_predicates.Goals as goal
+
+pub returns : goal.returns
+returns c =
+    let f = c.args.frame.now in
+    ok_two c.push_works.result c.args.into.now c.push_front.new.into c.push_works.new.into (made.front_predicates f) (made.work_predicates f) (made.predicates f) (predicates-is f)
+    c.in_ok-push_front.ensures c.push_works.ensures
