@@ -1,19 +1,19 @@
 //! Whole domains and problems with the fault of form that each has, code 0 for none; and a text that uses each line of the grammar,
 //! whole and cut at each byte. Codes and offsets are those of the grammar's worked rows, which were counted by hand.
 
-ghost use Rattle.std.specs.Prelude.{◌≤◌, length};
-
 use hddl_reader::{Definition, Language, RawDomain, RawProblem, domain, problem};
-use htn_base::{Fault, NameTable};
-use sexpr_text::{ReadError, read};
+use htn_base::{Fault, Memory, NameTable, Text};
+use sexpr_text::{ReadError, Sexprs, read};
 use std::alloc::Global;
 use std::process::Abort;
-use std::test::Fail;
 
 // The code and the offset of the fault, if there is one.
 fn told<T: Drop>(rt: &impl Abort, answer: Result<T, ReadError>) -> (u16, u32) {
     match answer {
-        Ok(_) => (0, 0),
+        Ok(value) => {
+            drop(value);
+            (0, 0)
+        }
         Err(ReadError::Bad(Fault { code, file, at })) => {
             assert!(rt; file == 1);
             (code, at)
@@ -28,239 +28,241 @@ fn fault_of(
     source: &[u8],
     language: Language,
     definition: Definition,
-) -> (u16, u32)
-    requires short { length source.now ≤ 16777216 }
-{
-    let s = match read(alloc, source, 1) {
-        Ok(s) => s,
-        Err(error) => return told::<()>(rt, Err(error)),
-    };
+) -> (u16, u32) {
+    assert!(rt; source.len() <= 16_777_216);
+    match read(alloc, source, 1) {
+        Ok(s) => {
+            let fault = fault_of_tokens(rt, alloc, &s, language, definition);
+            drop(s);
+            fault
+        }
+        Err(error) => told::<()>(rt, Err(error)),
+    }
+}
+
+fn fault_of_tokens(
+    rt: &impl Abort,
+    alloc: Global,
+    s: &Sexprs<'_>,
+    language: Language,
+    definition: Definition,
+) -> (u16, u32) {
     let mut names = NameTable::new(alloc);
-    match definition {
-        Definition::Domain => told(rt, domain(alloc, &s, 1, language, &mut names)),
-        Definition::Problem => told(rt, problem(alloc, &s, 1, language, &mut names)),
+    let fault = match definition {
+        Definition::Domain => told(rt, domain(alloc, s, 1, language, &mut names)),
+        Definition::Problem => told(rt, problem(alloc, s, 1, language, &mut names)),
+    };
+    drop(names);
+    fault
+}
+
+const DOMAINS: &[(&[u8], u16, u32)] = &[
+    (b"  ; nothing", 5, 11),
+    (b"define", 5, 0),
+    (b"()", 5, 1),
+    (b"(define)", 5, 7),
+    (b"(define d)", 5, 8),
+    (b"(define (problem d))", 5, 9),
+    (b"(define (domain (d)))", 5, 16),
+    (b"(define (domain :d))", 5, 16),
+    (b"(define (domain d e))", 5, 18),
+    (b"(define (domain and))", 9, 16),
+    (b"(define (domain d))", 0, 0),
+    (b"(define (domain d)) x", 8, 20),
+    (b"(define (domain d)(:metric))", 6, 19),
+    (b"(define (domain d)(:task t :subtasks ()))", 6, 27),
+    (b"(define (domain d)(:action a :task (t)))", 6, 29),
+    (
+        b"(define (domain d)(:method m :task (t) :effect ()))",
+        6,
+        39,
+    ),
+    (b"(define (domain d)(:types)(:types))", 7, 27),
+    (
+        b"(define (domain d)(:action a :parameters () :parameters ()))",
+        7,
+        44,
+    ),
+    (b"(define (domain d)(:method m :task (t) :task (t)))", 7, 39),
+    (
+        b"(define (domain d)(:method m :task (t) :subtasks () :ordered-tasks ()))",
+        7,
+        52,
+    ),
+    (
+        b"(define (domain d)(:method m :task (t) :order () :ordering ()))",
+        7,
+        49,
+    ),
+    (
+        b"(define (domain d)(:action a)(:task t)(:action b)(:task u))",
+        0,
+        0,
+    ),
+];
+
+const SCHEMAS: &[(&[u8], u16, u32)] = &[
+    (b"(define (domain d)x)", 8, 18),
+    (b"(define (domain d)())", 8, 19),
+    (b"(define (domain d)(types))", 8, 19),
+    (b"(define (domain d)((:types)))", 8, 19),
+    (b"(define (domain d)(:requirements :adl (x)))", 8, 38),
+    (b"(define (domain d)(:predicates p))", 8, 31),
+    (b"(define (domain d)(:action))", 8, 26),
+    (b"(define (domain d)(:action a (p)))", 8, 29),
+    (b"(define (domain d)(:action a :effect))", 8, 36),
+    (b"(define (domain d)(:task t :precondition (p)))", 8, 42),
+    (b"(define (domain d)(:method m :subtasks ()))", 8, 41),
+    (b"(define (domain d)(:method m :task (not)))", 8, 36),
+    (b"(define (domain d)(:task not))", 9, 25),
+    (b"(define (domain d)(:method when))", 9, 27),
+    (b"(define (domain d)(:action increase))", 9, 27),
+    (b"(define (domain d)(:predicates (and)))", 9, 32),
+    (b"(define (domain d)(:constants a <))", 9, 32),
+    (b"(define (domain d)(:types a - imply))", 9, 30),
+    (
+        b"(define (domain d)(:action a :parameters (?x ?x)))",
+        18,
+        45,
+    ),
+    (
+        b"(define (domain d)(:task t :parameters (?x - a ?x)))",
+        18,
+        47,
+    ),
+    (b"(define (domain d)(:predicates (p ?x ?x)))", 0, 0),
+];
+
+const PROBLEMS: &[(&[u8], u16, u32)] = &[
+    (b"(define (domain d))", 5, 9),
+    (b"(define (problem <))", 9, 17),
+    (b"(define (problem p))", 8, 19),
+    (b"(define (problem p)(:htn))()", 8, 26),
+    (b"(define (problem p)(:functions)(:htn))", 6, 20),
+    (b"(define (problem p)(:goal (p))(:goal (q))(:htn))", 7, 31),
+    (b"(define (problem p)(:htn)(:htn))", 7, 26),
+    (b"(define (problem p)(:domain and)(:htn))", 8, 28),
+    (b"(define (problem p)(:domain d e)(:htn))", 8, 30),
+    (b"(define (problem p)(:goal)(:htn))", 8, 25),
+    (b"(define (problem p)(:goal (p) (q))(:htn))", 8, 30),
+    (b"(define (problem p)(:objects <)(:htn))", 9, 29),
+    (
+        b"(define (problem p)(:metric minimize (total-cost))(:htn))",
+        0,
+        0,
+    ),
+    (b"(define (problem p)(:htn :task (t))(:htn))", 6, 25),
+    (
+        b"(define (problem p)(:htn :tasks () :subtasks ())(:htn))",
+        7,
+        35,
+    ),
+    (
+        b"(define (problem p)(:htn :subtasks (and (and)))(:htn))",
+        9,
+        41,
+    ),
+    (
+        b"(define (problem p)(:htn :parameters (?x ?x))(:htn))",
+        18,
+        41,
+    ),
+    (b"(define (problem p)(:init (= (c x) 0) (p a))(:htn))", 0, 0),
+    (b"(define (problem p)(:init (p ?x))(:htn))", 8, 29),
+    (b"(define (problem p)(:init (not (p)))(:htn))", 8, 27),
+    (b"(define (problem p)(:init (= c 0))(:htn))", 8, 29),
+    (b"(define (problem p)(:init (= (c)))(:htn))", 8, 32),
+];
+
+const NETWORKS: &[(&[u8], u16, u32)] = &[
+    (b"(define (problem p)(:htn :subtasks ()))", 0, 0),
+    (b"(define (problem p)(:htn :subtasks (a ?x b)))", 0, 0),
+    (b"(define (problem p)(:htn :subtasks (i (a ?x))))", 0, 0),
+    (
+        b"(define (problem p)(:htn :subtasks (and (a) (i (b c)))))",
+        0,
+        0,
+    ),
+    (b"(define (problem p)(:htn :subtasks (or (a))))", 9, 36),
+    (
+        b"(define (problem p)(:htn :subtasks (and (not (a)))))",
+        9,
+        41,
+    ),
+    (b"(define (problem p)(:htn :subtasks (i (or))))", 8, 39),
+    (b"(define (problem p)(:htn :subtasks (:i (a))))", 8, 36),
+    (b"(define (problem p)(:htn :subtasks (and ())))", 8, 41),
+    (b"(define (problem p)(:htn :subtasks (and a)))", 8, 40),
+    (b"(define (problem p)(:htn :subtasks (a ?x (b))))", 8, 41),
+    (b"(define (problem p)(:htn :subtasks (i (a) b)))", 8, 42),
+    (
+        b"(define (problem p)(:htn :ordering (and (< x y) (y < z))))",
+        0,
+        0,
+    ),
+    (b"(define (problem p)(:htn :ordering (x < y)))", 0, 0),
+    (b"(define (problem p)(:htn :ordering (< x)))", 8, 39),
+    (b"(define (problem p)(:htn :ordering (x y)))", 8, 38),
+    (b"(define (problem p)(:htn :ordering (< < y)))", 8, 38),
+    (b"(define (problem p)(:htn :ordering (x < and)))", 8, 40),
+    (
+        b"(define (problem p)(:htn :ordering (and (< x y z))))",
+        8,
+        47,
+    ),
+    (
+        b"(define (problem p)(:htn :constraints (and (= ?x ?y) (not (= ?x a)))))",
+        0,
+        0,
+    ),
+    (
+        b"(define (problem p)(:htn :constraints (not (= ?x ?y))))",
+        0,
+        0,
+    ),
+    (b"(define (problem p)(:htn :constraints (p ?x)))", 8, 39),
+    (b"(define (problem p)(:htn :constraints (not (p))))", 8, 44),
+    (b"(define (problem p)(:htn :constraints (= ?x)))", 8, 43),
+];
+
+const PDDL_DOMAINS: &[(&[u8], u16, u32)] = &[
+    (b"(define (domain d)(:task t))", 6, 19),
+    (b"(define (domain d)(:method m))", 6, 19),
+];
+
+const PDDL_PROBLEMS: &[(&[u8], u16, u32)] = &[
+    (b"(define (problem p))", 0, 0),
+    (b"(define (problem p)(:htn))", 6, 20),
+];
+
+fn have_faults(
+    rt: &impl Abort,
+    alloc: Global,
+    rows: &[(&[u8], u16, u32)],
+    language: Language,
+    definition: Definition,
+) {
+    for (source, code, at) in rows {
+        let told = fault_of(rt, alloc, source, language, definition);
+        assert!(rt; told == (*code, *at), "at {at}");
     }
 }
 
 #[test]
-fn faults_of_domains(rt: HostRuntime) {
-    let rows: [(&[u8], u16, u32); 22] = [
-        (b"  ; nothing", 5, 11),
-        (b"define", 5, 0),
-        (b"()", 5, 1),
-        (b"(define)", 5, 7),
-        (b"(define d)", 5, 8),
-        (b"(define (problem d))", 5, 9),
-        (b"(define (domain (d)))", 5, 16),
-        (b"(define (domain :d))", 5, 16),
-        (b"(define (domain d e))", 5, 18),
-        (b"(define (domain and))", 9, 16),
-        (b"(define (domain d))", 0, 0),
-        (b"(define (domain d)) x", 8, 20),
-        (b"(define (domain d)(:metric))", 6, 19),
-        (b"(define (domain d)(:task t :subtasks ()))", 6, 27),
-        (b"(define (domain d)(:action a :task (t)))", 6, 29),
-        (
-            b"(define (domain d)(:method m :task (t) :effect ()))",
-            6,
-            39,
-        ),
-        (b"(define (domain d)(:types)(:types))", 7, 27),
-        (
-            b"(define (domain d)(:action a :parameters () :parameters ()))",
-            7,
-            44,
-        ),
-        (b"(define (domain d)(:method m :task (t) :task (t)))", 7, 39),
-        (
-            b"(define (domain d)(:method m :task (t) :subtasks () :ordered-tasks ()))",
-            7,
-            52,
-        ),
-        (
-            b"(define (domain d)(:method m :task (t) :order () :ordering ()))",
-            7,
-            49,
-        ),
-        (
-            b"(define (domain d)(:action a)(:task t)(:action b)(:task u))",
-            0,
-            0,
-        ),
-    ];
-    for (source, code, at) in rows {
-        let told = fault_of(&rt, rt.alloc(), source, Language::Hddl, Definition::Domain);
-        assert!(rt; told == (code, at), "at {at}");
-    }
-}
-
-#[test]
-fn faults_of_schemas(rt: HostRuntime) {
-    let rows: [(&[u8], u16, u32); 21] = [
-        (b"(define (domain d)x)", 8, 18),
-        (b"(define (domain d)())", 8, 19),
-        (b"(define (domain d)(types))", 8, 19),
-        (b"(define (domain d)((:types)))", 8, 19),
-        (b"(define (domain d)(:requirements :adl (x)))", 8, 38),
-        (b"(define (domain d)(:predicates p))", 8, 31),
-        (b"(define (domain d)(:action))", 8, 26),
-        (b"(define (domain d)(:action a (p)))", 8, 29),
-        (b"(define (domain d)(:action a :effect))", 8, 36),
-        (b"(define (domain d)(:task t :precondition (p)))", 8, 42),
-        (b"(define (domain d)(:method m :subtasks ()))", 8, 41),
-        (b"(define (domain d)(:method m :task (not)))", 8, 36),
-        (b"(define (domain d)(:task not))", 9, 25),
-        (b"(define (domain d)(:method when))", 9, 27),
-        (b"(define (domain d)(:action increase))", 9, 27),
-        (b"(define (domain d)(:predicates (and)))", 9, 32),
-        (b"(define (domain d)(:constants a <))", 9, 32),
-        (b"(define (domain d)(:types a - imply))", 9, 30),
-        (
-            b"(define (domain d)(:action a :parameters (?x ?x)))",
-            18,
-            45,
-        ),
-        (
-            b"(define (domain d)(:task t :parameters (?x - a ?x)))",
-            18,
-            47,
-        ),
-        (b"(define (domain d)(:predicates (p ?x ?x)))", 0, 0),
-    ];
-    for (source, code, at) in rows {
-        let told = fault_of(&rt, rt.alloc(), source, Language::Hddl, Definition::Domain);
-        assert!(rt; told == (code, at), "at {at}");
-    }
-}
-
-#[test]
-fn faults_of_problems(rt: HostRuntime) {
-    let rows: [(&[u8], u16, u32); 22] = [
-        (b"(define (domain d))", 5, 9),
-        (b"(define (problem <))", 9, 17),
-        (b"(define (problem p))", 8, 19),
-        (b"(define (problem p)(:htn))()", 8, 26),
-        (b"(define (problem p)(:functions)(:htn))", 6, 20),
-        (b"(define (problem p)(:goal (p))(:goal (q))(:htn))", 7, 31),
-        (b"(define (problem p)(:htn)(:htn))", 7, 26),
-        (b"(define (problem p)(:domain and)(:htn))", 8, 28),
-        (b"(define (problem p)(:domain d e)(:htn))", 8, 30),
-        (b"(define (problem p)(:goal)(:htn))", 8, 25),
-        (b"(define (problem p)(:goal (p) (q))(:htn))", 8, 30),
-        (b"(define (problem p)(:objects <)(:htn))", 9, 29),
-        (
-            b"(define (problem p)(:metric minimize (total-cost))(:htn))",
-            0,
-            0,
-        ),
-        (b"(define (problem p)(:htn :task (t))(:htn))", 6, 25),
-        (
-            b"(define (problem p)(:htn :tasks () :subtasks ())(:htn))",
-            7,
-            35,
-        ),
-        (
-            b"(define (problem p)(:htn :subtasks (and (and)))(:htn))",
-            9,
-            41,
-        ),
-        (
-            b"(define (problem p)(:htn :parameters (?x ?x))(:htn))",
-            18,
-            41,
-        ),
-        (b"(define (problem p)(:init (= (c x) 0) (p a))(:htn))", 0, 0),
-        (b"(define (problem p)(:init (p ?x))(:htn))", 8, 29),
-        (b"(define (problem p)(:init (not (p)))(:htn))", 8, 27),
-        (b"(define (problem p)(:init (= c 0))(:htn))", 8, 29),
-        (b"(define (problem p)(:init (= (c)))(:htn))", 8, 32),
-    ];
-    for (source, code, at) in rows {
-        let told = fault_of(&rt, rt.alloc(), source, Language::Hddl, Definition::Problem);
-        assert!(rt; told == (code, at), "at {at}");
-    }
-}
-
-#[test]
-fn faults_of_networks(rt: HostRuntime) {
-    let rows: [(&[u8], u16, u32); 24] = [
-        (b"(define (problem p)(:htn :subtasks ()))", 0, 0),
-        (b"(define (problem p)(:htn :subtasks (a ?x b)))", 0, 0),
-        (b"(define (problem p)(:htn :subtasks (i (a ?x))))", 0, 0),
-        (
-            b"(define (problem p)(:htn :subtasks (and (a) (i (b c)))))",
-            0,
-            0,
-        ),
-        (b"(define (problem p)(:htn :subtasks (or (a))))", 9, 36),
-        (
-            b"(define (problem p)(:htn :subtasks (and (not (a)))))",
-            9,
-            41,
-        ),
-        (b"(define (problem p)(:htn :subtasks (i (or))))", 8, 39),
-        (b"(define (problem p)(:htn :subtasks (:i (a))))", 8, 36),
-        (b"(define (problem p)(:htn :subtasks (and ())))", 8, 41),
-        (b"(define (problem p)(:htn :subtasks (and a)))", 8, 40),
-        (b"(define (problem p)(:htn :subtasks (a ?x (b))))", 8, 41),
-        (b"(define (problem p)(:htn :subtasks (i (a) b)))", 8, 42),
-        (
-            b"(define (problem p)(:htn :ordering (and (< x y) (y < z))))",
-            0,
-            0,
-        ),
-        (b"(define (problem p)(:htn :ordering (x < y)))", 0, 0),
-        (b"(define (problem p)(:htn :ordering (< x)))", 8, 39),
-        (b"(define (problem p)(:htn :ordering (x y)))", 8, 38),
-        (b"(define (problem p)(:htn :ordering (< < y)))", 8, 38),
-        (b"(define (problem p)(:htn :ordering (x < and)))", 8, 40),
-        (
-            b"(define (problem p)(:htn :ordering (and (< x y z))))",
-            8,
-            47,
-        ),
-        (
-            b"(define (problem p)(:htn :constraints (and (= ?x ?y) (not (= ?x a)))))",
-            0,
-            0,
-        ),
-        (
-            b"(define (problem p)(:htn :constraints (not (= ?x ?y))))",
-            0,
-            0,
-        ),
-        (b"(define (problem p)(:htn :constraints (p ?x)))", 8, 39),
-        (b"(define (problem p)(:htn :constraints (not (p))))", 8, 44),
-        (b"(define (problem p)(:htn :constraints (= ?x)))", 8, 43),
-    ];
-    for (source, code, at) in rows {
-        let told = fault_of(&rt, rt.alloc(), source, Language::Hddl, Definition::Problem);
-        assert!(rt; told == (code, at), "at {at}");
-    }
-}
-
-#[test]
-fn faults_of_domains_in_pddl(rt: HostRuntime) {
-    let rows: [(&[u8], u16, u32); 2] = [
-        (b"(define (domain d)(:task t))", 6, 19),
-        (b"(define (domain d)(:method m))", 6, 19),
-    ];
-    for (source, code, at) in rows {
-        let told = fault_of(&rt, rt.alloc(), source, Language::Pddl, Definition::Domain);
-        assert!(rt; told == (code, at), "at {at}");
-    }
-}
-
-#[test]
-fn faults_of_problems_in_pddl(rt: HostRuntime) {
-    let rows: [(&[u8], u16, u32); 2] = [
-        (b"(define (problem p))", 0, 0),
-        (b"(define (problem p)(:htn))", 6, 20),
-    ];
-    for (source, code, at) in rows {
-        let told = fault_of(&rt, rt.alloc(), source, Language::Pddl, Definition::Problem);
-        assert!(rt; told == (code, at), "at {at}");
-    }
+fn faults_of_definitions(rt: HostRuntime) {
+    let alloc = rt.alloc();
+    have_faults(&rt, alloc, DOMAINS, Language::Hddl, Definition::Domain);
+    have_faults(&rt, alloc, SCHEMAS, Language::Hddl, Definition::Domain);
+    have_faults(&rt, alloc, PROBLEMS, Language::Hddl, Definition::Problem);
+    have_faults(&rt, alloc, NETWORKS, Language::Hddl, Definition::Problem);
+    have_faults(&rt, alloc, PDDL_DOMAINS, Language::Pddl, Definition::Domain);
+    have_faults(
+        &rt,
+        alloc,
+        PDDL_PROBLEMS,
+        Language::Pddl,
+        Definition::Problem,
+    );
 }
 
 // Each line of the grammar, and what is dropped.
@@ -315,21 +317,32 @@ fn is_problem(p: &RawProblem) -> bool {
 // Words of requirements, functions, increases, assignments and the metric are not kept.
 #[test]
 fn each_line_of_the_grammar(rt: HostRuntime) {
-    let alloc = rt.alloc();
-    let mut names = NameTable::new(alloc);
-    let s = read(alloc, DOMAIN, 0).expect(&rt, "a text");
-    let d = domain(alloc, &s, 0, Language::Hddl, &mut names).expect(&rt, "a domain");
-    assert!(rt; is_read_whole(&d));
-    assert!(rt; names.find(b"cost").is_none() && names.find(b":typing").is_none());
-    let s = read(alloc, PROBLEM, 1).expect(&rt, "a text");
-    let p = problem(alloc, &s, 1, Language::Hddl, &mut names).expect(&rt, "a problem");
-    assert!(rt; is_problem(&p));
-    assert!(rt; names.find(b"cost").is_none() && names.find(b"minimize").is_none());
+    let mut names = NameTable::new(rt.alloc());
+    let domain_read = reads_domain(&rt, rt.alloc(), &mut names);
+    let problem_read = reads_problem(&rt, rt.alloc(), &mut names);
+    drop(names);
+    assert!(rt; domain_read && problem_read);
 }
 
-fn refuses_each_prefix(rt: &impl Abort, alloc: Global, text: &[u8], definition: Definition)
-    requires short { length text.now ≤ 16777216 }
-{
+fn reads_domain(rt: &impl Abort, alloc: Global, names: &mut NameTable) -> bool {
+    let s = read(alloc, DOMAIN, 0).expect(rt, "a text");
+    let answer = domain(alloc, &s, 0, Language::Hddl, names);
+    drop(s);
+    let whole = matches!(&answer, Ok(d) if is_read_whole(d));
+    drop(answer);
+    whole && names.find(b"cost").is_none() && names.find(b":typing").is_none()
+}
+
+fn reads_problem(rt: &impl Abort, alloc: Global, names: &mut NameTable) -> bool {
+    let s = read(alloc, PROBLEM, 1).expect(rt, "a text");
+    let answer = problem(alloc, &s, 1, Language::Hddl, names);
+    drop(s);
+    let whole = matches!(&answer, Ok(p) if is_problem(p));
+    drop(answer);
+    whole && names.find(b"cost").is_none() && names.find(b"minimize").is_none()
+}
+
+fn refuses_each_prefix(rt: &impl Abort, alloc: Global, text: &[u8], definition: Definition) {
     for end in 0..text.len() {
         let (code, _) = fault_of(rt, alloc, &text[..end], Language::Hddl, definition);
         assert!(rt; code == if end == 0 { 5 } else { 2 }, "at {end}");
@@ -345,22 +358,35 @@ fn each_prefix_is_refused(rt: HostRuntime) {
 }
 
 // An action with so many lists in its condition, each in the one in front of it.
-fn deep(alloc: Global, lists: usize) -> Result<Vec<u8>, Fail> {
-    let mut text = Vec::from_slice(alloc, b"(define (domain d)(:action a :precondition ")?;
-    text.extend_from_slice(&b"(and".repeat(alloc, lists)?)?;
-    text.extend_from_slice(&b")".repeat(alloc, lists)?)?;
-    text.extend_from_slice(b"))")?;
-    Ok(text)
+fn put_deep(lists: u32, text: &mut Text) -> Result<(), Memory> {
+    text.push_all(b"(define (domain d)(:action a :precondition ")?;
+    for _ in 0..lists {
+        text.push_all(b"(and")?;
+    }
+    for _ in 0..lists {
+        text.push_all(b")")?;
+    }
+    text.push_all(b"))")
+}
+
+fn fault_of_deep(rt: &impl Abort, alloc: Global, lists: u32) -> (u16, u32) {
+    let mut text = Text::new(alloc);
+    let put = put_deep(lists, &mut text);
+    let fault = fault_of(
+        rt,
+        alloc,
+        text.as_slice(),
+        Language::Hddl,
+        Definition::Domain,
+    );
+    drop(text);
+    assert!(rt; put.is_ok());
+    fault
 }
 
 // The lists of the domain and of the action are open around those of the condition, which begin at 43.
 #[test]
-fn conditions_as_deep_as_lists_may_be(rt: HostRuntime) -> Result<(), Fail> {
-    for (lists, fault) in [(198, (0, 0)), (199, (4, 43 + 4 * 198))] {
-        let text = deep(rt.alloc(), lists)?;
-        assert!(rt; text.len() <= 16_777_216);
-        let told = fault_of(&rt, rt.alloc(), &text, Language::Hddl, Definition::Domain);
-        assert!(rt; told == fault, "{lists} lists");
-    }
-    Ok(())
+fn conditions_as_deep_as_lists_may_be(rt: HostRuntime) {
+    assert!(rt; fault_of_deep(&rt, rt.alloc(), 198) == (0, 0));
+    assert!(rt; fault_of_deep(&rt, rt.alloc(), 199) == (4, 43 + 4 * 198));
 }

@@ -4,9 +4,8 @@
 use hddl_values::hddl_of;
 use htn_base::Fault;
 use sexpr_text::ReadError;
-use std::alloc::Global;
+use std::alloc::{AllocError, Global};
 use std::process::Abort;
-use std::test::Fail;
 
 const DOMAIN: &[u8] = b"(define (domain d) (:predicates (r ?x)) (:action a :parameters ()))";
 
@@ -16,131 +15,153 @@ const PROBLEM: &[u8] = b"(define (problem p) (:domain d) (:htn))";
 fn told(rt: &impl Abort, alloc: Global, domain: &[u8], problem: &[u8]) -> Option<(u8, u16, u32)> {
     assert!(rt; domain.len() <= 16_777_216 && problem.len() <= 16_777_216);
     match hddl_of(alloc, domain, problem) {
-        Ok(_) => None,
+        Ok(value) => {
+            drop(value);
+            None
+        }
         Err(ReadError::Bad(Fault { code, file, at })) => Some((file, code, at)),
         Err(ReadError::Memory) => panic!(rt; "out of memory"),
     }
 }
 
+const FAULTS: &[(&[u8], &[u8], (u8, u16, u32))] = &[
+    (
+        b"(define (domain d) (:types t) (:constants c c - u))",
+        PROBLEM,
+        (0, 10, 44),
+    ),
+    (
+        b"(define (domain d) (:constants c - u c))",
+        PROBLEM,
+        (0, 11, 35),
+    ),
+    (
+        b"(define (domain d) (:types x - y y - x) (:constants c - u))",
+        PROBLEM,
+        (0, 12, 33),
+    ),
+    (
+        b"(define (domain d) (:action a :parameters () :precondition (q b)))",
+        PROBLEM,
+        (0, 13, 60),
+    ),
+    (
+        b"(define (domain d) (:task t :parameters ()) (:method m :parameters () :task (t) :subtasks (u b)))",
+        PROBLEM,
+        (0, 14, 91),
+    ),
+    (
+        b"(define (domain d) (:action a :parameters (?x) :precondition (= ?x ?y) :effect (q)))",
+        b"(define (problem p) (:domain d) (:htn) (:init (q)))",
+        (0, 16, 67),
+    ),
+    (
+        b"(define (domain d) (:task t :parameters ()) (:method m :parameters () :task (t b) :subtasks (u)))",
+        PROBLEM,
+        (0, 17, 77),
+    ),
+    (
+        DOMAIN,
+        b"(define (problem p) (:domain d) (:htn :subtasks (and (x (a)) (x (u)))))",
+        (1, 10, 62),
+    ),
+    (
+        DOMAIN,
+        b"(define (problem p) (:domain d) (:htn) (:init (r b) (q)))",
+        (1, 15, 49),
+    ),
+    (
+        DOMAIN,
+        b"(define (problem p) (:domain d) (:htn) (:init (r b b) (q)))",
+        (1, 17, 47),
+    ),
+    (
+        DOMAIN,
+        b"(define (problem p) (:domain d) (:htn :subtasks (x (a)) :ordering (and (< x y) (< x x))))",
+        (1, 19, 76),
+    ),
+    (
+        DOMAIN,
+        b"(define (problem p) (:domain d) (:htn :subtasks (x (a)) :ordering (and (< x x) (< x y))))",
+        (1, 20, 71),
+    ),
+];
+
 #[test]
 fn least_of_two_faults(rt: HostRuntime) {
-    let rows: [(&[u8], &[u8], (u8, u16, u32)); 12] = [
-        (
-            b"(define (domain d) (:types t) (:constants c c - u))",
-            PROBLEM,
-            (0, 10, 44),
-        ),
-        (
-            b"(define (domain d) (:constants c - u c))",
-            PROBLEM,
-            (0, 11, 35),
-        ),
-        (
-            b"(define (domain d) (:types x - y y - x) (:constants c - u))",
-            PROBLEM,
-            (0, 12, 33),
-        ),
-        (
-            b"(define (domain d) (:action a :parameters () :precondition (q b)))",
-            PROBLEM,
-            (0, 13, 60),
-        ),
-        (
-            b"(define (domain d) (:task t :parameters ()) (:method m :parameters () :task (t) :subtasks (u b)))",
-            PROBLEM,
-            (0, 14, 91),
-        ),
-        (
-            b"(define (domain d) (:action a :parameters (?x) :precondition (= ?x ?y) :effect (q)))",
-            b"(define (problem p) (:domain d) (:htn) (:init (q)))",
-            (0, 16, 67),
-        ),
-        (
-            b"(define (domain d) (:task t :parameters ()) (:method m :parameters () :task (t b) :subtasks (u)))",
-            PROBLEM,
-            (0, 17, 77),
-        ),
-        (
-            DOMAIN,
-            b"(define (problem p) (:domain d) (:htn :subtasks (and (x (a)) (x (u)))))",
-            (1, 10, 62),
-        ),
-        (
-            DOMAIN,
-            b"(define (problem p) (:domain d) (:htn) (:init (r b) (q)))",
-            (1, 15, 49),
-        ),
-        (
-            DOMAIN,
-            b"(define (problem p) (:domain d) (:htn) (:init (r b b) (q)))",
-            (1, 17, 47),
-        ),
-        (
-            DOMAIN,
-            b"(define (problem p) (:domain d) (:htn :subtasks (x (a)) :ordering (and (< x y) (< x x))))",
-            (1, 19, 76),
-        ),
-        (
-            DOMAIN,
-            b"(define (problem p) (:domain d) (:htn :subtasks (x (a)) :ordering (and (< x x) (< x y))))",
-            (1, 20, 71),
-        ),
-    ];
-    for (domain, problem, fault) in rows {
-        let least = told(&rt, rt.alloc(), domain, problem);
-        assert_eq!(rt; least, Some(fault));
+    for (domain, problem, fault) in FAULTS {
+        assert!(rt; told(&rt, rt.alloc(), domain, problem) == Some(*fault));
     }
 }
 
-/// A text in which so many numbered parts stand between two others.
-fn crowd(
+// A text in which so many numbered parts stand between two others.
+fn put_crowd(
     alloc: Global,
     front: &str,
     part: (&str, &str),
     count: u32,
     back: &str,
-) -> Result<String, Fail> {
-    let mut text = String::from_str(alloc, front)?;
+    text: &mut String,
+) -> Result<(), AllocError> {
+    text.push_str(front)?;
     for number in 0..count {
-        let (before, behind) = part;
-        text.push_str(&format!(in alloc; "{before}{number}{behind}")?)?;
+        put_part(alloc, part, number, text)?;
     }
-    text.push_str(back)?;
-    Ok(text)
+    text.push_str(back)
+}
+
+fn put_part(
+    alloc: Global,
+    part: (&str, &str),
+    number: u32,
+    text: &mut String,
+) -> Result<(), AllocError> {
+    let (before, behind) = part;
+    text.push_str(before)?;
+    text.push_str(&format!(in alloc; "{number}")?)?;
+    text.push_str(behind)
+}
+
+fn fault_of_types(
+    rt: &impl Abort,
+    alloc: Global,
+    count: u32,
+    back: &str,
+) -> Option<(u8, u16, u32)> {
+    let mut text = String::new(alloc);
+    let front = "(define (domain d) (:types";
+    let put = put_crowd(alloc, front, (" t", ""), count, back, &mut text);
+    let fault = told(rt, alloc, text.as_bytes(), PROBLEM);
+    drop(text);
+    assert!(rt; put.is_ok());
+    fault
+}
+
+fn fault_of_subtasks(rt: &impl Abort, alloc: Global, count: u32) -> Option<(u8, u16, u32)> {
+    let mut text = String::new(alloc);
+    let front = "(define (problem p) (:domain d) (:htn :subtasks (and";
+    let back = " (a)) :ordering (and (< x0 x0) (< x0 y))))";
+    let put = put_crowd(alloc, front, (" (x", " (a))"), count, back, &mut text);
+    let fault = told(rt, alloc, DOMAIN, text.as_bytes());
+    drop(text);
+    assert!(rt; put.is_ok());
+    fault
+}
+
+const UNKNOWN: &str = " x) (:constants c - u))";
+
+#[test]
+fn least_fault_of_many_types(rt: HostRuntime) {
+    let alloc = rt.alloc();
+    // the 1,001st type, which is its own parent
+    let own = fault_of_types(&rt, alloc, 1000, " x - x))");
+    assert!(rt; own == Some((0, 12, 4917)));
+    assert!(rt; fault_of_types(&rt, alloc, 1000, UNKNOWN) == Some((0, 22, 4917)));
+    assert!(rt; fault_of_types(&rt, alloc, 999, UNKNOWN) == Some((0, 11, 4931)));
 }
 
 #[test]
-fn least_fault_of_many_types_and_subtasks(rt: HostRuntime) -> Result<(), Fail> {
-    let alloc = rt.alloc();
-    let types = "(define (domain d) (:types";
-    // the 1,001st type, which is its own parent
-    let own = crowd(alloc, types, (" t", ""), 1000, " x - x))")?;
-    assert_eq!(rt;
-        told(&rt, alloc, own.as_bytes(), PROBLEM),
-        Some((0, 12, 4917))
-    );
-    let unknown = " x) (:constants c - u))";
-    let many = crowd(alloc, types, (" t", ""), 1000, unknown)?;
-    assert_eq!(rt;
-        told(&rt, alloc, many.as_bytes(), PROBLEM),
-        Some((0, 22, 4917))
-    );
-    let few = crowd(alloc, types, (" t", ""), 999, unknown)?;
-    assert_eq!(rt;
-        told(&rt, alloc, few.as_bytes(), PROBLEM),
-        Some((0, 11, 4931))
-    );
-    let subtasks = "(define (problem p) (:domain d) (:htn :subtasks (and";
-    let ordered = " (a)) :ordering (and (< x0 x0) (< x0 y))))";
-    let many = crowd(alloc, subtasks, (" (x", " (a))"), 4096, ordered)?;
-    assert_eq!(rt;
-        told(&rt, alloc, DOMAIN, many.as_bytes()),
-        Some((1, 21, 48095))
-    );
-    let few = crowd(alloc, subtasks, (" (x", " (a))"), 4095, ordered)?;
-    assert_eq!(rt;
-        told(&rt, alloc, DOMAIN, few.as_bytes()),
-        Some((1, 20, 48103))
-    );
-    Ok(())
+fn least_fault_of_many_subtasks(rt: HostRuntime) {
+    assert!(rt; fault_of_subtasks(&rt, rt.alloc(), 4096) == Some((1, 21, 48095)));
+    assert!(rt; fault_of_subtasks(&rt, rt.alloc(), 4095) == Some((1, 20, 48103)));
 }

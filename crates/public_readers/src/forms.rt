@@ -1,162 +1,189 @@
 //! Forms with the fault that the grammar gives them, and each call once with ample memory. Offsets are counted by hand.
 
-ghost use Rattle.std.specs.Prelude.{◌≤◌, length};
-
-use gd_reader::{ListKind, RawEffect, RawFacts, RawFormula, RawTerm, effect, formula, typed_list};
+use gd_reader::{
+    Got, ListKind, RawEffect, RawFacts, RawFormula, RawParams, RawTerm, effect, formula, typed_list,
+};
 use htn_base::{Fault, Memory, Name, NameTable};
-use sexpr_text::{ReadError, read};
+use sexpr_text::{ReadError, Sexprs, read};
 use std::alloc::Global;
 use std::process::Abort;
 
 // The code and the offset of the fault, if there is one.
-fn told<T: Drop>(rt: &impl Abort, answer: Result<T, ReadError>) -> Option<(u16, u32)> {
+fn told<T: Drop>(rt: &impl Abort, answer: Result<T, ReadError>) -> (u16, u32) {
     match answer {
-        Ok(_) => None,
+        Ok(value) => {
+            drop(value);
+            (0, 0)
+        }
         Err(ReadError::Bad(Fault { code, file, at })) => {
-            assert_eq!(rt; file, 1);
-            Some((code, at))
+            assert!(rt; file == 1);
+            (code, at)
         }
         Err(ReadError::Memory) => panic!(rt; "out of memory"),
     }
 }
 
-fn formula_fault(rt: &impl Abort, alloc: Global, source: &[u8]) -> Option<(u16, u32)>
-    requires short { length source.now ≤ 16777216 }
-{
-    let s = read(alloc, source, 1).expect(rt, "a text");
-    assert!(rt; 0 < s.len());
-    let mut names = NameTable::new(alloc);
-    told(rt, formula(alloc, &s, 0, 1, &mut names))
+// What a text is read as; a list as what stands in it.
+#[derive(Clone, Copy)]
+enum Form {
+    Formula,
+    Effect,
+    List(ListKind),
 }
 
-fn effect_fault(rt: &impl Abort, alloc: Global, source: &[u8]) -> Option<(u16, u32)>
-    requires short { length source.now ≤ 16777216 }
-{
+// The code and the offset of the fault of the form that the text is.
+fn fault_of(rt: &impl Abort, alloc: Global, source: &[u8], form: Form) -> (u16, u32) {
+    assert!(rt; source.len() <= 16_777_216);
     let s = read(alloc, source, 1).expect(rt, "a text");
-    assert!(rt; 0 < s.len());
     let mut names = NameTable::new(alloc);
-    told(rt, effect(alloc, &s, 0, 1, &mut names))
+    let fault = fault_of_tokens(rt, alloc, &s, form, &mut names);
+    drop(names);
+    drop(s);
+    fault
 }
 
-// Of the list that the text is.
 #[tactic(auto, using(gd_reader::proofs::Items::whole_inside))]
-fn list_fault(rt: &impl Abort, alloc: Global, source: &[u8], kind: ListKind) -> Option<(u16, u32)>
-    requires short { length source.now ≤ 16777216 }
-{
-    let s = read(alloc, source, 1).expect(rt, "a text");
-    let mut names = NameTable::new(alloc);
-    match s.close_of(0) {
-        Some(_) => told(rt, typed_list(alloc, &s, 1, 1, kind, &mut names)),
-        None => panic!(rt; "no list"),
+fn fault_of_tokens(
+    rt: &impl Abort,
+    alloc: Global,
+    s: &Sexprs<'_>,
+    form: Form,
+    names: &mut NameTable,
+) -> (u16, u32) {
+    assert!(rt; s.len() > 0);
+    match form {
+        Form::Formula => told(rt, formula(alloc, s, 0, 1, names)),
+        Form::Effect => told(rt, effect(alloc, s, 0, 1, names)),
+        Form::List(kind) => {
+            assert!(rt; s.close_of(0).is_some());
+            told(rt, typed_list(alloc, s, 1, 1, kind, names))
+        }
     }
 }
 
+const FORMS: &[(Form, &[u8], u16, u32)] = &[
+    (Form::Formula, b"p", 8, 0),
+    (Form::Formula, b"((p))", 8, 1),
+    (Form::Formula, b"(p ?)", 8, 3),
+    (Form::Formula, b"(p (q))", 8, 3),
+    (Form::Formula, b"(= a)", 8, 4),
+    (Form::Formula, b"(imply (p))", 8, 10),
+    (Form::Formula, b"(not (when))", 8, 6),
+    (Form::Formula, b"(forall (?x ?X) (p))", 18, 12),
+    (Form::Formula, b"(exists (?and) (p))", 9, 9),
+    (Form::Formula, b"(exists (and) (p))", 8, 9),
+    (Form::Formula, b"(exists (?x - (either)) (p))", 8, 21),
+    (Form::Effect, b"(or (p))", 8, 1),
+    (Form::Effect, b"(not (not (p)))", 8, 6),
+    (Form::Effect, b"(not ((p)))", 8, 6),
+    (Form::Effect, b"(not (increase))", 8, 6),
+    (Form::Effect, b"(when (p))", 8, 9),
+    (Form::Effect, b"(forall (?x ?y ?x) (p))", 18, 15),
+    (Form::List(ListKind::Parameters), b"(?x - t ?X)", 18, 8),
+    (Form::List(ListKind::Parameters), b"(- t)", 8, 1),
+    (Form::List(ListKind::Objects), b"(- t)", 9, 1),
+    (Form::List(ListKind::Objects), b"(a - or)", 8, 5),
+    (Form::List(ListKind::Types), b"(a - or)", 9, 5),
+    (Form::List(ListKind::Objects), b"(a - (either t))", 8, 5),
+    (Form::List(ListKind::Types), b"(a - (either t))", 8, 5),
+    (Form::List(ListKind::Predicate), b"(?x - (t))", 8, 7),
+    (
+        Form::List(ListKind::Parameters),
+        b"(?x - (either t ?u))",
+        8,
+        16,
+    ),
+    (
+        Form::Formula,
+        b"(and (p ?x a) (not (= ?x b)) () (forall (?y - t) (q ?y)))",
+        0,
+        0,
+    ),
+    (
+        Form::Effect,
+        b"(and (p) (not (q ?x)) (increase (total) 1) (when (or) (r)))",
+        0,
+        0,
+    ),
+    (Form::List(ListKind::Predicate), b"(?x - t ?X)", 0, 0),
+];
+
 #[test]
-fn faults_of_formulas(rt: HostRuntime) {
-    let rows: [(&[u8], u16, u32); 11] = [
-        (b"p", 8, 0),
-        (b"((p))", 8, 1),
-        (b"(p ?)", 8, 3),
-        (b"(p (q))", 8, 3),
-        (b"(= a)", 8, 4),
-        (b"(imply (p))", 8, 10),
-        (b"(not (when))", 8, 6),
-        (b"(forall (?x ?X) (p))", 18, 12),
-        (b"(exists (?and) (p))", 9, 9),
-        (b"(exists (and) (p))", 8, 9),
-        (b"(exists (?x - (either)) (p))", 8, 21),
-    ];
-    for (source, code, at) in rows {
-        let fault = formula_fault(&rt, rt.alloc(), source);
-        assert_eq!(rt; fault, Some((code, at)), "at {at}");
+fn faults_of_forms(rt: HostRuntime) {
+    for (form, source, code, at) in FORMS {
+        let fault = fault_of(&rt, rt.alloc(), source, *form);
+        assert!(rt; fault == (*code, *at), "at {at}");
     }
 }
 
-#[test]
-fn faults_of_effects(rt: HostRuntime) {
-    let rows: [(&[u8], u16, u32); 6] = [
-        (b"(or (p))", 8, 1),
-        (b"(not (not (p)))", 8, 6),
-        (b"(not ((p)))", 8, 6),
-        (b"(not (increase))", 8, 6),
-        (b"(when (p))", 8, 9),
-        (b"(forall (?x ?y ?x) (p))", 18, 15),
-    ];
-    for (source, code, at) in rows {
-        let fault = effect_fault(&rt, rt.alloc(), source);
-        assert_eq!(rt; fault, Some((code, at)), "at {at}");
-    }
+fn is_one_of_one(got: &Got<RawFormula>) -> bool {
+    got.next == 6 && matches!(&got.value, RawFormula::Or(parts) if parts.len() == 1)
 }
 
-#[test]
-fn faults_of_lists(rt: HostRuntime) {
-    let rows: [(&[u8], ListKind, u16, u32); 9] = [
-        (b"(?x - t ?X)", ListKind::Parameters, 18, 8),
-        (b"(- t)", ListKind::Parameters, 8, 1),
-        (b"(- t)", ListKind::Objects, 9, 1),
-        (b"(a - or)", ListKind::Objects, 8, 5),
-        (b"(a - or)", ListKind::Types, 9, 5),
-        (b"(a - (either t))", ListKind::Objects, 8, 5),
-        (b"(a - (either t))", ListKind::Types, 8, 5),
-        (b"(?x - (t))", ListKind::Predicate, 8, 7),
-        (b"(?x - (either t ?u))", ListKind::Parameters, 8, 16),
-    ];
-    for (source, kind, code, at) in rows {
-        let fault = list_fault(&rt, rt.alloc(), source, kind);
-        assert_eq!(rt; fault, Some((code, at)), "at {at}");
-    }
-}
-
-#[test]
-fn whole_forms(rt: HostRuntime) {
-    let nested: &[u8] = b"(and (p ?x a) (not (= ?x b)) () (forall (?y - t) (q ?y)))";
-    assert_eq!(rt; formula_fault(&rt, rt.alloc(), nested), None);
-    let changes: &[u8] = b"(and (p) (not (q ?x)) (increase (total) 1) (when (or) (r)))";
-    assert_eq!(rt; effect_fault(&rt, rt.alloc(), changes), None);
-    let twice: &[u8] = b"(?x - t ?X)";
-    let kind = ListKind::Predicate;
-    assert_eq!(rt; list_fault(&rt, rt.alloc(), twice, kind), None);
+fn has_formula(rt: &impl Abort, alloc: Global, s: &Sexprs<'_>, names: &mut NameTable) -> bool {
+    assert!(rt; s.len() > 0);
+    let answer = formula(alloc, s, 0, 0, names);
+    let right = matches!(&answer, Ok(got) if is_one_of_one(got));
+    drop(answer);
+    right && names.len() == 1
 }
 
 #[test]
 fn formula_with_its_parts(rt: HostRuntime) {
     let s = read(rt.alloc(), b"(Or (p))", 0).expect(&rt, "a text");
-    assert!(rt; 0 < s.len());
     let mut names = NameTable::new(rt.alloc());
-    let got = formula(rt.alloc(), &s, 0, 0, &mut names).expect(&rt, "a formula");
-    assert_eq!(rt; (got.next, names.len()), (6, 1));
-    match got.value {
-        RawFormula::Or(parts) => assert_eq!(rt; parts.len(), 1),
-        _ => panic!(rt; "no disjunction"),
-    }
+    let right = has_formula(&rt, rt.alloc(), &s, &mut names);
+    drop(names);
+    drop(s);
+    assert!(rt; right);
+}
+
+fn is_empty(got: &Got<RawEffect>) -> bool {
+    got.next == 7 && matches!(&got.value, RawEffect::And(parts) if parts.len() == 0)
+}
+
+fn has_effect(rt: &impl Abort, alloc: Global, s: &Sexprs<'_>, names: &mut NameTable) -> bool {
+    assert!(rt; s.len() > 0);
+    let answer = effect(alloc, s, 0, 0, names);
+    let right = matches!(&answer, Ok(got) if is_empty(got));
+    drop(answer);
+    right && names.len() == 0
 }
 
 #[test]
 fn effect_with_its_parts(rt: HostRuntime) {
     let s = read(rt.alloc(), b"(increase (total) 1)", 0).expect(&rt, "a text");
-    assert!(rt; 0 < s.len());
     let mut names = NameTable::new(rt.alloc());
-    let got = effect(rt.alloc(), &s, 0, 0, &mut names).expect(&rt, "an effect");
-    assert_eq!(rt; (got.next, names.len()), (7, 0));
-    match got.value {
-        RawEffect::And(parts) => assert_eq!(rt; parts.len(), 0),
-        _ => panic!(rt; "no empty effect"),
+    let right = has_effect(&rt, rt.alloc(), &s, &mut names);
+    drop(names);
+    drop(s);
+    assert!(rt; right);
+}
+
+fn is_union(got: &Got<RawParams>) -> bool {
+    match got.value.as_slice().first() {
+        Some(param) => got.next == 9 && param.at == 1 && param.ty.len() == 2,
+        None => false,
     }
 }
 
-#[test]
 #[tactic(auto, using(gd_reader::proofs::Items::whole_inside))]
+fn has_union(rt: &impl Abort, alloc: Global, s: &Sexprs<'_>, names: &mut NameTable) -> bool {
+    assert!(rt; s.close_of(0).is_some());
+    let answer = typed_list(alloc, s, 1, 0, ListKind::Parameters, names);
+    let right = matches!(&answer, Ok(got) if is_union(got));
+    drop(answer);
+    right && names.len() == 3
+}
+
+#[test]
 fn list_with_a_union(rt: HostRuntime) {
     let s = read(rt.alloc(), b"(?x - (either t u t))", 0).expect(&rt, "a text");
-    assert!(rt; s.close_of(0).is_some());
     let mut names = NameTable::new(rt.alloc());
-    let got = typed_list(rt.alloc(), &s, 1, 0, ListKind::Parameters, &mut names);
-    let got = got.expect(&rt, "a list");
-    assert_eq!(rt; (got.next, names.len()), (9, 3));
-    match got.value.as_slice().first() {
-        Some(param) => assert_eq!(rt; (param.at, param.ty.len()), (1, 2)),
-        None => panic!(rt; "an empty list"),
-    }
+    let right = has_union(&rt, rt.alloc(), &s, &mut names);
+    drop(names);
+    drop(s);
+    assert!(rt; right);
 }
 
 fn named(number: u32) -> RawTerm {
@@ -183,29 +210,46 @@ fn seen_at(
     Ok(Some((head.at, args.len(), last)))
 }
 
+const SEEN: &[Option<(u32, usize, Option<u32>)>] = &[
+    Some((0, 2, Some(2))),
+    Some((3, 0, None)),
+    Some((4, 1, Some(5))),
+    Some((70_000, 2, Some(300))),
+    None,
+];
+
+fn put_facts(facts: &mut RawFacts) -> Result<(), Memory> {
+    facts.push(named(0), &[named(1), named(2)])?;
+    facts.push(named(3), &[])?;
+    facts.push(named(4), &[named(5)])?;
+    facts.push(named(70_000), &[named(6), named(300)])
+}
+
+fn are_seen(facts: &RawFacts, args: &mut Vec<RawTerm>) -> Result<bool, Memory> {
+    for (i, row) in SEEN.iter().enumerate() {
+        if seen_at(facts, i, args)? != *row {
+            return Ok(false);
+        }
+    }
+    Ok(true)
+}
+
+#[test]
+fn no_facts(rt: HostRuntime) {
+    let none = RawFacts::new(rt.alloc());
+    let count = none.len();
+    drop(none);
+    assert!(rt; count == 0);
+}
+
 #[test]
 fn facts_with_their_terms(rt: HostRuntime) {
     let mut facts = RawFacts::with_room(rt.alloc(), 1, 1).expect(&rt, "room");
+    let put = put_facts(&mut facts);
     let mut args = Vec::new(rt.alloc());
-    let rows: [(u32, &[RawTerm]); 4] = [
-        (0, &[named(1), named(2)]),
-        (3, &[]),
-        (4, &[named(5)]),
-        (70_000, &[named(6), named(300)]),
-    ];
-    for (head, terms) in rows {
-        facts.push(named(head), terms).expect(&rt, "a fact");
-    }
-    assert_eq!(rt; (facts.len(), RawFacts::new(rt.alloc()).len()), (4, 0));
-    let seen = [
-        Some((0, 2, Some(2))),
-        Some((3, 0, None)),
-        Some((4, 1, Some(5))),
-        Some((70_000, 2, Some(300))),
-        None,
-    ];
-    for (i, row) in seen.iter().enumerate() {
-        let read = seen_at(&facts, i, &mut args).expect(&rt, "room for terms");
-        assert_eq!(rt; read, *row);
-    }
+    let seen = are_seen(&facts, &mut args);
+    drop(args);
+    let count = facts.len();
+    drop(facts);
+    assert!(rt; put.is_ok() && count == 4 && seen == Ok(true));
 }

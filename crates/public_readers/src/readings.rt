@@ -1,7 +1,7 @@
 //! Two small texts are read to their value with ample memory.
 
 use hddl_values::hddl_of;
-use std::test::Fail;
+use plan_model::Hddl;
 
 const DOMAIN: &[u8] = b"(define (domain d) (:task t :parameters ())
     (:METHOD M :parameters () :task (t) :subtasks (a)) ; a comment (
@@ -9,11 +9,18 @@ const DOMAIN: &[u8] = b"(define (domain d) (:task t :parameters ())
 
 const PROBLEM: &[u8] = b"(define (problem p) (:domain d) (:htn :subtasks (t)))";
 
+fn is_smallest(value: &Hddl) -> bool {
+    value.tasks.len() == 1 && value.methods.len() == 1 && value.top.children.len() == 1
+}
+
 #[test]
-fn reads_the_smallest_problem(rt: HostRuntime) -> Result<(), Fail> {
-    let value = hddl_of(rt.alloc(), DOMAIN, PROBLEM).ok().ok_or("a fault")?;
-    assert_eq!(rt; value.tasks.len(), 1);
-    assert_eq!(rt; value.methods.len(), 1);
-    assert_eq!(rt; value.top.children.len(), 1);
-    Ok(())
+fn reads_the_smallest_problem(rt: HostRuntime) {
+    match hddl_of(rt.alloc(), DOMAIN, PROBLEM) {
+        Ok(value) => {
+            let smallest = is_smallest(&value);
+            drop(value);
+            assert!(rt; smallest);
+        }
+        Err(_) => panic!(rt; "a fault"),
+    }
 }
