@@ -1,4 +1,5 @@
 // `outside_io`: files and sinks in memory, and on the machine.
+use htn_base::Memory;
 use outside_io::{
     DiskFiles, Files, GetError, MemFiles, MemSink, PutError, Sink, StdSink, SteadyFiles,
     SteadySink, WriteError,
@@ -7,89 +8,131 @@ use std::alloc::Global;
 use std::process::Abort;
 use std::{env, fs};
 
-fn got(
-    rt: &impl Abort,
-    alloc: Global,
-    files: &mut impl Files,
-    name: &str,
-    limit: u64,
-    want: &[u8],
-) {
-    let bytes = files.get(alloc, name, limit).expect(rt, "a get");
-    assert!(rt; bytes.as_slice() == want);
+fn gives(answer: Result<Vec<u8>, GetError>, want: &[u8]) -> bool {
+    match answer {
+        Ok(bytes) => {
+            let same = bytes.as_slice() == want;
+            drop(bytes);
+            same
+        }
+        Err(_) => false,
+    }
 }
 
-fn took(rt: &impl Abort, sink: &mut impl Sink, piece: &[u8], want: usize) {
-    let count = sink.write(piece).expect(rt, "a write");
-    assert!(rt; count == want);
+fn fails(answer: Result<Vec<u8>, GetError>) -> bool {
+    match answer {
+        Ok(bytes) => {
+            drop(bytes);
+            false
+        }
+        Err(error) => error == GetError::Failed,
+    }
 }
 
-fn holds(rt: &impl Abort, files: &MemFiles, name: &str, want: &[u8]) {
-    let bytes = files.bytes(name).expect(rt, "a held name");
-    assert!(rt; bytes == want);
+fn holds(files: &MemFiles, name: &str, want: &[u8]) -> bool {
+    match files.bytes(name) {
+        Some(bytes) => bytes == want,
+        None => false,
+    }
+}
+
+fn add_files(files: &mut MemFiles) -> Result<(), Memory> {
+    files.add("a", b"old")?;
+    files.add("b", b"12345")?;
+    files.add("a", b"new")?;
+    files.fail_get(1)?;
+    files.fail_put(0)
+}
+
+fn calls_fail(rt: &impl Abort, alloc: Global, files: &mut MemFiles) {
+    assert!(rt; gives(files.get(alloc, "a", 9), b"new"));
+    assert!(rt; fails(files.get(alloc, "a", 9)));
+    assert!(rt; fails(files.get(alloc, "d", 9)));
+    assert!(rt; gives(files.get(alloc, "b", 3), b"123"));
+    assert!(rt; files.put("a", b"lost") == Err(PutError::Failed));
+    assert!(rt; holds(files, "a", b"new"));
+    assert!(rt; files.put("a", b"kept").is_ok());
+    assert!(rt; holds(files, "a", b"kept"));
+    assert!(rt; files.bytes("d").is_none());
 }
 
 #[test]
 fn chosen_calls_fail(rt: HostRuntime) {
     let mut files = MemFiles::new(rt.alloc());
-    assert!(rt; files.add("a", b"old").is_ok());
-    assert!(rt; files.add("b", b"12345").is_ok());
-    assert!(rt; files.add("a", b"new").is_ok());
-    assert!(rt; files.fail_get(1).is_ok());
-    assert!(rt; files.fail_put(0).is_ok());
-    got(&rt, rt.alloc(), &mut files, "a", 9, b"new");
-    assert!(rt; matches!(files.get(rt.alloc(), "a", 9), Err(GetError::Failed)));
-    assert!(rt; matches!(files.get(rt.alloc(), "d", 9), Err(GetError::Failed)));
-    got(&rt, rt.alloc(), &mut files, "b", 3, b"123");
-    assert!(rt; files.put("a", b"lost") == Err(PutError::Failed));
-    holds(&rt, &files, "a", b"new");
-    assert!(rt; files.put("a", b"kept").is_ok());
-    holds(&rt, &files, "a", b"kept");
-    assert!(rt; files.bytes("d").is_none());
+    let added = add_files(&mut files);
+    calls_fail(&rt, rt.alloc(), &mut files);
+    drop(files);
+    assert!(rt; added.is_ok());
 }
 
-#[test]
-fn steady_files_read_a_missing_name_as_empty(rt: HostRuntime) {
-    let mut files = SteadyFiles::new(rt.alloc());
+fn are_read(rt: &impl Abort, alloc: Global, files: &mut SteadyFiles) {
     assert!(rt; files.add("a", b"12345").is_ok());
     assert!(rt; files.put("b", b"b").is_ok());
-    got(&rt, rt.alloc(), &mut files, "a", 3, b"123");
-    got(&rt, rt.alloc(), &mut files, "c", 3, b"");
+    assert!(rt; gives(files.get(alloc, "a", 3), b"123"));
+    assert!(rt; gives(files.get(alloc, "c", 3), b""));
     assert!(rt; files.bytes("b").is_some());
     assert!(rt; files.bytes("c").is_none());
 }
 
 #[test]
+fn steady_files_read_a_missing_name_as_empty(rt: HostRuntime) {
+    let mut files = SteadyFiles::new(rt.alloc());
+    are_read(&rt, rt.alloc(), &mut files);
+    drop(files);
+}
+
+fn takes_some(rt: &impl Abort, sink: &mut MemSink) {
+    assert!(rt; sink.fail_write(1).is_ok());
+    assert!(rt; sink.write(b"abcde") == Ok(3));
+    assert!(rt; sink.write(b"de") == Err(WriteError::Failed));
+    assert!(rt; sink.write(b"de") == Ok(2));
+    assert!(rt; sink.bytes() == b"abcde".as_slice());
+}
+
+#[test]
 fn a_sink_takes_a_few_bytes_at_a_time(rt: HostRuntime) {
     let mut sink = MemSink::new(rt.alloc(), 3);
-    assert!(rt; sink.fail_write(1).is_ok());
-    took(&rt, &mut sink, b"abcde", 3);
-    assert!(rt; sink.write(b"de") == Err(WriteError::Failed));
-    took(&rt, &mut sink, b"de", 2);
-    assert!(rt; sink.bytes() == b"abcde".as_slice());
+    takes_some(&rt, &mut sink);
+    drop(sink);
+}
+
+fn takes_all(rt: &impl Abort, sink: &mut SteadySink) {
+    assert!(rt; sink.write(b"abc") == Ok(2));
+    assert!(rt; sink.write(b"c") == Ok(1));
+    assert!(rt; sink.bytes() == b"abc".as_slice());
 }
 
 #[test]
 fn a_steady_sink_takes_a_few_bytes_at_a_time(rt: HostRuntime) {
     let mut sink = SteadySink::new(rt.alloc(), 2);
-    took(&rt, &mut sink, b"abc", 2);
-    took(&rt, &mut sink, b"c", 1);
-    assert!(rt; sink.bytes() == b"abc".as_slice());
+    takes_all(&rt, &mut sink);
+    drop(sink);
+}
+
+fn keeps(alloc: Global, files: &mut DiskFiles, name: &str) -> bool {
+    files.put(name, b"a longer text").is_ok()
+        && files.put(name, b"12345").is_ok()
+        && gives(files.get(alloc, name, 3), b"123")
+        && gives(files.get(alloc, name, 99), b"12345")
+        && files.put("", b"nowhere") == Err(PutError::Failed)
 }
 
 #[test]
-fn disk_and_streams(rt: HostRuntime) {
+fn disk(rt: HostRuntime) {
     let mut path = env::temp_dir(&rt).expect(&rt, "a folder");
     path.push("htn_outside_io.txt").expect(&rt, "memory");
     let name = path.as_path().to_str().expect(&rt, "a text");
     let mut files = DiskFiles::new(rt);
-    assert!(rt; files.put(name, b"a longer text").is_ok());
-    assert!(rt; files.put(name, b"12345").is_ok());
-    got(&rt, rt.alloc(), &mut files, name, 3, b"123");
-    got(&rt, rt.alloc(), &mut files, name, 99, b"12345");
-    assert!(rt; fs::remove_file(&rt, name).is_ok());
-    assert!(rt; matches!(files.get(rt.alloc(), name, 9), Err(GetError::Failed)));
-    assert!(rt; files.put("", b"nowhere") == Err(PutError::Failed));
-    took(&rt, &mut StdSink::output(rt), b"", 0);
-    took(&rt, &mut StdSink::error(rt), b"!\n", 2);
+    let kept = keeps(rt.alloc(), &mut files, name);
+    let removed = fs::remove_file(&rt, name).is_ok();
+    let gone = fails(files.get(rt.alloc(), name, 9));
+    drop(files);
+    drop(path);
+    assert!(rt; kept && removed && gone);
+}
+
+#[test]
+fn streams(rt: HostRuntime) {
+    assert!(rt; StdSink::output(rt).write(b"") == Ok(0));
+    assert!(rt; StdSink::error(rt).write(b"!\n") == Ok(2));
 }

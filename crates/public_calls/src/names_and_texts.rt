@@ -4,82 +4,134 @@ use htn_base::{
     Boxed, List, Memory, NameTable, Text, esc, is_name, is_plain, is_reserved, number, slot_name,
     slot_number,
 };
-use std::test::Fail;
+use std::alloc::Global;
 
-#[test]
-fn lists(rt: HostRuntime) -> Result<(), Fail> {
-    let mut list = List::new(rt.alloc());
-    list.push(3u32)?;
-    list.push(1)?;
-    assert_eq!(rt; list.as_slice(), [3, 1].as_slice());
-    assert!(rt; list.copy(rt.alloc())? == list);
-    list.put(Ok(4))?;
-    assert!(rt; list.put(Err(Memory)).is_err());
-    assert_eq!(rt; list.as_slice(), [3, 1, 4].as_slice());
-    assert_eq!(rt; Boxed::new(rt.alloc(), 7u8)?.into_inner(), 7);
-    Ok(())
+fn pushes(list: &mut List<u32>) -> Result<(), Memory> {
+    list.push(3)?;
+    list.push(1)
+}
+
+fn puts(list: &mut List<u32>) -> bool {
+    list.put(Ok(4)).is_ok() && list.put(Err(Memory)).is_err()
+}
+
+fn is_copied(alloc: Global, list: &List<u32>) -> bool {
+    match list.copy(alloc) {
+        Ok(copy) => {
+            let same = copy == *list;
+            drop(copy);
+            same
+        }
+        Err(Memory) => false,
+    }
+}
+
+fn boxed_and_taken(alloc: Global) -> Result<u8, Memory> {
+    Ok(Boxed::new(alloc, 7)?.into_inner())
 }
 
 #[test]
-fn texts(rt: HostRuntime) -> Result<(), Fail> {
-    let mut text = Text::from_slice(rt.alloc(), b"ab")?;
+fn lists(rt: HostRuntime) {
+    let mut list = List::new(rt.alloc());
+    let pushed = pushes(&mut list).is_ok() && list.as_slice() == [3, 1].as_slice();
+    let copied = is_copied(rt.alloc(), &list);
+    let put = puts(&mut list) && list.as_slice() == [3, 1, 4].as_slice();
+    drop(list);
+    assert!(rt; pushed && copied && put);
+    assert!(rt; boxed_and_taken(rt.alloc()) == Ok(7));
+}
+
+fn grows(text: &mut Text) -> Result<(), Memory> {
     text.reserve(100)?;
     text.push(b'c')?;
-    text.push_all(b"de")?;
-    assert_eq!(rt; text.as_slice(), b"abcde".as_slice());
-    assert!(rt; text.copy(rt.alloc())? == text);
-    Ok(())
+    text.push_all(b"de")
 }
 
-#[test]
-fn names(rt: HostRuntime) -> Result<(), Fail> {
-    let mut names = NameTable::new(rt.alloc());
-    let first = names.intern(b"Truck-1")?;
-    assert!(rt; names.len() == 1);
-    let second = names.intern(b"city")?;
-    assert!(rt; names.len() == 2);
-    let again = names.intern(b"TRUCK-1")?;
-    assert_eq!(rt; (first.number, second.number, again.number), (0, 1, 0));
-    assert!(rt; names.text(first) == Some(b"truck-1".as_slice()));
-    assert!(rt; names.find(b"Truck-1").is_none());
-    Ok(())
-}
-
-#[test]
-fn printed_names(rt: HostRuntime) -> Result<(), Fail> {
-    let plain = esc(rt.alloc(), b"go-to_2")?;
-    assert_eq!(rt; plain.as_slice(), b"go-to_2".as_slice());
-    let generated = esc(rt.alloc(), b"htn_free")?;
-    assert_eq!(rt; generated.as_slice(), b"htn_u_68746e5f66726565".as_slice());
-    let slot = slot_name(rt.alloc(), 4096)?;
-    assert_eq!(rt; slot.as_slice(), b"htn_s4096".as_slice());
-    assert_eq!(rt; slot_number(slot.as_slice()), Some(4096));
-    assert!(rt; slot_number(b"htn_s4294967295") == Some(4294967295));
-    for word in [
-        b"htn_s0".as_slice(),
-        b"htn_s01",
-        b"htn_s+1",
-        b"htn_s4294967296",
-        b"htn_s",
-        b"htn_t1",
-    ] {
-        assert_eq!(rt; slot_number(word), None, "at {word:?}");
+fn text_is_copied(alloc: Global, text: &Text) -> bool {
+    match text.copy(alloc) {
+        Ok(copy) => {
+            let same = copy == *text;
+            drop(copy);
+            same
+        }
+        Err(Memory) => false,
     }
-    Ok(())
 }
 
 #[test]
-fn source_names(rt: HostRuntime) -> Result<(), Fail> {
+fn texts(rt: HostRuntime) {
+    match Text::from_slice(rt.alloc(), b"ab") {
+        Ok(mut text) => {
+            let grown = grows(&mut text).is_ok() && text.as_slice() == b"abcde".as_slice();
+            let copied = text_is_copied(rt.alloc(), &text);
+            drop(text);
+            assert!(rt; grown && copied);
+        }
+        Err(Memory) => panic!(rt; "out of memory"),
+    }
+}
+
+fn interns(names: &mut NameTable) -> Result<bool, Memory> {
+    let first = names.intern(b"Truck-1")?;
+    let one = names.len() == 1;
+    let second = names.intern(b"city")?;
+    let two = names.len() == 2;
+    let again = names.intern(b"TRUCK-1")?;
+    let numbered = (first.number, second.number, again.number) == (0, 1, 0);
+    let folded = names.text(first) == Some(b"truck-1".as_slice());
+    Ok(one && two && numbered && folded && names.find(b"Truck-1").is_none())
+}
+
+#[test]
+fn names(rt: HostRuntime) {
+    let mut names = NameTable::new(rt.alloc());
+    let right = interns(&mut names);
+    drop(names);
+    assert!(rt; right == Ok(true));
+}
+
+fn is_text(made: Result<Text, Memory>, want: &[u8]) -> bool {
+    match made {
+        Ok(text) => {
+            let same = text.as_slice() == want;
+            drop(text);
+            same
+        }
+        Err(Memory) => false,
+    }
+}
+
+const NO_SLOTS: &[&[u8]] = &[
+    b"htn_s0",
+    b"htn_s01",
+    b"htn_s+1",
+    b"htn_s4294967296",
+    b"htn_s",
+    b"htn_t1",
+];
+
+#[test]
+fn printed_names(rt: HostRuntime) {
+    assert!(rt; is_text(esc(rt.alloc(), b"go-to_2"), b"go-to_2"));
+    assert!(rt; is_text(esc(rt.alloc(), b"htn_free"), b"htn_u_68746e5f66726565"));
+    assert!(rt; is_text(slot_name(rt.alloc(), 4096), b"htn_s4096"));
+    assert!(rt; slot_number(b"htn_s4096") == Some(4096));
+    assert!(rt; slot_number(b"htn_s4294967295") == Some(4294967295));
+    for word in NO_SLOTS {
+        assert!(rt; slot_number(word).is_none(), "at {word:?}");
+    }
+}
+
+#[test]
+fn source_names(rt: HostRuntime) {
     assert!(rt; is_name(b"Truck-1") && is_name(b"andy") && is_name(b"12"));
     assert!(rt; !is_name(b"") && !is_name(b"?x") && !is_name(b":htn") && !is_name(b"FORALL"));
     assert!(rt; is_plain(b"go-to_2") && !is_plain(b"htn_free") && !is_plain(b"2nd"));
     assert!(rt; is_reserved(b"either") && !is_reserved(b"Either"));
-    Ok(())
 }
 
 #[test]
-fn lengths(rt: HostRuntime) -> Result<(), Fail> {
+fn lengths(rt: HostRuntime) {
     assert!(rt; number(4294967295) == Ok(4294967295));
     assert!(rt; number(4294967296).is_err());
-    Ok(())
 }

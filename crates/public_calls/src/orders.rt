@@ -1,23 +1,31 @@
 //! Orders of few children, worked out by hand. Each call that may want memory is made with ample memory.
 
-ghost use Rattle.std.specs.Prelude.{◌≡◌};
+ghost use Rattle.std.specs.Prelude.{◌≡◌, ◌≤◌, ◌<◌, ◌^◌, length};
+ghost use Rattle.net_order.specs.Meaning.{AreBelow};
 
 use net_order::{ChildSet, Order, OrderError};
 use plan_model::Pair;
+use std::alloc::Global;
 use std::process::Abort;
-use std::test::Fail;
 
 // The last child must come before the first one, and child 1 is free: the line isn't the order of the numbers.
 #[test]
-fn last_before_first(rt: HostRuntime) -> Result<(), Fail> {
-    let order = Order::new(rt.alloc(), 3, &[Pair { first: 2, then: 0 }])?;
-    assert_eq!(rt; order.line().as_slice(), [1, 2, 0].as_slice());
-    assert_eq!(rt; (order.heir(), order.last()), (Some(0), None));
-    free_in_the_middle(&rt, &order);
-    Ok(())
+fn last_before_first(rt: HostRuntime) {
+    match Order::new(rt.alloc(), 3, &[Pair { first: 2, then: 0 }]) {
+        Ok(order) => {
+            let right = has(&order, &[1, 2, 0], Some(0), None) && is_free_in_the_middle(&order);
+            drop(order);
+            assert!(rt; right);
+        }
+        Err(_) => panic!(rt; "no order"),
+    }
 }
 
-fn free_in_the_middle(rt: &impl Abort, order: &Order)
+fn has(order: &Order, line: &[u32], heir: Option<u32>, last: Option<u32>) -> bool {
+    order.line().as_slice() == line && order.heir() == heir && order.last() == last
+}
+
+fn is_free_in_the_middle(order: &Order) -> bool
     requires { order.now.count ≡ 3 }
 {
     let before = (
@@ -25,30 +33,31 @@ fn free_in_the_middle(rt: &impl Abort, order: &Order)
         order.precedes(0, 2),
         order.precedes(1, 0),
     );
-    assert_eq!(rt; before, (true, false, false));
-    assert_eq!(rt;
-        (order.maximal(0), order.maximal(1), order.maximal(2)),
-        (true, true, false)
-    );
-    assert_eq!(rt; (order.cut(1), order.cut(2)), (false, false));
+    let maximal = (order.maximal(0), order.maximal(1), order.maximal(2));
+    before == (true, false, false)
+        && maximal == (true, true, false)
+        && (order.cut(1), order.cut(2)) == (false, false)
 }
 
 // 1 < 0, 0 < 3 and 0 < 2: child 1 also precedes 2 and 3, and the line is cut after 1 and after 0.
 #[test]
-fn fork(rt: HostRuntime) -> Result<(), Fail> {
+fn fork(rt: HostRuntime) {
     let pairs = [
         Pair { first: 0, then: 3 },
         Pair { first: 1, then: 0 },
         Pair { first: 0, then: 2 },
     ];
-    let order = Order::new(rt.alloc(), 4, &pairs)?;
-    assert_eq!(rt; order.line().as_slice(), [1, 0, 2, 3].as_slice());
-    assert_eq!(rt; (order.heir(), order.last()), (Some(3), None));
-    forks(&rt, &order);
-    Ok(())
+    match Order::new(rt.alloc(), 4, &pairs) {
+        Ok(order) => {
+            let right = has(&order, &[1, 0, 2, 3], Some(3), None) && is_fork(&order);
+            drop(order);
+            assert!(rt; right);
+        }
+        Err(_) => panic!(rt; "no order"),
+    }
 }
 
-fn forks(rt: &impl Abort, order: &Order)
+fn is_fork(order: &Order) -> bool
     requires { order.now.count ≡ 4 }
 {
     let before = (
@@ -56,29 +65,38 @@ fn forks(rt: &impl Abort, order: &Order)
         order.precedes(1, 3),
         order.precedes(2, 3),
     );
-    assert_eq!(rt; before, (true, true, false));
-    assert_eq!(rt;
-        (order.cut(1), order.cut(2), order.cut(3)),
-        (true, true, false)
-    );
+    let cuts = (order.cut(1), order.cut(2), order.cut(3));
+    before == (true, true, false) && cuts == (true, true, false)
 }
 
 // 0 < 1 < 2: the third child is last. Without children there is neither heir nor last; a lone child is both.
 #[test]
-fn last_children(rt: HostRuntime) -> Result<(), Fail> {
+fn last_children(rt: HostRuntime) {
     let pairs = [Pair { first: 0, then: 1 }, Pair { first: 1, then: 2 }];
-    let order = Order::new(rt.alloc(), 3, &pairs)?;
-    assert_eq!(rt; order.last(), Some(2));
-    let none = Order::new(rt.alloc(), 0, &[])?;
-    assert_eq!(rt; (none.heir(), none.last()), (None, None));
-    let one = Order::new(rt.alloc(), 1, &[])?;
-    assert_eq!(rt; (one.heir(), one.last()), (Some(0), Some(0)));
-    Ok(())
+    assert!(rt; has_last(rt.alloc(), 3, &pairs, Some(2)));
+    assert!(rt; has_last(rt.alloc(), 0, &[], None));
+    assert!(rt; has_last(rt.alloc(), 1, &[], Some(0)));
+}
+
+// The last child is the heir.
+fn has_last(alloc: Global, count: u32, pairs: &[Pair], last: Option<u32>) -> bool
+    requires small { count ≤ 4097 }
+    requires below { AreBelow count pairs.now }
+    requires few { length pairs.now < 2 ^ 32 }
+{
+    match Order::new(alloc, count, pairs) {
+        Ok(order) => {
+            let right = order.heir() == last && order.last() == last;
+            drop(order);
+            right
+        }
+        Err(_) => false,
+    }
 }
 
 // The third pair closes the cycle 0 < 1 < 2 < 0, and the fourth closes another one.
 #[test]
-fn cycles(rt: HostRuntime) -> Result<(), Fail> {
+fn cycles(rt: HostRuntime) {
     let pairs = [
         Pair { first: 0, then: 1 },
         Pair { first: 1, then: 2 },
@@ -86,20 +104,44 @@ fn cycles(rt: HostRuntime) -> Result<(), Fail> {
         Pair { first: 1, then: 0 },
     ];
     let made = Order::new(rt.alloc(), 3, &pairs);
-    assert_eq!(rt; made.err(), Some(OrderError::Cycle { pair: 2 }));
+    assert!(rt; closing(&rt, made) == 2);
     let itself = Order::new(rt.alloc(), 2, &[Pair { first: 1, then: 1 }]);
-    assert_eq!(rt; itself.err(), Some(OrderError::Cycle { pair: 0 }));
-    Ok(())
+    assert!(rt; closing(&rt, itself) == 0);
+}
+
+fn closing(rt: &impl Abort, answer: Result<Order, OrderError>) -> u32 {
+    match answer {
+        Err(OrderError::Cycle { pair }) => pair,
+        Err(OrderError::Memory) => panic!(rt; "out of memory"),
+        Ok(order) => {
+            drop(order);
+            panic!(rt; "no cycle")
+        }
+    }
+}
+
+fn is_copied(alloc: Global, set: &ChildSet) -> bool
+    requires { length set.now ≡ 70 }
+{
+    match set.copy(alloc) {
+        Ok(copy) => {
+            let has = (copy.len(), copy.contains(65), copy.contains(1));
+            drop(copy);
+            has == (70, true, false)
+        }
+        Err(_) => false,
+    }
 }
 
 #[test]
-fn sets(rt: HostRuntime) -> Result<(), Fail> {
-    let mut set = ChildSet::new(rt.alloc(), 70)?;
-    set.insert(65);
-    let copy = set.copy(rt.alloc())?;
-    assert_eq!(rt;
-        (copy.len(), copy.contains(65), copy.contains(1)),
-        (70, true, false)
-    );
-    Ok(())
+fn sets(rt: HostRuntime) {
+    match ChildSet::new(rt.alloc(), 70) {
+        Ok(mut set) => {
+            set.insert(65);
+            let copied = is_copied(rt.alloc(), &set);
+            drop(set);
+            assert!(rt; copied);
+        }
+        Err(_) => panic!(rt; "out of memory"),
+    }
 }

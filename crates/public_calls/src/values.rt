@@ -1,79 +1,73 @@
-//! Each copy is made once with ample memory, and types are asked that were worked out by hand.
+//! Facts are kept, and types are asked that were worked out by hand.
 
 ghost use Rattle.std.specs.Prelude.{◌≡◌, ◌<◌, All, IfOk, length};
-ghost use Rattle.plan_model.specs.Parts.{AreListed};
+ghost use Rattle.plan_model.specs.Parts.{AreListed, AreListedParents};
 
-use htn_base::{Boxed, List, Memory, Name};
-use plan_model::{
-    Atom, Child, Facts, Formula, Head, Object, Parent, Term, Types, in_type, members,
-};
+use htn_base::{List, Memory, Name};
+use plan_model::{Facts, Object, Parent, Types, in_type, members};
 use std::alloc::Global;
-use std::test::Fail;
 
-#[test]
-fn formulas(rt: HostRuntime) -> Result<(), Fail> {
-    let not = Boxed::new(rt.alloc(), Formula::Equal(Term::Var(0), Term::Obj(2)))?;
-    let mut parts = List::new(rt.alloc());
-    parts.push(Formula::Not(not))?;
-    assert!(rt; Formula::Or(parts).copy(rt.alloc()).is_ok());
-    Ok(())
-}
-
-#[test]
-fn atoms(rt: HostRuntime) -> Result<(), Fail> {
-    let predicate = 3;
-    let args = List::new(rt.alloc());
-    assert!(rt; Atom { predicate, args }.copy(rt.alloc()).is_ok());
-    Ok(())
-}
-
-#[test]
-fn facts(rt: HostRuntime) -> Result<(), Fail> {
-    let mut facts = Facts::with_room(rt.alloc(), 2, 3)?;
+fn put_facts(facts: &mut Facts) -> Result<(), Memory> {
     facts.push(7, &[4, 5])?;
-    facts.push(8, &[6])?;
-    assert_eq!(rt; facts.len(), 2);
-    assert!(rt;
-        match facts.get(1) {
-            Some(fact) => {
-                fact.predicate == 8 && fact.args.len() == 1 && fact.args.get(0) == Some(6)
-            }
-            None => false,
+    facts.push(8, &[6])
+}
+
+fn are_facts(facts: &Facts) -> bool {
+    match facts.get(1) {
+        Some(fact) => {
+            let args = (fact.args.len(), fact.args.get(0));
+            facts.len() == 2 && fact.predicate == 8 && args == (1, Some(6))
         }
-    );
-    assert!(rt; facts.get(2).is_none());
-    Ok(())
+        None => false,
+    }
 }
 
 #[test]
-fn subtasks(rt: HostRuntime) -> Result<(), Fail> {
-    let child = Child {
-        id: Some(Name { number: 4 }),
-        head: Head::Action(5),
-        args: List::new(rt.alloc()),
-    };
-    assert!(rt; child.copy(rt.alloc()).is_ok());
-    Ok(())
+fn facts(rt: HostRuntime) {
+    match Facts::with_room(rt.alloc(), 2, 3) {
+        Ok(mut facts) => {
+            let put = put_facts(&mut facts).is_ok();
+            let right = put && are_facts(&facts) && facts.get(2).is_none();
+            drop(facts);
+            assert!(rt; right);
+        }
+        Err(Memory) => panic!(rt; "out of memory"),
+    }
 }
 
 // The types `hammer saw - tool mallet - hammer`: tool 1, hammer 2, saw 3, mallet 4, and the union 5 of saw and mallet.
 fn tools(alloc: Global) -> Result<Types, Memory>
     ensures listed { IfOk result AreListed }
 {
-    let mut names = List::new(alloc);
-    let mut parents = List::new(alloc);
-    for number in 0..5 {
-        names.push(Name { number })?;
-        parents.push(Parent {
-            child: number,
-            parent: number / 2,
-        })?;
-    }
+    let unions = saw_or_mallet(alloc)?;
+    let names = tool_names(alloc)?;
+    let parents = tool_parents(alloc)?;
     Ok(Types {
         names,
         parents,
-        unions: saw_or_mallet(alloc)?,
+        unions,
     })
+}
+
+fn tool_names(alloc: Global) -> Result<List<Name>, Memory>
+    ensures { IfOk result (λ names. length names ≡ 5) }
+{
+    let mut names = List::new(alloc);
+    for number in 0..5 {
+        names.push(Name { number })?;
+    }
+    Ok(names)
+}
+
+fn tool_parents(alloc: Global) -> Result<List<Parent>, Memory>
+    ensures { IfOk result (AreListedParents 5) }
+{
+    let mut parents = List::new(alloc);
+    for child in 0..5 {
+        let parent = child / 2;
+        parents.push(Parent { child, parent })?;
+    }
+    Ok(parents)
 }
 
 fn saw_or_mallet(alloc: Global) -> Result<List<List<u32>>, Memory>
@@ -100,34 +94,65 @@ fn objects(alloc: Global) -> Result<List<Object>, Memory>
     Ok(objects)
 }
 
-#[test]
-fn parts(rt: HostRuntime) -> Result<(), Fail> {
-    let types = tools(rt.alloc())?;
-    assert_eq!(rt;
-        (types.is_a(4, 1), types.is_a(1, 4), types.is_a(4, 3)),
-        (true, false, false)
-    );
-    assert_eq!(rt; (types.is_a(4, 5), types.is_a(2, 5)), (true, false));
-    assert_eq!(rt; (types.is_a(5, 1), types.is_a(5, 2)), (true, false));
-    assert_eq!(rt; (types.is_a(9, 0), types.is_a(9, 1)), (true, false));
-    Ok(())
+fn are_parts(types: &Types) -> bool
+    requires { AreListed types.now }
+{
+    let single = (types.is_a(4, 1), types.is_a(1, 4), types.is_a(4, 3));
+    let into = (types.is_a(4, 5), types.is_a(2, 5));
+    let union = (types.is_a(5, 1), types.is_a(5, 2));
+    let unknown = (types.is_a(9, 0), types.is_a(9, 1));
+    single == (true, false, false)
+        && into == (true, false)
+        && union == (true, false)
+        && unknown == (true, false)
+}
+
+fn are_in_types(types: &Types, objects: &List<Object>) -> bool
+    requires { AreListed types.now }
+{
+    in_type(types, objects, 3, 1)
+        && !in_type(types, objects, 0, 2)
+        && !in_type(types, objects, 9, 0)
+}
+
+fn has_members(alloc: Global, types: &Types, objects: &List<Object>, ty: u32, want: &[u32]) -> bool
+    requires listed { AreListed types.now }
+    requires few { length objects.now < 5 }
+{
+    match members(alloc, types, objects, ty) {
+        Ok(found) => {
+            let right = found.as_slice() == want;
+            drop(found);
+            right
+        }
+        Err(Memory) => false,
+    }
+}
+
+fn have_members(alloc: Global, types: &Types) -> bool
+    requires { AreListed types.now }
+{
+    match objects(alloc) {
+        Ok(objects) => {
+            let right = are_in_types(types, &objects)
+                && has_members(alloc, types, &objects, 2, &[1, 3])
+                && has_members(alloc, types, &objects, 5, &[2, 3]);
+            drop(objects);
+            right
+        }
+        Err(Memory) => false,
+    }
 }
 
 #[test]
-fn members_of_types(rt: HostRuntime) -> Result<(), Fail> {
-    let types = tools(rt.alloc())?;
-    let objects = objects(rt.alloc())?;
-    let hammers = members(rt.alloc(), &types, &objects, 2)?;
-    assert_eq!(rt; hammers.as_slice(), [1, 3].as_slice());
-    let either = members(rt.alloc(), &types, &objects, 5)?;
-    assert_eq!(rt; either.as_slice(), [2, 3].as_slice());
-    assert_eq!(rt;
-        (
-            in_type(&types, &objects, 3, 1),
-            in_type(&types, &objects, 0, 2),
-            in_type(&types, &objects, 9, 0)
-        ),
-        (true, false, false)
-    );
-    Ok(())
+fn parts_and_members_of_types(rt: HostRuntime) {
+    match tools(rt.alloc()) {
+        Ok(types) => {
+            let parts = are_parts(&types);
+            let members = have_members(rt.alloc(), &types);
+            drop(types);
+            assert!(rt; parts && members);
+        }
+        Err(Memory) => panic!(rt; "out of memory"),
+    }
 }

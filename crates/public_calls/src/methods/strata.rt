@@ -4,11 +4,10 @@ ghost use Rattle.std.specs.Prelude.{IfOk};
 ghost use Rattle.public_calls.specs.Recursive.{IsRecursive};
 ghost use Rattle.stratifier.specs.Conditions.{IsSmallCompiled, HaveNoCycle};
 
-use crate::methods::samples::{always, method, one, problem, types};
+use crate::methods::samples::{always, one, problem, types};
 use htn_base::{List, Memory, Name};
 use plan_model::{Child, Compiled, Head, MethodPlan, MethodSchema};
 use std::alloc::Global;
-use std::test::Fail;
 use stratifier::{Edge, bad_marks, edges, reached};
 
 /// The method of the top task, of number 0, whose only child is that task.
@@ -20,13 +19,14 @@ fn calls_itself(alloc: Global) -> Result<MethodSchema, Memory>
         head: Head::Task(0),
         args: List::new(alloc),
     };
+    let children = one(alloc, child)?;
     Ok(MethodSchema {
         name: Name { number: 0 },
         params: List::new(alloc),
         task: 0,
         task_args: List::new(alloc),
         pre: always(alloc),
-        children: one(alloc, child)?,
+        children,
         pairs: List::new(alloc),
         constraints: List::new(alloc),
     })
@@ -50,18 +50,17 @@ fn recursive(alloc: Global) -> Result<Compiled, Memory>
     ensures small { IfOk result IsSmallCompiled }
     ensures ordered { IfOk result HaveNoCycle }
 {
-    let top = method(alloc, always(alloc), &[], List::new(alloc), false)?;
-    let types = types(alloc, 1)?;
     let methods = one(alloc, plan(alloc)?)?;
-    let hddl = problem(
-        alloc,
-        types,
-        List::new(alloc),
-        List::new(alloc),
-        top,
-        List::new(alloc),
-    );
-    Ok(Compiled { hddl, methods })
+    match types(alloc) {
+        Ok(types) => {
+            let hddl = problem(alloc, types, List::new(alloc));
+            Ok(Compiled { hddl, methods })
+        }
+        Err(Memory) => {
+            drop(methods);
+            Err(Memory)
+        }
+    }
 }
 
 /// Whether the top task is reached, and its edge to itself, which is to the last child, is the only one.
@@ -69,24 +68,30 @@ fn has_one_edge(alloc: Global, value: &Compiled) -> Result<bool, Memory>
     requires small { IsSmallCompiled value.now }
     requires ordered { HaveNoCycle value.now }
 {
-    let found = edges(alloc, value)?;
-    let bad = bad_marks(alloc, value, &found)?;
-    let marks = reached(alloc, value)?;
     let edge = Edge {
         method: 0,
         child: 0,
     };
-    Ok(
-        found.as_slice() == [edge].as_slice()
-            && bad.as_slice() == [false].as_slice()
-            && marks.as_slice() == [true].as_slice(),
-    )
+    let found = edges(alloc, value)?;
+    let only = found.as_slice() == [edge].as_slice();
+    let bad = bad_marks(alloc, value, &found);
+    drop(found);
+    let good = matches!(&bad, Ok(bad) if bad.as_slice() == [false].as_slice());
+    drop(bad);
+    let marks = reached(alloc, value)?;
+    let met = marks.as_slice() == [true].as_slice();
+    drop(marks);
+    Ok(only && good && met)
 }
 
 #[test]
-fn one_edge(rt: HostRuntime) -> Result<(), Fail> {
-    let value = recursive(rt.alloc())?;
-    assert!(rt; has_one_edge(rt.alloc(), &value)?);
-    drop(value);
-    Ok(())
+fn one_edge(rt: HostRuntime) {
+    match recursive(rt.alloc()) {
+        Ok(value) => {
+            let right = has_one_edge(rt.alloc(), &value);
+            drop(value);
+            assert!(rt; right == Ok(true));
+        }
+        Err(Memory) => panic!(rt; "out of memory"),
+    }
 }
