@@ -19,17 +19,34 @@ use stratifier::{Edge, Ranks, StratError, stratify};
 pub fn print_bounds(rt: &HostRuntime, alloc: Global, files: &mut DiskFiles) -> Result<(), Failure> {
     for case in CASES {
         let (domain, problem) = *case;
-        let source = source_of(alloc, files, domain, problem)?;
-        let compiled = compiled_source(alloc, &source, Checks::Leaf)?;
-        print!(rt; "{domain} {problem} [")?;
-        let told = print_case(rt, alloc, &compiled);
+        let compiled = compiled_case(alloc, files, domain, problem)?;
+        let told = print_case(rt, alloc, domain, problem, &compiled);
         drop(compiled);
         told?;
     }
     Ok(())
 }
 
-fn print_case(rt: &HostRuntime, alloc: Global, c: &Compiled) -> Result<(), Failure> {
+fn compiled_case(
+    alloc: Global,
+    files: &mut DiskFiles,
+    domain: &str,
+    problem: &str,
+) -> Result<Compiled, Failure> {
+    let source = source_of(alloc, files, domain, problem)?;
+    let compiled = compiled_source(alloc, &source, Checks::Leaf);
+    drop(source);
+    compiled
+}
+
+fn print_case(
+    rt: &HostRuntime,
+    alloc: Global,
+    domain: &str,
+    problem: &str,
+    c: &Compiled,
+) -> Result<(), Failure> {
+    print!(rt; "{domain} {problem} [")?;
     if let Some(plan) = c.methods.get(0) {
         print_blocks(rt, alloc, plan)?;
     }

@@ -10,7 +10,7 @@ use htn_base::{Memory, Text};
 use method_precs::compile;
 use outside_io::{DiskFiles, Files, GetError};
 use pddl_printer::{print_domain, print_problem};
-use plan_model::{Checks, Compiled, Hddl, Style};
+use plan_model::{Checks, Compiled, Hddl, Pddl, Style};
 use problem_texts::{Printed, Sizes, Texts, sizes, texts_of};
 use sexpr_text::ReadError;
 use slot_encoder::encode;
@@ -80,7 +80,9 @@ pub struct Source {
 pub fn print_all(rt: &HostRuntime, alloc: Global, files: &mut DiskFiles) -> Result<(), Failure> {
     for row in ROWS {
         let source = source_of(alloc, files, row.name, row.name)?;
-        print_styles(rt, alloc, row, &source)?;
+        let told = print_styles(rt, alloc, row, &source);
+        drop(source);
+        told?;
     }
     Ok(())
 }
@@ -92,12 +94,15 @@ pub fn source_of(
     domain: &str,
     problem: &str,
 ) -> Result<Source, Failure> {
-    let domain = format!(in alloc; "{domain}.d.hddl")?;
-    let problem = format!(in alloc; "{problem}.p.hddl")?;
-    Ok(Source {
-        domain: files.get(alloc, domain.as_str(), LIMIT)?,
-        problem: files.get(alloc, problem.as_str(), LIMIT)?,
-    })
+    let domain = text_of(alloc, files, format!(in alloc; "{domain}.d.hddl")?)?;
+    let problem = text_of(alloc, files, format!(in alloc; "{problem}.p.hddl")?)?;
+    Ok(Source { domain, problem })
+}
+
+fn text_of(alloc: Global, files: &mut DiskFiles, name: String) -> Result<Vec<u8>, GetError> {
+    let text = files.get(alloc, name.as_str(), LIMIT);
+    drop(name);
+    text
 }
 
 fn print_styles(
@@ -109,7 +114,9 @@ fn print_styles(
     for style in &[Style::Adl, Style::Flat] {
         for checks in row.modes {
             let printed = printed(alloc, source, row.slots, *style, *checks)?;
-            print_texts(rt, row, *style, *checks, &printed)?;
+            let told = print_texts(rt, row, *style, *checks, &printed);
+            drop(printed);
+            told?;
         }
     }
     Ok(())
@@ -143,8 +150,14 @@ fn texts_compared(
     let texts = texts_as_long(alloc, compiled, slots, style)?;
     match are_right(alloc, compiled, slots, style, &texts) {
         Ok(true) => Ok(texts),
-        Ok(false) => Err(Failure::Difference),
-        Err(_) => Err(Failure::Memory),
+        Ok(false) => {
+            drop(texts);
+            Err(Failure::Difference)
+        }
+        Err(Memory) => {
+            drop(texts);
+            Err(Failure::Memory)
+        }
     }
 }
 
@@ -160,7 +173,9 @@ fn are_right(
 {
     if is_told(alloc, compiled, slots, style, texts.domain.len() as u64)? {
         let whole = texts_of_value(alloc, compiled, slots, style)?;
-        Ok(are_same(texts, &whole))
+        let same = are_same(texts, &whole);
+        drop(whole);
+        Ok(same)
     } else {
         Ok(false)
     }
@@ -182,6 +197,7 @@ fn texts_as_long(
             if are_as_long(&texts, &sizes) {
                 Ok(texts)
             } else {
+                drop(texts);
                 Err(Failure::Difference)
             }
         }
@@ -201,7 +217,10 @@ fn is_told(
     requires compiled { IsCompiledProblem compiled.now }
 {
     match texts_of(alloc, compiled, slots, &style, length.saturating_sub(1))? {
-        Printed::Whole(_) => Ok(false),
+        Printed::Whole(texts) => {
+            drop(texts);
+            Ok(false)
+        }
         Printed::TooLong(told) => Ok(told == length),
     }
 }
@@ -245,11 +264,32 @@ fn texts_of_value(
     requires listed { AreListed compiled.now.hddl.types }
 {
     let value = encode(alloc, compiled, slots, &style)?;
-    let mut domain = Text::new(alloc);
-    print_domain(&value, &mut domain)?;
-    let mut problem = Text::new(alloc);
-    print_problem(&value, &mut problem)?;
-    Ok(Texts { domain, problem })
+    let texts = value_texts(alloc, &value);
+    drop(value);
+    texts
+}
+
+fn value_texts(alloc: Global, value: &Pddl) -> Result<Texts, Memory> {
+    let domain = domain_text(alloc, value)?;
+    match problem_text(alloc, value) {
+        Ok(problem) => Ok(Texts { domain, problem }),
+        Err(Memory) => {
+            drop(domain);
+            Err(Memory)
+        }
+    }
+}
+
+fn domain_text(alloc: Global, value: &Pddl) -> Result<Text, Memory> {
+    let mut text = Text::new(alloc);
+    print_domain(value, &mut text)?;
+    Ok(text)
+}
+
+fn problem_text(alloc: Global, value: &Pddl) -> Result<Text, Memory> {
+    let mut text = Text::new(alloc);
+    print_problem(value, &mut text)?;
+    Ok(text)
 }
 
 fn are_same(one: &Texts, other: &Texts) -> bool {
