@@ -5,7 +5,6 @@ use outside_io::{
     SteadySink, WriteError,
 };
 use std::alloc::Global;
-use std::process::Abort;
 use std::{env, fs};
 
 fn gives(answer: Result<Vec<u8>, GetError>, want: &[u8]) -> bool {
@@ -44,69 +43,74 @@ fn add_files(files: &mut MemFiles) -> Result<(), Memory> {
     files.fail_put(0)
 }
 
-fn calls_fail(rt: &impl Abort, alloc: Global, files: &mut MemFiles) {
-    assert!(rt; gives(files.get(alloc, "a", 9), b"new"));
-    assert!(rt; fails(files.get(alloc, "a", 9)));
-    assert!(rt; fails(files.get(alloc, "d", 9)));
-    assert!(rt; gives(files.get(alloc, "b", 3), b"123"));
-    assert!(rt; files.put("a", b"lost") == Err(PutError::Failed));
-    assert!(rt; holds(files, "a", b"new"));
-    assert!(rt; files.put("a", b"kept").is_ok());
-    assert!(rt; holds(files, "a", b"kept"));
-    assert!(rt; files.bytes("d").is_none());
+fn chosen_gets_fail(alloc: Global, files: &mut MemFiles) -> bool {
+    gives(files.get(alloc, "a", 9), b"new")
+        && fails(files.get(alloc, "a", 9))
+        && fails(files.get(alloc, "d", 9))
+        && gives(files.get(alloc, "b", 3), b"123")
+}
+
+fn chosen_puts_fail(files: &mut MemFiles) -> bool {
+    files.put("a", b"lost") == Err(PutError::Failed)
+        && holds(files, "a", b"new")
+        && files.put("a", b"kept").is_ok()
+        && holds(files, "a", b"kept")
+        && files.bytes("d").is_none()
 }
 
 #[test]
 fn chosen_calls_fail(rt: HostRuntime) {
     let mut files = MemFiles::new(rt.alloc());
-    let added = add_files(&mut files);
-    calls_fail(&rt, rt.alloc(), &mut files);
+    let added = add_files(&mut files).is_ok();
+    let gets_fail = chosen_gets_fail(rt.alloc(), &mut files);
+    let puts_fail = chosen_puts_fail(&mut files);
     drop(files);
-    assert!(rt; added.is_ok());
+    assert!(rt; added && gets_fail && puts_fail);
 }
 
-fn are_read(rt: &impl Abort, alloc: Global, files: &mut SteadyFiles) {
-    assert!(rt; files.add("a", b"12345").is_ok());
-    assert!(rt; files.put("b", b"b").is_ok());
-    assert!(rt; gives(files.get(alloc, "a", 3), b"123"));
-    assert!(rt; gives(files.get(alloc, "c", 3), b""));
-    assert!(rt; files.bytes("b").is_some());
-    assert!(rt; files.bytes("c").is_none());
+fn are_read(alloc: Global, files: &mut SteadyFiles) -> bool {
+    files.add("a", b"12345").is_ok()
+        && files.put("b", b"b").is_ok()
+        && gives(files.get(alloc, "a", 3), b"123")
+        && gives(files.get(alloc, "c", 3), b"")
+        && files.bytes("b").is_some()
+        && files.bytes("c").is_none()
 }
 
 #[test]
 fn steady_files_read_a_missing_name_as_empty(rt: HostRuntime) {
     let mut files = SteadyFiles::new(rt.alloc());
-    are_read(&rt, rt.alloc(), &mut files);
+    let read = are_read(rt.alloc(), &mut files);
     drop(files);
+    assert!(rt; read);
 }
 
-fn takes_some(rt: &impl Abort, sink: &mut MemSink) {
-    assert!(rt; sink.fail_write(1).is_ok());
-    assert!(rt; sink.write(b"abcde") == Ok(3));
-    assert!(rt; sink.write(b"de") == Err(WriteError::Failed));
-    assert!(rt; sink.write(b"de") == Ok(2));
-    assert!(rt; sink.bytes() == b"abcde".as_slice());
+fn takes_some(sink: &mut MemSink) -> bool {
+    sink.fail_write(1).is_ok()
+        && sink.write(b"abcde") == Ok(3)
+        && sink.write(b"de") == Err(WriteError::Failed)
+        && sink.write(b"de") == Ok(2)
+        && sink.bytes() == b"abcde".as_slice()
 }
 
 #[test]
 fn a_sink_takes_a_few_bytes_at_a_time(rt: HostRuntime) {
     let mut sink = MemSink::new(rt.alloc(), 3);
-    takes_some(&rt, &mut sink);
+    let taken = takes_some(&mut sink);
     drop(sink);
+    assert!(rt; taken);
 }
 
-fn takes_all(rt: &impl Abort, sink: &mut SteadySink) {
-    assert!(rt; sink.write(b"abc") == Ok(2));
-    assert!(rt; sink.write(b"c") == Ok(1));
-    assert!(rt; sink.bytes() == b"abc".as_slice());
+fn takes_all(sink: &mut SteadySink) -> bool {
+    sink.write(b"abc") == Ok(2) && sink.write(b"c") == Ok(1) && sink.bytes() == b"abc".as_slice()
 }
 
 #[test]
 fn a_steady_sink_takes_a_few_bytes_at_a_time(rt: HostRuntime) {
     let mut sink = SteadySink::new(rt.alloc(), 2);
-    takes_all(&rt, &mut sink);
+    let taken = takes_all(&mut sink);
     drop(sink);
+    assert!(rt; taken);
 }
 
 fn keeps(alloc: Global, files: &mut DiskFiles, name: &str) -> bool {

@@ -30,15 +30,20 @@ fn boxed_and_taken(alloc: Global) -> Result<u8, Memory> {
     Ok(Boxed::new(alloc, 7)?.into_inner())
 }
 
+fn is_list(alloc: Global, list: &mut List<u32>) -> bool {
+    pushes(list).is_ok()
+        && list.as_slice() == [3, 1].as_slice()
+        && is_copied(alloc, list)
+        && puts(list)
+        && list.as_slice() == [3, 1, 4].as_slice()
+}
+
 #[test]
 fn lists(rt: HostRuntime) {
     let mut list = List::new(rt.alloc());
-    let pushed = pushes(&mut list).is_ok() && list.as_slice() == [3, 1].as_slice();
-    let copied = is_copied(rt.alloc(), &list);
-    let put = puts(&mut list) && list.as_slice() == [3, 1, 4].as_slice();
+    let right = is_list(rt.alloc(), &mut list);
     drop(list);
-    assert!(rt; pushed && copied && put);
-    assert!(rt; boxed_and_taken(rt.alloc()) == Ok(7));
+    assert!(rt; right && boxed_and_taken(rt.alloc()) == Ok(7));
 }
 
 fn grows(text: &mut Text) -> Result<(), Memory> {
@@ -110,28 +115,34 @@ const NO_SLOTS: &[&[u8]] = &[
     b"htn_t1",
 ];
 
+fn are_no_slots() -> bool {
+    NO_SLOTS.iter().all(|word| slot_number(word).is_none())
+}
+
 #[test]
 fn printed_names(rt: HostRuntime) {
-    assert!(rt; is_text(esc(rt.alloc(), b"go-to_2"), b"go-to_2"));
-    assert!(rt; is_text(esc(rt.alloc(), b"htn_free"), b"htn_u_68746e5f66726565"));
-    assert!(rt; is_text(slot_name(rt.alloc(), 4096), b"htn_s4096"));
-    assert!(rt; slot_number(b"htn_s4096") == Some(4096));
-    assert!(rt; slot_number(b"htn_s4294967295") == Some(4294967295));
-    for word in NO_SLOTS {
-        assert!(rt; slot_number(word).is_none(), "at {word:?}");
-    }
+    let plain = is_text(esc(rt.alloc(), b"go-to_2"), b"go-to_2");
+    let generated = is_text(esc(rt.alloc(), b"htn_free"), b"htn_u_68746e5f66726565");
+    let slot = is_text(slot_name(rt.alloc(), 4096), b"htn_s4096");
+    let first = slot_number(b"htn_s4096") == Some(4096);
+    let last = slot_number(b"htn_s4294967295") == Some(4294967295);
+    assert!(rt; plain && generated && slot && first && last && are_no_slots());
+}
+
+fn are_sorted_out() -> bool {
+    let names = is_name(b"Truck-1") && is_name(b"andy") && is_name(b"12");
+    let others = is_name(b"") || is_name(b"?x") || is_name(b":htn") || is_name(b"FORALL");
+    let plain = is_plain(b"go-to_2") && !is_plain(b"htn_free") && !is_plain(b"2nd");
+    let reserved = is_reserved(b"either") && !is_reserved(b"Either");
+    names && !others && plain && reserved
 }
 
 #[test]
 fn source_names(rt: HostRuntime) {
-    assert!(rt; is_name(b"Truck-1") && is_name(b"andy") && is_name(b"12"));
-    assert!(rt; !is_name(b"") && !is_name(b"?x") && !is_name(b":htn") && !is_name(b"FORALL"));
-    assert!(rt; is_plain(b"go-to_2") && !is_plain(b"htn_free") && !is_plain(b"2nd"));
-    assert!(rt; is_reserved(b"either") && !is_reserved(b"Either"));
+    assert!(rt; are_sorted_out());
 }
 
 #[test]
 fn lengths(rt: HostRuntime) {
-    assert!(rt; number(4294967295) == Ok(4294967295));
-    assert!(rt; number(4294967296).is_err());
+    assert!(rt; number(4294967295) == Ok(4294967295) && number(4294967296).is_err());
 }
