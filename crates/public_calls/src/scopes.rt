@@ -8,6 +8,20 @@ fn variable(ty: u32) -> Param {
     Param { name, ty }
 }
 
+fn finds(scope: &Scope<'_>, number: usize, ty: u32) -> bool {
+    match scope.find(number) {
+        Ok(found) => found.ty == ty,
+        Err(_) => false,
+    }
+}
+
+fn misses(scope: &Scope<'_>, number: usize, past: usize) -> bool {
+    match scope.find(number) {
+        Ok(_) => false,
+        Err(found) => found == past,
+    }
+}
+
 // Two variables around, of types 1 and 2, and one inside, of type 3. Numbers 3 and 5 are 0 and 2 past the end.
 #[test]
 fn variables_in_force(rt: HostRuntime) {
@@ -15,9 +29,7 @@ fn variables_in_force(rt: HostRuntime) {
     let inside = [variable(3)];
     let outer = Scope::Within(&Scope::Empty, around.as_slice());
     let scope = Scope::Within(&outer, inside.as_slice());
-    for number in 0..3 {
-        assert!(rt; matches!(scope.find(number), Ok(found) if found.ty as usize == number + 1));
-    }
-    assert!(rt; (scope.find(3).err(), scope.find(5).err()) == (Some(0), Some(2)));
-    assert!(rt; Scope::Empty.find(4).err() == Some(4));
+    let found = finds(&scope, 0, 1) && finds(&scope, 1, 2) && finds(&scope, 2, 3);
+    let missed = misses(&scope, 3, 0) && misses(&scope, 5, 2) && misses(&Scope::Empty, 4, 4);
+    assert!(rt; found && missed);
 }
