@@ -128,16 +128,6 @@ fn has_formula(rt: &impl Abort, alloc: Global, s: &Sexprs<'_>, names: &mut NameT
     right && names.len() == 1
 }
 
-#[test]
-fn formula_with_its_parts(rt: HostRuntime) {
-    let s = read(rt.alloc(), b"(Or (p))", 0).expect(&rt, "a text");
-    let mut names = NameTable::new(rt.alloc());
-    let right = has_formula(&rt, rt.alloc(), &s, &mut names);
-    drop(names);
-    drop(s);
-    assert!(rt; right);
-}
-
 fn is_empty(got: &Got<RawEffect>) -> bool {
     got.next == 7 && matches!(&got.value, RawEffect::And(parts) if parts.len() == 0)
 }
@@ -148,16 +138,6 @@ fn has_effect(rt: &impl Abort, alloc: Global, s: &Sexprs<'_>, names: &mut NameTa
     let right = matches!(&answer, Ok(got) if is_empty(got));
     drop(answer);
     right && names.len() == 0
-}
-
-#[test]
-fn effect_with_its_parts(rt: HostRuntime) {
-    let s = read(rt.alloc(), b"(increase (total) 1)", 0).expect(&rt, "a text");
-    let mut names = NameTable::new(rt.alloc());
-    let right = has_effect(&rt, rt.alloc(), &s, &mut names);
-    drop(names);
-    drop(s);
-    assert!(rt; right);
 }
 
 fn is_union(got: &Got<RawParams>) -> bool {
@@ -176,14 +156,27 @@ fn has_union(rt: &impl Abort, alloc: Global, s: &Sexprs<'_>, names: &mut NameTab
     right && names.len() == 3
 }
 
-#[test]
-fn list_with_a_union(rt: HostRuntime) {
-    let s = read(rt.alloc(), b"(?x - (either t u t))", 0).expect(&rt, "a text");
-    let mut names = NameTable::new(rt.alloc());
-    let right = has_union(&rt, rt.alloc(), &s, &mut names);
+fn has_parts(rt: &impl Abort, alloc: Global, source: &[u8], form: Form) -> bool {
+    assert!(rt; source.len() <= 16_777_216);
+    let s = read(alloc, source, 0).expect(rt, "a text");
+    let mut names = NameTable::new(alloc);
+    let right = match form {
+        Form::Formula => has_formula(rt, alloc, &s, &mut names),
+        Form::Effect => has_effect(rt, alloc, &s, &mut names),
+        Form::List(_) => has_union(rt, alloc, &s, &mut names),
+    };
     drop(names);
     drop(s);
-    assert!(rt; right);
+    right
+}
+
+#[test]
+fn forms_with_their_parts(rt: HostRuntime) {
+    let formula = has_parts(&rt, rt.alloc(), b"(Or (p))", Form::Formula);
+    let effect = has_parts(&rt, rt.alloc(), b"(increase (total) 1)", Form::Effect);
+    let union = Form::List(ListKind::Parameters);
+    let list = has_parts(&rt, rt.alloc(), b"(?x - (either t u t))", union);
+    assert!(rt; formula && effect && list);
 }
 
 fn named(number: u32) -> RawTerm {
