@@ -24,5 +24,5 @@ all_ordered : (plan : MethodPlan) → IsRecursive plan.schema → All IsOrdered 
 all_ordered plan r zero d l = ordered plan r
 all_ordered plan r (suc k) d l = absurd (omega arith)
 
-pub returns-clause-ordered : goal.returns-clause-ordered
-returns-clause-ordered c = subst (All IsOrdered) (sym c.in_ok-methods.ensures) (all_ordered c.in_ok-plan.field-0 c.in_ok-plan.ensures.recursive)
+pub returns-in-Ok-clause-ordered : goal.returns-in-Ok-clause-ordered
+returns-in-Ok-clause-ordered c = subst (All IsOrdered) (sym c.in_ok-methods.ensures) (all_ordered c.in_ok-plan.field-0 c.in_ok-plan.ensures.recursive)
