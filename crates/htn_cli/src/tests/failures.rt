@@ -1,80 +1,226 @@
 //! Files and streams that fail.
-use super::Outside;
-use super::texts::{DOMAIN, PROBLEM, one_slot_adl};
+use super::texts::{DOMAIN, ONE_SLOT_DOMAIN, ONE_SLOT_PROBLEM, PROBLEM};
+use super::validations::{COSTS, NOTHING};
+use super::{BOUND, Failing, Piece, Row, TRANSLATE, VALIDATE, replay};
 use crate::Status;
-use outside_io::MemFiles;
+use htn_base::Memory;
 use std::alloc::Global;
 use std::process::Abort;
 use std::test::Fail;
 
-/// Neither command reads its files, the get of this number failing.
-fn is_not_read(rt: &impl Abort, alloc: Global, get: u32, line: &str) -> Result<(), Fail> {
-    let mut translation = Outside::new(alloc, DOMAIN, PROBLEM)?;
-    translation.files.fail_get(get)?;
-    translation.ends(rt, Status::ReadFault, "", line)?;
-    translation.lacks(rt, "od.pddl");
-    translation.lacks(rt, "op.pddl");
-    let mut bounding = Outside::new(alloc, DOMAIN, PROBLEM)?;
-    bounding.files.fail_get(get)?;
-    let ended = bounding.bound()?;
-    assert_eq!(rt; ended, Status::ReadFault);
-    bounding.told(rt, "", line);
-    Ok(())
+const ONE_SLOT: &[&[&str]] = &[TRANSLATE, &["--bound", "1"]];
+
+const TEXTS: &[(&str, &[Piece<'static>])] = &[
+    ("d.hddl", &[(DOMAIN, 1)]),
+    ("p.hddl", &[(PROBLEM, 1)]),
+];
+
+const LISTED: &[(&str, &[Piece<'static>])] = &[
+    ("pd", &[(COSTS, 1)]),
+    ("pp", &[(NOTHING, 1)]),
+    ("plan", &[("(a)", 1)]),
+];
+
+/// A file is missing, or a get fails.
+#[derive(Clone, Copy)]
+struct Unread {
+    files: &'static [(&'static str, &'static [Piece<'static>])],
+    failing: Failing,
+    words: &'static [&'static [&'static str]],
+    err: &'static str,
 }
 
-#[test]
-fn a_file_that_is_not_read(rt: HostRuntime) -> Result<(), Fail> {
-    is_not_read(&rt, rt.alloc(), 0, "cannot read d.hddl\n")?;
-    is_not_read(&rt, rt.alloc(), 1, "cannot read p.hddl\n")?;
-    let mut missing = Outside::new(rt.alloc(), DOMAIN, PROBLEM)?;
-    missing.files = MemFiles::new(rt.alloc());
-    missing.files.add("d.hddl", DOMAIN.as_bytes())?;
-    missing.ends(&rt, Status::ReadFault, "", "cannot read p.hddl\n")?;
-    missing.lacks(&rt, "od.pddl");
-    Ok(())
-}
+const UNREAD: &[Unread] = &[
+    Unread {
+        files: TEXTS,
+        failing: Failing::Get(0),
+        words: ONE_SLOT,
+        err: "cannot read d.hddl\n",
+    },
+    Unread {
+        files: TEXTS,
+        failing: Failing::Get(0),
+        words: &[BOUND],
+        err: "cannot read d.hddl\n",
+    },
+    Unread {
+        files: TEXTS,
+        failing: Failing::Get(1),
+        words: ONE_SLOT,
+        err: "cannot read p.hddl\n",
+    },
+    Unread {
+        files: TEXTS,
+        failing: Failing::Get(1),
+        words: &[BOUND],
+        err: "cannot read p.hddl\n",
+    },
+    Unread {
+        files: &[("d.hddl", &[(DOMAIN, 1)])],
+        failing: Failing::Nothing,
+        words: ONE_SLOT,
+        err: "cannot read p.hddl\n",
+    },
+    Unread {
+        files: LISTED,
+        failing: Failing::Get(0),
+        words: &[VALIDATE],
+        err: "cannot read pd\n",
+    },
+    Unread {
+        files: LISTED,
+        failing: Failing::Get(1),
+        words: &[VALIDATE],
+        err: "cannot read pp\n",
+    },
+    Unread {
+        files: LISTED,
+        failing: Failing::Get(2),
+        words: &[VALIDATE],
+        err: "cannot read plan\n",
+    },
+];
 
-#[test]
-fn an_output_that_is_not_written(rt: HostRuntime) -> Result<(), Fail> {
-    let mut first = Outside::new(rt.alloc(), DOMAIN, PROBLEM)?;
-    first.files.fail_put(0)?;
-    first.ends(&rt, Status::WriteFault, "", "cannot write od.pddl\n")?;
-    first.lacks(&rt, "od.pddl");
-    first.lacks(&rt, "op.pddl");
-    let mut second = Outside::new(rt.alloc(), DOMAIN, PROBLEM)?;
-    second.files.fail_put(1)?;
-    second.ends(&rt, Status::WriteFault, "", "cannot write op.pddl\n")?;
-    second.holds(&rt, "od.pddl", one_slot_adl().domain);
-    second.lacks(&rt, "op.pddl");
-    Ok(())
-}
-
-fn cuts_output(rt: &impl Abort, alloc: Global, write: u32, taken: &str) -> Result<(), Fail> {
-    let mut outside = Outside::new(alloc, DOMAIN, PROBLEM)?;
-    outside.out.fail_write(write)?;
-    outside.ends(
+fn is_not_read(rt: &impl Abort, alloc: Global, unread: &Unread) -> Result<(), Memory> {
+    replay(
         rt,
-        Status::WriteFault,
-        taken,
-        "cannot write standard output\n",
-    )?;
-    outside.holds(rt, "od.pddl", one_slot_adl().domain);
-    outside.holds(rt, "op.pddl", one_slot_adl().problem);
-    Ok(())
+        alloc,
+        &Row {
+            files: unread.files,
+            failing: unread.failing,
+            words: unread.words,
+            status: Status::ReadFault,
+            out: "",
+            err: unread.err,
+            held: &[("od.pddl", None), ("op.pddl", None)],
+        },
+    )
 }
 
 #[test]
-fn streams_that_fail(rt: HostRuntime) -> Result<(), Fail> {
-    cuts_output(&rt, rt.alloc(), 0, "")?;
-    cuts_output(&rt, rt.alloc(), 1, "slo")?;
-    cuts_output(&rt, rt.alloc(), 2, "slots ")?;
-    let mut bounding = Outside::new(rt.alloc(), DOMAIN, PROBLEM)?;
-    bounding.out.fail_write(0)?;
-    let ended = bounding.bound()?;
-    assert_eq!(&rt; ended, Status::WriteFault);
-    bounding.told(&rt, "", "cannot write standard output\n");
-    let mut error = Outside::new(rt.alloc(), DOMAIN, "")?;
-    error.err.fail_write(3)?;
-    error.ends(&rt, Status::TextFault, "", "p.h")?;
+fn files_that_are_not_read(rt: HostRuntime) -> Result<(), Fail> {
+    for unread in UNREAD {
+        is_not_read(&rt, rt.alloc(), unread)?;
+    }
+    Ok(())
+}
+
+/// A put or a write fails.
+#[derive(Clone, Copy)]
+struct Unwritten {
+    failing: Failing,
+    words: &'static [&'static [&'static str]],
+    out: &'static str,
+    err: &'static str,
+    held: &'static [(&'static str, Option<&'static str>)],
+}
+
+const UNWRITTEN: &[Unwritten] = &[
+    Unwritten {
+        failing: Failing::Put(0),
+        words: ONE_SLOT,
+        out: "",
+        err: "cannot write od.pddl\n",
+        held: &[("od.pddl", None), ("op.pddl", None)],
+    },
+    Unwritten {
+        failing: Failing::Put(1),
+        words: ONE_SLOT,
+        out: "",
+        err: "cannot write op.pddl\n",
+        held: &[("od.pddl", Some(ONE_SLOT_DOMAIN)), ("op.pddl", None)],
+    },
+    Unwritten {
+        failing: Failing::Output(0),
+        words: ONE_SLOT,
+        out: "",
+        err: "cannot write standard output\n",
+        held: &[
+            ("od.pddl", Some(ONE_SLOT_DOMAIN)),
+            ("op.pddl", Some(ONE_SLOT_PROBLEM)),
+        ],
+    },
+    Unwritten {
+        failing: Failing::Output(1),
+        words: ONE_SLOT,
+        out: "slo",
+        err: "cannot write standard output\n",
+        held: &[
+            ("od.pddl", Some(ONE_SLOT_DOMAIN)),
+            ("op.pddl", Some(ONE_SLOT_PROBLEM)),
+        ],
+    },
+    Unwritten {
+        failing: Failing::Output(2),
+        words: ONE_SLOT,
+        out: "slots ",
+        err: "cannot write standard output\n",
+        held: &[
+            ("od.pddl", Some(ONE_SLOT_DOMAIN)),
+            ("op.pddl", Some(ONE_SLOT_PROBLEM)),
+        ],
+    },
+    Unwritten {
+        failing: Failing::Output(0),
+        words: &[BOUND],
+        out: "",
+        err: "cannot write standard output\n",
+        held: &[],
+    },
+    Unwritten {
+        failing: Failing::Output(1),
+        words: &[VALIDATE],
+        out: "val",
+        err: "cannot write standard output\n",
+        held: &[],
+    },
+];
+
+fn is_not_written(rt: &impl Abort, alloc: Global, unwritten: &Unwritten) -> Result<(), Memory> {
+    replay(
+        rt,
+        alloc,
+        &Row {
+            files: &[
+                ("d.hddl", &[(DOMAIN, 1)]),
+                ("p.hddl", &[(PROBLEM, 1)]),
+                ("pd", &[(COSTS, 1)]),
+                ("pp", &[(NOTHING, 1)]),
+                ("plan", &[("(a)", 1)]),
+            ],
+            failing: unwritten.failing,
+            words: unwritten.words,
+            status: Status::WriteFault,
+            out: unwritten.out,
+            err: unwritten.err,
+            held: unwritten.held,
+        },
+    )
+}
+
+#[test]
+fn outputs_that_are_not_written(rt: HostRuntime) -> Result<(), Fail> {
+    for unwritten in UNWRITTEN {
+        is_not_written(&rt, rt.alloc(), unwritten)?;
+    }
+    Ok(())
+}
+
+/// The line is cut, and the status stays.
+#[test]
+fn a_line_that_is_not_told(rt: HostRuntime) -> Result<(), Fail> {
+    replay(
+        &rt,
+        rt.alloc(),
+        &Row {
+            files: &[("d.hddl", &[(DOMAIN, 1)]), ("p.hddl", &[])],
+            failing: Failing::Error(3),
+            words: ONE_SLOT,
+            status: Status::TextFault,
+            out: "",
+            err: "p.h",
+            held: &[],
+        },
+    )?;
     Ok(())
 }

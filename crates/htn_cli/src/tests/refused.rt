@@ -1,17 +1,69 @@
-//! Texts that are refused, and bounds.
-use super::rows::{BOUNDED, CUT_DOMAIN, CUTS, REFUSED};
+//! Texts that are refused, by both commands with the same line.
+use super::bounds::is_bounded;
+use super::rows::{CUT_DOMAIN, CUTS, REFUSED};
 use super::texts::{DOMAIN, PROBLEM};
-use super::{Outside, refuses};
+use super::{BOUND, Failing, Piece, Row, TRANSLATE, replay};
 use crate::Status;
+use htn_base::Memory;
 use std::alloc::Global;
 use std::process::Abort;
 use std::test::Fail;
 
+/// How both commands end, with nothing written.
+#[derive(Clone, Copy)]
+struct End<'a> {
+    status: Status,
+    line: &'a str,
+}
+
+fn refuses(
+    rt: &impl Abort,
+    alloc: Global,
+    domain: &[Piece<'_>],
+    problem: &[Piece<'_>],
+    end: &End<'_>,
+) -> Result<(), Memory> {
+    refuses_at(rt, alloc, domain, problem, TRANSLATE, end)?;
+    refuses_at(rt, alloc, domain, problem, BOUND, end)
+}
+
+fn refuses_at(
+    rt: &impl Abort,
+    alloc: Global,
+    domain: &[Piece<'_>],
+    problem: &[Piece<'_>],
+    words: &[&str],
+    end: &End<'_>,
+) -> Result<(), Memory> {
+    replay(
+        rt,
+        alloc,
+        &Row {
+            files: &[("d.hddl", domain), ("p.hddl", problem)],
+            failing: Failing::Nothing,
+            words: &[words],
+            status: end.status,
+            out: "",
+            err: end.line,
+            held: &[("od.pddl", None), ("op.pddl", None)],
+        },
+    )
+}
+
 #[test]
 fn texts_that_are_refused(rt: HostRuntime) -> Result<(), Fail> {
-    let alloc = rt.alloc();
     for row in REFUSED {
-        refuses(&rt, alloc, row.domain, row.problem, row.status, row.line)?;
+        let end = End {
+            status: row.status,
+            line: row.line,
+        };
+        refuses(
+            &rt,
+            rt.alloc(),
+            &[(row.domain, 1)],
+            &[(row.problem, 1)],
+            &end,
+        )?;
     }
     Ok(())
 }
@@ -19,24 +71,79 @@ fn texts_that_are_refused(rt: HostRuntime) -> Result<(), Fail> {
 #[test]
 fn texts_that_are_cut(rt: HostRuntime) -> Result<(), Fail> {
     for cut in CUTS {
+        let end = End {
+            status: Status::TextFault,
+            line: cut.line,
+        };
         for length in cut.first..=cut.last {
             let text = CUT_DOMAIN.get(..length).expect(&rt, "a text");
-            refuses(&rt, rt.alloc(), text, PROBLEM, Status::TextFault, cut.line)?;
+            refuses(&rt, rt.alloc(), &[(text, 1)], &[(PROBLEM, 1)], &end)?;
         }
     }
     Ok(())
 }
 
-pub(super) fn repeated(alloc: Global, piece: &str, count: u32) -> Result<String, Fail> {
-    let mut text = String::new(alloc);
-    for _ in 0..count {
-        text.push_str(piece)?;
+/// Texts with pieces that stand many times.
+#[derive(Clone, Copy)]
+struct Long {
+    domain: &'static [Piece<'static>],
+    problem: &'static [Piece<'static>],
+    end: End<'static>,
+}
+
+const LONG: &[Long] = &[
+    Long {
+        domain: &[("(", 201), (")", 201)],
+        problem: &[(PROBLEM, 1)],
+        end: End {
+            status: Status::Limit,
+            line: "limit depth d.hddl:200\n",
+        },
+    },
+    Long {
+        domain: &[(DOMAIN, 1)],
+        problem: &[("(", 201), (")", 201)],
+        end: End {
+            status: Status::Limit,
+            line: "limit depth p.hddl:200\n",
+        },
+    },
+    Long {
+        domain: &[("(", 201)],
+        problem: &[(PROBLEM, 1)],
+        end: End {
+            status: Status::TextFault,
+            line: "d.hddl:200: fault 2 UnclosedParen\n",
+        },
+    },
+    // the first subtask stands at byte 95, and each takes four bytes
+    Long {
+        domain: &[
+            (
+                "(define (domain d) (:task t :parameters ()) (:method m :parameters () :task (t) :subtasks (and",
+                1,
+            ),
+            (" (a)", 4097),
+            (")) (:action a :parameters ()))", 1),
+        ],
+        problem: &[(PROBLEM, 1)],
+        end: End {
+            status: Status::Limit,
+            line: "limit subtasks d.hddl:16479\n",
+        },
+    },
+];
+
+#[test]
+fn long_texts(rt: HostRuntime) -> Result<(), Fail> {
+    for row in LONG {
+        refuses(&rt, rt.alloc(), row.domain, row.problem, &row.end)?;
     }
-    Ok(text)
+    Ok(())
 }
 
 /// The smallest domain with the types `t1000` to `t` and this number; the first stands at byte 27, and each takes six bytes.
-fn with_types(alloc: Global, last: u32) -> Result<String, Fail> {
+fn with_types(alloc: Global, last: u32) -> Result<String, Memory> {
     let mut text = String::from_str(alloc, "(define (domain d) (:types")?;
     for number in 1000..=last {
         text.push_str(&format!(in alloc; " t{number}")?)?;
@@ -47,58 +154,32 @@ fn with_types(alloc: Global, last: u32) -> Result<String, Fail> {
     Ok(text)
 }
 
-/// A method with so many subtasks; the first stands at byte 95, and each takes four bytes.
-fn with_subtasks(alloc: Global, count: u32) -> Result<String, Fail> {
-    let subtasks = repeated(alloc, " (a)", count)?;
-    let text = format!(in alloc;
-        "(define (domain d) (:task t :parameters ()) (:method m :parameters () :task (t) :subtasks (and{subtasks})) (:action a :parameters ()))"
-    )?;
-    Ok(text)
-}
-
 #[test]
-fn limits_of_texts(rt: HostRuntime) -> Result<(), Fail> {
-    let alloc = rt.alloc();
-    let open = repeated(alloc, "(", 201)?;
-    let closed = repeated(alloc, ")", 201)?;
-    let deep = format!(in alloc; "{open}{closed}")?;
-    let typed = with_types(alloc, 2000)?;
-    let long = with_subtasks(alloc, 4097)?;
-    let (open, deep) = (open.as_str(), deep.as_str());
-    let (fault, limit) = (Status::TextFault, Status::Limit);
-    for (domain, problem, status, line) in &[
-        (deep, PROBLEM, limit, "limit depth d.hddl:200\n"),
-        (DOMAIN, deep, limit, "limit depth p.hddl:200\n"),
-        (open, PROBLEM, fault, "d.hddl:200: fault 2 UnclosedParen\n"),
-        (typed.as_str(), PROBLEM, limit, "limit types d.hddl:6027\n"),
-        (
-            long.as_str(),
-            PROBLEM,
-            limit,
-            "limit subtasks d.hddl:16479\n",
-        ),
-    ] {
-        refuses(&rt, alloc, domain, problem, *status, line)?;
-    }
+fn as_many_types_as_there_may_be(rt: HostRuntime) -> Result<(), Fail> {
+    let text = with_types(rt.alloc(), 1999)?;
+    is_bounded(&rt, rt.alloc(), text.as_str(), PROBLEM, "1\n")?;
     Ok(())
 }
 
-fn is_bounded(
-    rt: &impl Abort,
-    alloc: Global,
-    domain: &str,
-    problem: &str,
-    bound: &str,
-) -> Result<(), Fail> {
-    let mut outside = Outside::new(alloc, domain, problem)?;
-    let ended = outside.bound()?;
-    assert_eq!(rt; ended, Status::Done);
-    outside.told(rt, bound, "");
+#[test]
+fn too_many_types(rt: HostRuntime) -> Result<(), Fail> {
+    let text = with_types(rt.alloc(), 2000)?;
+    let end = End {
+        status: Status::Limit,
+        line: "limit types d.hddl:6027\n",
+    };
+    refuses(
+        &rt,
+        rt.alloc(),
+        &[(text.as_str(), 1)],
+        &[(PROBLEM, 1)],
+        &end,
+    )?;
     Ok(())
 }
 
 /// So many tasks: the first has a method to two actions, each other one to two of the one before.
-fn powers(alloc: Global, count: u32) -> Result<String, Fail> {
+fn powers(alloc: Global, count: u32) -> Result<String, Memory> {
     let mut text = String::from_str(alloc, "(define (domain d) (:action t0 :parameters ())")?;
     for before in 0..count {
         let task = before + 1;
@@ -111,24 +192,28 @@ fn powers(alloc: Global, count: u32) -> Result<String, Fail> {
 }
 
 #[test]
-fn computed_bounds(rt: HostRuntime) -> Result<(), Fail> {
-    let alloc = rt.alloc();
-    for row in BOUNDED {
-        is_bounded(&rt, alloc, row.domain, row.problem, row.bound)?;
-    }
-    let typed = with_types(alloc, 1999)?;
-    is_bounded(&rt, alloc, typed.as_str(), PROBLEM, "1\n")?;
-    let powers = powers(alloc, 128)?;
-    let top = "(define (problem p) (:domain d) (:htn :subtasks (t127)))";
+fn the_largest_bound(rt: HostRuntime) -> Result<(), Fail> {
+    let text = powers(rt.alloc(), 128)?;
+    let problem = "(define (problem p) (:domain d) (:htn :subtasks (t127)))";
     let largest = "170141183460469231731687303715884105728\n";
-    is_bounded(&rt, alloc, powers.as_str(), top, largest)?;
-    let past = "(define (problem p) (:domain d) (:htn :subtasks (t128)))";
+    is_bounded(&rt, rt.alloc(), text.as_str(), problem, largest)?;
+    Ok(())
+}
+
+#[test]
+fn a_bound_past_all(rt: HostRuntime) -> Result<(), Fail> {
+    let text = powers(rt.alloc(), 128)?;
+    let problem = "(define (problem p) (:domain d) (:htn :subtasks (t128)))";
+    let end = End {
+        status: Status::Limit,
+        line: "limit bound\n",
+    };
     refuses(
         &rt,
-        alloc,
-        powers.as_str(),
-        past,
-        Status::Limit,
-        "limit bound\n",
-    )
+        rt.alloc(),
+        &[(text.as_str(), 1)],
+        &[(problem, 1)],
+        &end,
+    )?;
+    Ok(())
 }

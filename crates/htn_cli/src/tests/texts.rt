@@ -1,147 +1,240 @@
 //! The smallest problem: one task, one method, one action. Its printed texts were made by two programs that share nothing with this
 //! one.
+use super::rows::{COSTS_DOMAIN, COSTS_PROBLEM};
+use super::{Failing, Row, TRANSLATE, replay};
+use crate::Status;
+use htn_base::Memory;
+use std::alloc::Global;
+use std::process::Abort;
+use std::test::Fail;
 
 pub(super) const DOMAIN: &str =
     "(define (domain d) (:task t :parameters ()) (:method m :parameters () :task (t) :subtasks (a)) (:action a :parameters ()))";
 
 pub(super) const PROBLEM: &str = "(define (problem p) (:domain d) (:htn :subtasks (t)))";
 
-/// The printed texts with so many slots in one style.
+pub(super) const ONE_SLOT_DOMAIN: &str = concat!(
+    "(define (domain d)\n",
+    " (:requirements :adl)\n",
+    " (:types htn_slot - object htn_object - object)\n",
+    " (:constants htn_s1 - htn_slot)\n",
+    " (:predicates (htn_top ?htn_h - htn_slot) (htn_free ?htn_h - htn_slot) (htn_before ?htn_x - htn_slot ?htn_h - htn_slot) (htn_t_t ?htn_h - htn_slot) (htn_a_a ?htn_h - htn_slot))\n",
+    " (:action htn_start :parameters (?htn_h - htn_slot) :precondition (and (htn_top ?htn_h) (forall (?htn_x - htn_slot) (not (htn_before ?htn_x ?htn_h)))) :effect (and (not (htn_top ?htn_h)) (htn_t_t ?htn_h)))\n",
+    " (:action htn_m_m :parameters (?htn_h - htn_slot) :precondition (and (htn_t_t ?htn_h) (forall (?htn_x - htn_slot) (not (htn_before ?htn_x ?htn_h)))) :effect (and (not (htn_t_t ?htn_h)) (htn_a_a ?htn_h)))\n",
+    " (:action a :parameters (?htn_h - htn_slot) :precondition (and (htn_a_a ?htn_h) (forall (?htn_x - htn_slot) (not (htn_before ?htn_x ?htn_h)))) :effect (and (not (htn_a_a ?htn_h)) (htn_free ?htn_h) (forall (?htn_x - htn_slot) (not (htn_before ?htn_h ?htn_x)))))\n",
+    ")\n",
+);
+
+pub(super) const ONE_SLOT_PROBLEM: &str = concat!(
+    "(define (problem p)\n",
+    " (:domain d)\n",
+    " (:objects)\n",
+    " (:init (htn_top htn_s1))\n",
+    " (:goal (and (forall (?htn_x - htn_slot) (htn_free ?htn_x))))\n",
+    ")\n",
+);
+
+const ONE_SLOT_FLAT_DOMAIN: &str = concat!(
+    "(define (domain d)\n",
+    " (:requirements :adl)\n",
+    " (:types htn_slot - object htn_object - object)\n",
+    " (:constants htn_s1 - htn_slot)\n",
+    " (:predicates (htn_top ?htn_h - htn_slot) (htn_free ?htn_h - htn_slot) (htn_before ?htn_x - htn_slot ?htn_h - htn_slot) (htn_t_t ?htn_h - htn_slot) (htn_a_a ?htn_h - htn_slot))\n",
+    " (:action htn_start :parameters (?htn_h - htn_slot) :precondition (and (htn_top ?htn_h) (not (htn_before htn_s1 ?htn_h))) :effect (and (not (htn_top ?htn_h)) (htn_t_t ?htn_h)))\n",
+    " (:action htn_m_m :parameters (?htn_h - htn_slot) :precondition (and (htn_t_t ?htn_h) (not (htn_before htn_s1 ?htn_h))) :effect (and (not (htn_t_t ?htn_h)) (htn_a_a ?htn_h)))\n",
+    " (:action a :parameters (?htn_h - htn_slot) :precondition (and (htn_a_a ?htn_h) (not (htn_before htn_s1 ?htn_h))) :effect (and (not (htn_a_a ?htn_h)) (htn_free ?htn_h) (not (htn_before ?htn_h htn_s1))))\n",
+    ")\n",
+);
+
+const ONE_SLOT_FLAT_PROBLEM: &str = concat!(
+    "(define (problem p)\n",
+    " (:domain d)\n",
+    " (:objects)\n",
+    " (:init (htn_top htn_s1))\n",
+    " (:goal (and (htn_free htn_s1)))\n",
+    ")\n",
+);
+
+const TWO_SLOTS_DOMAIN: &str = concat!(
+    "(define (domain d)\n",
+    " (:requirements :adl)\n",
+    " (:types htn_slot - object htn_object - object)\n",
+    " (:constants htn_s1 - htn_slot htn_s2 - htn_slot)\n",
+    " (:predicates (htn_top ?htn_h - htn_slot) (htn_free ?htn_h - htn_slot) (htn_before ?htn_x - htn_slot ?htn_h - htn_slot) (htn_t_t ?htn_h - htn_slot) (htn_a_a ?htn_h - htn_slot))\n",
+    " (:action htn_start :parameters (?htn_h - htn_slot) :precondition (and (htn_top ?htn_h) (forall (?htn_x - htn_slot) (not (htn_before ?htn_x ?htn_h)))) :effect (and (not (htn_top ?htn_h)) (htn_t_t ?htn_h)))\n",
+    " (:action htn_m_m :parameters (?htn_h - htn_slot) :precondition (and (htn_t_t ?htn_h) (forall (?htn_x - htn_slot) (not (htn_before ?htn_x ?htn_h)))) :effect (and (not (htn_t_t ?htn_h)) (htn_a_a ?htn_h)))\n",
+    " (:action a :parameters (?htn_h - htn_slot) :precondition (and (htn_a_a ?htn_h) (forall (?htn_x - htn_slot) (not (htn_before ?htn_x ?htn_h)))) :effect (and (not (htn_a_a ?htn_h)) (htn_free ?htn_h) (forall (?htn_x - htn_slot) (not (htn_before ?htn_h ?htn_x)))))\n",
+    ")\n",
+);
+
+const TWO_SLOTS_PROBLEM: &str = concat!(
+    "(define (problem p)\n",
+    " (:domain d)\n",
+    " (:objects)\n",
+    " (:init (htn_top htn_s1) (htn_free htn_s2))\n",
+    " (:goal (and (forall (?htn_x - htn_slot) (htn_free ?htn_x))))\n",
+    ")\n",
+);
+
+const TWO_SLOTS_FLAT_DOMAIN: &str = concat!(
+    "(define (domain d)\n",
+    " (:requirements :adl)\n",
+    " (:types htn_slot - object htn_object - object)\n",
+    " (:constants htn_s1 - htn_slot htn_s2 - htn_slot)\n",
+    " (:predicates (htn_top ?htn_h - htn_slot) (htn_free ?htn_h - htn_slot) (htn_before ?htn_x - htn_slot ?htn_h - htn_slot) (htn_t_t ?htn_h - htn_slot) (htn_a_a ?htn_h - htn_slot))\n",
+    " (:action htn_start :parameters (?htn_h - htn_slot) :precondition (and (htn_top ?htn_h) (not (htn_before htn_s1 ?htn_h)) (not (htn_before htn_s2 ?htn_h))) :effect (and (not (htn_top ?htn_h)) (htn_t_t ?htn_h)))\n",
+    " (:action htn_m_m :parameters (?htn_h - htn_slot) :precondition (and (htn_t_t ?htn_h) (not (htn_before htn_s1 ?htn_h)) (not (htn_before htn_s2 ?htn_h))) :effect (and (not (htn_t_t ?htn_h)) (htn_a_a ?htn_h)))\n",
+    " (:action a :parameters (?htn_h - htn_slot) :precondition (and (htn_a_a ?htn_h) (not (htn_before htn_s1 ?htn_h)) (not (htn_before htn_s2 ?htn_h))) :effect (and (not (htn_a_a ?htn_h)) (htn_free ?htn_h) (not (htn_before ?htn_h htn_s1)) (not (htn_before ?htn_h htn_s2))))\n",
+    ")\n",
+);
+
+const TWO_SLOTS_FLAT_PROBLEM: &str = concat!(
+    "(define (problem p)\n",
+    " (:domain d)\n",
+    " (:objects)\n",
+    " (:init (htn_top htn_s1) (htn_free htn_s2))\n",
+    " (:goal (and (htn_free htn_s1) (htn_free htn_s2)))\n",
+    ")\n",
+);
+
+/// With an empty initial network, written out by hand: the top task frees its slot. The problem is that of one slot.
+const EMPTY_NETWORK_DOMAIN: &str = concat!(
+    "(define (domain d)\n",
+    " (:requirements :adl)\n",
+    " (:types htn_slot - object htn_object - object)\n",
+    " (:constants htn_s1 - htn_slot)\n",
+    " (:predicates (htn_top ?htn_h - htn_slot) (htn_free ?htn_h - htn_slot) (htn_before ?htn_x - htn_slot ?htn_h - htn_slot) (htn_t_t ?htn_h - htn_slot) (htn_a_a ?htn_h - htn_slot))\n",
+    " (:action htn_start :parameters (?htn_h - htn_slot) :precondition (and (htn_top ?htn_h) (forall (?htn_x - htn_slot) (not (htn_before ?htn_x ?htn_h)))) :effect (and (not (htn_top ?htn_h)) (htn_free ?htn_h) (forall (?htn_x - htn_slot) (not (htn_before ?htn_h ?htn_x)))))\n",
+    " (:action htn_m_m :parameters (?htn_h - htn_slot) :precondition (and (htn_t_t ?htn_h) (forall (?htn_x - htn_slot) (not (htn_before ?htn_x ?htn_h)))) :effect (and (not (htn_t_t ?htn_h)) (htn_a_a ?htn_h)))\n",
+    " (:action a :parameters (?htn_h - htn_slot) :precondition (and (htn_a_a ?htn_h) (forall (?htn_x - htn_slot) (not (htn_before ?htn_x ?htn_h)))) :effect (and (not (htn_a_a ?htn_h)) (htn_free ?htn_h) (forall (?htn_x - htn_slot) (not (htn_before ?htn_h ?htn_x)))))\n",
+    ")\n",
+);
+
+/// Options, the line and the two texts that are printed with them.
 #[derive(Clone, Copy)]
-pub(super) struct Row {
-    pub(super) options: &'static [&'static str],
-    pub(super) told: &'static str,
-    pub(super) domain: &'static str,
-    pub(super) problem: &'static str,
+struct Printed {
+    options: &'static [&'static str],
+    told: &'static str,
+    domain: &'static str,
+    problem: &'static str,
 }
 
-pub(super) fn one_slot_adl() -> Row {
-    Row {
+/// Without a bound the printed texts are those of the computed one, which is 1 here.
+const PRINTED: &[Printed] = &[
+    Printed {
         options: &["--bound", "1"],
         told: "slots 1\n",
-        domain: concat!(
-            "(define (domain d)\n",
-            " (:requirements :adl)\n",
-            " (:types htn_slot - object htn_object - object)\n",
-            " (:constants htn_s1 - htn_slot)\n",
-            " (:predicates (htn_top ?htn_h - htn_slot) (htn_free ?htn_h - htn_slot) (htn_before ?htn_x - htn_slot ?htn_h - htn_slot) (htn_t_t ?htn_h - htn_slot) (htn_a_a ?htn_h - htn_slot))\n",
-            " (:action htn_start :parameters (?htn_h - htn_slot) :precondition (and (htn_top ?htn_h) (forall (?htn_x - htn_slot) (not (htn_before ?htn_x ?htn_h)))) :effect (and (not (htn_top ?htn_h)) (htn_t_t ?htn_h)))\n",
-            " (:action htn_m_m :parameters (?htn_h - htn_slot) :precondition (and (htn_t_t ?htn_h) (forall (?htn_x - htn_slot) (not (htn_before ?htn_x ?htn_h)))) :effect (and (not (htn_t_t ?htn_h)) (htn_a_a ?htn_h)))\n",
-            " (:action a :parameters (?htn_h - htn_slot) :precondition (and (htn_a_a ?htn_h) (forall (?htn_x - htn_slot) (not (htn_before ?htn_x ?htn_h)))) :effect (and (not (htn_a_a ?htn_h)) (htn_free ?htn_h) (forall (?htn_x - htn_slot) (not (htn_before ?htn_h ?htn_x)))))\n",
-            ")\n",
-        ),
-        problem: concat!(
-            "(define (problem p)\n",
-            " (:domain d)\n",
-            " (:objects)\n",
-            " (:init (htn_top htn_s1))\n",
-            " (:goal (and (forall (?htn_x - htn_slot) (htn_free ?htn_x))))\n",
-            ")\n",
-        ),
-    }
-}
-
-/// The smallest problem with an empty initial network, with one slot: its texts are written out by hand. The top task frees its slot.
-pub(super) fn empty_network() -> Row {
-    Row {
-        options: &["--bound", "1"],
+        domain: ONE_SLOT_DOMAIN,
+        problem: ONE_SLOT_PROBLEM,
+    },
+    Printed {
+        options: &[],
         told: "slots 1\n",
-        domain: concat!(
-            "(define (domain d)\n",
-            " (:requirements :adl)\n",
-            " (:types htn_slot - object htn_object - object)\n",
-            " (:constants htn_s1 - htn_slot)\n",
-            " (:predicates (htn_top ?htn_h - htn_slot) (htn_free ?htn_h - htn_slot) (htn_before ?htn_x - htn_slot ?htn_h - htn_slot) (htn_t_t ?htn_h - htn_slot) (htn_a_a ?htn_h - htn_slot))\n",
-            " (:action htn_start :parameters (?htn_h - htn_slot) :precondition (and (htn_top ?htn_h) (forall (?htn_x - htn_slot) (not (htn_before ?htn_x ?htn_h)))) :effect (and (not (htn_top ?htn_h)) (htn_free ?htn_h) (forall (?htn_x - htn_slot) (not (htn_before ?htn_h ?htn_x)))))\n",
-            " (:action htn_m_m :parameters (?htn_h - htn_slot) :precondition (and (htn_t_t ?htn_h) (forall (?htn_x - htn_slot) (not (htn_before ?htn_x ?htn_h)))) :effect (and (not (htn_t_t ?htn_h)) (htn_a_a ?htn_h)))\n",
-            " (:action a :parameters (?htn_h - htn_slot) :precondition (and (htn_a_a ?htn_h) (forall (?htn_x - htn_slot) (not (htn_before ?htn_x ?htn_h)))) :effect (and (not (htn_a_a ?htn_h)) (htn_free ?htn_h) (forall (?htn_x - htn_slot) (not (htn_before ?htn_h ?htn_x)))))\n",
-            ")\n",
-        ),
-        problem: concat!(
-            "(define (problem p)\n",
-            " (:domain d)\n",
-            " (:objects)\n",
-            " (:init (htn_top htn_s1))\n",
-            " (:goal (and (forall (?htn_x - htn_slot) (htn_free ?htn_x))))\n",
-            ")\n",
-        ),
-    }
-}
-
-pub(super) fn one_slot_flat() -> Row {
-    Row {
+        domain: ONE_SLOT_DOMAIN,
+        problem: ONE_SLOT_PROBLEM,
+    },
+    Printed {
         options: &["--style", "flat", "--bound", "01"],
         told: "slots 1\n",
-        domain: concat!(
-            "(define (domain d)\n",
-            " (:requirements :adl)\n",
-            " (:types htn_slot - object htn_object - object)\n",
-            " (:constants htn_s1 - htn_slot)\n",
-            " (:predicates (htn_top ?htn_h - htn_slot) (htn_free ?htn_h - htn_slot) (htn_before ?htn_x - htn_slot ?htn_h - htn_slot) (htn_t_t ?htn_h - htn_slot) (htn_a_a ?htn_h - htn_slot))\n",
-            " (:action htn_start :parameters (?htn_h - htn_slot) :precondition (and (htn_top ?htn_h) (not (htn_before htn_s1 ?htn_h))) :effect (and (not (htn_top ?htn_h)) (htn_t_t ?htn_h)))\n",
-            " (:action htn_m_m :parameters (?htn_h - htn_slot) :precondition (and (htn_t_t ?htn_h) (not (htn_before htn_s1 ?htn_h))) :effect (and (not (htn_t_t ?htn_h)) (htn_a_a ?htn_h)))\n",
-            " (:action a :parameters (?htn_h - htn_slot) :precondition (and (htn_a_a ?htn_h) (not (htn_before htn_s1 ?htn_h))) :effect (and (not (htn_a_a ?htn_h)) (htn_free ?htn_h) (not (htn_before ?htn_h htn_s1))))\n",
-            ")\n",
-        ),
-        problem: concat!(
-            "(define (problem p)\n",
-            " (:domain d)\n",
-            " (:objects)\n",
-            " (:init (htn_top htn_s1))\n",
-            " (:goal (and (htn_free htn_s1)))\n",
-            ")\n",
-        ),
-    }
-}
-
-pub(super) fn two_slots_adl() -> Row {
-    Row {
+        domain: ONE_SLOT_FLAT_DOMAIN,
+        problem: ONE_SLOT_FLAT_PROBLEM,
+    },
+    Printed {
         options: &["--bound", "2"],
         told: "slots 2\n",
-        domain: concat!(
-            "(define (domain d)\n",
-            " (:requirements :adl)\n",
-            " (:types htn_slot - object htn_object - object)\n",
-            " (:constants htn_s1 - htn_slot htn_s2 - htn_slot)\n",
-            " (:predicates (htn_top ?htn_h - htn_slot) (htn_free ?htn_h - htn_slot) (htn_before ?htn_x - htn_slot ?htn_h - htn_slot) (htn_t_t ?htn_h - htn_slot) (htn_a_a ?htn_h - htn_slot))\n",
-            " (:action htn_start :parameters (?htn_h - htn_slot) :precondition (and (htn_top ?htn_h) (forall (?htn_x - htn_slot) (not (htn_before ?htn_x ?htn_h)))) :effect (and (not (htn_top ?htn_h)) (htn_t_t ?htn_h)))\n",
-            " (:action htn_m_m :parameters (?htn_h - htn_slot) :precondition (and (htn_t_t ?htn_h) (forall (?htn_x - htn_slot) (not (htn_before ?htn_x ?htn_h)))) :effect (and (not (htn_t_t ?htn_h)) (htn_a_a ?htn_h)))\n",
-            " (:action a :parameters (?htn_h - htn_slot) :precondition (and (htn_a_a ?htn_h) (forall (?htn_x - htn_slot) (not (htn_before ?htn_x ?htn_h)))) :effect (and (not (htn_a_a ?htn_h)) (htn_free ?htn_h) (forall (?htn_x - htn_slot) (not (htn_before ?htn_h ?htn_x)))))\n",
-            ")\n",
-        ),
-        problem: concat!(
-            "(define (problem p)\n",
-            " (:domain d)\n",
-            " (:objects)\n",
-            " (:init (htn_top htn_s1) (htn_free htn_s2))\n",
-            " (:goal (and (forall (?htn_x - htn_slot) (htn_free ?htn_x))))\n",
-            ")\n",
-        ),
-    }
-}
-
-pub(super) fn two_slots_flat() -> Row {
-    Row {
+        domain: TWO_SLOTS_DOMAIN,
+        problem: TWO_SLOTS_PROBLEM,
+    },
+    Printed {
         options: &["--style", "flat", "--bound", "2"],
         told: "slots 2\n",
-        domain: concat!(
-            "(define (domain d)\n",
-            " (:requirements :adl)\n",
-            " (:types htn_slot - object htn_object - object)\n",
-            " (:constants htn_s1 - htn_slot htn_s2 - htn_slot)\n",
-            " (:predicates (htn_top ?htn_h - htn_slot) (htn_free ?htn_h - htn_slot) (htn_before ?htn_x - htn_slot ?htn_h - htn_slot) (htn_t_t ?htn_h - htn_slot) (htn_a_a ?htn_h - htn_slot))\n",
-            " (:action htn_start :parameters (?htn_h - htn_slot) :precondition (and (htn_top ?htn_h) (not (htn_before htn_s1 ?htn_h)) (not (htn_before htn_s2 ?htn_h))) :effect (and (not (htn_top ?htn_h)) (htn_t_t ?htn_h)))\n",
-            " (:action htn_m_m :parameters (?htn_h - htn_slot) :precondition (and (htn_t_t ?htn_h) (not (htn_before htn_s1 ?htn_h)) (not (htn_before htn_s2 ?htn_h))) :effect (and (not (htn_t_t ?htn_h)) (htn_a_a ?htn_h)))\n",
-            " (:action a :parameters (?htn_h - htn_slot) :precondition (and (htn_a_a ?htn_h) (not (htn_before htn_s1 ?htn_h)) (not (htn_before htn_s2 ?htn_h))) :effect (and (not (htn_a_a ?htn_h)) (htn_free ?htn_h) (not (htn_before ?htn_h htn_s1)) (not (htn_before ?htn_h htn_s2))))\n",
-            ")\n",
-        ),
-        problem: concat!(
-            "(define (problem p)\n",
-            " (:domain d)\n",
-            " (:objects)\n",
-            " (:init (htn_top htn_s1) (htn_free htn_s2))\n",
-            " (:goal (and (htn_free htn_s1) (htn_free htn_s2)))\n",
-            ")\n",
-        ),
+        domain: TWO_SLOTS_FLAT_DOMAIN,
+        problem: TWO_SLOTS_FLAT_PROBLEM,
+    },
+];
+
+/// Modes of checks. No check is made here, so each prints the same.
+const MODES: &[&[&str]] = &[&[], &["--checks", "leaf"], &["--checks", "atonce"]];
+
+fn prints(rt: &impl Abort, alloc: Global, printed: &Printed, mode: &[&str]) -> Result<(), Memory> {
+    replay(
+        rt,
+        alloc,
+        &Row {
+            files: &[("d.hddl", &[(DOMAIN, 1)]), ("p.hddl", &[(PROBLEM, 1)])],
+            failing: Failing::Nothing,
+            words: &[TRANSLATE, printed.options, mode],
+            status: Status::Done,
+            out: printed.told,
+            err: "",
+            held: &[
+                ("od.pddl", Some(printed.domain)),
+                ("op.pddl", Some(printed.problem)),
+            ],
+        },
+    )
+}
+
+#[test]
+fn the_smallest_problem(rt: HostRuntime) -> Result<(), Fail> {
+    for printed in PRINTED {
+        for mode in MODES {
+            prints(&rt, rt.alloc(), printed, mode)?;
+        }
     }
+    Ok(())
+}
+
+/// An empty network; costs, which are dropped; and a bound alone.
+const OTHERS: &[Row<'static>] = &[
+    Row {
+        files: &[
+            ("d.hddl", &[(DOMAIN, 1)]),
+            (
+                "p.hddl",
+                &[("(define (problem p) (:domain d) (:htn :subtasks ()))", 1)],
+            ),
+        ],
+        failing: Failing::Nothing,
+        words: &[TRANSLATE, &["--bound", "1"]],
+        status: Status::Done,
+        out: "slots 1\n",
+        err: "",
+        held: &[
+            ("od.pddl", Some(EMPTY_NETWORK_DOMAIN)),
+            ("op.pddl", Some(ONE_SLOT_PROBLEM)),
+        ],
+    },
+    Row {
+        files: &[
+            ("d.hddl", &[(COSTS_DOMAIN, 1)]),
+            ("p.hddl", &[(COSTS_PROBLEM, 1)]),
+        ],
+        failing: Failing::Nothing,
+        words: &[TRANSLATE, &["--bound", "1"]],
+        status: Status::Done,
+        out: "slots 1\n",
+        err: "",
+        held: &[
+            ("od.pddl", Some(ONE_SLOT_DOMAIN)),
+            ("op.pddl", Some(ONE_SLOT_PROBLEM)),
+        ],
+    },
+    Row {
+        files: &[("d.hddl", &[(DOMAIN, 1)]), ("p.hddl", &[(PROBLEM, 1)])],
+        failing: Failing::Nothing,
+        words: &[&["bound", "d.hddl", "p.hddl", "--checks", "atonce"]],
+        status: Status::Done,
+        out: "1\n",
+        err: "",
+        held: &[("od.pddl", None)],
+    },
+];
+
+#[test]
+fn other_runs(rt: HostRuntime) -> Result<(), Fail> {
+    for row in OTHERS {
+        replay(&rt, rt.alloc(), row)?;
+    }
+    Ok(())
 }

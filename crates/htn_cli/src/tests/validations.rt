@@ -1,7 +1,6 @@
 //! Lists that are plans, or none, of two PDDL texts. Each line was found by hand, from the rules for plans and for faults.
-use super::Outside;
-use super::refused::repeated;
-use super::texts::one_slot_adl;
+use super::texts::{ONE_SLOT_DOMAIN, ONE_SLOT_PROBLEM};
+use super::{Failing, Piece, Row, VALIDATE, replay};
 use crate::Status;
 use htn_base::Memory;
 use std::alloc::Global;
@@ -76,10 +75,10 @@ struct Judged {
     err: &'static str,
 }
 
-const COSTS: &str =
+pub(super) const COSTS: &str =
     "(define (domain d) (:functions (total-cost)) (:action a :parameters () :effect (increase (total-cost) 1)))";
 
-const NOTHING: &str = "(define (problem p))";
+pub(super) const NOTHING: &str = "(define (problem p))";
 
 const TYPED: &str =
     "(define (domain d) (:types red - block) (:constants b - block r - red) (:predicates (seen ?x)) (:action paint :parameters (?r - red) :precondition (forall (?x - object) (seen ?x)) :effect (not (seen ?r))))";
@@ -224,81 +223,104 @@ const JUDGED: &[Judged] = &[
     },
 ];
 
-fn with_texts(alloc: Global, domain: &str, problem: &str, plan: &str) -> Result<Outside, Memory> {
-    let mut outside = Outside::new(alloc, "", "")?;
-    outside.files.add("pd", domain.as_bytes())?;
-    outside.files.add("pp", problem.as_bytes())?;
-    outside.files.add("plan", plan.as_bytes())?;
-    Ok(outside)
+/// Two texts in pieces, a list of steps, and how a validation ends.
+#[derive(Clone, Copy)]
+pub(super) struct Case<'a> {
+    pub(super) domain: &'a [Piece<'a>],
+    pub(super) problem: &'a [Piece<'a>],
+    pub(super) plan: &'a str,
+    pub(super) status: Status,
+    pub(super) err: &'a str,
 }
 
-/// A validation ends with this status and this line, and leaves the plan as it is.
-fn ends(rt: &impl Abort, alloc: Global, row: &Judged) -> Result<(), Fail> {
-    let mut outside = with_texts(alloc, row.domain, row.problem, row.plan)?;
-    let ended = outside.run(&["validate", "pd", "pp", "plan"])?;
-    assert_eq!(rt; ended, row.status);
-    let out = match row.status {
+/// A validation ends as the case says, and leaves the plan as it is.
+pub(super) fn ends(rt: &impl Abort, alloc: Global, case: &Case<'_>) -> Result<(), Memory> {
+    let out = match case.status {
         Status::Done => "valid\n",
         _ => "",
     };
-    outside.told(rt, out, row.err);
-    outside.holds(rt, "plan", row.plan);
-    Ok(())
+    replay(
+        rt,
+        alloc,
+        &Row {
+            files: &[
+                ("pd", case.domain),
+                ("pp", case.problem),
+                ("plan", &[(case.plan, 1)]),
+            ],
+            failing: Failing::Nothing,
+            words: &[VALIDATE],
+            status: case.status,
+            out,
+            err: case.err,
+            held: &[("plan", Some(case.plan))],
+        },
+    )
+}
+
+fn lists(rt: &impl Abort, alloc: Global, row: &Listed) -> Result<(), Memory> {
+    ends(
+        rt,
+        alloc,
+        &Case {
+            domain: &[(ONE_SLOT_DOMAIN, 1)],
+            problem: &[(ONE_SLOT_PROBLEM, 1)],
+            plan: row.plan,
+            status: row.status,
+            err: row.err,
+        },
+    )
 }
 
 #[test]
 fn lists_for_the_smallest_problem(rt: HostRuntime) -> Result<(), Fail> {
-    let texts = one_slot_adl();
     for row in OF_THE_SMALLEST {
-        let judged = Judged {
-            domain: texts.domain,
-            problem: texts.problem,
+        lists(&rt, rt.alloc(), row)?;
+    }
+    Ok(())
+}
+
+fn judges(rt: &impl Abort, alloc: Global, row: &Judged) -> Result<(), Memory> {
+    ends(
+        rt,
+        alloc,
+        &Case {
+            domain: &[(row.domain, 1)],
+            problem: &[(row.problem, 1)],
             plan: row.plan,
             status: row.status,
             err: row.err,
-        };
-        ends(&rt, rt.alloc(), &judged)?;
-    }
-    Ok(())
+        },
+    )
 }
 
 #[test]
 fn lists_for_other_texts(rt: HostRuntime) -> Result<(), Fail> {
     for row in JUDGED {
-        ends(&rt, rt.alloc(), row)?;
+        judges(&rt, rt.alloc(), row)?;
     }
     Ok(())
 }
 
+/// One step more than there may be.
 #[test]
 fn too_many_steps(rt: HostRuntime) -> Result<(), Fail> {
-    let plan = repeated(rt.alloc(), "(a)", 1_000_001)?;
-    let mut outside = with_texts(rt.alloc(), COSTS, NOTHING, plan.as_str())?;
-    let ended = outside.run(&["validate", "pd", "pp", "plan"])?;
-    assert_eq!(&rt; ended, Status::Limit);
-    outside.told(&rt, "", "limit steps 1000001\n");
-    Ok(())
-}
-
-/// The get of this number fails.
-fn is_not_read(rt: &impl Abort, alloc: Global, get: u32, line: &str) -> Result<(), Fail> {
-    let mut outside = with_texts(alloc, COSTS, NOTHING, "(a)")?;
-    outside.files.fail_get(get)?;
-    let ended = outside.run(&["validate", "pd", "pp", "plan"])?;
-    assert_eq!(rt; ended, Status::ReadFault);
-    outside.told(rt, "", line);
-    Ok(())
-}
-
-#[test]
-fn a_validation_that_fails_outside(rt: HostRuntime) -> Result<(), Fail> {
-    is_not_read(&rt, rt.alloc(), 0, "cannot read pd\n")?;
-    is_not_read(&rt, rt.alloc(), 1, "cannot read pp\n")?;
-    is_not_read(&rt, rt.alloc(), 2, "cannot read plan\n")?;
-    let mut outside = with_texts(rt.alloc(), COSTS, NOTHING, "(a)")?;
-    outside.out.fail_write(1)?;
-    let ended = outside.run(&["validate", "pd", "pp", "plan"])?;
-    assert_eq!(&rt; ended, Status::WriteFault);
-    outside.told(&rt, "val", "cannot write standard output\n");
+    replay(
+        &rt,
+        rt.alloc(),
+        &Row {
+            files: &[
+                ("pd", &[(COSTS, 1)]),
+                ("pp", &[(NOTHING, 1)]),
+                ("plan", &[("(a)", 1_000_001)]),
+            ],
+            failing: Failing::Nothing,
+            words: &[VALIDATE],
+            status: Status::Limit,
+            out: "",
+            err: "limit steps 1000001\n",
+            held: &[],
+        },
+    )?;
     Ok(())
 }

@@ -1,56 +1,80 @@
 //! Words that no command has.
-use super::Outside;
 use super::texts::{DOMAIN, PROBLEM};
+use super::{Failing, Row, TRANSLATE, replay};
 use crate::Status;
+use htn_base::Memory;
 use std::alloc::Global;
 use std::process::Abort;
 use std::test::Fail;
 
-fn refuses_words(rt: &impl Abort, alloc: Global, words: &[&str]) -> Result<(), Fail> {
-    let mut outside = Outside::new(alloc, DOMAIN, PROBLEM)?;
-    let ended = outside.run(words)?;
-    assert_eq!(rt; ended, Status::Words);
-    outside.told(rt, "", "words refused\n");
-    outside.lacks(rt, "od.pddl");
-    outside.lacks(rt, "op.pddl");
-    Ok(())
-}
+const WORDS: &[&[&str]] = &[
+    &[],
+    &[
+        "decode", "d.hddl", "p.hddl", "od.pddl", "op.pddl", "--bound", "1",
+    ],
+    &[
+        "translate",
+        "d.hddl",
+        "p.hddl",
+        "d.hddl",
+        "op.pddl",
+        "--bound",
+        "1",
+    ],
+    &[
+        "translate",
+        "d.hddl",
+        "p.hddl",
+        "od.pddl",
+        "od.pddl",
+        "--bound",
+        "1",
+    ],
+    &["bound", "d.hddl"],
+    &["bound", "d.hddl", "p.hddl", "--bound", "1"],
+    &["bound", "d.hddl", "p.hddl", "--style", "adl"],
+];
 
-fn refuses_options(rt: &impl Abort, alloc: Global, options: &[&str]) -> Result<(), Fail> {
-    let mut outside = Outside::new(alloc, DOMAIN, PROBLEM)?;
-    outside.ends_with(rt, options, Status::Words, "", "words refused\n")?;
-    Ok(())
+const OPTIONS: &[&[&str]] = &[
+    &["--bound"],
+    &["--bound", "0"],
+    &["--bound", "+1"],
+    &["--bound", ""],
+    &["--bound", "0000000000000000000000000000000000000001"],
+    &["--bound", "1", "--bound", "1"],
+    &["--style", "flat", "--style", "flat"],
+    &["--bound", "1", "--style", "strips"],
+    &["--bound", "1", "--slots", "1"],
+];
+
+fn refuses(rt: &impl Abort, alloc: Global, words: &[&[&str]]) -> Result<(), Memory> {
+    replay(
+        rt,
+        alloc,
+        &Row {
+            files: &[("d.hddl", &[(DOMAIN, 1)]), ("p.hddl", &[(PROBLEM, 1)])],
+            failing: Failing::Nothing,
+            words,
+            status: Status::Words,
+            out: "",
+            err: "words refused\n",
+            held: &[("od.pddl", None), ("op.pddl", None)],
+        },
+    )
 }
 
 #[test]
 fn words_of_no_form(rt: HostRuntime) -> Result<(), Fail> {
-    let alloc = rt.alloc();
-    let (d, p, od, op) = ("d.hddl", "p.hddl", "od.pddl", "op.pddl");
-    refuses_words(&rt, alloc, &[])?;
-    refuses_words(&rt, alloc, &["decode", d, p, od, op, "--bound", "1"])?;
-    refuses_words(&rt, alloc, &["translate", d, p, d, op, "--bound", "1"])?;
-    refuses_words(&rt, alloc, &["translate", d, p, od, od, "--bound", "1"])?;
-    refuses_words(&rt, alloc, &["bound", d])?;
-    refuses_words(&rt, alloc, &["bound", d, p, "--bound", "1"])?;
-    refuses_words(&rt, alloc, &["bound", d, p, "--style", "adl"])?;
+    for words in WORDS {
+        refuses(&rt, rt.alloc(), &[words])?;
+    }
     Ok(())
 }
 
 #[test]
 fn options_of_no_form(rt: HostRuntime) -> Result<(), Fail> {
-    let alloc = rt.alloc();
-    refuses_options(&rt, alloc, &["--bound"])?;
-    refuses_options(&rt, alloc, &["--bound", "0"])?;
-    refuses_options(&rt, alloc, &["--bound", "+1"])?;
-    refuses_options(&rt, alloc, &["--bound", ""])?;
-    refuses_options(
-        &rt,
-        alloc,
-        &["--bound", "0000000000000000000000000000000000000001"],
-    )?;
-    refuses_options(&rt, alloc, &["--bound", "1", "--bound", "1"])?;
-    refuses_options(&rt, alloc, &["--style", "flat", "--style", "flat"])?;
-    refuses_options(&rt, alloc, &["--bound", "1", "--style", "strips"])?;
-    refuses_options(&rt, alloc, &["--bound", "1", "--slots", "1"])?;
+    for options in OPTIONS {
+        refuses(&rt, rt.alloc(), &[TRANSLATE, options])?;
+    }
     Ok(())
 }
