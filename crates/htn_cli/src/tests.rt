@@ -2,6 +2,7 @@
 use super::*;
 use htn_base::Memory;
 use outside_io::{MemFiles, MemSink};
+use refused::{powers, types};
 use std::alloc::Global;
 use std::process::Abort;
 
@@ -15,8 +16,29 @@ mod transport;
 mod validations;
 mod words;
 
-/// A text, and how many times it stands.
-type Piece<'a> = (&'a str, u32);
+/// A text of a file.
+#[derive(Clone, Copy)]
+enum Source {
+    Text(&'static str),
+    /// Between two others.
+    Between(&'static str, &'static str, &'static str),
+    /// So many bytes of it.
+    Cut(&'static str, usize),
+    /// Each so many times.
+    Times(&'static [(&'static str, u32)]),
+    /// Made by `refused::types` and `refused::powers`.
+    Types(u32),
+    Powers(u32),
+}
+
+/// The files before a run: those that are translated, and those of a validation.
+#[derive(Clone, Copy)]
+enum Before {
+    Nothing,
+    Domain(Source),
+    Both(Source, Source),
+    Plan(Source, Source, Source),
+}
 
 /// The call that fails, counted from 0.
 #[derive(Clone, Copy)]
@@ -28,18 +50,23 @@ enum Failing {
     Error(u32),
 }
 
-/// A run: the files before it, each a name and the pieces of its text; its words, in groups; how it ends, with what is on
-/// standard output and standard error; and texts of names after it, or that nothing is held.
+/// A run: the files before it; its words, in groups; how it ends, with what is on standard output and standard error; and
+/// texts of names after it, or that nothing is held.
 #[derive(Clone, Copy)]
-struct Row<'a> {
-    files: &'a [(&'a str, &'a [Piece<'a>])],
+struct Row {
+    before: Before,
     failing: Failing,
-    words: &'a [&'a [&'a str]],
+    command: &'static [&'static str],
+    options: &'static [&'static str],
+    more: &'static [&'static str],
     status: Status,
-    out: &'a str,
-    err: &'a str,
-    held: &'a [(&'a str, Option<&'a str>)],
+    out: &'static str,
+    err: &'static str,
+    held: &'static [(&'static str, Option<&'static str>)],
 }
+
+/// No output is held.
+const UNWRITTEN: &[(&str, Option<&str>)] = &[("od.pddl", None), ("op.pddl", None)];
 
 const TRANSLATE: &[&str] = &["translate", "d.hddl", "p.hddl", "od.pddl", "op.pddl"];
 
@@ -66,18 +93,31 @@ impl Outside {
         }
     }
 
-    fn add(&mut self, name: &str, pieces: &[Piece<'_>]) -> Result<(), Memory> {
-        let text = joined(self.alloc, pieces)?;
+    fn add(&mut self, name: &str, source: &Source) -> Result<(), Memory> {
+        let text = text_of(self.alloc, source)?;
         let added = self.files.add(name, text.as_bytes());
         drop(text);
         added
     }
 
-    fn prepare(&mut self, row: &Row<'_>) -> Result<(), Memory> {
-        for (name, pieces) in row.files {
-            self.add(name, pieces)?;
+    fn add_all(&mut self, before: &Before) -> Result<(), Memory> {
+        match before {
+            Before::Nothing => Ok(()),
+            Before::Domain(domain) => self.add("d.hddl", domain),
+            Before::Both(domain, problem) => {
+                self.add("d.hddl", domain)?;
+                self.add("p.hddl", problem)
+            }
+            Before::Plan(domain, problem, plan) => {
+                self.add("pd", domain)?;
+                self.add("pp", problem)?;
+                self.add("plan", plan)
+            }
         }
-        match row.failing {
+    }
+
+    fn fail(&mut self, failing: Failing) -> Result<(), Memory> {
+        match failing {
             Failing::Nothing => Ok(()),
             Failing::Get(k) => self.files.fail_get(k),
             Failing::Put(k) => self.files.fail_put(k),
@@ -86,8 +126,8 @@ impl Outside {
         }
     }
 
-    fn run(&mut self, words: &[&[&str]]) -> Result<Status, Memory> {
-        let words = owned(self.alloc, words)?;
+    fn run(&mut self, row: &Row) -> Result<Status, Memory> {
+        let words = words_of(self.alloc, row)?;
         let status = run(
             self.alloc,
             words.as_slice(),
@@ -99,7 +139,19 @@ impl Outside {
         Ok(status)
     }
 
-    fn compare(&self, rt: &impl Abort, row: &Row<'_>) {
+    /// A plan is as it was.
+    fn keeps(&self, rt: &impl Abort, before: &Before) -> Result<(), Memory> {
+        let Before::Plan(_, _, plan) = before else {
+            return Ok(());
+        };
+        let text = text_of(self.alloc, plan)?;
+        let kept = self.holds("plan", Some(text.as_str()));
+        drop(text);
+        assert!(rt; kept);
+        Ok(())
+    }
+
+    fn compare(&self, rt: &impl Abort, row: &Row) {
         assert_eq!(rt; self.out.bytes(), row.out.as_bytes());
         assert_eq!(rt; self.err.bytes(), row.err.as_bytes());
         for (name, text) in row.held {
@@ -115,20 +167,46 @@ impl Outside {
     }
 }
 
-fn joined(alloc: Global, pieces: &[Piece<'_>]) -> Result<String, Memory> {
+fn text_of(alloc: Global, source: &Source) -> Result<String, Memory> {
     let mut text = String::new(alloc);
+    match write(&mut text, alloc, source) {
+        Ok(()) => Ok(text),
+        Err(Memory) => {
+            drop(text);
+            Err(Memory)
+        }
+    }
+}
+
+fn write(text: &mut String, alloc: Global, source: &Source) -> Result<(), Memory> {
+    match source {
+        Source::Text(whole) => text.push_str(whole)?,
+        Source::Between(before, middle, after) => {
+            text.push_str(before)?;
+            text.push_str(middle)?;
+            text.push_str(after)?;
+        }
+        Source::Cut(whole, length) => text.push_str(whole.get(..*length).unwrap_or(""))?,
+        Source::Times(pieces) => repeat(text, pieces)?,
+        Source::Types(last) => types(text, alloc, *last)?,
+        Source::Powers(count) => powers(text, alloc, *count)?,
+    }
+    Ok(())
+}
+
+fn repeat(text: &mut String, pieces: &[(&str, u32)]) -> Result<(), Memory> {
     for (piece, count) in pieces {
         for _ in 0..*count {
             text.push_str(piece)?;
         }
     }
-    Ok(text)
+    Ok(())
 }
 
-fn owned(alloc: Global, groups: &[&[&str]]) -> Result<Vec<String>, Memory> {
+fn words_of(alloc: Global, row: &Row) -> Result<Vec<String>, Memory> {
     let mut owned = Vec::new(alloc);
-    for words in groups {
-        for word in *words {
+    for words in [row.command, row.options, row.more] {
+        for word in words {
             owned.push(String::from_str(alloc, word)?)?;
         }
     }
@@ -136,17 +214,26 @@ fn owned(alloc: Global, groups: &[&[&str]]) -> Result<Vec<String>, Memory> {
 }
 
 /// Makes the run of the row, and compares how it ends with what the row says.
-fn replay(rt: &impl Abort, alloc: Global, row: &Row<'_>) -> Result<(), Memory> {
+fn replay(rt: &impl Abort, alloc: Global, row: &Row) -> Result<(), Memory> {
     let mut outside = Outside::new(alloc);
     let replayed = replay_in(rt, &mut outside, row);
     drop(outside);
     replayed
 }
 
-fn replay_in(rt: &impl Abort, outside: &mut Outside, row: &Row<'_>) -> Result<(), Memory> {
-    outside.prepare(row)?;
-    let status = outside.run(row.words)?;
+fn replay_in(rt: &impl Abort, outside: &mut Outside, row: &Row) -> Result<(), Memory> {
+    outside.add_all(&row.before)?;
+    outside.fail(row.failing)?;
+    let status = outside.run(row)?;
     assert_eq!(rt; status, row.status);
     outside.compare(rt, row);
+    outside.keeps(rt, &row.before)
+}
+
+/// Replays each row.
+fn replay_all(rt: &impl Abort, alloc: Global, rows: &[Row]) -> Result<(), Memory> {
+    for row in rows {
+        replay(rt, alloc, row)?;
+    }
     Ok(())
 }

@@ -1,23 +1,14 @@
-//! Tests of `ground_state`: states, truth, effects and runs, whose answers were worked out by hand.
+//! Tests of `ground_state`: a state, runs of a step, and want of memory. Answers were worked out by hand. Truth, effects and
+//! plans are tested by texts, in `htn_cli`.
 //!
-//! It stands on the crates that make the values of its problems, and nothing stands on it.
+//! It stands on the crates that make the values of its problem, and nothing stands on it.
 #![tactic(auto)]
 
-#[cfg(test)]
-mod builders;
-#[cfg(test)]
-mod effects;
-#[cfg(test)]
-mod long_plans;
 #[cfg(test)]
 mod memory;
 #[cfg(test)]
 mod plans;
 #[cfg(test)]
+mod problem;
+#[cfg(test)]
 mod states;
-#[cfg(test)]
-mod things;
-#[cfg(test)]
-mod transport;
-#[cfg(test)]
-mod truths;

@@ -1,113 +1,62 @@
-//! Plans of several steps, and the causes for which lists fail that are none.
+//! A plan, and lists of a step that are none. An action's word is told apart from one with another letter's case.
 
-ghost use Rattle.std.specs.Prelude.{◌≡◌, IfOk};
 ghost use Rattle.ground_state.specs.Runs.{IsRunnable};
 
-use crate::builders::{action, literal, params};
-use crate::effects::{ADD, Around, DELETE, coloured_changes, effect};
-use crate::things::{A, BLUE, BOX, FIRST, Failure, RED, THING, coloured, failure};
-use crate::truths::{Connective, joined};
-use ground_state::FailWhy;
-use htn_base::{Boxed, List, Memory};
-use plan_model::{ActionSchema, Formula, Pddl, Term};
+use crate::problem::red_alone;
+use ground_state::{FailWhy, Verdict, run_plan};
+use htn_base::{List, Memory, Text};
+use plan_model::{GroundAction, Pddl};
 use std::alloc::Global;
+use std::process::Abort;
 use std::test::Fail;
 
-/// A thing is painted red and no longer blue, where it was not red or was blue.
-fn paint(alloc: Global) -> Result<ActionSchema, Memory>
-    ensures { IfOk result (λ a. a.name.number ≡ 2) }
-{
-    let red = literal(alloc, (true, RED, &[FIRST]))?;
-    let blue = literal(alloc, (true, BLUE, &[FIRST]))?;
-    let pre = joined(alloc, Connective::Imply, red, blue)?;
-    let eff = coloured_changes(alloc, &[(ADD, RED, FIRST), (DELETE, BLUE, FIRST)])?;
-    action(alloc, 2, &[THING], pre, eff)
+fn step(alloc: Global, name: &[u8]) -> Result<GroundAction, Memory> {
+    Ok(GroundAction {
+        name: Text::from_slice(alloc, name)?,
+        args: List::new(alloc),
+    })
 }
 
-/// A red box is washed, and then nothing is red.
-fn wash(alloc: Global) -> Result<ActionSchema, Memory>
-    ensures { IfOk result (λ a. a.name.number ≡ 3) }
+fn is_plan(rt: &impl Abort, alloc: Global, p: &Pddl) -> Result<(), Memory>
+    requires { IsRunnable p.now }
 {
-    let pre = literal(alloc, (true, RED, &[FIRST]))?;
-    let each = [(DELETE, RED, Term::Var(1))];
-    let eff = effect(alloc, &[], Around::ForEach(THING), &each)?;
-    action(alloc, 3, &[BOX], pre, eff)
+    let verdict = run_plan(alloc, p, &[])?;
+    assert!(rt; matches!(verdict, Verdict::Plan));
+    Ok(())
 }
 
-/// A thing is marked blue where it is red, and some box must be red.
-fn mark(alloc: Global) -> Result<ActionSchema, Memory>
-    ensures { IfOk result (λ a. a.name.number ≡ 4) }
+fn fails(
+    rt: &impl Abort,
+    alloc: Global,
+    p: &Pddl,
+    name: &[u8],
+    place: u32,
+    cause: FailWhy,
+) -> Result<(), Memory>
+    requires { IsRunnable p.now }
 {
-    let body = Boxed::new(alloc, literal(alloc, (true, RED, &[Term::Var(1)]))?)?;
-    let pre = Formula::Exists(params(alloc, &[BOX])?, body);
-    let eff = effect(alloc, &[], Around::WhenRed(FIRST), &[(ADD, BLUE, FIRST)])?;
-    action(alloc, 4, &[THING], pre, eff)
+    let plan = [step(alloc, name)?];
+    let verdict = run_plan(alloc, p, &plan)?;
+    match verdict {
+        Verdict::Plan => assert!(rt; false),
+        Verdict::Fails { step, why } => assert!(rt; step == place && why == cause),
+    }
+    Ok(())
 }
 
-/// Paint, wash and mark, until `a` is blue.
-fn painting(alloc: Global) -> Result<Pddl, Memory>
-    ensures { IfOk result IsRunnable }
+fn are_told(rt: &impl Abort, alloc: Global, p: &Pddl) -> Result<(), Memory>
+    requires { IsRunnable p.now }
 {
-    let goal = literal(alloc, (true, BLUE, &[A]))?;
-    let mut actions = List::new(alloc);
-    actions.put(paint(alloc))?;
-    actions.put(wash(alloc))?;
-    actions.put(mark(alloc))?;
-    coloured(alloc, actions, goal)
+    is_plan(rt, alloc, p)?;
+    fails(rt, alloc, p, b"paint", 2, FailWhy::GoalFalse)?;
+    fails(rt, alloc, p, b"Paint", 1, FailWhy::UnknownAction)
 }
 
 #[test]
 fn plans(rt: HostRuntime) -> Result<(), Fail> {
-    let p = painting(rt.alloc())?;
-    let rows: [(&[&[&[u8]]], Failure); 9] = [
-        (&[&[b"mark", b"a"]], None),
-        (&[&[b"mark", b"b"], &[b"mark", b"a"]], None),
-        (
-            &[&[b"wash", b"a"], &[b"paint", b"a"], &[b"mark", b"a"]],
-            None,
-        ),
-        (&[], Some((1, FailWhy::GoalFalse))),
-        (&[&[b"wash", b"a"]], Some((2, FailWhy::GoalFalse))),
-        (
-            &[&[b"mark", b"a"], &[b"paint", b"a"]],
-            Some((3, FailWhy::GoalFalse)),
-        ),
-        (&[&[b"paint", b"a"]], Some((1, FailWhy::Condition))),
-        (
-            &[&[b"mark", b"b"], &[b"wash", b"a"], &[b"mark", b"a"]],
-            Some((3, FailWhy::Condition)),
-        ),
-        (
-            &[&[b"wash", b"a"], &[b"paint", b"b"], &[b"mark", b"b"]],
-            Some((3, FailWhy::Condition)),
-        ),
-    ];
-    for (written, expected) in rows {
-        assert!(rt; failure(&rt, rt.alloc(), &p, written)? == expected);
-    }
+    let p = red_alone(rt.alloc())?;
+    let told = are_told(&rt, rt.alloc(), &p);
     drop(p);
-    Ok(())
-}
-
-// Where two causes are there, the first of action, arguments and condition is told: `b` is no box and not red.
-#[test]
-fn causes(rt: HostRuntime) -> Result<(), Fail> {
-    let p = painting(rt.alloc())?;
-    let rows: [(&[&[u8]], FailWhy); 10] = [
-        (&[b"dry", b"a"], FailWhy::UnknownAction),
-        (&[b"a", b"a"], FailWhy::UnknownAction),
-        (&[b"Paint", b"b"], FailWhy::UnknownAction),
-        (&[b"dry", b"c"], FailWhy::UnknownAction),
-        (&[b"paint"], FailWhy::Arguments),
-        (&[b"paint", b"b", b"b"], FailWhy::Arguments),
-        (&[b"paint", b"c"], FailWhy::Arguments),
-        (&[b"paint", b"paint"], FailWhy::Arguments),
-        (&[b"wash", b"b"], FailWhy::Arguments),
-        (&[b"paint", b"a"], FailWhy::Condition),
-    ];
-    for (words, why) in rows {
-        assert!(rt; failure(&rt, rt.alloc(), &p, &[words])? == Some((1, why)));
-    }
-    drop(p);
+    told?;
     Ok(())
 }

@@ -1,25 +1,15 @@
 //! A state is made, asked and changed once with ample memory.
 
 ghost use Rattle.std.specs.Prelude.{IfOk};
-ghost use Rattle.plan_model.specs.Parts.{AreListed};
 ghost use Rattle.ground_state.specs.Frames.{Frame};
 ghost use Rattle.ground_state.specs.Room.{Fits, EffectFits};
 
+use crate::problem::no_types;
 use ground_state::{Env, State, holds};
 use htn_base::{List, Memory};
-use plan_model::{Atom, Effect, Facts, Formula, GroundAtom, Term, Types};
+use plan_model::{Atom, Effect, Facts, Formula, GroundAtom, Term};
 use std::alloc::Global;
 use std::test::Fail;
-
-fn no_types(alloc: Global) -> Types
-    ensures { AreListed result }
-{
-    Types {
-        names: List::new(alloc),
-        parents: List::new(alloc),
-        unions: List::new(alloc),
-    }
-}
 
 // The first predicate, of the first object.
 fn fact(alloc: Global) -> Result<GroundAtom, Memory> {

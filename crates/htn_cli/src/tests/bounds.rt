@@ -1,7 +1,7 @@
 //! Numbers of slots that are given, and bounds that are computed.
-use super::rows::BOUNDED;
+use super::rows::{BOUNDED, Bounded};
 use super::texts::{DOMAIN, PROBLEM};
-use super::{BOUND, Failing, Row, TRANSLATE, replay};
+use super::{BOUND, Before, Failing, Row, Source, TRANSLATE, UNWRITTEN, replay};
 use crate::Status;
 use htn_base::Memory;
 use std::alloc::Global;
@@ -18,17 +18,19 @@ const MANNERS: &[&[&str]] = &[
 fn has_slots(
     rt: &impl Abort,
     alloc: Global,
-    slots: &str,
-    manner: &[&str],
-    out: &str,
+    slots: &'static [&'static str],
+    manner: &'static [&'static str],
+    out: &'static str,
 ) -> Result<(), Memory> {
     replay(
         rt,
         alloc,
         &Row {
-            files: &[("d.hddl", &[(DOMAIN, 1)]), ("p.hddl", &[(PROBLEM, 1)])],
+            before: Before::Both(Source::Text(DOMAIN), Source::Text(PROBLEM)),
             failing: Failing::Nothing,
-            words: &[TRANSLATE, &["--bound", slots], manner],
+            command: TRANSLATE,
+            options: slots,
+            more: manner,
             status: Status::Done,
             out,
             err: "",
@@ -40,7 +42,13 @@ fn has_slots(
 #[test]
 fn many_slots(rt: HostRuntime) -> Result<(), Fail> {
     for manner in MANNERS {
-        has_slots(&rt, rt.alloc(), "4096", manner, "slots 4096\n")?;
+        has_slots(
+            &rt,
+            rt.alloc(),
+            &["--bound", "4096"],
+            manner,
+            "slots 4096\n",
+        )?;
     }
     Ok(())
 }
@@ -48,35 +56,54 @@ fn many_slots(rt: HostRuntime) -> Result<(), Fail> {
 #[test]
 fn as_many_slots_as_there_may_be(rt: HostRuntime) -> Result<(), Fail> {
     for manner in MANNERS {
-        has_slots(&rt, rt.alloc(), "65536", manner, "slots 65536\n")?;
+        has_slots(
+            &rt,
+            rt.alloc(),
+            &["--bound", "65536"],
+            manner,
+            "slots 65536\n",
+        )?;
     }
     Ok(())
 }
 
 /// Numbers of slots past a limit, and the line.
-const PAST: &[(&str, &str)] = &[
-    ("65537", "limit slots 65537\n"),
+const PAST: &[(&[&str], &str)] = &[
+    (&["--bound", "65537"], "limit slots 65537\n"),
     (
-        "340282366920938463463374607431768211455",
+        &["--bound", "340282366920938463463374607431768211455"],
         "limit slots 340282366920938463463374607431768211455\n",
     ),
-    ("340282366920938463463374607431768211456", "limit bound\n"),
-    ("999999999999999999999999999999999999999", "limit bound\n"),
+    (
+        &["--bound", "340282366920938463463374607431768211456"],
+        "limit bound\n",
+    ),
+    (
+        &["--bound", "999999999999999999999999999999999999999"],
+        "limit bound\n",
+    ),
 ];
 
 /// There are no files: none is read.
-fn is_past(rt: &impl Abort, alloc: Global, slots: &str, err: &str) -> Result<(), Memory> {
+fn is_past(
+    rt: &impl Abort,
+    alloc: Global,
+    slots: &'static [&'static str],
+    err: &'static str,
+) -> Result<(), Memory> {
     replay(
         rt,
         alloc,
         &Row {
-            files: &[],
+            before: Before::Nothing,
             failing: Failing::Nothing,
-            words: &[TRANSLATE, &["--bound", slots]],
+            command: TRANSLATE,
+            options: slots,
+            more: &[],
             status: Status::Limit,
             out: "",
             err,
-            held: &[],
+            held: UNWRITTEN,
         },
     )
 }
@@ -89,24 +116,20 @@ fn slots_past_a_limit(rt: HostRuntime) -> Result<(), Fail> {
     Ok(())
 }
 
-pub(super) fn is_bounded(
-    rt: &impl Abort,
-    alloc: Global,
-    domain: &str,
-    problem: &str,
-    out: &str,
-) -> Result<(), Memory> {
+fn is_bounded(rt: &impl Abort, alloc: Global, row: &Bounded) -> Result<(), Memory> {
     replay(
         rt,
         alloc,
         &Row {
-            files: &[("d.hddl", &[(domain, 1)]), ("p.hddl", &[(problem, 1)])],
+            before: Before::Both(row.domain, Source::Text(row.problem)),
             failing: Failing::Nothing,
-            words: &[BOUND],
+            command: BOUND,
+            options: &[],
+            more: &[],
             status: Status::Done,
-            out,
+            out: row.bound,
             err: "",
-            held: &[],
+            held: UNWRITTEN,
         },
     )
 }
@@ -114,7 +137,7 @@ pub(super) fn is_bounded(
 #[test]
 fn computed_bounds(rt: HostRuntime) -> Result<(), Fail> {
     for row in BOUNDED {
-        is_bounded(&rt, rt.alloc(), row.domain, row.problem, row.bound)?;
+        is_bounded(&rt, rt.alloc(), row)?;
     }
     Ok(())
 }

@@ -1,7 +1,7 @@
 //! A problem of two objects, `a - box` and `b - thing`: at first `a` is red and `b` is blue. Truth of goals, the states after
 //! effects, and plans. Each answer was worked out by hand.
-use super::Piece;
-use super::validations::{Case, ends};
+use super::validations::ends;
+use super::{Before, Source};
 use crate::Status;
 use htn_base::Memory;
 use std::alloc::Global;
@@ -15,30 +15,28 @@ const COLOURS: &str =
 fn ends_coloured(
     rt: &impl Abort,
     alloc: Global,
-    domain: &[Piece<'_>],
-    goal: &str,
-    plan: &str,
-    err: &str,
+    domain: Source,
+    goal: &'static str,
+    plan: &'static str,
+    err: &'static str,
 ) -> Result<(), Memory> {
-    ends(
-        rt,
-        alloc,
-        &Case {
-            domain,
-            problem: &[
-                ("(define (problem p) (:init (red a) (blue b)) (:goal ", 1),
-                (goal, 1),
-                ("))", 1),
-            ],
-            plan,
-            status: if err.is_empty() {
-                Status::Done
-            } else {
-                Status::Finding
-            },
-            err,
-        },
-    )
+    let problem = Source::Between(
+        "(define (problem p) (:init (red a) (blue b)) (:goal ",
+        goal,
+        "))",
+    );
+    let status = if err.is_empty() {
+        Status::Done
+    } else {
+        Status::Finding
+    };
+    let before = Before::Plan(domain, problem, Source::Text(plan));
+    ends(rt, alloc, before, status, err)
+}
+
+/// The line for a goal that is true or not behind the steps before this one.
+fn line(truth: bool, line: &'static str) -> &'static str {
+    if truth { "" } else { line }
 }
 
 /// Goals, and whether they are true at first.
@@ -75,15 +73,16 @@ const TRUTHS: &[(&str, bool)] = &[
 #[test]
 fn truths(rt: HostRuntime) -> Result<(), Fail> {
     for (goal, truth) in TRUTHS {
-        let err = if *truth {
-            ""
-        } else {
-            "not a plan: step 1 GoalFalse\n"
-        };
-        ends_coloured(&rt, rt.alloc(), &[(COLOURS, 1), (")", 1)], goal, "", err)?;
+        let domain = Source::Between(COLOURS, ")", "");
+        let err = line(*truth, "not a plan: step 1 GoalFalse\n");
+        ends_coloured(&rt, rt.alloc(), domain, goal, "", err)?;
     }
     Ok(())
 }
+
+/// The domain's beginning, up to the effect of an action without parameters.
+const PAINTED: &str =
+    "(define (domain d) (:types thing - object box bag - thing) (:constants a - box b - thing) (:predicates (red ?x) (blue ?x)) (:action paint :parameters () :effect ";
 
 /// Effects, and goals that are true or not after them. An add wins over a delete, `when` is tested in the old state, and
 /// `forall` is of each object of the type.
@@ -150,18 +149,9 @@ const EFFECTS: &[(&str, &str, bool)] = &[
 #[test]
 fn effects(rt: HostRuntime) -> Result<(), Fail> {
     for (effect, goal, truth) in EFFECTS {
-        let domain = [
-            (COLOURS, 1),
-            ("(:action paint :parameters () :effect ", 1),
-            (*effect, 1),
-            ("))", 1),
-        ];
-        let err = if *truth {
-            ""
-        } else {
-            "not a plan: step 2 GoalFalse\n"
-        };
-        ends_coloured(&rt, rt.alloc(), &domain, goal, "(paint)", err)?;
+        let domain = Source::Between(PAINTED, effect, "))");
+        let err = line(*truth, "not a plan: step 2 GoalFalse\n");
+        ends_coloured(&rt, rt.alloc(), domain, goal, "(paint)", err)?;
     }
     Ok(())
 }
@@ -205,14 +195,8 @@ const PLANS: &[(&str, &str)] = &[
 #[test]
 fn plans(rt: HostRuntime) -> Result<(), Fail> {
     for (plan, err) in PLANS {
-        ends_coloured(
-            &rt,
-            rt.alloc(),
-            &[(COLOURS, 1), (PAINTING, 1)],
-            "(blue a)",
-            plan,
-            err,
-        )?;
+        let domain = Source::Between(COLOURS, PAINTING, "");
+        ends_coloured(&rt, rt.alloc(), domain, "(blue a)", plan, err)?;
     }
     Ok(())
 }

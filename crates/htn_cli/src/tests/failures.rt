@@ -1,226 +1,214 @@
 //! Files and streams that fail.
 use super::texts::{DOMAIN, ONE_SLOT_DOMAIN, ONE_SLOT_PROBLEM, PROBLEM};
 use super::validations::{COSTS, NOTHING};
-use super::{BOUND, Failing, Piece, Row, TRANSLATE, VALIDATE, replay};
+use super::{BOUND, Before, Failing, Row, Source, TRANSLATE, UNWRITTEN, VALIDATE, replay_all};
 use crate::Status;
-use htn_base::Memory;
-use std::alloc::Global;
-use std::process::Abort;
 use std::test::Fail;
 
-const ONE_SLOT: &[&[&str]] = &[TRANSLATE, &["--bound", "1"]];
+const TEXTS: Before = Before::Both(Source::Text(DOMAIN), Source::Text(PROBLEM));
 
-const TEXTS: &[(&str, &[Piece<'static>])] = &[
-    ("d.hddl", &[(DOMAIN, 1)]),
-    ("p.hddl", &[(PROBLEM, 1)]),
+const LISTED: Before = Before::Plan(
+    Source::Text(COSTS),
+    Source::Text(NOTHING),
+    Source::Text("(a)"),
+);
+
+const ONE_SLOT: &[&str] = &["--bound", "1"];
+
+const WRITTEN: &[(&str, Option<&str>)] = &[
+    ("od.pddl", Some(ONE_SLOT_DOMAIN)),
+    ("op.pddl", Some(ONE_SLOT_PROBLEM)),
 ];
 
-const LISTED: &[(&str, &[Piece<'static>])] = &[
-    ("pd", &[(COSTS, 1)]),
-    ("pp", &[(NOTHING, 1)]),
-    ("plan", &[("(a)", 1)]),
-];
-
-/// A file is missing, or a get fails.
-#[derive(Clone, Copy)]
-struct Unread {
-    files: &'static [(&'static str, &'static [Piece<'static>])],
-    failing: Failing,
-    words: &'static [&'static [&'static str]],
-    err: &'static str,
-}
-
-const UNREAD: &[Unread] = &[
-    Unread {
-        files: TEXTS,
+const UNREAD: &[Row] = &[
+    Row {
+        before: TEXTS,
         failing: Failing::Get(0),
-        words: ONE_SLOT,
+        command: TRANSLATE,
+        options: ONE_SLOT,
+        more: &[],
+        status: Status::ReadFault,
+        out: "",
         err: "cannot read d.hddl\n",
+        held: UNWRITTEN,
     },
-    Unread {
-        files: TEXTS,
+    Row {
+        before: TEXTS,
         failing: Failing::Get(0),
-        words: &[BOUND],
+        command: BOUND,
+        options: &[],
+        more: &[],
+        status: Status::ReadFault,
+        out: "",
         err: "cannot read d.hddl\n",
+        held: UNWRITTEN,
     },
-    Unread {
-        files: TEXTS,
+    Row {
+        before: TEXTS,
         failing: Failing::Get(1),
-        words: ONE_SLOT,
+        command: TRANSLATE,
+        options: ONE_SLOT,
+        more: &[],
+        status: Status::ReadFault,
+        out: "",
         err: "cannot read p.hddl\n",
+        held: UNWRITTEN,
     },
-    Unread {
-        files: TEXTS,
+    Row {
+        before: TEXTS,
         failing: Failing::Get(1),
-        words: &[BOUND],
+        command: BOUND,
+        options: &[],
+        more: &[],
+        status: Status::ReadFault,
+        out: "",
         err: "cannot read p.hddl\n",
+        held: UNWRITTEN,
     },
-    Unread {
-        files: &[("d.hddl", &[(DOMAIN, 1)])],
+    Row {
+        before: Before::Domain(Source::Text(DOMAIN)),
         failing: Failing::Nothing,
-        words: ONE_SLOT,
+        command: TRANSLATE,
+        options: ONE_SLOT,
+        more: &[],
+        status: Status::ReadFault,
+        out: "",
         err: "cannot read p.hddl\n",
+        held: UNWRITTEN,
     },
-    Unread {
-        files: LISTED,
+    Row {
+        before: LISTED,
         failing: Failing::Get(0),
-        words: &[VALIDATE],
+        command: VALIDATE,
+        options: &[],
+        more: &[],
+        status: Status::ReadFault,
+        out: "",
         err: "cannot read pd\n",
+        held: UNWRITTEN,
     },
-    Unread {
-        files: LISTED,
+    Row {
+        before: LISTED,
         failing: Failing::Get(1),
-        words: &[VALIDATE],
+        command: VALIDATE,
+        options: &[],
+        more: &[],
+        status: Status::ReadFault,
+        out: "",
         err: "cannot read pp\n",
+        held: UNWRITTEN,
     },
-    Unread {
-        files: LISTED,
+    Row {
+        before: LISTED,
         failing: Failing::Get(2),
-        words: &[VALIDATE],
+        command: VALIDATE,
+        options: &[],
+        more: &[],
+        status: Status::ReadFault,
+        out: "",
         err: "cannot read plan\n",
+        held: UNWRITTEN,
     },
 ];
-
-fn is_not_read(rt: &impl Abort, alloc: Global, unread: &Unread) -> Result<(), Memory> {
-    replay(
-        rt,
-        alloc,
-        &Row {
-            files: unread.files,
-            failing: unread.failing,
-            words: unread.words,
-            status: Status::ReadFault,
-            out: "",
-            err: unread.err,
-            held: &[("od.pddl", None), ("op.pddl", None)],
-        },
-    )
-}
 
 #[test]
 fn files_that_are_not_read(rt: HostRuntime) -> Result<(), Fail> {
-    for unread in UNREAD {
-        is_not_read(&rt, rt.alloc(), unread)?;
-    }
-    Ok(())
+    Ok(replay_all(&rt, rt.alloc(), UNREAD)?)
 }
 
-/// A put or a write fails.
-#[derive(Clone, Copy)]
-struct Unwritten {
-    failing: Failing,
-    words: &'static [&'static [&'static str]],
-    out: &'static str,
-    err: &'static str,
-    held: &'static [(&'static str, Option<&'static str>)],
-}
-
-const UNWRITTEN: &[Unwritten] = &[
-    Unwritten {
+const CUT_OFF: &[Row] = &[
+    Row {
+        before: TEXTS,
         failing: Failing::Put(0),
-        words: ONE_SLOT,
+        command: TRANSLATE,
+        options: ONE_SLOT,
+        more: &[],
+        status: Status::WriteFault,
         out: "",
         err: "cannot write od.pddl\n",
-        held: &[("od.pddl", None), ("op.pddl", None)],
+        held: UNWRITTEN,
     },
-    Unwritten {
+    Row {
+        before: TEXTS,
         failing: Failing::Put(1),
-        words: ONE_SLOT,
+        command: TRANSLATE,
+        options: ONE_SLOT,
+        more: &[],
+        status: Status::WriteFault,
         out: "",
         err: "cannot write op.pddl\n",
         held: &[("od.pddl", Some(ONE_SLOT_DOMAIN)), ("op.pddl", None)],
     },
-    Unwritten {
+    Row {
+        before: TEXTS,
         failing: Failing::Output(0),
-        words: ONE_SLOT,
+        command: TRANSLATE,
+        options: ONE_SLOT,
+        more: &[],
+        status: Status::WriteFault,
         out: "",
         err: "cannot write standard output\n",
-        held: &[
-            ("od.pddl", Some(ONE_SLOT_DOMAIN)),
-            ("op.pddl", Some(ONE_SLOT_PROBLEM)),
-        ],
+        held: WRITTEN,
     },
-    Unwritten {
+    Row {
+        before: TEXTS,
         failing: Failing::Output(1),
-        words: ONE_SLOT,
+        command: TRANSLATE,
+        options: ONE_SLOT,
+        more: &[],
+        status: Status::WriteFault,
         out: "slo",
         err: "cannot write standard output\n",
-        held: &[
-            ("od.pddl", Some(ONE_SLOT_DOMAIN)),
-            ("op.pddl", Some(ONE_SLOT_PROBLEM)),
-        ],
+        held: WRITTEN,
     },
-    Unwritten {
+    Row {
+        before: TEXTS,
         failing: Failing::Output(2),
-        words: ONE_SLOT,
+        command: TRANSLATE,
+        options: ONE_SLOT,
+        more: &[],
+        status: Status::WriteFault,
         out: "slots ",
         err: "cannot write standard output\n",
-        held: &[
-            ("od.pddl", Some(ONE_SLOT_DOMAIN)),
-            ("op.pddl", Some(ONE_SLOT_PROBLEM)),
-        ],
+        held: WRITTEN,
     },
-    Unwritten {
+    Row {
+        before: TEXTS,
         failing: Failing::Output(0),
-        words: &[BOUND],
+        command: BOUND,
+        options: &[],
+        more: &[],
+        status: Status::WriteFault,
         out: "",
         err: "cannot write standard output\n",
-        held: &[],
+        held: UNWRITTEN,
     },
-    Unwritten {
+    Row {
+        before: LISTED,
         failing: Failing::Output(1),
-        words: &[VALIDATE],
+        command: VALIDATE,
+        options: &[],
+        more: &[],
+        status: Status::WriteFault,
         out: "val",
         err: "cannot write standard output\n",
-        held: &[],
+        held: UNWRITTEN,
+    },
+    // the line is cut, and the status stays
+    Row {
+        before: Before::Both(Source::Text(DOMAIN), Source::Text("")),
+        failing: Failing::Error(3),
+        command: TRANSLATE,
+        options: ONE_SLOT,
+        more: &[],
+        status: Status::TextFault,
+        out: "",
+        err: "p.h",
+        held: UNWRITTEN,
     },
 ];
 
-fn is_not_written(rt: &impl Abort, alloc: Global, unwritten: &Unwritten) -> Result<(), Memory> {
-    replay(
-        rt,
-        alloc,
-        &Row {
-            files: &[
-                ("d.hddl", &[(DOMAIN, 1)]),
-                ("p.hddl", &[(PROBLEM, 1)]),
-                ("pd", &[(COSTS, 1)]),
-                ("pp", &[(NOTHING, 1)]),
-                ("plan", &[("(a)", 1)]),
-            ],
-            failing: unwritten.failing,
-            words: unwritten.words,
-            status: Status::WriteFault,
-            out: unwritten.out,
-            err: unwritten.err,
-            held: unwritten.held,
-        },
-    )
-}
-
 #[test]
 fn outputs_that_are_not_written(rt: HostRuntime) -> Result<(), Fail> {
-    for unwritten in UNWRITTEN {
-        is_not_written(&rt, rt.alloc(), unwritten)?;
-    }
-    Ok(())
-}
-
-/// The line is cut, and the status stays.
-#[test]
-fn a_line_that_is_not_told(rt: HostRuntime) -> Result<(), Fail> {
-    replay(
-        &rt,
-        rt.alloc(),
-        &Row {
-            files: &[("d.hddl", &[(DOMAIN, 1)]), ("p.hddl", &[])],
-            failing: Failing::Error(3),
-            words: ONE_SLOT,
-            status: Status::TextFault,
-            out: "",
-            err: "p.h",
-            held: &[],
-        },
-    )?;
-    Ok(())
+    Ok(replay_all(&rt, rt.alloc(), CUT_OFF)?)
 }

@@ -1,12 +1,13 @@
 //! Texts as they are refused or bounded. Each line was found by hand, from the rules for faults and bounds.
+use super::Source;
 use super::texts::{DOMAIN, PROBLEM};
 use crate::Status;
 
 /// Two texts; `translate` without options and `bound` end with this status and this line.
 #[derive(Clone, Copy)]
 pub(super) struct Refused {
-    pub(super) domain: &'static str,
-    pub(super) problem: &'static str,
+    pub(super) domain: Source,
+    pub(super) problem: Source,
     pub(super) status: Status,
     pub(super) line: &'static str,
 }
@@ -18,80 +19,135 @@ const TWICE: &str = "(define (domain d) (:task t :parameters ()) (:action t :par
 pub(super) const REFUSED: &[Refused] = &[
     // tokens, forms, names
     Refused {
-        domain: "",
-        problem: PROBLEM,
+        domain: Source::Text(""),
+        problem: Source::Text(PROBLEM),
         status: Status::TextFault,
         line: "d.hddl:0: fault 5 NotADefine\n",
     },
     Refused {
-        domain: RESERVED,
-        problem: PROBLEM,
+        domain: Source::Text(RESERVED),
+        problem: Source::Text(PROBLEM),
         status: Status::TextFault,
         line: "d.hddl:28: fault 9 ReservedName\n",
     },
     Refused {
-        domain: TWICE,
-        problem: PROBLEM,
+        domain: Source::Text(TWICE),
+        problem: Source::Text(PROBLEM),
         status: Status::TextFault,
         line: "d.hddl:53: fault 10 DuplicateName\n",
     },
     Refused {
-        domain: "(define (domain d) (:task t :parameters ()) (:method m :parameters () :task (t) :subtasks (and (x (a)) (y (a))) :ORDERING (and (x < y) (< y x))) (:action a :parameters ()))",
-        problem: PROBLEM,
+        domain: Source::Text(
+            "(define (domain d) (:task t :parameters ()) (:method m :parameters () :task (t) :subtasks (and (x (a)) (y (a))) :ORDERING (and (x < y) (< y x))) (:action a :parameters ()))",
+        ),
+        problem: Source::Text(PROBLEM),
         status: Status::TextFault,
         line: "d.hddl:135: fault 20 CyclicOrder\n",
     },
     // the form's fault comes before that of a name, which stands before it
     Refused {
-        domain: "(define (domain d) (:task t :parameters (?x - nowhere)) (:action when :parameters ()))",
-        problem: PROBLEM,
+        domain: Source::Text(
+            "(define (domain d) (:task t :parameters (?x - nowhere)) (:action when :parameters ()))",
+        ),
+        problem: Source::Text(PROBLEM),
         status: Status::TextFault,
         line: "d.hddl:65: fault 9 ReservedName\n",
     },
     // the problem's faults
     Refused {
-        domain: DOMAIN,
-        problem: "",
+        domain: Source::Text(DOMAIN),
+        problem: Source::Text(""),
         status: Status::TextFault,
         line: "p.hddl:0: fault 5 NotADefine\n",
     },
     Refused {
-        domain: DOMAIN,
-        problem: "(define (problem p) (:domain d) (:htn :subtasks (t)))\"",
+        domain: Source::Text(DOMAIN),
+        problem: Source::Text("(define (problem p) (:domain d) (:htn :subtasks (t)))\""),
         status: Status::TextFault,
         line: "p.hddl:53: fault 1 BadByte\n",
     },
     Refused {
-        domain: DOMAIN,
-        problem: "(define (problem p) (:domain d) (:htn :subtasks (u)))",
+        domain: Source::Text(DOMAIN),
+        problem: Source::Text("(define (problem p) (:domain d) (:htn :subtasks (u)))"),
         status: Status::TextFault,
         line: "p.hddl:49: fault 14 UnknownTask\n",
     },
     // faults in both
     Refused {
-        domain: RESERVED,
-        problem: ")",
+        domain: Source::Text(RESERVED),
+        problem: Source::Text(")"),
         status: Status::TextFault,
         line: "d.hddl:28: fault 9 ReservedName\n",
     },
     Refused {
-        domain: TWICE,
-        problem: "",
+        domain: Source::Text(TWICE),
+        problem: Source::Text(""),
         status: Status::TextFault,
         line: "d.hddl:53: fault 10 DuplicateName\n",
     },
     // texts without a fault
     Refused {
-        domain: "(define (domain d) (:task t :parameters ()) (:method m :parameters () :task (t) :ordered-subtasks (and (t) (a))) (:action a :parameters ()))",
-        problem: PROBLEM,
+        domain: Source::Text(
+            "(define (domain d) (:task t :parameters ()) (:method m :parameters () :task (t) :ordered-subtasks (and (t) (a))) (:action a :parameters ()))",
+        ),
+        problem: Source::Text(PROBLEM),
         status: Status::Finding,
         line: "not tail-recursive: t m t\n",
     },
     Refused {
-        domain: "(define (domain d) (:task t :parameters ()) (:task u :parameters ()) (:method m :parameters () :task (t) :ordered-subtasks (and (u) (a))) (:method n :parameters () :task (u) :subtasks (t)) (:action a :parameters ()))",
-        problem: PROBLEM,
+        domain: Source::Text(
+            "(define (domain d) (:task t :parameters ()) (:task u :parameters ()) (:method m :parameters () :task (t) :ordered-subtasks (and (u) (a))) (:method n :parameters () :task (u) :subtasks (t)) (:action a :parameters ()))",
+        ),
+        problem: Source::Text(PROBLEM),
         status: Status::Finding,
         line: "not tail-recursive: t m u n t\n",
+    },
+    // depth
+    Refused {
+        domain: Source::Times(&[("(", 201), (")", 201)]),
+        problem: Source::Text(PROBLEM),
+        status: Status::Limit,
+        line: "limit depth d.hddl:200\n",
+    },
+    Refused {
+        domain: Source::Text(DOMAIN),
+        problem: Source::Times(&[("(", 201), (")", 201)]),
+        status: Status::Limit,
+        line: "limit depth p.hddl:200\n",
+    },
+    Refused {
+        domain: Source::Times(&[("(", 201)]),
+        problem: Source::Text(PROBLEM),
+        status: Status::TextFault,
+        line: "d.hddl:200: fault 2 UnclosedParen\n",
+    },
+    // types
+    Refused {
+        domain: Source::Types(2000),
+        problem: Source::Text(PROBLEM),
+        status: Status::Limit,
+        line: "limit types d.hddl:6027\n",
+    },
+    // the first subtask stands at byte 95, and each takes four bytes
+    Refused {
+        domain: Source::Times(&[
+            (
+                "(define (domain d) (:task t :parameters ()) (:method m :parameters () :task (t) :subtasks (and",
+                1,
+            ),
+            (" (a)", 4097),
+            (")) (:action a :parameters ()))", 1),
+        ]),
+        problem: Source::Text(PROBLEM),
+        status: Status::Limit,
+        line: "limit subtasks d.hddl:16479\n",
+    },
+    // a bound past all
+    Refused {
+        domain: Source::Powers(128),
+        problem: Source::Text("(define (problem p) (:domain d) (:htn :subtasks (t128)))"),
+        status: Status::Limit,
+        line: "limit bound\n",
     },
 ];
 
@@ -152,7 +208,7 @@ pub(super) const CUTS: &[Cut] = &[
 /// Two texts, and their bound.
 #[derive(Clone, Copy)]
 pub(super) struct Bounded {
-    pub(super) domain: &'static str,
+    pub(super) domain: Source,
     pub(super) problem: &'static str,
     pub(super) bound: &'static str,
 }
@@ -162,34 +218,50 @@ const BLOCKS: &str =
 
 pub(super) const BOUNDED: &[Bounded] = &[
     Bounded {
-        domain: DOMAIN,
+        domain: Source::Text(DOMAIN),
         problem: "(define (problem p) (:domain d) (:htn :subtasks ()))",
         bound: "1\n",
     },
     Bounded {
-        domain: "(define (domain d) (:task t :parameters ()) (:method m1 :parameters () :task (t) :ordered-subtasks (and (a) (t))) (:method m0 :parameters () :task (t) :subtasks ()) (:action a :parameters ()))",
+        domain: Source::Text(
+            "(define (domain d) (:task t :parameters ()) (:method m1 :parameters () :task (t) :ordered-subtasks (and (a) (t))) (:method m0 :parameters () :task (t) :subtasks ()) (:action a :parameters ()))",
+        ),
         problem: PROBLEM,
         bound: "2\n",
     },
     Bounded {
-        domain: BLOCKS,
+        domain: Source::Text(BLOCKS),
         problem: "(define (problem p) (:domain d) (:htn :subtasks (and (x) (x))))",
         bound: "4\n",
     },
     Bounded {
-        domain: BLOCKS,
+        domain: Source::Text(BLOCKS),
         problem: "(define (problem p) (:domain d) (:htn :ordered-subtasks (and (x) (x))))",
         bound: "3\n",
     },
     Bounded {
-        domain: "(define (domain d) (:task x :parameters ()) (:method mx :parameters () :task (x) :subtasks (and (p) (q))) (:action p :parameters ()) (:action q :parameters ()) (:action y :parameters ()))",
+        domain: Source::Text(
+            "(define (domain d) (:task x :parameters ()) (:method mx :parameters () :task (x) :subtasks (and (p) (q))) (:action p :parameters ()) (:action q :parameters ()) (:action y :parameters ()))",
+        ),
         problem: "(define (problem p) (:domain d) (:htn :ordered-subtasks (and (x) (y))))",
         bound: "3\n",
     },
     Bounded {
-        domain: "(define (domain d) (:predicates (ready)) (:task t :parameters ()) (:method m :parameters () :task (t) :precondition (ready) :subtasks (a)) (:action a :parameters ()) (:action u :parameters () :effect (ready)))",
+        domain: Source::Text(
+            "(define (domain d) (:predicates (ready)) (:task t :parameters ()) (:method m :parameters () :task (t) :precondition (ready) :subtasks (a)) (:action a :parameters ()) (:action u :parameters () :effect (ready)))",
+        ),
         problem: "(define (problem p) (:domain d) (:htn :subtasks (and (t) (u))))",
         bound: "3\n",
+    },
+    Bounded {
+        domain: Source::Types(1999),
+        problem: PROBLEM,
+        bound: "1\n",
+    },
+    Bounded {
+        domain: Source::Powers(128),
+        problem: "(define (problem p) (:domain d) (:htn :subtasks (t127)))",
+        bound: "170141183460469231731687303715884105728\n",
     },
 ];
 

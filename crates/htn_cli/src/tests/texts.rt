@@ -1,7 +1,7 @@
 //! The smallest problem: one task, one method, one action. Its printed texts were made by two programs that share nothing with this
 //! one.
 use super::rows::{COSTS_DOMAIN, COSTS_PROBLEM};
-use super::{Failing, Row, TRANSLATE, replay};
+use super::{BOUND, Before, Failing, Row, Source, TRANSLATE, UNWRITTEN, replay, replay_all};
 use crate::Status;
 use htn_base::Memory;
 use std::alloc::Global;
@@ -115,8 +115,7 @@ const EMPTY_NETWORK_DOMAIN: &str = concat!(
 struct Printed {
     options: &'static [&'static str],
     told: &'static str,
-    domain: &'static str,
-    problem: &'static str,
+    held: &'static [(&'static str, Option<&'static str>)],
 }
 
 /// Without a bound the printed texts are those of the computed one, which is 1 here.
@@ -124,53 +123,67 @@ const PRINTED: &[Printed] = &[
     Printed {
         options: &["--bound", "1"],
         told: "slots 1\n",
-        domain: ONE_SLOT_DOMAIN,
-        problem: ONE_SLOT_PROBLEM,
+        held: &[
+            ("od.pddl", Some(ONE_SLOT_DOMAIN)),
+            ("op.pddl", Some(ONE_SLOT_PROBLEM)),
+        ],
     },
     Printed {
         options: &[],
         told: "slots 1\n",
-        domain: ONE_SLOT_DOMAIN,
-        problem: ONE_SLOT_PROBLEM,
+        held: &[
+            ("od.pddl", Some(ONE_SLOT_DOMAIN)),
+            ("op.pddl", Some(ONE_SLOT_PROBLEM)),
+        ],
     },
     Printed {
         options: &["--style", "flat", "--bound", "01"],
         told: "slots 1\n",
-        domain: ONE_SLOT_FLAT_DOMAIN,
-        problem: ONE_SLOT_FLAT_PROBLEM,
+        held: &[
+            ("od.pddl", Some(ONE_SLOT_FLAT_DOMAIN)),
+            ("op.pddl", Some(ONE_SLOT_FLAT_PROBLEM)),
+        ],
     },
     Printed {
         options: &["--bound", "2"],
         told: "slots 2\n",
-        domain: TWO_SLOTS_DOMAIN,
-        problem: TWO_SLOTS_PROBLEM,
+        held: &[
+            ("od.pddl", Some(TWO_SLOTS_DOMAIN)),
+            ("op.pddl", Some(TWO_SLOTS_PROBLEM)),
+        ],
     },
     Printed {
         options: &["--style", "flat", "--bound", "2"],
         told: "slots 2\n",
-        domain: TWO_SLOTS_FLAT_DOMAIN,
-        problem: TWO_SLOTS_FLAT_PROBLEM,
+        held: &[
+            ("od.pddl", Some(TWO_SLOTS_FLAT_DOMAIN)),
+            ("op.pddl", Some(TWO_SLOTS_FLAT_PROBLEM)),
+        ],
     },
 ];
 
 /// Modes of checks. No check is made here, so each prints the same.
 const MODES: &[&[&str]] = &[&[], &["--checks", "leaf"], &["--checks", "atonce"]];
 
-fn prints(rt: &impl Abort, alloc: Global, printed: &Printed, mode: &[&str]) -> Result<(), Memory> {
+fn prints(
+    rt: &impl Abort,
+    alloc: Global,
+    printed: &Printed,
+    mode: &'static [&'static str],
+) -> Result<(), Memory> {
     replay(
         rt,
         alloc,
         &Row {
-            files: &[("d.hddl", &[(DOMAIN, 1)]), ("p.hddl", &[(PROBLEM, 1)])],
+            before: Before::Both(Source::Text(DOMAIN), Source::Text(PROBLEM)),
             failing: Failing::Nothing,
-            words: &[TRANSLATE, printed.options, mode],
+            command: TRANSLATE,
+            options: printed.options,
+            more: mode,
             status: Status::Done,
             out: printed.told,
             err: "",
-            held: &[
-                ("od.pddl", Some(printed.domain)),
-                ("op.pddl", Some(printed.problem)),
-            ],
+            held: printed.held,
         },
     )
 }
@@ -186,17 +199,16 @@ fn the_smallest_problem(rt: HostRuntime) -> Result<(), Fail> {
 }
 
 /// An empty network; costs, which are dropped; and a bound alone.
-const OTHERS: &[Row<'static>] = &[
+const OTHERS: &[Row] = &[
     Row {
-        files: &[
-            ("d.hddl", &[(DOMAIN, 1)]),
-            (
-                "p.hddl",
-                &[("(define (problem p) (:domain d) (:htn :subtasks ()))", 1)],
-            ),
-        ],
+        before: Before::Both(
+            Source::Text(DOMAIN),
+            Source::Text("(define (problem p) (:domain d) (:htn :subtasks ()))"),
+        ),
         failing: Failing::Nothing,
-        words: &[TRANSLATE, &["--bound", "1"]],
+        command: TRANSLATE,
+        options: &["--bound", "1"],
+        more: &[],
         status: Status::Done,
         out: "slots 1\n",
         err: "",
@@ -206,12 +218,11 @@ const OTHERS: &[Row<'static>] = &[
         ],
     },
     Row {
-        files: &[
-            ("d.hddl", &[(COSTS_DOMAIN, 1)]),
-            ("p.hddl", &[(COSTS_PROBLEM, 1)]),
-        ],
+        before: Before::Both(Source::Text(COSTS_DOMAIN), Source::Text(COSTS_PROBLEM)),
         failing: Failing::Nothing,
-        words: &[TRANSLATE, &["--bound", "1"]],
+        command: TRANSLATE,
+        options: &["--bound", "1"],
+        more: &[],
         status: Status::Done,
         out: "slots 1\n",
         err: "",
@@ -221,20 +232,19 @@ const OTHERS: &[Row<'static>] = &[
         ],
     },
     Row {
-        files: &[("d.hddl", &[(DOMAIN, 1)]), ("p.hddl", &[(PROBLEM, 1)])],
+        before: Before::Both(Source::Text(DOMAIN), Source::Text(PROBLEM)),
         failing: Failing::Nothing,
-        words: &[&["bound", "d.hddl", "p.hddl", "--checks", "atonce"]],
+        command: BOUND,
+        options: &["--checks", "atonce"],
+        more: &[],
         status: Status::Done,
         out: "1\n",
         err: "",
-        held: &[("od.pddl", None)],
+        held: UNWRITTEN,
     },
 ];
 
 #[test]
 fn other_runs(rt: HostRuntime) -> Result<(), Fail> {
-    for row in OTHERS {
-        replay(&rt, rt.alloc(), row)?;
-    }
-    Ok(())
+    Ok(replay_all(&rt, rt.alloc(), OTHERS)?)
 }

@@ -1,11 +1,9 @@
 //! A printed problem with four slots, in conjunctions of literals: vehicle `v` is to get from `a` to `b`, over as many roads
 //! as it likes. At each road the task is decomposed by `m` and its first subtask, the drive `d`, is done. Names have one
 //! letter, so that a million steps are no longer than a text may be.
-use super::{Failing, Piece, Row, VALIDATE, replay};
+use super::validations::ends;
+use super::{Before, Source};
 use crate::Status;
-use htn_base::Memory;
-use std::alloc::Global;
-use std::process::Abort;
 use std::test::Fail;
 
 const DOMAIN: &str = concat!(
@@ -38,51 +36,30 @@ const THERE: &str = "(m p q v a b b)(d q v a b)";
 
 const THERE_AND_BACK: &str = "(m p q v a b b)(d q v a b)(m p q v b a b)(d q v b a)";
 
-fn drives(
-    rt: &impl Abort,
-    alloc: Global,
-    plan: &[Piece<'_>],
-    status: Status,
-    out: &str,
-    err: &str,
-) -> Result<(), Memory> {
-    replay(
-        rt,
-        alloc,
-        &Row {
-            files: &[
-                ("pd", &[(DOMAIN, 1)]),
-                ("pp", &[(PROBLEM, 1)]),
-                ("plan", plan),
-            ],
-            failing: Failing::Nothing,
-            words: &[VALIDATE],
-            status,
-            out,
-            err,
-            held: &[],
-        },
-    )
-}
-
 /// The vehicle starts, drives an odd number of times, and is there.
 #[test]
 fn a_million_steps(rt: HostRuntime) -> Result<(), Fail> {
-    let plan = [
-        ("(o p)", 1),
-        (THERE_AND_BACK, 249_999),
-        (THERE, 1),
-        ("(e p v b)", 1),
-    ];
-    drives(&rt, rt.alloc(), &plan, Status::Done, "valid\n", "")?;
-    Ok(())
+    let before = Before::Plan(
+        Source::Text(DOMAIN),
+        Source::Text(PROBLEM),
+        Source::Times(&[
+            ("(o p)", 1),
+            (THERE_AND_BACK, 249_999),
+            (THERE, 1),
+            ("(e p v b)", 1),
+        ]),
+    );
+    Ok(ends(&rt, rt.alloc(), before, Status::Done, "")?)
 }
 
 /// Without the last drive the vehicle is not there.
 #[test]
 fn two_steps_less(rt: HostRuntime) -> Result<(), Fail> {
-    let plan = [("(o p)", 1), (THERE_AND_BACK, 249_999), ("(e p v b)", 1)];
-    let err = "not a plan: step 999998 Condition\n";
-    drives(&rt, rt.alloc(), &plan, Status::Finding, "", err)?;
-    Ok(())
+    let before = Before::Plan(
+        Source::Text(DOMAIN),
+        Source::Text(PROBLEM),
+        Source::Times(&[("(o p)", 1), (THERE_AND_BACK, 249_999), ("(e p v b)", 1)]),
+    );
+    let line = "not a plan: step 999998 Condition\n";
+    Ok(ends(&rt, rt.alloc(), before, Status::Finding, line)?)
 }

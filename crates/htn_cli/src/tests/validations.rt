@@ -1,6 +1,6 @@
 //! Lists that are plans, or none, of two PDDL texts. Each line was found by hand, from the rules for plans and for faults.
 use super::texts::{ONE_SLOT_DOMAIN, ONE_SLOT_PROBLEM};
-use super::{Failing, Piece, Row, VALIDATE, replay};
+use super::{Before, Failing, Row, Source, VALIDATE, replay};
 use crate::Status;
 use htn_base::Memory;
 use std::alloc::Global;
@@ -223,19 +223,15 @@ const JUDGED: &[Judged] = &[
     },
 ];
 
-/// Two texts in pieces, a list of steps, and how a validation ends.
-#[derive(Clone, Copy)]
-pub(super) struct Case<'a> {
-    pub(super) domain: &'a [Piece<'a>],
-    pub(super) problem: &'a [Piece<'a>],
-    pub(super) plan: &'a str,
-    pub(super) status: Status,
-    pub(super) err: &'a str,
-}
-
-/// A validation ends as the case says, and leaves the plan as it is.
-pub(super) fn ends(rt: &impl Abort, alloc: Global, case: &Case<'_>) -> Result<(), Memory> {
-    let out = match case.status {
+/// A validation ends with this status and this line.
+pub(super) fn ends(
+    rt: &impl Abort,
+    alloc: Global,
+    before: Before,
+    status: Status,
+    err: &'static str,
+) -> Result<(), Memory> {
+    let out = match status {
         Status::Done => "valid\n",
         _ => "",
     };
@@ -243,31 +239,15 @@ pub(super) fn ends(rt: &impl Abort, alloc: Global, case: &Case<'_>) -> Result<()
         rt,
         alloc,
         &Row {
-            files: &[
-                ("pd", case.domain),
-                ("pp", case.problem),
-                ("plan", &[(case.plan, 1)]),
-            ],
+            before,
             failing: Failing::Nothing,
-            words: &[VALIDATE],
-            status: case.status,
+            command: VALIDATE,
+            options: &[],
+            more: &[],
+            status,
             out,
-            err: case.err,
-            held: &[("plan", Some(case.plan))],
-        },
-    )
-}
-
-fn lists(rt: &impl Abort, alloc: Global, row: &Listed) -> Result<(), Memory> {
-    ends(
-        rt,
-        alloc,
-        &Case {
-            domain: &[(ONE_SLOT_DOMAIN, 1)],
-            problem: &[(ONE_SLOT_PROBLEM, 1)],
-            plan: row.plan,
-            status: row.status,
-            err: row.err,
+            err,
+            held: &[],
         },
     )
 }
@@ -275,29 +255,25 @@ fn lists(rt: &impl Abort, alloc: Global, row: &Listed) -> Result<(), Memory> {
 #[test]
 fn lists_for_the_smallest_problem(rt: HostRuntime) -> Result<(), Fail> {
     for row in OF_THE_SMALLEST {
-        lists(&rt, rt.alloc(), row)?;
+        let before = Before::Plan(
+            Source::Text(ONE_SLOT_DOMAIN),
+            Source::Text(ONE_SLOT_PROBLEM),
+            Source::Text(row.plan),
+        );
+        ends(&rt, rt.alloc(), before, row.status, row.err)?;
     }
     Ok(())
-}
-
-fn judges(rt: &impl Abort, alloc: Global, row: &Judged) -> Result<(), Memory> {
-    ends(
-        rt,
-        alloc,
-        &Case {
-            domain: &[(row.domain, 1)],
-            problem: &[(row.problem, 1)],
-            plan: row.plan,
-            status: row.status,
-            err: row.err,
-        },
-    )
 }
 
 #[test]
 fn lists_for_other_texts(rt: HostRuntime) -> Result<(), Fail> {
     for row in JUDGED {
-        judges(&rt, rt.alloc(), row)?;
+        let before = Before::Plan(
+            Source::Text(row.domain),
+            Source::Text(row.problem),
+            Source::Text(row.plan),
+        );
+        ends(&rt, rt.alloc(), before, row.status, row.err)?;
     }
     Ok(())
 }
@@ -305,22 +281,11 @@ fn lists_for_other_texts(rt: HostRuntime) -> Result<(), Fail> {
 /// One step more than there may be.
 #[test]
 fn too_many_steps(rt: HostRuntime) -> Result<(), Fail> {
-    replay(
-        &rt,
-        rt.alloc(),
-        &Row {
-            files: &[
-                ("pd", &[(COSTS, 1)]),
-                ("pp", &[(NOTHING, 1)]),
-                ("plan", &[("(a)", 1_000_001)]),
-            ],
-            failing: Failing::Nothing,
-            words: &[VALIDATE],
-            status: Status::Limit,
-            out: "",
-            err: "limit steps 1000001\n",
-            held: &[],
-        },
-    )?;
-    Ok(())
+    let before = Before::Plan(
+        Source::Text(COSTS),
+        Source::Text(NOTHING),
+        Source::Times(&[("(a)", 1_000_001)]),
+    );
+    let line = "limit steps 1000001\n";
+    Ok(ends(&rt, rt.alloc(), before, Status::Limit, line)?)
 }

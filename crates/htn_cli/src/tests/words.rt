@@ -1,6 +1,6 @@
 //! Words that no command has.
 use super::texts::{DOMAIN, PROBLEM};
-use super::{Failing, Row, TRANSLATE, replay};
+use super::{Before, Failing, Row, Source, TRANSLATE, UNWRITTEN, replay};
 use crate::Status;
 use htn_base::Memory;
 use std::alloc::Global;
@@ -47,18 +47,25 @@ const OPTIONS: &[&[&str]] = &[
     &["--bound", "1", "--slots", "1"],
 ];
 
-fn refuses(rt: &impl Abort, alloc: Global, words: &[&[&str]]) -> Result<(), Memory> {
+fn refuses(
+    rt: &impl Abort,
+    alloc: Global,
+    command: &'static [&'static str],
+    options: &'static [&'static str],
+) -> Result<(), Memory> {
     replay(
         rt,
         alloc,
         &Row {
-            files: &[("d.hddl", &[(DOMAIN, 1)]), ("p.hddl", &[(PROBLEM, 1)])],
+            before: Before::Both(Source::Text(DOMAIN), Source::Text(PROBLEM)),
             failing: Failing::Nothing,
-            words,
+            command,
+            options,
+            more: &[],
             status: Status::Words,
             out: "",
             err: "words refused\n",
-            held: &[("od.pddl", None), ("op.pddl", None)],
+            held: UNWRITTEN,
         },
     )
 }
@@ -66,7 +73,7 @@ fn refuses(rt: &impl Abort, alloc: Global, words: &[&[&str]]) -> Result<(), Memo
 #[test]
 fn words_of_no_form(rt: HostRuntime) -> Result<(), Fail> {
     for words in WORDS {
-        refuses(&rt, rt.alloc(), &[words])?;
+        refuses(&rt, rt.alloc(), words, &[])?;
     }
     Ok(())
 }
@@ -74,7 +81,7 @@ fn words_of_no_form(rt: HostRuntime) -> Result<(), Fail> {
 #[test]
 fn options_of_no_form(rt: HostRuntime) -> Result<(), Fail> {
     for options in OPTIONS {
-        refuses(&rt, rt.alloc(), &[TRANSLATE, options])?;
+        refuses(&rt, rt.alloc(), TRANSLATE, options)?;
     }
     Ok(())
 }
