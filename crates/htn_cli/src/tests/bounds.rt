@@ -3,10 +3,8 @@ use super::rows::{BOUNDED, Bounded};
 use super::texts::{DOMAIN, PROBLEM};
 use super::{BOUND, Before, Failing, Row, Source, TRANSLATE, UNWRITTEN, replay};
 use crate::Status;
-use htn_base::Memory;
 use std::alloc::Global;
 use std::process::Abort;
-use std::test::Fail;
 
 const MANNERS: &[&[&str]] = &[
     &[],
@@ -21,7 +19,7 @@ fn has_slots(
     slots: &'static [&'static str],
     manner: &'static [&'static str],
     out: &'static str,
-) -> Result<(), Memory> {
+) {
     replay(
         rt,
         alloc,
@@ -36,11 +34,11 @@ fn has_slots(
             err: "",
             held: &[],
         },
-    )
+    );
 }
 
 #[test]
-fn many_slots(rt: HostRuntime) -> Result<(), Fail> {
+fn many_slots(rt: HostRuntime) {
     for manner in MANNERS {
         has_slots(
             &rt,
@@ -48,13 +46,12 @@ fn many_slots(rt: HostRuntime) -> Result<(), Fail> {
             &["--bound", "4096"],
             manner,
             "slots 4096\n",
-        )?;
+        );
     }
-    Ok(())
 }
 
 #[test]
-fn as_many_slots_as_there_may_be(rt: HostRuntime) -> Result<(), Fail> {
+fn as_many_slots_as_there_may_be(rt: HostRuntime) {
     for manner in MANNERS {
         has_slots(
             &rt,
@@ -62,9 +59,8 @@ fn as_many_slots_as_there_may_be(rt: HostRuntime) -> Result<(), Fail> {
             &["--bound", "65536"],
             manner,
             "slots 65536\n",
-        )?;
+        );
     }
-    Ok(())
 }
 
 /// Numbers of slots past a limit, and the line.
@@ -85,12 +81,7 @@ const PAST: &[(&[&str], &str)] = &[
 ];
 
 /// There are no files: none is read.
-fn is_past(
-    rt: &impl Abort,
-    alloc: Global,
-    slots: &'static [&'static str],
-    err: &'static str,
-) -> Result<(), Memory> {
+fn is_past(rt: &impl Abort, alloc: Global, slots: &'static [&'static str], err: &'static str) {
     replay(
         rt,
         alloc,
@@ -105,18 +96,17 @@ fn is_past(
             err,
             held: UNWRITTEN,
         },
-    )
+    );
 }
 
 #[test]
-fn slots_past_a_limit(rt: HostRuntime) -> Result<(), Fail> {
+fn slots_past_a_limit(rt: HostRuntime) {
     for (slots, err) in PAST {
-        is_past(&rt, rt.alloc(), slots, err)?;
+        is_past(&rt, rt.alloc(), slots, err);
     }
-    Ok(())
 }
 
-fn is_bounded(rt: &impl Abort, alloc: Global, row: &Bounded) -> Result<(), Memory> {
+fn is_bounded(rt: &impl Abort, alloc: Global, row: &Bounded) {
     replay(
         rt,
         alloc,
@@ -131,13 +121,12 @@ fn is_bounded(rt: &impl Abort, alloc: Global, row: &Bounded) -> Result<(), Memor
             err: "",
             held: UNWRITTEN,
         },
-    )
+    );
 }
 
 #[test]
-fn computed_bounds(rt: HostRuntime) -> Result<(), Fail> {
+fn computed_bounds(rt: HostRuntime) {
     for row in BOUNDED {
-        is_bounded(&rt, rt.alloc(), row)?;
+        is_bounded(&rt, rt.alloc(), row);
     }
-    Ok(())
 }

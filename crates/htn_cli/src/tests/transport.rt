@@ -4,7 +4,6 @@
 use super::validations::ends;
 use super::{Before, Source};
 use crate::Status;
-use std::test::Fail;
 
 const DOMAIN: &str = concat!(
     "(define (domain d) (:types slot other - object location vehicle - other)",
@@ -38,7 +37,7 @@ const THERE_AND_BACK: &str = "(m p q v a b b)(d q v a b)(m p q v b a b)(d q v b 
 
 /// The vehicle starts, drives an odd number of times, and is there.
 #[test]
-fn a_million_steps(rt: HostRuntime) -> Result<(), Fail> {
+fn a_million_steps(rt: HostRuntime) {
     let before = Before::Plan(
         Source::Text(DOMAIN),
         Source::Text(PROBLEM),
@@ -49,17 +48,17 @@ fn a_million_steps(rt: HostRuntime) -> Result<(), Fail> {
             ("(e p v b)", 1),
         ]),
     );
-    Ok(ends(&rt, rt.alloc(), before, Status::Done, "")?)
+    ends(&rt, rt.alloc(), before, Status::Done, "");
 }
 
 /// Without the last drive the vehicle is not there.
 #[test]
-fn two_steps_less(rt: HostRuntime) -> Result<(), Fail> {
+fn two_steps_less(rt: HostRuntime) {
     let before = Before::Plan(
         Source::Text(DOMAIN),
         Source::Text(PROBLEM),
         Source::Times(&[("(o p)", 1), (THERE_AND_BACK, 249_999), ("(e p v b)", 1)]),
     );
     let line = "not a plan: step 999998 Condition\n";
-    Ok(ends(&rt, rt.alloc(), before, Status::Finding, line)?)
+    ends(&rt, rt.alloc(), before, Status::Finding, line);
 }
