@@ -8,7 +8,8 @@ ghost use Rattle.slot_encoder.specs.Made as made;
 
 use crate::atoms::{held, is_free};
 use crate::conditions::{push_condition, push_waits};
-use crate::split_action::SplitAction;
+use crate::formulas::equal;
+use crate::split_action::{Opening, SplitAction};
 use crate::splitting::method_effects;
 use crate::terms::moved;
 use crate::variables::{Variables, variables_of};
@@ -31,20 +32,82 @@ pub(crate) fn encoded_method(
     requires check { check ≡ names.check_predicate frame.now.compiled.now m }
     ensures { IfOk result (λ a. whole a ≡ made.method_action frame.now m plan.now) }
 {
-    let name = method_name(alloc, frame, m, plan)?;
     let variables = variables_of(alloc, plan)?;
-    let params = method_params(alloc, frame, plan, &variables)?;
-    let before = conditions_before(alloc, frame, plan, &variables)?;
+    let action = method_action(alloc, frame, m, check, plan, &variables);
+    drop(variables);
+    action
+}
+
+fn method_action(
+    alloc: Global,
+    frame: &Frame<'_>,
+    m: u32,
+    check: u32,
+    plan: &MethodPlan,
+    variables: &Variables,
+) -> Result<SplitAction, Memory>
+    requires frame { IsFrame frame.now }
+    requires check { check ≡ names.check_predicate frame.now.compiled.now m }
+    requires variables { AreVariables plan.now variables.now }
+    ensures { IfOk result (λ a. whole a ≡ made.method_action frame.now m plan.now) }
+{
+    let name = method_name(alloc, frame, m, plan)?;
+    let opening = method_opening(alloc, frame, plan, variables)?;
+    match method_rest(alloc, frame, check, plan, variables) {
+        Ok(rest) => Ok(SplitAction {
+            name,
+            params: opening.params,
+            before: opening.before,
+            spare: variables.spare,
+            behind: rest.behind,
+            eff: Effect::And(rest.effects),
+        }),
+        Err(memory) => {
+            drop(opening);
+            Err(memory)
+        }
+    }
+}
+
+fn method_opening(
+    alloc: Global,
+    frame: &Frame<'_>,
+    plan: &MethodPlan,
+    variables: &Variables,
+) -> Result<Opening, Memory>
+    requires frame { IsFrame frame.now }
+    requires variables { AreVariables plan.now variables.now }
+    ensures params { IfOk result (λ o. o.params ≡ made.method_params frame.now plan.now) }
+    ensures before { IfOk result (λ o. o.before ≡ made.method_before frame.now plan.now) }
+{
+    let params = method_params(alloc, frame, plan, variables)?;
+    let before = conditions_before(alloc, frame, plan, variables)?;
+    Ok(Opening { params, before })
+}
+
+/// What a method's action has behind that the new slots differ: further conditions, and the effects.
+#[derive(Drop)]
+struct Rest {
+    behind: List<Formula>,
+    effects: List<Effect>,
+}
+
+fn method_rest(
+    alloc: Global,
+    frame: &Frame<'_>,
+    check: u32,
+    plan: &MethodPlan,
+    variables: &Variables,
+) -> Result<Rest, Memory>
+    requires frame { IsFrame frame.now }
+    requires variables { AreVariables plan.now variables.now }
+    ensures behind { IfOk result (λ r.
+        r.behind ≡ made.method_behind frame.now variables.now.front plan.now) }
+    ensures effects { IfOk result (λ r. r.effects ≡ made.method_eff frame.now check plan.now) }
+{
     let behind = conditions_behind(alloc, frame, variables.front, plan)?;
-    let effects = method_effects(alloc, frame, check, plan, &variables)?;
-    Ok(SplitAction {
-        name,
-        params,
-        before,
-        spare: variables.spare,
-        behind,
-        eff: Effect::And(effects),
-    })
+    let effects = method_effects(alloc, frame, check, plan, variables)?;
+    Ok(Rest { behind, effects })
 }
 
 fn method_name(alloc: Global, frame: &Frame<'_>, m: u32, plan: &MethodPlan) -> Result<Name, Memory>
@@ -190,8 +253,7 @@ fn constraint(
 ) -> Result<Formula, Memory>
     ensures { IfOk result (λ f. f ≡ made.constraint frame.now front one.now) }
 {
-    let left = moved(frame, front, one.left)?;
-    let equal = Formula::Equal(left, moved(frame, front, one.right)?);
+    let equal = equal(frame, front, one.left, one.right)?;
     if one.equal {
         Ok(equal)
     } else {

@@ -3,10 +3,10 @@ ghost use Rattle.plan_model.specs.Facts.{atom_of};
 ghost use Rattle.plan_model.specs.Numbers as spec;
 ghost use Rattle.plan_meaning.specs.Compilation.{once};
 ghost use Rattle.slot_encoding.specs.EncodedValue.{same_atom};
-ghost use Rattle.slot_encoder.specs.SeenFacts.{Meets};
+ghost use Rattle.slot_encoder.specs.SeenFacts.{HasMet, Meets, AddsNew};
 
 use htn_base::Memory;
-use plan_model::Facts;
+use plan_model::{Fact, Facts};
 use std::alloc::Global;
 use std::collections::HashSet;
 
@@ -25,14 +25,43 @@ pub(crate) fn push_single(
         numbers: HashSet::new(alloc),
         keys: HashSet::new(alloc),
     };
+    let put = push_unseen(alloc, facts, &mut seen, into);
+    drop(seen);
+    put
+}
+
+/// The same where no fact was met yet.
+fn push_unseen(
+    alloc: Global,
+    facts: &Facts,
+    seen: &mut Seen,
+    into: &mut Facts,
+) -> Result<(), Memory>
+    requires { HasMet seen.old [] }
+    ensures { OnOk result (into.new ≡ into.old ++ once same_atom facts.now) }
+{
     let mut args = Vec::new(alloc);
     for i in 0..facts.len() {
         if let Some(fact) = facts.get(i) {
-            fact.args.copy_into(&mut args)?;
-            let new = seen.insert(alloc, fact.predicate, args.as_slice())?;
-            push_new(new, fact.predicate, args.as_slice(), into)?;
+            push_fact(alloc, &fact, &mut args, seen, into)?;
         }
     }
+    Ok(())
+}
+
+/// Puts the fact at the end, if it is new. `args` is room for its objects.
+fn push_fact(
+    alloc: Global,
+    fact: &Fact<'_>,
+    args: &mut Vec<u32>,
+    seen: &mut Seen,
+    into: &mut Facts,
+) -> Result<(), Memory>
+    ensures { OnOk result (AddsNew fact.now seen.old into.old seen.new into.new) }
+{
+    fact.args.copy_into(args)?;
+    let new = seen.insert(alloc, fact.predicate, args.as_slice())?;
+    push_new(new, fact.predicate, args.as_slice(), into)?;
     Ok(())
 }
 

@@ -21,6 +21,13 @@ pub struct SplitAction {
     pub eff: Effect,
 }
 
+/// What an action begins with: its parameters, and the first parts of its condition.
+#[derive(Drop)]
+pub(crate) struct Opening {
+    pub params: List<Param>,
+    pub before: List<Formula>,
+}
+
 impl SplitAction {
     /// The action with all its parts.
     pub fn whole(self, alloc: Global) -> Result<ActionSchema, Memory>

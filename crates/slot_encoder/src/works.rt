@@ -1,11 +1,12 @@
-ghost use Rattle.std.specs.Prelude.{◌≡◌, IfOk};
+ghost use Rattle.std.specs.Prelude.{suc, ◌≡◌, ◌∷◌, ◌++◌, IfOk, OnOk};
+ghost use Rattle.plan_model.specs.declared.formulas.Formula.TheVariants as F;
 ghost use Rattle.slot_encoder.specs.Encodings.{whole};
 ghost use Rattle.slot_declarations.specs.Frames.{IsFrame};
 ghost use Rattle.slot_encoder.specs.Made as made;
 
 use crate::atoms::held_work;
 use crate::conditions::{push_change, push_condition, push_waits};
-use crate::split_action::SplitAction;
+use crate::split_action::{Opening, SplitAction};
 use crate::splitting::freeing;
 use htn_base::{List, Memory, number};
 use plan_model::{ActionSchema, Effect, Formula, MethodPlan, Param};
@@ -24,19 +25,38 @@ pub(crate) fn encoded_action(
 {
     let predicate = plus(frame.basis.numbers.first_action, a)?;
     let count = number(action.params.len())?;
-    let name = renamed(frame, action.name);
-    let params = work_params(alloc, frame, action.params.as_slice())?;
-    let before = work_conditions(alloc, frame, predicate, count, &action.pre)?;
+    let params = action.params.as_slice();
+    let opening = work_opening(alloc, frame, predicate, count, params, &action.pre)?;
+    match action_effects(alloc, frame, predicate, count, &action.eff) {
+        Ok(effects) => Ok(SplitAction {
+            name: renamed(frame, action.name),
+            params: opening.params,
+            before: opening.before,
+            spare: 0,
+            behind: List::new(alloc),
+            eff: Effect::And(effects),
+        }),
+        Err(memory) => {
+            drop(opening);
+            Err(memory)
+        }
+    }
+}
+
+fn action_effects(
+    alloc: Global,
+    frame: &Frame<'_>,
+    predicate: u32,
+    count: u32,
+    effect: &Effect,
+) -> Result<List<Effect>, Memory>
+    requires { IsFrame frame.now }
+    ensures { IfOk result (λ es.
+        es ≡ made.work_eff frame.now predicate count ++ made.change frame.now 1 effect.now) }
+{
     let mut effects = work_effects(alloc, frame, predicate, count)?;
-    push_change(alloc, frame, 1, &action.eff, &mut effects)?;
-    Ok(SplitAction {
-        name,
-        params,
-        before,
-        spare: 0,
-        behind: List::new(alloc),
-        eff: Effect::And(effects),
-    })
+    push_change(alloc, frame, 1, effect, &mut effects)?;
+    Ok(effects)
 }
 
 /// The action of method `m`'s check, whose predicate is `check`.
@@ -52,17 +72,39 @@ pub(crate) fn encoded_check(
     let schema = &plan.schema;
     let count = number(schema.params.len())?;
     let name = prefixed(alloc, frame, b"htn_c_", schema.name)?;
-    let params = work_params(alloc, frame, schema.params.as_slice())?;
-    let before = work_conditions(alloc, frame, check, count, &schema.pre)?;
-    let effects = work_effects(alloc, frame, check, count)?;
-    Ok(SplitAction {
-        name,
-        params,
-        before,
-        spare: 0,
-        behind: List::new(alloc),
-        eff: Effect::And(effects),
-    })
+    let params = schema.params.as_slice();
+    let opening = work_opening(alloc, frame, check, count, params, &schema.pre)?;
+    match work_effects(alloc, frame, check, count) {
+        Ok(effects) => Ok(SplitAction {
+            name,
+            params: opening.params,
+            before: opening.before,
+            spare: 0,
+            behind: List::new(alloc),
+            eff: Effect::And(effects),
+        }),
+        Err(memory) => {
+            drop(opening);
+            Err(memory)
+        }
+    }
+}
+
+fn work_opening(
+    alloc: Global,
+    frame: &Frame<'_>,
+    predicate: u32,
+    count: u32,
+    params: &[Param],
+    pre: &Formula,
+) -> Result<Opening, Memory>
+    requires { IsFrame frame.now }
+    ensures params { IfOk result (λ o. o.params ≡ made.work_params frame.now params.now) }
+    ensures before { IfOk result (λ o. o.before ≡ made.work_pre frame.now predicate count pre.now) }
+{
+    let params = work_params(alloc, frame, params)?;
+    let before = work_conditions(alloc, frame, predicate, count, pre)?;
+    Ok(Opening { params, before })
 }
 
 /// The slot, and then the parameters.
@@ -88,10 +130,25 @@ fn work_conditions(
     ensures { IfOk result (λ fs. fs ≡ made.work_pre frame.now predicate count pre.now) }
 {
     let mut into = List::new(alloc);
-    into.push(Formula::Holds(held_work(alloc, predicate, count)?))?;
-    push_waits(alloc, frame, plus(count, 1)?, &mut into)?;
+    push_ready(alloc, frame, predicate, count, &mut into)?;
     push_condition(alloc, frame, 1, pre, &mut into)?;
     Ok(into)
+}
+
+/// Puts at the end that the work is held in the slot with nothing before it.
+fn push_ready(
+    alloc: Global,
+    frame: &Frame<'_>,
+    predicate: u32,
+    count: u32,
+    into: &mut List<Formula>,
+) -> Result<(), Memory>
+    requires { IsFrame frame.now }
+    ensures { OnOk result (into.new ≡ into.old ++
+        F.Holds (made.work_atom frame.now predicate count) ∷ made.waiting frame.now (suc count)) }
+{
+    into.push(Formula::Holds(held_work(alloc, predicate, count)?))?;
+    push_waits(alloc, frame, plus(count, 1)?, into)
 }
 
 fn work_effects(

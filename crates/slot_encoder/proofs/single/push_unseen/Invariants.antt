@@ -2,7 +2,7 @@ use Rattle.std.proofs.Common.{◌≡◌, ◌++◌, take}
 use Rattle.plan_meaning.specs.Compilation.{once}
 use Rattle.slot_encoding.specs.EncodedValue.{same_atom}
 use Rattle.slot_encoder.specs.SeenFacts.{HasMet}
-use Rattle.slot_encoder.proofs.single.push_single.Given as goal
+use Rattle.slot_encoder.proofs.single.push_unseen.Given as goal
 
 abbrev pub invariant-loop-i : goal.invariant-loop-i
 invariant-loop-i l = record {
