@@ -1,5 +1,5 @@
 //! Tests of calls that crates make public, but those that read texts: each call that may want memory is made once with ample memory,
-//! and its answer compared with one that is known from outside of the program.
+//! here or by the program for printed rows, and its answer compared with one that is known from outside of the program.
 //!
 //! It stands on the crates that it tests, a file for each, and nothing stands on it. A test here costs no crate below a second proof.
 #![tactic(auto)]
