@@ -1,13 +1,11 @@
 ghost use Rattle.std.specs.Prelude.{◌≡◌, map, IfOk};
-ghost use Rattle.plan_model.specs.declared.effects.Effect.TheVariants as E;
 ghost use Rattle.slot_declarations.specs.Frames.{IsFrame};
-ghost use Rattle.slot_declarations.specs.Made as declarations;
 ghost use Rattle.slot_encoder.specs.Made as made;
 
 use crate::formulas::source_formula;
 use crate::terms::source_atom;
 use htn_base::{Boxed, List, Memory};
-use plan_model::{Effect, Formula, Param};
+use plan_model::Effect;
 use slot_declarations::{Frame, source_params};
 use std::alloc::Global;
 
@@ -27,49 +25,12 @@ pub(crate) fn source_effect(
         Effect::Delete(atom) => Ok(Effect::Delete(source_atom(alloc, frame, front, atom)?)),
         Effect::And(parts) => Ok(Effect::And(listed(alloc, frame, front, parts)?)),
         Effect::Forall(params, body) => {
-            let body = boxed(alloc, frame, front, body)?;
-            universal(alloc, frame, params.as_slice(), body)
+            let params = source_params(alloc, frame, params.as_slice())?;
+            Ok(Effect::Forall(params, boxed(alloc, frame, front, body)?))
         }
         Effect::When(condition, body) => {
-            let body = boxed(alloc, frame, front, body)?;
-            conditional(alloc, frame, front, condition, body)
-        }
-    }
-}
-
-fn universal(
-    alloc: Global,
-    frame: &Frame<'_>,
-    params: &[Param],
-    body: Boxed<Effect>,
-) -> Result<Effect, Memory>
-    requires { IsFrame frame.now }
-    ensures { IfOk result (λ e. e ≡ E.Forall (map (declarations.param frame.now) params.now) body) }
-{
-    match source_params(alloc, frame, params) {
-        Ok(params) => Ok(Effect::Forall(params, body)),
-        Err(memory) => {
-            drop(body);
-            Err(memory)
-        }
-    }
-}
-
-fn conditional(
-    alloc: Global,
-    frame: &Frame<'_>,
-    front: u32,
-    condition: &Formula,
-    body: Boxed<Effect>,
-) -> Result<Effect, Memory>
-    requires { IsFrame frame.now }
-    ensures { IfOk result (λ e. e ≡ E.When (made.formula frame.now front condition.now) body) }
-{
-    match source_formula(alloc, frame, front, condition) {
-        Ok(condition) => Ok(Effect::When(condition, body)),
-        Err(memory) => {
-            drop(body);
-            Err(memory)
+            let condition = source_formula(alloc, frame, front, condition)?;
+            Ok(Effect::When(condition, boxed(alloc, frame, front, body)?))
         }
     }
 }

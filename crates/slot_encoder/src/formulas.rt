@@ -1,12 +1,10 @@
-ghost use Rattle.std.specs.Prelude.{◌≡◌, map, IfOk, IsOkAnd};
-ghost use Rattle.plan_model.specs.declared.formulas.Formula.TheVariants as F;
+ghost use Rattle.std.specs.Prelude.{◌≡◌, map, IfOk};
 ghost use Rattle.slot_declarations.specs.Frames.{IsFrame};
-ghost use Rattle.slot_declarations.specs.Made as declarations;
 ghost use Rattle.slot_encoder.specs.Made as made;
 
 use crate::terms::{moved, source_atom};
 use htn_base::{Boxed, List, Memory};
-use plan_model::{Formula, Param, Term};
+use plan_model::Formula;
 use slot_declarations::{Frame, source_params};
 use std::alloc::Global;
 
@@ -23,85 +21,24 @@ pub(crate) fn source_formula(
 {
     match formula {
         Formula::Holds(atom) => Ok(Formula::Holds(source_atom(alloc, frame, front, atom)?)),
-        Formula::Equal(left, right) => equal(frame, front, *left, *right),
+        Formula::Equal(left, right) => {
+            let left = moved(frame, front, *left)?;
+            Ok(Formula::Equal(left, moved(frame, front, *right)?))
+        }
         Formula::Not(part) => Ok(Formula::Not(boxed(alloc, frame, front, part)?)),
         Formula::And(parts) => Ok(Formula::And(listed(alloc, frame, front, parts)?)),
         Formula::Or(parts) => Ok(Formula::Or(listed(alloc, frame, front, parts)?)),
         Formula::Imply(premise, conclusion) => {
             let premise = boxed(alloc, frame, front, premise)?;
-            implied(premise, boxed(alloc, frame, front, conclusion))
+            Ok(Formula::Imply(premise, boxed(alloc, frame, front, conclusion)?))
         }
         Formula::Forall(params, body) => {
-            let body = boxed(alloc, frame, front, body)?;
-            universal(alloc, frame, params.as_slice(), body)
+            let params = source_params(alloc, frame, params.as_slice())?;
+            Ok(Formula::Forall(params, boxed(alloc, frame, front, body)?))
         }
         Formula::Exists(params, body) => {
-            let body = boxed(alloc, frame, front, body)?;
-            existential(alloc, frame, params.as_slice(), body)
-        }
-    }
-}
-
-pub(crate) fn equal(
-    frame: &Frame<'_>,
-    front: u32,
-    left: Term,
-    right: Term,
-) -> Result<Formula, Memory>
-    ensures { IfOk result (λ f.
-        f ≡ F.Equal (made.term frame.now front left) (made.term frame.now front right)) }
-{
-    let left = moved(frame, front, left)?;
-    Ok(Formula::Equal(left, moved(frame, front, right)?))
-}
-
-fn implied(
-    premise: Boxed<Formula>,
-    conclusion: Result<Boxed<Formula>, Memory>,
-) -> Result<Formula, Memory>
-    ensures { IfOk result (λ f. IsOkAnd conclusion (λ c. f ≡ F.Imply premise c)) }
-{
-    match conclusion {
-        Ok(conclusion) => Ok(Formula::Imply(premise, conclusion)),
-        Err(memory) => {
-            drop(premise);
-            Err(memory)
-        }
-    }
-}
-
-fn universal(
-    alloc: Global,
-    frame: &Frame<'_>,
-    params: &[Param],
-    body: Boxed<Formula>,
-) -> Result<Formula, Memory>
-    requires { IsFrame frame.now }
-    ensures { IfOk result (λ f. f ≡ F.Forall (map (declarations.param frame.now) params.now) body) }
-{
-    match source_params(alloc, frame, params) {
-        Ok(params) => Ok(Formula::Forall(params, body)),
-        Err(memory) => {
-            drop(body);
-            Err(memory)
-        }
-    }
-}
-
-fn existential(
-    alloc: Global,
-    frame: &Frame<'_>,
-    params: &[Param],
-    body: Boxed<Formula>,
-) -> Result<Formula, Memory>
-    requires { IsFrame frame.now }
-    ensures { IfOk result (λ f. f ≡ F.Exists (map (declarations.param frame.now) params.now) body) }
-{
-    match source_params(alloc, frame, params) {
-        Ok(params) => Ok(Formula::Exists(params, body)),
-        Err(memory) => {
-            drop(body);
-            Err(memory)
+            let params = source_params(alloc, frame, params.as_slice())?;
+            Ok(Formula::Exists(params, boxed(alloc, frame, front, body)?))
         }
     }
 }

@@ -8,7 +8,6 @@ ghost use Rattle.slot_encoder.specs.Made as made;
 
 use crate::atoms::{held, is_free};
 use crate::conditions::{push_condition, push_waits};
-use crate::formulas::equal;
 use crate::split_action::{Opening, SplitAction};
 use crate::splitting::method_effects;
 use crate::terms::moved;
@@ -253,7 +252,8 @@ fn constraint(
 ) -> Result<Formula, Memory>
     ensures { IfOk result (λ f. f ≡ made.constraint frame.now front one.now) }
 {
-    let equal = equal(frame, front, one.left, one.right)?;
+    let left = moved(frame, front, one.left)?;
+    let equal = Formula::Equal(left, moved(frame, front, one.right)?);
     if one.equal {
         Ok(equal)
     } else {

@@ -1,5 +1,4 @@
-ghost use Rattle.std.specs.Prelude.{suc, ◌≡◌, ◌∷◌, ◌++◌, IfOk, OnOk};
-ghost use Rattle.plan_model.specs.declared.formulas.Formula.TheVariants as F;
+ghost use Rattle.std.specs.Prelude.{◌≡◌, ◌++◌, IfOk};
 ghost use Rattle.slot_encoder.specs.Encodings.{whole};
 ghost use Rattle.slot_declarations.specs.Frames.{IsFrame};
 ghost use Rattle.slot_encoder.specs.Made as made;
@@ -130,25 +129,10 @@ fn work_conditions(
     ensures { IfOk result (λ fs. fs ≡ made.work_pre frame.now predicate count pre.now) }
 {
     let mut into = List::new(alloc);
-    push_ready(alloc, frame, predicate, count, &mut into)?;
+    into.push(Formula::Holds(held_work(alloc, predicate, count)?))?;
+    push_waits(alloc, frame, plus(count, 1)?, &mut into)?;
     push_condition(alloc, frame, 1, pre, &mut into)?;
     Ok(into)
-}
-
-/// Puts at the end that the work is held in the slot with nothing before it.
-fn push_ready(
-    alloc: Global,
-    frame: &Frame<'_>,
-    predicate: u32,
-    count: u32,
-    into: &mut List<Formula>,
-) -> Result<(), Memory>
-    requires { IsFrame frame.now }
-    ensures { OnOk result (into.new ≡ into.old ++
-        F.Holds (made.work_atom frame.now predicate count) ∷ made.waiting frame.now (suc count)) }
-{
-    into.push(Formula::Holds(held_work(alloc, predicate, count)?))?;
-    push_waits(alloc, frame, plus(count, 1)?, into)
 }
 
 fn work_effects(
