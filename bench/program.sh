@@ -4,11 +4,12 @@
 # MiB of facts; and a domain of 500 methods with 40 subtasks each. Wants ./htn, as examples/transport/run leaves it. A line each: what the program told,
 # seconds of the best of five runs and its processor seconds (user and system), kilobytes of memory at most, bytes read and written, and seconds of a copy of what was written.
 #
-# Measured on an idle machine, seconds and kilobytes in the order of the cases: 0.13 and 65,288; 0.39 and 271,108 (0.10 of it the program's own,
-# the rest the system's for pages and writing); 0.35 and 43,400; 0.08 and 22,392; copies of the two long texts took 0.03 and 0.16. That machine
-# took some 1.7 times what the one of the day before took for what had not changed: 0.08 and 65,384; 0.32 and 271,712; 0.05 and 22,368; the facts
-# took 0.23 s and 125,032 KB there, before they stood in rows of few bytes and were read without an index. By their instructions
-# (bench/counted.sh) they take a third more than then. 16 MiB of facts of which none stands twice take 56,500 KB, of which the output is 15,400.
+# Measured on an idle machine, seconds and kilobytes in the order of the cases: 0.16 and 65,264; 0.50 and 270,988 (0.21 of it the program's own,
+# the rest the system's for pages and writing); 0.34 and 43,328; 0.09 and 22,320; copies of the two long texts took 0.02 and 0.18. That machine
+# took some twice what the fastest one took that this was measured on: for 400 tasks at one slot, whose instructions are the same (bench/counted.sh),
+# 6.5 milliseconds of processor time where that one took 2.9. There an earlier program took 0.08 and 65,384; 0.32 and 271,712; 0.23 for the facts,
+# in 125,032 KB, before they stood in rows of few bytes and were read without an index; 0.05 and 22,368. By their instructions the facts take a
+# third more than then, and the methods a twentieth less. 16 MiB of facts of which none stands twice took 56,500 KB, of which the output is 15,400.
 # Figures of different days are not alike.
 set -euo pipefail
 top=$(cd "$(dirname "$0")/.." && pwd)
