@@ -1,5 +1,6 @@
 pub mod SeenLemmas
 pub mod StepLemmas
+pub mod StoredUnions
 pub mod NotedLemmas
 pub mod SectionLemmas
 pub mod ParentsLemmas

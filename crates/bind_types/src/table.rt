@@ -2,10 +2,10 @@ ghost use Rattle.std.specs.Prelude.{◌≡◌, [], ◌∷◌, map, length, IfOk,
 ghost use Rattle.std.specs.List.{fold};
 ghost use Rattle.std.specs.Option.{option_copied};
 ghost use Rattle.std.specs.List.Sorted.{IsPermutation, IsNonDecreasingBy};
-ghost use Rattle.htn_base.specs.Table.{with_word, words_of};
+ghost use Rattle.htn_base.specs.Table.{with_word};
 ghost use Rattle.name_numbers.specs.Spots.{noted};
 ghost use Rattle.bind_types.specs.Parents.{pairs_in_order};
-ghost use Rattle.bind_types.specs.Unions.{members_of, AreWith, IsThere};
+ghost use Rattle.bind_types.specs.Unions.{members_of, unions_of, AreWith, IsThere};
 ghost use Rattle.bind_types.specs.Kinds.{type_number, type_faults, union_number, kind_by, members_written, kind_bound, kind_faults};
 
 use crate::parents::parents_of;
@@ -27,12 +27,12 @@ pub struct TypeTable {
 }
 
 impl Model for TypeTable {
-    ghost use Rattle.htn_base.specs.Table.{words_of};
     ghost use Rattle.bind_types.specs.Kinds.{Kinds};
+    ghost use Rattle.bind_types.specs.Unions.{unions_of};
 
     ghost Value = { Kinds };
 
-    ghost view = { λ table. record { types = table.types; unions = words_of table.unions.keys } };
+    ghost view = { λ table. record { types = table.types; unions = unions_of table.unions.keys } };
 }
 
 impl TypeTable {
@@ -212,7 +212,7 @@ impl TypeTable {
 
 /// These lists of numbers.
 fn lists_of(alloc: Global, stored: &[Vec<u32>]) -> Result<List<List<u32>>, Memory>
-    ensures same { IfOk result (λ lists. lists ≡ words_of stored.now) }
+    ensures same { IfOk result (λ lists. lists ≡ unions_of stored.now) }
 {
     let mut lists = List::new(alloc);
     for numbers in stored {

@@ -1,11 +1,10 @@
--- A name table keeps each word in a vector of its own: what the set says of the vectors, said of the words.
-use Rattle.std.proofs.Common.{◌≡◌, ℕ, ◌+◌, ◌-◌, ◌<◌, ◌^◌, List, [], ◌∷◌, ◌++◌, length, map, Bool, true, false, cond, not, ◌||◌, Some, None, position, nat_lt, nat_eq, refl, sym, ap, subst, Contains, ◌∙◌, arith, true≢false, take, get_or, slice_get}
-use Rattle.std.specs.List.{list_any, position_or_len, prefix_len}
+-- A name table is a set of words: what the set says of its keys, said of words and their numbers.
+use Rattle.std.proofs.Common.{◌≡◌, ℕ, ◌+◌, ◌-◌, ◌<◌, ◌^◌, List, [], ◌∷◌, ◌++◌, length, Bool, true, false, cond, not, ◌||◌, Some, None, position, nat_eq, refl, sym, ap, subst, Contains, ◌∙◌, arith, true≢false, take, get_or, slice_get}
+use Rattle.std.specs.List.{list_any, position_or_len}
 use Rattle.std.specs.Str.{bytes_eq}
-use Rattle.std.specs.declared.vec.Vec.{Vec}
 use Rattle.std.specs.Cmp.Lexicographic.{pointwise}
 use Rattle.std.proofs.lemmas.Bool.{lt-ltb}
-use Rattle.std.proofs.lemmas.List.{length-map, length-append, length-take, map-append}
+use Rattle.std.proofs.lemmas.List.{length-append, length-take}
 use Rattle.std.proofs.Math.Nat.{min-le_right}
 use Rattle.std.proofs.lemmas.List.Elements.{All-push, All-take, All-get_or}
 use Rattle.std.proofs.lemmas.List.Quantifiers.{position-Some}
@@ -17,41 +16,8 @@ use Rattle.std.proofs.lemmas.Str.Ascii.{lowercase-lowercase}
 use Rattle.indexmap.specs.IndexSet.{insert_key}
 use Rattle.htn_base.specs.Words.{folded, IsFolded}
 use Rattle.htn_base.specs.Different.{AreDifferent}
-use Rattle.htn_base.specs.Table.{words_of, number_of, with_word, IsTable}
+use Rattle.htn_base.specs.Table.{number_of, with_word, IsTable}
 use Rattle.htn_base.proofs.DifferentLemmas.{different-push, different-take, different-places}
-
-module _ {X Y : Type 0} (view : X → Y) (test : Y → Bool) where
-  list_any-map : (xs : List X) → list_any test (map view xs) ≡ list_any (λ x. test (view x)) xs
-  list_any-map [] = refl
-  list_any-map (x ∷ xs) = ap (λ rest. test (view x) || rest) (list_any-map xs)
-
-  prefix_len-map : (xs : List X) → prefix_len test (map view xs) ≡ prefix_len (λ x. test (view x)) xs
-  prefix_len-map [] = refl
-  prefix_len-map (x ∷ xs) = ap (λ rest. cond (test (view x)) (1 + rest) 0) (prefix_len-map xs)
-
-module _ {X Y : Type 0} (view : X → Y) (test : Y → Bool) where
-  position-map : (xs : List X) → position test (map view xs) ≡ position (λ x. test (view x)) xs
-  position-map xs =
-      let first = prefix_len-map view (λ y. not (test y)) xs in
-      let long : length (map view xs) ≡ length xs = length-map xs view in
-      ap (λ n. cond (nat_lt n (length (map view xs))) (Some n) None) first
-      ∙ ap (λ n. cond (nat_lt (prefix_len (λ x. not (test (view x))) xs) n) (Some (prefix_len (λ x. not (test (view x))) xs)) None) long
-
--- a word is looked up among the words where its vector is looked up among the vectors
-pub number_of-words_of : {A : Type 0} (word : List ℕ) (stored : List (Vec ℕ A))
-    → number_of (words_of stored) word ≡ position (λ vector. bytes_eq word vector.items) stored
-number_of-words_of word stored = position-map (λ vector. vector.items) (bytes_eq word) stored
-
--- a vector is put among the vectors where its word is put among the words
-words_of-insert_key : {A : Type 0} (stored : List (Vec ℕ A)) (vector : Vec ℕ A)
-    → words_of (insert_key (λ one other. pointwise nat_eq one.items other.items) stored vector) ≡ with_word (words_of stored) vector.items
-words_of-insert_key stored vector =
-    let known = list_any (λ other. bytes_eq vector.items other.items) stored in
-    by known ∙ ap (λ there. cond there (words_of stored) (words_of stored ++ vector.items ∷ [])) (sym (list_any-map (λ other. other.items) (bytes_eq vector.items) stored))
-  where
-    by : (there : Bool) → words_of (cond there stored (stored ++ vector ∷ [])) ≡ cond there (words_of stored) (words_of stored ++ vector.items ∷ [])
-    by true = refl
-    by false = map-append (λ other. other.items) stored (vector ∷ [])
 
 module _ {X : Type 0} (test : X → Bool) (new : X) (passes : test new ≡ true) where
   -- a new item stands at the first place that passes the test, whether it was put there now or one like it stood there
@@ -126,11 +92,6 @@ IsTable-take n words table = record {
 number_of-with_word : (words : List (List ℕ)) (word : List ℕ) → number_of (with_word words word) word ≡ Some (position_or_len (bytes_eq word) words)
 number_of-with_word words word = position-insert (bytes_eq word) word ((bytes_eq-Decides word word).1 refl) words
 
--- the place of a vector is that of its word
-place-words_of : {A : Type 0} (word : List ℕ) (stored : List (Vec ℕ A))
-    → position_or_len (bytes_eq word) (words_of stored) ≡ position_or_len (λ vector. bytes_eq word vector.items) stored
-place-words_of word stored = prefix_len-map (λ vector. vector.items) (λ other. not (bytes_eq word other)) stored
-
 pub IsFolded-folded : (word : List ℕ) → IsFolded (folded word)
 IsFolded-folded [] = refl
 IsFolded-folded (byte ∷ word) = λ i. lowercase-lowercase byte i ∷ IsFolded-folded word i
@@ -151,18 +112,16 @@ IsTable-with_word words word table room low = by (list_any (bytes_eq word) words
       short = omega (arith, length-append words (word ∷ []), table.short);
     }
 
--- What is known after `vector` was put among the vectors `stored`, which spell `words`, and `vector` spells `word`.
-module _ {A : Type 0} (stored now : List (Vec ℕ A)) (vector : Vec ℕ A) (words : List (List ℕ)) (word : List ℕ)
-    (inserted : now ≡ insert_key (λ one other. pointwise nat_eq one.items other.items) stored vector)
-    (spells : words_of stored ≡ words) (lower : vector.items ≡ word) where
-  pub words_after : words_of now ≡ with_word words word
-  words_after = ap words_of inserted ∙ words_of-insert_key stored vector ∙ (λ i. with_word (spells i) (lower i))
+-- What is known after `lower` was put among `stored`, which are `words`, and `lower` is `word`.
+module _ (stored now words : List (List ℕ)) (lower word : List ℕ)
+    (inserted : now ≡ insert_key (pointwise nat_eq) stored lower) (are : stored ≡ words) (is : lower ≡ word) where
+  pub words_after : now ≡ with_word words word
+  words_after = inserted ∙ (λ i. with_word (are i) (is i))
 
-  pub number_after : (place : ℕ) → place ≡ position_or_len (λ other. bytes_eq vector.items other.items) stored → number_of (words_of now) word ≡ Some place
+  pub number_after : (place : ℕ) → place ≡ position_or_len (bytes_eq lower) stored → number_of now word ≡ Some place
   number_after place at =
-      let first : position_or_len (bytes_eq word) words ≡ place =
-      (λ i. position_or_len (bytes_eq (sym lower i)) (sym spells i)) ∙ place-words_of vector.items stored ∙ sym at in
-      ap (λ after. number_of after word) words_after ∙ number_of-with_word words word ∙ ap Some first
+      ap (λ after. number_of after word) words_after ∙ number_of-with_word words word
+      ∙ ap Some ((λ i. position_or_len (bytes_eq (sym is i)) (sym are i)) ∙ sym at)
 
-  pub table_after : IsTable (words_of stored) → length words < 2 ^ 32 - 1 → IsFolded word → IsTable (words_of now)
-  table_after old room low = subst IsTable (sym words_after) (IsTable-with_word words word (subst IsTable spells old) room low)
+  pub table_after : IsTable stored → length words < 2 ^ 32 - 1 → IsFolded word → IsTable now
+  table_after old room low = subst IsTable (sym words_after) (IsTable-with_word words word (subst IsTable are old) room low)

@@ -1,14 +1,9 @@
 -- The words of a name table, in the order in which they were first seen. A word's number is its place from 0.
-use Rattle.std.specs.Prelude.{ℕ, ◌≡◌, ◌<◌, ◌^◌, List, [], ◌∷◌, ◌++◌, length, map, Option, Some, All, position, if◌then◌else◌}
+use Rattle.std.specs.Prelude.{ℕ, ◌≡◌, ◌<◌, ◌^◌, List, [], ◌∷◌, ◌++◌, length, Option, Some, All, position, if◌then◌else◌}
 use Rattle.std.specs.List.{list_any}
 use Rattle.std.specs.Str.{bytes_eq}
-use Rattle.std.specs.declared.vec.Vec.{Vec}
 use Rattle.htn_base.specs.Different.{AreDifferent}
 use Rattle.htn_base.specs.Words.{folded, IsFolded}
-
--- the words of stored vectors
-abbrev pub words_of : {A : Type 0} → List (Vec ℕ A) → List (List ℕ)
-words_of stored = map (λ vector. vector.items) stored
 
 -- the number of a word: the place at which it stands
 abbrev pub number_of : List (List ℕ) → List ℕ → Option ℕ

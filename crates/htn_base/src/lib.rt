@@ -1,7 +1,7 @@
 //! What every crate of the translator stands on: the answer for want of memory, lists and texts that
 //! contracts see as lists, rows of numbers in few bytes, the places of faults, and names.
 //!
-//! Stands on `indexmap` and `itoa`. The contract used above: words and their numbers are one to one.
+//! Stands on `indexmap`, `itoa` and `smallvec`. The contract used above: words and their numbers are one to one.
 #![tactic(auto)]
 
 mod boxed;
@@ -12,7 +12,9 @@ mod marks;
 mod memory;
 mod name;
 mod packed;
+mod rows;
 mod text;
+mod word;
 mod words;
 
 pub use boxed::Boxed;
@@ -22,7 +24,8 @@ pub use list::List;
 pub use marks::Marks;
 pub use memory::Memory;
 pub use name::{Name, NameTable};
-pub use packed::{PackedNumbers, PackedPart, PackedRow, PackedRows};
+pub use packed::{PackedNumbers, PackedPart};
+pub use rows::{PackedRow, PackedRows};
 pub use text::Text;
 pub use words::{
     esc, is_name, is_plain, is_reserved, is_reserved_in_any_case, names_stay_apart, slot_name,

@@ -4,6 +4,7 @@ ghost use Rattle.htn_base.specs.Words.{folded};
 
 use crate::marks::Marks;
 use crate::memory::Memory;
+use crate::word::{Sought, Word};
 use indexmap::IndexSet;
 use std::alloc::Global;
 use std::marker::Model;
@@ -20,18 +21,18 @@ const MOST_WORDS: usize = 0xffff_ffff;
 /// Words and their numbers. Contracts see the words in the order in which they were first seen.
 #[derive(Drop)]
 pub struct NameTable {
-    words: IndexSet<Vec<u8>>,
+    words: IndexSet<Word>,
 }
 
 impl Model for NameTable {
     ghost use Rattle.std.specs.Prelude.{ℕ, List};
-    ghost use Rattle.htn_base.specs.Table.{words_of, IsTable};
+    ghost use Rattle.htn_base.specs.Table.{IsTable};
 
     ghost Value = { List (List ℕ) };
 
-    ghost view = { λ table. words_of table.words.keys };
+    ghost view = { λ table. table.words.keys };
 
-    ghost invariant = { λ table. IsTable (words_of table.words.keys) };
+    ghost invariant = { λ table. IsTable table.words.keys };
 }
 
 impl NameTable {
@@ -69,7 +70,7 @@ impl NameTable {
         if self.len() >= MOST_WORDS {
             return Err(Memory);
         }
-        let word = in_lower_case(*self.words.allocator(), word)?;
+        let word = Word::in_lower_case(*self.words.allocator(), word)?;
         let (place, _) = self.words.insert_full(word)?;
         Ok(Name {
             number: place as u32,
@@ -125,7 +126,7 @@ impl NameTable {
         ensures number { option_map (λ name. name.number) result ≡ number_of self.now word.now }
         ensures sound { IsTable self.now }
     {
-        let found = self.words.get_index_of(word)?;
+        let found = self.words.get_index_of(Sought { bytes: word })?;
         Some(Name {
             number: found as u32,
         })
@@ -144,6 +145,7 @@ impl NameTable {
     }
 
     /// The word of the name. `None` exactly for a number that is not given out.
+    #[inline]
     pub fn text(&self, name: Name) -> Option<&[u8]>
         ensures word { option_copied result ≡ slice_get self.now name.number }
         ensures sound { IsTable self.now }
@@ -151,14 +153,4 @@ impl NameTable {
         let word = self.words.get_index(name.number as usize)?;
         Some(word.as_slice())
     }
-}
-
-fn in_lower_case(alloc: Global, word: &[u8]) -> Result<Vec<u8>, Memory>
-    ensures { IfOk result (λ lower. lower.items ≡ folded word.now) }
-{
-    let lower = word
-        .iter()
-        .map(|byte| byte.to_ascii_lowercase())
-        .collect(alloc)?;
-    Ok(lower)
 }

@@ -1,15 +1,15 @@
 use Rattle.std.proofs.Common.{◌≡◌, ◌+◌, Some, None, ap, ◌∙◌, sym, length, nat_eq, position, arith}
 use Rattle.std.specs.Prelude.{option_map, unwrap_or}
 use Rattle.std.specs.Cmp.Lexicographic.{pointwise}
-use Rattle.htn_base.proofs.TableLemmas.{number_of-words_of}
 use Rattle.bind_types.specs.Kinds.{union_number}
+use Rattle.bind_types.proofs.StoredUnions.{position-unions_of}
 use Rattle.bind_types.proofs.table.TypeTable.union_number.Goals as goal
 
 pub returns-in_ok-past_types-in-Some : goal.returns-in_ok-past_types-in-Some
 returns-in_ok-past_types-in-Some c =
     let kinds = c.args.self.now in
     let members = c.args.members.now in
-    let there = number_of-words_of members c.self.inside.unions.keys in
+    let there = position-unions_of members c.self.inside.unions.keys in
     let place : position (pointwise nat_eq members) kinds.unions ≡ Some c.in-Some.place =
     ap (λ seen. position (pointwise nat_eq members) seen.unions) (sym c.self.view_is) ∙ there ∙ sym c.in-Some.ensures.index in
     let value : union_number kinds members ≡ length kinds.types + c.in-Some.place =
@@ -21,7 +21,7 @@ pub returns-in-None : goal.returns-in-None
 returns-in-None c =
     let kinds = c.args.self.now in
     let members = c.args.members.now in
-    let there = number_of-words_of members c.self.inside.unions.keys in
+    let there = position-unions_of members c.self.inside.unions.keys in
     let place : position (pointwise nat_eq members) kinds.unions ≡ None =
     ap (λ seen. position (pointwise nat_eq members) seen.unions) (sym c.self.view_is) ∙ there ∙ sym c.in-None.ensures.index in
     record { number = ap (λ p. unwrap_or (option_map (λ k. length kinds.types + k) p) 0) (sym place) }

@@ -1,11 +1,10 @@
 use Rattle.std.proofs.Common.{ap, sym, ◌∙◌, subst, take, ◌≡◌}
-use Rattle.std.proofs.lemmas.List.{take-map}
-use Rattle.htn_base.specs.Table.{words_of, IsTable}
+use Rattle.htn_base.specs.Table.{IsTable}
 use Rattle.htn_base.proofs.TableLemmas.{IsTable-take}
 use Rattle.htn_base.proofs.name.NameTable.truncate.Goals as goal
 
-words : (c : goal.After-truncate) → words_of c.truncate.new.self.keys ≡ take c.args.len c.args.self.now
-words c = ap words_of c.truncate.ensures.keys ∙ sym (take-map _ c.args.len c.self.inside.words.keys) ∙ ap (take c.args.len) c.self.view_is
+words : (c : goal.After-truncate) → c.truncate.new.self.keys ≡ take c.args.len c.args.self.now
+words c = c.truncate.ensures.keys ∙ ap (take c.args.len) c.self.view_is
 
 pub returns-clause-words : goal.returns-clause-words
 returns-clause-words c = words c

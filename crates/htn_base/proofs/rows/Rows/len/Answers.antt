@@ -1,6 +1,6 @@
 use Rattle.std.proofs.Common.{length, ap, ◌∙◌}
 use Rattle.htn_base.proofs.PackedLemmas.{length-rows}
-use Rattle.htn_base.proofs.packed.Rows.len.Goals as goal
+use Rattle.htn_base.proofs.rows.Rows.len.Goals as goal
 
 pub returns : goal.returns
 returns c =

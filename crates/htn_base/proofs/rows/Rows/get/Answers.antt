@@ -1,7 +1,7 @@
 use Rattle.std.proofs.Common.{◌∷◌, length, slice_get, ap, sym, ◌∙◌, arith}
 use Rattle.htn_base.proofs.PackedLemmas.{no_row, row_read, row_within}
 use Rattle.htn_base.proofs.ReadAt.{past_read}
-use Rattle.htn_base.proofs.packed.Rows.get.Goals as goal
+use Rattle.htn_base.proofs.rows.Rows.get.Goals as goal
 
 pub returns-in_err-head : goal.returns-in_err-head
 returns-in_err-head c =

@@ -1,5 +1,5 @@
 use Rattle.htn_base.proofs.PackedLemmas.{row_pushed, rows_pushed}
-use Rattle.htn_base.proofs.packed.Rows.push.Goals as goal
+use Rattle.htn_base.proofs.rows.Rows.push.Goals as goal
 
 pub invariant_of-self : goal.invariant_of-self
 invariant_of-self c =

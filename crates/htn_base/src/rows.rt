@@ -1,0 +1,222 @@
+ghost use Rattle.std.specs.Prelude.{◌≡◌, [], ◌∷◌, ◌++◌, length, slice_get, IfOk, OnOk};
+ghost use Rattle.htn_base.specs.Packed.{row_of};
+
+use crate::lengths::number;
+use crate::memory::Memory;
+use crate::packed::{PackedNumbers, PackedPart};
+use std::alloc::Global;
+use std::marker::Model;
+
+/// A row: a head and further numbers. Contracts see the row.
+#[derive(Drop)]
+pub struct PackedRow<'a> {
+    pub head: u32,
+    pub rest: PackedPart<'a>,
+}
+
+impl<'a> Model for PackedRow<'a> {
+    ghost use Rattle.htn_base.specs.Packed.{Row, row_of};
+
+    ghost Value = { Row };
+
+    ghost view = { λ row. row_of row.head row.rest };
+}
+
+// Rows in order. The numbers of all stand in one list, so that no row takes memory of its own. After want of memory there
+// are none.
+#[derive(Drop)]
+struct Rows {
+    alloc: Global,
+    heads: PackedNumbers,
+    // where the numbers of each row end among those of all
+    ends: PackedNumbers,
+    rest: PackedNumbers,
+}
+
+impl Model for Rows {
+    ghost use Rattle.std.specs.Prelude.{List};
+    ghost use Rattle.htn_base.specs.Packed.{Row, rows_from, AreRows};
+
+    ghost Value = { List Row };
+
+    ghost view = { λ rows. rows_from 0 rows.heads rows.ends rows.rest };
+
+    ghost invariant = { λ rows. AreRows rows.heads rows.ends rows.rest };
+}
+
+impl Rows {
+    // No rows. They take no memory yet.
+    fn new(alloc: Global) -> Rows
+        ensures none { result ≡ [] }
+    {
+        Rows {
+            alloc,
+            heads: PackedNumbers::new(alloc),
+            ends: PackedNumbers::new(alloc),
+            rest: PackedNumbers::new(alloc),
+        }
+    }
+
+    // No rows, with room for so many, and for so many further numbers of all together, of a byte each.
+    fn with_room(alloc: Global, rows: usize, numbers: usize) -> Result<Rows, Memory>
+        ensures none { IfOk result (λ rows. rows ≡ []) }
+    {
+        Ok(Rows {
+            alloc,
+            heads: PackedNumbers::with_room(alloc, rows)?,
+            ends: PackedNumbers::with_room(alloc, rows)?,
+            rest: PackedNumbers::with_room(alloc, numbers)?,
+        })
+    }
+
+    // The number of rows.
+    #[inline]
+    fn len(&self) -> usize
+        ensures length { result ≡ length self.now }
+    {
+        self.heads.len()
+    }
+
+    // The row at place `k` from 0, or `None` past the end.
+    #[inline]
+    fn get(&self, k: usize) -> Option<PackedRow<'_>>
+        ensures row { result ≡ slice_get self.now k }
+    {
+        let head = self.heads.get(k)?;
+        let start = start_of(&self.ends, k)?;
+        let end = self.ends.get(k)?;
+        let rest = PackedPart {
+            numbers: &self.rest,
+            start,
+            end,
+        };
+        Some(PackedRow { head, rest })
+    }
+
+    // Puts a row at the end. More than 4,294,967,295 further numbers in all want memory.
+    #[inline]
+    fn push(&mut self, head: u32, rest: &[u32]) -> Result<(), Memory>
+        ensures pushed { OnOk result (self.new ≡ self.old ++ row_of head rest.now ∷ []) }
+    {
+        let put = put_row(&mut self.heads, &mut self.ends, &mut self.rest, head, rest);
+        match put {
+            Ok(()) => Ok(()),
+            Err(Memory) => {
+                *self = Rows::new(self.alloc);
+                Err(Memory)
+            }
+        }
+    }
+}
+
+/// Rows in order, each a head and further numbers. The numbers of all stand in one list, so that no row takes memory of
+/// its own. Contracts see the list of the rows. After want of memory there are none, or those that there were.
+#[derive(Drop)]
+pub struct PackedRows {
+    alloc: Global,
+    // on the heap, so that what owns rows owns one thing
+    rows: Option<Box<Rows>>,
+}
+
+impl Model for PackedRows {
+    ghost use Rattle.std.specs.Prelude.{List};
+    ghost use Rattle.htn_base.specs.Packed.{Row, rows_or_none};
+
+    ghost Value = { List Row };
+
+    ghost view = { λ packed. rows_or_none packed.rows };
+}
+
+impl PackedRows {
+    /// No rows. They take no memory yet.
+    pub fn new(alloc: Global) -> PackedRows
+        ensures none { result ≡ [] }
+    {
+        PackedRows { alloc, rows: None }
+    }
+
+    /// No rows, with room for so many, and for so many further numbers of all together, of a byte each.
+    pub fn with_room(alloc: Global, rows: usize, numbers: usize) -> Result<PackedRows, Memory>
+        ensures none { IfOk result (λ rows. rows ≡ []) }
+    {
+        let rows = Box::new(alloc, Rows::with_room(alloc, rows, numbers)?)?;
+        Ok(PackedRows {
+            alloc,
+            rows: Some(rows),
+        })
+    }
+
+    /// The number of rows.
+    #[inline]
+    pub fn len(&self) -> usize
+        ensures length { result ≡ length self.now }
+    {
+        match &self.rows {
+            None => 0,
+            Some(rows) => rows.len(),
+        }
+    }
+
+    /// The row at place `k` from 0, or `None` past the end.
+    #[inline]
+    pub fn get(&self, k: usize) -> Option<PackedRow<'_>>
+        ensures row { result ≡ slice_get self.now k }
+    {
+        match &self.rows {
+            None => None,
+            Some(rows) => rows.get(k),
+        }
+    }
+
+    /// Puts a row at the end. More than 4,294,967,295 further numbers in all want memory.
+    #[inline]
+    pub fn push(&mut self, head: u32, rest: &[u32]) -> Result<(), Memory>
+        ensures pushed { OnOk result (self.new ≡ self.old ++ row_of head rest.now ∷ []) }
+    {
+        match &mut self.rows {
+            Some(rows) => rows.push(head, rest),
+            None => {
+                self.rows = Some(first_row(self.alloc, head, rest)?);
+                Ok(())
+            }
+        }
+    }
+}
+
+// One row.
+fn first_row(alloc: Global, head: u32, rest: &[u32]) -> Result<Box<Rows>, Memory>
+    ensures { IfOk result (λ rows. rows.value ≡ row_of head rest.now ∷ []) }
+{
+    let mut rows = Rows::new(alloc);
+    rows.push(head, rest)?;
+    Ok(Box::new(alloc, rows)?)
+}
+
+// Puts a row at the end of the lists of rows: the head, the numbers behind those of all, and where they end.
+#[inline]
+fn put_row(
+    heads: &mut PackedNumbers,
+    ends: &mut PackedNumbers,
+    numbers: &mut PackedNumbers,
+    head: u32,
+    rest: &[u32],
+) -> Result<(), Memory>
+    ensures heads { OnOk result (heads.new ≡ heads.old ++ head ∷ []) }
+    ensures ends { OnOk result (ends.new ≡ ends.old ++ length numbers.new ∷ []) }
+    ensures numbers { OnOk result (numbers.new ≡ numbers.old ++ rest.now) }
+{
+    numbers.extend(rest)?;
+    ends.push(number(numbers.len())?)?;
+    heads.push(head)
+}
+
+// Where the numbers of row `k` start: at the end of those of the row before. `None` behind the row past the last.
+#[inline]
+fn start_of(ends: &PackedNumbers, k: usize) -> Option<u32>
+    ensures { result ≡ slice_get (0 ∷ ends.now) k }
+{
+    if k == 0 {
+        return Some(0);
+    }
+    ends.get(k - 1)
+}
