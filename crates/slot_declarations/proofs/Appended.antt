@@ -8,9 +8,6 @@ module _ {A : Type 0} where
   pub append_two : (o m n a b : List A) → m ≡ o ++ a → n ≡ m ++ b → n ≡ o ++ (a ++ b)
   append_two o m n a b g h = h ∙ ap (λ z. z ++ b) g ∙ append_assoc o a b
 
-  pub append_three : (o m n p a b c : List A) → m ≡ o ++ a → n ≡ m ++ b → p ≡ n ++ c → p ≡ o ++ (a ++ (b ++ c))
-  append_three o m n p a b c g h i = append_two o m p a (b ++ c) g (append_two m n p b c h i)
-
   -- two parts of a list, where the call that puts the second one succeeds
   pub ok_two : {T E : Type 0} (r : Result T E) (o m n a b all : List A) → a ++ b ≡ all → m ≡ o ++ a → OnOk r (n ≡ m ++ b) → OnOk r (n ≡ o ++ all)
   ok_two r o m n a b all e g h = on_ok_weaker {P = n ≡ m ++ b} {Q = n ≡ o ++ all} r (λ k. append_two o m n a b g k ∙ ap (λ z. o ++ z) e) h

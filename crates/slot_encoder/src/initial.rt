@@ -27,23 +27,12 @@ fn first_atoms(alloc: Global, frame: &Frame<'_>) -> Result<Facts, Memory>
     ensures { IfOk result (λ atoms. atoms ≡ made.first_atoms frame.now) }
 {
     let hddl = &frame.compiled.hddl;
-    let mut into = room_for_first(alloc, frame)?;
+    let mut into = Facts::new(alloc);
     into.push(frame.basis.numbers.top, &[frame.basis.order.first_slot])?;
     push_free(frame, frame.slots.saturating_sub(1), &mut into)?;
     let most = hddl.objects.len().max(hddl.predicates.len()) as u32;
     push_single(alloc, &hddl.init, most, &mut into)?;
     Ok(into)
-}
-
-/// No facts, with room for those of the slots and the source's, so that nothing grows as they are put. Two objects for each of
-/// the source's are a guess.
-fn room_for_first(alloc: Global, frame: &Frame<'_>) -> Result<Facts, Memory>
-    ensures { IfOk result (λ atoms. atoms ≡ []) }
-{
-    let slots = frame.slots as usize;
-    let atoms = frame.compiled.hddl.init.len();
-    let facts = slots.saturating_add(atoms);
-    Facts::with_room(alloc, facts, facts.saturating_add(atoms))
 }
 
 fn push_free(frame: &Frame<'_>, count: u32, into: &mut Facts) -> Result<(), Memory>

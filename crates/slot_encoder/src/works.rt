@@ -1,5 +1,5 @@
-ghost use Rattle.std.specs.Prelude.{◌≡◌, ◌++◌, IfOk};
-ghost use Rattle.slot_encoder.specs.Encodings.{whole};
+ghost use Rattle.std.specs.Prelude.{◌≡◌, ◌++◌, IfOk, IsOkAnd};
+ghost use Rattle.slot_encoder.specs.Encodings.{whole, work};
 ghost use Rattle.slot_declarations.specs.Frames.{IsFrame};
 ghost use Rattle.slot_encoder.specs.Made as made;
 
@@ -7,7 +7,7 @@ use crate::atoms::held_work;
 use crate::conditions::{push_change, push_condition, push_waits};
 use crate::split_action::{Opening, SplitAction};
 use crate::splitting::freeing;
-use htn_base::{List, Memory, number};
+use htn_base::{List, Memory, Name, number};
 use plan_model::{ActionSchema, Effect, Formula, MethodPlan, Param};
 use slot_declarations::{Frame, named, plus, prefixed, push_params, renamed, slot_param};
 use std::alloc::Global;
@@ -26,20 +26,8 @@ pub(crate) fn encoded_action(
     let count = number(action.params.len())?;
     let params = action.params.as_slice();
     let opening = work_opening(alloc, frame, predicate, count, params, &action.pre)?;
-    match action_effects(alloc, frame, predicate, count, &action.eff) {
-        Ok(effects) => Ok(SplitAction {
-            name: renamed(frame, action.name),
-            params: opening.params,
-            before: opening.before,
-            spare: 0,
-            behind: List::new(alloc),
-            eff: Effect::And(effects),
-        }),
-        Err(memory) => {
-            drop(opening);
-            Err(memory)
-        }
-    }
+    let effects = action_effects(alloc, frame, predicate, count, &action.eff);
+    work_action(alloc, renamed(frame, action.name), opening, effects)
 }
 
 fn action_effects(
@@ -73,7 +61,20 @@ pub(crate) fn encoded_check(
     let name = prefixed(alloc, frame, b"htn_c_", schema.name)?;
     let params = schema.params.as_slice();
     let opening = work_opening(alloc, frame, check, count, params, &schema.pre)?;
-    match work_effects(alloc, frame, check, count) {
+    let effects = work_effects(alloc, frame, check, count);
+    work_action(alloc, name, opening, effects)
+}
+
+/// An action of this name that begins so, with these effects; or their want of memory.
+fn work_action(
+    alloc: Global,
+    name: Name,
+    opening: Opening,
+    effects: Result<List<Effect>, Memory>,
+) -> Result<SplitAction, Memory>
+    ensures { IfOk result (λ s. IsOkAnd effects (λ es. whole s ≡ work name opening es)) }
+{
+    match effects {
         Ok(effects) => Ok(SplitAction {
             name,
             params: opening.params,
