@@ -1,4 +1,3 @@
-use Rattle.std.proofs.Common.{◌++◌, ap, ◌∙◌}
 use Rattle.slot_declarations.specs.Made as made
 use Rattle.slot_declarations.proofs.Appended.{ok_two}
 use Rattle.slot_declarations.proofs.PredicateParts.{predicates-is}
