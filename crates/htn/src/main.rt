@@ -1,30 +1,10 @@
-//! The program: it reads its words, does what they ask, and ends with a status.
+//! The program: it reads its words, calls `run` over the real files and streams, and ends with its status.
 //!
-//! Stands on all crates below. The contract that carries what is promised to a user is that of `run`.
+//! Stands on `htn_cli`, whose `run` carries what is promised to a user, and on `outside_io`.
 #![tactic(auto)]
 
-mod bounding;
-mod building;
-mod faults;
-mod laws;
-mod manner;
-mod problem;
-mod program;
-mod refusal;
-mod sending;
-mod slots;
-mod status;
-mod telling;
-#[cfg(test)]
-mod tests;
-mod translation;
-mod validation;
-
-pub use command_words::{Command, command};
-pub use laws::one_answer;
+use htn_cli::{Status, run};
 use outside_io::{DiskFiles, StdSink};
-pub use program::run;
-pub use status::Status;
 use std::env;
 use std::io::{self, ErrorKind};
 use std::process::ExitCode;

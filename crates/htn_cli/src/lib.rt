@@ -1,0 +1,26 @@
+//! What the program does: it takes its words, does what they ask over files and streams that may be any, and answers with a status.
+//!
+//! Stands on all crates below. The contract that carries what is promised to a user is that of `run`, which the program calls.
+#![tactic(auto)]
+
+mod bounding;
+mod building;
+mod faults;
+mod laws;
+mod manner;
+mod problem;
+mod program;
+mod refusal;
+mod sending;
+mod slots;
+mod status;
+mod telling;
+#[cfg(test)]
+mod tests;
+mod translation;
+mod validation;
+
+pub use command_words::{Command, command};
+pub use laws::one_answer;
+pub use program::run;
+pub use status::Status;
