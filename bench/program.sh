@@ -4,13 +4,12 @@
 # MiB of facts; and a domain of 500 methods with 40 subtasks each. Wants ./htn, as examples/transport/run leaves it. A line each: what the program told,
 # seconds of the best of five runs and its processor seconds (user and system), kilobytes of memory at most, bytes read and written, and seconds of a copy of what was written.
 #
-# Measured on an idle machine, seconds and kilobytes in the order of the cases: 0.16 and 65,264; 0.50 and 270,988 (0.21 of it the program's own,
-# the rest the system's for pages and writing); 0.34 and 43,328; 0.09 and 22,320; copies of the two long texts took 0.02 and 0.18. That machine
-# took some twice what the fastest one took that this was measured on: for 400 tasks at one slot, whose instructions are the same (bench/counted.sh),
-# 6.5 milliseconds of processor time where that one took 2.9. There an earlier program took 0.08 and 65,384; 0.32 and 271,712; 0.23 for the facts,
-# in 125,032 KB, before they stood in rows of few bytes and were read without an index; 0.05 and 22,368. By their instructions the facts take a
-# third more than then, and the methods a twentieth less. 16 MiB of facts of which none stands twice took 56,500 KB, of which the output is 15,400.
-# Figures of different days are not alike.
+# Measured on an idle machine, seconds and kilobytes in the order of the cases: 0.07 and 64,968; 0.25 and 269,496; 0.23 and 44,536; 0.039 and
+# 21,676. That is the best of 40 runs, where 400 tasks at one slot take 3.0 milliseconds of processor time; on the same machine, in an hour in which
+# they took 3.7, the program before this one took 0.10, 0.40, 0.30 and 0.08. Where the inputs are small beside the outputs, what is beyond these in
+# memory is what any run takes (1,850 kilobytes), for 65,536 slots some 65 bytes each, and for the packages the problem as read and as compiled and
+# one action of 2,000 children (as massif told of an earlier program).
+# 16 MiB of facts of which none stands twice took 56,500 KB, of which the output is 15,400. Figures of different days are not alike.
 set -euo pipefail
 top=$(cd "$(dirname "$0")/.." && pwd)
 work=$(mktemp -d)

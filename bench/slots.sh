@@ -3,8 +3,8 @@
 # with so many actions that a text is long, or too long. Wants ./htn, as examples/transport/run leaves it. A line each: what the program
 # told, seconds, kilobytes of memory at most, bytes of the two texts.
 #
-# Measured with the provers of the machine stopped: at 65,536 slots 0.02 s in style adl (15 to 24 ms of processor time, as the machine's
-# processors went; 21 to 34 before names of slots were expected and objects put in batches) and 0.03 in style flat; a text of 271,778,014 bytes
+# Measured with the provers of the machine stopped: at 65,536 slots 0.014 s in style adl (13.7 ms of processor time; 15 to 24, as the machine's
+# processors went, before words stood in their table) and 0.03 in style flat; a text of 271,778,014 bytes
 # is refused at once, with 1,848 kilobytes: its length is worked out from those with one slot, two and ten; before, after 0.23 s.
 set -euo pipefail
 top=$(cd "$(dirname "$0")/.." && pwd)
