@@ -14,7 +14,7 @@ use stratifier::Ranks;
 
 /// Why no number is answered. `Past128` comes exactly where the bound is 2^128 or more, `Memory` where no memory was to
 /// be had.
-#[derive(Clone, Copy, Debug, PartialEq, Eq)]
+#[derive(Clone, Copy, PartialEq, Eq)]
 pub enum BoundError {
     Past128,
     Memory,

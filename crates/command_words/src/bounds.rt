@@ -11,7 +11,7 @@ const LONGEST_NUMERAL: usize = 39;
 const MOST_SLOTS: u128 = 65_536;
 
 /// What a number of slots comes to.
-#[derive(Clone, Copy, Debug)]
+#[derive(Clone, Copy)]
 pub enum Bound {
     /// So many slots, from 1 to 65,536.
     Slots(u32),

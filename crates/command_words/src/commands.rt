@@ -1,7 +1,7 @@
 use plan_model::{Checks, Style};
 
 /// What the words of the command line ask for. Files are named by their words.
-#[derive(Clone, Copy, Debug)]
+#[derive(Clone, Copy)]
 pub enum Command<'a> {
     /// Read the HDDL domain `d` and problem `p`, and write the PDDL domain `od` and problem `op`.
     Translate {

@@ -1,5 +1,5 @@
 /// Why a list of ground actions is no plan, in the order in which the causes are looked at.
-#[derive(Clone, Copy, Debug, PartialEq)]
+#[derive(Clone, Copy, PartialEq)]
 pub enum FailWhy {
     /// No action of the problem has the name.
     UnknownAction,
@@ -13,7 +13,7 @@ pub enum FailWhy {
 
 /// What a list of ground actions is: a plan, or one that fails at `step`, counted from 1. Where the goal is false at
 /// the end, that counts as a further step.
-#[derive(Clone, Copy, Debug)]
+#[derive(Clone, Copy)]
 pub enum Verdict {
     Plan,
     Fails { step: u32, why: FailWhy },

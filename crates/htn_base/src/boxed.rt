@@ -5,7 +5,7 @@ use std::alloc::Global;
 use std::marker::Model;
 
 /// A value on the heap, which contracts see as the value itself. It stands where a type holds itself.
-#[derive(Debug, Drop)]
+#[derive(Drop)]
 pub struct Boxed<T> {
     owned: Box<T>,
 }

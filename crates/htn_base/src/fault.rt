@@ -1,5 +1,5 @@
 /// A part of a text: from the byte at `start` up to the byte before `end`, both offsets from 0.
-#[derive(Clone, Copy, Debug, PartialEq, Eq)]
+#[derive(Clone, Copy, PartialEq, Eq)]
 pub struct Span {
     pub start: u32,
     pub end: u32,

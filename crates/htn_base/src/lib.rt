@@ -13,8 +13,8 @@ mod memory;
 mod name;
 mod packed;
 mod rows;
+mod table_word;
 mod text;
-mod word;
 mod words;
 
 pub use boxed::Boxed;

@@ -4,13 +4,13 @@ ghost use Rattle.htn_base.specs.Words.{folded};
 
 use crate::marks::Marks;
 use crate::memory::Memory;
-use crate::word::{Sought, Word};
+use crate::table_word::{Sought, Word};
 use indexmap::IndexSet;
 use std::alloc::Global;
 use std::marker::Model;
 
 /// The number of a word in a name table: its place from 0 in the order in which the words were first seen.
-#[derive(Clone, Copy, Debug, PartialEq, Eq)]
+#[derive(Clone, Copy, PartialEq, Eq)]
 pub struct Name {
     pub number: u32,
 }

@@ -8,7 +8,7 @@ use std::alloc::Global;
 use std::marker::Model;
 
 /// A growing text, which contracts see as the list of its bytes.
-#[derive(Debug, Drop)]
+#[derive(Drop)]
 pub struct Text {
     bytes: Vec<u8>,
 }

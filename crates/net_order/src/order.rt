@@ -12,7 +12,7 @@ use std::marker::Model;
 
 /// Why there is no order. `Cycle` comes exactly where the pairs have a cycle, and `pair` is the place of the first
 /// pair that closes one with those before it. `Memory` comes where no memory was to be had.
-#[derive(Clone, Copy, Debug, PartialEq, Eq)]
+#[derive(Clone, Copy, PartialEq, Eq)]
 pub enum OrderError {
     Cycle { pair: u32 },
     Memory,

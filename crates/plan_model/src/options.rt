@@ -1,6 +1,6 @@
 /// How the precondition of a method is checked: by a leaf of its own, which may come late, or at once where the
 /// method is applied.
-#[derive(Clone, Copy, Debug)]
+#[derive(Clone, Copy)]
 pub enum Checks {
     Leaf,
     AtOnce,
@@ -8,7 +8,7 @@ pub enum Checks {
 
 /// How the problem is printed: with the conditions and effects of PDDL's ADL part, or with conjunctions of literals
 /// alone.
-#[derive(Clone, Copy, Debug)]
+#[derive(Clone, Copy)]
 pub enum Style {
     Adl,
     Flat,
