@@ -5,3 +5,5 @@ pub mod Greatest
 pub mod Placing
 pub mod Counting
 pub mod examples
+pub mod Ready
+pub mod Cycles

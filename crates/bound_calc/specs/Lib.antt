@@ -2,3 +2,5 @@ pub mod Lines
 pub mod Past
 pub mod ByRank
 pub mod Blocks
+pub mod Soundly
+pub mod NoBound

@@ -1,14 +1,20 @@
-//! The bound of a compiled problem: how many tasks, actions and checks can be pending at most.
+//! The bound of a compiled problem: how many tasks, actions and checks can be pending at most; or why there is none to
+//! tell: the words of the bad cycle that is named, or that it is too great.
 //!
-//! Stands on `htn_base`, `plan_model`, `net_order`, `stratifier` and the definitions of `task_networks` and
-//! `plan_meaning`; that there is a bound is a law of `bound_laws`. Its contract: the number is the defined one, and
-//! it is refused exactly where it has more than 128 bits (`bound`).
+//! Stands on `stratifier` (strata, the named cycle), `net_order`, what `method_precs` says of a compiled problem, and the
+//! definitions of `task_networks` and `plan_meaning`; that there is a bound is a law of `bound_laws`. The contracts used
+//! above: the number is the defined bound, it is refused exactly where it has more than 128 bits (`bound`), and each
+//! refusal has its cause (`problem_bound`).
 #![tactic(auto)]
 
 mod blocks;
 mod by_rank;
+mod cycle;
+mod finding;
 mod groups;
 mod laws;
 
+pub use cycle::cycle_words;
+pub use finding::{NoBound, problem_bound};
 pub use groups::{BoundError, bound};
 pub use laws::compiled_methods_have_lines;

@@ -2,7 +2,7 @@
 use Rattle.std.proofs.Common.{◌≡◌, ℕ, List, ◌++◌, codes, decimal, refl, subst, append_assoc}
 use Rattle.outside_io.specs.Sink.{SinkState}
 use Rattle.outside_io.specs.declared.sink.WriteError.{WriteError}
-use Rattle.hddl_values.specs.FaultWords.{fault_word}
+use Rattle.text_values.specs.FaultWords.{fault_word}
 use Rattle.htn_cli.specs.Faults.{place_text, fault_text}
 use Rattle.htn_cli.specs.Sent.{TakesWhole, StopsAt}
 use Rattle.htn_cli.specs.declared.faults.Place.{Place}

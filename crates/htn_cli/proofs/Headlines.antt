@@ -19,7 +19,7 @@ use Rattle.plan_proof.proofs.values.Headlines.{printed_too, headline_of, headlin
 use Rattle.plan_proof.proofs.machine.Bounds.{loses_nothing}
 use Rattle.plan_proof.specs.OneGraph.{HaveOneGraph}
 use Rattle.plan_proof.proofs.one.OneGraph.{one_graph}
-use Rattle.problem_bound.specs.NoBound.{NamesCycle, spaced}
+use Rattle.bound_calc.specs.NoBound.{NamesCycle, spaced}
 use Rattle.command_words.specs.Names.{Word}
 use Rattle.command_words.specs.Words.{TranslationRequest, BoundRequest, ValidationRequest, Request, to_translate, to_bound, to_validate, number_of, Asks}
 use Rattle.command_words.proofs.Requests.{one_request}

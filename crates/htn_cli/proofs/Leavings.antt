@@ -8,7 +8,7 @@ use Rattle.task_networks.specs.Bound.{itself}
 use Rattle.plan_meaning.specs.Network.{top_task}
 use Rattle.plan_meaning.specs.Schemas.{task}
 use Rattle.plan_meaning.specs.Bound.{IsBound}
-use Rattle.problem_bound.specs.Soundly.{IsSoundlyCompiled}
+use Rattle.bound_calc.specs.Soundly.{IsSoundlyCompiled}
 use Rattle.command_words.specs.Names.{Word}
 use Rattle.command_words.specs.Bounds.{most_slots}
 use Rattle.command_words.specs.Words.{TranslationRequest, BoundRequest, ValidationRequest, to_translate, to_bound, to_validate, number_of}

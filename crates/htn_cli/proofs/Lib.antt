@@ -16,3 +16,4 @@ pub mod OneTranslation
 pub mod OneBound
 pub mod OneValidation
 pub mod OneAnswers
+pub mod StepsTaken

@@ -2,7 +2,7 @@
 use Rattle.std.proofs.Common.{ℕ, ◌≡◌, ◌<◌, ◌≤◌, ◌^◌, List, refl, ap, arith}
 use Rattle.outside_io.specs.Files.{FilesState}
 use Rattle.plan_meaning.specs.Bound.{IsBound}
-use Rattle.problem_bound.specs.NoBound.{NamesCycle}
+use Rattle.bound_calc.specs.NoBound.{NamesCycle}
 use Rattle.command_words.specs.Names.{Word}
 use Rattle.command_words.specs.Words.{BoundRequest, to_bound}
 use Rattle.htn_cli.specs.Answer.{Answer, refuses, writes, tells, confirms, IsAnswer}

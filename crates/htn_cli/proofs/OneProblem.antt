@@ -20,7 +20,7 @@ use Rattle.plan_proof.proofs.one.OneGraph.{one_graph, one_bound, one_cycle}
 use Rattle.plan_proof.proofs.one.OneText.{texts-same}
 use Rattle.stratifier.specs.NamedCycle.{IsNamed}
 use Rattle.stratifier.specs.CycleWords.{cycle_words}
-use Rattle.problem_bound.specs.NoBound.{NamesCycle, spaced}
+use Rattle.bound_calc.specs.NoBound.{NamesCycle, spaced}
 use Rattle.command_words.specs.Names.{Word}
 use Rattle.htn_cli.specs.Faults.{name_of, HaveLeastFault}
 use Rattle.htn_cli.specs.Inputs.{HaveFault, HaveProblem}

@@ -3,7 +3,7 @@ use Rattle.std.proofs.Common.{ℕ, nat_eq, ◌≡◌, if◌then◌else◌, List,
 use Rattle.outside_io.specs.Files.{FilesState}
 use Rattle.command_words.specs.Names.{Word}
 use Rattle.htn_cli.specs.Answer.{Answer, refuses}
-use Rattle.hddl_values.specs.FaultWords.{fault_word}
+use Rattle.text_values.specs.FaultWords.{fault_word}
 use Rattle.htn_cli.specs.Faults.{IsNoLimit, limit_code, limit_word, place_text, fault_text}
 use Rattle.htn_cli.specs.Inputs.{IsFirstTooLarge}
 use Rattle.htn_cli.specs.Ending.{status_by, line_by}

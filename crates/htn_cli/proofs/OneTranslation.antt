@@ -6,7 +6,7 @@ use Rattle.plan_model.specs.declared.values.Pddl.{Pddl}
 use Rattle.plan_texts.specs.PrintedTexts.{domain_text, problem_text}
 use Rattle.plan_meaning.specs.Bound.{IsBound}
 use Rattle.encoded_texts.specs.FullyEncoded.{IsFullyEncoded}
-use Rattle.problem_bound.specs.NoBound.{NamesCycle}
+use Rattle.bound_calc.specs.NoBound.{NamesCycle}
 use Rattle.command_words.specs.Names.{Word, Names}
 use Rattle.command_words.specs.Bounds.{most_slots}
 use Rattle.command_words.specs.Words.{TranslationRequest, BoundRequest, to_translate, to_bound, number_of}

@@ -21,11 +21,11 @@ use Rattle.ground_state.specs.declared.verdict.FailWhy.{FailWhy}
 use Rattle.form_spellings.specs.SoundPddl.{IsSoundClassical}
 use Rattle.text_forms.specs.Faults.{fault}
 use Rattle.hddl_reader.specs.declared.sections.Language.TheVariants as language
-use Rattle.hddl_values.specs.TextFaults.{HaveNoFault}
-use Rattle.pddl_values.specs.Values.{IsValueOf}
+use Rattle.text_values.specs.TextFaults.{HaveNoFault}
+use Rattle.text_values.specs.PddlValues.{IsValueOf}
 use Rattle.plan_text.specs.Plans.{IsPlanFault, IsPlanRead}
-use Rattle.plan_check.specs.declared.checked.Checked.TheVariants as checked
-use Rattle.plan_check.specs.Checks.{IsChecked}
+use Rattle.htn_cli.specs.declared.checked.Checked.TheVariants as checked
+use Rattle.htn_cli.specs.Checks.{IsChecked}
 use Rattle.htn_cli.specs.Validation.{Spell, IsLeastOfThree, of_plan, most_steps}
 use Rattle.htn_cli.specs.Stops.{IsConfirmedFor, StopsFor}
 use Rattle.htn_cli.specs.declared.refusal.Refusal.TheVariants as refused

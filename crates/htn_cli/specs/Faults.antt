@@ -2,8 +2,8 @@
 -- Source: this project's.
 use Rattle.std.specs.Prelude.{ℕ, zero, suc, ◌≡◌, ◌≢◌, List, ◌++◌, codes, decimal}
 use Rattle.hddl_reader.specs.declared.sections.Language.TheVariants.{Hddl}
-use Rattle.hddl_values.specs.TextFaults.{IsLeastFault}
-use Rattle.hddl_values.specs.FaultWords.{fault_word}
+use Rattle.text_values.specs.TextFaults.{IsLeastFault}
+use Rattle.text_values.specs.FaultWords.{fault_word}
 use Rattle.command_words.specs.Names.{Word}
 use Rattle.htn_cli.specs.declared.faults.Place.{Place}
 use Rattle.htn_cli.specs.declared.faults.Counted.{Counted}

@@ -8,9 +8,9 @@ use Rattle.plan_model.specs.declared.values.Hddl.{Hddl}
 use Rattle.plan_model.specs.declared.values.Compiled.{Compiled}
 use Rattle.plan_meaning.specs.Bound.{IsBound}
 use Rattle.plan_meaning.specs.Compilation.{IsCompiled}
-use Rattle.problem_bound.specs.NoBound.{NamesCycle}
+use Rattle.bound_calc.specs.NoBound.{NamesCycle}
 use Rattle.command_words.specs.Names.{Word}
-use Rattle.hddl_values.specs.Values.{IsValueOf}
+use Rattle.text_values.specs.Values.{IsValueOf}
 use Rattle.htn_cli.specs.Faults.{HaveLeastFault}
 use Rattle.htn_cli.specs.declared.faults.Place.{Place}
 

@@ -12,3 +12,4 @@ pub mod Line
 pub mod Printing
 pub mod Stops
 pub mod OneAnswer
+pub mod Checks

@@ -8,16 +8,16 @@ use Rattle.plan_model.specs.declared.values.Hddl.{Hddl}
 use Rattle.plan_model.specs.declared.values.Compiled.{Compiled}
 use Rattle.plan_model.specs.declared.values.Pddl.{Pddl}
 use Rattle.plan_meaning.specs.Bound.{IsBound}
-use Rattle.pddl_values.specs.Values as pddl
+use Rattle.text_values.specs.PddlValues as pddl
 use Rattle.plan_meaning.specs.Compilation.{IsCompiled}
-use Rattle.problem_bound.specs.NoBound.{NamesCycle}
+use Rattle.bound_calc.specs.NoBound.{NamesCycle}
 use Rattle.command_words.specs.Names.{Word, Names}
 use Rattle.command_words.specs.Bounds.{most_slots}
 use Rattle.command_words.specs.Words.{ValidationRequest, number_of}
 use Rattle.htn_cli.specs.Texts.{Texts, AreTooLong, texts_of}
 use Rattle.htn_cli.specs.Printing.{AreWhole}
 use Rattle.htn_cli.specs.declared.translation.Made.{Made}
-use Rattle.hddl_values.specs.Values.{IsValueOf}
+use Rattle.text_values.specs.Values.{IsValueOf}
 use Rattle.htn_cli.specs.Faults.{HaveLeastFault, IsNoLimit, limit_code}
 use Rattle.htn_cli.specs.Inputs.{IsInput, IsTooLarge, IsFirstTooLarge, FailsToRead, HaveFault, HaveProblem}
 use Rattle.htn_cli.specs.Validation.{AreConfirmed, HavePlan, RefuseTexts, RefusesValidation, validation_inputs}

@@ -9,8 +9,8 @@ use Rattle.plan_model.specs.declared.values.Pddl.{Pddl}
 use Rattle.plan_meaning.specs.ClassicalPlan.{IsPlan}
 use Rattle.plan_meaning.specs.FailingStep.{Fails}
 use Rattle.ground_state.specs.Runs.{cause}
-use Rattle.hddl_values.specs.TextFaults.{HaveNoFault, IsLeastFault}
-use Rattle.pddl_values.specs.Values.{IsValueOf}
+use Rattle.text_values.specs.TextFaults.{HaveNoFault, IsLeastFault}
+use Rattle.text_values.specs.PddlValues.{IsValueOf}
 use Rattle.plan_text.specs.Plans.{IsPlanFault, IsPlanRead}
 use Rattle.command_words.specs.Names.{Word}
 use Rattle.command_words.specs.Words.{ValidationRequest}

@@ -5,6 +5,8 @@
 
 mod bounding;
 mod building;
+mod checked;
+mod checking;
 mod faults;
 mod laws;
 mod manner;

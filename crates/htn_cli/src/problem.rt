@@ -1,22 +1,22 @@
 ghost use Rattle.std.specs.Prelude.{ℕ, ◌≤◌, List, length, IfOk, IfErr};
 ghost use Rattle.outside_io.specs.Seen.{Seen};
 ghost use Rattle.plan_meaning.specs.Bound.{IsBound};
-ghost use Rattle.problem_bound.specs.Soundly.{IsSoundlyCompiled};
+ghost use Rattle.bound_calc.specs.Soundly.{IsSoundlyCompiled};
 ghost use Rattle.hddl_reader.specs.declared.sections.Language.TheVariants as language;
-ghost use Rattle.hddl_values.specs.TextFaults.{IsLeastFault};
+ghost use Rattle.text_values.specs.TextFaults.{IsLeastFault};
 ghost use Rattle.htn_cli.specs.Inputs.{longest_input};
 ghost use Rattle.htn_cli.specs.Stops.{GivesInput, GivesProblem, GivesTexts, StopsBound, StopsInput, StopsProblem, StopsTexts};
 
 use crate::faults::{Place, limit_of, name_of};
 use crate::refusal::Refusal;
-use hddl_values::hddl_of;
+use bound_calc::{NoBound, problem_bound};
 use htn_base::Fault;
 use method_precs::compile;
 use outside_io::{Files, GetError};
 use plan_model::{Checks, Compiled};
-use problem_bound::{NoBound, problem_bound};
 use sexpr_text::ReadError;
 use std::alloc::Global;
+use text_values::hddl_of;
 
 /// The greatest length of an input text, in bytes.
 const LONGEST_INPUT: usize = 16_777_216;

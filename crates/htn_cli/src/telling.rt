@@ -9,9 +9,9 @@ ghost use Rattle.htn_cli.specs.Sent.{StopsAt, TakesWhole, Told};
 use crate::faults::Place;
 use crate::refusal::{Line, Middle, Refusal};
 use crate::sending::send;
-use hddl_values::fault_word;
 use itoa::Buffer;
 use outside_io::{Sink, WriteError};
+use text_values::fault_word;
 
 /// Writes the line of a refusal, as far as the sink takes it.
 pub(crate) fn tell<E: Sink>(err: &mut E, refusal: &Refusal<'_>)

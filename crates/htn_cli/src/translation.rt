@@ -4,7 +4,7 @@ ghost use Rattle.outside_io.specs.Seen.{Seen};
 ghost use Rattle.command_words.specs.Names.{AreApart, names_of};
 ghost use Rattle.command_words.specs.Bounds.{IsNumeral};
 ghost use Rattle.command_words.specs.Words.{to_translate, translation_of};
-ghost use Rattle.problem_bound.specs.Soundly.{IsSoundlyCompiled};
+ghost use Rattle.bound_calc.specs.Soundly.{IsSoundlyCompiled};
 ghost use Rattle.htn_cli.specs.Ending.{Achieves};
 ghost use Rattle.htn_cli.specs.Left.{BothStand, Leaves, slots_line};
 ghost use Rattle.htn_cli.specs.Sent.{TakesWhole};

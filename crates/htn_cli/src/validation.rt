@@ -9,6 +9,8 @@ ghost use Rattle.htn_cli.specs.Sent.{TakesWhole};
 ghost use Rattle.htn_cli.specs.Stops.{GivesPlan, IsConfirmedFor, StopsFor, StopsPlan, StopsPrint, StopsTextsOf};
 ghost use Rattle.htn_cli.specs.Validation.{AreConfirmed, IsLeastOfThree, validation_inputs};
 
+use crate::checked::Checked;
+use crate::checking::check;
 use crate::faults::{Place, limit_of};
 use crate::problem::read;
 use crate::refusal::Refusal;
@@ -16,11 +18,10 @@ use crate::sending::send;
 use command_words::Validation;
 use htn_base::Fault;
 use outside_io::{Files, Sink, WriteError};
-use pddl_values::pddl_of;
-use plan_check::{Checked, check};
 use plan_model::Pddl;
 use sexpr_text::ReadError;
 use std::alloc::Global;
+use text_values::pddl_of;
 
 /// The greatest number of steps of a plan.
 const MOST_STEPS: u32 = 1_000_000;

@@ -14,7 +14,7 @@ use Rattle.hddl_reader.specs.declared.sections.RawDomain.{RawDomain}
 use Rattle.hddl_reader.specs.declared.sections.RawProblem.{RawProblem}
 use Rattle.hddl_reader.specs.Definitions.{language_of}
 use Rattle.name_faults.specs.Faults.{HasDomainFault, HasProblemFault, IsInFront, IsLeast}
-use Rattle.hddl_values.specs.TextFaults.{IsDomainOf, IsProblemOf, IsGoodDomain, IsGoodProblem, IsLeastOfDomain, domain_tokens, domain_form, domain_names, IsLeastOfProblem, problem_tokens, problem_form, problem_names, IsLeastFault, in_domain, in_problem, HaveNoFault}
+use Rattle.text_values.specs.TextFaults.{IsDomainOf, IsProblemOf, IsGoodDomain, IsGoodProblem, IsLeastOfDomain, domain_tokens, domain_form, domain_names, IsLeastOfProblem, problem_tokens, problem_form, problem_names, IsLeastFault, in_domain, in_problem, HaveNoFault}
 use Rattle.plan_model.specs.declared.steps.GroundAction.{GroundAction}
 use Rattle.plan_text.specs.Plans.{IsPlanFault, IsPlanRead}
 use Rattle.one_fault.specs.OneFault.{HaveOneFault, HasOnePlanFault}

@@ -3,7 +3,7 @@
 use Rattle.std.specs.Prelude.{ℕ, ◌≡◌, List}
 use Rattle.text_forms.specs.Faults.{Fault}
 use Rattle.hddl_reader.specs.declared.sections.Language.{Language}
-use Rattle.hddl_values.specs.TextFaults.{IsLeastFault, HaveNoFault}
+use Rattle.text_values.specs.TextFaults.{IsLeastFault, HaveNoFault}
 use Rattle.plan_model.specs.declared.steps.GroundAction.{GroundAction}
 use Rattle.plan_text.specs.Plans.{IsPlanFault, IsPlanRead}
 

@@ -5,7 +5,6 @@ ghost use Rattle.plan_meaning.specs.Laws.{AreOrdered};
 ghost use Rattle.problem_texts.specs.ArePrinted.{IsCompiledProblem};
 
 use crate::rows::{ROWS, Row};
-use hddl_values::hddl_of;
 use htn_base::{Memory, Text};
 use method_precs::compile;
 use outside_io::{DiskFiles, Files, GetError};
@@ -16,6 +15,7 @@ use sexpr_text::ReadError;
 use slot_encoder::encode;
 use std::alloc::{AllocError, Global};
 use std::io::{self, Write};
+use text_values::hddl_of;
 
 /// More bytes than a text of `data/` has.
 const LIMIT: u64 = 65536;

@@ -1,7 +1,7 @@
 //! Small PDDL texts with ample memory: their least fault, and the value of two without one. Offsets are counted by hand.
 
 use htn_base::{Fault, Memory, Text};
-use pddl_values::pddl_of;
+use text_values::pddl_of;
 use plan_model::Pddl;
 use sexpr_text::ReadError;
 use std::alloc::Global;

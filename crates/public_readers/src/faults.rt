@@ -1,7 +1,7 @@
 //! Texts with two faults of names or more, the least of which is told: of the domain first, then by offset, then by code. Offsets are
 //! counted by hand.
 
-use hddl_values::hddl_of;
+use text_values::hddl_of;
 use htn_base::Fault;
 use sexpr_text::ReadError;
 use std::alloc::{AllocError, Global};

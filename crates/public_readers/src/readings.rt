@@ -1,6 +1,6 @@
 //! Two small texts are read to their value with ample memory.
 
-use hddl_values::hddl_of;
+use text_values::hddl_of;
 use plan_model::Hddl;
 
 const DOMAIN: &[u8] = b"(define (domain d) (:task t :parameters ())

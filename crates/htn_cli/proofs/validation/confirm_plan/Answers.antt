@@ -3,7 +3,7 @@ use Rattle.htn_base.specs.declared.fault.Fault.{Fault}
 use Rattle.sexpr_text.specs.declared.read_error.ReadError.TheVariants.{Bad}
 use Rattle.plan_text.specs.Plans.{RefusesPlan}
 use Rattle.command_words.specs.Words as words
-use Rattle.plan_check.specs.Checks.{IsChecked}
+use Rattle.htn_cli.specs.Checks.{IsChecked}
 use Rattle.htn_cli.specs.Validation.{IsLeastOfThree, most_steps, validation_inputs}
 use Rattle.htn_cli.proofs.Validations.{sound_runnable, confirmed_for, too_many_for, fails_for, least_of_plan}
 use Rattle.htn_cli.proofs.validation.confirm_plan.Goals as goal

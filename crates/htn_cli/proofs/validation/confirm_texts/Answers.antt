@@ -1,7 +1,7 @@
 use Rattle.std.proofs.Common.{subst, sym}
 use Rattle.htn_base.specs.declared.fault.Fault.{Fault}
 use Rattle.sexpr_text.specs.declared.read_error.ReadError.TheVariants.{Bad}
-use Rattle.pddl_values.specs.Values.{IsRefusal}
+use Rattle.text_values.specs.PddlValues.{IsRefusal}
 use Rattle.htn_cli.specs.Validation.{IsLeastOfThree, of_problem}
 use Rattle.htn_cli.proofs.Results.{on_ok_too}
 use Rattle.htn_cli.proofs.validation.confirm_texts.Goals as goal

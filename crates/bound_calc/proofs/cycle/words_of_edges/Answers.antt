@@ -1,0 +1,13 @@
+use Rattle.stratifier.specs.declared.edge.Edge.{Edge}
+use Rattle.bound_calc.proofs.Cycles.{begun-more}
+use Rattle.bound_calc.proofs.cycle.words_of_edges.Goals as goal
+
+abbrev none : Edge
+none = record { method = 0; child = 0 }
+
+pub loop-edge-preserved : goal.loop-edge-preserved
+loop-edge-preserved c =
+    let more = begun-more c.args.c.now c.args.edges.now c.loop-edge.edge-index none c.loop-edge-test.true in
+    let pushed = c.in_ok-push_edge.ensures.pushed in
+    let before = c.loop-edge.invariant in
+    cc

@@ -1,5 +1,0 @@
-pub mod DomainTexts
-pub mod ProblemTexts
-pub mod Refusals
-mod HddlTexts
-pub mod Spelled

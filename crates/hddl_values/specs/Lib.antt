@@ -1,5 +1,0 @@
-pub mod TextFaults
-pub mod Values
-pub mod Reading
-pub mod Exactly
-pub mod FaultWords

@@ -1,0 +1,67 @@
+-- A plan that is checked step by step.
+use Rattle.std.proofs.Common.{◌≡◌, ◌∙◌, ℕ, ◌+◌, ◌≤◌, true, false, Some, None, List, [], ◌∷◌, ◌++◌, length, sym, ap, subst, append_assoc, arith}
+use Rattle.std.proofs.lemmas.List.{append-nil, length-append}
+use Rattle.plan_model.specs.declared.steps.GroundAction.{GroundAction}
+use Rattle.plan_model.specs.declared.values.Pddl.{Pddl}
+use Rattle.plan_meaning.specs.ClassicalPlan.{IsPlan}
+use Rattle.plan_meaning.specs.FailingStep.{Fails, goal_false}
+use Rattle.ground_state.specs.declared.run.Run.{Run}
+use Rattle.ground_state.specs.declared.verdict.FailWhy.{FailWhy}
+use Rattle.ground_state.specs.declared.verdict.FailWhy.TheVariants as why
+use Rattle.ground_state.specs.Runs.{cause, HasTaken, Takes, Reaches}
+use Rattle.htn_cli.specs.declared.checked.Checked.TheVariants as checked
+use Rattle.htn_cli.specs.Checks.{Judges}
+
+module _ (p : Pddl) (most : ℕ) (plan : List GroundAction) where
+  -- The steps in front of these are taken, and the next has the number.
+  pub record IsCheckedTo (steps : List GroundAction) (number : ℕ) (run : Run) : Type 0 where
+    pub few : length plan ≤ most
+    pub taken : List GroundAction
+    pub whole : plan ≡ taken ++ steps
+    pub next : number ≡ length taken + 1
+    pub run_is : HasTaken p taken run
+
+  pub none-taken : (steps : List GroundAction) (run : Run) → length plan ≤ most → steps ≡ plan → HasTaken p [] run → IsCheckedTo steps 1 run
+  none-taken steps run few e h = record { few = few; taken = []; whole = sym e; next = omega arith; run_is = h }
+
+  -- the number is one of a step, or the one behind all
+  pub number-fits : (steps : List GroundAction) (number : ℕ) (run : Run) → IsCheckedTo steps number run → number ≤ most + 1
+  number-fits steps number run c =
+      let a = c.few in
+      let b = c.next in
+      let d = ap length c.whole ∙ length-append c.taken steps in
+      omega arith
+
+  module _ (steps more : List GroundAction) (step : GroundAction) (number : ℕ) (old new : Run) (c : IsCheckedTo steps number old) (e : steps ≡ step ∷ more) where
+    pub number-next : number ≤ most
+    number-next =
+        let a = c.few in
+        let b = c.next in
+        let d = ap length c.whole ∙ length-append c.taken steps in
+        let f = ap length e in
+        omega arith
+
+    pub one-taken : Takes step old new None → IsCheckedTo more (number + 1) new
+    one-taken t =
+        let b = c.next in
+        let d = length-append c.taken (step ∷ []) in
+        record {
+          few = c.few;
+          taken = c.taken ++ step ∷ [];
+          whole = c.whole ∙ ap (λ s. c.taken ++ s) e ∙ sym (append_assoc c.taken (step ∷ []) more);
+          next = omega arith;
+          run_is = t p c.taken c.run_is;
+        }
+
+    pub one-fails : (w : FailWhy) → Takes step old new (Some w) → Judges p most plan (checked.Fails number w)
+    one-fails w t = (c.few, subst (λ n. Fails p plan n (cause w)) (sym c.next) (subst (λ s. Fails p s (length c.taken + 1) (cause w)) (sym (c.whole ∙ ap (λ s. c.taken ++ s) e)) (t p c.taken c.run_is more)))
+
+  module _ (steps : List GroundAction) (number : ℕ) (run : Run) (c : IsCheckedTo steps number run) (e : steps ≡ []) where
+    all-taken : c.taken ≡ plan
+    all-taken = sym (c.whole ∙ ap (λ s. c.taken ++ s) e ∙ append-nil c.taken)
+
+    pub goal-holds : Reaches run true → Judges p most plan checked.Plan
+    goal-holds r = (c.few, subst (IsPlan p) all-taken (r p c.taken c.run_is))
+
+    pub goal-fails : Reaches run false → Judges p most plan (checked.Fails number why.GoalFalse)
+    goal-fails r = (c.few, subst (λ n. Fails p plan n goal_false) (sym c.next) (subst (λ s. Fails p s (length c.taken + 1) goal_false) all-taken (r p c.taken c.run_is)))

@@ -1,2 +1,0 @@
-mod PddlTexts
-mod Exactly

@@ -1,5 +1,0 @@
-use Rattle.pddl_values.proofs.Exactly.{spelled_have_none}
-use Rattle.pddl_values.proofs.laws.spelled_pddl_has_no_fault.Goals as goal
-
-pub returns : goal.returns
-returns c = spelled_have_none c.spelled_texts_are_faultless.ensures.pddl

@@ -1,6 +1,0 @@
-use Rattle.std.proofs.Common.{◌≡◌, take}
-use Rattle.problem_bound.specs.NoBound.{begun, spaced}
-use Rattle.problem_bound.proofs.cycle.words_of_edges.Given as goal
-
-abbrev pub invariant-loop-edge : goal.invariant-loop-edge
-invariant-loop-edge l = l.text ≡ spaced (begun l.c (take l.edge-index l.edges))

@@ -1,2 +1,0 @@
-pub mod Soundly
-pub mod NoBound

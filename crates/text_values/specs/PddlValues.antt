@@ -1,0 +1,21 @@
+-- The value of two PDDL texts.
+-- Source: this project's.
+use Rattle.std.specs.Prelude.{ℕ, List}
+use Rattle.hddl_reader.specs.declared.sections.Language.TheVariants as language
+use Rattle.plan_model.specs.declared.values.Pddl.{Pddl}
+use Rattle.form_spellings.specs.PddlTexts.{IsPddlOf}
+use Rattle.form_spellings.specs.SoundPddl.{IsSoundClassical}
+use Rattle.sexpr_text.specs.declared.read_error.ReadError.{ReadError}
+use Rattle.text_values.specs.TextFaults.{HaveNoFault}
+use Rattle.text_values.specs.Values as texts
+
+module _ (domain problem : List ℕ) where
+  -- The texts have no fault and spell the value, which is sound.
+  pub record IsValueOf (c : Pddl) : Type 0 where
+    pub faultless : HaveNoFault language.Pddl domain problem
+    pub spelled : IsPddlOf domain problem c
+    pub sound : IsSoundClassical c
+
+  -- the least fault of the two texts; or memory ran out
+  abbrev pub IsRefusal : ReadError → Type 0
+  IsRefusal = texts.IsRefusal domain problem language.Pddl

@@ -1,0 +1,31 @@
+-- What two texts come to: what is read and bound of them, in either language, and the value of two HDDL texts.
+-- Source: this project's.
+use Rattle.std.specs.Prelude.{ℕ, List}
+use Rattle.hddl_reader.specs.declared.sections.Language.{Language}
+use Rattle.hddl_reader.specs.declared.sections.Language.TheVariants as language
+use Rattle.plan_model.specs.declared.values.Hddl.{Hddl}
+use Rattle.plan_texts.specs.FirstSeen.{IsHddlOf}
+use Rattle.plan_texts.specs.SoundProblem.{IsSoundProblem}
+use Rattle.plan_meaning.specs.Laws.{AreOrdered}
+use Rattle.sexpr_text.specs.declared.read_error.ReadError.{ReadError}
+use Rattle.sexpr_text.specs.declared.read_error.ReadError.TheVariants as errors
+use Rattle.binding_laws.specs.SoundValues.{IsBoundOf}
+use Rattle.text_values.specs.TextFaults.{IsLeastFault, HaveNoFault}
+
+module _ (domain problem : List ℕ) where
+  -- The texts have no fault, and this is what is read of them and bound: of PDDL without tasks, methods and a network.
+  pub record AreReadAs (l : Language) (h : Hddl) : Type 0 where
+    pub faultless : HaveNoFault l domain problem
+    pub bound : IsBoundOf l domain problem h
+
+  -- The texts have no fault and spell the value, which is sound and whose networks have no cycle.
+  pub record IsValueOf (h : Hddl) : Type 0 where
+    pub faultless : HaveNoFault language.Hddl domain problem
+    pub spelled : IsHddlOf domain problem h
+    pub sound : IsSoundProblem h
+    pub ordered : AreOrdered h
+
+  -- the least fault of the two texts; or memory ran out
+  abbrev pub IsRefusal : Language → ReadError → Type 0
+  IsRefusal l errors.Memory = Unit {0}
+  IsRefusal l (errors.Bad f) = IsLeastFault l domain problem f.file f.code f.at

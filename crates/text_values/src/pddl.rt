@@ -1,0 +1,60 @@
+ghost use Rattle.std.specs.Prelude.{◌≡◌, ◌≤◌, length, IfOk, IfErr};
+ghost use Rattle.form_spellings.specs.PddlTexts.{without_tasks};
+ghost use Rattle.text_values.specs.PddlValues.{IsValueOf, IsRefusal};
+
+use crate::values::read_as;
+use binding_laws::read_pddl_is_its_value;
+use hddl_reader::Language;
+use plan_model::{Hddl, Pddl};
+use sexpr_text::ReadError;
+use std::alloc::Global;
+
+/// The value that two PDDL texts spell, a domain's and a problem's, each of at most 16,777,216 bytes. `Bad` has their least fault,
+/// by file (0 for the domain, 1 for the problem), phase (tokens, form, names), offset in bytes and code.
+pub fn pddl_of(alloc: Global, domain: &[u8], problem: &[u8]) -> Result<Pddl, ReadError>
+    requires domain_short { length domain.now ≤ 16777216 }
+    requires problem_short { length problem.now ≤ 16777216 }
+    ensures value { IfOk result (IsValueOf domain.now problem.now) }
+    ensures refused { IfErr result (IsRefusal domain.now problem.now) }
+{
+    // a law, which does nothing
+    read_pddl_is_its_value();
+    match read_as(alloc, Language::Pddl, domain, problem) {
+        Ok(value) => Ok(without_tasks(value)),
+        Err(error) => Err(error),
+    }
+}
+
+/// What a value says without its tasks and methods. Its table keeps the word `htn_start`, which nothing names then.
+fn without_tasks(value: Hddl) -> Pddl
+    ensures { result ≡ without_tasks value }
+{
+    let Hddl {
+        names,
+        domain,
+        problem,
+        types,
+        objects,
+        predicates,
+        tasks,
+        actions,
+        methods,
+        top,
+        init,
+        goal,
+    } = value;
+    drop(tasks);
+    drop(methods);
+    drop(top);
+    Pddl {
+        names,
+        domain,
+        problem,
+        types,
+        objects,
+        predicates,
+        actions,
+        init,
+        goal,
+    }
+}
