@@ -29,18 +29,18 @@ trap 'rm -rf "$work"' EXIT
 mkdir -p "$work/crates/values_bench/src"
 for crate in htn_base task_networks text_forms form_grammar sexpr_text gd_reader form_faults hddl_reader name_faults plan_model \
     plan_meaning net_order plan_texts form_spellings fault_laws name_numbers bind_types bind_formulas bind_networks hddl_bind \
-    binding_laws hddl_values; do
+    binding_laws text_values; do
     cp -a "$top/crates/$crate" "$work/crates/"
     grep "^$crate:" "$top/crates.txt" >>"$work/crates.txt"
 done
-echo 'values_bench: htn_base sexpr_text plan_model hddl_values' >>"$work/crates.txt"
+echo 'values_bench: htn_base sexpr_text plan_model text_values' >>"$work/crates.txt"
 cp "$top/HANDLES" "$work/"
 cat >"$work/crates/values_bench/src/main.rt" <<'PROGRAM'
 //! Takes a domain's file and a problem's: reads them alone (`files`), with each of their tokens (`tokens`), or as the `value` that they
 //! stand for. Prints the tokens, or 0, and the milliseconds.
 #![tactic(auto)]
 
-use hddl_values::hddl_of;
+use text_values::hddl_of;
 use htn_base::Fault;
 use sexpr_text::{ReadError, read};
 use std::io::{self, ErrorKind, Read};
