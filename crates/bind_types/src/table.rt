@@ -47,13 +47,6 @@ impl TypeTable {
         }
     }
 
-    /// The number of types.
-    pub fn types_len(&self) -> usize
-        ensures length { result ≡ length self.now.types }
-    {
-        self.types.len()
-    }
-
     /// The numbers of the names of the types, `object` first.
     pub fn numbers(&self) -> &[u32]
         ensures numbers { result.now ≡ self.now.types }

@@ -6,8 +6,7 @@
 //! line of each action, and its end. What such a quantifier says of each object, and that a variable differs from each of
 //! others, is drawn once, with places for the word, and put from there. On a sheet that takes nothing more it is counted all
 //! at once. Small pieces, as those of a list's items or of an atom, wait in a batch and are put together. Two calls append a
-//! value's texts, which spell it where it is printable, and two those with the quantifiers written out; after want of memory a
-//! prefix of the text stands.
+//! value's texts, which spell it where it is printable; after want of memory a prefix of the text stands.
 #![tactic(auto)]
 
 mod batch;
@@ -37,5 +36,5 @@ pub use object_range::Range;
 pub use pages::{put_domain_start, put_problem};
 pub use schemas::put_action;
 pub use splits::{Split, put_split};
-pub use texts::{print_domain, print_problem, print_written_out_domain, print_written_out_problem};
+pub use texts::{print_domain, print_problem};
 pub use written::Written;

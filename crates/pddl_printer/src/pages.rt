@@ -16,12 +16,11 @@ use plan_model::{Pddl, Scope};
 use sheets::Sheet;
 
 /// Puts the domain, each section on a line of its own.
-pub(crate) fn put_domain(p: &Pddl, written: Option<Written>, sheet: &mut Sheet<'_>)
-    requires measured { IfSome written (IsMeasured p.now) }
-    ensures { Wrote (domain_text (value_in (range_of written) p.now)) sheet.old sheet.new }
+pub(crate) fn put_domain(p: &Pddl, sheet: &mut Sheet<'_>)
+    ensures { Wrote (domain_text p.now) sheet.old sheet.new }
 {
     put_domain_start(p, sheet);
-    put_actions(p, written, p.actions.as_slice(), sheet);
+    put_actions(p, None, p.actions.as_slice(), sheet);
     sheet.put(b")\n");
 }
 
