@@ -4,7 +4,7 @@ use Rattle.std.specs.Prelude.{option_map}
 use Rattle.std.specs.Str.{bytes_eq}
 use Rattle.std.proofs.lemmas.Bool.{eqb-true, eqb-false}
 use Rattle.htn_base.specs.Different.{AreDifferent}
-use Rattle.text_forms.specs.Words.{Word, word_at}
+use Rattle.text_forms.specs.Words.{word_at}
 use Rattle.text_forms.specs.Words as words
 use Rattle.gd_reader.specs.Terms.{Names}
 use Rattle.plan_texts.proofs.Basics.{bytes_eq-refl, bytes_eq-other}

@@ -11,7 +11,7 @@ use Rattle.hddl_reader.specs.declared.sections.RawDomain.{RawDomain}
 use Rattle.plan_model.specs.declared.formulas.Formula.{Formula, roll-Formula}
 use Rattle.plan_model.specs.declared.formulas.Formula.TheOpen.{Formula-F}
 use Rattle.plan_model.specs.declared.formulas.Formula.TheVariants as formula
-use Rattle.plan_model.specs.declared.formulas.Formula.TheVariants.{rolls-Holds, rolls-Equal, rolls-Not, rolls-And, rolls-Or, rolls-Imply, rolls-Forall, rolls-Exists}
+use Rattle.plan_model.specs.declared.formulas.Formula.TheVariants.{rolls-Holds, rolls-Not, rolls-And, rolls-Or, rolls-Imply, rolls-Forall, rolls-Exists}
 use Rattle.plan_model.specs.declared.terms.Param.{Param}
 use Rattle.plan_texts.specs.Declared.{Declared, variable}
 use Rattle.plan_texts.specs.Printable.{sound_step, IsSound}

@@ -10,14 +10,14 @@ use Rattle.hddl_reader.specs.declared.sections.RawDomain.{RawDomain}
 use Rattle.plan_model.specs.declared.types.Parent.{Parent}
 use Rattle.plan_model.specs.Typing.{Leads, stay, climb}
 use Rattle.plan_texts.specs.Declared.{Declared}
-use Rattle.plan_texts.specs.Types.{EachIs, TypeItem, Mentions, IsPairOf}
+use Rattle.plan_texts.specs.Types.{EachIs, Mentions, IsPairOf}
 use Rattle.plan_texts.specs.Types as value
 use Rattle.plan_texts.proofs.Members.{each-has, has-contains, contains-has}
 use Rattle.plan_texts.proofs.Places.{first-different}
 use Rattle.form_spellings.specs.Bound.{parent_of, IsBoundType}
 use Rattle.form_spellings.specs.BoundTexts.{AreBoundTypes}
 use Rattle.name_faults.specs.Lists.{One, Has}
-use Rattle.name_faults.specs.Types.{mentioned, IsType, IsParent, ClosesCycle, TypeCycle, IsOneTooMany}
+use Rattle.name_faults.specs.Types.{mentioned, IsType, IsParent, TypeCycle, IsOneTooMany}
 use Rattle.name_faults.specs.Types.{direct, through}
 use Rattle.name_faults.specs.Types as words
 use Rattle.name_faults.specs.Words.{WordAt, term_word, param_word, term_at}

@@ -8,7 +8,7 @@ use Rattle.plan_model.specs.declared.schemas.ActionSchema.{ActionSchema}
 use Rattle.plan_model.specs.declared.steps.GroundAction.{GroundAction}
 use Rattle.plan_model.specs.declared.values.Pddl.{Pddl}
 use Rattle.plan_meaning.specs.Truth as truth
-use Rattle.plan_meaning.specs.Truth.{AreTyped, IsTrueIn, after}
+use Rattle.plan_meaning.specs.Truth.{AreTyped, IsTrueIn}
 use Rattle.plan_meaning.specs.ClassicalPlan.{InTypeOf, IsApplicable, EndsIn, IsPlan}
 use Rattle.plan_meaning.specs.FailingStep.{Cause, unknown_action, arguments, condition, goal_false, IsNamed, IsInstance, FailsIn, Fails, AreNamedApart}
 use Rattle.plan_meaning.proofs.SameStates.{same_truth, same_after}

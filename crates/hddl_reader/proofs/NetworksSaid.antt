@@ -5,7 +5,7 @@ use Rattle.text_forms.specs.Words.{Word, is_name}
 use Rattle.form_grammar.specs.Lists.{TermDue, term_rows}
 use Rattle.form_grammar.specs.Lists as due
 use Rattle.form_grammar.specs.Networks.{NetworkDue, of_terms, group, subs, more_subs, sub, behind_id, pairs, more_pairs, pair, id, sign, cons, more_cons, con, equality, sub_word, pair_word, con_word, network_rows}
-use Rattle.form_grammar.specs.Rows.{Next, go, stop, if_allowed, Row, form, row, list_or_end, word_or_end}
+use Rattle.form_grammar.specs.Rows.{Next, go, stop, if_allowed, form, list_or_end, word_or_end}
 use Rattle.form_grammar.specs.Rows as rows
 use Rattle.form_grammar.specs.Words as words
 use Rattle.form_grammar.proofs.Meaning.{form_same}

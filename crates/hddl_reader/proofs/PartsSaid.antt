@@ -33,7 +33,7 @@ use Rattle.hddl_reader.specs.declared.parts.Parted.{Parted}
 use Rattle.hddl_reader.specs.declared.parts.Parted.TheVariants as parted
 use Rattle.hddl_reader.specs.declared.parts.RawParts.{RawParts}
 use Rattle.hddl_reader.specs.Networks.{sub_headed, pair_headed, con_headed, some_of}
-use Rattle.hddl_reader.specs.Parts.{no_parts, is_there, stands, keyword_by, part_of, part_read, may_end, parts, parts_from}
+use Rattle.hddl_reader.specs.Parts.{no_parts, is_there, stands, part_of, part_read, may_end, parts, parts_from}
 use Rattle.hddl_reader.specs.Parts as reader
 use Rattle.hddl_reader.proofs.Answers.{said_behind}
 use Rattle.hddl_reader.proofs.NetworksSaid.{subs_said, pairs_said, cons_said}

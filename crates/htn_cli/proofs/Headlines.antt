@@ -30,7 +30,7 @@ use Rattle.htn_cli.specs.Answer.{Answer, refuses, writes, tells, confirms, AreSl
 use Rattle.htn_cli.specs.Left.{BothStand, StandsUpTo, Leaves, inputs_of, slots_line, bound_line, valid_line}
 use Rattle.htn_cli.specs.Sent.{TakesWhole, Told}
 use Rattle.htn_cli.specs.Ending.{Achieves, IsDone, IsRefused}
-use Rattle.htn_cli.specs.Promise.{IsTold, AreToldInputs, KeepsPlans, TellsBound, TellsCycle, TellsPlan, TellsFailure, TellsFinding, HasHeadline, HasBound, HasPlan, HasFinding}
+use Rattle.htn_cli.specs.Promise.{KeepsPlans, TellsBound, TellsCycle, TellsPlan, TellsFailure, TellsFinding, HasHeadline, HasBound, HasPlan, HasFinding}
 use Rattle.htn_cli.specs.Refusal.{status_of, line_of}
 use Rattle.htn_cli.specs.declared.status.Status.TheVariants as status
 use Rattle.htn_cli.specs.declared.refusal.Refusal.{Refusal}

@@ -8,7 +8,7 @@ use Rattle.plan_model.specs.declared.values.Compiled.{Compiled}
 use Rattle.command_words.specs.Names.{Word}
 use Rattle.command_words.specs.Words.{ValidationRequest}
 use Rattle.htn_cli.specs.Faults.{limit_code, HaveLeastFault}
-use Rattle.htn_cli.specs.Inputs.{longest_input, Reads, IsInput, IsTooLarge, IsReached, IsFirstTooLarge, FailsToRead, HaveFault}
+use Rattle.htn_cli.specs.Inputs.{longest_input, IsInput, IsTooLarge, IsReached, IsFirstTooLarge, FailsToRead, HaveFault}
 use Rattle.htn_cli.specs.Validation.{HaveTexts, AreConfirmed, RefuseTexts, validation_inputs}
 use Rattle.htn_cli.specs.Stops.{GivesInput, StopsInput, GivesTexts, StopsTexts, GivesProblem, StopsProblem, GivesPlan, StopsPlan, StopsTextsOf}
 use Rattle.htn_cli.specs.declared.faults.Place.{Place}

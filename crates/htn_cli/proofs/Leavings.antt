@@ -14,10 +14,10 @@ use Rattle.command_words.specs.Bounds.{most_slots}
 use Rattle.command_words.specs.Words.{TranslationRequest, BoundRequest, ValidationRequest, to_translate, to_bound, to_validate, number_of}
 use Rattle.htn_cli.specs.Texts.{Texts, texts_of}
 use Rattle.htn_cli.specs.Inputs.{HaveProblem}
-use Rattle.htn_cli.specs.Answer.{Answer, writes, tells, confirms, IsGivenWithin, AreAskedFor, AreSlotsOf, IsForSlots, AreWritten, IsAnswer}
+use Rattle.htn_cli.specs.Answer.{writes, tells, confirms, IsGivenWithin, AreAskedFor, AreSlotsOf, IsForSlots, IsAnswer}
 use Rattle.htn_cli.specs.Sent.{TakesWhole}
 use Rattle.htn_cli.specs.Left.{BothStand, IsWithin, Leaves, slots_line, bound_line, valid_line}
-use Rattle.htn_cli.specs.Stops.{GivesProblem, StopsProblem, GivesPlan, StopsPlan, StopsBound, StopsSlots, AreSlots, IsGiven, StopsGiven, IsComputed, StopsComputed, IsChosen, StopsChosen, IsMade, StopsMade, StopsPrint, StopsDelivery}
+use Rattle.htn_cli.specs.Stops.{GivesProblem, StopsProblem, GivesPlan, StopsPlan, StopsBound, StopsSlots, IsGiven, StopsGiven, IsChosen, StopsChosen, IsMade, StopsMade, StopsPrint, StopsDelivery}
 use Rattle.htn_cli.specs.Ending.{Achieves}
 use Rattle.htn_cli.specs.declared.translation.Made.{Made}
 use Rattle.htn_cli.specs.declared.refusal.Refusal.{Refusal}

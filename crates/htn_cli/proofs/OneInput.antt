@@ -3,7 +3,7 @@ use Rattle.std.proofs.Common.{ℕ, ◌≡◌, ◌<◌, ◌≤◌, Bool, List, []
 use Rattle.outside_io.specs.Folder.{Folder, file_of}
 use Rattle.outside_io.specs.Files.{FilesState}
 use Rattle.command_words.specs.Names.{Word}
-use Rattle.htn_cli.specs.Inputs.{Reads, IsInput, IsTooLarge, IsReached, IsFirstTooLarge}
+use Rattle.htn_cli.specs.Inputs.{Reads, IsInput, IsTooLarge, IsFirstTooLarge}
 use Rattle.htn_cli.specs.OneAnswer.{AreTold}
 
 one_read : (held : Option Folder) (folder : Folder) → held ≡ Some folder → (lenient : Bool) (name one other : List ℕ) → IfSome held (λ folder. file_of lenient folder name ≡ Some one)

@@ -9,9 +9,8 @@ use Rattle.encoded_texts.specs.FullyEncoded.{IsFullyEncoded}
 use Rattle.bound_calc.specs.NoBound.{NamesCycle}
 use Rattle.command_words.specs.Names.{Word, Names}
 use Rattle.command_words.specs.Bounds.{most_slots}
-use Rattle.command_words.specs.Words.{TranslationRequest, BoundRequest, to_translate, to_bound, number_of}
+use Rattle.command_words.specs.Words.{TranslationRequest, to_translate, number_of}
 use Rattle.htn_cli.specs.Answer.{Answer, refuses, writes, tells, confirms, IsGivenWithin, AreAskedFor, AreSlotsOf, manner_with, IsForSlots, IsAnswer}
-use Rattle.htn_cli.specs.Faults.{limit_code}
 use Rattle.htn_cli.specs.Inputs.{HaveFault}
 use Rattle.htn_cli.specs.OneAnswer.{AreTold, TellTheSame, both_texts}
 use Rattle.htn_cli.specs.Texts.{Texts, longest, IsFirstTooLong, AreTranslated, AreTooLong}

@@ -1,7 +1,7 @@
 -- A validation has one answer at most: three texts have one least fault, or spell one list of steps, and the values that two of them spell
 -- have the same plans and the same failing step of a list.
 use Rattle.std.proofs.Common.{ℕ, ◌≡◌, ◌<◌, ◌≤◌, ◌⊎◌, List, [], ◌∷◌, ◌++◌, length, slice_get, Option, Some, None, codes, decimal, refl, sym, ap, ◌∙◌, subst, inl, inr, arith}
-use Rattle.text_forms.specs.Faults.{fault, IsFaultless, IsLeast}
+use Rattle.text_forms.specs.Faults.{fault}
 use Rattle.hddl_reader.specs.declared.sections.Language.TheVariants as language
 use Rattle.outside_io.specs.Files.{FilesState}
 use Rattle.plan_model.specs.declared.steps.GroundAction.{GroundAction}
@@ -12,15 +12,11 @@ use Rattle.plan_meaning.proofs.FailingLaws.{each_is_plan_or_fails}
 use Rattle.ground_state.specs.Runs.{cause}
 use Rattle.ground_state.specs.declared.verdict.FailWhy.{FailWhy}
 use Rattle.ground_state.specs.declared.verdict.FailWhy.TheVariants as why
-use Rattle.plan_texts.specs.SpellsPddl.{SpellsPddl}
 use Rattle.plan_texts.proofs.PlanSteps.{one-plan}
-use Rattle.plan_proof.proofs.texts.SamePlans.{spelled-plans}
 use Rattle.plan_proof.proofs.texts.SameFailures.{spelled-fails}
 use Rattle.command_words.specs.Names.{Word}
 use Rattle.command_words.specs.Words.{ValidationRequest, to_validate}
 use Rattle.htn_cli.specs.Answer.{Answer, refuses, writes, tells, confirms, IsAnswer}
-use Rattle.htn_cli.specs.Faults.{limit_code}
-use Rattle.htn_cli.specs.Inputs.{IsInput}
 use Rattle.htn_cli.specs.OneAnswer.{AreTold, TellTheSame}
 use Rattle.htn_cli.specs.Refusal.{cause_word}
 use Rattle.htn_cli.specs.Validation.{most_steps, IsLeastOfThree, of_problem, of_plan, HaveFaultAt, Spell, validation_inputs, HaveTexts}

@@ -2,7 +2,7 @@
 use Rattle.std.proofs.Common.{ℕ, zero, suc, ◌≡◌, ◌<◌, ◌≤◌, ◌^◌, ◌⊎◌, true, List, [], ◌∷◌, map, length, get_or, slice_get, slice_index_or, Option, Some, None, All, Contains, refl, sym, ap, ◌∙◌, subst, inl, inr, arith}
 use Rattle.htn_base.specs.Different.{AreDifferent}
 use Rattle.text_forms.specs.Words.{Word, word_at}
-use Rattle.plan_texts.specs.Declared.{named, type_words}
+use Rattle.plan_texts.specs.Declared.{named}
 use Rattle.plan_texts.specs.Printable.{IsPlain, IsUnion}
 use Rattle.plan_texts.specs.PrintableValue.{arities_of}
 use Rattle.plan_texts.specs.SpellsPddl.{pddl_types, pddl_words}

@@ -5,7 +5,7 @@ use Rattle.outside_io.specs.Files.{FilesState}
 use Rattle.outside_io.specs.Sink.{SinkState}
 use Rattle.command_words.specs.Names.{Word}
 use Rattle.command_words.specs.Words.{TranslationRequest, BoundRequest, ValidationRequest, Request, number_of, AsksTranslation, AsksBound, AsksValidation, Asks, AreOfAForm}
-use Rattle.htn_cli.specs.Answer.{Answer, refuses, writes, tells, IsAnswer, IsAnswerTo}
+use Rattle.htn_cli.specs.Answer.{Answer, refuses, IsAnswer, IsAnswerTo}
 use Rattle.htn_cli.specs.Refusal.{status_of, line_of}
 use Rattle.htn_cli.specs.Sent.{TakesWhole, Told}
 use Rattle.htn_cli.specs.Left.{StandsUpTo, Gives, Leaves}

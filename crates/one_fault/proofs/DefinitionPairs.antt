@@ -2,9 +2,7 @@
 use Rattle.std.proofs.Common.{◌≡◌, ℕ, Bool, true, false, if◌then◌else◌, Ok, Err, Result, List, [], ◌∷◌, Option, Some, None, codes, refl, sym, ap, subst}
 use Rattle.htn_base.specs.declared.name.Name.{Name}
 use Rattle.text_forms.specs.Placed.{Placed, cut, close, word, list, parts_at}
-use Rattle.text_forms.specs.Words.{Word}
 use Rattle.gd_reader.specs.declared.stop.Stop.{Stop}
-use Rattle.gd_reader.specs.declared.stop.Stop.TheVariants.{Departs}
 use Rattle.gd_reader.specs.Answers.{◌>>=◌, word_due, list_due, end_due}
 use Rattle.gd_reader.specs.Terms.{Names, Keeps}
 use Rattle.hddl_reader.specs.declared.parts.RawParts.{RawParts}
@@ -14,10 +12,10 @@ use Rattle.hddl_reader.specs.declared.sections.Language.{Language}
 use Rattle.hddl_reader.specs.declared.sections.RawDomain.{RawDomain}
 use Rattle.hddl_reader.specs.declared.sections.RawProblem.{RawProblem}
 use Rattle.hddl_reader.specs.declared.sections.RawSections.{RawSections}
-use Rattle.hddl_reader.specs.Networks.{declared, is_word}
+use Rattle.hddl_reader.specs.Networks.{declared}
 use Rattle.hddl_reader.specs.Sections.{sections, no_sections}
 use Rattle.hddl_reader.specs.Definitions.{coded, key_due, definition_word, title, definition_inside, nothing_due, definition_read, domain_of, problem_of, or_empty, IsRead, IsDomainRead, IsProblemRead}
-use Rattle.one_fault.proofs.Alike.{AlikeParams, AlikeHead, AlikeAtom, AlikeDomain, AlikeProblem, Both}
+use Rattle.one_fault.proofs.Alike.{AlikeDomain, AlikeProblem, Both}
 use Rattle.one_fault.proofs.Pairs.{Tie, Tied, after, built, behind_same, here}
 use Rattle.one_fault.proofs.TermPairs.{TermTie}
 use Rattle.one_fault.proofs.NetworkPairs.{declared_tied}

@@ -4,7 +4,6 @@ use Rattle.htn_base.specs.Table.{with_word}
 use Rattle.text_forms.specs.Placed.{Placed, cut, close, word, list}
 use Rattle.htn_base.specs.Words.{is_reserved}
 use Rattle.text_forms.specs.Words.{Word, word_at, is_among}
-use Rattle.plan_texts.specs.Together.{Together}
 use Rattle.gd_reader.specs.declared.stop.Stop.{Stop}
 use Rattle.gd_reader.specs.declared.stop.Stop.TheVariants.{Departs}
 use Rattle.gd_reader.specs.declared.term.RawTerm.{RawTerm}
@@ -13,8 +12,8 @@ use Rattle.gd_reader.specs.declared.typed_lists.ListKind.{ListKind}
 use Rattle.gd_reader.specs.declared.words.Sort.{Sort}
 use Rattle.gd_reader.specs.declared.words.Sort.TheVariants.{Variable, Name, Other}
 use Rattle.gd_reader.specs.Answers.{◌>>=◌}
-use Rattle.gd_reader.specs.Terms.{Names, name_in, raw_term, used}
-use Rattle.gd_reader.specs.TypedLists.{State, Rest, declares, variable_by, is_parameters, are_variables, are_types, undeclared, param_by, param_due, type_by, type_due, unless, more_names, some_names, union, union_due, with_type, one_more, alone, typed_with, params, behind, typed, listed}
+use Rattle.gd_reader.specs.Terms.{Names, name_in, used}
+use Rattle.gd_reader.specs.TypedLists.{State, Rest, declares, variable_by, is_parameters, are_variables, are_types, undeclared, param_by, param_due, type_by, type_due, unless, more_names, some_names, union, union_due, with_type, one_more, typed_with, params, behind, typed, listed}
 use Rattle.gd_reader.specs.Words.{sort_of, is_hyphen, is_either}
 use Rattle.one_fault.proofs.Alike.{AlikeTerm, AlikeTerms, AlikeParam, AlikeParams}
 use Rattle.one_fault.proofs.Pairs.{Tie, Tied, after, built, here, with_both}

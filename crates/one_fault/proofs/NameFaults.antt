@@ -19,17 +19,17 @@ use Rattle.hddl_reader.specs.declared.sections.RawHead.{RawHead}
 use Rattle.hddl_reader.specs.declared.sections.RawMethod.{RawMethod}
 use Rattle.hddl_reader.specs.declared.sections.RawProblem.{RawProblem}
 use Rattle.name_faults.specs.Faults.{DuplicateInDomain, DuplicateInProblem, HasDomainFault, HasProblemFault, OfNetworks, constants, objects}
-use Rattle.name_faults.specs.Lists.{One, Each, Has, IsFirst}
-use Rattle.name_faults.specs.Named.{declared, meant, StandsFor, IsUnknown, HasWrongArity, UnknownType, UnknownName, UnknownObject, UnknownVariable, WrongArity}
-use Rattle.name_faults.specs.Networks.{id_at, ids, HasId, IsUnknownId, UnknownSubtaskId, IsSubtask, IsPair, IsChained, IsOrdered, ClosesOrder, CyclicOrder, TooManySubtasks, most_subtasks}
+use Rattle.name_faults.specs.Lists.{One, Has}
+use Rattle.name_faults.specs.Named.{declared, meant, StandsFor, HasWrongArity, UnknownType, UnknownName, UnknownObject, UnknownVariable, WrongArity}
+use Rattle.name_faults.specs.Networks.{id_at, ids, HasId, IsUnknownId, UnknownSubtaskId, IsSubtask, IsPair, IsOrdered, ClosesOrder, CyclicOrder, TooManySubtasks, most_subtasks}
 use Rattle.name_faults.specs.Standing.{InDomain, InProblem}
-use Rattle.name_faults.specs.Types.{Leads, mentioned, IsType, IsParent, ClosesCycle, TypeCycle, TooManyTypes, IsOneTooMany, most_types}
+use Rattle.name_faults.specs.Types.{Leads, mentioned, IsType, IsParent, ClosesCycle, IsOneTooMany, most_types}
 use Rattle.name_faults.specs.Uses.{Scope, Use, declares, applies, refers, Kind, predicate, subtask, task}
 use Rattle.name_faults.specs.Words.{WordAt, term_word, param_word, term_at, param_at, head_at, callables, IsSecond}
 use Rattle.one_fault.proofs.Alike.{Both, AlikeTerm, AlikeTerms, AlikeAtom, AlikeParam, AlikeParams, AlikeSub, AlikePair, AlikeCon, AlikeNet, AlikeHead, AlikeMethod, AlikeAction, AlikeDomain, AlikeProblem}
-use Rattle.one_fault.proofs.Lists.{Turned, turned, one_on, each_on, at_on, CutLike, cut_like, first_on}
+use Rattle.one_fault.proofs.Lists.{Turned, turned, one_on, each_on, at_on, cut_like, first_on}
 use Rattle.one_fault.proofs.SectionPairs.{joined_alike}
-use Rattle.one_fault.proofs.Uses.{AlikeUse, Goes, in_domain, in_problem}
+use Rattle.one_fault.proofs.Uses.{Goes, in_domain, in_problem}
 
 -- the other way round
 module _ (t u : Names) where

@@ -10,14 +10,14 @@ use Rattle.gd_reader.specs.declared.term.RawAtom.{RawAtom}
 use Rattle.gd_reader.specs.declared.words.Sort.{Sort}
 use Rattle.gd_reader.specs.declared.words.Sort.TheVariants.{Variable, Name, Other}
 use Rattle.gd_reader.specs.Answers.{◌>>=◌, word_due, list_due, end_due}
-use Rattle.gd_reader.specs.Terms.{Names, raw_term, used, terms, two_terms, applied}
+use Rattle.gd_reader.specs.Terms.{Names, used, terms, two_terms, applied}
 use Rattle.gd_reader.specs.Words.{sort_of}
 use Rattle.hddl_reader.specs.declared.networks.RawSub.{RawSub}
 use Rattle.hddl_reader.specs.declared.networks.RawPair.{RawPair}
 use Rattle.hddl_reader.specs.declared.networks.RawCon.{RawCon}
 use Rattle.hddl_reader.specs.Networks.{is_word, declared_by, declared, behind_name, sub_headed, sign_due, name_due, then_due, pair_headed, con_of, equation, con_headed, Headed, one_of, all_of, some_of}
 use Rattle.one_fault.proofs.Alike.{AlikeTerm, AlikeAtom, AlikeSub, AlikePair, AlikeCon, Both}
-use Rattle.one_fault.proofs.Pairs.{Tie, Tied, after, built, weaker, behind_same, here}
+use Rattle.one_fault.proofs.Pairs.{Tie, Tied, after, built, behind_same, here}
 use Rattle.one_fault.proofs.TermPairs.{TermTie, TermsTie, AtomTie, TwoTie, ended, raw_tied, used_tied, terms_tied, applied_tied, two_tied}
 
 pub declared_tied : (code : ℕ) (n m : Names) (at : ℕ) (w : Word) → Tied n m (declared code n at w) (declared code m at w) TermTie

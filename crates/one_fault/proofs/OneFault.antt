@@ -1,6 +1,6 @@
 -- Two texts have one least fault, or none; and so has the text of a plan.
 use Rattle.std.proofs.Common.{ℕ, ◌≡◌, ◌<◌, ◌≤◌, ◌⊎◌, List, length, Option, Some, None, refl, sym, ap, ◌∙◌, inl, inr, arith}
-use Rattle.text_forms.specs.Faults.{Fault, fault, IsFault, IsFaultless, IsBefore}
+use Rattle.text_forms.specs.Faults.{Fault, fault}
 use Rattle.text_forms.specs.Faults as tokens
 use Rattle.text_forms.specs.Placed.{parts_at}
 use Rattle.form_grammar.specs.Codes.{Form, complete, unfinished, wrong, Whole}
@@ -18,7 +18,7 @@ use Rattle.text_values.specs.TextFaults.{IsDomainOf, IsProblemOf, IsGoodDomain, 
 use Rattle.plan_model.specs.declared.steps.GroundAction.{GroundAction}
 use Rattle.plan_text.specs.Plans.{IsPlanFault, IsPlanRead}
 use Rattle.one_fault.specs.OneFault.{HaveOneFault, HasOnePlanFault}
-use Rattle.one_fault.proofs.Alike.{AlikeDomain, AlikeProblem}
+use Rattle.one_fault.proofs.Alike.{AlikeDomain}
 use Rattle.one_fault.proofs.DefinitionPairs.{domains_alike, problems_alike}
 use Rattle.one_fault.proofs.NameFaults.{domain_fault, problem_fault}
 

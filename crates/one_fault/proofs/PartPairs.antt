@@ -8,7 +8,7 @@ use Rattle.gd_reader.specs.declared.stop.Stop.TheVariants.{Departs}
 use Rattle.gd_reader.specs.declared.typed_lists.ListKind.TheVariants as list_kind
 use Rattle.gd_reader.specs.declared.formulas.RawFormula.TheVariants as raw_formula
 use Rattle.gd_reader.specs.declared.effects.RawEffect.TheVariants as raw_effect
-use Rattle.gd_reader.specs.Answers.{◌>>=◌, end_due}
+use Rattle.gd_reader.specs.Answers.{◌>>=◌}
 use Rattle.gd_reader.specs.Effects.{effect_inside}
 use Rattle.gd_reader.specs.Formulas.{inside}
 use Rattle.gd_reader.specs.Terms.{Names, applied}
@@ -20,7 +20,7 @@ use Rattle.hddl_reader.specs.declared.parts.RawParts.{RawParts}
 use Rattle.hddl_reader.specs.Networks.{sub_headed, pair_headed, con_headed, some_of}
 use Rattle.hddl_reader.specs.Parts.{no_parts, stands, keyword_by, part_of, part_read, may_end, parts, parts_from}
 use Rattle.one_fault.proofs.Alike.{AlikeAtom, AlikeParams, AlikeFormula, AlikeEffect, AlikeSub, AlikePair, AlikeCon, Both, all, none}
-use Rattle.one_fault.proofs.Pairs.{Tie, Tied, after, built, weaker, behind_same, here}
+use Rattle.one_fault.proofs.Pairs.{Tie, Tied, after, built, weaker, here}
 use Rattle.one_fault.proofs.TermPairs.{AtomTie, ended, applied_tied}
 use Rattle.one_fault.proofs.ListPairs.{ParamsTie, listed_tied}
 use Rattle.one_fault.proofs.FormulaPairs.{FormulaTie, inside_tied}

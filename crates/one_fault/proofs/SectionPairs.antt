@@ -1,10 +1,8 @@
 -- The sections of a domain and a problem are read alike.
 use Rattle.std.proofs.Common.{◌≡◌, ℕ, Bool, true, false, if◌then◌else◌, Ok, Err, Result, List, [], ◌∷◌, ◌++◌, Option, Some, None, option_map, codes, refl}
 use Rattle.text_forms.specs.Placed.{Placed, cut, close, word, list}
-use Rattle.text_forms.specs.Words.{Word}
 use Rattle.plan_texts.specs.Together.{Together}
 use Rattle.gd_reader.specs.declared.stop.Stop.{Stop}
-use Rattle.gd_reader.specs.declared.stop.Stop.TheVariants.{Departs}
 use Rattle.gd_reader.specs.declared.formulas.RawFormula.{RawFormula}
 use Rattle.gd_reader.specs.declared.effects.RawEffect.{RawEffect}
 use Rattle.gd_reader.specs.declared.term.RawAtom.{RawAtom}
@@ -19,7 +17,6 @@ use Rattle.hddl_reader.specs.declared.parts.Parted.TheVariants as parted
 use Rattle.hddl_reader.specs.declared.parts.RawParts.{RawParts}
 use Rattle.hddl_reader.specs.declared.sections.Definition.{Definition}
 use Rattle.hddl_reader.specs.declared.sections.Language.{Language}
-use Rattle.hddl_reader.specs.declared.sections.RawAction.{RawAction}
 use Rattle.hddl_reader.specs.declared.sections.RawHead.{RawHead}
 use Rattle.hddl_reader.specs.declared.sections.RawMethod.{RawMethod}
 use Rattle.hddl_reader.specs.declared.sections.RawSections.{RawSections}
@@ -28,7 +25,7 @@ use Rattle.hddl_reader.specs.declared.sections.Section.TheVariants as section
 use Rattle.hddl_reader.specs.Networks.{is_word, declared, all_of}
 use Rattle.hddl_reader.specs.Parts.{no_parts, keyword_by, parts}
 use Rattle.hddl_reader.specs.Sections.{section_of, has_section, no_sections, or_none, or_true, or_nothing, head_of, network_of, action_of, method_of, with_kept, words, dropped_name, predicate_headed, used_names, assignment, fact, facts, named_parts, goal, section_read, may_end, section_inside, sections}
-use Rattle.one_fault.proofs.Alike.{AlikeTerm, AlikeTerms, AlikeAtom, AlikeParams, AlikeFormula, AlikeEffect, AlikeNet, AlikeHead, AlikeMethod, AlikeAction, Both, all, none}
+use Rattle.one_fault.proofs.Alike.{AlikeTerm, AlikeAtom, AlikeParams, AlikeFormula, AlikeEffect, AlikeNet, AlikeHead, AlikeMethod, AlikeAction, Both, all, none}
 use Rattle.one_fault.proofs.Pairs.{Tie, Tied, after, built, weaker, behind_same, here}
 use Rattle.one_fault.proofs.TermPairs.{TermTie, TermsTie, AtomTie, ended, used_tied}
 use Rattle.one_fault.proofs.ListPairs.{ParamsTie, listed_tied}

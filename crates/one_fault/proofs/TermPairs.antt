@@ -3,7 +3,6 @@ use Rattle.std.proofs.Common.{◌≡◌, ℕ, Bool, true, false, Ok, Err, Result
 use Rattle.htn_base.specs.Table.{with_word}
 use Rattle.text_forms.specs.Placed.{Placed, cut, close, word, list}
 use Rattle.text_forms.specs.Words.{Word, word_at}
-use Rattle.plan_texts.specs.Together.{Together}
 use Rattle.gd_reader.specs.declared.stop.Stop.{Stop}
 use Rattle.gd_reader.specs.declared.term.RawTerm.{RawTerm}
 use Rattle.gd_reader.specs.declared.term.RawAtom.{RawAtom}
@@ -12,7 +11,6 @@ use Rattle.gd_reader.specs.declared.words.Sort.TheVariants.{Variable, Name, Othe
 use Rattle.gd_reader.specs.Answers.{◌>>=◌, word_due, end_due}
 use Rattle.gd_reader.specs.Terms.{Names, name_in, raw_term, term_by, term, name_by, used, terms, two_terms, applied, atom}
 use Rattle.gd_reader.specs.Words.{sort_of}
-use Rattle.gd_reader.proofs.Keeping.{keeps_same}
 use Rattle.one_fault.proofs.Alike.{AlikeTerm, AlikeTerms, AlikeAtom}
 use Rattle.one_fault.proofs.Pairs.{Tie, Tied, after, built, behind_same, here, with_both}
 

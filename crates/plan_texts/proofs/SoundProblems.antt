@@ -3,9 +3,8 @@ use Rattle.std.proofs.Common.{ℕ, zero, suc, ◌≡◌, inl, inr, ◌<◌, ◌�
 use Rattle.plan_texts.specs.Types.{EachIs}
 use Rattle.plan_texts.specs.SoundProblem.{all_methods, NamesSubtasks, IsSmallMethod, IsSoundNetwork, IsSoundProblem, HasSmallMethods}
 use Rattle.plan_texts.proofs.Members.{each-has, contains-has, has-contains}
-use Rattle.plan_model.specs.Parts.{AreListed, AreListedParents}
+use Rattle.plan_model.specs.Parts.{AreListed}
 use Rattle.plan_model.specs.declared.types.Parent.{Parent}
-use Rattle.plan_model.specs.declared.networks.Pair.{Pair}
 use Rattle.plan_model.specs.declared.schemas.MethodSchema.{MethodSchema}
 use Rattle.plan_model.specs.declared.values.Hddl.{Hddl}
 

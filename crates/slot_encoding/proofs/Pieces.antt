@@ -24,7 +24,7 @@ use Rattle.plan_meaning.specs.Truth.{State, value_of, EachTrue, OneTrue, AreType
 use Rattle.plan_meaning.specs.Network.{Work, action, check, task, GroundMethod, network, child_of, IsDeclared}
 use Rattle.plan_meaning.specs.Network as Source
 use Rattle.plan_meaning.specs.ClassicalPlan as Printed
-use Rattle.plan_meaning.specs.ClassicalPlan.{HasWord, AreObjects, IsApplicable}
+use Rattle.plan_meaning.specs.ClassicalPlan.{HasWord, IsApplicable}
 use Rattle.plan_meaning.specs.SpelledPlan.{object_word, step_of}
 use Rattle.slot_encoding.specs.SourceParts.{retyped, source_param, source_formula}
 use Rattle.slot_encoding.specs.EncodedNames.{slot_type, first_slot, guard_types, top_predicate, free_predicate, before_predicate, task_predicate, action_predicate, check_predicate, guard_predicate}

@@ -6,7 +6,7 @@ use Rattle.text_forms.specs.Faults.{fault, IsFaultless}
 use Rattle.text_forms.specs.Faults as tokens
 use Rattle.form_grammar.specs.Definitions.{definition_fault}
 use Rattle.form_grammar.specs.Sections as grammar
-use Rattle.gd_reader.specs.Terms.{Names, Keeps}
+use Rattle.gd_reader.specs.Terms.{Names}
 use Rattle.hddl_bind.specs.declared.bound_domain.BoundDomain.{BoundDomain}
 use Rattle.hddl_bind.specs.declared.errors.BindError.{BindError}
 use Rattle.hddl_bind.specs.declared.errors.BindError.TheVariants as bind_errors

@@ -27,7 +27,7 @@ use Rattle.form_spellings.specs.HddlInOrder.{IsBoundInOrder}
 use Rattle.form_spellings.specs.InTable.{IsIn}
 use Rattle.form_spellings.specs.Rising as rising
 use Rattle.form_spellings.specs.SeenInOrder.{AreSorted, types_of, pairs_of}
-use Rattle.form_spellings.specs.Written.{Written, Union, all_written, word_written, type_words, item_written}
+use Rattle.form_spellings.specs.Written.{Union, all_written, word_written, type_words, item_written}
 use Rattle.form_spellings.specs.Written as written
 use Rattle.form_spellings.proofs.seen.Bound.{bound_is_of_texts}
 use Rattle.form_spellings.proofs.seen.Mapped.{unions_mapped}

@@ -18,7 +18,7 @@ use Rattle.plan_texts.specs.Types as plan
 use Rattle.plan_texts.specs.Types.{EachIs}
 use Rattle.plan_texts.proofs.Members.{contains-has}
 use Rattle.name_faults.specs.Lists.{Has}
-use Rattle.name_faults.specs.Types.{IsParent, Leads, ClosesCycle, TypeCycle}
+use Rattle.name_faults.specs.Types.{IsParent, Leads, TypeCycle}
 use Rattle.name_faults.specs.Types as words
 use Rattle.name_faults.specs.Words.{term_word, param_word}
 use Rattle.bind_types.specs.Parents.{parent, place_of, parents_written, pairs_in_order}

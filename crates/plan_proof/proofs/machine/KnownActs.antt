@@ -7,7 +7,7 @@ use Rattle.plan_model.specs.declared.values.Pddl.{Pddl}
 use Rattle.task_networks.specs.Net.{Net}
 use Rattle.task_networks.specs.Spelling.{Act, run, apply, others}
 use Rattle.slot_machine.specs.Machine as Machine
-use Rattle.slot_machine.specs.Machine.{May, MayApply, Runs, start, with_heir}
+use Rattle.slot_machine.specs.Machine.{May, Runs, start, with_heir}
 use Rattle.slot_machine.proofs.Inserts.{insert_cases}
 use Rattle.plan_meaning.specs.Truth.{AreTyped}
 use Rattle.plan_meaning.specs.Network.{Work, action, check, task, IsGroundMethod, network, InTypeOf}

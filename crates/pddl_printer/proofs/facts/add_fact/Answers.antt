@@ -1,6 +1,5 @@
 use Rattle.std.proofs.Common.{[], map}
 use Rattle.text_forms.specs.Words.{word_at}
-use Rattle.text_forms.specs.Printing.{bytes_behind}
 use Rattle.plan_texts.specs.SpellsPddl.{pddl_words}
 use Rattle.plan_texts.specs.Printed.{all_parts, term_part}
 use Rattle.plan_model.specs.declared.terms.Term.TheVariants.{Obj}
