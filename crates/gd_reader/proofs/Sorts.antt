@@ -1,5 +1,5 @@
 -- Words by their first letters.
-use Rattle.std.proofs.Common.{◌≡◌, ℕ, ◌<◌, ◌≤◌, ◌==◌, ◌&&◌, ◌||◌, Bool, true, false, not, if◌then◌else◌, length, get_or, drop, List, [], ◌∷◌, refl, sym, arith}
+use Rattle.std.proofs.Common.{◌≡◌, ℕ, ◌<◌, ◌≤◌, ◌==◌, ◌&&◌, ◌||◌, Bool, true, false, not, if◌then◌else◌, length, get_or, drop, List, [], ◌∷◌, refl, arith}
 use Rattle.std.specs.Char.{to_ascii_lowercase}
 use Rattle.htn_base.specs.Words.{folded, is_reserved}
 use Rattle.text_forms.specs.Words.{Word, is_name}

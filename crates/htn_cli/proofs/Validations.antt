@@ -1,5 +1,5 @@
 -- What a sound PDDL value gives to the run of a plan, and which file a fault of three texts is in.
-use Rattle.std.proofs.Common.{ℕ, zero, suc, ◌≡◌, ◌<◌, ◌≤◌, ◌^◌, ◌⊎◌, true, List, [], ◌∷◌, map, length, get_or, slice_get, slice_index_or, Option, Some, None, All, Contains, refl, sym, ap, ◌∙◌, subst, inl, inr, arith}
+use Rattle.std.proofs.Common.{ℕ, zero, suc, ◌≡◌, ◌<◌, List, [], ◌∷◌, map, length, slice_get, Some, All, Contains, refl, sym, ap, ◌∙◌, subst, arith}
 use Rattle.htn_base.specs.Different.{AreDifferent}
 use Rattle.text_forms.specs.Words.{Word, word_at}
 use Rattle.plan_texts.specs.Declared.{named}

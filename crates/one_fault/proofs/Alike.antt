@@ -1,5 +1,5 @@
 -- What was read into two tables of words and is the same but for the numbers of words.
-use Rattle.std.proofs.Common.{ℕ, ◌≡◌, List, [], ◌∷◌, Option, Some, None}
+use Rattle.std.proofs.Common.{◌≡◌, List, [], ◌∷◌, Option, Some, None}
 use Rattle.htn_base.specs.declared.name.Name.{Name as Numbered}
 use Rattle.text_forms.specs.Words.{word_at}
 use Rattle.plan_texts.specs.Together.{Together}

@@ -1,5 +1,5 @@
 -- What holds of one of a list, of each of it and of the first in it goes over to a list that goes together with it.
-use Rattle.std.proofs.Common.{ℕ, zero, suc, ◌≡◌, List, [], ◌∷◌, ◌++◌, length, slice_get, Some, refl, sym, ap, subst, inl, inr}
+use Rattle.std.proofs.Common.{ℕ, zero, suc, ◌≡◌, List, [], ◌∷◌, ◌++◌, slice_get, Some, refl, ap, subst, inl, inr}
 use Rattle.plan_texts.specs.Together.{Together}
 use Rattle.name_faults.specs.Lists.{One, Each, IsFirst}
 

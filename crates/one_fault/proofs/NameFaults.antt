@@ -1,5 +1,5 @@
 -- A fault of names of what was read is one of what was read alike.
-use Rattle.std.proofs.Common.{ℕ, suc, ◌≡◌, ◌≢◌, ◌<◌, ◌≤◌, ◌⊎◌, ◌++◌, Bool, true, false, List, [], ◌∷◌, map, length, slice_get, Option, Some, None, codes, refl, sym, ap, ◌∙◌, subst, inl, inr, arith}
+use Rattle.std.proofs.Common.{ℕ, suc, ◌≡◌, ◌⊎◌, ◌++◌, List, [], ◌∷◌, map, length, Option, Some, None, codes, refl, sym, ap, ◌∙◌, subst, inl, inr, arith}
 use Rattle.text_forms.specs.Words.{Word}
 use Rattle.task_networks.specs.Order.{Precedes, direct, through}
 use Rattle.plan_texts.specs.Together.{Together}

@@ -1,5 +1,5 @@
 -- Two texts have one least fault, or none; and so has the text of a plan.
-use Rattle.std.proofs.Common.{ℕ, ◌≡◌, ◌<◌, ◌≤◌, ◌⊎◌, List, length, Option, Some, None, refl, sym, ap, ◌∙◌, inl, inr, arith}
+use Rattle.std.proofs.Common.{ℕ, ◌≡◌, List, length, Option, Some, refl, sym, ap, ◌∙◌, inl, inr, arith}
 use Rattle.text_forms.specs.Faults.{Fault, fault}
 use Rattle.text_forms.specs.Faults as tokens
 use Rattle.text_forms.specs.Placed.{parts_at}

@@ -1,5 +1,5 @@
 -- Terms and atoms are read alike.
-use Rattle.std.proofs.Common.{◌≡◌, ℕ, Bool, true, false, Ok, Err, Result, List, [], ◌∷◌, drop, refl, sym, ◌∙◌}
+use Rattle.std.proofs.Common.{◌≡◌, ℕ, Bool, true, false, Ok, Result, List, [], ◌∷◌, drop, refl, sym, ◌∙◌}
 use Rattle.htn_base.specs.Table.{with_word}
 use Rattle.text_forms.specs.Placed.{Placed, cut, close, word, list}
 use Rattle.text_forms.specs.Words.{Word, word_at}

@@ -1,5 +1,5 @@
 -- What a sound problem gives to the crates that compile, encode and print it.
-use Rattle.std.proofs.Common.{ℕ, zero, suc, ◌≡◌, inl, inr, ◌<◌, ◌≤◌, ◌^◌, List, [], ◌∷◌, length, get_or, All, Contains, refl, arith}
+use Rattle.std.proofs.Common.{ℕ, zero, suc, inl, inr, ◌<◌, ◌^◌, List, [], ◌∷◌, length, All, Contains, refl, arith}
 use Rattle.plan_texts.specs.Types.{EachIs}
 use Rattle.plan_texts.specs.SoundProblem.{all_methods, NamesSubtasks, IsSmallMethod, IsSoundNetwork, IsSoundProblem, HasSmallMethods}
 use Rattle.plan_texts.proofs.Members.{each-has, contains-has, has-contains}

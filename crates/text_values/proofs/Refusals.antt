@@ -1,5 +1,5 @@
 -- The least fault of one text is that of both.
-use Rattle.std.proofs.Common.{ℕ, ◌≡◌, List, sym, subst, Result, Ok, Err}
+use Rattle.std.proofs.Common.{ℕ, List, sym, subst, Result, Ok, Err}
 use Rattle.std.specs.Prelude.{IfErr}
 use Rattle.gd_reader.specs.Terms.{Names}
 use Rattle.hddl_reader.specs.declared.sections.Language.{Language}

@@ -1,5 +1,5 @@
 -- Alike values have the same failing step of a list, with the same cause, and so have all values that two texts spell.
-use Rattle.std.proofs.Common.{ℕ, ◌≡◌, ◌↔◌, inl, inr, List, [], ◌∷◌, map, ap, sym, subst}
+use Rattle.std.proofs.Common.{ℕ, ◌≡◌, ◌↔◌, inl, inr, List, [], ◌∷◌, ap, sym, subst}
 use Rattle.std.specs.Prelude.{Contains}
 use Rattle.plan_texts.specs.Types.{Has}
 use Rattle.plan_texts.specs.SpellsPddl.{pddl_words, SpellsPddl}
