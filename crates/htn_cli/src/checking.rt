@@ -14,7 +14,7 @@ use std::alloc::Global;
 /// Whether a text of at most 16,777,216 bytes spells a plan of the value with at most `most` steps; else how many they are,
 /// or the first step that fails and its first cause. `file` is the place of the text among the command's inputs; a text
 /// that spells no list of steps is refused for its least fault.
-pub(crate) fn check(
+pub fn check(
     alloc: Global,
     p: &Pddl,
     text: &[u8],

@@ -1,6 +1,7 @@
 //! What the program does: it takes its words, does what they ask over files and streams that may be any, and answers with a status.
 //!
-//! Stands on all crates below. The contract that carries what is promised to a user is that of `run`, which the program calls.
+//! Stands on all crates below. The contract that carries what is promised to a user is that of `run`, which the program calls. Below it
+//! `check` says of a text whether it spells a plan of a PDDL value; `validate` asks it.
 #![tactic(auto)]
 
 mod bounding;
@@ -22,6 +23,8 @@ mod tests;
 mod translation;
 mod validation;
 
+pub use checked::Checked;
+pub use checking::check;
 pub use command_words::{Command, command};
 pub use laws::one_answer;
 pub use program::run;
