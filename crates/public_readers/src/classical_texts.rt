@@ -1,11 +1,11 @@
 //! Small PDDL texts with ample memory: their least fault, and the value of two without one. Offsets are counted by hand.
 
 use htn_base::{Fault, Memory, Text};
-use text_values::pddl_of;
 use plan_model::Pddl;
 use sexpr_text::ReadError;
 use std::alloc::Global;
 use std::process::Abort;
+use text_values::pddl_of;
 
 // The file, the code and the offset of the fault, if there is one.
 fn fault_of(rt: &impl Abort, alloc: Global, domain: &[u8], problem: &[u8]) -> (u8, u16, u32) {

@@ -1,11 +1,11 @@
 //! Texts with two faults of names or more, the least of which is told: of the domain first, then by offset, then by code. Offsets are
 //! counted by hand.
 
-use text_values::hddl_of;
 use htn_base::Fault;
 use sexpr_text::ReadError;
 use std::alloc::{AllocError, Global};
 use std::process::Abort;
+use text_values::hddl_of;
 
 const DOMAIN: &[u8] = b"(define (domain d) (:predicates (r ?x)) (:action a :parameters ()))";
 

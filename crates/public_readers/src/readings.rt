@@ -1,7 +1,7 @@
 //! Two small texts are read to their value with ample memory.
 
-use text_values::hddl_of;
 use plan_model::Hddl;
+use text_values::hddl_of;
 
 const DOMAIN: &[u8] = b"(define (domain d) (:task t :parameters ())
     (:METHOD M :parameters () :task (t) :subtasks (a)) ; a comment (
