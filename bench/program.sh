@@ -5,7 +5,7 @@
 # seconds of the best of five runs and its processor seconds (user and system), kilobytes of memory at most, bytes read and written, and seconds of a copy of what was written.
 #
 # Measured on an idle machine in two turns within a minute, seconds in the order of the cases: 0.08 and 0.06; 0.31 and 0.26; 0.31 and 0.26; 0.05
-# and 0.04; kilobytes: 65,120; 269,516; 43,432; 21,812. The machine's speed changed that much; by another script, the best of some dozens of runs of the third
+# and 0.04; kilobytes: 64,932; 269,464; 43,388; 20,488 (the last 21,812 before lists of subtasks were made with their room). The machine's speed changed that much; by another script, the best of some dozens of runs of the third
 # and the last took 0.23 and 0.037. On the same machine, in a slower hour, the program before this one took 0.10, 0.40, 0.30 and 0.08. Where the
 # inputs are small beside the outputs, what is beyond these in memory is what any run takes (1,850 kilobytes), for 65,536 slots some 65 bytes each,
 # and for the packages the problem as read and as compiled and one action of 2,000 children (as massif told of an earlier program).
