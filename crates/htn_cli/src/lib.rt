@@ -18,8 +18,6 @@ mod sending;
 mod slots;
 mod status;
 mod telling;
-#[cfg(test)]
-mod tests;
 mod translation;
 mod validation;
 

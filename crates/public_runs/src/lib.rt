@@ -1,5 +1,5 @@
 //! Tests of `ground_state`: a state, runs of a step, and want of memory. Answers were worked out by hand. Truth, effects and
-//! plans are tested by texts, in `htn_cli`.
+//! plans are tested by texts, in `public_program`.
 //!
 //! It stands on the crates that make the values of its problem, and nothing stands on it.
 #![tactic(auto)]

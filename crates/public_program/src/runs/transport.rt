@@ -3,7 +3,7 @@
 //! letter, so that a million steps are no longer than a text may be.
 use super::validations::ends;
 use super::{Before, Source};
-use crate::Status;
+use htn_cli::Status;
 
 const DOMAIN: &str = concat!(
     "(define (domain d) (:types slot other - object location vehicle - other)",

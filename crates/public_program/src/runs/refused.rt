@@ -2,8 +2,8 @@
 use super::rows::{CUT_DOMAIN, CUTS, REFUSED, Refused};
 use super::texts::PROBLEM;
 use super::{BOUND, Before, Failing, Row, Source, TRANSLATE, UNWRITTEN, replay};
-use crate::Status;
 use htn_base::Memory;
+use htn_cli::Status;
 use std::alloc::Global;
 use std::process::Abort;
 

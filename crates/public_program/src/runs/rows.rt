@@ -1,7 +1,7 @@
 //! Texts as they are refused or bounded. Each line was found by hand, from the rules for faults and bounds.
 use super::Source;
 use super::texts::{DOMAIN, PROBLEM};
-use crate::Status;
+use htn_cli::Status;
 
 /// Two texts; `translate` without options and `bound` end with this status and this line.
 #[derive(Clone, Copy)]

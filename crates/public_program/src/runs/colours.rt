@@ -2,7 +2,7 @@
 //! effects, and plans. Each answer was worked out by hand.
 use super::validations::ends;
 use super::{Before, Source};
-use crate::Status;
+use htn_cli::Status;
 use std::alloc::Global;
 use std::process::Abort;
 

@@ -1,7 +1,7 @@
 //! Words that no command has.
 use super::texts::{DOMAIN, PROBLEM};
 use super::{Before, Failing, Row, Source, TRANSLATE, UNWRITTEN, replay};
-use crate::Status;
+use htn_cli::Status;
 use std::alloc::Global;
 use std::process::Abort;
 

@@ -2,7 +2,7 @@
 use super::texts::{DOMAIN, ONE_SLOT_DOMAIN, ONE_SLOT_PROBLEM, PROBLEM};
 use super::validations::{COSTS, NOTHING};
 use super::{BOUND, Before, Failing, Row, Source, TRANSLATE, UNWRITTEN, VALIDATE, replay_all};
-use crate::Status;
+use htn_cli::Status;
 
 const TEXTS: Before = Before::Both(Source::Text(DOMAIN), Source::Text(PROBLEM));
 

@@ -2,7 +2,7 @@
 //! one.
 use super::rows::{COSTS_DOMAIN, COSTS_PROBLEM};
 use super::{BOUND, Before, Failing, Row, Source, TRANSLATE, UNWRITTEN, replay, replay_all};
-use crate::Status;
+use htn_cli::Status;
 use std::alloc::Global;
 use std::process::Abort;
 

@@ -1,7 +1,7 @@
 //! Lists that are plans, or none, of two PDDL texts. Each line was found by hand, from the rules for plans and for faults.
 use super::texts::{ONE_SLOT_DOMAIN, ONE_SLOT_PROBLEM};
 use super::{Before, Failing, Row, Source, VALIDATE, replay};
-use crate::Status;
+use htn_cli::Status;
 use std::alloc::Global;
 use std::process::Abort;
 

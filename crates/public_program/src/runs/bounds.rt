@@ -2,7 +2,7 @@
 use super::rows::{BOUNDED, Bounded};
 use super::texts::{DOMAIN, PROBLEM};
 use super::{BOUND, Before, Failing, Row, Source, TRANSLATE, UNWRITTEN, replay};
-use crate::Status;
+use htn_cli::Status;
 use std::alloc::Global;
 use std::process::Abort;
 
