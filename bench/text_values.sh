@@ -27,9 +27,8 @@ top=$(cd "$(dirname "$0")/.." && pwd)
 work=$(mktemp -d)
 trap 'rm -rf "$work"' EXIT
 mkdir -p "$work/crates/values_bench/src"
-for crate in htn_base task_networks text_forms form_grammar sexpr_text gd_reader form_faults hddl_reader name_faults plan_model \
-    plan_meaning net_order plan_texts form_spellings fault_laws name_numbers bind_types bind_formulas bind_networks hddl_bind \
-    binding_laws text_values; do
+for crate in htn_base task_networks sheets text_forms form_grammar sexpr_text gd_reader hddl_reader plan_model plan_meaning \
+    net_order plan_texts plan_text name_binding hddl_bind form_spellings binding_laws text_values; do
     cp -a "$top/crates/$crate" "$work/crates/"
     grep "^$crate:" "$top/crates.txt" >>"$work/crates.txt"
 done

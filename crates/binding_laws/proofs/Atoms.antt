@@ -13,13 +13,13 @@ use Rattle.plan_texts.specs.Types.{EachIs}
 use Rattle.form_spellings.specs.Bound.{IsBoundTerm, IsBoundAtom}
 use Rattle.form_spellings.specs.EachName.{OfAtom}
 use Rattle.form_spellings.specs.InTable.{IsIn, IsNameIn}
-use Rattle.name_faults.specs.Lists.{One, Has}
-use Rattle.name_faults.specs.Uses.{Scope, Use, predicate, applies, refers, IsOfAtom}
-use Rattle.name_numbers.specs.Heads.{head_numbers, declared}
-use Rattle.name_numbers.specs.Spots.{spot}
-use Rattle.name_numbers.specs.Terms.{term_bound, term_faults, terms_bound, terms_faults}
-use Rattle.bind_formulas.specs.declared.known.Known.{Known}
-use Rattle.bind_formulas.specs.Atoms.{head_faults, atom_bound, atom_faults}
+use Rattle.hddl_reader.specs.names.Lists.{One, Has}
+use Rattle.hddl_reader.specs.names.Uses.{Scope, Use, predicate, applies, refers, IsOfAtom}
+use Rattle.name_binding.specs.Heads.{head_numbers, declared}
+use Rattle.name_binding.specs.Spots.{spot}
+use Rattle.name_binding.specs.Terms.{term_bound, term_faults, terms_bound, terms_faults}
+use Rattle.name_binding.specs.declared.known.Known.{Known}
+use Rattle.name_binding.specs.Atoms.{head_faults, atom_bound, atom_faults}
 use Rattle.binding_laws.specs.Known.{head_of, IsKnownOf, HasKnown}
 use Rattle.binding_laws.specs.Kinds.{AreTermsIn}
 use Rattle.binding_laws.specs.Numbers.{words_of, AreKnown}

@@ -18,13 +18,13 @@ use Rattle.form_spellings.specs.Bound.{parent_of, IsBoundType}
 use Rattle.form_spellings.specs.BoundTexts.{AreBoundTypes}
 use Rattle.form_spellings.specs.EachName.{OfParam}
 use Rattle.form_spellings.specs.InTable.{IsIn, IsNameIn}
-use Rattle.name_faults.specs.Lists.{Has}
-use Rattle.name_faults.specs.Types.{IsType, TypeCycle}
-use Rattle.name_faults.specs.Words.{WordAt, term_word, param_word}
-use Rattle.name_numbers.specs.Places as numbers
-use Rattle.bind_types.specs.Kinds.{Kinds}
-use Rattle.bind_types.specs.Mentions.{mentioned, own_word}
-use Rattle.bind_types.specs.Parents.{parent, place_of, pairs_in_order}
+use Rattle.hddl_reader.specs.names.Lists.{Has}
+use Rattle.hddl_reader.specs.names.Types.{IsType, TypeCycle}
+use Rattle.hddl_reader.specs.names.Words.{WordAt, term_word, param_word}
+use Rattle.name_binding.specs.Places as numbers
+use Rattle.name_binding.specs.Kinds.{Kinds}
+use Rattle.name_binding.specs.Mentions.{mentioned, own_word}
+use Rattle.name_binding.specs.Parents.{parent, place_of, pairs_in_order}
 use Rattle.binding_laws.specs.BoundTypes.{item_of, HasBoundTypes}
 use Rattle.binding_laws.specs.InOrder.{IsTypedName}
 use Rattle.binding_laws.specs.Kinds.{AreTypesOf}

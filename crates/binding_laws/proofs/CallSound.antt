@@ -5,10 +5,10 @@ use Rattle.std.proofs.lemmas.Bool.{eqb-true}
 use Rattle.gd_reader.specs.declared.term.RawAtom.{RawAtom}
 use Rattle.hddl_reader.specs.declared.sections.RawHead.{RawHead}
 use Rattle.plan_model.specs.declared.networks.Head.{Head}
-use Rattle.name_numbers.specs.Spots.{spot}
-use Rattle.bind_networks.specs.declared.callables.Callable.{Callable}
-use Rattle.bind_networks.specs.Callables.{Declared, callable, callables_from, first_called, sooner_called, stands_for}
-use Rattle.bind_networks.specs.Calls.{call_faults}
+use Rattle.name_binding.specs.Spots.{spot}
+use Rattle.hddl_bind.specs.declared.callables.Callable.{Callable}
+use Rattle.hddl_bind.specs.Callables.{Declared, callable, callables_from, first_called, sooner_called, stands_for}
+use Rattle.hddl_bind.specs.Calls.{call_faults}
 
 -- the declaration of a callable, by its number
 abbrev pub IsDeclaredAt : (ℕ → Head) → ℕ → List RawHead → Callable → Type 0

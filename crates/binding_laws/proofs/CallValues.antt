@@ -11,11 +11,11 @@ use Rattle.hddl_reader.specs.declared.sections.RawHead.{RawHead}
 use Rattle.plan_texts.specs.Networks.{head_of}
 use Rattle.plan_texts.specs.Types.{EachIs}
 use Rattle.form_spellings.specs.InTable.{IsIn}
-use Rattle.name_faults.specs.Lists.{Has}
-use Rattle.name_faults.specs.Words.{term_word}
-use Rattle.bind_networks.specs.declared.callables.Callable.{Callable}
-use Rattle.bind_networks.specs.Callables.{heads, callable, callables_from, first_called, sooner_called}
-use Rattle.bind_networks.specs.Calls.{called, head_called, call_faults}
+use Rattle.hddl_reader.specs.names.Lists.{Has}
+use Rattle.hddl_reader.specs.names.Words.{term_word}
+use Rattle.hddl_bind.specs.declared.callables.Callable.{Callable}
+use Rattle.hddl_bind.specs.Callables.{heads, callable, callables_from, first_called, sooner_called}
+use Rattle.hddl_bind.specs.Calls.{called, head_called, call_faults}
 use Rattle.binding_laws.specs.Calls.{IsCallBound, OfAllCallables}
 use Rattle.binding_laws.proofs.CallWords.{none_called, some_called, has_right, ins, inh, upt, uph}
 use Rattle.binding_laws.proofs.Heads.{AreRising}

@@ -12,13 +12,13 @@ use Rattle.hddl_reader.specs.declared.sections.RawDomain.{RawDomain}
 use Rattle.hddl_reader.specs.declared.sections.RawHead.{RawHead}
 use Rattle.plan_texts.specs.Types.{EachIs}
 use Rattle.form_spellings.specs.InTable.{IsIn}
-use Rattle.name_faults.specs.Lists.{One, Each, Has}
-use Rattle.name_faults.specs.Uses.{Scope, applies, subtask, task}
-use Rattle.name_numbers.specs.declared.faults.Spot.{Spot}
-use Rattle.name_numbers.specs.Spots.{spot}
-use Rattle.bind_networks.specs.declared.callables.Callable.{Callable}
-use Rattle.bind_networks.specs.Callables.{Declared, declared, heads, callable, callables_from, first_called, sooner_called, stands_for}
-use Rattle.bind_networks.specs.Calls.{called, method_task, call_faults, if_task, only_task}
+use Rattle.hddl_reader.specs.names.Lists.{One, Each, Has}
+use Rattle.hddl_reader.specs.names.Uses.{Scope, applies, subtask, task}
+use Rattle.name_binding.specs.declared.faults.Spot.{Spot}
+use Rattle.name_binding.specs.Spots.{spot}
+use Rattle.hddl_bind.specs.declared.callables.Callable.{Callable}
+use Rattle.hddl_bind.specs.Callables.{Declared, declared, heads, callable, callables_from, first_called, sooner_called, stands_for}
+use Rattle.hddl_bind.specs.Calls.{called, method_task, call_faults, if_task, only_task}
 use Rattle.binding_laws.specs.Calls.{offsets, AreCallablesOf, HasCallFaults, HasTaskFaults, OfAllCallables}
 use Rattle.binding_laws.specs.Uses.{HasUseFault}
 use Rattle.binding_laws.proofs.Heads.{IsOf, IsFirstAmong, of_number, to_number, AreRising, rising, one_map}

@@ -12,18 +12,18 @@ use Rattle.plan_texts.specs.Types.{EachIs}
 use Rattle.form_spellings.specs.EachName.{OfParam}
 use Rattle.form_spellings.specs.EachPart.{OfHead, OfMethod}
 use Rattle.form_spellings.specs.InTable.{IsNameIn}
-use Rattle.name_faults.specs.Faults.{DuplicateInDomain, constants, HasDomainFault}
-use Rattle.name_faults.specs.Lists.{Each, Has}
-use Rattle.name_faults.specs.Networks.{ids, UnknownSubtaskId, CyclicOrder, TooManySubtasks}
-use Rattle.name_faults.specs.Standing.{InDomain}
-use Rattle.name_faults.specs.Types.{most_types, TypeCycle, TooManyTypes}
-use Rattle.name_faults.specs.Words.{callables, param_at, head_at, IsSecond}
-use Rattle.name_numbers.specs.declared.faults.Spot.{Spot}
-use Rattle.name_numbers.specs.Spots.{spot}
-use Rattle.bind_types.specs.Cycle.{IsSectionFault}
-use Rattle.bind_types.specs.Kinds.{Kinds}
-use Rattle.bind_types.specs.Mentions as numbers
-use Rattle.bind_networks.specs.Callables.{declared, second_callables}
+use Rattle.hddl_reader.specs.names.Faults.{DuplicateInDomain, constants, HasDomainFault}
+use Rattle.hddl_reader.specs.names.Lists.{Each, Has}
+use Rattle.hddl_reader.specs.names.Networks.{ids, UnknownSubtaskId, CyclicOrder, TooManySubtasks}
+use Rattle.hddl_reader.specs.names.Standing.{InDomain}
+use Rattle.hddl_reader.specs.names.Types.{most_types, TypeCycle, TooManyTypes}
+use Rattle.hddl_reader.specs.names.Words.{callables, param_at, head_at, IsSecond}
+use Rattle.name_binding.specs.declared.faults.Spot.{Spot}
+use Rattle.name_binding.specs.Spots.{spot}
+use Rattle.name_binding.specs.Cycle.{IsSectionFault}
+use Rattle.name_binding.specs.Kinds.{Kinds}
+use Rattle.name_binding.specs.Mentions as numbers
+use Rattle.hddl_bind.specs.Callables.{declared, second_callables}
 use Rattle.hddl_bind.specs.DeclaredNames.{known_in, second_objects, second_heads, second_methods, second_names}
 use Rattle.hddl_bind.specs.DomainSchemas.{schemas_faults}
 use Rattle.hddl_bind.specs.Methods.{IsCycleOf}

@@ -6,13 +6,13 @@ use Rattle.gd_reader.specs.Terms.{Names}
 use Rattle.hddl_reader.specs.declared.sections.RawDomain.{RawDomain}
 use Rattle.hddl_reader.specs.declared.sections.RawHead.{RawHead}
 use Rattle.plan_texts.specs.Together.{Together}
-use Rattle.name_faults.specs.Lists.{One, Has}
-use Rattle.name_faults.specs.Standing.{InAction, InMethod, InDomain}
-use Rattle.name_faults.specs.Uses.{Scope, Use, IsDeclared}
-use Rattle.name_numbers.specs.declared.faults.Spot.{Spot}
-use Rattle.bind_types.specs.Typed.{params_faults}
-use Rattle.bind_formulas.specs.declared.known.Known.{Known}
-use Rattle.bind_networks.specs.Callables.{Declared}
+use Rattle.hddl_reader.specs.names.Lists.{One, Has}
+use Rattle.hddl_reader.specs.names.Standing.{InAction, InMethod, InDomain}
+use Rattle.hddl_reader.specs.names.Uses.{Scope, Use, IsDeclared}
+use Rattle.name_binding.specs.declared.faults.Spot.{Spot}
+use Rattle.name_binding.specs.Typed.{params_faults}
+use Rattle.name_binding.specs.declared.known.Known.{Known}
+use Rattle.hddl_bind.specs.Callables.{Declared}
 use Rattle.hddl_bind.specs.Actions.{actions_faults}
 use Rattle.hddl_bind.specs.DomainSchemas.{typed_faults, schemas_faults}
 use Rattle.hddl_bind.specs.Methods.{IsCycleOf, methods_faults}

@@ -10,16 +10,16 @@ use Rattle.hddl_reader.specs.declared.sections.RawDomain.{RawDomain}
 use Rattle.plan_texts.specs.Types.{EachIs}
 use Rattle.form_spellings.specs.EachName.{effect_of_step}
 use Rattle.form_spellings.specs.InTable.{IsNameIn, IsEffectIn}
-use Rattle.name_faults.specs.Lists.{One, Has}
-use Rattle.name_faults.specs.Uses.{Scope, Use, effect_step, InFormula, InEffect}
-use Rattle.name_faults.proofs.Rolls.{effect_roll, effect_unroll}
-use Rattle.name_numbers.specs.declared.faults.Spot.{Spot}
-use Rattle.name_numbers.specs.Entered.{variables_of}
-use Rattle.name_numbers.specs.Spots.{spot}
-use Rattle.bind_formulas.specs.declared.known.Known.{Known}
-use Rattle.bind_formulas.specs.Formulas.{formula_faults}
-use Rattle.bind_formulas.specs.Effects.{effect_faults_step, effect_faults}
-use Rattle.bind_formulas.proofs.Parts.{effect_faults_level}
+use Rattle.hddl_reader.specs.names.Lists.{One, Has}
+use Rattle.hddl_reader.specs.names.Uses.{Scope, Use, effect_step, InFormula, InEffect}
+use Rattle.hddl_reader.proofs.names.Rolls.{effect_roll, effect_unroll}
+use Rattle.name_binding.specs.declared.faults.Spot.{Spot}
+use Rattle.name_binding.specs.Entered.{variables_of}
+use Rattle.name_binding.specs.Spots.{spot}
+use Rattle.name_binding.specs.declared.known.Known.{Known}
+use Rattle.name_binding.specs.Formulas.{formula_faults}
+use Rattle.name_binding.specs.Effects.{effect_faults_step, effect_faults}
+use Rattle.name_binding.proofs.Parts.{effect_faults_level}
 use Rattle.binding_laws.specs.Known.{IsKnownOf}
 use Rattle.binding_laws.specs.Numbers.{words_of, AreKnown}
 use Rattle.binding_laws.specs.Formulas.{HasEffectFaults, OfAllKnown}

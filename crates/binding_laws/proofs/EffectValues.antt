@@ -14,18 +14,18 @@ use Rattle.plan_model.specs.declared.effects.Effect.{Effect}
 use Rattle.form_spellings.specs.Bound.{bound_effect_step, IsBoundEffect}
 use Rattle.form_spellings.specs.EachName.{effect_of_step}
 use Rattle.form_spellings.specs.InTable.{IsNameIn, IsEffectIn}
-use Rattle.name_faults.specs.Lists.{One}
-use Rattle.name_faults.specs.Uses.{declares, InEffect}
-use Rattle.name_faults.specs.Uses as uses
-use Rattle.name_faults.proofs.Rolls.{effect_roll}
-use Rattle.name_numbers.specs.declared.faults.Spot.{Spot}
-use Rattle.name_numbers.specs.Entered.{variables_of}
-use Rattle.bind_types.specs.Typed.{params_bound, params_faults}
-use Rattle.bind_formulas.specs.declared.known.Known.{Known}
-use Rattle.bind_formulas.specs.Atoms.{atom_bound}
-use Rattle.bind_formulas.specs.Formulas.{formula_bound, formula_faults}
-use Rattle.bind_formulas.specs.Effects.{effect_step, effect_bound, effect_faults_step, effect_faults}
-use Rattle.bind_formulas.proofs.Parts.{effect_level, effect_faults_level}
+use Rattle.hddl_reader.specs.names.Lists.{One}
+use Rattle.hddl_reader.specs.names.Uses.{declares, InEffect}
+use Rattle.hddl_reader.specs.names.Uses as uses
+use Rattle.hddl_reader.proofs.names.Rolls.{effect_roll}
+use Rattle.name_binding.specs.declared.faults.Spot.{Spot}
+use Rattle.name_binding.specs.Entered.{variables_of}
+use Rattle.name_binding.specs.Typed.{params_bound, params_faults}
+use Rattle.name_binding.specs.declared.known.Known.{Known}
+use Rattle.name_binding.specs.Atoms.{atom_bound}
+use Rattle.name_binding.specs.Formulas.{formula_bound, formula_faults}
+use Rattle.name_binding.specs.Effects.{effect_step, effect_bound, effect_faults_step, effect_faults}
+use Rattle.name_binding.proofs.Parts.{effect_level, effect_faults_level}
 use Rattle.binding_laws.specs.Known.{IsKnownOf, HasKnown}
 use Rattle.binding_laws.specs.Numbers.{words_of, AreKnown}
 use Rattle.binding_laws.specs.Formulas.{AreNumberedIn, IsEffectBound, OfAllKnown}

@@ -12,17 +12,17 @@ use Rattle.hddl_reader.specs.declared.sections.RawDomain.{RawDomain}
 use Rattle.plan_texts.specs.Types.{EachIs}
 use Rattle.form_spellings.specs.EachName.{of_step}
 use Rattle.form_spellings.specs.InTable.{IsIn, IsNameIn, AreParamsIn, IsFormulaIn}
-use Rattle.name_faults.specs.Lists.{One, Has}
-use Rattle.name_faults.specs.Uses.{Scope, Use, declares, refers, IsDeclared, IsOneOf, variables, formula_step, InFormula}
-use Rattle.name_faults.proofs.Rolls.{formula_roll, formula_unroll}
-use Rattle.name_numbers.specs.declared.faults.Spot.{Spot}
-use Rattle.name_numbers.specs.Entered.{variables_of}
-use Rattle.name_numbers.specs.Spots.{spot}
-use Rattle.name_numbers.specs.Terms.{term_faults}
-use Rattle.bind_types.specs.Typed.{params_faults}
-use Rattle.bind_formulas.specs.declared.known.Known.{Known}
-use Rattle.bind_formulas.specs.Formulas.{formula_faults_step, formula_faults}
-use Rattle.bind_formulas.proofs.Parts.{faults_level}
+use Rattle.hddl_reader.specs.names.Lists.{One, Has}
+use Rattle.hddl_reader.specs.names.Uses.{Scope, Use, declares, refers, IsDeclared, IsOneOf, variables, formula_step, InFormula}
+use Rattle.hddl_reader.proofs.names.Rolls.{formula_roll, formula_unroll}
+use Rattle.name_binding.specs.declared.faults.Spot.{Spot}
+use Rattle.name_binding.specs.Entered.{variables_of}
+use Rattle.name_binding.specs.Spots.{spot}
+use Rattle.name_binding.specs.Terms.{term_faults}
+use Rattle.name_binding.specs.Typed.{params_faults}
+use Rattle.name_binding.specs.declared.known.Known.{Known}
+use Rattle.name_binding.specs.Formulas.{formula_faults_step, formula_faults}
+use Rattle.name_binding.proofs.Parts.{faults_level}
 use Rattle.binding_laws.specs.Kinds.{IsKindFault}
 use Rattle.binding_laws.specs.Known.{IsKnownOf}
 use Rattle.binding_laws.specs.Numbers.{words_of, AreKnown}

@@ -29,23 +29,23 @@ use Rattle.plan_texts.proofs.Spelled.{sound_roll}
 use Rattle.form_spellings.specs.Bound.{types_of, IsBoundTerm, IsBoundParam}
 use Rattle.form_spellings.specs.EachName.{OfAtom, of_step}
 use Rattle.form_spellings.specs.InTable.{IsNameIn, AreParamsIn, IsFormulaIn}
-use Rattle.name_faults.specs.Lists.{One}
-use Rattle.name_faults.specs.Uses.{declares, IsDeclared, variables, InFormula}
-use Rattle.name_faults.specs.Uses as uses
-use Rattle.name_faults.specs.Words.{param_word}
-use Rattle.name_faults.proofs.Rolls.{formula_roll}
-use Rattle.name_numbers.specs.declared.faults.Spot.{Spot}
-use Rattle.name_numbers.specs.declared.heads.Declared.{Declared as Found}
-use Rattle.name_numbers.specs.declared.heads.Head.{Head}
-use Rattle.name_numbers.specs.Entered.{variables_of}
-use Rattle.name_numbers.specs.Heads.{declared, next}
-use Rattle.name_numbers.specs.Spots.{spot}
-use Rattle.name_numbers.specs.Terms.{term_bound, term_faults, terms_faults}
-use Rattle.bind_types.specs.Typed.{params_bound, params_faults}
-use Rattle.bind_formulas.specs.declared.known.Known.{Known}
-use Rattle.bind_formulas.specs.Atoms.{place_of, head_faults, atom_bound, atom_faults}
-use Rattle.bind_formulas.specs.Formulas.{formula_step, formula_bound, formula_faults_step, formula_faults}
-use Rattle.bind_formulas.proofs.Parts.{formula_level, faults_level}
+use Rattle.hddl_reader.specs.names.Lists.{One}
+use Rattle.hddl_reader.specs.names.Uses.{declares, IsDeclared, variables, InFormula}
+use Rattle.hddl_reader.specs.names.Uses as uses
+use Rattle.hddl_reader.specs.names.Words.{param_word}
+use Rattle.hddl_reader.proofs.names.Rolls.{formula_roll}
+use Rattle.name_binding.specs.declared.faults.Spot.{Spot}
+use Rattle.name_binding.specs.declared.heads.Declared.{Declared as Found}
+use Rattle.name_binding.specs.declared.heads.Head.{Head}
+use Rattle.name_binding.specs.Entered.{variables_of}
+use Rattle.name_binding.specs.Heads.{declared, next}
+use Rattle.name_binding.specs.Spots.{spot}
+use Rattle.name_binding.specs.Terms.{term_bound, term_faults, terms_faults}
+use Rattle.name_binding.specs.Typed.{params_bound, params_faults}
+use Rattle.name_binding.specs.declared.known.Known.{Known}
+use Rattle.name_binding.specs.Atoms.{place_of, head_faults, atom_bound, atom_faults}
+use Rattle.name_binding.specs.Formulas.{formula_step, formula_bound, formula_faults_step, formula_faults}
+use Rattle.name_binding.proofs.Parts.{formula_level, faults_level}
 use Rattle.binding_laws.specs.EachList.{listed_step, OfEachList}
 use Rattle.binding_laws.specs.Formulas.{AreNumberedIn}
 use Rattle.binding_laws.specs.InOrder.{AreParameters}

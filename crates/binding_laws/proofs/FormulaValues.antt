@@ -15,18 +15,18 @@ use Rattle.plan_model.specs.declared.formulas.Formula.{Formula}
 use Rattle.form_spellings.specs.Bound.{IsBoundParam, bound_step, IsBoundFormula}
 use Rattle.form_spellings.specs.EachName.{of_step}
 use Rattle.form_spellings.specs.InTable.{IsNameIn, AreParamsIn, IsFormulaIn}
-use Rattle.name_faults.specs.Lists.{One}
-use Rattle.name_faults.specs.Uses.{Scope, Use, declares, IsDeclared, variables, InFormula}
-use Rattle.name_faults.specs.Uses as uses
-use Rattle.name_faults.proofs.Rolls.{formula_roll}
-use Rattle.name_numbers.specs.declared.faults.Spot.{Spot}
-use Rattle.name_numbers.specs.Entered.{variables_of}
-use Rattle.name_numbers.specs.Terms.{term_bound, term_faults}
-use Rattle.bind_types.specs.Typed.{params_bound, params_faults}
-use Rattle.bind_formulas.specs.declared.known.Known.{Known}
-use Rattle.bind_formulas.specs.Atoms.{atom_bound}
-use Rattle.bind_formulas.specs.Formulas.{formula_step, formula_bound, formula_faults_step, formula_faults}
-use Rattle.bind_formulas.proofs.Parts.{formula_level, faults_level}
+use Rattle.hddl_reader.specs.names.Lists.{One}
+use Rattle.hddl_reader.specs.names.Uses.{Scope, Use, declares, IsDeclared, variables, InFormula}
+use Rattle.hddl_reader.specs.names.Uses as uses
+use Rattle.hddl_reader.proofs.names.Rolls.{formula_roll}
+use Rattle.name_binding.specs.declared.faults.Spot.{Spot}
+use Rattle.name_binding.specs.Entered.{variables_of}
+use Rattle.name_binding.specs.Terms.{term_bound, term_faults}
+use Rattle.name_binding.specs.Typed.{params_bound, params_faults}
+use Rattle.name_binding.specs.declared.known.Known.{Known}
+use Rattle.name_binding.specs.Atoms.{atom_bound}
+use Rattle.name_binding.specs.Formulas.{formula_step, formula_bound, formula_faults_step, formula_faults}
+use Rattle.name_binding.proofs.Parts.{formula_level, faults_level}
 use Rattle.binding_laws.specs.Kinds.{IsNumbered}
 use Rattle.binding_laws.specs.Known.{IsKnownOf, HasKnown}
 use Rattle.binding_laws.specs.Numbers.{words_of, AreKnown}

@@ -16,12 +16,12 @@ use Rattle.plan_texts.specs.Types.{EachIs}
 use Rattle.form_spellings.specs.EachPart.{OfSub, OfPair, OfNet, OfHead, OfAction}
 use Rattle.form_spellings.specs.EachName.{OfAtom, OfTerm}
 use Rattle.form_spellings.specs.InTable.{IsIn, IsNameIn, AreParamsIn}
-use Rattle.name_faults.specs.Faults.{constants}
-use Rattle.name_faults.specs.Lists.{Each}
-use Rattle.name_numbers.specs.Spots.{IsInTextOrder}
-use Rattle.bind_types.specs.Kinds.{Kinds}
-use Rattle.bind_networks.specs.Callables.{declared, heads}
-use Rattle.bind_networks.specs.Ids.{term_number, term_at, id_at, ids}
+use Rattle.hddl_reader.specs.names.Faults.{constants}
+use Rattle.hddl_reader.specs.names.Lists.{Each}
+use Rattle.name_binding.specs.Spots.{IsInTextOrder}
+use Rattle.name_binding.specs.Kinds.{Kinds}
+use Rattle.hddl_bind.specs.Callables.{declared, heads}
+use Rattle.hddl_bind.specs.Ids.{term_number, term_at, id_at, ids}
 use Rattle.hddl_bind.specs.DeclaredNames.{known_in, objects_declared}
 use Rattle.binding_laws.specs.Calls.{AreCallablesOf}
 use Rattle.binding_laws.specs.InOrder.{Anywhere, IsDomainInOrder}

@@ -8,15 +8,15 @@ use Rattle.gd_reader.specs.Terms.{Names}
 use Rattle.hddl_reader.specs.declared.sections.RawHead.{RawHead}
 use Rattle.plan_texts.specs.Types.{EachIs}
 use Rattle.form_spellings.specs.InTable.{IsIn}
-use Rattle.name_faults.specs.Lists.{One, Each, Has}
-use Rattle.name_faults.specs.Words.{term_word}
-use Rattle.name_numbers.specs.declared.faults.Spot.{Spot}
-use Rattle.name_numbers.specs.declared.heads.Declared.{Declared}
-use Rattle.name_numbers.specs.declared.heads.Head.{Head}
-use Rattle.name_numbers.specs.Heads.{head_numbers, declared, next}
-use Rattle.name_numbers.specs.Places as numbers
-use Rattle.name_numbers.specs.Spots.{spot, IsInTextOrder}
-use Rattle.bind_formulas.specs.Atoms.{place_of, head_faults}
+use Rattle.hddl_reader.specs.names.Lists.{One, Each, Has}
+use Rattle.hddl_reader.specs.names.Words.{term_word}
+use Rattle.name_binding.specs.declared.faults.Spot.{Spot}
+use Rattle.name_binding.specs.declared.heads.Declared.{Declared}
+use Rattle.name_binding.specs.declared.heads.Head.{Head}
+use Rattle.name_binding.specs.Heads.{head_numbers, declared, next}
+use Rattle.name_binding.specs.Places as numbers
+use Rattle.name_binding.specs.Spots.{spot, IsInTextOrder}
+use Rattle.name_binding.specs.Atoms.{place_of, head_faults}
 use Rattle.binding_laws.specs.Known.{head_of}
 use Rattle.binding_laws.proofs.Places.{same_number}
 

@@ -13,8 +13,8 @@ use Rattle.gd_reader.specs.Terms.{Names}
 use Rattle.plan_texts.proofs.Spelled.{each_is-map}
 use Rattle.form_spellings.specs.EachName.{of_step, effect_of_step}
 use Rattle.form_spellings.specs.InTable.{IsNameIn, IsFormulaIn, IsEffectIn, AreParamsIn}
-use Rattle.name_faults.specs.Uses.{variables}
-use Rattle.name_numbers.specs.Entered.{variables_of}
+use Rattle.hddl_reader.specs.names.Uses.{variables}
+use Rattle.name_binding.specs.Entered.{variables_of}
 use Rattle.binding_laws.specs.Numbers.{words_of, AreKnown}
 
 module _ (names : Names) where

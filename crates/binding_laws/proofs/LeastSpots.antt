@@ -2,11 +2,11 @@
 use Rattle.std.proofs.Common.{ℕ, ◌≡◌, ◌<◌, ◌≤◌, Bool, true, false, inl, inr, List, [], ◌++◌, Some, None, refl, sym, ap, arith}
 use Rattle.std.specs.Prelude.{◌⊎◌, ◌↔◌, ◌==◌, ◌&&◌, ◌||◌, nat_lt, Contains}
 use Rattle.std.proofs.lemmas.Bool.{ltb-true, ltb-false, eqb-true, eqb-false}
-use Rattle.name_faults.specs.Faults.{IsInFront, IsLeast, HasNoFault}
-use Rattle.name_faults.specs.Lists.{Has}
-use Rattle.name_numbers.specs.declared.faults.Spot.{Spot}
-use Rattle.name_numbers.specs.Spots.{spot, is_in_front, noted, AreLeastOf}
-use Rattle.name_numbers.proofs.Least.{least_is_fault, least_is_first, none_is_fault, least-append, least_of_themselves}
+use Rattle.hddl_reader.specs.names.Faults.{IsInFront, IsLeast, HasNoFault}
+use Rattle.hddl_reader.specs.names.Lists.{Has}
+use Rattle.name_binding.specs.declared.faults.Spot.{Spot}
+use Rattle.name_binding.specs.Spots.{spot, is_in_front, noted, AreLeastOf}
+use Rattle.name_binding.proofs.Least.{least_is_fault, least_is_first, none_is_fault, least-append, least_of_themselves}
 use Rattle.binding_laws.proofs.Numbered.{contains_has, has_contains}
 
 less : (m n : ℕ) → m ≤ n → (n ≡ m → ⊥) → m < n

@@ -4,10 +4,10 @@ use Rattle.std.specs.Prelude.{◌⊎◌, ◌↔◌, option_map, flat_map}
 use Rattle.std.specs.Str.{bytes_eq}
 use Rattle.text_forms.specs.Words.{Word, first_place, last_place, later}
 use Rattle.plan_texts.proofs.Basics.{bytes_eq-refl, bytes_eq-other}
-use Rattle.name_faults.specs.Lists.{One, Has}
-use Rattle.name_numbers.specs.Spots.{spot}
-use Rattle.name_numbers.specs.Terms.{unless_found}
-use Rattle.name_numbers.specs.declared.faults.Spot.{Spot}
+use Rattle.hddl_reader.specs.names.Lists.{One, Has}
+use Rattle.name_binding.specs.Spots.{spot}
+use Rattle.name_binding.specs.Terms.{unless_found}
+use Rattle.name_binding.specs.declared.faults.Spot.{Spot}
 
 none_behind : (o : Option ℕ) → option_map suc o ≡ None → o ≡ None
 none_behind None f = refl

@@ -11,11 +11,11 @@ use Rattle.gd_reader.specs.declared.typed_lists.RawParam.{RawParam}
 use Rattle.plan_texts.specs.TypedLists.{first_seen}
 use Rattle.plan_texts.specs.Types.{EachIs}
 use Rattle.form_spellings.specs.InTable.{IsIn, AreParamsIn}
-use Rattle.name_faults.specs.Lists.{One, Has}
-use Rattle.name_faults.specs.Types as words
-use Rattle.name_faults.specs.Words.{WordAt, term_at}
-use Rattle.bind_types.specs.Mentions.{own_word, mentioned}
-use Rattle.bind_types.specs.Seen as numbers
+use Rattle.hddl_reader.specs.names.Lists.{One, Has}
+use Rattle.hddl_reader.specs.names.Types as words
+use Rattle.hddl_reader.specs.names.Words.{WordAt, term_at}
+use Rattle.name_binding.specs.Mentions.{own_word, mentioned}
+use Rattle.name_binding.specs.Seen as numbers
 use Rattle.binding_laws.specs.Numbers.{words_of, AreKnown}
 use Rattle.binding_laws.proofs.Numbered.{contains_has}
 use Rattle.binding_laws.proofs.Ones.{one_has, has_one, one_mapped, mapped_one, each_both, differ_mapped}

@@ -9,17 +9,17 @@ use Rattle.plan_texts.specs.Together.{Together}
 use Rattle.plan_texts.specs.Types.{EachIs}
 use Rattle.form_spellings.specs.EachPart.{OfMethod}
 use Rattle.form_spellings.specs.InTable.{IsNameIn}
-use Rattle.name_faults.specs.Lists.{One, Has}
-use Rattle.name_faults.specs.Standing.{IsOfNetwork, InMethod}
-use Rattle.name_faults.specs.Uses.{Scope, Use, applies, task, IsDeclared, IsOfAtom, variables, InFormula}
-use Rattle.name_numbers.specs.declared.faults.Spot.{Spot}
-use Rattle.name_numbers.specs.Terms.{term_faults, terms_faults}
-use Rattle.bind_types.specs.Typed.{params_faults}
-use Rattle.bind_formulas.specs.declared.known.Known.{Known}
-use Rattle.bind_formulas.specs.Formulas.{formula_faults}
-use Rattle.bind_networks.specs.Callables.{Declared}
-use Rattle.bind_networks.specs.Calls.{method_task, call_faults}
-use Rattle.bind_networks.specs.Networks.{network_faults}
+use Rattle.hddl_reader.specs.names.Lists.{One, Has}
+use Rattle.hddl_reader.specs.names.Standing.{IsOfNetwork, InMethod}
+use Rattle.hddl_reader.specs.names.Uses.{Scope, Use, applies, task, IsDeclared, IsOfAtom, variables, InFormula}
+use Rattle.name_binding.specs.declared.faults.Spot.{Spot}
+use Rattle.name_binding.specs.Terms.{term_faults, terms_faults}
+use Rattle.name_binding.specs.Typed.{params_faults}
+use Rattle.name_binding.specs.declared.known.Known.{Known}
+use Rattle.name_binding.specs.Formulas.{formula_faults}
+use Rattle.hddl_bind.specs.Callables.{Declared}
+use Rattle.hddl_bind.specs.Calls.{method_task, call_faults}
+use Rattle.hddl_bind.specs.Networks.{network_faults}
 use Rattle.hddl_bind.specs.Actions.{scope_of}
 use Rattle.hddl_bind.specs.Methods.{IsCycleOf, front_faults, method_faults, methods_faults}
 use Rattle.binding_laws.specs.Calls.{AreCallablesOf}

@@ -17,19 +17,19 @@ use Rattle.form_spellings.specs.BoundNetworks.{IsBoundNetwork}
 use Rattle.form_spellings.specs.BoundSchemas.{IsBoundMethod}
 use Rattle.form_spellings.specs.EachPart.{OfMethod}
 use Rattle.form_spellings.specs.InTable.{IsIn, IsNameIn}
-use Rattle.name_faults.specs.Lists.{One}
-use Rattle.name_faults.specs.Standing.{InMethod}
-use Rattle.name_faults.specs.Uses.{InFormula}
-use Rattle.name_faults.specs.Words.{term_word}
-use Rattle.name_numbers.specs.declared.faults.Spot.{Spot}
-use Rattle.name_numbers.specs.Terms.{terms_bound, terms_faults}
-use Rattle.bind_types.specs.Typed.{params_bound, params_faults}
-use Rattle.bind_formulas.specs.declared.known.Known.{Known}
-use Rattle.bind_formulas.specs.Formulas.{formula_bound, formula_faults}
-use Rattle.bind_networks.specs.declared.callables.Callable.{Callable}
-use Rattle.bind_networks.specs.Callables.{Declared}
-use Rattle.bind_networks.specs.Calls.{called, method_task, if_task, only_task, head_called, task_number, call_faults}
-use Rattle.bind_networks.specs.Networks.{network_bound, network_faults}
+use Rattle.hddl_reader.specs.names.Lists.{One}
+use Rattle.hddl_reader.specs.names.Standing.{InMethod}
+use Rattle.hddl_reader.specs.names.Uses.{InFormula}
+use Rattle.hddl_reader.specs.names.Words.{term_word}
+use Rattle.name_binding.specs.declared.faults.Spot.{Spot}
+use Rattle.name_binding.specs.Terms.{terms_bound, terms_faults}
+use Rattle.name_binding.specs.Typed.{params_bound, params_faults}
+use Rattle.name_binding.specs.declared.known.Known.{Known}
+use Rattle.name_binding.specs.Formulas.{formula_bound, formula_faults}
+use Rattle.hddl_bind.specs.declared.callables.Callable.{Callable}
+use Rattle.hddl_bind.specs.Callables.{Declared}
+use Rattle.hddl_bind.specs.Calls.{called, method_task, if_task, only_task, head_called, task_number, call_faults}
+use Rattle.hddl_bind.specs.Networks.{network_bound, network_faults}
 use Rattle.hddl_bind.specs.Actions.{scope_of}
 use Rattle.hddl_bind.specs.Methods.{IsCycleOf, front_faults, method_faults, method_bound, methods_bound, methods_faults}
 use Rattle.binding_laws.specs.Formulas.{AreNumberedIn}

@@ -15,14 +15,14 @@ use Rattle.plan_texts.specs.Networks.{chain, chain_if}
 use Rattle.plan_texts.specs.Printable.{IsPlain}
 use Rattle.plan_texts.specs.SoundProblem.{NamesSubtasks}
 use Rattle.plan_texts.specs.Types.{EachIs}
-use Rattle.name_faults.specs.Lists.{Has}
-use Rattle.name_faults.specs.Words.{IsSecond, term_word}
-use Rattle.name_numbers.specs.Spots.{spot}
-use Rattle.bind_networks.specs.Callables.{Declared}
-use Rattle.bind_networks.specs.Cycle.{cycle_faults, limit_faults, order_faults}
-use Rattle.bind_networks.specs.Ids.{term_number, term_at, id_at, ids, has_id, second_ids, subtask_of}
-use Rattle.bind_networks.specs.Networks.{id_bound, child_bound, child_faults, constraint_faults}
-use Rattle.bind_networks.specs.Pairs.{if_both, if_pair, first_of, second_of, written, pairs_bound, pair_faults}
+use Rattle.hddl_reader.specs.names.Lists.{Has}
+use Rattle.hddl_reader.specs.names.Words.{IsSecond, term_word}
+use Rattle.name_binding.specs.Spots.{spot}
+use Rattle.hddl_bind.specs.Callables.{Declared}
+use Rattle.hddl_bind.specs.Cycle.{cycle_faults, limit_faults, order_faults}
+use Rattle.hddl_bind.specs.Ids.{term_number, term_at, id_at, ids, has_id, second_ids, subtask_of}
+use Rattle.hddl_bind.specs.Networks.{id_bound, child_bound, child_faults, constraint_faults}
+use Rattle.hddl_bind.specs.Pairs.{if_both, if_pair, first_of, second_of, written, pairs_bound, pair_faults}
 use Rattle.binding_laws.specs.InOrder.{IsPlainName}
 use Rattle.binding_laws.specs.Seconds.{declares_at}
 use Rattle.binding_laws.specs.SoundNetworks.{HasSoundNetwork}

@@ -25,15 +25,15 @@ use Rattle.form_spellings.specs.Bound.{IsBoundTerm}
 use Rattle.form_spellings.specs.BoundNetworks.{IsBoundPair, IsBoundConstraint, IsBoundId, IsBoundSubtask}
 use Rattle.form_spellings.specs.EachName.{OfAtom}
 use Rattle.form_spellings.specs.InTable.{IsIn, IsNameIn}
-use Rattle.name_faults.specs.Words.{callables}
-use Rattle.name_numbers.specs.declared.faults.Spot.{Spot}
-use Rattle.name_numbers.specs.Terms.{term_faults, terms_bound, terms_faults, unless_found}
-use Rattle.bind_networks.specs.Callables.{Declared, heads}
-use Rattle.bind_networks.specs.Calls.{called, call_faults}
-use Rattle.bind_networks.specs.Cycle.{cycle_faults, limit_faults, order_faults}
-use Rattle.bind_networks.specs.Ids.{ids, id_at, has_id, second_ids, subtask_of}
-use Rattle.bind_networks.specs.Networks.{id_bound, constraint_bound, constraint_faults, child_bound, child_faults}
-use Rattle.bind_networks.specs.Pairs.{if_both, if_pair, first_of, second_of, written, pair_faults}
+use Rattle.hddl_reader.specs.names.Words.{callables}
+use Rattle.name_binding.specs.declared.faults.Spot.{Spot}
+use Rattle.name_binding.specs.Terms.{term_faults, terms_bound, terms_faults, unless_found}
+use Rattle.hddl_bind.specs.Callables.{Declared, heads}
+use Rattle.hddl_bind.specs.Calls.{called, call_faults}
+use Rattle.hddl_bind.specs.Cycle.{cycle_faults, limit_faults, order_faults}
+use Rattle.hddl_bind.specs.Ids.{ids, id_at, has_id, second_ids, subtask_of}
+use Rattle.hddl_bind.specs.Networks.{id_bound, constraint_bound, constraint_faults, child_bound, child_faults}
+use Rattle.hddl_bind.specs.Pairs.{if_both, if_pair, first_of, second_of, written, pair_faults}
 use Rattle.binding_laws.specs.Calls.{AreCallablesOf, called_words, OfAllCallables}
 use Rattle.binding_laws.specs.InOrder.{IsPlainName}
 use Rattle.binding_laws.specs.Kinds.{AreTermsIn}

@@ -11,21 +11,21 @@ use Rattle.hddl_reader.specs.declared.sections.RawDomain.{RawDomain}
 use Rattle.plan_texts.specs.Types.{EachIs}
 use Rattle.form_spellings.specs.EachName.{OfAtom}
 use Rattle.form_spellings.specs.InTable.{IsIn, IsNameIn}
-use Rattle.name_faults.specs.Lists.{One, Has}
-use Rattle.name_faults.specs.Networks as words
-use Rattle.name_faults.specs.Standing.{IsOfNetwork}
-use Rattle.name_faults.specs.Uses.{Scope, Use, applies, refers, subtask, IsOfAtom, IsOneOf}
-use Rattle.name_faults.specs.Words.{IsSecond}
-use Rattle.name_faults.proofs.Firsts.{one_cycle_is_a_fault}
-use Rattle.name_numbers.specs.declared.faults.Spot.{Spot}
-use Rattle.name_numbers.specs.Spots.{spot}
-use Rattle.name_numbers.specs.Terms.{term_faults, terms_faults}
-use Rattle.bind_networks.specs.Callables.{Declared}
-use Rattle.bind_networks.specs.Calls.{called, call_faults}
-use Rattle.bind_networks.specs.Cycle.{IsCycle, cycle_faults, limit_faults, order_faults}
-use Rattle.bind_networks.specs.Ids.{term_number, term_at, id_at, ids, second_ids}
-use Rattle.bind_networks.specs.Networks.{constraint_faults, child_faults, network_faults}
-use Rattle.bind_networks.specs.Pairs.{pair_faults}
+use Rattle.hddl_reader.specs.names.Lists.{One, Has}
+use Rattle.hddl_reader.specs.names.Networks as words
+use Rattle.hddl_reader.specs.names.Standing.{IsOfNetwork}
+use Rattle.hddl_reader.specs.names.Uses.{Scope, Use, applies, refers, subtask, IsOfAtom, IsOneOf}
+use Rattle.hddl_reader.specs.names.Words.{IsSecond}
+use Rattle.hddl_reader.proofs.names.Firsts.{one_cycle_is_a_fault}
+use Rattle.name_binding.specs.declared.faults.Spot.{Spot}
+use Rattle.name_binding.specs.Spots.{spot}
+use Rattle.name_binding.specs.Terms.{term_faults, terms_faults}
+use Rattle.hddl_bind.specs.Callables.{Declared}
+use Rattle.hddl_bind.specs.Calls.{called, call_faults}
+use Rattle.hddl_bind.specs.Cycle.{IsCycle, cycle_faults, limit_faults, order_faults}
+use Rattle.hddl_bind.specs.Ids.{term_number, term_at, id_at, ids, second_ids}
+use Rattle.hddl_bind.specs.Networks.{constraint_faults, child_faults, network_faults}
+use Rattle.hddl_bind.specs.Pairs.{pair_faults}
 use Rattle.binding_laws.specs.Calls.{AreCallablesOf, OfAllCallables}
 use Rattle.binding_laws.specs.Kinds.{AreTermsIn}
 use Rattle.binding_laws.specs.Numbers.{words_of}

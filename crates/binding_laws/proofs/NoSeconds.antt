@@ -4,9 +4,9 @@ use Rattle.std.specs.Prelude.{◌⊎◌}
 use Rattle.std.proofs.lemmas.Bool.{cases_lt}
 use Rattle.htn_base.specs.Different.{AreDifferent}
 use Rattle.text_forms.specs.Words.{Word}
-use Rattle.name_faults.specs.Lists.{One, Has}
-use Rattle.name_faults.specs.Words.{WordAt, IsSameEarlier, IsSecond}
-use Rattle.name_numbers.specs.Spots.{IsInTextOrder}
+use Rattle.hddl_reader.specs.names.Lists.{One, Has}
+use Rattle.hddl_reader.specs.names.Words.{WordAt, IsSameEarlier, IsSecond}
+use Rattle.name_binding.specs.Spots.{IsInTextOrder}
 use Rattle.binding_laws.proofs.Numbered.{contains_has, has_contains, has_of_map, has_to_map}
 use Rattle.binding_laws.proofs.Ones.{one_has, has_one}
 

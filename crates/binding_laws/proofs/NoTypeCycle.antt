@@ -6,9 +6,9 @@ use Rattle.gd_reader.specs.Terms.{Names}
 use Rattle.gd_reader.specs.declared.term.RawTerm.{RawTerm}
 use Rattle.gd_reader.specs.declared.typed_lists.RawParam.{RawParam}
 use Rattle.hddl_reader.specs.declared.sections.RawDomain.{RawDomain}
-use Rattle.name_faults.specs.Lists.{Has, IsFirst}
-use Rattle.name_faults.specs.Types.{ClosesCycle, TypeCycle, Leads, IsParent}
-use Rattle.name_faults.specs.Words.{term_word, param_word}
+use Rattle.hddl_reader.specs.names.Lists.{Has, IsFirst}
+use Rattle.hddl_reader.specs.names.Types.{ClosesCycle, TypeCycle, Leads, IsParent}
+use Rattle.hddl_reader.specs.names.Words.{term_word, param_word}
 use Rattle.std.specs.Prelude.{◌⊎◌}
 use Rattle.binding_laws.proofs.Ones.{has_one}
 

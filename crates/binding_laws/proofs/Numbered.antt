@@ -10,8 +10,8 @@ use Rattle.htn_base.specs.Different.{AreDifferent}
 use Rattle.text_forms.specs.Words.{Word, word_at, first_place}
 use Rattle.plan_texts.specs.Declared.{one_word}
 use Rattle.plan_texts.proofs.Basics.{bytes_eq-true, bytes_eq-refl}
-use Rattle.name_faults.specs.Lists.{One, Has}
-use Rattle.bind_types.specs.Seen.{is_among, first_seen}
+use Rattle.hddl_reader.specs.names.Lists.{One, Has}
+use Rattle.name_binding.specs.Seen.{is_among, first_seen}
 
 pub contains_has : {X : Type 0} (xs : List X) (x : X) → Contains xs x → Has xs x
 contains_has [] x c = absurd (let l = c.1 in omega arith)

@@ -18,16 +18,16 @@ use Rattle.hddl_reader.specs.declared.sections.RawProblem.{RawProblem}
 use Rattle.plan_texts.specs.Types.{EachIs}
 use Rattle.form_spellings.specs.EachPart.{OfHead, OfAction, OfMethod}
 use Rattle.form_spellings.specs.InTable.{IsNameIn, AreParamsIn}
-use Rattle.name_faults.specs.Faults.{HasDomainFault, HasProblemFault, HasNoFault}
-use Rattle.name_faults.specs.Lists.{One, Has}
-use Rattle.name_faults.specs.Standing.{IsOfNetwork, InAction, InMethod, InDomain, InProblem}
-use Rattle.name_faults.specs.Uses.{Scope, predicate, subtask, task, declares, IsDeclared, IsOfAtom, IsOneOf, variables}
-use Rattle.name_faults.specs.Words.{term_word}
-use Rattle.name_numbers.specs.declared.faults.Spot.{Spot}
-use Rattle.name_numbers.specs.Spots.{spot}
-use Rattle.bind_types.specs.Kinds.{Kinds, type_number, members_written, kind_faults}
-use Rattle.bind_types.specs.Unions.{union_at, unions_said, params_unions, formula_unions, effect_unions}
-use Rattle.bind_types.specs.declared.unions.Either.{Either}
+use Rattle.hddl_reader.specs.names.Faults.{HasDomainFault, HasProblemFault, HasNoFault}
+use Rattle.hddl_reader.specs.names.Lists.{One, Has}
+use Rattle.hddl_reader.specs.names.Standing.{IsOfNetwork, InAction, InMethod, InDomain, InProblem}
+use Rattle.hddl_reader.specs.names.Uses.{Scope, predicate, subtask, task, declares, IsDeclared, IsOfAtom, IsOneOf, variables}
+use Rattle.hddl_reader.specs.names.Words.{term_word}
+use Rattle.name_binding.specs.declared.faults.Spot.{Spot}
+use Rattle.name_binding.specs.Spots.{spot}
+use Rattle.name_binding.specs.Kinds.{Kinds, type_number, members_written, kind_faults}
+use Rattle.name_binding.specs.Unions.{union_at, unions_said, params_unions, formula_unions, effect_unions}
+use Rattle.name_binding.specs.declared.unions.Either.{Either}
 use Rattle.hddl_bind.specs.WholeUnions.{head_unions, heads_unions, action_unions, actions_unions, method_unions, methods_unions, domain_unions, problem_unions}
 use Rattle.binding_laws.specs.Formulas.{AreNumberedIn}
 use Rattle.binding_laws.specs.InOrder.{Anywhere, IsTypedName, IsPredicateInOrder, IsHeadInOrder, IsMethodInOrder, IsActionInOrder, IsDomainInOrder, IsProblemInOrder}

@@ -3,7 +3,7 @@ use Rattle.std.proofs.Common.{◌≡◌, inl, inr, List, [], ◌∷◌, ◌++◌
 use Rattle.std.specs.Prelude.{◌⊎◌}
 use Rattle.htn_base.specs.Different.{AreDifferent}
 use Rattle.plan_texts.specs.Types.{EachIs}
-use Rattle.name_faults.specs.Lists.{One, Has}
+use Rattle.hddl_reader.specs.names.Lists.{One, Has}
 use Rattle.binding_laws.proofs.Numbered.{contains_has, has_contains, has_of_map}
 
 pub one_has : {X : Type 0} (P : X → Type 0) (xs : List X) → One P xs → (x : X) × Has xs x × P x

@@ -12,15 +12,15 @@ use Rattle.hddl_reader.specs.declared.networks.RawPair.{RawPair}
 use Rattle.hddl_reader.specs.declared.networks.RawSub.{RawSub}
 use Rattle.plan_texts.specs.Types.{EachIs}
 use Rattle.form_spellings.specs.InTable.{IsIn}
-use Rattle.name_faults.specs.Lists.{One, Has, IsFirst}
-use Rattle.name_faults.specs.Words.{WordAt}
-use Rattle.name_faults.specs.Networks as words
-use Rattle.name_numbers.specs.declared.faults.Spot.{Spot}
-use Rattle.name_numbers.specs.Spots.{spot}
-use Rattle.name_numbers.specs.Terms.{unless_found}
-use Rattle.bind_networks.specs.Ids.{has_id, subtask_of}
-use Rattle.bind_networks.specs.Pairs.{pair_faults}
-use Rattle.bind_networks.specs.Cycle as numbers
+use Rattle.hddl_reader.specs.names.Lists.{One, Has, IsFirst}
+use Rattle.hddl_reader.specs.names.Words.{WordAt}
+use Rattle.hddl_reader.specs.names.Networks as words
+use Rattle.name_binding.specs.declared.faults.Spot.{Spot}
+use Rattle.name_binding.specs.Spots.{spot}
+use Rattle.name_binding.specs.Terms.{unless_found}
+use Rattle.hddl_bind.specs.Ids.{has_id, subtask_of}
+use Rattle.hddl_bind.specs.Pairs.{pair_faults}
+use Rattle.hddl_bind.specs.Cycle as numbers
 use Rattle.binding_laws.specs.Orders.{AreIdsIn, HasUnknownIds, HasCycle, HasLimit, OfAllNetworks}
 use Rattle.binding_laws.proofs.Lists.{append_there, append_left, append_right, flat_there, flat_back, unless_has}
 use Rattle.binding_laws.proofs.Ones.{each_front, each_back}

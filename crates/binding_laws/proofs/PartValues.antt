@@ -15,16 +15,16 @@ use Rattle.form_spellings.specs.BoundNetworks.{IsBoundNetwork}
 use Rattle.form_spellings.specs.BoundSchemas.{IsBoundFact}
 use Rattle.form_spellings.specs.EachName.{OfAtom}
 use Rattle.form_spellings.specs.InTable.{IsNameIn}
-use Rattle.name_faults.specs.Standing.{InDomain, InProblem}
-use Rattle.name_numbers.specs.declared.faults.Spot.{Spot}
-use Rattle.name_numbers.specs.Heads.{declared}
-use Rattle.name_numbers.specs.Places.{first_place, last_place}
-use Rattle.name_numbers.specs.Terms.{unless_found, term_faults, terms_bound, terms_faults}
-use Rattle.bind_types.specs.Typed.{params_bound, params_faults}
-use Rattle.bind_formulas.specs.Atoms.{atom_faults, head_faults, place_of}
-use Rattle.bind_formulas.specs.Facts.{object_bound, fact_bound}
-use Rattle.bind_formulas.specs.Formulas.{formula_faults}
-use Rattle.bind_networks.specs.Networks.{network_bound, network_faults}
+use Rattle.hddl_reader.specs.names.Standing.{InDomain, InProblem}
+use Rattle.name_binding.specs.declared.faults.Spot.{Spot}
+use Rattle.name_binding.specs.Heads.{declared}
+use Rattle.name_binding.specs.Places.{first_place, last_place}
+use Rattle.name_binding.specs.Terms.{unless_found, term_faults, terms_bound, terms_faults}
+use Rattle.name_binding.specs.Typed.{params_bound, params_faults}
+use Rattle.name_binding.specs.Atoms.{atom_faults, head_faults, place_of}
+use Rattle.name_binding.specs.Facts.{object_bound, fact_bound}
+use Rattle.name_binding.specs.Formulas.{formula_faults}
+use Rattle.hddl_bind.specs.Networks.{network_bound, network_faults}
 use Rattle.hddl_bind.specs.Actions.{actions_faults}
 use Rattle.hddl_bind.specs.DomainSchemas.{typed_faults}
 use Rattle.hddl_bind.specs.Facts.{facts_faults}

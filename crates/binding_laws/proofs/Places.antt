@@ -9,7 +9,7 @@ use Rattle.text_forms.specs.Words as words
 use Rattle.gd_reader.specs.Terms.{Names}
 use Rattle.plan_texts.proofs.Basics.{bytes_eq-refl, bytes_eq-other}
 use Rattle.plan_texts.proofs.Places.{first-different}
-use Rattle.name_numbers.specs.Places as numbers
+use Rattle.name_binding.specs.Places as numbers
 use Rattle.binding_laws.specs.Numbers.{words_of, AreKnown, HaveOnePlace}
 
 -- two numbers of one word are one

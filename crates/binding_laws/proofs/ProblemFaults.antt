@@ -9,16 +9,16 @@ use Rattle.hddl_reader.specs.declared.sections.RawDomain.{RawDomain}
 use Rattle.hddl_reader.specs.declared.sections.RawProblem.{RawProblem}
 use Rattle.form_spellings.specs.EachName.{OfParam}
 use Rattle.form_spellings.specs.InTable.{IsNameIn}
-use Rattle.name_faults.specs.Faults.{DuplicateInProblem, constants, objects, HasProblemFault}
-use Rattle.name_faults.specs.Lists.{Has}
-use Rattle.name_faults.specs.Standing.{InProblem}
-use Rattle.name_faults.specs.Words.{param_at, IsSecond}
-use Rattle.name_numbers.specs.declared.faults.Spot.{Spot}
-use Rattle.name_numbers.specs.Spots.{spot}
-use Rattle.bind_types.specs.Kinds.{Kinds}
-use Rattle.bind_formulas.specs.declared.known.Known.{Known}
-use Rattle.bind_networks.specs.Callables.{declared}
-use Rattle.bind_networks.specs.Cycle.{IsCycle}
+use Rattle.hddl_reader.specs.names.Faults.{DuplicateInProblem, constants, objects, HasProblemFault}
+use Rattle.hddl_reader.specs.names.Lists.{Has}
+use Rattle.hddl_reader.specs.names.Standing.{InProblem}
+use Rattle.hddl_reader.specs.names.Words.{param_at, IsSecond}
+use Rattle.name_binding.specs.declared.faults.Spot.{Spot}
+use Rattle.name_binding.specs.Spots.{spot}
+use Rattle.name_binding.specs.Kinds.{Kinds}
+use Rattle.name_binding.specs.declared.known.Known.{Known}
+use Rattle.hddl_bind.specs.Callables.{declared}
+use Rattle.hddl_bind.specs.Cycle.{IsCycle}
 use Rattle.hddl_bind.specs.DeclaredNames.{known_in, objects_declared, second_objects}
 use Rattle.hddl_bind.specs.ProblemParts.{parts_faults}
 use Rattle.hddl_bind.specs.WholeProblems.{known_with}

@@ -8,17 +8,17 @@ use Rattle.hddl_reader.specs.declared.sections.RawDomain.{RawDomain}
 use Rattle.hddl_reader.specs.declared.sections.RawProblem.{RawProblem}
 use Rattle.form_spellings.specs.EachName.{OfAtom}
 use Rattle.form_spellings.specs.InTable.{IsNameIn}
-use Rattle.name_faults.specs.Lists.{One, Has}
-use Rattle.name_faults.specs.Standing.{IsOfNetwork, InProblem}
-use Rattle.name_faults.specs.Uses.{Scope, Use, predicate, IsDeclared, IsOfAtom, variables, InFormula}
-use Rattle.name_numbers.specs.declared.faults.Spot.{Spot}
-use Rattle.bind_types.specs.Typed.{params_faults}
-use Rattle.bind_formulas.specs.declared.known.Known.{Known}
-use Rattle.bind_formulas.specs.Atoms.{atom_faults}
-use Rattle.bind_formulas.specs.Formulas.{formula_faults}
-use Rattle.bind_networks.specs.Callables.{Declared}
-use Rattle.bind_networks.specs.Cycle.{IsCycle}
-use Rattle.bind_networks.specs.Networks.{network_faults}
+use Rattle.hddl_reader.specs.names.Lists.{One, Has}
+use Rattle.hddl_reader.specs.names.Standing.{IsOfNetwork, InProblem}
+use Rattle.hddl_reader.specs.names.Uses.{Scope, Use, predicate, IsDeclared, IsOfAtom, variables, InFormula}
+use Rattle.name_binding.specs.declared.faults.Spot.{Spot}
+use Rattle.name_binding.specs.Typed.{params_faults}
+use Rattle.name_binding.specs.declared.known.Known.{Known}
+use Rattle.name_binding.specs.Atoms.{atom_faults}
+use Rattle.name_binding.specs.Formulas.{formula_faults}
+use Rattle.hddl_bind.specs.Callables.{Declared}
+use Rattle.hddl_bind.specs.Cycle.{IsCycle}
+use Rattle.hddl_bind.specs.Networks.{network_faults}
 use Rattle.hddl_bind.specs.Facts.{facts_faults}
 use Rattle.hddl_bind.specs.ProblemParts.{top_scope, top_faults, parts_faults}
 use Rattle.binding_laws.specs.Calls.{AreCallablesOf}

@@ -4,8 +4,8 @@ use Rattle.std.specs.Prelude.{◌↔◌}
 use Rattle.text_forms.specs.Words.{Word}
 use Rattle.gd_reader.specs.Terms.{Names}
 use Rattle.hddl_reader.specs.declared.sections.RawDomain.{RawDomain}
-use Rattle.name_faults.specs.Standing.{InDomain, InProblem}
-use Rattle.name_faults.specs.Uses.{Scope, predicate, subtask, task, Use, declares, applies, refers}
+use Rattle.hddl_reader.specs.names.Standing.{InDomain, InProblem}
+use Rattle.hddl_reader.specs.names.Uses.{Scope, predicate, subtask, task, Use, declares, applies, refers}
 use Rattle.binding_laws.specs.Uses.{HasUseFault, HasFaultIn, IsSaid, AreSaidOfDomains, AreSaidOfProblems}
 
 module _ (names : Names) (d : RawDomain) (objects : List Word) (Stands : Scope → Use → Type 0) (code at : ℕ) where

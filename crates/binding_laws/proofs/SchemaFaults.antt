@@ -10,18 +10,18 @@ use Rattle.hddl_reader.specs.declared.sections.RawHead.{RawHead}
 use Rattle.plan_texts.specs.Types.{EachIs}
 use Rattle.form_spellings.specs.EachPart.{OfHead, OfAction}
 use Rattle.form_spellings.specs.InTable.{IsNameIn}
-use Rattle.name_faults.specs.Lists.{One, Has}
-use Rattle.name_faults.specs.Standing.{IsOfNetwork, InAction}
-use Rattle.name_faults.specs.Uses.{Scope, Use, IsDeclared, variables, InFormula, InEffect}
-use Rattle.name_numbers.specs.declared.faults.Spot.{Spot}
-use Rattle.name_numbers.specs.Spots.{spot}
-use Rattle.bind_types.specs.Typed.{params_faults}
-use Rattle.bind_formulas.specs.declared.known.Known.{Known}
-use Rattle.bind_formulas.specs.Effects.{effect_faults}
-use Rattle.bind_formulas.specs.Formulas.{formula_faults}
-use Rattle.bind_networks.specs.Callables.{Declared}
-use Rattle.bind_networks.specs.Cycle.{IsCycle}
-use Rattle.bind_networks.specs.Networks.{network_faults}
+use Rattle.hddl_reader.specs.names.Lists.{One, Has}
+use Rattle.hddl_reader.specs.names.Standing.{IsOfNetwork, InAction}
+use Rattle.hddl_reader.specs.names.Uses.{Scope, Use, IsDeclared, variables, InFormula, InEffect}
+use Rattle.name_binding.specs.declared.faults.Spot.{Spot}
+use Rattle.name_binding.specs.Spots.{spot}
+use Rattle.name_binding.specs.Typed.{params_faults}
+use Rattle.name_binding.specs.declared.known.Known.{Known}
+use Rattle.name_binding.specs.Effects.{effect_faults}
+use Rattle.name_binding.specs.Formulas.{formula_faults}
+use Rattle.hddl_bind.specs.Callables.{Declared}
+use Rattle.hddl_bind.specs.Cycle.{IsCycle}
+use Rattle.hddl_bind.specs.Networks.{network_faults}
 use Rattle.hddl_bind.specs.Actions.{scope_of, action_faults, actions_faults}
 use Rattle.hddl_bind.specs.Schemas.{head_faults, heads_faults}
 use Rattle.binding_laws.specs.Calls.{AreCallablesOf}

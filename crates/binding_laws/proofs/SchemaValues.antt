@@ -14,14 +14,14 @@ use Rattle.form_spellings.specs.Bound.{IsBoundParam, IsBoundFormula, IsBoundEffe
 use Rattle.form_spellings.specs.BoundSchemas.{IsBoundPredicate, IsBoundTask, IsBoundAction}
 use Rattle.form_spellings.specs.EachPart.{OfHead, OfAction}
 use Rattle.form_spellings.specs.InTable.{IsNameIn}
-use Rattle.name_faults.specs.Lists.{One, Has}
-use Rattle.name_faults.specs.Standing.{InAction}
-use Rattle.name_faults.specs.Uses.{Scope, Use, declares, IsDeclared, variables, InFormula, InEffect}
-use Rattle.name_numbers.specs.declared.faults.Spot.{Spot}
-use Rattle.bind_types.specs.Typed.{params_bound, params_faults}
-use Rattle.bind_formulas.specs.declared.known.Known.{Known}
-use Rattle.bind_formulas.specs.Effects.{effect_bound, effect_faults}
-use Rattle.bind_formulas.specs.Formulas.{formula_bound, formula_faults}
+use Rattle.hddl_reader.specs.names.Lists.{One, Has}
+use Rattle.hddl_reader.specs.names.Standing.{InAction}
+use Rattle.hddl_reader.specs.names.Uses.{Scope, Use, declares, IsDeclared, variables, InFormula, InEffect}
+use Rattle.name_binding.specs.declared.faults.Spot.{Spot}
+use Rattle.name_binding.specs.Typed.{params_bound, params_faults}
+use Rattle.name_binding.specs.declared.known.Known.{Known}
+use Rattle.name_binding.specs.Effects.{effect_bound, effect_faults}
+use Rattle.name_binding.specs.Formulas.{formula_bound, formula_faults}
 use Rattle.hddl_bind.specs.Actions.{scope_of, action_bound, action_faults, actions_faults}
 use Rattle.hddl_bind.specs.Schemas.{predicate_bound, task_bound, head_faults, heads_faults}
 use Rattle.binding_laws.specs.Formulas.{AreNumberedIn}

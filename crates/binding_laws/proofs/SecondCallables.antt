@@ -8,12 +8,12 @@ use Rattle.hddl_reader.specs.declared.sections.RawHead.{RawHead}
 use Rattle.plan_model.specs.declared.networks.Head.{Head}
 use Rattle.plan_model.specs.declared.networks.Head.TheVariants.{Task, Action}
 use Rattle.form_spellings.specs.InTable.{IsIn}
-use Rattle.name_faults.specs.Lists.{One, Each, Has}
-use Rattle.name_faults.specs.Words.{WordAt, head_at, IsSameEarlier, IsSecond}
-use Rattle.name_numbers.specs.declared.faults.Spot.{Spot}
-use Rattle.name_numbers.specs.Spots.{spot}
-use Rattle.bind_networks.specs.declared.callables.Callable.{Callable}
-use Rattle.bind_networks.specs.Callables.{Declared, declared, heads, callable, callables_from, first_called, stands_for, is_behind, second_in, second_callables}
+use Rattle.hddl_reader.specs.names.Lists.{One, Each, Has}
+use Rattle.hddl_reader.specs.names.Words.{WordAt, head_at, IsSameEarlier, IsSecond}
+use Rattle.name_binding.specs.declared.faults.Spot.{Spot}
+use Rattle.name_binding.specs.Spots.{spot}
+use Rattle.hddl_bind.specs.declared.callables.Callable.{Callable}
+use Rattle.hddl_bind.specs.Callables.{Declared, declared, heads, callable, callables_from, first_called, stands_for, is_behind, second_in, second_callables}
 use Rattle.binding_laws.specs.Calls.{AreCallablesOf, HasSecondCallables, OfAllCallables}
 use Rattle.binding_laws.proofs.CallWords.{Answer, answer, NoEarlier, each_at, has_left, has_right, ins, inh, upt, uph}
 use Rattle.binding_laws.proofs.Lists.{append_there, append_left, append_right, flat_there, flat_back}

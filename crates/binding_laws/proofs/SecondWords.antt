@@ -6,12 +6,12 @@ use Rattle.htn_base.specs.Different.{AreDifferent}
 use Rattle.text_forms.specs.Words.{Word, word_at}
 use Rattle.text_forms.specs.Words as words
 use Rattle.gd_reader.specs.Terms.{Names}
-use Rattle.name_faults.specs.Lists.{One, Each, Has}
-use Rattle.name_faults.specs.Words.{WordAt, IsSameEarlier}
-use Rattle.name_numbers.specs.declared.faults.Spot.{Spot}
-use Rattle.name_numbers.specs.Places as numbers
-use Rattle.name_numbers.specs.Spots.{spot, IsInTextOrder}
-use Rattle.bind_networks.specs.Seconds.{if_known, seconds}
+use Rattle.hddl_reader.specs.names.Lists.{One, Each, Has}
+use Rattle.hddl_reader.specs.names.Words.{WordAt, IsSameEarlier}
+use Rattle.name_binding.specs.declared.faults.Spot.{Spot}
+use Rattle.name_binding.specs.Places as numbers
+use Rattle.name_binding.specs.Spots.{spot, IsInTextOrder}
+use Rattle.hddl_bind.specs.Seconds.{if_known, seconds}
 use Rattle.binding_laws.specs.Numbers.{words_of, AreKnown}
 use Rattle.binding_laws.specs.Seconds.{declares_at, HasSeconds}
 use Rattle.binding_laws.proofs.Lists.{no_first, append_there, append_left, append_right}

@@ -1,8 +1,8 @@
 -- Faults of what stands in one of several places.
 use Rattle.std.proofs.Common.{◌≡◌, inl, inr, List, [], ◌∷◌, subst}
 use Rattle.std.specs.Prelude.{◌⊎◌}
-use Rattle.name_faults.specs.Lists.{One}
-use Rattle.name_faults.specs.Uses.{Scope, Use}
+use Rattle.hddl_reader.specs.names.Lists.{One}
+use Rattle.hddl_reader.specs.names.Uses.{Scope, Use}
 
 module _ (Q : Scope → Use → Type 0) where
   abbrev pub Somewhere : (Scope → Use → Type 0) → Type 0

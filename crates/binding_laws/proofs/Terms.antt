@@ -5,10 +5,10 @@ use Rattle.text_forms.specs.Words.{Word, word_at}
 use Rattle.text_forms.specs.Words as words
 use Rattle.plan_model.specs.declared.terms.Term.TheVariants.{Var, Obj}
 use Rattle.form_spellings.specs.Bound.{IsBoundTerm}
-use Rattle.name_faults.specs.Lists.{Has}
-use Rattle.name_numbers.specs.Places as numbers
-use Rattle.name_numbers.specs.Spots.{spot}
-use Rattle.name_numbers.specs.Terms.{unless_found}
+use Rattle.hddl_reader.specs.names.Lists.{Has}
+use Rattle.name_binding.specs.Places as numbers
+use Rattle.name_binding.specs.Spots.{spot}
+use Rattle.name_binding.specs.Terms.{unless_found}
 use Rattle.binding_laws.specs.Numbers.{words_of}
 use Rattle.binding_laws.specs.Terms.{IsTermFault, HasTermFaults, IsTermBound, OfAllTables}
 use Rattle.binding_laws.proofs.Places.{have_one_place}

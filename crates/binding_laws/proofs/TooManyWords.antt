@@ -8,11 +8,11 @@ use Rattle.gd_reader.specs.declared.term.RawTerm.{RawTerm}
 use Rattle.hddl_reader.specs.declared.sections.RawDomain.{RawDomain}
 use Rattle.plan_texts.proofs.Places.{first-different}
 use Rattle.form_spellings.specs.InTable.{IsIn}
-use Rattle.name_faults.specs.Lists.{One, Has}
-use Rattle.name_faults.specs.Types as words
-use Rattle.name_faults.specs.Words.{WordAt, term_word}
-use Rattle.bind_types.specs.Mentions.{mentioned}
-use Rattle.bind_types.specs.TooMany as numbers
+use Rattle.hddl_reader.specs.names.Lists.{One, Has}
+use Rattle.hddl_reader.specs.names.Types as words
+use Rattle.hddl_reader.specs.names.Words.{WordAt, term_word}
+use Rattle.name_binding.specs.Mentions.{mentioned}
+use Rattle.name_binding.specs.TooMany as numbers
 use Rattle.binding_laws.specs.Numbers.{words_of}
 use Rattle.binding_laws.specs.TypeWords.{AreTypesIn, HasTooManyTypes, OfAllTypes}
 use Rattle.binding_laws.proofs.Mentioned.{mentions_in, mention_said, said_mention, known_each, words_differ}

@@ -10,11 +10,11 @@ use Rattle.gd_reader.specs.declared.typed_lists.RawParam.{RawParam}
 use Rattle.plan_texts.specs.Types.{EachIs}
 use Rattle.form_spellings.specs.EachName.{OfParam}
 use Rattle.form_spellings.specs.InTable.{IsNameIn, AreParamsIn}
-use Rattle.name_faults.specs.Lists.{One}
-use Rattle.name_faults.specs.Types as words
-use Rattle.name_faults.specs.Types.{Leads}
-use Rattle.name_faults.specs.Words.{term_word, param_word}
-use Rattle.bind_types.specs.Cycle as numbers
+use Rattle.hddl_reader.specs.names.Lists.{One}
+use Rattle.hddl_reader.specs.names.Types as words
+use Rattle.hddl_reader.specs.names.Types.{Leads}
+use Rattle.hddl_reader.specs.names.Words.{term_word, param_word}
+use Rattle.name_binding.specs.Cycle as numbers
 use Rattle.binding_laws.specs.TypeCycles.{HasTypeCycle, HasSectionFaults}
 use Rattle.binding_laws.specs.TypeWords.{OfAllTypes}
 use Rattle.binding_laws.proofs.Heads.{one_map}

@@ -5,9 +5,9 @@ use Rattle.std.proofs.lemmas.Bool.{eqb-true, eqb-false, eq-eqb, ne_eqb, cases_lt
 use Rattle.gd_reader.specs.declared.term.RawTerm.{RawTerm}
 use Rattle.gd_reader.specs.declared.typed_lists.RawParam.{RawParam}
 use Rattle.plan_model.specs.declared.types.Parent.{Parent}
-use Rattle.name_faults.specs.Lists.{Has}
-use Rattle.name_numbers.specs.Places.{first_place}
-use Rattle.bind_types.specs.Parents.{parent, pairs_with, pairs_for, place_of, parents_behind, parents_written, pairs_below, pairs_in_order}
+use Rattle.hddl_reader.specs.names.Lists.{Has}
+use Rattle.name_binding.specs.Places.{first_place}
+use Rattle.name_binding.specs.Parents.{parent, pairs_with, pairs_for, place_of, parents_behind, parents_written, pairs_below, pairs_in_order}
 use Rattle.binding_laws.proofs.Lists.{append_there, append_left, append_right, flat_there, flat_back}
 use Rattle.binding_laws.proofs.Mentioned.{seen_there, seen_back}
 use Rattle.binding_laws.proofs.Numbered.{has_of_map, has_to_map}

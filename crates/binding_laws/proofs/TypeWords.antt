@@ -9,11 +9,11 @@ use Rattle.gd_reader.specs.declared.term.RawTerm.{RawTerm}
 use Rattle.hddl_reader.specs.declared.sections.RawDomain.{RawDomain}
 use Rattle.plan_texts.specs.TypedLists.{first_seen as first_words}
 use Rattle.form_spellings.specs.InTable.{IsIn}
-use Rattle.name_faults.specs.Lists.{Has}
-use Rattle.name_faults.specs.Types.{IsType}
-use Rattle.name_faults.specs.Words.{WordAt, term_word}
-use Rattle.bind_types.specs.Mentions.{mentioned, numbers_of, AreInTextOrder, types_in_order}
-use Rattle.bind_types.specs.Seen.{first_seen}
+use Rattle.hddl_reader.specs.names.Lists.{Has}
+use Rattle.hddl_reader.specs.names.Types.{IsType}
+use Rattle.hddl_reader.specs.names.Words.{WordAt, term_word}
+use Rattle.name_binding.specs.Mentions.{mentioned, numbers_of, AreInTextOrder, types_in_order}
+use Rattle.name_binding.specs.Seen.{first_seen}
 use Rattle.binding_laws.specs.Kinds.{AreTypesOf}
 use Rattle.binding_laws.specs.Numbers.{words_of, AreKnown}
 use Rattle.binding_laws.specs.TypeWords.{AreTypesIn, HasTypes, HasTypesInOrder, OfAllTypes}

@@ -11,10 +11,10 @@ use Rattle.plan_texts.specs.Together.{Together}
 use Rattle.plan_texts.specs.Types.{EachIs}
 use Rattle.form_spellings.specs.Bound.{types_of, IsBoundParam, IsBoundObject}
 use Rattle.form_spellings.specs.InTable.{AreParamsIn}
-use Rattle.name_faults.specs.Lists.{One, Has}
-use Rattle.name_numbers.specs.Spots.{spot}
-use Rattle.bind_types.specs.Kinds.{Kinds, type_faults, kind_bound, kind_faults}
-use Rattle.bind_types.specs.Typed.{params_bound, objects_bound, params_faults, typed_faults}
+use Rattle.hddl_reader.specs.names.Lists.{One, Has}
+use Rattle.name_binding.specs.Spots.{spot}
+use Rattle.name_binding.specs.Kinds.{Kinds, type_faults, kind_bound, kind_faults}
+use Rattle.name_binding.specs.Typed.{params_bound, objects_bound, params_faults, typed_faults}
 use Rattle.binding_laws.specs.Kinds.{AreTypesOf, HasKinds, AreTermsIn, IsKindFault, IsNumbered, OfAllKinds}
 use Rattle.binding_laws.specs.Typed.{HasTypedFaults, AreParamsBound, AreObjectsBound}
 use Rattle.binding_laws.proofs.Written.{none_left, none_right, alone_is, has_kind_faults, is_kind_bound}

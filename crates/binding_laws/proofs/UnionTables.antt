@@ -7,9 +7,9 @@ use Rattle.std.proofs.lemmas.List.{append_assoc}
 use Rattle.std.proofs.lemmas.List.Sorted.{Contains-permutation}
 use Rattle.htn_base.specs.Table.{with_word}
 use Rattle.plan_texts.proofs.Basics.{bytes_eq-true}
-use Rattle.name_faults.specs.Lists.{Has}
-use Rattle.bind_types.specs.Unions.{members_of, AreWith}
-use Rattle.bind_types.specs.declared.unions.Either.{Either}
+use Rattle.hddl_reader.specs.names.Lists.{Has}
+use Rattle.name_binding.specs.Unions.{members_of, AreWith}
+use Rattle.name_binding.specs.declared.unions.Either.{Either}
 use Rattle.binding_laws.proofs.Lists.{append_left, append_right}
 use Rattle.binding_laws.proofs.Numbered.{contains_has, has_contains, has_to_map}
 use Rattle.binding_laws.proofs.Ones.{has_one}

@@ -6,14 +6,14 @@ use Rattle.gd_reader.specs.Terms.{Names, Keeps}
 use Rattle.hddl_reader.specs.declared.sections.Language.{Language}
 use Rattle.hddl_reader.specs.declared.sections.RawDomain.{RawDomain}
 use Rattle.hddl_reader.specs.declared.sections.RawProblem.{RawProblem}
-use Rattle.name_faults.specs.Faults.{HasDomainFault, HasProblemFault, IsLeast, HasNoFault}
-use Rattle.name_faults.specs.Lists.{Has}
-use Rattle.name_faults.specs.Types.{most_types}
-use Rattle.name_faults.proofs.Least.{least_by_file, none_by_file}
-use Rattle.name_numbers.specs.declared.faults.Spot.{Spot}
-use Rattle.name_numbers.specs.Spots.{spot, noted, AreLeastOf}
-use Rattle.bind_types.specs.Cycle.{IsSectionFault}
-use Rattle.bind_networks.specs.Callables.{declared}
+use Rattle.hddl_reader.specs.names.Faults.{HasDomainFault, HasProblemFault, IsLeast, HasNoFault}
+use Rattle.hddl_reader.specs.names.Lists.{Has}
+use Rattle.hddl_reader.specs.names.Types.{most_types}
+use Rattle.hddl_reader.proofs.names.Least.{least_by_file, none_by_file}
+use Rattle.name_binding.specs.declared.faults.Spot.{Spot}
+use Rattle.name_binding.specs.Spots.{spot, noted, AreLeastOf}
+use Rattle.name_binding.specs.Cycle.{IsSectionFault}
+use Rattle.hddl_bind.specs.Callables.{declared}
 use Rattle.hddl_bind.specs.DeclaredNames.{known_in, second_names}
 use Rattle.hddl_bind.specs.DomainSchemas.{schemas_faults}
 use Rattle.hddl_bind.specs.WholeDomains.{DomainBinding, IsObject, bound_by, faults_by}

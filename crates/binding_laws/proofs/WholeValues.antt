@@ -22,16 +22,16 @@ use Rattle.plan_texts.specs.Together.{Together}
 use Rattle.plan_texts.specs.TypedLists.{first_seen}
 use Rattle.form_spellings.specs.BoundSchemas.{IsBoundMethod, IsBoundTop}
 use Rattle.form_spellings.specs.BoundTexts.{AreBoundTypes, IsBoundDomain, IsBoundProblem, IsBoundHddl}
-use Rattle.name_faults.specs.Faults.{DuplicateInDomain, constants, objects, HasDomainFault, HasProblemFault, HasNoFault}
-use Rattle.name_faults.specs.Standing.{InDomain, InProblem}
-use Rattle.name_faults.specs.Words.{callables as tasks_and_actions, head_at, term_word}
-use Rattle.bind_types.specs.Kinds.{Kinds}
-use Rattle.bind_types.specs.Listed.{name_of}
-use Rattle.bind_types.specs.Parents.{pairs_in_order}
-use Rattle.bind_types.specs.Typed.{objects_bound}
-use Rattle.bind_types.specs.declared.unions.Either.{Either}
-use Rattle.bind_formulas.specs.declared.known.Known.{Known}
-use Rattle.bind_networks.specs.Callables.{Declared, declared, heads}
+use Rattle.hddl_reader.specs.names.Faults.{DuplicateInDomain, constants, objects, HasDomainFault, HasProblemFault, HasNoFault}
+use Rattle.hddl_reader.specs.names.Standing.{InDomain, InProblem}
+use Rattle.hddl_reader.specs.names.Words.{callables as tasks_and_actions, head_at, term_word}
+use Rattle.name_binding.specs.Kinds.{Kinds}
+use Rattle.name_binding.specs.Listed.{name_of}
+use Rattle.name_binding.specs.Parents.{pairs_in_order}
+use Rattle.name_binding.specs.Typed.{objects_bound}
+use Rattle.name_binding.specs.declared.unions.Either.{Either}
+use Rattle.name_binding.specs.declared.known.Known.{Known}
+use Rattle.hddl_bind.specs.Callables.{Declared, declared, heads}
 use Rattle.hddl_bind.specs.Actions.{actions_bound}
 use Rattle.hddl_bind.specs.DeclaredNames.{known_in, second_names, second_objects, objects_declared}
 use Rattle.hddl_bind.specs.DomainSchemas.{schemas_bound, schemas_faults}

@@ -11,11 +11,11 @@ use Rattle.plan_model.specs.declared.types.Object.{Object}
 use Rattle.plan_model.specs.declared.types.Parent.{Parent}
 use Rattle.plan_texts.specs.Declared.{Declared, named, words_with}
 use Rattle.plan_texts.proofs.Basics.{bytes_eq-refl}
-use Rattle.name_numbers.specs.Heads.{head_numbers}
-use Rattle.bind_types.specs.Kinds.{Kinds}
-use Rattle.bind_types.specs.Listed.{name_of, types_bound}
-use Rattle.bind_types.specs.Typed.{objects_bound}
-use Rattle.bind_formulas.specs.declared.known.Known.{Known}
+use Rattle.name_binding.specs.Heads.{head_numbers}
+use Rattle.name_binding.specs.Kinds.{Kinds}
+use Rattle.name_binding.specs.Listed.{name_of, types_bound}
+use Rattle.name_binding.specs.Typed.{objects_bound}
+use Rattle.name_binding.specs.declared.known.Known.{Known}
 use Rattle.hddl_bind.specs.DeclaredNames.{objects_declared, heads_declared}
 use Rattle.hddl_bind.specs.Schemas.{predicates_bound}
 use Rattle.binding_laws.specs.Kinds.{HasKinds}

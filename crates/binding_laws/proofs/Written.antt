@@ -12,12 +12,12 @@ use Rattle.hddl_reader.specs.declared.sections.RawDomain.{RawDomain}
 use Rattle.plan_texts.specs.Declared.{Declared, kind_at, one_word}
 use Rattle.form_spellings.specs.Bound as bound
 use Rattle.form_spellings.specs.InTable.{IsIn}
-use Rattle.name_faults.specs.Lists.{One, Has}
-use Rattle.name_faults.specs.Types.{IsType}
-use Rattle.name_faults.specs.Words.{term_word}
-use Rattle.name_numbers.specs.Places as numbers
-use Rattle.name_numbers.specs.Spots.{spot}
-use Rattle.bind_types.specs.Kinds.{Kinds, type_number, type_faults, kind_by, members_written, kind_bound, kind_faults}
+use Rattle.hddl_reader.specs.names.Lists.{One, Has}
+use Rattle.hddl_reader.specs.names.Types.{IsType}
+use Rattle.hddl_reader.specs.names.Words.{term_word}
+use Rattle.name_binding.specs.Places as numbers
+use Rattle.name_binding.specs.Spots.{spot}
+use Rattle.name_binding.specs.Kinds.{Kinds, type_number, type_faults, kind_by, members_written, kind_bound, kind_faults}
 use Rattle.binding_laws.specs.Numbers.{words_of}
 use Rattle.binding_laws.specs.Kinds.{AreTypesOf, HasKinds, AreTermsIn, IsKindFault, IsNumbered, HasKindFaults, IsKindBound, OfAllKinds}
 use Rattle.binding_laws.proofs.Places.{have_one_place}

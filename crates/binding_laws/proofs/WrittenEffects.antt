@@ -9,13 +9,13 @@ use Rattle.plan_texts.specs.Types.{EachIs}
 use Rattle.plan_texts.proofs.Spelled.{each_is-map}
 use Rattle.form_spellings.specs.EachName.{effect_of_step}
 use Rattle.form_spellings.specs.InTable.{IsNameIn, IsEffectIn}
-use Rattle.name_faults.specs.Lists.{One}
-use Rattle.name_faults.specs.Uses.{Scope, predicate, declares, variables, effect_step, InEffect}
-use Rattle.name_faults.proofs.Rolls.{effect_unroll}
-use Rattle.bind_types.specs.Kinds.{Kinds}
-use Rattle.bind_types.specs.Unions.{joined, params_unions, formula_unions, effect_unions}
-use Rattle.bind_types.specs.Unions as unions
-use Rattle.bind_types.specs.declared.unions.Either.{Either}
+use Rattle.hddl_reader.specs.names.Lists.{One}
+use Rattle.hddl_reader.specs.names.Uses.{Scope, predicate, declares, variables, effect_step, InEffect}
+use Rattle.hddl_reader.proofs.names.Rolls.{effect_unroll}
+use Rattle.name_binding.specs.Kinds.{Kinds}
+use Rattle.name_binding.specs.Unions.{joined, params_unions, formula_unions, effect_unions}
+use Rattle.name_binding.specs.Unions as unions
+use Rattle.name_binding.specs.declared.unions.Either.{Either}
 use Rattle.binding_laws.specs.EachList.{effect_listed_step, OfEachListOfEffect}
 use Rattle.binding_laws.specs.InOrder.{AreParameters}
 use Rattle.binding_laws.proofs.Layers.{effect_in}

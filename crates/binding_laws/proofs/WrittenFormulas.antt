@@ -12,13 +12,13 @@ use Rattle.plan_texts.specs.Types.{EachIs}
 use Rattle.plan_texts.proofs.Spelled.{each_is-map}
 use Rattle.form_spellings.specs.EachName.{of_step, OfParams}
 use Rattle.form_spellings.specs.InTable.{IsNameIn, IsFormulaIn}
-use Rattle.name_faults.specs.Lists.{One, Has}
-use Rattle.name_faults.specs.Uses.{Scope, Kind, predicate, declares, applies, refers, IsDeclared, variables, formula_step, InFormula}
-use Rattle.name_faults.proofs.Rolls.{formula_unroll}
-use Rattle.bind_types.specs.Kinds.{Kinds}
-use Rattle.bind_types.specs.Unions.{joined, unions_behind, params_unions, formula_unions}
-use Rattle.bind_types.specs.Unions as unions
-use Rattle.bind_types.specs.declared.unions.Either.{Either}
+use Rattle.hddl_reader.specs.names.Lists.{One, Has}
+use Rattle.hddl_reader.specs.names.Uses.{Scope, Kind, predicate, declares, applies, refers, IsDeclared, variables, formula_step, InFormula}
+use Rattle.hddl_reader.proofs.names.Rolls.{formula_unroll}
+use Rattle.name_binding.specs.Kinds.{Kinds}
+use Rattle.name_binding.specs.Unions.{joined, unions_behind, params_unions, formula_unions}
+use Rattle.name_binding.specs.Unions as unions
+use Rattle.name_binding.specs.declared.unions.Either.{Either}
 use Rattle.binding_laws.specs.EachList.{listed_step, OfEachList}
 use Rattle.binding_laws.specs.InOrder.{AreParameters, IsWrittenOnce}
 use Rattle.binding_laws.specs.Kinds.{AreTermsIn}

@@ -8,10 +8,10 @@ use Rattle.plan_texts.specs.Declared.{Declared, named}
 use Rattle.plan_texts.specs.Types.{TypeItem, EachIs}
 use Rattle.form_spellings.specs.Bound.{parent_of}
 use Rattle.form_spellings.specs.BoundTexts.{AreBoundTypes}
-use Rattle.name_faults.specs.Types.{TypeCycle}
-use Rattle.bind_types.specs.Kinds.{Kinds}
-use Rattle.bind_types.specs.Mentions as numbers
-use Rattle.bind_types.specs.Parents.{pairs_in_order}
+use Rattle.hddl_reader.specs.names.Types.{TypeCycle}
+use Rattle.name_binding.specs.Kinds.{Kinds}
+use Rattle.name_binding.specs.Mentions as numbers
+use Rattle.name_binding.specs.Parents.{pairs_in_order}
 use Rattle.binding_laws.specs.InOrder.{IsTypedName}
 use Rattle.binding_laws.specs.Numbers.{words_of}
 use Rattle.binding_laws.specs.TypeWords.{AreTypesIn}

@@ -10,12 +10,12 @@ use Rattle.hddl_reader.specs.declared.sections.RawHead.{RawHead}
 use Rattle.plan_texts.specs.Networks.{head_of}
 use Rattle.plan_texts.specs.Types.{EachIs}
 use Rattle.form_spellings.specs.InTable.{IsIn}
-use Rattle.name_faults.specs.Lists.{Has}
-use Rattle.name_faults.specs.Uses.{Scope, applies, subtask, task}
-use Rattle.name_faults.specs.Words.{callables, term_word, head_at, IsSecond}
-use Rattle.name_numbers.specs.Spots.{spot, IsInTextOrder}
-use Rattle.bind_networks.specs.Callables.{Declared, declared, heads, second_callables}
-use Rattle.bind_networks.specs.Calls.{called, method_task, head_called, call_faults}
+use Rattle.hddl_reader.specs.names.Lists.{Has}
+use Rattle.hddl_reader.specs.names.Uses.{Scope, applies, subtask, task}
+use Rattle.hddl_reader.specs.names.Words.{callables, term_word, head_at, IsSecond}
+use Rattle.name_binding.specs.Spots.{spot, IsInTextOrder}
+use Rattle.hddl_bind.specs.Callables.{Declared, declared, heads, second_callables}
+use Rattle.hddl_bind.specs.Calls.{called, method_task, head_called, call_faults}
 use Rattle.binding_laws.specs.Uses.{HasUseFault}
 
 abbrev pub offsets : List RawHead → List ℕ

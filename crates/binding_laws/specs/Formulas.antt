@@ -12,14 +12,14 @@ use Rattle.plan_texts.specs.Declared.{Declared}
 use Rattle.form_spellings.specs.Bound.{IsBoundAtom, IsBoundFormula, IsBoundEffect}
 use Rattle.form_spellings.specs.EachName.{OfAtom}
 use Rattle.form_spellings.specs.InTable.{IsNameIn, IsFormulaIn, IsEffectIn}
-use Rattle.name_faults.specs.Lists.{Has}
-use Rattle.name_faults.specs.Uses.{Scope, Use, declares, predicate, IsOfAtom, InFormula, InEffect}
-use Rattle.name_numbers.specs.Spots.{spot}
-use Rattle.bind_types.specs.Kinds.{Kinds}
-use Rattle.bind_formulas.specs.declared.known.Known.{Known}
-use Rattle.bind_formulas.specs.Atoms.{atom_bound, atom_faults}
-use Rattle.bind_formulas.specs.Formulas.{formula_bound, formula_faults}
-use Rattle.bind_formulas.specs.Effects.{effect_bound, effect_faults}
+use Rattle.hddl_reader.specs.names.Lists.{Has}
+use Rattle.hddl_reader.specs.names.Uses.{Scope, Use, declares, predicate, IsOfAtom, InFormula, InEffect}
+use Rattle.name_binding.specs.Spots.{spot}
+use Rattle.name_binding.specs.Kinds.{Kinds}
+use Rattle.name_binding.specs.declared.known.Known.{Known}
+use Rattle.name_binding.specs.Atoms.{atom_bound, atom_faults}
+use Rattle.name_binding.specs.Formulas.{formula_bound, formula_faults}
+use Rattle.name_binding.specs.Effects.{effect_bound, effect_faults}
 use Rattle.binding_laws.specs.Kinds.{IsNumbered}
 use Rattle.binding_laws.specs.Known.{IsKnownOf, HasKnown}
 use Rattle.binding_laws.specs.Numbers.{words_of, AreKnown}

@@ -11,11 +11,11 @@ use Rattle.plan_texts.specs.Types.{EachIs}
 use Rattle.form_spellings.specs.Bound.{types_of}
 use Rattle.form_spellings.specs.EachName.{OfTerm}
 use Rattle.form_spellings.specs.InTable.{IsNameIn}
-use Rattle.name_faults.specs.Lists.{One, Has}
-use Rattle.name_faults.specs.Types.{IsType}
-use Rattle.name_faults.specs.Words.{term_word}
-use Rattle.name_numbers.specs.Spots.{spot}
-use Rattle.bind_types.specs.Kinds.{Kinds, members_written, kind_bound, kind_faults}
+use Rattle.hddl_reader.specs.names.Lists.{One, Has}
+use Rattle.hddl_reader.specs.names.Types.{IsType}
+use Rattle.hddl_reader.specs.names.Words.{term_word}
+use Rattle.name_binding.specs.Spots.{spot}
+use Rattle.name_binding.specs.Kinds.{Kinds, members_written, kind_bound, kind_faults}
 use Rattle.binding_laws.specs.Numbers.{words_of, AreKnown}
 
 -- The types, by the numbers of their names in one table, are those of the domain.

@@ -9,10 +9,10 @@ use Rattle.hddl_reader.specs.declared.sections.RawHead.{RawHead}
 use Rattle.plan_texts.specs.Declared.{Declared}
 use Rattle.plan_texts.specs.Types.{EachIs}
 use Rattle.form_spellings.specs.InTable.{IsIn}
-use Rattle.name_numbers.specs.declared.heads.Head.{Head}
-use Rattle.name_numbers.specs.Heads.{head_numbers}
-use Rattle.name_numbers.specs.Spots.{IsInTextOrder}
-use Rattle.bind_formulas.specs.declared.known.Known.{Known}
+use Rattle.name_binding.specs.declared.heads.Head.{Head}
+use Rattle.name_binding.specs.Heads.{head_numbers}
+use Rattle.name_binding.specs.Spots.{IsInTextOrder}
+use Rattle.name_binding.specs.declared.known.Known.{Known}
 use Rattle.binding_laws.specs.Kinds.{AreTypesOf, HasKinds}
 use Rattle.binding_laws.specs.Numbers.{words_of, AreKnown}
 

@@ -8,11 +8,11 @@ use Rattle.hddl_reader.specs.declared.sections.RawDomain.{RawDomain}
 use Rattle.plan_texts.specs.Declared as words
 use Rattle.plan_texts.specs.Types.{EachIs}
 use Rattle.form_spellings.specs.BoundNetworks.{IsBoundNetwork}
-use Rattle.name_faults.specs.Words.{callables}
-use Rattle.bind_networks.specs.declared.networks.BoundNet.{BoundNet}
-use Rattle.bind_networks.specs.Callables.{Declared, heads}
-use Rattle.bind_networks.specs.Ids.{ids}
-use Rattle.bind_networks.specs.Networks.{network_bound, network_faults}
+use Rattle.hddl_reader.specs.names.Words.{callables}
+use Rattle.hddl_bind.specs.declared.networks.BoundNet.{BoundNet}
+use Rattle.hddl_bind.specs.Callables.{Declared, heads}
+use Rattle.hddl_bind.specs.Ids.{ids}
+use Rattle.hddl_bind.specs.Networks.{network_bound, network_faults}
 use Rattle.binding_laws.specs.Calls.{AreCallablesOf, called_words}
 use Rattle.binding_laws.specs.InOrder.{IsPlainName}
 use Rattle.binding_laws.specs.Numbers.{words_of}

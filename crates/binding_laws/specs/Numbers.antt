@@ -5,8 +5,8 @@ use Rattle.htn_base.specs.Different.{AreDifferent}
 use Rattle.text_forms.specs.Words.{Word, word_at}
 use Rattle.text_forms.specs.Words as words
 use Rattle.gd_reader.specs.Terms.{Names}
-use Rattle.name_faults.specs.Lists.{Each}
-use Rattle.name_numbers.specs.Places as numbers
+use Rattle.hddl_reader.specs.names.Lists.{Each}
+use Rattle.name_binding.specs.Places as numbers
 
 module _ (names : Names) where
   abbrev pub words_of : List ℕ → List Word

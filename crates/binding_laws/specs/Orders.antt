@@ -9,11 +9,11 @@ use Rattle.hddl_reader.specs.declared.networks.RawPair.{RawPair}
 use Rattle.hddl_reader.specs.declared.networks.RawSub.{RawSub}
 use Rattle.plan_texts.specs.Types.{EachIs}
 use Rattle.form_spellings.specs.InTable.{IsIn}
-use Rattle.name_faults.specs.Lists.{Has}
-use Rattle.name_faults.specs.Networks.{UnknownSubtaskId, CyclicOrder, TooManySubtasks}
-use Rattle.name_numbers.specs.Spots.{spot}
-use Rattle.bind_networks.specs.Pairs.{pair_faults}
-use Rattle.bind_networks.specs.Cycle as numbers
+use Rattle.hddl_reader.specs.names.Lists.{Has}
+use Rattle.hddl_reader.specs.names.Networks.{UnknownSubtaskId, CyclicOrder, TooManySubtasks}
+use Rattle.name_binding.specs.Spots.{spot}
+use Rattle.hddl_bind.specs.Pairs.{pair_faults}
+use Rattle.hddl_bind.specs.Cycle as numbers
 
 -- The ids of subtasks, and those in pairs, have their words in the table.
 pub record AreIdsIn (names : Names) (n : RawNet) : Type 0 where

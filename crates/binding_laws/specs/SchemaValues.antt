@@ -12,10 +12,10 @@ use Rattle.plan_texts.specs.Declared.{named}
 use Rattle.plan_texts.specs.Together.{Together}
 use Rattle.form_spellings.specs.Bound.{IsBoundObject, IsBoundFormula}
 use Rattle.form_spellings.specs.BoundSchemas.{IsBoundPredicate, IsBoundTask, IsBoundAction, IsBoundMethod, IsBoundTop, IsBoundFact}
-use Rattle.name_faults.specs.Standing.{InDomain, InProblem}
-use Rattle.name_faults.specs.Words.{callables as tasks_and_actions}
-use Rattle.bind_formulas.specs.declared.known.Known.{Known}
-use Rattle.bind_networks.specs.Callables.{Declared, heads}
+use Rattle.hddl_reader.specs.names.Standing.{InDomain, InProblem}
+use Rattle.hddl_reader.specs.names.Words.{callables as tasks_and_actions}
+use Rattle.name_binding.specs.declared.known.Known.{Known}
+use Rattle.hddl_bind.specs.Callables.{Declared, heads}
 use Rattle.hddl_bind.specs.declared.domain_schemas.DomainSchemas.{DomainSchemas}
 use Rattle.hddl_bind.specs.declared.problem_parts.ProblemParts.{ProblemParts}
 use Rattle.hddl_bind.specs.DomainSchemas.{schemas_bound, schemas_faults}

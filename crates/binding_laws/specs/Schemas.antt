@@ -13,15 +13,15 @@ use Rattle.plan_texts.specs.Together.{Together}
 use Rattle.plan_texts.specs.Types.{EachIs}
 use Rattle.form_spellings.specs.EachPart.{OfHead, OfAction, OfMethod}
 use Rattle.form_spellings.specs.InTable.{IsNameIn}
-use Rattle.name_faults.specs.Lists.{One, Has}
-use Rattle.name_faults.specs.Networks.{ids, UnknownSubtaskId, CyclicOrder, TooManySubtasks}
-use Rattle.name_faults.specs.Standing.{InAction, InMethod, InDomain, InProblem}
-use Rattle.name_faults.specs.Uses.{IsDeclared}
-use Rattle.name_faults.specs.Words.{IsSecond}
-use Rattle.name_numbers.specs.Spots.{spot}
-use Rattle.bind_formulas.specs.declared.known.Known.{Known}
-use Rattle.bind_networks.specs.Callables.{Declared}
-use Rattle.bind_networks.specs.Cycle.{IsCycle}
+use Rattle.hddl_reader.specs.names.Lists.{One, Has}
+use Rattle.hddl_reader.specs.names.Networks.{ids, UnknownSubtaskId, CyclicOrder, TooManySubtasks}
+use Rattle.hddl_reader.specs.names.Standing.{InAction, InMethod, InDomain, InProblem}
+use Rattle.hddl_reader.specs.names.Uses.{IsDeclared}
+use Rattle.hddl_reader.specs.names.Words.{IsSecond}
+use Rattle.name_binding.specs.Spots.{spot}
+use Rattle.name_binding.specs.declared.known.Known.{Known}
+use Rattle.hddl_bind.specs.Callables.{Declared}
+use Rattle.hddl_bind.specs.Cycle.{IsCycle}
 use Rattle.hddl_bind.specs.Actions.{actions_faults}
 use Rattle.hddl_bind.specs.DomainSchemas.{schemas_faults}
 use Rattle.hddl_bind.specs.Methods.{IsCycleOf, methods_faults}

@@ -8,10 +8,10 @@ use Rattle.gd_reader.specs.declared.typed_lists.RawParam.{RawParam}
 use Rattle.gd_reader.specs.Terms.{Names}
 use Rattle.hddl_reader.specs.declared.sections.RawHead.{RawHead}
 use Rattle.hddl_reader.specs.declared.sections.RawMethod.{RawMethod}
-use Rattle.name_faults.specs.Lists.{Each, Has}
-use Rattle.name_faults.specs.Words.{WordAt, IsSecond}
-use Rattle.name_numbers.specs.Spots.{spot, IsInTextOrder}
-use Rattle.bind_networks.specs.Seconds.{seconds}
+use Rattle.hddl_reader.specs.names.Lists.{Each, Has}
+use Rattle.hddl_reader.specs.names.Words.{WordAt, IsSecond}
+use Rattle.name_binding.specs.Spots.{spot, IsInTextOrder}
+use Rattle.hddl_bind.specs.Seconds.{seconds}
 use Rattle.binding_laws.specs.Numbers.{words_of, AreKnown}
 
 module _ {X : Type 0} (number offset : X → ℕ) where

@@ -5,8 +5,8 @@ use Rattle.gd_reader.specs.Terms.{Names}
 use Rattle.hddl_reader.specs.declared.networks.RawNet.{RawNet}
 use Rattle.plan_model.specs.declared.schemas.MethodSchema.{MethodSchema}
 use Rattle.plan_texts.specs.SoundProblem.{IsSoundNetwork}
-use Rattle.bind_networks.specs.Callables.{Declared}
-use Rattle.bind_networks.specs.Networks.{network_bound, network_faults}
+use Rattle.hddl_bind.specs.Callables.{Declared}
+use Rattle.hddl_bind.specs.Networks.{network_bound, network_faults}
 use Rattle.binding_laws.specs.InOrder.{IsNetworkInOrder}
 use Rattle.binding_laws.specs.WholeNetworks.{IsNetworkIn}
 

@@ -19,10 +19,10 @@ use Rattle.plan_texts.specs.Declared.{named, variable}
 use Rattle.plan_texts.specs.Printable.{IsInForce, IsSoundParam, AreSoundParams, IsSound, IsSoundEffect, IsSoundAtom}
 use Rattle.plan_texts.specs.Together.{Together}
 use Rattle.plan_texts.specs.Types.{EachIs}
-use Rattle.name_faults.specs.Standing.{InDomain, InProblem}
-use Rattle.name_numbers.specs.declared.heads.Head.{Head}
-use Rattle.bind_formulas.specs.declared.known.Known.{Known}
-use Rattle.bind_networks.specs.Callables.{Declared}
+use Rattle.hddl_reader.specs.names.Standing.{InDomain, InProblem}
+use Rattle.name_binding.specs.declared.heads.Head.{Head}
+use Rattle.name_binding.specs.declared.known.Known.{Known}
+use Rattle.hddl_bind.specs.Callables.{Declared}
 use Rattle.hddl_bind.specs.declared.domain_schemas.DomainSchemas.{DomainSchemas}
 use Rattle.hddl_bind.specs.declared.problem_parts.ProblemParts.{ProblemParts}
 use Rattle.hddl_bind.specs.DomainSchemas.{schemas_bound, schemas_faults}

@@ -8,10 +8,10 @@ use Rattle.gd_reader.specs.Terms.{Names}
 use Rattle.plan_texts.specs.Declared.{Declared}
 use Rattle.form_spellings.specs.Bound.{IsBoundTerm}
 use Rattle.form_spellings.specs.InTable.{IsIn}
-use Rattle.name_faults.specs.Lists.{Has}
-use Rattle.name_faults.specs.Words.{term_word}
-use Rattle.name_numbers.specs.Spots.{spot}
-use Rattle.name_numbers.specs.Terms.{term_bound, term_faults}
+use Rattle.hddl_reader.specs.names.Lists.{Has}
+use Rattle.hddl_reader.specs.names.Words.{term_word}
+use Rattle.name_binding.specs.Spots.{spot}
+use Rattle.name_binding.specs.Terms.{term_bound, term_faults}
 use Rattle.binding_laws.specs.Numbers.{words_of, AreKnown}
 
 -- The objects and the variables in force, by the numbers of their names, are of one table.

@@ -4,9 +4,9 @@ use Rattle.std.specs.Prelude.{ℕ, ◌≡◌, ◌⊎◌, ◌↔◌}
 use Rattle.gd_reader.specs.Terms.{Names}
 use Rattle.hddl_reader.specs.declared.sections.Language.{Language}
 use Rattle.hddl_reader.specs.declared.sections.RawDomain.{RawDomain}
-use Rattle.name_faults.specs.Types.{most_types, TypeCycle, TooManyTypes}
-use Rattle.name_numbers.specs.Spots.{spot}
-use Rattle.bind_types.specs.Cycle.{IsTypeCycle, IsSectionFault}
+use Rattle.hddl_reader.specs.names.Types.{most_types, TypeCycle, TooManyTypes}
+use Rattle.name_binding.specs.Spots.{spot}
+use Rattle.name_binding.specs.Cycle.{IsTypeCycle, IsSectionFault}
 use Rattle.binding_laws.specs.TypeWords.{AreTypesIn}
 
 module _ (names : Names) (object : ℕ) (d : RawDomain) where

@@ -10,12 +10,12 @@ use Rattle.hddl_reader.specs.declared.sections.Language.{Language}
 use Rattle.hddl_reader.specs.declared.sections.RawDomain.{RawDomain}
 use Rattle.plan_texts.specs.TypedLists.{first_seen}
 use Rattle.form_spellings.specs.InTable.{AreParamsIn}
-use Rattle.name_faults.specs.Types.{most_types, TooManyTypes}
-use Rattle.name_faults.specs.Words.{term_word}
-use Rattle.bind_types.specs.Kinds.{Kinds}
-use Rattle.bind_types.specs.Mentions.{mentioned, AreInTextOrder, types_in_order}
-use Rattle.bind_types.specs.Mentions as numbers
-use Rattle.bind_types.specs.TooMany.{IsOneTooMany}
+use Rattle.hddl_reader.specs.names.Types.{most_types, TooManyTypes}
+use Rattle.hddl_reader.specs.names.Words.{term_word}
+use Rattle.name_binding.specs.Kinds.{Kinds}
+use Rattle.name_binding.specs.Mentions.{mentioned, AreInTextOrder, types_in_order}
+use Rattle.name_binding.specs.Mentions as numbers
+use Rattle.name_binding.specs.TooMany.{IsOneTooMany}
 use Rattle.binding_laws.specs.Kinds.{AreTypesOf}
 use Rattle.binding_laws.specs.Numbers.{words_of}
 

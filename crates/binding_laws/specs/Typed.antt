@@ -9,10 +9,10 @@ use Rattle.plan_texts.specs.Together.{Together}
 use Rattle.plan_texts.specs.Types.{EachIs}
 use Rattle.form_spellings.specs.Bound.{IsBoundParam, IsBoundObject}
 use Rattle.form_spellings.specs.InTable.{AreParamsIn}
-use Rattle.name_faults.specs.Lists.{One, Has}
-use Rattle.name_numbers.specs.Spots.{spot}
-use Rattle.bind_types.specs.Kinds.{Kinds}
-use Rattle.bind_types.specs.Typed.{params_bound, objects_bound, params_faults}
+use Rattle.hddl_reader.specs.names.Lists.{One, Has}
+use Rattle.name_binding.specs.Spots.{spot}
+use Rattle.name_binding.specs.Kinds.{Kinds}
+use Rattle.name_binding.specs.Typed.{params_bound, objects_bound, params_faults}
 use Rattle.binding_laws.specs.Kinds.{AreTypesOf, HasKinds, IsKindFault, IsNumbered}
 
 module _ (names : Names) (d : RawDomain) (kinds : Kinds) where

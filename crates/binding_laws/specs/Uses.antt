@@ -5,9 +5,9 @@ use Rattle.text_forms.specs.Words.{Word}
 use Rattle.gd_reader.specs.Terms.{Names}
 use Rattle.hddl_reader.specs.declared.sections.RawDomain.{RawDomain}
 use Rattle.hddl_reader.specs.declared.sections.RawProblem.{RawProblem}
-use Rattle.name_faults.specs.Standing.{InDomain, InProblem}
-use Rattle.name_faults.specs.Uses.{Scope, Kind, predicate, subtask, task, Use, declares, applies, refers}
-use Rattle.name_faults.specs.Named.{IsUnknown, HasWrongArity, UnknownType, UnknownPredicate, UnknownTask, UnknownObject, UnknownVariable, WrongArity}
+use Rattle.hddl_reader.specs.names.Standing.{InDomain, InProblem}
+use Rattle.hddl_reader.specs.names.Uses.{Scope, Kind, predicate, subtask, task, Use, declares, applies, refers}
+use Rattle.hddl_reader.specs.names.Named.{IsUnknown, HasWrongArity, UnknownType, UnknownPredicate, UnknownTask, UnknownObject, UnknownVariable, WrongArity}
 use Rattle.binding_laws.specs.Kinds.{IsKindFault}
 use Rattle.binding_laws.specs.Terms.{IsTermFault}
 

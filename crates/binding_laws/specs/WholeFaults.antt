@@ -7,7 +7,7 @@ use Rattle.hddl_reader.specs.declared.sections.Language.{Language}
 use Rattle.hddl_reader.specs.declared.sections.RawDomain.{RawDomain}
 use Rattle.hddl_reader.specs.declared.sections.RawProblem.{RawProblem}
 use Rattle.plan_model.specs.declared.values.Hddl.{Hddl}
-use Rattle.name_faults.specs.Faults.{HasDomainFault, HasNoFault, IsLeastNameFault, HasNoNameFault}
+use Rattle.hddl_reader.specs.names.Faults.{HasDomainFault, HasNoFault, IsLeastNameFault, HasNoNameFault}
 use Rattle.hddl_bind.specs.declared.bound_domain.BoundDomain.{BoundDomain}
 use Rattle.hddl_bind.specs.declared.errors.BindError.TheVariants.{Bad}
 use Rattle.hddl_bind.specs.WholeDomains.{IsDomainBound, IsDomainRefused}

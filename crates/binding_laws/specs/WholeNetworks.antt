@@ -9,16 +9,16 @@ use Rattle.hddl_reader.specs.declared.sections.RawDomain.{RawDomain}
 use Rattle.plan_texts.specs.Types.{EachIs}
 use Rattle.form_spellings.specs.EachName.{OfAtom}
 use Rattle.form_spellings.specs.InTable.{IsIn, IsNameIn}
-use Rattle.name_faults.specs.Lists.{Has}
-use Rattle.name_faults.specs.Networks.{UnknownSubtaskId, CyclicOrder, TooManySubtasks}
-use Rattle.name_faults.specs.Networks as words
-use Rattle.name_faults.specs.Standing.{IsOfNetwork}
-use Rattle.name_faults.specs.Words.{IsSecond}
-use Rattle.name_numbers.specs.Spots.{spot}
-use Rattle.bind_networks.specs.Callables.{Declared}
-use Rattle.bind_networks.specs.Cycle.{IsCycle}
-use Rattle.bind_networks.specs.Ids.{term_number, term_at, ids}
-use Rattle.bind_networks.specs.Networks.{network_faults}
+use Rattle.hddl_reader.specs.names.Lists.{Has}
+use Rattle.hddl_reader.specs.names.Networks.{UnknownSubtaskId, CyclicOrder, TooManySubtasks}
+use Rattle.hddl_reader.specs.names.Networks as words
+use Rattle.hddl_reader.specs.names.Standing.{IsOfNetwork}
+use Rattle.hddl_reader.specs.names.Words.{IsSecond}
+use Rattle.name_binding.specs.Spots.{spot}
+use Rattle.hddl_bind.specs.Callables.{Declared}
+use Rattle.hddl_bind.specs.Cycle.{IsCycle}
+use Rattle.hddl_bind.specs.Ids.{term_number, term_at, ids}
+use Rattle.hddl_bind.specs.Networks.{network_faults}
 use Rattle.binding_laws.specs.Calls.{AreCallablesOf}
 use Rattle.binding_laws.specs.Numbers.{words_of}
 use Rattle.binding_laws.specs.Orders.{AreIdsIn}

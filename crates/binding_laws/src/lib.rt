@@ -1,7 +1,7 @@
 //! What binding says over the numbers of names is what is said in words: of its faults and of what it gives.
 //!
-//! Stands on the definitions of `name_numbers`, `bind_types`, `bind_formulas`, `bind_networks` and `hddl_bind`, which speak of
-//! numbers, and on those of `name_faults` and `form_spellings`, which speak of words; it has no code but laws. The contracts used
+//! Stands on the definitions of `name_binding` and `hddl_bind`, which speak of
+//! numbers, and on those of `hddl_reader` and `form_spellings`, which speak of words; it has no code but laws. The contracts used
 //! above, for a domain and a problem that were read (`specs/InOrder`): what is refused is the least fault, and what is bound has none
 //! (`whole_texts_are_judged`); the value that is bound is what the two stand for (`whole_texts_are_bound`), in the order in which the
 //! texts name it, so that it is the HDDL value of the texts (`what_is_bound_is_of_its_texts`); of two texts that spell it, it is

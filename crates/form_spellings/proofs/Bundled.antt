@@ -9,7 +9,7 @@ use Rattle.form_grammar.specs.Networks.{NetworkDue, network_rows}
 use Rattle.form_grammar.specs.Rows.{Next, go, stop, Row, form, closed, front, word_due, word_or_end, list_or_end}
 use Rattle.form_grammar.specs.Words.{by_word}
 use Rattle.form_grammar.proofs.Meaning.{whole_then, then_whole}
-use Rattle.form_faults.proofs.TermsSaid.{at_next}
+use Rattle.hddl_reader.proofs.TermsSaid.{at_next}
 use Rattle.plan_texts.specs.Sections.{bundle, bundle_by}
 use Rattle.plan_texts.specs.TypedLists.{Each}
 use Rattle.plan_texts.proofs.Basics.{bytes_eq-true}

@@ -70,3 +70,4 @@ mod OnePddlOrder
 pub mod order
 pub mod seen
 pub mod examples
+pub mod faultless

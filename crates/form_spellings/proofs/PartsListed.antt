@@ -12,7 +12,7 @@ use Rattle.form_grammar.specs.Sections.{SectionDue, section_rows, Parted, task, 
 use Rattle.form_grammar.specs.Sections as due
 use Rattle.form_grammar.specs.Words.{Table, entry, counts_as, unknown, is_keyword, by_keyword}
 use Rattle.form_grammar.proofs.Meaning.{whole_then, then_whole}
-use Rattle.form_faults.proofs.TermsSaid.{at_next}
+use Rattle.hddl_reader.proofs.TermsSaid.{at_next}
 use Rattle.plan_texts.specs.Sections.{is_in_one, are_entries}
 use Rattle.plan_texts.specs.Types.{EachIs}
 use Rattle.form_spellings.proofs.PartTables as tables

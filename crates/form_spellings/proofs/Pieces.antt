@@ -11,12 +11,12 @@ use Rattle.form_grammar.specs.Networks.{network_rows, subs, pairs as pairs_due, 
 use Rattle.form_grammar.specs.Rows.{form}
 use Rattle.form_grammar.specs.Sections.{SectionDue, section_rows, of_effect, of_network, of_terms_due, typed}
 use Rattle.form_grammar.proofs.Meaning.{form_same}
-use Rattle.form_faults.proofs.Calls.{same_form}
-use Rattle.form_faults.proofs.EffectsSaid.{effect_said}
-use Rattle.form_faults.proofs.FormulasSaid.{formula_said}
-use Rattle.form_faults.proofs.ListsSaid.{listed_said}
-use Rattle.form_faults.specs.Said.{typed_form}
-use Rattle.form_faults.specs.SameForms.{IsSameForm}
+use Rattle.hddl_reader.proofs.Calls.{same_form}
+use Rattle.hddl_reader.proofs.EffectsSaid.{effect_said}
+use Rattle.hddl_reader.proofs.FormulasSaid.{formula_said}
+use Rattle.hddl_reader.proofs.ListsSaid.{listed_said}
+use Rattle.hddl_reader.specs.Said.{typed_form}
+use Rattle.hddl_reader.specs.SameForms.{IsSameForm}
 use Rattle.gd_reader.specs.declared.typed_lists.ListKind.{ListKind}
 use Rattle.gd_reader.specs.declared.typed_lists.ListKind.TheVariants.{Parameters}
 use Rattle.gd_reader.specs.Effects.{effect_read}

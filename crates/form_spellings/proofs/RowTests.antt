@@ -14,9 +14,9 @@ use Rattle.gd_reader.specs.TermGrammar.{end_form, terms_form, two_terms_form, ap
 use Rattle.gd_reader.specs.Terms as read
 use Rattle.gd_reader.specs.Forms as plain
 use Rattle.gd_reader.proofs.TermExact.{end_exact, terms_exact, two_terms_exact, applied_exact}
-use Rattle.form_faults.proofs.Calls.{same_form}
-use Rattle.form_faults.proofs.TermsSaid.{at_next, ends_said, terms_said, two_terms_said, applied_said}
-use Rattle.form_faults.specs.SameForms.{IsSameForm}
+use Rattle.hddl_reader.proofs.Calls.{same_form}
+use Rattle.hddl_reader.proofs.TermsSaid.{at_next, ends_said, terms_said, two_terms_said, applied_said}
+use Rattle.hddl_reader.specs.SameForms.{IsSameForm}
 use Rattle.plan_texts.proofs.Basics.{bytes_eq-true, bytes_eq-refl}
 use Rattle.form_spellings.proofs.WordTests.{false_true}
 

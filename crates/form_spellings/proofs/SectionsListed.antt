@@ -11,7 +11,7 @@ use Rattle.form_grammar.specs.Rows.{if_allowed, form, closed}
 use Rattle.form_grammar.specs.Sections.{Language, hddl, pddl, Definition, domain, problem, SectionDue, section_rows, sections, section as section_due, section_table, has_sections, seen_behind}
 use Rattle.form_grammar.specs.Words.{Table, entry, counts_as, unknown, is_keyword, by_keyword}
 use Rattle.form_grammar.proofs.Meaning.{whole_then, then_whole}
-use Rattle.form_faults.proofs.TermsSaid.{at_next}
+use Rattle.hddl_reader.proofs.TermsSaid.{at_next}
 use Rattle.plan_texts.specs.Sections.{without, are_sections, section, domain_once, domain_many, problem_once}
 use Rattle.plan_texts.specs.SpellsHddl.{hddl_many, hddl_problem_once}
 use Rattle.plan_texts.specs.Types.{EachIs}

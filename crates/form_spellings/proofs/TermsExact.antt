@@ -4,7 +4,7 @@ use Rattle.text_forms.specs.Lists.{Part, Parts, name, group, nothing, part}
 use Rattle.text_forms.specs.Placed.{Placed, cut, close, word, list, parts_of}
 use Rattle.text_forms.specs.Printing.{headed}
 use Rattle.text_forms.specs.Words.{Word, is_name}
-use Rattle.form_faults.specs.Said.{said}
+use Rattle.hddl_reader.specs.Said.{said}
 use Rattle.form_grammar.specs.Codes.{Form, Whole}
 use Rattle.plan_texts.specs.Declared.{Declared, named}
 use Rattle.plan_texts.specs.Formulas.{IsTerm, IsParam, IsFormula, IsEffect}

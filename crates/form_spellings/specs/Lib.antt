@@ -32,3 +32,5 @@ pub mod HddlInOrder
 pub mod PddlTexts
 pub mod SoundPddl
 pub mod PddlInOrder
+pub mod Depth
+pub mod Faultless

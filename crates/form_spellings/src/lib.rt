@@ -1,6 +1,7 @@
 //! The grammar of texts and the definition of what a text spells are one grammar.
 //!
-//! It stands on the definitions of `gd_reader`, `form_grammar` and `plan_texts`, and has no code but laws. The contracts used above:
+//! It stands on the definitions of `gd_reader`, `form_grammar`, `plan_texts` and `plan_meaning` and on the faults of names of
+//! `hddl_reader`, and has no code but laws. The contracts used above:
 //! a form is whole exactly where it spells some formula, effect, typed list, part of a network, schema, domain or problem, once its
 //! words are declared suitably (`whole_formulas`, `whole_effects`, `whole_lists`, `whole_networks`, `whole_schemas`,
 //! `whole_definitions`), so also where it spells a domain or a problem as declared (`spelled_definitions_are_whole`); what is read,
@@ -12,9 +13,14 @@
 //! (`one_word_stands_at_one_offset`), and its lists stand in the order of the text (`what_is_read_is_in_order`); the texts first name
 //! types, pairs and unions in the order of its offsets, so what is read, bound in this order, is the value of its texts, of either
 //! language (`offsets_tell_what_is_first_seen`), and values of the same PDDL texts have one order (`pddl_values_have_one_order`).
+//!
+//! Where two texts of HDDL or of PDDL spell a sound value that has few types, and no list stands too deep in them, they are without a
+//! fault of tokens, of form or of names (`spelled_texts_are_faultless`); and no list stands too deep exactly where at most 200 stand in
+//! one another (`depth_is_that_of_lists`).
 #![tactic(auto)]
 
 mod bound;
+mod fault_laws;
 mod first_seen;
 mod laws;
 mod names;
@@ -26,6 +32,7 @@ pub use bound::{
     networks_spell_what_is_bound, pddl_texts_have_no_networks, schemas_spell_what_is_bound,
     texts_spell_what_is_bound,
 };
+pub use fault_laws::{depth_is_that_of_lists, spelled_texts_are_faultless};
 pub use first_seen::{offsets_tell_what_is_first_seen, pddl_values_have_one_order};
 pub use laws::{
     spelled_definitions_are_whole, whole_definitions, whole_effects, whole_formulas, whole_lists,

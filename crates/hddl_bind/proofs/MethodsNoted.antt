@@ -3,11 +3,11 @@ use Rattle.std.proofs.Common.{append-nil, ℕ, ◌≡◌, ◌+◌, ◌<◌, List
 use Rattle.std.proofs.lemmas.List.{take_more, append_assoc}
 use Rattle.plan_texts.specs.Together.{Together}
 use Rattle.plan_texts.proofs.Together.{together-push}
-use Rattle.name_numbers.specs.declared.faults.Spot.{Spot}
-use Rattle.name_numbers.specs.Spots.{noted}
-use Rattle.name_numbers.proofs.Noted.{noted-append}
-use Rattle.bind_formulas.specs.declared.known.Known.{Known}
-use Rattle.bind_networks.specs.Callables.{Declared}
+use Rattle.name_binding.specs.declared.faults.Spot.{Spot}
+use Rattle.name_binding.specs.Spots.{noted}
+use Rattle.name_binding.proofs.Noted.{noted-append}
+use Rattle.name_binding.specs.declared.known.Known.{Known}
+use Rattle.hddl_bind.specs.Callables.{Declared}
 use Rattle.hddl_reader.specs.declared.sections.RawMethod.{RawMethod}
 use Rattle.hddl_bind.specs.Methods.{IsCycleOf, method_faults, methods_faults, IsMethodNoted, AreMethodsNoted}
 

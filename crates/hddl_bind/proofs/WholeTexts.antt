@@ -1,21 +1,21 @@
 -- A whole domain and a whole problem: what was noted part by part is all that is noted, and how it is judged.
 use Rattle.std.proofs.Common.{ℕ, ◌≡◌, Option, Some, None, Result, IfOk, IfErr, length, refl, ap, sym, subst, ◌∙◌}
-use Rattle.name_numbers.specs.Spots.{noted}
-use Rattle.name_numbers.specs.declared.faults.Spot.{Spot}
-use Rattle.name_numbers.proofs.Least.{none_is_noted}
+use Rattle.name_binding.specs.Spots.{noted}
+use Rattle.name_binding.specs.declared.faults.Spot.{Spot}
+use Rattle.name_binding.proofs.Least.{none_is_noted}
 use Rattle.gd_reader.specs.Terms.{Names}
 use Rattle.hddl_reader.specs.declared.sections.Language.{Language}
 use Rattle.hddl_reader.specs.declared.sections.RawDomain.{RawDomain}
 use Rattle.hddl_reader.specs.declared.sections.RawProblem.{RawProblem}
 use Rattle.plan_model.specs.declared.types.Types.{Types}
 use Rattle.plan_model.specs.declared.values.Hddl.{Hddl}
-use Rattle.bind_types.specs.Kinds.{Kinds}
-use Rattle.bind_types.specs.Listed.{name_of, types_bound}
-use Rattle.bind_types.specs.Parents.{pairs_in_order}
-use Rattle.bind_types.specs.Unions.{AreWith}
-use Rattle.bind_formulas.specs.declared.known.Known.{Known}
-use Rattle.bind_networks.specs.Callables.{declared}
-use Rattle.bind_networks.proofs.Steps.{noted_two, noted_three}
+use Rattle.name_binding.specs.Kinds.{Kinds}
+use Rattle.name_binding.specs.Listed.{name_of, types_bound}
+use Rattle.name_binding.specs.Parents.{pairs_in_order}
+use Rattle.name_binding.specs.Unions.{AreWith}
+use Rattle.name_binding.specs.declared.known.Known.{Known}
+use Rattle.hddl_bind.specs.Callables.{declared}
+use Rattle.hddl_bind.proofs.Steps.{noted_two, noted_three}
 use Rattle.hddl_bind.specs.declared.bound_domain.BoundDomain.{BoundDomain}
 use Rattle.hddl_bind.specs.declared.domain_names.DomainNames.{DomainNames}
 use Rattle.hddl_bind.specs.declared.domain_schemas.DomainSchemas.{DomainSchemas}

@@ -1,1 +1,4 @@
 mod Rows
+mod Values
+mod CallRows
+mod NetworkRows

@@ -1,12 +1,12 @@
 -- The actions that a domain declares, and their faults.
 -- Source: PDDL 2.1 (Fox and Long, JAIR 20, 2003, level 1): an action's parameters are in force in its condition and its effect.
 use Rattle.std.specs.Prelude.{ℕ, List, ◌++◌, map, flat_map}
-use Rattle.name_numbers.specs.declared.faults.Spot.{Spot}
-use Rattle.name_numbers.specs.Entered.{variables_of}
-use Rattle.bind_types.specs.Typed.{params_bound, params_faults}
-use Rattle.bind_formulas.specs.declared.known.Known.{Known}
-use Rattle.bind_formulas.specs.Formulas.{formula_bound, formula_faults}
-use Rattle.bind_formulas.specs.Effects.{effect_bound, effect_faults}
+use Rattle.name_binding.specs.declared.faults.Spot.{Spot}
+use Rattle.name_binding.specs.Entered.{variables_of}
+use Rattle.name_binding.specs.Typed.{params_bound, params_faults}
+use Rattle.name_binding.specs.declared.known.Known.{Known}
+use Rattle.name_binding.specs.Formulas.{formula_bound, formula_faults}
+use Rattle.name_binding.specs.Effects.{effect_bound, effect_faults}
 use Rattle.hddl_reader.specs.declared.sections.RawHead.{RawHead}
 use Rattle.hddl_reader.specs.declared.sections.RawAction.{RawAction}
 use Rattle.plan_model.specs.declared.schemas.ActionSchema.{ActionSchema}

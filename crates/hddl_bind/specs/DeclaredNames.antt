@@ -1,16 +1,16 @@
 -- What the declarations of a domain put into its tables of names, and names that are declared for the second time (10).
 -- Source: this project's.
 use Rattle.std.specs.Prelude.{ℕ, List, [], ◌++◌, map, length}
-use Rattle.name_numbers.specs.declared.faults.Spot.{Spot}
-use Rattle.name_numbers.specs.declared.heads.Head.{Head}
+use Rattle.name_binding.specs.declared.faults.Spot.{Spot}
+use Rattle.name_binding.specs.declared.heads.Head.{Head}
 use Rattle.gd_reader.specs.declared.typed_lists.RawParam.{RawParam}
 use Rattle.hddl_reader.specs.declared.sections.RawDomain.{RawDomain}
 use Rattle.hddl_reader.specs.declared.sections.RawHead.{RawHead}
 use Rattle.hddl_reader.specs.declared.sections.RawMethod.{RawMethod}
-use Rattle.bind_types.specs.Kinds.{Kinds}
-use Rattle.bind_formulas.specs.declared.known.Known.{Known}
-use Rattle.bind_networks.specs.Callables.{declared, second_callables}
-use Rattle.bind_networks.specs.Seconds.{seconds}
+use Rattle.name_binding.specs.Kinds.{Kinds}
+use Rattle.name_binding.specs.declared.known.Known.{Known}
+use Rattle.hddl_bind.specs.Callables.{declared, second_callables}
+use Rattle.hddl_bind.specs.Seconds.{seconds}
 
 -- the objects of a list, by the numbers of their names
 abbrev pub objects_declared : List RawParam → List ℕ

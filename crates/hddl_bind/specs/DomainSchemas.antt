@@ -1,12 +1,12 @@
 -- All that a domain declares but its types, and the faults in it.
 use Rattle.std.specs.Prelude.{ℕ, ◌≡◌, true, List, ◌++◌, Option}
 use Rattle.plan_texts.specs.Together.{Together}
-use Rattle.name_numbers.specs.declared.faults.Spot.{Spot}
-use Rattle.name_numbers.specs.Spots.{noted}
-use Rattle.bind_types.specs.Kinds.{Kinds}
-use Rattle.bind_types.specs.Typed.{objects_bound, params_faults}
-use Rattle.bind_formulas.specs.declared.known.Known.{Known}
-use Rattle.bind_networks.specs.Callables.{Declared}
+use Rattle.name_binding.specs.declared.faults.Spot.{Spot}
+use Rattle.name_binding.specs.Spots.{noted}
+use Rattle.name_binding.specs.Kinds.{Kinds}
+use Rattle.name_binding.specs.Typed.{objects_bound, params_faults}
+use Rattle.name_binding.specs.declared.known.Known.{Known}
+use Rattle.hddl_bind.specs.Callables.{Declared}
 use Rattle.plan_model.specs.declared.schemas.ActionSchema.{ActionSchema}
 use Rattle.plan_model.specs.declared.schemas.MethodSchema.{MethodSchema}
 use Rattle.hddl_reader.specs.declared.sections.RawDomain.{RawDomain}

@@ -1,7 +1,7 @@
 -- A text is bound exactly where it has no fault, and is else refused for the least.
 -- Source: this project's.
 use Rattle.std.specs.Prelude.{ℕ, Result, Ok, Err, Option, Some, None}
-use Rattle.name_numbers.specs.declared.faults.Spot.{Spot}
+use Rattle.name_binding.specs.declared.faults.Spot.{Spot}
 use Rattle.hddl_bind.specs.declared.errors.BindError.{BindError}
 use Rattle.hddl_bind.specs.declared.errors.BindError.TheVariants.{Bad}
 

@@ -9,3 +9,10 @@ pub mod Judged
 pub mod WholeUnions
 pub mod WholeDomains
 pub mod WholeProblems
+pub mod Seconds
+pub mod Callables
+pub mod Calls
+pub mod Ids
+pub mod Pairs
+pub mod Cycle
+pub mod Networks

@@ -3,17 +3,17 @@
 use Rattle.std.specs.Prelude.{ℕ, ◌≡◌, List, [], ◌∷◌, ◌++◌, map, Option}
 use Rattle.htn_base.specs.declared.name.Name.{Name}
 use Rattle.plan_texts.specs.Together.{Together}
-use Rattle.name_numbers.specs.declared.faults.Spot.{Spot}
-use Rattle.name_numbers.specs.Spots.{noted}
-use Rattle.name_numbers.specs.Terms.{terms_bound, terms_faults}
-use Rattle.bind_types.specs.Typed.{params_bound, params_faults}
-use Rattle.bind_formulas.specs.declared.known.Known.{Known}
-use Rattle.bind_formulas.specs.Formulas.{formula_bound, formula_faults}
-use Rattle.bind_networks.specs.declared.networks.BoundNet.{BoundNet}
-use Rattle.bind_networks.specs.Callables.{Declared}
-use Rattle.bind_networks.specs.Calls.{method_task, head_called, task_number, call_faults}
-use Rattle.bind_networks.specs.Cycle.{IsCycle}
-use Rattle.bind_networks.specs.Networks.{network_bound, network_faults}
+use Rattle.name_binding.specs.declared.faults.Spot.{Spot}
+use Rattle.name_binding.specs.Spots.{noted}
+use Rattle.name_binding.specs.Terms.{terms_bound, terms_faults}
+use Rattle.name_binding.specs.Typed.{params_bound, params_faults}
+use Rattle.name_binding.specs.declared.known.Known.{Known}
+use Rattle.name_binding.specs.Formulas.{formula_bound, formula_faults}
+use Rattle.hddl_bind.specs.declared.networks.BoundNet.{BoundNet}
+use Rattle.hddl_bind.specs.Callables.{Declared}
+use Rattle.hddl_bind.specs.Calls.{method_task, head_called, task_number, call_faults}
+use Rattle.hddl_bind.specs.Cycle.{IsCycle}
+use Rattle.hddl_bind.specs.Networks.{network_bound, network_faults}
 use Rattle.gd_reader.specs.declared.term.RawAtom.{RawAtom}
 use Rattle.hddl_reader.specs.declared.sections.RawMethod.{RawMethod}
 use Rattle.plan_model.specs.declared.schemas.MethodSchema.{MethodSchema}

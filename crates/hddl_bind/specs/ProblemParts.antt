@@ -2,15 +2,15 @@
 -- Source: Höller et al., "HDDL", AAAI 2020: the initial network has parameters, subtasks, an ordering and constraints, as a method.
 use Rattle.std.specs.Prelude.{ℕ, ◌≡◌, false, List, [], ◌++◌, Option}
 use Rattle.htn_base.specs.declared.name.Name.{Name}
-use Rattle.name_numbers.specs.declared.faults.Spot.{Spot}
-use Rattle.name_numbers.specs.Entered.{variables_of}
-use Rattle.name_numbers.specs.Spots.{noted}
-use Rattle.bind_types.specs.Typed.{objects_bound, params_bound, params_faults}
-use Rattle.bind_formulas.specs.declared.known.Known.{Known}
-use Rattle.bind_formulas.specs.Formulas.{formula_bound, formula_faults}
-use Rattle.bind_networks.specs.Callables.{Declared}
-use Rattle.bind_networks.specs.Cycle.{IsCycle}
-use Rattle.bind_networks.specs.Networks.{network_bound, network_faults}
+use Rattle.name_binding.specs.declared.faults.Spot.{Spot}
+use Rattle.name_binding.specs.Entered.{variables_of}
+use Rattle.name_binding.specs.Spots.{noted}
+use Rattle.name_binding.specs.Typed.{objects_bound, params_bound, params_faults}
+use Rattle.name_binding.specs.declared.known.Known.{Known}
+use Rattle.name_binding.specs.Formulas.{formula_bound, formula_faults}
+use Rattle.hddl_bind.specs.Callables.{Declared}
+use Rattle.hddl_bind.specs.Cycle.{IsCycle}
+use Rattle.hddl_bind.specs.Networks.{network_bound, network_faults}
 use Rattle.hddl_reader.specs.declared.sections.RawProblem.{RawProblem}
 use Rattle.plan_model.specs.declared.formulas.Formula.TheVariants.{And}
 use Rattle.plan_model.specs.declared.schemas.MethodSchema.{MethodSchema}

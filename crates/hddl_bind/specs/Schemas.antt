@@ -1,9 +1,9 @@
 -- The predicates and the tasks that a domain declares, and the faults of their types.
 -- Source: Höller et al., "HDDL", AAAI 2020, which declares tasks as PDDL does predicates.
 use Rattle.std.specs.Prelude.{List, map, flat_map}
-use Rattle.name_numbers.specs.declared.faults.Spot.{Spot}
-use Rattle.bind_types.specs.Kinds.{Kinds}
-use Rattle.bind_types.specs.Typed.{params_bound, params_faults}
+use Rattle.name_binding.specs.declared.faults.Spot.{Spot}
+use Rattle.name_binding.specs.Kinds.{Kinds}
+use Rattle.name_binding.specs.Typed.{params_bound, params_faults}
 use Rattle.hddl_reader.specs.declared.sections.RawHead.{RawHead}
 use Rattle.plan_model.specs.declared.schemas.Predicate.{Predicate}
 use Rattle.plan_model.specs.declared.schemas.TaskSchema.{TaskSchema}

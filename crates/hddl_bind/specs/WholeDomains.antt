@@ -4,20 +4,20 @@ use Rattle.std.specs.Prelude.{ℕ, ◌≡◌, List, [], ◌++◌, Option, Some, 
 use Rattle.htn_base.specs.Table.{number_of}
 use Rattle.htn_base.specs.declared.name.Name.{Name}
 use Rattle.plan_texts.specs.Together.{Together}
-use Rattle.name_faults.specs.Types.{most_types}
-use Rattle.name_numbers.specs.Spots.{spot, noted, AreLeastOf}
-use Rattle.name_numbers.specs.declared.faults.Spot.{Spot}
+use Rattle.hddl_reader.specs.names.Types.{most_types}
+use Rattle.name_binding.specs.Spots.{spot, noted, AreLeastOf}
+use Rattle.name_binding.specs.declared.faults.Spot.{Spot}
 use Rattle.gd_reader.specs.Terms.{Names}
 use Rattle.hddl_reader.specs.declared.sections.Language.{Language}
 use Rattle.hddl_reader.specs.declared.sections.RawDomain.{RawDomain}
-use Rattle.bind_types.specs.Cycle.{IsSectionFault}
-use Rattle.bind_types.specs.Kinds.{Kinds}
-use Rattle.bind_types.specs.Listed.{types_bound}
-use Rattle.bind_types.specs.Mentions.{AreTypesOf}
-use Rattle.bind_types.specs.Parents.{pairs_in_order}
-use Rattle.bind_types.specs.TooMany.{NotesLeast}
-use Rattle.bind_types.specs.Unions.{AreWith}
-use Rattle.bind_networks.specs.Callables.{declared}
+use Rattle.name_binding.specs.Cycle.{IsSectionFault}
+use Rattle.name_binding.specs.Kinds.{Kinds}
+use Rattle.name_binding.specs.Listed.{types_bound}
+use Rattle.name_binding.specs.Mentions.{AreTypesOf}
+use Rattle.name_binding.specs.Parents.{pairs_in_order}
+use Rattle.name_binding.specs.TooMany.{NotesLeast}
+use Rattle.name_binding.specs.Unions.{AreWith}
+use Rattle.hddl_bind.specs.Callables.{declared}
 use Rattle.plan_model.specs.declared.types.Types.{Types}
 use Rattle.hddl_bind.specs.declared.bound_domain.BoundDomain.{BoundDomain}
 use Rattle.hddl_bind.specs.declared.domain_names.DomainNames.{DomainNames}

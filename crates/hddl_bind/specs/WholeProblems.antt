@@ -3,16 +3,16 @@
 use Rattle.std.specs.Prelude.{ℕ, ◌≡◌, List, [], ◌++◌, length, Option, Some, None, codes}
 use Rattle.htn_base.specs.Table.{number_of, with_word}
 use Rattle.htn_base.specs.declared.name.Name.{Name}
-use Rattle.name_numbers.specs.Spots.{spot, noted}
-use Rattle.name_numbers.specs.declared.faults.Spot.{Spot}
+use Rattle.name_binding.specs.Spots.{spot, noted}
+use Rattle.name_binding.specs.declared.faults.Spot.{Spot}
 use Rattle.gd_reader.specs.Terms.{Names}
 use Rattle.hddl_reader.specs.declared.sections.RawProblem.{RawProblem}
 use Rattle.plan_model.specs.declared.types.Object.{Object}
 use Rattle.plan_model.specs.declared.values.Hddl.{Hddl}
-use Rattle.bind_types.specs.Listed.{name_of}
-use Rattle.bind_types.specs.Unions.{AreWith}
-use Rattle.bind_formulas.specs.declared.known.Known.{Known}
-use Rattle.bind_networks.specs.Cycle.{IsCycle}
+use Rattle.name_binding.specs.Listed.{name_of}
+use Rattle.name_binding.specs.Unions.{AreWith}
+use Rattle.name_binding.specs.declared.known.Known.{Known}
+use Rattle.hddl_bind.specs.Cycle.{IsCycle}
 use Rattle.hddl_bind.specs.declared.bound_domain.BoundDomain.{BoundDomain}
 use Rattle.hddl_bind.specs.declared.errors.BindError.{BindError}
 use Rattle.hddl_bind.specs.declared.errors.BindError.TheVariants.{Bad, Memory}

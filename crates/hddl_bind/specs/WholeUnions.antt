@@ -1,9 +1,9 @@
 -- The unions that a domain and a problem write, in the order of the raw values.
 -- Source: PDDL 2.1 (Fox and Long, JAIR 20, 2003, level 1) for `either`; an object has one type.
 use Rattle.std.specs.Prelude.{List, ◌++◌, flat_map}
-use Rattle.bind_types.specs.Kinds.{Kinds}
-use Rattle.bind_types.specs.Unions.{params_unions, formula_unions, effect_unions}
-use Rattle.bind_types.specs.declared.unions.Either.{Either}
+use Rattle.name_binding.specs.Kinds.{Kinds}
+use Rattle.name_binding.specs.Unions.{params_unions, formula_unions, effect_unions}
+use Rattle.name_binding.specs.declared.unions.Either.{Either}
 use Rattle.hddl_reader.specs.declared.sections.RawAction.{RawAction}
 use Rattle.hddl_reader.specs.declared.sections.RawDomain.{RawDomain}
 use Rattle.hddl_reader.specs.declared.sections.RawHead.{RawHead}

@@ -1,14 +1,12 @@
 ghost use Rattle.std.specs.Prelude.{◌≡◌, IfOk, OnOk};
-ghost use Rattle.name_numbers.specs.Entered.{variables_of};
-ghost use Rattle.name_numbers.specs.Spots.{noted};
+ghost use Rattle.name_binding.specs.Entered.{variables_of};
+ghost use Rattle.name_binding.specs.Spots.{noted};
 ghost use Rattle.hddl_bind.specs.Actions.{action_bound, actions_bound, action_faults, actions_faults};
 
-use bind_formulas::{Known, effect_of, formula_of};
-use bind_types::params_of;
 use gd_reader::RawParam;
 use hddl_reader::RawAction;
 use htn_base::{List, Memory};
-use name_numbers::{Faults, Variables};
+use name_binding::{Faults, Known, Variables, effect_of, formula_of, params_of};
 use plan_model::ActionSchema;
 use std::alloc::Global;
 

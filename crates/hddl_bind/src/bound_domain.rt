@@ -1,10 +1,10 @@
 ghost use Rattle.std.specs.Prelude.{◌≡◌, codes, Some, IfOk, IfErr, OnOk};
 ghost use Rattle.htn_base.specs.Table.{number_of, with_word};
 ghost use Rattle.gd_reader.specs.Terms.{Keeps};
-ghost use Rattle.bind_types.specs.Cycle.{IsSection};
-ghost use Rattle.bind_types.specs.Listed.{types_bound};
-ghost use Rattle.bind_types.specs.Parents.{pairs_in_order};
-ghost use Rattle.name_faults.specs.Types.{most_types};
+ghost use Rattle.name_binding.specs.Cycle.{IsSection};
+ghost use Rattle.name_binding.specs.Listed.{types_bound};
+ghost use Rattle.name_binding.specs.Parents.{pairs_in_order};
+ghost use Rattle.hddl_reader.specs.names.Types.{most_types};
 ghost use Rattle.hddl_bind.specs.DomainSchemas.{schemas_bound, AreSchemasNoted};
 ghost use Rattle.hddl_bind.specs.WholeDomains as spec;
 
@@ -12,10 +12,9 @@ use crate::domain_names::{DomainNames, names_of};
 use crate::domain_schemas::{DomainSchemas, schemas_of};
 use crate::errors::{BindError, judged};
 use crate::whole_unions::unions_of_domain;
-use bind_types::{TypeTable, section_of, types_of};
 use hddl_reader::{Language, RawDomain};
 use htn_base::{List, Memory, Name, NameTable};
-use name_numbers::Faults;
+use name_binding::{Faults, TypeTable, section_of, types_of};
 use plan_model::{ActionSchema, MethodSchema, Object, Predicate, TaskSchema, Types};
 use std::alloc::Global;
 

@@ -1,6 +1,6 @@
 ghost use Rattle.std.specs.Prelude.{◌≡◌, ◌++◌, codes, Some, IfOk, IfErr, OnOk};
-ghost use Rattle.name_numbers.specs.Spots.{noted};
-ghost use Rattle.bind_types.specs.Unions.{AreWith};
+ghost use Rattle.name_binding.specs.Spots.{noted};
+ghost use Rattle.name_binding.specs.Unions.{AreWith};
 ghost use Rattle.hddl_bind.specs.DeclaredNames.{second_objects};
 ghost use Rattle.hddl_bind.specs.WholeProblems as spec;
 ghost use Rattle.hddl_bind.specs.WholeUnions.{problem_unions};
@@ -9,11 +9,11 @@ use crate::bound_domain::BoundDomain;
 use crate::domain_names::DomainNames;
 use crate::errors::{BindError, judged};
 use crate::problem_parts::{ProblemParts, parts_of};
+use crate::seconds::seconds_of;
 use crate::whole_unions::unions_of_problem;
-use bind_networks::seconds_of;
 use hddl_reader::RawProblem;
 use htn_base::{List, Memory, Name, NameTable, number};
-use name_numbers::Faults;
+use name_binding::Faults;
 use plan_model::{Hddl, Object};
 use std::alloc::Global;
 

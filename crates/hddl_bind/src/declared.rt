@@ -1,12 +1,12 @@
 ghost use Rattle.std.specs.Prelude.{◌≡◌, [], IfOk, OnOk};
-ghost use Rattle.name_numbers.specs.Spots.{noted};
-ghost use Rattle.bind_networks.specs.Seconds.{seconds};
+ghost use Rattle.name_binding.specs.Spots.{noted};
+ghost use Rattle.hddl_bind.specs.Seconds.{seconds};
 ghost use Rattle.hddl_bind.specs.DeclaredNames.{heads_declared, second_heads};
 
-use bind_networks::{Declares, seconds_of};
+use crate::seconds::{Declares, seconds_of};
 use hddl_reader::RawHead;
 use htn_base::{Memory, number};
-use name_numbers::{Faults, Head, Heads, Places};
+use name_binding::{Faults, Head, Heads, Places};
 use std::alloc::Global;
 
 /// The predicates of these heads by their names. One whose name an earlier one has is a fault of code 10.

@@ -1,15 +1,14 @@
 ghost use Rattle.std.specs.Prelude.{◌≡◌, IfOk, OnOk};
-ghost use Rattle.name_numbers.specs.Spots.{noted};
-ghost use Rattle.bind_networks.specs.Callables.{declared};
+ghost use Rattle.name_binding.specs.Spots.{noted};
+ghost use Rattle.hddl_bind.specs.Callables.{declared};
 ghost use Rattle.hddl_bind.specs.DeclaredNames.{objects_declared, heads_declared, known_in, second_names};
 
+use crate::callables::Callables;
 use crate::declared::{note_seconds, predicates_declared};
-use bind_formulas::Known;
-use bind_networks::{Callables, seconds_of};
-use bind_types::TypeTable;
+use crate::seconds::seconds_of;
 use hddl_reader::RawDomain;
 use htn_base::Memory;
-use name_numbers::{Faults, Heads, Places};
+use name_binding::{Faults, Heads, Known, Places, TypeTable};
 use std::alloc::Global;
 
 /// The names that a domain declares, by which its schemas and its problems are bound. The objects are its constants.

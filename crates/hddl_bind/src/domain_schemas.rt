@@ -1,16 +1,14 @@
 ghost use Rattle.std.specs.Prelude.{◌≡◌, IfOk, OnOk};
-ghost use Rattle.name_numbers.specs.Spots.{noted};
+ghost use Rattle.name_binding.specs.Spots.{noted};
 ghost use Rattle.hddl_bind.specs.DomainSchemas as spec;
 
 use crate::actions::actions_of;
+use crate::callables::Callables;
 use crate::heads::{predicates_of, tasks_of};
 use crate::methods::methods_of;
-use bind_formulas::Known;
-use bind_networks::Callables;
-use bind_types::{TypeTable, objects_of};
 use hddl_reader::RawDomain;
 use htn_base::{List, Memory};
-use name_numbers::Faults;
+use name_binding::{Faults, Known, TypeTable, objects_of};
 use plan_model::{ActionSchema, MethodSchema, Object, Predicate, TaskSchema};
 use std::alloc::Global;
 

@@ -2,7 +2,7 @@ ghost use Rattle.std.specs.Prelude.{◌≡◌};
 ghost use Rattle.hddl_bind.specs.Judged.{judged_by};
 
 use htn_base::{Fault, Memory};
-use name_numbers::Faults;
+use name_binding::Faults;
 
 /// Why a text is not bound: its least fault of names, by offset and then by code, or want of memory.
 #[derive(Clone, Copy)]

@@ -1,11 +1,10 @@
 ghost use Rattle.std.specs.Prelude.{◌≡◌, IfOk, OnOk};
-ghost use Rattle.name_numbers.specs.Spots.{noted};
+ghost use Rattle.name_binding.specs.Spots.{noted};
 ghost use Rattle.hddl_bind.specs.Facts.{facts_bound, facts_faults};
 
-use bind_formulas::{Known, fact_of};
 use gd_reader::RawFacts;
 use htn_base::Memory;
-use name_numbers::Faults;
+use name_binding::{Faults, Known, fact_of};
 use plan_model::Facts;
 use std::alloc::Global;
 

@@ -1,11 +1,10 @@
 ghost use Rattle.std.specs.Prelude.{◌≡◌, IfOk, OnOk};
-ghost use Rattle.name_numbers.specs.Spots.{noted};
+ghost use Rattle.name_binding.specs.Spots.{noted};
 ghost use Rattle.hddl_bind.specs.Schemas.{predicates_bound, tasks_bound, heads_faults};
 
-use bind_types::{TypeTable, params_of};
 use hddl_reader::RawHead;
 use htn_base::{List, Memory};
-use name_numbers::Faults;
+use name_binding::{Faults, TypeTable, params_of};
 use plan_model::{Predicate, TaskSchema};
 use std::alloc::Global;
 

@@ -1,15 +1,15 @@
 ghost use Rattle.std.specs.Prelude.{◌≡◌, IfOk, OnOk};
-ghost use Rattle.name_numbers.specs.Spots.{noted};
+ghost use Rattle.name_binding.specs.Spots.{noted};
 ghost use Rattle.hddl_bind.specs.Actions.{scope_of};
 ghost use Rattle.hddl_bind.specs.Methods as spec;
 
 use crate::actions::enter_alone;
-use bind_formulas::{Known, formula_of};
-use bind_networks::{BoundNet, Callables, network_of, task_of_method};
-use bind_types::params_of;
+use crate::callables::Callables;
+use crate::calls::task_of_method;
+use crate::networks::{BoundNet, network_of};
 use hddl_reader::RawMethod;
 use htn_base::{List, Memory, Name};
-use name_numbers::{Faults, Places, Variables, terms_of};
+use name_binding::{Faults, Known, Places, Variables, formula_of, params_of, terms_of};
 use plan_model::{Formula, MethodSchema, Param, Term};
 use std::alloc::Global;
 

@@ -2,14 +2,13 @@ ghost use Rattle.std.specs.Prelude.{◌≡◌, IfOk, OnOk};
 ghost use Rattle.hddl_bind.specs.ProblemParts as spec;
 
 use crate::actions::enter_alone;
+use crate::callables::Callables;
 use crate::facts::facts_of;
 use crate::methods::{Front, joined};
-use bind_formulas::{Known, formula_of};
-use bind_networks::{Callables, network_of};
-use bind_types::{objects_of, params_of};
+use crate::networks::network_of;
 use hddl_reader::RawProblem;
 use htn_base::{List, Memory, Name};
-use name_numbers::{Faults, Places, Variables};
+use name_binding::{Faults, Known, Places, Variables, formula_of, objects_of, params_of};
 use plan_model::{Facts, Formula, MethodSchema, Object};
 use std::alloc::Global;
 

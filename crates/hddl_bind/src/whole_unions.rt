@@ -1,9 +1,9 @@
 ghost use Rattle.std.specs.Prelude.{◌≡◌, ◌++◌, IfOk, OnOk};
 ghost use Rattle.hddl_bind.specs.WholeUnions as spec;
 
-use bind_types::{Either, TypeTable, put_unions, put_unions_of_effect, put_unions_of_formula};
 use hddl_reader::{RawAction, RawDomain, RawHead, RawMethod, RawProblem};
 use htn_base::Memory;
+use name_binding::{Either, TypeTable, put_unions, put_unions_of_effect, put_unions_of_formula};
 use std::alloc::Global;
 
 /// The unions that a domain writes. A constant has one type.

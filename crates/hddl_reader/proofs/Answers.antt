@@ -15,8 +15,8 @@ use Rattle.gd_reader.specs.declared.words.Sort.TheVariants.{Variable, Name, Othe
 use Rattle.gd_reader.specs.Answers.{◌>>=◌}
 use Rattle.gd_reader.specs.Terms.{Names, raw_term}
 use Rattle.gd_reader.specs.Words.{sort_of}
-use Rattle.form_faults.specs.Said.{said}
-use Rattle.form_faults.proofs.TermsSaid.{at_next}
+use Rattle.hddl_reader.specs.Said.{said}
+use Rattle.hddl_reader.proofs.TermsSaid.{at_next}
 use Rattle.hddl_reader.specs.Networks.{declared, declared_by, undeclared}
 
 -- the same as said_then, where what comes next may use the first answer

@@ -12,8 +12,8 @@ use Rattle.gd_reader.specs.declared.stop.Stop.{Stop}
 use Rattle.gd_reader.specs.declared.stop.Stop.TheVariants.{Departs}
 use Rattle.gd_reader.specs.Answers.{◌>>=◌, word_due, list_due, end_due}
 use Rattle.gd_reader.specs.Terms.{Names}
-use Rattle.form_faults.specs.Said.{said}
-use Rattle.form_faults.proofs.TermsSaid.{said_then, said_map, at_next}
+use Rattle.hddl_reader.specs.Said.{said}
+use Rattle.hddl_reader.proofs.TermsSaid.{said_then, said_map, at_next}
 use Rattle.hddl_reader.specs.declared.sections.Definition.{Definition}
 use Rattle.hddl_reader.specs.declared.sections.Definition.TheVariants as definition
 use Rattle.hddl_reader.specs.declared.sections.Language.{Language}

@@ -9,3 +9,11 @@ pub mod SectionSteps
 pub mod FoldSteps
 pub mod PartSteps
 pub mod Refusals
+pub mod WordTests
+pub mod TermsSaid
+pub mod ListsSaid
+pub mod FormulasSaid
+pub mod EffectsSaid
+pub mod Calls
+pub mod names
+mod examples

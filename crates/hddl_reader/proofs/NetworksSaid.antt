@@ -14,8 +14,8 @@ use Rattle.gd_reader.specs.declared.stop.Stop.TheVariants.{Departs}
 use Rattle.gd_reader.specs.declared.term.RawTerm.{RawTerm}
 use Rattle.gd_reader.specs.Answers.{◌>>=◌, word_due, list_due, end_due}
 use Rattle.gd_reader.specs.Terms.{Names, terms, two_terms, applied, used}
-use Rattle.form_faults.specs.Said.{said}
-use Rattle.form_faults.proofs.TermsSaid.{said_then, said_map, at_next, end_said, terms_said, two_terms_said, applied_said, used_then}
+use Rattle.hddl_reader.specs.Said.{said}
+use Rattle.hddl_reader.proofs.TermsSaid.{said_then, said_map, at_next, end_said, terms_said, two_terms_said, applied_said, used_then}
 use Rattle.hddl_reader.specs.declared.networks.RawCon.{RawCon}
 use Rattle.hddl_reader.specs.Networks.{Headed, one_of, all_of, some_of, sub_headed, pair_headed, con_headed, con_of, behind_name, name_due, sign_due, then_due, equation, is_word}
 use Rattle.hddl_reader.proofs.Answers.{bound, by_row, row_form, declared_then}

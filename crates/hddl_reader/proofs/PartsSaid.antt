@@ -22,11 +22,11 @@ use Rattle.gd_reader.specs.Effects.{effect_inside}
 use Rattle.gd_reader.specs.Formulas.{inside}
 use Rattle.gd_reader.specs.Terms.{Names, applied}
 use Rattle.gd_reader.specs.TypedLists.{listed}
-use Rattle.form_faults.specs.Said.{said, kind_of}
-use Rattle.form_faults.proofs.TermsSaid.{said_map, at_next, end_said, applied_said}
-use Rattle.form_faults.proofs.FormulasSaid.{inside_said}
-use Rattle.form_faults.proofs.EffectsSaid.{formulas_in, terms_within, lists_within, effect_inside_said}
-use Rattle.form_faults.proofs.ListsSaid.{listed_said}
+use Rattle.hddl_reader.specs.Said.{said, kind_of}
+use Rattle.hddl_reader.proofs.TermsSaid.{said_map, at_next, end_said, applied_said}
+use Rattle.hddl_reader.proofs.FormulasSaid.{inside_said}
+use Rattle.hddl_reader.proofs.EffectsSaid.{formulas_in, terms_within, lists_within, effect_inside_said}
+use Rattle.hddl_reader.proofs.ListsSaid.{listed_said}
 use Rattle.hddl_reader.specs.declared.parts.Part.{Part}
 use Rattle.hddl_reader.specs.declared.parts.Part.TheVariants as part
 use Rattle.hddl_reader.specs.declared.parts.Parted.{Parted}

@@ -6,7 +6,7 @@ use Rattle.text_forms.specs.Placed.{parts_at}
 use Rattle.form_grammar.specs.Codes.{Whole}
 use Rattle.form_grammar.specs.Definitions.{definition_form}
 use Rattle.form_grammar.specs.Texts.{fault_or}
-use Rattle.form_faults.specs.Said.{said}
+use Rattle.hddl_reader.specs.Said.{said}
 use Rattle.gd_reader.specs.declared.stop.Failure.{Failure}
 use Rattle.gd_reader.specs.declared.stop.Failure.TheVariants as failures
 use Rattle.gd_reader.specs.declared.stop.Stop.{Stop}

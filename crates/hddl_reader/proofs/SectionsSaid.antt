@@ -24,8 +24,8 @@ use Rattle.gd_reader.specs.Terms.{Names}
 use Rattle.gd_reader.specs.Terms as read
 use Rattle.gd_reader.specs.TypedLists.{listed}
 use Rattle.gd_reader.specs.Words.{sort_of}
-use Rattle.form_faults.specs.Said.{said}
-use Rattle.form_faults.proofs.TermsSaid.{said_then, said_map, at_next, end_said, ends_said, passed_said, used_then}
+use Rattle.hddl_reader.specs.Said.{said}
+use Rattle.hddl_reader.proofs.TermsSaid.{said_then, said_map, at_next, end_said, ends_said, passed_said, used_then}
 use Rattle.gd_reader.proofs.Sorts.{name_test}
 use Rattle.hddl_reader.specs.declared.parts.Parted.{Parted}
 use Rattle.hddl_reader.specs.declared.parts.Parted.TheVariants as parted

@@ -10,8 +10,8 @@ use Rattle.gd_reader.specs.declared.stop.Stop.{Stop}
 use Rattle.gd_reader.specs.declared.stop.Stop.TheVariants.{Departs}
 use Rattle.gd_reader.specs.Answers.{◌>>=◌}
 use Rattle.std.specs.Prelude.{Result, Ok, Err}
-use Rattle.form_faults.specs.Said.{said}
-use Rattle.form_faults.proofs.TermsSaid.{at_next}
+use Rattle.hddl_reader.specs.Said.{said}
+use Rattle.hddl_reader.proofs.TermsSaid.{at_next}
 use Rattle.hddl_reader.specs.Parts.{keyword_by}
 
 -- the table with other values

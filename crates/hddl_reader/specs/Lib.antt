@@ -3,3 +3,7 @@ pub mod Networks
 pub mod Parts
 pub mod Sections
 pub mod Definitions
+pub mod Said
+pub mod Calls
+pub mod SameForms
+pub mod names

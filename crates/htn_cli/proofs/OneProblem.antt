@@ -26,7 +26,7 @@ use Rattle.htn_cli.specs.Faults.{name_of, HaveLeastFault}
 use Rattle.htn_cli.specs.Inputs.{HaveFault, HaveProblem}
 use Rattle.htn_cli.specs.OneAnswer.{AreTold}
 use Rattle.htn_cli.specs.declared.faults.Place.{Place}
-use Rattle.one_fault.proofs.OneFault.{have_one_fault}
+use Rattle.text_values.proofs.OneFault.{have_one_fault}
 use Rattle.htn_cli.proofs.OneInput.{one_text, AreInputs}
 use Rattle.htn_cli.proofs.OneStage.{AreOnePlace}
 use Rattle.htn_cli.proofs.SameCycles.{words_same}

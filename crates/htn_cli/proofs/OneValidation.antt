@@ -22,7 +22,7 @@ use Rattle.htn_cli.specs.Refusal.{cause_word}
 use Rattle.htn_cli.specs.Validation.{most_steps, IsLeastOfThree, of_problem, of_plan, HaveFaultAt, Spell, validation_inputs, HaveTexts}
 use Rattle.htn_cli.specs.declared.faults.Place.{Place}
 use Rattle.htn_cli.specs.declared.refusal.Refusal.TheVariants as refused
-use Rattle.one_fault.proofs.OneFault.{have_one_fault, has_one_plan_fault}
+use Rattle.text_values.proofs.OneFault.{have_one_fault, has_one_plan_fault}
 use Rattle.htn_cli.proofs.OneInput.{one_text, AreInputs}
 use Rattle.htn_cli.proofs.OneStage.{AreOnePlace, AreLawful, Stage, large, faulty, limited, meant, one_of_stage}
 use Rattle.htn_cli.proofs.Validations.{sound_apart}

@@ -8,7 +8,7 @@ use Rattle.hddl_reader.specs.declared.sections.Language.{Language}
 use Rattle.hddl_reader.specs.declared.sections.RawDomain.{RawDomain}
 use Rattle.form_spellings.specs.InOrder.{IsDomainInOrder}
 use Rattle.form_spellings.proofs.order.Whole.{domains_in_order}
-use Rattle.bind_types.specs.Cycle.{IsSection}
+use Rattle.name_binding.specs.Cycle.{IsSection}
 use Rattle.hddl_bind.specs.declared.bound_domain.BoundDomain.{BoundDomain}
 use Rattle.hddl_bind.specs.declared.errors.BindError.{BindError}
 use Rattle.hddl_bind.specs.declared.errors.BindError.TheVariants.{Bad, Memory}

@@ -5,3 +5,17 @@ mod HddlTexts
 pub mod Spelled
 mod PddlTexts
 mod PddlExactly
+mod Alike
+mod Pairs
+mod TermPairs
+mod ListPairs
+mod FormulaPairs
+mod EffectPairs
+mod NetworkPairs
+mod PartPairs
+mod SectionPairs
+mod DefinitionPairs
+mod Lists
+mod Uses
+mod NameFaults
+pub mod OneFault

@@ -9,7 +9,7 @@ use Rattle.plan_texts.proofs.PrintedSpells.{printed_spells}
 use Rattle.plan_texts.proofs.SoundProblems.{each-more}
 use Rattle.plan_texts.proofs.UniquePddl.{spelled_alike}
 use Rattle.form_spellings.specs.SoundPddl.{IsSoundPddl}
-use Rattle.fault_laws.specs.Faultless.{SpelledPddlIsFaultless}
+use Rattle.form_spellings.specs.Faultless.{SpelledPddlIsFaultless}
 use Rattle.text_values.proofs.Spelled.{accepted}
 use Rattle.text_values.specs.PddlExactly.{SpelledPddlHasNoFault, PrintedTextsAreReadAgain}
 

@@ -15,7 +15,7 @@ use Rattle.hddl_reader.specs.declared.sections.RawProblem.{RawProblem}
 use Rattle.form_spellings.specs.ReadTexts.{AreRead}
 use Rattle.form_spellings.proofs.order.Whole.{domains_in_order, problems_in_order}
 use Rattle.plan_model.specs.declared.values.Hddl.{Hddl as Value}
-use Rattle.name_numbers.specs.Spots.{spot, noted}
+use Rattle.name_binding.specs.Spots.{spot, noted}
 use Rattle.hddl_bind.specs.declared.bound_domain.BoundDomain.{BoundDomain}
 use Rattle.hddl_bind.specs.declared.errors.BindError.{BindError}
 use Rattle.hddl_bind.specs.declared.errors.BindError.TheVariants.{Bad, Memory}

@@ -5,3 +5,4 @@ pub mod Exactly
 pub mod FaultWords
 pub mod PddlValues
 pub mod PddlExactly
+pub mod OneFault

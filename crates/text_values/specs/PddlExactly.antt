@@ -8,8 +8,8 @@ use Rattle.plan_texts.specs.PrintableValue.{IsPrintable}
 use Rattle.plan_texts.specs.PrintedTexts.{domain_text, problem_text}
 use Rattle.plan_texts.specs.SpellsPddl.{SpellsPddl}
 use Rattle.form_spellings.specs.SoundPddl.{IsSoundPddl}
-use Rattle.fault_laws.specs.Depth.{IsShallow}
-use Rattle.fault_laws.specs.Faultless.{HasFewTypes}
+use Rattle.form_spellings.specs.Depth.{IsShallow}
+use Rattle.form_spellings.specs.Faultless.{HasFewTypes}
 use Rattle.text_values.specs.Exactly.{AreAccepted}
 
 -- Whatever value they spell, in whatever order: where it is sound, it has at most 1,002 types beside object, and no list stands too

@@ -12,7 +12,7 @@ use Rattle.hddl_reader.specs.declared.sections.Language.{Language}
 use Rattle.hddl_reader.specs.declared.sections.RawDomain.{RawDomain}
 use Rattle.hddl_reader.specs.declared.sections.RawProblem.{RawProblem}
 use Rattle.hddl_reader.specs.Definitions.{language_of, IsDomainRead, IsProblemRead}
-use Rattle.name_faults.specs.Faults.{HasDomainFault, HasProblemFault, HasNoFault, IsLeast}
+use Rattle.hddl_reader.specs.names.Faults.{HasDomainFault, HasProblemFault, HasNoFault, IsLeast}
 
 -- The text is read as this domain, with the words of a table.
 pub record IsDomainOf (l : Language) (text : List ℕ) (table : Names) (d : RawDomain) : Type 0 where

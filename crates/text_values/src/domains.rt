@@ -1,7 +1,7 @@
 ghost use Rattle.std.specs.Prelude.{◌≤◌, ◌≡◌, ◌+◌, [], length, IfOk, IfErr, OnOk};
 ghost use Rattle.htn_base.specs.Different.{AreDifferent};
 ghost use Rattle.gd_reader.specs.Terms.{Keeps};
-ghost use Rattle.bind_types.specs.Cycle.{IsSection};
+ghost use Rattle.name_binding.specs.Cycle.{IsSection};
 ghost use Rattle.hddl_bind.specs.WholeDomains.{IsDomainBound};
 ghost use Rattle.text_values.specs.Reading.{IsBoundText, RefusesDomain, RefusesNames, read_error};
 

@@ -32,17 +32,17 @@ use Rattle.form_spellings.specs.Written as written
 use Rattle.form_spellings.proofs.seen.Bound.{bound_is_of_texts}
 use Rattle.form_spellings.proofs.seen.Mapped.{unions_mapped}
 use Rattle.form_spellings.proofs.seen.TypeLists.{mapped_rise}
-use Rattle.name_faults.specs.Faults.{HasDomainFault, HasProblemFault, HasNoFault}
-use Rattle.name_faults.specs.Lists.{Has}
-use Rattle.name_faults.specs.Standing.{InDomain, InProblem}
-use Rattle.name_faults.specs.Uses.{Scope, declares}
-use Rattle.name_faults.specs.Words.{term_word}
-use Rattle.name_numbers.specs.Places as numbers
-use Rattle.bind_types.specs.Kinds.{Kinds, kind_faults}
-use Rattle.bind_types.specs.Mentions.{mentioned, own_word}
-use Rattle.bind_types.specs.Parents.{place_of}
-use Rattle.bind_types.specs.Unions.{members_of, AreWith}
-use Rattle.bind_types.specs.declared.unions.Either.{Either}
+use Rattle.hddl_reader.specs.names.Faults.{HasDomainFault, HasProblemFault, HasNoFault}
+use Rattle.hddl_reader.specs.names.Lists.{Has}
+use Rattle.hddl_reader.specs.names.Standing.{InDomain, InProblem}
+use Rattle.hddl_reader.specs.names.Uses.{Scope, declares}
+use Rattle.hddl_reader.specs.names.Words.{term_word}
+use Rattle.name_binding.specs.Places as numbers
+use Rattle.name_binding.specs.Kinds.{Kinds, kind_faults}
+use Rattle.name_binding.specs.Mentions.{mentioned, own_word}
+use Rattle.name_binding.specs.Parents.{place_of}
+use Rattle.name_binding.specs.Unions.{members_of, AreWith}
+use Rattle.name_binding.specs.declared.unions.Either.{Either}
 use Rattle.hddl_bind.specs.WholeDomains.{DomainBinding, IsObject, bound_by, faults_by}
 use Rattle.hddl_bind.specs.WholeProblems.{ProblemBinding, with_start, hddl_bound}
 use Rattle.hddl_bind.specs.WholeProblems as problem

@@ -16,9 +16,9 @@ use Rattle.plan_texts.specs.Types.{EachIs, TypeItem}
 use Rattle.plan_texts.proofs.Unique.{map-map}
 use Rattle.form_spellings.specs.Written.{item_written, parent_written}
 use Rattle.form_spellings.proofs.seen.Mapped.{kept_mapped}
-use Rattle.name_faults.specs.Words.{term_word, param_word}
-use Rattle.bind_types.specs.Parents.{parent, pairs_with, pairs_for, place_of, parents_behind, parents_written, pairs_below, pairs_in_order}
-use Rattle.bind_types.specs.Seen as numbers
+use Rattle.hddl_reader.specs.names.Words.{term_word, param_word}
+use Rattle.name_binding.specs.Parents.{parent, pairs_with, pairs_for, place_of, parents_behind, parents_written, pairs_below, pairs_in_order}
+use Rattle.name_binding.specs.Seen as numbers
 use Rattle.binding_laws.proofs.Places.{same_word}
 use Rattle.binding_laws.proofs.TypePairs.{own_place, for_one}
 

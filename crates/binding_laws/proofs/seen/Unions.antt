@@ -22,15 +22,15 @@ use Rattle.plan_texts.specs.TypedLists.{first_seen}
 use Rattle.plan_texts.specs.Types.{EachIs}
 use Rattle.form_spellings.specs.Written.{Union, types_unions}
 use Rattle.form_spellings.specs.Written as words
-use Rattle.name_faults.specs.Lists.{One}
-use Rattle.name_faults.specs.Standing.{InAction, InMethod, InDomain, InProblem}
-use Rattle.name_faults.specs.Uses.{Scope, declares, IsDeclared, variables, formula_step, InFormula, effect_step, InEffect}
-use Rattle.name_faults.specs.Words.{term_word}
-use Rattle.name_faults.proofs.Rolls.{formula_roll, effect_roll}
-use Rattle.bind_types.specs.Kinds.{Kinds, type_number, type_faults, members_written, kind_faults}
-use Rattle.bind_types.specs.Unions.{union_at, unions_said, unions_behind, params_unions, joined, formula_unions, effect_unions}
-use Rattle.bind_types.specs.Unions as unions
-use Rattle.bind_types.specs.declared.unions.Either.{Either}
+use Rattle.hddl_reader.specs.names.Lists.{One}
+use Rattle.hddl_reader.specs.names.Standing.{InAction, InMethod, InDomain, InProblem}
+use Rattle.hddl_reader.specs.names.Uses.{Scope, declares, IsDeclared, variables, formula_step, InFormula, effect_step, InEffect}
+use Rattle.hddl_reader.specs.names.Words.{term_word}
+use Rattle.hddl_reader.proofs.names.Rolls.{formula_roll, effect_roll}
+use Rattle.name_binding.specs.Kinds.{Kinds, type_number, type_faults, members_written, kind_faults}
+use Rattle.name_binding.specs.Unions.{union_at, unions_said, unions_behind, params_unions, joined, formula_unions, effect_unions}
+use Rattle.name_binding.specs.Unions as unions
+use Rattle.name_binding.specs.declared.unions.Either.{Either}
 use Rattle.hddl_bind.specs.WholeUnions.{head_unions, heads_unions, action_unions, actions_unions, method_unions, methods_unions, domain_unions, problem_unions}
 use Rattle.binding_laws.specs.Kinds.{AreTypesOf, AreTermsIn}
 use Rattle.binding_laws.specs.Numbers.{words_of, AreKnown}

@@ -11,10 +11,10 @@ use Rattle.net_order.proofs.Chains.{chain_map, acyclic_push}
 use Rattle.hddl_reader.specs.declared.networks.RawNet.{RawNet}
 use Rattle.hddl_reader.specs.declared.networks.RawPair.{RawPair}
 use Rattle.hddl_reader.specs.declared.networks.RawSub.{RawSub}
-use Rattle.name_faults.specs.Networks.{most_subtasks}
-use Rattle.bind_networks.specs.Cycle.{ClosesOrder, CyclicOrder, IsCycle, cycle_faults, limit_at, limit_faults}
-use Rattle.bind_networks.specs.Pairs.{first_of, second_of, written, pairs_bound}
-use Rattle.bind_networks.proofs.Closing.{IsKnown, places, known_or_none, written_is, all_in_ordered, chained_step}
+use Rattle.hddl_reader.specs.names.Networks.{most_subtasks}
+use Rattle.hddl_bind.specs.Cycle.{ClosesOrder, CyclicOrder, IsCycle, cycle_faults, limit_at, limit_faults}
+use Rattle.hddl_bind.specs.Pairs.{first_of, second_of, written, pairs_bound}
+use Rattle.hddl_bind.proofs.Closing.{IsKnown, places, known_or_none, written_is, all_in_ordered, chained_step}
 use Rattle.binding_laws.proofs.NoTypeCycle.{none_is_first}
 
 -- no place of a cycle, where its faults are none

@@ -16,15 +16,15 @@ use Rattle.plan_model.specs.declared.values.Hddl.{Hddl}
 use Rattle.plan_texts.specs.SoundValue.{IsSoundHead}
 use Rattle.plan_texts.specs.Together.{Together}
 use Rattle.plan_texts.specs.Types.{EachIs}
-use Rattle.name_numbers.specs.Terms.{term_bound, terms_bound, terms_faults}
-use Rattle.bind_types.specs.Typed.{param_bound, params_faults}
-use Rattle.bind_formulas.specs.declared.known.Known.{Known}
-use Rattle.bind_formulas.specs.Formulas.{formula_faults}
-use Rattle.bind_networks.specs.declared.callables.Callable.{Callable}
-use Rattle.bind_networks.specs.Callables.{Declared, declared, heads, stands_for}
-use Rattle.bind_networks.specs.Calls.{called, method_task, if_task, only_task, task_number, head_called, call_faults}
-use Rattle.bind_networks.specs.Cycle.{order_faults}
-use Rattle.bind_networks.specs.Networks.{child_bound, child_faults, constraint_faults, network_faults}
+use Rattle.name_binding.specs.Terms.{term_bound, terms_bound, terms_faults}
+use Rattle.name_binding.specs.Typed.{param_bound, params_faults}
+use Rattle.name_binding.specs.declared.known.Known.{Known}
+use Rattle.name_binding.specs.Formulas.{formula_faults}
+use Rattle.hddl_bind.specs.declared.callables.Callable.{Callable}
+use Rattle.hddl_bind.specs.Callables.{Declared, declared, heads, stands_for}
+use Rattle.hddl_bind.specs.Calls.{called, method_task, if_task, only_task, task_number, head_called, call_faults}
+use Rattle.hddl_bind.specs.Cycle.{order_faults}
+use Rattle.hddl_bind.specs.Networks.{child_bound, child_faults, constraint_faults, network_faults}
 use Rattle.hddl_bind.specs.Actions.{scope_of, action_bound, actions_bound}
 use Rattle.hddl_bind.specs.Methods.{IsCycleOf, front_faults, method_bound, methods_bound, method_faults, methods_faults}
 use Rattle.hddl_bind.specs.Schemas.{task_bound, tasks_bound}

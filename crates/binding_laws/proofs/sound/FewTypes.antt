@@ -7,11 +7,11 @@ use Rattle.std.proofs.lemmas.Option.{slice_get_cases}
 use Rattle.gd_reader.specs.declared.term.RawTerm.{RawTerm}
 use Rattle.gd_reader.specs.declared.typed_lists.RawParam.{RawParam}
 use Rattle.form_spellings.specs.Rising as read
-use Rattle.bind_types.specs.Mentions.{own_word, mentioned, numbers_of, AreInTextOrder}
-use Rattle.bind_types.specs.Seen.{is_among, first_seen}
-use Rattle.bind_types.specs.TooMany.{HaveOneWordAPlace, IsOneTooMany}
-use Rattle.bind_types.proofs.SeenLemmas.{first_seen-push}
-use Rattle.bind_types.proofs.TooManyLemmas.{among-first_seen, one_too_many}
+use Rattle.name_binding.specs.Mentions.{own_word, mentioned, numbers_of, AreInTextOrder}
+use Rattle.name_binding.specs.Seen.{is_among, first_seen}
+use Rattle.name_binding.specs.TooMany.{HaveOneWordAPlace, IsOneTooMany}
+use Rattle.name_binding.proofs.SeenLemmas.{first_seen-push}
+use Rattle.name_binding.proofs.TooManyLemmas.{among-first_seen, one_too_many}
 
 pub same_mentioned : (xs : List RawParam) → read.mentioned xs ≡ mentioned xs
 same_mentioned [] = refl

@@ -14,12 +14,12 @@ use Rattle.plan_texts.specs.Together.{Together}
 use Rattle.plan_texts.specs.Types.{EachIs}
 use Rattle.form_spellings.specs.EachPart.{OfMethod}
 use Rattle.form_spellings.specs.InTable.{IsNameIn}
-use Rattle.bind_formulas.specs.declared.known.Known.{Known}
-use Rattle.bind_networks.specs.Callables.{Declared}
-use Rattle.bind_networks.specs.Cycle.{IsCycle, cycle_faults, limit_faults, order_faults}
-use Rattle.bind_networks.specs.Ids.{second_ids}
-use Rattle.bind_networks.specs.Networks.{child_bound, child_faults, constraint_faults, network_bound, network_faults}
-use Rattle.bind_networks.specs.Pairs.{pair_faults}
+use Rattle.name_binding.specs.declared.known.Known.{Known}
+use Rattle.hddl_bind.specs.Callables.{Declared}
+use Rattle.hddl_bind.specs.Cycle.{IsCycle, cycle_faults, limit_faults, order_faults}
+use Rattle.hddl_bind.specs.Ids.{second_ids}
+use Rattle.hddl_bind.specs.Networks.{child_bound, child_faults, constraint_faults, network_bound, network_faults}
+use Rattle.hddl_bind.specs.Pairs.{pair_faults}
 use Rattle.hddl_bind.specs.Actions.{scope_of}
 use Rattle.hddl_bind.specs.Methods.{IsCycleOf, front_faults, method_bound, methods_bound, method_faults, methods_faults}
 use Rattle.binding_laws.specs.InOrder.{Anywhere, IsNetworkInOrder, IsMethodInOrder}

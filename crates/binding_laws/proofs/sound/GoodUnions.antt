@@ -20,11 +20,11 @@ use Rattle.hddl_reader.specs.declared.sections.RawHead.{RawHead}
 use Rattle.hddl_reader.specs.declared.sections.RawMethod.{RawMethod}
 use Rattle.hddl_reader.specs.declared.sections.RawProblem.{RawProblem}
 use Rattle.plan_texts.specs.Types.{EachIs}
-use Rattle.name_numbers.specs.Places.{first_place}
-use Rattle.name_numbers.proofs.Found.{first_within}
-use Rattle.bind_types.specs.Kinds.{Kinds, type_number, members_written}
-use Rattle.bind_types.specs.Unions.{union_at, joined, unions_said, unions_behind, params_unions, formula_step, formula_unions, effect_step, effect_unions, members_of, AreWith}
-use Rattle.bind_types.specs.declared.unions.Either.{Either}
+use Rattle.name_binding.specs.Places.{first_place}
+use Rattle.name_binding.proofs.Found.{first_within}
+use Rattle.name_binding.specs.Kinds.{Kinds, type_number, members_written}
+use Rattle.name_binding.specs.Unions.{union_at, joined, unions_said, unions_behind, params_unions, formula_step, formula_unions, effect_step, effect_unions, members_of, AreWith}
+use Rattle.name_binding.specs.declared.unions.Either.{Either}
 use Rattle.hddl_bind.specs.WholeUnions.{head_unions, action_unions, method_unions, heads_unions, actions_unions, methods_unions, domain_unions, problem_unions}
 use Rattle.binding_laws.proofs.Mentioned.{seen_there, seen_differ}
 use Rattle.binding_laws.proofs.Numbered.{contains_has, has_contains, has_of_map}

@@ -28,15 +28,15 @@ use Rattle.form_spellings.specs.EachName.{OfParam, OfParams, OfAtom}
 use Rattle.form_spellings.specs.EachPart.{OfHead, OfMethod, OfAction}
 use Rattle.form_spellings.specs.Places.{IsNameAt, OpensWith, as_written}
 use Rattle.form_spellings.specs.Rising.{Rise, param_offsets, head_offsets}
-use Rattle.name_faults.specs.Faults.{HasDomainFault}
-use Rattle.name_faults.specs.Types.{most_types}
-use Rattle.bind_types.specs.Kinds.{Kinds}
-use Rattle.bind_types.specs.Listed.{name_of}
-use Rattle.bind_types.specs.TooMany.{HaveOneWordAPlace}
-use Rattle.bind_types.specs.Typed.{params_bound, param_bound, object_bound, objects_bound}
-use Rattle.bind_formulas.specs.declared.known.Known.{Known}
-use Rattle.bind_formulas.specs.Facts.{fact_bound}
-use Rattle.bind_networks.specs.Callables.{Declared}
+use Rattle.hddl_reader.specs.names.Faults.{HasDomainFault}
+use Rattle.hddl_reader.specs.names.Types.{most_types}
+use Rattle.name_binding.specs.Kinds.{Kinds}
+use Rattle.name_binding.specs.Listed.{name_of}
+use Rattle.name_binding.specs.TooMany.{HaveOneWordAPlace}
+use Rattle.name_binding.specs.Typed.{params_bound, param_bound, object_bound, objects_bound}
+use Rattle.name_binding.specs.declared.known.Known.{Known}
+use Rattle.name_binding.specs.Facts.{fact_bound}
+use Rattle.hddl_bind.specs.Callables.{Declared}
 use Rattle.hddl_bind.specs.Actions.{action_bound, actions_bound}
 use Rattle.hddl_bind.specs.Methods.{method_bound, methods_bound}
 use Rattle.hddl_bind.specs.Schemas.{predicate_bound, predicates_bound, task_bound, tasks_bound}

@@ -10,11 +10,11 @@ use Rattle.plan_model.specs.declared.values.Hddl.{Hddl}
 use Rattle.plan_texts.specs.SoundProblem.{NamesSubtasks, all_methods}
 use Rattle.plan_texts.specs.Types.{EachIs}
 use Rattle.plan_texts.proofs.SoundProblems.{each-contains}
-use Rattle.bind_formulas.specs.declared.known.Known.{Known}
-use Rattle.bind_networks.specs.Callables.{Declared}
-use Rattle.bind_formulas.specs.Formulas.{formula_faults}
-use Rattle.bind_types.specs.Typed.{params_faults}
-use Rattle.bind_networks.specs.Networks.{network_faults}
+use Rattle.name_binding.specs.declared.known.Known.{Known}
+use Rattle.hddl_bind.specs.Callables.{Declared}
+use Rattle.name_binding.specs.Formulas.{formula_faults}
+use Rattle.name_binding.specs.Typed.{params_faults}
+use Rattle.hddl_bind.specs.Networks.{network_faults}
 use Rattle.hddl_bind.specs.Actions.{actions_faults}
 use Rattle.hddl_bind.specs.DeclaredNames.{objects_declared, second_objects}
 use Rattle.hddl_bind.specs.DomainSchemas.{typed_faults}

@@ -14,12 +14,12 @@ use Rattle.hddl_reader.specs.declared.sections.RawProblem.{RawProblem}
 use Rattle.plan_texts.specs.Printable.{IsPlain}
 use Rattle.plan_texts.specs.Types.{EachIs}
 use Rattle.form_spellings.specs.Rising.{head_offsets, param_offsets, method_offsets}
-use Rattle.name_faults.specs.Faults.{DuplicateInDomain, DuplicateInProblem, HasDomainFault, HasProblemFault, HasNoFault}
-use Rattle.name_faults.specs.Lists.{One, Has}
-use Rattle.name_faults.specs.Types.{IsType}
-use Rattle.name_faults.specs.Types as words
-use Rattle.name_faults.specs.Words.{WordAt, term_word, param_word, param_at, head_at, term_at, IsSecond}
-use Rattle.bind_networks.specs.Callables.{heads}
+use Rattle.hddl_reader.specs.names.Faults.{DuplicateInDomain, DuplicateInProblem, HasDomainFault, HasProblemFault, HasNoFault}
+use Rattle.hddl_reader.specs.names.Lists.{One, Has}
+use Rattle.hddl_reader.specs.names.Types.{IsType}
+use Rattle.hddl_reader.specs.names.Types as words
+use Rattle.hddl_reader.specs.names.Words.{WordAt, term_word, param_word, param_at, head_at, term_at, IsSecond}
+use Rattle.hddl_bind.specs.Callables.{heads}
 use Rattle.binding_laws.specs.InOrder.{IsTypedName, IsPlainName, IsPredicateInOrder, IsHeadInOrder, IsMethodInOrder, IsActionInOrder, IsDomainInOrder, IsProblemInOrder}
 use Rattle.binding_laws.proofs.NoSeconds.{words_differ, rising_differ, new, at_of, word_of}
 use Rattle.binding_laws.proofs.Numbered.{contains_has, has_contains, has_of_map}

@@ -7,7 +7,7 @@ use Rattle.plan_texts.specs.Types.{EachIs}
 use Rattle.form_spellings.specs.Places.{IsWordAt}
 use Rattle.form_spellings.specs.Rising.{Rise}
 use Rattle.form_spellings.proofs.order.Spans.{AreRising, place, text_rises}
-use Rattle.name_faults.specs.Lists.{Has}
+use Rattle.hddl_reader.specs.names.Lists.{Has}
 use Rattle.binding_laws.proofs.Numbered.{contains_has}
 use Rattle.binding_laws.proofs.Ones.{each_mapped}
 

@@ -17,11 +17,11 @@ use Rattle.plan_model.specs.declared.types.Parent.{Parent}
 use Rattle.plan_texts.specs.Types as plan
 use Rattle.plan_texts.specs.Types.{EachIs}
 use Rattle.plan_texts.proofs.Members.{contains-has}
-use Rattle.name_faults.specs.Lists.{Has}
-use Rattle.name_faults.specs.Types.{IsParent, Leads, TypeCycle}
-use Rattle.name_faults.specs.Types as words
-use Rattle.name_faults.specs.Words.{term_word, param_word}
-use Rattle.bind_types.specs.Parents.{parent, place_of, parents_written, pairs_in_order}
+use Rattle.hddl_reader.specs.names.Lists.{Has}
+use Rattle.hddl_reader.specs.names.Types.{IsParent, Leads, TypeCycle}
+use Rattle.hddl_reader.specs.names.Types as words
+use Rattle.hddl_reader.specs.names.Words.{term_word, param_word}
+use Rattle.name_binding.specs.Parents.{parent, place_of, parents_written, pairs_in_order}
 use Rattle.binding_laws.specs.InOrder.{IsTypedName}
 use Rattle.binding_laws.proofs.BoundTypes.{plan_has, has_plan}
 use Rattle.binding_laws.proofs.Lists.{append_there, flat_back}

@@ -26,18 +26,18 @@ use Rattle.plan_texts.specs.SpellsHddl.{hddl_types, hddl_words, task_words, acti
 use Rattle.plan_texts.specs.Types as plan
 use Rattle.plan_texts.specs.Types.{EachIs}
 use Rattle.plan_texts.proofs.Members.{has-at}
-use Rattle.name_faults.specs.Lists.{Has}
-use Rattle.name_faults.specs.Types.{TypeCycle}
-use Rattle.name_faults.specs.Faults.{HasDomainFault, HasProblemFault, HasNoFault, constants, objects}
-use Rattle.name_faults.specs.Words.{term_word, param_word}
-use Rattle.name_numbers.specs.declared.heads.Head.{Head}
-use Rattle.bind_types.specs.Kinds.{Kinds, kind_bound}
-use Rattle.bind_types.specs.Listed.{name_of}
-use Rattle.bind_types.specs.Typed.{object_bound, objects_bound, param_bound}
-use Rattle.bind_formulas.specs.declared.known.Known.{Known}
-use Rattle.bind_networks.specs.Callables.{Declared, heads}
-use Rattle.bind_networks.specs.Cycle.{order_faults}
-use Rattle.bind_networks.specs.Networks.{child_faults, constraint_faults}
+use Rattle.hddl_reader.specs.names.Lists.{Has}
+use Rattle.hddl_reader.specs.names.Types.{TypeCycle}
+use Rattle.hddl_reader.specs.names.Faults.{HasDomainFault, HasProblemFault, HasNoFault, constants, objects}
+use Rattle.hddl_reader.specs.names.Words.{term_word, param_word}
+use Rattle.name_binding.specs.declared.heads.Head.{Head}
+use Rattle.name_binding.specs.Kinds.{Kinds, kind_bound}
+use Rattle.name_binding.specs.Listed.{name_of}
+use Rattle.name_binding.specs.Typed.{object_bound, objects_bound, param_bound}
+use Rattle.name_binding.specs.declared.known.Known.{Known}
+use Rattle.hddl_bind.specs.Callables.{Declared, heads}
+use Rattle.hddl_bind.specs.Cycle.{order_faults}
+use Rattle.hddl_bind.specs.Networks.{child_faults, constraint_faults}
 use Rattle.hddl_bind.specs.DeclaredNames.{heads_declared}
 use Rattle.hddl_bind.specs.DomainSchemas.{schemas_bound}
 use Rattle.hddl_bind.specs.Methods.{methods_bound}
@@ -63,7 +63,7 @@ use Rattle.binding_laws.proofs.Written.{none_left, none_right}
 use Rattle.binding_laws.proofs.sound.CalledHeads.{CallsSound, children_sound, methods_calls}
 use Rattle.binding_laws.proofs.sound.GoodUnions.{IsGood, or_first, table_good, domain_good, problem_good}
 use Rattle.binding_laws.proofs.TypePairs.{own_place}
-use Rattle.bind_types.specs.Parents.{place_of}
+use Rattle.name_binding.specs.Parents.{place_of}
 use Rattle.plan_model.specs.declared.types.Parent.{Parent}
 use Rattle.plan_model.specs.declared.networks.Head.TheVariants.{Task}
 use Rattle.binding_laws.proofs.sound.Ordered.{parts_none, top_none, methods_none, all_good}

@@ -4,8 +4,8 @@ use Rattle.gd_reader.specs.declared.term.RawAtom.{RawAtom}
 use Rattle.gd_reader.specs.declared.term.RawTerm.{RawTerm}
 use Rattle.gd_reader.specs.declared.typed_lists.RawParam.{RawParam}
 use Rattle.hddl_reader.specs.declared.sections.RawHead.{RawHead}
-use Rattle.name_numbers.specs.Spots.{spot}
-use Rattle.bind_formulas.specs.declared.known.Known.{Known}
+use Rattle.name_binding.specs.Spots.{spot}
+use Rattle.name_binding.specs.declared.known.Known.{Known}
 use Rattle.hddl_bind.specs.Schemas.{heads_faults}
 use Rattle.hddl_bind.specs.DeclaredNames.{second_heads, second_objects}
 use Rattle.hddl_bind.specs.Facts.{facts_bound, facts_faults}

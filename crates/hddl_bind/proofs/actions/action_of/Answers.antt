@@ -1,10 +1,10 @@
 use Rattle.std.proofs.Common.{ap, ◌∙◌}
-use Rattle.name_numbers.specs.Entered.{variables_of}
-use Rattle.name_numbers.specs.Spots.{noted}
-use Rattle.bind_types.specs.Typed.{params_faults}
-use Rattle.bind_formulas.specs.Formulas.{formula_faults}
-use Rattle.bind_formulas.specs.Effects.{effect_faults}
-use Rattle.bind_networks.proofs.Steps.{noted_three}
+use Rattle.name_binding.specs.Entered.{variables_of}
+use Rattle.name_binding.specs.Spots.{noted}
+use Rattle.name_binding.specs.Typed.{params_faults}
+use Rattle.name_binding.specs.Formulas.{formula_faults}
+use Rattle.name_binding.specs.Effects.{effect_faults}
+use Rattle.hddl_bind.proofs.Steps.{noted_three}
 use Rattle.hddl_bind.specs.Actions.{scope_of}
 use Rattle.hddl_bind.proofs.actions.action_of.Goals as goal
 

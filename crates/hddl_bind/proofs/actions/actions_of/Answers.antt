@@ -1,4 +1,4 @@
-use Rattle.bind_networks.proofs.Steps.{noted_step, map_step, put_is, if_put}
+use Rattle.hddl_bind.proofs.Steps.{noted_step, map_step, put_is, if_put}
 use Rattle.hddl_bind.specs.Actions.{action_bound, action_faults}
 use Rattle.hddl_bind.proofs.actions.actions_of.Goals as goal
 

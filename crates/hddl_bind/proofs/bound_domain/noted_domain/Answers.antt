@@ -1,6 +1,6 @@
 use Rattle.std.proofs.Common.{◌≡◌}
-use Rattle.bind_types.specs.Listed.{types_bound}
-use Rattle.bind_types.specs.Parents.{pairs_in_order}
+use Rattle.name_binding.specs.Listed.{types_bound}
+use Rattle.name_binding.specs.Parents.{pairs_in_order}
 use Rattle.hddl_bind.specs.DomainSchemas.{schemas_bound}
 use Rattle.hddl_bind.proofs.WholeTexts.{domain_noted}
 use Rattle.hddl_bind.proofs.bound_domain.noted_domain.Goals as goal

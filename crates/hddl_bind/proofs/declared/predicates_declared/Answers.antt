@@ -1,6 +1,6 @@
 use Rattle.std.proofs.Common.{ℕ, [], ◌∷◌, ◌++◌, ap, ◌∙◌}
-use Rattle.name_numbers.specs.declared.heads.Head.{Head}
-use Rattle.bind_networks.proofs.Steps.{map_step}
+use Rattle.name_binding.specs.declared.heads.Head.{Head}
+use Rattle.hddl_bind.proofs.Steps.{map_step}
 use Rattle.hddl_bind.specs.DeclaredNames.{head_declared}
 use Rattle.hddl_bind.proofs.declared.predicates_declared.Goals as goal
 

@@ -1,7 +1,7 @@
 use Rattle.std.proofs.Common.{[], ◌++◌, ap, ◌∙◌}
-use Rattle.name_numbers.specs.Spots.{noted}
-use Rattle.bind_networks.specs.Callables.{declared, second_callables}
-use Rattle.bind_networks.proofs.Steps.{noted_four}
+use Rattle.name_binding.specs.Spots.{noted}
+use Rattle.hddl_bind.specs.Callables.{declared, second_callables}
+use Rattle.hddl_bind.proofs.Steps.{noted_four}
 use Rattle.hddl_bind.specs.DeclaredNames.{objects_declared, second_methods, second_objects, second_heads}
 use Rattle.hddl_bind.proofs.domain_names.tables_of.Goals as goal
 

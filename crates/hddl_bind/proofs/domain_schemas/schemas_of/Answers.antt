@@ -1,6 +1,6 @@
 use Rattle.std.proofs.Common.{ap, ◌∙◌, subst}
-use Rattle.name_numbers.specs.Spots.{noted}
-use Rattle.bind_networks.proofs.Steps.{noted_three}
+use Rattle.name_binding.specs.Spots.{noted}
+use Rattle.hddl_bind.proofs.Steps.{noted_three}
 use Rattle.hddl_bind.specs.Actions.{actions_faults}
 use Rattle.hddl_bind.specs.Methods.{methods_faults, AreMethodsNoted}
 use Rattle.hddl_bind.specs.DomainSchemas.{typed_faults}

@@ -1,7 +1,7 @@
 use Rattle.std.proofs.Common.{ap, ◌∙◌}
-use Rattle.name_numbers.specs.Spots.{noted}
-use Rattle.bind_types.specs.Typed.{params_faults}
-use Rattle.bind_networks.proofs.Steps.{noted_three}
+use Rattle.name_binding.specs.Spots.{noted}
+use Rattle.name_binding.specs.Typed.{params_faults}
+use Rattle.hddl_bind.proofs.Steps.{noted_three}
 use Rattle.hddl_bind.specs.Schemas.{heads_faults}
 use Rattle.hddl_bind.proofs.domain_schemas.typed_of.Goals as goal
 

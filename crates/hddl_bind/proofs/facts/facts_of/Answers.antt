@@ -4,10 +4,10 @@ use Rattle.gd_reader.specs.declared.term.RawAtom.{RawAtom}
 use Rattle.gd_reader.specs.declared.term.RawTerm.{RawTerm}
 use Rattle.plan_model.specs.Facts.{atom_of}
 use Rattle.htn_base.proofs.ReadAt.{read_is, none_read}
-use Rattle.name_numbers.specs.Spots.{noted}
-use Rattle.bind_formulas.specs.Atoms.{atom_faults}
-use Rattle.bind_formulas.specs.Facts.{fact_bound}
-use Rattle.bind_networks.proofs.Steps.{noted_step, map_step}
+use Rattle.name_binding.specs.Spots.{noted}
+use Rattle.name_binding.specs.Atoms.{atom_faults}
+use Rattle.name_binding.specs.Facts.{fact_bound}
+use Rattle.hddl_bind.proofs.Steps.{noted_step, map_step}
 use Rattle.hddl_bind.proofs.facts.facts_of.Goals as goal
 use Rattle.hddl_bind.proofs.facts.facts_of.Goals.{in-Some+in_ok-predicate+in_ok-push, in_default}
 

@@ -1,7 +1,7 @@
 use Rattle.std.proofs.Common.{List, [], ◌∷◌, ◌++◌, ap, ◌∙◌}
 use Rattle.plan_model.specs.declared.terms.Param.{Param}
 use Rattle.plan_model.specs.declared.schemas.TaskSchema.{TaskSchema}
-use Rattle.bind_networks.proofs.Steps.{map_step, noted_step}
+use Rattle.hddl_bind.proofs.Steps.{map_step, noted_step}
 use Rattle.hddl_bind.specs.Schemas.{task_bound, head_faults}
 use Rattle.hddl_bind.proofs.heads.tasks_of.Goals as goal
 

@@ -1,5 +1,5 @@
 use Rattle.std.proofs.Common.{◌≡◌, take}
-use Rattle.name_numbers.specs.Spots.{noted}
+use Rattle.name_binding.specs.Spots.{noted}
 use Rattle.hddl_bind.specs.Schemas.{tasks_bound, heads_faults}
 use Rattle.hddl_bind.proofs.heads.tasks_of.Given as goal
 

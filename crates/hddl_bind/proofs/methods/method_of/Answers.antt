@@ -1,8 +1,8 @@
 use Rattle.std.proofs.Common.{ap, ◌∙◌}
-use Rattle.name_numbers.specs.Entered.{variables_of}
-use Rattle.name_numbers.specs.Spots.{noted}
-use Rattle.bind_networks.specs.Networks.{network_faults}
-use Rattle.bind_networks.proofs.Steps.{noted_two}
+use Rattle.name_binding.specs.Entered.{variables_of}
+use Rattle.name_binding.specs.Spots.{noted}
+use Rattle.hddl_bind.specs.Networks.{network_faults}
+use Rattle.hddl_bind.proofs.Steps.{noted_two}
 use Rattle.hddl_bind.specs.Actions.{scope_of}
 use Rattle.hddl_bind.specs.Methods.{front_faults}
 use Rattle.hddl_bind.proofs.methods.method_of.Goals as goal

@@ -1,4 +1,4 @@
-use Rattle.bind_networks.proofs.Steps.{map_step, put_is, if_put}
+use Rattle.hddl_bind.proofs.Steps.{map_step, put_is, if_put}
 use Rattle.hddl_bind.specs.Methods.{method_bound}
 use Rattle.hddl_bind.proofs.MethodsNoted.{noted-more}
 use Rattle.hddl_bind.proofs.methods.methods_of.Goals as goal

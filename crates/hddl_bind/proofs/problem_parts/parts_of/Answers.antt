@@ -1,8 +1,8 @@
 use Rattle.std.proofs.Common.{[], ap, ◌∙◌}
-use Rattle.name_numbers.specs.Spots.{noted}
-use Rattle.bind_types.specs.Typed.{params_faults}
-use Rattle.bind_formulas.specs.Formulas.{formula_faults}
-use Rattle.bind_networks.proofs.Steps.{noted_four}
+use Rattle.name_binding.specs.Spots.{noted}
+use Rattle.name_binding.specs.Typed.{params_faults}
+use Rattle.name_binding.specs.Formulas.{formula_faults}
+use Rattle.hddl_bind.proofs.Steps.{noted_four}
 use Rattle.hddl_bind.specs.Facts.{facts_faults}
 use Rattle.hddl_bind.specs.ProblemParts.{top_faults}
 use Rattle.hddl_bind.proofs.problem_parts.parts_of.Goals as goal

@@ -1,9 +1,9 @@
 use Rattle.std.proofs.Common.{ap, ◌∙◌}
-use Rattle.name_numbers.specs.Entered.{variables_of}
-use Rattle.name_numbers.specs.Spots.{noted}
-use Rattle.bind_types.specs.Typed.{params_faults}
-use Rattle.bind_networks.specs.Networks.{network_faults}
-use Rattle.bind_networks.proofs.Steps.{noted_two}
+use Rattle.name_binding.specs.Entered.{variables_of}
+use Rattle.name_binding.specs.Spots.{noted}
+use Rattle.name_binding.specs.Typed.{params_faults}
+use Rattle.hddl_bind.specs.Networks.{network_faults}
+use Rattle.hddl_bind.proofs.Steps.{noted_two}
 use Rattle.hddl_bind.specs.ProblemParts.{top_scope}
 use Rattle.hddl_bind.proofs.problem_parts.top_of.Goals as goal
 

@@ -1,4 +1,0 @@
-pub mod Atoms
-pub mod Facts
-pub mod Formulas
-pub mod Effects

@@ -1,6 +1,0 @@
-pub mod ChainPairs
-pub mod Closing
-pub mod Called
-pub mod Cycles
-pub mod Steps
-mod examples

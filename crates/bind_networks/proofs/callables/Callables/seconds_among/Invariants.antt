@@ -1,8 +1,0 @@
-use Rattle.std.proofs.Common.{◌≡◌, take}
-use Rattle.std.specs.List.{flat_map}
-use Rattle.name_numbers.specs.Spots.{noted}
-use Rattle.bind_networks.specs.Callables.{second_in}
-use Rattle.bind_networks.proofs.callables.Callables.seconds_among.Given as goal
-
-abbrev pub invariant-loop-callable : goal.invariant-loop-callable
-invariant-loop-callable l = l.faults.least ≡ noted l.initial.faults.least (flat_map (second_in l.self) (take l.callable-index l.callables))

@@ -1,7 +1,0 @@
-use Rattle.std.proofs.Common.{◌≡◌, take}
-use Rattle.plan_model.specs.declared.networks.Head.TheVariants.{Action}
-use Rattle.bind_networks.specs.Callables.{callables_from, heads}
-use Rattle.bind_networks.proofs.callables.actions_of.Given as goal
-
-abbrev pub invariant-loop-k : goal.invariant-loop-k
-invariant-loop-k l = l.made ≡ callables_from Action 0 (heads (take l.k l.actions))

@@ -1,3 +1,0 @@
-mod Values
-mod CallRows
-mod NetworkRows

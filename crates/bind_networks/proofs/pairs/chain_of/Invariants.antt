@@ -1,6 +1,0 @@
-use Rattle.std.proofs.Common.{◌≡◌, ◌+◌}
-use Rattle.plan_texts.specs.Networks.{chain}
-use Rattle.bind_networks.proofs.pairs.chain_of.Given as goal
-
-abbrev pub invariant-loop-first : goal.invariant-loop-first
-invariant-loop-first l = l.pairs ≡ chain 0 (l.first + 1)

@@ -1,6 +1,0 @@
-use Rattle.std.proofs.Common.{◌≡◌, map, take}
-use Rattle.bind_types.specs.Listed.{name_of}
-use Rattle.bind_types.proofs.listed.names_of.Given as goal
-
-abbrev pub invariant-loop-number : goal.invariant-loop-number
-invariant-loop-number l = l.names ≡ map name_of (take l.number-index l.numbers)

@@ -1,6 +1,0 @@
-use Rattle.std.proofs.Common.{take}
-use Rattle.bind_types.specs.Parents.{AreParentsOf}
-use Rattle.bind_types.proofs.parents.parents_by_child.Given as goal
-
-abbrev pub invariant-loop-item : goal.invariant-loop-item
-invariant-loop-item l = AreParentsOf l.types (take l.item-index l.listed) l.parents.items

@@ -1,6 +1,0 @@
-use Rattle.std.proofs.Common.{◌≡◌, ◌++◌, map, take}
-use Rattle.bind_types.specs.Parents.{parent}
-use Rattle.bind_types.proofs.parents.put_pairs.Given as goal
-
-abbrev pub invariant-loop-parent : goal.invariant-loop-parent
-invariant-loop-parent l = l.into ≡ l.fn.into ++ map (parent l.fn.child) (take l.parent-index l.parents)

@@ -1,6 +1,0 @@
-use Rattle.std.proofs.Common.{◌≡◌, take}
-use Rattle.bind_types.specs.Mentions.{types_in_order}
-use Rattle.bind_types.proofs.section.declared.Given as goal
-
-abbrev pub invariant-loop-word : goal.invariant-loop-word
-invariant-loop-word l = l.types ≡ types_in_order l.fn.object.number (take l.word-index l.words)

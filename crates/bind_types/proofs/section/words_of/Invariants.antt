@@ -1,6 +1,0 @@
-use Rattle.std.proofs.Common.{◌≡◌, take}
-use Rattle.bind_types.specs.Mentions.{mentioned}
-use Rattle.bind_types.proofs.section.words_of.Given as goal
-
-abbrev pub invariant-loop-item : goal.invariant-loop-item
-invariant-loop-item l = l.words.items ≡ mentioned (take l.item-index l.listed)

@@ -1,5 +1,0 @@
-use Rattle.form_faults.proofs.WordTests.{names_sorted, variables_sorted}
-use Rattle.form_faults.proofs.laws.words_are_sorted_as_the_grammar_tests_them.Goals as goal
-
-pub returns : goal.returns
-returns c = record { names = names_sorted; variables = variables_sorted }

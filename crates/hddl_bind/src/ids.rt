@@ -1,0 +1,60 @@
+ghost use Rattle.std.specs.Prelude.{◌≡◌, [], ◌++◌, map, IfOk, OnOk};
+ghost use Rattle.name_binding.specs.Spots.{noted};
+ghost use Rattle.hddl_bind.specs.Ids as spec;
+ghost use Rattle.hddl_bind.specs.Seconds.{seconds};
+
+use crate::seconds::declare;
+use hddl_reader::RawSub;
+use htn_base::{List, Memory, Name, number};
+use name_binding::{Faults, Places};
+use std::alloc::Global;
+
+/// Declares the ids of subtasks in the empty table, and gives the number of the subtask of each. Of an id that stands in front
+/// already the fault is noted.
+pub(crate) fn ids_of(
+    alloc: Global,
+    ids: &mut Places,
+    subs: &[RawSub],
+    faults: &mut Faults,
+) -> Result<List<u32>, Memory>
+    requires empty { ids.old ≡ [] }
+    ensures ids { IfOk result (λ places. spec.AreIds subs.now ids.new places) }
+    ensures faults { OnOk result
+        (faults.new.least ≡ noted faults.old.least (spec.second_ids subs.now)) }
+{
+    let mut places = List::new(alloc);
+    for (k, sub) in subs.iter().enumerate() {
+        put_id(ids, &mut places, k, sub, faults)?;
+    }
+    Ok(places)
+}
+
+/// The id of subtask `k`, where it has one.
+fn put_id(
+    ids: &mut Places,
+    places: &mut List<u32>,
+    k: usize,
+    sub: &RawSub,
+    faults: &mut Faults,
+) -> Result<(), Memory>
+    ensures ids { OnOk result (ids.new ≡ ids.old ++ map spec.term_number (spec.id_at sub.now.id)) }
+    ensures places { OnOk result (places.new ≡ places.old ++ map (λ _. k) (spec.id_at sub.now.id)) }
+    ensures faults { OnOk result (faults.new.least ≡ noted faults.old.least
+        (seconds spec.term_number spec.term_at ids.old (spec.id_at sub.now.id))) }
+{
+    match sub.id {
+        Some(id) => {
+            declare(ids, id.name, id.at, faults)?;
+            places.push(number(k)?)
+        }
+        None => Ok(()),
+    }
+}
+
+/// The number of the first subtask with this id.
+pub(crate) fn subtask_of(ids: &Places, places: &[u32], name: Name) -> Option<u32>
+    ensures first { result ≡ spec.subtask_at ids.now places.now name.number }
+{
+    let place = ids.get(name)?;
+    places.get(place as usize).copied()
+}

@@ -1,0 +1,4 @@
+pub mod Ones
+pub mod Least
+pub mod Firsts
+pub mod Rolls

@@ -1,0 +1,3 @@
+mod NumberRows
+pub mod Types
+mod FormulaRows

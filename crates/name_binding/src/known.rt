@@ -1,0 +1,11 @@
+use crate::heads::Heads;
+use crate::places::Places;
+use crate::table::TypeTable;
+
+/// The names that are declared for formulas and effects: objects, predicates with their numbers of parameters, and types.
+#[derive(Drop)]
+pub struct Known {
+    pub objects: Places,
+    pub predicates: Heads,
+    pub types: TypeTable,
+}

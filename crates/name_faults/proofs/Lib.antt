@@ -1,5 +1,0 @@
-pub mod Ones
-pub mod Least
-pub mod Firsts
-pub mod Rolls
-mod examples

@@ -1,5 +1,0 @@
-use Rattle.name_faults.proofs.Least.{least_by_file, none_by_file}
-use Rattle.name_faults.proofs.laws.the_domain_comes_first.Goals as goal
-
-pub returns : goal.returns
-returns c = record { least = least_by_file; none = none_by_file }

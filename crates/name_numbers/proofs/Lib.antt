@@ -1,6 +1,0 @@
-pub mod Found
-pub mod InForce
-pub mod HeadPlaces
-pub mod Noted
-pub mod Least
-mod examples

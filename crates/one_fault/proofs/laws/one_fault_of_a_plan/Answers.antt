@@ -1,5 +1,0 @@
-use Rattle.one_fault.proofs.OneFault.{has_one_plan_fault}
-use Rattle.one_fault.proofs.laws.one_fault_of_a_plan.Goals as goal
-
-pub returns : goal.returns
-returns c = has_one_plan_fault c.args.text.now

@@ -1,5 +1,0 @@
-use Rattle.one_fault.proofs.OneFault.{have_one_fault}
-use Rattle.one_fault.proofs.laws.one_least_fault.Goals as goal
-
-pub returns : goal.returns
-returns c = have_one_fault c.args.language.now c.args.domain.now c.args.problem.now
