@@ -1,7 +1,8 @@
 //! What is printed for two small problems, as the contracts of functions that do nothing.
 //!
-//! `read` is a value of the two source texts, which spell the problem that the law is about; `compiled` is compiled of it, in either mode of
-//! preconditions, and `value` is its printed problem, in either style. `slots` is the number of slots, whatever it is.
+//! `read` is a value of the two source texts, which spell the problem that the law is about; `compiled` is compiled of it, in
+//! either mode of preconditions, and `value` is its printed problem, in either style. `slots` is the number of slots, whatever it
+//! is.
 
 ghost use Rattle.plan_texts.specs.FirstSeen.{IsHddlOf};
 ghost use Rattle.plan_texts.specs.PrintedTexts.{domain_text, problem_text};

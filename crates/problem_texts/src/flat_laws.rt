@@ -1,7 +1,7 @@
 //! How the two styles belong together, as the contract of a function that does nothing.
 //!
-//! `compiled` is compiled of `read`, in either mode of preconditions, so a method with children has its heir among them, and no child's slot
-//! has the number of the variable that ranges over all slots. `slots` is the number of slots, whatever it is.
+//! `compiled` is compiled of `read`, in either mode of preconditions, so a method with children has its heir among them, and no
+//! child's slot has the number of the variable that ranges over all slots. `slots` is the number of slots, whatever it is.
 
 ghost use Rattle.plan_model.specs.declared.options.Style.TheVariants.{Adl, Flat};
 ghost use Rattle.plan_meaning.specs.Compilation.{IsCompiled};
