@@ -2,10 +2,10 @@
 ghost use Rattle.form_spellings.specs.Depth.{DepthIsThatOfLists};
 ghost use Rattle.form_spellings.specs.Faultless.{SpelledHddlIsFaultless, SpelledPddlIsFaultless};
 
-use form_spellings::{
-    names_stand_in_the_table, places_are_those_of_tokens, spelled_definitions_are_whole,
-    texts_spell_what_is_bound,
-};
+use crate::bound::texts_spell_what_is_bound;
+use crate::laws::spelled_definitions_are_whole;
+use crate::names::names_stand_in_the_table;
+use crate::places::places_are_those_of_tokens;
 
 /// Two texts in which at most 200 lists are open at a time, and that spell a sound value, have no fault of tokens and are read as
 /// a domain and a problem, whose names have no fault: of HDDL, where the networks have no cycle and at most 1,000 types stand
