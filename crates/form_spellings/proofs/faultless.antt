@@ -13,5 +13,5 @@ mod Domains
 mod Fresh
 mod Filled
 mod Tokens
-mod Depth
-mod Reading
+pub mod Depth
+pub mod Reading
