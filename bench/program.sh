@@ -1,15 +1,19 @@
 #!/usr/bin/env bash
-# Times the whole program from files to files on large texts, each beside a copy of the bytes that it wrote: a problem of Transport with
-# 2,000 packages at 4,096 slots, in style adl; 54 actions at 65,536 slots, in style flat, whose texts have 250 MB; a problem text of 16
-# MiB of facts; and a domain of 500 methods with 40 subtasks each. Wants ./htn, as examples/transport/run leaves it. A line each: what the program told,
-# seconds of the best of five runs and its processor seconds (user and system), kilobytes of memory at most, bytes read and written, and seconds of a copy of what was written.
+# Times the whole program from files to files on large texts, each beside a copy of the bytes that it wrote: a problem of Transport
+# with 2,000 packages at 4,096 slots, in style adl; 54 actions at 65,536 slots, in style flat, whose texts have 270 MB; a problem
+# text of 16 MiB of facts; and a domain of 500 methods with 40 subtasks each. Wants ./htn, as examples/transport/run leaves it. A
+# line each: what the program told, seconds of the best of five runs and its processor seconds (user and system), kilobytes of
+# memory at most, bytes read and written, and seconds of a copy of what was written.
 #
-# Measured on an idle machine in two turns within a minute, seconds in the order of the cases: 0.08 and 0.06; 0.31 and 0.26; 0.31 and 0.26; 0.05
-# and 0.04; kilobytes: 64,932; 269,464; 43,388; 20,488 (the last 21,812 before lists of subtasks were made with their room). The machine's speed changed that much; by another script, the best of some dozens of runs of the third
-# and the last took 0.23 and 0.037. On the same machine, in a slower hour, the program before this one took 0.10, 0.40, 0.30 and 0.08. Where the
-# inputs are small beside the outputs, what is beyond these in memory is what any run takes (1,850 kilobytes), for 65,536 slots some 65 bytes each,
-# and for the packages the problem as read and as compiled and one action of 2,000 children (as massif told of an earlier program).
-# 16 MiB of facts of which none stands twice took 56,500 KB, of which the output is 15,400. Figures of different days are not alike.
+# Measured on an idle machine in two turns within a minute, an earlier program, seconds in the order of the cases: 0.08 and 0.06;
+# 0.31 and 0.26; 0.31 and 0.26; 0.05 and 0.04; the best of some dozens of runs of the third and the last, by another script: 0.23
+# and 0.037. On the same machine, in a slower hour, the program before that one took 0.10, 0.40, 0.30 and 0.08. This program on a
+# machine on which a plain loop takes some three times as long: 0.19, 0.63, 0.60 and 0.10; kilobytes: 64,900; 269,588; 43,260;
+# 21,464 (the last 20,488 where lists of subtasks were made with their room too, and 21,812 where no list was).
+# Where the inputs are small beside the outputs, what is beyond these in memory is what any run takes (1,240 kilobytes where it only
+# refuses its words), for 65,536 slots some 65 bytes each, and for the packages the problem as read and as compiled and one action
+# of 2,000 children (as massif told of an earlier program). 16 MiB of facts of which none stands twice took 56,500 KB, of which the
+# output is 15,400. Figures of different days are not alike.
 set -euo pipefail
 top=$(cd "$(dirname "$0")/.." && pwd)
 work=$(mktemp -d)
