@@ -107,7 +107,7 @@ fn children_of(
     ensures faults { OnOk result (faults.new.least ≡ noted faults.old.least
         (flat_map (spec.child_faults callables.now objects.now scope.now) subs.now)) }
 {
-    let mut children = List::new(alloc);
+    let mut children = List::with_room(alloc, subs.len())?;
     for sub in subs {
         children.put(child_of(alloc, callables, objects, scope, sub, faults))?;
     }

@@ -16,7 +16,7 @@ pub fn children_of(
     requires few { length method.now.params < 2 ^ 32 }
     ensures children { IfOk result (λ children. children ≡ spec.children checked method.now) }
 {
-    let mut children = List::new(alloc);
+    let mut children = List::with_room(alloc, method.children.len().saturating_add(1))?;
     if checked {
         children.push(check_of(alloc, method)?)?;
     }

@@ -50,7 +50,7 @@ pub fn terms_of(
     ensures faults { OnOk result
         (faults.new.least ≡ noted faults.old.least (terms_faults objects.now scope.now terms.now)) }
 {
-    let mut bound = List::with_room(alloc, terms.len())?;
+    let mut bound = List::new(alloc);
     for term in terms.as_slice() {
         bound.push(term_of(objects, scope, *term, faults))?;
     }
