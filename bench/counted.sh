@@ -6,12 +6,13 @@
 #
 # Counted, in the order of the cases, millions, with lists of terms made with their room, and not those of subtasks: 18.3, 76.3,
 # 669.2, 384.1, 318.9, 281.6, 211.0. With those of subtasks alone, as it is now, the methods 317.2. With both: 18.3, 76.2, 669.2,
-# 384.0, 316.8, 281.6, 211.0. With neither: 18.3, 76.3, 667.4, 384.1, 294.3, 281.6, 211.0. Before words stood in their table and were hashed whole: 20.5, 114.2, 685.2, 382.1, 314.8, 280.0, 209.9. Before a
-# formula and an effect went through one batch and rows stood on the heap: 20.7, 114.0, 684.1, 385.8, 329.9, 273.0, 209.8. Before
-# facts stood in rows of few bytes and were read by positions, in three times the memory: 20.7, 102.7, 672.8, 383.1, 329.3, 205.3,
-# 211.5. Before facts stood in two flat lists, were met by their numbers and their words by marks, and texts were read with their
-# index in one pass: 21.5, 120.4, 688.5, 389.3, 340.8, 403.0, 210.6. Before names of slots were expected, items of lists were put in
-# batches and deletions went from number to number: 21.4, 190.6, 1,608.1, 394.9, 347.0, 403.0, 292.5.
+# 384.0, 316.8, 281.6, 211.0. With neither: 18.3, 76.3, 667.4, 384.1, 294.3, 281.6, 211.0. Before words stood in their table and
+# were hashed whole: 20.5, 114.2, 685.2, 382.1, 314.8, 280.0, 209.9. Before a formula and an effect went through one batch and
+# rows stood on the heap: 20.7, 114.0, 684.1, 385.8, 329.9, 273.0, 209.8. Before facts stood in rows of few bytes and were read by
+# positions, in three times the memory: 20.7, 102.7, 672.8, 383.1, 329.3, 205.3, 211.5. Before facts stood in two flat lists, were
+# met by their numbers and their words by marks, and texts were read with their index in one pass: 21.5, 120.4, 688.5, 389.3,
+# 340.8, 403.0, 210.6. Before names of slots were expected, items of lists were put in batches and deletions went from number to
+# number: 21.4, 190.6, 1,608.1, 394.9, 347.0, 403.0, 292.5.
 set -euo pipefail
 top=$(cd "$(dirname "$0")/.." && pwd)
 work=$(mktemp -d)

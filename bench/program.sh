@@ -7,14 +7,13 @@
 #
 # Measured on an idle machine in two turns within a minute, an earlier program, seconds in the order of the cases: 0.08 and 0.06;
 # 0.31 and 0.26; 0.31 and 0.26; 0.05 and 0.04; the best of some dozens of runs of the third and the last, by another script: 0.23
-# and 0.037. On the same machine, in a slower hour, the program before that one took 0.10, 0.40, 0.30 and 0.08. With lists of terms
-# made with their room, and not those of subtasks, on a machine on which a plain loop takes some three times as long: 0.19, 0.63,
-# 0.60 and 0.10; kilobytes: 64,900; 269,588; 43,260; 21,464 (the last 20,472
-# with lists of subtasks alone, as it is now, 20,488 with both, and 21,812 with neither).
-# Where the inputs are small beside the outputs, what is beyond these in memory is what any run takes (1,240 kilobytes where it only
-# refuses its words), for 65,536 slots some 65 bytes each, and for the packages the problem as read and as compiled and one action
-# of 2,000 children (as massif told of an earlier program). 16 MiB of facts of which none stands twice took 56,500 KB, of which the
-# output is 15,400. Figures of different days are not alike.
+# and 0.037. On the same machine, in a slower hour, the program before that one took 0.10, 0.40, 0.30 and 0.08. With lists of
+# terms made with their room, and not those of subtasks, on a machine on which a plain loop takes some three times as long: 0.19,
+# 0.63, 0.60 and 0.10; kilobytes: 64,900; 269,588; 43,260; 21,464 (the last 20,472 with lists of subtasks alone, as it is now,
+# 20,488 with both, and 21,812 with neither). Where the inputs are small beside the outputs, what is beyond these in memory is
+# what any run takes (1,240 kilobytes where it only refuses its words), for 65,536 slots some 65 bytes each, and for the packages
+# the problem as read and as compiled and one action of 2,000 children (as massif told of an earlier program). 16 MiB of facts of
+# which none stands twice took 56,500 KB, of which the output is 15,400. Figures of different days are not alike.
 set -euo pipefail
 top=$(cd "$(dirname "$0")/.." && pwd)
 work=$(mktemp -d)
