@@ -3,11 +3,11 @@ use Rattle.std.proofs.Common.{ℕ, zero, suc, ◌≡◌, ◌+◌, ◌<◌, ◌�
 use Rattle.std.specs.List.{sum_by}
 use Rattle.std.proofs.lemmas.List.Sums.{sum_by-cons, sum_by_more, sum_by-take-drop}
 use Rattle.std.proofs.lemmas.List.{length-drop}
-use Rattle.task_networks.specs.Order.{IsCut}
+use Rattle.plan_model.specs.task_networks.Order.{IsCut}
 use Rattle.htn_base.specs.Different.{AreDifferent}
-use Rattle.task_networks.specs.Bound.{AreBlocks, weight}
-use Rattle.task_networks.proofs.BoundLaws.{by_size, before_block, at_block, after_block}
-use Rattle.task_networks.proofs.Lists.{not-in_empty, head_or_tail, Contains-here, Contains-later}
+use Rattle.plan_model.specs.task_networks.Bound.{AreBlocks, weight}
+use Rattle.plan_model.proofs.task_networks.BoundLaws.{by_size, before_block, at_block, after_block}
+use Rattle.plan_model.proofs.task_networks.Lists.{not-in_empty, head_or_tail, Contains-here, Contains-later}
 
 take_up : (j k : ℕ) (xs : List ℕ) (x : ℕ) → j ≤ k → Contains (take j xs) x → Contains (take k xs) x
 take_up zero k xs x l c = absurd (not-in_empty x c)

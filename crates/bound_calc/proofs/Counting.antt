@@ -11,20 +11,20 @@ use Rattle.plan_model.specs.declared.networks.Child.{Child}
 use Rattle.plan_model.specs.declared.schemas.MethodPlan.{MethodPlan}
 use Rattle.plan_model.specs.declared.values.Compiled.{Compiled}
 use Rattle.plan_model.specs.Pairs.{Pairs}
-use Rattle.task_networks.specs.Order.{IsLine}
-use Rattle.task_networks.specs.Bound.{itself}
-use Rattle.task_networks.proofs.BoundLaws.{by_size}
-use Rattle.task_networks.proofs.Lists.{not-in_empty}
-use Rattle.plan_meaning.specs.Network.{top_task}
-use Rattle.plan_meaning.specs.Schemas.{task, schema_of}
-use Rattle.plan_meaning.specs.Strata.{IsReachedTask}
-use Rattle.plan_meaning.specs.Bound.{IsBound}
-use Rattle.bound_laws.proofs.Lines.{HasLines}
-use Rattle.bound_laws.proofs.ProblemBound.{tail_recursive_has_bound}
-use Rattle.bound_laws.proofs.OrCycle.{ranked_exactly}
-use Rattle.stratifier.specs.declared.ranks.Ranks.{Ranks}
-use Rattle.stratifier.specs.Conditions.{IsNumbered, IsSmallCompiled}
-use Rattle.stratifier.specs.Stratified.{IsStratified, number_of, rank_by}
+use Rattle.plan_model.specs.task_networks.Order.{IsLine}
+use Rattle.plan_model.specs.task_networks.Bound.{itself}
+use Rattle.plan_model.proofs.task_networks.BoundLaws.{by_size}
+use Rattle.plan_model.proofs.task_networks.Lists.{not-in_empty}
+use Rattle.plan_model.specs.plan_meaning.Network.{top_task}
+use Rattle.plan_model.specs.plan_meaning.Schemas.{task, schema_of}
+use Rattle.plan_model.specs.plan_meaning.Strata.{IsReachedTask}
+use Rattle.plan_model.specs.plan_meaning.Bound.{IsBound}
+use Rattle.slot_machine.proofs.bound_laws.Lines.{HasLines}
+use Rattle.slot_machine.proofs.bound_laws.ProblemBound.{tail_recursive_has_bound}
+use Rattle.slot_machine.proofs.bound_laws.OrCycle.{ranked_exactly}
+use Rattle.bound_calc.specs.declared.stratifier.ranks.Ranks.{Ranks}
+use Rattle.bound_calc.specs.stratifier.Conditions.{IsNumbered, IsSmallCompiled}
+use Rattle.bound_calc.specs.stratifier.Stratified.{IsStratified, number_of, rank_by}
 use Rattle.bound_calc.specs.declared.groups.BoundError.{BoundError}
 use Rattle.bound_calc.specs.declared.groups.BoundError.TheVariants.{Past128, Memory}
 use Rattle.bound_calc.specs.Blocks.{IsGreatest, IsPastBy}

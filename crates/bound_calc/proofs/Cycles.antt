@@ -3,10 +3,10 @@ use Rattle.std.proofs.Common.{ℕ, zero, suc, ◌≡◌, ◌+◌, ◌-◌, ◌<�
 use Rattle.std.proofs.lemmas.List.{append-nil, take_more}
 use Rattle.std.proofs.lemmas.Option.{slice_get-get_or}
 use Rattle.plan_model.specs.declared.values.Compiled.{Compiled}
-use Rattle.plan_meaning.specs.Strata.{source, target}
-use Rattle.stratifier.specs.CycleWords.{task_word, method_word, cycle_words}
-use Rattle.stratifier.specs.declared.edge.Edge.{Edge}
-use Rattle.stratifier.specs.Listed.{edge_of}
+use Rattle.plan_model.specs.plan_meaning.Strata.{source, target}
+use Rattle.bound_calc.specs.stratifier.CycleWords.{task_word, method_word, cycle_words}
+use Rattle.bound_calc.specs.declared.stratifier.edge.Edge.{Edge}
+use Rattle.bound_calc.specs.stratifier.Listed.{edge_of}
 use Rattle.bound_calc.specs.NoBound.{edge_words, spaced, begun}
 
 spaced-append : (xs ys : List (List ℕ)) → spaced (xs ++ ys) ≡ spaced xs ++ spaced ys

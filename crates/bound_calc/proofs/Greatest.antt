@@ -9,17 +9,17 @@ use Rattle.plan_model.specs.declared.networks.Head.TheVariants.{Task, Action, Ch
 use Rattle.plan_model.specs.declared.networks.Child.{Child}
 use Rattle.plan_model.specs.declared.schemas.MethodPlan.{MethodPlan}
 use Rattle.plan_model.specs.Pairs.{Pairs}
-use Rattle.task_networks.specs.Order.{IsCut}
-use Rattle.task_networks.specs.Net.{Net}
+use Rattle.plan_model.specs.task_networks.Order.{IsCut}
+use Rattle.plan_model.specs.task_networks.Net.{Net}
 use Rattle.htn_base.specs.Different.{AreDifferent}
-use Rattle.task_networks.specs.Bound.{AreBlocks}
-use Rattle.task_networks.proofs.Lists.{not-in_empty}
-use Rattle.task_networks.proofs.BoundLaws.{by_size}
-use Rattle.task_networks.proofs.ScheduleLaws.{line_is_the_only_one}
+use Rattle.plan_model.specs.task_networks.Bound.{AreBlocks}
+use Rattle.plan_model.proofs.task_networks.Lists.{not-in_empty}
+use Rattle.plan_model.proofs.task_networks.BoundLaws.{by_size}
+use Rattle.plan_model.proofs.task_networks.ScheduleLaws.{line_is_the_only_one}
 use Rattle.net_order.specs.Answers.{Answers, cut}
 use Rattle.net_order.specs.Meaning.{IsOrderOf}
 use Rattle.net_order.proofs.Whole.{child_of, different, length_line}
-use Rattle.stratifier.specs.declared.ranks.Ranks.{Ranks}
+use Rattle.bound_calc.specs.declared.stratifier.ranks.Ranks.{Ranks}
 use Rattle.bound_calc.specs.Blocks.{head_number, child_number, block_number, IsGreatestBlock}
 use Rattle.bound_calc.specs.Lines.{HasLine}
 use Rattle.bound_calc.specs.ByRank.{AreRanked, HaveNumbers}

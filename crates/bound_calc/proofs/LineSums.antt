@@ -2,14 +2,14 @@
 use Rattle.std.proofs.Common.{ℕ, suc, ◌≡◌, ◌+◌, ◌≤◌, inl, inr, List, [], ◌∷◌, ◌++◌, length, slice_get, Some, refl, ap, sym, subst, Contains, arith}
 use Rattle.std.specs.List.{sum_by}
 use Rattle.std.proofs.lemmas.List.Sums.{sum_by-cons, sum_by-append}
-use Rattle.task_networks.specs.Net.{Net}
-use Rattle.task_networks.specs.Order.{IsLine}
+use Rattle.plan_model.specs.task_networks.Net.{Net}
+use Rattle.plan_model.specs.task_networks.Order.{IsLine}
 use Rattle.htn_base.specs.Different.{AreDifferent}
-use Rattle.task_networks.specs.Spelling.{numbers}
-use Rattle.task_networks.specs.Bound.{weight, weights}
-use Rattle.task_networks.proofs.Lists.{Contains-here, Contains-later, cut_at}
-use Rattle.task_networks.proofs.Different.{without_cases}
-use Rattle.task_networks.proofs.Numbers.{numbers_to, to_numbers, different-numbers}
+use Rattle.plan_model.specs.task_networks.Spelling.{numbers}
+use Rattle.plan_model.specs.task_networks.Bound.{weight, weights}
+use Rattle.plan_model.proofs.task_networks.Lists.{Contains-here, Contains-later, cut_at}
+use Rattle.plan_model.proofs.task_networks.Different.{without_cases}
+use Rattle.plan_model.proofs.task_networks.Numbers.{numbers_to, to_numbers, different-numbers}
 use Rattle.net_order.proofs.Whole.{child_of, different}
 
 pub sum_pointwise : (f g : ℕ → ℕ) (xs : List ℕ) → ((x : ℕ) → Contains xs x → f x ≤ g x) → sum_by f xs ≤ sum_by g xs

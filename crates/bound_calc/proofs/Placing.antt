@@ -5,15 +5,15 @@ use Rattle.std.specs.Ordering.{nat_cmp, ordering_then, is_lt}
 use Rattle.std.proofs.lemmas.List.Sorted.{IsNonDecreasingBy-from_all_adjacent, Contains-permutation, IsPermutation-sym}
 use Rattle.std.proofs.lemmas.List.Elements.{Contains-append_left, Contains-push, Contains-push_cases}
 use Rattle.std.proofs.lemmas.Option.{slice_get_within, get_or_from_slice_get}
-use Rattle.task_networks.proofs.BoundLaws.{by_size}
-use Rattle.task_networks.proofs.Lists.{not-in_empty}
+use Rattle.plan_model.proofs.task_networks.BoundLaws.{by_size}
+use Rattle.plan_model.proofs.task_networks.Lists.{not-in_empty}
 use Rattle.plan_model.specs.declared.schemas.MethodPlan.{MethodPlan}
 use Rattle.plan_model.specs.declared.values.Compiled.{Compiled}
-use Rattle.plan_meaning.specs.Network.{top_task}
-use Rattle.plan_meaning.specs.Strata.{IsReachedTask}
-use Rattle.stratifier.specs.declared.ranks.Ranks.{Ranks}
-use Rattle.stratifier.specs.Conditions.{IsSmallCompiled, IsNumbered}
-use Rattle.stratifier.specs.Stratified.{number_of}
+use Rattle.plan_model.specs.plan_meaning.Network.{top_task}
+use Rattle.plan_model.specs.plan_meaning.Strata.{IsReachedTask}
+use Rattle.bound_calc.specs.declared.stratifier.ranks.Ranks.{Ranks}
+use Rattle.bound_calc.specs.stratifier.Conditions.{IsSmallCompiled, IsNumbered}
+use Rattle.bound_calc.specs.stratifier.Stratified.{number_of}
 use Rattle.bound_calc.specs.ByRank.{IsPlace, AreByRank}
 
 -- the places of the first k methods

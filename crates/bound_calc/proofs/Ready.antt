@@ -1,7 +1,7 @@
 -- What is compiled of a sound problem is ready for its strata and its bound.
 use Rattle.std.proofs.Common.{ℕ, suc, refl, ◌≡◌, ◌<◌, ◌≤◌, List, [], ◌∷◌, length, get_or, Contains, Bool, true, false, ap, sym, subst, ◌∙◌, arith, inl, inr}
 use Rattle.std.proofs.lemmas.Option.{slice_get-get_or, slice_get_within}
-use Rattle.task_networks.proofs.Lists.{head_or_tail}
+use Rattle.plan_model.proofs.task_networks.Lists.{head_or_tail}
 use Rattle.plan_model.specs.declared.options.Checks.{Checks}
 use Rattle.plan_model.specs.declared.networks.Head.TheVariants.{Task}
 use Rattle.plan_model.specs.declared.networks.Child.{Child}
@@ -11,14 +11,14 @@ use Rattle.plan_model.specs.declared.values.Hddl.{Hddl}
 use Rattle.plan_model.specs.declared.values.Compiled.{Compiled}
 use Rattle.plan_texts.specs.SoundValue.{IsSoundHead, IsSoundMethod, IsSoundChild, scope_of}
 use Rattle.plan_texts.proofs.SoundProblems.{small_method, each-contains}
-use Rattle.plan_meaning.specs.Network.{top_task}
-use Rattle.plan_meaning.specs.Compilation.{children, check_child, IsMethodPlan, AreMethodPlans}
-use Rattle.plan_meaning.proofs.CompiledNetworks.{plan_of}
-use Rattle.method_precs.specs.Small.{IsFit}
-use Rattle.method_precs.proofs.Fits.{children_few, pairs_few}
-use Rattle.stratifier.specs.Links.{IsSubtask}
-use Rattle.stratifier.specs.Conditions.{IsNumbered, IsSmallMethod, IsSmallCompiled, HaveNoCycle}
-use Rattle.stratifier.proofs.Compiled.{have_no_cycle}
+use Rattle.plan_model.specs.plan_meaning.Network.{top_task}
+use Rattle.plan_model.specs.plan_meaning.Compilation.{children, check_child, IsMethodPlan, AreMethodPlans}
+use Rattle.plan_model.proofs.plan_meaning.CompiledNetworks.{plan_of}
+use Rattle.bound_calc.specs.method_precs.Small.{IsFit}
+use Rattle.bound_calc.proofs.method_precs.Fits.{children_few, pairs_few}
+use Rattle.bound_calc.specs.stratifier.Links.{IsSubtask}
+use Rattle.bound_calc.specs.stratifier.Conditions.{IsNumbered, IsSmallMethod, IsSmallCompiled, HaveNoCycle}
+use Rattle.bound_calc.proofs.stratifier.Compiled.{have_no_cycle}
 use Rattle.bound_calc.specs.Lines.{HaveLines}
 use Rattle.bound_calc.specs.Soundly.{IsSoundlyCompiled}
 

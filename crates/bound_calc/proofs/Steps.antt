@@ -11,25 +11,25 @@ use Rattle.plan_model.specs.declared.networks.Head.TheVariants.{Task, Action, Ch
 use Rattle.plan_model.specs.declared.networks.Child.{Child}
 use Rattle.plan_model.specs.declared.schemas.MethodPlan.{MethodPlan}
 use Rattle.plan_model.specs.declared.values.Compiled.{Compiled}
-use Rattle.task_networks.specs.Net.{count}
-use Rattle.task_networks.specs.Spelling.{numbers}
-use Rattle.task_networks.specs.Bound as Bounds
-use Rattle.task_networks.specs.Bound.{IsReached, itself, as_child, weight, Counts}
-use Rattle.task_networks.proofs.BoundLaws.{by_size, enough_for_all, before_block, at_block, after_block}
-use Rattle.task_networks.proofs.Lists.{not-in_empty, head_or_tail}
-use Rattle.plan_meaning.specs.Network.{top_task}
-use Rattle.plan_meaning.specs.Schemas.{Schema, task, action, check, schemas, schema_of}
-use Rattle.plan_meaning.specs.Strata.{Edge, AreEdges, source, target, target_by, IsOneGroup, IsReachedTask}
-use Rattle.plan_meaning.specs.Bound.{group_of, IsBound}
-use Rattle.plan_meaning.proofs.MethodParts.{IsPairBy, head_schema_by, schemas_by}
-use Rattle.plan_meaning.proofs.BoundParts.{AreWhole, at_most, not_of_the_group, there_at, listed}
-use Rattle.bound_laws.proofs.Lines.{HasLines}
-use Rattle.bound_laws.proofs.EveryFront.{schema_bound}
+use Rattle.plan_model.specs.task_networks.Net.{count}
+use Rattle.plan_model.specs.task_networks.Spelling.{numbers}
+use Rattle.plan_model.specs.task_networks.Bound as Bounds
+use Rattle.plan_model.specs.task_networks.Bound.{IsReached, itself, as_child, weight, Counts}
+use Rattle.plan_model.proofs.task_networks.BoundLaws.{by_size, enough_for_all, before_block, at_block, after_block}
+use Rattle.plan_model.proofs.task_networks.Lists.{not-in_empty, head_or_tail}
+use Rattle.plan_model.specs.plan_meaning.Network.{top_task}
+use Rattle.plan_model.specs.plan_meaning.Schemas.{Schema, task, action, check, schemas, schema_of}
+use Rattle.plan_model.specs.plan_meaning.Strata.{Edge, AreEdges, source, target, target_by, IsOneGroup, IsReachedTask}
+use Rattle.plan_model.specs.plan_meaning.Bound.{group_of, IsBound}
+use Rattle.plan_model.proofs.plan_meaning.MethodParts.{IsPairBy, head_schema_by, schemas_by}
+use Rattle.plan_model.proofs.plan_meaning.BoundParts.{AreWhole, at_most, not_of_the_group, there_at, listed}
+use Rattle.slot_machine.proofs.bound_laws.Lines.{HasLines}
+use Rattle.slot_machine.proofs.bound_laws.EveryFront.{schema_bound}
 use Rattle.net_order.proofs.Whole.{child_of}
-use Rattle.stratifier.specs.declared.ranks.Ranks.{Ranks}
-use Rattle.stratifier.specs.Conditions.{IsSmallCompiled, IsNumbered}
-use Rattle.stratifier.specs.Stratified.{IsStratified, number_of, rank_by}
-use Rattle.stratifier.proofs.Walks.{child_at}
+use Rattle.bound_calc.specs.declared.stratifier.ranks.Ranks.{Ranks}
+use Rattle.bound_calc.specs.stratifier.Conditions.{IsSmallCompiled, IsNumbered}
+use Rattle.bound_calc.specs.stratifier.Stratified.{IsStratified, number_of, rank_by}
+use Rattle.bound_calc.proofs.stratifier.Walks.{child_at}
 use Rattle.bound_calc.specs.Blocks.{head_number, child_number, block_number, IsGreatestBlock, HasPastBlock}
 use Rattle.bound_calc.proofs.LineSums.{sum_pointwise, sum-line, weights-numbers}
 

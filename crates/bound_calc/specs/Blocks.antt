@@ -8,9 +8,9 @@ use Rattle.plan_model.specs.declared.networks.Head.TheVariants.{Task, Action, Ch
 use Rattle.plan_model.specs.declared.networks.Child.{Child}
 use Rattle.plan_model.specs.declared.schemas.MethodPlan.{MethodPlan}
 use Rattle.plan_model.specs.Pairs.{Pairs}
-use Rattle.task_networks.specs.Bound.{AreBlocks, weight}
-use Rattle.stratifier.specs.declared.ranks.Ranks.{Ranks}
-use Rattle.stratifier.specs.Stratified.{number_of}
+use Rattle.plan_model.specs.task_networks.Bound.{AreBlocks, weight}
+use Rattle.bound_calc.specs.declared.stratifier.ranks.Ranks.{Ranks}
+use Rattle.bound_calc.specs.stratifier.Stratified.{number_of}
 use Rattle.bound_calc.specs.declared.groups.BoundError.{BoundError}
 use Rattle.bound_calc.specs.declared.groups.BoundError.TheVariants.{Past128, Memory}
 

@@ -4,10 +4,10 @@ use Rattle.std.specs.Prelude.{ℕ, ◌≡◌, ◌<◌, ◌≤◌, ◌↔◌, Lis
 use Rattle.std.specs.List.Sorted.{IsNonDecreasingBy}
 use Rattle.plan_model.specs.declared.schemas.MethodPlan.{MethodPlan}
 use Rattle.plan_model.specs.declared.values.Compiled.{Compiled}
-use Rattle.plan_meaning.specs.Strata.{IsReachedTask}
-use Rattle.stratifier.specs.declared.ranks.Ranks.{Ranks}
-use Rattle.stratifier.specs.Links.{IsSubtask}
-use Rattle.stratifier.specs.Stratified.{number_of}
+use Rattle.plan_model.specs.plan_meaning.Strata.{IsReachedTask}
+use Rattle.bound_calc.specs.declared.stratifier.ranks.Ranks.{Ranks}
+use Rattle.bound_calc.specs.stratifier.Links.{IsSubtask}
+use Rattle.bound_calc.specs.stratifier.Stratified.{number_of}
 
 -- the place is that of a method of a reached task, with the task's number
 abbrev pub IsPlace : Compiled → Ranks → ℕ × ℕ → Type 0

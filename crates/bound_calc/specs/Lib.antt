@@ -4,3 +4,5 @@ pub mod ByRank
 pub mod Blocks
 pub mod Soundly
 pub mod NoBound
+pub mod stratifier
+pub mod method_precs

@@ -4,7 +4,7 @@ use Rattle.std.specs.Prelude.{length, All}
 use Rattle.plan_model.specs.declared.schemas.MethodPlan.{MethodPlan}
 use Rattle.plan_model.specs.declared.values.Compiled.{Compiled}
 use Rattle.plan_model.specs.Pairs.{Pairs}
-use Rattle.task_networks.specs.Order.{IsLine}
+use Rattle.plan_model.specs.task_networks.Order.{IsLine}
 
 -- the line of the method is that of its children
 abbrev pub HasLine : MethodPlan → Type 0

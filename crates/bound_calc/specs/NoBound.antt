@@ -3,12 +3,12 @@
 use Rattle.std.specs.Prelude.{ℕ, ◌≡◌, ◌≤◌, ◌^◌, ◌++◌, List, [], ◌∷◌, codes}
 use Rattle.std.specs.List.{flat_map}
 use Rattle.plan_model.specs.declared.values.Compiled.{Compiled}
-use Rattle.plan_meaning.specs.Strata.{Edge, source}
-use Rattle.plan_meaning.specs.Bound.{IsBound}
-use Rattle.stratifier.specs.declared.edge.Edge as Declared
-use Rattle.stratifier.specs.Listed.{edge_of}
-use Rattle.stratifier.specs.NamedCycle.{IsNamed}
-use Rattle.stratifier.specs.CycleWords.{task_word, method_word, cycle_words}
+use Rattle.plan_model.specs.plan_meaning.Strata.{Edge, source}
+use Rattle.plan_model.specs.plan_meaning.Bound.{IsBound}
+use Rattle.bound_calc.specs.declared.stratifier.edge.Edge as Declared
+use Rattle.bound_calc.specs.stratifier.Listed.{edge_of}
+use Rattle.bound_calc.specs.stratifier.NamedCycle.{IsNamed}
+use Rattle.bound_calc.specs.stratifier.CycleWords.{task_word, method_word, cycle_words}
 use Rattle.bound_calc.specs.declared.finding.NoBound.{NoBound}
 use Rattle.bound_calc.specs.declared.finding.NoBound.TheVariants.{Cycle, Past128, Memory}
 

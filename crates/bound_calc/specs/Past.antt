@@ -2,7 +2,7 @@
 -- Source: this project's, after the progression bound of Alford et al., "Bound to Plan", ICAPS 2016.
 use Rattle.std.specs.Prelude.{ℕ, ◌≤◌, ◌^◌}
 use Rattle.plan_model.specs.declared.values.Compiled.{Compiled}
-use Rattle.plan_meaning.specs.Bound.{IsBound}
+use Rattle.plan_model.specs.plan_meaning.Bound.{IsBound}
 use Rattle.bound_calc.specs.declared.groups.BoundError.{BoundError}
 use Rattle.bound_calc.specs.declared.groups.BoundError.TheVariants.{Past128, Memory}
 

@@ -4,8 +4,8 @@ use Rattle.plan_model.specs.declared.options.Checks.{Checks}
 use Rattle.plan_model.specs.declared.values.Hddl.{Hddl}
 use Rattle.plan_model.specs.declared.values.Compiled.{Compiled}
 use Rattle.plan_texts.specs.SoundProblem.{IsSoundProblem}
-use Rattle.plan_meaning.specs.Compilation.{IsCompiled}
-use Rattle.plan_meaning.specs.Laws.{AreOrdered}
+use Rattle.plan_model.specs.plan_meaning.Compilation.{IsCompiled}
+use Rattle.plan_model.specs.plan_meaning.Laws.{AreOrdered}
 
 -- it is compiled of a sound problem whose networks have no cycle
 pub record IsSoundlyCompiled (c : Compiled) : Type 0 where

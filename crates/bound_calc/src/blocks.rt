@@ -1,16 +1,16 @@
 ghost use Rattle.std.specs.Prelude.{◌≡◌, ◌<◌, ◌≤◌, ℕ, length, IfOk, IfErr};
 ghost use Rattle.plan_model.specs.declared.networks.Head.TheVariants.{Task};
 ghost use Rattle.net_order.specs.Meaning.{IsOrderOf};
-ghost use Rattle.stratifier.specs.Conditions.{IsOrdered, IsSmallMethod};
+ghost use Rattle.bound_calc.specs.stratifier.Conditions.{IsOrdered, IsSmallMethod};
 ghost use Rattle.bound_calc.specs.Blocks.{head_number, IsGreatest, IsGreatestOrPast, IsPastBy};
 ghost use Rattle.bound_calc.specs.ByRank.{AreRanked, HaveNumbers};
 ghost use Rattle.bound_calc.specs.Lines.{HasLine};
 
 use crate::groups::BoundError;
+use crate::stratifier::Ranks;
 use net_order::{Order, OrderError};
 use plan_model::{Head, MethodPlan};
 use std::alloc::Global;
-use stratifier::Ranks;
 
 /// The greatest number of a block of the method, or 1 where that is less.
 pub fn method_number(

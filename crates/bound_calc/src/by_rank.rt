@@ -1,12 +1,12 @@
 ghost use Rattle.std.specs.Prelude.{IfOk};
-ghost use Rattle.stratifier.specs.Conditions.{IsSmallCompiled};
-ghost use Rattle.stratifier.specs.Stratified.{IsStratified};
+ghost use Rattle.bound_calc.specs.stratifier.Conditions.{IsSmallCompiled};
+ghost use Rattle.bound_calc.specs.stratifier.Stratified.{IsStratified};
 ghost use Rattle.bound_calc.specs.ByRank.{AreByRank};
 
+use crate::stratifier::{Ranks, reached};
 use htn_base::Memory;
 use plan_model::Compiled;
 use std::alloc::Global;
-use stratifier::{Ranks, reached};
 
 /// The methods of the tasks that are reached, each behind its task's number, the lowest first.
 pub fn by_rank(alloc: Global, c: &Compiled, r: &Ranks) -> Result<Vec<(u32, u32)>, Memory>

@@ -1,14 +1,14 @@
 ghost use Rattle.std.specs.Prelude.{ℕ, ◌≡◌, ◌++◌, codes, map, slice_get, IfOk, OnOk};
-ghost use Rattle.plan_meaning.specs.Schemas.{schema_of, subschemas_of, task};
-ghost use Rattle.plan_meaning.specs.Strata.{source, target, target_by};
-ghost use Rattle.stratifier.specs.CycleWords as spec;
-ghost use Rattle.stratifier.specs.Listed.{edge_of};
+ghost use Rattle.plan_model.specs.plan_meaning.Schemas.{schema_of, subschemas_of, task};
+ghost use Rattle.plan_model.specs.plan_meaning.Strata.{source, target, target_by};
+ghost use Rattle.bound_calc.specs.stratifier.CycleWords as spec;
+ghost use Rattle.bound_calc.specs.stratifier.Listed.{edge_of};
 ghost use Rattle.bound_calc.specs.NoBound.{begun, edge_words, spaced};
 
+use crate::stratifier::Edge;
 use htn_base::{Memory, Name, Text};
 use plan_model::{Compiled, Head, MethodPlan};
 use std::alloc::Global;
-use stratifier::Edge;
 
 /// The words of a cycle of edges, each behind a space: a task, its method, the next task and so on, and at the end the
 /// task that the last edge goes to.

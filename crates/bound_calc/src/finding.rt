@@ -1,17 +1,17 @@
 ghost use Rattle.std.specs.Prelude.{map, IfOk, IfErr};
-ghost use Rattle.plan_meaning.specs.Bound.{IsBound};
-ghost use Rattle.stratifier.specs.Listed.{edge_of};
-ghost use Rattle.stratifier.specs.NamedCycle.{IsNamed};
-ghost use Rattle.stratifier.specs.Stratified.{IsStratified};
+ghost use Rattle.plan_model.specs.plan_meaning.Bound.{IsBound};
+ghost use Rattle.bound_calc.specs.stratifier.Listed.{edge_of};
+ghost use Rattle.bound_calc.specs.stratifier.NamedCycle.{IsNamed};
+ghost use Rattle.bound_calc.specs.stratifier.Stratified.{IsStratified};
 ghost use Rattle.bound_calc.specs.Soundly.{IsSoundlyCompiled};
 ghost use Rattle.bound_calc.specs.NoBound.{HasNoBound};
 
 use crate::cycle::cycle_words;
 use crate::groups::{BoundError, bound};
+use crate::stratifier::{Edge, Ranks, StratError, stratify};
 use htn_base::Text;
 use plan_model::Compiled;
 use std::alloc::Global;
-use stratifier::{Edge, Ranks, StratError, stratify};
 
 /// Why no bound is told.
 #[derive(Drop)]

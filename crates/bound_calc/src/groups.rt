@@ -1,16 +1,16 @@
 ghost use Rattle.std.specs.Prelude.{IfOk, IfErr};
-ghost use Rattle.plan_meaning.specs.Bound.{IsBound};
-ghost use Rattle.stratifier.specs.Conditions.{HaveNoCycle, IsSmallCompiled};
-ghost use Rattle.stratifier.specs.Stratified.{IsStratified};
+ghost use Rattle.plan_model.specs.plan_meaning.Bound.{IsBound};
+ghost use Rattle.bound_calc.specs.stratifier.Conditions.{HaveNoCycle, IsSmallCompiled};
+ghost use Rattle.bound_calc.specs.stratifier.Stratified.{IsStratified};
 ghost use Rattle.bound_calc.specs.Lines.{HaveLines};
 ghost use Rattle.bound_calc.specs.Past.{IsRefused};
 
 use crate::blocks::method_number;
 use crate::by_rank::by_rank;
+use crate::stratifier::Ranks;
 use htn_base::Memory;
 use plan_model::Compiled;
 use std::alloc::{AllocError, Global};
-use stratifier::Ranks;
 
 /// Why no number is answered. `Past128` comes exactly where the bound is 2^128 or more, `Memory` where no memory was to
 /// be had.

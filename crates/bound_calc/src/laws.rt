@@ -1,6 +1,6 @@
 //! The law of the lines, the contract of a function that does nothing.
 
-ghost use Rattle.plan_meaning.specs.Compilation.{IsCompiled};
+ghost use Rattle.plan_model.specs.plan_meaning.Compilation.{IsCompiled};
 ghost use Rattle.bound_calc.specs.Lines.{HaveLines};
 
 use plan_model::{Checks, Compiled, Hddl};

@@ -13,6 +13,8 @@ mod cycle;
 mod finding;
 mod groups;
 mod laws;
+pub mod method_precs;
+pub mod stratifier;
 
 pub use cycle::cycle_words;
 pub use finding::{NoBound, problem_bound};

@@ -4,11 +4,11 @@ use Rattle.std.specs.Str.{bytes_eq}
 use Rattle.text_forms.specs.Lists.{Part, Parts, name, group, nothing, part}
 use Rattle.text_forms.specs.Placed.{Placed, cut, close, word, list, parts_of, IsWhole}
 use Rattle.text_forms.specs.Words.{Word}
-use Rattle.form_grammar.specs.Codes.{Form, wrong, Whole, ◌followed_by◌}
-use Rattle.form_grammar.specs.Networks.{NetworkDue, network_rows}
-use Rattle.form_grammar.specs.Rows.{Next, go, stop, Row, form, closed, front, word_due, word_or_end, list_or_end}
-use Rattle.form_grammar.specs.Words.{by_word}
-use Rattle.form_grammar.proofs.Meaning.{whole_then, then_whole}
+use Rattle.text_forms.specs.form_grammar.Codes.{Form, wrong, Whole, ◌followed_by◌}
+use Rattle.text_forms.specs.form_grammar.Networks.{NetworkDue, network_rows}
+use Rattle.text_forms.specs.form_grammar.Rows.{Next, go, stop, Row, form, closed, front, word_due, word_or_end, list_or_end}
+use Rattle.text_forms.specs.form_grammar.Words.{by_word}
+use Rattle.text_forms.proofs.form_grammar.Meaning.{whole_then, then_whole}
 use Rattle.hddl_reader.proofs.TermsSaid.{at_next}
 use Rattle.plan_texts.specs.Sections.{bundle, bundle_by}
 use Rattle.plan_texts.specs.TypedLists.{Each}

@@ -4,10 +4,10 @@ use Rattle.text_forms.specs.Lists.{Parts, name, group, nothing, part}
 use Rattle.text_forms.specs.Placed.{Placed, cut, close, word, list, parts_of, IsWhole}
 use Rattle.text_forms.specs.Printing.{headed}
 use Rattle.text_forms.specs.Words.{Word, is_name, first_place}
-use Rattle.form_grammar.specs.Lists.{of_predicate}
-use Rattle.form_grammar.specs.Rows.{form}
-use Rattle.form_grammar.specs.Sections.{section_rows, typed}
-use Rattle.form_grammar.proofs.Meaning.{form_whole}
+use Rattle.text_forms.specs.form_grammar.Lists.{of_predicate}
+use Rattle.text_forms.specs.form_grammar.Rows.{form}
+use Rattle.text_forms.specs.form_grammar.Sections.{section_rows, typed}
+use Rattle.text_forms.proofs.form_grammar.Meaning.{form_whole}
 use Rattle.plan_texts.specs.Declared.{Declared}
 use Rattle.plan_texts.specs.Formulas.{IsTerm, IsParam}
 use Rattle.plan_texts.specs.Schemas.{IsPredicate, IsFact}

@@ -2,9 +2,9 @@
 use Rattle.std.proofs.Common.{◌≡◌, ◌↔◌, ℕ, Ok, List}
 use Rattle.text_forms.specs.Lists.{group}
 use Rattle.text_forms.specs.Placed.{Placed, parts_of, IsWhole}
-use Rattle.form_grammar.specs.Networks.{network_rows, subs, pairs, cons}
-use Rattle.form_grammar.specs.Rows.{form}
-use Rattle.form_grammar.proofs.Meaning.{form_whole}
+use Rattle.text_forms.specs.form_grammar.Networks.{network_rows, subs, pairs, cons}
+use Rattle.text_forms.specs.form_grammar.Rows.{form}
+use Rattle.text_forms.proofs.form_grammar.Meaning.{form_whole}
 use Rattle.plan_texts.specs.Networks.{IsOrdered}
 use Rattle.plan_texts.specs.Sections.{bundle}
 use Rattle.gd_reader.specs.Terms.{Names, Keeps}

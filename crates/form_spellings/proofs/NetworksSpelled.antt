@@ -4,12 +4,12 @@ use Rattle.htn_base.specs.declared.name.Name.{Name}
 use Rattle.text_forms.specs.Lists.{Part, name, group, nothing, part}
 use Rattle.text_forms.specs.Placed.{Placed, cut, close, word, list, parts_of, IsWhole}
 use Rattle.text_forms.specs.Words.{Word, is_name, first_place}
-use Rattle.form_grammar.specs.Codes.{wrong, Whole}
-use Rattle.form_grammar.specs.Lists.{term, terms, ended, applied}
-use Rattle.form_grammar.specs.Networks.{network_rows, subs, more_subs, sub, sub_word, behind_id, pairs, more_pairs, pair, pair_word, id, sign, cons, more_cons, con, con_word, equality, of_terms, group as group_due}
-use Rattle.form_grammar.specs.Rows.{go, stop, if_allowed, next_as, form}
-use Rattle.form_grammar.specs.Words.{is_term, is_word, used}
-use Rattle.form_grammar.proofs.Meaning.{whole_then}
+use Rattle.text_forms.specs.form_grammar.Codes.{wrong, Whole}
+use Rattle.text_forms.specs.form_grammar.Lists.{term, terms, ended, applied}
+use Rattle.text_forms.specs.form_grammar.Networks.{network_rows, subs, more_subs, sub, sub_word, behind_id, pairs, more_pairs, pair, pair_word, id, sign, cons, more_cons, con, con_word, equality, of_terms, group as group_due}
+use Rattle.text_forms.specs.form_grammar.Rows.{go, stop, if_allowed, next_as, form}
+use Rattle.text_forms.specs.form_grammar.Words.{is_term, is_word, used}
+use Rattle.text_forms.proofs.form_grammar.Meaning.{whole_then}
 use Rattle.plan_texts.specs.Declared.{Declared}
 use Rattle.plan_texts.specs.Formulas.{IsTerm}
 use Rattle.plan_texts.specs.Networks.{head_of, IsCall, IsSubtask, IsOrdered, IsEquation, IsConstraint}

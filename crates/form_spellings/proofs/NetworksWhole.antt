@@ -5,12 +5,12 @@ use Rattle.htn_base.specs.declared.name.Name.{Name}
 use Rattle.text_forms.specs.Lists.{Part, Parts, name, group, nothing, part}
 use Rattle.text_forms.specs.Placed.{Placed, cut, close, word, list, parts_of, IsWhole}
 use Rattle.text_forms.specs.Words.{Word, is_name}
-use Rattle.form_grammar.specs.Codes.{wrong, Whole}
-use Rattle.form_grammar.specs.Lists.{term, terms, ended, applied}
-use Rattle.form_grammar.specs.Networks.{NetworkDue, network_rows, subs, more_subs, sub, sub_word, behind_id, pairs, more_pairs, pair, pair_word, id, sign, cons, more_cons, con, con_word, equality, of_terms, group as group_due}
-use Rattle.form_grammar.specs.Rows.{go, stop, if_allowed, next_as, form}
-use Rattle.form_grammar.specs.Words.{is_term, is_word, used}
-use Rattle.form_grammar.proofs.Meaning.{then_whole}
+use Rattle.text_forms.specs.form_grammar.Codes.{wrong, Whole}
+use Rattle.text_forms.specs.form_grammar.Lists.{term, terms, ended, applied}
+use Rattle.text_forms.specs.form_grammar.Networks.{NetworkDue, network_rows, subs, more_subs, sub, sub_word, behind_id, pairs, more_pairs, pair, pair_word, id, sign, cons, more_cons, con, con_word, equality, of_terms, group as group_due}
+use Rattle.text_forms.specs.form_grammar.Rows.{go, stop, if_allowed, next_as, form}
+use Rattle.text_forms.specs.form_grammar.Words.{is_term, is_word, used}
+use Rattle.text_forms.proofs.form_grammar.Meaning.{then_whole}
 use Rattle.gd_reader.specs.TermGrammar.{applied_form}
 use Rattle.plan_texts.specs.Declared.{Declared, named}
 use Rattle.plan_texts.specs.Formulas.{IsTerm}

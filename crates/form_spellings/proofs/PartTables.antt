@@ -4,8 +4,8 @@ use Rattle.std.specs.Option.{option_map}
 use Rattle.std.specs.Str.{bytes_eq}
 use Rattle.text_forms.specs.Lists.{Part, Parts, name, part}
 use Rattle.text_forms.specs.Words.{Word, is_among}
-use Rattle.form_grammar.specs.Sections.{SectionDue}
-use Rattle.form_grammar.specs.Words.{Table, entry, counts_as}
+use Rattle.text_forms.specs.form_grammar.Sections.{SectionDue}
+use Rattle.text_forms.specs.form_grammar.Words.{Table, entry, counts_as}
 use Rattle.plan_texts.specs.Sections.{without_group, is_in_one, found}
 use Rattle.plan_texts.specs.Types.{EachIs}
 use Rattle.plan_texts.proofs.Basics.{bytes_eq-true, bytes_eq-refl}

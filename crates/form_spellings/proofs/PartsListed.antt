@@ -6,12 +6,12 @@ use Rattle.std.specs.Str.{bytes_eq}
 use Rattle.text_forms.specs.Lists.{Parts, name, group, nothing}
 use Rattle.text_forms.specs.Placed.{Placed, cut, close, word, list, parts_of, IsWhole}
 use Rattle.text_forms.specs.Words.{Word, is_among}
-use Rattle.form_grammar.specs.Codes.{Whole}
-use Rattle.form_grammar.specs.Rows.{if_allowed, form, closed}
-use Rattle.form_grammar.specs.Sections.{SectionDue, section_rows, Parted, task, method, action, network, parts, part_table, has_parts}
-use Rattle.form_grammar.specs.Sections as due
-use Rattle.form_grammar.specs.Words.{Table, entry, counts_as, unknown, is_keyword, by_keyword}
-use Rattle.form_grammar.proofs.Meaning.{whole_then, then_whole}
+use Rattle.text_forms.specs.form_grammar.Codes.{Whole}
+use Rattle.text_forms.specs.form_grammar.Rows.{if_allowed, form, closed}
+use Rattle.text_forms.specs.form_grammar.Sections.{SectionDue, section_rows, Parted, task, method, action, network, parts, part_table, has_parts}
+use Rattle.text_forms.specs.form_grammar.Sections as due
+use Rattle.text_forms.specs.form_grammar.Words.{Table, entry, counts_as, unknown, is_keyword, by_keyword}
+use Rattle.text_forms.proofs.form_grammar.Meaning.{whole_then, then_whole}
 use Rattle.hddl_reader.proofs.TermsSaid.{at_next}
 use Rattle.plan_texts.specs.Sections.{is_in_one, are_entries}
 use Rattle.plan_texts.specs.Types.{EachIs}

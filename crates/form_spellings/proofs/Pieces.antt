@@ -3,14 +3,14 @@ use Rattle.std.proofs.Common.{◌≡◌, [], ◌∷◌, refl, sym, ap, subst, �
 use Rattle.text_forms.specs.Lists.{Part, name, group, nothing}
 use Rattle.text_forms.specs.Placed.{Placed, cut, list, parts_of, IsWhole}
 use Rattle.text_forms.specs.Words.{Word}
-use Rattle.form_grammar.specs.Codes.{Whole}
-use Rattle.form_grammar.specs.Effects.{EffectDue, eff, effect_rows, of_formula, effect_form}
-use Rattle.form_grammar.specs.Formulas.{FormulaDue, gd, formula_rows, of_terms, of_list, formula_form}
-use Rattle.form_grammar.specs.Lists as due
-use Rattle.form_grammar.specs.Networks.{network_rows, subs, pairs as pairs_due, cons}
-use Rattle.form_grammar.specs.Rows.{form}
-use Rattle.form_grammar.specs.Sections.{SectionDue, section_rows, of_effect, of_network, of_terms_due, typed}
-use Rattle.form_grammar.proofs.Meaning.{form_same}
+use Rattle.text_forms.specs.form_grammar.Codes.{Whole}
+use Rattle.text_forms.specs.form_grammar.Effects.{EffectDue, eff, effect_rows, of_formula, effect_form}
+use Rattle.text_forms.specs.form_grammar.Formulas.{FormulaDue, gd, formula_rows, of_terms, of_list, formula_form}
+use Rattle.text_forms.specs.form_grammar.Lists as due
+use Rattle.text_forms.specs.form_grammar.Networks.{network_rows, subs, pairs as pairs_due, cons}
+use Rattle.text_forms.specs.form_grammar.Rows.{form}
+use Rattle.text_forms.specs.form_grammar.Sections.{SectionDue, section_rows, of_effect, of_network, of_terms_due, typed}
+use Rattle.text_forms.proofs.form_grammar.Meaning.{form_same}
 use Rattle.hddl_reader.proofs.Calls.{same_form}
 use Rattle.hddl_reader.proofs.EffectsSaid.{effect_said}
 use Rattle.hddl_reader.proofs.FormulasSaid.{formula_said}

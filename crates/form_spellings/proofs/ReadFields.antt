@@ -4,7 +4,7 @@ use Rattle.std.proofs.lemmas.List.{append-nil}
 use Rattle.std.specs.Option.{is_some}
 use Rattle.std.specs.Str.{bytes_eq}
 use Rattle.text_forms.specs.Words.{Word}
-use Rattle.form_grammar.specs.Words.{Table, entry}
+use Rattle.text_forms.specs.form_grammar.Words.{Table, entry}
 use Rattle.plan_texts.specs.Types.{EachIs}
 use Rattle.plan_texts.proofs.Basics.{bytes_eq-true}
 use Rattle.gd_reader.specs.declared.stop.Stop.{Stop}

@@ -4,11 +4,11 @@ use Rattle.std.specs.Str.{bytes_eq}
 use Rattle.htn_base.specs.Words.{is_reserved}
 use Rattle.text_forms.specs.Placed.{Placed}
 use Rattle.text_forms.specs.Words.{Word, is_name}
-use Rattle.form_grammar.specs.Codes.{Whole}
-use Rattle.form_grammar.specs.Lists as due
-use Rattle.form_grammar.specs.Rows.{Next, go, stop, if_allowed, Rows, form, row_as}
-use Rattle.form_grammar.specs.Words.{Table, entry, by_word, declared}
-use Rattle.form_grammar.proofs.Meaning.{form_same}
+use Rattle.text_forms.specs.form_grammar.Codes.{Whole}
+use Rattle.text_forms.specs.form_grammar.Lists as due
+use Rattle.text_forms.specs.form_grammar.Rows.{Next, go, stop, if_allowed, Rows, form, row_as}
+use Rattle.text_forms.specs.form_grammar.Words.{Table, entry, by_word, declared}
+use Rattle.text_forms.proofs.form_grammar.Meaning.{form_same}
 use Rattle.gd_reader.specs.Answers.{end_due}
 use Rattle.gd_reader.specs.TermGrammar.{end_form, terms_form, two_terms_form, applied_form}
 use Rattle.gd_reader.specs.Terms as read

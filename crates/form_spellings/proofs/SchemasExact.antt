@@ -5,11 +5,11 @@ use Rattle.text_forms.specs.Lists.{Part, Parts, name, part}
 use Rattle.text_forms.specs.Placed.{Placed, cut, close, word, list, parts_of, IsWhole}
 use Rattle.text_forms.specs.Printing.{headed}
 use Rattle.text_forms.specs.Words.{Word, is_name}
-use Rattle.form_grammar.specs.Codes.{Whole}
-use Rattle.form_grammar.specs.Rows.{form}
-use Rattle.form_grammar.specs.Sections as grammar
-use Rattle.form_grammar.specs.Sections.{section_rows}
-use Rattle.form_grammar.proofs.Meaning.{form_whole}
+use Rattle.text_forms.specs.form_grammar.Codes.{Whole}
+use Rattle.text_forms.specs.form_grammar.Rows.{form}
+use Rattle.text_forms.specs.form_grammar.Sections as grammar
+use Rattle.text_forms.specs.form_grammar.Sections.{section_rows}
+use Rattle.text_forms.proofs.form_grammar.Meaning.{form_whole}
 use Rattle.plan_texts.specs.Declared.{Declared, named, variable}
 use Rattle.plan_texts.specs.Formulas.{IsFormula, IsEffect}
 use Rattle.plan_texts.specs.Networks.{ordered_subtasks, task, chain_if, id_word, ids_by_place, IsTask, IsMethod, IsTop, IsHeadOf, IsNetwork}

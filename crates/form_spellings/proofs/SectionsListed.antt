@@ -6,11 +6,11 @@ use Rattle.std.specs.Str.{bytes_eq}
 use Rattle.text_forms.specs.Lists.{Parts, name, group, nothing, part}
 use Rattle.text_forms.specs.Placed.{Placed, cut, close, word, list, parts_of, IsWhole}
 use Rattle.text_forms.specs.Words.{Word, is_among}
-use Rattle.form_grammar.specs.Codes.{Whole}
-use Rattle.form_grammar.specs.Rows.{if_allowed, form, closed}
-use Rattle.form_grammar.specs.Sections.{Language, hddl, pddl, Definition, domain, problem, SectionDue, section_rows, sections, section as section_due, section_table, has_sections, seen_behind}
-use Rattle.form_grammar.specs.Words.{Table, entry, counts_as, unknown, is_keyword, by_keyword}
-use Rattle.form_grammar.proofs.Meaning.{whole_then, then_whole}
+use Rattle.text_forms.specs.form_grammar.Codes.{Whole}
+use Rattle.text_forms.specs.form_grammar.Rows.{if_allowed, form, closed}
+use Rattle.text_forms.specs.form_grammar.Sections.{Language, hddl, pddl, Definition, domain, problem, SectionDue, section_rows, sections, section as section_due, section_table, has_sections, seen_behind}
+use Rattle.text_forms.specs.form_grammar.Words.{Table, entry, counts_as, unknown, is_keyword, by_keyword}
+use Rattle.text_forms.proofs.form_grammar.Meaning.{whole_then, then_whole}
 use Rattle.hddl_reader.proofs.TermsSaid.{at_next}
 use Rattle.plan_texts.specs.Sections.{without, are_sections, section, domain_once, domain_many, problem_once}
 use Rattle.plan_texts.specs.SpellsHddl.{hddl_many, hddl_problem_once}

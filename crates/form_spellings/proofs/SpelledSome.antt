@@ -2,7 +2,7 @@
 use Rattle.std.proofs.Common.{◌≡◌, Bool, true, false, cond, ◌||◌, List, [], ◌∷◌, map, codes, refl, sym, ap, subst, ◌∙◌}
 use Rattle.text_forms.specs.Lists.{Part, Parts, name, group, nothing, part}
 use Rattle.text_forms.specs.Words.{Word, is_among}
-use Rattle.form_grammar.specs.Sections.{hddl, pddl, domain, problem}
+use Rattle.text_forms.specs.form_grammar.Sections.{hddl, pddl, domain, problem}
 use Rattle.plan_texts.specs.Declared.{Declared, named, variable}
 use Rattle.plan_texts.specs.Domains.{Domain, Problem, domain_words, AreDomainSections, AreProblemSections}
 use Rattle.plan_texts.specs.Networks.{IsTask, IsMethod, IsTop, IsNetwork}

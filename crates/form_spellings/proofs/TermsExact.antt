@@ -5,7 +5,7 @@ use Rattle.text_forms.specs.Placed.{Placed, cut, close, word, list, parts_of}
 use Rattle.text_forms.specs.Printing.{headed}
 use Rattle.text_forms.specs.Words.{Word, is_name}
 use Rattle.hddl_reader.specs.Said.{said}
-use Rattle.form_grammar.specs.Codes.{Form, Whole}
+use Rattle.text_forms.specs.form_grammar.Codes.{Form, Whole}
 use Rattle.plan_texts.specs.Declared.{Declared, named}
 use Rattle.plan_texts.specs.Formulas.{IsTerm, IsParam, IsFormula, IsEffect}
 use Rattle.plan_texts.specs.Schemas.{IsObject}

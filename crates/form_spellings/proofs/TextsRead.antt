@@ -47,7 +47,7 @@ use Rattle.form_spellings.proofs.SchemasExact.{IsMethodOf, IsReadMethod, top_exa
 use Rattle.form_spellings.proofs.SectionsExact.{NetworkSays, SectionsAre, IsReadTask, TasksSay, ActionsSay, MethodsSay}
 use Rattle.form_spellings.proofs.TermsExact.{TypesExact}
 use Rattle.form_spellings.proofs.TextsExact.{IsHeaded, DefinitionIs, definition_exact}
-use Rattle.form_grammar.specs.Sections.{hddl, pddl, domain, problem}
+use Rattle.text_forms.specs.form_grammar.Sections.{hddl, pddl, domain, problem}
 use Rattle.form_spellings.proofs.WholeDefinitions.{whole_definitions}
 
 -- A text without faults of tokens has no bad byte.

@@ -4,15 +4,15 @@ use Rattle.std.proofs.lemmas.Bool.{and_from, and_parts}
 use Rattle.text_forms.specs.Lists.{Parts, name, group, nothing, part}
 use Rattle.text_forms.specs.Placed.{Placed, cut, close, word, list, parts_of, IsWhole}
 use Rattle.text_forms.specs.Words.{Word, is_name}
-use Rattle.form_grammar.specs.Codes.{Whole}
-use Rattle.form_grammar.specs.Effects.{of_formula}
-use Rattle.form_grammar.specs.Formulas.{gd, of_terms, formula_rows}
-use Rattle.form_grammar.specs.Lists as due
-use Rattle.form_grammar.specs.Rows.{form}
-use Rattle.form_grammar.specs.Words.{used}
-use Rattle.form_grammar.specs.Sections as grammar
-use Rattle.form_grammar.specs.Sections.{SectionDue, section_rows, of_effect, of_terms_due, typed, predicates, predicate, named, parts, domain_name, facts, fact, objects_of_fact, value}
-use Rattle.form_grammar.proofs.Meaning.{form_same, whole_then, then_whole}
+use Rattle.text_forms.specs.form_grammar.Codes.{Whole}
+use Rattle.text_forms.specs.form_grammar.Effects.{of_formula}
+use Rattle.text_forms.specs.form_grammar.Formulas.{gd, of_terms, formula_rows}
+use Rattle.text_forms.specs.form_grammar.Lists as due
+use Rattle.text_forms.specs.form_grammar.Rows.{form}
+use Rattle.text_forms.specs.form_grammar.Words.{used}
+use Rattle.text_forms.specs.form_grammar.Sections as grammar
+use Rattle.text_forms.specs.form_grammar.Sections.{SectionDue, section_rows, of_effect, of_terms_due, typed, predicates, predicate, named, parts, domain_name, facts, fact, objects_of_fact, value}
+use Rattle.text_forms.proofs.form_grammar.Meaning.{form_same, whole_then, then_whole}
 use Rattle.gd_reader.specs.declared.typed_lists.ListKind.TheVariants.{Objects, Types}
 use Rattle.plan_texts.specs.Declared.{Declared}
 use Rattle.plan_texts.specs.Formulas.{IsTerm}

@@ -5,12 +5,12 @@ use Rattle.text_forms.specs.Lists.{Part, Parts, name, group, nothing, part}
 use Rattle.text_forms.specs.Placed.{Placed, cut, close, word, list, parts_of, IsWhole}
 use Rattle.text_forms.specs.Printing.{headed}
 use Rattle.text_forms.specs.Words.{Word, is_name}
-use Rattle.form_grammar.specs.Codes.{Whole}
-use Rattle.form_grammar.specs.Definitions.{definition_form}
-use Rattle.form_grammar.specs.Rows.{form, stop}
-use Rattle.form_grammar.specs.Sections.{Language, hddl, pddl, Definition, domain, problem, section_rows, sections, define, header, kind, title, title_end, definition_word}
-use Rattle.form_grammar.specs.Texts.{text_form, one_list, the_end}
-use Rattle.form_grammar.proofs.Meaning.{form_whole, whole_then, then_whole}
+use Rattle.text_forms.specs.form_grammar.Codes.{Whole}
+use Rattle.text_forms.specs.form_grammar.Definitions.{definition_form}
+use Rattle.text_forms.specs.form_grammar.Rows.{form, stop}
+use Rattle.text_forms.specs.form_grammar.Sections.{Language, hddl, pddl, Definition, domain, problem, section_rows, sections, define, header, kind, title, title_end, definition_word}
+use Rattle.text_forms.specs.form_grammar.Texts.{text_form, one_list, the_end}
+use Rattle.text_forms.proofs.form_grammar.Meaning.{form_whole, whole_then, then_whole}
 use Rattle.plan_texts.specs.Domains.{IsNameIfThere}
 use Rattle.plan_texts.specs.Sections.{section, parts_in, one_in, only, content, are_sections, problem_once, domain_many}
 use Rattle.plan_texts.specs.SpellsHddl.{hddl_many, hddl_problem_once}

@@ -1,9 +1,9 @@
 -- The two grammars of networks are one.
 use Rattle.std.specs.Prelude.{◌↔◌, []}
 use Rattle.text_forms.specs.Placed.{Placed}
-use Rattle.form_grammar.specs.Codes.{Whole}
-use Rattle.form_grammar.specs.Networks.{network_rows, subs, pairs, cons}
-use Rattle.form_grammar.specs.Rows.{form}
+use Rattle.text_forms.specs.form_grammar.Codes.{Whole}
+use Rattle.text_forms.specs.form_grammar.Networks.{network_rows, subs, pairs, cons}
+use Rattle.text_forms.specs.form_grammar.Rows.{form}
 use Rattle.form_spellings.specs.SpellsSomeNetwork.{SpellsSomeSubtasks, SpellsSomePairs, SpellsSomeConstraints}
 use Rattle.form_spellings.proofs.Known.{declared_by, all_variables, all_words, have_letters, knows_all}
 use Rattle.form_spellings.proofs.NetworksSpelled.{subtasks_to, pairs_to, constraints_to}

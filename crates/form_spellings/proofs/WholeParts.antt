@@ -3,11 +3,11 @@ use Rattle.std.proofs.Common.{[], refl, sym, subst}
 use Rattle.std.specs.Prelude.{◌↔◌}
 use Rattle.text_forms.specs.Lists.{Parts, group}
 use Rattle.text_forms.specs.Placed.{Placed, cut, close, word, list, parts_of, IsWhole}
-use Rattle.form_grammar.specs.Codes.{Whole}
-use Rattle.form_grammar.specs.Lists as due
-use Rattle.form_grammar.specs.Rows.{form}
-use Rattle.form_grammar.specs.Sections.{section_rows, Parted, task, method, action, network, parts, named, predicate, typed}
-use Rattle.form_grammar.proofs.Meaning.{form_whole}
+use Rattle.text_forms.specs.form_grammar.Codes.{Whole}
+use Rattle.text_forms.specs.form_grammar.Lists as due
+use Rattle.text_forms.specs.form_grammar.Rows.{form}
+use Rattle.text_forms.specs.form_grammar.Sections.{section_rows, Parted, task, method, action, network, parts, named, predicate, typed}
+use Rattle.text_forms.proofs.form_grammar.Meaning.{form_whole}
 use Rattle.gd_reader.specs.declared.typed_lists.ListKind.TheVariants.{Predicate}
 use Rattle.plan_texts.specs.Formulas.{IsParam}
 use Rattle.plan_texts.specs.TypedLists.{EachTyped}

@@ -1,8 +1,8 @@
 -- A form and what it is to spell.
 use Rattle.std.specs.Prelude.{◌↔◌}
 use Rattle.text_forms.specs.Placed.{Placed}
-use Rattle.form_grammar.specs.Codes as coded
-use Rattle.form_grammar.specs.Sections.{Language, Definition}
+use Rattle.text_forms.specs.form_grammar.Codes as coded
+use Rattle.text_forms.specs.form_grammar.Sections.{Language, Definition}
 use Rattle.gd_reader.specs.Forms.{Form}
 
 -- the form is whole exactly where the tokens spell something

@@ -8,7 +8,7 @@ use Rattle.plan_model.specs.declared.values.Pddl.{Pddl}
 use Rattle.plan_texts.specs.SoundProblem.{IsSoundProblem}
 use Rattle.plan_texts.specs.SpellsHddl.{SpellsHddl}
 use Rattle.plan_texts.specs.SpellsPddl.{SpellsPddl}
-use Rattle.plan_meaning.specs.Laws.{AreOrdered}
+use Rattle.plan_model.specs.plan_meaning.Laws.{AreOrdered}
 use Rattle.gd_reader.specs.Terms.{Names, Keeps}
 use Rattle.hddl_reader.specs.declared.sections.Language.{Language}
 use Rattle.hddl_reader.specs.declared.sections.Language.TheVariants as language

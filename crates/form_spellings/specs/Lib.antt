@@ -34,3 +34,4 @@ pub mod SoundPddl
 pub mod PddlInOrder
 pub mod Depth
 pub mod Faultless
+pub mod binding_laws

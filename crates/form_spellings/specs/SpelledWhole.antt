@@ -2,9 +2,9 @@
 use Rattle.std.specs.Prelude.{List, codes}
 use Rattle.text_forms.specs.Placed.{Placed}
 use Rattle.text_forms.specs.Words.{Word}
-use Rattle.form_grammar.specs.Codes.{Whole}
-use Rattle.form_grammar.specs.Definitions.{definition_form}
-use Rattle.form_grammar.specs.Sections.{hddl, pddl, domain, problem}
+use Rattle.text_forms.specs.form_grammar.Codes.{Whole}
+use Rattle.text_forms.specs.form_grammar.Definitions.{definition_form}
+use Rattle.text_forms.specs.form_grammar.Sections.{hddl, pddl, domain, problem}
 use Rattle.plan_texts.specs.Declared.{Declared}
 use Rattle.plan_texts.specs.Domains.{Domain, Problem, AreDomainSections, AreProblemSections}
 use Rattle.plan_texts.specs.Sections.{domain_many, problem_once}

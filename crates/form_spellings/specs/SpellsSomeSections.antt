@@ -1,6 +1,6 @@
 -- The sections of a domain or a problem spell something, each once its words are declared suitably.
 use Rattle.std.specs.Prelude.{◌≡◌, Bool, true, List, [], codes, Option, Some, None}
-use Rattle.form_grammar.specs.Sections.{Language, hddl, pddl, Definition, domain, problem}
+use Rattle.text_forms.specs.form_grammar.Sections.{Language, hddl, pddl, Definition, domain, problem}
 use Rattle.text_forms.specs.Lists.{Part, Parts, name, nothing, part}
 use Rattle.text_forms.specs.Placed.{Placed, IsOneList}
 use Rattle.text_forms.specs.Printing.{headed}

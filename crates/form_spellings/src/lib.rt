@@ -19,6 +19,7 @@
 //! one another (`depth_is_that_of_lists`).
 #![tactic(auto)]
 
+pub mod binding_laws;
 mod bound;
 mod fault_laws;
 mod first_seen;

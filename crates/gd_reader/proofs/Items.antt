@@ -3,11 +3,11 @@ use Rattle.std.proofs.Common.{◌≡◌, ℕ, zero, suc, ◌+◌, ◌<◌, ◌�
 use Rattle.std.specs.Prelude.{slice_get, slice_range, IsSome, ◌↔◌}
 use Rattle.std.proofs.lemmas.List.{drop-map}
 use Rattle.htn_base.specs.Words.{folded}
-use Rattle.sexpr_text.specs.declared.tokens.Kind.TheVariants.{Start, Stop, Word}
-use Rattle.sexpr_text.specs.declared.tokens.Token.{Token as Read}
-use Rattle.sexpr_text.specs.declared.positions.Position.{Position}
-use Rattle.sexpr_text.specs.Positions.{IsPositionOf}
-use Rattle.sexpr_text.specs.Seen.{kind_seen, token_seen}
+use Rattle.text_forms.specs.declared.sexpr_text.tokens.Kind.TheVariants.{Start, Stop, Word}
+use Rattle.text_forms.specs.declared.sexpr_text.tokens.Token.{Token as Read}
+use Rattle.text_forms.specs.declared.sexpr_text.positions.Position.{Position}
+use Rattle.text_forms.specs.sexpr_text.Positions.{IsPositionOf}
+use Rattle.text_forms.specs.sexpr_text.Seen.{kind_seen, token_seen}
 use Rattle.text_forms.specs.Closing.{close_of, closings, flattened, close_at, OpensBy, OpensList}
 use Rattle.text_forms.specs.Laws.{ShowsToken, ShowsBy}
 use Rattle.text_forms.specs.Placed.{cut, close, word as placed_word, level, IsWhole, parts_at}

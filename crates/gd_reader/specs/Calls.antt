@@ -1,6 +1,6 @@
 -- What each call answers: of a formula, of an effect, or of a typed list, with the words of the table in front of it.
 use Rattle.std.specs.Prelude.{ℕ, List, []}
-use Rattle.sexpr_text.specs.declared.read_error.ReadError.{ReadError}
+use Rattle.text_forms.specs.declared.sexpr_text.read_error.ReadError.{ReadError}
 use Rattle.gd_reader.specs.declared.effects.RawEffect.{RawEffect}
 use Rattle.gd_reader.specs.declared.formulas.RawFormula.{RawFormula}
 use Rattle.gd_reader.specs.declared.typed_lists.ListKind.{ListKind}

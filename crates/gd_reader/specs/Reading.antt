@@ -1,8 +1,8 @@
 -- What is answered of the form that is due at a token: a whole one, or the first token that departs.
 use Rattle.std.specs.Prelude.{◌≡◌, ℕ, suc, List, drop, Result, Ok, Err}
 use Rattle.htn_base.specs.declared.fault.Fault.{Fault}
-use Rattle.sexpr_text.specs.declared.read_error.ReadError.{ReadError}
-use Rattle.sexpr_text.specs.declared.read_error.ReadError.TheVariants as errors
+use Rattle.text_forms.specs.declared.sexpr_text.read_error.ReadError.{ReadError}
+use Rattle.text_forms.specs.declared.sexpr_text.read_error.ReadError.TheVariants as errors
 use Rattle.gd_reader.specs.Forms.{Form}
 use Rattle.text_forms.specs.Fronts.{before}
 use Rattle.text_forms.specs.Placed.{Placed, level, parts_at, IsWhole}

@@ -4,8 +4,8 @@ use Rattle.htn_base.specs.Words.{folded}
 use Rattle.text_forms.specs.Placed.{Placed, cut, close, word, list, level, parts_at}
 use Rattle.text_forms.specs.Tokens.{token_count, lexemes}
 use Rattle.text_forms.specs.Words.{Word}
-use Rattle.sexpr_text.specs.declared.positions.Position.{Position}
-use Rattle.sexpr_text.specs.Positions.{IsPositionOf}
+use Rattle.text_forms.specs.declared.sexpr_text.positions.Position.{Position}
+use Rattle.text_forms.specs.sexpr_text.Positions.{IsPositionOf}
 use Rattle.gd_reader.specs.Added.{Says}
 use Rattle.gd_reader.specs.declared.positions.ItemFrom.{ItemFrom}
 use Rattle.gd_reader.specs.declared.positions.ItemFrom.TheVariants as items

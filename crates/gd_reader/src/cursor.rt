@@ -8,7 +8,7 @@ ghost use Rattle.gd_reader.specs.Answers.{Gives, word_due, word_or_end, list_due
 ghost use Rattle.gd_reader.specs.Shown.{Shows, IsListTo, AreLater, parts_at_both};
 
 use crate::stop::{Failure, Stop};
-use sexpr_text::{Kind, Sexprs};
+use text_forms::sexpr_text::{Kind, Sexprs};
 
 /// What stands at a token, with its offset: a word, or a list with the numbers of the token that comes first
 /// in it and of the one behind it.

@@ -14,8 +14,8 @@ use crate::term::{RawAtom, applied_of, atom_of};
 use crate::typed_lists::{ListKind, params_of};
 use crate::words::{EffectHead, effect_head_of};
 use htn_base::{Boxed, List, NameTable};
-use sexpr_text::Sexprs;
 use std::alloc::Global;
+use text_forms::sexpr_text::Sexprs;
 
 /// An effect as it is written. An increase is the empty effect.
 #[derive(Drop)]

@@ -13,8 +13,8 @@ use crate::term::{RawAtom, RawTerm, atom_of, two_terms_of};
 use crate::typed_lists::{ListKind, params_of};
 use crate::words::{Head, head_of};
 use htn_base::{Boxed, List, NameTable};
-use sexpr_text::Sexprs;
 use std::alloc::Global;
+use text_forms::sexpr_text::Sexprs;
 
 /// A formula as it is written.
 #[derive(Drop)]

@@ -14,8 +14,8 @@ use crate::term::{RawTerm, name_of, see, used_of};
 use crate::typed_lists::{ListKind, are_variables};
 use crate::words::{Sort, is_either, sort_of};
 use htn_base::{List, Memory, NameTable, is_reserved_in_any_case};
-use sexpr_text::Sexprs;
 use std::alloc::Global;
+use text_forms::sexpr_text::Sexprs;
 
 fn are_types(kind: ListKind) -> bool
     ensures { result ≡ are_types kind }

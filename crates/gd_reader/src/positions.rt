@@ -3,13 +3,13 @@ ghost use Rattle.std.specs.Option.{option_map};
 ghost use Rattle.htn_base.specs.Words.{folded};
 ghost use Rattle.text_forms.specs.Placed.{parts_at};
 ghost use Rattle.text_forms.specs.Tokens.{token_count};
-ghost use Rattle.sexpr_text.specs.Positions.{IsPosition};
+ghost use Rattle.text_forms.specs.sexpr_text.Positions.{IsPosition};
 ghost use Rattle.gd_reader.specs.Added.{Says};
 ghost use Rattle.gd_reader.specs.Answers.{Gives, word_due, word_or_end, list_or_end, end_due};
 ghost use Rattle.gd_reader.specs.ShownFrom.{ShowsFrom, GoesOnIn, behind_at, inside_and_behind, word_met, next_of};
 
 use crate::stop::{Failure, Stop};
-use sexpr_text::{Kind, Position, Sexprs};
+use text_forms::sexpr_text::{Kind, Position, Sexprs};
 
 /// What stands at a position, with its offset and the position of the next token. Of a list that is the token which comes
 /// first in it: its end is not looked for.

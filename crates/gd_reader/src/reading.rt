@@ -18,8 +18,8 @@ use crate::raw_params::RawParams;
 use crate::stop::{Failure, Stop};
 use crate::typed_lists::{ListKind, params_of};
 use htn_base::{Fault, NameTable};
-use sexpr_text::{ReadError, Sexprs};
 use std::alloc::Global;
+use text_forms::sexpr_text::{ReadError, Sexprs};
 
 /// What was read, and the number of the token where reading goes on.
 #[derive(Drop)]

@@ -11,8 +11,8 @@ use crate::cursor::{end_due, word_due, word_or_end};
 use crate::stop::{Failure, Stop};
 use crate::words::{Sort, rest, sort_of};
 use htn_base::{List, Marks, Name, NameTable};
-use sexpr_text::Sexprs;
 use std::alloc::Global;
+use text_forms::sexpr_text::Sexprs;
 
 /// A variable or a name, and the offset of its word. The name of a variable is without its question mark.
 #[derive(Clone, Copy)]

@@ -15,8 +15,8 @@ use crate::stop::{Failure, Stop};
 use crate::term::{name_of, see};
 use crate::words::{Sort, is_hyphen, rest, sort_of};
 use htn_base::{List, Name, NameTable, is_reserved_in_any_case};
-use sexpr_text::Sexprs;
 use std::alloc::Global;
+use text_forms::sexpr_text::Sexprs;
 
 /// A declared word with its offset, and its types: none where none is written, more than one where they make
 /// a union. The name of a variable is without its question mark.

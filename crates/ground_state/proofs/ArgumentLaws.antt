@@ -3,8 +3,8 @@ use Rattle.std.proofs.Common.{ℕ, zero, suc, ◌≡◌, ◌+◌, ◌<◌, ◌++
 use Rattle.std.proofs.lemmas.List.{take_more}
 use Rattle.plan_model.specs.declared.terms.Param.{Param}
 use Rattle.plan_model.specs.declared.values.Pddl.{Pddl}
-use Rattle.plan_meaning.specs.Truth.{AreTyped}
-use Rattle.plan_meaning.specs.ClassicalPlan.{HasWord, AreObjects, InTypeOf}
+use Rattle.plan_model.specs.plan_meaning.Truth.{AreTyped}
+use Rattle.plan_model.specs.plan_meaning.ClassicalPlan.{HasWord, AreObjects, InTypeOf}
 use Rattle.problem_index.specs.Index.{IsArgument}
 use Rattle.ground_state.specs.Runs.{AreArguments}
 

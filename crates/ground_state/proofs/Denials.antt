@@ -15,8 +15,8 @@ use Rattle.plan_model.specs.declared.terms.GroundAtom.{GroundAtom}
 use Rattle.plan_model.specs.declared.terms.Param.{Param}
 use Rattle.plan_model.specs.declared.effects.Effect.{Effect}
 use Rattle.plan_model.specs.declared.effects.Effect.TheVariants as E
-use Rattle.plan_meaning.specs.Truth as truth
-use Rattle.plan_meaning.specs.Truth.{ground, values_of, AreTyped}
+use Rattle.plan_model.specs.plan_meaning.Truth as truth
+use Rattle.plan_model.specs.plan_meaning.Truth.{ground, values_of, AreTyped}
 use Rattle.problem_index.specs.declared.domain.Domain.{Domain}
 use Rattle.problem_index.specs.Domains.{IsIn}
 use Rattle.ground_state.specs.declared.notes.Notes.{Notes}

@@ -3,7 +3,7 @@ use Rattle.std.proofs.Common.{ℕ, ◌≡◌, ◌<◌, ◌↔◌, ◌++◌, Bool
 use Rattle.plan_model.specs.declared.terms.GroundAtom.{GroundAtom}
 use Rattle.plan_model.specs.declared.terms.Param.{Param}
 use Rattle.plan_model.specs.declared.effects.Effect.{Effect}
-use Rattle.plan_meaning.specs.Truth as truth
+use Rattle.plan_model.specs.plan_meaning.Truth as truth
 use Rattle.problem_index.specs.declared.domain.Domain.{Domain}
 use Rattle.problem_index.specs.Domains.{places, IsIn}
 use Rattle.ground_state.specs.Search.{TouchesWithin}

@@ -2,7 +2,7 @@
 use Rattle.std.proofs.Common.{ℕ, ◌≡◌, ◌+◌, ◌<◌, ◌++◌, List, [], ◌∷◌, inl, inr, subst, append_assoc, arith}
 use Rattle.std.proofs.lemmas.Bool.{cases_lt}
 use Rattle.plan_model.specs.declared.terms.Param.{Param}
-use Rattle.plan_meaning.specs.Truth.{AreTyped}
+use Rattle.plan_model.specs.plan_meaning.Truth.{AreTyped}
 
 -- what holds of the numbers below one, and of it, holds below the next
 pub below-next : (P : ℕ → Type 0) (i : ℕ) → ((o : ℕ) → o < i → P o) → P i → (o : ℕ) → o < i + 1 → P o

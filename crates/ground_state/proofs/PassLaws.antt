@@ -9,8 +9,8 @@ use Rattle.plan_model.specs.declared.effects.Effect.{Effect, roll-Effect}
 use Rattle.plan_model.specs.declared.effects.Effect.TheFolds.{rec-roll-Effect, map-Effect}
 use Rattle.plan_model.specs.declared.effects.Effect.TheOpen.{Effect-F}
 use Rattle.plan_model.specs.declared.effects.Effect.TheVariants as E
-use Rattle.plan_meaning.specs.Truth as truth
-use Rattle.plan_meaning.specs.Truth.{ground, after}
+use Rattle.plan_model.specs.plan_meaning.Truth as truth
+use Rattle.plan_model.specs.plan_meaning.Truth.{ground, after}
 use Rattle.ground_state.specs.declared.state.State.{State}
 use Rattle.ground_state.specs.declared.passes.Pass.{Pass}
 use Rattle.ground_state.specs.declared.passes.Pass.TheVariants as passes

@@ -7,12 +7,12 @@ use Rattle.plan_model.specs.declared.terms.Param.{Param}
 use Rattle.plan_model.specs.declared.schemas.ActionSchema.{ActionSchema}
 use Rattle.plan_model.specs.declared.steps.GroundAction.{GroundAction}
 use Rattle.plan_model.specs.declared.values.Pddl.{Pddl}
-use Rattle.plan_meaning.specs.Truth as truth
-use Rattle.plan_meaning.specs.Truth.{AreTyped, IsTrueIn}
-use Rattle.plan_meaning.specs.ClassicalPlan.{InTypeOf, IsApplicable, EndsIn, IsPlan}
-use Rattle.plan_meaning.specs.FailingStep.{Cause, unknown_action, arguments, condition, goal_false, IsNamed, IsInstance, FailsIn, Fails, AreNamedApart}
-use Rattle.plan_meaning.proofs.SameStates.{same_truth, same_after}
-use Rattle.plan_meaning.proofs.FailingLaws.{ends_weaker, ends_joined, same_objects}
+use Rattle.plan_model.specs.plan_meaning.Truth as truth
+use Rattle.plan_model.specs.plan_meaning.Truth.{AreTyped, IsTrueIn}
+use Rattle.plan_model.specs.plan_meaning.ClassicalPlan.{InTypeOf, IsApplicable, EndsIn, IsPlan}
+use Rattle.plan_model.specs.plan_meaning.FailingStep.{Cause, unknown_action, arguments, condition, goal_false, IsNamed, IsInstance, FailsIn, Fails, AreNamedApart}
+use Rattle.plan_model.proofs.plan_meaning.SameStates.{same_truth, same_after}
+use Rattle.plan_model.proofs.plan_meaning.FailingLaws.{ends_weaker, ends_joined, same_objects}
 use Rattle.problem_index.specs.Index.{IsIndex}
 use Rattle.ground_state.specs.declared.verdict.FailWhy.{FailWhy}
 use Rattle.ground_state.specs.declared.run.Run.{Run}

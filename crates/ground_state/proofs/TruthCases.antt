@@ -7,9 +7,9 @@ use Rattle.plan_model.specs.declared.terms.Atom.{Atom}
 use Rattle.plan_model.specs.declared.terms.Param.{Param}
 use Rattle.plan_model.specs.declared.formulas.Formula.{Formula}
 use Rattle.plan_model.specs.declared.formulas.Formula.TheVariants as F
-use Rattle.plan_meaning.specs.Truth.{State, ground, value_of, EachTrue, OneTrue, AreTyped, IsTrueIn}
-use Rattle.plan_meaning.proofs.TruthEquations.{truth-Holds, truth-Equal, truth-Not, truth-And, truth-Or, truth-Imply, truth-Forall, truth-Exists}
-use Rattle.task_networks.proofs.Lists.{Contains-here, Contains-later}
+use Rattle.plan_model.specs.plan_meaning.Truth.{State, ground, value_of, EachTrue, OneTrue, AreTyped, IsTrueIn}
+use Rattle.plan_model.proofs.plan_meaning.TruthEquations.{truth-Holds, truth-Equal, truth-Not, truth-And, truth-Or, truth-Imply, truth-Forall, truth-Exists}
+use Rattle.plan_model.proofs.task_networks.Lists.{Contains-here, Contains-later}
 use Rattle.problem_index.specs.declared.domain.Domain.{Domain}
 use Rattle.ground_state.specs.declared.state.State as computed
 use Rattle.problem_index.specs.Domains.{IsIn, IsWithSome}

@@ -7,7 +7,7 @@ use Rattle.plan_model.specs.declared.terms.Param.{Param}
 use Rattle.plan_model.specs.declared.formulas.Formula.{Formula}
 use Rattle.plan_model.specs.declared.effects.Effect.{Effect}
 use Rattle.plan_model.specs.Typing.{InType}
-use Rattle.plan_meaning.specs.Truth.{IsTrueIn, after}
+use Rattle.plan_model.specs.plan_meaning.Truth.{IsTrueIn, after}
 use Rattle.ground_state.specs.declared.env.Env.{Env}
 use Rattle.ground_state.specs.declared.atom_list.AtomLists.{AtomLists}
 use Rattle.ground_state.specs.declared.state.State.{State}

@@ -6,7 +6,7 @@ use Rattle.std.specs.Ordering.{nat_cmp}
 use Rattle.std.specs.Cmp.Lexicographic.{slice_cmp}
 use Rattle.std.specs.BTreeMap as tree
 use Rattle.plan_model.specs.declared.terms.Term.{Term}
-use Rattle.plan_meaning.specs.Truth.{values_of}
+use Rattle.plan_model.specs.plan_meaning.Truth.{values_of}
 use Rattle.problem_index.specs.declared.domain.Domain.{Domain}
 use Rattle.problem_index.specs.Domains.{IsIn}
 use Rattle.ground_state.specs.declared.notes.Notes.{Notes}

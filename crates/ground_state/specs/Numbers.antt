@@ -3,7 +3,7 @@
 use Rattle.std.specs.Prelude.{ℕ, ◌≡◌, ◌+◌, ◌*◌, ◌<◌, ◌^◌, List, [], ◌∷◌, ◌++◌, Option, Some}
 use Rattle.plan_model.specs.Numbers.{number}
 use Rattle.plan_model.specs.declared.terms.Term.{Term}
-use Rattle.plan_meaning.specs.Truth.{values_of}
+use Rattle.plan_model.specs.plan_meaning.Truth.{values_of}
 use Rattle.ground_state.specs.declared.numbers.Numbers.{Numbers}
 use Rattle.ground_state.specs.declared.numbers.Row.{Row}
 

@@ -7,7 +7,7 @@ use Rattle.plan_model.specs.declared.effects.Effect.{Effect}
 use Rattle.plan_model.specs.declared.effects.Effect.TheFolds.{rec-Effect}
 use Rattle.plan_model.specs.declared.effects.Effect.TheOpen.{Effect-F}
 use Rattle.plan_model.specs.declared.effects.Effect.TheVariants as E
-use Rattle.plan_meaning.specs.Truth as truth
+use Rattle.plan_model.specs.plan_meaning.Truth as truth
 use Rattle.problem_index.specs.declared.domain.Domain.{Domain}
 use Rattle.problem_index.specs.Domains.{IsIn}
 use Rattle.ground_state.specs.declared.state.State.{State}

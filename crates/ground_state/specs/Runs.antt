@@ -7,9 +7,9 @@ use Rattle.plan_model.specs.declared.schemas.ActionSchema.{ActionSchema}
 use Rattle.plan_model.specs.declared.steps.GroundAction.{GroundAction}
 use Rattle.plan_model.specs.declared.values.Pddl.{Pddl}
 use Rattle.plan_model.specs.Parts.{AreListed}
-use Rattle.plan_meaning.specs.Truth.{AreTyped, after}
-use Rattle.plan_meaning.specs.ClassicalPlan.{AreObjects, InTypeOf, IsApplicable, EndsIn, IsPlan}
-use Rattle.plan_meaning.specs.FailingStep.{Cause, unknown_action, arguments, condition, goal_false, Fails, AreNamedApart}
+use Rattle.plan_model.specs.plan_meaning.Truth.{AreTyped, after}
+use Rattle.plan_model.specs.plan_meaning.ClassicalPlan.{AreObjects, InTypeOf, IsApplicable, EndsIn, IsPlan}
+use Rattle.plan_model.specs.plan_meaning.FailingStep.{Cause, unknown_action, arguments, condition, goal_false, Fails, AreNamedApart}
 use Rattle.ground_state.specs.declared.verdict.FailWhy.{FailWhy}
 use Rattle.ground_state.specs.declared.verdict.FailWhy.TheVariants as why
 use Rattle.ground_state.specs.declared.verdict.Verdict.{Verdict}

@@ -8,7 +8,7 @@ use Rattle.plan_model.specs.declared.terms.GroundAtom.{GroundAtom}
 use Rattle.plan_model.specs.declared.formulas.Formula.{Formula}
 use Rattle.plan_model.specs.declared.formulas.Formula.TheVariants as F
 use Rattle.plan_model.specs.declared.effects.Effect.{Effect}
-use Rattle.plan_meaning.specs.Truth.{State, ground, AreTyped, IsTrueIn, OneTrue, Adds, Deletes}
+use Rattle.plan_model.specs.plan_meaning.Truth.{State, ground, AreTyped, IsTrueIn, OneTrue, Adds, Deletes}
 use Rattle.problem_index.specs.declared.domain.Domain.{Domain}
 use Rattle.problem_index.specs.Domains.{IsWithSome}
 use Rattle.ground_state.specs.declared.atom_list.AtomLists.{AtomLists}

@@ -3,7 +3,7 @@
 use Rattle.std.specs.Prelude.{ℕ, ◌≡◌, ◌≢◌, ◌⊎◌, ◌↔◌, Bool, false, IsTrue, IsSome, List, Contains, slice_get, Option, unwrap_or}
 use Rattle.std.specs.Option.{option_map, option_and_then}
 use Rattle.plan_model.specs.declared.terms.GroundAtom.{GroundAtom}
-use Rattle.plan_meaning.specs.Truth as truth
+use Rattle.plan_model.specs.plan_meaning.Truth as truth
 use Rattle.ground_state.specs.declared.state.State.{State}
 use Rattle.ground_state.specs.Notes as notes
 

@@ -1,5 +1,5 @@
 ghost use Rattle.std.specs.Prelude.{◌≡◌, ◌++◌, ◌∷◌, [], IfOk, OnOk, OnErr};
-ghost use Rattle.plan_meaning.specs.Truth.{ground};
+ghost use Rattle.plan_model.specs.plan_meaning.Truth.{ground};
 ghost use Rattle.ground_state.specs.Frames.{frame};
 
 use crate::env::Env;

@@ -1,6 +1,6 @@
 ghost use Rattle.std.specs.Prelude.{ℕ, ◌≡◌, ◌+◌, ◌*◌, ◌^◌, ◌≤◌, ◌<◌, ◌++◌, ◌∷◌, [], length, IfSome, IfOk, OnOk};
 ghost use Rattle.std.specs.Bool.{OnTrue};
-ghost use Rattle.plan_meaning.specs.Truth.{value_of, values_of};
+ghost use Rattle.plan_model.specs.plan_meaning.Truth.{value_of, values_of};
 ghost use Rattle.ground_state.specs.Frames.{Frame, frame, pushed, cleared};
 ghost use Rattle.ground_state.specs.Numbers.{number_of, HasRow};
 

@@ -1,6 +1,6 @@
 ghost use Rattle.std.specs.Prelude.{◌≡◌, ◌++◌, ◌∷◌, [], ◌≤◌, false, Some, None, length, slice_index_or};
 ghost use Rattle.std.specs.Prelude.{MatchBool, IfSome, OnOk, OnErr};
-ghost use Rattle.plan_meaning.specs.Truth.{values_of};
+ghost use Rattle.plan_model.specs.plan_meaning.Truth.{values_of};
 ghost use Rattle.problem_index.specs.Domains.{IsBelow, IsWithSome};
 ghost use Rattle.ground_state.specs.Frames.{frame};
 ghost use Rattle.ground_state.specs.Notes as spec;

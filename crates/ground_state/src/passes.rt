@@ -2,7 +2,7 @@ ghost use Rattle.std.specs.Prelude.{◌≡◌, ◌≤◌, ◌∷◌, length, Mat
 ghost use Rattle.std.specs.Bool.{OnTrue};
 ghost use Rattle.problem_index.specs.Domains.{IsBelow, IsDomainOf};
 ghost use Rattle.problem_index.specs.Kinds.{IsWorld};
-ghost use Rattle.plan_meaning.specs.Truth.{ground};
+ghost use Rattle.plan_model.specs.plan_meaning.Truth.{ground};
 ghost use Rattle.ground_state.specs.Frames.{frame};
 ghost use Rattle.ground_state.specs.Room.{EffectFits, AllEffectsFit, EffectFitsWithin};
 ghost use Rattle.ground_state.specs.States.{HasSameNotes};

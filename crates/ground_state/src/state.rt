@@ -1,6 +1,6 @@
 ghost use Rattle.std.specs.Prelude.{◌≡◌, ◌++◌, ◌∷◌, [], ◌≤◌, ◌↔◌, false, length, IsTrue, Contains, Some, None};
 ghost use Rattle.std.specs.Prelude.{IfSome, IfOk, OnOk, OnErr};
-ghost use Rattle.plan_meaning.specs.Truth.{ground};
+ghost use Rattle.plan_model.specs.plan_meaning.Truth.{ground};
 ghost use Rattle.problem_index.specs.Domains.{IsBelow, IsWithSome};
 ghost use Rattle.ground_state.specs.Frames.{frame};
 ghost use Rattle.ground_state.specs.States as spec;

@@ -1,6 +1,6 @@
 -- The chain of a network: each subtask before the next.
 use Rattle.std.proofs.Common.{ℕ, zero, suc, ◌≡◌, ◌+◌, ◌-◌, ◌<◌, ◌≤◌, inl, inr, [], ◌∷◌, ◌++◌, ap, sym, ◌∙◌, Contains, arith}
-use Rattle.task_networks.proofs.Lists.{Contains-later, not-in_empty, head_or_tail}
+use Rattle.plan_model.proofs.task_networks.Lists.{Contains-later, not-in_empty, head_or_tail}
 use Rattle.plan_model.specs.declared.networks.Pair.{Pair}
 use Rattle.plan_model.specs.Pairs.{pair}
 use Rattle.std.proofs.lemmas.Bool.{cases_lt}

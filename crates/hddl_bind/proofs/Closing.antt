@@ -3,13 +3,13 @@ use Rattle.std.proofs.Common.{ℕ, suc, ◌≡◌, ◌+◌, ◌-◌, ◌<◌, �
 use Rattle.std.specs.List.{flat_map}
 use Rattle.std.proofs.lemmas.List.Concat.{flat_map-append}
 use Rattle.std.proofs.lemmas.List.Elements.{Contains-append_left, Contains-append_right, Contains-append_cases}
-use Rattle.task_networks.proofs.Lists.{not-in_empty, head_or_tail}
-use Rattle.task_networks.specs.Order.{Precedes, direct, through, IsAcyclic, Among, IsFirstClosing}
+use Rattle.plan_model.proofs.task_networks.Lists.{not-in_empty, head_or_tail}
+use Rattle.plan_model.specs.task_networks.Order.{Precedes, direct, through, IsAcyclic, Among, IsFirstClosing}
 use Rattle.net_order.proofs.Chains.{chain_map}
 use Rattle.plan_model.specs.declared.networks.Pair.{Pair}
 use Rattle.plan_model.specs.Pairs.{pair, Pairs}
 use Rattle.plan_texts.specs.Networks.{chain_if}
-use Rattle.hddl_reader.specs.names.Lists.{One, IsFirst}
+use Rattle.htn_base.specs.Lists.{One, IsFirst}
 use Rattle.hddl_bind.specs.Pairs.{if_both, if_pair}
 use Rattle.hddl_bind.proofs.ChainPairs.{IsStep, step_in_chain, chain_has_step}
 

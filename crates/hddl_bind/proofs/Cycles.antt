@@ -1,7 +1,7 @@
 -- The cycle of a network, by what an order of its pairs says.
 use Rattle.std.proofs.Common.{ℕ, ◌≡◌, ◌+◌, ◌-◌, ◌<◌, ◌≤◌, inl, inr, List, [], ◌∷◌, Some, None, length, get_or, slice_get, ap, sym, subst, ◌∙◌, length-append, arith}
 use Rattle.std.proofs.lemmas.Option.{slice_get_within, get_or_from_slice_get}
-use Rattle.task_networks.specs.Order.{IsAcyclic, IsFirstClosing}
+use Rattle.plan_model.specs.task_networks.Order.{IsAcyclic, IsFirstClosing}
 use Rattle.plan_model.specs.declared.networks.Pair.{Pair}
 use Rattle.plan_model.specs.Pairs.{pair, Pairs}
 use Rattle.plan_texts.specs.Networks.{chain_if}
@@ -9,7 +9,7 @@ use Rattle.net_order.specs.Meaning.{AreBelow}
 use Rattle.net_order.proofs.Chains.{below_from_pairs}
 use Rattle.hddl_reader.specs.declared.networks.RawNet.{RawNet}
 use Rattle.hddl_reader.specs.declared.networks.RawPair.{RawPair}
-use Rattle.hddl_reader.specs.names.Lists.{One}
+use Rattle.htn_base.specs.Lists.{One}
 use Rattle.hddl_reader.specs.names.Networks.{most_subtasks}
 use Rattle.hddl_reader.proofs.names.Firsts.{one_is_first}
 use Rattle.hddl_bind.specs.Pairs.{first_of, second_of, pairs_bound, pairs_at}

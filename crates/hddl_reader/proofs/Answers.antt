@@ -4,9 +4,9 @@ use Rattle.std.proofs.lemmas.Bool.{eqb-true}
 use Rattle.htn_base.specs.Words.{is_reserved}
 use Rattle.text_forms.specs.Placed.{Placed, cut, close, word, list}
 use Rattle.text_forms.specs.Words.{Word}
-use Rattle.form_grammar.specs.Codes.{Form, unfinished, wrong, ◌followed_by◌}
-use Rattle.form_grammar.specs.Rows.{Next, go, stop, if_allowed, Row, Rows, form, closed, front}
-use Rattle.form_grammar.specs.Words as words
+use Rattle.text_forms.specs.form_grammar.Codes.{Form, unfinished, wrong, ◌followed_by◌}
+use Rattle.text_forms.specs.form_grammar.Rows.{Next, go, stop, if_allowed, Row, Rows, form, closed, front}
+use Rattle.text_forms.specs.form_grammar.Words as words
 use Rattle.gd_reader.specs.declared.stop.Stop.{Stop}
 use Rattle.gd_reader.specs.declared.stop.Stop.TheVariants.{Ends, Departs}
 use Rattle.gd_reader.specs.declared.term.RawTerm.{RawTerm}

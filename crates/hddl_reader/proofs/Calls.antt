@@ -1,7 +1,7 @@
 -- What is answered as the grammar says, seen by the contracts of the calls.
 use Rattle.std.proofs.Common.{◌≡◌, Ok, Err, Result, refl, sym, ◌∙◌, ap, subst}
 use Rattle.text_forms.specs.Placed.{Placed, parts_at}
-use Rattle.form_grammar.specs.Codes.{Form, Whole, Departs}
+use Rattle.text_forms.specs.form_grammar.Codes.{Form, Whole, Departs}
 use Rattle.gd_reader.specs.declared.stop.Stop.{Stop}
 use Rattle.gd_reader.specs.declared.stop.Stop.TheVariants as stops
 use Rattle.gd_reader.specs.Forms as plain

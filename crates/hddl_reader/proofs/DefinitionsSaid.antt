@@ -2,12 +2,12 @@
 use Rattle.std.proofs.Common.{◌≡◌, ℕ, Bool, true, false, if◌then◌else◌, Result, Ok, Err, Some, None, codes, refl, sym, ◌∙◌, ap}
 use Rattle.text_forms.specs.Placed.{Placed, cut, close, word, list}
 use Rattle.text_forms.specs.Words.{Word}
-use Rattle.form_grammar.specs.Codes.{wrong}
-use Rattle.form_grammar.specs.Definitions.{definition_form}
-use Rattle.form_grammar.specs.Rows.{go, stop, form}
-use Rattle.form_grammar.specs.Sections.{SectionDue, section_rows}
-use Rattle.form_grammar.specs.Sections as grammar
-use Rattle.form_grammar.specs.Texts.{text_form, one_list, the_end}
+use Rattle.text_forms.specs.form_grammar.Codes.{wrong}
+use Rattle.text_forms.specs.form_grammar.Definitions.{definition_form}
+use Rattle.text_forms.specs.form_grammar.Rows.{go, stop, form}
+use Rattle.text_forms.specs.form_grammar.Sections.{SectionDue, section_rows}
+use Rattle.text_forms.specs.form_grammar.Sections as grammar
+use Rattle.text_forms.specs.form_grammar.Texts.{text_form, one_list, the_end}
 use Rattle.gd_reader.specs.declared.stop.Stop.{Stop}
 use Rattle.gd_reader.specs.declared.stop.Stop.TheVariants.{Departs}
 use Rattle.gd_reader.specs.Answers.{◌>>=◌, word_due, list_due, end_due}

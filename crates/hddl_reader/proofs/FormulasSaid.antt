@@ -2,12 +2,12 @@
 use Rattle.std.proofs.Common.{◌≡◌, ℕ, if◌then◌else◌, Ok, [], ◌∷◌, drop, codes, refl, sym, ◌∙◌, ap}
 use Rattle.text_forms.specs.Placed.{Placed, cut, close, word, list}
 use Rattle.text_forms.specs.Words.{Word, is_name}
-use Rattle.form_grammar.specs.Formulas.{FormulaDue, of_terms, of_list, group, gd, gds, gd_table, formula_rows, formula_form}
-use Rattle.form_grammar.specs.Lists.{TermDue, term_rows, ListDue, list_rows}
-use Rattle.form_grammar.specs.Lists as due
-use Rattle.form_grammar.specs.Rows.{Next, go, stop, if_allowed, form}
-use Rattle.form_grammar.specs.Words as words
-use Rattle.form_grammar.proofs.Meaning.{form_same}
+use Rattle.text_forms.specs.form_grammar.Formulas.{FormulaDue, of_terms, of_list, group, gd, gds, gd_table, formula_rows, formula_form}
+use Rattle.text_forms.specs.form_grammar.Lists.{TermDue, term_rows, ListDue, list_rows}
+use Rattle.text_forms.specs.form_grammar.Lists as due
+use Rattle.text_forms.specs.form_grammar.Rows.{Next, go, stop, if_allowed, form}
+use Rattle.text_forms.specs.form_grammar.Words as words
+use Rattle.text_forms.proofs.form_grammar.Meaning.{form_same}
 use Rattle.gd_reader.specs.declared.typed_lists.ListKind.TheVariants.{Parameters}
 use Rattle.gd_reader.specs.declared.words.Head.{Head}
 use Rattle.gd_reader.specs.declared.words.Head.TheVariants as head

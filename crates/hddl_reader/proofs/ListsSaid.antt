@@ -4,11 +4,11 @@ use Rattle.htn_base.specs.Table.{with_word}
 use Rattle.htn_base.specs.Words.{is_reserved}
 use Rattle.text_forms.specs.Placed.{Placed, cut, close, word, list}
 use Rattle.text_forms.specs.Words.{Word, is_among}
-use Rattle.form_grammar.specs.Codes.{Form, wrong, ◌followed_by◌}
-use Rattle.form_grammar.specs.Lists.{ListDue, list_rows}
-use Rattle.form_grammar.specs.Lists as due
-use Rattle.form_grammar.specs.Rows.{Next, go, stop, if_allowed, Inner, form, front, a_list}
-use Rattle.form_grammar.specs.Words as words
+use Rattle.text_forms.specs.form_grammar.Codes.{Form, wrong, ◌followed_by◌}
+use Rattle.text_forms.specs.form_grammar.Lists.{ListDue, list_rows}
+use Rattle.text_forms.specs.form_grammar.Lists as due
+use Rattle.text_forms.specs.form_grammar.Rows.{Next, go, stop, if_allowed, Inner, form, front, a_list}
+use Rattle.text_forms.specs.form_grammar.Words as words
 use Rattle.gd_reader.specs.declared.stop.Stop.{Stop}
 use Rattle.gd_reader.specs.declared.stop.Stop.TheVariants.{Departs}
 use Rattle.gd_reader.specs.declared.term.RawTerm.{RawTerm}

@@ -2,13 +2,13 @@
 use Rattle.std.proofs.Common.{◌≡◌, ℕ, Bool, true, false, Result, Ok, Err, Some, None, [], ◌∷◌, codes, refl, sym, ◌∙◌, ap, if◌then◌else◌}
 use Rattle.text_forms.specs.Placed.{Placed, cut, close, word, list}
 use Rattle.text_forms.specs.Words.{Word, is_name}
-use Rattle.form_grammar.specs.Lists.{TermDue, term_rows}
-use Rattle.form_grammar.specs.Lists as due
-use Rattle.form_grammar.specs.Networks.{NetworkDue, of_terms, group, subs, more_subs, sub, behind_id, pairs, more_pairs, pair, id, sign, cons, more_cons, con, equality, sub_word, pair_word, con_word, network_rows}
-use Rattle.form_grammar.specs.Rows.{Next, go, stop, if_allowed, form, list_or_end, word_or_end}
-use Rattle.form_grammar.specs.Rows as rows
-use Rattle.form_grammar.specs.Words as words
-use Rattle.form_grammar.proofs.Meaning.{form_same}
+use Rattle.text_forms.specs.form_grammar.Lists.{TermDue, term_rows}
+use Rattle.text_forms.specs.form_grammar.Lists as due
+use Rattle.text_forms.specs.form_grammar.Networks.{NetworkDue, of_terms, group, subs, more_subs, sub, behind_id, pairs, more_pairs, pair, id, sign, cons, more_cons, con, equality, sub_word, pair_word, con_word, network_rows}
+use Rattle.text_forms.specs.form_grammar.Rows.{Next, go, stop, if_allowed, form, list_or_end, word_or_end}
+use Rattle.text_forms.specs.form_grammar.Rows as rows
+use Rattle.text_forms.specs.form_grammar.Words as words
+use Rattle.text_forms.proofs.form_grammar.Meaning.{form_same}
 use Rattle.gd_reader.specs.declared.stop.Stop.{Stop}
 use Rattle.gd_reader.specs.declared.stop.Stop.TheVariants.{Departs}
 use Rattle.gd_reader.specs.declared.term.RawTerm.{RawTerm}

@@ -3,16 +3,16 @@ use Rattle.std.proofs.Common.{◌≡◌, ℕ, Bool, true, false, ◌||◌, if◌
 use Rattle.std.specs.Str.{bytes_eq}
 use Rattle.text_forms.specs.Placed.{Placed, cut, close, word, list}
 use Rattle.text_forms.specs.Words.{Word, is_among}
-use Rattle.form_grammar.specs.Effects.{effect_rows, eff}
-use Rattle.form_grammar.specs.Effects as effects
-use Rattle.form_grammar.specs.Formulas.{gd}
-use Rattle.form_grammar.specs.Lists as due
-use Rattle.form_grammar.specs.Networks.{network_rows, subs, pairs, cons}
-use Rattle.form_grammar.specs.Rows.{if_allowed, form, closed}
-use Rattle.form_grammar.specs.Sections.{SectionDue, of_effect, of_network, of_terms_due, typed, group, section_rows, part_table, has_parts}
-use Rattle.form_grammar.specs.Sections as grammar
-use Rattle.form_grammar.specs.Words.{Table, counts_as, by_keyword}
-use Rattle.form_grammar.proofs.Meaning.{form_same}
+use Rattle.text_forms.specs.form_grammar.Effects.{effect_rows, eff}
+use Rattle.text_forms.specs.form_grammar.Effects as effects
+use Rattle.text_forms.specs.form_grammar.Formulas.{gd}
+use Rattle.text_forms.specs.form_grammar.Lists as due
+use Rattle.text_forms.specs.form_grammar.Networks.{network_rows, subs, pairs, cons}
+use Rattle.text_forms.specs.form_grammar.Rows.{if_allowed, form, closed}
+use Rattle.text_forms.specs.form_grammar.Sections.{SectionDue, of_effect, of_network, of_terms_due, typed, group, section_rows, part_table, has_parts}
+use Rattle.text_forms.specs.form_grammar.Sections as grammar
+use Rattle.text_forms.specs.form_grammar.Words.{Table, counts_as, by_keyword}
+use Rattle.text_forms.proofs.form_grammar.Meaning.{form_same}
 use Rattle.gd_reader.specs.declared.stop.Stop.{Stop}
 use Rattle.gd_reader.specs.declared.stop.Stop.TheVariants.{Departs}
 use Rattle.gd_reader.specs.declared.typed_lists.ListKind.{ListKind}

@@ -3,9 +3,9 @@ use Rattle.std.proofs.Common.{◌≡◌, ℕ, List, length, Result, Ok, Err, ref
 use Rattle.htn_base.specs.declared.name.Name.{Name}
 use Rattle.text_forms.specs.Faults.{fault}
 use Rattle.text_forms.specs.Placed.{parts_at}
-use Rattle.form_grammar.specs.Codes.{Whole}
-use Rattle.form_grammar.specs.Definitions.{definition_form}
-use Rattle.form_grammar.specs.Texts.{fault_or}
+use Rattle.text_forms.specs.form_grammar.Codes.{Whole}
+use Rattle.text_forms.specs.form_grammar.Definitions.{definition_form}
+use Rattle.text_forms.specs.form_grammar.Texts.{fault_or}
 use Rattle.hddl_reader.specs.Said.{said}
 use Rattle.gd_reader.specs.declared.stop.Failure.{Failure}
 use Rattle.gd_reader.specs.declared.stop.Failure.TheVariants as failures

@@ -10,7 +10,7 @@ use Rattle.gd_reader.specs.Answers.{◌>>=◌, Fails, with_front, word_or_end, l
 use Rattle.gd_reader.specs.Terms.{Names, used}
 use Rattle.gd_reader.proofs.Steps.{Met, Pair, met_behind, by_step, fails_bind}
 use Rattle.text_forms.specs.Words.{Word}
-use Rattle.form_grammar.specs.Words.{Table, entry}
+use Rattle.text_forms.specs.form_grammar.Words.{Table, entry}
 use Rattle.std.specs.Str.{bytes_eq}
 use Rattle.std.specs.Prelude.{Bool, true, false, if◌then◌else◌}
 use Rattle.hddl_reader.specs.declared.sections.Definition.{Definition}

@@ -4,13 +4,13 @@ use Rattle.std.specs.Str.{bytes_eq}
 use Rattle.std.proofs.lemmas.Slice.Eq.{bytes_eq-Decides}
 use Rattle.text_forms.specs.Placed.{Placed, cut, close, word, list}
 use Rattle.text_forms.specs.Words.{Word, is_among, is_name}
-use Rattle.form_grammar.specs.Effects as effects
-use Rattle.form_grammar.specs.Formulas.{gd}
-use Rattle.form_grammar.specs.Lists as due
-use Rattle.form_grammar.specs.Rows.{go, if_allowed, form, front}
-use Rattle.form_grammar.specs.Sections.{SectionDue, of_effect, of_terms_due, typed, group, section_rows, section_table, has_sections, seen_behind}
-use Rattle.form_grammar.specs.Sections as grammar
-use Rattle.form_grammar.specs.Words.{Table, entry, by_keyword, used}
+use Rattle.text_forms.specs.form_grammar.Effects as effects
+use Rattle.text_forms.specs.form_grammar.Formulas.{gd}
+use Rattle.text_forms.specs.form_grammar.Lists as due
+use Rattle.text_forms.specs.form_grammar.Rows.{go, if_allowed, form, front}
+use Rattle.text_forms.specs.form_grammar.Sections.{SectionDue, of_effect, of_terms_due, typed, group, section_rows, section_table, has_sections, seen_behind}
+use Rattle.text_forms.specs.form_grammar.Sections as grammar
+use Rattle.text_forms.specs.form_grammar.Words.{Table, entry, by_keyword, used}
 use Rattle.gd_reader.specs.declared.stop.Stop.{Stop}
 use Rattle.gd_reader.specs.declared.stop.Stop.TheVariants.{Departs}
 use Rattle.gd_reader.specs.declared.term.RawAtom.{RawAtom}

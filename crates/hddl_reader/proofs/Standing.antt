@@ -4,8 +4,8 @@ use Rattle.std.specs.Str.{bytes_eq}
 use Rattle.std.proofs.lemmas.Slice.Eq.{bytes_eq-Decides}
 use Rattle.text_forms.specs.Placed.{Placed}
 use Rattle.text_forms.specs.Words.{Word, is_among}
-use Rattle.form_grammar.specs.Rows.{Next, if_allowed, Rows, form}
-use Rattle.form_grammar.specs.Words.{Table, entry, is_keyword, unknown, by_keyword, counts_as}
+use Rattle.text_forms.specs.form_grammar.Rows.{Next, if_allowed, Rows, form}
+use Rattle.text_forms.specs.form_grammar.Words.{Table, entry, is_keyword, unknown, by_keyword, counts_as}
 use Rattle.gd_reader.specs.declared.stop.Stop.{Stop}
 use Rattle.gd_reader.specs.declared.stop.Stop.TheVariants.{Departs}
 use Rattle.gd_reader.specs.Answers.{◌>>=◌}

@@ -2,11 +2,11 @@
 use Rattle.std.proofs.Common.{◌≡◌, ℕ, Ok, Err, Result, ◌∷◌, drop, true, false, refl, ◌∙◌, ap}
 use Rattle.text_forms.specs.Placed.{Placed, cut, close, word, list}
 use Rattle.text_forms.specs.Words.{Word, is_name}
-use Rattle.form_grammar.specs.Codes.{Form, wrong, ◌followed_by◌}
-use Rattle.form_grammar.specs.Lists.{term_rows}
-use Rattle.form_grammar.specs.Lists as due
-use Rattle.form_grammar.specs.Rows.{Next, go, stop, if_allowed, Rows, form}
-use Rattle.form_grammar.specs.Words as words
+use Rattle.text_forms.specs.form_grammar.Codes.{Form, wrong, ◌followed_by◌}
+use Rattle.text_forms.specs.form_grammar.Lists.{term_rows}
+use Rattle.text_forms.specs.form_grammar.Lists as due
+use Rattle.text_forms.specs.form_grammar.Rows.{Next, go, stop, if_allowed, Rows, form}
+use Rattle.text_forms.specs.form_grammar.Words as words
 use Rattle.gd_reader.specs.declared.stop.Stop.{Stop}
 use Rattle.gd_reader.specs.declared.stop.Stop.TheVariants.{Ends, Departs}
 use Rattle.gd_reader.specs.declared.term.RawTerm.{RawTerm}

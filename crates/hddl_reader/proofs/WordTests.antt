@@ -4,8 +4,8 @@ use Rattle.std.proofs.lemmas.Bool.{eqb-true}
 use Rattle.std.specs.Str.{bytes_eq}
 use Rattle.htn_base.specs.Words.{is_reserved}
 use Rattle.text_forms.specs.Words.{Word, is_name}
-use Rattle.form_grammar.specs.Rows.{Next, go, stop, if_allowed}
-use Rattle.form_grammar.specs.Words.{Table, entry, by_word, is_variable_word, is_term, used, declared}
+use Rattle.text_forms.specs.form_grammar.Rows.{Next, go, stop, if_allowed}
+use Rattle.text_forms.specs.form_grammar.Words.{Table, entry, by_word, is_variable_word, is_term, used, declared}
 use Rattle.gd_reader.specs.declared.words.Sort.{Sort}
 use Rattle.gd_reader.specs.declared.words.Sort.TheVariants.{Variable, Name, Other}
 use Rattle.gd_reader.specs.TermGrammar.{is_term_sort, is_name_sort}

@@ -2,9 +2,9 @@
 use Rattle.std.specs.Prelude.{ℕ, List}
 use Rattle.htn_base.specs.declared.fault.Fault.{Fault}
 use Rattle.text_forms.specs.Placed.{Placed, parts_at}
-use Rattle.form_grammar.specs.Codes.{Form, Whole, Departs}
-use Rattle.sexpr_text.specs.declared.read_error.ReadError.{ReadError}
-use Rattle.sexpr_text.specs.declared.read_error.ReadError.TheVariants as errors
+use Rattle.text_forms.specs.form_grammar.Codes.{Form, Whole, Departs}
+use Rattle.text_forms.specs.declared.sexpr_text.read_error.ReadError.{ReadError}
+use Rattle.text_forms.specs.declared.sexpr_text.read_error.ReadError.TheVariants as errors
 use Rattle.gd_reader.specs.Terms.{Names}
 
 -- where a value is answered, the tokens are whole

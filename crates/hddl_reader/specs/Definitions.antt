@@ -2,14 +2,14 @@
 -- Source: the full syntax definition of Höller et al., "HDDL", AAAI 2020, and appendix A of Fox and Long, "PDDL2.1", JAIR 20, 2003, level 1.
 use Rattle.std.specs.Prelude.{◌≡◌, ℕ, List, Option, Some, None, Result, Ok, Err, if◌then◌else◌, codes}
 use Rattle.htn_base.specs.declared.name.Name.{Name}
-use Rattle.sexpr_text.specs.declared.read_error.ReadError.{ReadError}
-use Rattle.sexpr_text.specs.declared.read_error.ReadError.TheVariants as errors
+use Rattle.text_forms.specs.declared.sexpr_text.read_error.ReadError.{ReadError}
+use Rattle.text_forms.specs.declared.sexpr_text.read_error.ReadError.TheVariants as errors
 use Rattle.text_forms.specs.Faults.{fault}
 use Rattle.text_forms.specs.Placed.{Placed, cut, close, word, list, parts_at}
 use Rattle.text_forms.specs.Words.{Word}
-use Rattle.form_grammar.specs.Codes.{Whole}
-use Rattle.form_grammar.specs.Definitions.{definition_form, definition_fault}
-use Rattle.form_grammar.specs.Sections as grammar
+use Rattle.text_forms.specs.form_grammar.Codes.{Whole}
+use Rattle.text_forms.specs.form_grammar.Definitions.{definition_form, definition_fault}
+use Rattle.text_forms.specs.form_grammar.Sections as grammar
 use Rattle.gd_reader.specs.declared.stop.Failure.{Failure}
 use Rattle.gd_reader.specs.declared.stop.Failure.TheVariants as failures
 use Rattle.gd_reader.specs.declared.stop.Stop.{Stop}

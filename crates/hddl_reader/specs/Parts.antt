@@ -4,7 +4,7 @@ use Rattle.std.specs.Prelude.{◌≡◌, ℕ, Bool, true, false, List, [], ◌�
 use Rattle.std.specs.Option.{is_some}
 use Rattle.text_forms.specs.Placed.{Placed, cut, close, word, list, parts_at}
 use Rattle.text_forms.specs.Words.{Word}
-use Rattle.form_grammar.specs.Words.{Table, entry, is_keyword}
+use Rattle.text_forms.specs.form_grammar.Words.{Table, entry, is_keyword}
 use Rattle.gd_reader.specs.declared.effects.RawEffect.TheVariants as raw_effect
 use Rattle.gd_reader.specs.declared.formulas.RawFormula.TheVariants as raw_formula
 use Rattle.gd_reader.specs.declared.stop.Failure.{Failure}

@@ -1,8 +1,8 @@
 -- What an answer of a reader says of the tokens, as a form of the grammar with codes.
 use Rattle.std.specs.Prelude.{◌≡◌, [], Result, Ok, Err}
-use Rattle.form_grammar.specs.Codes.{Form, complete, unfinished, wrong}
-use Rattle.form_grammar.specs.Lists as grammar
-use Rattle.form_grammar.specs.Rows.{form}
+use Rattle.text_forms.specs.form_grammar.Codes.{Form, complete, unfinished, wrong}
+use Rattle.text_forms.specs.form_grammar.Lists as grammar
+use Rattle.text_forms.specs.form_grammar.Rows.{form}
 use Rattle.text_forms.specs.Placed.{Placed}
 use Rattle.gd_reader.specs.declared.stop.Stop.{Stop}
 use Rattle.gd_reader.specs.declared.stop.Stop.TheVariants.{Ends, Departs}

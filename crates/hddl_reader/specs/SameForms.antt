@@ -1,7 +1,7 @@
 -- The grammar of the reader's contracts, which has no codes, beside the grammar with codes.
 use Rattle.std.specs.Prelude.{◌↔◌}
 use Rattle.text_forms.specs.Placed.{Placed}
-use Rattle.form_grammar.specs.Codes.{Form, Whole, Begins}
+use Rattle.text_forms.specs.form_grammar.Codes.{Form, Whole, Begins}
 use Rattle.gd_reader.specs.Forms as plain
 
 -- the same is whole, and the same begins

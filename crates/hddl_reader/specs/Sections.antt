@@ -4,7 +4,7 @@ use Rattle.std.specs.Prelude.{ℕ, Bool, true, false, List, [], ◌∷◌, ◌++
 use Rattle.std.specs.Option.{option_map}
 use Rattle.text_forms.specs.Placed.{Placed, cut, close, word, list}
 use Rattle.text_forms.specs.Words.{Word}
-use Rattle.form_grammar.specs.Words.{Table, entry}
+use Rattle.text_forms.specs.form_grammar.Words.{Table, entry}
 use Rattle.gd_reader.specs.declared.effects.RawEffect.{RawEffect}
 use Rattle.gd_reader.specs.declared.effects.RawEffect.TheVariants as raw_effect
 use Rattle.gd_reader.specs.declared.formulas.RawFormula.{RawFormula}

@@ -1,4 +1,3 @@
-pub mod Lists
 pub mod Words
 pub mod Uses
 pub mod Standing

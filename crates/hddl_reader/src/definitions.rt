@@ -15,8 +15,8 @@ use crate::sections::{Definition, Language, RawDomain, RawProblem, RawSections};
 use crate::wholes::{facts_or_none, or_none, or_true, params_or_none};
 use gd_reader::{Failure, Item, Stop, is_word, item_at};
 use htn_base::{Fault, Name, NameTable};
-use sexpr_text::{ReadError, Sexprs};
 use std::alloc::Global;
+use text_forms::sexpr_text::{ReadError, Sexprs};
 
 impl Definition {
     // The word at the front of the title.

@@ -3,7 +3,7 @@ ghost use Rattle.std.specs.Option.{option_map};
 ghost use Rattle.htn_base.specs.Words.{folded};
 ghost use Rattle.text_forms.specs.Placed.{parts_at};
 ghost use Rattle.text_forms.specs.Tokens.{token_count};
-ghost use Rattle.sexpr_text.specs.Positions.{IsPosition};
+ghost use Rattle.text_forms.specs.sexpr_text.Positions.{IsPosition};
 ghost use Rattle.gd_reader.specs.Added.{AddsOf};
 ghost use Rattle.gd_reader.specs.Answers.{Gives, GivesWith, with_front};
 ghost use Rattle.gd_reader.specs.ShownFrom.{behind_at};
@@ -16,8 +16,8 @@ use gd_reader::{
     word_due, word_due_from, word_or_end_from,
 };
 use htn_base::{Marks, NameTable};
-use sexpr_text::{Position, Sexprs};
 use std::alloc::Global;
+use text_forms::sexpr_text::{Position, Sexprs};
 
 /// Passes over words from token `i` up to the end of their list.
 #[tactic(auto, unfolding(crate::specs::Sections::words))]

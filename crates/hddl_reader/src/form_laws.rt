@@ -1,12 +1,12 @@
 // What is read is whole in the grammar with codes, and a fault is the token that departs from it, with its code.
 ghost use Rattle.std.specs.Prelude.{◌≡◌, ◌↔◌, ℕ, true, List, []};
 ghost use Rattle.text_forms.specs.Words.{Word, is_name};
-ghost use Rattle.form_grammar.specs.Effects.{effect_form};
-ghost use Rattle.form_grammar.specs.Formulas.{formula_form};
-ghost use Rattle.form_grammar.specs.Laws.{HasAllPrefixLaws};
-ghost use Rattle.form_grammar.specs.Lists as due;
-ghost use Rattle.form_grammar.specs.Rows.{form};
-ghost use Rattle.form_grammar.specs.Words.{is_variable_word};
+ghost use Rattle.text_forms.specs.form_grammar.Effects.{effect_form};
+ghost use Rattle.text_forms.specs.form_grammar.Formulas.{formula_form};
+ghost use Rattle.text_forms.specs.form_grammar.Laws.{HasAllPrefixLaws};
+ghost use Rattle.text_forms.specs.form_grammar.Lists as due;
+ghost use Rattle.text_forms.specs.form_grammar.Rows.{form};
+ghost use Rattle.text_forms.specs.form_grammar.Words.{is_variable_word};
 ghost use Rattle.gd_reader.specs.declared.typed_lists.ListKind.{ListKind};
 ghost use Rattle.gd_reader.specs.declared.words.Sort.TheVariants as sorts;
 ghost use Rattle.gd_reader.specs.Answers as answers;

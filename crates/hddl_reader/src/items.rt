@@ -8,8 +8,8 @@ ghost use Rattle.hddl_reader.specs.Networks.{Headed, one_of, all_of, some_of};
 use crate::opened::opened_or_end;
 use gd_reader::{Failure, is_word, word_due, word_or_end};
 use htn_base::{List, NameTable};
-use sexpr_text::Sexprs;
 use std::alloc::Global;
+use text_forms::sexpr_text::Sexprs;
 
 /// What stands in parentheses of its own in a part of a network, known by the word at its front.
 pub(crate) trait Item: Drop {

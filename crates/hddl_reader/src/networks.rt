@@ -11,8 +11,8 @@ use gd_reader::{
     list_due, name_of, sort_of, terms_of, two_terms_of, used_of, word_due,
 };
 use htn_base::{List, NameTable, is_reserved_in_any_case};
-use sexpr_text::Sexprs;
 use std::alloc::Global;
+use text_forms::sexpr_text::Sexprs;
 
 /// A subtask as it is written, with its id if it has one, and the offset of its opening parenthesis.
 #[derive(Drop)]

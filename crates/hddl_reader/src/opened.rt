@@ -5,7 +5,7 @@ ghost use Rattle.gd_reader.specs.Answers.{Gives};
 ghost use Rattle.hddl_reader.specs.Opened.{opened_due, opened_or_end, opened_at, AreBehind};
 
 use gd_reader::{Failure, Item, Stop, item_at};
-use sexpr_text::Sexprs;
+use text_forms::sexpr_text::Sexprs;
 
 /// The list that is due at token `i`: the offset of its parenthesis, and the numbers of the token that comes
 /// first in it and of the one behind it.

@@ -3,7 +3,7 @@ ghost use Rattle.std.specs.Option.{option_map};
 ghost use Rattle.htn_base.specs.Words.{folded};
 ghost use Rattle.text_forms.specs.Placed.{parts_at};
 ghost use Rattle.text_forms.specs.Tokens.{token_count};
-ghost use Rattle.form_grammar.specs.Words.{entry, is_keyword};
+ghost use Rattle.text_forms.specs.form_grammar.Words.{entry, is_keyword};
 ghost use Rattle.gd_reader.specs.Added.{AddsOf};
 ghost use Rattle.gd_reader.specs.Answers.{Gives, GivesWith};
 ghost use Rattle.gd_reader.specs.Terms.{Keeps};
@@ -17,8 +17,8 @@ use gd_reader::{
     effect_inside_of, end_due, inside_of, is_word, item_at, params_of,
 };
 use htn_base::{List, NameTable};
-use sexpr_text::Sexprs;
 use std::alloc::Global;
+use text_forms::sexpr_text::Sexprs;
 
 /// The parts of a task, a method, an action or the initial network: each that is written.
 #[derive(Drop)]

@@ -13,8 +13,8 @@ use crate::parts::{Parted, RawParts, parts_of, put};
 use crate::sections::{Definition, Language, RawSections, Section};
 use gd_reader::{Failure, ListKind, RawTerm, params_of, pass, word_due};
 use htn_base::NameTable;
-use sexpr_text::Sexprs;
 use std::alloc::Global;
+use text_forms::sexpr_text::Sexprs;
 
 // A declared name with its parts, from token `i` up to their end.
 #[tactic(auto, using(gd_reader::proofs::Keeping::keeps_same, gd_reader::proofs::Keeping::keeps_then), unfolding(crate::specs::Sections::named_parts))]

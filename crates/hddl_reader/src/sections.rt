@@ -2,7 +2,7 @@ ghost use Rattle.std.specs.Prelude.{◌≡◌, IfOk, IfSome};
 ghost use Rattle.std.specs.Option.{option_map};
 ghost use Rattle.htn_base.specs.Words.{folded};
 ghost use Rattle.text_forms.specs.Placed.{parts_at};
-ghost use Rattle.form_grammar.specs.Words.{entry};
+ghost use Rattle.text_forms.specs.form_grammar.Words.{entry};
 ghost use Rattle.gd_reader.specs.Answers.{Gives};
 ghost use Rattle.gd_reader.specs.Shown.{AreLater, parts_at_both};
 ghost use Rattle.hddl_reader.specs.Parts.{keyword_by};
@@ -17,8 +17,8 @@ use gd_reader::{
     Stop, is_word, item_at, params_of,
 };
 use htn_base::{List, Name, NameTable};
-use sexpr_text::Sexprs;
 use std::alloc::Global;
+use text_forms::sexpr_text::Sexprs;
 
 /// The language of a text: PDDL is HDDL without `:task`, `:method` and `:htn`.
 #[derive(Clone, Copy)]

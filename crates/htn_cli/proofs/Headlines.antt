@@ -8,9 +8,9 @@ use Rattle.plan_model.specs.declared.values.Hddl.{Hddl}
 use Rattle.plan_model.specs.declared.values.Compiled.{Compiled}
 use Rattle.plan_texts.specs.FirstSeen.{IsHddlOf}
 use Rattle.plan_texts.specs.PrintedTexts.{domain_text, problem_text}
-use Rattle.plan_meaning.specs.Compilation.{IsCompiled}
-use Rattle.plan_meaning.specs.Bound.{IsBound}
-use Rattle.plan_meaning.proofs.FailingLaws.{each_is_plan_or_fails}
+use Rattle.plan_model.specs.plan_meaning.Compilation.{IsCompiled}
+use Rattle.plan_model.specs.plan_meaning.Bound.{IsBound}
+use Rattle.plan_model.proofs.plan_meaning.FailingLaws.{each_is_plan_or_fails}
 use Rattle.ground_state.specs.Runs.{cause}
 use Rattle.ground_state.specs.declared.verdict.FailWhy.{FailWhy}
 use Rattle.plan_proof.specs.Headline.{Headline, HeadlineAtBound}

@@ -4,10 +4,10 @@ use Rattle.outside_io.specs.Files.{FilesState}
 use Rattle.outside_io.specs.Sink.{SinkState}
 use Rattle.plan_model.specs.declared.options.Checks.{Checks}
 use Rattle.plan_model.specs.declared.values.Compiled.{Compiled}
-use Rattle.task_networks.specs.Bound.{itself}
-use Rattle.plan_meaning.specs.Network.{top_task}
-use Rattle.plan_meaning.specs.Schemas.{task}
-use Rattle.plan_meaning.specs.Bound.{IsBound}
+use Rattle.plan_model.specs.task_networks.Bound.{itself}
+use Rattle.plan_model.specs.plan_meaning.Network.{top_task}
+use Rattle.plan_model.specs.plan_meaning.Schemas.{task}
+use Rattle.plan_model.specs.plan_meaning.Bound.{IsBound}
 use Rattle.bound_calc.specs.Soundly.{IsSoundlyCompiled}
 use Rattle.command_words.specs.Names.{Word}
 use Rattle.command_words.specs.Bounds.{most_slots}

@@ -1,7 +1,7 @@
 -- A bound has one answer at most.
 use Rattle.std.proofs.Common.{ℕ, ◌≡◌, ◌<◌, ◌≤◌, ◌^◌, List, refl, ap, arith}
 use Rattle.outside_io.specs.Files.{FilesState}
-use Rattle.plan_meaning.specs.Bound.{IsBound}
+use Rattle.plan_model.specs.plan_meaning.Bound.{IsBound}
 use Rattle.bound_calc.specs.NoBound.{NamesCycle}
 use Rattle.command_words.specs.Names.{Word}
 use Rattle.command_words.specs.Words.{BoundRequest, to_bound}

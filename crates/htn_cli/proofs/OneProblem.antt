@@ -9,17 +9,17 @@ use Rattle.plan_model.specs.declared.values.Compiled.{Compiled}
 use Rattle.plan_model.specs.declared.values.Pddl.{Pddl}
 use Rattle.plan_texts.specs.FirstSeen.{IsHddlOf}
 use Rattle.plan_texts.specs.PrintedTexts.{domain_text, problem_text}
-use Rattle.plan_meaning.specs.Bound.{IsBound}
-use Rattle.plan_meaning.specs.Strata.{Edge}
-use Rattle.bound_laws.proofs.BoundedProblem.{bounded_is_tail_recursive}
-use Rattle.bound_laws.proofs.OrCycle.{not_both}
+use Rattle.plan_model.specs.plan_meaning.Bound.{IsBound}
+use Rattle.plan_model.specs.plan_meaning.Strata.{Edge}
+use Rattle.slot_machine.proofs.bound_laws.BoundedProblem.{bounded_is_tail_recursive}
+use Rattle.slot_machine.proofs.bound_laws.OrCycle.{not_both}
 use Rattle.plan_proof.specs.OneGraph.{HaveOneGraph, HaveOneBound, HaveOneNamedCycle}
-use Rattle.encoded_texts.specs.FullyEncoded.{IsFullyEncoded}
+use Rattle.slot_encoding.specs.encoded_texts.FullyEncoded.{IsFullyEncoded}
 use Rattle.plan_proof.specs.OneText.{AreTextsFor}
 use Rattle.plan_proof.proofs.one.OneGraph.{one_graph, one_bound, one_cycle}
 use Rattle.plan_proof.proofs.one.OneText.{texts-same}
-use Rattle.stratifier.specs.NamedCycle.{IsNamed}
-use Rattle.stratifier.specs.CycleWords.{cycle_words}
+use Rattle.bound_calc.specs.stratifier.NamedCycle.{IsNamed}
+use Rattle.bound_calc.specs.stratifier.CycleWords.{cycle_words}
 use Rattle.bound_calc.specs.NoBound.{NamesCycle, spaced}
 use Rattle.command_words.specs.Names.{Word}
 use Rattle.htn_cli.specs.Faults.{name_of, HaveLeastFault}

@@ -4,8 +4,8 @@ use Rattle.outside_io.specs.Files.{FilesState}
 use Rattle.plan_model.specs.declared.values.Compiled.{Compiled}
 use Rattle.plan_model.specs.declared.values.Pddl.{Pddl}
 use Rattle.plan_texts.specs.PrintedTexts.{domain_text, problem_text}
-use Rattle.plan_meaning.specs.Bound.{IsBound}
-use Rattle.encoded_texts.specs.FullyEncoded.{IsFullyEncoded}
+use Rattle.plan_model.specs.plan_meaning.Bound.{IsBound}
+use Rattle.slot_encoding.specs.encoded_texts.FullyEncoded.{IsFullyEncoded}
 use Rattle.bound_calc.specs.NoBound.{NamesCycle}
 use Rattle.command_words.specs.Names.{Word, Names}
 use Rattle.command_words.specs.Bounds.{most_slots}

@@ -5,8 +5,8 @@ use Rattle.plan_model.specs.declared.values.Compiled.{Compiled}
 use Rattle.plan_texts.specs.PrintedTexts.{domain_text, problem_text}
 use Rattle.plan_texts.specs.SoundProblem.{IsSoundProblem}
 use Rattle.plan_texts.proofs.SoundProblems.{few_unions}
-use Rattle.plan_meaning.specs.Compilation.{IsCompiled}
-use Rattle.sheets.specs.Sheets.{capped}
+use Rattle.plan_model.specs.plan_meaning.Compilation.{IsCompiled}
+use Rattle.text_forms.specs.sheets.Sheets.{capped}
 use Rattle.slot_encoding.proofs.existence.Encoded.{has_encoded_value}
 use Rattle.problem_texts.specs.declared.printing.Printed.TheVariants.{TooLong}
 use Rattle.problem_texts.specs.Lengths.{IsFirstPast, ArePrintedWithin}

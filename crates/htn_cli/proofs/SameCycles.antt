@@ -3,12 +3,12 @@ use Rattle.std.proofs.Common.{ℕ, ◌≡◌, List, [], ◌∷◌, Option, Some,
 use Rattle.plan_model.specs.declared.schemas.TaskSchema.{TaskSchema}
 use Rattle.plan_model.specs.declared.schemas.MethodPlan.{MethodPlan}
 use Rattle.plan_model.specs.declared.values.Compiled.{Compiled}
-use Rattle.plan_meaning.specs.Schemas.{Schema, action, check, task}
-use Rattle.plan_meaning.specs.Strata.{Edge, source, target}
+use Rattle.plan_model.specs.plan_meaning.Schemas.{Schema, action, check, task}
+use Rattle.plan_model.specs.plan_meaning.Strata.{Edge, source, target}
 use Rattle.plan_proof.specs.OneGraph.{HaveOneGraph}
 use Rattle.plan_proof.proofs.one.OneGraph.{task_word-same, method_word-same}
-use Rattle.stratifier.specs.NamedCycle.{IsNamed}
-use Rattle.stratifier.specs.CycleWords.{written, task_by, method_by, task_word, method_word, cycle_words}
+use Rattle.bound_calc.specs.stratifier.NamedCycle.{IsNamed}
+use Rattle.bound_calc.specs.stratifier.CycleWords.{written, task_by, method_by, task_word, method_word, cycle_words}
 
 module _ (c d : Compiled) (graph : HaveOneGraph c d) where
   pub named_back : (edges : List Edge) → IsNamed d edges → IsNamed c edges

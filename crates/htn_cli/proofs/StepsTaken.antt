@@ -3,8 +3,8 @@ use Rattle.std.proofs.Common.{◌≡◌, ◌∙◌, ℕ, ◌+◌, ◌≤◌, tru
 use Rattle.std.proofs.lemmas.List.{append-nil, length-append}
 use Rattle.plan_model.specs.declared.steps.GroundAction.{GroundAction}
 use Rattle.plan_model.specs.declared.values.Pddl.{Pddl}
-use Rattle.plan_meaning.specs.ClassicalPlan.{IsPlan}
-use Rattle.plan_meaning.specs.FailingStep.{Fails, goal_false}
+use Rattle.plan_model.specs.plan_meaning.ClassicalPlan.{IsPlan}
+use Rattle.plan_model.specs.plan_meaning.FailingStep.{Fails, goal_false}
 use Rattle.ground_state.specs.declared.run.Run.{Run}
 use Rattle.ground_state.specs.declared.verdict.FailWhy.{FailWhy}
 use Rattle.ground_state.specs.declared.verdict.FailWhy.TheVariants as why

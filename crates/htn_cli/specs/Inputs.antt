@@ -6,8 +6,8 @@ use Rattle.outside_io.specs.Files.{FilesState, GetFails}
 use Rattle.plan_model.specs.declared.options.Checks.{Checks}
 use Rattle.plan_model.specs.declared.values.Hddl.{Hddl}
 use Rattle.plan_model.specs.declared.values.Compiled.{Compiled}
-use Rattle.plan_meaning.specs.Bound.{IsBound}
-use Rattle.plan_meaning.specs.Compilation.{IsCompiled}
+use Rattle.plan_model.specs.plan_meaning.Bound.{IsBound}
+use Rattle.plan_model.specs.plan_meaning.Compilation.{IsCompiled}
 use Rattle.bound_calc.specs.NoBound.{NamesCycle}
 use Rattle.command_words.specs.Names.{Word}
 use Rattle.text_values.specs.Values.{IsValueOf}

@@ -13,17 +13,17 @@ use Rattle.plan_texts.specs.FirstSeen.{IsHddlOf}
 use Rattle.plan_texts.specs.PlanText.{SpellsPlan}
 use Rattle.plan_texts.specs.SpellsPddl.{SpellsPddl}
 use Rattle.plan_texts.specs.PrintedTexts.{domain_text, problem_text}
-use Rattle.plan_meaning.specs.Compilation.{IsCompiled}
-use Rattle.plan_meaning.specs.Strata.{Edge}
-use Rattle.plan_meaning.specs.Bound.{IsBound}
-use Rattle.plan_meaning.specs.FailingStep.{Fails}
+use Rattle.plan_model.specs.plan_meaning.Compilation.{IsCompiled}
+use Rattle.plan_model.specs.plan_meaning.Strata.{Edge}
+use Rattle.plan_model.specs.plan_meaning.Bound.{IsBound}
+use Rattle.plan_model.specs.plan_meaning.FailingStep.{Fails}
 use Rattle.ground_state.specs.Runs.{cause}
 use Rattle.ground_state.specs.declared.verdict.FailWhy.{FailWhy}
 use Rattle.slot_encoding.specs.Printed.{IsPrinted}
 use Rattle.plan_proof.specs.TextPlans.{IsPlanOf}
 use Rattle.plan_proof.specs.Headline.{Headline, HeadlineAtBound, LosesNothing}
-use Rattle.stratifier.specs.NamedCycle.{IsNamed}
-use Rattle.stratifier.specs.CycleWords.{cycle_line}
+use Rattle.bound_calc.specs.stratifier.NamedCycle.{IsNamed}
+use Rattle.bound_calc.specs.stratifier.CycleWords.{cycle_line}
 use Rattle.command_words.specs.Names.{Word}
 use Rattle.command_words.specs.Words.{TranslationRequest, BoundRequest, ValidationRequest, Request, to_translate, to_bound, to_validate, number_of, AsksTranslation, Asks}
 use Rattle.htn_cli.specs.Inputs.{IsToldToRead, IsToldToHold, AreToldToRead}

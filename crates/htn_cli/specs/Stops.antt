@@ -7,9 +7,9 @@ use Rattle.plan_model.specs.declared.options.Style.{Style}
 use Rattle.plan_model.specs.declared.values.Hddl.{Hddl}
 use Rattle.plan_model.specs.declared.values.Compiled.{Compiled}
 use Rattle.plan_model.specs.declared.values.Pddl.{Pddl}
-use Rattle.plan_meaning.specs.Bound.{IsBound}
+use Rattle.plan_model.specs.plan_meaning.Bound.{IsBound}
 use Rattle.text_values.specs.PddlValues as pddl
-use Rattle.plan_meaning.specs.Compilation.{IsCompiled}
+use Rattle.plan_model.specs.plan_meaning.Compilation.{IsCompiled}
 use Rattle.bound_calc.specs.NoBound.{NamesCycle}
 use Rattle.command_words.specs.Names.{Word, Names}
 use Rattle.command_words.specs.Bounds.{most_slots}

@@ -9,7 +9,7 @@ use Rattle.slot_encoding.specs.EncodedValue.{IsEncoded}
 use Rattle.slot_encoding.specs.EncodedWords.{HasEncodedWords}
 use Rattle.slot_encoding.specs.Existence.{HasEncodedValue}
 use Rattle.slot_encoding.specs.Printed.{IsPrinted}
-use Rattle.sheets.specs.Sheets.{capped}
+use Rattle.text_forms.specs.sheets.Sheets.{capped}
 use Rattle.problem_texts.specs.declared.printing.Texts.{Texts as Printed}
 use Rattle.htn_cli.specs.declared.manner.Manner.{Manner}
 

@@ -6,12 +6,12 @@ use Rattle.hddl_reader.specs.declared.sections.Language.TheVariants as language
 use Rattle.outside_io.specs.Files.{FilesState}
 use Rattle.plan_model.specs.declared.steps.GroundAction.{GroundAction}
 use Rattle.plan_model.specs.declared.values.Pddl.{Pddl}
-use Rattle.plan_meaning.specs.ClassicalPlan.{IsPlan}
-use Rattle.plan_meaning.specs.FailingStep.{Fails}
+use Rattle.plan_model.specs.plan_meaning.ClassicalPlan.{IsPlan}
+use Rattle.plan_model.specs.plan_meaning.FailingStep.{Fails}
 use Rattle.ground_state.specs.Runs.{cause}
 use Rattle.text_values.specs.TextFaults.{HaveNoFault, IsLeastFault}
 use Rattle.text_values.specs.PddlValues.{IsValueOf}
-use Rattle.plan_text.specs.Plans.{IsPlanFault, IsPlanRead}
+use Rattle.text_values.specs.plan_text.Plans.{IsPlanFault, IsPlanRead}
 use Rattle.command_words.specs.Names.{Word}
 use Rattle.command_words.specs.Words.{ValidationRequest}
 use Rattle.htn_cli.specs.Faults.{IsNoLimit, limit_code}

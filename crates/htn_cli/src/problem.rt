@@ -1,6 +1,6 @@
 ghost use Rattle.std.specs.Prelude.{ℕ, ◌≤◌, List, length, IfOk, IfErr};
 ghost use Rattle.outside_io.specs.Seen.{Seen};
-ghost use Rattle.plan_meaning.specs.Bound.{IsBound};
+ghost use Rattle.plan_model.specs.plan_meaning.Bound.{IsBound};
 ghost use Rattle.bound_calc.specs.Soundly.{IsSoundlyCompiled};
 ghost use Rattle.hddl_reader.specs.declared.sections.Language.TheVariants as language;
 ghost use Rattle.text_values.specs.TextFaults.{IsLeastFault};
@@ -9,13 +9,13 @@ ghost use Rattle.htn_cli.specs.Stops.{GivesInput, GivesProblem, GivesTexts, Stop
 
 use crate::faults::{Place, limit_of, name_of};
 use crate::refusal::Refusal;
+use bound_calc::method_precs::compile;
 use bound_calc::{NoBound, problem_bound};
 use htn_base::Fault;
-use method_precs::compile;
 use outside_io::{Files, GetError};
 use plan_model::{Checks, Compiled};
-use sexpr_text::ReadError;
 use std::alloc::Global;
+use text_forms::sexpr_text::ReadError;
 use text_values::hddl_of;
 
 /// The greatest length of an input text, in bytes.

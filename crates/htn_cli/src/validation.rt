@@ -19,8 +19,8 @@ use command_words::Validation;
 use htn_base::Fault;
 use outside_io::{Files, Sink, WriteError};
 use plan_model::Pddl;
-use sexpr_text::ReadError;
 use std::alloc::Global;
+use text_forms::sexpr_text::ReadError;
 use text_values::pddl_of;
 
 /// The greatest number of steps of a plan.

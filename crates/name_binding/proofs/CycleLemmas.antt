@@ -2,12 +2,12 @@
 use Rattle.std.proofs.Common.{ℕ, zero, suc, ◌≡◌, ◌⊎◌, inl, inr, List, [], ◌∷◌, ◌++◌, Some, refl, ap, sym, subst, ◌∙◌, Contains, arith}
 use Rattle.std.proofs.lemmas.Grind.{flat_map-append}
 use Rattle.std.proofs.lemmas.List.Elements.{Contains-append_left, Contains-append_right, Contains-append_cases}
-use Rattle.task_networks.specs.Order.{Precedes, direct, through, IsAcyclic, IsFirstClosing}
+use Rattle.plan_model.specs.task_networks.Order.{Precedes, direct, through, IsAcyclic, IsFirstClosing}
 use Rattle.net_order.proofs.Chains.{wider}
-use Rattle.task_networks.proofs.Lists.{Contains-here}
+use Rattle.plan_model.proofs.task_networks.Lists.{Contains-here}
 use Rattle.plan_model.specs.declared.networks.Pair.{Pair}
 use Rattle.plan_model.specs.Pairs.{pair, Pairs}
-use Rattle.hddl_reader.specs.names.Lists.{One, Each, IsFirst}
+use Rattle.htn_base.specs.Lists.{One, Each, IsFirst}
 use Rattle.gd_reader.specs.declared.term.RawTerm.{RawTerm}
 use Rattle.gd_reader.specs.declared.typed_lists.RawParam.{RawParam}
 use Rattle.name_binding.specs.Cycle.{IsParent, ClosesCycle}

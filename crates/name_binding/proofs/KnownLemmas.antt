@@ -5,8 +5,8 @@ use Rattle.std.proofs.lemmas.Bool.{cases_lt, cases_eq}
 use Rattle.std.proofs.lemmas.List.{get_or-take, get_or_default, map-append, take-append-drop}
 use Rattle.std.proofs.lemmas.List.Elements.{Contains-append_right}
 use Rattle.std.proofs.lemmas.List.Sorted.{Contains-permutation, IsPermutation-sym}
-use Rattle.task_networks.proofs.Lists.{Contains-here, Contains-later}
-use Rattle.hddl_reader.specs.names.Lists.{Each}
+use Rattle.plan_model.proofs.task_networks.Lists.{Contains-here, Contains-later}
+use Rattle.htn_base.specs.Lists.{Each}
 use Rattle.name_binding.specs.Places.{first_place}
 use Rattle.name_binding.specs.Spots.{IsInTextOrder}
 use Rattle.name_binding.proofs.Found.{first_within, first_known}

@@ -9,13 +9,13 @@ use Rattle.std.proofs.lemmas.Grind.{flat_map-append}
 use Rattle.std.proofs.lemmas.List.{map-append, length-map}
 use Rattle.std.proofs.lemmas.List.Elements.{Contains-append_left, Contains-append_right, Contains-append_cases}
 use Rattle.std.proofs.lemmas.Option.{slice_get-get_or}
-use Rattle.task_networks.proofs.Lists.{Contains-here, not-in_empty, head_or_tail}
-use Rattle.task_networks.specs.Order.{IsFirstClosing}
+use Rattle.plan_model.proofs.task_networks.Lists.{Contains-here, not-in_empty, head_or_tail}
+use Rattle.plan_model.specs.task_networks.Order.{IsFirstClosing}
 use Rattle.plan_model.specs.declared.networks.Pair.{Pair}
 use Rattle.plan_model.specs.Pairs.{pair}
 use Rattle.net_order.specs.Meaning.{AreBelow}
 use Rattle.net_order.proofs.Chains.{below_from_pairs}
-use Rattle.hddl_reader.specs.names.Lists.{One}
+use Rattle.htn_base.specs.Lists.{One}
 use Rattle.name_binding.specs.Places.{first_place}
 use Rattle.gd_reader.specs.declared.term.RawTerm.{RawTerm}
 use Rattle.gd_reader.specs.declared.typed_lists.RawParam.{RawParam}

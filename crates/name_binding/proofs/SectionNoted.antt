@@ -5,7 +5,7 @@ use Rattle.std.proofs.lemmas.Bool.{cases_Bool, cases_lt, eq-eqb}
 use Rattle.std.proofs.lemmas.Bool.Decides.{nat_tests}
 use Rattle.std.proofs.lemmas.List.Elements.{All-nil, All-cons, All-head}
 use Rattle.plan_model.specs.Pairs.{pair}
-use Rattle.hddl_reader.specs.names.Lists.{Each, IsFirst}
+use Rattle.htn_base.specs.Lists.{Each, IsFirst}
 use Rattle.name_binding.specs.Places.{first_place}
 use Rattle.name_binding.specs.Spots.{spot, is_in_front, sooner, noted, AreLeastOf}
 use Rattle.name_binding.specs.declared.faults.Spot.{Spot}

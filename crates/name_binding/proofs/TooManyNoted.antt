@@ -4,7 +4,7 @@ use Rattle.std.proofs.lemmas.Bool.{cases_lt, cases_Bool, eq-eqb, ne_eqb, le-ltb,
 use Rattle.std.proofs.lemmas.List.{map-append, append_assoc, take-append-drop}
 use Rattle.std.proofs.lemmas.List.Elements.{All-nil, All-cons, All-contains, Contains-get_or}
 use Rattle.htn_base.specs.Different.{AreDifferent}
-use Rattle.task_networks.proofs.Lists.{head_or_tail}
+use Rattle.plan_model.proofs.task_networks.Lists.{head_or_tail}
 use Rattle.name_binding.specs.Places.{first_place}
 use Rattle.name_binding.specs.Spots.{spot, is_in_front, AreLeastOf}
 use Rattle.name_binding.specs.declared.faults.Spot.{Spot}

@@ -1,8 +1,8 @@
 -- A cycle of types (12), over the numbers of names.
 -- Source: this project's; several parents of a type are this project's.
 use Rattle.std.specs.Prelude.{ℕ, ◌≡◌, ◌⊎◌, List}
-use Rattle.task_networks.specs.Order.{Precedes}
-use Rattle.hddl_reader.specs.names.Lists.{One, IsFirst}
+use Rattle.plan_model.specs.task_networks.Order.{Precedes}
+use Rattle.htn_base.specs.Lists.{One, IsFirst}
 use Rattle.name_binding.specs.Spots.{IsInTextOrder}
 use Rattle.name_binding.specs.declared.faults.Spot.{Spot}
 use Rattle.gd_reader.specs.declared.typed_lists.RawParam.{RawParam}

@@ -1,7 +1,7 @@
 -- The pairs of types and parents among the first types, by the places of the types, in text order.
 -- Source: this project's.
 use Rattle.std.specs.Prelude.{ℕ, zero, suc, ◌≡◌, nat_lt, cond, List, [], ◌∷◌, map, flat_map, slice_get, Option, Some, None}
-use Rattle.task_networks.specs.Order.{IsAcyclic, IsFirstClosing}
+use Rattle.plan_model.specs.task_networks.Order.{IsAcyclic, IsFirstClosing}
 use Rattle.plan_model.specs.declared.networks.Pair.{Pair}
 use Rattle.plan_model.specs.Pairs.{pair, Pairs}
 use Rattle.name_binding.specs.Places.{first_place}

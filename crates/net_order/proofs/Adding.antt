@@ -4,7 +4,7 @@ use Rattle.std.proofs.lemmas.List.{take_more}
 use Rattle.std.proofs.lemmas.List.Elements.{Contains-append_left}
 use Rattle.std.proofs.lemmas.Bool.{cases_eq}
 use Rattle.plan_model.specs.declared.networks.Pair.{Pair}
-use Rattle.task_networks.proofs.Lists.{not-in_empty}
+use Rattle.plan_model.proofs.task_networks.Lists.{not-in_empty}
 use Rattle.net_order.specs.Marks.{has, marked, Marked, IsSquare}
 use Rattle.net_order.specs.Meaning.{AreBelow}
 use Rattle.plan_model.specs.Pairs.{pair, Pairs}

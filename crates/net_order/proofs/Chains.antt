@@ -2,8 +2,8 @@
 use Rattle.std.proofs.Common.{ℕ, ◌≡◌, ◌<◌, ◌⊎◌, inl, inr, List, [], ◌∷◌, ◌++◌, get_or, sym, subst, ap, ◌∙◌, Contains}
 use Rattle.std.proofs.lemmas.List.Elements.{Contains-append_left, Contains-get_or, Contains-push, Contains-push_cases}
 use Rattle.plan_model.specs.declared.networks.Pair.{Pair}
-use Rattle.task_networks.specs.Order.{Precedes, direct, through, IsAcyclic, ArePairsOf, Closes}
-use Rattle.task_networks.proofs.Orders.{precedes_then}
+use Rattle.plan_model.specs.task_networks.Order.{Precedes, direct, through, IsAcyclic, ArePairsOf, Closes}
+use Rattle.plan_model.proofs.task_networks.Orders.{precedes_then}
 use Rattle.net_order.specs.Meaning.{AreBelow}
 use Rattle.plan_model.specs.Pairs.{pair, Pairs}
 

@@ -3,9 +3,9 @@ use Rattle.std.proofs.Common.{ℕ, ◌≡◌, ◌+◌, ◌<◌, ◌≤◌, ◌�
 use Rattle.std.proofs.lemmas.List.{take_more, drop_more, take_all, get_or_default}
 use Rattle.std.proofs.lemmas.List.Elements.{Contains-get_or, Contains-append_left, Contains-push, Contains-push_cases}
 use Rattle.std.proofs.lemmas.Bool.{cases_eq, cases_lt, true≢false, or_cases, or_left, or_right}
-use Rattle.task_networks.specs.Order.{Precedes, direct, through, IsNext, IsLine}
-use Rattle.task_networks.proofs.Orders.{precedes_then, last_pair}
-use Rattle.task_networks.proofs.Lists.{not-in_empty}
+use Rattle.plan_model.specs.task_networks.Order.{Precedes, direct, through, IsNext, IsLine}
+use Rattle.plan_model.proofs.task_networks.Orders.{precedes_then, last_pair}
+use Rattle.plan_model.proofs.task_networks.Lists.{not-in_empty}
 use Rattle.net_order.specs.Marks.{has, marked, Marked, IsSquare, IsClosedOn, IsGathered}
 use Rattle.net_order.specs.Line.{IsClosed}
 use Rattle.net_order.specs.Outside.{AreWithinFrom}

@@ -3,9 +3,9 @@ use Rattle.std.proofs.Common.{ℕ, ◌≡◌, ◌+◌, ◌<◌, ◌↔◌, ◌�
 use Rattle.std.proofs.lemmas.List.{take_more, drop_more}
 use Rattle.std.proofs.lemmas.Bool.{cases_eq}
 use Rattle.plan_model.specs.declared.networks.Pair.{Pair}
-use Rattle.task_networks.specs.Order.{Precedes, IsAcyclic, Closes, IsFirstClosing}
-use Rattle.task_networks.proofs.Lists.{by_push, not-in_empty}
-use Rattle.task_networks.proofs.Orders.{last_pair}
+use Rattle.plan_model.specs.task_networks.Order.{Precedes, IsAcyclic, Closes, IsFirstClosing}
+use Rattle.plan_model.proofs.task_networks.Lists.{by_push, not-in_empty}
+use Rattle.plan_model.proofs.task_networks.Orders.{last_pair}
 use Rattle.net_order.specs.Marks.{has}
 use Rattle.plan_model.specs.Pairs.{pair, Pairs}
 use Rattle.net_order.proofs.Chains.{wider, chain_cases, chain_by_last, acyclic_push, cyclic_push, acyclic_fewer}

@@ -2,7 +2,7 @@
 use Rattle.std.proofs.Common.{ℕ, zero, suc, refl, ◌≡◌, ◌<◌, ◌≤◌, ◌⊎◌, inl, inr, List, [], ◌∷◌, ◌++◌, length, Bool, true, false, IsTrue, Contains, get_or, set, sym, subst, ap, ◌∙◌, arith, length-set, get_or-set_same, get_or-set_other}
 use Rattle.std.proofs.lemmas.List.Elements.{Contains-append_left, Contains-push, Contains-push_cases}
 use Rattle.std.proofs.lemmas.Bool.{cases_eq, both_ways}
-use Rattle.task_networks.proofs.Lists.{not-in_empty}
+use Rattle.plan_model.proofs.task_networks.Lists.{not-in_empty}
 use Rattle.net_order.specs.Marks.{has, IsPreceded, IsFree, IsLeastFree, IsWithin, IsLeastOutside}
 use Rattle.net_order.specs.Front.{Waits, IsFront, IsPlaced, is_ready, waits}
 use Rattle.net_order.proofs.Closures.{has_added}

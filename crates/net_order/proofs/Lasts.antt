@@ -4,8 +4,8 @@ use Rattle.std.proofs.lemmas.List.{length_push, get_or_at}
 use Rattle.std.proofs.lemmas.List.Elements.{Contains-append_left}
 use Rattle.std.proofs.lemmas.Option.{slice_get-get_or}
 use Rattle.std.proofs.lemmas.Bool.{cases_eq}
-use Rattle.task_networks.specs.Order.{direct, IsLine}
-use Rattle.task_networks.proofs.Lists.{cut_at, cut_push, last_cases, not-in_empty}
+use Rattle.plan_model.specs.task_networks.Order.{direct, IsLine}
+use Rattle.plan_model.proofs.task_networks.Lists.{cut_at, cut_push, last_cases, not-in_empty}
 use Rattle.net_order.specs.Marks.{Marked, IsMarkedLast}
 
 pub slice_get-last : (xs : List ℕ) (x : ℕ) → slice_get (xs ++ x ∷ []) (length (xs ++ x ∷ []) - 1) ≡ Some x

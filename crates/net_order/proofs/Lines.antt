@@ -3,8 +3,8 @@ use Rattle.std.proofs.Common.{ℕ, ◌≡◌, ◌+◌, ◌<◌, ◌↔◌, inl, 
 use Rattle.std.proofs.lemmas.List.{length_push}
 use Rattle.std.proofs.lemmas.List.Elements.{Contains-append_left, Contains-append_right, Contains-push, Contains-push_cases}
 use Rattle.std.proofs.lemmas.Bool.{cases_lt, both_ways}
-use Rattle.task_networks.specs.Order.{Precedes, direct, through, IsReady, IsNext}
-use Rattle.task_networks.proofs.Lists.{cut_at, cut_push, not-in_empty, Contains-here}
+use Rattle.plan_model.specs.task_networks.Order.{Precedes, direct, through, IsReady, IsNext}
+use Rattle.plan_model.proofs.task_networks.Lists.{cut_at, cut_push, not-in_empty, Contains-here}
 use Rattle.net_order.specs.Marks.{has, Marked, IsFree, IsLeastFree}
 use Rattle.net_order.specs.Line.{IsGreedy}
 use Rattle.net_order.proofs.Closures.{has_added}

@@ -3,9 +3,9 @@ use Rattle.std.proofs.Common.{ℕ, ◌≡◌, ◌+◌, ◌-◌, ◌<◌, ◌≤�
 use Rattle.std.proofs.lemmas.List.{get_or_past, get_or_default}
 use Rattle.std.proofs.lemmas.Bool.{cases_lt, both_ways, not-true, not_from_false, false_from_ne_true}
 use Rattle.plan_model.specs.declared.networks.Pair.{Pair}
-use Rattle.task_networks.specs.Order.{Precedes, direct, through, ArePairsOf, IsNext, IsLine, IsHeir, IsLast, IsMaximal, IsCut}
-use Rattle.task_networks.proofs.Orders.{precedes_within}
-use Rattle.task_networks.proofs.Lists.{last_cases}
+use Rattle.plan_model.specs.task_networks.Order.{Precedes, direct, through, ArePairsOf, IsNext, IsLine, IsHeir, IsLast, IsMaximal, IsCut}
+use Rattle.plan_model.proofs.task_networks.Orders.{precedes_within}
+use Rattle.plan_model.proofs.task_networks.Lists.{last_cases}
 use Rattle.net_order.specs.Marks.{has, marked, Marked, IsSquare, IsMarkedLast, IsMarkedCut}
 use Rattle.net_order.specs.Meaning.{AreBelow, IsOrderOf}
 use Rattle.plan_model.specs.Pairs.{pair, Pairs}

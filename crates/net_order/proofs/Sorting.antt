@@ -2,7 +2,7 @@
 use Rattle.std.proofs.Common.{ℕ, ◌≡◌, ◌<◌, ◌≤◌, ◌⊎◌, ◌↔◌, inl, inr, List, [], length, Bool, false, sym, subst, arith}
 use Rattle.std.proofs.lemmas.Bool.{cases_Bool, both_ways}
 use Rattle.plan_model.specs.declared.networks.Pair.{Pair}
-use Rattle.task_networks.specs.Order.{Precedes, direct, IsAcyclic, ArePairsOf, IsLine}
+use Rattle.plan_model.specs.task_networks.Order.{Precedes, direct, IsAcyclic, ArePairsOf, IsLine}
 use Rattle.net_order.specs.Marks.{marked, Marked, IsSquare}
 use Rattle.net_order.specs.Line.{IsGreedy, IsClosed}
 use Rattle.plan_model.specs.Pairs.{Pairs}

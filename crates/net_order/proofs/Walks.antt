@@ -3,9 +3,9 @@ use Rattle.std.proofs.Common.{ℕ, zero, suc, ◌≡◌, ◌+◌, ◌*◌, ◌<�
 use Rattle.std.proofs.lemmas.List.{length_push}
 use Rattle.std.proofs.lemmas.List.Elements.{Contains-append_left, Contains-push, Contains-push_cases}
 use Rattle.std.proofs.lemmas.Bool.{both_ways, true≢false}
-use Rattle.task_networks.specs.Order.{Precedes, direct, through, IsAcyclic}
-use Rattle.task_networks.proofs.Orders.{precedes_then, precedes_within, last_pair}
-use Rattle.task_networks.proofs.Lists.{not-in_empty, one-append, cut_push}
+use Rattle.plan_model.specs.task_networks.Order.{Precedes, direct, through, IsAcyclic}
+use Rattle.plan_model.proofs.task_networks.Orders.{precedes_then, precedes_within, last_pair}
+use Rattle.plan_model.proofs.task_networks.Lists.{not-in_empty, one-append, cut_push}
 use Rattle.net_order.specs.Marks.{has, Marked, IsSquare, IsPreceded, IsWithin}
 use Rattle.net_order.specs.Walk.{IsSettled, IsReached}
 use Rattle.net_order.proofs.Closures.{has_added}

@@ -1,13 +1,13 @@
 -- A line that goes as far as it can has each child once exactly where no child precedes itself.
 use Rattle.std.proofs.Common.{ℕ, zero, suc, ◌≡◌, ◌<◌, ◌⊎◌, inl, inr, List, [], ◌∷◌, ◌++◌, length, Contains, refl, sym, subst, ap, ◌∙◌, arith, append_assoc, ◌≤◌}
 use Rattle.std.proofs.lemmas.Bool.{cases_eq}
-use Rattle.task_networks.specs.Order.{Precedes, direct, through, IsAcyclic, ArePairsOf, IsReady, IsNext, IsMaximal}
+use Rattle.plan_model.specs.task_networks.Order.{Precedes, direct, through, IsAcyclic, ArePairsOf, IsReady, IsNext, IsMaximal}
 use Rattle.htn_base.specs.Different.{AreDifferent}
-use Rattle.task_networks.specs.Spelling.{numbers}
-use Rattle.task_networks.proofs.Lists.{by_push, cut_at, head_or_tail, not-in_empty, Contains-later, Contains-here}
-use Rattle.task_networks.proofs.Different.{different_append, no_more}
-use Rattle.task_networks.proofs.Numbers.{length-numbers, numbers_to, to_numbers, different-numbers}
-use Rattle.task_networks.proofs.Orders.{precedes_then, precedes_within, last_pair, maximal_above}
+use Rattle.plan_model.specs.task_networks.Spelling.{numbers}
+use Rattle.plan_model.proofs.task_networks.Lists.{by_push, cut_at, head_or_tail, not-in_empty, Contains-later, Contains-here}
+use Rattle.plan_model.proofs.task_networks.Different.{different_append, no_more}
+use Rattle.plan_model.proofs.task_networks.Numbers.{length-numbers, numbers_to, to_numbers, different-numbers}
+use Rattle.plan_model.proofs.task_networks.Orders.{precedes_then, precedes_within, last_pair, maximal_above}
 use Rattle.net_order.specs.Line.{IsGreedy}
 use Rattle.net_order.proofs.Lines.{all_before}
 

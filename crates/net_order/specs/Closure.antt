@@ -1,7 +1,7 @@
 -- Sets of predecessors that are closed under the pairs.
 use Rattle.std.specs.Prelude.{ℕ, ◌≡◌, ◌<◌, ◌↔◌, ◌⊎◌, IsTrue, Bool, List, Contains}
 use Rattle.plan_model.specs.declared.networks.Pair.{Pair}
-use Rattle.task_networks.specs.Order.{Precedes, IsAcyclic}
+use Rattle.plan_model.specs.task_networks.Order.{Precedes, IsAcyclic}
 use Rattle.net_order.specs.Marks.{has, Marked, IsSquare}
 use Rattle.plan_model.specs.Pairs.{Pairs}
 

@@ -1,6 +1,6 @@
 -- Lines as far as they go, also where the pairs have a cycle.
 use Rattle.std.specs.Prelude.{ℕ, ◌≡◌, ◌<◌, ◌⊎◌, ◌↔◌, Bool, List, ◌∷◌, ◌++◌, length}
-use Rattle.task_networks.specs.Order.{Precedes, IsReady, IsNext}
+use Rattle.plan_model.specs.task_networks.Order.{Precedes, IsReady, IsNext}
 use Rattle.net_order.specs.Marks.{Marked, IsSquare}
 
 -- at each place the least child that is ready, until all are listed or none is ready

@@ -3,7 +3,7 @@
 use Rattle.std.specs.Prelude.{ℕ, ◌≡◌, ◌<◌, ◌≤◌, ◌↔◌, IsTrue, List, MatchOption, All}
 use Rattle.plan_model.specs.declared.networks.Pair.{Pair}
 use Rattle.plan_model.specs.Pairs.{pair, Pairs}
-use Rattle.task_networks.specs.Order.{Precedes, IsAcyclic, IsLine, IsHeir, IsLast, IsMaximal, IsCut, IsFirstClosing}
+use Rattle.plan_model.specs.task_networks.Order.{Precedes, IsAcyclic, IsLine, IsHeir, IsLast, IsMaximal, IsCut, IsFirstClosing}
 use Rattle.net_order.specs.declared.order.OrderError.{OrderError}
 use Rattle.net_order.specs.declared.order.OrderError.TheVariants.{Cycle, Memory}
 use Rattle.net_order.specs.Answers.{Answers, precedes, heir, maximal, cut}

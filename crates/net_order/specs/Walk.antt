@@ -1,6 +1,6 @@
 -- Children that are listed once all their predecessors are, in whatever order.
 use Rattle.std.specs.Prelude.{ℕ, ◌≡◌, IsTrue, Bool, true, List, length}
-use Rattle.task_networks.specs.Order.{Precedes}
+use Rattle.plan_model.specs.task_networks.Order.{Precedes}
 use Rattle.net_order.specs.Marks.{has, Marked, IsPreceded, IsWithin}
 
 -- the predecessors of the listed ones are listed, and no listed one precedes itself

@@ -1,5 +1,5 @@
 ghost use Rattle.std.specs.Prelude.{◌≡◌, ℕ, ◌<◌, All, length, IfOk, OnOk};
-ghost use Rattle.task_networks.specs.Order.{IsLine};
+ghost use Rattle.plan_model.specs.task_networks.Order.{IsLine};
 ghost use Rattle.net_order.specs.Marks.{Marked, IsSquare, IsClosedOn, IsGathered};
 ghost use Rattle.net_order.specs.Line.{IsClosed};
 ghost use Rattle.net_order.specs.Outside.{IsLastOutsideOrNone};

@@ -1,5 +1,5 @@
 ghost use Rattle.std.specs.Prelude.{◌<◌, ◌^◌, ◌↔◌, length, IsTrue, IfOk};
-ghost use Rattle.task_networks.specs.Order.{IsAcyclic, IsFirstClosing};
+ghost use Rattle.plan_model.specs.task_networks.Order.{IsAcyclic, IsFirstClosing};
 ghost use Rattle.net_order.specs.Meaning.{AreBelow};
 ghost use Rattle.plan_model.specs.Pairs.{pair, Pairs};
 

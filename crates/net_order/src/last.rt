@@ -1,5 +1,5 @@
 ghost use Rattle.std.specs.Prelude.{◌<◌, ◌↔◌, length, IsTrue};
-ghost use Rattle.task_networks.specs.Order.{IsLine};
+ghost use Rattle.plan_model.specs.task_networks.Order.{IsLine};
 ghost use Rattle.net_order.specs.Marks.{Marked, IsSquare, HasAllBut, IsMarkedLastOrNone};
 
 use crate::child_set::ChildSet;

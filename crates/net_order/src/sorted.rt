@@ -1,5 +1,5 @@
 ghost use Rattle.std.specs.Prelude.{◌≡◌, ◌<◌, ◌^◌, length, IfOk, IfErr};
-ghost use Rattle.task_networks.specs.Order.{IsLine};
+ghost use Rattle.plan_model.specs.task_networks.Order.{IsLine};
 ghost use Rattle.net_order.specs.Meaning.{AreBelow, IsRefusedBy};
 ghost use Rattle.plan_model.specs.Pairs.{Pairs};
 ghost use Rattle.net_order.specs.Closure.{IsClosure};

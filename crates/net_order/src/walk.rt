@@ -1,5 +1,5 @@
 ghost use Rattle.std.specs.Prelude.{◌≡◌, ◌<◌, ◌^◌, ◌↔◌, false, length, IsTrue, IfOk};
-ghost use Rattle.task_networks.specs.Order.{IsAcyclic};
+ghost use Rattle.plan_model.specs.task_networks.Order.{IsAcyclic};
 ghost use Rattle.net_order.specs.Marks.{Marked, IsSquare, IsWithin};
 ghost use Rattle.net_order.specs.Walk.{IsSettled, Reaches};
 

@@ -8,7 +8,7 @@ use Rattle.plan_model.specs.declared.terms.GroundAtom.{GroundAtom}
 use Rattle.plan_model.specs.declared.formulas.Formula.{Formula}
 use Rattle.plan_model.specs.declared.effects.Effect.{Effect}
 use Rattle.plan_model.specs.Typing.{InType}
-use Rattle.plan_meaning.specs.Truth.{IsTrueIn, Adds, Deletes}
+use Rattle.plan_model.specs.plan_meaning.Truth.{IsTrueIn, Adds, Deletes}
 use Rattle.slot_encoding.specs.OrderFormulas.{OrderNumbers}
 use Rattle.slot_encoding.specs.OrderMeaning.{IsSlotObject, pair_atom, AreTheSlots}
 

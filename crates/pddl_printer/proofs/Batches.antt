@@ -1,10 +1,10 @@
 -- Bytes that are added to a batch one after another, and what comes of them.
 use Rattle.std.proofs.Common.{ℕ, ◌≡◌, ◌+◌, ◌<◌, ◌≤◌, List, [], ◌∷◌, ◌++◌, length, take, get_or, ap, sym, subst, ◌∙◌, append_assoc}
 use Rattle.std.proofs.lemmas.List.{append-nil}
-use Rattle.task_networks.specs.Spelling.{numbers}
-use Rattle.sheets.specs.Sheets.{Wrote}
-use Rattle.sheets.specs.declared.sheet.Sheet.{Sheet}
-use Rattle.sheets.proofs.Written.{wrote-as, wrote-nothing, wrote-then}
+use Rattle.plan_model.specs.task_networks.Spelling.{numbers}
+use Rattle.text_forms.specs.sheets.Sheets.{Wrote}
+use Rattle.text_forms.specs.declared.sheets.sheet.Sheet.{Sheet}
+use Rattle.text_forms.proofs.sheets.Written.{wrote-as, wrote-nothing, wrote-then}
 use Rattle.text_forms.specs.Lists.{Part, Parts, group, nothing, part}
 use Rattle.text_forms.specs.Words.{Word}
 use Rattle.text_forms.specs.Printing.{bytes, bytes_behind, headed}

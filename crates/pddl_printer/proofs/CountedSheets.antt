@@ -4,8 +4,8 @@ use Rattle.std.specs.Prelude.{min}
 use Rattle.std.proofs.Math.Nat.{suc-mul, mul_comm}
 use Rattle.std.proofs.lemmas.Bool.{cases_lt}
 use Rattle.std.proofs.lemmas.List.{append-nil}
-use Rattle.sheets.specs.Sheets.{capped, Wrote, Counts}
-use Rattle.sheets.specs.declared.sheet.Sheet.{Sheet}
+use Rattle.text_forms.specs.sheets.Sheets.{capped, Wrote, Counts}
+use Rattle.text_forms.specs.declared.sheets.sheet.Sheet.{Sheet}
 
 -- some bytes were put and some only counted: others were put, if they are as many in all
 pub wrote-skipped : {a : List ℕ} (b : List ℕ) (n : ℕ) {s t u : Sheet} → s.whole ≡ false → Wrote a s t → Counts n t u → capped (t.count + n) ≡ capped (s.count + length b) → Wrote b s u

@@ -7,9 +7,9 @@ use Rattle.text_forms.specs.Printing.{bytes_behind, lines}
 use Rattle.plan_texts.specs.Printed.{all_parts, typed_parts}
 use Rattle.text_forms.specs.Words.{Word}
 use Rattle.pddl_printer.specs.Behind.{behind, line, typed, of_each}
-use Rattle.sheets.specs.Sheets.{Wrote}
-use Rattle.sheets.specs.declared.sheet.Sheet.{Sheet}
-use Rattle.sheets.proofs.Written.{wrote-as, wrote-then}
+use Rattle.text_forms.specs.sheets.Sheets.{Wrote}
+use Rattle.text_forms.specs.declared.sheets.sheet.Sheet.{Sheet}
+use Rattle.text_forms.proofs.sheets.Written.{wrote-as, wrote-then}
 
 pub of_each-append : {X : Type 0} (f : X → List ℕ) (xs ys : List X) → of_each f (xs ++ ys) ≡ of_each f xs ++ of_each f ys
 of_each-append f [] ys = refl

@@ -5,9 +5,9 @@ use Rattle.text_forms.specs.Lists.{Part, Parts, group, nothing, part}
 use Rattle.text_forms.specs.Words.{Word}
 use Rattle.text_forms.specs.Printing.{bytes, bytes_behind, headed}
 use Rattle.pddl_printer.specs.Behind.{behind, between}
-use Rattle.sheets.specs.Sheets.{Wrote}
-use Rattle.sheets.specs.declared.sheet.Sheet.{Sheet}
-use Rattle.sheets.proofs.Written.{wrote-as, wrote-then}
+use Rattle.text_forms.specs.sheets.Sheets.{Wrote}
+use Rattle.text_forms.specs.declared.sheets.sheet.Sheet.{Sheet}
+use Rattle.text_forms.proofs.sheets.Written.{wrote-as, wrote-then}
 
 -- the bytes of equal values
 pub wrote-at : {X : Type 0} (f : X → List ℕ) {x y : X} {s t : Sheet} → x ≡ y → Wrote (f x) s t → Wrote (f y) s t

@@ -2,9 +2,9 @@
 use Rattle.std.proofs.Common.{◌≡◌, ◌∷◌, ◌++◌, refl, ap, ◌∙◌, append_assoc}
 use Rattle.text_forms.specs.Lists.{Parts, nothing, part, joined}
 use Rattle.text_forms.specs.Printing.{bytes, lines}
-use Rattle.sheets.specs.Sheets.{Wrote}
-use Rattle.sheets.specs.declared.sheet.Sheet.{Sheet}
-use Rattle.sheets.proofs.Written.{wrote-as, wrote-then}
+use Rattle.text_forms.specs.sheets.Sheets.{Wrote}
+use Rattle.text_forms.specs.declared.sheets.sheet.Sheet.{Sheet}
+use Rattle.text_forms.proofs.sheets.Written.{wrote-as, wrote-then}
 
 pub lines-joined : (ps qs : Parts) → lines ps ++ lines qs ≡ lines (joined ps qs)
 lines-joined nothing qs = refl

@@ -4,9 +4,9 @@ use Rattle.std.proofs.lemmas.List.{append-nil}
 use Rattle.text_forms.specs.Lists.{Parts, name, nothing, part}
 use Rattle.text_forms.specs.Words.{Word}
 use Rattle.text_forms.specs.Printing.{bytes_behind, lines, headed, page}
-use Rattle.sheets.specs.Sheets.{Wrote}
-use Rattle.sheets.specs.declared.sheet.Sheet.{Sheet}
-use Rattle.sheets.proofs.Written.{wrote-as, wrote-then}
+use Rattle.text_forms.specs.sheets.Sheets.{Wrote}
+use Rattle.text_forms.specs.declared.sheets.sheet.Sheet.{Sheet}
+use Rattle.text_forms.proofs.sheets.Written.{wrote-as, wrote-then}
 
 lines-headed : (k b l : List ℕ) → (32 ∷ 40 ∷ k) ++ (b ++ (41 ∷ 10 ∷ l)) ≡ 32 ∷ ((40 ∷ (k ++ (b ++ 41 ∷ []))) ++ (10 ∷ l))
 lines-headed k b l = simp append_assoc

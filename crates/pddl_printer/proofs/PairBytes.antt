@@ -7,7 +7,7 @@ use Rattle.std.proofs.Math.Nat.{suc-mul, mul-suc, mul-add, mul_comm}
 use Rattle.text_forms.specs.Lists.{Part, name, nothing, part}
 use Rattle.text_forms.specs.Words.{Word, word_at}
 use Rattle.text_forms.specs.Printing.{bytes, headed}
-use Rattle.task_networks.specs.Spelling.{numbers}
+use Rattle.plan_model.specs.task_networks.Spelling.{numbers}
 use Rattle.plan_texts.specs.Declared.{Declared}
 use Rattle.plan_texts.specs.Printed.{formula_part}
 use Rattle.plan_texts.proofs.Equations.{part-Not, part-Equal}
@@ -16,7 +16,7 @@ use Rattle.plan_model.specs.declared.terms.Term.TheVariants.{Var}
 use Rattle.pddl_printer.specs.Behind.{behind, of_each}
 use Rattle.pddl_printer.specs.Literals.{conditions_behind}
 use Rattle.pddl_printer.specs.Splits.{unequal, all_differ, pair_with, open_with, next_with}
-use Rattle.sheets.specs.Sheets.{capped}
+use Rattle.text_forms.specs.sheets.Sheets.{capped}
 use Rattle.pddl_printer.proofs.CountedSheets.{times_capped}
 use Rattle.pddl_printer.proofs.LiteralLengths.{behind-length}
 use Rattle.pddl_printer.proofs.Ranges.{behind-made, behind-append}

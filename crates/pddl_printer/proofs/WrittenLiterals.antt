@@ -3,7 +3,7 @@ use Rattle.std.proofs.Common.{ℕ, ◌≡◌, List, codes, ap, sym, ◌∙◌}
 use Rattle.text_forms.specs.Lists.{nothing, part}
 use Rattle.text_forms.specs.Words.{Word}
 use Rattle.text_forms.specs.Printing.{bytes_behind, headed}
-use Rattle.task_networks.specs.Spelling.{numbers}
+use Rattle.plan_model.specs.task_networks.Spelling.{numbers}
 use Rattle.plan_texts.specs.Declared.{Declared}
 use Rattle.plan_texts.specs.Printed.{all_parts, formula_part, effect_part}
 use Rattle.plan_texts.proofs.Equations.{part-Holds, part-Not, effect-Add, effect-Delete, effect-When}

@@ -1,8 +1,8 @@
 -- Bytes that wait to be put on a sheet, behind those that stand on it.
 -- Source: this project's.
 use Rattle.std.specs.Prelude.{ℕ, ◌≡◌, List, ◌++◌}
-use Rattle.sheets.specs.Sheets.{Wrote}
-use Rattle.sheets.specs.declared.sheet.Sheet.{Sheet}
+use Rattle.text_forms.specs.sheets.Sheets.{Wrote}
+use Rattle.text_forms.specs.declared.sheets.sheet.Sheet.{Sheet}
 use Rattle.pddl_printer.specs.declared.batch.Batch.{Batch}
 
 -- Of the bytes that waited and these behind them, the first were put on the sheet, and the rest waits.

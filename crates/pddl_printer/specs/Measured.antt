@@ -2,10 +2,10 @@
 -- Source: this project's.
 use Rattle.std.specs.Prelude.{◌≡◌, Option, None, Some, length, sum_by}
 use Rattle.text_forms.specs.Words.{word_at}
-use Rattle.task_networks.specs.Spelling.{numbers}
+use Rattle.plan_model.specs.task_networks.Spelling.{numbers}
 use Rattle.plan_texts.specs.SpellsPddl.{pddl_words}
 use Rattle.plan_model.specs.declared.values.Pddl.{Pddl}
-use Rattle.sheets.specs.Sheets.{capped}
+use Rattle.text_forms.specs.sheets.Sheets.{capped}
 use Rattle.pddl_printer.specs.declared.object_range.Range.{Range}
 use Rattle.pddl_printer.specs.declared.written.Written.{Written}
 

@@ -3,7 +3,7 @@
 -- object stand in its place. Any other part stands as it is, a quantified add without a condition too.
 -- Source: Fox and Long, "PDDL2.1", JAIR 20, 2003, level 1, where a quantifier over finitely many objects is short for its instances.
 use Rattle.std.specs.Prelude.{ℕ, ◌==◌, cond, List, [], ◌∷◌, ◌++◌, map, length}
-use Rattle.task_networks.specs.Spelling.{numbers}
+use Rattle.plan_model.specs.task_networks.Spelling.{numbers}
 use Rattle.plan_model.specs.declared.terms.Term.{Term}
 use Rattle.plan_model.specs.declared.terms.Term.TheVariants.{Var, Obj}
 use Rattle.plan_model.specs.declared.terms.Atom.{Atom}

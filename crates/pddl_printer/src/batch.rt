@@ -1,9 +1,9 @@
 ghost use Rattle.std.specs.Prelude.{◌≡◌, []};
 ghost use Rattle.pddl_printer.specs.Batches.{Added};
-ghost use Rattle.sheets.specs.Sheets.{Wrote};
+ghost use Rattle.text_forms.specs.sheets.Sheets.{Wrote};
 
 use arrayvec::ArrayVec;
-use sheets::Sheet;
+use text_forms::sheets::Sheet;
 
 /// The most bytes that wait.
 const MOST_BYTES: usize = 1024;

@@ -1,11 +1,11 @@
 ghost use Rattle.std.specs.Prelude.{◌≡◌, ◌<◌, ◌++◌, false};
-ghost use Rattle.task_networks.specs.Spelling.{numbers};
+ghost use Rattle.plan_model.specs.task_networks.Spelling.{numbers};
 ghost use Rattle.pddl_printer.specs.Batches.{Added};
 ghost use Rattle.pddl_printer.specs.Behind.{of_each};
 ghost use Rattle.pddl_printer.specs.Literals.{is_over as over};
 ghost use Rattle.pddl_printer.specs.InstanceTexts.{literals_text, word_between};
 ghost use Rattle.pddl_printer.specs.Measured.{IsMeasured};
-ghost use Rattle.sheets.specs.Sheets.{Wrote};
+ghost use Rattle.text_forms.specs.sheets.Sheets.{Wrote};
 
 use crate::batch::Batch;
 use crate::holes::holes;
@@ -15,7 +15,7 @@ use crate::stencil::{Piece, Stencil, joined};
 use crate::words::object_word;
 use crate::written::Written;
 use plan_model::{Param, Pddl, Scope};
-use sheets::Sheet;
+use text_forms::sheets::Sheet;
 
 /// The objects of a range, each in place of the variable of this number.
 #[derive(Clone, Copy)]

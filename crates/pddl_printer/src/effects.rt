@@ -1,13 +1,13 @@
 ghost use Rattle.pddl_printer.specs.Texts.{effect_text, effects_text, effect_within};
 ghost use Rattle.pddl_printer.specs.Batches.{Added};
-ghost use Rattle.sheets.specs.Sheets.{Wrote};
+ghost use Rattle.text_forms.specs.sheets.Sheets.{Wrote};
 
 use crate::batch::Batch;
 use crate::formulas::add_formula;
 use crate::terms::add_atom;
 use crate::typed_lists::add_variables;
 use plan_model::{Effect, Param, Pddl, Scope};
-use sheets::Sheet;
+use text_forms::sheets::Sheet;
 
 /// Puts an effect behind a space.
 pub(crate) fn put_effect(p: &Pddl, scope: &Scope<'_>, effect: &Effect, sheet: &mut Sheet<'_>)

@@ -1,13 +1,13 @@
 ghost use Rattle.pddl_printer.specs.Batches.{Added};
 ghost use Rattle.pddl_printer.specs.Behind.{of_each};
 ghost use Rattle.pddl_printer.specs.Texts.{args_text, fact_text};
-ghost use Rattle.sheets.specs.Sheets.{Wrote};
+ghost use Rattle.text_forms.specs.sheets.Sheets.{Wrote};
 
 use crate::batch::Batch;
 use crate::words::{object_word, predicate_word};
 use htn_base::PackedPart;
 use plan_model::{Fact, Facts, Pddl};
-use sheets::Sheet;
+use text_forms::sheets::Sheet;
 
 /// Adds the words of objects to a batch, each behind a space.
 fn add_objects(p: &Pddl, objects: &PackedPart<'_>, batch: &mut Batch, sheet: &mut Sheet<'_>)

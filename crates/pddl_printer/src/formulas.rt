@@ -1,12 +1,12 @@
 ghost use Rattle.pddl_printer.specs.Texts.{formula_text, formulas_text, formula_within};
 ghost use Rattle.pddl_printer.specs.Batches.{Added};
-ghost use Rattle.sheets.specs.Sheets.{Wrote};
+ghost use Rattle.text_forms.specs.sheets.Sheets.{Wrote};
 
 use crate::batch::Batch;
 use crate::terms::{add_applied, add_atom};
 use crate::typed_lists::add_variables;
 use plan_model::{Formula, Param, Pddl, Scope};
-use sheets::Sheet;
+use text_forms::sheets::Sheet;
 
 /// Puts a formula behind a space.
 pub(crate) fn put_formula(p: &Pddl, scope: &Scope<'_>, formula: &Formula, sheet: &mut Sheet<'_>)

@@ -1,6 +1,6 @@
 ghost use Rattle.std.specs.Prelude.{◌≡◌};
 ghost use Rattle.pddl_printer.specs.Holes.{is_hole as hole, holes_among, holes as holes_of};
-ghost use Rattle.sheets.specs.Sheets.{capped};
+ghost use Rattle.text_forms.specs.sheets.Sheets.{capped};
 
 use crate::instances::Literal;
 use plan_model::Term;

@@ -2,11 +2,11 @@ ghost use Rattle.std.specs.Prelude.{ℕ, List};
 ghost use Rattle.plan_model.specs.declared.values.Pddl.{Pddl};
 ghost use Rattle.pddl_printer.specs.Batches.{Added};
 ghost use Rattle.pddl_printer.specs.Behind.{of_each};
-ghost use Rattle.sheets.specs.Sheets.{Wrote};
+ghost use Rattle.text_forms.specs.sheets.Sheets.{Wrote};
 
 use crate::batch::Batch;
 use plan_model::Pddl;
-use sheets::Sheet;
+use text_forms::sheets::Sheet;
 
 /// What may stand in a list.
 pub(crate) trait Item {

@@ -5,7 +5,7 @@ ghost use Rattle.pddl_printer.specs.Heads.{domain_head, problem_head};
 ghost use Rattle.pddl_printer.specs.InForm.{value_in};
 ghost use Rattle.pddl_printer.specs.Measured.{IsMeasured, range_of};
 ghost use Rattle.pddl_printer.specs.Pages.{domain_start};
-ghost use Rattle.sheets.specs.Sheets.{Wrote};
+ghost use Rattle.text_forms.specs.sheets.Sheets.{Wrote};
 
 use crate::facts::put_facts;
 use crate::items::put_items;
@@ -13,7 +13,7 @@ use crate::schemas::{put_actions, put_condition};
 use crate::words::name_word;
 use crate::written::Written;
 use plan_model::{Pddl, Scope};
-use sheets::Sheet;
+use text_forms::sheets::Sheet;
 
 /// Puts the domain, each section on a line of its own.
 pub(crate) fn put_domain(p: &Pddl, sheet: &mut Sheet<'_>)

@@ -1,14 +1,14 @@
 ghost use Rattle.std.specs.Prelude.{◌≡◌, ◌+◌, false};
-ghost use Rattle.task_networks.specs.Spelling.{numbers};
+ghost use Rattle.plan_model.specs.task_networks.Spelling.{numbers};
 ghost use Rattle.pddl_printer.specs.Splits.{row_text, differ_text, letters, open_with, next_with};
-ghost use Rattle.sheets.specs.Sheets.{Wrote, capped};
+ghost use Rattle.text_forms.specs.sheets.Sheets.{Wrote, capped};
 
 use crate::batch::Batch;
 use crate::pen::Pen;
 use crate::stencil::Stencil;
 use crate::words::variable_word;
 use plan_model::{Param, Pddl};
-use sheets::Sheet;
+use text_forms::sheets::Sheet;
 
 /// Puts for each two of the variables 1 to `spare` that they differ, each behind a space. Where the sheet takes nothing more the rest
 /// is counted all at once.

@@ -1,8 +1,8 @@
 ghost use Rattle.std.specs.Prelude.{ℕ, List};
 ghost use Rattle.pddl_printer.specs.Drawings.{Nothing, Composes};
-ghost use Rattle.sheets.specs.Sheets.{Wrote};
+ghost use Rattle.text_forms.specs.sheets.Sheets.{Wrote};
 
-use sheets::Sheet;
+use text_forms::sheets::Sheet;
 
 /// What an instance is drawn with.
 pub(crate) trait Pen {
@@ -23,7 +23,7 @@ pub(crate) trait Pen {
 }
 
 impl Pen for Sheet<'_> {
-    ghost use Rattle.sheets.proofs.Written.{wrote-nothing, wrote-then};
+    ghost use Rattle.text_forms.proofs.sheets.Written.{wrote-nothing, wrote-then};
 
     ghost draws = { λ text word old new. Wrote (text word) old new };
 

@@ -2,7 +2,7 @@ ghost use Rattle.std.specs.Prelude.{IfSome};
 ghost use Rattle.pddl_printer.specs.ActionLines.{action_start, action_end};
 ghost use Rattle.pddl_printer.specs.Measured.{IsMeasured, range_of};
 ghost use Rattle.pddl_printer.specs.Texts.{predicate_text, condition_text, change_text, action_text, actions_text};
-ghost use Rattle.sheets.specs.Sheets.{Wrote};
+ghost use Rattle.text_forms.specs.sheets.Sheets.{Wrote};
 
 use crate::batch::Batch;
 use crate::each_object::Instances;
@@ -16,7 +16,7 @@ use crate::written_conditions::put_written_condition;
 use crate::written_effects::put_written_effect;
 use htn_base::Name;
 use plan_model::{ActionSchema, Effect, Formula, Param, Pddl, Predicate, Scope};
-use sheets::Sheet;
+use text_forms::sheets::Sheet;
 
 impl Item for Predicate {
     ghost text = { predicate_text };

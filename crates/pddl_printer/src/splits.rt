@@ -3,7 +3,7 @@ ghost use Rattle.pddl_printer.specs.ActionLines.{action_condition};
 ghost use Rattle.pddl_printer.specs.Measured.{IsMeasured, range_of};
 ghost use Rattle.pddl_printer.specs.Splits.{split_action};
 ghost use Rattle.pddl_printer.specs.Texts.{action_text, parts_text};
-ghost use Rattle.sheets.specs.Sheets.{Wrote};
+ghost use Rattle.text_forms.specs.sheets.Sheets.{Wrote};
 
 use crate::each_object::Instances;
 use crate::formulas::put_formulas;
@@ -13,7 +13,7 @@ use crate::written::Written;
 use crate::written_conditions::put_condition_parts;
 use htn_base::Name;
 use plan_model::{Effect, Formula, Param, Pddl, Scope};
-use sheets::Sheet;
+use text_forms::sheets::Sheet;
 
 /// An action whose condition is a conjunction: of some parts, of one part for each two of its variables 1 to `spare`, that they
 /// differ, and of more parts. Those in the middle are as many as the square of `spare`, so they are never made.

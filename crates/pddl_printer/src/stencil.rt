@@ -5,7 +5,7 @@ ghost use Rattle.pddl_printer.specs.Batches.{Added};
 use crate::batch::Batch;
 use crate::pen::Pen;
 use arrayvec::ArrayVec;
-use sheets::Sheet;
+use text_forms::sheets::Sheet;
 
 /// The most bytes between two places.
 const MOST_BYTES: usize = 128;

@@ -7,7 +7,7 @@ ghost use Rattle.pddl_printer.specs.Texts.{term_text, terms_text, applied_text, 
 use crate::batch::Batch;
 use crate::words::{name_word, object_word, predicate_word};
 use plan_model::{Atom, Pddl, Scope, Term};
-use sheets::Sheet;
+use text_forms::sheets::Sheet;
 
 /// The word of the k-th variable in force.
 pub(crate) fn word_in_force<'a>(p: &'a Pddl, scope: &Scope<'_>, k: u32) -> &'a [u8]

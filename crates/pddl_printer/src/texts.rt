@@ -2,12 +2,12 @@ ghost use Rattle.std.specs.Prelude.{◌≡◌, ◌++◌, OnOk, OnErr};
 ghost use Rattle.plan_texts.specs.PrintedTexts.{domain_text, problem_text};
 ghost use Rattle.plan_texts.specs.PrintableValue.{IsPrintable};
 ghost use Rattle.plan_texts.specs.SpellsPddl.{SpellsPddl};
-ghost use Rattle.sheets.specs.Sheets.{AppendsPrefix};
+ghost use Rattle.text_forms.specs.sheets.Sheets.{AppendsPrefix};
 
 use crate::pages::{put_domain, put_problem};
 use htn_base::{Memory, Text};
 use plan_model::Pddl;
-use sheets::Sheet;
+use text_forms::sheets::Sheet;
 
 /// Appends the domain text of the value, a line for each section.
 pub fn print_domain(p: &Pddl, into: &mut Text) -> Result<(), Memory>

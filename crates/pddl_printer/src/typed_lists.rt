@@ -1,13 +1,13 @@
 ghost use Rattle.pddl_printer.specs.Batches.{Added};
 ghost use Rattle.pddl_printer.specs.Texts.{types_text, union_text, kind_text, parent_text, object_text};
 ghost use Rattle.pddl_printer.specs.Texts.{param_text, spaced_param_text, between_text, variables_text};
-ghost use Rattle.sheets.specs.Sheets.{Wrote};
+ghost use Rattle.text_forms.specs.sheets.Sheets.{Wrote};
 
 use crate::batch::Batch;
 use crate::items::{Item, add_items};
 use crate::words::{name_word, type_word};
 use plan_model::{Object, Param, Parent, Pddl};
-use sheets::Sheet;
+use text_forms::sheets::Sheet;
 
 /// Adds the words of types to a batch, each behind a space.
 fn add_types(p: &Pddl, types: &[u32], batch: &mut Batch, sheet: &mut Sheet<'_>)

@@ -1,12 +1,12 @@
 ghost use Rattle.pddl_printer.specs.ConditionTexts.{written_text, parts_text, part_text, quantified_text, body_text, negated_text};
 ghost use Rattle.pddl_printer.specs.Measured.{IsMeasured};
-ghost use Rattle.sheets.specs.Sheets.{Wrote};
+ghost use Rattle.text_forms.specs.sheets.Sheets.{Wrote};
 
 use crate::each_object::{Instances, is_over, put_each};
 use crate::formulas::put_formula;
 use crate::instances::Literal;
 use plan_model::{Formula, Param, Pddl, Scope};
-use sheets::Sheet;
+use text_forms::sheets::Sheet;
 
 /// Puts a condition behind a space, with its quantifiers over the range written out.
 pub(crate) fn put_written_condition(

@@ -4,3 +4,5 @@ pub mod Pairs
 pub mod Scopes
 pub mod Facts
 pub mod Numbers
+pub mod task_networks
+pub mod plan_meaning

@@ -4,15 +4,15 @@ use Rattle.std.specs.Prelude.{ℕ, ◌≤◌, ◌↔◌, List}
 use Rattle.plan_model.specs.declared.steps.GroundAction.{GroundAction}
 use Rattle.plan_model.specs.declared.values.Compiled.{Compiled}
 use Rattle.plan_model.specs.declared.values.Pddl.{Pddl}
-use Rattle.task_networks.specs.Tree.{Tree, Address}
-use Rattle.task_networks.specs.Pending.{IsWithin}
-use Rattle.task_networks.specs.Front.{IsFront}
+use Rattle.plan_model.specs.task_networks.Tree.{Tree, Address}
+use Rattle.plan_model.specs.task_networks.Pending.{IsWithin}
+use Rattle.plan_model.specs.task_networks.Front.{IsFront}
 use Rattle.plan_texts.specs.PrintedTexts.{domain_text, problem_text}
-use Rattle.plan_meaning.specs.ClassicalPlan.{IsExecutable, IsPlan}
-use Rattle.plan_meaning.specs.Network.{network}
-use Rattle.plan_meaning.specs.Solution.{top_work}
-use Rattle.plan_meaning.specs.SpelledPlan.{IsSpelling}
-use Rattle.plan_meaning.specs.Bound.{IsBound}
+use Rattle.plan_model.specs.plan_meaning.ClassicalPlan.{IsExecutable, IsPlan}
+use Rattle.plan_model.specs.plan_meaning.Network.{network}
+use Rattle.plan_model.specs.plan_meaning.Solution.{top_work}
+use Rattle.plan_model.specs.plan_meaning.SpelledPlan.{IsSpelling}
+use Rattle.plan_model.specs.plan_meaning.Bound.{IsBound}
 use Rattle.plan_proof.specs.Headline.{SpellsExecutableFront, SpellsSolution, SpellsOne, LosesNothing}
 
 module _ (c : Compiled) (b : ℕ) where

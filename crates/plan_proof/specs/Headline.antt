@@ -6,19 +6,19 @@ use Rattle.plan_model.specs.declared.steps.GroundAction.{GroundAction}
 use Rattle.plan_model.specs.declared.values.Hddl.{Hddl}
 use Rattle.plan_model.specs.declared.values.Compiled.{Compiled}
 use Rattle.plan_model.specs.declared.values.Pddl.{Pddl}
-use Rattle.task_networks.specs.Tree.{Tree, Address, IsAddress}
-use Rattle.task_networks.specs.Pending.{IsWithin}
-use Rattle.task_networks.specs.Front.{IsFront}
+use Rattle.plan_model.specs.task_networks.Tree.{Tree, Address, IsAddress}
+use Rattle.plan_model.specs.task_networks.Pending.{IsWithin}
+use Rattle.plan_model.specs.task_networks.Front.{IsFront}
 use Rattle.plan_texts.specs.PrintedTexts.{domain_text, problem_text}
 use Rattle.plan_texts.specs.SpellsPddl.{SpellsPddl}
 use Rattle.plan_texts.specs.FirstSeen.{IsHddlOf}
-use Rattle.plan_meaning.specs.ClassicalPlan.{IsExecutable}
-use Rattle.plan_meaning.specs.Network.{network}
-use Rattle.plan_meaning.specs.Compilation.{IsCompiled}
-use Rattle.plan_meaning.specs.Solution.{top_work, IsExecutableFront, IsSolution}
-use Rattle.plan_meaning.specs.SpelledPlan.{IsSpelling}
-use Rattle.plan_meaning.specs.Strata.{IsTailRecursive}
-use Rattle.plan_meaning.specs.Bound.{IsBound}
+use Rattle.plan_model.specs.plan_meaning.ClassicalPlan.{IsExecutable}
+use Rattle.plan_model.specs.plan_meaning.Network.{network}
+use Rattle.plan_model.specs.plan_meaning.Compilation.{IsCompiled}
+use Rattle.plan_model.specs.plan_meaning.Solution.{top_work, IsExecutableFront, IsSolution}
+use Rattle.plan_model.specs.plan_meaning.SpelledPlan.{IsSpelling}
+use Rattle.plan_model.specs.plan_meaning.Strata.{IsTailRecursive}
+use Rattle.plan_model.specs.plan_meaning.Bound.{IsBound}
 use Rattle.plan_proof.specs.TextPlans.{IsPlanOf}
 
 -- executable in a value that the two texts spell

@@ -6,9 +6,9 @@ use Rattle.plan_model.specs.declared.schemas.MethodPlan.{MethodPlan}
 use Rattle.plan_model.specs.declared.values.Compiled.{Compiled}
 use Rattle.plan_texts.specs.Declared.{named}
 use Rattle.plan_texts.specs.SpellsHddl.{task_words}
-use Rattle.plan_meaning.specs.Schemas.{Schema}
-use Rattle.plan_meaning.specs.Strata.{Edge, source, target, AreEdges, IsBad, IsTailRecursive, IsNamedCycle, IsRanking}
-use Rattle.plan_meaning.specs.Bound.{IsBound}
+use Rattle.plan_model.specs.plan_meaning.Schemas.{Schema}
+use Rattle.plan_model.specs.plan_meaning.Strata.{Edge, source, target, AreEdges, IsBad, IsTailRecursive, IsNamedCycle, IsRanking}
+use Rattle.plan_model.specs.plan_meaning.Bound.{IsBound}
 
 -- the words of all methods, the top method first
 abbrev pub plan_words : Compiled → List Word

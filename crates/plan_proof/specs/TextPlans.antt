@@ -2,7 +2,7 @@
 -- Source: Fox and Long, "PDDL2.1", JAIR 20, 2003, level 1, over the texts' own words.
 use Rattle.std.specs.Prelude.{ℕ, ◌↔◌, List}
 use Rattle.plan_texts.specs.SpellsPddl.{SpellsPddl}
-use Rattle.plan_meaning.specs.ClassicalPlan.{IsPlan}
+use Rattle.plan_model.specs.plan_meaning.ClassicalPlan.{IsPlan}
 use Rattle.plan_model.specs.declared.steps.GroundAction.{GroundAction}
 use Rattle.plan_model.specs.declared.values.Pddl.{Pddl}
 

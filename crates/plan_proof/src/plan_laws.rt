@@ -4,7 +4,7 @@
 //! `slots` is the number of slots; a printable problem has one at least.
 
 ghost use Rattle.plan_texts.specs.PrintedTexts.{domain_text, problem_text};
-ghost use Rattle.plan_meaning.specs.Laws.{AreOrdered};
+ghost use Rattle.plan_model.specs.plan_meaning.Laws.{AreOrdered};
 ghost use Rattle.plan_proof.specs.Headline.{IsFaithful};
 ghost use Rattle.slot_encoding.specs.Printed.{IsPrinted};
 ghost use Rattle.plan_proof.specs.Faithful.{ExecutablesSpellFronts, PlansSpellSolutions, EachSpellsOne, SpellingsAreWithin, FrontsWithinAreSpelled, IsFaithfulValue, PrintedLosesNothing};

@@ -3,10 +3,10 @@
 //! `slots` is the number of slots, whatever it is; style and mode of checks are those of the words of a run.
 
 ghost use Rattle.std.specs.Prelude.{◌≡◌};
-ghost use Rattle.plan_meaning.specs.Compilation.{IsCompiled};
+ghost use Rattle.plan_model.specs.plan_meaning.Compilation.{IsCompiled};
 ghost use Rattle.plan_texts.specs.FirstSeen.{IsHddlOf};
 ghost use Rattle.plan_texts.specs.SoundValue.{IsSoundHddl};
-ghost use Rattle.plan_meaning.specs.Laws.{AreOrdered};
+ghost use Rattle.plan_model.specs.plan_meaning.Laws.{AreOrdered};
 ghost use Rattle.slot_encoding.specs.Printed.{IsPrinted};
 ghost use Rattle.slot_encoding.specs.EncodedWords.{HasEncodedWords};
 ghost use Rattle.plan_proof.specs.OneText.{HasOneCompiled, PrintedAreTextsFor, HaveTexts, HaveOnePairOfTexts};

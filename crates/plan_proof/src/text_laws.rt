@@ -4,7 +4,7 @@ ghost use Rattle.plan_texts.specs.SpellsPddl.{SpellsPddl};
 ghost use Rattle.plan_texts.specs.Alike.{AreAlikePddl};
 ghost use Rattle.plan_texts.specs.PrintedTexts.{domain_text, problem_text};
 ghost use Rattle.plan_texts.specs.PrintableValue.{IsPrintable};
-ghost use Rattle.plan_meaning.specs.ClassicalPlan.{IsPlan};
+ghost use Rattle.plan_model.specs.plan_meaning.ClassicalPlan.{IsPlan};
 ghost use Rattle.plan_model.specs.declared.steps.GroundAction.{GroundAction};
 ghost use Rattle.plan_proof.specs.SoundWords.{HasSoundWords};
 ghost use Rattle.plan_proof.specs.TextPlans.{HavePlansOf};

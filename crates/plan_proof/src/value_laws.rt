@@ -5,8 +5,8 @@
 
 ghost use Rattle.plan_texts.specs.FirstSeen.{IsHddlOf};
 ghost use Rattle.plan_texts.specs.SoundValue.{IsSoundHddl};
-ghost use Rattle.plan_meaning.specs.Compilation.{IsCompiled};
-ghost use Rattle.plan_meaning.specs.Laws.{AreOrdered};
+ghost use Rattle.plan_model.specs.plan_meaning.Compilation.{IsCompiled};
+ghost use Rattle.plan_model.specs.plan_meaning.Laws.{AreOrdered};
 ghost use Rattle.plan_proof.specs.Headline.{PrintedHeadline, PrintedHeadlineAtBound};
 ghost use Rattle.slot_encoding.specs.Printed.{IsPrinted};
 ghost use Rattle.plan_proof.specs.Same.{AreSameButNames};

@@ -4,7 +4,7 @@ use Rattle.plan_model.specs.declared.networks.Head.{Head}
 use Rattle.plan_model.specs.declared.networks.Head.TheVariants.{Task, Action, Check}
 use Rattle.plan_model.specs.declared.schemas.MethodPlan.{MethodPlan}
 use Rattle.plan_model.specs.declared.values.Compiled.{Compiled}
-use Rattle.stratifier.specs.Conditions.{IsNumbered, IsSmallMethod, IsOrdered, IsSmallCompiled, HaveNoCycle}
+use Rattle.bound_calc.specs.stratifier.Conditions.{IsNumbered, IsSmallMethod, IsOrdered, IsSmallCompiled, HaveNoCycle}
 use Rattle.bound_calc.specs.Lines.{HasLine, HaveLines}
 
 abbrev pub IsUpTo : ℕ → Head → Type 0

@@ -6,6 +6,7 @@ ghost use Rattle.printed_rows.specs.Ready.{AreReady};
 use crate::cases::CASES;
 use crate::ready::{are_below, are_ready};
 use crate::running::{Failure, compiled_source, source_of};
+use bound_calc::stratifier::{Edge, Ranks, StratError, stratify};
 use bound_calc::{BoundError, bound};
 use htn_base::Name;
 use net_order::{Order, OrderError};
@@ -13,7 +14,6 @@ use outside_io::DiskFiles;
 use plan_model::{Checks, Compiled, Head, MethodPlan};
 use std::alloc::Global;
 use std::io::Write;
-use stratifier::{Edge, Ranks, StratError, stratify};
 
 /// Prints a line for each problem.
 pub fn print_bounds(rt: &HostRuntime, alloc: Global, files: &mut DiskFiles) -> Result<(), Failure> {

@@ -1,9 +1,9 @@
 use crate::running::Failure;
 use htn_base::Fault;
 use outside_io::{DiskFiles, Files};
-use sexpr_text::ReadError;
 use std::alloc::Global;
 use std::str;
+use text_forms::sexpr_text::ReadError;
 use text_values::{fault_word, hddl_of};
 
 /// So many pairs stand in `data/pairs`.

@@ -3,9 +3,9 @@
 ghost use Rattle.std.specs.Prelude.{ℕ, ◌≤◌, ◌<◌, ◌↔◌, All, IsTrue, IfOk, length};
 ghost use Rattle.plan_model.specs.Pairs.{Pairs};
 ghost use Rattle.plan_model.specs.declared.networks.Child.{Child as Work};
-ghost use Rattle.task_networks.specs.Order.{IsAcyclic};
+ghost use Rattle.plan_model.specs.task_networks.Order.{IsAcyclic};
 ghost use Rattle.net_order.specs.Meaning.{AreBelow};
-ghost use Rattle.stratifier.specs.Conditions.{IsSmallMethod};
+ghost use Rattle.bound_calc.specs.stratifier.Conditions.{IsSmallMethod};
 ghost use Rattle.bound_calc.specs.Lines.{HasLine};
 ghost use Rattle.printed_rows.specs.Ready.{AreReady, IsReady, IsUpTo};
 

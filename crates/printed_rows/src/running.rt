@@ -1,20 +1,20 @@
 ghost use Rattle.std.specs.Prelude.{IfOk};
 ghost use Rattle.plan_model.specs.Parts.{AreListed};
 ghost use Rattle.plan_texts.specs.SoundProblem.{IsSoundProblem};
-ghost use Rattle.plan_meaning.specs.Laws.{AreOrdered};
+ghost use Rattle.plan_model.specs.plan_meaning.Laws.{AreOrdered};
 ghost use Rattle.problem_texts.specs.ArePrinted.{IsCompiledProblem};
 
 use crate::rows::{ROWS, Row};
+use bound_calc::method_precs::compile;
 use htn_base::{Memory, Text};
-use method_precs::compile;
 use outside_io::{DiskFiles, Files, GetError};
 use pddl_printer::{print_domain, print_problem};
 use plan_model::{Checks, Compiled, Hddl, Pddl, Style};
 use problem_texts::{Printed, Sizes, Texts, sizes, texts_of};
-use sexpr_text::ReadError;
 use slot_encoder::encode;
 use std::alloc::{AllocError, Global};
 use std::io::{self, Write};
+use text_forms::sexpr_text::ReadError;
 use text_values::hddl_of;
 
 /// More bytes than a text of `data/` has.

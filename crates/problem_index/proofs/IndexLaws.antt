@@ -7,8 +7,8 @@ use Rattle.plan_model.specs.declared.types.Object.{Object}
 use Rattle.plan_model.specs.declared.schemas.ActionSchema.{ActionSchema}
 use Rattle.plan_model.specs.declared.steps.GroundAction.{GroundAction}
 use Rattle.plan_model.specs.declared.values.Pddl.{Pddl}
-use Rattle.plan_meaning.specs.ClassicalPlan.{HasWord}
-use Rattle.plan_meaning.specs.FailingStep.{IsNamed, NamesAction}
+use Rattle.plan_model.specs.plan_meaning.ClassicalPlan.{HasWord}
+use Rattle.plan_model.specs.plan_meaning.FailingStep.{IsNamed, NamesAction}
 use Rattle.problem_index.specs.Places.{HasWordAt}
 
 contains_at : {X : Type 0} (xs : List X) (x : X) → Contains xs x → (k : ℕ) × (slice_get xs k ≡ Some x)

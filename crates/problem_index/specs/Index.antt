@@ -5,8 +5,8 @@ use Rattle.plan_model.specs.declared.types.Object.{Object}
 use Rattle.plan_model.specs.declared.schemas.ActionSchema.{ActionSchema}
 use Rattle.plan_model.specs.declared.steps.GroundAction.{GroundAction}
 use Rattle.plan_model.specs.declared.values.Pddl.{Pddl}
-use Rattle.plan_meaning.specs.ClassicalPlan.{HasWord, InTypeOf}
-use Rattle.plan_meaning.specs.FailingStep.{IsNamed, NamesAction}
+use Rattle.plan_model.specs.plan_meaning.ClassicalPlan.{HasWord, InTypeOf}
+use Rattle.plan_model.specs.plan_meaning.FailingStep.{IsNamed, NamesAction}
 use Rattle.problem_index.specs.declared.index.Index.{Index}
 use Rattle.problem_index.specs.declared.places.Places.{Places}
 use Rattle.problem_index.specs.Kinds.{AreKinds}

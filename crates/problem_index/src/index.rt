@@ -1,7 +1,7 @@
 ghost use Rattle.std.specs.Prelude.{◌≡◌, ◌<◌, ◌^◌, length, IfOk};
 ghost use Rattle.std.specs.Option.{option_copied};
 ghost use Rattle.plan_model.specs.Parts.{AreListed};
-ghost use Rattle.plan_meaning.specs.FailingStep.{AreNamedApart};
+ghost use Rattle.plan_model.specs.plan_meaning.FailingStep.{AreNamedApart};
 ghost use Rattle.problem_index.specs.Kinds.{IsWorld};
 ghost use Rattle.problem_index.specs.Index as spec;
 

@@ -3,11 +3,11 @@ use Rattle.std.proofs.Common.{ℕ, ◌≡◌, ◌^◌, ◌<◌, List, Result, Ok
 use Rattle.htn_base.specs.declared.memory.Memory.{Memory}
 use Rattle.plan_texts.specs.PrintedTexts.{domain_text, problem_text}
 use Rattle.plan_model.specs.declared.values.Pddl.{Pddl}
-use Rattle.sheets.specs.Sheets.{Wrote, IsFresh, EndsAs}
-use Rattle.sheets.specs.declared.sheet.Sheet.{Sheet}
-use Rattle.sheets.specs.declared.sheet.Ended.{Ended}
-use Rattle.sheets.specs.declared.sheet.Ended.TheVariants.{Whole, TooLong}
-use Rattle.sheets.proofs.Written.{whole-has, whole-fits, long-counts, long-is-long}
+use Rattle.text_forms.specs.sheets.Sheets.{Wrote, IsFresh, EndsAs}
+use Rattle.text_forms.specs.declared.sheets.sheet.Sheet.{Sheet}
+use Rattle.text_forms.specs.declared.sheets.sheet.Ended.{Ended}
+use Rattle.text_forms.specs.declared.sheets.sheet.Ended.TheVariants.{Whole, TooLong}
+use Rattle.text_forms.proofs.sheets.Written.{whole-has, whole-fits, long-counts, long-is-long}
 use Rattle.problem_texts.specs.Lengths.{IsFirstPast}
 use Rattle.problem_texts.specs.Pages.{IsAppended}
 

@@ -1,11 +1,11 @@
 -- The lengths of the two texts with many slots, from those with few.
 use Rattle.std.proofs.Common.{ℕ, ◌≡◌, ◌^◌, ◌<◌, List, Option, None, Some, IfSome, length}
-use Rattle.sheets.specs.Sheets.{capped}
+use Rattle.text_forms.specs.sheets.Sheets.{capped}
 use Rattle.plan_model.specs.declared.options.Style.{Style}
 use Rattle.plan_model.specs.declared.values.Compiled.{Compiled}
 use Rattle.plan_texts.specs.PrintedTexts.{domain_text, problem_text}
-use Rattle.encoded_texts.specs.Growth.{AreOnLine}
-use Rattle.encoded_texts.proofs.growth.FewSlots.{from-few}
+use Rattle.slot_encoding.specs.encoded_texts.Growth.{AreOnLine}
+use Rattle.slot_encoding.proofs.encoded_texts.growth.FewSlots.{from-few}
 use Rattle.problem_texts.specs.FewSlots.{AreCapped, GrowsEvenly}
 use Rattle.problem_texts.specs.Lengths.{AreSizesOf, AreKnownTooLong, IsFirstPast}
 use Rattle.problem_texts.specs.declared.printing.Sizes.{Sizes}

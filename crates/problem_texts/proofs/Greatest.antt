@@ -1,7 +1,7 @@
 -- The greatest of some numbers, as one more is looked at.
 use Rattle.std.proofs.Common.{ℕ, ◌≡◌, ◌+◌, ◌<◌, max, List, [], ◌∷◌, ◌++◌, map, length, get_or, take, ap, sym, ◌∙◌, arith}
 use Rattle.std.proofs.lemmas.List.{take_more, map-append}
-use Rattle.encoded_texts.specs.NamedObjects.{greatest}
+use Rattle.slot_encoding.specs.encoded_texts.NamedObjects.{greatest}
 
 greatest-append : (ns : List ℕ) (n : ℕ) → greatest (ns ++ n ∷ []) ≡ max (greatest ns) n
 greatest-append [] n = omega arith

@@ -2,8 +2,8 @@
 use Rattle.std.proofs.Common.{ℕ, ◌≡◌, ◌+◌, ◌-◌, ◌*◌, ◌^◌, ◌<◌, min, inl, inr, ap, ◌∙◌, arith}
 use Rattle.std.proofs.lemmas.Bool.{cases_lt}
 use Rattle.std.proofs.Math.Nat.{add-mul, mul_comm}
-use Rattle.sheets.specs.Sheets.{capped}
-use Rattle.encoded_texts.specs.Growth.{further_digits, AreOnLine}
+use Rattle.text_forms.specs.sheets.Sheets.{capped}
+use Rattle.slot_encoding.specs.encoded_texts.Growth.{further_digits, AreOnLine}
 use Rattle.problem_texts.specs.FewSlots.{AreCapped}
 use Rattle.problem_texts.specs.declared.growth.FewSlots.{FewSlots}
 

@@ -8,10 +8,10 @@ use Rattle.plan_model.specs.declared.schemas.ActionSchema.{ActionSchema}
 use Rattle.plan_model.specs.declared.values.Pddl.{Pddl}
 use Rattle.plan_texts.specs.SpellsPddl.{pddl_words}
 use Rattle.plan_texts.specs.PrintedTexts.{action_part, problem_text}
-use Rattle.task_networks.specs.Spelling.{numbers}
-use Rattle.sheets.specs.Sheets.{Wrote}
-use Rattle.sheets.specs.declared.sheet.Sheet.{Sheet}
-use Rattle.sheets.proofs.Written.{wrote-as}
+use Rattle.plan_model.specs.task_networks.Spelling.{numbers}
+use Rattle.text_forms.specs.sheets.Sheets.{Wrote}
+use Rattle.text_forms.specs.declared.sheets.sheet.Sheet.{Sheet}
+use Rattle.text_forms.proofs.sheets.Written.{wrote-as}
 use Rattle.slot_encoding.specs.EncodedActions.{differ}
 use Rattle.pddl_printer.specs.Behind.{line, of_each}
 use Rattle.pddl_printer.specs.InForm.{action_in, value_in}

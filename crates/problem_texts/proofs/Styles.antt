@@ -1,7 +1,7 @@
 -- What is encoded in style adl is encoded in each style, as it is or with the slots written out, and so what is printed of it is printed
 -- of each encoded value in that style.
 use Rattle.std.proofs.Common.{ℕ, ◌≡◌, ◌<◌, ◌≤◌, ◌^◌, List, length, Result, Ok, Err, IfOk, refl, ap, sym, subst, ◌∙◌}
-use Rattle.sheets.specs.Sheets.{capped}
+use Rattle.text_forms.specs.sheets.Sheets.{capped}
 use Rattle.plan_model.specs.declared.options.Style.{Style}
 use Rattle.plan_model.specs.declared.options.Style.TheVariants.{Adl, Flat}
 use Rattle.plan_model.specs.declared.values.Compiled.{Compiled}
@@ -10,7 +10,7 @@ use Rattle.plan_texts.specs.PrintedTexts.{domain_text, problem_text}
 use Rattle.slot_encoding.specs.EncodedValue.{IsEncoded}
 use Rattle.slot_encoding.specs.EncodedWords.{HasEncodedWords}
 use Rattle.slot_encoding.proofs.words.EncodedIsPrintable.{encoded_printable}
-use Rattle.encoded_texts.proofs.SameTexts.{encoded_texts-same}
+use Rattle.slot_encoding.proofs.encoded_texts.SameTexts.{encoded_texts-same}
 use Rattle.slot_encoder.specs.declared.encoding.Encoding.{Encoding}
 use Rattle.slot_encoder.specs.Encodings.{IsEncoding}
 use Rattle.problem_texts.proofs.flat.Values.{flat_is_written_out}

@@ -3,8 +3,8 @@
 use Rattle.std.specs.Prelude.{ℕ, ◌≡◌, ◌<◌, ◌≤◌}
 use Rattle.plan_model.specs.declared.values.Compiled.{Compiled}
 use Rattle.slot_encoding.specs.EncodedNames.{first_slot}
-use Rattle.encoded_texts.specs.NamedObjects.{of_compiled}
-use Rattle.sheets.specs.Sheets.{capped}
+use Rattle.slot_encoding.specs.encoded_texts.NamedObjects.{of_compiled}
+use Rattle.text_forms.specs.sheets.Sheets.{capped}
 use Rattle.problem_texts.specs.declared.growth.FewSlots.{FewSlots}
 
 -- as far as 64 bits go

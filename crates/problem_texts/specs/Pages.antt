@@ -1,10 +1,10 @@
 -- The two pages of an encoding, what is written out in them in each style, and what is printed of them within a limit.
 -- Source: this project's.
 use Rattle.std.specs.Prelude.{ℕ, ◌≡◌, ◌<◌, ◌≤◌, Option, None, Some, IfSome, List, ◌++◌, length, slice_get}
-use Rattle.sheets.specs.Sheets.{Wrote, capped}
-use Rattle.sheets.specs.declared.sheet.Sheet.{Sheet}
-use Rattle.sheets.specs.declared.sheet.Ended.{Ended}
-use Rattle.sheets.specs.declared.sheet.Ended.TheVariants.{Whole, TooLong}
+use Rattle.text_forms.specs.sheets.Sheets.{Wrote, capped}
+use Rattle.text_forms.specs.declared.sheets.sheet.Sheet.{Sheet}
+use Rattle.text_forms.specs.declared.sheets.sheet.Ended.{Ended}
+use Rattle.text_forms.specs.declared.sheets.sheet.Ended.TheVariants.{Whole, TooLong}
 use Rattle.plan_model.specs.declared.options.Style.{Style}
 use Rattle.plan_model.specs.declared.options.Style.TheVariants.{Adl, Flat}
 use Rattle.plan_model.specs.declared.schemas.ActionSchema.{ActionSchema}

@@ -4,7 +4,7 @@
 //! child's slot has the number of the variable that ranges over all slots. `slots` is the number of slots, whatever it is.
 
 ghost use Rattle.plan_model.specs.declared.options.Style.TheVariants.{Adl, Flat};
-ghost use Rattle.plan_meaning.specs.Compilation.{IsCompiled};
+ghost use Rattle.plan_model.specs.plan_meaning.Compilation.{IsCompiled};
 ghost use Rattle.slot_encoding.specs.EncodedValue.{IsEncoded};
 ghost use Rattle.pddl_printer.specs.WrittenOut.{written_out};
 ghost use Rattle.problem_texts.specs.Slots.{slots_of};

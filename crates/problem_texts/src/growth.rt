@@ -1,6 +1,6 @@
 ghost use Rattle.std.specs.Prelude.{ℕ, ◌≡◌, ◌<◌};
-ghost use Rattle.sheets.specs.Sheets.{capped};
-ghost use Rattle.encoded_texts.specs.Growth as growth;
+ghost use Rattle.text_forms.specs.sheets.Sheets.{capped};
+ghost use Rattle.slot_encoding.specs.encoded_texts.Growth as growth;
 ghost use Rattle.problem_texts.specs.FewSlots.{AreCapped};
 
 /// The lengths of a text with one slot, with two and with ten. They tell its length with any number of slots, since it grows by a

@@ -1,7 +1,7 @@
 ghost use Rattle.std.specs.Bool.{OnTrue};
 ghost use Rattle.std.specs.Prelude.{ℕ, ◌≡◌, IfOk, List, length};
 ghost use Rattle.plan_model.specs.Parts.{AreListed};
-ghost use Rattle.sheets.specs.Sheets.{capped};
+ghost use Rattle.text_forms.specs.sheets.Sheets.{capped};
 ghost use Rattle.slot_encoder.specs.Encodings.{IsEncoding};
 ghost use Rattle.problem_texts.specs.ArePrinted.{IsCompiledProblem};
 ghost use Rattle.problem_texts.specs.FewSlots.{GrowsEvenly};
@@ -14,9 +14,9 @@ use crate::pages::Pages;
 use crate::printing::Sizes;
 use htn_base::{Memory, Text};
 use plan_model::{Compiled, Hddl, Style};
-use sheets::Ended;
 use slot_encoder::Encoding;
 use std::alloc::Global;
+use text_forms::sheets::Ended;
 
 /// The lengths of the two texts with so many slots. Those with many slots are worked out from those with few.
 pub fn sizes(alloc: Global, c: &Compiled, slots: u32, style: &Style) -> Result<Sizes, Memory>

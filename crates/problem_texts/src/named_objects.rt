@@ -1,6 +1,6 @@
 ghost use Rattle.std.specs.Prelude.{ℕ, ◌≡◌, map};
-ghost use Rattle.encoded_texts.specs.NamedObjects as spec;
-ghost use Rattle.encoded_texts.specs.NamedObjects.{greatest};
+ghost use Rattle.slot_encoding.specs.encoded_texts.NamedObjects as spec;
+ghost use Rattle.slot_encoding.specs.encoded_texts.NamedObjects.{greatest};
 
 use htn_base::PackedPart;
 use plan_model::{

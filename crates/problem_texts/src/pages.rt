@@ -1,7 +1,7 @@
 ghost use Rattle.std.specs.Prelude.{◌≡◌, ◌<◌, length, IfOk, IfSome, OnOk};
 ghost use Rattle.plan_texts.specs.PrintedTexts.{domain_text, problem_text};
 ghost use Rattle.pddl_printer.specs.Measured.{IsMeasured, range_of};
-ghost use Rattle.sheets.specs.Sheets.{Wrote};
+ghost use Rattle.text_forms.specs.sheets.Sheets.{Wrote};
 ghost use Rattle.slot_encoder.specs.Encodings.{IsEncoding};
 ghost use Rattle.problem_texts.specs.Pages.{ArePages, IsAppended, PutsAction, actions, actions_in, encoded_in, range_in, value_of};
 
@@ -9,9 +9,9 @@ use crate::ranges::slots_of;
 use htn_base::{Memory, Text};
 use pddl_printer::{Split, Written, put_domain_start, put_problem, put_split};
 use plan_model::{Compiled, Style};
-use sheets::{Ended, Sheet};
 use slot_encoder::Encoding;
 use std::alloc::Global;
+use text_forms::sheets::{Ended, Sheet};
 
 /// The two pages of an encoded problem: its domain and its problem, with the quantifiers over the slots as they are or written
 /// out.

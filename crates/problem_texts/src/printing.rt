@@ -1,7 +1,7 @@
 ghost use Rattle.std.specs.Prelude.{ℕ, ◌≡◌, ◌≤◌, IfOk, IfSome, List, length};
 ghost use Rattle.plan_model.specs.Parts.{AreListed};
 ghost use Rattle.plan_texts.specs.PrintedTexts.{domain_text};
-ghost use Rattle.sheets.specs.Sheets.{capped};
+ghost use Rattle.text_forms.specs.sheets.Sheets.{capped};
 ghost use Rattle.slot_encoder.specs.Encodings.{IsEncoding};
 ghost use Rattle.problem_texts.specs.ArePrinted.{IsCompiledProblem};
 ghost use Rattle.problem_texts.specs.Lengths.{AreKnownTooLong, ArePrintedWithin, IsFirstPast};
@@ -11,9 +11,9 @@ use crate::lengths::{grows_evenly, sizes_from_few};
 use crate::pages::Pages;
 use htn_base::{Memory, Text};
 use plan_model::{Compiled, Style};
-use sheets::Ended;
 use slot_encoder::Encoding;
 use std::alloc::Global;
+use text_forms::sheets::Ended;
 
 /// The texts of the printed domain and the printed problem.
 #[derive(Drop)]

@@ -1,13 +1,13 @@
 -- Where the pairs lead upwards, each chain does, and so no child precedes itself.
 use Rattle.std.proofs.Common.{ℕ, ◌<◌, List, ◌∷◌, inl, inr, length, All, Contains, subst, arith}
 use Rattle.std.proofs.lemmas.List.Elements.{All-contains}
-use Rattle.task_networks.specs.Order.{Precedes, direct, through}
-use Rattle.task_networks.proofs.Lists.{head_or_tail}
+use Rattle.plan_model.specs.task_networks.Order.{Precedes, direct, through}
+use Rattle.plan_model.proofs.task_networks.Lists.{head_or_tail}
 use Rattle.plan_model.specs.declared.networks.Pair.{Pair}
 use Rattle.plan_model.specs.declared.schemas.MethodSchema.{MethodSchema}
 use Rattle.plan_model.specs.declared.values.Hddl.{Hddl}
 use Rattle.plan_model.specs.Pairs.{pair, Pairs}
-use Rattle.plan_meaning.specs.Laws.{AreOrdered}
+use Rattle.plan_model.specs.plan_meaning.Laws.{AreOrdered}
 use Rattle.plan_texts.specs.SoundProblem.{IsSmallMethod, HasSmallMethods}
 use Rattle.plan_texts.proofs.SoundProblems.{small_methods}
 use Rattle.public_calls.specs.Rising.{AreRising, IsRising}

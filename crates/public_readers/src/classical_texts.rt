@@ -2,9 +2,9 @@
 
 use htn_base::{Fault, Memory, Text};
 use plan_model::Pddl;
-use sexpr_text::ReadError;
 use std::alloc::Global;
 use std::process::Abort;
+use text_forms::sexpr_text::ReadError;
 use text_values::pddl_of;
 
 // The file, the code and the offset of the fault, if there is one.

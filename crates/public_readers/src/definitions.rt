@@ -3,9 +3,9 @@
 
 use hddl_reader::{Definition, Language, RawDomain, RawProblem, domain, problem};
 use htn_base::{Fault, Memory, NameTable, Text};
-use sexpr_text::{ReadError, Sexprs, read};
 use std::alloc::Global;
 use std::process::Abort;
+use text_forms::sexpr_text::{ReadError, Sexprs, read};
 
 // The code and the offset of the fault, if there is one.
 fn told<T: Drop>(rt: &impl Abort, answer: Result<T, ReadError>) -> (u16, u32) {

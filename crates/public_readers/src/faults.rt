@@ -2,9 +2,9 @@
 //! counted by hand.
 
 use htn_base::Fault;
-use sexpr_text::ReadError;
 use std::alloc::{AllocError, Global};
 use std::process::Abort;
+use text_forms::sexpr_text::ReadError;
 use text_values::hddl_of;
 
 const DOMAIN: &[u8] = b"(define (domain d) (:predicates (r ?x)) (:action a :parameters ()))";

@@ -4,9 +4,9 @@ use gd_reader::{
     Got, ListKind, RawEffect, RawFacts, RawFormula, RawParams, RawTerm, effect, formula, typed_list,
 };
 use htn_base::{Fault, Memory, Name, NameTable};
-use sexpr_text::{ReadError, Sexprs, read};
 use std::alloc::Global;
 use std::process::Abort;
+use text_forms::sexpr_text::{ReadError, Sexprs, read};
 
 // The code and the offset of the fault, if there is one.
 fn told<T: Drop>(rt: &impl Abort, answer: Result<T, ReadError>) -> (u16, u32) {

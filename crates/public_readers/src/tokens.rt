@@ -1,9 +1,9 @@
 //! Each call that may want memory is made once with ample memory, and its answer compared.
 
 use htn_base::{Fault, Memory, Text};
-use sexpr_text::{Kind, ReadError, Sexprs, read};
 use std::alloc::Global;
 use std::process::Abort;
+use text_forms::sexpr_text::{Kind, ReadError, Sexprs, read};
 
 const ACTION: &[u8] = b"(define (domain d) (:action a :parameters ()))";
 

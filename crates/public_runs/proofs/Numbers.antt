@@ -5,8 +5,8 @@ use Rattle.plan_model.specs.declared.types.Object.{Object}
 use Rattle.plan_model.specs.declared.schemas.ActionSchema.{ActionSchema}
 use Rattle.plan_model.specs.declared.steps.GroundAction.{GroundAction}
 use Rattle.plan_model.specs.declared.values.Pddl.{Pddl}
-use Rattle.plan_meaning.specs.ClassicalPlan.{HasWord}
-use Rattle.plan_meaning.specs.FailingStep.{IsNamed}
+use Rattle.plan_model.specs.plan_meaning.ClassicalPlan.{HasWord}
+use Rattle.plan_model.specs.plan_meaning.FailingStep.{IsNamed}
 use Rattle.ground_state.specs.Runs.{IsRunnable}
 use Rattle.problem_index.proofs.PlaceLaws.{one_place}
 use Rattle.public_runs.specs.Numbered.{AreNumbered, IsNumbered}

@@ -4,7 +4,7 @@ use Rattle.std.proofs.Math.Nat.{le-max_left, le-max_right}
 use Rattle.text_forms.specs.Words.{Word}
 use Rattle.htn_base.specs.Escapes.{slot_word}
 use Rattle.htn_base.specs.declared.name.Name.{Name}
-use Rattle.task_networks.specs.Spelling.{numbers}
+use Rattle.plan_model.specs.task_networks.Spelling.{numbers}
 use Rattle.plan_model.specs.declared.types.Object.{Object}
 use Rattle.plan_model.specs.declared.schemas.Predicate.{Predicate}
 use Rattle.plan_model.specs.declared.schemas.TaskSchema.{TaskSchema}

@@ -10,7 +10,7 @@ use Rattle.text_forms.specs.Words.{Word}
 use Rattle.plan_texts.specs.Types.{Has}
 use Rattle.plan_texts.proofs.Basics.{bytes_eq-true}
 use Rattle.plan_texts.proofs.Places.{each-join}
-use Rattle.task_networks.specs.Spelling.{numbers}
+use Rattle.plan_model.specs.task_networks.Spelling.{numbers}
 use Rattle.slot_encoding.specs.EncodedNames.{joined}
 use Rattle.slot_encoding.proofs.NextSlot.{push_next}
 use Rattle.slot_encoding.proofs.words.Lists.{each-weaker}

@@ -4,10 +4,10 @@ use Rattle.std.proofs.lemmas.Bool.{eqb-true}
 use Rattle.std.proofs.lemmas.List.{append-nil}
 use Rattle.plan_model.specs.declared.networks.Guard.{Guard}
 use Rattle.plan_model.specs.declared.schemas.MethodPlan.{MethodPlan}
-use Rattle.plan_meaning.specs.Compilation.{once}
+use Rattle.plan_model.specs.plan_meaning.Compilation.{once}
 use Rattle.slot_encoding.specs.EncodedNames.{joined}
 use Rattle.slot_declarations.specs.Guards.{with_type, with_types, with_all_types}
-use Rattle.plan_meaning.proofs.Once.{has, once_push}
+use Rattle.plan_model.proofs.plan_meaning.Once.{has, once_push}
 
 same_follows : (x u y : ℕ) → nat_eq u y ≡ true → nat_eq x u ≡ nat_eq x y
 same_follows x u y e = ap (nat_eq x) (eqb-true u y e)

@@ -10,7 +10,7 @@ use Rattle.plan_model.specs.declared.schemas.MethodPlan.{MethodPlan}
 use Rattle.slot_encoding.specs.EncodedNames as spec
 use Rattle.slot_encoding.specs.OrderNames as orders
 use Rattle.slot_encoding.specs.SourceParts.{source_word}
-use Rattle.task_networks.specs.Spelling.{numbers}
+use Rattle.plan_model.specs.task_networks.Spelling.{numbers}
 use Rattle.slot_declarations.specs.Pieces.{checked, checked_from, checks_before}
 use Rattle.slot_declarations.specs.declared.basis.Basis.{Basis}
 use Rattle.slot_declarations.specs.declared.basis.Checks.{Checks}

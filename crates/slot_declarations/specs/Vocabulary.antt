@@ -6,7 +6,7 @@ use Rattle.htn_base.specs.Table.{number_of}
 use Rattle.htn_base.specs.Escapes.{slot_word}
 use Rattle.text_forms.specs.Words.{Word}
 use Rattle.plan_texts.specs.Types.{Has, EachIs}
-use Rattle.task_networks.specs.Spelling.{numbers}
+use Rattle.plan_model.specs.task_networks.Spelling.{numbers}
 use Rattle.plan_model.specs.declared.schemas.TaskSchema.{TaskSchema}
 use Rattle.plan_model.specs.declared.schemas.ActionSchema.{ActionSchema}
 use Rattle.plan_model.specs.declared.schemas.MethodPlan.{MethodPlan}

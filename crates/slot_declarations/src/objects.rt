@@ -1,6 +1,6 @@
 ghost use Rattle.std.specs.Prelude.{◌≡◌, ◌++◌, true, map, IfOk, OnOk};
 ghost use Rattle.htn_base.specs.Escapes.{slot_word};
-ghost use Rattle.task_networks.specs.Spelling.{numbers};
+ghost use Rattle.plan_model.specs.task_networks.Spelling.{numbers};
 ghost use Rattle.slot_encoding.specs.SourceParts as parts;
 ghost use Rattle.slot_declarations.specs.Frames.{IsFrame};
 ghost use Rattle.slot_declarations.specs.Made as made;

@@ -1,10 +1,10 @@
 -- The guard atoms of one more type.
 use Rattle.std.proofs.Common.{ℕ, ◌+◌, ◌<◌, List, [], ◌∷◌, ◌++◌, map, length, take, get_or, refl, ap, sym, subst, ◌∙◌, append_assoc}
 use Rattle.std.proofs.lemmas.List.{append-nil, take_more}
-use Rattle.task_networks.specs.Spelling.{numbers}
+use Rattle.plan_model.specs.task_networks.Spelling.{numbers}
 use Rattle.plan_model.specs.declared.terms.GroundAtom.{GroundAtom}
-use Rattle.plan_meaning.specs.Compilation.{Keeps}
-use Rattle.plan_meaning.specs.Network.{InTypeOf}
+use Rattle.plan_model.specs.plan_meaning.Compilation.{Keeps}
+use Rattle.plan_model.specs.plan_meaning.Network.{InTypeOf}
 use Rattle.slot_encoding.specs.EncodedNames.{guard_predicate}
 use Rattle.slot_encoding.specs.EncodedValue.{atom, AreGuardAtoms}
 use Rattle.slot_encoder.specs.Made as made

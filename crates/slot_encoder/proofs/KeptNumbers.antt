@@ -2,9 +2,9 @@
 use Rattle.std.proofs.Common.{ℕ, zero, suc, ◌≡◌, ◌≢◌, ◌+◌, ◌<◌, ◌≤◌, ◌↔◌, inl, inr, List, [], ◌∷◌, slice_index, refl, ap, subst, arith, Contains}
 use Rattle.std.specs.List.Sorted.{IsStrictlyIncreasing}
 use Rattle.std.proofs.lemmas.Bool.Decides.{eqb_tells}
-use Rattle.task_networks.specs.Spelling.{numbers}
-use Rattle.task_networks.proofs.Lists.{head_or_tail, not-in_empty, Contains-later, Contains-here}
-use Rattle.plan_meaning.specs.Compilation.{Keeps}
+use Rattle.plan_model.specs.task_networks.Spelling.{numbers}
+use Rattle.plan_model.proofs.task_networks.Lists.{head_or_tail, not-in_empty, Contains-later, Contains-here}
+use Rattle.plan_model.specs.plan_meaning.Compilation.{Keeps}
 
 increasing_rest : (m : ℕ) (ms : List ℕ) → IsStrictlyIncreasing (m ∷ ms) → IsStrictlyIncreasing ms
 increasing_rest m ms inc k l =

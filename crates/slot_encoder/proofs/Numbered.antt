@@ -1,6 +1,6 @@
 -- Lists that are made along numbers, or along a list and numbers at once.
 use Rattle.std.proofs.Common.{ℕ, suc, ◌≡◌, ◌+◌, ◌-◌, ◌<◌, Bool, true, false, cond, List, [], ◌∷◌, ◌++◌, map, ap, sym, ◌∙◌, arith, append_assoc, Option}
-use Rattle.task_networks.specs.Spelling.{numbers, is_heir}
+use Rattle.plan_model.specs.task_networks.Spelling.{numbers, is_heir}
 use Rattle.plan_model.specs.declared.formulas.Formula.{Formula}
 use Rattle.slot_encoding.specs.EncodedActions.{slot_vars, differ}
 use Rattle.slot_encoder.specs.Pieces.{unequal_to}

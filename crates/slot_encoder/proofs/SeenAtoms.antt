@@ -11,7 +11,7 @@ use Rattle.plan_model.specs.Numbers.{number}
 use Rattle.plan_model.proofs.NumberLaws.{same_number}
 use Rattle.plan_texts.proofs.Basics.{bytes_eq-refl, bytes_eq-other}
 use Rattle.slot_encoding.specs.EncodedValue.{same_atom}
-use Rattle.plan_meaning.proofs.Once.{has-push}
+use Rattle.plan_model.proofs.plan_meaning.Once.{has-push}
 use Rattle.slot_encoder.specs.declared.single.Seen.{Seen}
 use Rattle.slot_encoder.specs.SeenFacts.{key_of, is_among, same_key, Meets}
 

@@ -2,9 +2,9 @@
 use Rattle.std.proofs.Common.{ℕ, ◌≡◌, ◌+◌, ◌<◌, Bool, true, false, not, cond, List, [], ◌∷◌, ◌++◌, take, length, get_or, refl, ap, sym, ◌∙◌, append_assoc}
 use Rattle.std.proofs.lemmas.List.{take_more}
 use Rattle.plan_model.specs.declared.terms.GroundAtom.{GroundAtom}
-use Rattle.plan_meaning.specs.Compilation.{once}
+use Rattle.plan_model.specs.plan_meaning.Compilation.{once}
 use Rattle.slot_encoding.specs.EncodedValue.{same_atom}
-use Rattle.plan_meaning.proofs.Once.{has, if_new, once-behind}
+use Rattle.plan_model.proofs.plan_meaning.Once.{has, if_new, once-behind}
 
 module _ (xs : List GroundAtom) (i : ℕ) (x : GroundAtom) (l : i < length xs) (is : x ≡ get_or xs i x) where
   pub single_next : (old now next : List GroundAtom) (there new : Bool) → now ≡ old ++ once same_atom (take i xs) → there ≡ has same_atom x (take i xs) → new ≡ not there

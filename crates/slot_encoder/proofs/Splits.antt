@@ -4,7 +4,7 @@ use Rattle.std.proofs.lemmas.List.{append-nil, take_more, drop_all}
 use Rattle.std.specs.List.{flat_map}
 use Rattle.htn_base.specs.declared.name.Name.{Name}
 use Rattle.plan_model.specs.declared.terms.Param.{Param}
-use Rattle.task_networks.specs.Spelling.{numbers}
+use Rattle.plan_model.specs.task_networks.Spelling.{numbers}
 use Rattle.plan_model.specs.declared.formulas.Formula.{Formula}
 use Rattle.plan_model.specs.declared.formulas.Formula.TheVariants as F
 use Rattle.plan_model.specs.declared.schemas.ActionSchema.{ActionSchema}

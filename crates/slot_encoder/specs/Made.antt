@@ -20,9 +20,9 @@ use Rattle.plan_model.specs.declared.networks.Guard.{Guard}
 use Rattle.plan_model.specs.declared.networks.Pair.{Pair}
 use Rattle.plan_model.specs.declared.schemas.ActionSchema.{ActionSchema}
 use Rattle.plan_model.specs.declared.schemas.MethodPlan.{MethodPlan}
-use Rattle.plan_meaning.specs.Network.{InTypeOf}
-use Rattle.plan_meaning.specs.Compilation.{Keeps}
-use Rattle.task_networks.specs.Spelling.{numbers}
+use Rattle.plan_model.specs.plan_meaning.Network.{InTypeOf}
+use Rattle.plan_model.specs.plan_meaning.Compilation.{Keeps}
+use Rattle.plan_model.specs.task_networks.Spelling.{numbers}
 use Rattle.slot_encoding.specs.SourceParts as source
 use Rattle.slot_encoding.specs.OrderFormulas as order
 use Rattle.slot_encoding.specs.EncodedNames as encoded

@@ -1,6 +1,6 @@
 ghost use Rattle.std.specs.Prelude.{◌≡◌, ◌++◌, map, IfOk, OnOk};
 ghost use Rattle.plan_model.specs.declared.terms.Term.TheVariants as T;
-ghost use Rattle.task_networks.specs.Spelling.{numbers};
+ghost use Rattle.plan_model.specs.task_networks.Spelling.{numbers};
 ghost use Rattle.slot_declarations.specs.Frames.{IsFrame};
 ghost use Rattle.slot_encoder.specs.Pieces.{held_work};
 ghost use Rattle.slot_encoder.specs.Made as made;

@@ -1,5 +1,5 @@
 ghost use Rattle.std.specs.Prelude.{◌≡◌, ◌+◌, ◌≤◌, ◌^◌, ◌++◌, map, IfOk, OnOk};
-ghost use Rattle.task_networks.specs.Spelling.{numbers};
+ghost use Rattle.plan_model.specs.task_networks.Spelling.{numbers};
 ghost use Rattle.slot_encoding.specs.EncodedActions.{differ};
 ghost use Rattle.slot_encoder.specs.Pieces.{unequal_to};
 

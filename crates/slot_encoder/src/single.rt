@@ -1,7 +1,7 @@
 ghost use Rattle.std.specs.Prelude.{◌≡◌, ◌<◌, ◌^◌, [], ◌∷◌, ◌++◌, cond, IfOk, OnOk};
 ghost use Rattle.plan_model.specs.Facts.{atom_of};
 ghost use Rattle.plan_model.specs.Numbers as spec;
-ghost use Rattle.plan_meaning.specs.Compilation.{once};
+ghost use Rattle.plan_model.specs.plan_meaning.Compilation.{once};
 ghost use Rattle.slot_encoding.specs.EncodedValue.{same_atom};
 ghost use Rattle.slot_encoder.specs.SeenFacts.{HasMet, Meets, AddsNew};
 

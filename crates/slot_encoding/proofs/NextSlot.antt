@@ -1,7 +1,7 @@
 -- A list with an item for each number, from one on, and the item of the next number put at its end.
 use Rattle.std.proofs.Common.{ℕ, zero, suc, ◌≡◌, ◌+◌, List, [], ◌∷◌, ◌++◌, map, Result, Ok, Err, IfOk, IsOkAnd, refl, ap, sym, ◌∙◌, arith}
 use Rattle.std.proofs.lemmas.List.{append_assoc}
-use Rattle.task_networks.specs.Spelling.{numbers}
+use Rattle.plan_model.specs.task_networks.Spelling.{numbers}
 
 map_next : {A : Type 0} (f : ℕ → A) (i k : ℕ) → map f (numbers i (suc k)) ≡ map f (numbers i k) ++ f (i + k) ∷ []
 map_next f i zero = ap (λ j. f j ∷ []) (let e : i ≡ i + 0 = omega arith in e)

@@ -10,14 +10,14 @@ use Rattle.plan_model.specs.declared.formulas.Formula.{Formula}
 use Rattle.plan_model.specs.declared.formulas.Formula.TheVariants.{Holds, Not, Forall}
 use Rattle.plan_model.specs.declared.effects.Effect.{Effect}
 use Rattle.plan_model.specs.declared.effects.Effect.TheVariants as E
-use Rattle.task_networks.proofs.Numbers.{numbers_to, to_numbers}
-use Rattle.plan_meaning.specs.Truth.{State, ground, EachTrue, OneTrue, AreTyped, IsTrueIn, Adds, Deletes}
+use Rattle.plan_model.proofs.task_networks.Numbers.{numbers_to, to_numbers}
+use Rattle.plan_model.specs.plan_meaning.Truth.{State, ground, EachTrue, OneTrue, AreTyped, IsTrueIn, Adds, Deletes}
 use Rattle.slot_encoding.specs.OrderFormulas.{OrderNumbers, pair_of, any_slot, slot_objects, wait_parts, clear_parts, copy_parts, free_parts}
 use Rattle.slot_encoding.specs.EncodedValue.{atom}
-use Rattle.plan_meaning.proofs.TruthEquations.{truth-Not, truth-Holds, truth-Forall}
-use Rattle.plan_meaning.proofs.EffectEquations.{adds-Add, adds-Delete, adds-Forall, adds-When, deletes-Add, deletes-Delete, deletes-Forall, deletes-When}
+use Rattle.plan_model.proofs.plan_meaning.TruthEquations.{truth-Not, truth-Holds, truth-Forall}
+use Rattle.plan_model.proofs.plan_meaning.EffectEquations.{adds-Add, adds-Delete, adds-Forall, adds-When, deletes-Add, deletes-Delete, deletes-Forall, deletes-When}
 use Rattle.slot_encoding.specs.OrderMeaning.{IsSlotObject, pair_atom, AreTheSlots, OrderMeaning}
-use Rattle.plan_meaning.proofs.EachPart.{each_map, one_map}
+use Rattle.plan_model.proofs.plan_meaning.EachPart.{each_map, one_map}
 
 at_front : (xs ys : List ℕ) (i : ℕ) → i < length xs → slice_index (xs ++ ys) i ≡ slice_index xs i
 at_front [] ys i h = absurd (omega arith)

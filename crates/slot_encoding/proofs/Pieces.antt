@@ -14,18 +14,18 @@ use Rattle.plan_model.specs.declared.schemas.MethodPlan.{MethodPlan}
 use Rattle.plan_model.specs.declared.steps.GroundAction.{GroundAction}
 use Rattle.plan_model.specs.declared.values.Compiled.{Compiled}
 use Rattle.plan_model.specs.declared.values.Pddl.{Pddl}
-use Rattle.task_networks.specs.Spelling.{Act, run, apply}
+use Rattle.plan_model.specs.task_networks.Spelling.{Act, run, apply}
 use Rattle.text_forms.specs.Words.{Word}
 use Rattle.plan_texts.specs.Types.{EachIs}
 use Rattle.plan_texts.specs.SpellsHddl.{hddl_words}
 use Rattle.plan_texts.specs.Printable.{IsSound, IsSoundEffect}
 use Rattle.plan_texts.specs.SoundValue.{arities}
-use Rattle.plan_meaning.specs.Truth.{State, value_of, EachTrue, OneTrue, AreTyped, IsTrueIn, Adds, Deletes}
-use Rattle.plan_meaning.specs.Network.{Work, action, check, task, GroundMethod, network, child_of, IsDeclared}
-use Rattle.plan_meaning.specs.Network as Source
-use Rattle.plan_meaning.specs.ClassicalPlan as Printed
-use Rattle.plan_meaning.specs.ClassicalPlan.{HasWord, IsApplicable}
-use Rattle.plan_meaning.specs.SpelledPlan.{object_word, step_of}
+use Rattle.plan_model.specs.plan_meaning.Truth.{State, value_of, EachTrue, OneTrue, AreTyped, IsTrueIn, Adds, Deletes}
+use Rattle.plan_model.specs.plan_meaning.Network.{Work, action, check, task, GroundMethod, network, child_of, IsDeclared}
+use Rattle.plan_model.specs.plan_meaning.Network as Source
+use Rattle.plan_model.specs.plan_meaning.ClassicalPlan as Printed
+use Rattle.plan_model.specs.plan_meaning.ClassicalPlan.{HasWord, IsApplicable}
+use Rattle.plan_model.specs.plan_meaning.SpelledPlan.{object_word, step_of}
 use Rattle.slot_encoding.specs.SourceParts.{retyped, source_param, source_formula}
 use Rattle.slot_encoding.specs.EncodedNames.{slot_type, first_slot, guard_types, top_predicate, free_predicate, before_predicate, task_predicate, action_predicate, check_predicate, guard_predicate}
 use Rattle.slot_encoding.specs.EncodedActions.{encoded_method, encoded_check, encoded_action, spare, source_condition, source_change}

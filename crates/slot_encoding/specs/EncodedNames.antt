@@ -13,8 +13,8 @@ use Rattle.plan_model.specs.declared.schemas.TaskSchema.{TaskSchema}
 use Rattle.plan_model.specs.declared.schemas.ActionSchema.{ActionSchema}
 use Rattle.plan_model.specs.declared.schemas.MethodPlan.{MethodPlan}
 use Rattle.plan_model.specs.declared.values.Compiled.{Compiled}
-use Rattle.task_networks.specs.Spelling.{numbers}
-use Rattle.plan_meaning.specs.Compilation.{once}
+use Rattle.plan_model.specs.task_networks.Spelling.{numbers}
+use Rattle.plan_model.specs.plan_meaning.Compilation.{once}
 use Rattle.slot_encoding.specs.SourceParts.{name, source_word, renamed, retyped, source_param}
 use Rattle.slot_encoding.specs.OrderFormulas.{OrderNumbers}
 

@@ -10,3 +10,4 @@ pub mod EncodedWords
 pub mod Numberable
 pub mod WordsDiffer
 pub mod Existence
+pub mod encoded_texts

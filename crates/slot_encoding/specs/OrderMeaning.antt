@@ -4,7 +4,7 @@ use Rattle.std.specs.Prelude.{ℕ, ◌≡◌, ◌+◌, ◌<◌, ◌≤◌, ◌�
 use Rattle.plan_model.specs.declared.options.Style.{Style}
 use Rattle.plan_model.specs.declared.terms.GroundAtom.{GroundAtom}
 use Rattle.plan_model.specs.declared.terms.Term.TheVariants.{Var}
-use Rattle.plan_meaning.specs.Truth.{State, EachTrue, OneTrue, IsTrueIn, Adds, Deletes}
+use Rattle.plan_model.specs.plan_meaning.Truth.{State, EachTrue, OneTrue, IsTrueIn, Adds, Deletes}
 use Rattle.slot_encoding.specs.OrderFormulas.{OrderNumbers, wait_parts, clear_parts, copy_parts, free_parts}
 
 -- Order pairs and free slots. An object of a slot, an atom of two slots, and an atom of one.

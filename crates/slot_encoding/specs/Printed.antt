@@ -8,7 +8,7 @@ use Rattle.plan_model.specs.declared.values.Compiled.{Compiled}
 use Rattle.plan_model.specs.declared.values.Pddl.{Pddl}
 use Rattle.plan_texts.specs.PrintableValue.{IsPrintable}
 use Rattle.plan_texts.specs.SoundValue.{IsSoundHddl}
-use Rattle.plan_meaning.specs.Compilation.{IsCompiled}
+use Rattle.plan_model.specs.plan_meaning.Compilation.{IsCompiled}
 use Rattle.slot_encoding.specs.EncodedValue.{IsEncoded}
 
 -- p is printed for the compiled value c of the problem h, and can be printed

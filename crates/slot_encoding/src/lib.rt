@@ -8,6 +8,7 @@
 //! (`every_problem_has_an_encoded_value`).
 #![tactic(auto)]
 
+pub mod encoded_texts;
 mod order_names;
 mod value_laws;
 mod word_laws;

@@ -3,7 +3,7 @@
 ghost use Rattle.plan_texts.specs.PrintableValue.{IsPrintable};
 ghost use Rattle.slot_encoding.specs.WordsDiffer.{PrintedWordsDiffer};
 ghost use Rattle.plan_texts.specs.SoundValue.{IsSoundHddl};
-ghost use Rattle.plan_meaning.specs.Compilation.{IsCompiled};
+ghost use Rattle.plan_model.specs.plan_meaning.Compilation.{IsCompiled};
 ghost use Rattle.slot_encoding.specs.EncodedValue.{IsEncoded};
 ghost use Rattle.slot_encoding.specs.EncodedWords.{HasEncodedWords};
 ghost use Rattle.slot_encoding.specs.Numberable.{IsNumberable};

@@ -1,12 +1,12 @@
 -- The network at a label: nothing at an action or a check.
 use Rattle.std.proofs.Common.{ℕ, ◌≡◌, ◌<◌, ◌⊎◌, inl, inr, [], ◌∷◌, length, Option, Some, None, refl, subst, arith}
-use Rattle.task_networks.specs.Order.{Precedes, direct}
-use Rattle.task_networks.specs.Net.{Net, count}
-use Rattle.task_networks.specs.Lawful.{IsLawful}
-use Rattle.task_networks.specs.Tree.{Label, waits, ran, used, Tree, Address, label_at, IsAbove}
-use Rattle.task_networks.specs.Schedule.{Blocks}
-use Rattle.task_networks.proofs.Addresses.{not-below_parent}
-use Rattle.task_networks.proofs.Orders.{precedes_within, last_pair}
+use Rattle.plan_model.specs.task_networks.Order.{Precedes, direct}
+use Rattle.plan_model.specs.task_networks.Net.{Net, count}
+use Rattle.plan_model.specs.task_networks.Lawful.{IsLawful}
+use Rattle.plan_model.specs.task_networks.Tree.{Label, waits, ran, used, Tree, Address, label_at, IsAbove}
+use Rattle.plan_model.specs.task_networks.Schedule.{Blocks}
+use Rattle.plan_model.proofs.task_networks.Addresses.{not-below_parent}
+use Rattle.plan_model.proofs.task_networks.Orders.{precedes_within, last_pair}
 use Rattle.slot_machine.proofs.Growth.{child_works}
 
 module _ (N : Net) where

@@ -1,16 +1,16 @@
 -- The closure of the pairs is the order between open leaves.
 use Rattle.std.proofs.Common.{ℕ, zero, suc, ◌≡◌, ◌+◌, ◌<◌, ◌⊎◌, ◌↔◌, inl, inr, List, [], ◌∷◌, length, ap, sym, subst, ◌∙◌, Contains, arith}
 use Rattle.std.proofs.lemmas.List.Elements.{Contains-append_left}
-use Rattle.task_networks.specs.Order.{Precedes, direct, through}
-use Rattle.task_networks.specs.Net.{Net}
-use Rattle.task_networks.specs.Lawful.{IsLawful}
-use Rattle.task_networks.specs.Tree.{Tree, Address, IsAddress, IsAbove, label_at, IsOpen, waits, used, IsProcessed}
-use Rattle.task_networks.specs.Schedule.{Blocks, IsSchedule, MustPrecede}
+use Rattle.plan_model.specs.task_networks.Order.{Precedes, direct, through}
+use Rattle.plan_model.specs.task_networks.Net.{Net}
+use Rattle.plan_model.specs.task_networks.Lawful.{IsLawful}
+use Rattle.plan_model.specs.task_networks.Tree.{Tree, Address, IsAddress, IsAbove, label_at, IsOpen, waits, used, IsProcessed}
+use Rattle.plan_model.specs.task_networks.Schedule.{Blocks, IsSchedule, MustPrecede}
 use Rattle.htn_base.specs.Different.{AreDifferent}
-use Rattle.task_networks.proofs.Addresses.{below_below, below_up, below-itself}
-use Rattle.task_networks.proofs.Different.{no_more}
-use Rattle.task_networks.proofs.Lists.{Contains-here, head_or_tail, not-in_empty, cut_at}
-use Rattle.task_networks.proofs.Orders.{precedes_then}
+use Rattle.plan_model.proofs.task_networks.Addresses.{below_below, below_up, below-itself}
+use Rattle.plan_model.proofs.task_networks.Different.{no_more}
+use Rattle.plan_model.proofs.task_networks.Lists.{Contains-here, head_or_tail, not-in_empty, cut_at}
+use Rattle.plan_model.proofs.task_networks.Orders.{precedes_then}
 use Rattle.slot_machine.specs.Machine.{SlotState, IsUnblocked}
 use Rattle.slot_machine.proofs.AtLabel.{not-blocks_itself}
 use Rattle.slot_machine.proofs.FrontSteps.{open_address, open_apart}

@@ -1,10 +1,10 @@
 -- Executions laid over runs and fronts.
 use Rattle.std.proofs.Common.{ℕ, ◌≡◌, ◌≤◌, List, map, refl, subst}
-use Rattle.task_networks.specs.Net.{Net}
-use Rattle.task_networks.specs.Lawful.{IsLawful}
-use Rattle.task_networks.specs.Tree.{Label, Tree, Address, IsOpen, waits}
-use Rattle.task_networks.specs.Executable.{AreLabels, AreAllowed, IsExecutableOrder, IsSolution, last_state}
-use Rattle.task_networks.specs.Spelling.{Act, Spells, label_of}
+use Rattle.plan_model.specs.task_networks.Net.{Net}
+use Rattle.plan_model.specs.task_networks.Lawful.{IsLawful}
+use Rattle.plan_model.specs.task_networks.Tree.{Label, Tree, Address, IsOpen, waits}
+use Rattle.plan_model.specs.task_networks.Executable.{AreLabels, AreAllowed, IsExecutableOrder, IsSolution, last_state}
+use Rattle.plan_model.specs.task_networks.Spelling.{Act, Spells, label_of}
 use Rattle.slot_machine.specs.Machine.{end_of, start}
 use Rattle.slot_machine.specs.Laws.{RunsAreExecutableFronts, PlansAreSpelledSolutions, IsSolutionRun}
 use Rattle.slot_machine.proofs.RunSpellings.{runs_iff_spells}

@@ -1,11 +1,11 @@
 -- A front grows by one step, and shrinks by one.
 use Rattle.std.proofs.Common.{ℕ, ◌≡◌, ◌≢◌, ◌⊎◌, inl, inr, List, [], ◌∷◌, ◌++◌, Option, Some, None, option_map, slice_get, refl, ap, sym, subst, ◌∙◌, Contains, append_assoc}
 use Rattle.std.proofs.lemmas.List.Elements.{Contains-append_left, Contains-push, Contains-push_cases}
-use Rattle.task_networks.specs.Net.{Net}
-use Rattle.task_networks.specs.Tree.{waits, Label, IsTaken, Tree, Address, IsOpen, IsProcessed, label_at, IsAddress, used, IsAbove}
-use Rattle.task_networks.specs.Schedule.{Blocks, IsDue, IsSchedule}
-use Rattle.task_networks.proofs.Addresses.{not-below_parent, below-itself, is_same_address}
-use Rattle.task_networks.proofs.Lists.{cut_push, cut_at}
+use Rattle.plan_model.specs.task_networks.Net.{Net}
+use Rattle.plan_model.specs.task_networks.Tree.{waits, Label, IsTaken, Tree, Address, IsOpen, IsProcessed, label_at, IsAddress, used, IsAbove}
+use Rattle.plan_model.specs.task_networks.Schedule.{Blocks, IsDue, IsSchedule}
+use Rattle.plan_model.proofs.task_networks.Addresses.{not-below_parent, below-itself, is_same_address}
+use Rattle.plan_model.proofs.task_networks.Lists.{cut_push, cut_at}
 use Rattle.slot_machine.proofs.Growth.{IsGrowth, child_works, place}
 
 module _ (N : Net) where

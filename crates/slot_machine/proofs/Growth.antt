@@ -1,8 +1,8 @@
 -- One open leaf is processed: how the labels change.
 use Rattle.std.proofs.Common.{ℕ, zero, suc, ◌≡◌, ◌≢◌, ◌⊎◌, inl, inr, List, [], ◌∷◌, Option, Some, None, option_map, option_and_then, slice_get, refl, ap, sym, subst, ◌∙◌}
-use Rattle.task_networks.specs.Net.{Net}
-use Rattle.task_networks.specs.Tree.{Label, waits, ran, used, Tree, Address, IsTaken, label_at, label, at, child_at, children_of, open_leaf, done, split, none, IsAbove, Trees, more, works_of, AreGrown}
-use Rattle.task_networks.proofs.Addresses.{is_below, below_up, below_cases, is_same_address}
+use Rattle.plan_model.specs.task_networks.Net.{Net}
+use Rattle.plan_model.specs.task_networks.Tree.{Label, waits, ran, used, Tree, Address, IsTaken, label_at, label, at, child_at, children_of, open_leaf, done, split, none, IsAbove, Trees, more, works_of, AreGrown}
+use Rattle.plan_model.proofs.task_networks.Addresses.{is_below, below_up, below_cases, is_same_address}
 use Rattle.slot_machine.proofs.Replaced.{put, at-put_same, label-put_other}
 
 module _ (N : Net) where

@@ -1,7 +1,7 @@
 -- A slot put into a list of slots.
 use Rattle.std.proofs.Common.{ℕ, zero, suc, ◌≡◌, ◌≤◌, ◌⊎◌, inl, inr, List, [], ◌∷◌, length, slice_index, refl, ap, sym, Contains, arith}
 use Rattle.htn_base.specs.Different.{AreDifferent}
-use Rattle.task_networks.proofs.Lists.{head_or_tail, Contains-later, not-in_empty}
+use Rattle.plan_model.proofs.task_networks.Lists.{head_or_tail, Contains-later, not-in_empty}
 use Rattle.slot_machine.specs.Machine.{insert_at}
 
 pub length-insert_at : (k h : ℕ) (hs : List ℕ) → length (insert_at k h hs) ≡ suc (length hs)

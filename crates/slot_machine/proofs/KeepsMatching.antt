@@ -2,12 +2,12 @@
 use Rattle.std.proofs.Common.{ℕ, ◌≡◌, ◌≢◌, ◌<◌, ◌≤◌, ◌⊎◌, ◌↔◌, inl, inr, ◌∷◌, length, Some, None, option_map, option_and_then, slice_get, get_or, refl, ap, sym, subst, ◌∙◌, arith}
 use Rattle.std.proofs.Math.Decide.{ℕ_discrete}
 use Rattle.std.proofs.lemmas.Option.{slice_get_within, slice_get_cases}
-use Rattle.task_networks.specs.Net.{Net}
-use Rattle.task_networks.specs.Lawful.{IsLawful}
-use Rattle.task_networks.specs.Tree.{at, Tree, Address, Label, IsOpen, waits, label_at, label, child_at, children_of}
-use Rattle.task_networks.specs.Schedule.{Blocks}
-use Rattle.task_networks.proofs.Addresses.{is_same_address}
-use Rattle.task_networks.proofs.Orders.{is_some}
+use Rattle.plan_model.specs.task_networks.Net.{Net}
+use Rattle.plan_model.specs.task_networks.Lawful.{IsLawful}
+use Rattle.plan_model.specs.task_networks.Tree.{at, Tree, Address, Label, IsOpen, waits, label_at, label, child_at, children_of}
+use Rattle.plan_model.specs.task_networks.Schedule.{Blocks}
+use Rattle.plan_model.proofs.task_networks.Addresses.{is_same_address}
+use Rattle.plan_model.proofs.task_networks.Orders.{is_some}
 use Rattle.slot_machine.specs.Machine.{SlotState, IsUnblocked}
 use Rattle.slot_machine.proofs.AtLabel.{heir_of, PairOf, CopierOf, heir_exists, heir_within, from_pair, pair_within, blocks_sibling, copier_within, TakesOverOf, PrecedesOf, covered, not-blocks_itself, last_pair_of, sibling_blocks}
 use Rattle.slot_machine.proofs.FrontSteps.{taken_apart, child_waits, open_address, blocks_grows}

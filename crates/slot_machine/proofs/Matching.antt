@@ -1,10 +1,10 @@
 -- What holds between the machine and a front, and that a step keeps it.
 use Rattle.std.proofs.Common.{ℕ, ◌≡◌, ◌≢◌, ◌≤◌, ◌⊎◌, ◌↔◌, inl, inr, List, [], ◌∷◌, Option, Some, None, option_map, refl, ap, subst, ◌∙◌, Contains}
-use Rattle.task_networks.specs.Net.{Net}
-use Rattle.task_networks.specs.Lawful.{IsLawful}
-use Rattle.task_networks.specs.Tree.{at, Tree, Address, label_at, label, waits, IsOpen, ran, used, Label, IsAddress, IsAbove, IsProcessed}
-use Rattle.task_networks.specs.Schedule.{Blocks, IsSchedule, IsDue, IsBegun}
-use Rattle.task_networks.proofs.Nodes.{parent}
+use Rattle.plan_model.specs.task_networks.Net.{Net}
+use Rattle.plan_model.specs.task_networks.Lawful.{IsLawful}
+use Rattle.plan_model.specs.task_networks.Tree.{at, Tree, Address, label_at, label, waits, IsOpen, ran, used, Label, IsAddress, IsAbove, IsProcessed}
+use Rattle.plan_model.specs.task_networks.Schedule.{Blocks, IsSchedule, IsDue, IsBegun}
+use Rattle.plan_model.proofs.task_networks.Nodes.{parent}
 use Rattle.slot_machine.specs.Machine.{SlotState, IsUnblocked}
 use Rattle.slot_machine.proofs.AtLabel.{not-blocks_itself}
 use Rattle.slot_machine.proofs.FrontSteps.{blocks_back, blocks_grows, open_apart, address_back}

@@ -3,13 +3,13 @@ use Rattle.std.proofs.Common.{ℕ, zero, suc, ◌≡◌, ◌≢◌, ◌+◌, ◌
 use Rattle.std.proofs.lemmas.List.{length-map}
 use Rattle.std.proofs.lemmas.Option.{slice_get_within}
 use Rattle.std.proofs.Math.Decide.{ℕ_discrete}
-use Rattle.task_networks.specs.Net.{Net, count}
-use Rattle.task_networks.specs.Lawful.{IsLawful}
+use Rattle.plan_model.specs.task_networks.Net.{Net, count}
+use Rattle.plan_model.specs.task_networks.Lawful.{IsLawful}
 use Rattle.htn_base.specs.Different.{AreDifferent}
-use Rattle.task_networks.specs.Spelling.{numbers, is_heir, others}
-use Rattle.task_networks.proofs.Filters.{filter_to, to_filter, different-filter}
-use Rattle.task_networks.proofs.Lists.{Contains-later, not-in_empty, head_or_tail, Contains-here}
-use Rattle.task_networks.proofs.Numbers.{length-numbers, numbers_to, to_numbers, different-numbers}
+use Rattle.plan_model.specs.task_networks.Spelling.{numbers, is_heir, others}
+use Rattle.plan_model.proofs.task_networks.Filters.{filter_to, to_filter, different-filter}
+use Rattle.plan_model.proofs.task_networks.Lists.{Contains-later, not-in_empty, head_or_tail, Contains-here}
+use Rattle.plan_model.proofs.task_networks.Numbers.{length-numbers, numbers_to, to_numbers, different-numbers}
 use Rattle.slot_machine.specs.Machine.{insert_at, with_heir}
 use Rattle.slot_machine.proofs.Inserts.{length-insert_at, insert_same}
 

@@ -1,9 +1,9 @@
 -- Another machine takes the same acts, where it agrees at fronts.
 use Rattle.std.proofs.Common.{ℕ, ◌≡◌, ◌≤◌, ◌⊎◌, ◌↔◌, inl, inr, List, [], ◌∷◌, ◌++◌, refl, ap, sym, subst, ◌∙◌, append_assoc}
-use Rattle.task_networks.specs.Net.{Net}
-use Rattle.task_networks.specs.Lawful.{IsLawful}
-use Rattle.task_networks.specs.Spelling.{Act}
-use Rattle.task_networks.proofs.Lists.{cut_push, by_push}
+use Rattle.plan_model.specs.task_networks.Net.{Net}
+use Rattle.plan_model.specs.task_networks.Lawful.{IsLawful}
+use Rattle.plan_model.specs.task_networks.Spelling.{Act}
+use Rattle.plan_model.proofs.task_networks.Lists.{cut_push, by_push}
 use Rattle.slot_machine.specs.Machine.{SlotState, Runs, start, end_of, May}
 use Rattle.slot_machine.specs.Laws.{SpellsFront}
 use Rattle.slot_machine.specs.OtherMachine.{AgreesAtFronts, TakesAll, AreSame}

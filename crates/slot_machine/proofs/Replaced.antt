@@ -1,9 +1,9 @@
 -- A subtree is put in the place of another.
 use Rattle.std.proofs.Common.{ℕ, zero, suc, ◌≡◌, ◌≢◌, ◌⊎◌, inl, inr, [], ◌∷◌, Option, Some, None, option_map, option_and_then, refl, ap, sym, subst, ◌∙◌}
-use Rattle.task_networks.specs.Net.{Net}
-use Rattle.task_networks.specs.Tree.{Trees, Tree, none, more, open_leaf, done, split, Address, at, child_at, work_of, works_of, AreGrown, IsGrown, IsAbove, children_of, label, label_at}
-use Rattle.task_networks.proofs.Addresses.{is_below, below_cases}
-use Rattle.task_networks.proofs.Nodes.{parent, child_below, grown_at}
+use Rattle.plan_model.specs.task_networks.Net.{Net}
+use Rattle.plan_model.specs.task_networks.Tree.{Trees, Tree, none, more, open_leaf, done, split, Address, at, child_at, work_of, works_of, AreGrown, IsGrown, IsAbove, children_of, label, label_at}
+use Rattle.plan_model.proofs.task_networks.Addresses.{is_below, below_cases}
+use Rattle.plan_model.proofs.task_networks.Nodes.{parent, child_below, grown_at}
 
 module _ (N : Net) where
   abbrev pub set_child : Trees N → ℕ → Tree N → Trees N

@@ -2,14 +2,14 @@
 use Rattle.std.proofs.Common.{ℕ, suc, ◌≡◌, ◌≢◌, ◌<◌, ◌≤◌, ◌↔◌, inl, inr, List, [], ◌∷◌, ◌++◌, length, Option, Some, None, option_map, slice_index, get_or, refl, ap, sym, subst, ◌∙◌, Contains, arith}
 use Rattle.std.proofs.Math.Decide.{ℕ_discrete}
 use Rattle.std.proofs.lemmas.Option.{slice_get-get_or}
-use Rattle.task_networks.specs.Net.{Net, count}
-use Rattle.task_networks.specs.Lawful.{IsLawful}
-use Rattle.task_networks.specs.Tree.{Address, Tree, IsAddress, at, waits, ran, IsOpen, label, used, label_at, Label, open_leaf, IsGrown, work_of, IsProcessed, IsTaken}
-use Rattle.task_networks.specs.Schedule.{IsDue}
+use Rattle.plan_model.specs.task_networks.Net.{Net, count}
+use Rattle.plan_model.specs.task_networks.Lawful.{IsLawful}
+use Rattle.plan_model.specs.task_networks.Tree.{Address, Tree, IsAddress, at, waits, ran, IsOpen, label, used, label_at, Label, open_leaf, IsGrown, work_of, IsProcessed, IsTaken}
+use Rattle.plan_model.specs.task_networks.Schedule.{IsDue}
 use Rattle.htn_base.specs.Different.{AreDifferent}
-use Rattle.task_networks.specs.Spelling.{Act, run, apply, Spells, IsAct, others, label_of}
-use Rattle.task_networks.proofs.Addresses.{is_same_address}
-use Rattle.task_networks.proofs.Lists.{by_push}
+use Rattle.plan_model.specs.task_networks.Spelling.{Act, run, apply, Spells, IsAct, others, label_of}
+use Rattle.plan_model.proofs.task_networks.Addresses.{is_same_address}
+use Rattle.plan_model.proofs.task_networks.Lists.{by_push}
 use Rattle.slot_machine.specs.Machine.{SlotState, with_heir, IsUnblocked, May, insert_at, after_act, Runs, start, end_of}
 use Rattle.slot_machine.proofs.AtLabel.{heir_of}
 use Rattle.slot_machine.proofs.Growth.{child_works, leaf_at, IsGrowth}

@@ -5,22 +5,22 @@ use Rattle.std.proofs.lemmas.Option.{slice_get_within, slice_get-get_or}
 use Rattle.std.proofs.lemmas.List.Elements.{Contains-append_left, Contains-append_right, Contains-append_cases, Contains-push}
 use Rattle.std.proofs.Math.Decide.{ℕ_discrete}
 use Rattle.std.proofs.lemmas.List.{length-map}
-use Rattle.task_networks.specs.Net.{Net, count}
-use Rattle.task_networks.specs.Lawful.{IsLawful}
-use Rattle.task_networks.specs.Tree.{Address, at, Tree, IsOpen, Label, waits, label, label_at, IsTaken, ran, used, IsGrown, work_of, open_leaf, IsProcessed}
-use Rattle.task_networks.specs.Schedule.{IsSchedule, IsDue}
+use Rattle.plan_model.specs.task_networks.Net.{Net, count}
+use Rattle.plan_model.specs.task_networks.Lawful.{IsLawful}
+use Rattle.plan_model.specs.task_networks.Tree.{Address, at, Tree, IsOpen, Label, waits, label, label_at, IsTaken, ran, used, IsGrown, work_of, open_leaf, IsProcessed}
+use Rattle.plan_model.specs.task_networks.Schedule.{IsSchedule, IsDue}
 use Rattle.htn_base.specs.Different.{AreDifferent}
-use Rattle.task_networks.specs.Pending.{IsWithin, IsPending}
-use Rattle.task_networks.specs.Spelling.{others, Act, label_of, run, apply, Spells}
-use Rattle.task_networks.proofs.Different.{different_append, different_without, within_whole, without_cases, length_whole}
-use Rattle.task_networks.proofs.Lists.{not-in_empty, head_or_tail, Contains-later, cut_at, by_push}
+use Rattle.plan_model.specs.task_networks.Pending.{IsWithin, IsPending}
+use Rattle.plan_model.specs.task_networks.Spelling.{others, Act, label_of, run, apply, Spells}
+use Rattle.plan_model.proofs.task_networks.Different.{different_append, different_without, within_whole, without_cases, length_whole}
+use Rattle.plan_model.proofs.task_networks.Lists.{not-in_empty, head_or_tail, Contains-later, cut_at, by_push}
 use Rattle.slot_machine.specs.Machine.{SlotState, IsUnblocked, May, end_of, start}
 use Rattle.slot_machine.proofs.FrontSteps.{taken_apart, child_waits, last_children_wait, schedule_back}
 use Rattle.slot_machine.proofs.Growth.{leaves, IsGrowth, child_works, place}
 use Rattle.slot_machine.proofs.LabelTrees.{work_at, IsLegal, untaken, leaf_only, tree_of, tree_at, growth_from, work-tree_of, grown_legal}
 use Rattle.slot_machine.proofs.Matching.{Matches, due_unblocked}
 use Rattle.slot_machine.proofs.OtherChildren.{Contains-map, rest_of, length-rest}
-use Rattle.task_networks.proofs.Nodes.{grown_at}
+use Rattle.plan_model.proofs.task_networks.Nodes.{grown_at}
 use Rattle.slot_machine.proofs.Replaced.{put, grown-put, put-put, put_back}
 use Rattle.slot_machine.proofs.RunSpellings.{spells_none, step_at}
 use Rattle.slot_machine.proofs.SpellingRuns.{runs_from_spells}

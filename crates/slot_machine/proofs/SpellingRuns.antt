@@ -2,13 +2,13 @@
 use Rattle.std.proofs.Common.{ℕ, ◌≡◌, ◌≢◌, ◌<◌, ◌≤◌, ◌⊎◌, ◌↔◌, inl, inr, List, [], ◌∷◌, ◌++◌, length, Some, option_map, slice_get, get_or, map, refl, ap, sym, subst, ◌∙◌, Contains, arith}
 use Rattle.std.proofs.lemmas.List.{length-map}
 use Rattle.std.proofs.lemmas.Option.{slice_get_within, slice_get-get_or}
-use Rattle.task_networks.specs.Net.{Net, count}
-use Rattle.task_networks.specs.Lawful.{IsLawful}
-use Rattle.task_networks.specs.Tree.{Tree, Address, open_leaf, at, label, Label, IsTaken, IsGrown, work_of, IsOpen, waits, label_at, ran, used}
-use Rattle.task_networks.specs.Schedule.{IsDue, Blocks}
+use Rattle.plan_model.specs.task_networks.Net.{Net, count}
+use Rattle.plan_model.specs.task_networks.Lawful.{IsLawful}
+use Rattle.plan_model.specs.task_networks.Tree.{Tree, Address, open_leaf, at, label, Label, IsTaken, IsGrown, work_of, IsOpen, waits, label_at, ran, used}
+use Rattle.plan_model.specs.task_networks.Schedule.{IsDue, Blocks}
 use Rattle.htn_base.specs.Different.{AreDifferent}
-use Rattle.task_networks.specs.Spelling.{Act, label_of, Spells, IsAct, AreActs, run, apply, numbers, others}
-use Rattle.task_networks.proofs.Lists.{by_push}
+use Rattle.plan_model.specs.task_networks.Spelling.{Act, label_of, Spells, IsAct, AreActs, run, apply, numbers, others}
+use Rattle.plan_model.proofs.task_networks.Lists.{by_push}
 use Rattle.slot_machine.specs.Machine.{SlotState, Runs, May, end_of, after_act, with_heir, IsUnblocked, IsSlotOf, start}
 use Rattle.slot_machine.proofs.AtLabel.{heir_of, heir_exists, heir_within}
 use Rattle.slot_machine.proofs.FrontSteps.{schedule_back, last_children_wait}
@@ -17,7 +17,7 @@ use Rattle.slot_machine.proofs.KeepsMatching.{IsAfter, keeps}
 use Rattle.slot_machine.proofs.LabelTrees.{work_at, tree_of, IsLegal, grown_legal, tree_at, growth_from, work-tree_of, leaf_only, untaken}
 use Rattle.slot_machine.proofs.Matching.{Matches, due_unblocked}
 use Rattle.slot_machine.proofs.OtherChildren.{with-heir_others, get_number, map_cases, rest_cases, different-map, different_rest}
-use Rattle.task_networks.proofs.Nodes.{grown_at}
+use Rattle.plan_model.proofs.task_networks.Nodes.{grown_at}
 use Rattle.slot_machine.proofs.Replaced.{put, grown-put}
 use Rattle.slot_machine.proofs.SpellingSteps.{acts_last, spells_back, label_taken, act_label, open_slots_apart, no_acts}
 

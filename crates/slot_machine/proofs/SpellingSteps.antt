@@ -2,13 +2,13 @@
 use Rattle.std.proofs.Common.{ℕ, ◌≡◌, ◌≢◌, ◌<◌, ◌≤◌, ◌⊎◌, inl, inr, List, [], ◌∷◌, ◌++◌, length, Some, refl, ap, sym, subst, ◌∙◌, Contains, append_assoc, append-nil}
 use Rattle.std.proofs.lemmas.List.Elements.{Contains-append_left}
 use Rattle.std.proofs.lemmas.Option.{slice_get_within}
-use Rattle.task_networks.specs.Net.{Net}
-use Rattle.task_networks.specs.Tree.{IsTaken, Tree, Address, label_at, IsOpen, waits, used, Label, ran, IsProcessed, IsAddress, IsGrown, work_of}
-use Rattle.task_networks.specs.Schedule.{IsSchedule, IsBegun, IsDue}
-use Rattle.task_networks.specs.Pending.{IsPending}
-use Rattle.task_networks.specs.Spelling.{Act, run, apply, label_of, IsAct, others, AreActs, Spells}
-use Rattle.task_networks.proofs.Addresses.{is_same_address}
-use Rattle.task_networks.proofs.Lists.{Contains-here, Contains-later, cut_push_any}
+use Rattle.plan_model.specs.task_networks.Net.{Net}
+use Rattle.plan_model.specs.task_networks.Tree.{IsTaken, Tree, Address, label_at, IsOpen, waits, used, Label, ran, IsProcessed, IsAddress, IsGrown, work_of}
+use Rattle.plan_model.specs.task_networks.Schedule.{IsSchedule, IsBegun, IsDue}
+use Rattle.plan_model.specs.task_networks.Pending.{IsPending}
+use Rattle.plan_model.specs.task_networks.Spelling.{Act, run, apply, label_of, IsAct, others, AreActs, Spells}
+use Rattle.plan_model.proofs.task_networks.Addresses.{is_same_address}
+use Rattle.plan_model.proofs.task_networks.Lists.{Contains-here, Contains-later, cut_push_any}
 use Rattle.slot_machine.proofs.AtLabel.{heir_of}
 use Rattle.slot_machine.proofs.FrontSteps.{open_apart, taken_apart, address_grows, address_back, schedule_grows, child_waits, used_back, used_grows, schedule_back}
 use Rattle.slot_machine.proofs.Growth.{IsGrowth, place, child_works}

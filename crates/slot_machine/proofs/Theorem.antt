@@ -1,17 +1,17 @@
 -- The laws of the machine, from the lemmas.
 use Rattle.std.proofs.Common.{ℕ, ◌≡◌, ◌↔◌, List, [], ◌∷◌, map, refl, ap, sym, subst, ◌∙◌, Contains, Some, arith}
 use Rattle.std.proofs.lemmas.List.{length-map}
-use Rattle.task_networks.specs.Net.{Net}
-use Rattle.task_networks.specs.Lawful.{IsLawful}
-use Rattle.task_networks.specs.Tree.{Tree, Address, IsOpen, Label}
+use Rattle.plan_model.specs.task_networks.Net.{Net}
+use Rattle.plan_model.specs.task_networks.Lawful.{IsLawful}
+use Rattle.plan_model.specs.task_networks.Tree.{Tree, Address, IsOpen, Label}
 use Rattle.htn_base.specs.Different.{AreDifferent}
-use Rattle.task_networks.specs.Pending.{IsWithin, IsPending}
-use Rattle.task_networks.specs.Executable.{AreLabels}
-use Rattle.task_networks.specs.Spelling.{run, Act, Spells, apply, numbers, AreActs, label_of}
-use Rattle.task_networks.proofs.Different.{no_more}
-use Rattle.task_networks.proofs.Lists.{Contains-later, Contains-here}
-use Rattle.task_networks.proofs.Nodes.{leaves_of}
-use Rattle.task_networks.proofs.Numbers.{length-numbers, to_numbers}
+use Rattle.plan_model.specs.task_networks.Pending.{IsWithin, IsPending}
+use Rattle.plan_model.specs.task_networks.Executable.{AreLabels}
+use Rattle.plan_model.specs.task_networks.Spelling.{run, Act, Spells, apply, numbers, AreActs, label_of}
+use Rattle.plan_model.proofs.task_networks.Different.{no_more}
+use Rattle.plan_model.proofs.task_networks.Lists.{Contains-later, Contains-here}
+use Rattle.plan_model.proofs.task_networks.Nodes.{leaves_of}
+use Rattle.plan_model.proofs.task_networks.Numbers.{length-numbers, to_numbers}
 use Rattle.slot_machine.specs.Machine.{SlotState, end_of, start, IsUnblocked, May}
 use Rattle.slot_machine.specs.Causes.{IsWaiting, IsNextAt, Can}
 use Rattle.slot_machine.specs.Laws.{RunsAreSpelledFronts, FrontIsTheOnlyOne, TestsTellCauses, StateTellsFront, FewPendingHaveSpellings, CausesAreSentences, labels, LabelsAreOfActs}

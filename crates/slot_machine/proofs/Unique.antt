@@ -1,11 +1,11 @@
 -- A list of acts spells one front only.
 use Rattle.std.proofs.Common.{ℕ, ◌≡◌, ◌+◌, ◌<◌, ◌⊎◌, inl, inr, List, [], ◌∷◌, ◌++◌, length, Some, slice_index, ap, sym, subst, ◌∙◌, arith}
 use Rattle.std.proofs.lemmas.Option.{slice_get_within}
-use Rattle.task_networks.specs.Net.{Net, count}
-use Rattle.task_networks.specs.Lawful.{IsLawful}
-use Rattle.task_networks.specs.Tree.{Tree, Address, open_leaf, label_at, used, IsOpen, waits, IsAddress}
-use Rattle.task_networks.specs.Spelling.{Act, label_of, IsAct, run, apply, AreActs, Spells}
-use Rattle.task_networks.proofs.Lists.{push_same, by_push, last_cases}
+use Rattle.plan_model.specs.task_networks.Net.{Net, count}
+use Rattle.plan_model.specs.task_networks.Lawful.{IsLawful}
+use Rattle.plan_model.specs.task_networks.Tree.{Tree, Address, open_leaf, label_at, used, IsOpen, waits, IsAddress}
+use Rattle.plan_model.specs.task_networks.Spelling.{Act, label_of, IsAct, run, apply, AreActs, Spells}
+use Rattle.plan_model.proofs.task_networks.Lists.{push_same, by_push, last_cases}
 use Rattle.slot_machine.proofs.FrontSteps.{address_back, child_waits}
 use Rattle.slot_machine.proofs.Growth.{child_works}
 use Rattle.slot_machine.proofs.LabelTrees.{tree_of, work_at, leaf_only}

@@ -2,8 +2,8 @@
 use Rattle.std.proofs.Common.{ℕ, zero, suc, ◌≡◌, ◌+◌, ◌<◌, ◌≤◌, inl, inr, List, [], ◌∷◌, ◌++◌, length, slice_index, refl, ap, sym, subst, Contains, arith}
 use Rattle.std.proofs.Math.Decide.{ℕ_discrete}
 use Rattle.htn_base.specs.Different.{AreDifferent}
-use Rattle.task_networks.proofs.Different.{length_whole, without_cases}
-use Rattle.task_networks.proofs.Lists.{not-in_empty, Contains-later, head_or_tail, cut_at, Contains-here}
+use Rattle.plan_model.proofs.task_networks.Different.{length_whole, without_cases}
+use Rattle.plan_model.proofs.task_networks.Lists.{not-in_empty, Contains-later, head_or_tail, cut_at, Contains-here}
 
 pub is_in : (xs : List ℕ) (x : ℕ) → Dec (Contains xs x)
 is_in [] x = no (not-in_empty x)

@@ -1,18 +1,18 @@
 -- Never more is pending of a task than its number.
 use Rattle.std.proofs.Common.{ℕ, zero, suc, ◌≡◌, ◌+◌, ◌<◌, ◌≤◌, ◌⊎◌, inl, inr, List, [], ◌∷◌, ◌++◌, length, slice_get, filter, Bool, true, false, cond, Some, option_map, refl, ap, sym, subst, ◌∙◌, Contains, arith, append_assoc, length-append, add-le-add}
 use Rattle.std.proofs.lemmas.List.Elements.{Contains-append_left, filter-append}
-use Rattle.task_networks.specs.Net.{Net, count}
-use Rattle.task_networks.specs.Tree.{Tree, Address, IsAddress, open_leaf, done, split, Trees, none, more, at, IsAbove, waits, label, ran, child_at, used, work_of, works_of, IsGrown, AreGrown}
-use Rattle.task_networks.specs.Schedule.{Blocks, IsSchedule, IsDue}
-use Rattle.task_networks.specs.Pending.{IsWithin}
-use Rattle.task_networks.specs.PendingComputed.{is_listed, is_pending, nodes_at, nodes_from}
-use Rattle.task_networks.specs.Front.{IsFront}
-use Rattle.task_networks.specs.Bound.{itself, weight, weights, AreLargeEnough, IsReached, block_number, as_child}
-use Rattle.task_networks.proofs.Addresses.{below-itself, below_up}
-use Rattle.task_networks.proofs.BoundLaws.{by_size, enough_for_all, at_block, after_block}
-use Rattle.task_networks.proofs.Lists.{Contains-later, cut_at}
-use Rattle.task_networks.proofs.Nodes.{parent, child_below, below_children, grown_at}
-use Rattle.task_networks.proofs.PendingNodes.{to_among, among_to, pending_to, within_iff}
+use Rattle.plan_model.specs.task_networks.Net.{Net, count}
+use Rattle.plan_model.specs.task_networks.Tree.{Tree, Address, IsAddress, open_leaf, done, split, Trees, none, more, at, IsAbove, waits, label, ran, child_at, used, work_of, works_of, IsGrown, AreGrown}
+use Rattle.plan_model.specs.task_networks.Schedule.{Blocks, IsSchedule, IsDue}
+use Rattle.plan_model.specs.task_networks.Pending.{IsWithin}
+use Rattle.plan_model.specs.task_networks.PendingComputed.{is_listed, is_pending, nodes_at, nodes_from}
+use Rattle.plan_model.specs.task_networks.Front.{IsFront}
+use Rattle.plan_model.specs.task_networks.Bound.{itself, weight, weights, AreLargeEnough, IsReached, block_number, as_child}
+use Rattle.plan_model.proofs.task_networks.Addresses.{below-itself, below_up}
+use Rattle.plan_model.proofs.task_networks.BoundLaws.{by_size, enough_for_all, at_block, after_block}
+use Rattle.plan_model.proofs.task_networks.Lists.{Contains-later, cut_at}
+use Rattle.plan_model.proofs.task_networks.Nodes.{parent, child_below, below_children, grown_at}
+use Rattle.plan_model.proofs.task_networks.PendingNodes.{to_among, among_to, pending_to, within_iff}
 
 -- a front's taken nodes
 pub record IsClosed (N : Net) (tree : Tree N) (taken : List Address) : Type 0 where

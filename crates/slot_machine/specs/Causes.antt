@@ -1,10 +1,10 @@
 -- What an act asks, said of the front.
 use Rattle.std.specs.Prelude.{ℕ, ◌≡◌, List, length, Contains, Some}
-use Rattle.task_networks.specs.Net.{Net}
-use Rattle.task_networks.specs.Tree.{Tree, waits, Address, label_at, IsOpen}
-use Rattle.task_networks.specs.Schedule.{MustPrecede}
+use Rattle.plan_model.specs.task_networks.Net.{Net}
+use Rattle.plan_model.specs.task_networks.Tree.{Tree, waits, Address, label_at, IsOpen}
+use Rattle.plan_model.specs.task_networks.Schedule.{MustPrecede}
 use Rattle.htn_base.specs.Different.{AreDifferent}
-use Rattle.task_networks.specs.Spelling.{Act, run, apply, others}
+use Rattle.plan_model.specs.task_networks.Spelling.{Act, run, apply, others}
 use Rattle.slot_machine.specs.Reached.{IsLeft}
 
 -- another open leaf must come before the one at p

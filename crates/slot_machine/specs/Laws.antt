@@ -1,13 +1,13 @@
 -- What is proved of the machine of slots, for every lawful network, number of slots and top work.
 use Rattle.std.specs.Prelude.{ℕ, ◌≡◌, ◌≤◌, ◌↔◌, List, map}
-use Rattle.task_networks.specs.Net.{Net}
-use Rattle.task_networks.specs.Tree.{Tree, Label, Address, IsOpen}
-use Rattle.task_networks.specs.Schedule.{IsSchedule}
-use Rattle.task_networks.specs.Pending.{IsPending, IsWithin}
-use Rattle.task_networks.specs.Front.{IsFront}
-use Rattle.task_networks.specs.Executable.{AreLabels, AreAllowed, last_state, IsExecutableOrder, IsSolution}
-use Rattle.task_networks.specs.Spelling.{Act, label_of, Spells}
-use Rattle.task_networks.specs.Bound.{AreLargeEnough}
+use Rattle.plan_model.specs.task_networks.Net.{Net}
+use Rattle.plan_model.specs.task_networks.Tree.{Tree, Label, Address, IsOpen}
+use Rattle.plan_model.specs.task_networks.Schedule.{IsSchedule}
+use Rattle.plan_model.specs.task_networks.Pending.{IsPending, IsWithin}
+use Rattle.plan_model.specs.task_networks.Front.{IsFront}
+use Rattle.plan_model.specs.task_networks.Executable.{AreLabels, AreAllowed, last_state, IsExecutableOrder, IsSolution}
+use Rattle.plan_model.specs.task_networks.Spelling.{Act, label_of, Spells}
+use Rattle.plan_model.specs.task_networks.Bound.{AreLargeEnough}
 use Rattle.slot_machine.specs.Machine.{SlotState, start, IsUnblocked, May, Runs, end_of}
 use Rattle.slot_machine.specs.Reached.{SameSlots, HasLeaf, IsLeft, Tells}
 use Rattle.slot_machine.specs.Causes.{IsWaiting, Can}

@@ -1,9 +1,9 @@
 -- The machine of slots: which slot holds which work, which is free, and which must wait for which.
 -- Source: the translation of Alford et al., "Bound to Plan", ICAPS 2016, with order pairs between slots. Slots count from 1.
 use Rattle.std.specs.Prelude.{ℕ, zero, suc, ◌≡◌, ◌<◌, ◌≤◌, ◌⊎◌, List, [], ◌∷◌, Option, Some, None, length, slice_get, Contains}
-use Rattle.task_networks.specs.Net.{Net, count}
+use Rattle.plan_model.specs.task_networks.Net.{Net, count}
 use Rattle.htn_base.specs.Different.{AreDifferent}
-use Rattle.task_networks.specs.Spelling.{Act, run, apply, others}
+use Rattle.plan_model.specs.task_networks.Spelling.{Act, run, apply, others}
 
 -- a slot put into a list at a place
 abbrev pub insert_at : ℕ → ℕ → List ℕ → List ℕ

@@ -1,8 +1,8 @@
 -- Another machine that takes acts, as that of a classical plan does.
 use Rattle.std.specs.Prelude.{ℕ, ◌≡◌, ◌↔◌, List, [], ◌∷◌, ◌++◌}
-use Rattle.task_networks.specs.Net.{Net}
-use Rattle.task_networks.specs.Tree.{Tree, Address}
-use Rattle.task_networks.specs.Spelling.{Act, Spells}
+use Rattle.plan_model.specs.task_networks.Net.{Net}
+use Rattle.plan_model.specs.task_networks.Tree.{Tree, Address}
+use Rattle.plan_model.specs.task_networks.Spelling.{Act, Spells}
 use Rattle.slot_machine.specs.Machine.{SlotState, start, May, after_act, end_of}
 
 -- two states say the same

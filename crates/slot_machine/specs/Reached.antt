@@ -1,9 +1,9 @@
 -- What the machine's state says of a front.
 use Rattle.std.specs.Prelude.{ℕ, ◌≡◌, ◌≤◌, ◌↔◌, Some}
-use Rattle.task_networks.specs.Order.{Precedes}
-use Rattle.task_networks.specs.Net.{Net}
-use Rattle.task_networks.specs.Tree.{Tree, waits, Address, label_at, IsAddress, IsOpen}
-use Rattle.task_networks.specs.Schedule.{MustPrecede}
+use Rattle.plan_model.specs.task_networks.Order.{Precedes}
+use Rattle.plan_model.specs.task_networks.Net.{Net}
+use Rattle.plan_model.specs.task_networks.Tree.{Tree, waits, Address, label_at, IsAddress, IsOpen}
+use Rattle.plan_model.specs.task_networks.Schedule.{MustPrecede}
 use Rattle.slot_machine.specs.Machine.{SlotState}
 
 -- two functions give each address of the tree the same slot

@@ -2,11 +2,11 @@
 //!
 //! `of` is any value that the picked network is made of.
 
-ghost use Rattle.task_networks.specs.Lawful.{IsLawful};
+ghost use Rattle.plan_model.specs.task_networks.Lawful.{IsLawful};
 ghost use Rattle.slot_machine.specs.Laws.{RunsAreSpelledFronts, FrontIsTheOnlyOne, StateTellsFront, PendingAreOpenLeaves, FewPendingHaveSpellings, CausesAreSentences, LabelsAreOfActs, OtherTakesFronts, WidthIsBounded, RunsAreExecutableFronts, PlansAreSpelledSolutions};
 
 use crate::machine::{Execution, OtherMachine};
-use task_networks::Network;
+use plan_model::task_networks::Network;
 
 /// A list of acts is a run from the start exactly where it spells a front.
 pub fn runs_are_spelled_fronts<N: Network, T>(of: &T)

@@ -5,6 +5,7 @@
 //! classical encoding stands on.
 #![tactic(auto)]
 
+pub mod bound_laws;
 mod laws;
 mod machine;
 

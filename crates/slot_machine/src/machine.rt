@@ -1,9 +1,9 @@
 //! What further laws are said of.
 
 ghost use Rattle.std.specs.Prelude.{ℕ, List, [], ◌∷◌};
-ghost use Rattle.task_networks.specs.Net.{Net, one_action};
-ghost use Rattle.task_networks.specs.Tree.{Label};
-ghost use Rattle.task_networks.specs.Spelling.{Act};
+ghost use Rattle.plan_model.specs.task_networks.Net.{Net, one_action};
+ghost use Rattle.plan_model.specs.task_networks.Tree.{Label};
+ghost use Rattle.plan_model.specs.task_networks.Spelling.{Act};
 ghost use Rattle.slot_machine.specs.Machine.{SlotState, start, end_of, May};
 
 use std::marker::Brand;

@@ -12,3 +12,6 @@ pub mod Words
 pub mod StepWords
 pub mod Printing
 pub mod Laws
+pub mod sexpr_text
+pub mod sheets
+pub mod form_grammar

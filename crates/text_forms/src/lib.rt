@@ -5,6 +5,9 @@
 //! What a token is, by the bytes of its text, says `words_are_longest_runs`.
 #![tactic(auto)]
 
+pub mod form_grammar;
 mod laws;
+pub mod sexpr_text;
+pub mod sheets;
 
 pub use laws::{faults_law, lists_law, printed_law, tokens_law, words_are_longest_runs};

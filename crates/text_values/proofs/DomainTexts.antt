@@ -13,9 +13,9 @@ use Rattle.hddl_bind.specs.declared.bound_domain.BoundDomain.{BoundDomain}
 use Rattle.hddl_bind.specs.declared.errors.BindError.{BindError}
 use Rattle.hddl_bind.specs.declared.errors.BindError.TheVariants.{Bad, Memory}
 use Rattle.hddl_bind.specs.WholeDomains.{IsDomainBound, IsDomainRefused}
-use Rattle.binding_laws.proofs.WholeFaults.{least_by, none_by}
-use Rattle.sexpr_text.specs.declared.read_error.ReadError.{ReadError}
-use Rattle.sexpr_text.specs.declared.read_error.ReadError.TheVariants as errors
+use Rattle.form_spellings.proofs.binding_laws.WholeFaults.{least_by, none_by}
+use Rattle.text_forms.specs.declared.sexpr_text.read_error.ReadError.{ReadError}
+use Rattle.text_forms.specs.declared.sexpr_text.read_error.ReadError.TheVariants as errors
 use Rattle.text_values.specs.Reading.{ReadsDomain, RefusesNames, RefusesDomain, IsBoundText, read_error}
 use Rattle.text_values.specs.TextFaults.{IsDomainOf, IsGoodDomain, domain_names}
 

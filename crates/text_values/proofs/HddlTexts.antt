@@ -5,9 +5,9 @@ use Rattle.plan_model.specs.declared.values.Hddl.{Hddl}
 use Rattle.plan_texts.specs.FirstSeen.{IsHddlOf}
 use Rattle.form_spellings.proofs.order.Whole.{domains_in_order, problems_in_order}
 use Rattle.hddl_bind.specs.WholeProblems.{with_start}
-use Rattle.binding_laws.specs.SoundValues.{ReadValuesAreSound}
-use Rattle.binding_laws.specs.WholeFaults.{AreInOrder}
-use Rattle.binding_laws.proofs.seen.Bound.{is_of_texts}
+use Rattle.form_spellings.specs.binding_laws.SoundValues.{ReadValuesAreSound}
+use Rattle.form_spellings.specs.binding_laws.WholeFaults.{AreInOrder}
+use Rattle.form_spellings.proofs.binding_laws.seen.Bound.{is_of_texts}
 use Rattle.text_values.specs.Values.{AreReadAs, IsValueOf}
 
 module _ (domain problem : List ℕ) (h : Hddl) (is : AreReadAs domain problem language.Hddl h) where

@@ -1,7 +1,7 @@
 -- What holds of one of a list, of each of it and of the first in it goes over to a list that goes together with it.
 use Rattle.std.proofs.Common.{ℕ, zero, suc, ◌≡◌, List, [], ◌∷◌, ◌++◌, slice_get, Some, refl, ap, subst, inl, inr}
 use Rattle.plan_texts.specs.Together.{Together}
-use Rattle.hddl_reader.specs.names.Lists.{One, Each, IsFirst}
+use Rattle.htn_base.specs.Lists.{One, Each, IsFirst}
 
 module _ {X Y : Type 0} (R : X → Y → Type 0) where
   abbrev pub Turned : Y → X → Type 0

@@ -1,7 +1,7 @@
 -- A fault of names of what was read is one of what was read alike.
 use Rattle.std.proofs.Common.{ℕ, suc, ◌≡◌, ◌⊎◌, ◌++◌, List, [], ◌∷◌, map, length, Option, Some, None, codes, refl, sym, ap, ◌∙◌, subst, inl, inr, arith}
 use Rattle.text_forms.specs.Words.{Word}
-use Rattle.task_networks.specs.Order.{Precedes, direct, through}
+use Rattle.plan_model.specs.task_networks.Order.{Precedes, direct, through}
 use Rattle.plan_texts.specs.Together.{Together}
 use Rattle.plan_texts.proofs.Together.{together-map, together-maps, together-length}
 use Rattle.gd_reader.specs.declared.term.RawTerm.{RawTerm}
@@ -19,7 +19,7 @@ use Rattle.hddl_reader.specs.declared.sections.RawHead.{RawHead}
 use Rattle.hddl_reader.specs.declared.sections.RawMethod.{RawMethod}
 use Rattle.hddl_reader.specs.declared.sections.RawProblem.{RawProblem}
 use Rattle.hddl_reader.specs.names.Faults.{DuplicateInDomain, DuplicateInProblem, HasDomainFault, HasProblemFault, OfNetworks, constants, objects}
-use Rattle.hddl_reader.specs.names.Lists.{One, Has}
+use Rattle.htn_base.specs.Lists.{One, Has}
 use Rattle.hddl_reader.specs.names.Named.{declared, meant, StandsFor, HasWrongArity, UnknownType, UnknownName, UnknownObject, UnknownVariable, WrongArity}
 use Rattle.hddl_reader.specs.names.Networks.{id_at, ids, HasId, IsUnknownId, UnknownSubtaskId, IsSubtask, IsPair, IsOrdered, ClosesOrder, CyclicOrder, TooManySubtasks, most_subtasks}
 use Rattle.hddl_reader.specs.names.Standing.{InDomain, InProblem}

@@ -3,11 +3,11 @@ use Rattle.std.proofs.Common.{ℕ, ◌≡◌, List, length, Option, Some, refl, 
 use Rattle.text_forms.specs.Faults.{Fault, fault}
 use Rattle.text_forms.specs.Faults as tokens
 use Rattle.text_forms.specs.Placed.{parts_at}
-use Rattle.form_grammar.specs.Codes.{Form, complete, unfinished, wrong, Whole}
-use Rattle.form_grammar.specs.Definitions.{definition_form, definition_fault}
-use Rattle.form_grammar.specs.Plans.{steps_form, steps_fault}
-use Rattle.form_grammar.specs.Sections as grammar
-use Rattle.form_grammar.specs.Texts.{fault_or, last_word}
+use Rattle.text_forms.specs.form_grammar.Codes.{Form, complete, unfinished, wrong, Whole}
+use Rattle.text_forms.specs.form_grammar.Definitions.{definition_form, definition_fault}
+use Rattle.text_forms.specs.form_grammar.Plans.{steps_form, steps_fault}
+use Rattle.text_forms.specs.form_grammar.Sections as grammar
+use Rattle.text_forms.specs.form_grammar.Texts.{fault_or, last_word}
 use Rattle.gd_reader.specs.Terms.{Names}
 use Rattle.hddl_reader.specs.declared.sections.Language.{Language}
 use Rattle.hddl_reader.specs.declared.sections.RawDomain.{RawDomain}
@@ -16,7 +16,7 @@ use Rattle.hddl_reader.specs.Definitions.{language_of}
 use Rattle.hddl_reader.specs.names.Faults.{HasDomainFault, HasProblemFault, IsInFront, IsLeast}
 use Rattle.text_values.specs.TextFaults.{IsDomainOf, IsProblemOf, IsGoodDomain, IsGoodProblem, IsLeastOfDomain, domain_tokens, domain_form, domain_names, IsLeastOfProblem, problem_tokens, problem_form, problem_names, IsLeastFault, in_domain, in_problem, HaveNoFault}
 use Rattle.plan_model.specs.declared.steps.GroundAction.{GroundAction}
-use Rattle.plan_text.specs.Plans.{IsPlanFault, IsPlanRead}
+use Rattle.text_values.specs.plan_text.Plans.{IsPlanFault, IsPlanRead}
 use Rattle.text_values.specs.OneFault.{HaveOneFault, HasOnePlanFault}
 use Rattle.text_values.proofs.Alike.{AlikeDomain}
 use Rattle.text_values.proofs.DefinitionPairs.{domains_alike, problems_alike}

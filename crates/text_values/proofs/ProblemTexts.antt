@@ -21,9 +21,9 @@ use Rattle.hddl_bind.specs.declared.errors.BindError.{BindError}
 use Rattle.hddl_bind.specs.declared.errors.BindError.TheVariants.{Bad, Memory}
 use Rattle.hddl_bind.specs.WholeProblems.{ProblemBinding, IsProblemBound, IsProblemRefused, with_start}
 use Rattle.hddl_bind.specs.WholeProblems as problem
-use Rattle.binding_laws.specs.WholeFaults.{AreInOrder}
-use Rattle.binding_laws.proofs.WholeFaults.{domain_none, problem_least, problem_none}
-use Rattle.binding_laws.specs.SoundValues.{IsBoundOf}
+use Rattle.form_spellings.specs.binding_laws.WholeFaults.{AreInOrder}
+use Rattle.form_spellings.proofs.binding_laws.WholeFaults.{domain_none, problem_least, problem_none}
+use Rattle.form_spellings.specs.binding_laws.SoundValues.{IsBoundOf}
 use Rattle.text_values.specs.Reading.{ReadsProblem, RefusesOver, IsBoundText, read_error}
 use Rattle.text_values.specs.Values.{AreReadAs}
 use Rattle.text_values.specs.TextFaults.{IsProblemOf, IsGoodDomain, IsGoodProblem, problem_names}

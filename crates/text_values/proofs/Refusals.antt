@@ -5,8 +5,8 @@ use Rattle.gd_reader.specs.Terms.{Names}
 use Rattle.hddl_reader.specs.declared.sections.Language.{Language}
 use Rattle.plan_model.specs.declared.values.Hddl.{Hddl}
 use Rattle.hddl_bind.specs.declared.bound_domain.BoundDomain.{BoundDomain}
-use Rattle.sexpr_text.specs.declared.read_error.ReadError.{ReadError}
-use Rattle.sexpr_text.specs.declared.read_error.ReadError.TheVariants as errors
+use Rattle.text_forms.specs.declared.sexpr_text.read_error.ReadError.{ReadError}
+use Rattle.text_forms.specs.declared.sexpr_text.read_error.ReadError.TheVariants as errors
 use Rattle.text_values.specs.TextFaults.{IsLeastFault, in_domain, in_problem}
 use Rattle.text_values.specs.Reading.{RefusesDomain, RefusesOver, RefusesProblem, IsBoundText}
 use Rattle.text_values.specs.Values.{IsRefusal}

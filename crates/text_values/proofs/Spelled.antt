@@ -2,10 +2,10 @@
 use Rattle.std.proofs.Common.{ℕ, ◌≡◌, Some, List, length}
 use Rattle.text_forms.specs.Faults.{Fault, fault}
 use Rattle.text_forms.specs.Placed.{parts_at}
-use Rattle.form_grammar.specs.Codes.{Form, complete, unfinished, wrong, Whole}
-use Rattle.form_grammar.specs.Definitions.{definition_form}
-use Rattle.form_grammar.specs.Sections as grammar
-use Rattle.form_grammar.specs.Texts.{fault_or}
+use Rattle.text_forms.specs.form_grammar.Codes.{Form, complete, unfinished, wrong, Whole}
+use Rattle.text_forms.specs.form_grammar.Definitions.{definition_form}
+use Rattle.text_forms.specs.form_grammar.Sections as grammar
+use Rattle.text_forms.specs.form_grammar.Texts.{fault_or}
 use Rattle.hddl_reader.specs.declared.sections.Language.{Language}
 use Rattle.hddl_reader.specs.declared.sections.Language.TheVariants.{Hddl}
 use Rattle.hddl_reader.specs.Definitions.{language_of}

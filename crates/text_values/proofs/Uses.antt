@@ -21,7 +21,7 @@ use Rattle.hddl_reader.specs.declared.sections.RawDomain.{RawDomain}
 use Rattle.hddl_reader.specs.declared.sections.RawHead.{RawHead}
 use Rattle.hddl_reader.specs.declared.sections.RawMethod.{RawMethod}
 use Rattle.hddl_reader.specs.declared.sections.RawProblem.{RawProblem}
-use Rattle.hddl_reader.specs.names.Lists.{One}
+use Rattle.htn_base.specs.Lists.{One}
 use Rattle.hddl_reader.specs.names.Words.{param_word}
 use Rattle.hddl_reader.specs.names.Uses.{Scope, Use, declares, applies, refers, Kind, predicate, subtask, task, IsDeclared, IsOfAtom, IsOneOf, variables, InFormula, InEffect}
 use Rattle.hddl_reader.specs.names.Standing.{IsOfNetwork, InMethod, InAction, InDomain, InProblem}

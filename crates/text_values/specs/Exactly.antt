@@ -6,7 +6,7 @@ use Rattle.hddl_reader.specs.declared.sections.Language.TheVariants as language
 use Rattle.plan_model.specs.declared.values.Hddl.{Hddl}
 use Rattle.plan_texts.specs.SoundProblem.{IsSoundProblem}
 use Rattle.plan_texts.specs.SpellsHddl.{SpellsHddl}
-use Rattle.plan_meaning.specs.Laws.{AreOrdered}
+use Rattle.plan_model.specs.plan_meaning.Laws.{AreOrdered}
 use Rattle.form_spellings.specs.Depth.{IsShallow}
 use Rattle.form_spellings.specs.Faultless.{HasFewTypes}
 use Rattle.text_values.specs.TextFaults.{IsLeastFault, HaveNoFault}

@@ -6,3 +6,4 @@ pub mod FaultWords
 pub mod PddlValues
 pub mod PddlExactly
 pub mod OneFault
+pub mod plan_text

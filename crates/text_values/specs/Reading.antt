@@ -4,8 +4,8 @@ use Rattle.std.specs.Prelude.{ℕ, ◌≡◌, ◌≤◌, ◌⊎◌, List, Some, 
 use Rattle.htn_base.specs.Different.{AreDifferent}
 use Rattle.text_forms.specs.Faults.{fault, IsFaultless}
 use Rattle.text_forms.specs.Faults as tokens
-use Rattle.form_grammar.specs.Definitions.{definition_fault}
-use Rattle.form_grammar.specs.Sections as grammar
+use Rattle.text_forms.specs.form_grammar.Definitions.{definition_fault}
+use Rattle.text_forms.specs.form_grammar.Sections as grammar
 use Rattle.gd_reader.specs.Terms.{Names}
 use Rattle.hddl_bind.specs.declared.bound_domain.BoundDomain.{BoundDomain}
 use Rattle.hddl_bind.specs.declared.errors.BindError.{BindError}
@@ -16,8 +16,8 @@ use Rattle.hddl_reader.specs.declared.sections.RawDomain.{RawDomain}
 use Rattle.hddl_reader.specs.declared.sections.RawProblem.{RawProblem}
 use Rattle.hddl_reader.specs.Definitions.{language_of, IsDomainRead, IsProblemRead}
 use Rattle.plan_model.specs.declared.values.Hddl.{Hddl}
-use Rattle.sexpr_text.specs.declared.read_error.ReadError.{ReadError}
-use Rattle.sexpr_text.specs.declared.read_error.ReadError.TheVariants as errors
+use Rattle.text_forms.specs.declared.sexpr_text.read_error.ReadError.{ReadError}
+use Rattle.text_forms.specs.declared.sexpr_text.read_error.ReadError.TheVariants as errors
 use Rattle.text_values.specs.TextFaults.{IsDomainOf, IsLeastOfDomain, IsLeastOfProblem}
 use Rattle.text_values.specs.Values.{AreReadAs}
 

@@ -5,8 +5,8 @@
 use Rattle.std.specs.Prelude.{ℕ, ◌≡◌, Some, List}
 use Rattle.text_forms.specs.Faults.{fault, IsFaultless}
 use Rattle.text_forms.specs.Faults as tokens
-use Rattle.form_grammar.specs.Definitions.{definition_fault}
-use Rattle.form_grammar.specs.Sections as grammar
+use Rattle.text_forms.specs.form_grammar.Definitions.{definition_fault}
+use Rattle.text_forms.specs.form_grammar.Sections as grammar
 use Rattle.gd_reader.specs.Terms.{Names, Keeps}
 use Rattle.hddl_reader.specs.declared.sections.Language.{Language}
 use Rattle.hddl_reader.specs.declared.sections.RawDomain.{RawDomain}

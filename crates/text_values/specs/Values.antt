@@ -6,10 +6,10 @@ use Rattle.hddl_reader.specs.declared.sections.Language.TheVariants as language
 use Rattle.plan_model.specs.declared.values.Hddl.{Hddl}
 use Rattle.plan_texts.specs.FirstSeen.{IsHddlOf}
 use Rattle.plan_texts.specs.SoundProblem.{IsSoundProblem}
-use Rattle.plan_meaning.specs.Laws.{AreOrdered}
-use Rattle.sexpr_text.specs.declared.read_error.ReadError.{ReadError}
-use Rattle.sexpr_text.specs.declared.read_error.ReadError.TheVariants as errors
-use Rattle.binding_laws.specs.SoundValues.{IsBoundOf}
+use Rattle.plan_model.specs.plan_meaning.Laws.{AreOrdered}
+use Rattle.text_forms.specs.declared.sexpr_text.read_error.ReadError.{ReadError}
+use Rattle.text_forms.specs.declared.sexpr_text.read_error.ReadError.TheVariants as errors
+use Rattle.form_spellings.specs.binding_laws.SoundValues.{IsBoundOf}
 use Rattle.text_values.specs.TextFaults.{IsLeastFault, HaveNoFault}
 
 module _ (domain problem : List ℕ) where

@@ -9,8 +9,8 @@ use crate::reading::{differ, read_domain};
 use hddl_bind::{BindError, BoundDomain, bind_domain};
 use hddl_reader::{Language, RawDomain};
 use htn_base::NameTable;
-use sexpr_text::ReadError;
 use std::alloc::Global;
+use text_forms::sexpr_text::ReadError;
 
 /// The domain of a text with its names bound, or its least fault, by phase, offset and code.
 pub(crate) fn bound_domain(

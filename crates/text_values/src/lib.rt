@@ -19,6 +19,7 @@ mod laws;
 mod one_fault;
 mod pddl;
 mod pddl_laws;
+pub mod plan_text;
 mod problems;
 mod reading;
 mod values;

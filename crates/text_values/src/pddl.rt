@@ -3,11 +3,11 @@ ghost use Rattle.form_spellings.specs.PddlTexts.{without_tasks};
 ghost use Rattle.text_values.specs.PddlValues.{IsValueOf, IsRefusal};
 
 use crate::values::read_as;
-use binding_laws::read_pddl_is_its_value;
+use form_spellings::binding_laws::read_pddl_is_its_value;
 use hddl_reader::Language;
 use plan_model::{Hddl, Pddl};
-use sexpr_text::ReadError;
 use std::alloc::Global;
+use text_forms::sexpr_text::ReadError;
 
 /// The value that two PDDL texts spell, a domain's and a problem's, each of at most 16,777,216 bytes. `Bad` has their least fault,
 /// by file (0 for the domain, 1 for the problem), phase (tokens, form, names), offset in bytes and code.

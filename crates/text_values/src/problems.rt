@@ -7,8 +7,8 @@ use hddl_bind::{BoundDomain, bind_problem};
 use hddl_reader::Language;
 use htn_base::NameTable;
 use plan_model::Hddl;
-use sexpr_text::ReadError;
 use std::alloc::Global;
+use text_forms::sexpr_text::ReadError;
 
 /// What is read of a problem's text over a domain and bound, or the text's least fault, by phase, offset and code.
 pub(crate) fn value_over(

@@ -1,15 +1,15 @@
 ghost use Rattle.std.specs.Prelude.{◌≡◌, ◌≤◌, ◌+◌, length, IfOk, IfErr, OnOk};
 ghost use Rattle.htn_base.specs.Different.{AreDifferent};
 ghost use Rattle.text_forms.specs.Faults.{IsFaultless};
-ghost use Rattle.form_grammar.specs.Sections as grammar;
+ghost use Rattle.text_forms.specs.form_grammar.Sections as grammar;
 ghost use Rattle.gd_reader.specs.Terms.{Keeps};
-ghost use Rattle.sexpr_text.specs.Refused.{IsRefusal};
+ghost use Rattle.text_forms.specs.sexpr_text.Refused.{IsRefusal};
 ghost use Rattle.text_values.specs.Reading.{ReadsDomain, ReadsProblem, RefusesForm};
 
 use hddl_reader::{Language, RawDomain, RawProblem, domain, problem};
 use htn_base::NameTable;
-use sexpr_text::{ReadError, Sexprs, read, read_with_index};
 use std::alloc::Global;
+use text_forms::sexpr_text::{ReadError, Sexprs, read, read_with_index};
 
 // A text of at most so many bytes is read with an index of its tokens. That takes 8 bytes a token, up to eight times the
 // length of the text, so of a longer one only the place of every eighth token is kept: most of it are facts, which are

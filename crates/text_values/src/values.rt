@@ -4,12 +4,12 @@ ghost use Rattle.text_values.specs.Values.{AreReadAs, IsValueOf, IsRefusal};
 
 use crate::domains::bound_domain;
 use crate::problems::value_over;
-use binding_laws::read_values_are_sound;
+use form_spellings::binding_laws::read_values_are_sound;
 use hddl_reader::Language;
 use htn_base::NameTable;
 use plan_model::Hddl;
-use sexpr_text::ReadError;
 use std::alloc::Global;
+use text_forms::sexpr_text::ReadError;
 
 /// The value that two HDDL texts spell, a domain's and a problem's, each of at most 16,777,216 bytes. `Bad` has their least fault,
 /// by file (0 for the domain, 1 for the problem), phase (tokens, form, names), offset in bytes and code.

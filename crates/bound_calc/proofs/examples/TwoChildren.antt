@@ -4,11 +4,11 @@ use Rattle.plan_model.specs.declared.networks.Head.TheVariants.{Action}
 use Rattle.plan_model.specs.declared.networks.Pair.{Pair}
 use Rattle.plan_model.specs.declared.schemas.MethodPlan.{MethodPlan}
 use Rattle.plan_model.specs.Pairs.{pair, Pairs}
-use Rattle.task_networks.specs.Order.{Precedes, direct, through, IsCut}
-use Rattle.task_networks.specs.Bound.{AreBlocks}
-use Rattle.task_networks.proofs.BoundLaws.{by_size, before_block, at_block, after_block}
-use Rattle.task_networks.proofs.Lists.{not-in_empty, head_or_tail}
-use Rattle.plan_meaning.proofs.examples.RowValues.{child, always, method_schema, method_plan}
+use Rattle.plan_model.specs.task_networks.Order.{Precedes, direct, through, IsCut}
+use Rattle.plan_model.specs.task_networks.Bound.{AreBlocks}
+use Rattle.plan_model.proofs.task_networks.BoundLaws.{by_size, before_block, at_block, after_block}
+use Rattle.plan_model.proofs.task_networks.Lists.{not-in_empty, head_or_tail}
+use Rattle.plan_model.proofs.plan_meaning.examples.RowValues.{child, always, method_schema, method_plan}
 use Rattle.bound_calc.specs.Blocks.{block_number, IsGreatestBlock}
 
 -- two children with these pairs

@@ -1,9 +1,9 @@
 -- Whole texts and what they spell: a domain without sections, and one of an action whose variable is declared nowhere.
 use Rattle.std.proofs.Common.{codes}
 use Rattle.text_forms.specs.Placed.{Placed, cut, close, word, list}
-use Rattle.form_grammar.specs.Codes.{Whole}
-use Rattle.form_grammar.specs.Definitions.{definition_form}
-use Rattle.form_grammar.specs.Sections.{hddl, pddl, domain, problem}
+use Rattle.text_forms.specs.form_grammar.Codes.{Whole}
+use Rattle.text_forms.specs.form_grammar.Definitions.{definition_form}
+use Rattle.text_forms.specs.form_grammar.Sections.{hddl, pddl, domain, problem}
 use Rattle.form_spellings.specs.SpellsSomeNetwork.{SpellsSomeSubtasks, SpellsSomePairs}
 use Rattle.form_spellings.specs.SpellsSomeSections.{SpellsSomeDefinition}
 use Rattle.form_spellings.proofs.WholeDefinitions.{whole_definitions}

@@ -35,7 +35,7 @@ use Rattle.form_spellings.specs.BoundNetworks.{IsBoundNetwork}
 use Rattle.form_spellings.specs.BoundSchemas.{IsBoundPredicate, IsBoundTask, IsBoundAction, IsBoundHead, IsBoundMethod, IsBoundFact}
 use Rattle.form_spellings.specs.BoundTexts.{IsBoundDomain}
 use Rattle.hddl_reader.specs.names.Faults.{HasDomainFault, HasProblemFault, DuplicateInDomain, DuplicateInProblem, constants, objects, HasNoFault}
-use Rattle.hddl_reader.specs.names.Lists.{One}
+use Rattle.htn_base.specs.Lists.{One}
 use Rattle.hddl_reader.specs.names.Networks.{ids, UnknownSubtaskId, CyclicOrder, TooManySubtasks}
 use Rattle.hddl_reader.specs.names.Standing.{InMethod, InAction, InDomain, InProblem}
 use Rattle.hddl_reader.specs.names.Types.{most_types}

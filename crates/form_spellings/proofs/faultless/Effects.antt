@@ -16,7 +16,7 @@ use Rattle.plan_texts.specs.Together.{Together}
 use Rattle.plan_texts.specs.Types.{EachIs}
 use Rattle.plan_texts.proofs.SpelledEffects.{sound_roll}
 use Rattle.form_spellings.specs.Bound.{bound_effect_step, IsBoundEffect}
-use Rattle.hddl_reader.specs.names.Lists.{One}
+use Rattle.htn_base.specs.Lists.{One}
 use Rattle.hddl_reader.specs.names.Uses.{Scope, Use, variables, effect_step, InEffect}
 use Rattle.hddl_reader.proofs.names.Rolls.{effect_unroll}
 use Rattle.form_spellings.proofs.faultless.Lists.{together_mapped}

@@ -19,7 +19,7 @@ use Rattle.plan_texts.specs.Together.{Together}
 use Rattle.plan_texts.specs.Types.{EachIs}
 use Rattle.plan_texts.proofs.Spelled.{sound_roll}
 use Rattle.form_spellings.specs.Bound.{IsBoundParam, bound_step, IsBoundFormula}
-use Rattle.hddl_reader.specs.names.Lists.{One}
+use Rattle.htn_base.specs.Lists.{One}
 use Rattle.hddl_reader.specs.names.Uses.{Scope, Use, IsDeclared, variables, formula_step, InFormula}
 use Rattle.hddl_reader.proofs.names.Rolls.{formula_unroll}
 use Rattle.form_spellings.proofs.faultless.Lists.{together_mapped}

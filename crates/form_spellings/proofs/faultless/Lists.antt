@@ -9,7 +9,7 @@ use Rattle.plan_texts.specs.Types.{EachIs}
 use Rattle.plan_texts.specs.Types as value
 use Rattle.plan_texts.proofs.Basics.{bytes_eq-true}
 use Rattle.plan_texts.proofs.Members.{has-contains, has-to_map}
-use Rattle.hddl_reader.specs.names.Lists.{One, Each, Has}
+use Rattle.htn_base.specs.Lists.{One, Each, Has}
 
 pub one_has : {X : Type 0} (P : X → Type 0) (xs : List X) → One P xs → (x : X) × value.Has xs x × P x
 one_has P [] o = absurd o

@@ -8,7 +8,7 @@ use Rattle.std.specs.Str.{bytes_eq}
 use Rattle.htn_base.specs.declared.name.Name.{Name}
 use Rattle.htn_base.specs.Different.{AreDifferent}
 use Rattle.text_forms.specs.Words.{Word, first_place}
-use Rattle.task_networks.specs.Order.{Precedes, direct, through, IsAcyclic}
+use Rattle.plan_model.specs.task_networks.Order.{Precedes, direct, through, IsAcyclic}
 use Rattle.gd_reader.specs.Terms.{Names}
 use Rattle.gd_reader.specs.declared.term.RawTerm.{RawTerm}
 use Rattle.hddl_reader.specs.declared.networks.RawNet.{RawNet}
@@ -27,7 +27,7 @@ use Rattle.plan_texts.proofs.Basics.{bytes_eq-refl, bytes_eq-other}
 use Rattle.plan_texts.proofs.Members.{each-has, has-contains}
 use Rattle.plan_texts.proofs.Together.{together-map, together-length}
 use Rattle.form_spellings.specs.BoundNetworks.{IsBoundPair, IsBoundId, IsBoundSubtask, IsBoundNetwork}
-use Rattle.hddl_reader.specs.names.Lists.{One}
+use Rattle.htn_base.specs.Lists.{One}
 use Rattle.hddl_reader.specs.names.Words.{WordAt, term_word, IsSecond}
 use Rattle.hddl_reader.specs.names.Networks.{id_at, ids, HasId, UnknownSubtaskId, IsUnknownId, IsSubtask, IsPair, IsChained, IsOrdered, CyclicOrder, TooManySubtasks}
 use Rattle.form_spellings.proofs.faultless.Lists.{one_has, has_one, has_front, has_back, beside, beside_at, first_found}

@@ -19,7 +19,7 @@ use Rattle.plan_texts.proofs.Members.{each-has, has-at}
 use Rattle.plan_texts.proofs.Places.{each-join}
 use Rattle.plan_texts.proofs.Together.{together-maps, together-length}
 use Rattle.form_spellings.specs.Bound.{types_of, IsBoundTerm, IsBoundAtom, IsBoundParam, IsBoundObject}
-use Rattle.hddl_reader.specs.names.Lists.{One, Has}
+use Rattle.htn_base.specs.Lists.{One, Has}
 use Rattle.hddl_reader.specs.names.Types.{IsType}
 use Rattle.hddl_reader.specs.names.Uses.{Scope, Use, declares, refers, predicate, IsDeclared, IsOfAtom, IsOneOf, variables}
 use Rattle.hddl_reader.specs.names.Words.{term_word, param_word}

@@ -5,7 +5,7 @@ use Rattle.htn_base.specs.Different.{AreDifferent}
 use Rattle.text_forms.specs.Words.{Word}
 use Rattle.plan_texts.specs.Types as value
 use Rattle.plan_texts.proofs.Members.{has-contains, has-to_map}
-use Rattle.hddl_reader.specs.names.Lists.{One, Has}
+use Rattle.htn_base.specs.Lists.{One, Has}
 use Rattle.hddl_reader.specs.names.Words.{WordAt, IsSameEarlier, IsSecond}
 use Rattle.form_spellings.proofs.faultless.Lists.{one_has, same_item, has_back}
 

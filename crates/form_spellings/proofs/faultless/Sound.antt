@@ -2,14 +2,14 @@
 use Rattle.std.proofs.Common.{ℕ, zero, suc, ◌≡◌, ◌<◌, ◌≤◌, inl, inr, List, [], ◌∷◌, map, length, arith, refl, sym, subst}
 use Rattle.std.proofs.lemmas.Bool.{cases_lt}
 use Rattle.text_forms.specs.Words.{Word, word_at}
-use Rattle.task_networks.specs.Order.{Precedes, direct, through}
+use Rattle.plan_model.specs.task_networks.Order.{Precedes, direct, through}
 use Rattle.plan_model.specs.Pairs.{pair, Pairs}
 use Rattle.plan_model.specs.declared.formulas.Formula.TheOpen.{Formula-F}
 use Rattle.plan_model.specs.declared.formulas.Formula.TheVariants.{And, rolls-And}
 use Rattle.plan_model.specs.declared.schemas.MethodSchema.{MethodSchema}
 use Rattle.plan_model.specs.declared.values.Hddl.{Hddl}
 use Rattle.plan_model.specs.declared.values.Pddl.{Pddl}
-use Rattle.plan_meaning.specs.Laws.{AreOrdered}
+use Rattle.plan_model.specs.plan_meaning.Laws.{AreOrdered}
 use Rattle.plan_texts.specs.Declared.{Declared, named}
 use Rattle.plan_texts.specs.Printable.{IsPlain, IsUnion, IsSound}
 use Rattle.plan_texts.specs.PrintableValue.{arities_of}

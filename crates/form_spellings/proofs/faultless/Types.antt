@@ -2,7 +2,7 @@
 use Rattle.std.proofs.Common.{ℕ, ◌≡◌, ◌<◌, ◌≤◌, ◌+◌, inl, inr, List, [], ◌∷◌, ◌++◌, map, length, codes, Option, Some, refl, sym, ap, subst, ◌∙◌, arith}
 use Rattle.std.specs.Prelude.{◌⊎◌, Contains}
 use Rattle.text_forms.specs.Words.{Word, word_at}
-use Rattle.task_networks.proofs.Different.{no_more}
+use Rattle.plan_model.proofs.task_networks.Different.{no_more}
 use Rattle.gd_reader.specs.Terms.{Names}
 use Rattle.gd_reader.specs.declared.term.RawTerm.{RawTerm}
 use Rattle.gd_reader.specs.declared.typed_lists.RawParam.{RawParam}
@@ -16,7 +16,7 @@ use Rattle.plan_texts.proofs.Members.{each-has, has-contains, contains-has}
 use Rattle.plan_texts.proofs.Places.{first-different}
 use Rattle.form_spellings.specs.Bound.{parent_of, IsBoundType}
 use Rattle.form_spellings.specs.BoundTexts.{AreBoundTypes}
-use Rattle.hddl_reader.specs.names.Lists.{One, Has}
+use Rattle.htn_base.specs.Lists.{One, Has}
 use Rattle.hddl_reader.specs.names.Types.{mentioned, IsType, IsParent, TypeCycle, IsOneTooMany}
 use Rattle.hddl_reader.specs.names.Types.{direct, through}
 use Rattle.hddl_reader.specs.names.Types as words

@@ -10,7 +10,7 @@ use Rattle.hddl_reader.specs.declared.sections.RawHead.{RawHead}
 use Rattle.plan_texts.specs.Types.{EachIs}
 use Rattle.plan_texts.specs.Types as value
 use Rattle.plan_texts.proofs.Members.{each-has}
-use Rattle.hddl_reader.specs.names.Lists.{Has}
+use Rattle.htn_base.specs.Lists.{Has}
 use Rattle.hddl_reader.specs.names.Named.{declared, meant, StandsFor, IsUnknown, HasWrongArity, UnknownType, UnknownName, UnknownObject, UnknownVariable, WrongArity}
 use Rattle.hddl_reader.specs.names.Types.{IsType}
 use Rattle.hddl_reader.specs.names.Uses.{Scope, Use, declares, applies, refers, Kind}

@@ -4,8 +4,8 @@ use Rattle.plan_model.specs.declared.networks.Pair.{Pair}
 use Rattle.plan_model.specs.Pairs.{pair, Pairs}
 use Rattle.plan_model.specs.declared.networks.Head.TheVariants.{Task, Action}
 use Rattle.plan_model.specs.declared.terms.Term.TheVariants.{Var, Obj}
-use Rattle.task_networks.specs.Order.{Precedes, direct, through, IsAcyclic}
-use Rattle.task_networks.proofs.Lists.{head_or_tail, not-in_empty}
+use Rattle.plan_model.specs.task_networks.Order.{Precedes, direct, through, IsAcyclic}
+use Rattle.plan_model.proofs.task_networks.Lists.{head_or_tail, not-in_empty}
 use Rattle.hddl_reader.specs.declared.networks.RawNet.{RawNet}
 use Rattle.hddl_reader.specs.declared.networks.RawPair.{RawPair}
 use Rattle.hddl_reader.specs.declared.networks.RawSub.{RawSub}

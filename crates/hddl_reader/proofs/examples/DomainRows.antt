@@ -12,7 +12,7 @@ use Rattle.hddl_reader.specs.declared.sections.Language.TheVariants.{Hddl}
 use Rattle.hddl_reader.specs.declared.sections.RawAction.{RawAction}
 use Rattle.hddl_reader.specs.declared.sections.RawDomain.{RawDomain}
 use Rattle.text_forms.specs.Words.{Word}
-use Rattle.hddl_reader.specs.names.Lists.{One, Has}
+use Rattle.htn_base.specs.Lists.{One, Has}
 use Rattle.hddl_reader.specs.names.Words.{IsSecond, WordAt, term_word}
 use Rattle.hddl_reader.specs.names.Uses.{Scope, Use, IsOfAtom, declares, applies, refers, predicate, subtask, task, InFormula}
 use Rattle.hddl_reader.specs.names.Standing.{InAction, InMethod, InDomain}

@@ -3,7 +3,7 @@ use Rattle.std.proofs.Common.{inl, inr, [], ◌∷◌, codes, refl, arith}
 use Rattle.hddl_reader.specs.declared.sections.Language.TheVariants.{Hddl}
 use Rattle.hddl_reader.specs.declared.sections.RawDomain.{RawDomain}
 use Rattle.hddl_reader.specs.declared.sections.RawProblem.{RawProblem}
-use Rattle.hddl_reader.specs.names.Lists.{Has}
+use Rattle.htn_base.specs.Lists.{Has}
 use Rattle.hddl_reader.specs.names.Uses.{predicate}
 use Rattle.hddl_reader.specs.names.Standing.{InProblem}
 use Rattle.hddl_reader.specs.names.Faults.{HasProblemFault, HasNameFault, in_problem, DuplicateInProblem, objects, constants}

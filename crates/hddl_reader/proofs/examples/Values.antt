@@ -13,7 +13,7 @@ use Rattle.hddl_reader.specs.declared.sections.RawDomain.{RawDomain}
 use Rattle.hddl_reader.specs.declared.sections.RawHead.{RawHead}
 use Rattle.hddl_reader.specs.declared.sections.RawMethod.{RawMethod}
 use Rattle.hddl_reader.specs.declared.sections.RawProblem.{RawProblem}
-use Rattle.hddl_reader.specs.names.Lists.{IsFirst}
+use Rattle.htn_base.specs.Lists.{IsFirst}
 
 abbrev pub table : Names
 table = codes "object" ∷ codes "a" ∷ codes "b" ∷ codes "c" ∷ codes "x" ∷ []

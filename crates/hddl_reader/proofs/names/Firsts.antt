@@ -7,7 +7,7 @@ use Rattle.hddl_reader.specs.declared.networks.RawNet.{RawNet}
 use Rattle.hddl_reader.specs.declared.networks.RawPair.{RawPair}
 use Rattle.hddl_reader.specs.declared.networks.RawSub.{RawSub}
 use Rattle.gd_reader.specs.declared.term.RawTerm.{RawTerm}
-use Rattle.hddl_reader.specs.names.Lists.{One, IsFirst}
+use Rattle.htn_base.specs.Lists.{One, IsFirst}
 use Rattle.hddl_reader.specs.names.Words.{WordAt, term_word}
 use Rattle.hddl_reader.specs.names.Networks.{id_at, HasId, IsSubtask, IsUnknownId, ClosesOrder}
 use Rattle.hddl_reader.specs.names.Types.{ClosesCycle}

@@ -1,6 +1,6 @@
 -- One and each of a list, beside the elements that it contains.
 use Rattle.std.proofs.Common.{zero, suc, inl, inr, List, [], ◌∷◌, refl, sym, subst, Contains, arith}
-use Rattle.hddl_reader.specs.names.Lists.{One, Each}
+use Rattle.htn_base.specs.Lists.{One, Each}
 
 pub contains-one : {X : Type 0} (P : X → Type 0) (xs : List X) (x : X) → Contains xs x → P x → One P xs
 contains-one P [] x c h = absurd (let l = c.1 in omega arith)

@@ -7,7 +7,7 @@ use Rattle.gd_reader.specs.declared.effects.RawEffect.{RawEffect, roll-RawEffect
 use Rattle.gd_reader.specs.declared.effects.RawEffect.TheFolds.{rec-roll-RawEffect, map-RawEffect}
 use Rattle.gd_reader.specs.declared.effects.RawEffect.TheOpen.{RawEffect-F}
 use Rattle.gd_reader.specs.Terms.{Names}
-use Rattle.hddl_reader.specs.names.Lists.{One}
+use Rattle.htn_base.specs.Lists.{One}
 use Rattle.hddl_reader.specs.names.Uses.{Scope, Use, formula_step, InFormula, effect_step, InEffect}
 
 one-map : {X Y : Type 0} (u : X → Y) (P : Y → Type 0) (xs : List X) → One (λ x. P (u x)) xs ≡ One P (map u xs)

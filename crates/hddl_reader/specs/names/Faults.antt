@@ -8,7 +8,7 @@ use Rattle.hddl_reader.specs.declared.sections.Language.{Language}
 use Rattle.hddl_reader.specs.declared.sections.RawDomain.{RawDomain}
 use Rattle.hddl_reader.specs.declared.sections.RawMethod.{RawMethod}
 use Rattle.hddl_reader.specs.declared.sections.RawProblem.{RawProblem}
-use Rattle.hddl_reader.specs.names.Lists.{One}
+use Rattle.htn_base.specs.Lists.{One}
 use Rattle.hddl_reader.specs.names.Words.{callables, param_word, param_at, head_at, IsSecond}
 use Rattle.hddl_reader.specs.names.Standing.{InDomain, InProblem}
 use Rattle.hddl_reader.specs.names.Types.{TypeCycle, TooManyTypes}

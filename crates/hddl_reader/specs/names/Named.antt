@@ -8,7 +8,7 @@ use Rattle.gd_reader.specs.declared.typed_lists.RawParam.{RawParam}
 use Rattle.gd_reader.specs.Terms.{Names}
 use Rattle.hddl_reader.specs.declared.sections.RawDomain.{RawDomain}
 use Rattle.hddl_reader.specs.declared.sections.RawHead.{RawHead}
-use Rattle.hddl_reader.specs.names.Lists.{One, Each, Has}
+use Rattle.htn_base.specs.Lists.{One, Each, Has}
 use Rattle.hddl_reader.specs.names.Words.{callables, term_word}
 use Rattle.hddl_reader.specs.names.Types.{IsType}
 use Rattle.hddl_reader.specs.names.Uses.{Scope, Use, declares, applies, refers, Kind, predicate, subtask, task}

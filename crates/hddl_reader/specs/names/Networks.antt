@@ -2,13 +2,13 @@
 -- Source: Höller et al., "HDDL", AAAI 2020, ordering of a task network; the limit is this project's.
 use Rattle.std.specs.Prelude.{ℕ, suc, ◌≡◌, ◌<◌, ◌≤◌, ◌⊎◌, true, List, [], ◌∷◌, ◌++◌, Option, Some, None, length, slice_get}
 use Rattle.text_forms.specs.Words.{Word}
-use Rattle.task_networks.specs.Order.{Precedes}
+use Rattle.plan_model.specs.task_networks.Order.{Precedes}
 use Rattle.gd_reader.specs.declared.term.RawTerm.{RawTerm}
 use Rattle.gd_reader.specs.Terms.{Names}
 use Rattle.hddl_reader.specs.declared.networks.RawNet.{RawNet}
 use Rattle.hddl_reader.specs.declared.networks.RawPair.{RawPair}
 use Rattle.hddl_reader.specs.declared.networks.RawSub.{RawSub}
-use Rattle.hddl_reader.specs.names.Lists.{One, IsFirst}
+use Rattle.htn_base.specs.Lists.{One, IsFirst}
 use Rattle.hddl_reader.specs.names.Words.{WordAt, term_word, term_at}
 
 -- so many subtasks a network may have

@@ -10,7 +10,7 @@ use Rattle.hddl_reader.specs.declared.sections.RawHead.{RawHead}
 use Rattle.hddl_reader.specs.declared.sections.RawMethod.{RawMethod}
 use Rattle.hddl_reader.specs.declared.sections.RawDomain.{RawDomain}
 use Rattle.hddl_reader.specs.declared.sections.RawProblem.{RawProblem}
-use Rattle.hddl_reader.specs.names.Lists.{One}
+use Rattle.htn_base.specs.Lists.{One}
 use Rattle.hddl_reader.specs.names.Uses.{Scope, Use, predicate, subtask, task, IsDeclared, IsOfAtom, IsOneOf, variables, InFormula, InEffect}
 
 -- a subtask, one of its terms, or a term of a constraint

@@ -8,7 +8,7 @@ use Rattle.gd_reader.specs.Terms.{Names}
 use Rattle.hddl_reader.specs.declared.sections.Language.{Language}
 use Rattle.hddl_reader.specs.declared.sections.Language.TheVariants.{Hddl, Pddl}
 use Rattle.hddl_reader.specs.declared.sections.RawDomain.{RawDomain}
-use Rattle.hddl_reader.specs.names.Lists.{One, Has, IsFirst}
+use Rattle.htn_base.specs.Lists.{One, Has, IsFirst}
 use Rattle.hddl_reader.specs.names.Words.{WordAt, term_word, param_word, term_at, param_at}
 
 -- a chain of pairs leads from one word to another

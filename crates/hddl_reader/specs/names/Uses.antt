@@ -12,7 +12,7 @@ use Rattle.gd_reader.specs.declared.effects.RawEffect.{RawEffect}
 use Rattle.gd_reader.specs.declared.effects.RawEffect.TheFolds.{rec-RawEffect}
 use Rattle.gd_reader.specs.declared.effects.RawEffect.TheOpen.{RawEffect-F}
 use Rattle.gd_reader.specs.Terms.{Names}
-use Rattle.hddl_reader.specs.names.Lists.{One}
+use Rattle.htn_base.specs.Lists.{One}
 use Rattle.hddl_reader.specs.names.Words.{param_word}
 
 -- the words of the variables in force, from outside in

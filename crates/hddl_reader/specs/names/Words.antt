@@ -9,7 +9,7 @@ use Rattle.gd_reader.specs.Terms.{Names}
 use Rattle.hddl_reader.specs.declared.sections.RawHead.{RawHead}
 use Rattle.hddl_reader.specs.declared.sections.RawDomain.{RawDomain}
 use Rattle.hddl_reader.specs.declared.sections.RawAction.{RawAction}
-use Rattle.hddl_reader.specs.names.Lists.{One, Has}
+use Rattle.htn_base.specs.Lists.{One, Has}
 
 -- a word, and the offset at which it stands
 pub record WordAt : Type 0 where

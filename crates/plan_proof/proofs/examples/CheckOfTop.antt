@@ -25,19 +25,19 @@ use Rattle.plan_texts.specs.Printable.{IsSound}
 use Rattle.plan_texts.specs.SoundValue.{IsSoundHddl, IsSoundMethod, arities}
 use Rattle.plan_texts.specs.PrintableValue.{IsPrintable}
 use Rattle.plan_texts.proofs.Spelled.{sound_roll}
-use Rattle.task_networks.specs.Order.{Precedes, direct, through, ArePairsOf, IsAcyclic}
-use Rattle.task_networks.proofs.Lists.{head_or_tail, not-in_empty}
-use Rattle.plan_meaning.specs.Laws.{AreOrdered}
-use Rattle.plan_meaning.specs.Compilation.{AsksSomething, IsCompiled}
+use Rattle.plan_model.specs.task_networks.Order.{Precedes, direct, through, ArePairsOf, IsAcyclic}
+use Rattle.plan_model.proofs.task_networks.Lists.{head_or_tail, not-in_empty}
+use Rattle.plan_model.specs.plan_meaning.Laws.{AreOrdered}
+use Rattle.plan_model.specs.plan_meaning.Compilation.{AsksSomething, IsCompiled}
 use Rattle.plan_model.specs.Pairs.{Pairs}
 use Rattle.slot_encoding.specs.SourceParts.{renamed}
 use Rattle.slot_encoding.specs.OrderFormulas.{free_parts}
 use Rattle.slot_encoding.specs.EncodedNames.{free_predicate, encoded_types, encoded_objects, encoded_predicates, order_numbers}
 use Rattle.slot_encoding.specs.EncodedActions.{no_part, is_empty, source_condition}
 use Rattle.slot_encoding.specs.EncodedValue.{first_atoms, encoded_actions, IsEncoded}
-use Rattle.plan_meaning.proofs.examples.PlanKinds.{with_check, none_rise}
-use Rattle.plan_meaning.proofs.examples.RowValues.{child, always, nothing, problem, method_schema, method_plan, task_schema, action_schema}
-use Rattle.plan_meaning.proofs.examples.SmallestRow.{smallest_names}
+use Rattle.plan_model.proofs.plan_meaning.examples.PlanKinds.{with_check, none_rise}
+use Rattle.plan_model.proofs.plan_meaning.examples.RowValues.{child, always, nothing, problem, method_schema, method_plan, task_schema, action_schema}
+use Rattle.plan_model.proofs.plan_meaning.examples.SmallestRow.{smallest_names}
 use Rattle.plan_proof.proofs.examples.SmallestFaithful.{smallest_is_printed}
 use Rattle.slot_encoding.specs.EncodedWords.{numbered, formula_words_step, formula_words, effect_words_step, effect_words, encoded_words, HasEncodedWords}
 

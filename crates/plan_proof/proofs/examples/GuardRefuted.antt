@@ -4,22 +4,22 @@ use Rattle.std.specs.Prelude.{codes, drop}
 use Rattle.htn_base.specs.Escapes.{slot_word}
 use Rattle.plan_model.specs.declared.options.Checks.TheVariants.{Leaf}
 use Rattle.plan_model.specs.declared.steps.GroundAction.{GroundAction}
-use Rattle.task_networks.specs.Net.{Net}
-use Rattle.task_networks.specs.Tree.{Tree, Address}
-use Rattle.task_networks.specs.Spelling.{Act, apply, run, others}
-use Rattle.task_networks.specs.Lawful.{IsLawful}
-use Rattle.task_networks.proofs.ScheduleLaws.{prepared_is_lawful}
+use Rattle.plan_model.specs.task_networks.Net.{Net}
+use Rattle.plan_model.specs.task_networks.Tree.{Tree, Address}
+use Rattle.plan_model.specs.task_networks.Spelling.{Act, apply, run, others}
+use Rattle.plan_model.specs.task_networks.Lawful.{IsLawful}
+use Rattle.plan_model.proofs.task_networks.ScheduleLaws.{prepared_is_lawful}
 use Rattle.slot_machine.specs.Machine.{start, Runs}
 use Rattle.slot_machine.proofs.SpellingRuns.{runs_from_spells}
-use Rattle.plan_meaning.specs.Network.{Work, action, check, task, GroundMethod, network, IsGroundMethod}
-use Rattle.plan_meaning.specs.Solution.{top_work}
-use Rattle.plan_meaning.specs.SpelledPlan.{step_of, work_name, method_name, object_word, IsSpelling}
-use Rattle.plan_meaning.proofs.CompiledNetworks.{prepared}
-use Rattle.plan_meaning.proofs.examples.CompiledRows.{guarded_is_compiled}
-use Rattle.plan_meaning.proofs.examples.TruthExamples.{first_of}
-use Rattle.plan_meaning.proofs.examples.Unequal.{less}
-use Rattle.plan_meaning.proofs.examples.RowWords.{step}
-use Rattle.plan_meaning.proofs.examples.GuardRow.{guard_hddl, guarded, with, not_b1}
+use Rattle.plan_model.specs.plan_meaning.Network.{Work, action, check, task, GroundMethod, network, IsGroundMethod}
+use Rattle.plan_model.specs.plan_meaning.Solution.{top_work}
+use Rattle.plan_model.specs.plan_meaning.SpelledPlan.{step_of, work_name, method_name, object_word, IsSpelling}
+use Rattle.plan_model.proofs.plan_meaning.CompiledNetworks.{prepared}
+use Rattle.plan_model.proofs.plan_meaning.examples.CompiledRows.{guarded_is_compiled}
+use Rattle.plan_model.proofs.plan_meaning.examples.TruthExamples.{first_of}
+use Rattle.plan_model.proofs.plan_meaning.examples.Unequal.{less}
+use Rattle.plan_model.proofs.plan_meaning.examples.RowWords.{step}
+use Rattle.plan_model.proofs.plan_meaning.examples.GuardRow.{guard_hddl, guarded, with, not_b1}
 use Rattle.plan_proof.proofs.examples.SoundChecks.{ordered_by}
 
 abbrev N : Net

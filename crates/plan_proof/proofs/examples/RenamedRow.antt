@@ -19,10 +19,10 @@ use Rattle.plan_model.specs.declared.options.Style.TheVariants.{Adl}
 use Rattle.plan_model.specs.declared.schemas.MethodSchema.{MethodSchema}
 use Rattle.plan_model.specs.declared.values.Hddl.{Hddl}
 use Rattle.plan_model.specs.declared.values.Compiled.{Compiled}
-use Rattle.plan_meaning.specs.Compilation.{IsCompiled}
-use Rattle.plan_meaning.proofs.examples.PlanKinds.{plain, none_rise}
-use Rattle.plan_meaning.proofs.examples.RowValues.{child, always, nothing, problem, method_schema, method_plan, task_schema, action_schema}
-use Rattle.plan_meaning.proofs.examples.SmallestRow.{smallest_hddl, smallest}
+use Rattle.plan_model.specs.plan_meaning.Compilation.{IsCompiled}
+use Rattle.plan_model.proofs.plan_meaning.examples.PlanKinds.{plain, none_rise}
+use Rattle.plan_model.proofs.plan_meaning.examples.RowValues.{child, always, nothing, problem, method_schema, method_plan, task_schema, action_schema}
+use Rattle.plan_model.proofs.plan_meaning.examples.SmallestRow.{smallest_hddl, smallest}
 use Rattle.slot_encoding.specs.Printed.{IsPrinted}
 use Rattle.plan_proof.proofs.examples.SmallestFaithful.{smallest_is_printed}
 use Rattle.plan_proof.specs.Same.{AreSameButNames}

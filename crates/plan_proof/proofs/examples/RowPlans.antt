@@ -13,40 +13,40 @@ use Rattle.plan_texts.specs.Types.{EachIs}
 use Rattle.plan_model.specs.declared.values.Hddl.{Hddl}
 use Rattle.plan_model.specs.declared.values.Compiled.{Compiled}
 use Rattle.plan_model.specs.declared.values.Pddl.{Pddl}
-use Rattle.task_networks.specs.Tree.{Tree, Address}
+use Rattle.plan_model.specs.task_networks.Tree.{Tree, Address}
 use Rattle.text_forms.specs.Words.{Word}
 use Rattle.plan_texts.specs.SpellsHddl.{hddl_words}
 use Rattle.plan_texts.specs.Printable.{IsSound, IsSoundEffect}
 use Rattle.plan_texts.specs.PrintableValue.{IsPrintable}
 use Rattle.plan_texts.specs.SoundValue.{IsSoundHddl, arities, scope_of}
-use Rattle.plan_meaning.specs.ClassicalPlan.{IsExecutable, IsPlan}
-use Rattle.plan_meaning.specs.Compilation.{IsCompiled}
+use Rattle.plan_model.specs.plan_meaning.ClassicalPlan.{IsExecutable, IsPlan}
+use Rattle.plan_model.specs.plan_meaning.Compilation.{IsCompiled}
 use Rattle.slot_encoding.specs.EncodedValue.{IsEncoded}
-use Rattle.plan_meaning.specs.Laws.{AreOrdered}
-use Rattle.plan_meaning.specs.Network.{network}
-use Rattle.plan_meaning.specs.Solution.{IsSolution, IsExecutableFront}
-use Rattle.plan_meaning.specs.SpelledPlan.{IsSpelling}
-use Rattle.plan_meaning.proofs.examples.RowValues.{always, nothing}
-use Rattle.plan_meaning.proofs.examples.CompiledValues.{smallest_is_compiled, empty_is_compiled, tail_recursion_is_compiled, seeing_is_compiled, waiting_is_compiled}
-use Rattle.plan_meaning.proofs.examples.CompiledRows.{late_check_is_compiled, tested_method_is_compiled, guarded_is_compiled, free_variable_is_compiled}
-use Rattle.plan_meaning.proofs.examples.SmallestRow as Smallest
-use Rattle.plan_meaning.proofs.examples.SmallestRow.{smallest}
-use Rattle.plan_meaning.proofs.examples.EmptyRow as Empty
-use Rattle.plan_meaning.proofs.examples.EmptyRow.{empty}
-use Rattle.plan_meaning.proofs.examples.TailRecursionRow as Tail
-use Rattle.plan_meaning.proofs.examples.TailRecursionRow.{tail_recursion}
-use Rattle.plan_meaning.proofs.examples.AllObjectsSolution as All
-use Rattle.plan_meaning.proofs.examples.AllObjectsSolution.{seeing, all_objects}
-use Rattle.plan_meaning.proofs.examples.WaitingRow as Waiting
-use Rattle.plan_meaning.proofs.examples.WaitingRow.{waiting}
-use Rattle.plan_meaning.proofs.examples.LateCheckRow as Late
-use Rattle.plan_meaning.proofs.examples.LateCheckRow.{late_hddl, late_check}
-use Rattle.plan_meaning.proofs.examples.TestedMethodRow as Tested
-use Rattle.plan_meaning.proofs.examples.TestedMethodRow.{tested_method}
-use Rattle.plan_meaning.proofs.examples.FreeVariableRow as Free
-use Rattle.plan_meaning.proofs.examples.FreeVariableRow.{free_variable}
-use Rattle.plan_meaning.proofs.examples.GuardRow as Guard
-use Rattle.plan_meaning.proofs.examples.GuardRow.{guard_hddl, guarded}
+use Rattle.plan_model.specs.plan_meaning.Laws.{AreOrdered}
+use Rattle.plan_model.specs.plan_meaning.Network.{network}
+use Rattle.plan_model.specs.plan_meaning.Solution.{IsSolution, IsExecutableFront}
+use Rattle.plan_model.specs.plan_meaning.SpelledPlan.{IsSpelling}
+use Rattle.plan_model.proofs.plan_meaning.examples.RowValues.{always, nothing}
+use Rattle.plan_model.proofs.plan_meaning.examples.CompiledValues.{smallest_is_compiled, empty_is_compiled, tail_recursion_is_compiled, seeing_is_compiled, waiting_is_compiled}
+use Rattle.plan_model.proofs.plan_meaning.examples.CompiledRows.{late_check_is_compiled, tested_method_is_compiled, guarded_is_compiled, free_variable_is_compiled}
+use Rattle.plan_model.proofs.plan_meaning.examples.SmallestRow as Smallest
+use Rattle.plan_model.proofs.plan_meaning.examples.SmallestRow.{smallest}
+use Rattle.plan_model.proofs.plan_meaning.examples.EmptyRow as Empty
+use Rattle.plan_model.proofs.plan_meaning.examples.EmptyRow.{empty}
+use Rattle.plan_model.proofs.plan_meaning.examples.TailRecursionRow as Tail
+use Rattle.plan_model.proofs.plan_meaning.examples.TailRecursionRow.{tail_recursion}
+use Rattle.plan_model.proofs.plan_meaning.examples.AllObjectsSolution as All
+use Rattle.plan_model.proofs.plan_meaning.examples.AllObjectsSolution.{seeing, all_objects}
+use Rattle.plan_model.proofs.plan_meaning.examples.WaitingRow as Waiting
+use Rattle.plan_model.proofs.plan_meaning.examples.WaitingRow.{waiting}
+use Rattle.plan_model.proofs.plan_meaning.examples.LateCheckRow as Late
+use Rattle.plan_model.proofs.plan_meaning.examples.LateCheckRow.{late_hddl, late_check}
+use Rattle.plan_model.proofs.plan_meaning.examples.TestedMethodRow as Tested
+use Rattle.plan_model.proofs.plan_meaning.examples.TestedMethodRow.{tested_method}
+use Rattle.plan_model.proofs.plan_meaning.examples.FreeVariableRow as Free
+use Rattle.plan_model.proofs.plan_meaning.examples.FreeVariableRow.{free_variable}
+use Rattle.plan_model.proofs.plan_meaning.examples.GuardRow as Guard
+use Rattle.plan_model.proofs.plan_meaning.examples.GuardRow.{guard_hddl, guarded}
 use Rattle.plan_proof.specs.Faithful.{IsFaithfulValue}
 use Rattle.plan_proof.proofs.machine.PrintedMeans.{printed_faithful}
 use Rattle.plan_proof.proofs.examples.SoundChecks.{HasSoundFormulas, sound_by, ordered_by, sound-Holds, sound-And, sound-Forall, sound-Add, sound-Both}

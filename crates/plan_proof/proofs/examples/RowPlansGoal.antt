@@ -7,27 +7,27 @@ use Rattle.plan_model.specs.declared.formulas.Formula.TheVariants.{Holds}
 use Rattle.plan_model.specs.declared.options.Checks.{Checks}
 use Rattle.plan_model.specs.declared.options.Checks.TheVariants.{Leaf}
 use Rattle.plan_model.specs.declared.values.Compiled.{Compiled}
-use Rattle.task_networks.specs.Tree.{Tree, Label, split, more, done, none, ran, used}
-use Rattle.task_networks.specs.Front.{IsFront}
-use Rattle.task_networks.specs.Executable.{last_state}
-use Rattle.task_networks.specs.Spelling.{apply, run}
-use Rattle.task_networks.proofs.Lists.{not-in_empty}
+use Rattle.plan_model.specs.task_networks.Tree.{Tree, Label, split, more, done, none, ran, used}
+use Rattle.plan_model.specs.task_networks.Front.{IsFront}
+use Rattle.plan_model.specs.task_networks.Executable.{last_state}
+use Rattle.plan_model.specs.task_networks.Spelling.{apply, run}
+use Rattle.plan_model.proofs.task_networks.Lists.{not-in_empty}
 use Rattle.plan_texts.specs.SpellsHddl.{hddl_words}
 use Rattle.plan_texts.specs.SoundValue.{arities}
-use Rattle.plan_meaning.specs.ClassicalPlan.{IsExecutable, IsPlan}
-use Rattle.plan_meaning.specs.Compilation.{IsCompiled}
-use Rattle.plan_meaning.specs.Truth.{State, ground, IsTrueIn, after}
-use Rattle.plan_meaning.specs.Network.{action, InTypeOf, network, IsGroundMethod}
-use Rattle.plan_meaning.specs.Solution.{top_work, initial, Allows, next, IsGoal, IsSolution, IsExecutableFront}
-use Rattle.plan_meaning.specs.SpelledPlan.{IsSpelling}
-use Rattle.plan_meaning.proofs.TruthEquations.{truth-Holds}
-use Rattle.plan_meaning.proofs.EffectEquations.{adds-And}
-use Rattle.plan_meaning.proofs.examples.TruthExamples.{to}
-use Rattle.plan_meaning.proofs.examples.PlanKinds.{plain, none_rise}
-use Rattle.plan_meaning.proofs.examples.RowValues.{always, nothing, problem, task_schema, action_schema, uses}
-use Rattle.plan_meaning.proofs.examples.RowWords.{step, slot_1}
-use Rattle.plan_meaning.proofs.examples.RowChecks.{always_true, untested, same_labels, ground_by, front_by, spelling_by}
-use Rattle.plan_meaning.proofs.examples.SmallestRow.{smallest, smallest_names, smallest_top, smallest_method, order, steps}
+use Rattle.plan_model.specs.plan_meaning.ClassicalPlan.{IsExecutable, IsPlan}
+use Rattle.plan_model.specs.plan_meaning.Compilation.{IsCompiled}
+use Rattle.plan_model.specs.plan_meaning.Truth.{State, ground, IsTrueIn, after}
+use Rattle.plan_model.specs.plan_meaning.Network.{action, InTypeOf, network, IsGroundMethod}
+use Rattle.plan_model.specs.plan_meaning.Solution.{top_work, initial, Allows, next, IsGoal, IsSolution, IsExecutableFront}
+use Rattle.plan_model.specs.plan_meaning.SpelledPlan.{IsSpelling}
+use Rattle.plan_model.proofs.plan_meaning.TruthEquations.{truth-Holds}
+use Rattle.plan_model.proofs.plan_meaning.EffectEquations.{adds-And}
+use Rattle.plan_model.proofs.plan_meaning.examples.TruthExamples.{to}
+use Rattle.plan_model.proofs.plan_meaning.examples.PlanKinds.{plain, none_rise}
+use Rattle.plan_model.proofs.plan_meaning.examples.RowValues.{always, nothing, problem, task_schema, action_schema, uses}
+use Rattle.plan_model.proofs.plan_meaning.examples.RowWords.{step, slot_1}
+use Rattle.plan_model.proofs.plan_meaning.examples.RowChecks.{always_true, untested, same_labels, ground_by, front_by, spelling_by}
+use Rattle.plan_model.proofs.plan_meaning.examples.SmallestRow.{smallest, smallest_names, smallest_top, smallest_method, order, steps}
 use Rattle.plan_proof.proofs.examples.SoundChecks.{HasSoundFormulas, sound_by, ordered_by, sound-Holds}
 use Rattle.plan_proof.proofs.examples.RowPlans.{OfEachPrinted, IsLawfulRow, sound_always, sound_nothing, front_executable}
 use Rattle.plan_proof.proofs.examples.RowPlansRefused.{no_solution_no_plan}

@@ -4,23 +4,23 @@ use Rattle.std.specs.Prelude.{codes}
 use Rattle.plan_model.specs.declared.options.Checks.TheVariants.{Leaf}
 use Rattle.plan_model.specs.declared.schemas.MethodPlan.{MethodPlan}
 use Rattle.plan_model.specs.declared.steps.GroundAction.{GroundAction}
-use Rattle.task_networks.specs.Net.{Net}
-use Rattle.task_networks.specs.Spelling.{Act, apply, run, others, Spells}
-use Rattle.task_networks.specs.Lawful.{IsLawful}
-use Rattle.task_networks.proofs.ScheduleLaws.{prepared_is_lawful}
+use Rattle.plan_model.specs.task_networks.Net.{Net}
+use Rattle.plan_model.specs.task_networks.Spelling.{Act, apply, run, others, Spells}
+use Rattle.plan_model.specs.task_networks.Lawful.{IsLawful}
+use Rattle.plan_model.proofs.task_networks.ScheduleLaws.{prepared_is_lawful}
 use Rattle.slot_machine.specs.Machine.{SlotState, start, after_act, Runs}
 use Rattle.slot_machine.proofs.SpellingRuns.{runs_from_spells}
-use Rattle.plan_meaning.specs.ClassicalPlan.{IsPlan}
-use Rattle.plan_meaning.specs.Truth.{AreTyped}
-use Rattle.plan_meaning.specs.Network.{Work, action, check, task, GroundMethod, network, IsPrimitive, InTypeOf, IsGroundMethod}
-use Rattle.plan_meaning.specs.Solution.{top_work}
-use Rattle.plan_meaning.specs.SpelledPlan.{step_of}
-use Rattle.plan_meaning.proofs.CompiledNetworks.{prepared}
-use Rattle.plan_meaning.proofs.examples.CompiledValues.{empty_is_compiled}
-use Rattle.plan_meaning.proofs.examples.Unequal.{less}
-use Rattle.plan_meaning.proofs.examples.RowValues.{method_plan, uses}
-use Rattle.plan_meaning.proofs.examples.RowWords.{step, slot_1}
-use Rattle.plan_meaning.proofs.examples.EmptyRow.{empty, steps}
+use Rattle.plan_model.specs.plan_meaning.ClassicalPlan.{IsPlan}
+use Rattle.plan_model.specs.plan_meaning.Truth.{AreTyped}
+use Rattle.plan_model.specs.plan_meaning.Network.{Work, action, check, task, GroundMethod, network, IsPrimitive, InTypeOf, IsGroundMethod}
+use Rattle.plan_model.specs.plan_meaning.Solution.{top_work}
+use Rattle.plan_model.specs.plan_meaning.SpelledPlan.{step_of}
+use Rattle.plan_model.proofs.plan_meaning.CompiledNetworks.{prepared}
+use Rattle.plan_model.proofs.plan_meaning.examples.CompiledValues.{empty_is_compiled}
+use Rattle.plan_model.proofs.plan_meaning.examples.Unequal.{less}
+use Rattle.plan_model.proofs.plan_meaning.examples.RowValues.{method_plan, uses}
+use Rattle.plan_model.proofs.plan_meaning.examples.RowWords.{step, slot_1}
+use Rattle.plan_model.proofs.plan_meaning.examples.EmptyRow.{empty, steps}
 use Rattle.plan_proof.specs.Headline.{SpellsSolution}
 use Rattle.plan_proof.proofs.examples.RowPlans.{OfEachPrinted, row_faithful, empty_row}
 use Rattle.plan_proof.proofs.examples.RowPlansRefused.{no_steps}

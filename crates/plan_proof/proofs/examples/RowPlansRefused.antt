@@ -5,25 +5,25 @@ use Rattle.plan_model.specs.declared.options.Checks.{Checks}
 use Rattle.plan_model.specs.declared.options.Checks.TheVariants.{Leaf}
 use Rattle.plan_model.specs.declared.steps.GroundAction.{GroundAction}
 use Rattle.plan_model.specs.declared.values.Compiled.{Compiled}
-use Rattle.task_networks.specs.Tree.{Tree, Address, open_leaf, done, split, more, none, ran, used}
-use Rattle.task_networks.specs.Front.{IsFinished}
-use Rattle.task_networks.specs.Spelling.{Act, apply, AreActs}
-use Rattle.task_networks.proofs.Lists.{not-in_empty}
-use Rattle.plan_meaning.specs.ClassicalPlan.{IsExecutable, IsPlan}
-use Rattle.plan_meaning.specs.Network.{task, network}
-use Rattle.plan_meaning.specs.Solution.{top_work, IsSolution, IsExecutableFront}
-use Rattle.plan_meaning.specs.SpelledPlan.{step_of, IsSpelling}
-use Rattle.plan_meaning.proofs.examples.CompiledValues.{two_children_is_compiled, seeing_is_compiled}
-use Rattle.plan_meaning.proofs.examples.SmallestRow.{smallest, ground_0}
-use Rattle.plan_meaning.proofs.examples.SlotTakenRow.{two_children}
-use Rattle.plan_meaning.proofs.examples.SlotTakenTwice.{taken_steps, no_spelling}
-use Rattle.plan_meaning.proofs.examples.WaitingRow.{waiting}
-use Rattle.plan_meaning.proofs.examples.GuardRow.{guarded}
-use Rattle.plan_meaning.proofs.examples.RowValues.{uses}
-use Rattle.plan_meaning.proofs.examples.RowWords.{step, slot_1}
-use Rattle.plan_meaning.proofs.examples.RowChecks.{front_by, spelling_by}
-use Rattle.plan_meaning.proofs.examples.AllObjectsSolution as All
-use Rattle.plan_meaning.proofs.examples.AllObjectsSolution.{half_seen, half_seen_fails}
+use Rattle.plan_model.specs.task_networks.Tree.{Tree, Address, open_leaf, done, split, more, none, ran, used}
+use Rattle.plan_model.specs.task_networks.Front.{IsFinished}
+use Rattle.plan_model.specs.task_networks.Spelling.{Act, apply, AreActs}
+use Rattle.plan_model.proofs.task_networks.Lists.{not-in_empty}
+use Rattle.plan_model.specs.plan_meaning.ClassicalPlan.{IsExecutable, IsPlan}
+use Rattle.plan_model.specs.plan_meaning.Network.{task, network}
+use Rattle.plan_model.specs.plan_meaning.Solution.{top_work, IsSolution, IsExecutableFront}
+use Rattle.plan_model.specs.plan_meaning.SpelledPlan.{step_of, IsSpelling}
+use Rattle.plan_model.proofs.plan_meaning.examples.CompiledValues.{two_children_is_compiled, seeing_is_compiled}
+use Rattle.plan_model.proofs.plan_meaning.examples.SmallestRow.{smallest, ground_0}
+use Rattle.plan_model.proofs.plan_meaning.examples.SlotTakenRow.{two_children}
+use Rattle.plan_model.proofs.plan_meaning.examples.SlotTakenTwice.{taken_steps, no_spelling}
+use Rattle.plan_model.proofs.plan_meaning.examples.WaitingRow.{waiting}
+use Rattle.plan_model.proofs.plan_meaning.examples.GuardRow.{guarded}
+use Rattle.plan_model.proofs.plan_meaning.examples.RowValues.{uses}
+use Rattle.plan_model.proofs.plan_meaning.examples.RowWords.{step, slot_1}
+use Rattle.plan_model.proofs.plan_meaning.examples.RowChecks.{front_by, spelling_by}
+use Rattle.plan_model.proofs.plan_meaning.examples.AllObjectsSolution as All
+use Rattle.plan_model.proofs.plan_meaning.examples.AllObjectsSolution.{half_seen, half_seen_fails}
 use Rattle.plan_proof.specs.Headline.{SpellsSolution}
 use Rattle.plan_proof.proofs.examples.SoundChecks.{sound_by, ordered_by}
 use Rattle.plan_proof.proofs.examples.WaitingRefuted.{begins, splits, ran_p, ran_q, ends, y_waits_for_q, y_waits_for_p}

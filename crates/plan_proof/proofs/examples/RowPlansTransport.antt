@@ -9,12 +9,12 @@ use Rattle.plan_texts.specs.Declared.{Declared}
 use Rattle.plan_texts.specs.SpellsHddl.{hddl_words}
 use Rattle.plan_texts.specs.Printable.{IsSound, IsSoundEffect}
 use Rattle.plan_texts.specs.SoundValue.{arities}
-use Rattle.plan_meaning.specs.ClassicalPlan.{IsExecutable}
-use Rattle.plan_meaning.specs.SpelledPlan.{IsSpelling}
-use Rattle.plan_meaning.proofs.examples.RowChecks.{spelling_by}
-use Rattle.plan_meaning.proofs.examples.TransportValue.{transport, road, at, is_in}
-use Rattle.plan_meaning.proofs.examples.TransportCompiled.{transport_is_compiled}
-use Rattle.plan_meaning.proofs.examples.TransportRow.{tree, order, slot, acts, steps, in_words, front, executable}
+use Rattle.plan_model.specs.plan_meaning.ClassicalPlan.{IsExecutable}
+use Rattle.plan_model.specs.plan_meaning.SpelledPlan.{IsSpelling}
+use Rattle.plan_model.proofs.plan_meaning.examples.RowChecks.{spelling_by}
+use Rattle.plan_model.proofs.plan_meaning.examples.TransportValue.{transport, road, at, is_in}
+use Rattle.plan_model.proofs.plan_meaning.examples.TransportCompiled.{transport_is_compiled}
+use Rattle.plan_model.proofs.plan_meaning.examples.TransportRow.{tree, order, slot, acts, steps, in_words, front, executable}
 use Rattle.plan_proof.proofs.examples.SoundChecks.{HasSoundFormulas, is_atom, sound_by, ordered_by, sound-Holds, sound-And, sound-Add, sound-Delete, sound-Both}
 use Rattle.plan_proof.proofs.examples.RowPlans.{OfEachPrinted, IsLawfulRow, front_executable, sound_always}
 

@@ -21,9 +21,9 @@ use Rattle.slot_encoding.specs.SourceParts.{name, source_formula, source_effect}
 use Rattle.slot_encoding.specs.EncodedNames.{encoded_objects}
 use Rattle.slot_encoding.specs.EncodedActions.{no_part, is_empty, no_effect, is_empty_effect, source_condition, source_change}
 use Rattle.slot_encoding.specs.EncodedValue.{encoded_actions, IsEncoded}
-use Rattle.plan_meaning.proofs.examples.RowValues.{always, nothing}
-use Rattle.plan_meaning.proofs.examples.RowWords.{slot_1}
-use Rattle.plan_meaning.proofs.examples.SmallestRow.{smallest, smallest_names, smallest_hddl, steps}
+use Rattle.plan_model.proofs.plan_meaning.examples.RowValues.{always, nothing}
+use Rattle.plan_model.proofs.plan_meaning.examples.RowWords.{slot_1}
+use Rattle.plan_model.proofs.plan_meaning.examples.SmallestRow.{smallest, smallest_names, smallest_hddl, steps}
 use Rattle.plan_proof.specs.Headline.{IsFaithful, SpellsSolution}
 use Rattle.plan_proof.proofs.examples.SmallestPlan.{plan_row}
 use Rattle.slot_encoding.specs.Printed.{IsPrinted}

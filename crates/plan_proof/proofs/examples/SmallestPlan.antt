@@ -15,16 +15,16 @@ use Rattle.plan_model.specs.declared.effects.Effect.TheVariants.{Add, Delete, ro
 use Rattle.plan_model.specs.declared.schemas.ActionSchema.{ActionSchema}
 use Rattle.plan_model.specs.declared.steps.GroundAction.{GroundAction}
 use Rattle.plan_model.specs.Typing.{stay}
-use Rattle.plan_meaning.specs.Truth.{State, ground, AreTyped, truth_step, IsTrueIn, adds_step, Adds, after}
-use Rattle.plan_meaning.specs.ClassicalPlan.{InTypeOf, IsPlan}
+use Rattle.plan_model.specs.plan_meaning.Truth.{State, ground, AreTyped, truth_step, IsTrueIn, adds_step, Adds, after}
+use Rattle.plan_model.specs.plan_meaning.ClassicalPlan.{InTypeOf, IsPlan}
 use Rattle.plan_texts.specs.PrintedTexts.{domain_text}
 use Rattle.plan_texts.proofs.PrintedSpells.{printed_spells}
 use Rattle.plan_texts.proofs.examples.SmallestRow.{h, x, wait, held, turned, freed, all_free, smallest, domain_bytes, problem_bytes, domain_row, problem_row}
 use Rattle.plan_texts.proofs.examples.SmallestPrintable.{smallest_printable}
 use Rattle.plan_proof.specs.TextPlans.{IsPlanOf}
 use Rattle.plan_texts.proofs.Members.{contains-has}
-use Rattle.plan_meaning.proofs.TruthEquations.{truth_roll}
-use Rattle.plan_meaning.proofs.EffectEquations.{adds_roll}
+use Rattle.plan_model.proofs.plan_meaning.TruthEquations.{truth_roll}
+use Rattle.plan_model.proofs.plan_meaning.EffectEquations.{adds_roll}
 
 abbrev T : ℕ → ℕ → Type 0
 T = InTypeOf smallest

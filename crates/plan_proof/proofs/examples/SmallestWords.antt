@@ -8,8 +8,8 @@ use Rattle.plan_texts.specs.PrintableValue.{IsPrintable}
 use Rattle.plan_texts.proofs.Members.{each-has, has-at, contains-has, has-contains}
 use Rattle.plan_texts.proofs.examples.SmallestRow.{smallest as printed}
 use Rattle.slot_encoding.specs.EncodedValue.{first_atoms}
-use Rattle.plan_meaning.proofs.examples.SmallestRow.{smallest}
-use Rattle.encoded_texts.proofs.examples.AllWords.{all_words, smallest_words}
+use Rattle.plan_model.proofs.plan_meaning.examples.SmallestRow.{smallest}
+use Rattle.slot_encoding.proofs.encoded_texts.examples.AllWords.{all_words, smallest_words}
 use Rattle.plan_proof.proofs.examples.SmallestFaithful.{smallest_is_printed}
 use Rattle.slot_encoding.specs.EncodedWords.{HasEncodedWords}
 use Rattle.slot_encoding.specs.Numberable.{IsNumberable}

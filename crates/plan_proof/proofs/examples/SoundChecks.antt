@@ -41,14 +41,14 @@ use Rattle.plan_texts.proofs.DifferentWords.{are_different, different_by}
 use Rattle.plan_texts.proofs.Members.{contains-has, has-contains}
 use Rattle.plan_texts.proofs.Spelled.{sound_roll}
 use Rattle.plan_texts.proofs.SpelledEffects.{sound_roll as effect-sound_roll}
-use Rattle.task_networks.specs.Spelling.{numbers}
-use Rattle.task_networks.proofs.Numbers.{to_numbers}
-use Rattle.task_networks.proofs.PendingNodes.{both}
-use Rattle.task_networks.proofs.Tests.{all_to, any_to}
+use Rattle.plan_model.specs.task_networks.Spelling.{numbers}
+use Rattle.plan_model.proofs.task_networks.Numbers.{to_numbers}
+use Rattle.plan_model.proofs.task_networks.PendingNodes.{both}
+use Rattle.plan_model.proofs.task_networks.Tests.{all_to, any_to}
 use Rattle.plan_model.specs.Pairs.{pair, Pairs}
-use Rattle.plan_meaning.specs.Laws.{AreOrdered}
-use Rattle.plan_meaning.proofs.examples.Unequal.{lt_to}
-use Rattle.plan_meaning.proofs.examples.PlanChecks.{climbs}
+use Rattle.plan_model.specs.plan_meaning.Laws.{AreOrdered}
+use Rattle.plan_model.proofs.plan_meaning.examples.Unequal.{lt_to}
+use Rattle.plan_model.proofs.plan_meaning.examples.PlanChecks.{climbs}
 
 -- a test of each item
 pub each_by : {X : Type 0} (test : X → Bool) (P : X → Type 0) → ((x : X) → test x ≡ true → P x) → (xs : List X) → list_all test xs ≡ true → EachIs P xs

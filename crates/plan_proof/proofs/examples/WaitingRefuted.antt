@@ -5,21 +5,21 @@ use Rattle.std.proofs.lemmas.Fmt.{decimal_injective}
 use Rattle.htn_base.specs.Escapes.{slot_word}
 use Rattle.plan_model.specs.declared.options.Checks.TheVariants.{Leaf}
 use Rattle.plan_model.specs.declared.steps.GroundAction.{GroundAction}
-use Rattle.task_networks.specs.Lawful.{IsLawful}
-use Rattle.task_networks.proofs.ScheduleLaws.{prepared_is_lawful}
-use Rattle.task_networks.specs.Net.{Net, count}
-use Rattle.task_networks.specs.Tree.{Tree, Address, Label, label_at, used, ran}
-use Rattle.task_networks.specs.Spelling.{Act, apply, run, others, AreActs, Spells}
+use Rattle.plan_model.specs.task_networks.Lawful.{IsLawful}
+use Rattle.plan_model.proofs.task_networks.ScheduleLaws.{prepared_is_lawful}
+use Rattle.plan_model.specs.task_networks.Net.{Net, count}
+use Rattle.plan_model.specs.task_networks.Tree.{Tree, Address, Label, label_at, used, ran}
+use Rattle.plan_model.specs.task_networks.Spelling.{Act, apply, run, others, AreActs, Spells}
 use Rattle.slot_machine.specs.Machine.{SlotState, start, after_act, Runs, IsSlotOf}
 use Rattle.slot_machine.proofs.SpellingRuns.{runs_from_spells}
-use Rattle.plan_meaning.specs.Network.{Work, action, check, task, GroundMethod, network}
-use Rattle.plan_meaning.specs.Solution.{top_work}
-use Rattle.plan_meaning.specs.SpelledPlan.{step_of, work_name, method_name, object_word, IsSpelling}
-use Rattle.plan_meaning.proofs.CompiledNetworks.{prepared}
-use Rattle.plan_meaning.proofs.examples.CompiledValues.{waiting_is_compiled}
-use Rattle.plan_meaning.proofs.examples.Unequal.{less}
-use Rattle.plan_meaning.proofs.examples.RowWords.{step}
-use Rattle.plan_meaning.proofs.examples.WaitingRow.{waiting}
+use Rattle.plan_model.specs.plan_meaning.Network.{Work, action, check, task, GroundMethod, network}
+use Rattle.plan_model.specs.plan_meaning.Solution.{top_work}
+use Rattle.plan_model.specs.plan_meaning.SpelledPlan.{step_of, work_name, method_name, object_word, IsSpelling}
+use Rattle.plan_model.proofs.plan_meaning.CompiledNetworks.{prepared}
+use Rattle.plan_model.proofs.plan_meaning.examples.CompiledValues.{waiting_is_compiled}
+use Rattle.plan_model.proofs.plan_meaning.examples.Unequal.{less}
+use Rattle.plan_model.proofs.plan_meaning.examples.RowWords.{step}
+use Rattle.plan_model.proofs.plan_meaning.examples.WaitingRow.{waiting}
 use Rattle.plan_proof.proofs.examples.SoundChecks.{ordered_by}
 
 abbrev N : Net

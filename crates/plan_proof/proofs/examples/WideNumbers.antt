@@ -10,7 +10,7 @@ use Rattle.plan_texts.specs.Declared.{named}
 use Rattle.htn_base.specs.Different.{AreDifferent}
 use Rattle.plan_texts.specs.SoundValue.{IsSoundHddl}
 use Rattle.plan_texts.specs.PrintableValue.{IsPrintable}
-use Rattle.task_networks.specs.Spelling.{numbers}
+use Rattle.plan_model.specs.task_networks.Spelling.{numbers}
 use Rattle.slot_encoding.specs.EncodedValue.{IsEncoded}
 use Rattle.slot_encoding.proofs.places.ListPlaces.{get_to_map, to_get_numbers}
 use Rattle.plan_proof.proofs.machine.ObjectWords.{same_get}

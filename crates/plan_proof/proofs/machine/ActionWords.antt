@@ -10,15 +10,15 @@ use Rattle.plan_model.specs.declared.schemas.MethodPlan.{MethodPlan}
 use Rattle.plan_model.specs.declared.values.Hddl.{Hddl}
 use Rattle.plan_model.specs.declared.values.Compiled.{Compiled}
 use Rattle.plan_model.specs.declared.values.Pddl.{Pddl}
-use Rattle.task_networks.specs.Spelling.{numbers}
-use Rattle.task_networks.proofs.Numbers.{length-numbers}
+use Rattle.plan_model.specs.task_networks.Spelling.{numbers}
+use Rattle.plan_model.proofs.task_networks.Numbers.{length-numbers}
 use Rattle.text_forms.specs.Words.{Word, is_name}
 use Rattle.plan_texts.specs.Declared.{named}
 use Rattle.plan_texts.specs.Types.{EachIs}
 use Rattle.plan_texts.specs.Printable.{IsPlain}
 use Rattle.slot_encoding.proofs.places.Places.{get-word, each-at-some}
-use Rattle.plan_meaning.specs.SpelledPlan.{action_by, method_by, method_name, work_name}
-use Rattle.plan_meaning.specs.Network.{action, check}
+use Rattle.plan_model.specs.plan_meaning.SpelledPlan.{action_by, method_by, method_name, work_name}
+use Rattle.plan_model.specs.plan_meaning.Network.{action, check}
 use Rattle.slot_encoding.specs.SourceParts.{name}
 use Rattle.slot_encoding.specs.EncodedNames.{slot_type, slot_param}
 use Rattle.slot_encoding.specs.EncodedActions.{spare, encoded_method, encoded_check, encoded_action, method_word}

@@ -5,7 +5,7 @@ use Rattle.plan_model.specs.declared.options.Style.{Style}
 use Rattle.plan_model.specs.declared.terms.GroundAtom.{GroundAtom}
 use Rattle.plan_model.specs.declared.values.Compiled.{Compiled}
 use Rattle.plan_model.specs.declared.values.Pddl.{Pddl}
-use Rattle.plan_meaning.specs.Network.{Work, action, check, task}
+use Rattle.plan_model.specs.plan_meaning.Network.{Work, action, check, task}
 use Rattle.slot_encoding.specs.EncodedNames.{free_predicate, before_predicate, guard_predicate, first_slot}
 use Rattle.slot_encoding.specs.EncodedValue.{atom}
 use Rattle.slot_encoding.proofs.Pieces.{PredicatesDiffer, IsNumbered, slot_object, IsSlot, IsSlotObject}

@@ -3,9 +3,9 @@ use Rattle.std.proofs.Common.{ℕ, ◌≤◌, List, arith}
 use Rattle.plan_model.specs.declared.options.Checks.{Checks}
 use Rattle.plan_model.specs.declared.values.Hddl.{Hddl}
 use Rattle.plan_model.specs.declared.values.Compiled.{Compiled}
-use Rattle.plan_meaning.specs.Compilation.{IsCompiled}
-use Rattle.plan_meaning.specs.Bound.{IsBound}
-use Rattle.bound_laws.proofs.EveryFront.{every_front_is_within}
+use Rattle.plan_model.specs.plan_meaning.Compilation.{IsCompiled}
+use Rattle.plan_model.specs.plan_meaning.Bound.{IsBound}
+use Rattle.slot_machine.proofs.bound_laws.EveryFront.{every_front_is_within}
 use Rattle.plan_proof.specs.Headline.{IsFaithful, LosesNothing}
 
 module _ (h : Hddl) (mode : Checks) (c : Compiled) (compiled : IsCompiled h mode c) (n : ℕ) (bound : IsBound c n) where

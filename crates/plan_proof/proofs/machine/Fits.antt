@@ -13,15 +13,15 @@ use Rattle.plan_model.specs.declared.schemas.MethodPlan.{MethodPlan}
 use Rattle.plan_model.specs.declared.schemas.Predicate.{Predicate}
 use Rattle.plan_model.specs.declared.values.Hddl.{Hddl}
 use Rattle.plan_model.specs.declared.values.Compiled.{Compiled}
-use Rattle.task_networks.specs.Spelling.{numbers}
-use Rattle.task_networks.proofs.Lists.{head_or_tail}
+use Rattle.plan_model.specs.task_networks.Spelling.{numbers}
+use Rattle.plan_model.proofs.task_networks.Lists.{head_or_tail}
 use Rattle.plan_texts.specs.Types.{EachIs}
 use Rattle.plan_texts.specs.SpellsHddl.{hddl_words}
 use Rattle.plan_texts.specs.Printable.{IsSound, IsSoundEffect}
 use Rattle.plan_texts.specs.SoundValue.{IsSoundHddl, IsSoundMethod, IsSoundHead, IsSoundChild, scope_of, arities}
 use Rattle.plan_texts.proofs.Members.{each-has, contains-has}
-use Rattle.plan_meaning.specs.Compilation.{IsCompiled, IsMethodPlan, children, check_child}
-use Rattle.plan_meaning.proofs.CompiledNetworks.{plan_of}
+use Rattle.plan_model.specs.plan_meaning.Compilation.{IsCompiled, IsMethodPlan, children, check_child}
+use Rattle.plan_model.proofs.plan_meaning.CompiledNetworks.{plan_of}
 use Rattle.slot_encoding.proofs.places.ListPlaces.{get_contains}
 use Rattle.plan_proof.proofs.machine.Facts.{FitsTogether}
 use Rattle.plan_texts.specs.Declared.{named}

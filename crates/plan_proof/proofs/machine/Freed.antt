@@ -6,8 +6,8 @@ use Rattle.plan_model.specs.declared.values.Compiled.{Compiled}
 use Rattle.plan_model.specs.declared.values.Pddl.{Pddl}
 use Rattle.slot_machine.specs.Machine as Machine
 use Rattle.slot_machine.specs.OtherMachine.{AreSame}
-use Rattle.plan_meaning.specs.Truth.{State}
-use Rattle.plan_meaning.specs.Network.{Work, network, InTypeOf}
+use Rattle.plan_model.specs.plan_meaning.Truth.{State}
+use Rattle.plan_model.specs.plan_meaning.Network.{Work, network, InTypeOf}
 use Rattle.slot_encoding.specs.EncodedNames.{guard_types, guard_predicate}
 use Rattle.slot_encoding.specs.EncodedValue.{atom}
 use Rattle.slot_encoding.proofs.Pieces.{PredicatesDiffer, slot_object, IsSlot, IsSlotObject}

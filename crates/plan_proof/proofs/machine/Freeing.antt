@@ -11,13 +11,13 @@ use Rattle.plan_model.specs.declared.effects.Effect.TheVariants as E
 use Rattle.plan_model.specs.declared.values.Compiled.{Compiled}
 use Rattle.plan_model.specs.declared.values.Pddl.{Pddl}
 use Rattle.slot_machine.specs.Machine as Machine
-use Rattle.plan_meaning.specs.Truth.{State, ground, EachTrue, OneTrue, IsTrueIn, Adds, Deletes, after}
-use Rattle.plan_meaning.specs.ClassicalPlan as Printed
-use Rattle.plan_meaning.specs.Network.{Work, network}
+use Rattle.plan_model.specs.plan_meaning.Truth.{State, ground, EachTrue, OneTrue, IsTrueIn, Adds, Deletes, after}
+use Rattle.plan_model.specs.plan_meaning.ClassicalPlan as Printed
+use Rattle.plan_model.specs.plan_meaning.Network.{Work, network}
 use Rattle.slot_encoding.specs.EncodedNames.{before_predicate, order_numbers}
 use Rattle.slot_encoding.specs.EncodedActions.{is_free, waiting, freeing}
-use Rattle.plan_meaning.proofs.TruthEquations.{truth-And, truth-Holds}
-use Rattle.plan_meaning.proofs.EffectEquations.{adds-And, adds-Add, adds-Delete, deletes-And, deletes-Add, deletes-Delete}
+use Rattle.plan_model.proofs.plan_meaning.TruthEquations.{truth-And, truth-Holds}
+use Rattle.plan_model.proofs.plan_meaning.EffectEquations.{adds-And, adds-Add, adds-Delete, deletes-And, deletes-Add, deletes-Delete}
 use Rattle.slot_encoding.specs.OrderMeaning.{OrderMeaning}
 use Rattle.slot_encoding.proofs.Pieces.{PredicatesDiffer, slot_object, IsSlot, IsSlotObject}
 use Rattle.plan_proof.proofs.machine.Reading.{IsKnown, held, free_atom, before_atom, Reads}

@@ -10,19 +10,19 @@ use Rattle.plan_model.specs.declared.values.Compiled.{Compiled}
 use Rattle.plan_model.specs.declared.values.Pddl.{Pddl}
 use Rattle.std.proofs.lemmas.List.{length-map}
 use Rattle.std.proofs.lemmas.List.Elements.{Contains-append_left, Contains-append_right}
-use Rattle.task_networks.specs.Spelling.{numbers}
-use Rattle.task_networks.proofs.Lists.{not-in_empty, head_or_tail}
-use Rattle.task_networks.proofs.Numbers.{to_numbers}
+use Rattle.plan_model.specs.task_networks.Spelling.{numbers}
+use Rattle.plan_model.proofs.task_networks.Lists.{not-in_empty, head_or_tail}
+use Rattle.plan_model.proofs.task_networks.Numbers.{to_numbers}
 use Rattle.plan_texts.specs.Declared.{named}
 use Rattle.plan_texts.specs.SpellsHddl.{hddl_words}
 use Rattle.plan_texts.specs.Printable.{IsSoundAtom}
 use Rattle.plan_texts.specs.SoundValue.{IsSoundHddl, arities}
 use Rattle.plan_texts.proofs.Members.{each-has, contains-has}
-use Rattle.plan_meaning.specs.Network.{InTypeOf}
-use Rattle.plan_meaning.specs.Compilation.{once}
+use Rattle.plan_model.specs.plan_meaning.Network.{InTypeOf}
+use Rattle.plan_model.specs.plan_meaning.Compilation.{once}
 use Rattle.slot_encoding.specs.EncodedNames.{guard_types, first_slot, first_guard, top_predicate, free_predicate, guard_predicate}
 use Rattle.slot_encoding.specs.EncodedValue.{same_atom, atom, first_atoms, AreGuardAtoms, IsInitial}
-use Rattle.plan_meaning.proofs.Pairs.{once_to, map_to, append_to}
+use Rattle.plan_model.proofs.plan_meaning.Pairs.{once_to, map_to, append_to}
 use Rattle.slot_encoding.specs.Printed.{IsPrinted}
 use Rattle.slot_encoding.proofs.Pieces.{GuardAtomsAgree}
 use Rattle.slot_encoding.proofs.places.ListPlaces.{get_within}

@@ -4,14 +4,14 @@ use Rattle.plan_model.specs.declared.options.Style.{Style}
 use Rattle.plan_model.specs.declared.schemas.ActionSchema.{ActionSchema}
 use Rattle.plan_model.specs.declared.values.Compiled.{Compiled}
 use Rattle.plan_model.specs.declared.values.Pddl.{Pddl}
-use Rattle.task_networks.specs.Net.{Net}
-use Rattle.task_networks.specs.Spelling.{Act, run, apply, others}
+use Rattle.plan_model.specs.task_networks.Net.{Net}
+use Rattle.plan_model.specs.task_networks.Spelling.{Act, run, apply, others}
 use Rattle.slot_machine.specs.Machine as Machine
 use Rattle.slot_machine.specs.Machine.{May, Runs, start, with_heir}
 use Rattle.slot_machine.proofs.Inserts.{insert_cases}
-use Rattle.plan_meaning.specs.Truth.{AreTyped}
-use Rattle.plan_meaning.specs.Network.{Work, action, check, task, IsGroundMethod, network, InTypeOf}
-use Rattle.plan_meaning.specs.Solution.{top_work}
+use Rattle.plan_model.specs.plan_meaning.Truth.{AreTyped}
+use Rattle.plan_model.specs.plan_meaning.Network.{Work, action, check, task, IsGroundMethod, network, InTypeOf}
+use Rattle.plan_model.specs.plan_meaning.Solution.{top_work}
 use Rattle.slot_encoding.specs.EncodedActions.{encoded_method, encoded_check, encoded_action}
 use Rattle.slot_encoding.proofs.Pieces.{slot_object, IsSlot, IsActBy}
 use Rattle.plan_proof.proofs.machine.Reading.{IsKnown}

@@ -9,13 +9,13 @@ use Rattle.plan_model.specs.declared.networks.Head.TheVariants.{Task, Action, Ch
 use Rattle.plan_model.specs.declared.networks.Child.{Child}
 use Rattle.plan_model.specs.declared.schemas.MethodPlan.{MethodPlan}
 use Rattle.plan_model.specs.declared.values.Compiled.{Compiled}
-use Rattle.task_networks.specs.Net.{Net, count}
-use Rattle.task_networks.specs.Lawful.{IsLawful}
-use Rattle.task_networks.specs.Spelling.{others}
+use Rattle.plan_model.specs.task_networks.Net.{Net, count}
+use Rattle.plan_model.specs.task_networks.Lawful.{IsLawful}
+use Rattle.plan_model.specs.task_networks.Spelling.{others}
 use Rattle.slot_machine.proofs.OtherChildren.{rest_of, length-rest}
-use Rattle.plan_meaning.specs.Truth.{values_of, AreTyped}
-use Rattle.plan_meaning.specs.Network.{Work, GroundMethod, network, InTypeOf, IsDeclared, ground_work, child_of}
-use Rattle.plan_meaning.proofs.MethodParts.{head_by, works_by}
+use Rattle.plan_model.specs.plan_meaning.Truth.{values_of, AreTyped}
+use Rattle.plan_model.specs.plan_meaning.Network.{Work, GroundMethod, network, InTypeOf, IsDeclared, ground_work, child_of}
+use Rattle.plan_model.proofs.plan_meaning.MethodParts.{head_by, works_by}
 use Rattle.plan_proof.proofs.machine.Reading.{IsKnown}
 use Rattle.plan_proof.proofs.machine.Facts.{FitsTogether}
 use Rattle.slot_encoding.proofs.places.ListPlaces.{get_map_cases, get_contains}

@@ -14,19 +14,19 @@ use Rattle.plan_model.specs.declared.schemas.MethodPlan.{MethodPlan}
 use Rattle.plan_model.specs.declared.values.Compiled.{Compiled}
 use Rattle.plan_model.specs.declared.values.Pddl.{Pddl}
 use Rattle.htn_base.specs.Different.{AreDifferent}
-use Rattle.task_networks.specs.Spelling.{numbers}
-use Rattle.task_networks.proofs.Lists.{Contains-here, Contains-later}
+use Rattle.plan_model.specs.task_networks.Spelling.{numbers}
+use Rattle.plan_model.proofs.task_networks.Lists.{Contains-here, Contains-later}
 use Rattle.slot_machine.specs.Machine as Machine
-use Rattle.plan_meaning.specs.Truth.{State, ground, value_of, values_of, AreTyped, EachTrue, IsTrueIn}
-use Rattle.plan_meaning.specs.Network.{task, GroundMethod, network, InTypeOf, Meets}
+use Rattle.plan_model.specs.plan_meaning.Truth.{State, ground, value_of, values_of, AreTyped, EachTrue, IsTrueIn}
+use Rattle.plan_model.specs.plan_meaning.Network.{task, GroundMethod, network, InTypeOf, Meets}
 use Rattle.slot_encoding.specs.SourceParts.{moved}
 use Rattle.slot_encoding.specs.EncodedNames.{free_predicate, guard_predicate, task_predicate}
 use Rattle.slot_encoding.specs.EncodedValue.{atom}
 use Rattle.slot_encoding.specs.EncodedActions.{is_free, waiting, spare, front, depth, differ, test, held_task, constraints, guards, tested, source_condition, encoded_method}
-use Rattle.plan_meaning.proofs.TruthEquations.{truth-Holds, truth-Not, truth-Equal}
+use Rattle.plan_model.proofs.plan_meaning.TruthEquations.{truth-Holds, truth-Not, truth-Equal}
 use Rattle.slot_encoding.proofs.Pieces.{SourceMeaning, slot_object, IsSlot}
 use Rattle.plan_proof.proofs.machine.Reading.{held, free_atom, Reads}
-use Rattle.plan_meaning.proofs.EachPart.{each_map}
+use Rattle.plan_model.proofs.plan_meaning.EachPart.{each_map}
 use Rattle.slot_encoding.proofs.places.Sums.{each-append, mapped, map-numbers, value-moved, values-moved}
 use Rattle.plan_proof.proofs.machine.Atoms.{one_slot}
 use Rattle.plan_proof.proofs.machine.Facts.{PiecesMean}

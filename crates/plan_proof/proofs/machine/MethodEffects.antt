@@ -14,23 +14,23 @@ use Rattle.plan_model.specs.declared.networks.Pair.{Pair}
 use Rattle.plan_model.specs.declared.schemas.MethodPlan.{MethodPlan}
 use Rattle.plan_model.specs.declared.values.Compiled.{Compiled}
 use Rattle.plan_model.specs.declared.values.Pddl.{Pddl}
-use Rattle.task_networks.specs.Net.{Net, count}
-use Rattle.task_networks.specs.Spelling.{numbers}
-use Rattle.task_networks.proofs.Lists.{head_or_tail, not-in_empty, Contains-here, Contains-later}
-use Rattle.task_networks.proofs.Numbers.{length-numbers}
+use Rattle.plan_model.specs.task_networks.Net.{Net, count}
+use Rattle.plan_model.specs.task_networks.Spelling.{numbers}
+use Rattle.plan_model.proofs.task_networks.Lists.{head_or_tail, not-in_empty, Contains-here, Contains-later}
+use Rattle.plan_model.proofs.task_networks.Numbers.{length-numbers}
 use Rattle.slot_machine.specs.Machine.{insert_at, with_heir, IsSlotOf}
 use Rattle.slot_machine.proofs.Inserts.{length-insert_at}
-use Rattle.plan_meaning.specs.Truth.{State, ground, value_of, values_of, AreTyped, OneTrue, Adds, Deletes}
-use Rattle.plan_meaning.specs.Network.{Work, GroundMethod, network, InTypeOf, child_of, ground_work, task}
-use Rattle.plan_meaning.proofs.MethodParts.{head_by, works_by, heir_by, IsPairBy, IsCopierBy}
+use Rattle.plan_model.specs.plan_meaning.Truth.{State, ground, value_of, values_of, AreTyped, OneTrue, Adds, Deletes}
+use Rattle.plan_model.specs.plan_meaning.Network.{Work, GroundMethod, network, InTypeOf, child_of, ground_work, task}
+use Rattle.plan_model.proofs.plan_meaning.MethodParts.{head_by, works_by, heir_by, IsPairBy, IsCopierBy}
 use Rattle.slot_encoding.specs.EncodedNames.{free_predicate, before_predicate, task_predicate, action_predicate, check_predicate, order_numbers}
 use Rattle.slot_encoding.specs.EncodedValue.{atom}
 use Rattle.slot_encoding.specs.OrderFormulas.{pair_of, copy_parts}
 use Rattle.slot_encoding.specs.EncodedActions.{is_free, spare, front, depth, slot_vars, children_slots, held_task, child_atom, child_atoms}
-use Rattle.plan_meaning.proofs.EffectEquations.{adds-Add, adds-Delete, deletes-Add, deletes-Delete}
+use Rattle.plan_model.proofs.plan_meaning.EffectEquations.{adds-Add, adds-Delete, deletes-Add, deletes-Delete}
 use Rattle.slot_encoding.proofs.Pieces.{slot_object, IsSlot, IsSlotObject}
 use Rattle.plan_proof.proofs.machine.Reading.{held, free_atom, before_atom, pair}
-use Rattle.plan_meaning.proofs.EachPart.{one_map}
+use Rattle.plan_model.proofs.plan_meaning.EachPart.{one_map}
 use Rattle.slot_encoding.proofs.places.Sums.{one-append, some_mapped, index-map, get_index, own_vars}
 use Rattle.slot_encoding.proofs.places.ListPlaces.{get_map_cases, get_to_map, get_contains}
 use Rattle.plan_proof.proofs.machine.Atoms.{slot_of}

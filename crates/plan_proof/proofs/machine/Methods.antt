@@ -10,17 +10,17 @@ use Rattle.plan_model.specs.declared.schemas.ActionSchema.{ActionSchema}
 use Rattle.plan_model.specs.declared.schemas.MethodPlan.{MethodPlan}
 use Rattle.plan_model.specs.declared.values.Compiled.{Compiled}
 use Rattle.plan_model.specs.declared.values.Pddl.{Pddl}
-use Rattle.task_networks.specs.Net.{Net, count}
-use Rattle.task_networks.specs.Spelling.{apply, others}
+use Rattle.plan_model.specs.task_networks.Net.{Net, count}
+use Rattle.plan_model.specs.task_networks.Spelling.{apply, others}
 use Rattle.slot_machine.specs.Machine as Machine
 use Rattle.slot_machine.specs.Machine.{MayApply}
 use Rattle.slot_machine.specs.OtherMachine.{AreSame}
 use Rattle.plan_texts.specs.Types.{EachIs}
-use Rattle.plan_meaning.specs.Truth.{State, AreTyped, OneTrue, IsTrueIn, Adds, Deletes, after}
-use Rattle.plan_meaning.specs.Network.{Work, GroundMethod, IsGroundMethod, network, InTypeOf, IsDeclared, child_of}
-use Rattle.plan_meaning.specs.Solution.{AllowsMethod}
+use Rattle.plan_model.specs.plan_meaning.Truth.{State, AreTyped, OneTrue, IsTrueIn, Adds, Deletes, after}
+use Rattle.plan_model.specs.plan_meaning.Network.{Work, GroundMethod, IsGroundMethod, network, InTypeOf, IsDeclared, child_of}
+use Rattle.plan_model.specs.plan_meaning.Solution.{AllowsMethod}
 use Rattle.slot_encoding.specs.EncodedActions.{spare, depth, held_task, freeing, splitting, method_eff, encoded_method}
-use Rattle.plan_meaning.proofs.EffectEquations.{adds-And, adds-Delete, deletes-And, deletes-Delete}
+use Rattle.plan_model.proofs.plan_meaning.EffectEquations.{adds-And, adds-Delete, deletes-And, deletes-Delete}
 use Rattle.slot_encoding.proofs.Pieces.{IsSlot, IsMethodAct}
 use Rattle.plan_proof.proofs.machine.Reading.{held, Reads, Applies}
 use Rattle.slot_encoding.proofs.places.Sums.{one-append}
@@ -33,7 +33,7 @@ use Rattle.plan_proof.proofs.machine.MethodConditions.{objects, depth_long, meth
 use Rattle.plan_proof.proofs.machine.MethodEffects.{e_count, e_head, head_ground, frees_add, frees_delete, kids_add, atoms_delete, links_add, links_delete, copies_add, copies_delete}
 use Rattle.plan_proof.proofs.machine.MethodChildren.{others_long, count_is, known_head, known_children}
 use Rattle.plan_proof.proofs.machine.Running.{IsTaken}
-use Rattle.task_networks.proofs.Lists.{Contains-here, Contains-later, head_or_tail, not-in_empty}
+use Rattle.plan_model.proofs.task_networks.Lists.{Contains-here, Contains-later, head_or_tail, not-in_empty}
 
 pub each_contains : {A : Type 0} (P : A → Type 0) (xs : List A) → EachIs P xs ↔ ((x : A) → Contains xs x → P x)
 each_contains P [] = (λ e x k. absurd (not-in_empty x k), λ f. tt)

@@ -18,8 +18,8 @@ use Rattle.plan_texts.specs.Types.{EachIs}
 use Rattle.plan_texts.specs.Printable.{IsPlain}
 use Rattle.plan_texts.proofs.Basics.{bytes_eq-true}
 use Rattle.slot_encoding.proofs.places.Places.{in_range, same_place, get-word, each-at-some}
-use Rattle.plan_meaning.specs.ClassicalPlan.{HasWord, AreObjects}
-use Rattle.plan_meaning.specs.SpelledPlan.{object_by, object_word}
+use Rattle.plan_model.specs.plan_meaning.ClassicalPlan.{HasWord, AreObjects}
+use Rattle.plan_model.specs.plan_meaning.SpelledPlan.{object_by, object_word}
 use Rattle.slot_encoding.specs.SourceParts.{name, source_word}
 use Rattle.slot_encoding.specs.EncodedNames.{first_slot, encoded_objects}
 use Rattle.slot_encoding.specs.Printed.{IsPrinted}

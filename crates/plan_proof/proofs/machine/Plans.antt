@@ -4,22 +4,22 @@ use Rattle.plan_model.specs.declared.options.Style.{Style}
 use Rattle.plan_model.specs.declared.formulas.Formula.{Formula}
 use Rattle.plan_model.specs.declared.values.Compiled.{Compiled}
 use Rattle.plan_model.specs.declared.values.Pddl.{Pddl}
-use Rattle.task_networks.specs.Net.{Net}
-use Rattle.task_networks.specs.Tree.{Tree, Address}
-use Rattle.task_networks.specs.Spelling.{Act, Spells, label_of}
-use Rattle.task_networks.specs.Executable as Executions
+use Rattle.plan_model.specs.task_networks.Net.{Net}
+use Rattle.plan_model.specs.task_networks.Tree.{Tree, Address}
+use Rattle.plan_model.specs.task_networks.Spelling.{Act, Spells, label_of}
+use Rattle.plan_model.specs.task_networks.Executable as Executions
 use Rattle.slot_machine.specs.Machine as Machine
 use Rattle.slot_machine.specs.Machine.{start}
 use Rattle.slot_machine.specs.Laws.{IsSolutionRun, IsExecutableRun}
 use Rattle.slot_machine.proofs.Executions.{runs_are_executable_fronts, plans_are_spelled_solutions}
-use Rattle.plan_meaning.specs.Truth.{State, EachTrue, IsTrueIn}
-use Rattle.plan_meaning.specs.ClassicalPlan as Printed
-use Rattle.plan_meaning.specs.Network.{network}
-use Rattle.plan_meaning.specs.Solution.{Allows, next, top_work, initial, IsGoal, IsExecutableFront, IsSolution}
+use Rattle.plan_model.specs.plan_meaning.Truth.{State, EachTrue, IsTrueIn}
+use Rattle.plan_model.specs.plan_meaning.ClassicalPlan as Printed
+use Rattle.plan_model.specs.plan_meaning.Network.{network}
+use Rattle.plan_model.specs.plan_meaning.Solution.{Allows, next, top_work, initial, IsGoal, IsExecutableFront, IsSolution}
 use Rattle.slot_encoding.specs.OrderFormulas.{free_parts}
 use Rattle.slot_encoding.specs.EncodedNames.{free_predicate, order_numbers}
 use Rattle.slot_encoding.specs.EncodedActions.{source_condition}
-use Rattle.plan_meaning.proofs.TruthEquations.{truth-And}
+use Rattle.plan_model.proofs.plan_meaning.TruthEquations.{truth-And}
 use Rattle.slot_encoding.proofs.Pieces.{slot_object}
 use Rattle.plan_proof.proofs.machine.Reading.{Reads, LeadsBy}
 use Rattle.slot_encoding.proofs.places.Sums.{each-append}

@@ -5,14 +5,14 @@ use Rattle.plan_model.specs.declared.options.Checks.{Checks}
 use Rattle.plan_model.specs.declared.values.Hddl.{Hddl}
 use Rattle.plan_model.specs.declared.values.Compiled.{Compiled}
 use Rattle.plan_model.specs.declared.values.Pddl.{Pddl}
-use Rattle.task_networks.proofs.ScheduleLaws.{prepared_is_lawful}
+use Rattle.plan_model.proofs.task_networks.ScheduleLaws.{prepared_is_lawful}
 use Rattle.plan_texts.specs.PrintableValue.{IsPrintable}
 use Rattle.plan_texts.specs.PrintedTexts.{domain_text, problem_text}
-use Rattle.plan_meaning.specs.ClassicalPlan as Printed
-use Rattle.plan_meaning.specs.Network.{network}
-use Rattle.plan_meaning.specs.Laws.{AreOrdered}
+use Rattle.plan_model.specs.plan_meaning.ClassicalPlan as Printed
+use Rattle.plan_model.specs.plan_meaning.Network.{network}
+use Rattle.plan_model.specs.plan_meaning.Laws.{AreOrdered}
 use Rattle.slot_encoding.specs.EncodedNames.{order_numbers}
-use Rattle.plan_meaning.proofs.CompiledNetworks.{prepared}
+use Rattle.plan_model.proofs.plan_meaning.CompiledNetworks.{prepared}
 use Rattle.plan_proof.specs.Headline.{IsFaithful}
 use Rattle.plan_proof.proofs.texts.PrintedPlans.{printed-executables, printed-plans}
 use Rattle.slot_encoding.specs.Printed.{IsPrinted}

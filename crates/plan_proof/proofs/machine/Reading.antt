@@ -7,11 +7,11 @@ use Rattle.plan_model.specs.declared.schemas.ActionSchema.{ActionSchema}
 use Rattle.plan_model.specs.declared.schemas.MethodPlan.{MethodPlan}
 use Rattle.plan_model.specs.declared.values.Compiled.{Compiled}
 use Rattle.plan_model.specs.declared.values.Pddl.{Pddl}
-use Rattle.task_networks.specs.Spelling.{Act}
+use Rattle.plan_model.specs.task_networks.Spelling.{Act}
 use Rattle.slot_machine.specs.Machine as Machine
-use Rattle.plan_meaning.specs.Truth.{State, AreTyped, IsTrueIn, after}
-use Rattle.plan_meaning.specs.ClassicalPlan as Printed
-use Rattle.plan_meaning.specs.Network.{Work, action, check, task, network, InTypeOf, IsDeclared}
+use Rattle.plan_model.specs.plan_meaning.Truth.{State, AreTyped, IsTrueIn, after}
+use Rattle.plan_model.specs.plan_meaning.ClassicalPlan as Printed
+use Rattle.plan_model.specs.plan_meaning.Network.{Work, action, check, task, network, InTypeOf, IsDeclared}
 use Rattle.slot_encoding.specs.EncodedNames.{guard_types, free_predicate, before_predicate, guard_predicate}
 use Rattle.slot_encoding.specs.EncodedValue.{atom}
 use Rattle.slot_encoding.proofs.Pieces.{AreAgreed, held_atom, slot_object, IsSlot, IsActBy}

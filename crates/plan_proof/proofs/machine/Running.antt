@@ -12,13 +12,13 @@ use Rattle.plan_model.specs.declared.schemas.ActionSchema.{ActionSchema}
 use Rattle.plan_model.specs.declared.schemas.MethodPlan.{MethodPlan}
 use Rattle.plan_model.specs.declared.values.Compiled.{Compiled}
 use Rattle.plan_model.specs.declared.values.Pddl.{Pddl}
-use Rattle.task_networks.specs.Net.{Net}
-use Rattle.task_networks.specs.Spelling.{Act, run, label_of}
+use Rattle.plan_model.specs.task_networks.Net.{Net}
+use Rattle.plan_model.specs.task_networks.Spelling.{Act, run, label_of}
 use Rattle.slot_machine.specs.Machine as Machine
 use Rattle.slot_machine.specs.Machine.{May, MayRun}
-use Rattle.plan_meaning.specs.Truth.{State, ground, AreTyped, EachTrue, OneTrue, IsTrueIn, Adds, Deletes, after}
-use Rattle.plan_meaning.specs.Network.{Work, action, check, network, InTypeOf}
-use Rattle.plan_meaning.specs.Solution.{Allows, AllowsAction, AllowsCheck, after_action, next}
+use Rattle.plan_model.specs.plan_meaning.Truth.{State, ground, AreTyped, EachTrue, OneTrue, IsTrueIn, Adds, Deletes, after}
+use Rattle.plan_model.specs.plan_meaning.Network.{Work, action, check, network, InTypeOf}
+use Rattle.plan_model.specs.plan_meaning.Solution.{Allows, AllowsAction, AllowsCheck, after_action, next}
 use Rattle.slot_encoding.specs.EncodedNames.{action_predicate, check_predicate}
 use Rattle.slot_encoding.specs.EncodedActions.{held_work, waiting, freeing, source_condition, source_change, encoded_action, encoded_check}
 use Rattle.slot_encoding.proofs.Pieces.{SourceMeaning, slot_object, IsSlot, IsActionAct, IsCheckAct}

@@ -4,17 +4,17 @@ use Rattle.plan_model.specs.declared.options.Style.{Style}
 use Rattle.plan_model.specs.declared.schemas.ActionSchema.{ActionSchema}
 use Rattle.plan_model.specs.declared.values.Compiled.{Compiled}
 use Rattle.plan_model.specs.declared.values.Pddl.{Pddl}
-use Rattle.task_networks.specs.Net.{Net}
-use Rattle.task_networks.specs.Spelling.{Act, run, apply, label_of}
-use Rattle.task_networks.specs.Executable.{AreAllowed, last_state}
+use Rattle.plan_model.specs.task_networks.Net.{Net}
+use Rattle.plan_model.specs.task_networks.Spelling.{Act, run, apply, label_of}
+use Rattle.plan_model.specs.task_networks.Executable.{AreAllowed, last_state}
 use Rattle.slot_machine.specs.Machine as Machine
 use Rattle.slot_machine.specs.Machine.{May, Runs, end_of, start}
 use Rattle.slot_machine.proofs.RunSpellings.{runs_iff_spells}
 use Rattle.slot_machine.proofs.SpellingRuns.{runs_push, end-push}
 use Rattle.slot_machine.proofs.Theorem.{matches_spelling}
-use Rattle.plan_meaning.specs.Truth.{State, after}
-use Rattle.plan_meaning.specs.Network.{Work, action, check, task, network}
-use Rattle.plan_meaning.specs.Solution.{Allows, next, top_work}
+use Rattle.plan_model.specs.plan_meaning.Truth.{State, after}
+use Rattle.plan_model.specs.plan_meaning.Network.{Work, action, check, task, network}
+use Rattle.plan_model.specs.plan_meaning.Solution.{Allows, next, top_work}
 use Rattle.plan_proof.proofs.machine.Reading.{Reads, Applies, LeadsBy}
 use Rattle.plan_proof.proofs.machine.Facts.{PiecesMean}
 use Rattle.plan_proof.proofs.machine.Freeing.{InT}

@@ -1,6 +1,6 @@
 -- The slot variables of the children, and their values.
 use Rattle.std.proofs.Common.{ℕ, zero, suc, ◌≡◌, ◌+◌, ◌<◌, ◌≤◌, List, [], ◌∷◌, map, Some, ◌==◌, cond, true, false, refl, ap, ◌∙◌, arith}
-use Rattle.task_networks.specs.Spelling.{numbers}
+use Rattle.plan_model.specs.task_networks.Spelling.{numbers}
 use Rattle.slot_machine.specs.Machine.{insert_at}
 use Rattle.slot_encoding.specs.EncodedActions.{slot_vars}
 

@@ -12,9 +12,9 @@ use Rattle.plan_model.specs.declared.formulas.Formula.{Formula}
 use Rattle.plan_model.specs.declared.effects.Effect.{Effect, roll-Effect}
 use Rattle.plan_model.specs.declared.effects.Effect.TheFolds.{fold-roll-Effect, map-Effect, ind-Effect}
 use Rattle.plan_model.specs.declared.effects.Effect.TheOpen.{Effect-F}
-use Rattle.plan_meaning.specs.Truth.{State, ground, OneTrue, AreTyped, IsTrueIn, adds_step, Adds, deletes_step, Deletes}
+use Rattle.plan_model.specs.plan_meaning.Truth.{State, ground, OneTrue, AreTyped, IsTrueIn, adds_step, Adds, deletes_step, Deletes}
 use Rattle.slot_encoding.specs.SourceParts.{retyped, source_param, source_atom, source_formula, effect_layer, source_effect}
-use Rattle.plan_meaning.proofs.EffectEquations.{adds_roll, deletes_roll}
+use Rattle.plan_model.proofs.plan_meaning.EffectEquations.{adds_roll, deletes_roll}
 use Rattle.slot_encoding.proofs.places.SourceFormulas.{ground-source, typed-source, truth-source}
 
 module _ (names source : List (List ℕ)) (InType InType' : ℕ → ℕ → Type 0) (same_type : (o t : ℕ) → InType' o (retyped t) ↔ InType o t)

@@ -19,13 +19,13 @@ use Rattle.plan_model.specs.declared.values.Pddl.{Pddl}
 use Rattle.plan_texts.specs.Declared.{Declared, named}
 use Rattle.plan_texts.specs.SpellsHddl.{hddl_words}
 use Rattle.plan_texts.specs.SoundValue.{arities}
-use Rattle.plan_meaning.specs.Truth.{State, EachTrue, OneTrue, IsTrueIn, Adds, Deletes}
+use Rattle.plan_model.specs.plan_meaning.Truth.{State, EachTrue, OneTrue, IsTrueIn, Adds, Deletes}
 use Rattle.slot_encoding.specs.SourceParts.{source_formula, source_effect}
 use Rattle.slot_encoding.specs.EncodedActions.{no_part, no_effect, is_empty, is_empty_effect, source_condition, source_change}
-use Rattle.plan_meaning.specs.Network as Source
-use Rattle.plan_meaning.specs.ClassicalPlan as Printed
-use Rattle.plan_meaning.proofs.TruthEquations.{truth-And}
-use Rattle.plan_meaning.proofs.EffectEquations.{adds-And, deletes-And}
+use Rattle.plan_model.specs.plan_meaning.Network as Source
+use Rattle.plan_model.specs.plan_meaning.ClassicalPlan as Printed
+use Rattle.plan_model.proofs.plan_meaning.TruthEquations.{truth-And}
+use Rattle.plan_model.proofs.plan_meaning.EffectEquations.{adds-And, deletes-And}
 use Rattle.slot_encoding.specs.Printed.{IsPrinted}
 use Rattle.slot_encoding.proofs.Pieces.{AreAgreed, IsSoundCondition, IsSoundChange, SourceMeaning, SourceAgrees}
 use Rattle.slot_encoding.proofs.places.ObjectTypes.{types_agree}

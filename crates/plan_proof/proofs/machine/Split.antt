@@ -4,14 +4,14 @@ use Rattle.plan_model.specs.declared.options.Style.{Style}
 use Rattle.plan_model.specs.declared.terms.GroundAtom.{GroundAtom}
 use Rattle.plan_model.specs.declared.values.Compiled.{Compiled}
 use Rattle.plan_model.specs.declared.values.Pddl.{Pddl}
-use Rattle.task_networks.specs.Net.{Net, count}
-use Rattle.task_networks.specs.Spelling.{apply}
-use Rattle.task_networks.proofs.Lists.{Contains-later, head_or_tail, not-in_empty}
+use Rattle.plan_model.specs.task_networks.Net.{Net, count}
+use Rattle.plan_model.specs.task_networks.Spelling.{apply}
+use Rattle.plan_model.proofs.task_networks.Lists.{Contains-later, head_or_tail, not-in_empty}
 use Rattle.slot_machine.specs.Machine as Machine
 use Rattle.slot_machine.specs.Machine.{insert_at, with_heir, IsSlotOf}
 use Rattle.slot_machine.proofs.Inserts.{insert_cases}
-use Rattle.plan_meaning.specs.Truth.{State}
-use Rattle.plan_meaning.specs.Network.{Work, GroundMethod, network}
+use Rattle.plan_model.specs.plan_meaning.Truth.{State}
+use Rattle.plan_model.specs.plan_meaning.Network.{Work, GroundMethod, network}
 use Rattle.slot_encoding.specs.EncodedNames.{free_predicate, before_predicate, guard_predicate}
 use Rattle.slot_encoding.specs.EncodedValue.{atom}
 use Rattle.slot_encoding.proofs.Pieces.{PredicatesDiffer, slot_object, IsSlot}

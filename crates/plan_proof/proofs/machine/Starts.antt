@@ -7,17 +7,17 @@ use Rattle.plan_model.specs.declared.options.Style.{Style}
 use Rattle.plan_model.specs.declared.terms.GroundAtom.{GroundAtom}
 use Rattle.plan_model.specs.declared.values.Compiled.{Compiled}
 use Rattle.plan_model.specs.declared.values.Pddl.{Pddl}
-use Rattle.task_networks.specs.Spelling.{numbers}
-use Rattle.task_networks.proofs.Lists.{Contains-here, Contains-later, head_or_tail, not-in_empty}
-use Rattle.task_networks.proofs.Numbers.{numbers_to, to_numbers}
+use Rattle.plan_model.specs.task_networks.Spelling.{numbers}
+use Rattle.plan_model.proofs.task_networks.Lists.{Contains-here, Contains-later, head_or_tail, not-in_empty}
+use Rattle.plan_model.proofs.task_networks.Numbers.{numbers_to, to_numbers}
 use Rattle.slot_machine.specs.Machine as Machine
 use Rattle.plan_texts.proofs.Basics.{bytes_eq-true}
-use Rattle.plan_meaning.specs.Network.{Work, network, top_task}
-use Rattle.plan_meaning.specs.Solution.{top_work, initial}
-use Rattle.plan_meaning.specs.Compilation.{once}
+use Rattle.plan_model.specs.plan_meaning.Network.{Work, network, top_task}
+use Rattle.plan_model.specs.plan_meaning.Solution.{top_work, initial}
+use Rattle.plan_model.specs.plan_meaning.Compilation.{once}
 use Rattle.slot_encoding.specs.EncodedNames.{guard_types, top_predicate, free_predicate, task_predicate, guard_predicate, first_slot, first_task}
 use Rattle.slot_encoding.specs.EncodedValue.{same_atom, atom, first_atoms, AreGuardAtoms, IsInitial}
-use Rattle.plan_meaning.proofs.Pairs.{once_to, to_once, map_to}
+use Rattle.plan_model.proofs.plan_meaning.Pairs.{once_to, to_once, map_to}
 use Rattle.slot_encoding.proofs.Pieces.{slot_object, IsSlot}
 use Rattle.plan_proof.proofs.machine.Reading.{IsKnown, held, free_atom, pair, Reads}
 use Rattle.plan_proof.proofs.machine.Facts.{PiecesMean}

@@ -12,14 +12,14 @@ use Rattle.plan_model.specs.declared.steps.GroundAction.{GroundAction}
 use Rattle.plan_model.specs.declared.values.Hddl.{Hddl}
 use Rattle.plan_model.specs.declared.values.Compiled.{Compiled}
 use Rattle.plan_model.specs.declared.values.Pddl.{Pddl}
-use Rattle.task_networks.specs.Spelling.{Act, run, apply}
+use Rattle.plan_model.specs.task_networks.Spelling.{Act, run, apply}
 use Rattle.text_forms.specs.Words.{Word}
 use Rattle.plan_texts.specs.Types.{EachIs}
-use Rattle.plan_meaning.specs.Truth.{State, AreTyped, IsTrueIn}
-use Rattle.plan_meaning.specs.Network.{action, check, task, network, InTypeOf}
-use Rattle.plan_meaning.specs.ClassicalPlan as Printed
-use Rattle.plan_meaning.specs.ClassicalPlan.{AreObjects, IsApplicable}
-use Rattle.plan_meaning.specs.SpelledPlan.{object_word, work_name, method_name, step_of}
+use Rattle.plan_model.specs.plan_meaning.Truth.{State, AreTyped, IsTrueIn}
+use Rattle.plan_model.specs.plan_meaning.Network.{action, check, task, network, InTypeOf}
+use Rattle.plan_model.specs.plan_meaning.ClassicalPlan as Printed
+use Rattle.plan_model.specs.plan_meaning.ClassicalPlan.{AreObjects, IsApplicable}
+use Rattle.plan_model.specs.plan_meaning.SpelledPlan.{object_word, work_name, method_name, step_of}
 use Rattle.slot_encoding.specs.SourceParts.{source_param}
 use Rattle.slot_encoding.specs.EncodedNames.{slot_type, first_slot, slot_param}
 use Rattle.slot_encoding.specs.EncodedActions.{spare, encoded_method, encoded_check, encoded_action}

@@ -4,16 +4,16 @@ use Rattle.plan_model.specs.declared.options.Style.{Style}
 use Rattle.plan_model.specs.declared.steps.GroundAction.{GroundAction}
 use Rattle.plan_model.specs.declared.values.Compiled.{Compiled}
 use Rattle.plan_model.specs.declared.values.Pddl.{Pddl}
-use Rattle.task_networks.specs.Net.{Net}
-use Rattle.task_networks.specs.Spelling.{Act, Spells}
+use Rattle.plan_model.specs.task_networks.Net.{Net}
+use Rattle.plan_model.specs.task_networks.Spelling.{Act, Spells}
 use Rattle.slot_machine.proofs.RunSpellings.{runs_iff_spells}
 use Rattle.slot_machine.proofs.Theorem.{few_pending_have_spellings, front_is_the_only_one}
-use Rattle.plan_meaning.specs.Truth.{State, IsTrueIn, after}
-use Rattle.plan_meaning.specs.ClassicalPlan as Printed
-use Rattle.plan_meaning.specs.ClassicalPlan.{EndsIn, IsExecutable, IsPlan}
-use Rattle.plan_meaning.specs.Network.{network}
-use Rattle.plan_meaning.specs.Solution.{top_work}
-use Rattle.plan_meaning.specs.SpelledPlan.{step_of}
+use Rattle.plan_model.specs.plan_meaning.Truth.{State, IsTrueIn, after}
+use Rattle.plan_model.specs.plan_meaning.ClassicalPlan as Printed
+use Rattle.plan_model.specs.plan_meaning.ClassicalPlan.{EndsIn, IsExecutable, IsPlan}
+use Rattle.plan_model.specs.plan_meaning.Network.{network}
+use Rattle.plan_model.specs.plan_meaning.Solution.{top_work}
+use Rattle.plan_model.specs.plan_meaning.SpelledPlan.{step_of}
 use Rattle.plan_proof.specs.Headline.{SpellsExecutableFront, SpellsSolution, SpellsOne}
 use Rattle.slot_encoding.proofs.Pieces.{StepsAreActs}
 use Rattle.plan_proof.proofs.machine.Reading.{LeadsBy}

@@ -6,9 +6,9 @@ use Rattle.plan_model.specs.declared.schemas.MethodPlan.{MethodPlan}
 use Rattle.plan_model.specs.declared.values.Hddl.{Hddl}
 use Rattle.plan_model.specs.declared.values.Compiled.{Compiled}
 use Rattle.plan_model.specs.Pairs.{Pairs}
-use Rattle.task_networks.specs.Order.{IsLine, IsMaximal}
-use Rattle.plan_meaning.specs.Compilation.{once, same_guard, children, pairs, last_of, all_placed, IsGuard, IsMethodPlan, AreMethodPlans, IsCompiled}
-use Rattle.encoded_texts.proofs.KeptSame.{keeps-same}
+use Rattle.plan_model.specs.task_networks.Order.{IsLine, IsMaximal}
+use Rattle.plan_model.specs.plan_meaning.Compilation.{once, same_guard, children, pairs, last_of, all_placed, IsGuard, IsMethodPlan, AreMethodPlans, IsCompiled}
+use Rattle.slot_encoding.proofs.encoded_texts.KeptSame.{keeps-same}
 use Rattle.plan_proof.proofs.values.Pairing.{increasing-same}
 use Rattle.plan_proof.proofs.values.SamePlans.{bool_same, line-same}
 

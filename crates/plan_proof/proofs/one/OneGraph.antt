@@ -16,18 +16,18 @@ use Rattle.plan_texts.specs.Alike.{task_said, child_said}
 use Rattle.plan_texts.specs.Together.{Together}
 use Rattle.plan_texts.proofs.Together.{maps-length, together-maps}
 use Rattle.plan_texts.proofs.Unique.{map-map}
-use Rattle.task_networks.specs.Net.{count}
-use Rattle.task_networks.specs.Order.{IsLast}
-use Rattle.task_networks.specs.Bound.{AreBlocks, IsReached, itself, as_child, weight, weights, block_number, IsAloneAtTheEnd, Counts, IsTheBound}
-use Rattle.task_networks.specs.Strata as Walks
-use Rattle.plan_meaning.specs.Compilation.{IsCompiled}
-use Rattle.plan_meaning.specs.Network.{top_task}
-use Rattle.plan_meaning.specs.Schemas.{Schema, task, schema_of, schemas}
-use Rattle.plan_meaning.specs.Strata.{Edge, source, target, target_by, IsEdge, AreEdges, IsBad, IsTailRecursive, IsNamedCycle, IsRanking, IsOneGroup}
-use Rattle.plan_meaning.specs.Bound.{group_of, IsBound}
-use Rattle.plan_meaning.proofs.MethodParts.{IsPairBy, head_schema_by, schemas_by}
-use Rattle.plan_meaning.proofs.BoundLaws.{bound_is_the_only_one}
-use Rattle.bound_laws.proofs.OneCycle.{one_named_cycle}
+use Rattle.plan_model.specs.task_networks.Net.{count}
+use Rattle.plan_model.specs.task_networks.Order.{IsLast}
+use Rattle.plan_model.specs.task_networks.Bound.{AreBlocks, IsReached, itself, as_child, weight, weights, block_number, IsAloneAtTheEnd, Counts, IsTheBound}
+use Rattle.plan_model.specs.task_networks.Strata as Walks
+use Rattle.plan_model.specs.plan_meaning.Compilation.{IsCompiled}
+use Rattle.plan_model.specs.plan_meaning.Network.{top_task}
+use Rattle.plan_model.specs.plan_meaning.Schemas.{Schema, task, schema_of, schemas}
+use Rattle.plan_model.specs.plan_meaning.Strata.{Edge, source, target, target_by, IsEdge, AreEdges, IsBad, IsTailRecursive, IsNamedCycle, IsRanking, IsOneGroup}
+use Rattle.plan_model.specs.plan_meaning.Bound.{group_of, IsBound}
+use Rattle.plan_model.proofs.plan_meaning.MethodParts.{IsPairBy, head_schema_by, schemas_by}
+use Rattle.plan_model.proofs.plan_meaning.BoundLaws.{bound_is_the_only_one}
+use Rattle.slot_machine.proofs.bound_laws.OneCycle.{one_named_cycle}
 use Rattle.plan_proof.specs.OneGraph.{plan_words, HaveOneGraph, HaveOneBound, HaveOneNamedCycle}
 use Rattle.plan_proof.proofs.values.SamePlans.{ArePlansAlike}
 use Rattle.plan_proof.proofs.values.SameSound.{task-words-same}

@@ -10,12 +10,12 @@ use Rattle.plan_model.specs.declared.values.Pddl.{Pddl}
 use Rattle.plan_texts.specs.FirstSeen.{IsHddlOf}
 use Rattle.plan_texts.specs.SoundValue.{IsSoundHddl}
 use Rattle.plan_texts.specs.PrintedTexts.{domain_text, problem_text}
-use Rattle.plan_meaning.specs.Laws.{AreOrdered}
+use Rattle.plan_model.specs.plan_meaning.Laws.{AreOrdered}
 use Rattle.slot_encoding.specs.Printed.{IsPrinted}
 use Rattle.slot_encoding.specs.EncodedWords.{encoded_words, HasEncodedWords}
 use Rattle.slot_encoding.proofs.existence.Encoded.{has_encoded_value}
-use Rattle.encoded_texts.specs.FullyEncoded.{IsFullyEncoded}
-use Rattle.encoded_texts.proofs.SameTexts.{encoded_texts-same, some_encoded}
+use Rattle.slot_encoding.specs.encoded_texts.FullyEncoded.{IsFullyEncoded}
+use Rattle.slot_encoding.proofs.encoded_texts.SameTexts.{encoded_texts-same, some_encoded}
 use Rattle.plan_proof.specs.OneText.{AreTextsFor, HaveTexts}
 use Rattle.plan_proof.proofs.values.Headlines.{same_but_names, unions_apart, encoded_by}
 use Rattle.plan_proof.proofs.one.SomeCompiled.{has_one_compiled}

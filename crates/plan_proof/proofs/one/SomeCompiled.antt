@@ -19,14 +19,14 @@ use Rattle.plan_model.specs.declared.values.Compiled.{Compiled}
 use Rattle.plan_model.proofs.Numbers.{AreFound, found_none, found_more, found_less}
 use Rattle.plan_texts.specs.SpellsHddl.{hddl_words}
 use Rattle.plan_texts.specs.Said.{said}
-use Rattle.task_networks.specs.Order.{Precedes, direct, through, ArePairsOf, IsAcyclic, IsMaximal}
-use Rattle.task_networks.proofs.Orders.{next_among, is_some}
-use Rattle.task_networks.proofs.Lists.{Contains-here, Contains-later}
-use Rattle.bound_laws.proofs.Decided.{Or_not, same_or_not, less_or_not, not_or, both, some_or_not}
-use Rattle.bound_laws.proofs.Blocks.{precedes_or_not}
-use Rattle.plan_meaning.specs.Compilation.{AsksSomething, once, same_guard, children, pairs, last_of, Keeps, all_placed, IsParamIn, IsDeclaredIn, IsGuard, IsMethodPlan, AreMethodPlans, IsCompiled}
-use Rattle.plan_meaning.specs.Laws.{AreOrdered}
-use Rattle.plan_meaning.proofs.Pairs.{pairs_within, pairs_acyclic}
+use Rattle.plan_model.specs.task_networks.Order.{Precedes, direct, through, ArePairsOf, IsAcyclic, IsMaximal}
+use Rattle.plan_model.proofs.task_networks.Orders.{next_among, is_some}
+use Rattle.plan_model.proofs.task_networks.Lists.{Contains-here, Contains-later}
+use Rattle.slot_machine.proofs.bound_laws.Decided.{Or_not, same_or_not, less_or_not, not_or, both, some_or_not}
+use Rattle.slot_machine.proofs.bound_laws.Blocks.{precedes_or_not}
+use Rattle.plan_model.specs.plan_meaning.Compilation.{AsksSomething, once, same_guard, children, pairs, last_of, Keeps, all_placed, IsParamIn, IsDeclaredIn, IsGuard, IsMethodPlan, AreMethodPlans, IsCompiled}
+use Rattle.plan_model.specs.plan_meaning.Laws.{AreOrdered}
+use Rattle.plan_model.proofs.plan_meaning.Pairs.{pairs_within, pairs_acyclic}
 use Rattle.slot_encoding.specs.EncodedActions.{is_empty}
 use Rattle.slot_encoding.proofs.existence.InTypes.{in_type_decided}
 use Rattle.plan_proof.specs.OneText.{HasOneCompiled}

@@ -4,14 +4,14 @@ use Rattle.std.proofs.lemmas.List.{length_push}
 use Rattle.std.proofs.lemmas.List.Elements.{Contains-push_cases, Contains-append_left}
 use Rattle.htn_base.specs.Different.{AreDifferent}
 use Rattle.htn_base.proofs.DifferentLemmas.{different-push}
-use Rattle.task_networks.specs.Order.{Precedes, direct, through, ArePairsOf, IsAcyclic, IsReady, IsNext, IsLine}
-use Rattle.task_networks.specs.Spelling.{numbers}
-use Rattle.task_networks.proofs.Different.{no_more}
-use Rattle.task_networks.proofs.Lists.{not-in_empty, cut_push}
-use Rattle.task_networks.proofs.Numbers.{length-numbers, numbers_to, to_numbers}
-use Rattle.task_networks.proofs.Orders.{precedes_then, last_pair, precedes_within, maximal_above}
-use Rattle.bound_laws.proofs.Decided.{Or_not, less_or_not, not_or, both, each_or_not, some_or_not, has_or_not}
-use Rattle.bound_laws.proofs.Groups.{least}
+use Rattle.plan_model.specs.task_networks.Order.{Precedes, direct, through, ArePairsOf, IsAcyclic, IsReady, IsNext, IsLine}
+use Rattle.plan_model.specs.task_networks.Spelling.{numbers}
+use Rattle.plan_model.proofs.task_networks.Different.{no_more}
+use Rattle.plan_model.proofs.task_networks.Lists.{not-in_empty, cut_push}
+use Rattle.plan_model.proofs.task_networks.Numbers.{length-numbers, numbers_to, to_numbers}
+use Rattle.plan_model.proofs.task_networks.Orders.{precedes_then, last_pair, precedes_within, maximal_above}
+use Rattle.slot_machine.proofs.bound_laws.Decided.{Or_not, less_or_not, not_or, both, each_or_not, some_or_not, has_or_not}
+use Rattle.slot_machine.proofs.bound_laws.Groups.{least}
 
 module _ (Pair : ℕ → ℕ → Type 0) (count : ℕ) (within : ArePairsOf Pair count) (acyclic : IsAcyclic Pair) (pair_or_not : (i j : ℕ) → Or_not (Pair i j)) (precedes_or_not : (i j : ℕ) → Or_not (Precedes Pair i j)) where
   children : List ℕ

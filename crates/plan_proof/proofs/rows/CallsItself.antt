@@ -5,14 +5,14 @@ use Rattle.plan_model.specs.declared.options.Style.{Style}
 use Rattle.plan_model.specs.declared.networks.Head.TheVariants.{Task}
 use Rattle.plan_model.specs.declared.values.Compiled.{Compiled}
 use Rattle.plan_model.specs.declared.values.Pddl.{Pddl}
-use Rattle.task_networks.specs.Net.{Net}
-use Rattle.task_networks.specs.Spelling.{Act, apply}
+use Rattle.plan_model.specs.task_networks.Net.{Net}
+use Rattle.plan_model.specs.task_networks.Spelling.{Act, apply}
 use Rattle.slot_machine.specs.Machine.{start, Runs, end_of, after_act}
-use Rattle.plan_meaning.specs.Compilation.{IsCompiled}
-use Rattle.plan_meaning.specs.Network.{task, network}
-use Rattle.plan_meaning.specs.Solution.{top_work}
-use Rattle.plan_meaning.proofs.examples.PlanKinds.{plain, none_rise}
-use Rattle.plan_meaning.proofs.examples.RowValues.{uses}
+use Rattle.plan_model.specs.plan_meaning.Compilation.{IsCompiled}
+use Rattle.plan_model.specs.plan_meaning.Network.{task, network}
+use Rattle.plan_model.specs.plan_meaning.Solution.{top_work}
+use Rattle.plan_model.proofs.plan_meaning.examples.PlanKinds.{plain, none_rise}
+use Rattle.plan_model.proofs.plan_meaning.examples.RowValues.{uses}
 use Rattle.slot_encoding.specs.Printed.{IsPrinted}
 use Rattle.plan_proof.proofs.examples.RowPlans.{IsLawfulRow, plain_formulas}
 use Rattle.plan_proof.proofs.examples.SoundChecks.{sound_by, ordered_by}

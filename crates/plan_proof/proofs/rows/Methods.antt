@@ -5,11 +5,11 @@ use Rattle.plan_model.specs.declared.networks.Head.TheVariants.{Task}
 use Rattle.plan_model.specs.declared.schemas.MethodSchema.{MethodSchema}
 use Rattle.plan_model.specs.declared.schemas.MethodPlan.{MethodPlan}
 use Rattle.plan_model.specs.declared.values.Compiled.{Compiled}
-use Rattle.task_networks.specs.Net.{Net}
-use Rattle.plan_meaning.specs.Truth.{AreTyped}
-use Rattle.plan_meaning.specs.Network.{Work, action, check, task, GroundMethod, network, ground_work, IsPrimitive, InTypeOf, IsGroundMethod}
-use Rattle.plan_meaning.proofs.examples.RowValues.{method_plan, uses}
-use Rattle.plan_meaning.proofs.examples.Unequal.{less}
+use Rattle.plan_model.specs.task_networks.Net.{Net}
+use Rattle.plan_model.specs.plan_meaning.Truth.{AreTyped}
+use Rattle.plan_model.specs.plan_meaning.Network.{Work, action, check, task, GroundMethod, network, ground_work, IsPrimitive, InTypeOf, IsGroundMethod}
+use Rattle.plan_model.proofs.plan_meaning.examples.RowValues.{method_plan, uses}
+use Rattle.plan_model.proofs.plan_meaning.examples.Unequal.{less}
 use Rattle.plan_proof.specs.Problems.{method, with_subtask}
 use Rattle.plan_proof.proofs.rows.OneChild.{HasOneChild}
 

@@ -1,7 +1,7 @@
 -- Runs through methods with one child: slot 1 alone holds something, from step to step, since the child is the heir.
 use Rattle.std.proofs.Common.{ℕ, zero, suc, ◌≡◌, inl, inr, List, [], ◌∷◌, filter, length, not, Some, slice_get, ap, sym, subst, ◌∙◌, arith}
-use Rattle.task_networks.specs.Net.{Net}
-use Rattle.task_networks.specs.Spelling.{Act, run, apply, others, numbers, is_heir}
+use Rattle.plan_model.specs.task_networks.Net.{Net}
+use Rattle.plan_model.specs.task_networks.Spelling.{Act, run, apply, others, numbers, is_heir}
 use Rattle.slot_machine.specs.Machine.{SlotState, start, after_act, May, Runs, end_of, with_heir}
 
 module _ (N : Net) where

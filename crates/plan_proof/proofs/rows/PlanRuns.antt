@@ -6,16 +6,16 @@ use Rattle.plan_model.specs.declared.steps.GroundAction.{GroundAction}
 use Rattle.plan_model.specs.declared.values.Hddl.{Hddl}
 use Rattle.plan_model.specs.declared.values.Compiled.{Compiled}
 use Rattle.plan_model.specs.declared.values.Pddl.{Pddl}
-use Rattle.task_networks.specs.Net.{Net}
-use Rattle.task_networks.specs.Spelling.{Act}
+use Rattle.plan_model.specs.task_networks.Net.{Net}
+use Rattle.plan_model.specs.task_networks.Spelling.{Act}
 use Rattle.slot_machine.specs.Machine.{start, Runs, end_of}
 use Rattle.slot_machine.proofs.Executions.{plans_are_spelled_solutions}
-use Rattle.plan_meaning.specs.Truth.{State}
-use Rattle.plan_meaning.specs.ClassicalPlan.{IsPlan}
-use Rattle.plan_meaning.specs.Laws.{AreOrdered}
-use Rattle.plan_meaning.specs.Network.{network}
-use Rattle.plan_meaning.specs.Solution.{top_work, initial, Allows, next, IsGoal}
-use Rattle.plan_meaning.specs.SpelledPlan.{step_of}
+use Rattle.plan_model.specs.plan_meaning.Truth.{State}
+use Rattle.plan_model.specs.plan_meaning.ClassicalPlan.{IsPlan}
+use Rattle.plan_model.specs.plan_meaning.Laws.{AreOrdered}
+use Rattle.plan_model.specs.plan_meaning.Network.{network}
+use Rattle.plan_model.specs.plan_meaning.Solution.{top_work, initial, Allows, next, IsGoal}
+use Rattle.plan_model.specs.plan_meaning.SpelledPlan.{step_of}
 use Rattle.slot_encoding.specs.Printed.{IsPrinted}
 use Rattle.plan_proof.proofs.machine.Facts.{PiecesMean}
 use Rattle.plan_proof.proofs.machine.FirstSlot.{some_slot}

@@ -24,8 +24,8 @@ use Rattle.slot_encoding.specs.SourceParts.{name, source_formula, source_effect}
 use Rattle.slot_encoding.specs.EncodedNames.{encoded_objects}
 use Rattle.slot_encoding.specs.EncodedActions.{no_part, is_empty, no_effect, is_empty_effect, source_condition, source_change}
 use Rattle.slot_encoding.specs.EncodedValue.{encoded_actions, IsEncoded}
-use Rattle.plan_meaning.proofs.examples.RowValues.{always, nothing}
-use Rattle.plan_meaning.proofs.examples.RowWords.{slot_1}
+use Rattle.plan_model.proofs.plan_meaning.examples.RowValues.{always, nothing}
+use Rattle.plan_model.proofs.plan_meaning.examples.RowWords.{slot_1}
 use Rattle.slot_encoding.specs.Printed.{IsPrinted}
 use Rattle.plan_proof.proofs.examples.SoundChecks.{sound-Add, sound-Delete, sound-Both}
 use Rattle.plan_proof.specs.Problems.{calls_itself, words}

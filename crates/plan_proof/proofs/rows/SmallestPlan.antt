@@ -6,16 +6,16 @@ use Rattle.plan_model.specs.declared.options.Style.{Style}
 use Rattle.plan_model.specs.declared.networks.Head.TheVariants.{Action}
 use Rattle.plan_model.specs.declared.values.Compiled.{Compiled}
 use Rattle.plan_model.specs.declared.values.Pddl.{Pddl}
-use Rattle.task_networks.specs.Net.{Net}
-use Rattle.task_networks.specs.Spelling.{Act, run, apply}
+use Rattle.plan_model.specs.task_networks.Net.{Net}
+use Rattle.plan_model.specs.task_networks.Spelling.{Act, run, apply}
 use Rattle.slot_machine.specs.Machine.{start, Runs, end_of, after_act}
-use Rattle.plan_meaning.specs.ClassicalPlan.{IsPlan}
-use Rattle.plan_meaning.specs.Network.{GroundMethod, action, task, network, IsPrimitive, IsGroundMethod}
-use Rattle.plan_meaning.specs.Solution.{top_work}
-use Rattle.plan_meaning.specs.SpelledPlan.{step_of, IsSpelling}
-use Rattle.plan_meaning.proofs.examples.RowValues.{uses}
-use Rattle.plan_meaning.proofs.examples.RowWords.{step, slot_1}
-use Rattle.plan_meaning.proofs.examples.SmallestRow as Row
+use Rattle.plan_model.specs.plan_meaning.ClassicalPlan.{IsPlan}
+use Rattle.plan_model.specs.plan_meaning.Network.{GroundMethod, action, task, network, IsPrimitive, IsGroundMethod}
+use Rattle.plan_model.specs.plan_meaning.Solution.{top_work}
+use Rattle.plan_model.specs.plan_meaning.SpelledPlan.{step_of, IsSpelling}
+use Rattle.plan_model.proofs.plan_meaning.examples.RowValues.{uses}
+use Rattle.plan_model.proofs.plan_meaning.examples.RowWords.{step, slot_1}
+use Rattle.plan_model.proofs.plan_meaning.examples.SmallestRow as Row
 use Rattle.slot_encoding.specs.Printed.{IsPrinted}
 use Rattle.plan_proof.proofs.machine.FirstSlot.{some_slot}
 use Rattle.plan_proof.proofs.examples.RowPlans.{smallest_row, solution_plan}

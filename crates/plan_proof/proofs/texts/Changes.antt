@@ -3,8 +3,8 @@ use Rattle.std.proofs.Common.{ℕ, ◌≡◌, ◌↔◌, ◌⊎◌, inl, inr, �
 use Rattle.text_forms.specs.Words.{Word}
 use Rattle.plan_texts.specs.Declared.{Declared, kind_at}
 use Rattle.plan_texts.specs.Said.{Done, adds, deletes, both, for_every, when, Dones, no_more, and_more, dones, done_step, done}
-use Rattle.plan_meaning.specs.Truth.{State, value_of, OneTrue, adds_step, Adds, deletes_step, Deletes}
-use Rattle.plan_meaning.proofs.EffectEquations.{adds_roll, deletes_roll}
+use Rattle.plan_model.specs.plan_meaning.Truth.{State, value_of, OneTrue, adds_step, Adds, deletes_step, Deletes}
+use Rattle.plan_model.proofs.plan_meaning.EffectEquations.{adds_roll, deletes_roll}
 use Rattle.plan_model.specs.declared.terms.GroundAtom.{GroundAtom}
 use Rattle.plan_model.specs.declared.effects.Effect.{Effect, roll-Effect}
 use Rattle.plan_model.specs.declared.effects.Effect.TheFolds.{map-Effect, ind-Effect}

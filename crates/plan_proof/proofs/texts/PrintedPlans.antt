@@ -5,7 +5,7 @@ use Rattle.plan_model.specs.declared.values.Pddl.{Pddl}
 use Rattle.plan_texts.specs.PrintableValue.{IsPrintable}
 use Rattle.plan_texts.specs.PrintedTexts.{domain_text, problem_text}
 use Rattle.plan_texts.proofs.PrintedSpells.{printed_spells}
-use Rattle.plan_meaning.specs.ClassicalPlan.{IsExecutable, IsPlan}
+use Rattle.plan_model.specs.plan_meaning.ClassicalPlan.{IsExecutable, IsPlan}
 use Rattle.plan_proof.specs.Headline.{IsExecutableOf}
 use Rattle.plan_proof.specs.TextPlans.{IsPlanOf}
 use Rattle.plan_proof.proofs.texts.SamePlans.{spelled-executables, spelled-plans}

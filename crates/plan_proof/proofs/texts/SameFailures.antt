@@ -8,9 +8,9 @@ use Rattle.plan_model.specs.declared.terms.GroundAtom.{GroundAtom}
 use Rattle.plan_model.specs.declared.schemas.ActionSchema.{ActionSchema}
 use Rattle.plan_model.specs.declared.steps.GroundAction.{GroundAction}
 use Rattle.plan_model.specs.declared.values.Pddl.{Pddl}
-use Rattle.plan_meaning.specs.Truth.{State, IsTrueIn}
-use Rattle.plan_meaning.specs.ClassicalPlan.{InTypeOf}
-use Rattle.plan_meaning.specs.FailingStep.{Cause, unknown_action, arguments, condition, goal_false, IsNamed, NamesAction, HasArguments, IsAllowed, FailsIn, Fails}
+use Rattle.plan_model.specs.plan_meaning.Truth.{State, IsTrueIn}
+use Rattle.plan_model.specs.plan_meaning.ClassicalPlan.{InTypeOf}
+use Rattle.plan_model.specs.plan_meaning.FailingStep.{Cause, unknown_action, arguments, condition, goal_false, IsNamed, NamesAction, HasArguments, IsAllowed, FailsIn, Fails}
 use Rattle.plan_texts.proofs.AlikeLaws.{pddl_symmetric}
 use Rattle.plan_texts.proofs.Members.{each-has, has-to_map, has-of_map, contains-has, has-contains}
 use Rattle.plan_texts.proofs.UniquePddl.{spelled_alike}

@@ -14,8 +14,8 @@ use Rattle.plan_model.specs.declared.effects.Effect.{Effect}
 use Rattle.plan_model.specs.declared.steps.GroundAction.{GroundAction}
 use Rattle.plan_model.specs.declared.values.Pddl.{Pddl}
 use Rattle.htn_base.specs.declared.name.Name.{Name}
-use Rattle.plan_meaning.specs.Truth.{State, AreTyped, IsTrueIn, Adds, Deletes, after}
-use Rattle.plan_meaning.specs.ClassicalPlan.{HasWord, AreObjects, InTypeOf, EndsIn, IsExecutable, IsPlan}
+use Rattle.plan_model.specs.plan_meaning.Truth.{State, AreTyped, IsTrueIn, Adds, Deletes, after}
+use Rattle.plan_model.specs.plan_meaning.ClassicalPlan.{HasWord, AreObjects, InTypeOf, EndsIn, IsExecutable, IsPlan}
 use Rattle.plan_texts.proofs.AlikeLaws.{pddl_symmetric}
 use Rattle.plan_texts.proofs.Members.{each-has, has-to_map, has-of_map}
 use Rattle.plan_texts.proofs.UniquePddl.{spelled_alike}

@@ -3,8 +3,8 @@ use Rattle.std.proofs.Common.{ℕ, ◌≡◌, ◌↔◌, ◌⊎◌, inl, inr, �
 use Rattle.text_forms.specs.Words.{Word}
 use Rattle.plan_texts.specs.Declared.{Declared, kind_at}
 use Rattle.plan_texts.specs.Said.{Typed, Said, holds, equal, no, all, any, imply, every, some, Saids, none, more, saids, typed, said_step, said}
-use Rattle.plan_meaning.specs.Truth.{State, ground, value_of, EachTrue, OneTrue, AreTyped, truth_step, IsTrueIn}
-use Rattle.plan_meaning.proofs.TruthEquations.{truth_roll}
+use Rattle.plan_model.specs.plan_meaning.Truth.{State, ground, value_of, EachTrue, OneTrue, AreTyped, truth_step, IsTrueIn}
+use Rattle.plan_model.proofs.plan_meaning.TruthEquations.{truth_roll}
 use Rattle.plan_model.specs.declared.terms.Param.{Param}
 use Rattle.plan_model.specs.declared.formulas.Formula.{Formula, roll-Formula}
 use Rattle.plan_model.specs.declared.formulas.Formula.TheFolds.{map-Formula, ind-Formula}

@@ -20,10 +20,10 @@ use Rattle.plan_model.specs.declared.schemas.MethodSchema.{MethodSchema}
 use Rattle.plan_model.specs.declared.values.Compiled.{Compiled}
 use Rattle.plan_model.specs.declared.values.Hddl.{Hddl}
 use Rattle.plan_model.specs.declared.values.Pddl.{Pddl}
-use Rattle.task_networks.specs.Order.{ArePairsOf, IsAcyclic}
-use Rattle.plan_meaning.specs.Compilation.{AreMethodPlans, IsCompiled}
+use Rattle.plan_model.specs.task_networks.Order.{ArePairsOf, IsAcyclic}
+use Rattle.plan_model.specs.plan_meaning.Compilation.{AreMethodPlans, IsCompiled}
 use Rattle.plan_model.specs.Pairs.{Pairs}
-use Rattle.plan_meaning.specs.Laws.{AreOrdered}
+use Rattle.plan_model.specs.plan_meaning.Laws.{AreOrdered}
 use Rattle.plan_proof.specs.Headline.{Headline, HeadlineAtBound}
 use Rattle.slot_encoding.specs.EncodedValue.{IsEncoded}
 use Rattle.slot_encoding.specs.Printed.{IsPrinted}

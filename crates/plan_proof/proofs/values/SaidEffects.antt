@@ -12,7 +12,7 @@ use Rattle.plan_model.specs.declared.effects.Effect.TheFolds.{fold-roll-Effect, 
 use Rattle.plan_model.specs.declared.effects.Effect.TheOpen.{Effect-F}
 use Rattle.slot_encoding.specs.SourceParts.{moved, effect_layer, source_effect}
 use Rattle.slot_encoding.specs.EncodedActions.{no_effect, is_empty_effect}
-use Rattle.encoded_texts.proofs.SaidParts.{words_of, words-typed}
+use Rattle.slot_encoding.proofs.encoded_texts.SaidParts.{words_of, words-typed}
 use Rattle.plan_proof.proofs.values.SaidFormulas.{put_param, put, params-put, formula-put, AreSoundTyped, SoundAtom, SoundSaid, params-sound, formula-sound}
 
 module _ (names : List (List ℕ)) (number : List Word → ℕ) (front : ℕ) where

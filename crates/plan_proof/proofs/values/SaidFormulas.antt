@@ -17,7 +17,7 @@ use Rattle.plan_model.specs.declared.formulas.Formula.TheOpen.{Formula-F}
 use Rattle.plan_model.specs.declared.formulas.Formula.TheVariants.{And, rolls-And}
 use Rattle.slot_encoding.specs.SourceParts.{name, retyped, moved, source_param, formula_layer, source_formula}
 use Rattle.slot_encoding.specs.EncodedActions.{no_part, is_empty}
-use Rattle.encoded_texts.proofs.SaidParts.{bare, words_of, words-typed}
+use Rattle.slot_encoding.proofs.encoded_texts.SaidParts.{bare, words_of, words-typed}
 use Rattle.plan_proof.proofs.values.TypeNumbers.{kind-within}
 
 -- what is printed: names are the words of the printed problem, number tells a type's number from its words

@@ -25,8 +25,8 @@ use Rattle.plan_model.specs.declared.networks.Guard.{Guard}
 use Rattle.plan_model.specs.declared.schemas.ActionSchema.{ActionSchema}
 use Rattle.plan_model.specs.declared.schemas.MethodPlan.{MethodPlan}
 use Rattle.plan_model.specs.declared.values.Compiled.{Compiled}
-use Rattle.task_networks.specs.Spelling.{numbers}
-use Rattle.plan_meaning.specs.Compilation.{once}
+use Rattle.plan_model.specs.task_networks.Spelling.{numbers}
+use Rattle.plan_model.specs.plan_meaning.Compilation.{once}
 use Rattle.slot_encoding.specs.SourceParts.{name, moved}
 use Rattle.slot_encoding.specs.OrderFormulas.{pair_of, wait_parts, clear_parts, copy_parts}
 use Rattle.slot_encoding.specs.EncodedNames.{joined, guard_types, checked_methods, free_predicate, first_check, task_predicate, action_predicate, check_predicate, guard_predicate, slot_param, order_numbers}

@@ -24,16 +24,16 @@ use Rattle.plan_model.specs.declared.schemas.ActionSchema.{ActionSchema}
 use Rattle.plan_model.specs.declared.schemas.MethodSchema.{MethodSchema}
 use Rattle.plan_model.specs.declared.schemas.MethodPlan.{MethodPlan}
 use Rattle.plan_model.specs.declared.values.Hddl.{Hddl}
-use Rattle.task_networks.specs.Net.{Net, one_action}
-use Rattle.task_networks.specs.Order.{IsLine, IsMaximal}
-use Rattle.task_networks.specs.Spelling.{numbers}
-use Rattle.task_networks.proofs.ScheduleLaws.{line_is_the_only_one}
-use Rattle.plan_meaning.specs.Compilation.{once, same_pair, same_guard, children, pairs, last_of, Keeps, params_of, params_of_task, params_of_action, placed, all_placed, IsParamIn, IsDeclaredIn, IsGuard, IsMethodPlan, AreMethodPlans}
+use Rattle.plan_model.specs.task_networks.Net.{Net, one_action}
+use Rattle.plan_model.specs.task_networks.Order.{IsLine, IsMaximal}
+use Rattle.plan_model.specs.task_networks.Spelling.{numbers}
+use Rattle.plan_model.proofs.task_networks.ScheduleLaws.{line_is_the_only_one}
+use Rattle.plan_model.specs.plan_meaning.Compilation.{once, same_pair, same_guard, children, pairs, last_of, Keeps, params_of, params_of_task, params_of_action, placed, all_placed, IsParamIn, IsDeclaredIn, IsGuard, IsMethodPlan, AreMethodPlans}
 use Rattle.plan_model.specs.Pairs.{pair, Pairs}
 use Rattle.plan_proof.specs.Same.{AreSameButNames}
 use Rattle.plan_texts.specs.Together.{Together}
 use Rattle.plan_texts.proofs.Together.{maps-length, together-of_maps, together-maps, together-and}
-use Rattle.encoded_texts.proofs.KeptSame.{keeps-same}
+use Rattle.slot_encoding.proofs.encoded_texts.KeptSame.{keeps-same}
 use Rattle.plan_proof.proofs.values.Pairing.{increasing-same}
 use Rattle.plan_proof.proofs.values.TypeNumbers.{AreApart}
 use Rattle.plan_proof.proofs.values.SameSound.{params-length}

@@ -35,7 +35,7 @@ use Rattle.plan_texts.specs.Together.{Together}
 use Rattle.plan_texts.proofs.Together.{maps-length, together-of_maps, together-maps, together-each}
 use Rattle.plan_proof.proofs.values.Pairing.{got}
 use Rattle.plan_proof.proofs.values.TypeNumbers.{word-within, kind-has, plain-some}
-use Rattle.encoded_texts.proofs.SaidParts.{words_of, words-typed}
+use Rattle.slot_encoding.proofs.encoded_texts.SaidParts.{words_of, words-typed}
 use Rattle.plan_proof.proofs.values.SaidFormulas.{SoundTyped, AreSoundTyped, InForce, SoundAtom, SoundSaid, each-typed, params-sound, formula-sound}
 use Rattle.plan_proof.proofs.values.SaidEffects.{SoundDone, effect-sound}
 

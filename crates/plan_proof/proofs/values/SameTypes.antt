@@ -17,7 +17,7 @@ use Rattle.plan_model.specs.declared.types.Object.{Object}
 use Rattle.plan_model.specs.declared.formulas.Formula.{Formula}
 use Rattle.plan_model.specs.declared.effects.Effect.{Effect}
 use Rattle.plan_model.specs.declared.values.Hddl.{Hddl}
-use Rattle.plan_meaning.specs.Compilation.{AsksSomething}
+use Rattle.plan_model.specs.plan_meaning.Compilation.{AsksSomething}
 use Rattle.slot_encoding.specs.SourceParts.{source_param, source_formula, source_effect}
 use Rattle.slot_encoding.specs.EncodedActions.{is_empty, is_empty_effect}
 use Rattle.plan_proof.specs.Same.{AreSameButNames}

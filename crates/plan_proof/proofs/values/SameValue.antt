@@ -22,14 +22,14 @@ use Rattle.plan_model.specs.declared.schemas.ActionSchema.{ActionSchema}
 use Rattle.plan_model.specs.declared.schemas.MethodPlan.{MethodPlan}
 use Rattle.plan_model.specs.declared.values.Compiled.{Compiled}
 use Rattle.plan_model.specs.declared.values.Pddl.{Pddl}
-use Rattle.task_networks.specs.Spelling.{numbers}
-use Rattle.plan_meaning.specs.Network.{InTypeOf}
-use Rattle.plan_meaning.specs.Compilation.{once, Keeps}
+use Rattle.plan_model.specs.task_networks.Spelling.{numbers}
+use Rattle.plan_model.specs.plan_meaning.Network.{InTypeOf}
+use Rattle.plan_model.specs.plan_meaning.Compilation.{once, Keeps}
 use Rattle.slot_encoding.specs.SourceParts.{name, renamed, retyped, source_param}
 use Rattle.slot_encoding.specs.OrderFormulas.{free_parts}
 use Rattle.slot_encoding.specs.EncodedNames.{guard_types, checked_methods, held, held_params, guard_word, slot_param, encoded_types, encoded_objects, encoded_predicates}
 use Rattle.slot_encoding.specs.EncodedValue.{same_atom, atom, first_atoms, AreGuardAtoms, IsInitial, IsEncoded}
-use Rattle.plan_meaning.proofs.examples.Unequal.{lt_to}
+use Rattle.plan_model.proofs.plan_meaning.examples.Unequal.{lt_to}
 use Rattle.plan_proof.specs.Same.{AreSameButNames}
 use Rattle.plan_texts.specs.Together.{Together}
 use Rattle.plan_texts.proofs.Together.{maps-length, together-of_maps, together-maps, together-and}

@@ -17,7 +17,7 @@ use Rattle.plan_model.specs.declared.values.Compiled.{Compiled}
 use Rattle.plan_model.specs.declared.values.Pddl.{Pddl}
 use Rattle.slot_encoding.specs.EncodedValue.{first_atoms, IsEncoded}
 use Rattle.slot_encoding.proofs.ValueOver.{over, over_is_encoded}
-use Rattle.plan_meaning.proofs.examples.RowValues.{child, always, problem, method_schema, method_plan, task_schema}
+use Rattle.plan_model.proofs.plan_meaning.examples.RowValues.{child, always, problem, method_schema, method_plan, task_schema}
 use Rattle.pddl_printer.specs.WrittenOut.{effect, written_out}
 use Rattle.pddl_printer.proofs.written_out.Equations.{out-Add, out-Both, out-When, effect-And, parts-Each, change-When}
 use Rattle.problem_texts.specs.Slots.{slots_of}

@@ -14,8 +14,8 @@ use Rattle.plan_model.specs.declared.formulas.Formula.TheVariants.{Holds, Equal,
 use Rattle.plan_model.specs.declared.effects.Effect.TheVariants as E
 use Rattle.plan_model.specs.declared.schemas.MethodPlan.{MethodPlan}
 use Rattle.plan_model.specs.declared.values.Compiled.{Compiled}
-use Rattle.task_networks.specs.Spelling.{numbers}
-use Rattle.task_networks.proofs.Numbers.{length-numbers}
+use Rattle.plan_model.specs.task_networks.Spelling.{numbers}
+use Rattle.plan_model.proofs.task_networks.Numbers.{length-numbers}
 use Rattle.plan_texts.specs.Types.{EachIs}
 use Rattle.slot_encoding.specs.SourceParts.{source_param, moved}
 use Rattle.slot_encoding.specs.EncodedNames.{slot_param, guard_predicate, order_numbers}

@@ -10,7 +10,7 @@ use Rattle.plan_model.specs.declared.formulas.Formula.TheVariants.{Holds, Not, F
 use Rattle.plan_model.specs.declared.effects.Effect.{Effect}
 use Rattle.plan_model.specs.declared.effects.Effect.TheVariants as E
 use Rattle.plan_model.specs.declared.values.Compiled.{Compiled}
-use Rattle.task_networks.specs.Spelling.{numbers}
+use Rattle.plan_model.specs.task_networks.Spelling.{numbers}
 use Rattle.slot_encoding.specs.EncodedNames.{order_numbers, first_slot}
 use Rattle.slot_encoding.specs.OrderFormulas.{OrderNumbers, pair_of, wait_parts, clear_parts, copy_parts, free_parts}
 use Rattle.pddl_printer.specs.WrittenOut.{placed}

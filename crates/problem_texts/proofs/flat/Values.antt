@@ -11,7 +11,7 @@ use Rattle.plan_model.specs.declared.values.Hddl.{Hddl}
 use Rattle.plan_model.specs.declared.values.Compiled.{Compiled}
 use Rattle.plan_model.specs.declared.values.Pddl.{Pddl}
 use Rattle.plan_texts.specs.Types.{EachIs}
-use Rattle.plan_meaning.specs.Compilation.{AreMethodPlans, IsCompiled}
+use Rattle.plan_model.specs.plan_meaning.Compilation.{AreMethodPlans, IsCompiled}
 use Rattle.plan_model.specs.Pairs.{Pairs}
 use Rattle.slot_encoding.specs.EncodedNames.{free_predicate, order_numbers}
 use Rattle.slot_encoding.specs.OrderFormulas.{free_parts}

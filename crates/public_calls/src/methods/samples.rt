@@ -4,8 +4,8 @@ ghost use Rattle.std.specs.Prelude.{◌≡◌, ◌≤◌, ◌∷◌, [], All, If
 ghost use Rattle.plan_model.specs.Parts.{AreListed};
 ghost use Rattle.public_calls.specs.Rising.{IsRising};
 
+use bound_calc::method_precs::compile;
 use htn_base::{List, Memory, Name, NameTable};
-use method_precs::compile;
 use plan_model::{
     Checks, Child, Compiled, Facts, Formula, Hddl, Head, MethodSchema, Parent, Term, Types,
 };

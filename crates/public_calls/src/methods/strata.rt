@@ -2,13 +2,13 @@
 
 ghost use Rattle.std.specs.Prelude.{IfOk};
 ghost use Rattle.public_calls.specs.Recursive.{IsRecursive};
-ghost use Rattle.stratifier.specs.Conditions.{IsSmallCompiled, HaveNoCycle};
+ghost use Rattle.bound_calc.specs.stratifier.Conditions.{IsSmallCompiled, HaveNoCycle};
 
 use crate::methods::samples::{always, one, problem, types};
+use bound_calc::stratifier::{Edge, bad_marks, edges, reached};
 use htn_base::{List, Memory, Name};
 use plan_model::{Child, Compiled, Head, MethodPlan, MethodSchema};
 use std::alloc::Global;
-use stratifier::{Edge, bad_marks, edges, reached};
 
 /// The method of the top task, of number 0, whose only child is that task.
 fn calls_itself(alloc: Global) -> Result<MethodSchema, Memory>

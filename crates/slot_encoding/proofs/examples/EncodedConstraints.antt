@@ -21,9 +21,9 @@ use Rattle.plan_model.specs.declared.schemas.MethodSchema.{MethodSchema}
 use Rattle.plan_model.specs.declared.schemas.MethodPlan.{MethodPlan}
 use Rattle.plan_model.specs.declared.values.Hddl.{Hddl}
 use Rattle.plan_model.specs.declared.values.Compiled.{Compiled}
-use Rattle.plan_meaning.specs.Compilation.{IsCompiled}
-use Rattle.plan_meaning.proofs.examples.PlanKinds.{plain, with_check, when_applied, none_rise}
-use Rattle.plan_meaning.proofs.examples.RowValues.{child, always, nothing, problem, method_schema, method_plan, task_schema, action_schema}
+use Rattle.plan_model.specs.plan_meaning.Compilation.{IsCompiled}
+use Rattle.plan_model.proofs.plan_meaning.examples.PlanKinds.{plain, with_check, when_applied, none_rise}
+use Rattle.plan_model.proofs.plan_meaning.examples.RowValues.{child, always, nothing, problem, method_schema, method_plan, task_schema, action_schema}
 use Rattle.plan_texts.specs.Declared.{Declared}
 use Rattle.plan_texts.proofs.Equations.{part-Holds, part-Equal, part-Not, part-And, part-Imply, part-Forall, effect-Add, effect-Delete, effect-And, effect-Forall}
 use Rattle.slot_encoding.specs.SourceParts.{source_formula}

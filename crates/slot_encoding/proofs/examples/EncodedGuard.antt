@@ -11,7 +11,7 @@ use Rattle.slot_encoding.specs.SourceParts.{name}
 use Rattle.slot_encoding.specs.EncodedNames.{guard_types}
 use Rattle.slot_encoding.specs.EncodedActions.{method_pre}
 use Rattle.slot_encoding.specs.EncodedValue.{IsInitial}
-use Rattle.plan_meaning.proofs.examples.GuardRow.{guarded, guard_method_plan, b1_is_not_red}
+use Rattle.plan_model.proofs.plan_meaning.examples.GuardRow.{guarded, guard_method_plan, b1_is_not_red}
 
 -- the one type of a guard is red
 red_is_guarded : guard_types guarded ≡ 2 ∷ []

@@ -23,10 +23,10 @@ use Rattle.plan_model.specs.declared.schemas.MethodPlan.{MethodPlan}
 use Rattle.plan_model.specs.declared.values.Hddl.{Hddl}
 use Rattle.plan_model.specs.declared.values.Compiled.{Compiled}
 use Rattle.plan_model.specs.Typing.{InType, IsPart, stay}
-use Rattle.plan_meaning.specs.Compilation.{AreGuards, IsCompiled}
-use Rattle.plan_meaning.proofs.examples.GuardRow.{guard_types, block_is_not_red}
-use Rattle.plan_meaning.proofs.examples.PlanKinds.{plain, with_check, when_applied, none_rise, holds_counts}
-use Rattle.plan_meaning.proofs.examples.RowValues.{child, always, nothing, problem, method_schema, method_plan, task_schema, action_schema}
+use Rattle.plan_model.specs.plan_meaning.Compilation.{AreGuards, IsCompiled}
+use Rattle.plan_model.proofs.plan_meaning.examples.GuardRow.{guard_types, block_is_not_red}
+use Rattle.plan_model.proofs.plan_meaning.examples.PlanKinds.{plain, with_check, when_applied, none_rise, holds_counts}
+use Rattle.plan_model.proofs.plan_meaning.examples.RowValues.{child, always, nothing, problem, method_schema, method_plan, task_schema, action_schema}
 use Rattle.plan_texts.specs.Declared.{Declared}
 use Rattle.plan_texts.proofs.Equations.{part-Holds, part-Equal, part-Not, part-And, part-Forall, effect-Add, effect-Delete, effect-And}
 use Rattle.slot_encoding.specs.EncodedActions.{encoded_method}

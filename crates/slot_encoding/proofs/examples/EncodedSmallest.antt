@@ -22,9 +22,9 @@ use Rattle.slot_encoding.specs.OrderFormulas.{free_parts}
 use Rattle.slot_encoding.specs.EncodedActions.{source_condition, source_change}
 use Rattle.slot_encoding.specs.EncodedValue.{encoded_actions, IsEncoded}
 use Rattle.slot_encoding.proofs.examples.RowTexts.{empty_condition, empty_effect}
-use Rattle.plan_meaning.proofs.examples.RowValues.{always, nothing}
-use Rattle.plan_meaning.proofs.examples.RowWords.{slot_1}
-use Rattle.plan_meaning.proofs.examples.SmallestRow.{smallest, smallest_names}
+use Rattle.plan_model.proofs.plan_meaning.examples.RowValues.{always, nothing}
+use Rattle.plan_model.proofs.plan_meaning.examples.RowWords.{slot_1}
+use Rattle.plan_model.proofs.plan_meaning.examples.SmallestRow.{smallest, smallest_names}
 
 abbrev words : List (List ℕ)
 words =

@@ -22,11 +22,11 @@ use Rattle.plan_model.specs.declared.schemas.MethodPlan.{MethodPlan}
 use Rattle.plan_model.specs.declared.values.Hddl.{Hddl}
 use Rattle.plan_model.specs.declared.values.Compiled.{Compiled}
 use Rattle.plan_model.specs.Typing.{Leads, stay, climb, IsBelow, IsPart, IsA}
-use Rattle.plan_meaning.specs.Network.{InTypeOf}
-use Rattle.plan_meaning.specs.Compilation.{IsCompiled}
-use Rattle.plan_meaning.proofs.ListedItems.{of_each}
-use Rattle.plan_meaning.proofs.examples.PlanKinds.{plain, none_rise}
-use Rattle.plan_meaning.proofs.examples.RowValues.{child, always, nothing, problem, method_schema, method_plan, task_schema, action_schema}
+use Rattle.plan_model.specs.plan_meaning.Network.{InTypeOf}
+use Rattle.plan_model.specs.plan_meaning.Compilation.{IsCompiled}
+use Rattle.plan_model.proofs.plan_meaning.ListedItems.{of_each}
+use Rattle.plan_model.proofs.plan_meaning.examples.PlanKinds.{plain, none_rise}
+use Rattle.plan_model.proofs.plan_meaning.examples.RowValues.{child, always, nothing, problem, method_schema, method_plan, task_schema, action_schema}
 use Rattle.plan_texts.specs.Declared.{Declared}
 use Rattle.plan_texts.proofs.SoundProblems.{each-all}
 use Rattle.plan_texts.proofs.Equations.{part-Holds, part-Not, part-And, part-Forall, effect-Add, effect-Delete, effect-And, effect-Forall}

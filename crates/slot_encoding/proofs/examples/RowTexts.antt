@@ -24,7 +24,7 @@ use Rattle.plan_model.specs.declared.formulas.Formula.TheVariants.{Holds, Equal,
 use Rattle.plan_model.specs.declared.formulas.Formula.{Formula, roll-Formula}
 use Rattle.plan_model.specs.declared.terms.Atom.{Atom}
 use Rattle.plan_model.specs.declared.terms.Term.{Term}
-use Rattle.plan_meaning.specs.Compilation.{AsksSomething}
+use Rattle.plan_model.specs.plan_meaning.Compilation.{AsksSomething}
 use Rattle.slot_encoding.specs.SourceParts.{moved, source_atom, formula_layer, source_formula}
 use Rattle.plan_model.specs.declared.effects.Effect.TheFolds.{fold-roll-Effect}
 use Rattle.plan_model.specs.declared.effects.Effect.TheOpen.{Effect-F}

@@ -8,14 +8,14 @@ use Rattle.plan_model.specs.declared.effects.Effect.{Effect}
 use Rattle.plan_model.specs.declared.effects.Effect.TheVariants as E
 use Rattle.plan_model.specs.declared.values.Pddl.{Pddl}
 use Rattle.plan_model.specs.Typing.{stay}
-use Rattle.plan_meaning.specs.Truth.{State, AreTyped, IsTrueIn, Adds, after}
-use Rattle.plan_meaning.specs.ClassicalPlan.{InTypeOf, IsPlan}
-use Rattle.plan_meaning.proofs.TruthEquations.{truth-Holds, truth-Not, truth-And, truth-Forall}
-use Rattle.plan_meaning.proofs.EffectEquations.{adds-Add, adds-Delete, adds-And}
-use Rattle.plan_meaning.proofs.examples.TruthExamples.{to, from}
-use Rattle.plan_meaning.proofs.examples.Unequal.{less}
-use Rattle.plan_meaning.proofs.ListedItems.{of_each}
-use Rattle.plan_meaning.proofs.examples.SmallestRow.{steps}
+use Rattle.plan_model.specs.plan_meaning.Truth.{State, AreTyped, IsTrueIn, Adds, after}
+use Rattle.plan_model.specs.plan_meaning.ClassicalPlan.{InTypeOf, IsPlan}
+use Rattle.plan_model.proofs.plan_meaning.TruthEquations.{truth-Holds, truth-Not, truth-And, truth-Forall}
+use Rattle.plan_model.proofs.plan_meaning.EffectEquations.{adds-Add, adds-Delete, adds-And}
+use Rattle.plan_model.proofs.plan_meaning.examples.TruthExamples.{to, from}
+use Rattle.plan_model.proofs.plan_meaning.examples.Unequal.{less}
+use Rattle.plan_model.proofs.plan_meaning.ListedItems.{of_each}
+use Rattle.plan_model.proofs.plan_meaning.examples.SmallestRow.{steps}
 use Rattle.slot_encoding.proofs.examples.EncodedSmallest.{printed, x, of_h, before, waits, clears, all_free, start, of_t, a, slot_object}
 
 abbrev problem : Pddl

@@ -6,7 +6,7 @@ use Rattle.plan_model.specs.declared.types.Object.{Object}
 use Rattle.plan_model.specs.declared.types.Parent.{Parent}
 use Rattle.plan_model.specs.declared.types.Types.{Types}
 use Rattle.plan_model.specs.Typing.{Leads, stay, climb, union_at, IsBelow, IsPart, InType}
-use Rattle.task_networks.proofs.Lists.{not-in_empty, head_or_tail, Contains-here, Contains-later}
+use Rattle.plan_model.proofs.task_networks.Lists.{not-in_empty, head_or_tail, Contains-here, Contains-later}
 use Rattle.slot_encoding.proofs.places.TypeChains.{leads_on, first_pair, climb_by}
 
 either : {A B : Type 0} → Dec A → Dec B → Dec (A ⊎ B)

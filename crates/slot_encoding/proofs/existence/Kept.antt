@@ -3,9 +3,9 @@ use Rattle.std.proofs.Common.{ℕ, inl, inr, List, [], ◌∷◌, ◌++◌, map,
 use Rattle.plan_model.specs.declared.options.Style.{Style}
 use Rattle.plan_model.specs.declared.terms.GroundAtom.{GroundAtom}
 use Rattle.plan_model.specs.declared.values.Compiled.{Compiled}
-use Rattle.task_networks.specs.Spelling.{numbers}
-use Rattle.plan_meaning.specs.Compilation.{Keeps}
-use Rattle.plan_meaning.specs.Network.{InTypeOf}
+use Rattle.plan_model.specs.task_networks.Spelling.{numbers}
+use Rattle.plan_model.specs.plan_meaning.Compilation.{Keeps}
+use Rattle.plan_model.specs.plan_meaning.Network.{InTypeOf}
 use Rattle.slot_encoding.specs.EncodedNames.{guard_predicate}
 use Rattle.slot_encoding.specs.EncodedValue.{atom, AreGuardAtoms}
 use Rattle.slot_encoding.proofs.existence.InTypes.{in_type_decided}

@@ -2,11 +2,11 @@
 use Rattle.std.proofs.Common.{◌≡◌, ◌≢◌, ◌⊎◌, inl, inr, Bool, true, false, not, List, [], ◌∷◌, refl, ap, sym, subst, ◌∙◌, Contains, true≢false}
 use Rattle.std.specs.Str.{bytes_eq}
 use Rattle.htn_base.specs.Different.{AreDifferent}
-use Rattle.task_networks.proofs.Filters.{filter_to, different-filter}
+use Rattle.plan_model.proofs.task_networks.Filters.{filter_to, different-filter}
 use Rattle.text_forms.specs.Words.{Word}
 use Rattle.plan_texts.proofs.Basics.{bytes_eq-true, bytes_eq-refl}
-use Rattle.plan_meaning.specs.Compilation.{once}
-use Rattle.plan_meaning.proofs.Pairs.{to_once}
+use Rattle.plan_model.specs.plan_meaning.Compilation.{once}
+use Rattle.plan_model.proofs.plan_meaning.Pairs.{to_once}
 
 abbrev pub single_words : List Word → List Word
 single_words = once bytes_eq

@@ -14,15 +14,15 @@ use Rattle.plan_model.specs.declared.schemas.MethodSchema.{MethodSchema}
 use Rattle.plan_model.specs.declared.schemas.MethodPlan.{MethodPlan}
 use Rattle.plan_model.specs.declared.values.Hddl.{Hddl}
 use Rattle.plan_model.specs.declared.values.Compiled.{Compiled}
-use Rattle.task_networks.proofs.Lists.{not-in_empty, head_or_tail, Contains-here, Contains-later}
+use Rattle.plan_model.proofs.task_networks.Lists.{not-in_empty, head_or_tail, Contains-here, Contains-later}
 use Rattle.plan_texts.specs.SoundValue.{IsSoundHead, IsSoundChild, IsSoundMethod, IsSoundHddl, scope_of}
 use Rattle.plan_texts.proofs.Members.{each-has, contains-has}
-use Rattle.plan_meaning.specs.Truth.{value_of, values_of, AreTyped}
-use Rattle.plan_meaning.specs.Network.{GroundMethod, ground_work, child_of, InTypeOf, IsDeclared}
-use Rattle.plan_meaning.specs.Compilation.{same_term, same_guard, check_child, children, params_of_task, params_of_action, params_of, placed, all_placed, IsParamIn, IsDeclaredIn, IsGuard, IsMethodPlan, IsCompiled}
+use Rattle.plan_model.specs.plan_meaning.Truth.{value_of, values_of, AreTyped}
+use Rattle.plan_model.specs.plan_meaning.Network.{GroundMethod, ground_work, child_of, InTypeOf, IsDeclared}
+use Rattle.plan_model.specs.plan_meaning.Compilation.{same_term, same_guard, check_child, children, params_of_task, params_of_action, params_of, placed, all_placed, IsParamIn, IsDeclaredIn, IsGuard, IsMethodPlan, IsCompiled}
 use Rattle.slot_encoding.specs.EncodedNames.{joined, guard_types}
-use Rattle.plan_meaning.proofs.Pairs.{once_to, to_once, append_to}
-use Rattle.plan_meaning.proofs.CompiledNetworks.{plan_of}
+use Rattle.plan_model.proofs.plan_meaning.Pairs.{once_to, to_once, append_to}
+use Rattle.plan_model.proofs.plan_meaning.CompiledNetworks.{plan_of}
 use Rattle.slot_encoding.specs.Printed.{IsPrinted}
 use Rattle.slot_encoding.proofs.Pieces.{GuardsDeclare}
 use Rattle.slot_encoding.proofs.places.ObjectTypes.{sound_here}

@@ -2,9 +2,9 @@
 use Rattle.std.proofs.Common.{ℕ, suc, ◌≡◌, ◌+◌, ◌==◌, ◌⊎◌, inl, inr, Bool, not, cond, List, [], ◌∷◌, length, slice_get, Some, None, position, ap, sym, subst, ◌∙◌, Contains, arith}
 use Rattle.std.specs.List.{position_or_len}
 use Rattle.std.proofs.lemmas.Bool.Decides.{eqb_tells}
-use Rattle.task_networks.proofs.Lists.{not-in_empty, head_or_tail, Contains-here, Contains-later}
-use Rattle.plan_meaning.specs.Compilation.{Keeps}
-use Rattle.plan_meaning.proofs.examples.Unequal.{to_lt}
+use Rattle.plan_model.proofs.task_networks.Lists.{not-in_empty, head_or_tail, Contains-here, Contains-later}
+use Rattle.plan_model.specs.plan_meaning.Compilation.{Keeps}
+use Rattle.plan_model.proofs.plan_meaning.examples.Unequal.{to_lt}
 use Rattle.slot_encoding.proofs.places.ListPlaces.{get_within}
 
 module _ {A : Type 0} (P : A → Type 0) where

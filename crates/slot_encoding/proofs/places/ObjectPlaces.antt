@@ -4,8 +4,8 @@ use Rattle.std.proofs.lemmas.List.{length-map}
 use Rattle.htn_base.specs.Escapes.{slot_word}
 use Rattle.plan_model.specs.declared.types.Object.{Object}
 use Rattle.plan_model.specs.declared.values.Compiled.{Compiled}
-use Rattle.task_networks.specs.Spelling.{numbers}
-use Rattle.task_networks.proofs.Numbers.{length-numbers}
+use Rattle.plan_model.specs.task_networks.Spelling.{numbers}
+use Rattle.plan_model.proofs.task_networks.Numbers.{length-numbers}
 use Rattle.slot_encoding.specs.SourceParts.{name, renamed, retyped}
 use Rattle.slot_encoding.specs.EncodedNames.{slot_type, first_slot, encoded_objects}
 use Rattle.slot_encoding.proofs.places.ListPlaces.{get_append_cases, get_left, get_right, get_map_cases, get_to_map, get_numbers, to_get_numbers, length-joined}

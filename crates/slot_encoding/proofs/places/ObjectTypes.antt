@@ -11,11 +11,11 @@ use Rattle.plan_model.specs.declared.values.Pddl.{Pddl}
 use Rattle.plan_model.specs.Typing.{stay, IsPart, InType}
 use Rattle.plan_texts.specs.Types.{EachIs}
 use Rattle.plan_texts.specs.SoundValue.{IsSoundHddl}
-use Rattle.plan_meaning.specs.Truth.{AreTyped}
+use Rattle.plan_model.specs.plan_meaning.Truth.{AreTyped}
 use Rattle.slot_encoding.specs.SourceParts.{retyped, source_param}
 use Rattle.slot_encoding.specs.EncodedNames.{slot_type, first_slot, encoded_types, encoded_objects}
-use Rattle.plan_meaning.specs.Network as Source
-use Rattle.plan_meaning.specs.ClassicalPlan as Printed
+use Rattle.plan_model.specs.plan_meaning.Network as Source
+use Rattle.plan_model.specs.plan_meaning.ClassicalPlan as Printed
 use Rattle.slot_encoding.specs.Printed.{IsPrinted}
 use Rattle.slot_encoding.proofs.Pieces.{TypesAgree, IsSlotObject, ListsAgree}
 use Rattle.slot_encoding.proofs.places.ObjectPlaces.{printed_object, printed_slot, object_cases, object_at, slot_at}

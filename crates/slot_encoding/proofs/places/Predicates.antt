@@ -5,7 +5,7 @@ use Rattle.std.proofs.str.Laws.{order}
 use Rattle.plan_model.specs.declared.terms.GroundAtom.{GroundAtom}
 use Rattle.plan_model.specs.declared.schemas.MethodPlan.{MethodPlan}
 use Rattle.plan_model.specs.declared.values.Compiled.{Compiled}
-use Rattle.plan_meaning.specs.Network.{Work, action, check, task}
+use Rattle.plan_model.specs.plan_meaning.Network.{Work, action, check, task}
 use Rattle.slot_encoding.specs.EncodedNames.{first_task, first_action, first_check, first_guard, top_predicate, free_predicate, before_predicate, task_predicate, action_predicate, check_predicate}
 use Rattle.slot_encoding.proofs.Pieces.{IsNumbered, work_predicate, work_args, held_atom, PredicatesDiffer}
 

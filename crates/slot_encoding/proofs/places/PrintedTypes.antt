@@ -8,7 +8,7 @@ use Rattle.plan_model.specs.declared.types.Parent.{Parent}
 use Rattle.plan_model.specs.declared.types.Types.{Types}
 use Rattle.plan_model.specs.declared.values.Compiled.{Compiled}
 use Rattle.plan_model.specs.Typing.{Leads, stay, climb, union_at, IsBelow, IsPart}
-use Rattle.task_networks.proofs.Lists.{not-in_empty, head_or_tail, Contains-later}
+use Rattle.plan_model.proofs.task_networks.Lists.{not-in_empty, head_or_tail, Contains-later}
 use Rattle.std.specs.Prelude.{Any}
 use Rattle.plan_texts.specs.Types.{Has}
 use Rattle.std.proofs.str.Laws.{order}
@@ -16,8 +16,8 @@ use Rattle.plan_texts.proofs.Members.{has-to_map, has-of_map}
 use Rattle.slot_encoding.proofs.places.Places.{any-has, has-any}
 use Rattle.slot_encoding.specs.SourceParts.{renamed, retyped}
 use Rattle.slot_encoding.specs.EncodedNames.{encoded_types}
-use Rattle.plan_meaning.proofs.Pairs.{map_to}
-use Rattle.plan_meaning.proofs.examples.Unequal.{to_lt}
+use Rattle.plan_model.proofs.plan_meaning.Pairs.{map_to}
+use Rattle.plan_model.proofs.plan_meaning.examples.Unequal.{to_lt}
 use Rattle.slot_encoding.proofs.places.TypeChains.{first_pair, climb_by}
 
 pub to_not_lt : (a b : ℕ) → b ≤ a → nat_lt a b ≡ false

@@ -11,9 +11,9 @@ use Rattle.plan_model.specs.declared.terms.Param.{Param}
 use Rattle.plan_model.specs.declared.formulas.Formula.{Formula, roll-Formula}
 use Rattle.plan_model.specs.declared.formulas.Formula.TheFolds.{fold-roll-Formula, map-Formula, ind-Formula}
 use Rattle.plan_model.specs.declared.formulas.Formula.TheOpen.{Formula-F}
-use Rattle.plan_meaning.specs.Truth.{State, ground, EachTrue, OneTrue, AreTyped, truth_step, IsTrueIn}
+use Rattle.plan_model.specs.plan_meaning.Truth.{State, ground, EachTrue, OneTrue, AreTyped, truth_step, IsTrueIn}
 use Rattle.slot_encoding.specs.SourceParts.{retyped, source_param, source_atom, formula_layer, source_formula}
-use Rattle.plan_meaning.proofs.TruthEquations.{truth_roll}
+use Rattle.plan_model.proofs.plan_meaning.TruthEquations.{truth_roll}
 use Rattle.slot_encoding.proofs.places.Sums.{value-moved, values-moved}
 
 module _ (names source : List (List ℕ)) where

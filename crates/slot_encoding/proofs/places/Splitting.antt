@@ -7,7 +7,7 @@ use Rattle.plan_model.specs.declared.effects.Effect.{Effect}
 use Rattle.plan_model.specs.declared.effects.Effect.TheVariants as E
 use Rattle.plan_model.specs.declared.schemas.MethodPlan.{MethodPlan}
 use Rattle.plan_model.specs.declared.values.Compiled.{Compiled}
-use Rattle.task_networks.specs.Spelling.{numbers}
+use Rattle.plan_model.specs.task_networks.Spelling.{numbers}
 use Rattle.slot_encoding.specs.EncodedNames.{order_numbers}
 use Rattle.slot_encoding.specs.OrderFormulas.{copy_parts, pair_of}
 use Rattle.slot_encoding.specs.EncodedActions.{splitting, children_slots, depth, held_task, is_free, spare, child_atoms}

@@ -2,9 +2,9 @@
 use Rattle.std.proofs.Common.{ℕ, zero, suc, ◌≡◌, ◌↔◌, ◌⊎◌, ◌+◌, ◌<◌, inl, inr, ◌++◌, List, [], ◌∷◌, map, length, slice_index, slice_get, Some, refl, ap, sym, subst, ◌∙◌, Contains, append_assoc, append-nil, arith}
 use Rattle.plan_model.specs.declared.terms.Term.{Term}
 use Rattle.plan_model.specs.declared.terms.Term.TheVariants.{Var, Obj}
-use Rattle.task_networks.specs.Spelling.{numbers}
-use Rattle.task_networks.proofs.Lists.{Contains-here, Contains-later, head_or_tail, not-in_empty}
-use Rattle.plan_meaning.specs.Truth.{value_of, values_of, EachTrue, OneTrue}
+use Rattle.plan_model.specs.task_networks.Spelling.{numbers}
+use Rattle.plan_model.proofs.task_networks.Lists.{Contains-here, Contains-later, head_or_tail, not-in_empty}
+use Rattle.plan_model.specs.plan_meaning.Truth.{value_of, values_of, EachTrue, OneTrue}
 use Rattle.slot_encoding.specs.SourceParts.{moved}
 
 pub each-append : {X : Type 0} (k : X → List ℕ → Type 0) (xs ys : List X) (v : List ℕ) → EachTrue k (xs ++ ys) v ↔ (EachTrue k xs v × EachTrue k ys v)

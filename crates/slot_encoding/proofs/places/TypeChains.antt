@@ -4,10 +4,10 @@ use Rattle.std.proofs.Math.Decide.{ℕ_discrete}
 use Rattle.plan_model.specs.declared.types.Parent.{Parent}
 use Rattle.plan_model.specs.Typing.{Leads, stay, climb}
 use Rattle.htn_base.specs.Different.{AreDifferent}
-use Rattle.task_networks.specs.Spelling.{numbers}
-use Rattle.task_networks.proofs.Lists.{not-in_empty, head_or_tail, Contains-here, Contains-later}
-use Rattle.task_networks.proofs.Different.{no_more}
-use Rattle.task_networks.proofs.Numbers.{length-numbers, to_numbers}
+use Rattle.plan_model.specs.task_networks.Spelling.{numbers}
+use Rattle.plan_model.proofs.task_networks.Lists.{not-in_empty, head_or_tail, Contains-here, Contains-later}
+use Rattle.plan_model.proofs.task_networks.Different.{no_more}
+use Rattle.plan_model.proofs.task_networks.Numbers.{length-numbers, to_numbers}
 
 pub leads_on : (parents : List Parent) (a b t : ℕ) → Leads parents a b → Leads parents b t → Leads parents a t
 leads_on parents a b t stay m = m

@@ -15,7 +15,7 @@ use Rattle.plan_texts.specs.Printable.{IsPlain}
 use Rattle.plan_texts.specs.SoundValue.{IsSoundHddl, method_words as old_words}
 use Rattle.plan_texts.proofs.Members.{each-has, each-lacks}
 use Rattle.plan_texts.proofs.Places.{each-join}
-use Rattle.plan_meaning.specs.Compilation.{AreMethodPlans, IsCompiled}
+use Rattle.plan_model.specs.plan_meaning.Compilation.{AreMethodPlans, IsCompiled}
 use Rattle.slot_encoding.specs.EncodedNames.{joined, checked_methods}
 use Rattle.slot_encoding.specs.EncodedActions.{encoded_check, method_word as named_word}
 use Rattle.slot_encoding.specs.EncodedValue.{encoded_methods, encoded_checks, encoded_source, encoded_actions}

@@ -12,7 +12,7 @@ use Rattle.plan_texts.specs.Printable.{AreSoundParams, IsSound, IsSoundEffect}
 use Rattle.plan_texts.specs.SoundValue.{IsSoundHddl, arities, scope_of}
 use Rattle.plan_texts.proofs.Members.{contains-has}
 use Rattle.slot_encoding.proofs.places.Places.{each-at-some}
-use Rattle.plan_meaning.specs.Compilation.{IsCompiled}
+use Rattle.plan_model.specs.plan_meaning.Compilation.{IsCompiled}
 use Rattle.slot_encoding.specs.SourceParts.{source_word}
 use Rattle.slot_encoding.specs.EncodedNames.{action_predicate, check_predicate}
 use Rattle.slot_encoding.specs.EncodedActions.{source_change}

@@ -16,16 +16,16 @@ use Rattle.plan_texts.specs.SoundValue.{IsSoundHddl, arities}
 use Rattle.plan_texts.proofs.Members.{each-has, contains-has, has-contains}
 use Rattle.plan_texts.proofs.Places.{each-join}
 use Rattle.slot_encoding.proofs.places.Places.{each-from_has}
-use Rattle.task_networks.specs.Spelling.{numbers}
-use Rattle.task_networks.proofs.Numbers.{numbers_to}
-use Rattle.plan_meaning.specs.Network.{InTypeOf}
-use Rattle.plan_meaning.specs.Compilation.{once}
+use Rattle.plan_model.specs.task_networks.Spelling.{numbers}
+use Rattle.plan_model.proofs.task_networks.Numbers.{numbers_to}
+use Rattle.plan_model.specs.plan_meaning.Network.{InTypeOf}
+use Rattle.plan_model.specs.plan_meaning.Compilation.{once}
 use Rattle.slot_encoding.specs.SourceParts.{source_formula}
 use Rattle.slot_encoding.specs.OrderFormulas.{free_parts}
 use Rattle.slot_encoding.specs.EncodedNames.{guard_types, guard_predicate, top_predicate, free_predicate, first_slot, order_numbers}
 use Rattle.slot_encoding.specs.EncodedActions.{is_empty, source_condition}
 use Rattle.slot_encoding.specs.EncodedValue.{same_atom, atom, first_atoms, AreGuardAtoms, IsInitial}
-use Rattle.plan_meaning.proofs.Pairs.{once_to}
+use Rattle.plan_model.proofs.plan_meaning.Pairs.{once_to}
 use Rattle.slot_encoding.proofs.places.KeptItems.{keeps_to}
 use Rattle.slot_encoding.specs.EncodedWords.{HasEncodedWords}
 use Rattle.slot_encoding.proofs.words.Lists.{each-map}

@@ -14,9 +14,9 @@ use Rattle.plan_texts.specs.SpellsHddl.{hddl_words}
 use Rattle.plan_texts.specs.Printable.{IsPlain}
 use Rattle.plan_texts.specs.SoundValue.{IsSoundHddl, method_words}
 use Rattle.plan_texts.proofs.Members.{each-has, contains-has, has-of_map}
-use Rattle.plan_meaning.specs.Compilation.{IsMethodPlan, AreMethodPlans, IsCompiled}
+use Rattle.plan_model.specs.plan_meaning.Compilation.{IsMethodPlan, AreMethodPlans, IsCompiled}
 use Rattle.slot_encoding.specs.EncodedNames.{joined, guard_types, checked_methods}
-use Rattle.plan_meaning.proofs.Pairs.{once_to}
+use Rattle.plan_model.proofs.plan_meaning.Pairs.{once_to}
 use Rattle.slot_encoding.proofs.places.Predicates.{is_checked}
 use Rattle.slot_encoding.proofs.words.Lists.{each-of_map, each-filter, different-filter, joined-has}
 use Rattle.slot_encoding.proofs.words.PlanParts.{IsSoundPlan, IsPlanGuard, sound_plans}

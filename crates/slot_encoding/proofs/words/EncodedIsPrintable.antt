@@ -13,7 +13,7 @@ use Rattle.plan_texts.specs.Types.{Has, EachIs}
 use Rattle.plan_texts.specs.Printable.{IsPlain, AreSoundParams, IsSound, IsSoundEffect}
 use Rattle.plan_texts.specs.SoundValue.{IsSoundHddl}
 use Rattle.plan_texts.specs.PrintableValue.{IsPrintable}
-use Rattle.plan_meaning.specs.Compilation.{IsCompiled}
+use Rattle.plan_model.specs.plan_meaning.Compilation.{IsCompiled}
 use Rattle.slot_encoding.specs.EncodedValue.{encoded_actions, IsInitial, IsEncoded}
 use Rattle.slot_encoding.specs.EncodedWords.{own_word, type_words, object_words, HasEncodedWords}
 use Rattle.slot_encoding.specs.Numberable.{IsNumberable}

@@ -17,10 +17,10 @@ use Rattle.plan_texts.specs.SoundValue.{IsSoundHddl}
 use Rattle.plan_texts.proofs.Members.{length-map}
 use Rattle.plan_texts.proofs.Places.{each-at}
 use Rattle.slot_encoding.proofs.places.Places.{same_place}
-use Rattle.plan_meaning.specs.Compilation.{IsCompiled}
+use Rattle.plan_model.specs.plan_meaning.Compilation.{IsCompiled}
 use Rattle.slot_encoding.specs.SourceParts.{source_word}
 use Rattle.slot_encoding.specs.EncodedNames.{joined, guard_types, guard_word}
-use Rattle.plan_meaning.proofs.examples.Unequal.{to_lt}
+use Rattle.plan_model.proofs.plan_meaning.examples.Unequal.{to_lt}
 use Rattle.slot_encoding.proofs.places.PrintedTypes.{to_not_lt}
 use Rattle.slot_encoding.proofs.places.ListPlaces.{length-joined}
 use Rattle.slot_encoding.proofs.words.Lists.{different-once}

@@ -5,13 +5,13 @@ use Rattle.htn_base.specs.Different.{AreDifferent}
 use Rattle.plan_texts.specs.Types.{Has, EachIs}
 use Rattle.std.proofs.lemmas.Bool.Decides.{eqb_tells}
 use Rattle.plan_texts.proofs.Members.{each-lacks, lacks-each, has-contains, contains-has}
-use Rattle.plan_meaning.specs.Compilation.{once}
-use Rattle.plan_meaning.proofs.Pairs.{once_to}
-use Rattle.task_networks.proofs.Filters.{filter_to}
+use Rattle.plan_model.specs.plan_meaning.Compilation.{once}
+use Rattle.plan_model.proofs.plan_meaning.Pairs.{once_to}
+use Rattle.plan_model.proofs.task_networks.Filters.{filter_to}
 use Rattle.plan_texts.proofs.Places.{each-join}
 use Rattle.slot_encoding.specs.EncodedNames.{joined}
-use Rattle.task_networks.specs.Spelling.{numbers}
-use Rattle.task_networks.proofs.Numbers.{numbers_to}
+use Rattle.plan_model.specs.task_networks.Spelling.{numbers}
+use Rattle.plan_model.proofs.task_networks.Numbers.{numbers_to}
 
 pub each-left : {X : Type 0} (P : X → Type 0) (xs ys : List X) → EachIs P (xs ++ ys) → EachIs P xs
 each-left P [] ys e = tt

@@ -27,8 +27,8 @@ use Rattle.plan_texts.specs.Printable.{IsInForce, IsSoundAtom, IsSound, IsSoundE
 use Rattle.plan_texts.specs.SoundValue.{IsSoundHddl, IsSoundConstraint, arities, scope_of}
 use Rattle.plan_texts.proofs.Members.{each-has, has-contains, length-map}
 use Rattle.plan_texts.proofs.Places.{each-join}
-use Rattle.task_networks.specs.Spelling.{numbers}
-use Rattle.task_networks.proofs.Numbers.{numbers_to}
+use Rattle.plan_model.specs.task_networks.Spelling.{numbers}
+use Rattle.plan_model.proofs.task_networks.Numbers.{numbers_to}
 use Rattle.slot_encoding.specs.SourceParts.{moved}
 use Rattle.slot_encoding.specs.OrderFormulas.{pair_of, copy_parts}
 use Rattle.slot_encoding.specs.EncodedNames.{first_task, top_predicate, task_predicate, action_predicate, check_predicate, guard_predicate, order_numbers}

@@ -13,7 +13,7 @@ use Rattle.plan_texts.specs.Printable.{IsPlain}
 use Rattle.plan_texts.specs.SoundValue.{IsSoundHddl}
 use Rattle.plan_texts.proofs.Members.{each-has, has-to_map}
 use Rattle.plan_texts.proofs.Places.{each-join}
-use Rattle.task_networks.specs.Spelling.{numbers}
+use Rattle.plan_model.specs.task_networks.Spelling.{numbers}
 use Rattle.slot_encoding.specs.EncodedNames.{encoded_types, encoded_objects}
 use Rattle.slot_encoding.proofs.places.ObjectPlaces.{printed_object, printed_slot}
 use Rattle.slot_encoding.specs.EncodedWords.{own_word, type_words, object_words}

@@ -16,10 +16,10 @@ use Rattle.plan_model.specs.declared.schemas.ActionSchema.{ActionSchema}
 use Rattle.plan_model.specs.declared.schemas.MethodSchema.{MethodSchema}
 use Rattle.plan_model.specs.declared.schemas.MethodPlan.{MethodPlan}
 use Rattle.plan_model.specs.declared.values.Compiled.{Compiled}
-use Rattle.task_networks.specs.Order.{IsLine}
-use Rattle.task_networks.specs.Spelling.{numbers}
-use Rattle.task_networks.proofs.Lists.{not-in_empty, last_cases}
-use Rattle.task_networks.proofs.Numbers.{length-numbers, numbers_to}
+use Rattle.plan_model.specs.task_networks.Order.{IsLine}
+use Rattle.plan_model.specs.task_networks.Spelling.{numbers}
+use Rattle.plan_model.proofs.task_networks.Lists.{not-in_empty, last_cases}
+use Rattle.plan_model.proofs.task_networks.Numbers.{length-numbers, numbers_to}
 use Rattle.plan_texts.specs.Declared.{Declared, kinds, variable}
 use Rattle.htn_base.specs.Different.{AreDifferent}
 use Rattle.plan_texts.specs.Types.{Has, EachIs}
@@ -29,10 +29,10 @@ use Rattle.plan_texts.specs.SoundValue.{IsSoundHddl, IsSoundMethod, IsSoundHead,
 use Rattle.plan_texts.proofs.Members.{each-has, contains-has, has-contains, length-map}
 use Rattle.plan_texts.proofs.Places.{each-join}
 use Rattle.slot_encoding.proofs.places.Places.{each-at-some, each-from_has}
-use Rattle.plan_meaning.specs.Compilation.{children, pairs, last_of, params_of_task, params_of_action, params_of, placed, all_placed, IsGuard, same_guard, IsMethodPlan, AreMethodPlans, IsCompiled}
+use Rattle.plan_model.specs.plan_meaning.Compilation.{children, pairs, last_of, params_of_task, params_of_action, params_of, placed, all_placed, IsGuard, same_guard, IsMethodPlan, AreMethodPlans, IsCompiled}
 use Rattle.plan_model.specs.Pairs.{Pairs}
 use Rattle.slot_encoding.specs.EncodedActions.{slot_vars}
-use Rattle.plan_meaning.proofs.Pairs.{once_to}
+use Rattle.plan_model.proofs.plan_meaning.Pairs.{once_to}
 use Rattle.slot_encoding.proofs.places.KeptItems.{keeps_to}
 use Rattle.slot_encoding.proofs.words.Lists.{each-map}
 use Rattle.slot_encoding.proofs.words.Scopes.{last-different}

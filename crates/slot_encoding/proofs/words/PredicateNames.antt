@@ -21,8 +21,8 @@ use Rattle.plan_texts.specs.SoundValue.{IsSoundHddl, arities}
 use Rattle.plan_texts.proofs.Basics.{apart}
 use Rattle.plan_texts.proofs.Members.{each-has, each-lacks, has-to_map, length-map}
 use Rattle.plan_texts.proofs.Places.{plain-variable, each-join}
-use Rattle.task_networks.specs.Spelling.{numbers}
-use Rattle.plan_meaning.specs.Compilation.{IsCompiled}
+use Rattle.plan_model.specs.task_networks.Spelling.{numbers}
+use Rattle.plan_model.specs.plan_meaning.Compilation.{IsCompiled}
 use Rattle.slot_encoding.specs.SourceParts.{name}
 use Rattle.slot_encoding.specs.EncodedNames.{guard_types, guard_word, checked_methods, encoded_objects, encoded_predicates, held_params}
 use Rattle.slot_encoding.proofs.places.ObjectPlaces.{length-objects}

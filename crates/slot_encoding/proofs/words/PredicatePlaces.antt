@@ -12,8 +12,8 @@ use Rattle.plan_texts.specs.SpellsHddl.{hddl_words}
 use Rattle.plan_texts.specs.SoundValue.{arities}
 use Rattle.plan_texts.proofs.Members.{length-map}
 use Rattle.slot_encoding.proofs.places.Places.{get-map}
-use Rattle.task_networks.specs.Spelling.{numbers}
-use Rattle.task_networks.proofs.Numbers.{length-numbers}
+use Rattle.plan_model.specs.task_networks.Spelling.{numbers}
+use Rattle.plan_model.proofs.task_networks.Numbers.{length-numbers}
 use Rattle.slot_encoding.specs.SourceParts.{source_param}
 use Rattle.slot_encoding.specs.EncodedNames.{own, generated, slot_param, held, held_params, object_type, guard_word, guard_types, checked_methods, encoded_predicates, first_task, first_action, first_check, first_guard, top_predicate, free_predicate, before_predicate, action_predicate, check_predicate, guard_predicate}
 use Rattle.slot_encoding.proofs.places.ListPlaces.{get_within, within_get, get_left, get_right, get_to_map, length-joined}

@@ -15,8 +15,8 @@ use Rattle.plan_texts.specs.Printable.{IsInForce, IsSoundParam, AreSoundParams}
 use Rattle.plan_texts.specs.SoundValue.{IsSoundHddl, arities, scope_of}
 use Rattle.plan_texts.proofs.Members.{each-lacks, length-map}
 use Rattle.plan_texts.proofs.Places.{each-join}
-use Rattle.task_networks.specs.Spelling.{numbers}
-use Rattle.task_networks.proofs.Numbers.{length-numbers}
+use Rattle.plan_model.specs.task_networks.Spelling.{numbers}
+use Rattle.plan_model.proofs.task_networks.Numbers.{length-numbers}
 use Rattle.slot_encoding.specs.SourceParts.{name, source_param}
 use Rattle.slot_encoding.proofs.places.ListPlaces.{length-joined}
 use Rattle.slot_encoding.specs.EncodedWords.{param_words, numbered, HasEncodedWords}

@@ -9,10 +9,10 @@ use Rattle.plan_model.specs.declared.schemas.MethodPlan.{MethodPlan}
 use Rattle.plan_model.specs.declared.values.Compiled.{Compiled}
 use Rattle.plan_texts.specs.Types.{Has, EachIs}
 use Rattle.plan_texts.proofs.Members.{each-has, has-to_map, has-contains, contains-has, length-map}
-use Rattle.task_networks.specs.Spelling.{numbers}
-use Rattle.task_networks.proofs.Numbers.{length-numbers, numbers_to, to_numbers}
-use Rattle.task_networks.proofs.Different.{no_more}
-use Rattle.plan_meaning.proofs.Pairs.{map_to}
+use Rattle.plan_model.specs.task_networks.Spelling.{numbers}
+use Rattle.plan_model.proofs.task_networks.Numbers.{length-numbers, numbers_to, to_numbers}
+use Rattle.plan_model.proofs.task_networks.Different.{no_more}
+use Rattle.plan_model.proofs.plan_meaning.Pairs.{map_to}
 use Rattle.slot_encoding.specs.EncodedWords.{own_word, HasEncodedWords}
 use Rattle.slot_encoding.proofs.words.Lists.{each-right, each-from_get, different-numbers}
 use Rattle.slot_encoding.proofs.words.KnownWords.{known_objects, known_methods}

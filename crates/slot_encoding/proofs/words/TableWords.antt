@@ -8,7 +8,7 @@ use Rattle.plan_texts.specs.Types.{Has}
 use Rattle.plan_texts.proofs.Basics.{bytes_eq-true, bytes_eq-refl}
 use Rattle.slot_encoding.proofs.places.Places.{get-word}
 use Rattle.slot_encoding.specs.SourceParts.{name}
-use Rattle.plan_meaning.proofs.examples.Unequal.{to_lt}
+use Rattle.plan_model.proofs.plan_meaning.examples.Unequal.{to_lt}
 use Rattle.slot_encoding.proofs.places.ListPlaces.{get_within}
 
 module _ (w : Word) where

@@ -18,8 +18,8 @@ use Rattle.plan_texts.specs.Printable.{IsInForce, IsSoundAtom, AreSoundParams, I
 use Rattle.plan_texts.specs.SoundValue.{IsSoundHddl, arities, scope_of}
 use Rattle.plan_texts.proofs.Members.{has-contains, length-map}
 use Rattle.plan_texts.proofs.Places.{each-join}
-use Rattle.task_networks.specs.Spelling.{numbers}
-use Rattle.task_networks.proofs.Numbers.{length-numbers, numbers_to}
+use Rattle.plan_model.specs.task_networks.Spelling.{numbers}
+use Rattle.plan_model.proofs.task_networks.Numbers.{length-numbers, numbers_to}
 use Rattle.slot_encoding.specs.EncodedActions.{is_free, freeing, waiting, held_work, source_condition, work_action}
 use Rattle.slot_encoding.specs.EncodedWords.{param_words, formula_words, HasEncodedWords}
 use Rattle.slot_encoding.proofs.words.Lists.{each-map}

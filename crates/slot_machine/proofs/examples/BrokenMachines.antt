@@ -1,14 +1,14 @@
 -- Four machines that are wrong, each with a run that spells nothing or a spelled schedule that doesn't run.
 use Rattle.std.proofs.Common.{ℕ, zero, suc, ◌≡◌, ◌<◌, ◌≤◌, ◌⊎◌, inl, inr, List, [], ◌∷◌, length, slice_get, Some, refl, sym, subst, Contains, arith}
-use Rattle.task_networks.specs.Net.{Net, count}
-use Rattle.task_networks.specs.Lawful.{IsLawful}
-use Rattle.task_networks.specs.Tree.{Tree, split, more, done, none, Address}
+use Rattle.plan_model.specs.task_networks.Net.{Net, count}
+use Rattle.plan_model.specs.task_networks.Lawful.{IsLawful}
+use Rattle.plan_model.specs.task_networks.Tree.{Tree, split, more, done, none, Address}
 use Rattle.htn_base.specs.Different.{AreDifferent}
-use Rattle.task_networks.specs.Spelling.{Act, run, apply, Spells}
-use Rattle.task_networks.proofs.examples.Nets.{tail, chain, ChainPair, of_t, of_x, chain_q, chain_y, chain_t, chain_lawful, chain_p, chain_precedes, chain_decides, no_chain, tail_t, tail_works, TailPair, again, tail_a, tail_lawful}
-use Rattle.task_networks.proofs.Lists.{head_or_tail, not-in_empty}
-use Rattle.task_networks.proofs.SpellingTests.{spells_by}
-use Rattle.task_networks.proofs.Tests.{schedule_iff}
+use Rattle.plan_model.specs.task_networks.Spelling.{Act, run, apply, Spells}
+use Rattle.plan_model.proofs.task_networks.examples.Nets.{tail, chain, ChainPair, of_t, of_x, chain_q, chain_y, chain_t, chain_lawful, chain_p, chain_precedes, chain_decides, no_chain, tail_t, tail_works, TailPair, again, tail_a, tail_lawful}
+use Rattle.plan_model.proofs.task_networks.Lists.{head_or_tail, not-in_empty}
+use Rattle.plan_model.proofs.task_networks.SpellingTests.{spells_by}
+use Rattle.plan_model.proofs.task_networks.Tests.{schedule_iff}
 use Rattle.slot_machine.specs.Machine.{SlotState, after_act, IsSlotOf, May, start, MayRun, IsUnblocked}
 use Rattle.slot_machine.specs.Laws.{SpellsFront}
 use Rattle.slot_machine.proofs.RunSpellings.{runs_iff_spells}

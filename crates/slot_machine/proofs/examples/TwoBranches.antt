@@ -1,15 +1,15 @@
 -- Runs of the machine, worked out.
 use Rattle.std.proofs.Common.{ℕ, zero, suc, ◌≡◌, ◌<◌, ◌⊎◌, inl, inr, List, [], ◌∷◌, Some, Bool, false, true, refl, sym, subst, arith}
-use Rattle.task_networks.specs.Order.{direct, Precedes}
-use Rattle.task_networks.specs.Net.{Net, count}
-use Rattle.task_networks.specs.Lawful.{IsLawful}
-use Rattle.task_networks.specs.Tree.{Tree, split, more, done, none, Address, used, open_leaf, label_at}
-use Rattle.task_networks.specs.Schedule.{Blocks}
-use Rattle.task_networks.specs.Front.{IsFront}
-use Rattle.task_networks.specs.Spelling.{Act, apply, run, Spells}
-use Rattle.task_networks.proofs.examples.Nets.{of_t, of_x, no_chain, chain, chain_y, chain_t, chain_x, ChainMethod, ChainPair, first_then_second, first_then_second_iff}
-use Rattle.task_networks.proofs.SpellingTests.{spells_by}
-use Rattle.task_networks.proofs.Tests.{Decides, schedule_iff}
+use Rattle.plan_model.specs.task_networks.Order.{direct, Precedes}
+use Rattle.plan_model.specs.task_networks.Net.{Net, count}
+use Rattle.plan_model.specs.task_networks.Lawful.{IsLawful}
+use Rattle.plan_model.specs.task_networks.Tree.{Tree, split, more, done, none, Address, used, open_leaf, label_at}
+use Rattle.plan_model.specs.task_networks.Schedule.{Blocks}
+use Rattle.plan_model.specs.task_networks.Front.{IsFront}
+use Rattle.plan_model.specs.task_networks.Spelling.{Act, apply, run, Spells}
+use Rattle.plan_model.proofs.task_networks.examples.Nets.{of_t, of_x, no_chain, chain, chain_y, chain_t, chain_x, ChainMethod, ChainPair, first_then_second, first_then_second_iff}
+use Rattle.plan_model.proofs.task_networks.SpellingTests.{spells_by}
+use Rattle.plan_model.proofs.task_networks.Tests.{Decides, schedule_iff}
 use Rattle.slot_machine.specs.Machine.{Runs, start}
 use Rattle.slot_machine.specs.Causes.{IsWaiting}
 use Rattle.slot_machine.proofs.SpellingRuns.{runs_from_spells}

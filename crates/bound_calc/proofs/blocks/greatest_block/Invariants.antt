@@ -1,6 +1,6 @@
 use Rattle.std.proofs.Common.{ℕ, ◌≤◌, length}
 use Rattle.plan_model.specs.Pairs.{Pairs}
-use Rattle.task_networks.specs.Bound.{AreBlocks}
+use Rattle.plan_model.specs.task_networks.Bound.{AreBlocks}
 use Rattle.bound_calc.specs.Blocks.{child_number}
 use Rattle.bound_calc.proofs.Along.{IsSummed}
 use Rattle.bound_calc.proofs.blocks.greatest_block.Given as goal

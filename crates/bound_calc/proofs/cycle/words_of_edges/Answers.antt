@@ -1,4 +1,4 @@
-use Rattle.stratifier.specs.declared.edge.Edge.{Edge}
+use Rattle.bound_calc.specs.declared.stratifier.edge.Edge.{Edge}
 use Rattle.bound_calc.proofs.Cycles.{begun-more}
 use Rattle.bound_calc.proofs.cycle.words_of_edges.Goals as goal
 

@@ -1,12 +1,12 @@
 use Rattle.std.proofs.Common.{◌≡◌, ◌<◌, ◌+◌, length, slice_get, get_or, Some, replicate, max, refl, sym, ap, subst, ◌∙◌, arith}
 use Rattle.std.proofs.lemmas.List.{get_or_read}
-use Rattle.stratifier.specs.Conditions.{IsOrdered, IsSmallMethod}
-use Rattle.stratifier.specs.Stratified.{number_of}
-use Rattle.plan_meaning.specs.Bound.{IsBound}
+use Rattle.bound_calc.specs.stratifier.Conditions.{IsOrdered, IsSmallMethod}
+use Rattle.bound_calc.specs.stratifier.Stratified.{number_of}
+use Rattle.plan_model.specs.plan_meaning.Bound.{IsBound}
 use Rattle.bound_calc.specs.Blocks.{IsGreatest, IsPastBy}
 use Rattle.bound_calc.specs.Lines.{HasLine}
 use Rattle.bound_calc.specs.ByRank.{AreByRank, HaveNumbers}
-use Rattle.plan_meaning.specs.Network.{top_task}
+use Rattle.plan_model.specs.plan_meaning.Network.{top_task}
 use Rattle.bound_calc.specs.Past.{IsRefused}
 use Rattle.bound_calc.proofs.Counting.{of_all, plan_at, counted_none, have_numbers, are_ranked, method_below, group_below, counted_more, refused, counted_all, error_told}
 use Rattle.bound_calc.proofs.groups.bound.Goals as goal

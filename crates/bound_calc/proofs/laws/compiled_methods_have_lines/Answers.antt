@@ -1,6 +1,6 @@
 use Rattle.std.proofs.Common.{◌∷◌, get_or}
 use Rattle.std.proofs.lemmas.Option.{slice_get-get_or}
-use Rattle.plan_meaning.proofs.CompiledNetworks.{plan_of}
+use Rattle.plan_model.proofs.plan_meaning.CompiledNetworks.{plan_of}
 use Rattle.bound_calc.proofs.laws.compiled_methods_have_lines.Goals as goal
 
 pub returns : goal.returns

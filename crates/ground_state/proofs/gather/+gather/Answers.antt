@@ -5,7 +5,7 @@ use Rattle.plan_model.specs.declared.terms.GroundAtom.{GroundAtom}
 use Rattle.plan_model.specs.Typing.{InType}
 use Rattle.plan_model.proofs.PartsOf.{in_type_within}
 use Rattle.ground_state.proofs.DomainLaws.{AtPlace, at_one, at_none}
-use Rattle.plan_meaning.specs.Truth.{State}
+use Rattle.plan_model.specs.plan_meaning.Truth.{State}
 use Rattle.problem_index.specs.Domains.{places}
 use Rattle.ground_state.specs.Frames.{Frame, frame, pushed}
 use Rattle.ground_state.specs.Room.{effect_fits, EffectFits, EffectFitsWithin}

@@ -1,7 +1,7 @@
 use Rattle.std.proofs.Common.{ℕ, ◌≡◌, ◌<◌, ◌↔◌, ◌++◌, not, IsTrue, List, [], ◌∷◌, length, Some, refl, sym, subst, ap, ◌∙◌, append_assoc, true≢false, arith}
 use Rattle.std.proofs.lemmas.Bool.{eqb-true}
 use Rattle.plan_model.specs.Typing.{InType}
-use Rattle.plan_meaning.specs.Truth.{IsTrueIn, AreTyped}
+use Rattle.plan_model.specs.plan_meaning.Truth.{IsTrueIn, AreTyped}
 use Rattle.ground_state.specs.Frames.{Frame, frame, pushed}
 use Rattle.ground_state.specs.Room.{fits, Fits, FitsWithin}
 use Rattle.ground_state.specs.Search.{Is}

@@ -1,7 +1,7 @@
 use Rattle.std.proofs.Common.{ℕ, ◌≡◌, ◌+◌, ◌*◌, ◌<◌, ◌++◌, not, List, [], ◌∷◌, length, get_or, Some}
 use Rattle.plan_model.specs.declared.formulas.Formula.{Formula}
 use Rattle.plan_model.specs.Typing.{InType}
-use Rattle.plan_meaning.specs.Truth.{IsTrueIn, AreTyped}
+use Rattle.plan_model.specs.plan_meaning.Truth.{IsTrueIn, AreTyped}
 use Rattle.ground_state.specs.Frames.{frame}
 use Rattle.problem_index.specs.Domains.{at}
 use Rattle.ground_state.specs.States.{atoms}

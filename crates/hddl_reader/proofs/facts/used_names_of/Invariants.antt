@@ -1,7 +1,7 @@
 use Rattle.std.proofs.Common.{◌≡◌, ◌-◌, ◌≤◌}
 use Rattle.text_forms.specs.Placed.{parts_at}
 use Rattle.text_forms.specs.Tokens.{token_count}
-use Rattle.sexpr_text.specs.Positions.{IsPosition}
+use Rattle.text_forms.specs.sexpr_text.Positions.{IsPosition}
 use Rattle.gd_reader.specs.Added.{AddsOf}
 use Rattle.gd_reader.specs.Answers.{with_front}
 use Rattle.gd_reader.specs.ShownFrom.{behind_at}

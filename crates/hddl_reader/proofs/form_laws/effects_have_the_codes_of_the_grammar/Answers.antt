@@ -1,9 +1,9 @@
 use Rattle.std.proofs.Common.{[]}
-use Rattle.form_grammar.specs.Effects.{eff, effect_rows, effect_form}
+use Rattle.text_forms.specs.form_grammar.Effects.{eff, effect_rows, effect_form}
 use Rattle.gd_reader.specs.Effects.{effect_read}
 use Rattle.gd_reader.specs.Grammar as plain
 use Rattle.gd_reader.proofs.EffectExact.{effect_exact}
-use Rattle.form_grammar.proofs.TextLaws.{list_cuttable, prefix_laws}
+use Rattle.text_forms.proofs.form_grammar.TextLaws.{list_cuttable, prefix_laws}
 use Rattle.hddl_reader.proofs.Calls.{reads_whole, faults_depart, same_form}
 use Rattle.hddl_reader.proofs.EffectsSaid.{effect_said}
 use Rattle.hddl_reader.proofs.form_laws.effects_have_the_codes_of_the_grammar.Goals as goal

@@ -1,10 +1,10 @@
 use Rattle.std.proofs.Common.{[]}
-use Rattle.form_grammar.specs.Lists.{names, list_rows}
+use Rattle.text_forms.specs.form_grammar.Lists.{names, list_rows}
 use Rattle.gd_reader.specs.ListGrammar.{params_form}
 use Rattle.gd_reader.specs.TypedLists.{listed}
 use Rattle.gd_reader.proofs.ListExact.{listed_exact}
-use Rattle.form_grammar.proofs.RowLaws.{form_cuttable}
-use Rattle.form_grammar.proofs.TextLaws.{prefix_laws}
+use Rattle.text_forms.proofs.form_grammar.RowLaws.{form_cuttable}
+use Rattle.text_forms.proofs.form_grammar.TextLaws.{prefix_laws}
 use Rattle.hddl_reader.specs.Said.{kind_of, typed_form}
 use Rattle.hddl_reader.proofs.Calls.{reads_whole, faults_depart, same_form}
 use Rattle.hddl_reader.proofs.ListsSaid.{listed_said}

@@ -1,6 +1,6 @@
 use Rattle.std.proofs.Common.{subst, sym}
 use Rattle.htn_base.specs.declared.fault.Fault.{Fault}
-use Rattle.sexpr_text.specs.declared.read_error.ReadError.TheVariants.{Bad}
+use Rattle.text_forms.specs.declared.sexpr_text.read_error.ReadError.TheVariants.{Bad}
 use Rattle.text_values.specs.PddlValues.{IsRefusal}
 use Rattle.htn_cli.specs.Validation.{IsLeastOfThree, of_problem}
 use Rattle.htn_cli.proofs.Results.{on_ok_too}

@@ -2,7 +2,7 @@ use Rattle.std.proofs.Common.{◌≡◌, ◌+◌, ◌<◌, List, [], ◌∷◌, 
 use Rattle.std.proofs.lemmas.List.{take_all}
 use Rattle.std.proofs.lemmas.Bool.{both_ways}
 use Rattle.plan_model.specs.declared.networks.Pair.{Pair}
-use Rattle.task_networks.specs.Order.{IsAcyclic}
+use Rattle.plan_model.specs.task_networks.Order.{IsAcyclic}
 use Rattle.plan_model.specs.Pairs.{Pairs}
 use Rattle.net_order.proofs.Closures.{first_at, acyclic_none}
 use Rattle.net_order.proofs.cycle.first_closing.Goals as goal

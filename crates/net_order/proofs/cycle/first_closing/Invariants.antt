@@ -1,5 +1,5 @@
 use Rattle.std.proofs.Common.{◌-◌, ◌<◌, ◌≤◌, length, take}
-use Rattle.task_networks.specs.Order.{IsAcyclic}
+use Rattle.plan_model.specs.task_networks.Order.{IsAcyclic}
 use Rattle.plan_model.specs.Pairs.{Pairs}
 use Rattle.net_order.proofs.cycle.first_closing.Given as goal
 

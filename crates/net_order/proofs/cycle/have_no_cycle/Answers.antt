@@ -1,6 +1,6 @@
 use Rattle.std.proofs.Common.{◌↔◌, IsTrue, subst}
 use Rattle.std.proofs.lemmas.Result.{IfOk-weaker}
-use Rattle.task_networks.specs.Order.{IsAcyclic}
+use Rattle.plan_model.specs.task_networks.Order.{IsAcyclic}
 use Rattle.net_order.specs.Marks.{Marked}
 use Rattle.plan_model.specs.Pairs.{Pairs}
 use Rattle.net_order.proofs.Sorting.{acyclic_sets}

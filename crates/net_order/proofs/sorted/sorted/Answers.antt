@@ -1,6 +1,6 @@
 use Rattle.std.proofs.Common.{◌≡◌, ◌<◌, ◌≤◌, ℕ, length, List, Bool, drop, sym, subst, ap, ◌∙◌, arith}
 use Rattle.std.proofs.lemmas.List.{take_at}
-use Rattle.task_networks.specs.Order.{IsLine}
+use Rattle.plan_model.specs.task_networks.Order.{IsLine}
 use Rattle.net_order.specs.Marks.{Marked}
 use Rattle.net_order.specs.Line.{IsGreedy, IsClosed}
 use Rattle.net_order.specs.Closure.{IsClosure}

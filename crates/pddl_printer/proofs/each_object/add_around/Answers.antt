@@ -1,6 +1,6 @@
 use Rattle.std.proofs.Common.{ℕ, ◌≡◌, List, ◌++◌, ap, sym, ◌∙◌, append_assoc, arith}
 use Rattle.std.proofs.lemmas.List.{append-nil}
-use Rattle.task_networks.specs.Spelling.{numbers}
+use Rattle.plan_model.specs.task_networks.Spelling.{numbers}
 use Rattle.pddl_printer.specs.Behind.{of_each}
 use Rattle.pddl_printer.specs.InstanceTexts.{word_between}
 use Rattle.pddl_printer.proofs.Batches.{added-as, added-then}

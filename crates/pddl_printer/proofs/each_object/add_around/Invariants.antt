@@ -1,5 +1,5 @@
 use Rattle.std.proofs.Common.{ℕ, ◌≡◌, ◌++◌, List}
-use Rattle.task_networks.specs.Spelling.{numbers}
+use Rattle.plan_model.specs.task_networks.Spelling.{numbers}
 use Rattle.pddl_printer.specs.Batches.{Added}
 use Rattle.pddl_printer.specs.Behind.{of_each}
 use Rattle.pddl_printer.specs.InstanceTexts.{word_between}

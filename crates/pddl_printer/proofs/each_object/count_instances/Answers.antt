@@ -1,7 +1,7 @@
 use Rattle.std.proofs.Common.{ℕ, ◌≡◌, ◌+◌, ◌-◌, ◌*◌, ◌^◌, ◌<◌, suc, length, ap, sym, ◌∙◌, arith}
 use Rattle.std.specs.Prelude.{sum_by}
-use Rattle.task_networks.specs.Spelling.{numbers}
-use Rattle.task_networks.proofs.Numbers.{length-numbers}
+use Rattle.plan_model.specs.task_networks.Spelling.{numbers}
+use Rattle.plan_model.proofs.task_networks.Numbers.{length-numbers}
 use Rattle.text_forms.specs.Words.{word_at}
 use Rattle.plan_texts.specs.Declared.{named}
 use Rattle.plan_texts.specs.SpellsPddl.{pddl_words}
@@ -11,8 +11,8 @@ use Rattle.pddl_printer.specs.Holes.{holes}
 use Rattle.pddl_printer.specs.InstanceTexts.{literal_with, literals_text}
 use Rattle.pddl_printer.specs.Literals.{literal_part}
 use Rattle.pddl_printer.specs.Scopes.{words_in_force}
-use Rattle.sheets.specs.Sheets.{capped}
-use Rattle.sheets.proofs.Written.{wrote-as}
+use Rattle.text_forms.specs.sheets.Sheets.{capped}
+use Rattle.text_forms.proofs.sheets.Written.{wrote-as}
 use Rattle.pddl_printer.proofs.InstanceBytes.{instance-is}
 use Rattle.pddl_printer.proofs.CountedSheets.{wrote-skipped, all-counted}
 use Rattle.pddl_printer.proofs.LiteralLengths.{literal-length, behind-length}

@@ -1,12 +1,12 @@
 use Rattle.std.proofs.Common.{ℕ, ◌≡◌, ◌+◌, ◌++◌, ap, sym, ◌∙◌, arith}
-use Rattle.task_networks.specs.Spelling.{numbers}
+use Rattle.plan_model.specs.task_networks.Spelling.{numbers}
 use Rattle.text_forms.specs.Words.{word_at}
 use Rattle.plan_texts.specs.SpellsPddl.{pddl_words}
 use Rattle.pddl_printer.specs.Behind.{behind, of_each}
 use Rattle.pddl_printer.specs.InstanceTexts.{literal_with, word_between}
 use Rattle.pddl_printer.specs.Literals.{literal_part}
 use Rattle.pddl_printer.specs.Scopes.{words_in_force}
-use Rattle.sheets.proofs.Written.{wrote-as}
+use Rattle.text_forms.proofs.sheets.Written.{wrote-as}
 use Rattle.pddl_printer.proofs.Batches.{added-as, added-at, added-put, added-all, range-added}
 use Rattle.pddl_printer.proofs.Each.{behind-each}
 use Rattle.pddl_printer.proofs.InstanceBytes.{instance-is}

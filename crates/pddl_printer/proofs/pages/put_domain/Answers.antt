@@ -1,6 +1,6 @@
 use Rattle.std.proofs.Common.{None, sym}
 use Rattle.pddl_printer.specs.Texts.{actions_text}
-use Rattle.sheets.proofs.Written.{wrote-as, wrote-then}
+use Rattle.text_forms.proofs.sheets.Written.{wrote-as, wrote-then}
 use Rattle.pddl_printer.proofs.Groups.{wrote-at}
 use Rattle.pddl_printer.proofs.DomainPages.{domain-is}
 use Rattle.pddl_printer.proofs.pages.put_domain.Goals as goal

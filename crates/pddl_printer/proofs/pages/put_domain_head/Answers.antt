@@ -4,7 +4,7 @@ use Rattle.text_forms.specs.Printing.{bytes_behind, headed}
 use Rattle.plan_texts.specs.SpellsPddl.{pddl_words}
 use Rattle.plan_texts.specs.Printed.{all_parts, typed_parts}
 use Rattle.plan_texts.specs.PrintedTexts.{predicate_part, parent_words, object_words}
-use Rattle.sheets.proofs.Written.{wrote-as, wrote-nothing, wrote-then}
+use Rattle.text_forms.proofs.sheets.Written.{wrote-as, wrote-nothing, wrote-then}
 use Rattle.pddl_printer.proofs.Each.{behind-each, typed-each}
 use Rattle.pddl_printer.proofs.Groups.{wrote-at}
 use Rattle.pddl_printer.proofs.Lines.{wrote-line}

@@ -1,4 +1,4 @@
-use Rattle.sheets.proofs.Written.{wrote-as, wrote-then}
+use Rattle.text_forms.proofs.sheets.Written.{wrote-as, wrote-then}
 use Rattle.pddl_printer.proofs.pages.put_domain_start.Goals as goal
 
 pub returns : goal.returns

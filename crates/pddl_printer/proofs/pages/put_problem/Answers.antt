@@ -6,7 +6,7 @@ use Rattle.plan_texts.specs.Printed.{formula_part}
 use Rattle.pddl_printer.specs.Measured.{range_of}
 use Rattle.pddl_printer.specs.InForm.{condition_in}
 use Rattle.pddl_printer.specs.Heads.{problem_head}
-use Rattle.sheets.proofs.Written.{wrote-as, wrote-nothing}
+use Rattle.text_forms.proofs.sheets.Written.{wrote-as, wrote-nothing}
 use Rattle.pddl_printer.proofs.Groups.{wrote-one}
 use Rattle.pddl_printer.proofs.Heads.{wrote-head}
 use Rattle.pddl_printer.proofs.Lines.{wrote-line, wrote-page}

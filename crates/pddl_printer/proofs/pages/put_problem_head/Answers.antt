@@ -5,7 +5,7 @@ use Rattle.plan_texts.specs.Declared.{named}
 use Rattle.plan_texts.specs.SpellsPddl.{pddl_words}
 use Rattle.plan_texts.specs.Printed.{all_parts}
 use Rattle.plan_texts.specs.PrintedTexts.{fact_part}
-use Rattle.sheets.proofs.Written.{wrote-as, wrote-nothing, wrote-then}
+use Rattle.text_forms.proofs.sheets.Written.{wrote-as, wrote-nothing, wrote-then}
 use Rattle.pddl_printer.proofs.Each.{behind-each}
 use Rattle.pddl_printer.proofs.Lines.{wrote-line, wrote-named-line}
 use Rattle.pddl_printer.proofs.pages.put_problem_head.Goals as goal

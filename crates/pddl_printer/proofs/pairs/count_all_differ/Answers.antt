@@ -1,12 +1,12 @@
 use Rattle.std.proofs.Common.{◌≡◌, ◌+◌, ◌-◌, ◌*◌, ◌^◌, map, length, ap, sym, ◌∙◌}
 use Rattle.std.specs.Prelude.{min}
-use Rattle.task_networks.specs.Spelling.{numbers}
-use Rattle.task_networks.proofs.Numbers.{length-numbers}
+use Rattle.plan_model.specs.task_networks.Spelling.{numbers}
+use Rattle.plan_model.proofs.task_networks.Numbers.{length-numbers}
 use Rattle.plan_texts.specs.Declared.{variable}
 use Rattle.plan_texts.specs.SpellsPddl.{pddl_words}
 use Rattle.pddl_printer.specs.Splits.{differ_text, letters}
-use Rattle.sheets.specs.Sheets.{capped}
-use Rattle.sheets.proofs.Written.{wrote-counted}
+use Rattle.text_forms.specs.sheets.Sheets.{capped}
+use Rattle.text_forms.proofs.sheets.Written.{wrote-counted}
 use Rattle.pddl_printer.proofs.PairBytes.{differ-length, differ-counted}
 use Rattle.pddl_printer.proofs.pairs.count_all_differ.Goals as goal
 

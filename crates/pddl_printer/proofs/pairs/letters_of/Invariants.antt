@@ -1,6 +1,6 @@
 use Rattle.std.proofs.Common.{◌≡◌}
-use Rattle.task_networks.specs.Spelling.{numbers}
-use Rattle.sheets.specs.Sheets.{capped}
+use Rattle.plan_model.specs.task_networks.Spelling.{numbers}
+use Rattle.text_forms.specs.sheets.Sheets.{capped}
 use Rattle.pddl_printer.specs.Splits.{letters}
 use Rattle.pddl_printer.proofs.pairs.letters_of.Given as goal
 

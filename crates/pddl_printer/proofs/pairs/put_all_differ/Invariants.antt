@@ -1,9 +1,9 @@
 use Rattle.std.proofs.Common.{map}
-use Rattle.task_networks.specs.Spelling.{numbers}
+use Rattle.plan_model.specs.task_networks.Spelling.{numbers}
 use Rattle.plan_texts.specs.Declared.{variable}
 use Rattle.plan_texts.specs.SpellsPddl.{pddl_words}
 use Rattle.pddl_printer.specs.Behind.{of_each}
-use Rattle.sheets.specs.Sheets.{Wrote}
+use Rattle.text_forms.specs.sheets.Sheets.{Wrote}
 use Rattle.pddl_printer.proofs.PairBytes.{row_to}
 use Rattle.pddl_printer.proofs.pairs.put_all_differ.Given as goal
 

@@ -1,12 +1,12 @@
 use Rattle.std.proofs.Common.{ℕ, ◌+◌, ◌++◌, map, refl, ap, sym, ◌∙◌, arith}
 use Rattle.std.proofs.lemmas.List.{append-nil}
-use Rattle.task_networks.specs.Spelling.{numbers}
+use Rattle.plan_model.specs.task_networks.Spelling.{numbers}
 use Rattle.plan_texts.specs.Declared.{variable}
 use Rattle.plan_texts.specs.SpellsPddl.{pddl_words}
 use Rattle.plan_texts.specs.Printed.{formula_part}
 use Rattle.pddl_printer.specs.Behind.{behind}
 use Rattle.pddl_printer.specs.Splits.{unequal, pair_with, open_with, next_with}
-use Rattle.sheets.proofs.Written.{wrote-as, wrote-nothing, wrote-then}
+use Rattle.text_forms.proofs.sheets.Written.{wrote-as, wrote-nothing, wrote-then}
 use Rattle.pddl_printer.proofs.Batches.{added-as, added-at, added-put, added-all, added-then}
 use Rattle.pddl_printer.proofs.PairBytes.{pair, pair-is, closed, closed-next}
 use Rattle.pddl_printer.proofs.Ranges.{range-more, range-done, behind-made}

@@ -1,7 +1,7 @@
 use Rattle.std.proofs.Common.{◌++◌, ap, ◌∙◌}
 use Rattle.pddl_printer.specs.ActionLines.{action_start, action_condition, action_end}
 use Rattle.pddl_printer.specs.Measured.{range_of}
-use Rattle.sheets.proofs.Written.{wrote-as, wrote-then}
+use Rattle.text_forms.proofs.sheets.Written.{wrote-as, wrote-then}
 use Rattle.pddl_printer.proofs.ActionLines.{action-is}
 use Rattle.pddl_printer.proofs.schemas.put_action.Goals as goal
 

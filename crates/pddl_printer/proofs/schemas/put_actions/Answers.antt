@@ -3,7 +3,7 @@ use Rattle.plan_texts.specs.PrintedTexts.{action_part}
 use Rattle.pddl_printer.specs.Measured.{range_of}
 use Rattle.pddl_printer.specs.InForm.{action_in}
 use Rattle.pddl_printer.specs.Behind.{line}
-use Rattle.sheets.proofs.Written.{wrote-as}
+use Rattle.text_forms.proofs.sheets.Written.{wrote-as}
 use Rattle.pddl_printer.proofs.Each.{each-next, each-done, lines-each-made}
 use Rattle.pddl_printer.proofs.schemas.put_actions.Goals as goal
 

@@ -4,7 +4,7 @@ use Rattle.plan_texts.specs.PrintedTexts.{action_part}
 use Rattle.pddl_printer.specs.Behind.{line, of_each}
 use Rattle.pddl_printer.specs.Measured.{range_of}
 use Rattle.pddl_printer.specs.InForm.{action_in}
-use Rattle.sheets.specs.Sheets.{Wrote}
+use Rattle.text_forms.specs.sheets.Sheets.{Wrote}
 use Rattle.pddl_printer.proofs.schemas.put_actions.Given as goal
 
 abbrev pub invariant-loop-action : goal.invariant-loop-action

@@ -1,5 +1,5 @@
 use Rattle.std.proofs.Common.{◌++◌, map, length, codes}
-use Rattle.task_networks.specs.Spelling.{numbers}
+use Rattle.plan_model.specs.task_networks.Spelling.{numbers}
 use Rattle.plan_texts.specs.Declared.{variable}
 use Rattle.plan_texts.specs.SpellsPddl.{pddl_words}
 use Rattle.plan_texts.specs.Printed.{all_parts, formula_part}
@@ -7,7 +7,7 @@ use Rattle.pddl_printer.specs.Behind.{behind}
 use Rattle.pddl_printer.specs.InForm.{parts_in}
 use Rattle.pddl_printer.specs.Measured.{range_of}
 use Rattle.pddl_printer.specs.Splits.{all_differ}
-use Rattle.sheets.proofs.Written.{wrote-as, wrote-then}
+use Rattle.text_forms.proofs.sheets.Written.{wrote-as, wrote-then}
 use Rattle.pddl_printer.proofs.Conjunctions.{conjunction-part, split-bytes}
 use Rattle.pddl_printer.proofs.Groups.{wrote-at, wrote-headed}
 use Rattle.pddl_printer.proofs.splits.put_conjunction.Goals as goal

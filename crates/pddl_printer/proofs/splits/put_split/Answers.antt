@@ -1,6 +1,6 @@
 use Rattle.pddl_printer.specs.Measured.{range_of}
 use Rattle.pddl_printer.specs.Splits.{split_action}
-use Rattle.sheets.proofs.Written.{wrote-as, wrote-then}
+use Rattle.text_forms.proofs.sheets.Written.{wrote-as, wrote-then}
 use Rattle.pddl_printer.proofs.ActionLines.{action-is}
 use Rattle.pddl_printer.proofs.splits.put_split.Goals as goal
 

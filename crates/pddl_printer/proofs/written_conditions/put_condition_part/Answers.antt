@@ -7,7 +7,7 @@ use Rattle.pddl_printer.specs.WrittenOut.{quantified}
 use Rattle.pddl_printer.proofs.written_out.Equations.{out-Forall}
 use Rattle.pddl_printer.specs.Literals.{conditions_behind}
 use Rattle.pddl_printer.specs.Scopes.{words_in_force}
-use Rattle.sheets.proofs.Written.{wrote-as}
+use Rattle.text_forms.proofs.sheets.Written.{wrote-as}
 use Rattle.pddl_printer.proofs.Groups.{wrote-at, wrote-one}
 use Rattle.pddl_printer.proofs.OtherConditions.{quantified-other}
 use Rattle.pddl_printer.proofs.written_conditions.put_condition_part.Goals as goal

@@ -3,7 +3,7 @@ use Rattle.plan_texts.specs.Printed.{formula_part}
 use Rattle.pddl_printer.specs.WrittenOut.{condition_parts}
 use Rattle.pddl_printer.specs.Literals.{conditions_behind}
 use Rattle.pddl_printer.specs.Scopes.{words_in_force}
-use Rattle.sheets.proofs.Written.{wrote-as}
+use Rattle.text_forms.proofs.sheets.Written.{wrote-as}
 use Rattle.pddl_printer.proofs.Each.{each-next, each-done}
 use Rattle.pddl_printer.proofs.Ranges.{behind-joined}
 use Rattle.pddl_printer.proofs.written_conditions.put_condition_parts.Goals as goal

@@ -3,7 +3,7 @@ use Rattle.plan_texts.specs.SpellsPddl.{pddl_words}
 use Rattle.pddl_printer.specs.WrittenOut.{condition_parts}
 use Rattle.pddl_printer.specs.Literals.{conditions_behind}
 use Rattle.pddl_printer.specs.Scopes.{words_in_force}
-use Rattle.sheets.specs.Sheets.{Wrote}
+use Rattle.text_forms.specs.sheets.Sheets.{Wrote}
 use Rattle.pddl_printer.specs.Behind.{of_each}
 use Rattle.pddl_printer.proofs.written_conditions.put_condition_parts.Given as goal
 

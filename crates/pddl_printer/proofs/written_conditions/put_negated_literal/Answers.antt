@@ -6,7 +6,7 @@ use Rattle.pddl_printer.specs.WrittenOut.{negated_literal}
 use Rattle.pddl_printer.proofs.written_out.Equations.{out-Holds}
 use Rattle.pddl_printer.specs.Literals.{conditions_behind}
 use Rattle.pddl_printer.specs.Scopes.{words_in_force}
-use Rattle.sheets.proofs.Written.{wrote-as}
+use Rattle.text_forms.proofs.sheets.Written.{wrote-as}
 use Rattle.pddl_printer.proofs.Groups.{wrote-at, wrote-one}
 use Rattle.pddl_printer.proofs.OtherConditions.{negated-other}
 use Rattle.pddl_printer.proofs.WrittenLiterals.{each-denied}

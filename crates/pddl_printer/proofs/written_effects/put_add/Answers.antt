@@ -7,7 +7,7 @@ use Rattle.pddl_printer.specs.WrittenOut.{conditional_add}
 use Rattle.pddl_printer.proofs.written_out.Equations.{out-Add}
 use Rattle.pddl_printer.specs.Literals.{effects_behind}
 use Rattle.pddl_printer.specs.Scopes.{words_in_force}
-use Rattle.sheets.proofs.Written.{wrote-as}
+use Rattle.text_forms.proofs.sheets.Written.{wrote-as}
 use Rattle.pddl_printer.proofs.Groups.{wrote-at, wrote-one}
 use Rattle.pddl_printer.proofs.OtherEffects.{add-other}
 use Rattle.pddl_printer.proofs.WrittenLiterals.{each-conditional}

@@ -3,7 +3,7 @@ use Rattle.plan_texts.specs.SpellsPddl.{pddl_words}
 use Rattle.pddl_printer.specs.WrittenOut.{effect_parts}
 use Rattle.pddl_printer.specs.Literals.{effects_behind}
 use Rattle.pddl_printer.specs.Scopes.{words_in_force}
-use Rattle.sheets.specs.Sheets.{Wrote}
+use Rattle.text_forms.specs.sheets.Sheets.{Wrote}
 use Rattle.pddl_printer.specs.Behind.{of_each}
 use Rattle.pddl_printer.proofs.written_effects.put_effect_parts.Given as goal
 

@@ -2,7 +2,7 @@ use Rattle.std.proofs.Common.{◌<◌, List, All, length, get_or, ap, subst, ari
 use Rattle.std.proofs.lemmas.List.{take_all}
 use Rattle.std.proofs.lemmas.List.Elements.{All-more}
 use Rattle.plan_model.specs.declared.schemas.MethodPlan.{MethodPlan}
-use Rattle.plan_meaning.specs.Network.{top_task}
+use Rattle.plan_model.specs.plan_meaning.Network.{top_task}
 use Rattle.printed_rows.specs.Ready.{IsReady}
 use Rattle.printed_rows.proofs.Readiness.{ready_all}
 use Rattle.printed_rows.proofs.ready.are_ready.Goals as goal

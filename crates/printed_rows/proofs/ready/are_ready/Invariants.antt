@@ -1,5 +1,5 @@
 use Rattle.std.proofs.Common.{take, All}
-use Rattle.plan_meaning.specs.Network.{top_task}
+use Rattle.plan_model.specs.plan_meaning.Network.{top_task}
 use Rattle.printed_rows.specs.Ready.{IsReady}
 use Rattle.printed_rows.proofs.ready.are_ready.Given as goal
 

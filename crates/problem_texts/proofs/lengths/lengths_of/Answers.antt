@@ -1,6 +1,6 @@
 use Rattle.std.proofs.Common.{ap, length, ◌∙◌}
 use Rattle.plan_texts.specs.PrintedTexts.{domain_text, problem_text}
-use Rattle.sheets.specs.Sheets.{capped}
+use Rattle.text_forms.specs.sheets.Sheets.{capped}
 use Rattle.problem_texts.specs.Pages.{value_of}
 use Rattle.problem_texts.proofs.lengths.lengths_of.Goals as goal
 

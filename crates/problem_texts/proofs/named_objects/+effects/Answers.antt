@@ -1,5 +1,5 @@
 use Rattle.std.proofs.Common.{arith}
-use Rattle.encoded_texts.specs.NamedObjects.{of_effect}
+use Rattle.slot_encoding.specs.encoded_texts.NamedObjects.{of_effect}
 use Rattle.problem_texts.proofs.Greatest.{greatest-next}
 use Rattle.problem_texts.proofs.named_objects.+effects.Goals as goal
 

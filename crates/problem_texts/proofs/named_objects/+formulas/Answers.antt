@@ -1,5 +1,5 @@
 use Rattle.std.proofs.Common.{arith}
-use Rattle.encoded_texts.specs.NamedObjects.{of_formula}
+use Rattle.slot_encoding.specs.encoded_texts.NamedObjects.{of_formula}
 use Rattle.problem_texts.proofs.Greatest.{greatest-next}
 use Rattle.problem_texts.proofs.named_objects.+formulas.Goals as goal
 

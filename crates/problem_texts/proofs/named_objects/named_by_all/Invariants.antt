@@ -1,5 +1,5 @@
 use Rattle.std.proofs.Common.{◌≡◌, map, take}
-use Rattle.encoded_texts.specs.NamedObjects.{greatest}
+use Rattle.slot_encoding.specs.encoded_texts.NamedObjects.{greatest}
 use Rattle.problem_texts.proofs.named_objects.named_by_all.Given as goal
 
 abbrev pub invariant-loop-item : goal.invariant-loop-item

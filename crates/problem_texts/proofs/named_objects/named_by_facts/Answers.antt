@@ -1,7 +1,7 @@
 use Rattle.std.proofs.Common.{◌≡◌, ◌<◌, length, map, arith, ap, subst, ◌∙◌}
 use Rattle.plan_model.specs.declared.terms.GroundAtom.{GroundAtom}
 use Rattle.htn_base.proofs.ReadAt.{read_is, none_read}
-use Rattle.encoded_texts.specs.NamedObjects.{greatest, of_object, of_fact}
+use Rattle.slot_encoding.specs.encoded_texts.NamedObjects.{greatest, of_object, of_fact}
 use Rattle.problem_texts.proofs.Greatest.{greatest-next}
 use Rattle.problem_texts.proofs.named_objects.named_by_facts.Goals as goal
 use Rattle.problem_texts.proofs.named_objects.named_by_facts.Goals.{in-Some, in_default}

@@ -1,5 +1,5 @@
 use Rattle.std.proofs.Common.{◌≡◌, map, take}
-use Rattle.encoded_texts.specs.NamedObjects.{greatest, of_fact}
+use Rattle.slot_encoding.specs.encoded_texts.NamedObjects.{greatest, of_fact}
 use Rattle.problem_texts.proofs.named_objects.named_by_facts.Given as goal
 
 abbrev pub invariant-loop-i : goal.invariant-loop-i

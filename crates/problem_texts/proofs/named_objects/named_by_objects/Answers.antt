@@ -1,6 +1,6 @@
 use Rattle.std.proofs.Common.{◌<◌, arith, subst}
 use Rattle.htn_base.proofs.ReadAt.{read_is, none_read}
-use Rattle.encoded_texts.specs.NamedObjects.{of_object}
+use Rattle.slot_encoding.specs.encoded_texts.NamedObjects.{of_object}
 use Rattle.problem_texts.proofs.Greatest.{greatest-next}
 use Rattle.problem_texts.proofs.named_objects.named_by_objects.Goals as goal
 use Rattle.problem_texts.proofs.named_objects.named_by_objects.Goals.{in-Some, in_default}

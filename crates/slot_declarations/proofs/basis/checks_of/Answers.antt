@@ -1,7 +1,7 @@
 use Rattle.std.proofs.Common.{◌≡◌, ◌+◌, length, take, [], ap, sym, ◌∙◌, arith}
 use Rattle.std.proofs.lemmas.List.{length-map, length-take-le}
-use Rattle.task_networks.proofs.Numbers.{length-numbers}
-use Rattle.task_networks.specs.Spelling.{numbers}
+use Rattle.plan_model.proofs.task_networks.Numbers.{length-numbers}
+use Rattle.plan_model.specs.task_networks.Spelling.{numbers}
 use Rattle.slot_encoding.proofs.NextSlot.{push_next}
 use Rattle.slot_declarations.specs.Pieces.{checks_before}
 use Rattle.slot_declarations.proofs.CheckedMethods.{checked_from-length, checked_next}

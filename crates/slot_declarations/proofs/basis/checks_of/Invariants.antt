@@ -1,5 +1,5 @@
 use Rattle.std.proofs.Common.{◌≡◌, map, take}
-use Rattle.task_networks.specs.Spelling.{numbers}
+use Rattle.plan_model.specs.task_networks.Spelling.{numbers}
 use Rattle.slot_declarations.specs.Pieces.{checked_from, checks_before}
 use Rattle.slot_declarations.proofs.basis.checks_of.Given as goal
 

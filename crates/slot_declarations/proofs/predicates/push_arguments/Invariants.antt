@@ -1,5 +1,5 @@
 use Rattle.std.proofs.Common.{◌≡◌, ◌++◌, map}
-use Rattle.task_networks.specs.Spelling.{numbers}
+use Rattle.plan_model.specs.task_networks.Spelling.{numbers}
 use Rattle.slot_declarations.specs.Made as made
 use Rattle.slot_declarations.proofs.predicates.push_arguments.Given as goal
 

@@ -1,6 +1,6 @@
 use Rattle.std.proofs.Common.{List, ◌++◌, [], map, ap}
 use Rattle.htn_base.specs.Escapes.{slot_word}
-use Rattle.task_networks.specs.Spelling.{numbers}
+use Rattle.plan_model.specs.task_networks.Spelling.{numbers}
 use Rattle.plan_model.specs.declared.schemas.MethodPlan.{MethodPlan}
 use Rattle.slot_encoding.specs.EncodedNames.{joined, guard_types, guard_word}
 use Rattle.slot_declarations.specs.Vocabulary.{single_words, task_word, action_word, words_of_method, numbered_words}

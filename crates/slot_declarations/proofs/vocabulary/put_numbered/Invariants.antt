@@ -1,5 +1,5 @@
 use Rattle.std.proofs.Common.{◌++◌, map, decimal}
-use Rattle.task_networks.specs.Spelling.{numbers}
+use Rattle.plan_model.specs.task_networks.Spelling.{numbers}
 use Rattle.slot_declarations.specs.Vocabulary.{Gains}
 use Rattle.slot_declarations.proofs.vocabulary.put_numbered.Given as goal
 

@@ -1,7 +1,7 @@
 use Rattle.std.proofs.Common.{ℕ, List, IfOk, ◌≡◌, ◌+◌, length, get_or, ap, subst, ◌∙◌, arith}
 use Rattle.std.proofs.lemmas.List.{length-map}
-use Rattle.task_networks.specs.Spelling.{numbers}
-use Rattle.task_networks.proofs.Numbers.{length-numbers}
+use Rattle.plan_model.specs.task_networks.Spelling.{numbers}
+use Rattle.plan_model.proofs.task_networks.Numbers.{length-numbers}
 use Rattle.slot_encoding.specs.EncodedNames as names
 use Rattle.slot_declarations.specs.Pieces.{checks_before}
 use Rattle.slot_encoder.proofs.ActionPlaces.{map_numbers-at}

@@ -1,6 +1,6 @@
 use Rattle.std.proofs.Common.{◌++◌, map, length, ap, ◌∙◌}
 use Rattle.plan_model.proofs.PartsOf.{in_type_within}
-use Rattle.plan_meaning.specs.Network.{InTypeOf}
+use Rattle.plan_model.specs.plan_meaning.Network.{InTypeOf}
 use Rattle.slot_encoding.specs.EncodedValue.{atom}
 use Rattle.slot_encoder.proofs.KeptNumbers.{keeps_members}
 use Rattle.slot_encoder.proofs.initial.push_members.Goals as goal

@@ -1,5 +1,5 @@
 use Rattle.std.proofs.Common.{◌≡◌, ◌++◌, map}
-use Rattle.task_networks.specs.Spelling.{numbers}
+use Rattle.plan_model.specs.task_networks.Spelling.{numbers}
 use Rattle.plan_model.specs.declared.formulas.Formula.TheVariants as F
 use Rattle.slot_encoder.specs.Made as made
 use Rattle.slot_encoder.proofs.methods.push_free.Given as goal

@@ -2,7 +2,7 @@ use Rattle.std.proofs.Common.{rules, ◌≡◌, ◌+◌, ◌++◌, ◌∷◌, []
 use Rattle.std.proofs.lemmas.List.{take_all, take_more}
 use Rattle.plan_model.specs.declared.terms.GroundAtom.{GroundAtom}
 use Rattle.htn_base.proofs.ReadAt.{read_is, none_read}
-use Rattle.plan_meaning.specs.Compilation.{once}
+use Rattle.plan_model.specs.plan_meaning.Compilation.{once}
 use Rattle.slot_encoding.specs.EncodedValue.{same_atom}
 use Rattle.slot_encoder.specs.SeenFacts.{HasMet, is_among}
 use Rattle.slot_encoder.proofs.SingleAtoms.{single_next}

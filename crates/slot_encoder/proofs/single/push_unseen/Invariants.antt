@@ -1,5 +1,5 @@
 use Rattle.std.proofs.Common.{◌≡◌, ◌++◌, take}
-use Rattle.plan_meaning.specs.Compilation.{once}
+use Rattle.plan_model.specs.plan_meaning.Compilation.{once}
 use Rattle.slot_encoding.specs.EncodedValue.{same_atom}
 use Rattle.slot_encoder.specs.SeenFacts.{HasMet}
 use Rattle.slot_encoder.proofs.single.push_unseen.Given as goal

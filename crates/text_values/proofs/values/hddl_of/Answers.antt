@@ -2,7 +2,7 @@ use Rattle.std.proofs.Common.{Result, Ok, Err}
 use Rattle.std.specs.Prelude.{IfOk}
 use Rattle.hddl_reader.specs.declared.sections.Language.TheVariants.{Hddl as language}
 use Rattle.plan_model.specs.declared.values.Hddl.{Hddl}
-use Rattle.sexpr_text.specs.declared.read_error.ReadError.{ReadError}
+use Rattle.text_forms.specs.declared.sexpr_text.read_error.ReadError.{ReadError}
 use Rattle.text_values.specs.Values.{AreReadAs, IsValueOf}
 use Rattle.text_values.proofs.HddlTexts.{value_of}
 use Rattle.text_values.proofs.values.hddl_of.Goals as goal

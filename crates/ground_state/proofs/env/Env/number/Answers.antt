@@ -1,6 +1,6 @@
 use Rattle.std.proofs.Common.{◌≡◌, ◌-◌, ◌<◌, ◌≤◌, length, get_or, sym, ◌∙◌, arith}
 use Rattle.std.proofs.lemmas.List.{get_or-map, length-map}
-use Rattle.plan_meaning.specs.Truth.{value_of, values_of}
+use Rattle.plan_model.specs.plan_meaning.Truth.{value_of, values_of}
 use Rattle.plan_model.proofs.NumberLaws.{next_number, ends_there}
 use Rattle.ground_state.proofs.env.Env.number.Goals as goal
 

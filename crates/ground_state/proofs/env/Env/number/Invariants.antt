@@ -1,5 +1,5 @@
 use Rattle.std.proofs.Common.{◌≡◌, ◌+◌, ◌<◌, ◌^◌, drop, Some}
-use Rattle.plan_meaning.specs.Truth.{values_of}
+use Rattle.plan_model.specs.plan_meaning.Truth.{values_of}
 use Rattle.ground_state.specs.Numbers.{number_of}
 use Rattle.ground_state.proofs.env.Env.number.Given as goal
 

@@ -1,6 +1,6 @@
 use Rattle.std.proofs.Common.{ℕ, ◌≡◌, ◌+◌, ◌<◌, ◌⊎◌, ◌↔◌, ◌++◌, [], ◌∷◌, false, List, Some, None, ap, sym, subst, ◌∙◌, arith}
 use Rattle.std.specs.Prelude.{slice_index_or, unwrap_or}
-use Rattle.plan_meaning.specs.Truth.{values_of}
+use Rattle.plan_model.specs.plan_meaning.Truth.{values_of}
 use Rattle.problem_index.specs.Domains.{at, places}
 use Rattle.ground_state.specs.declared.notes.Notes.{Notes}
 use Rattle.ground_state.specs.Numbers.{number_of}

@@ -1,5 +1,5 @@
 use Rattle.std.proofs.Common.{ℕ, ◌≡◌, ◌<◌, ◌++◌, [], ◌∷◌}
-use Rattle.plan_meaning.specs.Truth.{values_of}
+use Rattle.plan_model.specs.plan_meaning.Truth.{values_of}
 use Rattle.ground_state.specs.Notes.{AreDenied}
 use Rattle.ground_state.proofs.DomainLaws.{AtPlace}
 use Rattle.ground_state.proofs.notes.Notes.deny_each.Given as goal

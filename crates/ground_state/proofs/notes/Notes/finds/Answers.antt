@@ -2,7 +2,7 @@ use Rattle.std.proofs.Common.{ℕ, ◌≡◌, ◌<◌, ◌++◌, not, Bool, true
 use Rattle.std.specs.Prelude.{slice_index_or, None, unwrap_or}
 use Rattle.std.specs.Cmp.{booleans_Decides}
 use Rattle.std.proofs.lemmas.Bool.Decides.{not_from_Decides}
-use Rattle.plan_meaning.specs.Truth.{values_of}
+use Rattle.plan_model.specs.plan_meaning.Truth.{values_of}
 use Rattle.problem_index.specs.Domains.{places, at}
 use Rattle.ground_state.specs.Notes.{noted_at, holds}
 use Rattle.ground_state.proofs.Found.{below-next}

@@ -1,5 +1,5 @@
 use Rattle.std.proofs.Common.{ℕ, ◌≡◌, ◌<◌, ◌++◌, [], ◌∷◌, not, Some}
-use Rattle.plan_meaning.specs.Truth.{values_of}
+use Rattle.plan_model.specs.plan_meaning.Truth.{values_of}
 use Rattle.problem_index.specs.Domains.{at}
 use Rattle.ground_state.specs.Notes.{holds}
 use Rattle.ground_state.proofs.notes.Notes.finds.Given as goal

@@ -1,5 +1,5 @@
 use Rattle.std.proofs.Common.{sym, ◌∙◌, arith}
-use Rattle.plan_meaning.specs.Truth.{values_of}
+use Rattle.plan_model.specs.plan_meaning.Truth.{values_of}
 use Rattle.ground_state.proofs.Lists.{set-at}
 use Rattle.ground_state.proofs.notes.Notes.set_terms.Goals as goal
 

@@ -2,8 +2,8 @@ use Rattle.std.proofs.Common.{◌↔◌, IsTrue, List, ℕ, ap, subst}
 use Rattle.plan_model.specs.declared.types.Types.{Types}
 use Rattle.plan_model.specs.declared.types.Object.{Object}
 use Rattle.plan_model.specs.Typing.{InType}
-use Rattle.plan_meaning.specs.Truth.{IsTrueIn}
-use Rattle.plan_meaning.specs.ClassicalPlan.{InTypeOf}
+use Rattle.plan_model.specs.plan_meaning.Truth.{IsTrueIn}
+use Rattle.plan_model.specs.plan_meaning.ClassicalPlan.{InTypeOf}
 use Rattle.ground_state.specs.Frames.{Frame}
 use Rattle.ground_state.specs.States.{atoms}
 use Rattle.ground_state.proofs.RunLaws.{reaches}

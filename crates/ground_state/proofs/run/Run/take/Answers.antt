@@ -5,8 +5,8 @@ use Rattle.plan_model.specs.declared.types.Types.{Types}
 use Rattle.plan_model.specs.declared.types.Object.{Object}
 use Rattle.plan_model.specs.declared.terms.Param.{Param}
 use Rattle.plan_model.specs.Typing.{InType}
-use Rattle.plan_meaning.specs.Truth.{IsTrueIn, after}
-use Rattle.plan_meaning.specs.ClassicalPlan.{InTypeOf}
+use Rattle.plan_model.specs.plan_meaning.Truth.{IsTrueIn, after}
+use Rattle.plan_model.specs.plan_meaning.ClassicalPlan.{InTypeOf}
 use Rattle.ground_state.specs.declared.verdict.FailWhy.TheVariants as why
 use Rattle.ground_state.specs.Frames.{Frame, frame}
 use Rattle.ground_state.specs.Room.{EffectFits}

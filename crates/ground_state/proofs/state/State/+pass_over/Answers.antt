@@ -5,8 +5,8 @@ use Rattle.std.proofs.lemmas.Result.{on_ok_weaker}
 use Rattle.plan_model.specs.declared.terms.GroundAtom.{GroundAtom}
 use Rattle.plan_model.specs.Typing.{InType}
 use Rattle.plan_model.proofs.PartsOf.{in_type_within}
-use Rattle.plan_meaning.specs.Truth as truth
-use Rattle.plan_meaning.specs.Truth.{ground}
+use Rattle.plan_model.specs.plan_meaning.Truth as truth
+use Rattle.plan_model.specs.plan_meaning.Truth.{ground}
 use Rattle.problem_index.specs.Domains.{places}
 use Rattle.ground_state.specs.declared.state.State.{State}
 use Rattle.ground_state.specs.Frames.{Frame, frame, pushed}

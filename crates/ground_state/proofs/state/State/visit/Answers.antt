@@ -1,6 +1,6 @@
 use Rattle.std.proofs.Common.{◌≡◌, inl, inr, true, refl, sym, subst, ◌∙◌}
 use Rattle.std.specs.Cmp.{booleans_Decides}
-use Rattle.plan_meaning.specs.Truth.{ground}
+use Rattle.plan_model.specs.plan_meaning.Truth.{ground}
 use Rattle.ground_state.specs.declared.passes.Pass.{Pass}
 use Rattle.ground_state.specs.Passes.{of_adds, Passes}
 use Rattle.ground_state.proofs.StateLaws.{set-true, set-keeps}

@@ -1,7 +1,7 @@
 use Rattle.std.proofs.Common.{ℕ, ◌≡◌, ◌+◌, ◌<◌, ◌≤◌, ◌⊎◌, inl, inr, List, [], true, length, Contains, drop, get_or, set, refl, subst, sym, ap, ◌∙◌, arith, length-drop}
 use Rattle.std.proofs.lemmas.List.{get_or_read, drop_more}
 use Rattle.std.proofs.lemmas.List.Elements.{Contains-get_or}
-use Rattle.task_networks.proofs.Lists.{head_or_tail}
+use Rattle.plan_model.proofs.task_networks.Lists.{head_or_tail}
 use Rattle.net_order.specs.Marks.{has}
 use Rattle.net_order.specs.Front.{IsFront}
 use Rattle.net_order.proofs.Closures.{has_added}

@@ -1,9 +1,9 @@
 use Rattle.std.proofs.Common.{◌≡◌, length}
 use Rattle.std.specs.List.{sum_by}
 use Rattle.text_forms.specs.Words.{word_at}
-use Rattle.task_networks.specs.Spelling.{numbers}
+use Rattle.plan_model.specs.task_networks.Spelling.{numbers}
 use Rattle.plan_texts.specs.SpellsPddl.{pddl_words}
-use Rattle.sheets.specs.Sheets.{capped}
+use Rattle.text_forms.specs.sheets.Sheets.{capped}
 use Rattle.pddl_printer.proofs.written.Written.new.Given as goal
 
 abbrev pub invariant-loop-k : goal.invariant-loop-k

@@ -1,6 +1,6 @@
 use Rattle.std.proofs.Common.{◌≡◌, ◌∙◌, sym, subst, map, true≢false}
 use Rattle.plan_model.specs.declared.types.Object.{Object}
-use Rattle.plan_meaning.specs.ClassicalPlan.{InTypeOf}
+use Rattle.plan_model.specs.plan_meaning.ClassicalPlan.{InTypeOf}
 use Rattle.problem_index.specs.Index.{IsTheArgument}
 use Rattle.problem_index.proofs.IndexLaws.{no_object, the_object}
 use Rattle.problem_index.proofs.index.Index.object.Goals as goal

@@ -1,5 +1,5 @@
 use Rattle.std.proofs.Common.{arith, rules}
-use Rattle.sheets.proofs.Written.{wrote-as}
+use Rattle.text_forms.proofs.sheets.Written.{wrote-as}
 use Rattle.problem_texts.proofs.Ended.{is-appended}
 use Rattle.problem_texts.proofs.Putting.{problem-is}
 use Rattle.problem_texts.proofs.pages.Pages.append_problem.Goals as goal

@@ -1,5 +1,5 @@
 use Rattle.std.proofs.Common.{ap}
-use Rattle.sheets.proofs.Written.{wrote-as}
+use Rattle.text_forms.proofs.sheets.Written.{wrote-as}
 use Rattle.pddl_printer.specs.Measured.{range_of}
 use Rattle.pddl_printer.specs.Texts.{action_text}
 use Rattle.slot_encoder.specs.Encodings.{whole}

@@ -1,5 +1,5 @@
 use Rattle.std.proofs.Common.{take}
-use Rattle.sheets.specs.Sheets.{Wrote}
+use Rattle.text_forms.specs.sheets.Sheets.{Wrote}
 use Rattle.problem_texts.specs.Pages.{actions, actions_in}
 use Rattle.problem_texts.proofs.pages.Pages.put_actions.Given as goal
 

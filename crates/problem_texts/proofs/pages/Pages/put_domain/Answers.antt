@@ -1,5 +1,5 @@
 use Rattle.std.proofs.Common.{sym}
-use Rattle.sheets.proofs.Written.{wrote-as, wrote-then}
+use Rattle.text_forms.proofs.sheets.Written.{wrote-as, wrote-then}
 use Rattle.pddl_printer.specs.Measured.{range_of}
 use Rattle.pddl_printer.proofs.DomainPages.{domain-is}
 use Rattle.problem_texts.specs.Pages.{encoded}

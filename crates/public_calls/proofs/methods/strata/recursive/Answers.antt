@@ -1,11 +1,11 @@
 use Rattle.std.proofs.Common.{ℕ, zero, suc, List, [], ◌∷◌, length, All, sym, subst, arith}
-use Rattle.task_networks.specs.Order.{Precedes, direct, through}
-use Rattle.task_networks.proofs.Lists.{not-in_empty}
+use Rattle.plan_model.specs.task_networks.Order.{Precedes, direct, through}
+use Rattle.plan_model.proofs.task_networks.Lists.{not-in_empty}
 use Rattle.plan_model.specs.declared.networks.Pair.{Pair}
 use Rattle.plan_model.specs.declared.schemas.MethodPlan.{MethodPlan}
 use Rattle.plan_model.specs.Pairs.{pair, Pairs}
 use Rattle.net_order.specs.Meaning.{AreBelow}
-use Rattle.stratifier.specs.Conditions.{IsOrdered}
+use Rattle.bound_calc.specs.stratifier.Conditions.{IsOrdered}
 use Rattle.public_calls.specs.Recursive.{IsRecursive}
 use Rattle.public_calls.proofs.methods.strata.recursive.Goals as goal
 

@@ -1,7 +1,0 @@
-use Rattle.binding_laws.proofs.DomainParts.{has_schema_faults}
-use Rattle.binding_laws.proofs.MethodFaults.{has_head_faults, has_action_faults, has_method_faults}
-use Rattle.binding_laws.proofs.ProblemParts.{has_part_faults}
-use Rattle.binding_laws.proofs.schemas.schemas_are_said.Goals as goal
-
-pub returns : goal.returns
-returns c = record { heads = has_head_faults; actions = has_action_faults; methods = has_method_faults; domains = has_schema_faults; problems = has_part_faults }

@@ -1,0 +1,28 @@
+use Rattle.std.proofs.Common.{ℕ, Contains, ◌<◌, ◌↔◌, ◌≡◌, ◌+◌, sym, subst, ◌∙◌, arith}
+use Rattle.std.proofs.lemmas.Bool.{false≢true}
+use Rattle.net_order.specs.Answers.{maximal}
+use Rattle.plan_model.proofs.Numbers.{AreFound, found_more, found_less}
+use Rattle.bound_calc.specs.method_precs.Ordered.{IsCopier}
+use Rattle.bound_calc.proofs.method_precs.orders.copiers_of.Goals as goal
+use Rattle.bound_calc.proofs.method_precs.orders.copiers_of.Goals.{then-is_copier+in_ok-push, else-is_copier}
+
+pub loop-child-preserved : goal.loop-child-preserved
+loop-child-preserved c =
+    let P : ℕ → Type 0 = IsCopier (maximal c.args.order.now) c.args.heir in
+    let i = c.loop-child.child in
+    elim c.if-is_copier.branch [
+      | then-is_copier+in_ok-push w ↦
+          subst (AreFound P (i + 1)) (sym (w.copiers-is ∙ w.in_ok-push.ensures.pushed)) (found_more P i c.loop-child.copiers c.loop-child.invariant (c.is_copier.ensures.0 w.if-is_copier.true))
+      | else-is_copier w ↦
+          subst (AreFound P (i + 1)) (sym w.copiers-is) (found_less P i c.loop-child.copiers c.loop-child.invariant (λ t. false≢true (sym w.if-is_copier.false ∙ c.is_copier.ensures.1 t)))
+    ]
+
+pub returns : goal.returns
+returns c =
+    let end : c.loop-child.child ≡ c.args.count = let a = c.loop-child.auto.child-end in let b = c.loop-child-test.false in omega arith in
+    record {
+      copiers = record {
+        each = λ i. subst (λ n. Contains c.loop-child.copiers i ↔ ((i < n) × IsCopier (maximal c.args.order.now) c.args.heir i)) end (c.loop-child.invariant.each i);
+        in_order = c.loop-child.invariant.rising;
+      };
+    }

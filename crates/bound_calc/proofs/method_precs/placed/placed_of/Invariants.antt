@@ -1,0 +1,6 @@
+use Rattle.std.proofs.Common.{◌≡◌, take}
+use Rattle.plan_model.specs.plan_meaning.Compilation.{all_placed}
+use Rattle.bound_calc.proofs.method_precs.placed.placed_of.Given as goal
+
+abbrev pub invariant-loop-child : goal.invariant-loop-child
+invariant-loop-child l = l.placed ≡ all_placed l.problem (take l.child-index l.children)

@@ -1,0 +1,32 @@
+use Rattle.std.proofs.Common.{◌≡◌, ◌<◌, Some, slice_get, length, get_or, arith, sym, ap, subst, ◌∙◌}
+use Rattle.std.proofs.lemmas.Option.{slice_get_read, slice_get-get_or}
+use Rattle.bound_calc.specs.declared.stratifier.edge.Edge.{Edge}
+use Rattle.bound_calc.proofs.stratifier.Lasts.{marked_more, bad_mark, method_within}
+use Rattle.bound_calc.proofs.stratifier.bad.bad_marks.Goals as goal
+
+abbrev none : Edge
+none = record { method = 0; child = 0 }
+
+pub loop-edge-preserved : goal.loop-edge-preserved
+loop-edge-preserved c =
+    let edges = c.args.edges.now in
+    let items = c.as_slice-edge-items.result.now in
+    let same = c.as_slice-edge-items.ensures.items in
+    let k = c.loop-edge.edge-index in
+    let edge = get_or items k none in
+    let is : slice_get edges k ≡ Some edge = ap (λ s. slice_get s k) (sym same) ∙ slice_get-get_or items k none c.loop-edge-test.true in
+    let l : edge.method < length c.args.c.now.methods = subst (λ s. (get_or s k none).method < length c.args.c.now.methods) (sym same) (method_within c.args.c.now edges c.requires.edges k none (subst (λ s. k < length s) same c.loop-edge-test.true)) in
+    let last = slice_get_read c.in_ok-lasts.lasts.items _ edge.method c.index.result.now (let r = c.in_ok-lasts.ensures.lasts.room in sym r) (subst (λ ms. edge.method < length ms) (sym c.as_slice.ensures.items) l) c.index.ensures in
+    let bad = bad_mark c.args.c.now edge _ c.in_ok-lasts.lasts.items c.index.result.now c.requires.ordered c.as_slice.ensures.items l c.in_ok-lasts.ensures.lasts last in
+    marked_more c.args.c.now edges k c.loop-edge.marks c.push.new.self edge c.is_other.result is
+    ((λ t. bad.0 (c.is_other.ensures.other.0 t)), (λ b. c.is_other.ensures.other.1 (bad.1 b))) c.loop-edge.invariant c.in_ok-push.ensures.pushed
+
+pub index-requires : goal.index-requires
+index-requires c =
+    let same = c.as_slice-edge-items.ensures.items in
+    let k = c.loop-edge.edge-index in
+    let l : (get_or c.as_slice-edge-items.result.now k none).method < length c.args.c.now.methods = subst (λ s. (get_or s k none).method < length c.args.c.now.methods) (sym same) (method_within c.args.c.now c.args.edges.now c.requires.edges k none (subst (λ s. k < length s) same c.loop-edge-test.true)) in
+    let r = c.in_ok-lasts.ensures.lasts.room in
+    let m = ap length c.as_slice.ensures.items in
+    let v = c.in_ok-lasts.lasts.ok.0 in
+    omega arith

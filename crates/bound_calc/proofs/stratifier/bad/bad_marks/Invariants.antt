@@ -1,0 +1,5 @@
+use Rattle.bound_calc.proofs.stratifier.Lasts.{AreMarkedBelow}
+use Rattle.bound_calc.proofs.stratifier.bad.bad_marks.Given as goal
+
+abbrev pub invariant-loop-edge : goal.invariant-loop-edge
+invariant-loop-edge l = AreMarkedBelow l.c l.edges l.edge-index l.marks

@@ -1,0 +1,34 @@
+use Rattle.std.proofs.Common.{◌≡◌, [], arith}
+use Rattle.std.proofs.lemmas.List.{nil_from_length}
+use Rattle.bound_calc.proofs.stratifier.Grouped.{reversed_within, roots_left, grouped_more, grouped_all}
+use Rattle.bound_calc.proofs.stratifier.groups.group_numbers.Goals as goal
+
+pub finishing_order-requires-clause-within : goal.finishing_order-requires-clause-within
+finishing_order-requires-clause-within c = reversed_within c.args.rows.now c.args.back.now c.requires.reversed
+
+pub overflow_sub-number : goal.overflow_sub-number
+overflow_sub-number c =
+    let l = (roots_left c.args.rows.now c.args.back.now _ c.requires.reversed _ _ c.in-Some.root _ c.loop-root.invariant c.in-Some.ensures.items).0 in
+    omega arith
+
+pub overflow_sub-number-in-Some : goal.overflow_sub-number-in-Some
+overflow_sub-number-in-Some c =
+    let l = (roots_left c.args.rows.now c.args.back.now _ c.requires.reversed _ _ c.in-Some.root _ c.loop-root.invariant c.in-Some.ensures.items).0 in
+    let v = c.pop.new.self.ok.0 in
+    let n = c.len.ensures in
+    omega arith
+
+pub number-requires-clause-root : goal.number-requires-clause-root
+number-requires-clause-root c = (roots_left c.args.rows.now c.args.back.now _ c.requires.reversed _ _ c.in-Some.root _ c.loop-root.invariant c.in-Some.ensures.items).1
+
+pub loop-root-preserved : goal.loop-root-preserved
+loop-root-preserved c =
+    let l = (roots_left c.args.rows.now c.args.back.now _ c.requires.reversed _ _ c.in-Some.root _ c.loop-root.invariant c.in-Some.ensures.items).0 in
+    let v = c.pop.new.self.ok.0 in
+    let n = c.len.ensures in
+    grouped_more c.args.rows.now c.args.back.now _ c.requires.reversed _ _ c.in-Some.root _ _ _ c.loop-root.invariant c.in-Some.ensures.items (omega arith) c.in_ok-number.ensures.numbered
+
+pub returns : goal.returns
+returns c =
+    let none : c.loop-root.order.items ≡ [] = nil_from_length c.loop-root.order.items (let a = c.loop-root.order.ok.0 in let z = c.in_default.ensures.cases.0 in omega arith) in
+    record { groups = grouped_all c.args.rows.now c.args.back.now _ c.requires.reversed c.loop-root.order.items c.loop-root.groups none c.loop-root.invariant }

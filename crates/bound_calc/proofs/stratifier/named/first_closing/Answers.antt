@@ -1,0 +1,27 @@
+use Rattle.std.proofs.Common.{◌<◌, length, false, get_or, sym, ◌∙◌, arith}
+use Rattle.std.proofs.lemmas.Option.{slice_get-get_or}
+use Rattle.std.proofs.lemmas.Bool.{false≢true}
+use Rattle.bound_calc.specs.declared.stratifier.named.Ends.{Ends}
+use Rattle.bound_calc.proofs.stratifier.NamedFirst.{none_more, none_at_all}
+use Rattle.bound_calc.proofs.stratifier.named.first_closing.Goals as goal
+use Rattle.bound_calc.proofs.stratifier.named.first_closing.Goals.{else-bad-k-via-then-bad-k+else-groups-e, else-bad-k-via-else-bad-k}
+
+abbrev nowhere : Ends
+nowhere = record { from = 0; to = 0 }
+
+pub loop-k-preserved : goal.loop-k-preserved
+loop-k-preserved c =
+    let ends = c.args.ends.now in
+    let bad = c.args.bad.now in
+    let k = c.loop-k.k in
+    let l = c.loop-k-test.true in
+    let b : k < length bad = (let r = c.requires.marks in omega arith) in
+    none_more c.args.groups.now ends bad k (get_or ends k nowhere) (get_or bad k false) (slice_get-get_or ends k nowhere l) (slice_get-get_or bad k false b)
+    (λ mark same. elim c.else-bad-k.branch [
+      | else-bad-k-via-then-bad-k+else-groups-e w ↦ w.if-groups-e.false same
+      | else-bad-k-via-else-bad-k w ↦ false≢true (sym w.if-bad-k.false ∙ mark)
+    ])
+    c.loop-k.invariant
+
+pub returns : goal.returns
+returns c = record { first = none_at_all c.args.groups.now c.args.ends.now c.args.bad.now c.loop-k.k c.loop-k-test.false c.loop-k.invariant }

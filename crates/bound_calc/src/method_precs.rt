@@ -1,0 +1,16 @@
+//! The compiled value of a problem: checks of preconditions, pairs, lines, heirs, copiers and guards of its methods.
+//!
+//! Stands on `htn_base`, `net_order` and the definitions of `task_networks`, `plan_model`, `plan_texts` and
+//! `plan_meaning`. The contract used above: `compile` gives the compiled value, and its network is lawful.
+mod checks;
+mod children;
+mod compilation;
+mod guards;
+mod orders;
+mod pairs;
+mod placed;
+mod plans;
+mod single_guards;
+mod single_pairs;
+
+pub use compilation::compile;

@@ -1,0 +1,82 @@
+ghost use Rattle.std.specs.Prelude.{◌≡◌, ◌≢◌, ◌≤◌, ◌<◌, ◌^◌, ◌↔◌, ℕ, Some, Contains, IsTrue, IfOk, length};
+ghost use Rattle.std.specs.List.Sorted.{IsStrictlyIncreasing};
+ghost use Rattle.plan_model.specs.task_networks.Order.{IsAcyclic, IsMaximal};
+ghost use Rattle.plan_model.specs.Pairs.{Pairs};
+ghost use Rattle.net_order.specs.Meaning.{AreBelow, IsOrderOf};
+ghost use Rattle.net_order.specs.Answers.{maximal};
+ghost use Rattle.bound_calc.specs.method_precs.Ordered.{AreCopiers, IsCopier, IsOrdered};
+
+use htn_base::{List, Memory};
+use net_order::{Order, OrderError};
+use plan_model::Pair;
+use std::alloc::Global;
+
+/// The children of a network by their order.
+#[derive(Drop)]
+pub struct Ordered {
+    pub line: List<u32>,
+    pub heir: Option<u32>,
+    pub copiers: List<u32>,
+}
+
+impl Ordered {
+    /// The line of so many children, its last child, and the other maximal ones.
+    pub fn new(alloc: Global, count: u32, pairs: &[Pair]) -> Result<Ordered, Memory>
+        requires small { count ≤ 4097 }
+        requires within { AreBelow count pairs.now }
+        requires few { length pairs.now < 2 ^ 32 }
+        requires acyclic { IsAcyclic (Pairs pairs.now) }
+        ensures ordered { IfOk result (IsOrdered count pairs.now) }
+    {
+        let order = order_of(alloc, count, pairs)?;
+        let heir = order.heir();
+        Ok(Ordered {
+            line: order.line().copy(alloc)?,
+            heir,
+            copiers: copiers_of(alloc, &order, count, heir)?,
+        })
+    }
+}
+
+fn order_of(alloc: Global, count: u32, pairs: &[Pair]) -> Result<Order, Memory>
+    requires small { count ≤ 4097 }
+    requires within { AreBelow count pairs.now }
+    requires few { length pairs.now < 2 ^ 32 }
+    requires acyclic { IsAcyclic (Pairs pairs.now) }
+    ensures order { IfOk result (IsOrderOf count pairs.now) }
+{
+    match Order::new(alloc, count, pairs) {
+        Ok(order) => Ok(order),
+        Err(OrderError::Memory) => Err(Memory),
+        Err(OrderError::Cycle { .. }) => unreachable!(),
+    }
+}
+
+/// The maximal children other than the heir, in number order.
+fn copiers_of(
+    alloc: Global,
+    order: &Order,
+    count: u32,
+    heir: Option<u32>,
+) -> Result<List<u32>, Memory>
+    requires children { order.now.count ≡ count }
+    ensures copiers { IfOk result (λ copiers. AreCopiers count (maximal order.now) heir copiers) }
+{
+    let mut copiers = List::new(alloc);
+    for child in 0..count {
+        if is_copier(order, heir, child) {
+            copiers.push(child)?;
+        }
+    }
+    Ok(copiers)
+}
+
+fn is_copier(order: &Order, heir: Option<u32>, child: u32) -> bool
+    requires { child < order.now.count }
+    ensures { IsTrue result ↔ IsCopier (maximal order.now) heir child }
+{
+    match heir {
+        Some(heir) => heir != child && order.maximal(child),
+        None => order.maximal(child),
+    }
+}

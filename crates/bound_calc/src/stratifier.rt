@@ -1,0 +1,24 @@
+//! The strata of a compiled problem: which tasks are reached from the top, the edges between them and
+//! which are bad, the groups of tasks that reach each other, ranks, and the bad cycle that is named.
+//!
+//! Stands on `htn_base`, `plan_model` and the definitions of `task_networks`, `net_order` and
+//! `plan_meaning`. The contract used above: a tail-recursive problem has strata, and any other the named
+//! cycle (`stratify`).
+mod all_edges;
+mod bad;
+mod by_task;
+mod edge;
+mod finishing;
+mod groups;
+mod last;
+mod laws;
+mod named;
+mod ranks;
+mod reach;
+
+pub use all_edges::edges;
+pub use bad::bad_marks;
+pub use edge::Edge;
+pub use laws::compiled_networks_have_no_cycle;
+pub use ranks::{Ranks, StratError, stratify};
+pub use reach::reached;

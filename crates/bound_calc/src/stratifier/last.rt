@@ -1,0 +1,53 @@
+//! The last child of a method. Where the pairs have no cycle, it is the only child that is first in none of them.
+
+ghost use Rattle.std.specs.Prelude.{◌≡◌, ◌<◌, ◌^◌, length, IfOk};
+ghost use Rattle.net_order.specs.Closure.{AreFirsts};
+ghost use Rattle.net_order.specs.Meaning.{AreBelow};
+ghost use Rattle.bound_calc.specs.stratifier.Conditions.{IsOrdered, IsSmallMethod};
+ghost use Rattle.bound_calc.specs.stratifier.Bad.{IsLastOf, IsOnlyUnmarkedOrNone};
+
+use htn_base::Memory;
+use plan_model::{MethodPlan, Pair};
+use std::alloc::Global;
+
+/// The child that all others of the method precede, if there is one.
+pub fn last_child(alloc: Global, plan: &MethodPlan) -> Result<Option<u32>, Memory>
+    requires small { IsSmallMethod plan.now }
+    requires ordered { IsOrdered plan.now }
+    ensures last { IfOk result (IsLastOf plan.now) }
+{
+    let count = plan.schema.children.len();
+    let firsts = firsts_of(alloc, count, plan.schema.pairs.as_slice())?;
+    let last = only_unmarked(firsts.as_slice());
+    Ok(last)
+}
+
+/// A mark for each of so many children: whether it is first in one of the pairs.
+fn firsts_of(alloc: Global, count: usize, pairs: &[Pair]) -> Result<Vec<bool>, Memory>
+    requires below { AreBelow count pairs.now }
+    ensures room { IfOk result (λ marks. length marks.items ≡ count) }
+    ensures firsts { IfOk result (λ marks. AreFirsts pairs.now marks.items) }
+{
+    let mut marks = vec![in alloc; false; count]?;
+    for pair in pairs {
+        marks[pair.first as usize] = true;
+    }
+    Ok(marks)
+}
+
+/// The place of the only item without a mark; `None` where there is no such item, or more than one.
+fn only_unmarked(marks: &[bool]) -> Option<u32>
+    requires small { length marks.now < 2 ^ 32 }
+    ensures only { IsOnlyUnmarkedOrNone marks.now result }
+{
+    let mut only = None;
+    for (i, mark) in marks.iter().enumerate() {
+        if !*mark {
+            if only.is_some() {
+                return None;
+            }
+            only = Some(i as u32);
+        }
+    }
+    only
+}

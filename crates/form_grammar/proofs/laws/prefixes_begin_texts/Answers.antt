@@ -1,8 +1,0 @@
-use Rattle.form_grammar.specs.Texts.{text_form}
-use Rattle.form_grammar.proofs.TextLaws.{text_cuttable, prefix_laws}
-use Rattle.form_grammar.proofs.laws.prefixes_begin_texts.Goals as goal
-
-pub returns : goal.returns
-returns g c = record {
-  texts = λ due i. prefix_laws (text_form g.G.TextGrammar.rows g.G.TextGrammar.texts due) (text_cuttable g.G.TextGrammar.rows g.G.TextGrammar.texts due) c.args.text.now i;
-}

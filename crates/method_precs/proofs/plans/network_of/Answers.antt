@@ -1,6 +1,0 @@
-use Rattle.std.proofs.Common.{length}
-use Rattle.net_order.proofs.Chains.{below_from_pairs}
-use Rattle.method_precs.proofs.plans.network_of.Goals as goal
-
-pub pairs_of-requires-clause-within : goal.pairs_of-requires-clause-within
-pairs_of-requires-clause-within c = below_from_pairs (length c.args.method.now.children) c.args.method.now.pairs c.requires.within

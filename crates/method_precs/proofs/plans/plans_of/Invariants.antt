@@ -1,9 +1,0 @@
-use Rattle.std.proofs.Common.{◌≡◌, ◌∷◌, take}
-use Rattle.plan_meaning.specs.Compilation.{AreMethodPlans}
-use Rattle.method_precs.proofs.plans.plans_of.Given as goal
-
-abbrev pub invariant-loop-method : goal.invariant-loop-method
-invariant-loop-method l = record {
-  items : l.method-items ≡ l.problem.methods;
-  plans : AreMethodPlans l.problem l.checks (l.problem.top ∷ take l.method-index l.method-items) l.plans;
-}

@@ -1,5 +1,0 @@
-use Rattle.plan_meaning.proofs.BoundLaws.{bound_is_the_only_one}
-use Rattle.plan_meaning.proofs.laws.bound_is_the_only_one.Goals as goal
-
-pub returns : goal.returns
-returns c = bound_is_the_only_one c.args.problem.now c.args.checks.now c.args.compiled.now c.requires.compiled

@@ -1,0 +1,11 @@
+//! What the values of `plan_model` mean: truth, steps of a state, classical plans, the network of a compiled problem,
+//! solutions, tail-recursive problems and the bound.
+//!
+//! The definitions stand in specs/, in reading order in its Lib. They stand on `plan_model` and `task_networks`.
+//! Crates above cite the definitions; the laws say that they fit together.
+mod laws;
+
+pub use laws::{
+    bound_is_the_only_one, compiled_network_is_lawful, each_list_is_a_plan_or_fails,
+    prefix_is_executable,
+};

@@ -1,0 +1,15 @@
+//! All encoded values of a compiled problem, over tables that have all its words, have the same two texts.
+//!
+//! They say the same in one order once each number of a name or a type is replaced by its words, and the two texts of a PDDL value
+//! are a function of what it says. So what prints one of these values prints them all, and no code has to follow which table it is.
+//!
+//! With more slots the texts grow evenly: by a step for each slot past the first, and by so many bytes for each digit past the first of a
+//! slot's number, wherever the source names no object past its own (`from-few` of `proofs/growth/FewSlots`). So the lengths with one slot,
+//! two and ten tell those with any number.
+//!
+//! It stands on the encoded value of `slot_encoding` and on the printed texts of `plan_texts`, and has no code but laws. The code that
+//! prints (`problem_texts`) and the proof about plans (`plan_proof`) both stand on it. The contract used above:
+//! `encoded_values_say_the_same`, in proofs as the lemma `encoded_texts-same` of `proofs/SameTexts`.
+mod laws;
+
+pub use laws::{encoded_values_say_the_same, texts_are_what_is_said};

@@ -1,0 +1,11 @@
+//! Which compiled problems have a bound, and what it bounds: each is tail-recursive or has one named bad cycle,
+//! the tail-recursive ones and no others have a bound, and no schedule of any front has more pending than that.
+//!
+//! The definitions are those of `plan_meaning`, and this crate adds no other. It stands on `plan_meaning`, and for the width
+//! of fronts on `slot_machine`. The contract used above: `every_front_is_within_the_bound`, which says what a bound is for.
+mod laws;
+
+pub use laws::{
+    every_front_is_within_the_bound, ranked_exactly, tail_recursive_has_one_bound,
+    tail_recursive_or_bad_cycle,
+};

@@ -1,5 +1,0 @@
-use Rattle.stratifier.proofs.Lasts.{AreMarkedBelow}
-use Rattle.stratifier.proofs.bad.bad_marks.Given as goal
-
-abbrev pub invariant-loop-edge : goal.invariant-loop-edge
-invariant-loop-edge l = AreMarkedBelow l.c l.edges l.edge-index l.marks

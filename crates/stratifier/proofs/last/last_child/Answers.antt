@@ -1,9 +1,0 @@
-use Rattle.std.proofs.Common.{◌∙◌}
-use Rattle.stratifier.proofs.LastChild.{last_found}
-use Rattle.stratifier.proofs.last.last_child.Goals as goal
-
-pub returns : goal.returns
-returns c = record {
-  last = last_found c.args.plan.now _ c.in_ok-firsts.firsts.items _ c.only_unmarked-last.result c.requires.ordered c.as_slice.ensures.items (c.in_ok-firsts.ensures.room ∙ c.len-count.ensures.length) c.in_ok-firsts.ensures.firsts
-      c.as_slice-2.ensures.value c.only_unmarked-last.ensures.only;
-}

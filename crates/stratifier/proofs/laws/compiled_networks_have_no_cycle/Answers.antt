@@ -1,5 +1,0 @@
-use Rattle.stratifier.proofs.Compiled.{have_no_cycle}
-use Rattle.stratifier.proofs.laws.compiled_networks_have_no_cycle.Goals as goal
-
-pub returns : goal.returns
-returns c = have_no_cycle c.args.problem.now c.args.checks.now c.args.compiled.now c.requires.ordered c.requires.compiled

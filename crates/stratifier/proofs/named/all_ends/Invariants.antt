@@ -1,5 +1,0 @@
-use Rattle.stratifier.proofs.NamedEnds.{AreEndsUpTo}
-use Rattle.stratifier.proofs.named.all_ends.Given as goal
-
-abbrev pub invariant-loop-edge : goal.invariant-loop-edge
-invariant-loop-edge l = AreEndsUpTo l.c l.edges l.edge-index l.ends.items

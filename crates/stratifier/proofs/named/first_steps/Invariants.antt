@@ -1,5 +1,0 @@
-use Rattle.stratifier.proofs.NamedSteps.{AreStepsBelow}
-use Rattle.stratifier.proofs.named.first_steps.Given as goal
-
-abbrev pub invariant-loop-k : goal.invariant-loop-k
-invariant-loop-k l = AreStepsBelow l.ends l.distances l.k l.steps.items

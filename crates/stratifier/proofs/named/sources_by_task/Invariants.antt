@@ -1,5 +1,0 @@
-use Rattle.stratifier.proofs.NamedSources.{AreSourcesBelow}
-use Rattle.stratifier.proofs.named.sources_by_task.Given as goal
-
-abbrev pub invariant-loop-e : goal.invariant-loop-e
-invariant-loop-e l = AreSourcesBelow l.count l.ends l.e-index l.lists.items
