@@ -1,5 +1,6 @@
-//! The values that are shared by readers, encoder, printers and deciders: terms, formulas, effects, networks,
-//! schemas, types and objects, and the whole values of a problem in HDDL and in PDDL.
+//! What a problem is and what it means. The values that are shared by readers, encoder, printers and deciders: terms, formulas,
+//! effects, networks, schemas, types and objects, and the whole values of a problem in HDDL and in PDDL. In `task_networks` the
+//! definitions of hierarchical planning over any task network, and in `plan_meaning` what the values mean.
 //!
 //! Numbers in a value are places from 0: of a predicate, task, action, method, type or object in the list of the
 //! whole value, of a subtask in its network, and of a variable among those in force.

@@ -1,8 +1,10 @@
-//! What the values of `plan_model` mean: truth, steps of a state, classical plans, the network of a compiled problem,
+//! What the values of a problem mean: truth, steps of a state, classical plans, the network of a compiled problem,
 //! solutions, tail-recursive problems and the bound.
 //!
-//! The definitions stand in specs/, in reading order in its Lib. They stand on `plan_model` and `task_networks`.
+//! The definitions stand in specs/plan_meaning, in reading order in `specs/plan_meaning.antt`. They stand on the values and on
+//! `task_networks`.
 //! Crates above cite the definitions; the laws say that they fit together.
+
 mod laws;
 
 pub use laws::{

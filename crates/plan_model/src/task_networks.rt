@@ -1,8 +1,9 @@
 //! The abstract definitions of hierarchical planning, over any task network: orders, networks, trees, schedules, fronts, spellings, bounds.
 //!
-//! They stand in specs/, in reading order in its Lib, and no Rust type is in them. This crate stands on std and
-//! on what `htn_base` calls lists of different elements.
-//! Crates above cite the definitions, and call a law for a network of theirs; proofs/ has the lemmas on these notions.
+//! They stand in specs/task_networks, in reading order in `specs/task_networks.antt`. No Rust type is in them, and nothing of the
+//! values of a problem: they stand on std and on what `htn_base` calls lists of different elements.
+//! Crates above cite the definitions, and call a law for a network of theirs; proofs/task_networks has the lemmas on these notions.
+
 mod laws;
 mod network;
 

@@ -4,12 +4,13 @@
 //! are a function of what it says. So what prints one of these values prints them all, and no code has to follow which table it is.
 //!
 //! With more slots the texts grow evenly: by a step for each slot past the first, and by so many bytes for each digit past the first of a
-//! slot's number, wherever the source names no object past its own (`from-few` of `proofs/growth/FewSlots`). So the lengths with one slot,
+//! slot's number, wherever the source names no object past its own (`from-few` of `proofs/encoded_texts/growth/FewSlots`). So the lengths with one slot,
 //! two and ten tell those with any number.
 //!
-//! It stands on the encoded value of `slot_encoding` and on the printed texts of `plan_texts`, and has no code but laws. The code that
-//! prints (`problem_texts`) and the proof about plans (`plan_proof`) both stand on it. The contract used above:
-//! `encoded_values_say_the_same`, in proofs as the lemma `encoded_texts-same` of `proofs/SameTexts`.
+//! They stand on the encoded value and on the printed texts of `plan_texts`. The code that
+//! prints (`problem_texts`) and the proof about plans (`plan_proof`) both stand on them. The contract used above:
+//! `encoded_values_say_the_same`, in proofs as the lemma `encoded_texts-same` of `proofs/encoded_texts/SameTexts`.
+
 mod laws;
 
 pub use laws::{encoded_values_say_the_same, texts_are_what_is_said};

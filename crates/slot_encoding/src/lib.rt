@@ -1,11 +1,13 @@
-//! The printed problem, as it is defined: its names, its formulas on order pairs, its actions, its words.
+//! The printed problem, as it is defined: its names, its formulas on order pairs, its actions, its words; and that it has one pair of
+//! texts, and how they grow with the slots (`encoded_texts`).
 //!
 //! The code above (`order_encoder`, `slot_declarations`, `slot_encoder`, `problem_texts`) and the proof about plans (`plan_proof`)
-//! both stand on these definitions, and on nothing of each other; what both use of their texts is in `encoded_texts`. It stands on
-//! the compiled problem of `plan_meaning` and on the printable values of `plan_texts`, and has no code but laws, and what the crates
+//! both stand on these definitions and laws, and on nothing of each other. It stands on the compiled problem of
+//! `plan_model::plan_meaning` and on the printable values of `plan_texts`, and has no code but laws, and what the crates
 //! above call the order pairs by (`OrderNames`). The contracts used above: the encoded value of a sound problem, over a table that has
 //! all its words, can be printed (`encoded_is_printable`); each compiled problem has an encoded value
-//! (`every_problem_has_an_encoded_value`).
+//! (`every_problem_has_an_encoded_value`), and all of them have the same two texts
+//! (`encoded_texts::encoded_values_say_the_same`).
 #![tactic(auto)]
 
 pub mod encoded_texts;

@@ -1,8 +1,8 @@
-//! The machine of slots, and what its runs are: the spelled fronts of a task network.
+//! The machine of slots, and what its runs are: the spelled fronts of a task network. And what bounds them (`bound_laws`).
 //!
-//! It stands on `task_networks`, and no type of the layers above is in it. A crate above plugs in a network, an execution or
-//! another machine, and calls the law that it needs; `plans_are_spelled_solutions` and `other_takes_fronts` are the two that a
-//! classical encoding stands on.
+//! It stands on `plan_model::task_networks`, and but for `bound_laws` no type of the layers above is in it. A crate above plugs in a
+//! network, an execution or another machine, and calls the law that it needs; `plans_are_spelled_solutions` and `other_takes_fronts`
+//! are the two that a classical encoding stands on.
 #![tactic(auto)]
 
 pub mod bound_laws;

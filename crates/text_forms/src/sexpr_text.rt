@@ -1,9 +1,10 @@
 //! The tokens of a text: parentheses and words with their places, and the list that each parenthesis closes.
 //!
-//! Stands on `htn_base` and on the definitions of `text_forms`. The contract used above: `read` and
+//! Stands on the definitions at the root. The contract used above: `read` and
 //! `read_with_index` answer a text exactly where it has none of the faults 1 to 4, else the least of them; its
 //! tokens are the defined ones, and each word is the source at its span. A token is asked for by its number, or by
 //! its `Position`, from which on tokens are read one after another and none is looked up.
+
 mod classes;
 mod closings;
 mod ends;
