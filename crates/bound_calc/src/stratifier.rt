@@ -1,9 +1,9 @@
 //! The strata of a compiled problem: which tasks are reached from the top, the edges between them and
 //! which are bad, the groups of tasks that reach each other, ranks, and the bad cycle that is named.
 //!
-//! Stands on `htn_base`, `plan_model` and the definitions of `task_networks`, `net_order` and
-//! `plan_meaning`. The contract used above: a tail-recursive problem has strata, and any other the named
+//! Stands on `net_order` and the definitions of `plan_model`. The contract used above: a tail-recursive problem has strata, and any other the named
 //! cycle (`stratify`).
+
 mod all_edges;
 mod bad;
 mod by_task;

@@ -2,7 +2,7 @@
 //!
 //! Stands on the definitions of `name_binding` and `hddl_bind`, which speak of
 //! numbers, and on those of `hddl_reader` and `form_spellings`, which speak of words; it has no code but laws. The contracts used
-//! above, for a domain and a problem that were read (`specs/InOrder`): what is refused is the least fault, and what is bound has none
+//! above, for a domain and a problem that were read (`specs/binding_laws/InOrder`): what is refused is the least fault, and what is bound has none
 //! (`whole_texts_are_judged`); the value that is bound is what the two stand for (`whole_texts_are_bound`), in the order in which the
 //! texts name it, so that it is the HDDL value of the texts (`what_is_bound_is_of_its_texts`); of two texts that spell it, it is
 //! sound, and its networks have no cycle (`read_values_are_sound`, over `bound_values_are_sound` and `tables_of_texts_are_few`); what
@@ -17,6 +17,7 @@
 //! (`orders_are_said`), of a whole network, which without faults is bound (`networks_are_said`) and sound (`networks_are_sound`), of
 //! the types of a domain (`domain_types_are_said`, `domain_types_are_bound`), and of schemas and the parts of a problem
 //! (`schemas_are_said`, `schemas_are_bound`, `schemas_are_sound`).
+
 mod first_seen;
 mod laws;
 mod networks;

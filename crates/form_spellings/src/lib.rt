@@ -1,7 +1,8 @@
-//! The grammar of texts and the definition of what a text spells are one grammar.
+//! The grammar of texts and the definition of what a text spells are one grammar; and what binding says over the numbers of names is
+//! what is said in words (`binding_laws`).
 //!
-//! It stands on the definitions of `gd_reader`, `form_grammar`, `plan_texts` and `plan_meaning` and on the faults of names of
-//! `hddl_reader`, and has no code but laws. The contracts used above:
+//! It stands on the definitions of `gd_reader`, `text_forms`, `plan_texts` and `plan_model` and on the faults of names of `hddl_reader`,
+//! for `binding_laws` on what `name_binding` and `hddl_bind` say, and has no code but laws. The contracts used above:
 //! a form is whole exactly where it spells some formula, effect, typed list, part of a network, schema, domain or problem, once its
 //! words are declared suitably (`whole_formulas`, `whole_effects`, `whole_lists`, `whole_networks`, `whole_schemas`,
 //! `whole_definitions`), so also where it spells a domain or a problem as declared (`spelled_definitions_are_whole`); what is read,

@@ -1,7 +1,7 @@
 //! Formulas, effects and typed lists as they are written, with a number for each word and places for faults, and
 //! a list of atoms that takes little memory for each.
 //!
-//! Stands on `sexpr_text` and `htn_base`, and on the definitions of `text_forms`. The contract used above:
+//! Stands on `htn_base`, and on the tokens and definitions of `text_forms`. The contract used above:
 //! each call answers a value exactly where a whole form begins at the token, and else the fault of the
 //! first token with which the tokens no longer begin the form; old names keep their numbers, and each further
 //! one is of a word of the text, on an error too.

@@ -1,7 +1,7 @@
 //! Whole domains and problems as they are written, with a number for each name and places for faults; and what faults of names are in
 //! them.
 //!
-//! Stands on `sexpr_text`, `gd_reader` and `htn_base`, on the grammar of `form_grammar` and on the orders of `task_networks`. The
+//! Stands on `gd_reader` and `htn_base`, on the tokens and grammars of `text_forms` and on the orders of `plan_model::task_networks`. The
 //! contract used above: `domain` and `problem` answer the value exactly where the tokens are a whole text of the grammar, and else its
 //! one fault of form; old names keep their numbers, and each further one is of a word of the text, on an error too. The
 //! language is a parameter: PDDL is HDDL without tasks, methods and an initial network.

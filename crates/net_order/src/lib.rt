@@ -1,7 +1,7 @@
 //! The order of one network's children: what precedes what, the line, the heir, the last child, the maximal
 //! children and the cuts.
 //!
-//! Stands on `htn_base`, `plan_model` and the definitions of `task_networks`. The contract used above: an order
+//! Stands on `htn_base`, and `plan_model` with the definitions of its `task_networks`. The contract used above: an order
 //! answers what the pairs generate, and a list of pairs with a cycle is refused by the first pair that closes one.
 #![tactic(auto)]
 

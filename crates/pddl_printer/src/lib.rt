@@ -1,6 +1,6 @@
 //! Prints the two PDDL texts of a value, a line for each section, with one space between the parts of a list.
 //!
-//! Stands on `htn_base`, `sheets` and `plan_model`, and on the definitions of `text_forms`, `task_networks` and `plan_texts`. The
+//! Stands on `htn_base`, `plan_model`, the sheets and definitions of `text_forms`, and the definitions of `plan_texts`. The
 //! contract used above: what is put on a sheet is exactly the defined text, of the value or of the one in which the
 //! quantifiers over a range of objects are written out: the two pages, or the domain in parts, which are its start, the
 //! line of each action, and its end. What such a quantifier says of each object, and that a variable differs from each of

@@ -5,7 +5,7 @@
 //! of the two source texts (`value_laws`); two source texts have one pair of printed texts, and one bound or one named cycle, whatever
 //! they are read as (`print_laws`); and, of two small problems, which plans they have (`row_laws`).
 //!
-//! It stands on the printed problem of `slot_encoding` and its one pair of texts (`encoded_texts`), on the laws of `slot_machine` and on
+//! It stands on the printed problem of `slot_encoding` and its one pair of texts, on the laws of `slot_machine` and on
 //! the spelling of `plan_texts`, and has no code but laws; no code but the run stands on it. The contracts used above: `headline`,
 //! `headline_at_bound`; and that the answer of a run is one: `one_pair_of_texts`, `some_pair_of_texts`, `one_bound_or_cycle_of_texts`.
 #![tactic(auto)]

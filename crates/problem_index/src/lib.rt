@@ -1,6 +1,6 @@
 //! Where the actions and the objects of a problem stand, by their words, and the objects of each of its types.
 //!
-//! Stands on `htn_base`, `plan_model` and the definitions of `plan_meaning`. The contracts used above: `Index::action` finds
+//! Stands on `htn_base` and `plan_model` with the definitions of its `plan_meaning`. The contracts used above: `Index::action` finds
 //! the action of a name, `Index::object` the object of a word, where it is in a type, and `World::domain` is what a
 //! quantifier over a type goes over: its objects, in a list that is made once.
 #![tactic(auto)]

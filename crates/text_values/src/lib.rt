@@ -1,8 +1,8 @@
-//! The value of two texts, a domain's and a problem's, in HDDL or in PDDL, or their least fault.
+//! The value of two texts, a domain's and a problem's, in HDDL or in PDDL, or their least fault; and in `plan_text` the steps of a
+//! plan's.
 //!
-//! Stands on `sexpr_text` for tokens, `hddl_reader` for forms and `hddl_bind` for names, on the laws of `form_spellings` and
-//! `binding_laws`, which say in words what those say by numbers, and on the faults of a plan's text of `plan_text`. The contracts used above: `hddl_of` answers a
-//! value exactly where two HDDL texts have no fault; they then spell it, it is sound, and no network of it has a cycle. `pddl_of`
+//! Stands on `text_forms` for tokens, `hddl_reader` for forms and `hddl_bind` for names, and on the laws of `form_spellings`, which say
+//! in words what those say by numbers. The contracts used above: `hddl_of` answers a value exactly where two HDDL texts have no fault; they then spell it, it is sound, and no network of it has a cycle. `pddl_of`
 //! does so for two PDDL texts. Else each answers their least fault, by file, phase, offset and code. Texts that spell a sound value
 //! have none, and so have those that are printed for a value: what they are read as is alike to it
 //! (`printed_texts_are_read_again`). Below both, `read_as` answers what two texts of either language are read as, with their names

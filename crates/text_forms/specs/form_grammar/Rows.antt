@@ -1,5 +1,5 @@
 -- A grammar, line by line: for each thing that may be due, which token may come next and what is due behind it.
--- Such a grammar has its laws from proofs/RowLaws: one departing token with one code, and prefixes of what begins a form begin it.
+-- Such a grammar has its laws from proofs/form_grammar/RowLaws: one departing token with one code, and prefixes of what begins a form begin it.
 use Rattle.std.specs.Prelude.{ℕ, Bool, true, false, Option, Some, None}
 use Rattle.text_forms.specs.Placed.{Placed, cut, close, word, list}
 use Rattle.text_forms.specs.Words.{Word}
