@@ -1,6 +1,7 @@
 //! The compiled value of a problem: checks of preconditions, pairs, lines, heirs, copiers and guards of its methods.
 //!
-//! Stands on `net_order` and the definitions of `plan_model` and `plan_texts`. The contract used above: `compile` gives the compiled value, and its network is lawful.
+//! Stands on `net_order` and the definitions of `plan_model` and `plan_texts`. The contract used above: `compile` gives the
+//! compiled value, and its network is lawful.
 
 mod checks;
 mod children;

@@ -1,9 +1,9 @@
 //! Truth, steps and runs, computed: a state of ground atoms, whether a formula is true in it, the state after an effect,
 //! and whether a list of ground actions is a plan.
 //!
-//! Stands on `htn_base`, `problem_index`, and `plan_model` with the definitions of its `plan_meaning`. The contracts used above: `holds` answers
-//! whether a formula is true in a state, `State::apply` goes to the state after an effect, `Run::take` takes one step of
-//! a plan or says why it can't be taken, so that no plan need be held, and `run_plan` tells plans from other lists, with
+//! Stands on `htn_base`, `problem_index`, and `plan_model` with the definitions of its `plan_meaning`. The contracts used above:
+//! `holds` answers whether a formula is true in a state, `State::apply` goes to the state after an effect, `Run::take` takes one
+//! step of a plan or says why it can't be taken, so that no plan need be held, and `run_plan` tells plans from other lists, with
 //! the first step that fails and why.
 //!
 //! A state has numbers of predicates and objects alone, and the calls take the types and the objects that these are

@@ -1,16 +1,16 @@
 //! The value of two texts, a domain's and a problem's, in HDDL or in PDDL, or their least fault; and in `plan_text` the steps of a
 //! plan's.
 //!
-//! Stands on `text_forms` for tokens, `hddl_reader` for forms and `hddl_bind` for names, and on the laws of `form_spellings`, which say
-//! in words what those say by numbers. The contracts used above: `hddl_of` answers a value exactly where two HDDL texts have no fault; they then spell it, it is sound, and no network of it has a cycle. `pddl_of`
-//! does so for two PDDL texts. Else each answers their least fault, by file, phase, offset and code. Texts that spell a sound value
-//! have none, and so have those that are printed for a value: what they are read as is alike to it
-//! (`printed_texts_are_read_again`). Below both, `read_as` answers what two texts of either language are read as, with their names
-//! bound.
+//! Stands on `text_forms` for tokens, `hddl_reader` for forms and `hddl_bind` for names, and on the laws of `form_spellings`, which
+//! say in words what those say by numbers. The contracts used above: `hddl_of` answers a value exactly where two HDDL texts have no
+//! fault; they then spell it, it is sound, and no network of it has a cycle. `pddl_of` does so for two PDDL texts. Else each
+//! answers their least fault, by file, phase, offset and code. Texts that spell a sound value have none, and so have those that are
+//! printed for a value: what they are read as is alike to it (`printed_texts_are_read_again`). Below both, `read_as` answers what
+//! two texts of either language are read as, with their names bound.
 //!
-//! A text may be read into any table of words, and its fault of names is said of what was read. Whichever table it is, what is read is
-//! the same but for the numbers of words, so two texts have one least fault or none, and so has the text of a plan (`one_least_fault`,
-//! `one_fault_of_a_plan`).
+//! A text may be read into any table of words, and its fault of names is said of what was read. Whichever table it is, what is read
+//! is the same but for the numbers of words, so two texts have one least fault or none, and so has the text of a plan
+//! (`one_least_fault`, `one_fault_of_a_plan`).
 #![tactic(auto)]
 
 mod domains;
