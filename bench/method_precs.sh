@@ -7,11 +7,11 @@ top=$(cd "$(dirname "$0")/.." && pwd)
 copy=$(mktemp -d)
 trap 'rm -rf "$copy"' EXIT
 mkdir -p "$copy/crates/precs_bench/src"
-for crate in htn_base task_networks text_forms plan_model plan_texts plan_meaning net_order method_precs; do
+for crate in htn_base text_forms plan_model slot_machine plan_texts net_order bound_calc; do
     cp -r "$top/crates/$crate" "$copy/crates/"
     grep "^$crate:" "$top/crates.txt" >>"$copy/crates.txt"
 done
-echo "precs_bench: htn_base task_networks text_forms plan_model plan_texts plan_meaning net_order method_precs" >>"$copy/crates.txt"
+echo "precs_bench: htn_base text_forms plan_model plan_texts net_order bound_calc" >>"$copy/crates.txt"
 cp "$top/HANDLES" "$copy/"
 # the small problems of the tests serve here too
 tests="$top/crates/public_calls"

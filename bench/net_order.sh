@@ -7,7 +7,7 @@ top=$(cd "$(dirname "$0")/.." && pwd)
 copy=$(mktemp -d)
 trap 'rm -rf "$copy"' EXIT
 mkdir -p "$copy/crates/order_bench/src"
-for crate in htn_base task_networks plan_model net_order; do
+for crate in htn_base plan_model net_order; do
     cp -r "$top/crates/$crate" "$copy/crates/"
     grep "^$crate:" "$top/crates.txt" >>"$copy/crates.txt"
 done

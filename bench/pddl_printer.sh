@@ -8,7 +8,7 @@ top=$(cd "$(dirname "$0")/.." && pwd)
 copy=$(mktemp -d)
 trap 'rm -rf "$copy"' EXIT
 mkdir -p "$copy/crates/printer_bench/src"
-for crate in htn_base sheets task_networks text_forms plan_model plan_texts pddl_printer; do
+for crate in htn_base text_forms plan_model plan_texts pddl_printer; do
     cp -r "$top/crates/$crate" "$copy/crates/"
     grep "^$crate:" "$top/crates.txt" >>"$copy/crates.txt"
 done

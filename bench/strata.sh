@@ -13,11 +13,11 @@ copy=$(mktemp -d)
 trap 'rm -rf "$copy"' EXIT
 bench="$copy/crates/strata_bench"
 mkdir -p "$bench/src" "$bench/specs" "$bench/proofs"
-for crate in htn_base task_networks slot_machine plan_model plan_meaning bound_laws net_order stratifier bound_calc; do
+for crate in htn_base text_forms plan_model slot_machine plan_texts net_order bound_calc; do
     cp -a "$top/crates/$crate" "$copy/crates/"
     grep "^$crate:" "$top/crates.txt" >>"$copy/crates.txt"
 done
-echo "strata_bench: htn_base task_networks plan_model plan_meaning net_order stratifier bound_laws bound_calc" >>"$copy/crates.txt"
+echo "strata_bench: htn_base plan_model slot_machine net_order bound_calc" >>"$copy/crates.txt"
 cp "$top/HANDLES" "$copy/"
 # the test that a problem is such as both calls ask for serves here too
 rows="$top/crates/printed_rows"
@@ -30,13 +30,14 @@ find "$bench" -type f -exec sed -i 's/printed_rows\./strata_bench./' {} +
 cat >"$bench/src/main.rt" <<'E'
 #![tactic(auto)]
 
-ghost use Rattle.stratifier.specs.Stratified.{IsStratified};
+ghost use Rattle.bound_calc.specs.stratifier.Stratified.{IsStratified};
 ghost use Rattle.strata_bench.specs.Ready.{AreReady};
 
 mod ready;
 
 use crate::ready::are_ready;
 use bound_calc::bound;
+use bound_calc::stratifier::{Ranks, stratify};
 use htn_base::{List, Memory, Name, NameTable};
 use plan_model::{
     Child, Compiled, Facts, Formula, Hddl, Head, MethodPlan, MethodSchema, Pair, TaskSchema, Types,
@@ -45,7 +46,6 @@ use std::alloc::Global;
 use std::io;
 use std::rt::Clock;
 use std::time::Instant;
-use stratifier::{Ranks, stratify};
 
 /// How often each call is made.
 const RUNS: u32 = 10;
@@ -332,6 +332,6 @@ counted() {
     rm -f "$copy"/calls*
 }
 if command -v valgrind >/dev/null; then
-    counted strata stratifier::ranks::stratify
+    counted strata bound_calc::stratifier::ranks::stratify
     counted bound bound_calc::groups::bound
 fi

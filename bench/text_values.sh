@@ -1,5 +1,5 @@
 #!/usr/bin/env bash
-# Times `hddl_of` from bytes to the value, compiled, against `sexpr_text::read` with each token asked for, on texts of names: `:init` atoms of
+# Times `hddl_of` from bytes to the value, compiled, against `text_forms::sexpr_text::read` with each token asked for, on texts of names: `:init` atoms of
 # up to 16,777,216 bytes, a million variables and a million objects, each used once, 1,000 types with 100,000 pairs, a method of 4,096
 # subtasks with 100,000 written pairs, a million atoms in 190 quantifiers, and a million variables under one union of 1,000 types. Writes a
 # program into a temporary copy of the crates that it stands on, and proves, builds and runs it there; what those crates have proved and
@@ -27,24 +27,24 @@ top=$(cd "$(dirname "$0")/.." && pwd)
 work=$(mktemp -d)
 trap 'rm -rf "$work"' EXIT
 mkdir -p "$work/crates/values_bench/src"
-for crate in htn_base task_networks sheets text_forms form_grammar sexpr_text gd_reader hddl_reader plan_model plan_meaning \
-    net_order plan_texts plan_text name_binding hddl_bind form_spellings binding_laws text_values; do
+for crate in htn_base text_forms plan_model gd_reader hddl_reader net_order plan_texts name_binding hddl_bind form_spellings \
+    text_values; do
     cp -a "$top/crates/$crate" "$work/crates/"
     grep "^$crate:" "$top/crates.txt" >>"$work/crates.txt"
 done
-echo 'values_bench: htn_base sexpr_text plan_model text_values' >>"$work/crates.txt"
+echo 'values_bench: htn_base text_forms plan_model text_values' >>"$work/crates.txt"
 cp "$top/HANDLES" "$work/"
 cat >"$work/crates/values_bench/src/main.rt" <<'PROGRAM'
 //! Takes a domain's file and a problem's: reads them alone (`files`), with each of their tokens (`tokens`), or as the `value` that they
 //! stand for. Prints the tokens, or 0, and the milliseconds.
 #![tactic(auto)]
 
-use text_values::hddl_of;
 use htn_base::Fault;
-use sexpr_text::{ReadError, read};
 use std::io::{self, ErrorKind, Read};
 use std::time::Instant;
 use std::{env, fs};
+use text_forms::sexpr_text::{ReadError, read};
+use text_values::hddl_of;
 
 const LONGEST: u64 = 16_777_216;
 
