@@ -1,5 +1,5 @@
 -- Words have one answer at most.
-use Rattle.std.proofs.Common.{List, refl, sym, ◌∙◌, subst, inl, inr}
+use Rattle.std.proofs.Common.{List, sym, ◌∙◌, subst, inl, inr}
 use Rattle.outside_io.specs.Files.{FilesState}
 use Rattle.command_words.specs.Names.{Word}
 use Rattle.command_words.specs.Words.{Request, to_translate, to_bound, to_validate}

@@ -1,5 +1,5 @@
 -- A translation and a bound: two HDDL texts have one least fault, or one meaning, so one bound or one named cycle and one pair of texts.
-use Rattle.std.proofs.Common.{ℕ, zero, suc, ◌≡◌, List, [], ◌∷◌, refl, sym, ap, ◌∙◌, subst, arith}
+use Rattle.std.proofs.Common.{ℕ, ◌≡◌, List, [], ◌∷◌, refl, sym, ap, ◌∙◌, subst}
 use Rattle.outside_io.specs.Files.{FilesState}
 use Rattle.hddl_reader.specs.declared.sections.Language.TheVariants as language
 use Rattle.plan_model.specs.declared.options.Checks.{Checks}

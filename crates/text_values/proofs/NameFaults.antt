@@ -1,5 +1,5 @@
 -- A fault of names of what was read is one of what was read alike.
-use Rattle.std.proofs.Common.{ℕ, suc, ◌≡◌, ◌⊎◌, ◌++◌, List, [], ◌∷◌, map, length, Option, Some, None, codes, refl, sym, ap, ◌∙◌, subst, inl, inr, arith}
+use Rattle.std.proofs.Common.{ℕ, ◌≡◌, ◌⊎◌, ◌++◌, List, [], ◌∷◌, map, Option, Some, None, codes, refl, sym, ap, ◌∙◌, subst, inl, inr, arith}
 use Rattle.text_forms.specs.Words.{Word}
 use Rattle.plan_model.specs.task_networks.Order.{Precedes, direct, through}
 use Rattle.plan_texts.specs.Together.{Together}

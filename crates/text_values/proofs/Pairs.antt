@@ -1,5 +1,5 @@
 -- Readings of the same tokens into two tables of words: what is the same of what they give.
-use Rattle.std.proofs.Common.{◌≡◌, ◌<◌, ◌+◌, Bool, true, false, ◌||◌, if◌then◌else◌, cond, not, Ok, Err, Result, List, [], ◌∷◌, ◌++◌, take, length, get_or, position, Some, None, refl, sym, ap, ◌∙◌, arith}
+use Rattle.std.proofs.Common.{◌≡◌, ◌<◌, ◌+◌, Bool, true, false, ◌||◌, if◌then◌else◌, cond, not, Ok, Err, Result, List, [], ◌∷◌, ◌++◌, length, get_or, position, Some, None, refl, sym, ap, ◌∙◌, arith}
 use Rattle.std.proofs.lemmas.Bool.{lt-ltb, or_left, or_right}
 use Rattle.std.proofs.lemmas.List.Folds.{list_any-append}
 use Rattle.std.proofs.lemmas.List.{get_or-take}

@@ -1,5 +1,5 @@
 -- The sections of a domain and a problem are read alike.
-use Rattle.std.proofs.Common.{Bool, true, false, if◌then◌else◌, Ok, Result, List, [], ◌∷◌, ◌++◌, Option, Some, None, option_map, codes, refl}
+use Rattle.std.proofs.Common.{Bool, true, false, if◌then◌else◌, Ok, Result, List, [], ◌∷◌, ◌++◌, Option, Some, None, option_map, codes}
 use Rattle.text_forms.specs.Placed.{Placed, cut, close, word, list}
 use Rattle.plan_texts.specs.Together.{Together}
 use Rattle.gd_reader.specs.declared.stop.Stop.{Stop}

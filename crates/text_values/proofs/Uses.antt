@@ -7,7 +7,6 @@ use Rattle.gd_reader.specs.declared.term.RawAtom.{RawAtom}
 use Rattle.gd_reader.specs.declared.typed_lists.RawParam.{RawParam}
 use Rattle.gd_reader.specs.declared.formulas.RawFormula.{RawFormula}
 use Rattle.gd_reader.specs.declared.formulas.RawFormula.TheOpen.{RawFormula-F}
-use Rattle.gd_reader.specs.declared.formulas.RawFormula.TheVariants as raw
 use Rattle.gd_reader.specs.declared.formulas.RawFormula.TheVariants.{rolls-Holds, rolls-Equal, rolls-Not, rolls-And, rolls-Or, rolls-Imply, rolls-Forall, rolls-Exists}
 use Rattle.gd_reader.specs.declared.effects.RawEffect.{RawEffect}
 use Rattle.gd_reader.specs.declared.effects.RawEffect.TheOpen.{RawEffect-F}
