@@ -3,6 +3,4 @@ pub mod Seen
 pub mod Folder
 pub mod Files
 pub mod Sink
-pub mod Steady
-pub mod Script
 pub mod Untold

@@ -1,9 +1,7 @@
-// `outside_io`: files and sinks in memory, and on the machine.
+// Files and sinks on the machine (`outside_io`) and in memory (`memory_io`).
 use htn_base::Memory;
-use outside_io::{
-    DiskFiles, Files, GetError, MemFiles, MemSink, PutError, Sink, StdSink, SteadyFiles,
-    SteadySink, WriteError,
-};
+use memory_io::{MemFiles, MemSink, SteadyFiles, SteadySink};
+use outside_io::{DiskFiles, Files, GetError, PutError, Sink, StdSink, WriteError};
 use std::alloc::Global;
 use std::path::Path;
 use std::{env, fs};

@@ -1,7 +1,7 @@
 //! Runs in memory. A row says what there is before a run and what there must be after it; `replay` makes the run.
 use htn_base::Memory;
 use htn_cli::{Status, run};
-use outside_io::{MemFiles, MemSink};
+use memory_io::{MemFiles, MemSink};
 use refused::{powers, types};
 use std::alloc::Global;
 use std::process::Abort;

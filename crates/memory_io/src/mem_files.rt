@@ -3,12 +3,12 @@ ghost use Rattle.std.specs.Option.{option_copied};
 ghost use Rattle.outside_io.specs.Files.{GetGives, GetRefused, PutGives, PutRefused};
 ghost use Rattle.outside_io.specs.Seen.{Seen};
 ghost use Rattle.outside_io.specs.Folder.{bytes_of};
-ghost use Rattle.outside_io.specs.Script.{GetIsToFail, after_get, after_put, after_refused_get, after_refused_put, fails_next, files_state, no_files, with_failing_get, with_failing_put, with_file};
+ghost use Rattle.memory_io.specs.Script.{GetIsToFail, after_get, after_put, after_refused_get, after_refused_put, fails_next, files_state, no_files, with_failing_get, with_failing_put, with_file};
 
-use crate::files::{Files, GetError, PutError};
 use crate::script::Script;
 use crate::steady_files::{SteadyFiles, first_bytes};
 use htn_base::{Memory, Text};
+use outside_io::{Files, GetError, PutError};
 use std::alloc::Global;
 use std::marker::Model;
 
@@ -23,7 +23,7 @@ pub struct MemFiles {
 }
 
 impl Model for MemFiles {
-    ghost use Rattle.outside_io.specs.Script.{ScriptedFiles};
+    ghost use Rattle.memory_io.specs.Script.{ScriptedFiles};
 
     ghost Value = { ScriptedFiles };
 

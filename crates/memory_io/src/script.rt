@@ -1,6 +1,6 @@
 ghost use Rattle.std.specs.Prelude.{◌≡◌, OnOk, OnErr};
 ghost use Rattle.outside_io.specs.Count.{Rises};
-ghost use Rattle.outside_io.specs.Script.{fresh, fails_next, after_call, after_fault, with_failing};
+ghost use Rattle.memory_io.specs.Script.{fresh, fails_next, after_call, after_fault, with_failing};
 
 use htn_base::{List, Memory};
 use std::alloc::Global;
@@ -15,7 +15,7 @@ pub(crate) struct Script {
 }
 
 impl Model for Script {
-    ghost use Rattle.outside_io.specs.Script.{Script};
+    ghost use Rattle.memory_io.specs.Script.{Script};
 
     ghost Value = { Script };
 

@@ -1,12 +1,12 @@
 ghost use Rattle.std.specs.Prelude.{◌≡◌, ◌<◌, IfOk, IfErr, OnOk, OnErr, IsErrOf, true, false, length, min};
 ghost use Rattle.outside_io.specs.Sink.{WriteTakes, WriteRefused};
 ghost use Rattle.outside_io.specs.Seen.{Seen};
-ghost use Rattle.outside_io.specs.Script.{after_refused_write, after_write, empty_sink, fails_next, sink_state, with_failing_write};
+ghost use Rattle.memory_io.specs.Script.{after_refused_write, after_write, empty_sink, fails_next, sink_state, with_failing_write};
 
 use crate::script::Script;
-use crate::sink::{Sink, WriteError};
 use crate::steady_sink::SteadySink;
 use htn_base::Memory;
+use outside_io::{Sink, WriteError};
 use std::alloc::Global;
 use std::marker::Model;
 
@@ -18,7 +18,7 @@ pub struct MemSink {
 }
 
 impl Model for MemSink {
-    ghost use Rattle.outside_io.specs.Script.{ScriptedSink};
+    ghost use Rattle.memory_io.specs.Script.{ScriptedSink};
 
     ghost Value = { ScriptedSink };
 

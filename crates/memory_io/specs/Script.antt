@@ -5,7 +5,7 @@ use Rattle.outside_io.specs.Count.{one_more}
 use Rattle.outside_io.specs.Folder.{Folder, bytes_of, with_bytes}
 use Rattle.outside_io.specs.Files.{FilesState}
 use Rattle.outside_io.specs.Sink.{SinkState}
-use Rattle.outside_io.specs.Steady.{BoundedSink, steady_sink, empty_bounded, after_taking, after_want}
+use Rattle.memory_io.specs.Steady.{BoundedSink, steady_sink, empty_bounded, after_taking, after_want}
 use Rattle.outside_io.specs.declared.files.GetError.{GetError}
 use Rattle.outside_io.specs.declared.files.GetError.TheVariants as get
 use Rattle.outside_io.specs.declared.files.PutError.{PutError}

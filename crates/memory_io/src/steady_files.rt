@@ -4,10 +4,10 @@ ghost use Rattle.std.specs.Result.{IsOkUnless};
 ghost use Rattle.outside_io.specs.Files.{GetGives, GetRefused, PutGives, PutRefused};
 ghost use Rattle.outside_io.specs.Folder.{bytes_of, with_bytes, has_name, KeepsOthers};
 ghost use Rattle.outside_io.specs.Seen.{Seen};
-ghost use Rattle.outside_io.specs.Steady.{steady_files};
+ghost use Rattle.memory_io.specs.Steady.{steady_files};
 
-use crate::files::{Files, GetError, PutError};
 use htn_base::{Memory, Text};
+use outside_io::{Files, GetError, PutError};
 use std::alloc::Global;
 use std::marker::Model;
 

@@ -3,7 +3,7 @@ use Rattle.outside_io.specs.Count.{Rises}
 use Rattle.outside_io.specs.Folder.{Folder}
 use Rattle.outside_io.specs.Files.{GetFails, PutFails}
 use Rattle.outside_io.specs.Sink.{WriteFails}
-use Rattle.outside_io.specs.Steady.{BoundedSink, steady_files, steady_sink}
+use Rattle.memory_io.specs.Steady.{BoundedSink, steady_files, steady_sink}
 
 -- a count that stands at 0 has not risen
 stays : Rises 0 0 → ⊥

@@ -2,10 +2,10 @@ ghost use Rattle.std.specs.Prelude.{◌≡◌, ◌<◌, IfOk, IfErr, OnOk, OnErr
 ghost use Rattle.std.specs.Result.{IsOkUnless};
 ghost use Rattle.outside_io.specs.Sink.{WriteTakes, WriteRefused};
 ghost use Rattle.outside_io.specs.Seen.{Seen};
-ghost use Rattle.outside_io.specs.Steady.{after_taking, after_want, empty_bounded, steady_sink};
+ghost use Rattle.memory_io.specs.Steady.{after_taking, after_want, empty_bounded, steady_sink};
 
-use crate::sink::{Sink, WriteError};
 use htn_base::Text;
+use outside_io::{Sink, WriteError};
 use std::alloc::Global;
 use std::marker::Model;
 
@@ -19,7 +19,7 @@ pub struct SteadySink {
 
 impl Model for SteadySink {
     ghost use Rattle.std.specs.Prelude.{◌<◌};
-    ghost use Rattle.outside_io.specs.Steady.{BoundedSink};
+    ghost use Rattle.memory_io.specs.Steady.{BoundedSink};
 
     ghost Value = { BoundedSink };
 
