@@ -16,9 +16,9 @@ use Rattle.plan_model.specs.task_networks.Bound.{AreBlocks}
 use Rattle.plan_model.proofs.task_networks.Lists.{not-in_empty}
 use Rattle.plan_model.proofs.task_networks.BoundLaws.{by_size}
 use Rattle.plan_model.proofs.task_networks.ScheduleLaws.{line_is_the_only_one}
-use Rattle.net_order.specs.Answers.{Answers, cut}
-use Rattle.net_order.specs.Meaning.{IsOrderOf}
-use Rattle.net_order.proofs.Whole.{child_of, different, length_line}
+use Rattle.plan_model.specs.net_order.Answers.{Answers, cut}
+use Rattle.plan_model.specs.net_order.Meaning.{IsOrderOf}
+use Rattle.plan_model.proofs.net_order.Whole.{child_of, different, length_line}
 use Rattle.bound_calc.specs.declared.stratifier.ranks.Ranks.{Ranks}
 use Rattle.bound_calc.specs.Blocks.{head_number, child_number, block_number, IsGreatestBlock}
 use Rattle.bound_calc.specs.Lines.{HasLine}

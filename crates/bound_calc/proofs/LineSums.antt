@@ -10,7 +10,7 @@ use Rattle.plan_model.specs.task_networks.Bound.{weight, weights}
 use Rattle.plan_model.proofs.task_networks.Lists.{Contains-here, Contains-later, cut_at}
 use Rattle.plan_model.proofs.task_networks.Different.{without_cases}
 use Rattle.plan_model.proofs.task_networks.Numbers.{numbers_to, to_numbers, different-numbers}
-use Rattle.net_order.proofs.Whole.{child_of, different}
+use Rattle.plan_model.proofs.net_order.Whole.{child_of, different}
 
 pub sum_pointwise : (f g : ℕ → ℕ) (xs : List ℕ) → ((x : ℕ) → Contains xs x → f x ≤ g x) → sum_by f xs ≤ sum_by g xs
 sum_pointwise f g [] h = omega arith

@@ -25,7 +25,7 @@ use Rattle.plan_model.proofs.plan_meaning.MethodParts.{IsPairBy, head_schema_by,
 use Rattle.plan_model.proofs.plan_meaning.BoundParts.{AreWhole, at_most, not_of_the_group, there_at, listed}
 use Rattle.slot_machine.proofs.bound_laws.Lines.{HasLines}
 use Rattle.slot_machine.proofs.bound_laws.EveryFront.{schema_bound}
-use Rattle.net_order.proofs.Whole.{child_of}
+use Rattle.plan_model.proofs.net_order.Whole.{child_of}
 use Rattle.bound_calc.specs.declared.stratifier.ranks.Ranks.{Ranks}
 use Rattle.bound_calc.specs.stratifier.Conditions.{IsSmallCompiled, IsNumbered}
 use Rattle.bound_calc.specs.stratifier.Stratified.{IsStratified, number_of, rank_by}

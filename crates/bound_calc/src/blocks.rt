@@ -1,6 +1,6 @@
 ghost use Rattle.std.specs.Prelude.{◌≡◌, ◌<◌, ◌≤◌, ℕ, length, IfOk, IfErr};
 ghost use Rattle.plan_model.specs.declared.networks.Head.TheVariants.{Task};
-ghost use Rattle.net_order.specs.Meaning.{IsOrderOf};
+ghost use Rattle.plan_model.specs.net_order.Meaning.{IsOrderOf};
 ghost use Rattle.bound_calc.specs.stratifier.Conditions.{IsOrdered, IsSmallMethod};
 ghost use Rattle.bound_calc.specs.Blocks.{head_number, IsGreatest, IsGreatestOrPast, IsPastBy};
 ghost use Rattle.bound_calc.specs.ByRank.{AreRanked, HaveNumbers};
@@ -8,7 +8,7 @@ ghost use Rattle.bound_calc.specs.Lines.{HasLine};
 
 use crate::groups::BoundError;
 use crate::stratifier::Ranks;
-use net_order::{Order, OrderError};
+use plan_model::net_order::{Order, OrderError};
 use plan_model::{Head, MethodPlan};
 use std::alloc::Global;
 

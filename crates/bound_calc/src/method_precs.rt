@@ -1,6 +1,6 @@
 //! The compiled value of a problem: checks of preconditions, pairs, lines, heirs, copiers and guards of its methods.
 //!
-//! Stands on `net_order` and the definitions of `plan_model` and `plan_texts`. The contract used above: `compile` gives the
+//! Stands on the definitions of `plan_model` and `plan_texts` and on `plan_model::net_order`. The contract used above: `compile` gives the
 //! compiled value, and its network is lawful.
 
 mod checks;

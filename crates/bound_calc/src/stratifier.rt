@@ -1,7 +1,7 @@
 //! The strata of a compiled problem: which tasks are reached from the top, the edges between them and
 //! which are bad, the groups of tasks that reach each other, ranks, and the bad cycle that is named.
 //!
-//! Stands on `net_order` and the definitions of `plan_model`. The contract used above: a tail-recursive problem has strata, and any
+//! Stands on the definitions of `plan_model` and its `net_order`. The contract used above: a tail-recursive problem has strata, and any
 //! other the named cycle (`stratify`).
 
 mod all_edges;

@@ -5,7 +5,7 @@ use Rattle.std.proofs.lemmas.List.Concat.{flat_map-append}
 use Rattle.std.proofs.lemmas.List.Elements.{Contains-append_left, Contains-append_right, Contains-append_cases}
 use Rattle.plan_model.proofs.task_networks.Lists.{not-in_empty, head_or_tail}
 use Rattle.plan_model.specs.task_networks.Order.{Precedes, direct, through, IsAcyclic, Among, IsFirstClosing}
-use Rattle.net_order.proofs.Chains.{chain_map}
+use Rattle.plan_model.proofs.net_order.Chains.{chain_map}
 use Rattle.plan_model.specs.declared.networks.Pair.{Pair}
 use Rattle.plan_model.specs.Pairs.{pair, Pairs}
 use Rattle.plan_texts.specs.Networks.{chain_if}

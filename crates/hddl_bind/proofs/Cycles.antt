@@ -5,8 +5,8 @@ use Rattle.plan_model.specs.task_networks.Order.{IsAcyclic, IsFirstClosing}
 use Rattle.plan_model.specs.declared.networks.Pair.{Pair}
 use Rattle.plan_model.specs.Pairs.{pair, Pairs}
 use Rattle.plan_texts.specs.Networks.{chain_if}
-use Rattle.net_order.specs.Meaning.{AreBelow}
-use Rattle.net_order.proofs.Chains.{below_from_pairs}
+use Rattle.plan_model.specs.net_order.Meaning.{AreBelow}
+use Rattle.plan_model.proofs.net_order.Chains.{below_from_pairs}
 use Rattle.hddl_reader.specs.declared.networks.RawNet.{RawNet}
 use Rattle.hddl_reader.specs.declared.networks.RawPair.{RawPair}
 use Rattle.htn_base.specs.Lists.{One}

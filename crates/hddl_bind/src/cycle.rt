@@ -5,7 +5,7 @@ ghost use Rattle.hddl_bind.specs.Pairs.{pairs_bound, pairs_at};
 use crate::pairs::Ordering;
 use hddl_reader::RawNet;
 use htn_base::{Memory, number};
-use net_order::{Order, OrderError};
+use plan_model::net_order::{Order, OrderError};
 use std::alloc::Global;
 
 /// So many subtasks a network may have.

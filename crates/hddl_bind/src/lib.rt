@@ -1,8 +1,8 @@
 //! The networks, schemas and facts of a domain and a problem with the numbers of what their names stand for.
 //!
-//! Stands on `htn_base`, on the raw texts of `hddl_reader` and on the values of `plan_model`, on `name_binding` for what is declared and
-//! for the parts, and on the orders of `net_order`. A network has the value that stands for it, and its faults are noted, the first pair
-//! that closes a cycle among them (`network_of`); a method's task is a task and no action (`task_of_method`); a name that is declared
+//! Stands on `htn_base`, on the raw texts of `hddl_reader`, on the values of `plan_model` and its orders, and on `name_binding` for what
+//! is declared and for the parts. A network has the value that stands for it, and its faults are noted, the first pair that closes a
+//! cycle among them (`network_of`); a method's task is a task and no action (`task_of_method`); a name that is declared
 //! again is a fault (`seconds_of`, `Callables::seconds`). The contracts used above: predicates, tasks,
 //! actions, methods and facts are bound to what stands for them, and the faults of their names are noted (`predicates_of`,
 //! `tasks_of`, `actions_of`, `methods_of`, `facts_of`), and so are all that a domain declares but its types (`schemas_of`) and what

@@ -18,12 +18,12 @@ use Rattle.plan_model.specs.declared.values.Pddl.{Pddl}
 use Rattle.plan_model.specs.plan_meaning.FailingStep.{AreNamedApart}
 use Rattle.ground_state.specs.Runs.{IsRunnable}
 use Rattle.ground_state.specs.declared.verdict.FailWhy.{FailWhy}
-use Rattle.form_spellings.specs.SoundPddl.{IsSoundClassical}
+use Rattle.text_values.specs.form_spellings.SoundPddl.{IsSoundClassical}
 use Rattle.text_forms.specs.Faults.{fault}
 use Rattle.hddl_reader.specs.declared.sections.Language.TheVariants as language
 use Rattle.text_values.specs.TextFaults.{HaveNoFault}
 use Rattle.text_values.specs.PddlValues.{IsValueOf}
-use Rattle.text_values.specs.plan_text.Plans.{IsPlanFault, IsPlanRead}
+use Rattle.plan_text.specs.Plans.{IsPlanFault, IsPlanRead}
 use Rattle.htn_cli.specs.declared.checked.Checked.TheVariants as checked
 use Rattle.htn_cli.specs.Checks.{IsChecked}
 use Rattle.htn_cli.specs.Validation.{Spell, IsLeastOfThree, of_plan, most_steps}

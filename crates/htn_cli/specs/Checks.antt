@@ -6,7 +6,7 @@ use Rattle.plan_model.specs.declared.values.Pddl.{Pddl}
 use Rattle.plan_model.specs.plan_meaning.ClassicalPlan.{IsPlan}
 use Rattle.plan_model.specs.plan_meaning.FailingStep.{Fails}
 use Rattle.ground_state.specs.Runs.{cause}
-use Rattle.text_values.specs.plan_text.Plans.{IsPlanRead}
+use Rattle.plan_text.specs.Plans.{IsPlanRead}
 use Rattle.htn_cli.specs.declared.checked.Checked.{Checked}
 use Rattle.htn_cli.specs.declared.checked.Checked.TheVariants as checked
 

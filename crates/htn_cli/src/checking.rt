@@ -1,15 +1,15 @@
 ghost use Rattle.std.specs.Prelude.{◌≡◌, ◌≤◌, ◌<◌, ◌-◌, ◌^◌, length, IfOk, IfErr};
 ghost use Rattle.ground_state.specs.Runs.{IsRunnable};
-ghost use Rattle.text_values.specs.plan_text.Plans.{RefusesPlan};
+ghost use Rattle.plan_text.specs.Plans.{RefusesPlan};
 ghost use Rattle.htn_cli.specs.Checks.{IsChecked, Judges};
 
 use crate::checked::Checked;
 use ground_state::{FailWhy, Run};
 use htn_base::Memory;
 use plan_model::Pddl;
+use plan_text::{Plan, Step};
 use std::alloc::Global;
 use text_forms::sexpr_text::ReadError;
-use text_values::plan_text::{Plan, Step};
 
 /// Whether a text of at most 16,777,216 bytes spells a plan of the value with at most `most` steps; else how many they are,
 /// or the first step that fails and its first cause. `file` is the place of the text among the command's inputs; a text

@@ -3,7 +3,7 @@ use Rattle.std.proofs.Common.{ℕ, zero, suc, ◌≡◌, ◌⊎◌, inl, inr, Li
 use Rattle.std.proofs.lemmas.Grind.{flat_map-append}
 use Rattle.std.proofs.lemmas.List.Elements.{Contains-append_left, Contains-append_right, Contains-append_cases}
 use Rattle.plan_model.specs.task_networks.Order.{Precedes, direct, through, IsAcyclic, IsFirstClosing}
-use Rattle.net_order.proofs.Chains.{wider}
+use Rattle.plan_model.proofs.net_order.Chains.{wider}
 use Rattle.plan_model.proofs.task_networks.Lists.{Contains-here}
 use Rattle.plan_model.specs.declared.networks.Pair.{Pair}
 use Rattle.plan_model.specs.Pairs.{pair, Pairs}

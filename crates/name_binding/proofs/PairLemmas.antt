@@ -13,8 +13,8 @@ use Rattle.plan_model.proofs.task_networks.Lists.{Contains-here, not-in_empty, h
 use Rattle.plan_model.specs.task_networks.Order.{IsFirstClosing}
 use Rattle.plan_model.specs.declared.networks.Pair.{Pair}
 use Rattle.plan_model.specs.Pairs.{pair}
-use Rattle.net_order.specs.Meaning.{AreBelow}
-use Rattle.net_order.proofs.Chains.{below_from_pairs}
+use Rattle.plan_model.specs.net_order.Meaning.{AreBelow}
+use Rattle.plan_model.proofs.net_order.Chains.{below_from_pairs}
 use Rattle.htn_base.specs.Lists.{One}
 use Rattle.name_binding.specs.Places.{first_place}
 use Rattle.gd_reader.specs.declared.term.RawTerm.{RawTerm}

@@ -4,8 +4,8 @@ ghost use Rattle.name_binding.specs.PairsAmong as spec;
 use crate::places::Places;
 use gd_reader::{RawParam, RawParams, RawTerm};
 use htn_base::{List, Memory, Name, number};
-use net_order::{Order, OrderError};
 use plan_model::Pair;
+use plan_model::net_order::{Order, OrderError};
 use std::alloc::Global;
 
 /// The offset of the word of the child of the first pair that closes a cycle with the earlier ones, where only the first `count`

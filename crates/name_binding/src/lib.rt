@@ -1,7 +1,7 @@
 //! Names bound to what they stand for: in terms, types, typed lists, formulas, effects and facts.
 //!
-//! Stands on `htn_base`, on `gd_reader` for what is written and on `plan_model` for what it stands for, on `net_order` for cycles of
-//! types, and on `indexmap`. The contracts used above:
+//! Stands on `htn_base`, on `gd_reader` for what is written and on `plan_model` for what it stands for, with its `net_order` for
+//! cycles of types, and on `indexmap`. The contracts used above:
 //!
 //! A name has the number of its first declaration (`Places::get`, with its number of parameters `Heads::get`) or of the innermost
 //! variable in force (`Variables::get`); of all faults that were noted the least is kept, by offset and code (`Faults::note`); a term is

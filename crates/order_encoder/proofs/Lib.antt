@@ -1,1 +1,3 @@
+pub mod OrderParts
+pub mod NextSlot
 pub mod Meanings

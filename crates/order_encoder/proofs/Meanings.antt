@@ -6,11 +6,11 @@ use Rattle.plan_model.specs.declared.terms.GroundAtom.{GroundAtom}
 use Rattle.plan_model.specs.declared.terms.Term.TheVariants.{Var}
 use Rattle.plan_model.specs.Typing.{InType}
 use Rattle.plan_model.specs.plan_meaning.Truth.{EachTrue, OneTrue, IsTrueIn, Adds, Deletes}
-use Rattle.slot_encoding.specs.OrderFormulas.{OrderNumbers, wait_parts, clear_parts, copy_parts}
-use Rattle.slot_encoding.specs.OrderMeaning.{IsSlotObject, pair_atom, OrderMeaning}
+use Rattle.order_encoder.specs.OrderFormulas.{OrderNumbers, wait_parts, clear_parts, copy_parts}
+use Rattle.order_encoder.specs.OrderMeaning.{IsSlotObject, pair_atom, OrderMeaning}
 use Rattle.plan_model.proofs.plan_meaning.TruthEquations.{truth-And}
 use Rattle.plan_model.proofs.plan_meaning.EffectEquations.{adds-And, deletes-And}
-use Rattle.slot_encoding.proofs.OrderParts.{order_meaning}
+use Rattle.order_encoder.proofs.OrderParts.{order_meaning}
 use Rattle.order_encoder.specs.Orders.{waits, clears, copies}
 use Rattle.order_encoder.specs.Meaning.{Waits, Clears, IsClearing, Copies, IsCopying}
 

@@ -9,8 +9,8 @@ use Rattle.plan_model.specs.declared.formulas.Formula.{Formula}
 use Rattle.plan_model.specs.declared.effects.Effect.{Effect}
 use Rattle.plan_model.specs.Typing.{InType}
 use Rattle.plan_model.specs.plan_meaning.Truth.{IsTrueIn, Adds, Deletes}
-use Rattle.slot_encoding.specs.OrderFormulas.{OrderNumbers}
-use Rattle.slot_encoding.specs.OrderMeaning.{IsSlotObject, pair_atom, AreTheSlots}
+use Rattle.order_encoder.specs.OrderFormulas.{OrderNumbers}
+use Rattle.order_encoder.specs.OrderMeaning.{IsSlotObject, pair_atom, AreTheSlots}
 
 module _ (n : OrderNumbers) (slots depth : ℕ) where
   -- the types and objects have these slots, the atoms are true, and these are the objects of the variables in force

@@ -10,11 +10,11 @@ use Rattle.plan_model.specs.declared.formulas.Formula.{Formula}
 use Rattle.plan_model.specs.declared.formulas.Formula.TheVariants.{Holds, Not, Forall}
 use Rattle.plan_model.specs.declared.effects.Effect.{Effect}
 use Rattle.plan_model.specs.declared.effects.Effect.TheVariants as E
-use Rattle.slot_encoding.specs.OrderFormulas.{pair_of, any_slot, wait_parts, clear_parts, copy_parts}
+use Rattle.order_encoder.specs.OrderFormulas.{pair_of, any_slot, wait_parts, clear_parts, copy_parts}
 use Rattle.order_encoder.specs.Orders as orders
-use Rattle.slot_encoding.specs.OrderNames.{numbers}
+use Rattle.order_encoder.specs.OrderNames.{numbers}
 use Rattle.order_encoder.specs.Meaning as meaning
-use Rattle.slot_encoding.specs.declared.order_names.OrderNames.{OrderNames}
+use Rattle.order_encoder.specs.declared.order_names.OrderNames.{OrderNames}
 
 module _ (n : OrderNames) where
   -- the slot of the first comes before that of the other

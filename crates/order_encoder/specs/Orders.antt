@@ -8,7 +8,7 @@ use Rattle.plan_model.specs.declared.formulas.Formula.{Formula}
 use Rattle.plan_model.specs.declared.formulas.Formula.TheVariants.{And}
 use Rattle.plan_model.specs.declared.effects.Effect.{Effect}
 use Rattle.plan_model.specs.declared.effects.Effect.TheVariants as E
-use Rattle.slot_encoding.specs.OrderFormulas.{OrderNumbers, wait_parts, clear_parts, copy_parts}
+use Rattle.order_encoder.specs.OrderFormulas.{OrderNumbers, wait_parts, clear_parts, copy_parts}
 
 abbrev pub one_formula : Style → List Formula → Formula
 one_formula Flat parts = And parts

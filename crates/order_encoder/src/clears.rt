@@ -4,10 +4,10 @@ ghost use Rattle.plan_model.specs.declared.terms.Term.TheVariants.{Var};
 ghost use Rattle.order_encoder.specs.NamedOrders as of;
 ghost use Rattle.order_encoder.specs.NamedOrders.{clears, Clears};
 
+use crate::order_names::OrderNames;
 use crate::pairs::{any_slot_params, before};
 use htn_base::{Boxed, List, Memory};
 use plan_model::{Effect, Style, Term};
-use slot_encoding::OrderNames;
 use std::alloc::Global;
 
 /// The effect that deletes all pairs that leave the slot of `h`. Variables and styles are those of `waiting`.

@@ -3,10 +3,10 @@ ghost use Rattle.plan_model.specs.declared.options.Style.TheVariants.{Flat};
 ghost use Rattle.order_encoder.specs.NamedOrders as of;
 ghost use Rattle.order_encoder.specs.NamedOrders.{copies, Copies, ForVariables};
 
+use crate::order_names::OrderNames;
 use crate::pairs::{any_slot_params, before};
 use htn_base::{Boxed, List, Memory};
 use plan_model::{Effect, Formula, Style, Term};
-use slot_encoding::OrderNames;
 use std::alloc::Global;
 
 /// The effect that adds, for each pair that leaves the slot of `h`, the same pair for the slot of `child`, a variable below

@@ -1,9 +1,9 @@
 ghost use Rattle.std.specs.Prelude.{◌≡◌, IfOk};
 ghost use Rattle.order_encoder.specs.NamedOrders as of;
 
+use crate::order_names::OrderNames;
 use htn_base::{List, Memory};
 use plan_model::{Atom, Param, Term};
-use slot_encoding::OrderNames;
 use std::alloc::Global;
 
 /// The atom that what is at slot `first` comes before what is at slot `then`.

@@ -4,10 +4,10 @@ ghost use Rattle.plan_model.specs.declared.terms.Term.TheVariants.{Var};
 ghost use Rattle.order_encoder.specs.NamedOrders as of;
 ghost use Rattle.order_encoder.specs.NamedOrders.{waits, Waits};
 
+use crate::order_names::OrderNames;
 use crate::pairs::{any_slot_params, before};
 use htn_base::{Boxed, List, Memory};
 use plan_model::{Formula, Style, Term};
-use slot_encoding::OrderNames;
 use std::alloc::Global;
 
 /// The condition that no slot comes before that of `h`, a variable below `depth`, the number of variables in force. In

@@ -1,3 +1,4 @@
+pub mod command_words
 pub mod Count
 pub mod Seen
 pub mod Folder

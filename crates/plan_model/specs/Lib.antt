@@ -6,3 +6,4 @@ pub mod Facts
 pub mod Numbers
 pub mod task_networks
 pub mod plan_meaning
+pub mod net_order

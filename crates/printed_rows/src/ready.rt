@@ -4,13 +4,13 @@ ghost use Rattle.std.specs.Prelude.{ℕ, ◌≤◌, ◌<◌, ◌↔◌, All, IsT
 ghost use Rattle.plan_model.specs.Pairs.{Pairs};
 ghost use Rattle.plan_model.specs.declared.networks.Child.{Child as Work};
 ghost use Rattle.plan_model.specs.task_networks.Order.{IsAcyclic};
-ghost use Rattle.net_order.specs.Meaning.{AreBelow};
+ghost use Rattle.plan_model.specs.net_order.Meaning.{AreBelow};
 ghost use Rattle.bound_calc.specs.stratifier.Conditions.{IsSmallMethod};
 ghost use Rattle.bound_calc.specs.Lines.{HasLine};
 ghost use Rattle.printed_rows.specs.Ready.{AreReady, IsReady, IsUpTo};
 
 use htn_base::Memory;
-use net_order::{Order, OrderError};
+use plan_model::net_order::{Order, OrderError};
 use plan_model::{Child, Compiled, Head, MethodPlan, Pair};
 use std::alloc::Global;
 

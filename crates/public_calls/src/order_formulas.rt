@@ -3,9 +3,8 @@
 ghost use Rattle.std.specs.Prelude.{◌≡◌};
 
 use htn_base::{Memory, Name};
-use order_encoder::{clearing, copying, waiting};
+use order_encoder::{OrderNames, clearing, copying, waiting};
 use plan_model::{Effect, Formula, Style, Term};
-use slot_encoding::OrderNames;
 
 /// The pairs' predicate is number 2, and the one slot is object 5.
 fn names() -> OrderNames

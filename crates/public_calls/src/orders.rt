@@ -1,10 +1,10 @@
 //! Orders of few children, worked out by hand. Each call that may want memory is made with ample memory.
 
 ghost use Rattle.std.specs.Prelude.{◌≡◌, ◌≤◌, ◌<◌, ◌^◌, length};
-ghost use Rattle.net_order.specs.Meaning.{AreBelow};
+ghost use Rattle.plan_model.specs.net_order.Meaning.{AreBelow};
 
-use net_order::{ChildSet, Order, OrderError};
 use plan_model::Pair;
+use plan_model::net_order::{ChildSet, Order, OrderError};
 use std::alloc::Global;
 use std::process::Abort;
 

@@ -2,10 +2,10 @@
 
 use htn_base::{Fault, Text};
 use plan_model::GroundAction;
+use plan_text::{print, read};
 use std::alloc::Global;
 use std::process::Abort;
 use text_forms::sexpr_text::ReadError;
-use text_values::plan_text::{print, read};
 
 fn is_printed(rt: &impl Abort, alloc: Global, source: &[u8], want: &[u8]) {
     assert!(rt; source.len() <= 16_777_216);

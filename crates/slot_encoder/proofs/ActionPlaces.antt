@@ -10,10 +10,10 @@ use Rattle.plan_model.specs.declared.schemas.MethodPlan.{MethodPlan}
 use Rattle.plan_model.specs.declared.values.Compiled.{Compiled}
 use Rattle.slot_encoding.specs.EncodedActions.{encoded_method, encoded_check, encoded_action}
 use Rattle.slot_encoding.specs.EncodedValue.{encoded_methods, encoded_checks, encoded_source, encoded_actions}
-use Rattle.slot_declarations.specs.Pieces.{checked_from}
+use Rattle.slot_encoding.specs.slot_declarations.Pieces.{checked_from}
 use Rattle.slot_encoder.specs.Encodings.{whole}
-use Rattle.slot_declarations.specs.Frames.{AreChecks}
-use Rattle.slot_declarations.specs.declared.basis.Checks.{Checks}
+use Rattle.slot_encoding.specs.slot_declarations.Frames.{AreChecks}
+use Rattle.slot_encoding.specs.declared.slot_declarations.basis.Checks.{Checks}
 use Rattle.slot_encoder.specs.declared.split_action.SplitAction.{SplitAction}
 
 pub get-left : {A : Type 0} (xs ys : List A) (i : ℕ) → i < length xs → slice_get (xs ++ ys) i ≡ slice_get xs i

@@ -8,7 +8,7 @@ use Rattle.plan_model.specs.plan_meaning.Network.{InTypeOf}
 use Rattle.slot_encoding.specs.EncodedNames.{guard_predicate}
 use Rattle.slot_encoding.specs.EncodedValue.{atom, AreGuardAtoms}
 use Rattle.slot_encoder.specs.Made as made
-use Rattle.slot_declarations.specs.declared.frame.Frame.{Frame}
+use Rattle.slot_encoding.specs.declared.slot_declarations.frame.Frame.{Frame}
 
 module _ (f : Frame) where
   pub guard_atoms_push : (tys : List ℕ) (ty : ℕ) (guards : List GroundAtom) (ms : List ℕ) → AreGuardAtoms f.compiled.now f.printed.now f.slots f.style tys guards → Keeps (λ o. InTypeOf f.compiled.now o ty) (numbers 0 (length f.compiled.now.hddl.objects)) ms

@@ -16,7 +16,7 @@ use Rattle.plan_model.specs.declared.schemas.MethodPlan.{MethodPlan}
 use Rattle.slot_encoding.specs.EncodedNames.{check_predicate}
 use Rattle.slot_encoding.specs.EncodedActions as spec
 use Rattle.slot_encoder.specs.Made as made
-use Rattle.slot_declarations.specs.declared.frame.Frame.{Frame}
+use Rattle.slot_encoding.specs.declared.slot_declarations.frame.Frame.{Frame}
 
 module _ (f : Frame) (m : ℕ) (plan : MethodPlan) where
   split-is : made.split f (check_predicate f.compiled.now m) plan ≡ spec.splitting f.compiled.now f.printed.now f.slots f.style m plan

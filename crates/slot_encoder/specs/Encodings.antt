@@ -17,7 +17,7 @@ use Rattle.plan_model.specs.declared.values.Pddl.{Pddl}
 use Rattle.slot_encoding.specs.EncodedActions.{differ}
 use Rattle.slot_encoding.specs.EncodedValue.{IsEncoded, encoded_actions}
 use Rattle.slot_encoding.specs.EncodedWords.{HasEncodedWords}
-use Rattle.slot_declarations.specs.Frames.{IsBasis}
+use Rattle.slot_encoding.specs.slot_declarations.Frames.{IsBasis}
 use Rattle.slot_encoder.specs.declared.encoding.Encoding.{Encoding}
 use Rattle.slot_encoder.specs.declared.split_action.Opening.{Opening}
 use Rattle.slot_encoder.specs.declared.split_action.SplitAction.{SplitAction}

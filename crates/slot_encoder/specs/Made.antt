@@ -24,16 +24,16 @@ use Rattle.plan_model.specs.plan_meaning.Network.{InTypeOf}
 use Rattle.plan_model.specs.plan_meaning.Compilation.{Keeps}
 use Rattle.plan_model.specs.task_networks.Spelling.{numbers}
 use Rattle.slot_encoding.specs.SourceParts as source
-use Rattle.slot_encoding.specs.OrderFormulas as order
+use Rattle.order_encoder.specs.OrderFormulas as order
 use Rattle.slot_encoding.specs.EncodedNames as encoded
 use Rattle.slot_encoding.specs.EncodedActions as actions
 use Rattle.slot_encoding.specs.EncodedValue as value
 use Rattle.slot_encoder.specs.Pieces.{encoded_goal}
 use Rattle.slot_encoder.specs.Parts as parts
-use Rattle.slot_declarations.specs.Made as declarations
+use Rattle.slot_encoding.specs.slot_declarations.Made as declarations
 use Rattle.slot_encoder.specs.declared.encoding.Behaviour.{Behaviour}
 use Rattle.slot_encoder.specs.declared.encoding.Encoded.{Encoded}
-use Rattle.slot_declarations.specs.declared.frame.Frame.{Frame}
+use Rattle.slot_encoding.specs.declared.slot_declarations.frame.Frame.{Frame}
 
 module _ (f : Frame) where
   -- the compiled problem, the words of the source and of the printed problem, the number of slots, the style

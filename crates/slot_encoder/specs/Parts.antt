@@ -8,7 +8,7 @@ use Rattle.plan_model.specs.declared.options.Style.{Style}
 use Rattle.slot_encoding.specs.SourceParts.{renamed}
 use Rattle.slot_encoding.specs.EncodedValue.{IsInitial}
 use Rattle.slot_encoder.specs.Pieces.{encoded_goal}
-use Rattle.slot_declarations.specs.Frames.{AreDeclarations}
+use Rattle.slot_encoding.specs.slot_declarations.Frames.{AreDeclarations}
 use Rattle.slot_encoder.specs.declared.encoding.Behaviour.{Behaviour}
 use Rattle.slot_encoder.specs.declared.encoding.Encoded.{Encoded}
 use Rattle.slot_encoder.specs.declared.variables.Variables.{Variables}

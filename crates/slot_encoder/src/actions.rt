@@ -1,14 +1,14 @@
 ghost use Rattle.std.specs.Prelude.{◌≡◌, ◌<◌, Some, length, slice_get, IfOk};
 ghost use Rattle.slot_encoding.specs.EncodedNames as names;
 ghost use Rattle.slot_encoder.specs.Encodings.{whole};
-ghost use Rattle.slot_declarations.specs.Frames.{IsFrame};
+ghost use Rattle.slot_encoding.specs.slot_declarations.Frames.{IsFrame};
 ghost use Rattle.slot_encoder.specs.Made as made;
 
 use crate::methods::encoded_method;
 use crate::split_action::SplitAction;
 use crate::works::{encoded_action, encoded_check};
 use htn_base::Memory;
-use slot_declarations::{Frame, plus};
+use slot_encoding::slot_declarations::{Frame, plus};
 use std::alloc::Global;
 
 /// Action `k`, from 0: those of the methods come first, the top method's before all, then those of the checks, then the

@@ -1,14 +1,14 @@
 ghost use Rattle.std.specs.Prelude.{◌≡◌, ◌++◌, map, IfOk, OnOk};
 ghost use Rattle.plan_model.specs.declared.terms.Term.TheVariants as T;
 ghost use Rattle.plan_model.specs.task_networks.Spelling.{numbers};
-ghost use Rattle.slot_declarations.specs.Frames.{IsFrame};
+ghost use Rattle.slot_encoding.specs.slot_declarations.Frames.{IsFrame};
 ghost use Rattle.slot_encoder.specs.Pieces.{held_work};
 ghost use Rattle.slot_encoder.specs.Made as made;
 
 use crate::terms::push_moved;
 use htn_base::{List, Memory};
 use plan_model::{Atom, Term};
-use slot_declarations::Frame;
+use slot_encoding::slot_declarations::Frame;
 use std::alloc::Global;
 
 /// The atom that the slot is free.

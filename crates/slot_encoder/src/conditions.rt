@@ -1,6 +1,6 @@
 ghost use Rattle.std.specs.Prelude.{◌≡◌, ◌++◌, OnOk};
 ghost use Rattle.slot_encoding.specs.EncodedActions as encoded;
-ghost use Rattle.slot_declarations.specs.Frames.{IsFrame};
+ghost use Rattle.slot_encoding.specs.slot_declarations.Frames.{IsFrame};
 ghost use Rattle.slot_encoder.specs.Made as made;
 
 use crate::effects::source_effect;
@@ -8,7 +8,7 @@ use crate::formulas::source_formula;
 use htn_base::{List, Memory};
 use order_encoder::{push_clearing, push_waiting};
 use plan_model::{Effect, Formula, Term};
-use slot_declarations::Frame;
+use slot_encoding::slot_declarations::Frame;
 use std::alloc::Global;
 
 /// Whether a condition is the empty conjunction.

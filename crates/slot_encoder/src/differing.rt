@@ -5,7 +5,7 @@ ghost use Rattle.slot_encoder.specs.Pieces.{unequal_to};
 
 use htn_base::{Boxed, List, Memory};
 use plan_model::{Formula, Term};
-use slot_declarations::plus;
+use slot_encoding::slot_declarations::plus;
 use std::alloc::Global;
 
 /// Puts at the end that each two of the new slots differ.

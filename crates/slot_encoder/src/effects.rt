@@ -1,12 +1,12 @@
 ghost use Rattle.std.specs.Prelude.{◌≡◌, map, IfOk};
-ghost use Rattle.slot_declarations.specs.Frames.{IsFrame};
+ghost use Rattle.slot_encoding.specs.slot_declarations.Frames.{IsFrame};
 ghost use Rattle.slot_encoder.specs.Made as made;
 
 use crate::formulas::source_formula;
 use crate::terms::source_atom;
 use htn_base::{Boxed, List, Memory};
 use plan_model::Effect;
-use slot_declarations::{Frame, source_params};
+use slot_encoding::slot_declarations::{Frame, source_params};
 use std::alloc::Global;
 
 /// An effect of the source as it stands in the printed problem, behind `front` further variables.

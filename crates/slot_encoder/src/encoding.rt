@@ -2,7 +2,7 @@ ghost use Rattle.std.specs.Prelude.{◌≡◌, ◌<◌, ◌^◌, length, IfOk};
 ghost use Rattle.plan_model.specs.Parts.{AreListed};
 ghost use Rattle.slot_encoding.specs.EncodedValue.{IsEncoded};
 ghost use Rattle.slot_encoding.specs.EncodedWords.{HasEncodedWords};
-ghost use Rattle.slot_declarations.specs.Frames.{IsFrame};
+ghost use Rattle.slot_encoding.specs.slot_declarations.Frames.{IsFrame};
 ghost use Rattle.slot_encoder.specs.Made as made;
 ghost use Rattle.slot_encoder.specs.Encodings.{IsPrintableWhereSound};
 
@@ -12,7 +12,7 @@ use crate::initial::encoded_initial;
 use crate::split_action::SplitAction;
 use htn_base::{List, Memory, Name};
 use plan_model::{ActionSchema, Compiled, Facts, Formula, Pddl, Style};
-use slot_declarations::{
+use slot_encoding::slot_declarations::{
     Basis, Declarations, Frame, basis_of, declarations_of, renamed, vocabulary_of,
 };
 use std::alloc::Global;

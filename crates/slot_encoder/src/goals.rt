@@ -1,11 +1,11 @@
 ghost use Rattle.std.specs.Prelude.{◌≡◌, ◌+◌, ◌++◌, ◌≤◌, ◌^◌, IfOk, OnOk};
-ghost use Rattle.slot_declarations.specs.Frames.{IsFrame};
+ghost use Rattle.slot_encoding.specs.slot_declarations.Frames.{IsFrame};
 ghost use Rattle.slot_encoder.specs.Made as made;
 
 use crate::conditions::push_condition;
 use htn_base::{Boxed, List, Memory};
 use plan_model::{Atom, Formula, Style, Term};
-use slot_declarations::{Frame, slot_param};
+use slot_encoding::slot_declarations::{Frame, slot_param};
 use std::alloc::Global;
 
 /// The source goal, and every slot free.

@@ -1,13 +1,13 @@
 ghost use Rattle.std.specs.Prelude.{◌≡◌, [], ◌++◌, map, IfOk, OnOk};
 ghost use Rattle.plan_model.specs.Parts.{AreListed};
 ghost use Rattle.slot_encoding.specs.EncodedValue as spec;
-ghost use Rattle.slot_declarations.specs.Frames.{IsFrame};
+ghost use Rattle.slot_encoding.specs.slot_declarations.Frames.{IsFrame};
 ghost use Rattle.slot_encoder.specs.Made as made;
 
 use crate::single::push_single;
 use htn_base::Memory;
 use plan_model::{Facts, members};
-use slot_declarations::{Frame, guard_predicate, plus};
+use slot_encoding::slot_declarations::{Frame, guard_predicate, plus};
 use std::alloc::Global;
 
 /// What is true at the start: the first slot holds the top task, the others are free, the source's atoms, each once, and

@@ -1,7 +1,7 @@
 //! The printed problem as a PDDL value: slots that hold what is pending, and actions that process it.
 //!
-//! It stands on `slot_declarations`, which has the words and declares types, objects and predicates, on the order formulas of
-//! `order_encoder` and on the definitions of `slot_encoding`. Here are the first state, the goal and the actions.
+//! It stands on `slot_encoding`, its definitions and its `slot_declarations`, which have the words and declare types, objects and
+//! predicates, and on the order formulas of `order_encoder`. Here are the first state, the goal and the actions.
 //! The contracts used above: `Encoding` gives the defined value part by part, over a table that has all its words: all but the
 //! actions at once, and then one action at a time (`action`), so that no more than one need be there. A method's action is as long
 //! as the square of its new slots, so it comes in parts (`SplitAction`), and `whole` joins them. `encode` gives the whole value,

@@ -2,7 +2,7 @@ ghost use Rattle.std.specs.Prelude.{◌≡◌, ◌++◌, map, IfOk, OnOk};
 ghost use Rattle.plan_model.specs.task_networks.Spelling.{numbers};
 ghost use Rattle.slot_encoding.specs.EncodedNames as names;
 ghost use Rattle.slot_encoder.specs.Encodings.{whole};
-ghost use Rattle.slot_declarations.specs.Frames.{IsFrame};
+ghost use Rattle.slot_encoding.specs.slot_declarations.Frames.{IsFrame};
 ghost use Rattle.slot_encoder.specs.Parts.{AreVariables};
 ghost use Rattle.slot_encoder.specs.Made as made;
 
@@ -14,7 +14,7 @@ use crate::terms::moved;
 use crate::variables::{Variables, variables_of};
 use htn_base::{Boxed, List, Memory, Name};
 use plan_model::{Atom, Constraint, Effect, Formula, Guard, MethodPlan, Param};
-use slot_declarations::{
+use slot_encoding::slot_declarations::{
     Frame, guard_predicate, named, numbered, prefixed, push_params, slot_param, task_predicate,
 };
 use std::alloc::Global;

@@ -1,7 +1,7 @@
 ghost use Rattle.std.specs.Prelude.{◌≡◌, ◌++◌, map, IfOk, OnOk};
 ghost use Rattle.std.specs.List.{flat_map};
 ghost use Rattle.plan_model.specs.declared.effects.Effect.TheVariants as E;
-ghost use Rattle.slot_declarations.specs.Frames.{IsFrame};
+ghost use Rattle.slot_encoding.specs.slot_declarations.Frames.{IsFrame};
 ghost use Rattle.slot_encoder.specs.Parts.{AreVariables};
 ghost use Rattle.slot_encoder.specs.Made as made;
 
@@ -12,7 +12,7 @@ use crate::variables::{Variables, slot_of};
 use htn_base::{List, Memory};
 use order_encoder::push_copying;
 use plan_model::{Atom, Child, Effect, Head, MethodPlan, Pair, Term};
-use slot_declarations::{Frame, plus, task_predicate};
+use slot_encoding::slot_declarations::{Frame, plus, task_predicate};
 use std::alloc::Global;
 
 /// What a method does: a childless one frees the task's slot, another one puts its children into slots.

@@ -3,7 +3,7 @@ ghost use Rattle.slot_encoder.specs.Made as made;
 
 use htn_base::{List, Memory};
 use plan_model::{Atom, Term};
-use slot_declarations::Frame;
+use slot_encoding::slot_declarations::Frame;
 use std::alloc::Global;
 
 /// A term of the source behind `front` further variables. A number past 2^32 - 1 is answered as want of memory.

@@ -5,7 +5,7 @@ ghost use Rattle.slot_encoder.specs.Pieces.{child_slot, next_new};
 
 use htn_base::{List, Memory, number};
 use plan_model::MethodPlan;
-use slot_declarations::plus;
+use slot_encoding::slot_declarations::plus;
 use std::alloc::Global;
 
 /// How the variables of a method's action stand: the task's slot, so many new slots, then the parameters, which `front`

@@ -1,6 +1,6 @@
 ghost use Rattle.std.specs.Prelude.{◌≡◌, ◌++◌, IfOk, IsOkAnd};
 ghost use Rattle.slot_encoder.specs.Encodings.{whole, work};
-ghost use Rattle.slot_declarations.specs.Frames.{IsFrame};
+ghost use Rattle.slot_encoding.specs.slot_declarations.Frames.{IsFrame};
 ghost use Rattle.slot_encoder.specs.Made as made;
 
 use crate::atoms::held_work;
@@ -9,7 +9,9 @@ use crate::split_action::{Opening, SplitAction};
 use crate::splitting::freeing;
 use htn_base::{List, Memory, Name, number};
 use plan_model::{ActionSchema, Effect, Formula, MethodPlan, Param};
-use slot_declarations::{Frame, named, plus, prefixed, push_params, renamed, slot_param};
+use slot_encoding::slot_declarations::{
+    Frame, named, plus, prefixed, push_params, renamed, slot_param,
+};
 use std::alloc::Global;
 
 /// The action of source action `a`.

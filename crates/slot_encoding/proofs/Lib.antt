@@ -1,7 +1,5 @@
 pub mod ValueOver
 pub mod Pieces
-pub mod OrderParts
-pub mod NextSlot
 pub mod examples
 pub mod places
 pub mod words

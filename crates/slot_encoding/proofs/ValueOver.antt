@@ -7,7 +7,7 @@ use Rattle.plan_model.specs.declared.formulas.Formula.TheVariants.{And}
 use Rattle.plan_model.specs.declared.values.Compiled.{Compiled}
 use Rattle.plan_model.specs.declared.values.Pddl.{Pddl}
 use Rattle.slot_encoding.specs.SourceParts.{renamed}
-use Rattle.slot_encoding.specs.OrderFormulas.{free_parts}
+use Rattle.order_encoder.specs.OrderFormulas.{free_parts}
 use Rattle.slot_encoding.specs.EncodedNames.{guard_types, free_predicate, encoded_types, encoded_objects, encoded_predicates, order_numbers}
 use Rattle.slot_encoding.specs.EncodedActions.{source_condition}
 use Rattle.slot_encoding.specs.EncodedValue.{first_atoms, encoded_actions, AreGuardAtoms, IsEncoded}

@@ -26,7 +26,7 @@ use Rattle.plan_model.specs.declared.schemas.MethodPlan.{MethodPlan}
 use Rattle.plan_model.specs.declared.values.Compiled.{Compiled}
 use Rattle.plan_model.specs.task_networks.Spelling.{numbers, is_heir}
 use Rattle.slot_encoding.specs.SourceParts.{name, source_word, source_param, moved, source_formula, source_effect}
-use Rattle.slot_encoding.specs.OrderFormulas.{pair_of, wait_parts, clear_parts, copy_parts}
+use Rattle.order_encoder.specs.OrderFormulas.{pair_of, wait_parts, clear_parts, copy_parts}
 use Rattle.slot_encoding.specs.EncodedNames.{free_predicate, task_predicate, action_predicate, check_predicate, guard_predicate, slot_param, order_numbers}
 
 -- the condition as a list of parts: none where it is an empty conjunction

@@ -16,7 +16,7 @@ use Rattle.plan_model.specs.declared.values.Compiled.{Compiled}
 use Rattle.plan_model.specs.task_networks.Spelling.{numbers}
 use Rattle.plan_model.specs.plan_meaning.Compilation.{once}
 use Rattle.slot_encoding.specs.SourceParts.{name, source_word, renamed, retyped, source_param}
-use Rattle.slot_encoding.specs.OrderFormulas.{OrderNumbers}
+use Rattle.order_encoder.specs.OrderFormulas.{OrderNumbers}
 
 abbrev pub joined : {A : Type 0} → List (List A) → List A
 joined [] = []

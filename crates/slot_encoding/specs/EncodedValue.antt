@@ -13,7 +13,7 @@ use Rattle.plan_model.specs.task_networks.Spelling.{numbers}
 use Rattle.plan_model.specs.plan_meaning.Network.{InTypeOf}
 use Rattle.plan_model.specs.plan_meaning.Compilation.{once, Keeps}
 use Rattle.slot_encoding.specs.SourceParts.{renamed}
-use Rattle.slot_encoding.specs.OrderFormulas.{free_parts}
+use Rattle.order_encoder.specs.OrderFormulas.{free_parts}
 use Rattle.slot_encoding.specs.EncodedNames.{guard_types, guard_predicate, top_predicate, free_predicate, first_slot, encoded_types, encoded_objects, encoded_predicates, order_numbers}
 use Rattle.slot_encoding.specs.EncodedActions.{encoded_method, encoded_check, encoded_action, source_condition}
 

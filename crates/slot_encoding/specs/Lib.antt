@@ -1,7 +1,4 @@
 pub mod SourceParts
-pub mod OrderFormulas
-pub mod OrderNames
-pub mod OrderMeaning
 pub mod EncodedNames
 pub mod EncodedActions
 pub mod EncodedValue
@@ -11,3 +8,4 @@ pub mod Numberable
 pub mod WordsDiffer
 pub mod Existence
 pub mod encoded_texts
+pub mod slot_declarations

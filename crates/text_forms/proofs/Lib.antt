@@ -10,5 +10,6 @@ pub mod Shown
 pub mod Fronts
 pub mod InComments
 pub mod EachToken
+pub mod Letters
 pub mod OneToken
 pub mod examples

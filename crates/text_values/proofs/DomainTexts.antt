@@ -6,14 +6,14 @@ use Rattle.gd_reader.specs.Terms.{Names, Keeps}
 use Rattle.gd_reader.proofs.Keeping.{keeps_same}
 use Rattle.hddl_reader.specs.declared.sections.Language.{Language}
 use Rattle.hddl_reader.specs.declared.sections.RawDomain.{RawDomain}
-use Rattle.form_spellings.specs.InOrder.{IsDomainInOrder}
-use Rattle.form_spellings.proofs.order.Whole.{domains_in_order}
+use Rattle.text_values.specs.form_spellings.InOrder.{IsDomainInOrder}
+use Rattle.text_values.proofs.form_spellings.order.Whole.{domains_in_order}
 use Rattle.name_binding.specs.Cycle.{IsSection}
 use Rattle.hddl_bind.specs.declared.bound_domain.BoundDomain.{BoundDomain}
 use Rattle.hddl_bind.specs.declared.errors.BindError.{BindError}
 use Rattle.hddl_bind.specs.declared.errors.BindError.TheVariants.{Bad, Memory}
 use Rattle.hddl_bind.specs.WholeDomains.{IsDomainBound, IsDomainRefused}
-use Rattle.form_spellings.proofs.binding_laws.WholeFaults.{least_by, none_by}
+use Rattle.text_values.proofs.form_spellings.binding_laws.WholeFaults.{least_by, none_by}
 use Rattle.text_forms.specs.declared.sexpr_text.read_error.ReadError.{ReadError}
 use Rattle.text_forms.specs.declared.sexpr_text.read_error.ReadError.TheVariants as errors
 use Rattle.text_values.specs.Reading.{ReadsDomain, RefusesNames, RefusesDomain, IsBoundText, read_error}

@@ -3,11 +3,11 @@ use Rattle.std.proofs.Common.{ℕ, List}
 use Rattle.hddl_reader.specs.declared.sections.Language.TheVariants as language
 use Rattle.plan_model.specs.declared.values.Hddl.{Hddl}
 use Rattle.plan_texts.specs.FirstSeen.{IsHddlOf}
-use Rattle.form_spellings.proofs.order.Whole.{domains_in_order, problems_in_order}
+use Rattle.text_values.proofs.form_spellings.order.Whole.{domains_in_order, problems_in_order}
 use Rattle.hddl_bind.specs.WholeProblems.{with_start}
-use Rattle.form_spellings.specs.binding_laws.SoundValues.{ReadValuesAreSound}
-use Rattle.form_spellings.specs.binding_laws.WholeFaults.{AreInOrder}
-use Rattle.form_spellings.proofs.binding_laws.seen.Bound.{is_of_texts}
+use Rattle.text_values.specs.form_spellings.binding_laws.SoundValues.{ReadValuesAreSound}
+use Rattle.text_values.specs.form_spellings.binding_laws.WholeFaults.{AreInOrder}
+use Rattle.text_values.proofs.form_spellings.binding_laws.seen.Bound.{is_of_texts}
 use Rattle.text_values.specs.Values.{AreReadAs, IsValueOf}
 
 module _ (domain problem : List ℕ) (h : Hddl) (is : AreReadAs domain problem language.Hddl h) where

@@ -16,7 +16,7 @@ use Rattle.hddl_reader.specs.Definitions.{language_of}
 use Rattle.hddl_reader.specs.names.Faults.{HasDomainFault, HasProblemFault, IsInFront, IsLeast}
 use Rattle.text_values.specs.TextFaults.{IsDomainOf, IsProblemOf, IsGoodDomain, IsGoodProblem, IsLeastOfDomain, domain_tokens, domain_form, domain_names, IsLeastOfProblem, problem_tokens, problem_form, problem_names, IsLeastFault, in_domain, in_problem, HaveNoFault}
 use Rattle.plan_model.specs.declared.steps.GroundAction.{GroundAction}
-use Rattle.text_values.specs.plan_text.Plans.{IsPlanFault, IsPlanRead}
+use Rattle.plan_text.specs.Plans.{IsPlanFault, IsPlanRead}
 use Rattle.text_values.specs.OneFault.{HaveOneFault, HasOnePlanFault}
 use Rattle.text_values.proofs.Alike.{AlikeDomain}
 use Rattle.text_values.proofs.DefinitionPairs.{domains_alike, problems_alike}

@@ -8,8 +8,8 @@ use Rattle.plan_texts.specs.PrintedTexts.{domain_text, problem_text}
 use Rattle.plan_texts.proofs.PrintedSpells.{printed_spells}
 use Rattle.plan_texts.proofs.SoundProblems.{each-more}
 use Rattle.plan_texts.proofs.UniquePddl.{spelled_alike}
-use Rattle.form_spellings.specs.SoundPddl.{IsSoundPddl}
-use Rattle.form_spellings.specs.Faultless.{SpelledPddlIsFaultless}
+use Rattle.text_values.specs.form_spellings.SoundPddl.{IsSoundPddl}
+use Rattle.text_values.specs.form_spellings.Faultless.{SpelledPddlIsFaultless}
 use Rattle.text_values.proofs.Spelled.{accepted}
 use Rattle.text_values.specs.PddlExactly.{SpelledPddlHasNoFault, PrintedTextsAreReadAgain}
 

@@ -2,8 +2,8 @@
 use Rattle.std.proofs.Common.{ℕ, List}
 use Rattle.hddl_reader.specs.declared.sections.Language.TheVariants as language
 use Rattle.plan_model.specs.declared.values.Hddl.{Hddl}
-use Rattle.form_spellings.specs.PddlTexts.{without_tasks}
-use Rattle.form_spellings.specs.binding_laws.PddlValues.{ReadPddlIsItsValue}
+use Rattle.text_values.specs.form_spellings.PddlTexts.{without_tasks}
+use Rattle.text_values.specs.form_spellings.binding_laws.PddlValues.{ReadPddlIsItsValue}
 use Rattle.text_values.specs.Values.{AreReadAs}
 use Rattle.text_values.specs.PddlValues.{IsValueOf}
 

@@ -12,8 +12,8 @@ use Rattle.gd_reader.specs.Terms.{Names, Keeps}
 use Rattle.gd_reader.proofs.Keeping.{keeps_same, keeps_then, keeps_word}
 use Rattle.hddl_reader.specs.declared.sections.Language.{Language}
 use Rattle.hddl_reader.specs.declared.sections.RawProblem.{RawProblem}
-use Rattle.form_spellings.specs.ReadTexts.{AreRead}
-use Rattle.form_spellings.proofs.order.Whole.{domains_in_order, problems_in_order}
+use Rattle.text_values.specs.form_spellings.ReadTexts.{AreRead}
+use Rattle.text_values.proofs.form_spellings.order.Whole.{domains_in_order, problems_in_order}
 use Rattle.plan_model.specs.declared.values.Hddl.{Hddl as Value}
 use Rattle.name_binding.specs.Spots.{spot, noted}
 use Rattle.hddl_bind.specs.declared.bound_domain.BoundDomain.{BoundDomain}
@@ -21,9 +21,9 @@ use Rattle.hddl_bind.specs.declared.errors.BindError.{BindError}
 use Rattle.hddl_bind.specs.declared.errors.BindError.TheVariants.{Bad, Memory}
 use Rattle.hddl_bind.specs.WholeProblems.{ProblemBinding, IsProblemBound, IsProblemRefused, with_start}
 use Rattle.hddl_bind.specs.WholeProblems as problem
-use Rattle.form_spellings.specs.binding_laws.WholeFaults.{AreInOrder}
-use Rattle.form_spellings.proofs.binding_laws.WholeFaults.{domain_none, problem_least, problem_none}
-use Rattle.form_spellings.specs.binding_laws.SoundValues.{IsBoundOf}
+use Rattle.text_values.specs.form_spellings.binding_laws.WholeFaults.{AreInOrder}
+use Rattle.text_values.proofs.form_spellings.binding_laws.WholeFaults.{domain_none, problem_least, problem_none}
+use Rattle.text_values.specs.form_spellings.binding_laws.SoundValues.{IsBoundOf}
 use Rattle.text_values.specs.Reading.{ReadsProblem, RefusesOver, IsBoundText, read_error}
 use Rattle.text_values.specs.Values.{AreReadAs}
 use Rattle.text_values.specs.TextFaults.{IsProblemOf, IsGoodDomain, IsGoodProblem, problem_names}

@@ -9,7 +9,7 @@ use Rattle.text_forms.specs.form_grammar.Texts.{fault_or}
 use Rattle.hddl_reader.specs.declared.sections.Language.{Language}
 use Rattle.hddl_reader.specs.declared.sections.Language.TheVariants.{Hddl}
 use Rattle.hddl_reader.specs.Definitions.{language_of}
-use Rattle.form_spellings.specs.Faultless.{AreFaultless, SpelledHddlIsFaultless}
+use Rattle.text_values.specs.form_spellings.Faultless.{AreFaultless, SpelledHddlIsFaultless}
 use Rattle.text_values.specs.TextFaults.{HaveNoFault, IsLeastOfDomain, IsLeastOfProblem, IsLeastFault}
 use Rattle.text_values.specs.Exactly.{AreAccepted, SpelledHaveNoFault}
 

@@ -7,8 +7,8 @@ use Rattle.plan_model.specs.declared.values.Hddl.{Hddl}
 use Rattle.plan_texts.specs.SoundProblem.{IsSoundProblem}
 use Rattle.plan_texts.specs.SpellsHddl.{SpellsHddl}
 use Rattle.plan_model.specs.plan_meaning.Laws.{AreOrdered}
-use Rattle.form_spellings.specs.Depth.{IsShallow}
-use Rattle.form_spellings.specs.Faultless.{HasFewTypes}
+use Rattle.text_values.specs.form_spellings.Depth.{IsShallow}
+use Rattle.text_values.specs.form_spellings.Faultless.{HasFewTypes}
 use Rattle.text_values.specs.TextFaults.{IsLeastFault, HaveNoFault}
 
 -- the texts have no fault, and none can be told of them

@@ -1,3 +1,4 @@
+pub mod form_spellings
 pub mod TextFaults
 pub mod Values
 pub mod Reading
@@ -6,4 +7,3 @@ pub mod FaultWords
 pub mod PddlValues
 pub mod PddlExactly
 pub mod OneFault
-pub mod plan_text

@@ -5,7 +5,7 @@ use Rattle.text_forms.specs.Faults.{Fault}
 use Rattle.hddl_reader.specs.declared.sections.Language.{Language}
 use Rattle.text_values.specs.TextFaults.{IsLeastFault, HaveNoFault}
 use Rattle.plan_model.specs.declared.steps.GroundAction.{GroundAction}
-use Rattle.text_values.specs.plan_text.Plans.{IsPlanFault, IsPlanRead}
+use Rattle.plan_text.specs.Plans.{IsPlanFault, IsPlanRead}
 
 -- in one file, with one code and at one place, whatever tables of words the texts were read into
 pub record HaveOneFault (l : Language) (domain problem : List ℕ) : Type 0 where

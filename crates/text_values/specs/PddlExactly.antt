@@ -7,9 +7,9 @@ use Rattle.plan_texts.specs.Alike.{AreAlikePddl}
 use Rattle.plan_texts.specs.PrintableValue.{IsPrintable}
 use Rattle.plan_texts.specs.PrintedTexts.{domain_text, problem_text}
 use Rattle.plan_texts.specs.SpellsPddl.{SpellsPddl}
-use Rattle.form_spellings.specs.SoundPddl.{IsSoundPddl}
-use Rattle.form_spellings.specs.Depth.{IsShallow}
-use Rattle.form_spellings.specs.Faultless.{HasFewTypes}
+use Rattle.text_values.specs.form_spellings.SoundPddl.{IsSoundPddl}
+use Rattle.text_values.specs.form_spellings.Depth.{IsShallow}
+use Rattle.text_values.specs.form_spellings.Faultless.{HasFewTypes}
 use Rattle.text_values.specs.Exactly.{AreAccepted}
 
 -- Whatever value they spell, in whatever order: where it is sound, it has at most 1,002 types beside object, and no list stands too

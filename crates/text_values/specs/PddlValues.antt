@@ -3,8 +3,8 @@
 use Rattle.std.specs.Prelude.{ℕ, List}
 use Rattle.hddl_reader.specs.declared.sections.Language.TheVariants as language
 use Rattle.plan_model.specs.declared.values.Pddl.{Pddl}
-use Rattle.form_spellings.specs.PddlTexts.{IsPddlOf}
-use Rattle.form_spellings.specs.SoundPddl.{IsSoundClassical}
+use Rattle.text_values.specs.form_spellings.PddlTexts.{IsPddlOf}
+use Rattle.text_values.specs.form_spellings.SoundPddl.{IsSoundClassical}
 use Rattle.text_forms.specs.declared.sexpr_text.read_error.ReadError.{ReadError}
 use Rattle.text_values.specs.TextFaults.{HaveNoFault}
 use Rattle.text_values.specs.Values as texts

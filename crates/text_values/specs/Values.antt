@@ -9,7 +9,7 @@ use Rattle.plan_texts.specs.SoundProblem.{IsSoundProblem}
 use Rattle.plan_model.specs.plan_meaning.Laws.{AreOrdered}
 use Rattle.text_forms.specs.declared.sexpr_text.read_error.ReadError.{ReadError}
 use Rattle.text_forms.specs.declared.sexpr_text.read_error.ReadError.TheVariants as errors
-use Rattle.form_spellings.specs.binding_laws.SoundValues.{IsBoundOf}
+use Rattle.text_values.specs.form_spellings.binding_laws.SoundValues.{IsBoundOf}
 use Rattle.text_values.specs.TextFaults.{IsLeastFault, HaveNoFault}
 
 module _ (domain problem : List ℕ) where

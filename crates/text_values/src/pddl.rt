@@ -1,9 +1,9 @@
 ghost use Rattle.std.specs.Prelude.{◌≡◌, ◌≤◌, length, IfOk, IfErr};
-ghost use Rattle.form_spellings.specs.PddlTexts.{without_tasks};
+ghost use Rattle.text_values.specs.form_spellings.PddlTexts.{without_tasks};
 ghost use Rattle.text_values.specs.PddlValues.{IsValueOf, IsRefusal};
 
+use crate::form_spellings::binding_laws::read_pddl_is_its_value;
 use crate::values::read_as;
-use form_spellings::binding_laws::read_pddl_is_its_value;
 use hddl_reader::Language;
 use plan_model::{Hddl, Pddl};
 use std::alloc::Global;

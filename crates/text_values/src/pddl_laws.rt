@@ -1,7 +1,7 @@
 // PDDL texts that spell a value have no fault, so what is printed can be read.
 ghost use Rattle.text_values.specs.PddlExactly.{SpelledPddlHasNoFault, PrintedTextsAreReadAgain};
 
-use form_spellings::spelled_texts_are_faultless;
+use crate::form_spellings::spelled_texts_are_faultless;
 
 /// Two PDDL texts have no fault of any phase, and none can be told of them, where they spell a sound value with at most 1,002 types
 /// beside object, and at most 200 lists are open at a time in them.

@@ -3,8 +3,8 @@ ghost use Rattle.hddl_reader.specs.declared.sections.Language.TheVariants as lan
 ghost use Rattle.text_values.specs.Values.{AreReadAs, IsValueOf, IsRefusal};
 
 use crate::domains::bound_domain;
+use crate::form_spellings::binding_laws::read_values_are_sound;
 use crate::problems::value_over;
-use form_spellings::binding_laws::read_values_are_sound;
 use hddl_reader::Language;
 use htn_base::NameTable;
 use plan_model::Hddl;

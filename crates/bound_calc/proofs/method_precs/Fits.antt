@@ -20,8 +20,8 @@ use Rattle.plan_model.specs.plan_meaning.Compilation.{same_pair, once, pairs, ch
 use Rattle.plan_model.specs.Pairs.{pair, Pairs}
 use Rattle.plan_model.specs.plan_meaning.Laws.{AreOrdered}
 use Rattle.plan_model.proofs.plan_meaning.Pairs.{pairs_within, pairs_acyclic}
-use Rattle.net_order.specs.Meaning.{AreBelow}
-use Rattle.net_order.proofs.Chains.{below_from_pairs}
+use Rattle.plan_model.specs.net_order.Meaning.{AreBelow}
+use Rattle.plan_model.proofs.net_order.Chains.{below_from_pairs}
 use Rattle.bound_calc.specs.method_precs.Pairs.{shifted}
 use Rattle.bound_calc.specs.method_precs.Small.{IsFit}
 

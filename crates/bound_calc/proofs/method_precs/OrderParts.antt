@@ -1,8 +1,8 @@
 -- What an order answers is what a compiled method takes from it.
 use Rattle.std.proofs.Common.{ℕ, List, refl}
 use Rattle.plan_model.specs.declared.networks.Pair.{Pair}
-use Rattle.net_order.specs.Answers.{Answers, heir, maximal}
-use Rattle.net_order.specs.Meaning.{IsOrderOf}
+use Rattle.plan_model.specs.net_order.Answers.{Answers, heir, maximal}
+use Rattle.plan_model.specs.net_order.Meaning.{IsOrderOf}
 use Rattle.bound_calc.specs.method_precs.Ordered.{AreCopiers, IsOrdered}
 
 pub ordered_by : (count : ℕ) (pairs : List Pair) (order : Answers) → IsOrderOf count pairs order → (copiers : List ℕ) → AreCopiers count (maximal order) (heir order) copiers

@@ -5,9 +5,9 @@ use Rattle.std.proofs.lemmas.Bool.Decides.{eqb_tells}
 use Rattle.std.proofs.lemmas.List.{take_all, take-append-le}
 use Rattle.plan_model.specs.declared.networks.Pair.{Pair}
 use Rattle.plan_model.specs.plan_meaning.Compilation.{once, same_pair}
-use Rattle.net_order.specs.Marks.{marked}
-use Rattle.net_order.specs.Meaning.{AreBelow}
-use Rattle.net_order.specs.Closure.{IsAdded}
+use Rattle.plan_model.specs.net_order.Marks.{marked}
+use Rattle.plan_model.specs.net_order.Meaning.{AreBelow}
+use Rattle.plan_model.specs.net_order.Closure.{IsAdded}
 use Rattle.bound_calc.proofs.method_precs.Fits.{same_itself}
 use Rattle.plan_model.proofs.plan_meaning.Once.{has_there, not_there, once_next_new, once_next_old}
 

@@ -11,7 +11,7 @@ use Rattle.plan_model.specs.plan_meaning.Compilation.{IsCompiled}
 use Rattle.plan_model.specs.plan_meaning.Laws.{AreOrdered}
 use Rattle.plan_model.proofs.plan_meaning.Pairs.{pairs_within, pairs_acyclic}
 use Rattle.plan_model.proofs.plan_meaning.CompiledNetworks.{plan_of}
-use Rattle.net_order.proofs.Chains.{below_from_pairs}
+use Rattle.plan_model.proofs.net_order.Chains.{below_from_pairs}
 use Rattle.bound_calc.specs.stratifier.Conditions.{HaveNoCycle}
 
 pub have_no_cycle : (h : Hddl) (mode : Checks) (c : Compiled) → AreOrdered h → IsCompiled h mode c → HaveNoCycle c

@@ -7,9 +7,9 @@ use Rattle.plan_model.specs.Pairs.{pair, Pairs}
 use Rattle.plan_model.specs.Parts.{IsMarked}
 use Rattle.plan_model.specs.task_networks.Order.{Precedes, direct, through, IsAcyclic, IsLast}
 use Rattle.plan_model.proofs.task_networks.Orders.{maximal_above, next_among, precedes_then}
-use Rattle.net_order.specs.Closure.{AreFirsts}
-use Rattle.net_order.specs.Meaning.{AreBelow}
-use Rattle.net_order.proofs.Chains.{pairs_of}
+use Rattle.plan_model.specs.net_order.Closure.{AreFirsts}
+use Rattle.plan_model.specs.net_order.Meaning.{AreBelow}
+use Rattle.plan_model.proofs.net_order.Chains.{pairs_of}
 use Rattle.bound_calc.specs.stratifier.Conditions.{IsOrdered}
 use Rattle.bound_calc.specs.stratifier.Bad.{IsLastOf, IsOnlyUnmarked, IsOnlyUnmarkedOrNone}
 

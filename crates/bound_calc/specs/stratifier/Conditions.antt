@@ -6,7 +6,7 @@ use Rattle.plan_model.specs.declared.values.Compiled.{Compiled}
 use Rattle.plan_model.specs.Pairs.{Pairs}
 use Rattle.plan_model.specs.task_networks.Order.{IsAcyclic}
 use Rattle.plan_model.specs.plan_meaning.Network.{top_task}
-use Rattle.net_order.specs.Meaning.{AreBelow}
+use Rattle.plan_model.specs.net_order.Meaning.{AreBelow}
 use Rattle.bound_calc.specs.stratifier.Links.{IsSubtask}
 
 -- the method's task and its subtasks have numbers up to that of the top task

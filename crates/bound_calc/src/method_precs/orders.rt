@@ -2,13 +2,13 @@ ghost use Rattle.std.specs.Prelude.{◌≡◌, ◌≢◌, ◌≤◌, ◌<◌, �
 ghost use Rattle.std.specs.List.Sorted.{IsStrictlyIncreasing};
 ghost use Rattle.plan_model.specs.task_networks.Order.{IsAcyclic, IsMaximal};
 ghost use Rattle.plan_model.specs.Pairs.{Pairs};
-ghost use Rattle.net_order.specs.Meaning.{AreBelow, IsOrderOf};
-ghost use Rattle.net_order.specs.Answers.{maximal};
+ghost use Rattle.plan_model.specs.net_order.Meaning.{AreBelow, IsOrderOf};
+ghost use Rattle.plan_model.specs.net_order.Answers.{maximal};
 ghost use Rattle.bound_calc.specs.method_precs.Ordered.{AreCopiers, IsCopier, IsOrdered};
 
 use htn_base::{List, Memory};
-use net_order::{Order, OrderError};
 use plan_model::Pair;
+use plan_model::net_order::{Order, OrderError};
 use std::alloc::Global;
 
 /// The children of a network by their order.

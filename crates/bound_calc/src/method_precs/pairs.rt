@@ -1,6 +1,6 @@
 ghost use Rattle.std.specs.Prelude.{◌≡◌, ◌≤◌, ◌++◌, IfOk, length, map};
 ghost use Rattle.plan_model.specs.plan_meaning.Compilation as spec;
-ghost use Rattle.net_order.specs.Meaning.{AreBelow};
+ghost use Rattle.plan_model.specs.net_order.Meaning.{AreBelow};
 ghost use Rattle.bound_calc.specs.method_precs.Pairs.{shifted, pairs_of_check};
 
 use crate::method_precs::single_pairs::single_pairs;

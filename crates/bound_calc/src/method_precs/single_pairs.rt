@@ -1,12 +1,12 @@
 ghost use Rattle.std.specs.Prelude.{◌≡◌, ◌<◌, not, IfOk, length};
 ghost use Rattle.plan_model.specs.plan_meaning.Compilation as spec;
-ghost use Rattle.net_order.specs.Marks.{marked, has, IsSquare};
-ghost use Rattle.net_order.specs.Meaning.{AreBelow};
+ghost use Rattle.plan_model.specs.net_order.Marks.{marked, has, IsSquare};
+ghost use Rattle.plan_model.specs.net_order.Meaning.{AreBelow};
 ghost use Rattle.bound_calc.specs.method_precs.Pairs.{with_pair};
 
 use htn_base::{List, Memory};
-use net_order::{ChildSet, empty_sets};
 use plan_model::Pair;
+use plan_model::net_order::{ChildSet, empty_sets};
 use std::alloc::Global;
 
 /// Each pair of so many children at its first place alone. It takes memory for a bit for each pair that there may be.

@@ -1,8 +1,8 @@
 //! The last child of a method. Where the pairs have no cycle, it is the only child that is first in none of them.
 
 ghost use Rattle.std.specs.Prelude.{◌≡◌, ◌<◌, ◌^◌, length, IfOk};
-ghost use Rattle.net_order.specs.Closure.{AreFirsts};
-ghost use Rattle.net_order.specs.Meaning.{AreBelow};
+ghost use Rattle.plan_model.specs.net_order.Closure.{AreFirsts};
+ghost use Rattle.plan_model.specs.net_order.Meaning.{AreBelow};
 ghost use Rattle.bound_calc.specs.stratifier.Conditions.{IsOrdered, IsSmallMethod};
 ghost use Rattle.bound_calc.specs.stratifier.Bad.{IsLastOf, IsOnlyUnmarkedOrNone};
 

@@ -31,7 +31,7 @@ use Rattle.plan_model.specs.plan_meaning.Laws.{AreOrdered}
 use Rattle.plan_model.specs.plan_meaning.Compilation.{AsksSomething, IsCompiled}
 use Rattle.plan_model.specs.Pairs.{Pairs}
 use Rattle.slot_encoding.specs.SourceParts.{renamed}
-use Rattle.slot_encoding.specs.OrderFormulas.{free_parts}
+use Rattle.order_encoder.specs.OrderFormulas.{free_parts}
 use Rattle.slot_encoding.specs.EncodedNames.{free_predicate, encoded_types, encoded_objects, encoded_predicates, order_numbers}
 use Rattle.slot_encoding.specs.EncodedActions.{no_part, is_empty, source_condition}
 use Rattle.slot_encoding.specs.EncodedValue.{first_atoms, encoded_actions, IsEncoded}

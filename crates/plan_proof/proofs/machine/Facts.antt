@@ -16,7 +16,7 @@ use Rattle.plan_model.specs.plan_meaning.ClassicalPlan as Printed
 use Rattle.plan_model.specs.plan_meaning.Network.{network}
 use Rattle.slot_encoding.specs.EncodedNames.{order_numbers}
 use Rattle.slot_encoding.specs.EncodedValue.{IsEncoded}
-use Rattle.slot_encoding.specs.OrderMeaning.{OrderMeaning}
+use Rattle.order_encoder.specs.OrderMeaning.{OrderMeaning}
 use Rattle.slot_encoding.proofs.Pieces.{PredicatesDiffer, SourceAgrees, GuardsDeclare, GuardAtomsAgree, IsSoundCondition, IsSoundChange}
 
 -- the numbers and parts of a compiled problem fit together

@@ -18,13 +18,13 @@ use Rattle.slot_encoding.specs.EncodedNames.{before_predicate, order_numbers}
 use Rattle.slot_encoding.specs.EncodedActions.{is_free, waiting, freeing}
 use Rattle.plan_model.proofs.plan_meaning.TruthEquations.{truth-And, truth-Holds}
 use Rattle.plan_model.proofs.plan_meaning.EffectEquations.{adds-And, adds-Add, adds-Delete, deletes-And, deletes-Add, deletes-Delete}
-use Rattle.slot_encoding.specs.OrderMeaning.{OrderMeaning}
+use Rattle.order_encoder.specs.OrderMeaning.{OrderMeaning}
 use Rattle.slot_encoding.proofs.Pieces.{PredicatesDiffer, slot_object, IsSlot, IsSlotObject}
 use Rattle.plan_proof.proofs.machine.Reading.{IsKnown, held, free_atom, before_atom, Reads}
 use Rattle.slot_encoding.proofs.places.Sums.{each-append, one-append}
 use Rattle.plan_proof.proofs.machine.Atoms.{slot_of}
 use Rattle.plan_proof.proofs.machine.Freed.{Changed, freed, freed_reads, reads_alike}
-use Rattle.slot_encoding.specs.OrderFormulas.{clear_parts}
+use Rattle.order_encoder.specs.OrderFormulas.{clear_parts}
 
 module _ (c : Compiled) (b : ℕ) (style : Style) (p : Pddl) where
   abbrev pub InT : ℕ → ℕ → Type 0

@@ -25,7 +25,7 @@ use Rattle.plan_model.specs.plan_meaning.Network.{Work, GroundMethod, network, I
 use Rattle.plan_model.proofs.plan_meaning.MethodParts.{head_by, works_by, heir_by, IsPairBy, IsCopierBy}
 use Rattle.slot_encoding.specs.EncodedNames.{free_predicate, before_predicate, task_predicate, action_predicate, check_predicate, order_numbers}
 use Rattle.slot_encoding.specs.EncodedValue.{atom}
-use Rattle.slot_encoding.specs.OrderFormulas.{pair_of, copy_parts}
+use Rattle.order_encoder.specs.OrderFormulas.{pair_of, copy_parts}
 use Rattle.slot_encoding.specs.EncodedActions.{is_free, spare, front, depth, slot_vars, children_slots, held_task, child_atom, child_atoms}
 use Rattle.plan_model.proofs.plan_meaning.EffectEquations.{adds-Add, adds-Delete, deletes-Add, deletes-Delete}
 use Rattle.slot_encoding.proofs.Pieces.{slot_object, IsSlot, IsSlotObject}

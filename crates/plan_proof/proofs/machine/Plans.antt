@@ -16,7 +16,7 @@ use Rattle.plan_model.specs.plan_meaning.Truth.{State, EachTrue, IsTrueIn}
 use Rattle.plan_model.specs.plan_meaning.ClassicalPlan as Printed
 use Rattle.plan_model.specs.plan_meaning.Network.{network}
 use Rattle.plan_model.specs.plan_meaning.Solution.{Allows, next, top_work, initial, IsGoal, IsExecutableFront, IsSolution}
-use Rattle.slot_encoding.specs.OrderFormulas.{free_parts}
+use Rattle.order_encoder.specs.OrderFormulas.{free_parts}
 use Rattle.slot_encoding.specs.EncodedNames.{free_predicate, order_numbers}
 use Rattle.slot_encoding.specs.EncodedActions.{source_condition}
 use Rattle.plan_model.proofs.plan_meaning.TruthEquations.{truth-And}

@@ -20,7 +20,7 @@ use Rattle.plan_proof.specs.Faithful.{IsFaithfulValue}
 use Rattle.plan_proof.proofs.machine.Facts.{PiecesMean}
 use Rattle.plan_proof.proofs.machine.Fits.{fits}
 use Rattle.slot_encoding.proofs.places.ObjectTypes.{types_agree}
-use Rattle.slot_encoding.proofs.OrderParts.{order_meaning}
+use Rattle.order_encoder.proofs.OrderParts.{order_meaning}
 use Rattle.plan_proof.proofs.machine.SourceMeanings.{source_agrees}
 use Rattle.slot_encoding.proofs.places.Predicates.{predicates_differ}
 use Rattle.slot_encoding.proofs.places.Guards.{guards_agree}

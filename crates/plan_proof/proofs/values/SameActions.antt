@@ -28,7 +28,7 @@ use Rattle.plan_model.specs.declared.values.Compiled.{Compiled}
 use Rattle.plan_model.specs.task_networks.Spelling.{numbers}
 use Rattle.plan_model.specs.plan_meaning.Compilation.{once}
 use Rattle.slot_encoding.specs.SourceParts.{name, moved}
-use Rattle.slot_encoding.specs.OrderFormulas.{pair_of, wait_parts, clear_parts, copy_parts}
+use Rattle.order_encoder.specs.OrderFormulas.{pair_of, wait_parts, clear_parts, copy_parts}
 use Rattle.slot_encoding.specs.EncodedNames.{joined, guard_types, checked_methods, free_predicate, first_check, task_predicate, action_predicate, check_predicate, guard_predicate, slot_param, order_numbers}
 use Rattle.slot_encoding.specs.EncodedActions.{slot_vars, differ, test, source_condition, source_change, held_work, work_action, encoded_action, encoded_check, spare, front, depth, children_slots, held_task, child_atom, child_atoms, constraints, guards, tested, method_pre, splitting, method_eff, method_word, encoded_method}
 use Rattle.slot_encoding.specs.EncodedValue.{encoded_methods, encoded_checks, encoded_source, encoded_actions}

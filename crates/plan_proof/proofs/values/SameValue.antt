@@ -26,7 +26,7 @@ use Rattle.plan_model.specs.task_networks.Spelling.{numbers}
 use Rattle.plan_model.specs.plan_meaning.Network.{InTypeOf}
 use Rattle.plan_model.specs.plan_meaning.Compilation.{once, Keeps}
 use Rattle.slot_encoding.specs.SourceParts.{name, renamed, retyped, source_param}
-use Rattle.slot_encoding.specs.OrderFormulas.{free_parts}
+use Rattle.order_encoder.specs.OrderFormulas.{free_parts}
 use Rattle.slot_encoding.specs.EncodedNames.{guard_types, checked_methods, held, held_params, guard_word, slot_param, encoded_types, encoded_objects, encoded_predicates}
 use Rattle.slot_encoding.specs.EncodedValue.{same_atom, atom, first_atoms, AreGuardAtoms, IsInitial, IsEncoded}
 use Rattle.plan_model.proofs.plan_meaning.examples.Unequal.{lt_to}

@@ -19,7 +19,7 @@ use Rattle.plan_model.proofs.task_networks.Numbers.{length-numbers}
 use Rattle.plan_texts.specs.Types.{EachIs}
 use Rattle.slot_encoding.specs.SourceParts.{source_param, moved}
 use Rattle.slot_encoding.specs.EncodedNames.{slot_param, guard_predicate, order_numbers}
-use Rattle.slot_encoding.specs.OrderFormulas.{pair_of}
+use Rattle.order_encoder.specs.OrderFormulas.{pair_of}
 use Rattle.slot_encoding.specs.EncodedActions.{differ, test, is_free, spare, front, depth, slot_vars, children_slots, held_task, child_atoms, source_condition, method_pre, splitting, method_eff, encoded_method}
 use Rattle.slot_encoding.proofs.places.Splitting.{copies_of, splitting_parts}
 use Rattle.pddl_printer.specs.WrittenOut.{action}

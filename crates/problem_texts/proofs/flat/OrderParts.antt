@@ -12,7 +12,7 @@ use Rattle.plan_model.specs.declared.effects.Effect.TheVariants as E
 use Rattle.plan_model.specs.declared.values.Compiled.{Compiled}
 use Rattle.plan_model.specs.task_networks.Spelling.{numbers}
 use Rattle.slot_encoding.specs.EncodedNames.{order_numbers, first_slot}
-use Rattle.slot_encoding.specs.OrderFormulas.{OrderNumbers, pair_of, wait_parts, clear_parts, copy_parts, free_parts}
+use Rattle.order_encoder.specs.OrderFormulas.{OrderNumbers, pair_of, wait_parts, clear_parts, copy_parts, free_parts}
 use Rattle.pddl_printer.specs.WrittenOut.{placed}
 use Rattle.pddl_printer.proofs.written_out.Equations.{parts-Forall, literal-Holds, literal-Not, parts-Each, change-Delete, change-When}
 use Rattle.problem_texts.specs.Slots.{slots_of}

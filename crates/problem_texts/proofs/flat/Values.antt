@@ -14,7 +14,7 @@ use Rattle.plan_texts.specs.Types.{EachIs}
 use Rattle.plan_model.specs.plan_meaning.Compilation.{AreMethodPlans, IsCompiled}
 use Rattle.plan_model.specs.Pairs.{Pairs}
 use Rattle.slot_encoding.specs.EncodedNames.{free_predicate, order_numbers}
-use Rattle.slot_encoding.specs.OrderFormulas.{free_parts}
+use Rattle.order_encoder.specs.OrderFormulas.{free_parts}
 use Rattle.slot_encoding.specs.EncodedActions.{encoded_check, source_condition}
 use Rattle.slot_encoding.specs.EncodedValue.{encoded_methods, encoded_checks, encoded_source, encoded_actions, IsEncoded}
 use Rattle.slot_encoding.proofs.words.PlanParts.{slots_below}

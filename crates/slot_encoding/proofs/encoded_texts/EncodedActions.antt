@@ -25,7 +25,7 @@ use Rattle.plan_texts.specs.Alike.{action_said}
 use Rattle.plan_texts.specs.Together.{Together}
 use Rattle.plan_texts.proofs.Together.{together-maps}
 use Rattle.slot_encoding.specs.SourceParts.{name, source_param, moved}
-use Rattle.slot_encoding.specs.OrderFormulas.{pair_of, copy_parts, free_parts}
+use Rattle.order_encoder.specs.OrderFormulas.{pair_of, copy_parts, free_parts}
 use Rattle.slot_encoding.specs.EncodedNames.{joined, free_predicate, action_predicate, check_predicate, guard_predicate, slot_param, order_numbers}
 use Rattle.slot_encoding.specs.EncodedActions.{is_empty, is_empty_effect, is_free, differ, test, source_condition, source_change, freeing, waiting, held_work, work_action, encoded_check, spare, front, depth, children_slots, held_task, child_atom, child_atoms, constraints, guards, tested, method_pre, splitting, method_eff, method_word, encoded_method}
 use Rattle.slot_encoding.specs.EncodedValue.{encoded_methods, encoded_checks, encoded_source, encoded_actions}

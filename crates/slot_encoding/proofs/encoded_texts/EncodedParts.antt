@@ -25,7 +25,7 @@ use Rattle.plan_texts.specs.Together.{Together}
 use Rattle.plan_texts.proofs.Together.{together-maps}
 use Rattle.plan_texts.proofs.Members.{each-has, has-to_map}
 use Rattle.slot_encoding.specs.SourceParts.{name, retyped}
-use Rattle.slot_encoding.specs.OrderFormulas.{OrderNumbers, pair_of, any_slot, slot_objects, wait_parts, clear_parts, copy_parts, free_parts}
+use Rattle.order_encoder.specs.OrderFormulas.{OrderNumbers, pair_of, any_slot, slot_objects, wait_parts, clear_parts, copy_parts, free_parts}
 use Rattle.slot_encoding.specs.EncodedNames.{joined, guard_types, checked_methods, slot_param, held, held_params, guard_word, encoded_objects, encoded_predicates, order_numbers}
 use Rattle.slot_encoding.specs.EncodedWords.{param_words, held_words, own_word, HasEncodedWords}
 use Rattle.slot_encoding.proofs.places.ObjectPlaces.{printed_object, printed_slot}

@@ -18,7 +18,7 @@ use Rattle.plan_model.specs.declared.schemas.ActionSchema.{ActionSchema}
 use Rattle.plan_model.specs.declared.values.Pddl.{Pddl}
 use Rattle.slot_encoding.specs.SourceParts.{name, source_formula, source_effect}
 use Rattle.slot_encoding.specs.EncodedNames.{encoded_objects, order_numbers, free_predicate}
-use Rattle.slot_encoding.specs.OrderFormulas.{free_parts}
+use Rattle.order_encoder.specs.OrderFormulas.{free_parts}
 use Rattle.slot_encoding.specs.EncodedActions.{source_condition, source_change}
 use Rattle.slot_encoding.specs.EncodedValue.{encoded_actions, IsEncoded}
 use Rattle.slot_encoding.proofs.examples.RowTexts.{empty_condition, empty_effect}

@@ -9,7 +9,7 @@ use Rattle.plan_model.specs.declared.schemas.MethodPlan.{MethodPlan}
 use Rattle.plan_model.specs.declared.values.Compiled.{Compiled}
 use Rattle.plan_model.specs.task_networks.Spelling.{numbers}
 use Rattle.slot_encoding.specs.EncodedNames.{order_numbers}
-use Rattle.slot_encoding.specs.OrderFormulas.{copy_parts, pair_of}
+use Rattle.order_encoder.specs.OrderFormulas.{copy_parts, pair_of}
 use Rattle.slot_encoding.specs.EncodedActions.{splitting, children_slots, depth, held_task, is_free, spare, child_atoms}
 
 cancel : (pre xs ys : List Effect) → pre ++ xs ≡ pre ++ ys → xs ≡ ys

@@ -21,7 +21,7 @@ use Rattle.plan_model.proofs.task_networks.Numbers.{numbers_to}
 use Rattle.plan_model.specs.plan_meaning.Network.{InTypeOf}
 use Rattle.plan_model.specs.plan_meaning.Compilation.{once}
 use Rattle.slot_encoding.specs.SourceParts.{source_formula}
-use Rattle.slot_encoding.specs.OrderFormulas.{free_parts}
+use Rattle.order_encoder.specs.OrderFormulas.{free_parts}
 use Rattle.slot_encoding.specs.EncodedNames.{guard_types, guard_predicate, top_predicate, free_predicate, first_slot, order_numbers}
 use Rattle.slot_encoding.specs.EncodedActions.{is_empty, source_condition}
 use Rattle.slot_encoding.specs.EncodedValue.{same_atom, atom, first_atoms, AreGuardAtoms, IsInitial}

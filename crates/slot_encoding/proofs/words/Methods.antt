@@ -30,7 +30,7 @@ use Rattle.plan_texts.proofs.Places.{each-join}
 use Rattle.plan_model.specs.task_networks.Spelling.{numbers}
 use Rattle.plan_model.proofs.task_networks.Numbers.{numbers_to}
 use Rattle.slot_encoding.specs.SourceParts.{moved}
-use Rattle.slot_encoding.specs.OrderFormulas.{pair_of, copy_parts}
+use Rattle.order_encoder.specs.OrderFormulas.{pair_of, copy_parts}
 use Rattle.slot_encoding.specs.EncodedNames.{first_task, top_predicate, task_predicate, action_predicate, check_predicate, guard_predicate, order_numbers}
 use Rattle.slot_encoding.specs.EncodedActions.{is_free, waiting, depth, children_slots, held_task, child_atom, child_atoms, differ, test, constraints, guards, tested, source_condition, method_pre, splitting, method_eff, encoded_method}
 use Rattle.slot_encoding.proofs.places.Guards.{guard_type}

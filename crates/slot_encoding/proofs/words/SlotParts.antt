@@ -18,7 +18,7 @@ use Rattle.plan_texts.specs.Printable.{IsInForce, IsSoundAtom, AreSoundParams, I
 use Rattle.plan_texts.specs.SoundValue.{IsSoundHddl}
 use Rattle.plan_texts.proofs.Members.{has-contains, length-map}
 use Rattle.plan_model.proofs.task_networks.Numbers.{numbers_to}
-use Rattle.slot_encoding.specs.OrderFormulas.{OrderNumbers, pair_of, any_slot, slot_objects, wait_parts, clear_parts, copy_parts, free_parts}
+use Rattle.order_encoder.specs.OrderFormulas.{OrderNumbers, pair_of, any_slot, slot_objects, wait_parts, clear_parts, copy_parts, free_parts}
 use Rattle.slot_encoding.specs.EncodedNames.{first_slot, free_predicate, before_predicate, encoded_objects, order_numbers}
 use Rattle.slot_encoding.proofs.places.ListPlaces.{length-joined}
 use Rattle.slot_encoding.proofs.places.ObjectPlaces.{length-objects}

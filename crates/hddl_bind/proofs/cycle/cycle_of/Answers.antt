@@ -1,6 +1,6 @@
 use Rattle.std.proofs.Common.{◌≤◌, length, subst, sym, ◌∙◌, arith}
 use Rattle.hddl_reader.specs.names.Networks.{most_subtasks}
-use Rattle.net_order.specs.Meaning.{AreBelow, IsRefusedBy}
+use Rattle.plan_model.specs.net_order.Meaning.{AreBelow, IsRefusedBy}
 use Rattle.hddl_bind.proofs.Cycles.{pairs_are_more, pairs_below, no_cycle, cycle_at}
 use Rattle.hddl_bind.proofs.cycle.cycle_of.Goals as goal
 

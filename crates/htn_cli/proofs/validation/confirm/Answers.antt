@@ -1,4 +1,4 @@
-use Rattle.command_words.specs.Words as words
+use Rattle.outside_io.specs.command_words.Words as words
 use Rattle.htn_cli.proofs.Results.{on_ok_too, if_err_too}
 use Rattle.htn_cli.proofs.Inputs.{gives_plan, stops_plan}
 use Rattle.htn_cli.proofs.validation.confirm.Goals as goal

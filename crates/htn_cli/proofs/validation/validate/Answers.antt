@@ -1,4 +1,4 @@
-use Rattle.command_words.specs.Words.{validation_of}
+use Rattle.outside_io.specs.command_words.Words.{validation_of}
 use Rattle.htn_cli.proofs.Results.{on_ok_too, if_err_too}
 use Rattle.htn_cli.proofs.Leavings.{achieves_plan, leaves_valid}
 use Rattle.htn_cli.proofs.validation.validate.Goals as goal

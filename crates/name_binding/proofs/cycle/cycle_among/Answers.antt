@@ -1,6 +1,6 @@
 use Rattle.std.proofs.Common.{length, slice_get, subst, ap, sym, ◌∙◌, arith}
 use Rattle.std.proofs.lemmas.Option.{slice_get-get_or}
-use Rattle.net_order.specs.Meaning.{AreBelow, IsRefusedBy}
+use Rattle.plan_model.specs.net_order.Meaning.{AreBelow, IsRefusedBy}
 use Rattle.plan_model.specs.task_networks.Order.{IsFirstClosing}
 use Rattle.plan_model.specs.Pairs.{pair}
 use Rattle.name_binding.proofs.PairLemmas.{pairs-below, offset-there}

@@ -1,6 +1,6 @@
 use Rattle.std.proofs.Common.{◌≡◌, subst, sym, ap, ◌∙◌}
 use Rattle.std.proofs.lemmas.Result.{IfOk-weaker}
-use Rattle.slot_encoding.specs.OrderNames.{numbers}
+use Rattle.order_encoder.specs.OrderNames.{numbers}
 use Rattle.order_encoder.specs.NamedOrders.{clearing, Clears}
 use Rattle.order_encoder.proofs.Meanings.{clears-means}
 use Rattle.order_encoder.proofs.clears.clearing.Goals as goal

@@ -1,7 +1,7 @@
 use Rattle.std.proofs.Common.{◌≡◌, subst, sym, ap, ◌∙◌}
 use Rattle.std.proofs.lemmas.Result.{IfOk-weaker}
 use Rattle.plan_model.specs.declared.terms.Term.TheVariants.{Var}
-use Rattle.slot_encoding.specs.OrderNames.{numbers}
+use Rattle.order_encoder.specs.OrderNames.{numbers}
 use Rattle.order_encoder.specs.NamedOrders.{copying, Copies}
 use Rattle.order_encoder.proofs.Meanings.{copies-means}
 use Rattle.order_encoder.proofs.copies.copying.Goals as goal

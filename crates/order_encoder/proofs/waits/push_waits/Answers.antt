@@ -1,6 +1,6 @@
 use Rattle.plan_model.specs.declared.terms.Term.TheVariants.{Obj}
 use Rattle.order_encoder.specs.NamedOrders as of
-use Rattle.slot_encoding.proofs.NextSlot.{put_next}
+use Rattle.order_encoder.proofs.NextSlot.{put_next}
 use Rattle.order_encoder.proofs.waits.push_waits.Goals as goal
 
 pub loop-k-preserved : goal.loop-k-preserved

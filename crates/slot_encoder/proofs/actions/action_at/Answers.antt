@@ -1,6 +1,6 @@
 use Rattle.std.proofs.Common.{◌≡◌, ◌+◌, ◌-◌, length, ap, arith}
 use Rattle.slot_encoder.specs.Made as made
-use Rattle.slot_declarations.proofs.CheckedMethods.{checks-count}
+use Rattle.slot_encoding.proofs.slot_declarations.CheckedMethods.{checks-count}
 use Rattle.slot_encoder.proofs.ActionPlaces.{actions-length, at-method, at-check, at-source, placed_among}
 use Rattle.slot_encoder.proofs.actions.action_at.Goals as goal
 

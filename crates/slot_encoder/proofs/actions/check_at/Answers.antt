@@ -1,7 +1,7 @@
 use Rattle.std.proofs.Common.{ℕ, List, length, get_or, Some, ap, sym, subst, ◌∙◌, ◌<◌}
 use Rattle.plan_model.specs.declared.schemas.MethodPlan.{MethodPlan}
 use Rattle.slot_encoder.specs.Made as made
-use Rattle.slot_declarations.proofs.CheckedMethods.{check-within}
+use Rattle.slot_encoding.proofs.slot_declarations.CheckedMethods.{check-within}
 use Rattle.slot_encoder.proofs.ActionPlaces.{check-at, placed}
 use Rattle.slot_encoder.proofs.actions.check_at.Goals as goal
 

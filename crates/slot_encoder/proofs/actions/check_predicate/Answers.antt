@@ -3,7 +3,7 @@ use Rattle.std.proofs.lemmas.List.{length-map}
 use Rattle.plan_model.specs.task_networks.Spelling.{numbers}
 use Rattle.plan_model.proofs.task_networks.Numbers.{length-numbers}
 use Rattle.slot_encoding.specs.EncodedNames as names
-use Rattle.slot_declarations.specs.Pieces.{checks_before}
+use Rattle.slot_encoding.specs.slot_declarations.Pieces.{checks_before}
 use Rattle.slot_encoder.proofs.ActionPlaces.{map_numbers-at}
 use Rattle.slot_encoder.proofs.actions.check_predicate.Goals as goal
 

@@ -1,5 +1,5 @@
 use Rattle.std.proofs.Common.{◌+◌, refl}
-use Rattle.slot_encoding.proofs.NextSlot.{push_next}
+use Rattle.order_encoder.proofs.NextSlot.{push_next}
 use Rattle.plan_model.specs.declared.terms.Term.TheVariants as T
 use Rattle.slot_encoder.proofs.atoms.push_variables.Goals as goal
 

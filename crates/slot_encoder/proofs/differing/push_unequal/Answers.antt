@@ -1,4 +1,4 @@
-use Rattle.slot_encoding.proofs.NextSlot.{put_next}
+use Rattle.order_encoder.proofs.NextSlot.{put_next}
 use Rattle.slot_encoder.specs.Pieces.{unequal_to}
 use Rattle.slot_encoder.proofs.differing.push_unequal.Goals as goal
 

@@ -1,4 +1,4 @@
-use Rattle.slot_encoding.proofs.NextSlot.{put_next}
+use Rattle.order_encoder.proofs.NextSlot.{put_next}
 use Rattle.slot_encoder.specs.Made as made
 use Rattle.slot_encoder.proofs.goals.push_each_free.Goals as goal
 

@@ -1,5 +1,5 @@
 use Rattle.std.proofs.Common.{rules}
-use Rattle.slot_encoding.proofs.NextSlot.{push_next}
+use Rattle.order_encoder.proofs.NextSlot.{push_next}
 use Rattle.slot_encoder.specs.Made as made
 use Rattle.slot_encoder.proofs.initial.push_free.Goals as goal
 

@@ -1,5 +1,5 @@
 use Rattle.std.proofs.Common.{ap}
-use Rattle.slot_encoding.proofs.NextSlot.{push_next}
+use Rattle.order_encoder.proofs.NextSlot.{push_next}
 use Rattle.plan_model.specs.declared.formulas.Formula.TheVariants as F
 use Rattle.slot_encoder.specs.Made as made
 use Rattle.slot_encoder.proofs.methods.push_free.Goals as goal

@@ -1,5 +1,5 @@
 use Rattle.slot_encoder.specs.Made as made
-use Rattle.slot_declarations.proofs.Appended.{map_put}
+use Rattle.slot_encoding.proofs.slot_declarations.Appended.{map_put}
 use Rattle.slot_encoder.proofs.methods.push_guards.Goals as goal
 
 pub loop-one-preserved : goal.loop-one-preserved

@@ -1,5 +1,5 @@
 use Rattle.std.proofs.Common.{ap, ◌∙◌}
-use Rattle.slot_encoding.proofs.NextSlot.{push_next}
+use Rattle.order_encoder.proofs.NextSlot.{push_next}
 use Rattle.slot_encoder.specs.Made as made
 use Rattle.htn_base.specs.declared.name.Name.{Name}
 use Rattle.slot_encoding.specs.EncodedNames.{slot_type}

@@ -1,5 +1,5 @@
 use Rattle.std.proofs.Common.{ap}
-use Rattle.slot_encoding.proofs.NextSlot.{push_next}
+use Rattle.order_encoder.proofs.NextSlot.{push_next}
 use Rattle.plan_model.specs.declared.effects.Effect.TheVariants as E
 use Rattle.slot_encoder.specs.Made as made
 use Rattle.slot_encoder.proofs.splitting.push_taken.Goals as goal

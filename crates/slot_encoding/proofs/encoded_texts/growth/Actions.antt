@@ -29,7 +29,7 @@ use Rattle.plan_model.specs.declared.schemas.MethodPlan.{MethodPlan}
 use Rattle.plan_model.specs.declared.values.Compiled.{Compiled}
 use Rattle.plan_model.specs.task_networks.Spelling.{numbers}
 use Rattle.slot_encoding.specs.SourceParts.{name as of_word, moved, source_param, source_word}
-use Rattle.slot_encoding.specs.OrderFormulas.{pair_of}
+use Rattle.order_encoder.specs.OrderFormulas.{pair_of}
 use Rattle.slot_encoding.specs.EncodedNames.{first_slot, slot_param, order_numbers, guard_predicate, action_predicate, check_predicate}
 use Rattle.slot_encoding.specs.EncodedActions.{differ, test, is_free, source_condition, source_change, freeing, waiting, held_work, work_action, encoded_action, encoded_check, spare, front, depth, children_slots, held_task, child_atom, child_atoms, constraints, guards, tested, method_pre, splitting, method_eff, method_word, encoded_method}
 use Rattle.slot_encoding.specs.EncodedValue.{encoded_methods, encoded_checks, encoded_source, encoded_actions}

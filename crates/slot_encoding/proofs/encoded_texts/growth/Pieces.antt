@@ -18,7 +18,7 @@ use Rattle.plan_model.specs.declared.effects.Effect.TheVariants as E
 use Rattle.plan_model.specs.declared.values.Compiled.{Compiled}
 use Rattle.plan_model.specs.task_networks.Spelling.{numbers}
 use Rattle.slot_encoding.specs.SourceParts.{source_formula, source_effect}
-use Rattle.slot_encoding.specs.OrderFormulas.{pair_of, any_slot, wait_parts, clear_parts, copy_parts, free_parts}
+use Rattle.order_encoder.specs.OrderFormulas.{pair_of, any_slot, wait_parts, clear_parts, copy_parts, free_parts}
 use Rattle.slot_encoding.specs.EncodedNames.{first_slot, order_numbers}
 use Rattle.slot_encoding.specs.EncodedActions.{is_empty, is_empty_effect, source_condition, source_change}
 use Rattle.slot_encoding.specs.EncodedWords.{HasEncodedWords}

@@ -24,7 +24,7 @@ use Rattle.plan_model.specs.plan_meaning.Compilation.{once}
 use Rattle.plan_model.specs.task_networks.Spelling.{numbers}
 use Rattle.plan_model.proofs.task_networks.Numbers.{length-numbers, numbers_to}
 use Rattle.slot_encoding.specs.SourceParts.{name as of_word}
-use Rattle.slot_encoding.specs.OrderFormulas.{free_parts}
+use Rattle.order_encoder.specs.OrderFormulas.{free_parts}
 use Rattle.slot_encoding.specs.EncodedNames.{first_slot, guard_types, guard_predicate, top_predicate, free_predicate, encoded_objects, order_numbers}
 use Rattle.slot_encoding.specs.EncodedActions.{source_condition}
 use Rattle.slot_encoding.specs.EncodedValue.{same_atom, atom, first_atoms, AreGuardAtoms}

@@ -1,6 +1,6 @@
 use Rattle.std.proofs.Common.{ℕ, Contains, ◌<◌, ◌↔◌, ◌≡◌, ◌+◌, sym, subst, ◌∙◌, arith}
 use Rattle.std.proofs.lemmas.Bool.{false≢true}
-use Rattle.net_order.specs.Answers.{maximal}
+use Rattle.plan_model.specs.net_order.Answers.{maximal}
 use Rattle.plan_model.proofs.Numbers.{AreFound, found_more, found_less}
 use Rattle.bound_calc.specs.method_precs.Ordered.{IsCopier}
 use Rattle.bound_calc.proofs.method_precs.orders.copiers_of.Goals as goal

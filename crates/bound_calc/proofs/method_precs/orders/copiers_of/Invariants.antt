@@ -1,4 +1,4 @@
-use Rattle.net_order.specs.Answers.{maximal}
+use Rattle.plan_model.specs.net_order.Answers.{maximal}
 use Rattle.plan_model.proofs.Numbers.{AreFound}
 use Rattle.bound_calc.specs.method_precs.Ordered.{IsCopier}
 use Rattle.bound_calc.proofs.method_precs.orders.copiers_of.Given as goal

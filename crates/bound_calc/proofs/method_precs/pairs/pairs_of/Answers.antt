@@ -1,6 +1,6 @@
 use Rattle.std.proofs.Common.{◌+◌, List, sym, subst, ◌∙◌}
 use Rattle.plan_model.specs.declared.networks.Pair.{Pair}
-use Rattle.net_order.specs.Meaning.{AreBelow}
+use Rattle.plan_model.specs.net_order.Meaning.{AreBelow}
 use Rattle.bound_calc.proofs.method_precs.Fits.{below_checked}
 use Rattle.bound_calc.proofs.method_precs.pairs.pairs_of.Goals as goal
 

@@ -1,5 +1,5 @@
 use Rattle.std.proofs.Common.{length}
-use Rattle.net_order.proofs.Chains.{below_from_pairs}
+use Rattle.plan_model.proofs.net_order.Chains.{below_from_pairs}
 use Rattle.bound_calc.proofs.method_precs.plans.network_of.Goals as goal
 
 pub pairs_of-requires-clause-within : goal.pairs_of-requires-clause-within

@@ -4,7 +4,7 @@ use Rattle.plan_model.specs.declared.networks.Pair.{Pair}
 use Rattle.plan_model.specs.declared.schemas.MethodSchema.{MethodSchema}
 use Rattle.plan_model.specs.plan_meaning.Compilation.{children, pairs}
 use Rattle.plan_model.specs.Pairs.{Pairs}
-use Rattle.net_order.specs.Meaning.{AreBelow}
+use Rattle.plan_model.specs.net_order.Meaning.{AreBelow}
 use Rattle.bound_calc.specs.method_precs.Ordered.{IsOrdered}
 use Rattle.bound_calc.proofs.method_precs.Fits.{pairs_below, pairs_few, acyclic}
 use Rattle.bound_calc.proofs.method_precs.plans.plan_of.Goals as goal

@@ -1,8 +1,8 @@
 use Rattle.std.proofs.Common.{Bool, ◌≡◌, ◌+◌, ◌++◌, ◌∷◌, [], List, length, true, not, take, get_or, set, sym, subst, ap, ◌∙◌}
 use Rattle.plan_model.specs.declared.networks.Pair.{Pair}
-use Rattle.net_order.specs.Marks.{marked}
-use Rattle.net_order.specs.Closure.{IsAdded}
-use Rattle.net_order.proofs.Adding.{added_more}
+use Rattle.plan_model.specs.net_order.Marks.{marked}
+use Rattle.plan_model.specs.net_order.Closure.{IsAdded}
+use Rattle.plan_model.proofs.net_order.Adding.{added_more}
 use Rattle.bound_calc.proofs.method_precs.SinglePairs.{written, single_new, single_old}
 use Rattle.bound_calc.proofs.method_precs.single_pairs.single_pairs.Goals as goal
 use Rattle.bound_calc.proofs.method_precs.single_pairs.single_pairs.Goals.{then-is_new+in_ok-push, else-is_new}

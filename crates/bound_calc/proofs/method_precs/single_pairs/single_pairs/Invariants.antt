@@ -1,6 +1,6 @@
 use Rattle.std.proofs.Common.{◌≡◌, take}
 use Rattle.plan_model.specs.plan_meaning.Compilation.{once, same_pair}
-use Rattle.net_order.specs.Closure.{IsAdded}
+use Rattle.plan_model.specs.net_order.Closure.{IsAdded}
 use Rattle.bound_calc.proofs.method_precs.single_pairs.single_pairs.Given as goal
 
 abbrev pub invariant-loop-pair : goal.invariant-loop-pair

@@ -1,8 +1,8 @@
 use Rattle.std.proofs.Common.{get_or, true, ◌∙◌, arith, length-set, subst}
 use Rattle.std.proofs.lemmas.List.{take_all}
 use Rattle.plan_model.specs.declared.networks.Pair.{Pair}
-use Rattle.net_order.specs.Closure.{AreFirsts}
-use Rattle.net_order.proofs.Ends.{firsts_more}
+use Rattle.plan_model.specs.net_order.Closure.{AreFirsts}
+use Rattle.plan_model.proofs.net_order.Ends.{firsts_more}
 use Rattle.bound_calc.proofs.stratifier.last.firsts_of.Goals as goal
 
 abbrev none : Pair

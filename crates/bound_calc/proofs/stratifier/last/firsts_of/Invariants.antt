@@ -1,5 +1,5 @@
 use Rattle.std.proofs.Common.{◌≡◌, length, take}
-use Rattle.net_order.specs.Closure.{AreFirsts}
+use Rattle.plan_model.specs.net_order.Closure.{AreFirsts}
 use Rattle.bound_calc.proofs.stratifier.last.firsts_of.Given as goal
 
 abbrev pub invariant-loop-pair : goal.invariant-loop-pair

@@ -4,7 +4,7 @@ use Rattle.plan_model.proofs.task_networks.Lists.{not-in_empty}
 use Rattle.plan_model.specs.declared.networks.Pair.{Pair}
 use Rattle.plan_model.specs.declared.schemas.MethodPlan.{MethodPlan}
 use Rattle.plan_model.specs.Pairs.{pair, Pairs}
-use Rattle.net_order.specs.Meaning.{AreBelow}
+use Rattle.plan_model.specs.net_order.Meaning.{AreBelow}
 use Rattle.bound_calc.specs.stratifier.Conditions.{IsOrdered}
 use Rattle.public_calls.specs.Recursive.{IsRecursive}
 use Rattle.public_calls.proofs.methods.strata.recursive.Goals as goal

@@ -1,5 +1,5 @@
 use Rattle.std.proofs.Common.{length, ap, arith}
-use Rattle.slot_declarations.proofs.CheckedMethods.{checks-count}
+use Rattle.slot_encoding.proofs.slot_declarations.CheckedMethods.{checks-count}
 use Rattle.slot_encoder.proofs.ActionPlaces.{actions-length}
 use Rattle.slot_encoder.proofs.encoding.Encoding.count.Goals as goal
 

@@ -1,5 +1,5 @@
 use Rattle.std.proofs.Common.{ℕ, List, Option, sym, subst, ◌∙◌}
-use Rattle.net_order.specs.Answers.{maximal}
+use Rattle.plan_model.specs.net_order.Answers.{maximal}
 use Rattle.bound_calc.specs.method_precs.Ordered.{AreCopiers, IsOrdered}
 use Rattle.bound_calc.proofs.method_precs.OrderParts.{ordered_by}
 use Rattle.bound_calc.proofs.method_precs.orders.Ordered.new.Goals as goal

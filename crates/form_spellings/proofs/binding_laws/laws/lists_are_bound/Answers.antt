@@ -1,5 +1,0 @@
-use Rattle.form_spellings.proofs.binding_laws.Typed.{has_typed_faults, are_params_bound, are_objects_bound}
-use Rattle.form_spellings.proofs.binding_laws.laws.lists_are_bound.Goals as goal
-
-pub returns : goal.returns
-returns c = record { faults = has_typed_faults; params = are_params_bound; objects = are_objects_bound }

@@ -1,5 +1,0 @@
-use Rattle.form_spellings.proofs.binding_laws.Terms.{has_term_faults, is_term_bound}
-use Rattle.form_spellings.proofs.binding_laws.laws.terms_are_bound.Goals as goal
-
-pub returns : goal.returns
-returns c = record { faults = has_term_faults; bound = is_term_bound }

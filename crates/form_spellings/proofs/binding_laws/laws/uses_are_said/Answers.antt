@@ -1,5 +1,0 @@
-use Rattle.form_spellings.proofs.binding_laws.Said.{said_of_domains, said_of_problems}
-use Rattle.form_spellings.proofs.binding_laws.laws.uses_are_said.Goals as goal
-
-pub returns : goal.returns
-returns c = record { domains = said_of_domains; problems = said_of_problems }

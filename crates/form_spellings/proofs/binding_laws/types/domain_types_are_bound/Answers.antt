@@ -1,5 +1,0 @@
-use Rattle.form_spellings.proofs.binding_laws.BoundTypes.{has_bound_types}
-use Rattle.form_spellings.proofs.binding_laws.types.domain_types_are_bound.Goals as goal
-
-pub returns : goal.returns
-returns c = record { bound = has_bound_types }

@@ -1,7 +1,0 @@
-use Rattle.form_spellings.proofs.binding_laws.sound.Ordered.{is_ordered_both}
-use Rattle.form_spellings.proofs.binding_laws.sound.FewUnions.{has_few_unions}
-use Rattle.form_spellings.proofs.binding_laws.sound.Limits.{is_sound_both}
-use Rattle.form_spellings.proofs.binding_laws.values.bound_values_are_sound.Goals as goal
-
-pub returns : goal.returns
-returns c = record { ordered = is_ordered_both; sound = is_sound_both; unions = has_few_unions }

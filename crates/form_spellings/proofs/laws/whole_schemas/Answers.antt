@@ -1,5 +1,0 @@
-use Rattle.form_spellings.proofs.WholeParts.{whole_tasks, whole_methods, whole_actions, whole_tops, whole_predicates}
-use Rattle.form_spellings.proofs.laws.whole_schemas.Goals as goal
-
-pub returns : goal.returns
-returns c = record { tasks = whole_tasks; methods = whole_methods; actions = whole_actions; tops = whole_tops; predicates = whole_predicates }

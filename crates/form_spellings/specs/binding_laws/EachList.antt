@@ -1,3 +1,0 @@
--- What holds of each list of variables that a formula or an effect declares.
--- Source: this project's.
-pub use Rattle.form_spellings.specs.EachList.{listed_step, OfEachList, effect_listed_step, OfEachListOfEffect}

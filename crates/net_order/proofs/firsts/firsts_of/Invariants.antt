@@ -1,9 +1,0 @@
-use Rattle.std.proofs.Common.{◌≡◌, length, take}
-use Rattle.net_order.specs.Closure.{AreFirsts}
-use Rattle.net_order.proofs.firsts.firsts_of.Given as goal
-
-abbrev pub invariant-loop-pair : goal.invariant-loop-pair
-invariant-loop-pair l = record {
-  room : length l.firsts ≡ l.count;
-  firsts : AreFirsts (take l.pair-index l.pairs) l.firsts;
-}

@@ -1,0 +1,49 @@
+ghost use Rattle.std.specs.Prelude.{◌≡◌, ◌++◌, OnOk, OnErr};
+ghost use Rattle.plan_texts.specs.PlanText.{plan_text, ArePrintableSteps, SpellsPlan};
+ghost use Rattle.plan_text.specs.Printing.{args_text, line_text};
+ghost use Rattle.text_forms.specs.sheets.Sheets.{Wrote, AppendsPrefix};
+
+use htn_base::{Memory, Text};
+use plan_model::GroundAction;
+use text_forms::sheets::Sheet;
+
+// Puts arguments, each behind a space.
+fn put_args(args: &[Text], sheet: &mut Sheet<'_>)
+    ensures { Wrote (args_text args.now) sheet.old sheet.new }
+{
+    for arg in args {
+        sheet.put(b" ");
+        sheet.put(arg.as_slice());
+    }
+}
+
+// Puts a step on a line of its own.
+fn put_step(step: &GroundAction, sheet: &mut Sheet<'_>)
+    ensures { Wrote (line_text step.now) sheet.old sheet.new }
+{
+    sheet.put(b"(");
+    sheet.put(step.name.as_slice());
+    put_args(step.args.as_slice(), sheet);
+    sheet.put(b")\n");
+}
+
+// Puts steps, each on a line of its own.
+fn put_steps(steps: &[GroundAction], sheet: &mut Sheet<'_>)
+    ensures { Wrote (plan_text steps.now) sheet.old sheet.new }
+{
+    for step in steps {
+        put_step(step, sheet);
+    }
+}
+
+/// Appends a plan, each step as `(name arg arg)` on a line of its own. After `Memory` the text has a prefix of what was to be
+/// appended.
+pub fn print(plan: &[GroundAction], into: &mut Text) -> Result<(), Memory>
+    ensures printed { OnOk result (into.new ≡ into.old ++ plan_text plan.now) }
+    ensures prefix { OnErr result (AppendsPrefix (plan_text plan.now) into.old into.new) }
+    ensures spelled { ArePrintableSteps plan.now → SpellsPlan (plan_text plan.now) plan.now }
+{
+    let mut sheet = Sheet::new(into, u64::MAX);
+    put_steps(plan, &mut sheet);
+    sheet.complete()
+}

@@ -1,9 +1,0 @@
-use Rattle.std.proofs.Common.{length, ap, ◌∙◌}
-use Rattle.slot_declarations.specs.Pieces.{checked_from}
-use Rattle.slot_declarations.proofs.CheckedMethods.{checked_from-length}
-use Rattle.slot_declarations.proofs.basis.basis_of.Goals as goal
-
-pub numbering_of-requires : goal.numbering_of-requires
-numbering_of-requires c =
-    c.len.ensures.length ∙ ap length (c.in_ok-checks.ensures.methods ∙ ap (checked_from 0) c.as_slice.ensures.items)
-    ∙ checked_from-length 0 c.args.c.now.methods

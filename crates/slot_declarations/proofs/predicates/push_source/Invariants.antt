@@ -1,6 +1,0 @@
-use Rattle.std.proofs.Common.{◌≡◌, ◌++◌, map, take}
-use Rattle.slot_declarations.specs.Made as made
-use Rattle.slot_declarations.proofs.predicates.push_source.Given as goal
-
-abbrev pub invariant-loop-predicate : goal.invariant-loop-predicate
-invariant-loop-predicate l = l.into ≡ l.initial.into ++ map (made.predicate l.frame) (take l.predicate-index l.predicates)

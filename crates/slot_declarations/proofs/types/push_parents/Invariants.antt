@@ -1,6 +1,0 @@
-use Rattle.std.proofs.Common.{◌≡◌, ◌++◌, map, take}
-use Rattle.slot_declarations.specs.Pieces.{printed_parent}
-use Rattle.slot_declarations.proofs.types.push_parents.Given as goal
-
-abbrev pub invariant-loop-pair : goal.invariant-loop-pair
-invariant-loop-pair l = l.into ≡ l.initial.into ++ map (printed_parent) (take l.pair-index l.pairs)

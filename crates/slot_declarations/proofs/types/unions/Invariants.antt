@@ -1,6 +1,0 @@
-use Rattle.std.proofs.Common.{◌≡◌, map, take}
-use Rattle.slot_encoding.specs.SourceParts as parts
-use Rattle.slot_declarations.proofs.types.unions.Given as goal
-
-abbrev pub invariant-loop-types : goal.invariant-loop-types
-invariant-loop-types l = l.into ≡ map (map parts.retyped) (take l.types-index l.unions)

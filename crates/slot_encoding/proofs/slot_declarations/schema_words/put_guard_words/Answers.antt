@@ -1,0 +1,17 @@
+use Rattle.std.proofs.Common.{ℕ, List, [], ◌∷◌, get_or, ap, ◌∙◌}
+use Rattle.htn_base.specs.Words.{folded}
+use Rattle.slot_encoding.specs.EncodedNames.{guard_word}
+use Rattle.slot_encoding.proofs.slot_declarations.FoldedWords.{guard-folded}
+use Rattle.slot_encoding.proofs.slot_declarations.Gained.{gains-none, gains-of, gains-next_word, gains-all_words}
+use Rattle.slot_encoding.proofs.slot_declarations.schema_words.put_guard_words.Goals as goal
+
+pub loop-ty-init : goal.loop-ty-init
+loop-ty-init c = gains-none c.args.names.now
+
+pub loop-ty-preserved : goal.loop-ty-preserved
+loop-ty-preserved c =
+    gains-next_word (guard_word c.args.c.now [] 0) c.args.types.now c.loop-ty.ty-index 0 c.loop-ty-test.true c.loop-ty.invariant
+    (gains-of (ap (λ (w : List ℕ). folded w ∷ []) (c.as_slice.ensures.bytes ∙ c.in_ok-word.ensures) ∙ ap (λ (w : List ℕ). w ∷ []) (guard-folded c.args.c.now (get_or c.args.types.now c.loop-ty.ty-index 0))) c.in_ok-put.ensures)
+
+pub returns : goal.returns
+returns c = gains-all_words (guard_word c.args.c.now [] 0) c.args.types.now c.loop-ty.ty-index c.loop-ty-test.false c.loop-ty.invariant

@@ -1,0 +1,134 @@
+ghost use Rattle.std.specs.Prelude.{◌≡◌, ◌<◌, ◌+◌, ◌^◌, ◌∷◌, [], ◌++◌, length, IfOk, OnOk};
+ghost use Rattle.slot_encoding.specs.EncodedNames as names;
+ghost use Rattle.order_encoder.specs.OrderNames as orders;
+ghost use Rattle.slot_encoding.specs.slot_declarations.Frames.{HasSourceWords, IsBasis, AreChecks, AreNumbers};
+ghost use Rattle.slot_encoding.specs.slot_declarations.Pieces.{checked, if_checked};
+
+use crate::slot_declarations::guards::guard_types;
+use crate::slot_declarations::numbers::{Numbers, numbers_of, plus};
+use crate::slot_declarations::words::name_of;
+use htn_base::{List, Memory, NameTable, number};
+use order_encoder::OrderNames;
+use plan_model::{Compiled, MethodPlan};
+use std::alloc::Global;
+
+/// What is worked out once for all parts of the printed problem: the numbers of predicates, the names of order pairs, the
+/// types of guards, and the checks.
+#[derive(Drop)]
+pub struct Basis {
+    pub numbers: Numbers,
+    pub order: OrderNames,
+    pub guard_types: List<u32>,
+    pub checks: Checks,
+}
+
+/// The numbers of the methods that have checks, and for each method how many before it have one.
+#[derive(Drop)]
+pub struct Checks {
+    pub methods: List<u32>,
+    pub before: List<u32>,
+}
+
+/// That of a compiled problem with so many slots, whose printed words begin with those of the source; or want of memory.
+pub fn basis_of(
+    alloc: Global,
+    c: &Compiled,
+    printed: &NameTable,
+    slots: u32,
+) -> Result<Basis, Memory>
+    requires { HasSourceWords c.now.hddl.names printed.now }
+    ensures { IfOk result (IsBasis c.now printed.now slots) }
+{
+    let checks = checks_of(alloc, c.methods.as_slice())?;
+    match numbering_of(alloc, c, printed, slots, checks.methods.len()) {
+        Ok(numbering) => Ok(Basis {
+            numbers: numbering.numbers,
+            order: numbering.order,
+            guard_types: numbering.guard_types,
+            checks,
+        }),
+        Err(memory) => {
+            drop(checks);
+            Err(memory)
+        }
+    }
+}
+
+/// What is worked out once but the checks.
+#[derive(Drop)]
+struct Numbering {
+    numbers: Numbers,
+    order: OrderNames,
+    guard_types: List<u32>,
+}
+
+fn numbering_of(
+    alloc: Global,
+    c: &Compiled,
+    printed: &NameTable,
+    slots: u32,
+    checks: usize,
+) -> Result<Numbering, Memory>
+    requires { checks ≡ length (checked c.now.methods) }
+    ensures numbers { IfOk result (λ n. AreNumbers c.now n.numbers) }
+    ensures order { IfOk result (λ n.
+        orders.numbers n.order ≡ names.order_numbers c.now printed.now 0) }
+    ensures room { IfOk result (λ n. n.order.first_slot + slots < 2 ^ 32) }
+    ensures guard_types { IfOk result (λ n. n.guard_types ≡ names.guard_types c.now) }
+{
+    let numbers = numbers_of(c, checks)?;
+    let order = order_of(c, printed, numbers.before, slots)?;
+    Ok(Numbering {
+        numbers,
+        order,
+        guard_types: guard_types(alloc, c)?,
+    })
+}
+
+fn checks_of(alloc: Global, methods: &[MethodPlan]) -> Result<Checks, Memory>
+    ensures { IfOk result (AreChecks methods.now) }
+{
+    let mut checks = Checks {
+        methods: List::new(alloc),
+        before: List::new(alloc),
+    };
+    for plan in methods {
+        push_method(plan, &mut checks)?;
+    }
+    Ok(checks)
+}
+
+fn push_method(plan: &MethodPlan, checks: &mut Checks) -> Result<(), Memory>
+    ensures before { OnOk result
+        (checks.new.before ≡ checks.old.before ++ length checks.old.methods ∷ []) }
+    ensures methods { OnOk result
+        (checks.new.methods ≡ checks.old.methods ++ if_checked plan.now (length checks.old.before)) }
+{
+    let m = number(checks.before.len())?;
+    checks.before.put(number(checks.methods.len()))?;
+    if plan.checked {
+        checks.methods.push(m)
+    } else {
+        Ok(())
+    }
+}
+
+fn order_of(
+    c: &Compiled,
+    printed: &NameTable,
+    before: u32,
+    slots: u32,
+) -> Result<OrderNames, Memory>
+    requires { before ≡ names.before_predicate c.now }
+    ensures order { IfOk result (λ o. orders.numbers o ≡ names.order_numbers c.now printed.now 0) }
+    ensures room { IfOk result (λ o. o.first_slot + slots < 2 ^ 32) }
+{
+    let first_slot = number(c.hddl.objects.len())?;
+    plus(first_slot, slots)?;
+    Ok(OrderNames {
+        before,
+        slot_type: 1,
+        x: name_of(printed, b"htn_x"),
+        first_slot,
+    })
+}

@@ -1,0 +1,15 @@
+pub mod Spans
+pub mod Climbs
+pub mod Terms
+pub mod Types
+pub mod Lists
+pub mod Formulas
+pub mod Effects
+pub mod Chains
+pub mod Networks
+pub mod Parts
+pub mod Callables
+pub mod Sections
+pub mod Definitions
+pub mod OneWord
+pub mod Whole

@@ -1,5 +1,0 @@
-use Rattle.std.proofs.Common.{rules}
-use Rattle.text_values.proofs.plan_text.coming.next_step.Goals as goal
-
-pub returns-in-End-token_at : goal.returns-in-End-token_at
-returns-in-End-token_at c = search rules

@@ -1,9 +1,0 @@
-use Rattle.std.proofs.Common.{◌-◌, map, length}
-use Rattle.text_values.proofs.plan_text.Listed.{AreReadTo}
-use Rattle.text_values.proofs.plan_text.coming.step_from.Given as goal
-
-abbrev pub decreases-loop-word : goal.decreases-loop-word
-decreases-loop-word l = length l.text - l.at
-
-abbrev pub invariant-loop-word : goal.invariant-loop-word
-invariant-loop-word l = AreReadTo l.text l.inside l.at (map (λ word. word.now) l.words.items)

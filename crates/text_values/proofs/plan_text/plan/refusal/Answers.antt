@@ -1,5 +1,0 @@
-use Rattle.text_values.proofs.plan_text.LookedThrough.{spells-one}
-use Rattle.text_values.proofs.plan_text.plan.refusal.Goals as goal
-
-pub unreachable-requires : goal.unreachable-requires
-unreachable-requires c = spells-one c.args.text.now c.in-Ok.s c.in-Ok.ensures.text c.in-Ok.ensures.faultless c.in-None.ensures c.requires.none

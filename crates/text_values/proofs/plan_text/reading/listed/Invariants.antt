@@ -1,8 +1,0 @@
-use Rattle.std.proofs.Common.{◌≡◌, ◌++◌, length}
-use Rattle.text_values.proofs.plan_text.reading.listed.Given as goal
-
-abbrev pub decreases-loop-step : goal.decreases-loop-step
-decreases-loop-step l = length l.steps
-
-abbrev pub invariant-loop-step : goal.invariant-loop-step
-invariant-loop-step l = l.initial.steps ≡ l.list ++ l.steps

@@ -1,5 +1,0 @@
-use Rattle.std.proofs.Common.{◌≡◌, map, take}
-use Rattle.text_values.proofs.plan_text.step.Step.copy.Given as goal
-
-abbrev pub invariant-loop-arg : goal.invariant-loop-arg
-invariant-loop-arg l = l.args ≡ map (λ arg. arg.now) (take l.arg-index l.arg-items)

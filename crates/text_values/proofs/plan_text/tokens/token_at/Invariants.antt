@@ -1,9 +1,0 @@
-use Rattle.std.proofs.Common.{◌≤◌, ◌-◌, length}
-use Rattle.text_values.proofs.plan_text.Scanned.{GoesOn}
-use Rattle.text_values.proofs.plan_text.tokens.token_at.Given as goal
-
-abbrev pub decreases-loop-at : goal.decreases-loop-at
-decreases-loop-at l = length l.text - l.at
-
-abbrev pub invariant-loop-at : goal.invariant-loop-at
-invariant-loop-at l = record { later : l.from ≤ l.at; within : l.at ≤ length l.text; goes : GoesOn l.text l.from l.at }

@@ -1,6 +1,0 @@
-use Rattle.std.proofs.Common.{◌≡◌, take}
-use Rattle.htn_base.specs.Words.{folded}
-use Rattle.text_values.proofs.plan_text.words.in_lower_case.Given as goal
-
-abbrev pub invariant-loop-byte : goal.invariant-loop-byte
-invariant-loop-byte l = l.text ≡ folded (take l.byte-index l.word)
