@@ -7,19 +7,19 @@ top=$(cd "$(dirname "$0")/.." && pwd)
 copy=$(mktemp -d)
 trap 'rm -rf "$copy"' EXIT
 mkdir -p "$copy/crates/order_bench/src"
-for crate in htn_base plan_model net_order; do
+for crate in htn_base plan_model; do
     cp -r "$top/crates/$crate" "$copy/crates/"
     grep "^$crate:" "$top/crates.txt" >>"$copy/crates.txt"
 done
-echo "order_bench: htn_base plan_model net_order" >>"$copy/crates.txt"
+echo "order_bench: htn_base plan_model" >>"$copy/crates.txt"
 cp "$top/HANDLES" "$copy/"
 cat >"$copy/crates/order_bench/src/main.rt" <<'E'
 #![tactic(auto)]
 
 ghost use Rattle.std.specs.Prelude.{◌<◌, All};
 
-use net_order::{Order, OrderError};
 use plan_model::Pair;
+use plan_model::net_order::{Order, OrderError};
 use std::alloc::{AllocError, Global};
 use std::io;
 use std::rt::Clock;

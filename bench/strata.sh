@@ -13,11 +13,11 @@ copy=$(mktemp -d)
 trap 'rm -rf "$copy"' EXIT
 bench="$copy/crates/strata_bench"
 mkdir -p "$bench/src" "$bench/specs" "$bench/proofs"
-for crate in htn_base text_forms plan_model slot_machine plan_texts net_order bound_calc; do
+for crate in htn_base text_forms plan_model slot_machine plan_texts bound_calc; do
     cp -a "$top/crates/$crate" "$copy/crates/"
     grep "^$crate:" "$top/crates.txt" >>"$copy/crates.txt"
 done
-echo "strata_bench: htn_base plan_model slot_machine net_order bound_calc" >>"$copy/crates.txt"
+echo "strata_bench: htn_base plan_model slot_machine bound_calc" >>"$copy/crates.txt"
 cp "$top/HANDLES" "$copy/"
 # the test that a problem is such as both calls ask for serves here too
 rows="$top/crates/printed_rows"

@@ -27,8 +27,7 @@ top=$(cd "$(dirname "$0")/.." && pwd)
 work=$(mktemp -d)
 trap 'rm -rf "$work"' EXIT
 mkdir -p "$work/crates/values_bench/src"
-for crate in htn_base text_forms plan_model gd_reader hddl_reader net_order plan_texts name_binding hddl_bind form_spellings \
-    text_values; do
+for crate in htn_base text_forms plan_model gd_reader hddl_reader plan_texts name_binding hddl_bind plan_text text_values; do
     cp -a "$top/crates/$crate" "$work/crates/"
     grep "^$crate:" "$top/crates.txt" >>"$work/crates.txt"
 done
