@@ -15,7 +15,7 @@ use Rattle.plan_model.specs.plan_meaning.Truth.{State, ground, EachTrue, OneTrue
 use Rattle.order_encoder.specs.OrderFormulas.{OrderNumbers, pair_of, any_slot, slot_objects, wait_parts, clear_parts, copy_parts, free_parts}
 use Rattle.plan_model.proofs.plan_meaning.TruthEquations.{truth-Not, truth-Holds, truth-Forall}
 use Rattle.plan_model.proofs.plan_meaning.EffectEquations.{adds-Add, adds-Delete, adds-Forall, adds-When, deletes-Add, deletes-Delete, deletes-Forall, deletes-When}
-use Rattle.order_encoder.specs.OrderMeaning.{IsSlotObject, pair_atom, AreTheSlots, OrderMeaning}
+use Rattle.order_encoder.specs.OrderMeaning.{atom, IsSlotObject, pair_atom, AreTheSlots, OrderMeaning}
 use Rattle.plan_model.proofs.plan_meaning.EachPart.{each_map, one_map}
 
 at_front : (xs ys : List ℕ) (i : ℕ) → i < length xs → slice_index (xs ++ ys) i ≡ slice_index xs i

@@ -7,6 +7,10 @@ use Rattle.plan_model.specs.declared.terms.Term.TheVariants.{Var}
 use Rattle.plan_model.specs.plan_meaning.Truth.{State, EachTrue, OneTrue, IsTrueIn, Adds, Deletes}
 use Rattle.order_encoder.specs.OrderFormulas.{OrderNumbers, wait_parts, clear_parts, copy_parts, free_parts}
 
+-- an atom of one object
+abbrev pub atom : ℕ → ℕ → GroundAtom
+atom predicate object = record { predicate = predicate; args = object ∷ [] }
+
 -- Order pairs and free slots. An object of a slot, an atom of two slots, and an atom of one.
 module _ (n : OrderNumbers) (slots : ℕ) where
   abbrev pub IsSlotObject : ℕ → Type 0
@@ -34,4 +38,4 @@ module _ (n : OrderNumbers) (slots : ℕ) where
         ↔ ((o : ℕ) × IsSlotObject o × S (pair_atom (slice_index values i) o) × (g ≡ pair_atom (slice_index values j) o))
     pub copy_deletes : (i j : ℕ) (g : GroundAtom) → OneTrue (λ e v. Deletes InType S e v g) (copy_parts n slots (length values) style (Var i) (Var j)) values → ⊥
     -- every slot is free
-    pub free : (predicate : ℕ) → EachTrue (IsTrueIn InType S) (free_parts n slots (length values) style predicate) values ↔ ((o : ℕ) → IsSlotObject o → S (record { predicate = predicate; args = o ∷ [] }))
+    pub free : (predicate : ℕ) → EachTrue (IsTrueIn InType S) (free_parts n slots (length values) style predicate) values ↔ ((o : ℕ) → IsSlotObject o → S (atom predicate o))

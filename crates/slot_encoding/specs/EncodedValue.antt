@@ -14,14 +14,12 @@ use Rattle.plan_model.specs.plan_meaning.Network.{InTypeOf}
 use Rattle.plan_model.specs.plan_meaning.Compilation.{once, Keeps}
 use Rattle.slot_encoding.specs.SourceParts.{renamed}
 use Rattle.order_encoder.specs.OrderFormulas.{free_parts}
+pub use Rattle.order_encoder.specs.OrderMeaning.{atom}
 use Rattle.slot_encoding.specs.EncodedNames.{guard_types, guard_predicate, top_predicate, free_predicate, first_slot, encoded_types, encoded_objects, encoded_predicates, order_numbers}
 use Rattle.slot_encoding.specs.EncodedActions.{encoded_method, encoded_check, encoded_action, source_condition}
 
 abbrev pub same_atom : GroundAtom → GroundAtom → Bool
 same_atom g k = (g.predicate == k.predicate) && bytes_eq g.args k.args
-
-abbrev pub atom : ℕ → ℕ → GroundAtom
-atom predicate object = record { predicate = predicate; args = object ∷ [] }
 
 module _ (c : Compiled) (names : List (List ℕ)) (b : ℕ) (style : Style) where
   -- from number m on
