@@ -2,11 +2,11 @@
 //!
 //! Stands on the definitions of `name_binding` and `hddl_bind`, which speak of numbers, and on those of `hddl_reader` and
 //! `form_spellings`, which speak of words; it has no code but laws. The contracts used above, for a domain and a problem that were
-//! read (`specs/form_spellings/binding_laws/InOrder`): what is refused is the least fault, and what is bound has none (`whole_texts_are_judged`);
-//! the value that is bound is what the two stand for (`whole_texts_are_bound`), in the order in which the texts name it, so that it
-//! is the HDDL value of the texts (`what_is_bound_is_of_its_texts`); of two texts that spell it, it is sound, and its networks have
-//! no cycle (`read_values_are_sound`, over `bound_values_are_sound` and `tables_of_texts_are_few`); what is read of two PDDL texts
-//! and bound is their value, and sound (`read_pddl_is_its_value`).
+//! read (`specs/form_spellings/binding_laws/InOrder`): what is refused is the least fault, and what is bound has none
+//! (`whole_texts_are_judged`); the value that is bound is what the two stand for (`whole_texts_are_bound`), in the order in which
+//! the texts name it, so that it is the HDDL value of the texts (`what_is_bound_is_of_its_texts`); of two texts that spell it, it
+//! is sound, and its networks have no cycle (`read_values_are_sound`, over `bound_values_are_sound` and `tables_of_texts_are_few`);
+//! what is read of two PDDL texts and bound is their value, and sound (`read_pddl_is_its_value`).
 //!
 //! Below them, in reading order: the place of a number is that of its word (`numbers_are_words`); the faults of terms, written
 //! types and typed lists are the sentences on their words, and those of atoms, formulas and effects are the faults of what is
