@@ -1,5 +1,6 @@
-use Rattle.std.proofs.Common.{◌≡◌, ◌-◌, length, Some, slice_get, subst, sym, ◌∙◌}
+use Rattle.std.proofs.Common.{◌≡◌, ◌-◌, length, Some, slice_get, subst, sym, ◌∙◌, arith}
 use Rattle.std.proofs.lemmas.Bool.{false≢true}
+use Rattle.std.proofs.lemmas.Grind.{common_steps}
 use Rattle.plan_model.specs.net_order.Marks.{IsMarkedLast}
 use Rattle.plan_model.proofs.net_order.Ends.{not_last}
 use Rattle.plan_model.proofs.net_order.Lasts.{last_child, last_is}
@@ -15,3 +16,9 @@ returns c =
       last = λ i m. not_last before c.in_ok-child.child c.index-before-child.result c.requires.square l c.index-before-child.is (λ f. false≢true (c.if-has_all_but.ensures.all.1 f))
           (subst (IsMarkedLast before) (last_is before line c.requires.line c.in_ok-child.child e i m) m);
     }
+
+pub bounds-before-child : goal.bounds-before-child
+bounds-before-child c = grind (arith, common_steps)
+
+pub returns-then-has_all_but : goal.returns-then-has_all_but
+returns-then-has_all_but c = grind (arith, common_steps)

@@ -1,4 +1,5 @@
 use Rattle.std.proofs.Common.{◌+◌, ◌-◌, ap, sym, ◌∙◌, arith}
+use Rattle.std.proofs.lemmas.Grind.{common_steps}
 use Rattle.text_forms.specs.Closing.{close_after}
 use Rattle.text_forms.specs.sexpr_text.Places.{tokens_at}
 use Rattle.text_forms.specs.sexpr_text.Seen.{piece_seen, kind_seen}
@@ -50,3 +51,6 @@ loop-i-preserved c =
           ∙ goes_on (kind_seen p.kind) c.loop-i.place.depth base c.loop-i.i (λ d. close_after d (c.loop-i.i + 1) (tokens_at text p.span.end)) c.requires.inside c.loop-i.invariant.depth (omega arith)
           ∙ ap (λ d. close_after (d - base) (c.loop-i.i + 1) (tokens_at text p.span.end)) (sym behind);
     }
+
+pub returns : goal.returns
+returns c = grind (arith, common_steps)

@@ -1,4 +1,5 @@
 use Rattle.std.proofs.Common.{◌≡◌, ◌+◌, suc, ap, sym, ◌∙◌, arith}
+use Rattle.std.proofs.lemmas.Grind.{common_steps}
 use Rattle.text_forms.specs.Closing.{close_of}
 use Rattle.text_forms.specs.Tokens.{tokens}
 use Rattle.text_forms.specs.sexpr_text.Places.{tokens_at, deeper}
@@ -37,3 +38,6 @@ pub returns-in_default : goal.returns-in_default
 returns-in_default c =
     let p = c.in_ok-piece.piece in let rest = tokens_at c.args.source.now p.span.end in
     record { close = sym (close_of_place c.args.source.now c.args.i p.span.end c.in_ok-place.place (piece_seen p) c.in_ok-place.ensures.place c.in_ok-piece.ensures.tokens ∙ closes_none p.kind c.args.i rest c.in_default.not-Start) }
+
+pub overflow_add-i : goal.overflow_add-i
+overflow_add-i c = grind (arith, common_steps)
