@@ -1,10 +1,12 @@
 ghost use Rattle.std.specs.Prelude.{◌≡◌, map, IfOk};
+ghost use Rattle.plan_model.specs.declared.formulas.Formula.TheVariants.{Equal};
 ghost use Rattle.slot_encoding.specs.slot_declarations.Frames.{IsFrame};
+ghost use Rattle.slot_encoding.specs.slot_declarations.Made as declarations;
 ghost use Rattle.slot_encoder.specs.Made as made;
 
 use crate::terms::{moved, source_atom};
 use htn_base::{Boxed, List, Memory};
-use plan_model::Formula;
+use plan_model::{Formula, Param, Term};
 use slot_encoding::slot_declarations::{Frame, source_params};
 use std::alloc::Global;
 
@@ -20,25 +22,22 @@ pub(crate) fn source_formula(
     ensures { IfOk result (λ f. f ≡ made.formula frame.now front formula.now) }
 {
     match formula {
-        Formula::Holds(atom) => Ok(Formula::Holds(source_atom(alloc, frame, front, atom)?)),
-        Formula::Equal(left, right) => {
-            let left = moved(frame, front, *left)?;
-            Ok(Formula::Equal(left, moved(frame, front, *right)?))
-        }
-        Formula::Not(part) => Ok(Formula::Not(boxed(alloc, frame, front, part)?)),
-        Formula::And(parts) => Ok(Formula::And(listed(alloc, frame, front, parts)?)),
-        Formula::Or(parts) => Ok(Formula::Or(listed(alloc, frame, front, parts)?)),
+        Formula::Holds(atom) => source_atom(alloc, frame, front, atom).map(Formula::Holds),
+        Formula::Equal(left, right) => equal(frame, front, *left, *right),
+        Formula::Not(part) => boxed(alloc, frame, front, part).map(Formula::Not),
+        Formula::And(parts) => listed(alloc, frame, front, parts).map(Formula::And),
+        Formula::Or(parts) => listed(alloc, frame, front, parts).map(Formula::Or),
         Formula::Imply(premise, conclusion) => {
             let premise = boxed(alloc, frame, front, premise)?;
             Ok(Formula::Imply(premise, boxed(alloc, frame, front, conclusion)?))
         }
         Formula::Forall(params, body) => {
-            let params = source_params(alloc, frame, params.as_slice())?;
-            Ok(Formula::Forall(params, boxed(alloc, frame, front, body)?))
+            let (params, body) = bound(alloc, frame, front, params, body)?;
+            Ok(Formula::Forall(params, body))
         }
         Formula::Exists(params, body) => {
-            let params = source_params(alloc, frame, params.as_slice())?;
-            Ok(Formula::Exists(params, boxed(alloc, frame, front, body)?))
+            let (params, body) = bound(alloc, frame, front, params, body)?;
+            Ok(Formula::Exists(params, body))
         }
     }
 }
@@ -73,4 +72,28 @@ fn listed(
         moved.put(source_formula(alloc, frame, front, part))?;
     }
     Ok(moved)
+}
+
+fn equal(frame: &Frame<'_>, front: u32, left: Term, right: Term) -> Result<Formula, Memory>
+    ensures { IfOk result (λ f. f ≡ Equal (made.term frame.now front left) (made.term frame.now front right)) }
+{
+    let left = moved(frame, front, left)?;
+    Ok(Formula::Equal(left, moved(frame, front, right)?))
+}
+
+/// A quantifier's variables and its part.
+#[cycle(formulas)]
+fn bound(
+    alloc: Global,
+    frame: &Frame<'_>,
+    front: u32,
+    params: &List<Param>,
+    body: &Boxed<Formula>,
+) -> Result<(List<Param>, Boxed<Formula>), Memory>
+    requires { IsFrame frame.now }
+    ensures params { IfOk result (λ bound. bound.0 ≡ map (declarations.param frame.now) params.now) }
+    ensures body { IfOk result (λ bound. bound.1 ≡ made.formula frame.now front body.now) }
+{
+    let params = source_params(alloc, frame, params.as_slice())?;
+    Ok((params, boxed(alloc, frame, front, body)?))
 }
