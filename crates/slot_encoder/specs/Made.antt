@@ -160,6 +160,14 @@ module _ (f : Frame) where
   abbrev pub copied : ℕ → List ℕ → ℕ → List Effect
   copied depth slots i = order.copy_parts pairs b depth style (Var 0) (Var (slice_index slots i))
 
+  -- what it puts: its children into slots, the new ones no longer free, and their order
+  abbrev pub children_put : ℕ → MethodPlan → List Effect
+  children_put check plan =
+      new_slots_taken (actions.spare c words b style 0 plan)
+      ++ (map E.Add (child_atoms (actions.front c words b style 0 plan) check (actions.children_slots c words b style 0 plan) plan.schema.children)
+      ++ (added_pairs (actions.children_slots c words b style 0 plan) plan.schema.pairs
+      ++ flat_map (copied (actions.depth c words b style 0 plan) (actions.children_slots c words b style 0 plan)) plan.copiers))
+
   -- a method with children puts them into slots
   abbrev pub split : ℕ → MethodPlan → List Effect
   split check plan =

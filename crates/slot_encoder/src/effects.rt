@@ -1,13 +1,11 @@
 ghost use Rattle.std.specs.Prelude.{◌≡◌, map, IfOk};
-ghost use Rattle.plan_model.specs.declared.effects.Effect.TheVariants.{Forall, When};
 ghost use Rattle.slot_encoding.specs.slot_declarations.Frames.{IsFrame};
-ghost use Rattle.slot_encoding.specs.slot_declarations.Made as declarations;
 ghost use Rattle.slot_encoder.specs.Made as made;
 
 use crate::formulas::source_formula;
 use crate::terms::source_atom;
 use htn_base::{Boxed, List, Memory};
-use plan_model::{Effect, Formula, Param};
+use plan_model::Effect;
 use slot_encoding::slot_declarations::{Frame, source_params};
 use std::alloc::Global;
 
@@ -26,8 +24,15 @@ pub(crate) fn source_effect(
         Effect::Add(atom) => source_atom(alloc, frame, front, atom).map(Effect::Add),
         Effect::Delete(atom) => source_atom(alloc, frame, front, atom).map(Effect::Delete),
         Effect::And(parts) => listed(alloc, frame, front, parts).map(Effect::And),
-        Effect::Forall(params, body) => bound(alloc, frame, front, params, body),
-        Effect::When(condition, body) => conditional(alloc, frame, front, body, condition),
+        Effect::Forall(params, body) => {
+            let params = source_params(alloc, frame, params.as_slice())?;
+            Ok(Effect::Forall(params, boxed(alloc, frame, front, body)?))
+        }
+        Effect::When(condition, body) => {
+            let body = boxed(alloc, frame, front, body)?;
+            let condition = source_formula(alloc, frame, front, condition)?;
+            Ok(Effect::When(condition, body))
+        }
     }
 }
 
@@ -61,38 +66,4 @@ fn listed(
         moved.put(source_effect(alloc, frame, front, part))?;
     }
     Ok(moved)
-}
-
-/// What happens for all values of these variables.
-#[cycle(effects)]
-fn bound(
-    alloc: Global,
-    frame: &Frame<'_>,
-    front: u32,
-    params: &List<Param>,
-    body: &Boxed<Effect>,
-) -> Result<Effect, Memory>
-    requires { IsFrame frame.now }
-    ensures { IfOk result (λ e. e ≡ Forall (map (declarations.param frame.now) params.now)
-        (made.effect frame.now front body.now)) }
-{
-    let params = source_params(alloc, frame, params.as_slice())?;
-    Ok(Effect::Forall(params, boxed(alloc, frame, front, body)?))
-}
-
-/// What happens where a condition holds: the body.
-#[cycle(effects)]
-fn conditional(
-    alloc: Global,
-    frame: &Frame<'_>,
-    front: u32,
-    body: &Boxed<Effect>,
-    condition: &Formula,
-) -> Result<Effect, Memory>
-    requires { IsFrame frame.now }
-    ensures { IfOk result (λ e. e ≡ When (made.formula frame.now front condition.now)
-        (made.effect frame.now front body.now)) }
-{
-    let body = boxed(alloc, frame, front, body)?;
-    Ok(Effect::When(source_formula(alloc, frame, front, condition)?, body))
 }

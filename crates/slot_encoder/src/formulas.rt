@@ -1,5 +1,5 @@
-ghost use Rattle.std.specs.Prelude.{◌≡◌, map, IfOk};
-ghost use Rattle.plan_model.specs.declared.formulas.Formula.TheVariants.{Equal};
+ghost use Rattle.std.specs.Prelude.{◌≡◌, map, IfOk, IsOkAnd};
+ghost use Rattle.plan_model.specs.declared.formulas.Formula.TheVariants.{Equal, Imply};
 ghost use Rattle.slot_encoding.specs.slot_declarations.Frames.{IsFrame};
 ghost use Rattle.slot_encoding.specs.slot_declarations.Made as declarations;
 ghost use Rattle.slot_encoder.specs.Made as made;
@@ -27,10 +27,10 @@ pub(crate) fn source_formula(
         Formula::Not(part) => boxed(alloc, frame, front, part).map(Formula::Not),
         Formula::And(parts) => listed(alloc, frame, front, parts).map(Formula::And),
         Formula::Or(parts) => listed(alloc, frame, front, parts).map(Formula::Or),
-        Formula::Imply(premise, conclusion) => {
-            let premise = boxed(alloc, frame, front, premise)?;
-            Ok(Formula::Imply(premise, boxed(alloc, frame, front, conclusion)?))
-        }
+        Formula::Imply(premise, conclusion) => implied(
+            boxed(alloc, frame, front, premise),
+            boxed(alloc, frame, front, conclusion),
+        ),
         Formula::Forall(params, body) => {
             let (params, body) = bound(alloc, frame, front, params, body)?;
             Ok(Formula::Forall(params, body))
@@ -40,6 +40,17 @@ pub(crate) fn source_formula(
             Ok(Formula::Exists(params, body))
         }
     }
+}
+
+/// That the one part implies the other; or their want of memory.
+fn implied(
+    premise: Result<Boxed<Formula>, Memory>,
+    conclusion: Result<Boxed<Formula>, Memory>,
+) -> Result<Formula, Memory>
+    ensures { IfOk result (λ f. IsOkAnd premise (λ p. IsOkAnd conclusion (λ c. f ≡ Imply p c))) }
+{
+    let premise = premise?;
+    Ok(Formula::Imply(premise, conclusion?))
 }
 
 #[cycle(formulas)]
@@ -74,7 +85,12 @@ fn listed(
     Ok(moved)
 }
 
-fn equal(frame: &Frame<'_>, front: u32, left: Term, right: Term) -> Result<Formula, Memory>
+pub(crate) fn equal(
+    frame: &Frame<'_>,
+    front: u32,
+    left: Term,
+    right: Term,
+) -> Result<Formula, Memory>
     ensures { IfOk result (λ f. f ≡ Equal (made.term frame.now front left) (made.term frame.now front right)) }
 {
     let left = moved(frame, front, left)?;

@@ -8,6 +8,7 @@ ghost use Rattle.slot_encoder.specs.Made as made;
 
 use crate::atoms::{held, is_free};
 use crate::conditions::{push_condition, push_waits};
+use crate::formulas::equal;
 use crate::split_action::{Opening, SplitAction};
 use crate::splitting::method_effects;
 use crate::terms::moved;
@@ -162,7 +163,7 @@ fn conditions_before(
     ensures { IfOk result (λ fs. fs ≡ made.method_before frame.now plan.now) }
 {
     let mut into = List::new(alloc);
-    into.push(Formula::Holds(held_task(alloc, frame, plan, variables.front)?))?;
+    into.put(held_task(alloc, frame, plan, variables.front).map(Formula::Holds))?;
     push_waits(alloc, frame, variables.depth, &mut into)?;
     push_free(alloc, frame, variables.spare, &mut into)?;
     Ok(into)
@@ -252,8 +253,7 @@ fn constraint(
 ) -> Result<Formula, Memory>
     ensures { IfOk result (λ f. f ≡ made.constraint frame.now front one.now) }
 {
-    let left = moved(frame, front, one.left)?;
-    let equal = Formula::Equal(left, moved(frame, front, one.right)?);
+    let equal = equal(frame, front, one.left, one.right)?;
     if one.equal {
         Ok(equal)
     } else {

@@ -47,7 +47,7 @@ pub(crate) fn freeing(
 {
     let mut into = List::new(alloc);
     into.push(Effect::Delete(held))?;
-    into.push(Effect::Add(is_free(alloc, frame, 0)?))?;
+    into.put(is_free(alloc, frame, 0).map(Effect::Add))?;
     push_clears(alloc, frame, depth, &mut into)?;
     Ok(into)
 }
@@ -63,31 +63,40 @@ fn splitting(
     requires variables { AreVariables plan.now variables.now }
     ensures { IfOk result (λ es. es ≡ made.split frame.now check plan.now) }
 {
+    let mut into = List::new(alloc);
+    into.put(held_task(alloc, frame, plan, variables.front).map(Effect::Delete))?;
+    push_split(alloc, frame, check, plan, variables, &mut into)?;
+    Ok(into)
+}
+
+/// Puts at the end what `splitting` does behind that the task goes.
+fn push_split(
+    alloc: Global,
+    frame: &Frame<'_>,
+    check: u32,
+    plan: &MethodPlan,
+    variables: &Variables,
+    into: &mut List<Effect>,
+) -> Result<(), Memory>
+    requires frame { IsFrame frame.now }
+    requires variables { AreVariables plan.now variables.now }
+    ensures { OnOk result (into.new ≡ into.old ++ made.children_put frame.now check plan.now) }
+{
     let schema = &plan.schema;
     let front = variables.front;
     let slots = variables.slots.as_slice();
-    let mut into = List::new(alloc);
-    into.push(Effect::Delete(held_task(alloc, frame, plan, front)?))?;
-    push_taken(alloc, frame, variables.spare, &mut into)?;
-    push_children(
-        alloc,
-        frame,
-        check,
-        front,
-        slots,
-        schema.children.as_slice(),
-        &mut into,
-    )?;
-    push_pairs(alloc, frame, slots, schema.pairs.as_slice(), &mut into)?;
+    let children = schema.children.as_slice();
+    push_taken(alloc, frame, variables.spare, into)?;
+    push_children(alloc, frame, check, front, slots, children, into)?;
+    push_pairs(alloc, frame, slots, schema.pairs.as_slice(), into)?;
     push_copies(
         alloc,
         frame,
         variables.depth,
         slots,
         plan.copiers.as_slice(),
-        &mut into,
-    )?;
-    Ok(into)
+        into,
+    )
 }
 
 fn push_taken(

@@ -131,9 +131,10 @@ fn work_conditions(
     requires { IsFrame frame.now }
     ensures { IfOk result (λ fs. fs ≡ made.work_pre frame.now predicate count pre.now) }
 {
+    let depth = plus(count, 1)?;
     let mut into = List::new(alloc);
-    into.push(Formula::Holds(held_work(alloc, predicate, count)?))?;
-    push_waits(alloc, frame, plus(count, 1)?, &mut into)?;
+    into.put(held_work(alloc, predicate, count).map(Formula::Holds))?;
+    push_waits(alloc, frame, depth, &mut into)?;
     push_condition(alloc, frame, 1, pre, &mut into)?;
     Ok(into)
 }
