@@ -2,6 +2,7 @@ ghost use Rattle.std.specs.Prelude.{◌≡◌, map, IfOk};
 ghost use Rattle.slot_encoding.specs.slot_declarations.Frames.{IsFrame};
 ghost use Rattle.slot_encoder.specs.Made as made;
 
+use crate::both::both;
 use crate::formulas::source_formula;
 use crate::terms::source_atom;
 use htn_base::{Boxed, List, Memory};
@@ -25,12 +26,13 @@ pub(crate) fn source_effect(
         Effect::Delete(atom) => source_atom(alloc, frame, front, atom).map(Effect::Delete),
         Effect::And(parts) => listed(alloc, frame, front, parts).map(Effect::And),
         Effect::Forall(params, body) => {
-            let params = source_params(alloc, frame, params.as_slice())?;
-            Ok(Effect::Forall(params, boxed(alloc, frame, front, body)?))
+            let params = source_params(alloc, frame, params.as_slice());
+            let (params, body) = both(params, boxed(alloc, frame, front, body))?;
+            Ok(Effect::Forall(params, body))
         }
         Effect::When(condition, body) => {
-            let body = boxed(alloc, frame, front, body)?;
-            let condition = source_formula(alloc, frame, front, condition)?;
+            let condition = source_formula(alloc, frame, front, condition);
+            let (condition, body) = both(condition, boxed(alloc, frame, front, body))?;
             Ok(Effect::When(condition, body))
         }
     }

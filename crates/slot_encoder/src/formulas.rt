@@ -1,9 +1,10 @@
-ghost use Rattle.std.specs.Prelude.{◌≡◌, map, IfOk, IsOkAnd};
-ghost use Rattle.plan_model.specs.declared.formulas.Formula.TheVariants.{Equal, Imply};
+ghost use Rattle.std.specs.Prelude.{◌≡◌, map, IfOk};
+ghost use Rattle.plan_model.specs.declared.formulas.Formula.TheVariants.{Equal};
 ghost use Rattle.slot_encoding.specs.slot_declarations.Frames.{IsFrame};
 ghost use Rattle.slot_encoding.specs.slot_declarations.Made as declarations;
 ghost use Rattle.slot_encoder.specs.Made as made;
 
+use crate::both::both;
 use crate::terms::{moved, source_atom};
 use htn_base::{Boxed, List, Memory};
 use plan_model::{Formula, Param, Term};
@@ -27,10 +28,11 @@ pub(crate) fn source_formula(
         Formula::Not(part) => boxed(alloc, frame, front, part).map(Formula::Not),
         Formula::And(parts) => listed(alloc, frame, front, parts).map(Formula::And),
         Formula::Or(parts) => listed(alloc, frame, front, parts).map(Formula::Or),
-        Formula::Imply(premise, conclusion) => implied(
-            boxed(alloc, frame, front, premise),
-            boxed(alloc, frame, front, conclusion),
-        ),
+        Formula::Imply(premise, conclusion) => {
+            let premise = boxed(alloc, frame, front, premise);
+            let (premise, conclusion) = both(premise, boxed(alloc, frame, front, conclusion))?;
+            Ok(Formula::Imply(premise, conclusion))
+        }
         Formula::Forall(params, body) => {
             let (params, body) = bound(alloc, frame, front, params, body)?;
             Ok(Formula::Forall(params, body))
@@ -40,17 +42,6 @@ pub(crate) fn source_formula(
             Ok(Formula::Exists(params, body))
         }
     }
-}
-
-/// That the one part implies the other; or their want of memory.
-fn implied(
-    premise: Result<Boxed<Formula>, Memory>,
-    conclusion: Result<Boxed<Formula>, Memory>,
-) -> Result<Formula, Memory>
-    ensures { IfOk result (λ f. IsOkAnd premise (λ p. IsOkAnd conclusion (λ c. f ≡ Imply p c))) }
-{
-    let premise = premise?;
-    Ok(Formula::Imply(premise, conclusion?))
 }
 
 #[cycle(formulas)]
@@ -110,6 +101,6 @@ fn bound(
     ensures params { IfOk result (λ bound. bound.0 ≡ map (declarations.param frame.now) params.now) }
     ensures body { IfOk result (λ bound. bound.1 ≡ made.formula frame.now front body.now) }
 {
-    let params = source_params(alloc, frame, params.as_slice())?;
-    Ok((params, boxed(alloc, frame, front, body)?))
+    let params = source_params(alloc, frame, params.as_slice());
+    both(params, boxed(alloc, frame, front, body))
 }

@@ -10,6 +10,7 @@
 
 mod actions;
 mod atoms;
+mod both;
 mod conditions;
 mod differing;
 mod effects;

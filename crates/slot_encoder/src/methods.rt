@@ -224,7 +224,7 @@ fn push_free(
     ensures { OnOk result (into.new ≡ into.old ++ made.new_slots_free frame.now spare) }
 {
     for k in 0..spare {
-        into.push(Formula::Holds(is_free(alloc, frame, 1 + k)?))?;
+        into.put(is_free(alloc, frame, 1 + k).map(Formula::Holds))?;
     }
     Ok(())
 }

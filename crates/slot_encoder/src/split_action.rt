@@ -33,15 +33,19 @@ impl SplitAction {
     pub fn whole(self, alloc: Global) -> Result<ActionSchema, Memory>
         ensures { IfOk result (λ a. a ≡ whole self) }
     {
-        let mut parts = self.before;
-        match push_others(alloc, self.spare, self.behind.as_slice(), &mut parts) {
+        let mut action = self;
+        let behind = action.behind.as_slice();
+        match push_others(alloc, action.spare, behind, &mut action.before) {
             Ok(()) => Ok(ActionSchema {
-                name: self.name,
-                params: self.params,
-                pre: Formula::And(parts),
-                eff: self.eff,
+                name: action.name,
+                params: action.params,
+                pre: Formula::And(action.before),
+                eff: action.eff,
             }),
-            Err(memory) => Err(memory),
+            Err(memory) => {
+                drop(action);
+                Err(memory)
+            }
         }
     }
 }

@@ -109,7 +109,7 @@ fn push_taken(
     ensures { OnOk result (into.new ≡ into.old ++ made.new_slots_taken frame.now spare) }
 {
     for k in 0..spare {
-        into.push(Effect::Delete(is_free(alloc, frame, 1 + k)?))?;
+        into.put(is_free(alloc, frame, 1 + k).map(Effect::Delete))?;
     }
     Ok(())
 }
@@ -134,7 +134,7 @@ fn push_children(
             return Ok(());
         }
         let slot = slot_of(slots, i);
-        into.push(Effect::Add(placed(alloc, frame, check, front, slot, child)?))?;
+        into.put(placed(alloc, frame, check, front, slot, child).map(Effect::Add))?;
         i = plus(i, 1)?;
     }
     Ok(())
@@ -179,7 +179,7 @@ fn push_pairs(
     for pair in pairs {
         let first = slot_of(slots, pair.first);
         let then = slot_of(slots, pair.then);
-        into.push(Effect::Add(comes_before(alloc, frame, first, then)?))?;
+        into.put(comes_before(alloc, frame, first, then).map(Effect::Add))?;
     }
     Ok(())
 }

@@ -148,6 +148,7 @@ fn work_effects(
     requires { IsFrame frame.now }
     ensures { IfOk result (λ es. es ≡ made.work_eff frame.now predicate count) }
 {
+    let depth = plus(count, 1)?;
     let held = held_work(alloc, predicate, count)?;
-    freeing(alloc, frame, held, plus(count, 1)?)
+    freeing(alloc, frame, held, depth)
 }
