@@ -160,7 +160,7 @@ module _ (f : Frame) where
   abbrev pub copied : ℕ → List ℕ → ℕ → List Effect
   copied depth slots i = order.copy_parts pairs b depth style (Var 0) (Var (slice_index slots i))
 
-  -- what it puts: its children into slots, the new ones no longer free, and their order
+  -- what a method with children does besides that the task goes: the new slots are taken, the children are in theirs, in order
   abbrev pub children_put : ℕ → MethodPlan → List Effect
   children_put check plan =
       new_slots_taken (actions.spare c words b style 0 plan)

@@ -76,6 +76,7 @@ fn listed(
     Ok(moved)
 }
 
+/// That two terms of the source are equal, behind `front` further variables.
 pub(crate) fn equal(
     frame: &Frame<'_>,
     front: u32,

@@ -69,7 +69,7 @@ fn splitting(
     Ok(into)
 }
 
-/// Puts at the end what `splitting` does behind that the task goes.
+/// Puts at the end that the new slots are taken, that the children are in theirs, and their order.
 fn push_split(
     alloc: Global,
     frame: &Frame<'_>,
