@@ -119,3 +119,8 @@ part_at text x = (x.0, x.1, parts_at text x.2, parts_at text x.3)
 abbrev pub IsPut : {X : Type 0} → Result X Failure → Result (Unit {0}) Failure → Option X → Type 0
 IsPut (Ok x) result into = (result ≡ Ok tt) × (into ≡ Some x)
 IsPut (Err e) result into = result ≡ Err e
+
+-- a mark stands where nothing failed, or the failure is passed on
+abbrev pub IsMarked : Result (Unit {0}) Failure → Result (Unit {0}) Failure → Bool → Type 0
+IsMarked (Ok x) result mark = (result ≡ Ok tt) × (mark ≡ true)
+IsMarked (Err e) result mark = result ≡ Err e

@@ -9,9 +9,9 @@ ghost use Rattle.hddl_reader.specs.Sections.{no_sections, named_parts, section_r
 use crate::facts::{dropped_name, facts_of, goal_of, words_of};
 use crate::items::all_of;
 use crate::networks::declared_of;
-use crate::parts::{Parted, RawParts, parts_of, put};
+use crate::parts::{Parted, RawParts, listed_of, mark, parts_of, put};
 use crate::sections::{Definition, Language, RawSections, Section};
-use gd_reader::{Failure, ListKind, RawTerm, params_of, pass, word_due};
+use gd_reader::{Failure, ListKind, RawTerm, pass, word_due};
 use htn_base::NameTable;
 use std::alloc::Global;
 use text_forms::sexpr_text::Sexprs;
@@ -37,77 +37,6 @@ fn named_parts(
 
 // Each puts a section with what stands behind its keyword, from token `i` on.
 impl RawSections {
-    // Types, with their parents.
-    #[tactic(auto, using(gd_reader::proofs::Keeping::keeps_same), unfolding(crate::specs::Sections::section_read))]
-    fn read_types(
-        &mut self,
-        alloc: Global,
-        s: &Sexprs<'_>,
-        i: u32,
-        names: &mut NameTable,
-    ) -> Result<(), Failure>
-        ensures keeps { Keeps names.old names.new }
-        ensures adds { AddsOf s.now names.old names.new }
-        ensures gives { Gives (λ _. (self.new, names.new)) result
-            (section_read section.Types self.old names.old (parts_at s.now i)) }
-    {
-        let (types, _) = params_of(alloc, s, i, ListKind::Types, names)?;
-        put(Ok(types), &mut self.types)
-    }
-
-    // Constants.
-    #[tactic(auto, using(gd_reader::proofs::Keeping::keeps_same), unfolding(crate::specs::Sections::section_read))]
-    fn read_constants(
-        &mut self,
-        alloc: Global,
-        s: &Sexprs<'_>,
-        i: u32,
-        names: &mut NameTable,
-    ) -> Result<(), Failure>
-        ensures keeps { Keeps names.old names.new }
-        ensures adds { AddsOf s.now names.old names.new }
-        ensures gives { Gives (λ _. (self.new, names.new)) result
-            (section_read section.Constants self.old names.old (parts_at s.now i)) }
-    {
-        let (constants, _) = params_of(alloc, s, i, ListKind::Objects, names)?;
-        put(Ok(constants), &mut self.constants)
-    }
-
-    // Objects.
-    #[tactic(auto, using(gd_reader::proofs::Keeping::keeps_same), unfolding(crate::specs::Sections::section_read))]
-    fn read_objects(
-        &mut self,
-        alloc: Global,
-        s: &Sexprs<'_>,
-        i: u32,
-        names: &mut NameTable,
-    ) -> Result<(), Failure>
-        ensures keeps { Keeps names.old names.new }
-        ensures adds { AddsOf s.now names.old names.new }
-        ensures gives { Gives (λ _. (self.new, names.new)) result
-            (section_read section.Objects self.old names.old (parts_at s.now i)) }
-    {
-        let (objects, _) = params_of(alloc, s, i, ListKind::Objects, names)?;
-        put(Ok(objects), &mut self.objects)
-    }
-
-    // Predicates.
-    #[tactic(auto, using(gd_reader::proofs::Keeping::keeps_same), unfolding(crate::specs::Sections::section_read))]
-    fn read_predicates(
-        &mut self,
-        alloc: Global,
-        s: &Sexprs<'_>,
-        i: u32,
-        names: &mut NameTable,
-    ) -> Result<(), Failure>
-        ensures keeps { Keeps names.old names.new }
-        ensures adds { AddsOf s.now names.old names.new }
-        ensures gives { Gives (λ _. (self.new, names.new)) result
-            (section_read section.Predicates self.old names.old (parts_at s.now i)) }
-    {
-        put(all_of(alloc, s, i, names), &mut self.predicates)
-    }
-
     // One task more.
     #[tactic(auto, using(gd_reader::proofs::Keeping::keeps_same), unfolding(crate::specs::Sections::section_read))]
     fn read_task(
@@ -167,60 +96,6 @@ impl RawSections {
         Ok(())
     }
 
-    // The initial network.
-    #[tactic(auto, using(gd_reader::proofs::Keeping::keeps_same), unfolding(crate::specs::Sections::section_read))]
-    fn read_network(
-        &mut self,
-        alloc: Global,
-        s: &Sexprs<'_>,
-        i: u32,
-        names: &mut NameTable,
-    ) -> Result<(), Failure>
-        ensures keeps { Keeps names.old names.new }
-        ensures adds { AddsOf s.now names.old names.new }
-        ensures gives { Gives (λ _. (self.new, names.new)) result
-            (section_read section.Network self.old names.old (parts_at s.now i)) }
-    {
-        put(
-            parts_of(alloc, s, i, Parted::Network, names),
-            &mut self.network,
-        )
-    }
-
-    // The initial state.
-    #[tactic(auto, using(gd_reader::proofs::Keeping::keeps_same), unfolding(crate::specs::Sections::section_read))]
-    fn read_init(
-        &mut self,
-        alloc: Global,
-        s: &Sexprs<'_>,
-        i: u32,
-        names: &mut NameTable,
-    ) -> Result<(), Failure>
-        ensures keeps { Keeps names.old names.new }
-        ensures adds { AddsOf s.now names.old names.new }
-        ensures gives { Gives (λ _. (self.new, names.new)) result
-            (section_read section.Init self.old names.old (parts_at s.now i)) }
-    {
-        put(facts_of(alloc, s, i, names), &mut self.init)
-    }
-
-    // The goal.
-    #[tactic(auto, using(gd_reader::proofs::Keeping::keeps_same), unfolding(crate::specs::Sections::section_read))]
-    fn read_goal(
-        &mut self,
-        alloc: Global,
-        s: &Sexprs<'_>,
-        i: u32,
-        names: &mut NameTable,
-    ) -> Result<(), Failure>
-        ensures keeps { Keeps names.old names.new }
-        ensures adds { AddsOf s.now names.old names.new }
-        ensures gives { Gives (λ _. (self.new, names.new)) result
-            (section_read section.Goal self.old names.old (parts_at s.now i)) }
-    {
-        put(goal_of(alloc, s, i, names), &mut self.goal)
-    }
-
     // A section by its keyword.
     #[tactic(auto, using(gd_reader::proofs::Keeping::keeps_same), unfolding(crate::specs::Sections::section_read))]
     fn read_section(
@@ -237,36 +112,32 @@ impl RawSections {
             (section_read section self.old names.old (parts_at s.now i)) }
     {
         match section {
-            Section::Requirements => {
-                words_of(s, i)?;
-                self.requirements = true;
-                Ok(())
-            }
-            Section::Functions => {
-                pass(s, i)?;
-                self.functions = true;
-                Ok(())
-            }
-            Section::Domain => {
-                dropped_name(s, i)?;
-                self.domain = true;
-                Ok(())
-            }
-            Section::Metric => {
-                pass(s, i)?;
-                self.metric = true;
-                Ok(())
-            }
-            Section::Types => self.read_types(alloc, s, i, names),
-            Section::Constants => self.read_constants(alloc, s, i, names),
-            Section::Predicates => self.read_predicates(alloc, s, i, names),
+            Section::Requirements => mark(words_of(s, i), &mut self.requirements),
+            Section::Functions => mark(pass(s, i), &mut self.functions),
+            Section::Domain => mark(dropped_name(s, i), &mut self.domain),
+            Section::Metric => mark(pass(s, i), &mut self.metric),
+            Section::Types => put(
+                listed_of(alloc, s, i, ListKind::Types, names),
+                &mut self.types,
+            ),
+            Section::Constants => put(
+                listed_of(alloc, s, i, ListKind::Objects, names),
+                &mut self.constants,
+            ),
+            Section::Predicates => put(all_of(alloc, s, i, names), &mut self.predicates),
             Section::Task => self.read_task(alloc, s, i, names),
             Section::Method => self.read_method(alloc, s, i, names),
             Section::Action => self.read_action(alloc, s, i, names),
-            Section::Objects => self.read_objects(alloc, s, i, names),
-            Section::Network => self.read_network(alloc, s, i, names),
-            Section::Init => self.read_init(alloc, s, i, names),
-            Section::Goal => self.read_goal(alloc, s, i, names),
+            Section::Objects => put(
+                listed_of(alloc, s, i, ListKind::Objects, names),
+                &mut self.objects,
+            ),
+            Section::Network => put(
+                parts_of(alloc, s, i, Parted::Network, names),
+                &mut self.network,
+            ),
+            Section::Init => put(facts_of(alloc, s, i, names), &mut self.init),
+            Section::Goal => put(goal_of(alloc, s, i, names), &mut self.goal),
         }
     }
 

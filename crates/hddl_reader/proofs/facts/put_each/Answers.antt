@@ -69,3 +69,9 @@ returns-clause-gives c =
     facts_end c.loop-inside.into c.loop-inside.names
     (parts_at c.args.s.now c.loop-inside.p.token) (with_front c.args.into.now (facts c.args.names.now (parts_at c.args.s.now c.args.p.token)))
     c.loop-inside.invariant.rest (rw (is_none c.in_ok-inside.field-0 never) at gives)
+
+pub returns-in_err-head-clause-keeps : goal.returns-in_err-head-clause-keeps
+returns-in_err-head-clause-keeps c = keeps_then c.args.names.now c.loop-inside.names c.fact_of.new.names c.loop-inside.invariant.keeps c.in_err-head.ensures.keeps
+
+pub returns-in_err-push-clause-keeps : goal.returns-in_err-push-clause-keeps
+returns-in_err-push-clause-keeps c = keeps_then c.args.names.now c.loop-inside.names c.fact_of.new.names c.loop-inside.invariant.keeps c.in_ok-head.ensures.keeps

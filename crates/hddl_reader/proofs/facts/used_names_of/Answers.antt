@@ -72,3 +72,9 @@ returns-in-End-clause-behind c =
     let is = c.in-End.is in
     let behind = c.in_ok-at.ensures.behind in
     (rw is at behind) ∙ c.loop-at.invariant.behind
+
+pub returns-in_err-name-in-Word-clause-keeps : goal.returns-in_err-name-in-Word-clause-keeps
+returns-in_err-name-in-Word-clause-keeps c = keeps_then c.args.names.now c.loop-at.names c.marked_used_of.new.names c.loop-at.invariant.keeps c.in_err-name-in-Word.ensures.keeps
+
+pub returns-in_err-push-in-Word-clause-keeps : goal.returns-in_err-push-in-Word-clause-keeps
+returns-in_err-push-in-Word-clause-keeps c = keeps_then c.args.names.now c.loop-at.names c.marked_used_of.new.names c.loop-at.invariant.keeps c.in_ok-name-in-Word.ensures.keeps

@@ -35,3 +35,9 @@ returns-clause-gives g c =
     let gives = c.in_ok-place.ensures.gives in
     let never = c.in_default.not-Some in
     all_end opened_or_end opened_behind (item_met g.T.Item.headed) (all_of g.T.Item.headed) (all_of_is g.T.Item.headed) c.loop-items.items c.loop-items.names (parts_at c.args.s.now c.loop-items.i) (all_of g.T.Item.headed c.args.names.now (parts_at c.args.s.now c.args.i)) c.loop-items.invariant.rest (rw (is_none c.in_ok-place.field-0 never) at gives)
+
+pub returns-in_err-item-clause-keeps : goal.returns-in_err-item-clause-keeps
+returns-in_err-item-clause-keeps g c = keeps_then c.args.names.now c.loop-items.names c.one_of.new.names c.loop-items.invariant.keeps c.in_err-item.ensures.keeps
+
+pub returns-in_err-push-clause-keeps : goal.returns-in_err-push-clause-keeps
+returns-in_err-push-clause-keeps g c = keeps_then c.args.names.now c.loop-items.names c.one_of.new.names c.loop-items.invariant.keeps c.in_ok-item.ensures.keeps

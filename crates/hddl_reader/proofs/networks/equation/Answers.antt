@@ -1,0 +1,5 @@
+use Rattle.gd_reader.proofs.Keeping.{keeps_same}
+use Rattle.hddl_reader.proofs.networks.equation.Goals as goal
+
+pub returns-in_err-at-clause-keeps : goal.returns-in_err-at-clause-keeps
+returns-in_err-at-clause-keeps c = keeps_same c.args.names.now
