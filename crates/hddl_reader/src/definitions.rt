@@ -60,21 +60,23 @@ impl RawSections {
     }
 
     // The problem of this name.
-    fn into_problem(mut self, alloc: Global, name: Name) -> RawProblem
+    fn into_problem(self, alloc: Global, name: Name) -> RawProblem
         ensures { result ≡ problem_of (name, self) }
     {
-        let (params, net) = or_empty(self.network.take()).into_network(alloc);
-        let objects = params_or_none(alloc, self.objects.take());
-        let init = facts_or_none(alloc, self.init.take());
-        let goal = or_true(alloc, self.goal.take());
-        drop(self);
+        drop(self.types);
+        drop(self.constants);
+        drop(self.predicates);
+        drop(self.tasks);
+        drop(self.methods);
+        drop(self.actions);
+        let (params, net) = or_empty(self.network).into_network(alloc);
         RawProblem {
             name,
-            objects,
+            objects: params_or_none(alloc, self.objects),
             params,
             net,
-            init,
-            goal,
+            init: facts_or_none(alloc, self.init),
+            goal: or_true(alloc, self.goal),
         }
     }
 }

@@ -1,13 +1,11 @@
-ghost use Rattle.std.specs.Prelude.{◌≡◌, ◌<◌, ◌≤◌, if◌then◌else◌, [], IfOk, IfSome};
+ghost use Rattle.std.specs.Prelude.{◌≡◌, ◌<◌, ◌≤◌, if◌then◌else◌, IfOk, IfSome};
 ghost use Rattle.std.specs.Option.{option_map};
 ghost use Rattle.htn_base.specs.Words.{folded};
 ghost use Rattle.text_forms.specs.Placed.{parts_at};
 ghost use Rattle.text_forms.specs.Tokens.{token_count};
 ghost use Rattle.text_forms.specs.form_grammar.Words.{entry, is_keyword};
-ghost use Rattle.gd_reader.specs.declared.effects.RawEffect.TheVariants as raw_effect;
-ghost use Rattle.gd_reader.specs.declared.formulas.RawFormula.TheVariants as raw_formula;
 ghost use Rattle.gd_reader.specs.Added.{AddsOf};
-ghost use Rattle.gd_reader.specs.Answers.{Gives, GivesWith, end_due};
+ghost use Rattle.gd_reader.specs.Answers.{Gives, GivesWith};
 ghost use Rattle.gd_reader.specs.Terms.{Keeps};
 ghost use Rattle.gd_reader.specs.TypedLists.{listed};
 ghost use Rattle.hddl_reader.specs.Parts.{network_table, part_of, no_parts, stands, keyword_by, may_end, part_due, part_at, part_read, parts, IsPut, IsMarked};
@@ -136,16 +134,15 @@ pub(crate) fn put<T: Drop>(read: Result<T, Failure>, into: &mut Option<T>) -> Re
 }
 
 /// Marks what was read and isn't kept, or passes its failure on.
-pub(crate) fn mark(read: Result<(), Failure>, mark: &mut bool) -> Result<(), Failure>
-    ensures marked { IsMarked read result mark.new }
+pub(crate) fn mark(read: Result<(), Failure>, into: &mut bool) -> Result<(), Failure>
+    ensures marked { IsMarked read result into.new }
 {
     read?;
-    *mark = true;
+    *into = true;
     Ok(())
 }
 
 /// A typed list from token `i` up to its end.
-#[tactic(auto, using(gd_reader::proofs::Keeping::keeps_same))]
 pub(crate) fn listed_of(
     alloc: Global,
     s: &Sexprs<'_>,
@@ -159,24 +156,6 @@ pub(crate) fn listed_of(
 {
     let (params, _) = params_of(alloc, s, i, kind, names)?;
     Ok(params)
-}
-
-// The precondition of a task, which is empty.
-fn no_precondition(alloc: Global, s: &Sexprs<'_>, i: u32) -> Result<RawFormula, Failure>
-    ensures gives { Gives (λ _. tt) result (end_due (parts_at s.now i)) }
-    ensures empty { IfOk result (λ f. f ≡ raw_formula.And []) }
-{
-    end_due(s, i)?;
-    Ok(RawFormula::And(List::new(alloc)))
-}
-
-// The effect of a task, which is empty.
-fn no_effect(alloc: Global, s: &Sexprs<'_>, i: u32) -> Result<RawEffect, Failure>
-    ensures gives { Gives (λ _. tt) result (end_due (parts_at s.now i)) }
-    ensures empty { IfOk result (λ e. e ≡ raw_effect.And []) }
-{
-    end_due(s, i)?;
-    Ok(RawEffect::And(List::new(alloc)))
 }
 
 impl RawParts {
@@ -284,9 +263,15 @@ impl RawParts {
             ),
             Part::Task => put(applied_of(alloc, s, i, names), &mut self.task),
             Part::Precondition => put(inside_of(alloc, s, i, names), &mut self.pre),
-            Part::NoPrecondition => put(no_precondition(alloc, s, i), &mut self.pre),
+            Part::NoPrecondition => {
+                end_due(s, i)?;
+                put(Ok(RawFormula::And(List::new(alloc))), &mut self.pre)
+            }
             Part::Effect => put(effect_inside_of(alloc, s, i, names), &mut self.eff),
-            Part::NoEffect => put(no_effect(alloc, s, i), &mut self.eff),
+            Part::NoEffect => {
+                end_due(s, i)?;
+                put(Ok(RawEffect::And(List::new(alloc))), &mut self.eff)
+            }
             Part::Subtasks => put(some_of(alloc, s, place, i, names), &mut self.subs),
             Part::OrderedSubtasks => {
                 self.ordered = true;

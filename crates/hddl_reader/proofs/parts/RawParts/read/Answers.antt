@@ -1,6 +1,7 @@
+use Rattle.std.proofs.Common.{refl}
 use Rattle.std.proofs.lemmas.Result.{err_from_is_err_and}
 use Rattle.text_forms.specs.Placed.{parts_at}
-use Rattle.gd_reader.proofs.Keeping.{keeps_then}
+use Rattle.gd_reader.proofs.Keeping.{keeps_same, keeps_then}
 use Rattle.gd_reader.proofs.Steps.{is_none}
 use Rattle.hddl_reader.specs.Parts.{parts}
 use Rattle.hddl_reader.proofs.FoldSteps.{fold_end, fold_stuck, fold_stop, fold_next}
@@ -34,3 +35,10 @@ returns-clause-gives c =
     let gives = c.in_ok-part.ensures.gives in
     let never = c.in_default.not-Some in
     fold_end (part_next c.args.kind) due_behind (part_met c.args.kind) (parts_all c.args.kind) (parts_is c.args.kind) (c.loop-part.self, c.loop-part.names) (parts_at c.args.s.now c.loop-part.i) (parts c.args.kind c.args.self.now c.args.names.now (parts_at c.args.s.now c.args.i)) c.loop-part.invariant.rest (rw (is_none c.in_ok-part.field-0 never) at gives)
+
+pub returns-in_err-read_part-clause-keeps : goal.returns-in_err-read_part-clause-keeps
+returns-in_err-read_part-clause-keeps c =
+    keeps_then c.args.names.now c.loop-part.names c.read_part.new.names c.loop-part.invariant.keeps c.in_err-read_part.ensures.keeps
+
+pub loop-part-init : goal.loop-part-init
+loop-part-init c = record { adds = λ all h old. old; keeps = keeps_same c.args.names.now; rest = refl; }

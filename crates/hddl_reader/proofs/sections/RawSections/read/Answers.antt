@@ -1,6 +1,7 @@
+use Rattle.std.proofs.Common.{refl}
 use Rattle.std.proofs.lemmas.Result.{err_from_is_err_and}
 use Rattle.text_forms.specs.Placed.{parts_at}
-use Rattle.gd_reader.proofs.Keeping.{keeps_then}
+use Rattle.gd_reader.proofs.Keeping.{keeps_same, keeps_then}
 use Rattle.gd_reader.proofs.Steps.{is_none}
 use Rattle.hddl_reader.specs.Sections.{sections}
 use Rattle.hddl_reader.proofs.FoldSteps.{fold_end, fold_stuck, fold_stop, fold_next}
@@ -34,3 +35,10 @@ returns-clause-gives c =
     let gives = c.in_ok-inside.ensures.gives in
     let never = c.in_default.not-Some in
     fold_end (section_next c.args.language c.args.definition) section_behind (section_met c.args.language c.args.definition) (sections_all c.args.language c.args.definition) (sections_is c.args.language c.args.definition) (c.loop-inside.self, c.loop-inside.names) (parts_at c.args.s.now c.loop-inside.i) (sections c.args.language c.args.definition c.args.self.now c.args.names.now (parts_at c.args.s.now c.args.i)) c.loop-inside.invariant.rest (rw (is_none c.in_ok-inside.field-0 never) at gives)
+
+pub returns-in_err-read_inside-clause-keeps : goal.returns-in_err-read_inside-clause-keeps
+returns-in_err-read_inside-clause-keeps c =
+    keeps_then c.args.names.now c.loop-inside.names c.read_inside.new.names c.loop-inside.invariant.keeps c.in_err-read_inside.ensures.keeps
+
+pub loop-inside-init : goal.loop-inside-init
+loop-inside-init c = record { adds = λ all h old. old; keeps = keeps_same c.args.names.now; rest = refl; }
