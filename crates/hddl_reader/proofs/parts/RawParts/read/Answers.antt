@@ -41,4 +41,4 @@ returns-in_err-read_part-clause-keeps c =
     keeps_then c.args.names.now c.loop-part.names c.read_part.new.names c.loop-part.invariant.keeps c.in_err-read_part.ensures.keeps
 
 pub loop-part-init : goal.loop-part-init
-loop-part-init c = record { adds = λ all h old. old; keeps = keeps_same c.args.names.now; rest = refl; }
+loop-part-init c = record { adds = λ all h old. old; keeps = keeps_same c.args.names.now; rest = refl }

@@ -41,4 +41,4 @@ returns-in_err-read_inside-clause-keeps c =
     keeps_then c.args.names.now c.loop-inside.names c.read_inside.new.names c.loop-inside.invariant.keeps c.in_err-read_inside.ensures.keeps
 
 pub loop-inside-init : goal.loop-inside-init
-loop-inside-init c = record { adds = λ all h old. old; keeps = keeps_same c.args.names.now; rest = refl; }
+loop-inside-init c = record { adds = λ all h old. old; keeps = keeps_same c.args.names.now; rest = refl }
