@@ -12,9 +12,6 @@ returns-in_err-word_or_end-clause-gives g c = grind (arith, some_of_is)
 pub returns-in_err-item-in-Some-clause-gives : goal.returns-in_err-item-in-Some-clause-gives
 returns-in_err-item-in-Some-clause-gives g c = grind (arith, some_of_is)
 
-pub returns-in_err-push-in-Some-clause-gives : goal.returns-in_err-push-in-Some-clause-gives
-returns-in_err-push-in-Some-clause-gives g c = grind (arith, some_of_is)
-
 pub returns-in-None-clause-keeps : goal.returns-in-None-clause-keeps
 returns-in-None-clause-keeps g c = keeps_same c.args.names.now
 
