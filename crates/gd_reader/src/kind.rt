@@ -1,4 +1,5 @@
 ghost use Rattle.std.specs.Prelude.{◌≡◌, ◌<◌, ◌≤◌, ◌++◌, [], ◌∷◌, IfOk, OnOk};
+ghost use Rattle.htn_base.specs.Table.{with_word};
 ghost use Rattle.htn_base.specs.Words.{folded};
 ghost use Rattle.text_forms.specs.Placed.{parts_at};
 ghost use Rattle.text_forms.specs.Tokens.{token_count};
@@ -75,27 +76,47 @@ fn add(types: &mut List<RawTerm>, known: bool, ty: RawTerm) -> Result<(), Memory
     if known { Ok(()) } else { types.push(ty) }
 }
 
-// The names of a union behind its first one, up to its end. Repeats are dropped.
+// Puts names of a union to the others, up to its end. Those that were seen are dropped.
 #[tactic(auto, using(crate::proofs::Keeping::keeps_same, crate::proofs::Keeping::keeps_then))]
-fn more_names_of(
-    mut types: List<RawTerm>,
-    mut seen: NameTable,
+fn add_names_of(
+    types: &mut List<RawTerm>,
+    seen: &mut NameTable,
     s: &Sexprs<'_>,
     mut i: u32,
     names: &mut NameTable,
-) -> Result<List<RawTerm>, Failure>
+) -> Result<(), Failure>
     ensures keeps { Keeps names.old names.new }
     ensures adds { AddsOf s.now names.old names.new }
-    ensures gives { GivesWith names.new result
-        (with_front types (more_names (names.old, seen) (parts_at s.now i))) }
+    ensures gives { Gives (λ _. (types.new, names.new)) result
+        (with_front types.old (more_names (names.old, seen.old) (parts_at s.now i))) }
 {
     while let Some((at, word, behind)) = word_or_end(s, i)? {
         let ty = used_of(names, at, word)?;
-        let known = see(&mut seen, word)?;
-        add(&mut types, known, ty)?;
+        let known = see(seen, word)?;
+        add(types, known, ty)?;
         i = behind;
     }
-    Ok(types)
+    Ok(())
+}
+
+// Puts the names of a union behind its first one to the others.
+#[tactic(auto, using(crate::proofs::Keeping::keeps_same))]
+fn more_names_of(
+    alloc: Global,
+    first: &[u8],
+    types: &mut List<RawTerm>,
+    s: &Sexprs<'_>,
+    i: u32,
+    names: &mut NameTable,
+) -> Result<(), Failure>
+    ensures keeps { Keeps names.old names.new }
+    ensures adds { AddsOf s.now names.old names.new }
+    ensures gives { Gives (λ _. (types.new, names.new)) result
+        (with_front types.old (more_names (names.old, with_word [] (folded first.now)) (parts_at s.now i))) }
+{
+    let mut seen = NameTable::new(alloc);
+    see(&mut seen, first)?;
+    add_names_of(types, &mut seen, s, i, names)
 }
 
 // The names of a union, one or more.
@@ -112,10 +133,9 @@ fn some_names_of(
 {
     let (at, word, i) = word_due(s, i)?;
     let first = used_of(names, at, word)?;
-    let mut seen = NameTable::new(alloc);
-    see(&mut seen, word)?;
-    let types = alone(alloc, first)?;
-    more_names_of(types, seen, s, i, names)
+    let mut types = alone(alloc, first)?;
+    more_names_of(alloc, word, &mut types, s, i, names)?;
+    Ok(types)
 }
 
 // What stands in the parentheses of a union.
