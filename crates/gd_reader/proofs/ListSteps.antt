@@ -8,22 +8,20 @@ use Rattle.gd_reader.specs.declared.stop.Failure.TheVariants as failures
 use Rattle.gd_reader.specs.declared.stop.Stop.{Stop}
 use Rattle.gd_reader.specs.declared.term.RawTerm.{RawTerm}
 use Rattle.gd_reader.specs.declared.typed_lists.ListKind.{ListKind}
+use Rattle.gd_reader.specs.declared.typed_lists.Listing.{Listing}
 use Rattle.gd_reader.specs.declared.typed_lists.RawParam.{RawParam}
 use Rattle.gd_reader.specs.Answers.{◌>>=◌, Fails, word_or_end}
 use Rattle.gd_reader.specs.Ends.{end_of}
+use Rattle.gd_reader.specs.Listing.{Reading, settled, whole, with_next, with_kind, rest_of, continued}
 use Rattle.gd_reader.specs.Terms.{Names}
 use Rattle.gd_reader.specs.TypedLists.{State, Rest, params, behind, typed, param_due, type_due, union_due, kind_due, with_type, one_more, alone, typed_with, hyphen_due}
 use Rattle.gd_reader.specs.Words.{is_hyphen}
 use Rattle.gd_reader.proofs.Steps.{fails_bind}
 
-abbrev pub resume : ListKind → List RawParam → State → Placed → Result Rest Stop
-resume kind [] st p = params kind st p
-resume kind (x ∷ pending) st p = behind kind st p
-
-abbrev pub whole_list : List RawParam → List RawParam → Rest → List RawParam × Names
+abbrev whole_list : List RawParam → List RawParam → Rest → List RawParam × Names
 whole_list front pending r = (front ++ (map (with_type r.0.0) pending ++ r.0.1), r.1)
 
-abbrev pub total : List RawParam → List RawParam → Result Rest Stop → Result (List RawParam × Names) Stop
+abbrev total : List RawParam → List RawParam → Result Rest Stop → Result (List RawParam × Names) Stop
 total front pending a = a >>= (λ r. Ok (whole_list front pending r))
 
 pub word_is : (p : Placed) (v : ℕ × Word × Placed) → word_or_end p ≡ Ok (Some v) → p ≡ word v.0 v.1 v.2
@@ -61,21 +59,32 @@ unfolding behind typed
 by_hyphen kind st at w p b e = ap (λ (b : Bool). let a : Result Rest Stop = elim b [ true ↦ typed kind st p | false ↦ param_due kind st at w >>= (λ x. behind kind x.1 p >>= (λ r. Ok (one_more x.0 r))) ] in a) e
 
 -- one more word
-pub step_word : (kind : ListKind) (front pending : List RawParam) (st st' : State) (at : ℕ) (w : Word) (p : Placed) (x : RawParam) → hyphen_due pending w ≡ false → param_due kind st at w ≡ Ok (x, st')
-    → total front (pending ++ x ∷ []) (resume kind (pending ++ x ∷ []) st' p) ≡ total front pending (resume kind pending st (word at w p))
-unfolding params
-step_word kind front [] st st' at w p x h e =
-    sym (total_first front x (behind kind st' p)) ∙ sym (ap (λ a. total front [] (a >>= (λ x. behind kind x.1 p >>= (λ r. Ok (alone (one_more x.0 r)))))) e)
-step_word kind front (y ∷ pending) st st' at w p x h e =
-    sym (total_more front (y ∷ pending) x (behind kind st' p)) ∙ sym (ap (λ a. total front (y ∷ pending) (a >>= (λ x. behind kind x.1 p >>= (λ r. Ok (one_more x.0 r))))) e)
-    ∙ sym (ap (total front (y ∷ pending)) (by_hyphen kind st at w p false h))
+abbrev plus : List RawParam → List RawParam → RawParam × State → Reading
+plus front pending x = (record { seen = x.1.1; done = front; pending = pending ++ x.0 ∷ [] }, x.1.0)
 
-pub stop_word : (e : Failure) (kind : ListKind) (front pending : List RawParam) (st : State) (at : ℕ) (w : Word) (p : Placed) → hyphen_due pending w ≡ false → Fails e (param_due kind st at w) → Fails e (total front pending (resume kind pending st (word at w p)))
+next_first : (kind : ListKind) (front : List RawParam) (p : Placed) (a : Result (RawParam × State) Stop)
+    → total front [] (a >>= (λ x. behind kind x.1 p >>= (λ r. Ok (alone (one_more x.0 r))))) ≡ a >>= (λ x. Ok (plus front [] x)) >>= (λ m. continued kind m p)
+next_first kind front p (Err s) = refl
+next_first kind front p (Ok x) = total_first front x.0 (behind kind x.1 p)
+
+next_more : (kind : ListKind) (front : List RawParam) (y : RawParam) (pending : List RawParam) (p : Placed) (a : Result (RawParam × State) Stop)
+    → total front (y ∷ pending) (a >>= (λ x. behind kind x.1 p >>= (λ r. Ok (one_more x.0 r)))) ≡ a >>= (λ x. Ok (plus front (y ∷ pending) x)) >>= (λ m. continued kind m p)
+next_more kind front y pending p (Err s) = refl
+next_more kind front y pending p (Ok x) = total_more front (y ∷ pending) x.0 (behind kind x.1 p)
+
+word_step : (kind : ListKind) (seen : Names) (front pending : List RawParam) (names : Names) (at : ℕ) (w : Word) (p : Placed) → hyphen_due pending w ≡ false
+    → continued kind (record { seen = seen; done = front; pending = pending }, names) (word at w p) ≡ with_next kind (record { seen = seen; done = front; pending = pending }, names) at w >>= (λ m. continued kind m p)
 unfolding params
-stop_word e kind front [] st at w p h f = fails_bind e _ (λ r. Ok (whole_list front [] r)) (fails_bind e (param_due kind st at w) (λ x. behind kind x.1 p >>= (λ r. Ok (alone (one_more x.0 r)))) f)
-stop_word e kind front (y ∷ pending) st at w p h f =
-    subst (λ a. Fails e (total front (y ∷ pending) a)) (sym (by_hyphen kind st at w p false h))
-    (fails_bind e _ (λ r. Ok (whole_list front (y ∷ pending) r)) (fails_bind e (param_due kind st at w) (λ x. behind kind x.1 p >>= (λ r. Ok (one_more x.0 r))) f))
+word_step kind seen front [] names at w p h = next_first kind front p (param_due kind (names, seen) at w)
+word_step kind seen front (y ∷ pending) names at w p h = ap (total front (y ∷ pending)) (by_hyphen kind (names, seen) at w p false h) ∙ next_more kind front y pending p (param_due kind (names, seen) at w)
+
+pub step_word : (kind : ListKind) (l : Listing) (names : Names) (at : ℕ) (w : Word) (p : Placed) (m : Reading) → hyphen_due l.pending w ≡ false → with_next kind (l, names) at w ≡ Ok m
+    → continued kind m p ≡ continued kind (l, names) (word at w p)
+step_word kind l names at w p m h e = sym (word_step kind l.seen l.done l.pending names at w p h ∙ ap (λ a. a >>= (λ m. continued kind m p)) e)
+
+pub stop_word : (e : Failure) (kind : ListKind) (l : Listing) (names : Names) (at : ℕ) (w : Word) (p : Placed) → hyphen_due l.pending w ≡ false → Fails e (with_next kind (l, names) at w) → Fails e (continued kind (l, names) (word at w p))
+stop_word e kind l names at w p h f =
+    subst (Fails e) (sym (word_step kind l.seen l.done l.pending names at w p h)) (fails_bind e (with_next kind (l, names) at w) (λ m. continued kind m p) f)
 
 -- a type, and then the rest of the list
 bind_map : {A B C : Type 0} (a : Result A Stop) (f : A → B) (g : B → Result C Stop) → a >>= (λ x. Ok (f x)) >>= g ≡ a >>= (λ x. g (f x))
@@ -89,38 +98,49 @@ typed_is kind st (close at) = refl
 typed_is kind st (word at w p) = sym (bind_map (type_due kind st.0 at w) (λ t. ((t.0, p), t.1)) (λ k. params kind (k.1, st.1) k.0.1 >>= (λ r. Ok (typed_with k.0.0 r))))
 typed_is kind st (list at p q) = sym (bind_map (union_due kind st.0 at p) (λ t. ((t.0, q), t.1)) (λ k. params kind (k.1, st.1) k.0.1 >>= (λ r. Ok (typed_with k.0.0 r))))
 
-pub step_type : (kind : ListKind) (front pending : List RawParam) (st : State) (at : ℕ) (w : Word) (q : Placed) (ty : List RawTerm) (p : Placed) (names : Names) → hyphen_due pending w ≡ true → kind_due kind st.0 q ≡ Ok ((ty, p), names)
-    → total (front ++ map (with_type ty) pending) [] (resume kind [] (names, st.1) p) ≡ total front pending (resume kind pending st (word at w q))
-step_type kind front [] st at w q ty p names h e = cc
-step_type kind front (y ∷ pending) st at w q ty p names h e =
-    sym (total_type front (y ∷ pending) ty (params kind (names, st.1) p))
-    ∙ sym (ap (λ a. total front (y ∷ pending) (a >>= (λ k. params kind (k.1, st.1) k.0.1 >>= (λ r. Ok (typed_with k.0.0 r))))) e)
-    ∙ sym (ap (total front (y ∷ pending)) (by_hyphen kind st at w q true h ∙ typed_is kind st q))
+abbrev with_type_of : Listing → (List RawTerm × Placed) × Names → Reading × Placed
+with_type_of l k = ((settled l k.0.0, k.1), k.0.1)
 
-pub stop_type : (e : Failure) (kind : ListKind) (front pending : List RawParam) (st : State) (at : ℕ) (w : Word) (q : Placed) → hyphen_due pending w ≡ true → Fails e (kind_due kind st.0 q) → Fails e (total front pending (resume kind pending st (word at w q)))
-stop_type e kind front [] st at w q h f = cc
-stop_type e kind front (y ∷ pending) st at w q h f =
-    subst (λ a. Fails e (total front (y ∷ pending) a)) (sym (by_hyphen kind st at w q true h ∙ typed_is kind st q))
-    (fails_bind e _ (λ r. Ok (whole_list front (y ∷ pending) r)) (fails_bind e (kind_due kind st.0 q) (λ k. params kind (k.1, st.1) k.0.1 >>= (λ r. Ok (typed_with k.0.0 r))) f))
+type_more : (kind : ListKind) (seen : Names) (front : List RawParam) (y : RawParam) (pending : List RawParam) (a : Result ((List RawTerm × Placed) × Names) Stop)
+    → total front (y ∷ pending) (a >>= (λ k. params kind (k.1, seen) k.0.1 >>= (λ r. Ok (typed_with k.0.0 r))))
+    ≡ a >>= (λ k. Ok (with_type_of (record { seen = seen; done = front; pending = y ∷ pending }) k)) >>= (λ m. continued kind m.0 m.1)
+type_more kind seen front y pending (Err s) = refl
+type_more kind seen front y pending (Ok k) = total_type front (y ∷ pending) k.0.0 (params kind (k.1, seen) k.0.1)
+
+type_step : (kind : ListKind) (seen : Names) (front pending : List RawParam) (names : Names) (at : ℕ) (w : Word) (q : Placed) → hyphen_due pending w ≡ true
+    → continued kind (record { seen = seen; done = front; pending = pending }, names) (word at w q) ≡ with_kind kind (record { seen = seen; done = front; pending = pending }, names) q >>= (λ m. continued kind m.0 m.1)
+type_step kind seen front [] names at w q h = cc
+type_step kind seen front (y ∷ pending) names at w q h = ap (total front (y ∷ pending)) (by_hyphen kind (names, seen) at w q true h ∙ typed_is kind (names, seen) q) ∙ type_more kind seen front y pending (kind_due kind names q)
+
+pub step_type : (kind : ListKind) (l : Listing) (names : Names) (at : ℕ) (w : Word) (q : Placed) (m : Reading × Placed) → hyphen_due l.pending w ≡ true → with_kind kind (l, names) q ≡ Ok m
+    → continued kind m.0 m.1 ≡ continued kind (l, names) (word at w q)
+step_type kind l names at w q m h e = sym (type_step kind l.seen l.done l.pending names at w q h ∙ ap (λ a. a >>= (λ m. continued kind m.0 m.1)) e)
+
+pub stop_type : (e : Failure) (kind : ListKind) (l : Listing) (names : Names) (at : ℕ) (w : Word) (q : Placed) → hyphen_due l.pending w ≡ true → Fails e (with_kind kind (l, names) q) → Fails e (continued kind (l, names) (word at w q))
+stop_type e kind l names at w q h f =
+    subst (Fails e) (sym (type_step kind l.seen l.done l.pending names at w q h)) (fails_bind e (with_kind kind (l, names) q) (λ m. continued kind m.0 m.1) f)
 
 -- the end of the list, and what can't stand in it
-pub list_end : (kind : ListKind) (front pending : List RawParam) (st : State) (p : Placed) → word_or_end p ≡ Ok None → total front pending (resume kind pending st p) ≡ Ok (front ++ map (with_type []) pending, st.0)
+list_ends : (kind : ListKind) (front pending : List RawParam) (st : State) (p : Placed) → word_or_end p ≡ Ok None → total front pending (rest_of kind pending st p) ≡ Ok (front ++ map (with_type []) pending, st.0)
 unfolding params behind word_or_end
-list_end kind front pending st cut e = cc
-list_end kind front pending st (list at p q) e = cc
-list_end kind front pending st (word at w p) e = cc
-list_end kind front [] st (close at) e = refl
-list_end kind front (y ∷ pending) st (close at) e = ap (λ (l : List RawParam). Ok (front ++ l, st.0)) (append-nil (map (with_type []) (y ∷ pending)))
+list_ends kind front pending st cut e = cc
+list_ends kind front pending st (list at p q) e = cc
+list_ends kind front pending st (word at w p) e = cc
+list_ends kind front [] st (close at) e = refl
+list_ends kind front (y ∷ pending) st (close at) e = ap (λ (l : List RawParam). Ok (front ++ l, st.0)) (append-nil (map (with_type []) (y ∷ pending)))
 
-stuck_resume : (e : Failure) (kind : ListKind) (pending : List RawParam) (st : State) (p : Placed) → Fails e (word_or_end p) → Fails e (resume kind pending st p)
+pub list_end : (kind : ListKind) (l : Listing) (names : Names) (p : Placed) → word_or_end p ≡ Ok None → continued kind (l, names) p ≡ Ok (whole l, names)
+list_end kind l names p e = list_ends kind l.done l.pending (names, l.seen) p e
+
+stuck_rest : (e : Failure) (kind : ListKind) (pending : List RawParam) (st : State) (p : Placed) → Fails e (word_or_end p) → Fails e (rest_of kind pending st p)
 unfolding params behind word_or_end
-stuck_resume failures.Memory kind pending st p f = tt
-stuck_resume (failures.At s) kind pending st (close at) f = cc
-stuck_resume (failures.At s) kind pending st (word at w p) f = cc
-stuck_resume (failures.At s) kind [] st cut f = let is = f in cc
-stuck_resume (failures.At s) kind (y ∷ pending) st cut f = let is = f in cc
-stuck_resume (failures.At s) kind [] st (list at p q) f = let is = f in cc
-stuck_resume (failures.At s) kind (y ∷ pending) st (list at p q) f = let is = f in cc
+stuck_rest failures.Memory kind pending st p f = tt
+stuck_rest (failures.At s) kind pending st (close at) f = cc
+stuck_rest (failures.At s) kind pending st (word at w p) f = cc
+stuck_rest (failures.At s) kind [] st cut f = let is = f in cc
+stuck_rest (failures.At s) kind (y ∷ pending) st cut f = let is = f in cc
+stuck_rest (failures.At s) kind [] st (list at p q) f = let is = f in cc
+stuck_rest (failures.At s) kind (y ∷ pending) st (list at p q) f = let is = f in cc
 
-pub list_stuck : (e : Failure) (kind : ListKind) (front pending : List RawParam) (st : State) (p : Placed) → Fails e (word_or_end p) → Fails e (total front pending (resume kind pending st p))
-list_stuck e kind front pending st p f = fails_bind e (resume kind pending st p) (λ r. Ok (whole_list front pending r)) (stuck_resume e kind pending st p f)
+pub list_stuck : (e : Failure) (kind : ListKind) (r : Reading) (p : Placed) → Fails e (word_or_end p) → Fails e (continued kind r p)
+list_stuck e kind r p f = fails_bind e (rest_of kind r.0.pending (r.1, r.0.seen) p) (λ x. Ok (whole_list r.0.done r.0.pending x)) (stuck_rest e kind r.0.pending (r.1, r.0.seen) p f)

@@ -1,10 +1,12 @@
-ghost use Rattle.std.specs.Prelude.{◌≡◌, IfOk};
+ghost use Rattle.std.specs.Prelude.{◌≡◌, ◌<◌, ◌≤◌, IfOk, OnOk};
 ghost use Rattle.htn_base.specs.Words.{folded};
 ghost use Rattle.text_forms.specs.Placed.{parts_at};
+ghost use Rattle.text_forms.specs.Tokens.{token_count};
 ghost use Rattle.gd_reader.specs.Added.{AddsOf, AddsWord, bare};
 ghost use Rattle.gd_reader.specs.Answers.{Gives, GivesWith};
 ghost use Rattle.gd_reader.specs.Ends.{end_of};
 ghost use Rattle.gd_reader.specs.Terms.{Keeps};
+ghost use Rattle.gd_reader.specs.Listing.{empty, settled, whole, with_next, with_kind, continued};
 ghost use Rattle.gd_reader.specs.TypedLists.{declares, variable_by, param_due, listed, hyphen_due, is_parameters, are_variables};
 
 use crate::kind::kind_of;
@@ -14,8 +16,9 @@ use crate::raw_types::RawTypes;
 use crate::stop::{Failure, Stop};
 use crate::term::{name_of, see};
 use crate::words::{Sort, is_hyphen, rest, sort_of};
-use htn_base::{List, Name, NameTable, is_reserved_in_any_case};
+use htn_base::{List, Memory, Name, NameTable, is_reserved_in_any_case};
 use std::alloc::Global;
+use std::mem;
 use text_forms::sexpr_text::Sexprs;
 
 /// A declared word with its offset, and its types: none where none is written, more than one where they make
@@ -157,9 +160,103 @@ fn is_hyphen_due(pending: &List<RawParam>, word: &[u8]) -> bool
     }
 }
 
+// A list while it is read: its words so far, those of them whose type is due, and what its variables are called.
+#[derive(Drop)]
+struct Listing {
+    seen: NameTable,
+    done: RawParams,
+    pending: List<RawParam>,
+}
+
+impl Listing {
+    fn new(alloc: Global) -> Listing
+        ensures { result ≡ empty }
+    {
+        Listing {
+            seen: NameTable::new(alloc),
+            done: RawParams::new(alloc),
+            pending: List::new(alloc),
+        }
+    }
+
+    // Puts a word to those whose type is due.
+    fn add_word(
+        &mut self,
+        kind: ListKind,
+        names: &mut NameTable,
+        at: u32,
+        word: &[u8],
+    ) -> Result<(), Failure>
+        ensures keeps { Keeps names.old names.new }
+        ensures adds { AddsWord (bare (folded word.now)) names.old names.new }
+        ensures gives { Gives (λ _. (self.new, names.new)) result
+            (with_next kind (self.old, names.old) at (folded word.now)) }
+    {
+        let param = param_of(kind, names, &mut self.seen, at, word)?;
+        Ok(self.pending.push(param)?)
+    }
+
+    // Gives the type at token `i` to the words whose type is due. Returns the number of the token behind it.
+    fn add_type(
+        &mut self,
+        alloc: Global,
+        s: &Sexprs<'_>,
+        i: u32,
+        kind: ListKind,
+        names: &mut NameTable,
+    ) -> Result<u32, Failure>
+        ensures keeps { Keeps names.old names.new }
+        ensures adds { AddsOf s.now names.old names.new }
+        ensures gives { Gives (λ j. ((self.new, names.new), parts_at s.now j)) result
+            (with_kind kind (self.old, names.old) (parts_at s.now i)) }
+        ensures later { IfOk result (λ j. (i < j) × (j ≤ token_count s.now)) }
+        ensures closed { IfOk result (λ j. end_of (parts_at s.now j) ≡ end_of (parts_at s.now i)) }
+    {
+        let (ty, behind) = kind_of(alloc, s, i, kind, names)?;
+        self.settle(alloc, RawTypes::new(alloc, ty)?)?;
+        Ok(behind)
+    }
+
+    // Puts the words whose type is due behind the others, with these types.
+    fn settle(&mut self, alloc: Global, types: RawTypes) -> Result<(), Memory>
+        ensures { OnOk result (self.new ≡ settled self.old types) }
+    {
+        let done = mem::replace(&mut self.done, RawParams::new(alloc));
+        self.done = done.with_words(&self.pending, types)?;
+        self.pending = List::new(alloc);
+        Ok(())
+    }
+
+    // Puts what stands in the list from token `i` on to it. Returns the number of the token that closes it.
+    fn read(
+        &mut self,
+        alloc: Global,
+        s: &Sexprs<'_>,
+        i: u32,
+        kind: ListKind,
+        names: &mut NameTable,
+    ) -> Result<u32, Failure>
+        ensures keeps { Keeps names.old names.new }
+        ensures adds { AddsOf s.now names.old names.new }
+        ensures gives { Gives (λ _. (whole self.new, names.new)) result
+            (continued kind (self.old, names.old) (parts_at s.now i)) }
+        ensures closed { IfOk result (λ j. parts_at s.now j ≡ end_of (parts_at s.now i)) }
+    {
+        let mut p = s.position(i);
+        while let WordOrEnd::Word(at, word, next) = word_or_end_from(s, p)? {
+            if is_hyphen_due(&self.pending, word) {
+                p = s.position(self.add_type(alloc, s, next.token, kind, names)?);
+            } else {
+                self.add_word(kind, names, at, word)?;
+                p = next;
+            }
+        }
+        Ok(p.token)
+    }
+}
+
 /// A typed list from token `i` up to its end, and the number of the token that closes it. Its words are read by positions,
 /// and the types by the numbers of their tokens.
-#[tactic(auto, using(crate::proofs::Keeping::keeps_same, crate::proofs::Keeping::keeps_then))]
 pub fn params_of(
     alloc: Global,
     s: &Sexprs<'_>,
@@ -173,24 +270,8 @@ pub fn params_of(
         (listed kind names.old (parts_at s.now i)) }
     ensures closed { IfOk result (λ x. parts_at s.now x.1 ≡ end_of (parts_at s.now i)) }
 {
-    let mut seen = NameTable::new(alloc);
-    let mut done = RawParams::new(alloc);
-    let mut pending = List::new(alloc);
-    let mut p = s.position(i);
-    while let WordOrEnd::Word(at, word, next) = word_or_end_from(s, p)? {
-        if is_hyphen_due(&pending, word) {
-            let (ty, behind) = kind_of(alloc, s, next.token, kind, names)?;
-            let types = RawTypes::new(alloc, ty)?;
-            done = done.with_words(&pending, types)?;
-            pending = List::new(alloc);
-            p = s.position(behind);
-        } else {
-            let param = param_of(kind, names, &mut seen, at, word)?;
-            pending.push(param)?;
-            p = next;
-        }
-    }
-    drop(seen);
-    let done = done.with_words(&pending, RawTypes::none())?;
-    Ok((done, p.token))
+    let mut listing = Listing::new(alloc);
+    let end = listing.read(alloc, s, i, kind, names)?;
+    listing.settle(alloc, RawTypes::none())?;
+    Ok((listing.done, end))
 }
