@@ -4,10 +4,10 @@ use Rattle.htn_base.specs.Words.{folded}
 use Rattle.text_forms.specs.Placed.{parts_at}
 use Rattle.gd_reader.specs.Added.{Has}
 use Rattle.gd_reader.specs.Answers.{list_or_end}
-use Rattle.gd_reader.specs.Formulas.{formulas}
+use Rattle.gd_reader.specs.Formulas.{formulas, headed}
 use Rattle.gd_reader.proofs.Adding.{bare_plain}
-use Rattle.gd_reader.proofs.Keeping.{keeps_then}
-use Rattle.gd_reader.proofs.Steps.{pair_behind, inside_met, formulas_is, all_end, all_stuck, all_stop, all_next, is_none}
+use Rattle.gd_reader.proofs.Keeping.{keeps_then, keeps_same}
+use Rattle.gd_reader.proofs.Steps.{pair_behind, inside_met, formulas_is, all_end, all_stuck, all_stop, all_next, is_none, bound_is, inside_is, one_is, two_is}
 use Rattle.gd_reader.proofs.formulas.+formula.Goals as goal
 
 pub formulas_of-returns-in_err-inside-clause-gives : goal.formulas_of-returns-in_err-inside-clause-gives
@@ -51,3 +51,379 @@ pub headed_of-returns-in_ok-atom-in-Plain-clause-adds : goal.headed_of-returns-i
 headed_of-returns-in_ok-atom-in-Plain-clause-adds t c all here =
     let plain = c.in-Plain.is in
     c.in_ok-atom-in-Plain.ensures.adds all (subst (Has all) (bare_plain (folded c.args.word.now) (sym c.head_of.ensures.head ∙ plain)) here)
+
+pub bound_of-returns-in_err-inside-clause-keeps : goal.bound_of-returns-in_err-inside-clause-keeps
+bound_of-returns-in_err-inside-clause-keeps t c = grind (arith, keeps_same, keeps_then, bound_is)
+
+pub bound_of-returns-in_err-inside-clause-adds : goal.bound_of-returns-in_err-inside-clause-adds
+bound_of-returns-in_err-inside-clause-adds t c = grind (arith, keeps_same, keeps_then, bound_is)
+
+pub bound_of-returns-in_err-inside-clause-gives : goal.bound_of-returns-in_err-inside-clause-gives
+bound_of-returns-in_err-inside-clause-gives t c = grind (arith, keeps_same, keeps_then, bound_is)
+
+pub bound_of-returns-in_err-vars-clause-keeps : goal.bound_of-returns-in_err-vars-clause-keeps
+bound_of-returns-in_err-vars-clause-keeps t c = grind (arith, keeps_same, keeps_then, bound_is)
+
+pub bound_of-returns-in_err-vars-clause-adds : goal.bound_of-returns-in_err-vars-clause-adds
+bound_of-returns-in_err-vars-clause-adds t c = grind (arith, keeps_same, keeps_then, bound_is)
+
+pub bound_of-returns-in_err-vars-clause-gives : goal.bound_of-returns-in_err-vars-clause-gives
+bound_of-returns-in_err-vars-clause-gives t c = grind (arith, keeps_same, keeps_then, bound_is)
+
+pub bound_of-returns-in_err-part-clause-keeps : goal.bound_of-returns-in_err-part-clause-keeps
+bound_of-returns-in_err-part-clause-keeps t c = grind (arith, keeps_same, keeps_then, bound_is)
+
+pub bound_of-returns-in_err-part-clause-adds : goal.bound_of-returns-in_err-part-clause-adds
+bound_of-returns-in_err-part-clause-adds t c = grind (arith, keeps_same, keeps_then, bound_is)
+
+pub bound_of-returns-in_err-part-clause-gives : goal.bound_of-returns-in_err-part-clause-gives
+bound_of-returns-in_err-part-clause-gives t c = grind (arith, keeps_same, keeps_then, bound_is)
+
+pub bound_of-returns-clause-keeps : goal.bound_of-returns-clause-keeps
+bound_of-returns-clause-keeps t c = grind (arith, keeps_same, keeps_then, bound_is)
+
+pub bound_of-returns-clause-adds : goal.bound_of-returns-clause-adds
+bound_of-returns-clause-adds t c = grind (arith, keeps_same, keeps_then, bound_is)
+
+pub bound_of-returns-clause-gives : goal.bound_of-returns-clause-gives
+bound_of-returns-clause-gives t c = grind (arith, keeps_same, keeps_then, bound_is)
+
+pub formulas_of-returns-in_err-inside-clause-keeps : goal.formulas_of-returns-in_err-inside-clause-keeps
+formulas_of-returns-in_err-inside-clause-keeps t c = grind (arith, keeps_same, keeps_then)
+
+pub formulas_of-returns-in_err-inside-clause-adds : goal.formulas_of-returns-in_err-inside-clause-adds
+formulas_of-returns-in_err-inside-clause-adds t c = grind (arith, keeps_same, keeps_then)
+
+pub formulas_of-returns-in_err-part-clause-keeps : goal.formulas_of-returns-in_err-part-clause-keeps
+formulas_of-returns-in_err-part-clause-keeps t c = grind (arith, keeps_same, keeps_then)
+
+pub formulas_of-returns-in_err-part-clause-adds : goal.formulas_of-returns-in_err-part-clause-adds
+formulas_of-returns-in_err-part-clause-adds t c = grind (arith, keeps_same, keeps_then)
+
+pub formulas_of-returns-in_err-push-clause-keeps : goal.formulas_of-returns-in_err-push-clause-keeps
+formulas_of-returns-in_err-push-clause-keeps t c = grind (arith, keeps_same, keeps_then)
+
+pub formulas_of-returns-in_err-push-clause-adds : goal.formulas_of-returns-in_err-push-clause-adds
+formulas_of-returns-in_err-push-clause-adds t c = grind (arith, keeps_same, keeps_then)
+
+pub formulas_of-returns-in_err-push-clause-gives : goal.formulas_of-returns-in_err-push-clause-gives
+formulas_of-returns-in_err-push-clause-gives t c = grind (arith, keeps_same, keeps_then)
+
+pub formulas_of-returns-clause-keeps : goal.formulas_of-returns-clause-keeps
+formulas_of-returns-clause-keeps t c = grind (arith, keeps_same, keeps_then)
+
+pub formulas_of-returns-clause-adds : goal.formulas_of-returns-clause-adds
+formulas_of-returns-clause-adds t c = grind (arith, keeps_same, keeps_then)
+
+pub headed_of-returns-in_err-parts-in-And-clause-keeps : goal.headed_of-returns-in_err-parts-in-And-clause-keeps
+unfolding headed
+headed_of-returns-in_err-parts-in-And-clause-keeps t c = grind (arith, keeps_same, keeps_then)
+
+pub headed_of-returns-in_err-parts-in-And-clause-adds : goal.headed_of-returns-in_err-parts-in-And-clause-adds
+unfolding headed
+headed_of-returns-in_err-parts-in-And-clause-adds t c = grind (arith, keeps_same, keeps_then)
+
+pub headed_of-returns-in_err-parts-in-And-clause-gives : goal.headed_of-returns-in_err-parts-in-And-clause-gives
+unfolding headed
+headed_of-returns-in_err-parts-in-And-clause-gives t c = grind (arith, keeps_same, keeps_then)
+
+pub headed_of-returns-in_err-parts-in-Or-clause-keeps : goal.headed_of-returns-in_err-parts-in-Or-clause-keeps
+unfolding headed
+headed_of-returns-in_err-parts-in-Or-clause-keeps t c = grind (arith, keeps_same, keeps_then)
+
+pub headed_of-returns-in_err-parts-in-Or-clause-adds : goal.headed_of-returns-in_err-parts-in-Or-clause-adds
+unfolding headed
+headed_of-returns-in_err-parts-in-Or-clause-adds t c = grind (arith, keeps_same, keeps_then)
+
+pub headed_of-returns-in_err-parts-in-Or-clause-gives : goal.headed_of-returns-in_err-parts-in-Or-clause-gives
+unfolding headed
+headed_of-returns-in_err-parts-in-Or-clause-gives t c = grind (arith, keeps_same, keeps_then)
+
+pub headed_of-returns-in_err-part-in-Not-clause-keeps : goal.headed_of-returns-in_err-part-in-Not-clause-keeps
+unfolding headed
+headed_of-returns-in_err-part-in-Not-clause-keeps t c = grind (arith, keeps_same, keeps_then)
+
+pub headed_of-returns-in_err-part-in-Not-clause-adds : goal.headed_of-returns-in_err-part-in-Not-clause-adds
+unfolding headed
+headed_of-returns-in_err-part-in-Not-clause-adds t c = grind (arith, keeps_same, keeps_then)
+
+pub headed_of-returns-in_err-part-in-Not-clause-gives : goal.headed_of-returns-in_err-part-in-Not-clause-gives
+unfolding headed
+headed_of-returns-in_err-part-in-Not-clause-gives t c = grind (arith, keeps_same, keeps_then)
+
+pub headed_of-returns-in_err-first-in-Imply-clause-keeps : goal.headed_of-returns-in_err-first-in-Imply-clause-keeps
+unfolding headed
+headed_of-returns-in_err-first-in-Imply-clause-keeps t c = grind (arith, keeps_same, keeps_then)
+
+pub headed_of-returns-in_err-first-in-Imply-clause-adds : goal.headed_of-returns-in_err-first-in-Imply-clause-adds
+unfolding headed
+headed_of-returns-in_err-first-in-Imply-clause-adds t c = grind (arith, keeps_same, keeps_then)
+
+pub headed_of-returns-in_err-first-in-Imply-clause-gives : goal.headed_of-returns-in_err-first-in-Imply-clause-gives
+unfolding headed
+headed_of-returns-in_err-first-in-Imply-clause-gives t c = grind (arith, keeps_same, keeps_then)
+
+pub headed_of-returns-in_err-left-in-Equal-clause-keeps : goal.headed_of-returns-in_err-left-in-Equal-clause-keeps
+unfolding headed
+headed_of-returns-in_err-left-in-Equal-clause-keeps t c = grind (arith, keeps_same, keeps_then)
+
+pub headed_of-returns-in_err-left-in-Equal-clause-adds : goal.headed_of-returns-in_err-left-in-Equal-clause-adds
+unfolding headed
+headed_of-returns-in_err-left-in-Equal-clause-adds t c = grind (arith, keeps_same, keeps_then)
+
+pub headed_of-returns-in_err-left-in-Equal-clause-gives : goal.headed_of-returns-in_err-left-in-Equal-clause-gives
+unfolding headed
+headed_of-returns-in_err-left-in-Equal-clause-gives t c = grind (arith, keeps_same, keeps_then)
+
+pub headed_of-returns-in_err-atom-in-Plain-clause-keeps : goal.headed_of-returns-in_err-atom-in-Plain-clause-keeps
+unfolding headed
+headed_of-returns-in_err-atom-in-Plain-clause-keeps t c = grind (arith, keeps_same, keeps_then)
+
+pub headed_of-returns-in_err-atom-in-Plain-clause-gives : goal.headed_of-returns-in_err-atom-in-Plain-clause-gives
+unfolding headed
+headed_of-returns-in_err-atom-in-Plain-clause-gives t c = grind (arith, keeps_same, keeps_then)
+
+pub headed_of-returns-in_err-vars-in-Forall-clause-keeps : goal.headed_of-returns-in_err-vars-in-Forall-clause-keeps
+unfolding headed
+headed_of-returns-in_err-vars-in-Forall-clause-keeps t c = grind (arith, keeps_same, keeps_then)
+
+pub headed_of-returns-in_err-vars-in-Forall-clause-adds : goal.headed_of-returns-in_err-vars-in-Forall-clause-adds
+unfolding headed
+headed_of-returns-in_err-vars-in-Forall-clause-adds t c = grind (arith, keeps_same, keeps_then)
+
+pub headed_of-returns-in_err-vars-in-Forall-clause-gives : goal.headed_of-returns-in_err-vars-in-Forall-clause-gives
+unfolding headed
+headed_of-returns-in_err-vars-in-Forall-clause-gives t c = grind (arith, keeps_same, keeps_then)
+
+pub headed_of-returns-in_err-vars-in-Exists-clause-keeps : goal.headed_of-returns-in_err-vars-in-Exists-clause-keeps
+unfolding headed
+headed_of-returns-in_err-vars-in-Exists-clause-keeps t c = grind (arith, keeps_same, keeps_then)
+
+pub headed_of-returns-in_err-vars-in-Exists-clause-adds : goal.headed_of-returns-in_err-vars-in-Exists-clause-adds
+unfolding headed
+headed_of-returns-in_err-vars-in-Exists-clause-adds t c = grind (arith, keeps_same, keeps_then)
+
+pub headed_of-returns-in_err-vars-in-Exists-clause-gives : goal.headed_of-returns-in_err-vars-in-Exists-clause-gives
+unfolding headed
+headed_of-returns-in_err-vars-in-Exists-clause-gives t c = grind (arith, keeps_same, keeps_then)
+
+pub headed_of-returns-in_ok-parts-in-And-clause-keeps : goal.headed_of-returns-in_ok-parts-in-And-clause-keeps
+unfolding headed
+headed_of-returns-in_ok-parts-in-And-clause-keeps t c = grind (arith, keeps_same, keeps_then)
+
+pub headed_of-returns-in_ok-parts-in-And-clause-adds : goal.headed_of-returns-in_ok-parts-in-And-clause-adds
+unfolding headed
+headed_of-returns-in_ok-parts-in-And-clause-adds t c = grind (arith, keeps_same, keeps_then)
+
+pub headed_of-returns-in_ok-parts-in-And-clause-gives : goal.headed_of-returns-in_ok-parts-in-And-clause-gives
+unfolding headed
+headed_of-returns-in_ok-parts-in-And-clause-gives t c = grind (arith, keeps_same, keeps_then)
+
+pub headed_of-returns-in_ok-parts-in-Or-clause-keeps : goal.headed_of-returns-in_ok-parts-in-Or-clause-keeps
+unfolding headed
+headed_of-returns-in_ok-parts-in-Or-clause-keeps t c = grind (arith, keeps_same, keeps_then)
+
+pub headed_of-returns-in_ok-parts-in-Or-clause-adds : goal.headed_of-returns-in_ok-parts-in-Or-clause-adds
+unfolding headed
+headed_of-returns-in_ok-parts-in-Or-clause-adds t c = grind (arith, keeps_same, keeps_then)
+
+pub headed_of-returns-in_ok-parts-in-Or-clause-gives : goal.headed_of-returns-in_ok-parts-in-Or-clause-gives
+unfolding headed
+headed_of-returns-in_ok-parts-in-Or-clause-gives t c = grind (arith, keeps_same, keeps_then)
+
+pub headed_of-returns-in_ok-part-in-Not-clause-keeps : goal.headed_of-returns-in_ok-part-in-Not-clause-keeps
+unfolding headed
+headed_of-returns-in_ok-part-in-Not-clause-keeps t c = grind (arith, keeps_same, keeps_then)
+
+pub headed_of-returns-in_ok-part-in-Not-clause-adds : goal.headed_of-returns-in_ok-part-in-Not-clause-adds
+unfolding headed
+headed_of-returns-in_ok-part-in-Not-clause-adds t c = grind (arith, keeps_same, keeps_then)
+
+pub headed_of-returns-in_ok-part-in-Not-clause-gives : goal.headed_of-returns-in_ok-part-in-Not-clause-gives
+unfolding headed
+headed_of-returns-in_ok-part-in-Not-clause-gives t c = grind (arith, keeps_same, keeps_then)
+
+pub headed_of-returns-in_ok-first-in-Imply-clause-keeps : goal.headed_of-returns-in_ok-first-in-Imply-clause-keeps
+unfolding headed
+headed_of-returns-in_ok-first-in-Imply-clause-keeps t c = grind (arith, keeps_same, keeps_then)
+
+pub headed_of-returns-in_ok-first-in-Imply-clause-adds : goal.headed_of-returns-in_ok-first-in-Imply-clause-adds
+unfolding headed
+headed_of-returns-in_ok-first-in-Imply-clause-adds t c = grind (arith, keeps_same, keeps_then)
+
+pub headed_of-returns-in_ok-first-in-Imply-clause-gives : goal.headed_of-returns-in_ok-first-in-Imply-clause-gives
+unfolding headed
+headed_of-returns-in_ok-first-in-Imply-clause-gives t c = grind (arith, keeps_same, keeps_then)
+
+pub headed_of-returns-in_ok-left-in-Equal-clause-keeps : goal.headed_of-returns-in_ok-left-in-Equal-clause-keeps
+unfolding headed
+headed_of-returns-in_ok-left-in-Equal-clause-keeps t c = grind (arith, keeps_same, keeps_then)
+
+pub headed_of-returns-in_ok-left-in-Equal-clause-adds : goal.headed_of-returns-in_ok-left-in-Equal-clause-adds
+unfolding headed
+headed_of-returns-in_ok-left-in-Equal-clause-adds t c = grind (arith, keeps_same, keeps_then)
+
+pub headed_of-returns-in_ok-left-in-Equal-clause-gives : goal.headed_of-returns-in_ok-left-in-Equal-clause-gives
+unfolding headed
+headed_of-returns-in_ok-left-in-Equal-clause-gives t c = grind (arith, keeps_same, keeps_then)
+
+pub headed_of-returns-in_ok-atom-in-Plain-clause-keeps : goal.headed_of-returns-in_ok-atom-in-Plain-clause-keeps
+unfolding headed
+headed_of-returns-in_ok-atom-in-Plain-clause-keeps t c = grind (arith, keeps_same, keeps_then)
+
+pub headed_of-returns-in_ok-atom-in-Plain-clause-gives : goal.headed_of-returns-in_ok-atom-in-Plain-clause-gives
+unfolding headed
+headed_of-returns-in_ok-atom-in-Plain-clause-gives t c = grind (arith, keeps_same, keeps_then)
+
+pub headed_of-returns-in_ok-vars-in-Forall-clause-keeps : goal.headed_of-returns-in_ok-vars-in-Forall-clause-keeps
+unfolding headed
+headed_of-returns-in_ok-vars-in-Forall-clause-keeps t c = grind (arith, keeps_same, keeps_then)
+
+pub headed_of-returns-in_ok-vars-in-Forall-clause-adds : goal.headed_of-returns-in_ok-vars-in-Forall-clause-adds
+unfolding headed
+headed_of-returns-in_ok-vars-in-Forall-clause-adds t c = grind (arith, keeps_same, keeps_then)
+
+pub headed_of-returns-in_ok-vars-in-Forall-clause-gives : goal.headed_of-returns-in_ok-vars-in-Forall-clause-gives
+unfolding headed
+headed_of-returns-in_ok-vars-in-Forall-clause-gives t c = grind (arith, keeps_same, keeps_then)
+
+pub headed_of-returns-in_ok-vars-in-Exists-clause-keeps : goal.headed_of-returns-in_ok-vars-in-Exists-clause-keeps
+unfolding headed
+headed_of-returns-in_ok-vars-in-Exists-clause-keeps t c = grind (arith, keeps_same, keeps_then)
+
+pub headed_of-returns-in_ok-vars-in-Exists-clause-adds : goal.headed_of-returns-in_ok-vars-in-Exists-clause-adds
+unfolding headed
+headed_of-returns-in_ok-vars-in-Exists-clause-adds t c = grind (arith, keeps_same, keeps_then)
+
+pub headed_of-returns-in_ok-vars-in-Exists-clause-gives : goal.headed_of-returns-in_ok-vars-in-Exists-clause-gives
+unfolding headed
+headed_of-returns-in_ok-vars-in-Exists-clause-gives t c = grind (arith, keeps_same, keeps_then)
+
+pub headed_of-returns-in-Wrong-clause-keeps : goal.headed_of-returns-in-Wrong-clause-keeps
+unfolding headed
+headed_of-returns-in-Wrong-clause-keeps t c = grind (arith, keeps_same, keeps_then)
+
+pub headed_of-returns-in-Wrong-clause-adds : goal.headed_of-returns-in-Wrong-clause-adds
+unfolding headed
+headed_of-returns-in-Wrong-clause-adds t c = grind (arith, keeps_same, keeps_then)
+
+pub headed_of-returns-in-Wrong-clause-gives : goal.headed_of-returns-in-Wrong-clause-gives
+unfolding headed
+headed_of-returns-in-Wrong-clause-gives t c = grind (arith, keeps_same, keeps_then)
+
+pub inside_of-returns-in_err-word_or_end-clause-keeps : goal.inside_of-returns-in_err-word_or_end-clause-keeps
+inside_of-returns-in_err-word_or_end-clause-keeps t c = grind (arith, keeps_same, keeps_then, inside_is)
+
+pub inside_of-returns-in_err-word_or_end-clause-adds : goal.inside_of-returns-in_err-word_or_end-clause-adds
+inside_of-returns-in_err-word_or_end-clause-adds t c = grind (arith, keeps_same, keeps_then, inside_is)
+
+pub inside_of-returns-in_err-word_or_end-clause-gives : goal.inside_of-returns-in_err-word_or_end-clause-gives
+inside_of-returns-in_err-word_or_end-clause-gives t c = grind (arith, keeps_same, keeps_then, inside_is)
+
+pub inside_of-returns-in-None-clause-keeps : goal.inside_of-returns-in-None-clause-keeps
+inside_of-returns-in-None-clause-keeps t c = grind (arith, keeps_same, keeps_then, inside_is)
+
+pub inside_of-returns-in-None-clause-adds : goal.inside_of-returns-in-None-clause-adds
+inside_of-returns-in-None-clause-adds t c = grind (arith, keeps_same, keeps_then, inside_is)
+
+pub inside_of-returns-in-None-clause-gives : goal.inside_of-returns-in-None-clause-gives
+inside_of-returns-in-None-clause-gives t c = grind (arith, keeps_same, keeps_then, inside_is)
+
+pub inside_of-returns-in-Some-clause-keeps : goal.inside_of-returns-in-Some-clause-keeps
+inside_of-returns-in-Some-clause-keeps t c = grind (arith, keeps_same, keeps_then, inside_is)
+
+pub inside_of-returns-in-Some-clause-adds : goal.inside_of-returns-in-Some-clause-adds
+inside_of-returns-in-Some-clause-adds t c = grind (arith, keeps_same, keeps_then, inside_is)
+
+pub inside_of-returns-in-Some-clause-gives : goal.inside_of-returns-in-Some-clause-gives
+inside_of-returns-in-Some-clause-gives t c = grind (arith, keeps_same, keeps_then, inside_is)
+
+pub one_of-returns-in_err-inside-clause-keeps : goal.one_of-returns-in_err-inside-clause-keeps
+one_of-returns-in_err-inside-clause-keeps t c = grind (arith, keeps_same, keeps_then, one_is)
+
+pub one_of-returns-in_err-inside-clause-adds : goal.one_of-returns-in_err-inside-clause-adds
+one_of-returns-in_err-inside-clause-adds t c = grind (arith, keeps_same, keeps_then, one_is)
+
+pub one_of-returns-in_err-inside-clause-gives : goal.one_of-returns-in_err-inside-clause-gives
+one_of-returns-in_err-inside-clause-gives t c = grind (arith, keeps_same, keeps_then, one_is)
+
+pub one_of-returns-in_err-part-clause-keeps : goal.one_of-returns-in_err-part-clause-keeps
+one_of-returns-in_err-part-clause-keeps t c = grind (arith, keeps_same, keeps_then, one_is)
+
+pub one_of-returns-in_err-part-clause-adds : goal.one_of-returns-in_err-part-clause-adds
+one_of-returns-in_err-part-clause-adds t c = grind (arith, keeps_same, keeps_then, one_is)
+
+pub one_of-returns-in_err-part-clause-gives : goal.one_of-returns-in_err-part-clause-gives
+one_of-returns-in_err-part-clause-gives t c = grind (arith, keeps_same, keeps_then, one_is)
+
+pub one_of-returns-in_err-end_due-clause-keeps : goal.one_of-returns-in_err-end_due-clause-keeps
+one_of-returns-in_err-end_due-clause-keeps t c = grind (arith, keeps_same, keeps_then, one_is)
+
+pub one_of-returns-in_err-end_due-clause-adds : goal.one_of-returns-in_err-end_due-clause-adds
+one_of-returns-in_err-end_due-clause-adds t c = grind (arith, keeps_same, keeps_then, one_is)
+
+pub one_of-returns-in_err-end_due-clause-gives : goal.one_of-returns-in_err-end_due-clause-gives
+one_of-returns-in_err-end_due-clause-gives t c = grind (arith, keeps_same, keeps_then, one_is)
+
+pub one_of-returns-in_err-new-clause-keeps : goal.one_of-returns-in_err-new-clause-keeps
+one_of-returns-in_err-new-clause-keeps t c = grind (arith, keeps_same, keeps_then, one_is)
+
+pub one_of-returns-in_err-new-clause-adds : goal.one_of-returns-in_err-new-clause-adds
+one_of-returns-in_err-new-clause-adds t c = grind (arith, keeps_same, keeps_then, one_is)
+
+pub one_of-returns-in_err-new-clause-gives : goal.one_of-returns-in_err-new-clause-gives
+one_of-returns-in_err-new-clause-gives t c = grind (arith, keeps_same, keeps_then, one_is)
+
+pub one_of-returns-clause-keeps : goal.one_of-returns-clause-keeps
+one_of-returns-clause-keeps t c = grind (arith, keeps_same, keeps_then, one_is)
+
+pub one_of-returns-clause-adds : goal.one_of-returns-clause-adds
+one_of-returns-clause-adds t c = grind (arith, keeps_same, keeps_then, one_is)
+
+pub one_of-returns-clause-gives : goal.one_of-returns-clause-gives
+one_of-returns-clause-gives t c = grind (arith, keeps_same, keeps_then, one_is)
+
+pub two_of-returns-in_err-inside-clause-keeps : goal.two_of-returns-in_err-inside-clause-keeps
+two_of-returns-in_err-inside-clause-keeps t c = grind (arith, keeps_same, keeps_then, two_is)
+
+pub two_of-returns-in_err-inside-clause-adds : goal.two_of-returns-in_err-inside-clause-adds
+two_of-returns-in_err-inside-clause-adds t c = grind (arith, keeps_same, keeps_then, two_is)
+
+pub two_of-returns-in_err-inside-clause-gives : goal.two_of-returns-in_err-inside-clause-gives
+two_of-returns-in_err-inside-clause-gives t c = grind (arith, keeps_same, keeps_then, two_is)
+
+pub two_of-returns-in_err-inside_of-clause-keeps : goal.two_of-returns-in_err-inside_of-clause-keeps
+two_of-returns-in_err-inside_of-clause-keeps t c = grind (arith, keeps_same, keeps_then, two_is)
+
+pub two_of-returns-in_err-inside_of-clause-adds : goal.two_of-returns-in_err-inside_of-clause-adds
+two_of-returns-in_err-inside_of-clause-adds t c = grind (arith, keeps_same, keeps_then, two_is)
+
+pub two_of-returns-in_err-inside_of-clause-gives : goal.two_of-returns-in_err-inside_of-clause-gives
+two_of-returns-in_err-inside_of-clause-gives t c = grind (arith, keeps_same, keeps_then, two_is)
+
+pub two_of-returns-in_err-first-clause-keeps : goal.two_of-returns-in_err-first-clause-keeps
+two_of-returns-in_err-first-clause-keeps t c = grind (arith, keeps_same, keeps_then, two_is)
+
+pub two_of-returns-in_err-first-clause-adds : goal.two_of-returns-in_err-first-clause-adds
+two_of-returns-in_err-first-clause-adds t c = grind (arith, keeps_same, keeps_then, two_is)
+
+pub two_of-returns-in_err-first-clause-gives : goal.two_of-returns-in_err-first-clause-gives
+two_of-returns-in_err-first-clause-gives t c = grind (arith, keeps_same, keeps_then, two_is)
+
+pub two_of-returns-in_err-second-clause-keeps : goal.two_of-returns-in_err-second-clause-keeps
+two_of-returns-in_err-second-clause-keeps t c = grind (arith, keeps_same, keeps_then, two_is)
+
+pub two_of-returns-in_err-second-clause-adds : goal.two_of-returns-in_err-second-clause-adds
+two_of-returns-in_err-second-clause-adds t c = grind (arith, keeps_same, keeps_then, two_is)
+
+pub two_of-returns-in_err-second-clause-gives : goal.two_of-returns-in_err-second-clause-gives
+two_of-returns-in_err-second-clause-gives t c = grind (arith, keeps_same, keeps_then, two_is)
+
+pub two_of-returns-clause-keeps : goal.two_of-returns-clause-keeps
+two_of-returns-clause-keeps t c = grind (arith, keeps_same, keeps_then, two_is)
+
+pub two_of-returns-clause-adds : goal.two_of-returns-clause-adds
+two_of-returns-clause-adds t c = grind (arith, keeps_same, keeps_then, two_is)
+
+pub two_of-returns-clause-gives : goal.two_of-returns-clause-gives
+two_of-returns-clause-gives t c = grind (arith, keeps_same, keeps_then, two_is)
