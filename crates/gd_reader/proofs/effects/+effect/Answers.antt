@@ -4,10 +4,10 @@ use Rattle.htn_base.specs.Words.{folded}
 use Rattle.text_forms.specs.Placed.{parts_at}
 use Rattle.gd_reader.specs.Added.{Has}
 use Rattle.gd_reader.specs.Answers.{list_or_end}
-use Rattle.gd_reader.specs.Effects.{effects}
-use Rattle.gd_reader.proofs.EffectSteps.{effect_met, effects_is}
+use Rattle.gd_reader.specs.Effects.{effects, effect_headed}
+use Rattle.gd_reader.proofs.EffectSteps.{effect_met, effects_is, bound_effect_is, effect_inside_is, guarded_is, one_effect_is}
 use Rattle.gd_reader.proofs.Adding.{bare_plain_effect}
-use Rattle.gd_reader.proofs.Keeping.{keeps_then}
+use Rattle.gd_reader.proofs.Keeping.{keeps_then, keeps_same}
 use Rattle.gd_reader.proofs.Steps.{pair_behind, all_end, all_stuck, all_stop, all_next, is_none}
 use Rattle.gd_reader.proofs.effects.+effect.Goals as goal
 
@@ -52,3 +52,322 @@ pub effect_headed_of-returns-in_ok-atom-in-Plain-clause-adds : goal.effect_heade
 effect_headed_of-returns-in_ok-atom-in-Plain-clause-adds t c all here =
     let plain = c.in-Plain.is in
     c.in_ok-atom-in-Plain.ensures.adds all (subst (Has all) (bare_plain_effect (folded c.args.word.now) (sym c.effect_head_of.ensures.head ∙ plain)) here)
+
+pub bound_effect_of-returns-in_err-inside-clause-keeps : goal.bound_effect_of-returns-in_err-inside-clause-keeps
+bound_effect_of-returns-in_err-inside-clause-keeps t c = grind (arith, keeps_same, keeps_then, bound_effect_is)
+
+pub bound_effect_of-returns-in_err-inside-clause-adds : goal.bound_effect_of-returns-in_err-inside-clause-adds
+bound_effect_of-returns-in_err-inside-clause-adds t c = grind (arith, keeps_same, keeps_then, bound_effect_is)
+
+pub bound_effect_of-returns-in_err-inside-clause-gives : goal.bound_effect_of-returns-in_err-inside-clause-gives
+bound_effect_of-returns-in_err-inside-clause-gives t c = grind (arith, keeps_same, keeps_then, bound_effect_is)
+
+pub bound_effect_of-returns-in_err-vars-clause-keeps : goal.bound_effect_of-returns-in_err-vars-clause-keeps
+bound_effect_of-returns-in_err-vars-clause-keeps t c = grind (arith, keeps_same, keeps_then, bound_effect_is)
+
+pub bound_effect_of-returns-in_err-vars-clause-adds : goal.bound_effect_of-returns-in_err-vars-clause-adds
+bound_effect_of-returns-in_err-vars-clause-adds t c = grind (arith, keeps_same, keeps_then, bound_effect_is)
+
+pub bound_effect_of-returns-in_err-vars-clause-gives : goal.bound_effect_of-returns-in_err-vars-clause-gives
+bound_effect_of-returns-in_err-vars-clause-gives t c = grind (arith, keeps_same, keeps_then, bound_effect_is)
+
+pub bound_effect_of-returns-in_err-part-clause-keeps : goal.bound_effect_of-returns-in_err-part-clause-keeps
+bound_effect_of-returns-in_err-part-clause-keeps t c = grind (arith, keeps_same, keeps_then, bound_effect_is)
+
+pub bound_effect_of-returns-in_err-part-clause-adds : goal.bound_effect_of-returns-in_err-part-clause-adds
+bound_effect_of-returns-in_err-part-clause-adds t c = grind (arith, keeps_same, keeps_then, bound_effect_is)
+
+pub bound_effect_of-returns-in_err-part-clause-gives : goal.bound_effect_of-returns-in_err-part-clause-gives
+bound_effect_of-returns-in_err-part-clause-gives t c = grind (arith, keeps_same, keeps_then, bound_effect_is)
+
+pub bound_effect_of-returns-clause-keeps : goal.bound_effect_of-returns-clause-keeps
+bound_effect_of-returns-clause-keeps t c = grind (arith, keeps_same, keeps_then, bound_effect_is)
+
+pub bound_effect_of-returns-clause-adds : goal.bound_effect_of-returns-clause-adds
+bound_effect_of-returns-clause-adds t c = grind (arith, keeps_same, keeps_then, bound_effect_is)
+
+pub bound_effect_of-returns-clause-gives : goal.bound_effect_of-returns-clause-gives
+bound_effect_of-returns-clause-gives t c = grind (arith, keeps_same, keeps_then, bound_effect_is)
+
+pub effect_headed_of-returns-in_err-parts-in-And-clause-keeps : goal.effect_headed_of-returns-in_err-parts-in-And-clause-keeps
+unfolding effect_headed
+effect_headed_of-returns-in_err-parts-in-And-clause-keeps t c = grind (arith, keeps_same, keeps_then)
+
+pub effect_headed_of-returns-in_err-parts-in-And-clause-adds : goal.effect_headed_of-returns-in_err-parts-in-And-clause-adds
+unfolding effect_headed
+effect_headed_of-returns-in_err-parts-in-And-clause-adds t c = grind (arith, keeps_same, keeps_then)
+
+pub effect_headed_of-returns-in_err-parts-in-And-clause-gives : goal.effect_headed_of-returns-in_err-parts-in-And-clause-gives
+unfolding effect_headed
+effect_headed_of-returns-in_err-parts-in-And-clause-gives t c = grind (arith, keeps_same, keeps_then)
+
+pub effect_headed_of-returns-in_err-vars-in-Forall-clause-keeps : goal.effect_headed_of-returns-in_err-vars-in-Forall-clause-keeps
+unfolding effect_headed
+effect_headed_of-returns-in_err-vars-in-Forall-clause-keeps t c = grind (arith, keeps_same, keeps_then)
+
+pub effect_headed_of-returns-in_err-vars-in-Forall-clause-adds : goal.effect_headed_of-returns-in_err-vars-in-Forall-clause-adds
+unfolding effect_headed
+effect_headed_of-returns-in_err-vars-in-Forall-clause-adds t c = grind (arith, keeps_same, keeps_then)
+
+pub effect_headed_of-returns-in_err-vars-in-Forall-clause-gives : goal.effect_headed_of-returns-in_err-vars-in-Forall-clause-gives
+unfolding effect_headed
+effect_headed_of-returns-in_err-vars-in-Forall-clause-gives t c = grind (arith, keeps_same, keeps_then)
+
+pub effect_headed_of-returns-in_err-condition-in-When-clause-keeps : goal.effect_headed_of-returns-in_err-condition-in-When-clause-keeps
+unfolding effect_headed
+effect_headed_of-returns-in_err-condition-in-When-clause-keeps t c = grind (arith, keeps_same, keeps_then)
+
+pub effect_headed_of-returns-in_err-condition-in-When-clause-adds : goal.effect_headed_of-returns-in_err-condition-in-When-clause-adds
+unfolding effect_headed
+effect_headed_of-returns-in_err-condition-in-When-clause-adds t c = grind (arith, keeps_same, keeps_then)
+
+pub effect_headed_of-returns-in_err-condition-in-When-clause-gives : goal.effect_headed_of-returns-in_err-condition-in-When-clause-gives
+unfolding effect_headed
+effect_headed_of-returns-in_err-condition-in-When-clause-gives t c = grind (arith, keeps_same, keeps_then)
+
+pub effect_headed_of-returns-in_err-atom-in-Not-clause-keeps : goal.effect_headed_of-returns-in_err-atom-in-Not-clause-keeps
+unfolding effect_headed
+effect_headed_of-returns-in_err-atom-in-Not-clause-keeps t c = grind (arith, keeps_same, keeps_then)
+
+pub effect_headed_of-returns-in_err-atom-in-Not-clause-adds : goal.effect_headed_of-returns-in_err-atom-in-Not-clause-adds
+unfolding effect_headed
+effect_headed_of-returns-in_err-atom-in-Not-clause-adds t c = grind (arith, keeps_same, keeps_then)
+
+pub effect_headed_of-returns-in_err-atom-in-Not-clause-gives : goal.effect_headed_of-returns-in_err-atom-in-Not-clause-gives
+unfolding effect_headed
+effect_headed_of-returns-in_err-atom-in-Not-clause-gives t c = grind (arith, keeps_same, keeps_then)
+
+pub effect_headed_of-returns-in_err-pass-in-Increase-clause-keeps : goal.effect_headed_of-returns-in_err-pass-in-Increase-clause-keeps
+unfolding effect_headed
+effect_headed_of-returns-in_err-pass-in-Increase-clause-keeps t c = grind (arith, keeps_same, keeps_then)
+
+pub effect_headed_of-returns-in_err-pass-in-Increase-clause-adds : goal.effect_headed_of-returns-in_err-pass-in-Increase-clause-adds
+unfolding effect_headed
+effect_headed_of-returns-in_err-pass-in-Increase-clause-adds t c = grind (arith, keeps_same, keeps_then)
+
+pub effect_headed_of-returns-in_err-pass-in-Increase-clause-gives : goal.effect_headed_of-returns-in_err-pass-in-Increase-clause-gives
+unfolding effect_headed
+effect_headed_of-returns-in_err-pass-in-Increase-clause-gives t c = grind (arith, keeps_same, keeps_then)
+
+pub effect_headed_of-returns-in_err-atom-in-Plain-clause-keeps : goal.effect_headed_of-returns-in_err-atom-in-Plain-clause-keeps
+unfolding effect_headed
+effect_headed_of-returns-in_err-atom-in-Plain-clause-keeps t c = grind (arith, keeps_same, keeps_then)
+
+pub effect_headed_of-returns-in_err-atom-in-Plain-clause-gives : goal.effect_headed_of-returns-in_err-atom-in-Plain-clause-gives
+unfolding effect_headed
+effect_headed_of-returns-in_err-atom-in-Plain-clause-gives t c = grind (arith, keeps_same, keeps_then)
+
+pub effect_headed_of-returns-in_ok-parts-in-And-clause-keeps : goal.effect_headed_of-returns-in_ok-parts-in-And-clause-keeps
+unfolding effect_headed
+effect_headed_of-returns-in_ok-parts-in-And-clause-keeps t c = grind (arith, keeps_same, keeps_then)
+
+pub effect_headed_of-returns-in_ok-parts-in-And-clause-adds : goal.effect_headed_of-returns-in_ok-parts-in-And-clause-adds
+unfolding effect_headed
+effect_headed_of-returns-in_ok-parts-in-And-clause-adds t c = grind (arith, keeps_same, keeps_then)
+
+pub effect_headed_of-returns-in_ok-parts-in-And-clause-gives : goal.effect_headed_of-returns-in_ok-parts-in-And-clause-gives
+unfolding effect_headed
+effect_headed_of-returns-in_ok-parts-in-And-clause-gives t c = grind (arith, keeps_same, keeps_then)
+
+pub effect_headed_of-returns-in_ok-vars-in-Forall-clause-keeps : goal.effect_headed_of-returns-in_ok-vars-in-Forall-clause-keeps
+unfolding effect_headed
+effect_headed_of-returns-in_ok-vars-in-Forall-clause-keeps t c = grind (arith, keeps_same, keeps_then)
+
+pub effect_headed_of-returns-in_ok-vars-in-Forall-clause-adds : goal.effect_headed_of-returns-in_ok-vars-in-Forall-clause-adds
+unfolding effect_headed
+effect_headed_of-returns-in_ok-vars-in-Forall-clause-adds t c = grind (arith, keeps_same, keeps_then)
+
+pub effect_headed_of-returns-in_ok-vars-in-Forall-clause-gives : goal.effect_headed_of-returns-in_ok-vars-in-Forall-clause-gives
+unfolding effect_headed
+effect_headed_of-returns-in_ok-vars-in-Forall-clause-gives t c = grind (arith, keeps_same, keeps_then)
+
+pub effect_headed_of-returns-in_ok-condition-in-When-clause-keeps : goal.effect_headed_of-returns-in_ok-condition-in-When-clause-keeps
+unfolding effect_headed
+effect_headed_of-returns-in_ok-condition-in-When-clause-keeps t c = grind (arith, keeps_same, keeps_then)
+
+pub effect_headed_of-returns-in_ok-condition-in-When-clause-adds : goal.effect_headed_of-returns-in_ok-condition-in-When-clause-adds
+unfolding effect_headed
+effect_headed_of-returns-in_ok-condition-in-When-clause-adds t c = grind (arith, keeps_same, keeps_then)
+
+pub effect_headed_of-returns-in_ok-condition-in-When-clause-gives : goal.effect_headed_of-returns-in_ok-condition-in-When-clause-gives
+unfolding effect_headed
+effect_headed_of-returns-in_ok-condition-in-When-clause-gives t c = grind (arith, keeps_same, keeps_then)
+
+pub effect_headed_of-returns-in_ok-atom-in-Not-clause-keeps : goal.effect_headed_of-returns-in_ok-atom-in-Not-clause-keeps
+unfolding effect_headed
+effect_headed_of-returns-in_ok-atom-in-Not-clause-keeps t c = grind (arith, keeps_same, keeps_then)
+
+pub effect_headed_of-returns-in_ok-atom-in-Not-clause-adds : goal.effect_headed_of-returns-in_ok-atom-in-Not-clause-adds
+unfolding effect_headed
+effect_headed_of-returns-in_ok-atom-in-Not-clause-adds t c = grind (arith, keeps_same, keeps_then)
+
+pub effect_headed_of-returns-in_ok-atom-in-Not-clause-gives : goal.effect_headed_of-returns-in_ok-atom-in-Not-clause-gives
+unfolding effect_headed
+effect_headed_of-returns-in_ok-atom-in-Not-clause-gives t c = grind (arith, keeps_same, keeps_then)
+
+pub effect_headed_of-returns-in_ok-pass-in-Increase-clause-keeps : goal.effect_headed_of-returns-in_ok-pass-in-Increase-clause-keeps
+unfolding effect_headed
+effect_headed_of-returns-in_ok-pass-in-Increase-clause-keeps t c = grind (arith, keeps_same, keeps_then)
+
+pub effect_headed_of-returns-in_ok-pass-in-Increase-clause-adds : goal.effect_headed_of-returns-in_ok-pass-in-Increase-clause-adds
+unfolding effect_headed
+effect_headed_of-returns-in_ok-pass-in-Increase-clause-adds t c = grind (arith, keeps_same, keeps_then)
+
+pub effect_headed_of-returns-in_ok-pass-in-Increase-clause-gives : goal.effect_headed_of-returns-in_ok-pass-in-Increase-clause-gives
+unfolding effect_headed
+effect_headed_of-returns-in_ok-pass-in-Increase-clause-gives t c = grind (arith, keeps_same, keeps_then)
+
+pub effect_headed_of-returns-in_ok-atom-in-Plain-clause-keeps : goal.effect_headed_of-returns-in_ok-atom-in-Plain-clause-keeps
+unfolding effect_headed
+effect_headed_of-returns-in_ok-atom-in-Plain-clause-keeps t c = grind (arith, keeps_same, keeps_then)
+
+pub effect_headed_of-returns-in_ok-atom-in-Plain-clause-gives : goal.effect_headed_of-returns-in_ok-atom-in-Plain-clause-gives
+unfolding effect_headed
+effect_headed_of-returns-in_ok-atom-in-Plain-clause-gives t c = grind (arith, keeps_same, keeps_then)
+
+pub effect_headed_of-returns-in-Wrong-clause-keeps : goal.effect_headed_of-returns-in-Wrong-clause-keeps
+unfolding effect_headed
+effect_headed_of-returns-in-Wrong-clause-keeps t c = grind (arith, keeps_same, keeps_then)
+
+pub effect_headed_of-returns-in-Wrong-clause-adds : goal.effect_headed_of-returns-in-Wrong-clause-adds
+unfolding effect_headed
+effect_headed_of-returns-in-Wrong-clause-adds t c = grind (arith, keeps_same, keeps_then)
+
+pub effect_headed_of-returns-in-Wrong-clause-gives : goal.effect_headed_of-returns-in-Wrong-clause-gives
+unfolding effect_headed
+effect_headed_of-returns-in-Wrong-clause-gives t c = grind (arith, keeps_same, keeps_then)
+
+pub effect_inside_of-returns-in_err-word_or_end-clause-keeps : goal.effect_inside_of-returns-in_err-word_or_end-clause-keeps
+effect_inside_of-returns-in_err-word_or_end-clause-keeps t c = grind (arith, keeps_same, keeps_then, effect_inside_is)
+
+pub effect_inside_of-returns-in_err-word_or_end-clause-adds : goal.effect_inside_of-returns-in_err-word_or_end-clause-adds
+effect_inside_of-returns-in_err-word_or_end-clause-adds t c = grind (arith, keeps_same, keeps_then, effect_inside_is)
+
+pub effect_inside_of-returns-in_err-word_or_end-clause-gives : goal.effect_inside_of-returns-in_err-word_or_end-clause-gives
+effect_inside_of-returns-in_err-word_or_end-clause-gives t c = grind (arith, keeps_same, keeps_then, effect_inside_is)
+
+pub effect_inside_of-returns-in-None-clause-keeps : goal.effect_inside_of-returns-in-None-clause-keeps
+effect_inside_of-returns-in-None-clause-keeps t c = grind (arith, keeps_same, keeps_then, effect_inside_is)
+
+pub effect_inside_of-returns-in-None-clause-adds : goal.effect_inside_of-returns-in-None-clause-adds
+effect_inside_of-returns-in-None-clause-adds t c = grind (arith, keeps_same, keeps_then, effect_inside_is)
+
+pub effect_inside_of-returns-in-None-clause-gives : goal.effect_inside_of-returns-in-None-clause-gives
+effect_inside_of-returns-in-None-clause-gives t c = grind (arith, keeps_same, keeps_then, effect_inside_is)
+
+pub effect_inside_of-returns-in-Some-clause-keeps : goal.effect_inside_of-returns-in-Some-clause-keeps
+effect_inside_of-returns-in-Some-clause-keeps t c = grind (arith, keeps_same, keeps_then, effect_inside_is)
+
+pub effect_inside_of-returns-in-Some-clause-adds : goal.effect_inside_of-returns-in-Some-clause-adds
+effect_inside_of-returns-in-Some-clause-adds t c = grind (arith, keeps_same, keeps_then, effect_inside_is)
+
+pub effect_inside_of-returns-in-Some-clause-gives : goal.effect_inside_of-returns-in-Some-clause-gives
+effect_inside_of-returns-in-Some-clause-gives t c = grind (arith, keeps_same, keeps_then, effect_inside_is)
+
+pub effects_of-returns-in_err-inside-clause-keeps : goal.effects_of-returns-in_err-inside-clause-keeps
+effects_of-returns-in_err-inside-clause-keeps t c = grind (arith, keeps_same, keeps_then)
+
+pub effects_of-returns-in_err-inside-clause-adds : goal.effects_of-returns-in_err-inside-clause-adds
+effects_of-returns-in_err-inside-clause-adds t c = grind (arith, keeps_same, keeps_then)
+
+pub effects_of-returns-in_err-part-clause-keeps : goal.effects_of-returns-in_err-part-clause-keeps
+effects_of-returns-in_err-part-clause-keeps t c = grind (arith, keeps_same, keeps_then)
+
+pub effects_of-returns-in_err-part-clause-adds : goal.effects_of-returns-in_err-part-clause-adds
+effects_of-returns-in_err-part-clause-adds t c = grind (arith, keeps_same, keeps_then)
+
+pub effects_of-returns-in_err-push-clause-keeps : goal.effects_of-returns-in_err-push-clause-keeps
+effects_of-returns-in_err-push-clause-keeps t c = grind (arith, keeps_same, keeps_then)
+
+pub effects_of-returns-in_err-push-clause-adds : goal.effects_of-returns-in_err-push-clause-adds
+effects_of-returns-in_err-push-clause-adds t c = grind (arith, keeps_same, keeps_then)
+
+pub effects_of-returns-in_err-push-clause-gives : goal.effects_of-returns-in_err-push-clause-gives
+effects_of-returns-in_err-push-clause-gives t c = grind (arith, keeps_same, keeps_then)
+
+pub effects_of-returns-clause-keeps : goal.effects_of-returns-clause-keeps
+effects_of-returns-clause-keeps t c = grind (arith, keeps_same, keeps_then)
+
+pub effects_of-returns-clause-adds : goal.effects_of-returns-clause-adds
+effects_of-returns-clause-adds t c = grind (arith, keeps_same, keeps_then)
+
+pub guarded_of-returns-in_err-inside-clause-keeps : goal.guarded_of-returns-in_err-inside-clause-keeps
+guarded_of-returns-in_err-inside-clause-keeps t c = grind (arith, keeps_same, keeps_then, guarded_is)
+
+pub guarded_of-returns-in_err-inside-clause-adds : goal.guarded_of-returns-in_err-inside-clause-adds
+guarded_of-returns-in_err-inside-clause-adds t c = grind (arith, keeps_same, keeps_then, guarded_is)
+
+pub guarded_of-returns-in_err-inside-clause-gives : goal.guarded_of-returns-in_err-inside-clause-gives
+guarded_of-returns-in_err-inside-clause-gives t c = grind (arith, keeps_same, keeps_then, guarded_is)
+
+pub guarded_of-returns-in_err-condition-clause-keeps : goal.guarded_of-returns-in_err-condition-clause-keeps
+guarded_of-returns-in_err-condition-clause-keeps t c = grind (arith, keeps_same, keeps_then, guarded_is)
+
+pub guarded_of-returns-in_err-condition-clause-adds : goal.guarded_of-returns-in_err-condition-clause-adds
+guarded_of-returns-in_err-condition-clause-adds t c = grind (arith, keeps_same, keeps_then, guarded_is)
+
+pub guarded_of-returns-in_err-condition-clause-gives : goal.guarded_of-returns-in_err-condition-clause-gives
+guarded_of-returns-in_err-condition-clause-gives t c = grind (arith, keeps_same, keeps_then, guarded_is)
+
+pub guarded_of-returns-in_err-part-clause-keeps : goal.guarded_of-returns-in_err-part-clause-keeps
+guarded_of-returns-in_err-part-clause-keeps t c = grind (arith, keeps_same, keeps_then, guarded_is)
+
+pub guarded_of-returns-in_err-part-clause-adds : goal.guarded_of-returns-in_err-part-clause-adds
+guarded_of-returns-in_err-part-clause-adds t c = grind (arith, keeps_same, keeps_then, guarded_is)
+
+pub guarded_of-returns-in_err-part-clause-gives : goal.guarded_of-returns-in_err-part-clause-gives
+guarded_of-returns-in_err-part-clause-gives t c = grind (arith, keeps_same, keeps_then, guarded_is)
+
+pub guarded_of-returns-clause-keeps : goal.guarded_of-returns-clause-keeps
+guarded_of-returns-clause-keeps t c = grind (arith, keeps_same, keeps_then, guarded_is)
+
+pub guarded_of-returns-clause-adds : goal.guarded_of-returns-clause-adds
+guarded_of-returns-clause-adds t c = grind (arith, keeps_same, keeps_then, guarded_is)
+
+pub guarded_of-returns-clause-gives : goal.guarded_of-returns-clause-gives
+guarded_of-returns-clause-gives t c = grind (arith, keeps_same, keeps_then, guarded_is)
+
+pub one_effect_of-returns-in_err-inside-clause-keeps : goal.one_effect_of-returns-in_err-inside-clause-keeps
+one_effect_of-returns-in_err-inside-clause-keeps t c = grind (arith, keeps_same, keeps_then, one_effect_is)
+
+pub one_effect_of-returns-in_err-inside-clause-adds : goal.one_effect_of-returns-in_err-inside-clause-adds
+one_effect_of-returns-in_err-inside-clause-adds t c = grind (arith, keeps_same, keeps_then, one_effect_is)
+
+pub one_effect_of-returns-in_err-inside-clause-gives : goal.one_effect_of-returns-in_err-inside-clause-gives
+one_effect_of-returns-in_err-inside-clause-gives t c = grind (arith, keeps_same, keeps_then, one_effect_is)
+
+pub one_effect_of-returns-in_err-part-clause-keeps : goal.one_effect_of-returns-in_err-part-clause-keeps
+one_effect_of-returns-in_err-part-clause-keeps t c = grind (arith, keeps_same, keeps_then, one_effect_is)
+
+pub one_effect_of-returns-in_err-part-clause-adds : goal.one_effect_of-returns-in_err-part-clause-adds
+one_effect_of-returns-in_err-part-clause-adds t c = grind (arith, keeps_same, keeps_then, one_effect_is)
+
+pub one_effect_of-returns-in_err-part-clause-gives : goal.one_effect_of-returns-in_err-part-clause-gives
+one_effect_of-returns-in_err-part-clause-gives t c = grind (arith, keeps_same, keeps_then, one_effect_is)
+
+pub one_effect_of-returns-in_err-end_due-clause-keeps : goal.one_effect_of-returns-in_err-end_due-clause-keeps
+one_effect_of-returns-in_err-end_due-clause-keeps t c = grind (arith, keeps_same, keeps_then, one_effect_is)
+
+pub one_effect_of-returns-in_err-end_due-clause-adds : goal.one_effect_of-returns-in_err-end_due-clause-adds
+one_effect_of-returns-in_err-end_due-clause-adds t c = grind (arith, keeps_same, keeps_then, one_effect_is)
+
+pub one_effect_of-returns-in_err-end_due-clause-gives : goal.one_effect_of-returns-in_err-end_due-clause-gives
+one_effect_of-returns-in_err-end_due-clause-gives t c = grind (arith, keeps_same, keeps_then, one_effect_is)
+
+pub one_effect_of-returns-in_err-new-clause-keeps : goal.one_effect_of-returns-in_err-new-clause-keeps
+one_effect_of-returns-in_err-new-clause-keeps t c = grind (arith, keeps_same, keeps_then, one_effect_is)
+
+pub one_effect_of-returns-in_err-new-clause-adds : goal.one_effect_of-returns-in_err-new-clause-adds
+one_effect_of-returns-in_err-new-clause-adds t c = grind (arith, keeps_same, keeps_then, one_effect_is)
+
+pub one_effect_of-returns-in_err-new-clause-gives : goal.one_effect_of-returns-in_err-new-clause-gives
+one_effect_of-returns-in_err-new-clause-gives t c = grind (arith, keeps_same, keeps_then, one_effect_is)
+
+pub one_effect_of-returns-clause-keeps : goal.one_effect_of-returns-clause-keeps
+one_effect_of-returns-clause-keeps t c = grind (arith, keeps_same, keeps_then, one_effect_is)
+
+pub one_effect_of-returns-clause-adds : goal.one_effect_of-returns-clause-adds
+one_effect_of-returns-clause-adds t c = grind (arith, keeps_same, keeps_then, one_effect_is)
+
+pub one_effect_of-returns-clause-gives : goal.one_effect_of-returns-clause-gives
+one_effect_of-returns-clause-gives t c = grind (arith, keeps_same, keeps_then, one_effect_is)
