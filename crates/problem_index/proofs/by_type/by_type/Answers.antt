@@ -1,5 +1,6 @@
 use Rattle.std.proofs.Common.{◌≡◌, ◌++◌, ◌∷◌, ℕ, List, Some, [], false, length, get_or, slice_get, subst, ap, ◌∙◌, length-set, arith}
 use Rattle.std.proofs.lemmas.Option.{slice_get-get_or}
+use Rattle.std.proofs.lemmas.Grind.{common_steps}
 use Rattle.plan_model.specs.declared.types.Object.{Object}
 use Rattle.problem_index.specs.Kinds.{AreFirstByType}
 use Rattle.problem_index.proofs.ListLaws.{by_type_more}
@@ -22,3 +23,6 @@ pub returns-clause-lists : goal.returns-clause-lists
 returns-clause-lists c =
     let all : c.loop-place.place ≡ length c.args.objects.now = (let a = c.loop-place-test.false in let b = c.loop-place.auto.place-end in let l = ap length c.as_slice-object-items.ensures.items in omega (arith, a, b, l)) in
     subst (λ n. AreFirstByType n c.args.objects.now c.loop-place.lists.items) all c.loop-place.invariant.1
+
+pub loop-place-init : goal.loop-place-init
+loop-place-init c = grind (arith, common_steps)

@@ -1,5 +1,6 @@
 use Rattle.std.proofs.Common.{ℕ, ◌≡◌, ◌+◌, ◌<◌, ◌≤◌, Option, Some, Vec, Global, length, get_or, slice_get, sym, subst, ap, ◌∙◌, length-set, arith}
 use Rattle.std.proofs.lemmas.Option.{slice_get-get_or}
+use Rattle.std.proofs.lemmas.Grind.{common_steps}
 use Rattle.htn_base.specs.declared.name.Name.{Name}
 use Rattle.problem_index.specs.Places.{AreFirstPlaces}
 use Rattle.problem_index.proofs.PlaceLaws.{places_set, places_past, all_places}
@@ -35,3 +36,6 @@ loop-place-preserved c =
 
 pub returns : goal.returns
 returns c = record { places = all_places c.args.names.now c.loop-place.place c.args.count c.loop-place.by_name.items c.loop-place-test.false c.loop-place.invariant.0 c.loop-place.invariant.1 }
+
+pub loop-place-init : goal.loop-place-init
+loop-place-init c = grind (arith, common_steps)

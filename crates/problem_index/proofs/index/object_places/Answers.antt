@@ -1,0 +1,12 @@
+use Rattle.std.proofs.Common.{arith}
+use Rattle.std.proofs.lemmas.Grind.{common_steps}
+use Rattle.problem_index.proofs.index.object_places.Goals as goal
+
+pub loop-object-preserved : goal.loop-object-preserved
+loop-object-preserved c = grind (arith, common_steps)
+
+pub new-requires : goal.new-requires
+new-requires c = grind (arith, common_steps)
+
+pub returns : goal.returns
+returns c = grind (arith, common_steps)
