@@ -1,8 +1,10 @@
 use Rattle.std.proofs.lemmas.Result.{err_from_is_err_and}
 use Rattle.text_forms.specs.Placed.{parts_at}
-use Rattle.gd_reader.specs.Effects.{effect_inside}
+use Rattle.gd_reader.specs.Effects.{effect_inside, effect_read}
 use Rattle.gd_reader.proofs.FirstToken.{not_ended}
 use Rattle.gd_reader.proofs.EffectExact.{effect_inside_exact}
+use Rattle.gd_reader.proofs.Keeping.{keeps_same, keeps_then}
+use Rattle.std.proofs.Common.{arith}
 use Rattle.gd_reader.proofs.reading.effect_of.Goals as goal
 
 pub returns-in_err-inside-clause-goes_on : goal.returns-in_err-inside-clause-goes_on
@@ -14,3 +16,39 @@ pub returns-in_err-value-clause-goes_on : goal.returns-in_err-value-clause-goes_
 returns-in_err-value-clause-goes_on c =
     let p = err_from_is_err_and c.from_residual-in_err-value.result c.from_residual-in_err-value.ensures.1 in
     rw (p.1, p.2) (not_ended (effect_inside c.args.names.now (parts_at c.args.s.now c.in_ok-inside.inside)) c.in_err-value.field-0.0 c.in_err-value.ensures.gives ((effect_inside_exact (parts_at c.args.s.now c.in_ok-inside.inside) c.args.names.now).goes_on c.in_ok-inside.ensures.closed.1.whole))
+
+pub returns-in_err-inside-clause-keeps : goal.returns-in_err-inside-clause-keeps
+unfolding effect_read
+returns-in_err-inside-clause-keeps c = grind (arith, keeps_same, keeps_then)
+
+pub returns-in_err-inside-clause-adds : goal.returns-in_err-inside-clause-adds
+unfolding effect_read
+returns-in_err-inside-clause-adds c = grind (arith, keeps_same, keeps_then)
+
+pub returns-in_err-inside-clause-gives : goal.returns-in_err-inside-clause-gives
+unfolding effect_read
+returns-in_err-inside-clause-gives c = grind (arith, keeps_same, keeps_then)
+
+pub returns-in_err-value-clause-keeps : goal.returns-in_err-value-clause-keeps
+unfolding effect_read
+returns-in_err-value-clause-keeps c = grind (arith, keeps_same, keeps_then)
+
+pub returns-in_err-value-clause-adds : goal.returns-in_err-value-clause-adds
+unfolding effect_read
+returns-in_err-value-clause-adds c = grind (arith, keeps_same, keeps_then)
+
+pub returns-in_err-value-clause-gives : goal.returns-in_err-value-clause-gives
+unfolding effect_read
+returns-in_err-value-clause-gives c = grind (arith, keeps_same, keeps_then)
+
+pub returns-clause-keeps : goal.returns-clause-keeps
+unfolding effect_read
+returns-clause-keeps c = grind (arith, keeps_same, keeps_then)
+
+pub returns-clause-adds : goal.returns-clause-adds
+unfolding effect_read
+returns-clause-adds c = grind (arith, keeps_same, keeps_then)
+
+pub returns-clause-gives : goal.returns-clause-gives
+unfolding effect_read
+returns-clause-gives c = grind (arith, keeps_same, keeps_then)

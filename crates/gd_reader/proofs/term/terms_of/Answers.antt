@@ -3,8 +3,9 @@ use Rattle.htn_base.specs.Words.{folded}
 use Rattle.text_forms.specs.Placed.{parts_at}
 use Rattle.gd_reader.specs.Answers.{word_or_end}
 use Rattle.gd_reader.specs.Terms.{terms}
-use Rattle.gd_reader.proofs.Keeping.{keeps_then}
+use Rattle.gd_reader.proofs.Keeping.{keeps_then, keeps_same}
 use Rattle.gd_reader.proofs.Steps.{met_behind, term_met, terms_is, all_end, all_stuck, all_stop, all_next, is_none}
+use Rattle.std.proofs.Common.{arith}
 use Rattle.gd_reader.proofs.term.terms_of.Goals as goal
 
 pub returns-in_err-at-clause-gives : goal.returns-in_err-at-clause-gives
@@ -37,3 +38,30 @@ returns-clause-gives c =
     let gives = c.in_ok-at.ensures.gives in
     let never = c.in_default.not-Some in
     all_end word_or_end met_behind term_met terms terms_is c.loop-terms.terms c.loop-terms.names (parts_at c.args.s.now c.loop-terms.i) (terms c.args.names.now (parts_at c.args.s.now c.args.i)) c.loop-terms.invariant.rest (rw (is_none c.in_ok-at.field-0 never) at gives)
+
+pub returns-in_err-at-clause-keeps : goal.returns-in_err-at-clause-keeps
+returns-in_err-at-clause-keeps c = grind (arith, keeps_same, keeps_then)
+
+pub returns-in_err-at-clause-adds : goal.returns-in_err-at-clause-adds
+returns-in_err-at-clause-adds c = grind (arith, keeps_same, keeps_then)
+
+pub returns-in_err-term-clause-keeps : goal.returns-in_err-term-clause-keeps
+returns-in_err-term-clause-keeps c = grind (arith, keeps_same, keeps_then)
+
+pub returns-in_err-term-clause-adds : goal.returns-in_err-term-clause-adds
+returns-in_err-term-clause-adds c = grind (arith, keeps_same, keeps_then)
+
+pub returns-in_err-push-clause-keeps : goal.returns-in_err-push-clause-keeps
+returns-in_err-push-clause-keeps c = grind (arith, keeps_same, keeps_then)
+
+pub returns-in_err-push-clause-adds : goal.returns-in_err-push-clause-adds
+returns-in_err-push-clause-adds c = grind (arith, keeps_same, keeps_then)
+
+pub returns-in_err-push-clause-gives : goal.returns-in_err-push-clause-gives
+returns-in_err-push-clause-gives c = grind (arith, keeps_same, keeps_then)
+
+pub returns-clause-keeps : goal.returns-clause-keeps
+returns-clause-keeps c = grind (arith, keeps_same, keeps_then)
+
+pub returns-clause-adds : goal.returns-clause-adds
+returns-clause-adds c = grind (arith, keeps_same, keeps_then)
