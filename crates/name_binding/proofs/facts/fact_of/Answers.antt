@@ -1,5 +1,6 @@
-use Rattle.std.proofs.Common.{[], false, sym}
+use Rattle.std.proofs.Common.{[], false, sym, arith}
 use Rattle.std.proofs.lemmas.List.{map_more}
+use Rattle.std.proofs.lemmas.Grind.{common_steps}
 use Rattle.gd_reader.specs.declared.term.RawTerm.{RawTerm}
 use Rattle.name_binding.specs.Terms.{term_faults}
 use Rattle.name_binding.proofs.Noted.{noted_more}
@@ -22,3 +23,9 @@ loop-term-preserved c =
           rw (c.object_of.ensures.faults, c.loop-term.invariant.faults)
           (sym (noted_more (term_faults c.args.known.now.objects []) c.predicate_of-predicate.new.faults.least terms n none within));
     }
+
+pub returns-clause-bound : goal.returns-clause-bound
+returns-clause-bound c = grind (arith, common_steps)
+
+pub returns-clause-faults : goal.returns-clause-faults
+returns-clause-faults c = grind (arith, common_steps)

@@ -1,4 +1,5 @@
-use Rattle.std.proofs.Common.{◌≡◌, [], ◌∷◌, ◌++◌, sym, ap, ◌∙◌}
+use Rattle.std.proofs.Common.{◌≡◌, [], ◌∷◌, ◌++◌, sym, ap, ◌∙◌, arith}
+use Rattle.std.proofs.lemmas.Grind.{common_steps}
 use Rattle.plan_model.specs.declared.formulas.Formula.TheVariants as formula
 use Rattle.name_binding.specs.Entered.{variables_of}
 use Rattle.name_binding.specs.Spots.{noted}
@@ -59,3 +60,15 @@ quantified_of-returns-clause-faults t c =
     let mid = c.params_of.new.faults.least in
     let scope = c.in_ok-enter_all.ensures.entered ∙ ap (λ xs. c.args.scope.now ++ variables_of xs) c.as_slice.ensures.words in
     noted_both c.args.faults.now.least mid c.part_of-bound.new.faults.least (params_faults known.types vars) (formula_faults known (c.args.scope.now ++ variables_of vars) part) c.in_ok-params.ensures.faults (c.in_ok-bound.ensures.faults ∙ ap (λ s. noted mid (formula_faults known s part)) scope)
+
+pub parts_of-returns-clause-bound : goal.parts_of-returns-clause-bound
+parts_of-returns-clause-bound t c = grind (arith, common_steps)
+
+pub parts_of-returns-clause-faults : goal.parts_of-returns-clause-faults
+parts_of-returns-clause-faults t c = grind (arith, common_steps)
+
+pub quantified_of-returns-in_err-bound-clause-kept : goal.quantified_of-returns-in_err-bound-clause-kept
+quantified_of-returns-in_err-bound-clause-kept t c = grind (arith, common_steps)
+
+pub quantified_of-returns-clause-kept : goal.quantified_of-returns-clause-kept
+quantified_of-returns-clause-kept t c = grind (arith, common_steps)

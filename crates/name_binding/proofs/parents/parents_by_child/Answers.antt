@@ -1,4 +1,5 @@
 use Rattle.std.proofs.Common.{◌≡◌, ◌+◌, ◌<◌, ◌∙◌, ap, sym, subst, map, nat_eq, take, ◌++◌, [], ◌∷◌, length, get_or, set, arith, rules}
+use Rattle.std.proofs.lemmas.Grind.{common_steps}
 use Rattle.indexmap.specs.IndexSet.{insert_all}
 use Rattle.name_binding.proofs.Found.{first_within}
 use Rattle.name_binding.specs.Parents.{AreParentsOf, place_of}
@@ -34,3 +35,6 @@ loop-item-preserved c =
           (subst (λ ys. AreParentsOf types ys c.loop-item.parents.items) more
           (AreParentsOf-none types (take i xs) x c.loop-item.parents.items (sym w.in_default.ensures.place) c.loop-item.invariant))
     ]
+
+pub returns : goal.returns
+returns c = grind (arith, common_steps)

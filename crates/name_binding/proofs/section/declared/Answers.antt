@@ -1,5 +1,6 @@
-use Rattle.std.proofs.Common.{Bool, true, false, not, ap, ◌∙◌, sym}
+use Rattle.std.proofs.Common.{Bool, true, false, not, ap, ◌∙◌, sym, arith}
 use Rattle.std.specs.Option.{is_none}
+use Rattle.std.proofs.lemmas.Grind.{common_steps}
 use Rattle.name_binding.proofs.SectionLemmas.{types_in_order-next}
 use Rattle.name_binding.proofs.section.declared.Goals as goal
 use Rattle.name_binding.proofs.section.declared.Goals.{then-is_none+in_ok-declare-2, else-is_none}
@@ -12,3 +13,6 @@ loop-word-preserved c =
       | then-is_none+in_ok-declare-2 w ↦ next true (place ∙ ap (λ b. not (not b)) w.if-is_none.true) (w.types-is ∙ w.in_ok-declare-2.ensures.declared)
       | else-is_none w ↦ next false (place ∙ ap (λ b. not (not b)) w.if-is_none.false) w.types-is
     ]
+
+pub returns : goal.returns
+returns c = grind (arith, common_steps)

@@ -1,4 +1,5 @@
-use Rattle.std.proofs.Common.{◌≡◌, ◌<◌, ap, ◌∙◌, take, length, get_or, rules}
+use Rattle.std.proofs.Common.{◌≡◌, ◌<◌, ap, ◌∙◌, take, length, get_or, rules, arith}
+use Rattle.std.proofs.lemmas.Grind.{common_steps}
 use Rattle.name_binding.specs.Mentions.{mentioned}
 use Rattle.name_binding.proofs.SectionLemmas.{mentioned-push}
 use Rattle.name_binding.proofs.StepLemmas.{take-read}
@@ -12,3 +13,6 @@ loop-item-preserved c =
     let more = ap mentioned (take-read c.args.listed.now i _ _ below read) ∙ mentioned-push (take i c.args.listed.now) c.item-item.result in
     let types = c.as_slice.ensures.types in
     cc (c.in_ok-extend_from_slice.ensures.items, c.in_ok-push.ensures.items, c.loop-item.invariant)
+
+pub returns : goal.returns
+returns c = grind (arith, common_steps)

@@ -1,4 +1,5 @@
-use Rattle.std.proofs.Common.{◌≡◌, ◌<◌, length, get_or, rules}
+use Rattle.std.proofs.Common.{◌≡◌, ◌<◌, length, get_or, rules, arith}
+use Rattle.std.proofs.lemmas.Grind.{common_steps}
 use Rattle.name_binding.specs.Typed.{object_bound, typed_faults}
 use Rattle.name_binding.proofs.StepLemmas.{map-read, noted-read}
 use Rattle.name_binding.proofs.typed.objects_of.Goals as goal
@@ -16,3 +17,9 @@ loop-object-preserved c =
       bound = cc (c.in_ok-push.ensures.pushed, c.loop-object.invariant.bound);
       faults = noted-read c.args.listed.now i _ _ below read (typed_faults c.args.table.now) _ _ _ c.loop-object.invariant.faults (cc);
     }
+
+pub returns-clause-bound : goal.returns-clause-bound
+returns-clause-bound c = grind (arith, common_steps)
+
+pub returns-clause-faults : goal.returns-clause-faults
+returns-clause-faults c = grind (arith, common_steps)

@@ -1,4 +1,5 @@
-use Rattle.std.proofs.Common.{◌≡◌, ◌<◌, length, get_or, rules, sym, subst, ◌∙◌}
+use Rattle.std.proofs.Common.{◌≡◌, ◌<◌, length, get_or, rules, sym, subst, ◌∙◌, arith}
+use Rattle.std.proofs.lemmas.Grind.{common_steps}
 use Rattle.gd_reader.proofs.Marking.{types_before-read}
 use Rattle.name_binding.specs.Kinds.{kind_faults}
 use Rattle.name_binding.specs.Noted.{IsKindNoted}
@@ -26,3 +27,12 @@ loop-i-preserved c =
       known = subst (λ ts. IsKindNoted table ts c.in_ok-ty.ty least) (types ∙ sym (types_before-read xs i x below read))
           (record { kind_is = kind; noted_are = noted_again c.loop-i.faults.least (kind_faults table c.as_slice-types.result.now) least spots });
     }
+
+pub kind_by-requires : goal.kind_by-requires
+kind_by-requires c = grind (arith, common_steps)
+
+pub returns-clause-bound : goal.returns-clause-bound
+returns-clause-bound c = grind (arith, common_steps)
+
+pub returns-clause-faults : goal.returns-clause-faults
+returns-clause-faults c = grind (arith, common_steps)

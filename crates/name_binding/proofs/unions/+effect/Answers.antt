@@ -1,4 +1,5 @@
-use Rattle.std.proofs.Common.{◌≡◌, ◌<◌, length, get_or, rules}
+use Rattle.std.proofs.Common.{◌≡◌, ◌<◌, length, get_or, rules, arith}
+use Rattle.std.proofs.lemmas.Grind.{common_steps}
 use Rattle.name_binding.specs.Unions.{effect_unions}
 use Rattle.name_binding.proofs.UnionsLemmas.{joined-read}
 use Rattle.name_binding.proofs.unions.+effect.Goals as goal
@@ -12,3 +13,6 @@ put_unions_of_effects-loop-part-preserved t c =
     let read : part ≡ get_or xs i part = search rules in
     joined-read (effect_unions c.args.table.now) xs i part c.args.into.now.items c.loop-part.into.items c.put_unions_of_effect.new.into.items below read
     c.loop-part.invariant c.in_ok-put_unions_of_effect.ensures.put
+
+pub put_unions_of_effects-returns : goal.put_unions_of_effects-returns
+put_unions_of_effects-returns t c = grind (arith, common_steps)

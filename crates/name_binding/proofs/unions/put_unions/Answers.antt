@@ -1,4 +1,5 @@
-use Rattle.std.proofs.Common.{◌≡◌, ◌<◌, ◌++◌, length, get_or, rules, ap, sym, ◌∙◌}
+use Rattle.std.proofs.Common.{◌≡◌, ◌<◌, ◌++◌, length, get_or, rules, ap, sym, ◌∙◌, arith}
+use Rattle.std.proofs.lemmas.Grind.{common_steps}
 use Rattle.gd_reader.proofs.Marking.{types_before-read}
 use Rattle.name_binding.specs.Kinds.{members_written}
 use Rattle.name_binding.specs.Unions.{unions_said, unions_behind}
@@ -19,3 +20,9 @@ loop-i-preserved c =
       put = flat-behind xs i x x below read (unions_behind table) _ _ _ c.loop-i.invariant.put more;
       known = c.in_ok-members.ensures.members ∙ ap (members_written table) (types ∙ sym (types_before-read xs i x below read));
     }
+
+pub put_union-requires : goal.put_union-requires
+put_union-requires c = grind (arith, common_steps)
+
+pub returns : goal.returns
+returns c = grind (arith, common_steps)

@@ -1,4 +1,5 @@
-use Rattle.std.proofs.Common.{[], ap, ◌∙◌, sym, map, take, nat_eq, refl}
+use Rattle.std.proofs.Common.{[], ap, ◌∙◌, sym, map, take, nat_eq, refl, arith}
+use Rattle.std.proofs.lemmas.Grind.{common_steps}
 use Rattle.indexmap.specs.IndexSet.{insert_key}
 use Rattle.name_binding.specs.Seen.{first_seen}
 use Rattle.name_binding.specs.Kinds.{type_number, type_faults}
@@ -20,3 +21,9 @@ loop-written-preserved c =
           noted-read c.args.types.now c.loop-written.written-index _ _ c.loop-written-test.true refl
           (type_faults c.args.self.now) _ _ _ c.loop-written.invariant.faults c.number_of.ensures.faults;
     }
+
+pub returns-clause-members : goal.returns-clause-members
+returns-clause-members c = grind (arith, common_steps)
+
+pub returns-clause-faults : goal.returns-clause-faults
+returns-clause-faults c = grind (arith, common_steps)
