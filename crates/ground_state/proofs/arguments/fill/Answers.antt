@@ -1,6 +1,7 @@
 use Rattle.std.proofs.Common.{List, [], ℕ, ◌+◌, ◌<◌, ◌≡◌, length, get_or, take, length-take-le, ◌∙◌, ap, sym, subst, arith}
 use Rattle.std.proofs.lemmas.List.{length-map, get_or-map}
 use Rattle.std.specs.Borrow.{Bor}
+use Rattle.std.proofs.lemmas.Grind.{common_steps}
 use Rattle.plan_model.specs.declared.terms.Param.{Param}
 use Rattle.ground_state.specs.Frames.{Frame}
 use Rattle.problem_index.specs.Index.{IsArgument}
@@ -59,3 +60,6 @@ loop-i-preserved c =
       subst (AreArguments p (take (i + 1) c.args.params.now) (take (i + 1) words)) (sym (ap (λ (f : Frame). f.objects) c.push.ensures))
           (arguments_next p c.args.params.now words c.loop-i.env.values.items i none w.now o c.loop-i-test.true m c.loop-i.invariant.1 t),
     )
+
+pub returns-clause-filled : goal.returns-clause-filled
+returns-clause-filled c = grind (arith, common_steps)

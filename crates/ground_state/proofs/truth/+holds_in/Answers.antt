@@ -1,5 +1,6 @@
 use Rattle.std.proofs.Common.{ℕ, ◌≡◌, ◌<◌, ◌↔◌, ◌++◌, not, IsTrue, List, [], ◌∷◌, length, Some, refl, sym, subst, ap, ◌∙◌, append_assoc, true≢false, arith}
 use Rattle.std.proofs.lemmas.Bool.{eqb-true}
+use Rattle.std.proofs.lemmas.Grind.{common_steps}
 use Rattle.plan_model.specs.Typing.{InType}
 use Rattle.plan_model.specs.plan_meaning.Truth.{IsTrueIn, AreTyped}
 use Rattle.ground_state.specs.Frames.{Frame, frame, pushed}
@@ -206,3 +207,9 @@ is_true-returns-in-Holds-get t c =
     let v = c.args.env.now.values.items in
     let inside = truth.is-Holds I S v c.get.result.now c.in-Holds-get.atom c.has_atom-in-Holds-get.result c.in-Holds-get.is (truth.as-has c.has_atom-in-Holds-get.ensures.truth) in
     record { truth = truth.is-Not I S v c.args.f.now c.in-Not.part c.get.result.now c.has_atom-in-Holds-get.result c.in-Not.is c.get.ensures.value inside; kept = c.has_atom-in-Holds-get.ensures.kept }
+
+pub is_among-loop-part-preserved : goal.is_among-loop-part-preserved
+is_among-loop-part-preserved t c = grind (arith, common_steps)
+
+pub is_found-returns-in_default-clause-answer : goal.is_found-returns-in_default-clause-answer
+is_found-returns-in_default-clause-answer t c = grind (arith, common_steps)

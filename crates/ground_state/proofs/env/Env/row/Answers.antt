@@ -1,5 +1,6 @@
 use Rattle.std.proofs.Common.{rules, ◌^◌, ℕ, ◌≡◌, ◌+◌, ◌*◌, ◌-◌, ◌<◌, ◌≤◌, ◌++◌, [], ◌∷◌, length, get_or, sym, ◌∙◌, arith}
 use Rattle.std.proofs.lemmas.List.{get_or-map, length-map}
+use Rattle.std.proofs.lemmas.Grind.{common_steps}
 use Rattle.plan_model.specs.plan_meaning.Truth.{value_of, values_of}
 use Rattle.plan_model.proofs.NumberLaws.{next_in_row}
 use Rattle.ground_state.proofs.env.Env.row.Goals as goal
@@ -21,3 +22,6 @@ loop-i-preserved c =
       (let f = c.if-step-room.false in omega (arith, f, room)),
       omega (arith, fits, room),
     )
+
+pub loop-i-init : goal.loop-i-init
+loop-i-init c = grind (arith, common_steps)

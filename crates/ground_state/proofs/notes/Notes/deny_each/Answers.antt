@@ -1,5 +1,6 @@
 use Rattle.std.proofs.Common.{ℕ, ◌≡◌, ◌+◌, ◌<◌, ◌⊎◌, ◌↔◌, ◌++◌, [], ◌∷◌, false, List, Some, None, ap, sym, subst, ◌∙◌, arith}
 use Rattle.std.specs.Prelude.{slice_index_or, unwrap_or}
+use Rattle.std.proofs.lemmas.Grind.{common_steps}
 use Rattle.plan_model.specs.plan_meaning.Truth.{values_of}
 use Rattle.problem_index.specs.Domains.{at, places}
 use Rattle.ground_state.specs.declared.notes.Notes.{Notes}
@@ -76,3 +77,6 @@ returns c =
     let P : List ℕ → Type 0 = λ list. (i : ℕ) × (i < c.loop-place.place) × AtPlace c.args.domain.now (T list) i in
     let end : c.loop-place.place ≡ places c.args.domain.now = (let e = c.loop-place-test.false in let l = c.loop-place.auto.place-end in let n = c.len-place-end.ensures in omega (arith, e, l, n)) in
     denied-same P (AreOf D v c.args.terms.now) c.args.self.now c.loop-place.self (λ list. at_some_place D (T list) c.loop-place.place end) c.loop-place.invariant.1
+
+pub index_mut-requires : goal.index_mut-requires
+index_mut-requires c = grind (arith, common_steps)
