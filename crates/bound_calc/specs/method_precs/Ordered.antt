@@ -5,6 +5,7 @@ use Rattle.plan_model.specs.task_networks.Order.{IsLine, IsMaximal}
 use Rattle.plan_model.specs.declared.networks.Pair.{Pair}
 use Rattle.plan_model.specs.plan_meaning.Compilation.{last_of}
 use Rattle.plan_model.specs.Pairs.{Pairs}
+use Rattle.plan_model.specs.net_order.Answers.{Answers, heir, maximal}
 use Rattle.bound_calc.specs.declared.method_precs.orders.Ordered.{Ordered}
 
 abbrev pub IsCopier : (ℕ → Bool) → Option ℕ → ℕ → Type 0
@@ -20,3 +21,9 @@ pub record IsOrdered (count : ℕ) (pairs : List Pair) (ordered : Ordered) : Typ
   pub heir : ordered.heir ≡ last_of ordered.line
   pub copiers : (i : ℕ) → Contains ordered.copiers i ↔ (IsMaximal (Pairs pairs) count i × (ordered.heir ≢ Some i))
   pub copiers_in_order : IsStrictlyIncreasing ordered.copiers
+
+-- the line, the heir and the copiers that the order of so many children answers
+pub record IsOrderedBy (order : Answers) (count : ℕ) (ordered : Ordered) : Type 0 where
+  pub line : ordered.line ≡ order.line
+  pub heir : ordered.heir ≡ heir order
+  pub copiers : AreCopiers count (maximal order) ordered.heir ordered.copiers

@@ -4,7 +4,7 @@ ghost use Rattle.plan_model.specs.task_networks.Order.{IsAcyclic, IsMaximal};
 ghost use Rattle.plan_model.specs.Pairs.{Pairs};
 ghost use Rattle.plan_model.specs.net_order.Meaning.{AreBelow, IsOrderOf};
 ghost use Rattle.plan_model.specs.net_order.Answers.{maximal};
-ghost use Rattle.bound_calc.specs.method_precs.Ordered.{AreCopiers, IsCopier, IsOrdered};
+ghost use Rattle.bound_calc.specs.method_precs.Ordered.{AreCopiers, IsCopier, IsOrdered, IsOrderedBy};
 
 use htn_base::{List, Memory};
 use plan_model::Pair;
@@ -29,11 +29,21 @@ impl Ordered {
         ensures ordered { IfOk result (IsOrdered count pairs.now) }
     {
         let order = order_of(alloc, count, pairs)?;
+        let ordered = Ordered::of(alloc, &order, count);
+        drop(order);
+        ordered
+    }
+
+    /// What the order of so many children answers.
+    fn of(alloc: Global, order: &Order, count: u32) -> Result<Ordered, Memory>
+        requires children { order.now.count ≡ count }
+        ensures ordered { IfOk result (IsOrderedBy order.now count) }
+    {
         let heir = order.heir();
         Ok(Ordered {
             line: order.line().copy(alloc)?,
             heir,
-            copiers: copiers_of(alloc, &order, count, heir)?,
+            copiers: copiers_of(alloc, order, count, heir)?,
         })
     }
 }
