@@ -1,5 +1,6 @@
 use Rattle.std.proofs.Common.{◌∷◌, ◌++◌, [], ◌<◌, length, get_or, ap, subst, ◌∙◌, arith}
 use Rattle.std.proofs.lemmas.Option.{slice_get-get_or, slice_get_within}
+use Rattle.std.proofs.lemmas.Grind.{common_steps}
 use Rattle.bound_calc.specs.stratifier.NamedSearch.{AreFirstSteps}
 use Rattle.bound_calc.proofs.stratifier.NamedWalk.{back_walk, cycle_at, step_at, no_step, followed_none, followed_more, followed_all, step_is_nearer}
 use Rattle.bound_calc.proofs.stratifier.named.cycle_from.Invariants.{nothing, nowhere}
@@ -69,3 +70,27 @@ offset_bounds-ends-k c =
     let step = step_at c.args.ends.now c.in_ok-distances.distances.items _ c.in_ok-steps.steps.items c.loop-k.task c.in-Some.k c.loop-k.invariant.near c.index.result.now c.as_slice.ensures.value c.in_ok-steps.ensures.steps c.loop-k.invariant.has c.index.ensures c.in-Some.is in
     let l = slice_get_within c.args.ends.now c.in-Some.k step.0.0 step.0.1 in
     omega arith
+
+pub bounds-ends-first : goal.bounds-ends-first
+bounds-ends-first c = grind (arith, common_steps)
+
+pub distances-requires-clause-goal : goal.distances-requires-clause-goal
+distances-requires-clause-goal c = grind (arith, common_steps)
+
+pub distances-requires-clause-within : goal.distances-requires-clause-within
+distances-requires-clause-within c = grind (arith, common_steps)
+
+pub first_steps-requires : goal.first_steps-requires
+first_steps-requires c = grind (arith, common_steps)
+
+pub bounds-edges-first : goal.bounds-edges-first
+bounds-edges-first c = grind (arith, common_steps)
+
+pub same-cycle : goal.same-cycle
+same-cycle c = grind (arith, common_steps)
+
+pub index-requires : goal.index-requires
+index-requires c = grind (arith, common_steps)
+
+pub same-cycle-in-Some : goal.same-cycle-in-Some
+same-cycle-in-Some c = grind (arith, common_steps)

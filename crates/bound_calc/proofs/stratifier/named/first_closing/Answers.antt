@@ -1,6 +1,7 @@
 use Rattle.std.proofs.Common.{◌<◌, length, false, get_or, sym, ◌∙◌, arith}
 use Rattle.std.proofs.lemmas.Option.{slice_get-get_or}
 use Rattle.std.proofs.lemmas.Bool.{false≢true}
+use Rattle.std.proofs.lemmas.Grind.{common_steps}
 use Rattle.bound_calc.specs.declared.stratifier.named.Ends.{Ends}
 use Rattle.bound_calc.proofs.stratifier.NamedFirst.{none_more, none_at_all}
 use Rattle.bound_calc.proofs.stratifier.named.first_closing.Goals as goal
@@ -25,3 +26,15 @@ loop-k-preserved c =
 
 pub returns : goal.returns
 returns c = record { first = none_at_all c.args.groups.now c.args.ends.now c.args.bad.now c.loop-k.k c.loop-k-test.false c.loop-k.invariant }
+
+pub bounds-bad-k : goal.bounds-bad-k
+bounds-bad-k c = grind (arith, common_steps)
+
+pub bounds-groups-e : goal.bounds-groups-e
+bounds-groups-e c = grind (arith, common_steps)
+
+pub bounds-groups-e-then-bad-k : goal.bounds-groups-e-then-bad-k
+bounds-groups-e-then-bad-k c = grind (arith, common_steps)
+
+pub loop-k-init : goal.loop-k-init
+loop-k-init c = grind (arith, common_steps)

@@ -2,6 +2,7 @@ use Rattle.std.proofs.Common.{◌≡◌, ◌<◌, [], get_or, take, sym, ap, sub
 use Rattle.std.proofs.Common.{ℕ, ◌+◌, List, not, length, None, take_all}
 use Rattle.std.proofs.lemmas.List.{get_or_read}
 use Rattle.std.proofs.lemmas.Option.{slice_get-get_or, get_or_from_slice_get}
+use Rattle.std.proofs.lemmas.Grind.{common_steps}
 use Rattle.bound_calc.proofs.stratifier.NamedSteps.{no_option, an_option}
 use Rattle.bound_calc.specs.stratifier.NamedSearch.{AreFound}
 use Rattle.bound_calc.proofs.stratifier.NamedDistances.{IsSourceUpTo, found_none, found_as, found_before, found_one, no_source, source_first, source_next, source_row}
@@ -52,3 +53,24 @@ loop-task-preserved c =
     let same = row_is sources t row c.index-sources-task.result (c.requires.tasks i 0 l) c.as_slice-source-items.ensures.items c.index-sources-task.is in
     found_as (source_row sources tasks i t row (take c.loop-source.source-index row) (sym (get_or_from_slice_get tasks i t t (slice_get-get_or tasks i 0 l))) l same (take_all c.loop-source.source-index row c.loop-source-test.false))
     c.args.distance c.args.found.now.items c.loop-source.found.items c.loop-source.next.items c.loop-source.invariant
+
+pub bounds-sources-task : goal.bounds-sources-task
+bounds-sources-task c = grind (arith, common_steps)
+
+pub index-requires : goal.index-requires
+index-requires c = grind (arith, common_steps)
+
+pub index_mut-requires : goal.index_mut-requires
+index_mut-requires c = grind (arith, common_steps)
+
+pub returns : goal.returns
+returns c = grind (arith, common_steps)
+
+pub offset_bounds-tasks-task-index : goal.offset_bounds-tasks-task-index
+offset_bounds-tasks-task-index c = grind (arith, common_steps)
+
+pub offset_bounds-sources-task : goal.offset_bounds-sources-task
+offset_bounds-sources-task c = grind (arith, common_steps)
+
+pub offset_bounds-source-items-source-index : goal.offset_bounds-source-items-source-index
+offset_bounds-source-items-source-index c = grind (arith, common_steps)
