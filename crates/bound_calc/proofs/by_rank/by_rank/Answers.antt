@@ -2,6 +2,7 @@ use Rattle.std.proofs.Common.{ℕ, ◌≡◌, ◌<◌, ◌≤◌, ◌+◌, ◌++
 use Rattle.std.proofs.lemmas.Bool.{false≢true}
 use Rattle.std.proofs.lemmas.List.{get_or_read}
 use Rattle.std.proofs.lemmas.Option.{slice_get-get_or}
+use Rattle.std.proofs.lemmas.Grind.{common_steps}
 use Rattle.bound_calc.proofs.Placing.{ArePlaced, placed_more, placed_same, placed_all, task_below}
 use Rattle.bound_calc.proofs.by_rank.by_rank.Goals as goal
 use Rattle.bound_calc.proofs.by_rank.by_rank.Goals.{then-index+in_ok-push, else-index}
@@ -28,3 +29,24 @@ returns c =
     let p = c.sort_unstable.ensures.permutation in
     let l : length c.args.c.now.methods ≤ c.loop-m.m = let e = ap length c.as_slice-plan-items.ensures.items in let t = c.loop-m-test.false in omega arith in
     record { places = placed_all c.args.c.now c.args.r.now c.loop-m.m c.loop-m.places.items c.sort_unstable.new.self.items l c.loop-m.invariant c.sort_unstable.ensures.permutation c.sort_unstable.ensures.sorted }
+
+pub reached-requires : goal.reached-requires
+reached-requires c = grind (arith, common_steps)
+
+pub loop-m-init : goal.loop-m-init
+loop-m-init c = grind (arith, common_steps)
+
+pub offset_bounds-plan-items-m : goal.offset_bounds-plan-items-m
+offset_bounds-plan-items-m c = grind (arith, common_steps)
+
+pub bounds-plan-items-m : goal.bounds-plan-items-m
+bounds-plan-items-m c = grind (arith, common_steps)
+
+pub index-requires : goal.index-requires
+index-requires c = grind (arith, common_steps)
+
+pub rank-requires : goal.rank-requires
+rank-requires c = grind (arith, common_steps)
+
+pub overflow_cast-m : goal.overflow_cast-m
+overflow_cast-m c = grind (arith, common_steps)

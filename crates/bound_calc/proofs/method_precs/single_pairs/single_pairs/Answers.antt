@@ -1,4 +1,5 @@
-use Rattle.std.proofs.Common.{Bool, ◌≡◌, ◌+◌, ◌++◌, ◌∷◌, [], List, length, true, not, take, get_or, set, sym, subst, ap, ◌∙◌}
+use Rattle.std.proofs.Common.{Bool, ◌≡◌, ◌+◌, ◌++◌, ◌∷◌, [], List, length, true, not, take, get_or, set, sym, subst, ap, ◌∙◌, arith}
+use Rattle.std.proofs.lemmas.Grind.{common_steps}
 use Rattle.plan_model.specs.declared.networks.Pair.{Pair}
 use Rattle.plan_model.specs.net_order.Marks.{marked}
 use Rattle.plan_model.specs.net_order.Closure.{IsAdded}
@@ -33,3 +34,24 @@ loop-pair-preserved c =
             ∙ sym (single_old c.args.count pairs k none c.loop-pair-test.true c.requires.within old now c.in_ok-seen.ensures.empty c.loop-pair.invariant.added c.is_new.result told w.if-is_new.false))
       ];
     }
+
+pub loop-pair-init : goal.loop-pair-init
+loop-pair-init c = grind (arith, common_steps)
+
+pub offset_bounds-pairs-pair-index : goal.offset_bounds-pairs-pair-index
+offset_bounds-pairs-pair-index c = grind (arith, common_steps)
+
+pub is_new-requires-clause-square : goal.is_new-requires-clause-square
+is_new-requires-clause-square c = grind (arith, common_steps)
+
+pub is_new-requires-clause-first : goal.is_new-requires-clause-first
+is_new-requires-clause-first c = grind (arith, common_steps)
+
+pub is_new-requires-clause-then_ : goal.is_new-requires-clause-then_
+is_new-requires-clause-then_ c = grind (arith, common_steps)
+
+pub same-single : goal.same-single
+same-single c = grind (arith, common_steps)
+
+pub returns : goal.returns
+returns c = grind (arith, common_steps)

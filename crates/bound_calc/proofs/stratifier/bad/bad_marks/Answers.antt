@@ -1,5 +1,6 @@
 use Rattle.std.proofs.Common.{◌≡◌, ◌<◌, Some, slice_get, length, get_or, arith, sym, ap, subst, ◌∙◌}
 use Rattle.std.proofs.lemmas.Option.{slice_get_read, slice_get-get_or}
+use Rattle.std.proofs.lemmas.Grind.{common_steps}
 use Rattle.bound_calc.specs.declared.stratifier.edge.Edge.{Edge}
 use Rattle.bound_calc.proofs.stratifier.Lasts.{marked_more, bad_mark, method_within}
 use Rattle.bound_calc.proofs.stratifier.bad.bad_marks.Goals as goal
@@ -30,3 +31,18 @@ index-requires c =
     let m = ap length c.as_slice.ensures.items in
     let v = c.in_ok-lasts.lasts.ok.0 in
     omega arith
+
+pub last_children-requires-clause-small : goal.last_children-requires-clause-small
+last_children-requires-clause-small c = grind (arith, common_steps)
+
+pub loop-edge-init : goal.loop-edge-init
+loop-edge-init c = grind (arith, common_steps)
+
+pub offset_bounds-edge-items-edge-index : goal.offset_bounds-edge-items-edge-index
+offset_bounds-edge-items-edge-index c = grind (arith, common_steps)
+
+pub same-marks : goal.same-marks
+same-marks c = grind (arith, common_steps)
+
+pub returns : goal.returns
+returns c = grind (arith, common_steps)

@@ -1,5 +1,6 @@
 use Rattle.std.proofs.Common.{◌≡◌, [], arith}
 use Rattle.std.proofs.lemmas.List.{nil_from_length}
+use Rattle.std.proofs.lemmas.Grind.{common_steps}
 use Rattle.bound_calc.proofs.stratifier.Grouped.{reversed_within, roots_left, grouped_more, grouped_all}
 use Rattle.bound_calc.proofs.stratifier.groups.group_numbers.Goals as goal
 
@@ -32,3 +33,21 @@ pub returns : goal.returns
 returns c =
     let none : c.loop-root.order.items ≡ [] = nil_from_length c.loop-root.order.items (let a = c.loop-root.order.ok.0 in let z = c.in_default.ensures.cases.0 in omega arith) in
     record { groups = grouped_all c.args.rows.now c.args.back.now _ c.requires.reversed c.loop-root.order.items c.loop-root.groups none c.loop-root.invariant }
+
+pub finishing_order-requires-clause-few : goal.finishing_order-requires-clause-few
+finishing_order-requires-clause-few c = grind (arith, common_steps)
+
+pub loop-root-init : goal.loop-root-init
+loop-root-init c = grind (arith, common_steps)
+
+pub overflow_cast-number : goal.overflow_cast-number
+overflow_cast-number c = grind (arith, common_steps)
+
+pub number-requires-clause-within : goal.number-requires-clause-within
+number-requires-clause-within c = grind (arith, common_steps)
+
+pub number-requires-clause-ready : goal.number-requires-clause-ready
+number-requires-clause-ready c = grind (arith, common_steps)
+
+pub loop-root-smaller : goal.loop-root-smaller
+loop-root-smaller c = grind (arith, common_steps)

@@ -1,5 +1,6 @@
 use Rattle.std.proofs.Common.{get_or, true, ◌∙◌, arith, length-set, subst}
 use Rattle.std.proofs.lemmas.List.{take_all}
+use Rattle.std.proofs.lemmas.Grind.{common_steps}
 use Rattle.plan_model.specs.declared.networks.Pair.{Pair}
 use Rattle.plan_model.specs.net_order.Closure.{AreFirsts}
 use Rattle.plan_model.proofs.net_order.Ends.{firsts_more}
@@ -21,3 +22,15 @@ loop-pair-preserved c =
 
 pub returns-clause-firsts : goal.returns-clause-firsts
 returns-clause-firsts c = subst (λ ps. AreFirsts ps c.loop-pair.marks.items) (take_all c.loop-pair.pair-index c.args.pairs.now (let h = c.loop-pair-test.false in omega arith)) c.loop-pair.invariant.firsts
+
+pub loop-pair-init : goal.loop-pair-init
+loop-pair-init c = grind (arith, common_steps)
+
+pub offset_bounds-pairs-pair-index : goal.offset_bounds-pairs-pair-index
+offset_bounds-pairs-pair-index c = grind (arith, common_steps)
+
+pub index_mut-requires : goal.index_mut-requires
+index_mut-requires c = grind (arith, common_steps)
+
+pub returns-clause-room : goal.returns-clause-room
+returns-clause-room c = grind (arith, common_steps)

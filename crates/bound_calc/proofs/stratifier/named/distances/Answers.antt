@@ -1,5 +1,6 @@
 use Rattle.std.proofs.Common.{◌+◌, ◌<◌, All, length, refl, sym, ap, subst, arith}
 use Rattle.std.proofs.lemmas.List.{nil_from_length}
+use Rattle.std.proofs.lemmas.Grind.{common_steps}
 use Rattle.bound_calc.specs.stratifier.NamedSearch.{AreFound, IsSourceOf}
 use Rattle.bound_calc.proofs.stratifier.NamedDistances.{not_empty, is_empty, searched_first, searched_on, searched_all, tasks_within, sources_within}
 use Rattle.bound_calc.proofs.stratifier.named.distances.Goals as goal
@@ -31,3 +32,21 @@ loop-alloc-preserved c =
 
 pub returns-clause-distances : goal.returns-clause-distances
 returns-clause-distances c = searched_all c.args.ends.now c.args.goal c.args.count c.loop-alloc.found.items c.loop-alloc.tasks.items c.loop-alloc.distance (nil_from_length c.loop-alloc.tasks.items (let e = is_empty _ c.loop-alloc-test.ensures in let v = c.loop-alloc.tasks.ok.0 in omega arith)) c.loop-alloc.invariant
+
+pub sources_by_task-requires : goal.sources_by_task-requires
+sources_by_task-requires c = grind (arith, common_steps)
+
+pub index_mut-requires : goal.index_mut-requires
+index_mut-requires c = grind (arith, common_steps)
+
+pub vec-requires : goal.vec-requires
+vec-requires c = grind (arith, common_steps)
+
+pub overflow_add-distance : goal.overflow_add-distance
+overflow_add-distance c = grind (arith, common_steps)
+
+pub loop-alloc-smaller : goal.loop-alloc-smaller
+loop-alloc-smaller c = grind (arith, common_steps)
+
+pub returns-clause-room : goal.returns-clause-room
+returns-clause-room c = grind (arith, common_steps)

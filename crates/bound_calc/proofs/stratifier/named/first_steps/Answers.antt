@@ -2,6 +2,7 @@ use Rattle.std.proofs.Common.{◌+◌, length, not, ◌<◌, get_or, None, sym, 
 use Rattle.std.proofs.lemmas.List.{get_or_read}
 use Rattle.std.proofs.lemmas.Option.{slice_get-get_or, none-some}
 use Rattle.std.proofs.lemmas.Bool.{false≢true}
+use Rattle.std.proofs.lemmas.Grind.{common_steps}
 use Rattle.bound_calc.specs.declared.stratifier.named.Ends.{Ends}
 use Rattle.bound_calc.proofs.stratifier.NamedSteps.{AreStepsBelow, no_option, an_option, steps_none, steps_over, steps_more, steps_all}
 use Rattle.bound_calc.proofs.stratifier.named.first_steps.Goals as goal
@@ -36,3 +37,27 @@ loop-k-preserved c =
 
 pub returns : goal.returns
 returns c = record { steps = steps_all c.args.ends.now c.args.distances.now c.loop-k.k c.loop-k.steps.items c.loop-k-test.false c.loop-k.invariant }
+
+pub offset_bounds-ends-k : goal.offset_bounds-ends-k
+offset_bounds-ends-k c = grind (arith, common_steps)
+
+pub bounds-ends-k : goal.bounds-ends-k
+bounds-ends-k c = grind (arith, common_steps)
+
+pub index-requires : goal.index-requires
+index-requires c = grind (arith, common_steps)
+
+pub offset_bounds-distances-from : goal.offset_bounds-distances-from
+offset_bounds-distances-from c = grind (arith, common_steps)
+
+pub bounds-distances-from : goal.bounds-distances-from
+bounds-distances-from c = grind (arith, common_steps)
+
+pub offset_bounds-distances-e : goal.offset_bounds-distances-e
+offset_bounds-distances-e c = grind (arith, common_steps)
+
+pub bounds-distances-e : goal.bounds-distances-e
+bounds-distances-e c = grind (arith, common_steps)
+
+pub index_mut-requires : goal.index_mut-requires
+index_mut-requires c = grind (arith, common_steps)
