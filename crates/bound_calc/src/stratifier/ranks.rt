@@ -1,6 +1,8 @@
-ghost use Rattle.std.specs.Prelude.{◌≡◌, ◌<◌, length, IfOk, IfErr};
-ghost use Rattle.plan_model.specs.plan_meaning.Strata.{IsTailRecursive};
+ghost use Rattle.std.specs.Prelude.{◌≡◌, ◌<◌, length, map, IfOk, IfErr};
+ghost use Rattle.plan_model.specs.plan_meaning.Strata.{AreEdges, IsTailRecursive};
 ghost use Rattle.bound_calc.specs.stratifier.Conditions.{HaveNoCycle, IsSmallCompiled};
+ghost use Rattle.bound_calc.specs.stratifier.Listed.{edge_of};
+ghost use Rattle.bound_calc.specs.stratifier.Bad.{AreBadMarks};
 ghost use Rattle.bound_calc.specs.stratifier.Stratified.{IsRefused, IsStratified, number_of};
 
 use crate::stratifier::all_edges::edges;
@@ -66,9 +68,26 @@ pub fn stratify(alloc: Global, c: &Compiled) -> Result<Ranks, StratError>
 {
     let edges = edges(alloc, c)?;
     let bad = bad_marks(alloc, c, &edges)?;
-    let ends = all_ends(alloc, c, &edges)?;
+    stratify_by(alloc, c, &edges, &bad)
+}
+
+/// The same from the edges and the marks of the bad ones.
+fn stratify_by(
+    alloc: Global,
+    c: &Compiled,
+    edges: &List<Edge>,
+    bad: &List<bool>,
+) -> Result<Ranks, StratError>
+    requires small { IsSmallCompiled c.now }
+    requires edges { AreEdges c.now (map edge_of edges.now) }
+    requires bad { AreBadMarks c.now edges.now bad.now }
+    ensures strata { IfOk result (IsStratified c.now) }
+    ensures tail_recursive { IfOk result (λ ranks. IsTailRecursive c.now) }
+    ensures refused { IfErr result (IsRefused c.now) }
+{
+    let ends = all_ends(alloc, c, edges)?;
     let numbers = task_groups(alloc, c, ends.as_slice())?;
-    match named_cycle(alloc, c, &edges, ends.as_slice(), &bad, numbers.as_slice())? {
+    match named_cycle(alloc, c, edges, ends.as_slice(), bad, numbers.as_slice())? {
         Some(cycle) => Err(StratError::Cycle(cycle)),
         None => Ok(Ranks { numbers }),
     }
