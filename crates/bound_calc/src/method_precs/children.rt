@@ -17,11 +17,23 @@ pub fn children_of(
     ensures children { IfOk result (λ children. children ≡ spec.children checked method.now) }
 {
     let mut children = List::with_room(alloc, method.children.len().saturating_add(1))?;
-    if checked {
-        children.push(check_of(alloc, method)?)?;
-    }
-    append_copies(alloc, &mut children, method.children.as_slice())?;
+    append_children(alloc, &mut children, checked, method)?;
     Ok(children)
+}
+
+fn append_children(
+    alloc: Global,
+    into: &mut List<Child>,
+    checked: bool,
+    method: &MethodSchema,
+) -> Result<(), Memory>
+    requires { length method.now.params < 2 ^ 32 }
+    ensures { OnOk result (into.new ≡ into.old ++ spec.children checked method.now) }
+{
+    if checked {
+        into.put(check_of(alloc, method))?;
+    }
+    append_copies(alloc, into, method.children.as_slice())
 }
 
 /// The check of the method's precondition, with all parameters.
@@ -51,7 +63,7 @@ fn append_copies(alloc: Global, into: &mut List<Child>, children: &[Child]) -> R
     ensures { OnOk result (into.new ≡ into.old ++ children.now) }
 {
     for child in children {
-        into.push(child.copy(alloc)?)?;
+        into.put(child.copy(alloc))?;
     }
     Ok(())
 }
