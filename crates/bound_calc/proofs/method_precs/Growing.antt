@@ -1,5 +1,6 @@
 -- Lists of the definitions as they grow at the end.
 use Rattle.std.proofs.Common.{ℕ, zero, suc, ◌≡◌, ◌+◌, ◌<◌, ◌≤◌, ◌⊎◌, inl, inr, List, [], ◌∷◌, ◌++◌, map, length, take, get_or, refl, ap, sym, subst, ◌∙◌, arith, append_assoc}
+use Rattle.std.specs.Prelude.{Result, Ok, Err, IfOk, IsOkAnd}
 use Rattle.std.proofs.lemmas.List.{take_more}
 use Rattle.plan_model.specs.task_networks.Spelling.{numbers}
 use Rattle.plan_model.specs.declared.terms.Term.{Term}
@@ -84,3 +85,8 @@ plans_push h mode [] [] s p a is = (is, tt)
 plans_push h mode [] (q ∷ ps) s p a is = absurd a
 plans_push h mode (z ∷ ss) [] s p a is = absurd a
 plans_push h mode (z ∷ ss) (q ∷ ps) s p a is = (a.0, plans_push h mode ss ps s p a.1 is)
+
+pub plans_put : {E : Type 0} (h : Hddl) (mode : Checks) (ss : List MethodSchema) (ps new : List MethodPlan) (s : MethodSchema) (made : Result MethodPlan E) → AreMethodPlans h mode ss ps
+    → IfOk made (IsMethodPlan h mode s) → IsOkAnd made (λ p. new ≡ ps ++ p ∷ []) → AreMethodPlans h mode (ss ++ s ∷ []) new
+plans_put h mode ss ps new s (Ok p) a is put = subst (AreMethodPlans h mode (ss ++ s ∷ [])) (sym put) (plans_push h mode ss ps s p a is)
+plans_put h mode ss ps new s (Err e) a is put = absurd put

@@ -23,9 +23,9 @@ pub fn plans_of(alloc: Global, problem: &Hddl, checks: &Checks) -> Result<List<M
     ensures { IfOk result (AreAllPlans problem.now checks.now) }
 {
     let mut plans = List::new(alloc);
-    plans.push(plan_of(alloc, problem, checks, &problem.top)?)?;
+    plans.put(plan_of(alloc, problem, checks, &problem.top))?;
     for method in problem.methods.as_slice() {
-        plans.push(plan_of(alloc, problem, checks, method)?)?;
+        plans.put(plan_of(alloc, problem, checks, method))?;
     }
     Ok(plans)
 }
