@@ -21,6 +21,7 @@ pub fn children_of(
     Ok(children)
 }
 
+/// Appends the check, if there is one, and copies of the subtasks.
 fn append_children(
     alloc: Global,
     into: &mut List<Child>,
