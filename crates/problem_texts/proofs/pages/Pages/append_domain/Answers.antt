@@ -1,4 +1,4 @@
-use Rattle.std.proofs.Common.{arith}
+use Rattle.std.proofs.Common.{arith, rules}
 use Rattle.problem_texts.proofs.Ended.{is-appended}
 use Rattle.problem_texts.proofs.pages.Pages.append_domain.Goals as goal
 

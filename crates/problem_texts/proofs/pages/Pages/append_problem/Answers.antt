@@ -1,4 +1,4 @@
-use Rattle.std.proofs.Common.{arith}
+use Rattle.std.proofs.Common.{arith, rules}
 use Rattle.text_forms.proofs.sheets.Written.{wrote-as}
 use Rattle.problem_texts.proofs.Ended.{is-appended}
 use Rattle.problem_texts.proofs.Putting.{problem-is}
