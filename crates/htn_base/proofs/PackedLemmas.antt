@@ -5,7 +5,7 @@ use Rattle.std.specs.Prelude.{slice_range}
 use Rattle.std.proofs.lemmas.List.{take-append-le, drop-append-le, length-drop}
 use Rattle.std.proofs.lemmas.Option.{slice_get_past}
 use Rattle.std.proofs.Math.Seq.{drop-append_seam, take-length}
-use Rattle.htn_base.specs.Packed.{Row, row_of, rows_from, EndsFrom, AreRows}
+use Rattle.htn_base.specs.Packed.{Row, row_of, rows_from, parts_from, EndsFrom, AreRows}
 
 -- a part stays as it is where more comes behind
 part_kept : (xs ys : List ℕ) (start end : ℕ) → start ≤ end → end ≤ length xs → slice_range (xs ++ ys) start end ≡ slice_range xs start end
@@ -96,3 +96,33 @@ rows_pushed heads ends numbers head rest are =
       paired = omega (arith, paired, one, other);
       rising = ends_pushed 0 ends (length numbers) (length (numbers ++ rest)) (omega (arith, long)) are.rising;
     }
+
+-- one more part, which comes last
+pub part_pushed : (start : ℕ) (ends items new : List ℕ) → EndsFrom start ends (length items)
+    → parts_from start (ends ++ length (items ++ new) ∷ []) (items ++ new) ≡ parts_from start ends items ++ new ∷ []
+part_pushed start [] items new rising =
+    ap (λ r. r ∷ []) (ap (λ s. slice_range (items ++ new) s (length (items ++ new))) rising ∙ part_last items new)
+part_pushed start (end ∷ ends) items new rising =
+    let within = ends_within end ends (length items) rising.1 in
+    let here = part_kept items new start end rising.0 within in
+    let later = part_pushed end ends items new rising.1 in
+    ap (λ r. r ∷ parts_from end (ends ++ length (items ++ new) ∷ []) (items ++ new)) here ∙ ap (λ parts. slice_range items start end ∷ parts) later
+
+-- the part of a number: from the end of the one before to its own
+pub part_read : (start : ℕ) (ends items : List ℕ) (k from end : ℕ)
+    → slice_get (start ∷ ends) k ≡ Some from → slice_get ends k ≡ Some end
+    → slice_get (parts_from start ends items) k ≡ Some (slice_range items from end)
+part_read start [] items k from end f e = absurd (cc e)
+part_read start (to ∷ ends) items zero from end f e = cc
+part_read start (to ∷ ends) items (suc k) from end f e = part_read to ends items k from end f e
+
+-- as many parts as ends
+pub length-parts : (start : ℕ) (ends items : List ℕ) → length ends ≡ length (parts_from start ends items)
+length-parts start [] items = refl
+length-parts start (end ∷ ends) items = ap (λ n. suc n) (length-parts end ends items)
+
+-- and none past the ends
+pub no_part : (ends items : List ℕ) (parts : List (List ℕ)) (k : ℕ) → parts_from 0 ends items ≡ parts → length ends ≤ k → None ≡ slice_get parts k
+no_part ends items parts k are past =
+    let long = length-parts 0 ends items ∙ ap (λ all. length all) are in
+    sym (slice_get_past parts k (omega (arith, past, long)))

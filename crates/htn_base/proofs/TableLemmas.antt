@@ -4,11 +4,11 @@ use Rattle.std.specs.List.{list_any, position_or_len}
 use Rattle.std.specs.Str.{bytes_eq}
 use Rattle.std.specs.Cmp.Lexicographic.{pointwise}
 use Rattle.std.proofs.lemmas.Bool.{lt-ltb}
-use Rattle.std.proofs.lemmas.List.{length-append, length-take}
-use Rattle.std.proofs.Math.Nat.{min-le_right}
+use Rattle.std.proofs.lemmas.List.{length-append, length-take, get_or-take, get_or_default}
+use Rattle.std.proofs.Math.Nat.{min-le_left, min-le_right}
 use Rattle.std.proofs.lemmas.List.Elements.{All-push, All-take, All-get_or}
 use Rattle.std.proofs.lemmas.List.Quantifiers.{position-Some}
-use Rattle.std.proofs.lemmas.List.Folds.{list_any_at}
+use Rattle.std.proofs.lemmas.List.Folds.{list_any_at, list_any_none}
 use Rattle.std.proofs.lemmas.List.Sums.{prefix_len-le-length, position_or_len_is}
 use Rattle.std.proofs.lemmas.Option.{slice_get_within, get_or_from_slice_get}
 use Rattle.std.proofs.lemmas.Slice.Eq.{bytes_eq-Decides}
@@ -64,21 +64,29 @@ module _ (words : List (List ℕ)) (word : List ℕ) (table : IsTable words) (n 
   known-same = ap (with_word words) known-folded ∙ ap (λ there. cond there words (words ++ word ∷ []))
       (list_any_at (bytes_eq word) words n word stands.0 ((bytes_eq-Decides word _).1 stands.1))
 
--- the number at which a word of a table stands is its own
-pub number_there : (words : List (List ℕ)) (word : List ℕ) (n : ℕ) → AreDifferent words → slice_get words n ≡ Some word → number_of words word ≡ Some n
-number_there words word n differ e =
-    let below = slice_get_within words n word e in
-    let is : get_or words n [] ≡ word = get_or_from_slice_get words n word [] e in
-    let first = position_or_len_is (bytes_eq word) words n [] (omega arith) earlier (λ _. (bytes_eq-Decides word (get_or words n [])).1 (sym is)) in
-    position-at (bytes_eq word) word ((bytes_eq-Decides word word).1 refl) words (subst (λ k. k < length words) (sym first) below) ∙ ap Some first
-  where
-    earlier : (k : ℕ) → k < n → bytes_eq word (get_or words k []) ≡ false
-    earlier k less = by (bytes_eq word (get_or words k [])) refl
-      where
-        by : (same : Bool) → bytes_eq word (get_or words k []) ≡ same → bytes_eq word (get_or words k []) ≡ false
-        by false f = f
-        by true f = absurd (different-places words differ k n [] less (slice_get_within words n word e)
-            (sym ((bytes_eq-Decides word (get_or words k [])).0 f) ∙ sym (get_or_from_slice_get words n word [] e)))
+-- a word of a table does not stand in front of its own place
+module _ (words : List (List ℕ)) (word : List ℕ) (n : ℕ) (differ : AreDifferent words) (e : slice_get words n ≡ Some word) where
+  earlier : (k : ℕ) → k < n → bytes_eq word (get_or words k []) ≡ false
+  earlier k less = by (bytes_eq word (get_or words k [])) refl
+    where
+      by : (same : Bool) → bytes_eq word (get_or words k []) ≡ same → bytes_eq word (get_or words k []) ≡ false
+      by false f = f
+      by true f = absurd (different-places words differ k n [] less (slice_get_within words n word e)
+          (sym ((bytes_eq-Decides word (get_or words k [])).0 f) ∙ sym (get_or_from_slice_get words n word [] e)))
+
+  -- so its place is its number
+  pub number_there : number_of words word ≡ Some n
+  number_there =
+      let below = slice_get_within words n word e in
+      let is : get_or words n [] ≡ word = get_or_from_slice_get words n word [] e in
+      let first = position_or_len_is (bytes_eq word) words n [] (omega arith) earlier (λ _. (bytes_eq-Decides word (get_or words n [])).1 (sym is)) in
+      position-at (bytes_eq word) word ((bytes_eq-Decides word word).1 refl) words (subst (λ k. k < length words) (sym first) below) ∙ ap Some first
+
+  new_there : list_any (bytes_eq word) (take n words) ≡ false
+  new_there = list_any_none (bytes_eq word) (take n words) λ k d l.
+      let less : k < n = omega (arith, l, length-take n words, min-le_left n (length words)) in
+      let within : k < length words = omega (arith, less, slice_get_within words n word e) in
+      ap (bytes_eq word) (get_or-take n words k d less ∙ get_or_default words k d [] within) ∙ earlier k less
 
 -- the first words of a table are a table
 pub IsTable-take : (n : ℕ) (words : List (List ℕ)) → IsTable words → IsTable (take n words)
@@ -111,6 +119,13 @@ IsTable-with_word words word table room low = by (list_any (bytes_eq word) words
       folded = All-push IsFolded words word table.folded low;
       short = omega (arith, length-append words (word ∷ []), table.short);
     }
+
+-- the next word of a table, put among those in front of it, comes behind them
+pub words-next : (words : List (List ℕ)) (word : List ℕ) (n : ℕ) → IsTable words → slice_get words n ≡ Some word
+    → with_word (take n words) (folded word) ≡ take n words ++ word ∷ []
+words-next words word n table e =
+    let low = known-folded words word table n (number_there words word n table.differ e) in
+    ap (with_word (take n words)) low ∙ ap (λ there. cond there (take n words) (take n words ++ word ∷ [])) (new_there words word n table.differ e)
 
 -- What is known after `lower` was put among `stored`, which are `words`, and `lower` is `word`.
 module _ (stored now words : List (List ℕ)) (lower word : List ℕ)

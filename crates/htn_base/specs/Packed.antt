@@ -26,6 +26,11 @@ rows_from start [] ends numbers = []
 rows_from start (head ∷ heads) [] numbers = []
 rows_from start (head ∷ heads) (end ∷ ends) numbers = row_of head (slice_range numbers start end) ∷ rows_from end heads ends numbers
 
+-- the parts of a list that end at these places: the first goes from the start to the first end, each further one from the end before
+abbrev pub parts_from : ℕ → List ℕ → List ℕ → List (List ℕ)
+parts_from start [] items = []
+parts_from start (end ∷ ends) items = slice_range items start end ∷ parts_from end ends items
+
 -- the ends ascend from the start, and the last of them is the length
 abbrev pub EndsFrom : ℕ → List ℕ → ℕ → Type 0
 EndsFrom start [] length = start ≡ length

@@ -3,6 +3,7 @@ use Rattle.std.specs.Prelude.{ℕ, ◌≡◌, ◌<◌, ◌^◌, List, [], ◌∷
 use Rattle.std.specs.List.{list_any}
 use Rattle.std.specs.Str.{bytes_eq}
 use Rattle.htn_base.specs.Different.{AreDifferent}
+use Rattle.htn_base.specs.Packed.{parts_from, EndsFrom}
 use Rattle.htn_base.specs.Words.{folded, IsFolded}
 
 -- the number of a word: the place at which it stands
@@ -18,6 +19,11 @@ pub record IsTable (words : List (List ℕ)) : Type 0 where
   pub differ : AreDifferent words
   pub folded : All IsFolded words
   pub short : length words < 2 ^ 32
+
+-- what holds of the words of a name table where they stand one behind another
+pub record IsWordList (ends bytes : List ℕ) : Type 0 where
+  pub rising : EndsFrom 0 ends (length bytes)
+  pub table : IsTable (parts_from 0 ends bytes)
 
 -- A word that has this number already, in lower case, so that putting it among the words changes nothing.
 pub record IsKnown (words : List (List ℕ)) (word : List ℕ) (place : ℕ) : Type 0 where

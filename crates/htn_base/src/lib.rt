@@ -15,6 +15,7 @@ mod packed;
 mod rows;
 mod table_word;
 mod text;
+mod word_list;
 mod words;
 
 pub use boxed::Boxed;
@@ -27,6 +28,7 @@ pub use name::{Name, NameTable};
 pub use packed::{PackedNumbers, PackedPart};
 pub use rows::{PackedRow, PackedRows};
 pub use text::Text;
+pub use word_list::WordList;
 pub use words::{
     esc, is_name, is_plain, is_reserved, is_reserved_in_any_case, names_stay_apart, slot_name,
     slot_number,

@@ -5,6 +5,7 @@ ghost use Rattle.htn_base.specs.Words.{folded};
 use crate::marks::Marks;
 use crate::memory::Memory;
 use crate::table_word::{Sought, Word};
+use crate::word_list::WordList;
 use indexmap::IndexSet;
 use std::alloc::Global;
 use std::marker::Model;
@@ -46,6 +47,22 @@ impl NameTable {
         NameTable {
             words: IndexSet::new(alloc),
         }
+    }
+
+    /// The table of these words, each with the number that it has.
+    pub fn of(alloc: Global, words: &WordList) -> Result<NameTable, Memory>
+        ensures words { IfOk result (λ table. table ≡ words.now) }
+    {
+        let mut table = NameTable::new(alloc);
+        for number in 0..words.len() {
+            let name = Name {
+                number: number as u32,
+            };
+            if let Some(word) = words.text(name) {
+                table.intern(word)?;
+            }
+        }
+        Ok(table)
     }
 
     /// The number of words.

@@ -212,7 +212,7 @@ fn put_row(
 
 // Where the numbers of row `k` start: at the end of those of the row before. `None` behind the row past the last.
 #[inline]
-fn start_of(ends: &PackedNumbers, k: usize) -> Option<u32>
+pub(crate) fn start_of(ends: &PackedNumbers, k: usize) -> Option<u32>
     ensures { result ≡ slice_get (0 ∷ ends.now) k }
 {
     if k == 0 {

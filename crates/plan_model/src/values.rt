@@ -2,13 +2,13 @@ use crate::facts::Facts;
 use crate::formulas::Formula;
 use crate::schemas::{ActionSchema, MethodPlan, MethodSchema, Predicate, TaskSchema};
 use crate::types::{Object, Types};
-use htn_base::{List, Name, NameTable};
+use htn_base::{List, Name, WordList};
 
 /// A hierarchical problem: what an HDDL domain and an HDDL problem say. `top` is the method of the problem's network,
 /// and its task is the top task, of number `tasks.len()`.
 #[derive(Drop)]
 pub struct Hddl {
-    pub names: NameTable,
+    pub names: WordList,
     pub domain: Name,
     pub problem: Name,
     pub types: Types,
@@ -33,7 +33,7 @@ pub struct Compiled {
 /// A classical problem: what a PDDL domain and a PDDL problem say.
 #[derive(Drop)]
 pub struct Pddl {
-    pub names: NameTable,
+    pub names: WordList,
     pub domain: Name,
     pub problem: Name,
     pub types: Types,
