@@ -4,8 +4,9 @@ ghost use Rattle.htn_base.specs.Words.{folded};
 
 use crate::marks::Marks;
 use crate::memory::Memory;
+use crate::packed::PackedNumbers;
 use crate::table_word::{Sought, Word};
-use crate::word_list::WordList;
+use crate::word_list::{WordList, put_word};
 use indexmap::IndexSet;
 use std::alloc::Global;
 use std::marker::Model;
@@ -63,6 +64,23 @@ impl NameTable {
             }
         }
         Ok(table)
+    }
+
+    /// Its words as a list, each at its number. More than 4,294,967,295 bytes in all want memory.
+    pub fn to_list(&self, alloc: Global) -> Result<WordList, Memory>
+        ensures words { IfOk result (λ list. list ≡ self.now) }
+    {
+        let mut ends = PackedNumbers::new(alloc);
+        let mut bytes = Vec::new(alloc);
+        for number in 0..self.len() {
+            let name = Name {
+                number: number as u32,
+            };
+            if let Some(word) = self.text(name) {
+                put_word(word, &mut ends, &mut bytes)?;
+            }
+        }
+        Ok(WordList { ends, bytes })
     }
 
     /// The number of words.

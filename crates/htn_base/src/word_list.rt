@@ -1,12 +1,11 @@
-ghost use Rattle.std.specs.Prelude.{◌≡◌, ◌∷◌, [], ◌++◌, length, slice_get, IfOk, OnOk};
+ghost use Rattle.std.specs.Prelude.{◌≡◌, ◌∷◌, [], ◌++◌, length, slice_get, OnOk};
 ghost use Rattle.std.specs.Option.{option_copied};
 
 use crate::lengths::number;
 use crate::memory::Memory;
-use crate::name::{Name, NameTable};
+use crate::name::Name;
 use crate::packed::PackedNumbers;
 use crate::rows::start_of;
-use std::alloc::Global;
 use std::marker::Model;
 
 /// The words of a name table by their numbers, one behind another in few bytes, for values, which only ask what a number's word
@@ -14,8 +13,8 @@ use std::marker::Model;
 #[derive(Drop)]
 pub struct WordList {
     // where each word ends
-    ends: PackedNumbers,
-    bytes: Vec<u8>,
+    pub(crate) ends: PackedNumbers,
+    pub(crate) bytes: Vec<u8>,
 }
 
 impl Model for WordList {
@@ -32,23 +31,6 @@ impl Model for WordList {
 
 impl WordList {
     ghost use Rattle.htn_base.specs.Table.{IsTable};
-
-    /// The words of the table, each at its number. More than 4,294,967,295 bytes in all want memory.
-    pub fn of(alloc: Global, table: &NameTable) -> Result<WordList, Memory>
-        ensures words { IfOk result (λ list. list ≡ table.now) }
-    {
-        let mut ends = PackedNumbers::new(alloc);
-        let mut bytes = Vec::new(alloc);
-        for place in 0..table.len() {
-            let name = Name {
-                number: place as u32,
-            };
-            if let Some(word) = table.text(name) {
-                put_word(word, &mut ends, &mut bytes)?;
-            }
-        }
-        Ok(WordList { ends, bytes })
-    }
 
     /// The number of words.
     pub fn len(&self) -> usize
@@ -72,7 +54,11 @@ impl WordList {
 }
 
 // Puts the word behind the others, and where it ends.
-fn put_word(word: &[u8], ends: &mut PackedNumbers, bytes: &mut Vec<u8>) -> Result<(), Memory>
+pub(crate) fn put_word(
+    word: &[u8],
+    ends: &mut PackedNumbers,
+    bytes: &mut Vec<u8>,
+) -> Result<(), Memory>
     ensures bytes { OnOk result (bytes.new.items ≡ bytes.old.items ++ word.now) }
     ensures ends { OnOk result (ends.new ≡ ends.old ++ length bytes.new.items ∷ []) }
 {
