@@ -6,6 +6,7 @@ use crate::memory::Memory;
 use crate::name::Name;
 use crate::packed::PackedNumbers;
 use crate::rows::start_of;
+use std::alloc::Global;
 use std::marker::Model;
 
 /// The words of a name table by their numbers, one behind another in few bytes, for values, which only ask what a number's word
@@ -31,6 +32,16 @@ impl Model for WordList {
 
 impl WordList {
     ghost use Rattle.htn_base.specs.Table.{IsTable};
+
+    /// No words. They take no memory yet.
+    pub fn new(alloc: Global) -> WordList
+        ensures none { result ≡ [] }
+    {
+        WordList {
+            ends: PackedNumbers::new(alloc),
+            bytes: Vec::new(alloc),
+        }
+    }
 
     /// The number of words.
     pub fn len(&self) -> usize
