@@ -160,7 +160,7 @@ fn is_hyphen_due(pending: &List<RawParam>, word: &[u8]) -> bool
     }
 }
 
-// A list while it is read: its words so far, those of them whose type is due, and what its variables are called.
+// A list while it is read: the names that it has declared, its parts so far, and the words whose type is due.
 #[derive(Drop)]
 struct Listing {
     seen: NameTable,

@@ -12,7 +12,7 @@ use crate::problem_parts::{ProblemParts, parts_of};
 use crate::seconds::seconds_of;
 use crate::whole_unions::unions_of_problem;
 use hddl_reader::RawProblem;
-use htn_base::{List, Memory, Name, NameTable, number};
+use htn_base::{List, Memory, Name, NameTable, WordList, number};
 use name_binding::Faults;
 use plan_model::{Hddl, Object};
 use std::alloc::Global;
@@ -21,42 +21,42 @@ use std::alloc::Global;
 /// 10, 11, 13 to 17 or 19 to 21. The table gets the word `htn_start`, the name of the top method.
 pub fn bind_problem(
     alloc: Global,
-    names: NameTable,
+    names: &mut NameTable,
     d: BoundDomain,
     p: RawProblem,
 ) -> Result<Hddl, BindError>
-    ensures bound { IfOk result (spec.IsProblemBound d p names) }
+    ensures bound { IfOk result (spec.IsProblemBound d p names.old) }
     ensures refused { IfErr result (spec.IsProblemRefused d p) }
 {
-    let mut names = names;
     let mut d = d;
     let mut faults = Faults::new();
-    let noted = noted_problem(alloc, &mut names, &mut d, &p, &mut faults);
+    let noted = noted_problem(alloc, names, &mut d, &p, &mut faults);
     let problem = p.name;
     drop(p);
     match noted {
-        Ok(parts) => judged(together(names, d, problem, parts), faults, 1),
+        Ok((words, parts)) => judged(together(words, d, problem, parts), faults, 1),
         Err(_) => {
-            drop(names);
             drop(d);
             Err(BindError::Memory)
         }
     }
 }
 
-/// What a problem says, with its faults noted. The domain gets its objects, its unions and its names.
+/// The words of both texts with that of the top method, and what a problem says, with its faults noted. The domain gets its
+/// objects, its unions and its names.
 fn noted_problem(
     alloc: Global,
     names: &mut NameTable,
     d: &mut BoundDomain,
     p: &RawProblem,
     faults: &mut Faults,
-) -> Result<ProblemParts, Memory>
-    ensures words { OnOk result (names.new ≡ spec.with_start names.old) }
-    ensures noted { IfOk result (spec.IsNotedWithStart d.old p.now names.new
-        faults.old.least faults.new.least d.new) }
+) -> Result<(WordList, ProblemParts), Memory>
+    ensures words { IfOk result (λ noted. noted.0 ≡ spec.with_start names.old) }
+    ensures noted { IfOk result (λ noted. spec.IsNotedWithStart d.old p.now noted.0
+        faults.old.least faults.new.least d.new noted.1) }
 {
     let start = names.intern(b"htn_start")?;
+    let words = names.to_list(alloc)?;
     let task = number(d.tasks.len())?;
     add_names(alloc, &mut d.names, p, faults)?;
     d.types.unions = d.names.known.types.unions_of(alloc)?;
@@ -70,7 +70,7 @@ fn noted_problem(
         faults,
     )?;
     match add_objects(&mut d.objects, parts.objects.as_slice()) {
-        Ok(()) => Ok(parts),
+        Ok(()) => Ok((words, parts)),
         Err(memory) => {
             drop(parts);
             Err(memory)
@@ -109,7 +109,7 @@ fn add_objects(into: &mut List<Object>, objects: &[Object]) -> Result<(), Memory
 }
 
 /// The value of a domain and a problem.
-fn together(names: NameTable, d: BoundDomain, problem: Name, parts: ProblemParts) -> Hddl
+fn together(names: WordList, d: BoundDomain, problem: Name, parts: ProblemParts) -> Hddl
     ensures together { result ≡ spec.together names d problem parts }
 {
     let BoundDomain {

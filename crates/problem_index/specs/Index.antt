@@ -1,6 +1,6 @@
 -- Where the actions and objects of a problem stand, and what is found for a word.
 -- Source: this project's; a plan and a failing step as in plan_meaning.
-use Rattle.std.specs.Prelude.{ℕ, MatchOption, List, map, length, Option}
+use Rattle.std.specs.Prelude.{ℕ, ◌≡◌, MatchOption, List, map, length, Option}
 use Rattle.plan_model.specs.declared.types.Object.{Object}
 use Rattle.plan_model.specs.declared.schemas.ActionSchema.{ActionSchema}
 use Rattle.plan_model.specs.declared.steps.GroundAction.{GroundAction}
@@ -23,6 +23,7 @@ pub record IsIndex (p : Pddl) (index : Index) : Type 0 where
   pub actions : AreActionPlaces p index.actions
   pub objects : AreObjectPlaces p index.objects
   pub kinds : AreKinds p.types p.objects index.kinds
+  pub names : index.names ≡ p.names
 
 -- the action that the step names, or that it names none
 abbrev pub IsTheAction : Pddl → GroundAction → Option ActionSchema → Type 0

@@ -8,17 +8,19 @@ ghost use Rattle.problem_index.specs.Index as spec;
 use crate::kinds::Kinds;
 use crate::places::Places;
 use crate::world::World;
-use htn_base::{Marks, Memory};
+use htn_base::{Marks, Memory, NameTable};
 use plan_model::{ActionSchema, Pddl};
 use std::alloc::Global;
 
-/// Where the actions and the objects of a problem stand, by their words, and what is known of its types. `marks`: of its words.
+/// Where the actions and the objects of a problem stand, by their words, and what is known of its types. `names` finds the words
+/// of the problem, and `marks` are of these.
 #[derive(Drop)]
 pub struct Index {
-    marks: Marks,
     actions: Places,
     objects: Places,
     kinds: Kinds,
+    names: NameTable,
+    marks: Marks,
 }
 
 impl Index {
@@ -29,15 +31,17 @@ impl Index {
         requires few_actions { length p.now.actions < 2 ^ 32 }
         ensures index { IfOk result (spec.IsIndex p.now) }
     {
-        let marks = Marks::of(alloc, &p.names)?;
         let actions = action_places(alloc, p)?;
         let objects = object_places(alloc, p)?;
         let kinds = Kinds::new(alloc, &p.types, &p.objects)?;
+        let names = NameTable::of(alloc, &p.names)?;
+        let marks = Marks::of(alloc, &names)?;
         Ok(Index {
-            marks,
             actions,
             objects,
             kinds,
+            names,
+            marks,
         })
     }
 
@@ -46,7 +50,7 @@ impl Index {
         requires index { spec.IsIndex p.now self.now }
         ensures { spec.HasTheName p.now name.now (option_copied result) }
     {
-        let place = self.actions.find(&self.marks, &p.names, name)?;
+        let place = self.actions.find(&self.marks, &self.names, name)?;
         p.actions.get(place as usize)
     }
 
@@ -58,7 +62,7 @@ impl Index {
         requires index { spec.IsIndex p.now self.now }
         ensures { spec.IsTheArgument p.now word.now ty result }
     {
-        let object = self.objects.find(&self.marks, &p.names, word)?;
+        let object = self.objects.find(&self.marks, &self.names, word)?;
         if self.kinds.have(&p.types, &p.objects, object, ty) {
             return Some(object);
         }

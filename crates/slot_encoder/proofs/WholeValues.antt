@@ -14,9 +14,9 @@ use Rattle.slot_encoder.specs.declared.encoding.Encoding.{Encoding}
 -- the value of these words, parts and actions
 module _ (c : Compiled) (names : List (List ℕ)) (b : ℕ) (style : Style) (v : Encoded) (are : AreEncoded c names b style v) where
   -- without its actions
-  abbrev pub head : Pddl
-  head = record {
-    names = names;
+  abbrev pub head : List (List ℕ) → Pddl
+  head words = record {
+    names = words;
     domain = v.domain;
     problem = v.problem;
     types = v.declarations.types;
@@ -27,8 +27,8 @@ module _ (c : Compiled) (names : List (List ℕ)) (b : ℕ) (style : Style) (v :
     goal = v.behaviour.goal;
   }
 
-  pub head-encoded : IsEncoded c b style (with_actions head (encoded_actions c names b style))
-  head-encoded = record {
+  over_names : IsEncoded c b style (with_actions (head names) (encoded_actions c names b style))
+  over_names = record {
     domain = are.domain;
     problem = are.problem;
     types = are.declarations.types;
@@ -38,6 +38,9 @@ module _ (c : Compiled) (names : List (List ℕ)) (b : ℕ) (style : Style) (v :
     init = are.behaviour.init;
     goal = are.behaviour.goal;
   }
+
+  pub head-encoded : IsEncoded c b style (with_actions (head v.words) (encoded_actions c names b style))
+  head-encoded = subst (λ words. IsEncoded c b style (with_actions (head words) (encoded_actions c names b style))) (sym are.words) over_names
 
 -- the finished value
 module _ (c : Compiled) (e : Encoding) (is : IsEncoding c e) (actions : List ActionSchema) (all : actions ≡ all_actions c e) where

@@ -46,15 +46,16 @@ with_actions p actions = record {
 
 -- the actions of the printed problem, over the words of the encoding
 abbrev pub all_actions : Compiled → Encoding → List ActionSchema
-all_actions c e = encoded_actions c e.head.names e.slots e.style
+all_actions c e = encoded_actions c e.names e.slots e.style
 
--- the encoding of a compiled problem: with its actions the head is the encoded value, and its table has all words
+-- the encoding of a compiled problem: with its actions the head is the encoded value, and its table has the head's words, which are all
 pub record IsEncoding (c : Compiled) (e : Encoding) : Type 0 where
   pub encoded : IsEncoded c e.slots e.style (with_actions e.head (all_actions c e))
   pub no_actions : e.head.actions ≡ []
   pub words : HasEncodedWords c e.slots e.head.names
   pub short : length e.head.names < 2 ^ 32
-  pub basis : IsBasis c e.head.names e.slots e.basis
+  pub table : e.names ≡ e.head.names
+  pub basis : IsBasis c e.names e.slots e.basis
 
 -- the printed problem can be printed and read again, wherever the compiled problem with b slots is that of a sound problem
 abbrev pub IsPrintableWhereSound : Compiled → ℕ → Pddl → Type 0

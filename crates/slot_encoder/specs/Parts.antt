@@ -27,6 +27,7 @@ module _ (c : Compiled) (names : List (List ℕ)) (b : ℕ) where
     pub goal : v.goal ≡ encoded_goal c names b style
 
   pub record AreEncoded (style : Style) (v : Encoded) : Type 0 where
+    pub words : v.words ≡ names
     pub domain : v.domain ≡ renamed names c.hddl.names c.hddl.domain
     pub problem : v.problem ≡ renamed names c.hddl.names c.hddl.problem
     pub declarations : AreDeclarations c names b v.declarations

@@ -10,20 +10,22 @@ use crate::actions::action_at;
 use crate::goals::goal_of;
 use crate::initial::encoded_initial;
 use crate::split_action::SplitAction;
-use htn_base::{List, Memory, Name};
+use htn_base::{List, Memory, Name, NameTable, WordList};
 use plan_model::{ActionSchema, Compiled, Facts, Formula, Pddl, Style};
 use slot_encoding::slot_declarations::{
     Basis, Declarations, Frame, basis_of, declarations_of, renamed, vocabulary_of,
 };
 use std::alloc::Global;
 
-/// The printed problem with so many slots, ready to be taken part by part: `head` has all but the actions, with all words in
-/// its table, and `action` makes one action at a time.
+/// The printed problem with so many slots, ready to be taken part by part: `head` has all but the actions, with all words, and
+/// `action` makes one action at a time.
 #[derive(Drop)]
 pub struct Encoding {
     pub head: Pddl,
     pub slots: u32,
     pub style: Style,
+    // finds the words of the head
+    names: NameTable,
     basis: Basis,
 }
 
@@ -50,7 +52,7 @@ impl Encoding {
         match parts_of(alloc, &frame) {
             Ok(parts) => Ok(Encoding {
                 head: Pddl {
-                    names,
+                    names: parts.words,
                     domain: parts.domain,
                     problem: parts.problem,
                     types: parts.declarations.types,
@@ -62,6 +64,7 @@ impl Encoding {
                 },
                 slots,
                 style: *style,
+                names,
                 basis,
             }),
             Err(memory) => {
@@ -88,7 +91,7 @@ impl Encoding {
     {
         let frame = Frame {
             compiled: c,
-            printed: &self.head.names,
+            printed: &self.names,
             slots: self.slots,
             style: self.style,
             basis: &self.basis,
@@ -139,9 +142,10 @@ pub fn encode(alloc: Global, c: &Compiled, slots: u32, style: &Style) -> Result<
     }
 }
 
-/// All of the printed problem but its words and its actions.
+/// All of the printed problem but its actions.
 #[derive(Drop)]
 pub(crate) struct Encoded {
+    pub words: WordList,
     pub domain: Name,
     pub problem: Name,
     pub declarations: Declarations,
@@ -160,12 +164,14 @@ fn parts_of(alloc: Global, frame: &Frame<'_>) -> Result<Encoded, Memory>
     requires listed { AreListed frame.now.compiled.now.hddl.types }
     ensures { IfOk result (made.AreEncoded frame.now) }
 {
+    let words = frame.printed.to_list(alloc)?;
     let hddl = &frame.compiled.hddl;
     let domain = renamed(frame, hddl.domain);
     let problem = renamed(frame, hddl.problem);
     let declarations = declarations_of(alloc, frame)?;
     match behaviour_of(alloc, frame) {
         Ok(behaviour) => Ok(Encoded {
+            words,
             domain,
             problem,
             declarations,

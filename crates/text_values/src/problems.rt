@@ -14,22 +14,20 @@ use text_forms::sexpr_text::ReadError;
 pub(crate) fn value_over(
     alloc: Global,
     language: Language,
-    names: NameTable,
+    names: &mut NameTable,
     domain: BoundDomain,
     text: &[u8],
 ) -> Result<Hddl, ReadError>
     requires short { length text.now ≤ 16777216 }
-    ensures value { IfOk result (IsReadOver language names domain text.now) }
-    ensures refused { IfErr result (RefusesProblem language names domain text.now) }
+    ensures value { IfOk result (IsReadOver language names.old domain text.now) }
+    ensures refused { IfErr result (RefusesProblem language names.old domain text.now) }
 {
-    let mut names = names;
-    match read_problem(alloc, language, text, &mut names) {
+    match read_problem(alloc, language, text, names) {
         Ok(problem) => match bind_problem(alloc, names, domain, problem) {
             Ok(value) => Ok(value),
             Err(error) => Err(read_error(error)),
         },
         Err(error) => {
-            drop(names);
             drop(domain);
             Err(error)
         }

@@ -39,7 +39,7 @@ pub fn read_as(
 {
     let mut names = NameTable::new(alloc);
     match bound_domain(alloc, language, domain, &mut names) {
-        Ok(bound) => value_over(alloc, language, names, bound, problem),
+        Ok(bound) => value_over(alloc, language, &mut names, bound, problem),
         Err(error) => Err(error),
     }
 }

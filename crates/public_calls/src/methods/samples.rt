@@ -5,7 +5,7 @@ ghost use Rattle.plan_model.specs.Parts.{AreListed};
 ghost use Rattle.public_calls.specs.Rising.{IsRising};
 
 use bound_calc::method_precs::compile;
-use htn_base::{List, Memory, Name, NameTable};
+use htn_base::{List, Memory, Name, WordList};
 use plan_model::{
     Checks, Child, Compiled, Facts, Formula, Hddl, Head, MethodSchema, Parent, Term, Types,
 };
@@ -28,7 +28,7 @@ pub fn problem(alloc: Global, types: Types, methods: List<MethodSchema>) -> Hddl
     ensures methods { result.methods ≡ methods }
 {
     Hddl {
-        names: NameTable::new(alloc),
+        names: WordList::new(alloc),
         domain: Name { number: 0 },
         problem: Name { number: 0 },
         types,

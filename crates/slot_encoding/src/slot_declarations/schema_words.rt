@@ -5,14 +5,14 @@ ghost use Rattle.slot_encoding.specs.slot_declarations.Vocabulary.{Gains};
 
 use crate::slot_declarations::guards::{guard_types, guard_word};
 use crate::slot_declarations::vocabulary::{put, put_numbered, put_prefixed};
-use htn_base::{Memory, NameTable, number};
+use htn_base::{Memory, NameTable, WordList, number};
 use plan_model::{ActionSchema, Compiled, MethodPlan, TaskSchema};
 use std::alloc::Global;
 
 /// Puts the words of the tasks' predicates into the table.
 pub(crate) fn put_tasks(
     alloc: Global,
-    source: &NameTable,
+    source: &WordList,
     tasks: &[TaskSchema],
     names: &mut NameTable,
 ) -> Result<(), Memory>
@@ -27,7 +27,7 @@ pub(crate) fn put_tasks(
 /// Puts the words of the actions' predicates into the table.
 pub(crate) fn put_actions(
     alloc: Global,
-    source: &NameTable,
+    source: &WordList,
     actions: &[ActionSchema],
     names: &mut NameTable,
 ) -> Result<(), Memory>
@@ -42,7 +42,7 @@ pub(crate) fn put_actions(
 /// Puts the words of the methods' actions and of their checks into the table.
 pub(crate) fn put_methods(
     alloc: Global,
-    source: &NameTable,
+    source: &WordList,
     methods: &[MethodPlan],
     names: &mut NameTable,
 ) -> Result<(), Memory>
@@ -59,7 +59,7 @@ pub(crate) fn put_methods(
 /// Puts the word of a method's check into the table, if it has one.
 fn put_check(
     alloc: Global,
-    source: &NameTable,
+    source: &WordList,
     plan: &MethodPlan,
     names: &mut NameTable,
 ) -> Result<(), Memory>

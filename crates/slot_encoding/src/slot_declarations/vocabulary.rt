@@ -10,7 +10,7 @@ use crate::slot_declarations::schema_words::{
     put_actions, put_guards, put_methods, put_numbers, put_tasks,
 };
 use crate::slot_declarations::words::{own_word, prefixed_word, spell_numbered};
-use htn_base::{Memory, Name, NameTable, number};
+use htn_base::{Memory, Name, NameTable, WordList, number};
 use plan_model::Compiled;
 use std::alloc::Global;
 
@@ -26,7 +26,7 @@ pub fn vocabulary_of(alloc: Global, c: &Compiled, slots: u32) -> Result<NameTabl
 }
 
 /// The printed words of all names of the source, in their order, and that of any other name.
-fn source_words(alloc: Global, source: &NameTable) -> Result<NameTable, Memory>
+fn source_words(alloc: Global, source: &WordList) -> Result<NameTable, Memory>
     ensures { IfOk result (HasSourceWords source.now) }
 {
     let count = number(source.len())?;
@@ -41,7 +41,7 @@ fn source_words(alloc: Global, source: &NameTable) -> Result<NameTable, Memory>
 /// Puts the printed word of a source name into the table.
 fn put_own(
     alloc: Global,
-    source: &NameTable,
+    source: &WordList,
     name: Name,
     names: &mut NameTable,
 ) -> Result<(), Memory>
@@ -63,7 +63,7 @@ pub(crate) fn put(word: &[u8], names: &mut NameTable) -> Result<(), Memory>
 /// Puts the printed word of a source name behind a generated one into the table.
 pub(crate) fn put_prefixed(
     alloc: Global,
-    source: &NameTable,
+    source: &WordList,
     prefix: &[u8],
     name: Name,
     names: &mut NameTable,

@@ -4,7 +4,7 @@ ghost use Rattle.slot_encoding.specs.slot_declarations.Frames.{IsFrame};
 ghost use Rattle.slot_encoding.specs.slot_declarations.Made as made;
 
 use crate::slot_declarations::frame::Frame;
-use htn_base::{Memory, Name, NameTable, Text, esc};
+use htn_base::{Memory, Name, NameTable, Text, WordList, esc};
 use itoa::Buffer;
 use std::alloc::Global;
 
@@ -27,7 +27,7 @@ pub(crate) fn name_of(printed: &NameTable, word: &[u8]) -> Name
 }
 
 /// The printed word of a source name.
-pub(crate) fn own_word(alloc: Global, source: &NameTable, name: Name) -> Result<Text, Memory>
+pub(crate) fn own_word(alloc: Global, source: &WordList, name: Name) -> Result<Text, Memory>
     ensures { IfOk result (λ text. text ≡ spec.source_word source.now name) }
 {
     match source.text(name) {
@@ -59,7 +59,7 @@ pub fn prefixed(alloc: Global, frame: &Frame<'_>, prefix: &[u8], name: Name) -> 
 
 pub(crate) fn prefixed_word(
     alloc: Global,
-    source: &NameTable,
+    source: &WordList,
     prefix: &[u8],
     name: Name,
 ) -> Result<Text, Memory>

@@ -1,6 +1,6 @@
 use Rattle.std.proofs.Common.{[], subst}
 use Rattle.ground_state.specs.Runs.{Takes}
-use Rattle.public_runs.proofs.memory.takes_or_stays.Goals as goal
+use Rattle.public_program.proofs.by_hand.memory.takes_or_stays.Goals as goal
 
 pub reaches_goal-requires : goal.reaches_goal-requires
 reaches_goal-requires g c =

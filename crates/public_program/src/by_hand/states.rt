@@ -4,7 +4,7 @@ ghost use Rattle.std.specs.Prelude.{IfOk};
 ghost use Rattle.ground_state.specs.Frames.{Frame};
 ghost use Rattle.ground_state.specs.Room.{Fits, EffectFits};
 
-use crate::problem::no_types;
+use crate::by_hand::problem::no_types;
 use ground_state::{Env, State, holds};
 use htn_base::{List, Memory};
 use plan_model::{Atom, Effect, Facts, Formula, GroundAtom, Term};

@@ -9,7 +9,7 @@ use Rattle.plan_model.specs.plan_meaning.ClassicalPlan.{HasWord}
 use Rattle.plan_model.specs.plan_meaning.FailingStep.{IsNamed}
 use Rattle.ground_state.specs.Runs.{IsRunnable}
 use Rattle.problem_index.proofs.PlaceLaws.{one_place}
-use Rattle.public_runs.specs.Numbered.{AreNumbered, IsNumbered}
+use Rattle.public_program.specs.Numbered.{AreNumbered, IsNumbered}
 
 -- one more item, with the next number
 numbered_more : {X : Type 0} (number : X → ℕ) (n : ℕ) (xs : List X) (x : X) → AreNumbered number n xs → number x ≡ n + length xs → AreNumbered number n (xs ++ x ∷ [])

@@ -3,7 +3,7 @@
 
 ghost use Rattle.ground_state.specs.Runs.{IsRunnable};
 
-use crate::problem::red_alone;
+use crate::by_hand::problem::red_alone;
 use ground_state::Run;
 use htn_base::Memory;
 use plan_model::Pddl;

@@ -2,7 +2,7 @@
 
 ghost use Rattle.ground_state.specs.Runs.{IsRunnable};
 
-use crate::problem::red_alone;
+use crate::by_hand::problem::red_alone;
 use ground_state::{FailWhy, Verdict, run_plan};
 use htn_base::{List, Memory, Text};
 use plan_model::{GroundAction, Pddl};

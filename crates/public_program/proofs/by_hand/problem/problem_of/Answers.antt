@@ -1,5 +1,5 @@
-use Rattle.public_runs.proofs.Numbers.{runnable}
-use Rattle.public_runs.proofs.problem.problem_of.Goals as goal
+use Rattle.public_program.proofs.Numbers.{runnable}
+use Rattle.public_program.proofs.by_hand.problem.problem_of.Goals as goal
 
 pub returns : goal.returns
 returns c = runnable 1

@@ -5,9 +5,9 @@ ghost use Rattle.std.specs.Prelude.{◌≡◌, IfOk};
 ghost use Rattle.htn_base.specs.Table.{IsTable};
 ghost use Rattle.plan_model.specs.Parts.{AreListed};
 ghost use Rattle.ground_state.specs.Runs.{IsRunnable};
-ghost use Rattle.public_runs.specs.Numbered.{AreFewObjects, AreFewActions};
+ghost use Rattle.public_program.specs.Numbered.{AreFewObjects, AreFewActions};
 
-use htn_base::{Boxed, List, Memory, Name, NameTable};
+use htn_base::{Boxed, List, Memory, Name, NameTable, WordList};
 use plan_model::{ActionSchema, Atom, Effect, Facts, Formula, Object, Pddl, Term, Types};
 use std::alloc::Global;
 
@@ -19,14 +19,14 @@ const GREEN: u32 = 2;
 
 const WORDS: &[&[u8]] = &[b"thing", b"paint", b"wash"];
 
-fn names(alloc: Global) -> Result<NameTable, Memory>
+fn names(alloc: Global) -> Result<WordList, Memory>
     ensures table { IfOk result IsTable }
 {
     let mut names = NameTable::new(alloc);
     for word in WORDS {
         names.intern(word)?;
     }
-    Ok(names)
+    names.to_list(alloc)
 }
 
 pub fn no_types(alloc: Global) -> Types
@@ -130,7 +130,7 @@ fn actions(alloc: Global) -> Result<List<ActionSchema>, Memory>
 
 fn problem_of(
     alloc: Global,
-    names: NameTable,
+    names: WordList,
     objects: List<Object>,
     actions: List<ActionSchema>,
     init: Facts,
