@@ -17,7 +17,7 @@ cp "$top/HANDLES" "$copy/"
 cat >"$copy/crates/printer_bench/src/main.rt" <<'E'
 #![tactic(auto)]
 
-use htn_base::{List, Memory, Name, NameTable, Text};
+use htn_base::{List, Memory, Name, NameTable, Text, WordList};
 use pddl_printer::print_domain;
 use plan_model::{ActionSchema, Atom, Effect, Facts, Formula, Object, Param, Parent, Pddl, Predicate, Term, Types};
 use std::alloc::Global;
@@ -29,7 +29,7 @@ const DELETES: u32 = 1_000_000;
 const SLOTS: u32 = 1000;
 
 /// Names 0 to 5 are those of the value, and name 6 + k that of slot k.
-fn names(alloc: Global) -> Result<NameTable, Memory> {
+fn names(alloc: Global) -> Result<WordList, Memory> {
     let mut names = NameTable::new(alloc);
     if names.len() == 0 {
         names.intern(b"d")?;
@@ -43,7 +43,7 @@ fn names(alloc: Global) -> Result<NameTable, Memory> {
         let word = htn_base::slot_name(alloc, k + 1)?;
         add(&mut names, word.as_slice())?;
     }
-    Ok(names)
+    names.to_list(alloc)
 }
 
 fn add(names: &mut NameTable, word: &[u8]) -> Result<(), Memory> {

@@ -38,7 +38,7 @@ mod ready;
 use crate::ready::are_ready;
 use bound_calc::bound;
 use bound_calc::stratifier::{Ranks, stratify};
-use htn_base::{List, Memory, Name, NameTable};
+use htn_base::{List, Memory, Name, WordList};
 use plan_model::{
     Child, Compiled, Facts, Formula, Hddl, Head, MethodPlan, MethodSchema, Pair, TaskSchema, Types,
 };
@@ -84,7 +84,7 @@ fn problem(alloc: Global, tasks: List<TaskSchema>, methods: List<MethodPlan>) ->
         unions: List::new(alloc),
     };
     let hddl = Hddl {
-        names: NameTable::new(alloc),
+        names: WordList::new(alloc),
         domain: Name { number: 0 },
         problem: Name { number: 0 },
         types,
