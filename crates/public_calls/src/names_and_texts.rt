@@ -1,7 +1,7 @@
 //! Each call that may want memory is made once with ample memory, and its answer compared.
 
 use htn_base::{
-    Boxed, List, Memory, NameTable, Text, esc, is_name, is_plain, is_reserved, number, slot_name,
+    Boxed, List, Memory, Name, NameTable, Text, esc, is_name, is_plain, is_reserved, number, slot_name,
     slot_number,
 };
 use std::alloc::Global;
@@ -87,12 +87,24 @@ fn interns(names: &mut NameTable) -> Result<bool, Memory> {
     Ok(one && two && numbered && folded && names.find(b"Truck-1").is_none())
 }
 
+// The table of a table's list has the same words, under the same numbers.
+fn is_listed(alloc: Global, names: &NameTable) -> Result<bool, Memory> {
+    let list = names.to_list(alloc)?;
+    let listed = list.len() == 2
+        && list.text(Name { number: 0 }) == Some(b"truck-1".as_slice())
+        && list.text(Name { number: 1 }) == Some(b"city".as_slice())
+        && list.text(Name { number: 2 }).is_none();
+    let table = NameTable::of(alloc, &list)?;
+    Ok(listed && table.len() == 2 && table.find(b"city") == Some(Name { number: 1 }))
+}
+
 #[test]
 fn names(rt: HostRuntime) {
     let mut names = NameTable::new(rt.alloc());
     let right = interns(&mut names);
+    let listed = is_listed(rt.alloc(), &names);
     drop(names);
-    assert!(rt; right == Ok(true));
+    assert!(rt; right == Ok(true) && listed == Ok(true));
 }
 
 fn is_text(made: Result<Text, Memory>, want: &[u8]) -> bool {
