@@ -1,5 +1,4 @@
-use Rattle.std.proofs.Common.{take, subst, ap, ◌∙◌, arith}
-use Rattle.std.proofs.lemmas.Grind.{common_steps}
+use Rattle.std.proofs.Common.{take, subst, ap, ◌∙◌}
 use Rattle.plan_model.specs.declared.steps.GroundAction.{GroundAction}
 use Rattle.ground_state.specs.Runs as spec
 use Rattle.ground_state.proofs.RunLaws.{same_step, taken_more, fails_there, taken_all}
@@ -33,4 +32,8 @@ returns c =
     record { verdict = reaches p plan (taken_all p plan c.loop-i.i c.loop-i.run c.loop-i-test.false c.loop-i.invariant) }
 
 pub returns-then-reaches_goal : goal.returns-then-reaches_goal
-returns-then-reaches_goal c = grind (arith, common_steps)
+returns-then-reaches_goal c =
+    let p = c.args.p.now in
+    let plan = c.args.plan.now in
+    let reaches = subst (spec.Reaches c.loop-i.run) c.if-reaches_goal.true c.reaches_goal.ensures.goal in
+    record { verdict = reaches p plan (taken_all p plan c.loop-i.i c.loop-i.run c.loop-i-test.false c.loop-i.invariant) }
