@@ -128,9 +128,9 @@ fn one_effect_of(
     ensures gives { GivesWith names.new result (one_effect names.old (parts_at s.now i)) }
 {
     let (inside, behind) = list_due(s, i)?;
-    let part = effect_inside_of(alloc, s, inside, names)?;
+    let part = Boxed::new(alloc, effect_inside_of(alloc, s, inside, names)?)?;
     end_due(s, behind)?;
-    Ok(Boxed::new(alloc, part)?)
+    Ok(part)
 }
 
 // A formula, an effect, and the end of their list.

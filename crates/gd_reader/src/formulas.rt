@@ -137,9 +137,9 @@ fn one_of(
     ensures gives { GivesWith names.new result (one names.old (parts_at s.now i)) }
 {
     let (inside, behind) = list_due(s, i)?;
-    let part = inside_of(alloc, s, inside, names)?;
+    let part = Boxed::new(alloc, inside_of(alloc, s, inside, names)?)?;
     end_due(s, behind)?;
-    Ok(Boxed::new(alloc, part)?)
+    Ok(part)
 }
 
 // Two formulas, and the end of their list.

@@ -336,14 +336,14 @@ one_effect_of-returns-in_err-inside-clause-adds t c = grind (arith, keeps_same, 
 pub one_effect_of-returns-in_err-inside-clause-gives : goal.one_effect_of-returns-in_err-inside-clause-gives
 one_effect_of-returns-in_err-inside-clause-gives t c = grind (arith, keeps_same, keeps_then, one_effect_is)
 
-pub one_effect_of-returns-in_err-part-clause-keeps : goal.one_effect_of-returns-in_err-part-clause-keeps
-one_effect_of-returns-in_err-part-clause-keeps t c = grind (arith, keeps_same, keeps_then, one_effect_is)
+pub one_effect_of-returns-in_err-effect_inside_of-clause-keeps : goal.one_effect_of-returns-in_err-effect_inside_of-clause-keeps
+one_effect_of-returns-in_err-effect_inside_of-clause-keeps t c = grind (arith, keeps_same, keeps_then, one_effect_is)
 
-pub one_effect_of-returns-in_err-part-clause-adds : goal.one_effect_of-returns-in_err-part-clause-adds
-one_effect_of-returns-in_err-part-clause-adds t c = grind (arith, keeps_same, keeps_then, one_effect_is)
+pub one_effect_of-returns-in_err-effect_inside_of-clause-adds : goal.one_effect_of-returns-in_err-effect_inside_of-clause-adds
+one_effect_of-returns-in_err-effect_inside_of-clause-adds t c = grind (arith, keeps_same, keeps_then, one_effect_is)
 
-pub one_effect_of-returns-in_err-part-clause-gives : goal.one_effect_of-returns-in_err-part-clause-gives
-one_effect_of-returns-in_err-part-clause-gives t c = grind (arith, keeps_same, keeps_then, one_effect_is)
+pub one_effect_of-returns-in_err-effect_inside_of-clause-gives : goal.one_effect_of-returns-in_err-effect_inside_of-clause-gives
+one_effect_of-returns-in_err-effect_inside_of-clause-gives t c = grind (arith, keeps_same, keeps_then, one_effect_is)
 
 pub one_effect_of-returns-in_err-end_due-clause-keeps : goal.one_effect_of-returns-in_err-end_due-clause-keeps
 one_effect_of-returns-in_err-end_due-clause-keeps t c = grind (arith, keeps_same, keeps_then, one_effect_is)
@@ -354,14 +354,14 @@ one_effect_of-returns-in_err-end_due-clause-adds t c = grind (arith, keeps_same,
 pub one_effect_of-returns-in_err-end_due-clause-gives : goal.one_effect_of-returns-in_err-end_due-clause-gives
 one_effect_of-returns-in_err-end_due-clause-gives t c = grind (arith, keeps_same, keeps_then, one_effect_is)
 
-pub one_effect_of-returns-in_err-new-clause-keeps : goal.one_effect_of-returns-in_err-new-clause-keeps
-one_effect_of-returns-in_err-new-clause-keeps t c = grind (arith, keeps_same, keeps_then, one_effect_is)
+pub one_effect_of-returns-in_err-part-clause-keeps : goal.one_effect_of-returns-in_err-part-clause-keeps
+one_effect_of-returns-in_err-part-clause-keeps t c = grind (arith, keeps_same, keeps_then, one_effect_is)
 
-pub one_effect_of-returns-in_err-new-clause-adds : goal.one_effect_of-returns-in_err-new-clause-adds
-one_effect_of-returns-in_err-new-clause-adds t c = grind (arith, keeps_same, keeps_then, one_effect_is)
+pub one_effect_of-returns-in_err-part-clause-adds : goal.one_effect_of-returns-in_err-part-clause-adds
+one_effect_of-returns-in_err-part-clause-adds t c = grind (arith, keeps_same, keeps_then, one_effect_is)
 
-pub one_effect_of-returns-in_err-new-clause-gives : goal.one_effect_of-returns-in_err-new-clause-gives
-one_effect_of-returns-in_err-new-clause-gives t c = grind (arith, keeps_same, keeps_then, one_effect_is)
+pub one_effect_of-returns-in_err-part-clause-gives : goal.one_effect_of-returns-in_err-part-clause-gives
+one_effect_of-returns-in_err-part-clause-gives t c = grind (arith, keeps_same, keeps_then, one_effect_is)
 
 pub one_effect_of-returns-clause-keeps : goal.one_effect_of-returns-clause-keeps
 one_effect_of-returns-clause-keeps t c = grind (arith, keeps_same, keeps_then, one_effect_is)

@@ -347,14 +347,14 @@ one_of-returns-in_err-inside-clause-adds t c = grind (arith, keeps_same, keeps_t
 pub one_of-returns-in_err-inside-clause-gives : goal.one_of-returns-in_err-inside-clause-gives
 one_of-returns-in_err-inside-clause-gives t c = grind (arith, keeps_same, keeps_then, one_is)
 
-pub one_of-returns-in_err-part-clause-keeps : goal.one_of-returns-in_err-part-clause-keeps
-one_of-returns-in_err-part-clause-keeps t c = grind (arith, keeps_same, keeps_then, one_is)
+pub one_of-returns-in_err-inside_of-clause-keeps : goal.one_of-returns-in_err-inside_of-clause-keeps
+one_of-returns-in_err-inside_of-clause-keeps t c = grind (arith, keeps_same, keeps_then, one_is)
 
-pub one_of-returns-in_err-part-clause-adds : goal.one_of-returns-in_err-part-clause-adds
-one_of-returns-in_err-part-clause-adds t c = grind (arith, keeps_same, keeps_then, one_is)
+pub one_of-returns-in_err-inside_of-clause-adds : goal.one_of-returns-in_err-inside_of-clause-adds
+one_of-returns-in_err-inside_of-clause-adds t c = grind (arith, keeps_same, keeps_then, one_is)
 
-pub one_of-returns-in_err-part-clause-gives : goal.one_of-returns-in_err-part-clause-gives
-one_of-returns-in_err-part-clause-gives t c = grind (arith, keeps_same, keeps_then, one_is)
+pub one_of-returns-in_err-inside_of-clause-gives : goal.one_of-returns-in_err-inside_of-clause-gives
+one_of-returns-in_err-inside_of-clause-gives t c = grind (arith, keeps_same, keeps_then, one_is)
 
 pub one_of-returns-in_err-end_due-clause-keeps : goal.one_of-returns-in_err-end_due-clause-keeps
 one_of-returns-in_err-end_due-clause-keeps t c = grind (arith, keeps_same, keeps_then, one_is)
@@ -365,14 +365,14 @@ one_of-returns-in_err-end_due-clause-adds t c = grind (arith, keeps_same, keeps_
 pub one_of-returns-in_err-end_due-clause-gives : goal.one_of-returns-in_err-end_due-clause-gives
 one_of-returns-in_err-end_due-clause-gives t c = grind (arith, keeps_same, keeps_then, one_is)
 
-pub one_of-returns-in_err-new-clause-keeps : goal.one_of-returns-in_err-new-clause-keeps
-one_of-returns-in_err-new-clause-keeps t c = grind (arith, keeps_same, keeps_then, one_is)
+pub one_of-returns-in_err-part-clause-keeps : goal.one_of-returns-in_err-part-clause-keeps
+one_of-returns-in_err-part-clause-keeps t c = grind (arith, keeps_same, keeps_then, one_is)
 
-pub one_of-returns-in_err-new-clause-adds : goal.one_of-returns-in_err-new-clause-adds
-one_of-returns-in_err-new-clause-adds t c = grind (arith, keeps_same, keeps_then, one_is)
+pub one_of-returns-in_err-part-clause-adds : goal.one_of-returns-in_err-part-clause-adds
+one_of-returns-in_err-part-clause-adds t c = grind (arith, keeps_same, keeps_then, one_is)
 
-pub one_of-returns-in_err-new-clause-gives : goal.one_of-returns-in_err-new-clause-gives
-one_of-returns-in_err-new-clause-gives t c = grind (arith, keeps_same, keeps_then, one_is)
+pub one_of-returns-in_err-part-clause-gives : goal.one_of-returns-in_err-part-clause-gives
+one_of-returns-in_err-part-clause-gives t c = grind (arith, keeps_same, keeps_then, one_is)
 
 pub one_of-returns-clause-keeps : goal.one_of-returns-clause-keeps
 one_of-returns-clause-keeps t c = grind (arith, keeps_same, keeps_then, one_is)
