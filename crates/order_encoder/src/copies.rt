@@ -111,7 +111,7 @@ fn copy_one(
 ) -> Result<Effect, Memory>
     ensures { IfOk result (λ e. e ≡ of.one_copy n.now h child then) }
 {
-    let pair = Formula::Holds(before(alloc, n, h, then)?);
-    let adds = Effect::Add(before(alloc, n, child, then)?);
-    Ok(Effect::When(pair, Boxed::new(alloc, adds)?))
+    let pair = before(alloc, n, h, then)?;
+    let adds = Boxed::new(alloc, Effect::Add(before(alloc, n, child, then)?))?;
+    Ok(Effect::When(Formula::Holds(pair), adds))
 }
