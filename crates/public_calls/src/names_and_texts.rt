@@ -1,8 +1,8 @@
 //! Each call that may want memory is made once with ample memory, and its answer compared.
 
 use htn_base::{
-    Boxed, List, Memory, Name, NameTable, Text, esc, is_name, is_plain, is_reserved, number, slot_name,
-    slot_number,
+    Boxed, List, Memory, Name, NameTable, Text, esc, is_name, is_plain, is_reserved, number,
+    slot_name, slot_number,
 };
 use std::alloc::Global;
 
