@@ -10,8 +10,8 @@ returns-in-Ok-clause-bound c =
     let p = c.args.p in
     let new = c.noted_problem-noted.new in
     let least = new.faults.least in
-    let from_none = subst (λ old. IsNotedWithStart d p new.names old least new.d c.in-Ok.parts) c.new-faults.ensures.none c.in-Ok.ensures.noted in
-    problem_bound_if c.args.names d p new.names c.in-Ok.ensures.words new.d c.in-Ok.parts least from_none c.judged.result (c.judged.ensures.judged ∙ ap (λ value. judged_by 1 value least) c.together.ensures.together)
+    let from_none = subst (λ old. IsNotedWithStart d p c.in-Ok.words old least new.d c.in-Ok.parts) c.new-faults.ensures.none c.in-Ok.ensures.noted in
+    problem_bound_if c.args.names.now d p c.in-Ok.words c.in-Ok.ensures.words new.d c.in-Ok.parts least from_none c.judged.result (c.judged.ensures.judged ∙ ap (λ value. judged_by 1 value least) c.together.ensures.together)
 
 pub returns-in-Ok-clause-refused : goal.returns-in-Ok-clause-refused
 returns-in-Ok-clause-refused c =
@@ -19,5 +19,5 @@ returns-in-Ok-clause-refused c =
     let p = c.args.p in
     let new = c.noted_problem-noted.new in
     let least = new.faults.least in
-    let from_none = subst (λ old. IsNotedWithStart d p new.names old least new.d c.in-Ok.parts) c.new-faults.ensures.none c.in-Ok.ensures.noted in
-    problem_refused_if c.args.names d p new.names c.in-Ok.ensures.words new.d c.in-Ok.parts least from_none c.judged.result (c.judged.ensures.judged ∙ ap (λ value. judged_by 1 value least) c.together.ensures.together)
+    let from_none = subst (λ old. IsNotedWithStart d p c.in-Ok.words old least new.d c.in-Ok.parts) c.new-faults.ensures.none c.in-Ok.ensures.noted in
+    problem_refused_if c.args.names.now d p c.in-Ok.words c.in-Ok.ensures.words new.d c.in-Ok.parts least from_none c.judged.result (c.judged.ensures.judged ∙ ap (λ value. judged_by 1 value least) c.together.ensures.together)

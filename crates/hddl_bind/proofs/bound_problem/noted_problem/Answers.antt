@@ -1,5 +1,6 @@
-use Rattle.std.proofs.Common.{◌++◌, ap, ◌∙◌}
+use Rattle.std.proofs.Common.{◌++◌, ap, sym, subst, ◌∙◌}
 use Rattle.hddl_bind.specs.ProblemParts.{parts_bound}
+use Rattle.hddl_bind.specs.WholeProblems.{IsStart}
 use Rattle.hddl_bind.proofs.WholeTexts.{problem_noted}
 use Rattle.hddl_bind.proofs.bound_problem.noted_problem.Goals as goal
 
@@ -15,7 +16,7 @@ returns-in-Ok-clause-noted c =
     let objects = c.in-Ok.ensures.added ∙ ap (λ own. d.objects ++ own) c.as_slice.ensures.items in
     let made = c.in_ok-parts.ensures.bound ∙ ap (λ task. parts_bound names.known names.callables start task p) (c.in_ok-task.ensures.same ∙ c.len.ensures.length) in (
       start.number,
-      c.in_ok-start.ensures.number,
+      subst (λ names. IsStart names start.number) (sym c.in_ok-words.ensures.words) c.in_ok-start.ensures.number,
       problem_noted d p start.number c.args.faults.now.least c.add_names.new.faults.least c.parts_of.new.faults.least names parts
           (record {
             domain = d.domain;
