@@ -1,5 +1,5 @@
 -- Whole domains and problems are read alike, into whichever tables.
-use Rattle.std.proofs.Common.{ℕ, Ok, Result, List, [], Option, Some, None, codes, sym, subst}
+use Rattle.std.proofs.Common.{ℕ, Ok, Result, List, Option, Some, None, codes, sym, subst}
 use Rattle.htn_base.specs.declared.name.Name.{Name}
 use Rattle.text_forms.specs.Placed.{Placed, cut, close, word, list, parts_at}
 use Rattle.gd_reader.specs.declared.stop.Stop.{Stop}

@@ -1,4 +1,4 @@
-use Rattle.std.proofs.Common.{◌≤◌, ◌+◌, length, [], Result, Ok, Err, arith, ap}
+use Rattle.std.proofs.Common.{◌≤◌, ◌+◌, length, Result, Ok, Err, arith, ap}
 use Rattle.std.specs.Prelude.{OnOk}
 use Rattle.gd_reader.proofs.Keeping.{keeps_same}
 use Rattle.text_values.proofs.DomainTexts.{section_is, names_refused_of, bound_of}
