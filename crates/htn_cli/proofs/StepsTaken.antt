@@ -1,5 +1,5 @@
 -- A plan that is checked step by step.
-use Rattle.std.proofs.Common.{◌≡◌, ◌∙◌, ℕ, ◌+◌, ◌≤◌, true, false, Some, None, List, [], ◌∷◌, ◌++◌, length, sym, ap, subst, append_assoc, arith}
+use Rattle.std.proofs.Common.{◌≡◌, ◌∙◌, ℕ, ◌+◌, ◌≤◌, true, false, Some, None, Result, Ok, Err, IfOk, List, [], ◌∷◌, ◌++◌, length, sym, ap, subst, append_assoc, arith}
 use Rattle.std.proofs.lemmas.List.{append-nil, length-append}
 use Rattle.plan_model.specs.declared.steps.GroundAction.{GroundAction}
 use Rattle.plan_model.specs.declared.values.Pddl.{Pddl}
@@ -9,8 +9,17 @@ use Rattle.ground_state.specs.declared.run.Run.{Run}
 use Rattle.ground_state.specs.declared.verdict.FailWhy.{FailWhy}
 use Rattle.ground_state.specs.declared.verdict.FailWhy.TheVariants as why
 use Rattle.ground_state.specs.Runs.{cause, HasTaken, Takes, Reaches}
+use Rattle.htn_cli.specs.declared.checked.Checked.{Checked}
 use Rattle.htn_cli.specs.declared.checked.Checked.TheVariants as checked
 use Rattle.htn_cli.specs.Checks.{Judges}
+
+-- what a list is among lists of its own length, it is among those of at most so many steps
+pub judges-within : (p : Pddl) (most : ℕ) (plan : List GroundAction) → length plan ≤ most → {E : Type 0} (r : Result Checked E)
+    → IfOk r (Judges p (length plan) plan) → IfOk r (Judges p most plan)
+judges-within p most plan few (Ok checked.Plan) judges = (few, judges.1)
+judges-within p most plan few (Ok (checked.TooMany n)) judges = absurd (omega (arith, judges.0, judges.1))
+judges-within p most plan few (Ok (checked.Fails n w)) judges = (few, judges.1)
+judges-within p most plan few (Err e) judges = judges
 
 module _ (p : Pddl) (most : ℕ) (plan : List GroundAction) where
   -- The steps in front of these are taken, and the next has the number.

@@ -1,5 +1,5 @@
-ghost use Rattle.std.specs.Prelude.{◌≡◌, ◌≤◌, ◌<◌, ◌-◌, ◌^◌, length, IfOk, IfErr};
-ghost use Rattle.ground_state.specs.Runs.{IsRunnable};
+ghost use Rattle.std.specs.Prelude.{◌≡◌, ◌≤◌, ◌<◌, ◌-◌, ◌^◌, [], length, IfOk, IfErr};
+ghost use Rattle.ground_state.specs.Runs.{IsRunnable, HasTaken};
 ghost use Rattle.plan_text.specs.Plans.{RefusesPlan};
 ghost use Rattle.htn_cli.specs.Checks.{IsChecked, Judges};
 
@@ -46,6 +46,15 @@ fn judged(alloc: Global, p: &Pddl, plan: &Plan<'_>, most: u32) -> Result<Checked
         return Ok(Checked::TooMany(plan.len()));
     }
     let mut run = Run::new(alloc, p)?;
+    replayed(alloc, plan, &mut run)
+}
+
+/// What a list is, of which a run of its problem has taken no step yet.
+fn replayed(alloc: Global, plan: &Plan<'_>, run: &mut Run<'_>) -> Result<Checked, Memory>
+    requires few { length plan.now < 2 ^ 32 - 1 }
+    requires fresh { HasTaken run.old.p.now [] run.old }
+    ensures { IfOk result (Judges run.old.p.now (length plan.now) plan.now) }
+{
     let mut step = Step::new(alloc);
     let mut steps = plan.steps();
     let mut number = 1;

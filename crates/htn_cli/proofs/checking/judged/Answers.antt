@@ -1,21 +1,20 @@
-use Rattle.std.proofs.Common.{◌≡◌, [], ◌∷◌, subst}
-use Rattle.std.specs.Prelude.{MatchBool}
-use Rattle.plan_model.specs.declared.steps.GroundAction.{GroundAction}
-use Rattle.ground_state.specs.Runs.{Takes}
-use Rattle.ground_state.proofs.RunLaws.{same_step}
-use Rattle.htn_cli.proofs.StepsTaken.{one-taken, one-fails}
+use Rattle.std.proofs.Common.{[], length, IfOk, sym, subst, arith}
+use Rattle.ground_state.specs.Runs.{HasTaken}
+use Rattle.htn_cli.specs.Checks.{Judges}
+use Rattle.htn_cli.proofs.StepsTaken.{judges-within}
 use Rattle.htn_cli.proofs.checking.judged.Goals as goal
 
-pub returns-in-Some : goal.returns-in-Some
-returns-in-Some c =
-    let goes = subst (λ b. MatchBool b (c.loop-step.steps ≡ c.next.new.into ∷ c.next.new.self) (c.loop-step.steps ≡ [])) c.if-branch.true c.in_ok-next.ensures.next in
-    let same = same_step c.next.new.into c.name.result.now c.args-in-loop-step.result.now c.name.ensures.name c.args-in-loop-step.ensures.args in
-    let takes = subst (λ (s : GroundAction). Takes s c.loop-step.run c.take.new.self c.in_ok-why.field-0) same c.in_ok-why.ensures.taken in
-    one-fails c.args.p.now c.args.most c.args.plan.now c.loop-step.steps c.next.new.self c.next.new.into c.loop-step.number c.loop-step.run c.take.new.self c.loop-step.invariant goes c.in-Some.why (subst (Takes c.next.new.into c.loop-step.run c.take.new.self) c.in-Some.is takes)
+pub replayed-requires : goal.replayed-requires
+replayed-requires c =
+    let run = c.in_ok-run.run' in
+    let fresh = c.in_ok-run.ensures.fresh in
+    record {
+      few = omega (arith, c.len.ensures.length, c.if-len-most.false, c.requires.few);
+      fresh = subst (λ p. HasTaken p [] run) (sym fresh.problem) fresh;
+    }
 
-pub loop-step-preserved : goal.loop-step-preserved
-loop-step-preserved c =
-    let goes = subst (λ b. MatchBool b (c.loop-step.steps ≡ c.next.new.into ∷ c.next.new.self) (c.loop-step.steps ≡ [])) c.if-branch.true c.in_ok-next.ensures.next in
-    let same = same_step c.next.new.into c.name.result.now c.args-in-loop-step.result.now c.name.ensures.name c.args-in-loop-step.ensures.args in
-    let takes = subst (λ (s : GroundAction). Takes s c.loop-step.run c.take.new.self c.in_ok-why.field-0) same c.in_ok-why.ensures.taken in
-    one-taken c.args.p.now c.args.most c.args.plan.now c.loop-step.steps c.next.new.self c.next.new.into c.loop-step.number c.loop-step.run c.take.new.self c.loop-step.invariant goes (subst (Takes c.next.new.into c.loop-step.run c.take.new.self) c.in_default.is takes)
+pub returns : goal.returns
+returns c =
+    let plan = c.args.plan.now in
+    judges-within c.args.p.now c.args.most plan (omega (arith, c.len.ensures.length, c.if-len-most.false)) c.replayed.result
+    (subst (λ p. IfOk c.replayed.result (Judges p (length plan) plan)) c.in_ok-run.ensures.fresh.problem c.replayed.ensures)
