@@ -4,8 +4,9 @@
 # 2,000 packages at 4,096 slots; 500 methods of 40 subtasks; 140,000 facts; and `validate` of 50,000 steps (bench/validate.sh has
 # the same with a million). Wants ./htn, as examples/transport/run leaves it, and valgrind. A line each: the instructions.
 #
-# Counted, in the order of the cases, millions, with lists of terms made with their room, and not those of subtasks: 18.3, 76.3,
-# 669.2, 384.1, 318.9, 281.6, 211.0. With those of subtasks alone, as it is now, the methods 317.2. With both: 18.3, 76.2, 669.2,
+# Counted, in the order of the cases, millions: 19.7, 85.8, 796.1, 434.1, 336.9, 279.0, 211.6. Before values kept their words in a list,
+# where a name's word is looked for by two numbers and not in a table: with lists of terms made with their room, and not those of
+# subtasks: 18.3, 76.3, 669.2, 384.1, 318.9, 281.6, 211.0. With those of subtasks alone, as it is now, the methods 317.2. With both: 18.3, 76.2, 669.2,
 # 384.0, 316.8, 281.6, 211.0. With neither: 18.3, 76.3, 667.4, 384.1, 294.3, 281.6, 211.0. Before words stood in their table and
 # were hashed whole: 20.5, 114.2, 685.2, 382.1, 314.8, 280.0, 209.9. Before a formula and an effect went through one batch and
 # rows stood on the heap: 20.7, 114.0, 684.1, 385.8, 329.9, 273.0, 209.8. Before facts stood in rows of few bytes and were read by
