@@ -2,8 +2,9 @@
 use Rattle.std.proofs.Common.{ℕ, zero, suc, ◌≡◌, ◌≤◌, ◌-◌, List, [], ◌∷◌, ◌++◌, length, take, drop, Some, None, slice_get}
 use Rattle.std.proofs.Common.{refl, sym, ap, ◌∙◌, arith, length-append}
 use Rattle.std.specs.Prelude.{slice_range}
-use Rattle.std.proofs.lemmas.List.{take-append-le, drop-append-le, length-drop}
+use Rattle.std.proofs.lemmas.List.{take-append-le, drop-append-le, length-drop, length-take, take-append-drop}
 use Rattle.std.proofs.lemmas.Option.{slice_get_past}
+use Rattle.std.proofs.Math.Nat.{min-eq_left}
 use Rattle.std.proofs.Math.Seq.{drop-append_seam, take-length}
 use Rattle.htn_base.specs.Packed.{Row, row_of, rows_from, parts_from, EndsFrom, AreRows}
 
@@ -126,3 +127,36 @@ pub no_part : (ends items : List ℕ) (parts : List (List ℕ)) (k : ℕ) → pa
 no_part ends items parts k are past =
     let long = length-parts 0 ends items ∙ ap (λ all. length all) are in
     sym (slice_get_past parts k (omega (arith, past, long)))
+
+-- a place is reached between the start and the end
+reached : (start : ℕ) (ends : List ℕ) (length n end : ℕ) → EndsFrom start ends length → slice_get (start ∷ ends) n ≡ Some end → (start ≤ end) × (end ≤ length)
+reached start ends length zero end h f =
+    let is : start ≡ end = cc f in
+    let within = ends_within start ends length h in
+    (omega (arith, is), omega (arith, is, within))
+reached start [] length (suc n) end h f = absurd (cc f)
+reached start (to ∷ ends) length (suc n) end h f =
+    let (up, within) = reached to ends length n end h.1 f in (omega (arith, up, h.0), within)
+
+-- the first ends
+pub ends_taken : (start : ℕ) (ends : List ℕ) (length n end : ℕ) → EndsFrom start ends length → slice_get (start ∷ ends) n ≡ Some end → EndsFrom start (take n ends) end
+ends_taken start ends length zero end h f = cc f
+ends_taken start [] length (suc n) end h f = absurd (cc f)
+ends_taken start (to ∷ ends) length (suc n) end h f = (h.0, ends_taken to ends length n end h.1 f)
+
+pub taken_within : (ends items : List ℕ) (n end : ℕ) → EndsFrom 0 ends (length items) → slice_get (0 ∷ ends) n ≡ Some end → length (take end items) ≡ end
+taken_within ends items n end h f =
+    let (up, within) = reached 0 ends (length items) n end h f in length-take end items ∙ min-eq_left within
+
+-- and the first parts
+pub parts_taken : (start : ℕ) (ends items : List ℕ) (n end : ℕ) → EndsFrom start ends (length items) → slice_get (start ∷ ends) n ≡ Some end
+    → parts_from start (take n ends) (take end items) ≡ take n (parts_from start ends items)
+parts_taken start ends items zero end h f = refl
+parts_taken start [] items (suc n) end h f = absurd (cc f)
+parts_taken start (to ∷ ends) items (suc n) end h f =
+    let (up, within) = reached to ends (length items) n end h.1 f in
+    let long = length-take end items ∙ min-eq_left within in
+    let here = part_kept (take end items) (drop end items) start to h.0 (omega (arith, up, long)) in
+    let same = ap (λ xs. slice_range xs start to) (take-append-drop end items) in
+    let rest = parts_taken to ends items n end h.1 f in
+    (λ i. (sym here ∙ same) i ∷ rest i)

@@ -1,7 +1,7 @@
 //! What every crate of the translator stands on: the answer for want of memory, lists and texts that
 //! contracts see as lists, rows of numbers in few bytes, the places of faults, and names.
 //!
-//! Stands on `indexmap`, `itoa` and `smallvec`. The contract used above: words and their numbers are one to one.
+//! Stands on `itoa`. The contract used above: words and their numbers are one to one.
 #![tactic(auto)]
 
 mod boxed;
@@ -13,7 +13,6 @@ mod memory;
 mod name;
 mod packed;
 mod rows;
-mod table_word;
 mod text;
 mod word_list;
 mod words;

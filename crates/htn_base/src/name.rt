@@ -1,14 +1,13 @@
-ghost use Rattle.std.specs.Prelude.{◌≡◌, [], length, slice_get, take, IfOk, IfSome, OnOk, OnErr, Some};
+ghost use Rattle.std.specs.Prelude.{◌≡◌, [], ◌∷◌, ◌++◌, length, slice_get, take, ◌≤◌, IfOk, IfSome, OnOk, OnErr, Some};
 ghost use Rattle.std.specs.Option.{option_copied, option_map};
+ghost use Rattle.htn_base.specs.Table.{HasNumbers};
 ghost use Rattle.htn_base.specs.Words.{folded};
 
 use crate::marks::Marks;
 use crate::memory::Memory;
-use crate::packed::PackedNumbers;
-use crate::table_word::{Sought, Word};
-use crate::word_list::{WordList, put_word};
-use indexmap::IndexSet;
+use crate::word_list::WordList;
 use std::alloc::Global;
+use std::collections::HashMap;
 use std::marker::Model;
 
 /// The number of a word in a name table: its place from 0 in the order in which the words were first seen.
@@ -17,36 +16,38 @@ pub struct Name {
     pub number: u32,
 }
 
-/// The number of words of a full table.
-const MOST_WORDS: usize = 0xffff_ffff;
-
 /// Words and their numbers. Contracts see the words in the order in which they were first seen.
 #[derive(Drop)]
 pub struct NameTable {
-    words: IndexSet<Word>,
+    alloc: Global,
+    words: WordList,
+    // the number of each word
+    numbers: HashMap<Vec<u8>, u32>,
 }
 
 impl Model for NameTable {
     ghost use Rattle.std.specs.Prelude.{ℕ, List};
-    ghost use Rattle.htn_base.specs.Table.{IsTable};
+    ghost use Rattle.htn_base.specs.Table.{IsNameTable};
 
     ghost Value = { List (List ℕ) };
 
-    ghost view = { λ table. table.words.keys };
+    ghost view = { λ table. table.words };
 
-    ghost invariant = { λ table. IsTable table.words.keys };
+    ghost invariant = { λ table. IsNameTable table.numbers table.words };
 }
 
 impl NameTable {
     ghost use Rattle.htn_base.specs.Words.{folded};
-    ghost use Rattle.htn_base.specs.Table.{number_of, with_word, IsKnown, IsTable};
+    ghost use Rattle.htn_base.specs.Table.{number_of, with_word, IsKnown, IsNewWord, IsTable};
 
     /// A table of no words. It takes no memory yet.
     pub fn new(alloc: Global) -> NameTable
         ensures empty { result ≡ [] }
     {
         NameTable {
-            words: IndexSet::new(alloc),
+            alloc,
+            words: WordList::new(alloc),
+            numbers: HashMap::new(alloc),
         }
     }
 
@@ -66,21 +67,11 @@ impl NameTable {
         Ok(table)
     }
 
-    /// Its words as a list, each at its number. More than 4,294,967,295 bytes in all want memory.
+    /// Its words as a list, each at its number.
     pub fn to_list(&self, alloc: Global) -> Result<WordList, Memory>
         ensures words { IfOk result (λ list. list ≡ self.now) }
     {
-        let mut ends = PackedNumbers::new(alloc);
-        let mut bytes = Vec::new(alloc);
-        for number in 0..self.len() {
-            let name = Name {
-                number: number as u32,
-            };
-            if let Some(word) = self.text(name) {
-                put_word(word, &mut ends, &mut bytes)?;
-            }
-        }
-        Ok(WordList { ends, bytes })
+        self.words.copy(alloc)
     }
 
     /// The number of words.
@@ -92,7 +83,7 @@ impl NameTable {
     }
 
     /// The name of the word, in lower case. A word that is there keeps its number, and a new word takes the next. A full
-    /// table wants memory. After `Memory` the table is as it was.
+    /// table, of 4,294,967,295 words or of as many bytes, wants memory. After `Memory` the table is as it was.
     pub fn intern(&mut self, word: &[u8]) -> Result<Name, Memory>
         ensures words { OnOk result (self.new ≡ with_word self.old (folded word.now)) }
         ensures number { IfOk result (λ n. number_of self.new (folded word.now) ≡ Some n.number) }
@@ -102,14 +93,31 @@ impl NameTable {
         if let Some(name) = self.known(word) {
             return Ok(name);
         }
-        if self.len() >= MOST_WORDS {
-            return Err(Memory);
+        let lower = word.to_ascii_lowercase(self.alloc)?;
+        match self.find(lower.as_slice()) {
+            Some(name) => Ok(name),
+            None => self.add(lower),
         }
-        let word = Word::in_lower_case(*self.words.allocator(), word)?;
-        let (place, _) = self.words.insert_full(word)?;
-        Ok(Name {
-            number: place as u32,
-        })
+    }
+
+    // Puts a new word behind the others.
+    fn add(&mut self, word: Vec<u8>) -> Result<Name, Memory>
+        requires { IsNewWord self.old word.items }
+        ensures words { OnOk result (self.new ≡ self.old ++ word.items ∷ []) }
+        ensures number { IfOk result (λ n. n.number ≡ length self.old) }
+        ensures unchanged { OnErr result (self.new ≡ self.old) }
+        ensures sound { IsTable self.new }
+    {
+        let count = self.words.len();
+        self.words.push(word.as_slice())?;
+        let number = count as u32;
+        match self.numbers.insert(word, number) {
+            Ok(_) => Ok(Name { number }),
+            Err(_) => {
+                self.words.truncate(count);
+                Err(Memory)
+            }
+        }
     }
 
     /// As `intern`. A word that the marks know is found without a search. They may be those of any table.
@@ -153,7 +161,10 @@ impl NameTable {
         ensures words { self.new ≡ take len self.old }
         ensures sound { IsTable self.new }
     {
-        self.words.truncate(len);
+        if len < self.words.len() {
+            forget(&mut self.numbers, &self.words, len);
+            self.words.truncate(len);
+        }
     }
 
     /// The name of the word as it is given, without folding. `None` exactly where it is not there.
@@ -161,10 +172,8 @@ impl NameTable {
         ensures number { option_map (λ name. name.number) result ≡ number_of self.now word.now }
         ensures sound { IsTable self.now }
     {
-        let found = self.words.get_index_of(Sought { bytes: word })?;
-        Some(Name {
-            number: found as u32,
-        })
+        let number = *self.numbers.get(word)?;
+        Some(Name { number })
     }
 
     /// As `find`. A word that the marks know is found without a search. They may be those of any table.
@@ -185,7 +194,24 @@ impl NameTable {
         ensures word { option_copied result ≡ slice_get self.now name.number }
         ensures sound { IsTable self.now }
     {
-        let word = self.words.get_index(name.number as usize)?;
-        Some(word.as_slice())
+        self.words.text(name)
+    }
+}
+
+// Forgets the numbers of all words but the first ones, `len` of them.
+fn forget(numbers: &mut HashMap<Vec<u8>, u32>, words: &WordList, len: usize)
+    requires numbers { HasNumbers numbers.old words.now }
+    requires within { len ≤ length words.now }
+    ensures { HasNumbers numbers.new (take len words.now) }
+{
+    let mut count = words.len();
+    while count > len {
+        count -= 1;
+        let last = Name {
+            number: count as u32,
+        };
+        if let Some(word) = words.text(last) {
+            numbers.remove(word);
+        }
     }
 }

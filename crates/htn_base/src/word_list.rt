@@ -1,21 +1,22 @@
-ghost use Rattle.std.specs.Prelude.{◌≡◌, ◌∷◌, [], ◌++◌, length, slice_get, OnOk};
+ghost use Rattle.std.specs.Prelude.{◌≡◌, ◌∷◌, [], ◌++◌, length, slice_get, take, IfOk, OnErr, OnOk};
 ghost use Rattle.std.specs.Option.{option_copied};
 
 use crate::lengths::number;
 use crate::memory::Memory;
 use crate::name::Name;
-use crate::packed::PackedNumbers;
-use crate::rows::start_of;
 use std::alloc::Global;
 use std::marker::Model;
+
+/// The number of words of a full list.
+const MOST_WORDS: usize = 0xffff_ffff;
 
 /// The words of a name table by their numbers, one behind another in few bytes, for values, which only ask what a number's word
 /// is. Contracts see the list of the words.
 #[derive(Drop)]
 pub struct WordList {
     // where each word ends
-    pub(crate) ends: PackedNumbers,
-    pub(crate) bytes: Vec<u8>,
+    ends: Vec<u32>,
+    bytes: Vec<u8>,
 }
 
 impl Model for WordList {
@@ -25,25 +26,26 @@ impl Model for WordList {
 
     ghost Value = { List (List ℕ) };
 
-    ghost view = { λ list. parts_from 0 list.ends list.bytes.items };
+    ghost view = { λ list. parts_from 0 list.ends.items list.bytes.items };
 
-    ghost invariant = { λ list. IsWordList list.ends list.bytes.items };
+    ghost invariant = { λ list. IsWordList list.ends.items list.bytes.items };
 }
 
 impl WordList {
-    ghost use Rattle.htn_base.specs.Table.{IsTable};
+    ghost use Rattle.htn_base.specs.Table.{IsNewWord, IsTable};
 
     /// No words. They take no memory yet.
     pub fn new(alloc: Global) -> WordList
         ensures none { result ≡ [] }
     {
         WordList {
-            ends: PackedNumbers::new(alloc),
+            ends: Vec::new(alloc),
             bytes: Vec::new(alloc),
         }
     }
 
     /// The number of words.
+    #[inline]
     pub fn len(&self) -> usize
         ensures length { result ≡ length self.now }
         ensures sound { IsTable self.now }
@@ -58,21 +60,68 @@ impl WordList {
         ensures sound { IsTable self.now }
     {
         let place = name.number as usize;
-        let end = self.ends.get(place)?;
-        let start = start_of(&self.ends, place)?;
+        let start = boundary(&self.ends, place)?;
+        let end = boundary(&self.ends, place + 1)?;
         self.bytes.get(start as usize..end as usize)
+    }
+
+    // The same words.
+    pub(crate) fn copy(&self, alloc: Global) -> Result<WordList, Memory>
+        ensures same { IfOk result (λ list. list ≡ self.now) }
+    {
+        let ends = Vec::from_slice(alloc, self.ends.as_slice())?;
+        let bytes = Vec::from_slice(alloc, self.bytes.as_slice())?;
+        Ok(WordList { ends, bytes })
+    }
+
+    // Puts a new word behind the others. Past 4,294,967,295 bytes in all it wants memory.
+    pub(crate) fn push(&mut self, word: &[u8]) -> Result<(), Memory>
+        requires { IsNewWord self.old word.now }
+        ensures pushed { OnOk result (self.new ≡ self.old ++ word.now ∷ []) }
+        ensures unchanged { OnErr result (self.new ≡ self.old) }
+        ensures sound { IsTable self.new }
+    {
+        if self.ends.len() >= MOST_WORDS {
+            return Err(Memory);
+        }
+        let start = self.bytes.len();
+        self.bytes.extend_from_slice(word)?;
+        match put_end(&mut self.ends, self.bytes.len()) {
+            Ok(()) => Ok(()),
+            Err(Memory) => {
+                self.bytes.truncate(start);
+                Err(Memory)
+            }
+        }
+    }
+
+    // Forgets all words but the first ones, `len` of them or all.
+    pub(crate) fn truncate(&mut self, len: usize)
+        ensures words { self.new ≡ take len self.old }
+        ensures sound { IsTable self.new }
+    {
+        if let Some(end) = boundary(&self.ends, len) {
+            self.bytes.truncate(end as usize);
+            self.ends.truncate(len);
+        }
     }
 }
 
-// Puts the word behind the others, and where it ends.
-pub(crate) fn put_word(
-    word: &[u8],
-    ends: &mut PackedNumbers,
-    bytes: &mut Vec<u8>,
-) -> Result<(), Memory>
-    ensures bytes { OnOk result (bytes.new.items ≡ bytes.old.items ++ word.now) }
-    ensures ends { OnOk result (ends.new ≡ ends.old ++ length bytes.new.items ∷ []) }
+// A boundary of words: 0, and behind it where each word ends. `None` behind the last.
+#[inline]
+fn boundary(ends: &Vec<u32>, k: usize) -> Option<u32>
+    ensures { result ≡ slice_get (0 ∷ ends.now.items) k }
 {
-    bytes.extend_from_slice(word)?;
-    ends.push(number(bytes.len())?)
+    if k == 0 {
+        return Some(0);
+    }
+    Some(*ends.get(k - 1)?)
+}
+
+fn put_end(ends: &mut Vec<u32>, end: usize) -> Result<(), Memory>
+    ensures put { OnOk result (ends.new.items ≡ ends.old.items ++ end ∷ []) }
+    ensures unchanged { OnErr result (ends.new.items ≡ ends.old.items) }
+{
+    ends.push(number(end)?)?;
+    Ok(())
 }

@@ -1,13 +1,9 @@
-use Rattle.std.proofs.Common.{ap, ◌∙◌, length, subst}
-use Rattle.htn_base.specs.Table.{IsTable}
+use Rattle.std.proofs.Common.{length, ap, ◌∙◌, arith}
 use Rattle.htn_base.proofs.PackedLemmas.{length-parts}
 use Rattle.htn_base.proofs.word_list.WordList.len.Goals as goal
 
-pub returns : goal.returns
-returns c =
+pub returns-clause-length : goal.returns-clause-length
+returns-clause-length c =
     let list = c.self.inside in
-    let long = length-parts 0 list.ends list.bytes.items in
-    record {
-      length = c.len.ensures.length ∙ long ∙ ap (λ xs. length xs) c.self.view_is;
-      sound = subst IsTable c.self.view_is c.self.invariant.table;
-    }
+    let long = length-parts 0 list.ends.items list.bytes.items ∙ ap (λ xs. length xs) c.self.view_is in
+    omega (arith, c.len.ensures, long)
