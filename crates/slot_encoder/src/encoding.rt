@@ -119,7 +119,7 @@ impl Encoding {
     }
 }
 
-/// The printed problem with so many slots, with all its words in its table. The source's types are few and their parents
+/// The printed problem with so many slots, with all its words. The source's types are few and their parents
 /// and unions are listed.
 pub fn encode(alloc: Global, c: &Compiled, slots: u32, style: &Style) -> Result<Pddl, Memory>
     requires listed { AreListed c.now.hddl.types }
