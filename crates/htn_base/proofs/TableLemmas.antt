@@ -1,5 +1,5 @@
 -- Words and their numbers: what has a number, one more word, and the first words; and the map that finds the numbers.
-use Rattle.std.proofs.Common.{◌≡◌, ℕ, suc, ◌+◌, ◌-◌, ◌<◌, ◌≤◌, ◌^◌, List, [], ◌∷◌, ◌++◌, length, Bool, true, false, cond, not, ◌||◌, Option, Some, None, position, nat_lt, refl, sym, ap, subst, Contains, ◌∙◌, arith, true≢false, take, get_or, slice_get}
+use Rattle.std.proofs.Common.{◌≡◌, ℕ, suc, ◌+◌, ◌-◌, ◌<◌, ◌^◌, List, [], ◌∷◌, ◌++◌, length, Bool, true, false, cond, not, ◌||◌, Option, Some, None, position, nat_lt, refl, sym, ap, subst, Contains, ◌∙◌, arith, true≢false, take, get_or, slice_get}
 use Rattle.std.specs.HashMap.{HashMap, get_by, UpdatesBy}
 use Rattle.std.specs.List.{list_any, position_or_len}
 use Rattle.std.specs.Map.{KeepsOthers, IsKeyTest, AreApart, lookup}
@@ -158,7 +158,7 @@ module _ (words : List (List ℕ)) (word : List ℕ) (new : number_of words word
   absent (k, below, same) = true≢false (sym (list_any_at (bytes_eq word) words k word below ((bytes_eq-Decides word _).1 (sym same))) ∙ not_any)
 
   -- so it comes behind them
-  pub with-new : with_word words word ≡ words ++ word ∷ []
+  with-new : with_word words word ≡ words ++ word ∷ []
   with-new = ap (λ there. cond there words (words ++ word ∷ [])) not_any
 
   -- and its number is how many they are
@@ -178,8 +178,17 @@ module _ (words : List (List ℕ)) (word : List ℕ) (new : number_of words word
           (λ i. or_last (none i) (passes i) (length words))
       by false e = kept (number_of words other) (bytes_eq other word) (false_either_way word other e)
 
-  pub number-last : number_of (words ++ word ∷ []) word ≡ Some (length words)
+  number-last : number_of (words ++ word ∷ []) word ≡ Some (length words)
   number-last = number-push word ∙ ap (λ same. cond same (Some (length words)) (number_of words word)) ((bytes_eq-Decides word word).1 refl)
+
+-- a word that has no number in lower case, once that was put behind the others
+module _ (words : List (List ℕ)) (word lower : List ℕ) (is : lower ≡ folded word) (none : number_of words lower ≡ None)
+    (new : List (List ℕ)) (put : new ≡ words ++ lower ∷ []) where
+  pub words-interned : new ≡ with_word words (folded word)
+  words-interned = put ∙ sym (with-new words lower none) ∙ ap (with_word words) is
+
+  pub number-interned : number_of new (folded word) ≡ Some (length words)
+  number-interned = (λ i. number_of (put i) (sym is i)) ∙ number-last words lower none
 
 -- a table with one more word is a table
 pub IsTable-push : (words : List (List ℕ)) (word : List ℕ) → IsTable words → length words < 2 ^ 32 - 1 → IsNewWord words word → IsTable (words ++ word ∷ [])

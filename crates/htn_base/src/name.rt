@@ -1,4 +1,4 @@
-ghost use Rattle.std.specs.Prelude.{◌≡◌, [], ◌∷◌, ◌++◌, length, slice_get, take, ◌≤◌, IfOk, IfSome, OnOk, OnErr, Some};
+ghost use Rattle.std.specs.Prelude.{◌≡◌, [], ◌∷◌, ◌++◌, length, slice_get, take, ◌≤◌, IfOk, IfSome, IfNone, OnOk, OnErr, Some, None};
 ghost use Rattle.std.specs.Option.{option_copied, option_map};
 ghost use Rattle.htn_base.specs.Table.{HasNumbers};
 ghost use Rattle.htn_base.specs.Words.{folded};
@@ -94,6 +94,9 @@ impl NameTable {
             return Ok(name);
         }
         let lower = word.to_ascii_lowercase(self.alloc)?;
+        if lower.as_slice() == word {
+            return self.add(lower);
+        }
         match self.find(lower.as_slice()) {
             Some(name) => Ok(name),
             None => self.add(lower),
@@ -152,6 +155,7 @@ impl NameTable {
     // The name of a word that is there, if it is written in lower case: nothing is copied for it.
     fn known(&self, word: &[u8]) -> Option<Name>
         ensures known { IfSome result (λ n. IsKnown self.now word.now n.number) }
+        ensures new { IfNone result (number_of self.now word.now ≡ None) }
     {
         self.find(word)
     }

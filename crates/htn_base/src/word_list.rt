@@ -10,8 +10,8 @@ use std::marker::Model;
 /// The number of words of a full list.
 const MOST_WORDS: usize = 0xffff_ffff;
 
-/// The words of a name table by their numbers, one behind another in few bytes, for values, which only ask what a number's word
-/// is. Contracts see the list of the words.
+/// Words by their numbers, one behind another in few bytes: those of a name table, and those of a value, which only asks what a
+/// number's word is. Contracts see the list of the words.
 #[derive(Drop)]
 pub struct WordList {
     // where each word ends

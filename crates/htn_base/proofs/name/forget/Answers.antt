@@ -1,5 +1,5 @@
 use Rattle.std.specs.Option.{option_copied}
-use Rattle.std.proofs.Common.{◌≡◌, ◌+◌, ◌-◌, ◌<◌, ◌++◌, ◌∷◌, [], length, take, Some, None, slice_get, refl, ap, sym, ◌∙◌, subst, arith}
+use Rattle.std.proofs.Common.{◌≡◌, ◌+◌, ◌-◌, ◌<◌, length, take, Some, None, slice_get, refl, ap, sym, ◌∙◌, subst, arith}
 use Rattle.htn_base.specs.Table.{HasNumbers}
 use Rattle.htn_base.proofs.ReadAt.{next_read, none_read}
 use Rattle.htn_base.proofs.TableLemmas.{numbers_left, no_number_before}

@@ -1,7 +1,7 @@
 use Rattle.std.proofs.Common.{◌≡◌, ◌++◌, ◌∷◌, [], ◌<◌, ◌-◌, ◌^◌, length, sym, ap, ◌∙◌, subst, arith}
 use Rattle.std.proofs.lemmas.List.{length-append}
-use Rattle.htn_base.specs.Packed.{parts_from, EndsFrom}
-use Rattle.htn_base.specs.Table.{IsTable, IsWordList}
+use Rattle.htn_base.specs.Packed.{parts_from}
+use Rattle.htn_base.specs.Table.{IsTable}
 use Rattle.htn_base.proofs.PackedLemmas.{part_pushed, ends_pushed, length-parts}
 use Rattle.htn_base.proofs.TableLemmas.{IsTable-push}
 use Rattle.htn_base.proofs.word_list.WordList.push.Goals as goal
