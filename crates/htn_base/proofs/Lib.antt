@@ -1,5 +1,6 @@
 pub mod DifferentLemmas
 pub mod TableLemmas
+pub mod KeptLemmas
 pub mod EscapeLemmas
 pub mod PackedLemmas
 pub mod ReadAt

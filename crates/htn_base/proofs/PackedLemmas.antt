@@ -1,4 +1,4 @@
--- Rows in three lists: which row stands where, and one more row.
+-- Parts of a list and rows in three lists: which stands where, and one more.
 use Rattle.std.proofs.Common.{ℕ, zero, suc, ◌≡◌, ◌≤◌, ◌-◌, List, [], ◌∷◌, ◌++◌, length, take, drop, Some, None, slice_get}
 use Rattle.std.proofs.Common.{refl, sym, ap, ◌∙◌, arith, length-append}
 use Rattle.std.specs.Prelude.{slice_range}
@@ -6,7 +6,7 @@ use Rattle.std.proofs.lemmas.List.{take-append-le, drop-append-le, length-drop, 
 use Rattle.std.proofs.lemmas.Option.{slice_get_past}
 use Rattle.std.proofs.Math.Nat.{min-eq_left}
 use Rattle.std.proofs.Math.Seq.{drop-append_seam, take-length}
-use Rattle.htn_base.specs.Packed.{Row, row_of, rows_from, parts_from, EndsFrom, AreRows}
+use Rattle.htn_base.specs.Packed.{Row, row_of, rows_of, parts_from, EndsFrom, AreRows}
 
 -- a part stays as it is where more comes behind
 part_kept : (xs ys : List ℕ) (start end : ℕ) → start ≤ end → end ≤ length xs → slice_range (xs ++ ys) start end ≡ slice_range xs start end
@@ -27,38 +27,13 @@ ends_within : (start : ℕ) (ends : List ℕ) (length : ℕ) → EndsFrom start 
 ends_within start [] length h = omega (arith, h)
 ends_within start (end ∷ ends) length h = let rest = ends_within end ends length h.1 in omega (arith, rest, h.0)
 
--- one more row, whose numbers come last
-pub row_pushed : (start : ℕ) (heads ends numbers : List ℕ) (head : ℕ) (rest : List ℕ)
-    → length heads ≡ length ends → EndsFrom start ends (length numbers)
-    → rows_from start (heads ++ head ∷ []) (ends ++ length (numbers ++ rest) ∷ []) (numbers ++ rest)
-    ≡ rows_from start heads ends numbers ++ row_of head rest ∷ []
-row_pushed start [] [] numbers head rest paired rising =
-    ap (λ r. row_of head r ∷ []) (ap (λ s. slice_range (numbers ++ rest) s (length (numbers ++ rest))) rising ∙ part_last numbers rest)
-row_pushed start [] (end ∷ ends) numbers head rest paired rising = absurd (omega (arith, paired))
-row_pushed start (first ∷ heads) [] numbers head rest paired rising = absurd (omega (arith, paired))
-row_pushed start (first ∷ heads) (end ∷ ends) numbers head rest paired rising =
-    let within = ends_within end ends (length numbers) rising.1 in
-    let here = part_kept numbers rest start end rising.0 within in
-    let later = row_pushed end heads ends numbers head rest (omega (arith, paired)) rising.1 in
-    ap (λ r. row_of first r ∷ rows_from end (heads ++ head ∷ []) (ends ++ length (numbers ++ rest) ∷ []) (numbers ++ rest)) here
-    ∙ ap (λ rows. row_of first (slice_range numbers start end) ∷ rows) later
-
 -- the ends with the end of one more row
 pub ends_pushed : (start : ℕ) (ends : List ℕ) (before after : ℕ) → before ≤ after → EndsFrom start ends before
     → EndsFrom start (ends ++ after ∷ []) after
 ends_pushed start [] before after up h = (omega (arith, up, h), refl)
 ends_pushed start (end ∷ ends) before after up h = (h.0, ends_pushed end ends before after up h.1)
 
--- the row of a number: its head, and the numbers from the end of the row before to its own
-pub row_read : (start : ℕ) (heads ends numbers : List ℕ) (k head from end : ℕ)
-    → slice_get heads k ≡ Some head → slice_get (start ∷ ends) k ≡ Some from → slice_get ends k ≡ Some end
-    → slice_get (rows_from start heads ends numbers) k ≡ Some (row_of head (slice_range numbers from end))
-row_read start [] ends numbers k head from end h f e = absurd (cc h)
-row_read start (first ∷ heads) [] numbers k head from end h f e = absurd (cc e)
-row_read start (first ∷ heads) (to ∷ ends) numbers zero head from end h f e = cc
-row_read start (first ∷ heads) (to ∷ ends) numbers (suc k) head from end h f e = row_read to heads ends numbers k head from end h f e
-
--- and it stands within the numbers
+-- a row stands within the numbers
 pub row_within : (start : ℕ) (ends : List ℕ) (length k from end : ℕ)
     → EndsFrom start ends length → slice_get (start ∷ ends) k ≡ Some from → slice_get ends k ≡ Some end
     → (from ≤ end) × (end ≤ length)
@@ -69,21 +44,6 @@ row_within start (to ∷ ends) length zero from end h f e =
     let ends_at : to ≡ end = cc e in
     (omega (arith, h.0, is, ends_at), omega (arith, within, ends_at))
 row_within start (to ∷ ends) length (suc k) from end h f e = row_within to ends length k from end h.1 f e
-
--- as many rows as heads
-pub length-rows : (start : ℕ) (heads ends numbers : List ℕ) → length heads ≡ length ends
-    → length heads ≡ length (rows_from start heads ends numbers)
-length-rows start [] ends numbers paired = refl
-length-rows start (head ∷ heads) [] numbers paired = absurd (omega (arith, paired))
-length-rows start (head ∷ heads) (end ∷ ends) numbers paired =
-    let rest = length-rows end heads ends numbers (omega (arith, paired)) in ap (λ n. suc n) rest
-
--- and none past the heads
-pub no_row : (heads ends numbers : List ℕ) (rows : List Row) (k : ℕ)
-    → length heads ≡ length ends → rows_from 0 heads ends numbers ≡ rows → length heads ≤ k → None ≡ slice_get rows k
-no_row heads ends numbers rows k paired are past =
-    let long = length-rows 0 heads ends numbers paired ∙ ap (λ all. length all) are in
-    sym (slice_get_past rows k (omega (arith, past, long)))
 
 -- the three lists with one more row
 pub rows_pushed : (heads ends numbers : List ℕ) (head : ℕ) (rest : List ℕ) → AreRows heads ends numbers
@@ -127,6 +87,53 @@ pub no_part : (ends items : List ℕ) (parts : List (List ℕ)) (k : ℕ) → pa
 no_part ends items parts k are past =
     let long = length-parts 0 ends items ∙ ap (λ all. length all) are in
     sym (slice_get_past parts k (omega (arith, past, long)))
+
+-- as many rows as heads
+length-rows : (heads : List ℕ) (rests : List (List ℕ)) → length heads ≡ length rests → length heads ≡ length (rows_of heads rests)
+length-rows [] rests paired = refl
+length-rows (head ∷ heads) [] paired = absurd (omega (arith, paired))
+length-rows (head ∷ heads) (rest ∷ rests) paired = ap (λ n. suc n) (length-rows heads rests (omega (arith, paired)))
+
+-- the last row
+row_last : (heads : List ℕ) (rests : List (List ℕ)) (head : ℕ) (rest : List ℕ) → length heads ≡ length rests
+    → rows_of (heads ++ head ∷ []) (rests ++ rest ∷ []) ≡ rows_of heads rests ++ row_of head rest ∷ []
+row_last [] [] head rest paired = refl
+row_last [] (other ∷ rests) head rest paired = absurd (omega (arith, paired))
+row_last (first ∷ heads) [] head rest paired = absurd (omega (arith, paired))
+row_last (first ∷ heads) (other ∷ rests) head rest paired = ap (λ rows. row_of first other ∷ rows) (row_last heads rests head rest (omega (arith, paired)))
+
+-- the row of a number
+row_there : (heads : List ℕ) (rests : List (List ℕ)) (k head : ℕ) (rest : List ℕ) → slice_get heads k ≡ Some head → slice_get rests k ≡ Some rest
+    → slice_get (rows_of heads rests) k ≡ Some (row_of head rest)
+row_there [] rests k head rest h r = absurd (cc h)
+row_there (first ∷ heads) [] k head rest h r = absurd (cc r)
+row_there (first ∷ heads) (other ∷ rests) zero head rest h r = cc
+row_there (first ∷ heads) (other ∷ rests) (suc k) head rest h r = row_there heads rests k head rest h r
+
+module _ (heads ends numbers : List ℕ) (are : AreRows heads ends numbers) where
+  paired_parts : length heads ≡ length (parts_from 0 ends numbers)
+  paired_parts = are.paired ∙ length-parts 0 ends numbers
+
+  -- one more row, whose numbers come last
+  pub row_pushed : (head : ℕ) (rest : List ℕ) → rows_of (heads ++ head ∷ []) (parts_from 0 (ends ++ length (numbers ++ rest) ∷ []) (numbers ++ rest))
+      ≡ rows_of heads (parts_from 0 ends numbers) ++ row_of head rest ∷ []
+  row_pushed head rest =
+      ap (rows_of (heads ++ head ∷ [])) (part_pushed 0 ends numbers rest are.rising) ∙ row_last heads (parts_from 0 ends numbers) head rest paired_parts
+
+  -- the row of a number: its head, and the numbers from the end of the row before to its own
+  pub row_read : (k head from end : ℕ) → slice_get heads k ≡ Some head → slice_get (0 ∷ ends) k ≡ Some from → slice_get ends k ≡ Some end
+      → slice_get (rows_of heads (parts_from 0 ends numbers)) k ≡ Some (row_of head (slice_range numbers from end))
+  row_read k head from end h f e = row_there heads (parts_from 0 ends numbers) k head _ h (part_read 0 ends numbers k from end f e)
+
+  -- as many rows as heads
+  pub length-all : length heads ≡ length (rows_of heads (parts_from 0 ends numbers))
+  length-all = length-rows heads (parts_from 0 ends numbers) paired_parts
+
+  -- and none past the heads
+  pub no_row : (rows : List Row) (k : ℕ) → rows_of heads (parts_from 0 ends numbers) ≡ rows → length heads ≤ k → None ≡ slice_get rows k
+  no_row rows k same past =
+      let long = length-all ∙ ap (λ all. length all) same in
+      sym (slice_get_past rows k (omega (arith, past, long)))
 
 -- a place is reached between the start and the end
 reached : (start : ℕ) (ends : List ℕ) (length n end : ℕ) → EndsFrom start ends length → slice_get (start ∷ ends) n ≡ Some end → (start ≤ end) × (end ≤ length)

@@ -20,16 +20,16 @@ pub record Row : Type 0 where
 abbrev pub row_of : ℕ → List ℕ → Row
 row_of head rest = record { head = head; rest = rest }
 
--- the rows of these heads: the rest of the first goes from the start to the first end, that of each further one from the end before
-abbrev pub rows_from : ℕ → List ℕ → List ℕ → List ℕ → List Row
-rows_from start [] ends numbers = []
-rows_from start (head ∷ heads) [] numbers = []
-rows_from start (head ∷ heads) (end ∷ ends) numbers = row_of head (slice_range numbers start end) ∷ rows_from end heads ends numbers
-
 -- the parts of a list that end at these places: the first goes from the start to the first end, each further one from the end before
 abbrev pub parts_from : ℕ → List ℕ → List ℕ → List (List ℕ)
 parts_from start [] items = []
 parts_from start (end ∷ ends) items = slice_range items start end ∷ parts_from end ends items
+
+-- the rows of these heads, each with its further numbers
+abbrev pub rows_of : List ℕ → List (List ℕ) → List Row
+rows_of [] rests = []
+rows_of (head ∷ heads) [] = []
+rows_of (head ∷ heads) (rest ∷ rests) = row_of head rest ∷ rows_of heads rests
 
 -- the ends ascend from the start, and the last of them is the length
 abbrev pub EndsFrom : ℕ → List ℕ → ℕ → Type 0

@@ -1,10 +1,10 @@
 -- The words of a name table, in the order in which they were first seen. A word's number is its place from 0.
-use Rattle.std.specs.Prelude.{ℕ, ◌≡◌, ◌<◌, ◌^◌, List, [], ◌∷◌, ◌++◌, length, Option, Some, None, All, position, if◌then◌else◌}
-use Rattle.std.specs.HashMap.{HashMap, get_by}
+use Rattle.std.specs.Prelude.{ℕ, ◌≡◌, ◌<◌, ◌^◌, ◌⊎◌, Bool, false, List, [], ◌∷◌, ◌++◌, length, slice_get, nat_eq, Option, Some, None, All, Contains, position, if◌then◌else◌}
+use Rattle.std.specs.Hash.FoldHasher.{initial, write, finish}
+use Rattle.std.specs.HashMap.{HashMap, get}
 use Rattle.std.specs.List.{list_any}
+use Rattle.std.specs.Option.{option_map_or}
 use Rattle.std.specs.Str.{bytes_eq}
-use Rattle.std.specs.declared.alloc.Global.{Global}
-use Rattle.std.specs.declared.vec.Vec.{Vec}
 use Rattle.htn_base.specs.Different.{AreDifferent}
 use Rattle.htn_base.specs.Packed.{parts_from, EndsFrom}
 use Rattle.htn_base.specs.Words.{folded, IsFolded}
@@ -28,14 +28,28 @@ pub record IsWordList (ends bytes : List ℕ) : Type 0 where
   pub rising : EndsFrom 0 ends (length bytes)
   pub table : IsTable (parts_from 0 ends bytes)
 
--- the map has the number of each of the words, and no other word
-abbrev pub HasNumbers : {S : Type 0} → HashMap (Vec ℕ Global) ℕ S → List (List ℕ) → Type 0
-HasNumbers numbers words = (word : List ℕ) → get_by (λ key. bytes_eq word key.items) numbers ≡ number_of words word
+-- the hash of a word, all of its bytes at once
+abbrev pub hash_of : List ℕ → ℕ
+hash_of word = finish (write initial word)
 
--- what holds of a name table: its words, and the numbers by which they are found
-pub record IsNameTable {S : Type 0} (numbers : HashMap (Vec ℕ Global) ℕ S) (words : List (List ℕ)) : Type 0 where
+-- whether this is the word of the number
+abbrev pub is_word_at : List (List ℕ) → List ℕ → ℕ → Bool
+is_word_at words word n = option_map_or (bytes_eq word) (slice_get words n) false
+
+-- a number that is found by a hash: it stands under it, or among the others where another stands under it
+pub record IsKept {S : Type 0} (first : HashMap ℕ ℕ S) (others : List ℕ) (hash k : ℕ) : Type 0 where
+  pub under : ℕ
+  pub there : get nat_eq first hash ≡ Some under
+  pub either : (under ≡ k) ⊎ Contains others k
+
+-- no word with this hash has its number under it
+abbrev pub IsFree : {S : Type 0} → HashMap ℕ ℕ S → List (List ℕ) → ℕ → Type 0
+IsFree first words hash = (n : ℕ) (word : List ℕ) → get nat_eq first hash ≡ Some n → slice_get words n ≡ Some word → hash_of word ≡ hash → ⊥
+
+-- what holds of a name table: its words, and that the number of each is found by its hash
+pub record IsNameTable {S : Type 0} (first : HashMap ℕ ℕ S) (others : List ℕ) (words : List (List ℕ)) : Type 0 where
   pub table : IsTable words
-  pub found : HasNumbers numbers words
+  pub kept : (k : ℕ) (word : List ℕ) → slice_get words k ≡ Some word → IsKept first others (hash_of word) k
 
 -- a word in lower case that does not stand among the words
 pub record IsNewWord (words : List (List ℕ)) (word : List ℕ) : Type 0 where

@@ -1,13 +1,17 @@
-ghost use Rattle.std.specs.Prelude.{◌≡◌, [], ◌∷◌, ◌++◌, length, slice_get, take, ◌≤◌, IfOk, IfSome, IfNone, OnOk, OnErr, Some, None};
+ghost use Rattle.std.specs.Prelude.{◌≡◌, [], ◌∷◌, ◌++◌, ℕ, List, true, false, length, slice_get, take, nat_eq, IsSome, IfOk, IfSome, IfNone, OnOk, OnErr, Some, None};
+ghost use Rattle.std.specs.HashMap.{get};
+ghost use Rattle.std.specs.List as lists;
 ghost use Rattle.std.specs.Option.{option_copied, option_map};
-ghost use Rattle.htn_base.specs.Table.{HasNumbers};
-ghost use Rattle.htn_base.specs.Words.{folded};
+ghost use Rattle.htn_base.specs.Table as spec;
+ghost use Rattle.htn_base.specs.Table.{is_word_at, IsKept, IsFree};
+ghost use Rattle.htn_base.specs.Words.{folded, IsFolded};
 
 use crate::marks::Marks;
 use crate::memory::Memory;
 use crate::word_list::WordList;
 use std::alloc::Global;
 use std::collections::HashMap;
+use std::hash::{FoldHasher, Hasher};
 use std::marker::Model;
 
 /// The number of a word in a name table: its place from 0 in the order in which the words were first seen.
@@ -21,8 +25,10 @@ pub struct Name {
 pub struct NameTable {
     alloc: Global,
     words: WordList,
-    // the number of each word
-    numbers: HashMap<Vec<u8>, u32>,
+    // by the hash of a word, the number of the first word that has it
+    first: HashMap<u64, u32>,
+    // the numbers of the words whose hash a word before them has
+    others: Vec<u32>,
 }
 
 impl Model for NameTable {
@@ -33,11 +39,11 @@ impl Model for NameTable {
 
     ghost view = { λ table. table.words };
 
-    ghost invariant = { λ table. IsNameTable table.numbers table.words };
+    ghost invariant = { λ table. IsNameTable table.first table.others.items table.words };
 }
 
 impl NameTable {
-    ghost use Rattle.htn_base.specs.Words.{folded};
+    ghost use Rattle.htn_base.specs.Words.{folded, IsFolded};
     ghost use Rattle.htn_base.specs.Table.{number_of, with_word, IsKnown, IsNewWord, IsTable};
 
     /// A table of no words. It takes no memory yet.
@@ -47,7 +53,8 @@ impl NameTable {
         NameTable {
             alloc,
             words: WordList::new(alloc),
-            numbers: HashMap::new(alloc),
+            first: HashMap::new(alloc),
+            others: Vec::new(alloc),
         }
     }
 
@@ -90,37 +97,47 @@ impl NameTable {
         ensures unchanged { OnErr result (self.new ≡ self.old) }
         ensures sound { IsTable self.new }
     {
-        if let Some(name) = self.known(word) {
-            return Ok(name);
+        if is_folded(word) {
+            return self.named(word);
         }
         let lower = word.to_ascii_lowercase(self.alloc)?;
-        if lower.as_slice() == word {
-            return self.add(lower);
-        }
-        match self.find(lower.as_slice()) {
+        let name = self.named(lower.as_slice());
+        drop(lower);
+        name
+    }
+
+    // The name of a word in lower case, which is put behind the others where it is new.
+    fn named(&mut self, word: &[u8]) -> Result<Name, Memory>
+        requires { IsFolded word.now }
+        ensures words { OnOk result (self.new ≡ with_word self.old word.now) }
+        ensures number { IfOk result (λ n. number_of self.new word.now ≡ Some n.number) }
+        ensures unchanged { OnErr result (self.new ≡ self.old) }
+        ensures sound { IsTable self.new }
+    {
+        match self.find(word) {
             Some(name) => Ok(name),
-            None => self.add(lower),
+            None => self.add(word),
         }
     }
 
     // Puts a new word behind the others.
-    fn add(&mut self, word: Vec<u8>) -> Result<Name, Memory>
-        requires { IsNewWord self.old word.items }
-        ensures words { OnOk result (self.new ≡ self.old ++ word.items ∷ []) }
+    fn add(&mut self, word: &[u8]) -> Result<Name, Memory>
+        requires { IsNewWord self.old word.now }
+        ensures words { OnOk result (self.new ≡ self.old ++ word.now ∷ []) }
         ensures number { IfOk result (λ n. n.number ≡ length self.old) }
         ensures unchanged { OnErr result (self.new ≡ self.old) }
         ensures sound { IsTable self.new }
     {
-        let count = self.words.len();
-        self.words.push(word.as_slice())?;
-        let number = count as u32;
-        match self.numbers.insert(word, number) {
-            Ok(_) => Ok(Name { number }),
-            Err(_) => {
-                self.words.truncate(count);
-                Err(Memory)
-            }
-        }
+        let number = self.words.len() as u32;
+        keep(
+            &mut self.first,
+            &mut self.others,
+            &self.words,
+            hash_of(word),
+            number,
+        )?;
+        self.words.push(word)?;
+        Ok(Name { number })
     }
 
     /// As `intern`. A word that the marks know is found without a search. They may be those of any table.
@@ -152,23 +169,12 @@ impl NameTable {
         if marked == word { Some(name) } else { None }
     }
 
-    // The name of a word that is there, if it is written in lower case: nothing is copied for it.
-    fn known(&self, word: &[u8]) -> Option<Name>
-        ensures known { IfSome result (λ n. IsKnown self.now word.now n.number) }
-        ensures new { IfNone result (number_of self.now word.now ≡ None) }
-    {
-        self.find(word)
-    }
-
     /// Forgets all words but the first ones, `len` of them or all. Each of these keeps its number.
     pub fn truncate(&mut self, len: usize)
         ensures words { self.new ≡ take len self.old }
         ensures sound { IsTable self.new }
     {
-        if len < self.words.len() {
-            forget(&mut self.numbers, &self.words, len);
-            self.words.truncate(len);
-        }
+        self.words.truncate(len);
     }
 
     /// The name of the word as it is given, without folding. `None` exactly where it is not there.
@@ -176,7 +182,13 @@ impl NameTable {
         ensures number { option_map (λ name. name.number) result ≡ number_of self.now word.now }
         ensures sound { IsTable self.now }
     {
-        let number = *self.numbers.get(word)?;
+        let first = Name {
+            number: *self.first.get(&hash_of(word))?,
+        };
+        if is_at(&self.words, first.number, word) {
+            return Some(first);
+        }
+        let number = *among(self.others.as_slice(), &self.words, word)?;
         Some(Name { number })
     }
 
@@ -202,20 +214,72 @@ impl NameTable {
     }
 }
 
-// Forgets the numbers of all words but the first ones, `len` of them.
-fn forget(numbers: &mut HashMap<Vec<u8>, u32>, words: &WordList, len: usize)
-    requires numbers { HasNumbers numbers.old words.now }
-    requires within { len ≤ length words.now }
-    ensures { HasNumbers numbers.new (take len words.now) }
+// The hash of a word, all of its bytes at once.
+fn hash_of(word: &[u8]) -> u64
+    ensures { result ≡ spec.hash_of word.now }
 {
-    let mut count = words.len();
-    while count > len {
-        count -= 1;
-        let last = Name {
-            number: count as u32,
-        };
-        if let Some(word) = words.text(last) {
-            numbers.remove(word);
-        }
+    let mut hasher = FoldHasher::default();
+    hasher.write(word);
+    hasher.finish()
+}
+
+// Whether this is the word of the number.
+fn is_at(words: &WordList, number: u32, word: &[u8]) -> bool
+    ensures { result ≡ is_word_at words.now word.now number }
+{
+    match words.text(Name { number }) {
+        Some(text) => text == word,
+        None => false,
     }
+}
+
+// The first of the numbers whose word this is.
+fn among<'a>(numbers: &'a [u32], words: &WordList, word: &[u8]) -> Option<&'a u32>
+    ensures { option_copied result ≡ lists.find (is_word_at words.now word.now) numbers.now }
+{
+    numbers.iter().find(|number| is_at(words, **number, word))
+}
+
+// Whether a word with this hash has its number under it.
+fn is_taken(first: &HashMap<u64, u32>, words: &WordList, hash: u64) -> bool
+    ensures taken { result ≡ true → IsSome (get nat_eq first.now hash) }
+    ensures free { result ≡ false → IsFree first.now words.now hash }
+{
+    let Some(number) = first.get(&hash) else {
+        return false;
+    };
+    match words.text(Name { number: *number }) {
+        Some(word) => hash_of(word) == hash,
+        None => false,
+    }
+}
+
+// Keeps a number under a hash, or among the others where a word with this hash has its own there.
+fn keep(
+    first: &mut HashMap<u64, u32>,
+    others: &mut Vec<u32>,
+    words: &WordList,
+    hash: u64,
+    number: u32,
+) -> Result<(), Memory>
+    ensures kept { OnOk result (IsKept first.new others.new.items hash number) }
+    ensures before { (k : ℕ) (word : List ℕ) → slice_get words.now k ≡ Some word
+        → IsKept first.old others.old.items (spec.hash_of word) k
+        → IsKept first.new others.new.items (spec.hash_of word) k }
+{
+    if is_taken(first, words, hash) {
+        others.push(number)?;
+        return Ok(());
+    }
+    match first.insert(hash, number) {
+        Ok(_) => Ok(()),
+        Err(_) => Err(Memory),
+    }
+}
+
+// Whether the word has no upper-case letter.
+fn is_folded(word: &[u8]) -> bool
+    ensures { result ≡ true → IsFolded word.now }
+{
+    word.iter().all(|byte| byte.to_ascii_lowercase() == *byte)
 }

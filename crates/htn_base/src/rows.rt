@@ -35,11 +35,11 @@ struct Rows {
 
 impl Model for Rows {
     ghost use Rattle.std.specs.Prelude.{List};
-    ghost use Rattle.htn_base.specs.Packed.{Row, rows_from, AreRows};
+    ghost use Rattle.htn_base.specs.Packed.{Row, parts_from, rows_of, AreRows};
 
     ghost Value = { List Row };
 
-    ghost view = { λ rows. rows_from 0 rows.heads rows.ends rows.rest };
+    ghost view = { λ rows. rows_of rows.heads (parts_from 0 rows.ends rows.rest) };
 
     ghost invariant = { λ rows. AreRows rows.heads rows.ends rows.rest };
 }

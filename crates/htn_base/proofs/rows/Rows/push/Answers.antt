@@ -13,5 +13,5 @@ returns-in-Ok c =
     let put = c.in-Ok.ensures in
     record {
       pushed = rw (put.ends, put.heads, put.numbers, ← c.self.view_is)
-          (row_pushed 0 rows.heads rows.ends rows.rest c.args.head c.args.rest.now c.self.invariant.paired c.self.invariant.rising);
+          (row_pushed rows.heads rows.ends rows.rest c.self.invariant c.args.head c.args.rest.now);
     }
