@@ -27,6 +27,7 @@ pub fn bind_problem(
 ) -> Result<Hddl, BindError>
     ensures bound { IfOk result (spec.IsProblemBound d p names.old) }
     ensures refused { IfErr result (spec.IsProblemRefused d p) }
+    ensures table { OnOk result (names.new ≡ spec.with_start names.old) }
 {
     let mut d = d;
     let mut faults = Faults::new();
@@ -52,6 +53,7 @@ fn noted_problem(
     faults: &mut Faults,
 ) -> Result<(WordList, ProblemParts), Memory>
     ensures words { IfOk result (λ noted. noted.0 ≡ spec.with_start names.old) }
+    ensures table { OnOk result (names.new ≡ spec.with_start names.old) }
     ensures noted { IfOk result (λ noted. spec.IsNotedWithStart d.old p.now noted.0
         faults.old.least faults.new.least d.new noted.1) }
 {
