@@ -18,13 +18,24 @@ use std::alloc::Global;
 use text_forms::sexpr_text::Sexprs;
 
 /// An effect as it is written. An increase is the empty effect.
-#[derive(Drop)]
 pub enum RawEffect {
     Add(RawAtom),
     Delete(RawAtom),
     And(List<RawEffect>),
     Forall(RawParams, Boxed<RawEffect>),
     When(RawFormula, Boxed<RawEffect>),
+}
+
+impl Drop for RawEffect {
+    fn drop(self) {
+        match self {
+            RawEffect::Add(_) => {}
+            RawEffect::Delete(_) => {}
+            RawEffect::And(_) => {}
+            RawEffect::Forall(_, _) => {}
+            RawEffect::When(_, _) => {}
+        }
+    }
 }
 
 /// What stands in the parentheses of an effect, from token `i` on.

@@ -17,7 +17,6 @@ use std::alloc::Global;
 use text_forms::sexpr_text::Sexprs;
 
 /// A formula as it is written.
-#[derive(Drop)]
 pub enum RawFormula {
     Holds(RawAtom),
     Equal(RawTerm, RawTerm),
@@ -27,6 +26,21 @@ pub enum RawFormula {
     Imply(Boxed<RawFormula>, Boxed<RawFormula>),
     Forall(RawParams, Boxed<RawFormula>),
     Exists(RawParams, Boxed<RawFormula>),
+}
+
+impl Drop for RawFormula {
+    fn drop(self) {
+        match self {
+            RawFormula::Holds(_) => {}
+            RawFormula::Equal(_, _) => {}
+            RawFormula::Not(_) => {}
+            RawFormula::And(_) => {}
+            RawFormula::Or(_) => {}
+            RawFormula::Imply(_, _) => {}
+            RawFormula::Forall(_, _) => {}
+            RawFormula::Exists(_, _) => {}
+        }
+    }
 }
 
 /// What stands in the parentheses of a formula, from token `i` on.

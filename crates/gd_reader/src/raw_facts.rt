@@ -14,11 +14,16 @@ const TOO_GREAT: u32 = 1 << 31;
 
 /// Atoms in order, as rows of numbers that take few bytes, so that no atom takes memory of its own. Contracts see the
 /// list of the atoms. After want of memory it may be any list.
-#[derive(Drop)]
 pub struct RawFacts {
     rows: PackedRows,
     // the numbers of the atom that was put last, kept for their room
     code: Vec<u32>,
+}
+
+impl Drop for RawFacts {
+    fn drop(self) {
+        let RawFacts { rows: _, code: _ } = self;
+    }
 }
 
 impl Model for RawFacts {

@@ -11,10 +11,18 @@ use std::marker::Model;
 /// The words of a typed list in order. Those behind which one type is written have it in common, and
 /// each of them but the first is marked as typed as the word before it. Contracts see the list of the
 /// words.
-#[derive(Drop)]
 pub struct RawParams {
     words: List<RawParam>,
     as_before: List<bool>,
+}
+
+impl Drop for RawParams {
+    fn drop(self) {
+        let RawParams {
+            words: _,
+            as_before: _,
+        } = self;
+    }
 }
 
 impl Model for RawParams {

@@ -8,9 +8,14 @@ use std::rc::Rc;
 
 /// The types that are written for a word: none, one, or those of a union. The words of a list that have them
 /// in common keep them once. Contracts see them as a list.
-#[derive(Drop)]
 pub struct RawTypes {
     kept: Option<Rc<List<RawTerm>>>,
+}
+
+impl Drop for RawTypes {
+    fn drop(self) {
+        let RawTypes { kept: _ } = self;
+    }
 }
 
 impl Model for RawTypes {

@@ -23,10 +23,15 @@ pub struct RawTerm {
 }
 
 /// A name and the terms to which it is applied.
-#[derive(Drop)]
 pub struct RawAtom {
     pub head: RawTerm,
     pub args: List<RawTerm>,
+}
+
+impl Drop for RawAtom {
+    fn drop(self) {
+        let RawAtom { head: _, args: _ } = self;
+    }
 }
 
 /// The name of a word in the table, where it is put if it isn't there.

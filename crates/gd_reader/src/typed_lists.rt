@@ -23,11 +23,20 @@ use text_forms::sexpr_text::Sexprs;
 
 /// A declared word with its offset, and its types: none where none is written, more than one where they make
 /// a union. The name of a variable is without its question mark.
-#[derive(Drop)]
 pub struct RawParam {
     pub name: Name,
     pub ty: RawTypes,
     pub at: u32,
+}
+
+impl Drop for RawParam {
+    fn drop(self) {
+        let RawParam {
+            name: _,
+            ty: _,
+            at: _,
+        } = self;
+    }
 }
 
 /// What a typed list declares: parameters, each a new one; variables of a predicate; objects; or types, whose

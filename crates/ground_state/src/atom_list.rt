@@ -9,10 +9,18 @@ use std::alloc::Global;
 use std::marker::Model;
 
 /// A ground atom whose room serves another one after it.
-#[derive(Drop)]
 pub struct KeptAtom {
     predicate: u32,
     args: Vec<u32>,
+}
+
+impl Drop for KeptAtom {
+    fn drop(self) {
+        let KeptAtom {
+            predicate: _,
+            args: _,
+        } = self;
+    }
 }
 
 impl Model for KeptAtom {
@@ -58,10 +66,15 @@ impl KeptAtom {
 }
 
 /// A list of ground atoms that keeps its room where it is emptied, the first so many of those that are kept.
-#[derive(Drop)]
 pub struct AtomList {
     kept: Vec<KeptAtom>,
     count: usize,
+}
+
+impl Drop for AtomList {
+    fn drop(self) {
+        let AtomList { kept: _, count: _ } = self;
+    }
 }
 
 impl Model for AtomList {
@@ -118,10 +131,18 @@ impl AtomList {
 }
 
 /// The atoms that an effect adds, and those that it deletes.
-#[derive(Drop)]
 pub struct AtomLists {
     pub(crate) adds: AtomList,
     pub(crate) deletes: AtomList,
+}
+
+impl Drop for AtomLists {
+    fn drop(self) {
+        let AtomLists {
+            adds: _,
+            deletes: _,
+        } = self;
+    }
 }
 
 impl AtomLists {

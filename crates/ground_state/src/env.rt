@@ -13,10 +13,15 @@ use std::alloc::Global;
 /// outside in. Its room is taken at once, so that no test of a formula takes memory.
 ///
 /// `args`: the arguments of the atom that is looked up.
-#[derive(Drop)]
 pub struct Env {
     values: Vec<u32>,
     args: Vec<u32>,
+}
+
+impl Drop for Env {
+    fn drop(self) {
+        let Env { values: _, args: _ } = self;
+    }
 }
 
 impl Env {

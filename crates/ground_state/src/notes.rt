@@ -20,11 +20,20 @@ const MANY: usize = 4096;
 /// which it is not true.
 ///
 /// `near`: what is noted of the lists that have numbers, at these. `far`: what is noted of the others.
-#[derive(Drop)]
 pub struct Notes {
     numbers: Numbers,
     near: Vec<Option<bool>>,
     far: BTreeMap<Vec<u32>, bool>,
+}
+
+impl Drop for Notes {
+    fn drop(self) {
+        let Notes {
+            numbers: _,
+            near: _,
+            far: _,
+        } = self;
+    }
 }
 
 impl Notes {

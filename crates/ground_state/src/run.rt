@@ -14,12 +14,22 @@ use problem_index::Index;
 use std::alloc::Global;
 
 /// A run of steps over a problem, from its first state on. So a plan can be checked that is read step by step.
-#[derive(Drop)]
 pub struct Run<'p> {
     p: &'p Pddl,
     index: Index,
     env: Env,
     state: State,
+}
+
+impl Drop for Run<'_> {
+    fn drop(self) {
+        let Run {
+            p: _,
+            index: _,
+            env: _,
+            state: _,
+        } = self;
+    }
 }
 
 impl<'p> Run<'p> {

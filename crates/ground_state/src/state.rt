@@ -29,12 +29,22 @@ const ROOMY_PREDICATES: usize = 32;
 ///
 /// `most`: the greatest object of the first state. `crowded`: whether there were ever so many notes of one predicate that
 /// spare ones are taken away. `touched`: what the last step touched, kept for its room alone.
-#[derive(Drop)]
 pub struct State {
     pub(crate) facts: Vec<Notes>,
     most: u32,
     pub(crate) crowded: bool,
     pub(crate) touched: AtomLists,
+}
+
+impl Drop for State {
+    fn drop(self) {
+        let State {
+            facts: _,
+            most: _,
+            crowded: _,
+            touched: _,
+        } = self;
+    }
 }
 
 impl State {

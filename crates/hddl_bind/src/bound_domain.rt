@@ -11,15 +11,15 @@ ghost use Rattle.hddl_bind.specs.WholeDomains as spec;
 use crate::domain_names::{DomainNames, names_of};
 use crate::domain_schemas::{DomainSchemas, schemas_of};
 use crate::errors::{BindError, judged};
+use crate::problem_parts::ProblemParts;
 use crate::whole_unions::unions_of_domain;
 use hddl_reader::{Language, RawDomain};
-use htn_base::{List, Memory, Name, NameTable};
+use htn_base::{List, Memory, Name, NameTable, WordList};
 use name_binding::{Faults, TypeTable, section_of, types_of};
-use plan_model::{ActionSchema, MethodSchema, Object, Predicate, TaskSchema, Types};
+use plan_model::{ActionSchema, Hddl, MethodSchema, Object, Predicate, TaskSchema, Types};
 use std::alloc::Global;
 
 /// A domain with its names bound, and the names by which its problems are bound. The objects are its constants.
-#[derive(Drop)]
 pub struct BoundDomain {
     pub domain: Name,
     pub types: Types,
@@ -29,6 +29,63 @@ pub struct BoundDomain {
     pub actions: List<ActionSchema>,
     pub methods: List<MethodSchema>,
     pub names: DomainNames,
+}
+
+impl Drop for BoundDomain {
+    fn drop(self) {
+        let BoundDomain {
+            domain: _,
+            types: _,
+            objects: _,
+            predicates: _,
+            tasks: _,
+            actions: _,
+            methods: _,
+            names: _,
+        } = self;
+    }
+}
+
+impl BoundDomain {
+    ghost use Rattle.hddl_bind.specs.WholeProblems.{together};
+
+    /// The value of the domain and a problem, with these words.
+    pub(crate) fn together(self, names: WordList, problem: Name, parts: ProblemParts) -> Hddl
+        ensures together { result ≡ together names self problem parts }
+    {
+        let BoundDomain {
+            domain,
+            types,
+            objects,
+            predicates,
+            tasks,
+            actions,
+            methods,
+            names: bound,
+        } = self;
+        drop(bound);
+        let ProblemParts {
+            objects: own,
+            init,
+            goal,
+            top,
+        } = parts;
+        drop(own);
+        Hddl {
+            names,
+            domain,
+            problem,
+            types,
+            objects,
+            predicates,
+            tasks,
+            actions,
+            methods,
+            top,
+            init,
+            goal,
+        }
+    }
 }
 
 /// The domain for which a domain of this language stands that was read, or its least fault, by offset and then by code: 10 to 17 or

@@ -35,7 +35,7 @@ pub fn bind_problem(
     let problem = p.name;
     drop(p);
     match noted {
-        Ok((words, parts)) => judged(together(words, d, problem, parts), faults, 1),
+        Ok((words, parts)) => judged(d.together(words, problem, parts), faults, 1),
         Err(_) => {
             drop(d);
             Err(BindError::Memory)
@@ -108,42 +108,4 @@ fn add_objects(into: &mut List<Object>, objects: &[Object]) -> Result<(), Memory
         into.push(*object)?;
     }
     Ok(())
-}
-
-/// The value of a domain and a problem.
-fn together(names: WordList, d: BoundDomain, problem: Name, parts: ProblemParts) -> Hddl
-    ensures together { result ≡ spec.together names d problem parts }
-{
-    let BoundDomain {
-        domain,
-        types,
-        objects,
-        predicates,
-        tasks,
-        actions,
-        methods,
-        names: bound,
-    } = d;
-    drop(bound);
-    let ProblemParts {
-        objects: own,
-        init,
-        goal,
-        top,
-    } = parts;
-    drop(own);
-    Hddl {
-        names,
-        domain,
-        problem,
-        types,
-        objects,
-        predicates,
-        tasks,
-        actions,
-        methods,
-        top,
-        init,
-        goal,
-    }
 }

@@ -22,10 +22,18 @@ pub struct Callable {
 }
 
 /// The tasks and actions of a domain, which share one space of names. Contracts see both lists in text order.
-#[derive(Drop)]
 pub struct Callables {
     tasks: Callees,
     actions: Callees,
+}
+
+impl Drop for Callables {
+    fn drop(self) {
+        let Callables {
+            tasks: _,
+            actions: _,
+        } = self;
+    }
 }
 
 impl Model for Callables {

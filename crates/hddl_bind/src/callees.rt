@@ -7,10 +7,18 @@ use std::alloc::Global;
 use std::marker::Model;
 
 /// Tasks, or actions, by their names. Contracts see them in text order.
-#[derive(Drop)]
 pub(crate) struct Callees {
     places: Places,
     callables: List<Callable>,
+}
+
+impl Drop for Callees {
+    fn drop(self) {
+        let Callees {
+            places: _,
+            callables: _,
+        } = self;
+    }
 }
 
 impl Model for Callees {

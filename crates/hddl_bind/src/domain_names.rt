@@ -12,10 +12,18 @@ use name_binding::{Faults, Heads, Known, Places, TypeTable};
 use std::alloc::Global;
 
 /// The names that a domain declares, by which its schemas and its problems are bound. The objects are its constants.
-#[derive(Drop)]
 pub struct DomainNames {
     pub known: Known,
     pub callables: Callables,
+}
+
+impl Drop for DomainNames {
+    fn drop(self) {
+        let DomainNames {
+            known: _,
+            callables: _,
+        } = self;
+    }
 }
 
 /// The names that a domain declares but those of its types.

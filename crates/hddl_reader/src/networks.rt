@@ -15,11 +15,20 @@ use std::alloc::Global;
 use text_forms::sexpr_text::Sexprs;
 
 /// A subtask as it is written, with its id if it has one, and the offset of its opening parenthesis.
-#[derive(Drop)]
 pub struct RawSub {
     pub id: Option<RawTerm>,
     pub atom: RawAtom,
     pub at: u32,
+}
+
+impl Drop for RawSub {
+    fn drop(self) {
+        let RawSub {
+            id: _,
+            atom: _,
+            at: _,
+        } = self;
+    }
 }
 
 /// An ordering: the subtask of the first id before that of the second. The offset is that of its opening parenthesis.
@@ -39,12 +48,22 @@ pub struct RawCon {
 }
 
 /// A task network. Where `ordered`, each subtask stands before the next.
-#[derive(Drop)]
 pub struct RawNet {
     pub subs: List<RawSub>,
     pub ordered: bool,
     pub pairs: List<RawPair>,
     pub constraints: List<RawCon>,
+}
+
+impl Drop for RawNet {
+    fn drop(self) {
+        let RawNet {
+            subs: _,
+            ordered: _,
+            pairs: _,
+            constraints: _,
+        } = self;
+    }
 }
 
 /// A name that is or may be declared. A reserved word has code 9, another word that is no name this one.

@@ -35,13 +35,17 @@ pub enum Definition {
 }
 
 /// A declared name with its parameters: a predicate, a task, or the front of a method or an action.
-#[derive(Drop)]
 pub struct RawHead {
     pub name: RawTerm,
     pub params: RawParams,
 }
 
-#[derive(Drop)]
+impl Drop for RawHead {
+    fn drop(self) {
+        let RawHead { name: _, params: _ } = self;
+    }
+}
+
 pub struct RawMethod {
     pub head: RawHead,
     pub task: RawAtom,
@@ -49,11 +53,31 @@ pub struct RawMethod {
     pub net: RawNet,
 }
 
-#[derive(Drop)]
+impl Drop for RawMethod {
+    fn drop(self) {
+        let RawMethod {
+            head: _,
+            task: _,
+            pre: _,
+            net: _,
+        } = self;
+    }
+}
+
 pub struct RawAction {
     pub head: RawHead,
     pub pre: RawFormula,
     pub eff: RawEffect,
+}
+
+impl Drop for RawAction {
+    fn drop(self) {
+        let RawAction {
+            head: _,
+            pre: _,
+            eff: _,
+        } = self;
+    }
 }
 
 /// A section, by its keyword.
@@ -95,7 +119,6 @@ pub struct RawSections {
 }
 
 /// A domain: each list in text order. Missing sections are empty. The types of types are their parents.
-#[derive(Drop)]
 pub struct RawDomain {
     pub name: Name,
     pub types: RawParams,
@@ -106,8 +129,21 @@ pub struct RawDomain {
     pub actions: List<RawAction>,
 }
 
+impl Drop for RawDomain {
+    fn drop(self) {
+        let RawDomain {
+            name: _,
+            types: _,
+            constants: _,
+            predicates: _,
+            tasks: _,
+            methods: _,
+            actions: _,
+        } = self;
+    }
+}
+
 /// A problem. `params` and `net` are those of its initial network.
-#[derive(Drop)]
 pub struct RawProblem {
     pub name: Name,
     pub objects: RawParams,
@@ -115,6 +151,19 @@ pub struct RawProblem {
     pub net: RawNet,
     pub init: RawFacts,
     pub goal: RawFormula,
+}
+
+impl Drop for RawProblem {
+    fn drop(self) {
+        let RawProblem {
+            name: _,
+            objects: _,
+            params: _,
+            net: _,
+            init: _,
+            goal: _,
+        } = self;
+    }
 }
 
 /// A predicate.

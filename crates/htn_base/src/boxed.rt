@@ -5,9 +5,14 @@ use std::alloc::Global;
 use std::marker::Model;
 
 /// A value on the heap, which contracts see as the value itself. It stands where a type holds itself.
-#[derive(Drop)]
 pub struct Boxed<T> {
     owned: Box<T>,
+}
+
+impl<T: Drop> Drop for Boxed<T> {
+    fn drop(self) {
+        let Boxed { owned: _ } = self;
+    }
 }
 
 impl<T> Model for Boxed<T> {

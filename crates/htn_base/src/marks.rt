@@ -24,9 +24,14 @@ fn mark(word: &[u8]) -> usize
 
 /// At each mark the number of a name whose word has it, if one was kept, and else 0. So a word that was seen a short while
 /// ago is found without a search of its table. A number may be wrong, so its word is compared.
-#[derive(Drop)]
 pub struct Marks {
     numbers: Vec<u32>,
+}
+
+impl Drop for Marks {
+    fn drop(self) {
+        let Marks { numbers: _ } = self;
+    }
 }
 
 impl Marks {

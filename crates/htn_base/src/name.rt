@@ -21,7 +21,6 @@ pub struct Name {
 }
 
 /// Words and their numbers. Contracts see the words in the order in which they were first seen.
-#[derive(Drop)]
 pub struct NameTable {
     alloc: Global,
     words: WordList,
@@ -29,6 +28,17 @@ pub struct NameTable {
     first: HashMap<u64, u32>,
     // the numbers of the words whose hash a word before them has
     others: Vec<u32>,
+}
+
+impl Drop for NameTable {
+    fn drop(self) {
+        let NameTable {
+            alloc: _,
+            words: _,
+            first: _,
+            others: _,
+        } = self;
+    }
 }
 
 impl Model for NameTable {

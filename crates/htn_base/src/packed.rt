@@ -6,19 +6,36 @@ use std::alloc::Global;
 use std::marker::Model;
 
 // Numbers of one byte, two or four.
-#[derive(Drop)]
 enum Numbers {
     Bytes(Vec<u8>),
     Halves(Vec<u16>),
     Words(Vec<u32>),
 }
 
+impl Drop for Numbers {
+    fn drop(self) {
+        match self {
+            Numbers::Bytes(_) => {}
+            Numbers::Halves(_) => {}
+            Numbers::Words(_) => {}
+        }
+    }
+}
+
 /// Numbers in order, each in one byte, two or four: as few as the greatest of them takes. Contracts see the list of the
 /// numbers. After want of memory it may be any list.
-#[derive(Drop)]
 pub struct PackedNumbers {
     alloc: Global,
     numbers: Numbers,
+}
+
+impl Drop for PackedNumbers {
+    fn drop(self) {
+        let PackedNumbers {
+            alloc: _,
+            numbers: _,
+        } = self;
+    }
 }
 
 impl Model for PackedNumbers {

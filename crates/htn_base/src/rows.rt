@@ -24,13 +24,23 @@ impl<'a> Model for PackedRow<'a> {
 
 // Rows in order. The numbers of all stand in one list, so that no row takes memory of its own. After want of memory there
 // are none.
-#[derive(Drop)]
 struct Rows {
     alloc: Global,
     heads: PackedNumbers,
     // where the numbers of each row end among those of all
     ends: PackedNumbers,
     rest: PackedNumbers,
+}
+
+impl Drop for Rows {
+    fn drop(self) {
+        let Rows {
+            alloc: _,
+            heads: _,
+            ends: _,
+            rest: _,
+        } = self;
+    }
 }
 
 impl Model for Rows {
@@ -111,11 +121,16 @@ impl Rows {
 
 /// Rows in order, each a head and further numbers. The numbers of all stand in one list, so that no row takes memory of
 /// its own. Contracts see the list of the rows. After want of memory there are none, or those that there were.
-#[derive(Drop)]
 pub struct PackedRows {
     alloc: Global,
     // on the heap, so that what owns rows owns one thing
     rows: Option<Box<Rows>>,
+}
+
+impl Drop for PackedRows {
+    fn drop(self) {
+        let PackedRows { alloc: _, rows: _ } = self;
+    }
 }
 
 impl Model for PackedRows {

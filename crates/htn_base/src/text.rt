@@ -8,9 +8,14 @@ use std::alloc::Global;
 use std::marker::Model;
 
 /// A growing text, which contracts see as the list of its bytes.
-#[derive(Drop)]
 pub struct Text {
     bytes: Vec<u8>,
+}
+
+impl Drop for Text {
+    fn drop(self) {
+        let Text { bytes: _ } = self;
+    }
 }
 
 impl Model for Text {

@@ -12,11 +12,16 @@ const MOST_WORDS: usize = 0xffff_ffff;
 
 /// Words by their numbers, one behind another in few bytes: those of a name table, and those of a value, which only asks what a
 /// number's word is. Contracts see the list of the words.
-#[derive(Drop)]
 pub struct WordList {
     // where each word ends
     ends: Vec<u32>,
     bytes: Vec<u8>,
+}
+
+impl Drop for WordList {
+    fn drop(self) {
+        let WordList { ends: _, bytes: _ } = self;
+    }
 }
 
 impl Model for WordList {

@@ -9,7 +9,6 @@ use ground_state::FailWhy;
 use htn_base::Text;
 
 /// Why a run ends before its outputs stand. Files are named by their words.
-#[derive(Drop)]
 pub enum Refusal<'a> {
     /// The words are of no command's form.
     Words,
@@ -39,6 +38,27 @@ pub enum Refusal<'a> {
     CannotWriteOutput,
     /// Memory was refused.
     NoMemory,
+}
+
+impl Drop for Refusal<'_> {
+    fn drop(self) {
+        match self {
+            Refusal::Words => {}
+            Refusal::BoundLimit => {}
+            Refusal::SlotsLimit(_) => {}
+            Refusal::BytesLimit(_) => {}
+            Refusal::TextFault(_, _) => {}
+            Refusal::TextLimit(_, _) => {}
+            Refusal::StepsLimit(_) => {}
+            Refusal::NotTailRecursive(_) => {}
+            Refusal::NotAPlan(_, _) => {}
+            Refusal::OutputLimit(_) => {}
+            Refusal::CannotRead(_) => {}
+            Refusal::CannotWrite(_) => {}
+            Refusal::CannotWriteOutput => {}
+            Refusal::NoMemory => {}
+        }
+    }
 }
 
 /// The line of a refusal in three parts.

@@ -47,10 +47,15 @@ pub(crate) fn translate<'a, F: Files, O: Sink>(
 }
 
 /// The two texts of a translation, and the number of their slots.
-#[derive(Drop)]
 struct Made {
     slots: u32,
     texts: Texts,
+}
+
+impl Drop for Made {
+    fn drop(self) {
+        let Made { slots: _, texts: _ } = self;
+    }
 }
 
 fn made_of<'a>(

@@ -13,13 +13,24 @@ use std::alloc::Global;
 use std::marker::Model;
 
 /// Files in memory, of which chosen gets and puts fail.
-#[derive(Drop)]
 pub struct MemFiles {
     alloc: Global,
     files: SteadyFiles,
     gets: Script,
     puts: Script,
     failed: Option<Text>,
+}
+
+impl Drop for MemFiles {
+    fn drop(self) {
+        let MemFiles {
+            alloc: _,
+            files: _,
+            gets: _,
+            puts: _,
+            failed: _,
+        } = self;
+    }
 }
 
 impl Model for MemFiles {

@@ -11,10 +11,15 @@ use std::alloc::Global;
 use std::marker::Model;
 
 /// A sink in memory that takes a few bytes at a time, and of which chosen writes fail.
-#[derive(Drop)]
 pub struct MemSink {
     sink: SteadySink,
     writes: Script,
+}
+
+impl Drop for MemSink {
+    fn drop(self) {
+        let MemSink { sink: _, writes: _ } = self;
+    }
 }
 
 impl Model for MemSink {

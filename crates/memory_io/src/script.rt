@@ -7,11 +7,20 @@ use std::alloc::Global;
 use std::marker::Model;
 
 /// Calls of one kind, of which some are to fail.
-#[derive(Drop)]
 pub(crate) struct Script {
     failing: List<u64>,
     calls: u64,
     faults: u64,
+}
+
+impl Drop for Script {
+    fn drop(self) {
+        let Script {
+            failing: _,
+            calls: _,
+            faults: _,
+        } = self;
+    }
 }
 
 impl Model for Script {

@@ -12,10 +12,15 @@ use std::alloc::Global;
 use std::marker::Model;
 
 /// Files in memory that never fail: a name that is not held reads as an empty file.
-#[derive(Drop)]
 pub struct SteadyFiles {
     alloc: Global,
     files: Vec<(Text, Text)>,
+}
+
+impl Drop for SteadyFiles {
+    fn drop(self) {
+        let SteadyFiles { alloc: _, files: _ } = self;
+    }
 }
 
 impl Model for SteadyFiles {

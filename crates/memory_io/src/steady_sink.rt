@@ -10,11 +10,20 @@ use std::alloc::Global;
 use std::marker::Model;
 
 /// A sink in memory that never fails, and takes a few bytes at a time.
-#[derive(Drop)]
 pub struct SteadySink {
     text: Text,
     largest: usize,
     refused: u64,
+}
+
+impl Drop for SteadySink {
+    fn drop(self) {
+        let SteadySink {
+            text: _,
+            largest: _,
+            refused: _,
+        } = self;
+    }
 }
 
 impl Model for SteadySink {

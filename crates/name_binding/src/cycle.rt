@@ -36,10 +36,18 @@ pub(crate) fn cycle_among(
 }
 
 /// Pairs of types and parents by their places, and of each the offset of the child's word.
-#[derive(Drop)]
 struct ParentPairs {
     pairs: List<Pair>,
     offsets: List<u32>,
+}
+
+impl Drop for ParentPairs {
+    fn drop(self) {
+        let ParentPairs {
+            pairs: _,
+            offsets: _,
+        } = self;
+    }
 }
 
 /// The pairs among the first `count` types, in text order.

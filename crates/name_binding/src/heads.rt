@@ -20,10 +20,18 @@ pub struct Declared {
 }
 
 /// Names with parameters, in the order in which they were declared. Contracts see them as a list.
-#[derive(Drop)]
 pub struct Heads {
     places: Places,
     heads: Vec<Head>,
+}
+
+impl Drop for Heads {
+    fn drop(self) {
+        let Heads {
+            places: _,
+            heads: _,
+        } = self;
+    }
 }
 
 impl Model for Heads {

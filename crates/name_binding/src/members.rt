@@ -6,9 +6,14 @@ use std::marker::Model;
 use std::rc::Rc;
 
 /// The numbers of a union's types. The words that have a union in common keep them once. Contracts see them as a list.
-#[derive(Drop)]
 pub struct Members {
     kept: Option<Rc<List<u32>>>,
+}
+
+impl Drop for Members {
+    fn drop(self) {
+        let Members { kept: _ } = self;
+    }
 }
 
 impl Model for Members {

@@ -7,10 +7,18 @@ use std::marker::Model;
 
 /// Names in the order in which they were declared, and of each the place of its first declaration. Contracts see the numbers
 /// of the names.
-#[derive(Drop)]
 pub struct Places {
     cells: Vec<Option<u32>>,
     numbers: Vec<u32>,
+}
+
+impl Drop for Places {
+    fn drop(self) {
+        let Places {
+            cells: _,
+            numbers: _,
+        } = self;
+    }
 }
 
 impl Model for Places {

@@ -22,10 +22,18 @@ use std::marker::Model;
 
 /// The names of types in the order of their numbers, `object` first, and the unions, each the list of its types' numbers. Contracts
 /// see the numbers of the names.
-#[derive(Drop)]
 pub struct TypeTable {
     types: Places,
     unions: IndexSet<Vec<u32>>,
+}
+
+impl Drop for TypeTable {
+    fn drop(self) {
+        let TypeTable {
+            types: _,
+            unions: _,
+        } = self;
+    }
 }
 
 impl Model for TypeTable {

@@ -9,10 +9,15 @@ use htn_base::{List, Memory};
 use std::alloc::Global;
 
 /// A union as it is written: the offset of its first word, and the numbers of its types, each once, as it first names them.
-#[derive(Drop)]
 pub struct Either {
     pub at: u32,
     pub members: Members,
+}
+
+impl Drop for Either {
+    fn drop(self) {
+        let Either { at: _, members: _ } = self;
+    }
 }
 
 /// Puts the unions of a typed list behind the others.

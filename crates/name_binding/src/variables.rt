@@ -14,10 +14,18 @@ struct Entered {
 }
 
 /// The variables in force, from outside in. Contracts see the numbers of their names.
-#[derive(Drop)]
 pub struct Variables {
     cells: Vec<Option<u32>>,
     entered: Vec<Entered>,
+}
+
+impl Drop for Variables {
+    fn drop(self) {
+        let Variables {
+            cells: _,
+            entered: _,
+        } = self;
+    }
 }
 
 impl Model for Variables {

@@ -9,9 +9,14 @@ use text_forms::sheets::Sheet;
 const MOST_BYTES: usize = 1024;
 
 /// Bytes that wait to be put on a sheet together, since each put costs more than the copy of a few bytes.
-#[derive(Drop)]
 pub(crate) struct Batch {
     bytes: ArrayVec<u8, MOST_BYTES>,
+}
+
+impl Drop for Batch {
+    fn drop(self) {
+        let Batch { bytes: _ } = self;
+    }
 }
 
 impl Batch {

@@ -31,7 +31,6 @@ pub(crate) fn joined(first: &[u8], second: &[u8]) -> Option<Piece>
 }
 
 /// An instance in bytes, with places for the object's word, so that it is drawn once for all objects.
-#[derive(Drop)]
 pub(crate) struct Stencil {
     /// What stands before each place.
     before: ArrayVec<Piece, MOST_PLACES>,
@@ -39,6 +38,16 @@ pub(crate) struct Stencil {
     behind: Piece,
     /// Whether all that was drawn stands here.
     pub(crate) fits: bool,
+}
+
+impl Drop for Stencil {
+    fn drop(self) {
+        let Stencil {
+            before: _,
+            behind: _,
+            fits: _,
+        } = self;
+    }
 }
 
 impl Stencil {

@@ -4,6 +4,7 @@ pub mod Pairs
 pub mod Scopes
 pub mod Facts
 pub mod Numbers
+pub mod Values
 pub mod task_networks
 pub mod plan_meaning
 pub mod net_order

@@ -22,9 +22,14 @@ impl<'a> Model for Fact<'a> {
 
 /// Ground atoms in order, repeats too. Each is a row: its predicate with its objects. Contracts see the list of the ground
 /// atoms.
-#[derive(Drop)]
 pub struct Facts {
     rows: PackedRows,
+}
+
+impl Drop for Facts {
+    fn drop(self) {
+        let Facts { rows: _ } = self;
+    }
 }
 
 impl Model for Facts {

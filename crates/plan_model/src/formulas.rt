@@ -5,7 +5,6 @@ use htn_base::{Boxed, List, Memory};
 use std::alloc::Global;
 
 /// A condition, as in PDDL 2.1, level 1: an atom, an equality of objects, the connectives and the quantifiers.
-#[derive(Drop)]
 pub enum Formula {
     Holds(Atom),
     Equal(Term, Term),
@@ -15,6 +14,21 @@ pub enum Formula {
     Imply(Boxed<Formula>, Boxed<Formula>),
     Forall(List<Param>, Boxed<Formula>),
     Exists(List<Param>, Boxed<Formula>),
+}
+
+impl Drop for Formula {
+    fn drop(self) {
+        match self {
+            Formula::Holds(_) => {}
+            Formula::Equal(_, _) => {}
+            Formula::Not(_) => {}
+            Formula::And(_) => {}
+            Formula::Or(_) => {}
+            Formula::Imply(_, _) => {}
+            Formula::Forall(_, _) => {}
+            Formula::Exists(_, _) => {}
+        }
+    }
 }
 
 impl Formula {

@@ -13,11 +13,20 @@ pub enum Head {
 }
 
 /// A subtask of a network, with its id where one is written.
-#[derive(Drop)]
 pub struct Child {
     pub id: Option<Name>,
     pub head: Head,
     pub args: List<Term>,
+}
+
+impl Drop for Child {
+    fn drop(self) {
+        let Child {
+            id: _,
+            head: _,
+            args: _,
+        } = self;
+    }
 }
 
 impl Child {

@@ -19,10 +19,18 @@ pub struct Param {
 }
 
 /// A predicate with terms, as many as it has parameters.
-#[derive(Drop)]
 pub struct Atom {
     pub predicate: u32,
     pub args: List<Term>,
+}
+
+impl Drop for Atom {
+    fn drop(self) {
+        let Atom {
+            predicate: _,
+            args: _,
+        } = self;
+    }
 }
 
 impl Atom {
@@ -38,8 +46,16 @@ impl Atom {
 }
 
 /// A predicate with objects, as many as it has parameters.
-#[derive(Drop)]
 pub struct GroundAtom {
     pub predicate: u32,
     pub args: List<u32>,
+}
+
+impl Drop for GroundAtom {
+    fn drop(self) {
+        let GroundAtom {
+            predicate: _,
+            args: _,
+        } = self;
+    }
 }

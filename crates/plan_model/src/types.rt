@@ -17,11 +17,20 @@ pub struct Parent {
 /// without a written parent has the one pair with type 0.
 ///
 /// Union k of `unions` is the type of number `names.len() + k`: an object is in it that is in one of its types.
-#[derive(Drop)]
 pub struct Types {
     pub names: List<Name>,
     pub parents: List<Parent>,
     pub unions: List<List<u32>>,
+}
+
+impl Drop for Types {
+    fn drop(self) {
+        let Types {
+            names: _,
+            parents: _,
+            unions: _,
+        } = self;
+    }
 }
 
 impl Types {

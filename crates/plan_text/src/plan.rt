@@ -14,11 +14,20 @@ use text_forms::sexpr_text::ReadError;
 
 /// A text that spells a plan, which contracts see as the list of its steps. It keeps the number of steps, and a copy of
 /// the text in lower case where the text has upper-case letters.
-#[derive(Drop)]
 pub struct Plan<'t> {
     text: &'t [u8],
     lower: Option<Text>,
     count: usize,
+}
+
+impl Drop for Plan<'_> {
+    fn drop(self) {
+        let Plan {
+            text: _,
+            lower: _,
+            count: _,
+        } = self;
+    }
 }
 
 impl<'t> Model for Plan<'t> {

@@ -6,9 +6,14 @@ use std::alloc::Global;
 use std::marker::Model;
 
 /// A step whose words are slices of the text that it was read from. Its room serves the next step again.
-#[derive(Drop)]
 pub struct Step<'t> {
     pub(crate) words: Vec<&'t [u8]>,
+}
+
+impl Drop for Step<'_> {
+    fn drop(self) {
+        let Step { words: _ } = self;
+    }
 }
 
 impl<'t> Model for Step<'t> {

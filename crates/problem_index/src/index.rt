@@ -14,13 +14,24 @@ use std::alloc::Global;
 
 /// Where the actions and the objects of a problem stand, by their words, and what is known of its types. `names` finds the words
 /// of the problem, and `marks` are of these.
-#[derive(Drop)]
 pub struct Index {
     actions: Places,
     objects: Places,
     kinds: Kinds,
     names: NameTable,
     marks: Marks,
+}
+
+impl Drop for Index {
+    fn drop(self) {
+        let Index {
+            actions: _,
+            objects: _,
+            kinds: _,
+            names: _,
+            marks: _,
+        } = self;
+    }
 }
 
 impl Index {

@@ -21,10 +21,18 @@ const ENTRIES: usize = 16;
 const MORE_ENTRIES: usize = 1 << 16;
 
 /// What is known of a type: its parts and, where they are listed, its objects.
-#[derive(Drop)]
 pub struct Kind {
     parts: Parts,
     listed: Option<Vec<u32>>,
+}
+
+impl Drop for Kind {
+    fn drop(self) {
+        let Kind {
+            parts: _,
+            listed: _,
+        } = self;
+    }
 }
 
 impl Kind {
@@ -69,9 +77,14 @@ impl Kind {
 }
 
 /// What is known of the first types and unions, of each found once.
-#[derive(Drop)]
 pub struct Kinds {
     kinds: Vec<Kind>,
+}
+
+impl Drop for Kinds {
+    fn drop(self) {
+        let Kinds { kinds: _ } = self;
+    }
 }
 
 impl Kinds {

@@ -5,9 +5,14 @@ use htn_base::{Marks, Memory, Name, NameTable};
 use std::alloc::Global;
 
 /// The places of named things, by the numbers of their names.
-#[derive(Drop)]
 pub struct Places {
     by_name: Vec<Option<u32>>,
+}
+
+impl Drop for Places {
+    fn drop(self) {
+        let Places { by_name: _ } = self;
+    }
 }
 
 impl Places {

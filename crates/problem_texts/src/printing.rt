@@ -16,10 +16,18 @@ use std::alloc::Global;
 use text_forms::sheets::Ended;
 
 /// The texts of the printed domain and the printed problem.
-#[derive(Drop)]
 pub struct Texts {
     pub domain: Text,
     pub problem: Text,
+}
+
+impl Drop for Texts {
+    fn drop(self) {
+        let Texts {
+            domain: _,
+            problem: _,
+        } = self;
+    }
 }
 
 /// What is printed of a problem within a limit.

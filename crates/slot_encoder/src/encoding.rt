@@ -19,7 +19,6 @@ use std::alloc::Global;
 
 /// The printed problem with so many slots, ready to be taken part by part: `head` has all but the actions, with all words, and
 /// `action` makes one action at a time.
-#[derive(Drop)]
 pub struct Encoding {
     pub head: Pddl,
     pub slots: u32,
@@ -27,6 +26,18 @@ pub struct Encoding {
     // finds the words of the head
     names: NameTable,
     basis: Basis,
+}
+
+impl Drop for Encoding {
+    fn drop(self) {
+        let Encoding {
+            head: _,
+            slots: _,
+            style: _,
+            names: _,
+            basis: _,
+        } = self;
+    }
 }
 
 impl Encoding {
@@ -99,6 +110,20 @@ impl Encoding {
         action_at(alloc, &frame, k)
     }
 
+    /// All but the actions.
+    fn into_head(self) -> Pddl
+        ensures { result ≡ self.head }
+    {
+        let Encoding {
+            head,
+            slots: _,
+            style: _,
+            names: _,
+            basis: _,
+        } = self;
+        head
+    }
+
     fn actions(&self, alloc: Global, c: &Compiled) -> Result<List<ActionSchema>, Memory>
         requires encoding { IsEncoding c.now self.now }
         ensures { IfOk result (λ actions. actions ≡ all_actions c.now self.now) }
@@ -131,7 +156,7 @@ pub fn encode(alloc: Global, c: &Compiled, slots: u32, style: &Style) -> Result<
     let encoding = Encoding::new(alloc, c, slots, style)?;
     match encoding.actions(alloc, c) {
         Ok(actions) => {
-            let mut value = encoding.head;
+            let mut value = encoding.into_head();
             value.actions = actions;
             Ok(value)
         }

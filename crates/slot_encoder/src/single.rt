@@ -76,11 +76,20 @@ fn push_new(new: bool, predicate: u32, args: &[u32], into: &mut Facts) -> Result
 }
 
 /// The facts that were met: the numbers of those that have one, and the keys of the others.
-#[derive(Drop)]
 pub struct Seen {
     most: u32,
     numbers: HashSet<u64>,
     keys: HashSet<Vec<u32>>,
+}
+
+impl Drop for Seen {
+    fn drop(self) {
+        let Seen {
+            most: _,
+            numbers: _,
+            keys: _,
+        } = self;
+    }
 }
 
 impl Seen {

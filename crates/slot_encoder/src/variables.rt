@@ -10,12 +10,22 @@ use std::alloc::Global;
 
 /// How the variables of a method's action stand: the task's slot, so many new slots, then the parameters, which `front`
 /// variables stand before; `depth` of them in all. `slots` has the slot of each child.
-#[derive(Drop)]
 pub(crate) struct Variables {
     pub spare: u32,
     pub front: u32,
     pub depth: u32,
     pub slots: List<u32>,
+}
+
+impl Drop for Variables {
+    fn drop(self) {
+        let Variables {
+            spare: _,
+            front: _,
+            depth: _,
+            slots: _,
+        } = self;
+    }
 }
 
 pub(crate) fn variables_of(alloc: Global, plan: &MethodPlan) -> Result<Variables, Memory>

@@ -2,7 +2,7 @@
 use Rattle.std.proofs.Common.{ℕ, List}
 use Rattle.hddl_reader.specs.declared.sections.Language.TheVariants as language
 use Rattle.plan_model.specs.declared.values.Hddl.{Hddl}
-use Rattle.text_values.specs.form_spellings.PddlTexts.{without_tasks}
+use Rattle.plan_model.specs.Values.{without_tasks}
 use Rattle.text_values.specs.form_spellings.binding_laws.PddlValues.{ReadPddlIsItsValue}
 use Rattle.text_values.specs.Values.{AreReadAs}
 use Rattle.text_values.specs.PddlValues.{IsValueOf}

@@ -1,11 +1,10 @@
 ghost use Rattle.std.specs.Prelude.{◌≡◌, ◌≤◌, length, IfOk, IfErr};
-ghost use Rattle.text_values.specs.form_spellings.PddlTexts.{without_tasks};
 ghost use Rattle.text_values.specs.PddlValues.{IsValueOf, IsRefusal};
 
 use crate::form_spellings::binding_laws::read_pddl_is_its_value;
 use crate::values::read_as;
 use hddl_reader::Language;
-use plan_model::{Hddl, Pddl};
+use plan_model::Pddl;
 use std::alloc::Global;
 use text_forms::sexpr_text::ReadError;
 
@@ -20,41 +19,7 @@ pub fn pddl_of(alloc: Global, domain: &[u8], problem: &[u8]) -> Result<Pddl, Rea
     // a law, which does nothing
     read_pddl_is_its_value();
     match read_as(alloc, Language::Pddl, domain, problem) {
-        Ok(value) => Ok(without_tasks(value)),
+        Ok(value) => Ok(value.without_tasks()),
         Err(error) => Err(error),
-    }
-}
-
-/// What a value says without its tasks and methods. Its table keeps the word `htn_start`, which nothing names then.
-fn without_tasks(value: Hddl) -> Pddl
-    ensures { result ≡ without_tasks value }
-{
-    let Hddl {
-        names,
-        domain,
-        problem,
-        types,
-        objects,
-        predicates,
-        tasks,
-        actions,
-        methods,
-        top,
-        init,
-        goal,
-    } = value;
-    drop(tasks);
-    drop(methods);
-    drop(top);
-    Pddl {
-        names,
-        domain,
-        problem,
-        types,
-        objects,
-        predicates,
-        actions,
-        init,
-        goal,
     }
 }

@@ -16,9 +16,14 @@ use std::alloc::Global;
 
 /// The strata of a problem: a number for each task and the top task, the same for those of one group.
 /// An edge goes to a lower number, or to a last child of the same group.
-#[derive(Drop)]
 pub struct Ranks {
     numbers: Vec<u32>,
+}
+
+impl Drop for Ranks {
+    fn drop(self) {
+        let Ranks { numbers: _ } = self;
+    }
 }
 
 impl Ranks {

@@ -6,10 +6,15 @@ use std::alloc::Global;
 use std::marker::Model;
 
 /// A set of children of one network, with a bit for each. Contracts see a mark for each child.
-#[derive(Drop)]
 pub struct ChildSet {
     count: usize,
     words: Vec<u64>,
+}
+
+impl Drop for ChildSet {
+    fn drop(self) {
+        let ChildSet { count: _, words: _ } = self;
+    }
 }
 
 impl Model for ChildSet {

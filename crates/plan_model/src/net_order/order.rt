@@ -30,13 +30,24 @@ impl From<Memory> for OrderError {
 }
 
 /// The order of the children of a network, by their numbers from 0. Contracts see what it answers.
-#[derive(Drop)]
 pub struct Order {
     before: Vec<ChildSet>,
     line: List<u32>,
     last: Option<u32>,
     begins: ChildSet,
     cuts: ChildSet,
+}
+
+impl Drop for Order {
+    fn drop(self) {
+        let Order {
+            before: _,
+            line: _,
+            last: _,
+            begins: _,
+            cuts: _,
+        } = self;
+    }
 }
 
 impl Model for Order {

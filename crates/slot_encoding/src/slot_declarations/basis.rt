@@ -14,7 +14,6 @@ use std::alloc::Global;
 
 /// What is worked out once for all parts of the printed problem: the numbers of predicates, the names of order pairs, the
 /// types of guards, and the checks.
-#[derive(Drop)]
 pub struct Basis {
     pub numbers: Numbers,
     pub order: OrderNames,
@@ -22,11 +21,30 @@ pub struct Basis {
     pub checks: Checks,
 }
 
+impl Drop for Basis {
+    fn drop(self) {
+        let Basis {
+            numbers: _,
+            order: _,
+            guard_types: _,
+            checks: _,
+        } = self;
+    }
+}
+
 /// The numbers of the methods that have checks, and for each method how many before it have one.
-#[derive(Drop)]
 pub struct Checks {
     pub methods: List<u32>,
     pub before: List<u32>,
+}
+
+impl Drop for Checks {
+    fn drop(self) {
+        let Checks {
+            methods: _,
+            before: _,
+        } = self;
+    }
 }
 
 /// That of a compiled problem with so many slots, whose printed words begin with those of the source; or want of memory.

@@ -24,9 +24,14 @@ pub struct Entry {
 }
 
 /// An entry for each token.
-#[derive(Drop)]
 pub struct Index {
     pub entries: Vec<Entry>,
+}
+
+impl Drop for Index {
+    fn drop(self) {
+        let Index { entries: _ } = self;
+    }
 }
 
 /// The index of a text without faults, in one pass, or `None` where the text has a fault. It starts with room for a token

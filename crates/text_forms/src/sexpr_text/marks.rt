@@ -24,12 +24,22 @@ pub struct Place {
 
 /// The number of tokens, and the place of every eighth. Beside each place stands how many lists at least are open behind
 /// any token since the place before it, and in `low` the same since the last place.
-#[derive(Drop)]
 pub struct Marks {
     pub count: u32,
     pub places: Vec<Place>,
     pub least: Vec<u8>,
     pub low: u32,
+}
+
+impl Drop for Marks {
+    fn drop(self) {
+        let Marks {
+            count: _,
+            places: _,
+            least: _,
+            low: _,
+        } = self;
+    }
 }
 
 /// The marks of a text without faults, in one pass, or `None` where the text has a fault.

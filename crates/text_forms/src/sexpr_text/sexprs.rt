@@ -18,17 +18,30 @@ use std::alloc::Global;
 use std::marker::Model;
 
 /// A text without faults of tokens, which contracts see as its bytes.
-#[derive(Drop)]
 pub struct Sexprs<'a> {
     source: &'a [u8],
     kept: Kept,
 }
 
+impl Drop for Sexprs<'_> {
+    fn drop(self) {
+        let Sexprs { source: _, kept: _ } = self;
+    }
+}
+
 /// What is kept of the tokens: the number of them and where every eighth begins, or an entry for each.
-#[derive(Drop)]
 pub enum Kept {
     Marks(Marks),
     Index(Index),
+}
+
+impl Drop for Kept {
+    fn drop(self) {
+        match self {
+            Kept::Marks(_) => {}
+            Kept::Index(_) => {}
+        }
+    }
 }
 
 impl<'a> Model for Sexprs<'a> {

@@ -7,7 +7,6 @@ use Rattle.plan_texts.specs.Declared.{union_words}
 use Rattle.plan_texts.specs.FirstSeen.{types_in_order, pairs_in_order, unions_in_order}
 use Rattle.plan_texts.specs.Sections.{section, parts_in}
 use Rattle.plan_texts.specs.SpellsPddl.{pddl_types, SpellsPddl}
-use Rattle.plan_model.specs.declared.values.Hddl.{Hddl}
 use Rattle.plan_model.specs.declared.values.Pddl.{Pddl}
 
 pub record IsPddlInOrder (c : Pddl) (domain problem : Parts) : Type 0 where
@@ -21,17 +20,3 @@ pub record IsPddlOf (domain problem : List ℕ) (c : Pddl) : Type 0 where
   pub problem_faultless : IsFaultless problem
   pub spelled : SpellsPddl domain problem c
   pub ordered : IsPddlInOrder c spelled.domain_sections spelled.problem_sections
-
--- what a value says without its tasks and methods
-abbrev pub without_tasks : Hddl → Pddl
-without_tasks h = record {
-  names = h.names;
-  domain = h.domain;
-  problem = h.problem;
-  types = h.types;
-  objects = h.objects;
-  predicates = h.predicates;
-  actions = h.actions;
-  init = h.init;
-  goal = h.goal;
-}

@@ -16,7 +16,8 @@ use Rattle.hddl_reader.specs.declared.sections.RawProblem.{RawProblem}
 use Rattle.hddl_reader.specs.Definitions.{IsDomainRead, IsProblemRead}
 use Rattle.text_values.specs.form_spellings.BoundTexts.{IsBoundHddl, IsBoundPddl}
 use Rattle.text_values.specs.form_spellings.InOrder.{DomainIsInOrder, IsProblemInOrder}
-use Rattle.text_values.specs.form_spellings.PddlTexts.{IsPddlOf, without_tasks}
+use Rattle.text_values.specs.form_spellings.PddlTexts.{IsPddlOf}
+use Rattle.plan_model.specs.Values.{without_tasks}
 use Rattle.text_values.specs.form_spellings.Places.{IsDomainAt, IsProblemAt}
 use Rattle.text_values.specs.form_spellings.ReadOf.{OfEachWhole}
 use Rattle.text_values.specs.form_spellings.ReadTexts.{HasNoTasks, HasNoNetwork}

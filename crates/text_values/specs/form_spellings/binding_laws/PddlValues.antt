@@ -4,7 +4,8 @@ use Rattle.std.specs.Prelude.{ℕ, List}
 use Rattle.text_forms.specs.Faults.{IsFaultless}
 use Rattle.hddl_reader.specs.declared.sections.Language.TheVariants as language
 use Rattle.plan_model.specs.declared.values.Hddl.{Hddl}
-use Rattle.text_values.specs.form_spellings.PddlTexts.{IsPddlOf, without_tasks}
+use Rattle.text_values.specs.form_spellings.PddlTexts.{IsPddlOf}
+use Rattle.plan_model.specs.Values.{without_tasks}
 use Rattle.text_values.specs.form_spellings.SoundPddl.{IsSoundClassical}
 use Rattle.text_values.specs.form_spellings.binding_laws.SoundValues.{IsBoundOf}
 
