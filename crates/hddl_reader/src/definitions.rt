@@ -6,13 +6,11 @@ ghost use Rattle.gd_reader.specs.Answers.{Gives, GivesWith, word_due, list_due, 
 ghost use Rattle.gd_reader.specs.Shown.{parts_at_both};
 ghost use Rattle.gd_reader.specs.Terms.{Keeps};
 ghost use Rattle.hddl_reader.specs.declared.sections.Definition.TheVariants as definition;
-ghost use Rattle.hddl_reader.specs.Definitions.{coded, key_due, definition_word, title, definition_inside, nothing_due, definition_read, domain_of, or_empty, problem_of, refusal, Refuses, IsDomainRead, IsProblemRead};
+ghost use Rattle.hddl_reader.specs.Definitions.{coded, key_due, definition_word, title, definition_inside, nothing_due, definition_read, refusal, Refuses, IsDomainRead, IsProblemRead};
 
 use crate::networks::declared_of;
-use crate::parts::RawParts;
 use crate::section_bodies::sections_of;
 use crate::sections::{Definition, Language, RawDomain, RawProblem, RawSections};
-use crate::wholes::{facts_or_none, or_none, or_true, params_or_none};
 use gd_reader::{Failure, Item, Stop, is_word, item_at};
 use htn_base::{Fault, Name, NameTable};
 use std::alloc::Global;
@@ -26,57 +24,6 @@ impl Definition {
         match self {
             Definition::Domain => b"domain",
             Definition::Problem => b"problem",
-        }
-    }
-}
-
-fn or_empty(parts: Option<RawParts>) -> RawParts
-    ensures { result ≡ or_empty parts }
-{
-    match parts {
-        None => RawParts::new(),
-        Some(parts) => parts,
-    }
-}
-
-impl RawSections {
-    // The domain of this name.
-    fn into_domain(self, alloc: Global, name: Name) -> RawDomain
-        ensures { result ≡ domain_of (name, self) }
-    {
-        drop(self.objects);
-        drop(self.network);
-        drop(self.init);
-        drop(self.goal);
-        RawDomain {
-            name,
-            types: params_or_none(alloc, self.types),
-            constants: params_or_none(alloc, self.constants),
-            predicates: or_none(alloc, self.predicates),
-            tasks: self.tasks,
-            methods: self.methods,
-            actions: self.actions,
-        }
-    }
-
-    // The problem of this name.
-    fn into_problem(self, alloc: Global, name: Name) -> RawProblem
-        ensures { result ≡ problem_of (name, self) }
-    {
-        drop(self.types);
-        drop(self.constants);
-        drop(self.predicates);
-        drop(self.tasks);
-        drop(self.methods);
-        drop(self.actions);
-        let (params, net) = or_empty(self.network).into_network(alloc);
-        RawProblem {
-            name,
-            objects: params_or_none(alloc, self.objects),
-            params,
-            net,
-            init: facts_or_none(alloc, self.init),
-            goal: or_true(alloc, self.goal),
         }
     }
 }

@@ -22,7 +22,6 @@ use std::alloc::Global;
 use text_forms::sexpr_text::Sexprs;
 
 /// The parts of a task, a method, an action or the initial network: each that is written.
-#[derive(Drop)]
 pub struct RawParts {
     pub params: Option<RawParams>,
     pub task: Option<RawAtom>,
@@ -32,6 +31,21 @@ pub struct RawParts {
     pub ordered: bool,
     pub pairs: Option<List<RawPair>>,
     pub constraints: Option<List<RawCon>>,
+}
+
+impl Drop for RawParts {
+    fn drop(self) {
+        let RawParts {
+            params: _,
+            task: _,
+            pre: _,
+            eff: _,
+            subs: _,
+            ordered: _,
+            pairs: _,
+            constraints: _,
+        } = self;
+    }
 }
 
 /// What has parts.

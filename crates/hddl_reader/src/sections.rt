@@ -7,11 +7,13 @@ ghost use Rattle.gd_reader.specs.Answers.{Gives};
 ghost use Rattle.gd_reader.specs.Shown.{AreLater, parts_at_both};
 ghost use Rattle.hddl_reader.specs.Parts.{keyword_by};
 ghost use Rattle.hddl_reader.specs.declared.sections.Language.TheVariants as language;
+ghost use Rattle.hddl_reader.specs.Definitions.{domain_of, or_empty, problem_of};
 ghost use Rattle.hddl_reader.specs.Sections.{plain_table, hierarchy_table, section_of, no_sections, has_section, may_end, predicate_headed, section_due};
 
 use crate::items::Item;
 use crate::networks::{RawNet, declared_of};
 use crate::parts::{RawParts, unknown};
+use crate::wholes::{facts_or_none, or_none, or_true, params_or_none};
 use gd_reader::{
     Failure, Item as Shown, ListKind, RawAtom, RawEffect, RawFacts, RawFormula, RawParams, RawTerm,
     Stop, is_word, item_at, params_of,
@@ -100,7 +102,6 @@ pub enum Section {
 }
 
 /// The sections that are written. Requirements, functions, a metric and the domain's name are read and dropped.
-#[derive(Drop)]
 pub struct RawSections {
     pub requirements: bool,
     pub types: Option<RawParams>,
@@ -116,6 +117,27 @@ pub struct RawSections {
     pub init: Option<RawFacts>,
     pub goal: Option<RawFormula>,
     pub metric: bool,
+}
+
+impl Drop for RawSections {
+    fn drop(self) {
+        let RawSections {
+            requirements: _,
+            types: _,
+            constants: _,
+            predicates: _,
+            functions: _,
+            tasks: _,
+            methods: _,
+            actions: _,
+            domain: _,
+            objects: _,
+            network: _,
+            init: _,
+            goal: _,
+            metric: _,
+        } = self;
+    }
 }
 
 /// A domain: each list in text order. Missing sections are empty. The types of types are their parents.
@@ -358,5 +380,76 @@ impl RawSections {
             Shown::Close(at) | Shown::Word(at, _) => Err(Failure::At(Stop::Departs(8, at))),
             Shown::List(_, inside, behind) => Ok(Some((inside, behind))),
         }
+    }
+
+    /// The domain of this name.
+    pub(crate) fn into_domain(self, alloc: Global, name: Name) -> RawDomain
+        ensures { result ≡ domain_of (name, self) }
+    {
+        let RawSections {
+            requirements: _,
+            types,
+            constants,
+            predicates,
+            functions: _,
+            tasks,
+            methods,
+            actions,
+            domain: _,
+            objects: _,
+            network: _,
+            init: _,
+            goal: _,
+            metric: _,
+        } = self;
+        RawDomain {
+            name,
+            types: params_or_none(alloc, types),
+            constants: params_or_none(alloc, constants),
+            predicates: or_none(alloc, predicates),
+            tasks,
+            methods,
+            actions,
+        }
+    }
+
+    /// The problem of this name.
+    pub(crate) fn into_problem(self, alloc: Global, name: Name) -> RawProblem
+        ensures { result ≡ problem_of (name, self) }
+    {
+        let RawSections {
+            requirements: _,
+            types: _,
+            constants: _,
+            predicates: _,
+            functions: _,
+            tasks: _,
+            methods: _,
+            actions: _,
+            domain: _,
+            objects,
+            network,
+            init,
+            goal,
+            metric: _,
+        } = self;
+        let (params, net) = or_empty(network).into_network(alloc);
+        RawProblem {
+            name,
+            objects: params_or_none(alloc, objects),
+            params,
+            net,
+            init: facts_or_none(alloc, init),
+            goal: or_true(alloc, goal),
+        }
+    }
+}
+
+fn or_empty(parts: Option<RawParts>) -> RawParts
+    ensures { result ≡ or_empty parts }
+{
+    match parts {
+        None => RawParts::new(),
+        Some(parts) => parts,
     }
 }

@@ -24,23 +24,13 @@ impl<'a> Model for PackedRow<'a> {
 
 // Rows in order. The numbers of all stand in one list, so that no row takes memory of its own. After want of memory there
 // are none.
+#[derive(Drop)]
 struct Rows {
     alloc: Global,
     heads: PackedNumbers,
     // where the numbers of each row end among those of all
     ends: PackedNumbers,
     rest: PackedNumbers,
-}
-
-impl Drop for Rows {
-    fn drop(self) {
-        let Rows {
-            alloc: _,
-            heads: _,
-            ends: _,
-            rest: _,
-        } = self;
-    }
 }
 
 impl Model for Rows {
