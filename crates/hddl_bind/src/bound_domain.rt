@@ -143,7 +143,7 @@ fn noted_domain(
     let types = types_known(alloc, language, object, d, faults)?;
     let names = names_of(alloc, types, d, faults)?;
     match parts_of(alloc, &names, d, faults) {
-        Ok((types, schemas)) => Ok(together(d.name, types, schemas, names)),
+        Ok((types, schemas)) => Ok(schemas.together(d.name, types, names)),
         Err(memory) => {
             drop(names);
             Err(memory)
@@ -200,27 +200,5 @@ fn parts_of(
             drop(types);
             Err(memory)
         }
-    }
-}
-
-fn together(domain: Name, types: Types, schemas: DomainSchemas, names: DomainNames) -> BoundDomain
-    ensures together { result ≡ spec.with_schemas domain types schemas names }
-{
-    let DomainSchemas {
-        objects,
-        predicates,
-        tasks,
-        actions,
-        methods,
-    } = schemas;
-    BoundDomain {
-        domain,
-        types,
-        objects,
-        predicates,
-        tasks,
-        actions,
-        methods,
-        names,
     }
 }

@@ -1,19 +1,21 @@
 ghost use Rattle.std.specs.Prelude.{◌≡◌, IfOk, OnOk};
 ghost use Rattle.name_binding.specs.Spots.{noted};
 ghost use Rattle.hddl_bind.specs.DomainSchemas as spec;
+ghost use Rattle.hddl_bind.specs.WholeDomains as domains;
 
 use crate::actions::actions_of;
+use crate::bound_domain::BoundDomain;
 use crate::callables::Callables;
+use crate::domain_names::DomainNames;
 use crate::heads::{predicates_of, tasks_of};
 use crate::methods::methods_of;
 use hddl_reader::RawDomain;
-use htn_base::{List, Memory};
+use htn_base::{List, Memory, Name};
 use name_binding::{Faults, Known, TypeTable, objects_of};
-use plan_model::{ActionSchema, MethodSchema, Object, Predicate, TaskSchema};
+use plan_model::{ActionSchema, MethodSchema, Object, Predicate, TaskSchema, Types};
 use std::alloc::Global;
 
 /// All that a domain declares but its types. The objects are its constants.
-#[derive(Drop)]
 pub struct DomainSchemas {
     pub objects: List<Object>,
     pub predicates: List<Predicate>,
@@ -22,12 +24,33 @@ pub struct DomainSchemas {
     pub methods: List<MethodSchema>,
 }
 
+impl Drop for DomainSchemas {
+    fn drop(self) {
+        let DomainSchemas {
+            objects: _,
+            predicates: _,
+            tasks: _,
+            actions: _,
+            methods: _,
+        } = self;
+    }
+}
+
 /// What has parameters alone: constants, predicates and tasks.
-#[derive(Drop)]
 struct Typed {
     objects: List<Object>,
     predicates: List<Predicate>,
     tasks: List<TaskSchema>,
+}
+
+impl Drop for Typed {
+    fn drop(self) {
+        let Typed {
+            objects: _,
+            predicates: _,
+            tasks: _,
+        } = self;
+    }
 }
 
 /// All that a domain declares but its types. Faults: 10 in a network, 11, 13 to 17 and 19 to 21.
@@ -46,7 +69,7 @@ pub fn schemas_of(
     let typed = typed_of(alloc, &known.types, d, faults)?;
     let actions = actions_of(alloc, known, d.actions.as_slice(), faults)?;
     let methods = methods_of(alloc, known, callables, d.methods.as_slice(), faults)?;
-    Ok(together(typed, actions, methods))
+    Ok(typed.together(actions, methods))
 }
 
 fn typed_of(
@@ -69,19 +92,47 @@ fn typed_of(
     })
 }
 
-fn together(typed: Typed, actions: List<ActionSchema>, methods: List<MethodSchema>) -> DomainSchemas
-    ensures together { result ≡ spec.together typed actions methods }
-{
-    let Typed {
-        objects,
-        predicates,
-        tasks,
-    } = typed;
-    DomainSchemas {
-        objects,
-        predicates,
-        tasks,
-        actions,
-        methods,
+impl DomainSchemas {
+    /// A domain with its names bound, of these types.
+    pub(crate) fn together(self, domain: Name, types: Types, names: DomainNames) -> BoundDomain
+        ensures together { result ≡ domains.with_schemas domain types self names }
+    {
+        let DomainSchemas {
+            objects,
+            predicates,
+            tasks,
+            actions,
+            methods,
+        } = self;
+        BoundDomain {
+            domain,
+            types,
+            objects,
+            predicates,
+            tasks,
+            actions,
+            methods,
+            names,
+        }
+    }
+}
+
+impl Typed {
+    /// All that a domain declares but its types.
+    fn together(self, actions: List<ActionSchema>, methods: List<MethodSchema>) -> DomainSchemas
+        ensures together { result ≡ spec.together self actions methods }
+    {
+        let Typed {
+            objects,
+            predicates,
+            tasks,
+        } = self;
+        DomainSchemas {
+            objects,
+            predicates,
+            tasks,
+            actions,
+            methods,
+        }
     }
 }

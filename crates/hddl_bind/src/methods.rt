@@ -14,12 +14,22 @@ use plan_model::{Formula, MethodSchema, Param, Term};
 use std::alloc::Global;
 
 /// What stands in front of a method's network.
-#[derive(Drop)]
 pub(crate) struct Front {
     pub params: List<Param>,
     pub task: u32,
     pub task_args: List<Term>,
     pub pre: Formula,
+}
+
+impl Drop for Front {
+    fn drop(self) {
+        let Front {
+            params: _,
+            task: _,
+            task_args: _,
+            pre: _,
+        } = self;
+    }
 }
 
 /// The methods of a domain, in the same order. A method's parameters are in force in all of it. Faults: 11, 13 to 17 where its names
@@ -73,7 +83,7 @@ fn method_of(
         &method.net,
         faults,
     )?;
-    Ok(joined(method.head.name.name, front, net))
+    Ok(front.joined(method.head.name.name, net))
 }
 
 /// What stands in front of the network of a method whose parameters are in force.
@@ -104,29 +114,31 @@ fn front_of(
     })
 }
 
-/// A method of its parts.
-pub(crate) fn joined(name: Name, front: Front, net: BoundNet) -> MethodSchema
-    ensures joined { result ≡ spec.joined name front net }
-{
-    let Front {
-        params,
-        task,
-        task_args,
-        pre,
-    } = front;
-    let BoundNet {
-        children,
-        pairs,
-        constraints,
-    } = net;
-    MethodSchema {
-        name,
-        params,
-        task,
-        task_args,
-        pre,
-        children,
-        pairs,
-        constraints,
+impl Front {
+    /// A method of its parts.
+    pub(crate) fn joined(self, name: Name, net: BoundNet) -> MethodSchema
+        ensures joined { result ≡ spec.joined name self net }
+    {
+        let Front {
+            params,
+            task,
+            task_args,
+            pre,
+        } = self;
+        let BoundNet {
+            children,
+            pairs,
+            constraints,
+        } = net;
+        MethodSchema {
+            name,
+            params,
+            task,
+            task_args,
+            pre,
+            children,
+            pairs,
+            constraints,
+        }
     }
 }

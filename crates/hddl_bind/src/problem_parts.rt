@@ -4,7 +4,7 @@ ghost use Rattle.hddl_bind.specs.ProblemParts as spec;
 use crate::actions::enter_alone;
 use crate::callables::Callables;
 use crate::facts::facts_of;
-use crate::methods::{Front, joined};
+use crate::methods::Front;
 use crate::networks::network_of;
 use hddl_reader::RawProblem;
 use htn_base::{List, Memory, Name};
@@ -84,5 +84,5 @@ fn top_of(
         task_args: List::new(alloc),
         pre: Formula::And(List::new(alloc)),
     };
-    Ok(joined(name, front, net))
+    Ok(front.joined(name, net))
 }

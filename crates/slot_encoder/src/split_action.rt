@@ -11,7 +11,6 @@ use std::alloc::Global;
 /// An action of the printed problem. Its condition is a conjunction: of the parts `before`, of one part for each two of the
 /// variables 1 to `spare`, that they differ, and of the parts `behind`. Those in the middle are as many as the square of
 /// `spare`, so they are made by `whole` alone.
-#[derive(Drop)]
 pub struct SplitAction {
     pub name: Name,
     pub params: List<Param>,
@@ -19,6 +18,19 @@ pub struct SplitAction {
     pub spare: u32,
     pub behind: List<Formula>,
     pub eff: Effect,
+}
+
+impl Drop for SplitAction {
+    fn drop(self) {
+        let SplitAction {
+            name: _,
+            params: _,
+            before: _,
+            spare: _,
+            behind: _,
+            eff: _,
+        } = self;
+    }
 }
 
 /// What an action begins with: its parameters, and the first parts of its condition.
@@ -33,17 +45,29 @@ impl SplitAction {
     pub fn whole(self, alloc: Global) -> Result<ActionSchema, Memory>
         ensures { IfOk result (λ a. a ≡ whole self) }
     {
-        let mut action = self;
-        let behind = action.behind.as_slice();
-        match push_others(alloc, action.spare, behind, &mut action.before) {
-            Ok(()) => Ok(ActionSchema {
-                name: action.name,
-                params: action.params,
-                pre: Formula::And(action.before),
-                eff: action.eff,
-            }),
+        let SplitAction {
+            name,
+            params,
+            mut before,
+            spare,
+            behind,
+            eff,
+        } = self;
+        match push_others(alloc, spare, behind.as_slice(), &mut before) {
+            Ok(()) => {
+                drop(behind);
+                Ok(ActionSchema {
+                    name,
+                    params,
+                    pre: Formula::And(before),
+                    eff,
+                })
+            }
             Err(memory) => {
-                drop(action);
+                drop(params);
+                drop(before);
+                drop(behind);
+                drop(eff);
                 Err(memory)
             }
         }
