@@ -42,7 +42,7 @@ impl Drop for Encoding {
 
 impl Encoding {
     ghost use Rattle.std.specs.Prelude.{Some, slice_get};
-    ghost use Rattle.slot_encoder.specs.Encodings.{IsEncoding, all_actions, whole};
+    ghost use Rattle.slot_encoder.specs.Encodings.{IsEncoding, all_actions, whole, with_actions};
 
     /// That of a compiled problem. The source's types are few and their parents and unions are listed.
     pub fn new(alloc: Global, c: &Compiled, slots: u32, style: &Style) -> Result<Encoding, Memory>
@@ -110,17 +110,18 @@ impl Encoding {
         action_at(alloc, &frame, k)
     }
 
-    /// All but the actions.
-    fn into_head(self) -> Pddl
-        ensures { result ≡ self.head }
+    /// The value with these actions.
+    fn into_value(self, actions: List<ActionSchema>) -> Pddl
+        ensures { result ≡ with_actions self.head actions }
     {
         let Encoding {
-            head,
+            mut head,
             slots: _,
             style: _,
             names: _,
             basis: _,
         } = self;
+        head.actions = actions;
         head
     }
 
@@ -155,11 +156,7 @@ pub fn encode(alloc: Global, c: &Compiled, slots: u32, style: &Style) -> Result<
 {
     let encoding = Encoding::new(alloc, c, slots, style)?;
     match encoding.actions(alloc, c) {
-        Ok(actions) => {
-            let mut value = encoding.into_head();
-            value.actions = actions;
-            Ok(value)
-        }
+        Ok(actions) => Ok(encoding.into_value(actions)),
         Err(memory) => {
             drop(encoding);
             Err(memory)

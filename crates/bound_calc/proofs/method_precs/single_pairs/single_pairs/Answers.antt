@@ -50,8 +50,5 @@ is_new-requires-clause-first c = grind (arith, common_steps)
 pub is_new-requires-clause-then_ : goal.is_new-requires-clause-then_
 is_new-requires-clause-then_ c = grind (arith, common_steps)
 
-pub same-single : goal.same-single
-same-single c = grind (arith, common_steps)
-
 pub returns : goal.returns
 returns c = grind (arith, common_steps)

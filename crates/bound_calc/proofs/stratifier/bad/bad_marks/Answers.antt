@@ -41,8 +41,5 @@ loop-edge-init c = grind (arith, common_steps)
 pub offset_bounds-edge-items-edge-index : goal.offset_bounds-edge-items-edge-index
 offset_bounds-edge-items-edge-index c = grind (arith, common_steps)
 
-pub same-marks : goal.same-marks
-same-marks c = grind (arith, common_steps)
-
 pub returns : goal.returns
 returns c = grind (arith, common_steps)

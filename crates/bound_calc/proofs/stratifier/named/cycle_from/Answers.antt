@@ -86,11 +86,6 @@ first_steps-requires c = grind (arith, common_steps)
 pub bounds-edges-first : goal.bounds-edges-first
 bounds-edges-first c = grind (arith, common_steps)
 
-pub same-cycle : goal.same-cycle
-same-cycle c = grind (arith, common_steps)
-
 pub index-requires : goal.index-requires
 index-requires c = grind (arith, common_steps)
 
-pub same-cycle-in-Some : goal.same-cycle-in-Some
-same-cycle-in-Some c = grind (arith, common_steps)
