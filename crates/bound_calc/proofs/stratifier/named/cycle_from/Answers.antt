@@ -88,4 +88,3 @@ bounds-edges-first c = grind (arith, common_steps)
 
 pub index-requires : goal.index-requires
 index-requires c = grind (arith, common_steps)
-
