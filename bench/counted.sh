@@ -5,7 +5,7 @@
 # the same with a million). Wants ./htn, as examples/transport/run leaves it, and valgrind. A line each: the instructions.
 #
 # Counted, in the order of the cases, millions: 19.1, 81.7, 748.0, 412.9, 329.7, 283.6, 215.5. Before words were found by a hash of all
-# their bytes, and types wrote how they are dropped (the 500 methods take more by one of these): 20.9, 114.8, 779.4, 419.5, 305.5, 283.1,
+# their bytes, and types wrote how they are dropped: 20.9, 114.8, 779.4, 419.5, 305.5, 283.1,
 # 214.4. Before a name table was a list of words and
 # a map of their numbers, which hashes a word byte by byte and keeps it a second time, and where a word is found by ends of four bytes each:
 # 19.7, 85.8, 796.1, 434.1, 336.9, 279.0, 211.6. Before values kept their words in a list,

@@ -4,8 +4,8 @@
 # told, seconds, kilobytes of memory at most, bytes of the two texts.
 #
 # Measured with the provers of the machine stopped: at 65,536 slots 0.01 to 0.03 s in style adl (10 to 15 ms of processor time, counted by
-# another script, while words stood in their table; 15 to 24 before, and by its instructions, 115 millions, so again since a table hashes
-# byte by byte) and 0.03 to 0.07 in style flat; a text of 271,778,014 bytes
+# another script, while words stood in their table, with 76 million instructions; with 82, as it is now, 23 to 43 in a slow moment, in which
+# the loop of docs/ARCHITECTURE.md took 1.42 to 1.49 s) and 0.03 to 0.07 in style flat; a text of 271,778,014 bytes
 # is refused at once, with 1,848 kilobytes: its length is worked out from those with one slot, two and ten; before, after 0.23 s.
 set -euo pipefail
 top=$(cd "$(dirname "$0")/.." && pwd)
