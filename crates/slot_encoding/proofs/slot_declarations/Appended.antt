@@ -1,16 +1,11 @@
 -- Lists put behind one another.
-use Rattle.std.proofs.Common.{ℕ, ◌≡◌, ◌+◌, ◌<◌, List, [], ◌∷◌, ◌++◌, map, take, length, get_or, Result, IfOk, IsOkAnd, OnOk, refl, ap, sym, ◌∙◌, append_assoc}
+use Rattle.std.proofs.Common.{ℕ, ◌≡◌, ◌+◌, ◌<◌, List, [], ◌∷◌, ◌++◌, map, take, length, get_or, Result, IfOk, IsOkAnd, refl, ap, sym, ◌∙◌, append_assoc}
 use Rattle.std.proofs.lemmas.List.{map_more}
-use Rattle.std.proofs.lemmas.Result.{on_ok_weaker}
 use Rattle.order_encoder.proofs.NextSlot.{put_is}
 
 module _ {A : Type 0} where
   pub append_two : (o m n a b : List A) → m ≡ o ++ a → n ≡ m ++ b → n ≡ o ++ (a ++ b)
   append_two o m n a b g h = h ∙ ap (λ z. z ++ b) g ∙ append_assoc o a b
-
-  -- two parts of a list, where the call that puts the second one succeeds
-  pub ok_two : {T E : Type 0} (r : Result T E) (o m n a b all : List A) → a ++ b ≡ all → m ≡ o ++ a → OnOk r (n ≡ m ++ b) → OnOk r (n ≡ o ++ all)
-  ok_two r o m n a b all e g h = on_ok_weaker {P = n ≡ m ++ b} {Q = n ≡ o ++ all} r (λ k. append_two o m n a b g k ∙ ap (λ z. o ++ z) e) h
 
 -- behind old, now has the first i items, and new has the next one's too
 pub map_next : {X Y : Type 0} (f : X → Y) (xs : List X) (i : ℕ) (d : X) (old now new : List Y) (y : Y)

@@ -2,7 +2,7 @@ ghost use Rattle.std.specs.Prelude.{◌≡◌, ◌<◌, ◌+◌, ◌^◌, ◌∷
 ghost use Rattle.slot_encoding.specs.EncodedNames as names;
 ghost use Rattle.order_encoder.specs.OrderNames as orders;
 ghost use Rattle.slot_encoding.specs.slot_declarations.Frames.{HasSourceWords, IsBasis, AreChecks, AreNumbers};
-ghost use Rattle.slot_encoding.specs.slot_declarations.Pieces.{checked, if_checked};
+ghost use Rattle.slot_encoding.specs.slot_declarations.Pieces.{if_checked};
 
 use crate::slot_declarations::guards::guard_types;
 use crate::slot_declarations::numbers::{Numbers, numbers_of, plus};
@@ -58,48 +58,13 @@ pub fn basis_of(
     ensures { IfOk result (IsBasis c.now printed.now slots) }
 {
     let checks = checks_of(alloc, c.methods.as_slice())?;
-    match numbering_of(alloc, c, printed, slots, checks.methods.len()) {
-        Ok(numbering) => Ok(Basis {
-            numbers: numbering.numbers,
-            order: numbering.order,
-            guard_types: numbering.guard_types,
-            checks,
-        }),
-        Err(memory) => {
-            drop(checks);
-            Err(memory)
-        }
-    }
-}
-
-/// What is worked out once but the checks.
-#[derive(Drop)]
-struct Numbering {
-    numbers: Numbers,
-    order: OrderNames,
-    guard_types: List<u32>,
-}
-
-fn numbering_of(
-    alloc: Global,
-    c: &Compiled,
-    printed: &NameTable,
-    slots: u32,
-    checks: usize,
-) -> Result<Numbering, Memory>
-    requires { checks ≡ length (checked c.now.methods) }
-    ensures numbers { IfOk result (λ n. AreNumbers c.now n.numbers) }
-    ensures order { IfOk result (λ n.
-        orders.numbers n.order ≡ names.order_numbers c.now printed.now 0) }
-    ensures room { IfOk result (λ n. n.order.first_slot + slots < 2 ^ 32) }
-    ensures guard_types { IfOk result (λ n. n.guard_types ≡ names.guard_types c.now) }
-{
-    let numbers = numbers_of(c, checks)?;
+    let numbers = numbers_of(c, checks.methods.len())?;
     let order = order_of(c, printed, numbers.before, slots)?;
-    Ok(Numbering {
+    Ok(Basis {
         numbers,
         order,
         guard_types: guard_types(alloc, c)?,
+        checks,
     })
 }
 

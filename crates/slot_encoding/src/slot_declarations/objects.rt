@@ -55,19 +55,13 @@ fn push_slots(
         let expected = Name {
             number: first.saturating_add(k),
         };
-        into.put(slot(alloc, frame, 1 + k, expected))?;
+        into.push(Object {
+            name: name_of_slot(alloc, frame, 1 + k, expected)?,
+            ty: 1,
+            constant: true,
+        })?;
     }
     Ok(())
-}
-
-fn slot(alloc: Global, frame: &Frame<'_>, k: u32, expected: Name) -> Result<Object, Memory>
-    ensures { IfOk result (λ o. o ≡ made.slot frame.now k) }
-{
-    Ok(Object {
-        name: name_of_slot(alloc, frame, k, expected)?,
-        ty: 1,
-        constant: true,
-    })
 }
 
 /// The name of a slot's word. The words of slots are put into a table one behind another: where the expected name is that of

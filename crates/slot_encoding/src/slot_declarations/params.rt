@@ -9,16 +9,6 @@ use htn_base::{List, Memory};
 use plan_model::Param;
 use std::alloc::Global;
 
-fn source_param(frame: &Frame<'_>, param: &Param) -> Result<Param, Memory>
-    requires { IsFrame frame.now }
-    ensures { IfOk result (λ p. p ≡ made.param frame.now param.now) }
-{
-    Ok(Param {
-        name: renamed(frame, param.name),
-        ty: retyped(param.ty)?,
-    })
-}
-
 /// These variables of the source as they stand in the printed problem.
 pub fn source_params(
     alloc: Global,
@@ -43,7 +33,10 @@ pub fn push_params(
     ensures { OnOk result (into.new ≡ into.old ++ map (made.param frame.now) params.now) }
 {
     for param in params {
-        into.put(source_param(frame, param))?;
+        into.push(Param {
+            name: renamed(frame, param.name),
+            ty: retyped(param.ty)?,
+        })?;
     }
     Ok(())
 }

@@ -21,20 +21,9 @@ pub(crate) fn encoded_predicates(
     ensures { IfOk result (λ ps. ps ≡ made.predicates frame.now) }
 {
     let mut into = List::new(alloc);
-    push_predicates(alloc, frame, &mut into)?;
+    push_front(alloc, frame, &mut into)?;
+    push_works(alloc, frame, &mut into)?;
     Ok(into)
-}
-
-fn push_predicates(
-    alloc: Global,
-    frame: &Frame<'_>,
-    into: &mut List<Predicate>,
-) -> Result<(), Memory>
-    requires { IsFrame frame.now }
-    ensures { OnOk result (into.new ≡ into.old ++ made.predicates frame.now) }
-{
-    push_front(alloc, frame, into)?;
-    push_works(alloc, frame, into)
 }
 
 /// Puts the source's predicates at the end, those of the slots and those of the tasks.
@@ -69,19 +58,12 @@ fn push_source(
     ensures { OnOk result (into.new ≡ into.old ++ map (made.predicate frame.now) predicates.now) }
 {
     for predicate in predicates {
-        into.put(source(alloc, frame, predicate))?;
+        into.push(Predicate {
+            name: renamed(frame, predicate.name),
+            params: source_params(alloc, frame, predicate.params.as_slice())?,
+        })?;
     }
     Ok(())
-}
-
-fn source(alloc: Global, frame: &Frame<'_>, predicate: &Predicate) -> Result<Predicate, Memory>
-    requires { IsFrame frame.now }
-    ensures { IfOk result (λ p. p ≡ made.predicate frame.now predicate.now) }
-{
-    Ok(Predicate {
-        name: renamed(frame, predicate.name),
-        params: source_params(alloc, frame, predicate.params.as_slice())?,
-    })
 }
 
 fn push_generated(
@@ -228,19 +210,13 @@ fn push_guards(
     ensures { OnOk result (into.new ≡ into.old ++ map (made.guard_tested frame.now) types.now) }
 {
     for ty in types {
-        into.put(guard(alloc, frame, *ty))?;
+        let name = guard_name(alloc, frame, *ty)?;
+        let mut params = List::new(alloc);
+        params.push(Param {
+            name: named(frame, b"htn_a1"),
+            ty: 2,
+        })?;
+        into.push(Predicate { name, params })?;
     }
     Ok(())
-}
-
-fn guard(alloc: Global, frame: &Frame<'_>, ty: u32) -> Result<Predicate, Memory>
-    ensures { IfOk result (λ p. p ≡ made.guard_tested frame.now ty) }
-{
-    let name = guard_name(alloc, frame, ty)?;
-    let mut params = List::new(alloc);
-    params.push(Param {
-        name: named(frame, b"htn_a1"),
-        ty: 2,
-    })?;
-    Ok(Predicate { name, params })
 }

@@ -70,20 +70,13 @@ fn parents(alloc: Global, pairs: &[Parent]) -> Result<List<Parent>, Memory>
         child: 2,
         parent: 0,
     })?;
-    push_parents(pairs, &mut into)?;
-    Ok(into)
-}
-
-fn push_parents(pairs: &[Parent], into: &mut List<Parent>) -> Result<(), Memory>
-    ensures { OnOk result (into.new ≡ into.old ++ map printed_parent pairs.now) }
-{
     for pair in pairs {
         into.push(Parent {
             child: retyped(pair.child)?,
             parent: retyped(pair.parent)?,
         })?;
     }
-    Ok(())
+    Ok(into)
 }
 
 fn unions(alloc: Global, unions: &[List<u32>]) -> Result<List<List<u32>>, Memory>
