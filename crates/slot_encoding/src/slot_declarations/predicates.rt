@@ -1,5 +1,4 @@
 ghost use Rattle.std.specs.Prelude.{◌≡◌, ◌++◌, map, IfOk, OnOk};
-ghost use Rattle.plan_model.specs.task_networks.Spelling.{numbers};
 ghost use Rattle.slot_encoding.specs.EncodedNames as spec;
 ghost use Rattle.slot_encoding.specs.slot_declarations.Frames.{IsFrame};
 ghost use Rattle.slot_encoding.specs.slot_declarations.Made as made;
@@ -180,25 +179,13 @@ fn held(
     let count = number(count)?;
     let mut params = List::new(alloc);
     params.push(slot_param(named(frame, b"htn_h")))?;
-    push_arguments(alloc, frame, count, &mut params)?;
-    Ok(Predicate { name, params })
-}
-
-fn push_arguments(
-    alloc: Global,
-    frame: &Frame<'_>,
-    count: u32,
-    into: &mut List<Param>,
-) -> Result<(), Memory>
-    ensures { OnOk result (into.new ≡ into.old ++ map (made.argument frame.now) (numbers 1 count)) }
-{
     for k in 0..count {
-        into.push(Param {
+        params.push(Param {
             name: numbered(alloc, frame, b"htn_a", 1 + k)?,
             ty: 2,
         })?;
     }
-    Ok(())
+    Ok(Predicate { name, params })
 }
 
 fn push_guards(
