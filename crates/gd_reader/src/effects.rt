@@ -2,7 +2,7 @@ ghost use Rattle.htn_base.specs.Words.{folded};
 ghost use Rattle.text_forms.specs.Placed.{parts_at};
 ghost use Rattle.gd_reader.specs.Added.{AddsOf, AddsWordOf, bare};
 ghost use Rattle.gd_reader.specs.Answers.{GivesWith};
-ghost use Rattle.gd_reader.specs.Effects.{effect_inside, effects, one_effect, guarded, bound_effect, deleted, effect_headed};
+ghost use Rattle.gd_reader.specs.Effects.{effect_inside, effects, one_effect, guarded, bound_effect, deleted, effect_headed, anded, for_all, when, delete};
 ghost use Rattle.gd_reader.specs.Terms.{Keeps};
 ghost use Rattle.gd_reader.specs.Words.{effect_head_of};
 
@@ -75,22 +75,10 @@ fn effect_headed_of(
         (parts_at s.now i)) }
 {
     match effect_head_of(word) {
-        EffectHead::And => {
-            let parts = effects_of(alloc, s, i, names)?;
-            Ok(RawEffect::And(parts))
-        }
-        EffectHead::Forall => {
-            let (vars, part) = bound_effect_of(alloc, s, i, names)?;
-            Ok(RawEffect::Forall(vars, part))
-        }
-        EffectHead::When => {
-            let (condition, part) = guarded_of(alloc, s, i, names)?;
-            Ok(RawEffect::When(condition, part))
-        }
-        EffectHead::Not => {
-            let atom = deleted_of(alloc, s, i, names)?;
-            Ok(RawEffect::Delete(atom))
-        }
+        EffectHead::And => effects_of(alloc, s, i, names),
+        EffectHead::Forall => bound_effect_of(alloc, s, i, names),
+        EffectHead::When => guarded_of(alloc, s, i, names),
+        EffectHead::Not => deleted_of(alloc, s, i, names),
         EffectHead::Increase => {
             pass(s, i)?;
             Ok(RawEffect::And(List::new(alloc)))
@@ -103,7 +91,7 @@ fn effect_headed_of(
     }
 }
 
-// Effects up to the end of their list.
+// The conjunction of the effects up to the end of their list.
 #[cycle(effect)]
 #[tactic(auto, using(crate::proofs::Keeping::keeps_same, crate::proofs::Keeping::keeps_then))]
 fn effects_of(
@@ -111,10 +99,10 @@ fn effects_of(
     s: &Sexprs<'_>,
     mut i: u32,
     names: &mut NameTable,
-) -> Result<List<RawEffect>, Failure>
+) -> Result<RawEffect, Failure>
     ensures keeps { Keeps names.old names.new }
     ensures adds { AddsOf s.now names.old names.new }
-    ensures gives { GivesWith names.new result (effects names.old (parts_at s.now i)) }
+    ensures gives { GivesWith names.new result (anded (effects names.old (parts_at s.now i))) }
 {
     let mut parts = List::new(alloc);
     while let Some((inside, behind)) = list_or_end(s, i)? {
@@ -122,7 +110,7 @@ fn effects_of(
         parts.push(part)?;
         i = behind;
     }
-    Ok(parts)
+    Ok(RawEffect::And(parts))
 }
 
 // An effect, and the end of its list.
@@ -144,7 +132,7 @@ fn one_effect_of(
     Ok(part)
 }
 
-// A formula, an effect, and the end of their list.
+// The effect under a condition: a formula, an effect, and the end of their list.
 #[cycle(effect)]
 #[tactic(auto, using(crate::proofs::Keeping::keeps_same, crate::proofs::Keeping::keeps_then, crate::proofs::EffectSteps::guarded_is))]
 fn guarded_of(
@@ -152,18 +140,18 @@ fn guarded_of(
     s: &Sexprs<'_>,
     i: u32,
     names: &mut NameTable,
-) -> Result<(RawFormula, Boxed<RawEffect>), Failure>
+) -> Result<RawEffect, Failure>
     ensures keeps { Keeps names.old names.new }
     ensures adds { AddsOf s.now names.old names.new }
-    ensures gives { GivesWith names.new result (guarded names.old (parts_at s.now i)) }
+    ensures gives { GivesWith names.new result (when (guarded names.old (parts_at s.now i))) }
 {
     let (inside, behind) = list_due(s, i)?;
     let condition = inside_of(alloc, s, inside, names)?;
     let part = one_effect_of(alloc, s, behind, names)?;
-    Ok((condition, part))
+    Ok(RawEffect::When(condition, part))
 }
 
-// A list of variables, an effect, and the end of their list.
+// The effect for all values of variables: their list, an effect, and the end of the list of both.
 #[cycle(effect)]
 #[tactic(auto, using(crate::proofs::Keeping::keeps_same, crate::proofs::Keeping::keeps_then, crate::proofs::EffectSteps::bound_effect_is))]
 fn bound_effect_of(
@@ -171,31 +159,32 @@ fn bound_effect_of(
     s: &Sexprs<'_>,
     i: u32,
     names: &mut NameTable,
-) -> Result<(RawParams, Boxed<RawEffect>), Failure>
+) -> Result<RawEffect, Failure>
     ensures keeps { Keeps names.old names.new }
     ensures adds { AddsOf s.now names.old names.new }
-    ensures gives { GivesWith names.new result (bound_effect names.old (parts_at s.now i)) }
+    ensures gives { GivesWith names.new result
+        (for_all (bound_effect names.old (parts_at s.now i))) }
 {
     let (inside, behind) = list_due(s, i)?;
     let (vars, _) = params_of(alloc, s, inside, ListKind::Parameters, names)?;
     let part = one_effect_of(alloc, s, behind, names)?;
-    Ok((vars, part))
+    Ok(RawEffect::Forall(vars, part))
 }
 
-// An atom in its parentheses, and the end of the list in which it stands.
+// The deletion of an atom: it in its parentheses, and the end of the list in which it stands.
 #[tactic(auto, using(crate::proofs::Keeping::keeps_same, crate::proofs::Keeping::keeps_then, crate::proofs::EffectSteps::deleted_is))]
 fn deleted_of(
     alloc: Global,
     s: &Sexprs<'_>,
     i: u32,
     names: &mut NameTable,
-) -> Result<RawAtom, Failure>
+) -> Result<RawEffect, Failure>
     ensures keeps { Keeps names.old names.new }
     ensures adds { AddsOf s.now names.old names.new }
-    ensures gives { GivesWith names.new result (deleted names.old (parts_at s.now i)) }
+    ensures gives { GivesWith names.new result (delete (deleted names.old (parts_at s.now i))) }
 {
     let (inside, behind) = list_due(s, i)?;
     let atom = applied_of(alloc, s, inside, names)?;
     end_due(s, behind)?;
-    Ok(atom)
+    Ok(RawEffect::Delete(atom))
 }

@@ -2,7 +2,7 @@ ghost use Rattle.htn_base.specs.Words.{folded};
 ghost use Rattle.text_forms.specs.Placed.{parts_at};
 ghost use Rattle.gd_reader.specs.Added.{AddsOf, AddsWordOf, bare};
 ghost use Rattle.gd_reader.specs.Answers.{GivesWith};
-ghost use Rattle.gd_reader.specs.Formulas.{inside, formulas, one, two, bound, headed};
+ghost use Rattle.gd_reader.specs.Formulas.{inside, formulas, one, two, bound, headed, implies};
 ghost use Rattle.gd_reader.specs.Terms.{Keeps};
 ghost use Rattle.gd_reader.specs.Words.{head_of};
 
@@ -91,10 +91,7 @@ fn headed_of(
             let part = one_of(alloc, s, i, names)?;
             Ok(RawFormula::Not(part))
         }
-        Head::Imply => {
-            let (first, second) = two_of(alloc, s, i, names)?;
-            Ok(RawFormula::Imply(first, second))
-        }
+        Head::Imply => two_of(alloc, s, i, names),
         Head::Equal => {
             let (left, right) = two_terms_of(s, i, names)?;
             Ok(RawFormula::Equal(left, right))
@@ -156,7 +153,7 @@ fn one_of(
     Ok(part)
 }
 
-// Two formulas, and the end of their list.
+// The implication of two formulas, and the end of their list.
 #[cycle(formula)]
 #[tactic(auto, using(crate::proofs::Keeping::keeps_same, crate::proofs::Keeping::keeps_then, crate::proofs::Steps::two_is))]
 fn two_of(
@@ -164,15 +161,15 @@ fn two_of(
     s: &Sexprs<'_>,
     i: u32,
     names: &mut NameTable,
-) -> Result<(Boxed<RawFormula>, Boxed<RawFormula>), Failure>
+) -> Result<RawFormula, Failure>
     ensures keeps { Keeps names.old names.new }
     ensures adds { AddsOf s.now names.old names.new }
-    ensures gives { GivesWith names.new result (two names.old (parts_at s.now i)) }
+    ensures gives { GivesWith names.new result (implies (two names.old (parts_at s.now i))) }
 {
     let (inside, behind) = list_due(s, i)?;
     let first = Boxed::new(alloc, inside_of(alloc, s, inside, names)?)?;
     let second = one_of(alloc, s, behind, names)?;
-    Ok((first, second))
+    Ok(RawFormula::Imply(first, second))
 }
 
 // A list of variables, a formula, and the end of their list.

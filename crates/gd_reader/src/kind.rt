@@ -1,13 +1,12 @@
 ghost use Rattle.std.specs.Prelude.{◌≡◌, ◌<◌, ◌≤◌, ◌++◌, [], ◌∷◌, IfOk, OnOk};
-ghost use Rattle.htn_base.specs.Table.{with_word};
 ghost use Rattle.htn_base.specs.Words.{folded};
 ghost use Rattle.text_forms.specs.Placed.{parts_at};
 ghost use Rattle.text_forms.specs.Tokens.{token_count};
-ghost use Rattle.gd_reader.specs.Added.{AddsOf, AddsWord, bare};
+ghost use Rattle.gd_reader.specs.Added.{AddsOf};
 ghost use Rattle.gd_reader.specs.Answers.{Gives, GivesWith, with_front};
 ghost use Rattle.gd_reader.specs.Ends.{end_of};
 ghost use Rattle.gd_reader.specs.Terms.{Keeps};
-ghost use Rattle.gd_reader.specs.TypedLists.{type_due, more_names, some_names, union, union_due, kind_due, are_variables, are_types, unless};
+ghost use Rattle.gd_reader.specs.TypedLists.{more_names, some_names, union_due, kind_due, are_variables, are_types, unless};
 
 use crate::cursor::{Item, item_at, word_due, word_or_end};
 use crate::stop::{Failure, Stop};
@@ -33,40 +32,6 @@ fn alone(alloc: Global, term: RawTerm) -> Result<List<RawTerm>, Memory>
     let mut terms = List::new(alloc);
     terms.push(term)?;
     Ok(terms)
-}
-
-// A type of one word.
-#[tactic(auto, unfolding(crate::specs::TypedLists::type_by), using(crate::proofs::Adding::bare_name, crate::proofs::Keeping::keeps_same, crate::proofs::Keeping::keeps_then))]
-fn type_of(
-    alloc: Global,
-    kind: ListKind,
-    names: &mut NameTable,
-    at: u32,
-    word: &[u8],
-) -> Result<List<RawTerm>, Failure>
-    ensures keeps { Keeps names.old names.new }
-    ensures adds { AddsWord (bare (folded word.now)) names.old names.new }
-    ensures gives { GivesWith names.new result (type_due kind names.old at (folded word.now)) }
-{
-    match sort_of(word) {
-        Sort::Name => {
-            let name = name_of(names, word)?;
-            let term = RawTerm {
-                name,
-                variable: false,
-                at,
-            };
-            Ok(alone(alloc, term)?)
-        }
-        Sort::Variable => Err(Failure::At(Stop::Departs(8, at))),
-        Sort::Other => {
-            if are_types(kind) && is_reserved_in_any_case(word) {
-                Err(Failure::At(Stop::Departs(9, at)))
-            } else {
-                Err(Failure::At(Stop::Departs(8, at)))
-            }
-        }
-    }
 }
 
 // Puts a type to the others, unless it is known.
@@ -99,26 +64,6 @@ fn add_names_of(
     Ok(())
 }
 
-// Puts the names of a union behind its first one to the others.
-#[tactic(auto, using(crate::proofs::Keeping::keeps_same))]
-fn more_names_of(
-    alloc: Global,
-    first: &[u8],
-    types: &mut List<RawTerm>,
-    s: &Sexprs<'_>,
-    i: u32,
-    names: &mut NameTable,
-) -> Result<(), Failure>
-    ensures keeps { Keeps names.old names.new }
-    ensures adds { AddsOf s.now names.old names.new }
-    ensures gives { Gives (λ _. (types.new, names.new)) result
-        (with_front types.old (more_names (names.old, with_word [] (folded first.now)) (parts_at s.now i))) }
-{
-    let mut seen = NameTable::new(alloc);
-    see(&mut seen, first)?;
-    add_names_of(types, &mut seen, s, i, names)
-}
-
 // The names of a union, one or more.
 #[tactic(auto, using(crate::proofs::Keeping::keeps_same, crate::proofs::Keeping::keeps_then, crate::proofs::Steps::some_names_is))]
 fn some_names_of(
@@ -134,32 +79,14 @@ fn some_names_of(
     let (at, word, i) = word_due(s, i)?;
     let first = used_of(names, at, word)?;
     let mut types = alone(alloc, first)?;
-    more_names_of(alloc, word, &mut types, s, i, names)?;
+    let mut seen = NameTable::new(alloc);
+    see(&mut seen, word)?;
+    add_names_of(&mut types, &mut seen, s, i, names)?;
     Ok(types)
 }
 
-// What stands in the parentheses of a union.
+// A union, where it may stand, as what stands in its parentheses.
 #[tactic(auto, using(crate::proofs::Keeping::keeps_same, crate::proofs::Keeping::keeps_then, crate::proofs::Steps::union_is))]
-fn union_of(
-    alloc: Global,
-    s: &Sexprs<'_>,
-    i: u32,
-    names: &mut NameTable,
-) -> Result<List<RawTerm>, Failure>
-    ensures keeps { Keeps names.old names.new }
-    ensures adds { AddsOf s.now names.old names.new }
-    ensures gives { GivesWith names.new result (union names.old (parts_at s.now i)) }
-{
-    let (at, word, i) = word_due(s, i)?;
-    if is_either(word) {
-        some_names_of(alloc, s, i, names)
-    } else {
-        Err(Failure::At(Stop::Departs(8, at)))
-    }
-}
-
-// A union, where it may stand.
-#[tactic(auto, using(crate::proofs::Keeping::keeps_same))]
 fn union_due_of(
     alloc: Global,
     s: &Sexprs<'_>,
@@ -172,15 +99,19 @@ fn union_due_of(
     ensures adds { AddsOf s.now names.old names.new }
     ensures gives { GivesWith names.new result (union_due kind names.old at (parts_at s.now i)) }
 {
-    if are_variables(kind) {
-        union_of(alloc, s, i, names)
+    if !are_variables(kind) {
+        return Err(Failure::At(Stop::Departs(8, at)));
+    }
+    let (at, word, i) = word_due(s, i)?;
+    if is_either(word) {
+        some_names_of(alloc, s, i, names)
     } else {
         Err(Failure::At(Stop::Departs(8, at)))
     }
 }
 
 /// The type at token `i`, and the number of the token behind it.
-#[tactic(auto, unfolding(crate::specs::TypedLists::kind_due), using(crate::proofs::Keeping::keeps_same))]
+#[tactic(auto, unfolding(crate::specs::TypedLists::kind_due, crate::specs::TypedLists::type_by), using(crate::proofs::Adding::bare_name, crate::proofs::Keeping::keeps_same))]
 pub fn kind_of(
     alloc: Global,
     s: &Sexprs<'_>,
@@ -198,10 +129,21 @@ pub fn kind_of(
     match item_at(s, i) {
         Item::End => Err(Failure::At(Stop::Ends)),
         Item::Close(at) => Err(Failure::At(Stop::Departs(8, at))),
-        Item::Word(at, word) => {
-            let ty = type_of(alloc, kind, names, at, word)?;
-            Ok((ty, i + 1))
-        }
+        Item::Word(at, word) => match sort_of(word) {
+            Sort::Name => {
+                let name = name_of(names, word)?;
+                let term = RawTerm {
+                    name,
+                    variable: false,
+                    at,
+                };
+                Ok((alone(alloc, term)?, i + 1))
+            }
+            Sort::Other if are_types(kind) && is_reserved_in_any_case(word) => {
+                Err(Failure::At(Stop::Departs(9, at)))
+            }
+            Sort::Variable | Sort::Other => Err(Failure::At(Stop::Departs(8, at))),
+        },
         Item::List(at, inside, behind) => {
             let ty = union_due_of(alloc, s, at, inside, kind, names)?;
             Ok((ty, behind))

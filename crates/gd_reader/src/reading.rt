@@ -28,48 +28,6 @@ pub struct Got<T> {
     pub next: u32,
 }
 
-// A formula in its parentheses.
-#[tactic(auto, unfolding(crate::specs::Formulas::formula_read), using(crate::proofs::Keeping::keeps_same, crate::proofs::Keeping::keeps_then))]
-fn formula_of(
-    alloc: Global,
-    s: &Sexprs<'_>,
-    at: u32,
-    names: &mut NameTable,
-) -> Result<Got<RawFormula>, Failure>
-    requires token { at < token_count s.now }
-    ensures keeps { Keeps names.old names.new }
-    ensures adds { AddsOf s.now names.old names.new }
-    ensures gives { Gives (λ got. (got.value, names.new)) result
-        (formula_read names.old (parts_at s.now at)) }
-    ensures next { IfOk result (λ got. EndsAt s.now at got.next) }
-    ensures goes_on { IfErr result (λ e. e ≡ Failure.At Stop.Ends → ⊥) }
-{
-    let (inside, next) = list_due(s, at)?;
-    let value = inside_of(alloc, s, inside, names)?;
-    Ok(Got { value, next })
-}
-
-// An effect in its parentheses.
-#[tactic(auto, unfolding(crate::specs::Effects::effect_read), using(crate::proofs::Keeping::keeps_same, crate::proofs::Keeping::keeps_then))]
-fn effect_of(
-    alloc: Global,
-    s: &Sexprs<'_>,
-    at: u32,
-    names: &mut NameTable,
-) -> Result<Got<RawEffect>, Failure>
-    requires token { at < token_count s.now }
-    ensures keeps { Keeps names.old names.new }
-    ensures adds { AddsOf s.now names.old names.new }
-    ensures gives { Gives (λ got. (got.value, names.new)) result
-        (effect_read names.old (parts_at s.now at)) }
-    ensures next { IfOk result (λ got. EndsAt s.now at got.next) }
-    ensures goes_on { IfErr result (λ e. e ≡ Failure.At Stop.Ends → ⊥) }
-{
-    let (inside, next) = list_due(s, at)?;
-    let value = effect_inside_of(alloc, s, inside, names)?;
-    Ok(Got { value, next })
-}
-
 /// The fault of a failure, in the text with so many bytes. Up to the end of a list the tokens never end too early.
 pub fn refusal(failure: Failure, file: u8, end: u32) -> ReadError
     ensures refusal { result ≡ refusal file end failure }
@@ -102,8 +60,12 @@ pub fn formula(
     ensures keeps { Keeps names.old names.new }
     ensures adds { AddsOf s.now names.old names.new }
 {
-    match formula_of(alloc, s, at, names) {
-        Ok(got) => Ok(got),
+    let (inside, next) = match list_due(s, at) {
+        Ok(found) => found,
+        Err(failure) => return Err(refusal(failure, file, s.text_len())),
+    };
+    match inside_of(alloc, s, inside, names) {
+        Ok(value) => Ok(Got { value, next }),
         Err(failure) => Err(refusal(failure, file, s.text_len())),
     }
 }
@@ -124,8 +86,12 @@ pub fn effect(
     ensures keeps { Keeps names.old names.new }
     ensures adds { AddsOf s.now names.old names.new }
 {
-    match effect_of(alloc, s, at, names) {
-        Ok(got) => Ok(got),
+    let (inside, next) = match list_due(s, at) {
+        Ok(found) => found,
+        Err(failure) => return Err(refusal(failure, file, s.text_len())),
+    };
+    match effect_inside_of(alloc, s, inside, names) {
+        Ok(value) => Ok(Got { value, next }),
         Err(failure) => Err(refusal(failure, file, s.text_len())),
     }
 }

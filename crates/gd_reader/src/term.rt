@@ -49,21 +49,6 @@ pub fn name_of(names: &mut NameTable, word: &[u8]) -> Result<Name, Failure>
     }
 }
 
-/// As `name_of`. A word that the marks know is found without a search.
-#[tactic(auto, using(crate::proofs::Keeping::keeps_same, crate::proofs::Keeping::keeps_word, crate::proofs::Keeping::name_found, crate::proofs::Adding::adds_word))]
-fn marked_name_of(names: &mut NameTable, word: &[u8], marks: &mut Marks) -> Result<Name, Failure>
-    ensures name { IfOk result (λ n. n ≡ name_in names.old (folded word.now)) }
-    ensures table { OnOk result (names.new ≡ with_word names.old (folded word.now)) }
-    ensures memory { IfErr result (λ e. e ≡ Failure.Memory) }
-    ensures keeps { Keeps names.old names.new }
-    ensures adds { AddsWord (folded word.now) names.old names.new }
-{
-    match names.intern_marked(word, marks) {
-        Ok(name) => Ok(name),
-        Err(_) => Err(Failure::Memory),
-    }
-}
-
 /// Puts a word among those that were seen, and tells whether it was there.
 #[tactic(auto, using(crate::proofs::Keeping::among_test))]
 pub fn see(seen: &mut NameTable, word: &[u8]) -> Result<bool, Failure>
@@ -125,7 +110,7 @@ pub fn used_of(names: &mut NameTable, at: u32, word: &[u8]) -> Result<RawTerm, F
 }
 
 /// As `used_of`. A name that the marks know is found without a search.
-#[tactic(auto, unfolding(crate::specs::Terms::used), using(crate::proofs::Adding::bare_name, crate::proofs::Keeping::keeps_same))]
+#[tactic(auto, unfolding(crate::specs::Terms::used), using(crate::proofs::Adding::bare_name, crate::proofs::Adding::adds_word, crate::proofs::Keeping::keeps_same, crate::proofs::Keeping::keeps_word, crate::proofs::Keeping::name_found))]
 pub fn marked_used_of(
     names: &mut NameTable,
     at: u32,
@@ -138,7 +123,7 @@ pub fn marked_used_of(
 {
     match sort_of(word) {
         Sort::Name => {
-            let name = marked_name_of(names, word, marks)?;
+            let name = names.intern_marked(word, marks)?;
             Ok(RawTerm {
                 name,
                 variable: false,

@@ -1,4 +1,4 @@
-ghost use Rattle.std.specs.Prelude.{◌≡◌, ◌<◌, ◌≤◌, IfOk, OnOk};
+ghost use Rattle.std.specs.Prelude.{◌≡◌, ◌<◌, ◌≤◌, IfOk};
 ghost use Rattle.htn_base.specs.Words.{folded};
 ghost use Rattle.text_forms.specs.Placed.{parts_at};
 ghost use Rattle.text_forms.specs.Tokens.{token_count};
@@ -6,8 +6,8 @@ ghost use Rattle.gd_reader.specs.Added.{AddsOf, AddsWord, bare};
 ghost use Rattle.gd_reader.specs.Answers.{Gives, GivesWith};
 ghost use Rattle.gd_reader.specs.Ends.{end_of};
 ghost use Rattle.gd_reader.specs.Terms.{Keeps};
-ghost use Rattle.gd_reader.specs.Listing.{empty, settled, whole, with_next, with_kind, continued};
-ghost use Rattle.gd_reader.specs.TypedLists.{declares, variable_by, param_due, listed, hyphen_due, is_parameters, are_variables};
+ghost use Rattle.gd_reader.specs.Listing.{empty, whole, with_next, with_kind, continued};
+ghost use Rattle.gd_reader.specs.TypedLists.{variable_by, param_due, listed, hyphen_due, is_parameters, are_variables};
 
 use crate::kind::kind_of;
 use crate::positions::{WordOrEnd, word_or_end_from};
@@ -68,27 +68,6 @@ pub fn are_variables(kind: ListKind) -> bool
     }
 }
 
-#[tactic(auto, using(crate::proofs::Keeping::keeps_same, crate::proofs::Keeping::keeps_then))]
-fn declare(
-    names: &mut NameTable,
-    seen: &mut NameTable,
-    at: u32,
-    word: &[u8],
-) -> Result<RawParam, Failure>
-    ensures keeps { Keeps names.old names.new }
-    ensures adds { AddsWord (folded word.now) names.old names.new }
-    ensures gives { GivesWith (names.new, seen.new) result
-        (declares (names.old, seen.old) at (folded word.now)) }
-{
-    let name = name_of(names, word)?;
-    see(seen, word)?;
-    Ok(RawParam {
-        name,
-        ty: RawTypes::none(),
-        at,
-    })
-}
-
 // A variable by its name. Where each is to be a new one, a repeat departs.
 #[tactic(auto, unfolding(crate::specs::TypedLists::variable_by), using(crate::proofs::Keeping::keeps_same, crate::proofs::Keeping::keeps_then))]
 fn variable_of(
@@ -132,30 +111,22 @@ fn param_of(
     ensures gives { GivesWith (names.new, seen.new) result
         (param_due kind (names.old, seen.old) at (folded word.now)) }
 {
-    let variables = are_variables(kind);
-    match sort_of(word) {
-        Sort::Variable => {
-            if variables {
-                variable_of(is_parameters(kind), names, seen, at, rest(word))
-            } else {
-                Err(Failure::At(Stop::Departs(8, at)))
-            }
+    match (sort_of(word), are_variables(kind)) {
+        (Sort::Variable, true) => variable_of(is_parameters(kind), names, seen, at, rest(word)),
+        (Sort::Name, false) => {
+            let name = name_of(names, word)?;
+            see(seen, word)?;
+            Ok(RawParam {
+                name,
+                ty: RawTypes::none(),
+                at,
+            })
         }
-        Sort::Name => {
-            if variables {
-                Err(Failure::At(Stop::Departs(8, at)))
-            } else {
-                declare(names, seen, at, word)
-            }
+        (Sort::Other, false) if is_reserved_in_any_case(word) => {
+            Err(Failure::At(Stop::Departs(9, at)))
         }
-        Sort::Other => {
-            if variables {
-                Err(Failure::At(Stop::Departs(8, at)))
-            } else if is_reserved_in_any_case(word) {
-                Err(Failure::At(Stop::Departs(9, at)))
-            } else {
-                Err(Failure::At(Stop::Departs(8, at)))
-            }
+        (Sort::Variable | Sort::Other, false) | (Sort::Name | Sort::Other, true) => {
+            Err(Failure::At(Stop::Departs(8, at)))
         }
     }
 }
@@ -170,11 +141,20 @@ fn is_hyphen_due(pending: &List<RawParam>, word: &[u8]) -> bool
 }
 
 // A list while it is read: the names that it has declared, its parts so far, and the words whose type is due.
-#[derive(Drop)]
 struct Listing {
     seen: NameTable,
     done: RawParams,
     pending: List<RawParam>,
+}
+
+impl Drop for Listing {
+    fn drop(self) {
+        let Listing {
+            seen: _,
+            done: _,
+            pending: _,
+        } = self;
+    }
 }
 
 impl Listing {
@@ -222,18 +202,11 @@ impl Listing {
         ensures closed { IfOk result (λ j. end_of (parts_at s.now j) ≡ end_of (parts_at s.now i)) }
     {
         let (ty, behind) = kind_of(alloc, s, i, kind, names)?;
-        self.settle(alloc, RawTypes::new(alloc, ty)?)?;
-        Ok(behind)
-    }
-
-    // Puts the words whose type is due behind the others, with these types.
-    fn settle(&mut self, alloc: Global, types: RawTypes) -> Result<(), Memory>
-        ensures { OnOk result (self.new ≡ settled self.old types) }
-    {
+        let types = RawTypes::new(alloc, ty)?;
         let done = mem::replace(&mut self.done, RawParams::new(alloc));
         self.done = done.with_words(&self.pending, types)?;
         self.pending = List::new(alloc);
-        Ok(())
+        Ok(behind)
     }
 
     // Puts what stands in the list from token `i` on to it. Returns the number of the token that closes it.
@@ -262,6 +235,18 @@ impl Listing {
         }
         Ok(p.token)
     }
+
+    // All words, where no type is written any more.
+    fn into_whole(self) -> Result<RawParams, Memory>
+        ensures { IfOk result (λ params. params ≡ whole self) }
+    {
+        let Listing {
+            seen: _,
+            done,
+            pending,
+        } = self;
+        done.with_words(&pending, RawTypes::none())
+    }
 }
 
 /// A typed list from token `i` up to its end, and the number of the token that closes it. Its words are read by positions,
@@ -281,6 +266,5 @@ pub fn params_of(
 {
     let mut listing = Listing::new(alloc);
     let end = listing.read(alloc, s, i, kind, names)?;
-    listing.settle(alloc, RawTypes::none())?;
-    Ok((listing.done, end))
+    Ok((listing.into_whole()?, end))
 }

@@ -1,27 +1,28 @@
-use Rattle.std.proofs.Common.{arith, sym, subst, ◌∙◌}
+use Rattle.std.proofs.Common.{Ok, ap, arith, sym, subst, ◌∙◌}
 use Rattle.std.proofs.lemmas.Result.{err_from_is_err_and}
 use Rattle.htn_base.specs.Words.{folded}
 use Rattle.text_forms.specs.Placed.{parts_at}
 use Rattle.gd_reader.specs.Added.{Has}
 use Rattle.gd_reader.specs.Answers.{list_or_end}
-use Rattle.gd_reader.specs.Effects.{effects, effect_headed}
+use Rattle.gd_reader.specs.declared.effects.RawEffect.TheVariants as raw
+use Rattle.gd_reader.specs.Effects.{effects, effect_headed, anded}
 use Rattle.gd_reader.proofs.EffectSteps.{effect_met, effects_is, bound_effect_is, effect_inside_is, guarded_is, one_effect_is}
 use Rattle.gd_reader.proofs.Adding.{bare_plain_effect}
 use Rattle.gd_reader.proofs.Keeping.{keeps_then, keeps_same}
-use Rattle.gd_reader.proofs.Steps.{pair_behind, all_end, all_stuck, all_stop, all_next, is_none}
+use Rattle.gd_reader.proofs.Steps.{pair_behind, fails_bind, all_end, all_stuck, all_stop, all_next, is_none}
 use Rattle.gd_reader.proofs.effects.+effect.Goals as goal
 
 pub effects_of-returns-in_err-inside-clause-gives : goal.effects_of-returns-in_err-inside-clause-gives
 effects_of-returns-in_err-inside-clause-gives t c =
     let p = err_from_is_err_and c.from_residual.result c.from_residual.ensures.1 in
-    rw (p.1, p.2) (all_stuck list_or_end pair_behind effect_met effects effects_is c.loop-parts.parts c.loop-parts.names (parts_at c.args.s.now c.loop-parts.i) (effects c.args.names.now (parts_at c.args.s.now c.args.i)) c.loop-parts.invariant.rest c.in_err-inside.field-0.0 c.in_err-inside.ensures.gives)
+    rw (p.1, p.2) (fails_bind c.in_err-inside.field-0.0 (effects c.args.names.now (parts_at c.args.s.now c.args.i)) (λ es. Ok (raw.And es.0, es.1)) (all_stuck list_or_end pair_behind effect_met effects effects_is c.loop-parts.parts c.loop-parts.names (parts_at c.args.s.now c.loop-parts.i) (effects c.args.names.now (parts_at c.args.s.now c.args.i)) c.loop-parts.invariant.rest c.in_err-inside.field-0.0 c.in_err-inside.ensures.gives))
 
 pub effects_of-returns-in_err-part-clause-gives : goal.effects_of-returns-in_err-part-clause-gives
 effects_of-returns-in_err-part-clause-gives t c =
     let p = err_from_is_err_and c.from_residual-in_err-part.result c.from_residual-in_err-part.ensures.1 in
     let is = c.in-Some.is in
     let gives = c.in_ok-inside.ensures.gives in
-    rw (p.1, p.2) (all_stop list_or_end pair_behind effect_met effects effects_is c.loop-parts.parts c.loop-parts.names (parts_at c.args.s.now c.loop-parts.i) (effects c.args.names.now (parts_at c.args.s.now c.args.i)) c.loop-parts.invariant.rest c.in_err-part.field-0.0 (parts_at c.args.s.now c.in-Some.inside, parts_at c.args.s.now c.in-Some.behind) (rw is at gives) c.in_err-part.ensures.gives)
+    rw (p.1, p.2) (fails_bind c.in_err-part.field-0.0 (effects c.args.names.now (parts_at c.args.s.now c.args.i)) (λ es. Ok (raw.And es.0, es.1)) (all_stop list_or_end pair_behind effect_met effects effects_is c.loop-parts.parts c.loop-parts.names (parts_at c.args.s.now c.loop-parts.i) (effects c.args.names.now (parts_at c.args.s.now c.args.i)) c.loop-parts.invariant.rest c.in_err-part.field-0.0 (parts_at c.args.s.now c.in-Some.inside, parts_at c.args.s.now c.in-Some.behind) (rw is at gives) c.in_err-part.ensures.gives))
 
 pub effects_of-loop-parts-preserved : goal.effects_of-loop-parts-preserved
 effects_of-loop-parts-preserved t c =
@@ -41,7 +42,7 @@ pub effects_of-returns-clause-gives : goal.effects_of-returns-clause-gives
 effects_of-returns-clause-gives t c =
     let gives = c.in_ok-inside.ensures.gives in
     let never = c.in_default.not-Some in
-    all_end list_or_end pair_behind effect_met effects effects_is c.loop-parts.parts c.loop-parts.names (parts_at c.args.s.now c.loop-parts.i) (effects c.args.names.now (parts_at c.args.s.now c.args.i)) c.loop-parts.invariant.rest (rw (is_none c.in_ok-inside.field-0 never) at gives)
+    ap anded (all_end list_or_end pair_behind effect_met effects effects_is c.loop-parts.parts c.loop-parts.names (parts_at c.args.s.now c.loop-parts.i) (effects c.args.names.now (parts_at c.args.s.now c.args.i)) c.loop-parts.invariant.rest (rw (is_none c.in_ok-inside.field-0 never) at gives))
 
 pub effect_headed_of-returns-in_err-atom-in-Plain-clause-adds : goal.effect_headed_of-returns-in_err-atom-in-Plain-clause-adds
 effect_headed_of-returns-in_err-atom-in-Plain-clause-adds t c all here =
@@ -89,53 +90,53 @@ bound_effect_of-returns-clause-adds t c = grind (arith, keeps_same, keeps_then, 
 pub bound_effect_of-returns-clause-gives : goal.bound_effect_of-returns-clause-gives
 bound_effect_of-returns-clause-gives t c = grind (arith, keeps_same, keeps_then, bound_effect_is)
 
-pub effect_headed_of-returns-in_err-parts-in-And-clause-keeps : goal.effect_headed_of-returns-in_err-parts-in-And-clause-keeps
+pub effect_headed_of-returns-in-And-clause-keeps : goal.effect_headed_of-returns-in-And-clause-keeps
 unfolding effect_headed
-effect_headed_of-returns-in_err-parts-in-And-clause-keeps t c = grind (arith, keeps_same, keeps_then)
+effect_headed_of-returns-in-And-clause-keeps t c = grind (arith, keeps_same, keeps_then)
 
-pub effect_headed_of-returns-in_err-parts-in-And-clause-adds : goal.effect_headed_of-returns-in_err-parts-in-And-clause-adds
+pub effect_headed_of-returns-in-And-clause-adds : goal.effect_headed_of-returns-in-And-clause-adds
 unfolding effect_headed
-effect_headed_of-returns-in_err-parts-in-And-clause-adds t c = grind (arith, keeps_same, keeps_then)
+effect_headed_of-returns-in-And-clause-adds t c = grind (arith, keeps_same, keeps_then)
 
-pub effect_headed_of-returns-in_err-parts-in-And-clause-gives : goal.effect_headed_of-returns-in_err-parts-in-And-clause-gives
+pub effect_headed_of-returns-in-And-clause-gives : goal.effect_headed_of-returns-in-And-clause-gives
 unfolding effect_headed
-effect_headed_of-returns-in_err-parts-in-And-clause-gives t c = grind (arith, keeps_same, keeps_then)
+effect_headed_of-returns-in-And-clause-gives t c = grind (arith, keeps_same, keeps_then)
 
-pub effect_headed_of-returns-in_err-vars-in-Forall-clause-keeps : goal.effect_headed_of-returns-in_err-vars-in-Forall-clause-keeps
+pub effect_headed_of-returns-in-Forall-clause-keeps : goal.effect_headed_of-returns-in-Forall-clause-keeps
 unfolding effect_headed
-effect_headed_of-returns-in_err-vars-in-Forall-clause-keeps t c = grind (arith, keeps_same, keeps_then)
+effect_headed_of-returns-in-Forall-clause-keeps t c = grind (arith, keeps_same, keeps_then)
 
-pub effect_headed_of-returns-in_err-vars-in-Forall-clause-adds : goal.effect_headed_of-returns-in_err-vars-in-Forall-clause-adds
+pub effect_headed_of-returns-in-Forall-clause-adds : goal.effect_headed_of-returns-in-Forall-clause-adds
 unfolding effect_headed
-effect_headed_of-returns-in_err-vars-in-Forall-clause-adds t c = grind (arith, keeps_same, keeps_then)
+effect_headed_of-returns-in-Forall-clause-adds t c = grind (arith, keeps_same, keeps_then)
 
-pub effect_headed_of-returns-in_err-vars-in-Forall-clause-gives : goal.effect_headed_of-returns-in_err-vars-in-Forall-clause-gives
+pub effect_headed_of-returns-in-Forall-clause-gives : goal.effect_headed_of-returns-in-Forall-clause-gives
 unfolding effect_headed
-effect_headed_of-returns-in_err-vars-in-Forall-clause-gives t c = grind (arith, keeps_same, keeps_then)
+effect_headed_of-returns-in-Forall-clause-gives t c = grind (arith, keeps_same, keeps_then)
 
-pub effect_headed_of-returns-in_err-condition-in-When-clause-keeps : goal.effect_headed_of-returns-in_err-condition-in-When-clause-keeps
+pub effect_headed_of-returns-in-When-clause-keeps : goal.effect_headed_of-returns-in-When-clause-keeps
 unfolding effect_headed
-effect_headed_of-returns-in_err-condition-in-When-clause-keeps t c = grind (arith, keeps_same, keeps_then)
+effect_headed_of-returns-in-When-clause-keeps t c = grind (arith, keeps_same, keeps_then)
 
-pub effect_headed_of-returns-in_err-condition-in-When-clause-adds : goal.effect_headed_of-returns-in_err-condition-in-When-clause-adds
+pub effect_headed_of-returns-in-When-clause-adds : goal.effect_headed_of-returns-in-When-clause-adds
 unfolding effect_headed
-effect_headed_of-returns-in_err-condition-in-When-clause-adds t c = grind (arith, keeps_same, keeps_then)
+effect_headed_of-returns-in-When-clause-adds t c = grind (arith, keeps_same, keeps_then)
 
-pub effect_headed_of-returns-in_err-condition-in-When-clause-gives : goal.effect_headed_of-returns-in_err-condition-in-When-clause-gives
+pub effect_headed_of-returns-in-When-clause-gives : goal.effect_headed_of-returns-in-When-clause-gives
 unfolding effect_headed
-effect_headed_of-returns-in_err-condition-in-When-clause-gives t c = grind (arith, keeps_same, keeps_then)
+effect_headed_of-returns-in-When-clause-gives t c = grind (arith, keeps_same, keeps_then)
 
-pub effect_headed_of-returns-in_err-atom-in-Not-clause-keeps : goal.effect_headed_of-returns-in_err-atom-in-Not-clause-keeps
+pub effect_headed_of-returns-in-Not-clause-keeps : goal.effect_headed_of-returns-in-Not-clause-keeps
 unfolding effect_headed
-effect_headed_of-returns-in_err-atom-in-Not-clause-keeps t c = grind (arith, keeps_same, keeps_then)
+effect_headed_of-returns-in-Not-clause-keeps t c = grind (arith, keeps_same, keeps_then)
 
-pub effect_headed_of-returns-in_err-atom-in-Not-clause-adds : goal.effect_headed_of-returns-in_err-atom-in-Not-clause-adds
+pub effect_headed_of-returns-in-Not-clause-adds : goal.effect_headed_of-returns-in-Not-clause-adds
 unfolding effect_headed
-effect_headed_of-returns-in_err-atom-in-Not-clause-adds t c = grind (arith, keeps_same, keeps_then)
+effect_headed_of-returns-in-Not-clause-adds t c = grind (arith, keeps_same, keeps_then)
 
-pub effect_headed_of-returns-in_err-atom-in-Not-clause-gives : goal.effect_headed_of-returns-in_err-atom-in-Not-clause-gives
+pub effect_headed_of-returns-in-Not-clause-gives : goal.effect_headed_of-returns-in-Not-clause-gives
 unfolding effect_headed
-effect_headed_of-returns-in_err-atom-in-Not-clause-gives t c = grind (arith, keeps_same, keeps_then)
+effect_headed_of-returns-in-Not-clause-gives t c = grind (arith, keeps_same, keeps_then)
 
 pub effect_headed_of-returns-in_err-pass-in-Increase-clause-keeps : goal.effect_headed_of-returns-in_err-pass-in-Increase-clause-keeps
 unfolding effect_headed
@@ -156,54 +157,6 @@ effect_headed_of-returns-in_err-atom-in-Plain-clause-keeps t c = grind (arith, k
 pub effect_headed_of-returns-in_err-atom-in-Plain-clause-gives : goal.effect_headed_of-returns-in_err-atom-in-Plain-clause-gives
 unfolding effect_headed
 effect_headed_of-returns-in_err-atom-in-Plain-clause-gives t c = grind (arith, keeps_same, keeps_then)
-
-pub effect_headed_of-returns-in_ok-parts-in-And-clause-keeps : goal.effect_headed_of-returns-in_ok-parts-in-And-clause-keeps
-unfolding effect_headed
-effect_headed_of-returns-in_ok-parts-in-And-clause-keeps t c = grind (arith, keeps_same, keeps_then)
-
-pub effect_headed_of-returns-in_ok-parts-in-And-clause-adds : goal.effect_headed_of-returns-in_ok-parts-in-And-clause-adds
-unfolding effect_headed
-effect_headed_of-returns-in_ok-parts-in-And-clause-adds t c = grind (arith, keeps_same, keeps_then)
-
-pub effect_headed_of-returns-in_ok-parts-in-And-clause-gives : goal.effect_headed_of-returns-in_ok-parts-in-And-clause-gives
-unfolding effect_headed
-effect_headed_of-returns-in_ok-parts-in-And-clause-gives t c = grind (arith, keeps_same, keeps_then)
-
-pub effect_headed_of-returns-in_ok-vars-in-Forall-clause-keeps : goal.effect_headed_of-returns-in_ok-vars-in-Forall-clause-keeps
-unfolding effect_headed
-effect_headed_of-returns-in_ok-vars-in-Forall-clause-keeps t c = grind (arith, keeps_same, keeps_then)
-
-pub effect_headed_of-returns-in_ok-vars-in-Forall-clause-adds : goal.effect_headed_of-returns-in_ok-vars-in-Forall-clause-adds
-unfolding effect_headed
-effect_headed_of-returns-in_ok-vars-in-Forall-clause-adds t c = grind (arith, keeps_same, keeps_then)
-
-pub effect_headed_of-returns-in_ok-vars-in-Forall-clause-gives : goal.effect_headed_of-returns-in_ok-vars-in-Forall-clause-gives
-unfolding effect_headed
-effect_headed_of-returns-in_ok-vars-in-Forall-clause-gives t c = grind (arith, keeps_same, keeps_then)
-
-pub effect_headed_of-returns-in_ok-condition-in-When-clause-keeps : goal.effect_headed_of-returns-in_ok-condition-in-When-clause-keeps
-unfolding effect_headed
-effect_headed_of-returns-in_ok-condition-in-When-clause-keeps t c = grind (arith, keeps_same, keeps_then)
-
-pub effect_headed_of-returns-in_ok-condition-in-When-clause-adds : goal.effect_headed_of-returns-in_ok-condition-in-When-clause-adds
-unfolding effect_headed
-effect_headed_of-returns-in_ok-condition-in-When-clause-adds t c = grind (arith, keeps_same, keeps_then)
-
-pub effect_headed_of-returns-in_ok-condition-in-When-clause-gives : goal.effect_headed_of-returns-in_ok-condition-in-When-clause-gives
-unfolding effect_headed
-effect_headed_of-returns-in_ok-condition-in-When-clause-gives t c = grind (arith, keeps_same, keeps_then)
-
-pub effect_headed_of-returns-in_ok-atom-in-Not-clause-keeps : goal.effect_headed_of-returns-in_ok-atom-in-Not-clause-keeps
-unfolding effect_headed
-effect_headed_of-returns-in_ok-atom-in-Not-clause-keeps t c = grind (arith, keeps_same, keeps_then)
-
-pub effect_headed_of-returns-in_ok-atom-in-Not-clause-adds : goal.effect_headed_of-returns-in_ok-atom-in-Not-clause-adds
-unfolding effect_headed
-effect_headed_of-returns-in_ok-atom-in-Not-clause-adds t c = grind (arith, keeps_same, keeps_then)
-
-pub effect_headed_of-returns-in_ok-atom-in-Not-clause-gives : goal.effect_headed_of-returns-in_ok-atom-in-Not-clause-gives
-unfolding effect_headed
-effect_headed_of-returns-in_ok-atom-in-Not-clause-gives t c = grind (arith, keeps_same, keeps_then)
 
 pub effect_headed_of-returns-in_ok-pass-in-Increase-clause-keeps : goal.effect_headed_of-returns-in_ok-pass-in-Increase-clause-keeps
 unfolding effect_headed

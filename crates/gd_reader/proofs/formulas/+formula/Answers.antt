@@ -151,17 +151,17 @@ pub headed_of-returns-in_err-part-in-Not-clause-gives : goal.headed_of-returns-i
 unfolding headed
 headed_of-returns-in_err-part-in-Not-clause-gives t c = grind (arith, keeps_same, keeps_then)
 
-pub headed_of-returns-in_err-first-in-Imply-clause-keeps : goal.headed_of-returns-in_err-first-in-Imply-clause-keeps
+pub headed_of-returns-in-Imply-clause-keeps : goal.headed_of-returns-in-Imply-clause-keeps
 unfolding headed
-headed_of-returns-in_err-first-in-Imply-clause-keeps t c = grind (arith, keeps_same, keeps_then)
+headed_of-returns-in-Imply-clause-keeps t c = grind (arith, keeps_same, keeps_then)
 
-pub headed_of-returns-in_err-first-in-Imply-clause-adds : goal.headed_of-returns-in_err-first-in-Imply-clause-adds
+pub headed_of-returns-in-Imply-clause-adds : goal.headed_of-returns-in-Imply-clause-adds
 unfolding headed
-headed_of-returns-in_err-first-in-Imply-clause-adds t c = grind (arith, keeps_same, keeps_then)
+headed_of-returns-in-Imply-clause-adds t c = grind (arith, keeps_same, keeps_then)
 
-pub headed_of-returns-in_err-first-in-Imply-clause-gives : goal.headed_of-returns-in_err-first-in-Imply-clause-gives
+pub headed_of-returns-in-Imply-clause-gives : goal.headed_of-returns-in-Imply-clause-gives
 unfolding headed
-headed_of-returns-in_err-first-in-Imply-clause-gives t c = grind (arith, keeps_same, keeps_then)
+headed_of-returns-in-Imply-clause-gives t c = grind (arith, keeps_same, keeps_then)
 
 pub headed_of-returns-in_err-left-in-Equal-clause-keeps : goal.headed_of-returns-in_err-left-in-Equal-clause-keeps
 unfolding headed
@@ -242,18 +242,6 @@ headed_of-returns-in_ok-part-in-Not-clause-adds t c = grind (arith, keeps_same, 
 pub headed_of-returns-in_ok-part-in-Not-clause-gives : goal.headed_of-returns-in_ok-part-in-Not-clause-gives
 unfolding headed
 headed_of-returns-in_ok-part-in-Not-clause-gives t c = grind (arith, keeps_same, keeps_then)
-
-pub headed_of-returns-in_ok-first-in-Imply-clause-keeps : goal.headed_of-returns-in_ok-first-in-Imply-clause-keeps
-unfolding headed
-headed_of-returns-in_ok-first-in-Imply-clause-keeps t c = grind (arith, keeps_same, keeps_then)
-
-pub headed_of-returns-in_ok-first-in-Imply-clause-adds : goal.headed_of-returns-in_ok-first-in-Imply-clause-adds
-unfolding headed
-headed_of-returns-in_ok-first-in-Imply-clause-adds t c = grind (arith, keeps_same, keeps_then)
-
-pub headed_of-returns-in_ok-first-in-Imply-clause-gives : goal.headed_of-returns-in_ok-first-in-Imply-clause-gives
-unfolding headed
-headed_of-returns-in_ok-first-in-Imply-clause-gives t c = grind (arith, keeps_same, keeps_then)
 
 pub headed_of-returns-in_ok-left-in-Equal-clause-keeps : goal.headed_of-returns-in_ok-left-in-Equal-clause-keeps
 unfolding headed

@@ -30,14 +30,23 @@ returns-in_err-types-clause-adds c = grind (arith, keeps_same, keeps_then, some_
 pub returns-in_err-types-clause-gives : goal.returns-in_err-types-clause-gives
 returns-in_err-types-clause-gives c = grind (arith, keeps_same, keeps_then, some_names_is)
 
-pub returns-in_err-more_names_of-clause-keeps : goal.returns-in_err-more_names_of-clause-keeps
-returns-in_err-more_names_of-clause-keeps c = grind (arith, keeps_same, keeps_then, some_names_is)
+pub returns-in_err-see-clause-keeps : goal.returns-in_err-see-clause-keeps
+returns-in_err-see-clause-keeps c = grind (arith, keeps_same, keeps_then, some_names_is)
 
-pub returns-in_err-more_names_of-clause-adds : goal.returns-in_err-more_names_of-clause-adds
-returns-in_err-more_names_of-clause-adds c = grind (arith, keeps_same, keeps_then, some_names_is)
+pub returns-in_err-add_names_of-clause-keeps : goal.returns-in_err-add_names_of-clause-keeps
+returns-in_err-add_names_of-clause-keeps c = grind (arith, keeps_same, keeps_then, some_names_is)
 
-pub returns-in_err-more_names_of-clause-gives : goal.returns-in_err-more_names_of-clause-gives
-returns-in_err-more_names_of-clause-gives c = grind (arith, keeps_same, keeps_then, some_names_is)
+pub returns-in_err-see-clause-adds : goal.returns-in_err-see-clause-adds
+returns-in_err-see-clause-adds c = grind (arith, keeps_same, keeps_then, some_names_is)
+
+pub returns-in_err-add_names_of-clause-adds : goal.returns-in_err-add_names_of-clause-adds
+returns-in_err-add_names_of-clause-adds c = grind (arith, keeps_same, keeps_then, some_names_is)
+
+pub returns-in_err-see-clause-gives : goal.returns-in_err-see-clause-gives
+returns-in_err-see-clause-gives c = grind (arith, keeps_same, keeps_then, some_names_is)
+
+pub returns-in_err-add_names_of-clause-gives : goal.returns-in_err-add_names_of-clause-gives
+returns-in_err-add_names_of-clause-gives c = grind (arith, keeps_same, keeps_then, some_names_is)
 
 pub returns-clause-keeps : goal.returns-clause-keeps
 returns-clause-keeps c = grind (arith, keeps_same, keeps_then, some_names_is)

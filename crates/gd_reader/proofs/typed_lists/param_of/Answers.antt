@@ -5,86 +5,74 @@ use Rattle.gd_reader.proofs.Sorts.{folded_rest}
 use Rattle.std.proofs.Common.{arith}
 use Rattle.gd_reader.proofs.typed_lists.param_of.Goals as goal
 
-pub returns-then-variables-clause-keeps : goal.returns-then-variables-clause-keeps
+pub returns-in-Variable-true-clause-keeps : goal.returns-in-Variable-true-clause-keeps
 unfolding param_by
-returns-then-variables-clause-keeps c = grind (arith, bare_variable, bare_name, keeps_same, keeps_then, folded_rest)
+returns-in-Variable-true-clause-keeps c = grind (arith, bare_variable, bare_name, keeps_same, keeps_then, folded_rest)
 
-pub returns-then-variables-clause-adds : goal.returns-then-variables-clause-adds
+pub returns-in-Variable-true-clause-adds : goal.returns-in-Variable-true-clause-adds
 unfolding param_by
-returns-then-variables-clause-adds c = grind (arith, bare_variable, bare_name, keeps_same, keeps_then, folded_rest)
+returns-in-Variable-true-clause-adds c = grind (arith, bare_variable, bare_name, keeps_same, keeps_then, folded_rest)
 
-pub returns-then-variables-clause-gives : goal.returns-then-variables-clause-gives
+pub returns-in-Variable-true-clause-gives : goal.returns-in-Variable-true-clause-gives
 unfolding param_by
-returns-then-variables-clause-gives c = grind (arith, bare_variable, bare_name, keeps_same, keeps_then, folded_rest)
+returns-in-Variable-true-clause-gives c = grind (arith, bare_variable, bare_name, keeps_same, keeps_then, folded_rest)
 
-pub returns-else-variables-clause-keeps : goal.returns-else-variables-clause-keeps
+pub returns-in_err-name-in-Name-false-clause-keeps : goal.returns-in_err-name-in-Name-false-clause-keeps
 unfolding param_by
-returns-else-variables-clause-keeps c = grind (arith, bare_variable, bare_name, keeps_same, keeps_then, folded_rest)
+returns-in_err-name-in-Name-false-clause-keeps c = grind (arith, bare_variable, bare_name, keeps_same, keeps_then, folded_rest)
 
-pub returns-else-variables-clause-adds : goal.returns-else-variables-clause-adds
+pub returns-in_err-name-in-Name-false-clause-adds : goal.returns-in_err-name-in-Name-false-clause-adds
 unfolding param_by
-returns-else-variables-clause-adds c = grind (arith, bare_variable, bare_name, keeps_same, keeps_then, folded_rest)
+returns-in_err-name-in-Name-false-clause-adds c = grind (arith, bare_variable, bare_name, keeps_same, keeps_then, folded_rest)
 
-pub returns-else-variables-clause-gives : goal.returns-else-variables-clause-gives
+pub returns-in_err-name-in-Name-false-clause-gives : goal.returns-in_err-name-in-Name-false-clause-gives
 unfolding param_by
-returns-else-variables-clause-gives c = grind (arith, bare_variable, bare_name, keeps_same, keeps_then, folded_rest)
+returns-in_err-name-in-Name-false-clause-gives c = grind (arith, bare_variable, bare_name, keeps_same, keeps_then, folded_rest)
 
-pub returns-then-variables-2-clause-keeps : goal.returns-then-variables-2-clause-keeps
+pub returns-in_err-see-in-Name-false-clause-keeps : goal.returns-in_err-see-in-Name-false-clause-keeps
 unfolding param_by
-returns-then-variables-2-clause-keeps c = grind (arith, bare_variable, bare_name, keeps_same, keeps_then, folded_rest)
+returns-in_err-see-in-Name-false-clause-keeps c = grind (arith, bare_variable, bare_name, keeps_same, keeps_then, folded_rest)
 
-pub returns-then-variables-2-clause-adds : goal.returns-then-variables-2-clause-adds
+pub returns-in_err-see-in-Name-false-clause-adds : goal.returns-in_err-see-in-Name-false-clause-adds
 unfolding param_by
-returns-then-variables-2-clause-adds c = grind (arith, bare_variable, bare_name, keeps_same, keeps_then, folded_rest)
+returns-in_err-see-in-Name-false-clause-adds c = grind (arith, bare_variable, bare_name, keeps_same, keeps_then, folded_rest)
 
-pub returns-then-variables-2-clause-gives : goal.returns-then-variables-2-clause-gives
+pub returns-in_err-see-in-Name-false-clause-gives : goal.returns-in_err-see-in-Name-false-clause-gives
 unfolding param_by
-returns-then-variables-2-clause-gives c = grind (arith, bare_variable, bare_name, keeps_same, keeps_then, folded_rest)
+returns-in_err-see-in-Name-false-clause-gives c = grind (arith, bare_variable, bare_name, keeps_same, keeps_then, folded_rest)
 
-pub returns-else-variables-2-clause-keeps : goal.returns-else-variables-2-clause-keeps
+pub returns-in_ok-see-in-Name-false-clause-keeps : goal.returns-in_ok-see-in-Name-false-clause-keeps
 unfolding param_by
-returns-else-variables-2-clause-keeps c = grind (arith, bare_variable, bare_name, keeps_same, keeps_then, folded_rest)
+returns-in_ok-see-in-Name-false-clause-keeps c = grind (arith, bare_variable, bare_name, keeps_same, keeps_then, folded_rest)
 
-pub returns-else-variables-2-clause-adds : goal.returns-else-variables-2-clause-adds
+pub returns-in_ok-see-in-Name-false-clause-adds : goal.returns-in_ok-see-in-Name-false-clause-adds
 unfolding param_by
-returns-else-variables-2-clause-adds c = grind (arith, bare_variable, bare_name, keeps_same, keeps_then, folded_rest)
+returns-in_ok-see-in-Name-false-clause-adds c = grind (arith, bare_variable, bare_name, keeps_same, keeps_then, folded_rest)
 
-pub returns-else-variables-2-clause-gives : goal.returns-else-variables-2-clause-gives
+pub returns-in_ok-see-in-Name-false-clause-gives : goal.returns-in_ok-see-in-Name-false-clause-gives
 unfolding param_by
-returns-else-variables-2-clause-gives c = grind (arith, bare_variable, bare_name, keeps_same, keeps_then, folded_rest)
+returns-in_ok-see-in-Name-false-clause-gives c = grind (arith, bare_variable, bare_name, keeps_same, keeps_then, folded_rest)
 
-pub returns-then-variables-3-clause-keeps : goal.returns-then-variables-3-clause-keeps
+pub returns-in-Other-false-clause-keeps : goal.returns-in-Other-false-clause-keeps
 unfolding param_by
-returns-then-variables-3-clause-keeps c = grind (arith, bare_variable, bare_name, keeps_same, keeps_then, folded_rest)
+returns-in-Other-false-clause-keeps c = grind (arith, bare_variable, bare_name, keeps_same, keeps_then, folded_rest)
 
-pub returns-then-variables-3-clause-adds : goal.returns-then-variables-3-clause-adds
+pub returns-in-Other-false-clause-adds : goal.returns-in-Other-false-clause-adds
 unfolding param_by
-returns-then-variables-3-clause-adds c = grind (arith, bare_variable, bare_name, keeps_same, keeps_then, folded_rest)
+returns-in-Other-false-clause-adds c = grind (arith, bare_variable, bare_name, keeps_same, keeps_then, folded_rest)
 
-pub returns-then-variables-3-clause-gives : goal.returns-then-variables-3-clause-gives
+pub returns-in-Other-false-clause-gives : goal.returns-in-Other-false-clause-gives
 unfolding param_by
-returns-then-variables-3-clause-gives c = grind (arith, bare_variable, bare_name, keeps_same, keeps_then, folded_rest)
+returns-in-Other-false-clause-gives c = grind (arith, bare_variable, bare_name, keeps_same, keeps_then, folded_rest)
 
-pub returns-then-is_reserved_in_any_case-clause-keeps : goal.returns-then-is_reserved_in_any_case-clause-keeps
+pub returns-in-Variable-false-clause-keeps : goal.returns-in-Variable-false-clause-keeps
 unfolding param_by
-returns-then-is_reserved_in_any_case-clause-keeps c = grind (arith, bare_variable, bare_name, keeps_same, keeps_then, folded_rest)
+returns-in-Variable-false-clause-keeps c = grind (arith, bare_variable, bare_name, keeps_same, keeps_then, folded_rest)
 
-pub returns-then-is_reserved_in_any_case-clause-adds : goal.returns-then-is_reserved_in_any_case-clause-adds
+pub returns-in-Variable-false-clause-adds : goal.returns-in-Variable-false-clause-adds
 unfolding param_by
-returns-then-is_reserved_in_any_case-clause-adds c = grind (arith, bare_variable, bare_name, keeps_same, keeps_then, folded_rest)
+returns-in-Variable-false-clause-adds c = grind (arith, bare_variable, bare_name, keeps_same, keeps_then, folded_rest)
 
-pub returns-then-is_reserved_in_any_case-clause-gives : goal.returns-then-is_reserved_in_any_case-clause-gives
+pub returns-in-Variable-false-clause-gives : goal.returns-in-Variable-false-clause-gives
 unfolding param_by
-returns-then-is_reserved_in_any_case-clause-gives c = grind (arith, bare_variable, bare_name, keeps_same, keeps_then, folded_rest)
-
-pub returns-else-is_reserved_in_any_case-clause-keeps : goal.returns-else-is_reserved_in_any_case-clause-keeps
-unfolding param_by
-returns-else-is_reserved_in_any_case-clause-keeps c = grind (arith, bare_variable, bare_name, keeps_same, keeps_then, folded_rest)
-
-pub returns-else-is_reserved_in_any_case-clause-adds : goal.returns-else-is_reserved_in_any_case-clause-adds
-unfolding param_by
-returns-else-is_reserved_in_any_case-clause-adds c = grind (arith, bare_variable, bare_name, keeps_same, keeps_then, folded_rest)
-
-pub returns-else-is_reserved_in_any_case-clause-gives : goal.returns-else-is_reserved_in_any_case-clause-gives
-unfolding param_by
-returns-else-is_reserved_in_any_case-clause-gives c = grind (arith, bare_variable, bare_name, keeps_same, keeps_then, folded_rest)
+returns-in-Variable-false-clause-gives c = grind (arith, bare_variable, bare_name, keeps_same, keeps_then, folded_rest)
