@@ -17,7 +17,7 @@ use Rattle.hddl_reader.proofs.TermsSaid.{said_then, said_map, at_next}
 use Rattle.hddl_reader.specs.declared.sections.Definition.{Definition}
 use Rattle.hddl_reader.specs.declared.sections.Definition.TheVariants as definition
 use Rattle.hddl_reader.specs.declared.sections.Language.{Language}
-use Rattle.hddl_reader.specs.declared.sections.RawSections.{RawSections}
+use Rattle.hddl_reader.specs.declared.raw_sections.RawSections.{RawSections}
 use Rattle.htn_base.specs.declared.name.Name.{Name}
 use Rattle.hddl_reader.specs.Networks.{declared, is_word}
 use Rattle.hddl_reader.specs.Sections.{sections, no_sections}

@@ -15,7 +15,7 @@ use Rattle.gd_reader.specs.Answers.{Fails}
 use Rattle.gd_reader.specs.Terms.{Names}
 use Rattle.hddl_reader.specs.declared.sections.Definition.{Definition}
 use Rattle.hddl_reader.specs.declared.sections.Language.{Language}
-use Rattle.hddl_reader.specs.declared.sections.RawSections.{RawSections}
+use Rattle.hddl_reader.specs.declared.raw_sections.RawSections.{RawSections}
 use Rattle.hddl_reader.specs.Definitions.{definition_read, language_of, kind_of, refusal, IsRead, Refuses}
 use Rattle.hddl_reader.proofs.DefinitionsSaid.{definition_said}
 

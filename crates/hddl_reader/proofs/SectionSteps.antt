@@ -16,7 +16,7 @@ use Rattle.std.specs.Prelude.{Bool, true, false, if◌then◌else◌}
 use Rattle.hddl_reader.specs.declared.sections.Definition.{Definition}
 use Rattle.hddl_reader.specs.declared.sections.Language.{Language}
 use Rattle.gd_reader.specs.declared.stop.Stop.TheVariants.{Departs}
-use Rattle.hddl_reader.specs.declared.sections.RawSections.{RawSections}
+use Rattle.hddl_reader.specs.declared.raw_sections.RawSections.{RawSections}
 use Rattle.hddl_reader.specs.Sections.{words, used_names, fact, facts, with_kept, section_of, plain_table, hierarchy_table, may_end, section_due, section_inside, sections}
 use Rattle.hddl_reader.proofs.FoldSteps.{fold_by}
 

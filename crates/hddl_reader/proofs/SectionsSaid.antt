@@ -33,7 +33,7 @@ use Rattle.hddl_reader.specs.declared.sections.Definition.{Definition}
 use Rattle.hddl_reader.specs.declared.sections.Definition.TheVariants as definition
 use Rattle.hddl_reader.specs.declared.sections.Language.{Language}
 use Rattle.hddl_reader.specs.declared.sections.Language.TheVariants as language
-use Rattle.hddl_reader.specs.declared.sections.RawSections.{RawSections}
+use Rattle.hddl_reader.specs.declared.raw_sections.RawSections.{RawSections}
 use Rattle.hddl_reader.specs.declared.sections.Section.{Section}
 use Rattle.hddl_reader.specs.declared.sections.Section.TheVariants as section
 use Rattle.hddl_reader.specs.Networks.{is_word, one_of, all_of}

@@ -6,11 +6,12 @@ ghost use Rattle.gd_reader.specs.Answers.{Gives, GivesWith, word_due, list_due, 
 ghost use Rattle.gd_reader.specs.Shown.{parts_at_both};
 ghost use Rattle.gd_reader.specs.Terms.{Keeps};
 ghost use Rattle.hddl_reader.specs.declared.sections.Definition.TheVariants as definition;
-ghost use Rattle.hddl_reader.specs.Definitions.{coded, key_due, definition_word, title, definition_inside, nothing_due, definition_read, refusal, Refuses, IsDomainRead, IsProblemRead};
+ghost use Rattle.hddl_reader.specs.Definitions.{coded, key_due, definition_word, definition_inside, nothing_due, definition_read, refusal, Refuses, IsDomainRead, IsProblemRead};
 
 use crate::networks::declared_of;
+use crate::raw_sections::RawSections;
 use crate::section_bodies::sections_of;
-use crate::sections::{Definition, Language, RawDomain, RawProblem, RawSections};
+use crate::sections::{Definition, Language, RawDomain, RawProblem};
 use gd_reader::{Failure, Item, Stop, is_word, item_at};
 use htn_base::{Fault, Name, NameTable};
 use std::alloc::Global;
@@ -81,27 +82,8 @@ fn title_list(s: &Sexprs<'_>, i: u32) -> Result<(u32, u32), Failure>
     }
 }
 
-// The title: what is defined, and its name.
-#[tactic(auto, using(gd_reader::proofs::Keeping::keeps_same), unfolding(crate::specs::Definitions::title))]
-fn title_of(
-    s: &Sexprs<'_>,
-    i: u32,
-    definition: Definition,
-    names: &mut NameTable,
-) -> Result<Name, Failure>
-    ensures keeps { Keeps names.old names.new }
-    ensures adds { AddsOf s.now names.old names.new }
-    ensures gives { GivesWith names.new result (title definition names.old (parts_at s.now i)) }
-{
-    let i = key_due(s, i, definition.word())?;
-    let (at, word, i) = title_word(s, i)?;
-    let name = declared_of(names, 5, at, word)?;
-    title_end(s, i)?;
-    Ok(name.name)
-}
-
-// What stands in the parentheses of a definition: its name and its sections.
-#[tactic(auto, using(gd_reader::proofs::Keeping::keeps_same, gd_reader::proofs::Keeping::keeps_then), unfolding(crate::specs::Definitions::definition_inside))]
+// What stands in the parentheses of a definition: its title, which has its name, and its sections.
+#[tactic(auto, using(gd_reader::proofs::Keeping::keeps_same, gd_reader::proofs::Keeping::keeps_then), unfolding(crate::specs::Definitions::definition_inside, crate::specs::Definitions::title))]
 fn inside_of(
     alloc: Global,
     s: &Sexprs<'_>,
@@ -117,9 +99,12 @@ fn inside_of(
 {
     let i = key_due(s, i, b"define")?;
     let (inside, behind) = title_list(s, i)?;
-    let name = title_of(s, inside, definition, names)?;
+    let i = key_due(s, inside, definition.word())?;
+    let (at, word, i) = title_word(s, i)?;
+    let name = declared_of(names, 5, at, word)?;
+    title_end(s, i)?;
     let sections = sections_of(alloc, s, behind, language, definition, names)?;
-    Ok((name, sections))
+    Ok((name.name, sections))
 }
 
 // Nothing stands at the token.

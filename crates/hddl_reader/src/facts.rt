@@ -153,28 +153,6 @@ fn put_each(
     Ok(())
 }
 
-// The same from token `i` on.
-#[tactic(auto, using(gd_reader::proofs::Keeping::keeps_same))]
-fn put_facts(
-    alloc: Global,
-    s: &Sexprs<'_>,
-    i: u32,
-    names: &mut NameTable,
-    into: &mut RawFacts,
-) -> Result<(), Failure>
-    ensures keeps { Keeps names.old names.new }
-    ensures adds { AddsOf s.now names.old names.new }
-    ensures gives { Gives (λ _. (into.new, names.new)) result
-        (with_front into.old (facts names.old (parts_at s.now i))) }
-{
-    let mut marks = Marks::new(alloc)?;
-    let mut args = Vec::new(alloc);
-    let read = put_each(s, s.position(i), names, &mut marks, &mut args, into);
-    drop(args);
-    drop(marks);
-    read
-}
-
 /// The atoms of `:init` from token `i` up to the end of the section.
 #[tactic(auto, using(gd_reader::proofs::Keeping::keeps_same, gd_reader::proofs::Steps::front_none))]
 pub(crate) fn facts_of(
@@ -190,7 +168,12 @@ pub(crate) fn facts_of(
     // Room for as many facts as the text may still have. Memory that is never touched costs nothing.
     let tokens = s.len().saturating_sub(i) as usize;
     let mut facts = RawFacts::with_room(alloc, tokens / FEWEST_TOKENS, tokens)?;
-    match put_facts(alloc, s, i, names, &mut facts) {
+    let mut marks = Marks::new(alloc)?;
+    let mut args = Vec::new(alloc);
+    let read = put_each(s, s.position(i), names, &mut marks, &mut args, &mut facts);
+    drop(args);
+    drop(marks);
+    match read {
         Ok(()) => Ok(facts),
         Err(failure) => {
             drop(facts);

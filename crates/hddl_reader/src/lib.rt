@@ -24,6 +24,7 @@ mod name_laws;
 mod networks;
 mod opened;
 mod parts;
+mod raw_sections;
 mod section_bodies;
 mod sections;
 mod wholes;
@@ -37,7 +38,7 @@ pub use form_laws::{
 pub use name_laws::{one_cycle_is_a_fault, one_fault_is_the_least, the_domain_comes_first};
 pub use networks::{RawCon, RawNet, RawPair, RawSub};
 pub use parts::{Part, Parted, RawParts};
+pub use raw_sections::RawSections;
 pub use sections::{
-    Definition, Language, RawAction, RawDomain, RawHead, RawMethod, RawProblem, RawSections,
-    Section,
+    Definition, Language, RawAction, RawDomain, RawHead, RawMethod, RawProblem, Section,
 };

@@ -3,7 +3,7 @@ ghost use Rattle.text_forms.specs.Placed.{parts_at};
 ghost use Rattle.gd_reader.specs.Added.{AddsOf, AddsWord, bare};
 ghost use Rattle.gd_reader.specs.Answers.{Gives, GivesWith};
 ghost use Rattle.gd_reader.specs.Terms.{Keeps};
-ghost use Rattle.hddl_reader.specs.Networks.{declared, behind_name, sign_due, name_due, then_due, equation};
+ghost use Rattle.hddl_reader.specs.Networks.{declared, behind_name, placed_at, name_due, then_due};
 
 use crate::items::Item;
 use gd_reader::{
@@ -92,34 +92,48 @@ pub(crate) fn declared_of(
     }
 }
 
-// Behind the name at the front of a subtask: its terms, or the task whose id it is.
+// The subtask whose parenthesis stands at the offset `place`, behind the name at its front: its terms, or the task whose
+// id it is.
 #[tactic(auto, using(gd_reader::proofs::Keeping::keeps_same, gd_reader::proofs::Keeping::keeps_then), unfolding(crate::specs::Networks::behind_name))]
 fn behind_name(
     alloc: Global,
     s: &Sexprs<'_>,
     head: RawTerm,
+    place: u32,
     i: u32,
     names: &mut NameTable,
-) -> Result<(Option<RawTerm>, RawAtom), Failure>
+) -> Result<RawSub, Failure>
     ensures keeps { Keeps names.old names.new }
     ensures adds { AddsOf s.now names.old names.new }
     ensures gives { GivesWith names.new result
-        (behind_name head names.old (parts_at s.now i)) }
+        (placed_at place (behind_name head names.old (parts_at s.now i))) }
 {
     match item_at(s, i) {
         Shown::End => Err(Failure::At(Stop::Ends)),
-        Shown::Close(_) => {
-            let args = List::new(alloc);
-            Ok((None, RawAtom { head, args }))
-        }
+        Shown::Close(_) => Ok(RawSub {
+            id: None,
+            atom: RawAtom {
+                head,
+                args: List::new(alloc),
+            },
+            at: place,
+        }),
         Shown::Word(_, _) => {
             let args = terms_of(alloc, s, i, names)?;
-            Ok((None, RawAtom { head, args }))
+            Ok(RawSub {
+                id: None,
+                atom: RawAtom { head, args },
+                at: place,
+            })
         }
         Shown::List(_, inside, behind) => {
             let atom = applied_of(alloc, s, inside, names)?;
             end_due(s, behind)?;
-            Ok((Some(head), atom))
+            Ok(RawSub {
+                id: Some(head),
+                atom,
+                at: place,
+            })
         }
     }
 }
@@ -140,25 +154,7 @@ impl Item for RawSub {
         names: &mut NameTable,
     ) -> Result<RawSub, Failure> {
         let head = declared_of(names, 8, at, word)?;
-        let (id, atom) = behind_name(alloc, s, head, i, names)?;
-        Ok(RawSub {
-            id,
-            atom,
-            at: place,
-        })
-    }
-}
-
-// The sign of an ordering, and the number of the token behind it.
-#[tactic(auto, unfolding(crate::specs::Networks::sign_due))]
-fn sign_due(s: &Sexprs<'_>, i: u32) -> Result<u32, Failure>
-    ensures gives { Gives (parts_at s.now) result (sign_due (parts_at s.now i)) }
-{
-    let (at, word, behind) = word_due(s, i)?;
-    if is_word(word, b"<") {
-        Ok(behind)
-    } else {
-        Err(Failure::At(Stop::Departs(8, at)))
+        behind_name(alloc, s, head, place, i, names)
     }
 }
 
@@ -203,7 +199,7 @@ impl Item for RawPair {
 
     ghost headed = { pair_headed };
 
-    #[tactic(auto, using(gd_reader::proofs::Keeping::keeps_same, gd_reader::proofs::Keeping::keeps_then), unfolding(crate::specs::Networks::pair_headed))]
+    #[tactic(auto, using(gd_reader::proofs::Keeping::keeps_same, gd_reader::proofs::Keeping::keeps_then), unfolding(crate::specs::Networks::pair_headed, crate::specs::Networks::sign_due))]
     fn headed_of(
         _: Global,
         s: &Sexprs<'_>,
@@ -218,24 +214,13 @@ impl Item for RawPair {
             then_due(s, first, place, i, names)
         } else {
             let first = used_of(names, at, word)?;
-            let i = sign_due(s, i)?;
-            then_due(s, first, place, i, names)
+            let (at, sign, i) = word_due(s, i)?;
+            if is_word(sign, b"<") {
+                then_due(s, first, place, i, names)
+            } else {
+                Err(Failure::At(Stop::Departs(8, at)))
+            }
         }
-    }
-}
-
-// An equation, as what stands in the parentheses of a list.
-#[tactic(auto, using(gd_reader::proofs::Keeping::keeps_same), unfolding(crate::specs::Networks::equation))]
-fn equation(s: &Sexprs<'_>, i: u32, names: &mut NameTable) -> Result<(RawTerm, RawTerm), Failure>
-    ensures keeps { Keeps names.old names.new }
-    ensures adds { AddsOf s.now names.old names.new }
-    ensures gives { GivesWith names.new result (equation names.old (parts_at s.now i)) }
-{
-    let (at, word, i) = word_due(s, i)?;
-    if is_word(word, b"=") {
-        two_terms_of(s, i, names)
-    } else {
-        Err(Failure::At(Stop::Departs(8, at)))
     }
 }
 
@@ -244,7 +229,7 @@ impl Item for RawCon {
 
     ghost headed = { con_headed };
 
-    #[tactic(auto, using(gd_reader::proofs::Keeping::keeps_same, gd_reader::proofs::Keeping::keeps_then), unfolding(crate::specs::Networks::con_headed))]
+    #[tactic(auto, using(gd_reader::proofs::Keeping::keeps_same, gd_reader::proofs::Keeping::keeps_then), unfolding(crate::specs::Networks::con_headed, crate::specs::Networks::equation))]
     fn headed_of(
         _: Global,
         s: &Sexprs<'_>,
@@ -263,7 +248,11 @@ impl Item for RawCon {
             })
         } else if is_word(word, b"not") {
             let (inside, behind) = list_due(s, i)?;
-            let (left, right) = equation(s, inside, names)?;
+            let (at, sign, inside) = word_due(s, inside)?;
+            if !is_word(sign, b"=") {
+                return Err(Failure::At(Stop::Departs(8, at)));
+            }
+            let (left, right) = two_terms_of(s, inside, names)?;
             end_due(s, behind)?;
             Ok(RawCon {
                 equal: false,

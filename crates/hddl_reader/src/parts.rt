@@ -8,7 +8,7 @@ ghost use Rattle.gd_reader.specs.Added.{AddsOf};
 ghost use Rattle.gd_reader.specs.Answers.{Gives, GivesWith};
 ghost use Rattle.gd_reader.specs.Terms.{Keeps};
 ghost use Rattle.gd_reader.specs.TypedLists.{listed};
-ghost use Rattle.hddl_reader.specs.Parts.{network_table, part_of, no_parts, stands, keyword_by, may_end, part_due, part_at, part_read, parts, IsPut, IsMarked};
+ghost use Rattle.hddl_reader.specs.Parts.{network_table, part_of, no_parts, stands, may_end, part_due, part_at, part_read, parts, IsPut, IsMarked};
 
 use crate::items::some_of;
 use crate::networks::{RawCon, RawPair, RawSub};
@@ -216,18 +216,6 @@ impl RawParts {
         }
     }
 
-    // The part that a word names, which doesn't stand yet.
-    fn keyword(&self, kind: Parted, at: u32, word: &[u8]) -> Result<Part, Failure>
-        ensures gives { Gives (λ part. part) result
-            (keyword_by (part_of kind (folded word.now)) (stands self.now) at (folded word.now)) }
-    {
-        match part_of(kind, word) {
-            None => Err(Failure::At(Stop::Departs(unknown(word), at))),
-            Some(part) if self.stands(part) => Err(Failure::At(Stop::Departs(7, at))),
-            Some(part) => Ok(part),
-        }
-    }
-
     // The part that is next, with the offset of its list, and the numbers of the token that comes first in it
     // and of the one behind it; or `None` at the end of the parts.
     #[tactic(auto, unfolding(crate::specs::Parts::part_due))]
@@ -246,11 +234,14 @@ impl RawParts {
             Item::End => Err(Failure::At(Stop::Ends)),
             Item::Close(_) if self.may_end(kind) => Ok(None),
             Item::Close(at) | Item::List(at, _, _) => Err(Failure::At(Stop::Departs(8, at))),
-            Item::Word(at, word) => {
-                let part = self.keyword(kind, at, word)?;
-                let (place, inside, behind) = opened_due(s, i + 1)?;
-                Ok(Some((part, place, inside, behind)))
-            }
+            Item::Word(at, word) => match part_of(kind, word) {
+                None => Err(Failure::At(Stop::Departs(unknown(word), at))),
+                Some(part) if self.stands(part) => Err(Failure::At(Stop::Departs(7, at))),
+                Some(part) => {
+                    let (place, inside, behind) = opened_due(s, i + 1)?;
+                    Ok(Some((part, place, inside, behind)))
+                }
+            },
         }
     }
 

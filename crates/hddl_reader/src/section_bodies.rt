@@ -9,9 +9,10 @@ ghost use Rattle.hddl_reader.specs.Sections.{no_sections, named_parts, section_r
 use crate::facts::{dropped_name, facts_of, goal_of, words_of};
 use crate::items::all_of;
 use crate::networks::declared_of;
-use crate::parts::{Parted, RawParts, listed_of, mark, parts_of, put};
-use crate::sections::{Definition, Language, RawSections, Section};
-use gd_reader::{Failure, ListKind, RawTerm, pass, word_due};
+use crate::parts::{Parted, RawParts, listed_of, mark, parts_of, put, unknown};
+use crate::raw_sections::RawSections;
+use crate::sections::{Definition, Language, Section, section_of};
+use gd_reader::{Failure, ListKind, RawTerm, Stop, pass, word_due};
 use htn_base::NameTable;
 use std::alloc::Global;
 use text_forms::sexpr_text::Sexprs;
@@ -158,8 +159,11 @@ impl RawSections {
             (section_inside language definition self.old names.old (parts_at s.now i)) }
     {
         let (at, word, i) = word_due(s, i)?;
-        let section = self.keyword(language, definition, at, word)?;
-        self.read_section(alloc, s, section, i, names)
+        match section_of(language, definition, word) {
+            None => Err(Failure::At(Stop::Departs(unknown(word), at))),
+            Some(section) if self.has(section) => Err(Failure::At(Stop::Departs(7, at))),
+            Some(section) => self.read_section(alloc, s, section, i, names),
+        }
     }
 
     // The sections from token `i` up to their end.

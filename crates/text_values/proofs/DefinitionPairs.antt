@@ -11,7 +11,7 @@ use Rattle.hddl_reader.specs.declared.sections.Definition.TheVariants as definit
 use Rattle.hddl_reader.specs.declared.sections.Language.{Language}
 use Rattle.hddl_reader.specs.declared.sections.RawDomain.{RawDomain}
 use Rattle.hddl_reader.specs.declared.sections.RawProblem.{RawProblem}
-use Rattle.hddl_reader.specs.declared.sections.RawSections.{RawSections}
+use Rattle.hddl_reader.specs.declared.raw_sections.RawSections.{RawSections}
 use Rattle.hddl_reader.specs.Networks.{declared}
 use Rattle.hddl_reader.specs.Sections.{sections, no_sections}
 use Rattle.hddl_reader.specs.Definitions.{coded, key_due, definition_word, title, definition_inside, nothing_due, definition_read, domain_of, problem_of, or_empty, IsRead, IsDomainRead, IsProblemRead}

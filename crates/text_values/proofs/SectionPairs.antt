@@ -19,7 +19,7 @@ use Rattle.hddl_reader.specs.declared.sections.Definition.{Definition}
 use Rattle.hddl_reader.specs.declared.sections.Language.{Language}
 use Rattle.hddl_reader.specs.declared.sections.RawHead.{RawHead}
 use Rattle.hddl_reader.specs.declared.sections.RawMethod.{RawMethod}
-use Rattle.hddl_reader.specs.declared.sections.RawSections.{RawSections}
+use Rattle.hddl_reader.specs.declared.raw_sections.RawSections.{RawSections}
 use Rattle.hddl_reader.specs.declared.sections.Section.{Section}
 use Rattle.hddl_reader.specs.declared.sections.Section.TheVariants as section
 use Rattle.hddl_reader.specs.Networks.{is_word, declared, all_of}

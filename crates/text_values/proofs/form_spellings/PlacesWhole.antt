@@ -8,7 +8,7 @@ use Rattle.hddl_reader.specs.declared.sections.Definition.TheVariants as definit
 use Rattle.hddl_reader.specs.declared.sections.Language.{Language}
 use Rattle.hddl_reader.specs.declared.sections.RawDomain.{RawDomain}
 use Rattle.hddl_reader.specs.declared.sections.RawProblem.{RawProblem}
-use Rattle.hddl_reader.specs.declared.sections.RawSections.{RawSections}
+use Rattle.hddl_reader.specs.declared.raw_sections.RawSections.{RawSections}
 use Rattle.hddl_reader.specs.Definitions.{definition_read, IsRead, IsDomainRead, IsProblemRead}
 use Rattle.text_values.specs.form_spellings.Places.{IsDomainAt, IsProblemAt}
 use Rattle.text_values.proofs.form_spellings.DefinitionsIn.{DefinitionIs, definition_in, domain_is, problem_is}

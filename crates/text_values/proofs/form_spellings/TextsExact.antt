@@ -13,7 +13,7 @@ use Rattle.gd_reader.specs.Terms.{Names}
 use Rattle.gd_reader.proofs.Keeping.{keeps_same}
 use Rattle.hddl_reader.specs.declared.sections.Definition.{Definition}
 use Rattle.hddl_reader.specs.declared.sections.Language.{Language}
-use Rattle.hddl_reader.specs.declared.sections.RawSections.{RawSections}
+use Rattle.hddl_reader.specs.declared.raw_sections.RawSections.{RawSections}
 use Rattle.hddl_reader.specs.Definitions.{coded, key_due, definition_word, title, definition_inside, nothing_due, definition_read}
 use Rattle.hddl_reader.specs.Networks.{declared, is_word}
 use Rattle.hddl_reader.specs.Sections.{no_sections, sections}

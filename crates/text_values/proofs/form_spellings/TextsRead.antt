@@ -31,7 +31,7 @@ use Rattle.hddl_reader.specs.declared.sections.Language.{Language}
 use Rattle.hddl_reader.specs.declared.sections.Language.TheVariants as language
 use Rattle.hddl_reader.specs.declared.sections.RawDomain.{RawDomain}
 use Rattle.hddl_reader.specs.declared.sections.RawProblem.{RawProblem}
-use Rattle.hddl_reader.specs.declared.sections.RawSections.{RawSections}
+use Rattle.hddl_reader.specs.declared.raw_sections.RawSections.{RawSections}
 use Rattle.hddl_reader.specs.Definitions.{domain_of, or_empty, problem_of, definition_read, IsRead, IsDomainRead, IsProblemRead}
 use Rattle.hddl_reader.specs.Sections.{no_sections, or_none, or_true, network_of}
 use Rattle.text_values.specs.form_spellings.Bound.{IsBoundObject, IsBoundFormula}

@@ -25,7 +25,7 @@ use Rattle.hddl_reader.specs.declared.sections.Language.TheVariants as language
 use Rattle.hddl_reader.specs.declared.sections.RawDomain.{RawDomain}
 use Rattle.hddl_reader.specs.declared.sections.RawMethod.{RawMethod}
 use Rattle.hddl_reader.specs.declared.sections.RawProblem.{RawProblem}
-use Rattle.hddl_reader.specs.declared.sections.RawSections.{RawSections}
+use Rattle.hddl_reader.specs.declared.raw_sections.RawSections.{RawSections}
 use Rattle.hddl_reader.specs.Definitions.{definition_read, domain_of, problem_of, language_of, kind_of, IsRead, IsDomainRead, IsProblemRead}
 use Rattle.hddl_reader.proofs.DefinitionsSaid.{definition_said}
 use Rattle.hddl_reader.proofs.Refusals.{is_read}

@@ -21,7 +21,7 @@ use Rattle.gd_reader.proofs.Keeping.{keeps_same}
 use Rattle.hddl_reader.specs.declared.parts.RawParts.{RawParts}
 use Rattle.hddl_reader.specs.declared.sections.Definition.{Definition}
 use Rattle.hddl_reader.specs.declared.sections.Language.{Language}
-use Rattle.hddl_reader.specs.declared.sections.RawSections.{RawSections}
+use Rattle.hddl_reader.specs.declared.raw_sections.RawSections.{RawSections}
 use Rattle.hddl_reader.specs.Definitions.{coded, key_due, definition_word, title, definition_inside, nothing_due, definition_read, domain_of, or_empty, problem_of, IsRead}
 use Rattle.hddl_reader.specs.Networks.{declared, is_word}
 use Rattle.hddl_reader.specs.Sections.{no_sections, sections, or_none}

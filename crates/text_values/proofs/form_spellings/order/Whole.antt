@@ -9,7 +9,7 @@ use Rattle.hddl_reader.specs.declared.sections.Definition.TheVariants as definit
 use Rattle.hddl_reader.specs.declared.sections.Language.{Language}
 use Rattle.hddl_reader.specs.declared.sections.RawDomain.{RawDomain}
 use Rattle.hddl_reader.specs.declared.sections.RawProblem.{RawProblem}
-use Rattle.hddl_reader.specs.declared.sections.RawSections.{RawSections}
+use Rattle.hddl_reader.specs.declared.raw_sections.RawSections.{RawSections}
 use Rattle.hddl_reader.specs.Definitions.{definition_read, domain_of, IsRead, IsDomainRead, IsProblemRead}
 use Rattle.text_values.specs.form_spellings.InOrder.{IsDomainInOrder, IsProblemInOrder}
 use Rattle.text_values.specs.form_spellings.InTable.{IsDomainIn, IsProblemIn}

@@ -20,7 +20,7 @@ use Rattle.hddl_reader.specs.declared.sections.Language.{Language}
 use Rattle.hddl_reader.specs.declared.sections.RawDomain.{RawDomain}
 use Rattle.hddl_reader.specs.declared.sections.RawHead.{RawHead}
 use Rattle.hddl_reader.specs.declared.sections.RawProblem.{RawProblem}
-use Rattle.hddl_reader.specs.declared.sections.RawSections.{RawSections}
+use Rattle.hddl_reader.specs.declared.raw_sections.RawSections.{RawSections}
 use Rattle.hddl_reader.specs.Definitions.{domain_of, or_empty, problem_of, IsRead}
 use Rattle.hddl_reader.specs.Sections.{or_none}
 use Rattle.text_values.specs.form_spellings.SeenInOrder.{type_parts, IsWrittenAs, AreSorted, AreSeen, AllAreSeen}

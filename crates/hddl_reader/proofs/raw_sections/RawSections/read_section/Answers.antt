@@ -1,5 +1,5 @@
 use Rattle.gd_reader.proofs.Keeping.{keeps_same}
-use Rattle.hddl_reader.proofs.sections.RawSections.read_section.Goals as goal
+use Rattle.hddl_reader.proofs.raw_sections.RawSections.read_section.Goals as goal
 
 pub returns-in-Requirements-clause-keeps : goal.returns-in-Requirements-clause-keeps
 returns-in-Requirements-clause-keeps c = keeps_same c.args.names.now

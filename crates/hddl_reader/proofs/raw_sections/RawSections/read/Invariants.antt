@@ -4,7 +4,7 @@ use Rattle.text_forms.specs.Tokens.{token_count}
 use Rattle.gd_reader.specs.Added.{AddsOf}
 use Rattle.gd_reader.specs.Terms.{Keeps}
 use Rattle.hddl_reader.specs.Sections.{sections}
-use Rattle.hddl_reader.proofs.sections.RawSections.read.Given as goal
+use Rattle.hddl_reader.proofs.raw_sections.RawSections.read.Given as goal
 
 abbrev pub invariant-loop-inside : goal.invariant-loop-inside
 invariant-loop-inside l = record {

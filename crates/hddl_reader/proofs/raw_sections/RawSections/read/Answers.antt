@@ -6,7 +6,7 @@ use Rattle.gd_reader.proofs.Steps.{is_none}
 use Rattle.hddl_reader.specs.Sections.{sections}
 use Rattle.hddl_reader.proofs.FoldSteps.{fold_end, fold_stuck, fold_stop, fold_next}
 use Rattle.hddl_reader.proofs.SectionSteps.{section_next, section_met, sections_all, section_behind, sections_is}
-use Rattle.hddl_reader.proofs.sections.RawSections.read.Goals as goal
+use Rattle.hddl_reader.proofs.raw_sections.RawSections.read.Goals as goal
 
 pub returns-in_err-inside-clause-gives : goal.returns-in_err-inside-clause-gives
 returns-in_err-inside-clause-gives c =

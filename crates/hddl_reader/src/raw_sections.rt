@@ -1,0 +1,205 @@
+ghost use Rattle.std.specs.Prelude.{◌≡◌, IfOk, IfSome};
+ghost use Rattle.std.specs.Option.{option_map};
+ghost use Rattle.text_forms.specs.Placed.{parts_at};
+ghost use Rattle.gd_reader.specs.Answers.{Gives};
+ghost use Rattle.gd_reader.specs.Shown.{AreLater, parts_at_both};
+ghost use Rattle.hddl_reader.specs.Definitions.{domain_of, or_empty, problem_of};
+ghost use Rattle.hddl_reader.specs.Sections.{no_sections, has_section, may_end, section_due};
+
+use crate::parts::RawParts;
+use crate::sections::{
+    Definition, Language, RawAction, RawDomain, RawHead, RawMethod, RawProblem, Section,
+};
+use crate::wholes::{facts_or_none, or_none, or_true, params_or_none};
+use gd_reader::{Failure, Item, RawFacts, RawFormula, RawParams, Stop, item_at};
+use htn_base::{List, Name};
+use std::alloc::Global;
+use text_forms::sexpr_text::Sexprs;
+
+/// The sections that are written. Requirements, functions, a metric and the domain's name are read and dropped.
+pub struct RawSections {
+    pub requirements: bool,
+    pub types: Option<RawParams>,
+    pub constants: Option<RawParams>,
+    pub predicates: Option<List<RawHead>>,
+    pub functions: bool,
+    pub tasks: List<RawHead>,
+    pub methods: List<RawMethod>,
+    pub actions: List<RawAction>,
+    pub domain: bool,
+    pub objects: Option<RawParams>,
+    pub network: Option<RawParts>,
+    pub init: Option<RawFacts>,
+    pub goal: Option<RawFormula>,
+    pub metric: bool,
+}
+
+impl Drop for RawSections {
+    fn drop(self) {
+        let RawSections {
+            requirements: _,
+            types: _,
+            constants: _,
+            predicates: _,
+            functions: _,
+            tasks: _,
+            methods: _,
+            actions: _,
+            domain: _,
+            objects: _,
+            network: _,
+            init: _,
+            goal: _,
+            metric: _,
+        } = self;
+    }
+}
+
+impl RawSections {
+    /// No sections yet.
+    pub(crate) fn new(alloc: Global) -> RawSections
+        ensures empty { result ≡ no_sections }
+    {
+        RawSections {
+            requirements: false,
+            types: None,
+            constants: None,
+            predicates: None,
+            functions: false,
+            tasks: List::new(alloc),
+            methods: List::new(alloc),
+            actions: List::new(alloc),
+            domain: false,
+            objects: None,
+            network: None,
+            init: None,
+            goal: None,
+            metric: false,
+        }
+    }
+
+    /// Whether a section stands already that may stand once.
+    #[tactic(auto, unfolding(crate::specs::Sections::has_section))]
+    pub(crate) fn has(&self, section: Section) -> bool
+        ensures { result ≡ has_section self.now section }
+    {
+        match section {
+            Section::Requirements => self.requirements,
+            Section::Types => self.types.is_some(),
+            Section::Constants => self.constants.is_some(),
+            Section::Predicates => self.predicates.is_some(),
+            Section::Functions => self.functions,
+            Section::Task | Section::Method | Section::Action => false,
+            Section::Domain => self.domain,
+            Section::Objects => self.objects.is_some(),
+            Section::Network => self.network.is_some(),
+            Section::Init => self.init.is_some(),
+            Section::Goal => self.goal.is_some(),
+            Section::Metric => self.metric,
+        }
+    }
+
+    // A problem of HDDL has an initial network.
+    #[tactic(auto, unfolding(crate::specs::Sections::may_end))]
+    fn may_end(&self, language: Language, definition: Definition) -> bool
+        ensures { result ≡ may_end language definition self.now }
+    {
+        match (language, definition) {
+            (Language::Hddl, Definition::Problem) => self.network.is_some(),
+            (Language::Pddl, Definition::Problem) | (_, Definition::Domain) => true,
+        }
+    }
+
+    /// The section that is next, as the numbers of the token that comes first in it and of the one behind it; or
+    /// `None` at the end of the sections.
+    #[tactic(auto, unfolding(crate::specs::Sections::section_due))]
+    pub(crate) fn section_due(
+        &self,
+        s: &Sexprs<'_>,
+        i: u32,
+        language: Language,
+        definition: Definition,
+    ) -> Result<Option<(u32, u32)>, Failure>
+        ensures gives { Gives (option_map (parts_at_both s.now)) result
+            (section_due language definition self.now (parts_at s.now i)) }
+        ensures later { IfOk result (λ o. IfSome o (AreLater s.now i)) }
+    {
+        match item_at(s, i) {
+            Item::End => Err(Failure::At(Stop::Ends)),
+            Item::Close(_) if self.may_end(language, definition) => Ok(None),
+            Item::Close(at) | Item::Word(at, _) => Err(Failure::At(Stop::Departs(8, at))),
+            Item::List(_, inside, behind) => Ok(Some((inside, behind))),
+        }
+    }
+
+    /// The domain of this name.
+    pub(crate) fn into_domain(self, alloc: Global, name: Name) -> RawDomain
+        ensures { result ≡ domain_of (name, self) }
+    {
+        let RawSections {
+            requirements: _,
+            types,
+            constants,
+            predicates,
+            functions: _,
+            tasks,
+            methods,
+            actions,
+            domain: _,
+            objects: _,
+            network: _,
+            init: _,
+            goal: _,
+            metric: _,
+        } = self;
+        RawDomain {
+            name,
+            types: params_or_none(alloc, types),
+            constants: params_or_none(alloc, constants),
+            predicates: or_none(alloc, predicates),
+            tasks,
+            methods,
+            actions,
+        }
+    }
+
+    /// The problem of this name.
+    pub(crate) fn into_problem(self, alloc: Global, name: Name) -> RawProblem
+        ensures { result ≡ problem_of (name, self) }
+    {
+        let RawSections {
+            requirements: _,
+            types: _,
+            constants: _,
+            predicates: _,
+            functions: _,
+            tasks: _,
+            methods: _,
+            actions: _,
+            domain: _,
+            objects,
+            network,
+            init,
+            goal,
+            metric: _,
+        } = self;
+        let (params, net) = or_empty(network).into_network(alloc);
+        RawProblem {
+            name,
+            objects: params_or_none(alloc, objects),
+            params,
+            net,
+            init: facts_or_none(alloc, init),
+            goal: or_true(alloc, goal),
+        }
+    }
+}
+
+fn or_empty(parts: Option<RawParts>) -> RawParts
+    ensures { result ≡ or_empty parts }
+{
+    match parts {
+        None => RawParts::new(),
+        Some(parts) => parts,
+    }
+}
