@@ -3,7 +3,7 @@ ghost use Rattle.text_forms.specs.Placed.{parts_at};
 ghost use Rattle.gd_reader.specs.Added.{AddsOf, AddsWordOf, bare};
 ghost use Rattle.gd_reader.specs.Answers.{GivesWith};
 ghost use Rattle.gd_reader.specs.Terms.{Keeps};
-ghost use Rattle.hddl_reader.specs.Networks.{Headed, one_of, all_of, some_of};
+ghost use Rattle.hddl_reader.specs.Networks.{Headed, all_of, some_of};
 
 use crate::opened::opened_or_end;
 use gd_reader::{Failure, is_word, word_due, word_or_end};
@@ -31,25 +31,7 @@ pub(crate) trait Item: Drop {
             (headed names.old place at (folded word.now) (parts_at s.now i)) };
 }
 
-// An item behind its parenthesis.
-#[tactic(auto, using(gd_reader::proofs::Keeping::keeps_same, gd_reader::proofs::Keeping::keeps_then))]
-fn one_of<T: Item>(
-    alloc: Global,
-    s: &Sexprs<'_>,
-    place: u32,
-    i: u32,
-    names: &mut NameTable,
-) -> Result<T, Failure>
-    ensures keeps { Keeps names.old names.new }
-    ensures adds { AddsOf s.now names.old names.new }
-    ensures gives { GivesWith names.new result
-        (one_of T.headed names.old place (parts_at s.now i)) }
-{
-    let (at, word, i) = word_due(s, i)?;
-    T::headed_of(alloc, s, place, at, word, i, names)
-}
-
-// Items up to the end of their list.
+// Items, each in its parentheses, up to the end of their list.
 #[tactic(auto, using(gd_reader::proofs::Keeping::keeps_same, gd_reader::proofs::Keeping::keeps_then))]
 pub(crate) fn all_of<T: Item>(
     alloc: Global,
@@ -63,7 +45,8 @@ pub(crate) fn all_of<T: Item>(
 {
     let mut items = List::new(alloc);
     while let Some((place, inside, behind)) = opened_or_end(s, i)? {
-        let item = one_of(alloc, s, place, inside, names)?;
+        let (at, word, inside) = word_due(s, inside)?;
+        let item = T::headed_of(alloc, s, place, at, word, inside, names)?;
         items.push(item)?;
         i = behind;
     }

@@ -1,5 +1,0 @@
-use Rattle.gd_reader.proofs.Keeping.{keeps_same}
-use Rattle.hddl_reader.proofs.items.one_of.Goals as goal
-
-pub returns-in_err-at-clause-keeps : goal.returns-in_err-at-clause-keeps
-returns-in_err-at-clause-keeps g c = keeps_same c.args.names.now
