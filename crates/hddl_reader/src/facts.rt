@@ -8,7 +8,7 @@ ghost use Rattle.gd_reader.specs.Added.{AddsOf};
 ghost use Rattle.gd_reader.specs.Answers.{Gives, GivesWith, with_front};
 ghost use Rattle.gd_reader.specs.ShownFrom.{behind_at};
 ghost use Rattle.gd_reader.specs.Terms.{Keeps};
-ghost use Rattle.hddl_reader.specs.Sections.{words, dropped_name, used_names, assignment, applied_to, fact, facts, goal};
+ghost use Rattle.hddl_reader.specs.Sections.{words, dropped_name, used_names, applied_to, fact, facts, goal};
 
 use gd_reader::{
     Failure, Item, RawFacts, RawFormula, RawTerm, Sort, Stop, WordOrEnd, end_due, end_due_from,
@@ -78,23 +78,9 @@ fn used_names_of(
     }
 }
 
-// Behind the sign of an assignment: a list, a word, and the end, all dropped; and the position behind that end.
-#[tactic(auto, unfolding(crate::specs::Sections::assignment))]
-fn assignment(s: &Sexprs<'_>, i: u32) -> Result<Position, Failure>
-    ensures gives { Gives (λ _. tt) result (assignment (parts_at s.now i)) }
-    ensures position { IfOk result (IsPosition s.now) }
-    ensures later { IfOk result (λ x. (i < x.token) × (x.token ≤ token_count s.now)) }
-    ensures behind { IfOk result (λ x. parts_at s.now x.token ≡ behind_at s.now i) }
-{
-    let (inside, behind) = list_due(s, i)?;
-    pass(s, inside)?;
-    let (_, _, next) = word_due_from(s, s.position(behind))?;
-    end_due_from(s, next)
-}
-
 // What stands in the parentheses of an element of `:init`: an atom, as its head, and its names in `args`; or an
-// assignment, of which nothing is kept. Reading it ends at the position behind it.
-#[tactic(auto, unfolding(crate::specs::Sections::fact), using(gd_reader::proofs::Keeping::keeps_same, gd_reader::proofs::Keeping::keeps_then))]
+// assignment, a list and a word behind its sign, of which nothing is kept. Reading it ends at the position behind it.
+#[tactic(auto, unfolding(crate::specs::Sections::fact, crate::specs::Sections::assignment), using(gd_reader::proofs::Keeping::keeps_same, gd_reader::proofs::Keeping::keeps_then))]
 fn fact_of(
     s: &Sexprs<'_>,
     p: Position,
@@ -113,8 +99,11 @@ fn fact_of(
 {
     let (at, word, next) = word_due_from(s, p)?;
     if is_word(word, b"=") {
-        let behind = assignment(s, next.token)?;
-        Ok((None, behind))
+        let (inside, behind) = list_due(s, next.token)?;
+        pass(s, inside)?;
+        let (_, _, next) = word_due_from(s, s.position(behind))?;
+        let end = end_due_from(s, next)?;
+        Ok((None, end))
     } else {
         let head = marked_used_of(names, at, word, marks)?;
         let behind = used_names_of(s, next, names, marks, args)?;
