@@ -40,6 +40,41 @@ module _ (f : Frame) (m : ℕ) (plan : MethodPlan) where
   pub method_change-at : (check : ℕ) (children : List Child) → check ≡ check_predicate f.compiled.now m → made.method_change f check plan children ≡ spec.method_eff f.compiled.now f.printed.now f.slots f.style m plan children
   method_change-at check children e = ap (λ k. made.method_change f k plan children) e ∙ method_change-is children
 
+-- what a method asks for first
+module _ (f : Frame) (plan : MethodPlan) where
+  abbrev asked : ℕ → ℕ → ℕ → List Formula
+  asked front depth spare = (F.Holds (made.method_task f front plan) ∷ made.waiting f depth) ++ made.new_slots_free f spare
+
+  pub method_before-is : (front depth spare : ℕ) → front ≡ suc (length plan.schema.children - 1) → depth ≡ suc (length plan.schema.children - 1) + length plan.schema.params → spare ≡ length plan.schema.children - 1
+      → asked front depth spare ≡ made.method_before f plan
+  method_before-is front depth spare e g s =
+      let n = length plan.schema.children - 1 in
+      ap (λ k. asked k depth spare) e ∙ ap (λ k. asked (suc n) k spare) g ∙ ap (λ k. asked (suc n) (suc n + length plan.schema.params) k) s
+
+-- what a method does, by its children: the task goes, and what is put behind that
+module _ (f : Frame) (check : ℕ) (plan : MethodPlan) where
+  abbrev gone : ℕ → List Effect → List Effect
+  gone front es = E.Delete (made.method_task f front plan) ∷ es
+
+  abbrev freed : ℕ → List Effect
+  freed depth = E.Add (made.is_free f 0) ∷ made.cleared f depth
+
+  pub change-freed : (front depth : ℕ) → front ≡ suc (length plan.schema.children - 1) → depth ≡ suc (length plan.schema.children - 1) + length plan.schema.params → length plan.schema.children ≡ 0
+      → gone front (freed depth) ≡ made.method_eff f check plan
+  change-freed front depth e g none =
+      ap (λ k. gone k (freed depth)) e ∙ ap (λ k. gone (suc (length plan.schema.children - 1)) (freed k)) g ∙ by plan.schema.children none
+    where
+      by : (children : List Child) → length children ≡ 0 → gone (suc (length plan.schema.children - 1)) (freed (suc (length plan.schema.children - 1) + length plan.schema.params)) ≡ made.method_change f check plan children
+      by [] none = refl
+      by (child ∷ children) none = absurd (omega (arith, none))
+
+  pub change-split : (front : ℕ) → front ≡ suc (length plan.schema.children - 1) → 0 < length plan.schema.children → gone front (made.children_put f check plan) ≡ made.method_eff f check plan
+  change-split front e some = ap (λ k. gone k (made.children_put f check plan)) e ∙ by plan.schema.children some
+    where
+      by : (children : List Child) → 0 < length children → gone (suc (length plan.schema.children - 1)) (made.children_put f check plan) ≡ made.method_change f check plan children
+      by [] some = absurd (omega (arith, some))
+      by (child ∷ children) some = refl
+
 -- a list of children that has come to its end adds nothing
 pub children_done : (f : Frame) (front check : ℕ) (slots : List ℕ) (children : List Child) (i : ℕ) (now old : List Effect) → length children ≤ i
     → now ++ map E.Add (made.child_atoms f front check (drop i slots) (drop i children)) ≡ old → now ≡ old

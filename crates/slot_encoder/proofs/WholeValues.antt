@@ -1,46 +1,45 @@
 -- The head with its actions is the encoded value, which is printable.
-use Rattle.std.proofs.Common.{ℕ, ◌≡◌, List, [], refl, sym, subst}
+use Rattle.std.proofs.Common.{ℕ, ◌≡◌, List, refl, sym, subst}
 use Rattle.plan_model.specs.declared.options.Style.{Style}
 use Rattle.plan_model.specs.declared.schemas.ActionSchema.{ActionSchema}
 use Rattle.plan_model.specs.declared.values.Compiled.{Compiled}
 use Rattle.plan_model.specs.declared.values.Pddl.{Pddl}
 use Rattle.slot_encoding.specs.EncodedValue.{IsEncoded, encoded_actions}
 use Rattle.slot_encoding.proofs.words.EncodedIsPrintable.{encoded_printable}
-use Rattle.slot_encoder.specs.Parts.{AreEncoded}
+use Rattle.slot_encoder.specs.Parts.{IsHead}
 use Rattle.slot_encoder.specs.Encodings.{with_actions, all_actions, IsEncoding, IsPrintableWhereSound}
-use Rattle.slot_encoder.specs.declared.encoding.Encoded.{Encoded}
 use Rattle.slot_encoder.specs.declared.encoding.Encoding.{Encoding}
 
--- the value of these words, parts and actions
-module _ (c : Compiled) (names : List (List ℕ)) (b : ℕ) (style : Style) (v : Encoded) (are : AreEncoded c names b style v) where
-  -- without its actions
-  abbrev pub head : List (List ℕ) → Pddl
-  head words = record {
+-- all but the actions, and the actions
+module _ (c : Compiled) (names : List (List ℕ)) (b : ℕ) (style : Style) (v : Pddl) (is : IsHead c names b style v) where
+  -- over these words
+  abbrev with_words : List (List ℕ) → Pddl
+  with_words words = record {
     names = words;
     domain = v.domain;
     problem = v.problem;
-    types = v.declarations.types;
-    objects = v.declarations.objects;
-    predicates = v.declarations.predicates;
-    actions = [];
-    init = v.behaviour.init;
-    goal = v.behaviour.goal;
+    types = v.types;
+    objects = v.objects;
+    predicates = v.predicates;
+    actions = encoded_actions c names b style;
+    init = v.init;
+    goal = v.goal;
   }
 
-  over_names : IsEncoded c b style (with_actions (head names) (encoded_actions c names b style))
+  over_names : IsEncoded c b style (with_words names)
   over_names = record {
-    domain = are.domain;
-    problem = are.problem;
-    types = are.declarations.types;
-    objects = are.declarations.objects;
-    predicates = are.declarations.predicates;
+    domain = is.domain;
+    problem = is.problem;
+    types = is.types;
+    objects = is.objects;
+    predicates = is.predicates;
     actions = refl;
-    init = are.behaviour.init;
-    goal = are.behaviour.goal;
+    init = is.init;
+    goal = is.goal;
   }
 
-  pub head-encoded : IsEncoded c b style (with_actions (head v.words) (encoded_actions c names b style))
-  head-encoded = subst (λ words. IsEncoded c b style (with_actions (head words) (encoded_actions c names b style))) (sym are.words) over_names
+  pub head-encoded : IsEncoded c b style (with_actions v (encoded_actions c names b style))
+  head-encoded = subst (λ words. IsEncoded c b style (with_words words)) (sym is.words) over_names
 
 -- the finished value
 module _ (c : Compiled) (e : Encoding) (is : IsEncoding c e) (actions : List ActionSchema) (all : actions ≡ all_actions c e) where

@@ -8,7 +8,6 @@ use Rattle.plan_model.specs.declared.options.Checks.{Checks}
 use Rattle.plan_model.specs.declared.values.Hddl.{Hddl}
 use Rattle.plan_model.specs.plan_meaning.Compilation.{IsCompiled}
 use Rattle.htn_base.specs.declared.name.Name.{Name}
-use Rattle.plan_model.specs.declared.effects.Effect.{Effect}
 use Rattle.plan_model.specs.declared.effects.Effect.TheVariants as E
 use Rattle.plan_model.specs.declared.formulas.Formula.TheVariants.{And}
 use Rattle.plan_model.specs.declared.schemas.ActionSchema.{ActionSchema}
@@ -19,16 +18,16 @@ use Rattle.slot_encoding.specs.EncodedValue.{IsEncoded, encoded_actions}
 use Rattle.slot_encoding.specs.EncodedWords.{HasEncodedWords}
 use Rattle.slot_encoding.specs.slot_declarations.Frames.{IsBasis}
 use Rattle.slot_encoder.specs.declared.encoding.Encoding.{Encoding}
-use Rattle.slot_encoder.specs.declared.split_action.Opening.{Opening}
+use Rattle.slot_encoder.specs.declared.split_action.Parts.{Parts}
 use Rattle.slot_encoder.specs.declared.split_action.SplitAction.{SplitAction}
 
 -- the action with all its parts
 abbrev pub whole : SplitAction → ActionSchema
 whole a = record { name = a.name; params = a.params; pre = And (a.before ++ (differ (numbers 1 a.spare) ++ a.behind)); eff = a.eff }
 
--- the action of a work, of what it begins with and its effects
-abbrev pub work : Name → Opening → List Effect → ActionSchema
-work n o es = record { name = n; params = o.params; pre = And o.before; eff = E.And es }
+-- the action of this name of these parts, with so many new slots
+abbrev pub joined : Name → ℕ → Parts → ActionSchema
+joined n spare p = record { name = n; params = p.params; pre = And (p.before ++ (differ (numbers 1 spare) ++ p.behind)); eff = E.And p.effects }
 
 -- the value with these actions
 abbrev pub with_actions : Pddl → List ActionSchema → Pddl

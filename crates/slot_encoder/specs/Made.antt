@@ -20,6 +20,7 @@ use Rattle.plan_model.specs.declared.networks.Guard.{Guard}
 use Rattle.plan_model.specs.declared.networks.Pair.{Pair}
 use Rattle.plan_model.specs.declared.schemas.ActionSchema.{ActionSchema}
 use Rattle.plan_model.specs.declared.schemas.MethodPlan.{MethodPlan}
+use Rattle.plan_model.specs.declared.values.Pddl.{Pddl}
 use Rattle.plan_model.specs.plan_meaning.Network.{InTypeOf}
 use Rattle.plan_model.specs.plan_meaning.Compilation.{Keeps}
 use Rattle.plan_model.specs.task_networks.Spelling.{numbers}
@@ -31,8 +32,6 @@ use Rattle.slot_encoding.specs.EncodedValue as value
 use Rattle.slot_encoder.specs.Pieces.{encoded_goal}
 use Rattle.slot_encoder.specs.Parts as parts
 use Rattle.slot_encoding.specs.slot_declarations.Made as declarations
-use Rattle.slot_encoder.specs.declared.encoding.Behaviour.{Behaviour}
-use Rattle.slot_encoder.specs.declared.encoding.Encoded.{Encoded}
 use Rattle.slot_encoding.specs.declared.slot_declarations.frame.Frame.{Frame}
 
 module _ (f : Frame) where
@@ -254,9 +253,6 @@ module _ (f : Frame) where
   abbrev pub slots_free : List Formula
   slots_free = order.free_parts pairs b 0 style (encoded.free_predicate c)
 
-  -- the whole, and what it does
-  abbrev pub IsBehaviour : Behaviour → Type 0
-  IsBehaviour = parts.IsBehaviour c words b style
-
-  abbrev pub AreEncoded : Encoded → Type 0
-  AreEncoded = parts.AreEncoded c words b style
+  -- all but the actions
+  abbrev pub IsHead : Pddl → Type 0
+  IsHead = parts.IsHead c words b style

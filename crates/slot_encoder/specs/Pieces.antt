@@ -1,6 +1,6 @@
 -- Pieces of the printed problem that are made without a frame.
 -- Source: this project's encoding, after Alford et al., "Bound to Plan", ICAPS 2016.
-use Rattle.std.specs.Prelude.{ℕ, suc, ◌+◌, Option, cond, List, ◌++◌, map}
+use Rattle.std.specs.Prelude.{ℕ, ◌+◌, Option, cond, List, ◌++◌, map}
 use Rattle.plan_model.specs.declared.options.Style.{Style}
 use Rattle.plan_model.specs.declared.terms.Term.TheVariants.{Var}
 use Rattle.plan_model.specs.declared.terms.Atom.{Atom}
@@ -12,9 +12,9 @@ use Rattle.order_encoder.specs.OrderFormulas.{free_parts}
 use Rattle.slot_encoding.specs.EncodedNames.{order_numbers, free_predicate}
 use Rattle.slot_encoding.specs.EncodedActions.{source_condition}
 
--- the first slot holds a source action or a check, with its parameters
-abbrev pub held_work : ℕ → ℕ → Atom
-held_work predicate count = record { predicate = predicate; args = map Var (numbers 0 (suc count)) }
+-- the first slot holds a source action or a check, with its parameters: so many variables in all
+abbrev pub held_in_first : ℕ → ℕ → Atom
+held_in_first predicate depth = record { predicate = predicate; args = map Var (numbers 0 depth) }
 
 abbrev pub unequal_to : ℕ → ℕ → Formula
 unequal_to v u = Not (Equal (Var v) (Var u))

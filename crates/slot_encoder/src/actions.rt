@@ -25,7 +25,9 @@ pub(crate) fn action_at(alloc: Global, frame: &Frame<'_>, k: u32) -> Result<Spli
     } else if k - methods < checks {
         check_at(alloc, frame, k - methods)
     } else {
-        source_at(alloc, frame, k - methods - checks)
+        let a = k - methods - checks;
+        let action = &frame.compiled.hddl.actions.as_slice()[a as usize];
+        encoded_action(alloc, frame, a, action)
     }
 }
 
@@ -61,14 +63,4 @@ fn check_predicate(frame: &Frame<'_>, m: u32) -> Result<u32, Memory>
 {
     let before = frame.basis.checks.before.as_slice()[m as usize];
     plus(frame.basis.numbers.first_check, before)
-}
-
-fn source_at(alloc: Global, frame: &Frame<'_>, a: u32) -> Result<SplitAction, Memory>
-    requires frame { IsFrame frame.now }
-    requires some { a < length frame.now.compiled.now.hddl.actions }
-    ensures { IfOk result (λ s.
-        slice_get (made.source_actions frame.now frame.now.compiled.now.hddl.actions) a ≡ Some (whole s)) }
-{
-    let action = &frame.compiled.hddl.actions.as_slice()[a as usize];
-    encoded_action(alloc, frame, a, action)
 }

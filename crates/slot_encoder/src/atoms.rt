@@ -1,8 +1,6 @@
-ghost use Rattle.std.specs.Prelude.{◌≡◌, ◌++◌, map, IfOk, OnOk};
-ghost use Rattle.plan_model.specs.declared.terms.Term.TheVariants as T;
-ghost use Rattle.plan_model.specs.task_networks.Spelling.{numbers};
+ghost use Rattle.std.specs.Prelude.{◌≡◌, IfOk};
 ghost use Rattle.slot_encoding.specs.slot_declarations.Frames.{IsFrame};
-ghost use Rattle.slot_encoder.specs.Pieces.{held_work};
+ghost use Rattle.slot_encoder.specs.Pieces.{held_in_first};
 ghost use Rattle.slot_encoder.specs.Made as made;
 
 use crate::terms::push_moved;
@@ -60,22 +58,13 @@ pub(crate) fn held(
     Ok(Atom { predicate, args })
 }
 
-/// The atom that the first slot holds a source action or a check, with its parameters.
-pub(crate) fn held_work(alloc: Global, predicate: u32, count: u32) -> Result<Atom, Memory>
-    ensures { IfOk result (λ a. a ≡ held_work predicate count) }
+/// The atom that the first slot holds a source action or a check, with its parameters: so many variables in all.
+pub(crate) fn held_work(alloc: Global, predicate: u32, depth: u32) -> Result<Atom, Memory>
+    ensures { IfOk result (λ a. a ≡ held_in_first predicate depth) }
 {
     let mut args = List::new(alloc);
-    args.push(Term::Var(0))?;
-    push_variables(count, &mut args)?;
-    Ok(Atom { predicate, args })
-}
-
-/// Puts so many variables at the end, from number 1 on.
-fn push_variables(count: u32, into: &mut List<Term>) -> Result<(), Memory>
-    ensures { OnOk result (into.new ≡ into.old ++ map T.Var (numbers 1 count)) }
-{
-    for k in 0..count {
-        into.push(Term::Var(1 + k))?;
+    for k in 0..depth {
+        args.push(Term::Var(k))?;
     }
-    Ok(())
+    Ok(Atom { predicate, args })
 }

@@ -6,7 +6,7 @@ ghost use Rattle.slot_encoder.specs.Made as made;
 use crate::effects::source_effect;
 use crate::formulas::source_formula;
 use htn_base::{List, Memory};
-use order_encoder::{push_clearing, push_waiting};
+use order_encoder::push_waiting;
 use plan_model::{Effect, Formula, Term};
 use slot_encoding::slot_declarations::Frame;
 use std::alloc::Global;
@@ -87,27 +87,6 @@ pub(crate) fn push_waits(
     ensures { OnOk result (into.new ≡ into.old ++ made.waiting frame.now depth) }
 {
     push_waiting(
-        alloc,
-        &frame.basis.order,
-        frame.slots,
-        &frame.style,
-        Term::Var(0),
-        depth,
-        into,
-    )
-}
-
-/// Puts at the end that the pairs which leave the first variable's slot go.
-pub(crate) fn push_clears(
-    alloc: Global,
-    frame: &Frame<'_>,
-    depth: u32,
-    into: &mut List<Effect>,
-) -> Result<(), Memory>
-    requires { IsFrame frame.now }
-    ensures { OnOk result (into.new ≡ into.old ++ made.cleared frame.now depth) }
-{
-    push_clearing(
         alloc,
         &frame.basis.order,
         frame.slots,

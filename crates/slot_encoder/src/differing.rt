@@ -1,4 +1,4 @@
-ghost use Rattle.std.specs.Prelude.{◌≡◌, ◌+◌, ◌≤◌, ◌^◌, ◌++◌, map, IfOk, OnOk};
+ghost use Rattle.std.specs.Prelude.{◌≡◌, ◌+◌, ◌≤◌, ◌^◌, ◌++◌, map, OnOk};
 ghost use Rattle.plan_model.specs.task_networks.Spelling.{numbers};
 ghost use Rattle.slot_encoding.specs.EncodedActions.{differ};
 ghost use Rattle.slot_encoder.specs.Pieces.{unequal_to};
@@ -34,14 +34,8 @@ fn push_unequal(
     ensures { OnOk result (into.new ≡ into.old ++ map (unequal_to slot) (numbers first count)) }
 {
     for k in 0..count {
-        into.put(unequal(alloc, slot, first + k))?;
+        let equal = Formula::Equal(Term::Var(slot), Term::Var(first + k));
+        into.push(Formula::Not(Boxed::new(alloc, equal)?))?;
     }
     Ok(())
-}
-
-fn unequal(alloc: Global, slot: u32, other: u32) -> Result<Formula, Memory>
-    ensures { IfOk result (λ f. f ≡ unequal_to slot other) }
-{
-    let equal = Formula::Equal(Term::Var(slot), Term::Var(other));
-    Ok(Formula::Not(Boxed::new(alloc, equal)?))
 }

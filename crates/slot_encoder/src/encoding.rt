@@ -10,10 +10,10 @@ use crate::actions::action_at;
 use crate::goals::goal_of;
 use crate::initial::encoded_initial;
 use crate::split_action::SplitAction;
-use htn_base::{List, Memory, Name, NameTable, WordList};
-use plan_model::{ActionSchema, Compiled, Facts, Formula, Pddl, Style};
+use htn_base::{List, Memory, NameTable};
+use plan_model::{ActionSchema, Compiled, Pddl, Style};
 use slot_encoding::slot_declarations::{
-    Basis, Declarations, Frame, basis_of, declarations_of, renamed, vocabulary_of,
+    Basis, Frame, basis_of, declarations_of, renamed, vocabulary_of,
 };
 use std::alloc::Global;
 
@@ -60,19 +60,9 @@ impl Encoding {
             style: *style,
             basis: &basis,
         };
-        match parts_of(alloc, &frame) {
-            Ok(parts) => Ok(Encoding {
-                head: Pddl {
-                    names: parts.words,
-                    domain: parts.domain,
-                    problem: parts.problem,
-                    types: parts.declarations.types,
-                    objects: parts.declarations.objects,
-                    predicates: parts.declarations.predicates,
-                    actions: List::new(alloc),
-                    init: parts.behaviour.init,
-                    goal: parts.behaviour.goal,
-                },
+        match head_of(alloc, &frame) {
+            Ok(head) => Ok(Encoding {
+                head,
                 slots,
                 style: *style,
                 names,
@@ -131,17 +121,10 @@ impl Encoding {
     {
         let mut into = List::new(alloc);
         for k in 0..self.count(c) {
-            into.put(self.whole_action(alloc, c, k))?;
+            let action = self.action(alloc, c, k)?;
+            into.put(action.whole(alloc))?;
         }
         Ok(into)
-    }
-
-    fn whole_action(&self, alloc: Global, c: &Compiled, k: u32) -> Result<ActionSchema, Memory>
-        requires encoding { IsEncoding c.now self.now }
-        requires some { k < length (all_actions c.now self.now) }
-        ensures { IfOk result (λ a. slice_get (all_actions c.now self.now) k ≡ Some a) }
-    {
-        self.action(alloc, c, k)?.whole(alloc)
     }
 }
 
@@ -165,55 +148,25 @@ pub fn encode(alloc: Global, c: &Compiled, slots: u32, style: &Style) -> Result<
 }
 
 /// All of the printed problem but its actions.
-#[derive(Drop)]
-pub(crate) struct Encoded {
-    pub words: WordList,
-    pub domain: Name,
-    pub problem: Name,
-    pub declarations: Declarations,
-    pub behaviour: Behaviour,
-}
-
-/// Where the printed problem starts and what is wanted.
-#[derive(Drop)]
-pub(crate) struct Behaviour {
-    pub init: Facts,
-    pub goal: Formula,
-}
-
-fn parts_of(alloc: Global, frame: &Frame<'_>) -> Result<Encoded, Memory>
+fn head_of(alloc: Global, frame: &Frame<'_>) -> Result<Pddl, Memory>
     requires frame { IsFrame frame.now }
     requires listed { AreListed frame.now.compiled.now.hddl.types }
-    ensures { IfOk result (made.AreEncoded frame.now) }
+    ensures { IfOk result (made.IsHead frame.now) }
 {
-    let words = frame.printed.to_list(alloc)?;
     let hddl = &frame.compiled.hddl;
-    let domain = renamed(frame, hddl.domain);
-    let problem = renamed(frame, hddl.problem);
-    let declarations = declarations_of(alloc, frame)?;
-    match behaviour_of(alloc, frame) {
-        Ok(behaviour) => Ok(Encoded {
-            words,
-            domain,
-            problem,
-            declarations,
-            behaviour,
-        }),
-        Err(memory) => {
-            drop(declarations);
-            Err(memory)
-        }
-    }
-}
-
-fn behaviour_of(alloc: Global, frame: &Frame<'_>) -> Result<Behaviour, Memory>
-    requires frame { IsFrame frame.now }
-    requires listed { AreListed frame.now.compiled.now.hddl.types }
-    ensures { IfOk result (made.IsBehaviour frame.now) }
-{
+    let names = frame.printed.to_list(alloc)?;
     let init = encoded_initial(alloc, frame)?;
-    Ok(Behaviour {
+    let goal = goal_of(alloc, frame)?;
+    let declarations = declarations_of(alloc, frame)?;
+    Ok(Pddl {
+        names,
+        domain: renamed(frame, hddl.domain),
+        problem: renamed(frame, hddl.problem),
+        types: declarations.types,
+        objects: declarations.objects,
+        predicates: declarations.predicates,
+        actions: List::new(alloc),
         init,
-        goal: goal_of(alloc, frame)?,
+        goal,
     })
 }

@@ -1,4 +1,4 @@
-ghost use Rattle.std.specs.Prelude.{◌≡◌, ◌+◌, ◌++◌, ◌≤◌, ◌^◌, IfOk, OnOk};
+ghost use Rattle.std.specs.Prelude.{◌≡◌, ◌++◌, IfOk, OnOk};
 ghost use Rattle.slot_encoding.specs.slot_declarations.Frames.{IsFrame};
 ghost use Rattle.slot_encoder.specs.Made as made;
 
@@ -25,13 +25,12 @@ fn push_all_free(alloc: Global, frame: &Frame<'_>, into: &mut List<Formula>) -> 
 {
     match frame.style {
         Style::Adl => into.put(any_free(alloc, frame)),
-        Style::Flat => push_each_free(
-            alloc,
-            frame,
-            frame.basis.order.first_slot,
-            frame.slots,
-            into,
-        ),
+        Style::Flat => {
+            for k in 0..frame.slots {
+                into.put(free(alloc, frame, Term::Obj(frame.basis.order.first_slot + k)))?;
+            }
+            Ok(())
+        }
     }
 }
 
@@ -45,24 +44,8 @@ fn any_free(alloc: Global, frame: &Frame<'_>) -> Result<Formula, Memory>
     Ok(Formula::Forall(params, Boxed::new(alloc, free)?))
 }
 
-fn push_each_free(
-    alloc: Global,
-    frame: &Frame<'_>,
-    first: u32,
-    count: u32,
-    into: &mut List<Formula>,
-) -> Result<(), Memory>
-    requires frame { IsFrame frame.now }
-    requires room { first + count ≤ 2 ^ 32 }
-    ensures { OnOk result (into.new ≡ into.old ++ made.each_free frame.now first count) }
-{
-    for k in 0..count {
-        into.put(free(alloc, frame, Term::Obj(first + k)))?;
-    }
-    Ok(())
-}
-
-fn free(alloc: Global, frame: &Frame<'_>, slot: Term) -> Result<Formula, Memory>
+/// That the slot is free.
+pub(crate) fn free(alloc: Global, frame: &Frame<'_>, slot: Term) -> Result<Formula, Memory>
     requires { IsFrame frame.now }
     ensures { IfOk result (λ f. f ≡ made.free frame.now slot) }
 {

@@ -17,35 +17,28 @@ pub(crate) fn encoded_initial(alloc: Global, frame: &Frame<'_>) -> Result<Facts,
     requires listed { AreListed frame.now.compiled.now.hddl.types }
     ensures { IfOk result (made.IsInitial frame.now) }
 {
-    let mut into = first_atoms(alloc, frame)?;
+    let mut into = Facts::new(alloc);
+    push_first(alloc, frame, &mut into)?;
     push_guards(alloc, frame, frame.basis.guard_types.as_slice(), &mut into)?;
     Ok(into)
 }
 
-fn first_atoms(alloc: Global, frame: &Frame<'_>) -> Result<Facts, Memory>
+/// Puts at the end what is true of slots, and the source's atoms, each once.
+fn push_first(alloc: Global, frame: &Frame<'_>, into: &mut Facts) -> Result<(), Memory>
     requires { IsFrame frame.now }
-    ensures { IfOk result (λ atoms. atoms ≡ made.first_atoms frame.now) }
+    ensures { OnOk result (into.new ≡ into.old ++ made.first_atoms frame.now) }
 {
     let hddl = &frame.compiled.hddl;
-    let mut into = Facts::new(alloc);
     into.push(frame.basis.numbers.top, &[frame.basis.order.first_slot])?;
-    push_free(frame, frame.slots.saturating_sub(1), &mut into)?;
-    let most = hddl.objects.len().max(hddl.predicates.len()) as u32;
-    push_single(alloc, &hddl.init, most, &mut into)?;
-    Ok(into)
-}
-
-fn push_free(frame: &Frame<'_>, count: u32, into: &mut Facts) -> Result<(), Memory>
-    requires { IsFrame frame.now }
-    ensures { OnOk result (into.new ≡ into.old ++ made.free_atoms frame.now count) }
-{
-    for k in 0..count {
+    for k in 0..frame.slots.saturating_sub(1) {
         let slot = plus(frame.basis.order.first_slot, 1 + k)?;
         into.push(frame.basis.numbers.free, &[slot])?;
     }
-    Ok(())
+    let most = hddl.objects.len().max(hddl.predicates.len()) as u32;
+    push_single(alloc, &hddl.init, most, into)
 }
 
+/// Puts at the end the atoms of these guards: for each the objects in its type.
 fn push_guards(
     alloc: Global,
     frame: &Frame<'_>,
@@ -56,22 +49,12 @@ fn push_guards(
     requires listed { AreListed frame.now.compiled.now.hddl.types }
     ensures { OnOk result (made.AddsGuardAtoms frame.now types.now into.old into.new) }
 {
-    for ty in types {
-        push_members(alloc, frame, *ty, into)?;
-    }
-    Ok(())
-}
-
-/// Puts at the end the guard's atoms of the objects in the type.
-fn push_members(alloc: Global, frame: &Frame<'_>, ty: u32, into: &mut Facts) -> Result<(), Memory>
-    requires frame { IsFrame frame.now }
-    requires listed { AreListed frame.now.compiled.now.hddl.types }
-    ensures { OnOk result (made.AddsMembers frame.now ty into.old into.new) }
-{
     let hddl = &frame.compiled.hddl;
-    let predicate = guard_predicate(frame, ty)?;
-    let listed = members(alloc, &hddl.types, &hddl.objects, ty)?;
-    push_atoms(predicate, listed.as_slice(), into)?;
+    for ty in types {
+        let predicate = guard_predicate(frame, *ty)?;
+        let listed = members(alloc, &hddl.types, &hddl.objects, *ty)?;
+        push_atoms(predicate, listed.as_slice(), into)?;
+    }
     Ok(())
 }
 

@@ -6,15 +6,16 @@ ghost use Rattle.slot_encoding.specs.slot_declarations.Frames.{IsFrame};
 ghost use Rattle.slot_encoder.specs.Parts.{AreVariables};
 ghost use Rattle.slot_encoder.specs.Made as made;
 
-use crate::atoms::{held, is_free};
+use crate::atoms::held;
 use crate::conditions::{push_condition, push_waits};
 use crate::formulas::equal;
-use crate::split_action::{Opening, SplitAction};
-use crate::splitting::method_effects;
+use crate::goals::free;
+use crate::split_action::{Parts, SplitAction};
+use crate::splitting::push_method_effects;
 use crate::terms::moved;
 use crate::variables::{Variables, variables_of};
 use htn_base::{Boxed, List, Memory, Name};
-use plan_model::{Atom, Constraint, Effect, Formula, Guard, MethodPlan, Param};
+use plan_model::{Atom, Constraint, Formula, Guard, MethodPlan, Param, Term};
 use slot_encoding::slot_declarations::{
     Frame, guard_predicate, named, numbered, prefixed, push_params, slot_param, task_predicate,
 };
@@ -32,82 +33,11 @@ pub(crate) fn encoded_method(
     requires check { check ≡ names.check_predicate frame.now.compiled.now m }
     ensures { IfOk result (λ a. whole a ≡ made.method_action frame.now m plan.now) }
 {
-    let variables = variables_of(alloc, plan)?;
-    let action = method_action(alloc, frame, m, check, plan, &variables);
-    drop(variables);
-    action
-}
-
-fn method_action(
-    alloc: Global,
-    frame: &Frame<'_>,
-    m: u32,
-    check: u32,
-    plan: &MethodPlan,
-    variables: &Variables,
-) -> Result<SplitAction, Memory>
-    requires frame { IsFrame frame.now }
-    requires check { check ≡ names.check_predicate frame.now.compiled.now m }
-    requires variables { AreVariables plan.now variables.now }
-    ensures { IfOk result (λ a. whole a ≡ made.method_action frame.now m plan.now) }
-{
     let name = method_name(alloc, frame, m, plan)?;
-    let opening = method_opening(alloc, frame, plan, variables)?;
-    match method_rest(alloc, frame, check, plan, variables) {
-        Ok(rest) => Ok(SplitAction {
-            name,
-            params: opening.params,
-            before: opening.before,
-            spare: variables.spare,
-            behind: rest.behind,
-            eff: Effect::And(rest.effects),
-        }),
-        Err(memory) => {
-            drop(opening);
-            Err(memory)
-        }
-    }
-}
-
-fn method_opening(
-    alloc: Global,
-    frame: &Frame<'_>,
-    plan: &MethodPlan,
-    variables: &Variables,
-) -> Result<Opening, Memory>
-    requires frame { IsFrame frame.now }
-    requires variables { AreVariables plan.now variables.now }
-    ensures params { IfOk result (λ o. o.params ≡ made.method_params frame.now plan.now) }
-    ensures before { IfOk result (λ o. o.before ≡ made.method_before frame.now plan.now) }
-{
-    let params = method_params(alloc, frame, plan, variables)?;
-    let before = conditions_before(alloc, frame, plan, variables)?;
-    Ok(Opening { params, before })
-}
-
-/// What a method's action has behind that the new slots differ: further conditions, and the effects.
-#[derive(Drop)]
-struct Rest {
-    behind: List<Formula>,
-    effects: List<Effect>,
-}
-
-fn method_rest(
-    alloc: Global,
-    frame: &Frame<'_>,
-    check: u32,
-    plan: &MethodPlan,
-    variables: &Variables,
-) -> Result<Rest, Memory>
-    requires frame { IsFrame frame.now }
-    requires variables { AreVariables plan.now variables.now }
-    ensures behind { IfOk result (λ r.
-        r.behind ≡ made.method_behind frame.now variables.now.front plan.now) }
-    ensures effects { IfOk result (λ r. r.effects ≡ made.method_eff frame.now check plan.now) }
-{
-    let behind = conditions_behind(alloc, frame, variables.front, plan)?;
-    let effects = method_effects(alloc, frame, check, plan, variables)?;
-    Ok(Rest { behind, effects })
+    let variables = variables_of(alloc, plan)?;
+    let mut parts = Parts::new(alloc);
+    push_parts(alloc, frame, check, plan, &variables, &mut parts)?;
+    Ok(parts.into_action(name, variables.spare))
 }
 
 fn method_name(alloc: Global, frame: &Frame<'_>, m: u32, plan: &MethodPlan) -> Result<Name, Memory>
@@ -119,78 +49,103 @@ fn method_name(alloc: Global, frame: &Frame<'_>, m: u32, plan: &MethodPlan) -> R
     }
 }
 
-/// The task's slot, the new slots, and the method's own parameters.
-fn method_params(
+/// Puts the parts of a method's action at the ends.
+fn push_parts(
+    alloc: Global,
+    frame: &Frame<'_>,
+    check: u32,
+    plan: &MethodPlan,
+    variables: &Variables,
+    into: &mut Parts,
+) -> Result<(), Memory>
+    requires frame { IsFrame frame.now }
+    requires variables { AreVariables plan.now variables.now }
+    ensures params { OnOk result
+        (into.new.params ≡ into.old.params ++ made.method_params frame.now plan.now) }
+    ensures before { OnOk result
+        (into.new.before ≡ into.old.before ++ made.method_before frame.now plan.now) }
+    ensures behind { OnOk result (into.new.behind ≡ into.old.behind ++
+        made.method_behind frame.now variables.now.front plan.now) }
+    ensures effects { OnOk result
+        (into.new.effects ≡ into.old.effects ++ made.method_eff frame.now check plan.now) }
+{
+    push_method_params(alloc, frame, plan, variables, &mut into.params)?;
+    push_before(alloc, frame, plan, variables, &mut into.before)?;
+    push_behind(alloc, frame, variables.front, plan, &mut into.behind)?;
+    push_method_effects(alloc, frame, check, plan, variables, &mut into.effects)
+}
+
+/// Puts at the end the task's slot, the new slots, and the method's own parameters.
+fn push_method_params(
     alloc: Global,
     frame: &Frame<'_>,
     plan: &MethodPlan,
     variables: &Variables,
-) -> Result<List<Param>, Memory>
+    into: &mut List<Param>,
+) -> Result<(), Memory>
     requires frame { IsFrame frame.now }
     requires variables { AreVariables plan.now variables.now }
-    ensures { IfOk result (λ ps. ps ≡ made.method_params frame.now plan.now) }
+    ensures { OnOk result (into.new ≡ into.old ++ made.method_params frame.now plan.now) }
 {
-    let mut into = List::new(alloc);
     into.push(slot_param(named(frame, b"htn_h")))?;
-    push_new_slots(alloc, frame, variables.spare, &mut into)?;
-    push_params(frame, plan.schema.params.as_slice(), &mut into)?;
-    Ok(into)
+    for k in 0..variables.spare {
+        into.push(slot_param(numbered(alloc, frame, b"htn_h", 1 + k)?))?;
+    }
+    push_params(frame, plan.schema.params.as_slice(), into)
 }
 
-fn push_new_slots(
+/// Puts at the end what a method asks for first: its task in the first slot with nothing before it, and free slots.
+fn push_before(
+    alloc: Global,
+    frame: &Frame<'_>,
+    plan: &MethodPlan,
+    variables: &Variables,
+    into: &mut List<Formula>,
+) -> Result<(), Memory>
+    requires frame { IsFrame frame.now }
+    requires variables { AreVariables plan.now variables.now }
+    ensures { OnOk result (into.new ≡ into.old ++ made.method_before frame.now plan.now) }
+{
+    into.put(held_task(alloc, frame, plan, variables.front).map(Formula::Holds))?;
+    push_waits(alloc, frame, variables.depth, into)?;
+    push_free(alloc, frame, variables.spare, into)
+}
+
+fn push_free(
     alloc: Global,
     frame: &Frame<'_>,
     spare: u32,
-    into: &mut List<Param>,
+    into: &mut List<Formula>,
 ) -> Result<(), Memory>
-    ensures { OnOk result (into.new ≡ into.old ++ map (made.new_slot frame.now) (numbers 1 spare)) }
+    requires { IsFrame frame.now }
+    ensures { OnOk result (into.new ≡ into.old ++ made.new_slots_free frame.now spare) }
 {
     for k in 0..spare {
-        into.push(slot_param(numbered(alloc, frame, b"htn_h", 1 + k)?))?;
+        into.put(free(alloc, frame, Term::Var(1 + k)))?;
     }
     Ok(())
 }
 
-/// What a method asks for first: its task in the first slot with nothing before it, and free slots.
-fn conditions_before(
-    alloc: Global,
-    frame: &Frame<'_>,
-    plan: &MethodPlan,
-    variables: &Variables,
-) -> Result<List<Formula>, Memory>
-    requires frame { IsFrame frame.now }
-    requires variables { AreVariables plan.now variables.now }
-    ensures { IfOk result (λ fs. fs ≡ made.method_before frame.now plan.now) }
-{
-    let mut into = List::new(alloc);
-    into.put(held_task(alloc, frame, plan, variables.front).map(Formula::Holds))?;
-    push_waits(alloc, frame, variables.depth, &mut into)?;
-    push_free(alloc, frame, variables.spare, &mut into)?;
-    Ok(into)
-}
-
-/// What it asks for besides, the free slots being different: the constraints, the guards, and the precondition where it is
-/// tested at once.
-fn conditions_behind(
+/// Puts at the end what it asks for besides, the free slots being different: the constraints, the guards, and the precondition
+/// where it is tested at once.
+fn push_behind(
     alloc: Global,
     frame: &Frame<'_>,
     front: u32,
     plan: &MethodPlan,
-) -> Result<List<Formula>, Memory>
+    into: &mut List<Formula>,
+) -> Result<(), Memory>
     requires { IsFrame frame.now }
-    ensures { IfOk result (λ fs. fs ≡ made.method_behind frame.now front plan.now) }
+    ensures { OnOk result (into.new ≡ into.old ++ made.method_behind frame.now front plan.now) }
 {
-    let mut into = List::new(alloc);
-    push_constraints(
-        alloc,
-        frame,
-        front,
-        plan.schema.constraints.as_slice(),
-        &mut into,
-    )?;
-    push_guards(alloc, frame, front, plan.guards.as_slice(), &mut into)?;
-    push_tested(alloc, frame, front, plan, &mut into)?;
-    Ok(into)
+    let constraints = plan.schema.constraints.as_slice();
+    push_constraints(alloc, frame, front, constraints, into)?;
+    push_guards(alloc, frame, front, plan.guards.as_slice(), into)?;
+    if plan.tested {
+        push_condition(alloc, frame, front, &plan.schema.pre, into)
+    } else {
+        Ok(())
+    }
 }
 
 /// The method's task, in the first slot.
@@ -212,21 +167,6 @@ pub(crate) fn held_task(
         front,
         plan.schema.task_args.as_slice(),
     )
-}
-
-fn push_free(
-    alloc: Global,
-    frame: &Frame<'_>,
-    spare: u32,
-    into: &mut List<Formula>,
-) -> Result<(), Memory>
-    requires { IsFrame frame.now }
-    ensures { OnOk result (into.new ≡ into.old ++ made.new_slots_free frame.now spare) }
-{
-    for k in 0..spare {
-        into.put(is_free(alloc, frame, 1 + k).map(Formula::Holds))?;
-    }
-    Ok(())
 }
 
 fn push_constraints(
@@ -272,34 +212,10 @@ fn push_guards(
     ensures { OnOk result (into.new ≡ into.old ++ made.guards frame.now front guards.now) }
 {
     for one in guards {
-        into.put(guard(alloc, frame, front, one))?;
+        let predicate = guard_predicate(frame, one.ty)?;
+        let mut args = List::new(alloc);
+        args.put(moved(frame, front, one.term))?;
+        into.push(Formula::Holds(Atom { predicate, args }))?;
     }
     Ok(())
-}
-
-fn guard(alloc: Global, frame: &Frame<'_>, front: u32, one: &Guard) -> Result<Formula, Memory>
-    requires { IsFrame frame.now }
-    ensures { IfOk result (λ f. f ≡ made.guard frame.now front one.now) }
-{
-    let predicate = guard_predicate(frame, one.ty)?;
-    let mut args = List::new(alloc);
-    args.put(moved(frame, front, one.term))?;
-    Ok(Formula::Holds(Atom { predicate, args }))
-}
-
-fn push_tested(
-    alloc: Global,
-    frame: &Frame<'_>,
-    front: u32,
-    plan: &MethodPlan,
-    into: &mut List<Formula>,
-) -> Result<(), Memory>
-    requires { IsFrame frame.now }
-    ensures { OnOk result (into.new ≡ into.old ++ made.tested frame.now front plan.now) }
-{
-    if plan.tested {
-        push_condition(alloc, frame, front, &plan.schema.pre, into)
-    } else {
-        Ok(())
-    }
 }

@@ -1,4 +1,4 @@
-ghost use Rattle.std.specs.Prelude.{◌≡◌, ◌<◌, ◌^◌, [], ◌∷◌, ◌++◌, cond, IfOk, OnOk};
+ghost use Rattle.std.specs.Prelude.{◌≡◌, ◌<◌, ◌^◌, [], ◌∷◌, ◌++◌, IfOk, OnOk};
 ghost use Rattle.plan_model.specs.Facts.{atom_of};
 ghost use Rattle.plan_model.specs.Numbers as spec;
 ghost use Rattle.plan_model.specs.plan_meaning.Compilation.{once};
@@ -61,15 +61,8 @@ fn push_fact(
 {
     fact.args.copy_into(args)?;
     let new = seen.insert(alloc, fact.predicate, args.as_slice())?;
-    push_new(new, fact.predicate, args.as_slice(), into)?;
-    Ok(())
-}
-
-fn push_new(new: bool, predicate: u32, args: &[u32], into: &mut Facts) -> Result<(), Memory>
-    ensures { OnOk result (into.new ≡ into.old ++ cond new (atom_of predicate args.now ∷ []) []) }
-{
     if new {
-        into.push(predicate, args)
+        into.push(fact.predicate, args.as_slice())
     } else {
         Ok(())
     }

@@ -33,11 +33,61 @@ impl Drop for SplitAction {
     }
 }
 
-/// What an action begins with: its parameters, and the first parts of its condition.
-#[derive(Drop)]
-pub(crate) struct Opening {
+/// The lists of an action in the making: its parameters, the parts of its condition before and behind those that say that
+/// the new slots differ, and its effects.
+pub(crate) struct Parts {
     pub params: List<Param>,
     pub before: List<Formula>,
+    pub behind: List<Formula>,
+    pub effects: List<Effect>,
+}
+
+impl Drop for Parts {
+    fn drop(self) {
+        let Parts {
+            params: _,
+            before: _,
+            behind: _,
+            effects: _,
+        } = self;
+    }
+}
+
+impl Parts {
+    ghost use Rattle.std.specs.Prelude.{[]};
+    ghost use Rattle.slot_encoder.specs.Encodings.{joined};
+
+    /// No parts yet.
+    pub(crate) fn new(alloc: Global) -> Parts
+        ensures { result ≡ record { params = []; before = []; behind = []; effects = [] } }
+    {
+        Parts {
+            params: List::new(alloc),
+            before: List::new(alloc),
+            behind: List::new(alloc),
+            effects: List::new(alloc),
+        }
+    }
+
+    /// The action of this name with these parts and so many new slots.
+    pub(crate) fn into_action(self, name: Name, spare: u32) -> SplitAction
+        ensures { whole result ≡ joined name spare self }
+    {
+        let Parts {
+            params,
+            before,
+            behind,
+            effects,
+        } = self;
+        SplitAction {
+            name,
+            params,
+            before,
+            spare,
+            behind,
+            eff: Effect::And(effects),
+        }
+    }
 }
 
 impl SplitAction {
@@ -83,13 +133,7 @@ fn push_others(
     ensures { OnOk result (into.new ≡ into.old ++ (differ (numbers 1 spare) ++ behind.now)) }
 {
     push_differing(alloc, spare, into)?;
-    push_copies(alloc, behind, into)
-}
-
-fn push_copies(alloc: Global, formulas: &[Formula], into: &mut List<Formula>) -> Result<(), Memory>
-    ensures { OnOk result (into.new ≡ into.old ++ formulas.now) }
-{
-    for formula in formulas {
+    for formula in behind {
         into.put(formula.copy(alloc))?;
     }
     Ok(())

@@ -1,4 +1,4 @@
-ghost use Rattle.std.specs.Prelude.{◌≡◌, ◌++◌, map, IfOk, OnOk};
+ghost use Rattle.std.specs.Prelude.{◌≡◌, ◌∷◌, ◌++◌, map, IfOk, OnOk};
 ghost use Rattle.std.specs.List.{flat_map};
 ghost use Rattle.plan_model.specs.declared.effects.Effect.TheVariants as E;
 ghost use Rattle.slot_encoding.specs.slot_declarations.Frames.{IsFrame};
@@ -6,67 +6,57 @@ ghost use Rattle.slot_encoder.specs.Parts.{AreVariables};
 ghost use Rattle.slot_encoder.specs.Made as made;
 
 use crate::atoms::{comes_before, held, is_free};
-use crate::conditions::push_clears;
 use crate::methods::held_task;
 use crate::variables::{Variables, slot_of};
 use htn_base::{List, Memory};
-use order_encoder::push_copying;
+use order_encoder::{push_clearing, push_copying};
 use plan_model::{Atom, Child, Effect, Head, MethodPlan, Pair, Term};
 use slot_encoding::slot_declarations::{Frame, plus, task_predicate};
 use std::alloc::Global;
 
-/// What a method does: a childless one frees the task's slot, another one puts its children into slots.
-pub(crate) fn method_effects(
+/// Puts at the end what a method does: its task goes; a childless one frees the task's slot, another one puts its children into
+/// slots.
+pub(crate) fn push_method_effects(
     alloc: Global,
     frame: &Frame<'_>,
     check: u32,
     plan: &MethodPlan,
     variables: &Variables,
-) -> Result<List<Effect>, Memory>
+    into: &mut List<Effect>,
+) -> Result<(), Memory>
     requires frame { IsFrame frame.now }
     requires variables { AreVariables plan.now variables.now }
-    ensures { IfOk result (λ es. es ≡ made.method_eff frame.now check plan.now) }
+    ensures { OnOk result (into.new ≡ into.old ++ made.method_eff frame.now check plan.now) }
 {
+    into.put(held_task(alloc, frame, plan, variables.front).map(Effect::Delete))?;
     if plan.schema.children.len() == 0 {
-        let task = held_task(alloc, frame, plan, variables.front)?;
-        freeing(alloc, frame, task, variables.depth)
+        push_freed(alloc, frame, variables.depth, into)
     } else {
-        splitting(alloc, frame, check, plan, variables)
+        push_split(alloc, frame, check, plan, variables, into)
     }
 }
 
-/// What is held in the first slot goes, the slot is free, and what waited for it waits no more.
-pub(crate) fn freeing(
+/// Puts at the end that the first slot is free, and what waited for it waits no more.
+pub(crate) fn push_freed(
     alloc: Global,
     frame: &Frame<'_>,
-    held: Atom,
     depth: u32,
-) -> Result<List<Effect>, Memory>
+    into: &mut List<Effect>,
+) -> Result<(), Memory>
     requires { IsFrame frame.now }
-    ensures { IfOk result (λ es. es ≡ made.freeing frame.now held depth) }
+    ensures { OnOk result
+        (into.new ≡ into.old ++ E.Add (made.is_free frame.now 0) ∷ made.cleared frame.now depth) }
 {
-    let mut into = List::new(alloc);
-    into.push(Effect::Delete(held))?;
     into.put(is_free(alloc, frame, 0).map(Effect::Add))?;
-    push_clears(alloc, frame, depth, &mut into)?;
-    Ok(into)
-}
-
-fn splitting(
-    alloc: Global,
-    frame: &Frame<'_>,
-    check: u32,
-    plan: &MethodPlan,
-    variables: &Variables,
-) -> Result<List<Effect>, Memory>
-    requires frame { IsFrame frame.now }
-    requires variables { AreVariables plan.now variables.now }
-    ensures { IfOk result (λ es. es ≡ made.split frame.now check plan.now) }
-{
-    let mut into = List::new(alloc);
-    into.put(held_task(alloc, frame, plan, variables.front).map(Effect::Delete))?;
-    push_split(alloc, frame, check, plan, variables, &mut into)?;
-    Ok(into)
+    push_clearing(
+        alloc,
+        &frame.basis.order,
+        frame.slots,
+        &frame.style,
+        Term::Var(0),
+        depth,
+        into,
+    )
 }
 
 /// Puts at the end that the new slots are taken, that the children are in theirs, and their order.

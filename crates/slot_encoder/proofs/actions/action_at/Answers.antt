@@ -1,7 +1,8 @@
-use Rattle.std.proofs.Common.{◌≡◌, ◌+◌, ◌-◌, length, ap, arith}
+use Rattle.std.proofs.Common.{◌≡◌, ◌<◌, ◌+◌, ◌-◌, List, length, get_or, Some, ap, sym, ◌∙◌, arith}
+use Rattle.plan_model.specs.declared.schemas.ActionSchema.{ActionSchema}
 use Rattle.slot_encoder.specs.Made as made
 use Rattle.slot_encoding.proofs.slot_declarations.CheckedMethods.{checks-count}
-use Rattle.slot_encoder.proofs.ActionPlaces.{actions-length, at-method, at-check, at-source, placed_among}
+use Rattle.slot_encoder.proofs.ActionPlaces.{actions-length, source-at, at-method, at-check, at-source, placed, placed_among}
 use Rattle.slot_encoder.proofs.actions.action_at.Goals as goal
 
 pub overflow_cast-checks : goal.overflow_cast-checks
@@ -9,10 +10,10 @@ overflow_cast-checks c =
     let f = c.args.frame.now in
     omega (arith, c.len-checks.ensures.length, checks-count f.compiled.now.methods f.basis.now.checks c.requires.frame.checks, c.requires.frame.numbers.few)
 
-pub source_at-requires-clause-some : goal.source_at-requires-clause-some
-source_at-requires-clause-some c =
+pub bounds-as_slice-a : goal.bounds-as_slice-a
+bounds-as_slice-a c =
     let f = c.args.frame.now in
-    omega (arith, c.requires.some, actions-length f.compiled.now f.printed.now f.slots f.style, ap length c.requires.frame.checks.methods, c.len-methods.ensures.length, c.len-checks.ensures.length, c.if-k-methods.false, c.if-k-methods-2.false)
+    omega (arith, c.requires.some, actions-length f.compiled.now f.printed.now f.slots f.style, ap length c.requires.frame.checks.methods, c.len-methods.ensures.length, c.len-checks.ensures.length, ap length c.as_slice.ensures.items, c.if-k-methods.false, c.if-k-methods-2.false)
 
 pub returns-then-k-methods : goal.returns-then-k-methods
 returns-then-k-methods c =
@@ -33,7 +34,12 @@ returns-then-k-methods-2 c =
 pub returns-else-k-methods-2 : goal.returns-else-k-methods-2
 returns-else-k-methods-2 c =
     let f = c.args.frame.now in
+    let sources = f.compiled.now.hddl.actions in
     let a = c.args.k - c.len-methods.result - c.len-checks.result in
-    placed_among c.source_at.result (made.all_actions f) (made.source_actions f f.compiled.now.hddl.actions) c.args.k a
+    let s = c.index-as_slice-a.result in
+    let some : a < length sources = omega (arith, c.requires.some, actions-length f.compiled.now f.printed.now f.slots f.style, ap length c.requires.frame.checks.methods, c.len-methods.ensures.length, c.len-checks.ensures.length, c.if-k-methods.false, c.if-k-methods-2.false) in
+    let is = ap (λ (xs : List ActionSchema). get_or xs a s) (sym c.as_slice.ensures.items) ∙ sym c.index-as_slice-a.is in
+    let at = source-at f.compiled.now f.printed.now f.slots f.style a s some ∙ ap (λ (t : ActionSchema). Some (made.source_action f a t)) is in
+    placed_among c.encoded_action.result (made.all_actions f) (made.source_actions f sources) c.args.k a
     (at-source f.compiled.now f.printed.now f.slots f.style a c.args.k (omega (arith, ap length c.requires.frame.checks.methods, c.len-methods.ensures.length, c.len-checks.ensures.length, c.if-k-methods.false, c.if-k-methods-2.false)))
-    c.source_at.ensures
+    (placed c.encoded_action.result (made.source_actions f sources) a (made.source_action f a s) at c.encoded_action.ensures)

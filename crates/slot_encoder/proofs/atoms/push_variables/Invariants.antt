@@ -1,7 +1,0 @@
-use Rattle.std.proofs.Common.{◌≡◌, ◌++◌, map}
-use Rattle.plan_model.specs.task_networks.Spelling.{numbers}
-use Rattle.plan_model.specs.declared.terms.Term.TheVariants as T
-use Rattle.slot_encoder.proofs.atoms.push_variables.Given as goal
-
-abbrev pub invariant-loop-k : goal.invariant-loop-k
-invariant-loop-k l = l.into ≡ l.initial.into ++ map (T.Var) (numbers 1 l.k)
