@@ -21,7 +21,7 @@ pub(crate) fn action_at(alloc: Global, frame: &Frame<'_>, k: u32) -> Result<Spli
     let methods = frame.compiled.methods.len() as u32;
     let checks = frame.basis.checks.methods.len() as u32;
     if k < methods {
-        method_at(alloc, frame, k)
+        encoded_method(alloc, frame, k)
     } else if k - methods < checks {
         check_at(alloc, frame, k - methods)
     } else {
@@ -29,17 +29,6 @@ pub(crate) fn action_at(alloc: Global, frame: &Frame<'_>, k: u32) -> Result<Spli
         let action = &frame.compiled.hddl.actions.as_slice()[a as usize];
         encoded_action(alloc, frame, a, action)
     }
-}
-
-fn method_at(alloc: Global, frame: &Frame<'_>, m: u32) -> Result<SplitAction, Memory>
-    requires frame { IsFrame frame.now }
-    requires some { m < length frame.now.compiled.now.methods }
-    ensures { IfOk result (λ a.
-        slice_get (made.method_actions frame.now frame.now.compiled.now.methods) m ≡ Some (whole a)) }
-{
-    let check = check_predicate(frame, m)?;
-    let plan = &frame.compiled.methods.as_slice()[m as usize];
-    encoded_method(alloc, frame, m, check, plan)
 }
 
 /// The action of check `j`.
@@ -56,7 +45,7 @@ fn check_at(alloc: Global, frame: &Frame<'_>, j: u32) -> Result<SplitAction, Mem
 }
 
 /// The predicate of method `m`'s check.
-fn check_predicate(frame: &Frame<'_>, m: u32) -> Result<u32, Memory>
+pub(crate) fn check_predicate(frame: &Frame<'_>, m: u32) -> Result<u32, Memory>
     requires frame { IsFrame frame.now }
     requires some { m < length frame.now.compiled.now.methods }
     ensures { IfOk result (λ p. p ≡ names.check_predicate frame.now.compiled.now m) }

@@ -1,11 +1,12 @@
 ghost use Rattle.std.specs.Prelude.{◌≡◌, IfOk};
+ghost use Rattle.plan_model.specs.declared.effects.Effect.TheVariants as E;
 ghost use Rattle.slot_encoding.specs.slot_declarations.Frames.{IsFrame};
 ghost use Rattle.slot_encoder.specs.Pieces.{held_in_first};
 ghost use Rattle.slot_encoder.specs.Made as made;
 
 use crate::terms::push_moved;
 use htn_base::{List, Memory};
-use plan_model::{Atom, Term};
+use plan_model::{Atom, Effect, Term};
 use slot_encoding::slot_declarations::Frame;
 use std::alloc::Global;
 
@@ -22,23 +23,23 @@ pub(crate) fn is_free(alloc: Global, frame: &Frame<'_>, slot: u32) -> Result<Ato
     })
 }
 
-/// The atom that one slot comes before the other.
+/// The effect that one slot comes before the other.
 pub(crate) fn comes_before(
     alloc: Global,
     frame: &Frame<'_>,
     first: u32,
     then: u32,
-) -> Result<Atom, Memory>
+) -> Result<Effect, Memory>
     requires { IsFrame frame.now }
-    ensures { IfOk result (λ a. a ≡ made.comes_before frame.now first then) }
+    ensures { IfOk result (λ e. e ≡ E.Add (made.comes_before frame.now first then)) }
 {
     let mut args = List::new(alloc);
     args.push(Term::Var(first))?;
     args.push(Term::Var(then))?;
-    Ok(Atom {
+    Ok(Effect::Add(Atom {
         predicate: frame.basis.numbers.before,
         args,
-    })
+    }))
 }
 
 /// The atom that the slot holds what has these arguments, behind `front` further variables.

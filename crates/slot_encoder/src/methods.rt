@@ -1,11 +1,11 @@
-ghost use Rattle.std.specs.Prelude.{◌≡◌, ◌++◌, map, IfOk, OnOk};
+ghost use Rattle.std.specs.Prelude.{◌≡◌, ◌<◌, ◌++◌, Some, length, map, slice_get, IfOk, OnOk};
 ghost use Rattle.plan_model.specs.task_networks.Spelling.{numbers};
-ghost use Rattle.slot_encoding.specs.EncodedNames as names;
 ghost use Rattle.slot_encoder.specs.Encodings.{whole};
 ghost use Rattle.slot_encoding.specs.slot_declarations.Frames.{IsFrame};
 ghost use Rattle.slot_encoder.specs.Parts.{AreVariables};
 ghost use Rattle.slot_encoder.specs.Made as made;
 
+use crate::actions::check_predicate;
 use crate::atoms::held;
 use crate::conditions::{push_condition, push_waits};
 use crate::formulas::equal;
@@ -21,18 +21,19 @@ use slot_encoding::slot_declarations::{
 };
 use std::alloc::Global;
 
-/// The action of method `m`, the top method being number 0. `check` is the predicate of its check.
+/// The action of method `m`, the top method being number 0.
 pub(crate) fn encoded_method(
     alloc: Global,
     frame: &Frame<'_>,
     m: u32,
-    check: u32,
-    plan: &MethodPlan,
 ) -> Result<SplitAction, Memory>
     requires frame { IsFrame frame.now }
-    requires check { check ≡ names.check_predicate frame.now.compiled.now m }
-    ensures { IfOk result (λ a. whole a ≡ made.method_action frame.now m plan.now) }
+    requires some { m < length frame.now.compiled.now.methods }
+    ensures { IfOk result (λ a.
+        slice_get (made.method_actions frame.now frame.now.compiled.now.methods) m ≡ Some (whole a)) }
 {
+    let check = check_predicate(frame, m)?;
+    let plan = &frame.compiled.methods.as_slice()[m as usize];
     let name = method_name(alloc, frame, m, plan)?;
     let variables = variables_of(alloc, plan)?;
     let mut parts = Parts::new(alloc);

@@ -169,7 +169,7 @@ fn push_pairs(
     for pair in pairs {
         let first = slot_of(slots, pair.first);
         let then = slot_of(slots, pair.then);
-        into.put(comes_before(alloc, frame, first, then).map(Effect::Add))?;
+        into.put(comes_before(alloc, frame, first, then))?;
     }
     Ok(())
 }

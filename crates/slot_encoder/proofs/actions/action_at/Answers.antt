@@ -18,9 +18,9 @@ bounds-as_slice-a c =
 pub returns-then-k-methods : goal.returns-then-k-methods
 returns-then-k-methods c =
     let f = c.args.frame.now in
-    placed_among c.method_at.result (made.all_actions f) (made.method_actions f f.compiled.now.methods) c.args.k c.args.k
+    placed_among c.encoded_method.result (made.all_actions f) (made.method_actions f f.compiled.now.methods) c.args.k c.args.k
     (at-method f.compiled.now f.printed.now f.slots f.style c.args.k (omega (arith, c.len-methods.ensures.length, c.if-k-methods.true)))
-    c.method_at.ensures
+    c.encoded_method.ensures
 
 pub returns-then-k-methods-2 : goal.returns-then-k-methods-2
 returns-then-k-methods-2 c =

@@ -1,20 +1,30 @@
-use Rattle.std.proofs.Common.{◌++◌, ap, ◌∙◌}
+use Rattle.std.proofs.Common.{List, get_or, Some, ◌≡◌, ◌++◌, ap, sym, ◌∙◌}
 use Rattle.plan_model.specs.declared.formulas.Formula.TheVariants as F
 use Rattle.plan_model.specs.declared.effects.Effect.TheVariants as E
+use Rattle.plan_model.specs.declared.schemas.ActionSchema.{ActionSchema}
+use Rattle.plan_model.specs.declared.schemas.MethodPlan.{MethodPlan}
 use Rattle.slot_encoder.specs.declared.split_action.Parts.{Parts}
+use Rattle.slot_encoder.specs.Encodings.{whole}
 use Rattle.slot_encoder.specs.Made as made
+use Rattle.slot_encoder.proofs.ActionPlaces.{method-at}
 use Rattle.slot_encoder.proofs.Splits.{same_action, method_change-at, method_pre-is}
 use Rattle.slot_encoder.proofs.methods.encoded_method.Goals as goal
 
 pub returns : goal.returns
 returns c =
     let f = c.args.frame.now in
-    let plan = c.args.plan.now in
+    let m = c.args.m in
+    let plan = c.index-as_slice-m.result in
+    let check = c.in_ok-check.check in
     let v = c.in_ok-variables.variables in
     let p = c.push_parts.new.into in
     let h = c.in_ok-push_parts.ensures in
     let none = c.new-parts.ensures in
+    let is : whole c.into_action.result ≡ made.method_action f m plan =
     c.into_action.ensures ∙ same_action c.in_ok-name.name _ _ _ _ _ _ _ c.in_ok-name.ensures
     (h.params ∙ ap (λ (q : Parts). q.params ++ made.method_params f plan) none)
-    (ap F.And (method_pre-is f c.args.m plan p.before p.behind v.spare v.front (h.before ∙ ap (λ (q : Parts). q.before ++ made.method_before f plan) none) c.in_ok-variables.ensures.spare c.in_ok-variables.ensures.front (h.behind ∙ ap (λ (q : Parts). q.behind ++ made.method_behind f v.front plan) none)))
-    (ap E.And (h.effects ∙ ap (λ (q : Parts). q.effects ++ made.method_eff f c.args.check plan) none ∙ method_change-at f c.args.m plan c.args.check plan.schema.children c.requires.check))
+    (ap F.And (method_pre-is f m plan p.before p.behind v.spare v.front (h.before ∙ ap (λ (q : Parts). q.before ++ made.method_before f plan) none) c.in_ok-variables.ensures.spare c.in_ok-variables.ensures.front (h.behind ∙ ap (λ (q : Parts). q.behind ++ made.method_behind f v.front plan) none)))
+    (ap E.And (h.effects ∙ ap (λ (q : Parts). q.effects ++ made.method_eff f check plan) none ∙ method_change-at f m plan check plan.schema.children c.in_ok-check.ensures)) in
+    method-at f.compiled.now f.printed.now f.slots f.style m plan c.requires.some
+    ∙ ap (λ (q : MethodPlan). Some (made.method_action f m q)) (ap (λ (xs : List MethodPlan). get_or xs m plan) (sym c.as_slice.ensures.items) ∙ sym c.index-as_slice-m.is)
+    ∙ ap (λ (s : ActionSchema). Some s) (sym is)
