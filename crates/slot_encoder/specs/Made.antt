@@ -221,10 +221,6 @@ module _ (f : Frame) where
   abbrev pub slot_atom : ℕ → GroundAtom
   slot_atom k = value.atom (encoded.free_predicate c) (encoded.first_slot c + k)
 
-  -- so many slots after the first one are free
-  abbrev pub free_atoms : ℕ → List GroundAtom
-  free_atoms count = map slot_atom (numbers 1 count)
-
   -- the guard atoms of these types behind old
   abbrev pub AddsGuardAtoms : List ℕ → List GroundAtom → List GroundAtom → Type 0
   AddsGuardAtoms tys old new = (added : List GroundAtom) × value.AreGuardAtoms c words b style tys added × (new ≡ old ++ added)
@@ -242,10 +238,6 @@ module _ (f : Frame) where
 
   abbrev pub slot_free : ℕ → Formula
   slot_free o = free (Obj o)
-
-  -- of so many slots, from object number first on
-  abbrev pub each_free : ℕ → ℕ → List Formula
-  each_free first count = map slot_free (numbers first count)
 
   abbrev pub any_slot_free : Formula
   any_slot_free = Forall (order.any_slot (encoded.order_numbers c words 0) 0) (free (Var 0))
