@@ -23,25 +23,12 @@ pub(crate) fn action_at(alloc: Global, frame: &Frame<'_>, k: u32) -> Result<Spli
     if k < methods {
         encoded_method(alloc, frame, k)
     } else if k - methods < checks {
-        check_at(alloc, frame, k - methods)
+        encoded_check(alloc, frame, k - methods)
     } else {
         let a = k - methods - checks;
         let action = &frame.compiled.hddl.actions.as_slice()[a as usize];
         encoded_action(alloc, frame, a, action)
     }
-}
-
-/// The action of check `j`.
-fn check_at(alloc: Global, frame: &Frame<'_>, j: u32) -> Result<SplitAction, Memory>
-    requires frame { IsFrame frame.now }
-    requires some { j < length frame.now.basis.now.checks.methods }
-    ensures { IfOk result (λ a.
-        slice_get (made.check_actions frame.now frame.now.compiled.now.methods) j ≡ Some (whole a)) }
-{
-    let m = frame.basis.checks.methods.as_slice()[j as usize];
-    let check = check_predicate(frame, m)?;
-    let plan = &frame.compiled.methods.as_slice()[m as usize];
-    encoded_check(alloc, frame, check, plan)
 }
 
 /// The predicate of method `m`'s check.

@@ -1,16 +1,17 @@
-ghost use Rattle.std.specs.Prelude.{◌≡◌, ◌∷◌, ◌++◌, length, IfOk, OnOk};
+ghost use Rattle.std.specs.Prelude.{◌≡◌, ◌<◌, ◌∷◌, ◌++◌, Some, length, slice_get, IfOk, OnOk};
 ghost use Rattle.plan_model.specs.declared.formulas.Formula.TheVariants as F;
 ghost use Rattle.slot_encoder.specs.Encodings.{whole};
 ghost use Rattle.slot_encoder.specs.Pieces.{held_in_first};
 ghost use Rattle.slot_encoding.specs.slot_declarations.Frames.{IsFrame};
 ghost use Rattle.slot_encoder.specs.Made as made;
 
+use crate::actions::check_predicate;
 use crate::atoms::held_work;
 use crate::conditions::{push_change, push_condition, push_waits};
 use crate::split_action::{Parts, SplitAction};
 use crate::splitting::push_freed;
 use htn_base::{List, Memory, number};
-use plan_model::{ActionSchema, Effect, Formula, MethodPlan, Param};
+use plan_model::{ActionSchema, Effect, Formula, Param};
 use slot_encoding::slot_declarations::{
     Frame, named, plus, prefixed, push_params, renamed, slot_param,
 };
@@ -34,16 +35,16 @@ pub(crate) fn encoded_action(
     Ok(parts.into_action(renamed(frame, action.name), 0))
 }
 
-/// The action of method `m`'s check, whose predicate is `check`.
-pub(crate) fn encoded_check(
-    alloc: Global,
-    frame: &Frame<'_>,
-    check: u32,
-    plan: &MethodPlan,
-) -> Result<SplitAction, Memory>
-    requires { IsFrame frame.now }
-    ensures { IfOk result (λ s. whole s ≡ made.check_action frame.now check plan.now) }
+/// The action of check `j`.
+pub(crate) fn encoded_check(alloc: Global, frame: &Frame<'_>, j: u32) -> Result<SplitAction, Memory>
+    requires frame { IsFrame frame.now }
+    requires some { j < length frame.now.basis.now.checks.methods }
+    ensures { IfOk result (λ a.
+        slice_get (made.check_actions frame.now frame.now.compiled.now.methods) j ≡ Some (whole a)) }
 {
+    let m = frame.basis.checks.methods.as_slice()[j as usize];
+    let check = check_predicate(frame, m)?;
+    let plan = &frame.compiled.methods.as_slice()[m as usize];
     let schema = &plan.schema;
     let name = prefixed(alloc, frame, b"htn_c_", schema.name)?;
     let params = schema.params.as_slice();

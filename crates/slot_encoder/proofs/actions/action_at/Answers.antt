@@ -27,9 +27,9 @@ returns-then-k-methods-2 c =
     let f = c.args.frame.now in
     let j = c.args.k - c.len-methods.result in
     let e : c.args.k ≡ length f.compiled.now.methods + j = omega (arith, c.len-methods.ensures.length, c.if-k-methods.false) in
-    placed_among c.check_at.result (made.all_actions f) (made.check_actions f f.compiled.now.methods) c.args.k j
+    placed_among c.encoded_check.result (made.all_actions f) (made.check_actions f f.compiled.now.methods) c.args.k j
     (at-check f.compiled.now f.printed.now f.slots f.style j c.args.k e (omega (arith, c.if-k-methods-2.true, c.len-checks.ensures.length, ap length c.requires.frame.checks.methods)))
-    c.check_at.ensures
+    c.encoded_check.ensures
 
 pub returns-else-k-methods-2 : goal.returns-else-k-methods-2
 returns-else-k-methods-2 c =
