@@ -1,6 +1,6 @@
 -- What the calls answer, where an environment has the objects of the variables in force.
 -- Source: this project's; truth and the state after an effect as in plan_meaning.
-use Rattle.std.specs.Prelude.{Bool, List, []}
+use Rattle.std.specs.Prelude.{Bool, List}
 use Rattle.plan_model.specs.declared.types.Types.{Types}
 use Rattle.plan_model.specs.declared.types.Object.{Object}
 use Rattle.plan_model.specs.declared.terms.Param.{Param}
@@ -33,10 +33,6 @@ module _ (types : Types) (objects : List Object) where
   -- the new state is the one after the effect
   abbrev pub After : State → Effect → Env → State → Type 0
   After old e env new = Has new (after (InType types objects) (atoms old) e (frame env).objects)
-
-  -- these are the atoms that the effect adds, and those that it deletes
-  abbrev pub Touched : State → Effect → Env → AtomLists → Type 0
-  Touched s e env lists = (adds : Bool) → Gathers (Touches (InType types objects) (atoms s) adds e (frame env).objects) [] (side adds lists)
 
   -- the pass has been made over what an effect touches, over what effects touch, and over what one does with more variables;
   -- no condition is tested, so that any state will do

@@ -1,4 +1,4 @@
-ghost use Rattle.std.specs.Prelude.{◌≡◌, ◌++◌, ◌∷◌, [], IfOk, OnOk, OnErr};
+ghost use Rattle.std.specs.Prelude.{◌≡◌, ◌++◌, ◌∷◌, [], OnOk, OnErr};
 ghost use Rattle.plan_model.specs.plan_meaning.Truth.{ground};
 ghost use Rattle.ground_state.specs.Frames.{frame};
 
@@ -32,18 +32,6 @@ impl Model for KeptAtom {
 }
 
 impl KeptAtom {
-    /// The ground atom that the atom stands for.
-    fn new(alloc: Global, env: &Env, atom: &Atom) -> Result<KeptAtom, Memory>
-        ensures { IfOk result (λ kept. kept ≡ ground (frame env.now).objects atom.now) }
-    {
-        let mut args = Vec::new(alloc);
-        env.write(atom.args.as_slice(), &mut args)?;
-        Ok(KeptAtom {
-            predicate: atom.predicate,
-            args,
-        })
-    }
-
     /// Becomes the ground atom that the atom stands for.
     fn set(&mut self, env: &Env, atom: &Atom) -> Result<(), Memory>
         ensures { OnOk result (self.new ≡ ground (frame env.now).objects atom.now) }
@@ -123,8 +111,12 @@ impl AtomList {
             self.count += 1;
             return Ok(());
         }
-        let kept = KeptAtom::new(alloc, env, atom)?;
-        self.kept.push(kept)?;
+        let mut args = Vec::new(alloc);
+        env.write(atom.args.as_slice(), &mut args)?;
+        self.kept.push(KeptAtom {
+            predicate: atom.predicate,
+            args,
+        })?;
         self.count = self.kept.len();
         Ok(())
     }

@@ -2,7 +2,7 @@ ghost use Rattle.std.specs.Prelude.{◌≡◌, ◌+◌, ◌≤◌, length, IfOk}
 ghost use Rattle.ground_state.specs.Needs as spec;
 
 use htn_base::{Memory, number};
-use plan_model::{ActionSchema, Atom, Effect, Formula, Param, Pddl};
+use plan_model::{ActionSchema, Effect, Formula, Param, Pddl};
 
 /// The room that an environment needs: for so many variables in force, and for so many arguments of an atom. Where one
 /// is 2^32 or more, that is answered as want of memory.
@@ -43,7 +43,10 @@ impl Need {
         ensures more { IfOk result (spec.IsWithin self) }
     {
         match f {
-            Formula::Holds(atom) => self.with_atom(atom),
+            Formula::Holds(atom) => {
+                let arity = number(atom.args.len())?;
+                Ok(self.at_least(0, arity))
+            }
             Formula::Equal(_, _) => Ok(self),
             Formula::Not(part) => self.with_formula(part.get(), inside),
             Formula::And(parts) => self.with_formulas(parts.as_slice(), inside),
@@ -106,15 +109,6 @@ impl Need {
             need = need.with_effect(part, inside)?;
         }
         Ok(need)
-    }
-
-    /// With room for the arguments of the atom.
-    fn with_atom(self, atom: &Atom) -> Result<Need, Memory>
-        ensures enough { IfOk result (λ need. length atom.now.args ≤ need.arity) }
-        ensures more { IfOk result (spec.IsWithin self) }
-    {
-        let arity = number(atom.args.len())?;
-        Ok(self.at_least(0, arity))
     }
 
     /// With at least this room.

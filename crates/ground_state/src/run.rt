@@ -38,8 +38,8 @@ impl<'p> Run<'p> {
         requires runnable { spec.IsRunnable p.now }
         ensures fresh { IfOk result (spec.HasTaken p.now []) }
     {
-        let index = Index::new(alloc, p)?;
         let need = Need::of(p)?;
+        let index = Index::new(alloc, p)?;
         let env = Env::new(alloc, &List::new(alloc), need.depth, need.arity)?;
         let state = State::new(alloc, &p.init)?;
         Ok(Run {

@@ -5,7 +5,7 @@ ghost use Rattle.ground_state.specs.Frames.{frame};
 ghost use Rattle.ground_state.specs.Room.{EffectFits};
 ghost use Rattle.ground_state.specs.States.{IsSame};
 ghost use Rattle.ground_state.specs.Passes.{IsPlain};
-ghost use Rattle.ground_state.specs.Clauses.{After, Touched};
+ghost use Rattle.ground_state.specs.Clauses.{After};
 
 use crate::atom_list::AtomLists;
 use crate::env::Env;
@@ -111,27 +111,9 @@ impl State {
         ensures unchanged { OnErr result (IsSame self.old self.new) }
         ensures kept { frame env.new ≡ frame env.old }
     {
-        touched(alloc, eff, env, self, world, lists)?;
+        lists.adds.clear();
+        lists.deletes.clear();
+        gather(alloc, eff, env, self, world, lists)?;
         self.change(alloc, &lists.adds, &lists.deletes)
     }
-}
-
-/// Puts down the atoms that the effect adds, and those that it deletes.
-fn touched(
-    alloc: Global,
-    eff: &Effect,
-    env: &mut Env,
-    s: &State,
-    world: &World<'_>,
-    into: &mut AtomLists,
-) -> Result<(), Memory>
-    requires world { IsWorld world.now }
-    requires room { EffectFits (frame env.old) eff.now }
-    ensures touched { OnOk result
-        (Touched world.now.types.now world.now.objects.now s.now eff.now env.old into.new) }
-    ensures kept { frame env.new ≡ frame env.old }
-{
-    into.adds.clear();
-    into.deletes.clear();
-    gather(alloc, eff, env, s, world, into)
 }

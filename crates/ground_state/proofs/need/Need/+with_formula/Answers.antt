@@ -32,8 +32,10 @@ with_formula-with_formula-requires-in-Exists t c = (
   tt,
 )
 
-pub with_formula-returns-in-Holds-clause-enough : goal.with_formula-returns-in-Holds-clause-enough
-with_formula-returns-in-Holds-clause-enough t c = IfOk-weaker c.with_atom.result _ _ (λ need h. laws.enough-Holds c.args.f.now c.args.inside c.in-Holds.atom c.in-Holds.is need h) c.with_atom.ensures.enough
+pub with_formula-returns-in_ok-arity-in-Holds-clause-enough : goal.with_formula-returns-in_ok-arity-in-Holds-clause-enough
+with_formula-returns-in_ok-arity-in-Holds-clause-enough t c =
+    laws.enough-Holds c.args.f.now c.args.inside c.in-Holds.atom c.in-Holds.is c.at_least.result
+    (let s = c.in_ok-arity-in-Holds.ensures.same in let l = c.len.ensures.length in let a = c.at_least.ensures.arity in omega arith)
 
 pub with_formula-returns-in-Equal-clause-enough : goal.with_formula-returns-in-Equal-clause-enough
 with_formula-returns-in-Equal-clause-enough t c = laws.enough-Equal c.args.f.now c.args.inside c.in-Equal.field-0 c.in-Equal.field-1 c.in-Equal.is c.args.self
@@ -57,7 +59,7 @@ pub with_formula-returns-in_ok-inner-in-Forall-clause-enough : goal.with_formula
 with_formula-returns-in_ok-inner-in-Forall-clause-enough t c =
     laws.if_both c.with_formula-in-Forall.result _ _ _
     (λ need h w. laws.enough-Forall c.args.f.now c.args.inside c.in-Forall.params c.as_slice-in-Forall.result.now c.in-Forall.body c.get-in-Forall.result.now c.in_ok-inner-in-Forall.inner
-    c.in-Forall.is c.as_slice-in-Forall.ensures.items c.get-in-Forall.ensures.value c.in_ok-inner-in-Forall.ensures c.at_least.result need c.at_least.ensures.depth w h)
+    c.in-Forall.is c.as_slice-in-Forall.ensures.items c.get-in-Forall.ensures.value c.in_ok-inner-in-Forall.ensures c.at_least-in-Forall.result need c.at_least-in-Forall.ensures.depth w h)
     c.with_formula-in-Forall.ensures.enough c.with_formula-in-Forall.ensures.more
 
 pub with_formula-returns-in_ok-inner-in-Exists-clause-enough : goal.with_formula-returns-in_ok-inner-in-Exists-clause-enough
