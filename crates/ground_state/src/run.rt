@@ -1,4 +1,4 @@
-ghost use Rattle.std.specs.Prelude.{◌≡◌, ◌≤◌, [], length, IfOk, OnOk, OnErr};
+ghost use Rattle.std.specs.Prelude.{◌≤◌, [], length, IfOk, OnErr};
 ghost use Rattle.ground_state.specs.Frames.{frame};
 ghost use Rattle.ground_state.specs.Runs as spec;
 
@@ -8,7 +8,7 @@ use crate::need::Need;
 use crate::state::State;
 use crate::truth::is_true;
 use crate::verdict::{FailWhy, Verdict};
-use htn_base::{List, Memory, Text};
+use htn_base::{List, Memory};
 use plan_model::{GroundAction, Pddl};
 use problem_index::Index;
 use std::alloc::Global;
@@ -80,6 +80,23 @@ impl<'p> Run<'p> {
         Ok(None)
     }
 
+    /// The same, of a ground action. `words`: room for where its arguments stand.
+    fn take_action<'s>(
+        &mut self,
+        alloc: Global,
+        step: &'s GroundAction,
+        words: &mut Vec<&'s [u8]>,
+    ) -> Result<Option<FailWhy>, Memory>
+        requires ready { spec.IsReady self.old }
+        ensures taken { IfOk result (spec.Takes step.now self.old self.new) }
+    {
+        words.clear();
+        for word in step.args.as_slice() {
+            words.push(word.as_slice())?;
+        }
+        self.take(alloc, step.name.as_slice(), words.as_slice())
+    }
+
     /// Whether the goal is true at the end of the steps taken. It takes no memory.
     pub fn reaches_goal(&mut self) -> bool
         requires ready { spec.IsReady self.old }
@@ -101,10 +118,9 @@ pub fn run_plan(alloc: Global, p: &Pddl, plan: &[GroundAction]) -> Result<Verdic
     ensures verdict { IfOk result (spec.IsVerdict p.now plan.now) }
 {
     let mut run = Run::new(alloc, p)?;
-    let mut args = Vec::new(alloc);
+    let mut words = Vec::new(alloc);
     for (i, step) in plan.iter().enumerate() {
-        write(step.args.as_slice(), &mut args)?;
-        if let Some(why) = run.take(alloc, step.name.as_slice(), args.as_slice())? {
+        if let Some(why) = run.take_action(alloc, step, &mut words)? {
             let step = i as u32 + 1;
             return Ok(Verdict::Fails { step, why });
         }
@@ -116,15 +132,4 @@ pub fn run_plan(alloc: Global, p: &Pddl, plan: &[GroundAction]) -> Result<Verdic
         step: plan.len() as u32 + 1,
         why: FailWhy::GoalFalse,
     })
-}
-
-/// Writes down where the words stand, in place of what was written there.
-fn write<'p>(words: &'p [Text], into: &mut Vec<&'p [u8]>) -> Result<(), Memory>
-    ensures { OnOk result (spec.texts into.new.items ≡ words.now) }
-{
-    into.clear();
-    for word in words {
-        into.push(word.as_slice())?;
-    }
-    Ok(())
 }

@@ -1,6 +1,6 @@
 use Rattle.std.proofs.Common.{◌≡◌, take}
 use Rattle.ground_state.specs.Runs.{texts}
-use Rattle.ground_state.proofs.run.write.Given as goal
+use Rattle.ground_state.proofs.run.Run.take_action.Given as goal
 
 abbrev pub invariant-loop-word : goal.invariant-loop-word
-invariant-loop-word l = texts l.into.items ≡ take l.word-index l.words
+invariant-loop-word l = texts l.words.items ≡ take l.word-index l.word-items
