@@ -26,7 +26,8 @@ use Rattle.ground_state.specs.declared.passes.Pass.TheVariants as passes
 use Rattle.ground_state.specs.Numbers.{number_of}
 use Rattle.ground_state.specs.Notes as notes
 use Rattle.ground_state.specs.Notes.{noted_at, noted, holds, IsNoted, IsSet, AreSame, HoldSame, AreDenied}
-use Rattle.ground_state.specs.States.{note, has, has_ground, HasSameNotes}
+use Rattle.ground_state.specs.States as states
+use Rattle.ground_state.specs.States.{note, atom, has, has_ground, HasSameNotes}
 use Rattle.ground_state.specs.Search.{Touches, TouchesWithin}
 use Rattle.ground_state.specs.Passes.{of_adds, Passes, IsWithOne, HasDenied}
 use Rattle.ground_state.proofs.Lists.{same-lists, lists-same, near-set}
@@ -145,6 +146,19 @@ module _ (s : State) (p : ℕ) (old new : Notes) (at : slice_get s.facts.items p
     | inl d ↦ subst (λ q. note t q args ≡ note s q args) (sym d) (as_new args ∙ h args ∙ sym (as_before args))
     | inr n ↦ elsewhere predicate args n
   ]
+
+  noted_there : (args : List ℕ) (w : Option Bool) → IsNoted old args w new → states.IsNoted s (atom p args) w t
+  noted_there args w h = record {
+    here = as_new args ∙ h.here;
+    others = λ g n. elim (cases_eq g.predicate p) [
+      | inl d ↦ subst (λ q. note t q g.args ≡ note s q g.args) (sym d) (as_new g.args ∙ h.others g.args (λ e. n (same-atoms g (atom p args) d e)) ∙ sym (as_before g.args))
+      | inr m ↦ elsewhere g.predicate g.args m
+    ];
+  }
+
+  -- where something was noted of the objects
+  pub set_at : (args : List ℕ) (b : Bool) → IsSet old args b new → states.IsSet s (atom p args) b t
+  set_at args b h = noted_there args (option_map (λ _. b) (note s p args)) (subst (λ w. IsNoted old args w new) (ap (option_map (λ _. b)) (sym (as_before args))) h)
 
   pub passes_denied : (P : List ℕ → Type 0) (Q : truth.State) → ((g : GroundAtom) → Q g ↔ ((g.predicate ≡ p) × P g.args)) → AreDenied old P new → Passes passes.Deny Q s t
   passes_denied P Q e h = (
