@@ -13,6 +13,14 @@ spaced-append : (xs ys : List (List ℕ)) → spaced (xs ++ ys) ≡ spaced xs ++
 spaced-append [] ys = refl
 spaced-append (x ∷ xs) ys = ap (λ z. (codes " " ++ x) ++ z) (spaced-append xs ys) ∙ sym (append_assoc (codes " " ++ x) (spaced xs) (spaced ys))
 
+-- a task and its method, word by word
+pub two_more : (text task method : List ℕ) → ((((text ++ codes " ") ++ task) ++ codes " ") ++ method) ≡ text ++ spaced (task ∷ method ∷ [])
+two_more text task method =
+    append_assoc ((text ++ codes " ") ++ task) (codes " ") method
+    ∙ ap (λ z. z ++ (codes " " ++ method)) (append_assoc text (codes " ") task)
+    ∙ append_assoc text (codes " " ++ task) (codes " " ++ method)
+    ∙ ap (λ z. text ++ ((codes " " ++ task) ++ z)) (sym (append-nil (codes " " ++ method)))
+
 module _ (c : Compiled) where
   begun-push : (es : List Edge) (e : Edge) → begun c (es ++ e ∷ []) ≡ begun c es ++ edge_words c (edge_of e)
   begun-push [] e = append-nil (edge_words c (edge_of e))

@@ -1,13 +1,13 @@
-ghost use Rattle.std.specs.Prelude.{ℕ, ◌≡◌, ◌++◌, codes, map, slice_get, IfOk, OnOk};
-ghost use Rattle.plan_model.specs.plan_meaning.Schemas.{schema_of, subschemas_of, task};
-ghost use Rattle.plan_model.specs.plan_meaning.Strata.{source, target, target_by};
+ghost use Rattle.std.specs.Prelude.{◌≡◌, ◌++◌, codes, map, IfOk, OnOk};
+ghost use Rattle.plan_model.specs.plan_meaning.Schemas.{task};
+ghost use Rattle.plan_model.specs.plan_meaning.Strata.{source, target};
 ghost use Rattle.bound_calc.specs.stratifier.CycleWords as spec;
 ghost use Rattle.bound_calc.specs.stratifier.Listed.{edge_of};
-ghost use Rattle.bound_calc.specs.NoBound.{begun, edge_words, spaced};
+ghost use Rattle.bound_calc.specs.NoBound.{begun, spaced};
 
 use crate::stratifier::Edge;
 use htn_base::{Memory, Name, Text};
-use plan_model::{Compiled, Head, MethodPlan};
+use plan_model::{Compiled, Head};
 use std::alloc::Global;
 
 /// The words of a cycle of edges, each behind a space: a task, its method, the next task and so on, and at the end the
@@ -32,18 +32,10 @@ fn words_of_edges(alloc: Global, c: &Compiled, edges: &[Edge]) -> Result<Text, M
 {
     let mut text = Text::new(alloc);
     for edge in edges {
-        push_edge(&mut text, c, edge)?;
+        push_word(&mut text, source_word(c, edge))?;
+        push_word(&mut text, method_word(c, edge))?;
     }
     Ok(text)
-}
-
-/// Puts the words of the edge's task and method at the end.
-fn push_edge(text: &mut Text, c: &Compiled, edge: &Edge) -> Result<(), Memory>
-    ensures pushed { OnOk result
-        (text.new ≡ text.old ++ spaced (edge_words c.now (edge_of edge.now))) }
-{
-    push_word(text, source_word(c, edge))?;
-    push_word(text, method_word(c, edge))
 }
 
 fn push_word(text: &mut Text, word: &[u8]) -> Result<(), Memory>
@@ -77,28 +69,14 @@ fn method_word<'a>(c: &'a Compiled, edge: &Edge) -> &'a [u8]
 fn target_word<'a>(c: &'a Compiled, edge: &Edge) -> &'a [u8]
     ensures { result.now ≡ spec.task_word c.now (target c.now (edge_of edge.now)) }
 {
-    match c.methods.get(edge.method as usize) {
-        Some(plan) => child_word(c, plan, edge.child),
-        None => task_word(c, 0),
-    }
-}
-
-fn child_word<'a>(c: &'a Compiled, plan: &MethodPlan, child: u32) -> &'a [u8]
-    ensures { (m : ℕ) → result.now
-        ≡ spec.task_word c.now
-        (target_by c.now (slice_get (subschemas_of m plan.now) child)) }
-{
-    match plan.schema.children.get(child as usize) {
-        Some(child) => head_word(c, &child.head),
-        None => task_word(c, 0),
-    }
-}
-
-fn head_word<'a>(c: &'a Compiled, head: &Head) -> &'a [u8]
-    ensures { (m : ℕ) → result.now ≡ spec.task_word c.now (schema_of m head.now) }
-{
-    match head {
-        Head::Task(task) => task_word(c, *task),
+    let Some(plan) = c.methods.get(edge.method as usize) else {
+        return task_word(c, 0);
+    };
+    let Some(child) = plan.schema.children.get(edge.child as usize) else {
+        return task_word(c, 0);
+    };
+    match child.head {
+        Head::Task(task) => task_word(c, task),
         Head::Action(_) | Head::Check => b"",
     }
 }

@@ -1,15 +1,12 @@
-ghost use Rattle.std.specs.Prelude.{map, IfOk, IfErr};
+ghost use Rattle.std.specs.Prelude.{IfOk, IfErr};
 ghost use Rattle.plan_model.specs.plan_meaning.Bound.{IsBound};
-ghost use Rattle.bound_calc.specs.stratifier.Listed.{edge_of};
-ghost use Rattle.bound_calc.specs.stratifier.NamedCycle.{IsNamed};
-ghost use Rattle.bound_calc.specs.stratifier.Stratified.{IsStratified};
 ghost use Rattle.bound_calc.specs.Soundly.{IsSoundlyCompiled};
 ghost use Rattle.bound_calc.specs.NoBound.{HasNoBound};
 
 use crate::cycle::cycle_words;
 use crate::groups::{BoundError, bound};
-use crate::stratifier::{Edge, Ranks, StratError, stratify};
-use htn_base::Text;
+use crate::stratifier::{StratError, stratify};
+use htn_base::{Memory, Text};
 use plan_model::Compiled;
 use std::alloc::Global;
 
@@ -32,38 +29,22 @@ pub fn problem_bound(alloc: Global, compiled: &Compiled) -> Result<u128, NoBound
 {
     match stratify(alloc, compiled) {
         Ok(ranks) => {
-            let number = number_of(alloc, compiled, &ranks);
+            let number = bound(alloc, compiled, &ranks);
             drop(ranks);
-            number
+            match number {
+                Ok(number) => Ok(number),
+                Err(BoundError::Past128) => Err(NoBound::Past128),
+                Err(BoundError::Memory) => Err(NoBound::Memory),
+            }
         }
         Err(StratError::Cycle(edges)) => {
-            let cause = named(alloc, compiled, edges.as_slice());
+            let words = cycle_words(alloc, compiled, edges.as_slice());
             drop(edges);
-            Err(cause)
+            match words {
+                Ok(words) => Err(NoBound::Cycle(words)),
+                Err(Memory) => Err(NoBound::Memory),
+            }
         }
         Err(StratError::Memory) => Err(NoBound::Memory),
-    }
-}
-
-fn number_of(alloc: Global, compiled: &Compiled, ranks: &Ranks) -> Result<u128, NoBound>
-    requires soundly { IsSoundlyCompiled compiled.now }
-    requires strata { IsStratified compiled.now ranks.now }
-    ensures bound { IfOk result (IsBound compiled.now) }
-    ensures refused { IfErr result (HasNoBound compiled.now) }
-{
-    match bound(alloc, compiled, ranks) {
-        Ok(number) => Ok(number),
-        Err(BoundError::Past128) => Err(NoBound::Past128),
-        Err(BoundError::Memory) => Err(NoBound::Memory),
-    }
-}
-
-fn named(alloc: Global, compiled: &Compiled, edges: &[Edge]) -> NoBound
-    requires { IsNamed compiled.now (map edge_of edges.now) }
-    ensures { HasNoBound compiled.now result }
-{
-    match cycle_words(alloc, compiled, edges) {
-        Ok(words) => NoBound::Cycle(words),
-        Err(_) => NoBound::Memory,
     }
 }

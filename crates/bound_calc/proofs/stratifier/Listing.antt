@@ -1,6 +1,6 @@
 -- The list of all edges: it grows by methods and children, has each edge, and is in order.
 use Rattle.std.proofs.Common.{ℕ, zero, suc, ◌≡◌, ◌+◌, ◌<◌, ◌≤◌, ◌↔◌, inl, inr, List, [], ◌∷◌, ◌++◌, length, map, Bool, true, false, cond, get_or, take, All, Some, slice_get, Contains, refl, sym, subst, ap, ◌∙◌, arith, append_assoc}
-use Rattle.std.proofs.lemmas.List.{append-nil, take_more}
+use Rattle.std.proofs.lemmas.List.{append-nil, take_more, take_all}
 use Rattle.std.proofs.lemmas.List.Elements.{Contains-append_left, Contains-append_right, Contains-append_cases}
 use Rattle.plan_model.specs.declared.networks.Head.{Head}
 use Rattle.plan_model.specs.declared.networks.Head.TheVariants.{Task, Action, Check}
@@ -15,11 +15,9 @@ use Rattle.plan_model.specs.plan_meaning.Schemas.{Schema, task, schemas, schema_
 use Rattle.plan_model.specs.plan_meaning.Strata.{Edge, IsEdge, AreEdges, IsReachedTask}
 use Rattle.plan_model.proofs.plan_meaning.MethodParts.{head_schema_by, schemas_by}
 use Rattle.plan_model.proofs.plan_meaning.EdgesInOrder.{AreInOrder, one_after_another, both_in_order}
-use Rattle.htn_base.specs.declared.memory.Memory.{Memory}
 use Rattle.bound_calc.specs.declared.stratifier.edge.Edge as Declared
 use Rattle.bound_calc.specs.stratifier.Conditions.{IsSmallCompiled}
 use Rattle.bound_calc.specs.stratifier.Listed.{edge_of, edges_to, edges_from, edges_of}
-use Rattle.std.specs.Prelude.{Result, Ok, Err, IfOk}
 
 take_length : {A : Type 0} (xs : List A) (k : ℕ) → k < length xs → length (take k xs) ≡ k
 take_length [] k l = absurd (omega arith)
@@ -211,7 +209,6 @@ tasks_marked c small methods marks e room k d l =
     let t = subst (λ ms. (get_or ms k d).schema.task ≤ top_task c) (sym e) n.task in
     omega arith
 
-pub edges_told : (c : Compiled) (told : Result (List Declared.Edge) Memory) (methods : List MethodPlan) (marks slice : List Bool) → methods ≡ c.methods → slice ≡ marks → ((t : ℕ) → IsMarked marks t ↔ IsReachedTask c t)
-    → IfOk told (λ edges. map edge_of edges ≡ edges_of slice 0 methods) → IfOk told (λ edges. AreEdges c (map edge_of edges))
-edges_told c (Ok edges) methods marks slice e f reached h = subst (AreEdges c) (sym (h ∙ (ap (λ s. edges_of s 0 methods) f ∙ ap (edges_of marks 0) e))) (all_edges marks c reached)
-edges_told c (Err error) methods marks slice e f reached h = h
+pub edges_told : (c : Compiled) (edges : List Declared.Edge) (methods : List MethodPlan) (k : ℕ) (marks : List Bool) → methods ≡ c.methods → length methods ≤ k → ((t : ℕ) → IsMarked marks t ↔ IsReachedTask c t)
+    → map edge_of edges ≡ edges_of marks 0 (take k methods) → AreEdges c (map edge_of edges)
+edges_told c edges methods k marks e l reached h = subst (AreEdges c) (sym (h ∙ ap (edges_of marks 0) (take_all k methods l ∙ e))) (all_edges marks c reached)

@@ -1,5 +1,5 @@
 -- A depth-first walk without recursion: what is still to be done, and which tasks it has left, in order.
-use Rattle.std.specs.Prelude.{ℕ, suc, ◌≡◌, ◌+◌, ◌<◌, ◌⊎◌, ◌↔◌, Bool, cond, List, [], ◌∷◌, ◌++◌, map, length, Contains}
+use Rattle.std.specs.Prelude.{ℕ, suc, ◌≡◌, ◌+◌, ◌<◌, ◌⊎◌, ◌↔◌, Bool, cond, List, [], ◌∷◌, ◌++◌, length, Contains}
 use Rattle.htn_base.specs.Different.{AreDifferent}
 use Rattle.plan_model.specs.Parts.{IsMarked}
 use Rattle.bound_calc.specs.declared.stratifier.finishing.Step.{Step}
@@ -43,10 +43,6 @@ IsDescentOf rows walk = IsDescent rows walk.marks.items walk.steps.items walk.or
 -- the walk before the step was taken off
 abbrev pub IsBefore : List (List ℕ) → Step → Descent → Type 0
 IsBefore rows step walk = IsDescent rows walk.marks.items (walk.steps.items ++ step ∷ []) walk.order.items
-
--- a step for each of the tasks is put at the end
-abbrev pub AreToEnter : List ℕ → Descent → Descent → Type 0
-AreToEnter tasks old new = new.steps.items ≡ old.steps.items ++ map Enter tasks
 
 abbrev pub work_of : List (List ℕ) → Descent → ℕ
 work_of rows walk = length walk.steps.items + to_come rows walk.marks.items

@@ -1,7 +1,5 @@
-ghost use Rattle.std.specs.Prelude.{◌≡◌, ◌<◌, ◌^◌, ◌++◌, IfOk, OnOk, length, map};
-ghost use Rattle.plan_model.specs.task_networks.Spelling.{numbers};
+ghost use Rattle.std.specs.Prelude.{◌≡◌, ◌<◌, ◌^◌, ◌++◌, IfOk, OnOk, length};
 ghost use Rattle.plan_model.specs.plan_meaning.Compilation as spec;
-ghost use Rattle.plan_model.specs.declared.terms.Term.TheVariants.{Var};
 
 use htn_base::{List, Memory};
 use plan_model::{Child, Head, MethodSchema, Term};
@@ -17,24 +15,11 @@ pub fn children_of(
     ensures children { IfOk result (λ children. children ≡ spec.children checked method.now) }
 {
     let mut children = List::with_room(alloc, method.children.len().saturating_add(1))?;
-    append_children(alloc, &mut children, checked, method)?;
-    Ok(children)
-}
-
-/// Appends the check, if there is one, and copies of the subtasks.
-fn append_children(
-    alloc: Global,
-    into: &mut List<Child>,
-    checked: bool,
-    method: &MethodSchema,
-) -> Result<(), Memory>
-    requires { length method.now.params < 2 ^ 32 }
-    ensures { OnOk result (into.new ≡ into.old ++ spec.children checked method.now) }
-{
     if checked {
-        into.put(check_of(alloc, method))?;
+        children.put(check_of(alloc, method))?;
     }
-    append_copies(alloc, into, method.children.as_slice())
+    append_copies(alloc, &mut children, method.children.as_slice())?;
+    Ok(children)
 }
 
 /// The check of the method's precondition, with all parameters.
@@ -42,22 +27,15 @@ fn check_of(alloc: Global, method: &MethodSchema) -> Result<Child, Memory>
     requires { length method.now.params < 2 ^ 32 }
     ensures { IfOk result (λ child. child ≡ spec.check_child method.now) }
 {
+    let mut args = List::new(alloc);
+    for k in 0..method.params.len() as u32 {
+        args.push(Term::Var(k))?;
+    }
     Ok(Child {
         id: None,
         head: Head::Check,
-        args: variables(alloc, method.params.len() as u32)?,
+        args,
     })
-}
-
-/// The first so many variables.
-fn variables(alloc: Global, count: u32) -> Result<List<Term>, Memory>
-    ensures { IfOk result (λ terms. terms ≡ map Var (numbers 0 count)) }
-{
-    let mut terms = List::new(alloc);
-    for k in 0..count {
-        terms.push(Term::Var(k))?;
-    }
-    Ok(terms)
 }
 
 fn append_copies(alloc: Global, into: &mut List<Child>, children: &[Child]) -> Result<(), Memory>

@@ -18,26 +18,13 @@ pub fn guards_of(
     ensures { IfOk result (spec.AreGuards problem.now method.now) }
 {
     let placed = placed_of(alloc, problem, method.children.as_slice())?;
-    let kept = kept_of(alloc, problem, method, placed.as_slice())?;
-    single_guards(alloc, kept.as_slice())
-}
-
-fn kept_of(
-    alloc: Global,
-    problem: &Hddl,
-    method: &MethodSchema,
-    placed: &[Guard],
-) -> Result<List<Guard>, Memory>
-    requires { AreListed problem.now.types }
-    ensures { IfOk result (spec.Keeps (spec.IsGuard problem.now method.now) placed.now) }
-{
     let mut kept = List::new(alloc);
-    for guard in placed {
+    for guard in placed.as_slice() {
         if !is_declared_in(problem, method, guard) {
             kept.push(*guard)?;
         }
     }
-    Ok(kept)
+    single_guards(alloc, kept.as_slice())
 }
 
 /// Whether the term's declaration puts it into the type.

@@ -12,11 +12,20 @@ use plan_model::net_order::{Order, OrderError};
 use std::alloc::Global;
 
 /// The children of a network by their order.
-#[derive(Drop)]
 pub struct Ordered {
-    pub line: List<u32>,
-    pub heir: Option<u32>,
-    pub copiers: List<u32>,
+    line: List<u32>,
+    heir: Option<u32>,
+    copiers: List<u32>,
+}
+
+impl Drop for Ordered {
+    fn drop(self) {
+        let Ordered {
+            line: _,
+            heir: _,
+            copiers: _,
+        } = self;
+    }
 }
 
 impl Ordered {
@@ -28,10 +37,27 @@ impl Ordered {
         requires acyclic { IsAcyclic (Pairs pairs.now) }
         ensures ordered { IfOk result (IsOrdered count pairs.now) }
     {
-        let order = order_of(alloc, count, pairs)?;
-        let ordered = Ordered::of(alloc, &order, count);
-        drop(order);
-        ordered
+        match Order::new(alloc, count, pairs) {
+            Ok(order) => {
+                let ordered = Ordered::of(alloc, &order, count);
+                drop(order);
+                ordered
+            }
+            Err(OrderError::Memory) => Err(Memory),
+            Err(OrderError::Cycle { .. }) => unreachable!(),
+        }
+    }
+
+    /// The line, the heir and the copiers.
+    pub fn into_parts(self) -> (List<u32>, Option<u32>, List<u32>)
+        ensures { result ≡ (self.line, self.heir, self.copiers) }
+    {
+        let Ordered {
+            line,
+            heir,
+            copiers,
+        } = self;
+        (line, heir, copiers)
     }
 
     /// What the order of so many children answers.
@@ -45,20 +71,6 @@ impl Ordered {
             heir,
             copiers: copiers_of(alloc, order, count, heir)?,
         })
-    }
-}
-
-fn order_of(alloc: Global, count: u32, pairs: &[Pair]) -> Result<Order, Memory>
-    requires small { count ≤ 4097 }
-    requires within { AreBelow count pairs.now }
-    requires few { length pairs.now < 2 ^ 32 }
-    requires acyclic { IsAcyclic (Pairs pairs.now) }
-    ensures order { IfOk result (IsOrderOf count pairs.now) }
-{
-    match Order::new(alloc, count, pairs) {
-        Ok(order) => Ok(order),
-        Err(OrderError::Memory) => Err(Memory),
-        Err(OrderError::Cycle { .. }) => unreachable!(),
     }
 }
 

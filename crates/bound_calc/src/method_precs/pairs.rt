@@ -30,7 +30,13 @@ fn with_check(alloc: Global, count: u32, pairs: &[Pair]) -> Result<List<Pair>, M
     requires within { AreBelow count pairs.now }
     ensures all { IfOk result (λ all. all ≡ pairs_of_check count ++ map shifted pairs.now) }
 {
-    let mut all = check_pairs(alloc, count)?;
+    let mut all = List::new(alloc);
+    for k in 0..count {
+        all.push(Pair {
+            first: 0,
+            then: k + 1,
+        })?;
+    }
     for pair in pairs {
         all.push(Pair {
             first: pair.first + 1,
@@ -38,18 +44,4 @@ fn with_check(alloc: Global, count: u32, pairs: &[Pair]) -> Result<List<Pair>, M
         })?;
     }
     Ok(all)
-}
-
-fn check_pairs(alloc: Global, count: u32) -> Result<List<Pair>, Memory>
-    requires { count ≤ 4096 }
-    ensures { IfOk result (λ pairs. pairs ≡ pairs_of_check count) }
-{
-    let mut pairs = List::new(alloc);
-    for k in 0..count {
-        pairs.push(Pair {
-            first: 0,
-            then: k + 1,
-        })?;
-    }
-    Ok(pairs)
 }

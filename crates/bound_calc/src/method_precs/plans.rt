@@ -46,15 +46,18 @@ fn plan_of(
     let schema = schema_of(alloc, checked, method)?;
     let count = schema.children.len() as u32;
     match Ordered::new(alloc, count, schema.pairs.as_slice()) {
-        Ok(ordered) => Ok(MethodPlan {
-            schema,
-            checked,
-            tested: is_tested(checks, &method.pre),
-            line: ordered.line,
-            heir: ordered.heir,
-            copiers: ordered.copiers,
-            guards,
-        }),
+        Ok(ordered) => {
+            let (line, heir, copiers) = ordered.into_parts();
+            Ok(MethodPlan {
+                schema,
+                checked,
+                tested: is_tested(checks, &method.pre),
+                line,
+                heir,
+                copiers,
+                guards,
+            })
+        }
         Err(Memory) => {
             drop(schema);
             Err(Memory)

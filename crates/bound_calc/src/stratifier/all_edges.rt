@@ -1,13 +1,12 @@
-ghost use Rattle.std.specs.Prelude.{◌≡◌, ◌<◌, ◌≤◌, ◌^◌, All, map, length, IfOk, OnOk};
-ghost use Rattle.plan_model.specs.declared.schemas.MethodPlan.{MethodPlan};
+ghost use Rattle.std.specs.Prelude.{◌<◌, ◌^◌, map, length, IfOk, OnOk};
 ghost use Rattle.plan_model.specs.plan_meaning.Strata.{AreEdges};
 ghost use Rattle.bound_calc.specs.stratifier.Conditions.{IsSmallCompiled};
-ghost use Rattle.bound_calc.specs.stratifier.Listed.{edge_of, edges_of, AreAdded};
+ghost use Rattle.bound_calc.specs.stratifier.Listed.{edge_of, AreAdded};
 
 use crate::stratifier::edge::Edge;
 use crate::stratifier::reach::reached;
 use htn_base::{List, Memory};
-use plan_model::{Child, Compiled, Head, MethodPlan};
+use plan_model::{Child, Compiled, Head};
 use std::alloc::Global;
 
 /// All edges, by the method's place and then the child's number.
@@ -16,18 +15,8 @@ pub fn edges(alloc: Global, c: &Compiled) -> Result<List<Edge>, Memory>
     ensures edges { IfOk result (λ edges. AreEdges c.now (map edge_of edges)) }
 {
     let marks = reached(alloc, c)?;
-    edges_of(alloc, marks.as_slice(), c.methods.as_slice())
-}
-
-/// The edges of the methods of marked tasks.
-fn edges_of(alloc: Global, marks: &[bool], methods: &[MethodPlan]) -> Result<List<Edge>, Memory>
-    requires few { length methods.now < 2 ^ 32 }
-    requires tasks { All (λ (plan : MethodPlan). plan.schema.task < length marks.now) methods.now }
-    requires small { All (λ (plan : MethodPlan). length plan.schema.children < 2 ^ 32) methods.now }
-    ensures edges { IfOk result (λ edges. map edge_of edges ≡ edges_of marks.now 0 methods.now) }
-{
     let mut edges = List::new(alloc);
-    for (m, plan) in methods.iter().enumerate() {
+    for (m, plan) in c.methods.as_slice().iter().enumerate() {
         if marks[plan.schema.task as usize] {
             add_edges(&mut edges, m as u32, plan.schema.children.as_slice())?;
         }

@@ -1,4 +1,4 @@
-ghost use Rattle.std.specs.Prelude.{◌≡◌, ◌≢◌, ◌↔◌, All, IsTrue, Some, map, IfOk};
+ghost use Rattle.std.specs.Prelude.{All, map, IfOk};
 ghost use Rattle.plan_model.specs.plan_meaning.Strata.{AreEdges};
 ghost use Rattle.bound_calc.specs.stratifier.Conditions.{IsSmallCompiled, HaveNoCycle, IsOrdered, IsSmallMethod};
 ghost use Rattle.bound_calc.specs.stratifier.Listed.{edge_of};
@@ -20,19 +20,9 @@ pub fn bad_marks(alloc: Global, c: &Compiled, edges: &List<Edge>) -> Result<List
     let lasts = last_children(alloc, c.methods.as_slice())?;
     let mut marks = List::new(alloc);
     for edge in edges.as_slice() {
-        marks.push(is_other(lasts[edge.method as usize], edge.child))?;
+        marks.push(lasts[edge.method as usize] != Some(edge.child))?;
     }
     Ok(marks)
-}
-
-/// Whether it is another child, or none.
-fn is_other(last: Option<u32>, child: u32) -> bool
-    ensures other { IsTrue result ↔ (last ≢ Some child) }
-{
-    match last {
-        Some(place) => place != child,
-        None => true,
-    }
 }
 
 /// For each method its last child, if it has one.

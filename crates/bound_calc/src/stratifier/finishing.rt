@@ -1,5 +1,5 @@
 ghost use Rattle.std.specs.Prelude.{◌≡◌, ◌≤◌, ◌^◌, length, IfOk, OnOk};
-ghost use Rattle.bound_calc.specs.stratifier.Finishing.{AreToEnter, IsBefore, IsDescentOf, work_of};
+ghost use Rattle.bound_calc.specs.stratifier.Finishing.{IsBefore, IsDescentOf, work_of};
 ghost use Rattle.bound_calc.specs.stratifier.Graph.{AreWithin, IsFinishingOrder};
 
 use htn_base::{List, Memory};
@@ -15,7 +15,7 @@ pub fn finishing_order(alloc: Global, rows: &[List<u32>]) -> Result<Vec<u32>, Me
     while let Some(step) = walk.steps.pop() {
         walk.take(rows, step)?;
     }
-    Ok(walk.order)
+    Ok(walk.into_order())
 }
 
 /// What a walk still has to do: enter a task, or leave one after all that it leads to.
@@ -27,11 +27,20 @@ pub enum Step {
 
 /// A depth-first walk: the tasks that it entered are marked, the last step is the next, and
 /// `order` has the tasks that it left.
-#[derive(Drop)]
 pub struct Descent {
     marks: Vec<bool>,
     steps: Vec<Step>,
     order: Vec<u32>,
+}
+
+impl Drop for Descent {
+    fn drop(self) {
+        let Descent {
+            marks: _,
+            steps: _,
+            order: _,
+        } = self;
+    }
 }
 
 impl Descent {
@@ -51,6 +60,18 @@ impl Descent {
         })
     }
 
+    /// The tasks that it left.
+    fn into_order(self) -> Vec<u32>
+        ensures { result ≡ self.order }
+    {
+        let Descent {
+            marks: _,
+            steps: _,
+            order,
+        } = self;
+        order
+    }
+
     /// Takes the step that was last.
     fn take(&mut self, rows: &[List<u32>], step: Step) -> Result<(), Memory>
         requires within { AreWithin rows.now }
@@ -64,21 +85,11 @@ impl Descent {
                 if !self.marks[task as usize] {
                     self.marks[task as usize] = true;
                     self.steps.push(Step::Leave(task))?;
-                    self.enter_all(rows[task as usize].as_slice())?;
+                    for next in rows[task as usize].as_slice() {
+                        self.steps.push(Step::Enter(*next))?;
+                    }
                 }
             }
-        }
-        Ok(())
-    }
-
-    /// Puts a step for each of the tasks at the end.
-    fn enter_all(&mut self, tasks: &[u32]) -> Result<(), Memory>
-        ensures steps { OnOk result (AreToEnter tasks.now self.old self.new) }
-        ensures marks { OnOk result (self.new.marks ≡ self.old.marks) }
-        ensures order { OnOk result (self.new.order ≡ self.old.order) }
-    {
-        for task in tasks {
-            self.steps.push(Step::Enter(*task))?;
         }
         Ok(())
     }

@@ -56,14 +56,22 @@ pub fn group_numbers(
         let number = rows.len() - 1 - order.len();
         groups.number(rows, root, number as u32)?;
     }
-    Ok(groups.numbers)
+    Ok(groups.into_numbers())
 }
 
 /// The numbers of the tasks that the walk entered.
-#[derive(Drop)]
 pub struct Groups {
     walk: Walk,
     numbers: Vec<u32>,
+}
+
+impl Drop for Groups {
+    fn drop(self) {
+        let Groups {
+            walk: _,
+            numbers: _,
+        } = self;
+    }
 }
 
 impl Groups {
@@ -78,6 +86,14 @@ impl Groups {
             walk: Walk::new(alloc, count)?,
             numbers: vec![in alloc; 0; count]?,
         })
+    }
+
+    /// The numbers of the tasks.
+    fn into_numbers(self) -> Vec<u32>
+        ensures { result ≡ self.numbers }
+    {
+        let Groups { walk: _, numbers } = self;
+        numbers
     }
 
     /// Gives the number to all that the root reaches and that have none.

@@ -1,13 +1,11 @@
 //! The last child of a method. Where the pairs have no cycle, it is the only child that is first in none of them.
 
-ghost use Rattle.std.specs.Prelude.{◌≡◌, ◌<◌, ◌^◌, length, IfOk};
-ghost use Rattle.plan_model.specs.net_order.Closure.{AreFirsts};
-ghost use Rattle.plan_model.specs.net_order.Meaning.{AreBelow};
+ghost use Rattle.std.specs.Prelude.{◌<◌, ◌^◌, length, IfOk};
 ghost use Rattle.bound_calc.specs.stratifier.Conditions.{IsOrdered, IsSmallMethod};
 ghost use Rattle.bound_calc.specs.stratifier.Bad.{IsLastOf, IsOnlyUnmarkedOrNone};
 
 use htn_base::Memory;
-use plan_model::{MethodPlan, Pair};
+use plan_model::MethodPlan;
 use std::alloc::Global;
 
 /// The child that all others of the method precede, if there is one.
@@ -16,23 +14,12 @@ pub fn last_child(alloc: Global, plan: &MethodPlan) -> Result<Option<u32>, Memor
     requires ordered { IsOrdered plan.now }
     ensures last { IfOk result (IsLastOf plan.now) }
 {
-    let count = plan.schema.children.len();
-    let firsts = firsts_of(alloc, count, plan.schema.pairs.as_slice())?;
+    let mut firsts = vec![in alloc; false; plan.schema.children.len()]?;
+    for pair in plan.schema.pairs.as_slice() {
+        firsts[pair.first as usize] = true;
+    }
     let last = only_unmarked(firsts.as_slice());
     Ok(last)
-}
-
-/// A mark for each of so many children: whether it is first in one of the pairs.
-fn firsts_of(alloc: Global, count: usize, pairs: &[Pair]) -> Result<Vec<bool>, Memory>
-    requires below { AreBelow count pairs.now }
-    ensures room { IfOk result (λ marks. length marks.items ≡ count) }
-    ensures firsts { IfOk result (λ marks. AreFirsts pairs.now marks.items) }
-{
-    let mut marks = vec![in alloc; false; count]?;
-    for pair in pairs {
-        marks[pair.first as usize] = true;
-    }
-    Ok(marks)
 }
 
 /// The place of the only item without a mark; `None` where there is no such item, or more than one.

@@ -1,11 +1,10 @@
-ghost use Rattle.std.specs.Prelude.{◌≡◌, ℕ, ◌+◌, ◌<◌, [], All, Contains, length, IfOk, OnOk};
+ghost use Rattle.std.specs.Prelude.{◌≡◌, ◌+◌, ◌<◌, [], All, Contains, length, IfOk, OnOk};
 ghost use Rattle.bound_calc.specs.stratifier.Conditions.{IsSmallCompiled};
-ghost use Rattle.bound_calc.specs.stratifier.Links.{IsSubtask};
 ghost use Rattle.bound_calc.specs.stratifier.Entered.{AreEntered, AreReachedMarks, AreSubtasksEntered, AreUnmarked, HaveMarks};
 
 use crate::stratifier::by_task::methods_by_task;
 use htn_base::Memory;
-use plan_model::{Child, Compiled, Head, MethodPlan};
+use plan_model::{Compiled, Head, MethodPlan};
 use std::alloc::Global;
 
 /// A mark for each task, the top task too: whether it is reached from the top.
@@ -22,15 +21,20 @@ pub fn reached(alloc: Global, c: &Compiled) -> Result<Vec<bool>, Memory>
     while let Some(task) = walk.work.pop() {
         walk.enter_next(methods, by_task[task as usize].as_slice())?;
     }
-    Ok(walk.marks)
+    Ok(walk.into_marks())
 }
 
 /// A walk over the tasks: those that were entered are marked, and `work` has those that are still
 /// to be done.
-#[derive(Drop)]
 pub struct Walk {
     pub marks: Vec<bool>,
     pub work: Vec<u32>,
+}
+
+impl Drop for Walk {
+    fn drop(self) {
+        let Walk { marks: _, work: _ } = self;
+    }
 }
 
 impl Walk {
@@ -45,6 +49,14 @@ impl Walk {
             marks,
             work: Vec::new(alloc),
         })
+    }
+
+    /// The marks of the tasks.
+    fn into_marks(self) -> Vec<bool>
+        ensures { result ≡ self.marks }
+    {
+        let Walk { marks, work: _ } = self;
+        marks
     }
 
     /// Enters the task, unless it was entered before.
@@ -70,19 +82,6 @@ impl Walk {
         Ok(())
     }
 
-    /// Enters those of the children that are tasks.
-    fn enter_subtasks(&mut self, children: &[Child]) -> Result<(), Memory>
-        requires { (t : ℕ) → IsSubtask children.now t → t < length self.old.marks.items }
-        ensures entered { OnOk result (AreEntered (IsSubtask children.now) self.old self.new) }
-    {
-        for child in children {
-            if let Head::Task(task) = child.head {
-                self.enter(task)?;
-            }
-        }
-        Ok(())
-    }
-
     /// Enters the tasks among the children of the methods at these places.
     fn enter_next(&mut self, methods: &[MethodPlan], places: &[u32]) -> Result<(), Memory>
         requires places { All (λ m. m < length methods.now) places.now }
@@ -90,7 +89,11 @@ impl Walk {
         ensures entered { OnOk result (AreSubtasksEntered methods.now places.now self.old self.new) }
     {
         for m in places {
-            self.enter_subtasks(methods[*m as usize].schema.children.as_slice())?;
+            for child in methods[*m as usize].schema.children.as_slice() {
+                if let Head::Task(task) = child.head {
+                    self.enter(task)?;
+                }
+            }
         }
         Ok(())
     }

@@ -1,4 +1,4 @@
-use Rattle.std.proofs.Common.{◌≡◌, ◌<◌, ◌^◌, List, length, subst, sym, ap, ◌∙◌}
+use Rattle.std.proofs.Common.{◌≡◌, ◌<◌, ◌^◌, ℕ, List, Option, length, subst, sym, ap, ◌∙◌}
 use Rattle.plan_model.specs.task_networks.Order.{IsAcyclic}
 use Rattle.plan_model.specs.declared.networks.Pair.{Pair}
 use Rattle.plan_model.specs.declared.schemas.MethodSchema.{MethodSchema}
@@ -34,8 +34,10 @@ new-requires-clause-acyclic c =
 pub returns-in-Ok : goal.returns-in-Ok
 returns-in-Ok c =
     let schema : MethodSchema = c.in_ok-schema.schema in
-    let ordered = subst (λ (ps : List Pair). IsOrdered (length schema.children) ps c.in-Ok.ordered) c.as_slice.ensures.items
+    let whole = subst (λ (ps : List Pair). IsOrdered (length schema.children) ps c.in-Ok.ordered) c.as_slice.ensures.items
     (subst (λ n. IsOrdered n c.as_slice.result.now c.in-Ok.ordered) c.len-count.ensures.length c.in-Ok.ensures.ordered) in
+    let parts = c.into_parts-line.ensures in
+    let ordered = subst (λ (p : List ℕ × Option ℕ × List ℕ). IsOrdered (length schema.children) schema.pairs (record { line = p.0; heir = p.1; copiers = p.2 })) (sym parts) whole in
     record {
       checked = c.is_checked-checked.ensures;
       tested = c.is_tested.ensures;

@@ -1,5 +1,7 @@
-use Rattle.std.proofs.Common.{◌≡◌, ◌<◌, Some, slice_get, length, get_or, arith, sym, ap, subst, ◌∙◌}
-use Rattle.std.proofs.lemmas.Option.{slice_get_read, slice_get-get_or}
+use Rattle.std.proofs.Common.{ℕ, ◌≡◌, ◌≢◌, ◌↔◌, ◌<◌, true, not, Option, Some, None, nat_eq, slice_get, length, get_or, arith, refl, sym, ap, subst, ◌∙◌}
+use Rattle.std.specs.Option.{option_eq}
+use Rattle.std.proofs.lemmas.Bool.{true≢false, eq-eqb, ne_eqb}
+use Rattle.std.proofs.lemmas.Option.{slice_get_read, slice_get-get_or, none-some}
 use Rattle.std.proofs.lemmas.Grind.{common_steps}
 use Rattle.bound_calc.specs.declared.stratifier.edge.Edge.{Edge}
 use Rattle.bound_calc.proofs.stratifier.Lasts.{marked_more, bad_mark, method_within}
@@ -7,6 +9,14 @@ use Rattle.bound_calc.proofs.stratifier.bad.bad_marks.Goals as goal
 
 abbrev none : Edge
 none = record { method = 0; child = 0 }
+
+-- it is another child, or none
+other : (last : Option ℕ) (child : ℕ) → (not (option_eq nat_eq last (Some child)) ≡ true) ↔ (last ≢ Some child)
+other None child = (λ t e. none-some _ e, λ n. refl)
+other (Some x) child = (
+  λ t e. (let s : x ≡ child = cc in true≢false (sym t ∙ ap not (eq-eqb x child s))),
+  λ n. ap not (ne_eqb x child (λ s. n (ap (λ y. Some y) s))),
+)
 
 pub loop-edge-preserved : goal.loop-edge-preserved
 loop-edge-preserved c =
@@ -19,8 +29,9 @@ loop-edge-preserved c =
     let l : edge.method < length c.args.c.now.methods = subst (λ s. (get_or s k none).method < length c.args.c.now.methods) (sym same) (method_within c.args.c.now edges c.requires.edges k none (subst (λ s. k < length s) same c.loop-edge-test.true)) in
     let last = slice_get_read c.in_ok-lasts.lasts.items _ edge.method c.index.result.now (let r = c.in_ok-lasts.ensures.lasts.room in sym r) (subst (λ ms. edge.method < length ms) (sym c.as_slice.ensures.items) l) c.index.ensures in
     let bad = bad_mark c.args.c.now edge _ c.in_ok-lasts.lasts.items c.index.result.now c.requires.ordered c.as_slice.ensures.items l c.in_ok-lasts.ensures.lasts last in
-    marked_more c.args.c.now edges k c.loop-edge.marks c.push.new.self edge c.is_other.result is
-    ((λ t. bad.0 (c.is_other.ensures.other.0 t)), (λ b. c.is_other.ensures.other.1 (bad.1 b))) c.loop-edge.invariant c.in_ok-push.ensures.pushed
+    let told = other c.index.result.now edge.child in
+    marked_more c.args.c.now edges k c.loop-edge.marks c.push.new.self edge c.ne.result is
+    ((λ t. bad.0 (told.0 (sym c.ne.ensures ∙ t))), (λ b. c.ne.ensures ∙ told.1 (bad.1 b))) c.loop-edge.invariant c.in_ok-push.ensures.pushed
 
 pub index-requires : goal.index-requires
 index-requires c =

@@ -1,6 +1,7 @@
-use Rattle.std.proofs.Common.{◌≡◌, [], arith}
+use Rattle.std.proofs.Common.{◌≡◌, ℕ, [], Vec, Global, sym, subst, arith}
 use Rattle.std.proofs.lemmas.List.{nil_from_length}
 use Rattle.std.proofs.lemmas.Grind.{common_steps}
+use Rattle.bound_calc.specs.stratifier.Graph.{NumberComponents}
 use Rattle.bound_calc.proofs.stratifier.Grouped.{reversed_within, roots_left, grouped_more, grouped_all}
 use Rattle.bound_calc.proofs.stratifier.groups.group_numbers.Goals as goal
 
@@ -32,7 +33,10 @@ loop-root-preserved c =
 pub returns : goal.returns
 returns c =
     let none : c.loop-root.order.items ≡ [] = nil_from_length c.loop-root.order.items (let a = c.loop-root.order.ok.0 in let z = c.in_default.ensures.cases.0 in omega arith) in
-    record { groups = grouped_all c.args.rows.now c.args.back.now _ c.requires.reversed c.loop-root.order.items c.loop-root.groups none c.loop-root.invariant }
+    record {
+      groups = subst (λ (v : Vec ℕ Global). NumberComponents c.args.rows.now v.items) (sym c.into_numbers.ensures)
+          (grouped_all c.args.rows.now c.args.back.now _ c.requires.reversed c.loop-root.order.items c.loop-root.groups none c.loop-root.invariant);
+    }
 
 pub finishing_order-requires-clause-few : goal.finishing_order-requires-clause-few
 finishing_order-requires-clause-few c = grind (arith, common_steps)

@@ -1,9 +1,9 @@
-use Rattle.std.proofs.Common.{◌≡◌, ◌+◌, ◌↔◌, [], get_or, Contains, refl, sym, ap, subst, ◌∙◌, arith}
+use Rattle.std.proofs.Common.{◌≡◌, ◌+◌, ◌↔◌, [], Bool, Vec, Global, length, get_or, Contains, refl, sym, ap, subst, ◌∙◌, arith}
 use Rattle.std.proofs.lemmas.List.{get_or_read, nil_from_length}
 use Rattle.std.proofs.lemmas.List.Elements.{Contains-get_or}
 use Rattle.bound_calc.specs.declared.stratifier.reach.Walk.{Walk}
 use Rattle.bound_calc.specs.stratifier.Links.{IsMethodOf, IsSubtaskOf}
-use Rattle.bound_calc.specs.stratifier.Entered.{AreEntered}
+use Rattle.bound_calc.specs.stratifier.Entered.{AreEntered, AreReachedMarks}
 use Rattle.bound_calc.proofs.stratifier.Walks.{walked_first, walked_on, walked_all, work_within, next_within, place_within}
 use Rattle.bound_calc.proofs.stratifier.reach.reached.Goals as goal
 
@@ -51,4 +51,8 @@ loop-task-preserved c =
 pub returns : goal.returns
 returns c =
     let none : c.loop-task.walk.work.items ≡ [] = nil_from_length c.loop-task.walk.work.items (let a = c.loop-task.walk.work.ok.0 in let z = c.in_default.ensures.cases.0 in omega arith) in
-    record { room = c.loop-task.invariant.room; reached = walked_all c.args.c.now c.loop-task.walk.marks.items c.loop-task.walk.work.items none c.loop-task.invariant }
+    let marks : c.into_marks.result.items ≡ c.loop-task.walk.marks.items = ap (λ (v : Vec Bool Global). v.items) c.into_marks.ensures in
+    record {
+      room = ap length marks ∙ c.loop-task.invariant.room;
+      reached = subst (AreReachedMarks c.args.c.now) (sym marks) (walked_all c.args.c.now c.loop-task.walk.marks.items c.loop-task.walk.work.items none c.loop-task.invariant);
+    }

@@ -1,4 +1,6 @@
-use Rattle.std.proofs.Common.{◌∷◌, ◌++◌, [], false, refl, ap, subst, sym, ◌∙◌, arith}
+use Rattle.std.proofs.Common.{◌∷◌, ◌++◌, [], false, map, take_all, refl, ap, subst, sym, ◌∙◌, arith}
+use Rattle.bound_calc.specs.declared.stratifier.finishing.Step.TheVariants.{Enter}
+use Rattle.std.proofs.lemmas.Grind.{common_steps}
 use Rattle.std.proofs.lemmas.List.{get_or_read, get_or_default}
 use Rattle.bound_calc.specs.stratifier.Finishing.{IsDescent}
 use Rattle.bound_calc.proofs.stratifier.Descents.{went_in_so, no_more_work, came_out, passed_by, task_within}
@@ -25,28 +27,28 @@ returns-in_ok-push-in-Leave-clause-descent c =
     subst (IsDescent c.args.rows.now w.marks.items w.steps.items) (sym c.in_ok-push-in-Leave.ensures.items)
     (came_out c.args.rows.now w.marks.items w.steps.items w.order.items c.in-Leave.task (subst (λ s. IsDescent c.args.rows.now w.marks.items (w.steps.items ++ s ∷ []) w.order.items) c.in-Leave.is c.requires.descent))
 
-pub returns-in_ok-enter_all-in-Enter-clause-descent : goal.returns-in_ok-enter_all-in-Enter-clause-descent
-returns-in_ok-enter_all-in-Enter-clause-descent c =
+pub returns-after-loop-next-clause-descent : goal.returns-after-loop-next-clause-descent
+returns-after-loop-next-clause-descent c =
     let w = c.args.self.now in
     let t = c.in-Enter.task in
     let l = task_within c.args.rows.now _ _ _ t c.args.step c.in-Enter.is c.requires.descent in
     let r = c.requires.descent.room in
-    went_in_so c.args.rows.now w.marks.items _ w.steps.items c.push-then-not-index.new.self.items _ w.order.items _ c.as_slice.result.now t c.args.step c.in-Enter.is c.requires.descent
+    went_in_so c.args.rows.now w.marks.items _ w.steps.items c.push-then-not-index.new.self.items _ w.order.items _ c.as_slice-next-items.result.now t c.args.step c.in-Enter.is c.requires.descent
     (sym (get_or_read w.marks.items t c.index.result.now (omega arith) c.index.ensures false) ∙ c.if-not-index.true)
-    (ap (λ v. v.items) c.in_ok-enter_all-in-Enter.ensures.marks) c.in_ok-push-in-Enter.ensures.items c.in_ok-enter_all-in-Enter.ensures.steps
-    (get_or_default c.args.rows.now t [] c.index-rows-task.result l ∙ sym (c.as_slice.ensures.items ∙ c.index-rows-task.is)) (ap (λ v. v.items) c.in_ok-enter_all-in-Enter.ensures.order)
+    (ap (λ v. v.items) c.loop-next.invariant.marks) c.in_ok-push-in-Enter.ensures.items (c.loop-next.invariant.steps ∙ ap (λ zs. c.push-then-not-index.new.self.items ++ map Enter zs) (take_all c.loop-next.next-index c.as_slice-next-items.result.now c.loop-next-test.false))
+    (get_or_default c.args.rows.now t [] c.index-rows-task.result l ∙ sym (c.as_slice-next-items.ensures.items ∙ c.index-rows-task.is)) (ap (λ v. v.items) c.loop-next.invariant.order)
     c.requires.within
 
-pub returns-in_ok-enter_all-in-Enter-clause-less : goal.returns-in_ok-enter_all-in-Enter-clause-less
-returns-in_ok-enter_all-in-Enter-clause-less c =
+pub returns-after-loop-next-clause-less : goal.returns-after-loop-next-clause-less
+returns-after-loop-next-clause-less c =
     let w = c.args.self.now in
     let t = c.in-Enter.task in
     let l = task_within c.args.rows.now _ _ _ t c.args.step c.in-Enter.is c.requires.descent in
     let r = c.requires.descent.room in
-    no_more_work c.args.rows.now w.marks.items _ w.steps.items c.push-then-not-index.new.self.items _ w.order.items w.order.items c.as_slice.result.now t c.args.step c.in-Enter.is c.requires.descent
+    no_more_work c.args.rows.now w.marks.items _ w.steps.items c.push-then-not-index.new.self.items _ w.order.items w.order.items c.as_slice-next-items.result.now t c.args.step c.in-Enter.is c.requires.descent
     (sym (get_or_read w.marks.items t c.index.result.now (omega arith) c.index.ensures false) ∙ c.if-not-index.true)
-    (ap (λ v. v.items) c.in_ok-enter_all-in-Enter.ensures.marks) c.in_ok-push-in-Enter.ensures.items c.in_ok-enter_all-in-Enter.ensures.steps
-    (get_or_default c.args.rows.now t [] c.index-rows-task.result l ∙ sym (c.as_slice.ensures.items ∙ c.index-rows-task.is)) refl
+    (ap (λ v. v.items) c.loop-next.invariant.marks) c.in_ok-push-in-Enter.ensures.items (c.loop-next.invariant.steps ∙ ap (λ zs. c.push-then-not-index.new.self.items ++ map Enter zs) (take_all c.loop-next.next-index c.as_slice-next-items.result.now c.loop-next-test.false))
+    (get_or_default c.args.rows.now t [] c.index-rows-task.result l ∙ sym (c.as_slice-next-items.ensures.items ∙ c.index-rows-task.is)) refl
 
 pub returns-else-not-index-clause-descent : goal.returns-else-not-index-clause-descent
 returns-else-not-index-clause-descent c =
@@ -57,3 +59,9 @@ returns-else-not-index-clause-descent c =
     passed_by c.args.rows.now w.marks.items w.steps.items w.order.items t
     (sym (get_or_read w.marks.items t c.index.result.now (omega arith) c.index.ensures false) ∙ c.if-not-index.false)
     (subst (λ s. IsDescent c.args.rows.now w.marks.items (w.steps.items ++ s ∷ []) w.order.items) c.in-Enter.is c.requires.descent)
+
+pub loop-next-init : goal.loop-next-init
+loop-next-init c = grind (arith, common_steps)
+
+pub loop-next-preserved : goal.loop-next-preserved
+loop-next-preserved c = grind (arith, common_steps)
