@@ -3,7 +3,7 @@ ghost use Rattle.plan_model.specs.plan_meaning.Schemas.{task};
 ghost use Rattle.plan_model.specs.plan_meaning.Strata.{source, target};
 ghost use Rattle.bound_calc.specs.stratifier.CycleWords as spec;
 ghost use Rattle.bound_calc.specs.stratifier.Listed.{edge_of};
-ghost use Rattle.bound_calc.specs.NoBound.{begun, spaced};
+ghost use Rattle.bound_calc.specs.NoBound.{spaced};
 
 use crate::stratifier::Edge;
 use htn_base::{Memory, Name, Text};
@@ -16,7 +16,11 @@ pub fn cycle_words(alloc: Global, c: &Compiled, edges: &[Edge]) -> Result<Text, 
     ensures words { IfOk result (λ text.
         text ≡ spaced (spec.cycle_words c.now (map edge_of edges.now))) }
 {
-    let mut text = words_of_edges(alloc, c, edges)?;
+    let mut text = Text::new(alloc);
+    for edge in edges {
+        push_word(&mut text, source_word(c, edge))?;
+        push_word(&mut text, method_word(c, edge))?;
+    }
     match edges.last() {
         Some(edge) => {
             push_word(&mut text, target_word(c, edge))?;
@@ -24,18 +28,6 @@ pub fn cycle_words(alloc: Global, c: &Compiled, edges: &[Edge]) -> Result<Text, 
         }
         None => Ok(text),
     }
-}
-
-/// The words of the edges' tasks and methods.
-fn words_of_edges(alloc: Global, c: &Compiled, edges: &[Edge]) -> Result<Text, Memory>
-    ensures words { IfOk result (λ text. text ≡ spaced (begun c.now edges.now)) }
-{
-    let mut text = Text::new(alloc);
-    for edge in edges {
-        push_word(&mut text, source_word(c, edge))?;
-        push_word(&mut text, method_word(c, edge))?;
-    }
-    Ok(text)
 }
 
 fn push_word(text: &mut Text, word: &[u8]) -> Result<(), Memory>

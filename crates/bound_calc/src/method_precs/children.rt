@@ -1,4 +1,4 @@
-ghost use Rattle.std.specs.Prelude.{◌≡◌, ◌<◌, ◌^◌, ◌++◌, IfOk, OnOk, length};
+ghost use Rattle.std.specs.Prelude.{◌≡◌, ◌<◌, ◌^◌, IfOk, length};
 ghost use Rattle.plan_model.specs.plan_meaning.Compilation as spec;
 
 use htn_base::{List, Memory};
@@ -18,7 +18,9 @@ pub fn children_of(
     if checked {
         children.put(check_of(alloc, method))?;
     }
-    append_copies(alloc, &mut children, method.children.as_slice())?;
+    for child in method.children.as_slice() {
+        children.put(child.copy(alloc))?;
+    }
     Ok(children)
 }
 
@@ -36,13 +38,4 @@ fn check_of(alloc: Global, method: &MethodSchema) -> Result<Child, Memory>
         head: Head::Check,
         args,
     })
-}
-
-fn append_copies(alloc: Global, into: &mut List<Child>, children: &[Child]) -> Result<(), Memory>
-    ensures { OnOk result (into.new ≡ into.old ++ children.now) }
-{
-    for child in children {
-        into.put(child.copy(alloc))?;
-    }
-    Ok(())
 }

@@ -1,10 +1,9 @@
-ghost use Rattle.std.specs.Prelude.{◌≡◌, ◌≢◌, ◌≤◌, ◌<◌, ◌^◌, ◌↔◌, ℕ, Some, Contains, IsTrue, IfOk, length};
-ghost use Rattle.std.specs.List.Sorted.{IsStrictlyIncreasing};
-ghost use Rattle.plan_model.specs.task_networks.Order.{IsAcyclic, IsMaximal};
+ghost use Rattle.std.specs.Prelude.{◌≡◌, ◌≤◌, ◌<◌, ◌^◌, ◌↔◌, IsTrue, IfOk, length};
+ghost use Rattle.plan_model.specs.task_networks.Order.{IsAcyclic};
 ghost use Rattle.plan_model.specs.Pairs.{Pairs};
-ghost use Rattle.plan_model.specs.net_order.Meaning.{AreBelow, IsOrderOf};
+ghost use Rattle.plan_model.specs.net_order.Meaning.{AreBelow};
 ghost use Rattle.plan_model.specs.net_order.Answers.{maximal};
-ghost use Rattle.bound_calc.specs.method_precs.Ordered.{AreCopiers, IsCopier, IsOrdered, IsOrderedBy};
+ghost use Rattle.bound_calc.specs.method_precs.Ordered.{IsCopier, IsOrdered, IsOrderedBy};
 
 use htn_base::{List, Memory};
 use plan_model::Pair;
@@ -66,33 +65,21 @@ impl Ordered {
         ensures ordered { IfOk result (IsOrderedBy order.now count) }
     {
         let heir = order.heir();
+        let mut copiers = List::new(alloc);
+        for child in 0..count {
+            if is_copier(order, heir, child) {
+                copiers.push(child)?;
+            }
+        }
         Ok(Ordered {
             line: order.line().copy(alloc)?,
             heir,
-            copiers: copiers_of(alloc, order, count, heir)?,
+            copiers,
         })
     }
 }
 
-/// The maximal children other than the heir, in number order.
-fn copiers_of(
-    alloc: Global,
-    order: &Order,
-    count: u32,
-    heir: Option<u32>,
-) -> Result<List<u32>, Memory>
-    requires children { order.now.count ≡ count }
-    ensures copiers { IfOk result (λ copiers. AreCopiers count (maximal order.now) heir copiers) }
-{
-    let mut copiers = List::new(alloc);
-    for child in 0..count {
-        if is_copier(order, heir, child) {
-            copiers.push(child)?;
-        }
-    }
-    Ok(copiers)
-}
-
+/// Whether the child is a maximal one other than the heir.
 fn is_copier(order: &Order, heir: Option<u32>, child: u32) -> bool
     requires { child < order.now.count }
     ensures { IsTrue result ↔ IsCopier (maximal order.now) heir child }

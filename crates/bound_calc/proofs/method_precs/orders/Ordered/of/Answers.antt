@@ -3,12 +3,12 @@ use Rattle.std.proofs.lemmas.Bool.{false≢true}
 use Rattle.plan_model.specs.net_order.Answers.{maximal}
 use Rattle.plan_model.proofs.Numbers.{AreFound, found_more, found_less}
 use Rattle.bound_calc.specs.method_precs.Ordered.{IsCopier}
-use Rattle.bound_calc.proofs.method_precs.orders.copiers_of.Goals as goal
-use Rattle.bound_calc.proofs.method_precs.orders.copiers_of.Goals.{then-is_copier+in_ok-push, else-is_copier}
+use Rattle.bound_calc.proofs.method_precs.orders.Ordered.of.Goals as goal
+use Rattle.bound_calc.proofs.method_precs.orders.Ordered.of.Goals.{then-is_copier+in_ok-push, else-is_copier}
 
 pub loop-child-preserved : goal.loop-child-preserved
 loop-child-preserved c =
-    let P : ℕ → Type 0 = IsCopier (maximal c.args.order.now) c.args.heir in
+    let P : ℕ → Type 0 = IsCopier (maximal c.args.order.now) c.heir-heir.result in
     let i = c.loop-child.child in
     elim c.if-is_copier.branch [
       | then-is_copier+in_ok-push w ↦
@@ -21,8 +21,12 @@ pub returns : goal.returns
 returns c =
     let end : c.loop-child.child ≡ c.args.count = let a = c.loop-child.auto.child-end in let b = c.loop-child-test.false in omega arith in
     record {
-      copiers = record {
-        each = λ i. subst (λ n. Contains c.loop-child.copiers i ↔ ((i < n) × IsCopier (maximal c.args.order.now) c.args.heir i)) end (c.loop-child.invariant.each i);
-        in_order = c.loop-child.invariant.rising;
+      ordered = record {
+        line = c.in_ok-copy.ensures.equal ∙ c.line.ensures;
+        heir = c.heir-heir.ensures;
+        copiers = record {
+          each = λ i. subst (λ n. Contains c.loop-child.copiers i ↔ ((i < n) × IsCopier (maximal c.args.order.now) c.heir-heir.result i)) end (c.loop-child.invariant.each i);
+          in_order = c.loop-child.invariant.rising;
+        };
       };
     }
