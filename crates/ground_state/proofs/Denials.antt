@@ -25,7 +25,7 @@ use Rattle.ground_state.specs.declared.passes.Pass.{Pass}
 use Rattle.ground_state.specs.declared.passes.Pass.TheVariants as passes
 use Rattle.ground_state.specs.Numbers.{number_of}
 use Rattle.ground_state.specs.Notes as notes
-use Rattle.ground_state.specs.Notes.{noted_at, noted, holds, IsNoted, IsSet, AreSame, HoldSame, AreDenied}
+use Rattle.ground_state.specs.Notes.{noted_at, noted, holds, IsNoted, IsSet, AreNone, AreSame, HoldSame, AreDenied}
 use Rattle.ground_state.specs.States as states
 use Rattle.ground_state.specs.States.{note, atom, has, has_ground, HasSameNotes}
 use Rattle.ground_state.specs.Search.{Touches, TouchesWithin}
@@ -126,6 +126,17 @@ set_other (y ∷ xs) zero zero x n = absurd (n refl)
 set_other (y ∷ xs) zero (suc j) x n = refl
 set_other (y ∷ xs) (suc i) zero x n = refl
 set_other (y ∷ xs) (suc i) (suc j) x n = set_other xs i j x (λ e. n (ap suc e))
+
+-- one more predicate, of which nothing is noted
+pub pushed_same : (before after : List Notes) (new : Notes) → AreNone new → after ≡ before ++ new ∷ [] → (p : ℕ) (args : List ℕ)
+    → option_and_then (λ lists. noted lists args) (slice_get after p) ≡ option_and_then (λ lists. noted lists args) (slice_get before p)
+pushed_same before after new none e p args = ap (λ xs. option_and_then (λ lists. noted lists args) (slice_get xs p)) e ∙ at before p
+  where
+    at : (xs : List Notes) (q : ℕ) → option_and_then (λ lists. noted lists args) (slice_get (xs ++ new ∷ []) q) ≡ option_and_then (λ lists. noted lists args) (slice_get xs q)
+    at [] zero = none args
+    at [] (suc q) = refl
+    at (x ∷ xs) zero = refl
+    at (x ∷ xs) (suc q) = at xs q
 
 -- a state in which what is noted of one predicate is something else
 module _ (s : State) (p : ℕ) (old new : Notes) (at : slice_get s.facts.items p ≡ Some old) where
