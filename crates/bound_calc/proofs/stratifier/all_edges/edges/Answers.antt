@@ -1,7 +1,8 @@
-use Rattle.std.proofs.Common.{◌≡◌, ◌<◌, ◌+◌, ◌++◌, List, length, map, take, false, get_or, sym, ap, subst, ◌∙◌, arith}
+use Rattle.std.proofs.Common.{◌≡◌, ◌<◌, All, ◌≤◌, ◌+◌, ◌++◌, List, length, map, take, false, get_or, sym, ap, subst, ◌∙◌, arith}
 use Rattle.std.proofs.lemmas.List.{get_or_read}
 use Rattle.plan_model.specs.declared.schemas.MethodPlan.{MethodPlan}
 use Rattle.plan_model.specs.plan_meaning.Strata.{Edge}
+use Rattle.bound_calc.specs.stratifier.Conditions.{IsSmallMethod}
 use Rattle.bound_calc.specs.stratifier.Listed.{edge_of, edges_from, edges_of}
 use Rattle.bound_calc.proofs.stratifier.Listing.{edges_told, tasks_marked, of_marked, of_unmarked}
 use Rattle.bound_calc.proofs.stratifier.all_edges.edges.Goals as goal
@@ -37,3 +38,18 @@ pub returns : goal.returns
 returns c = record {
   edges = edges_told c.args.c.now c.loop-m.edges c.as_slice-plan-items.result.now c.loop-m.m c.in_ok-marks.marks.items c.as_slice-plan-items.ensures.items c.loop-m-test.false c.in_ok-marks.ensures.reached c.loop-m.invariant;
 }
+
+pub overflow_cast-m : goal.overflow_cast-m
+overflow_cast-m c =
+    let l = c.loop-m-test.true in
+    let e = ap length c.as_slice-plan-items.ensures.items in
+    let few = c.requires.small.methods in
+    omega arith
+
+pub add_edges-requires : goal.add_edges-requires
+add_edges-requires c =
+    let methods = c.as_slice-plan-items.result.now in
+    let small = subst (λ (ms : List MethodPlan). All IsSmallMethod ms) (sym c.as_slice-plan-items.ensures.items) c.requires.small.networks c.loop-m.m c.plan-item.result c.loop-m-test.true in
+    let few : length c.plan-item.result.schema.children ≤ 4097 = subst (λ (z : MethodPlan). length z.schema.children ≤ 4097) (sym c.plan-item.is) small.children in
+    let same = ap length c.as_slice.ensures.items in
+    omega arith

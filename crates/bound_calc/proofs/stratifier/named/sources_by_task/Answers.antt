@@ -33,3 +33,6 @@ loop-e-preserved c =
 
 pub returns-clause-sources : goal.returns-clause-sources
 returns-clause-sources c = sources_all c.args.count c.args.ends.now c.loop-e.e-index c.loop-e.lists.items (omega (arith, c.loop-e-test.false)) c.loop-e.invariant
+
+pub returns-clause-room : goal.returns-clause-room
+returns-clause-room c = c.loop-e.invariant.room
