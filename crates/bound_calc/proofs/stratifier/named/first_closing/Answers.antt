@@ -1,4 +1,4 @@
-use Rattle.std.proofs.Common.{◌<◌, length, false, get_or, sym, ◌∙◌, arith}
+use Rattle.std.proofs.Common.{◌<◌, Bool, Some, length, false, get_or, sym, ap, ◌∙◌, arith}
 use Rattle.std.proofs.lemmas.Option.{slice_get-get_or}
 use Rattle.std.proofs.lemmas.Bool.{false≢true}
 use Rattle.std.proofs.lemmas.Grind.{common_steps}
@@ -26,6 +26,16 @@ loop-k-preserved c =
 
 pub returns : goal.returns
 returns c = record { first = none_at_all c.args.groups.now c.args.ends.now c.args.bad.now c.loop-k.k c.loop-k-test.false c.loop-k.invariant }
+
+pub returns-then-groups-e : goal.returns-then-groups-e
+returns-then-groups-e c =
+    let ends = c.args.ends.now in
+    let bad = c.args.bad.now in
+    let k = c.loop-k.k in
+    let l = c.loop-k-test.true in
+    let b : k < length bad = (let r = c.requires.marks in omega arith) in
+    let mark = slice_get-get_or bad k false b ∙ ap (λ (x : Bool). Some x) c.if-bad-k.true in
+    record { first = ((get_or ends k nowhere, slice_get-get_or ends k nowhere l, mark, c.if-groups-e.true), c.loop-k.invariant) }
 
 pub bounds-bad-k : goal.bounds-bad-k
 bounds-bad-k c = grind (arith, common_steps)
