@@ -2,7 +2,7 @@ ghost use Rattle.std.specs.Prelude.{◌≡◌, ◌≤◌, ◌++◌, flat_map, ma
 ghost use Rattle.name_binding.specs.PairsAmong as spec;
 
 use crate::places::Places;
-use gd_reader::{RawParam, RawParams, RawTerm};
+use gd_reader::{RawParams, RawTerm};
 use htn_base::{List, Memory, Name, number};
 use plan_model::Pair;
 use plan_model::net_order::{Order, OrderError};
@@ -67,25 +67,14 @@ fn pairs_among(
         offsets: List::new(alloc),
     };
     for item in listed.as_slice() {
-        written.put_item(types, count, item)?;
+        if let Some(child) = place_among(types, count, item.name) {
+            written.put_parents(types, count, child, item.at, item.ty.as_slice())?;
+        }
     }
     Ok(written)
 }
 
 impl ParentPairs {
-    /// Puts the pairs of a word of the section and its parents behind the others.
-    fn put_item(&mut self, types: &Places, count: u32, item: &RawParam) -> Result<(), Memory>
-        ensures pairs { OnOk result
-            (self.new.pairs ≡ self.old.pairs ++ spec.pairs_behind types.now count item.now) }
-        ensures offsets { OnOk result
-            (self.new.offsets ≡ self.old.offsets ++ spec.places_behind types.now count item.now) }
-    {
-        match place_among(types, count, item.name) {
-            Some(child) => self.put_parents(types, count, child, item.at, item.ty.as_slice()),
-            None => Ok(()),
-        }
-    }
-
     /// Puts the pairs of a child, whose word stands at this offset, and its parents behind the others.
     fn put_parents(
         &mut self,
@@ -101,26 +90,12 @@ impl ParentPairs {
             ++ map (λ _. at) (flat_map (spec.pair_among types.now count child) parents.now)) }
     {
         for parent in parents {
-            let place = parent_among(types, count, child, parent.name);
-            self.put(child, place, at)?;
+            if let Some(then) = parent_among(types, count, child, parent.name) {
+                self.pairs.push(Pair { first: child, then })?;
+                self.offsets.push(at)?;
+            }
         }
         Ok(())
-    }
-
-    /// Puts the pair of a child and its parent behind the others, where there is one.
-    fn put(&mut self, child: u32, parent: Option<u32>, at: u32) -> Result<(), Memory>
-        ensures pairs { OnOk result
-            (self.new.pairs ≡ self.old.pairs ++ spec.if_parent child parent) }
-        ensures offsets { OnOk result
-            (self.new.offsets ≡ self.old.offsets ++ map (λ _. at) (spec.if_parent child parent)) }
-    {
-        match parent {
-            Some(then) => {
-                self.pairs.push(Pair { first: child, then })?;
-                self.offsets.push(at)
-            }
-            None => Ok(()),
-        }
     }
 }
 

@@ -50,15 +50,6 @@ fn note_if(at: Option<u32>, code: u16, faults: &mut Faults)
 fn words_in_order(alloc: Global, listed: &RawParams) -> Result<Vec<RawTerm>, Memory>
     ensures words { IfOk result (λ words. AreInTextOrder listed.now words.items) }
 {
-    let mut words = words_of(alloc, listed)?;
-    words.sort_by_key(|word| word.at)?;
-    Ok(words)
-}
-
-/// Each word of a section of types.
-fn words_of(alloc: Global, listed: &RawParams) -> Result<Vec<RawTerm>, Memory>
-    ensures words { IfOk result (λ words. words.items ≡ mentioned listed.now) }
-{
     let mut words = Vec::new(alloc);
     for item in listed.as_slice() {
         words.push(RawTerm {
@@ -68,6 +59,7 @@ fn words_of(alloc: Global, listed: &RawParams) -> Result<Vec<RawTerm>, Memory>
         })?;
         words.extend_from_slice(item.ty.as_slice())?;
     }
+    words.sort_by_key(|word| word.at)?;
     Ok(words)
 }
 

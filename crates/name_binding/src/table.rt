@@ -76,7 +76,11 @@ impl TypeTable {
     pub fn unions_of(&self, alloc: Global) -> Result<List<List<u32>>, Memory>
         ensures unions { IfOk result (λ unions. unions ≡ self.now.unions) }
     {
-        lists_of(alloc, self.unions.as_slice())
+        let mut lists = List::new(alloc);
+        for members in self.unions.as_slice() {
+            lists.put(listed(alloc, members.as_slice()))?;
+        }
+        Ok(lists)
     }
 
     /// The number of a type as it is written: 0 where none is, the type's own where there is one, and where there are two or more
@@ -166,17 +170,12 @@ impl TypeTable {
     {
         match before {
             Some(either) if either.members.as_slice() == members => Ok(()),
-            _ => self.add_union(alloc, members),
+            _ => {
+                let union = Vec::from_slice(alloc, members)?;
+                self.unions.insert(union)?;
+                Ok(())
+            }
         }
-    }
-
-    fn add_union(&mut self, alloc: Global, members: &[u32]) -> Result<(), Memory>
-        ensures union { OnOk result (self.new.unions ≡ with_word self.old.unions members.now) }
-        ensures types { self.new.types ≡ self.old.types }
-    {
-        let union = Vec::from_slice(alloc, members)?;
-        self.unions.insert(union)?;
-        Ok(())
     }
 
     /// The numbers of the written types, each once. Nothing is noted.
@@ -211,18 +210,6 @@ impl TypeTable {
             None => Ok(0),
         }
     }
-}
-
-/// These lists of numbers.
-fn lists_of(alloc: Global, stored: &[Vec<u32>]) -> Result<List<List<u32>>, Memory>
-    ensures same { IfOk result (λ lists. lists ≡ unions_of stored.now) }
-{
-    let mut lists = List::new(alloc);
-    for numbers in stored {
-        let list = listed(alloc, numbers.as_slice())?;
-        lists.push(list)?;
-    }
-    Ok(lists)
 }
 
 /// These numbers in a list of their own.
