@@ -1,5 +1,5 @@
-ghost use Rattle.std.specs.Prelude.{◌≡◌, map, IfOk};
-ghost use Rattle.name_binding.specs.Listed.{name_of, types_bound};
+ghost use Rattle.std.specs.Prelude.{◌≡◌, IfOk};
+ghost use Rattle.name_binding.specs.Listed.{types_bound};
 ghost use Rattle.name_binding.specs.Parents.{pairs_in_order};
 
 use crate::table::TypeTable;
@@ -13,7 +13,10 @@ pub fn types_of(alloc: Global, table: &TypeTable, listed: &RawParams) -> Result<
     ensures types { IfOk result (λ types.
         types ≡ types_bound table.now (pairs_in_order table.now.types listed.now)) }
 {
-    let names = names_of(alloc, table.numbers())?;
+    let mut names = List::new(alloc);
+    for number in table.numbers() {
+        names.push(Name { number: *number })?;
+    }
     let parents = table.parents_of(alloc, listed)?;
     let unions = table.unions_of(alloc)?;
     Ok(Types {
@@ -21,15 +24,4 @@ pub fn types_of(alloc: Global, table: &TypeTable, listed: &RawParams) -> Result<
         parents,
         unions,
     })
-}
-
-/// The names of these numbers.
-fn names_of(alloc: Global, numbers: &[u32]) -> Result<List<Name>, Memory>
-    ensures names { IfOk result (λ names. names ≡ map name_of numbers.now) }
-{
-    let mut names = List::new(alloc);
-    for number in numbers {
-        names.push(Name { number: *number })?;
-    }
-    Ok(names)
 }

@@ -1,5 +1,4 @@
-use Rattle.std.proofs.Common.{◌≡◌, ◌<◌, ◌++◌, ◌∷◌, [], map, length, refl, ap, sym, ◌∙◌, append-nil}
-use Rattle.plan_model.specs.Pairs.{pair}
+use Rattle.std.proofs.Common.{◌++◌, map, refl, ap, sym, ◌∙◌, append-nil}
 use Rattle.name_binding.specs.declared.cycle.ParentPairs.{ParentPairs}
 use Rattle.name_binding.specs.PairsAmong.{if_parent, pair_among}
 use Rattle.name_binding.proofs.StepLemmas.{flat-behind, flat-made}
