@@ -1,6 +1,5 @@
 ghost use Rattle.std.specs.Prelude.{◌≡◌, ◌<◌, ◌≤◌, IfOk};
 ghost use Rattle.std.specs.Option.{option_map};
-ghost use Rattle.htn_base.specs.Words.{folded};
 ghost use Rattle.text_forms.specs.Placed.{parts_at};
 ghost use Rattle.text_forms.specs.Tokens.{token_count};
 ghost use Rattle.text_forms.specs.sexpr_text.Positions.{IsPosition};

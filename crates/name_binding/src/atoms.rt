@@ -1,4 +1,4 @@
-ghost use Rattle.std.specs.Prelude.{◌≡◌, length, IfOk, OnOk};
+ghost use Rattle.std.specs.Prelude.{◌≡◌, IfOk, OnOk};
 ghost use Rattle.name_binding.specs.Spots.{noted};
 ghost use Rattle.name_binding.specs.Heads.{declared};
 ghost use Rattle.name_binding.specs.Atoms.{place_of, head_faults, atom_bound, atom_faults};

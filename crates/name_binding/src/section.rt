@@ -1,7 +1,7 @@
 ghost use Rattle.std.specs.Prelude.{◌≡◌, ◌≤◌, MatchOption, IfOk, OnOk};
 ghost use Rattle.name_binding.specs.Spots.{noted};
 ghost use Rattle.name_binding.specs.Cycle.{IsSection, IsSectionFault};
-ghost use Rattle.name_binding.specs.Mentions.{mentioned, AreInTextOrder, AreTypesOf, types_in_order};
+ghost use Rattle.name_binding.specs.Mentions.{AreInTextOrder, AreTypesOf, types_in_order};
 ghost use Rattle.name_binding.specs.PairsAmong.{if_at};
 ghost use Rattle.name_binding.specs.TooMany.{NotesLeast, NoneIsOfType, IsFirstOfType};
 

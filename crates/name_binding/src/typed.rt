@@ -2,7 +2,7 @@ ghost use Rattle.std.specs.Prelude.{◌≡◌, IfOk, IsTrue, OnOk};
 ghost use Rattle.name_binding.specs.Spots.{noted};
 ghost use Rattle.name_binding.specs.Kinds.{kind_bound, kind_faults};
 ghost use Rattle.name_binding.specs.Noted.{IsKindNoted};
-ghost use Rattle.name_binding.specs.Typed.{param_bound, params_bound, object_bound, objects_bound, typed_faults, params_faults};
+ghost use Rattle.name_binding.specs.Typed.{params_bound, objects_bound, params_faults};
 
 use crate::faults::Faults;
 use crate::table::TypeTable;

@@ -1,4 +1,4 @@
-ghost use Rattle.std.specs.Prelude.{◌≡◌, ◌↔◌, ◌++◌, IsTrue, IfOk, OnOk};
+ghost use Rattle.std.specs.Prelude.{◌↔◌, IsTrue, IfOk};
 ghost use Rattle.plan_model.specs.Parts.{AreListed};
 ghost use Rattle.plan_model.specs.plan_meaning.Compilation as spec;
 

@@ -1,6 +1,6 @@
 ghost use Rattle.std.specs.Prelude.{◌≡◌, ◌<◌, not, IfOk, length};
 ghost use Rattle.plan_model.specs.plan_meaning.Compilation as spec;
-ghost use Rattle.plan_model.specs.net_order.Marks.{marked, has, IsSquare};
+ghost use Rattle.plan_model.specs.net_order.Marks.{marked, IsSquare};
 ghost use Rattle.plan_model.specs.net_order.Meaning.{AreBelow};
 ghost use Rattle.bound_calc.specs.method_precs.Pairs.{with_pair};
 
