@@ -2,14 +2,11 @@ ghost use Rattle.std.specs.Prelude.{◌≡◌, codes, Some, IfOk, IfErr, OnOk};
 ghost use Rattle.htn_base.specs.Table.{number_of, with_word};
 ghost use Rattle.gd_reader.specs.Terms.{Keeps};
 ghost use Rattle.name_binding.specs.Cycle.{IsSection};
-ghost use Rattle.name_binding.specs.Listed.{types_bound};
-ghost use Rattle.name_binding.specs.Parents.{pairs_in_order};
 ghost use Rattle.hddl_reader.specs.names.Types.{most_types};
-ghost use Rattle.hddl_bind.specs.DomainSchemas.{schemas_bound, AreSchemasNoted};
 ghost use Rattle.hddl_bind.specs.WholeDomains as spec;
 
 use crate::domain_names::{DomainNames, names_of};
-use crate::domain_schemas::{DomainSchemas, schemas_of};
+use crate::domain_schemas::schemas_of;
 use crate::errors::{BindError, judged};
 use crate::problem_parts::ProblemParts;
 use crate::whole_unions::unions_of_domain;
@@ -61,16 +58,9 @@ impl BoundDomain {
             tasks,
             actions,
             methods,
-            names: bound,
+            names: _,
         } = self;
-        drop(bound);
-        let ProblemParts {
-            objects: own,
-            init,
-            goal,
-            top,
-        } = parts;
-        drop(own);
+        let (init, goal, top) = parts.behind_objects();
         Hddl {
             names,
             domain,
@@ -140,15 +130,11 @@ fn noted_domain(
     ensures bound { IfOk result
         (spec.IsDomainNoted language object.number d.now faults.old.least faults.new.least) }
 {
-    let types = types_known(alloc, language, object, d, faults)?;
-    let names = names_of(alloc, types, d, faults)?;
-    match parts_of(alloc, &names, d, faults) {
-        Ok((types, schemas)) => Ok(schemas.together(d.name, types, names)),
-        Err(memory) => {
-            drop(names);
-            Err(memory)
-        }
-    }
+    let table = types_known(alloc, language, object, d, faults)?;
+    let names = names_of(alloc, table, d, faults)?;
+    let types = types_of(alloc, &names.known.types, &d.types)?;
+    let schemas = schemas_of(alloc, &names.known, &names.callables, d, faults)?;
+    Ok(schemas.together(d.name, types, names))
 }
 
 /// The types of the section and the unions of the domain.
@@ -178,27 +164,5 @@ fn most_types(language: Language) -> u32
     match language {
         Language::Hddl => 1000,
         Language::Pddl => 1002,
-    }
-}
-
-fn parts_of(
-    alloc: Global,
-    names: &DomainNames,
-    d: &RawDomain,
-    faults: &mut Faults,
-) -> Result<(Types, DomainSchemas), Memory>
-    ensures bound { IfOk result (λ made. (made.0
-        ≡ types_bound names.now.known.types (pairs_in_order names.now.known.types.types d.now.types))
-        × (made.1 ≡ schemas_bound names.now.known names.now.callables d.now)) }
-    ensures faults { OnOk result (AreSchemasNoted names.now.known names.now.callables d.now
-        faults.old.least faults.new.least) }
-{
-    let types = types_of(alloc, &names.known.types, &d.types)?;
-    match schemas_of(alloc, &names.known, &names.callables, d, faults) {
-        Ok(schemas) => Ok((types, schemas)),
-        Err(memory) => {
-            drop(types);
-            Err(memory)
-        }
     }
 }

@@ -71,13 +71,8 @@ fn noted_problem(
         p,
         faults,
     )?;
-    match add_objects(&mut d.objects, parts.objects.as_slice()) {
-        Ok(()) => Ok((words, parts)),
-        Err(memory) => {
-            drop(parts);
-            Err(memory)
-        }
-    }
+    add_objects(&mut d.objects, parts.objects.as_slice())?;
+    Ok((words, parts))
 }
 
 /// Puts the names of a problem to those of its domain: its objects behind the constants, and its unions behind the others.

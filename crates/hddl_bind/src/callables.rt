@@ -60,7 +60,10 @@ impl Callables {
         ensures first { result ≡ spec.stands_for self.now name.number }
     {
         match self.tasks.get(name) {
-            Some(task) => Some(sooner(task, self.actions.get(name))),
+            Some(task) => match self.actions.get(name) {
+                Some(action) if action.at < task.at => Some(action),
+                _ => Some(task),
+            },
             None => self.actions.get(name),
         }
     }
@@ -123,14 +126,4 @@ fn callable_of(head: Head, declared: &RawHead) -> Result<Callable, Memory>
         arity: number(declared.params.len())?,
         at: declared.name.at,
     })
-}
-
-/// The one that stands first in the text.
-fn sooner(task: Callable, action: Option<Callable>) -> Callable
-    ensures { Some result ≡ spec.sooner_called (Some task) action }
-{
-    match action {
-        Some(action) if action.at < task.at => action,
-        _ => task,
-    }
 }

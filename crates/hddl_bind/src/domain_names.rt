@@ -1,14 +1,14 @@
 ghost use Rattle.std.specs.Prelude.{◌≡◌, IfOk, OnOk};
 ghost use Rattle.name_binding.specs.Spots.{noted};
 ghost use Rattle.hddl_bind.specs.Callables.{declared};
-ghost use Rattle.hddl_bind.specs.DeclaredNames.{objects_declared, heads_declared, known_in, second_names};
+ghost use Rattle.hddl_bind.specs.DeclaredNames.{known_in, second_names};
 
 use crate::callables::Callables;
 use crate::declared::{note_seconds, predicates_declared};
 use crate::seconds::seconds_of;
 use hddl_reader::RawDomain;
 use htn_base::Memory;
-use name_binding::{Faults, Heads, Known, Places, TypeTable};
+use name_binding::{Faults, Known, Places, TypeTable};
 use std::alloc::Global;
 
 /// The names that a domain declares, by which its schemas and its problems are bound. The objects are its constants.
@@ -26,14 +26,6 @@ impl Drop for DomainNames {
     }
 }
 
-/// The names that a domain declares but those of its types.
-#[derive(Drop)]
-struct Tables {
-    objects: Places,
-    predicates: Heads,
-    callables: Callables,
-}
-
 /// The names that a domain with these types declares. A name that is declared again is a fault of code 10: among the constants, the
 /// predicates and the methods, and among tasks and actions together.
 pub fn names_of(
@@ -48,54 +40,16 @@ pub fn names_of(
     ensures faults { OnOk result
         (faults.new.least ≡ noted faults.old.least (second_names d.now)) }
 {
-    match tables_of(alloc, d, faults) {
-        Ok(tables) => Ok(with_types(types, tables)),
-        Err(memory) => {
-            drop(types);
-            Err(memory)
-        }
-    }
-}
-
-fn tables_of(alloc: Global, d: &RawDomain, faults: &mut Faults) -> Result<Tables, Memory>
-    ensures objects { IfOk result (λ tables. tables.objects ≡ objects_declared d.now.constants) }
-    ensures predicates { IfOk result
-        (λ tables. tables.predicates ≡ heads_declared d.now.predicates) }
-    ensures callables { IfOk result
-        (λ tables. tables.callables ≡ declared d.now.tasks d.now.actions) }
-    ensures faults { OnOk result
-        (faults.new.least ≡ noted faults.old.least (second_names d.now)) }
-{
     note_seconds(alloc, d.methods.as_slice(), faults)?;
     let mut objects = Places::new(alloc);
     seconds_of(&mut objects, d.constants.as_slice(), faults)?;
     let predicates = predicates_declared(alloc, d.predicates.as_slice(), faults)?;
     let callables = Callables::new(alloc, d.tasks.as_slice(), d.actions.as_slice())?;
     callables.seconds(faults);
-    Ok(Tables {
+    let known = Known {
         objects,
         predicates,
-        callables,
-    })
-}
-
-fn with_types(types: TypeTable, tables: Tables) -> DomainNames
-    ensures objects { result.known.objects ≡ tables.objects }
-    ensures predicates { result.known.predicates ≡ tables.predicates }
-    ensures types { result.known.types ≡ types }
-    ensures callables { result.callables ≡ tables.callables }
-{
-    let Tables {
-        objects,
-        predicates,
-        callables,
-    } = tables;
-    DomainNames {
-        known: Known {
-            objects,
-            predicates,
-            types,
-        },
-        callables,
-    }
+        types,
+    };
+    Ok(DomainNames { known, callables })
 }

@@ -24,31 +24,12 @@ pub(crate) fn ids_of(
 {
     let mut places = List::new(alloc);
     for (k, sub) in subs.iter().enumerate() {
-        put_id(ids, &mut places, k, sub, faults)?;
+        if let Some(id) = sub.id {
+            declare(ids, id.name, id.at, faults)?;
+            places.push(number(k)?)?;
+        }
     }
     Ok(places)
-}
-
-/// The id of subtask `k`, where it has one.
-fn put_id(
-    ids: &mut Places,
-    places: &mut List<u32>,
-    k: usize,
-    sub: &RawSub,
-    faults: &mut Faults,
-) -> Result<(), Memory>
-    ensures ids { OnOk result (ids.new ≡ ids.old ++ map spec.term_number (spec.id_at sub.now.id)) }
-    ensures places { OnOk result (places.new ≡ places.old ++ map (λ _. k) (spec.id_at sub.now.id)) }
-    ensures faults { OnOk result (faults.new.least ≡ noted faults.old.least
-        (seconds spec.term_number spec.term_at ids.old (spec.id_at sub.now.id))) }
-{
-    match sub.id {
-        Some(id) => {
-            declare(ids, id.name, id.at, faults)?;
-            places.push(number(k)?)
-        }
-        None => Ok(()),
-    }
 }
 
 /// The number of the first subtask with this id.

@@ -125,11 +125,7 @@ impl Front {
             task_args,
             pre,
         } = self;
-        let BoundNet {
-            children,
-            pairs,
-            constraints,
-        } = net;
+        let (children, pairs, constraints) = net.into_parts();
         MethodSchema {
             name,
             params,

@@ -8,7 +8,7 @@ use crate::callables::Callables;
 use crate::calls::head_of;
 use crate::cycle::{MOST_SUBTASKS, cycle_of};
 use crate::ids::ids_of;
-use crate::pairs::{Ordering, pairs_of};
+use crate::pairs::pairs_of;
 use hddl_reader::{RawCon, RawNet, RawSub};
 use htn_base::{List, Memory};
 use name_binding::{Faults, Places, Variables, term_of, terms_of};
@@ -16,11 +16,34 @@ use plan_model::{Child, Constraint, Pair};
 use std::alloc::Global;
 
 /// A network with its names bound: subtasks in text order, the pairs by their numbers from 0, the constraints.
-#[derive(Drop)]
 pub struct BoundNet {
     pub children: List<Child>,
     pub pairs: List<Pair>,
     pub constraints: List<Constraint>,
+}
+
+impl Drop for BoundNet {
+    fn drop(self) {
+        let BoundNet {
+            children: _,
+            pairs: _,
+            constraints: _,
+        } = self;
+    }
+}
+
+impl BoundNet {
+    /// Its subtasks, its pairs and its constraints.
+    pub(crate) fn into_parts(self) -> (List<Child>, List<Pair>, List<Constraint>)
+        ensures parts { result ≡ (self.children, self.pairs, self.constraints) }
+    {
+        let BoundNet {
+            children,
+            pairs,
+            constraints,
+        } = self;
+        (children, pairs, constraints)
+    }
 }
 
 /// The network for which a written network stands, and its faults: 10 and 19 of ids, 14 to 17 of the names in subtasks and
@@ -73,9 +96,7 @@ fn order_of(
     drop(places);
     note_cycle(cycle_of(alloc, net, &ordering)?, faults);
     note_limit(net.subs.as_slice(), faults);
-    let Ordering { pairs, offsets } = ordering;
-    drop(offsets);
-    Ok(pairs)
+    Ok(ordering.into_pairs())
 }
 
 fn note_cycle(cycle: Option<u32>, faults: &mut Faults)

@@ -12,10 +12,18 @@ use plan_model::Pair;
 use std::alloc::Global;
 
 /// The pairs of a network: the chain and then the written ones, and of these the offsets of their parentheses.
-#[derive(Drop)]
 pub(crate) struct Ordering {
     pub pairs: List<Pair>,
     pub offsets: List<u32>,
+}
+
+impl Drop for Ordering {
+    fn drop(self) {
+        let Ordering {
+            pairs: _,
+            offsets: _,
+        } = self;
+    }
 }
 
 /// The pairs of a network. The fault of each unknown id is noted, and its pair is left out.
@@ -43,6 +51,14 @@ pub(crate) fn pairs_of(
 }
 
 impl Ordering {
+    /// The pairs alone.
+    pub(crate) fn into_pairs(self) -> List<Pair>
+        ensures pairs { result ≡ self.pairs }
+    {
+        let Ordering { pairs, offsets: _ } = self;
+        pairs
+    }
+
     /// Puts a written pair behind the others, where it is one of two subtasks.
     fn put(&mut self, bound: Option<Pair>, at: u32) -> Result<(), Memory>
         ensures pairs { OnOk result

@@ -13,12 +13,37 @@ use plan_model::{Facts, Formula, MethodSchema, Object};
 use std::alloc::Global;
 
 /// What a problem says beyond its domain. `objects` are its own, without the constants; `top` is the method of its initial network.
-#[derive(Drop)]
 pub struct ProblemParts {
     pub objects: List<Object>,
     pub init: Facts,
     pub goal: Formula,
     pub top: MethodSchema,
+}
+
+impl Drop for ProblemParts {
+    fn drop(self) {
+        let ProblemParts {
+            objects: _,
+            init: _,
+            goal: _,
+            top: _,
+        } = self;
+    }
+}
+
+impl ProblemParts {
+    /// The facts, the goal and the top method, without the objects.
+    pub(crate) fn behind_objects(self) -> (Facts, Formula, MethodSchema)
+        ensures parts { result ≡ (self.init, self.goal, self.top) }
+    {
+        let ProblemParts {
+            objects: _,
+            init,
+            goal,
+            top,
+        } = self;
+        (init, goal, top)
+    }
 }
 
 /// What a problem says beyond its domain, where `known` has the objects of both. `name` is the name of the top method and `task` the

@@ -61,23 +61,11 @@ fn put_unions_of_actions(
         (into.new.items ≡ into.old.items ++ spec.actions_unions types.now actions.now) }
 {
     for action in actions {
-        put_unions_of_action(alloc, types, action, into)?;
+        put_unions(alloc, types, &action.head.params, into)?;
+        put_unions_of_formula(alloc, types, &action.pre, into)?;
+        put_unions_of_effect(alloc, types, &action.eff, into)?;
     }
     Ok(())
-}
-
-fn put_unions_of_action(
-    alloc: Global,
-    types: &TypeTable,
-    action: &RawAction,
-    into: &mut Vec<Either>,
-) -> Result<(), Memory>
-    ensures put { OnOk result
-        (into.new.items ≡ into.old.items ++ spec.action_unions types.now action.now) }
-{
-    put_unions(alloc, types, &action.head.params, into)?;
-    put_unions_of_formula(alloc, types, &action.pre, into)?;
-    put_unions_of_effect(alloc, types, &action.eff, into)
 }
 
 fn put_unions_of_methods(

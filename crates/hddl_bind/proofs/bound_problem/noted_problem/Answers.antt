@@ -4,8 +4,8 @@ use Rattle.hddl_bind.specs.WholeProblems.{IsStart}
 use Rattle.hddl_bind.proofs.WholeTexts.{problem_noted}
 use Rattle.hddl_bind.proofs.bound_problem.noted_problem.Goals as goal
 
-pub returns-in-Ok-clause-noted : goal.returns-in-Ok-clause-noted
-returns-in-Ok-clause-noted c =
+pub returns-clause-noted : goal.returns-clause-noted
+returns-clause-noted c =
     let d = c.args.d.now in
     let p = c.args.p.now in
     let start = c.in_ok-start.start in
@@ -13,7 +13,7 @@ returns-in-Ok-clause-noted c =
     let parts = c.in_ok-parts.parts in
     let unions = c.in_ok-d.ensures.unions in
     let called = c.add_names.ensures.callables in
-    let objects = c.in-Ok.ensures.added ∙ ap (λ own. d.objects ++ own) c.as_slice.ensures.items in
+    let objects = c.in_ok-add_objects.ensures.added ∙ ap (λ own. d.objects ++ own) c.as_slice.ensures.items in
     let made = c.in_ok-parts.ensures.bound ∙ ap (λ task. parts_bound names.known names.callables start task p) (c.in_ok-task.ensures.same ∙ c.len.ensures.length) in (
       start.number,
       subst (λ names. IsStart names start.number) (sym c.in_ok-words.ensures.words) c.in_ok-start.ensures.number,

@@ -1,14 +1,23 @@
-use Rattle.std.proofs.Common.{[], ◌++◌, ap, ◌∙◌}
+use Rattle.std.proofs.Common.{ℕ, List, [], ◌++◌, ap, ◌∙◌}
+use Rattle.name_binding.specs.Kinds.{Kinds}
+use Rattle.name_binding.specs.declared.heads.Head.{Head}
+use Rattle.name_binding.specs.declared.known.Known.{Known}
 use Rattle.name_binding.specs.Spots.{noted}
 use Rattle.hddl_bind.specs.Callables.{declared, second_callables}
 use Rattle.hddl_bind.proofs.Steps.{noted_four}
-use Rattle.hddl_bind.specs.DeclaredNames.{objects_declared, second_methods, second_objects, second_heads}
-use Rattle.hddl_bind.proofs.domain_names.tables_of.Goals as goal
+use Rattle.hddl_bind.specs.DeclaredNames.{objects_declared, heads_declared, second_methods, second_objects, second_heads}
+use Rattle.hddl_bind.proofs.domain_names.names_of.Goals as goal
 
-pub returns-clause-objects : goal.returns-clause-objects
-returns-clause-objects c =
-    c.in_ok-seconds_of.ensures.declared ∙ ap (λ before. before ++ objects_declared c.as_slice-2.result.now) c.new-objects.ensures.none
-    ∙ ap objects_declared c.as_slice-2.ensures.words
+abbrev known_of : List ℕ → List Head → Kinds → Known
+known_of objects predicates types = record { objects = objects; predicates = predicates; types = types }
+
+pub returns-clause-known : goal.returns-clause-known
+returns-clause-known c =
+    let d = c.args.d.now in
+    let objects = c.in_ok-seconds_of.ensures.declared ∙ ap (λ before. before ++ objects_declared c.as_slice-2.result.now) c.new-objects.ensures.none
+    ∙ ap objects_declared c.as_slice-2.ensures.words in
+    let predicates = c.in_ok-predicates.ensures.declared ∙ ap heads_declared c.as_slice-3.ensures.items in
+    ap (λ ns. known_of ns c.in_ok-predicates.predicates c.args.types) objects ∙ ap (λ hs. known_of (objects_declared d.constants) hs c.args.types) predicates
 
 pub returns-clause-faults : goal.returns-clause-faults
 returns-clause-faults c =
