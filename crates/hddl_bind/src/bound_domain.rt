@@ -1,5 +1,5 @@
-ghost use Rattle.std.specs.Prelude.{◌≡◌, codes, Some, IfOk, IfErr, OnOk};
-ghost use Rattle.htn_base.specs.Table.{number_of, with_word};
+ghost use Rattle.std.specs.Prelude.{◌≡◌, codes, IfOk, IfErr, OnOk};
+ghost use Rattle.htn_base.specs.Table.{with_word};
 ghost use Rattle.gd_reader.specs.Terms.{Keeps};
 ghost use Rattle.name_binding.specs.Cycle.{IsSection};
 ghost use Rattle.hddl_reader.specs.names.Types.{most_types};

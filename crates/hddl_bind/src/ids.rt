@@ -1,4 +1,4 @@
-ghost use Rattle.std.specs.Prelude.{◌≡◌, [], ◌++◌, map, IfOk, OnOk};
+ghost use Rattle.std.specs.Prelude.{◌≡◌, [], IfOk, OnOk};
 ghost use Rattle.name_binding.specs.Spots.{noted};
 ghost use Rattle.hddl_bind.specs.Ids as spec;
 ghost use Rattle.hddl_bind.specs.Seconds.{seconds};
