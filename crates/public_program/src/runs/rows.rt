@@ -253,6 +253,19 @@ pub(super) const BOUNDED: &[Bounded] = &[
         problem: "(define (problem p) (:domain d) (:htn :subtasks (and (t) (u))))",
         bound: "3\n",
     },
+    // a check and 4,096 subtasks, as many as there may be, are pending at once
+    Bounded {
+        domain: Source::Times(&[
+            (
+                "(define (domain d) (:predicates (ready)) (:task t :parameters ()) (:method m :parameters () :task (t) :precondition (ready) :subtasks (and",
+                1,
+            ),
+            (" (a)", 4096),
+            (")) (:action a :parameters ()))", 1),
+        ]),
+        problem: PROBLEM,
+        bound: "4097\n",
+    },
     Bounded {
         domain: Source::Types(1999),
         problem: PROBLEM,
