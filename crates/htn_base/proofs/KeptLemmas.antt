@@ -1,6 +1,6 @@
 -- The numbers of words, found by their hashes: a word that is found so has its number, one that is not found has none, and
 -- the next word's number is kept beside those of the words before it.
-use Rattle.std.proofs.Common.{◌≡◌, ℕ, zero, suc, ◌⊎◌, inl, inr, List, [], ◌∷◌, ◌++◌, length, Bool, true, false, cond, Option, Some, None, Result, Ok, Err, position, nat_eq, slice_get, get_or, refl, sym, ap, subst, Contains, ◌∙◌, arith, true≢false}
+use Rattle.std.proofs.Common.{◌≡◌, ℕ, zero, suc, ◌⊎◌, inl, inr, List, [], ◌∷◌, ◌++◌, length, Bool, true, false, cond, Option, Some, None, Result, Ok, Err, nat_eq, slice_get, get_or, refl, sym, ap, subst, Contains, ◌∙◌, arith, true≢false}
 use Rattle.std.specs.Prelude.{OnOk, OnErr}
 use Rattle.std.specs.HashMap.{HashMap, get}
 use Rattle.std.specs.List as lists

@@ -1,6 +1,5 @@
 -- Words and their numbers: what has a number, one more word, and the first words.
-use Rattle.std.proofs.Common.{◌≡◌, ℕ, ◌-◌, ◌<◌, ◌^◌, List, [], ◌∷◌, ◌++◌, length, Bool, true, false, cond, Result, Ok, Err, Some, None, refl, sym, ap, subst, Contains, ◌∙◌, arith, take, get_or, slice_get}
-use Rattle.std.specs.Prelude.{IfOk, OnOk}
+use Rattle.std.proofs.Common.{◌≡◌, ℕ, ◌-◌, ◌<◌, ◌^◌, List, [], ◌∷◌, ◌++◌, length, Bool, true, false, cond, Some, None, refl, sym, ap, subst, Contains, ◌∙◌, arith, take, get_or, slice_get}
 use Rattle.std.specs.List.{list_any, position_or_len}
 use Rattle.std.specs.Str.{bytes_eq}
 use Rattle.std.proofs.lemmas.Bool.{lt-ltb}
@@ -14,8 +13,6 @@ use Rattle.std.proofs.lemmas.Map.Views.{Contains-from_any}
 use Rattle.std.proofs.lemmas.Option.{slice_get_within, slice_get-get_or, get_or_from_slice_get}
 use Rattle.std.proofs.lemmas.Slice.Eq.{bytes_eq-Decides}
 use Rattle.std.proofs.lemmas.Str.Ascii.{lowercase-lowercase}
-use Rattle.htn_base.specs.declared.memory.Memory.{Memory}
-use Rattle.htn_base.specs.declared.name.Name.{Name}
 use Rattle.htn_base.specs.Words.{folded, IsFolded}
 use Rattle.htn_base.specs.Different.{AreDifferent}
 use Rattle.htn_base.specs.Table.{number_of, with_word, IsNewWord, IsTable}
@@ -87,7 +84,7 @@ module _ (words : List (List ℕ)) (word : List ℕ) (differ : AreDifferent word
       cc (sym number ∙ new)
 
   -- so it comes behind them
-  with-new : with_word words word ≡ words ++ word ∷ []
+  pub with-new : with_word words word ≡ words ++ word ∷ []
   with-new = by (list_any (bytes_eq word) words) refl
     where
       by : (there : Bool) → list_any (bytes_eq word) words ≡ there → cond there words (words ++ word ∷ []) ≡ words ++ word ∷ []
@@ -95,18 +92,8 @@ module _ (words : List (List ℕ)) (word : List ℕ) (differ : AreDifferent word
       by false e = refl
 
   -- and its number is how many they are
-  number-last : number_of (words ++ word ∷ []) word ≡ Some (length words)
+  pub number-last : number_of (words ++ word ∷ []) word ≡ Some (length words)
   number-last = number_there (words ++ word ∷ []) word (length words) (different-push words word differ absent) (read_last words word)
-
-  -- so once it was put behind them, the words are with it, and it has its number
-  pub words-named : (answer : Result Name Memory) (now : List (List ℕ)) → OnOk answer (now ≡ words ++ word ∷ []) → OnOk answer (now ≡ with_word words word)
-  words-named (Ok name) now put = put ∙ sym with-new
-  words-named (Err memory) now put = tt
-
-  pub number-named : (answer : Result Name Memory) (now : List (List ℕ)) → OnOk answer (now ≡ words ++ word ∷ []) → IfOk answer (λ n. n.number ≡ length words)
-      → IfOk answer (λ n. number_of now word ≡ Some n.number)
-  number-named (Ok name) now put number = ap (λ ws. number_of ws word) put ∙ number-last ∙ ap (λ n. Some n) (sym number)
-  number-named (Err memory) now put number = tt
 
 -- a table with one more word is a table
 pub IsTable-push : (words : List (List ℕ)) (word : List ℕ) → IsTable words → length words < 2 ^ 32 - 1 → IsNewWord words word → IsTable (words ++ word ∷ [])

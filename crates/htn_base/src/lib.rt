@@ -29,6 +29,5 @@ pub use rows::{PackedRow, PackedRows};
 pub use text::Text;
 pub use word_list::WordList;
 pub use words::{
-    esc, is_name, is_plain, is_reserved, is_reserved_in_any_case, names_stay_apart, slot_name,
-    slot_number,
+    esc, is_name, is_plain, is_reserved_in_any_case, names_stay_apart, slot_name, slot_number,
 };

@@ -74,8 +74,7 @@ impl<T: Drop> List<T> {
         ensures pushed { OnOk result (self.new ≡ self.old ++ item ∷ []) }
         ensures unchanged { OnErr result (self.new ≡ self.old) }
     {
-        self.items.push(item)?;
-        Ok(())
+        push_item(&mut self.items, item)
     }
 
     /// Puts what was made at the end, or passes its want of memory on. After `Memory` the list is as it was.
@@ -109,4 +108,13 @@ impl<T: PartialEq> PartialEq for List<T> {
 
 impl<T: Eq> Eq for List<T> {
     ghost laws = { lists_equiv T.Eq.laws };
+}
+
+// Puts an item at the end. After `Memory` the vector is as it was, and the item is dropped.
+pub(crate) fn push_item<T: Drop>(items: &mut Vec<T>, item: T) -> Result<(), Memory>
+    ensures pushed { OnOk result (items.new.items ≡ items.old.items ++ item ∷ []) }
+    ensures unchanged { OnErr result (items.new.items ≡ items.old.items) }
+{
+    items.push(item)?;
+    Ok(())
 }

@@ -1,4 +1,4 @@
-ghost use Rattle.std.specs.Prelude.{◌≡◌, [], ◌∷◌, ◌++◌, ℕ, List, true, false, length, slice_get, take, nat_eq, IsSome, IfOk, IfSome, IfNone, OnOk, OnErr, Some, None};
+ghost use Rattle.std.specs.Prelude.{◌≡◌, [], ℕ, List, true, false, length, slice_get, take, nat_eq, IsSome, IfOk, IfSome, OnOk, OnErr, Some, None};
 ghost use Rattle.std.specs.HashMap.{get};
 ghost use Rattle.std.specs.List as lists;
 ghost use Rattle.std.specs.Option.{option_copied, option_map};
@@ -54,7 +54,7 @@ impl Model for NameTable {
 
 impl NameTable {
     ghost use Rattle.htn_base.specs.Words.{folded, IsFolded};
-    ghost use Rattle.htn_base.specs.Table.{number_of, with_word, IsKnown, IsNewWord, IsTable};
+    ghost use Rattle.htn_base.specs.Table.{number_of, with_word, IsKnown, IsTable};
 
     /// A table of no words. It takes no memory yet.
     pub fn new(alloc: Global) -> NameTable
@@ -124,20 +124,9 @@ impl NameTable {
         ensures unchanged { OnErr result (self.new ≡ self.old) }
         ensures sound { IsTable self.new }
     {
-        match self.find(word) {
-            Some(name) => Ok(name),
-            None => self.add(word),
+        if let Some(name) = self.find(word) {
+            return Ok(name);
         }
-    }
-
-    // Puts a new word behind the others.
-    fn add(&mut self, word: &[u8]) -> Result<Name, Memory>
-        requires { IsNewWord self.old word.now }
-        ensures words { OnOk result (self.new ≡ self.old ++ word.now ∷ []) }
-        ensures number { IfOk result (λ n. n.number ≡ length self.old) }
-        ensures unchanged { OnErr result (self.new ≡ self.old) }
-        ensures sound { IsTable self.new }
-    {
         let number = self.words.len() as u32;
         keep(
             &mut self.first,
@@ -291,5 +280,5 @@ fn keep(
 fn is_folded(word: &[u8]) -> bool
     ensures { result ≡ true → IsFolded word.now }
 {
-    word.iter().all(|byte| byte.to_ascii_lowercase() == *byte)
+    !word.iter().any(u8::is_ascii_uppercase)
 }

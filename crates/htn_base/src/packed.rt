@@ -1,6 +1,7 @@
 ghost use Rattle.std.specs.Prelude.{◌≡◌, [], ◌∷◌, ◌++◌, cond, length, slice_get, IfOk, OnOk};
 ghost use Rattle.htn_base.specs.Packed.{numbers_of};
 
+use crate::list::push_item;
 use crate::memory::Memory;
 use std::alloc::Global;
 use std::marker::Model;
@@ -86,11 +87,15 @@ impl PackedNumbers {
     pub fn get(&self, i: usize) -> Option<u32>
         ensures number { result ≡ slice_get self.now i }
     {
-        match &self.numbers {
-            Numbers::Bytes(bytes) => Some(u32::from(*bytes.get(i)?)),
-            Numbers::Halves(halves) => Some(u32::from(*halves.get(i)?)),
-            Numbers::Words(words) => Some(*words.get(i)?),
+        if i >= self.len() {
+            return None;
         }
+        let number = match &self.numbers {
+            Numbers::Bytes(bytes) => u32::from(bytes[i]),
+            Numbers::Halves(halves) => u32::from(halves[i]),
+            Numbers::Words(words) => words[i],
+        };
+        Some(number)
     }
 
     /// Puts a number at the end. The others are copied only where it takes more bytes than each of them.
@@ -101,35 +106,22 @@ impl PackedNumbers {
         match &mut self.numbers {
             Numbers::Bytes(bytes) => {
                 if let Ok(byte) = u8::try_from(n) {
-                    bytes.push(byte)?;
-                    return Ok(());
+                    return push_item(bytes, byte);
                 }
             }
             Numbers::Halves(halves) => {
                 if let Ok(half) = u16::try_from(n) {
-                    halves.push(half)?;
-                    return Ok(());
+                    return push_item(halves, half);
                 }
             }
-            Numbers::Words(words) => {
-                words.push(n)?;
-                return Ok(());
-            }
+            Numbers::Words(words) => return push_item(words, n),
         }
-        self.push_wide(n)
-    }
-
-    // Puts a number at the end, with more bytes for each.
-    #[inline(never)]
-    fn push_wide(&mut self, n: u32) -> Result<(), Memory>
-        ensures pushed { OnOk result (self.new ≡ self.old ++ n ∷ []) }
-    {
-        let wide = self.widened(n)?;
-        self.numbers = wide;
+        self.numbers = self.widened(n)?;
         Ok(())
     }
 
     // These numbers and one more, in two bytes each if that is more than now and enough, and else in four.
+    #[inline(never)]
     fn widened(&self, n: u32) -> Result<Numbers, Memory>
         ensures pushed { IfOk result (λ wide. numbers_of wide ≡ self.now ++ n ∷ []) }
     {
@@ -139,11 +131,16 @@ impl PackedNumbers {
         Ok(Numbers::Words(self.words_with(n)?))
     }
 
-    // These numbers and one more in four bytes each.
+    // These numbers and one more in four bytes each, with room for as many as there was room for.
     fn words_with(&self, n: u32) -> Result<Vec<u32>, Memory>
         ensures pushed { IfOk result (λ words. words.items ≡ self.now ++ n ∷ []) }
     {
-        let mut words = Vec::with_capacity(self.alloc, self.room())?;
+        let room = match &self.numbers {
+            Numbers::Bytes(bytes) => bytes.capacity(),
+            Numbers::Halves(halves) => halves.capacity(),
+            Numbers::Words(words) => words.capacity(),
+        };
+        let mut words = Vec::with_capacity(self.alloc, room)?;
         for i in 0..self.len() {
             if let Some(number) = self.get(i) {
                 words.push(number)?;
@@ -151,15 +148,6 @@ impl PackedNumbers {
         }
         words.push(n)?;
         Ok(words)
-    }
-
-    // For how many numbers there is room.
-    fn room(&self) -> usize {
-        match &self.numbers {
-            Numbers::Bytes(bytes) => bytes.capacity(),
-            Numbers::Halves(halves) => halves.capacity(),
-            Numbers::Words(words) => words.capacity(),
-        }
     }
 
     /// Puts all these numbers at the end.

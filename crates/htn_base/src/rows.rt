@@ -181,20 +181,13 @@ impl PackedRows {
         match &mut self.rows {
             Some(rows) => rows.push(head, rest),
             None => {
-                self.rows = Some(first_row(self.alloc, head, rest)?);
+                let mut rows = Rows::new(self.alloc);
+                rows.push(head, rest)?;
+                self.rows = Some(Box::new(self.alloc, rows)?);
                 Ok(())
             }
         }
     }
-}
-
-// One row.
-fn first_row(alloc: Global, head: u32, rest: &[u32]) -> Result<Box<Rows>, Memory>
-    ensures { IfOk result (λ rows. rows.value ≡ row_of head rest.now ∷ []) }
-{
-    let mut rows = Rows::new(alloc);
-    rows.push(head, rest)?;
-    Ok(Box::new(alloc, rows)?)
 }
 
 // Puts a row at the end of the lists of rows: the head, the numbers behind those of all, and where they end.

@@ -3,6 +3,7 @@ ghost use Rattle.std.specs.Option.{option_copied};
 ghost use Rattle.std.specs.Cmp.{partial_equiv_from_equiv};
 ghost use Rattle.std.specs.Cmp.Lexicographic.{pointwise, nat_list_eq_equiv};
 
+use crate::list::push_item;
 use crate::memory::Memory;
 use std::alloc::Global;
 use std::marker::Model;
@@ -70,8 +71,7 @@ impl Text {
         ensures pushed { OnOk result (self.new ≡ self.old ++ byte ∷ []) }
         ensures unchanged { OnErr result (self.new ≡ self.old) }
     {
-        self.bytes.push(byte)?;
-        Ok(())
+        push_item(&mut self.bytes, byte)
     }
 
     /// Puts all these bytes at the end. After `Memory` none was taken: the text is as it was.

@@ -89,12 +89,12 @@ impl WordList {
         if self.ends.len() >= MOST_WORDS {
             return Err(Memory);
         }
-        let start = self.bytes.len();
-        self.bytes.extend_from_slice(word)?;
-        match put_end(&mut self.ends, self.bytes.len()) {
+        let end = number(self.bytes.len() + word.len())?;
+        self.ends.push(end)?;
+        match self.bytes.extend_from_slice(word) {
             Ok(()) => Ok(()),
-            Err(Memory) => {
-                self.bytes.truncate(start);
+            Err(_) => {
+                self.ends.pop();
                 Err(Memory)
             }
         }
@@ -121,12 +121,4 @@ fn boundary(ends: &Vec<u32>, k: usize) -> Option<u32>
         return Some(0);
     }
     Some(*ends.get(k - 1)?)
-}
-
-fn put_end(ends: &mut Vec<u32>, end: usize) -> Result<(), Memory>
-    ensures put { OnOk result (ends.new.items ≡ ends.old.items ++ end ∷ []) }
-    ensures unchanged { OnErr result (ends.new.items ≡ ends.old.items) }
-{
-    ends.push(number(end)?)?;
-    Ok(())
 }

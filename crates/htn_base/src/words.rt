@@ -1,6 +1,6 @@
-ghost use Rattle.std.specs.Prelude.{◌≡◌, ◌↔◌, ◌<◌, ◌^◌, ℕ, Some, [], ◌∷◌, codes, decimal, nat_eq, IfOk};
+ghost use Rattle.std.specs.Prelude.{◌≡◌, ◌↔◌, ◌<◌, ◌^◌, ℕ, Some, decimal, IfOk};
 ghost use Rattle.std.specs.Str.{bytes_eq};
-ghost use Rattle.std.specs.List.{list_all, list_any, starts_with};
+ghost use Rattle.std.specs.List.{list_all, list_any};
 ghost use Rattle.htn_base.specs.Escapes as spec;
 ghost use Rattle.htn_base.specs.Words as words;
 ghost use Rattle.htn_base.specs.Words.{folded};
@@ -15,7 +15,10 @@ use std::alloc::Global;
 pub fn is_plain(word: &[u8]) -> bool
     ensures plain { result ≡ spec.is_plain_word word.now }
 {
-    begins_with_letter(word) && has_plain_bytes(word) && !is_generated(word)
+    match word {
+        [b'a'..=b'z', ..] => has_plain_bytes(word) && !word.starts_with(b"htn_"),
+        _ => false,
+    }
 }
 
 /// The words that have a meaning of their own in a domain or a problem.
@@ -35,21 +38,8 @@ const RESERVED: [&[u8]; 13] = [
     b"either",
 ];
 
-/// Whether the word has a meaning of its own in a domain or a problem, so that nothing may be named by it. Folded words
-/// are asked for: an upper-case letter makes a word that isn't reserved.
-pub fn is_reserved(word: &[u8]) -> bool
-    ensures reserved { result ≡ words.is_reserved word.now }
-{
-    is_among(word, &RESERVED)
-}
-
-fn is_among(word: &[u8], listed: &[&[u8]]) -> bool
-    ensures { result ≡ list_any (λ one. bytes_eq word.now one.now) listed.now }
-{
-    listed.iter().any(|one| word == *one)
-}
-
-/// Whether the word has such a meaning in any case of its letters.
+/// Whether the word, in any case of its letters, has a meaning of its own in a domain or a problem, so that nothing may
+/// be named by it.
 pub fn is_reserved_in_any_case(word: &[u8]) -> bool
     ensures reserved { result ≡ words.is_reserved (words.folded word.now) }
 {
@@ -83,7 +73,7 @@ pub fn esc(alloc: Global, word: &[u8]) -> Result<Text, Memory>
     }
     let mut text = Text::from_slice(alloc, b"htn_u_")?;
     for byte in word {
-        text.push_all(&hex(*byte))?;
+        text.push_all(&[hex_digit(*byte / 16), hex_digit(*byte % 16)])?;
     }
     Ok(text)
 }
@@ -128,37 +118,16 @@ fn is_decimal(k: u32, digits: &[u8]) -> bool
     Buffer::new().format(k).as_bytes() == digits
 }
 
-fn begins_with_letter(word: &[u8]) -> bool
-    ensures { result ≡ spec.begins_with_letter word.now }
-{
-    match word.first() {
-        None => false,
-        Some(first) => first.is_ascii_lowercase(),
-    }
-}
-
 fn has_plain_bytes(word: &[u8]) -> bool
     ensures { result ≡ list_all spec.is_plain_byte word.now }
 {
-    word.iter().all(|byte| is_plain_byte(*byte))
+    word.iter().all(is_plain_byte)
 }
 
-fn is_plain_byte(byte: u8) -> bool
-    ensures { result ≡ spec.is_plain_byte byte }
+fn is_plain_byte(byte: &u8) -> bool
+    ensures { result ≡ spec.is_plain_byte byte.now }
 {
-    byte.is_ascii_lowercase() || byte.is_ascii_digit() || byte == b'-' || byte == b'_'
-}
-
-fn is_generated(word: &[u8]) -> bool
-    ensures { result ≡ starts_with nat_eq word.now (codes "htn_") }
-{
-    word.starts_with(b"htn_")
-}
-
-fn hex(byte: u8) -> [u8; 2]
-    ensures { result ≡ spec.hex byte }
-{
-    [hex_digit(byte / 16), hex_digit(byte % 16)]
+    matches!(byte, b'a'..=b'z' | b'0'..=b'9' | b'-' | b'_')
 }
 
 fn hex_digit(digit: u8) -> u8

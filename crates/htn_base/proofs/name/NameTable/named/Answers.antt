@@ -1,7 +1,9 @@
-use Rattle.std.proofs.Common.{sym, ap, ◌∙◌}
-use Rattle.htn_base.specs.Table.{with_word}
-use Rattle.htn_base.proofs.TableLemmas.{known-same, words-named, number-named}
+use Rattle.std.proofs.Common.{◌≡◌, [], ◌∷◌, ◌++◌, length, Some, None, sym, ap, subst, ◌∙◌}
+use Rattle.htn_base.specs.Table.{number_of, with_word, hash_of, IsKept}
+use Rattle.htn_base.proofs.KeptLemmas.{next_kept}
+use Rattle.htn_base.proofs.TableLemmas.{known-same, with-new, number-last}
 use Rattle.htn_base.proofs.name.NameTable.named.Goals as goal
+use Rattle.htn_base.proofs.name.NameTable.named.Goals.{In_ok-push}
 
 pub returns-in-Some-clause-words : goal.returns-in-Some-clause-words
 returns-in-Some-clause-words c =
@@ -9,10 +11,26 @@ returns-in-Some-clause-words c =
     let word = c.args.word.now in
     sym (ap (with_word words) (sym c.requires) ∙ known-same words word c.find.ensures.sound _ (sym c.in-Some.ensures.number))
 
-pub returns-in-None-clause-words : goal.returns-in-None-clause-words
-returns-in-None-clause-words c =
-    words-named c.args.self.now c.args.word.now c.find.ensures.sound.differ (sym c.in-None.ensures.number) c.add.result c.add.new.self c.add.ensures.words
+pub invariant_of-self-2 : goal.invariant_of-self-2
+invariant_of-self-2 c =
+    let table = c.self.inside in
+    let word = c.args.word.now in
+    let kept = subst (λ n. IsKept c.keep.new.first c.keep.new.others.items (hash_of word) n) c.len-number.ensures.length
+    (subst (λ h. IsKept c.keep.new.first c.keep.new.others.items h c.len-number.result) c.hash_of.ensures (c.in_ok-keep.ensures.kept)) in
+    next_kept table.first c.keep.new.first table.others.items c.keep.new.others.items table.words c.push.new.self word c.push.result
+    c.self.invariant c.keep.ensures.before kept c.push.ensures.pushed c.push.ensures.unchanged c.push.ensures.sound
 
-pub returns-in-None-clause-number : goal.returns-in-None-clause-number
-returns-in-None-clause-number c =
-    number-named c.args.self.now c.args.word.now c.find.ensures.sound.differ (sym c.in-None.ensures.number) c.add.result c.add.new.self c.add.ensures.words c.add.ensures.number
+module _ (c : In_ok-push) where
+  new : number_of c.args.self.now c.args.word.now ≡ None
+  new = sym c.in_default.ensures.number
+
+  put : c.push.new.self ≡ c.args.self.now ++ c.args.word.now ∷ []
+  put = c.in_ok-push.ensures.pushed ∙ ap (λ words. words ++ c.args.word.now ∷ []) c.self.view_is
+
+pub returns-clause-words : goal.returns-clause-words
+returns-clause-words c = put c ∙ sym (with-new c.args.self.now c.args.word.now c.find.ensures.sound.differ (new c))
+
+pub returns-clause-number : goal.returns-clause-number
+returns-clause-number c =
+    let last = number-last c.args.self.now c.args.word.now c.find.ensures.sound.differ (new c) in
+    ap (λ words. number_of words c.args.word.now) (put c) ∙ last ∙ sym (ap (λ n. Some n) (c.len-number.ensures.length ∙ ap (λ words. length words) c.self.view_is))

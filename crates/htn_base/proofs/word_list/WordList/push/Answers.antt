@@ -8,13 +8,14 @@ use Rattle.htn_base.proofs.word_list.WordList.push.Goals as goal
 
 module _ (c : goal.In-Ok) where
   bytes : c.extend_from_slice.new.self.items ≡ c.self.inside.bytes.items ++ c.args.word.now
-  bytes = c.in_ok-extend_from_slice.ensures.items
+  bytes = c.in-Ok.ensures.items
 
   -- what is put behind the ends: how many bytes there are
-  ends : c.put_end.new.ends.items ≡ c.self.inside.ends.items ++ length (c.self.inside.bytes.items ++ c.args.word.now) ∷ []
+  ends : c.push.new.self.items ≡ c.self.inside.ends.items ++ length (c.self.inside.bytes.items ++ c.args.word.now) ∷ []
   ends =
-      let len : c.len-2.result ≡ length c.extend_from_slice.new.self.items = omega (arith, c.len-2.ensures) in
-      c.in-Ok.ensures.put ∙ ap (λ end. c.self.inside.ends.items ++ end ∷ []) (len ∙ ap (λ xs. length xs) bytes)
+      let long = length-append c.self.inside.bytes.items c.args.word.now in
+      let end : c.in_ok-end.end ≡ length (c.self.inside.bytes.items ++ c.args.word.now) = omega (arith, c.in_ok-end.ensures.same, c.len-2.ensures, long) in
+      c.in_ok-push.ensures.items ∙ ap (λ end. c.self.inside.ends.items ++ end ∷ []) end
 
   parts : parts_from 0 (c.self.inside.ends.items ++ length (c.self.inside.bytes.items ++ c.args.word.now) ∷ []) (c.self.inside.bytes.items ++ c.args.word.now)
       ≡ c.args.self.now ++ c.args.word.now ∷ []
