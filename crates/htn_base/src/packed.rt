@@ -120,7 +120,8 @@ impl PackedNumbers {
         Ok(())
     }
 
-    // These numbers and one more, in two bytes each if that is more than now and enough, and else in four.
+    // These numbers and one more, in two bytes each if that is more than now and enough, and else in four, with room for
+    // as many as there was room for.
     #[inline(never)]
     fn widened(&self, n: u32) -> Result<Numbers, Memory>
         ensures pushed { IfOk result (λ wide. numbers_of wide ≡ self.now ++ n ∷ []) }
@@ -128,13 +129,6 @@ impl PackedNumbers {
         if let (Numbers::Bytes(bytes), Ok(half)) = (&self.numbers, u16::try_from(n)) {
             return Ok(Numbers::Halves(halves_with(self.alloc, bytes, half)?));
         }
-        Ok(Numbers::Words(self.words_with(n)?))
-    }
-
-    // These numbers and one more in four bytes each, with room for as many as there was room for.
-    fn words_with(&self, n: u32) -> Result<Vec<u32>, Memory>
-        ensures pushed { IfOk result (λ words. words.items ≡ self.now ++ n ∷ []) }
-    {
         let room = match &self.numbers {
             Numbers::Bytes(bytes) => bytes.capacity(),
             Numbers::Halves(halves) => halves.capacity(),
@@ -147,7 +141,7 @@ impl PackedNumbers {
             }
         }
         words.push(n)?;
-        Ok(words)
+        Ok(Numbers::Words(words))
     }
 
     /// Puts all these numbers at the end.

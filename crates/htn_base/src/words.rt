@@ -94,7 +94,7 @@ pub fn slot_number(word: &[u8]) -> Option<u32>
 {
     let digits = word.strip_prefix(b"htn_s")?;
     let k = parsed(digits)?;
-    if k > 0 && is_decimal(k, digits) {
+    if k > 0 && Buffer::new().format(k).as_bytes() == digits {
         Some(k)
     } else {
         None
@@ -109,13 +109,6 @@ fn parsed(digits: &[u8]) -> Option<u32>
         Ok(text) => text.parse().ok(),
         Err(_) => None,
     }
-}
-
-/// Whether these are the digits that the number is printed with.
-fn is_decimal(k: u32, digits: &[u8]) -> bool
-    ensures { result ≡ bytes_eq (decimal k) digits.now }
-{
-    Buffer::new().format(k).as_bytes() == digits
 }
 
 fn has_plain_bytes(word: &[u8]) -> bool

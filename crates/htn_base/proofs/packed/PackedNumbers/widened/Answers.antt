@@ -1,7 +1,7 @@
 use Rattle.std.proofs.Common.{◌<◌, refl, subst}
 use Rattle.htn_base.proofs.ReadAt.{next_read, none_read}
-use Rattle.htn_base.proofs.packed.PackedNumbers.words_with.Goals as goal
-use Rattle.htn_base.proofs.packed.PackedNumbers.words_with.Goals.{in-Some+in_ok-push, in_default}
+use Rattle.htn_base.proofs.packed.PackedNumbers.widened.Goals as goal
+use Rattle.htn_base.proofs.packed.PackedNumbers.widened.Goals.{in-Some+in_ok-push, in_default-get}
 
 pub loop-i-preserved : goal.loop-i-preserved
 loop-i-preserved c =
@@ -12,5 +12,5 @@ loop-i-preserved c =
       | in-Some+in_ok-push w ↦
           let next = next_read xs i c.get.result c.get.ensures.number w.in-Some.number w.in-Some.is in
           rw (w.words-is, w.in_ok-push.ensures.items, c.loop-i.invariant, next) refl
-      | in_default w ↦ absurd (none_read xs i c.get.result c.get.ensures.number within w.in_default.is)
+      | in_default-get w ↦ absurd (none_read xs i c.get.result c.get.ensures.number within w.in_default-get.is)
     ]
