@@ -7,7 +7,11 @@ use Rattle.std.proofs.lemmas.List.Sums.{sum_by-set}
 use Rattle.std.proofs.lemmas.List.Elements.{Contains-get_or, Contains-push, Contains-push_cases, Contains-append_left}
 use Rattle.plan_model.specs.declared.types.Parent.{Parent}
 use Rattle.plan_model.specs.Typing.{Leads, stay, climb}
-use Rattle.plan_model.specs.Parts.{IsMarked, unmarked, AreBelow, IsMarkedFurther, IsClosedUnder}
+use Rattle.plan_model.specs.Parts.{IsMarked, unmarked, IsMarkedFurther, IsClosedUnder}
+
+-- now each type is marked from which a chain leads to one that was marked
+abbrev pub AreBelow : List Parent → List Bool → List Bool → Type 0
+AreBelow parents old new = (i : ℕ) → IsMarked new i ↔ ((j : ℕ) × IsMarked old j × Leads parents i j)
 
 pub leads_on : {parents : List Parent} {i j k : ℕ} → Leads parents i j → Leads parents j k → Leads parents i k
 leads_on stay more = more

@@ -9,8 +9,15 @@ use Rattle.plan_model.specs.declared.types.Object.{Object}
 use Rattle.plan_model.specs.declared.types.Types.{Types}
 use Rattle.plan_model.specs.declared.parts.Parts.{Parts}
 use Rattle.plan_model.specs.Typing.{Leads, stay, climb, union_at, IsPart, IsA, InType}
-use Rattle.plan_model.specs.Parts.{has, IsMarked, IsMemberAt, IsStart, AreBelow, AreListed, AreListedParents}
-use Rattle.plan_model.proofs.Marks.{marked_within}
+use Rattle.plan_model.specs.Parts.{has, IsMarked, IsMarkedFurther, IsClosedUnder, AreListed, AreListedParents}
+use Rattle.plan_model.proofs.Marks.{AreBelow, marked_within, further_none, further_twice, below}
+
+abbrev pub IsMemberAt : Types → ℕ → ℕ → Type 0
+IsMemberAt types of ty = (members : List ℕ) × (union_at types of ≡ Some members) × Contains members ty
+
+-- the type itself and the types of the union are marked
+abbrev pub IsStart : Types → ℕ → List Bool → Type 0
+IsStart types of marks = (ty : ℕ) → ty < 1024 → IsMarked marks ty ↔ ((ty ≡ of) ⊎ IsMemberAt types of ty)
 
 -- a chain from a number past all types stays there
 pub leads_out : (count : ℕ) (parents : List Parent) → AreListedParents count parents → {i j : ℕ} → Leads parents i j → count ≤ i → i ≡ j
@@ -89,6 +96,27 @@ module _ (types : Types) (of : ℕ) (first marks : List Bool) (room : length fir
 
   pub parts_are : (ty : ℕ) → IsTrue (has parts ty) ↔ IsPart types ty of
   parts_are ty = (is_has ty, has_is ty)
+
+-- the first marks are of the type and of the union's types, and these are their further ones
+pub record AreMarkedFrom (types : Types) (of : ℕ) (whole : Bool) (marks : List Bool) : Type 0 where
+  pub first : List Bool
+  pub room : length first ≡ 1024
+  pub start : IsStart types of first
+  pub whole_is : whole ≡ get_or first 0 false
+  pub further : IsMarkedFurther types.parents first marks
+
+pub marked_start : (types : Types) (of : ℕ) (marks : List Bool) → (length marks ≡ 1024) × IsStart types of marks → AreMarkedFrom types of (get_or marks 0 false) marks
+marked_start types of marks is = record { first = marks; room = is.0; start = is.1; whole_is = refl; further = further_none types.parents marks }
+
+pub marked_further : (types : Types) (of : ℕ) (whole : Bool) (marks new : List Bool) → AreMarkedFrom types of whole marks → IsMarkedFurther types.parents marks new → AreMarkedFrom types of whole new
+marked_further types of whole marks new h f = record { first = h.first; room = h.room; start = h.start; whole_is = h.whole_is; further = further_twice types.parents h.first marks new h.further f }
+
+-- where they are closed, they are all parts
+pub marked_parts : (types : Types) (of : ℕ) (whole : Bool) (marks : List Bool) → AreListed types → AreMarkedFrom types of whole marks → IsClosedUnder types.parents marks
+    → (ty : ℕ) → IsTrue (has (record { of = of; whole = whole; marks = marks }) ty) ↔ IsPart types ty of
+marked_parts types of whole marks listed h closed =
+    subst (λ b. (ty : ℕ) → IsTrue (has (record { of = of; whole = b; marks = marks }) ty) ↔ IsPart types ty of) (sym h.whole_is)
+    (parts_are types of h.first marks h.room listed h.start (below types.parents h.first marks h.further closed))
 
 none_marked : (n i : ℕ) → IsMarked (replicate n false) i → ⊥
 none_marked zero i m = absurd (false≢true m)

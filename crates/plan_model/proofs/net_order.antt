@@ -10,5 +10,4 @@ pub mod Closing
 pub mod Sorting
 pub mod Bits
 pub mod Fronts
-pub mod Walks
 pub mod examples

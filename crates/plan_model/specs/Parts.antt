@@ -1,10 +1,10 @@
 -- The parts of a type as marks: the mark at place i says whether type i is one of them.
 -- Source: this project's; a part as in Typing.
-use Rattle.std.specs.Prelude.{ℕ, ◌≡◌, ◌==◌, ◌≤◌, ◌<◌, ◌||◌, ◌⊎◌, ◌↔◌, Bool, false, cond, IsTrue, All, Contains, List, length, sum_by, slice_index_or, Some}
+use Rattle.std.specs.Prelude.{ℕ, ◌≡◌, ◌==◌, ◌≤◌, ◌<◌, ◌||◌, ◌⊎◌, ◌↔◌, Bool, false, cond, IsTrue, All, Contains, List, length, sum_by, slice_index_or}
 use Rattle.plan_model.specs.declared.types.Types.{Types}
 use Rattle.plan_model.specs.declared.types.Parent.{Parent}
 use Rattle.plan_model.specs.declared.parts.Parts.{Parts}
-use Rattle.plan_model.specs.Typing.{Leads, union_at}
+use Rattle.plan_model.specs.Typing.{Leads}
 
 abbrev pub AreListedParents : ℕ → List Parent → Type 0
 AreListedParents count parents = All (λ p. (p.child < count) × (p.parent < count)) parents
@@ -25,20 +25,9 @@ IsMarked marks ty = IsTrue (slice_index_or marks ty false)
 abbrev pub unmarked : List Bool → ℕ
 unmarked marks = sum_by (λ mark. cond mark 0 1) marks
 
-abbrev pub IsMemberAt : Types → ℕ → ℕ → Type 0
-IsMemberAt types of ty = (members : List ℕ) × (union_at types of ≡ Some members) × Contains members ty
-
--- the type itself and the types of the union are marked
-abbrev pub IsStart : Types → ℕ → List Bool → Type 0
-IsStart types of marks = (ty : ℕ) → ty < 1024 → IsMarked marks ty ↔ ((ty ≡ of) ⊎ IsMemberAt types of ty)
-
 -- now the types of the list are marked too, of those for which there is a mark
 abbrev pub AreMarkedToo : List ℕ → List Bool → List Bool → Type 0
 AreMarkedToo types old new = (ty : ℕ) → ty < length old → IsMarked new ty ↔ (IsMarked old ty ⊎ Contains types ty)
-
--- now each type is marked from which a chain leads to one that was marked
-abbrev pub AreBelow : List Parent → List Bool → List Bool → Type 0
-AreBelow parents old new = (i : ℕ) → IsMarked new i ↔ ((j : ℕ) × IsMarked old j × Leads parents i j)
 
 -- the old marks are kept, and each is of a type from which a chain leads to one that was marked
 pub record IsMarkedFurther (parents : List Parent) (old new : List Bool) : Type 0 where

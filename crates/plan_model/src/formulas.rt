@@ -38,11 +38,11 @@ impl Formula {
         ensures equal { IfOk result (λ copy. copy ≡ self.now) }
     {
         match self {
-            Formula::Holds(atom) => Ok(Formula::Holds(atom.copy(alloc)?)),
+            Formula::Holds(atom) => atom.copy(alloc).map(Formula::Holds),
             Formula::Equal(left, right) => Ok(Formula::Equal(*left, *right)),
-            Formula::Not(part) => Ok(Formula::Not(copy_boxed(alloc, part)?)),
-            Formula::And(parts) => Ok(Formula::And(copy_list(alloc, parts)?)),
-            Formula::Or(parts) => Ok(Formula::Or(copy_list(alloc, parts)?)),
+            Formula::Not(part) => copy_boxed(alloc, part).map(Formula::Not),
+            Formula::And(parts) => copy_list(alloc, parts).map(Formula::And),
+            Formula::Or(parts) => copy_list(alloc, parts).map(Formula::Or),
             Formula::Imply(premise, conclusion) => {
                 let premise = copy_boxed(alloc, premise)?;
                 Ok(Formula::Imply(premise, copy_boxed(alloc, conclusion)?))

@@ -1,6 +1,6 @@
-ghost use Rattle.std.specs.Prelude.{◌≡◌, ℕ, ◌<◌, ◌↔◌, false, All, IsTrue, IsFalse, slice_index_or, length};
+ghost use Rattle.std.specs.Prelude.{◌≡◌, ℕ, ◌<◌, ◌↔◌, All, IsTrue, IsFalse, length};
 ghost use Rattle.plan_model.specs.Typing as typing;
-ghost use Rattle.plan_model.specs.Parts.{has, unmarked, AreMarkedToo, AreListed, AreListedParents, IsStart, AreBelow, IsMarkedFurther, IsClosedUnder};
+ghost use Rattle.plan_model.specs.Parts.{has, unmarked, AreMarkedToo, AreListed, AreListedParents, IsMarkedFurther, IsClosedUnder};
 
 use crate::types::{Parent, Types};
 
@@ -23,9 +23,13 @@ impl Parts {
         requires { AreListed types.now }
         ensures { (ty : ℕ) → IsTrue (has result ty) ↔ typing.IsPart types.now ty of }
     {
-        let mut marks = start(types, of);
+        let mut marks = [false; ROOM];
+        mark_all(&mut marks, &[of]);
+        if let Some(members) = types.union_at(of) {
+            mark_all(&mut marks, members.as_slice());
+        }
         let whole = marks[0];
-        mark_below(types.parents.as_slice(), &mut marks);
+        while mark_children(types.parents.as_slice(), &mut marks) {}
         Parts { of, whole, marks }
     }
 
@@ -33,7 +37,7 @@ impl Parts {
     pub fn have(&self, ty: u32) -> bool
         ensures { result ≡ has self.now ty }
     {
-        self.whole || ty == self.of || marked(&self.marks, ty)
+        self.whole || ty == self.of || matches!(self.marks.get(ty as usize), Some(true))
     }
 
     /// Whether each of the types is one of the parts.
@@ -42,28 +46,6 @@ impl Parts {
     {
         types.iter().all(|ty| self.have(*ty))
     }
-}
-
-fn marked(marks: &[bool], ty: u32) -> bool
-    ensures { result ≡ slice_index_or marks.now ty false }
-{
-    match marks.get(ty as usize) {
-        Some(mark) => *mark,
-        None => false,
-    }
-}
-
-/// Marks of the type itself and, where it is a union, of its types.
-fn start(types: &Types, of: u32) -> [bool; ROOM]
-    ensures room { length result ≡ 1024 }
-    ensures start { IsStart types.now of result }
-{
-    let mut marks = [false; ROOM];
-    mark_all(&mut marks, &[of]);
-    if let Some(members) = types.union_at(of) {
-        mark_all(&mut marks, members.as_slice());
-    }
-    marks
 }
 
 /// Marks each of the types for which there is a mark.
@@ -76,14 +58,6 @@ fn mark_all(marks: &mut [bool], types: &[u32])
             marks[place] = true;
         }
     }
-}
-
-/// Marks each type from which a chain of parents leads to a marked one.
-fn mark_below(parents: &[Parent], marks: &mut [bool])
-    requires { AreListedParents (length marks.old) parents.now }
-    ensures { AreBelow parents.now marks.old marks.new }
-{
-    while mark_children(parents, marks) {}
 }
 
 /// Marks the types with a marked parent, in one pass over the pairs. It tells whether one was not marked before.

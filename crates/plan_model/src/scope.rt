@@ -20,18 +20,11 @@ impl Scope<'_> {
             Scope::Empty => Err(k),
             Scope::Within(outer, params) => match outer.find(k) {
                 Ok(param) => Ok(param),
-                Err(left) => nth(params, left),
+                Err(left) => match params.get(left) {
+                    Some(param) => Ok(*param),
+                    None => Err(left - params.len()),
+                },
             },
         }
-    }
-}
-
-fn nth(params: &[Param], k: usize) -> Result<Param, usize>
-    ensures found { IfOk result (λ param. slice_get params.now k ≡ Some param) }
-    ensures missing { IfErr result (λ left. k ≡ length params.now + left) }
-{
-    match params.get(k) {
-        Some(param) => Ok(*param),
-        None => Err(k - params.len()),
     }
 }

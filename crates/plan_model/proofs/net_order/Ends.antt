@@ -1,25 +1,22 @@
 -- The last child, the children with which pairs begin, and the places of the line at which it is cut.
-use Rattle.std.proofs.Common.{ℕ, ◌≡◌, ◌≢◌, ◌+◌, ◌<◌, ◌≤◌, ◌↔◌, inl, inr, List, [], ◌∷◌, ◌++◌, length, Bool, true, false, IsTrue, Contains, take, get_or, set, sym, subst, ap, ◌∙◌, arith, length-take, get_or-take, length-set, get_or-set_same, get_or-set_other}
+use Rattle.std.proofs.Common.{ℕ, ◌≡◌, ◌≢◌, ◌+◌, ◌<◌, ◌≤◌, ◌↔◌, inl, inr, List, [], ◌∷◌, ◌++◌, length, Bool, true, false, IsTrue, Contains, take, get_or, set, sym, subst, ap, ◌∙◌, arith, length-set, get_or-set_same, get_or-set_other}
 use Rattle.std.proofs.lemmas.List.{take_more, get_or_read}
 use Rattle.std.proofs.lemmas.List.Elements.{Contains-append_left, Contains-push, Contains-push_cases}
 use Rattle.std.proofs.lemmas.Bool.{cases_lt, cases_eq, both_ways}
 use Rattle.plan_model.specs.declared.networks.Pair.{Pair}
-use Rattle.plan_model.specs.net_order.Marks.{has, marked, Marked, IsSquare, IsMarkedLast, IsMarkedCut, IsCovered}
+use Rattle.plan_model.specs.net_order.Marks.{has, marked, Marked, IsSquare, IsMarkedLast, IsMarkedCut}
 use Rattle.plan_model.specs.net_order.Closure.{AreFirsts}
 use Rattle.plan_model.proofs.net_order.Closures.{has_added}
 
 pub not_last : (before : List (List Bool)) (i : ℕ) (s : List Bool) → IsSquare (length before) before → i < length before → s ≡ get_or before i s
-    → (((j : ℕ) → j < length s → j ≢ i → IsTrue (has s j)) → ⊥) → IsMarkedLast before i → ⊥
-not_last before i s square l is n m = n (λ j a d. here j (within j a) d)
+    → (j : ℕ) → j < length s → j ≢ i → has s j ≡ false → IsMarkedLast before i → ⊥
+not_last before i s square l is j a d e m = both_ways (has s j) e (ap (λ x. has x j) read ∙ m.1 j within d)
   where
     read : s ≡ get_or before i []
     read = get_or_read before i s l is []
 
-    within : (j : ℕ) → j < length s → j < length before
-    within j a = let e = ap length read in let f = square.marks i l in omega arith
-
-    here : (j : ℕ) → j < length before → j ≢ i → IsTrue (has s j)
-    here j a d = ap (λ x. has x j) read ∙ m.1 j a d
+    within : j < length before
+    within = let e = ap length read in let f = square.marks i l in omega arith
 
 pub firsts_more : (pairs : List Pair) (k : ℕ) (d : Pair) (s : List Bool) → k < length pairs → (get_or pairs k d).first < length s
     → AreFirsts (take k pairs) s → AreFirsts (take (k + 1) pairs) (set s (get_or pairs k d).first true)
@@ -50,21 +47,16 @@ module _ (before : List (List Bool)) (line : List ℕ) where
   pub reach_none : IsReach before line (length line) (length line)
   reach_none = record { within = omega arith; all = λ p q a b c. absurd (omega arith); ends = λ l. absurd (omega arith) }
 
-  pub reach_more : (k reach n : ℕ) → k < length line → IsReach before line (k + 1) reach → IsCovered (take reach line) (get_or before (get_or line k 0) []) n → IsReach before line k n
-  reach_more k reach n l h c = record { within = (let m = h.within in omega (arith, far)); all = both; ends = ends }
+  -- the first n of the line precede its child at place k
+  abbrev pub AreMarkedTo : ℕ → ℕ → Type 0
+  AreMarkedTo k n = (p : ℕ) → p < n → Marked before (get_or line p 0) (get_or line k 0)
+
+  pub reach_more : (k reach n : ℕ) → k < length line → IsReach before line (k + 1) reach → n ≤ reach → AreMarkedTo k n → (n < reach → marked before (get_or line n 0) (get_or line k 0) ≡ false) → IsReach before line k n
+  reach_more k reach n l h far inside outside = record { within = (let m = h.within in omega (arith, far)); all = both; ends = ends }
     where
-      row : List Bool
-      row = get_or before (get_or line k 0) []
-
-      far : n ≤ reach
-      far = let e = length-take reach line in let m = c.within in omega arith
-
-      read : (p : ℕ) → p < reach → get_or (take reach line) p 0 ≡ get_or line p 0
-      read p a = get_or-take reach line p 0 a
-
       both : (p q : ℕ) → p < n → k ≤ q → q < length line → Marked before (get_or line p 0) (get_or line q 0)
       both p q a d e = elim (cases_eq q k) [
-        | inl f ↦ subst (λ x. Marked before (get_or line p 0) (get_or line x 0)) (sym f) (subst (λ i. IsTrue (has row i)) (read p (omega (arith, far))) (c.inside p a))
+        | inl f ↦ subst (λ x. Marked before (get_or line p 0) (get_or line x 0)) (sym f) (inside p a)
         | inr f ↦ h.all p q (omega (arith, far)) (omega arith) e
       ]
 
@@ -73,7 +65,7 @@ module _ (before : List (List Bool)) (line : List ℕ) where
 
       ends : n < length line → Ends
       ends b = elim (cases_lt n reach) [
-        | inl a ↦ (k, omega arith, l, subst (λ i. has row i ≡ false) (read n a) (c.outside (let e = length-take reach line in omega arith)))
+        | inl a ↦ (k, omega arith, l, outside a)
         | inr a ↦ (let e : reach ≡ n = omega (arith, far) in let x = h.ends (omega (arith, far)) in let y = x.1 in (x.0, omega arith, x.2, subst (λ r. marked before (get_or line r 0) (get_or line x.0 0) ≡ false) e x.3))
       ]
 

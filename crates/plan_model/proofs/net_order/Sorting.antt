@@ -6,40 +6,13 @@ use Rattle.plan_model.specs.task_networks.Order.{Precedes, direct, IsAcyclic, Ar
 use Rattle.plan_model.specs.net_order.Marks.{marked, Marked, IsSquare}
 use Rattle.plan_model.specs.net_order.Line.{IsGreedy, IsClosed}
 use Rattle.plan_model.specs.Pairs.{Pairs}
-use Rattle.plan_model.proofs.net_order.Adding.{added_none}
-use Rattle.plan_model.specs.net_order.Closure.{IsClosure, IsAdded, IsDirect}
+use Rattle.plan_model.specs.net_order.Closure.{IsClosure, IsDirect}
 use Rattle.plan_model.proofs.net_order.Chains.{chain_map}
 use Rattle.plan_model.proofs.net_order.Meanings.{marked_within, next_like}
 use Rattle.plan_model.proofs.net_order.Whole as whole
 
-pub direct_added : (count : ℕ) (pairs : List Pair) (old new : List (List Bool)) → IsSquare count old → ((i j : ℕ) → j < count → marked old i j ≡ false) → IsAdded count pairs old new → IsDirect count pairs new
-direct_added count pairs old new square empty h = record { square = h.square; marks = λ i j. (to i j, λ c. (h.marks i j).1 (inr c)) }
-  where
-    none : (i j : ℕ) → Marked old i j → ⊥
-    none i j m = both_ways (marked old i j) (empty i j (marked_within count old square i j m).1) m
-
-    to : (i j : ℕ) → Marked new i j → Pairs pairs i j
-    to i j m = elim ((h.marks i j).0 m) [ inl o ↦ absurd (none i j o) | inr c ↦ c ]
-
-pub direct_none : (count : ℕ) (before : List (List Bool)) → IsSquare count before → ((i j : ℕ) → j < count → marked before i j ≡ false) → IsDirect count [] before
-direct_none count before square empty = direct_added count [] before before square empty (added_none count before square)
-
--- a cycle of the sets is one of the pairs
-pub acyclic_sets : (count : ℕ) (pairs : List Pair) (before : List (List Bool)) → IsDirect count pairs before → IsAcyclic (Marked before) ↔ IsAcyclic (Pairs pairs)
-acyclic_sets count pairs before h = (
-  (λ f i c. f i (chain_map {P = Pairs pairs} {Q = Marked before} (λ a b d. direct ((h.marks a b).1 d)) i i c)),
-  λ f i c. f i (chain_map {P = Marked before} {Q = Pairs pairs} (λ a b m. direct ((h.marks a b).0 m)) i i c),
-)
-
 decide_marked : (before : List (List Bool)) (i j : ℕ) → Marked before i j ⊎ (Marked before i j → ⊥)
 decide_marked before i j = elim (cases_Bool (marked before i j)) [ inl e ↦ inl e | inr e ↦ inr (both_ways (marked before i j) e) ]
-
--- where no child precedes itself, a line that goes as far as it can is whole
-pub acyclic_line : (before : List (List Bool)) (line : List ℕ) → IsSquare (length before) before → IsAcyclic (Marked before) → IsGreedy (Marked before) (length before) line → IsLine (Marked before) (length before) line
-acyclic_line before line square acyclic greedy = record {
-  whole = whole.whole (Marked before) (length before) (decide_marked before) (marked_within (length before) before square) line greedy acyclic;
-  each = greedy.each;
-}
 
 module _ (count : ℕ) (pairs : List Pair) (before : List (List Bool)) (h : IsDirect count pairs before) (line : List ℕ) (greedy : IsGreedy (Marked before) (length before) line) where
   to : (i j : ℕ) → Precedes (Marked before) i j → Precedes (Pairs pairs) i j

@@ -1,5 +1,5 @@
 -- Sets of predecessors that are closed under the pairs.
-use Rattle.std.specs.Prelude.{ℕ, ◌≡◌, ◌<◌, ◌↔◌, ◌⊎◌, IsTrue, Bool, List, Contains}
+use Rattle.std.specs.Prelude.{ℕ, ◌≡◌, ◌<◌, ◌↔◌, IsTrue, Bool, List, Contains}
 use Rattle.plan_model.specs.declared.networks.Pair.{Pair}
 use Rattle.plan_model.specs.task_networks.Order.{Precedes, IsAcyclic}
 use Rattle.plan_model.specs.net_order.Marks.{has, Marked, IsSquare}
@@ -14,11 +14,6 @@ pub record IsClosure (count : ℕ) (pairs : List Pair) (before : List (List Bool
 -- the children with which a pair begins
 abbrev pub AreFirsts : List Pair → List Bool → Type 0
 AreFirsts pairs set = (i : ℕ) → IsTrue (has set i) ↔ ((p : Pair) × Contains pairs p × (p.first ≡ i))
-
--- the marked ones are the old ones and the firsts of the pairs
-pub record IsAdded (count : ℕ) (pairs : List Pair) (old new : List (List Bool)) : Type 0 where
-  pub square : IsSquare count new
-  pub marks : (i j : ℕ) → Marked new i j ↔ (Marked old i j ⊎ Pairs pairs i j)
 
 -- the set of each child has those from which a pair leads to it
 pub record IsDirect (count : ℕ) (pairs : List Pair) (before : List (List Bool)) : Type 0 where

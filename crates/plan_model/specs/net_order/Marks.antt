@@ -44,10 +44,6 @@ IsMarkedLast before i = (i < length before) × ((j : ℕ) → j < length before 
 abbrev pub IsMarkedLastOrNone : List (List Bool) → Option ℕ → Type 0
 IsMarkedLastOrNone before last = MatchOption last ((i : ℕ) → IsMarkedLast before i → ⊥) (IsMarkedLast before)
 
--- all children but this one are in the set
-abbrev pub HasAllBut : List Bool → ℕ → Type 0
-HasAllBut set i = (j : ℕ) → j < length set → j ≢ i → IsTrue (has set j)
-
 -- each of the first k of the line is marked as one that precedes each of the rest
 abbrev pub IsMarkedCut : List (List Bool) → List ℕ → ℕ → Type 0
 IsMarkedCut before line k = (p q : ℕ) → p < k → k ≤ q → q < length line → Marked before (slice_index line p) (slice_index line q)
@@ -55,20 +51,6 @@ IsMarkedCut before line k = (p q : ℕ) → p < k → k ≤ q → q < length lin
 -- the set has the places at which the line is cut
 abbrev pub AreMarkedCuts : List (List Bool) → List ℕ → List Bool → Type 0
 AreMarkedCuts before line set = (k : ℕ) → k < length line → IsTrue (has set k) ↔ IsMarkedCut before line k
-
--- so many of the line, from the first on, are in the set, and the next is not
-pub record IsCovered (line : List ℕ) (set : List Bool) (n : ℕ) : Type 0 where
-  pub within : n ≤ length line
-  pub inside : (p : ℕ) → p < n → IsTrue (has set (slice_index line p))
-  pub outside : n < length line → has set (slice_index line n) ≡ false
-
--- what precedes a member of one of these children's sets is in that set too
-abbrev pub IsClosedOn : List (List Bool) → List ℕ → Type 0
-IsClosedOn before children = (a i k : ℕ) → Contains children k → Marked before i k → Marked before a i → Marked before a k
-
--- those of the earlier ones that are in the set of this child, and what precedes them
-abbrev pub IsGathered : List (List Bool) → List ℕ → ℕ → List Bool → Type 0
-IsGathered before earlier child set = (a : ℕ) → IsTrue (has set a) ↔ ((i : ℕ) × Contains earlier i × Marked before i child × ((a ≡ i) ⊎ Marked before a i))
 
 -- each child of the set is in the other one
 abbrev pub IsWithin : List Bool → List Bool → Type 0

@@ -1,5 +1,5 @@
 ghost use Rattle.std.specs.Prelude.{◌≡◌, ◌<◌, All, length, IfOk};
-ghost use Rattle.plan_model.specs.net_order.Marks.{IsSquare, AreMarkedCuts, IsCovered};
+ghost use Rattle.plan_model.specs.net_order.Marks.{IsSquare, AreMarkedCuts};
 
 use crate::net_order::child_set::ChildSet;
 use htn_base::Memory;
@@ -15,23 +15,15 @@ pub fn cuts_of(alloc: Global, before: &[ChildSet], line: &[u32]) -> Result<Child
     let mut cuts = ChildSet::new(alloc, line.len())?;
     let mut reach = line.len();
     for k in (0..line.len()).rev() {
-        reach = covered(&line[..reach], &before[line[k] as usize]);
+        let set = &before[line[k] as usize];
+        let mut covered = 0;
+        while covered < reach && set.contains(line[covered] as usize) {
+            covered += 1;
+        }
+        reach = covered;
         if k <= reach {
             cuts.insert(k);
         }
     }
     Ok(cuts)
-}
-
-/// How many of the line, from the first on, are in the set.
-fn covered(line: &[u32], set: &ChildSet) -> usize
-    requires children { All (λ i. i < length set.now) line.now }
-    ensures covered { IsCovered line.now set.now result }
-{
-    for (p, child) in line.iter().enumerate() {
-        if !set.contains(*child as usize) {
-            return p;
-        }
-    }
-    line.len()
 }

@@ -1,7 +1,7 @@
-ghost use Rattle.std.specs.Prelude.{length, IfOk};
+ghost use Rattle.std.specs.Prelude.{IfOk};
 ghost use Rattle.plan_model.specs.net_order.Marks.{AreEmpty, IsSquare};
 ghost use Rattle.plan_model.specs.net_order.Meaning.{AreBelow};
-ghost use Rattle.plan_model.specs.net_order.Closure.{IsAdded, IsDirect};
+ghost use Rattle.plan_model.specs.net_order.Closure.{IsDirect};
 
 use crate::Pair;
 use crate::net_order::child_set::ChildSet;
@@ -14,7 +14,9 @@ pub fn direct_sets(alloc: Global, count: usize, pairs: &[Pair]) -> Result<Vec<Ch
     ensures direct { IfOk result (λ before. IsDirect count pairs.now before.items) }
 {
     let mut before = empty_sets(alloc, count)?;
-    add_pairs(&mut before, pairs);
+    for pair in pairs {
+        before[pair.then as usize].insert(pair.first as usize);
+    }
     Ok(before)
 }
 
@@ -28,16 +30,4 @@ pub fn empty_sets(alloc: Global, count: usize) -> Result<Vec<ChildSet>, Memory>
         before.push(ChildSet::new(alloc, count)?)?;
     }
     Ok(before)
-}
-
-/// Puts the first child of each pair into the set of the second one.
-fn add_pairs(before: &mut [ChildSet], pairs: &[Pair])
-    requires square { IsSquare (length before.old) before.old }
-    requires below { AreBelow (length before.old) pairs.now }
-    ensures added { IsAdded (length before.old) pairs.now before.old before.new }
-{
-    for pair in pairs {
-        let set = &mut before[pair.then as usize];
-        set.insert(pair.first as usize);
-    }
 }

@@ -1,6 +1,6 @@
-ghost use Rattle.std.specs.Prelude.{◌<◌, ◌↔◌, length, IsTrue};
+ghost use Rattle.std.specs.Prelude.{length};
 ghost use Rattle.plan_model.specs.task_networks.Order.{IsLine};
-ghost use Rattle.plan_model.specs.net_order.Marks.{Marked, IsSquare, HasAllBut, IsMarkedLastOrNone};
+ghost use Rattle.plan_model.specs.net_order.Marks.{Marked, IsSquare, IsMarkedLastOrNone};
 
 use crate::net_order::child_set::ChildSet;
 
@@ -11,20 +11,11 @@ pub fn last_of(before: &[ChildSet], line: &[u32]) -> Option<u32>
     ensures last { IsMarkedLastOrNone before.now result }
 {
     let child = line.last().copied()?;
-    if has_all_but(&before[child as usize], child as usize) {
-        return Some(child);
-    }
-    None
-}
-
-/// Whether all children but this one are in the set.
-fn has_all_but(set: &ChildSet, child: usize) -> bool
-    ensures all { IsTrue result ↔ HasAllBut set.now child }
-{
+    let set = &before[child as usize];
     for j in 0..set.len() {
-        if j != child && !set.contains(j) {
-            return false;
+        if j != child as usize && !set.contains(j) {
+            return None;
         }
     }
-    true
+    Some(child)
 }
