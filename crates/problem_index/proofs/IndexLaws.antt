@@ -1,5 +1,5 @@
 -- Actions and objects found by their words.
-use Rattle.std.proofs.Common.{ℕ, ◌≡◌, inl, inr, List, map, Contains, Some, None, slice_get, ap, sym, subst, ◌∙◌}
+use Rattle.std.proofs.Common.{ℕ, ◌≡◌, inl, inr, List, length, map, Contains, MatchOption, Option, Some, None, slice_get, ap, sym, subst, ◌∙◌}
 use Rattle.std.proofs.lemmas.Option.{slice_get_within, slice_get-get_or, get_or_from_slice_get, slice_get-map, slice_get_cases}
 use Rattle.std.specs.Option.{option_map}
 use Rattle.htn_base.specs.declared.name.Name.{Name}
@@ -9,7 +9,13 @@ use Rattle.plan_model.specs.declared.steps.GroundAction.{GroundAction}
 use Rattle.plan_model.specs.declared.values.Pddl.{Pddl}
 use Rattle.plan_model.specs.plan_meaning.ClassicalPlan.{HasWord}
 use Rattle.plan_model.specs.plan_meaning.FailingStep.{IsNamed, NamesAction}
-use Rattle.problem_index.specs.Places.{HasWordAt}
+use Rattle.problem_index.specs.Places.{HasWordAt, ArePlaces, Finds}
+use Rattle.problem_index.specs.Index.{IsIndex}
+use Rattle.problem_index.specs.declared.index.Index.{Index}
+
+-- a place of what has the word, or that nothing has it
+abbrev FindsHere : List (List ℕ) → List Name → List ℕ → Option ℕ → Type 0
+FindsHere words names word found = MatchOption found ((k : ℕ) → HasWordAt words names word k → ⊥) (HasWordAt words names word)
 
 contains_at : {X : Type 0} (xs : List X) (x : X) → Contains xs x → (k : ℕ) × (slice_get xs k ≡ Some x)
 contains_at xs x (k, l, e) = (k, slice_get-get_or xs k x l ∙ ap (λ z. Some z) e)
@@ -22,6 +28,16 @@ mapped_at f xs k y e = elim (slice_get_cases xs k).1 [
   | inl c ↦ (c.0, c.2, (let g : Some (f c.0) ≡ Some y = sym (slice_get-map f xs k ∙ ap (option_map f) c.2) ∙ e in cc))
   | inr c ↦ (let g : None ≡ Some y = sym (slice_get-map f xs k ∙ ap (option_map f) c.1) ∙ e in absurd cc)
 ]
+
+-- what is found by the index's table is found by the problem's words
+finds : (words table : List (List ℕ)) (places : List (Option ℕ)) (names : List Name) (word : List ℕ) (found : Option ℕ) → table ≡ words → ArePlaces (length words) names places → Finds table places word found → FindsHere words names word found
+finds words table places names word found same are is = subst (λ (ws : List (List ℕ)). Finds ws places word found) same is names are
+
+pub action_found : (p : Pddl) (index : Index) (word : List ℕ) (found : Option ℕ) → IsIndex p index → Finds index.names index.actions.by_name.items word found → FindsHere p.names (map (λ (a : ActionSchema). a.name) p.actions) word found
+action_found p index word found is = finds p.names index.names index.actions.by_name.items (map (λ (a : ActionSchema). a.name) p.actions) word found is.names is.actions
+
+pub object_found : (p : Pddl) (index : Index) (word : List ℕ) (found : Option ℕ) → IsIndex p index → Finds index.names index.objects.by_name.items word found → FindsHere p.names (map (λ (x : Object). x.name) p.objects) word found
+object_found p index word found is = finds p.names index.names index.objects.by_name.items (map (λ (x : Object). x.name) p.objects) word found is.names is.objects
 
 module _ (p : Pddl) where
   abbrev action_name : ActionSchema → Name

@@ -1,10 +1,11 @@
 -- Places of names, filled in one by one, and what is found for a word.
-use Rattle.std.proofs.Common.{ℕ, zero, suc, ◌≡◌, ◌+◌, ◌<◌, ◌≤◌, inl, inr, MatchOption, Bool, true, false, List, [], ◌∷◌, length, get_or, set, Option, Some, None, slice_get, cond, not, map, take, ◌++◌, ap, sym, subst, ◌∙◌, arith, length-set, get_or-set_same, get_or-set_other, true≢false}
+use Rattle.std.proofs.Common.{ℕ, zero, suc, ◌≡◌, ◌+◌, ◌<◌, ◌≤◌, inl, inr, MatchOption, Bool, true, false, List, [], ◌∷◌, length, get_or, set, Option, Some, None, slice_get, cond, not, map, replicate, refl, ap, sym, subst, ◌∙◌, arith, length-set, get_or-set_same, get_or-set_other, true≢false}
 use Rattle.std.specs.List.{position_or_len}
+use Rattle.std.specs.Option.{option_map}
 use Rattle.std.specs.Str.{bytes_eq}
 use Rattle.std.proofs.lemmas.Bool.{cases_eq, cases_lt, lt-ltb}
-use Rattle.std.proofs.lemmas.Option.{slice_get_within, slice_get-get_or, get_or_from_slice_get}
-use Rattle.std.proofs.lemmas.List.{take_more, map-append}
+use Rattle.std.proofs.lemmas.Option.{slice_get_within, slice_get-get_or, get_or_from_slice_get, slice_get-map}
+use Rattle.std.proofs.lemmas.List.{set_past, length-replicate, length-map}
 use Rattle.std.proofs.lemmas.List.Quantifiers.{position-Some}
 use Rattle.std.proofs.lemmas.Slice.Eq.{bytes_eq-Decides}
 use Rattle.htn_base.specs.declared.name.Name.{Name}
@@ -27,7 +28,7 @@ other_name names i x n None e f h = λ k l has. elim (cases_lt k i) [
   | inr m ↦ (let at : k ≡ i = omega arith in f (one_number names i x n e (subst (λ j. HasNumber names j n) at has)))
 ]
 
-pub places_set : (names : List Name) (i : ℕ) (x : Name) (places : List (Option ℕ)) → slice_get names i ≡ Some x → x.number < length places → AreFirstPlaces i names places → AreFirstPlaces (i + 1) names (set places x.number (Some i))
+places_set : (names : List Name) (i : ℕ) (x : Name) (places : List (Option ℕ)) → slice_get names i ≡ Some x → x.number < length places → AreFirstPlaces i names places → AreFirstPlaces (i + 1) names (set places x.number (Some i))
 places_set names i x places e l h n m =
     let within : n < length places = subst (λ k. n < k) (length-set places x.number (Some i)) m in
     elim (cases_eq n x.number) [
@@ -35,18 +36,46 @@ places_set names i x places e l h n m =
       | inr other ↦ subst (IsPlaceOf (i + 1) names n) (sym (get_or-set_other places x.number n (Some i) None other)) (other_name names i x n (get_or places n None) e (λ s. other (sym s)) (h n within))
     ]
 
-pub places_past : (names : List Name) (i : ℕ) (x : Name) (places : List (Option ℕ)) → slice_get names i ≡ Some x → length places ≤ x.number → AreFirstPlaces i names places → AreFirstPlaces (i + 1) names places
+places_past : (names : List Name) (i : ℕ) (x : Name) (places : List (Option ℕ)) → slice_get names i ≡ Some x → length places ≤ x.number → AreFirstPlaces i names places → AreFirstPlaces (i + 1) names places
 places_past names i x places e l h n m = other_name names i x n (get_or places n None) e (λ s. (let t = ap (λ j. j) s in omega arith)) (h n m)
 
-pub no_places : (names : List Name) (places : List (Option ℕ)) → ((n : ℕ) → n < length places → get_or places n None ≡ None) → AreFirstPlaces 0 names places
-no_places names places none n m = subst (IsPlaceOf 0 names n) (sym (none n m)) (λ k l has. absurd (omega arith))
+-- one name more, whose place is noted where there is a place for its number
+places_more : (names : List Name) (i : ℕ) (x : Name) (places : List (Option ℕ)) → slice_get names i ≡ Some x → AreFirstPlaces i names places → AreFirstPlaces (i + 1) names (set places x.number (Some i))
+places_more names i x places e h = elim (cases_lt x.number (length places)) [
+  | inl l ↦ places_set names i x places e l h
+  | inr l ↦ subst (AreFirstPlaces (i + 1) names) (sym (set_past places x.number (Some i) l)) (places_past names i x places e l h)
+]
 
-pub all_places : (names : List Name) (i count : ℕ) (places : List (Option ℕ)) → length names ≤ i → length places ≡ count → AreFirstPlaces i names places → ArePlaces count names places
+no_places : (names : List Name) (count : ℕ) → AreFirstPlaces 0 names (replicate count None)
+no_places names count n m = subst (IsPlaceOf 0 names n) (sym (none count n)) (λ k l has. absurd (omega arith))
+  where
+    none : (count n : ℕ) → ◌≡◌ {A = Option ℕ} (get_or (replicate count None) n None) None
+    none zero n = refl
+    none (suc c) zero = refl
+    none (suc c) (suc n) = none c n
+
+all_places : (names : List Name) (i count : ℕ) (places : List (Option ℕ)) → length names ≤ i → length places ≡ count → AreFirstPlaces i names places → ArePlaces count names places
 all_places names i count places l r h = record { room = r; each = λ n m. go n (get_or places n None) (h n m) }
   where
     go : (n : ℕ) (place : Option ℕ) → IsPlaceOf i names n place → IsPlaceOf (length names) names n place
     go n (Some k) p = p
     go n None p = λ k m has. p k (omega arith) has
+
+module _ {X : Type 0} (name : X → Name) (xs : List X) (count : ℕ) where
+  -- the places of the first i things, by their names
+  abbrev pub AreNoted : ℕ → List (Option ℕ) → Type 0
+  AreNoted i places = (length places ≡ count) × AreFirstPlaces i (map name xs) places
+
+  pub noted_none : (places : List (Option ℕ)) → places ≡ replicate count None → AreNoted 0 places
+  noted_none places e = (ap length e ∙ length-replicate count None, subst (AreFirstPlaces 0 (map name xs)) (sym e) (no_places (map name xs) count))
+
+  pub noted_more : (i : ℕ) (x : X) (old new : List (Option ℕ)) → i < length xs → x ≡ get_or xs i x → new ≡ set old (name x).number (Some i) → AreNoted i old → AreNoted (i + 1) new
+  noted_more i x old new l e s h =
+      let at : slice_get (map name xs) i ≡ Some (name x) = slice_get-map name xs i ∙ ap (option_map name) (slice_get-get_or xs i x l ∙ ap (λ y. Some y) (sym e)) in
+      (ap length s ∙ (length-set old (name x).number (Some i) ∙ h.0), subst (AreFirstPlaces (i + 1) (map name xs)) (sym s) (places_more (map name xs) i (name x) old at h.1))
+
+  pub noted_all : (i : ℕ) (places : List (Option ℕ)) → length xs ≤ i → AreNoted i places → ArePlaces count (map name xs) places
+  noted_all i places l h = all_places (map name xs) i count places (let n = length-map xs name in omega (arith, n, l)) h.0 h.1
 
 -- the number of a word is the one place at which it stands
 word_there : (table : List (List ℕ)) (word : List ℕ) (n : ℕ) → number_of table word ≡ Some n → slice_get table n ≡ Some word
@@ -112,8 +141,3 @@ finds_past table places word n e l names are k has =
     let m = slice_get_within table n word (word_there table word n e) in
     let r = are.room in
     absurd (omega arith)
-
-pub map_next : {X Y : Type 0} (f : X → Y) (xs : List X) (i : ℕ) (x : X) (old new : List Y) → i < length xs → x ≡ get_or xs i x → old ≡ map f (take i xs) → new ≡ old ++ f x ∷ [] → new ≡ map f (take (i + 1) xs)
-map_next f xs i x old new l e h p =
-    let more : take (i + 1) xs ≡ take i xs ++ x ∷ [] = take_more xs i x l ∙ ap (λ b. take i xs ++ b ∷ []) (sym e) in
-    p ∙ ap (λ ys. ys ++ f x ∷ []) h ∙ sym (map-append f (take i xs) (x ∷ [])) ∙ ap (map f) (sym more)

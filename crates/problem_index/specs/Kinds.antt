@@ -5,11 +5,10 @@ use Rattle.plan_model.specs.declared.types.Types.{Types}
 use Rattle.plan_model.specs.declared.types.Object.{Object}
 use Rattle.plan_model.specs.declared.parts.Parts.{Parts}
 use Rattle.plan_model.specs.Parts.{has, AreListed}
-use Rattle.problem_index.specs.declared.domain.Domain.{Domain}
 use Rattle.problem_index.specs.declared.kinds.Kind.{Kind}
 use Rattle.problem_index.specs.declared.kinds.Kinds.{Kinds}
 use Rattle.problem_index.specs.declared.world.World.{World}
-use Rattle.problem_index.specs.Domains.{ArePartsOf, IsIn}
+use Rattle.problem_index.specs.Domains.{ArePartsOf}
 
 -- object x is declared of the type
 abbrev pub IsDeclaredOf : List Object → ℕ → ℕ → Type 0
@@ -30,9 +29,6 @@ AreOfParts parts lists listed = (x : ℕ) → Contains listed x ↔ ((ty : ℕ) 
 -- object x is declared of one of the parts
 abbrev pub IsOfParts : List Object → Parts → ℕ → Type 0
 IsOfParts objects parts x = (object : Object) × (slice_get objects x ≡ Some object) × IsTrue (has parts object.ty)
-
-abbrev pub IsDomainOfParts : List Object → Parts → Domain → Type 0
-IsDomainOfParts objects parts d = (x : ℕ) → IsIn d x ↔ IsOfParts objects parts x
 
 -- what is known of the type that has these parts
 pub record IsKind (objects : List Object) (those : Parts) (kind : Kind) : Type 0 where

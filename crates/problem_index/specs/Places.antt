@@ -2,7 +2,6 @@
 -- Source: this project's.
 use Rattle.std.specs.Prelude.{ℕ, ◌≡◌, ◌<◌, MatchOption, List, length, slice_get, Option, Some, None, slice_index_or}
 use Rattle.htn_base.specs.declared.name.Name.{Name}
-use Rattle.problem_index.specs.declared.places.Places.{Places}
 
 -- at place k stands a name of this number
 abbrev pub HasNumber : List Name → ℕ → ℕ → Type 0
@@ -19,9 +18,6 @@ AreFirstPlaces many names places = (n : ℕ) → n < length places → MatchOpti
 pub record ArePlaces (count : ℕ) (names : List Name) (places : List (Option ℕ)) : Type 0 where
   pub room : length places ≡ count
   pub each : AreFirstPlaces (length names) names places
-
-abbrev pub HasPlaces : ℕ → List Name → Places → Type 0
-HasPlaces count names places = ArePlaces count names places.by_name.items
 
 -- what is found for a word: a place of what has it, or that nothing has it
 abbrev pub Finds : List (List ℕ) → List (Option ℕ) → List ℕ → Option ℕ → Type 0

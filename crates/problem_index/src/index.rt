@@ -42,8 +42,14 @@ impl Index {
         requires few_actions { length p.now.actions < 2 ^ 32 }
         ensures index { IfOk result (spec.IsIndex p.now) }
     {
-        let actions = action_places(alloc, p)?;
-        let objects = object_places(alloc, p)?;
+        let mut actions = Places::none(alloc, p.names.len())?;
+        for (place, action) in p.actions.as_slice().iter().enumerate() {
+            actions.put(action.name, place as u32);
+        }
+        let mut objects = Places::none(alloc, p.names.len())?;
+        for (place, object) in p.objects.as_slice().iter().enumerate() {
+            objects.put(object.name, place as u32);
+        }
         let kinds = Kinds::new(alloc, &p.types, &p.objects)?;
         let names = NameTable::of(alloc, &p.names)?;
         let marks = Marks::of(alloc, &names)?;
@@ -96,28 +102,4 @@ impl Index {
             kinds: Some(&self.kinds),
         }
     }
-}
-
-/// The places of the actions, by the numbers of their names.
-fn action_places(alloc: Global, p: &Pddl) -> Result<Places, Memory>
-    requires few { length p.now.actions < 2 ^ 32 }
-    ensures places { IfOk result (spec.AreActionPlaces p.now) }
-{
-    let mut names = Vec::new(alloc);
-    for action in p.actions.as_slice() {
-        names.push(action.name)?;
-    }
-    Places::new(alloc, p.names.len(), names.as_slice())
-}
-
-/// The places of the objects, by the numbers of their names.
-fn object_places(alloc: Global, p: &Pddl) -> Result<Places, Memory>
-    requires few { length p.now.objects < 2 ^ 32 }
-    ensures places { IfOk result (spec.AreObjectPlaces p.now) }
-{
-    let mut names = Vec::new(alloc);
-    for object in p.objects.as_slice() {
-        names.push(object.name)?;
-    }
-    Places::new(alloc, p.names.len(), names.as_slice())
 }

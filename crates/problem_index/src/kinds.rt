@@ -61,19 +61,6 @@ impl Kind {
             listed: None,
         })
     }
-
-    /// What a quantifier over the type goes over.
-    #[inline(always)]
-    fn domain<'a>(&'a self, objects: &'a List<Object>) -> Domain<'a>
-        requires few { length objects.now < 2 ^ 32 }
-        requires kind { spec.IsKind objects.now self.now.parts self.now }
-        ensures { spec.IsDomainOfParts objects.now self.now.parts result }
-    {
-        match &self.listed {
-            Some(listed) => Domain::Listed(listed.as_slice()),
-            None => Domain::Among(objects, &self.parts),
-        }
-    }
 }
 
 /// What is known of the first types and unions, of each found once.
@@ -155,7 +142,10 @@ impl Kinds {
         ensures { IfSome result (IsDomainOf types.now objects.now ty) }
     {
         match self.kinds.get(ty as usize) {
-            Some(kind) => Some(kind.domain(objects)),
+            Some(kind) => match &kind.listed {
+                Some(listed) => Some(Domain::Listed(listed.as_slice())),
+                None => Some(Domain::Among(objects, &kind.parts)),
+            },
             None => None,
         }
     }

@@ -1,4 +1,4 @@
-ghost use Rattle.std.specs.Prelude.{◌≡◌, ◌<◌, ◌^◌, length, IfOk};
+ghost use Rattle.std.specs.Prelude.{◌≡◌, replicate, slice_set, IfOk, None, Some};
 ghost use Rattle.problem_index.specs.Places as spec;
 
 use htn_base::{Marks, Memory, Name, NameTable};
@@ -16,19 +16,22 @@ impl Drop for Places {
 }
 
 impl Places {
-    /// The places at which these names stand, where there are `count` words.
-    pub(crate) fn new(alloc: Global, count: usize, names: &[Name]) -> Result<Places, Memory>
-        requires few { length names.now < 2 ^ 32 }
-        ensures places { IfOk result (spec.HasPlaces count names.now) }
+    /// No places, where there are `count` words.
+    pub(crate) fn none(alloc: Global, count: usize) -> Result<Places, Memory>
+        ensures none { IfOk result (λ places. places.by_name.items ≡ replicate count None) }
     {
-        let mut by_name = vec![in alloc; None; count]?;
-        for (place, name) in names.iter().enumerate() {
-            let number = name.number as usize;
-            if number < by_name.len() {
-                by_name[number] = Some(place as u32);
-            }
-        }
+        let by_name = vec![in alloc; None; count]?;
         Ok(Places { by_name })
+    }
+
+    /// Something with this name stands at the place.
+    pub(crate) fn put(&mut self, name: Name, place: u32)
+        ensures { self.new.by_name.items ≡ slice_set self.old.by_name.items name.number (Some place) }
+    {
+        let number = name.number as usize;
+        if number < self.by_name.len() {
+            self.by_name[number] = Some(place);
+        }
     }
 
     /// A place of what has the word.

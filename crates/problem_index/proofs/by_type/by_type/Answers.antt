@@ -15,8 +15,8 @@ loop-place-preserved c =
     let o = get_or c.as_slice-object-items.result.now c.loop-place.place none in
     let at : slice_get c.args.objects.now c.loop-place.place ≡ Some (get_or c.as_slice-object-items.result.now c.loop-place.place none) = subst (λ (xs : List Object). slice_get xs c.loop-place.place ≡ Some (get_or c.as_slice-object-items.result.now c.loop-place.place none)) c.as_slice-object-items.ensures.items (slice_get-get_or c.as_slice-object-items.result.now c.loop-place.place none c.loop-place-test.true) in
     let e = c.in-Some.ensures.item.3 in (
-      length-set lists o.ty c.push.new.self ∙ c.loop-place.invariant.0,
-      by_type_more c.args.objects.now lists c.loop-place.place o c.push.new.self at e.0 (c.in_ok-push-in-Some.ensures.pushed ∙ ap (λ (l : List ℕ). l ++ c.loop-place.place ∷ []) (e.1 [])) c.loop-place.invariant.1,
+      length-set lists o.ty c.push-in-Some.new.self ∙ c.loop-place.invariant.0,
+      by_type_more c.args.objects.now lists c.loop-place.place o c.push-in-Some.new.self at e.0 (c.in_ok-push-in-Some.ensures.pushed ∙ ap (λ (l : List ℕ). l ++ c.loop-place.place ∷ []) (e.1 [])) c.loop-place.invariant.1,
     )
 
 pub returns-clause-lists : goal.returns-clause-lists
