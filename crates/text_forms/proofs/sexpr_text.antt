@@ -1,4 +1,5 @@
 mod Depth
+mod Popped
 mod Found
 mod Numbered
 mod Passed

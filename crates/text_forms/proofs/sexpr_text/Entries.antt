@@ -15,9 +15,10 @@ use Rattle.text_forms.specs.Faults.{IsFaultless}
 use Rattle.text_forms.specs.declared.sexpr_text.classes.Class.{Class as Classes}
 use Rattle.text_forms.specs.declared.sexpr_text.classes.Class.TheVariants.{Blank, Opening, Closing, Letter, Bad}
 use Rattle.text_forms.specs.declared.sexpr_text.index.Entry.{Entry}
+use Rattle.text_forms.specs.declared.sexpr_text.tokens.Kind.{Kind as Kinds}
 use Rattle.text_forms.specs.declared.sexpr_text.tokens.Piece.{Piece}
 use Rattle.text_forms.specs.sexpr_text.Index.{IsEntry, cut}
-use Rattle.text_forms.specs.sexpr_text.Seen.{class_seen, piece_seen}
+use Rattle.text_forms.specs.sexpr_text.Seen.{class_seen, kind_seen, piece_seen}
 
 -- a byte that is not blank stands in no comment
 class_here : (text : List ℕ) (comment : Bool) (k : ℕ) (c : Class) → slice_get (classes_from comment text) k ≡ Some c → (c ≡ blank → ⊥) → class_of (get_or text k 0) ≡ c
@@ -70,6 +71,18 @@ entry_within text i e h = let w = within text i h.token h.stands in let a = w.0 
 -- what stands where an entry tells
 pub cut_within : (text : List ℕ) (i : ℕ) (e : Entry) (p : Piece) → IsEntry text i e → piece_seen p ≡ cut (class_of (get_or text e.at 0)) e → (p.span.start < p.span.end) × (p.span.end ≤ length text)
 cut_within text i e p h is = subst (λ t. (t.first < t.behind) × (t.behind ≤ length text)) (sym (is ∙ cut_of text i e h)) (within text i h.token h.stands)
+
+-- a piece is the token that it was made for
+pub piece_made : (p : Piece) (kind : Kinds) {start end : ℕ} → p.kind ≡ kind → p.span.start ≡ start → p.span.end ≡ end → piece_seen p ≡ token (kind_seen kind) start end
+piece_made p kind k a b = (λ i. token (kind_seen (k i)) (a i) (b i))
+
+-- an entry that begins with neither parenthesis keeps a word
+pub cut_word : (e : Entry) (k : Classes) → (k ≡ Opening → ⊥) → (k ≡ Closing → ⊥) → token word e.at e.end ≡ cut (class_seen k) e
+cut_word e Blank f g = refl
+cut_word e Opening f g = absurd (f refl)
+cut_word e Closing f g = absurd (g refl)
+cut_word e Letter f g = refl
+cut_word e Bad f g = refl
 
 pub get_none : {A : Type 0} (xs : List A) (i : ℕ) → slice_get xs i ≡ None → length xs ≤ i
 get_none [] i e = omega arith

@@ -1,26 +1,13 @@
-ghost use Rattle.std.specs.Prelude.{◌≡◌, ◌≤◌, ◌<◌, length, slice_get, IfSome, MatchOption};
-ghost use Rattle.std.specs.Option.{option_map};
+ghost use Rattle.std.specs.Prelude.{◌≡◌, ◌≤◌, ◌<◌, slice_get, IfSome, MatchOption};
 ghost use Rattle.text_forms.specs.Closing.{close_at, close_after};
-ghost use Rattle.text_forms.specs.Tokens.{tokens, token_count};
+ghost use Rattle.text_forms.specs.Tokens.{token_count};
 ghost use Rattle.text_forms.specs.sexpr_text.Kept.{IsReadFrom};
 ghost use Rattle.text_forms.specs.sexpr_text.Places.{tokens_at, IsPlace, IsFarther};
-ghost use Rattle.text_forms.specs.sexpr_text.Seen.{piece_seen};
 
 use crate::sexpr_text::marks::{EACH, Marks, Place};
-use crate::sexpr_text::tokens::{Kind, Piece, deeper, next_piece};
+use crate::sexpr_text::tokens::{Kind, deeper, next_piece};
 
 impl Marks {
-    /// The token with a number, or `None` past the last. It is cut out anew, with at most seven tokens in front of it.
-    pub fn piece(&self, source: &[u8], i: u32) -> Option<Piece>
-        requires read { IsReadFrom source.now self.now }
-        ensures piece { option_map piece_seen result ≡ slice_get (tokens source.now) i }
-        ensures order { IfSome result (λ p. p.span.start < p.span.end) }
-        ensures within { IfSome result (λ p. p.span.end ≤ length source.now) }
-    {
-        let place = self.place_of(source, i)?;
-        next_piece(source, place.at)
-    }
-
     /// Where the token with a number stands, or `None` past the last.
     pub fn place_of(&self, source: &[u8], i: u32) -> Option<Place>
         requires read { IsReadFrom source.now self.now }

@@ -1,6 +1,6 @@
-ghost use Rattle.std.specs.Prelude.{◌≡◌, ◌≤◌, ◌<◌, length, get_or};
+ghost use Rattle.std.specs.Prelude.{◌≤◌, ◌<◌, length, get_or};
 ghost use Rattle.text_forms.specs.Bytes.{class_of};
-ghost use Rattle.text_forms.specs.sexpr_text.Places.{classes_at, comment_at, comment_tokens_at, tokens_at, BeginsNoToken, EndsWord, HasFaultsFrom, IsPassed};
+ghost use Rattle.text_forms.specs.sexpr_text.Places.{classes_at, BeginsNoToken, EndsWord, HasFaultsFrom, IsPassed};
 
 use crate::sexpr_text::classes::{Class, class_of};
 
@@ -21,28 +21,16 @@ pub fn word_end(source: &[u8], from: usize) -> usize
     source.len()
 }
 
-/// The place behind what begins no token: a comment, or one byte.
+/// The place behind what begins no token: a comment up to the end of its line, or one byte.
 pub fn blank_end(source: &[u8], at: usize) -> usize
     requires within { at < length source.now }
     requires class { BeginsNoToken (class_of (get_or source.now at 0)) }
     ensures passed { IsPassed source.now at result (class_of (get_or source.now at 0)) }
 {
-    if source[at] == b';' {
-        line_end(source, at + 1)
-    } else {
-        at + 1
+    if source[at] != b';' {
+        return at + 1;
     }
-}
-
-// The end of the line that goes on at a place, within a comment.
-fn line_end(source: &[u8], from: usize) -> usize
-    requires within { from ≤ length source.now }
-    ensures later { from ≤ result }
-    ensures within { result ≤ length source.now }
-    ensures tokens { comment_tokens_at source.now from ≡ tokens_at source.now result }
-    ensures faults { HasFaultsFrom source.now (comment_at source.now from) from result }
-{
-    for i in from..source.len() {
+    for i in at + 1..source.len() {
         if source[i] == b'\n' {
             return i;
         }

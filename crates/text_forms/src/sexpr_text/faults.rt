@@ -1,9 +1,8 @@
-ghost use Rattle.std.specs.Prelude.{◌≡◌, ◌≤◌, ◌<◌, ◌-◌, ◌^◌, length, IfOk, OnOk};
-ghost use Rattle.std.specs.Option.{option_map};
+ghost use Rattle.std.specs.Prelude.{◌≡◌, ◌≤◌, ◌<◌, ◌^◌, length, IfOk, OnOk};
 ghost use Rattle.text_forms.specs.Bytes.{classes_from};
-ghost use Rattle.text_forms.specs.Faults.{fault, innermost, but_innermost, open_after, code_at};
-ghost use Rattle.text_forms.specs.Least.{newer, older, left_open, settled};
-ghost use Rattle.text_forms.specs.sexpr_text.Seen.{class_seen, fault_in, least_in, opened, TellsFault};
+ghost use Rattle.text_forms.specs.Faults.{open_after, code_at};
+ghost use Rattle.text_forms.specs.Least.{left_open};
+ghost use Rattle.text_forms.specs.sexpr_text.Seen.{class_seen, least_in, opened, TellsFault};
 
 use crate::sexpr_text::classes::{Class, class_in};
 use htn_base::{Fault, Memory};
@@ -34,11 +33,25 @@ pub fn first_fault(alloc: Global, source: &[u8], file: u8) -> Result<Option<Faul
         let (class, goes_on) = class_in(comment, *byte);
         comment = goes_on;
         if let Some(code) = enter(&mut open_lists, at, class)? {
-            let unclosed = left_open(&source[i + 1..], comment, open_lists);
-            return Ok(Some(settled(file, code, at, unclosed)));
+            // A list that is left open stands in front of the byte, or is its own.
+            return match left_open(&source[i + 1..], comment, open_lists) {
+                Some(start) => Ok(Some(Fault {
+                    code: UNCLOSED_LIST,
+                    file,
+                    at: start,
+                })),
+                None => Ok(Some(Fault { code, file, at })),
+            };
         }
     }
-    Ok(unclosed_list(file, leave(&mut open_lists)))
+    match open_lists.pop() {
+        Some(start) => Ok(Some(Fault {
+            code: UNCLOSED_LIST,
+            file,
+            at: start,
+        })),
+        None => Ok(None),
+    }
 }
 
 /// Whether a byte is a fault where so many lists are open in front of it.
@@ -67,7 +80,7 @@ fn enter(open_lists: &mut Vec<u32>, at: u32, class: Class) -> Result<Option<u16>
             open_lists.push(at)?;
             if deep { Ok(Some(TOO_DEEP)) } else { Ok(None) }
         }
-        Class::Closing => match leave(open_lists) {
+        Class::Closing => match open_lists.pop() {
             Some(_) => Ok(None),
             None => Ok(Some(STRAY_CLOSE)),
         },
@@ -79,71 +92,20 @@ fn left_open(source: &[u8], comment: bool, mut open_lists: Vec<u32>) -> Option<u
     requires short { length source.now < 2 ^ 32 }
     ensures left { result ≡ left_open 0 (opened open_lists) (classes_from comment source.now) }
 {
-    let mut count: u32 = 0;
+    // How many lists are open that are newer than these.
+    let mut newer: u32 = 0;
     let mut inside = comment;
     for byte in source {
         let (class, goes_on) = class_in(inside, *byte);
         inside = goes_on;
-        count = pass(&mut open_lists, count, class);
-    }
-    if count > 0 {
-        None
-    } else {
-        leave(&mut open_lists)
-    }
-}
-
-// One byte, where so many lists are newer than those that are kept.
-fn pass(open_lists: &mut Vec<u32>, count: u32, class: Class) -> u32
-    requires few { count < 2 ^ 32 - 1 }
-    ensures newer { result ≡ newer count (class_seen class) }
-    ensures older { opened open_lists.new ≡ older count (opened open_lists.old) (class_seen class) }
-{
-    match class {
-        Class::Opening => count + 1,
-        Class::Closing => {
-            if count > 0 {
-                count - 1
-            } else {
-                let _ = leave(open_lists);
-                0
+        match class {
+            Class::Opening => newer += 1,
+            Class::Closing if newer > 0 => newer -= 1,
+            Class::Closing => {
+                let _ = open_lists.pop();
             }
+            _ => {}
         }
-        _ => count,
     }
-}
-
-/// Takes the innermost list.
-pub fn leave(open_lists: &mut Vec<u32>) -> Option<u32>
-    ensures innermost { result ≡ innermost (opened open_lists.old) }
-    ensures others { opened open_lists.new ≡ but_innermost (opened open_lists.old) }
-{
-    open_lists.pop()
-}
-
-// The fault of a byte, or the list that is left open, which stands in front of it or is its own.
-fn settled(file: u8, code: u16, at: u32, unclosed: Option<u32>) -> Fault
-    ensures fault { result ≡ fault_in file (settled code at unclosed) }
-{
-    match unclosed {
-        Some(start) => Fault {
-            code: UNCLOSED_LIST,
-            file,
-            at: start,
-        },
-        None => Fault { code, file, at },
-    }
-}
-
-fn unclosed_list(file: u8, unclosed: Option<u32>) -> Option<Fault>
-    ensures fault { result ≡ option_map (fault_in file) (option_map (fault 2) unclosed) }
-{
-    match unclosed {
-        Some(start) => Some(Fault {
-            code: UNCLOSED_LIST,
-            file,
-            at: start,
-        }),
-        None => None,
-    }
+    if newer > 0 { None } else { open_lists.pop() }
 }

@@ -1,16 +1,16 @@
-ghost use Rattle.std.specs.Prelude.{◌≡◌, ◌≤◌, ◌<◌, ◌↔◌, length, get_or, slice_get, IfOk, OnOk, IfSome, IsSome};
+ghost use Rattle.std.specs.Prelude.{◌≡◌, ◌≤◌, ◌<◌, ◌↔◌, length, get_or, slice_get, IfOk, IfSome, IsSome};
 ghost use Rattle.std.specs.Option.{option_map};
 ghost use Rattle.text_forms.specs.Bytes.{class_of};
 ghost use Rattle.text_forms.specs.Closing.{close_at};
 ghost use Rattle.text_forms.specs.Faults.{IsFaultless};
 ghost use Rattle.text_forms.specs.Tokens.{tokens};
-ghost use Rattle.text_forms.specs.sexpr_text.Index.{IsIndexOf, IsEnteredTo, GoesOnIndexing, AreBelow, cut, closed};
-ghost use Rattle.text_forms.specs.sexpr_text.Places.{deeper, IsGoodAt};
-ghost use Rattle.text_forms.specs.sexpr_text.Seen.{class_seen, kind_seen, opened, piece_seen};
+ghost use Rattle.text_forms.specs.sexpr_text.Index.{IsIndexOf, IsEnteredTo};
+ghost use Rattle.text_forms.specs.sexpr_text.Places.{IsGoodAt};
+ghost use Rattle.text_forms.specs.sexpr_text.Seen.{class_seen, opened, piece_seen};
 
 use crate::sexpr_text::classes::{Class, class_of};
 use crate::sexpr_text::ends::{blank_end, word_end};
-use crate::sexpr_text::faults::{is_fault, leave};
+use crate::sexpr_text::faults::is_fault;
 use crate::sexpr_text::tokens::{Kind, Piece};
 use htn_base::Memory;
 use std::alloc::Global;
@@ -70,7 +70,13 @@ impl Index {
         ensures within { IfSome result (λ p. p.span.end ≤ length source.now) }
     {
         let entry = self.entry(i)?;
-        Some(cut(source, entry))
+        let at = entry.at as usize;
+        // A word ends where its entry says.
+        Some(match class_of(source[at]) {
+            Class::Opening => Piece::new(Kind::Start, at, at + 1),
+            Class::Closing => Piece::new(Kind::Stop, at, at + 1),
+            _ => Piece::new(Kind::Word, at, entry.end as usize),
+        })
     }
 
     /// The number of the token that closes the list that the token with a number opens.
@@ -109,66 +115,25 @@ impl Index {
         ensures read { IfOk result
             (IsEnteredTo source.now self.new.entries.items (opened open_lists.new)) }
     {
-        let piece = match class {
-            Class::Opening => Piece::new(Kind::Start, at, at + 1),
-            Class::Closing => Piece::new(Kind::Stop, at, at + 1),
-            Class::Letter => Piece::new(Kind::Word, at, word_end(source, at + 1)),
+        let end = match class {
+            Class::Opening | Class::Closing => at + 1,
+            Class::Letter => word_end(source, at + 1),
             Class::Blank | Class::Bad => return Ok(blank_end(source, at)),
         };
-        self.enter(open_lists, piece)?;
-        Ok(piece.span.end as usize)
-    }
-
-    // One more token, where these lists are open in front of it.
-    fn enter(&mut self, open_lists: &mut Vec<u32>, piece: Piece) -> Result<(), Memory>
-        requires few { length self.old.entries.items ≤ 16777216 }
-        requires known { AreBelow (length self.old.entries.items) (opened open_lists.old) }
-        ensures entered { OnOk result
-            (GoesOnIndexing piece self.old.entries.items (opened open_lists.old)
-            self.new.entries.items (opened open_lists.new)) }
-        ensures deep { OnOk result (length (opened open_lists.new)
-            ≡ deeper (kind_seen piece.kind) (length (opened open_lists.old))) }
-    {
         let i = self.entries.len() as u32;
         self.entries.push(Entry {
-            at: piece.span.start,
-            end: piece.span.end,
+            at: at as u32,
+            end: end as u32,
         })?;
-        match piece.kind {
-            Kind::Start => {
-                open_lists.push(i)?;
-                Ok(())
+        match class {
+            Class::Opening => open_lists.push(i)?,
+            Class::Closing => {
+                if let Some(j) = open_lists.pop() {
+                    self.entries[j as usize].end = i;
+                }
             }
-            Kind::Stop => {
-                self.close(leave(open_lists), i);
-                Ok(())
-            }
-            Kind::Word => Ok(()),
+            _ => {}
         }
-    }
-
-    // The list that a token opens ends with another.
-    fn close(&mut self, list: Option<u32>, i: u32)
-        requires known { IfSome list (λ j. j < length self.old.entries.items) }
-        ensures closed { self.new.entries.items ≡ closed list i self.old.entries.items }
-    {
-        if let Some(j) = list {
-            self.entries[j as usize].end = i;
-        }
-    }
-}
-
-// The token that begins at a place, where it ends if it is a word.
-fn cut(source: &[u8], entry: Entry) -> Piece
-    requires within { entry.at < length source.now }
-    requires short { length source.now ≤ 16777216 }
-    ensures piece { piece_seen result
-        ≡ cut (class_of (get_or source.now entry.at 0)) entry }
-{
-    let at = entry.at as usize;
-    match class_of(source[at]) {
-        Class::Opening => Piece::new(Kind::Start, at, at + 1),
-        Class::Closing => Piece::new(Kind::Stop, at, at + 1),
-        _ => Piece::new(Kind::Word, at, entry.end as usize),
+        Ok(end)
     }
 }

@@ -1,7 +1,7 @@
-ghost use Rattle.std.specs.Prelude.{◌≡◌, ◌≤◌, ◌<◌, ◌+◌, ◌↔◌, length, get_or, IfOk, OnOk, IfSome, IsSome};
+ghost use Rattle.std.specs.Prelude.{◌≡◌, ◌≤◌, ◌<◌, ◌↔◌, length, get_or, IfOk, IfSome, IsSome};
 ghost use Rattle.text_forms.specs.Bytes.{class_of};
 ghost use Rattle.text_forms.specs.Faults.{IsFaultless};
-ghost use Rattle.text_forms.specs.sexpr_text.Kept.{CountsTokens, GoesOnMarking};
+ghost use Rattle.text_forms.specs.sexpr_text.Kept.{CountsTokens};
 ghost use Rattle.text_forms.specs.sexpr_text.Places.{IsGoodAt, IsReadTo, AreMarks};
 ghost use Rattle.text_forms.specs.sexpr_text.Seen.{class_seen};
 
@@ -83,42 +83,24 @@ impl Marks {
         ensures read { IfOk result (IsReadTo source.now self.new) }
     {
         let Place { at, depth } = place;
-        match class {
-            Class::Opening => self.mark(
-                place,
-                Place {
-                    at: at + 1,
-                    depth: depth + 1,
-                },
-            ),
-            Class::Closing => self.mark(
-                place,
-                Place {
-                    at: at + 1,
-                    depth: depth.saturating_sub(1),
-                },
-            ),
-            Class::Letter => self.mark(
-                place,
-                Place {
-                    at: word_end(source, at as usize + 1) as u32,
-                    depth,
-                },
-            ),
-            Class::Blank | Class::Bad => Ok(Place {
-                at: blank_end(source, at as usize) as u32,
+        let next = match class {
+            Class::Opening => Place {
+                at: at + 1,
+                depth: depth + 1,
+            },
+            Class::Closing => Place {
+                at: at + 1,
+                depth: depth.saturating_sub(1),
+            },
+            Class::Letter => Place {
+                at: word_end(source, at as usize + 1) as u32,
                 depth,
-            }),
-        }
-    }
-
-    // One more token, between two places. The next is handed back.
-    fn mark(&mut self, place: Place, next: Place) -> Result<Place, Memory>
-        requires few { self.old.count ≤ 16777216 }
-        ensures next { IfOk result (λ p. p ≡ next) }
-        ensures count { OnOk result (self.new.count ≡ self.old.count + 1) }
-        ensures marks { OnOk result (GoesOnMarking place next self.old self.new) }
-    {
+            },
+            Class::Blank | Class::Bad => {
+                let at = blank_end(source, at as usize) as u32;
+                return Ok(Place { at, depth });
+            }
+        };
         if self.count % EACH == 0 {
             self.places.push(place)?;
             // At most 200 lists are open, so it is a byte.

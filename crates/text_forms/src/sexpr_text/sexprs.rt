@@ -5,14 +5,14 @@ ghost use Rattle.text_forms.specs.Faults.{IsFaultless};
 ghost use Rattle.text_forms.specs.Tokens.{tokens, token_count};
 ghost use Rattle.text_forms.specs.sexpr_text.Positions.{IsPosition, IsPositionOf};
 ghost use Rattle.text_forms.specs.sexpr_text.Refused.{IsRefusal};
-ghost use Rattle.text_forms.specs.sexpr_text.Seen.{bytes_at, piece_seen, token_seen};
+ghost use Rattle.text_forms.specs.sexpr_text.Seen.{bytes_at, token_seen};
 
 use crate::sexpr_text::faults::first_fault;
 use crate::sexpr_text::index::{Index, index_of};
 use crate::sexpr_text::marks::{Marks, marks_of};
 use crate::sexpr_text::positions::Position;
 use crate::sexpr_text::read_error::ReadError;
-use crate::sexpr_text::tokens::{Piece, Token, next_piece};
+use crate::sexpr_text::tokens::{Token, next_piece};
 use htn_base::{Memory, Span};
 use std::alloc::Global;
 use std::marker::Model;
@@ -127,7 +127,10 @@ impl<'a> Sexprs<'a> {
         ensures token { option_map token_seen result ≡ slice_get (tokens self.now) i }
         ensures word { IfSome result (λ t. t.word.now ≡ bytes_at self.now t.span) }
     {
-        let piece = self.piece(i)?;
+        let piece = match &self.kept {
+            Kept::Marks(marks) => next_piece(self.source, marks.place_of(self.source, i)?.at)?,
+            Kept::Index(index) => index.piece(self.source, i)?,
+        };
         Some(Token {
             kind: piece.kind,
             word: part(self.source, piece.span),
@@ -157,26 +160,21 @@ impl<'a> Sexprs<'a> {
                     token: i,
                     at: place.at,
                 },
-                None => self.past(i),
+                None => Position {
+                    token: i,
+                    at: self.text_len(),
+                },
             },
             Kept::Index(index) => match index.entry(i) {
                 Some(entry) => Position {
                     token: i,
                     at: entry.at,
                 },
-                None => self.past(i),
+                None => Position {
+                    token: i,
+                    at: self.text_len(),
+                },
             },
-        }
-    }
-
-    // The position of a number that no token has.
-    fn past(&self, i: u32) -> Position
-        requires none { token_count self.now ≤ i }
-        ensures position { IsPositionOf self.now i result }
-    {
-        Position {
-            token: i,
-            at: self.source.len() as u32,
         }
     }
 
@@ -200,17 +198,6 @@ impl<'a> Sexprs<'a> {
             at: piece.span.end,
         };
         Some((token, next))
-    }
-
-    fn piece(&self, i: u32) -> Option<Piece>
-        ensures piece { option_map piece_seen result ≡ slice_get (tokens self.now) i }
-        ensures order { IfSome result (λ p. p.span.start < p.span.end) }
-        ensures within { IfSome result (λ p. p.span.end ≤ length self.now) }
-    {
-        match &self.kept {
-            Kept::Marks(marks) => marks.piece(self.source, i),
-            Kept::Index(index) => index.piece(self.source, i),
-        }
     }
 
     /// The number of bytes of the source, at most 16,777,216.

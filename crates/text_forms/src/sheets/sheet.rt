@@ -41,23 +41,16 @@ impl<'a> Sheet<'a> {
 }
 
 impl Sheet<'_> {
-    ghost use Rattle.text_forms.specs.sheets.Sheets.{Appended, Counts, Wrote};
+    ghost use Rattle.text_forms.specs.sheets.Sheets.{Counts, Wrote};
 
-    /// Puts the bytes.
+    /// Puts the bytes: counts them, and appends them where the text has all before them and has room.
     pub fn put(&mut self, bytes: &[u8])
         ensures wrote { Wrote bytes.now self.old self.new }
     {
         self.count = self.count.saturating_add(bytes.len() as u64);
-        if self.whole {
-            self.append(bytes);
+        if !self.whole {
+            return;
         }
-    }
-
-    /// Appends to the text what was counted, if it has room.
-    fn append(&mut self, bytes: &[u8])
-        requires { self.now.whole ≡ true }
-        ensures { Appended bytes.now self.old self.new }
-    {
         if self.count > self.limit {
             self.whole = false;
         } else if self.into.push_all(bytes).is_err() {
