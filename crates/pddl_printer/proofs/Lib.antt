@@ -19,5 +19,6 @@ pub mod Drawn
 pub mod Batches
 pub mod OtherConditions
 pub mod OtherEffects
+pub mod SaidOfEach
 pub mod written_out
 pub mod examples

@@ -72,3 +72,17 @@ module _ (p : Pddl) (t : ℕ) where
         let n = union-missing (nat_lt t (length p.types.names)) (slice_get p.types.unions (t - length p.types.names)) b e in
         ap (λ ws. bytes (kind_part ws)) (union-word unions (pddl_types p) t l ∙ ap (λ k. get_or unions (t - k) []) words-long ∙ none-of p.types.unions (t - length p.types.names) n (map (word_at (pddl_types p)))) ∙ sym (past (pddl_types p) t l)
   ]
+
+  -- the types of a union are printed as those of its number
+  pub union-bytes : (types ms : List ℕ) → types ≡ ms → Some ms ≡ union_at p.types t → bytes (kind_part (map (word_at (pddl_types p)) types)) ≡ bytes (kind_part (kind_at (pddl_words p) t))
+  union-bytes types ms e u = ap (λ ts. bytes (kind_part (map (word_at (pddl_types p)) ts))) e ∙ sym (ap (λ ws. bytes (kind_part ws)) (kind-union ms u))
+
+-- a union of one type and of none
+pub one-type : (p : Pddl) (types : List ℕ) (d : ℕ) → length types ≡ 1 → word_at (pddl_types p) (get_or types 0 d) ≡ bytes (kind_part (map (word_at (pddl_types p)) types))
+one-type p [] d l = absurd (omega arith)
+one-type p (t ∷ []) d l = refl
+one-type p (t ∷ u ∷ types) d l = absurd (omega arith)
+
+pub no-type : (p : Pddl) (types : List ℕ) → length types ≡ 0 → [] ≡ bytes (kind_part (map (word_at (pddl_types p)) types))
+no-type p [] l = refl
+no-type p (t ∷ types) l = absurd (omega arith)

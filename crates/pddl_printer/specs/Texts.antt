@@ -27,13 +27,6 @@ use Rattle.pddl_printer.specs.InForm.{action_in, condition_in, parts_in, effect_
 use Rattle.pddl_printer.specs.Scopes.{words_in_force, words_within}
 
 module _ (p : Pddl) where
-  abbrev pub types_text : List ℕ → List ℕ
-  types_text types = bytes_behind (all_parts (map name (map (word_at (pddl_types p)) types)))
-
-  -- without the space, of one type and of several as ( either A B )
-  abbrev pub union_text : List ℕ → List ℕ
-  union_text types = bytes (kind_part (map (word_at (pddl_types p)) types))
-
   -- of a type that may be a union
   abbrev pub kind_text : ℕ → List ℕ
   kind_text ty = bytes (kind_part (kind_at (pddl_words p) ty))
@@ -46,11 +39,7 @@ module _ (p : Pddl) where
   abbrev pub spaced_param_text : Param → List ℕ
   spaced_param_text x = 32 ∷ param_text x
 
-  -- variables with their types, a space between two
-  abbrev pub between_text : List Param → List ℕ
-  between_text xs = between (params_parts (pddl_words p) xs)
-
-  -- the same as one list
+  -- variables with their types as one list
   abbrev pub variables_text : List Param → List ℕ
   variables_text xs = behind (group (params_parts (pddl_words p) xs))
 
@@ -61,10 +50,6 @@ module _ (p : Pddl) where
   -- an object with its type
   abbrev pub object_text : Object → List ℕ
   object_text x = 32 ∷ typed (object_words (pddl_words p) x)
-
-  -- the objects of a fact
-  abbrev pub args_text : List ℕ → List ℕ
-  args_text objects = bytes_behind (all_parts (map (term_part (pddl_words p) []) (map Obj objects)))
 
   abbrev pub fact_text : GroundAtom → List ℕ
   fact_text g = behind (fact_part (pddl_words p) g)
@@ -84,9 +69,6 @@ module _ (p : Pddl) where
   module _ (scope : Scope) where
     abbrev pub term_text : Term → List ℕ
     term_text t = behind (term_part (pddl_words p) (words_in_force p scope) t)
-
-    abbrev pub terms_text : List Term → List ℕ
-    terms_text ts = bytes_behind (all_parts (map (term_part (pddl_words p) (words_in_force p scope)) ts))
 
     -- a word with terms
     abbrev pub applied_text : Word → List Term → List ℕ
@@ -122,6 +104,3 @@ module _ (p : Pddl) where
 
       abbrev pub parts_text : List Formula → List ℕ
       parts_text fs = formulas_text (parts_in range depth fs)
-
-      abbrev pub change_text : Effect → List ℕ
-      change_text e = effect_text (effect_in range depth e)

@@ -1,19 +1,9 @@
 ghost use Rattle.std.specs.Prelude.{◌≡◌};
-ghost use Rattle.pddl_printer.specs.Holes.{is_hole as hole, holes_among, holes as holes_of};
+ghost use Rattle.pddl_printer.specs.Holes.{holes_among, holes as holes_of};
 ghost use Rattle.text_forms.specs.sheets.Sheets.{capped};
 
 use crate::instances::Literal;
 use plan_model::Term;
-
-/// Whether this is the variable of this number.
-fn is_hole(term: Term, depth: usize) -> bool
-    ensures { result ≡ hole depth term }
-{
-    match term {
-        Term::Var(k) => k as usize == depth,
-        Term::Obj(_) => false,
-    }
-}
 
 /// How many times the variable of this number stands among terms.
 fn holes_in(terms: &[Term], depth: usize) -> u64
@@ -21,8 +11,9 @@ fn holes_in(terms: &[Term], depth: usize) -> u64
 {
     let mut count = 0;
     for term in terms {
-        if is_hole(*term, depth) {
-            count += 1;
+        match term {
+            Term::Var(k) if *k as usize == depth => count += 1,
+            _ => {}
         }
     }
     count

@@ -1,7 +1,5 @@
 ghost use Rattle.std.specs.Prelude.{IfSome};
-ghost use Rattle.text_forms.specs.Printing.{lines};
 ghost use Rattle.plan_texts.specs.PrintedTexts.{domain_text, problem_text};
-ghost use Rattle.pddl_printer.specs.Heads.{domain_head, problem_head};
 ghost use Rattle.pddl_printer.specs.InForm.{value_in};
 ghost use Rattle.pddl_printer.specs.Measured.{IsMeasured, range_of};
 ghost use Rattle.pddl_printer.specs.Pages.{domain_start};
@@ -9,7 +7,7 @@ ghost use Rattle.text_forms.specs.sheets.Sheets.{Wrote};
 
 use crate::facts::put_facts;
 use crate::items::put_items;
-use crate::schemas::{put_actions, put_condition};
+use crate::schemas::{put_action, put_condition};
 use crate::words::name_word;
 use crate::written::Written;
 use plan_model::{Pddl, Scope};
@@ -20,7 +18,10 @@ pub(crate) fn put_domain(p: &Pddl, sheet: &mut Sheet<'_>)
     ensures { Wrote (domain_text p.now) sheet.old sheet.new }
 {
     put_domain_start(p, sheet);
-    put_actions(p, None, p.actions.as_slice(), sheet);
+    let actions = p.actions.as_slice();
+    for action in actions {
+        put_action(p, None, action, sheet);
+    }
     sheet.put(b")\n");
 }
 
@@ -31,13 +32,6 @@ pub fn put_domain_start(p: &Pddl, sheet: &mut Sheet<'_>)
     sheet.put(b"(define (domain ");
     sheet.put(name_word(p, p.domain));
     sheet.put(b")\n");
-    put_domain_head(p, sheet);
-}
-
-/// Puts the sections before the actions.
-fn put_domain_head(p: &Pddl, sheet: &mut Sheet<'_>)
-    ensures { Wrote (lines (domain_head p.now)) sheet.old sheet.new }
-{
     sheet.put(b" (:requirements :adl)\n");
     sheet.put(b" (:types");
     put_items(p, p.types.parents.as_slice(), sheet);
@@ -59,22 +53,15 @@ pub fn put_problem(p: &Pddl, written: Option<Written>, sheet: &mut Sheet<'_>)
     sheet.put(b"(define (problem ");
     sheet.put(name_word(p, p.problem));
     sheet.put(b")\n");
-    put_problem_head(p, sheet);
-    sheet.put(b" (:goal");
-    put_condition(p, &Scope::Empty, written, 0, &p.goal, sheet);
-    sheet.put(b")\n");
-    sheet.put(b")\n");
-}
-
-/// Puts the sections before the goal.
-fn put_problem_head(p: &Pddl, sheet: &mut Sheet<'_>)
-    ensures { Wrote (lines (problem_head p.now)) sheet.old sheet.new }
-{
     sheet.put(b" (:domain ");
     sheet.put(name_word(p, p.domain));
     sheet.put(b")\n");
     sheet.put(b" (:objects)\n");
     sheet.put(b" (:init");
     put_facts(p, &p.init, sheet);
+    sheet.put(b")\n");
+    sheet.put(b" (:goal");
+    put_condition(p, &Scope::Empty, written, 0, &p.goal, sheet);
+    sheet.put(b")\n");
     sheet.put(b")\n");
 }

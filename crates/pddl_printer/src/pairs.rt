@@ -1,7 +1,7 @@
 ghost use Rattle.std.specs.Prelude.{◌≡◌, ◌+◌, false};
 ghost use Rattle.plan_model.specs.task_networks.Spelling.{numbers};
-ghost use Rattle.pddl_printer.specs.Splits.{row_text, differ_text, letters, open_with, next_with};
-ghost use Rattle.text_forms.specs.sheets.Sheets.{Wrote, capped};
+ghost use Rattle.pddl_printer.specs.Splits.{row_text, differ_text, open_with, next_with};
+ghost use Rattle.text_forms.specs.sheets.Sheets.{Wrote};
 
 use crate::batch::Batch;
 use crate::pen::Pen;
@@ -74,7 +74,11 @@ fn count_all_differ(p: &Pddl, params: &[Param], first: u32, count: u32, sheet: &
     requires over { sheet.old.whole ≡ false }
     ensures { Wrote (differ_text p.now params.now (numbers first count)) sheet.old sheet.new }
 {
-    let letters = letters_of(p, params, first, count);
+    let mut letters: u64 = 0;
+    for k in 0..count {
+        let word = variable_word(p, params, first as usize + k as usize);
+        letters = letters.saturating_add(word.len() as u64);
+    }
     let count = u64::from(count);
     let others = count.saturating_sub(1);
     sheet.skip(
@@ -82,16 +86,4 @@ fn count_all_differ(p: &Pddl, params: &[Param], first: u32, count: u32, sheet: &
             .saturating_mul(7)
             .saturating_add(others.saturating_mul(letters)),
     );
-}
-
-/// How many bytes the words of so many variables have together.
-fn letters_of(p: &Pddl, params: &[Param], first: u32, count: u32) -> u64
-    ensures { result ≡ capped (letters p.now params.now (numbers first count)) }
-{
-    let mut letters: u64 = 0;
-    for k in 0..count {
-        let word = variable_word(p, params, first as usize + k as usize);
-        letters = letters.saturating_add(word.len() as u64);
-    }
-    letters
 }

@@ -1,7 +1,7 @@
 ghost use Rattle.std.specs.Prelude.{IfSome};
 ghost use Rattle.pddl_printer.specs.ActionLines.{action_start, action_end};
 ghost use Rattle.pddl_printer.specs.Measured.{IsMeasured, range_of};
-ghost use Rattle.pddl_printer.specs.Texts.{predicate_text, condition_text, change_text, action_text, actions_text};
+ghost use Rattle.pddl_printer.specs.Texts.{predicate_text, condition_text, action_text};
 ghost use Rattle.text_forms.specs.sheets.Sheets.{Wrote};
 
 use crate::batch::Batch;
@@ -9,7 +9,7 @@ use crate::each_object::Instances;
 use crate::effects::put_effect;
 use crate::formulas::put_formula;
 use crate::items::{Item, add_items};
-use crate::typed_lists::put_variables;
+use crate::typed_lists::add_variables;
 use crate::words::name_word;
 use crate::written::Written;
 use crate::written_conditions::put_written_condition;
@@ -49,26 +49,6 @@ pub(crate) fn put_condition(
     }
 }
 
-/// Puts an effect behind a space, as it is or with its quantifiers over the range written out.
-fn put_change(
-    p: &Pddl,
-    scope: &Scope<'_>,
-    written: Option<Written>,
-    depth: usize,
-    effect: &Effect,
-    sheet: &mut Sheet<'_>,
-)
-    requires measured { IfSome written (IsMeasured p.now) }
-    ensures { Wrote (change_text p.now scope.now (range_of written) depth effect.now) sheet.old sheet.new }
-{
-    match written {
-        Some(written) => {
-            put_written_effect(p, scope, Instances { written, depth }, effect, sheet);
-        }
-        None => put_effect(p, scope, effect, sheet),
-    }
-}
-
 /// Puts an action on a line of its own, as it is or with its quantifiers over the range written out.
 pub fn put_action(p: &Pddl, written: Option<Written>, action: &ActionSchema, sheet: &mut Sheet<'_>)
     requires measured { IfSome written (IsMeasured p.now) }
@@ -88,11 +68,13 @@ pub(crate) fn put_action_start(p: &Pddl, name: Name, params: &[Param], sheet: &m
     sheet.put(b" (:action ");
     sheet.put(name_word(p, name));
     sheet.put(b" :parameters");
-    put_variables(p, params, sheet);
+    let mut batch = Batch::new();
+    add_variables(p, params, &mut batch, sheet);
+    batch.put(sheet);
     sheet.put(b" :precondition");
 }
 
-/// Puts the part of an action's line behind its condition.
+/// Puts the part of an action's line behind its condition, the effect as it is or with its quantifiers over the range written out.
 pub(crate) fn put_action_end(
     p: &Pddl,
     written: Option<Written>,
@@ -105,21 +87,12 @@ pub(crate) fn put_action_end(
 {
     let scope = Scope::Within(&Scope::Empty, &*params);
     sheet.put(b" :effect");
-    put_change(p, &scope, written, params.len(), effect, sheet);
-    sheet.put(b")\n");
-}
-
-/// Puts actions, each on a line of its own.
-pub(crate) fn put_actions(
-    p: &Pddl,
-    written: Option<Written>,
-    actions: &[ActionSchema],
-    sheet: &mut Sheet<'_>,
-)
-    requires measured { IfSome written (IsMeasured p.now) }
-    ensures { Wrote (actions_text p.now (range_of written) actions.now) sheet.old sheet.new }
-{
-    for action in actions {
-        put_action(p, written, action, sheet);
+    match written {
+        Some(written) => {
+            let depth = params.len();
+            put_written_effect(p, &scope, Instances { written, depth }, effect, sheet);
+        }
+        None => put_effect(p, &scope, effect, sheet),
     }
+    sheet.put(b")\n");
 }

@@ -1,5 +1,4 @@
 ghost use Rattle.std.specs.Prelude.{IfSome};
-ghost use Rattle.pddl_printer.specs.ActionLines.{action_condition};
 ghost use Rattle.pddl_printer.specs.Measured.{IsMeasured, range_of};
 ghost use Rattle.pddl_printer.specs.Splits.{split_action};
 ghost use Rattle.pddl_printer.specs.Texts.{action_text, parts_text};
@@ -33,25 +32,15 @@ pub fn put_split(p: &Pddl, written: Option<Written>, split: &Split<'_>, sheet: &
     ensures put { Wrote (action_text p.now (range_of written) (split_action split.now))
         sheet.old sheet.new }
 {
-    put_action_start(p, split.name, split.params, sheet);
-    put_conjunction(p, written, split, sheet);
-    put_action_end(p, written, split.params, split.eff, sheet);
-}
-
-/// Puts the condition behind a space.
-fn put_conjunction(p: &Pddl, written: Option<Written>, split: &Split<'_>, sheet: &mut Sheet<'_>)
-    requires measured { IfSome written (IsMeasured p.now) }
-    ensures { Wrote
-        (action_condition p.now split.now.params.now (range_of written) (split_action split.now).pre)
-        sheet.old sheet.new }
-{
     let scope = Scope::Within(&Scope::Empty, split.params);
     let depth = split.params.len();
+    put_action_start(p, split.name, split.params, sheet);
     sheet.put(b" (and");
     put_parts(p, &scope, written, depth, split.before, sheet);
     put_all_differ(p, split.params, split.spare, sheet);
     put_parts(p, &scope, written, depth, split.behind, sheet);
     sheet.put(b")");
+    put_action_end(p, written, split.params, split.eff, sheet);
 }
 
 /// Puts parts of a conjunction, each behind a space, as they are or with their quantifiers over the range written out.

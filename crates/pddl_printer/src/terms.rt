@@ -2,7 +2,7 @@ ghost use Rattle.std.specs.Prelude.{◌≡◌};
 ghost use Rattle.text_forms.specs.Words.{word_at};
 ghost use Rattle.pddl_printer.specs.Batches.{Added};
 ghost use Rattle.pddl_printer.specs.Scopes.{words_in_force};
-ghost use Rattle.pddl_printer.specs.Texts.{term_text, terms_text, applied_text, atom_text};
+ghost use Rattle.pddl_printer.specs.Texts.{applied_text, atom_text};
 
 use crate::batch::Batch;
 use crate::words::{name_word, object_word, predicate_word};
@@ -19,31 +19,6 @@ pub(crate) fn word_in_force<'a>(p: &'a Pddl, scope: &Scope<'_>, k: u32) -> &'a [
     }
 }
 
-/// Adds a term to a batch, behind a space.
-fn add_term(p: &Pddl, scope: &Scope<'_>, term: Term, batch: &mut Batch, sheet: &mut Sheet<'_>)
-    ensures { Added (term_text p.now scope.now term) batch.old batch.new sheet.old sheet.new }
-{
-    match term {
-        Term::Var(k) => {
-            batch.add(b" ?", sheet);
-            batch.add(word_in_force(p, scope, k), sheet);
-        }
-        Term::Obj(object) => {
-            batch.add(b" ", sheet);
-            batch.add(object_word(p, object as usize), sheet);
-        }
-    }
-}
-
-/// Adds terms to a batch, each behind a space.
-fn add_terms(p: &Pddl, scope: &Scope<'_>, terms: &[Term], batch: &mut Batch, sheet: &mut Sheet<'_>)
-    ensures { Added (terms_text p.now scope.now terms.now) batch.old batch.new sheet.old sheet.new }
-{
-    for term in terms {
-        add_term(p, scope, *term, batch, sheet);
-    }
-}
-
 /// Adds a word with terms to a batch, behind a space, as `(= ?x ?y)`.
 pub(crate) fn add_applied(
     p: &Pddl,
@@ -57,7 +32,18 @@ pub(crate) fn add_applied(
 {
     batch.add(b" (", sheet);
     batch.add(word, sheet);
-    add_terms(p, scope, terms, batch, sheet);
+    for term in terms {
+        match term {
+            Term::Var(k) => {
+                batch.add(b" ?", sheet);
+                batch.add(word_in_force(p, scope, *k), sheet);
+            }
+            Term::Obj(object) => {
+                batch.add(b" ", sheet);
+                batch.add(object_word(p, *object as usize), sheet);
+            }
+        }
+    }
     batch.add(b")", sheet);
 }
 
