@@ -1,5 +1,4 @@
 ghost use Rattle.std.specs.Prelude.{ℕ, ◌≡◌, ◌<◌, ◌+◌, ◌^◌, ◌++◌, IfOk, OnOk};
-ghost use Rattle.plan_model.specs.declared.options.Style.TheVariants.{Flat};
 ghost use Rattle.plan_model.specs.declared.terms.Term.TheVariants.{Var};
 ghost use Rattle.order_encoder.specs.NamedOrders as of;
 ghost use Rattle.order_encoder.specs.NamedOrders.{clears, Clears};
@@ -23,25 +22,11 @@ pub fn clearing(
     ensures effect { IfOk result (λ e. e ≡ of.clearing n.now slots depth style.now h) }
     ensures means { (i : ℕ) → h ≡ Var i → i < depth → IfOk result (Clears n.now slots depth i) }
 {
-    clearing_effect(alloc, n, slots, style, h, depth)
-}
-
-fn clearing_effect(
-    alloc: Global,
-    n: &OrderNames,
-    slots: u32,
-    style: &Style,
-    h: Term,
-    depth: u32,
-) -> Result<Effect, Memory>
-    requires slots { n.now.first_slot + slots < 2 ^ 32 }
-    ensures { IfOk result (λ e. e ≡ of.clearing n.now slots depth style.now h) }
-{
     match style {
         Style::Adl => clear_all(alloc, n, h, depth),
         Style::Flat => {
             let mut parts = List::new(alloc);
-            push_clears(alloc, n, slots, h, &mut parts)?;
+            push_clearing(alloc, n, slots, style, h, depth, &mut parts)?;
             Ok(Effect::And(parts))
         }
     }
@@ -62,32 +47,20 @@ pub fn push_clearing(
 {
     match style {
         Style::Adl => into.put(clear_all(alloc, n, h, depth)),
-        Style::Flat => push_clears(alloc, n, slots, h, into),
+        Style::Flat => {
+            for k in 0..slots {
+                into.put(clear_one(alloc, n, h, Term::Obj(n.first_slot + k)))?;
+            }
+            Ok(())
+        }
     }
 }
 
 fn clear_all(alloc: Global, n: &OrderNames, h: Term, depth: u32) -> Result<Effect, Memory>
     ensures { IfOk result (λ e. e ≡ of.clear_all n.now depth h) }
 {
-    let params = any_slot_params(alloc, n)?;
-    let part = clear_one(alloc, n, h, Term::Var(depth))?;
-    Ok(Effect::Forall(params, Boxed::new(alloc, part)?))
-}
-
-fn push_clears(
-    alloc: Global,
-    n: &OrderNames,
-    slots: u32,
-    h: Term,
-    into: &mut List<Effect>,
-) -> Result<(), Memory>
-    requires slots { n.now.first_slot + slots < 2 ^ 32 }
-    ensures { OnOk result (into.new ≡ into.old ++ clears n.now slots 0 Flat h) }
-{
-    for k in 0..slots {
-        into.put(clear_one(alloc, n, h, Term::Obj(n.first_slot + k)))?;
-    }
-    Ok(())
+    let part = Boxed::new(alloc, clear_one(alloc, n, h, Term::Var(depth))?)?;
+    Ok(Effect::Forall(any_slot_params(alloc, n)?, part))
 }
 
 /// The slot of `h` comes before that of `then` no more.

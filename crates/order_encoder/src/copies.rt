@@ -1,5 +1,4 @@
 ghost use Rattle.std.specs.Prelude.{◌≡◌, ◌<◌, ◌+◌, ◌^◌, ◌++◌, IfOk, OnOk};
-ghost use Rattle.plan_model.specs.declared.options.Style.TheVariants.{Flat};
 ghost use Rattle.order_encoder.specs.NamedOrders as of;
 ghost use Rattle.order_encoder.specs.NamedOrders.{copies, Copies, ForVariables};
 
@@ -24,26 +23,11 @@ pub fn copying(
     ensures effect { IfOk result (λ e. e ≡ of.copying n.now slots depth style.now h child) }
     ensures means { ForVariables depth h child (λ i j. IfOk result (Copies n.now slots depth i j)) }
 {
-    copying_effect(alloc, n, slots, style, h, child, depth)
-}
-
-fn copying_effect(
-    alloc: Global,
-    n: &OrderNames,
-    slots: u32,
-    style: &Style,
-    h: Term,
-    child: Term,
-    depth: u32,
-) -> Result<Effect, Memory>
-    requires slots { n.now.first_slot + slots < 2 ^ 32 }
-    ensures { IfOk result (λ e. e ≡ of.copying n.now slots depth style.now h child) }
-{
     match style {
         Style::Adl => copy_all(alloc, n, h, child, depth),
         Style::Flat => {
             let mut parts = List::new(alloc);
-            push_copies(alloc, n, slots, h, child, &mut parts)?;
+            push_copying(alloc, n, slots, style, h, child, depth, &mut parts)?;
             Ok(Effect::And(parts))
         }
     }
@@ -66,7 +50,12 @@ pub fn push_copying(
 {
     match style {
         Style::Adl => into.put(copy_all(alloc, n, h, child, depth)),
-        Style::Flat => push_copies(alloc, n, slots, h, child, into),
+        Style::Flat => {
+            for k in 0..slots {
+                into.put(copy_one(alloc, n, h, child, Term::Obj(n.first_slot + k)))?;
+            }
+            Ok(())
+        }
     }
 }
 
@@ -79,26 +68,8 @@ fn copy_all(
 ) -> Result<Effect, Memory>
     ensures { IfOk result (λ e. e ≡ of.copy_all n.now depth h child) }
 {
-    let params = any_slot_params(alloc, n)?;
-    let part = copy_one(alloc, n, h, child, Term::Var(depth))?;
-    Ok(Effect::Forall(params, Boxed::new(alloc, part)?))
-}
-
-fn push_copies(
-    alloc: Global,
-    n: &OrderNames,
-    slots: u32,
-    h: Term,
-    child: Term,
-    into: &mut List<Effect>,
-) -> Result<(), Memory>
-    requires slots { n.now.first_slot + slots < 2 ^ 32 }
-    ensures { OnOk result (into.new ≡ into.old ++ copies n.now slots 0 Flat h child) }
-{
-    for k in 0..slots {
-        into.put(copy_one(alloc, n, h, child, Term::Obj(n.first_slot + k)))?;
-    }
-    Ok(())
+    let part = Boxed::new(alloc, copy_one(alloc, n, h, child, Term::Var(depth))?)?;
+    Ok(Effect::Forall(any_slot_params(alloc, n)?, part))
 }
 
 /// Where the slot of `h` comes before that of `then`, so does the child's.
@@ -111,7 +82,6 @@ fn copy_one(
 ) -> Result<Effect, Memory>
     ensures { IfOk result (λ e. e ≡ of.one_copy n.now h child then) }
 {
-    let pair = before(alloc, n, h, then)?;
     let adds = Boxed::new(alloc, Effect::Add(before(alloc, n, child, then)?))?;
-    Ok(Effect::When(Formula::Holds(pair), adds))
+    Ok(Effect::When(Formula::Holds(before(alloc, n, h, then)?), adds))
 }

@@ -1,5 +1,4 @@
 ghost use Rattle.std.specs.Prelude.{ℕ, ◌≡◌, ◌<◌, ◌+◌, ◌^◌, ◌++◌, IfOk, OnOk};
-ghost use Rattle.plan_model.specs.declared.options.Style.TheVariants.{Flat};
 ghost use Rattle.plan_model.specs.declared.terms.Term.TheVariants.{Var};
 ghost use Rattle.order_encoder.specs.NamedOrders as of;
 ghost use Rattle.order_encoder.specs.NamedOrders.{waits, Waits};
@@ -24,25 +23,11 @@ pub fn waiting(
     ensures formula { IfOk result (λ f. f ≡ of.waiting n.now slots depth style.now h) }
     ensures means { (i : ℕ) → h ≡ Var i → i < depth → IfOk result (Waits n.now slots depth i) }
 {
-    waiting_formula(alloc, n, slots, style, h, depth)
-}
-
-fn waiting_formula(
-    alloc: Global,
-    n: &OrderNames,
-    slots: u32,
-    style: &Style,
-    h: Term,
-    depth: u32,
-) -> Result<Formula, Memory>
-    requires slots { n.now.first_slot + slots < 2 ^ 32 }
-    ensures { IfOk result (λ f. f ≡ of.waiting n.now slots depth style.now h) }
-{
     match style {
         Style::Adl => wait_for_all(alloc, n, h, depth),
         Style::Flat => {
             let mut parts = List::new(alloc);
-            push_waits(alloc, n, slots, h, &mut parts)?;
+            push_waiting(alloc, n, slots, style, h, depth, &mut parts)?;
             Ok(Formula::And(parts))
         }
     }
@@ -63,32 +48,20 @@ pub fn push_waiting(
 {
     match style {
         Style::Adl => into.put(wait_for_all(alloc, n, h, depth)),
-        Style::Flat => push_waits(alloc, n, slots, h, into),
+        Style::Flat => {
+            for k in 0..slots {
+                into.put(comes_not_before(alloc, n, Term::Obj(n.first_slot + k), h))?;
+            }
+            Ok(())
+        }
     }
 }
 
 fn wait_for_all(alloc: Global, n: &OrderNames, h: Term, depth: u32) -> Result<Formula, Memory>
     ensures { IfOk result (λ f. f ≡ of.wait_for_all n.now depth h) }
 {
-    let params = any_slot_params(alloc, n)?;
-    let part = comes_not_before(alloc, n, Term::Var(depth), h)?;
-    Ok(Formula::Forall(params, Boxed::new(alloc, part)?))
-}
-
-fn push_waits(
-    alloc: Global,
-    n: &OrderNames,
-    slots: u32,
-    h: Term,
-    into: &mut List<Formula>,
-) -> Result<(), Memory>
-    requires slots { n.now.first_slot + slots < 2 ^ 32 }
-    ensures { OnOk result (into.new ≡ into.old ++ waits n.now slots 0 Flat h) }
-{
-    for k in 0..slots {
-        into.put(comes_not_before(alloc, n, Term::Obj(n.first_slot + k), h))?;
-    }
-    Ok(())
+    let part = Boxed::new(alloc, comes_not_before(alloc, n, Term::Var(depth), h)?)?;
+    Ok(Formula::Forall(any_slot_params(alloc, n)?, part))
 }
 
 fn comes_not_before(alloc: Global, n: &OrderNames, first: Term, h: Term) -> Result<Formula, Memory>

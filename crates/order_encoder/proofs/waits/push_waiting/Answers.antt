@@ -1,0 +1,7 @@
+use Rattle.plan_model.specs.declared.terms.Term.TheVariants.{Obj}
+use Rattle.order_encoder.specs.NamedOrders as of
+use Rattle.order_encoder.proofs.NextSlot.{put_next}
+use Rattle.order_encoder.proofs.waits.push_waiting.Goals as goal
+
+pub loop-k-preserved : goal.loop-k-preserved
+loop-k-preserved c = put_next (λ o. of.one_wait c.args.n.now (Obj o) c.args.h) c.args.n.now.first_slot c.loop-k.k c.args.into.now c.loop-k.into c.put-in-loop-k.new.self c.comes_not_before.result c.loop-k.invariant c.comes_not_before.ensures c.in_ok-put-in-Flat.ensures.put
