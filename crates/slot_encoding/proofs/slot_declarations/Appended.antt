@@ -1,7 +1,6 @@
 -- Lists put behind one another.
-use Rattle.std.proofs.Common.{ℕ, ◌≡◌, ◌+◌, ◌<◌, List, [], ◌∷◌, ◌++◌, map, take, length, get_or, Result, IfOk, IsOkAnd, refl, ap, sym, ◌∙◌, append_assoc}
+use Rattle.std.proofs.Common.{ℕ, ◌≡◌, ◌+◌, ◌<◌, List, [], ◌∷◌, ◌++◌, map, take, length, get_or, ap, sym, ◌∙◌, append_assoc}
 use Rattle.std.proofs.lemmas.List.{map_more}
-use Rattle.order_encoder.proofs.NextSlot.{put_is}
 
 module _ {A : Type 0} where
   pub append_two : (o m n a b : List A) → m ≡ o ++ a → n ≡ m ++ b → n ≡ o ++ (a ++ b)
@@ -13,8 +12,3 @@ pub map_next : {X Y : Type 0} (f : X → Y) (xs : List X) (i : ℕ) (d : X) (old
 map_next f xs i d old now new y l e g h =
     h ∙ ap (λ z. z ++ y ∷ []) e ∙ append_assoc old (map f (take i xs)) (y ∷ [])
     ∙ ap (λ z. old ++ (map f (take i xs) ++ z ∷ [])) g ∙ ap (λ z. old ++ z) (sym (map_more f xs i d l))
-
--- the same where what is put may be want of memory
-pub map_put : {X Y M : Type 0} (f : X → Y) (xs : List X) (i : ℕ) (d : X) (old now new : List Y) (made : Result Y M)
-    → i < length xs → now ≡ old ++ map f (take i xs) → IfOk made (λ y. y ≡ f (get_or xs i d)) → IsOkAnd made (λ y. new ≡ now ++ y ∷ []) → new ≡ old ++ map f (take (i + 1) xs)
-map_put f xs i d old now new made l e g h = map_next f xs i d old now new (f (get_or xs i d)) l e refl (put_is now new made (f (get_or xs i d)) g h)

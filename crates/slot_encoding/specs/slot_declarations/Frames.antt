@@ -29,11 +29,6 @@ pub record AreNumbers (c : Compiled) (n : Numbers) : Type 0 where
   pub first_guard : n.first_guard ≡ spec.first_guard c
   pub few : length c.methods + length (checked c.methods) + length c.hddl.actions < 2 ^ 32
 
--- the predicates, with so many of checks, are few enough to have numbers, and the actions too
-pub record AreFew (c : Compiled) (checks : ℕ) : Type 0 where
-  pub predicates : length c.hddl.predicates + 3 + length c.hddl.tasks + length c.hddl.actions + checks < 2 ^ 32
-  pub actions : length c.methods + checks + length c.hddl.actions < 2 ^ 32
-
 -- the methods that have checks, and how many there are before each method
 pub record AreChecks (plans : List MethodPlan) (v : Checks) : Type 0 where
   pub methods : v.methods ≡ checked_from 0 plans

@@ -1,7 +1,5 @@
-ghost use Rattle.std.specs.Prelude.{◌≡◌, ◌<◌, ◌+◌, ◌^◌, ◌∷◌, [], ◌++◌, length, IfOk, OnOk};
-ghost use Rattle.slot_encoding.specs.EncodedNames as names;
-ghost use Rattle.order_encoder.specs.OrderNames as orders;
-ghost use Rattle.slot_encoding.specs.slot_declarations.Frames.{HasSourceWords, IsBasis, AreChecks, AreNumbers};
+ghost use Rattle.std.specs.Prelude.{◌≡◌, ◌∷◌, [], ◌++◌, length, IfOk, OnOk};
+ghost use Rattle.slot_encoding.specs.slot_declarations.Frames.{HasSourceWords, IsBasis, AreChecks};
 ghost use Rattle.slot_encoding.specs.slot_declarations.Pieces.{if_checked};
 
 use crate::slot_declarations::guards::guard_types;
@@ -59,10 +57,16 @@ pub fn basis_of(
 {
     let checks = checks_of(alloc, c.methods.as_slice())?;
     let numbers = numbers_of(c, checks.methods.len())?;
-    let order = order_of(c, printed, numbers.before, slots)?;
+    let first_slot = number(c.hddl.objects.len())?;
+    plus(first_slot, slots)?;
     Ok(Basis {
         numbers,
-        order,
+        order: OrderNames {
+            before: numbers.before,
+            slot_type: 1,
+            x: name_of(printed, b"htn_x"),
+            first_slot,
+        },
         guard_types: guard_types(alloc, c)?,
         checks,
     })
@@ -94,24 +98,4 @@ fn push_method(plan: &MethodPlan, checks: &mut Checks) -> Result<(), Memory>
     } else {
         Ok(())
     }
-}
-
-fn order_of(
-    c: &Compiled,
-    printed: &NameTable,
-    before: u32,
-    slots: u32,
-) -> Result<OrderNames, Memory>
-    requires { before ≡ names.before_predicate c.now }
-    ensures order { IfOk result (λ o. orders.numbers o ≡ names.order_numbers c.now printed.now 0) }
-    ensures room { IfOk result (λ o. o.first_slot + slots < 2 ^ 32) }
-{
-    let first_slot = number(c.hddl.objects.len())?;
-    plus(first_slot, slots)?;
-    Ok(OrderNames {
-        before,
-        slot_type: 1,
-        x: name_of(printed, b"htn_x"),
-        first_slot,
-    })
 }

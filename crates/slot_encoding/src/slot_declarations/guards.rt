@@ -1,14 +1,14 @@
-ghost use Rattle.std.specs.Prelude.{◌≡◌, ◌==◌, [], position, slice_index_or, IfOk, OnOk};
+ghost use Rattle.std.specs.Prelude.{◌≡◌, ◌==◌, [], position, IfOk, OnOk};
 ghost use Rattle.slot_encoding.specs.EncodedNames as spec;
 ghost use Rattle.slot_encoding.specs.slot_declarations.Frames.{IsFrame};
-ghost use Rattle.slot_encoding.specs.slot_declarations.Guards.{with_type, with_types};
+ghost use Rattle.slot_encoding.specs.slot_declarations.Guards.{with_type};
 ghost use Rattle.slot_encoding.specs.slot_declarations.Made as made;
 
 use crate::slot_declarations::frame::Frame;
 use crate::slot_declarations::numbers::plus;
 use crate::slot_declarations::words::{named, numbered_word, prefixed_word};
 use htn_base::{List, Memory, Name, Text, number};
-use plan_model::{Compiled, Guard, MethodPlan};
+use plan_model::Compiled;
 use std::alloc::Global;
 
 /// The types of the guards of all methods, each once, in order of first use; or want of memory.
@@ -18,18 +18,12 @@ pub fn guard_types(alloc: Global, c: &Compiled) -> Result<List<u32>, Memory>
     let methods = c.methods.as_slice();
     let mut types = List::new(alloc);
     for plan in methods {
-        push_types(plan.guards.as_slice(), &mut types)?;
+        let guards = plan.guards.as_slice();
+        for guard in guards {
+            push_type(guard.ty, &mut types)?;
+        }
     }
     Ok(types)
-}
-
-fn push_types(guards: &[Guard], types: &mut List<u32>) -> Result<(), Memory>
-    ensures { OnOk result (types.new ≡ with_types types.old guards.now) }
-{
-    for guard in guards {
-        push_type(guard.ty, types)?;
-    }
-    Ok(())
 }
 
 fn push_type(ty: u32, types: &mut List<u32>) -> Result<(), Memory>
@@ -54,21 +48,13 @@ pub(crate) fn guard_name(alloc: Global, frame: &Frame<'_>, ty: u32) -> Result<Na
 pub(crate) fn guard_word(alloc: Global, c: &Compiled, ty: u32) -> Result<Text, Memory>
     ensures { IfOk result (λ text. text ≡ spec.guard_word c.now [] 0 ty) }
 {
-    let count = c.hddl.types.names.len();
-    if (ty as usize) < count {
-        prefixed_word(alloc, &c.hddl.names, b"htn_is_", type_name(c, ty))
-    } else {
-        let place = number(ty as usize - count)?;
-        numbered_word(alloc, b"htn_in_", plus(place, 1)?)
-    }
-}
-
-fn type_name(c: &Compiled, ty: u32) -> Name
-    ensures { result ≡ slice_index_or c.now.hddl.types.names ty (record { number = 0 }) }
-{
-    match c.hddl.types.names.get(ty as usize) {
-        Some(name) => *name,
-        None => Name { number: 0 },
+    let names = c.hddl.types.names.as_slice();
+    match names.get(ty as usize) {
+        Some(name) => prefixed_word(alloc, &c.hddl.names, b"htn_is_", *name),
+        None => {
+            let place = number(ty as usize - names.len())?;
+            numbered_word(alloc, b"htn_in_", plus(place, 1)?)
+        }
     }
 }
 

@@ -1,6 +1,6 @@
-ghost use Rattle.std.specs.Prelude.{◌≡◌, ◌+◌, true, length, IfOk};
+ghost use Rattle.std.specs.Prelude.{◌≡◌, ◌+◌, length, IfOk};
 ghost use Rattle.slot_encoding.specs.EncodedNames as spec;
-ghost use Rattle.slot_encoding.specs.slot_declarations.Frames.{AreNumbers, AreFew};
+ghost use Rattle.slot_encoding.specs.slot_declarations.Frames.{AreNumbers};
 ghost use Rattle.slot_encoding.specs.slot_declarations.Pieces.{checked};
 
 use htn_base::Memory;
@@ -29,39 +29,23 @@ pub fn plus(a: u32, b: u32) -> Result<u32, Memory>
     }
 }
 
-/// The numbers in a problem with so many checks.
+/// The numbers in a problem with so many checks, if the predicates are few enough to have numbers, and the actions too.
 pub(crate) fn numbers_of(c: &Compiled, checks: usize) -> Result<Numbers, Memory>
     requires { checks ≡ length (checked c.now.methods) }
     ensures { IfOk result (AreNumbers c.now) }
 {
-    if are_few(c, checks) {
-        Ok(few_numbers(c, checks))
-    } else {
-        Err(Memory)
-    }
-}
-
-/// Whether the predicates are few enough to have numbers, and the actions too.
-fn are_few(c: &Compiled, checks: usize) -> bool
-    ensures { result ≡ true → AreFew c.now checks }
-{
     let works = c.hddl.actions.len().saturating_add(checks);
     let tasks = c.hddl.predicates.len().saturating_add(c.hddl.tasks.len());
-    let most = 0xffff_ffff;
-    tasks.saturating_add(3).saturating_add(works) <= most
-        && c.methods.len().saturating_add(works) <= most
-}
-
-fn few_numbers(c: &Compiled, checks: usize) -> Numbers
-    requires checks { checks ≡ length (checked c.now.methods) }
-    requires few { AreFew c.now checks }
-    ensures { AreNumbers c.now result }
-{
+    let predicates = tasks.saturating_add(3).saturating_add(works);
+    let actions = c.methods.len().saturating_add(works);
+    if predicates.max(actions) > 0xffff_ffff {
+        return Err(Memory);
+    }
     let top = c.hddl.predicates.len() as u32;
     let first_task = top + 3;
     let first_action = first_task + c.hddl.tasks.len() as u32;
     let first_check = first_action + c.hddl.actions.len() as u32;
-    Numbers {
+    Ok(Numbers {
         top,
         free: top + 1,
         before: top + 2,
@@ -69,7 +53,7 @@ fn few_numbers(c: &Compiled, checks: usize) -> Numbers
         first_action,
         first_check,
         first_guard: first_check + checks as u32,
-    }
+    })
 }
 
 /// The predicate of a task. The top task is the one after the last.

@@ -1,6 +1,5 @@
-ghost use Rattle.std.specs.Prelude.{◌≡◌, ◌++◌, true, map, IfOk, OnOk};
+ghost use Rattle.std.specs.Prelude.{◌≡◌, true, IfOk};
 ghost use Rattle.htn_base.specs.Escapes.{slot_word};
-ghost use Rattle.plan_model.specs.task_networks.Spelling.{numbers};
 ghost use Rattle.slot_encoding.specs.SourceParts as parts;
 ghost use Rattle.slot_encoding.specs.slot_declarations.Frames.{IsFrame};
 ghost use Rattle.slot_encoding.specs.slot_declarations.Made as made;
@@ -19,19 +18,7 @@ pub(crate) fn encoded_objects(alloc: Global, frame: &Frame<'_>) -> Result<List<O
     ensures { IfOk result (λ os. os ≡ made.objects frame.now) }
 {
     let mut into = List::new(alloc);
-    push_objects(frame, frame.compiled.hddl.objects.as_slice(), &mut into)?;
-    push_slots(alloc, frame, frame.slots, &mut into)?;
-    Ok(into)
-}
-
-fn push_objects(
-    frame: &Frame<'_>,
-    objects: &[Object],
-    into: &mut List<Object>,
-) -> Result<(), Memory>
-    requires { IsFrame frame.now }
-    ensures { OnOk result (into.new ≡ into.old ++ map (made.object frame.now) objects.now) }
-{
+    let objects = frame.compiled.hddl.objects.as_slice();
     for object in objects {
         into.push(Object {
             name: renamed(frame, object.name),
@@ -39,19 +26,8 @@ fn push_objects(
             constant: true,
         })?;
     }
-    Ok(())
-}
-
-fn push_slots(
-    alloc: Global,
-    frame: &Frame<'_>,
-    slots: u32,
-    into: &mut List<Object>,
-) -> Result<(), Memory>
-    ensures { OnOk result (into.new ≡ into.old ++ map (made.slot frame.now) (numbers 1 slots)) }
-{
     let first = named(frame, b"htn_s1").number;
-    for k in 0..slots {
+    for k in 0..frame.slots {
         let expected = Name {
             number: first.saturating_add(k),
         };
@@ -61,7 +37,7 @@ fn push_slots(
             constant: true,
         })?;
     }
-    Ok(())
+    Ok(into)
 }
 
 /// The name of a slot's word. The words of slots are put into a table one behind another: where the expected name is that of

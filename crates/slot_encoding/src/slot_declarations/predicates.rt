@@ -1,4 +1,4 @@
-ghost use Rattle.std.specs.Prelude.{◌≡◌, ◌++◌, map, IfOk, OnOk};
+ghost use Rattle.std.specs.Prelude.{◌≡◌, ◌++◌, IfOk, OnOk};
 ghost use Rattle.slot_encoding.specs.EncodedNames as spec;
 ghost use Rattle.slot_encoding.specs.slot_declarations.Frames.{IsFrame};
 ghost use Rattle.slot_encoding.specs.slot_declarations.Made as made;
@@ -8,7 +8,7 @@ use crate::slot_declarations::guards::guard_name;
 use crate::slot_declarations::params::source_params;
 use crate::slot_declarations::words::{named, numbered, prefixed, renamed};
 use htn_base::{List, Memory, Name, number};
-use plan_model::{ActionSchema, MethodPlan, Param, Predicate, TaskSchema};
+use plan_model::{MethodPlan, Param, Predicate};
 use std::alloc::Global;
 
 /// The predicates: the source's, three of the slots, and those of tasks, actions, checks and guards.
@@ -31,9 +31,21 @@ fn push_front(alloc: Global, frame: &Frame<'_>, into: &mut List<Predicate>) -> R
     ensures { OnOk result (into.new ≡ into.old ++ made.front_predicates frame.now) }
 {
     let hddl = &frame.compiled.hddl;
-    push_source(alloc, frame, hddl.predicates.as_slice(), into)?;
-    push_generated(alloc, frame, into)?;
-    push_tasks(alloc, frame, hddl.tasks.as_slice(), into)
+    let predicates = hddl.predicates.as_slice();
+    for predicate in predicates {
+        into.push(Predicate {
+            name: renamed(frame, predicate.name),
+            params: source_params(alloc, frame, predicate.params.as_slice())?,
+        })?;
+    }
+    into.put(of_slot(alloc, frame, b"htn_top"))?;
+    into.put(of_slot(alloc, frame, b"htn_free"))?;
+    into.put(of_pair(alloc, frame))?;
+    let tasks = hddl.tasks.as_slice();
+    for task in tasks {
+        into.put(held(alloc, frame, b"htn_t_", task.name, task.params.len()))?;
+    }
+    Ok(())
 }
 
 /// Puts the predicates of actions, checks and guards at the end.
@@ -42,39 +54,19 @@ fn push_works(alloc: Global, frame: &Frame<'_>, into: &mut List<Predicate>) -> R
     ensures { OnOk result (into.new ≡ into.old ++ made.work_predicates frame.now) }
 {
     let c = frame.compiled;
-    push_actions(alloc, frame, c.hddl.actions.as_slice(), into)?;
-    push_checks(alloc, frame, c.methods.as_slice(), into)?;
-    push_guards(alloc, frame, frame.basis.guard_types.as_slice(), into)
-}
-
-fn push_source(
-    alloc: Global,
-    frame: &Frame<'_>,
-    predicates: &[Predicate],
-    into: &mut List<Predicate>,
-) -> Result<(), Memory>
-    requires { IsFrame frame.now }
-    ensures { OnOk result (into.new ≡ into.old ++ map (made.predicate frame.now) predicates.now) }
-{
-    for predicate in predicates {
-        into.push(Predicate {
-            name: renamed(frame, predicate.name),
-            params: source_params(alloc, frame, predicate.params.as_slice())?,
-        })?;
+    let actions = c.hddl.actions.as_slice();
+    for action in actions {
+        into.put(held(alloc, frame, b"htn_a_", action.name, action.params.len()))?;
+    }
+    let methods = c.methods.as_slice();
+    for plan in methods {
+        push_check(alloc, frame, plan, into)?;
+    }
+    let types = frame.basis.guard_types.as_slice();
+    for ty in types {
+        into.put(guard_tested(alloc, frame, *ty))?;
     }
     Ok(())
-}
-
-fn push_generated(
-    alloc: Global,
-    frame: &Frame<'_>,
-    into: &mut List<Predicate>,
-) -> Result<(), Memory>
-    ensures { OnOk result (into.new ≡ into.old ++ made.slot_predicates frame.now) }
-{
-    into.put(of_slot(alloc, frame, b"htn_top"))?;
-    into.put(of_slot(alloc, frame, b"htn_free"))?;
-    into.put(of_pair(alloc, frame))
 }
 
 fn of_slot(alloc: Global, frame: &Frame<'_>, word: &[u8]) -> Result<Predicate, Memory>
@@ -105,48 +97,6 @@ pub fn slot_param(name: Name) -> Param
     ensures { result ≡ record { name = name; ty = spec.slot_type } }
 {
     Param { name, ty: 1 }
-}
-
-fn push_tasks(
-    alloc: Global,
-    frame: &Frame<'_>,
-    tasks: &[TaskSchema],
-    into: &mut List<Predicate>,
-) -> Result<(), Memory>
-    ensures { OnOk result (into.new ≡ into.old ++ map (made.task_held frame.now) tasks.now) }
-{
-    for task in tasks {
-        into.put(held(alloc, frame, b"htn_t_", task.name, task.params.len()))?;
-    }
-    Ok(())
-}
-
-fn push_actions(
-    alloc: Global,
-    frame: &Frame<'_>,
-    actions: &[ActionSchema],
-    into: &mut List<Predicate>,
-) -> Result<(), Memory>
-    ensures { OnOk result (into.new ≡ into.old ++ map (made.action_held frame.now) actions.now) }
-{
-    for action in actions {
-        into.put(held(alloc, frame, b"htn_a_", action.name, action.params.len()))?;
-    }
-    Ok(())
-}
-
-fn push_checks(
-    alloc: Global,
-    frame: &Frame<'_>,
-    methods: &[MethodPlan],
-    into: &mut List<Predicate>,
-) -> Result<(), Memory>
-    ensures { OnOk result (into.new ≡ into.old ++ made.checks_held frame.now methods.now) }
-{
-    for plan in methods {
-        push_check(alloc, frame, plan, into)?;
-    }
-    Ok(())
 }
 
 fn push_check(
@@ -188,22 +138,14 @@ fn held(
     Ok(Predicate { name, params })
 }
 
-fn push_guards(
-    alloc: Global,
-    frame: &Frame<'_>,
-    types: &[u32],
-    into: &mut List<Predicate>,
-) -> Result<(), Memory>
-    ensures { OnOk result (into.new ≡ into.old ++ map (made.guard_tested frame.now) types.now) }
+fn guard_tested(alloc: Global, frame: &Frame<'_>, ty: u32) -> Result<Predicate, Memory>
+    ensures { IfOk result (λ p. p ≡ made.guard_tested frame.now ty) }
 {
-    for ty in types {
-        let name = guard_name(alloc, frame, *ty)?;
-        let mut params = List::new(alloc);
-        params.push(Param {
-            name: named(frame, b"htn_a1"),
-            ty: 2,
-        })?;
-        into.push(Predicate { name, params })?;
-    }
-    Ok(())
+    let name = guard_name(alloc, frame, ty)?;
+    let mut params = List::new(alloc);
+    params.push(Param {
+        name: named(frame, b"htn_a1"),
+        ty: 2,
+    })?;
+    Ok(Predicate { name, params })
 }

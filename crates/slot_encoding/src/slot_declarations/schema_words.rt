@@ -77,18 +77,8 @@ pub(crate) fn put_guards(alloc: Global, c: &Compiled, names: &mut NameTable) -> 
     ensures { OnOk result
         (Gains (map (guard_word c.now [] 0) (guard_types c.now)) names.old names.new) }
 {
-    let types = guard_types(alloc, c)?;
-    put_guard_words(alloc, c, types.as_slice(), names)
-}
-
-fn put_guard_words(
-    alloc: Global,
-    c: &Compiled,
-    types: &[u32],
-    names: &mut NameTable,
-) -> Result<(), Memory>
-    ensures { OnOk result (Gains (map (guard_word c.now [] 0) types.now) names.old names.new) }
-{
+    let guarded = guard_types(alloc, c)?;
+    let types = guarded.as_slice();
     for ty in types {
         let word = guard_word(alloc, c, *ty)?;
         put(word.as_slice(), names)?;
@@ -110,18 +100,30 @@ pub(crate) fn put_numbers(alloc: Global, c: &Compiled, names: &mut NameTable) ->
 fn most_params(c: &Compiled) -> usize
     ensures { result ≡ spec.most_params c.now }
 {
-    let tasks = c.hddl.tasks.as_slice().iter();
-    let actions = c.hddl.actions.as_slice().iter();
-    let methods = c.methods.as_slice().iter();
-    let of_tasks = tasks.fold(0, |most, task| most.max(task.params.len()));
-    let of_actions = actions.fold(0, |most, action| most.max(action.params.len()));
-    let of_methods = methods.fold(0, |most, plan| most.max(plan.schema.params.len()));
+    let tasks = c.hddl.tasks.as_slice();
+    let mut of_tasks = 0;
+    for task in tasks {
+        of_tasks = of_tasks.max(task.params.len());
+    }
+    let actions = c.hddl.actions.as_slice();
+    let mut of_actions = 0;
+    for action in actions {
+        of_actions = of_actions.max(action.params.len());
+    }
+    let methods = c.methods.as_slice();
+    let mut of_methods = 0;
+    for plan in methods {
+        of_methods = of_methods.max(plan.schema.params.len());
+    }
     of_tasks.max(of_actions).max(of_methods)
 }
 
 fn most_children(methods: &[MethodPlan]) -> usize
     ensures { result ≡ spec.most_children methods.now }
 {
-    let methods = methods.iter();
-    methods.fold(0, |most, plan| most.max(plan.schema.children.len()))
+    let mut most = 0;
+    for plan in methods {
+        most = most.max(plan.schema.children.len());
+    }
+    most
 }

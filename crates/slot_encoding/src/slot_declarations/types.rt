@@ -1,6 +1,6 @@
-ghost use Rattle.std.specs.Prelude.{◌≡◌, ◌++◌, map, IfOk, OnOk};
+ghost use Rattle.std.specs.Prelude.{◌≡◌, map, IfOk};
 ghost use Rattle.slot_encoding.specs.SourceParts as parts;
-ghost use Rattle.slot_encoding.specs.slot_declarations.Pieces.{printed_parent, printed_parents};
+ghost use Rattle.slot_encoding.specs.slot_declarations.Pieces.{printed_parents};
 ghost use Rattle.slot_encoding.specs.slot_declarations.Frames.{IsFrame};
 ghost use Rattle.slot_encoding.specs.slot_declarations.Made as made;
 
@@ -43,19 +43,12 @@ fn type_names(alloc: Global, frame: &Frame<'_>, names: &[Name]) -> Result<List<N
     into.push(named(frame, b"htn_slot"))?;
     into.push(named(frame, b"htn_object"))?;
     if !names.is_empty() {
-        push_names(frame, &names[1..], &mut into)?;
+        let later = &names[1..];
+        for name in later {
+            into.push(renamed(frame, *name))?;
+        }
     }
     Ok(into)
-}
-
-fn push_names(frame: &Frame<'_>, names: &[Name], into: &mut List<Name>) -> Result<(), Memory>
-    requires { IsFrame frame.now }
-    ensures { OnOk result (into.new ≡ into.old ++ map (made.renamed frame.now) names.now) }
-{
-    for name in names {
-        into.push(renamed(frame, *name))?;
-    }
-    Ok(())
 }
 
 fn parents(alloc: Global, pairs: &[Parent]) -> Result<List<Parent>, Memory>
@@ -84,17 +77,12 @@ fn unions(alloc: Global, unions: &[List<u32>]) -> Result<List<List<u32>>, Memory
 {
     let mut into = List::new(alloc);
     for types in unions {
-        into.put(union(alloc, types.as_slice()))?;
-    }
-    Ok(into)
-}
-
-fn union(alloc: Global, types: &[u32]) -> Result<List<u32>, Memory>
-    ensures { IfOk result (λ ts. ts ≡ map parts.retyped types.now) }
-{
-    let mut into = List::new(alloc);
-    for ty in types {
-        into.put(retyped(*ty))?;
+        let types = types.as_slice();
+        let mut union = List::new(alloc);
+        for ty in types {
+            union.put(retyped(*ty))?;
+        }
+        into.push(union)?;
     }
     Ok(into)
 }

@@ -1,10 +1,9 @@
-ghost use Rattle.std.specs.Prelude.{◌≡◌, [], ◌∷◌, ◌++◌, IfOk, OnOk};
-ghost use Rattle.htn_base.specs.Table.{with_word};
+ghost use Rattle.std.specs.Prelude.{[], ◌∷◌, ◌++◌, IfOk, OnOk};
 ghost use Rattle.htn_base.specs.Words.{folded, IsFolded};
 ghost use Rattle.slot_encoding.specs.SourceParts as parts;
 ghost use Rattle.slot_encoding.specs.EncodedWords as spec;
 ghost use Rattle.slot_encoding.specs.slot_declarations.Frames.{HasSourceWords};
-ghost use Rattle.slot_encoding.specs.slot_declarations.Vocabulary.{Gains, generated_words, single_words};
+ghost use Rattle.slot_encoding.specs.slot_declarations.Vocabulary.{Gains, generated_words};
 
 use crate::slot_declarations::schema_words::{
     put_actions, put_guards, put_methods, put_numbers, put_tasks,
@@ -13,6 +12,21 @@ use crate::slot_declarations::words::{own_word, prefixed_word, spell_numbered};
 use htn_base::{Memory, Name, NameTable, WordList, number};
 use plan_model::Compiled;
 use std::alloc::Global;
+
+/// The words that every printed problem has: those of types, of variables, and of the predicates of slots and the top method's
+/// action.
+const SINGLE_WORDS: &[&[u8]] = &[
+    b"object",
+    b"htn_slot",
+    b"htn_object",
+    b"htn_h",
+    b"htn_x",
+    b"htn_a1",
+    b"htn_top",
+    b"htn_free",
+    b"htn_before",
+    b"htn_start",
+];
 
 /// The words of the printed problem with so many slots, in a table of their own: first those of the source's names, each with
 /// the number that the name has, and behind them the generated ones.
@@ -32,24 +46,11 @@ fn source_words(alloc: Global, source: &WordList) -> Result<NameTable, Memory>
     let count = number(source.len())?;
     let mut names = NameTable::new(alloc);
     for k in 0..count {
-        put_own(alloc, source, Name { number: k }, &mut names)?;
+        let word = own_word(alloc, source, Name { number: k })?;
+        names.intern(word.as_slice())?;
     }
     put(b"htn_u_", &mut names)?;
     Ok(names)
-}
-
-/// Puts the printed word of a source name into the table.
-fn put_own(
-    alloc: Global,
-    source: &WordList,
-    name: Name,
-    names: &mut NameTable,
-) -> Result<(), Memory>
-    ensures { OnOk result (names.new ≡ with_word names.old (parts.source_word source.now name)) }
-{
-    let word = own_word(alloc, source, name)?;
-    names.intern(word.as_slice())?;
-    Ok(())
 }
 
 /// Puts a word into the table. A full table is answered as want of memory.
@@ -104,28 +105,14 @@ fn put_generated(
     ensures { OnOk result (Gains (generated_words c.now slots) names.old names.new) }
 {
     let source = &c.hddl.names;
-    put_single(names)?;
+    let words = SINGLE_WORDS;
+    for word in words {
+        put(word, names)?;
+    }
     put_numbered(alloc, b"htn_s", slots, names)?;
     put_tasks(alloc, source, c.hddl.tasks.as_slice(), names)?;
     put_actions(alloc, source, c.hddl.actions.as_slice(), names)?;
     put_methods(alloc, source, c.methods.as_slice(), names)?;
     put_guards(alloc, c, names)?;
     put_numbers(alloc, c, names)
-}
-
-/// Puts the words that every printed problem has into the table: those of types, of variables, and of the predicates of slots
-/// and the top method's action.
-fn put_single(names: &mut NameTable) -> Result<(), Memory>
-    ensures { OnOk result (Gains single_words names.old names.new) }
-{
-    put(b"object", names)?;
-    put(b"htn_slot", names)?;
-    put(b"htn_object", names)?;
-    put(b"htn_h", names)?;
-    put(b"htn_x", names)?;
-    put(b"htn_a1", names)?;
-    put(b"htn_top", names)?;
-    put(b"htn_free", names)?;
-    put(b"htn_before", names)?;
-    put(b"htn_start", names)
 }

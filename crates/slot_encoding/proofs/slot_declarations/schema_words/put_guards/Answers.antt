@@ -1,7 +1,12 @@
-use Rattle.std.proofs.Common.{map, [], ap, ◌∙◌}
+use Rattle.std.proofs.Common.{ℕ, List, [], ◌∷◌, get_or, ap, ◌∙◌}
+use Rattle.htn_base.specs.Words.{folded}
 use Rattle.slot_encoding.specs.EncodedNames.{guard_word}
-use Rattle.slot_encoding.proofs.slot_declarations.Gained.{ok-of}
+use Rattle.slot_encoding.proofs.slot_declarations.FoldedWords.{guard-folded}
+use Rattle.slot_encoding.proofs.slot_declarations.Gained.{gains-of, gains-next_word}
 use Rattle.slot_encoding.proofs.slot_declarations.schema_words.put_guards.Goals as goal
 
-pub returns : goal.returns
-returns c = ok-of c.put_guard_words.result _ _ c.args.names.now c.put_guard_words.new.names (ap (map (guard_word c.args.c.now [] 0)) (c.as_slice.ensures.items ∙ c.in_ok-types.ensures)) c.put_guard_words.ensures
+pub loop-ty-preserved : goal.loop-ty-preserved
+loop-ty-preserved c =
+    let types = c.as_slice-types.result.now in
+    gains-next_word (guard_word c.args.c.now [] 0) types c.loop-ty.ty-index 0 c.loop-ty-test.true c.loop-ty.invariant
+    (gains-of (ap (λ (w : List ℕ). folded w ∷ []) (c.as_slice.ensures.bytes ∙ c.in_ok-word.ensures) ∙ ap (λ (w : List ℕ). w ∷ []) (guard-folded c.args.c.now (get_or types c.loop-ty.ty-index 0))) c.in_ok-put.ensures)
