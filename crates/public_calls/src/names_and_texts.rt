@@ -1,8 +1,8 @@
 //! Each call that may want memory is made once with ample memory, and its answer compared.
 
 use htn_base::{
-    Boxed, List, Memory, Name, NameTable, Text, esc, is_name, is_plain, is_reserved, number,
-    slot_name, slot_number,
+    Boxed, List, Memory, Name, NameTable, Text, esc, is_name, is_plain, is_reserved_in_any_case,
+    number, slot_name, slot_number,
 };
 use std::alloc::Global;
 
@@ -145,8 +145,9 @@ fn are_sorted_out() -> bool {
     let names = is_name(b"Truck-1") && is_name(b"andy") && is_name(b"12");
     let others = is_name(b"") || is_name(b"?x") || is_name(b":htn") || is_name(b"FORALL");
     let plain = is_plain(b"go-to_2") && !is_plain(b"htn_free") && !is_plain(b"2nd");
-    let reserved = is_reserved(b"either") && !is_reserved(b"Either");
-    names && !others && plain && reserved
+    let reserved = is_reserved_in_any_case(b"either") && is_reserved_in_any_case(b"Either");
+    let free = !is_reserved_in_any_case(b"neither");
+    names && !others && plain && reserved && free
 }
 
 #[test]

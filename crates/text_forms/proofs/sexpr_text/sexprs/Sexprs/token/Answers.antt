@@ -12,7 +12,7 @@ returns-in_err-piece-in-Marks-clause-token c =
     let text = c.self.inside.source.now in
     ap (option_map token_seen) c.from_residual-in_err-piece-in-Marks.ensures
     ∙ subst (λ t. None ≡ slice_get (tokens t) c.args.i) c.self.view_is
-        (piece_here text c.args.i c.in_ok-place_of-in-Marks.field-0 None c.in_ok-place_of-in-Marks.ensures.place c.in_err-piece-in-Marks.ensures.tokens)
+    (piece_here text c.args.i c.in_ok-place_of-in-Marks.field-0 None c.in_ok-place_of-in-Marks.ensures.place c.in_err-piece-in-Marks.ensures.tokens)
 
 pub returns-clause-token : goal.returns-clause-token
 returns-clause-token c =
