@@ -1,9 +1,9 @@
-ghost use Rattle.std.specs.Prelude.{◌≡◌, ◌≤◌, length, IfOk, IfErr};
+ghost use Rattle.std.specs.Prelude.{◌≡◌, IfOk, IfErr};
 ghost use Rattle.outside_io.specs.Sink.{WriteTakes, WriteRefused};
 ghost use Rattle.outside_io.specs.Untold.{counted_write, untold_sink};
 
 use crate::sink::{Sink, WriteError};
-use std::io::{self, ErrorKind, Write};
+use std::io::{ErrorKind, Write};
 use std::marker::Model;
 
 #[derive(Clone, Copy)]
@@ -55,15 +55,6 @@ impl StdSink {
             refused: 0,
         }
     }
-
-    fn write_once(&self, piece: &[u8]) -> io::Result<usize>
-        ensures { IfOk result (λ count. count ≤ length piece.now) }
-    {
-        match self.stream {
-            Stream::Output => self.runtime.stdout().write(piece),
-            Stream::Error => self.runtime.stderr().write(piece),
-        }
-    }
 }
 
 impl Sink for StdSink {
@@ -74,7 +65,11 @@ impl Sink for StdSink {
         ensures err { IfErr result (WriteRefused self.old self.new) }
         ensures counted { IfErr result (λ error. self.new ≡ counted_write self.old error) }
     {
-        match self.write_once(piece) {
+        let written = match self.stream {
+            Stream::Output => self.runtime.stdout().write(piece),
+            Stream::Error => self.runtime.stderr().write(piece),
+        };
+        match written {
             Ok(count) if 0 < count || piece.is_empty() => Ok(count),
             Err(error) if error.kind() == ErrorKind::OutOfMemory => {
                 self.refused = self.refused.saturating_add(1);

@@ -34,7 +34,7 @@ pub(crate) fn is_numeral(word: &str) -> bool
 fn are_digits(bytes: &[u8]) -> bool
     ensures { result ≡ list_all is_ascii_digit bytes.now }
 {
-    bytes.iter().all(|byte| byte.is_ascii_digit())
+    bytes.iter().all(u8::is_ascii_digit)
 }
 
 fn is_zero(word: &str) -> bool

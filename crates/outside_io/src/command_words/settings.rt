@@ -1,6 +1,6 @@
 ghost use Rattle.std.specs.Prelude.{◌≡◌, ◌↔◌, ◌<◌, ◌≤◌, ◌∷◌, length, IsTrue, IfSome, IfNone};
 ghost use Rattle.outside_io.specs.command_words.Names.{words_of};
-ghost use Rattle.outside_io.specs.command_words.Options.{Adds, CannotAdd, Choose, Chosen, Sets, SetsBound, SetsChecks, SetsChecksAlone, SetsStyle, checks_word, chosen_of, nothing_chosen, style_word};
+ghost use Rattle.outside_io.specs.command_words.Options.{Adds, CannotAdd, Choose, Chosen, Sets, SetsBound, SetsChecks, SetsChecksAlone, SetsStyle, chosen_of, nothing_chosen};
 
 use crate::command_words::bounds::is_numeral;
 use plan_model::{Checks, Style};
@@ -74,8 +74,7 @@ impl<'a> Settings<'a> {
         }
         Some(Settings {
             bound: Some(value),
-            style: self.style,
-            checks: self.checks,
+            ..self
         })
     }
 
@@ -83,14 +82,19 @@ impl<'a> Settings<'a> {
         ensures set { IfSome result (Adds (SetsStyle value.now) self.entry) }
         ensures other { IfNone result (CannotAdd (SetsStyle value.now) self.entry) }
     {
+        let style = if value == "adl" {
+            Style::Adl
+        } else if value == "flat" {
+            Style::Flat
+        } else {
+            return None;
+        };
         if self.style.is_some() {
             return None;
         }
-        let style = style_of(value)?;
         Some(Settings {
-            bound: self.bound,
             style: Some(style),
-            checks: self.checks,
+            ..self
         })
     }
 
@@ -98,14 +102,19 @@ impl<'a> Settings<'a> {
         ensures set { IfSome result (Adds (SetsChecks value.now) self.entry) }
         ensures other { IfNone result (CannotAdd (SetsChecks value.now) self.entry) }
     {
+        let checks = if value == "leaf" {
+            Checks::Leaf
+        } else if value == "atonce" {
+            Checks::AtOnce
+        } else {
+            return None;
+        };
         if self.checks.is_some() {
             return None;
         }
-        let checks = checks_of(value)?;
         Some(Settings {
-            bound: self.bound,
-            style: self.style,
             checks: Some(checks),
+            ..self
         })
     }
 }
@@ -138,30 +147,4 @@ fn is_option(word: &str, option: &str) -> bool
     ensures { IsTrue result ↔ (word.now ≡ option.now) }
 {
     word == option
-}
-
-fn style_of(word: &str) -> Option<Style>
-    ensures spelled { IfSome result (λ style. word.now ≡ style_word style) }
-    ensures other { IfNone result ((style : Style) → word.now ≡ style_word style → ⊥) }
-{
-    if word == "adl" {
-        Some(Style::Adl)
-    } else if word == "flat" {
-        Some(Style::Flat)
-    } else {
-        None
-    }
-}
-
-fn checks_of(word: &str) -> Option<Checks>
-    ensures spelled { IfSome result (λ checks. word.now ≡ checks_word checks) }
-    ensures other { IfNone result ((checks : Checks) → word.now ≡ checks_word checks → ⊥) }
-{
-    if word == "leaf" {
-        Some(Checks::Leaf)
-    } else if word == "atonce" {
-        Some(Checks::AtOnce)
-    } else {
-        None
-    }
 }
