@@ -7,6 +7,7 @@ pub mod Items
 pub mod Behind
 pub mod Steps
 pub mod EffectSteps
+pub mod Listing
 pub mod ListSteps
 pub mod Marking
 pub mod Coding

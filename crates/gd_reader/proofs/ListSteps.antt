@@ -1,5 +1,5 @@
 -- Steps through typed lists: front is what is done, pending what waits for its type.
-use Rattle.std.proofs.Common.{◌≡◌, ℕ, Bool, true, false, Ok, Err, Result, List, [], ◌∷◌, ◌++◌, map, Some, None, refl, sym, ◌∙◌, ap, subst, append_assoc}
+use Rattle.std.proofs.Common.{◌≡◌, ◌<◌, ◌≤◌, ℕ, Bool, length, arith, true, false, Ok, Err, Result, List, [], ◌∷◌, ◌++◌, map, Some, None, refl, sym, ◌∙◌, ap, subst, append_assoc}
 use Rattle.std.proofs.lemmas.List.{append-nil, map-append}
 use Rattle.text_forms.specs.Placed.{Placed, cut, close, word, list}
 use Rattle.text_forms.specs.Words.{Word}
@@ -8,11 +8,10 @@ use Rattle.gd_reader.specs.declared.stop.Failure.TheVariants as failures
 use Rattle.gd_reader.specs.declared.stop.Stop.{Stop}
 use Rattle.gd_reader.specs.declared.term.RawTerm.{RawTerm}
 use Rattle.gd_reader.specs.declared.typed_lists.ListKind.{ListKind}
-use Rattle.gd_reader.specs.declared.typed_lists.Listing.{Listing}
 use Rattle.gd_reader.specs.declared.typed_lists.RawParam.{RawParam}
 use Rattle.gd_reader.specs.Answers.{◌>>=◌, Fails, word_or_end}
 use Rattle.gd_reader.specs.Ends.{end_of}
-use Rattle.gd_reader.specs.Listing.{Reading, settled, whole, with_next, with_kind, rest_of, continued}
+use Rattle.gd_reader.proofs.Listing.{Listing, Reading, settled, whole, with_next, with_kind, rest_of, continued}
 use Rattle.gd_reader.specs.Terms.{Names}
 use Rattle.gd_reader.specs.TypedLists.{State, Rest, params, behind, typed, param_due, type_due, union_due, kind_due, with_type, one_more, alone, typed_with, hyphen_due}
 use Rattle.gd_reader.specs.Words.{is_hyphen}
@@ -78,13 +77,15 @@ unfolding params
 word_step kind seen front [] names at w p h = next_first kind front p (param_due kind (names, seen) at w)
 word_step kind seen front (y ∷ pending) names at w p h = ap (total front (y ∷ pending)) (by_hyphen kind (names, seen) at w p false h) ∙ next_more kind front y pending p (param_due kind (names, seen) at w)
 
-pub step_word : (kind : ListKind) (l : Listing) (names : Names) (at : ℕ) (w : Word) (p : Placed) (m : Reading) → hyphen_due l.pending w ≡ false → with_next kind (l, names) at w ≡ Ok m
-    → continued kind m p ≡ continued kind (l, names) (word at w p)
-step_word kind l names at w p m h e = sym (word_step kind l.seen l.done l.pending names at w p h ∙ ap (λ a. a >>= (λ m. continued kind m p)) e)
+pub step_word : (kind : ListKind) (l : Listing) (names : Names) (at : ℕ) (w : Word) (p : Placed) (x : RawParam × State) → hyphen_due l.pending w ≡ false → param_due kind (names, l.seen) at w ≡ Ok x
+    → continued kind (plus l.done l.pending x) p ≡ continued kind (l, names) (word at w p)
+step_word kind l names at w p x h e =
+    sym (word_step kind l.seen l.done l.pending names at w p h ∙ ap (λ a. a >>= (λ x. Ok (plus l.done l.pending x)) >>= (λ m. continued kind m p)) e)
 
-pub stop_word : (e : Failure) (kind : ListKind) (l : Listing) (names : Names) (at : ℕ) (w : Word) (p : Placed) → hyphen_due l.pending w ≡ false → Fails e (with_next kind (l, names) at w) → Fails e (continued kind (l, names) (word at w p))
+pub stop_word : (e : Failure) (kind : ListKind) (l : Listing) (names : Names) (at : ℕ) (w : Word) (p : Placed) → hyphen_due l.pending w ≡ false → Fails e (param_due kind (names, l.seen) at w) → Fails e (continued kind (l, names) (word at w p))
 stop_word e kind l names at w p h f =
-    subst (Fails e) (sym (word_step kind l.seen l.done l.pending names at w p h)) (fails_bind e (with_next kind (l, names) at w) (λ m. continued kind m p) f)
+    subst (Fails e) (sym (word_step kind l.seen l.done l.pending names at w p h))
+    (fails_bind e (with_next kind (l, names) at w) (λ m. continued kind m p) (fails_bind e (param_due kind (names, l.seen) at w) (λ x. Ok (plus l.done l.pending x)) f))
 
 -- a type, and then the rest of the list
 bind_map : {A B C : Type 0} (a : Result A Stop) (f : A → B) (g : B → Result C Stop) → a >>= (λ x. Ok (f x)) >>= g ≡ a >>= (λ x. g (f x))
@@ -112,13 +113,15 @@ type_step : (kind : ListKind) (seen : Names) (front pending : List RawParam) (na
 type_step kind seen front [] names at w q h = cc
 type_step kind seen front (y ∷ pending) names at w q h = ap (total front (y ∷ pending)) (by_hyphen kind (names, seen) at w q true h ∙ typed_is kind (names, seen) q) ∙ type_more kind seen front y pending (kind_due kind names q)
 
-pub step_type : (kind : ListKind) (l : Listing) (names : Names) (at : ℕ) (w : Word) (q : Placed) (m : Reading × Placed) → hyphen_due l.pending w ≡ true → with_kind kind (l, names) q ≡ Ok m
-    → continued kind m.0 m.1 ≡ continued kind (l, names) (word at w q)
-step_type kind l names at w q m h e = sym (type_step kind l.seen l.done l.pending names at w q h ∙ ap (λ a. a >>= (λ m. continued kind m.0 m.1)) e)
+pub step_type : (kind : ListKind) (l : Listing) (names : Names) (at : ℕ) (w : Word) (q : Placed) (k : (List RawTerm × Placed) × Names) → hyphen_due l.pending w ≡ true → kind_due kind names q ≡ Ok k
+    → continued kind (settled l k.0.0, k.1) k.0.1 ≡ continued kind (l, names) (word at w q)
+step_type kind l names at w q k h e =
+    sym (type_step kind l.seen l.done l.pending names at w q h ∙ ap (λ a. a >>= (λ k. Ok (with_type_of l k)) >>= (λ m. continued kind m.0 m.1)) e)
 
-pub stop_type : (e : Failure) (kind : ListKind) (l : Listing) (names : Names) (at : ℕ) (w : Word) (q : Placed) → hyphen_due l.pending w ≡ true → Fails e (with_kind kind (l, names) q) → Fails e (continued kind (l, names) (word at w q))
+pub stop_type : (e : Failure) (kind : ListKind) (l : Listing) (names : Names) (at : ℕ) (w : Word) (q : Placed) → hyphen_due l.pending w ≡ true → Fails e (kind_due kind names q) → Fails e (continued kind (l, names) (word at w q))
 stop_type e kind l names at w q h f =
-    subst (Fails e) (sym (type_step kind l.seen l.done l.pending names at w q h)) (fails_bind e (with_kind kind (l, names) q) (λ m. continued kind m.0 m.1) f)
+    subst (Fails e) (sym (type_step kind l.seen l.done l.pending names at w q h))
+    (fails_bind e (with_kind kind (l, names) q) (λ m. continued kind m.0 m.1) (fails_bind e (kind_due kind names q) (λ k. Ok (with_type_of l k)) f))
 
 -- the end of the list, and what can't stand in it
 list_ends : (kind : ListKind) (front pending : List RawParam) (st : State) (p : Placed) → word_or_end p ≡ Ok None → total front pending (rest_of kind pending st p) ≡ Ok (front ++ map (with_type []) pending, st.0)
@@ -144,3 +147,12 @@ stuck_rest (failures.At s) kind (y ∷ pending) st (list at p q) f = let is = f 
 
 pub list_stuck : (e : Failure) (kind : ListKind) (r : Reading) (p : Placed) → Fails e (word_or_end p) → Fails e (continued kind r p)
 list_stuck e kind r p f = fails_bind e (rest_of kind r.0.pending (r.1, r.0.seen) p) (λ x. Ok (whole_list r.0.done r.0.pending x)) (stuck_rest e kind r.0.pending (r.1, r.0.seen) p f)
+
+-- a hyphen is due behind words whose type is
+pub hyphen_of : (pending : List RawParam) (w : Word) → 0 < length pending → hyphen_due pending w ≡ is_hyphen w
+hyphen_of [] w h = absurd (omega (arith, h))
+hyphen_of (x ∷ pending) w h = refl
+
+pub no_hyphen : (pending : List RawParam) (w : Word) → length pending ≤ 0 → hyphen_due pending w ≡ false
+no_hyphen [] w h = refl
+no_hyphen (x ∷ pending) w h = absurd (omega (arith, h))

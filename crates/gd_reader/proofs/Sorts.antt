@@ -1,5 +1,5 @@
 -- Words by their first letters.
-use Rattle.std.proofs.Common.{◌≡◌, ℕ, ◌<◌, ◌≤◌, ◌==◌, ◌&&◌, ◌||◌, Bool, true, false, not, if◌then◌else◌, length, get_or, drop, List, [], ◌∷◌, refl, arith}
+use Rattle.std.proofs.Common.{◌≡◌, ℕ, ◌<◌, ◌≤◌, ◌==◌, ◌&&◌, ◌||◌, Bool, true, false, not, if◌then◌else◌, length, get_or, drop, List, [], ◌∷◌, refl, sym, ap, ◌∙◌, arith}
 use Rattle.std.specs.Char.{to_ascii_lowercase}
 use Rattle.htn_base.specs.Words.{folded, is_reserved}
 use Rattle.text_forms.specs.Words.{Word, is_name}
@@ -12,17 +12,57 @@ unfolding sort_of
 sort_len0 [] h = refl
 sort_len0 (b ∷ w) h = absurd (omega arith)
 
-pub sort_len1 : (w : List ℕ) → 1 ≤ length w → length w < 2 → sort_of (folded w) ≡ sort_of_one (to_ascii_lowercase (get_or w 0 0)) (is_reserved (folded w))
+sort_len1 : (w : List ℕ) → 1 ≤ length w → length w < 2 → sort_of (folded w) ≡ sort_of_one (to_ascii_lowercase (get_or w 0 0)) (is_reserved (folded w))
 unfolding sort_of
 sort_len1 [] g h = absurd (omega arith)
 sort_len1 (b ∷ []) g h = refl
 sort_len1 (b ∷ c ∷ w) g h = absurd (omega arith)
 
-pub sort_len2 : (w : List ℕ) → 2 ≤ length w → sort_of (folded w) ≡ sort_of_more (to_ascii_lowercase (get_or w 0 0)) (is_reserved (folded w))
+sort_len2 : (w : List ℕ) → 2 ≤ length w → sort_of (folded w) ≡ sort_of_more (to_ascii_lowercase (get_or w 0 0)) (is_reserved (folded w))
 unfolding sort_of
 sort_len2 [] g = absurd (omega arith)
 sort_len2 (b ∷ []) g = absurd (omega arith)
 sort_len2 (b ∷ c ∷ w) g = refl
+
+-- a word by its first letter
+pub sort_variable : (w : List ℕ) (b : ℕ) → 2 ≤ length w → b ≡ to_ascii_lowercase (get_or w 0 0) → b ≡ 63 → sort_of (folded w) ≡ Variable
+sort_variable w b g is e = sort_len2 w g ∙ ap (λ b. sort_of_more b (is_reserved (folded w))) (sym is ∙ e)
+
+pub sort_mark : (w : List ℕ) (b : ℕ) → 1 ≤ length w → length w ≤ 1 → b ≡ to_ascii_lowercase (get_or w 0 0) → b ≡ 63 → sort_of (folded w) ≡ Other
+sort_mark w b g h is e = sort_len1 w g (omega (arith, h)) ∙ ap (λ b. sort_of_one b (is_reserved (folded w))) (sym is ∙ e)
+
+differs : (n m : ℕ) → (n ≡ m → ⊥) → (n == m) ≡ false
+differs n m never = search arith
+
+-- by its first letter that is no question mark
+module _ (w : List ℕ) (b : ℕ) (g : 1 ≤ length w) (is : b ≡ to_ascii_lowercase (get_or w 0 0)) (never : b ≡ 63 → ⊥) where
+  sort_first : sort_of (folded w) ≡ (if not (b == 58) && not (is_reserved (folded w)) then Name else Other)
+  sort_first = by_length w g is
+    where
+      one : (r : Bool) → sort_of_one b r ≡ (if not (b == 58) && not r then Name else Other)
+      one r = ap (λ (t : Bool). if not t && (not (b == 58) && not r) then Name else Other) (differs b 63 never)
+
+      by_length : (w : List ℕ) → 1 ≤ length w → b ≡ to_ascii_lowercase (get_or w 0 0) → sort_of (folded w) ≡ (if not (b == 58) && not (is_reserved (folded w)) then Name else Other)
+      by_length [] g is = absurd (omega (arith, g))
+      by_length (x ∷ []) g is = sort_len1 (x ∷ []) g (omega arith) ∙ ap (λ b. sort_of_one b (is_reserved (folded (x ∷ [])))) (sym is) ∙ one (is_reserved (folded (x ∷ [])))
+      by_length (x ∷ y ∷ w) g is =
+          sort_len2 (x ∷ y ∷ w) (omega arith) ∙ ap (λ b. sort_of_more b (is_reserved (folded (x ∷ y ∷ w)))) (sym is)
+          ∙ ap (λ (t : Bool). if t then Variable else sort_of_one b (is_reserved (folded (x ∷ y ∷ w)))) (differs b 63 never) ∙ one (is_reserved (folded (x ∷ y ∷ w)))
+
+  pub sort_colon : b ≡ 58 → sort_of (folded w) ≡ Other
+  sort_colon e = sort_first ∙ ap (λ b. if not (b == 58) && not (is_reserved (folded w)) then Name else Other) e
+
+  pub sort_reserved : is_reserved (folded w) ≡ true → sort_of (folded w) ≡ Other
+  sort_reserved e = sort_first ∙ ap (λ (r : Bool). if not (b == 58) && not r then Name else Other) e ∙ other (not (b == 58))
+    where
+      other : (x : Bool) → (if x && false then Name else Other) ≡ Other
+      other true = refl
+      other false = refl
+
+  pub sort_name : (b ≡ 58 → ⊥) → is_reserved (folded w) ≡ false → sort_of (folded w) ≡ Name
+  sort_name colon e =
+      sort_first ∙ ap (λ (t : Bool). if not t && not (is_reserved (folded w)) then Name else Other) (differs b 58 colon)
+      ∙ ap (λ (r : Bool). if not r then Name else Other) e
 
 pub folded_rest : (w : List ℕ) → folded (drop 1 w) ≡ drop 1 (folded w)
 folded_rest [] = refl

@@ -7,10 +7,10 @@ use Rattle.text_forms.specs.Words.{is_among}
 use Rattle.gd_reader.specs.declared.stop.Failure.{Failure}
 use Rattle.gd_reader.specs.declared.stop.Stop.{Stop}
 use Rattle.gd_reader.specs.declared.term.RawTerm.{RawTerm}
-use Rattle.gd_reader.specs.Answers.{◌>>=◌, Fails, with_front, word_or_end}
+use Rattle.gd_reader.specs.Answers.{◌>>=◌, Fails, with_front, word_due, word_or_end}
 use Rattle.gd_reader.specs.Terms.{Names, used}
-use Rattle.gd_reader.specs.TypedLists.{State, more_names, unless}
-use Rattle.gd_reader.proofs.Steps.{Met, fails_bind}
+use Rattle.gd_reader.specs.TypedLists.{State, more_names, some_names, unless}
+use Rattle.gd_reader.proofs.Steps.{Met, fails_bind, some_names_is}
 
 abbrev more_by : State → Option Met → Result (List RawTerm × Names) Stop
 more_by st None = Ok ([], st.0)
@@ -47,3 +47,13 @@ module _ (front : List RawTerm) (st : State) (p : Placed) (whole : Result (List 
       ∙ sym (ap (λ a. with_front front (a >>= (λ t. more_names (t.1, with_word st.1 v.1) v.2 >>= (λ ts. Ok (unless (is_among v.1 st.1) t.0 ts.0, ts.1))))) e)
       ∙ sym (ap (with_front front) (more_names_is st p ∙ ap (λ r. r >>= more_by st) h))
       ∙ so_far
+
+-- one name or more, behind the first
+pub names_start : (names : Names) (p : Placed) (v : Met) (t : RawTerm) (names' seen : Names) (types : List RawTerm)
+    → word_due p ≡ Ok v → used names v.0 v.1 ≡ Ok (t, names') → types ≡ t ∷ [] → seen ≡ with_word [] v.1
+    → with_front types (more_names (names', seen) v.2) ≡ some_names names p
+names_start names p v t names' seen types h e kept known =
+    (λ i. with_front (kept i) (more_names (names', known i) v.2))
+    ∙ sym (some_names_is names p
+    ∙ ap (λ a. a >>= (λ v. used names v.0 v.1 >>= (λ t. with_front (t.0 ∷ []) (more_names (t.1, with_word [] v.1) v.2)))) h
+    ∙ ap (λ a. a >>= (λ t. with_front (t.0 ∷ []) (more_names (t.1, with_word [] v.1) v.2))) e)

@@ -8,7 +8,6 @@ pub mod Terms
 pub mod Added
 pub mod RawRows
 pub mod TypedLists
-pub mod Listing
 pub mod TypedAsBefore
 pub mod Formulas
 pub mod Effects

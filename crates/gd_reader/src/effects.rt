@@ -40,7 +40,7 @@ impl Drop for RawEffect {
 
 /// What stands in the parentheses of an effect, from token `i` on.
 #[cycle(effect)]
-#[tactic(auto, using(crate::proofs::Keeping::keeps_same, crate::proofs::Keeping::keeps_then, crate::proofs::EffectSteps::effect_inside_is))]
+#[tactic(auto, unfolding(crate::specs::Effects::effect_headed), using(crate::proofs::Keeping::keeps_same, crate::proofs::Keeping::keeps_then, crate::proofs::EffectSteps::effect_inside_is, crate::proofs::EffectSteps::guarded_is, crate::proofs::EffectSteps::bound_effect_is, crate::proofs::EffectSteps::deleted_is, crate::proofs::Adding::bare_plain_effect))]
 pub fn effect_inside_of(
     alloc: Global,
     s: &Sexprs<'_>,
@@ -51,34 +51,29 @@ pub fn effect_inside_of(
     ensures adds { AddsOf s.now names.old names.new }
     ensures gives { GivesWith names.new result (effect_inside names.old (parts_at s.now i)) }
 {
-    match word_or_end(s, i)? {
-        None => Ok(RawEffect::And(List::new(alloc))),
-        Some((at, word, i)) => effect_headed_of(alloc, s, at, word, i, names),
-    }
-}
-
-// Behind the word at the front of the list.
-#[cycle(effect)]
-#[tactic(auto, unfolding(crate::specs::Effects::effect_headed), using(crate::proofs::Keeping::keeps_same, crate::proofs::Keeping::keeps_then))]
-fn effect_headed_of(
-    alloc: Global,
-    s: &Sexprs<'_>,
-    at: u32,
-    word: &[u8],
-    i: u32,
-    names: &mut NameTable,
-) -> Result<RawEffect, Failure>
-    ensures keeps { Keeps names.old names.new }
-    ensures adds { AddsWordOf (bare (folded word.now)) s.now names.old names.new }
-    ensures gives { GivesWith names.new result
-        (effect_headed (effect_head_of (folded word.now)) names.old at (folded word.now)
-        (parts_at s.now i)) }
-{
+    let Some((at, word, i)) = word_or_end(s, i)? else {
+        return Ok(RawEffect::And(List::new(alloc)));
+    };
     match effect_head_of(word) {
         EffectHead::And => effects_of(alloc, s, i, names),
-        EffectHead::Forall => bound_effect_of(alloc, s, i, names),
-        EffectHead::When => guarded_of(alloc, s, i, names),
-        EffectHead::Not => deleted_of(alloc, s, i, names),
+        EffectHead::Forall => {
+            let (inside, behind) = list_due(s, i)?;
+            let (vars, _) = params_of(alloc, s, inside, ListKind::Parameters, names)?;
+            let part = one_effect_of(alloc, s, behind, names)?;
+            Ok(RawEffect::Forall(vars, part))
+        }
+        EffectHead::When => {
+            let (inside, behind) = list_due(s, i)?;
+            let condition = inside_of(alloc, s, inside, names)?;
+            let part = one_effect_of(alloc, s, behind, names)?;
+            Ok(RawEffect::When(condition, part))
+        }
+        EffectHead::Not => {
+            let (inside, behind) = list_due(s, i)?;
+            let atom = applied_of(alloc, s, inside, names)?;
+            end_due(s, behind)?;
+            Ok(RawEffect::Delete(atom))
+        }
         EffectHead::Increase => {
             pass(s, i)?;
             Ok(RawEffect::And(List::new(alloc)))
@@ -130,61 +125,4 @@ fn one_effect_of(
     let part = Boxed::new(alloc, effect_inside_of(alloc, s, inside, names)?)?;
     end_due(s, behind)?;
     Ok(part)
-}
-
-// The effect under a condition: a formula, an effect, and the end of their list.
-#[cycle(effect)]
-#[tactic(auto, using(crate::proofs::Keeping::keeps_same, crate::proofs::Keeping::keeps_then, crate::proofs::EffectSteps::guarded_is))]
-fn guarded_of(
-    alloc: Global,
-    s: &Sexprs<'_>,
-    i: u32,
-    names: &mut NameTable,
-) -> Result<RawEffect, Failure>
-    ensures keeps { Keeps names.old names.new }
-    ensures adds { AddsOf s.now names.old names.new }
-    ensures gives { GivesWith names.new result (when (guarded names.old (parts_at s.now i))) }
-{
-    let (inside, behind) = list_due(s, i)?;
-    let condition = inside_of(alloc, s, inside, names)?;
-    let part = one_effect_of(alloc, s, behind, names)?;
-    Ok(RawEffect::When(condition, part))
-}
-
-// The effect for all values of variables: their list, an effect, and the end of the list of both.
-#[cycle(effect)]
-#[tactic(auto, using(crate::proofs::Keeping::keeps_same, crate::proofs::Keeping::keeps_then, crate::proofs::EffectSteps::bound_effect_is))]
-fn bound_effect_of(
-    alloc: Global,
-    s: &Sexprs<'_>,
-    i: u32,
-    names: &mut NameTable,
-) -> Result<RawEffect, Failure>
-    ensures keeps { Keeps names.old names.new }
-    ensures adds { AddsOf s.now names.old names.new }
-    ensures gives { GivesWith names.new result
-        (for_all (bound_effect names.old (parts_at s.now i))) }
-{
-    let (inside, behind) = list_due(s, i)?;
-    let (vars, _) = params_of(alloc, s, inside, ListKind::Parameters, names)?;
-    let part = one_effect_of(alloc, s, behind, names)?;
-    Ok(RawEffect::Forall(vars, part))
-}
-
-// The deletion of an atom: it in its parentheses, and the end of the list in which it stands.
-#[tactic(auto, using(crate::proofs::Keeping::keeps_same, crate::proofs::Keeping::keeps_then, crate::proofs::EffectSteps::deleted_is))]
-fn deleted_of(
-    alloc: Global,
-    s: &Sexprs<'_>,
-    i: u32,
-    names: &mut NameTable,
-) -> Result<RawEffect, Failure>
-    ensures keeps { Keeps names.old names.new }
-    ensures adds { AddsOf s.now names.old names.new }
-    ensures gives { GivesWith names.new result (delete (deleted names.old (parts_at s.now i))) }
-{
-    let (inside, behind) = list_due(s, i)?;
-    let atom = applied_of(alloc, s, inside, names)?;
-    end_due(s, behind)?;
-    Ok(RawEffect::Delete(atom))
 }

@@ -45,7 +45,7 @@ impl Drop for RawFormula {
 
 /// What stands in the parentheses of a formula, from token `i` on.
 #[cycle(formula)]
-#[tactic(auto, using(crate::proofs::Keeping::keeps_same, crate::proofs::Keeping::keeps_then, crate::proofs::Steps::inside_is))]
+#[tactic(auto, unfolding(crate::specs::Formulas::headed), using(crate::proofs::Keeping::keeps_same, crate::proofs::Keeping::keeps_then, crate::proofs::Steps::inside_is, crate::proofs::Steps::two_is, crate::proofs::Adding::bare_plain))]
 pub fn inside_of(
     alloc: Global,
     s: &Sexprs<'_>,
@@ -56,42 +56,19 @@ pub fn inside_of(
     ensures adds { AddsOf s.now names.old names.new }
     ensures gives { GivesWith names.new result (inside names.old (parts_at s.now i)) }
 {
-    match word_or_end(s, i)? {
-        None => Ok(RawFormula::And(List::new(alloc))),
-        Some((at, word, i)) => headed_of(alloc, s, at, word, i, names),
-    }
-}
-
-// Behind the word at the front of the list.
-#[cycle(formula)]
-#[tactic(auto, unfolding(crate::specs::Formulas::headed), using(crate::proofs::Keeping::keeps_same, crate::proofs::Keeping::keeps_then))]
-fn headed_of(
-    alloc: Global,
-    s: &Sexprs<'_>,
-    at: u32,
-    word: &[u8],
-    i: u32,
-    names: &mut NameTable,
-) -> Result<RawFormula, Failure>
-    ensures keeps { Keeps names.old names.new }
-    ensures adds { AddsWordOf (bare (folded word.now)) s.now names.old names.new }
-    ensures gives { GivesWith names.new result
-        (headed (head_of (folded word.now)) names.old at (folded word.now) (parts_at s.now i)) }
-{
+    let Some((at, word, i)) = word_or_end(s, i)? else {
+        return Ok(RawFormula::And(List::new(alloc)));
+    };
     match head_of(word) {
-        Head::And => {
-            let parts = formulas_of(alloc, s, i, names)?;
-            Ok(RawFormula::And(parts))
+        Head::And => Ok(RawFormula::And(formulas_of(alloc, s, i, names)?)),
+        Head::Or => Ok(RawFormula::Or(formulas_of(alloc, s, i, names)?)),
+        Head::Not => Ok(RawFormula::Not(one_of(alloc, s, i, names)?)),
+        Head::Imply => {
+            let (inside, behind) = list_due(s, i)?;
+            let first = Boxed::new(alloc, inside_of(alloc, s, inside, names)?)?;
+            let second = one_of(alloc, s, behind, names)?;
+            Ok(RawFormula::Imply(first, second))
         }
-        Head::Or => {
-            let parts = formulas_of(alloc, s, i, names)?;
-            Ok(RawFormula::Or(parts))
-        }
-        Head::Not => {
-            let part = one_of(alloc, s, i, names)?;
-            Ok(RawFormula::Not(part))
-        }
-        Head::Imply => two_of(alloc, s, i, names),
         Head::Equal => {
             let (left, right) = two_terms_of(s, i, names)?;
             Ok(RawFormula::Equal(left, right))
@@ -151,25 +128,6 @@ fn one_of(
     let part = Boxed::new(alloc, inside_of(alloc, s, inside, names)?)?;
     end_due(s, behind)?;
     Ok(part)
-}
-
-// The implication of two formulas, and the end of their list.
-#[cycle(formula)]
-#[tactic(auto, using(crate::proofs::Keeping::keeps_same, crate::proofs::Keeping::keeps_then, crate::proofs::Steps::two_is))]
-fn two_of(
-    alloc: Global,
-    s: &Sexprs<'_>,
-    i: u32,
-    names: &mut NameTable,
-) -> Result<RawFormula, Failure>
-    ensures keeps { Keeps names.old names.new }
-    ensures adds { AddsOf s.now names.old names.new }
-    ensures gives { GivesWith names.new result (implies (two names.old (parts_at s.now i))) }
-{
-    let (inside, behind) = list_due(s, i)?;
-    let first = Boxed::new(alloc, inside_of(alloc, s, inside, names)?)?;
-    let second = one_of(alloc, s, behind, names)?;
-    Ok(RawFormula::Imply(first, second))
 }
 
 // A list of variables, a formula, and the end of their list.

@@ -1,12 +1,11 @@
-ghost use Rattle.std.specs.Prelude.{◌≡◌, ◌<◌, ◌≤◌, ◌++◌, [], ◌∷◌, IfOk, OnOk};
-ghost use Rattle.htn_base.specs.Words.{folded};
+ghost use Rattle.std.specs.Prelude.{◌≡◌, ◌<◌, ◌≤◌, [], ◌∷◌, IfOk};
 ghost use Rattle.text_forms.specs.Placed.{parts_at};
 ghost use Rattle.text_forms.specs.Tokens.{token_count};
 ghost use Rattle.gd_reader.specs.Added.{AddsOf};
-ghost use Rattle.gd_reader.specs.Answers.{Gives, GivesWith, with_front};
+ghost use Rattle.gd_reader.specs.Answers.{Gives, GivesWith};
 ghost use Rattle.gd_reader.specs.Ends.{end_of};
 ghost use Rattle.gd_reader.specs.Terms.{Keeps};
-ghost use Rattle.gd_reader.specs.TypedLists.{more_names, some_names, union_due, kind_due, are_variables, are_types, unless};
+ghost use Rattle.gd_reader.specs.TypedLists.{some_names, union_due, kind_due};
 
 use crate::cursor::{Item, item_at, word_due, word_or_end};
 use crate::stop::{Failure, Stop};
@@ -17,15 +16,6 @@ use htn_base::{List, Memory, NameTable, is_reserved_in_any_case};
 use std::alloc::Global;
 use text_forms::sexpr_text::Sexprs;
 
-fn are_types(kind: ListKind) -> bool
-    ensures { result ≡ are_types kind }
-{
-    match kind {
-        ListKind::Types => true,
-        ListKind::Parameters | ListKind::Predicate | ListKind::Objects => false,
-    }
-}
-
 fn alone(alloc: Global, term: RawTerm) -> Result<List<RawTerm>, Memory>
     ensures { IfOk result (λ l. l ≡ term ∷ []) }
 {
@@ -34,37 +24,7 @@ fn alone(alloc: Global, term: RawTerm) -> Result<List<RawTerm>, Memory>
     Ok(terms)
 }
 
-// Puts a type to the others, unless it is known.
-fn add(types: &mut List<RawTerm>, known: bool, ty: RawTerm) -> Result<(), Memory>
-    ensures added { OnOk result (types.new ≡ types.old ++ unless known ty []) }
-{
-    if known { Ok(()) } else { types.push(ty) }
-}
-
-// Puts names of a union to the others, up to its end. Those that were seen are dropped.
-#[tactic(auto, using(crate::proofs::Keeping::keeps_same, crate::proofs::Keeping::keeps_then))]
-fn add_names_of(
-    types: &mut List<RawTerm>,
-    seen: &mut NameTable,
-    s: &Sexprs<'_>,
-    mut i: u32,
-    names: &mut NameTable,
-) -> Result<(), Failure>
-    ensures keeps { Keeps names.old names.new }
-    ensures adds { AddsOf s.now names.old names.new }
-    ensures gives { Gives (λ _. (types.new, names.new)) result
-        (with_front types.old (more_names (names.old, seen.old) (parts_at s.now i))) }
-{
-    while let Some((at, word, behind)) = word_or_end(s, i)? {
-        let ty = used_of(names, at, word)?;
-        let known = see(seen, word)?;
-        add(types, known, ty)?;
-        i = behind;
-    }
-    Ok(())
-}
-
-// The names of a union, one or more.
+// The names of a union, one or more, each once.
 #[tactic(auto, using(crate::proofs::Keeping::keeps_same, crate::proofs::Keeping::keeps_then, crate::proofs::Steps::some_names_is))]
 fn some_names_of(
     alloc: Global,
@@ -76,12 +36,18 @@ fn some_names_of(
     ensures adds { AddsOf s.now names.old names.new }
     ensures gives { GivesWith names.new result (some_names names.old (parts_at s.now i)) }
 {
-    let (at, word, i) = word_due(s, i)?;
+    let (at, word, mut i) = word_due(s, i)?;
     let first = used_of(names, at, word)?;
     let mut types = alone(alloc, first)?;
     let mut seen = NameTable::new(alloc);
     see(&mut seen, word)?;
-    add_names_of(&mut types, &mut seen, s, i, names)?;
+    while let Some((at, word, behind)) = word_or_end(s, i)? {
+        let ty = used_of(names, at, word)?;
+        if !see(&mut seen, word)? {
+            types.push(ty)?;
+        }
+        i = behind;
+    }
     Ok(types)
 }
 
@@ -139,7 +105,7 @@ pub fn kind_of(
                 };
                 Ok((alone(alloc, term)?, i + 1))
             }
-            Sort::Other if are_types(kind) && is_reserved_in_any_case(word) => {
+            Sort::Other if matches!(kind, ListKind::Types) && is_reserved_in_any_case(word) => {
                 Err(Failure::At(Stop::Departs(9, at)))
             }
             Sort::Variable | Sort::Other => Err(Failure::At(Stop::Departs(8, at))),

@@ -1,8 +1,7 @@
 ghost use Rattle.std.specs.Prelude.{◌≡◌, drop};
 ghost use Rattle.std.specs.Str.{bytes_eq};
 ghost use Rattle.htn_base.specs.Words.{folded};
-ghost use Rattle.htn_base.specs.Words.{is_reserved};
-ghost use Rattle.gd_reader.specs.Words.{head_of, effect_head_of, sort_of, sort_of_one, sort_of_more, is_hyphen, is_either, begins_reserved};
+ghost use Rattle.gd_reader.specs.Words.{head_of, effect_head_of, sort_of, is_hyphen, is_either, begins_reserved};
 
 use htn_base::is_reserved_in_any_case;
 
@@ -33,7 +32,7 @@ pub enum EffectHead {
 }
 
 /// What a word is by its letters.
-#[derive(Clone, Copy, PartialEq)]
+#[derive(Clone, Copy)]
 pub enum Sort {
     Variable,
     Name,
@@ -47,26 +46,25 @@ pub fn is_word(word: &[u8], key: &[u8]) -> bool
     word.eq_ignore_ascii_case(key)
 }
 
-/// The sort of a word, in any case of its letters.
-#[tactic(auto, using(crate::proofs::Sorts::sort_len0, crate::proofs::Sorts::sort_len1, crate::proofs::Sorts::sort_len2))]
+/// The sort of a word, in any case of its letters. Most words begin with a letter that begins no reserved word.
+#[tactic(auto, using(crate::proofs::Sorts::sort_len0))]
 pub fn sort_of(w: &[u8]) -> Sort
     ensures sort { result ≡ sort_of (folded w.now) }
 {
-    let reserved = is_reserved_word(w);
-    match w {
-        [] => Sort::Other,
-        [b] => sort_of_one(b.to_ascii_lowercase(), reserved),
-        [b, _, ..] => sort_of_more(b.to_ascii_lowercase(), reserved),
-    }
-}
-
-// Whether a word is reserved, in any case of its letters. Most words begin with a letter that begins no such word.
-fn is_reserved_word(w: &[u8]) -> bool
-    ensures { result ≡ is_reserved (folded w.now) }
-{
-    match w {
-        [] => false,
-        [b, ..] => begins_reserved(b.to_ascii_lowercase()) && is_reserved_in_any_case(w),
+    let [b, ..] = w else {
+        return Sort::Other;
+    };
+    let b = b.to_ascii_lowercase();
+    if b == b'?' {
+        if w.len() > 1 {
+            Sort::Variable
+        } else {
+            Sort::Other
+        }
+    } else if b == b':' || (begins_reserved(b) && is_reserved_in_any_case(w)) {
+        Sort::Other
+    } else {
+        Sort::Name
     }
 }
 
@@ -74,36 +72,10 @@ fn is_reserved_word(w: &[u8]) -> bool
 fn begins_reserved(b: u8) -> bool
     ensures { result ≡ begins_reserved b }
 {
-    b == b'-'
-        || b == b'<'
-        || b == b'='
-        || b == b'a'
-        || b == b'e'
-        || b == b'f'
-        || b == b'i'
-        || b == b'n'
-        || b == b'o'
-        || b == b'w'
-}
-
-fn sort_of_one(b: u8, reserved: bool) -> Sort
-    ensures { result ≡ sort_of_one b reserved }
-{
-    if b != b'?' && b != b':' && !reserved {
-        Sort::Name
-    } else {
-        Sort::Other
-    }
-}
-
-fn sort_of_more(b: u8, reserved: bool) -> Sort
-    ensures { result ≡ sort_of_more b reserved }
-{
-    if b == b'?' {
-        Sort::Variable
-    } else {
-        sort_of_one(b, reserved)
-    }
+    matches!(
+        b,
+        b'-' | b'<' | b'=' | b'a' | b'e' | b'f' | b'i' | b'n' | b'o' | b'w'
+    )
 }
 
 /// A word without its first letter.
@@ -149,7 +121,7 @@ pub fn head_of(w: &[u8]) -> Head
         Head::Exists
     } else if is_word(w, b"=") {
         Head::Equal
-    } else if sort_of(w) == Sort::Name {
+    } else if matches!(sort_of(w), Sort::Name) {
         Head::Plain
     } else {
         Head::Wrong
@@ -171,7 +143,7 @@ pub fn effect_head_of(w: &[u8]) -> EffectHead
         EffectHead::Not
     } else if is_word(w, b"increase") {
         EffectHead::Increase
-    } else if sort_of(w) == Sort::Name {
+    } else if matches!(sort_of(w), Sort::Name) {
         EffectHead::Plain
     } else {
         EffectHead::Wrong

@@ -1,12 +1,10 @@
-use Rattle.std.proofs.Common.{Ok, ap, arith, sym, subst, ◌∙◌}
+use Rattle.std.proofs.Common.{Ok, ap, arith}
 use Rattle.std.proofs.lemmas.Result.{err_from_is_err_and}
-use Rattle.htn_base.specs.Words.{folded}
 use Rattle.text_forms.specs.Placed.{parts_at}
-use Rattle.gd_reader.specs.Added.{Has}
 use Rattle.gd_reader.specs.Answers.{list_or_end}
 use Rattle.gd_reader.specs.declared.effects.RawEffect.TheVariants as raw
 use Rattle.gd_reader.specs.Effects.{effects, effect_headed, anded}
-use Rattle.gd_reader.proofs.EffectSteps.{effect_met, effects_is, bound_effect_is, effect_inside_is, guarded_is, one_effect_is}
+use Rattle.gd_reader.proofs.EffectSteps.{effect_met, effects_is, bound_effect_is, effect_inside_is, deleted_is, guarded_is, one_effect_is}
 use Rattle.gd_reader.proofs.Adding.{bare_plain_effect}
 use Rattle.gd_reader.proofs.Keeping.{keeps_then, keeps_same}
 use Rattle.gd_reader.proofs.Steps.{pair_behind, fails_bind, all_end, all_stuck, all_stop, all_next, is_none}
@@ -44,179 +42,6 @@ effects_of-returns-clause-gives t c =
     let never = c.in_default.not-Some in
     ap anded (all_end list_or_end pair_behind effect_met effects effects_is c.loop-parts.parts c.loop-parts.names (parts_at c.args.s.now c.loop-parts.i) (effects c.args.names.now (parts_at c.args.s.now c.args.i)) c.loop-parts.invariant.rest (rw (is_none c.in_ok-inside.field-0 never) at gives))
 
-pub effect_headed_of-returns-in_err-atom-in-Plain-clause-adds : goal.effect_headed_of-returns-in_err-atom-in-Plain-clause-adds
-effect_headed_of-returns-in_err-atom-in-Plain-clause-adds t c all here =
-    let plain = c.in-Plain.is in
-    c.in_err-atom-in-Plain.ensures.adds all (subst (Has all) (bare_plain_effect (folded c.args.word.now) (sym c.effect_head_of.ensures.head ∙ plain)) here)
-
-pub effect_headed_of-returns-in_ok-atom-in-Plain-clause-adds : goal.effect_headed_of-returns-in_ok-atom-in-Plain-clause-adds
-effect_headed_of-returns-in_ok-atom-in-Plain-clause-adds t c all here =
-    let plain = c.in-Plain.is in
-    c.in_ok-atom-in-Plain.ensures.adds all (subst (Has all) (bare_plain_effect (folded c.args.word.now) (sym c.effect_head_of.ensures.head ∙ plain)) here)
-
-pub bound_effect_of-returns-in_err-inside-clause-keeps : goal.bound_effect_of-returns-in_err-inside-clause-keeps
-bound_effect_of-returns-in_err-inside-clause-keeps t c = grind (arith, keeps_same, keeps_then, bound_effect_is)
-
-pub bound_effect_of-returns-in_err-inside-clause-adds : goal.bound_effect_of-returns-in_err-inside-clause-adds
-bound_effect_of-returns-in_err-inside-clause-adds t c = grind (arith, keeps_same, keeps_then, bound_effect_is)
-
-pub bound_effect_of-returns-in_err-inside-clause-gives : goal.bound_effect_of-returns-in_err-inside-clause-gives
-bound_effect_of-returns-in_err-inside-clause-gives t c = grind (arith, keeps_same, keeps_then, bound_effect_is)
-
-pub bound_effect_of-returns-in_err-vars-clause-keeps : goal.bound_effect_of-returns-in_err-vars-clause-keeps
-bound_effect_of-returns-in_err-vars-clause-keeps t c = grind (arith, keeps_same, keeps_then, bound_effect_is)
-
-pub bound_effect_of-returns-in_err-vars-clause-adds : goal.bound_effect_of-returns-in_err-vars-clause-adds
-bound_effect_of-returns-in_err-vars-clause-adds t c = grind (arith, keeps_same, keeps_then, bound_effect_is)
-
-pub bound_effect_of-returns-in_err-vars-clause-gives : goal.bound_effect_of-returns-in_err-vars-clause-gives
-bound_effect_of-returns-in_err-vars-clause-gives t c = grind (arith, keeps_same, keeps_then, bound_effect_is)
-
-pub bound_effect_of-returns-in_err-part-clause-keeps : goal.bound_effect_of-returns-in_err-part-clause-keeps
-bound_effect_of-returns-in_err-part-clause-keeps t c = grind (arith, keeps_same, keeps_then, bound_effect_is)
-
-pub bound_effect_of-returns-in_err-part-clause-adds : goal.bound_effect_of-returns-in_err-part-clause-adds
-bound_effect_of-returns-in_err-part-clause-adds t c = grind (arith, keeps_same, keeps_then, bound_effect_is)
-
-pub bound_effect_of-returns-in_err-part-clause-gives : goal.bound_effect_of-returns-in_err-part-clause-gives
-bound_effect_of-returns-in_err-part-clause-gives t c = grind (arith, keeps_same, keeps_then, bound_effect_is)
-
-pub bound_effect_of-returns-clause-keeps : goal.bound_effect_of-returns-clause-keeps
-bound_effect_of-returns-clause-keeps t c = grind (arith, keeps_same, keeps_then, bound_effect_is)
-
-pub bound_effect_of-returns-clause-adds : goal.bound_effect_of-returns-clause-adds
-bound_effect_of-returns-clause-adds t c = grind (arith, keeps_same, keeps_then, bound_effect_is)
-
-pub bound_effect_of-returns-clause-gives : goal.bound_effect_of-returns-clause-gives
-bound_effect_of-returns-clause-gives t c = grind (arith, keeps_same, keeps_then, bound_effect_is)
-
-pub effect_headed_of-returns-in-And-clause-keeps : goal.effect_headed_of-returns-in-And-clause-keeps
-unfolding effect_headed
-effect_headed_of-returns-in-And-clause-keeps t c = grind (arith, keeps_same, keeps_then)
-
-pub effect_headed_of-returns-in-And-clause-adds : goal.effect_headed_of-returns-in-And-clause-adds
-unfolding effect_headed
-effect_headed_of-returns-in-And-clause-adds t c = grind (arith, keeps_same, keeps_then)
-
-pub effect_headed_of-returns-in-And-clause-gives : goal.effect_headed_of-returns-in-And-clause-gives
-unfolding effect_headed
-effect_headed_of-returns-in-And-clause-gives t c = grind (arith, keeps_same, keeps_then)
-
-pub effect_headed_of-returns-in-Forall-clause-keeps : goal.effect_headed_of-returns-in-Forall-clause-keeps
-unfolding effect_headed
-effect_headed_of-returns-in-Forall-clause-keeps t c = grind (arith, keeps_same, keeps_then)
-
-pub effect_headed_of-returns-in-Forall-clause-adds : goal.effect_headed_of-returns-in-Forall-clause-adds
-unfolding effect_headed
-effect_headed_of-returns-in-Forall-clause-adds t c = grind (arith, keeps_same, keeps_then)
-
-pub effect_headed_of-returns-in-Forall-clause-gives : goal.effect_headed_of-returns-in-Forall-clause-gives
-unfolding effect_headed
-effect_headed_of-returns-in-Forall-clause-gives t c = grind (arith, keeps_same, keeps_then)
-
-pub effect_headed_of-returns-in-When-clause-keeps : goal.effect_headed_of-returns-in-When-clause-keeps
-unfolding effect_headed
-effect_headed_of-returns-in-When-clause-keeps t c = grind (arith, keeps_same, keeps_then)
-
-pub effect_headed_of-returns-in-When-clause-adds : goal.effect_headed_of-returns-in-When-clause-adds
-unfolding effect_headed
-effect_headed_of-returns-in-When-clause-adds t c = grind (arith, keeps_same, keeps_then)
-
-pub effect_headed_of-returns-in-When-clause-gives : goal.effect_headed_of-returns-in-When-clause-gives
-unfolding effect_headed
-effect_headed_of-returns-in-When-clause-gives t c = grind (arith, keeps_same, keeps_then)
-
-pub effect_headed_of-returns-in-Not-clause-keeps : goal.effect_headed_of-returns-in-Not-clause-keeps
-unfolding effect_headed
-effect_headed_of-returns-in-Not-clause-keeps t c = grind (arith, keeps_same, keeps_then)
-
-pub effect_headed_of-returns-in-Not-clause-adds : goal.effect_headed_of-returns-in-Not-clause-adds
-unfolding effect_headed
-effect_headed_of-returns-in-Not-clause-adds t c = grind (arith, keeps_same, keeps_then)
-
-pub effect_headed_of-returns-in-Not-clause-gives : goal.effect_headed_of-returns-in-Not-clause-gives
-unfolding effect_headed
-effect_headed_of-returns-in-Not-clause-gives t c = grind (arith, keeps_same, keeps_then)
-
-pub effect_headed_of-returns-in_err-pass-in-Increase-clause-keeps : goal.effect_headed_of-returns-in_err-pass-in-Increase-clause-keeps
-unfolding effect_headed
-effect_headed_of-returns-in_err-pass-in-Increase-clause-keeps t c = grind (arith, keeps_same, keeps_then)
-
-pub effect_headed_of-returns-in_err-pass-in-Increase-clause-adds : goal.effect_headed_of-returns-in_err-pass-in-Increase-clause-adds
-unfolding effect_headed
-effect_headed_of-returns-in_err-pass-in-Increase-clause-adds t c = grind (arith, keeps_same, keeps_then)
-
-pub effect_headed_of-returns-in_err-pass-in-Increase-clause-gives : goal.effect_headed_of-returns-in_err-pass-in-Increase-clause-gives
-unfolding effect_headed
-effect_headed_of-returns-in_err-pass-in-Increase-clause-gives t c = grind (arith, keeps_same, keeps_then)
-
-pub effect_headed_of-returns-in_err-atom-in-Plain-clause-keeps : goal.effect_headed_of-returns-in_err-atom-in-Plain-clause-keeps
-unfolding effect_headed
-effect_headed_of-returns-in_err-atom-in-Plain-clause-keeps t c = grind (arith, keeps_same, keeps_then)
-
-pub effect_headed_of-returns-in_err-atom-in-Plain-clause-gives : goal.effect_headed_of-returns-in_err-atom-in-Plain-clause-gives
-unfolding effect_headed
-effect_headed_of-returns-in_err-atom-in-Plain-clause-gives t c = grind (arith, keeps_same, keeps_then)
-
-pub effect_headed_of-returns-in_ok-pass-in-Increase-clause-keeps : goal.effect_headed_of-returns-in_ok-pass-in-Increase-clause-keeps
-unfolding effect_headed
-effect_headed_of-returns-in_ok-pass-in-Increase-clause-keeps t c = grind (arith, keeps_same, keeps_then)
-
-pub effect_headed_of-returns-in_ok-pass-in-Increase-clause-adds : goal.effect_headed_of-returns-in_ok-pass-in-Increase-clause-adds
-unfolding effect_headed
-effect_headed_of-returns-in_ok-pass-in-Increase-clause-adds t c = grind (arith, keeps_same, keeps_then)
-
-pub effect_headed_of-returns-in_ok-pass-in-Increase-clause-gives : goal.effect_headed_of-returns-in_ok-pass-in-Increase-clause-gives
-unfolding effect_headed
-effect_headed_of-returns-in_ok-pass-in-Increase-clause-gives t c = grind (arith, keeps_same, keeps_then)
-
-pub effect_headed_of-returns-in_ok-atom-in-Plain-clause-keeps : goal.effect_headed_of-returns-in_ok-atom-in-Plain-clause-keeps
-unfolding effect_headed
-effect_headed_of-returns-in_ok-atom-in-Plain-clause-keeps t c = grind (arith, keeps_same, keeps_then)
-
-pub effect_headed_of-returns-in_ok-atom-in-Plain-clause-gives : goal.effect_headed_of-returns-in_ok-atom-in-Plain-clause-gives
-unfolding effect_headed
-effect_headed_of-returns-in_ok-atom-in-Plain-clause-gives t c = grind (arith, keeps_same, keeps_then)
-
-pub effect_headed_of-returns-in-Wrong-clause-keeps : goal.effect_headed_of-returns-in-Wrong-clause-keeps
-unfolding effect_headed
-effect_headed_of-returns-in-Wrong-clause-keeps t c = grind (arith, keeps_same, keeps_then)
-
-pub effect_headed_of-returns-in-Wrong-clause-adds : goal.effect_headed_of-returns-in-Wrong-clause-adds
-unfolding effect_headed
-effect_headed_of-returns-in-Wrong-clause-adds t c = grind (arith, keeps_same, keeps_then)
-
-pub effect_headed_of-returns-in-Wrong-clause-gives : goal.effect_headed_of-returns-in-Wrong-clause-gives
-unfolding effect_headed
-effect_headed_of-returns-in-Wrong-clause-gives t c = grind (arith, keeps_same, keeps_then)
-
-pub effect_inside_of-returns-in_err-word_or_end-clause-keeps : goal.effect_inside_of-returns-in_err-word_or_end-clause-keeps
-effect_inside_of-returns-in_err-word_or_end-clause-keeps t c = grind (arith, keeps_same, keeps_then, effect_inside_is)
-
-pub effect_inside_of-returns-in_err-word_or_end-clause-adds : goal.effect_inside_of-returns-in_err-word_or_end-clause-adds
-effect_inside_of-returns-in_err-word_or_end-clause-adds t c = grind (arith, keeps_same, keeps_then, effect_inside_is)
-
-pub effect_inside_of-returns-in_err-word_or_end-clause-gives : goal.effect_inside_of-returns-in_err-word_or_end-clause-gives
-effect_inside_of-returns-in_err-word_or_end-clause-gives t c = grind (arith, keeps_same, keeps_then, effect_inside_is)
-
-pub effect_inside_of-returns-in-None-clause-keeps : goal.effect_inside_of-returns-in-None-clause-keeps
-effect_inside_of-returns-in-None-clause-keeps t c = grind (arith, keeps_same, keeps_then, effect_inside_is)
-
-pub effect_inside_of-returns-in-None-clause-adds : goal.effect_inside_of-returns-in-None-clause-adds
-effect_inside_of-returns-in-None-clause-adds t c = grind (arith, keeps_same, keeps_then, effect_inside_is)
-
-pub effect_inside_of-returns-in-None-clause-gives : goal.effect_inside_of-returns-in-None-clause-gives
-effect_inside_of-returns-in-None-clause-gives t c = grind (arith, keeps_same, keeps_then, effect_inside_is)
-
-pub effect_inside_of-returns-in-Some-clause-keeps : goal.effect_inside_of-returns-in-Some-clause-keeps
-effect_inside_of-returns-in-Some-clause-keeps t c = grind (arith, keeps_same, keeps_then, effect_inside_is)
-
-pub effect_inside_of-returns-in-Some-clause-adds : goal.effect_inside_of-returns-in-Some-clause-adds
-effect_inside_of-returns-in-Some-clause-adds t c = grind (arith, keeps_same, keeps_then, effect_inside_is)
-
-pub effect_inside_of-returns-in-Some-clause-gives : goal.effect_inside_of-returns-in-Some-clause-gives
-effect_inside_of-returns-in-Some-clause-gives t c = grind (arith, keeps_same, keeps_then, effect_inside_is)
-
 pub effects_of-returns-in_err-inside-clause-keeps : goal.effects_of-returns-in_err-inside-clause-keeps
 effects_of-returns-in_err-inside-clause-keeps t c = grind (arith, keeps_same, keeps_then)
 
@@ -243,42 +68,6 @@ effects_of-returns-clause-keeps t c = grind (arith, keeps_same, keeps_then)
 
 pub effects_of-returns-clause-adds : goal.effects_of-returns-clause-adds
 effects_of-returns-clause-adds t c = grind (arith, keeps_same, keeps_then)
-
-pub guarded_of-returns-in_err-inside-clause-keeps : goal.guarded_of-returns-in_err-inside-clause-keeps
-guarded_of-returns-in_err-inside-clause-keeps t c = grind (arith, keeps_same, keeps_then, guarded_is)
-
-pub guarded_of-returns-in_err-inside-clause-adds : goal.guarded_of-returns-in_err-inside-clause-adds
-guarded_of-returns-in_err-inside-clause-adds t c = grind (arith, keeps_same, keeps_then, guarded_is)
-
-pub guarded_of-returns-in_err-inside-clause-gives : goal.guarded_of-returns-in_err-inside-clause-gives
-guarded_of-returns-in_err-inside-clause-gives t c = grind (arith, keeps_same, keeps_then, guarded_is)
-
-pub guarded_of-returns-in_err-condition-clause-keeps : goal.guarded_of-returns-in_err-condition-clause-keeps
-guarded_of-returns-in_err-condition-clause-keeps t c = grind (arith, keeps_same, keeps_then, guarded_is)
-
-pub guarded_of-returns-in_err-condition-clause-adds : goal.guarded_of-returns-in_err-condition-clause-adds
-guarded_of-returns-in_err-condition-clause-adds t c = grind (arith, keeps_same, keeps_then, guarded_is)
-
-pub guarded_of-returns-in_err-condition-clause-gives : goal.guarded_of-returns-in_err-condition-clause-gives
-guarded_of-returns-in_err-condition-clause-gives t c = grind (arith, keeps_same, keeps_then, guarded_is)
-
-pub guarded_of-returns-in_err-part-clause-keeps : goal.guarded_of-returns-in_err-part-clause-keeps
-guarded_of-returns-in_err-part-clause-keeps t c = grind (arith, keeps_same, keeps_then, guarded_is)
-
-pub guarded_of-returns-in_err-part-clause-adds : goal.guarded_of-returns-in_err-part-clause-adds
-guarded_of-returns-in_err-part-clause-adds t c = grind (arith, keeps_same, keeps_then, guarded_is)
-
-pub guarded_of-returns-in_err-part-clause-gives : goal.guarded_of-returns-in_err-part-clause-gives
-guarded_of-returns-in_err-part-clause-gives t c = grind (arith, keeps_same, keeps_then, guarded_is)
-
-pub guarded_of-returns-clause-keeps : goal.guarded_of-returns-clause-keeps
-guarded_of-returns-clause-keeps t c = grind (arith, keeps_same, keeps_then, guarded_is)
-
-pub guarded_of-returns-clause-adds : goal.guarded_of-returns-clause-adds
-guarded_of-returns-clause-adds t c = grind (arith, keeps_same, keeps_then, guarded_is)
-
-pub guarded_of-returns-clause-gives : goal.guarded_of-returns-clause-gives
-guarded_of-returns-clause-gives t c = grind (arith, keeps_same, keeps_then, guarded_is)
 
 pub one_effect_of-returns-in_err-inside-clause-keeps : goal.one_effect_of-returns-in_err-inside-clause-keeps
 one_effect_of-returns-in_err-inside-clause-keeps t c = grind (arith, keeps_same, keeps_then, one_effect_is)
@@ -324,3 +113,203 @@ one_effect_of-returns-clause-adds t c = grind (arith, keeps_same, keeps_then, on
 
 pub one_effect_of-returns-clause-gives : goal.one_effect_of-returns-clause-gives
 one_effect_of-returns-clause-gives t c = grind (arith, keeps_same, keeps_then, one_effect_is)
+
+pub effect_inside_of-returns-in-And-clause-adds : goal.effect_inside_of-returns-in-And-clause-adds
+effect_inside_of-returns-in-And-clause-adds t c = grind (arith, keeps_same, keeps_then)
+
+pub effect_inside_of-returns-in-And-clause-gives : goal.effect_inside_of-returns-in-And-clause-gives
+unfolding effect_headed
+effect_inside_of-returns-in-And-clause-gives t c = grind (arith, keeps_same, keeps_then, effect_inside_is)
+
+pub effect_inside_of-returns-in-And-clause-keeps : goal.effect_inside_of-returns-in-And-clause-keeps
+effect_inside_of-returns-in-And-clause-keeps t c = grind (arith, keeps_same, keeps_then)
+
+pub effect_inside_of-returns-in-Wrong-clause-adds : goal.effect_inside_of-returns-in-Wrong-clause-adds
+effect_inside_of-returns-in-Wrong-clause-adds t c = grind (arith, keeps_same, keeps_then)
+
+pub effect_inside_of-returns-in-Wrong-clause-gives : goal.effect_inside_of-returns-in-Wrong-clause-gives
+unfolding effect_headed
+effect_inside_of-returns-in-Wrong-clause-gives t c = grind (arith, keeps_same, keeps_then, effect_inside_is)
+
+pub effect_inside_of-returns-in-Wrong-clause-keeps : goal.effect_inside_of-returns-in-Wrong-clause-keeps
+effect_inside_of-returns-in-Wrong-clause-keeps t c = grind (arith, keeps_same, keeps_then)
+
+pub effect_inside_of-returns-in_default-clause-adds : goal.effect_inside_of-returns-in_default-clause-adds
+effect_inside_of-returns-in_default-clause-adds t c = grind (arith, keeps_same, keeps_then)
+
+pub effect_inside_of-returns-in_default-clause-gives : goal.effect_inside_of-returns-in_default-clause-gives
+unfolding effect_headed
+effect_inside_of-returns-in_default-clause-gives t c = grind (arith, keeps_same, keeps_then, effect_inside_is)
+
+pub effect_inside_of-returns-in_default-clause-keeps : goal.effect_inside_of-returns-in_default-clause-keeps
+effect_inside_of-returns-in_default-clause-keeps t c = grind (arith, keeps_same, keeps_then)
+
+pub effect_inside_of-returns-in_err-at-clause-adds : goal.effect_inside_of-returns-in_err-at-clause-adds
+effect_inside_of-returns-in_err-at-clause-adds t c = grind (arith, keeps_same, keeps_then)
+
+pub effect_inside_of-returns-in_err-at-clause-gives : goal.effect_inside_of-returns-in_err-at-clause-gives
+unfolding effect_headed
+effect_inside_of-returns-in_err-at-clause-gives t c = grind (arith, keeps_same, keeps_then, effect_inside_is)
+
+pub effect_inside_of-returns-in_err-at-clause-keeps : goal.effect_inside_of-returns-in_err-at-clause-keeps
+effect_inside_of-returns-in_err-at-clause-keeps t c = grind (arith, keeps_same, keeps_then)
+
+pub effect_inside_of-returns-in_err-atom-in-Not-clause-adds : goal.effect_inside_of-returns-in_err-atom-in-Not-clause-adds
+effect_inside_of-returns-in_err-atom-in-Not-clause-adds t c = grind (arith, keeps_same, keeps_then)
+
+pub effect_inside_of-returns-in_err-atom-in-Not-clause-gives : goal.effect_inside_of-returns-in_err-atom-in-Not-clause-gives
+unfolding effect_headed
+effect_inside_of-returns-in_err-atom-in-Not-clause-gives t c = grind (arith, keeps_same, keeps_then, effect_inside_is, deleted_is)
+
+pub effect_inside_of-returns-in_err-atom-in-Not-clause-keeps : goal.effect_inside_of-returns-in_err-atom-in-Not-clause-keeps
+effect_inside_of-returns-in_err-atom-in-Not-clause-keeps t c = grind (arith, keeps_same, keeps_then)
+
+pub effect_inside_of-returns-in_err-atom-in-Plain-clause-adds : goal.effect_inside_of-returns-in_err-atom-in-Plain-clause-adds
+effect_inside_of-returns-in_err-atom-in-Plain-clause-adds t c = grind (arith, keeps_same, keeps_then, bare_plain_effect)
+
+pub effect_inside_of-returns-in_err-atom-in-Plain-clause-gives : goal.effect_inside_of-returns-in_err-atom-in-Plain-clause-gives
+unfolding effect_headed
+effect_inside_of-returns-in_err-atom-in-Plain-clause-gives t c = grind (arith, keeps_same, keeps_then, effect_inside_is)
+
+pub effect_inside_of-returns-in_err-atom-in-Plain-clause-keeps : goal.effect_inside_of-returns-in_err-atom-in-Plain-clause-keeps
+effect_inside_of-returns-in_err-atom-in-Plain-clause-keeps t c = grind (arith, keeps_same, keeps_then)
+
+pub effect_inside_of-returns-in_err-condition-in-When-clause-adds : goal.effect_inside_of-returns-in_err-condition-in-When-clause-adds
+effect_inside_of-returns-in_err-condition-in-When-clause-adds t c = grind (arith, keeps_same, keeps_then)
+
+pub effect_inside_of-returns-in_err-condition-in-When-clause-gives : goal.effect_inside_of-returns-in_err-condition-in-When-clause-gives
+unfolding effect_headed
+effect_inside_of-returns-in_err-condition-in-When-clause-gives t c = grind (arith, keeps_same, keeps_then, effect_inside_is, guarded_is)
+
+pub effect_inside_of-returns-in_err-condition-in-When-clause-keeps : goal.effect_inside_of-returns-in_err-condition-in-When-clause-keeps
+effect_inside_of-returns-in_err-condition-in-When-clause-keeps t c = grind (arith, keeps_same, keeps_then)
+
+pub effect_inside_of-returns-in_err-end_due-in-Not-clause-adds : goal.effect_inside_of-returns-in_err-end_due-in-Not-clause-adds
+effect_inside_of-returns-in_err-end_due-in-Not-clause-adds t c = grind (arith, keeps_same, keeps_then)
+
+pub effect_inside_of-returns-in_err-end_due-in-Not-clause-gives : goal.effect_inside_of-returns-in_err-end_due-in-Not-clause-gives
+unfolding effect_headed
+effect_inside_of-returns-in_err-end_due-in-Not-clause-gives t c = grind (arith, keeps_same, keeps_then, effect_inside_is, deleted_is)
+
+pub effect_inside_of-returns-in_err-end_due-in-Not-clause-keeps : goal.effect_inside_of-returns-in_err-end_due-in-Not-clause-keeps
+effect_inside_of-returns-in_err-end_due-in-Not-clause-keeps t c = grind (arith, keeps_same, keeps_then)
+
+pub effect_inside_of-returns-in_err-inside-in-Forall-clause-adds : goal.effect_inside_of-returns-in_err-inside-in-Forall-clause-adds
+effect_inside_of-returns-in_err-inside-in-Forall-clause-adds t c = grind (arith, keeps_same, keeps_then)
+
+pub effect_inside_of-returns-in_err-inside-in-Forall-clause-gives : goal.effect_inside_of-returns-in_err-inside-in-Forall-clause-gives
+unfolding effect_headed
+effect_inside_of-returns-in_err-inside-in-Forall-clause-gives t c = grind (arith, keeps_same, keeps_then, effect_inside_is, bound_effect_is)
+
+pub effect_inside_of-returns-in_err-inside-in-Forall-clause-keeps : goal.effect_inside_of-returns-in_err-inside-in-Forall-clause-keeps
+effect_inside_of-returns-in_err-inside-in-Forall-clause-keeps t c = grind (arith, keeps_same, keeps_then)
+
+pub effect_inside_of-returns-in_err-inside-in-Not-clause-adds : goal.effect_inside_of-returns-in_err-inside-in-Not-clause-adds
+effect_inside_of-returns-in_err-inside-in-Not-clause-adds t c = grind (arith, keeps_same, keeps_then)
+
+pub effect_inside_of-returns-in_err-inside-in-Not-clause-gives : goal.effect_inside_of-returns-in_err-inside-in-Not-clause-gives
+unfolding effect_headed
+effect_inside_of-returns-in_err-inside-in-Not-clause-gives t c = grind (arith, keeps_same, keeps_then, effect_inside_is, deleted_is)
+
+pub effect_inside_of-returns-in_err-inside-in-Not-clause-keeps : goal.effect_inside_of-returns-in_err-inside-in-Not-clause-keeps
+effect_inside_of-returns-in_err-inside-in-Not-clause-keeps t c = grind (arith, keeps_same, keeps_then)
+
+pub effect_inside_of-returns-in_err-inside-in-When-clause-adds : goal.effect_inside_of-returns-in_err-inside-in-When-clause-adds
+effect_inside_of-returns-in_err-inside-in-When-clause-adds t c = grind (arith, keeps_same, keeps_then)
+
+pub effect_inside_of-returns-in_err-inside-in-When-clause-gives : goal.effect_inside_of-returns-in_err-inside-in-When-clause-gives
+unfolding effect_headed
+effect_inside_of-returns-in_err-inside-in-When-clause-gives t c = grind (arith, keeps_same, keeps_then, effect_inside_is, guarded_is)
+
+pub effect_inside_of-returns-in_err-inside-in-When-clause-keeps : goal.effect_inside_of-returns-in_err-inside-in-When-clause-keeps
+effect_inside_of-returns-in_err-inside-in-When-clause-keeps t c = grind (arith, keeps_same, keeps_then)
+
+pub effect_inside_of-returns-in_err-part-in-Forall-clause-adds : goal.effect_inside_of-returns-in_err-part-in-Forall-clause-adds
+effect_inside_of-returns-in_err-part-in-Forall-clause-adds t c = grind (arith, keeps_same, keeps_then)
+
+pub effect_inside_of-returns-in_err-part-in-Forall-clause-gives : goal.effect_inside_of-returns-in_err-part-in-Forall-clause-gives
+unfolding effect_headed
+effect_inside_of-returns-in_err-part-in-Forall-clause-gives t c = grind (arith, keeps_same, keeps_then, effect_inside_is, bound_effect_is)
+
+pub effect_inside_of-returns-in_err-part-in-Forall-clause-keeps : goal.effect_inside_of-returns-in_err-part-in-Forall-clause-keeps
+effect_inside_of-returns-in_err-part-in-Forall-clause-keeps t c = grind (arith, keeps_same, keeps_then)
+
+pub effect_inside_of-returns-in_err-part-in-When-clause-adds : goal.effect_inside_of-returns-in_err-part-in-When-clause-adds
+effect_inside_of-returns-in_err-part-in-When-clause-adds t c = grind (arith, keeps_same, keeps_then)
+
+pub effect_inside_of-returns-in_err-part-in-When-clause-gives : goal.effect_inside_of-returns-in_err-part-in-When-clause-gives
+unfolding effect_headed
+effect_inside_of-returns-in_err-part-in-When-clause-gives t c = grind (arith, keeps_same, keeps_then, effect_inside_is, guarded_is)
+
+pub effect_inside_of-returns-in_err-part-in-When-clause-keeps : goal.effect_inside_of-returns-in_err-part-in-When-clause-keeps
+effect_inside_of-returns-in_err-part-in-When-clause-keeps t c = grind (arith, keeps_same, keeps_then)
+
+pub effect_inside_of-returns-in_err-pass-in-Increase-clause-adds : goal.effect_inside_of-returns-in_err-pass-in-Increase-clause-adds
+effect_inside_of-returns-in_err-pass-in-Increase-clause-adds t c = grind (arith, keeps_same, keeps_then)
+
+pub effect_inside_of-returns-in_err-pass-in-Increase-clause-gives : goal.effect_inside_of-returns-in_err-pass-in-Increase-clause-gives
+unfolding effect_headed
+effect_inside_of-returns-in_err-pass-in-Increase-clause-gives t c = grind (arith, keeps_same, keeps_then, effect_inside_is)
+
+pub effect_inside_of-returns-in_err-pass-in-Increase-clause-keeps : goal.effect_inside_of-returns-in_err-pass-in-Increase-clause-keeps
+effect_inside_of-returns-in_err-pass-in-Increase-clause-keeps t c = grind (arith, keeps_same, keeps_then)
+
+pub effect_inside_of-returns-in_err-vars-in-Forall-clause-adds : goal.effect_inside_of-returns-in_err-vars-in-Forall-clause-adds
+effect_inside_of-returns-in_err-vars-in-Forall-clause-adds t c = grind (arith, keeps_same, keeps_then)
+
+pub effect_inside_of-returns-in_err-vars-in-Forall-clause-gives : goal.effect_inside_of-returns-in_err-vars-in-Forall-clause-gives
+unfolding effect_headed
+effect_inside_of-returns-in_err-vars-in-Forall-clause-gives t c = grind (arith, keeps_same, keeps_then, effect_inside_is, bound_effect_is)
+
+pub effect_inside_of-returns-in_err-vars-in-Forall-clause-keeps : goal.effect_inside_of-returns-in_err-vars-in-Forall-clause-keeps
+effect_inside_of-returns-in_err-vars-in-Forall-clause-keeps t c = grind (arith, keeps_same, keeps_then)
+
+pub effect_inside_of-returns-in_ok-atom-in-Plain-clause-adds : goal.effect_inside_of-returns-in_ok-atom-in-Plain-clause-adds
+effect_inside_of-returns-in_ok-atom-in-Plain-clause-adds t c = grind (arith, keeps_same, keeps_then, bare_plain_effect)
+
+pub effect_inside_of-returns-in_ok-atom-in-Plain-clause-gives : goal.effect_inside_of-returns-in_ok-atom-in-Plain-clause-gives
+unfolding effect_headed
+effect_inside_of-returns-in_ok-atom-in-Plain-clause-gives t c = grind (arith, keeps_same, keeps_then, effect_inside_is)
+
+pub effect_inside_of-returns-in_ok-atom-in-Plain-clause-keeps : goal.effect_inside_of-returns-in_ok-atom-in-Plain-clause-keeps
+effect_inside_of-returns-in_ok-atom-in-Plain-clause-keeps t c = grind (arith, keeps_same, keeps_then)
+
+pub effect_inside_of-returns-in_ok-end_due-in-Not-clause-adds : goal.effect_inside_of-returns-in_ok-end_due-in-Not-clause-adds
+effect_inside_of-returns-in_ok-end_due-in-Not-clause-adds t c = grind (arith, keeps_same, keeps_then)
+
+pub effect_inside_of-returns-in_ok-end_due-in-Not-clause-gives : goal.effect_inside_of-returns-in_ok-end_due-in-Not-clause-gives
+unfolding effect_headed
+effect_inside_of-returns-in_ok-end_due-in-Not-clause-gives t c = grind (arith, keeps_same, keeps_then, effect_inside_is, deleted_is)
+
+pub effect_inside_of-returns-in_ok-end_due-in-Not-clause-keeps : goal.effect_inside_of-returns-in_ok-end_due-in-Not-clause-keeps
+effect_inside_of-returns-in_ok-end_due-in-Not-clause-keeps t c = grind (arith, keeps_same, keeps_then)
+
+pub effect_inside_of-returns-in_ok-part-in-Forall-clause-adds : goal.effect_inside_of-returns-in_ok-part-in-Forall-clause-adds
+effect_inside_of-returns-in_ok-part-in-Forall-clause-adds t c = grind (arith, keeps_same, keeps_then)
+
+pub effect_inside_of-returns-in_ok-part-in-Forall-clause-gives : goal.effect_inside_of-returns-in_ok-part-in-Forall-clause-gives
+unfolding effect_headed
+effect_inside_of-returns-in_ok-part-in-Forall-clause-gives t c = grind (arith, keeps_same, keeps_then, effect_inside_is, bound_effect_is)
+
+pub effect_inside_of-returns-in_ok-part-in-Forall-clause-keeps : goal.effect_inside_of-returns-in_ok-part-in-Forall-clause-keeps
+effect_inside_of-returns-in_ok-part-in-Forall-clause-keeps t c = grind (arith, keeps_same, keeps_then)
+
+pub effect_inside_of-returns-in_ok-part-in-When-clause-adds : goal.effect_inside_of-returns-in_ok-part-in-When-clause-adds
+effect_inside_of-returns-in_ok-part-in-When-clause-adds t c = grind (arith, keeps_same, keeps_then)
+
+pub effect_inside_of-returns-in_ok-part-in-When-clause-gives : goal.effect_inside_of-returns-in_ok-part-in-When-clause-gives
+unfolding effect_headed
+effect_inside_of-returns-in_ok-part-in-When-clause-gives t c = grind (arith, keeps_same, keeps_then, effect_inside_is, guarded_is)
+
+pub effect_inside_of-returns-in_ok-part-in-When-clause-keeps : goal.effect_inside_of-returns-in_ok-part-in-When-clause-keeps
+effect_inside_of-returns-in_ok-part-in-When-clause-keeps t c = grind (arith, keeps_same, keeps_then)
+
+pub effect_inside_of-returns-in_ok-pass-in-Increase-clause-adds : goal.effect_inside_of-returns-in_ok-pass-in-Increase-clause-adds
+effect_inside_of-returns-in_ok-pass-in-Increase-clause-adds t c = grind (arith, keeps_same, keeps_then)
+
+pub effect_inside_of-returns-in_ok-pass-in-Increase-clause-gives : goal.effect_inside_of-returns-in_ok-pass-in-Increase-clause-gives
+unfolding effect_headed
+effect_inside_of-returns-in_ok-pass-in-Increase-clause-gives t c = grind (arith, keeps_same, keeps_then, effect_inside_is)
+
+pub effect_inside_of-returns-in_ok-pass-in-Increase-clause-keeps : goal.effect_inside_of-returns-in_ok-pass-in-Increase-clause-keeps
+effect_inside_of-returns-in_ok-pass-in-Increase-clause-keeps t c = grind (arith, keeps_same, keeps_then)

@@ -10,20 +10,11 @@ use Rattle.gd_reader.proofs.effects.+effect.Given as goal
 abbrev pub decreases-effects_of : goal.decreases-effects_of
 decreases-effects_of l = 2 * (token_count l.s.now - l.i)
 
-abbrev pub decreases-effect_headed_of : goal.decreases-effect_headed_of
-decreases-effect_headed_of l = 2 * (token_count l.s.now - l.i) + 1
-
 abbrev pub decreases-effect_inside_of : goal.decreases-effect_inside_of
 decreases-effect_inside_of l = 2 * (token_count l.s.now - l.i)
 
 abbrev pub decreases-one_effect_of : goal.decreases-one_effect_of
 decreases-one_effect_of l = 2 * (token_count l.s.now - l.i)
-
-abbrev pub decreases-guarded_of : goal.decreases-guarded_of
-decreases-guarded_of l = 2 * (token_count l.s.now - l.i)
-
-abbrev pub decreases-bound_effect_of : goal.decreases-bound_effect_of
-decreases-bound_effect_of l = 2 * (token_count l.s.now - l.i)
 
 abbrev pub invariant-effects_of-loop-parts : goal.invariant-effects_of-loop-parts
 invariant-effects_of-loop-parts l = record {

@@ -1,8 +1,6 @@
-use Rattle.std.proofs.Common.{arith, sym, subst, ◌∙◌}
+use Rattle.std.proofs.Common.{arith}
 use Rattle.std.proofs.lemmas.Result.{err_from_is_err_and}
-use Rattle.htn_base.specs.Words.{folded}
 use Rattle.text_forms.specs.Placed.{parts_at}
-use Rattle.gd_reader.specs.Added.{Has}
 use Rattle.gd_reader.specs.Answers.{list_or_end}
 use Rattle.gd_reader.specs.Formulas.{formulas, headed}
 use Rattle.gd_reader.proofs.Adding.{bare_plain}
@@ -41,16 +39,6 @@ formulas_of-returns-clause-gives t c =
     let gives = c.in_ok-inside.ensures.gives in
     let never = c.in_default.not-Some in
     all_end list_or_end pair_behind inside_met formulas formulas_is c.loop-parts.parts c.loop-parts.names (parts_at c.args.s.now c.loop-parts.i) (formulas c.args.names.now (parts_at c.args.s.now c.args.i)) c.loop-parts.invariant.rest (rw (is_none c.in_ok-inside.field-0 never) at gives)
-
-pub headed_of-returns-in_err-atom-in-Plain-clause-adds : goal.headed_of-returns-in_err-atom-in-Plain-clause-adds
-headed_of-returns-in_err-atom-in-Plain-clause-adds t c all here =
-    let plain = c.in-Plain.is in
-    c.in_err-atom-in-Plain.ensures.adds all (subst (Has all) (bare_plain (folded c.args.word.now) (sym c.head_of.ensures.head ∙ plain)) here)
-
-pub headed_of-returns-in_ok-atom-in-Plain-clause-adds : goal.headed_of-returns-in_ok-atom-in-Plain-clause-adds
-headed_of-returns-in_ok-atom-in-Plain-clause-adds t c all here =
-    let plain = c.in-Plain.is in
-    c.in_ok-atom-in-Plain.ensures.adds all (subst (Has all) (bare_plain (folded c.args.word.now) (sym c.head_of.ensures.head ∙ plain)) here)
 
 pub bound_of-returns-in_err-inside-clause-keeps : goal.bound_of-returns-in_err-inside-clause-keeps
 bound_of-returns-in_err-inside-clause-keeps t c = grind (arith, keeps_same, keeps_then, bound_is)
@@ -115,217 +103,6 @@ formulas_of-returns-clause-keeps t c = grind (arith, keeps_same, keeps_then)
 pub formulas_of-returns-clause-adds : goal.formulas_of-returns-clause-adds
 formulas_of-returns-clause-adds t c = grind (arith, keeps_same, keeps_then)
 
-pub headed_of-returns-in_err-parts-in-And-clause-keeps : goal.headed_of-returns-in_err-parts-in-And-clause-keeps
-unfolding headed
-headed_of-returns-in_err-parts-in-And-clause-keeps t c = grind (arith, keeps_same, keeps_then)
-
-pub headed_of-returns-in_err-parts-in-And-clause-adds : goal.headed_of-returns-in_err-parts-in-And-clause-adds
-unfolding headed
-headed_of-returns-in_err-parts-in-And-clause-adds t c = grind (arith, keeps_same, keeps_then)
-
-pub headed_of-returns-in_err-parts-in-And-clause-gives : goal.headed_of-returns-in_err-parts-in-And-clause-gives
-unfolding headed
-headed_of-returns-in_err-parts-in-And-clause-gives t c = grind (arith, keeps_same, keeps_then)
-
-pub headed_of-returns-in_err-parts-in-Or-clause-keeps : goal.headed_of-returns-in_err-parts-in-Or-clause-keeps
-unfolding headed
-headed_of-returns-in_err-parts-in-Or-clause-keeps t c = grind (arith, keeps_same, keeps_then)
-
-pub headed_of-returns-in_err-parts-in-Or-clause-adds : goal.headed_of-returns-in_err-parts-in-Or-clause-adds
-unfolding headed
-headed_of-returns-in_err-parts-in-Or-clause-adds t c = grind (arith, keeps_same, keeps_then)
-
-pub headed_of-returns-in_err-parts-in-Or-clause-gives : goal.headed_of-returns-in_err-parts-in-Or-clause-gives
-unfolding headed
-headed_of-returns-in_err-parts-in-Or-clause-gives t c = grind (arith, keeps_same, keeps_then)
-
-pub headed_of-returns-in_err-part-in-Not-clause-keeps : goal.headed_of-returns-in_err-part-in-Not-clause-keeps
-unfolding headed
-headed_of-returns-in_err-part-in-Not-clause-keeps t c = grind (arith, keeps_same, keeps_then)
-
-pub headed_of-returns-in_err-part-in-Not-clause-adds : goal.headed_of-returns-in_err-part-in-Not-clause-adds
-unfolding headed
-headed_of-returns-in_err-part-in-Not-clause-adds t c = grind (arith, keeps_same, keeps_then)
-
-pub headed_of-returns-in_err-part-in-Not-clause-gives : goal.headed_of-returns-in_err-part-in-Not-clause-gives
-unfolding headed
-headed_of-returns-in_err-part-in-Not-clause-gives t c = grind (arith, keeps_same, keeps_then)
-
-pub headed_of-returns-in-Imply-clause-keeps : goal.headed_of-returns-in-Imply-clause-keeps
-unfolding headed
-headed_of-returns-in-Imply-clause-keeps t c = grind (arith, keeps_same, keeps_then)
-
-pub headed_of-returns-in-Imply-clause-adds : goal.headed_of-returns-in-Imply-clause-adds
-unfolding headed
-headed_of-returns-in-Imply-clause-adds t c = grind (arith, keeps_same, keeps_then)
-
-pub headed_of-returns-in-Imply-clause-gives : goal.headed_of-returns-in-Imply-clause-gives
-unfolding headed
-headed_of-returns-in-Imply-clause-gives t c = grind (arith, keeps_same, keeps_then)
-
-pub headed_of-returns-in_err-left-in-Equal-clause-keeps : goal.headed_of-returns-in_err-left-in-Equal-clause-keeps
-unfolding headed
-headed_of-returns-in_err-left-in-Equal-clause-keeps t c = grind (arith, keeps_same, keeps_then)
-
-pub headed_of-returns-in_err-left-in-Equal-clause-adds : goal.headed_of-returns-in_err-left-in-Equal-clause-adds
-unfolding headed
-headed_of-returns-in_err-left-in-Equal-clause-adds t c = grind (arith, keeps_same, keeps_then)
-
-pub headed_of-returns-in_err-left-in-Equal-clause-gives : goal.headed_of-returns-in_err-left-in-Equal-clause-gives
-unfolding headed
-headed_of-returns-in_err-left-in-Equal-clause-gives t c = grind (arith, keeps_same, keeps_then)
-
-pub headed_of-returns-in_err-atom-in-Plain-clause-keeps : goal.headed_of-returns-in_err-atom-in-Plain-clause-keeps
-unfolding headed
-headed_of-returns-in_err-atom-in-Plain-clause-keeps t c = grind (arith, keeps_same, keeps_then)
-
-pub headed_of-returns-in_err-atom-in-Plain-clause-gives : goal.headed_of-returns-in_err-atom-in-Plain-clause-gives
-unfolding headed
-headed_of-returns-in_err-atom-in-Plain-clause-gives t c = grind (arith, keeps_same, keeps_then)
-
-pub headed_of-returns-in_err-vars-in-Forall-clause-keeps : goal.headed_of-returns-in_err-vars-in-Forall-clause-keeps
-unfolding headed
-headed_of-returns-in_err-vars-in-Forall-clause-keeps t c = grind (arith, keeps_same, keeps_then)
-
-pub headed_of-returns-in_err-vars-in-Forall-clause-adds : goal.headed_of-returns-in_err-vars-in-Forall-clause-adds
-unfolding headed
-headed_of-returns-in_err-vars-in-Forall-clause-adds t c = grind (arith, keeps_same, keeps_then)
-
-pub headed_of-returns-in_err-vars-in-Forall-clause-gives : goal.headed_of-returns-in_err-vars-in-Forall-clause-gives
-unfolding headed
-headed_of-returns-in_err-vars-in-Forall-clause-gives t c = grind (arith, keeps_same, keeps_then)
-
-pub headed_of-returns-in_err-vars-in-Exists-clause-keeps : goal.headed_of-returns-in_err-vars-in-Exists-clause-keeps
-unfolding headed
-headed_of-returns-in_err-vars-in-Exists-clause-keeps t c = grind (arith, keeps_same, keeps_then)
-
-pub headed_of-returns-in_err-vars-in-Exists-clause-adds : goal.headed_of-returns-in_err-vars-in-Exists-clause-adds
-unfolding headed
-headed_of-returns-in_err-vars-in-Exists-clause-adds t c = grind (arith, keeps_same, keeps_then)
-
-pub headed_of-returns-in_err-vars-in-Exists-clause-gives : goal.headed_of-returns-in_err-vars-in-Exists-clause-gives
-unfolding headed
-headed_of-returns-in_err-vars-in-Exists-clause-gives t c = grind (arith, keeps_same, keeps_then)
-
-pub headed_of-returns-in_ok-parts-in-And-clause-keeps : goal.headed_of-returns-in_ok-parts-in-And-clause-keeps
-unfolding headed
-headed_of-returns-in_ok-parts-in-And-clause-keeps t c = grind (arith, keeps_same, keeps_then)
-
-pub headed_of-returns-in_ok-parts-in-And-clause-adds : goal.headed_of-returns-in_ok-parts-in-And-clause-adds
-unfolding headed
-headed_of-returns-in_ok-parts-in-And-clause-adds t c = grind (arith, keeps_same, keeps_then)
-
-pub headed_of-returns-in_ok-parts-in-And-clause-gives : goal.headed_of-returns-in_ok-parts-in-And-clause-gives
-unfolding headed
-headed_of-returns-in_ok-parts-in-And-clause-gives t c = grind (arith, keeps_same, keeps_then)
-
-pub headed_of-returns-in_ok-parts-in-Or-clause-keeps : goal.headed_of-returns-in_ok-parts-in-Or-clause-keeps
-unfolding headed
-headed_of-returns-in_ok-parts-in-Or-clause-keeps t c = grind (arith, keeps_same, keeps_then)
-
-pub headed_of-returns-in_ok-parts-in-Or-clause-adds : goal.headed_of-returns-in_ok-parts-in-Or-clause-adds
-unfolding headed
-headed_of-returns-in_ok-parts-in-Or-clause-adds t c = grind (arith, keeps_same, keeps_then)
-
-pub headed_of-returns-in_ok-parts-in-Or-clause-gives : goal.headed_of-returns-in_ok-parts-in-Or-clause-gives
-unfolding headed
-headed_of-returns-in_ok-parts-in-Or-clause-gives t c = grind (arith, keeps_same, keeps_then)
-
-pub headed_of-returns-in_ok-part-in-Not-clause-keeps : goal.headed_of-returns-in_ok-part-in-Not-clause-keeps
-unfolding headed
-headed_of-returns-in_ok-part-in-Not-clause-keeps t c = grind (arith, keeps_same, keeps_then)
-
-pub headed_of-returns-in_ok-part-in-Not-clause-adds : goal.headed_of-returns-in_ok-part-in-Not-clause-adds
-unfolding headed
-headed_of-returns-in_ok-part-in-Not-clause-adds t c = grind (arith, keeps_same, keeps_then)
-
-pub headed_of-returns-in_ok-part-in-Not-clause-gives : goal.headed_of-returns-in_ok-part-in-Not-clause-gives
-unfolding headed
-headed_of-returns-in_ok-part-in-Not-clause-gives t c = grind (arith, keeps_same, keeps_then)
-
-pub headed_of-returns-in_ok-left-in-Equal-clause-keeps : goal.headed_of-returns-in_ok-left-in-Equal-clause-keeps
-unfolding headed
-headed_of-returns-in_ok-left-in-Equal-clause-keeps t c = grind (arith, keeps_same, keeps_then)
-
-pub headed_of-returns-in_ok-left-in-Equal-clause-adds : goal.headed_of-returns-in_ok-left-in-Equal-clause-adds
-unfolding headed
-headed_of-returns-in_ok-left-in-Equal-clause-adds t c = grind (arith, keeps_same, keeps_then)
-
-pub headed_of-returns-in_ok-left-in-Equal-clause-gives : goal.headed_of-returns-in_ok-left-in-Equal-clause-gives
-unfolding headed
-headed_of-returns-in_ok-left-in-Equal-clause-gives t c = grind (arith, keeps_same, keeps_then)
-
-pub headed_of-returns-in_ok-atom-in-Plain-clause-keeps : goal.headed_of-returns-in_ok-atom-in-Plain-clause-keeps
-unfolding headed
-headed_of-returns-in_ok-atom-in-Plain-clause-keeps t c = grind (arith, keeps_same, keeps_then)
-
-pub headed_of-returns-in_ok-atom-in-Plain-clause-gives : goal.headed_of-returns-in_ok-atom-in-Plain-clause-gives
-unfolding headed
-headed_of-returns-in_ok-atom-in-Plain-clause-gives t c = grind (arith, keeps_same, keeps_then)
-
-pub headed_of-returns-in_ok-vars-in-Forall-clause-keeps : goal.headed_of-returns-in_ok-vars-in-Forall-clause-keeps
-unfolding headed
-headed_of-returns-in_ok-vars-in-Forall-clause-keeps t c = grind (arith, keeps_same, keeps_then)
-
-pub headed_of-returns-in_ok-vars-in-Forall-clause-adds : goal.headed_of-returns-in_ok-vars-in-Forall-clause-adds
-unfolding headed
-headed_of-returns-in_ok-vars-in-Forall-clause-adds t c = grind (arith, keeps_same, keeps_then)
-
-pub headed_of-returns-in_ok-vars-in-Forall-clause-gives : goal.headed_of-returns-in_ok-vars-in-Forall-clause-gives
-unfolding headed
-headed_of-returns-in_ok-vars-in-Forall-clause-gives t c = grind (arith, keeps_same, keeps_then)
-
-pub headed_of-returns-in_ok-vars-in-Exists-clause-keeps : goal.headed_of-returns-in_ok-vars-in-Exists-clause-keeps
-unfolding headed
-headed_of-returns-in_ok-vars-in-Exists-clause-keeps t c = grind (arith, keeps_same, keeps_then)
-
-pub headed_of-returns-in_ok-vars-in-Exists-clause-adds : goal.headed_of-returns-in_ok-vars-in-Exists-clause-adds
-unfolding headed
-headed_of-returns-in_ok-vars-in-Exists-clause-adds t c = grind (arith, keeps_same, keeps_then)
-
-pub headed_of-returns-in_ok-vars-in-Exists-clause-gives : goal.headed_of-returns-in_ok-vars-in-Exists-clause-gives
-unfolding headed
-headed_of-returns-in_ok-vars-in-Exists-clause-gives t c = grind (arith, keeps_same, keeps_then)
-
-pub headed_of-returns-in-Wrong-clause-keeps : goal.headed_of-returns-in-Wrong-clause-keeps
-unfolding headed
-headed_of-returns-in-Wrong-clause-keeps t c = grind (arith, keeps_same, keeps_then)
-
-pub headed_of-returns-in-Wrong-clause-adds : goal.headed_of-returns-in-Wrong-clause-adds
-unfolding headed
-headed_of-returns-in-Wrong-clause-adds t c = grind (arith, keeps_same, keeps_then)
-
-pub headed_of-returns-in-Wrong-clause-gives : goal.headed_of-returns-in-Wrong-clause-gives
-unfolding headed
-headed_of-returns-in-Wrong-clause-gives t c = grind (arith, keeps_same, keeps_then)
-
-pub inside_of-returns-in_err-word_or_end-clause-keeps : goal.inside_of-returns-in_err-word_or_end-clause-keeps
-inside_of-returns-in_err-word_or_end-clause-keeps t c = grind (arith, keeps_same, keeps_then, inside_is)
-
-pub inside_of-returns-in_err-word_or_end-clause-adds : goal.inside_of-returns-in_err-word_or_end-clause-adds
-inside_of-returns-in_err-word_or_end-clause-adds t c = grind (arith, keeps_same, keeps_then, inside_is)
-
-pub inside_of-returns-in_err-word_or_end-clause-gives : goal.inside_of-returns-in_err-word_or_end-clause-gives
-inside_of-returns-in_err-word_or_end-clause-gives t c = grind (arith, keeps_same, keeps_then, inside_is)
-
-pub inside_of-returns-in-None-clause-keeps : goal.inside_of-returns-in-None-clause-keeps
-inside_of-returns-in-None-clause-keeps t c = grind (arith, keeps_same, keeps_then, inside_is)
-
-pub inside_of-returns-in-None-clause-adds : goal.inside_of-returns-in-None-clause-adds
-inside_of-returns-in-None-clause-adds t c = grind (arith, keeps_same, keeps_then, inside_is)
-
-pub inside_of-returns-in-None-clause-gives : goal.inside_of-returns-in-None-clause-gives
-inside_of-returns-in-None-clause-gives t c = grind (arith, keeps_same, keeps_then, inside_is)
-
-pub inside_of-returns-in-Some-clause-keeps : goal.inside_of-returns-in-Some-clause-keeps
-inside_of-returns-in-Some-clause-keeps t c = grind (arith, keeps_same, keeps_then, inside_is)
-
-pub inside_of-returns-in-Some-clause-adds : goal.inside_of-returns-in-Some-clause-adds
-inside_of-returns-in-Some-clause-adds t c = grind (arith, keeps_same, keeps_then, inside_is)
-
-pub inside_of-returns-in-Some-clause-gives : goal.inside_of-returns-in-Some-clause-gives
-inside_of-returns-in-Some-clause-gives t c = grind (arith, keeps_same, keeps_then, inside_is)
-
 pub one_of-returns-in_err-inside-clause-keeps : goal.one_of-returns-in_err-inside-clause-keeps
 one_of-returns-in_err-inside-clause-keeps t c = grind (arith, keeps_same, keeps_then, one_is)
 
@@ -371,47 +148,222 @@ one_of-returns-clause-adds t c = grind (arith, keeps_same, keeps_then, one_is)
 pub one_of-returns-clause-gives : goal.one_of-returns-clause-gives
 one_of-returns-clause-gives t c = grind (arith, keeps_same, keeps_then, one_is)
 
-pub two_of-returns-in_err-inside-clause-keeps : goal.two_of-returns-in_err-inside-clause-keeps
-two_of-returns-in_err-inside-clause-keeps t c = grind (arith, keeps_same, keeps_then, two_is)
+pub inside_of-returns-in-Wrong-clause-adds : goal.inside_of-returns-in-Wrong-clause-adds
+inside_of-returns-in-Wrong-clause-adds t c = grind (arith, keeps_same, keeps_then)
 
-pub two_of-returns-in_err-inside-clause-adds : goal.two_of-returns-in_err-inside-clause-adds
-two_of-returns-in_err-inside-clause-adds t c = grind (arith, keeps_same, keeps_then, two_is)
+pub inside_of-returns-in-Wrong-clause-gives : goal.inside_of-returns-in-Wrong-clause-gives
+unfolding headed
+inside_of-returns-in-Wrong-clause-gives t c = grind (arith, keeps_same, keeps_then, inside_is)
 
-pub two_of-returns-in_err-inside-clause-gives : goal.two_of-returns-in_err-inside-clause-gives
-two_of-returns-in_err-inside-clause-gives t c = grind (arith, keeps_same, keeps_then, two_is)
+pub inside_of-returns-in-Wrong-clause-keeps : goal.inside_of-returns-in-Wrong-clause-keeps
+inside_of-returns-in-Wrong-clause-keeps t c = grind (arith, keeps_same, keeps_then)
 
-pub two_of-returns-in_err-inside_of-clause-keeps : goal.two_of-returns-in_err-inside_of-clause-keeps
-two_of-returns-in_err-inside_of-clause-keeps t c = grind (arith, keeps_same, keeps_then, two_is)
+pub inside_of-returns-in_default-clause-adds : goal.inside_of-returns-in_default-clause-adds
+inside_of-returns-in_default-clause-adds t c = grind (arith, keeps_same, keeps_then)
 
-pub two_of-returns-in_err-inside_of-clause-adds : goal.two_of-returns-in_err-inside_of-clause-adds
-two_of-returns-in_err-inside_of-clause-adds t c = grind (arith, keeps_same, keeps_then, two_is)
+pub inside_of-returns-in_default-clause-gives : goal.inside_of-returns-in_default-clause-gives
+unfolding headed
+inside_of-returns-in_default-clause-gives t c = grind (arith, keeps_same, keeps_then, inside_is)
 
-pub two_of-returns-in_err-inside_of-clause-gives : goal.two_of-returns-in_err-inside_of-clause-gives
-two_of-returns-in_err-inside_of-clause-gives t c = grind (arith, keeps_same, keeps_then, two_is)
+pub inside_of-returns-in_default-clause-keeps : goal.inside_of-returns-in_default-clause-keeps
+inside_of-returns-in_default-clause-keeps t c = grind (arith, keeps_same, keeps_then)
 
-pub two_of-returns-in_err-first-clause-keeps : goal.two_of-returns-in_err-first-clause-keeps
-two_of-returns-in_err-first-clause-keeps t c = grind (arith, keeps_same, keeps_then, two_is)
+pub inside_of-returns-in_err-at-clause-adds : goal.inside_of-returns-in_err-at-clause-adds
+inside_of-returns-in_err-at-clause-adds t c = grind (arith, keeps_same, keeps_then)
 
-pub two_of-returns-in_err-first-clause-adds : goal.two_of-returns-in_err-first-clause-adds
-two_of-returns-in_err-first-clause-adds t c = grind (arith, keeps_same, keeps_then, two_is)
+pub inside_of-returns-in_err-at-clause-gives : goal.inside_of-returns-in_err-at-clause-gives
+unfolding headed
+inside_of-returns-in_err-at-clause-gives t c = grind (arith, keeps_same, keeps_then, inside_is)
 
-pub two_of-returns-in_err-first-clause-gives : goal.two_of-returns-in_err-first-clause-gives
-two_of-returns-in_err-first-clause-gives t c = grind (arith, keeps_same, keeps_then, two_is)
+pub inside_of-returns-in_err-at-clause-keeps : goal.inside_of-returns-in_err-at-clause-keeps
+inside_of-returns-in_err-at-clause-keeps t c = grind (arith, keeps_same, keeps_then)
 
-pub two_of-returns-in_err-second-clause-keeps : goal.two_of-returns-in_err-second-clause-keeps
-two_of-returns-in_err-second-clause-keeps t c = grind (arith, keeps_same, keeps_then, two_is)
+pub inside_of-returns-in_err-atom-in-Plain-clause-adds : goal.inside_of-returns-in_err-atom-in-Plain-clause-adds
+inside_of-returns-in_err-atom-in-Plain-clause-adds t c = grind (arith, keeps_same, keeps_then, bare_plain)
 
-pub two_of-returns-in_err-second-clause-adds : goal.two_of-returns-in_err-second-clause-adds
-two_of-returns-in_err-second-clause-adds t c = grind (arith, keeps_same, keeps_then, two_is)
+pub inside_of-returns-in_err-atom-in-Plain-clause-gives : goal.inside_of-returns-in_err-atom-in-Plain-clause-gives
+unfolding headed
+inside_of-returns-in_err-atom-in-Plain-clause-gives t c = grind (arith, keeps_same, keeps_then, inside_is)
 
-pub two_of-returns-in_err-second-clause-gives : goal.two_of-returns-in_err-second-clause-gives
-two_of-returns-in_err-second-clause-gives t c = grind (arith, keeps_same, keeps_then, two_is)
+pub inside_of-returns-in_err-atom-in-Plain-clause-keeps : goal.inside_of-returns-in_err-atom-in-Plain-clause-keeps
+inside_of-returns-in_err-atom-in-Plain-clause-keeps t c = grind (arith, keeps_same, keeps_then)
 
-pub two_of-returns-clause-keeps : goal.two_of-returns-clause-keeps
-two_of-returns-clause-keeps t c = grind (arith, keeps_same, keeps_then, two_is)
+pub inside_of-returns-in_err-first-in-Imply-clause-adds : goal.inside_of-returns-in_err-first-in-Imply-clause-adds
+inside_of-returns-in_err-first-in-Imply-clause-adds t c = grind (arith, keeps_same, keeps_then)
 
-pub two_of-returns-clause-adds : goal.two_of-returns-clause-adds
-two_of-returns-clause-adds t c = grind (arith, keeps_same, keeps_then, two_is)
+pub inside_of-returns-in_err-first-in-Imply-clause-gives : goal.inside_of-returns-in_err-first-in-Imply-clause-gives
+unfolding headed
+inside_of-returns-in_err-first-in-Imply-clause-gives t c = grind (arith, keeps_same, keeps_then, inside_is, two_is)
 
-pub two_of-returns-clause-gives : goal.two_of-returns-clause-gives
-two_of-returns-clause-gives t c = grind (arith, keeps_same, keeps_then, two_is)
+pub inside_of-returns-in_err-first-in-Imply-clause-keeps : goal.inside_of-returns-in_err-first-in-Imply-clause-keeps
+inside_of-returns-in_err-first-in-Imply-clause-keeps t c = grind (arith, keeps_same, keeps_then)
+
+pub inside_of-returns-in_err-formulas_of-in-And-clause-adds : goal.inside_of-returns-in_err-formulas_of-in-And-clause-adds
+inside_of-returns-in_err-formulas_of-in-And-clause-adds t c = grind (arith, keeps_same, keeps_then)
+
+pub inside_of-returns-in_err-formulas_of-in-And-clause-gives : goal.inside_of-returns-in_err-formulas_of-in-And-clause-gives
+unfolding headed
+inside_of-returns-in_err-formulas_of-in-And-clause-gives t c = grind (arith, keeps_same, keeps_then, inside_is)
+
+pub inside_of-returns-in_err-formulas_of-in-And-clause-keeps : goal.inside_of-returns-in_err-formulas_of-in-And-clause-keeps
+inside_of-returns-in_err-formulas_of-in-And-clause-keeps t c = grind (arith, keeps_same, keeps_then)
+
+pub inside_of-returns-in_err-formulas_of-in-Or-clause-adds : goal.inside_of-returns-in_err-formulas_of-in-Or-clause-adds
+inside_of-returns-in_err-formulas_of-in-Or-clause-adds t c = grind (arith, keeps_same, keeps_then)
+
+pub inside_of-returns-in_err-formulas_of-in-Or-clause-gives : goal.inside_of-returns-in_err-formulas_of-in-Or-clause-gives
+unfolding headed
+inside_of-returns-in_err-formulas_of-in-Or-clause-gives t c = grind (arith, keeps_same, keeps_then, inside_is)
+
+pub inside_of-returns-in_err-formulas_of-in-Or-clause-keeps : goal.inside_of-returns-in_err-formulas_of-in-Or-clause-keeps
+inside_of-returns-in_err-formulas_of-in-Or-clause-keeps t c = grind (arith, keeps_same, keeps_then)
+
+pub inside_of-returns-in_err-inside-in-Imply-clause-adds : goal.inside_of-returns-in_err-inside-in-Imply-clause-adds
+inside_of-returns-in_err-inside-in-Imply-clause-adds t c = grind (arith, keeps_same, keeps_then)
+
+pub inside_of-returns-in_err-inside-in-Imply-clause-gives : goal.inside_of-returns-in_err-inside-in-Imply-clause-gives
+unfolding headed
+inside_of-returns-in_err-inside-in-Imply-clause-gives t c = grind (arith, keeps_same, keeps_then, inside_is, two_is)
+
+pub inside_of-returns-in_err-inside-in-Imply-clause-keeps : goal.inside_of-returns-in_err-inside-in-Imply-clause-keeps
+inside_of-returns-in_err-inside-in-Imply-clause-keeps t c = grind (arith, keeps_same, keeps_then)
+
+pub inside_of-returns-in_err-inside_of-in-Imply-clause-adds : goal.inside_of-returns-in_err-inside_of-in-Imply-clause-adds
+inside_of-returns-in_err-inside_of-in-Imply-clause-adds t c = grind (arith, keeps_same, keeps_then)
+
+pub inside_of-returns-in_err-inside_of-in-Imply-clause-gives : goal.inside_of-returns-in_err-inside_of-in-Imply-clause-gives
+unfolding headed
+inside_of-returns-in_err-inside_of-in-Imply-clause-gives t c = grind (arith, keeps_same, keeps_then, inside_is, two_is)
+
+pub inside_of-returns-in_err-inside_of-in-Imply-clause-keeps : goal.inside_of-returns-in_err-inside_of-in-Imply-clause-keeps
+inside_of-returns-in_err-inside_of-in-Imply-clause-keeps t c = grind (arith, keeps_same, keeps_then)
+
+pub inside_of-returns-in_err-left-in-Equal-clause-adds : goal.inside_of-returns-in_err-left-in-Equal-clause-adds
+inside_of-returns-in_err-left-in-Equal-clause-adds t c = grind (arith, keeps_same, keeps_then)
+
+pub inside_of-returns-in_err-left-in-Equal-clause-gives : goal.inside_of-returns-in_err-left-in-Equal-clause-gives
+unfolding headed
+inside_of-returns-in_err-left-in-Equal-clause-gives t c = grind (arith, keeps_same, keeps_then, inside_is)
+
+pub inside_of-returns-in_err-left-in-Equal-clause-keeps : goal.inside_of-returns-in_err-left-in-Equal-clause-keeps
+inside_of-returns-in_err-left-in-Equal-clause-keeps t c = grind (arith, keeps_same, keeps_then)
+
+pub inside_of-returns-in_err-one_of-in-Not-clause-adds : goal.inside_of-returns-in_err-one_of-in-Not-clause-adds
+inside_of-returns-in_err-one_of-in-Not-clause-adds t c = grind (arith, keeps_same, keeps_then)
+
+pub inside_of-returns-in_err-one_of-in-Not-clause-gives : goal.inside_of-returns-in_err-one_of-in-Not-clause-gives
+unfolding headed
+inside_of-returns-in_err-one_of-in-Not-clause-gives t c = grind (arith, keeps_same, keeps_then, inside_is)
+
+pub inside_of-returns-in_err-one_of-in-Not-clause-keeps : goal.inside_of-returns-in_err-one_of-in-Not-clause-keeps
+inside_of-returns-in_err-one_of-in-Not-clause-keeps t c = grind (arith, keeps_same, keeps_then)
+
+pub inside_of-returns-in_err-second-in-Imply-clause-adds : goal.inside_of-returns-in_err-second-in-Imply-clause-adds
+inside_of-returns-in_err-second-in-Imply-clause-adds t c = grind (arith, keeps_same, keeps_then)
+
+pub inside_of-returns-in_err-second-in-Imply-clause-gives : goal.inside_of-returns-in_err-second-in-Imply-clause-gives
+unfolding headed
+inside_of-returns-in_err-second-in-Imply-clause-gives t c = grind (arith, keeps_same, keeps_then, inside_is, two_is)
+
+pub inside_of-returns-in_err-second-in-Imply-clause-keeps : goal.inside_of-returns-in_err-second-in-Imply-clause-keeps
+inside_of-returns-in_err-second-in-Imply-clause-keeps t c = grind (arith, keeps_same, keeps_then)
+
+pub inside_of-returns-in_err-vars-in-Exists-clause-adds : goal.inside_of-returns-in_err-vars-in-Exists-clause-adds
+inside_of-returns-in_err-vars-in-Exists-clause-adds t c = grind (arith, keeps_same, keeps_then)
+
+pub inside_of-returns-in_err-vars-in-Exists-clause-gives : goal.inside_of-returns-in_err-vars-in-Exists-clause-gives
+unfolding headed
+inside_of-returns-in_err-vars-in-Exists-clause-gives t c = grind (arith, keeps_same, keeps_then, inside_is)
+
+pub inside_of-returns-in_err-vars-in-Exists-clause-keeps : goal.inside_of-returns-in_err-vars-in-Exists-clause-keeps
+inside_of-returns-in_err-vars-in-Exists-clause-keeps t c = grind (arith, keeps_same, keeps_then)
+
+pub inside_of-returns-in_err-vars-in-Forall-clause-adds : goal.inside_of-returns-in_err-vars-in-Forall-clause-adds
+inside_of-returns-in_err-vars-in-Forall-clause-adds t c = grind (arith, keeps_same, keeps_then)
+
+pub inside_of-returns-in_err-vars-in-Forall-clause-gives : goal.inside_of-returns-in_err-vars-in-Forall-clause-gives
+unfolding headed
+inside_of-returns-in_err-vars-in-Forall-clause-gives t c = grind (arith, keeps_same, keeps_then, inside_is)
+
+pub inside_of-returns-in_err-vars-in-Forall-clause-keeps : goal.inside_of-returns-in_err-vars-in-Forall-clause-keeps
+inside_of-returns-in_err-vars-in-Forall-clause-keeps t c = grind (arith, keeps_same, keeps_then)
+
+pub inside_of-returns-in_ok-atom-in-Plain-clause-adds : goal.inside_of-returns-in_ok-atom-in-Plain-clause-adds
+inside_of-returns-in_ok-atom-in-Plain-clause-adds t c = grind (arith, keeps_same, keeps_then, bare_plain)
+
+pub inside_of-returns-in_ok-atom-in-Plain-clause-gives : goal.inside_of-returns-in_ok-atom-in-Plain-clause-gives
+unfolding headed
+inside_of-returns-in_ok-atom-in-Plain-clause-gives t c = grind (arith, keeps_same, keeps_then, inside_is)
+
+pub inside_of-returns-in_ok-atom-in-Plain-clause-keeps : goal.inside_of-returns-in_ok-atom-in-Plain-clause-keeps
+inside_of-returns-in_ok-atom-in-Plain-clause-keeps t c = grind (arith, keeps_same, keeps_then)
+
+pub inside_of-returns-in_ok-formulas_of-in-And-clause-adds : goal.inside_of-returns-in_ok-formulas_of-in-And-clause-adds
+inside_of-returns-in_ok-formulas_of-in-And-clause-adds t c = grind (arith, keeps_same, keeps_then)
+
+pub inside_of-returns-in_ok-formulas_of-in-And-clause-gives : goal.inside_of-returns-in_ok-formulas_of-in-And-clause-gives
+unfolding headed
+inside_of-returns-in_ok-formulas_of-in-And-clause-gives t c = grind (arith, keeps_same, keeps_then, inside_is)
+
+pub inside_of-returns-in_ok-formulas_of-in-And-clause-keeps : goal.inside_of-returns-in_ok-formulas_of-in-And-clause-keeps
+inside_of-returns-in_ok-formulas_of-in-And-clause-keeps t c = grind (arith, keeps_same, keeps_then)
+
+pub inside_of-returns-in_ok-formulas_of-in-Or-clause-adds : goal.inside_of-returns-in_ok-formulas_of-in-Or-clause-adds
+inside_of-returns-in_ok-formulas_of-in-Or-clause-adds t c = grind (arith, keeps_same, keeps_then)
+
+pub inside_of-returns-in_ok-formulas_of-in-Or-clause-gives : goal.inside_of-returns-in_ok-formulas_of-in-Or-clause-gives
+unfolding headed
+inside_of-returns-in_ok-formulas_of-in-Or-clause-gives t c = grind (arith, keeps_same, keeps_then, inside_is)
+
+pub inside_of-returns-in_ok-formulas_of-in-Or-clause-keeps : goal.inside_of-returns-in_ok-formulas_of-in-Or-clause-keeps
+inside_of-returns-in_ok-formulas_of-in-Or-clause-keeps t c = grind (arith, keeps_same, keeps_then)
+
+pub inside_of-returns-in_ok-left-in-Equal-clause-adds : goal.inside_of-returns-in_ok-left-in-Equal-clause-adds
+inside_of-returns-in_ok-left-in-Equal-clause-adds t c = grind (arith, keeps_same, keeps_then)
+
+pub inside_of-returns-in_ok-left-in-Equal-clause-gives : goal.inside_of-returns-in_ok-left-in-Equal-clause-gives
+unfolding headed
+inside_of-returns-in_ok-left-in-Equal-clause-gives t c = grind (arith, keeps_same, keeps_then, inside_is)
+
+pub inside_of-returns-in_ok-left-in-Equal-clause-keeps : goal.inside_of-returns-in_ok-left-in-Equal-clause-keeps
+inside_of-returns-in_ok-left-in-Equal-clause-keeps t c = grind (arith, keeps_same, keeps_then)
+
+pub inside_of-returns-in_ok-one_of-in-Not-clause-adds : goal.inside_of-returns-in_ok-one_of-in-Not-clause-adds
+inside_of-returns-in_ok-one_of-in-Not-clause-adds t c = grind (arith, keeps_same, keeps_then)
+
+pub inside_of-returns-in_ok-one_of-in-Not-clause-gives : goal.inside_of-returns-in_ok-one_of-in-Not-clause-gives
+unfolding headed
+inside_of-returns-in_ok-one_of-in-Not-clause-gives t c = grind (arith, keeps_same, keeps_then, inside_is)
+
+pub inside_of-returns-in_ok-one_of-in-Not-clause-keeps : goal.inside_of-returns-in_ok-one_of-in-Not-clause-keeps
+inside_of-returns-in_ok-one_of-in-Not-clause-keeps t c = grind (arith, keeps_same, keeps_then)
+
+pub inside_of-returns-in_ok-second-in-Imply-clause-adds : goal.inside_of-returns-in_ok-second-in-Imply-clause-adds
+inside_of-returns-in_ok-second-in-Imply-clause-adds t c = grind (arith, keeps_same, keeps_then)
+
+pub inside_of-returns-in_ok-second-in-Imply-clause-gives : goal.inside_of-returns-in_ok-second-in-Imply-clause-gives
+unfolding headed
+inside_of-returns-in_ok-second-in-Imply-clause-gives t c = grind (arith, keeps_same, keeps_then, inside_is, two_is)
+
+pub inside_of-returns-in_ok-second-in-Imply-clause-keeps : goal.inside_of-returns-in_ok-second-in-Imply-clause-keeps
+inside_of-returns-in_ok-second-in-Imply-clause-keeps t c = grind (arith, keeps_same, keeps_then)
+
+pub inside_of-returns-in_ok-vars-in-Exists-clause-adds : goal.inside_of-returns-in_ok-vars-in-Exists-clause-adds
+inside_of-returns-in_ok-vars-in-Exists-clause-adds t c = grind (arith, keeps_same, keeps_then)
+
+pub inside_of-returns-in_ok-vars-in-Exists-clause-gives : goal.inside_of-returns-in_ok-vars-in-Exists-clause-gives
+unfolding headed
+inside_of-returns-in_ok-vars-in-Exists-clause-gives t c = grind (arith, keeps_same, keeps_then, inside_is)
+
+pub inside_of-returns-in_ok-vars-in-Exists-clause-keeps : goal.inside_of-returns-in_ok-vars-in-Exists-clause-keeps
+inside_of-returns-in_ok-vars-in-Exists-clause-keeps t c = grind (arith, keeps_same, keeps_then)
+
+pub inside_of-returns-in_ok-vars-in-Forall-clause-adds : goal.inside_of-returns-in_ok-vars-in-Forall-clause-adds
+inside_of-returns-in_ok-vars-in-Forall-clause-adds t c = grind (arith, keeps_same, keeps_then)
+
+pub inside_of-returns-in_ok-vars-in-Forall-clause-gives : goal.inside_of-returns-in_ok-vars-in-Forall-clause-gives
+unfolding headed
+inside_of-returns-in_ok-vars-in-Forall-clause-gives t c = grind (arith, keeps_same, keeps_then, inside_is)
+
+pub inside_of-returns-in_ok-vars-in-Forall-clause-keeps : goal.inside_of-returns-in_ok-vars-in-Forall-clause-keeps
+inside_of-returns-in_ok-vars-in-Forall-clause-keeps t c = grind (arith, keeps_same, keeps_then)

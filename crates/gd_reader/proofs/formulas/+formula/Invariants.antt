@@ -10,17 +10,11 @@ use Rattle.gd_reader.proofs.formulas.+formula.Given as goal
 abbrev pub decreases-formulas_of : goal.decreases-formulas_of
 decreases-formulas_of l = 2 * (token_count l.s.now - l.i)
 
-abbrev pub decreases-headed_of : goal.decreases-headed_of
-decreases-headed_of l = 2 * (token_count l.s.now - l.i) + 1
-
 abbrev pub decreases-inside_of : goal.decreases-inside_of
 decreases-inside_of l = 2 * (token_count l.s.now - l.i)
 
 abbrev pub decreases-one_of : goal.decreases-one_of
 decreases-one_of l = 2 * (token_count l.s.now - l.i)
-
-abbrev pub decreases-two_of : goal.decreases-two_of
-decreases-two_of l = 2 * (token_count l.s.now - l.i)
 
 abbrev pub decreases-bound_of : goal.decreases-bound_of
 decreases-bound_of l = 2 * (token_count l.s.now - l.i)

@@ -5,18 +5,6 @@ use Rattle.gd_reader.proofs.Sorts.{folded_rest}
 use Rattle.std.proofs.Common.{arith}
 use Rattle.gd_reader.proofs.typed_lists.param_of.Goals as goal
 
-pub returns-in-Variable-true-clause-keeps : goal.returns-in-Variable-true-clause-keeps
-unfolding param_by
-returns-in-Variable-true-clause-keeps c = grind (arith, bare_variable, bare_name, keeps_same, keeps_then, folded_rest)
-
-pub returns-in-Variable-true-clause-adds : goal.returns-in-Variable-true-clause-adds
-unfolding param_by
-returns-in-Variable-true-clause-adds c = grind (arith, bare_variable, bare_name, keeps_same, keeps_then, folded_rest)
-
-pub returns-in-Variable-true-clause-gives : goal.returns-in-Variable-true-clause-gives
-unfolding param_by
-returns-in-Variable-true-clause-gives c = grind (arith, bare_variable, bare_name, keeps_same, keeps_then, folded_rest)
-
 pub returns-in_err-name-in-Name-false-clause-keeps : goal.returns-in_err-name-in-Name-false-clause-keeps
 unfolding param_by
 returns-in_err-name-in-Name-false-clause-keeps c = grind (arith, bare_variable, bare_name, keeps_same, keeps_then, folded_rest)

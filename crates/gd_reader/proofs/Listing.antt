@@ -5,14 +5,16 @@ use Rattle.text_forms.specs.Words.{Word}
 use Rattle.gd_reader.specs.declared.stop.Stop.{Stop}
 use Rattle.gd_reader.specs.declared.term.RawTerm.{RawTerm}
 use Rattle.gd_reader.specs.declared.typed_lists.ListKind.{ListKind}
-use Rattle.gd_reader.specs.declared.typed_lists.Listing.{Listing}
 use Rattle.gd_reader.specs.declared.typed_lists.RawParam.{RawParam}
 use Rattle.gd_reader.specs.Answers.{◌>>=◌}
 use Rattle.gd_reader.specs.Terms.{Names}
 use Rattle.gd_reader.specs.TypedLists.{State, Rest, params, behind, param_due, kind_due, with_type}
 
-abbrev pub empty : Listing
-empty = record { seen = []; done = []; pending = [] }
+-- the words that it has declared, its parts so far, and those whose type is due
+pub record Listing : Type 0 where
+  pub seen : Names
+  pub done : List RawParam
+  pub pending : List RawParam
 
 -- the words whose type was due have this one
 abbrev pub settled : Listing → List RawTerm → Listing
