@@ -69,18 +69,9 @@ unfoldable mutual
   bound_effect names (word at w p) = Err (Departs 8 at)
   bound_effect names (list at p q) = listed Parameters names p >>= (λ vs. one_effect vs.1 q >>= (λ e. Ok ((vs.0, e.0), e.1)))
 
--- what was read, as the effect that it makes
+-- the effects that were read, as the one that they make
 abbrev pub anded : Result (List RawEffect × Names) Stop → Result (RawEffect × Names) Stop
 anded a = a >>= (λ es. Ok (raw.And es.0, es.1))
-
-abbrev pub for_all : Result ((List RawParam × RawEffect) × Names) Stop → Result (RawEffect × Names) Stop
-for_all a = a >>= (λ b. Ok (raw.Forall b.0.0 b.0.1, b.1))
-
-abbrev pub when : Result ((RawFormula × RawEffect) × Names) Stop → Result (RawEffect × Names) Stop
-when a = a >>= (λ g. Ok (raw.When g.0.0 g.0.1, g.1))
-
-abbrev pub delete : Result (RawAtom × Names) Stop → Result (RawEffect × Names) Stop
-delete a = a >>= (λ a. Ok (raw.Delete a.0, a.1))
 
 -- what a word at the front of a list begins
 unfoldable pub effect_headed : EffectHead → Names → ℕ → Word → Placed → Result (RawEffect × Names) Stop

@@ -61,10 +61,6 @@ unfoldable mutual
   bound names (word at w p) = Err (Departs 8 at)
   bound names (list at p q) = listed Parameters names p >>= (λ vs. one vs.1 q >>= (λ f. Ok ((vs.0, f.0), f.1)))
 
--- two formulas that were read, as the one that they make
-abbrev pub implies : Result ((RawFormula × RawFormula) × Names) Stop → Result (RawFormula × Names) Stop
-implies a = a >>= (λ fs. Ok (raw.Imply fs.0.0 fs.0.1, fs.1))
-
 -- what a word at the front of a list begins
 unfoldable pub headed : Head → Names → ℕ → Word → Placed → Result (RawFormula × Names) Stop
 headed head.And names at w p = formulas names p >>= (λ fs. Ok (raw.And fs.0, fs.1))

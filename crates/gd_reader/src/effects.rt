@@ -1,10 +1,8 @@
-ghost use Rattle.htn_base.specs.Words.{folded};
 ghost use Rattle.text_forms.specs.Placed.{parts_at};
-ghost use Rattle.gd_reader.specs.Added.{AddsOf, AddsWordOf, bare};
+ghost use Rattle.gd_reader.specs.Added.{AddsOf};
 ghost use Rattle.gd_reader.specs.Answers.{GivesWith};
-ghost use Rattle.gd_reader.specs.Effects.{effect_inside, effects, one_effect, guarded, bound_effect, deleted, effect_headed, anded, for_all, when, delete};
+ghost use Rattle.gd_reader.specs.Effects.{effect_inside, effects, one_effect, anded};
 ghost use Rattle.gd_reader.specs.Terms.{Keeps};
-ghost use Rattle.gd_reader.specs.Words.{effect_head_of};
 
 use crate::cursor::{end_due, list_due, list_or_end, pass, word_or_end};
 use crate::formulas::{RawFormula, inside_of};

@@ -1,10 +1,8 @@
-ghost use Rattle.htn_base.specs.Words.{folded};
 ghost use Rattle.text_forms.specs.Placed.{parts_at};
-ghost use Rattle.gd_reader.specs.Added.{AddsOf, AddsWordOf, bare};
+ghost use Rattle.gd_reader.specs.Added.{AddsOf};
 ghost use Rattle.gd_reader.specs.Answers.{GivesWith};
-ghost use Rattle.gd_reader.specs.Formulas.{inside, formulas, one, two, bound, headed, implies};
+ghost use Rattle.gd_reader.specs.Formulas.{inside, formulas, one, bound};
 ghost use Rattle.gd_reader.specs.Terms.{Keeps};
-ghost use Rattle.gd_reader.specs.Words.{head_of};
 
 use crate::cursor::{end_due, list_due, list_or_end, word_or_end};
 use crate::raw_params::RawParams;

@@ -1,4 +1,4 @@
-use Rattle.std.proofs.Common.{◌≡◌, ◌-◌, ◌*◌, ◌+◌, ◌≤◌}
+use Rattle.std.proofs.Common.{◌≡◌, ◌-◌, ◌*◌, ◌≤◌}
 use Rattle.text_forms.specs.Placed.{parts_at}
 use Rattle.text_forms.specs.Tokens.{token_count}
 use Rattle.gd_reader.specs.Added.{AddsOf}
