@@ -107,3 +107,39 @@ loop-seen-preserved-in_ok-push c =
       rest = (λ i. with_front (types i) (more_names (c.used_of-in-Some.new.names, c.in_ok-see-2.ensures.table i) (parts_at c.args.s.now c.in-Some.behind)))
           ∙ names_next c.loop-seen.types (c.loop-seen.names, c.loop-seen.seen) (parts_at c.args.s.now c.loop-seen.i) _ c.loop-seen.invariant.rest (c.in-Some.at, folded c.in-Some.word.now, parts_at c.args.s.now c.in-Some.behind) c.in_ok-ty.ty c.used_of-in-Some.new.names (rw is at gives) c.in_ok-ty.ensures.gives;
     }
+
+pub returns-in_err-at-2-clause-keeps : goal.returns-in_err-at-2-clause-keeps
+returns-in_err-at-2-clause-keeps c = keeps_then c.args.names.now c.used_of.new.names c.loop-seen.names c.in_ok-first.ensures.keeps c.loop-seen.invariant.keeps
+
+pub returns-in_err-at-2-clause-adds : goal.returns-in_err-at-2-clause-adds
+returns-in_err-at-2-clause-adds c all h old = c.loop-seen.invariant.adds all h (c.in_ok-first.ensures.adds all (c.in_ok-at.ensures.said all h) old)
+
+pub returns-in_err-ty-clause-keeps : goal.returns-in_err-ty-clause-keeps
+returns-in_err-ty-clause-keeps c = keeps_then c.args.names.now c.loop-seen.names c.used_of-in-Some.new.names (keeps_then c.args.names.now c.used_of.new.names c.loop-seen.names c.in_ok-first.ensures.keeps c.loop-seen.invariant.keeps) c.in_err-ty.ensures.keeps
+
+pub returns-in_err-ty-clause-adds : goal.returns-in_err-ty-clause-adds
+returns-in_err-ty-clause-adds c all h old =
+    let is = c.in-Some.is in
+    let said = c.in_ok-at-2.ensures.said in
+    let says = rw is at said in
+    c.in_err-ty.ensures.adds all (says all h) (c.loop-seen.invariant.adds all h (c.in_ok-first.ensures.adds all (c.in_ok-at.ensures.said all h) old))
+
+pub returns-in_err-see-2-clause-keeps : goal.returns-in_err-see-2-clause-keeps
+returns-in_err-see-2-clause-keeps c = keeps_then c.args.names.now c.loop-seen.names c.used_of-in-Some.new.names (keeps_then c.args.names.now c.used_of.new.names c.loop-seen.names c.in_ok-first.ensures.keeps c.loop-seen.invariant.keeps) c.in_ok-ty.ensures.keeps
+
+pub returns-in_err-see-2-clause-adds : goal.returns-in_err-see-2-clause-adds
+returns-in_err-see-2-clause-adds c all h old =
+    let is = c.in-Some.is in
+    let said = c.in_ok-at-2.ensures.said in
+    let says = rw is at said in
+    c.in_ok-ty.ensures.adds all (says all h) (c.loop-seen.invariant.adds all h (c.in_ok-first.ensures.adds all (c.in_ok-at.ensures.said all h) old))
+
+pub returns-in_err-push-clause-keeps : goal.returns-in_err-push-clause-keeps
+returns-in_err-push-clause-keeps c = keeps_then c.args.names.now c.loop-seen.names c.used_of-in-Some.new.names (keeps_then c.args.names.now c.used_of.new.names c.loop-seen.names c.in_ok-first.ensures.keeps c.loop-seen.invariant.keeps) c.in_ok-ty.ensures.keeps
+
+pub returns-in_err-push-clause-adds : goal.returns-in_err-push-clause-adds
+returns-in_err-push-clause-adds c all h old =
+    let is = c.in-Some.is in
+    let said = c.in_ok-at-2.ensures.said in
+    let says = rw is at said in
+    c.in_ok-ty.ensures.adds all (says all h) (c.loop-seen.invariant.adds all h (c.in_ok-first.ensures.adds all (c.in_ok-at.ensures.said all h) old))

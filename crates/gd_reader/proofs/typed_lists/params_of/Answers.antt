@@ -108,3 +108,41 @@ returns-clause-closed c =
     let gives = c.in_ok-at.ensures.gives in
     let never = c.in_default.not-Word in
     end_here (parts_at c.args.s.now c.loop-pending.p.token) (rw (no_word c.args.s.now c.in_ok-at.field-0 never) at gives) ∙ c.loop-pending.invariant.closed
+
+pub returns-in_err-types-clause-keeps : goal.returns-in_err-types-clause-keeps
+returns-in_err-types-clause-keeps c = keeps_then c.args.names.now c.loop-pending.names c.kind_of.new.names c.loop-pending.invariant.keeps c.in_err-types.ensures.keeps
+
+pub returns-in_err-types-clause-adds : goal.returns-in_err-types-clause-adds
+returns-in_err-types-clause-adds c all h old = c.in_err-types.ensures.adds all h (c.loop-pending.invariant.adds all h old)
+
+pub returns-in_err-new-clause-keeps : goal.returns-in_err-new-clause-keeps
+returns-in_err-new-clause-keeps c = keeps_then c.args.names.now c.loop-pending.names c.kind_of.new.names c.loop-pending.invariant.keeps c.in_ok-types.ensures.keeps
+
+pub returns-in_err-new-clause-adds : goal.returns-in_err-new-clause-adds
+returns-in_err-new-clause-adds c all h old = c.in_ok-types.ensures.adds all h (c.loop-pending.invariant.adds all h old)
+
+pub returns-in_err-done-clause-keeps : goal.returns-in_err-done-clause-keeps
+returns-in_err-done-clause-keeps c = keeps_then c.args.names.now c.loop-pending.names c.kind_of.new.names c.loop-pending.invariant.keeps c.in_ok-types.ensures.keeps
+
+pub returns-in_err-done-clause-adds : goal.returns-in_err-done-clause-adds
+returns-in_err-done-clause-adds c all h old = c.in_ok-types.ensures.adds all h (c.loop-pending.invariant.adds all h old)
+
+pub returns-in_err-param-clause-keeps : goal.returns-in_err-param-clause-keeps
+returns-in_err-param-clause-keeps c = keeps_then c.args.names.now c.loop-pending.names c.param_of.new.names c.loop-pending.invariant.keeps c.in_err-param.ensures.keeps
+
+pub returns-in_err-param-clause-adds : goal.returns-in_err-param-clause-adds
+returns-in_err-param-clause-adds c all h old =
+    let is = c.in-Word.is in
+    let said = c.in_ok-at.ensures.said in
+    let says = rw is at said in
+    c.in_err-param.ensures.adds all (says all h) (c.loop-pending.invariant.adds all h old)
+
+pub returns-in_err-push-clause-keeps : goal.returns-in_err-push-clause-keeps
+returns-in_err-push-clause-keeps c = keeps_then c.args.names.now c.loop-pending.names c.param_of.new.names c.loop-pending.invariant.keeps c.in_ok-param.ensures.keeps
+
+pub returns-in_err-push-clause-adds : goal.returns-in_err-push-clause-adds
+returns-in_err-push-clause-adds c all h old =
+    let is = c.in-Word.is in
+    let said = c.in_ok-at.ensures.said in
+    let says = rw is at said in
+    c.in_ok-param.ensures.adds all (says all h) (c.loop-pending.invariant.adds all h old)
