@@ -1,15 +1,14 @@
 -- The text of each part of a value p. One part stands behind a space, and of several each does, where no other place is named.
 -- Source: appendix A (grammar) of Fox and Long, "PDDL2.1", JAIR 20, 2003, level 1; the layout is this project's.
-use Rattle.std.specs.Prelude.{ℕ, Option, List, [], ◌∷◌, map}
-use Rattle.text_forms.specs.Lists.{name, group}
-use Rattle.text_forms.specs.Words.{Word, word_at}
+use Rattle.std.specs.Prelude.{ℕ, Option, List, ◌∷◌, map}
+use Rattle.text_forms.specs.Lists.{group}
+use Rattle.text_forms.specs.Words.{Word}
 use Rattle.text_forms.specs.Printing.{bytes, bytes_behind, headed, lines}
 use Rattle.plan_texts.specs.Declared.{kind_at}
-use Rattle.plan_texts.specs.SpellsPddl.{pddl_types, pddl_words}
+use Rattle.plan_texts.specs.SpellsPddl.{pddl_words}
 use Rattle.plan_texts.specs.Printed.{all_parts, kind_part, param_words, params_parts, term_part, applied_part, formula_part, effect_part}
 use Rattle.plan_texts.specs.PrintedTexts.{object_words, parent_words, predicate_part, fact_part, action_part}
 use Rattle.plan_model.specs.declared.terms.Term.{Term}
-use Rattle.plan_model.specs.declared.terms.Term.TheVariants.{Obj}
 use Rattle.plan_model.specs.declared.terms.Atom.{Atom}
 use Rattle.plan_model.specs.declared.terms.GroundAtom.{GroundAtom}
 use Rattle.plan_model.specs.declared.terms.Param.{Param}
@@ -22,8 +21,8 @@ use Rattle.plan_model.specs.declared.schemas.ActionSchema.{ActionSchema}
 use Rattle.plan_model.specs.declared.values.Pddl.{Pddl}
 use Rattle.pddl_printer.specs.declared.object_range.Range.{Range}
 use Rattle.plan_model.specs.declared.scope.Scope.{Scope}
-use Rattle.pddl_printer.specs.Behind.{behind, between, line, typed}
-use Rattle.pddl_printer.specs.InForm.{action_in, condition_in, parts_in, effect_in}
+use Rattle.pddl_printer.specs.Behind.{behind, line, typed}
+use Rattle.pddl_printer.specs.InForm.{action_in, condition_in, parts_in}
 use Rattle.pddl_printer.specs.Scopes.{words_in_force, words_within}
 
 module _ (p : Pddl) where

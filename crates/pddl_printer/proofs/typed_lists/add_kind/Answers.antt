@@ -1,10 +1,8 @@
-use Rattle.std.proofs.Common.{◌≡◌, [], ◌∷◌, map, refl, ap, sym, ◌∙◌, length, get_or, arith}
-use Rattle.std.proofs.lemmas.List.{length-map, nil_from_length}
+use Rattle.std.proofs.Common.{map, refl, sym, ◌∙◌, arith}
+use Rattle.std.proofs.lemmas.List.{length-map}
 use Rattle.text_forms.specs.Lists.{name}
 use Rattle.text_forms.specs.Words.{word_at}
-use Rattle.text_forms.specs.Printing.{bytes}
 use Rattle.plan_texts.specs.SpellsPddl.{pddl_types}
-use Rattle.plan_texts.specs.Printed.{kind_part}
 use Rattle.pddl_printer.specs.Behind.{behind}
 use Rattle.pddl_printer.proofs.Batches.{added-as, added-nothing, added-then, each-added-at, each-added-all}
 use Rattle.pddl_printer.proofs.Each.{behind-each-made}

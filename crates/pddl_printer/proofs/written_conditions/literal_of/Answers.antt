@@ -1,4 +1,4 @@
-use Rattle.std.proofs.Common.{◌≡◌, true, sym, ◌∙◌}
+use Rattle.std.proofs.Common.{sym, ◌∙◌}
 use Rattle.plan_model.specs.declared.formulas.Formula.TheVariants.{Forall}
 use Rattle.pddl_printer.proofs.SaidOfEach.{says-held, says-denied}
 use Rattle.pddl_printer.proofs.written_conditions.literal_of.Goals as goal
