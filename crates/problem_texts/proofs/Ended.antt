@@ -1,5 +1,5 @@
 -- What stands on a text when all was put on a sheet over it.
-use Rattle.std.proofs.Common.{ℕ, ◌≡◌, ◌^◌, ◌<◌, List, Result, Ok, Err, IfOk, inl, refl, subst, ◌∙◌, arith}
+use Rattle.std.proofs.Common.{ℕ, ◌≡◌, ◌^◌, ◌<◌, List, [], ◌++◌, Result, Ok, Err, IfOk, inl, inr, ap, refl, subst, ◌∙◌, arith}
 use Rattle.htn_base.specs.declared.memory.Memory.{Memory}
 use Rattle.plan_texts.specs.PrintedTexts.{domain_text, problem_text}
 use Rattle.plan_model.specs.declared.values.Pddl.{Pddl}
@@ -9,7 +9,8 @@ use Rattle.text_forms.specs.declared.sheets.sheet.Ended.{Ended}
 use Rattle.text_forms.specs.declared.sheets.sheet.Ended.TheVariants.{Whole, TooLong}
 use Rattle.text_forms.proofs.sheets.Written.{whole-has, whole-fits, long-counts, long-is-long}
 use Rattle.problem_texts.specs.Lengths.{IsFirstPast}
-use Rattle.problem_texts.specs.Pages.{IsAppended}
+use Rattle.problem_texts.specs.Pages.{IsAppended, AreTextsWithin}
+use Rattle.problem_texts.specs.declared.printing.Printed.TheVariants as P
 
 -- the text is as the sheet has it in the end
 module _ {bytes old : List ℕ} {limit : ℕ} {s t : Sheet} (fresh : IsFresh old limit s) (w : Wrote bytes s t) (new : List ℕ) (same : new ≡ t.into.now) where
@@ -23,3 +24,19 @@ module _ {bytes old : List ℕ} {limit : ℕ} {s t : Sheet} (fresh : IsFresh old
 pub past-domain : (limit : ℕ) (old new : List ℕ) (p q : Pddl) (ended : Ended) (n : ℕ) → p ≡ q → ended ≡ TooLong n → IsAppended (domain_text p) limit old new ended → IsFirstPast limit (domain_text q) (problem_text q) n
 past-domain limit old new p q ended n same is past =
     subst (λ r. IsFirstPast limit (domain_text r) (problem_text r) n) same (inl (subst (IsAppended (domain_text p) limit old new) is past))
+
+-- the problem is the first
+pub past-problem : (limit : ℕ) (old new old' new' : List ℕ) (p q : Pddl) (ended ended' : Ended) (n : ℕ) → p ≡ q → ended ≡ Whole → ended' ≡ TooLong n → IsAppended (domain_text p) limit old new ended → IsAppended (problem_text p) limit old' new' ended'
+    → IsFirstPast limit (domain_text q) (problem_text q) n
+past-problem limit old new old' new' p q ended ended' n same is is' domain problem =
+    let d = subst (IsAppended (domain_text p) limit old new) is domain in
+    let r = subst (IsAppended (problem_text p) limit old' new') is' problem in
+    subst (λ z. IsFirstPast limit (domain_text z) (problem_text z) n) same (inr (d.1, r.0, r.1))
+
+-- neither is too long
+pub both-within : (limit : ℕ) (old new old' new' : List ℕ) (p q : Pddl) (ended ended' : Ended) → p ≡ q → old ≡ [] → old' ≡ [] → ended ≡ Whole → ended' ≡ Whole → IsAppended (domain_text p) limit old new ended → IsAppended (problem_text p) limit old' new' ended'
+    → AreTextsWithin q limit (P.Whole (record { domain = new; problem = new' }))
+both-within limit old new old' new' p q ended ended' same none none' is is' domain problem =
+    let d = subst (IsAppended (domain_text p) limit old new) is domain in
+    let r = subst (IsAppended (problem_text p) limit old' new') is' problem in
+    subst (λ z. AreTextsWithin z limit (P.Whole (record { domain = new; problem = new' }))) same (d.0 ∙ ap (λ o. o ++ domain_text p) none, r.0 ∙ ap (λ o. o ++ problem_text p) none', d.1, r.1)

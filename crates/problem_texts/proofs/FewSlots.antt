@@ -1,13 +1,12 @@
 -- The lengths of the two texts with many slots, from those with few.
-use Rattle.std.proofs.Common.{ℕ, ◌≡◌, ◌^◌, ◌<◌, List, Option, None, Some, IfSome, length}
+use Rattle.std.proofs.Common.{ℕ, ◌≡◌, ◌^◌, ◌<◌}
 use Rattle.text_forms.specs.sheets.Sheets.{capped}
 use Rattle.plan_model.specs.declared.options.Style.{Style}
 use Rattle.plan_model.specs.declared.values.Compiled.{Compiled}
-use Rattle.plan_texts.specs.PrintedTexts.{domain_text, problem_text}
 use Rattle.slot_encoding.specs.encoded_texts.Growth.{AreOnLine}
 use Rattle.slot_encoding.proofs.encoded_texts.growth.FewSlots.{from-few}
 use Rattle.problem_texts.specs.FewSlots.{AreCapped, GrowsEvenly}
-use Rattle.problem_texts.specs.Lengths.{AreSizesOf, AreKnownTooLong, IsFirstPast}
+use Rattle.problem_texts.specs.Lengths.{AreSizesOf}
 use Rattle.problem_texts.specs.declared.printing.Sizes.{Sizes}
 
 -- what the lengths with few slots tell
@@ -24,10 +23,3 @@ sizes-are c slots style even small one two ten domain problem f g h tell tells p
     let b = g few.two few.two_encoded.encoded few.two_encoded.words in
     let d = h few.ten few.ten_encoded.encoded few.ten_encoded.words in
     (tell _ _ _ _ few.domains (record { one_is = a.0; two_is = b.0; ten_is = d.0 }) even.many, tells _ _ _ _ few.problems (record { one_is = a.1; two_is = b.1; ten_is = d.1 }) even.many)
-
--- a length that is past the limit is known for each encoded value
-pub known-long : (c : Compiled) (slots : ℕ) (style : Style) (limit : ℕ) (sizes : Sizes) → AreSizesOf c slots style sizes → (known : Option ℕ)
-    → ((domain problem : List ℕ) → sizes.domain ≡ capped (length domain) → sizes.problem ≡ capped (length problem) → IfSome known (IsFirstPast limit domain problem))
-    → AreKnownTooLong c slots style limit known
-known-long c slots style limit sizes are None past = tt
-known-long c slots style limit sizes are (Some n) past = λ p is has. (let a = are p is has in past (domain_text p) (problem_text p) a.0 a.1)

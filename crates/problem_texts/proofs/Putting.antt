@@ -1,5 +1,5 @@
 -- What is put of the actions one after another, and of the domain.
-use Rattle.std.proofs.Common.{ℕ, ◌≡◌, ◌<◌, ◌+◌, Option, None, Some, List, [], ◌∷◌, ◌++◌, map, length, take, refl, ap, sym}
+use Rattle.std.proofs.Common.{ℕ, ◌≡◌, ◌<◌, ◌+◌, Option, None, Some, List, [], ◌∷◌, ◌++◌, map, length, take, slice_get, refl, ap, sym}
 use Rattle.std.proofs.lemmas.Option.{get_or_from_slice_get}
 use Rattle.plan_model.specs.declared.terms.Param.{Param}
 use Rattle.plan_model.specs.declared.formulas.Formula.{Formula}
@@ -16,12 +16,13 @@ use Rattle.slot_encoding.specs.EncodedActions.{differ}
 use Rattle.pddl_printer.specs.Behind.{line, of_each}
 use Rattle.pddl_printer.specs.InForm.{action_in, value_in}
 use Rattle.pddl_printer.specs.Measured.{range_of}
+use Rattle.pddl_printer.specs.Texts.{action_text}
 use Rattle.pddl_printer.specs.Splits.{unequal, all_differ}
 use Rattle.pddl_printer.specs.declared.object_range.Range.{Range}
 use Rattle.pddl_printer.proofs.Each.{each-next, lines-each-made}
 use Rattle.slot_encoder.specs.Encodings.{whole, with_actions}
 use Rattle.slot_encoder.specs.declared.split_action.SplitAction.{SplitAction}
-use Rattle.problem_texts.specs.Pages.{PutsAction, actions, actions_in, value_of}
+use Rattle.problem_texts.specs.Pages.{actions, actions_in, value_of}
 use Rattle.problem_texts.specs.declared.pages.Pages.{Pages}
 
 differ-alike : (vs : List ℕ) → all_differ vs ≡ differ vs
@@ -37,6 +38,11 @@ split-whole a params before behind p q r =
 problem-alike : (range : Option Range) (p : Pddl) (actions : List ActionSchema) → problem_text (value_in range p) ≡ problem_text (value_in range (with_actions p actions))
 problem-alike None p actions = refl
 problem-alike (Some r) p actions = refl
+
+-- action k is put on a sheet
+abbrev pub PutsAction : Pages → ℕ → Sheet → Sheet → Type 0
+PutsAction pages k old new =
+    (a : ActionSchema) × (slice_get (actions pages) k ≡ Some a) × Wrote (action_text pages.encoding.now.head (range_of pages.written) a) old new
 
 module _ (pages : Pages) where
   pub problem-is : problem_text (value_in (range_of pages.written) pages.encoding.now.head) ≡ problem_text (value_of pages)

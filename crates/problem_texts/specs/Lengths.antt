@@ -1,6 +1,6 @@
 -- How long the two printed texts of a compiled problem are, and what is printed of them within a limit.
 -- Source: this project's.
-use Rattle.std.specs.Prelude.{ℕ, ◌≡◌, ◌<◌, ◌≤◌, ◌⊎◌, Option, IfSome, List, length}
+use Rattle.std.specs.Prelude.{ℕ, ◌≡◌, ◌<◌, ◌≤◌, ◌⊎◌, List, length}
 use Rattle.text_forms.specs.sheets.Sheets.{capped}
 use Rattle.plan_model.specs.declared.options.Style.{Style}
 use Rattle.plan_model.specs.declared.values.Compiled.{Compiled}
@@ -28,7 +28,3 @@ module _ (c : Compiled) (b : ℕ) (style : Style) where
   abbrev pub ArePrintedWithin : (limit : ℕ) → Printed → Type 0
   ArePrintedWithin limit (Whole texts) = ArePrinted c b style texts.domain texts.problem × (capped (length texts.domain) ≤ limit) × (capped (length texts.problem) ≤ limit)
   ArePrintedWithin limit (TooLong n) = (p : Pddl) → IsEncoded c b style p → HasEncodedWords c b p.names → IsFirstPast limit (domain_text p) (problem_text p) n
-
-  -- if a length is known, it is that of the first text past the limit
-  abbrev pub AreKnownTooLong : (limit : ℕ) → Option ℕ → Type 0
-  AreKnownTooLong limit known = IfSome known (λ n. ArePrintedWithin limit (TooLong n))

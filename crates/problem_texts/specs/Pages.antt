@@ -1,8 +1,7 @@
 -- The two pages of an encoding, what is written out in them in each style, and what is printed of them within a limit.
 -- Source: this project's.
-use Rattle.std.specs.Prelude.{ℕ, ◌≡◌, ◌<◌, ◌≤◌, Option, None, Some, IfSome, List, ◌++◌, length, slice_get}
-use Rattle.text_forms.specs.sheets.Sheets.{Wrote, capped}
-use Rattle.text_forms.specs.declared.sheets.sheet.Sheet.{Sheet}
+use Rattle.std.specs.Prelude.{ℕ, ◌≡◌, ◌<◌, ◌≤◌, Option, None, Some, IfSome, List, ◌++◌, length}
+use Rattle.text_forms.specs.sheets.Sheets.{capped}
 use Rattle.text_forms.specs.declared.sheets.sheet.Ended.{Ended}
 use Rattle.text_forms.specs.declared.sheets.sheet.Ended.TheVariants.{Whole, TooLong}
 use Rattle.plan_model.specs.declared.options.Style.{Style}
@@ -13,7 +12,7 @@ use Rattle.plan_model.specs.declared.values.Pddl.{Pddl}
 use Rattle.pddl_printer.specs.declared.object_range.Range.{Range}
 use Rattle.pddl_printer.specs.InForm.{value_in}
 use Rattle.pddl_printer.specs.Measured.{IsMeasured, range_of}
-use Rattle.pddl_printer.specs.Texts.{action_text, actions_text}
+use Rattle.pddl_printer.specs.Texts.{actions_text}
 use Rattle.slot_encoder.specs.declared.encoding.Encoding.{Encoding}
 use Rattle.slot_encoder.specs.Encodings.{IsEncoding, all_actions, with_actions}
 use Rattle.plan_texts.specs.PrintedTexts.{domain_text, problem_text}
@@ -47,11 +46,6 @@ actions pages = all_actions pages.compiled.now pages.encoding.now
 
 abbrev pub actions_in : Pages → List ActionSchema → List ℕ
 actions_in pages actions = actions_text pages.encoding.now.head (range_of pages.written) actions
-
--- action k is put on a sheet
-abbrev pub PutsAction : Pages → ℕ → Sheet → Sheet → Type 0
-PutsAction pages k old new =
-    (a : ActionSchema) × (slice_get (actions pages) k ≡ Some a) × Wrote (action_text pages.encoding.now.head (range_of pages.written) a) old new
 
 pub record ArePages (pages : Pages) : Type 0 where
   pub encoding : IsEncoding pages.compiled.now pages.encoding.now

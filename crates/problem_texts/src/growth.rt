@@ -27,22 +27,16 @@ impl FewSlots {
             .saturating_sub(self.one)
             .saturating_sub(step.saturating_mul(9));
         let steps = step.saturating_mul(u64::from(slots.saturating_sub(1)));
-        let digits = more.saturating_mul(further_digits(slots));
+        // How many digits past the first the numbers of so many slots have: so many of them are no less than each power of ten.
+        let end = u64::from(slots) + 1;
+        let tens = end.saturating_sub(10) + end.saturating_sub(100) + end.saturating_sub(1_000);
+        let thousands = end.saturating_sub(10_000)
+            + end.saturating_sub(100_000)
+            + end.saturating_sub(1_000_000);
+        let millions = end.saturating_sub(10_000_000)
+            + end.saturating_sub(100_000_000)
+            + end.saturating_sub(1_000_000_000);
+        let digits = more.saturating_mul(tens + thousands + millions);
         self.one.saturating_add(steps).saturating_add(digits)
     }
-}
-
-/// How many digits past the first the numbers of so many slots have: so many of them are no less than each power of ten.
-fn further_digits(slots: u32) -> u64
-    ensures { result ≡ growth.further_digits slots }
-{
-    let end = u64::from(slots) + 1;
-    let tens = end.saturating_sub(10) + end.saturating_sub(100) + end.saturating_sub(1_000);
-    let thousands = end.saturating_sub(10_000)
-        + end.saturating_sub(100_000)
-        + end.saturating_sub(1_000_000);
-    let millions = end.saturating_sub(10_000_000)
-        + end.saturating_sub(100_000_000)
-        + end.saturating_sub(1_000_000_000);
-    tens + thousands + millions
 }

@@ -37,28 +37,22 @@ pub(crate) fn grows_evenly(c: &Compiled, slots: u32, times: usize) -> bool
     ensures { OnTrue result (GrowsEvenly c.now slots) }
 {
     let names = c.hddl.names.len().saturating_add(c.hddl.init.len());
-    let own = names.saturating_add(declared_parts(&c.hddl));
+    let mut own = names.saturating_add(c.hddl.types.parents.len());
+    for union in c.hddl.types.unions.as_slice() {
+        own = own.saturating_add(union.len());
+    }
+    for predicate in c.hddl.predicates.as_slice() {
+        own = own.saturating_add(predicate.params.len());
+    }
+    for task in c.hddl.tasks.as_slice() {
+        own = own.saturating_add(task.params.len());
+    }
     if slots <= 10 || slots as usize <= own.saturating_mul(times) {
         return false;
     }
     let mut passed: u64 = 0;
     let named = named_objects(c, &mut passed);
     u64::from(slots) > passed.saturating_mul(times as u64) && named <= c.hddl.objects.len() as u64
-}
-
-/// How many parents and members of unions are written, and parameters of predicates and tasks.
-fn declared_parts(h: &Hddl) -> usize {
-    let mut parts = h.types.parents.len();
-    for union in h.types.unions.as_slice() {
-        parts = parts.saturating_add(union.len());
-    }
-    for predicate in h.predicates.as_slice() {
-        parts = parts.saturating_add(predicate.params.len());
-    }
-    for task in h.tasks.as_slice() {
-        parts = parts.saturating_add(task.params.len());
-    }
-    parts
 }
 
 /// Those with one slot, with two and with ten tell all.

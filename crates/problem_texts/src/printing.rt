@@ -1,11 +1,9 @@
-ghost use Rattle.std.specs.Prelude.{ℕ, ◌≡◌, ◌≤◌, IfOk, IfSome, List, length};
+ghost use Rattle.std.specs.Prelude.{IfOk};
 ghost use Rattle.plan_model.specs.Parts.{AreListed};
-ghost use Rattle.plan_texts.specs.PrintedTexts.{domain_text};
-ghost use Rattle.text_forms.specs.sheets.Sheets.{capped};
 ghost use Rattle.slot_encoder.specs.Encodings.{IsEncoding};
 ghost use Rattle.problem_texts.specs.ArePrinted.{IsCompiledProblem};
-ghost use Rattle.problem_texts.specs.Lengths.{AreKnownTooLong, ArePrintedWithin, IsFirstPast};
-ghost use Rattle.problem_texts.specs.Pages.{ArePages, AreTextsWithin, encoded_in, value_of};
+ghost use Rattle.problem_texts.specs.Lengths.{ArePrintedWithin};
+ghost use Rattle.problem_texts.specs.Pages.{AreTextsWithin, encoded_in};
 
 use crate::lengths::{grows_evenly, sizes_from_few};
 use crate::pages::Pages;
@@ -60,67 +58,23 @@ pub fn texts_of(
     requires listed { AreListed c.now.hddl.types }
     ensures printed { IfOk result (ArePrintedWithin c.now slots style.now limit) }
 {
-    match known_too_long(alloc, c, slots, style, limit)? {
-        Some(length) => Ok(Printed::TooLong(length)),
-        None => printed_within(alloc, c, slots, style, limit),
-    }
-}
-
-/// The length of the first text that is longer than the limit, where it is known before anything is printed: of 32 times more slots
-/// than what the source writes, so that this takes little of the time of printing.
-fn known_too_long(
-    alloc: Global,
-    c: &Compiled,
-    slots: u32,
-    style: &Style,
-    limit: u64,
-) -> Result<Option<u64>, Memory>
-    requires compiled { IsCompiledProblem c.now }
-    requires listed { AreListed c.now.hddl.types }
-    ensures long { IfOk result (AreKnownTooLong c.now slots style.now limit) }
-{
+    // With 32 times more slots than what the source writes the lengths take little of the time of printing.
     if grows_evenly(c, slots, 32) {
         let sizes = sizes_from_few(alloc, c, slots, style)?;
-        Ok(sizes.first_past(limit))
-    } else {
-        Ok(None)
-    }
-}
-
-impl Sizes {
-    /// The length of the first text that is longer than the limit.
-    fn first_past(self, limit: u64) -> Option<u64>
-        ensures { (domain problem : List ℕ) → self.domain ≡ capped (length domain)
-            → self.problem ≡ capped (length problem) → IfSome result (IsFirstPast limit domain problem) }
-    {
-        if self.domain > limit {
-            Some(self.domain)
-        } else if self.problem > limit {
-            Some(self.problem)
-        } else {
-            None
+        if sizes.domain > limit {
+            return Ok(Printed::TooLong(sizes.domain));
+        }
+        if sizes.problem > limit {
+            return Ok(Printed::TooLong(sizes.problem));
         }
     }
-}
-
-/// What is printed of the whole head, and of one action at a time.
-fn printed_within(
-    alloc: Global,
-    c: &Compiled,
-    slots: u32,
-    style: &Style,
-    limit: u64,
-) -> Result<Printed, Memory>
-    requires compiled { IsCompiledProblem c.now }
-    requires listed { AreListed c.now.hddl.types }
-    ensures printed { IfOk result (ArePrintedWithin c.now slots style.now limit) }
-{
     let encoding = Encoding::new(alloc, c, slots, &Style::Adl)?;
     let printed = texts_within(alloc, c, &encoding, style, limit);
     drop(encoding);
     printed
 }
 
+/// What is printed of the whole head, and of one action at a time.
 fn texts_within(
     alloc: Global,
     c: &Compiled,
@@ -134,26 +88,13 @@ fn texts_within(
     let pages = Pages::new(c, encoding, style)?;
     let mut domain = Text::new(alloc);
     match pages.append_domain(alloc, limit, &mut domain)? {
-        Ended::Whole => with_problem(alloc, &pages, limit, domain),
-        Ended::TooLong(length) => Ok(Printed::TooLong(length)),
-    }
-}
-
-/// The text of the problem beside that of the domain.
-fn with_problem(
-    alloc: Global,
-    pages: &Pages<'_>,
-    limit: u64,
-    domain: Text,
-) -> Result<Printed, Memory>
-    requires pages { ArePages pages.now }
-    requires domain { domain ≡ domain_text (value_of pages.now) }
-    requires fits { capped (length (domain_text (value_of pages.now))) ≤ limit }
-    ensures { IfOk result (AreTextsWithin (value_of pages.now) limit) }
-{
-    let mut problem = Text::new(alloc);
-    match pages.append_problem(limit, &mut problem)? {
-        Ended::Whole => Ok(Printed::Whole(Texts { domain, problem })),
+        Ended::Whole => {
+            let mut problem = Text::new(alloc);
+            match pages.append_problem(limit, &mut problem)? {
+                Ended::Whole => Ok(Printed::Whole(Texts { domain, problem })),
+                Ended::TooLong(length) => Ok(Printed::TooLong(length)),
+            }
+        }
         Ended::TooLong(length) => Ok(Printed::TooLong(length)),
     }
 }

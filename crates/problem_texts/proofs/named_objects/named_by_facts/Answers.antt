@@ -1,4 +1,4 @@
-use Rattle.std.proofs.Common.{◌≡◌, ◌<◌, length, map, arith, ap, subst, ◌∙◌}
+use Rattle.std.proofs.Common.{◌≡◌, ◌<◌, map, arith, ap, subst, ◌∙◌}
 use Rattle.plan_model.specs.declared.terms.GroundAtom.{GroundAtom}
 use Rattle.htn_base.proofs.ReadAt.{read_is, none_read}
 use Rattle.slot_encoding.specs.encoded_texts.NamedObjects.{greatest, of_object, of_fact}

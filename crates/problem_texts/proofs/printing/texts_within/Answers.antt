@@ -1,6 +1,16 @@
-use Rattle.problem_texts.proofs.Ended.{past-domain}
+use Rattle.problem_texts.proofs.Ended.{past-domain, past-problem, both-within}
 use Rattle.problem_texts.specs.Pages.{encoded_in, value_of}
 use Rattle.problem_texts.proofs.printing.texts_within.Goals as goal
+
+pub returns-in-Whole-2 : goal.returns-in-Whole-2
+returns-in-Whole-2 c =
+    both-within c.args.limit _ _ _ _ (value_of c.in_ok-pages.pages) (encoded_in c.args.c.now c.args.encoding.now c.args.style.now) c.in_ok-append_domain.field-0 c.in_ok-append_problem-in-Whole.field-0
+    c.in_ok-pages.ensures.value c.new-domain.ensures.empty c.new-problem.ensures.empty c.in-Whole.is c.in-Whole-2.is c.in_ok-append_domain.ensures c.in_ok-append_problem-in-Whole.ensures
+
+pub returns-in-TooLong-2 : goal.returns-in-TooLong-2
+returns-in-TooLong-2 c =
+    past-problem c.args.limit _ _ _ _ (value_of c.in_ok-pages.pages) (encoded_in c.args.c.now c.args.encoding.now c.args.style.now) c.in_ok-append_domain.field-0 c.in_ok-append_problem-in-Whole.field-0 c.in-TooLong-2.length
+    c.in_ok-pages.ensures.value c.in-Whole.is c.in-TooLong-2.is c.in_ok-append_domain.ensures c.in_ok-append_problem-in-Whole.ensures
 
 pub returns-in-TooLong : goal.returns-in-TooLong
 returns-in-TooLong c =
