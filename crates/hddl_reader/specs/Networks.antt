@@ -41,10 +41,6 @@ behind_name head names (close at) = Ok ((None, record { head = head; args = [] }
 behind_name head names (word at w p) = terms names (word at w p) >>= (λ ts. Ok ((None, record { head = head; args = ts.0 }), ts.1))
 behind_name head names (list at p q) = applied names p >>= (λ a. end_due q >>= (λ _. Ok ((Some head, a.0), a.1)))
 
--- what was read behind the name, as the subtask at a place
-abbrev pub placed_at : ℕ → Result ((Option RawTerm × RawAtom) × Names) Stop → Result (RawSub × Names) Stop
-placed_at place a = a >>= (λ s. Ok (record { id = s.0.0; atom = s.0.1; at = place }, s.1))
-
 -- a subtask behind the parenthesis at a place: its first word, and what is behind it
 unfoldable pub sub_headed : Names → ℕ → ℕ → Word → Placed → Result (RawSub × Names) Stop
 sub_headed names place at w p = declared 8 names at w >>= (λ h. behind_name h.0 h.1 p >>= (λ s. Ok (record { id = s.0.0; atom = s.0.1; at = place }, s.1)))

@@ -5,8 +5,7 @@ ghost use Rattle.gd_reader.specs.Answers.{GivesWith};
 ghost use Rattle.gd_reader.specs.Terms.{Keeps};
 ghost use Rattle.hddl_reader.specs.Networks.{Headed, all_of, some_of};
 
-use crate::opened::opened_or_end;
-use gd_reader::{Failure, is_word, word_due, word_or_end};
+use gd_reader::{Failure, Item as Shown, Stop, is_word, item_at, word_due, word_or_end};
 use htn_base::{List, NameTable};
 use std::alloc::Global;
 use text_forms::sexpr_text::Sexprs;
@@ -44,13 +43,19 @@ pub(crate) fn all_of<T: Item>(
     ensures gives { GivesWith names.new result (all_of T.headed names.old (parts_at s.now i)) }
 {
     let mut items = List::new(alloc);
-    while let Some((place, inside, behind)) = opened_or_end(s, i)? {
-        let (at, word, inside) = word_due(s, inside)?;
-        let item = T::headed_of(alloc, s, place, at, word, inside, names)?;
-        items.push(item)?;
-        i = behind;
+    loop {
+        match item_at(s, i) {
+            Shown::End => return Err(Failure::At(Stop::Ends)),
+            Shown::Close(_) => return Ok(items),
+            Shown::Word(at, _) => return Err(Failure::At(Stop::Departs(8, at))),
+            Shown::List(place, inside, behind) => {
+                let (at, word, inside) = word_due(s, inside)?;
+                let item = T::headed_of(alloc, s, place, at, word, inside, names)?;
+                items.push(item)?;
+                i = behind;
+            }
+        }
     }
-    Ok(items)
 }
 
 /// The items in the list whose parenthesis stands at the offset `place`, from token `i` up to its end: none,

@@ -22,7 +22,6 @@ mod form_laws;
 mod items;
 mod name_laws;
 mod networks;
-mod opened;
 mod parts;
 mod raw_sections;
 mod section_bodies;

@@ -3,7 +3,7 @@ ghost use Rattle.text_forms.specs.Placed.{parts_at};
 ghost use Rattle.gd_reader.specs.Added.{AddsOf, AddsWord, bare};
 ghost use Rattle.gd_reader.specs.Answers.{Gives, GivesWith};
 ghost use Rattle.gd_reader.specs.Terms.{Keeps};
-ghost use Rattle.hddl_reader.specs.Networks.{declared, behind_name, placed_at, name_due, then_due};
+ghost use Rattle.hddl_reader.specs.Networks.{declared, name_due, then_due};
 
 use crate::items::Item;
 use gd_reader::{
@@ -92,58 +92,13 @@ pub(crate) fn declared_of(
     }
 }
 
-// The subtask whose parenthesis stands at the offset `place`, behind the name at its front: its terms, or the task whose
-// id it is.
-#[tactic(auto, using(gd_reader::proofs::Keeping::keeps_same, gd_reader::proofs::Keeping::keeps_then), unfolding(crate::specs::Networks::behind_name))]
-fn behind_name(
-    alloc: Global,
-    s: &Sexprs<'_>,
-    head: RawTerm,
-    place: u32,
-    i: u32,
-    names: &mut NameTable,
-) -> Result<RawSub, Failure>
-    ensures keeps { Keeps names.old names.new }
-    ensures adds { AddsOf s.now names.old names.new }
-    ensures gives { GivesWith names.new result
-        (placed_at place (behind_name head names.old (parts_at s.now i))) }
-{
-    match item_at(s, i) {
-        Shown::End => Err(Failure::At(Stop::Ends)),
-        Shown::Close(_) => Ok(RawSub {
-            id: None,
-            atom: RawAtom {
-                head,
-                args: List::new(alloc),
-            },
-            at: place,
-        }),
-        Shown::Word(_, _) => {
-            let args = terms_of(alloc, s, i, names)?;
-            Ok(RawSub {
-                id: None,
-                atom: RawAtom { head, args },
-                at: place,
-            })
-        }
-        Shown::List(_, inside, behind) => {
-            let atom = applied_of(alloc, s, inside, names)?;
-            end_due(s, behind)?;
-            Ok(RawSub {
-                id: Some(head),
-                atom,
-                at: place,
-            })
-        }
-    }
-}
-
+// A subtask: behind the name at its front its terms, or the task whose id it is.
 impl Item for RawSub {
     ghost use Rattle.hddl_reader.specs.Networks.{sub_headed};
 
     ghost headed = { sub_headed };
 
-    #[tactic(auto, using(gd_reader::proofs::Keeping::keeps_same, gd_reader::proofs::Keeping::keeps_then), unfolding(crate::specs::Networks::sub_headed))]
+    #[tactic(auto, using(gd_reader::proofs::Keeping::keeps_same, gd_reader::proofs::Keeping::keeps_then), unfolding(crate::specs::Networks::sub_headed, crate::specs::Networks::behind_name))]
     fn headed_of(
         alloc: Global,
         s: &Sexprs<'_>,
@@ -154,7 +109,34 @@ impl Item for RawSub {
         names: &mut NameTable,
     ) -> Result<RawSub, Failure> {
         let head = declared_of(names, 8, at, word)?;
-        behind_name(alloc, s, head, place, i, names)
+        match item_at(s, i) {
+            Shown::End => Err(Failure::At(Stop::Ends)),
+            Shown::Close(_) => Ok(RawSub {
+                id: None,
+                atom: RawAtom {
+                    head,
+                    args: List::new(alloc),
+                },
+                at: place,
+            }),
+            Shown::Word(_, _) => {
+                let args = terms_of(alloc, s, i, names)?;
+                Ok(RawSub {
+                    id: None,
+                    atom: RawAtom { head, args },
+                    at: place,
+                })
+            }
+            Shown::List(_, inside, behind) => {
+                let atom = applied_of(alloc, s, inside, names)?;
+                end_due(s, behind)?;
+                Ok(RawSub {
+                    id: Some(head),
+                    atom,
+                    at: place,
+                })
+            }
+        }
     }
 }
 

@@ -8,11 +8,10 @@ ghost use Rattle.gd_reader.specs.Added.{AddsOf};
 ghost use Rattle.gd_reader.specs.Answers.{Gives, GivesWith};
 ghost use Rattle.gd_reader.specs.Terms.{Keeps};
 ghost use Rattle.gd_reader.specs.TypedLists.{listed};
-ghost use Rattle.hddl_reader.specs.Parts.{network_table, part_of, no_parts, stands, may_end, part_due, part_at, part_read, parts, IsPut, IsMarked};
+ghost use Rattle.hddl_reader.specs.Parts.{network_table, part_of, no_parts, stands, part_due, part_at, part_read, parts, IsPut, IsMarked};
 
 use crate::items::some_of;
 use crate::networks::{RawCon, RawPair, RawSub};
-use crate::opened::opened_due;
 use gd_reader::{
     Failure, Item, ListKind, RawAtom, RawEffect, RawFormula, RawParams, Stop, applied_of,
     effect_inside_of, end_due, inside_of, is_word, item_at, params_of,
@@ -205,20 +204,9 @@ impl RawParts {
         }
     }
 
-    // A method has a task.
-    #[tactic(auto, unfolding(crate::specs::Parts::may_end))]
-    fn may_end(&self, kind: Parted) -> bool
-        ensures { result ≡ may_end kind self.now }
-    {
-        match kind {
-            Parted::Method => self.task.is_some(),
-            Parted::Task | Parted::Action | Parted::Network => true,
-        }
-    }
-
     // The part that is next, with the offset of its list, and the numbers of the token that comes first in it
-    // and of the one behind it; or `None` at the end of the parts.
-    #[tactic(auto, unfolding(crate::specs::Parts::part_due))]
+    // and of the one behind it; or `None` at the end of the parts. A method has a task.
+    #[tactic(auto, unfolding(crate::specs::Parts::part_due, crate::specs::Parts::may_end, crate::specs::Opened::opened_due))]
     fn part_due(
         &self,
         s: &Sexprs<'_>,
@@ -232,15 +220,19 @@ impl RawParts {
     {
         match item_at(s, i) {
             Item::End => Err(Failure::At(Stop::Ends)),
-            Item::Close(_) if self.may_end(kind) => Ok(None),
-            Item::Close(at) | Item::List(at, _, _) => Err(Failure::At(Stop::Departs(8, at))),
+            Item::Close(at) => match kind {
+                Parted::Method if self.task.is_none() => Err(Failure::At(Stop::Departs(8, at))),
+                _ => Ok(None),
+            },
+            Item::List(at, _, _) => Err(Failure::At(Stop::Departs(8, at))),
             Item::Word(at, word) => match part_of(kind, word) {
                 None => Err(Failure::At(Stop::Departs(unknown(word), at))),
                 Some(part) if self.stands(part) => Err(Failure::At(Stop::Departs(7, at))),
-                Some(part) => {
-                    let (place, inside, behind) = opened_due(s, i + 1)?;
-                    Ok(Some((part, place, inside, behind)))
-                }
+                Some(part) => match item_at(s, i + 1) {
+                    Item::End => Err(Failure::At(Stop::Ends)),
+                    Item::Close(at) | Item::Word(at, _) => Err(Failure::At(Stop::Departs(8, at))),
+                    Item::List(place, inside, behind) => Ok(Some((part, place, inside, behind))),
+                },
             },
         }
     }

@@ -3,14 +3,14 @@ ghost use Rattle.std.specs.Option.{option_map};
 ghost use Rattle.text_forms.specs.Placed.{parts_at};
 ghost use Rattle.gd_reader.specs.Answers.{Gives};
 ghost use Rattle.gd_reader.specs.Shown.{AreLater, parts_at_both};
-ghost use Rattle.hddl_reader.specs.Definitions.{domain_of, or_empty, problem_of};
+ghost use Rattle.hddl_reader.specs.Definitions.{domain_of, problem_of};
 ghost use Rattle.hddl_reader.specs.Sections.{no_sections, has_section, may_end, section_due};
 
 use crate::parts::RawParts;
 use crate::sections::{
     Definition, Language, RawAction, RawDomain, RawHead, RawMethod, RawProblem, Section,
 };
-use crate::wholes::{facts_or_none, or_none, or_true, params_or_none};
+use crate::wholes::{or_none, or_true, params_or_none};
 use gd_reader::{Failure, Item, RawFacts, RawFormula, RawParams, Stop, item_at};
 use htn_base::{List, Name};
 use std::alloc::Global;
@@ -183,23 +183,14 @@ impl RawSections {
             goal,
             metric: _,
         } = self;
-        let (params, net) = or_empty(network).into_network(alloc);
+        let (params, net) = network.unwrap_or(RawParts::new()).into_network(alloc);
         RawProblem {
             name,
             objects: params_or_none(alloc, objects),
             params,
             net,
-            init: facts_or_none(alloc, init),
+            init: init.unwrap_or(RawFacts::new(alloc)),
             goal: or_true(alloc, goal),
         }
-    }
-}
-
-fn or_empty(parts: Option<RawParts>) -> RawParts
-    ensures { result ≡ or_empty parts }
-{
-    match parts {
-        None => RawParts::new(),
-        Some(parts) => parts,
     }
 }

@@ -1,10 +1,10 @@
 ghost use Rattle.std.specs.Prelude.{◌≡◌};
-ghost use Rattle.hddl_reader.specs.Sections.{or_none, or_true, or_nothing, head_of, network_of, action_of, method_of};
+ghost use Rattle.hddl_reader.specs.Sections.{or_none, or_true, head_of, network_of, action_of, method_of};
 
 use crate::networks::RawNet;
 use crate::parts::RawParts;
 use crate::sections::{RawAction, RawHead, RawMethod};
-use gd_reader::{RawEffect, RawFacts, RawFormula, RawParams, RawTerm};
+use gd_reader::{RawEffect, RawFormula, RawParams, RawTerm};
 use htn_base::List;
 use std::alloc::Global;
 
@@ -26,30 +26,12 @@ pub(crate) fn params_or_none(alloc: Global, params: Option<RawParams>) -> RawPar
     }
 }
 
-pub(crate) fn facts_or_none(alloc: Global, facts: Option<RawFacts>) -> RawFacts
-    ensures { result ≡ or_none facts }
-{
-    match facts {
-        None => RawFacts::new(alloc),
-        Some(facts) => facts,
-    }
-}
-
 pub(crate) fn or_true(alloc: Global, formula: Option<RawFormula>) -> RawFormula
     ensures { result ≡ or_true formula }
 {
     match formula {
         None => RawFormula::And(List::new(alloc)),
         Some(formula) => formula,
-    }
-}
-
-fn or_nothing(alloc: Global, effect: Option<RawEffect>) -> RawEffect
-    ensures { result ≡ or_nothing effect }
-{
-    match effect {
-        None => RawEffect::And(List::new(alloc)),
-        Some(effect) => effect,
     }
 }
 
@@ -69,7 +51,8 @@ impl RawParts {
         ensures { result ≡ action_of name self }
     {
         let pre = or_true(alloc, self.pre.take());
-        let eff = or_nothing(alloc, self.eff.take());
+        let nothing = RawEffect::And(List::new(alloc));
+        let eff = self.eff.take().unwrap_or(nothing);
         let head = self.into_head(alloc, name);
         RawAction { head, pre, eff }
     }
