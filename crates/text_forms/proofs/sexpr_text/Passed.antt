@@ -1,5 +1,5 @@
 -- What is passed over in a text, and what is known behind it.
-use Rattle.std.proofs.Common.{◌≡◌, ℕ, zero, suc, ◌+◌, ◌-◌, ◌≤◌, ◌<◌, Bool, true, false, length, get_or, Some, None, Result, Ok, Err, IfOk, OnOk, List, [], ◌∷◌, ◌++◌, refl, sym, ap, ◌∙◌, subst, arith}
+use Rattle.std.proofs.Common.{◌≡◌, ℕ, zero, suc, ◌+◌, ◌-◌, ◌≤◌, ◌<◌, Bool, true, false, length, get_or, Some, None, List, [], ◌∷◌, ◌++◌, refl, sym, ap, ◌∙◌, subst, arith}
 use Rattle.std.proofs.lemmas.Bool.{eqb-true}
 use Rattle.std.specs.Prelude.{◌==◌}
 use Rattle.text_forms.specs.Bytes.{Class, blank, opening, closing, letter, class_of}
@@ -64,11 +64,6 @@ closes_one (o ∷ opens) at (suc d) e = omega arith
 pub one_less : (d : ℕ) → d - 1 ≡ deeper stop d
 one_less zero = refl
 one_less (suc d) = omega arith
-
--- what a call that hands the next place back tells where it has an answer
-pub marked : {A B E : Type 0} (text : List ℕ) (new : Marks) (q : Place) (r : Result Place E) → IfOk r (λ p. p ≡ q) → OnOk r A → OnOk r B → (A → B → IsReadTo text new q) → IfOk r (IsReadTo text new)
-marked text new q (Ok p) same a b read = subst (IsReadTo text new) (sym same) (read a b)
-marked text new q (Err e) same a b read = same
 
 -- what is known behind a token
 module _ (text : List ℕ) (old new : Marks) (p q : Place) (read : IsReadTo text old p) (one : new.count ≡ old.count + 1) (on : GoesOnMarking p q old new) where

@@ -1,5 +1,5 @@
 -- Where tokens begin in a text, and how many lists are open there.
-use Rattle.std.specs.Prelude.{◌≡◌, ℕ, zero, suc, ◌+◌, ◌*◌, ◌<◌, ◌≤◌, false, true, Option, Some, None, List, [], ◌∷◌, ◌++◌, drop, length, slice_get}
+use Rattle.std.specs.Prelude.{◌≡◌, ℕ, zero, suc, ◌+◌, ◌*◌, ◌<◌, ◌≤◌, false, Option, Some, None, List, [], ◌∷◌, ◌++◌, drop, length, slice_get}
 use Rattle.text_forms.specs.Bytes.{Class, blank, opening, closing, letter, bad, classes_from}
 use Rattle.text_forms.specs.Faults.{open_after, code_at}
 use Rattle.text_forms.specs.Least.{least, least_fault}
@@ -13,17 +13,9 @@ use Rattle.text_forms.specs.sexpr_text.Seen.{piece_seen}
 abbrev pub classes_at : List ℕ → ℕ → List Class
 classes_at text at = classes_from false (drop at text)
 
--- from a place on, in front of which a comment is open
-abbrev pub comment_at : List ℕ → ℕ → List Class
-comment_at text at = classes_from true (drop at text)
-
 -- the tokens from a place on, where no word is under way
 abbrev pub tokens_at : List ℕ → ℕ → List Token
 tokens_at text at = tokens_from None at (classes_at text at)
-
--- the same where a comment is open
-abbrev pub comment_tokens_at : List ℕ → ℕ → List Token
-comment_tokens_at text at = tokens_from None at (comment_at text at)
 
 -- the tokens from a piece on
 abbrev pub tokens_by : List ℕ → Option Piece → List Token

@@ -27,16 +27,6 @@ pub record Wrote (bytes : List ℕ) (old new : Sheet) : Type 0 where
   pub wanting : old.wanting ≡ true → new.wanting ≡ true
   pub cause : new.whole ≡ false → (old.whole ≡ false) ⊎ (new.wanting ≡ true) ⊎ (new.limit < capped new.count)
 
--- Bytes that were counted already are appended to a text that has all before them, or not, and then for a cause.
-pub record Appended (bytes : List ℕ) (old new : Sheet) : Type 0 where
-  pub same_text : new.into.ghost_name ≡ old.into.ghost_name
-  pub same_limit : new.limit ≡ old.limit
-  pub same_count : new.count ≡ old.count
-  pub all : new.whole ≡ true → (new.into.now ≡ old.into.now ++ bytes) × (new.count ≤ new.limit)
-  pub nothing : new.whole ≡ false → new.into.now ≡ old.into.now
-  pub wanting : old.wanting ≡ true → new.wanting ≡ true
-  pub cause : new.whole ≡ false → (new.wanting ≡ true) ⊎ (new.limit < new.count)
-
 -- so many bytes are counted and nothing else changes
 pub record Counts (bytes : ℕ) (old new : Sheet) : Type 0 where
   pub same_into : new.into ≡ old.into

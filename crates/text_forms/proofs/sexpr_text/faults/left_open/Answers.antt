@@ -1,7 +1,5 @@
-use Rattle.std.proofs.Common.{◌≡◌, ap, sym, ◌∙◌, reverse, drop, arith}
+use Rattle.std.proofs.Common.{arith}
 use Rattle.std.proofs.lemmas.Grind.{common_steps}
-use Rattle.text_forms.specs.Bytes.{classes_from}
-use Rattle.text_forms.specs.Least.{left_open, innermost_unless}
 use Rattle.text_forms.proofs.sexpr_text.Popped.{popped}
 use Rattle.text_forms.proofs.sexpr_text.faults.left_open.Goals as goal
 use Rattle.text_forms.proofs.sexpr_text.faults.left_open.Goals.{in-Opening, in-Closing, in-Closing-2, in_default}

@@ -3,12 +3,12 @@ use Rattle.std.proofs.lemmas.List.{length-reverse, reverse-append}
 use Rattle.std.specs.Prelude.{IfSome, slice_set}
 use Rattle.text_forms.proofs.Lists.{few_tokens}
 use Rattle.text_forms.specs.Bytes.{opening, closing, letter}
-use Rattle.text_forms.specs.Faults.{innermost, but_innermost}
+use Rattle.text_forms.specs.Faults.{innermost}
 use Rattle.text_forms.specs.Tokens.{start, stop, word}
 use Rattle.text_forms.specs.declared.sexpr_text.tokens.Kind.TheVariants.{Start, Stop, Word}
 use Rattle.text_forms.specs.declared.sexpr_text.tokens.Piece.{Piece}
 use Rattle.text_forms.specs.sexpr_text.Index.{GoesOnIndexing, closed, ended}
-use Rattle.text_forms.specs.sexpr_text.Places.{IsGoodAt, IsPassed, deeper}
+use Rattle.text_forms.specs.sexpr_text.Places.{IsGoodAt, IsPassed}
 use Rattle.text_forms.specs.sexpr_text.Seen.{class_seen, opened}
 use Rattle.text_forms.proofs.sexpr_text.Indexed.{below_innermost, ended_set, enter_more, enter_start, enter_stop, enter_word, entry_of, one_out}
 use Rattle.text_forms.proofs.sexpr_text.Passed.{passed_opening, passed_closing, passed_word}

@@ -1,7 +1,7 @@
 use Rattle.std.proofs.Common.{Some, ap, sym, ◌∙◌}
 use Rattle.text_forms.specs.declared.sexpr_text.tokens.Kind.TheVariants.{Start, Stop, Word}
 use Rattle.text_forms.specs.sexpr_text.Index.{cut}
-use Rattle.text_forms.specs.sexpr_text.Seen.{class_seen, piece_seen}
+use Rattle.text_forms.specs.sexpr_text.Seen.{class_seen}
 use Rattle.text_forms.proofs.sexpr_text.Entries.{entry_within, kept, cut_word, cut_within, piece_made}
 use Rattle.text_forms.proofs.sexpr_text.index.Index.piece.Goals as goal
 
