@@ -1,4 +1,4 @@
-ghost use Rattle.std.specs.Prelude.{◌≡◌, ◌++◌};
+ghost use Rattle.std.specs.Prelude.{◌≡◌, ◌<◌, ◌++◌, false};
 ghost use Rattle.plan_model.specs.task_networks.Spelling.{numbers};
 ghost use Rattle.pddl_printer.specs.Batches.{Added};
 ghost use Rattle.pddl_printer.specs.Behind.{of_each};
@@ -34,9 +34,7 @@ pub(crate) fn is_over(range: Range, params: &[Param]) -> bool
     }
 }
 
-/// Puts the literal for each object, each behind a space. Where the sheet takes nothing more they are counted all at once:
-/// each has its own bytes, which are those of an instance with no letter in place of the variable, and for each such place
-/// the letters of its object.
+/// Puts the literal for each object, each behind a space. Where the sheet takes nothing more they are counted all at once.
 pub(crate) fn put_each(
     p: &Pddl,
     scope: &Scope<'_>,
@@ -50,16 +48,7 @@ pub(crate) fn put_each(
     if sheet.is_whole() {
         put_instances(p, scope, of, literal, sheet);
     } else if of.written.range.count > 0 {
-        let before = sheet.counted();
-        let nothing = Instance {
-            depth: of.depth,
-            word: b"",
-        };
-        draw_instance(p, scope, nothing, literal, sheet);
-        let own = sheet.counted() - before;
-        let others = u64::from(of.written.range.count - 1);
-        let letters = holes(literal, of.depth).saturating_mul(of.written.letters);
-        sheet.skip(others.saturating_mul(own).saturating_add(letters));
+        count_instances(p, scope, of, literal, sheet);
     }
 }
 
@@ -134,4 +123,30 @@ fn add_around(
         batch.add(object_word(p, first + k as usize), sheet);
     }
     batch.add(behind, sheet);
+}
+
+/// Counts them, of which there is one at least: each has its own bytes, which are those of an instance with no letter
+/// in place of the variable, and for each such place the letters of its object.
+fn count_instances(
+    p: &Pddl,
+    scope: &Scope<'_>,
+    of: Instances,
+    literal: &Literal<'_>,
+    sheet: &mut Sheet<'_>,
+)
+    requires measured { IsMeasured p.now of.written }
+    requires some { 0 < of.written.range.count }
+    requires over { sheet.old.whole ≡ false }
+    ensures { Wrote (literals_text p.now scope.now of literal.now) sheet.old sheet.new }
+{
+    let before = sheet.counted();
+    let nothing = Instance {
+        depth: of.depth,
+        word: b"",
+    };
+    draw_instance(p, scope, nothing, literal, sheet);
+    let own = sheet.counted() - before;
+    let others = u64::from(of.written.range.count - 1);
+    let letters = holes(literal, of.depth).saturating_mul(of.written.letters);
+    sheet.skip(others.saturating_mul(own).saturating_add(letters));
 }

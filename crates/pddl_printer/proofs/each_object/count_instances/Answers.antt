@@ -17,10 +17,10 @@ use Rattle.pddl_printer.proofs.InstanceBytes.{instance-is}
 use Rattle.pddl_printer.proofs.CountedSheets.{wrote-skipped, all-counted}
 use Rattle.pddl_printer.proofs.LiteralLengths.{literal-length, behind-length}
 use Rattle.pddl_printer.proofs.Places.{past-end}
-use Rattle.pddl_printer.proofs.each_object.put_each.Goals as goal
+use Rattle.pddl_printer.proofs.each_object.count_instances.Goals as goal
 
-pub returns-then-of-gt0 : goal.returns-then-of-gt0
-returns-then-of-gt0 c =
+pub returns : goal.returns
+returns c =
     let p = c.args.p.now in
     let v = pddl_words p in
     let s = words_in_force p c.args.scope.now in
@@ -40,7 +40,7 @@ returns-then-of-gt0 c =
     let b = c.counted.ensures.counted in
     let below : before < 2 ^ 64 = let e = c.counted-before.type_inv in omega (arith, a, e) in
     let one : after ≡ capped (before + own) = let e = c.counted.type_inv in let f = first.counted in omega (arith, b, e, f) in
-    let some : r.count ≡ suc (r.count - 1) = let e = c.if-of-gt0.true in omega (arith, e) in
+    let some : r.count ≡ suc (r.count - 1) = let e = c.requires.some in omega (arith, e) in
     let rest : c.saturating_add.result ≡ capped (capped ((r.count - 1) * (after - before)) + capped (capped (holes d l) * capped letters)) =
     let e : c.from-others.result * (c.counted.result - c.counted-before.result) ≡ (r.count - 1) * (after - before) = λ i. c.from-others.ensures i * (b i - a i) in
     let f : c.holes.result * c.args.of.written.letters ≡ capped (holes d l) * capped letters = λ i. c.holes.ensures i * c.requires.measured i in
@@ -48,5 +48,5 @@ returns-then-of-gt0 c =
     let h = c.saturating_mul-letters.ensures in
     let k = c.saturating_add.ensures in
     omega (arith, e, f, g, h, k) in
-    wrote-skipped (literals_text p c.args.scope.now c.args.of l) c.saturating_add.result (sym c.is_whole.ensures.whole ∙ c.if-is_whole.false) first c.skip.ensures.counted
+    wrote-skipped (literals_text p c.args.scope.now c.args.of l) c.saturating_add.result c.requires.over first c.skip.ensures.counted
     (all-counted before after own r.count (r.count - 1) (holes d l) letters c.saturating_add.result below one some rest ∙ ap (λ n. capped (before + n)) (sym all))
