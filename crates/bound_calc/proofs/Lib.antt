@@ -7,3 +7,4 @@ pub mod Counting
 pub mod examples
 pub mod Ready
 pub mod Cycles
+pub mod Options

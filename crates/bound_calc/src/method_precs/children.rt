@@ -5,7 +5,7 @@ use htn_base::{List, Memory};
 use plan_model::{Child, Head, MethodSchema, Term};
 use std::alloc::Global;
 
-/// The check, if there is one, and then the subtasks in written order.
+/// The check, if there is one, with all parameters, and then the subtasks in written order.
 pub fn children_of(
     alloc: Global,
     checked: bool,
@@ -16,26 +16,18 @@ pub fn children_of(
 {
     let mut children = List::with_room(alloc, method.children.len().saturating_add(1))?;
     if checked {
-        children.put(check_of(alloc, method))?;
+        let mut args = List::new(alloc);
+        for k in 0..method.params.len() as u32 {
+            args.push(Term::Var(k))?;
+        }
+        children.push(Child {
+            id: None,
+            head: Head::Check,
+            args,
+        })?;
     }
     for child in method.children.as_slice() {
         children.put(child.copy(alloc))?;
     }
     Ok(children)
-}
-
-/// The check of the method's precondition, with all parameters.
-fn check_of(alloc: Global, method: &MethodSchema) -> Result<Child, Memory>
-    requires { length method.now.params < 2 ^ 32 }
-    ensures { IfOk result (λ child. child ≡ spec.check_child method.now) }
-{
-    let mut args = List::new(alloc);
-    for k in 0..method.params.len() as u32 {
-        args.push(Term::Var(k))?;
-    }
-    Ok(Child {
-        id: None,
-        head: Head::Check,
-        args,
-    })
 }

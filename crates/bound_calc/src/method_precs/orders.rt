@@ -1,9 +1,8 @@
-ghost use Rattle.std.specs.Prelude.{◌≡◌, ◌≤◌, ◌<◌, ◌^◌, ◌↔◌, IsTrue, IfOk, length};
+ghost use Rattle.std.specs.Prelude.{◌≡◌, ◌≤◌, ◌<◌, ◌^◌, IfOk, length};
 ghost use Rattle.plan_model.specs.task_networks.Order.{IsAcyclic};
 ghost use Rattle.plan_model.specs.Pairs.{Pairs};
 ghost use Rattle.plan_model.specs.net_order.Meaning.{AreBelow};
-ghost use Rattle.plan_model.specs.net_order.Answers.{maximal};
-ghost use Rattle.bound_calc.specs.method_precs.Ordered.{IsCopier, IsOrdered, IsOrderedBy};
+ghost use Rattle.bound_calc.specs.method_precs.Ordered.{IsOrdered, IsOrderedBy};
 
 use htn_base::{List, Memory};
 use plan_model::Pair;
@@ -67,7 +66,7 @@ impl Ordered {
         let heir = order.heir();
         let mut copiers = List::new(alloc);
         for child in 0..count {
-            if is_copier(order, heir, child) {
+            if heir != Some(child) && order.maximal(child) {
                 copiers.push(child)?;
             }
         }
@@ -76,16 +75,5 @@ impl Ordered {
             heir,
             copiers,
         })
-    }
-}
-
-/// Whether the child is a maximal one other than the heir.
-fn is_copier(order: &Order, heir: Option<u32>, child: u32) -> bool
-    requires { child < order.now.count }
-    ensures { IsTrue result ↔ IsCopier (maximal order.now) heir child }
-{
-    match heir {
-        Some(heir) => heir != child && order.maximal(child),
-        None => order.maximal(child),
     }
 }
