@@ -61,9 +61,6 @@ module _ (c : Compiled) (edges : List Declared.Edge) where
 abbrev pub IsClosing : List ℕ → List Ends → List Bool → ℕ → Type 0
 IsClosing groups ends bad k = (n : Ends) × (slice_get ends k ≡ Some n) × (slice_get bad k ≡ Some true) × (slice_index_or groups n.from 0 ≡ slice_index_or groups n.to 0)
 
-abbrev pub IsFirstClosing : List ℕ → List Ends → List Bool → Option ℕ → Type 0
-IsFirstClosing groups ends bad first = MatchOption first ((k : ℕ) → IsClosing groups ends bad k → ⊥) (λ k. IsClosing groups ends bad k × ((j : ℕ) → j < k → IsClosing groups ends bad j → ⊥))
-
 -- so many edges lead from the task to the goal, one after another
 abbrev pub Leads : List Ends → ℕ → ℕ → ℕ → Type 0
 Leads ends goal zero t = t ≡ goal

@@ -73,8 +73,18 @@ fn schema_of(alloc: Global, checked: bool, method: &MethodSchema) -> Result<Meth
       pairs = spec.pairs checked method.now;
     }) }
 {
-    let network = network_of(alloc, checked, method)?;
-    Ok(joined(method, network, front_of(alloc, method)?))
+    let (children, pairs, constraints) = network_of(alloc, checked, method)?;
+    let (params, task_args, pre) = front_of(alloc, method)?;
+    Ok(MethodSchema {
+        name: method.name,
+        params,
+        task: method.task,
+        task_args,
+        pre,
+        children,
+        pairs,
+        constraints,
+    })
 }
 
 /// Copies of the parameters, the task's arguments and the precondition.
@@ -102,31 +112,4 @@ fn network_of(
     let children = children_of(alloc, checked, method)?;
     let pairs = pairs_of(alloc, checked, method)?;
     Ok((children, pairs, method.constraints.copy(alloc)?))
-}
-
-/// The method of this name and task with these parts.
-fn joined(
-    method: &MethodSchema,
-    network: (List<Child>, List<Pair>, List<Constraint>),
-    front: (List<Param>, List<Term>, Formula),
-) -> MethodSchema
-    requires front { front ≡ front_parts method.now }
-    ensures { result ≡ record method.now {
-      children = network.0;
-      pairs = network.1;
-      constraints = network.2;
-    } }
-{
-    let (children, pairs, constraints) = network;
-    let (params, task_args, pre) = front;
-    MethodSchema {
-        name: method.name,
-        params,
-        task: method.task,
-        task_args,
-        pre,
-        children,
-        pairs,
-        constraints,
-    }
 }

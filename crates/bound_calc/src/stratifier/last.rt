@@ -1,8 +1,8 @@
 //! The last child of a method. Where the pairs have no cycle, it is the only child that is first in none of them.
 
-ghost use Rattle.std.specs.Prelude.{◌<◌, ◌^◌, length, IfOk};
+ghost use Rattle.std.specs.Prelude.{IfOk};
 ghost use Rattle.bound_calc.specs.stratifier.Conditions.{IsOrdered, IsSmallMethod};
-ghost use Rattle.bound_calc.specs.stratifier.Bad.{IsLastOf, IsOnlyUnmarkedOrNone};
+ghost use Rattle.bound_calc.specs.stratifier.Bad.{IsLastOf};
 
 use htn_base::Memory;
 use plan_model::MethodPlan;
@@ -18,23 +18,14 @@ pub fn last_child(alloc: Global, plan: &MethodPlan) -> Result<Option<u32>, Memor
     for pair in plan.schema.pairs.as_slice() {
         firsts[pair.first as usize] = true;
     }
-    let last = only_unmarked(firsts.as_slice());
-    Ok(last)
-}
-
-/// The place of the only item without a mark; `None` where there is no such item, or more than one.
-fn only_unmarked(marks: &[bool]) -> Option<u32>
-    requires small { length marks.now < 2 ^ 32 }
-    ensures only { IsOnlyUnmarkedOrNone marks.now result }
-{
     let mut only = None;
-    for (i, mark) in marks.iter().enumerate() {
-        if !*mark {
+    for (i, first) in firsts.as_slice().iter().enumerate() {
+        if !*first {
             if only.is_some() {
-                return None;
+                return Ok(None);
             }
             only = Some(i as u32);
         }
     }
-    only
+    Ok(only)
 }

@@ -8,7 +8,7 @@ ghost use Rattle.bound_calc.specs.stratifier.Conditions.{IsSmallCompiled};
 ghost use Rattle.bound_calc.specs.stratifier.Listed.{edge_of};
 ghost use Rattle.bound_calc.specs.stratifier.Bad.{AreBadMarks};
 ghost use Rattle.bound_calc.specs.stratifier.NamedCycle.{AreGroupNumbers, MayBeNamed};
-ghost use Rattle.bound_calc.specs.stratifier.NamedSearch.{AreEnds, AreEndsBelow, AreDistances, AreFirstSteps, AreFound, ClosesAt, HasEnds, IsCycleAt, IsEndsOf, IsFirstClosing, IsOneMore, IsSourceOf, IsSourceInto};
+ghost use Rattle.bound_calc.specs.stratifier.NamedSearch.{AreEnds, AreEndsBelow, AreDistances, AreFirstSteps, AreFound, ClosesAt, HasEnds, IsCycleAt, IsEndsOf, IsOneMore, IsSourceOf, IsSourceInto};
 
 use crate::stratifier::by_task::empty_lists;
 use crate::stratifier::edge::Edge;
@@ -40,13 +40,14 @@ pub(crate) fn named_cycle(
     requires groups { AreGroupNumbers c.now groups.now }
     ensures named { IfOk result (λ cycle. MayBeNamed c.now cycle) }
 {
-    match first_closing(groups, ends, bad.as_slice()) {
-        None => Ok(None),
-        Some(first) => {
-            let cycle = cycle_from(alloc, c, edges.as_slice(), ends, first)?;
-            Ok(Some(cycle))
+    let marks = bad.as_slice();
+    for (k, e) in ends.iter().enumerate() {
+        if marks[k] && groups[e.from as usize] == groups[e.to as usize] {
+            let cycle = cycle_from(alloc, c, edges.as_slice(), ends, k)?;
+            return Ok(Some(cycle));
         }
     }
+    Ok(None)
 }
 
 /// The ends of all edges.
@@ -76,20 +77,6 @@ fn ends_of(methods: &[MethodPlan], edge: Edge) -> Ends
         },
         _ => unreachable!(),
     }
-}
-
-/// The place of the first bad edge within a group.
-fn first_closing(groups: &[u32], ends: &[Ends], bad: &[bool]) -> Option<usize>
-    requires marks { length bad.now ≡ length ends.now }
-    requires within { AreEndsBelow (length groups.now) ends.now }
-    ensures first { IsFirstClosing groups.now ends.now bad.now result }
-{
-    for (k, e) in ends.iter().enumerate() {
-        if bad[k] && groups[e.from as usize] == groups[e.to as usize] {
-            return Some(k);
-        }
-    }
-    None
 }
 
 /// The edge at this place, and of the shortest walks from its end to its start the one that comes first.

@@ -1,31 +1,68 @@
-use Rattle.std.proofs.Common.{sym, subst}
-use Rattle.std.proofs.lemmas.Option.{slice_get_within}
+use Rattle.std.proofs.Common.{◌<◌, Bool, Some, length, false, get_or, sym, ap, subst, ◌∙◌, arith}
+use Rattle.std.proofs.lemmas.Option.{slice_get-get_or}
+use Rattle.std.proofs.lemmas.Bool.{false≢true}
+use Rattle.bound_calc.specs.declared.stratifier.named.Ends.{Ends}
 use Rattle.bound_calc.specs.stratifier.Bad.{AreBadMarks}
 use Rattle.bound_calc.specs.stratifier.NamedSearch.{ClosesAt, IsCycleAt}
-use Rattle.bound_calc.proofs.stratifier.NamedFirst.{closes_at, named_at, none_closes}
+use Rattle.bound_calc.proofs.stratifier.NamedFirst.{none_more, none_at_all, closes_at, named_at, none_closes}
 use Rattle.bound_calc.proofs.stratifier.named.named_cycle.Goals as goal
+use Rattle.bound_calc.proofs.stratifier.named.named_cycle.Goals.{else-marks-k-via-then-marks-k+else-groups-e, else-marks-k-via-else-marks-k}
 
-pub returns-in-None : goal.returns-in-None
-returns-in-None c =
-    let edges = c.args.edges.now in
-    let marks = subst (AreBadMarks c.args.c.now edges) (sym c.as_slice.ensures.items) c.requires.bad in
-    record { named = none_closes c.args.c.now edges c.requires.edges c.as_slice.result.now marks c.args.groups.now c.requires.groups c.args.ends.now c.requires.ends c.in-None.ensures.first }
+abbrev nowhere : Ends
+nowhere = record { from = 0; to = 0 }
 
-pub cycle_from-requires-clause-first : goal.cycle_from-requires-clause-first
-cycle_from-requires-clause-first c =
-    let closing = c.in-Some.ensures.first.0 in
-    slice_get_within c.args.ends.now c.in-Some.first closing.0 closing.1
+pub bounds-marks-k : goal.bounds-marks-k
+bounds-marks-k c = omega (arith, c.requires.bad.room, c.requires.ends.room, ap length c.as_slice-marks.ensures.items, c.loop-k-test.true)
+
+pub bounds-groups-e : goal.bounds-groups-e
+bounds-groups-e c = omega (arith, (c.requires.ends.below c.loop-k.k nowhere c.loop-k-test.true).0, c.requires.groups.room)
+
+pub bounds-groups-e-then-marks-k : goal.bounds-groups-e-then-marks-k
+bounds-groups-e-then-marks-k c = omega (arith, (c.requires.ends.below c.loop-k.k nowhere c.loop-k-test.true).1, c.requires.groups.room)
+
+pub loop-k-preserved : goal.loop-k-preserved
+loop-k-preserved c =
+    let ends = c.args.ends.now in
+    let marks = c.as_slice-marks.result.now in
+    let k = c.loop-k.k in
+    let l = c.loop-k-test.true in
+    let b : k < length marks = omega (arith, c.requires.bad.room, c.requires.ends.room, ap length c.as_slice-marks.ensures.items, c.loop-k-test.true) in
+    none_more c.args.groups.now ends marks k (get_or ends k nowhere) (get_or marks k false) (slice_get-get_or ends k nowhere l) (slice_get-get_or marks k false b)
+    (λ mark same. elim c.else-marks-k.branch [
+      | else-marks-k-via-then-marks-k+else-groups-e w ↦ w.if-groups-e.false same
+      | else-marks-k-via-else-marks-k w ↦ false≢true (sym w.if-marks-k.false ∙ mark)
+    ])
+    c.loop-k.invariant
 
 pub cycle_from-requires-clause-closes : goal.cycle_from-requires-clause-closes
 cycle_from-requires-clause-closes c =
     let edges = c.args.edges.now in
-    let marks = subst (AreBadMarks c.args.c.now edges) (sym c.as_slice.ensures.items) c.requires.bad in
-    subst (λ s. ClosesAt c.args.c.now s c.in-Some.first) (sym c.as_slice-in-Some.ensures.items)
-    (closes_at c.args.c.now edges c.requires.edges c.as_slice.result.now marks c.args.groups.now c.requires.groups c.args.ends.now c.requires.ends c.in-Some.first c.in-Some.ensures.first.0)
+    let ends = c.args.ends.now in
+    let bad = c.as_slice-marks.result.now in
+    let k = c.loop-k.k in
+    let l = c.loop-k-test.true in
+    let b : k < length bad = omega (arith, c.requires.bad.room, c.requires.ends.room, ap length c.as_slice-marks.ensures.items, c.loop-k-test.true) in
+    let marks = subst (AreBadMarks c.args.c.now edges) (sym c.as_slice-marks.ensures.items) c.requires.bad in
+    let mark = slice_get-get_or bad k false b ∙ ap (λ (x : Bool). Some x) c.if-marks-k.true in
+    subst (λ s. ClosesAt c.args.c.now s k) (sym c.as_slice.ensures.items)
+    (closes_at c.args.c.now edges c.requires.edges bad marks c.args.groups.now c.requires.groups ends c.requires.ends k (get_or ends k nowhere, slice_get-get_or ends k nowhere l, mark, c.if-groups-e.true))
 
-pub returns-in_ok-cycle-in-Some : goal.returns-in_ok-cycle-in-Some
-returns-in_ok-cycle-in-Some c =
+pub returns-then-groups-e : goal.returns-then-groups-e
+returns-then-groups-e c =
     let edges = c.args.edges.now in
-    let marks = subst (AreBadMarks c.args.c.now edges) (sym c.as_slice.ensures.items) c.requires.bad in
-    let cycle = subst (λ s. IsCycleAt c.args.c.now s c.in-Some.first c.in_ok-cycle-in-Some.cycle) c.as_slice-in-Some.ensures.items c.in_ok-cycle-in-Some.ensures.cycle in
-    record { named = named_at c.args.c.now edges c.requires.edges c.as_slice.result.now marks c.args.groups.now c.requires.groups c.args.ends.now c.requires.ends c.in-Some.first c.in_ok-cycle-in-Some.cycle c.in-Some.ensures.first.0 c.in-Some.ensures.first.1 cycle }
+    let ends = c.args.ends.now in
+    let bad = c.as_slice-marks.result.now in
+    let k = c.loop-k.k in
+    let l = c.loop-k-test.true in
+    let b : k < length bad = omega (arith, c.requires.bad.room, c.requires.ends.room, ap length c.as_slice-marks.ensures.items, c.loop-k-test.true) in
+    let marks = subst (AreBadMarks c.args.c.now edges) (sym c.as_slice-marks.ensures.items) c.requires.bad in
+    let mark = slice_get-get_or bad k false b ∙ ap (λ (x : Bool). Some x) c.if-marks-k.true in
+    let cycle = subst (λ s. IsCycleAt c.args.c.now s k c.in_ok-cycle.cycle) c.as_slice.ensures.items c.in_ok-cycle.ensures.cycle in
+    record { named = named_at c.args.c.now edges c.requires.edges bad marks c.args.groups.now c.requires.groups ends c.requires.ends k c.in_ok-cycle.cycle (get_or ends k nowhere, slice_get-get_or ends k nowhere l, mark, c.if-groups-e.true) c.loop-k.invariant cycle }
+
+pub returns : goal.returns
+returns c =
+    let edges = c.args.edges.now in
+    let bad = c.as_slice-marks.result.now in
+    let marks = subst (AreBadMarks c.args.c.now edges) (sym c.as_slice-marks.ensures.items) c.requires.bad in
+    record { named = none_closes c.args.c.now edges c.requires.edges bad marks c.args.groups.now c.requires.groups c.args.ends.now c.requires.ends (none_at_all c.args.groups.now c.args.ends.now bad c.loop-k.k c.loop-k-test.false c.loop-k.invariant) }
