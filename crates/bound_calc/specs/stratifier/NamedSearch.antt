@@ -1,6 +1,6 @@
 -- The search for the bad cycle that is named: the tasks that edges go from and to, distances, and first steps.
 -- Source: this project's.
-use Rattle.std.specs.Prelude.{ℕ, zero, suc, ◌≡◌, ◌+◌, ◌<◌, ◌≤◌, ◌⊎◌, List, [], ◌∷◌, map, length, All, Contains, Bool, true, slice_get, slice_index_or, Option, Some, None, MatchOption, sum_by}
+use Rattle.std.specs.Prelude.{ℕ, zero, suc, ◌≡◌, ◌+◌, ◌<◌, ◌≤◌, ◌⊎◌, List, [], ◌∷◌, map, length, All, Contains, Bool, true, slice_get, slice_index_or, Option, Some, None, sum_by}
 use Rattle.plan_model.specs.declared.networks.Head.TheVariants.{Task}
 use Rattle.plan_model.specs.declared.networks.Child.{Child}
 use Rattle.plan_model.specs.declared.schemas.MethodPlan.{MethodPlan}
