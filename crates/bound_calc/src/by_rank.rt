@@ -3,8 +3,7 @@ ghost use Rattle.bound_calc.specs.stratifier.Conditions.{IsSmallCompiled};
 ghost use Rattle.bound_calc.specs.stratifier.Stratified.{IsStratified};
 ghost use Rattle.bound_calc.specs.ByRank.{AreByRank};
 
-use crate::stratifier::Ranks;
-use crate::stratifier::reach::reached;
+use crate::stratifier::{Ranks, reached};
 use htn_base::Memory;
 use plan_model::Compiled;
 use std::alloc::Global;
@@ -20,7 +19,7 @@ pub fn by_rank(alloc: Global, c: &Compiled, r: &Ranks) -> Result<Vec<(u32, u32)>
     for (m, plan) in c.methods.as_slice().iter().enumerate() {
         let task = plan.schema.task;
         if marks[task as usize] {
-            places.push((r.group(task), m as u32))?;
+            places.push((r.rank(task), m as u32))?;
         }
     }
     places.sort_unstable();

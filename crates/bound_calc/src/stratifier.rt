@@ -14,8 +14,11 @@ mod last;
 mod laws;
 mod named;
 mod ranks;
-pub(crate) mod reach;
+mod reach;
 
+pub use all_edges::edges;
+pub use bad::bad_marks;
 pub use edge::Edge;
 pub use laws::compiled_networks_have_no_cycle;
 pub use ranks::{Ranks, StratError, stratify};
+pub use reach::reached;

@@ -10,7 +10,7 @@ use plan_model::{Child, Compiled, Head};
 use std::alloc::Global;
 
 /// All edges, by the method's place and then the child's number.
-pub(crate) fn edges(alloc: Global, c: &Compiled) -> Result<List<Edge>, Memory>
+pub fn edges(alloc: Global, c: &Compiled) -> Result<List<Edge>, Memory>
     requires small { IsSmallCompiled c.now }
     ensures edges { IfOk result (λ edges. AreEdges c.now (map edge_of edges)) }
 {

@@ -11,11 +11,7 @@ use plan_model::Compiled;
 use std::alloc::Global;
 
 /// For each of the edges whether it is bad: whether its child isn't the last of its method.
-pub(crate) fn bad_marks(
-    alloc: Global,
-    c: &Compiled,
-    edges: &List<Edge>,
-) -> Result<List<bool>, Memory>
+pub fn bad_marks(alloc: Global, c: &Compiled, edges: &List<Edge>) -> Result<List<bool>, Memory>
     requires small { IsSmallCompiled c.now }
     requires ordered { HaveNoCycle c.now }
     requires edges { AreEdges c.now (map edge_of edges.now) }

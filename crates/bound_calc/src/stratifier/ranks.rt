@@ -27,7 +27,15 @@ impl Drop for Ranks {
 }
 
 impl Ranks {
-    /// The number of the task's group, which is its rank; the top task's number is that of the tasks.
+    /// The rank of the task; the top task's number is that of the tasks.
+    pub fn rank(&self, task: u32) -> u32
+        requires task { task < length self.now.numbers.items }
+        ensures rank { result ≡ number_of self.now task }
+    {
+        self.numbers[task as usize]
+    }
+
+    /// The number of the task's group, which is its rank.
     pub fn group(&self, task: u32) -> u32
         requires task { task < length self.now.numbers.items }
         ensures group { result ≡ number_of self.now task }

@@ -8,7 +8,7 @@ use plan_model::{Compiled, Head, MethodPlan};
 use std::alloc::Global;
 
 /// A mark for each task, the top task too: whether it is reached from the top.
-pub(crate) fn reached(alloc: Global, c: &Compiled) -> Result<Vec<bool>, Memory>
+pub fn reached(alloc: Global, c: &Compiled) -> Result<Vec<bool>, Memory>
     requires small { IsSmallCompiled c.now }
     ensures room { IfOk result (λ marks. length marks.items ≡ length c.now.hddl.tasks + 1) }
     ensures reached { IfOk result (λ marks. AreReachedMarks c.now marks.items) }

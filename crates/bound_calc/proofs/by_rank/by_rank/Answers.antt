@@ -19,7 +19,7 @@ loop-m-preserved c =
     let told = c.in_ok-marks.ensures.reached plan.schema.task in
     elim c.if-index.branch [
       | then-index+in_ok-push w ↦ placed_more c.args.c.now c.args.r.now k c.loop-m.places.items c.if-index.places.items plan is (told.0 (sym mark ∙ w.if-index.true)) c.loop-m.invariant
-          (ap (λ (v : Vec (ℕ × ℕ) Global). v.items) w.places-is ∙ w.in_ok-push.ensures.items ∙ ap (λ n. c.loop-m.places.items ++ (n, c.loop-m.m) ∷ []) w.group.ensures.group)
+          (ap (λ (v : Vec (ℕ × ℕ) Global). v.items) w.places-is ∙ w.in_ok-push.ensures.items ∙ ap (λ n. c.loop-m.places.items ++ (n, c.loop-m.m) ∷ []) w.rank.ensures.rank)
       | else-index w ↦ subst (ArePlaced c.args.c.now c.args.r.now (c.loop-m.m + 1)) (sym (ap (λ (v : Vec (ℕ × ℕ) Global). v.items) w.places-is))
           (placed_same c.args.c.now c.args.r.now k c.loop-m.places.items plan is (λ r. false≢true (sym w.if-index.false ∙ mark ∙ told.1 r)) c.loop-m.invariant)
     ]
@@ -45,8 +45,8 @@ bounds-plan-items-m c = grind (arith, common_steps)
 pub index-requires : goal.index-requires
 index-requires c = grind (arith, common_steps)
 
-pub group-requires : goal.group-requires
-group-requires c = grind (arith, common_steps)
+pub rank-requires : goal.rank-requires
+rank-requires c = grind (arith, common_steps)
 
 pub overflow_cast-m : goal.overflow_cast-m
 overflow_cast-m c = grind (arith, common_steps)
