@@ -10,4 +10,5 @@ pub mod Closing
 pub mod Sorting
 pub mod Bits
 pub mod Fronts
+pub mod Walks
 pub mod examples

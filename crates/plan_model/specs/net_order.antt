@@ -6,3 +6,5 @@ pub mod Meaning
 pub mod Closure
 pub mod Front
 pub mod Placed
+pub mod Outside
+pub mod Walk

@@ -15,6 +15,7 @@ mod last;
 mod line;
 mod order;
 mod sorted;
+mod walk;
 
 pub use child_set::ChildSet;
 pub use direct::empty_sets;

@@ -1,70 +1,91 @@
 -- Sets that are closed child by child along the line.
-use Rattle.std.proofs.Common.{ℕ, ◌≡◌, ◌+◌, ◌<◌, ◌≤◌, ◌↔◌, ◌⊎◌, ◌||◌, inl, inr, List, [], ◌∷◌, ◌++◌, length, Bool, true, false, IsTrue, Contains, take, drop, get_or, set, refl, sym, subst, ap, ◌∙◌, arith, take-append-drop, append_assoc, get_or-take, length-take}
+use Rattle.std.proofs.Common.{ℕ, ◌≡◌, ◌+◌, ◌<◌, ◌≤◌, ◌↔◌, ◌⊎◌, ◌||◌, inl, inr, List, [], ◌∷◌, ◌++◌, length, Bool, true, false, IsTrue, Contains, take, drop, get_or, set, refl, sym, subst, ap, ◌∙◌, arith, take-append-drop, append_assoc, get_or-take, length-take-le}
 use Rattle.std.proofs.lemmas.List.{take_more, drop_more, take_all, get_or_default}
-use Rattle.std.proofs.lemmas.List.Elements.{Contains-append_left, Contains-push, Contains-push_cases}
+use Rattle.std.proofs.lemmas.List.Elements.{Contains-get_or, Contains-append_left, Contains-push, Contains-push_cases}
 use Rattle.std.proofs.lemmas.Bool.{cases_eq, cases_lt, true≢false, or_cases, or_left, or_right}
 use Rattle.plan_model.specs.task_networks.Order.{Precedes, direct, through, IsNext, IsLine}
 use Rattle.plan_model.proofs.task_networks.Orders.{precedes_then, last_pair}
 use Rattle.plan_model.proofs.task_networks.Lists.{not-in_empty}
-use Rattle.plan_model.specs.net_order.Marks.{has, marked, Marked, IsSquare, IsWithin, IsWithinBelow, IsLeastOutside}
+use Rattle.plan_model.specs.net_order.Marks.{has, marked, Marked, IsSquare, IsClosedOn, IsGathered}
 use Rattle.plan_model.specs.net_order.Line.{IsClosed}
+use Rattle.plan_model.specs.net_order.Outside.{AreWithinFrom}
 use Rattle.plan_model.proofs.net_order.Closures.{has_added}
 use Rattle.plan_model.proofs.net_order.Lines.{listed_before}
 use Rattle.plan_model.proofs.net_order.Adding.{set_at, set_apart, square_set}
 
--- what precedes a member of one of these children's sets is in that set too
-abbrev pub IsClosedOn : List (List Bool) → List ℕ → Type 0
-IsClosedOn before children = (a i k : ℕ) → Contains children k → Marked before i k → Marked before a i → Marked before a k
-
--- one of the earlier ones that is in the set of this child, or what precedes such a one
-abbrev pub IsGathered : List (List Bool) → List ℕ → ℕ → ℕ → Type 0
-IsGathered before earlier child a = (i : ℕ) × Contains earlier i × Marked before i child × ((a ≡ i) ⊎ Marked before a i)
-
--- what is gathered of those in the set of this child that are below this number
-pub record IsGathering (before : List (List Bool)) (earlier : List ℕ) (child low : ℕ) (s : List Bool) : Type 0 where
+-- what is gathered from the earlier ones, from place p on
+pub record IsGatheredFrom (before : List (List Bool)) (earlier : List ℕ) (child p : ℕ) (s : List Bool) : Type 0 where
   pub room : length s ≡ length before
-  pub sound : (a : ℕ) → IsTrue (has s a) → IsGathered before earlier child a
+  pub sound : (a : ℕ) → IsTrue (has s a) → (i : ℕ) × Contains earlier i × Marked before i child × ((a ≡ i) ⊎ Marked before a i)
   pub down : (a b : ℕ) → IsTrue (has s b) → Marked before a b → IsTrue (has s a)
-  pub done : IsWithinBelow low (get_or before child []) s
+  pub done : (r : ℕ) → p ≤ r → r < length earlier → Marked before (get_or earlier r 0) child → IsTrue (has s (get_or earlier r 0))
 
 module _ (before : List (List Bool)) (earlier : List ℕ) (child : ℕ) where
-  pub gathered_none : (s : List Bool) → length s ≡ length before → ((a : ℕ) → has s a ≡ false) → IsGathering before earlier child 0 s
+  pub gathered_none : (s : List Bool) → length s ≡ length before → ((a : ℕ) → has s a ≡ false) → IsGatheredFrom before earlier child (length earlier) s
   gathered_none s room empty = record {
     room = room;
     sound = λ a t. absurd (let e = empty a in true≢false (sym t ∙ e));
     down = λ a b t m. absurd (let e = empty b in true≢false (sym t ∙ e));
-    done = λ i l t. absurd (omega arith);
+    done = λ r a b m. absurd (omega arith);
   }
 
-  pub gathered_all : (low : ℕ) (s : List Bool) → IsGathering before earlier child low s → IsWithin (get_or before child []) s → (a : ℕ) → IsTrue (has s a) ↔ IsGathered before earlier child a
-  gathered_all low s h all a = (h.sound a, from)
+  pub gathered_all : (s : List Bool) → IsGatheredFrom before earlier child 0 s → IsGathered before earlier child s
+  gathered_all s h a = (h.sound a, from)
     where
-      from : IsGathered before earlier child a → IsTrue (has s a)
-      from (i, c, m, x) = elim x [ inl g ↦ subst (λ y. IsTrue (has s y)) (sym g) (all i m) | inr g ↦ h.down a i (all i m) g ]
+      from : (i : ℕ) × Contains earlier i × Marked before i child × ((a ≡ i) ⊎ Marked before a i) → IsTrue (has s a)
+      from (i, (r, l, e), m, x) =
+          let f : get_or earlier r 0 ≡ i = get_or_default earlier r 0 i l ∙ e in
+          let t : IsTrue (has s i) = subst (λ y. IsTrue (has s y)) f (h.done r (omega arith) l (subst (λ y. Marked before y child) (sym f) m)) in
+          elim x [ inl g ↦ subst (λ y. IsTrue (has s y)) (sym g) t | inr g ↦ h.down a i t g ]
 
-  pub past_low : (low other : ℕ) (s : List Bool) → IsGathering before earlier child low s → IsLeastOutside (get_or before child []) s other → low ≤ other
-  past_low low other s h least = elim (cases_lt other low) [ inl l ↦ absurd (least.outside (h.done other l least.inside)) | inr l ↦ l ]
-
-  pub gathered_more : (low other : ℕ) (s s' : List Bool) → IsGathering before earlier child low s → IsLeastOutside (get_or before child []) s other → Contains earlier other → IsClosedOn before earlier → length s' ≡ length before
-      → ((a : ℕ) → IsTrue (has s' a) ↔ ((a ≡ other) ⊎ (IsTrue (has s a) ⊎ Marked before a other))) → IsGathering before earlier child (other + 1) s'
-  gathered_more low other s s' h least here closed room is = record {
-    room = room;
-    sound = sound;
-    down = down;
-    done = λ i l t. elim (cases_eq i other) [ inl e ↦ (is i).1 (inl e) | inr d ↦ (is i).1 (inr (inl (least.least i (omega arith) t))) ];
-  }
+  -- where none of the first n from place m on is left
+  pub gathered_from : (n m : ℕ) (s : List Bool) → n ≤ length earlier → IsGatheredFrom before earlier child n s → AreWithinFrom m (take n earlier) (get_or before child []) s → IsGatheredFrom before earlier child m s
+  gathered_from n m s k h within = record { room = h.room; sound = h.sound; down = h.down; done = done }
     where
-      sound : (a : ℕ) → IsTrue (has s' a) → IsGathered before earlier child a
-      sound a t = elim ((is a).0 t) [
-        | inl e ↦ (other, here, least.inside, inl e)
-        | inr x ↦ elim x [ inl u ↦ h.sound a u | inr m ↦ (other, here, least.inside, inr m) ]
+      done : (r : ℕ) → m ≤ r → r < length earlier → Marked before (get_or earlier r 0) child → IsTrue (has s (get_or earlier r 0))
+      done r a b t = elim (cases_lt r n) [
+        | inl l ↦ (
+            let e = get_or-take n earlier r 0 l in
+            let f = length-take-le n earlier k in
+            subst (λ x. IsTrue (has s x)) e (within r a (omega (arith, f)) (subst (λ x. Marked before x child) (sym e) t))
+            )
+        | inr l ↦ h.done r l b t
       ]
 
-      down : (a b : ℕ) → IsTrue (has s' b) → Marked before a b → IsTrue (has s' a)
-      down a b t m = (is a).1 (inr (elim ((is b).0 t) [
-        | inl e ↦ inr (subst (Marked before a) e m)
-        | inr x ↦ elim x [ inl u ↦ inl (h.down a b u m) | inr n ↦ inr (closed a b other here n m) ]
-      ]))
+  module _ (p : ℕ) (l : p < length earlier) (s : List Bool) (h : IsGatheredFrom before earlier child (p + 1) s) where
+    abbrev other : ℕ
+    other = get_or earlier p 0
+
+    done_more : (s' : List Bool) → ((a : ℕ) → IsTrue (has s a) → IsTrue (has s' a)) → (Marked before other child → IsTrue (has s' other))
+        → (r : ℕ) → p ≤ r → r < length earlier → Marked before (get_or earlier r 0) child → IsTrue (has s' (get_or earlier r 0))
+    done_more s' keeps f r a b m = elim (cases_eq r p) [
+      | inl e ↦ subst (λ x. Marked before (get_or earlier x 0) child → IsTrue (has s' (get_or earlier x 0))) (sym e) f m
+      | inr d ↦ keeps (get_or earlier r 0) (h.done r (omega arith) b m)
+    ]
+
+    pub gathered_more : IsClosedOn before earlier → Marked before other child → (s' : List Bool) → length s' ≡ length before
+        → ((a : ℕ) → IsTrue (has s' a) ↔ ((a ≡ other) ⊎ (IsTrue (has s a) ⊎ Marked before a other))) → IsGatheredFrom before earlier child p s'
+    gathered_more closed direct_mark s' room is = record {
+      room = room;
+      sound = sound;
+      down = down;
+      done = done_more s' (λ a t. (is a).1 (inr (inl t))) (λ m. (is other).1 (inl refl));
+    }
+      where
+        here : Contains earlier other
+        here = Contains-get_or earlier p 0 l
+
+        sound : (a : ℕ) → IsTrue (has s' a) → (i : ℕ) × Contains earlier i × Marked before i child × ((a ≡ i) ⊎ Marked before a i)
+        sound a t = elim ((is a).0 t) [
+          | inl e ↦ (other, here, direct_mark, inl e)
+          | inr x ↦ elim x [ inl u ↦ h.sound a u | inr m ↦ (other, here, direct_mark, inr m) ]
+        ]
+
+        down : (a b : ℕ) → IsTrue (has s' b) → Marked before a b → IsTrue (has s' a)
+        down a b t m = (is a).1 (inr (elim ((is b).0 t) [
+          | inl e ↦ inr (subst (Marked before a) e m)
+          | inr x ↦ elim x [ inl u ↦ inl (h.down a b u m) | inr n ↦ inr (closed a b other here n m) ]
+        ]))
 
 -- a set with one more child and all that are marked as those before it
 pub gathered_is : (before : List (List Bool)) (s both row s' : List Bool) (other : ℕ) → other < length both → s' ≡ set both other true → row ≡ get_or before other []
@@ -109,18 +130,6 @@ module _ (old : List (List Bool)) (line : List ℕ) (is : IsLine (Marked old) (l
     pub child_within : child < length old
     child_within = next.ready.child
 
-    child_here : child < length new
-    child_here = let e = h.square.sets in let l = child_within in omega arith
-
-    pub row_is : (d : List Bool) → get_or new child d ≡ get_or new child []
-    row_is d = get_or_default new child d [] child_here
-
-    pub other_room : (other : ℕ) (d : List Bool) → other < length new → length (get_or new other d) ≡ length new
-    other_room other d k = ap length (get_or_default new other d [] k) ∙ (h.square.marks other (let e = h.square.sets in omega arith) ∙ sym h.square.sets)
-
-    pub row_room : (d : List Bool) → length (get_or new child d) ≡ length new
-    row_room d = other_room child d child_here
-
     -- what precedes one of the first q is among them
     earlier : (a i : ℕ) → Contains (take q line) i → Precedes (Marked old) a i → Contains (take q line) a
     earlier = λ a i c d. listed_before (Marked old) (length old) (take q line) (λ taken rest i' e. is.each taken (rest ++ drop q line) i' (sym (take-append-drop q line) ∙ (ap (λ z. z ++ drop q line) e ∙ append_assoc taken (i' ∷ rest) (drop q line)))) a i c d
@@ -131,19 +140,7 @@ module _ (old : List (List Bool)) (line : List ℕ) (is : IsLine (Marked old) (l
         let e = earlier i k c d in
         (h.done a k c).1 (precedes_then {Pair = Marked old} a i k ((h.done a i e).0 n) d)
 
-    same : (a : ℕ) → marked new a child ≡ marked old a child
-    same a = ap (λ x. has x a) (h.left child next.ready.unlisted)
-
-    pub member_earlier : (a : ℕ) → Marked new a child → Contains (take q line) a
-    member_earlier a m = next.ready.preceded a (direct (sym (same a) ∙ m))
-
-    pub member_at : (a : ℕ) → Marked new a child → (k : ℕ) × (get_or line k 0 ≡ a)
-    member_at a m = by (member_earlier a m)
-      where
-        by : Contains (take q line) a → (k : ℕ) × (get_or line k 0 ≡ a)
-        by (k, lk, e) = let n = length-take q line in (k, get_or_default line k 0 a (omega arith) ∙ (sym (get_or-take q line k a (omega arith)) ∙ e))
-
-    pub closed_more : (s : List Bool) → length s ≡ length old → ((a : ℕ) → IsTrue (has s a) ↔ IsGathered new (take q line) child a) → IsClosedTo old (set new child s) line (q + 1)
+    pub closed_more : (s : List Bool) → length s ≡ length old → IsGathered new (take q line) child s → IsClosedTo old (set new child s) line (q + 1)
     closed_more s room gathered = record {
       square = square_set (length old) new child s h.square child_within room;
       done = λ a i c. done a i (elim (Contains-push_cases (take q line) child i (subst (λ xs. Contains xs i) more c)) [ inl d ↦ inl d | inr e ↦ inr e ]);
@@ -152,6 +149,9 @@ module _ (old : List (List Bool)) (line : List ℕ) (is : IsLine (Marked old) (l
       where
         more : take (q + 1) line ≡ take q line ++ child ∷ []
         more = take_more line q 0 l
+
+        same : (a : ℕ) → marked new a child ≡ marked old a child
+        same a = ap (λ x. has x a) (h.left child next.ready.unlisted)
 
         to : (a : ℕ) → IsTrue (has s a) → Precedes (Marked old) a child
         to a t = go ((gathered a).0 t)

@@ -1,5 +1,5 @@
 -- From the sets of the pairs to the closure and the line.
-use Rattle.std.proofs.Common.{ℕ, ◌≡◌, ◌<◌, ◌≤◌, ◌⊎◌, ◌↔◌, inl, inr, List, [], length, Bool, false, sym, subst, arith}
+use Rattle.std.proofs.Common.{ℕ, ◌≡◌, ◌<◌, ◌≤◌, ◌⊎◌, ◌↔◌, inl, inr, List, length, Bool, sym, subst, arith}
 use Rattle.std.proofs.lemmas.Bool.{cases_Bool, both_ways}
 use Rattle.plan_model.specs.declared.networks.Pair.{Pair}
 use Rattle.plan_model.specs.task_networks.Order.{Precedes, direct, IsAcyclic, ArePairsOf, IsLine}
@@ -10,6 +10,13 @@ use Rattle.plan_model.specs.net_order.Closure.{IsClosure, IsDirect}
 use Rattle.plan_model.proofs.net_order.Chains.{chain_map}
 use Rattle.plan_model.proofs.net_order.Meanings.{marked_within, next_like}
 use Rattle.plan_model.proofs.net_order.Whole as whole
+
+-- a cycle of the sets is one of the pairs
+pub acyclic_sets : (count : ℕ) (pairs : List Pair) (before : List (List Bool)) → IsDirect count pairs before → IsAcyclic (Marked before) ↔ IsAcyclic (Pairs pairs)
+acyclic_sets count pairs before h = (
+  (λ f i c. f i (chain_map {P = Pairs pairs} {Q = Marked before} (λ a b d. direct ((h.marks a b).1 d)) i i c)),
+  λ f i c. f i (chain_map {P = Marked before} {Q = Pairs pairs} (λ a b m. direct ((h.marks a b).0 m)) i i c),
+)
 
 decide_marked : (before : List (List Bool)) (i j : ℕ) → Marked before i j ⊎ (Marked before i j → ⊥)
 decide_marked before i j = elim (cases_Bool (marked before i j)) [ inl e ↦ inl e | inr e ↦ inr (both_ways (marked before i j) e) ]

@@ -52,6 +52,14 @@ IsMarkedCut before line k = (p q : ℕ) → p < k → k ≤ q → q < length lin
 abbrev pub AreMarkedCuts : List (List Bool) → List ℕ → List Bool → Type 0
 AreMarkedCuts before line set = (k : ℕ) → k < length line → IsTrue (has set k) ↔ IsMarkedCut before line k
 
+-- what precedes a member of one of these children's sets is in that set too
+abbrev pub IsClosedOn : List (List Bool) → List ℕ → Type 0
+IsClosedOn before children = (a i k : ℕ) → Contains children k → Marked before i k → Marked before a i → Marked before a k
+
+-- those of the earlier ones that are in the set of this child, and what precedes them
+abbrev pub IsGathered : List (List Bool) → List ℕ → ℕ → List Bool → Type 0
+IsGathered before earlier child set = (a : ℕ) → IsTrue (has set a) ↔ ((i : ℕ) × Contains earlier i × Marked before i child × ((a ≡ i) ⊎ Marked before a i))
+
 -- each child of the set is in the other one
 abbrev pub IsWithin : List Bool → List Bool → Type 0
 IsWithin set other = (i : ℕ) → IsTrue (has set i) → IsTrue (has other i)

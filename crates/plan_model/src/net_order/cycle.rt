@@ -1,11 +1,11 @@
-ghost use Rattle.std.specs.Prelude.{◌<◌, ◌^◌, length, IfOk};
+ghost use Rattle.std.specs.Prelude.{◌<◌, ◌^◌, ◌↔◌, length, IsTrue, IfOk};
 ghost use Rattle.plan_model.specs.task_networks.Order.{IsAcyclic, IsFirstClosing};
 ghost use Rattle.plan_model.specs.net_order.Meaning.{AreBelow};
 ghost use Rattle.plan_model.specs.Pairs.{pair, Pairs};
 
 use crate::Pair;
 use crate::net_order::direct::direct_sets;
-use crate::net_order::line::line_of;
+use crate::net_order::walk::is_acyclic;
 use htn_base::Memory;
 use std::alloc::Global;
 
@@ -22,13 +22,21 @@ pub fn first_closing(alloc: Global, count: usize, pairs: &[Pair]) -> Result<u32,
     let mut cyclic = pairs.len();
     while cyclic - acyclic > 1 {
         let middle = acyclic + (cyclic - acyclic) / 2;
-        let before = direct_sets(alloc, count, &pairs[..middle])?;
-        let line = line_of(alloc, before.as_slice())?;
-        if line.len() < count {
-            cyclic = middle;
-        } else {
+        if have_no_cycle(alloc, count, &pairs[..middle])? {
             acyclic = middle;
+        } else {
+            cyclic = middle;
         }
     }
     Ok(acyclic as u32)
+}
+
+/// Whether the pairs have no cycle. Their sets are dropped again.
+fn have_no_cycle(alloc: Global, count: usize, pairs: &[Pair]) -> Result<bool, Memory>
+    requires small { count < 2 ^ 32 }
+    requires below { AreBelow count pairs.now }
+    ensures told { IfOk result (λ told. IsTrue told ↔ IsAcyclic (Pairs pairs.now)) }
+{
+    let before = direct_sets(alloc, count, pairs)?;
+    is_acyclic(alloc, before.as_slice())
 }

@@ -1,14 +1,11 @@
-use Rattle.std.proofs.Common.{◌≡◌, ◌+◌, ◌<◌, ◌≤◌, List, [], ◌∷◌, length, take, sym, subst, arith}
+use Rattle.std.proofs.Common.{◌≡◌, ◌+◌, ◌<◌, List, [], ◌∷◌, length, take, subst, arith}
 use Rattle.std.proofs.lemmas.List.{take_all}
+use Rattle.std.proofs.lemmas.Bool.{both_ways}
 use Rattle.plan_model.specs.declared.networks.Pair.{Pair}
 use Rattle.plan_model.specs.task_networks.Order.{IsAcyclic}
-use Rattle.plan_model.specs.net_order.Line.{IsGreedy}
-use Rattle.plan_model.specs.net_order.Marks.{Marked}
 use Rattle.plan_model.specs.Pairs.{Pairs}
 use Rattle.plan_model.proofs.net_order.Closures.{first_at, acyclic_none}
-use Rattle.plan_model.proofs.net_order.Sorting as sorting
 use Rattle.plan_model.proofs.net_order.cycle.first_closing.Goals as goal
-use Rattle.plan_model.proofs.net_order.cycle.first_closing.Goals.{then-len-count, else-len-count}
 
 some_pair : (pairs : List Pair) → (IsAcyclic (Pairs pairs) → ⊥) → 0 < length pairs
 some_pair [] f = absurd (f acyclic_none)
@@ -22,38 +19,25 @@ loop-cyclic-init c = record {
   some = λ h. c.requires.cyclic (subst (λ ps. IsAcyclic (Pairs ps)) (take_all (length c.args.pairs.now) c.args.pairs.now (omega arith)) h);
 }
 
+pub loop-cyclic-preserved-then-branch : goal.loop-cyclic-preserved-then-branch
+loop-cyclic-preserved-then-branch c =
+    let h = c.loop-cyclic.invariant in
+    record {
+      order = let t = c.loop-cyclic-test.true in omega arith;
+      end = h.end;
+      none = c.in_ok-have_no_cycle.ensures.told.0 c.if-branch.true;
+      some = h.some;
+    }
+
 pub loop-cyclic-preserved : goal.loop-cyclic-preserved
 loop-cyclic-preserved c =
     let h = c.loop-cyclic.invariant in
-    let t = c.loop-cyclic-test.true in
-    let pairs = c.args.pairs.now in
-    let line = c.in_ok-line.line in
-    let n = c.len.ensures.length in
-    let greedy = subst (λ xs. IsGreedy (Marked xs) (length xs) line) c.as_slice.ensures.value c.in_ok-line.ensures.greedy in
-    elim c.if-len-count.branch [
-      | then-len-count w ↦ (
-          let a = w.acyclic-is in
-          let b = w.cyclic-is in
-          let short : length c.in_ok-line.line < c.args.count = let l = w.if-len-count.true in omega arith in
-          record {
-            order = let o = h.order in omega arith;
-            end = let e = h.end in omega arith;
-            none = subst (λ k. IsAcyclic (Pairs (take k pairs))) (sym w.acyclic-is) h.none;
-            some = subst (λ k. IsAcyclic (Pairs (take k pairs)) → ⊥) (sym w.cyclic-is) (sorting.cyclic c.args.count _ c.in_ok-before.before.items c.in_ok-before.ensures.direct line greedy short);
-          }
-          )
-      | else-len-count w ↦ (
-          let a = w.acyclic-is in
-          let b = w.cyclic-is in
-          let enough : c.args.count ≤ length c.in_ok-line.line = let l = w.if-len-count.false in omega arith in
-          record {
-            order = let o = h.order in omega arith;
-            end = let e = h.end in omega arith;
-            none = subst (λ k. IsAcyclic (Pairs (take k pairs))) (sym w.acyclic-is) (sorting.acyclic c.args.count _ c.in_ok-before.before.items c.in_ok-before.ensures.direct line greedy enough);
-            some = subst (λ k. IsAcyclic (Pairs (take k pairs)) → ⊥) (sym w.cyclic-is) h.some;
-          }
-          )
-    ]
+    record {
+      order = let t = c.loop-cyclic-test.true in omega arith;
+      end = let t = c.loop-cyclic-test.true in let e = c.loop-cyclic.invariant.end in omega arith;
+      none = h.none;
+      some = λ f. both_ways c.in_ok-have_no_cycle.field-0 c.if-branch.false (c.in_ok-have_no_cycle.ensures.told.1 f);
+    }
 
 pub returns : goal.returns
 returns c =
