@@ -5,8 +5,8 @@ use Rattle.std.proofs.lemmas.List.{at_drop_more, at_drop_all}
 use Rattle.htn_base.specs.Words.{IsFolded}
 use Rattle.text_forms.specs.Bytes.{Class, letter, opening, closing, blank, bad, is_letter, class_of, classes_from, are_good}
 use Rattle.text_forms.specs.Tokens.{word, token, tokens_from, lexeme, symbol, left, right, said}
-use Rattle.text_forms.specs.sexpr_text.Places.{classes_at, tokens_at, comment_tokens_at, EndsWord}
-use Rattle.plan_text.specs.Coming.{said_at, is_clean_at, is_comment_clean_at, Comes}
+use Rattle.text_forms.specs.sexpr_text.Places.{classes_at, tokens_at, EndsWord}
+use Rattle.plan_text.specs.Coming.{said_at, comment_tokens_at, is_clean_at, is_comment_clean_at, Comes}
 use Rattle.plan_text.proofs.Lowered.{range-folded, class-letter}
 
 -- the classes from a place on, where the byte there has this class

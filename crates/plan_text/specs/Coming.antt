@@ -1,13 +1,14 @@
 -- What a plan's text says from a place on, and which step comes next there.
 -- Source: this project's; a plan as plan_texts has it.
-use Rattle.std.specs.Prelude.{ℕ, ◌≡◌, ◌<◌, ◌≤◌, Bool, true, false, List, [], ◌∷◌, map, length, Option, Some, None, MatchOption}
+use Rattle.std.specs.Prelude.{ℕ, ◌≡◌, ◌<◌, ◌≤◌, Bool, true, false, List, [], ◌∷◌, map, drop, length, Option, Some, None, MatchOption}
 use Rattle.htn_base.specs.Words.{IsFolded}
-use Rattle.text_forms.specs.Bytes.{are_good}
+use Rattle.text_forms.specs.Bytes.{Class, classes_from, are_good}
 use Rattle.text_forms.specs.Lists.{Parts, written_all}
 use Rattle.text_forms.specs.StepWords.{is_step_name, is_mark}
-use Rattle.text_forms.specs.Tokens.{lexeme, Symbol, left, right, said, symbol}
+use Rattle.text_forms.specs.Tokens.{tokens_from, lexeme, Symbol, left, right, said, symbol}
+use Rattle.text_forms.specs.Tokens as text
 use Rattle.text_forms.specs.Words.{Word}
-use Rattle.text_forms.specs.sexpr_text.Places.{classes_at, comment_at, tokens_at}
+use Rattle.text_forms.specs.sexpr_text.Places.{classes_at, tokens_at}
 use Rattle.plan_model.specs.declared.steps.GroundAction.{GroundAction}
 use Rattle.plan_texts.specs.PlanText.{AreSteps}
 use Rattle.plan_text.specs.declared.tokens.Token as tokens
@@ -22,7 +23,13 @@ said_at text at = map symbol (map (lexeme text) (tokens_at text at))
 abbrev pub is_clean_at : List ℕ → ℕ → Bool
 is_clean_at text at = are_good (classes_at text at)
 
--- the same where a comment is open
+-- the same where a comment is open: the classes, the tokens, and that no byte is bad
+abbrev pub comment_at : List ℕ → ℕ → List Class
+comment_at text at = classes_from true (drop at text)
+
+abbrev pub comment_tokens_at : List ℕ → ℕ → List text.Token
+comment_tokens_at text at = tokens_from None at (comment_at text at)
+
 abbrev pub is_comment_clean_at : List ℕ → ℕ → Bool
 is_comment_clean_at text at = are_good (comment_at text at)
 

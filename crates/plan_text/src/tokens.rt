@@ -1,8 +1,8 @@
 ghost use Rattle.std.specs.Prelude.{◌≡◌, ◌≤◌, length};
 ghost use Rattle.text_forms.specs.Bytes as defined;
-ghost use Rattle.text_forms.specs.sexpr_text.Places.{tokens_at, comment_tokens_at, EndsWord};
+ghost use Rattle.text_forms.specs.sexpr_text.Places.{tokens_at, EndsWord};
 ghost use Rattle.htn_base.specs.Words.{IsFolded};
-ghost use Rattle.plan_text.specs.Coming.{is_clean_at, is_comment_clean_at, Tells};
+ghost use Rattle.plan_text.specs.Coming.{comment_tokens_at, is_clean_at, is_comment_clean_at, Tells};
 
 /// What comes next in a text, and the place behind it.
 #[derive(Clone, Copy)]

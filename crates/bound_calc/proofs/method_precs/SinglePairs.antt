@@ -6,8 +6,7 @@ use Rattle.std.proofs.lemmas.List.{take_all, take-append-le}
 use Rattle.plan_model.specs.declared.networks.Pair.{Pair}
 use Rattle.plan_model.specs.plan_meaning.Compilation.{once, same_pair}
 use Rattle.plan_model.specs.net_order.Marks.{marked}
-use Rattle.plan_model.specs.net_order.Meaning.{AreBelow}
-use Rattle.plan_model.specs.net_order.Closure.{IsAdded}
+use Rattle.plan_model.specs.net_order.Closure.{IsDirect}
 use Rattle.bound_calc.proofs.method_precs.Fits.{same_itself}
 use Rattle.plan_model.proofs.plan_meaning.Once.{has_there, not_there, once_next_new, once_next_old}
 
@@ -31,8 +30,8 @@ not_false : (b : Bool) → not b ≡ false → b ≡ true
 not_false true e = refl
 not_false false e = absurd (true≢false e)
 
-module _ (count : ℕ) (pairs : List Pair) (k : ℕ) (d : Pair) (l : k < length pairs) (below : AreBelow count pairs)
-    (old now : List (List Bool)) (empty : (i j : ℕ) → j < count → marked old i j ≡ false) (added : IsAdded count (take k pairs) old now)
+module _ (count : ℕ) (pairs : List Pair) (k : ℕ) (d : Pair) (l : k < length pairs)
+    (now : List (List Bool)) (direct : IsDirect count (take k pairs) now)
     (told : Bool) (is : told ≡ not (marked now (get_or pairs k d).first (get_or pairs k d).then)) where
   abbrev next : Pair
   next = get_or pairs k d
@@ -40,10 +39,7 @@ module _ (count : ℕ) (pairs : List Pair) (k : ℕ) (d : Pair) (l : k < length 
   pub single_new : told ≡ true → once same_pair (take (k + 1) pairs) ≡ once same_pair (take k pairs) ++ get_or pairs k d ∷ []
   single_new t =
       let unmarked = not_true (marked now next.first next.then) (sym is ∙ t) in
-      once_next_new same_pair pairs k d l (not_there same_pair same_itself tells_pair (take k pairs) next (λ c. false≢true (sym unmarked ∙ (added.marks next.first next.then).1 (inr c))))
+      once_next_new same_pair pairs k d l (not_there same_pair same_itself tells_pair (take k pairs) next (λ c. false≢true (sym unmarked ∙ (direct.marks next.first next.then).1 c)))
 
   pub single_old : told ≡ false → once same_pair (take (k + 1) pairs) ≡ once same_pair (take k pairs)
-  single_old t = once_next_old same_pair pairs k d l (has_there same_pair same_itself tells_pair (take k pairs) next (elim ((added.marks next.first next.then).0 (not_false (marked now next.first next.then) (sym is ∙ t))) [
-    | inl o ↦ absurd (false≢true (sym (empty next.first next.then (below k d l).1) ∙ o))
-    | inr c ↦ c
-  ]))
+  single_old t = once_next_old same_pair pairs k d l (has_there same_pair same_itself tells_pair (take k pairs) next ((direct.marks next.first next.then).0 (not_false (marked now next.first next.then) (sym is ∙ t))))

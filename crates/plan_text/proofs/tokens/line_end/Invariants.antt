@@ -1,6 +1,5 @@
 use Rattle.std.proofs.Common.{◌≡◌}
-use Rattle.text_forms.specs.sexpr_text.Places.{comment_tokens_at}
-use Rattle.plan_text.specs.Coming.{is_comment_clean_at}
+use Rattle.plan_text.specs.Coming.{comment_tokens_at, is_comment_clean_at}
 use Rattle.plan_text.proofs.tokens.line_end.Given as goal
 
 abbrev pub invariant-loop-i : goal.invariant-loop-i
