@@ -26,8 +26,9 @@ fn is_copied(alloc: Global, list: &List<u32>) -> bool {
     }
 }
 
-fn boxed_and_taken(alloc: Global) -> Result<u8, Memory> {
-    Ok(Boxed::new(alloc, 7)?.into_inner())
+fn boxed_and_lent(alloc: Global) -> Result<u8, Memory> {
+    let boxed = Boxed::new(alloc, 7)?;
+    Ok(*boxed.get())
 }
 
 fn is_list(alloc: Global, list: &mut List<u32>) -> bool {
@@ -43,7 +44,7 @@ fn lists(rt: HostRuntime) {
     let mut list = List::new(rt.alloc());
     let right = is_list(rt.alloc(), &mut list);
     drop(list);
-    assert!(rt; right && boxed_and_taken(rt.alloc()) == Ok(7));
+    assert!(rt; right && boxed_and_lent(rt.alloc()) == Ok(7));
 }
 
 fn grows(text: &mut Text) -> Result<(), Memory> {
