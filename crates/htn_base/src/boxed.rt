@@ -30,14 +30,6 @@ impl<T> Boxed<T> {
     {
         &self.owned
     }
-
-    /// The owned value, taken off the heap.
-    pub fn into_inner(self) -> T
-        ensures value { result ≡ self }
-    {
-        let Boxed { owned } = self;
-        Box::into_inner(owned)
-    }
 }
 
 impl<T: Drop> Boxed<T> {
