@@ -57,18 +57,6 @@ impl Rows {
         }
     }
 
-    // No rows, with room for so many, and for so many further numbers of all together, of a byte each.
-    fn with_room(alloc: Global, rows: usize, numbers: usize) -> Result<Rows, Memory>
-        ensures none { IfOk result (λ rows. rows ≡ []) }
-    {
-        Ok(Rows {
-            alloc,
-            heads: PackedNumbers::with_room(alloc, rows)?,
-            ends: PackedNumbers::with_room(alloc, rows)?,
-            rest: PackedNumbers::with_room(alloc, numbers)?,
-        })
-    }
-
     // The number of rows.
     #[inline]
     fn len(&self) -> usize
@@ -83,7 +71,10 @@ impl Rows {
         ensures row { result ≡ slice_get self.now k }
     {
         let head = self.heads.get(k)?;
-        let start = start_of(&self.ends, k)?;
+        let start = match k.checked_sub(1) {
+            Some(before) => self.ends.get(before)?,
+            None => 0,
+        };
         let end = self.ends.get(k)?;
         let rest = PackedPart {
             numbers: &self.rest,
@@ -144,10 +135,15 @@ impl PackedRows {
     pub fn with_room(alloc: Global, rows: usize, numbers: usize) -> Result<PackedRows, Memory>
         ensures none { IfOk result (λ rows. rows ≡ []) }
     {
-        let rows = Box::new(alloc, Rows::with_room(alloc, rows, numbers)?)?;
+        let rows = Rows {
+            alloc,
+            heads: PackedNumbers::with_room(alloc, rows)?,
+            ends: PackedNumbers::with_room(alloc, rows)?,
+            rest: PackedNumbers::with_room(alloc, numbers)?,
+        };
         Ok(PackedRows {
             alloc,
-            rows: Some(rows),
+            rows: Some(Box::new(alloc, rows)?),
         })
     }
 
@@ -206,15 +202,4 @@ fn put_row(
     numbers.extend(rest)?;
     ends.push(number(numbers.len())?)?;
     heads.push(head)
-}
-
-// Where the numbers of row `k` start: at the end of those of the row before. `None` behind the row past the last.
-#[inline]
-pub(crate) fn start_of(ends: &PackedNumbers, k: usize) -> Option<u32>
-    ensures { result ≡ slice_get (0 ∷ ends.now) k }
-{
-    if k == 0 {
-        return Some(0);
-    }
-    ends.get(k - 1)
 }

@@ -1,4 +1,4 @@
-ghost use Rattle.std.specs.Prelude.{◌≡◌, ◌↔◌, ◌<◌, ◌^◌, ℕ, Some, decimal, IfOk};
+ghost use Rattle.std.specs.Prelude.{◌≡◌, ◌↔◌, ◌<◌, ℕ, Some, IfOk};
 ghost use Rattle.std.specs.Str.{bytes_eq};
 ghost use Rattle.std.specs.List.{list_all, list_any};
 ghost use Rattle.htn_base.specs.Escapes as spec;
@@ -93,21 +93,11 @@ pub fn slot_number(word: &[u8]) -> Option<u32>
     ensures number { (k : ℕ) → (result ≡ Some k) ↔ spec.IsWordOfSlot k word.now }
 {
     let digits = word.strip_prefix(b"htn_s")?;
-    let k = parsed(digits)?;
+    let k: u32 = str::from_utf8(digits).ok()?.parse().ok()?;
     if k > 0 && Buffer::new().format(k).as_bytes() == digits {
         Some(k)
     } else {
         None
-    }
-}
-
-/// The number of these digits. A sign or leading zeros may stand before them.
-fn parsed(digits: &[u8]) -> Option<u32>
-    ensures { (k : ℕ) → k < 2 ^ 32 → digits.now ≡ decimal k → result ≡ Some k }
-{
-    match str::from_utf8(digits) {
-        Ok(text) => text.parse().ok(),
-        Err(_) => None,
     }
 }
 

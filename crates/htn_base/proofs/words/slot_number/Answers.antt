@@ -1,0 +1,62 @@
+use Rattle.std.proofs.Common.{rules, ℕ, List, ◌≡◌, ◌<◌, ◌^◌, Result, Ok, Err, Some, None, drop, decimal, sym, subst, ap, ◌∙◌, arith}
+use Rattle.std.specs.Str.Parse.{ParsesUnsigned}
+use Rattle.std.specs.Str.{IsUtf8}
+use Rattle.std.specs.Result.{result_ok, MatchResult}
+use Rattle.std.proofs.lemmas.Fmt.{parse-decimal, IsAscii-decimal}
+use Rattle.std.proofs.lemmas.Str.{IsUtf8-from_ascii}
+use Rattle.htn_base.specs.Escapes.{IsWordOfSlot}
+use Rattle.htn_base.proofs.words.slot_number.Goals as goal
+
+-- what an answer says, where its error is left out
+said : {T E : Type 0} (P : T → Type 0) (Q : E → Type 0) (answer : Result T E) (x : T) → MatchResult answer P Q → result_ok answer ≡ Some x → P x
+said P Q (Ok y) x p e = let same : y ≡ x = cc e in subst P same p
+said P Q (Err error) x q e = absurd (cc e)
+
+refused : {T E : Type 0} (P : T → Type 0) (Q : E → Type 0) (answer : Result T E) → MatchResult answer P Q → result_ok answer ≡ None → (error : E) × Q error
+refused P Q (Ok y) p e = absurd (cc e)
+refused P Q (Err error) q e = (error, q)
+
+-- what stands behind the beginning of a slot's word are the digits of its number
+digits_of : (k : ℕ) (word digits : List ℕ) → digits ≡ drop 5 word → IsWordOfSlot k word → digits ≡ decimal k
+digits_of k word digits behind slot = behind ∙ ap (drop 5) slot.2
+
+-- and as this number they are read
+number_of : {E : Type 0} (k : ℕ) (text : List ℕ) (answer : Result ℕ E) → k < 2 ^ 32 → text ≡ decimal k → ParsesUnsigned 32 10 text answer → result_ok answer ≡ Some k
+number_of k text answer small same parses = ap result_ok (parse-decimal 32 k text answer small (omega arith) same parses)
+
+pub returns-in_err-ok : goal.returns-in_err-ok
+returns-in_err-ok c = rw c.from_residual-in_err-ok.ensures (record {
+  number = λ k. (
+    λ e. absurd (cc e),
+    λ slot.
+        let same = digits_of k c.args.word.now _ c.in_ok-digits.ensures.cases.1 slot in
+        let no_text = (refused _ _ _ c.from_utf8.ensures.cases (sym c.ok.ensures.value ∙ c.in_err-ok.was)).1.0 in
+        absurd (no_text (subst IsUtf8 (sym same) (IsUtf8-from_ascii _ (IsAscii-decimal k (let small = slot.1 in omega arith))))),
+  );
+})
+
+pub returns-in_err-k : goal.returns-in_err-k
+returns-in_err-k c = rw c.from_residual-in_err-k.ensures (record {
+  number = λ k. (
+    λ e. absurd (cc e),
+    λ slot.
+        let text = (said _ _ _ _ c.from_utf8.ensures.cases (sym c.ok.ensures.value ∙ c.in_ok-ok.was)).0 in
+        let same = digits_of k c.args.word.now _ c.in_ok-digits.ensures.cases.1 slot in
+        let number = number_of k _ _ slot.1 (text ∙ same) c.parse.ensures.value.0 in
+        absurd (cc (c.ok-2.ensures.value, c.in_err-k.was, number)),
+  );
+})
+
+pub returns-then-eq : goal.returns-then-eq
+returns-then-eq c =
+    let text = (said _ _ _ _ c.from_utf8.ensures.cases (sym c.ok.ensures.value ∙ c.in_ok-ok.was)).0 in
+    let number : (k : ℕ) → k < 2 ^ 32 → c.in_ok-digits.digits.now ≡ decimal k → Some c.in_ok-k.k ≡ Some k = λ k small same.
+    sym c.in_ok-k.was ∙ c.ok-2.ensures.value ∙ number_of k _ _ small (text ∙ same) c.parse.ensures.value.0 in
+    search rules
+
+pub returns-else-k-gt0 : goal.returns-else-k-gt0
+returns-else-k-gt0 c =
+    let text = (said _ _ _ _ c.from_utf8.ensures.cases (sym c.ok.ensures.value ∙ c.in_ok-ok.was)).0 in
+    let number : (k : ℕ) → k < 2 ^ 32 → c.in_ok-digits.digits.now ≡ decimal k → Some c.in_ok-k.k ≡ Some k = λ k small same.
+    sym c.in_ok-k.was ∙ c.ok-2.ensures.value ∙ number_of k _ _ small (text ∙ same) c.parse.ensures.value.0 in
+    search rules
