@@ -38,17 +38,6 @@ impl ChildSet {
         Ok(ChildSet { count, words })
     }
 
-    /// An equal set.
-    pub fn copy(&self, alloc: Global) -> Result<ChildSet, Memory>
-        ensures equal { IfOk result (λ set. set ≡ self.now) }
-    {
-        let words = Vec::from_slice(alloc, self.words.as_slice())?;
-        Ok(ChildSet {
-            count: self.count,
-            words,
-        })
-    }
-
     /// The number of children of the network, in the set or not.
     pub fn len(&self) -> usize
         ensures { result ≡ length self.now }
