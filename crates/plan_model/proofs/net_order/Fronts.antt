@@ -3,9 +3,10 @@ use Rattle.std.proofs.Common.{ℕ, zero, suc, refl, ◌≡◌, ◌<◌, ◌≤�
 use Rattle.std.proofs.lemmas.List.Elements.{Contains-append_left, Contains-push, Contains-push_cases}
 use Rattle.std.proofs.lemmas.Bool.{cases_eq, both_ways}
 use Rattle.plan_model.proofs.task_networks.Lists.{not-in_empty}
-use Rattle.plan_model.specs.net_order.Marks.{has, IsPreceded, IsFree, IsLeastFree, IsWithin, IsLeastOutside}
+use Rattle.plan_model.specs.net_order.Marks.{has, IsPreceded, IsWithin, IsLeastOutside}
 use Rattle.plan_model.specs.net_order.Front.{Waits, IsFront, IsPlaced, is_ready, waits}
 use Rattle.plan_model.proofs.net_order.Closures.{has_added}
+use Rattle.plan_model.proofs.net_order.Lines.{IsFree, IsLeastFree}
 
 pub more_empty : (lists : List (List ℕ)) (xs : List ℕ) → xs ≡ [] → ((i : ℕ) → get_or lists i [] ≡ []) → (i : ℕ) → get_or (lists ++ xs ∷ []) i [] ≡ []
 more_empty [] xs e f zero = e

@@ -5,9 +5,20 @@ use Rattle.std.proofs.lemmas.List.Elements.{Contains-append_left, Contains-appen
 use Rattle.std.proofs.lemmas.Bool.{cases_lt, both_ways}
 use Rattle.plan_model.specs.task_networks.Order.{Precedes, direct, through, IsReady, IsNext}
 use Rattle.plan_model.proofs.task_networks.Lists.{cut_at, cut_push, not-in_empty, Contains-here}
-use Rattle.plan_model.specs.net_order.Marks.{has, Marked, IsFree, IsLeastFree}
+use Rattle.plan_model.specs.net_order.Marks.{has, Marked, IsPreceded}
 use Rattle.plan_model.specs.net_order.Line.{IsGreedy}
 use Rattle.plan_model.proofs.net_order.Closures.{has_added}
+
+-- a child outside the set, whose marked predecessors are all in it
+pub record IsFree (before : List (List Bool)) (set : List Bool) (i : ℕ) : Type 0 where
+  pub outside : IsTrue (has set i) → ⊥
+  pub preceded : IsPreceded before set i
+
+-- the least free child
+pub record IsLeastFree (before : List (List Bool)) (set : List Bool) (i : ℕ) : Type 0 where
+  pub child : i < length before
+  pub free : IsFree before set i
+  pub least : (j : ℕ) → j < i → IsFree before set j → ⊥
 
 -- where each listed child was ready, what precedes it is listed before it
 module _ (Pair : ℕ → ℕ → Type 0) (count : ℕ) (line : List ℕ) (each : (taken rest : List ℕ) (i : ℕ) → line ≡ taken ++ i ∷ rest → IsNext Pair count taken i) where

@@ -25,17 +25,6 @@ AreEmpty count before = (i j : ℕ) → j < count → marked before i j ≡ fals
 abbrev pub IsPreceded : List (List Bool) → List Bool → ℕ → Type 0
 IsPreceded before set i = (j : ℕ) → Marked before j i → IsTrue (has set j)
 
--- a child outside the set, whose marked predecessors are all in it
-pub record IsFree (before : List (List Bool)) (set : List Bool) (i : ℕ) : Type 0 where
-  pub outside : IsTrue (has set i) → ⊥
-  pub preceded : IsPreceded before set i
-
--- the least free child
-pub record IsLeastFree (before : List (List Bool)) (set : List Bool) (i : ℕ) : Type 0 where
-  pub child : i < length before
-  pub free : IsFree before set i
-  pub least : (j : ℕ) → j < i → IsFree before set j → ⊥
-
 -- all other children are marked as those that precede it
 abbrev pub IsMarkedLast : List (List Bool) → ℕ → Type 0
 IsMarkedLast before i = (i < length before) × ((j : ℕ) → j < length before → j ≢ i → Marked before j i)

@@ -1,4 +1,4 @@
-ghost use Rattle.std.specs.Prelude.{◌≡◌, ℕ, ◌<◌, All, length, IfOk, OnOk};
+ghost use Rattle.std.specs.Prelude.{◌≡◌, ◌<◌, All, length, IfOk, OnOk};
 ghost use Rattle.plan_model.specs.task_networks.Order.{IsLine};
 ghost use Rattle.plan_model.specs.net_order.Marks.{Marked, IsSquare, IsClosedOn, IsGathered};
 ghost use Rattle.plan_model.specs.net_order.Line.{IsClosed};

@@ -1,4 +1,4 @@
-ghost use Rattle.std.specs.Prelude.{◌≡◌, ◌<◌, ◌^◌, length, IfOk, IfErr};
+ghost use Rattle.std.specs.Prelude.{◌<◌, ◌^◌, length, IfOk, IfErr};
 ghost use Rattle.plan_model.specs.task_networks.Order.{IsLine};
 ghost use Rattle.plan_model.specs.net_order.Meaning.{AreBelow, IsRefusedBy};
 ghost use Rattle.plan_model.specs.Pairs.{Pairs};
