@@ -325,7 +325,7 @@ fn each_line_of_the_grammar(rt: HostRuntime) {
 }
 
 fn reads_domain(rt: &impl Abort, alloc: Global, names: &mut NameTable) -> bool {
-    let s = read(alloc, DOMAIN, 0).expect(rt, "a text");
+    let s = read(alloc, DOMAIN, 0).ok().expect(rt, "a text");
     let answer = domain(alloc, &s, 0, Language::Hddl, names);
     drop(s);
     let whole = matches!(&answer, Ok(d) if is_read_whole(d));
@@ -334,7 +334,7 @@ fn reads_domain(rt: &impl Abort, alloc: Global, names: &mut NameTable) -> bool {
 }
 
 fn reads_problem(rt: &impl Abort, alloc: Global, names: &mut NameTable) -> bool {
-    let s = read(alloc, PROBLEM, 1).expect(rt, "a text");
+    let s = read(alloc, PROBLEM, 1).ok().expect(rt, "a text");
     let answer = problem(alloc, &s, 1, Language::Hddl, names);
     drop(s);
     let whole = matches!(&answer, Ok(p) if is_problem(p));

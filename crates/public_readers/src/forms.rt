@@ -34,7 +34,7 @@ enum Form {
 // The code and the offset of the fault of the form that the text is.
 fn fault_of(rt: &impl Abort, alloc: Global, source: &[u8], form: Form) -> (u16, u32) {
     assert!(rt; source.len() <= 16_777_216);
-    let s = read(alloc, source, 1).expect(rt, "a text");
+    let s = read(alloc, source, 1).ok().expect(rt, "a text");
     let mut names = NameTable::new(alloc);
     let fault = fault_of_tokens(rt, alloc, &s, form, &mut names);
     drop(names);
@@ -158,7 +158,7 @@ fn has_union(rt: &impl Abort, alloc: Global, s: &Sexprs<'_>, names: &mut NameTab
 
 fn has_parts(rt: &impl Abort, alloc: Global, source: &[u8], form: Form) -> bool {
     assert!(rt; source.len() <= 16_777_216);
-    let s = read(alloc, source, 0).expect(rt, "a text");
+    let s = read(alloc, source, 0).ok().expect(rt, "a text");
     let mut names = NameTable::new(alloc);
     let right = match form {
         Form::Formula => has_formula(rt, alloc, &s, &mut names),

@@ -99,7 +99,9 @@ fn at_most_200_lists_are_open(rt: HostRuntime) {
 
 fn has_200_lists(rt: &impl Abort, alloc: Global, source: &[u8]) -> bool {
     assert!(rt; source.len() <= 16_777_216);
-    let s = read(alloc, source, 0).expect(rt, "a text of 200 lists");
+    let s = read(alloc, source, 0)
+        .ok()
+        .expect(rt, "a text of 200 lists");
     let sizes = (s.len(), s.text_len());
     let closes = (s.close_of(0), s.close_of(199), s.close_of(200));
     drop(s);
@@ -142,7 +144,9 @@ fn are_tokens(rt: &impl Abort, s: &Sexprs<'_>) {
 
 #[test]
 fn tokens(rt: HostRuntime) {
-    let s = read(rt.alloc(), b"(Ab;(c\n ?x (-) )", 0).expect(&rt, "a text");
+    let s = read(rt.alloc(), b"(Ab;(c\n ?x (-) )", 0)
+        .ok()
+        .expect(&rt, "a text");
     are_tokens(&rt, &s);
     drop(s);
 }
