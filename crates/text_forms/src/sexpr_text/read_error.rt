@@ -1,7 +1,7 @@
 use htn_base::{Fault, Memory};
 
 /// Why a text isn't read: its least fault, or no memory was to be had.
-#[derive(Clone, Copy, Debug)]
+#[derive(Clone, Copy)]
 pub enum ReadError {
     Bad(Fault),
     Memory,
