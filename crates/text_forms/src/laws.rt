@@ -1,5 +1,5 @@
 // Laws of the definitions of texts.
-ghost use Rattle.std.specs.Prelude.{◌≡◌, ◌≤◌, ℕ, true, All, List, Some, length, slice_get};
+ghost use Rattle.std.specs.Prelude.{◌≡◌, ◌≤◌, ℕ, true, All, Some, length, slice_get};
 ghost use Rattle.text_forms.specs.Bytes.{opening, closing, letter, is_clean};
 ghost use Rattle.text_forms.specs.Tokens.{start, stop, word, tokens, token_count, symbols};
 ghost use Rattle.text_forms.specs.Comments.{IsClassed};

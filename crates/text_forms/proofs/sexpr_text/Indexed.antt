@@ -9,8 +9,8 @@ use Rattle.text_forms.specs.Tokens.{Kind, start, stop, word, Token, token, token
 use Rattle.text_forms.specs.declared.sexpr_text.index.Entry.{Entry}
 use Rattle.text_forms.specs.declared.sexpr_text.index.Index.{Index}
 use Rattle.text_forms.specs.declared.sexpr_text.tokens.Piece.{Piece}
-use Rattle.text_forms.specs.sexpr_text.Index.{IsEntry, IsIndexOf, IsEarlyEntry, IsIndexedTo, IsEnteredTo, GoesOnIndexing, AreBelow, AreOpen, IsOneOf, ended, closed}
-use Rattle.text_forms.specs.sexpr_text.Places.{tokens_at, begun, deeper, IsGoodAt, IsPassed}
+use Rattle.text_forms.specs.sexpr_text.Index.{IsEntry, IsIndexOf, IsEarlyEntry, IsIndexedTo, IsEnteredTo, AreBelow, AreOpen, IsOneOf, ended, closed}
+use Rattle.text_forms.specs.sexpr_text.Places.{tokens_at, tokens_by, begun, deeper, IsGoodAt, IsPassed}
 use Rattle.text_forms.specs.sexpr_text.Seen.{kind_seen, piece_seen}
 use Rattle.text_forms.proofs.Shown.{closes_get}
 use Rattle.text_forms.proofs.sexpr_text.Numbered.{drop_next, drop_nil, pushed, close_of_here}
@@ -147,6 +147,10 @@ module _ (text : List ℕ) (at : ℕ) (p : Piece) (es : List Entry) (opens : Lis
           by : ((j : ℕ) → close_at text i ≡ Some j → e.end ≡ j) ⊎ IsOneOf i opens → ((j : ℕ) → close_at text i ≡ Some j → e.end ≡ j) ⊎ IsOneOf i (length es ∷ opens)
           by (inl l) = inl l
           by (inr o) = inr (inr o)
+
+-- with one more token, which stands here, what was indexed of any text is indexed again
+abbrev pub GoesOnIndexing : Piece → List Entry → List ℕ → List Entry → List ℕ → Type 0
+GoesOnIndexing p es opens next next_opens = (text : List ℕ) (at : ℕ) → at ≡ p.span.start → tokens_at text at ≡ tokens_by text (Some p) → IsIndexedTo text at es opens → IsIndexedTo text p.span.end next next_opens
 
 pub enter_word : (p : Piece) (es : List Entry) (opens : List ℕ) → kind_seen p.kind ≡ word → GoesOnIndexing p es opens (es ++ entry_of p ∷ []) opens
 enter_word p es opens is text at first next h = word_more text at p es opens first next h is

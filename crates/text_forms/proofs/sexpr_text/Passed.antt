@@ -8,8 +8,7 @@ use Rattle.text_forms.specs.Least.{least, least_by, left_open}
 use Rattle.text_forms.specs.Tokens.{start, stop, word, token, tokens_from}
 use Rattle.text_forms.specs.declared.sexpr_text.marks.Marks.{Marks}
 use Rattle.text_forms.specs.declared.sexpr_text.marks.Place.{Place}
-use Rattle.text_forms.specs.sexpr_text.Kept.{GoesOnMarking}
-use Rattle.text_forms.specs.sexpr_text.Places.{classes_at, tokens_at, begun, deeper, IsPassed, IsPlace, IsAsDeep, IsReadTo}
+use Rattle.text_forms.specs.sexpr_text.Places.{classes_at, tokens_at, begun, deeper, IsPassed, IsPlace, IsAsDeep, IsReadTo, AreMarks}
 use Rattle.text_forms.proofs.sexpr_text.Depth.{classes_next}
 use Rattle.text_forms.proofs.sexpr_text.Numbered.{place_next}
 
@@ -64,6 +63,10 @@ closes_one (o ∷ opens) at (suc d) e = omega arith
 pub one_less : (d : ℕ) → d - 1 ≡ deeper stop d
 one_less zero = refl
 one_less (suc d) = omega arith
+
+-- with one more token, which stands between two places, the marks of any text are its marks again
+abbrev pub GoesOnMarking : Place → Place → Marks → Marks → Type 0
+GoesOnMarking p q old new = (text : List ℕ) → IsPlace text old.count p → IsPlace text (old.count + 1) q → AreMarks text old → AreMarks text new
 
 -- what is known behind a token
 module _ (text : List ℕ) (old new : Marks) (p q : Place) (read : IsReadTo text old p) (one : new.count ≡ old.count + 1) (on : GoesOnMarking p q old new) where

@@ -8,9 +8,8 @@ use Rattle.text_forms.specs.declared.sexpr_text.index.Entry.{Entry}
 use Rattle.text_forms.specs.declared.sexpr_text.index.Index.{Index}
 use Rattle.text_forms.specs.declared.sexpr_text.sexprs.Kept.{Kept}
 use Rattle.text_forms.specs.declared.sexpr_text.sexprs.Kept.TheVariants as kept
-use Rattle.text_forms.specs.declared.sexpr_text.tokens.Piece.{Piece}
 use Rattle.text_forms.specs.sexpr_text.Kept.{IsReadFrom}
-use Rattle.text_forms.specs.sexpr_text.Places.{classes_at, tokens_at, tokens_by, IsAsDeep}
+use Rattle.text_forms.specs.sexpr_text.Places.{classes_at, tokens_at, IsAsDeep}
 
 -- an entry is that of token i: a word ends with its last byte, and a list with the token that closes it
 pub record IsEntry (text : List ℕ) (i : ℕ) (e : Entry) : Type 0 where
@@ -93,7 +92,3 @@ pub record IsEnteredTo (text : List ℕ) (es : List Entry) (opens : List ℕ) (a
   pub within : at ≤ length text
   pub indexed : IsIndexedTo text at es opens
   pub deep : IsAsDeep text (length opens) at (classes_at text at)
-
--- with one more token, which stands here, what was indexed of any text is indexed again
-abbrev pub GoesOnIndexing : Piece → List Entry → List ℕ → List Entry → List ℕ → Type 0
-GoesOnIndexing p es opens next next_opens = (text : List ℕ) (at : ℕ) → at ≡ p.span.start → tokens_at text at ≡ tokens_by text (Some p) → IsIndexedTo text at es opens → IsIndexedTo text p.span.end next next_opens

@@ -1,18 +1,13 @@
 -- What is kept of a text that was read: how many tokens it has, and a mark of every eighth. It has no fault.
-use Rattle.std.specs.Prelude.{◌≡◌, ℕ, ◌+◌, ◌≤◌, List, length}
+use Rattle.std.specs.Prelude.{◌≡◌, ℕ, ◌≤◌, List, length}
 use Rattle.text_forms.specs.Faults.{IsFaultless}
 use Rattle.text_forms.specs.Tokens.{token_count}
 use Rattle.text_forms.specs.declared.sexpr_text.marks.Marks.{Marks}
-use Rattle.text_forms.specs.declared.sexpr_text.marks.Place.{Place}
-use Rattle.text_forms.specs.sexpr_text.Places.{AreMarks, IsPlace}
+use Rattle.text_forms.specs.sexpr_text.Places.{AreMarks}
 
 -- so many tokens are kept as the text has
 abbrev pub CountsTokens : List ℕ → Marks → Type 0
 CountsTokens text m = m.count ≡ token_count text
-
--- with one more token, which stands between two places, the marks of any text are its marks again
-abbrev pub GoesOnMarking : Place → Place → Marks → Marks → Type 0
-GoesOnMarking p q old new = (text : List ℕ) → IsPlace text old.count p → IsPlace text (old.count + 1) q → AreMarks text old → AreMarks text new
 
 pub record IsReadFrom (text : List ℕ) (m : Marks) : Type 0 where
   pub short : length text ≤ 16777216

@@ -1,7 +1,5 @@
 //! What the laws are said of.
 
-ghost use Rattle.std.specs.Prelude.{ℕ, Bool, false};
-ghost use Rattle.text_forms.specs.Words.{Word};
 ghost use Rattle.text_forms.specs.form_grammar.Rows.{Rows, end_due};
 ghost use Rattle.text_forms.specs.form_grammar.Texts.{TextRows, OneDue, one_list};
 

@@ -7,10 +7,10 @@ use Rattle.text_forms.specs.Faults.{innermost}
 use Rattle.text_forms.specs.Tokens.{start, stop, word}
 use Rattle.text_forms.specs.declared.sexpr_text.tokens.Kind.TheVariants.{Start, Stop, Word}
 use Rattle.text_forms.specs.declared.sexpr_text.tokens.Piece.{Piece}
-use Rattle.text_forms.specs.sexpr_text.Index.{GoesOnIndexing, closed, ended}
+use Rattle.text_forms.specs.sexpr_text.Index.{closed, ended}
 use Rattle.text_forms.specs.sexpr_text.Places.{IsGoodAt, IsPassed}
 use Rattle.text_forms.specs.sexpr_text.Seen.{class_seen, opened}
-use Rattle.text_forms.proofs.sexpr_text.Indexed.{below_innermost, ended_set, enter_more, enter_start, enter_stop, enter_word, entry_of, one_out}
+use Rattle.text_forms.proofs.sexpr_text.Indexed.{GoesOnIndexing, below_innermost, ended_set, enter_more, enter_start, enter_stop, enter_word, entry_of, one_out}
 use Rattle.text_forms.proofs.sexpr_text.Passed.{passed_opening, passed_closing, passed_word}
 use Rattle.text_forms.proofs.sexpr_text.Popped.{popped}
 use Rattle.text_forms.proofs.sexpr_text.index.Index.pass_over.Goals as goal

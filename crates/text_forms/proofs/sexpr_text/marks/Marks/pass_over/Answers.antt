@@ -4,11 +4,10 @@ use Rattle.text_forms.specs.Bytes.{opening, closing, letter}
 use Rattle.text_forms.specs.Faults.{code_at}
 use Rattle.text_forms.specs.declared.sexpr_text.marks.Marks.{Marks}
 use Rattle.text_forms.specs.declared.sexpr_text.marks.Place.{Place}
-use Rattle.text_forms.specs.sexpr_text.Kept.{GoesOnMarking}
 use Rattle.text_forms.specs.sexpr_text.Places.{IsReadTo}
 use Rattle.text_forms.specs.sexpr_text.Seen.{class_seen}
 use Rattle.text_forms.proofs.sexpr_text.Numbered.{place_number, marks_more, marks_as_before}
-use Rattle.text_forms.proofs.sexpr_text.Passed.{passed_opening, passed_closing, passed_word, read_opening, read_closing, read_word, one_less}
+use Rattle.text_forms.proofs.sexpr_text.Passed.{GoesOnMarking, passed_opening, passed_closing, passed_word, read_opening, read_closing, read_word, one_less}
 use Rattle.text_forms.proofs.sexpr_text.marks.Marks.pass_over.Goals as goal
 use Rattle.text_forms.proofs.sexpr_text.marks.Marks.pass_over.Goals.{in-Opening, in-Closing, in-Letter, then-self-eq0+in_ok-push+in_ok-push-2, else-self-eq0}
 
