@@ -1,22 +1,29 @@
-use Rattle.std.proofs.Common.{◌<◌, ◌≤◌, ◌||◌, length, get_or, bit_or, ◌∙◌, sym, subst, ap, arith, below_more, length-set, get_or-set_same, get_or-set_other}
+use Rattle.std.proofs.Common.{◌≡◌, ◌<◌, ◌≤◌, ◌||◌, length, get_or, bit_or, ◌∙◌, sym, subst, ap, arith, below_more, length-set, get_or-set_same, get_or-set_other}
 use Rattle.std.proofs.lemmas.List.{get_or_read}
 use Rattle.plan_model.specs.net_order.Marks.{has}
 use Rattle.plan_model.specs.net_order.Words.{marks_of, AreWords}
 use Rattle.plan_model.proofs.net_order.Bits.{length-marks_of, count_of, same_count, same_room, or_words, or_marks}
 use Rattle.plan_model.proofs.net_order.child_set.ChildSet.insert_all.Goals as goal
 
+module _ (c : goal.After-loop-k) where
+  counts : c.other.inside.count ≡ c.self.inside.count
+  counts = same_count c.self.inside.count c.self.inside.words.items c.args.self.now c.other.inside.count c.other.inside.words.items c.args.other.now c.self.view_is c.other.view_is c.requires
+
+  room : length c.other.inside.words.items ≡ length c.self.inside.words.items
+  room = same_room c.self.inside.count c.self.inside.words.items c.args.self.now c.other.inside.count c.other.inside.words.items c.args.other.now c.self.view_is c.other.view_is c.self.invariant c.other.invariant c.requires
+
+  end : length c.self.inside.words.items ≤ c.loop-k.k
+  end = let a = c.self.inside.words.ok.0 in omega (arith, c.len-k-end.ensures, c.loop-k-test.false)
+
+  words : AreWords c.self.inside.count c.other.inside.words.items
+  words = subst (λ n. AreWords n c.other.inside.words.items) counts c.other.invariant
+
 pub invariant_of-self : goal.invariant_of-self
 invariant_of-self c =
     let old = c.self.inside.words.items in
     let other = c.other.inside.words.items in
     let new = c.loop-k.self-inside.words.items in
-    let count = c.self.inside.count in
-    let counts = same_count c.self.inside.count c.self.inside.words.items c.args.self.now c.other.inside.count c.other.inside.words.items c.args.other.now c.self.view_is c.other.view_is c.requires in
-    let room = same_room c.self.inside.count c.self.inside.words.items c.args.self.now c.other.inside.count c.other.inside.words.items c.args.other.now c.self.view_is c.other.view_is c.self.invariant c.other.invariant c.requires in
-    let a = c.self.inside.words.ok.0 in
-    let end : length c.self.inside.words.items ≤ c.loop-k.k = omega (arith, c.len-k-end.ensures, c.loop-k-test.false) in
-    let words = subst (λ n. AreWords n other) counts c.other.invariant in
-    subst (λ n. AreWords n new) (sym c.loop-k.invariant.count) (or_words count old other new c.loop-k.k c.loop-k.invariant.room room end c.loop-k.invariant.done c.self.invariant words)
+    subst (λ n. AreWords n new) (sym c.loop-k.invariant.count) (or_words c.self.inside.count old other new c.loop-k.k c.loop-k.invariant.room (room c) (end c) c.loop-k.invariant.done c.self.invariant (words c))
 
 pub index-requires : goal.index-requires
 index-requires c =
@@ -55,11 +62,6 @@ returns-clause-union c i =
     let other = c.other.inside.words.items in
     let new = c.loop-k.self-inside.words.items in
     let count = c.self.inside.count in
-    let counts = same_count c.self.inside.count c.self.inside.words.items c.args.self.now c.other.inside.count c.other.inside.words.items c.args.other.now c.self.view_is c.other.view_is c.requires in
-    let room = same_room c.self.inside.count c.self.inside.words.items c.args.self.now c.other.inside.count c.other.inside.words.items c.args.other.now c.self.view_is c.other.view_is c.self.invariant c.other.invariant c.requires in
-    let a = c.self.inside.words.ok.0 in
-    let end : length c.self.inside.words.items ≤ c.loop-k.k = omega (arith, c.len-k-end.ensures, c.loop-k-test.false) in
-    let words = subst (λ n. AreWords n other) counts c.other.invariant in
     ap (λ n. has (marks_of n new) i) c.loop-k.invariant.count
-    ∙ (or_marks count old other new c.loop-k.k c.loop-k.invariant.room room end c.loop-k.invariant.done c.self.invariant words i
-    ∙ (ap (λ m. has m i || has (marks_of count other) i) c.self.view_is ∙ ap (λ m. has c.args.self.now i || has m i) (ap (λ n. marks_of n other) (sym counts) ∙ c.other.view_is)))
+    ∙ (or_marks count old other new c.loop-k.k c.loop-k.invariant.room (room c) (end c) c.loop-k.invariant.done c.self.invariant (words c) i
+    ∙ (ap (λ m. has m i || has (marks_of count other) i) c.self.view_is ∙ ap (λ m. has c.args.self.now i || has m i) (ap (λ n. marks_of n other) (sym (counts c)) ∙ c.other.view_is)))
