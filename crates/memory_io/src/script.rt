@@ -47,8 +47,7 @@ impl Script {
         ensures added { OnOk result (self.new ≡ with_failing self.old k) }
         ensures unchanged { OnErr result (self.new ≡ self.old) }
     {
-        self.failing.push(u64::from(k))?;
-        Ok(())
+        self.failing.push(u64::from(k))
     }
 
     /// Whether the next call is to fail.
