@@ -23,6 +23,16 @@ module _ {A : Type 0} (same : A → A → Bool) where
       or_assoc true b c = refl
       or_assoc false b c = refl
 
+  -- an item is there where it was, or is the one that is put behind
+  pub has_grown : (xs : List A) (x y : A) (old new : Bool) → old ≡ has y xs → new ≡ cond (same x y) true old → new ≡ has y (xs ++ x ∷ [])
+  has_grown xs x y old new o n = n ∙ (ap (cond (same x y) true) o ∙ (as_or (same x y) (has y xs) ∙ sym (has-push xs x y)))
+    where
+      as_or : (a b : Bool) → cond a true b ≡ (b || a)
+      as_or true true = refl
+      as_or true false = refl
+      as_or false true = refl
+      as_or false false = refl
+
   -- the item where it is new
   abbrev pub if_new : Bool → A → List A
   if_new b y = cond b [] (y ∷ [])
@@ -60,17 +70,8 @@ module _ {A : Type 0} (same : A → A → Bool) where
     pub once_next_old : has (get_or xs k d) (take k xs) ≡ true → once same (take (k + 1) xs) ≡ once same (take k xs)
     once_next_old e = ap (once same) (take_more xs k d l) ∙ once_old (take k xs) (get_or xs k d) e
 
-    -- an item is there where it was, or is the one that comes next
     pub has_next : (y : A) (old new : Bool) → old ≡ has y (take k xs) → new ≡ cond (same (get_or xs k d) y) true old → new ≡ has y (take (k + 1) xs)
-    has_next y old new o n =
-        n ∙ (ap (λ b. cond (same (get_or xs k d) y) true b) o ∙ (as_or (same (get_or xs k d) y) (has y (take k xs))
-        ∙ sym (ap (has y) (take_more xs k d l) ∙ has-push (take k xs) (get_or xs k d) y)))
-      where
-        as_or : (a b : Bool) → cond a true b ≡ (b || a)
-        as_or true true = refl
-        as_or true false = refl
-        as_or false true = refl
-        as_or false false = refl
+    has_next y old new o n = has_grown (take k xs) (get_or xs k d) y old new o n ∙ ap (has y) (sym (take_more xs k d l))
 
   module _ (same_itself : (x : A) → same x x ≡ true) (tells : (x y : A) → (same x y ≡ false) ⊎ (x ≡ y)) where
     pub has_there : (xs : List A) (y : A) → Contains xs y → has y xs ≡ true

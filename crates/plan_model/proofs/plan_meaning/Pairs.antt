@@ -28,7 +28,8 @@ to_once {A = A} same tells (y ∷ xs) x c = elim (head_or_tail y xs x c) [ inl e
     go (inl e) d = Contains-later y (filter (λ z. not (same y z)) (once same xs)) x (to_filter (λ z. not (same y z)) (once same xs) x d (ap not e))
     go (inr e) d = (0, omega arith, e)
 
-tells_pair : (p q : Pair) → (same_pair p q ≡ false) ⊎ (p ≡ q)
+-- two pairs are told apart, or are the same
+pub tells_pair : (p q : Pair) → (same_pair p q ≡ false) ⊎ (p ≡ q)
 tells_pair p q = go (eqb_tells p.first q.first) (eqb_tells p.then q.then)
   where
     go : (((p.first == q.first) ≡ true) × (p.first ≡ q.first)) ⊎ (((p.first == q.first) ≡ false) × (p.first ≢ q.first)) → (((p.then == q.then) ≡ true) × (p.then ≡ q.then)) ⊎ (((p.then == q.then) ≡ false) × (p.then ≢ q.then)) → (same_pair p q ≡ false) ⊎ (p ≡ q)
