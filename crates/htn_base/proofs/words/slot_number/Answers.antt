@@ -1,4 +1,4 @@
-use Rattle.std.proofs.Common.{rules, ℕ, List, ◌≡◌, ◌<◌, ◌^◌, Result, Ok, Err, Some, None, drop, decimal, sym, subst, ap, ◌∙◌, arith}
+use Rattle.std.proofs.Common.{rules, ℕ, List, ◌≡◌, ◌<◌, ◌^◌, Result, Ok, Err, Option, Some, None, drop, decimal, sym, subst, ap, ◌∙◌, arith}
 use Rattle.std.specs.Str.Parse.{ParsesUnsigned}
 use Rattle.std.specs.Str.{IsUtf8}
 use Rattle.std.specs.Result.{result_ok, MatchResult}
@@ -20,9 +20,10 @@ refused P Q (Err error) q e = (error, q)
 digits_of : (k : ℕ) (word digits : List ℕ) → digits ≡ drop 5 word → IsWordOfSlot k word → digits ≡ decimal k
 digits_of k word digits behind slot = behind ∙ ap (drop 5) slot.2
 
--- and as this number they are read
-number_of : {E : Type 0} (k : ℕ) (text : List ℕ) (answer : Result ℕ E) → k < 2 ^ 32 → text ≡ decimal k → ParsesUnsigned 32 10 text answer → result_ok answer ≡ Some k
-number_of k text answer small same parses = ap result_ok (parse-decimal 32 k text answer small (omega arith) same parses)
+-- what digits are read as, where they are those of a number of 32 bits
+number_of : {E : Type 0} (text digits : List ℕ) (answer : Result ℕ E) (found : Option ℕ) → text ≡ digits → ParsesUnsigned 32 10 text answer → found ≡ result_ok answer
+    → (k : ℕ) → k < 2 ^ 32 → digits ≡ decimal k → found ≡ Some k
+number_of text digits answer found is parses same k small decimal_is = same ∙ ap result_ok (parse-decimal 32 k text answer small (omega arith) (is ∙ decimal_is) parses)
 
 pub returns-in_err-ok : goal.returns-in_err-ok
 returns-in_err-ok c = rw c.from_residual-in_err-ok.ensures (record {
@@ -42,21 +43,18 @@ returns-in_err-k c = rw c.from_residual-in_err-k.ensures (record {
     λ slot.
         let text = (said _ _ _ _ c.from_utf8.ensures.cases (sym c.ok.ensures.value ∙ c.in_ok-ok.was)).0 in
         let same = digits_of k c.args.word.now _ c.in_ok-digits.ensures.cases.1 slot in
-        let number = number_of k _ _ slot.1 (text ∙ same) c.parse.ensures.value.0 in
-        absurd (cc (c.ok-2.ensures.value, c.in_err-k.was, number)),
+        absurd (cc (number_of _ _ _ None text c.parse.ensures.value.0 (sym c.in_err-k.was ∙ c.ok-2.ensures.value) k slot.1 same)),
   );
 })
 
 pub returns-then-eq : goal.returns-then-eq
 returns-then-eq c =
     let text = (said _ _ _ _ c.from_utf8.ensures.cases (sym c.ok.ensures.value ∙ c.in_ok-ok.was)).0 in
-    let number : (k : ℕ) → k < 2 ^ 32 → c.in_ok-digits.digits.now ≡ decimal k → Some c.in_ok-k.k ≡ Some k = λ k small same.
-    sym c.in_ok-k.was ∙ c.ok-2.ensures.value ∙ number_of k _ _ small (text ∙ same) c.parse.ensures.value.0 in
+    let number = number_of _ _ _ (Some c.in_ok-k.k) text c.parse.ensures.value.0 (sym c.in_ok-k.was ∙ c.ok-2.ensures.value) in
     search rules
 
 pub returns-else-k-gt0 : goal.returns-else-k-gt0
 returns-else-k-gt0 c =
     let text = (said _ _ _ _ c.from_utf8.ensures.cases (sym c.ok.ensures.value ∙ c.in_ok-ok.was)).0 in
-    let number : (k : ℕ) → k < 2 ^ 32 → c.in_ok-digits.digits.now ≡ decimal k → Some c.in_ok-k.k ≡ Some k = λ k small same.
-    sym c.in_ok-k.was ∙ c.ok-2.ensures.value ∙ number_of k _ _ small (text ∙ same) c.parse.ensures.value.0 in
+    let number = number_of _ _ _ (Some c.in_ok-k.k) text c.parse.ensures.value.0 (sym c.in_ok-k.was ∙ c.ok-2.ensures.value) in
     search rules
