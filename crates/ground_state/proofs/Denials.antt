@@ -27,11 +27,11 @@ use Rattle.ground_state.specs.Numbers.{number_of}
 use Rattle.ground_state.specs.Notes as notes
 use Rattle.ground_state.specs.Notes.{noted_at, noted, holds, IsNoted, IsSet, AreNone, AreSame, HoldSame, AreDenied}
 use Rattle.ground_state.specs.States as states
-use Rattle.ground_state.specs.States.{note, atom, has, has_ground, HasSameNotes}
+use Rattle.ground_state.specs.States.{note, atom, has, has_ground, HasSameNotes, IsSame}
 use Rattle.ground_state.specs.Search.{Touches, TouchesWithin}
 use Rattle.ground_state.specs.Passes.{of_adds, Passes, IsWithOne, HasDenied}
 use Rattle.ground_state.proofs.Lists.{same-lists, lists-same, near-set}
-use Rattle.ground_state.proofs.StateLaws.{same-atoms, set-false, set-Some}
+use Rattle.ground_state.proofs.StateLaws.{same-atoms, same-has, set-false, set-Some}
 use Rattle.ground_state.proofs.GatherCases.{touches-Delete}
 use Rattle.ground_state.proofs.PassLaws.{passes-same}
 
@@ -166,6 +166,13 @@ module _ (s : State) (p : ℕ) (old new : Notes) (at : slice_get s.facts.items p
       | inr m ↦ elsewhere g.predicate g.args m
     ];
   }
+
+  -- since an earlier state in which the same was noted
+  pub noted_since : (r : State) (args : List ℕ) (w : Option Bool) → HasSameNotes r s → IsNoted old args w new → states.IsNoted r (atom p args) w t
+  noted_since r args w e h = let n = noted_there args w h in record { here = n.here; others = λ g d. n.others g d ∙ e g.predicate g.args }
+
+  pub same_since : (r : State) → HasSameNotes r s → AreSame old new → IsSame r t
+  same_since r e h g = same-has r t g (ap is_true (same_notes h g.predicate g.args ∙ e g.predicate g.args))
 
   -- where something was noted of the objects
   pub set_at : (args : List ℕ) (b : Bool) → IsSet old args b new → states.IsSet s (atom p args) b t

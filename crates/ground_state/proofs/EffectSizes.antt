@@ -55,3 +55,6 @@ falls-part es i d x l e = let a = part-size es i d l in let b = ap size e in ome
 
 pub falls-body : (e : Effect) (ps : List Param) (p x : Effect) → e ≡ E.Forall ps p → x ≡ p → size x < size e
 falls-body e ps p x d k = let f = falls-Forall e ps ps p x d refl k in omega arith
+
+pub falls-part-of : (e : Effect) (ps xs : List Effect) (i : ℕ) (d x : Effect) → e ≡ E.And ps → xs ≡ ps → i < length xs → x ≡ get_or xs i d → size x < size e
+falls-part-of e ps xs i d x g k l h = let a = falls-part xs i d x l h in let b = falls-And e ps xs g k in omega arith

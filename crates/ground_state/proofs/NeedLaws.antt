@@ -15,13 +15,24 @@ use Rattle.plan_model.specs.declared.schemas.ActionSchema.{ActionSchema}
 use Rattle.plan_model.specs.declared.values.Pddl.{Pddl}
 use Rattle.ground_state.specs.declared.need.Need.{Need}
 use Rattle.ground_state.specs.Room.{EachFits, fits_step, fits, effect_fits_step, effect_fits}
-use Rattle.ground_state.specs.Needs.{IsWithin, Allows, IsEnough, IsEnoughForEach, IsEnoughForEffect, IsEnoughForEachEffect, HasRoom, IsEnoughForAll, IsEnoughForAction}
+use Rattle.ground_state.specs.Needs.{IsWithin, Allows, IsEnough, IsEnoughForEach, IsEnoughForEffect, HasRoom, IsEnoughForAll}
 use Rattle.ground_state.proofs.RoomEquations.{fits-roll, effect-roll}
+
+-- enough for each of the effects where n variables are in force
+abbrev pub IsEnoughForEachEffect : ℕ → List Effect → Need → Type 0
+IsEnoughForEachEffect n es = Allows (λ room arity. EachFits (effect_fits room arity) es n)
+
+-- enough for the action
+abbrev pub IsEnoughForAction : ActionSchema → Need → Type 0
+IsEnoughForAction a = Allows (λ room arity. HasRoom room arity a)
 
 -- what follows of two facts on what was made
 pub if_both : {X M : Type 0} (made : Result X M) (P Q R : X → Type 0) → ((x : X) → P x → Q x → R x) → IfOk made P → IfOk made Q → IfOk made R
 if_both (Ok x) P Q R f p q = f x p q
 if_both (Err m) P Q R f p q = tt
+
+pub within_then : (r s t : Need) → IsWithin r s → IsWithin s t → IsWithin r t
+within_then r s t v w = (let a = v.0 in let b = w.0 in omega arith, let a = v.1 in let b = w.1 in omega arith)
 
 pub allows_more : (P : ℕ → ℕ → Type 0) (less more : Need) → IsWithin less more → Allows P less → Allows P more
 allows_more P less more w h room arity d a = let v = w.0 in let u = w.1 in h room arity (omega arith) (omega arith)
@@ -32,9 +43,6 @@ each_more k (y ∷ xs) x n e h = (e.0, each_more k xs x n e.1 h)
 
 pub each_next : {X : Type 0} (k : X → ℕ → Type 0) (xs : List X) (i : ℕ) (x : X) (n : ℕ) → i < length xs → x ≡ get_or xs i x → EachFits k (take i xs) n → k x n → EachFits k (take (i + 1) xs) n
 each_next k xs i x n l e h f = subst (λ ys. EachFits k ys n) (sym (take_more xs i x l ∙ ap (λ b. take i xs ++ b ∷ []) (sym e))) (each_more k (take i xs) x n h f)
-
-pub each_first : {X : Type 0} (k : X → ℕ → Type 0) (xs : List X) (n : ℕ) → EachFits k (take 0 xs) n
-each_first k xs n = tt
 
 module _ (room arity : ℕ) where
   fits-from : (f : Formula) (x : Formula-F Formula) → roll-Formula x ≡ f → (n : ℕ) → fits_step room arity (fits room arity) x n → fits room arity f n
@@ -95,6 +103,20 @@ module _ (e : Effect) (n : ℕ) where
   pub enough-When : (f : Formula) (p x : Effect) → e ≡ E.When f p → x ≡ p → (less need : Need) → IsWithin less need → IsEnough n f less → IsEnoughForEffect n x need → IsEnoughForEffect n e need
   enough-When f p x q g less need w h j room arity d r =
       effect-from room arity e (Effect-F.When f p) (E.rolls-When f p ∙ sym q) n (allows_more (λ room arity. fits room arity f n) less need w h room arity d r, subst (λ z. effect_fits room arity z n) g (j room arity d r))
+
+-- the parameters are in force inside, and have room
+pub enough-Action : (a : ActionSchema) (xs : List Param) (inside : ℕ) → xs ≡ a.params → inside ≡ 0 + length xs → (least less need : Need) → inside ≤ least.depth → IsWithin least less → IsWithin less need
+    → IsEnough inside a.pre less → IsEnoughForEffect inside a.eff need → IsEnoughForAction a need
+enough-Action a xs inside g i least less need l v w h k room arity d r =
+    let e = ap length g in
+    let n : inside ≡ length a.params = omega (arith, i, e) in
+    let x = v.0 in
+    let y = w.0 in
+    record {
+      params = omega arith;
+      pre = subst (fits room arity a.pre) n (allows_more (λ room arity. fits room arity a.pre inside) less need w h room arity d r);
+      eff = subst (effect_fits room arity a.eff) n (k room arity d r);
+    }
 
 -- the actions so far and one more
 pub actions_more : (xs : List ActionSchema) (i : ℕ) (a : ActionSchema) (less need : Need) → i < length xs → a ≡ get_or xs i a → IsWithin less need

@@ -18,7 +18,7 @@ use Rattle.ground_state.specs.Frames.{Frame}
 use Rattle.ground_state.specs.States.{atoms, Has}
 use Rattle.ground_state.specs.Search.{Touches}
 use Rattle.ground_state.specs.Passes.{plain_step, plain, IsPlain, ArePlain, literal, of_adds, IsIdle, Passes, HasOnlyEntered}
-use Rattle.ground_state.proofs.StateLaws.{same-twice}
+use Rattle.ground_state.proofs.StateLaws.{same-twice, changed_by}
 use Rattle.ground_state.proofs.RoomEquations.{each-map}
 use Rattle.ground_state.proofs.GatherCases.{touches-Add, touches-Add-not, touches-Delete, touches-Delete-not, touches-Forall}
 
@@ -165,8 +165,5 @@ pub changed : (InType : ℕ → ℕ → Type 0) (old entered denied affirmed new
     → Passes passes.Affirm (Touches InType (atoms old) true e v) denied affirmed
     → Passes passes.Forget (Touches InType (atoms old) false e v) affirmed new
     → Has new (after InType (atoms old) e v)
-changed InType old entered denied affirmed new e v h k m n g =
-    let with_adds = m.0 (λ g t. k.1 g (h.1.1 g t)) g in (
-      λ x. elim (with_adds.0 ((n g).0 x)) [ inl y ↦ (let z = (k.0 g).0 y in inl ((h.0 g).0 z.0, z.1)) | inr y ↦ inr y ],
-      λ x. (n g).1 (with_adds.1 (elim x [ inl y ↦ inl ((k.0 g).1 ((h.0 g).1 y.0, y.1)) | inr y ↦ inr y ])),
-    )
+changed InType old entered denied affirmed new e v h k m n =
+    changed_by old entered denied affirmed new (Touches InType (atoms old) true e v) (Touches InType (atoms old) false e v) h.0 k.0 (m.0 (λ g t. k.1 g (h.1.1 g t))) n

@@ -9,7 +9,7 @@ use Rattle.std.proofs.lemmas.List.{take_more}
 use Rattle.std.proofs.lemmas.List.Elements.{Contains-push, Contains-push_cases, Contains-append_left}
 use Rattle.plan_model.specs.declared.terms.GroundAtom.{GroundAtom}
 use Rattle.ground_state.specs.declared.state.State.{State}
-use Rattle.ground_state.specs.States.{atom, note_of, has, atoms, Has, IsSame, IsNoted, AreNoted, KeepsNotes, With, Without, WithAll, WithoutAll, IsChanged}
+use Rattle.ground_state.specs.States.{atom, note_of, has, atoms, Has, IsSame, IsNoted, AreNoted, KeepsNotes, With, Without, WithAll, WithoutAll}
 use Rattle.ground_state.proofs.Lists.{same-lists, lists-same}
 
 pub same-atoms : (g a : GroundAtom) → g.predicate ≡ a.predicate → g.args ≡ a.args → g ≡ a
@@ -33,16 +33,16 @@ same-or-not g a = elim (cases_eq g.predicate a.predicate) [
 abbrev truth : Option Bool → Bool
 truth o = unwrap_or o false
 
-same-has : (s t : State) (g : GroundAtom) → has t g.predicate g.args ≡ has s g.predicate g.args → atoms t g ↔ atoms s g
+pub same-has : (s t : State) (g : GroundAtom) → has t g.predicate g.args ≡ has s g.predicate g.args → atoms t g ↔ atoms s g
 same-has s t g e = (λ x. sym e ∙ x, λ x. e ∙ x)
 
 pub same-twice : (r s t : State) → IsSame r s → IsSame s t → IsSame r t
 same-twice r s t f h g = (λ x. (f g).0 ((h g).0 x), λ x. (h g).1 ((f g).1 x))
 
 -- atoms made false and then others made true, between two states that have the same atoms as these
-pub changed_by : (old entered denied affirmed new : State) (adds deletes : List GroundAtom) → IsSame old entered → Has denied (WithoutAll entered deletes) → Has affirmed (WithAll denied adds) → IsSame affirmed new
-    → IsChanged old adds deletes new
-changed_by old entered denied affirmed new adds deletes e d a f g = (
+pub changed_by : (old entered denied affirmed new : State) (A D : GroundAtom → Type 0) → IsSame old entered → Has denied (λ g. atoms entered g × (D g → ⊥)) → Has affirmed (λ g. atoms denied g ⊎ A g) → IsSame affirmed new
+    → Has new (λ g. (atoms old g × (D g → ⊥)) ⊎ A g)
+changed_by old entered denied affirmed new A D e d a f g = (
   λ x. elim ((a g).0 ((f g).0 x)) [ inl y ↦ (let z = (d g).0 y in inl ((e g).0 z.0, z.1)) | inr y ↦ inr y ],
   λ x. (f g).1 ((a g).1 (elim x [ inl y ↦ inl ((d g).1 ((e g).1 y.0, y.1)) | inr y ↦ inr y ])),
 )

@@ -25,17 +25,11 @@ IsEnoughForEach n fs = Allows (λ room arity. EachFits (fits room arity) fs n)
 abbrev pub IsEnoughForEffect : ℕ → Effect → Need → Type 0
 IsEnoughForEffect n e = Allows (λ room arity. effect_fits room arity e n)
 
-abbrev pub IsEnoughForEachEffect : ℕ → List Effect → Need → Type 0
-IsEnoughForEachEffect n es = Allows (λ room arity. EachFits (effect_fits room arity) es n)
-
 -- an action has room: for its parameters, its condition and its effect
 pub record HasRoom (room arity : ℕ) (a : ActionSchema) : Type 0 where
   pub params : length a.params ≤ room
   pub pre : fits room arity a.pre (length a.params)
   pub eff : effect_fits room arity a.eff (length a.params)
-
-abbrev pub IsEnoughForAction : ActionSchema → Need → Type 0
-IsEnoughForAction a = Allows (λ room arity. HasRoom room arity a)
 
 -- each action of the problem and its goal have room
 pub record HasRoomForAll (p : Pddl) (room arity : ℕ) : Type 0 where

@@ -58,10 +58,6 @@ AreNoted list s = (g : GroundAtom) → Contains list g → IsSome (note_of s g)
 abbrev pub KeepsNotes : State → State → Type 0
 KeepsNotes old new = (g : GroundAtom) → IsSome (note_of old g) → IsSome (note_of new g)
 
--- the atom is one of which something is noted now
-abbrev pub IsEntered : State → GroundAtom → State → Type 0
-IsEntered old a new = KeepsNotes old new × IsSome (note_of new a)
-
 -- those of the set, and one
 abbrev pub With : State → GroundAtom → truth.State
 With s a g = atoms s g ⊎ (g ≡ a)
@@ -76,10 +72,3 @@ WithAll s list g = atoms s g ⊎ Contains list g
 
 abbrev pub WithoutAll : State → List GroundAtom → truth.State
 WithoutAll s list g = atoms s g × (Contains list g → ⊥)
-
--- without those that are deleted, and with those that are added
-abbrev pub Changed : State → List GroundAtom → List GroundAtom → truth.State
-Changed s adds deletes g = WithoutAll s deletes g ⊎ Contains adds g
-
-abbrev pub IsChanged : State → List GroundAtom → List GroundAtom → State → Type 0
-IsChanged old adds deletes new = Has new (Changed old adds deletes)

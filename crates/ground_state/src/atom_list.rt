@@ -32,14 +32,6 @@ impl Model for KeptAtom {
 }
 
 impl KeptAtom {
-    /// Becomes the ground atom that the atom stands for.
-    fn set(&mut self, env: &Env, atom: &Atom) -> Result<(), Memory>
-        ensures { OnOk result (self.new ≡ ground (frame env.now).objects atom.now) }
-    {
-        self.predicate = atom.predicate;
-        env.write(atom.args.as_slice(), &mut self.args)
-    }
-
     pub(crate) fn predicate(&self) -> u32
         ensures { result ≡ self.now.predicate }
     {
@@ -107,7 +99,9 @@ impl AtomList {
         ensures unchanged { OnErr result (self.new ≡ self.old) }
     {
         if self.count < self.kept.len() {
-            self.kept[self.count].set(env, atom)?;
+            let kept = &mut self.kept[self.count];
+            kept.predicate = atom.predicate;
+            env.write(atom.args.as_slice(), &mut kept.args)?;
             self.count += 1;
             return Ok(());
         }

@@ -1,35 +1,14 @@
-ghost use Rattle.std.specs.Prelude.{OnOk, OnErr};
+ghost use Rattle.std.specs.Prelude.{OnOk};
 ghost use Rattle.ground_state.specs.States as spec;
 
-use crate::atom_list::{AtomList, KeptAtom};
+use crate::atom_list::KeptAtom;
 use crate::state::State;
 use htn_base::Memory;
 use std::alloc::Global;
 
 impl State {
-    /// Makes the atoms of the second list false and then those of the first true. What needs memory comes first, so
-    /// that after `Memory` the state is as it was.
-    pub(crate) fn change(
-        &mut self,
-        alloc: Global,
-        adds: &AtomList,
-        deletes: &AtomList,
-    ) -> Result<(), Memory>
-        ensures changed { OnOk result (spec.IsChanged self.old adds.now deletes.now self.new) }
-        ensures unchanged { OnErr result (spec.IsSame self.old self.new) }
-    {
-        if let Err(memory) = self.enter(alloc, adds.as_slice()) {
-            self.forget(adds.as_slice());
-            return Err(memory);
-        }
-        self.deny(deletes.as_slice());
-        self.affirm(adds.as_slice());
-        self.forget(deletes.as_slice());
-        Ok(())
-    }
-
     /// Notes those of the atoms as false of which nothing is noted.
-    fn enter(&mut self, alloc: Global, atoms: &[KeptAtom]) -> Result<(), Memory>
+    pub(crate) fn enter(&mut self, alloc: Global, atoms: &[KeptAtom]) -> Result<(), Memory>
         ensures same { spec.IsSame self.old self.new }
         ensures noted { OnOk result (spec.AreNoted atoms.now self.new) }
     {
@@ -42,7 +21,7 @@ impl State {
     }
 
     /// Makes the atoms false.
-    fn deny(&mut self, atoms: &[KeptAtom])
+    pub(crate) fn deny(&mut self, atoms: &[KeptAtom])
         ensures without { spec.Has self.new (spec.WithoutAll self.old atoms.now) }
         ensures noted { spec.KeepsNotes self.old self.new }
     {
@@ -52,7 +31,7 @@ impl State {
     }
 
     /// Makes the atoms true.
-    fn affirm(&mut self, atoms: &[KeptAtom])
+    pub(crate) fn affirm(&mut self, atoms: &[KeptAtom])
         requires { spec.AreNoted atoms.now self.old }
         ensures { spec.Has self.new (spec.WithAll self.old atoms.now) }
     {
@@ -62,7 +41,7 @@ impl State {
     }
 
     /// Takes away what is noted of those of the atoms that are false, where there are many notes.
-    fn forget(&mut self, atoms: &[KeptAtom])
+    pub(crate) fn forget(&mut self, atoms: &[KeptAtom])
         ensures { spec.IsSame self.old self.new }
     {
         for atom in atoms {

@@ -2,7 +2,7 @@ ghost use Rattle.std.specs.Prelude.{◌≡◌, ◌+◌, ◌≤◌, length, IfOk}
 ghost use Rattle.ground_state.specs.Needs as spec;
 
 use htn_base::{Memory, number};
-use plan_model::{ActionSchema, Effect, Formula, Param, Pddl};
+use plan_model::{Effect, Formula, Param, Pddl};
 
 /// The room that an environment needs: for so many variables in force, and for so many arguments of an atom. Where one
 /// is 2^32 or more, that is answered as want of memory.
@@ -20,20 +20,13 @@ impl Need {
         let none = Need { depth: 0, arity: 0 };
         let mut need = none.with_formula(&p.goal, 0)?;
         for action in p.actions.as_slice() {
-            need = need.with_action(action)?;
+            let inside = within(0, action.params.as_slice())?;
+            need = need
+                .at_least(inside, 0)
+                .with_formula(&action.pre, inside)?
+                .with_effect(&action.eff, inside)?;
         }
         Ok(need)
-    }
-
-    /// With the room that the action needs.
-    fn with_action(self, action: &ActionSchema) -> Result<Need, Memory>
-        ensures enough { IfOk result (spec.IsEnoughForAction action.now) }
-        ensures more { IfOk result (spec.IsWithin self) }
-    {
-        let inside = within(0, action.params.as_slice())?;
-        self.at_least(inside, 0)
-            .with_formula(&action.pre, inside)?
-            .with_effect(&action.eff, inside)
     }
 
     /// With the room that the formula needs where so many variables are in force.
@@ -87,7 +80,13 @@ impl Need {
         match eff {
             Effect::Add(_) => Ok(self),
             Effect::Delete(_) => Ok(self),
-            Effect::And(parts) => self.with_effects(parts.as_slice(), inside),
+            Effect::And(parts) => {
+                let mut need = self;
+                for part in parts.as_slice() {
+                    need = need.with_effect(part, inside)?;
+                }
+                Ok(need)
+            }
             Effect::Forall(params, body) => {
                 let inner = within(inside, params.as_slice())?;
                 self.at_least(inner, 0).with_effect(body.get(), inner)
@@ -96,19 +95,6 @@ impl Need {
                 .with_formula(condition, inside)?
                 .with_effect(body.get(), inside),
         }
-    }
-
-    /// The same, for each of the effects.
-    #[cycle(with_effect)]
-    fn with_effects(self, parts: &[Effect], inside: u32) -> Result<Need, Memory>
-        ensures enough { IfOk result (spec.IsEnoughForEachEffect inside parts.now) }
-        ensures more { IfOk result (spec.IsWithin self) }
-    {
-        let mut need = self;
-        for part in parts {
-            need = need.with_effect(part, inside)?;
-        }
-        Ok(need)
     }
 
     /// With at least this room.

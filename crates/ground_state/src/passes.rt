@@ -250,7 +250,13 @@ impl State {
             return Ok(());
         }
         match pass {
-            Pass::Enter => self.enter_atom(alloc, env, atom),
+            Pass::Enter => {
+                if self.note_atom(env, atom).is_some() {
+                    return Ok(());
+                }
+                env.fill(atom.args.as_slice());
+                self.insert(alloc, atom.predicate, env.args(), false)
+            }
             Pass::Deny => {
                 self.set_atom(env, atom, false);
                 Ok(())

@@ -9,7 +9,7 @@ use crate::atom_list::AtomLists;
 use crate::env::Env;
 use crate::notes::Notes;
 use crate::numbers::Numbers;
-use htn_base::{List, Memory};
+use htn_base::Memory;
 use plan_model::{Atom, Facts, GroundAtom};
 use problem_index::Domain;
 use std::alloc::Global;
@@ -106,7 +106,7 @@ impl State {
 
     /// What is noted of what the atom stands for.
     #[inline(always)]
-    fn note_atom(&self, env: &mut Env, atom: &Atom) -> Option<bool>
+    pub(crate) fn note_atom(&self, env: &mut Env, atom: &Atom) -> Option<bool>
         requires room { length atom.now.args ≤ (frame env.old).arity }
         ensures note { result ≡ spec.note_of self.now (ground (frame env.old).objects atom.now) }
         ensures kept { frame env.new ≡ frame env.old }
@@ -139,23 +139,9 @@ impl State {
             (spec.IsNoted self.old (spec.atom predicate args.now) (Some truth) self.new) }
         ensures unchanged { OnErr result (spec.IsSame self.old self.new) }
     {
-        if predicate < MOST_PREDICATES {
-            self.widen(alloc, predicate)?;
+        if predicate >= MOST_PREDICATES {
+            return Err(Memory);
         }
-        match self.facts.get_mut(predicate as usize) {
-            Some(notes) => {
-                notes.insert(alloc, args, truth)?;
-                self.crowded = self.crowded || notes.are_many();
-                Ok(())
-            }
-            None => Err(Memory),
-        }
-    }
-
-    /// Makes a place for the notes of this predicate, if there is none yet.
-    fn widen(&mut self, alloc: Global, predicate: u32) -> Result<(), Memory>
-        ensures { spec.HasSameNotes self.old self.new }
-    {
         for number in self.facts.len()..predicate as usize + 1 {
             let room = match number {
                 ..ROOMY_PREDICATES => 1 << 20,
@@ -166,7 +152,14 @@ impl State {
             let notes = Notes::new(alloc, Numbers { most, room });
             self.facts.push(notes)?;
         }
-        Ok(())
+        match self.facts.get_mut(predicate as usize) {
+            Some(notes) => {
+                notes.insert(alloc, args, truth)?;
+                self.crowded = self.crowded || notes.are_many();
+                Ok(())
+            }
+            None => Err(Memory),
+        }
     }
 
     /// Notes this of the atom, where something is noted of it. It takes no memory.
@@ -188,25 +181,6 @@ impl State {
         if let Some(notes) = self.facts.get_mut(atom.predicate as usize) {
             notes.set_terms(env, atom.args.as_slice(), truth);
         }
-    }
-
-    /// Notes what the atom stands for as false, where nothing is noted of it.
-    pub(crate) fn enter_atom(
-        &mut self,
-        alloc: Global,
-        env: &mut Env,
-        atom: &Atom,
-    ) -> Result<(), Memory>
-        requires room { length atom.now.args ≤ (frame env.old).arity }
-        ensures same { spec.IsSame self.old self.new }
-        ensures noted { OnOk result (spec.IsEntered self.old (ground (frame env.old).objects atom.now) self.new) }
-        ensures kept { frame env.new ≡ frame env.old }
-    {
-        if self.note_atom(env, atom).is_none() {
-            env.fill(atom.args.as_slice());
-            self.insert(alloc, atom.predicate, env.args(), false)?;
-        }
-        Ok(())
     }
 
     /// Takes away what is noted of the predicate and these objects, where it is noted as false, among many notes of the

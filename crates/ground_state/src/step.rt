@@ -4,7 +4,6 @@ ghost use Rattle.problem_index.specs.Kinds.{IsWorld};
 ghost use Rattle.ground_state.specs.Frames.{frame};
 ghost use Rattle.ground_state.specs.Room.{EffectFits};
 ghost use Rattle.ground_state.specs.States.{IsSame};
-ghost use Rattle.ground_state.specs.Passes.{IsPlain};
 ghost use Rattle.ground_state.specs.Clauses.{After};
 
 use crate::atom_list::AtomLists;
@@ -46,7 +45,7 @@ impl State {
         self.apply_in(alloc, &world, eff, env)
     }
 
-    /// The same, in a world.
+    /// The same, in a world. Of an effect without conditions no lists are made.
     pub(crate) fn apply_in(
         &mut self,
         alloc: Global,
@@ -62,7 +61,13 @@ impl State {
         ensures kept { frame env.new ≡ frame env.old }
     {
         if is_plain(eff, env) {
-            return self.apply_plain(alloc, world, eff, env);
+            self.pass_over(Pass::Enter, alloc, eff, env, world)?;
+            self.pass_over(Pass::Deny, alloc, eff, env, world)?;
+            self.pass_over(Pass::Affirm, alloc, eff, env, world)?;
+            if !self.crowded {
+                return Ok(());
+            }
+            return self.pass_over(Pass::Forget, alloc, eff, env, world);
         }
         let mut lists = mem::replace(&mut self.touched, AtomLists::new(alloc));
         let stepped = self.step(alloc, world, eff, env, &mut lists);
@@ -70,32 +75,8 @@ impl State {
         stepped
     }
 
-    /// The same, of an effect without conditions, of which no lists are made.
-    fn apply_plain(
-        &mut self,
-        alloc: Global,
-        world: &World<'_>,
-        eff: &Effect,
-        env: &mut Env,
-    ) -> Result<(), Memory>
-        requires world { IsWorld world.now }
-        requires room { EffectFits (frame env.old) eff.now }
-        requires plain { IsPlain (frame env.old) eff.now }
-        ensures after { OnOk result
-            (After world.now.types.now world.now.objects.now self.old eff.now env.old self.new) }
-        ensures unchanged { OnErr result (IsSame self.old self.new) }
-        ensures kept { frame env.new ≡ frame env.old }
-    {
-        self.pass_over(Pass::Enter, alloc, eff, env, world)?;
-        self.pass_over(Pass::Deny, alloc, eff, env, world)?;
-        self.pass_over(Pass::Affirm, alloc, eff, env, world)?;
-        if !self.crowded {
-            return Ok(());
-        }
-        self.pass_over(Pass::Forget, alloc, eff, env, world)
-    }
-
-    /// The same, where what the effect adds and deletes is put into these lists.
+    /// The same, where what the effect adds and deletes is put into these lists. What needs memory comes first, so that
+    /// after `Memory` the state is as it was.
     fn step(
         &mut self,
         alloc: Global,
@@ -114,6 +95,14 @@ impl State {
         lists.adds.clear();
         lists.deletes.clear();
         gather(alloc, eff, env, self, world, lists)?;
-        self.change(alloc, &lists.adds, &lists.deletes)
+        let (adds, deletes) = (lists.adds.as_slice(), lists.deletes.as_slice());
+        if let Err(memory) = self.enter(alloc, adds) {
+            self.forget(adds);
+            return Err(memory);
+        }
+        self.deny(deletes);
+        self.affirm(adds);
+        self.forget(deletes);
+        Ok(())
     }
 }

@@ -2,9 +2,6 @@ use Rattle.std.proofs.Common.{arith}
 use Rattle.std.proofs.lemmas.Grind.{common_steps}
 use Rattle.ground_state.proofs.atom_list.AtomList.put.Goals as goal
 
-pub returns-in_err-set-clause-unchanged : goal.returns-in_err-set-clause-unchanged
-returns-in_err-set-clause-unchanged c = grind (arith, common_steps)
-
 pub returns-then-self-len-clause-put : goal.returns-then-self-len-clause-put
 returns-then-self-len-clause-put c = grind (arith, common_steps)
 

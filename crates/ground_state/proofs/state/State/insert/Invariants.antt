@@ -1,5 +1,5 @@
 use Rattle.ground_state.specs.States.{HasSameNotes}
-use Rattle.ground_state.proofs.state.State.widen.Given as goal
+use Rattle.ground_state.proofs.state.State.insert.Given as goal
 
 abbrev pub invariant-loop-number : goal.invariant-loop-number
 invariant-loop-number l = HasSameNotes l.fn.self l.self
