@@ -134,10 +134,3 @@ finds_at table places word n place differ e at names are = go place (subst (IsPl
     go : (place : Option ℕ) → IsPlaceOf (length names) names n place → MatchOption place ((k : ℕ) → HasWordAt table names word k → ⊥) (HasWordAt table names word)
     go (Some k) (x, f, g) = (x, f, subst (λ j. slice_get table j ≡ Some word) (sym g) there)
     go None h = λ k has. h k (slice_get_within names k has.0 has.1) (has.0, has.1, one_place table word has.0.number n differ has.2 there)
-
--- each number has a place in the array
-pub finds_past : (table : List (List ℕ)) (places : List (Option ℕ)) (word : List ℕ) (n : ℕ) → number_of table word ≡ Some n → length places ≤ n → Finds table places word None
-finds_past table places word n e l names are k has =
-    let m = slice_get_within table n word (word_there table word n e) in
-    let r = are.room in
-    absurd (omega arith)

@@ -2,7 +2,7 @@ ghost use Rattle.std.specs.Prelude.{List as Items, ◌<◌, ◌^◌, ◌↔◌, 
 ghost use Rattle.plan_model.specs.declared.types.Object.{Object as object};
 ghost use Rattle.plan_model.specs.Typing.{InType};
 ghost use Rattle.plan_model.specs.Parts.{AreListed};
-ghost use Rattle.problem_index.specs.Domains.{ArePartsOf, IsDomainOf};
+ghost use Rattle.problem_index.specs.Domains.{IsDomainOf};
 ghost use Rattle.problem_index.specs.Kinds as spec;
 
 use crate::by_type::{by_type, listed, size};
