@@ -1,5 +1,4 @@
 ghost use Rattle.std.specs.Prelude.{◌≡◌, ◌++◌, OnOk};
-ghost use Rattle.slot_encoding.specs.EncodedActions as encoded;
 ghost use Rattle.slot_encoding.specs.slot_declarations.Frames.{IsFrame};
 ghost use Rattle.slot_encoder.specs.Made as made;
 
@@ -10,35 +9,6 @@ use order_encoder::push_waiting;
 use plan_model::{Effect, Formula, Term};
 use slot_encoding::slot_declarations::Frame;
 use std::alloc::Global;
-
-/// Whether a condition is the empty conjunction.
-fn is_empty(condition: &Formula) -> bool
-    ensures { result ≡ encoded.is_empty condition.now }
-{
-    match condition {
-        Formula::And(parts) => parts.len() == 0,
-        Formula::Holds(_) => false,
-        Formula::Equal(_, _) => false,
-        Formula::Not(_) => false,
-        Formula::Or(_) => false,
-        Formula::Imply(_, _) => false,
-        Formula::Forall(_, _) => false,
-        Formula::Exists(_, _) => false,
-    }
-}
-
-/// Whether an effect is the empty conjunction.
-fn is_empty_effect(effect: &Effect) -> bool
-    ensures { result ≡ encoded.is_empty_effect effect.now }
-{
-    match effect {
-        Effect::And(parts) => parts.len() == 0,
-        Effect::Add(_) => false,
-        Effect::Delete(_) => false,
-        Effect::Forall(_, _) => false,
-        Effect::When(_, _) => false,
-    }
-}
 
 /// Puts a source condition at the end, but no empty conjunction.
 pub(crate) fn push_condition(
@@ -51,10 +21,9 @@ pub(crate) fn push_condition(
     requires { IsFrame frame.now }
     ensures { OnOk result (into.new ≡ into.old ++ made.condition frame.now front condition.now) }
 {
-    if is_empty(condition) {
-        Ok(())
-    } else {
-        into.put(source_formula(alloc, frame, front, condition))
+    match condition {
+        Formula::And(parts) if parts.len() == 0 => Ok(()),
+        _ => into.put(source_formula(alloc, frame, front, condition)),
     }
 }
 
@@ -69,10 +38,9 @@ pub(crate) fn push_change(
     requires { IsFrame frame.now }
     ensures { OnOk result (into.new ≡ into.old ++ made.change frame.now front effect.now) }
 {
-    if is_empty_effect(effect) {
-        Ok(())
-    } else {
-        into.put(source_effect(alloc, frame, front, effect))
+    match effect {
+        Effect::And(parts) if parts.len() == 0 => Ok(()),
+        _ => into.put(source_effect(alloc, frame, front, effect)),
     }
 }
 

@@ -14,7 +14,7 @@ use crate::split_action::{Parts, SplitAction};
 use crate::splitting::push_method_effects;
 use crate::terms::moved;
 use crate::variables::{Variables, variables_of};
-use htn_base::{Boxed, List, Memory, Name};
+use htn_base::{Boxed, List, Memory};
 use plan_model::{Atom, Constraint, Formula, Guard, MethodPlan, Param, Term};
 use slot_encoding::slot_declarations::{
     Frame, guard_predicate, named, numbered, prefixed, push_params, slot_param, task_predicate,
@@ -34,20 +34,14 @@ pub(crate) fn encoded_method(
 {
     let check = check_predicate(frame, m)?;
     let plan = &frame.compiled.methods.as_slice()[m as usize];
-    let name = method_name(alloc, frame, m, plan)?;
+    let name = match m {
+        0 => named(frame, b"htn_start"),
+        _ => prefixed(alloc, frame, b"htn_m_", plan.schema.name)?,
+    };
     let variables = variables_of(alloc, plan)?;
     let mut parts = Parts::new(alloc);
     push_parts(alloc, frame, check, plan, &variables, &mut parts)?;
     Ok(parts.into_action(name, variables.spare))
-}
-
-fn method_name(alloc: Global, frame: &Frame<'_>, m: u32, plan: &MethodPlan) -> Result<Name, Memory>
-    ensures { IfOk result (λ n. n ≡ made.method_name frame.now m plan.now) }
-{
-    match m {
-        0 => Ok(named(frame, b"htn_start")),
-        _ => prefixed(alloc, frame, b"htn_m_", plan.schema.name),
-    }
 }
 
 /// Puts the parts of a method's action at the ends.
@@ -109,19 +103,7 @@ fn push_before(
 {
     into.put(held_task(alloc, frame, plan, variables.front).map(Formula::Holds))?;
     push_waits(alloc, frame, variables.depth, into)?;
-    push_free(alloc, frame, variables.spare, into)
-}
-
-fn push_free(
-    alloc: Global,
-    frame: &Frame<'_>,
-    spare: u32,
-    into: &mut List<Formula>,
-) -> Result<(), Memory>
-    requires { IsFrame frame.now }
-    ensures { OnOk result (into.new ≡ into.old ++ made.new_slots_free frame.now spare) }
-{
-    for k in 0..spare {
+    for k in 0..variables.spare {
         into.put(free(alloc, frame, Term::Var(1 + k)))?;
     }
     Ok(())
@@ -139,8 +121,9 @@ fn push_behind(
     requires { IsFrame frame.now }
     ensures { OnOk result (into.new ≡ into.old ++ made.method_behind frame.now front plan.now) }
 {
-    let constraints = plan.schema.constraints.as_slice();
-    push_constraints(alloc, frame, front, constraints, into)?;
+    for one in plan.schema.constraints.as_slice() {
+        into.put(constraint(alloc, frame, front, one))?;
+    }
     push_guards(alloc, frame, front, plan.guards.as_slice(), into)?;
     if plan.tested {
         push_condition(alloc, frame, front, &plan.schema.pre, into)
@@ -168,22 +151,6 @@ pub(crate) fn held_task(
         front,
         plan.schema.task_args.as_slice(),
     )
-}
-
-fn push_constraints(
-    alloc: Global,
-    frame: &Frame<'_>,
-    front: u32,
-    constraints: &[Constraint],
-    into: &mut List<Formula>,
-) -> Result<(), Memory>
-    ensures { OnOk result (into.new ≡ into.old ++
-        made.constraints frame.now front constraints.now) }
-{
-    for one in constraints {
-        into.put(constraint(alloc, frame, front, one))?;
-    }
-    Ok(())
 }
 
 fn constraint(

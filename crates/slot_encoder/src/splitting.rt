@@ -76,7 +76,9 @@ fn push_split(
     let front = variables.front;
     let slots = variables.slots.as_slice();
     let children = schema.children.as_slice();
-    push_taken(alloc, frame, variables.spare, into)?;
+    for k in 0..variables.spare {
+        into.put(is_free(alloc, frame, 1 + k).map(Effect::Delete))?;
+    }
     push_children(alloc, frame, check, front, slots, children, into)?;
     push_pairs(alloc, frame, slots, schema.pairs.as_slice(), into)?;
     push_copies(
@@ -87,21 +89,6 @@ fn push_split(
         plan.copiers.as_slice(),
         into,
     )
-}
-
-fn push_taken(
-    alloc: Global,
-    frame: &Frame<'_>,
-    spare: u32,
-    into: &mut List<Effect>,
-) -> Result<(), Memory>
-    requires { IsFrame frame.now }
-    ensures { OnOk result (into.new ≡ into.old ++ made.new_slots_taken frame.now spare) }
-{
-    for k in 0..spare {
-        into.put(is_free(alloc, frame, 1 + k).map(Effect::Delete))?;
-    }
-    Ok(())
 }
 
 /// Puts at the end that each child is in its slot.
@@ -188,31 +175,17 @@ fn push_copies(
         flat_map (made.copied frame.now depth slots.now) copiers.now) }
 {
     for child in copiers {
-        push_copied(alloc, frame, depth, slots, *child, into)?;
+        let slot = Term::Var(slot_of(slots, *child));
+        push_copying(
+            alloc,
+            &frame.basis.order,
+            frame.slots,
+            &frame.style,
+            Term::Var(0),
+            slot,
+            depth,
+            into,
+        )?;
     }
     Ok(())
-}
-
-fn push_copied(
-    alloc: Global,
-    frame: &Frame<'_>,
-    depth: u32,
-    slots: &[u32],
-    child: u32,
-    into: &mut List<Effect>,
-) -> Result<(), Memory>
-    requires { IsFrame frame.now }
-    ensures { OnOk result (into.new ≡ into.old ++ made.copied frame.now depth slots.now child) }
-{
-    let slot = Term::Var(slot_of(slots, child));
-    push_copying(
-        alloc,
-        &frame.basis.order,
-        frame.slots,
-        &frame.style,
-        Term::Var(0),
-        slot,
-        depth,
-        into,
-    )
 }

@@ -1,7 +1,5 @@
-ghost use Rattle.std.specs.Prelude.{◌≡◌, ◌<◌, ◌∷◌, ◌++◌, Some, length, slice_get, IfOk, OnOk};
-ghost use Rattle.plan_model.specs.declared.formulas.Formula.TheVariants as F;
+ghost use Rattle.std.specs.Prelude.{◌≡◌, ◌<◌, ◌++◌, Some, length, slice_get, IfOk, OnOk};
 ghost use Rattle.slot_encoder.specs.Encodings.{whole};
-ghost use Rattle.slot_encoder.specs.Pieces.{held_in_first};
 ghost use Rattle.slot_encoding.specs.slot_declarations.Frames.{IsFrame};
 ghost use Rattle.slot_encoder.specs.Made as made;
 
@@ -10,7 +8,7 @@ use crate::atoms::held_work;
 use crate::conditions::{push_change, push_condition, push_waits};
 use crate::split_action::{Parts, SplitAction};
 use crate::splitting::push_freed;
-use htn_base::{List, Memory, number};
+use htn_base::{Memory, number};
 use plan_model::{ActionSchema, Effect, Formula, Param};
 use slot_encoding::slot_declarations::{
     Frame, named, plus, prefixed, push_params, renamed, slot_param,
@@ -53,8 +51,8 @@ pub(crate) fn encoded_check(alloc: Global, frame: &Frame<'_>, j: u32) -> Result<
     Ok(parts.into_action(name, 0))
 }
 
-/// Puts at the ends the parts that a source action and a check have: the slot and the parameters, the condition, and that the
-/// slot is freed.
+/// Puts at the ends the parts that a source action and a check have: the slot and the parameters, that the work is held in
+/// the slot with nothing before it, its own condition, and that the work goes and its slot is freed.
 fn push_work(
     alloc: Global,
     frame: &Frame<'_>,
@@ -75,40 +73,11 @@ fn push_work(
     let depth = plus(number(params.len())?, 1)?;
     into.params.push(slot_param(named(frame, b"htn_h")))?;
     push_params(frame, params, &mut into.params)?;
-    push_conditions(alloc, frame, predicate, depth, pre, &mut into.before)?;
-    push_effects(alloc, frame, predicate, depth, &mut into.effects)
-}
-
-/// Puts at the end that the work is held in the slot with nothing before it, and its own condition.
-fn push_conditions(
-    alloc: Global,
-    frame: &Frame<'_>,
-    predicate: u32,
-    depth: u32,
-    pre: &Formula,
-    into: &mut List<Formula>,
-) -> Result<(), Memory>
-    requires { IsFrame frame.now }
-    ensures { OnOk result (into.new ≡ into.old ++ F.Holds (held_in_first predicate depth)
-        ∷ made.waiting frame.now depth ++ made.condition frame.now 1 pre.now) }
-{
-    into.put(held_work(alloc, predicate, depth).map(Formula::Holds))?;
-    push_waits(alloc, frame, depth, into)?;
-    push_condition(alloc, frame, 1, pre, into)
-}
-
-/// Puts at the end that the work goes, and what frees its slot.
-fn push_effects(
-    alloc: Global,
-    frame: &Frame<'_>,
-    predicate: u32,
-    depth: u32,
-    into: &mut List<Effect>,
-) -> Result<(), Memory>
-    requires { IsFrame frame.now }
-    ensures { OnOk result
-        (into.new ≡ into.old ++ made.freeing frame.now (held_in_first predicate depth) depth) }
-{
-    into.put(held_work(alloc, predicate, depth).map(Effect::Delete))?;
-    push_freed(alloc, frame, depth, into)
+    into.before
+        .put(held_work(alloc, predicate, depth).map(Formula::Holds))?;
+    push_waits(alloc, frame, depth, &mut into.before)?;
+    push_condition(alloc, frame, 1, pre, &mut into.before)?;
+    into.effects
+        .put(held_work(alloc, predicate, depth).map(Effect::Delete))?;
+    push_freed(alloc, frame, depth, &mut into.effects)
 }

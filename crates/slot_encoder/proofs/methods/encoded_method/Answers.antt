@@ -1,14 +1,16 @@
-use Rattle.std.proofs.Common.{List, get_or, Some, ◌≡◌, ◌++◌, ap, sym, ◌∙◌}
+use Rattle.std.proofs.Common.{List, get_or, Some, ◌≡◌, ◌++◌, ap, sym, ◌∙◌, arith}
 use Rattle.plan_model.specs.declared.formulas.Formula.TheVariants as F
 use Rattle.plan_model.specs.declared.effects.Effect.TheVariants as E
 use Rattle.plan_model.specs.declared.schemas.ActionSchema.{ActionSchema}
 use Rattle.plan_model.specs.declared.schemas.MethodPlan.{MethodPlan}
 use Rattle.slot_encoder.specs.declared.split_action.Parts.{Parts}
 use Rattle.slot_encoder.specs.Encodings.{whole}
+use Rattle.slot_encoding.specs.SourceParts as parts
 use Rattle.slot_encoder.specs.Made as made
 use Rattle.slot_encoder.proofs.ActionPlaces.{method-at}
-use Rattle.slot_encoder.proofs.Splits.{same_action, method_change-at, method_pre-is}
+use Rattle.slot_encoder.proofs.Splits.{same_action, method_change-at, method_pre-is, method_word_first, method_word_later}
 use Rattle.slot_encoder.proofs.methods.encoded_method.Goals as goal
+use Rattle.slot_encoder.proofs.methods.encoded_method.Goals.{in-0, in_default+in_ok-name-in_default}
 
 pub returns : goal.returns
 returns c =
@@ -20,8 +22,12 @@ returns c =
     let p = c.push_parts.new.into in
     let h = c.in_ok-push_parts.ensures in
     let none = c.new-parts.ensures in
+    let named : c.match-m.name ≡ made.method_name f m plan = elim c.match-m.branch [
+      | in-0 w ↦ w.name-is ∙ w.named-name.ensures ∙ ap (parts.name f.printed.now) (sym (method_word_first f m plan m w.in-0.is))
+      | in_default+in_ok-name-in_default w ↦ w.name-is ∙ w.in_ok-name-in_default.ensures ∙ ap (parts.name f.printed.now) (sym (method_word_later f m plan m (let other = w.in_default in omega arith)))
+    ] in
     let is : whole c.into_action.result ≡ made.method_action f m plan =
-    c.into_action.ensures ∙ same_action c.in_ok-name.name _ _ _ _ _ _ _ c.in_ok-name.ensures
+    c.into_action.ensures ∙ same_action c.match-m.name _ _ _ _ _ _ _ named
     (h.params ∙ ap (λ (q : Parts). q.params ++ made.method_params f plan) none)
     (ap F.And (method_pre-is f m plan p.before p.behind v.spare v.front (h.before ∙ ap (λ (q : Parts). q.before ++ made.method_before f plan) none) c.in_ok-variables.ensures.spare c.in_ok-variables.ensures.front (h.behind ∙ ap (λ (q : Parts). q.behind ++ made.method_behind f v.front plan) none)))
     (ap E.And (h.effects ∙ ap (λ (q : Parts). q.effects ++ made.method_eff f check plan) none ∙ method_change-at f m plan check plan.schema.children c.in_ok-check.ensures)) in

@@ -1,10 +1,12 @@
-use Rattle.std.proofs.Common.{rules, ◌≡◌, ◌++◌, ◌∷◌, [], ap, ◌∙◌, append_assoc}
-use Rattle.std.proofs.lemmas.Result.{on_ok_weaker}
-use Rattle.order_encoder.proofs.NextSlot.{put_is}
+use Rattle.std.proofs.Common.{rules, ◌≡◌, ◌++◌, ◌∷◌, [], ap, ◌∙◌, append_assoc, arith}
+use Rattle.order_encoder.proofs.NextSlot.{put_is, put_next}
 use Rattle.plan_model.specs.declared.formulas.Formula.TheVariants as F
 use Rattle.slot_encoder.specs.Made as made
 use Rattle.slot_encoder.proofs.Splits.{method_before-is}
 use Rattle.slot_encoder.proofs.methods.push_before.Goals as goal
+
+pub loop-k-preserved : goal.loop-k-preserved
+loop-k-preserved c = put_next (λ v. F.Holds (made.is_free c.args.frame.now v)) 1 c.loop-k.k c.push_waits.new.into c.loop-k.into c.put-in-loop-k.new.self c.free.result c.loop-k.invariant c.free.ensures c.in_ok-put-2.ensures.put
 
 pub returns : goal.returns
 returns c =
@@ -18,6 +20,6 @@ returns c =
     let free = made.new_slots_free f v.spare in
     let put = put_is old c.put.new.self c.map.result task (search rules) c.in_ok-put.ensures.put in
     let both = c.in_ok-push_waits.ensures ∙ ap (λ z. z ++ waits) put ∙ append_assoc old (task ∷ []) waits in
-    on_ok_weaker {P = c.push_free.new.into ≡ c.push_waits.new.into ++ free} {Q = c.push_free.new.into ≡ old ++ made.method_before f plan} c.push_free.result
-    (λ k. k ∙ ap (λ z. z ++ free) both ∙ append_assoc old (task ∷ waits) free ∙ ap (λ z. old ++ z) (method_before-is f plan v.front v.depth v.spare r.front r.depth r.spare))
-    c.push_free.ensures
+    let all : c.loop-k.k ≡ v.spare = omega (arith, c.loop-k.auto.k-end, c.loop-k-test.false) in
+    c.loop-k.invariant ∙ ap (λ k. c.push_waits.new.into ++ made.new_slots_free f k) all ∙ ap (λ z. z ++ free) both
+    ∙ append_assoc old (task ∷ waits) free ∙ ap (λ z. old ++ z) (method_before-is f plan v.front v.depth v.spare r.front r.depth r.spare)

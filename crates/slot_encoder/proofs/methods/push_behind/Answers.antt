@@ -1,6 +1,6 @@
 use Rattle.std.proofs.Common.{arith}
 use Rattle.std.proofs.lemmas.Grind.{common_steps}
-use Rattle.slot_encoder.proofs.methods.push_constraints.Goals as goal
+use Rattle.slot_encoder.proofs.methods.push_behind.Goals as goal
 
 pub loop-one-preserved : goal.loop-one-preserved
 loop-one-preserved c = grind (arith, common_steps)
