@@ -1,5 +1,6 @@
 -- What rows in words are proved with.
 pub mod RowTexts
+pub mod TopPlan
 -- Whole values, and a plan.
 pub mod EncodedSmallest
 pub mod SmallestPlan

@@ -15,20 +15,20 @@ use Rattle.plan_model.specs.declared.types.Types.{Types}
 use Rattle.plan_model.specs.declared.formulas.Formula.{Formula}
 use Rattle.plan_model.specs.declared.formulas.Formula.TheVariants.{Equal, Not, Imply}
 use Rattle.plan_model.specs.declared.networks.Child.{Child}
-use Rattle.plan_model.specs.declared.networks.Head.TheVariants.{Task, Action, Check}
+use Rattle.plan_model.specs.declared.networks.Head.TheVariants.{Action, Check}
 use Rattle.plan_model.specs.declared.schemas.ActionSchema.{ActionSchema}
 use Rattle.plan_model.specs.declared.schemas.MethodSchema.{MethodSchema}
 use Rattle.plan_model.specs.declared.schemas.MethodPlan.{MethodPlan}
 use Rattle.plan_model.specs.declared.values.Hddl.{Hddl}
 use Rattle.plan_model.specs.declared.values.Compiled.{Compiled}
-use Rattle.plan_model.specs.plan_meaning.Compilation.{IsCompiled}
-use Rattle.plan_model.proofs.plan_meaning.examples.PlanKinds.{plain, with_check, when_applied, none_rise}
+use Rattle.plan_model.specs.plan_meaning.Compilation.{AsksSomething, IsCompiled}
+use Rattle.plan_model.proofs.plan_meaning.examples.PlanKinds.{with_check, when_applied, none_rise}
 use Rattle.plan_model.proofs.plan_meaning.examples.RowValues.{child, always, nothing, problem, method_schema, method_plan, task_schema, action_schema}
 use Rattle.plan_texts.specs.Declared.{Declared}
-use Rattle.plan_texts.proofs.Equations.{part-Holds, part-Equal, part-Not, part-And, part-Imply, part-Forall, effect-Add, effect-Delete, effect-And, effect-Forall}
 use Rattle.slot_encoding.specs.SourceParts.{source_formula}
 use Rattle.slot_encoding.specs.EncodedActions.{encoded_method, encoded_check}
-use Rattle.slot_encoding.proofs.examples.RowTexts.{digit_1, digit_2, is_imply, asks, source-Imply, source-Not, source-Equal, declared, action_texts, waits, clears}
+use Rattle.slot_encoding.proofs.examples.TopPlan.{top_plan, top_is}
+use Rattle.slot_encoding.proofs.examples.RowTexts.{digit_1, digit_2, is_imply, asks, source-Imply, source-Not, source-Equal, printing, declared, action_texts, waits, clears}
 
 abbrev names : List (List ℕ)
 names =
@@ -54,9 +54,6 @@ method n children = record (method_schema n 0 asked children []) {
 
 abbrev a : List Child
 a = child (Action 0) ∷ []
-
-abbrev top_plan : MethodPlan
-top_plan = method_plan (method_schema 3 1 always (child (Task 0) ∷ []) []) false (0 ∷ []) (Some 0) []
 
 abbrev action : ActionSchema
 action = action_schema 11 always nothing
@@ -93,21 +90,16 @@ n_tested = record (method_plan (method 12 []) false [] None []) { tested = true 
 abbrev at_once : Compiled
 at_once = record { hddl = hddl; methods = top_plan ∷ m_tested ∷ n_tested ∷ [] }
 
+asks_asked : AsksSomething asked
+asks_asked = asks asked (is_imply _ _)
+
 leaf_is_compiled : IsCompiled hddl Leaf leaf
 leaf_is_compiled = record {
   hddl = refl;
   methods = (
-    plain hddl Leaf _ _ refl refl refl (record {
-      schema = refl;
-      up = tt;
-      line = refl;
-      heir = refl;
-      copiers = refl;
-      rising = none_rise;
-      guards = ([], refl, refl);
-    }),
+    top_is hddl Leaf,
     (
-      with_check hddl _ _ (asks asked (is_imply _ _)) refl refl (record {
+      with_check hddl _ _ asks_asked refl refl (record {
         schema = refl;
         up = (omega arith, tt);
         line = refl;
@@ -117,7 +109,7 @@ leaf_is_compiled = record {
         guards = ([], refl, refl);
       }),
       (
-        with_check hddl _ _ (asks asked (is_imply _ _)) refl refl (record {
+        with_check hddl _ _ asks_asked refl refl (record {
           schema = refl;
           up = tt;
           line = refl;
@@ -136,17 +128,9 @@ at_once_is_compiled : IsCompiled hddl AtOnce at_once
 at_once_is_compiled = record {
   hddl = refl;
   methods = (
-    plain hddl AtOnce _ _ refl refl refl (record {
-      schema = refl;
-      up = tt;
-      line = refl;
-      heir = refl;
-      copiers = refl;
-      rising = none_rise;
-      guards = ([], refl, refl);
-    }),
+    top_is hddl AtOnce,
     (
-      when_applied hddl _ _ (asks asked (is_imply _ _)) refl refl (record {
+      when_applied hddl _ _ asks_asked refl refl (record {
         schema = refl;
         up = tt;
         line = refl;
@@ -156,7 +140,7 @@ at_once_is_compiled = record {
         guards = ([], refl, refl);
       }),
       (
-        when_applied hddl _ _ (asks asked (is_imply _ _)) refl refl (record {
+        when_applied hddl _ _ asks_asked refl refl (record {
           schema = refl;
           up = tt;
           line = refl;
@@ -216,33 +200,20 @@ m_leaf : action_texts in_leaf (encoded_method leaf words 2 Adl 1 m_checked) ≡
     ∷ codes "and" ∷ codes "(htn_t_t ?htn_h)" ∷ waits ∷ codes "(htn_free ?htn_h1)" ∷ codes "(= ?x b1)" ∷ codes "(not (= ?x ?y))"
     ∷ codes "and" ∷ codes "(not (htn_t_t ?htn_h))" ∷ codes "(not (htn_free ?htn_h1))" ∷ codes "(htn_c_m ?htn_h1 ?x ?y)"
     ∷ codes "(htn_a_a ?htn_h)" ∷ codes "(htn_before ?htn_h1 ?htn_h)" ∷ []
-m_leaf = simp (digit_1, part-And, part-Holds, part-Equal, part-Forall, part-Not, effect-And, effect-Delete, effect-Add)
+m_leaf = simp (digit_1, printing)
 
 n_leaf : action_texts in_leaf (encoded_method leaf words 2 Adl 2 n_checked) ≡
     codes "htn_m_n" ∷ codes "(?htn_h - htn_slot ?x - block ?y - block)"
     ∷ codes "and" ∷ codes "(htn_t_t ?htn_h)" ∷ waits ∷ codes "(= ?x b1)" ∷ codes "(not (= ?x ?y))"
     ∷ codes "and" ∷ codes "(not (htn_t_t ?htn_h))" ∷ codes "(htn_c_n ?htn_h ?x ?y)" ∷ []
-n_leaf = simp (part-And, part-Holds, part-Equal, part-Forall, part-Not, effect-And, effect-Delete, effect-Add)
+n_leaf = simp printing
 
 -- and its check the precondition
 m_check : action_texts in_leaf (encoded_check leaf words 2 Adl 1 m_checked) ≡
     codes "htn_c_m" ∷ codes "(?htn_h - htn_slot ?x - block ?y - block)"
     ∷ codes "and" ∷ codes "(htn_c_m ?htn_h ?x ?y)" ∷ waits ∷ codes "(imply (= ?y b2) (not (= ?y ?x)))"
     ∷ codes "and" ∷ codes "(not (htn_c_m ?htn_h ?x ?y))" ∷ codes "(htn_free ?htn_h)" ∷ clears ∷ []
-m_check = simp (
-  is_imply,
-  asked_behind,
-  part-And,
-  part-Holds,
-  part-Equal,
-  part-Imply,
-  part-Forall,
-  part-Not,
-  effect-And,
-  effect-Delete,
-  effect-Add,
-  effect-Forall,
-)
+m_check = simp (is_imply, asked_behind, printing)
 
 -- at once: a method's action asks the constraints and then the precondition
 m_at_once : action_texts when_at_once (encoded_method at_once words 2 Adl 1 m_tested) ≡
@@ -250,19 +221,7 @@ m_at_once : action_texts when_at_once (encoded_method at_once words 2 Adl 1 m_te
     ∷ codes "and" ∷ codes "(htn_t_t ?htn_h)" ∷ waits ∷ codes "(= ?x b1)" ∷ codes "(not (= ?x ?y))"
     ∷ codes "(imply (= ?y b2) (not (= ?y ?x)))"
     ∷ codes "and" ∷ codes "(not (htn_t_t ?htn_h))" ∷ codes "(htn_a_a ?htn_h)" ∷ []
-m_at_once = simp (
-  is_imply,
-  asked_behind,
-  part-And,
-  part-Holds,
-  part-Equal,
-  part-Imply,
-  part-Forall,
-  part-Not,
-  effect-And,
-  effect-Delete,
-  effect-Add,
-)
+m_at_once = simp (is_imply, asked_behind, printing)
 
 -- without children the slot is free then
 n_at_once : action_texts when_at_once (encoded_method at_once words 2 Adl 2 n_tested) ≡
@@ -270,17 +229,4 @@ n_at_once : action_texts when_at_once (encoded_method at_once words 2 Adl 2 n_te
     ∷ codes "and" ∷ codes "(htn_t_t ?htn_h)" ∷ waits ∷ codes "(= ?x b1)" ∷ codes "(not (= ?x ?y))"
     ∷ codes "(imply (= ?y b2) (not (= ?y ?x)))"
     ∷ codes "and" ∷ codes "(not (htn_t_t ?htn_h))" ∷ codes "(htn_free ?htn_h)" ∷ clears ∷ []
-n_at_once = simp (
-  is_imply,
-  asked_behind,
-  part-And,
-  part-Holds,
-  part-Equal,
-  part-Imply,
-  part-Forall,
-  part-Not,
-  effect-And,
-  effect-Delete,
-  effect-Add,
-  effect-Forall,
-)
+n_at_once = simp (is_imply, asked_behind, printing)

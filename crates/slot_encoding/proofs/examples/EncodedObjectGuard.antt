@@ -15,7 +15,7 @@ use Rattle.plan_model.specs.declared.formulas.Formula.TheVariants.{Holds}
 use Rattle.plan_model.specs.declared.networks.Child.{Child}
 use Rattle.plan_model.specs.declared.networks.Guard.{Guard}
 use Rattle.plan_model.specs.declared.networks.Pair.{Pair}
-use Rattle.plan_model.specs.declared.networks.Head.TheVariants.{Task, Action, Check}
+use Rattle.plan_model.specs.declared.networks.Head.TheVariants.{Action, Check}
 use Rattle.plan_model.specs.declared.schemas.Predicate.{Predicate}
 use Rattle.plan_model.specs.declared.schemas.ActionSchema.{ActionSchema}
 use Rattle.plan_model.specs.declared.schemas.MethodSchema.{MethodSchema}
@@ -25,13 +25,13 @@ use Rattle.plan_model.specs.declared.values.Compiled.{Compiled}
 use Rattle.plan_model.specs.Typing.{InType, IsPart, stay}
 use Rattle.plan_model.specs.plan_meaning.Compilation.{AreGuards, IsCompiled}
 use Rattle.plan_model.proofs.plan_meaning.examples.GuardRow.{guard_types, block_is_not_red}
-use Rattle.plan_model.proofs.plan_meaning.examples.PlanKinds.{plain, with_check, when_applied, none_rise, holds_counts}
+use Rattle.plan_model.proofs.plan_meaning.examples.PlanKinds.{with_check, when_applied, none_rise, holds_counts}
 use Rattle.plan_model.proofs.plan_meaning.examples.RowValues.{child, always, nothing, problem, method_schema, method_plan, task_schema, action_schema}
 use Rattle.plan_texts.specs.Declared.{Declared}
-use Rattle.plan_texts.proofs.Equations.{part-Holds, part-Equal, part-Not, part-And, part-Forall, effect-Add, effect-Delete, effect-And}
 use Rattle.slot_encoding.specs.EncodedActions.{encoded_method}
 use Rattle.slot_encoding.specs.EncodedValue.{IsInitial}
-use Rattle.slot_encoding.proofs.examples.RowTexts.{digit_1, digit_2, digit_3, digit_4, is_atom, source-Holds, declared, action_texts, fact_texts, waits}
+use Rattle.slot_encoding.proofs.examples.TopPlan.{top_plan, top_is}
+use Rattle.slot_encoding.proofs.examples.RowTexts.{digit_1, digit_2, digit_3, digit_4, is_atom, source-Holds, printing, declared, action_texts, fact_texts, waits}
 
 abbrev names : List (List ℕ)
 names =
@@ -62,9 +62,6 @@ abbrev method : MethodSchema
 method = record (method_schema 9 0 (Holds ready) (painted 0 ∷ painted 1 ∷ painted 0 ∷ []) (pair 0 1 ∷ pair 1 2 ∷ [])) {
   constraints = record { equal = false; left = Obj 0; right = Obj 1 } ∷ [];
 }
-
-abbrev top_plan : MethodPlan
-top_plan = method_plan (method_schema 3 1 always (child (Task 0) ∷ []) []) false (0 ∷ []) (Some 0) []
 
 abbrev ready_predicate : Predicate
 ready_predicate = record { name = record { number = 10 }; params = [] }
@@ -113,15 +110,7 @@ leaf_is_compiled : IsCompiled hddl Leaf leaf
 leaf_is_compiled = record {
   hddl = refl;
   methods = (
-    plain hddl Leaf _ _ refl refl refl (record {
-      schema = refl;
-      up = tt;
-      line = refl;
-      heir = refl;
-      copiers = refl;
-      rising = none_rise;
-      guards = ([], refl, refl);
-    }),
+    top_is hddl Leaf,
     (
       with_check hddl _ _ (holds_counts ready) refl refl (record {
         schema = refl;
@@ -141,15 +130,7 @@ at_once_is_compiled : IsCompiled hddl AtOnce at_once
 at_once_is_compiled = record {
   hddl = refl;
   methods = (
-    plain hddl AtOnce _ _ refl refl refl (record {
-      schema = refl;
-      up = tt;
-      line = refl;
-      heir = refl;
-      copiers = refl;
-      rising = none_rise;
-      guards = ([], refl, refl);
-    }),
+    top_is hddl AtOnce,
     (
       when_applied hddl _ _ (holds_counts ready) refl refl (record {
         schema = refl;
@@ -202,7 +183,7 @@ leaf_row : action_texts (v (codes "htn_c_m" ∷ [])) (encoded_method leaf words 
     ∷ codes "(htn_c_m ?htn_h1)" ∷ codes "(htn_a_paint ?htn_h2 b1)" ∷ codes "(htn_a_paint ?htn_h3 r1)" ∷ codes "(htn_a_paint ?htn_h b1)"
     ∷ codes "(htn_before ?htn_h1 ?htn_h2)" ∷ codes "(htn_before ?htn_h1 ?htn_h3)" ∷ codes "(htn_before ?htn_h1 ?htn_h)"
     ∷ codes "(htn_before ?htn_h2 ?htn_h3)" ∷ codes "(htn_before ?htn_h3 ?htn_h)" ∷ []
-leaf_row = simp (digit_1, digit_2, digit_3, part-And, part-Holds, part-Equal, part-Forall, part-Not, effect-And, effect-Delete, effect-Add)
+leaf_row = simp (digit_1, digit_2, digit_3, printing)
 
 -- and in front of the precondition
 at_once_row : action_texts (v []) (encoded_method at_once words 4 Adl 1 tested) ≡
@@ -213,20 +194,7 @@ at_once_row : action_texts (v []) (encoded_method at_once words 4 Adl 1 tested) 
     ∷ codes "and" ∷ codes "(not (htn_t_t ?htn_h))" ∷ codes "(not (htn_free ?htn_h1))" ∷ codes "(not (htn_free ?htn_h2))"
     ∷ codes "(htn_a_paint ?htn_h1 b1)" ∷ codes "(htn_a_paint ?htn_h2 r1)" ∷ codes "(htn_a_paint ?htn_h b1)"
     ∷ codes "(htn_before ?htn_h1 ?htn_h2)" ∷ codes "(htn_before ?htn_h2 ?htn_h)" ∷ []
-at_once_row = simp (
-  digit_1,
-  digit_2,
-  is_atom,
-  source-Holds,
-  part-And,
-  part-Holds,
-  part-Equal,
-  part-Forall,
-  part-Not,
-  effect-And,
-  effect-Delete,
-  effect-Add,
-)
+at_once_row = simp (digit_1, digit_2, is_atom, source-Holds, printing)
 
 -- the first slot is object 2; the guard's predicate is behind those of actions and checks
 abbrev fact : ℕ → List ℕ → GroundAtom

@@ -14,7 +14,7 @@ use Rattle.plan_model.specs.declared.types.Object.{Object}
 use Rattle.plan_model.specs.declared.types.Parent.{Parent}
 use Rattle.plan_model.specs.declared.types.Types.{Types}
 use Rattle.plan_model.specs.declared.networks.Child.{Child}
-use Rattle.plan_model.specs.declared.networks.Head.TheVariants.{Task, Action}
+use Rattle.plan_model.specs.declared.networks.Head.TheVariants.{Action}
 use Rattle.plan_model.specs.declared.schemas.Predicate.{Predicate}
 use Rattle.plan_model.specs.declared.schemas.ActionSchema.{ActionSchema}
 use Rattle.plan_model.specs.declared.schemas.MethodSchema.{MethodSchema}
@@ -26,14 +26,14 @@ use Rattle.plan_model.specs.plan_meaning.Network.{InTypeOf}
 use Rattle.plan_model.specs.plan_meaning.Compilation.{IsCompiled}
 use Rattle.plan_model.proofs.plan_meaning.ListedItems.{of_each}
 use Rattle.plan_model.proofs.plan_meaning.examples.PlanKinds.{plain, none_rise}
-use Rattle.plan_model.proofs.plan_meaning.examples.RowValues.{child, always, nothing, problem, method_schema, method_plan, task_schema, action_schema}
+use Rattle.plan_model.proofs.plan_meaning.examples.RowValues.{always, nothing, problem, method_schema, method_plan, task_schema, action_schema}
 use Rattle.plan_texts.specs.Declared.{Declared}
 use Rattle.plan_texts.proofs.SoundProblems.{each-all}
-use Rattle.plan_texts.proofs.Equations.{part-Holds, part-Not, part-And, part-Forall, effect-Add, effect-Delete, effect-And, effect-Forall}
 use Rattle.slot_encoding.specs.EncodedNames.{encoded_predicates}
 use Rattle.slot_encoding.specs.EncodedActions.{encoded_method, encoded_action}
 use Rattle.slot_encoding.specs.EncodedValue.{IsInitial}
-use Rattle.slot_encoding.proofs.examples.RowTexts.{digit_1, empty_condition, empty_effect, declared, action_texts, predicate_texts, fact_texts, waits, clears}
+use Rattle.slot_encoding.proofs.examples.TopPlan.{top_plan, top_is}
+use Rattle.slot_encoding.proofs.examples.RowTexts.{digit_1, empty_condition, empty_effect, printing, declared, action_texts, predicate_texts, fact_texts, waits, clears}
 
 abbrev names : List (List ℕ)
 names =
@@ -67,9 +67,6 @@ painted = record { id = None; head = Action 0; args = Var 0 ∷ [] }
 -- its name, and the type of ?x
 abbrev method : ℕ → ℕ → MethodSchema
 method n ty = record (method_schema n 0 always (painted ∷ []) []) { params = record { name = record { number = 10 }; ty = ty } ∷ [] }
-
-abbrev top_plan : MethodPlan
-top_plan = method_plan (method_schema 3 1 always (child (Task 0) ∷ []) []) false (0 ∷ []) (Some 0) []
 
 -- an object isn't always in the union: a guard
 abbrev any_plan : MethodPlan
@@ -130,15 +127,7 @@ compiled : (mode : Checks) → IsCompiled hddl mode united
 compiled mode = record {
   hddl = refl;
   methods = (
-    plain hddl mode _ _ refl refl refl (record {
-      schema = refl;
-      up = tt;
-      line = refl;
-      heir = refl;
-      copiers = refl;
-      rising = none_rise;
-      guards = ([], refl, refl);
-    }),
+    top_is hddl mode,
     (
       plain hddl mode _ _ refl refl refl (record {
         schema = refl;
@@ -191,32 +180,21 @@ paint_row : action_texts v (encoded_action united words 1 Adl 0 paint) ≡
     codes "paint" ∷ codes "(?htn_h - htn_slot ?r - (either a b))"
     ∷ codes "and" ∷ codes "(htn_a_paint ?htn_h ?r)" ∷ waits
     ∷ codes "and" ∷ codes "(not (htn_a_paint ?htn_h ?r))" ∷ codes "(htn_free ?htn_h)" ∷ clears ∷ []
-paint_row = simp (
-  empty_condition,
-  empty_effect,
-  part-And,
-  part-Holds,
-  part-Forall,
-  part-Not,
-  effect-And,
-  effect-Delete,
-  effect-Add,
-  effect-Forall,
-)
+paint_row = simp (empty_condition, empty_effect, printing)
 
 -- m asks that ?x is in the first union
 any_row : action_texts v (encoded_method united words 1 Adl 1 any_plan) ≡
     codes "htn_m_m" ∷ codes "(?htn_h - htn_slot ?x - htn_object)"
     ∷ codes "and" ∷ codes "(htn_t_t ?htn_h)" ∷ waits ∷ codes "(htn_in_1 ?x)"
     ∷ codes "and" ∷ codes "(not (htn_t_t ?htn_h))" ∷ codes "(htn_a_paint ?htn_h ?x)" ∷ []
-any_row = simp (part-And, part-Holds, part-Forall, part-Not, effect-And, effect-Delete, effect-Add)
+any_row = simp printing
 
 -- n has nothing to ask
 one_row : action_texts v (encoded_method united words 1 Adl 2 one_plan) ≡
     codes "htn_m_n" ∷ codes "(?htn_h - htn_slot ?x - (either a b))"
     ∷ codes "and" ∷ codes "(htn_t_t ?htn_h)" ∷ waits
     ∷ codes "and" ∷ codes "(not (htn_t_t ?htn_h))" ∷ codes "(htn_a_paint ?htn_h ?x)" ∷ []
-one_row = simp (part-And, part-Holds, part-Forall, part-Not, effect-And, effect-Delete, effect-Add)
+one_row = simp printing
 
 -- the predicates, with those of tasks and actions, and that of the union last
 predicates_row : predicate_texts v (encoded_predicates united words 1) ≡

@@ -18,6 +18,7 @@ use Rattle.plan_model.specs.declared.values.Compiled.{Compiled}
 use Rattle.plan_texts.specs.Declared.{Declared, named, variable, words_with}
 use Rattle.plan_texts.specs.Printed.{params_parts, formula_part, effect_part}
 use Rattle.plan_texts.specs.PrintedTexts.{predicate_part, fact_part}
+use Rattle.plan_texts.proofs.Equations.{part-Holds, part-Equal, part-Not, part-And, part-Imply, part-Forall, effect-Add, effect-Delete, effect-And, effect-Forall}
 use Rattle.plan_model.specs.declared.formulas.Formula.TheFolds.{fold-roll-Formula, map-Formula}
 use Rattle.plan_model.specs.declared.formulas.Formula.TheOpen.{Formula-F}
 use Rattle.plan_model.specs.declared.formulas.Formula.TheVariants.{Holds, Equal, Not, And, Imply, rolls-Holds, rolls-Equal, rolls-Not, rolls-And, rolls-Imply}
@@ -109,6 +110,20 @@ module _ (v : Declared) where
 
   abbrev pub fact_texts : List GroundAtom → List (List ℕ)
   fact_texts atoms = map (λ g. bytes (fact_part v g)) atoms
+
+-- what is printed of a formula and of an effect, by its kind
+pub ruleset printing = (
+  part-Holds,
+  part-Equal,
+  part-Not,
+  part-And,
+  part-Imply,
+  part-Forall,
+  effect-Add,
+  effect-Delete,
+  effect-And,
+  effect-Forall,
+)
 
 -- no slot comes before that of the action, and the pairs that leave it go
 abbrev pub waits : List ℕ

@@ -1,5 +1,5 @@
 -- The names of the methods that have a check, and the types of guards.
-use Rattle.std.proofs.Common.{ℕ, ◌≡◌, ◌<◌, nat_eq, Bool, true, false, cond, List, [], ◌∷◌, map, filter, length, refl, ap, sym, subst, Contains}
+use Rattle.std.proofs.Common.{ℕ, ◌≡◌, ◌<◌, Bool, true, false, cond, List, [], ◌∷◌, map, filter, length, refl, ap, sym, subst}
 use Rattle.text_forms.specs.Words.{Word}
 use Rattle.plan_model.specs.declared.options.Checks.{Checks}
 use Rattle.plan_model.specs.declared.formulas.Formula.TheVariants.{And}
@@ -13,10 +13,9 @@ use Rattle.plan_texts.specs.Types.{Has, EachIs}
 use Rattle.plan_texts.specs.SpellsHddl.{hddl_words}
 use Rattle.plan_texts.specs.Printable.{IsPlain}
 use Rattle.plan_texts.specs.SoundValue.{IsSoundHddl, method_words}
-use Rattle.plan_texts.proofs.Members.{each-has, contains-has, has-of_map}
+use Rattle.plan_texts.proofs.Members.{each-has, has-of_map}
 use Rattle.plan_model.specs.plan_meaning.Compilation.{IsMethodPlan, AreMethodPlans, IsCompiled}
-use Rattle.slot_encoding.specs.EncodedNames.{joined, guard_types, checked_methods}
-use Rattle.plan_model.proofs.plan_meaning.Pairs.{once_to}
+use Rattle.slot_encoding.specs.EncodedNames.{joined, checked_methods}
 use Rattle.slot_encoding.proofs.places.Predicates.{is_checked}
 use Rattle.slot_encoding.proofs.words.Lists.{each-of_map, each-filter, different-filter, joined-has}
 use Rattle.slot_encoding.proofs.words.PlanParts.{IsSoundPlan, IsPlanGuard, sound_plans}
@@ -68,6 +67,3 @@ module _ (c : Compiled) (mode : Checks) (compiled : IsCompiled c.hddl mode c) (s
       let (g, d, f) = has-of_map (λ (g : Guard). g.ty) plan.guards ty (subst (λ z. Has z ty) (sym e) n) in
       let s = each-has (IsSoundPlan c) c.methods plan (sound_plans c mode compiled sound) a in
       subst (λ z. z < length (kinds (hddl_words c.hddl))) f (each-has (IsPlanGuard c plan.schema.params) plan.guards g s.guards d).0
-
-  pub guard_types_within : (ty : ℕ) → Contains (guard_types c) ty → ty < length (kinds (hddl_words c.hddl))
-  guard_types_within ty m = guard_type_within ty (contains-has _ ty (once_to nat_eq (joined (map (λ (plan : MethodPlan). map (λ (g : Guard). g.ty) plan.guards) c.methods)) ty m))

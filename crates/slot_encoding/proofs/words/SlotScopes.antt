@@ -4,14 +4,13 @@ use Rattle.std.proofs.lemmas.Fmt.{decimal_injective}
 use Rattle.std.proofs.lemmas.List.{map-append}
 use Rattle.htn_base.specs.Escapes.{escaped}
 use Rattle.text_forms.specs.Words.{Word}
-use Rattle.plan_model.specs.declared.terms.Term.TheVariants.{Var}
 use Rattle.plan_model.specs.declared.terms.Param.{Param}
 use Rattle.plan_model.specs.declared.values.Compiled.{Compiled}
 use Rattle.plan_texts.specs.Declared.{Declared, variable}
 use Rattle.htn_base.specs.Different.{AreDifferent}
 use Rattle.plan_texts.specs.Types.{Has, EachIs}
 use Rattle.plan_texts.specs.SpellsHddl.{hddl_words}
-use Rattle.plan_texts.specs.Printable.{IsInForce, IsSoundParam, AreSoundParams}
+use Rattle.plan_texts.specs.Printable.{IsSoundParam, AreSoundParams}
 use Rattle.plan_texts.specs.SoundValue.{IsSoundHddl, arities, scope_of}
 use Rattle.plan_texts.proofs.Members.{each-lacks, length-map}
 use Rattle.plan_texts.proofs.Places.{each-join}
@@ -24,7 +23,6 @@ use Rattle.htn_base.proofs.DifferentLemmas.{different-one, different-left}
 use Rattle.slot_encoding.proofs.words.Lists.{each-map, different-numbers, IsBetween, different-ranks, below-join}
 use Rattle.slot_encoding.proofs.words.PlainWords.{is_generated, escape_is_none, plain-behind, folded-decimal, some-decimal}
 use Rattle.slot_encoding.proofs.words.TableWords.{named-name}
-use Rattle.slot_encoding.proofs.words.Scopes.{last-different}
 use Rattle.slot_encoding.proofs.words.PrintedWords.{printed_words, printed_arities}
 use Rattle.slot_encoding.proofs.words.SourceFormulas.{scope_behind, each_param, variables-printed, escapes_differ}
 use Rattle.slot_encoding.proofs.words.PredicateNames.{extended, generated_param, known_h, sound_h}
@@ -102,10 +100,6 @@ module _ (c : Compiled) (names : List Word) (b : ℕ) (sound : IsSoundHddl c.hdd
         let a = length-joined (slot_names n) (map escaped (scope_of c.hddl params)) in let d = length-slots in
         let e = length-map escaped (scope_of c.hddl params) in let f = length-map (variable v) params in
         omega arith
-
-    -- each slot is in force
-    pub slot_in_force : (k : ℕ) → k < suc n → IsInForce v' ar' action_scope (Var k)
-    slot_in_force k l = last-different action_scope k scope_apart (let e = length-scope in omega arith)
 
     pub params_sound : AreSoundParams v' ar' action_params
     params_sound = (

@@ -108,9 +108,6 @@ module _ (c : Compiled) (names : List Word) (b : ℕ) (has : HasEncodedWords c b
       (λ m l. action-size (at c names b has m) n xs (fs m) (es m))
       (both (λ m. k) (λ m. F m + G m) (still (λ m. k) k (λ m l. refl)) (both F G pre eff))
 
-  short : of_term (Var 0) ≤ length o
-  short = omega arith
-
   long : (n : ℕ) → n ≤ first_slot c → n ≤ length o
   long n l = let e = length-own c names b has in omega (arith, e, l)
 

@@ -78,12 +78,3 @@ letters-are (suc m) l =
     let s = step-past 9 m in
     let w : length (slot_word (1 + m)) ≡ 5 + length (decimal (1 + m)) = length-append (codes "htn_s") (decimal (1 + m)) in
     omega (arith, e, p, d, s, w)
-
-pub letters-one : letters 1 ≡ 6
-letters-one = letters-are 1 (omega arith)
-
-pub letters-two : letters 2 ≡ 12
-letters-two = letters-are 2 (omega arith)
-
-pub letters-ten : letters 10 ≡ 61
-letters-ten = letters-are 10 (omega arith)
