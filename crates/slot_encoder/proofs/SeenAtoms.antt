@@ -15,10 +15,6 @@ use Rattle.plan_model.proofs.plan_meaning.Once.{has-push}
 use Rattle.slot_encoder.specs.declared.single.Seen.{Seen}
 use Rattle.slot_encoder.specs.SeenFacts.{key_of, is_among, same_key, Meets}
 
--- two facts are the same where their keys are
-same-keys : (x g : GroundAtom) → same_atom x g ≡ bytes_eq (key_of x) (key_of g)
-same-keys x g = refl
-
 same-true : (x g : GroundAtom) → key_of x ≡ key_of g → same_atom x g ≡ true
 same-true x g e = ap (bytes_eq (key_of x)) (sym e) ∙ bytes_eq-refl (key_of x)
 

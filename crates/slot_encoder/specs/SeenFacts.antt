@@ -1,6 +1,6 @@
 -- The facts that were met, and one more.
 -- Source: this project's.
-use Rattle.std.specs.Prelude.{ℕ, ◌≡◌, ◌^◌, Bool, not, cond, List, [], ◌∷◌, ◌++◌, Some, None, nat_eq}
+use Rattle.std.specs.Prelude.{ℕ, ◌≡◌, ◌^◌, Bool, not, List, [], ◌∷◌, ◌++◌, Some, None, nat_eq}
 use Rattle.std.specs.List.{list_any}
 use Rattle.std.specs.Cmp.Lexicographic.{pointwise}
 use Rattle.std.specs.HashSet.{contains}
@@ -29,7 +29,3 @@ pub record HasMet (seen : Seen) (facts : List GroundAtom) : Type 0 where
 -- Whichever were met, this one was met too now, and it is told whether it is new.
 abbrev pub Meets : Seen → GroundAtom → Seen → Bool → Type 0
 Meets old g new told = (facts : List GroundAtom) → HasMet old facts → (told ≡ not (is_among g facts)) × HasMet new (facts ++ g ∷ [])
-
--- One more fact was met, and it is put behind old if it is new.
-abbrev pub AddsNew : GroundAtom → Seen → List GroundAtom → Seen → List GroundAtom → Type 0
-AddsNew g seen old then new = (told : Bool) × Meets seen g then told × (new ≡ old ++ cond told (g ∷ []) [])

@@ -3,10 +3,10 @@ ghost use Rattle.plan_model.specs.Facts.{atom_of};
 ghost use Rattle.plan_model.specs.Numbers as spec;
 ghost use Rattle.plan_model.specs.plan_meaning.Compilation.{once};
 ghost use Rattle.slot_encoding.specs.EncodedValue.{same_atom};
-ghost use Rattle.slot_encoder.specs.SeenFacts.{HasMet, Meets, AddsNew};
+ghost use Rattle.slot_encoder.specs.SeenFacts.{HasMet, Meets};
 
 use htn_base::Memory;
-use plan_model::{Fact, Facts};
+use plan_model::Facts;
 use std::alloc::Global;
 use std::collections::HashSet;
 
@@ -43,29 +43,13 @@ fn push_unseen(
     let mut args = Vec::new(alloc);
     for i in 0..facts.len() {
         if let Some(fact) = facts.get(i) {
-            push_fact(alloc, &fact, &mut args, seen, into)?;
+            fact.args.copy_into(&mut args)?;
+            if seen.insert(alloc, fact.predicate, args.as_slice())? {
+                into.push(fact.predicate, args.as_slice())?;
+            }
         }
     }
     Ok(())
-}
-
-/// Puts the fact at the end, if it is new. `args` is room for its objects.
-fn push_fact(
-    alloc: Global,
-    fact: &Fact<'_>,
-    args: &mut Vec<u32>,
-    seen: &mut Seen,
-    into: &mut Facts,
-) -> Result<(), Memory>
-    ensures { OnOk result (AddsNew fact.now seen.old into.old seen.new into.new) }
-{
-    fact.args.copy_into(args)?;
-    let new = seen.insert(alloc, fact.predicate, args.as_slice())?;
-    if new {
-        into.push(fact.predicate, args.as_slice())
-    } else {
-        Ok(())
-    }
 }
 
 /// The facts that were met: the numbers of those that have one, and the keys of the others.

@@ -1,7 +1,6 @@
-ghost use Rattle.std.specs.Prelude.{◌≡◌, [], ◌∷◌, ◌++◌, slice_index, IfOk, OnOk};
+ghost use Rattle.std.specs.Prelude.{◌≡◌, slice_index, IfOk};
 ghost use Rattle.slot_encoding.specs.EncodedActions.{slot_vars};
 ghost use Rattle.slot_encoder.specs.Parts.{AreVariables};
-ghost use Rattle.slot_encoder.specs.Pieces.{child_slot, next_new};
 
 use htn_base::{List, Memory, number};
 use plan_model::MethodPlan;
@@ -51,23 +50,14 @@ fn slots_of(alloc: Global, heir: Option<u32>, count: u32) -> Result<List<u32>, M
     let mut slots = List::new(alloc);
     let mut new: u32 = 1;
     for i in 0..count {
-        new = push_slot(heir, i, new, &mut slots)?;
+        if heir == Some(i) {
+            slots.push(0)?;
+        } else {
+            slots.push(new)?;
+            new = plus(new, 1)?;
+        }
     }
     Ok(slots)
-}
-
-/// Puts the slot of child `i` at the end. It gives the next new slot.
-fn push_slot(heir: Option<u32>, i: u32, new: u32, into: &mut List<u32>) -> Result<u32, Memory>
-    ensures pushed { OnOk result (into.new ≡ into.old ++ child_slot heir i new ∷ []) }
-    ensures next { IfOk result (λ next. next ≡ next_new heir i new) }
-{
-    if matches!(heir, Some(k) if k == i) {
-        into.push(0)?;
-        Ok(new)
-    } else {
-        into.push(new)?;
-        plus(new, 1)
-    }
 }
 
 /// The slot of the child at this place; 0 past the children.
