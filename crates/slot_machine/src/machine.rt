@@ -1,6 +1,6 @@
 //! What further laws are said of.
 
-ghost use Rattle.std.specs.Prelude.{ℕ, List, [], ◌∷◌};
+ghost use Rattle.std.specs.Prelude.{ℕ, List};
 ghost use Rattle.plan_model.specs.task_networks.Net.{Net, one_action};
 ghost use Rattle.plan_model.specs.task_networks.Tree.{Label};
 ghost use Rattle.plan_model.specs.task_networks.Spelling.{Act};

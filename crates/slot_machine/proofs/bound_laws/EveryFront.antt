@@ -12,7 +12,7 @@ use Rattle.plan_model.specs.task_networks.Tree.{Tree, Address}
 use Rattle.plan_model.specs.task_networks.Pending.{IsWithin}
 use Rattle.plan_model.specs.task_networks.Front.{IsFront}
 use Rattle.plan_model.specs.task_networks.Lifted.{IsLifted}
-use Rattle.plan_model.specs.task_networks.Bound.{AreBlocks, itself}
+use Rattle.plan_model.specs.task_networks.Bound.{AreBlocks}
 use Rattle.plan_model.specs.task_networks.Bound as Bounds
 use Rattle.plan_model.proofs.task_networks.BoundLaws.{the_bound_is_large_enough, lifted_bound_is_bound}
 use Rattle.slot_machine.proofs.Width.{bound_holds}

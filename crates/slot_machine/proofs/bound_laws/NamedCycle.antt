@@ -41,6 +41,24 @@ part_of (z ∷ before) after x y c = elim (head_or_tail z (before ++ x ∷ after
   | inr k ↦ elim (part_of before after x y k) [ inl b ↦ inl (Contains-later z before y b) | inr r ↦ inr r ]
 ]
 
+module _ {Task Edge : Type 0} (source target : Edge → Task) (edges : List Edge) where
+  -- an edge before two walks leaves them in their order
+  pub along : (e : Edge) (walk back : List Edge) → (walk ≡ back) ⊎ ComesFirst source target edges walk back → (e ∷ walk ≡ e ∷ back) ⊎ ComesFirst source target edges (e ∷ walk) (e ∷ back)
+  along e walk back (inl s) = inl (ap (λ z. e ∷ z) s)
+  along e walk back (inr c) = inr (record {
+    common = e ∷ c.common;
+    edge = c.edge;
+    rest = c.rest;
+    other_edge = c.other_edge;
+    other_rest = c.other_rest;
+    is = ap (λ z. e ∷ z) c.is;
+    other_is = ap (λ z. e ∷ z) c.other_is;
+    before = c.before;
+    after = c.after;
+    parts = c.parts;
+    later = c.later;
+  })
+
 module _ {Task Edge : Type 0} (source target : Edge → Task) (edges : List Edge) (told : AreTold Task) where
   -- a walk of n edges, and of these the one that comes first
   pub record IsFirstWalk (n : ℕ) (x y : Task) (walk : List Edge) : Type 0 where
@@ -68,22 +86,6 @@ module _ {Task Edge : Type 0} (source target : Edge → Task) (edges : List Edge
     },
   )
     where
-      along : (walk back : List Edge) → (walk ≡ back) ⊎ ComesFirst source target edges walk back → (e ∷ walk ≡ e ∷ back) ⊎ ComesFirst source target edges (e ∷ walk) (e ∷ back)
-      along walk back (inl s) = inl (ap (λ z. e ∷ z) s)
-      along walk back (inr c) = inr (record {
-        common = e ∷ c.common;
-        edge = c.edge;
-        rest = c.rest;
-        other_edge = c.other_edge;
-        other_rest = c.other_rest;
-        is = ap (λ z. e ∷ z) c.is;
-        other_is = ap (λ z. e ∷ z) c.other_is;
-        before = c.before;
-        after = c.after;
-        parts = c.parts;
-        later = c.later;
-      })
-
       compare : (walk : List Edge) → IsFirstWalk n (target e) y walk → (back : List Edge) → IsWalk source target edges x back y → length back ≡ suc n → (e ∷ walk ≡ back) ⊎ ComesFirst source target edges (e ∷ walk) back
       compare walk w [] v l = absurd (omega arith)
       compare walk w (d ∷ back) v l = go (part_of f.before f.after e d (subst (λ z. Contains z d) f.parts v.1))
@@ -91,7 +93,7 @@ module _ {Task Edge : Type 0} (source target : Edge → Task) (edges : List Edge
           go : Contains f.before d ⊎ ((e ≡ d) ⊎ Contains f.after d) → (e ∷ walk ≡ d ∷ back) ⊎ ComesFirst source target edges (e ∷ walk) (d ∷ back)
           go (inl b) = absurd (elim (shorter (target d)) [ inl h ↦ f.none_before d b (v.0, h) | inr none ↦ none back v.2 (omega arith) ])
           go (inr (inl s)) =
-              let same : (e ∷ walk ≡ e ∷ back) ⊎ ComesFirst source target edges (e ∷ walk) (e ∷ back) = along walk back (w.first back (subst (λ z. IsWalk source target edges (target z) back y) (sym s) v.2) (omega arith)) in
+              let same : (e ∷ walk ≡ e ∷ back) ⊎ ComesFirst source target edges (e ∷ walk) (e ∷ back) = along source target edges e walk back (w.first back (subst (λ z. IsWalk source target edges (target z) back y) (sym s) v.2) (omega arith)) in
               subst (λ z. (e ∷ walk ≡ z ∷ back) ⊎ ComesFirst source target edges (e ∷ walk) (z ∷ back)) s same
           go (inr (inr a)) = inr (record {
             common = [];
