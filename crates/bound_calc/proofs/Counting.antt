@@ -6,7 +6,7 @@ use Rattle.std.specs.List.Sorted.{IsNonDecreasingBy}
 use Rattle.std.proofs.Math.Seq.{take-suc}
 use Rattle.std.proofs.lemmas.List.{length-map, get_or-take, length-take, length-replicate, get_or-replicate, get_or_default}
 use Rattle.std.proofs.lemmas.List.Elements.{Contains-push_cases, Contains-get_or, All-set}
-use Rattle.std.proofs.lemmas.Option.{slice_get_within, slice_get-get_or, get_or_from_slice_get}
+use Rattle.std.proofs.lemmas.Option.{same_Some, slice_get_within, slice_get-get_or, get_or_from_slice_get}
 use Rattle.plan_model.specs.declared.networks.Child.{Child}
 use Rattle.plan_model.specs.declared.schemas.MethodPlan.{MethodPlan}
 use Rattle.plan_model.specs.declared.values.Compiled.{Compiled}
@@ -110,6 +110,16 @@ module _ (c : Compiled) (ranks : Ranks) (small : IsSmallCompiled c) (strata : Is
     pub group_below : (x : List ℕ) → AreCounted c ranks places k x → (get_or places k d).0 < length x
     group_below x h = let a = strata.small is_place.0.schema.task in let b = is_place.3 in let r = h.room in omega arith
 
+    module _ (plan : MethodPlan) (e : slice_get c.methods (get_or places k d).1 ≡ Some plan) where
+      plan_is : is_place.0 ≡ plan
+      plan_is = same_Some is_place.0 plan (sym is_place.1 ∙ e)
+
+      reached : IsReachedTask c plan.schema.task
+      reached = subst (λ (z : MethodPlan). IsReachedTask c z.schema.task) plan_is is_place.2
+
+      place_number : number_of ranks plan.schema.task ≡ (get_or places k d).0
+      place_number = ap (λ (z : MethodPlan). number_of ranks z.schema.task) (sym plan_is) ∙ is_place.3
+
     -- the methods of lower groups are done
     lower : (plan : MethodPlan) → number_of ranks plan.schema.task ≡ (get_or places k d).0 → (j : ℕ) (other : MethodPlan) → slice_get c.methods j ≡ Some other → IsReachedTask c other.schema.task
         → number_of ranks other.schema.task < number_of ranks plan.schema.task → IsDone places k j
@@ -126,21 +136,12 @@ module _ (c : Compiled) (ranks : Ranks) (small : IsSmallCompiled c) (strata : Is
     counted_more x y plan v w e h is f g = record {
       room = ap length g ∙ length-set x (get_or places k d).0 w ∙ h.room;
       low = low;
-      numbered = λ n A. step c known small ranks strata n A (IsDone places k) x h.low h.room (h.numbered n A) (get_or places k d).1 plan e reached (lower plan same) (IsDone places (k + 1)) y v w one_more is p q one
+      numbered = λ n A. step c known small ranks strata n A (IsDone places k) x h.low h.room (h.numbered n A) (get_or places k d).1 plan e (reached plan e) (lower plan same) (IsDone places (k + 1)) y v w one_more is p q one
           (subst (λ i. y ≡ set x i w) (sym same) g);
     }
       where
-        some : (a b : MethodPlan) → Some a ≡ Some b → a ≡ b
-        some a b s = cc
-
-        plan_is : is_place.0 ≡ plan
-        plan_is = some is_place.0 plan (sym is_place.1 ∙ e)
-
-        reached : IsReachedTask c plan.schema.task
-        reached = subst (λ (z : MethodPlan). IsReachedTask c z.schema.task) plan_is is_place.2
-
         same : number_of ranks plan.schema.task ≡ (get_or places k d).0
-        same = ap (λ (z : MethodPlan). number_of ranks z.schema.task) (sym plan_is) ∙ is_place.3
+        same = place_number plan e
 
         here : slice_index x (number_of ranks plan.schema.task) ≡ slice_index x (get_or places k d).0
         here = ap (slice_index x) same
@@ -166,19 +167,7 @@ module _ (c : Compiled) (ranks : Ranks) (small : IsSmallCompiled c) (strata : Is
     refused x plan Memory e h f = tt
     refused x plan Past128 e h f =
         let (n, A) = has_bound in
-        (n, A, past c known small ranks strata n A (IsDone places k) x h.low h.room (h.numbered n A) (get_or places k d).1 plan e reached (lower plan same) f)
-      where
-        some : (a b : MethodPlan) → Some a ≡ Some b → a ≡ b
-        some a b s = cc
-
-        plan_is : is_place.0 ≡ plan
-        plan_is = some is_place.0 plan (sym is_place.1 ∙ e)
-
-        reached : IsReachedTask c plan.schema.task
-        reached = subst (λ (z : MethodPlan). IsReachedTask c z.schema.task) plan_is is_place.2
-
-        same : number_of ranks plan.schema.task ≡ (get_or places k d).0
-        same = ap (λ (z : MethodPlan). number_of ranks z.schema.task) (sym plan_is) ∙ is_place.3
+        (n, A, past c known small ranks strata n A (IsDone places k) x h.low h.room (h.numbered n A) (get_or places k d).1 plan e (reached plan e) (lower plan (place_number plan e)) f)
 
   -- after all places the top task has the bound
   pub counted_all : (places : List (ℕ × ℕ)) (x : List ℕ) (k : ℕ) → AreByRank c ranks places → length places ≤ k → AreCounted c ranks places k x → IsBound c (slice_index x (number_of ranks (top_task c)))

@@ -7,7 +7,16 @@ use Rattle.plan_model.specs.plan_meaning.Strata.{source, target}
 use Rattle.bound_calc.specs.stratifier.CycleWords.{task_word, method_word, cycle_words}
 use Rattle.bound_calc.specs.declared.stratifier.edge.Edge.{Edge}
 use Rattle.bound_calc.specs.stratifier.Listed.{edge_of}
-use Rattle.bound_calc.specs.NoBound.{edge_words, spaced, begun}
+use Rattle.bound_calc.specs.NoBound.{spaced}
+
+-- the words of an edge's task and method
+abbrev edge_words : Compiled → Edge → List (List ℕ)
+edge_words c e = task_word c (source c (edge_of e)) ∷ method_word c e.method ∷ []
+
+-- the words of a cycle before its last one
+abbrev pub begun : Compiled → List Edge → List (List ℕ)
+begun c [] = []
+begun c (e ∷ es) = edge_words c e ++ begun c es
 
 spaced-append : (xs ys : List (List ℕ)) → spaced (xs ++ ys) ≡ spaced xs ++ spaced ys
 spaced-append [] ys = refl
@@ -22,17 +31,17 @@ two_more text task method =
     ∙ ap (λ z. text ++ ((codes " " ++ task) ++ z)) (sym (append-nil (codes " " ++ method)))
 
 module _ (c : Compiled) where
-  begun-push : (es : List Edge) (e : Edge) → begun c (es ++ e ∷ []) ≡ begun c es ++ edge_words c (edge_of e)
-  begun-push [] e = append-nil (edge_words c (edge_of e))
-  begun-push (d ∷ es) e = ap (λ z. edge_words c (edge_of d) ++ z) (begun-push es e)
+  begun-push : (es : List Edge) (e : Edge) → begun c (es ++ e ∷ []) ≡ begun c es ++ edge_words c e
+  begun-push [] e = append-nil (edge_words c e)
+  begun-push (d ∷ es) e = ap (λ z. edge_words c d ++ z) (begun-push es e)
 
   -- one more edge
-  pub begun-more : (es : List Edge) (k : ℕ) (d : Edge) → k < length es → spaced (begun c (take (k + 1) es)) ≡ spaced (begun c (take k es)) ++ spaced (edge_words c (edge_of (get_or es k d)))
-  begun-more es k d l = ap (λ z. spaced (begun c z)) (take_more es k d l) ∙ ap spaced (begun-push (take k es) (get_or es k d)) ∙ spaced-append (begun c (take k es)) (edge_words c (edge_of (get_or es k d)))
+  pub begun-more : (es : List Edge) (k : ℕ) (d : Edge) → k < length es → spaced (begun c (take (k + 1) es)) ≡ spaced (begun c (take k es)) ++ spaced (edge_words c (get_or es k d))
+  begun-more es k d l = ap (λ z. spaced (begun c z)) (take_more es k d l) ∙ ap spaced (begun-push (take k es) (get_or es k d)) ∙ spaced-append (begun c (take k es)) (edge_words c (get_or es k d))
 
   words_all : (es : List Edge) (e : Edge) → slice_get es (length es - 1) ≡ Some e → cycle_words c (map edge_of es) ≡ begun c es ++ task_word c (target c (edge_of e)) ∷ []
   words_all [] e is = absurd (cc)
-  words_all (d ∷ []) e is = let same : d ≡ e = cc in ap (λ z. edge_words c (edge_of d) ++ task_word c (target c (edge_of z)) ∷ []) same
+  words_all (d ∷ []) e is = let same : d ≡ e = cc in ap (λ z. edge_words c d ++ task_word c (target c (edge_of z)) ∷ []) same
   words_all (d ∷ f ∷ es) e is =
       let n : length (d ∷ f ∷ es) - 1 ≡ suc (length es) = omega arith in
       let m : length es ≡ length (f ∷ es) - 1 = omega arith in

@@ -121,8 +121,17 @@ module _ (plan : MethodPlan) (is_line : HasLine plan) (number : ℕ → ℕ) (po
   summed_first = summed_none (Pairs plan.schema.pairs) plan.line (all_different plan is_line) number positive block are
 
 -- the number of the child at a place
-pub child-number : (ranks : Ranks) (numbers : List ℕ) (plan : MethodPlan) (i : ℕ) (d : Child) → i < length plan.schema.children → child_number ranks numbers plan i ≡ head_number ranks numbers (get_or plan.schema.children i d).head
+child-number : (ranks : Ranks) (numbers : List ℕ) (plan : MethodPlan) (i : ℕ) (d : Child) → i < length plan.schema.children → child_number ranks numbers plan i ≡ head_number ranks numbers (get_or plan.schema.children i d).head
 child-number ranks numbers plan i d l = ap (λ o. option_map_or (λ (child : Child). head_number ranks numbers child.head) o 1) (slice_get-get_or plan.schema.children i d l)
+
+-- the number of the child at a place of the line, where children and line are read from others that are equal
+pub number_read : (ranks : Ranks) (numbers : List ℕ) (plan : MethodPlan) → HasLine plan → (children : List Child) (line : List ℕ) (k n : ℕ) (d : Child) → children ≡ plan.schema.children → line ≡ plan.line → k < length plan.line
+    → n ≡ head_number ranks numbers (get_or children (get_or line k 0) d).head → n ≡ child_number ranks numbers plan (get_or plan.line k 0)
+number_read ranks numbers plan is_line children line k n d same_children same_line l e =
+    e
+    ∙ ap (λ (cs : List Child). head_number ranks numbers (get_or cs (get_or line k 0) d).head) same_children
+    ∙ ap (λ xs. head_number ranks numbers (get_or plan.schema.children (get_or xs k 0) d).head) same_line
+    ∙ sym (child-number ranks numbers plan (get_or plan.line k 0) d (child_below plan is_line k l))
 
 -- a child's task has a rank
 pub child_ranked : (ranks : Ranks) (plan : MethodPlan) → AreRanked ranks plan → (i : ℕ) (d : Child) → i < length plan.schema.children → (t : ℕ) → (get_or plan.schema.children i d).head ≡ Task t → t < length ranks.numbers.items

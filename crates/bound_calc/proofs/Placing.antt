@@ -4,7 +4,7 @@ use Rattle.std.specs.List.Sorted.{IsSorted, IsPermutation}
 use Rattle.std.specs.Ordering.{nat_cmp, ordering_then, is_lt}
 use Rattle.std.proofs.lemmas.List.Sorted.{IsNonDecreasingBy-from_all_adjacent, Contains-permutation, IsPermutation-sym}
 use Rattle.std.proofs.lemmas.List.Elements.{Contains-append_left, Contains-push, Contains-push_cases}
-use Rattle.std.proofs.lemmas.Option.{slice_get_within, get_or_from_slice_get}
+use Rattle.std.proofs.lemmas.Option.{same_Some, slice_get_within, get_or_from_slice_get}
 use Rattle.plan_model.proofs.task_networks.BoundLaws.{by_size}
 use Rattle.plan_model.proofs.task_networks.Lists.{not-in_empty}
 use Rattle.plan_model.specs.declared.schemas.MethodPlan.{MethodPlan}
@@ -24,9 +24,6 @@ module _ (c : Compiled) (ranks : Ranks) where
   pub placed_none : (places : List (ℕ × ℕ)) → places ≡ [] → ArePlaced c ranks 0 places
   placed_none places e = record { each = λ place. (λ d. absurd (not-in_empty place (subst (λ s. Contains s place) e d)), λ h. absurd (let l = h.0 in omega arith)) }
 
-  same_plan : (a b : MethodPlan) → Some a ≡ Some b → a ≡ b
-  same_plan a b e = cc
-
   -- a method of a reached task
   pub placed_more : (k : ℕ) (places more : List (ℕ × ℕ)) (plan : MethodPlan) → slice_get c.methods k ≡ Some plan → IsReachedTask c plan.schema.task → ArePlaced c ranks k places
       → more ≡ places ++ (number_of ranks plan.schema.task, k) ∷ [] → ArePlaced c ranks (k + 1) more
@@ -40,7 +37,7 @@ module _ (c : Compiled) (ranks : Ranks) where
 
       same_place : (place : ℕ × ℕ) → place.1 ≡ k → IsPlace c ranks place → place ≡ (number_of ranks plan.schema.task, k)
       same_place place f (other, g, s, n) =
-          let p : other ≡ plan = same_plan other plan (sym g ∙ ap (slice_get c.methods) f ∙ is) in
+          let p : other ≡ plan = same_Some other plan (sym g ∙ ap (slice_get c.methods) f ∙ is) in
           let q : place.0 ≡ number_of ranks plan.schema.task = sym n ∙ ap (λ (z : MethodPlan). number_of ranks z.schema.task) p in
           λ i. (q i, f i)
 
@@ -69,7 +66,7 @@ module _ (c : Compiled) (ranks : Ranks) where
     where
       go : (place : ℕ × ℕ) → (place.1 < k) ⊎ ((place.1 ≡ k) ⊎ (k < place.1)) → (place.1 < k + 1) × IsPlace c ranks place → place.1 < k
       go place (inl l) p = l
-      go place (inr (inl f)) (x, (other, g, s, n)) = absurd (none (subst (λ (z : MethodPlan). IsReachedTask c z.schema.task) (same_plan other plan (sym g ∙ ap (slice_get c.methods) f ∙ is)) s))
+      go place (inr (inl f)) (x, (other, g, s, n)) = absurd (none (subst (λ (z : MethodPlan). IsReachedTask c z.schema.task) (same_Some other plan (sym g ∙ ap (slice_get c.methods) f ∙ is)) s))
       go place (inr (inr l)) p = absurd (let x = p.0 in omega arith)
 
   pub placed_all : (k : ℕ) (places sorted : List (ℕ × ℕ)) → length c.methods ≤ k → ArePlaced c ranks k places → IsPermutation places sorted

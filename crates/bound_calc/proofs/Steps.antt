@@ -5,7 +5,7 @@ use Rattle.std.proofs.lemmas.Bool.{cases_eq}
 use Rattle.std.specs.Option.{option_map, option_map_or}
 use Rattle.std.proofs.lemmas.List.{length-map}
 use Rattle.std.proofs.lemmas.List.Sums.{sum_by-cons}
-use Rattle.std.proofs.lemmas.Option.{slice_get_within, slice_get-map, get_or_from_slice_get}
+use Rattle.std.proofs.lemmas.Option.{same_Some, slice_get_within, slice_get-map, get_or_from_slice_get}
 use Rattle.plan_model.specs.declared.networks.Head.{Head}
 use Rattle.plan_model.specs.declared.networks.Head.TheVariants.{Task, Action, Check}
 use Rattle.plan_model.specs.declared.networks.Child.{Child}
@@ -258,9 +258,6 @@ module _ (c : Compiled) (known : HasLines c) (small : IsSmallCompiled c) (ranks 
             | inr other ↦ (let a = there j other in omega arith)
           ]
 
-          some : (a b : MethodPlan) → Some a ≡ Some b → a ≡ b
-          some a b s = cc
-
           done : (k i : ℕ) (other : MethodPlan) → More k → slice_get c.methods k ≡ Some other → Reached (task other.schema.task)
               → Counts (schemas c) A.block A.number (group_of A.group) k i → Bounds.block_number (schemas c) A.block A.number k (A.block k i) ≤ slice_index y (number_of ranks other.schema.task)
           done k i other d s t counts = elim (more k d) [
@@ -268,7 +265,7 @@ module _ (c : Compiled) (known : HasLines c) (small : IsSmallCompiled c) (ranks 
             | inr new ↦ (
                 let a = greatest_counts v i is (subst (λ z. Counts (schemas c) A.block A.number (group_of A.group) z i) new counts) in
                 let b = ap (λ z. Bounds.block_number (schemas c) A.block A.number z (A.block z i)) new in
-                let same : other ≡ plan = some other plan (sym s ∙ ap (slice_get c.methods) new ∙ e) in
+                let same : other ≡ plan = same_Some other plan (sym s ∙ ap (slice_get c.methods) new ∙ e) in
                 let d = ap (λ (z : MethodPlan). slice_index y (number_of ranks z.schema.task)) same in
                 let h = here in
                 omega arith)

@@ -22,11 +22,11 @@ tells_pair p q = go (eqb_tells p.first q.first) (eqb_tells p.then q.then)
     go (inl a) (inr b) = inl (ap (λ x. x && (p.then == q.then)) a.0 ∙ b.0)
     go (inr a) b = inl (ap (λ x. x && (p.then == q.then)) a.0)
 
-not_true : (b : Bool) → not b ≡ true → b ≡ false
+pub not_true : (b : Bool) → not b ≡ true → b ≡ false
 not_true true e = absurd (true≢false (sym e))
 not_true false e = refl
 
-not_false : (b : Bool) → not b ≡ false → b ≡ true
+pub not_false : (b : Bool) → not b ≡ false → b ≡ true
 not_false true e = refl
 not_false false e = absurd (true≢false e)
 

@@ -1,6 +1,7 @@
 -- Tasks that are entered one after another.
 use Rattle.std.proofs.Common.{ℕ, ◌≡◌, ◌+◌, ◌<◌, ◌⊎◌, ◌↔◌, inl, inr, List, [], ◌∷◌, ◌++◌, length, Bool, true, false, cond, get_or, set, take, Contains, refl, sym, subst, ap, ◌∙◌, arith, length-set}
 use Rattle.std.proofs.lemmas.Bool.{false≢true}
+use Rattle.std.proofs.lemmas.Option.{same_Some}
 use Rattle.std.proofs.lemmas.List.{take_more, length_push}
 use Rattle.std.proofs.lemmas.List.Sums.{sum_by-set}
 use Rattle.std.proofs.lemmas.List.Elements.{Contains-push, Contains-push_cases, Contains-append_left}
@@ -146,16 +147,13 @@ pub subtask_of_more : (methods : List MethodPlan) (places : List ℕ) (k d : ℕ
 subtask_of_more methods places k d l plan is t = (
   λ h. elim (Contains-push_cases (take k places) (get_or places k d) h.0 (subst (λ s. Contains s h.0) (take_more places k d l) h.1)) [
     | inl c ↦ inl (h.0, c, h.2, h.3, h.4)
-    | inr e ↦ inr (subst (λ (z : MethodPlan). IsSubtask z.schema.children t) (same h.2 plan (sym h.3 ∙ (ap (slice_get methods) (sym e) ∙ is))) h.4)
+    | inr e ↦ inr (subst (λ (z : MethodPlan). IsSubtask z.schema.children t) (same_Some h.2 plan (sym h.3 ∙ (ap (slice_get methods) (sym e) ∙ is))) h.4)
   ],
   λ h. elim h [
     | inl a ↦ (a.0, subst (λ s. Contains s a.0) (sym (take_more places k d l)) (Contains-append_left (take k places) (get_or places k d ∷ []) a.0 a.1), a.2, a.3, a.4)
     | inr b ↦ (get_or places k d, subst (λ s. Contains s (get_or places k d)) (sym (take_more places k d l)) (Contains-push (take k places) (get_or places k d)), plan, is, b)
   ],
 )
-  where
-    same : (p q : MethodPlan) → Some p ≡ Some q → p ≡ q
-    same p q e = cc
 
 -- the tasks at the first places
 pub none_of : (tasks : List ℕ) (t : ℕ) → Contains (take 0 tasks) t → ⊥

@@ -2,7 +2,7 @@
 use Rattle.std.proofs.Common.{get_or, map, Contains, ℕ, zero, suc, ◌≡◌, ◌≢◌, ◌+◌, ◌<◌, ◌⊎◌, ◌↔◌, inl, inr, List, [], ◌∷◌, ◌++◌, length, Bool, IsTrue, Option, Some, None, slice_get, refl, sym, subst, ap, ◌∙◌}
 use Rattle.std.proofs.lemmas.Bool.{cases_eq}
 use Rattle.std.proofs.lemmas.List.{length-map, length_push}
-use Rattle.std.proofs.lemmas.Option.{get_or_from_slice_get, slice_get_within}
+use Rattle.std.proofs.lemmas.Option.{same_Some, get_or_from_slice_get, slice_get_within}
 use Rattle.plan_model.specs.declared.networks.Child.{Child}
 use Rattle.plan_model.specs.declared.networks.Pair.{Pair}
 use Rattle.plan_model.specs.declared.schemas.MethodPlan.{MethodPlan}
@@ -19,7 +19,7 @@ use Rattle.plan_model.proofs.plan_meaning.BoundParts.{there_at}
 use Rattle.bound_calc.specs.declared.stratifier.edge.Edge as Declared
 use Rattle.bound_calc.specs.stratifier.Listed.{edge_of}
 use Rattle.bound_calc.specs.stratifier.Conditions.{HaveNoCycle, IsOrdered}
-use Rattle.bound_calc.specs.stratifier.Bad.{IsLastOf, AreLasts}
+use Rattle.bound_calc.specs.stratifier.Bad.{IsLastOf}
 
 -- an item of a list with one more
 pub push_get : {A : Type 0} (xs : List A) (x y : A) (k : ℕ) → slice_get (xs ++ x ∷ []) k ≡ Some y → (slice_get xs k ≡ Some y) ⊎ ((k ≡ length xs) × (y ≡ x))
@@ -27,9 +27,6 @@ push_get [] x y zero e = inr (refl, cc)
 push_get [] x y (suc k) e = absurd cc
 push_get (z ∷ xs) x y zero e = inl e
 push_get (z ∷ xs) x y (suc k) e = elim (push_get xs x y k e) [ inl f ↦ inl f | inr f ↦ inr (ap suc f.0, f.1) ]
-
-some_same : {A : Type 0} (x y : A) → Some x ≡ Some y → x ≡ y
-some_same x y e = cc
 
 -- of two last children none is another
 last_is_one : (Pair : ℕ → ℕ → Type 0) (count i j : ℕ) → IsAcyclic Pair → IsLast Pair count i → IsLast Pair count j → i ≡ j
@@ -51,7 +48,7 @@ lasts_more methods k lasts plan last is l h = record {
   room = length_push lasts last ∙ ap (λ n. n + 1) h.room;
   each = λ m p o e f. elim (push_get lasts last o m f) [
     | inl g ↦ h.each m p o e g
-    | inr g ↦ subst (IsLastOf p) (sym g.1) (subst (λ z. IsLastOf z last) (some_same plan p (sym is ∙ (ap (slice_get methods) (sym (g.0 ∙ h.room)) ∙ e))) l)
+    | inr g ↦ subst (IsLastOf p) (sym g.1) (subst (λ z. IsLastOf z last) (same_Some plan p (sym is ∙ (ap (slice_get methods) (sym (g.0 ∙ h.room)) ∙ e))) l)
   ];
 }
 
@@ -69,7 +66,7 @@ marked_more c edges k marks new edge mark is bad h f = record {
   room = ap length f ∙ (length_push marks mark ∙ ap (λ n. n + 1) h.room);
   each = λ j e b p q. elim (push_get marks mark b j (ap (λ s. slice_get s j) (sym f) ∙ q)) [
     | inl g ↦ h.each j e b p g
-    | inr g ↦ subst (λ z. IsTrue z ↔ IsBad c (edge_of e)) (sym g.1) (subst (λ z. IsTrue mark ↔ IsBad c (edge_of z)) (some_same edge e (sym is ∙ (ap (slice_get edges) (sym (g.0 ∙ h.room)) ∙ p))) bad)
+    | inr g ↦ subst (λ z. IsTrue z ↔ IsBad c (edge_of e)) (sym g.1) (subst (λ z. IsTrue mark ↔ IsBad c (edge_of z)) (same_Some edge e (sym is ∙ (ap (slice_get edges) (sym (g.0 ∙ h.room)) ∙ p))) bad)
   ];
 }
 
@@ -78,7 +75,7 @@ bad_by : (plan : MethodPlan) (last : Option ℕ) (child : ℕ) → IsOrdered pla
 bad_by plan None child ordered h = (λ n. h child, λ n e. absurd cc)
 bad_by plan (Some i) child ordered h = (
   λ n l. n (ap Some (last_is_one (Pairs plan.schema.pairs) (length plan.schema.children) i child ordered.acyclic h l)),
-  λ n e. n (subst (IsLast (Pairs plan.schema.pairs) (length plan.schema.children)) (some_same i child e) h),
+  λ n e. n (subst (IsLast (Pairs plan.schema.pairs) (length plan.schema.children)) (same_Some i child e) h),
 )
 
 pub bad_of : (c : Compiled) (e : Declared.Edge) (plan : MethodPlan) (last : Option ℕ) → slice_get c.methods e.method ≡ Some plan → IsOrdered plan → IsLastOf plan last → (last ≢ Some e.child) ↔ IsBad c (edge_of e)
@@ -87,15 +84,15 @@ bad_of c e plan last is ordered h =
     subst (λ o. (last ≢ Some e.child) ↔ (IsLast (IsPairBy o) (length (schemas_by e.method o)) e.child → ⊥)) (sym is)
     (subst (λ n. (last ≢ Some e.child) ↔ (IsLast (Pairs plan.schema.pairs) n e.child → ⊥)) (sym many) (bad_by plan last e.child ordered h))
 
-pub bad_mark : (c : Compiled) (e : Declared.Edge) (methods : List MethodPlan) (lasts : List (Option ℕ)) (last : Option ℕ) → HaveNoCycle c → methods ≡ c.methods → e.method < length c.methods → AreLasts methods lasts → slice_get lasts e.method ≡ Some last
+pub bad_mark : (c : Compiled) (e : Declared.Edge) (methods : List MethodPlan) (lasts : List (Option ℕ)) (last : Option ℕ) → HaveNoCycle c → methods ≡ c.methods → e.method < length c.methods → AreLastsBelow methods (length methods) lasts → slice_get lasts e.method ≡ Some last
     → (last ≢ Some e.child) ↔ IsBad c (edge_of e)
 bad_mark c e methods lasts last ordered same l are is =
     let (plan, f) = there_at c.methods e.method l in
     let network = subst IsOrdered (get_or_from_slice_get c.methods e.method plan plan f) (ordered e.method plan l) in
     bad_of c e plan last f network (are.each e.method plan last (ap (λ ms. slice_get ms e.method) same ∙ f) is)
 
-pub lasts_all : (methods : List MethodPlan) (k : ℕ) (lasts : List (Option ℕ)) → k ≡ length methods → AreLastsBelow methods k lasts → AreLasts methods lasts
-lasts_all methods k lasts e h = record { room = h.room ∙ e; each = h.each }
+pub lasts_all : (methods : List MethodPlan) (k : ℕ) (lasts : List (Option ℕ)) → k ≡ length methods → AreLastsBelow methods k lasts → AreLastsBelow methods (length methods) lasts
+lasts_all methods k lasts e = subst (λ n. AreLastsBelow methods n lasts) e
 
 -- the method of an edge is there
 pub in_map : (edges : List Declared.Edge) (e : Declared.Edge) → Contains edges e → Contains (map edge_of edges) (edge_of e)

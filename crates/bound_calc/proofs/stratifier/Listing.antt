@@ -17,7 +17,16 @@ use Rattle.plan_model.proofs.plan_meaning.MethodParts.{head_schema_by, schemas_b
 use Rattle.plan_model.proofs.plan_meaning.EdgesInOrder.{AreInOrder, one_after_another, both_in_order}
 use Rattle.bound_calc.specs.declared.stratifier.edge.Edge as Declared
 use Rattle.bound_calc.specs.stratifier.Conditions.{IsSmallCompiled}
-use Rattle.bound_calc.specs.stratifier.Listed.{edge_of, edges_to, edges_from, edges_of}
+use Rattle.bound_calc.specs.stratifier.Listed.{edge_of, edges_to, edges_from}
+
+-- the edges of method m, where its task is marked
+abbrev pub edges_of_method : List Bool → ℕ → MethodPlan → List Edge
+edges_of_method marks m p = cond (get_or marks p.schema.task false) (edges_from m 0 p.schema.children) []
+
+-- the edges of the methods of marked tasks, from place m on
+abbrev pub edges_of : List Bool → ℕ → List MethodPlan → List Edge
+edges_of marks m [] = []
+edges_of marks m (p ∷ ps) = edges_of_method marks m p ++ edges_of marks (suc m) ps
 
 take_length : {A : Type 0} (xs : List A) (k : ℕ) → k < length xs → length (take k xs) ≡ k
 take_length [] k l = absurd (omega arith)
@@ -31,14 +40,11 @@ edges_from_more m i (y ∷ xs) x =
     ap (λ s. edges_to m i y.head ++ s) (edges_from_more m (suc i) xs x ∙ ap (λ n. edges_from m (suc i) xs ++ edges_to m n x.head) e) ∙ sym (append_assoc (edges_to m i y.head) (edges_from m (suc i) xs) (edges_to m (i + length (y ∷ xs)) x.head))
 
 module _ (marks : List Bool) where
-  abbrev pub edges_of_method : ℕ → MethodPlan → List Edge
-  edges_of_method m p = cond (get_or marks p.schema.task false) (edges_from m 0 p.schema.children) []
-
-  pub edges_of_more : (m : ℕ) (ps : List MethodPlan) (p : MethodPlan) → edges_of marks m (ps ++ p ∷ []) ≡ edges_of marks m ps ++ edges_of_method (m + length ps) p
-  edges_of_more m [] p = append-nil (edges_of_method m p) ∙ ap (λ n. edges_of_method n p) (let e : m ≡ m + 0 = omega arith in e)
+  pub edges_of_more : (m : ℕ) (ps : List MethodPlan) (p : MethodPlan) → edges_of marks m (ps ++ p ∷ []) ≡ edges_of marks m ps ++ edges_of_method marks (m + length ps) p
+  edges_of_more m [] p = append-nil (edges_of_method marks m p) ∙ ap (λ n. edges_of_method marks n p) (let e : m ≡ m + 0 = omega arith in e)
   edges_of_more m (q ∷ ps) p =
       let e : suc m + length ps ≡ m + length (q ∷ ps) = omega arith in
-      ap (λ s. edges_of_method m q ++ s) (edges_of_more (suc m) ps p ∙ ap (λ n. edges_of marks (suc m) ps ++ edges_of_method n p) e) ∙ sym (append_assoc (edges_of_method m q) (edges_of marks (suc m) ps) (edges_of_method (m + length (q ∷ ps)) p))
+      ap (λ s. edges_of_method marks m q ++ s) (edges_of_more (suc m) ps p ∙ ap (λ n. edges_of marks (suc m) ps ++ edges_of_method marks n p) e) ∙ sym (append_assoc (edges_of_method marks m q) (edges_of marks (suc m) ps) (edges_of_method marks (m + length (q ∷ ps)) p))
 
 -- what the first children add
 pub from_none : (old : List Edge) (m : ℕ) (children : List Child) → old ≡ old ++ edges_from m 0 (take 0 children)

@@ -1,5 +1,5 @@
 -- The first bad edge that leads back to its start, and the cycle that is named.
-use Rattle.std.proofs.Common.{ℕ, ◌≡◌, ◌+◌, ◌<◌, ◌≤◌, inl, inr, List, [], ◌∷◌, length, map, get_or, Bool, true, Some, slice_get, refl, sym, subst, ap, ◌∙◌, arith}
+use Rattle.std.proofs.Common.{ℕ, ◌≡◌, ◌+◌, ◌<◌, ◌≤◌, inl, inr, List, [], ◌∷◌, length, map, get_or, Bool, true, false, Some, slice_get, refl, sym, subst, ap, ◌∙◌, arith}
 use Rattle.std.proofs.lemmas.Bool.{cases_eq}
 use Rattle.std.proofs.lemmas.Option.{same_Some, slice_get_within, slice_get-get_or}
 use Rattle.plan_model.specs.task_networks.Strata as Walks
@@ -27,6 +27,10 @@ module _ (groups : List ℕ) (ends : List Ends) (bad : List Bool) where
         never (same_Some mark true (sym marked ∙ g)) (subst (λ (z : Ends). get_or groups z.from 0 ≡ get_or groups z.to 0) one same))
     | inr e ↦ h j (omega arith) closing
   ]
+
+  -- the edge at a place closes a cycle where it is marked and its ends are of one group
+  pub closing_told : (k : ℕ) (n : Ends) → k < length ends → length bad ≡ length ends → get_or bad k false ≡ true → get_or groups (get_or ends k n).from 0 ≡ get_or groups (get_or ends k n).to 0 → IsClosing groups ends bad k
+  closing_told k n l room mark same = (get_or ends k n, slice_get-get_or ends k n l, slice_get-get_or bad k false (omega arith) ∙ ap Some mark, same)
 
   pub none_at_all : (k : ℕ) → length ends ≤ k → NoneBefore k → (j : ℕ) → IsClosing groups ends bad j → ⊥
   none_at_all k l h j closing = h j (let m = slice_get_within ends j closing.0 closing.1 in omega arith) closing

@@ -9,6 +9,7 @@ use Rattle.plan_model.specs.declared.values.Compiled.{Compiled}
 use Rattle.plan_model.specs.plan_meaning.Schemas.{task}
 use Rattle.plan_model.specs.plan_meaning.Strata.{Edge, source, target}
 use Rattle.plan_model.proofs.plan_meaning.BoundParts.{there_at}
+use Rattle.slot_machine.proofs.bound_laws.NamedCycle.{along}
 use Rattle.bound_calc.proofs.stratifier.NamedDistances.{found_within}
 use Rattle.bound_calc.specs.declared.stratifier.edge.Edge as Declared
 use Rattle.bound_calc.specs.declared.stratifier.named.Ends.{Ends}
@@ -83,22 +84,6 @@ module _ {Node Link : Type 0} (source target : Link → Node) (edges : List Link
       none [] l = inl refl
       none (d ∷ back) l = absurd (omega arith)
 
-  along : (e : Link) (walk back : List Link) → (walk ≡ back) ⊎ ComesFirst source target edges walk back → (e ∷ walk ≡ e ∷ back) ⊎ ComesFirst source target edges (e ∷ walk) (e ∷ back)
-  along e walk back (inl s) = inl (ap (λ z. e ∷ z) s)
-  along e walk back (inr c) = inr (record {
-    common = e ∷ c.common;
-    edge = c.edge;
-    rest = c.rest;
-    other_edge = c.other_edge;
-    other_rest = c.other_rest;
-    is = ap (λ z. e ∷ z) c.is;
-    other_is = ap (λ z. e ∷ z) c.other_is;
-    before = c.before;
-    after = c.after;
-    parts = c.parts;
-    later = c.later;
-  })
-
   -- the edge at place k, then the best walk from its end; no walk is shorter, and none of this length begins with an earlier edge
   pub best_more : (k : ℕ) (e : Link) (x y : Node) (walk : List Link) → slice_get edges k ≡ Some e → source e ≡ x
       → ((back : List Link) → IsWalk source target edges x back y → suc (length walk) ≤ length back)
@@ -119,7 +104,7 @@ module _ {Node Link : Type 0} (source target : Link → Node) (edges : List Link
         where
           same : e ≡ d → (e ∷ walk ≡ d ∷ back) ⊎ ComesFirst source target edges (e ∷ walk) (d ∷ back)
           same f = subst (λ z. (e ∷ walk ≡ z ∷ back) ⊎ ComesFirst source target edges (e ∷ walk) (z ∷ back)) f
-              (along e walk back (h.first back (subst (λ z. IsWalk source target edges (target z) back y) (sym f) w.2) (omega arith)))
+              (along source target edges e walk back (h.first back (subst (λ z. IsWalk source target edges (target z) back y) (sym f) w.2) (omega arith)))
 
           go : (j : ℕ) × (slice_get edges j ≡ Some d) → (e ∷ walk ≡ d ∷ back) ⊎ ComesFirst source target edges (e ∷ walk) (d ∷ back)
           go (j, f) = elim (by_size j k) [

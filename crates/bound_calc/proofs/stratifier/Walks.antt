@@ -1,7 +1,7 @@
 -- A walk over the tasks from the top, as far as it went.
 use Rattle.std.proofs.Common.{ℕ, zero, suc, ◌≡◌, ◌+◌, ◌<◌, ◌≤◌, ◌⊎◌, ◌↔◌, inl, inr, List, [], ◌∷◌, ◌++◌, length, Bool, false, get_or, map, Some, slice_get, Contains, refl, sym, subst, ap, ◌∙◌, arith}
 use Rattle.std.proofs.lemmas.Bool.{false≢true}
-use Rattle.std.proofs.lemmas.Option.{slice_get_within, get_or_from_slice_get}
+use Rattle.std.proofs.lemmas.Option.{same_Some, slice_get_within, get_or_from_slice_get}
 use Rattle.std.proofs.lemmas.List.Elements.{Contains-append_left, Contains-push, Contains-push_cases}
 use Rattle.plan_model.specs.declared.networks.Head.{Head}
 use Rattle.plan_model.specs.declared.networks.Head.TheVariants.{Task, Action, Check}
@@ -105,11 +105,8 @@ module _ (c : Compiled) where
       next_reached : (u : ℕ) → IsSubtaskOf c.methods places u → IsReachedTask c u
       next_reached u (m, k, plan, f, s) =
           let (other, g, i) = (methods m).0 k in
-          let p : other ≡ plan = some other plan (sym g ∙ f) in
+          let p : other ≡ plan = same_Some other plan (sym g ∙ f) in
           reached_next m plan u f (subst (IsReachedTask c) (sym i ∙ ap (λ (z : MethodPlan). z.schema.task) p) t_reached) s
-        where
-          some : (p q : MethodPlan) → Some p ≡ Some q → p ≡ q
-          some p q e = cc
 
       next_marked : (u : ℕ) → IsNext t u → IsMarked new.marks.items u
       next_marked u (m, plan, f, g, s) = (h.marks u).1 (inr (m, (methods m).1 (plan, f, g), plan, f, s))

@@ -25,10 +25,6 @@ IsOnlyUnmarkedOrNone marks only = MatchOption only ((i : ℕ) → IsOnlyUnmarked
 abbrev pub IsLastOf : MethodPlan → Option ℕ → Type 0
 IsLastOf plan = IsLastChild (length plan.schema.children) plan.schema.pairs
 
-pub record AreLasts (methods : List MethodPlan) (lasts : List (Option ℕ)) : Type 0 where
-  pub room : length lasts ≡ length methods
-  pub each : (m : ℕ) (plan : MethodPlan) (last : Option ℕ) → slice_get methods m ≡ Some plan → slice_get lasts m ≡ Some last → IsLastOf plan last
-
 -- a mark for each edge, which says whether it is bad
 pub record AreBadMarks (c : Compiled) (edges : List Declared.Edge) (marks : List Bool) : Type 0 where
   pub room : length marks ≡ length edges

@@ -1,9 +1,8 @@
 -- All edges as a list: method by method, child by child.
-use Rattle.std.specs.Prelude.{ℕ, suc, ◌≡◌, Bool, false, cond, List, [], ◌∷◌, ◌++◌, map, slice_index_or}
+use Rattle.std.specs.Prelude.{ℕ, suc, ◌≡◌, List, [], ◌∷◌, ◌++◌, map}
 use Rattle.plan_model.specs.declared.networks.Head.{Head}
 use Rattle.plan_model.specs.declared.networks.Head.TheVariants.{Task, Action, Check}
 use Rattle.plan_model.specs.declared.networks.Child.{Child}
-use Rattle.plan_model.specs.declared.schemas.MethodPlan.{MethodPlan}
 use Rattle.plan_model.specs.plan_meaning.Strata.{Edge}
 use Rattle.bound_calc.specs.declared.stratifier.edge.Edge as Declared
 
@@ -24,8 +23,3 @@ edges_from m i (child ∷ rest) = edges_to m i child.head ++ edges_from m (suc i
 -- the edges of method m to its children are put at the end
 abbrev pub AreAdded : ℕ → List Child → List Declared.Edge → List Declared.Edge → Type 0
 AreAdded m children old new = map edge_of new ≡ map edge_of old ++ edges_from m 0 children
-
--- the edges of the methods of marked tasks, from place m on
-abbrev pub edges_of : List Bool → ℕ → List MethodPlan → List Edge
-edges_of marks m [] = []
-edges_of marks m (plan ∷ rest) = cond (slice_index_or marks plan.schema.task false) (edges_from m 0 plan.schema.children) [] ++ edges_of marks (suc m) rest

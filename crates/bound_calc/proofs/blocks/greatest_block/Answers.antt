@@ -2,9 +2,9 @@ use Rattle.std.proofs.Common.{ℕ, ◌≡◌, ◌+◌, ◌-◌, ◌<◌, ◌≤�
 use Rattle.std.proofs.lemmas.List.Elements.{Contains-get_or}
 use Rattle.plan_model.specs.declared.networks.Child.{Child}
 use Rattle.plan_model.specs.declared.networks.Head.TheVariants.{Task}
-use Rattle.bound_calc.specs.Blocks.{head_number, child_number, IsGreatestOrPast}
+use Rattle.bound_calc.specs.Blocks.{child_number, IsGreatestOrPast}
 use Rattle.bound_calc.proofs.Along.{IsSummed}
-use Rattle.bound_calc.proofs.Greatest.{many, child_below, child-number, child_ranked, positive, IsStart, summed_first, summed_next, past_next, greatest_all, at_least}
+use Rattle.bound_calc.proofs.Greatest.{many, child_below, number_read, child_ranked, positive, IsStart, summed_first, summed_next, past_next, greatest_all, at_least}
 use Rattle.bound_calc.proofs.blocks.greatest_block.Goals as goal
 use Rattle.bound_calc.proofs.blocks.greatest_block.Goals.{then-k-gt0+then-cut, else-k-gt0, else-k-gt0-via-then-k-gt0+else-cut, else-k-gt0-via-else-k-gt0}
 
@@ -67,10 +67,7 @@ loop-k-preserved c =
         w.pending-is,
       )
     ] in
-    let number : c.number_of-number.result ≡ child_number c.args.r.now c.args.numbers.now c.args.plan.now (get_or c.args.plan.now.line c.loop-k.k 0) =
-    c.number_of-number.ensures.number ∙ ap (λ (cs : List Child). head_number c.args.r.now c.args.numbers.now (get_or cs (get_or c.as_slice-line.result.now c.loop-k.k 0) c.index-children-child.result).head) c.as_slice-children.ensures.items
-    ∙ ap (λ xs. head_number c.args.r.now c.args.numbers.now (get_or c.args.plan.now.schema.children (get_or xs c.loop-k.k 0) c.index-children-child.result).head) line
-    ∙ sym (child-number c.args.r.now c.args.numbers.now c.args.plan.now (get_or c.args.plan.now.line c.loop-k.k 0) c.index-children-child.result (child_below c.args.plan.now c.requires.line c.loop-k.k l)) in
+    let number = number_read c.args.r.now c.args.numbers.now plan c.requires.line _ _ k c.number_of-number.result c.index-children-child.result c.as_slice-children.ensures.items line l c.number_of-number.ensures.number in
     let added = c.in_ok-pending.ensures.1 in
     let positive = c.number_of-number.ensures.positive in
     let more : c.in_ok-pending.pending + 1 ≡ c.if-k-gt0.pending + own (get_or c.args.plan.now.line c.loop-k.k 0) = omega arith in
@@ -99,10 +96,7 @@ returns-in_err-pending c =
         w.pending-is,
       )
     ] in
-    let number : c.number_of-number.result ≡ child_number c.args.r.now c.args.numbers.now c.args.plan.now (get_or c.args.plan.now.line c.loop-k.k 0) =
-    c.number_of-number.ensures.number ∙ ap (λ (cs : List Child). head_number c.args.r.now c.args.numbers.now (get_or cs (get_or c.as_slice-line.result.now c.loop-k.k 0) c.index-children-child.result).head) c.as_slice-children.ensures.items
-    ∙ ap (λ xs. head_number c.args.r.now c.args.numbers.now (get_or c.args.plan.now.schema.children (get_or xs c.loop-k.k 0) c.index-children-child.result).head) line
-    ∙ sym (child-number c.args.r.now c.args.numbers.now c.args.plan.now (get_or c.args.plan.now.line c.loop-k.k 0) c.index-children-child.result (child_below c.args.plan.now c.requires.line c.loop-k.k l)) in
+    let number = number_read c.args.r.now c.args.numbers.now plan c.requires.line _ _ k c.number_of-number.result c.index-children-child.result c.as_slice-children.ensures.items line l c.number_of-number.ensures.number in
     let sum = c.if-k-gt0.pending + (c.number_of-number.result - 1) in
     let positive = c.number_of-number.ensures.positive in
     let more : (c.if-k-gt0.pending + (c.number_of-number.result - 1)) + 1 ≡ c.if-k-gt0.pending + own (get_or c.args.plan.now.line c.loop-k.k 0) = omega arith in

@@ -1,7 +1,7 @@
 use Rattle.std.proofs.Common.{take_all, sym, ap, ◌∙◌}
 use Rattle.bound_calc.specs.declared.stratifier.edge.Edge.{Edge}
-use Rattle.bound_calc.specs.NoBound.{begun, spaced}
-use Rattle.bound_calc.proofs.Cycles.{begun-more, two_more, joined, nothing}
+use Rattle.bound_calc.specs.NoBound.{spaced}
+use Rattle.bound_calc.proofs.Cycles.{begun, begun-more, two_more, joined, nothing}
 use Rattle.bound_calc.proofs.cycle.cycle_words.Goals as goal
 
 abbrev none : Edge

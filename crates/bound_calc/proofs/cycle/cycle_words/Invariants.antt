@@ -1,5 +1,6 @@
 use Rattle.std.proofs.Common.{◌≡◌, take}
-use Rattle.bound_calc.specs.NoBound.{begun, spaced}
+use Rattle.bound_calc.specs.NoBound.{spaced}
+use Rattle.bound_calc.proofs.Cycles.{begun}
 use Rattle.bound_calc.proofs.cycle.cycle_words.Given as goal
 
 abbrev pub invariant-loop-edge : goal.invariant-loop-edge

@@ -1,5 +1,4 @@
-use Rattle.std.proofs.Common.{Bool, ◌≡◌, ◌++◌, ◌∷◌, [], cond, true, false, not, take, get_or, refl, sym, subst, ap, ◌∙◌}
-use Rattle.std.proofs.lemmas.Bool.{true≢false}
+use Rattle.std.proofs.Common.{◌≡◌, ◌++◌, ◌∷◌, [], cond, true, not, take, get_or, sym, subst, ap, ◌∙◌}
 use Rattle.std.specs.HashSet.{contains}
 use Rattle.plan_model.specs.declared.networks.Guard.{Guard}
 use Rattle.plan_model.specs.declared.terms.Term.TheVariants.{Var}
@@ -7,19 +6,12 @@ use Rattle.plan_model.specs.plan_meaning.Compilation.{same_guard}
 use Rattle.bound_calc.specs.method_precs.Keys.{key}
 use Rattle.plan_model.proofs.plan_meaning.Once.{has, once_next_new, once_next_old}
 use Rattle.bound_calc.proofs.method_precs.SameKeys.{same_key, seen_more}
+use Rattle.bound_calc.proofs.method_precs.SinglePairs.{not_true, not_false}
 use Rattle.bound_calc.proofs.method_precs.single_guards.single_guards.Goals as goal
 use Rattle.bound_calc.proofs.method_precs.single_guards.single_guards.Goals.{then-branch+in_ok-push, else-branch}
 
 abbrev none : Guard
 none = record { ty = 0; term = Var 0 }
-
-not_true : (b : Bool) → not b ≡ true → b ≡ false
-not_true true e = absurd (true≢false (sym e))
-not_true false e = refl
-
-not_false : (b : Bool) → not b ≡ false → b ≡ true
-not_false true e = refl
-not_false false e = absurd (true≢false e)
 
 pub loop-guard-preserved : goal.loop-guard-preserved
 loop-guard-preserved c =

@@ -3,8 +3,8 @@ use Rattle.std.proofs.lemmas.List.{get_or_read}
 use Rattle.plan_model.specs.declared.schemas.MethodPlan.{MethodPlan}
 use Rattle.plan_model.specs.plan_meaning.Strata.{Edge}
 use Rattle.bound_calc.specs.stratifier.Conditions.{IsSmallMethod}
-use Rattle.bound_calc.specs.stratifier.Listed.{edge_of, edges_from, edges_of}
-use Rattle.bound_calc.proofs.stratifier.Listing.{edges_told, tasks_marked, of_marked, of_unmarked}
+use Rattle.bound_calc.specs.stratifier.Listed.{edge_of, edges_from}
+use Rattle.bound_calc.proofs.stratifier.Listing.{edges_of, edges_told, tasks_marked, of_marked, of_unmarked}
 use Rattle.bound_calc.proofs.stratifier.all_edges.edges.Goals as goal
 use Rattle.bound_calc.proofs.stratifier.all_edges.edges.Goals.{then-index+in_ok-add_edges, else-index}
 

@@ -1,10 +1,10 @@
-use Rattle.std.proofs.Common.{◌<◌, Bool, Some, length, false, get_or, sym, ap, subst, ◌∙◌, arith}
+use Rattle.std.proofs.Common.{◌<◌, length, false, get_or, sym, ap, subst, ◌∙◌, arith}
 use Rattle.std.proofs.lemmas.Option.{slice_get-get_or}
 use Rattle.std.proofs.lemmas.Bool.{false≢true}
 use Rattle.bound_calc.specs.declared.stratifier.named.Ends.{Ends}
 use Rattle.bound_calc.specs.stratifier.Bad.{AreBadMarks}
 use Rattle.bound_calc.specs.stratifier.NamedSearch.{ClosesAt, IsCycleAt}
-use Rattle.bound_calc.proofs.stratifier.NamedFirst.{none_more, none_at_all, closes_at, named_at, none_closes}
+use Rattle.bound_calc.proofs.stratifier.NamedFirst.{none_more, closing_told, none_at_all, closes_at, named_at, none_closes}
 use Rattle.bound_calc.proofs.stratifier.named.named_cycle.Goals as goal
 use Rattle.bound_calc.proofs.stratifier.named.named_cycle.Goals.{else-marks-k-via-then-marks-k+else-groups-e, else-marks-k-via-else-marks-k}
 
@@ -36,29 +36,20 @@ loop-k-preserved c =
 
 pub cycle_from-requires-clause-closes : goal.cycle_from-requires-clause-closes
 cycle_from-requires-clause-closes c =
-    let edges = c.args.edges.now in
-    let ends = c.args.ends.now in
-    let bad = c.as_slice-marks.result.now in
-    let k = c.loop-k.k in
-    let l = c.loop-k-test.true in
-    let b : k < length bad = omega (arith, c.requires.bad.room, c.requires.ends.room, ap length c.as_slice-marks.ensures.items, c.loop-k-test.true) in
-    let marks = subst (AreBadMarks c.args.c.now edges) (sym c.as_slice-marks.ensures.items) c.requires.bad in
-    let mark = slice_get-get_or bad k false b ∙ ap (λ (x : Bool). Some x) c.if-marks-k.true in
-    subst (λ s. ClosesAt c.args.c.now s k) (sym c.as_slice.ensures.items)
-    (closes_at c.args.c.now edges c.requires.edges bad marks c.args.groups.now c.requires.groups ends c.requires.ends k (get_or ends k nowhere, slice_get-get_or ends k nowhere l, mark, c.if-groups-e.true))
+    let marks = subst (AreBadMarks c.args.c.now c.args.edges.now) (sym c.as_slice-marks.ensures.items) c.requires.bad in
+    subst (λ s. ClosesAt c.args.c.now s c.loop-k.k) (sym c.as_slice.ensures.items)
+    (closes_at c.args.c.now c.args.edges.now c.requires.edges c.as_slice-marks.result.now marks c.args.groups.now c.requires.groups c.args.ends.now c.requires.ends c.loop-k.k
+    (closing_told c.args.groups.now c.args.ends.now c.as_slice-marks.result.now c.loop-k.k nowhere c.loop-k-test.true (marks.room ∙ sym c.requires.ends.room) c.if-marks-k.true c.if-groups-e.true))
 
 pub returns-then-groups-e : goal.returns-then-groups-e
 returns-then-groups-e c =
-    let edges = c.args.edges.now in
-    let ends = c.args.ends.now in
-    let bad = c.as_slice-marks.result.now in
-    let k = c.loop-k.k in
-    let l = c.loop-k-test.true in
-    let b : k < length bad = omega (arith, c.requires.bad.room, c.requires.ends.room, ap length c.as_slice-marks.ensures.items, c.loop-k-test.true) in
-    let marks = subst (AreBadMarks c.args.c.now edges) (sym c.as_slice-marks.ensures.items) c.requires.bad in
-    let mark = slice_get-get_or bad k false b ∙ ap (λ (x : Bool). Some x) c.if-marks-k.true in
-    let cycle = subst (λ s. IsCycleAt c.args.c.now s k c.in_ok-cycle.cycle) c.as_slice.ensures.items c.in_ok-cycle.ensures.cycle in
-    record { named = named_at c.args.c.now edges c.requires.edges bad marks c.args.groups.now c.requires.groups ends c.requires.ends k c.in_ok-cycle.cycle (get_or ends k nowhere, slice_get-get_or ends k nowhere l, mark, c.if-groups-e.true) c.loop-k.invariant cycle }
+    let marks = subst (AreBadMarks c.args.c.now c.args.edges.now) (sym c.as_slice-marks.ensures.items) c.requires.bad in
+    record {
+      named = named_at c.args.c.now c.args.edges.now c.requires.edges c.as_slice-marks.result.now marks c.args.groups.now c.requires.groups c.args.ends.now c.requires.ends c.loop-k.k c.in_ok-cycle.cycle
+          (closing_told c.args.groups.now c.args.ends.now c.as_slice-marks.result.now c.loop-k.k nowhere c.loop-k-test.true (marks.room ∙ sym c.requires.ends.room) c.if-marks-k.true c.if-groups-e.true)
+          c.loop-k.invariant
+          (subst (λ s. IsCycleAt c.args.c.now s c.loop-k.k c.in_ok-cycle.cycle) c.as_slice.ensures.items c.in_ok-cycle.ensures.cycle);
+    }
 
 pub returns : goal.returns
 returns c =
