@@ -1,6 +1,6 @@
 -- Types and pairs in first-seen order are spelled by their list.
 use Rattle.std.proofs.Common.{ℕ, suc, ◌+◌, ◌≡◌, ◌⊎◌, ◌↔◌, ◌||◌, inl, inr, Bool, true, false, cond, List, [], ◌∷◌, ◌++◌, codes, Option, Some, None, option_map, refl, ap, sym, subst, ◌∙◌, arith}
-use Rattle.std.proofs.lemmas.Bool.{cond-true, cond-false}
+use Rattle.std.proofs.lemmas.Bool.{cond-true, cond-false, or_parts}
 use Rattle.std.specs.Str.{bytes_eq}
 use Rattle.text_forms.specs.Lists.{Part, Parts, name, group, nothing, part}
 use Rattle.text_forms.specs.Words.{Word, is_among, is_name, word_at, first_place}
@@ -12,10 +12,6 @@ use Rattle.plan_model.specs.declared.types.Parent.{Parent}
 use Rattle.plan_texts.proofs.Basics.{bytes_eq-true, bytes_eq-refl, bytes_eq-other, no_keyword'}
 use Rattle.plan_texts.proofs.Members.{each-has, each-lacks, has-to_map, has-of_map}
 
-or-false : (a b : Bool) → (a || b) ≡ false → (a ≡ false) × (b ≡ false)
-or-false false b e = (refl, e)
-or-false true b e = cc
-
 -- what is kept of some words is new, and different
 new-different : (seen ws : List Word) → EachIs (λ u. is_among u seen ≡ false) (first_seen seen ws) × AreDifferent (first_seen seen ws)
 new-different seen [] = (tt, tt)
@@ -24,7 +20,7 @@ new-different seen (w ∷ ws) = go (is_among w seen) refl (new-different seen ws
     apart : (us : List Word) → EachIs (λ u. is_among u (w ∷ seen) ≡ false) us → EachIs (λ u. w ≡ u → ⊥) us × EachIs (λ u. is_among u seen ≡ false) us
     apart [] e = (tt, tt)
     apart (u ∷ us) e =
-        let h = or-false (bytes_eq u w) (is_among u seen) e.0 in
+        let h = or_parts (bytes_eq u w) (is_among u seen) e.0 in
         let g = apart us e.1 in
         ((λ f. let k = bytes_eq-refl w in let l = ap (λ t. bytes_eq t w) f in let m = h.0 in cc, g.0), (h.1, g.1))
 

@@ -1,5 +1,6 @@
 -- What two HDDL values are spelled by one pair of texts is alike.
 use Rattle.std.proofs.Common.{ℕ, ◌≡◌, List, map, ap, sym, subst, ◌∙◌}
+use Rattle.std.proofs.lemmas.Option.{same_Some}
 use Rattle.text_forms.specs.Lists.{Parts}
 use Rattle.plan_texts.specs.Declared.{Declared, named}
 use Rattle.plan_texts.specs.Alike.{object_said, action_said, task_said, method_said, AreAlikeHddl}
@@ -8,7 +9,7 @@ use Rattle.plan_texts.specs.Domains.{Domain, domain_words}
 use Rattle.plan_texts.specs.SpellsHddl.{hddl_many, hddl_problem_once, hddl_types, hddl_words, hddl_domain, hddl_problem, task_words, action_words, AreHddlSections, SpellsHddl}
 use Rattle.plan_model.specs.declared.values.Hddl.{Hddl}
 use Rattle.plan_texts.proofs.Unique.{same-each, map-map, same-words, same-pairs, constants-said, same_constants, predicates-said, same_predicates, actions-said, objects-said, init-said, goal-said, same_definitions}
-use Rattle.plan_texts.proofs.UniqueNetworks.{same-Some, same-task, same-method, same-top}
+use Rattle.plan_texts.proofs.UniqueNetworks.{same-task, same-method, same-top}
 
 module _ (c d : Hddl) (domain problem : Parts) (e : AreHddlSections c domain problem) (f : AreHddlSections d domain problem) where
   abbrev v : Declared
@@ -54,7 +55,7 @@ module _ (c d : Hddl) (domain problem : Parts) (e : AreHddlSections c domain pro
   same_tasks = map-map (task_said v) (λ t. t.0) c.tasks ∙ ap (map (λ t. t.0)) tasks-said ∙ sym (map-map (task_said w) (λ t. t.0) d.tasks)
 
   same_htn : e.htn ≡ f.htn
-  same_htn = same-Some e.htn f.htn (sym e.htn_there ∙ f.htn_there)
+  same_htn = same_Some e.htn f.htn (sym e.htn_there ∙ f.htn_there)
 
   pub same-sections : named c.names c.domain ≡ named d.names d.domain → named c.names c.problem ≡ named d.names d.problem → AreAlikeHddl c d
   same-sections g h = record {

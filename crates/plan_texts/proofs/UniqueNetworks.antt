@@ -1,5 +1,6 @@
 -- Tasks, methods and networks that one nested list spells are alike.
 use Rattle.std.proofs.Common.{◌≡◌, inl, inr, Bool, true, false, List, [], ◌∷◌, ◌++◌, map, length, codes, Option, Some, None, refl, ap, ap₂, sym, subst, ◌∙◌}
+use Rattle.std.proofs.lemmas.Option.{same_Some}
 use Rattle.std.specs.Option.{option_map}
 use Rattle.text_forms.specs.Lists.{Part, Parts, group, nothing, part}
 use Rattle.text_forms.specs.Words.{Word, is_name, first_place}
@@ -28,9 +29,6 @@ no-group : (v : Declared) (scope : List Word) (ts : List Term) (qs rs : Parts) �
 no-group v scope [] qs rs e = e
 no-group v scope (Var k ∷ ts) qs rs e = let f = e.0.1 in cc
 no-group v scope (Obj o ∷ ts) qs rs e = let f = e.0.1 in cc
-
-pub same-Some : {X : Type 0} (x y : X) → Some x ≡ Some y → x ≡ y
-same-Some x y e = cc
 
 pair-words : (is : List Word) (x y : Pair) (a b a' b' : Word) → a ≡ a' → b ≡ b' → first_place a is ≡ Some x.first → first_place b is ≡ Some x.then → first_place a' is ≡ Some y.first → first_place b' is ≡ Some y.then → x ≡ y
 pair-words is x y a b a' b' p q e f g h =
@@ -83,7 +81,7 @@ module _ (v w : Declared) (tasks tasks' actions actions' : List Word) (same_obje
         let a = e.2 in let b = f.2 in
         let i : e.0 ≡ f.0 = cc in
         let j : e.1 ≡ f.1 = cc in
-        (same-Some h h' (sym e.4 ∙ (λ n. head_of (first_place (i n) (same_tasks n)) (first_place (i n) (same_actions n))) ∙ f.4), same-terms ts ts' e.1 f.1 j e.5 f.5)
+        (same_Some h h' (sym e.4 ∙ (λ n. head_of (first_place (i n) (same_tasks n)) (first_place (i n) (same_actions n))) ∙ f.4), same-terms ts ts' e.1 f.1 j e.5 f.5)
 
     not-both : (i : Name) (h h' : Head) (ts ts' : List Term) (p : Part) → IsSubtaskBy w tasks' actions' scope' (Some i) h ts p → (u : Declared) (r : List Word) (t a : List Word) → IsCall u t a r h' ts' p → ⊥
     not-both i h h' ts ts' p e u r t a f =
@@ -168,7 +166,7 @@ module _ (v w : Declared) (tasks tasks' actions actions' : List Word) (same_obje
       let h1 = e.head.2 in let h2 = f.head.2 in let h3 = ap (found task) j in
       let h : e.head.0 ≡ f.head.0 = cc in
       let h' : e.head.1 ≡ f.head.1 = cc in
-      let t : x.task ≡ y.task = same-Some x.task y.task (sym e.head.4 ∙ (λ n. first_place (h n) (same_tasks n)) ∙ f.head.4) in
+      let t : x.task ≡ y.task = same_Some x.task y.task (sym e.head.4 ∙ (λ n. first_place (h n) (same_tasks n)) ∙ f.head.4) in
       let u = same-terms v w tasks tasks' actions actions' same_objects same_predicates same_tasks same_actions (map (variable v) x.params) (map (variable w) y.params) s x.task_args y.task_args e.head.1 f.head.1 h' e.head.5 f.head.5 in
       let g = same-network (map (variable v) x.params) (map (variable w) y.params) s x.children y.children x.pairs y.pairs x.constraints y.constraints f.entries (subst (IsNetwork v tasks actions (map (variable v) x.params) (ids_by_place v x.children) x.children x.pairs x.constraints) j e.network) f.network in
       λ n. (i n, t n, u n, m n, (l n, g.0 n, g.1 n, g.2 n))
