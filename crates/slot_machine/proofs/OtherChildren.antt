@@ -1,6 +1,6 @@
 -- The children other than the heir, and the slots of all children.
 use Rattle.std.proofs.Common.{ℕ, zero, suc, ◌≡◌, ◌≢◌, ◌+◌, ◌<◌, ◌↔◌, inl, inr, List, [], ◌∷◌, length, slice_index, slice_get, map, filter, Option, Some, None, true, false, not, cond, ◌==◌, refl, ap, sym, subst, ◌∙◌, Contains, arith, eq-eqb}
-use Rattle.std.proofs.lemmas.List.{length-map}
+use Rattle.std.proofs.lemmas.List.{length-map, nil_from_length}
 use Rattle.std.proofs.lemmas.Option.{slice_get_within}
 use Rattle.std.proofs.Math.Decide.{ℕ_discrete}
 use Rattle.plan_model.specs.task_networks.Net.{Net, count}
@@ -134,11 +134,7 @@ module _ (N : Net) (law : IsLawful N) (m : N.Method) (f : ℕ → ℕ) (h : ℕ)
   others_only new l each = go (N.heir m) refl l each
     where
       go : (o : Option ℕ) → N.heir m ≡ o → length new ≡ length (rest_of o (count N m)) → ((i : ℕ) → i < count N m → f i ≡ slice_index (with_heir o h new) i) → new ≡ map f (rest_of o (count N m))
-      go None e l each = empty new (l ∙ ap (λ n. length (rest_of None n)) (no_heir e)) ∙ sym (ap (λ n. map f (rest_of None n)) (no_heir e))
-        where
-          empty : (xs : List ℕ) → length xs ≡ 0 → xs ≡ []
-          empty [] z = refl
-          empty (x ∷ xs) z = absurd (omega arith)
+      go None e l each = nil_from_length new (l ∙ ap (λ n. length (rest_of None n)) (no_heir e)) ∙ sym (ap (λ n. map f (rest_of None n)) (no_heir e))
       go (Some k) e l each = insert_same k h (f k) new (map f rest) (omega (arith, few, r)) (omega (arith, few, r, many, l)) (all ∙ sym (insert_heir f k (count N m) r))
         where
           r : k < count N m
