@@ -82,9 +82,6 @@ module _ (N : Net) where
     pub blocks_back : (u : Address) (j : ℕ) (q : Address) → q ≢ p → Blocks N tree' u (j ∷ q) → Blocks N tree u (j ∷ q)
     blocks_back u j q n (m, i, e, c, d) = (m, i, used_back q m n e, c, d)
 
-    not-own_child : (i : ℕ) (q : Address) → q ≡ i ∷ q → ⊥
-    not-own_child i q e = not-below_parent i q (subst (λ x. IsAbove x q) e (below-itself q))
-
     -- what blocks a child of p that is no sibling blocks p: so too the other way
     pub due_grows : (taken : List Address) (v : Address) → IsProcessed N tree v → (Contains taken p → ⊥) → IsDue N tree taken v → IsDue N tree' taken v
     due_grows taken v pv np d = record { fresh = d.fresh; begun = d.begun; clear = clear v pv d }

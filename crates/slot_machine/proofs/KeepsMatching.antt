@@ -89,9 +89,6 @@ module _ (N : Net) (law : IsLawful N) (b : ℕ) (s s' : SlotState N) (tree tree'
     is_p : (u : Address) → IsOpen N tree u → slot u ≡ slot p → u ≡ p
     is_p u o e = m.apart u p o open_p e
 
-    unblocks : (u v : Address) → IsOpen N tree u → IsOpen N tree v → s.before (slot u) (slot v) → v ≢ p
-    unblocks u v ou ov bf e = unblocked (slot u) (subst (λ x. s.before (slot u) (slot x)) e bf)
-
     new_slot : (i : ℕ) (u : Address) → i < n → IsOpen N tree u → u ≢ p → slot (i ∷ p) ≡ slot u → ⊥
     new_slot i u h o np e = go (is_some (heir_of N l) i)
       where

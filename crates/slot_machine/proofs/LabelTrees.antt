@@ -79,12 +79,6 @@ module _ (N : Net) where
       let c = child_in N ts i (subst (λ x. i < length x) (sym ws) h) in
       (label N c.0, ap (option_map (label N)) (child_below N tree i p m ts a ∙ c.1))
 
-  pub address_child : (tree : Tree N) (p : Address) (m : N.Method) (i : ℕ) → IsGrown N tree → label_at N tree p ≡ Some (used m) → IsAddress N tree (i ∷ p) → i < count N m
-  address_child tree p m i g e (l, f) =
-      let (ts, a) = split_at N tree p m e in
-      let ws = (grown_at N tree p (split m ts) g a).1 in
-      subst (λ x. i < length x) ws (in_child ts i l (sym (ap (option_map (label N)) (child_below N tree i p m ts a)) ∙ f))
-
   -- a tree without a node taken is an open leaf
   pub untaken : (tree : Tree N) → ((l : Label N) → label N tree ≡ l → IsTaken N l → ⊥) → tree ≡ open_leaf (work_of N tree)
   untaken (open_leaf w) h = refl
