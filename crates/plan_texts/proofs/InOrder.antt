@@ -68,9 +68,6 @@ dash-word : (q : Part) (ps : Parts) → is_dash q ≡ true → type_words_in (pa
 dash-word (name w) ps e = cond-true _ _ _ e
 dash-word (group qs) ps e = refl
 
-name-dash : (w : Word) → is_name w ≡ true → is_dash (name w) ≡ false
-name-dash w e = no_keyword' w (codes "-") e refl
-
 alone : (x : Bool) (r : Word) → parent_said (ahead_by x None None) ≡ Some r → ⊥
 alone true r g = cc
 alone false r g = cc

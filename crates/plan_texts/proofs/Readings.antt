@@ -172,7 +172,3 @@ module _ (v : Declared) where
     where
       claim : (x : Formula-F Formula) → ((scope : List Word) (p : Part) → formula_step v (IsFormula v) x scope p → reading v.objects v.predicates scope p ≡ said_step v (map-Formula Formula Said (said v) x)) → Claim (roll-Formula x)
       claim x h scope p e = h scope p (subst (λ (z : List Word → Part → Type 0). z scope p) (formula_roll x) e) ∙ sym (said_roll x)
-
--- formulas that one nested list spells are alike
-pub alike_formulas : (v v' : Declared) (f f' : Formula) (scope : List Word) (p : Part) → v.objects ≡ v'.objects → v.predicates ≡ v'.predicates → IsFormula v f scope p → IsFormula v' f' scope p → said v f ≡ said v' f'
-alike_formulas v v' f f' scope p o n e e' = let g = formula-said v f scope p e in let g' = formula-said v' f' scope p e' in cc

@@ -26,9 +26,6 @@ pub each-of : {X : Type 0} (P : X → Type 0) (xs : List X) → ((x : X) → Con
 each-of P [] f = tt
 each-of P (x ∷ xs) f = (f x (has-contains (x ∷ xs) x (inl refl)), each-of P xs (λ y c. f y (has-contains (x ∷ xs) y (inr (contains-has xs y c)))))
 
-pub small_methods : (h : Hddl) → ((s : MethodSchema) → Contains (all_methods h) s → IsSmallMethod s) → HasSmallMethods h
-small_methods h = each-of IsSmallMethod (all_methods h)
-
 pub small_method : (h : Hddl) → HasSmallMethods h → (s : MethodSchema) → Contains (all_methods h) s → IsSmallMethod s
 small_method h small = each-contains IsSmallMethod (all_methods h) small
 
