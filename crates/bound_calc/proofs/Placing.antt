@@ -6,7 +6,6 @@ use Rattle.std.proofs.lemmas.List.Sorted.{IsNonDecreasingBy-from_all_adjacent, C
 use Rattle.std.proofs.lemmas.List.Elements.{Contains-append_left, Contains-push, Contains-push_cases}
 use Rattle.std.proofs.lemmas.Option.{same_Some, slice_get_within, get_or_from_slice_get}
 use Rattle.plan_model.proofs.task_networks.BoundLaws.{by_size}
-use Rattle.plan_model.proofs.task_networks.Lists.{not-in_empty}
 use Rattle.plan_model.specs.declared.schemas.MethodPlan.{MethodPlan}
 use Rattle.plan_model.specs.declared.values.Compiled.{Compiled}
 use Rattle.plan_model.specs.plan_meaning.Network.{top_task}
@@ -21,9 +20,6 @@ pub record ArePlaced (c : Compiled) (ranks : Ranks) (k : ℕ) (places : List (�
   pub each : (place : ℕ × ℕ) → Contains places place ↔ ((place.1 < k) × IsPlace c ranks place)
 
 module _ (c : Compiled) (ranks : Ranks) where
-  pub placed_none : (places : List (ℕ × ℕ)) → places ≡ [] → ArePlaced c ranks 0 places
-  placed_none places e = record { each = λ place. (λ d. absurd (not-in_empty place (subst (λ s. Contains s place) e d)), λ h. absurd (let l = h.0 in omega arith)) }
-
   -- a method of a reached task
   pub placed_more : (k : ℕ) (places more : List (ℕ × ℕ)) (plan : MethodPlan) → slice_get c.methods k ≡ Some plan → IsReachedTask c plan.schema.task → ArePlaced c ranks k places
       → more ≡ places ++ (number_of ranks plan.schema.task, k) ∷ [] → ArePlaced c ranks (k + 1) more

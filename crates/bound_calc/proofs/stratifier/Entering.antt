@@ -35,17 +35,6 @@ entered_none Into none w = record {
   many = refl;
 }
 
--- one that is marked already
-pub entered_before : (u : ℕ) (w : Walk) → IsMarked w.marks.items u → AreEntered (λ t. t ≡ u) w w
-entered_before u w h = record {
-  room = refl;
-  marks = λ t. (inl, λ k. elim k [ inl m ↦ m | inr e ↦ subst (IsMarked w.marks.items) (sym e) h ]);
-  kept = λ t c. c;
-  added = λ t c. inl c;
-  to_do = λ t m. inl m;
-  many = refl;
-}
-
 pub entered_one : (u : ℕ) (old new : Walk) → u < length old.marks.items → get_or old.marks.items u false ≡ false → new.marks.items ≡ set old.marks.items u true → new.work.items ≡ old.work.items ++ u ∷ []
     → AreEntered (λ t. t ≡ u) old new
 entered_one u old new l n e f = record {

@@ -1,7 +1,7 @@
 -- Groups numbered one after another, in the reverse of an order in which a walk over the reversed edges leaves the tasks.
 use Rattle.std.proofs.Common.{ℕ, suc, ◌≡◌, ◌+◌, ◌<◌, ◌≤◌, ◌⊎◌, ◌↔◌, inl, inr, List, [], ◌∷◌, ◌++◌, length, Bool, true, false, get_or, set, Contains, refl, sym, subst, ap, ◌∙◌, arith, length-set, append_assoc, get_or-set_same, get_or-set_other}
 use Rattle.std.proofs.lemmas.Bool.{cases_eq, cases_lt, false≢true}
-use Rattle.std.proofs.lemmas.List.{append-nil, get_or_past, length_push, length-append}
+use Rattle.std.proofs.lemmas.List.{get_or_past, length_push, length-append}
 use Rattle.std.proofs.lemmas.List.Elements.{Contains-push, Contains-push_cases, Contains-append_left, Contains-append_right, Contains-append_cases}
 use Rattle.htn_base.specs.Different.{AreDifferent}
 use Rattle.plan_model.specs.task_networks.Spelling.{numbers}
@@ -206,19 +206,6 @@ module _ (rows back : List (List ℕ)) (order : List ℕ) where
     pub small : (t : ℕ) → IsNumbered groups t → number groups t + length left < length rows
     pub not_up : (u v : ℕ) → IsNumbered groups u → Leads rows u v → number groups v ≤ number groups u
     pub grouped : (u v : ℕ) → IsNumbered groups u → IsNumbered groups v → (number groups u ≡ number groups v) ↔ (Reaches rows u v × Reaches rows v u)
-
-  pub grouped_none : (groups : Groups) → IsFinishingOrder back order → length groups.walk.marks.items ≡ length rows → length groups.numbers.items ≡ length rows → groups.walk.work.items ≡ []
-      → ((t : ℕ) → IsNumbered groups t → ⊥) → AreGrouped order groups
-  grouped_none groups f a b c none = record {
-    finishing = f;
-    gone = [];
-    parts = sym (append-nil order);
-    numbered = λ t k. absurd (not-in_empty t k);
-    ready = record { marks = a; numbers = b; closed = λ u v m l. absurd (none u m); nothing = c };
-    small = λ t m. absurd (none t m);
-    not_up = λ u v m l. absurd (none u m);
-    grouped = λ u v m k. absurd (none u m);
-  }
 
   pub no_more_roots : AreReversed rows back → IsFinishingOrder back order → length order ≤ length rows
   no_more_roots reversed f =

@@ -62,9 +62,6 @@ pub marked_below : (marks : List Bool) (k : ℕ) (only : Option ℕ) → IsMarke
 marked_below marks k None m h = λ j a. elim (cases_lt j k) [ inl l ↦ h j l | inr g ↦ subst (IsMarked marks) (omega arith) m ]
 marked_below marks k (Some i) m (a, free, h) = (omega arith, free, λ j b d. elim (cases_lt j k) [ inl l ↦ h j l d | inr g ↦ subst (IsMarked marks) (omega arith) m ])
 
-pub unmarked_below : (marks : List Bool) (k : ℕ) → (IsMarked marks k → ⊥) → IsOnlyBelow marks k None → IsOnlyBelow marks (k + 1) (Some k)
-unmarked_below marks k free h = (omega arith, free, λ j b d. elim (cases_lt j k) [ inl l ↦ h j l | inr g ↦ absurd (d (omega arith)) ])
-
 pub two_unmarked : (marks : List Bool) (k i : ℕ) → k < length marks → (IsMarked marks k → ⊥) → IsOnlyBelow marks k (Some i) → (n : ℕ) → IsOnlyUnmarked marks n → ⊥
 two_unmarked marks k i l free (a, other, h) n (b, c, others) = elim (cases_eq k n) [
   | inl e ↦ other (others i (omega arith) (λ f. absurd (omega arith)))

@@ -40,9 +40,6 @@ pub record AreLastsBelow (methods : List MethodPlan) (k : ℕ) (lasts : List (Op
   pub room : length lasts ≡ k
   pub each : (m : ℕ) (plan : MethodPlan) (last : Option ℕ) → slice_get methods m ≡ Some plan → slice_get lasts m ≡ Some last → IsLastOf plan last
 
-pub lasts_none : (methods : List MethodPlan) → AreLastsBelow methods 0 []
-lasts_none methods = record { room = refl; each = λ m plan last e f. absurd cc }
-
 pub lasts_more : (methods : List MethodPlan) (k : ℕ) (lasts : List (Option ℕ)) (plan : MethodPlan) (last : Option ℕ) → slice_get methods k ≡ Some plan → IsLastOf plan last → AreLastsBelow methods k lasts → AreLastsBelow methods (k + 1) (lasts ++ last ∷ [])
 lasts_more methods k lasts plan last is l h = record {
   room = length_push lasts last ∙ ap (λ n. n + 1) h.room;

@@ -57,12 +57,6 @@ module _ (c : Compiled) (edges : List Declared.Edge) where
     pub room : length ends ≡ k
     pub each : (j : ℕ) (e : Declared.Edge) (n : Ends) → slice_get edges j ≡ Some e → slice_get ends j ≡ Some n → IsEndsOf c.methods e n
 
-  pub ends_none : (ends : List Ends) → ends ≡ [] → AreEndsUpTo 0 ends
-  ends_none ends empty = record {
-    room = ap length empty;
-    each = λ j e n f g. (let l = slice_get_within ends j n g in let m = ap length empty in absurd (omega arith));
-  }
-
   pub ends_more : (k : ℕ) (ends new : List Ends) (e : Declared.Edge) (n : Ends) (methods : List MethodPlan) → methods ≡ c.methods → slice_get edges k ≡ Some e → IsEndsOf methods e n → AreEndsUpTo k ends → new ≡ ends ++ n ∷ [] → AreEndsUpTo (k + 1) new
   ends_more k ends new e n methods same is made h f = record {
     room = ap length f ∙ (length_push ends n ∙ ap (λ z. z + 1) h.room);

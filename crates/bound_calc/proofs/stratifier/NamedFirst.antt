@@ -5,7 +5,7 @@ use Rattle.std.proofs.lemmas.Option.{same_Some, slice_get_within, slice_get-get_
 use Rattle.plan_model.specs.task_networks.Strata as Walks
 use Rattle.plan_model.specs.declared.values.Compiled.{Compiled}
 use Rattle.plan_model.specs.plan_meaning.Network.{top_task}
-use Rattle.plan_model.specs.plan_meaning.Schemas.{Schema, task}
+use Rattle.plan_model.specs.plan_meaning.Schemas.{task}
 use Rattle.plan_model.specs.plan_meaning.Strata.{Edge, AreEdges, IsBad, IsTailRecursive, source, target}
 use Rattle.plan_model.proofs.plan_meaning.BoundParts.{there_at}
 use Rattle.bound_calc.specs.declared.stratifier.edge.Edge as Declared
@@ -14,6 +14,7 @@ use Rattle.bound_calc.specs.stratifier.Listed.{edge_of}
 use Rattle.bound_calc.specs.stratifier.Bad.{AreBadMarks}
 use Rattle.bound_calc.specs.stratifier.NamedCycle.{AreGroupNumbers, IsNamed}
 use Rattle.bound_calc.specs.stratifier.NamedSearch.{AreEnds, ClosesAt, IsClosing, IsCycleAt}
+use Rattle.slot_machine.proofs.bound_laws.ProblemEdges.{over}
 use Rattle.bound_calc.proofs.stratifier.NamedWalk.{place_of, at_place, mapped_at, slice_get-mapped, IsCut, cut_there}
 
 module _ (groups : List ℕ) (ends : List Ends) (bad : List Bool) where
@@ -40,11 +41,6 @@ module _ (c : Compiled) (edges : List Declared.Edge) (are : AreEdges c (map edge
   abbrev all : List Edge
   all = map edge_of edges
 
-  -- a walk over one list of all edges is one over each
-  over : (list other : List Edge) → AreEdges c list → AreEdges c other → (x y : Schema) (walk : List Edge) → Walks.IsWalk (source c) (target c) list x walk y → Walks.IsWalk (source c) (target c) other x walk y
-  over list other a b x y [] e = e
-  over list other a b x y (d ∷ walk) v = (v.0, (b.all d).1 ((a.all d).0 v.1), over list other a b (target c d) y walk v.2)
-
   -- a bad edge from whose end a walk leads back
   pub closing_is : (k : ℕ) → IsClosing groups ends bad k → (e : Declared.Edge) × (slice_get edges k ≡ Some e) × IsBad c (edge_of e) × Walks.Reaches (source c) (target c) all (target c (edge_of e)) (source c (edge_of e))
   closing_is k (n, is, mark, same) =
@@ -61,7 +57,7 @@ module _ (c : Compiled) (edges : List Declared.Edge) (are : AreEdges c (map edge
         (
           walk,
           subst (λ z. Walks.IsWalk (source c) (target c) all z walk (source c (edge_of e))) (sym (told.to k e n at is))
-              (subst (λ z. Walks.IsWalk (source c) (target c) all (task n.to) walk z) (sym (told.from k e n at is)) (over list all a are (task n.to) (task n.from) walk w)),
+              (subst (λ z. Walks.IsWalk (source c) (target c) all (task n.to) walk z) (sym (told.from k e n at is)) (over c list all a are (task n.to) (task n.from) walk w)),
         ),
       )
 

@@ -23,6 +23,7 @@ use Rattle.bound_calc.specs.stratifier.NamedSearch.{AreEnds, AreEndsBelow, IsSou
 use Rattle.bound_calc.specs.stratifier.NamedCycle.{AreGroupNumbers}
 use Rattle.bound_calc.specs.stratifier.Stratified.{number_in, number_of, rank_by, AreStrata, IsStratified}
 use Rattle.bound_calc.specs.stratifier.Conditions.{IsSmallCompiled, IsNumbered}
+use Rattle.slot_machine.proofs.bound_laws.ProblemEdges.{over}
 use Rattle.bound_calc.proofs.stratifier.Grouped.{leads_within}
 use Rattle.bound_calc.proofs.stratifier.Lasts.{in_map}
 use Rattle.bound_calc.proofs.stratifier.Walks.{child_at}
@@ -31,15 +32,6 @@ use Rattle.bound_calc.proofs.stratifier.Walks.{child_at}
 pub record AreTargetsBelow (count : ℕ) (ends : List Ends) (k : ℕ) (lists : List (List ℕ)) : Type 0 where
   pub room : length lists ≡ count
   pub each : (s t : ℕ) → Leads lists s t ↔ IsSourceInto (take k ends) s t
-
-pub targets_none : (count : ℕ) (ends : List Ends) (lists : List (List ℕ)) → length lists ≡ count → ((i : ℕ) → get_or lists i [] ≡ []) → AreTargetsBelow count ends 0 lists
-targets_none count ends lists room empty = record {
-  room = room;
-  each = λ s t. (
-    λ c. absurd (not-in_empty t (subst (λ z. Contains z t) (empty s) c)),
-    λ h. absurd (let l = h.1.1 in omega arith),
-  );
-}
 
 pub targets_more : (count : ℕ) (ends : List Ends) (k : ℕ) (lists more : List (List ℕ)) (e : Ends) → k < length ends → e ≡ get_or ends k e → e.from < count
     → AreTargetsBelow count ends k lists → more ≡ set lists e.from (get_or lists e.from [] ++ e.to ∷ []) → AreTargetsBelow count ends (k + 1) more
@@ -184,12 +176,6 @@ ends_within ends rows below a u v l =
     let (n, (k, b, f), from, to) = (a u v).0 l in
     let h = below k n b in
     subst (λ z. z < length rows) (ap (λ (z : Ends). z.to) f ∙ to) h.1
-
--- a walk over one list of all edges is one over each such list
-over : (c : Compiled) (list edges : List Edge) → AreEdges c list → AreEdges c edges → (x y : Schema) (walk : List Edge)
-    → Walks.IsWalk (source c) (target c) list x walk y → Walks.IsWalk (source c) (target c) edges x walk y
-over c list edges l are x y [] e = e
-over c list edges l are x y (d ∷ walk) v = (v.0, (are.all d).1 ((l.all d).0 v.1), over c list edges l are (target c d) y walk v.2)
 
 -- the tasks that an edge goes from and to have numbers up to the top task's
 ends_of_edge : (c : Compiled) → IsSmallCompiled c → (e : Edge) → IsEdge c e → (u : ℕ) × (t : ℕ) × (source c e ≡ task u) × (target c e ≡ task t) × (u ≤ top_task c) × (t ≤ top_task c)
