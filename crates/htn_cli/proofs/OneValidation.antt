@@ -1,6 +1,6 @@
 -- A validation has one answer at most: three texts have one least fault, or spell one list of steps, and the values that two of them spell
 -- have the same plans and the same failing step of a list.
-use Rattle.std.proofs.Common.{ℕ, ◌≡◌, ◌<◌, ◌≤◌, List, [], ◌++◌, length, slice_get, Option, Some, codes, decimal, refl, sym, ap, ◌∙◌, subst, arith}
+use Rattle.std.proofs.Common.{ℕ, ◌≡◌, ◌<◌, ◌≤◌, List, ◌++◌, length, slice_get, Option, Some, codes, decimal, refl, sym, ap, ◌∙◌, subst, arith}
 use Rattle.text_forms.specs.Faults.{fault}
 use Rattle.hddl_reader.specs.declared.sections.Language.TheVariants as language
 use Rattle.outside_io.specs.Files.{FilesState}

@@ -30,26 +30,7 @@ module _ (p : Pddl) (most : ℕ) (plan : List GroundAction) where
     pub next : number ≡ length taken + 1
     pub run_is : HasTaken p taken run
 
-  pub none-taken : (steps : List GroundAction) (run : Run) → length plan ≤ most → steps ≡ plan → HasTaken p [] run → IsCheckedTo steps 1 run
-  none-taken steps run few e h = record { few = few; taken = []; whole = sym e; next = omega arith; run_is = h }
-
-  -- the number is one of a step, or the one behind all
-  pub number-fits : (steps : List GroundAction) (number : ℕ) (run : Run) → IsCheckedTo steps number run → number ≤ most + 1
-  number-fits steps number run c =
-      let a = c.few in
-      let b = c.next in
-      let d = ap length c.whole ∙ length-append c.taken steps in
-      omega arith
-
   module _ (steps more : List GroundAction) (step : GroundAction) (number : ℕ) (old new : Run) (c : IsCheckedTo steps number old) (e : steps ≡ step ∷ more) where
-    pub number-next : number ≤ most
-    number-next =
-        let a = c.few in
-        let b = c.next in
-        let d = ap length c.whole ∙ length-append c.taken steps in
-        let f = ap length e in
-        omega arith
-
     pub one-taken : Takes step old new None → IsCheckedTo more (number + 1) new
     one-taken t =
         let b = c.next in

@@ -1,6 +1,6 @@
-use Rattle.std.proofs.Common.{◌≡◌, ℕ, ◌+◌, ◌≤◌, List, [], ◌++◌, length, take, drop, Option, Some, None, refl, sym, ap, ◌∙◌, append_assoc, arith}
+use Rattle.std.proofs.Common.{◌≡◌, ℕ, ◌+◌, ◌≤◌, List, [], ◌++◌, length, take, drop, Option, Some, None, refl, sym, ap, ◌∙◌, append_assoc}
 use Rattle.std.proofs.Math.Seq.{take-add}
-use Rattle.std.proofs.lemmas.List.{append-nil, take-append-drop, take_all}
+use Rattle.std.proofs.lemmas.List.{append-nil, take-append-drop}
 use Rattle.outside_io.specs.Count.{Rises}
 use Rattle.outside_io.specs.Sink.{SinkState, WriteRefused}
 use Rattle.outside_io.specs.declared.sink.WriteError.{WriteError}
@@ -22,9 +22,6 @@ pub record IsSentTo (text : List ℕ) (done : ℕ) (old new : SinkState) : Type 
   pub faults : new.faults ≡ old.faults
   pub refused : new.refused ≡ old.refused
 
-pub IsSentTo-start : (text : List ℕ) (old : SinkState) → IsSentTo text 0 old old
-IsSentTo-start text old = record { within = omega arith; written = sym (with_more-nil old.written); faults = refl; refused = refl }
-
 pub IsSentTo-next : (text : List ℕ) (done count : ℕ) (old mid new : SinkState) → IsSentTo text done old mid → TakesNext text done mid new count → IsSentTo text (done + count) old new
 IsSentTo-next text done count old mid new sent next =
     record {
@@ -33,10 +30,6 @@ IsSentTo-next text done count old mid new sent next =
       faults = next.faults ∙ sent.faults;
       refused = next.refused ∙ sent.refused;
     }
-
-pub TakesWhole-sent : (text : List ℕ) (done : ℕ) (old new : SinkState) → length text ≤ done → IsSentTo text done old new → TakesWhole text old new
-TakesWhole-sent text done old new all sent =
-    record { written = sent.written ∙ ap (with_more old.written) (take_all done text all); faults = sent.faults; refused = sent.refused }
 
 part_sent : (text : List ℕ) (done : ℕ) (old new : SinkState) → new.written ≡ with_more old.written (take done text) → TakesPart text old new
 part_sent text done old new written = record { taken = take done text; left = drop done text; parts = sym (take-append-drop done text); written = written }

@@ -1,4 +1,4 @@
-ghost use Rattle.std.specs.Prelude.{◌≡◌, ◌≤◌, ◌<◌, ◌-◌, ◌^◌, [], length, IfOk, IfErr};
+ghost use Rattle.std.specs.Prelude.{◌≤◌, ◌<◌, ◌-◌, ◌^◌, [], length, IfOk, IfErr};
 ghost use Rattle.ground_state.specs.Runs.{IsRunnable, HasTaken};
 ghost use Rattle.plan_text.specs.Plans.{RefusesPlan};
 ghost use Rattle.htn_cli.specs.Checks.{IsChecked, Judges};

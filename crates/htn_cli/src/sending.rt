@@ -1,4 +1,4 @@
-ghost use Rattle.std.specs.Prelude.{◌+◌, ◌<◌, IfOk, IfErr, OnOk, length, take};
+ghost use Rattle.std.specs.Prelude.{◌<◌, IfOk, IfErr, OnOk, length};
 ghost use Rattle.outside_io.specs.Seen.{Seen};
 ghost use Rattle.outside_io.specs.Sink.{WriteRefused};
 ghost use Rattle.htn_cli.specs.Sent.{StopsAt, TakesNext, TakesWhole};

@@ -1,4 +1,4 @@
-use Rattle.std.proofs.Common.{◌≡◌, ap, subst}
+use Rattle.std.proofs.Common.{◌≡◌, ap, rules, subst}
 use Rattle.outside_io.specs.command_words.Names.{words_of}
 use Rattle.outside_io.specs.command_words.Words.{Asks, translation_of, request_of}
 use Rattle.outside_io.specs.declared.command_words.asking.Asked.TheVariants as asked
@@ -10,3 +10,6 @@ translate-requires-clause-numeral g c =
     let is : c.in-Some-Translation.field-0 ≡ asked.Translation c.in-Some-Translation.asked = c.in-Some-Translation.field-0-is in
     let asks = subst (Asks (words_of c.args.words.now)) (ap request_of is) c.in-Some-Translation.ensures.asked in
     numeral_is (words_of c.args.words.now) (translation_of c.in-Some-Translation.asked) asks
+
+pub returns-in-Some-Bound-clause-refused : goal.returns-in-Some-Bound-clause-refused
+returns-in-Some-Bound-clause-refused g c = search rules

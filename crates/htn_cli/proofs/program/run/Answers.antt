@@ -1,8 +1,8 @@
-use Rattle.std.proofs.Common.{sym, ◌∙◌, inl, inr, ⊎_elim, arith}
+use Rattle.std.proofs.Common.{sym, ◌∙◌, inl, inr, ⊎_elim, arith, rules}
 use Rattle.outside_io.specs.command_words.Names.{words_of}
 use Rattle.htn_cli.proofs.Texts.{Told-nothing}
 use Rattle.htn_cli.proofs.Headlines.{headline_done, bound_done, plan_done, finding_refused}
-use Rattle.htn_cli.proofs.Endings.{answered_refused, answered_done, past_all, past_slots, past_not_done, refused_for, write_fault, read_fault, calm}
+use Rattle.htn_cli.proofs.Endings.{never_done, answered_refused, answered_done, past_all, past_slots, past_not_done, refused_for, write_fault, read_fault, calm}
 use Rattle.htn_cli.proofs.program.run.Goals as goal
 
 -- what was asked for was done
@@ -42,6 +42,25 @@ pub returns-in-Err-clause-answered : goal.returns-in-Err-clause-answered
 returns-in-Err-clause-answered g c =
     λ of. answered_refused (words_of c.args.words.now) (g.F.Files.state c.args.files.now) (g.F.Files.state c.act.new.files) (g.O.Sink.state c.args.out.now) (g.O.Sink.state c.act.new.out) _ c.in-Err.refusal _ _ c.status-status.ensures c.in-Err.ensures.refused c.tell.ensures.told of
 
+pub returns-in-Err-clause-refused : goal.returns-in-Err-clause-refused
+returns-in-Err-clause-refused g c = λ _. record { refusal = c.in-Err.refusal; status_is = c.status-status.ensures; left = c.in-Err.ensures.refused; told = c.tell.ensures.told }
+
+pub returns-in-Err-clause-headline : goal.returns-in-Err-clause-headline
+returns-in-Err-clause-headline g c = λ e. absurd (never_done c.in-Err.refusal (sym c.status-status.ensures ∙ e))
+
+pub returns-in-Err-clause-bound : goal.returns-in-Err-clause-bound
+returns-in-Err-clause-bound g c = λ e. absurd (never_done c.in-Err.refusal (sym c.status-status.ensures ∙ e))
+
+pub returns-in-Err-clause-plan : goal.returns-in-Err-clause-plan
+returns-in-Err-clause-plan g c = λ e. absurd (never_done c.in-Err.refusal (sym c.status-status.ensures ∙ e))
+
+pub returns-in-Err-clause-quiet : goal.returns-in-Err-clause-quiet
+returns-in-Err-clause-quiet g c = λ e. absurd (never_done c.in-Err.refusal (sym c.status-status.ensures ∙ e))
+
+pub returns-in-Err-clause-read_fault : goal.returns-in-Err-clause-read_fault
+returns-in-Err-clause-read_fault g c =
+    λ e. read_fault (g.F.Files.state c.args.files.now) (g.F.Files.state c.act.new.files) (g.O.Sink.state c.args.out.now) (g.O.Sink.state c.act.new.out) (words_of c.args.words.now) c.in-Err.refusal c.in-Err.ensures.refused (sym c.status-status.ensures ∙ e)
+
 pub returns-in-Err-clause-finding : goal.returns-in-Err-clause-finding
 returns-in-Err-clause-finding g c =
     λ e. finding_refused (words_of c.args.words.now) (g.F.Files.state c.args.files.now) (g.F.Files.state c.act.new.files) (g.O.Sink.state c.args.out.now) (g.O.Sink.state c.act.new.out) c.in-Err.refusal c.in-Err.ensures.refused (sym c.status-status.ensures ∙ e) _ _ c.tell.ensures.told
@@ -61,3 +80,18 @@ returns-in-Err-clause-past_slots g c =
 pub returns-in-Err-clause-write_fault : goal.returns-in-Err-clause-write_fault
 returns-in-Err-clause-write_fault g c =
     λ e. write_fault (g.F.Files.state c.args.files.now) (g.F.Files.state c.act.new.files) (g.O.Sink.state c.args.out.now) (g.O.Sink.state c.act.new.out) (words_of c.args.words.now) c.in-Err.refusal c.in-Err.ensures.refused (sym c.status-status.ensures ∙ e)
+
+pub returns-in-Err-clause-untouched : goal.returns-in-Err-clause-untouched
+returns-in-Err-clause-untouched g c = search rules
+
+pub returns-in-Err-clause-words : goal.returns-in-Err-clause-words
+returns-in-Err-clause-words g c = search rules
+
+pub returns-in-Err-clause-failed_get : goal.returns-in-Err-clause-failed_get
+returns-in-Err-clause-failed_get g c = search rules
+
+pub returns-in-Err-clause-failed_put : goal.returns-in-Err-clause-failed_put
+returns-in-Err-clause-failed_put g c = search rules
+
+pub returns-in-Err-clause-failed_write : goal.returns-in-Err-clause-failed_write
+returns-in-Err-clause-failed_write g c = search rules

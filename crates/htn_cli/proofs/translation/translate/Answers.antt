@@ -1,7 +1,7 @@
 use Rattle.std.proofs.lemmas.Result.{err_from_is_err_and}
 use Rattle.outside_io.specs.command_words.Words.{translation_of}
 use Rattle.htn_cli.proofs.Results.{on_ok_both, if_err_too}
-use Rattle.htn_cli.proofs.Leavings.{soundly, leaves_given, leaves_made, achieves, leaves_delivery}
+use Rattle.htn_cli.proofs.Leavings.{soundly, leaves_unread, is_within, leaves_given, leaves_made, achieves, leaves_delivery}
 use Rattle.htn_cli.proofs.translation.translate.Goals as goal
 
 pub returns-in_err-given-clause-refused : goal.returns-in_err-given-clause-refused
@@ -31,3 +31,10 @@ returns-clause-refused g c =
     if_err_too c.deliver.result
     (leaves_delivery (translation_of c.args.asked.now) (g.F.Files.state c.args.files.now) (g.O.Sink.state c.args.out.now) c.in_ok-compiled.compiled (g.F.Files.state c.problem_from.new.files) c.in_ok-compiled.ensures.problem c.in_ok-given.given c.in_ok-given.ensures.given c.in_ok-made.made c.in_ok-made.ensures.made (g.F.Files.state c.deliver.new.files) (g.O.Sink.state c.deliver.new.out))
     c.deliver.ensures.refused
+
+pub returns-in_err-compiled-clause-refused : goal.returns-in_err-compiled-clause-refused
+returns-in_err-compiled-clause-refused g c =
+    let p = err_from_is_err_and c.from_residual-in_err-compiled.result c.from_residual-in_err-compiled.ensures.1 in
+    let r = translation_of c.args.asked.now in
+    let old = g.F.Files.state c.args.files.now in
+    rw (p.1, p.2) (leaves_unread old (g.F.Files.state c.problem_from.new.files) (g.O.Sink.state c.args.out.now) r (is_within r old c.in_ok-given.given c.in_ok-given.ensures.given) _ c.in_err-compiled.ensures.refused)

@@ -19,6 +19,9 @@ returns-in-Ok-TooMany-clause-refused c =
     too_many_for c.args.value.now c.args.plan.now (validation_inputs (words.validation_of c.args.asked.now)) c.in-Ok-TooMany.count
     (subst (IsChecked c.args.value.now c.args.plan.now most_steps) c.in-Ok-TooMany.field-0-is c.in-Ok-TooMany.ensures.checked)
 
+pub returns-in-Ok-Fails-clause-plan : goal.returns-in-Ok-Fails-clause-plan
+returns-in-Ok-Fails-clause-plan c = tt
+
 pub returns-in-Ok-Fails-clause-refused : goal.returns-in-Ok-Fails-clause-refused
 returns-in-Ok-Fails-clause-refused c =
     fails_for c.args.value.now c.args.plan.now (validation_inputs (words.validation_of c.args.asked.now)) c.in-Ok-Fails.step c.in-Ok-Fails.why
