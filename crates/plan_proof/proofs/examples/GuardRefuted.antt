@@ -1,5 +1,6 @@
 -- Of m, which takes a block and paints it, where paint takes red ones: no front is spelled by a list that applies m to b1, a block that isn't red.
 use Rattle.std.proofs.Common.{ℕ, zero, suc, ◌≡◌, List, [], ◌∷◌, ◌++◌, map, length, refl, ap, sym, subst, ◌∙◌, arith}
+use Rattle.std.proofs.lemmas.List.{nil_from_length}
 use Rattle.std.specs.Prelude.{codes, drop}
 use Rattle.htn_base.specs.Escapes.{slot_word}
 use Rattle.plan_model.specs.declared.options.Checks.TheVariants.{Leaf}
@@ -79,11 +80,7 @@ is_b1 (v ∷ w ∷ values) e = absurd (let f : 1 ≡ suc (suc (length (map (obje
 
 -- the one child of m is its heir
 no_new : (g : GroundMethod) → g.number ≡ 1 → (new : List ℕ) → length new ≡ length (others N g) → new ≡ []
-no_new g one new e = go new (e ∙ subst (λ n. length (others N (record { number = n; values = g.values })) ≡ 0) (sym one) refl)
-  where
-    go : (new : List ℕ) → length new ≡ 0 → new ≡ []
-    go [] e = refl
-    go (n ∷ new) e = absurd (omega arith)
+no_new g one new e = nil_from_length new (e ∙ subst (λ n. length (others N (record { number = n; values = g.values })) ≡ 0) (sym one) refl)
 
 not_with_b1 : (h : ℕ) (new : List ℕ) (g : GroundMethod) → paints_b1 ≡ step_of guarded (apply h new g) → length new ≡ length (others N g) → IsGroundMethod guarded g → ⊥
 not_with_b1 h new g e enough ground = not_b1 (subst (IsGroundMethod guarded) same ground)

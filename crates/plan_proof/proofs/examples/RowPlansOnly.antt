@@ -1,5 +1,6 @@
 -- Nothing on top: the start alone is the only plan of every problem that is printed for it, however many its slots are.
 use Rattle.std.proofs.Common.{ℕ, zero, suc, ◌≡◌, ◌⊎◌, inl, inr, false, None, List, [], ◌∷◌, map, length, Some, slice_get, refl, ap, sym, subst, ◌∙◌, arith}
+use Rattle.std.proofs.lemmas.List.{nil_from_length}
 use Rattle.std.specs.Prelude.{codes}
 use Rattle.plan_model.specs.declared.options.Checks.TheVariants.{Leaf}
 use Rattle.plan_model.specs.declared.schemas.MethodPlan.{MethodPlan}
@@ -62,10 +63,6 @@ module _ where
       let v = no_values g n ground in
       λ i. record { number = n i; values = v i }
 
-  none_new : (new : List ℕ) → length new ≡ 0 → new ≡ []
-  none_new [] e = refl
-  none_new (n ∷ new) e = absurd (omega arith)
-
 abbrev applied : ℕ → List ℕ → GroundMethod → Act N
 applied h new g = apply h new g
 
@@ -95,7 +92,7 @@ module _ (b : ℕ) where
       same = is_top g r.0.holds.1 r.0.ground
 
       no_new : new ≡ []
-      no_new = none_new new (r.0.enough ∙ ap (λ z. length (others N z)) same)
+      no_new = nil_from_length new (r.0.enough ∙ ap (λ z. length (others N z)) same)
 
       first : applied h new g ≡ applied 1 [] (uses 0)
       first = let e = r.0.holds.0 in λ i. applied (e i) (no_new i) (same i)

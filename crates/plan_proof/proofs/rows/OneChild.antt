@@ -1,5 +1,6 @@
 -- Runs through methods with one child: slot 1 alone holds something, from step to step, since the child is the heir.
 use Rattle.std.proofs.Common.{ℕ, zero, suc, ◌≡◌, inl, inr, List, [], ◌∷◌, filter, length, not, Some, slice_get, ap, sym, subst, ◌∙◌, arith}
+use Rattle.std.proofs.lemmas.List.{nil_from_length}
 use Rattle.plan_model.specs.task_networks.Net.{Net}
 use Rattle.plan_model.specs.task_networks.Spelling.{Act, run, apply, others, numbers, is_heir}
 use Rattle.slot_machine.specs.Machine.{SlotState, start, after_act, May, Runs, end_of, with_heir}
@@ -23,17 +24,13 @@ module _ (N : Net) where
     no_others : others N m ≡ []
     no_others = λ i. filter (λ k. not (is_heir (one.heir i) k)) (numbers 0 (length (one.works i)))
 
-    none_new : (new : List ℕ) → length new ≡ 0 → new ≡ []
-    none_new [] e = λ i. []
-    none_new (x ∷ new) e = absurd (omega arith)
-
     -- nothing else may be done
     is_applied : (s : SlotState N) → HoldsAlone s (N.head m) → (a : Act N) → May N s a → a ≡ apply 1 [] m
     is_applied s h (run x v) may = absurd (compound (subst N.IsSimple (h.held x v may.holds).1 may.simple))
     is_applied s h (apply x new g) may =
         let k = h.held x (N.head g) may.holds in
         let e = only g may.ground k.1 in
-        let f = none_new new (may.enough ∙ (ap (λ z. length (others N z)) e ∙ ap length no_others)) in
+        let f = nil_from_length new (may.enough ∙ (ap (λ z. length (others N z)) e ∙ ap length no_others)) in
         λ i. apply (k.0 i) (f i) (e i)
 
     -- and then slot 1 alone holds the child

@@ -12,6 +12,7 @@ use Rattle.plan_texts.specs.PrintedTexts.{domain_text, problem_text}
 use Rattle.plan_texts.specs.Alike.{child_said, method_said}
 use Rattle.plan_texts.proofs.Members.{length-map, each-has, contains-has}
 use Rattle.plan_texts.proofs.Places.{each-at}
+use Rattle.plan_texts.proofs.SoundProblems.{each-of}
 use Rattle.plan_texts.proofs.OneOrder.{one-order}
 use Rattle.plan_texts.proofs.UniqueHddl.{hddl_alike}
 use Rattle.plan_model.specs.declared.options.Checks.{Checks}
@@ -32,7 +33,6 @@ use Rattle.plan_proof.proofs.machine.PrintedMeans.{printed_faithful, faithful_te
 use Rattle.plan_proof.specs.Same.{AreSameButNames}
 use Rattle.plan_texts.specs.Together.{Together}
 use Rattle.plan_texts.proofs.Together.{maps-length, together-of_maps, together-each}
-use Rattle.plan_proof.proofs.values.Pairing.{contains-each}
 use Rattle.plan_proof.proofs.values.TypeNumbers.{AreApart, word-within, word-once, unions-apart, plain-some}
 use Rattle.plan_proof.proofs.values.SameSound.{sound_too}
 use Rattle.plan_proof.proofs.values.SamePlans.{plans-both}
@@ -87,7 +87,7 @@ module _ (c d : Hddl) (same : AreSameButNames c d) where
   all_same = (same.alike.top, together-of_maps (method_said (hddl_words c)) (method_said (hddl_words d)) c.methods d.methods same.alike.methods)
 
   ordered_too : AreOrdered d → AreOrdered c
-  ordered_too o = λ s h. each-has IsOrdered (c.top ∷ c.methods) s (together-each IsSame IsOrdered IsOrdered one (c.top ∷ c.methods) (d.top ∷ d.methods) all_same (contains-each IsOrdered (d.top ∷ d.methods) o)) (contains-has (c.top ∷ c.methods) s h)
+  ordered_too o = λ s h. each-has IsOrdered (c.top ∷ c.methods) s (together-each IsSame IsOrdered IsOrdered one (c.top ∷ c.methods) (d.top ∷ d.methods) all_same (each-of IsOrdered (d.top ∷ d.methods) o)) (contains-has (c.top ∷ c.methods) s h)
     where
       one : (s t : MethodSchema) → IsSame s t → IsOrdered t → IsOrdered s
       one s t e k =

@@ -1,10 +1,9 @@
 -- Items at the places of lists; increasing lists.
-use Rattle.std.proofs.Common.{ℕ, zero, suc, ◌≡◌, ◌<◌, ◌⊎◌, inl, inr, List, [], ◌∷◌, map, slice_get, Some, Contains, refl, ap, sym, subst, ◌∙◌, arith}
+use Rattle.std.proofs.Common.{ℕ, zero, suc, ◌≡◌, ◌<◌, ◌⊎◌, inl, inr, List, [], ◌∷◌, map, slice_get, Some, Contains, refl, ap, sym, ◌∙◌, arith}
 use Rattle.std.specs.List.{AllPairs}
 use Rattle.std.specs.List.Sorted.{IsStrictlyIncreasing}
 use Rattle.std.proofs.lemmas.List.Kept.{AllPairs-from_increasing}
 use Rattle.plan_model.proofs.task_networks.Lists.{Contains-here, Contains-later, head_or_tail, not-in_empty}
-use Rattle.plan_texts.specs.Types.{EachIs}
 
 -- at one place
 pub got : {X Y Z : Type 0} (u : X → Z) (w : Y → Z) (xs : List X) (ys : List Y) → map u xs ≡ map w ys → (k : ℕ) (y : Y) → slice_get ys k ≡ Some y → (x : X) × (slice_get xs k ≡ Some x) × (u x ≡ w y)
@@ -13,15 +12,6 @@ got u w [] (z ∷ ys) e k y f = cc
 got u w (x ∷ xs) [] e k y f = cc
 got u w (x ∷ xs) (z ∷ ys) e zero y f = let g : z ≡ y = cc in let h : u x ≡ w z = cc in (x, refl, h ∙ ap w g)
 got u w (x ∷ xs) (z ∷ ys) e (suc k) y f = got u w xs ys (cc) k y f
-
-pub contains-each : {X : Type 0} (P : X → Type 0) (xs : List X) → ((x : X) → Contains xs x → P x) → EachIs P xs
-contains-each P [] h = tt
-contains-each P (x ∷ xs) h = (h x (Contains-here x xs), contains-each P xs (λ y c. h y (Contains-later x xs y c)))
-
-pub each-got : {X : Type 0} (P : X → Type 0) (xs : List X) (k : ℕ) (x : X) → EachIs P xs → slice_get xs k ≡ Some x → P x
-each-got P [] k x e f = cc
-each-got P (y ∷ xs) zero x e f = let g : y ≡ x = cc in subst P g e.0
-each-got P (y ∷ xs) (suc k) x e f = each-got P xs k x e.1 f
 
 -- strictly increasing lists with the same members are the same
 above : (x : ℕ) (xs : List ℕ) → AllPairs (λ a b. a < b) (x ∷ xs) → (y : ℕ) → Contains xs y → x < y

@@ -22,7 +22,8 @@ use Rattle.slot_encoding.specs.SourceParts.{source_param, source_formula, source
 use Rattle.slot_encoding.specs.EncodedActions.{is_empty, is_empty_effect}
 use Rattle.plan_proof.specs.Same.{AreSameButNames}
 use Rattle.plan_texts.proofs.Together.{together-of_maps, together-maps, together-and}
-use Rattle.plan_proof.proofs.values.Pairing.{got, each-got}
+use Rattle.slot_encoding.proofs.places.Places.{each-at-some}
+use Rattle.plan_proof.proofs.values.Pairing.{got}
 use Rattle.plan_proof.proofs.values.TypeNumbers.{place, AreApart, place-at, word-once, all_apart}
 use Rattle.plan_proof.proofs.values.SaidFormulas.{put_param, put, params-put, formula-put, says_nothing, empty-said, said-empty}
 use Rattle.plan_proof.proofs.values.SaidEffects.{put_done, effect-put, does_nothing, empty-done}
@@ -50,8 +51,8 @@ module _ (c d : Hddl) (same : AreSameButNames c d) where
   to_in : IsSoundHddl c → IsSoundHddl d → (x t : ℕ) → InType c.types c.objects x t → InType d.types d.objects x t
   to_in sc sd x t (o, is, part) =
       let (y, is', e) = got (object_said (hddl_words d)) (object_said (hddl_words c)) d.objects c.objects (sym same.alike.objects) x o is in
-      let l = each-got (λ (z : Object). z.ty < length d.types.names) d.objects x y sd.objects is' in
-      let m = each-got (λ (z : Object). z.ty < length c.types.names) c.objects x o sc.objects is in
+      let l = each-at-some (λ (z : Object). z.ty < length d.types.names) d.objects x y sd.objects is' in
+      let m = each-at-some (λ (z : Object). z.ty < length c.types.names) c.objects x o sc.objects is in
       (y, is', subst (λ z. IsPart d.types z t) (object_type sd o y (sym e) m l) (subst (λ (z : Type 0). z) (part-same o.ty t) part))
 
 pub in_same : (c d : Hddl) → AreSameButNames c d → IsSoundHddl c → IsSoundHddl d → (x t : ℕ) → InType c.types c.objects x t ↔ InType d.types d.objects x t

@@ -1,6 +1,6 @@
 -- The number of a type, from its words.
-use Rattle.std.proofs.Common.{ℕ, zero, suc, ◌≡◌, ◌<◌, ◌&&◌, ◌||◌, Bool, true, false, cond, List, [], ◌∷◌, ◌++◌, map, length, get_or, refl, ap, sym, subst, ◌∙◌, arith}
-use Rattle.std.proofs.lemmas.Bool.{cond-true, cond-false}
+use Rattle.std.proofs.Common.{ℕ, zero, suc, ◌≡◌, ◌<◌, ◌&&◌, Bool, true, false, cond, List, [], ◌∷◌, ◌++◌, map, length, get_or, refl, ap, sym, subst, ◌∙◌, arith}
+use Rattle.std.proofs.lemmas.Bool.{cond-true, cond-false, or_parts}
 use Rattle.std.specs.List.{list_any}
 use Rattle.std.specs.Str.{bytes_eq}
 use Rattle.std.specs.Cmp.Lexicographic.{pointwise}
@@ -50,10 +50,6 @@ word-within (w ∷ ws) (suc t) n = let h = word-within ws t n in omega arith
 pub word-once : (ws : List Word) (s t : ℕ) → AreDifferent ws → s < length ws → t < length ws → word_at ws s ≡ word_at ws t → s ≡ t
 word-once ws s t d i j e = let f = first-different ws s d i in let g = first-different ws t d j in let h = ap (λ w. first_place w ws) e in cc
 
-or-false : (a b : Bool) → (a || b) ≡ false → (a ≡ false) × (b ≡ false)
-or-false false b e = (refl, e)
-or-false true b e = cc
-
 abbrev IsNew : List (List Word) → List Word → Type 0
 IsNew seen u = list_any (pointwise bytes_eq u) seen ≡ false
 
@@ -65,7 +61,7 @@ unions-apart seen (u ∷ us) = go (list_any (pointwise bytes_eq u) seen) refl (u
     parted : (xs : List (List Word)) → EachIs (IsNew (u ∷ seen)) xs → EachIs (λ y. pointwise bytes_eq y u ≡ false) xs × EachIs (IsNew seen) xs
     parted [] e = (tt, tt)
     parted (x ∷ xs) e =
-        let h = or-false (pointwise bytes_eq x u) (list_any (pointwise bytes_eq x) seen) e.0 in
+        let h = or_parts (pointwise bytes_eq x u) (list_any (pointwise bytes_eq x) seen) e.0 in
         let g = parted xs e.1 in
         ((h.0, g.0), (h.1, g.1))
 
