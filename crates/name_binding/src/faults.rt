@@ -1,19 +1,11 @@
 ghost use Rattle.std.specs.Prelude.{◌≡◌, [], ◌∷◌};
-ghost use Rattle.name_binding.specs.Spots.{noted, spot, is_in_front};
+ghost use Rattle.name_binding.specs.Spots.{noted, spot};
 
 /// The offset of a fault in bytes, and its code.
 #[derive(Clone, Copy)]
 pub struct Spot {
     pub at: u32,
     pub code: u16,
-}
-
-impl Spot {
-    fn is_in_front_of(&self, other: Spot) -> bool
-        ensures { result ≡ is_in_front self.now other }
-    {
-        self.at < other.at || (self.at == other.at && self.code < other.code)
-    }
 }
 
 /// The least of the faults that were noted, by offset and then by code.
@@ -34,10 +26,9 @@ impl Faults {
     pub fn note(&mut self, at: u32, code: u16)
         ensures noted { self.new.least ≡ noted self.old.least (spot at code ∷ []) }
     {
-        let found = Spot { at, code };
         match self.least {
-            Some(least) if !found.is_in_front_of(least) => {}
-            _ => self.least = Some(found),
+            Some(least) if least.at < at || (least.at == at && least.code <= code) => {}
+            _ => self.least = Some(Spot { at, code }),
         }
     }
 }

@@ -1,4 +1,4 @@
-ghost use Rattle.std.specs.Prelude.{◌≡◌, ◌++◌, [], map, length, All, IfOk, OnOk, nat_eq};
+ghost use Rattle.std.specs.Prelude.{◌≡◌, ◌++◌, map, IfOk, OnOk, nat_eq};
 ghost use Rattle.indexmap.specs.IndexSet.{insert_all};
 ghost use Rattle.name_binding.specs.Parents.{pairs_for, place_of, pairs_in_order, AreParentsOf};
 
@@ -30,23 +30,14 @@ fn parents_by_child(
 ) -> Result<Vec<IndexSet<u32>>, Memory>
     ensures parents { IfOk result (λ parents. AreParentsOf types.now listed.now parents.items) }
 {
-    let mut parents = no_parents(alloc, types.len())?;
+    let mut parents = Vec::new(alloc);
+    for _ in 0..types.len() {
+        parents.push(IndexSet::new(alloc))?;
+    }
     for item in listed.as_slice() {
         if let Some(child) = types.get(item.name) {
             put_parents(types, item.ty.as_slice(), &mut parents[child as usize])?;
         }
-    }
-    Ok(parents)
-}
-
-/// No parents yet for so many types.
-fn no_parents(alloc: Global, count: usize) -> Result<Vec<IndexSet<u32>>, Memory>
-    ensures length { IfOk result (λ parents. length parents.items ≡ count) }
-    ensures none { IfOk result (λ parents. All (λ set. set.keys ≡ []) parents.items) }
-{
-    let mut parents = Vec::new(alloc);
-    for _ in 0..count {
-        parents.push(IndexSet::new(alloc))?;
     }
     Ok(parents)
 }

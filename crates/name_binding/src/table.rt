@@ -1,11 +1,9 @@
-ghost use Rattle.std.specs.Prelude.{◌≡◌, [], map, IfOk, OnOk};
-ghost use Rattle.std.specs.List.{fold};
+ghost use Rattle.std.specs.Prelude.{◌≡◌, [], IfOk, OnOk};
 ghost use Rattle.std.specs.Option.{option_copied};
-ghost use Rattle.std.specs.List.Sorted.{IsPermutation, IsNonDecreasingBy};
 ghost use Rattle.htn_base.specs.Table.{with_word};
 ghost use Rattle.name_binding.specs.Spots.{noted};
 ghost use Rattle.name_binding.specs.Parents.{pairs_in_order};
-ghost use Rattle.name_binding.specs.Unions.{members_of, unions_of, AreWith, IsThere};
+ghost use Rattle.name_binding.specs.Unions.{unions_of, AreWith, IsThere};
 ghost use Rattle.name_binding.specs.Kinds.{type_number, type_faults, union_number, kind_by, members_written, kind_bound, kind_faults};
 
 use crate::faults::Faults;
@@ -133,24 +131,13 @@ impl TypeTable {
     }
 
     /// Puts unions to the others by the offsets of their first words, each once. After `Memory` some may be there.
-    pub fn add_unions(&mut self, alloc: Global, found: Vec<Either>) -> Result<(), Memory>
+    pub fn add_unions(&mut self, alloc: Global, mut found: Vec<Either>) -> Result<(), Memory>
         ensures unions { OnOk result (AreWith found.items self.old.unions self.new.unions) }
         ensures types { self.new.types ≡ self.old.types }
     {
-        match in_text_order(found) {
-            Ok(sorted) => self.add_each(alloc, sorted.as_slice()),
-            Err(error) => Err(error),
-        }
-    }
-
-    /// Puts each of these unions behind the others, unless it is there.
-    fn add_each(&mut self, alloc: Global, sorted: &[Either]) -> Result<(), Memory>
-        ensures unions { OnOk result
-            (self.new.unions ≡ fold with_word self.old.unions (map members_of sorted.now)) }
-        ensures types { self.new.types ≡ self.old.types }
-    {
+        found.sort_by_key(|either| either.at)?;
         let mut before = None;
-        for either in sorted {
+        for either in found.as_slice() {
             self.add_behind(alloc, before, either.members.as_slice())?;
             before = Some(either);
         }
@@ -221,13 +208,4 @@ fn listed(alloc: Global, numbers: &[u32]) -> Result<List<u32>, Memory>
         list.push(*number)?;
     }
     Ok(list)
-}
-
-/// Unions by the offsets of their first words.
-fn in_text_order(mut found: Vec<Either>) -> Result<Vec<Either>, Memory>
-    ensures same { IfOk result (λ sorted. IsPermutation found.items sorted.items) }
-    ensures rise { IfOk result (λ sorted. IsNonDecreasingBy (λ e. e.at) sorted.items) }
-{
-    found.sort_by_key(|either| either.at)?;
-    Ok(found)
 }

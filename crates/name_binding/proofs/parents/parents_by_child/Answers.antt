@@ -8,6 +8,9 @@ use Rattle.name_binding.proofs.StepLemmas.{take-read}
 use Rattle.name_binding.proofs.parents.parents_by_child.Goals as goal
 use Rattle.name_binding.proofs.parents.parents_by_child.Goals.{in-Some+in_ok-put_parents, in_default}
 
+pub loop-preserved : goal.loop-preserved
+loop-preserved c = grind (arith, common_steps)
+
 pub index_mut-requires : goal.index_mut-requires
 index_mut-requires c =
     let l = first_within c.item-item.result.name.number c.args.types.now c.in-Some.child (sym c.in-Some.ensures.place) in
