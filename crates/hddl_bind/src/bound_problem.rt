@@ -12,7 +12,7 @@ use crate::problem_parts::{ProblemParts, parts_of};
 use crate::seconds::seconds_of;
 use crate::whole_unions::unions_of_problem;
 use hddl_reader::RawProblem;
-use htn_base::{List, Memory, Name, NameTable, WordList, number};
+use htn_base::{List, Memory, NameTable, WordList, number};
 use name_binding::Faults;
 use plan_model::{Hddl, Object};
 use std::alloc::Global;

@@ -1,7 +1,6 @@
 ghost use Rattle.std.specs.Prelude.{◌≡◌, [], IfOk, OnOk};
 ghost use Rattle.name_binding.specs.Spots.{noted};
 ghost use Rattle.hddl_bind.specs.Ids as spec;
-ghost use Rattle.hddl_bind.specs.Seconds.{seconds};
 
 use crate::seconds::declare;
 use hddl_reader::RawSub;

@@ -3,7 +3,7 @@ ghost use Rattle.name_binding.specs.Places.{first_place};
 ghost use Rattle.name_binding.specs.Spots.{noted};
 ghost use Rattle.hddl_bind.specs.Seconds.{if_known, seconds};
 
-use gd_reader::{RawParam, RawTerm};
+use gd_reader::RawParam;
 use hddl_reader::{RawHead, RawMethod};
 use htn_base::{Memory, Name};
 use name_binding::{Faults, Places};
@@ -14,13 +14,10 @@ pub trait Declares {
 
     ghost offset: { Self → ℕ };
 
-    /// The declared name.
-    fn name(&self) -> Name
-        ensures { result.number ≡ number self.now };
-
-    /// The offset of its word.
-    fn at(&self) -> u32
-        ensures { result ≡ offset self.now };
+    /// The declared name, and the offset of its word.
+    fn declared(&self) -> (Name, u32)
+        ensures number { result.0.number ≡ number self.now }
+        ensures offset { result.1 ≡ offset self.now };
 }
 
 /// Declares these names behind those of earlier lists. Of each that stands in front already, in this list or an earlier one, the
@@ -35,7 +32,8 @@ pub fn seconds_of<T: Declares>(
         ≡ noted faults.old.least (seconds T.number T.offset known.old items.now)) }
 {
     for item in items {
-        declare(known, item.name(), item.at(), faults)?;
+        let (name, at) = item.declared();
+        declare(known, name, at, faults)?;
     }
     Ok(())
 }
@@ -52,33 +50,13 @@ pub fn declare(known: &mut Places, name: Name, at: u32, faults: &mut Faults) -> 
     known.declare(name)
 }
 
-impl Declares for RawTerm {
-    ghost use Rattle.hddl_bind.specs.Ids.{term_number, term_at};
-
-    ghost number = { term_number };
-
-    ghost offset = { term_at };
-
-    fn name(&self) -> Name {
-        self.name
-    }
-
-    fn at(&self) -> u32 {
-        self.at
-    }
-}
-
 impl Declares for RawHead {
     ghost number = { λ head. head.name.name.number };
 
     ghost offset = { λ head. head.name.at };
 
-    fn name(&self) -> Name {
-        self.name.name
-    }
-
-    fn at(&self) -> u32 {
-        self.name.at
+    fn declared(&self) -> (Name, u32) {
+        (self.name.name, self.name.at)
     }
 }
 
@@ -87,12 +65,8 @@ impl Declares for RawMethod {
 
     ghost offset = { λ method. method.head.name.at };
 
-    fn name(&self) -> Name {
-        self.head.name.name
-    }
-
-    fn at(&self) -> u32 {
-        self.head.name.at
+    fn declared(&self) -> (Name, u32) {
+        (self.head.name.name, self.head.name.at)
     }
 }
 
@@ -101,11 +75,7 @@ impl Declares for RawParam {
 
     ghost offset = { λ param. param.at };
 
-    fn name(&self) -> Name {
-        self.name
-    }
-
-    fn at(&self) -> u32 {
-        self.at
+    fn declared(&self) -> (Name, u32) {
+        (self.name, self.at)
     }
 }

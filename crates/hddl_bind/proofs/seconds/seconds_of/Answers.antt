@@ -12,6 +12,6 @@ loop-item-preserved g c =
     let known = c.loop-item.known in
     let kept = c.loop-item.invariant in
     record {
-      declared = map_behind xs i x x l c.item-item.is g.T.Declares.number _ known _ kept.declared (c.in_ok-declare.ensures.declared ∙ ap (λ (n : ℕ). known ++ n ∷ []) c.name.ensures);
-      faults = seconds_step g.T.Declares.number g.T.Declares.offset c.args.known.now known xs i x x _ _ l c.item-item.is kept.declared c.name.ensures c.at.ensures _ _ _ kept.faults c.in_ok-declare.ensures.faults;
+      declared = map_behind xs i x x l c.item-item.is g.T.Declares.number _ known _ kept.declared (c.in_ok-declare.ensures.declared ∙ ap (λ (n : ℕ). known ++ n ∷ []) c.declared-at.ensures.number);
+      faults = seconds_step g.T.Declares.number g.T.Declares.offset c.args.known.now known xs i x x _ _ l c.item-item.is kept.declared c.declared-at.ensures.number c.declared-at.ensures.offset _ _ _ kept.faults c.in_ok-declare.ensures.faults;
     }
