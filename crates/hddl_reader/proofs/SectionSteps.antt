@@ -15,10 +15,8 @@ use Rattle.std.specs.Str.{bytes_eq}
 use Rattle.std.specs.Prelude.{Bool, true, false, if◌then◌else◌}
 use Rattle.hddl_reader.specs.declared.sections.Definition.{Definition}
 use Rattle.hddl_reader.specs.declared.sections.Language.{Language}
-use Rattle.gd_reader.specs.declared.stop.Stop.TheVariants.{Departs}
 use Rattle.hddl_reader.specs.declared.raw_sections.RawSections.{RawSections}
-use Rattle.hddl_reader.specs.Sections.{words, used_names, fact, facts, with_kept, section_of, plain_table, hierarchy_table, may_end, section_due, section_inside, sections}
-use Rattle.hddl_reader.proofs.FoldSteps.{fold_by}
+use Rattle.hddl_reader.specs.Sections.{words, used_names, fact, facts, with_kept, section_of, plain_table, hierarchy_table, section_inside, sections}
 
 abbrev pub words_by : Option Met → Result (Unit {0}) Stop
 words_by None = Ok tt
@@ -95,30 +93,13 @@ pub section_is : (l : Language) (d : Definition) (w : Word) → section_of l d w
 unfolding section_of
 section_is l d w = entry_more (plain_table d) (hierarchy_table l d) w
 
--- the sections that stand, and the words
-abbrev pub State : Type 0
-State = RawSections × Names
+-- the sections that are still read
+module _ (l : Language) (d : Definition) (st : RawSections) (names : Names) (p : Placed) (whole : Result (RawSections × Names) Stop) (rest : sections l d st names p ≡ whole) where
+  pub sections_stop : (e : Failure) (at : ℕ) (inside behind : Placed) → p ≡ list at inside behind → Fails e (section_inside l d st names inside) → Fails e whole
+  unfolding sections
+  sections_stop e at inside behind is f =
+      subst (Fails e) (sym (ap (sections l d st names) is) ∙ rest) (fails_bind e (section_inside l d st names inside) (λ r. sections l d r.0 r.1 behind) f)
 
-abbrev pub section_behind : Pair → Placed
-section_behind v = v.1
-
-module _ (l : Language) (d : Definition) where
-  abbrev pub section_next : State → Placed → Result (Option Pair) Stop
-  section_next st p = section_due l d st.0 p
-
-  abbrev pub section_met : State → Pair → Result State Stop
-  section_met st v = section_inside l d st.0 st.1 v.0
-
-  abbrev pub sections_all : State → Placed → Result State Stop
-  sections_all st p = sections l d st.0 st.1 p
-
-  sections_end : (st : State) (b : Bool) (at : ℕ) → ◌≡◌ {A = Result State Stop} (if b then Ok st else Err (Departs 8 at)) ((if b then Ok None else Err (Departs 8 at)) >>= fold_by section_next section_behind section_met sections_all st)
-  sections_end st true at = refl
-  sections_end st false at = refl
-
-  pub sections_is : (st : State) (p : Placed) → sections_all st p ≡ section_next st p >>= fold_by section_next section_behind section_met sections_all st
-  unfolding sections section_due
-  sections_is st cut = refl
-  sections_is st (close at) = sections_end st (may_end l d st.0) at
-  sections_is st (word at w p) = refl
-  sections_is st (list at p q) = refl
+  pub sections_next : (at : ℕ) (inside behind : Placed) (x : RawSections × Names) → p ≡ list at inside behind → section_inside l d st names inside ≡ Ok x → sections l d x.0 x.1 behind ≡ whole
+  unfolding sections
+  sections_next at inside behind x is f = sym (ap (λ a. a >>= (λ r. sections l d r.0 r.1 behind)) f) ∙ sym (ap (sections l d st names) is) ∙ rest

@@ -217,10 +217,3 @@ sections l d st names cut = Err Ends
 sections l d st names (close at) = if may_end l d st then Ok (st, names) else Err (Departs 8 at)
 sections l d st names (word at w p) = Err (Departs 8 at)
 sections l d st names (list at p q) = section_inside l d st names p >>= (λ r. sections l d r.0 r.1 q)
-
--- What is next: a section, as what is inside and what is behind it; or the end of the sections.
-unfoldable pub section_due : Language → Definition → RawSections → Placed → Result (Option (Placed × Placed)) Stop
-section_due l d st cut = Err Ends
-section_due l d st (close at) = if may_end l d st then Ok None else Err (Departs 8 at)
-section_due l d st (word at w p) = Err (Departs 8 at)
-section_due l d st (list at p q) = Ok (Some (p, q))

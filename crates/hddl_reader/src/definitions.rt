@@ -6,11 +6,10 @@ ghost use Rattle.gd_reader.specs.Answers.{Gives, GivesWith, word_due, list_due, 
 ghost use Rattle.gd_reader.specs.Shown.{parts_at_both};
 ghost use Rattle.gd_reader.specs.Terms.{Keeps};
 ghost use Rattle.hddl_reader.specs.declared.sections.Definition.TheVariants as definition;
-ghost use Rattle.hddl_reader.specs.Definitions.{coded, key_due, definition_word, definition_inside, nothing_due, definition_read, refusal, Refuses, IsDomainRead, IsProblemRead};
+ghost use Rattle.hddl_reader.specs.Definitions.{coded, key_due, definition_word, definition_inside, definition_read, refusal, Refuses, IsDomainRead, IsProblemRead};
 
 use crate::networks::declared_of;
 use crate::raw_sections::RawSections;
-use crate::section_bodies::sections_of;
 use crate::sections::{Definition, Language, RawDomain, RawProblem};
 use gd_reader::{Failure, Item, Stop, is_word, item_at};
 use htn_base::{Fault, Name, NameTable};
@@ -103,18 +102,12 @@ fn inside_of(
     let (at, word, i) = title_word(s, i)?;
     let name = declared_of(names, 5, at, word)?;
     title_end(s, i)?;
-    let sections = sections_of(alloc, s, behind, language, definition, names)?;
-    Ok((name.name, sections))
-}
-
-// Nothing stands at the token.
-fn nothing_due(s: &Sexprs<'_>, i: u32) -> Result<(), Failure>
-    ensures gives { Gives (λ _. tt) result (nothing_due (parts_at s.now i)) }
-{
-    match item_at(s, i) {
-        Item::End => Ok(()),
-        Item::Close(at) | Item::Word(at, _) | Item::List(at, _, _) => {
-            Err(Failure::At(Stop::Departs(8, at)))
+    let mut sections = RawSections::new(alloc);
+    match sections.read(alloc, s, behind, language, definition, names) {
+        Ok(()) => Ok((name.name, sections)),
+        Err(failure) => {
+            drop(sections);
+            Err(failure)
         }
     }
 }
@@ -139,11 +132,11 @@ fn definition_of(
         Item::Word(at, _) => Err(Failure::At(Stop::Departs(5, at))),
         Item::List(_, inside, behind) => {
             let (name, sections) = inside_of(alloc, s, inside, language, definition, names)?;
-            match nothing_due(s, behind) {
-                Ok(()) => Ok((name, sections)),
-                Err(failure) => {
+            match item_at(s, behind) {
+                Item::End => Ok((name, sections)),
+                Item::Close(at) | Item::Word(at, _) | Item::List(at, _, _) => {
                     drop(sections);
-                    Err(failure)
+                    Err(Failure::At(Stop::Departs(8, at)))
                 }
             }
         }

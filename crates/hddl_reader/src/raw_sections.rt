@@ -1,20 +1,15 @@
-ghost use Rattle.std.specs.Prelude.{◌≡◌, IfOk, IfSome};
-ghost use Rattle.std.specs.Option.{option_map};
-ghost use Rattle.text_forms.specs.Placed.{parts_at};
-ghost use Rattle.gd_reader.specs.Answers.{Gives};
-ghost use Rattle.gd_reader.specs.Shown.{AreLater, parts_at_both};
+ghost use Rattle.std.specs.Prelude.{◌≡◌};
 ghost use Rattle.hddl_reader.specs.Definitions.{domain_of, problem_of};
-ghost use Rattle.hddl_reader.specs.Sections.{no_sections, has_section, may_end, section_due};
+ghost use Rattle.hddl_reader.specs.Sections.{no_sections, has_section, may_end};
 
 use crate::parts::RawParts;
 use crate::sections::{
     Definition, Language, RawAction, RawDomain, RawHead, RawMethod, RawProblem, Section,
 };
 use crate::wholes::{or_none, or_true, params_or_none};
-use gd_reader::{Failure, Item, RawFacts, RawFormula, RawParams, Stop, item_at};
+use gd_reader::{RawFacts, RawFormula, RawParams};
 use htn_base::{List, Name};
 use std::alloc::Global;
-use text_forms::sexpr_text::Sexprs;
 
 /// The sections that are written. Requirements, functions, a metric and the domain's name are read and dropped.
 pub struct RawSections {
@@ -99,36 +94,14 @@ impl RawSections {
         }
     }
 
-    // A problem of HDDL has an initial network.
+    /// Whether the sections may end: a problem of HDDL has an initial network.
     #[tactic(auto, unfolding(crate::specs::Sections::may_end))]
-    fn may_end(&self, language: Language, definition: Definition) -> bool
+    pub(crate) fn may_end(&self, language: Language, definition: Definition) -> bool
         ensures { result ≡ may_end language definition self.now }
     {
         match (language, definition) {
             (Language::Hddl, Definition::Problem) => self.network.is_some(),
             (Language::Pddl, Definition::Problem) | (_, Definition::Domain) => true,
-        }
-    }
-
-    /// The section that is next, as the numbers of the token that comes first in it and of the one behind it; or
-    /// `None` at the end of the sections.
-    #[tactic(auto, unfolding(crate::specs::Sections::section_due))]
-    pub(crate) fn section_due(
-        &self,
-        s: &Sexprs<'_>,
-        i: u32,
-        language: Language,
-        definition: Definition,
-    ) -> Result<Option<(u32, u32)>, Failure>
-        ensures gives { Gives (option_map (parts_at_both s.now)) result
-            (section_due language definition self.now (parts_at s.now i)) }
-        ensures later { IfOk result (λ o. IfSome o (AreLater s.now i)) }
-    {
-        match item_at(s, i) {
-            Item::End => Err(Failure::At(Stop::Ends)),
-            Item::Close(_) if self.may_end(language, definition) => Ok(None),
-            Item::Close(at) | Item::Word(at, _) => Err(Failure::At(Stop::Departs(8, at))),
-            Item::List(_, inside, behind) => Ok(Some((inside, behind))),
         }
     }
 

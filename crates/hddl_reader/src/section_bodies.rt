@@ -3,7 +3,7 @@ ghost use Rattle.gd_reader.specs.Added.{AddsOf};
 ghost use Rattle.gd_reader.specs.Answers.{Gives, GivesWith};
 ghost use Rattle.gd_reader.specs.Terms.{Keeps};
 ghost use Rattle.hddl_reader.specs.declared.sections.Section.TheVariants as section;
-ghost use Rattle.hddl_reader.specs.Sections.{no_sections, named_parts, section_read, section_inside, sections};
+ghost use Rattle.hddl_reader.specs.Sections.{named_parts, section_read, section_inside, sections};
 
 use crate::facts::{dropped_name, facts_of, goal_of, words_of};
 use crate::items::all_of;
@@ -11,7 +11,7 @@ use crate::networks::declared_of;
 use crate::parts::{Parted, RawParts, listed_of, mark, parts_of, put, unknown};
 use crate::raw_sections::RawSections;
 use crate::sections::{Definition, Language, Section, section_of};
-use gd_reader::{Failure, ListKind, RawTerm, Stop, pass, word_due};
+use gd_reader::{Failure, Item, ListKind, RawTerm, Stop, item_at, pass, word_due};
 use htn_base::NameTable;
 use std::alloc::Global;
 use text_forms::sexpr_text::Sexprs;
@@ -165,9 +165,9 @@ impl RawSections {
         }
     }
 
-    // The sections from token `i` up to their end.
-    #[tactic(auto, using(gd_reader::proofs::Keeping::keeps_same, gd_reader::proofs::Keeping::keeps_then))]
-    fn read(
+    /// The sections from token `i` up to the end of their list.
+    #[tactic(auto, unfolding(crate::specs::Sections::sections), using(gd_reader::proofs::Keeping::keeps_same, gd_reader::proofs::Keeping::keeps_then))]
+    pub(crate) fn read(
         &mut self,
         alloc: Global,
         s: &Sexprs<'_>,
@@ -181,34 +181,18 @@ impl RawSections {
         ensures gives { Gives (λ _. (self.new, names.new)) result
             (sections language definition self.old names.old (parts_at s.now i)) }
     {
-        while let Some((inside, behind)) = self.section_due(s, i, language, definition)? {
-            self.read_inside(alloc, s, inside, language, definition, names)?;
-            i = behind;
-        }
-        Ok(())
-    }
-}
-
-/// The sections from token `i` up to the end of their list.
-pub(crate) fn sections_of(
-    alloc: Global,
-    s: &Sexprs<'_>,
-    i: u32,
-    language: Language,
-    definition: Definition,
-    names: &mut NameTable,
-) -> Result<RawSections, Failure>
-    ensures keeps { Keeps names.old names.new }
-    ensures adds { AddsOf s.now names.old names.new }
-    ensures gives { GivesWith names.new result
-        (sections language definition no_sections names.old (parts_at s.now i)) }
-{
-    let mut sections = RawSections::new(alloc);
-    match sections.read(alloc, s, i, language, definition, names) {
-        Ok(()) => Ok(sections),
-        Err(failure) => {
-            drop(sections);
-            Err(failure)
+        loop {
+            match item_at(s, i) {
+                Item::End => return Err(Failure::At(Stop::Ends)),
+                Item::Close(_) if self.may_end(language, definition) => return Ok(()),
+                Item::Close(at) | Item::Word(at, _) => {
+                    return Err(Failure::At(Stop::Departs(8, at)));
+                }
+                Item::List(_, inside, behind) => {
+                    self.read_inside(alloc, s, inside, language, definition, names)?;
+                    i = behind;
+                }
+            }
         }
     }
 }

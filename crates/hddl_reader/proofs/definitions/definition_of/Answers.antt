@@ -12,6 +12,6 @@ returns-in-Close-clause-keeps c = keeps_same c.args.names.now
 pub returns-in-Word-clause-keeps : goal.returns-in-Word-clause-keeps
 returns-in-Word-clause-keeps c = keeps_same c.args.names.now
 
-pub returns-in-Ok-clause-gives : goal.returns-in-Ok-clause-gives
+pub returns-in-End-item_at-clause-gives : goal.returns-in-End-item_at-clause-gives
 unfolding definition_read
-returns-in-Ok-clause-gives c = search rules
+returns-in-End-item_at-clause-gives c = search rules

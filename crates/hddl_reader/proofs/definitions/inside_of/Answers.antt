@@ -13,8 +13,8 @@ returns-in_err-i-2-clause-keeps c = keeps_same c.args.names.now
 pub returns-in_err-at-clause-keeps : goal.returns-in_err-at-clause-keeps
 returns-in_err-at-clause-keeps c = keeps_same c.args.names.now
 
-pub returns-in_err-sections-clause-keeps : goal.returns-in_err-sections-clause-keeps
-returns-in_err-sections-clause-keeps c = keeps_then c.args.names.now c.declared_of.new.names c.sections_of.new.names c.in_ok-name.ensures.keeps c.in_err-sections.ensures.keeps
+pub returns-in-Err-clause-keeps : goal.returns-in-Err-clause-keeps
+returns-in-Err-clause-keeps c = keeps_then c.args.names.now c.declared_of.new.names c.read.new.names c.in_ok-name.ensures.keeps c.in-Err.ensures.keeps
 
-pub returns-clause-keeps : goal.returns-clause-keeps
-returns-clause-keeps c = keeps_then c.args.names.now c.declared_of.new.names c.sections_of.new.names c.in_ok-name.ensures.keeps c.in_ok-sections.ensures.keeps
+pub returns-in-Ok-clause-keeps : goal.returns-in-Ok-clause-keeps
+returns-in-Ok-clause-keeps c = keeps_then c.args.names.now c.declared_of.new.names c.read.new.names c.in_ok-name.ensures.keeps c.in-Ok.ensures.keeps

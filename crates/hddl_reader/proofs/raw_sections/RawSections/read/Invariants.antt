@@ -6,12 +6,12 @@ use Rattle.gd_reader.specs.Terms.{Keeps}
 use Rattle.hddl_reader.specs.Sections.{sections}
 use Rattle.hddl_reader.proofs.raw_sections.RawSections.read.Given as goal
 
-abbrev pub invariant-loop-inside : goal.invariant-loop-inside
-invariant-loop-inside l = record {
+abbrev pub invariant-loop-self : goal.invariant-loop-self
+invariant-loop-self l = record {
   keeps : Keeps l.initial.names l.names;
   adds : AddsOf l.s l.initial.names l.names;
   rest : sections l.language l.definition l.self l.names (parts_at l.s l.i) ≡ sections l.initial.language l.initial.definition l.initial.self l.initial.names (parts_at l.s l.initial.i);
 }
 
-abbrev pub decreases-loop-inside : goal.decreases-loop-inside
-decreases-loop-inside l = token_count l.s - l.i
+abbrev pub decreases-loop-self : goal.decreases-loop-self
+decreases-loop-self l = token_count l.s - l.i
