@@ -1,14 +1,14 @@
 -- Arguments and steps, passed over one after another.
-use Rattle.std.proofs.Common.{◌≡◌, ◌∙◌, ℕ, true, false, Some, refl, sym, ap, subst}
-use Rattle.text_forms.specs.Faults.{fault}
+use Rattle.std.proofs.Common.{◌≡◌, ◌∙◌, ℕ, true, false, Option, Some, refl, sym, ap, subst}
+use Rattle.text_forms.specs.Faults.{Fault, fault}
 use Rattle.text_forms.specs.Placed.{Placed, cut, close, word, list}
 use Rattle.text_forms.specs.StepWords.{is_step_name, is_mark}
 use Rattle.text_forms.specs.Words.{Word}
 use Rattle.text_forms.specs.form_grammar.Codes.{complete, wrong, ◌followed_by◌}
 use Rattle.text_forms.specs.form_grammar.Plans.{step, args, step_rows, steps_form}
 use Rattle.text_forms.specs.form_grammar.Rows.{form}
-use Rattle.text_forms.specs.form_grammar.Texts.{fault_or, last_word}
-use Rattle.plan_text.specs.Departing.{StepComes, rest_fault, marked_fault}
+use Rattle.text_forms.specs.form_grammar.Texts.{text_form, marked_lists, behind_mark, fault_or, last_word}
+use Rattle.plan_text.specs.Departing.{StepComes, rest_fault}
 use Rattle.plan_text.proofs.Forms.{head-name, head-wrong, arg-name, arg-wrong, mark-form, mark-wrong, no-fault}
 
 -- Names were passed over up to p.
@@ -86,6 +86,10 @@ rest-close p at e last = ap (rest_fault last) e
 
 pub rest-word : (p t : Placed) (at : ℕ) (w : Word) → p ≡ word at w t → is_mark w ≡ false → (last : ℕ) → rest_fault last p ≡ Some (fault 8 at)
 rest-word p t at w e m last = ap (rest_fault last) e ∙ ap (fault_or (fault 8 (last_word at t))) (mark-wrong at w t m)
+
+-- the fault of the rest behind a mark at a place
+abbrev pub marked_fault : ℕ → Placed → Option Fault
+marked_fault mark p = fault_or (fault 8 (last_word mark p)) (text_form step_rows (marked_lists is_mark step) behind_mark p)
 
 pub rest-marked : (p t : Placed) (at k : ℕ) (w : Word) → p ≡ word at w t → is_mark w ≡ true → marked_fault at t ≡ Some (fault 8 k) → (last : ℕ) → rest_fault last p ≡ Some (fault 8 k)
 rest-marked p t at k w e m f last = ap (rest_fault last) e ∙ ap (fault_or (fault 8 (last_word at t))) (mark-form at w t m) ∙ f

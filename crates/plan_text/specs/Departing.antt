@@ -8,8 +8,7 @@ use Rattle.text_forms.specs.Tokens.{token_count}
 use Rattle.text_forms.specs.form_grammar.Codes.{Form, complete, wrong}
 use Rattle.text_forms.specs.form_grammar.Plans.{step, args, step_rows, steps_form, steps_fault}
 use Rattle.text_forms.specs.form_grammar.Rows.{form}
-use Rattle.text_forms.specs.form_grammar.Texts.{text_form, marked_lists, behind_mark, fault_or, last_word}
-use Rattle.gd_reader.specs.Shown.{IsListTo}
+use Rattle.text_forms.specs.form_grammar.Texts.{fault_or, last_word}
 
 -- the tokens are a whole text of the form, or the token at an offset departs
 abbrev pub Tells : Form → Option ℕ → Type 0
@@ -37,15 +36,6 @@ StepComes (word at w (list b q r)) inside behind = (is_mark w ≡ true) × (q �
 -- the fault of a plan's rest, where the last word in front of it stands at a place
 abbrev pub rest_fault : ℕ → Placed → Option Fault
 rest_fault last p = fault_or (fault 8 (last_word last p)) (steps_form p)
-
--- the same behind a mark at a place
-abbrev pub marked_fault : ℕ → Placed → Option Fault
-marked_fault mark p = fault_or (fault 8 (last_word mark p)) (text_form step_rows (marked_lists is_mark step) behind_mark p)
-
--- a list, or the fault of the rest
-abbrev pub TellsBehindMark : ℕ → List ℕ → ℕ → Result (ℕ × ℕ) ℕ → Type 0
-TellsBehindMark mark text i (Ok x) = IsListTo text i x.0 x.1
-TellsBehindMark mark text i (Err at) = marked_fault mark (parts_at text i) ≡ Some (fault 8 at)
 
 -- the whole list of the next step, or the end of the text, or the fault of the rest
 abbrev pub TellsNext : List ℕ → ℕ → Result (Option (ℕ × ℕ)) ℕ → Type 0

@@ -1,4 +1,4 @@
-ghost use Rattle.std.specs.Prelude.{◌≡◌, ◌≤◌, length, map, IfOk};
+ghost use Rattle.std.specs.Prelude.{◌≤◌, length, map, IfOk};
 ghost use Rattle.htn_base.specs.Words.{IsFolded};
 ghost use Rattle.plan_text.specs.Coming.{TellsStep, TellsNext, TellsCount};
 

@@ -1,5 +1,5 @@
 ghost use Rattle.text_forms.specs.Placed.{parts_at, IsWhole};
-ghost use Rattle.plan_text.specs.Departing.{TellsArgs, TellsStep, TellsBehindMark, TellsNext, TellsPlan};
+ghost use Rattle.plan_text.specs.Departing.{TellsArgs, TellsStep, TellsNext, TellsPlan};
 
 use crate::words::{is_mark, is_step_name};
 use gd_reader::{Item, item_at};
@@ -32,18 +32,6 @@ fn step_departs(s: &Sexprs<'_>, i: u32) -> Option<u32>
     }
 }
 
-// The list behind a mark at an offset: the numbers of the token that comes first in it and of the one behind it. Else
-// the offset of what departs.
-fn behind_mark(s: &Sexprs<'_>, mark: u32, i: u32) -> Result<(u32, u32), u32>
-    ensures { TellsBehindMark mark s.now i result }
-{
-    match item_at(s, i) {
-        Item::End => Err(mark),
-        Item::List(_, inside, behind) => Ok((inside, behind)),
-        Item::Close(at) | Item::Word(at, _) => Err(at),
-    }
-}
-
 // The list of the next step, behind a mark perhaps: the numbers of the token that comes first in it and of the one
 // behind it. `None` at the end of the text.
 fn next_list(s: &Sexprs<'_>, i: u32) -> Result<Option<(u32, u32)>, u32>
@@ -52,9 +40,10 @@ fn next_list(s: &Sexprs<'_>, i: u32) -> Result<Option<(u32, u32)>, u32>
     match item_at(s, i) {
         Item::End => Ok(None),
         Item::List(_, inside, behind) => Ok(Some((inside, behind))),
-        Item::Word(at, word) if is_mark(word) => match behind_mark(s, at, i + 1) {
-            Ok(list) => Ok(Some(list)),
-            Err(at) => Err(at),
+        Item::Word(mark, word) if is_mark(word) => match item_at(s, i + 1) {
+            Item::End => Err(mark),
+            Item::List(_, inside, behind) => Ok(Some((inside, behind))),
+            Item::Close(at) | Item::Word(at, _) => Err(at),
         },
         Item::Close(at) | Item::Word(at, _) => Err(at),
     }

@@ -1,5 +1,5 @@
-ghost use Rattle.std.specs.Prelude.{◌≡◌, ◌∷◌, [], ◌≤◌, length, IfOk, IfErr, OnErr, IfSome, MatchBool, MatchOption};
-ghost use Rattle.htn_base.specs.Words.{folded, IsFolded};
+ghost use Rattle.std.specs.Prelude.{◌≡◌, ◌∷◌, [], ◌≤◌, length, IfOk, IfErr, OnErr, MatchBool, MatchOption};
+ghost use Rattle.htn_base.specs.Words.{folded};
 ghost use Rattle.plan_text.specs.Plans.{IsPlanRead, RefusesPlan};
 ghost use Rattle.plan_text.specs.Lowered.{IsInLowerCase, IsNoPlan};
 

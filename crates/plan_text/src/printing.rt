@@ -1,21 +1,11 @@
 ghost use Rattle.std.specs.Prelude.{◌≡◌, ◌++◌, OnOk, OnErr};
 ghost use Rattle.plan_texts.specs.PlanText.{plan_text, ArePrintableSteps, SpellsPlan};
-ghost use Rattle.plan_text.specs.Printing.{args_text, line_text};
+ghost use Rattle.plan_text.specs.Printing.{line_text};
 ghost use Rattle.text_forms.specs.sheets.Sheets.{Wrote, AppendsPrefix};
 
 use htn_base::{Memory, Text};
 use plan_model::GroundAction;
 use text_forms::sheets::Sheet;
-
-// Puts arguments, each behind a space.
-fn put_args(args: &[Text], sheet: &mut Sheet<'_>)
-    ensures { Wrote (args_text args.now) sheet.old sheet.new }
-{
-    for arg in args {
-        sheet.put(b" ");
-        sheet.put(arg.as_slice());
-    }
-}
 
 // Puts a step on a line of its own.
 fn put_step(step: &GroundAction, sheet: &mut Sheet<'_>)
@@ -23,17 +13,11 @@ fn put_step(step: &GroundAction, sheet: &mut Sheet<'_>)
 {
     sheet.put(b"(");
     sheet.put(step.name.as_slice());
-    put_args(step.args.as_slice(), sheet);
-    sheet.put(b")\n");
-}
-
-// Puts steps, each on a line of its own.
-fn put_steps(steps: &[GroundAction], sheet: &mut Sheet<'_>)
-    ensures { Wrote (plan_text steps.now) sheet.old sheet.new }
-{
-    for step in steps {
-        put_step(step, sheet);
+    for arg in step.args.as_slice() {
+        sheet.put(b" ");
+        sheet.put(arg.as_slice());
     }
+    sheet.put(b")\n");
 }
 
 /// Appends a plan, each step as `(name arg arg)` on a line of its own. After `Memory` the text has a prefix of what was to be
@@ -44,6 +28,8 @@ pub fn print(plan: &[GroundAction], into: &mut Text) -> Result<(), Memory>
     ensures spelled { ArePrintableSteps plan.now → SpellsPlan (plan_text plan.now) plan.now }
 {
     let mut sheet = Sheet::new(into, u64::MAX);
-    put_steps(plan, &mut sheet);
+    for step in plan {
+        put_step(step, &mut sheet);
+    }
     sheet.complete()
 }

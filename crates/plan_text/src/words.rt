@@ -1,4 +1,4 @@
-ghost use Rattle.std.specs.Prelude.{◌≡◌, [], ◌∷◌, ◌++◌, IfOk};
+ghost use Rattle.std.specs.Prelude.{◌≡◌, IfOk};
 ghost use Rattle.std.specs.List.{list_all};
 ghost use Rattle.htn_base.specs.Words.{folded};
 ghost use Rattle.text_forms.specs.StepWords as defined;
@@ -17,36 +17,20 @@ pub(crate) fn is_step_name(word: &[u8]) -> bool
 }
 
 /// Whether a word is a mark: digits and a final colon.
+#[tactic(auto, using(crate::proofs::Marks::other_end, crate::proofs::Marks::colon_alone, crate::proofs::Marks::colon_behind))]
 pub(crate) fn is_mark(word: &[u8]) -> bool
     ensures { result ≡ defined.is_mark (folded word.now) }
 {
     match word.split_last() {
         None => false,
-        Some((last, front)) => is_mark_of(front, *last),
+        Some((last, front)) => *last == b':' && !front.is_empty() && are_digits(front),
     }
-}
-
-// The same of a word's front and its last byte.
-#[tactic(auto, using(crate::proofs::Marks::other_end, crate::proofs::Marks::colon_alone, crate::proofs::Marks::colon_behind))]
-fn is_mark_of(front: &[u8], last: u8) -> bool
-    ensures { result ≡ defined.is_mark (folded (front.now ++ last ∷ [])) }
-{
-    if last != b':' || front.is_empty() {
-        return false;
-    }
-    are_digits(front)
 }
 
 fn are_digits(bytes: &[u8]) -> bool
     ensures { result ≡ list_all defined.is_digit bytes.now }
 {
-    bytes.iter().all(|byte| is_digit(*byte))
-}
-
-fn is_digit(byte: u8) -> bool
-    ensures { result ≡ defined.is_digit byte }
-{
-    byte.is_ascii_digit()
+    bytes.iter().all(|byte| byte.is_ascii_digit())
 }
 
 /// The word in lower case.
