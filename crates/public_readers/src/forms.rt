@@ -142,7 +142,7 @@ fn has_effect(rt: &impl Abort, alloc: Global, s: &Sexprs<'_>, names: &mut NameTa
 
 fn is_union(got: &Got<RawParams>) -> bool {
     match got.value.as_slice().first() {
-        Some(param) => got.next == 9 && param.at == 1 && param.ty.len() == 2,
+        Some(param) => got.next == 9 && param.at == 1 && param.ty.as_slice().len() == 2,
         None => false,
     }
 }
