@@ -13,9 +13,14 @@ use Rattle.gd_reader.specs.Answers.{◌>>=◌, Fails, word_or_end}
 use Rattle.gd_reader.specs.Ends.{end_of}
 use Rattle.gd_reader.proofs.Listing.{Listing, Reading, settled, whole, with_next, with_kind, rest_of, continued}
 use Rattle.gd_reader.specs.Terms.{Names}
-use Rattle.gd_reader.specs.TypedLists.{State, Rest, params, behind, typed, param_due, type_due, union_due, kind_due, with_type, one_more, alone, typed_with, hyphen_due}
+use Rattle.gd_reader.specs.TypedLists.{State, Rest, params, behind, typed, param_due, type_due, union_due, kind_due, with_type, one_more, alone, typed_with}
 use Rattle.gd_reader.specs.Words.{is_hyphen}
 use Rattle.gd_reader.proofs.Steps.{fails_bind}
+
+-- whether a word is the hyphen of the words that wait for their type
+abbrev pub hyphen_due : List RawParam → Word → Bool
+hyphen_due [] w = false
+hyphen_due (x ∷ pending) w = is_hyphen w
 
 abbrev whole_list : List RawParam → List RawParam → Rest → List RawParam × Names
 whole_list front pending r = (front ++ (map (with_type r.0.0) pending ++ r.0.1), r.1)

@@ -145,11 +145,6 @@ unfoldable mutual
 abbrev pub listed : ListKind → Names → Placed → Result (List RawParam × Names) Stop
 listed kind names p = params kind (names, []) p >>= (λ r. Ok (r.0.1, r.1))
 
--- whether a word is the hyphen of the words that wait for their type
-abbrev pub hyphen_due : List RawParam → Word → Bool
-hyphen_due [] w = false
-hyphen_due (x ∷ pending) w = is_hyphen w
-
 -- a type that is due, with what is behind it
 unfoldable pub kind_due : ListKind → Names → Placed → Result ((List RawTerm × Placed) × Names) Stop
 kind_due kind names cut = Err Ends

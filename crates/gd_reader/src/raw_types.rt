@@ -1,4 +1,4 @@
-ghost use Rattle.std.specs.Prelude.{◌≡◌, [], length, IfOk};
+ghost use Rattle.std.specs.Prelude.{◌≡◌, [], IfOk};
 
 use crate::term::RawTerm;
 use htn_base::{List, Memory};
@@ -65,12 +65,5 @@ impl RawTypes {
             None => &[],
             Some(types) => types.as_slice(),
         }
-    }
-
-    /// How many types are written.
-    pub fn len(&self) -> usize
-        ensures length { result ≡ length self.now }
-    {
-        self.as_slice().len()
     }
 }

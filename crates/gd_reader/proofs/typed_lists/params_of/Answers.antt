@@ -4,10 +4,10 @@ use Rattle.htn_base.specs.Words.{folded}
 use Rattle.text_forms.specs.Placed.{parts_at, word}
 use Rattle.gd_reader.specs.Answers.{Fails}
 use Rattle.gd_reader.specs.Ends.{end_of}
-use Rattle.gd_reader.specs.TypedLists.{hyphen_due, listed, with_type}
+use Rattle.gd_reader.specs.TypedLists.{listed, with_type}
 use Rattle.gd_reader.proofs.Keeping.{keeps_then}
 use Rattle.gd_reader.proofs.Listing.{Listing, continued}
-use Rattle.gd_reader.proofs.ListSteps.{word_is, end_behind, end_here, step_word, stop_word, step_type, stop_type, list_end, list_stuck, hyphen_of, no_hyphen}
+use Rattle.gd_reader.proofs.ListSteps.{hyphen_due, word_is, end_behind, end_here, step_word, stop_word, step_type, stop_type, list_end, list_stuck, hyphen_of, no_hyphen}
 use Rattle.gd_reader.proofs.Items.{no_word}
 use Rattle.gd_reader.proofs.typed_lists.params_of.Goals as goal
 use Rattle.gd_reader.proofs.typed_lists.params_of.Goals.{In-Word, else-len-gt0-via-then-len-gt0+else-is_hyphen, else-len-gt0-via-else-len-gt0}
