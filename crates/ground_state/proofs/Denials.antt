@@ -4,8 +4,6 @@ use Rattle.std.proofs.Math.ListN.{set}
 use Rattle.std.specs.Prelude.{unwrap_or, IsSome, MatchBool}
 use Rattle.std.specs.Option.{option_map, option_and_then}
 use Rattle.std.specs.Vec.{with_item}
-use Rattle.std.specs.Cmp.Lexicographic.{slice_cmp}
-use Rattle.std.specs.Ordering.{nat_cmp, is_eq}
 use Rattle.std.proofs.lemmas.Bool.{cases_lt, cases_eq}
 use Rattle.std.proofs.lemmas.List.{get_or_past}
 use Rattle.std.proofs.lemmas.Option.{slice_get_within}
@@ -30,21 +28,10 @@ use Rattle.ground_state.specs.States as states
 use Rattle.ground_state.specs.States.{note, atom, has, has_ground, HasSameNotes, IsSame}
 use Rattle.ground_state.specs.Search.{Touches, TouchesWithin}
 use Rattle.ground_state.specs.Passes.{of_adds, Passes, IsWithOne, HasDenied}
-use Rattle.ground_state.proofs.Lists.{same-lists, lists-same, near-set}
-use Rattle.ground_state.proofs.StateLaws.{same-atoms, same-has, set-false, set-Some}
+use Rattle.ground_state.proofs.Lists.{one-list-or-not, taken-then, near-set}
+use Rattle.ground_state.proofs.StateLaws.{is_true, same-atoms, same-has, set-false, set-Some}
 use Rattle.ground_state.proofs.GatherCases.{touches-Delete}
 use Rattle.ground_state.proofs.PassLaws.{passes-same}
-
-abbrev is_true : Option Bool → Bool
-is_true o = unwrap_or o false
-
--- two lists are one, or not
-same-or-not : (xs ys : List ℕ) → (xs ≡ ys) ⊎ (xs ≡ ys → ⊥)
-same-or-not xs ys = by (is_eq (slice_cmp nat_cmp xs ys)) refl
-  where
-    by : (b : Bool) → is_eq (slice_cmp nat_cmp xs ys) ≡ b → (xs ≡ ys) ⊎ (xs ≡ ys → ⊥)
-    by true e = inl (same-lists xs ys e)
-    by false e = inr (λ d. true≢false (sym (lists-same xs ys d) ∙ e))
 
 -- the same lists
 pub denied-same : (P Q : List ℕ → Type 0) (s t : Notes) → ((list : List ℕ) → P list ↔ Q list) → AreDenied s P t → AreDenied s Q t
@@ -59,13 +46,7 @@ denied-same P Q s t e h = record {
 -- some lists and then others
 pub denied-then : (P Q R : List ℕ → Type 0) (s m t : Notes) → ((list : List ℕ) → R list ↔ (P list ⊎ Q list)) → AreDenied s P m → AreDenied m Q t → AreDenied s R t
 denied-then P Q R s m t e h k = record {
-  without = λ list. (
-    λ x.
-        let y = (k.without list).0 x in
-        let z = (h.without list).0 y.0 in
-        (z.0, λ r. elim ((e list).0 r) [ inl u ↦ z.1 u | inr u ↦ y.1 u ]),
-    λ x. (k.without list).1 ((h.without list).1 (x.0, λ u. x.1 ((e list).1 (inl u))), λ u. x.1 ((e list).1 (inr u))),
-  );
+  without = λ list. taken-then (e list) (h.without list) (k.without list);
   kept = λ list i. k.kept list (h.kept list i);
 }
 
@@ -79,11 +60,11 @@ denied-none P s n = record {
 -- one list
 pub denied-one : (K : Type 0) (s t : Notes) (args : List ℕ) → K → IsSet s args false t → AreDenied s (λ list. K × (list ≡ args)) t
 denied-one K s t args k n = record {
-  without = λ list. elim (same-or-not list args) [
+  without = λ list. elim (one-list-or-not list args) [
     | inl d ↦ (λ x. absurd (true≢false (sym (subst (λ l. IsTrue (holds t l)) d x) ∙ ap is_true n.here ∙ set-false (noted s args))), λ x. absurd (x.1 (k, d)))
     | inr d ↦ (λ x. (sym (ap is_true (n.others list d)) ∙ x, λ y. d y.1), λ x. ap is_true (n.others list d) ∙ x.0)
   ];
-  kept = λ list i. elim (same-or-not list args) [
+  kept = λ list i. elim (one-list-or-not list args) [
     | inl d ↦ subst (λ l. IsSome (noted t l)) (sym d) (subst IsSome (sym (n.here ∙ set-Some false (noted s args) (subst (λ l. IsSome (noted s l)) d i))) refl)
     | inr d ↦ subst IsSome (sym (n.others list d)) i
   ];
@@ -91,7 +72,7 @@ denied-one K s t args k n = record {
 
 -- where it was noted as false, nothing is noted
 pub hold_same : (s t : Notes) (args : List ℕ) → IsNoted s args None t → noted s args ≡ Some false → HoldSame s t
-hold_same s t args n e list = elim (same-or-not list args) [
+hold_same s t args n e list = elim (one-list-or-not list args) [
   | inl d ↦ subst (λ l. holds t l ≡ holds s l) (sym d) (ap is_true n.here ∙ sym (ap is_true e))
   | inr d ↦ ap is_true (n.others list d)
 ]

@@ -1,7 +1,6 @@
 -- What an effect adds and deletes, by the kinds of effects, as it is gathered.
 use Rattle.std.proofs.Common.{ℕ, ◌≡◌, ◌+◌, ◌<◌, ◌↔◌, ◌⊎◌, inl, inr, Bool, true, false, List, [], ◌∷◌, ◌++◌, length, get_or, take, Contains, refl, ap, sym, subst, ◌∙◌, append_assoc, append-nil, true≢false, arith}
 use Rattle.std.proofs.lemmas.Bool.{cases_lt}
-use Rattle.std.proofs.lemmas.List.{take_more}
 use Rattle.std.proofs.lemmas.List.Elements.{Contains-push, Contains-push_cases, Contains-append_left}
 use Rattle.plan_model.proofs.task_networks.Lists.{not-in_empty}
 use Rattle.plan_model.specs.declared.terms.Atom.{Atom}
@@ -14,6 +13,7 @@ use Rattle.plan_model.specs.plan_meaning.Truth.{State, ground, OneTrue, AreTyped
 use Rattle.plan_model.proofs.plan_meaning.EffectEquations.{adds-Add, adds-Delete, adds-And, adds-Forall, adds-When, deletes-Add, deletes-Delete, deletes-And, deletes-Forall, deletes-When}
 use Rattle.ground_state.specs.declared.atom_list.AtomLists.{AtomLists}
 use Rattle.ground_state.specs.Search.{Gathers, Touches, OneTouches, TouchesWithin, side}
+use Rattle.ground_state.proofs.Lists.{take_next, put-then}
 
 pub gathers-same : (P Q : State) (old new : List GroundAtom) → ((g : GroundAtom) → P g ↔ Q g) → Gathers P old new → Gathers Q old new
 gathers-same P Q old new s h g = (
@@ -31,16 +31,7 @@ gathers-push old new a e g = (
 )
 
 pub gathers-then : (P Q R : State) (old mid new : List GroundAtom) → ((g : GroundAtom) → R g ↔ (P g ⊎ Q g)) → Gathers P old mid → Gathers Q mid new → Gathers R old new
-gathers-then P Q R old mid new s h k g = (
-  λ c. elim ((k g).0 c) [
-    | inl x ↦ elim ((h g).0 x) [ inl y ↦ inl y | inr y ↦ inr ((s g).1 (inl y)) ]
-    | inr x ↦ inr ((s g).1 (inr x))
-  ],
-  λ x. (k g).1 (elim x [
-    | inl c ↦ inl ((h g).1 (inl c))
-    | inr r ↦ elim ((s g).0 r) [ inl y ↦ inl ((h g).1 (inr y)) | inr y ↦ inr y ]
-  ]),
-)
+gathers-then P Q R old mid new s h k g = put-then (s g) (h g) (k g)
 
 pub one-push : {X : Type 0} (k : X → List ℕ → Type 0) (xs : List X) (x : X) (v : List ℕ) → OneTrue k (xs ++ x ∷ []) v ↔ (OneTrue k xs v ⊎ k x v)
 one-push k [] x v = (λ o. elim o [ inl y ↦ inr y | inr y ↦ absurd y ], λ o. elim o [ inl y ↦ absurd y | inr y ↦ inl y ])
@@ -117,8 +108,7 @@ module _ (InType : ℕ → ℕ → Type 0) (S : State) where
     pub touches-next : (adds : Bool) (es : List Effect) (i : ℕ) (e : Effect) → i < length es → e ≡ get_or es i e → (g : GroundAtom) → OneTouches InType S adds (take (i + 1) es) v g ↔ (OneTouches InType S adds (take i es) v g ⊎ Touches InType S adds e v g)
     touches-next adds es i e l q g =
         let k : Effect → List ℕ → Type 0 = λ e v. Touches InType S adds e v g in
-        let more : take (i + 1) es ≡ take i es ++ e ∷ [] = take_more es i e l ∙ ap (λ b. take i es ++ b ∷ []) (sym q) in
-        subst (λ ys. OneTrue k ys v ↔ (OneTrue k (take i es) v ⊎ k e v)) (sym more) (one-push k (take i es) e v)
+        subst (λ ys. OneTrue k ys v ↔ (OneTrue k (take i es) v ⊎ k e v)) (sym (take_next es i e l q)) (one-push k (take i es) e v)
 
     -- with no variables
     pub within-none : (adds : Bool) (ps : List Param) (e : Effect) → length ps ≡ 0 → (g : GroundAtom) → Touches InType S adds e v g ↔ TouchesWithin InType S adds ps e v g

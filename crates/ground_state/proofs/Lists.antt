@@ -1,12 +1,12 @@
--- Lists of numbers as keys of an ordered map.
-use Rattle.std.proofs.Common.{ℕ, ◌≡◌, ◌≢◌, ◌<◌, ◌≤◌, inl, inr, length, arith, get_or-set_same, get_or-set_other, Bool, true, false, Option, Some, None, List, Vec, Global, get_or, refl, ap, sym, subst, ◌∙◌, true≢false}
+-- Lists of numbers as keys of an ordered map, and lists and sets that grow.
+use Rattle.std.proofs.Common.{ℕ, ◌≡◌, ◌≢◌, ◌+◌, ◌<◌, ◌≤◌, ◌⊎◌, ◌↔◌, ◌++◌, [], ◌∷◌, take, inl, inr, length, arith, get_or-set_same, get_or-set_other, Bool, true, false, Option, Some, None, List, Vec, Global, get_or, refl, ap, sym, subst, ◌∙◌, true≢false}
 use Rattle.std.specs.Map.{IsKeyTest, AreApart, KeepsOthers, lookup}
 use Rattle.std.specs.BTreeMap as tree
 use Rattle.std.specs.BTreeMap.{BTreeMap}
 use Rattle.std.specs.Vec.{with_item}
 use Rattle.std.specs.Option.{is_some, option_map}
 use Rattle.std.proofs.lemmas.Bool.{cases_lt}
-use Rattle.std.proofs.lemmas.List.{get_or_past, get_or_default}
+use Rattle.std.proofs.lemmas.List.{get_or_past, get_or_default, take_more}
 use Rattle.std.specs.Cmp.{IsTotalOrder}
 use Rattle.std.specs.Cmp.Lexicographic.{slice_cmp}
 use Rattle.std.specs.Ordering.{nat_cmp, is_eq, eq_by_cmp, ordering_reverse}
@@ -118,3 +118,38 @@ with-room old new n l len before behind k = elim (cases_lt k (length old.items))
     | inr b ↦ get_or_past new.items k None (omega (arith, b, len)) ∙ sym (get_or_past old.items k None a)
   ]
 ]
+
+-- one item more of a list
+pub take_next : {X : Type 0} (xs : List X) (i : ℕ) (x : X) → i < length xs → x ≡ get_or xs i x → take (i + 1) xs ≡ take i xs ++ x ∷ []
+take_next xs i x l e = take_more xs i x l ∙ ap (λ y. take i xs ++ y ∷ []) (sym e)
+
+-- two lists are one, or not
+pub one-list-or-not : (xs ys : List ℕ) → (xs ≡ ys) ⊎ (xs ≡ ys → ⊥)
+one-list-or-not xs ys = by (is_eq (slice_cmp nat_cmp xs ys)) refl
+  where
+    by : (b : Bool) → is_eq (slice_cmp nat_cmp xs ys) ≡ b → (xs ≡ ys) ⊎ (xs ≡ ys → ⊥)
+    by true e = inl (same-lists xs ys e)
+    by false e = inr (λ d. true≢false (sym (lists-same xs ys d) ∙ e))
+
+-- some put in and then others
+pub put-then : {S M T P Q R : Type 0} → (R ↔ (P ⊎ Q)) → (M ↔ (S ⊎ P)) → (T ↔ (M ⊎ Q)) → T ↔ (S ⊎ R)
+put-then e h k = (
+  λ x. elim (k.0 x) [
+    | inl y ↦ elim (h.0 y) [ inl z ↦ inl z | inr z ↦ inr (e.1 (inl z)) ]
+    | inr y ↦ inr (e.1 (inr y))
+  ],
+  λ x. k.1 (elim x [
+    | inl y ↦ inl (h.1 (inl y))
+    | inr y ↦ elim (e.0 y) [ inl z ↦ inl (h.1 (inr z)) | inr z ↦ inr z ]
+  ]),
+)
+
+-- some taken out and then others
+pub taken-then : {S M T P Q R : Type 0} → (R ↔ (P ⊎ Q)) → (M ↔ (S × (P → ⊥))) → (T ↔ (M × (Q → ⊥))) → T ↔ (S × (R → ⊥))
+taken-then e h k = (
+  λ x.
+      let y = k.0 x in
+      let z = h.0 y.0 in
+      (z.0, λ r. elim (e.0 r) [ inl u ↦ z.1 u | inr u ↦ y.1 u ]),
+  λ x. k.1 (h.1 (x.0, λ u. x.1 (e.1 (inl u))), λ u. x.1 (e.1 (inr u))),
+)

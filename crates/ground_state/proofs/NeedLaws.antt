@@ -1,6 +1,6 @@
 -- Room that is enough goes up the kinds of formulas and effects.
 use Rattle.std.proofs.Common.{ℕ, ◌≡◌, ◌+◌, ◌<◌, ◌≤◌, inl, inr, ◌++◌, List, [], ◌∷◌, length, get_or, take, Contains, Result, Ok, Err, IfOk, ap, sym, subst, ◌∙◌, arith}
-use Rattle.std.proofs.lemmas.List.{take_more, take_all}
+use Rattle.std.proofs.lemmas.List.{take_all}
 use Rattle.std.proofs.lemmas.List.Elements.{Contains-push_cases}
 use Rattle.plan_model.specs.declared.terms.Term.{Term}
 use Rattle.plan_model.specs.declared.terms.Atom.{Atom}
@@ -16,6 +16,7 @@ use Rattle.plan_model.specs.declared.values.Pddl.{Pddl}
 use Rattle.ground_state.specs.declared.need.Need.{Need}
 use Rattle.ground_state.specs.Room.{EachFits, fits_step, fits, effect_fits_step, effect_fits}
 use Rattle.ground_state.specs.Needs.{IsWithin, Allows, IsEnough, IsEnoughForEach, IsEnoughForEffect, HasRoom, IsEnoughForAll}
+use Rattle.ground_state.proofs.Lists.{take_next}
 use Rattle.ground_state.proofs.RoomEquations.{fits-roll, effect-roll}
 
 -- enough for each of the effects where n variables are in force
@@ -42,7 +43,7 @@ each_more k [] x n e h = (h, tt)
 each_more k (y ∷ xs) x n e h = (e.0, each_more k xs x n e.1 h)
 
 pub each_next : {X : Type 0} (k : X → ℕ → Type 0) (xs : List X) (i : ℕ) (x : X) (n : ℕ) → i < length xs → x ≡ get_or xs i x → EachFits k (take i xs) n → k x n → EachFits k (take (i + 1) xs) n
-each_next k xs i x n l e h f = subst (λ ys. EachFits k ys n) (sym (take_more xs i x l ∙ ap (λ b. take i xs ++ b ∷ []) (sym e))) (each_more k (take i xs) x n h f)
+each_next k xs i x n l e h f = subst (λ ys. EachFits k ys n) (sym (take_next xs i x l e)) (each_more k (take i xs) x n h f)
 
 module _ (room arity : ℕ) where
   fits-from : (f : Formula) (x : Formula-F Formula) → roll-Formula x ≡ f → (n : ℕ) → fits_step room arity (fits room arity) x n → fits room arity f n
@@ -122,10 +123,9 @@ enough-Action a xs inside g i least less need l v w h k room arity d r =
 pub actions_more : (xs : List ActionSchema) (i : ℕ) (a : ActionSchema) (less need : Need) → i < length xs → a ≡ get_or xs i a → IsWithin less need
     → Allows (λ room arity. (b : ActionSchema) → Contains (take i xs) b → HasRoom room arity b) less → IsEnoughForAction a need → Allows (λ room arity. (b : ActionSchema) → Contains (take (i + 1) xs) b → HasRoom room arity b) need
 actions_more xs i a less need l e w h g room arity d r b c =
-    let more : take (i + 1) xs ≡ take i xs ++ a ∷ [] = take_more xs i a l ∙ ap (λ y. take i xs ++ y ∷ []) (sym e) in
     let v = w.0 in
     let u = w.1 in
-    elim (Contains-push_cases (take i xs) a b (subst (λ ys. Contains ys b) more c)) [
+    elim (Contains-push_cases (take i xs) a b (subst (λ ys. Contains ys b) (take_next xs i a l e) c)) [
       | inl k ↦ h room arity (omega arith) (omega arith) b k
       | inr k ↦ subst (HasRoom room arity) k (g room arity d r)
     ]

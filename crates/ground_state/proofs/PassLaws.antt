@@ -18,6 +18,7 @@ use Rattle.ground_state.specs.Frames.{Frame}
 use Rattle.ground_state.specs.States.{atoms, Has}
 use Rattle.ground_state.specs.Search.{Touches}
 use Rattle.ground_state.specs.Passes.{plain_step, plain, IsPlain, ArePlain, literal, of_adds, IsIdle, Passes, HasOnlyEntered}
+use Rattle.ground_state.proofs.Lists.{put-then, taken-then}
 use Rattle.ground_state.proofs.StateLaws.{same-twice, changed_by}
 use Rattle.ground_state.proofs.RoomEquations.{each-map}
 use Rattle.ground_state.proofs.GatherCases.{touches-Add, touches-Add-not, touches-Delete, touches-Delete-not, touches-Forall}
@@ -108,29 +109,9 @@ passes-then passes.Enter P Q R s m t e h k = (
   same-twice s m t h.0 k.0,
   (λ g i. k.1.0 g (h.1.0 g i), λ g r. elim ((e g).0 r) [ inl x ↦ k.1.0 g (h.1.1 g x) | inr x ↦ k.1.1 g x ]),
 )
-passes-then passes.Deny P Q R s m t e h k = (
-  λ g. (
-    λ x.
-        let y = (k.0 g).0 x in
-        let z = (h.0 g).0 y.0 in
-        (z.0, λ r. elim ((e g).0 r) [ inl u ↦ z.1 u | inr u ↦ y.1 u ]),
-    λ x. (k.0 g).1 ((h.0 g).1 (x.0, λ u. x.1 ((e g).1 (inl u))), λ u. x.1 ((e g).1 (inr u))),
-  ),
-  λ g i. k.1 g (h.1 g i),
-)
+passes-then passes.Deny P Q R s m t e h k = (λ g. taken-then (e g) (h.0 g) (k.0 g), λ g i. k.1 g (h.1 g i))
 passes-then passes.Affirm P Q R s m t e h k = (
-  λ n g.
-      let a = h.0 (λ g x. n g ((e g).1 (inl x))) g in
-      let b = k.0 (λ g x. h.1 g (n g ((e g).1 (inr x)))) g in (
-        λ x. elim (b.0 x) [
-          | inl y ↦ elim (a.0 y) [ inl z ↦ inl z | inr z ↦ inr ((e g).1 (inl z)) ]
-          | inr y ↦ inr ((e g).1 (inr y))
-        ],
-        λ x. b.1 (elim x [
-          | inl y ↦ inl (a.1 (inl y))
-          | inr y ↦ elim ((e g).0 y) [ inl z ↦ inl (a.1 (inr z)) | inr z ↦ inr z ]
-        ]),
-      ),
+  λ n g. put-then (e g) (h.0 (λ g x. n g ((e g).1 (inl x))) g) (k.0 (λ g x. h.1 g (n g ((e g).1 (inr x)))) g),
   λ g i. k.1 g (h.1 g i),
 )
 passes-then passes.Forget P Q R s m t e h k = same-twice s m t h k
@@ -158,12 +139,14 @@ module _ (InType : ℕ → ℕ → Type 0) (S : truth.State) where
       not-same (of_adds p) ((touches-literal (of_adds p) (not (of_adds p)) y i.0 (v ++ w.0) i.1 g).1 w.2).0
       )
 
--- the state after the passes in their order
-pub changed : (InType : ℕ → ℕ → Type 0) (old entered denied affirmed new : State) (e : Effect) (v : List ℕ)
-    → Passes passes.Enter (Touches InType (atoms old) true e v) old entered
-    → Passes passes.Deny (Touches InType (atoms old) false e v) entered denied
-    → Passes passes.Affirm (Touches InType (atoms old) true e v) denied affirmed
-    → Passes passes.Forget (Touches InType (atoms old) false e v) affirmed new
-    → Has new (after InType (atoms old) e v)
-changed InType old entered denied affirmed new e v h k m n =
-    changed_by old entered denied affirmed new (Touches InType (atoms old) true e v) (Touches InType (atoms old) false e v) h.0 k.0 (m.0 (λ g t. k.1 g (h.1.1 g t))) n
+-- the state after the passes in their order, each with the objects of the environment that the one before it left
+pub changed : (InType : ℕ → ℕ → Type 0) (old entered denied affirmed new : State) (e : Effect) (f once twice thrice : Frame) → once ≡ f → twice ≡ once → thrice ≡ twice
+    → Passes passes.Enter (Touches InType (atoms old) true e f.objects) old entered
+    → Passes passes.Deny (Touches InType (atoms old) false e once.objects) entered denied
+    → Passes passes.Affirm (Touches InType (atoms old) true e twice.objects) denied affirmed
+    → Passes passes.Forget (Touches InType (atoms old) false e thrice.objects) affirmed new
+    → Has new (after InType (atoms old) e f.objects)
+changed InType old entered denied affirmed new e f once twice thrice a b c h k m n =
+    let denies = subst (λ (x : Frame). Passes passes.Deny (Touches InType (atoms old) false e x.objects) entered denied) a k in
+    let affirms = subst (λ (x : Frame). Passes passes.Affirm (Touches InType (atoms old) true e x.objects) denied affirmed) (b ∙ a) m in
+    changed_by old entered denied affirmed new (Touches InType (atoms old) true e f.objects) (Touches InType (atoms old) false e f.objects) h.0 denies.0 (affirms.0 (λ g t. denies.1 g (h.1.1 g t))) n

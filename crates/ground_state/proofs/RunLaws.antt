@@ -1,14 +1,16 @@
 -- Steps of a run: why one fails, and where the steps so far lead.
 use Rattle.std.proofs.Common.{ℕ, ◌≡◌, ◌+◌, ◌<◌, ◌≤◌, ◌↔◌, ◌++◌, inl, inr, Bool, true, false, IsTrue, List, [], ◌∷◌, length, get_or, take, drop, Contains, refl, ap, sym, subst, ◌∙◌, true≢false, arith, append_assoc, take-append-drop, length-take-le}
-use Rattle.std.proofs.lemmas.List.{take_more, take_all}
+use Rattle.std.proofs.lemmas.List.{take_all}
 use Rattle.std.specs.Borrow.{Bor}
 use Rattle.plan_model.specs.declared.terms.GroundAtom.{GroundAtom}
+use Rattle.plan_model.specs.declared.types.Types.{Types}
+use Rattle.plan_model.specs.declared.types.Object.{Object}
 use Rattle.plan_model.specs.declared.terms.Param.{Param}
 use Rattle.plan_model.specs.declared.schemas.ActionSchema.{ActionSchema}
 use Rattle.plan_model.specs.declared.steps.GroundAction.{GroundAction}
 use Rattle.plan_model.specs.declared.values.Pddl.{Pddl}
 use Rattle.plan_model.specs.plan_meaning.Truth as truth
-use Rattle.plan_model.specs.plan_meaning.Truth.{AreTyped, IsTrueIn}
+use Rattle.plan_model.specs.plan_meaning.Truth.{AreTyped, IsTrueIn, after}
 use Rattle.plan_model.specs.plan_meaning.ClassicalPlan.{InTypeOf, IsApplicable, EndsIn, IsPlan}
 use Rattle.plan_model.specs.plan_meaning.FailingStep.{Cause, unknown_action, arguments, condition, goal_false, IsNamed, IsInstance, FailsIn, Fails, AreNamedApart}
 use Rattle.plan_model.proofs.plan_meaning.SameStates.{same_truth, same_after}
@@ -21,8 +23,17 @@ use Rattle.ground_state.specs.Frames.{Frame, frame}
 use Rattle.ground_state.specs.Room.{fits, effect_fits, Fits, EffectFits}
 use Rattle.ground_state.specs.Needs.{HasRoomForAll}
 use Rattle.ground_state.specs.States.{atoms, Has, IsSame}
-use Rattle.ground_state.specs.Runs.{cause, texts, words_step, AreArguments, IsRunnable, HasRoomIn, IsAsRoomy, IsTaken, IsReady, HasTaken, FailsAt, Reaches, KeepsTaken}
+use Rattle.ground_state.specs.Runs.{cause, texts, words_step, AreArguments, IsRunnable, HasRoomIn, IsAsRoomy, IsReady, HasTaken, FailsAt, Reaches, KeepsTaken}
+use Rattle.ground_state.proofs.Lists.{take_next}
 use Rattle.ground_state.proofs.ArgumentLaws.{typed_length}
+
+-- the step is taken from the old state to the new one
+abbrev pub IsTaken : Pddl → GroundAction → State → State → Type 0
+IsTaken p step old new = (a : ActionSchema) × (objects : List ℕ) × IsApplicable p (atoms old) step a objects × Has new (after (InTypeOf p) (atoms old) a.eff objects)
+
+-- what is so of the types and the objects of a world of the problem is so of the problem's
+pub in_problem : (P : Types → List Object → Type 0) (p : Pddl) (types : Types) (objects : List Object) → types ≡ p.types → objects ≡ p.objects → P types objects → P p.types p.objects
+in_problem P p types objects d e h = subst (P p.types) e (subst (λ (ts : Types). P ts objects) d h)
 
 pub same_arguments : (p : Pddl) (ps qs : List Param) (ws vs : List (List ℕ)) (os : List ℕ) → ps ≡ qs → ws ≡ vs → AreArguments p ps ws os → AreArguments p qs vs os
 same_arguments p ps qs ws vs os e f a = subst (λ us. AreArguments p qs us os) f (subst (λ xs. AreArguments p xs ws os) e a)
@@ -129,7 +140,7 @@ same_step step name words e f = λ i. record { name = e i; args = f i }
 -- over a list of steps: one more of them
 module _ (p : Pddl) (steps : List GroundAction) (i : ℕ) (step : GroundAction) (l : i < length steps) (e : step ≡ get_or steps i step) where
   more : take (i + 1) steps ≡ take i steps ++ step ∷ []
-  more = take_more steps i step l ∙ ap (λ s. take i steps ++ s ∷ []) (sym e)
+  more = take_next steps i step l e
 
   pub taken_more : (run : Run) → HasTaken p (take i steps ++ step ∷ []) run → HasTaken p (take (i + 1) steps) run
   taken_more run h = subst (λ s. HasTaken p s run) (sym more) h

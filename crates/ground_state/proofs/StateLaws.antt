@@ -2,15 +2,12 @@
 use Rattle.std.proofs.Common.{ℕ, ◌+◌, ◌<◌, ◌++◌, length, get_or, take, Contains, ◌≡◌, ◌≢◌, ◌⊎◌, ◌↔◌, inl, inr, Bool, true, false, Option, Some, None, List, [], ◌∷◌, refl, ap, sym, subst, ◌∙◌, true≢false}
 use Rattle.std.specs.Prelude.{unwrap_or, IsSome}
 use Rattle.std.specs.Option.{is_some, option_map}
-use Rattle.std.specs.Cmp.Lexicographic.{slice_cmp}
-use Rattle.std.specs.Ordering.{nat_cmp, is_eq}
 use Rattle.std.proofs.lemmas.Bool.{cases_eq}
-use Rattle.std.proofs.lemmas.List.{take_more}
 use Rattle.std.proofs.lemmas.List.Elements.{Contains-push, Contains-push_cases, Contains-append_left}
 use Rattle.plan_model.specs.declared.terms.GroundAtom.{GroundAtom}
 use Rattle.ground_state.specs.declared.state.State.{State}
-use Rattle.ground_state.specs.States.{atom, note_of, has, atoms, Has, IsSame, IsNoted, AreNoted, KeepsNotes, With, Without, WithAll, WithoutAll}
-use Rattle.ground_state.proofs.Lists.{same-lists, lists-same}
+use Rattle.ground_state.specs.States.{atom, note_of, has, atoms, Has, IsSame, IsNoted, AreNoted, KeepsNotes, WithAll, WithoutAll}
+use Rattle.ground_state.proofs.Lists.{take_next, one-list-or-not, put-then, taken-then}
 
 pub same-atoms : (g a : GroundAtom) → g.predicate ≡ a.predicate → g.args ≡ a.args → g ≡ a
 same-atoms g a p e = λ i. record { predicate = p i; args = e i }
@@ -22,16 +19,20 @@ of-atom P predicate args a p e = subst P (same-atoms (atom predicate args) a p e
 -- two atoms are one, or not
 same-or-not : (g a : GroundAtom) → (g ≡ a) ⊎ (g ≢ a)
 same-or-not g a = elim (cases_eq g.predicate a.predicate) [
-  | inl p ↦ by p (is_eq (slice_cmp nat_cmp g.args a.args)) refl
+  | inl p ↦ elim (one-list-or-not g.args a.args) [ inl e ↦ inl (same-atoms g a p e) | inr d ↦ inr (λ e. d (ap (λ (x : GroundAtom). x.args) e)) ]
   | inr n ↦ inr (λ e. n (ap (λ (x : GroundAtom). x.predicate) e))
 ]
-  where
-    by : g.predicate ≡ a.predicate → (b : Bool) → is_eq (slice_cmp nat_cmp g.args a.args) ≡ b → (g ≡ a) ⊎ (g ≢ a)
-    by p true e = inl (same-atoms g a p (same-lists g.args a.args e))
-    by p false e = inr (λ d. true≢false (sym (lists-same g.args a.args (ap (λ (x : GroundAtom). x.args) d)) ∙ e))
 
-abbrev truth : Option Bool → Bool
-truth o = unwrap_or o false
+-- the atoms of a state, and one
+abbrev pub With : State → GroundAtom → GroundAtom → Type 0
+With s a g = atoms s g ⊎ (g ≡ a)
+
+-- those of a state but one
+abbrev pub Without : State → GroundAtom → GroundAtom → Type 0
+Without s a g = atoms s g × (g ≢ a)
+
+abbrev pub is_true : Option Bool → Bool
+is_true o = unwrap_or o false
 
 pub same-has : (s t : State) (g : GroundAtom) → has t g.predicate g.args ≡ has s g.predicate g.args → atoms t g ↔ atoms s g
 same-has s t g e = (λ x. sym e ∙ x, λ x. e ∙ x)
@@ -50,23 +51,23 @@ changed_by old entered denied affirmed new A D e d a f g = (
 module _ (s t : State) (a : GroundAtom) (v : Option Bool) (n : IsNoted s a v t) where
   pub made-true : v ≡ Some true → Has t (With s a)
   made-true e g = elim (same-or-not g a) [
-    | inl d ↦ (λ x. inr d, λ x. subst (atoms t) (sym d) (ap truth (n.here ∙ e)))
+    | inl d ↦ (λ x. inr d, λ x. subst (atoms t) (sym d) (ap is_true (n.here ∙ e)))
     | inr d ↦ (
-      λ x. inl (sym (ap truth (n.others g d)) ∙ x),
-      λ x. elim x [ inl y ↦ ap truth (n.others g d) ∙ y | inr y ↦ absurd (d y) ],
+      λ x. inl (sym (ap is_true (n.others g d)) ∙ x),
+      λ x. elim x [ inl y ↦ ap is_true (n.others g d) ∙ y | inr y ↦ absurd (d y) ],
     )
   ]
 
-  pub made-false : truth v ≡ false → Has t (Without s a)
+  pub made-false : is_true v ≡ false → Has t (Without s a)
   made-false e g = elim (same-or-not g a) [
-    | inl d ↦ (λ x. absurd (true≢false (sym (subst (atoms t) d x) ∙ ap truth n.here ∙ e)), λ x. absurd (x.1 d))
-    | inr d ↦ (λ x. (sym (ap truth (n.others g d)) ∙ x, d), λ x. ap truth (n.others g d) ∙ x.0)
+    | inl d ↦ (λ x. absurd (true≢false (sym (subst (atoms t) d x) ∙ ap is_true n.here ∙ e)), λ x. absurd (x.1 d))
+    | inr d ↦ (λ x. (sym (ap is_true (n.others g d)) ∙ x, d), λ x. ap is_true (n.others g d) ∙ x.0)
   ]
 
-  pub still-same : truth v ≡ has s a.predicate a.args → IsSame s t
+  pub still-same : is_true v ≡ has s a.predicate a.args → IsSame s t
   still-same e g = elim (same-or-not g a) [
-    | inl d ↦ same-has s t g (subst (λ (x : GroundAtom). has t x.predicate x.args ≡ has s x.predicate x.args) (sym d) (ap truth n.here ∙ e))
-    | inr d ↦ same-has s t g (ap truth (n.others g d))
+    | inl d ↦ same-has s t g (subst (λ (x : GroundAtom). has t x.predicate x.args ≡ has s x.predicate x.args) (sym d) (ap is_true n.here ∙ e))
+    | inr d ↦ same-has s t g (ap is_true (n.others g d))
   ]
 
   -- where something is noted now of what something was
@@ -80,7 +81,7 @@ pub set-Some : (b : Bool) (o : Option Bool) → IsSome o → option_map (λ _. b
 set-Some b (Some x) i = refl
 set-Some b None i = absurd (true≢false (sym i))
 
-pub set-false : (o : Option Bool) → truth (option_map (λ _. false) o) ≡ false
+pub set-false : (o : Option Bool) → is_true (option_map (λ _. false) o) ≡ false
 set-false (Some x) = refl
 set-false None = refl
 
@@ -95,7 +96,7 @@ module _ (s t : State) (a : GroundAtom) (b : Bool) (n : IsNoted s a (option_map 
 -- one item more of a list
 pub taken-next : {X : Type 0} (xs : List X) (i : ℕ) (a : X) → i < length xs → a ≡ get_or xs i a → (g : X) → Contains (take (i + 1) xs) g ↔ (Contains (take i xs) g ⊎ (g ≡ a))
 taken-next xs i a l e g =
-    let more : take (i + 1) xs ≡ take i xs ++ a ∷ [] = take_more xs i a l ∙ ap (λ b. take i xs ++ b ∷ []) (sym e) in (
+    let more = take_next xs i a l e in (
       λ h. elim (Contains-push_cases (take i xs) a g (subst (λ ys. Contains ys g) more h)) [ inl c ↦ inl c | inr d ↦ inr (sym d) ],
       λ h. subst (λ ys. Contains ys g) (sym more) (elim h [ inl c ↦ Contains-append_left (take i xs) (a ∷ []) g c | inr d ↦ subst (λ b. Contains (take i xs ++ a ∷ []) b) (sym d) (Contains-push (take i xs) a) ]),
     )
@@ -110,29 +111,14 @@ new-next xs i a s t l e h w g =
 
 -- atoms put in, and one more
 pub with-more : (old s t : State) (P Q : GroundAtom → Type 0) (a : GroundAtom) → ((g : GroundAtom) → Q g ↔ (P g ⊎ (g ≡ a))) → Has s (λ g. atoms old g ⊎ P g) → Has t (With s a) → Has t (λ g. atoms old g ⊎ Q g)
-with-more old s t P Q a more h w g = (
-  λ x. elim ((w g).0 x) [
-    | inl y ↦ elim ((h g).0 y) [ inl z ↦ inl z | inr z ↦ inr ((more g).1 (inl z)) ]
-    | inr y ↦ inr ((more g).1 (inr y))
-  ],
-  λ x. (w g).1 (elim x [
-    | inl y ↦ inl ((h g).1 (inl y))
-    | inr y ↦ elim ((more g).0 y) [ inl z ↦ inl ((h g).1 (inr z)) | inr z ↦ inr z ]
-  ]),
-)
+with-more old s t P Q a more h w g = put-then (more g) (h g) (w g)
 
 pub with-next : (old s t : State) (xs : List GroundAtom) (i : ℕ) (a : GroundAtom) → i < length xs → a ≡ get_or xs i a → Has s (WithAll old (take i xs)) → Has t (With s a) → Has t (WithAll old (take (i + 1) xs))
 with-next old s t xs i a l e = with-more old s t (Contains (take i xs)) (Contains (take (i + 1) xs)) a (taken-next xs i a l e)
 
 -- and taken out
 pub without-more : (old s t : State) (P Q : GroundAtom → Type 0) (a : GroundAtom) → ((g : GroundAtom) → Q g ↔ (P g ⊎ (g ≡ a))) → Has s (λ g. atoms old g × (P g → ⊥)) → Has t (Without s a) → Has t (λ g. atoms old g × (Q g → ⊥))
-without-more old s t P Q a more h w g = (
-  λ x.
-      let y = (w g).0 x in
-      let z = (h g).0 y.0 in
-      (z.0, λ c. elim ((more g).0 c) [ inl u ↦ z.1 u | inr u ↦ y.1 u ]),
-  λ x. (w g).1 ((h g).1 (x.0, λ c. x.1 ((more g).1 (inl c))), λ d. x.1 ((more g).1 (inr d))),
-)
+without-more old s t P Q a more h w g = taken-then (more g) (h g) (w g)
 
 pub without-next : (old s t : State) (xs : List GroundAtom) (i : ℕ) (a : GroundAtom) → i < length xs → a ≡ get_or xs i a → Has s (WithoutAll old (take i xs)) → Has t (Without s a) → Has t (WithoutAll old (take (i + 1) xs))
 without-next old s t xs i a l e = without-more old s t (Contains (take i xs)) (Contains (take (i + 1) xs)) a (taken-next xs i a l e)
@@ -152,7 +138,7 @@ item-of xs i a l e = (i, l, sym e)
 pub entered : (s t : State) (a : GroundAtom) → is_some (note_of s a) ≡ false → IsNoted s a (Some false) t → IsSame s t × KeepsNotes s t × IsSome (note_of t a)
 entered s t a e n =
     let was : note_of s a ≡ None = none (note_of s a) e in (
-      still-same s t a (Some false) n (sym (ap truth was)),
+      still-same s t a (Some false) n (sym (ap is_true was)),
       keeps-notes s t a (Some false) n (λ i. refl),
       subst IsSome (sym n.here) refl,
     )

@@ -3,21 +3,19 @@
 use Rattle.std.specs.Prelude.{ℕ, ◌≡◌, ◌+◌, ◌<◌, ◌^◌, Bool, MatchBool, MatchOption, List, [], ◌∷◌, ◌++◌, map, length, Contains, Option}
 use Rattle.std.specs.Borrow.{Bor}
 use Rattle.plan_model.specs.declared.terms.Param.{Param}
-use Rattle.plan_model.specs.declared.schemas.ActionSchema.{ActionSchema}
 use Rattle.plan_model.specs.declared.steps.GroundAction.{GroundAction}
 use Rattle.plan_model.specs.declared.values.Pddl.{Pddl}
 use Rattle.plan_model.specs.Parts.{AreListed}
-use Rattle.plan_model.specs.plan_meaning.Truth.{AreTyped, after}
-use Rattle.plan_model.specs.plan_meaning.ClassicalPlan.{AreObjects, InTypeOf, IsApplicable, EndsIn, IsPlan}
+use Rattle.plan_model.specs.plan_meaning.Truth.{AreTyped}
+use Rattle.plan_model.specs.plan_meaning.ClassicalPlan.{AreObjects, InTypeOf, EndsIn, IsPlan}
 use Rattle.plan_model.specs.plan_meaning.FailingStep.{Cause, unknown_action, arguments, condition, goal_false, Fails, AreNamedApart}
 use Rattle.ground_state.specs.declared.verdict.FailWhy.{FailWhy}
 use Rattle.ground_state.specs.declared.verdict.FailWhy.TheVariants as why
 use Rattle.ground_state.specs.declared.verdict.Verdict.{Verdict}
 use Rattle.ground_state.specs.declared.verdict.Verdict.TheVariants as verdict
-use Rattle.ground_state.specs.declared.state.State.{State}
 use Rattle.ground_state.specs.declared.run.Run.{Run}
 use Rattle.ground_state.specs.Frames.{Frame, frame}
-use Rattle.ground_state.specs.States.{atoms, Has}
+use Rattle.ground_state.specs.States.{Has}
 use Rattle.ground_state.specs.Needs.{HasRoomForAll}
 use Rattle.problem_index.specs.Index.{IsIndex}
 
@@ -62,10 +60,6 @@ AreArguments p params words objects = AreObjects p objects words × AreTyped (In
 -- now the objects of the words are in force; or there are no such objects
 abbrev pub IsFilled : Pddl → List Param → List (List ℕ) → Bool → Frame → Type 0
 IsFilled p params words found env = MatchBool found (AreArguments p params words env.objects) ((objects : List ℕ) → AreArguments p params words objects → ⊥)
-
--- the step is taken from the old state to the new one
-abbrev pub IsTaken : Pddl → GroundAction → State → State → Type 0
-IsTaken p step old new = (a : ActionSchema) × (objects : List ℕ) × IsApplicable p (atoms old) step a objects × Has new (after (InTypeOf p) (atoms old) a.eff objects)
 
 -- what a run holds beside its state is its problem's
 pub record IsReady (run : Run) : Type 0 where

@@ -58,17 +58,10 @@ AreNoted list s = (g : GroundAtom) → Contains list g → IsSome (note_of s g)
 abbrev pub KeepsNotes : State → State → Type 0
 KeepsNotes old new = (g : GroundAtom) → IsSome (note_of old g) → IsSome (note_of new g)
 
--- those of the set, and one
-abbrev pub With : State → GroundAtom → truth.State
-With s a g = atoms s g ⊎ (g ≡ a)
-
--- those of the set but one
-abbrev pub Without : State → GroundAtom → truth.State
-Without s a g = atoms s g × (g ≢ a)
-
--- the same, of the atoms of a list
+-- those of the set, and those of a list
 abbrev pub WithAll : State → List GroundAtom → truth.State
 WithAll s list g = atoms s g ⊎ Contains list g
 
+-- those of the set that are none of a list
 abbrev pub WithoutAll : State → List GroundAtom → truth.State
 WithoutAll s list g = atoms s g × (Contains list g → ⊥)

@@ -1,8 +1,6 @@
 use Rattle.std.proofs.Common.{◌≤◌, ◌↔◌, IsTrue, List, length, refl, sym, subst, ◌∙◌, true≢false}
 use Rattle.std.proofs.lemmas.Result.{IfOk-from_err}
 use Rattle.std.specs.Vec.{vec_capacity}
-use Rattle.plan_model.specs.declared.types.Types.{Types}
-use Rattle.plan_model.specs.declared.types.Object.{Object}
 use Rattle.plan_model.specs.declared.terms.Param.{Param}
 use Rattle.plan_model.specs.Typing.{InType}
 use Rattle.plan_model.specs.plan_meaning.Truth.{IsTrueIn, after}
@@ -46,8 +44,8 @@ is_true-requires-clause-room c =
 
 pub returns-then-not-is_true-clause-taken : goal.returns-then-not-is_true-clause-taken
 returns-then-not-is_true-clause-taken c =
-    let truth : IsTrue c.is_true.result ↔ IsTrueIn (InTypeOf c.args.self.now.p.now) (atoms c.args.self.now.state) c.in-Some.action.now.pre c.fill.new.env.values.items = subst (λ (xs : List Object). IsTrue c.is_true.result ↔ IsTrueIn (InType c.args.self.now.p.now.types xs) (atoms c.args.self.now.state) c.in-Some.action.now.pre c.fill.new.env.values.items) c.world-world.ensures.objects
-    (subst (λ (types : Types). IsTrue c.is_true.result ↔ IsTrueIn (InType types c.world-world.result.objects.now) (atoms c.args.self.now.state) c.in-Some.action.now.pre c.fill.new.env.values.items) c.world-world.ensures.types c.is_true.ensures.truth) in
+    let truth = laws.in_problem (λ types objects. IsTrue c.is_true.result ↔ IsTrueIn (InType types objects) (atoms c.args.self.now.state) c.in-Some.action.now.pre c.fill.new.env.values.items) c.args.self.now.p.now
+    c.world-world.result.types.now c.world-world.result.objects.now c.world-world.ensures.types c.world-world.ensures.objects c.is_true.ensures.truth in
     let old = c.args.self.now in
     let p = old.p.now in
     let a = c.in-Some.action.now in
@@ -69,10 +67,10 @@ apply_in-requires-clause-room c =
 
 pub returns-clause-taken : goal.returns-clause-taken
 returns-clause-taken c =
-    let truth : IsTrue c.is_true.result ↔ IsTrueIn (InTypeOf c.args.self.now.p.now) (atoms c.args.self.now.state) c.in-Some.action.now.pre c.fill.new.env.values.items = subst (λ (xs : List Object). IsTrue c.is_true.result ↔ IsTrueIn (InType c.args.self.now.p.now.types xs) (atoms c.args.self.now.state) c.in-Some.action.now.pre c.fill.new.env.values.items) c.world-world.ensures.objects
-    (subst (λ (types : Types). IsTrue c.is_true.result ↔ IsTrueIn (InType types c.world-world.result.objects.now) (atoms c.args.self.now.state) c.in-Some.action.now.pre c.fill.new.env.values.items) c.world-world.ensures.types c.is_true.ensures.truth) in
-    let ended : Has c.apply_in.new.self (after (InTypeOf c.args.self.now.p.now) (atoms c.args.self.now.state) c.in-Some.action.now.eff c.is_true.new.env.values.items) = subst (λ (xs : List Object). Has c.apply_in.new.self (after (InType c.args.self.now.p.now.types xs) (atoms c.args.self.now.state) c.in-Some.action.now.eff c.is_true.new.env.values.items)) c.world-world.ensures.objects
-    (subst (λ (types : Types). Has c.apply_in.new.self (after (InType types c.world-world.result.objects.now) (atoms c.args.self.now.state) c.in-Some.action.now.eff c.is_true.new.env.values.items)) c.world-world.ensures.types c.in_ok-apply_in.ensures.after) in
+    let truth = laws.in_problem (λ types objects. IsTrue c.is_true.result ↔ IsTrueIn (InType types objects) (atoms c.args.self.now.state) c.in-Some.action.now.pre c.fill.new.env.values.items) c.args.self.now.p.now
+    c.world-world.result.types.now c.world-world.result.objects.now c.world-world.ensures.types c.world-world.ensures.objects c.is_true.ensures.truth in
+    let ended = laws.in_problem (λ types objects. Has c.apply_in.new.self (after (InType types objects) (atoms c.args.self.now.state) c.in-Some.action.now.eff c.is_true.new.env.values.items)) c.args.self.now.p.now
+    c.world-world.result.types.now c.world-world.result.objects.now c.world-world.ensures.types c.world-world.ensures.objects c.in_ok-apply_in.ensures.after in
     let old = c.args.self.now in
     let p = old.p.now in
     let a = c.in-Some.action.now in

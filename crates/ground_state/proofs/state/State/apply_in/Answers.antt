@@ -1,11 +1,7 @@
-use Rattle.std.proofs.Common.{true, false, subst, ◌∙◌}
+use Rattle.std.proofs.Common.{refl}
 use Rattle.std.proofs.lemmas.Result.{on_ok_weaker}
 use Rattle.plan_model.specs.Typing.{InType}
-use Rattle.ground_state.specs.declared.passes.Pass.TheVariants as passes
-use Rattle.ground_state.specs.Frames.{Frame}
-use Rattle.ground_state.specs.States.{atoms}
-use Rattle.ground_state.specs.Search.{Touches}
-use Rattle.ground_state.specs.Passes.{Passes}
+use Rattle.ground_state.specs.Frames.{frame}
 use Rattle.ground_state.proofs.PassLaws.{changed}
 use Rattle.ground_state.proofs.state.State.apply_in.Goals as goal
 
@@ -13,30 +9,20 @@ pub returns-then-is_plain-clause-after : goal.returns-then-is_plain-clause-after
 returns-then-is_plain-clause-after c =
     let I = InType c.args.world.now.types.now c.args.world.now.objects.now in
     let old = c.args.self.now in
-    let e = c.args.eff.now in
-    let entered = c.pass_over.new.self in
-    let denied = c.pass_over-then-is_plain.new.self in
-    let affirmed = c.pass_over-then-is_plain-2.new.self in
-    let once = c.pass_over.ensures.kept in
-    let twice = c.pass_over-then-is_plain.ensures.kept ∙ once in
-    let thrice = c.pass_over-then-is_plain-2.ensures.kept ∙ twice in
+    let once = c.pass_over in
+    let twice = c.pass_over-then-is_plain in
+    let thrice = c.pass_over-then-is_plain-2 in
     on_ok_weaker c.pass_over-then-is_plain-3.result (λ h.
-    changed I old entered denied affirmed c.pass_over-then-is_plain-3.new.self e c.args.env.now.values.items (c.in_ok-pass_over.ensures.passed old)
-    (subst (λ (f : Frame). Passes passes.Deny (Touches I (atoms old) false e f.objects) entered denied) once (c.in_ok-pass_over-2.ensures.passed old))
-    (subst (λ (f : Frame). Passes passes.Affirm (Touches I (atoms old) true e f.objects) denied affirmed) twice (c.in_ok-pass_over-3.ensures.passed old))
-    (subst (λ (f : Frame). Passes passes.Forget (Touches I (atoms old) false e f.objects) affirmed c.pass_over-then-is_plain-3.new.self) thrice (h old))
+    changed I old once.new.self twice.new.self thrice.new.self c.pass_over-then-is_plain-3.new.self c.args.eff.now (frame c.args.env.now) (frame once.new.env) (frame twice.new.env) (frame thrice.new.env)
+    once.ensures.kept twice.ensures.kept thrice.ensures.kept (c.in_ok-pass_over.ensures.passed old) (c.in_ok-pass_over-2.ensures.passed old) (c.in_ok-pass_over-3.ensures.passed old) (h old)
     ) c.pass_over-then-is_plain-3.ensures.passed
 
 pub returns-then-not-self-clause-after : goal.returns-then-not-self-clause-after
 returns-then-not-self-clause-after c =
     let I = InType c.args.world.now.types.now c.args.world.now.objects.now in
     let old = c.args.self.now in
-    let e = c.args.eff.now in
-    let entered = c.pass_over.new.self in
-    let denied = c.pass_over-then-is_plain.new.self in
-    let affirmed = c.pass_over-then-is_plain-2.new.self in
-    let once = c.pass_over.ensures.kept in
-    let twice = c.pass_over-then-is_plain.ensures.kept ∙ once in
-    changed I old entered denied affirmed affirmed e c.args.env.now.values.items (c.in_ok-pass_over.ensures.passed old)
-    (subst (λ (f : Frame). Passes passes.Deny (Touches I (atoms old) false e f.objects) entered denied) once (c.in_ok-pass_over-2.ensures.passed old))
-    (subst (λ (f : Frame). Passes passes.Affirm (Touches I (atoms old) true e f.objects) denied affirmed) twice (c.in_ok-pass_over-3.ensures.passed old)) (λ g. (λ x. x, λ x. x))
+    let once = c.pass_over in
+    let twice = c.pass_over-then-is_plain in
+    let thrice = c.pass_over-then-is_plain-2 in
+    changed I old once.new.self twice.new.self thrice.new.self thrice.new.self c.args.eff.now (frame c.args.env.now) (frame once.new.env) (frame twice.new.env) (frame twice.new.env)
+    once.ensures.kept twice.ensures.kept refl (c.in_ok-pass_over.ensures.passed old) (c.in_ok-pass_over-2.ensures.passed old) (c.in_ok-pass_over-3.ensures.passed old) (λ g. (λ x. x, λ x. x))
