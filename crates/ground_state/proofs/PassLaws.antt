@@ -1,6 +1,7 @@
 -- Effects without conditions, part by part, and what passes over them do to a state.
 use Rattle.std.proofs.Common.{ℕ, ◌≡◌, ◌≤◌, ◌↔◌, ◌⊎◌, inl, inr, Bool, true, false, not, List, ◌++◌, length, Result, Ok, Err, refl, ap, sym, subst, ◌∙◌, true≢false}
 use Rattle.std.specs.Result.{OnErr}
+use Rattle.std.specs.Option.{option_map}
 use Rattle.plan_model.specs.declared.terms.Atom.{Atom}
 use Rattle.plan_model.specs.declared.terms.GroundAtom.{GroundAtom}
 use Rattle.plan_model.specs.declared.terms.Param.{Param}
@@ -15,11 +16,11 @@ use Rattle.ground_state.specs.declared.state.State.{State}
 use Rattle.ground_state.specs.declared.passes.Pass.{Pass}
 use Rattle.ground_state.specs.declared.passes.Pass.TheVariants as passes
 use Rattle.ground_state.specs.Frames.{Frame}
-use Rattle.ground_state.specs.States.{atoms, Has}
+use Rattle.ground_state.specs.States.{note_of, atoms, Has, IsSet}
 use Rattle.ground_state.specs.Search.{Touches}
 use Rattle.ground_state.specs.Passes.{plain_step, plain, IsPlain, ArePlain, literal, of_adds, IsIdle, Passes, HasOnlyEntered}
 use Rattle.ground_state.proofs.Lists.{put-then, taken-then}
-use Rattle.ground_state.proofs.StateLaws.{same-twice, changed_by}
+use Rattle.ground_state.proofs.StateLaws.{is_true, same-twice, changed_by, made-false, set-true, set-false, set-keeps}
 use Rattle.ground_state.proofs.RoomEquations.{each-map}
 use Rattle.ground_state.proofs.GatherCases.{touches-Add, touches-Add-not, touches-Delete, touches-Delete-not, touches-Forall}
 
@@ -115,6 +116,23 @@ passes-then passes.Affirm P Q R s m t e h k = (
   λ g i. k.1 g (h.1 g i),
 )
 passes-then passes.Forget P Q R s m t e h k = same-twice s m t h k
+
+-- the atom is noted as true where it is added, and as false where it is deleted
+pub passes-set : (p : Pass) (s t : State) (a : GroundAtom) (adds : Bool) → (p ≡ passes.Deny) ⊎ (p ≡ passes.Affirm) → adds ≡ of_adds p → IsSet s a adds t → Passes p (λ g. (adds ≡ of_adds p) × (g ≡ a)) s t
+passes-set passes.Enter s t a adds w e set = absurd (elim w [ inl d ↦ cc d | inr d ↦ cc d ])
+passes-set passes.Deny s t a adds w e set = (
+  λ g.
+      let h = made-false s t a (option_map (λ _. adds) (note_of s a)) set (subst (λ b. is_true (option_map (λ _. b) (note_of s a)) ≡ false) (sym e) (set-false (note_of s a))) g in
+      (λ x. let y = h.0 x in (y.0, λ q. y.1 q.1), λ x. h.1 (x.0, λ d. x.1 (e, d))),
+  set-keeps s t a adds set,
+)
+passes-set passes.Affirm s t a adds w e set = (
+  λ i g.
+      let h = set-true s t a adds set (i a (e, refl)) e g in
+      (λ x. elim (h.0 x) [ inl y ↦ inl y | inr y ↦ inr (e, y) ], λ x. h.1 (elim x [ inl y ↦ inl y | inr y ↦ inr y.1 ])),
+  set-keeps s t a adds set,
+)
+passes-set passes.Forget s t a adds w e set = absurd (elim w [ inl d ↦ cc d | inr d ↦ cc d ])
 
 -- a pass that needs memory leaves the state as it was
 pub only-entered : (p : Pass) (P : truth.State) (s m t : State) → Passes p P s m → HasOnlyEntered p m t → HasOnlyEntered p s t

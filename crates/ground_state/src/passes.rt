@@ -257,12 +257,8 @@ impl State {
                 env.fill(atom.args.as_slice());
                 self.insert(alloc, atom.predicate, env.args(), false)
             }
-            Pass::Deny => {
-                self.set_atom(env, atom, false);
-                Ok(())
-            }
-            Pass::Affirm => {
-                self.set_atom(env, atom, true);
+            Pass::Deny | Pass::Affirm => {
+                self.set_atom(env, atom, adds);
                 Ok(())
             }
             Pass::Forget => {
