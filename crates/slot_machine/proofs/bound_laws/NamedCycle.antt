@@ -42,6 +42,22 @@ part_of (z ∷ before) after x y c = elim (head_or_tail z (before ++ x ∷ after
 ]
 
 module _ {Task Edge : Type 0} (source target : Edge → Task) (edges : List Edge) where
+  -- a walk comes before one that begins with a later edge
+  pub by_first_edge : (e d : Edge) (walk back before after : List Edge) → edges ≡ before ++ e ∷ after → Contains after d → ComesFirst source target edges (e ∷ walk) (d ∷ back)
+  by_first_edge e d walk back before after parts later = record {
+    common = [];
+    edge = e;
+    rest = walk;
+    other_edge = d;
+    other_rest = back;
+    is = refl;
+    other_is = refl;
+    before = before;
+    after = after;
+    parts = parts;
+    later = later;
+  }
+
   -- an edge before two walks leaves them in their order
   pub along : (e : Edge) (walk back : List Edge) → (walk ≡ back) ⊎ ComesFirst source target edges walk back → (e ∷ walk ≡ e ∷ back) ⊎ ComesFirst source target edges (e ∷ walk) (e ∷ back)
   along e walk back (inl s) = inl (ap (λ z. e ∷ z) s)
@@ -95,19 +111,7 @@ module _ {Task Edge : Type 0} (source target : Edge → Task) (edges : List Edge
           go (inr (inl s)) =
               let same : (e ∷ walk ≡ e ∷ back) ⊎ ComesFirst source target edges (e ∷ walk) (e ∷ back) = along source target edges e walk back (w.first back (subst (λ z. IsWalk source target edges (target z) back y) (sym s) v.2) (omega arith)) in
               subst (λ z. (e ∷ walk ≡ z ∷ back) ⊎ ComesFirst source target edges (e ∷ walk) (z ∷ back)) s same
-          go (inr (inr a)) = inr (record {
-            common = [];
-            edge = e;
-            rest = walk;
-            other_edge = d;
-            other_rest = back;
-            is = refl;
-            other_is = refl;
-            before = f.before;
-            after = f.after;
-            parts = f.parts;
-            later = a;
-          })
+          go (inr (inr a)) = inr (by_first_edge source target edges e d walk back f.before f.after f.parts a)
 
   first_walk : (n : ℕ) (x y : Task) → HasFirstWalk n x y ⊎ HasNoWalk n x y
   first_walk zero x y = go (told x y)
