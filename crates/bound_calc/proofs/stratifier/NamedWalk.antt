@@ -9,7 +9,7 @@ use Rattle.plan_model.specs.declared.values.Compiled.{Compiled}
 use Rattle.plan_model.specs.plan_meaning.Schemas.{task}
 use Rattle.plan_model.specs.plan_meaning.Strata.{Edge, source, target}
 use Rattle.plan_model.proofs.plan_meaning.BoundParts.{there_at}
-use Rattle.slot_machine.proofs.bound_laws.NamedCycle.{along}
+use Rattle.slot_machine.proofs.bound_laws.NamedCycle.{along, by_first_edge}
 use Rattle.bound_calc.proofs.stratifier.NamedDistances.{found_within}
 use Rattle.bound_calc.specs.declared.stratifier.edge.Edge as Declared
 use Rattle.bound_calc.specs.declared.stratifier.named.Ends.{Ends}
@@ -111,19 +111,7 @@ module _ {Node Link : Type 0} (source target : Link → Node) (edges : List Link
             | inl m ↦ absurd (never j d back m f w.0 w.2 (omega arith))
             | inr r ↦ elim r [
               | inl m ↦ same (same_Some e d (sym is ∙ (ap (slice_get edges) (sym m) ∙ f)))
-              | inr m ↦ inr (record {
-                common = [];
-                edge = e;
-                rest = walk;
-                other_edge = d;
-                other_rest = back;
-                is = refl;
-                other_is = refl;
-                before = cut.before;
-                after = cut.after;
-                parts = cut.parts;
-                later = cut.later j d m f;
-              })
+              | inr m ↦ inr (by_first_edge source target edges e d walk back cut.before cut.after cut.parts (cut.later j d m f))
             ]
           ]
 
