@@ -10,10 +10,10 @@ use Rattle.outside_io.specs.command_words.Words.{TranslationRequest, Request, to
 use Rattle.outside_io.proofs.command_words.Requests.{one_request}
 use Rattle.htn_cli.specs.Texts.{Texts}
 use Rattle.htn_cli.specs.Refusal.{status_of, line_of}
-use Rattle.htn_cli.specs.Sent.{Told, TakesWhole, TakesThenFails}
+use Rattle.htn_cli.specs.Sent.{Told, TakesWhole, TakesThenFails, TakesThenStarves}
 use Rattle.htn_cli.specs.Answer.{Answer, refuses, writes, tells, confirms, IsGivenWithin, AreAskedFor, AreSlotsOf, IsForSlots, IsAnswer}
-use Rattle.htn_cli.specs.Left.{StandsUpTo, Gives, LeavesUnwritten, Leaves}
-use Rattle.htn_cli.specs.Ending.{Achieves, status_by, line_by, IsOfAnAnswer, IsRefused, IsRefusedFor, IsDone, AskForSlots, IsAnswered}
+use Rattle.htn_cli.specs.Left.{StandsUpTo, Gives, LeavesUnwritten, LeavesStarved, Leaves}
+use Rattle.htn_cli.specs.Ending.{Achieves, status_by, line_by, IsOfAnAnswer, IsRefused, IsRefusedFor, IsDone, AskForSlots, IsAnswered, IsBeforePuts, IsUntouched}
 use Rattle.htn_cli.specs.declared.status.Status.{Status}
 use Rattle.htn_cli.specs.declared.status.Status.TheVariants as status
 use Rattle.htn_cli.specs.declared.refusal.Refusal.{Refusal}
@@ -224,6 +224,77 @@ module _ (old new : FilesState) (out out' : SinkState) where
   pub read_fault : (words : List Word) (refusal : Refusal) → IsRefused words old new out out' refusal → status_of refusal ≡ status.ReadFault → HasRisen old.get_faults new.get_faults
   read_fault words refusal (inl w) e = absurd (let f = sym (ap status_of w.refusal_is) ∙ e in cc)
   read_fault words refusal (inr t) e = read_fault_left t.request refusal t.left e
+
+-- A count that rose shows in the status, and what is refused before the first put leaves all as it was.
+module _ (old new : FilesState) (out out' : SinkState) where
+  pub record Shows (ended : Status) : Type 0 where
+    pub get : old.get_faults < new.get_faults → ended ≡ status.ReadFault
+    pub put : old.put_faults < new.put_faults → ended ≡ status.WriteFault
+    pub write : out.faults < out'.faults → ended ≡ status.WriteFault
+    pub untouched : IsBeforePuts ended → IsUntouched old new out out'
+
+  same_gets : new ≡ old → new.get_faults ≡ old.get_faults
+  same_gets e = ap (λ (files : FilesState). files.get_faults) e
+
+  same_puts : new ≡ old → new.put_faults ≡ old.put_faults
+  same_puts e = ap (λ (files : FilesState). files.put_faults) e
+
+  same_writes : out' ≡ out → out'.faults ≡ out.faults
+  same_writes e = ap (λ (sink : SinkState). sink.faults) e
+
+  none_rose : (ended : Status) → new.get_faults ≡ old.get_faults → new.put_faults ≡ old.put_faults → out'.faults ≡ out.faults → (IsBeforePuts ended → IsUntouched old new out out') → Shows ended
+  none_rose ended get_same put_same write_same untouched = record { get = λ l. absurd (omega arith); put = λ l. absurd (omega arith); write = λ l. absurd (omega arith); untouched = untouched }
+
+  still : (ended : Status) → new ≡ old → out' ≡ out → Shows ended
+  still ended e f = none_rose ended (same_gets e) (same_puts e) (same_writes f) (λ before. record { held = ap (λ (files : FilesState). files.held) e; written = f })
+
+  failing : new.get_faults ≡ old.get_faults → Shows status.WriteFault
+  failing gets = record { get = λ l. absurd (omega arith); put = λ l. refl; write = λ l. refl; untouched = λ before. absurd before }
+
+  failed_told : (answer : Answer) → StandsUpTo TakesThenFails answer old new out out' → Shows status.WriteFault
+  failed_told (refuses refusal) stands = absurd stands
+  failed_told (writes names texts slots) stands = failing stands.0.faults.get_faults
+  failed_told (tells n) stands = failing (same_gets stands.0)
+  failed_told confirms stands = failing (same_gets stands.0)
+
+  starved_told : (answer : Answer) → StandsUpTo TakesThenStarves answer old new out out' → Shows status.NoMemory
+  starved_told (refuses refusal) stands = absurd stands
+  starved_told (writes names texts slots) stands = none_rose status.NoMemory stands.0.faults.get_faults stands.0.faults.put_faults stands.1.faults (λ before. absurd before)
+  starved_told (tells n) stands = none_rose status.NoMemory (same_gets stands.0) (same_puts stands.0) stands.1.faults (λ before. absurd before)
+  starved_told confirms stands = none_rose status.NoMemory (same_gets stands.0) (same_puts stands.0) stands.1.faults (λ before. absurd before)
+
+  starved : (request : Request) → LeavesStarved request old new out out' → Shows status.NoMemory
+  starved request (inl (e, f)) = still status.NoMemory e f
+  starved request (inr (inl (names, texts, slots, is, first, f))) = none_rose status.NoMemory first.faults.get_faults first.faults.put_faults (same_writes f) (λ before. absurd before)
+  starved request (inr (inr (answer, is, stands))) = starved_told answer stands
+
+  left_shows : (request : Request) (refusal : Refusal) → Leaves request old new out out' refusal → Shows (status_of refusal)
+  left_shows request refused.Words left = still _ left.1 left.2
+  left_shows request refused.BoundLimit left = still _ left.1 left.2
+  left_shows request (refused.SlotsLimit n) left = still _ left.1 left.2
+  left_shows request (refused.BytesLimit word) left = still _ left.1 left.2
+  left_shows request (refused.TextFault place code) left = still _ left.1 left.2
+  left_shows request (refused.TextLimit counted place) left = still _ left.1 left.2
+  left_shows request (refused.StepsLimit steps) left = still _ left.1 left.2
+  left_shows request (refused.NotTailRecursive words) left = still _ left.1 left.2
+  left_shows request (refused.NotAPlan step why) left = still _ left.1 left.2
+  left_shows request (refused.OutputLimit n) left = still _ left.1 left.2
+  left_shows request (refused.CannotRead word) left = record {
+    get = λ l. refl;
+    put = λ l. absurd (let e = left.1.1.put_faults in omega arith);
+    write = λ l. absurd (let e = same_writes left.2 in omega arith);
+    untouched = λ before. record { held = left.1.1.held; written = left.2 };
+  }
+  left_shows request (refused.CannotWrite word) (names, texts, slots, is, left, stays) = elim left [ inl first ↦ failing first.1.get_faults | inr second ↦ failing second.1.get_faults ]
+  left_shows request refused.CannotWriteOutput (answer, is, stands) = failed_told answer stands
+  left_shows request refused.NoMemory left = starved request left.1
+
+  refused_shows : (words : List Word) (refusal : Refusal) → IsRefused words old new out out' refusal → Shows (status_of refusal)
+  refused_shows words refusal (inl w) = subst (λ r. Shows (status_of r)) (sym w.refusal_is) (still status.Words w.files_stay w.out_stays)
+  refused_shows words refusal (inr t) = left_shows t.request refusal t.left
+
+  pub shows : (words : List Word) (refusal : Refusal) (ended : Status) → ended ≡ status_of refusal → IsRefused words old new out out' refusal → Shows ended
+  shows words refusal ended is left = subst Shows (sym is) (refused_shows words refusal left)
 
 -- where nothing failed, a status is that of an answer, or of want of memory
 pub calm : (ended : Status) → (ended ≡ status.ReadFault → ⊥) → (ended ≡ status.WriteFault → ⊥) → (ended ≡ status.NoMemory) ⊎ IsOfAnAnswer ended

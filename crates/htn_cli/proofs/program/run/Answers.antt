@@ -2,7 +2,7 @@ use Rattle.std.proofs.Common.{sym, ◌∙◌, inl, inr, ⊎_elim, arith, rules}
 use Rattle.outside_io.specs.command_words.Names.{words_of}
 use Rattle.htn_cli.proofs.Texts.{Told-nothing}
 use Rattle.htn_cli.proofs.Headlines.{headline_done, bound_done, plan_done, finding_refused}
-use Rattle.htn_cli.proofs.Endings.{never_done, answered_refused, answered_done, past_all, past_slots, past_not_done, refused_for, write_fault, read_fault, calm}
+use Rattle.htn_cli.proofs.Endings.{never_done, answered_refused, answered_done, past_all, past_slots, past_not_done, refused_for, write_fault, read_fault, shows, calm}
 use Rattle.htn_cli.proofs.program.run.Goals as goal
 
 -- what was asked for was done
@@ -82,16 +82,16 @@ returns-in-Err-clause-write_fault g c =
     λ e. write_fault (g.F.Files.state c.args.files.now) (g.F.Files.state c.act.new.files) (g.O.Sink.state c.args.out.now) (g.O.Sink.state c.act.new.out) (words_of c.args.words.now) c.in-Err.refusal c.in-Err.ensures.refused (sym c.status-status.ensures ∙ e)
 
 pub returns-in-Err-clause-untouched : goal.returns-in-Err-clause-untouched
-returns-in-Err-clause-untouched g c = search rules
+returns-in-Err-clause-untouched g c = (shows (g.F.Files.state c.args.files.now) (g.F.Files.state c.act.new.files) (g.O.Sink.state c.args.out.now) (g.O.Sink.state c.act.new.out) (words_of c.args.words.now) c.in-Err.refusal _ c.status-status.ensures c.in-Err.ensures.refused).untouched
 
 pub returns-in-Err-clause-words : goal.returns-in-Err-clause-words
 returns-in-Err-clause-words g c = search rules
 
 pub returns-in-Err-clause-failed_get : goal.returns-in-Err-clause-failed_get
-returns-in-Err-clause-failed_get g c = search rules
+returns-in-Err-clause-failed_get g c = (shows (g.F.Files.state c.args.files.now) (g.F.Files.state c.act.new.files) (g.O.Sink.state c.args.out.now) (g.O.Sink.state c.act.new.out) (words_of c.args.words.now) c.in-Err.refusal _ c.status-status.ensures c.in-Err.ensures.refused).get
 
 pub returns-in-Err-clause-failed_put : goal.returns-in-Err-clause-failed_put
-returns-in-Err-clause-failed_put g c = search rules
+returns-in-Err-clause-failed_put g c = (shows (g.F.Files.state c.args.files.now) (g.F.Files.state c.act.new.files) (g.O.Sink.state c.args.out.now) (g.O.Sink.state c.act.new.out) (words_of c.args.words.now) c.in-Err.refusal _ c.status-status.ensures c.in-Err.ensures.refused).put
 
 pub returns-in-Err-clause-failed_write : goal.returns-in-Err-clause-failed_write
-returns-in-Err-clause-failed_write g c = search rules
+returns-in-Err-clause-failed_write g c = (shows (g.F.Files.state c.args.files.now) (g.F.Files.state c.act.new.files) (g.O.Sink.state c.args.out.now) (g.O.Sink.state c.act.new.out) (words_of c.args.words.now) c.in-Err.refusal _ c.status-status.ensures c.in-Err.ensures.refused).write
