@@ -1,4 +1,4 @@
-ghost use Rattle.std.specs.Prelude.{◌≡◌, ◌≤◌, length, IfOk, IfErr};
+ghost use Rattle.std.specs.Prelude.{◌≤◌, length, IfOk, IfErr};
 ghost use Rattle.text_values.specs.PddlValues.{IsValueOf, IsRefusal};
 
 use crate::form_spellings::binding_laws::read_pddl_is_its_value;

@@ -32,6 +32,7 @@ pub mod DomainParts
 pub mod ProblemParts
 pub mod SchemaValues
 pub mod MethodValues
+pub mod PartFaults
 pub mod PartValues
 pub mod TypeCycles
 pub mod LeastSpots

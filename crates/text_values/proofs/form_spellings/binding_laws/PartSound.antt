@@ -1,5 +1,5 @@
 -- The schemas of a domain and the parts of a problem that have no faults are bound to sound ones.
-use Rattle.std.proofs.Common.{ℕ, ◌≡◌, List, [], ◌∷◌, ◌++◌, map, length, sym, subst, arith}
+use Rattle.std.proofs.Common.{ℕ, ◌≡◌, List, [], ◌∷◌, map, length, sym, subst, arith}
 use Rattle.std.specs.Prelude.{◌≤◌}
 use Rattle.text_forms.specs.Words.{Word}
 use Rattle.gd_reader.specs.Terms.{Names}
@@ -17,45 +17,39 @@ use Rattle.plan_texts.proofs.Spelled.{sound_roll}
 use Rattle.text_values.specs.form_spellings.EachName.{OfAtom}
 use Rattle.text_values.specs.form_spellings.InTable.{IsNameIn}
 use Rattle.hddl_reader.specs.names.Standing.{InDomain, InProblem}
-use Rattle.name_binding.specs.declared.faults.Spot.{Spot}
 use Rattle.name_binding.specs.Heads.{declared}
 use Rattle.name_binding.specs.Terms.{terms_faults}
-use Rattle.name_binding.specs.Typed.{params_bound, params_faults}
+use Rattle.name_binding.specs.Typed.{params_bound}
 use Rattle.name_binding.specs.declared.known.Known.{Known}
 use Rattle.name_binding.specs.Atoms.{atom_faults, head_faults, place_of}
 use Rattle.name_binding.specs.Facts.{fact_bound}
-use Rattle.name_binding.specs.Formulas.{formula_faults}
-use Rattle.hddl_bind.specs.Networks.{network_faults}
-use Rattle.hddl_bind.specs.Actions.{actions_bound, actions_faults}
-use Rattle.hddl_bind.specs.DomainSchemas.{typed_faults}
+use Rattle.hddl_bind.specs.Actions.{actions_bound}
 use Rattle.hddl_bind.specs.Facts.{facts_bound, facts_faults}
-use Rattle.hddl_bind.specs.Methods.{methods_faults}
-use Rattle.hddl_bind.specs.ProblemParts.{top_scope, top_faults, top_bound}
-use Rattle.hddl_bind.specs.Schemas.{heads_faults}
+use Rattle.hddl_bind.specs.ProblemParts.{top_bound}
 use Rattle.text_values.specs.form_spellings.binding_laws.Known.{IsKnownOf, HasKnown}
 use Rattle.text_values.specs.form_spellings.binding_laws.SchemaValues.{OfAllWords, task_words, action_words}
 use Rattle.text_values.specs.form_spellings.binding_laws.SoundSchemas.{with_objects, HasSoundSchemas, HasSoundParts}
 use Rattle.text_values.proofs.form_spellings.binding_laws.FormulaSound.{arities_of, atom_sound, params_sound, formula_sound}
 use Rattle.text_values.proofs.form_spellings.binding_laws.Ones.{each_wider}
 use Rattle.text_values.proofs.form_spellings.binding_laws.MethodSound.{children_in_force, limits_in_force, methods_sound}
+use Rattle.text_values.proofs.form_spellings.binding_laws.PartFaults.{schemas_faultless, parts_faultless}
 use Rattle.text_values.proofs.form_spellings.binding_laws.PartValues.{objects_only, has_bound_schemas, has_bound_parts}
 use Rattle.text_values.proofs.form_spellings.binding_laws.SchemaSound.{IsSoundAction, predicates_sound, tasks_sound, actions_sound}
 use Rattle.text_values.proofs.form_spellings.binding_laws.Written.{none_left, none_right}
 
 pub has_sound_schemas : OfAllWords HasSoundSchemas
 has_sound_schemas names d objects known callables v arities others cycles up are enough is n right e =
-    let parts = none_right (typed_faults known.types d) (actions ++ methods) e in
-    let behind = none_right constants (predicates ++ tasks) typed in
+    let none = schemas_faultless known callables d cycles e in
     let bound = has_bound_schemas names d objects known callables v cycles up is n right e in
-    let sound = actions_sound names d objects known of v has arities are others enough d.actions is.words.actions is.actions (λ here x s. n here x (InDomain.action s)) (none_left actions methods parts) in
+    let sound = actions_sound names d objects known of v has arities are others enough d.actions is.words.actions is.actions (λ here x s. n here x (InDomain.action s)) none.actions in
     record {
-      predicates = predicates_sound names d objects known of v has arities are others enough d.predicates is.words.predicates is.predicates (λ here x s. n here x (InDomain.of_predicate s)) (none_left predicates tasks behind);
-      task_params = tasks_sound names d objects known of v has arities are others enough d.tasks is.words.tasks is.tasks (λ here x s. n here x (InDomain.of_task s)) (none_right predicates tasks behind);
+      predicates = predicates_sound names d objects known of v has arities are others enough d.predicates is.words.predicates is.predicates (λ here x s. n here x (InDomain.of_predicate s)) none.predicates;
+      task_params = tasks_sound names d objects known of v has arities are others enough d.tasks is.words.tasks is.tasks (λ here x s. n here x (InDomain.of_task s)) none.tasks;
       action_params = each_wider Sound (λ (a : ActionSchema). AreSoundParams w arities a.params) (actions_bound known d.actions) (λ a s. s.0) sound;
       pre = each_wider Sound (λ (a : ActionSchema). IsSound w arities a.pre (map (variable w) a.params)) (actions_bound known d.actions) (λ a s. s.1.0) sound;
       eff = each_wider Sound (λ (a : ActionSchema). IsSoundEffect w arities a.eff (map (variable w) a.params)) (actions_bound known d.actions) (λ a s. s.1.1) sound;
       methods = methods_sound names d objects known of v has arities are others enough callables (task_words names d objects known callables v) (action_words names d objects known callables v) d.methods cycles is.words.methods is.methods
-          (λ here x s. n here x (InDomain.method s)) right (none_right actions methods parts) bound.methods;
+          (λ here x s. n here x (InDomain.method s)) right none.methods bound.methods;
     }
   where
     of : IsKnownOf names d objects known
@@ -69,24 +63,6 @@ has_sound_schemas names d objects known callables v arities others cycles up are
 
     Sound : ActionSchema → Type 0
     Sound = IsSoundAction names d objects known of v has arities are others enough
-
-    constants : List Spot
-    constants = params_faults known.types d.constants
-
-    predicates : List Spot
-    predicates = heads_faults known.types d.predicates
-
-    tasks : List Spot
-    tasks = heads_faults known.types d.tasks
-
-    actions : List Spot
-    actions = actions_faults known d.actions
-
-    methods : List Spot
-    methods = methods_faults known callables d.methods cycles
-
-    typed : constants ++ (predicates ++ tasks) ≡ []
-    typed = none_left (typed_faults known.types d) (actions ++ methods) e
 
 module _ (names : Names) (d : RawDomain) (objects : List Word) (known : Known) (of : IsKnownOf names d objects known) (v : Declared) (has : HasKnown v names known) (arities : List ℕ) (are : arities ≡ arities_of known.predicates) where
   same_length : length v.objects ≤ length v.objects
@@ -107,15 +83,14 @@ module _ (names : Names) (d : RawDomain) (objects : List Word) (known : Known) (
 
 pub has_sound_parts : OfAllWords HasSoundParts
 has_sound_parts names d objects known callables v arities start task p cycle up are is n named_start last e =
-    let parts = none_right own (facts ++ (goal ++ top)) e in
-    let behind = none_right facts (goal ++ top) parts in
+    let none = parts_faultless known callables p cycle e in
     let bound = has_bound_parts names d objects known callables v start task p cycle up is n named_start last e in
     let same = same_length names d objects known of v has arities are in
     record {
-      init = facts_sound names d objects known of v has arities are p.init is.words.init (none_left facts (goal ++ top) parts);
-      goal = formula_sound names d objects known of v has arities are v.objects same p.goal [] tt is.words.goal is.goal (λ here x s. n here x (InProblem.goal s)) (none_left goal top behind);
+      init = facts_sound names d objects known of v has arities are p.init is.words.init none.init;
+      goal = formula_sound names d objects known of v has arities are v.objects same p.goal [] tt is.words.goal is.goal (λ here x s. n here x (InProblem.goal s)) none.goal;
       top = record {
-        params = params_sound names d objects known of v has arities are v.objects same p.params is.words.params is.params (λ x s. n [] x (InProblem.parameter s)) (none_left params net (none_right goal top behind));
+        params = params_sound names d objects known of v has arities are v.objects same p.params is.words.params is.params (λ x s. n [] x (InProblem.parameter s)) none.params;
         task_args = tt;
         pre = empty_sound;
         child_args = children_in_force names d objects known of v has arities are v.objects same tasks actions outer p.net.subs (top_bound known callables start task p).children bound.top.network.subtasks;
@@ -140,21 +115,3 @@ has_sound_parts names d objects known callables v arities start task p cycle up 
 
     empty_sound : IsSound v arities (And []) outer
     empty_sound = subst (λ f. IsSound v arities f outer) (rolls-And []) (subst (λ (z : List Word → Type 0). z outer) (sym (sound_roll v arities (Formula-F.And []))) tt)
-
-    own : List Spot
-    own = params_faults known.types p.objects
-
-    facts : List Spot
-    facts = facts_faults known p.init
-
-    goal : List Spot
-    goal = formula_faults known [] p.goal
-
-    params : List Spot
-    params = params_faults known.types p.params
-
-    net : List Spot
-    net = network_faults callables known.objects (top_scope p) p.net cycle
-
-    top : List Spot
-    top = top_faults known callables p cycle

@@ -6,15 +6,12 @@ use Rattle.plan_texts.specs.SpellsPddl.{pddl_domain, pddl_words, SpellsPddl}
 use Rattle.plan_model.specs.declared.effects.Effect.TheVariants as effect
 use Rattle.plan_model.specs.declared.formulas.Formula.TheVariants as formula
 use Rattle.plan_model.specs.declared.values.Pddl.{Pddl}
-use Rattle.gd_reader.specs.declared.effects.RawEffect.TheVariants as raw_effect
 use Rattle.gd_reader.specs.declared.formulas.RawFormula.TheVariants as raw_formula
-use Rattle.gd_reader.specs.declared.term.RawTerm.{RawTerm}
 use Rattle.gd_reader.specs.Answers.{word_due, list_due, end_due}
 use Rattle.gd_reader.specs.Terms.{Names}
 use Rattle.gd_reader.specs.TypedLists.{params, behind, param_by}
 use Rattle.gd_reader.specs.Words.{sort_of}
 use Rattle.hddl_reader.specs.declared.sections.Language.TheVariants as language
-use Rattle.hddl_reader.specs.declared.sections.RawDomain.{RawDomain}
 use Rattle.hddl_reader.specs.declared.sections.RawProblem.{RawProblem}
 use Rattle.hddl_reader.specs.Definitions.{title, definition_inside, definition_read, IsDomainRead, IsProblemRead}
 use Rattle.hddl_reader.specs.Networks.{declared}
@@ -23,31 +20,14 @@ use Rattle.hddl_reader.specs.Sections.{section_of, has_section, named_parts, sec
 use Rattle.text_values.specs.form_spellings.BoundTexts.{no_network, IsBoundPddl}
 use Rattle.text_values.specs.form_spellings.ReadTexts.{AreRead}
 use Rattle.text_values.proofs.form_spellings.TextsRead.{pddl_spelled}
-use Rattle.text_values.proofs.form_spellings.examples.Texts.{true_bound, nothing_bound, no_types}
+use Rattle.text_values.proofs.form_spellings.examples.Texts.{domain, raw_domain, true_bound, nothing_bound, no_types}
 
--- an action without parts, and a problem with one object
-abbrev domain : List ℕ
-domain = codes "(define (domain d) (:action a))"
-
+-- the domain is the one of HDDL; the problem has one object
 abbrev problem : List ℕ
 problem = codes "(define (problem p) (:objects o))"
 
 abbrev table : Names
 table = codes "d" ∷ codes "a" ∷ codes "p" ∷ codes "o" ∷ []
-
-abbrev name_at : ℕ → ℕ → RawTerm
-name_at n at = record { name = record { number = n }; variable = false; at = at }
-
-abbrev raw_domain : RawDomain
-raw_domain = record {
-  name = record { number = 0 };
-  types = [];
-  constants = [];
-  predicates = [];
-  tasks = [];
-  methods = [];
-  actions = record { head = record { name = name_at 1 28; params = [] }; pre = raw_formula.And []; eff = raw_effect.And [] } ∷ [];
-}
 
 abbrev raw_problem : RawProblem
 raw_problem = record {

@@ -35,7 +35,7 @@ use Rattle.text_values.proofs.form_spellings.FormulasBound.{bound_roll}
 use Rattle.text_values.proofs.form_spellings.TextsRead.{hddl_spelled}
 
 -- an action without parts, and a problem whose network is this action
-abbrev domain : List ℕ
+abbrev pub domain : List ℕ
 domain = codes "(define (domain d) (:action a))"
 
 abbrev problem : List ℕ
@@ -47,7 +47,7 @@ table = codes "d" ∷ codes "a" ∷ codes "p" ∷ []
 abbrev name_at : ℕ → ℕ → RawTerm
 name_at n at = record { name = record { number = n }; variable = false; at = at }
 
-abbrev raw_domain : RawDomain
+abbrev pub raw_domain : RawDomain
 raw_domain = record {
   name = record { number = 0 };
   types = [];
