@@ -1,15 +1,15 @@
 -- Arguments and steps, passed over one after another.
-use Rattle.std.proofs.Common.{◌≡◌, ◌∙◌, ℕ, true, false, Option, Some, refl, sym, ap, subst}
-use Rattle.text_forms.specs.Faults.{Fault, fault}
+use Rattle.std.proofs.Common.{◌≡◌, ◌∙◌, ℕ, true, false, Some, refl, sym, ap, subst}
+use Rattle.text_forms.specs.Faults.{fault}
 use Rattle.text_forms.specs.Placed.{Placed, cut, close, word, list}
-use Rattle.text_forms.specs.StepWords.{is_step_name, is_mark}
+use Rattle.text_forms.specs.StepWords.{is_step_name}
 use Rattle.text_forms.specs.Words.{Word}
 use Rattle.text_forms.specs.form_grammar.Codes.{complete, wrong, ◌followed_by◌}
 use Rattle.text_forms.specs.form_grammar.Plans.{step, args, step_rows, steps_form}
 use Rattle.text_forms.specs.form_grammar.Rows.{form}
-use Rattle.text_forms.specs.form_grammar.Texts.{text_form, marked_lists, behind_mark, fault_or, last_word}
+use Rattle.text_forms.specs.form_grammar.Texts.{fault_or, last_word}
 use Rattle.plan_text.specs.Departing.{StepComes, rest_fault}
-use Rattle.plan_text.proofs.Forms.{head-name, head-wrong, arg-name, arg-wrong, mark-form, mark-wrong, no-fault}
+use Rattle.plan_text.proofs.Forms.{head-name, head-wrong, arg-name, arg-wrong, mark-form, no-fault}
 
 -- Names were passed over up to p.
 pub record ArgsAreNames (whole p : Placed) : Type 0 where
@@ -77,19 +77,3 @@ steps-wrong whole p q r at h c e =
 -- what comes next
 pub comes-list : (p q r : Placed) (at : ℕ) → p ≡ list at q r → StepComes p q r
 comes-list p q r at e = subst (λ p. StepComes p q r) (sym e) (refl, refl)
-
-pub comes-marked : (p t q r : Placed) (at b : ℕ) (w : Word) → p ≡ word at w t → t ≡ list b q r → is_mark w ≡ true → StepComes p q r
-comes-marked p t q r at b w e f m = subst (λ p. StepComes p q r) (sym (e ∙ ap (word at w) f)) (m, refl, refl)
-
-pub rest-close : (p : Placed) (at : ℕ) → p ≡ close at → (last : ℕ) → rest_fault last p ≡ Some (fault 8 at)
-rest-close p at e last = ap (rest_fault last) e
-
-pub rest-word : (p t : Placed) (at : ℕ) (w : Word) → p ≡ word at w t → is_mark w ≡ false → (last : ℕ) → rest_fault last p ≡ Some (fault 8 at)
-rest-word p t at w e m last = ap (rest_fault last) e ∙ ap (fault_or (fault 8 (last_word at t))) (mark-wrong at w t m)
-
--- the fault of the rest behind a mark at a place
-abbrev pub marked_fault : ℕ → Placed → Option Fault
-marked_fault mark p = fault_or (fault 8 (last_word mark p)) (text_form step_rows (marked_lists is_mark step) behind_mark p)
-
-pub rest-marked : (p t : Placed) (at k : ℕ) (w : Word) → p ≡ word at w t → is_mark w ≡ true → marked_fault at t ≡ Some (fault 8 k) → (last : ℕ) → rest_fault last p ≡ Some (fault 8 k)
-rest-marked p t at k w e m f last = ap (rest_fault last) e ∙ ap (fault_or (fault 8 (last_word at t))) (mark-form at w t m) ∙ f

@@ -29,9 +29,6 @@ pub steps-next : (ss : List GroundAction) (n : ℕ) (d : GroundAction) {s t u : 
 steps-next ss n d l w x =
     wrote-as (sym (ap plan_text (take_more ss n d l) ∙ steps-push (take n ss) (get_or ss n d))) (wrote-then w x)
 
-pub steps-done : (ss : List GroundAction) (n : ℕ) {s t : Sheet} → length ss ≤ n → Wrote (plan_text (take n ss)) s t → Wrote (plan_text ss) s t
-steps-done ss n l w = wrote-as (ap plan_text (take_all n ss l)) w
-
 -- a parenthesis, the name, the arguments, and the end of the line
 pub line-wrote : (x : GroundAction) {s t u v w : Sheet} → Wrote (40 ∷ []) s t → Wrote x.name t u → Wrote (args_text x.args) u v → Wrote (41 ∷ 10 ∷ []) v w → Wrote (line_text x) s w
 line-wrote x a b c d =
