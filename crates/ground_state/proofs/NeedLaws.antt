@@ -1,5 +1,5 @@
 -- Room that is enough goes up the kinds of formulas and effects.
-use Rattle.std.proofs.Common.{ℕ, ◌≡◌, ◌+◌, ◌<◌, ◌≤◌, inl, inr, ◌++◌, List, [], ◌∷◌, length, get_or, take, Contains, Result, Ok, Err, IfOk, ap, sym, subst, ◌∙◌, arith}
+use Rattle.std.proofs.Common.{ℕ, ◌≡◌, ◌+◌, ◌<◌, ◌≤◌, ◌⊎◌, inl, inr, ◌++◌, List, [], ◌∷◌, length, get_or, take, Contains, Result, Ok, Err, IfOk, ap, sym, subst, ◌∙◌, arith}
 use Rattle.std.proofs.lemmas.List.{take_all}
 use Rattle.std.proofs.lemmas.List.Elements.{Contains-push_cases}
 use Rattle.plan_model.specs.declared.terms.Term.{Term}
@@ -15,11 +15,14 @@ use Rattle.plan_model.specs.declared.schemas.ActionSchema.{ActionSchema}
 use Rattle.plan_model.specs.declared.values.Pddl.{Pddl}
 use Rattle.ground_state.specs.declared.need.Need.{Need}
 use Rattle.ground_state.specs.Room.{EachFits, fits_step, fits, effect_fits_step, effect_fits}
-use Rattle.ground_state.specs.Needs.{IsWithin, Allows, IsEnough, IsEnoughForEach, IsEnoughForEffect, HasRoom, IsEnoughForAll}
+use Rattle.ground_state.specs.Needs.{IsWithin, Allows, IsEnough, IsEnoughForEffect, HasRoom, IsEnoughForAll}
 use Rattle.ground_state.proofs.Lists.{take_next}
 use Rattle.ground_state.proofs.RoomEquations.{fits-roll, effect-roll}
 
--- enough for each of the effects where n variables are in force
+-- enough for each of the formulas, or of the effects, where n variables are in force
+abbrev pub IsEnoughForEach : ℕ → List Formula → Need → Type 0
+IsEnoughForEach n fs = Allows (λ room arity. EachFits (fits room arity) fs n)
+
 abbrev pub IsEnoughForEachEffect : ℕ → List Effect → Need → Type 0
 IsEnoughForEachEffect n es = Allows (λ room arity. EachFits (effect_fits room arity) es n)
 
@@ -62,28 +65,29 @@ module _ (f : Formula) (n : ℕ) where
   pub enough-Not : (p x : Formula) → f ≡ F.Not p → x ≡ p → (need : Need) → IsEnough n x need → IsEnough n f need
   enough-Not p x e g need h room arity d r = fits-from room arity f (Formula-F.Not p) (F.rolls-Not p ∙ sym e) n (subst (λ y. fits room arity y n) g (h room arity d r))
 
-  pub enough-And : (ps xs : List Formula) → f ≡ F.And ps → xs ≡ ps → (need : Need) → IsEnoughForEach n xs need → IsEnough n f need
-  enough-And ps xs e g need h room arity d r = fits-from room arity f (Formula-F.And ps) (F.rolls-And ps ∙ sym e) n (subst (λ ys. EachFits (fits room arity) ys n) g (h room arity d r))
-
-  pub enough-Or : (ps xs : List Formula) → f ≡ F.Or ps → xs ≡ ps → (need : Need) → IsEnoughForEach n xs need → IsEnough n f need
-  enough-Or ps xs e g need h room arity d r = fits-from room arity f (Formula-F.Or ps) (F.rolls-Or ps ∙ sym e) n (subst (λ ys. EachFits (fits room arity) ys n) g (h room arity d r))
+  pub enough-parts : (ps xs : List Formula) → (f ≡ F.And ps) ⊎ (f ≡ F.Or ps) → xs ≡ ps → (need : Need) → IsEnoughForEach n xs need → IsEnough n f need
+  enough-parts ps xs w g need h room arity d r =
+      let all = subst (λ ys. EachFits (fits room arity) ys n) g (h room arity d r) in
+      elim w [
+        | inl e ↦ fits-from room arity f (Formula-F.And ps) (F.rolls-And ps ∙ sym e) n all
+        | inr e ↦ fits-from room arity f (Formula-F.Or ps) (F.rolls-Or ps ∙ sym e) n all
+      ]
 
   pub enough-Imply : (p q x y : Formula) → f ≡ F.Imply p q → x ≡ p → y ≡ q → (less need : Need) → IsWithin less need → IsEnough n x less → IsEnough n y need → IsEnough n f need
   enough-Imply p q x y e g k less need w h j room arity d r =
       fits-from room arity f (Formula-F.Imply p q) (F.rolls-Imply p q ∙ sym e) n (subst (λ z. fits room arity z n) g (allows_more (λ room arity. fits room arity x n) less need w h room arity d r), subst (λ z. fits room arity z n) k (j room arity d r))
 
   -- the variables are in force inside, and have room
-  pub enough-Forall : (ps xs : List Param) (p x : Formula) (inner : ℕ) → f ≡ F.Forall ps p → xs ≡ ps → x ≡ p → inner ≡ n + length xs → (less need : Need) → inner ≤ less.depth → IsWithin less need → IsEnough inner x need → IsEnough n f need
-  enough-Forall ps xs p x inner e g k i less need l w h room arity d r =
+  pub enough-within : (ps xs : List Param) (p x : Formula) (inner : ℕ) → (f ≡ F.Forall ps p) ⊎ (f ≡ F.Exists ps p) → xs ≡ ps → x ≡ p → inner ≡ n + length xs → (less need : Need) → inner ≤ less.depth → IsWithin less need → IsEnough inner x need → IsEnough n f need
+  enough-within ps xs p x inner q g k i less need l w h room arity d r =
       let all : inner ≡ n + length ps = i ∙ ap (λ ys. n + length ys) g in
       let v = w.0 in
-      fits-from room arity f (Formula-F.Forall ps p) (F.rolls-Forall ps p ∙ sym e) n (omega arith, subst (λ m. fits room arity p m) all (subst (λ z. fits room arity z inner) k (h room arity d r)))
-
-  pub enough-Exists : (ps xs : List Param) (p x : Formula) (inner : ℕ) → f ≡ F.Exists ps p → xs ≡ ps → x ≡ p → inner ≡ n + length xs → (less need : Need) → inner ≤ less.depth → IsWithin less need → IsEnough inner x need → IsEnough n f need
-  enough-Exists ps xs p x inner e g k i less need l w h room arity d r =
-      let all : inner ≡ n + length ps = i ∙ ap (λ ys. n + length ys) g in
-      let v = w.0 in
-      fits-from room arity f (Formula-F.Exists ps p) (F.rolls-Exists ps p ∙ sym e) n (omega arith, subst (λ m. fits room arity p m) all (subst (λ z. fits room arity z inner) k (h room arity d r)))
+      let fit : n + length ps ≤ room = omega arith in
+      let body = subst (λ m. fits room arity p m) all (subst (λ z. fits room arity z inner) k (h room arity d r)) in
+      elim q [
+        | inl e ↦ fits-from room arity f (Formula-F.Forall ps p) (F.rolls-Forall ps p ∙ sym e) n (fit, body)
+        | inr e ↦ fits-from room arity f (Formula-F.Exists ps p) (F.rolls-Exists ps p ∙ sym e) n (fit, body)
+      ]
 
 module _ (e : Effect) (n : ℕ) where
   pub enough-Add : (a : Atom) → e ≡ E.Add a → (need : Need) → IsEnoughForEffect n e need

@@ -1,5 +1,5 @@
 -- A measure of formulas and effects that falls at each part, and at each quantified variable.
-use Rattle.std.proofs.Common.{ℕ, zero, suc, ◌≡◌, ◌+◌, ◌<◌, ◌≤◌, List, [], ◌∷◌, length, map, get_or, ap, sym, ◌∙◌, arith}
+use Rattle.std.proofs.Common.{ℕ, zero, suc, ◌≡◌, ◌+◌, ◌<◌, ◌≤◌, ◌⊎◌, inl, inr, List, [], ◌∷◌, length, map, get_or, ap, sym, ◌∙◌, arith}
 use Rattle.plan_model.specs.declared.terms.Param.{Param}
 use Rattle.plan_model.specs.declared.formulas.Formula.{Formula, roll-Formula}
 use Rattle.plan_model.specs.declared.formulas.Formula.TheFolds.{fold-Formula, fold-roll-Formula, map-Formula}
@@ -81,3 +81,14 @@ falls-Exists f ps xs p x e d g = let a = ap size e ∙ size-Exists ps p in let b
 
 pub falls-part : (fs : List Formula) (i : ℕ) (d x : Formula) → i < length fs → x ≡ get_or fs i d → size x < 1 + sizes fs
 falls-part fs i d x l e = let a = part-size fs i d l in let b = ap size e in omega arith
+
+pub falls-part-of : (f : Formula) (ps xs : List Formula) (i : ℕ) (d x : Formula) → (f ≡ F.And ps) ⊎ (f ≡ F.Or ps) → xs ≡ ps → i < length xs → x ≡ get_or xs i d → size x < size f
+falls-part-of f ps xs i d x w g l h =
+    let a = falls-part xs i d x l h in
+    elim w [
+      | inl e ↦ (let b = falls-And f ps xs e g in omega (arith, a, b))
+      | inr e ↦ (let b = falls-Or f ps xs e g in omega (arith, a, b))
+    ]
+
+pub falls-within : (f : Formula) (ps xs : List Param) (p x : Formula) → (f ≡ F.Forall ps p) ⊎ (f ≡ F.Exists ps p) → xs ≡ ps → x ≡ p → 1 + length xs + size x < size f
+falls-within f ps xs p x w d g = elim w [ inl e ↦ falls-Forall f ps xs p x e d g | inr e ↦ falls-Exists f ps xs p x e d g ]

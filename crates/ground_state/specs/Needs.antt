@@ -1,12 +1,12 @@
 -- The room that is enough for a formula, an effect, an action, and a whole problem: an environment with at least that much has room.
 -- Source: this project's.
-use Rattle.std.specs.Prelude.{ℕ, ◌≤◌, List, length, Contains}
+use Rattle.std.specs.Prelude.{ℕ, ◌≤◌, length, Contains}
 use Rattle.plan_model.specs.declared.formulas.Formula.{Formula}
 use Rattle.plan_model.specs.declared.effects.Effect.{Effect}
 use Rattle.plan_model.specs.declared.schemas.ActionSchema.{ActionSchema}
 use Rattle.plan_model.specs.declared.values.Pddl.{Pddl}
 use Rattle.ground_state.specs.declared.need.Need.{Need}
-use Rattle.ground_state.specs.Room.{EachFits, fits, effect_fits}
+use Rattle.ground_state.specs.Room.{fits, effect_fits}
 
 abbrev pub IsWithin : Need → Need → Type 0
 IsWithin less more = (less.depth ≤ more.depth) × (less.arity ≤ more.arity)
@@ -18,9 +18,6 @@ Allows P need = (room arity : ℕ) → need.depth ≤ room → need.arity ≤ ar
 -- enough for the formula, or for the effect, where n variables are in force
 abbrev pub IsEnough : ℕ → Formula → Need → Type 0
 IsEnough n f = Allows (λ room arity. fits room arity f n)
-
-abbrev pub IsEnoughForEach : ℕ → List Formula → Need → Type 0
-IsEnoughForEach n fs = Allows (λ room arity. EachFits (fits room arity) fs n)
 
 abbrev pub IsEnoughForEffect : ℕ → Effect → Need → Type 0
 IsEnoughForEffect n e = Allows (λ room arity. effect_fits room arity e n)

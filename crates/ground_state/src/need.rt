@@ -42,33 +42,21 @@ impl Need {
             }
             Formula::Equal(_, _) => Ok(self),
             Formula::Not(part) => self.with_formula(part.get(), inside),
-            Formula::And(parts) => self.with_formulas(parts.as_slice(), inside),
-            Formula::Or(parts) => self.with_formulas(parts.as_slice(), inside),
+            Formula::And(parts) | Formula::Or(parts) => {
+                let mut need = self;
+                for part in parts.as_slice() {
+                    need = need.with_formula(part, inside)?;
+                }
+                Ok(need)
+            }
             Formula::Imply(premise, conclusion) => self
                 .with_formula(premise.get(), inside)?
                 .with_formula(conclusion.get(), inside),
-            Formula::Forall(params, body) => {
-                let inner = within(inside, params.as_slice())?;
-                self.at_least(inner, 0).with_formula(body.get(), inner)
-            }
-            Formula::Exists(params, body) => {
+            Formula::Forall(params, body) | Formula::Exists(params, body) => {
                 let inner = within(inside, params.as_slice())?;
                 self.at_least(inner, 0).with_formula(body.get(), inner)
             }
         }
-    }
-
-    /// The same, for each of the formulas.
-    #[cycle(with_formula)]
-    fn with_formulas(self, parts: &[Formula], inside: u32) -> Result<Need, Memory>
-        ensures enough { IfOk result (spec.IsEnoughForEach inside parts.now) }
-        ensures more { IfOk result (spec.IsWithin self) }
-    {
-        let mut need = self;
-        for part in parts {
-            need = need.with_formula(part, inside)?;
-        }
-        Ok(need)
     }
 
     /// With the room that the effect needs where so many variables are in force.
