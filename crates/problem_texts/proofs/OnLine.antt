@@ -1,7 +1,7 @@
 -- A length with many slots, from three that are on a line with it.
 use Rattle.std.proofs.Common.{ℕ, ◌≡◌, ◌+◌, ◌-◌, ◌*◌, ◌^◌, ◌<◌, min, inl, inr, ap, ◌∙◌, arith}
 use Rattle.std.proofs.lemmas.Bool.{cases_lt}
-use Rattle.std.proofs.Math.Nat.{add-mul, mul_comm}
+use Rattle.std.proofs.Math.Nat.{mul_comm}
 use Rattle.text_forms.specs.sheets.Sheets.{capped}
 use Rattle.slot_encoding.specs.encoded_texts.Growth.{further_digits, AreOnLine}
 use Rattle.problem_texts.specs.FewSlots.{AreCapped}
@@ -13,19 +13,7 @@ under n k e apart = elim (cases_lt n (2 ^ 64 - 1)) [ inl l ↦ l | inr l ↦ abs
 module _ (slots : ℕ) (few : FewSlots) (one two ten all : ℕ) (line : AreOnLine slots one two ten all) (counted : AreCapped one two ten few) (many : 10 < slots) where
   open line use {first, step as each, more as further}
 
-  -- where that with ten slots passes 64 bits, so does that with all
-  pub full : few.ten ≡ 2 ^ 64 - 1 → capped all ≡ 2 ^ 64 - 1
-  full e =
-      let n : slots - 1 ≡ 9 + (slots - 10) = omega (arith, many) in
-      let a = ap (λ z. z * each) n ∙ add-mul 9 (slots - 10) each in
-      let d : further_digits slots ≡ 1 + (further_digits slots - 1) = omega (arith, many) in
-      let b = ap (λ z. z * further) d ∙ add-mul 1 (further_digits slots - 1) further in
-      let t = counted.ten_is in
-      let u = line.ten_is in
-      let w = line.all_is in
-      omega (arith, e, a, b, t, u, w)
-
-  -- else the three lengths are as they were counted
+  -- where that with ten slots does not pass 64 bits, the three lengths are as they were counted
   pub told : (few.ten ≡ 2 ^ 64 - 1 → ⊥) → (step more : ℕ) → step ≡ few.two - few.one → more ≡ (few.ten - few.one) - min (step * 9) (2 ^ 64 - 1)
       → min (min (few.one + min (step * (slots - 1)) (2 ^ 64 - 1)) (2 ^ 64 - 1) + min (more * further_digits slots) (2 ^ 64 - 1)) (2 ^ 64 - 1) ≡ capped all
   told apart step more s m =

@@ -13,7 +13,7 @@ use crate::named_objects::named_objects;
 use crate::pages::Pages;
 use crate::printing::Sizes;
 use htn_base::{Memory, Text};
-use plan_model::{Compiled, Hddl, Style};
+use plan_model::{Compiled, Style};
 use slot_encoder::Encoding;
 use std::alloc::Global;
 use text_forms::sheets::Ended;
