@@ -36,10 +36,6 @@ item [] n d e l = absurd (omega arith)
 item (x ∷ xs) zero d e l = refl
 item (x ∷ xs) (suc n) d e l = item xs n d e (omega arith)
 
--- the same where the item is read with a default
-pub each-at : {X : Type 0} (f : X → List ℕ) (xs : List X) (n : ℕ) (d : X) {s t u : Sheet} → n < length xs → Wrote (of_each f (take n xs)) s t → Wrote (f (get_or xs n d)) t u → Wrote (of_each f (take (n + 1) xs)) s u
-each-at f xs n d l v w = each-next f xs n (get_or xs n d) l (item xs n d (get_or xs n d) l) v w
-
 pub each-more-at : {X : Type 0} (f : X → List ℕ) (xs : List X) (n : ℕ) (d : X) → n < length xs → of_each f (take n xs) ++ f (get_or xs n d) ≡ of_each f (take (n + 1) xs)
 each-more-at f xs n d l = each-more f xs n (get_or xs n d) l (item xs n d (get_or xs n d) l)
 

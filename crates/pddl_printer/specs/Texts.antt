@@ -1,6 +1,6 @@
 -- The text of each part of a value p. One part stands behind a space, and of several each does, where no other place is named.
 -- Source: appendix A (grammar) of Fox and Long, "PDDL2.1", JAIR 20, 2003, level 1; the layout is this project's.
-use Rattle.std.specs.Prelude.{ℕ, Option, List, ◌∷◌, map}
+use Rattle.std.specs.Prelude.{ℕ, Option, List, ◌∷◌, ◌++◌, map, codes}
 use Rattle.text_forms.specs.Lists.{group}
 use Rattle.text_forms.specs.Words.{Word}
 use Rattle.text_forms.specs.Printing.{bytes, bytes_behind, headed, lines}
@@ -90,8 +90,9 @@ module _ (p : Pddl) where
 
     -- with these variables in force too
     module _ (params : List Param) where
-      abbrev pub formula_within : Formula → List ℕ
-      formula_within f = behind (formula_part (pddl_words p) f (words_within p scope params))
+      -- what opens a quantifier, these variables, and its part
+      abbrev pub quantified_text : List ℕ → Formula → List ℕ
+      quantified_text opening f = opening ++ (variables_text params ++ (behind (formula_part (pddl_words p) f (words_within p scope params)) ++ codes ")"))
 
       abbrev pub effect_within : Effect → List ℕ
       effect_within e = behind (effect_part (pddl_words p) e (words_within p scope params))

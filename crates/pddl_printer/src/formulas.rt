@@ -1,4 +1,4 @@
-ghost use Rattle.pddl_printer.specs.Texts.{formula_text, formulas_text, formula_within};
+ghost use Rattle.pddl_printer.specs.Texts.{formula_text, formulas_text, quantified_text};
 ghost use Rattle.pddl_printer.specs.Batches.{Added};
 ghost use Rattle.text_forms.specs.sheets.Sheets.{Wrote};
 
@@ -64,16 +64,12 @@ pub(crate) fn add_formula(
             batch.add(b")", sheet);
         }
         Formula::Forall(params, body) => {
-            batch.add(b" (forall", sheet);
-            add_variables(p, params.as_slice(), batch, sheet);
-            add_within(p, scope, params.as_slice(), body.get(), batch, sheet);
-            batch.add(b")", sheet);
+            let params = params.as_slice();
+            add_quantified(p, scope, b" (forall", params, body.get(), batch, sheet);
         }
         Formula::Exists(params, body) => {
-            batch.add(b" (exists", sheet);
-            add_variables(p, params.as_slice(), batch, sheet);
-            add_within(p, scope, params.as_slice(), body.get(), batch, sheet);
-            batch.add(b")", sheet);
+            let params = params.as_slice();
+            add_quantified(p, scope, b" (exists", params, body.get(), batch, sheet);
         }
     }
 }
@@ -94,18 +90,22 @@ fn add_formulas(
     }
 }
 
-/// Adds a formula to a batch, behind a space, with these variables in force too.
+/// Adds what opens a quantifier to a batch, and behind it its variables and its part, in which they are in force too.
 #[cycle(formulas)]
-fn add_within(
+fn add_quantified(
     p: &Pddl,
     scope: &Scope<'_>,
+    opening: &[u8],
     params: &[Param],
-    formula: &Formula,
+    part: &Formula,
     batch: &mut Batch,
     sheet: &mut Sheet<'_>,
 )
-    ensures { Added (formula_within p.now scope.now params.now formula.now) batch.old batch.new sheet.old sheet.new }
+    ensures { Added (quantified_text p.now scope.now params.now opening.now part.now) batch.old batch.new sheet.old sheet.new }
 {
+    batch.add(opening, sheet);
+    add_variables(p, params, batch, sheet);
     let within = Scope::Within(&*scope, &*params);
-    add_formula(p, &within, formula, batch, sheet);
+    add_formula(p, &within, part, batch, sheet);
+    batch.add(b")", sheet);
 }

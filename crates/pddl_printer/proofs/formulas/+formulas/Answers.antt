@@ -1,15 +1,17 @@
-use Rattle.std.proofs.Common.{refl, ℕ, List, map, codes, ap, sym, ◌∙◌}
-use Rattle.text_forms.specs.Lists.{Parts, group, nothing, part}
+use Rattle.std.proofs.Common.{refl, ◌≡◌, List, [], ◌∷◌, ◌++◌, map, codes, ap, sym, ◌∙◌, append_assoc}
+use Rattle.std.proofs.lemmas.List.{append-nil, map-append}
+use Rattle.text_forms.specs.Lists.{Part, Parts, group, nothing, part}
 use Rattle.text_forms.specs.Words.{Word}
-use Rattle.text_forms.specs.Printing.{bytes_behind}
+use Rattle.text_forms.specs.Printing.{bytes_behind, headed}
 use Rattle.plan_texts.specs.SpellsPddl.{pddl_words}
 use Rattle.plan_texts.specs.Printed.{all_parts, params_parts, formula_part}
-use Rattle.plan_model.specs.declared.terms.Param.{Param}
 use Rattle.pddl_printer.specs.Behind.{behind}
+use Rattle.plan_model.specs.Scopes.{in_force}
+use Rattle.pddl_printer.specs.Texts.{quantified_text}
 use Rattle.pddl_printer.specs.Scopes.{words_in_force, words_within}
 use Rattle.pddl_printer.proofs.Each.{behind-each}
-use Rattle.pddl_printer.proofs.Batches.{added-as, added-of, added-one, added-two, added-headed, each-added, each-added-all}
-use Rattle.plan_texts.specs.Declared.{Declared}
+use Rattle.pddl_printer.proofs.Batches.{added-as, added-then, added-of, added-one, added-two, added-headed, each-added, each-added-all}
+use Rattle.plan_texts.specs.Declared.{Declared, variable}
 use Rattle.plan_model.specs.declared.formulas.Formula.{Formula}
 use Rattle.plan_texts.proofs.Equations.{part-Equal, part-Not, part-And, part-Or, part-Imply, part-Forall, part-Exists}
 use Rattle.pddl_printer.proofs.formulas.+formulas.Goals as goal
@@ -18,9 +20,9 @@ use Rattle.pddl_printer.proofs.formulas.+formulas.Goals as goal
 abbrev all : Declared → List Word → List Formula → Parts
 all v s fs = all_parts (map (λ f. formula_part v f s) fs)
 
--- the variables of a list, each with its type, behind a space
-abbrev listed : Declared → List Param → List ℕ
-listed v xs = behind (group (params_parts v xs))
+-- what is said of a quantifier is a list that begins with its word
+quantified-is : (k : Word) (g q : Part) → (32 ∷ 40 ∷ k) ++ (behind g ++ (behind q ++ 41 ∷ [])) ≡ behind (headed k (part g (part q nothing)))
+quantified-is k g q = ap (λ z. (32 ∷ 40 ∷ k) ++ z) (sym (append_assoc (behind g) (behind q) (41 ∷ [])) ∙ ap (λ z. (behind g ++ z) ++ 41 ∷ []) (sym (append-nil (behind q))))
 
 pub add_formula-returns-in-Equal : goal.add_formula-returns-in-Equal
 add_formula-returns-in-Equal t c =
@@ -66,25 +68,26 @@ pub add_formula-returns-in-Forall : goal.add_formula-returns-in-Forall
 add_formula-returns-in-Forall t c =
     let v = pddl_words c.args.p.now in
     let s : List Word = words_in_force c.args.p.now c.args.scope.now in
-    let g = group (params_parts v c.in-Forall.params) in
-    let q = formula_part v c.in-Forall.body (words_within c.args.p.now c.args.scope.now c.in-Forall.params) in
+    let word = codes "forall" in
     added-of behind (sym (ap (λ f. formula_part v f s) c.in-Forall.is ∙ part-Forall v c.in-Forall.params c.in-Forall.body s))
-    (added-headed (codes "forall") (part g (part q nothing)) c.add-in-Forall.ensures
-    (added-two g q (added-of (listed v) c.as_slice-in-Forall.ensures.items c.add_variables.ensures)
-    (added-as (λ i. behind (formula_part v (c.get-in-Forall.ensures.value i) (words_within c.args.p.now c.args.scope.now (c.as_slice-in-Forall-2.ensures.items i)))) c.add_within.ensures))
-    c.add-in-Forall-2.ensures)
+    (added-as ((λ i. quantified_text c.args.p.now c.args.scope.now (c.as_slice-params.ensures.items i) (32 ∷ 40 ∷ word) (c.get-in-Forall.ensures.value i)) ∙ quantified-is word (group (params_parts v c.in-Forall.params)) (formula_part v c.in-Forall.body (words_within c.args.p.now c.args.scope.now c.in-Forall.params)))
+    c.add_quantified.ensures)
 
 pub add_formula-returns-in-Exists : goal.add_formula-returns-in-Exists
 add_formula-returns-in-Exists t c =
     let v = pddl_words c.args.p.now in
     let s : List Word = words_in_force c.args.p.now c.args.scope.now in
-    let g = group (params_parts v c.in-Exists.params) in
-    let q = formula_part v c.in-Exists.body (words_within c.args.p.now c.args.scope.now c.in-Exists.params) in
+    let word = codes "exists" in
     added-of behind (sym (ap (λ f. formula_part v f s) c.in-Exists.is ∙ part-Exists v c.in-Exists.params c.in-Exists.body s))
-    (added-headed (codes "exists") (part g (part q nothing)) c.add-in-Exists.ensures
-    (added-two g q (added-of (listed v) c.as_slice-in-Exists.ensures.items c.add_variables-in-Exists.ensures)
-    (added-as (λ i. behind (formula_part v (c.get-in-Exists.ensures.value i) (words_within c.args.p.now c.args.scope.now (c.as_slice-in-Exists-2.ensures.items i)))) c.add_within-in-Exists.ensures))
-    c.add-in-Exists-2.ensures)
+    (added-as ((λ i. quantified_text c.args.p.now c.args.scope.now (c.as_slice-params-in-Exists.ensures.items i) (32 ∷ 40 ∷ word) (c.get-in-Exists.ensures.value i)) ∙ quantified-is word (group (params_parts v c.in-Exists.params)) (formula_part v c.in-Exists.body (words_within c.args.p.now c.args.scope.now c.in-Exists.params)))
+    c.add_quantified-in-Exists.ensures)
+
+pub add_quantified-returns : goal.add_quantified-returns
+add_quantified-returns t c =
+    let v = pddl_words c.args.p.now in
+    let within = map-append (variable v) (in_force c.args.scope.now) c.args.params.now in
+    added-then c.add.ensures
+    (added-then c.add_variables.ensures (added-then (added-as (ap (λ s. behind (formula_part v c.args.part.now s)) within) c.add_formula.ensures) c.add-2.ensures))
 
 pub add_formulas-loop-formula-preserved : goal.add_formulas-loop-formula-preserved
 add_formulas-loop-formula-preserved t c = each-added (λ f. behind (formula_part (pddl_words c.args.p.now) f (words_in_force c.args.p.now c.args.scope.now))) c.args.formulas.now c.loop-formula.formula-index c.formula-item.result c.loop-formula-test.true c.formula-item.is c.loop-formula.invariant c.add_formula.ensures
