@@ -88,14 +88,9 @@ module _ (p : Pddl) where
     abbrev pub effects_text : List Effect → List ℕ
     effects_text es = bytes_behind (all_parts (map (λ e. effect_part (pddl_words p) e (words_in_force p scope)) es))
 
-    -- with these variables in force too
-    module _ (params : List Param) where
-      -- what opens a quantifier, these variables, and its part
-      abbrev pub quantified_text : List ℕ → Formula → List ℕ
-      quantified_text opening f = opening ++ (variables_text params ++ (behind (formula_part (pddl_words p) f (words_within p scope params)) ++ codes ")"))
-
-      abbrev pub effect_within : Effect → List ℕ
-      effect_within e = behind (effect_part (pddl_words p) e (words_within p scope params))
+    -- what opens a quantifier, its variables, and its part, in which they are in force too
+    abbrev pub quantified_text : List Param → List ℕ → Formula → List ℕ
+    quantified_text params opening f = opening ++ (variables_text params ++ (behind (formula_part (pddl_words p) f (words_within p scope params)) ++ codes ")"))
 
     -- with the quantifiers over the range written out, if there is one; depth: the number of variables in force
     module _ (range : Option Range) (depth : ℕ) where

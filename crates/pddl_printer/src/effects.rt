@@ -1,4 +1,4 @@
-ghost use Rattle.pddl_printer.specs.Texts.{effect_text, effects_text, effect_within};
+ghost use Rattle.pddl_printer.specs.Texts.{effect_text, effects_text};
 ghost use Rattle.pddl_printer.specs.Batches.{Added};
 ghost use Rattle.text_forms.specs.sheets.Sheets.{Wrote};
 
@@ -42,9 +42,11 @@ fn add_effect(
             batch.add(b")", sheet);
         }
         Effect::Forall(params, body) => {
+            let params = params.as_slice();
             batch.add(b" (forall", sheet);
-            add_variables(p, params.as_slice(), batch, sheet);
-            add_within(p, scope, params.as_slice(), body.get(), batch, sheet);
+            add_variables(p, params, batch, sheet);
+            let within = Scope::Within(&*scope, &*params);
+            add_effect(p, &within, body.get(), batch, sheet);
             batch.add(b")", sheet);
         }
         Effect::When(condition, body) => {
@@ -70,20 +72,4 @@ fn add_effects(
     for effect in effects {
         add_effect(p, scope, effect, batch, sheet);
     }
-}
-
-/// Adds an effect to a batch, behind a space, with these variables in force too.
-#[cycle(effects)]
-fn add_within(
-    p: &Pddl,
-    scope: &Scope<'_>,
-    params: &[Param],
-    effect: &Effect,
-    batch: &mut Batch,
-    sheet: &mut Sheet<'_>,
-)
-    ensures { Added (effect_within p.now scope.now params.now effect.now) batch.old batch.new sheet.old sheet.new }
-{
-    let within = Scope::Within(&*scope, &*params);
-    add_effect(p, &within, effect, batch, sheet);
 }

@@ -1,14 +1,16 @@
 use Rattle.std.proofs.Common.{refl, List, map, codes, ap, sym, ◌∙◌}
+use Rattle.std.proofs.lemmas.List.{map-append}
 use Rattle.text_forms.specs.Lists.{Parts, group, nothing, part}
 use Rattle.text_forms.specs.Words.{Word}
 use Rattle.text_forms.specs.Printing.{bytes_behind}
 use Rattle.plan_texts.specs.SpellsPddl.{pddl_words}
 use Rattle.plan_texts.specs.Printed.{all_parts, applied_part, params_parts, formula_part, effect_part}
 use Rattle.pddl_printer.specs.Behind.{behind}
+use Rattle.plan_model.specs.Scopes.{in_force}
 use Rattle.pddl_printer.specs.Scopes.{words_in_force, words_within}
 use Rattle.pddl_printer.proofs.Each.{behind-each}
 use Rattle.pddl_printer.proofs.Batches.{added-as, added-of, added-one, added-two, added-headed, each-added, each-added-all}
-use Rattle.plan_texts.specs.Declared.{Declared}
+use Rattle.plan_texts.specs.Declared.{Declared, variable}
 use Rattle.plan_model.specs.declared.effects.Effect.{Effect}
 use Rattle.plan_texts.proofs.Equations.{effect-Delete, effect-And, effect-Forall, effect-When}
 use Rattle.pddl_printer.proofs.effects.+effects.Goals as goal
@@ -34,14 +36,17 @@ add_effect-returns-in-And t c =
 
 pub add_effect-returns-in-Forall : goal.add_effect-returns-in-Forall
 add_effect-returns-in-Forall t c =
-    let v = pddl_words c.args.p.now in
-    let s : List Word = words_in_force c.args.p.now c.args.scope.now in
+    let p = c.args.p.now in
+    let scope = c.args.scope.now in
+    let v = pddl_words p in
+    let s : List Word = words_in_force p scope in
     let g = group (params_parts v c.in-Forall.params) in
-    let q = effect_part v c.in-Forall.body (words_within c.args.p.now c.args.scope.now c.in-Forall.params) in
+    let q = effect_part v c.in-Forall.body (words_within p scope c.in-Forall.params) in
+    let within = map-append (variable v) (in_force scope) c.as_slice-params.result.now ∙ ap (words_within p scope) c.as_slice-params.ensures.items in
     added-of behind (sym (ap (λ e. effect_part v e s) c.in-Forall.is ∙ effect-Forall v c.in-Forall.params c.in-Forall.body s))
     (added-headed (codes "forall") (part g (part q nothing)) c.add-in-Forall.ensures
-    (added-two g q (added-of (λ xs. behind (group (params_parts v xs))) c.as_slice-in-Forall.ensures.items c.add_variables.ensures)
-    (added-as (λ i. behind (effect_part v (c.get.ensures.value i) (words_within c.args.p.now c.args.scope.now (c.as_slice-in-Forall-2.ensures.items i)))) c.add_within.ensures))
+    (added-two g q (added-of (λ xs. behind (group (params_parts v xs))) c.as_slice-params.ensures.items c.add_variables.ensures)
+    (added-as (λ i. behind (effect_part v (c.get.ensures.value i) (within i))) c.add_effect.ensures))
     c.add-in-Forall-2.ensures)
 
 pub add_effect-returns-in-When : goal.add_effect-returns-in-When
@@ -52,7 +57,7 @@ add_effect-returns-in-When t c =
     let r = effect_part v c.in-When.body s in
     added-of behind (sym (ap (λ e. effect_part v e s) c.in-When.is ∙ effect-When v c.in-When.condition c.in-When.body s))
     (added-headed (codes "when") (part q (part r nothing)) c.add-in-When.ensures
-    (added-two q r c.add_formula.ensures (added-of (λ e. behind (effect_part v e s)) c.get-in-When.ensures.value c.add_effect.ensures))
+    (added-two q r c.add_formula.ensures (added-of (λ e. behind (effect_part v e s)) c.get-in-When.ensures.value c.add_effect-in-When.ensures))
     c.add-in-When-2.ensures)
 
 pub add_effects-loop-effect-preserved : goal.add_effects-loop-effect-preserved
