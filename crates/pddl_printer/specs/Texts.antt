@@ -85,9 +85,6 @@ module _ (p : Pddl) where
     abbrev pub effect_text : Effect → List ℕ
     effect_text e = behind (effect_part (pddl_words p) e (words_in_force p scope))
 
-    abbrev pub effects_text : List Effect → List ℕ
-    effects_text es = bytes_behind (all_parts (map (λ e. effect_part (pddl_words p) e (words_in_force p scope)) es))
-
     -- what opens a quantifier, its variables, and its part, in which they are in force too
     abbrev pub quantified_text : List Param → List ℕ → Formula → List ℕ
     quantified_text params opening f = opening ++ (variables_text params ++ (behind (formula_part (pddl_words p) f (words_within p scope params)) ++ codes ")"))

@@ -1,4 +1,4 @@
-ghost use Rattle.pddl_printer.specs.Texts.{effect_text, effects_text};
+ghost use Rattle.pddl_printer.specs.Texts.{effect_text};
 ghost use Rattle.pddl_printer.specs.Batches.{Added};
 ghost use Rattle.text_forms.specs.sheets.Sheets.{Wrote};
 
@@ -38,7 +38,9 @@ fn add_effect(
         }
         Effect::And(parts) => {
             batch.add(b" (and", sheet);
-            add_effects(p, scope, parts.as_slice(), batch, sheet);
+            for part in parts.as_slice() {
+                add_effect(p, scope, part, batch, sheet);
+            }
             batch.add(b")", sheet);
         }
         Effect::Forall(params, body) => {
@@ -55,21 +57,5 @@ fn add_effect(
             add_effect(p, scope, body.get(), batch, sheet);
             batch.add(b")", sheet);
         }
-    }
-}
-
-/// Adds effects to a batch, each behind a space.
-#[cycle(effects)]
-fn add_effects(
-    p: &Pddl,
-    scope: &Scope<'_>,
-    effects: &[Effect],
-    batch: &mut Batch,
-    sheet: &mut Sheet<'_>,
-)
-    ensures { Added (effects_text p.now scope.now effects.now) batch.old batch.new sheet.old sheet.new }
-{
-    for effect in effects {
-        add_effect(p, scope, effect, batch, sheet);
     }
 }

@@ -6,5 +6,5 @@ use Rattle.pddl_printer.specs.Scopes.{words_in_force}
 use Rattle.pddl_printer.specs.Batches.{Added}
 use Rattle.pddl_printer.proofs.effects.+effects.Given as goal
 
-abbrev pub invariant-add_effects-loop-effect : goal.invariant-add_effects-loop-effect
-invariant-add_effects-loop-effect l = Added (of_each (λ f. behind (effect_part (pddl_words l.p) f (words_in_force l.p l.scope))) (take l.effect-index l.effects)) l.fn.batch l.batch l.fn.sheet l.sheet
+abbrev pub invariant-loop-part : goal.invariant-loop-part
+invariant-loop-part l = Added (of_each (λ f. behind (effect_part (pddl_words l.p) f (words_in_force l.p l.scope))) (take l.part-index l.part-items)) l.initial.batch l.batch l.initial.sheet l.sheet
