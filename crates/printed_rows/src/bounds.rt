@@ -6,7 +6,7 @@ ghost use Rattle.printed_rows.specs.Ready.{AreReady};
 use crate::cases::CASES;
 use crate::ready::{are_below, are_ready};
 use crate::running::{Failure, compiled_source, source_of};
-use bound_calc::stratifier::{Edge, Ranks, StratError, stratify};
+use bound_calc::stratifier::{Edge, StratError, stratify};
 use bound_calc::{BoundError, bound};
 use htn_base::Name;
 use outside_io::DiskFiles;

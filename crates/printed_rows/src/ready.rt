@@ -1,6 +1,6 @@
 //! Whether the methods of a compiled problem are such that it has strata or a named cycle, and with strata a bound.
 
-ghost use Rattle.std.specs.Prelude.{ℕ, ◌≤◌, ◌<◌, ◌↔◌, All, IsTrue, IfOk, length};
+ghost use Rattle.std.specs.Prelude.{◌<◌, ◌↔◌, All, IsTrue, IfOk, length};
 ghost use Rattle.plan_model.specs.Pairs.{Pairs};
 ghost use Rattle.plan_model.specs.declared.networks.Child.{Child as Work};
 ghost use Rattle.plan_model.specs.task_networks.Order.{IsAcyclic};
