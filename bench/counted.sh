@@ -4,8 +4,9 @@
 # 2,000 packages at 4,096 slots; 500 methods of 40 subtasks; 140,000 facts; and `validate` of 50,000 steps (bench/validate.sh has
 # the same with a million). Wants ./htn, as examples/transport/run leaves it, and valgrind. A line each: the instructions.
 #
-# Counted, in the order of the cases, millions: 19.3, 80.9, 738.4, 405.3, 326.3, 276.0, 213.9. Before small functions of one call stood in
-# their callers in twelve crates: 19.1, 81.6, 747.9, 413.2, 331.7, 281.2, 215.5; in eight: 19.1, 81.7, 748.0, 412.9, 329.7, 283.6, 215.5.
+# Counted, in the order of the cases, millions: 19.4, 81.2, 740.4, 405.4, 326.8, 277.9, 211.3. Before small functions of one call stood in
+# their callers, for the third time: 19.3, 80.9, 738.4, 405.3, 326.3, 276.0, 213.9; for the second: 19.1, 81.6, 747.9, 413.2, 331.7, 281.2,
+# 215.5; for the first: 19.1, 81.7, 748.0, 412.9, 329.7, 283.6, 215.5.
 # Before words were found by a hash of all
 # their bytes, and types wrote how they are dropped: 20.9, 114.8, 779.4, 419.5, 305.5, 283.1,
 # 214.4. Before a name table was a list of words and
