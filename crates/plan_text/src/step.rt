@@ -1,4 +1,5 @@
-ghost use Rattle.std.specs.Prelude.{◌≡◌, map, IfOk};
+ghost use Rattle.std.specs.Prelude.{◌≡◌, [], map, IfOk};
+ghost use Rattle.plan_text.specs.Coming.{step_of};
 
 use htn_base::{List, Memory, Text};
 use plan_model::GroundAction;
@@ -28,7 +29,9 @@ impl<'t> Model for Step<'t> {
 
 impl<'t> Step<'t> {
     /// A step without a word. It takes no memory yet.
-    pub fn new(alloc: Global) -> Step<'t> {
+    pub fn new(alloc: Global) -> Step<'t>
+        ensures empty { result ≡ step_of [] }
+    {
         Step {
             words: Vec::new(alloc),
         }
