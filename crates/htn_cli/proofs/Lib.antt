@@ -17,3 +17,12 @@ pub mod OneBound
 pub mod OneValidation
 pub mod OneAnswers
 pub mod StepsTaken
+pub mod TruthTold
+pub mod PlanTold
+pub mod WordsTold
+pub mod SomeCounts
+pub mod SomeInputs
+pub mod SomeProblem
+pub mod SomeTranslation
+pub mod SomeValidation
+pub mod SomeAnswers

@@ -13,3 +13,4 @@ pub mod Printing
 pub mod Stops
 pub mod OneAnswer
 pub mod Checks
+pub mod SomeAnswer

@@ -5,6 +5,7 @@ pub mod EncodedValue
 pub mod Printed
 pub mod EncodedWords
 pub mod Numberable
+pub mod Countable
 pub mod WordsDiffer
 pub mod Existence
 pub mod encoded_texts

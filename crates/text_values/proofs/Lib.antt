@@ -1,9 +1,9 @@
 pub mod DomainTexts
 pub mod ProblemTexts
 pub mod Refusals
-mod HddlTexts
+pub mod HddlTexts
 pub mod Spelled
-mod PddlTexts
+pub mod PddlTexts
 mod PddlExactly
 mod Alike
 mod Pairs
