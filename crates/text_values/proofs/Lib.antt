@@ -6,7 +6,7 @@ pub mod Spelled
 pub mod PddlTexts
 mod PddlExactly
 mod Alike
-mod Pairs
+pub mod Pairs
 mod TermPairs
 mod ListPairs
 mod FormulaPairs

@@ -1,5 +1,5 @@
 -- Readings of the same tokens into two tables of words: what is the same of what they give.
-use Rattle.std.proofs.Common.{◌≡◌, ◌<◌, ◌+◌, Bool, true, false, ◌||◌, if◌then◌else◌, cond, not, Ok, Err, Result, List, [], ◌∷◌, ◌++◌, length, get_or, position, Some, None, refl, sym, ap, ◌∙◌, arith}
+use Rattle.std.proofs.Common.{◌≡◌, ◌<◌, ◌+◌, ℕ, Bool, true, false, ◌||◌, if◌then◌else◌, cond, not, Ok, Err, Result, List, [], ◌∷◌, ◌++◌, length, get_or, position, Some, None, refl, sym, ap, ◌∙◌, arith}
 use Rattle.std.proofs.lemmas.Bool.{lt-ltb, or_left, or_right}
 use Rattle.std.proofs.lemmas.List.Folds.{list_any-append}
 use Rattle.std.proofs.lemmas.List.{get_or-take}
@@ -86,11 +86,18 @@ has_word names w = go (list_any (bytes_eq w) names) refl
     go true e = e
     go false e = list_any-append (bytes_eq w) names (w ∷ []) ∙ or_right _ _ (or_left (bytes_eq w w) false (bytes_eq-refl w))
 
+-- a word has its number in the table to which it was put
+pub number_with : (names : Names) (w : Word) → (n : ℕ) × (position (bytes_eq w) (with_word names w) ≡ Some n)
+number_with names w =
+    let all = with_word names w in
+    let i = position_or_len (bytes_eq w) all in
+    (i, ap (λ here. cond here (Some i) None) (lt-ltb _ _ (there (bytes_eq w) all (has_word names w))))
+
 pub word_kept : (names : Names) (w : Word) (table : Names) → Keeps (with_word names w) table → word_at table (name_in names w).number ≡ w
 word_kept names w table k =
     let all = with_word names w in
-    let i = position_or_len (bytes_eq w) all in
-    let e : position (bytes_eq w) all ≡ Some i = ap (λ here. cond here (Some i) None) (lt-ltb _ _ (there (bytes_eq w) all (has_word names w))) in
+    let i = (number_with names w).0 in
+    let e : position (bytes_eq w) all ≡ Some i = (number_with names w).1 in
     let q = position-Some (bytes_eq w) all i [] e in
     ap (λ o. word_at table (found o)) e ∙ sym (get_or-take (length all) table i [] q.0) ∙ ap (λ t. get_or t i []) k ∙ sym (bytes_eq-true w (get_or all i []) q.1)
 

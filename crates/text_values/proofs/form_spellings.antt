@@ -29,8 +29,8 @@ mod KeptWords
 mod Facts
 mod TermsIn
 mod ListsIn
-mod FormulasIn
-mod EffectsIn
+pub mod FormulasIn
+pub mod EffectsIn
 mod NamesIn
 mod TermsBound
 mod NetworksIn
