@@ -1,0 +1,9 @@
+pub mod Gets
+pub mod OneTree
+pub mod Labels
+pub mod TableRows
+pub mod GrowthLaws
+pub mod Joined
+pub mod Built
+pub mod Consistent
+mod Examples
