@@ -6,4 +6,6 @@ pub mod GrowthLaws
 pub mod Joined
 pub mod Built
 pub mod Consistent
+pub mod Labelled
+pub mod Unjoined
 mod Examples

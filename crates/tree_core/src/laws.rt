@@ -2,8 +2,9 @@
 //!
 //! `of` is any value that the picked network is made of.
 
-ghost use Rattle.tree_core.specs.Laws.{TableIsOfOneTree, TablesTellTrees, ConsistentExactlyWhereTable, LabelsTellTree, GrowthsHaveOneTree, JoinedExactlyWhereTree, OneMoreGrowth, OrderIsListed, SchedulesAreGrowths};
+ghost use Rattle.tree_core.specs.Laws.{TableIsOfOneTree, TablesTellTrees, ConsistentExactlyWhereTable, LabelsTellTree, GrowthsHaveOneTree, JoinedExactlyWhereTree, OneMoreGrowth, OrderIsListed, SchedulesAreGrowths, UnjoinedHaveNoTree, LabelledIsAlike, RunsStandForTrees};
 
+use plan_model::Compiled;
 use plan_model::task_networks::Network;
 
 /// A list is the table of one tree at most.
@@ -45,4 +46,16 @@ pub fn schedules_are_growths<N: Network, T>(of: &T)
 /// A list of growths grows by one.
 pub fn one_more_growth<N: Network, T>(of: &T)
     ensures { OneMoreGrowth N.net }
+{}
+
+/// Growths with a defect have no tree.
+pub fn unjoined_have_no_tree<N: Network, T>(of: &T)
+    ensures { UnjoinedHaveNoTree N.net }
+{}
+
+/// The labelled tree of a compiled problem's tree has its nodes, with labels that say the same; and what grows by the
+/// labelled growths of that tree stands for it.
+pub fn runs_stand_for_trees(of: &Compiled)
+    ensures alike { LabelledIsAlike of.now }
+    ensures stands { RunsStandForTrees of.now }
 {}

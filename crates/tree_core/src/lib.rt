@@ -16,7 +16,7 @@ pub use growth::{GrowError, Growth, Scheduled};
 pub use label::Label;
 pub use laws::{
     consistent_exactly_where_table, growths_have_one_tree, joined_exactly_where_tree,
-    labels_tell_tree, one_more_growth, schedules_are_growths, table_is_of_one_tree,
-    tables_tell_trees,
+    labels_tell_tree, one_more_growth, runs_stand_for_trees, schedules_are_growths,
+    table_is_of_one_tree, tables_tell_trees, unjoined_have_no_tree,
 };
 pub use tree::Tree;
