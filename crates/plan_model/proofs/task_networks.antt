@@ -5,7 +5,12 @@ pub mod Numbers
 pub mod Orders
 pub mod Addresses
 pub mod Nodes
+pub mod Parents
+pub mod Before
+pub mod OtherChildren
+pub mod Unused
 pub mod PendingNodes
+pub mod PendingSteps
 pub mod ScheduleLaws
 pub mod BoundLaws
 pub mod StrataLaws

@@ -139,12 +139,3 @@ module _ (N : Net) where
       go (Some (open_leaf v)) f = absurd cc
       go (Some (done v)) f = cc
       go (Some (split m ts)) f = absurd cc
-
-  pub split_at : (tree : Tree N) (p : Address) (m : N.Method) → label_at N tree p ≡ Some (used m) → (ts : Trees N) × (at N tree p ≡ Some (split m ts))
-  split_at tree p m e = go (at N tree p) e
-    where
-      go : (o : Option (Tree N)) → option_map (label N) o ≡ Some (used m) → (ts : Trees N) × (o ≡ Some (split m ts))
-      go None f = absurd cc
-      go (Some (open_leaf v)) f = absurd cc
-      go (Some (done v)) f = absurd cc
-      go (Some (split n ts)) f = (ts, cc)

@@ -2,8 +2,9 @@
 use Rattle.std.proofs.Common.{ℕ, zero, suc, ◌≡◌, ◌<◌, [], ◌∷◌, length, Some, None, option_map, option_and_then, refl, ap, sym, subst, ◌∙◌, arith}
 use Rattle.plan_model.specs.task_networks.Net.{Net, count}
 use Rattle.plan_model.specs.task_networks.Tree.{Label, Tree, waits, open_leaf, ran, done, used, split, at, label, work_of, IsGrown, IsTaken, Address, label_at, child_at, Trees, works_of, none, more, IsAddress, children_of}
-use Rattle.plan_model.proofs.task_networks.Nodes.{child_below, grown_at, child_in}
-use Rattle.slot_machine.proofs.Growth.{leaves, grow, works-leaves, leaves_grown, IsFresh, done_fresh, split_fresh, IsGrowth, shrink, done_at, split_at, leaves_from_labels}
+use Rattle.plan_model.proofs.task_networks.Nodes.{child_below, grown_at}
+use Rattle.plan_model.proofs.task_networks.Parents.{split_at}
+use Rattle.slot_machine.proofs.Growth.{leaves, grow, works-leaves, leaves_grown, IsFresh, done_fresh, split_fresh, IsGrowth, shrink, done_at, leaves_from_labels}
 use Rattle.slot_machine.proofs.Replaced.{put}
 
 module _ (N : Net) where
@@ -65,19 +66,6 @@ module _ (N : Net) where
       let ws = (grown_at N tree p (split m ts) g a).1 in
       let r : ts ≡ leaves N (N.works m) = leaves_from_labels N ts (N.works m) ws (λ (i : ℕ) (k : Label N) (f : option_map (label N) (child_at N ts i) ≡ Some k). h i k (ap (option_map (label N)) (child_below N tree i p m ts a) ∙ f)) in
       a ∙ ap (λ x. Some (split m x)) r
-
-  in_child : (ts : Trees N) (i : ℕ) (l : Label N) → option_map (label N) (child_at N ts i) ≡ Some l → i < length (works_of N ts)
-  in_child none i l e = absurd cc
-  in_child (more t ts) zero l e = omega arith
-  in_child (more t ts) (suc i) l e = let h = in_child ts i l e in omega arith
-
-  -- each child of a method is an address, and no more
-  pub child_address : (tree : Tree N) (p : Address) (m : N.Method) (i : ℕ) → IsGrown N tree → label_at N tree p ≡ Some (used m) → i < count N m → IsAddress N tree (i ∷ p)
-  child_address tree p m i g e h =
-      let (ts, a) = split_at N tree p m e in
-      let ws = (grown_at N tree p (split m ts) g a).1 in
-      let c = child_in N ts i (subst (λ x. i < length x) (sym ws) h) in
-      (label N c.0, ap (option_map (label N)) (child_below N tree i p m ts a ∙ c.1))
 
   -- a tree without a node taken is an open leaf
   pub untaken : (tree : Tree N) → ((l : Label N) → label N tree ≡ l → IsTaken N l → ⊥) → tree ≡ open_leaf (work_of N tree)

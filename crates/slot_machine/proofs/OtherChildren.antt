@@ -7,7 +7,7 @@ use Rattle.plan_model.specs.task_networks.Net.{Net, count}
 use Rattle.plan_model.specs.task_networks.Lawful.{IsLawful}
 use Rattle.htn_base.specs.Different.{AreDifferent}
 use Rattle.plan_model.specs.task_networks.Spelling.{numbers, is_heir, others}
-use Rattle.plan_model.proofs.task_networks.Filters.{filter_to, to_filter, different-filter}
+use Rattle.plan_model.proofs.task_networks.OtherChildren.{rest_of}
 use Rattle.plan_model.proofs.task_networks.Lists.{Contains-later, not-in_empty, head_or_tail, Contains-here}
 use Rattle.plan_model.proofs.task_networks.Numbers.{length-numbers, numbers_to, to_numbers, different-numbers}
 use Rattle.slot_machine.specs.Machine.{insert_at, with_heir}
@@ -45,27 +45,6 @@ listed f j (x ∷ xs) h =
     let a : f j ≡ x = ap f (let e : j ≡ j + 0 = omega arith in e) ∙ h 0 (omega arith) in
     let b : xs ≡ map f (numbers (suc j) (length xs)) = listed f (suc j) xs (λ i l. ap f (let e : suc j + i ≡ j + suc i = omega arith in e) ∙ h (suc i) (omega arith)) in
     cc
-
--- the numbers other than the heir
-abbrev pub rest_of : Option ℕ → ℕ → List ℕ
-rest_of o n = filter (λ i. not (is_heir o i)) (numbers 0 n)
-
-pub rest_cases : (o : Option ℕ) (n i : ℕ) → Contains (rest_of o n) i ↔ ((i < n) × (o ≡ Some i → ⊥))
-rest_cases o n i = (
-  λ c. (let h = filter_to (λ j. not (is_heir o j)) (numbers 0 n) i c in let l = (numbers_to 0 n i h.0).1 in (omega arith, other o h.1)),
-  λ h. (let l = h.0 in to_filter (λ j. not (is_heir o j)) (numbers 0 n) i (to_numbers 0 n i (omega arith) (omega arith)) (is_other o h.1)),
-)
-  where
-    other : (o : Option ℕ) → not (is_heir o i) ≡ true → o ≡ Some i → ⊥
-    other None e f = cc
-    other (Some k) e f = let g : k ≡ i = cc in let t : (k == i) ≡ true = eq-eqb k i g in let u : not true ≡ true = subst (λ b. not b ≡ true) t e in cc
-
-    is_other : (o : Option ℕ) → (o ≡ Some i → ⊥) → not (is_heir o i) ≡ true
-    is_other None f = refl
-    is_other (Some k) f = let t : (k == i) ≡ false = (let n : k ≢ i = (λ e. f (ap Some e)) in grind arith) in ap not t
-
-pub different_rest : (o : Option ℕ) (n : ℕ) → AreDifferent (rest_of o n)
-different_rest o n = different-filter (λ i. not (is_heir o i)) (numbers 0 n) (different-numbers 0 n)
 
 none_equal : (k j n : ℕ) → k < j → filter (λ i. not (k == i)) (numbers j n) ≡ numbers j n
 none_equal k j zero h = refl

@@ -15,9 +15,11 @@ use Rattle.slot_machine.proofs.AtLabel.{heir_of}
 use Rattle.slot_machine.proofs.Growth.{child_works, leaf_at, IsGrowth}
 use Rattle.slot_machine.proofs.Inserts.{length-insert_at, different-insert_at, at-insert_at, insert_cases}
 use Rattle.slot_machine.proofs.KeepsMatching.{keeps}
-use Rattle.slot_machine.proofs.LabelTrees.{child_address, work_at, IsLegal, tree_of, growth_to, legal_grown, work-tree_of, leaf_only}
+use Rattle.plan_model.proofs.task_networks.Parents.{child_address}
+use Rattle.slot_machine.proofs.LabelTrees.{work_at, IsLegal, tree_of, growth_to, legal_grown, work-tree_of, leaf_only}
 use Rattle.slot_machine.proofs.Matching.{Matches, unblocked_due}
-use Rattle.slot_machine.proofs.OtherChildren.{map_same, rest_cases, rest_of, length-rest, others_only}
+use Rattle.plan_model.proofs.task_networks.OtherChildren.{rest_cases, rest_of}
+use Rattle.slot_machine.proofs.OtherChildren.{map_same, length-rest, others_only}
 use Rattle.slot_machine.proofs.Replaced.{put, grown-put}
 use Rattle.slot_machine.proofs.SpellingRuns.{is_after, runs_back, runs_from_spells}
 use Rattle.slot_machine.proofs.SpellingSteps.{acts_map, slot_of, spells_push, label_taken}

@@ -19,7 +19,8 @@ use Rattle.slot_machine.proofs.FrontSteps.{taken_apart, child_waits, last_childr
 use Rattle.slot_machine.proofs.Growth.{leaves, IsGrowth, child_works, place}
 use Rattle.slot_machine.proofs.LabelTrees.{work_at, IsLegal, untaken, leaf_only, tree_of, tree_at, growth_from, work-tree_of, grown_legal}
 use Rattle.slot_machine.proofs.Matching.{Matches, due_unblocked}
-use Rattle.slot_machine.proofs.OtherChildren.{Contains-map, rest_of, length-rest}
+use Rattle.plan_model.proofs.task_networks.OtherChildren.{rest_of}
+use Rattle.slot_machine.proofs.OtherChildren.{Contains-map, length-rest}
 use Rattle.plan_model.proofs.task_networks.Nodes.{grown_at}
 use Rattle.slot_machine.proofs.Replaced.{put, grown-put, put-put, put_back}
 use Rattle.slot_machine.proofs.RunSpellings.{spells_none, step_at}

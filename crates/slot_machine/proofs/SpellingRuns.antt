@@ -16,7 +16,8 @@ use Rattle.slot_machine.proofs.Growth.{IsGrowth, child_works, place}
 use Rattle.slot_machine.proofs.KeepsMatching.{IsAfter, keeps}
 use Rattle.slot_machine.proofs.LabelTrees.{work_at, tree_of, IsLegal, grown_legal, tree_at, growth_from, work-tree_of, leaf_only, untaken}
 use Rattle.slot_machine.proofs.Matching.{Matches, due_unblocked}
-use Rattle.slot_machine.proofs.OtherChildren.{with-heir_others, get_number, map_cases, rest_cases, different-map, different_rest}
+use Rattle.plan_model.proofs.task_networks.OtherChildren.{rest_cases, different_rest}
+use Rattle.slot_machine.proofs.OtherChildren.{with-heir_others, get_number, map_cases, different-map}
 use Rattle.plan_model.proofs.task_networks.Nodes.{grown_at}
 use Rattle.slot_machine.proofs.Replaced.{put, grown-put}
 use Rattle.slot_machine.proofs.SpellingSteps.{acts_last, spells_back, label_taken, act_label, open_slots_apart, no_acts}

@@ -60,10 +60,10 @@ module _ (N : Net) (law : IsLawful N) where
     next_iff h w = (to, from)
       where
         to : last.holds h w × IsUnblocked N last h → IsNextAt N tree slot h w
-        to (a, un) = let (p, e, f) = (matches_spelling.holds h w).0 a in record { leaf = p; is = e; at_slot = f; unblocked = (waits_iff p (w, e)).0 (λ x bf. un x (subst (last.before x) f bf)) }
+        to (a, un) = let (p, e, f) = (matches_spelling.holds h w).0 a in record { holds = (p, e, f); unblocked = (waits_iff p (w, e)).0 (λ x bf. un x (subst (last.before x) f bf)) }
 
         from : IsNextAt N tree slot h w → last.holds h w × IsUnblocked N last h
-        from n = ((matches_spelling.holds h w).1 (n.leaf, n.is, n.at_slot), λ x bf. (waits_iff n.leaf (w, n.is)).1 n.unblocked x (subst (last.before x) (sym n.at_slot) bf))
+        from n = ((matches_spelling.holds h w).1 n.holds, λ x bf. (waits_iff n.holds.0 (w, n.holds.1)).1 n.unblocked x (subst (last.before x) (sym n.holds.2) bf))
 
     may_iff : (a : Act N) → May N last a ↔ Can N tree slot b a
     may_iff (run h w) = (

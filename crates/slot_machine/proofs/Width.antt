@@ -5,7 +5,9 @@ use Rattle.plan_model.specs.task_networks.Net.{Net, count}
 use Rattle.plan_model.specs.task_networks.Tree.{Tree, Address, IsAddress, open_leaf, done, split, Trees, none, more, at, IsAbove, waits, label, ran, child_at, used, work_of, works_of, IsGrown, AreGrown}
 use Rattle.plan_model.specs.task_networks.Schedule.{Blocks, IsSchedule, IsDue}
 use Rattle.plan_model.specs.task_networks.Pending.{IsWithin}
-use Rattle.plan_model.specs.task_networks.PendingComputed.{is_listed, is_pending, nodes_at, nodes_from}
+use Rattle.plan_model.specs.task_networks.Listed.{is_listed}
+use Rattle.plan_model.specs.task_networks.Preorder.{nodes_at, nodes_from}
+use Rattle.plan_model.specs.task_networks.PendingComputed.{is_pending}
 use Rattle.plan_model.specs.task_networks.Front.{IsFront}
 use Rattle.plan_model.specs.task_networks.Bound.{itself, weight, weights, AreLargeEnough, IsReached, block_number, as_child}
 use Rattle.plan_model.proofs.task_networks.Addresses.{below-itself, below_up}

@@ -35,7 +35,7 @@ module _ (pairs : List Pair) (k : ℕ) (d : Pair) (l : k < length pairs) where
       cut = sym (append_assoc (take k pairs) (here ∷ []) (drop (k + 1) pairs))
 
 -- whether there is a chain
-decide_chain : (ps : List Pair) (a b : ℕ) → Precedes (Pairs ps) a b ⊎ (Precedes (Pairs ps) a b → ⊥)
+pub decide_chain : (ps : List Pair) (a b : ℕ) → Precedes (Pairs ps) a b ⊎ (Precedes (Pairs ps) a b → ⊥)
 decide_chain ps = by_push (λ qs. (a b : ℕ) → Precedes (Pairs qs) a b ⊎ (Precedes (Pairs qs) a b → ⊥)) none step ps
   where
     none : (a b : ℕ) → Precedes (Pairs []) a b ⊎ (Precedes (Pairs []) a b → ⊥)

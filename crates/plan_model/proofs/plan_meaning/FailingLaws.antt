@@ -133,7 +133,7 @@ module _ (c : Pddl) where
         go (inr (inr (more, p))) = absurd (not_past (FailsIn c x why) S zs more z because (subst (EndsIn c (FailsIn c x why) S) p f) g)
 
   -- what fails behind the first step fails
-  later : (S : State) (step : GroundAction) (steps : List GroundAction) (a : ActionSchema) (os : List ℕ) → IsApplicable c S step a os → (n : ℕ) (why : Cause) → FailsFrom c (T S a os) steps n why → FailsFrom c S (step ∷ steps) (n + 1) why
+  pub later : (S : State) (step : GroundAction) (steps : List GroundAction) (a : ActionSchema) (os : List ℕ) → IsApplicable c S step a os → (n : ℕ) (why : Cause) → FailsFrom c (T S a os) steps n why → FailsFrom c S (step ∷ steps) (n + 1) why
   later S step steps a os i n why (inl (before, rest, s, is, at, f)) = inl (step ∷ before, rest, s, ap (λ t. step ∷ t) is, (let h : n + 1 ≡ length (step ∷ before) + 1 = omega (arith, at) in h), (a, os, i, f))
   later S step steps a os i n why (inr (at, is, f)) = inr ((let h : n + 1 ≡ length (step ∷ steps) + 1 = omega (arith, at) in h), is, (a, os, i, f))
 

@@ -5,7 +5,7 @@ use Rattle.std.proofs.lemmas.List.Elements.{Contains-append_left, Contains-appen
 use Rattle.plan_model.specs.task_networks.Net.{Net}
 use Rattle.plan_model.specs.task_networks.Tree.{Tree, Address, at, Trees, split, child_at, children_of, open_leaf, done, none, more, IsAddress, label, IsOpen, waits, IsAbove, IsGrown, AreGrown, works_of}
 use Rattle.htn_base.specs.Different.{AreDifferent}
-use Rattle.plan_model.specs.task_networks.PendingComputed.{nodes_at, nodes_from}
+use Rattle.plan_model.specs.task_networks.Preorder.{nodes_at, nodes_from}
 use Rattle.plan_model.proofs.task_networks.Addresses.{below-itself, below_up, not-below_parent, same_sibling}
 use Rattle.plan_model.proofs.task_networks.Different.{different_append}
 use Rattle.plan_model.proofs.task_networks.Lists.{Contains-here, Contains-later, head_or_tail, not-in_empty}

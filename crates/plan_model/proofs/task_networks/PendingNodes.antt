@@ -6,7 +6,9 @@ use Rattle.plan_model.specs.task_networks.Tree.{Address, at, Tree}
 use Rattle.plan_model.specs.task_networks.Schedule.{IsBegun}
 use Rattle.htn_base.specs.Different.{AreDifferent}
 use Rattle.plan_model.specs.task_networks.Pending.{IsPending, IsWithin}
-use Rattle.plan_model.specs.task_networks.PendingComputed.{same_address, is_listed, pending, is_pending, nodes_at}
+use Rattle.plan_model.specs.task_networks.Listed.{same_address, is_listed}
+use Rattle.plan_model.specs.task_networks.Preorder.{nodes_at}
+use Rattle.plan_model.specs.task_networks.PendingComputed.{pending, is_pending}
 use Rattle.plan_model.proofs.task_networks.Different.{no_more}
 use Rattle.plan_model.proofs.task_networks.Filters.{filter_to, to_filter, different-filter}
 use Rattle.plan_model.proofs.task_networks.Lists.{Contains-later, not-in_empty, head_or_tail}

@@ -5,7 +5,8 @@ use Rattle.std.specs.List.{list_any, list_all}
 use Rattle.plan_model.specs.task_networks.Net.{Net}
 use Rattle.plan_model.specs.task_networks.Tree.{Address, ran, Tree, Label, waits, used, label_at}
 use Rattle.plan_model.specs.task_networks.Pending.{IsWithin}
-use Rattle.plan_model.specs.task_networks.PendingComputed.{nodes_at, pending}
+use Rattle.plan_model.specs.task_networks.Preorder.{nodes_at}
+use Rattle.plan_model.specs.task_networks.PendingComputed.{pending}
 use Rattle.plan_model.specs.task_networks.Front.{IsFront}
 use Rattle.plan_model.specs.task_networks.Spelling.{Act, AreActs, Spells}
 use Rattle.plan_model.proofs.task_networks.Lists.{not-in_empty, head_or_tail}

@@ -5,7 +5,8 @@ use Rattle.plan_model.specs.task_networks.Order.{ArePairsOf, Precedes}
 use Rattle.plan_model.specs.task_networks.Net.{Net, count}
 use Rattle.plan_model.specs.task_networks.Tree.{Address, IsAbove, Label, waits, ran, used, Tree, label_at, IsProcessed, IsTaken}
 use Rattle.plan_model.specs.task_networks.Schedule.{IsBegun, Blocks, IsDue, IsSchedule}
-use Rattle.plan_model.specs.task_networks.PendingComputed.{same_address, is_listed, nodes_at}
+use Rattle.plan_model.specs.task_networks.Listed.{same_address, is_listed}
+use Rattle.plan_model.specs.task_networks.Preorder.{nodes_at}
 use Rattle.plan_model.specs.task_networks.Spelling.{numbers}
 use Rattle.plan_model.proofs.task_networks.Lists.{not-in_empty, head_or_tail, Contains-later}
 use Rattle.plan_model.proofs.task_networks.Nodes.{nodes, lists_address}

@@ -74,13 +74,17 @@ module _ (c : Compiled) where
   abbrev pub IsDeclared : Work → Type 0
   IsDeclared w = (params : List Param) × AreParamsOf w params × AreTyped InTypeOf params (objects_of w)
 
-  -- a ground method: its values are of their types, its constraints hold, and the arguments of its children are of the declared types
+  -- the constraints hold, and the arguments of the children are of the declared types
+  pub record IsMet (g : GroundMethod) (plan : MethodPlan) : Type 0 where
+    pub constraints : (con : Constraint) → Contains plan.schema.constraints con → Meets g.values con
+    pub declared : (child : Child) → Contains plan.schema.children child → IsDeclared (child_of g child)
+
+  -- a ground method: its values are of their types, and meet what the method asks of them
   pub record IsGroundMethod (g : GroundMethod) : Type 0 where
     pub plan : MethodPlan
     pub is : slice_get c.methods g.number ≡ Some plan
     pub typed : AreTyped InTypeOf plan.schema.params g.values
-    pub constraints : (con : Constraint) → Contains plan.schema.constraints con → Meets g.values con
-    pub declared : (child : Child) → Contains plan.schema.children child → IsDeclared (child_of g child)
+    pub met : IsMet g plan
 
   -- each method by its plan; a number that names no method has no plan, and then there are no children
   abbrev pub network : Net

@@ -50,7 +50,7 @@ module _ (c : Compiled) (b : ℕ) (style : Style) (p : Pddl) (means : PiecesMean
     free = λ x k. elim k [ inl y ↦ s.free x y | inr e ↦ subst (IsSlot c b style p) (sym e) (s.holds h w may.holds).1 ];
   }
   sane_after t (apply h new g) s may = record {
-    holds = λ x v k. elim k [ inl y ↦ s.holds x v y.0 | inr y ↦ (known_children c means.fits g may.ground.plan may.ground.is may.ground.typed may.ground.declared y.0 v y.2, child_slot y.0 x y.1) ];
+    holds = λ x v k. elim k [ inl y ↦ s.holds x v y.0 | inr y ↦ (known_children c means.fits g may.ground.plan may.ground.is may.ground.typed may.ground.met.declared y.0 v y.2, child_slot y.0 x y.1) ];
     free = λ x k. elim k [ inl y ↦ s.free x y.0 | inr y ↦ subst (IsSlot c b style p) (sym y.1) slot ];
   }
     where

@@ -12,7 +12,8 @@ use Rattle.plan_model.specs.declared.values.Compiled.{Compiled}
 use Rattle.plan_model.specs.task_networks.Net.{Net, count}
 use Rattle.plan_model.specs.task_networks.Lawful.{IsLawful}
 use Rattle.plan_model.specs.task_networks.Spelling.{others}
-use Rattle.slot_machine.proofs.OtherChildren.{rest_of, length-rest}
+use Rattle.plan_model.proofs.task_networks.OtherChildren.{rest_of}
+use Rattle.slot_machine.proofs.OtherChildren.{length-rest}
 use Rattle.plan_model.specs.plan_meaning.Truth.{values_of, AreTyped}
 use Rattle.plan_model.specs.plan_meaning.Network.{Work, GroundMethod, network, InTypeOf, IsDeclared, ground_work, child_of}
 use Rattle.plan_model.proofs.plan_meaning.MethodParts.{head_by, works_by}

@@ -222,7 +222,7 @@ module _ (c : Compiled) (b : ℕ) (style : Style) (p : Pddl) (means : PiecesMean
             record {
               may = record {
                 holds = holds;
-                ground = record { plan = k.plan; is = k.is; typed = k.typed; constraints = asks.constraints; declared = declared };
+                ground = record { plan = k.plan; is = k.is; typed = k.typed; met = record { constraints = asks.constraints; declared = declared } };
                 unblocked = (unblocked_iff c b style p S t T h r k.slot).1 waits;
                 enough = k.count ∙ (let e = others_long N means.lawful g in let f = count_is c means.fits g k.plan k.is in let z : length k.plan.schema.children - 1 ≡ length (others N g) = omega arith in z);
                 free = free;
@@ -261,8 +261,8 @@ module _ (c : Compiled) (b : ℕ) (style : Style) (p : Pddl) (means : PiecesMean
           record {
             free = λ x d. ((r.free x).0 (may.free x d)).1;
             different = may.apart;
-            constraints = ground.constraints;
-            guards = (means.guards_declare g ground.plan ground.is ground.typed).1 ground.declared;
+            constraints = ground.met.constraints;
+            guards = (means.guards_declare g ground.plan ground.is ground.typed).1 ground.met.declared;
             tested = subst (λ o. AllowsMethod c T o g.values) ground.is al;
           },
         )

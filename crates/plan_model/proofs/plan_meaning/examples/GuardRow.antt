@@ -92,7 +92,7 @@ with k = record { number = 1; values = k ∷ [] }
 
 -- b1 isn't red, so m with b1 is no ground method
 pub not_b1 : IsGroundMethod guarded (with 0) → ⊥
-not_b1 g = go (g.declared painted there)
+not_b1 g = go (g.met.declared painted there)
   where
     there : Contains g.plan.schema.children painted
     there = let e : Some guard_method_plan ≡ Some g.plan = g.is in let f : guard_method_plan ≡ g.plan = cc in subst (λ (z : MethodPlan). Contains z.schema.children painted) f (0, omega arith, refl)

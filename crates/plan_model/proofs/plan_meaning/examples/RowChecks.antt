@@ -7,7 +7,8 @@ use Rattle.plan_model.specs.declared.values.Compiled.{Compiled}
 use Rattle.plan_model.specs.task_networks.Net.{Net}
 use Rattle.plan_model.specs.task_networks.Tree.{Tree, Address, Label, waits, label_at, work_of, IsGrown, IsOpen}
 use Rattle.plan_model.specs.task_networks.Pending.{IsPending}
-use Rattle.plan_model.specs.task_networks.PendingComputed.{nodes_at, pending}
+use Rattle.plan_model.specs.task_networks.Preorder.{nodes_at}
+use Rattle.plan_model.specs.task_networks.PendingComputed.{pending}
 use Rattle.plan_model.proofs.task_networks.PendingNodes.{pending_iff}
 use Rattle.plan_model.specs.task_networks.Schedule.{IsSchedule}
 use Rattle.plan_model.specs.task_networks.Front.{IsFront}
@@ -54,8 +55,10 @@ module _ (c : Compiled) where
     plan = plan;
     is = is;
     typed = typed;
-    constraints = of_each (Meets g.values) plan.schema.constraints constraints;
-    declared = of_each (λ child. IsDeclared c (child_of g child)) plan.schema.children declared;
+    met = record {
+      constraints = of_each (Meets g.values) plan.schema.constraints constraints;
+      declared = of_each (λ child. IsDeclared c (child_of g child)) plan.schema.children declared;
+    };
   }
 
   abbrev pub precedes : GroundMethod → ℕ → ℕ → Bool

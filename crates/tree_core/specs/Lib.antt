@@ -1,0 +1,6 @@
+pub mod Tables
+pub mod Growths
+pub mod Labels
+pub mod Nodes
+pub mod Runs
+pub mod Laws

@@ -1,0 +1,119 @@
+ghost use Rattle.std.specs.Prelude.{◌≡◌, [], ◌∷◌, ◌++◌, length, option_map, IfOk, OnOk, OnErr};
+ghost use Rattle.std.specs.Option.{option_copied};
+ghost use Rattle.tree_core.specs.Labels.{label_of};
+ghost use Rattle.tree_core.specs.Runs.{label_in, parent_in, number_in, end_in};
+
+use crate::label::Label;
+use htn_base::{List, Memory};
+use std::alloc::Global;
+use std::marker::Model;
+
+// A node: its label, the address of its parent, its child number, and the address after its subtree.
+pub(crate) struct Node {
+    pub(crate) label: Label,
+    pub(crate) parent: Option<u32>,
+    pub(crate) number: u32,
+    pub(crate) end: u32,
+}
+
+impl Drop for Node {
+    fn drop(self) {
+        let Node {
+            label: _,
+            parent: _,
+            number: _,
+            end: _,
+        } = self;
+    }
+}
+
+impl Node {
+    // An equal node.
+    fn copy(&self, alloc: Global) -> Result<Node, Memory>
+        ensures equal { IfOk result (λ copy. copy ≡ self.now) }
+    {
+        Ok(Node {
+            label: self.label.copy(alloc)?,
+            parent: self.parent,
+            number: self.number,
+            end: self.end,
+        })
+    }
+}
+
+/// A tree by its nodes in preorder. A node's address is its place, from 0. The first child of a node is at the next address,
+/// if that is below the node's end, and the next sibling of a child is at the child's end, if that is below the parent's.
+///
+/// Contracts see the list of the rows.
+pub struct Tree {
+    pub(crate) nodes: List<Node>,
+}
+
+impl Drop for Tree {
+    fn drop(self) {
+        let Tree { nodes: _ } = self;
+    }
+}
+
+impl Model for Tree {
+    ghost use Rattle.std.specs.Prelude.{List, ◌<◌, ◌^◌, length};
+    ghost use Rattle.tree_core.specs.Tables.{Row};
+    ghost use Rattle.tree_core.specs.Labels.{labels};
+    ghost use Rattle.tree_core.specs.Nodes.{rows_of};
+
+    ghost Value = { List (Row labels) };
+
+    ghost view = { λ tree. rows_of tree.nodes };
+
+    ghost invariant = { λ tree. length tree.nodes < 2 ^ 32 };
+}
+
+impl Tree {
+    /// The number of nodes.
+    pub fn size(&self) -> u32
+        ensures size { result ≡ length self.now }
+    {
+        self.nodes.len() as u32
+    }
+
+    /// The label of the node, or `None` where the address is at least the size.
+    pub fn label(&self, address: u32) -> Option<&Label>
+        ensures label { option_map label_of (option_copied result) ≡ label_in self.now address }
+    {
+        Some(&self.nodes.get(address as usize)?.label)
+    }
+
+    /// The address of the node's parent, or `None` where the address is 0 or at least the size.
+    pub fn parent(&self, address: u32) -> Option<u32>
+        ensures parent { result ≡ parent_in self.now address }
+    {
+        self.nodes.get(address as usize)?.parent
+    }
+
+    /// The number of the node among its parent's children, from 0, or `None` where the address is 0 or at least the size.
+    pub fn number(&self, address: u32) -> Option<u32>
+        ensures number { result ≡ number_in self.now address }
+    {
+        let node = self.nodes.get(address as usize)?;
+        node.parent?;
+        Some(node.number)
+    }
+
+    /// The address after the node's subtree, or `None` where the address is at least the size.
+    pub fn end(&self, address: u32) -> Option<u32>
+        ensures end { result ≡ end_in self.now address }
+    {
+        Some(self.nodes.get(address as usize)?.end)
+    }
+
+    /// An equal tree.
+    pub fn copy(&self, alloc: Global) -> Result<Tree, Memory>
+        ensures equal { IfOk result (λ copy. copy ≡ self.now) }
+    {
+        let mut nodes = List::with_room(alloc, self.nodes.len())?;
+        for node in self.nodes.as_slice() {
+            nodes.put(node.copy(alloc))?;
+        }
+        Ok(Tree { nodes })
+    }
+}
