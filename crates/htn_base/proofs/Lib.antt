@@ -1,5 +1,7 @@
+mod LimitLemmas
 pub mod DifferentLemmas
 pub mod TableLemmas
+pub mod OrderedLemmas
 pub mod KeptLemmas
 pub mod EscapeLemmas
 pub mod PackedLemmas

@@ -1,7 +1,12 @@
 -- The words of a name table, in the order in which they were first seen. A word's number is its place from 0.
-use Rattle.std.specs.Prelude.{ℕ, ◌≡◌, ◌<◌, ◌^◌, ◌⊎◌, Bool, false, List, [], ◌∷◌, ◌++◌, length, slice_get, nat_eq, Option, Some, None, All, Contains, position, if◌then◌else◌}
+use Rattle.std.specs.Prelude.{ℕ, ◌≡◌, ◌<◌, ◌^◌, ◌⊎◌, Bool, false, List, [], ◌∷◌, ◌++◌, length, slice_get, nat_eq, Option, Some, None, All, position, Vec, if◌then◌else◌}
 use Rattle.std.specs.Hash.FoldHasher.{initial, write, finish}
 use Rattle.std.specs.HashMap.{HashMap, get}
+use Rattle.std.specs.declared.alloc.Global.{Global}
+use Rattle.std.specs.BTreeMap as tree
+use Rattle.std.specs.BTreeMap.{BTreeMap}
+use Rattle.std.specs.Cmp.Lexicographic.{slice_cmp}
+use Rattle.std.specs.Ordering.{nat_cmp}
 use Rattle.std.specs.List.{list_any}
 use Rattle.std.specs.Option.{option_map_or}
 use Rattle.std.specs.Str.{bytes_eq}
@@ -36,20 +41,24 @@ hash_of word = finish (write initial word)
 abbrev pub is_word_at : List (List ℕ) → List ℕ → ℕ → Bool
 is_word_at words word n = option_map_or (bytes_eq word) (slice_get words n) false
 
--- a number that is found by a hash: it stands under it, or among the others where another stands under it
-pub record IsKept {S : Type 0} (first : HashMap ℕ ℕ S) (others : List ℕ) (hash k : ℕ) : Type 0 where
+-- the number that is kept for the word itself
+abbrev pub number_by_word : BTreeMap (Vec ℕ Global) ℕ → List ℕ → Option ℕ
+number_by_word others word = tree.get_by (λ key. slice_cmp nat_cmp word key.items) others
+
+-- a number that is found by its word: it stands under the word's hash, or under the word where another stands under the hash
+pub record IsKept {S : Type 0} (first : HashMap ℕ ℕ S) (others : BTreeMap (Vec ℕ Global) ℕ) (word : List ℕ) (k : ℕ) : Type 0 where
   pub under : ℕ
-  pub there : get nat_eq first hash ≡ Some under
-  pub either : (under ≡ k) ⊎ Contains others k
+  pub there : get nat_eq first (hash_of word) ≡ Some under
+  pub either : (under ≡ k) ⊎ (number_by_word others word ≡ Some k)
 
 -- no word with this hash has its number under it
 abbrev pub IsFree : {S : Type 0} → HashMap ℕ ℕ S → List (List ℕ) → ℕ → Type 0
 IsFree first words hash = (n : ℕ) (word : List ℕ) → get nat_eq first hash ≡ Some n → slice_get words n ≡ Some word → hash_of word ≡ hash → ⊥
 
--- what holds of a name table: its words, and that the number of each is found by its hash
-pub record IsNameTable {S : Type 0} (first : HashMap ℕ ℕ S) (others : List ℕ) (words : List (List ℕ)) : Type 0 where
+-- what holds of a name table: its words, and that the number of each is found by it
+pub record IsNameTable {S : Type 0} (first : HashMap ℕ ℕ S) (others : BTreeMap (Vec ℕ Global) ℕ) (words : List (List ℕ)) : Type 0 where
   pub table : IsTable words
-  pub kept : (k : ℕ) (word : List ℕ) → slice_get words k ≡ Some word → IsKept first others (hash_of word) k
+  pub kept : (k : ℕ) (word : List ℕ) → slice_get words k ≡ Some word → IsKept first others word k
 
 -- a word in lower case that does not stand among the words
 pub record IsNewWord (words : List (List ℕ)) (word : List ℕ) : Type 0 where

@@ -7,6 +7,7 @@
 mod boxed;
 mod fault;
 mod lengths;
+pub mod limits;
 mod list;
 mod marks;
 mod memory;

@@ -1,6 +1,5 @@
-ghost use Rattle.std.specs.Prelude.{◌≡◌, [], ℕ, List, true, false, length, slice_get, take, nat_eq, IsSome, IfOk, IfSome, OnOk, OnErr, Some, None};
+ghost use Rattle.std.specs.Prelude.{◌≡◌, ◌≢◌, [], ℕ, List, true, false, length, slice_get, take, nat_eq, IsSome, IfOk, IfSome, OnOk, OnErr, Some, None};
 ghost use Rattle.std.specs.HashMap.{get};
-ghost use Rattle.std.specs.List as lists;
 ghost use Rattle.std.specs.Option.{option_copied, option_map};
 ghost use Rattle.htn_base.specs.Table as spec;
 ghost use Rattle.htn_base.specs.Table.{is_word_at, IsKept, IsFree};
@@ -10,7 +9,7 @@ use crate::marks::Marks;
 use crate::memory::Memory;
 use crate::word_list::WordList;
 use std::alloc::Global;
-use std::collections::HashMap;
+use std::collections::{BTreeMap, HashMap};
 use std::hash::{FoldHasher, Hasher};
 use std::marker::Model;
 
@@ -26,8 +25,9 @@ pub struct NameTable {
     words: WordList,
     // by the hash of a word, the number of the first word that has it
     first: HashMap<u64, u32>,
-    // the numbers of the words whose hash a word before them has
-    others: Vec<u32>,
+    // the numbers of the words whose hash a word before them has. Whoever writes a text can give all its words one hash, so
+    // these are found by the order of their bytes
+    others: BTreeMap<Vec<u8>, u32>,
 }
 
 impl Drop for NameTable {
@@ -49,7 +49,7 @@ impl Model for NameTable {
 
     ghost view = { λ table. table.words };
 
-    ghost invariant = { λ table. IsNameTable table.first table.others.items table.words };
+    ghost invariant = { λ table. IsNameTable table.first table.others table.words };
 }
 
 impl NameTable {
@@ -64,7 +64,7 @@ impl NameTable {
             alloc,
             words: WordList::new(alloc),
             first: HashMap::new(alloc),
-            others: Vec::new(alloc),
+            others: BTreeMap::new(alloc),
         }
     }
 
@@ -129,10 +129,11 @@ impl NameTable {
         }
         let number = self.words.len() as u32;
         keep(
+            self.alloc,
             &mut self.first,
             &mut self.others,
             &self.words,
-            hash_of(word),
+            word,
             number,
         )?;
         self.words.push(word)?;
@@ -187,8 +188,13 @@ impl NameTable {
         if is_at(&self.words, first.number, word) {
             return Some(first);
         }
-        let number = *among(self.others.as_slice(), &self.words, word)?;
-        Some(Name { number })
+        let other = Name {
+            number: *self.others.get(word)?,
+        };
+        if is_at(&self.words, other.number, word) {
+            return Some(other);
+        }
+        None
     }
 
     /// As `find`. A word that the marks know is found without a search. They may be those of any table.
@@ -232,13 +238,6 @@ fn is_at(words: &WordList, number: u32, word: &[u8]) -> bool
     }
 }
 
-// The first of the numbers whose word this is.
-fn among<'a>(numbers: &'a [u32], words: &WordList, word: &[u8]) -> Option<&'a u32>
-    ensures { option_copied result ≡ lists.find (is_word_at words.now word.now) numbers.now }
-{
-    numbers.iter().find(|number| is_at(words, **number, word))
-}
-
 // Whether a word with this hash has its number under it.
 fn is_taken(first: &HashMap<u64, u32>, words: &WordList, hash: u64) -> bool
     ensures taken { result ≡ true → IsSome (get nat_eq first.now hash) }
@@ -253,21 +252,23 @@ fn is_taken(first: &HashMap<u64, u32>, words: &WordList, hash: u64) -> bool
     }
 }
 
-// Keeps a number under a hash, or among the others where a word with this hash has its own there.
+// Keeps the number of a new word under its hash, or among the others where a word with this hash has its own there.
 fn keep(
+    alloc: Global,
     first: &mut HashMap<u64, u32>,
-    others: &mut Vec<u32>,
+    others: &mut BTreeMap<Vec<u8>, u32>,
     words: &WordList,
-    hash: u64,
+    word: &[u8],
     number: u32,
 ) -> Result<(), Memory>
-    ensures kept { OnOk result (IsKept first.new others.new.items hash number) }
-    ensures before { (k : ℕ) (word : List ℕ) → slice_get words.now k ≡ Some word
-        → IsKept first.old others.old.items (spec.hash_of word) k
-        → IsKept first.new others.new.items (spec.hash_of word) k }
+    ensures kept { OnOk result (IsKept first.new others.new word.now number) }
+    ensures before { (k : ℕ) (other : List ℕ) → slice_get words.now k ≡ Some other → other ≢ word.now
+        → IsKept first.old others.old other k → IsKept first.new others.new other k }
 {
+    let hash = hash_of(word);
     if is_taken(first, words, hash) {
-        others.push(number)?;
+        let key = Vec::from_slice(alloc, word)?;
+        others.insert(key, number)?;
         return Ok(());
     }
     match first.insert(hash, number) {

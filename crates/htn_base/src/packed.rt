@@ -1,4 +1,4 @@
-ghost use Rattle.std.specs.Prelude.{◌≡◌, [], ◌∷◌, ◌++◌, cond, length, slice_get, IfOk, OnOk};
+ghost use Rattle.std.specs.Prelude.{◌≡◌, [], ◌∷◌, ◌++◌, cond, length, slice_get, take, IfOk, OnOk, OnErr};
 ghost use Rattle.htn_base.specs.Packed.{numbers_of};
 
 use crate::list::push_item;
@@ -23,8 +23,8 @@ impl Drop for Numbers {
     }
 }
 
-/// Numbers in order, each in one byte, two or four: as few as the greatest of them takes. Contracts see the list of the
-/// numbers. After want of memory it may be any list.
+/// Numbers in order, each in one byte, two or four: as few as the greatest of them took. Contracts see the list of the
+/// numbers.
 pub struct PackedNumbers {
     alloc: Global,
     numbers: Numbers,
@@ -98,10 +98,12 @@ impl PackedNumbers {
         Some(number)
     }
 
-    /// Puts a number at the end. The others are copied only where it takes more bytes than each of them.
+    /// Puts a number at the end. The others are copied only where it takes more bytes than each of them. After `Memory` the
+    /// numbers are as they were.
     #[inline]
     pub fn push(&mut self, n: u32) -> Result<(), Memory>
         ensures pushed { OnOk result (self.new ≡ self.old ++ n ∷ []) }
+        ensures unchanged { OnErr result (self.new ≡ self.old) }
     {
         match &mut self.numbers {
             Numbers::Bytes(bytes) => {
@@ -144,26 +146,43 @@ impl PackedNumbers {
         Ok(Numbers::Words(words))
     }
 
-    /// Puts all these numbers at the end.
+    /// Puts all these numbers at the end. After `Memory` the numbers are as they were.
     #[inline]
     pub fn extend(&mut self, numbers: &[u32]) -> Result<(), Memory>
         ensures put { OnOk result (self.new ≡ self.old ++ numbers.now) }
+        ensures unchanged { OnErr result (self.new ≡ self.old) }
     {
         if let Numbers::Bytes(bytes) = &mut self.numbers {
             if put_few(bytes, numbers)? {
                 return Ok(());
             }
         }
+        let before = self.len();
         for n in numbers {
-            self.push(*n)?;
+            if let Err(memory) = self.push(*n) {
+                self.truncate(before);
+                return Err(memory);
+            }
         }
         Ok(())
     }
+
+    // Forgets all numbers but the first ones, `len` of them or all.
+    pub(crate) fn truncate(&mut self, len: usize)
+        ensures numbers { self.new ≡ take len self.old }
+    {
+        match &mut self.numbers {
+            Numbers::Bytes(bytes) => bytes.truncate(len),
+            Numbers::Halves(halves) => halves.truncate(len),
+            Numbers::Words(words) => words.truncate(len),
+        }
+    }
 }
 
-// Puts the numbers at the end all at once, if they are few and each is a byte.
+// Puts the numbers at the end all at once, if they are few and each is a byte. After `Memory` the bytes are as they were.
 fn put_few(bytes: &mut Vec<u8>, numbers: &[u32]) -> Result<bool, Memory>
-    ensures { IfOk result (λ put. bytes.new.items ≡ bytes.old.items ++ cond put numbers.now []) }
+    ensures put { IfOk result (λ put. bytes.new.items ≡ bytes.old.items ++ cond put numbers.now []) }
+    ensures unchanged { OnErr result (bytes.new.items ≡ bytes.old.items) }
 {
     let mut few = [0_u8; 16];
     if numbers.len() > few.len() {

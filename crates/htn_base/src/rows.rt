@@ -1,4 +1,4 @@
-ghost use Rattle.std.specs.Prelude.{◌≡◌, [], ◌∷◌, ◌++◌, length, slice_get, IfOk, OnOk};
+ghost use Rattle.std.specs.Prelude.{◌≡◌, [], ◌∷◌, ◌++◌, length, slice_get, IfOk, OnOk, OnErr};
 ghost use Rattle.htn_base.specs.Packed.{row_of};
 
 use crate::lengths::number;
@@ -22,8 +22,7 @@ impl<'a> Model for PackedRow<'a> {
     ghost view = { λ row. row_of row.head row.rest };
 }
 
-// Rows in order. The numbers of all stand in one list, so that no row takes memory of its own. After want of memory there
-// are none.
+// Rows in order. The numbers of all stand in one list, so that no row takes memory of its own.
 #[derive(Drop)]
 struct Rows {
     alloc: Global,
@@ -84,24 +83,20 @@ impl Rows {
         Some(PackedRow { head, rest })
     }
 
-    // Puts a row at the end. More than 4,294,967,295 further numbers in all want memory.
+    // Puts a row at the end. More than 4,294,967,295 further numbers in all want memory. After `Memory` the rows are as
+    // they were.
     #[inline]
     fn push(&mut self, head: u32, rest: &[u32]) -> Result<(), Memory>
         ensures pushed { OnOk result (self.new ≡ self.old ++ row_of head rest.now ∷ []) }
+        ensures unchanged { OnErr result (self.new ≡ self.old) }
     {
-        let put = put_row(&mut self.heads, &mut self.ends, &mut self.rest, head, rest);
-        match put {
-            Ok(()) => Ok(()),
-            Err(Memory) => {
-                *self = Rows::new(self.alloc);
-                Err(Memory)
-            }
-        }
+        put_row(&mut self.heads, &mut self.ends, &mut self.rest, head, rest)?;
+        Ok(())
     }
 }
 
 /// Rows in order, each a head and further numbers. The numbers of all stand in one list, so that no row takes memory of
-/// its own. Contracts see the list of the rows. After want of memory there are none, or those that there were.
+/// its own. Contracts see the list of the rows.
 pub struct PackedRows {
     alloc: Global,
     // on the heap, so that what owns rows owns one thing
@@ -169,10 +164,12 @@ impl PackedRows {
         }
     }
 
-    /// Puts a row at the end. More than 4,294,967,295 further numbers in all want memory.
+    /// Puts a row at the end. More than 4,294,967,295 further numbers in all want memory. After `Memory` the rows are as
+    /// they were.
     #[inline]
     pub fn push(&mut self, head: u32, rest: &[u32]) -> Result<(), Memory>
         ensures pushed { OnOk result (self.new ≡ self.old ++ row_of head rest.now ∷ []) }
+        ensures unchanged { OnErr result (self.new ≡ self.old) }
     {
         match &mut self.rows {
             Some(rows) => rows.push(head, rest),
@@ -186,7 +183,8 @@ impl PackedRows {
     }
 }
 
-// Puts a row at the end of the lists of rows: the head, the numbers behind those of all, and where they end.
+// Puts a row at the end of the lists of rows: the head, the numbers behind those of all, and where they end. After `Memory`
+// the lists are as they were.
 #[inline]
 fn put_row(
     heads: &mut PackedNumbers,
@@ -198,8 +196,41 @@ fn put_row(
     ensures heads { OnOk result (heads.new ≡ heads.old ++ head ∷ []) }
     ensures ends { OnOk result (ends.new ≡ ends.old ++ length numbers.new ∷ []) }
     ensures numbers { OnOk result (numbers.new ≡ numbers.old ++ rest.now) }
+    ensures heads_unchanged { OnErr result (heads.new ≡ heads.old) }
+    ensures ends_unchanged { OnErr result (ends.new ≡ ends.old) }
+    ensures numbers_unchanged { OnErr result (numbers.new ≡ numbers.old) }
 {
+    let before = numbers.len();
     numbers.extend(rest)?;
-    ends.push(number(numbers.len())?)?;
-    heads.push(head)
+    match put_end(heads, ends, head, numbers.len()) {
+        Ok(()) => Ok(()),
+        Err(memory) => {
+            numbers.truncate(before);
+            Err(memory)
+        }
+    }
+}
+
+// Puts a head, and where its row ends, behind the others. After `Memory` the lists are as they were.
+#[inline]
+fn put_end(
+    heads: &mut PackedNumbers,
+    ends: &mut PackedNumbers,
+    head: u32,
+    end: usize,
+) -> Result<(), Memory>
+    ensures heads { OnOk result (heads.new ≡ heads.old ++ head ∷ []) }
+    ensures ends { OnOk result (ends.new ≡ ends.old ++ end ∷ []) }
+    ensures heads_unchanged { OnErr result (heads.new ≡ heads.old) }
+    ensures ends_unchanged { OnErr result (ends.new ≡ ends.old) }
+{
+    let before = ends.len();
+    ends.push(number(end)?)?;
+    match heads.push(head) {
+        Ok(()) => Ok(()),
+        Err(memory) => {
+            ends.truncate(before);
+            Err(memory)
+        }
+    }
 }

@@ -2,7 +2,8 @@
 use Rattle.std.proofs.Common.{◌≡◌, ℕ, zero, suc, ◌+◌, ◌⊎◌, inl, inr, Bool, true, false, nat_le, if◌then◌else◌, length, map, Option, Some, None, List, [], ◌∷◌, ◌++◌, refl, sym, ◌∙◌, ap, subst, append_assoc}
 use Rattle.text_forms.specs.Bytes.{Class, blank, opening, closing, letter, bad, classes}
 use Rattle.text_forms.specs.Tokens.{Token, token, start, stop, ended, begun, tokens_from, lexeme, symbol}
-use Rattle.text_forms.specs.Faults.{Fault, fault, deepest, HasFault}
+use Rattle.htn_base.specs.Limits.{deepest}
+use Rattle.text_forms.specs.Faults.{Fault, fault, HasFault}
 use Rattle.text_forms.specs.Lists.{AreMatched}
 use Rattle.text_forms.specs.Laws.{MatchedAreFaultless}
 

@@ -1,6 +1,7 @@
 -- The faults of tokens: a bad byte (1), a list without an end (2), a stray closing parenthesis (3), a list too deep (4).
 -- Source: this project's.
 use Rattle.std.specs.Prelude.{◌≡◌, ℕ, ◌+◌, ◌<◌, ◌≤◌, ◌⊎◌, nat_le, if◌then◌else◌, Option, Some, None, List, [], ◌∷◌, length}
+use Rattle.htn_base.specs.Limits.{deepest}
 use Rattle.text_forms.specs.Bytes.{Class, blank, opening, closing, letter, bad, classes}
 
 -- a code, and a place counted in bytes from 0
@@ -30,10 +31,6 @@ open_after ps at bad = ps
 abbrev pub stray : List ℕ → Option ℕ
 stray [] = Some 3
 stray (p ∷ ps) = None
-
--- at most so many lists are open at a time
-abbrev pub deepest : ℕ
-deepest = 200
 
 -- the code of the fault that a byte is, where these lists are open in front of it
 abbrev pub code_at : List ℕ → Class → Option ℕ

@@ -1,5 +1,6 @@
 -- What is kept of each token of a text in its index: where it begins, and where a word or a list ends.
 use Rattle.std.specs.Prelude.{◌≡◌, ℕ, zero, suc, ◌+◌, ◌<◌, ◌≤◌, ◌⊎◌, Option, Some, None, List, [], ◌∷◌, drop, length, slice_get}
+use Rattle.htn_base.specs.Limits.{longest_input}
 use Rattle.text_forms.specs.Bytes.{Class, blank, opening, closing, letter, bad}
 use Rattle.text_forms.specs.Closing.{close_at, close_after}
 use Rattle.text_forms.specs.Faults.{IsFaultless}
@@ -32,7 +33,7 @@ KeepsTokens text (kept.Index index) = IsIndexOf text index
 
 -- what is kept of a text that was read, which has no fault
 pub record IsKeptOf (text : List ℕ) (kept : Kept) : Type 0 where
-  pub short : length text ≤ 16777216
+  pub short : length text ≤ longest_input
   pub faultless : IsFaultless text
   pub tokens : KeepsTokens text kept
 

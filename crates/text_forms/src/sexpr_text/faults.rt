@@ -1,10 +1,12 @@
 ghost use Rattle.std.specs.Prelude.{◌≡◌, ◌≤◌, ◌<◌, ◌^◌, length, IfOk, OnOk};
+ghost use Rattle.htn_base.specs.Limits.{longest_input};
 ghost use Rattle.text_forms.specs.Bytes.{classes_from};
 ghost use Rattle.text_forms.specs.Faults.{open_after, code_at};
 ghost use Rattle.text_forms.specs.Least.{left_open};
 ghost use Rattle.text_forms.specs.sexpr_text.Seen.{class_seen, least_in, opened, TellsFault};
 
 use crate::sexpr_text::classes::{Class, class_in};
+use htn_base::limits::DEEPEST;
 use htn_base::{Fault, Memory};
 use std::alloc::Global;
 
@@ -17,13 +19,10 @@ const STRAY_CLOSE: u16 = 3;
 
 const TOO_DEEP: u16 = 4;
 
-// At most so many lists are open at a time.
-const DEEPEST: usize = 200;
-
 /// The fault of a text that comes first, by place and then code. A byte's fault does not end the pass: a
 /// list in front of it that is left open at the end comes before it.
 pub fn first_fault(alloc: Global, source: &[u8], file: u8) -> Result<Option<Fault>, Memory>
-    requires short { length source.now ≤ 16777216 }
+    requires short { length source.now ≤ longest_input }
     ensures least { IfOk result (λ found. found ≡ least_in file source.now) }
 {
     let mut open_lists: Vec<u32> = Vec::new(alloc);

@@ -1,5 +1,6 @@
 ghost use Rattle.std.specs.Prelude.{◌≡◌, ◌≤◌, ◌<◌, ◌↔◌, length, get_or, slice_get, IfOk, IfSome, IsSome};
 ghost use Rattle.std.specs.Option.{option_map};
+ghost use Rattle.htn_base.specs.Limits.{longest_input};
 ghost use Rattle.text_forms.specs.Bytes.{class_of};
 ghost use Rattle.text_forms.specs.Closing.{close_at};
 ghost use Rattle.text_forms.specs.Faults.{IsFaultless};
@@ -37,7 +38,7 @@ impl Drop for Index {
 /// The index of a text without faults, in one pass, or `None` where the text has a fault. It starts with room for a token
 /// in two bytes, which is enough for most texts: room that is never touched costs no memory, and growing copies.
 pub fn index_of(alloc: Global, source: &[u8]) -> Result<Option<Index>, Memory>
-    requires short { length source.now ≤ 16777216 }
+    requires short { length source.now ≤ longest_input }
     ensures index { IfOk result (λ found. IfSome found (IsIndexOf source.now)) }
     ensures faultless { IfOk result (λ found. IsSome found ↔ IsFaultless source.now) }
 {
@@ -63,7 +64,7 @@ pub fn index_of(alloc: Global, source: &[u8]) -> Result<Option<Index>, Memory>
 impl Index {
     /// The token with a number, or `None` past the last.
     pub fn piece(&self, source: &[u8], i: u32) -> Option<Piece>
-        requires short { length source.now ≤ 16777216 }
+        requires short { length source.now ≤ longest_input }
         requires index { IsIndexOf source.now self.now }
         ensures piece { option_map piece_seen result ≡ slice_get (tokens source.now) i }
         ensures order { IfSome result (λ p. p.span.start < p.span.end) }
@@ -106,7 +107,7 @@ impl Index {
         at: usize,
         class: Class,
     ) -> Result<usize, Memory>
-        requires short { length source.now ≤ 16777216 }
+        requires short { length source.now ≤ longest_input }
         requires within { at < length source.now }
         requires class { class_seen class ≡ class_of (get_or source.now at 0) }
         requires good { IsGoodAt (length open_lists.old.items) (class_seen class) }

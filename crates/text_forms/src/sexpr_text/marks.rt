@@ -1,4 +1,5 @@
 ghost use Rattle.std.specs.Prelude.{◌≡◌, ◌≤◌, ◌<◌, ◌↔◌, length, get_or, IfOk, IfSome, IsSome};
+ghost use Rattle.htn_base.specs.Limits.{longest_input};
 ghost use Rattle.text_forms.specs.Bytes.{class_of};
 ghost use Rattle.text_forms.specs.Faults.{IsFaultless};
 ghost use Rattle.text_forms.specs.sexpr_text.Kept.{CountsTokens};
@@ -44,7 +45,7 @@ impl Drop for Marks {
 
 /// The marks of a text without faults, in one pass, or `None` where the text has a fault.
 pub fn marks_of(alloc: Global, source: &[u8]) -> Result<Option<Marks>, Memory>
-    requires short { length source.now ≤ 16777216 }
+    requires short { length source.now ≤ longest_input }
     ensures count { IfOk result (λ found. IfSome found (CountsTokens source.now)) }
     ensures marks { IfOk result (λ found. IfSome found (AreMarks source.now)) }
     ensures faultless { IfOk result (λ found. IsSome found ↔ IsFaultless source.now) }
@@ -74,7 +75,7 @@ pub fn marks_of(alloc: Global, source: &[u8]) -> Result<Option<Marks>, Memory>
 impl Marks {
     // Passes over what begins at a place, and marks it where it is a token.
     fn pass_over(&mut self, source: &[u8], place: Place, class: Class) -> Result<Place, Memory>
-        requires short { length source.now ≤ 16777216 }
+        requires short { length source.now ≤ longest_input }
         requires within { place.at < length source.now }
         requires class { class_seen class ≡ class_of (get_or source.now place.at 0) }
         requires good { IsGoodAt place.depth (class_seen class) }

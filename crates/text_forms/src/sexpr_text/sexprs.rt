@@ -1,5 +1,6 @@
 ghost use Rattle.std.specs.Prelude.{◌≡◌, ◌≤◌, ◌<◌, ◌+◌, ◌↔◌, length, slice_get, IfOk, IfErr, IfSome, IsSome};
 ghost use Rattle.std.specs.Option.{option_map};
+ghost use Rattle.htn_base.specs.Limits.{longest_input};
 ghost use Rattle.text_forms.specs.Closing.{close_at, OpensList};
 ghost use Rattle.text_forms.specs.Faults.{IsFaultless};
 ghost use Rattle.text_forms.specs.Tokens.{tokens, token_count};
@@ -60,7 +61,7 @@ impl<'a> Model for Sexprs<'a> {
 /// `Bad` has the least fault by offset, then code: a bad byte (1), a list without an end (2), a `)` while no
 /// list is open (3), a `(` while 200 lists are open (4).
 pub fn read<'a>(alloc: Global, source: &'a [u8], file: u8) -> Result<Sexprs<'a>, ReadError>
-    requires short { length source.now ≤ 16777216 }
+    requires short { length source.now ≤ longest_input }
     ensures text { IfOk result (λ s. s ≡ source.now) }
     ensures faultless { IfOk result (λ _. IsFaultless source.now) }
     ensures refused { IfErr result (IsRefusal source.now file) }
@@ -81,7 +82,7 @@ pub fn read_with_index<'a>(
     source: &'a [u8],
     file: u8,
 ) -> Result<Sexprs<'a>, ReadError>
-    requires short { length source.now ≤ 16777216 }
+    requires short { length source.now ≤ longest_input }
     ensures text { IfOk result (λ s. s ≡ source.now) }
     ensures faultless { IfOk result (λ _. IsFaultless source.now) }
     ensures refused { IfErr result (IsRefusal source.now file) }
@@ -97,7 +98,7 @@ pub fn read_with_index<'a>(
 
 // Why a text that has a fault isn't read. Only such a text is read again, for its least fault.
 fn refusal(alloc: Global, source: &[u8], file: u8) -> ReadError
-    requires short { length source.now ≤ 16777216 }
+    requires short { length source.now ≤ longest_input }
     requires faulty { IsFaultless source.now → ⊥ }
     ensures refused { IsRefusal source.now file result }
 {
@@ -203,7 +204,7 @@ impl<'a> Sexprs<'a> {
     /// The number of bytes of the source, at most 16,777,216.
     pub fn text_len(&self) -> u32
         ensures bytes { result ≡ length self.now }
-        ensures short { result ≤ 16777216 }
+        ensures short { result ≤ longest_input }
     {
         self.source.len() as u32
     }

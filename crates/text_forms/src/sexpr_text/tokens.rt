@@ -1,4 +1,5 @@
 ghost use Rattle.std.specs.Prelude.{◌≡◌, ◌≤◌, ◌<◌, ◌-◌, ◌^◌, length, IfSome};
+ghost use Rattle.htn_base.specs.Limits.{longest_input};
 ghost use Rattle.text_forms.specs.sexpr_text.Places.{tokens_at, tokens_by, deeper};
 ghost use Rattle.text_forms.specs.sexpr_text.Seen.{kind_seen};
 
@@ -32,7 +33,7 @@ pub struct Piece {
 
 /// The first token from a place on, where no word is under way and no comment goes on.
 pub fn next_piece(source: &[u8], from: u32) -> Option<Piece>
-    requires short { length source.now ≤ 16777216 }
+    requires short { length source.now ≤ longest_input }
     ensures tokens { tokens_at source.now from ≡ tokens_by source.now result }
     ensures later { IfSome result (λ p. from ≤ p.span.start) }
     ensures order { IfSome result (λ p. p.span.start < p.span.end) }

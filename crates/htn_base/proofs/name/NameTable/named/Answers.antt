@@ -1,6 +1,6 @@
-use Rattle.std.proofs.Common.{◌≡◌, [], ◌∷◌, ◌++◌, length, Some, None, sym, ap, subst, ◌∙◌}
-use Rattle.htn_base.specs.Table.{number_of, with_word, hash_of, IsKept}
-use Rattle.htn_base.proofs.KeptLemmas.{next_kept}
+use Rattle.std.proofs.Common.{◌≡◌, [], ◌∷◌, ◌++◌, length, Some, None, refl, sym, ap, subst, ◌∙◌}
+use Rattle.htn_base.specs.Table.{number_of, with_word, IsKept}
+use Rattle.htn_base.proofs.KeptLemmas.{still_kept, next_kept}
 use Rattle.htn_base.proofs.TableLemmas.{known-same, with-new, number-last}
 use Rattle.htn_base.proofs.name.NameTable.named.Goals as goal
 use Rattle.htn_base.proofs.name.NameTable.named.Goals.{In_ok-push}
@@ -11,14 +11,27 @@ returns-in-Some-clause-words c =
     let word = c.args.word.now in
     sym (ap (with_word words) (sym c.requires) ∙ known-same words word c.find.ensures.sound _ (sym c.in-Some.ensures.number))
 
+pub invariant_of-self : goal.invariant_of-self
+invariant_of-self c =
+    let table = c.self.inside in
+    let new = ap (λ words. number_of words c.args.word.now) c.self.view_is ∙ sym c.in_default.ensures.number in
+    still_kept table.first c.keep.new.first table.others c.keep.new.others table.words c.args.word.now c.self.invariant c.keep.ensures.before new table.words refl
+
+pub invariant_of-self-in_err-push : goal.invariant_of-self-in_err-push
+invariant_of-self-in_err-push c =
+    let table = c.self.inside in
+    let new = ap (λ words. number_of words c.args.word.now) c.self.view_is ∙ sym c.in_default.ensures.number in
+    still_kept table.first c.keep.new.first table.others c.keep.new.others table.words c.args.word.now c.self.invariant c.keep.ensures.before new
+    c.push.new.self c.in_err-push.ensures.unchanged
+
 pub invariant_of-self-2 : goal.invariant_of-self-2
 invariant_of-self-2 c =
     let table = c.self.inside in
     let word = c.args.word.now in
-    let kept = subst (λ n. IsKept c.keep.new.first c.keep.new.others.items (hash_of word) n) c.len-number.ensures.length
-    (subst (λ h. IsKept c.keep.new.first c.keep.new.others.items h c.len-number.result) c.hash_of.ensures (c.in_ok-keep.ensures.kept)) in
-    next_kept table.first c.keep.new.first table.others.items c.keep.new.others.items table.words c.push.new.self word c.push.result
-    c.self.invariant c.keep.ensures.before kept c.push.ensures.pushed c.push.ensures.unchanged c.push.ensures.sound
+    let new = ap (λ words. number_of words word) c.self.view_is ∙ sym c.in_default.ensures.number in
+    let kept = subst (λ n. IsKept c.keep.new.first c.keep.new.others word n) c.len-number.ensures.length c.in_ok-keep.ensures.kept in
+    next_kept table.first c.keep.new.first table.others c.keep.new.others table.words word c.self.invariant c.keep.ensures.before new
+    c.push.new.self c.push.result kept c.push.ensures.pushed c.push.ensures.unchanged c.push.ensures.sound
 
 module _ (c : In_ok-push) where
   new : number_of c.args.self.now c.args.word.now ≡ None
