@@ -2,6 +2,8 @@
 use Rattle.std.proofs.Common.{ℕ, ◌≡◌, ◌+◌, ◌<◌, ◌≤◌, ◌↔◌, ◌++◌, inl, inr, Bool, true, false, IsTrue, List, [], ◌∷◌, length, get_or, take, drop, Contains, refl, ap, sym, subst, ◌∙◌, true≢false, arith, append_assoc, take-append-drop, length-take-le}
 use Rattle.std.proofs.lemmas.List.{take_all}
 use Rattle.std.specs.Borrow.{Bor}
+use Rattle.plan_model.specs.declared.causes.FailWhy.{FailWhy}
+use Rattle.plan_model.specs.declared.causes.FailWhy.TheVariants.{UnknownAction, Arguments, Condition, GoalFalse}
 use Rattle.plan_model.specs.declared.terms.GroundAtom.{GroundAtom}
 use Rattle.plan_model.specs.declared.types.Types.{Types}
 use Rattle.plan_model.specs.declared.types.Object.{Object}
@@ -12,18 +14,17 @@ use Rattle.plan_model.specs.declared.values.Pddl.{Pddl}
 use Rattle.plan_model.specs.plan_meaning.Truth as truth
 use Rattle.plan_model.specs.plan_meaning.Truth.{AreTyped, IsTrueIn, after}
 use Rattle.plan_model.specs.plan_meaning.ClassicalPlan.{InTypeOf, IsApplicable, EndsIn, IsPlan}
-use Rattle.plan_model.specs.plan_meaning.FailingStep.{Cause, unknown_action, arguments, condition, goal_false, IsNamed, IsInstance, FailsIn, Fails, AreNamedApart}
+use Rattle.plan_model.specs.plan_meaning.FailingStep.{IsNamed, IsInstance, FailsIn, Fails, AreNamedApart}
 use Rattle.plan_model.proofs.plan_meaning.SameStates.{same_truth, same_after}
 use Rattle.plan_model.proofs.plan_meaning.FailingLaws.{ends_weaker, ends_joined, same_objects}
 use Rattle.problem_index.specs.Index.{IsIndex}
-use Rattle.ground_state.specs.declared.verdict.FailWhy.{FailWhy}
 use Rattle.ground_state.specs.declared.run.Run.{Run}
 use Rattle.ground_state.specs.declared.state.State.{State}
 use Rattle.ground_state.specs.Frames.{Frame, frame}
 use Rattle.ground_state.specs.Room.{fits, effect_fits, Fits, EffectFits}
 use Rattle.ground_state.specs.Needs.{HasRoomForAll}
 use Rattle.ground_state.specs.States.{atoms, Has, IsSame}
-use Rattle.ground_state.specs.Runs.{cause, texts, words_step, AreArguments, IsRunnable, HasRoomIn, IsAsRoomy, IsReady, HasTaken, FailsAt, Reaches, KeepsTaken}
+use Rattle.ground_state.specs.Runs.{texts, words_step, AreArguments, IsRunnable, HasRoomIn, IsAsRoomy, IsReady, HasTaken, FailsAt, Reaches, KeepsTaken}
 use Rattle.ground_state.proofs.Lists.{take_next}
 use Rattle.ground_state.proofs.ArgumentLaws.{typed_length}
 
@@ -53,13 +54,13 @@ module _ (p : Pddl) (step : GroundAction) (a : ActionSchema) (named : IsNamed p 
   applicable S os args t = record { action = named.action; name = named.name; objects_are = args.0; typed = args.1; condition = t }
 
   module _ (apart : AreNamedApart p) (S : truth.State) where
-    pub arguments_fail : ((os : List ℕ) → AreArguments p a.params step.args os → ⊥) → FailsIn p step arguments S
+    pub arguments_fail : ((os : List ℕ) → AreArguments p a.params step.args os → ⊥) → FailsIn p step Arguments S
     arguments_fail none = ((a, named), λ has. go has.0 has.1 has.2)
       where
         go : (b : ActionSchema) (os : List ℕ) → IsInstance p step b os → ⊥
         go b os i = none os (i.objects_are, subst (λ (d : ActionSchema). AreTyped (InTypeOf p) d.params os) (apart.actions b a step i.named named) i.typed)
 
-    pub condition_fails : (os : List ℕ) → AreArguments p a.params step.args os → (IsTrueIn (InTypeOf p) S a.pre os → ⊥) → FailsIn p step condition S
+    pub condition_fails : (os : List ℕ) → AreArguments p a.params step.args os → (IsTrueIn (InTypeOf p) S a.pre os → ⊥) → FailsIn p step Condition S
     condition_fails os args wrong = ((a, os, record { named = named; objects_are = args.0; typed = args.1 }), λ allowed. go allowed.0 allowed.1 allowed.2)
       where
         go : (b : ActionSchema) (us : List ℕ) → IsApplicable p S step b us → ⊥
@@ -75,11 +76,11 @@ module _ (p : Pddl) where
   applicable_too : (S T : truth.State) → ((g : GroundAtom) → S g ↔ T g) → (step : GroundAction) (a : ActionSchema) (os : List ℕ) → IsApplicable p S step a os → IsApplicable p T step a os
   applicable_too S T same step a os i = record { action = i.action; name = i.name; objects_are = i.objects_are; typed = i.typed; condition = (same_truth (InTypeOf p) S T same a.pre os).0 i.condition }
 
-  fails_too : (S T : truth.State) → ((g : GroundAtom) → S g ↔ T g) → (step : GroundAction) (why : Cause) → FailsIn p step why S → FailsIn p step why T
-  fails_too S T same step unknown_action f = f
-  fails_too S T same step arguments f = f
-  fails_too S T same step condition f = (f.0, λ allowed. f.1 (allowed.0, allowed.1, applicable_too T S (λ g. ((same g).1, (same g).0)) step allowed.0 allowed.1 allowed.2))
-  fails_too S T same step goal_false f = f
+  fails_too : (S T : truth.State) → ((g : GroundAtom) → S g ↔ T g) → (step : GroundAction) (why : FailWhy) → FailsIn p step why S → FailsIn p step why T
+  fails_too S T same step UnknownAction f = f
+  fails_too S T same step Arguments f = f
+  fails_too S T same step Condition f = (f.0, λ allowed. f.1 (allowed.0, allowed.1, applicable_too T S (λ g. ((same g).1, (same g).0)) step allowed.0 allowed.1 allowed.2))
+  fails_too S T same step GoalFalse f = f
 
   -- one step more
   run_next : (old new : State) (taken : List GroundAction) (step : GroundAction) → EndsIn p (Has old) I taken → IsTaken p step old new → EndsIn p (Has new) I (taken ++ step ∷ [])
@@ -91,7 +92,7 @@ module _ (p : Pddl) where
   )) I taken h)
 
   -- the first step that fails
-  run_fails : (state : State) (taken rest : List GroundAction) (step : GroundAction) (why : Cause) → EndsIn p (Has state) I taken → FailsIn p step why (atoms state) → Fails p (taken ++ step ∷ rest) (length taken + 1) why
+  run_fails : (state : State) (taken rest : List GroundAction) (step : GroundAction) (why : FailWhy) → EndsIn p (Has state) I taken → FailsIn p step why (atoms state) → Fails p (taken ++ step ∷ rest) (length taken + 1) why
   run_fails state taken rest step why h f =
       inl (taken, rest, step, refl, refl, ends_weaker p (Has state) (FailsIn p step why) (λ U u. fails_too (atoms state) U u step why f) I taken h)
 
@@ -99,13 +100,13 @@ module _ (p : Pddl) where
   run_plan_found : (state : State) (taken : List GroundAction) → EndsIn p (Has state) I taken → IsTrueIn (InTypeOf p) (atoms state) p.goal [] → IsPlan p taken
   run_plan_found state taken h t = ends_weaker p (Has state) (λ U. IsTrueIn (InTypeOf p) U p.goal []) (λ U u. (same_truth (InTypeOf p) (atoms state) U u p.goal []).0 t) I taken h
 
-  run_goal_fails : (state : State) (taken : List GroundAction) → EndsIn p (Has state) I taken → (IsTrueIn (InTypeOf p) (atoms state) p.goal [] → ⊥) → Fails p taken (length taken + 1) goal_false
+  run_goal_fails : (state : State) (taken : List GroundAction) → EndsIn p (Has state) I taken → (IsTrueIn (InTypeOf p) (atoms state) p.goal [] → ⊥) → Fails p taken (length taken + 1) GoalFalse
   run_goal_fails state taken h n =
       inr (refl, refl, ends_weaker p (Has state) (λ U. IsTrueIn (InTypeOf p) U p.goal [] → ⊥) (λ U u x. n ((same_truth (InTypeOf p) (atoms state) U u p.goal []).1 x)) I taken h)
 
 -- a step that fails, whatever was taken before
-pub fails : (run : Run) (step : GroundAction) (w : FailWhy) → FailsIn run.p.now step (cause w) (atoms run.state) → (p : Pddl) (taken : List GroundAction) → HasTaken p taken run → FailsAt p taken step w
-fails run step w f p taken h rest = run_fails p run.state taken rest step (cause w) h.ends (subst (λ q. FailsIn q step (cause w) (atoms run.state)) h.problem f)
+pub fails : (run : Run) (step : GroundAction) (w : FailWhy) → FailsIn run.p.now step w (atoms run.state) → (p : Pddl) (taken : List GroundAction) → HasTaken p taken run → FailsAt p taken step w
+fails run step w f p taken h rest = run_fails p run.state taken rest step w h.ends (subst (λ q. FailsIn q step w (atoms run.state)) h.problem f)
 
 -- what a run holds beside its state stays its problem's
 module _ (old new : Run) (problem : new.p.now ≡ old.p.now) (index : new.index ≡ old.index) (roomy : IsAsRoomy (frame old.env) (frame new.env)) where
@@ -145,12 +146,12 @@ module _ (p : Pddl) (steps : List GroundAction) (i : ℕ) (step : GroundAction) 
   pub taken_more : (run : Run) → HasTaken p (take i steps ++ step ∷ []) run → HasTaken p (take (i + 1) steps) run
   taken_more run h = subst (λ s. HasTaken p s run) (sym more) h
 
-  pub fails_there : (w : FailWhy) → FailsAt p (take i steps) step w → Fails p steps (i + 1) (cause w)
+  pub fails_there : (w : FailWhy) → FailsAt p (take i steps) step w → Fails p steps (i + 1) w
   fails_there w f =
       let all : take i steps ++ step ∷ drop (i + 1) steps ≡ steps =
       sym (append_assoc (take i steps) (step ∷ []) (drop (i + 1) steps)) ∙ ap (λ t. t ++ drop (i + 1) steps) (sym more) ∙ take-append-drop (i + 1) steps in
       let k : length (take i steps) ≡ i = length-take-le i steps (omega arith) in
-      subst (λ n. Fails p steps (n + 1) (cause w)) k (subst (λ s. Fails p s (length (take i steps) + 1) (cause w)) all (f (drop (i + 1) steps)))
+      subst (λ n. Fails p steps (n + 1) w) k (subst (λ s. Fails p s (length (take i steps) + 1) w) all (f (drop (i + 1) steps)))
 
 -- and all of them
 pub taken_all : (p : Pddl) (steps : List GroundAction) (i : ℕ) (run : Run) → length steps ≤ i → HasTaken p (take i steps) run → HasTaken p steps run

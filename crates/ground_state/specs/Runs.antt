@@ -2,15 +2,15 @@
 -- Source: this project's; a plan and a failing step as in plan_meaning.
 use Rattle.std.specs.Prelude.{ℕ, ◌≡◌, ◌+◌, ◌<◌, ◌^◌, Bool, MatchBool, MatchOption, List, [], ◌∷◌, ◌++◌, map, length, Contains, Option}
 use Rattle.std.specs.Borrow.{Bor}
+use Rattle.plan_model.specs.declared.causes.FailWhy.{FailWhy}
+use Rattle.plan_model.specs.declared.causes.FailWhy.TheVariants.{GoalFalse}
 use Rattle.plan_model.specs.declared.terms.Param.{Param}
 use Rattle.plan_model.specs.declared.steps.GroundAction.{GroundAction}
 use Rattle.plan_model.specs.declared.values.Pddl.{Pddl}
 use Rattle.plan_model.specs.Parts.{AreListed}
 use Rattle.plan_model.specs.plan_meaning.Truth.{AreTyped}
 use Rattle.plan_model.specs.plan_meaning.ClassicalPlan.{AreObjects, InTypeOf, EndsIn, IsPlan}
-use Rattle.plan_model.specs.plan_meaning.FailingStep.{Cause, unknown_action, arguments, condition, goal_false, Fails, AreNamedApart}
-use Rattle.ground_state.specs.declared.verdict.FailWhy.{FailWhy}
-use Rattle.ground_state.specs.declared.verdict.FailWhy.TheVariants as why
+use Rattle.plan_model.specs.plan_meaning.FailingStep.{Fails, AreNamedApart}
 use Rattle.ground_state.specs.declared.verdict.Verdict.{Verdict}
 use Rattle.ground_state.specs.declared.verdict.Verdict.TheVariants as verdict
 use Rattle.ground_state.specs.declared.run.Run.{Run}
@@ -19,16 +19,10 @@ use Rattle.ground_state.specs.States.{Has}
 use Rattle.ground_state.specs.Needs.{HasRoomForAll}
 use Rattle.problem_index.specs.Index.{IsIndex}
 
-abbrev pub cause : FailWhy → Cause
-cause why.UnknownAction = unknown_action
-cause why.Arguments = arguments
-cause why.Condition = condition
-cause why.GoalFalse = goal_false
-
 -- the list is a plan, or it fails at this step for this cause
 abbrev pub IsVerdict : Pddl → List GroundAction → Verdict → Type 0
 IsVerdict p steps verdict.Plan = IsPlan p steps
-IsVerdict p steps (verdict.Fails n w) = Fails p steps n (cause w)
+IsVerdict p steps (verdict.Fails n w) = Fails p steps n w
 
 -- types are listed, objects and actions are fewer than 2^32, and no two of them have one word
 pub record IsRunnable (p : Pddl) : Type 0 where
@@ -75,7 +69,7 @@ pub record HasTaken (p : Pddl) (taken : List GroundAction) (run : Run) : Type 0 
 
 -- each list that goes on with the step behind those taken fails there for this cause
 abbrev pub FailsAt : Pddl → List GroundAction → GroundAction → FailWhy → Type 0
-FailsAt p taken step w = (rest : List GroundAction) → Fails p (taken ++ step ∷ rest) (length taken + 1) (cause w)
+FailsAt p taken step w = (rest : List GroundAction) → Fails p (taken ++ step ∷ rest) (length taken + 1) w
 
 -- whatever was taken before: now the step too, or it fails there
 abbrev pub Takes : GroundAction → Run → Run → Option FailWhy → Type 0
@@ -83,7 +77,7 @@ Takes step old new failed = (p : Pddl) (taken : List GroundAction) → HasTaken 
 
 -- whatever was taken: it is a plan, or only the goal is false
 abbrev pub Reaches : Run → Bool → Type 0
-Reaches run found = (p : Pddl) (taken : List GroundAction) → HasTaken p taken run → MatchBool found (IsPlan p taken) (Fails p taken (length taken + 1) goal_false)
+Reaches run found = (p : Pddl) (taken : List GroundAction) → HasTaken p taken run → MatchBool found (IsPlan p taken) (Fails p taken (length taken + 1) GoalFalse)
 
 -- whatever was taken is what is taken
 abbrev pub KeepsTaken : Run → Run → Type 0

@@ -29,7 +29,8 @@ mod truth;
 mod verdict;
 
 pub use env::Env;
+pub use plan_model::FailWhy;
 pub use run::{Run, run_plan};
 pub use state::State;
 pub use truth::holds;
-pub use verdict::{FailWhy, Verdict};
+pub use verdict::Verdict;

@@ -6,9 +6,9 @@ use crate::env::Env;
 use crate::need::Need;
 use crate::state::State;
 use crate::truth::is_true;
-use crate::verdict::{FailWhy, Verdict};
+use crate::verdict::Verdict;
 use htn_base::{List, Memory};
-use plan_model::{GroundAction, Pddl};
+use plan_model::{FailWhy, GroundAction, Pddl};
 use problem_index::Index;
 use std::alloc::Global;
 

@@ -10,6 +10,7 @@
 //! (`Types::is_a`, `in_type`, `members`, `Parts::new`); an order answers what its pairs generate (`net_order::Order`).
 #![tactic(auto)]
 
+mod causes;
 mod effects;
 mod facts;
 mod formulas;
@@ -27,6 +28,7 @@ mod terms;
 mod types;
 mod values;
 
+pub use causes::FailWhy;
 pub use effects::Effect;
 pub use facts::{Fact, Facts};
 pub use formulas::Formula;

@@ -1,11 +1,13 @@
 -- A list of ground actions is a plan, or it fails at one step for one cause.
 use Rattle.std.proofs.Common.{ℕ, ◌≡◌, ◌⊎◌, inl, inr, ◌+◌, ◌++◌, List, [], ◌∷◌, length, refl, ap, sym, subst, ◌∙◌, arith, Contains}
+use Rattle.plan_model.specs.declared.causes.FailWhy.{FailWhy}
+use Rattle.plan_model.specs.declared.causes.FailWhy.TheVariants.{UnknownAction, Arguments, Condition, GoalFalse}
 use Rattle.plan_model.specs.declared.schemas.ActionSchema.{ActionSchema}
 use Rattle.plan_model.specs.declared.steps.GroundAction.{GroundAction}
 use Rattle.plan_model.specs.declared.values.Pddl.{Pddl}
 use Rattle.plan_model.specs.plan_meaning.Truth.{State, IsTrueIn, after}
 use Rattle.plan_model.specs.plan_meaning.ClassicalPlan.{AreObjects, InTypeOf, IsApplicable, EndsIn}
-use Rattle.plan_model.specs.plan_meaning.FailingStep.{Cause, unknown_action, arguments, condition, goal_false, IsInstance, NamesAction, HasArguments, IsAllowed, FailsIn, StepFails, FailsFrom, AreNamedApart}
+use Rattle.plan_model.specs.plan_meaning.FailingStep.{IsInstance, NamesAction, HasArguments, IsAllowed, FailsIn, StepFails, FailsFrom, AreNamedApart}
 use Rattle.plan_model.specs.plan_meaning.Laws.{EachIsPlanOrFails}
 
 -- two cuts of a list before an element: they are one, or one goes on behind the other
@@ -51,29 +53,29 @@ module _ (c : Pddl) where
   instance S step a objects i = record { named = record { action = i.action; name = i.name }; objects_are = i.objects_are; typed = i.typed }
 
   -- a step that can be taken has no cause
-  no_cause : (S : State) (step : GroundAction) (why : Cause) → IsAllowed c S step → FailsIn c step why S → ⊥
-  no_cause S step unknown_action (a, objects, i) f = f (a, (instance S step a objects i).named)
-  no_cause S step arguments (a, objects, i) f = f.1 (a, objects, instance S step a objects i)
-  no_cause S step condition allowed f = f.1 allowed
-  no_cause S step goal_false allowed f = f
+  no_cause : (S : State) (step : GroundAction) (why : FailWhy) → IsAllowed c S step → FailsIn c step why S → ⊥
+  no_cause S step UnknownAction (a, objects, i) f = f (a, (instance S step a objects i).named)
+  no_cause S step Arguments (a, objects, i) f = f.1 (a, objects, instance S step a objects i)
+  no_cause S step Condition allowed f = f.1 allowed
+  no_cause S step GoalFalse allowed f = f
 
   named : (step : GroundAction) → HasArguments c step → NamesAction c step
   named step (a, objects, i) = (a, i.named)
 
-  one_cause : (S : State) (step : GroundAction) (why because : Cause) → FailsIn c step why S → FailsIn c step because S → why ≡ because
-  one_cause S step unknown_action unknown_action f g = refl
-  one_cause S step unknown_action arguments f g = absurd (f g.0)
-  one_cause S step unknown_action condition f g = absurd (f (named step g.0))
-  one_cause S step arguments unknown_action f g = absurd (g f.0)
-  one_cause S step arguments arguments f g = refl
-  one_cause S step arguments condition f g = absurd (f.1 g.0)
-  one_cause S step condition unknown_action f g = absurd (g (named step f.0))
-  one_cause S step condition arguments f g = absurd (g.1 f.0)
-  one_cause S step condition condition f g = refl
-  one_cause S step goal_false because f g = absurd f
-  one_cause S step unknown_action goal_false f g = absurd g
-  one_cause S step arguments goal_false f g = absurd g
-  one_cause S step condition goal_false f g = absurd g
+  one_cause : (S : State) (step : GroundAction) (why because : FailWhy) → FailsIn c step why S → FailsIn c step because S → why ≡ because
+  one_cause S step UnknownAction UnknownAction f g = refl
+  one_cause S step UnknownAction Arguments f g = absurd (f g.0)
+  one_cause S step UnknownAction Condition f g = absurd (f (named step g.0))
+  one_cause S step Arguments UnknownAction f g = absurd (g f.0)
+  one_cause S step Arguments Arguments f g = refl
+  one_cause S step Arguments Condition f g = absurd (f.1 g.0)
+  one_cause S step Condition UnknownAction f g = absurd (g (named step f.0))
+  one_cause S step Condition Arguments f g = absurd (g.1 f.0)
+  one_cause S step Condition Condition f g = refl
+  one_cause S step GoalFalse because f g = absurd f
+  one_cause S step UnknownAction GoalFalse f g = absurd g
+  one_cause S step Arguments GoalFalse f g = absurd g
+  one_cause S step Condition GoalFalse f g = absurd g
 
   module _ (apart : AreNamedApart c) where
     pub same_objects : (os us : List ℕ) (words : List (List ℕ)) → AreObjects c os words → AreObjects c us words → os ≡ us
@@ -97,24 +99,24 @@ module _ (c : Pddl) where
     ends_both P Q S (step ∷ steps) (a, os, i, e) (b, us, j, f) = (a, os, i, ends_both P Q (T S a os) steps e (same_end Q S step steps a b os us i j f))
 
     -- a step that fails is not one of a list that ends
-    not_past : (P : State → Type 0) (S : State) (before more : List GroundAction) (step : GroundAction) (why : Cause) → EndsIn c P S (before ++ step ∷ more) → EndsIn c (FailsIn c step why) S before → ⊥
+    not_past : (P : State → Type 0) (S : State) (before more : List GroundAction) (step : GroundAction) (why : FailWhy) → EndsIn c P S (before ++ step ∷ more) → EndsIn c (FailsIn c step why) S before → ⊥
     not_past P S before more step why e f =
         ends_never (λ U. EndsIn c P U (step ∷ more) × FailsIn c step why U) (λ U x. no_cause U step why (x.0.0, x.0.1, x.0.2) x.1) S before
         (ends_both (λ U. EndsIn c P U (step ∷ more)) (FailsIn c step why) S before (ends_parts P S before (step ∷ more) e) f)
 
-    not_there : (P : State → Type 0) (S : State) (steps : List GroundAction) (n : ℕ) (why : Cause) → EndsIn c P S steps → StepFails c S steps n why → ⊥
+    not_there : (P : State → Type 0) (S : State) (steps : List GroundAction) (n : ℕ) (why : FailWhy) → EndsIn c P S steps → StepFails c S steps n why → ⊥
     not_there P S steps n why e (before, rest, step, is, at, f) = not_past P S before rest step why (subst (EndsIn c P S) is e) f
 
-    plan_fails : (S : State) (steps : List GroundAction) (n : ℕ) (why : Cause) → EndsIn c (λ U. IsTrueIn (InTypeOf c) U c.goal []) S steps → FailsFrom c S steps n why → ⊥
+    plan_fails : (S : State) (steps : List GroundAction) (n : ℕ) (why : FailWhy) → EndsIn c (λ U. IsTrueIn (InTypeOf c) U c.goal []) S steps → FailsFrom c S steps n why → ⊥
     plan_fails S steps n why e (inl f) = not_there (λ U. IsTrueIn (InTypeOf c) U c.goal []) S steps n why e f
     plan_fails S steps n why e (inr (at, is, f)) =
         ends_never (λ U. IsTrueIn (InTypeOf c) U c.goal [] × (IsTrueIn (InTypeOf c) U c.goal [] → ⊥)) (λ U x. x.1 x.0) S steps
         (ends_both (λ U. IsTrueIn (InTypeOf c) U c.goal []) (λ U. IsTrueIn (InTypeOf c) U c.goal [] → ⊥) S steps e f)
 
-    abbrev Same : ℕ → ℕ → Cause → Cause → Type 0
+    abbrev Same : ℕ → ℕ → FailWhy → FailWhy → Type 0
     Same n m why because = (n ≡ m) × (why ≡ because)
 
-    fails_once : (S : State) (steps : List GroundAction) (n m : ℕ) (why because : Cause) → FailsFrom c S steps n why → FailsFrom c S steps m because → Same n m why because
+    fails_once : (S : State) (steps : List GroundAction) (n m : ℕ) (why because : FailWhy) → FailsFrom c S steps n why → FailsFrom c S steps m because → Same n m why because
     fails_once S steps n m why because (inl f) (inr g) = absurd (not_there (λ U. IsTrueIn (InTypeOf c) U c.goal [] → ⊥) S steps n why g.2 f)
     fails_once S steps n m why because (inr f) (inl g) = absurd (not_there (λ U. IsTrueIn (InTypeOf c) U c.goal [] → ⊥) S steps m because f.2 g)
     fails_once S steps n m why because (inr f) (inr g) = (f.0 ∙ sym g.0, f.1 ∙ sym g.1)
@@ -133,21 +135,21 @@ module _ (c : Pddl) where
         go (inr (inr (more, p))) = absurd (not_past (FailsIn c x why) S zs more z because (subst (EndsIn c (FailsIn c x why) S) p f) g)
 
   -- what fails behind the first step fails
-  pub later : (S : State) (step : GroundAction) (steps : List GroundAction) (a : ActionSchema) (os : List ℕ) → IsApplicable c S step a os → (n : ℕ) (why : Cause) → FailsFrom c (T S a os) steps n why → FailsFrom c S (step ∷ steps) (n + 1) why
+  pub later : (S : State) (step : GroundAction) (steps : List GroundAction) (a : ActionSchema) (os : List ℕ) → IsApplicable c S step a os → (n : ℕ) (why : FailWhy) → FailsFrom c (T S a os) steps n why → FailsFrom c S (step ∷ steps) (n + 1) why
   later S step steps a os i n why (inl (before, rest, s, is, at, f)) = inl (step ∷ before, rest, s, ap (λ t. step ∷ t) is, (let h : n + 1 ≡ length (step ∷ before) + 1 = omega (arith, at) in h), (a, os, i, f))
   later S step steps a os i n why (inr (at, is, f)) = inr ((let h : n + 1 ≡ length (step ∷ steps) + 1 = omega (arith, at) in h), is, (a, os, i, f))
 
-  one_of : (S : State) (steps : List GroundAction) → (EndsIn c (λ U. IsTrueIn (InTypeOf c) U c.goal []) S steps → ⊥) → ((n : ℕ) (why : Cause) → FailsFrom c S steps n why → ⊥) → ⊥
-  one_of S [] plan fails = fails 1 goal_false (inr (refl, refl, plan))
+  one_of : (S : State) (steps : List GroundAction) → (EndsIn c (λ U. IsTrueIn (InTypeOf c) U c.goal []) S steps → ⊥) → ((n : ℕ) (why : FailWhy) → FailsFrom c S steps n why → ⊥) → ⊥
+  one_of S [] plan fails = fails 1 GoalFalse (inr (refl, refl, plan))
   one_of S (step ∷ steps) plan fails =
-      fails 1 unknown_action (inl (
+      fails 1 UnknownAction (inl (
         [],
         steps,
         step,
         refl,
         refl,
         λ known.
-            fails 1 arguments (inl (
+            fails 1 Arguments (inl (
               [],
               steps,
               step,
@@ -156,7 +158,7 @@ module _ (c : Pddl) where
               (
                 known,
                 λ has.
-                    fails 1 condition (inl (
+                    fails 1 Condition (inl (
                       [],
                       steps,
                       step,

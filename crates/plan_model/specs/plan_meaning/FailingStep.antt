@@ -1,18 +1,13 @@
 -- Where a list of ground actions fails to be a plan of a PDDL value: the first step that can't be taken, or the end, where the goal is false; and why, by the first cause.
 -- Source: this project's; a plan as in ClassicalPlan.
 use Rattle.std.specs.Prelude.{ℕ, ◌+◌, ◌≡◌, ◌⊎◌, ◌++◌, List, [], ◌∷◌, length, Contains, slice_get, Some}
+use Rattle.plan_model.specs.declared.causes.FailWhy.{FailWhy}
+use Rattle.plan_model.specs.declared.causes.FailWhy.TheVariants.{UnknownAction, Arguments, Condition, GoalFalse}
 use Rattle.plan_model.specs.declared.schemas.ActionSchema.{ActionSchema}
 use Rattle.plan_model.specs.declared.steps.GroundAction.{GroundAction}
 use Rattle.plan_model.specs.declared.values.Pddl.{Pddl}
 use Rattle.plan_model.specs.plan_meaning.Truth.{State, AreTyped, IsTrueIn}
 use Rattle.plan_model.specs.plan_meaning.ClassicalPlan.{HasWord, AreObjects, InTypeOf, IsApplicable, EndsIn}
-
--- the causes, in the order in which they are looked at
-pub data Cause : Type 0 where
-  unknown_action : Cause
-  arguments : Cause
-  condition : Cause
-  goal_false : Cause
 
 module _ (c : Pddl) where
   -- the step names the action
@@ -36,25 +31,25 @@ module _ (c : Pddl) where
   IsAllowed S step = (a : ActionSchema) × (objects : List ℕ) × IsApplicable c S step a objects
 
   -- the step can't be taken in the state, and this is the first cause
-  abbrev pub FailsIn : GroundAction → Cause → State → Type 0
-  FailsIn step unknown_action S = NamesAction step → ⊥
-  FailsIn step arguments S = NamesAction step × (HasArguments step → ⊥)
-  FailsIn step condition S = HasArguments step × (IsAllowed S step → ⊥)
-  FailsIn step goal_false S = ⊥
+  abbrev pub FailsIn : GroundAction → FailWhy → State → Type 0
+  FailsIn step UnknownAction S = NamesAction step → ⊥
+  FailsIn step Arguments S = NamesAction step × (HasArguments step → ⊥)
+  FailsIn step Condition S = HasArguments step × (IsAllowed S step → ⊥)
+  FailsIn step GoalFalse S = ⊥
 
   -- from S on step n, counted from 1, is the first that can't be taken
-  abbrev pub StepFails : State → List GroundAction → ℕ → Cause → Type 0
+  abbrev pub StepFails : State → List GroundAction → ℕ → FailWhy → Type 0
   StepFails S steps n why = (before rest : List GroundAction) × (step : GroundAction) × (steps ≡ before ++ step ∷ rest) × (n ≡ length before + 1) × EndsIn c (FailsIn step why) S before
 
   -- from S on each step can be taken, and the goal is false at the end: that counts as a further step
-  abbrev pub GoalFails : State → List GroundAction → ℕ → Cause → Type 0
-  GoalFails S steps n why = (n ≡ length steps + 1) × (why ≡ goal_false) × EndsIn c (λ T. IsTrueIn (InTypeOf c) T c.goal [] → ⊥) S steps
+  abbrev pub GoalFails : State → List GroundAction → ℕ → FailWhy → Type 0
+  GoalFails S steps n why = (n ≡ length steps + 1) × (why ≡ GoalFalse) × EndsIn c (λ T. IsTrueIn (InTypeOf c) T c.goal [] → ⊥) S steps
 
-  abbrev pub FailsFrom : State → List GroundAction → ℕ → Cause → Type 0
+  abbrev pub FailsFrom : State → List GroundAction → ℕ → FailWhy → Type 0
   FailsFrom S steps n why = StepFails S steps n why ⊎ GoalFails S steps n why
 
   -- the list fails at step n for this cause
-  abbrev pub Fails : List GroundAction → ℕ → Cause → Type 0
+  abbrev pub Fails : List GroundAction → ℕ → FailWhy → Type 0
   Fails = FailsFrom (Contains c.init)
 
   -- no two actions have one word, and no two objects

@@ -5,12 +5,14 @@ use Rattle.plan_texts.specs.Types.{Has}
 use Rattle.plan_texts.specs.SpellsPddl.{pddl_words, SpellsPddl}
 use Rattle.plan_texts.specs.Alike.{action_said, AreAlikePddl}
 use Rattle.plan_model.specs.declared.terms.GroundAtom.{GroundAtom}
+use Rattle.plan_model.specs.declared.causes.FailWhy.{FailWhy}
+use Rattle.plan_model.specs.declared.causes.FailWhy.TheVariants.{UnknownAction, Arguments, Condition, GoalFalse}
 use Rattle.plan_model.specs.declared.schemas.ActionSchema.{ActionSchema}
 use Rattle.plan_model.specs.declared.steps.GroundAction.{GroundAction}
 use Rattle.plan_model.specs.declared.values.Pddl.{Pddl}
 use Rattle.plan_model.specs.plan_meaning.Truth.{State, IsTrueIn}
 use Rattle.plan_model.specs.plan_meaning.ClassicalPlan.{InTypeOf}
-use Rattle.plan_model.specs.plan_meaning.FailingStep.{Cause, unknown_action, arguments, condition, goal_false, IsNamed, NamesAction, HasArguments, IsAllowed, FailsIn, Fails}
+use Rattle.plan_model.specs.plan_meaning.FailingStep.{IsNamed, NamesAction, HasArguments, IsAllowed, FailsIn, Fails}
 use Rattle.plan_texts.proofs.AlikeLaws.{pddl_symmetric}
 use Rattle.plan_texts.proofs.Members.{each-has, has-to_map, has-of_map, contains-has, has-contains}
 use Rattle.plan_texts.proofs.UniquePddl.{spelled_alike}
@@ -62,16 +64,16 @@ module _ (c d : Pddl) (hc : HasSoundWords c) (hd : HasSoundWords d) (alike : Are
   turned : (S S' : State) → ((g : GroundAtom) → S g ↔ S' g) → (g : GroundAtom) → S' g ↔ S g
   turned S S' same g = let s = same g in (s.1, s.0)
 
-  fails_there : (step : GroundAction) (why : Cause) (S S' : State) → ((g : GroundAtom) → S g ↔ S' g) → FailsIn c step why S → FailsIn d step why S'
-  fails_there step unknown_action S S' same f = λ named. f (names_too d c hd hc back step named)
-  fails_there step arguments S S' same f = (names_too c d hc hd alike step f.0, λ has. f.1 (has_too d c hd hc back step has))
-  fails_there step condition S S' same f = (has_too c d hc hd alike step f.0, λ allowed. f.1 (allowed_too d c hd hc back S' S (turned S S' same) step allowed))
-  fails_there step goal_false S S' same f = f
+  fails_there : (step : GroundAction) (why : FailWhy) (S S' : State) → ((g : GroundAtom) → S g ↔ S' g) → FailsIn c step why S → FailsIn d step why S'
+  fails_there step UnknownAction S S' same f = λ named. f (names_too d c hd hc back step named)
+  fails_there step Arguments S S' same f = (names_too c d hc hd alike step f.0, λ has. f.1 (has_too d c hd hc back step has))
+  fails_there step Condition S S' same f = (has_too c d hc hd alike step f.0, λ allowed. f.1 (allowed_too d c hd hc back S' S (turned S S' same) step allowed))
+  fails_there step GoalFalse S S' same f = f
 
   first_facts : (g : GroundAtom) → Contains c.init g ↔ Contains d.init g
   first_facts g = (subst (λ l. Contains l g) alike.init, subst (λ l. Contains l g) (sym alike.init))
 
-  pub same-fails : (steps : List GroundAction) (n : ℕ) (why : Cause) → Fails c steps n why → Fails d steps n why
+  pub same-fails : (steps : List GroundAction) (n : ℕ) (why : FailWhy) → Fails c steps n why → Fails d steps n why
   same-fails steps n why (inl (before, rest, step, is, at, f)) =
       inl (before, rest, step, is, at, same-leads c d hc hd alike (FailsIn c step why) (FailsIn d step why) (fails_there step why) before (Contains c.init) (Contains d.init) first_facts f)
   same-fails steps n why (inr (at, is, f)) =
@@ -83,5 +85,5 @@ module _ (c d : Pddl) (hc : HasSoundWords c) (hd : HasSoundWords d) (alike : Are
             steps (Contains c.init) (Contains d.init) first_facts f,
       )
 
-pub spelled-fails : (c d : Pddl) (domain problem : List ℕ) → SpellsPddl domain problem c → SpellsPddl domain problem d → (steps : List GroundAction) (n : ℕ) (why : Cause) → Fails c steps n why → Fails d steps n why
+pub spelled-fails : (c d : Pddl) (domain problem : List ℕ) → SpellsPddl domain problem c → SpellsPddl domain problem d → (steps : List GroundAction) (n : ℕ) (why : FailWhy) → Fails c steps n why → Fails d steps n why
 spelled-fails c d domain problem e f = same-fails c d (spelled-sound c domain problem e) (spelled-sound d domain problem f) (spelled_alike c d domain problem e f)

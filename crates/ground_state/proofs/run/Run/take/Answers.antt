@@ -5,7 +5,7 @@ use Rattle.plan_model.specs.declared.terms.Param.{Param}
 use Rattle.plan_model.specs.Typing.{InType}
 use Rattle.plan_model.specs.plan_meaning.Truth.{IsTrueIn, after}
 use Rattle.plan_model.specs.plan_meaning.ClassicalPlan.{InTypeOf}
-use Rattle.ground_state.specs.declared.verdict.FailWhy.TheVariants as why
+use Rattle.plan_model.specs.declared.causes.FailWhy.TheVariants as why
 use Rattle.ground_state.specs.Frames.{Frame, frame}
 use Rattle.ground_state.specs.Room.{EffectFits}
 use Rattle.ground_state.specs.States.{atoms, Has}
