@@ -1,6 +1,7 @@
 -- The cycle of a network, by what an order of its pairs says.
 use Rattle.std.proofs.Common.{ℕ, ◌≡◌, ◌+◌, ◌-◌, ◌<◌, ◌≤◌, inl, inr, List, [], ◌∷◌, Some, None, length, get_or, slice_get, ap, sym, subst, ◌∙◌, length-append, arith}
 use Rattle.std.proofs.lemmas.Option.{slice_get_within, get_or_from_slice_get}
+use Rattle.htn_base.specs.Limits.{most_subtasks}
 use Rattle.plan_model.specs.task_networks.Order.{IsAcyclic, IsFirstClosing}
 use Rattle.plan_model.specs.declared.networks.Pair.{Pair}
 use Rattle.plan_model.specs.Pairs.{pair, Pairs}
@@ -10,7 +11,6 @@ use Rattle.plan_model.proofs.net_order.Chains.{below_from_pairs}
 use Rattle.hddl_reader.specs.declared.networks.RawNet.{RawNet}
 use Rattle.hddl_reader.specs.declared.networks.RawPair.{RawPair}
 use Rattle.htn_base.specs.Lists.{One}
-use Rattle.hddl_reader.specs.names.Networks.{most_subtasks}
 use Rattle.hddl_reader.proofs.names.Firsts.{one_is_first}
 use Rattle.hddl_bind.specs.Pairs.{first_of, second_of, pairs_bound, pairs_at}
 use Rattle.hddl_bind.specs.Cycle.{IsPair, ClosesOrder, IsCycle, CyclicOrder}

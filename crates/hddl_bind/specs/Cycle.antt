@@ -1,12 +1,12 @@
 -- Faults of a network as a whole: a cycle (20), too many subtasks (21).
 -- Source: Höller et al., "HDDL", AAAI 2020, ordering of a task network; the limit is this project's.
 use Rattle.std.specs.Prelude.{ℕ, suc, ◌≡◌, ◌<◌, ◌≤◌, ◌⊎◌, true, List, [], ◌∷◌, ◌++◌, flat_map, Option, Some, None, length, slice_get}
+use Rattle.htn_base.specs.Limits.{most_subtasks}
 use Rattle.plan_model.specs.task_networks.Order.{Precedes}
 use Rattle.hddl_reader.specs.declared.networks.RawNet.{RawNet}
 use Rattle.hddl_reader.specs.declared.networks.RawPair.{RawPair}
 use Rattle.hddl_reader.specs.declared.networks.RawSub.{RawSub}
 use Rattle.htn_base.specs.Lists.{One, IsFirst}
-use Rattle.hddl_reader.specs.names.Networks.{most_subtasks}
 use Rattle.name_binding.specs.Spots.{spot, noted}
 use Rattle.name_binding.specs.declared.faults.Spot.{Spot}
 use Rattle.hddl_bind.specs.Ids.{second_ids}

@@ -11,6 +11,7 @@ use crate::errors::{BindError, judged};
 use crate::problem_parts::ProblemParts;
 use crate::whole_unions::unions_of_domain;
 use hddl_reader::{Language, RawDomain};
+use htn_base::limits::{MOST_PDDL_TYPES, MOST_TYPES};
 use htn_base::{List, Memory, Name, NameTable, WordList};
 use name_binding::{Faults, TypeTable, section_of, types_of};
 use plan_model::{ActionSchema, Hddl, MethodSchema, Object, Predicate, TaskSchema, Types};
@@ -162,7 +163,7 @@ fn most_types(language: Language) -> u32
     ensures most { result ≡ most_types language }
 {
     match language {
-        Language::Hddl => 1000,
-        Language::Pddl => 1002,
+        Language::Hddl => MOST_TYPES,
+        Language::Pddl => MOST_PDDL_TYPES,
     }
 }

@@ -4,12 +4,10 @@ ghost use Rattle.hddl_bind.specs.Pairs.{pairs_bound, pairs_at};
 
 use crate::pairs::Ordering;
 use hddl_reader::RawNet;
+use htn_base::limits::MOST_SUBTASKS;
 use htn_base::{Memory, number};
 use plan_model::net_order::{Order, OrderError};
 use std::alloc::Global;
-
-/// So many subtasks a network may have.
-pub(crate) const MOST_SUBTASKS: usize = 4096;
 
 /// The offset of the first written pair that closes a cycle with the chain and the earlier pairs. In a network past the limit none
 /// is looked for. The chain alone has no cycle.

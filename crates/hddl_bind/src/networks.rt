@@ -6,10 +6,11 @@ ghost use Rattle.hddl_bind.specs.Pairs.{pairs_bound};
 
 use crate::callables::Callables;
 use crate::calls::head_of;
-use crate::cycle::{MOST_SUBTASKS, cycle_of};
+use crate::cycle::cycle_of;
 use crate::ids::ids_of;
 use crate::pairs::pairs_of;
 use hddl_reader::{RawCon, RawNet, RawSub};
+use htn_base::limits::MOST_SUBTASKS;
 use htn_base::{List, Memory};
 use name_binding::{Faults, Places, Variables, term_of, terms_of};
 use plan_model::{Child, Constraint, Pair};

@@ -1,4 +1,5 @@
 ghost use Rattle.std.specs.Prelude.{◌≡◌, ◌∷◌, [], ◌≤◌, length, IfOk, IfErr, OnErr, MatchBool, MatchOption};
+ghost use Rattle.htn_base.specs.Limits.{longest_input};
 ghost use Rattle.htn_base.specs.Words.{folded};
 ghost use Rattle.plan_text.specs.Plans.{IsPlanRead, RefusesPlan};
 ghost use Rattle.plan_text.specs.Lowered.{IsInLowerCase, IsNoPlan};
@@ -48,7 +49,7 @@ impl<'t> Plan<'t> {
     /// The plan that a text of at most 16,777,216 bytes spells, looked through to its end; it keeps no step. What is
     /// refused, and why, is as in `read`.
     pub fn new(alloc: Global, text: &'t [u8], file: u8) -> Result<Plan<'t>, ReadError>
-        requires short { length text.now ≤ 16777216 }
+        requires short { length text.now ≤ longest_input }
         ensures read { IfOk result (IsPlanRead text.now) }
         ensures refused { IfErr result (RefusesPlan file text.now) }
     {
@@ -154,7 +155,7 @@ fn lower_text<'a>(text: &'a [u8], lower: &'a Option<Text>) -> &'a [u8]
 
 // Why a text that spells no plan isn't read as one.
 fn refusal(alloc: Global, text: &[u8], file: u8) -> ReadError
-    requires short { length text.now ≤ 16777216 }
+    requires short { length text.now ≤ longest_input }
     requires none { IsNoPlan text.now }
     ensures { RefusesPlan file text.now result }
 {

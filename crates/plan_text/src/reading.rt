@@ -1,4 +1,5 @@
 ghost use Rattle.std.specs.Prelude.{◌≡◌, ◌≤◌, length, IfOk, IfErr};
+ghost use Rattle.htn_base.specs.Limits.{longest_input};
 ghost use Rattle.plan_text.specs.Plans.{IsPlanRead, RefusesPlan};
 
 use crate::plan::{Plan, Steps};
@@ -13,7 +14,7 @@ use text_forms::sexpr_text::ReadError;
 /// `Bad` has the text's least fault of tokens, by offset, then code (1 to 4), and where there is none, code 8 at the first token
 /// with which the tokens no longer begin a plan, or at a mark behind which nothing comes.
 pub fn read(alloc: Global, bytes: &[u8], file: u8) -> Result<List<GroundAction>, ReadError>
-    requires short { length bytes.now ≤ 16777216 }
+    requires short { length bytes.now ≤ longest_input }
     ensures read { IfOk result (IsPlanRead bytes.now) }
     ensures refused { IfErr result (RefusesPlan file bytes.now) }
 {

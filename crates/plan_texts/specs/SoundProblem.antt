@@ -2,6 +2,7 @@
 -- Source: this project's; the top method has no precondition (Höller et al., "HDDL", AAAI 2020, the full syntax definition: :htn).
 use Rattle.std.specs.Prelude.{ℕ, ◌≡◌, ◌<◌, ◌≤◌, ◌^◌, List, [], ◌∷◌, map, length}
 use Rattle.std.specs.List.{filter_map}
+use Rattle.htn_base.specs.Limits.{most_subtasks}
 use Rattle.text_forms.specs.Words.{Word}
 use Rattle.plan_texts.specs.Declared.{named}
 use Rattle.htn_base.specs.Different.{AreDifferent}
@@ -21,9 +22,9 @@ use Rattle.plan_model.specs.declared.values.Hddl.{Hddl}
 abbrev pub all_methods : Hddl → List MethodSchema
 all_methods h = h.top ∷ h.methods
 
--- at most 4,096 subtasks; a parameter's place is a number of 32 bits
+-- the number of subtasks is limited; a parameter's place is a number of 32 bits
 pub record IsSmallMethod (s : MethodSchema) : Type 0 where
-  pub subtasks : length s.children ≤ 4096
+  pub subtasks : length s.children ≤ most_subtasks
   pub params : length s.params < 2 ^ 32
 
 abbrev pub HasSmallMethods : Hddl → Type 0

@@ -1,6 +1,7 @@
 -- A domain that was read stands in order, so binding may go through it; what it is refused for is its least fault.
 use Rattle.std.proofs.Common.{ℕ, ◌≤◌, List, length, Result, Ok, Err}
 use Rattle.std.specs.Prelude.{IfOk, IfErr, OnOk}
+use Rattle.htn_base.specs.Limits.{longest_input}
 use Rattle.htn_base.specs.Different.{AreDifferent}
 use Rattle.gd_reader.specs.Terms.{Names, Keeps}
 use Rattle.gd_reader.proofs.Keeping.{keeps_same}
@@ -34,10 +35,10 @@ module _ (l : Language) (text : List ℕ) (before behind later : Names) (d : Raw
   names_refused (errors.Bad f) (file, (object, of_object, (x, e))) =
       (file, domain_names later d is.tokens domain_of (least_by later later d differ (keeps_same later) in_order object of_object l x f.code f.at e))
 
-  pub bound_text : length text ≤ 16777216 → length later ≤ 16777217 → (b : BoundDomain) → IsDomainBound l later d b → IsBoundText l text later b
+  pub bound_text : length text ≤ longest_input → length later ≤ longest_input + 1 → (b : BoundDomain) → IsDomainBound l later d b → IsBoundText l text later b
   bound_text short few b h = record { short = short; differ = differ; few = few; d = d; tokens = is.tokens; read = domain_of; bound = h }
 
-  pub bound_of : length text ≤ 16777216 → (r : Result BoundDomain ReadError) → OnOk r (length later ≤ 16777217) → IfOk r (IsDomainBound l later d) → IfOk r (IsBoundText l text later)
+  pub bound_of : length text ≤ longest_input → (r : Result BoundDomain ReadError) → OnOk r (length later ≤ longest_input + 1) → IfOk r (IsDomainBound l later d) → IfOk r (IsBoundText l text later)
   bound_of short (Ok b) few h = bound_text short few b h
   bound_of short (Err e) few h = tt
 

@@ -1,5 +1,6 @@
 -- A fault of names of what was read is one of what was read alike.
 use Rattle.std.proofs.Common.{ℕ, ◌≡◌, ◌⊎◌, ◌++◌, List, [], ◌∷◌, map, Option, Some, None, codes, refl, sym, ap, ◌∙◌, subst, inl, inr, arith}
+use Rattle.htn_base.specs.Limits.{most_subtasks}
 use Rattle.text_forms.specs.Words.{Word}
 use Rattle.plan_model.specs.task_networks.Order.{Precedes, direct, through}
 use Rattle.plan_texts.specs.Together.{Together}
@@ -21,7 +22,7 @@ use Rattle.hddl_reader.specs.declared.sections.RawProblem.{RawProblem}
 use Rattle.hddl_reader.specs.names.Faults.{DuplicateInDomain, DuplicateInProblem, HasDomainFault, HasProblemFault, OfNetworks, constants, objects}
 use Rattle.htn_base.specs.Lists.{One, Has}
 use Rattle.hddl_reader.specs.names.Named.{declared, meant, StandsFor, HasWrongArity, UnknownType, UnknownName, UnknownObject, UnknownVariable, WrongArity}
-use Rattle.hddl_reader.specs.names.Networks.{id_at, ids, HasId, IsUnknownId, UnknownSubtaskId, IsSubtask, IsPair, IsOrdered, ClosesOrder, CyclicOrder, TooManySubtasks, most_subtasks}
+use Rattle.hddl_reader.specs.names.Networks.{id_at, ids, HasId, IsUnknownId, UnknownSubtaskId, IsSubtask, IsPair, IsOrdered, ClosesOrder, CyclicOrder, TooManySubtasks}
 use Rattle.hddl_reader.specs.names.Standing.{InDomain, InProblem}
 use Rattle.hddl_reader.specs.names.Types.{Leads, mentioned, IsType, IsParent, ClosesCycle, IsOneTooMany, most_types}
 use Rattle.hddl_reader.specs.names.Uses.{Scope, Use, declares, applies, refers, Kind, predicate, subtask, task}

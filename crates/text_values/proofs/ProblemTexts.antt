@@ -5,6 +5,7 @@ use Rattle.std.specs.Str.{bytes_eq}
 use Rattle.std.specs.List.{list_any}
 use Rattle.std.proofs.lemmas.List.Folds.{list_any_at}
 use Rattle.std.proofs.lemmas.Slice.Eq.{bytes_eq-Decides}
+use Rattle.htn_base.specs.Limits.{longest_input}
 use Rattle.htn_base.specs.Different.{AreDifferent}
 use Rattle.htn_base.specs.Table.{with_word}
 use Rattle.htn_base.proofs.DifferentLemmas.{different-push}
@@ -98,7 +99,7 @@ module _ (l : Language) (domain text : List ℕ) (table later : Names) (b : Boun
   abbrev last : Names
   last = with_start later
 
-  bound_of : length text ≤ 16777216 → length later ≤ length table + length text → (h : Value) → IsProblemBound b p later h → IsBoundOf l domain text h
+  bound_of : length text ≤ longest_input → length later ≤ length table + length text → (h : Value) → IsProblemBound b p later h → IsBoundOf l domain text h
   bound_of short more h value =
       let stays = keeps_word later (codes "htn_start") in
       let few = bound.few in
@@ -118,7 +119,7 @@ module _ (l : Language) (domain text : List ℕ) (table later : Names) (b : Boun
         problem_bound = value;
       }
 
-  pub read_of : length text ≤ 16777216 → length later ≤ length table + length text → (h : Value) → IsProblemBound b p later h → AreReadAs domain text l h
+  pub read_of : length text ≤ longest_input → length later ≤ length table + length text → (h : Value) → IsProblemBound b p later h → AreReadAs domain text l h
   read_of short more h value = record {
     faultless = record { table = later; d = bound.d; p = p; domain_is = good_domain; problem_is = good_problem h value };
     bound = bound_of short more h value;

@@ -1,6 +1,7 @@
 -- What each of two texts of a language comes to on the way to their value.
 -- Source: this project's.
 use Rattle.std.specs.Prelude.{ℕ, ◌≡◌, ◌≤◌, ◌⊎◌, List, Some, length}
+use Rattle.htn_base.specs.Limits.{longest_input}
 use Rattle.htn_base.specs.Different.{AreDifferent}
 use Rattle.text_forms.specs.Faults.{fault, IsFaultless}
 use Rattle.text_forms.specs.Faults as tokens
@@ -48,9 +49,9 @@ RefusesNames l table d (errors.Bad f) = IsDomainRefused l table d (bind_errors.B
 
 -- The text of a domain has no fault of tokens or form, and is bound to this over the words of a table.
 pub record IsBoundText (l : Language) (text : List ℕ) (table : Names) (b : BoundDomain) : Type 0 where
-  pub short : length text ≤ 16777216
+  pub short : length text ≤ longest_input
   pub differ : AreDifferent table
-  pub few : length table ≤ 16777217
+  pub few : length table ≤ longest_input + 1
   pub d : RawDomain
   pub tokens : IsFaultless text
   pub read : IsDomainOf l text table d

@@ -1,4 +1,5 @@
 ghost use Rattle.std.specs.Prelude.{◌≤◌, ◌≡◌, ◌+◌, [], length, IfOk, IfErr, OnOk};
+ghost use Rattle.htn_base.specs.Limits.{longest_input};
 ghost use Rattle.htn_base.specs.Different.{AreDifferent};
 ghost use Rattle.gd_reader.specs.Terms.{Keeps};
 ghost use Rattle.name_binding.specs.Cycle.{IsSection};
@@ -19,7 +20,7 @@ pub(crate) fn bound_domain(
     text: &[u8],
     names: &mut NameTable,
 ) -> Result<BoundDomain, ReadError>
-    requires short { length text.now ≤ 16777216 }
+    requires short { length text.now ≤ longest_input }
     requires empty { names.old ≡ [] }
     ensures bound { IfOk result (IsBoundText language text.now names.new) }
     ensures refused { IfErr result (RefusesDomain language text.now) }

@@ -1,4 +1,5 @@
 ghost use Rattle.std.specs.Prelude.{◌≤◌, length, IfOk, IfErr};
+ghost use Rattle.htn_base.specs.Limits.{longest_input};
 ghost use Rattle.text_values.specs.Reading.{IsReadOver, RefusesProblem};
 
 use crate::domains::read_error;
@@ -18,7 +19,7 @@ pub(crate) fn value_over(
     domain: BoundDomain,
     text: &[u8],
 ) -> Result<Hddl, ReadError>
-    requires short { length text.now ≤ 16777216 }
+    requires short { length text.now ≤ longest_input }
     ensures value { IfOk result (IsReadOver language names.old domain text.now) }
     ensures refused { IfErr result (RefusesProblem language names.old domain text.now) }
 {

@@ -1,4 +1,5 @@
 ghost use Rattle.std.specs.Prelude.{◌≡◌, ◌≤◌, ◌+◌, length, IfOk, IfErr, OnOk};
+ghost use Rattle.htn_base.specs.Limits.{longest_input};
 ghost use Rattle.htn_base.specs.Different.{AreDifferent};
 ghost use Rattle.text_forms.specs.Faults.{IsFaultless};
 ghost use Rattle.text_forms.specs.form_grammar.Sections as grammar;
@@ -17,7 +18,7 @@ use text_forms::sexpr_text::{ReadError, Sexprs, read, read_with_index};
 const MOST_BYTES_WITH_INDEX: usize = 1_048_576;
 
 fn tokens_of<'a>(alloc: Global, text: &'a [u8], file: u8) -> Result<Sexprs<'a>, ReadError>
-    requires short { length text.now ≤ 16777216 }
+    requires short { length text.now ≤ longest_input }
     ensures text { IfOk result (λ s. s ≡ text.now) }
     ensures faultless { IfOk result (λ _. IsFaultless text.now) }
     ensures refused { IfErr result (IsRefusal text.now file) }
@@ -36,7 +37,7 @@ pub(crate) fn read_domain(
     text: &[u8],
     names: &mut NameTable,
 ) -> Result<RawDomain, ReadError>
-    requires short { length text.now ≤ 16777216 }
+    requires short { length text.now ≤ longest_input }
     ensures read { IfOk result (ReadsDomain language text.now names.old names.new) }
     ensures refused { IfErr result (RefusesForm language grammar.domain 0 text.now) }
     ensures differ { OnOk result (AreDifferent names.new) }
@@ -74,7 +75,7 @@ pub(crate) fn read_problem(
     text: &[u8],
     names: &mut NameTable,
 ) -> Result<RawProblem, ReadError>
-    requires short { length text.now ≤ 16777216 }
+    requires short { length text.now ≤ longest_input }
     ensures read { IfOk result (ReadsProblem language text.now names.old names.new) }
     ensures refused { IfErr result (RefusesForm language grammar.problem 1 text.now) }
     ensures differ { OnOk result (AreDifferent names.new) }

@@ -1,4 +1,5 @@
 ghost use Rattle.std.specs.Prelude.{◌≤◌, length, IfOk, IfErr};
+ghost use Rattle.htn_base.specs.Limits.{longest_input};
 ghost use Rattle.hddl_reader.specs.declared.sections.Language.TheVariants as languages;
 ghost use Rattle.text_values.specs.Values.{AreReadAs, IsValueOf, IsRefusal};
 
@@ -14,8 +15,8 @@ use text_forms::sexpr_text::ReadError;
 /// The value that two HDDL texts spell, a domain's and a problem's, each of at most 16,777,216 bytes. `Bad` has their least fault,
 /// by file (0 for the domain, 1 for the problem), phase (tokens, form, names), offset in bytes and code.
 pub fn hddl_of(alloc: Global, domain: &[u8], problem: &[u8]) -> Result<Hddl, ReadError>
-    requires domain_short { length domain.now ≤ 16777216 }
-    requires problem_short { length problem.now ≤ 16777216 }
+    requires domain_short { length domain.now ≤ longest_input }
+    requires problem_short { length problem.now ≤ longest_input }
     ensures value { IfOk result (IsValueOf domain.now problem.now) }
     ensures refused { IfErr result (IsRefusal domain.now problem.now languages.Hddl) }
 {
@@ -32,8 +33,8 @@ pub fn read_as(
     domain: &[u8],
     problem: &[u8],
 ) -> Result<Hddl, ReadError>
-    requires domain_short { length domain.now ≤ 16777216 }
-    requires problem_short { length problem.now ≤ 16777216 }
+    requires domain_short { length domain.now ≤ longest_input }
+    requires problem_short { length problem.now ≤ longest_input }
     ensures read { IfOk result (AreReadAs domain.now problem.now language) }
     ensures refused { IfErr result (IsRefusal domain.now problem.now language) }
 {

@@ -1,4 +1,5 @@
 ghost use Rattle.std.specs.Prelude.{◌≡◌, ◌≤◌, ◌++◌, IfOk, length, map};
+ghost use Rattle.htn_base.specs.Limits.{most_subtasks};
 ghost use Rattle.plan_model.specs.plan_meaning.Compilation as spec;
 ghost use Rattle.plan_model.specs.net_order.Meaning.{AreBelow};
 ghost use Rattle.bound_calc.specs.method_precs.Pairs.{shifted, pairs_of_check};
@@ -11,7 +12,7 @@ use std::alloc::Global;
 /// The pairs of the method's children: the check, if there is one, before each subtask, and then the written pairs,
 /// each pair once.
 pub fn pairs_of(alloc: Global, checked: bool, method: &MethodSchema) -> Result<List<Pair>, Memory>
-    requires small { length method.now.children ≤ 4096 }
+    requires small { length method.now.children ≤ most_subtasks }
     requires within { AreBelow (length method.now.children) method.now.pairs }
     ensures pairs { IfOk result (λ pairs. pairs ≡ spec.pairs checked method.now) }
 {
@@ -26,7 +27,7 @@ pub fn pairs_of(alloc: Global, checked: bool, method: &MethodSchema) -> Result<L
 
 /// The check before each of so many subtasks, and then the written pairs, by their places behind the check.
 fn with_check(alloc: Global, count: u32, pairs: &[Pair]) -> Result<List<Pair>, Memory>
-    requires small { count ≤ 4096 }
+    requires small { count ≤ most_subtasks }
     requires within { AreBelow count pairs.now }
     ensures all { IfOk result (λ all. all ≡ pairs_of_check count ++ map shifted pairs.now) }
 {

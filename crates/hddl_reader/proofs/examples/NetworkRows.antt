@@ -4,10 +4,11 @@ use Rattle.hddl_reader.specs.declared.networks.RawNet.{RawNet}
 use Rattle.hddl_reader.specs.declared.networks.RawPair.{RawPair}
 use Rattle.hddl_reader.specs.declared.networks.RawSub.{RawSub}
 use Rattle.std.proofs.lemmas.Option.{slice_get_within}
+use Rattle.htn_base.specs.Limits.{most_subtasks}
 use Rattle.plan_model.specs.task_networks.Order.{Precedes, direct, through}
 use Rattle.htn_base.specs.Lists.{One}
 use Rattle.hddl_reader.specs.names.Words.{WordAt, IsSecond}
-use Rattle.hddl_reader.specs.names.Networks.{most_subtasks, id_at, ids, IsSubtask, IsOrdered, ClosesOrder, UnknownSubtaskId, CyclicOrder, TooManySubtasks}
+use Rattle.hddl_reader.specs.names.Networks.{id_at, ids, IsSubtask, IsOrdered, ClosesOrder, UnknownSubtaskId, CyclicOrder, TooManySubtasks}
 use Rattle.hddl_reader.proofs.names.Firsts.{unknown_ids_close_none, same_id}
 use Rattle.hddl_reader.proofs.examples.Values.{table, word, atom, no_net, is_first, is_second, first_of_one}
 

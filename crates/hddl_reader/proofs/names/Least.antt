@@ -1,12 +1,12 @@
 -- The least fault is one, and stands in the domain where the domain has one.
 use Rattle.std.proofs.Common.{ℕ, ◌≡◌, ◌≢◌, ◌<◌, ◌≤◌, ◌⊎◌, inl, inr, refl, sym, subst, arith}
 use Rattle.std.proofs.lemmas.Option.{slice_get_within}
+use Rattle.htn_base.specs.Limits.{most_subtasks}
 use Rattle.gd_reader.specs.Terms.{Names}
 use Rattle.hddl_reader.specs.declared.networks.RawNet.{RawNet}
 use Rattle.hddl_reader.specs.declared.sections.Language.{Language}
 use Rattle.hddl_reader.specs.declared.sections.RawDomain.{RawDomain}
 use Rattle.hddl_reader.specs.declared.sections.RawProblem.{RawProblem}
-use Rattle.hddl_reader.specs.names.Networks.{most_subtasks}
 use Rattle.hddl_reader.specs.names.Faults.{HasDomainFault, HasProblemFault, HasNameFault, in_domain, in_problem, IsInFront, IsLeast, IsLeastNameFault, HasNoFault}
 use Rattle.hddl_reader.specs.names.Laws.{OneIsLeast, OneIsLeastOfBoth, IsLeastByFile, IsNoneByFile, AreNameCodes, LimitComesFirst}
 

@@ -1,6 +1,7 @@
 -- Faults of one network: an id that no subtask has (19), a cycle (20), too many subtasks (21).
 -- Source: Höller et al., "HDDL", AAAI 2020, ordering of a task network; the limit is this project's.
 use Rattle.std.specs.Prelude.{ℕ, suc, ◌≡◌, ◌<◌, ◌≤◌, ◌⊎◌, true, List, [], ◌∷◌, ◌++◌, Option, Some, None, length, slice_get}
+use Rattle.htn_base.specs.Limits.{most_subtasks}
 use Rattle.text_forms.specs.Words.{Word}
 use Rattle.plan_model.specs.task_networks.Order.{Precedes}
 use Rattle.gd_reader.specs.declared.term.RawTerm.{RawTerm}
@@ -10,10 +11,6 @@ use Rattle.hddl_reader.specs.declared.networks.RawPair.{RawPair}
 use Rattle.hddl_reader.specs.declared.networks.RawSub.{RawSub}
 use Rattle.htn_base.specs.Lists.{One, IsFirst}
 use Rattle.hddl_reader.specs.names.Words.{WordAt, term_word, term_at}
-
--- so many subtasks a network may have
-abbrev pub most_subtasks : ℕ
-most_subtasks = 4096
 
 module _ (names : Names) where
   abbrev pub id_at : Option RawTerm → List WordAt

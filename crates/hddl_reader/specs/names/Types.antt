@@ -1,6 +1,7 @@
 -- Faults of types: a cycle of parents (12), too many types (22).
 -- Source: this project's; several parents of a type, and types named only as parents, are this project's.
 use Rattle.std.specs.Prelude.{ℕ, ◌≡◌, ◌≢◌, ◌<◌, ◌⊎◌, ◌↔◌, List, [], ◌∷◌, ◌++◌, map, length, codes}
+use Rattle.htn_base.specs.Limits as limits
 use Rattle.htn_base.specs.Different.{AreDifferent}
 use Rattle.text_forms.specs.Words.{Word}
 use Rattle.gd_reader.specs.declared.typed_lists.RawParam.{RawParam}
@@ -18,8 +19,8 @@ pub data Leads (Pair : Word → Word → Type 0) (v : Word) : Word → Type 0 wh
 
 -- so many types other than object there may be; a PDDL domain may be a printed one, which has two more
 abbrev pub most_types : Language → ℕ
-most_types Hddl = 1000
-most_types Pddl = 1002
+most_types Hddl = limits.most_types
+most_types Pddl = limits.most_pddl_types
 
 module _ (names : Names) where
   -- each word of a section of types: types and their parents

@@ -1,5 +1,5 @@
 use Rattle.std.proofs.Common.{◌≤◌, length, subst, sym, ◌∙◌, arith}
-use Rattle.hddl_reader.specs.names.Networks.{most_subtasks}
+use Rattle.htn_base.specs.Limits.{most_subtasks}
 use Rattle.plan_model.specs.net_order.Meaning.{AreBelow, IsRefusedBy}
 use Rattle.hddl_bind.proofs.Cycles.{pairs_are_more, pairs_below, no_cycle, cycle_at}
 use Rattle.hddl_bind.proofs.cycle.cycle_of.Goals as goal

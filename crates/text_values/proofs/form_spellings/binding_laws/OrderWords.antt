@@ -2,6 +2,7 @@
 use Rattle.std.proofs.Common.{ℕ, suc, ◌≡◌, ◌<◌, Bool, true, false, cond, inl, inr, List, [], ◌∷◌, ◌++◌, length, Option, Some, None, refl, sym, ap, subst, ◌∙◌}
 use Rattle.std.specs.Prelude.{◌⊎◌, option_map, slice_get, IfSome}
 use Rattle.std.proofs.lemmas.Bool.{eqb-true, eqb-false}
+use Rattle.htn_base.specs.Limits.{most_subtasks}
 use Rattle.htn_base.specs.Different.{AreDifferent}
 use Rattle.text_forms.specs.Words.{word_at}
 use Rattle.plan_model.specs.task_networks.Order.{Precedes, direct, through}
@@ -218,6 +219,6 @@ limit_back o s code at c e f = subst (λ o. Has (numbers.limit_at o) (spot at co
 
 pub has_limit : (n : RawNet) → HasLimit n
 has_limit n code at = (
-  limit_there (slice_get n.subs words.most_subtasks) code at,
-  λ l. limit_back (slice_get n.subs words.most_subtasks) l.1.0 code at l.0 l.1.1 l.1.2,
+  limit_there (slice_get n.subs most_subtasks) code at,
+  λ l. limit_back (slice_get n.subs most_subtasks) l.1.0 code at l.0 l.1.1 l.1.2,
 )

@@ -1,6 +1,7 @@
 -- The value that is bound of a domain and a problem without faults is sound, and its networks have no cycle.
 -- Source: this project's.
 use Rattle.std.specs.Prelude.{ℕ, ◌<◌, ◌≤◌, ◌+◌, ◌^◌, List, [], length, codes}
+use Rattle.htn_base.specs.Limits.{longest_input}
 use Rattle.text_values.specs.form_spellings.Places.{IsDomainAt, IsProblemAt}
 use Rattle.htn_base.specs.Different.{AreDifferent}
 use Rattle.htn_base.specs.Table.{with_word}
@@ -27,8 +28,8 @@ pub record AreOfTexts (names : Names) (d : RawDomain) (p : RawProblem) : Type 0 
   pub problem : List ℕ
   pub domain_at : IsDomainAt domain names d
   pub problem_at : IsProblemAt problem names p
-  pub domain_short : length domain ≤ 2 ^ 24
-  pub problem_short : length problem ≤ 2 ^ 24
+  pub domain_short : length domain ≤ longest_input
+  pub problem_short : length problem ≤ longest_input
 
 module _ (before left : Names) (d : RawDomain) (p : RawProblem) where
   -- each pair of a network is of its subtasks, and no chain of pairs leads from a subtask to itself
@@ -47,8 +48,8 @@ HasFewUnions = (domain problem : List ℕ) (h : Hddl) → IsHddlOf domain proble
 -- A value of two texts of a language, of at most 16,777,216 bytes each: a domain and a problem were read of them and bound, with so many
 -- words at most.
 pub record IsBoundOf (l : Language) (domain problem : List ℕ) (h : Hddl) : Type 0 where
-  pub domain_short : length domain ≤ 16777216
-  pub problem_short : length problem ≤ 16777216
+  pub domain_short : length domain ≤ longest_input
+  pub problem_short : length problem ≤ longest_input
   pub d : RawDomain
   pub p : RawProblem
   pub before : Names
@@ -75,5 +76,5 @@ pub record IsTableOf (domain problem : List ℕ) (left : Names) : Type 0 where
 
 -- each text adds at most one word for each of its tokens
 abbrev pub TablesAreFew : Type 0
-TablesAreFew = (domain problem : List ℕ) (left : Names) → length domain ≤ 16777216 → length problem ≤ 16777216
+TablesAreFew = (domain problem : List ℕ) (left : Names) → length domain ≤ longest_input → length problem ≤ longest_input
     → IsTableOf domain problem left → length left < 2 ^ 26

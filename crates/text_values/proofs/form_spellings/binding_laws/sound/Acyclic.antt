@@ -3,6 +3,7 @@ use Rattle.std.proofs.Common.{ℕ, ◌≡◌, ◌<◌, ◌≤◌, inl, inr, List
 use Rattle.std.specs.Prelude.{◌⊎◌, flat_map}
 use Rattle.std.proofs.lemmas.List.Concat.{flat_map-append}
 use Rattle.std.proofs.lemmas.Option.{slice_get_cases}
+use Rattle.htn_base.specs.Limits.{most_subtasks}
 use Rattle.plan_model.specs.task_networks.Order.{Precedes, direct, through, IsAcyclic}
 use Rattle.plan_model.specs.declared.networks.Pair.{Pair}
 use Rattle.plan_model.specs.Pairs.{pair, Pairs}
@@ -11,7 +12,6 @@ use Rattle.plan_model.proofs.net_order.Chains.{chain_map, acyclic_push}
 use Rattle.hddl_reader.specs.declared.networks.RawNet.{RawNet}
 use Rattle.hddl_reader.specs.declared.networks.RawPair.{RawPair}
 use Rattle.hddl_reader.specs.declared.networks.RawSub.{RawSub}
-use Rattle.hddl_reader.specs.names.Networks.{most_subtasks}
 use Rattle.hddl_bind.specs.Cycle.{ClosesOrder, CyclicOrder, IsCycle, cycle_faults, limit_at, limit_faults}
 use Rattle.hddl_bind.specs.Pairs.{first_of, second_of, written, pairs_bound}
 use Rattle.hddl_bind.proofs.Closing.{IsKnown, places, known_or_none, written_is, all_in_ordered, chained_step}
