@@ -6,7 +6,7 @@ pub mod Least
 pub mod examples
 pub mod SeenLemmas
 pub mod StepLemmas
-pub mod StoredUnions
+pub mod UnionPlaceLemmas
 pub mod NotedLemmas
 pub mod SectionLemmas
 pub mod ParentsLemmas

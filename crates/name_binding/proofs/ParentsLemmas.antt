@@ -1,25 +1,24 @@
 -- The sets of parents with one more word of a section.
 use Rattle.std.proofs.Common.{◌≡◌, ◌≢◌, ℕ, ◌<◌, List, [], ◌∷◌, ◌++◌, cond, nat_eq, map, length, get_or, set, Some, None, refl, sym, ap, ◌∙◌, inl, inr, arith, append-nil, length-set, get_or-set_other}
 use Rattle.std.specs.Prelude.{unwrap_or, slice_get}
-use Rattle.std.specs.List.{flat_map}
+use Rattle.std.specs.List.{flat_map, fold}
 use Rattle.std.proofs.lemmas.Bool.{cases_eq, eq-eqb, ne_eqb}
 use Rattle.std.proofs.lemmas.Grind.{get_or-set_at}
 use Rattle.std.proofs.lemmas.List.{append_assoc}
 use Rattle.std.proofs.lemmas.Option.{slice_get_within, get_or_from_slice_get, slice_get-get_or}
-use Rattle.indexmap.specs.IndexSet.{IndexSet, insert_all}
 use Rattle.name_binding.specs.Places.{first_place}
 use Rattle.name_binding.proofs.Found.{first_within}
 use Rattle.gd_reader.specs.declared.typed_lists.RawParam.{RawParam}
-use Rattle.name_binding.specs.Seen.{first_seen}
+use Rattle.name_binding.specs.Seen.{first_seen, with_number}
 use Rattle.name_binding.specs.Parents.{place_of, parents_behind, parents_written, AreParentsOf}
-use Rattle.name_binding.proofs.SeenLemmas.{insert_key-first_seen}
+use Rattle.name_binding.proofs.SeenLemmas.{with_number-first_seen}
 use Rattle.name_binding.proofs.StepLemmas.{flat_map-push}
 
-pub insert_all-first_seen : (xs ys : List ℕ) → insert_all nat_eq (first_seen [] xs) ys ≡ first_seen [] (xs ++ ys)
-insert_all-first_seen xs [] = ap (first_seen []) (sym (append-nil xs))
-insert_all-first_seen xs (y ∷ ys) =
-    ap (λ keys. insert_all nat_eq keys ys) (insert_key-first_seen xs y)
-    ∙ insert_all-first_seen (xs ++ y ∷ []) ys
+pub with_numbers-first_seen : (xs ys : List ℕ) → fold with_number (first_seen [] xs) ys ≡ first_seen [] (xs ++ ys)
+with_numbers-first_seen xs [] = ap (first_seen []) (sym (append-nil xs))
+with_numbers-first_seen xs (y ∷ ys) =
+    ap (λ keys. fold with_number keys ys) (with_number-first_seen xs y)
+    ∙ with_numbers-first_seen (xs ++ y ∷ []) ys
     ∙ ap (first_seen []) (append_assoc xs (y ∷ []) ys)
 
 module _ (types : List ℕ) (xs : List RawParam) (x : RawParam) where
@@ -41,7 +40,7 @@ module _ (types : List ℕ) (xs : List RawParam) (x : RawParam) where
       ∙ ap (first_seen []) (append-nil _)
 
   -- a word that is no type
-  pub AreParentsOf-none : {S : Type 0} (sets : List (IndexSet ℕ S)) → first_place x.name.number types ≡ None → AreParentsOf types xs sets → AreParentsOf types (xs ++ x ∷ []) sets
+  pub AreParentsOf-none : (sets : List (List ℕ)) → first_place x.name.number types ≡ None → AreParentsOf types xs sets → AreParentsOf types (xs ++ x ∷ []) sets
   AreParentsOf-none sets none before = record {
     count = before.count;
     each = λ child above s at.
@@ -50,10 +49,10 @@ module _ (types : List ℕ) (xs : List RawParam) (x : RawParam) where
   }
 
   -- a type
-  pub AreParentsOf-put : {S : Type 0} (sets : List (IndexSet ℕ S)) (k : ℕ) (old new : IndexSet ℕ S)
-      → first_place x.name.number types ≡ Some k → old ≡ get_or sets k old → new.keys ≡ insert_all nat_eq old.keys (map (place_of types) x.ty)
+  pub AreParentsOf-put : (sets : List (List ℕ)) (k : ℕ) (old new : List ℕ)
+      → first_place x.name.number types ≡ Some k → old ≡ get_or sets k old → new ≡ fold with_number old (map (place_of types) x.ty)
       → AreParentsOf types xs sets → AreParentsOf types (xs ++ x ∷ []) (set sets k new)
-  AreParentsOf-put {S = S} sets k old new place read put before = record {
+  AreParentsOf-put sets k old new place read put before = record {
     count = length-set sets k new ∙ before.count;
     each = λ child above s at. elim (cases_eq child k) [ inl e ↦ here child above s at e | inr d ↦ there child above s at d ];
   }
@@ -61,18 +60,18 @@ module _ (types : List ℕ) (xs : List RawParam) (x : RawParam) where
       within : k < length sets
       within = let l = first_within x.name.number types k place in omega (arith, before.count)
 
-      here : (child : ℕ) → 0 < child → (s : IndexSet ℕ S) → slice_get (set sets k new) child ≡ Some s → child ≡ k → s.keys ≡ parents_written types (xs ++ x ∷ []) child
+      here : (child : ℕ) → 0 < child → (s : List ℕ) → slice_get (set sets k new) child ≡ Some s → child ≡ k → s ≡ parents_written types (xs ++ x ∷ []) child
       here child above s at e =
           let now : s ≡ new = sym (get_or_from_slice_get (set sets k new) child s s at) ∙ get_or-set_at sets k child new s e within in
-          let had : old.keys ≡ parents_written types xs k = before.each k (omega arith) old (slice_get-get_or sets k old within ∙ ap Some (sym read)) in
-          ap (λ (t : IndexSet ℕ S). t.keys) now ∙ put
-          ∙ ap (λ keys. insert_all nat_eq keys (map (place_of types) x.ty)) had
-          ∙ insert_all-first_seen (flat_map (parents_behind types k) xs) (map (place_of types) x.ty)
+          let had : old ≡ parents_written types xs k = before.each k (omega arith) old (slice_get-get_or sets k old within ∙ ap Some (sym read)) in
+          now ∙ put
+          ∙ ap (λ keys. fold with_number keys (map (place_of types) x.ty)) had
+          ∙ with_numbers-first_seen (flat_map (parents_behind types k) xs) (map (place_of types) x.ty)
           ∙ ap (λ ps. first_seen [] (flat_map (parents_behind types k) xs ++ ps)) (sym (parents_behind-here k place))
           ∙ sym (parents_written-push k)
           ∙ ap (parents_written types (xs ++ x ∷ [])) (sym e)
 
-      there : (child : ℕ) → 0 < child → (s : IndexSet ℕ S) → slice_get (set sets k new) child ≡ Some s → child ≢ k → s.keys ≡ parents_written types (xs ++ x ∷ []) child
+      there : (child : ℕ) → 0 < child → (s : List ℕ) → slice_get (set sets k new) child ≡ Some s → child ≢ k → s ≡ parents_written types (xs ++ x ∷ []) child
       there child above s at d =
           let l = slice_get_within (set sets k new) child s at in
           let below : child < length sets = omega (arith, length-set sets k new) in

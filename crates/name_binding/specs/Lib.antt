@@ -13,6 +13,7 @@ pub mod TooMany
 pub mod Cycle
 pub mod PairsAmong
 pub mod Unions
+pub mod UnionPlaces
 pub mod Listed
 pub mod Atoms
 pub mod Facts

@@ -1,7 +1,6 @@
 -- The pairs of a type and its parent, by the numbers of types.
 -- Source: this project's; several parents of a type are this project's.
 use Rattle.std.specs.Prelude.{ℕ, zero, suc, ◌≡◌, ◌<◌, ◌==◌, Some, slice_get, cond, List, [], ◌∷◌, ◌++◌, map, flat_map, length, unwrap_or}
-use Rattle.indexmap.specs.IndexSet.{IndexSet}
 use Rattle.name_binding.specs.Places.{first_place}
 use Rattle.gd_reader.specs.declared.term.RawTerm.{RawTerm}
 use Rattle.gd_reader.specs.declared.typed_lists.RawParam.{RawParam}
@@ -41,6 +40,6 @@ module _ (types : List ℕ) where
   pairs_in_order xs = pairs_below xs (length types)
 
   -- the sets that have what is written for each type but object
-  pub record AreParentsOf {S : Type 0} (xs : List RawParam) (sets : List (IndexSet ℕ S)) : Type 0 where
+  pub record AreParentsOf (xs : List RawParam) (sets : List (List ℕ)) : Type 0 where
     pub count : length sets ≡ length types
-    pub each : (child : ℕ) → 0 < child → (set : IndexSet ℕ S) → slice_get sets child ≡ Some set → set.keys ≡ parents_written xs child
+    pub each : (child : ℕ) → 0 < child → (set : List ℕ) → slice_get sets child ≡ Some set → set ≡ parents_written xs child

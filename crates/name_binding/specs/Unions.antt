@@ -2,7 +2,6 @@
 -- Source: PDDL 2.1 (Fox and Long, JAIR 20, 2003, level 1) for `either`; which types a union has is this project's.
 use Rattle.std.specs.Prelude.{ℕ, ◌++◌, List, [], ◌∷◌, flat_map, map, fold, ◌≡◌, Option, Some, None}
 use Rattle.std.specs.List.Sorted.{IsPermutation, IsNonDecreasingBy}
-use Rattle.std.specs.declared.vec.Vec.{Vec}
 use Rattle.htn_base.specs.Table.{with_word}
 use Rattle.gd_reader.specs.declared.term.RawTerm.{RawTerm}
 use Rattle.gd_reader.specs.declared.typed_lists.RawParam.{RawParam}
@@ -14,10 +13,6 @@ use Rattle.gd_reader.specs.declared.effects.RawEffect.TheFolds.{fold-RawEffect}
 use Rattle.gd_reader.specs.declared.effects.RawEffect.TheOpen.{RawEffect-F}
 use Rattle.name_binding.specs.declared.unions.Either.{Either}
 use Rattle.name_binding.specs.Kinds.{Kinds, members_written}
-
--- the unions that are stored, each as the list of its types' numbers
-abbrev pub unions_of : {A : Type 0} → List (Vec ℕ A) → List (List ℕ)
-unions_of stored = map (λ vector. vector.items) stored
 
 -- two or more different types are a union
 abbrev pub union_at : ℕ → List ℕ → List Either

@@ -1,7 +1,7 @@
 //! Names bound to what they stand for: in terms, types, typed lists, formulas, effects and facts.
 //!
 //! Stands on `htn_base`, on `gd_reader` for what is written and on `plan_model` for what it stands for, with its `net_order` for
-//! cycles of types, and on `indexmap`. The contracts used above:
+//! cycles of types. The contracts used above:
 //!
 //! A name has the number of its first declaration (`Places::get`, with its number of parameters `Heads::get`) or of the innermost
 //! variable in force (`Variables::get`); of all faults that were noted the least is kept, by offset and code (`Faults::note`); a term is
@@ -22,6 +22,7 @@ mod cycle;
 mod effects;
 mod facts;
 mod faults;
+mod first_seen;
 mod formulas;
 mod heads;
 mod known;
@@ -33,6 +34,7 @@ mod section;
 mod table;
 mod terms;
 mod typed;
+mod union_table;
 mod unions;
 mod variables;
 

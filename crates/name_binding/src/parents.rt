@@ -1,11 +1,11 @@
-ghost use Rattle.std.specs.Prelude.{◌≡◌, ◌++◌, map, IfOk, OnOk, nat_eq};
-ghost use Rattle.indexmap.specs.IndexSet.{insert_all};
+ghost use Rattle.std.specs.Prelude.{◌≡◌, ◌++◌, fold, map, IfOk, OnOk};
 ghost use Rattle.name_binding.specs.Parents.{pairs_for, place_of, pairs_in_order, AreParentsOf};
+ghost use Rattle.name_binding.specs.Seen.{with_number};
 
+use crate::first_seen::FirstSeen;
 use crate::places::Places;
 use gd_reader::{RawParams, RawTerm};
 use htn_base::{List, Memory, number};
-use indexmap::IndexSet;
 use plan_model::Parent;
 use std::alloc::Global;
 
@@ -27,12 +27,12 @@ fn parents_by_child(
     alloc: Global,
     types: &Places,
     listed: &RawParams,
-) -> Result<Vec<IndexSet<u32>>, Memory>
+) -> Result<Vec<FirstSeen>, Memory>
     ensures parents { IfOk result (λ parents. AreParentsOf types.now listed.now parents.items) }
 {
     let mut parents = Vec::new(alloc);
     for _ in 0..types.len() {
-        parents.push(IndexSet::new(alloc))?;
+        parents.push(FirstSeen::new(alloc))?;
     }
     for item in listed.as_slice() {
         if let Some(child) = types.get(item.name) {
@@ -43,12 +43,12 @@ fn parents_by_child(
 }
 
 /// Puts the parents that are written behind a word to the others, each once.
-fn put_parents(types: &Places, written: &[RawTerm], into: &mut IndexSet<u32>) -> Result<(), Memory>
+fn put_parents(types: &Places, written: &[RawTerm], into: &mut FirstSeen) -> Result<(), Memory>
     ensures put { OnOk result
-        (into.new.keys ≡ insert_all nat_eq into.old.keys (map (place_of types.now) written.now)) }
+        (into.new ≡ fold with_number into.old (map (place_of types.now) written.now)) }
 {
     for parent in written {
-        into.insert(types.get(parent.name).unwrap_or(0))?;
+        into.put(types.get(parent.name).unwrap_or(0))?;
     }
     Ok(())
 }

@@ -3,17 +3,18 @@ ghost use Rattle.std.specs.Option.{option_copied};
 ghost use Rattle.htn_base.specs.Table.{with_word};
 ghost use Rattle.name_binding.specs.Spots.{noted};
 ghost use Rattle.name_binding.specs.Parents.{pairs_in_order};
-ghost use Rattle.name_binding.specs.Unions.{unions_of, AreWith, IsThere};
+ghost use Rattle.name_binding.specs.Unions.{AreWith, IsThere};
 ghost use Rattle.name_binding.specs.Kinds.{type_number, type_faults, union_number, kind_by, members_written, kind_bound, kind_faults};
 
 use crate::faults::Faults;
+use crate::first_seen::FirstSeen;
 use crate::parents::parents_of;
 use crate::places::Places;
 use crate::terms::found_or_noted;
+use crate::union_table::{UnionTable, listed};
 use crate::unions::Either;
 use gd_reader::{RawParams, RawTerm};
 use htn_base::{List, Memory, number};
-use indexmap::IndexSet;
 use plan_model::Parent;
 use std::alloc::Global;
 use std::marker::Model;
@@ -22,7 +23,7 @@ use std::marker::Model;
 /// see the numbers of the names.
 pub struct TypeTable {
     types: Places,
-    unions: IndexSet<Vec<u32>>,
+    unions: UnionTable,
 }
 
 impl Drop for TypeTable {
@@ -36,11 +37,10 @@ impl Drop for TypeTable {
 
 impl Model for TypeTable {
     ghost use Rattle.name_binding.specs.Kinds.{Kinds};
-    ghost use Rattle.name_binding.specs.Unions.{unions_of};
 
     ghost Value = { Kinds };
 
-    ghost view = { λ table. record { types = table.types; unions = unions_of table.unions.keys } };
+    ghost view = { λ table. record { types = table.types; unions = table.unions } };
 }
 
 impl TypeTable {
@@ -51,7 +51,7 @@ impl TypeTable {
     {
         TypeTable {
             types,
-            unions: IndexSet::new(alloc),
+            unions: UnionTable::new(alloc),
         }
     }
 
@@ -117,15 +117,14 @@ impl TypeTable {
         alloc: Global,
         types: &[RawTerm],
         faults: &mut Faults,
-    ) -> Result<IndexSet<u32>, Memory>
-        ensures members { IfOk result
-            (λ members. members.keys ≡ members_written self.now types.now) }
+    ) -> Result<FirstSeen, Memory>
+        ensures members { IfOk result (λ members. members ≡ members_written self.now types.now) }
         ensures faults { OnOk result
             (faults.new.least ≡ noted faults.old.least (kind_faults self.now types.now)) }
     {
-        let mut members = IndexSet::new(alloc);
+        let mut members = FirstSeen::new(alloc);
         for written in types {
-            members.insert(self.number_of(*written, faults))?;
+            members.put(self.number_of(*written, faults))?;
         }
         Ok(members)
     }
@@ -157,11 +156,7 @@ impl TypeTable {
     {
         match before {
             Some(either) if either.members.as_slice() == members => Ok(()),
-            _ => {
-                let union = Vec::from_slice(alloc, members)?;
-                self.unions.insert(union)?;
-                Ok(())
-            }
+            _ => self.unions.put(alloc, members),
         }
     }
 
@@ -189,23 +184,12 @@ impl TypeTable {
     fn union_number(&self, members: &[u32]) -> Result<u32, Memory>
         ensures number { IfOk result (λ number. number ≡ union_number self.now members.now) }
     {
-        match self.unions.get_index_of(members) {
+        match self.unions.place(members) {
             Some(place) => {
-                let past_types = number(self.types.len().saturating_add(place))?;
+                let past_types = number(self.types.len().saturating_add(place as usize))?;
                 Ok(past_types)
             }
             None => Ok(0),
         }
     }
-}
-
-/// These numbers in a list of their own.
-fn listed(alloc: Global, numbers: &[u32]) -> Result<List<u32>, Memory>
-    ensures same { IfOk result (λ list. list ≡ numbers.now) }
-{
-    let mut list = List::new(alloc);
-    for number in numbers {
-        list.push(*number)?;
-    }
-    Ok(list)
 }

@@ -1,8 +1,9 @@
-use Rattle.std.proofs.Common.{◌≡◌, ◌+◌, ◌<◌, ◌∙◌, ap, sym, subst, map, nat_eq, take, ◌++◌, [], ◌∷◌, length, get_or, set, arith, rules}
+use Rattle.std.proofs.Common.{◌≡◌, ◌+◌, ◌<◌, ◌∙◌, ap, sym, subst, map, take, ◌++◌, [], ◌∷◌, length, get_or, set, arith, rules}
 use Rattle.std.proofs.lemmas.Grind.{common_steps}
-use Rattle.indexmap.specs.IndexSet.{insert_all}
+use Rattle.std.specs.List.{fold}
 use Rattle.name_binding.proofs.Found.{first_within}
 use Rattle.name_binding.specs.Parents.{AreParentsOf, place_of}
+use Rattle.name_binding.specs.Seen.{with_number}
 use Rattle.name_binding.proofs.ParentsLemmas.{AreParentsOf-none, AreParentsOf-put}
 use Rattle.name_binding.proofs.StepLemmas.{take-read}
 use Rattle.name_binding.proofs.parents.parents_by_child.Goals as goal
@@ -32,7 +33,7 @@ loop-item-preserved c =
           subst (λ v. AreParentsOf types (take (i + 1) xs) v.items) (sym w.parents-is)
           (subst (λ ys. AreParentsOf types ys (set c.loop-item.parents.items w.in-Some.child w.put_parents.new.into)) more
           (AreParentsOf-put types (take i xs) x c.loop-item.parents.items w.in-Some.child w.index_mut.result.now w.put_parents.new.into
-          (sym w.in-Some.ensures.place) w.index_mut.ensures.value (put ∙ ap (λ ts. insert_all nat_eq w.index_mut.result.now.keys (map (place_of types) ts)) types_are) c.loop-item.invariant))
+          (sym w.in-Some.ensures.place) w.index_mut.ensures.value (put ∙ ap (λ ts. fold with_number w.index_mut.result.now (map (place_of types) ts)) types_are) c.loop-item.invariant))
       | in_default w ↦
           subst (λ v. AreParentsOf types (take (i + 1) xs) v.items) (sym w.parents-is)
           (subst (λ ys. AreParentsOf types ys c.loop-item.parents.items) more

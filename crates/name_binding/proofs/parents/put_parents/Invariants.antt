@@ -1,7 +1,8 @@
-use Rattle.std.proofs.Common.{◌≡◌, map, take, nat_eq}
-use Rattle.indexmap.specs.IndexSet.{insert_all}
+use Rattle.std.proofs.Common.{◌≡◌, map, take}
+use Rattle.std.specs.List.{fold}
 use Rattle.name_binding.specs.Parents.{place_of}
+use Rattle.name_binding.specs.Seen.{with_number}
 use Rattle.name_binding.proofs.parents.put_parents.Given as goal
 
 abbrev pub invariant-loop-parent : goal.invariant-loop-parent
-invariant-loop-parent l = l.into.keys ≡ insert_all nat_eq l.fn.into.keys (map (place_of l.types) (take l.parent-index l.written))
+invariant-loop-parent l = l.into ≡ fold with_number l.fn.into (map (place_of l.types) (take l.parent-index l.written))

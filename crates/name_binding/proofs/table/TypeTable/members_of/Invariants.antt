@@ -5,6 +5,6 @@ use Rattle.name_binding.proofs.table.TypeTable.members_of.Given as goal
 
 abbrev pub invariant-loop-written : goal.invariant-loop-written
 invariant-loop-written l = record {
-  members : l.members.keys ≡ members_written l.self (take l.written-index l.types);
+  members : l.members ≡ members_written l.self (take l.written-index l.types);
   faults : l.faults.least ≡ noted l.fn.faults.least (kind_faults l.self (take l.written-index l.types));
 }
