@@ -1,7 +1,8 @@
 -- How deep lists stand in one another, and in a text that says them.
 -- Source: this project's.
 use Rattle.std.specs.Prelude.{ℕ, zero, suc, ◌≡◌, ◌↔◌, List}
-use Rattle.text_forms.specs.Faults.{deepest, fault, IsFault}
+use Rattle.htn_base.specs.Limits.{deepest}
+use Rattle.text_forms.specs.Faults.{fault, IsFault}
 use Rattle.text_forms.specs.Lists.{Part, Parts, name, group, nothing, part, written}
 use Rattle.text_forms.specs.Tokens.{symbols}
 

@@ -1,8 +1,9 @@
 -- No list of a text stands too deep exactly where at most 200 lists of what it says stand in one another.
 use Rattle.std.proofs.Common.{ℕ, zero, suc, ◌≡◌, ◌+◌, ◌<◌, inl, inr, Bool, true, false, nat_le, if◌then◌else◌, Option, Some, None, List, [], ◌∷◌, ◌++◌, length, map, append_assoc, append-nil, arith, refl, sym, ap, subst, ◌∙◌}
 use Rattle.std.proofs.lemmas.Bool.{leb-true, leb-false}
+use Rattle.htn_base.specs.Limits.{deepest}
 use Rattle.text_forms.specs.Bytes.{Class, blank, opening, closing, letter, bad, classes}
-use Rattle.text_forms.specs.Faults.{Fault, fault, deepest, but_innermost, HasFault}
+use Rattle.text_forms.specs.Faults.{Fault, fault, but_innermost, HasFault}
 use Rattle.text_forms.specs.Lists.{Part, Parts, name, group, nothing, part, written, written_all}
 use Rattle.text_forms.specs.Tokens.{Token, token, start, stop, ended, begun, tokens_from, lexeme, symbol, Symbol, left, right, said, symbols}
 use Rattle.text_values.specs.form_spellings.Depth.{IsWithinDepth, AreWithinDepth, DepthIsThatOfLists}

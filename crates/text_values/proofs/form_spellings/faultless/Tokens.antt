@@ -1,8 +1,9 @@
 -- A text that says a definition has no fault of tokens, if no list stands too deep in it.
 use Rattle.std.proofs.Common.{ℕ, ◌≡◌, ◌+◌, inl, inr, Bool, true, false, nat_le, if◌then◌else◌, Some, None, List, [], ◌∷◌, length, append-nil, sym, ap, subst, ◌∙◌}
 use Rattle.std.specs.Prelude.{◌⊎◌}
+use Rattle.htn_base.specs.Limits.{deepest}
 use Rattle.text_forms.specs.Bytes.{Class, blank, opening, closing, letter, bad, classes, are_good}
-use Rattle.text_forms.specs.Faults.{Fault, fault, deepest, open_after, HasFault, IsFault, IsFaultless}
+use Rattle.text_forms.specs.Faults.{Fault, fault, open_after, HasFault, IsFault, IsFaultless}
 use Rattle.text_forms.specs.Lists.{Part, Parts, nothing, part, written}
 use Rattle.text_forms.specs.Printing.{definition}
 use Rattle.text_forms.specs.Tokens.{symbols}
