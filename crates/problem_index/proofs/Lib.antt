@@ -3,3 +3,4 @@ pub mod PlaceLaws
 pub mod KindLaws
 pub mod IndexLaws
 pub mod ListLaws
+pub mod PrintedLaws

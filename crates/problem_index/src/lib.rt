@@ -9,10 +9,17 @@ mod by_type;
 mod domain;
 mod index;
 mod kinds;
+mod named;
 mod places;
+mod printed;
+mod words;
 mod world;
 
 pub use domain::Domain;
 pub use index::Index;
 pub use kinds::Kinds;
+pub use named::Named;
+pub use places::Places;
+pub use printed::printed_words;
+pub use words::Words;
 pub use world::World;
