@@ -67,10 +67,10 @@ impl<'p> Run<'p> {
             return Ok(Some(FailWhy::UnknownAction));
         };
         let params = action.params.as_slice();
-        if !fill(&self.index, self.p, params, args, &mut self.env) {
+        let world = self.index.world(&self.p.types, &self.p.objects);
+        if !fill(&self.index, &world, params, args, &mut self.env) {
             return Ok(Some(FailWhy::Arguments));
         }
-        let world = self.index.world(self.p);
         if !is_true(&action.pre, &mut self.env, &self.state, &world) {
             return Ok(Some(FailWhy::Condition));
         }
@@ -103,7 +103,7 @@ impl<'p> Run<'p> {
         ensures kept { spec.KeepsTaken self.old self.new }
     {
         self.env.clear();
-        let world = self.index.world(self.p);
+        let world = self.index.world(&self.p.types, &self.p.objects);
         is_true(&self.p.goal, &mut self.env, &self.state, &world)
     }
 }
