@@ -19,10 +19,10 @@ use Rattle.problem_index.specs.declared.world.World.{World}
 contains_at : {X : Type 0} (xs : List X) (x : X) → Contains xs x → (k : ℕ) × (slice_get xs k ≡ Some x)
 contains_at xs x (k, l, e) = (k, slice_get-get_or xs k x l ∙ ap (λ z. Some z) e)
 
-contains_from : {X : Type 0} (xs : List X) (k : ℕ) (x : X) → slice_get xs k ≡ Some x → Contains xs x
+pub contains_from : {X : Type 0} (xs : List X) (k : ℕ) (x : X) → slice_get xs k ≡ Some x → Contains xs x
 contains_from xs k x e = (k, slice_get_within xs k x e, get_or_from_slice_get xs k x x e)
 
-mapped_at : {X Y : Type 0} (f : X → Y) (xs : List X) (k : ℕ) (y : Y) → slice_get (map f xs) k ≡ Some y → (x : X) × (slice_get xs k ≡ Some x) × (f x ≡ y)
+pub mapped_at : {X Y : Type 0} (f : X → Y) (xs : List X) (k : ℕ) (y : Y) → slice_get (map f xs) k ≡ Some y → (x : X) × (slice_get xs k ≡ Some x) × (f x ≡ y)
 mapped_at f xs k y e = elim (slice_get_cases xs k).1 [
   | inl c ↦ (c.0, c.2, (let g : Some (f c.0) ≡ Some y = sym (slice_get-map f xs k ∙ ap (option_map f) c.2) ∙ e in cc))
   | inr c ↦ (let g : None ≡ Some y = sym (slice_get-map f xs k ∙ ap (option_map f) c.1) ∙ e in absurd cc)

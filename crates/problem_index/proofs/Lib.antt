@@ -4,3 +4,4 @@ pub mod KindLaws
 pub mod IndexLaws
 pub mod ListLaws
 pub mod PrintedLaws
+pub mod PrintedNames

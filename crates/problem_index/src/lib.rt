@@ -12,6 +12,7 @@ mod kinds;
 mod named;
 mod places;
 mod printed;
+mod printed_index;
 mod words;
 mod world;
 
@@ -21,5 +22,6 @@ pub use kinds::Kinds;
 pub use named::Named;
 pub use places::Places;
 pub use printed::printed_words;
+pub use printed_index::{PrintedIndex, PrintedName};
 pub use words::Words;
 pub use world::World;
