@@ -16,7 +16,7 @@ use Rattle.problem_index.specs.Index.{IsIndex, AreOf, IsTheArgument}
 use Rattle.problem_index.specs.declared.index.Index.{Index}
 use Rattle.problem_index.specs.declared.world.World.{World}
 
-contains_at : {X : Type 0} (xs : List X) (x : X) → Contains xs x → (k : ℕ) × (slice_get xs k ≡ Some x)
+pub contains_at : {X : Type 0} (xs : List X) (x : X) → Contains xs x → (k : ℕ) × (slice_get xs k ≡ Some x)
 contains_at xs x (k, l, e) = (k, slice_get-get_or xs k x l ∙ ap (λ z. Some z) e)
 
 pub contains_from : {X : Type 0} (xs : List X) (k : ℕ) (x : X) → slice_get xs k ≡ Some x → Contains xs x

@@ -5,3 +5,4 @@ pub mod IndexLaws
 pub mod ListLaws
 pub mod PrintedLaws
 pub mod PrintedNames
+pub mod PrintedArguments

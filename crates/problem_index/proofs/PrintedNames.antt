@@ -35,12 +35,12 @@ module _ (c : Compiled) where
   abbrev action_names : ActionSchema → Name
   action_names a = a.name
 
-  word_at : (name : Name) (word : List ℕ) → slice_get table name.number ≡ Some word → word ≡ escaped (source_word c name)
+  pub word_at : (name : Name) (word : List ℕ) → slice_get table name.number ≡ Some word → word ≡ escaped (source_word c name)
   word_at name word e =
       let at = mapped_at escaped c.hddl.names name.number word e in
       sym at.2 ∙ ap escaped (sym (get_or_from_slice_get c.hddl.names name.number at.0 [] at.1))
 
-  there : (name : Name) → name.number < length c.hddl.names → slice_get table name.number ≡ Some (escaped (source_word c name))
+  pub there : (name : Name) → name.number < length c.hddl.names → slice_get table name.number ≡ Some (escaped (source_word c name))
   there name l = slice_get-map escaped c.hddl.names name.number ∙ ap (option_map escaped) (slice_get-get_or c.hddl.names name.number [] l)
 
   module _ {X : Type 0} (name : X → Name) (xs : List X) where
